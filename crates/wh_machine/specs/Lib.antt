@@ -1,0 +1,10 @@
+pub mod Value
+pub mod Table
+pub mod Statement
+pub mod Reading
+pub mod Reply
+pub mod Step
+pub mod Script
+pub mod Commit
+pub mod Spelling
+pub mod File
