@@ -1,0 +1,18 @@
+//! Values, rows and their order, and the bytes that replies and files are made of.
+#![tactic(auto)]
+
+mod bytes;
+mod column;
+mod literal;
+mod row;
+#[cfg(test)]
+mod tests;
+mod text;
+mod value;
+
+pub use bytes::Bytes;
+pub use column::{Column, ColumnType};
+pub use literal::print_literal;
+pub use row::{Row, cmp_rows, sort_rows};
+pub use text::Text;
+pub use value::Value;

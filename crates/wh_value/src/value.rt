@@ -1,0 +1,29 @@
+use crate::Text;
+use std::alloc::{AllocError, Global};
+
+/// What a row holds for a column. The variants stand in the value order: NULL is last.
+#[derive(Debug, Drop, PartialEq, Eq, PartialOrd, Ord)]
+pub enum Value {
+    /// A whole number; statements and files give at most 18 digits.
+    Number(i64),
+    Bool(bool),
+    Text(Text),
+    Null,
+}
+
+impl Value {
+    ghost use Rattle.std.specs.Prelude.{◌≡◌, IfOk};
+    ghost use Rattle.wh_value.specs.View.{value_of};
+
+    /// An equal value, with memory of its own.
+    pub fn copy(&self, alloc: Global) -> Result<Value, AllocError>
+        ensures { IfOk result (λ copy. value_of copy ≡ value_of self.now) }
+    {
+        match self {
+            Value::Number(number) => Ok(Value::Number(*number)),
+            Value::Bool(truth) => Ok(Value::Bool(*truth)),
+            Value::Text(text) => Ok(Value::Text(text.copy(alloc)?)),
+            Value::Null => Ok(Value::Null),
+        }
+    }
+}
