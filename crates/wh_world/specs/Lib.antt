@@ -1,0 +1,12 @@
+pub mod Told
+pub mod Bytes
+pub mod Crash
+pub mod Readings
+pub mod Calls
+pub mod MemSource
+pub mod MemSink
+pub mod SetClock
+pub mod Events
+pub mod Logged
+pub mod MemDisk
+pub mod Images
