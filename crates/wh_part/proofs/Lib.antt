@@ -1,0 +1,5 @@
+pub mod ReaderLaws
+pub mod WritingLaws
+pub mod Loops
+pub mod RowNumbers
+pub mod PartitionLaws

@@ -1,0 +1,5 @@
+pub mod View
+pub mod Reading
+pub mod Decoding
+pub mod Laws
+pub mod Shape

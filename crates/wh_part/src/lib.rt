@@ -1,0 +1,18 @@
+//! Partitions: some of a table's rows by their numbers, and the bytes that a file has of them.
+#![tactic(auto)]
+
+mod decoding;
+mod encoding;
+mod fault;
+mod partition;
+mod reading;
+mod writing;
+
+pub use decoding::spelling_fixes_partitions;
+pub use fault::ReadError;
+pub use partition::{NumberedRow, Partition};
+pub use reading::{read_byte, read_text, read_u32, read_u64};
+pub use writing::{write_text, write_u32, write_u64};
+
+#[cfg(test)]
+mod tests;
