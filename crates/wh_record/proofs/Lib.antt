@@ -1,0 +1,4 @@
+pub mod WritingLaws
+pub mod CommitLaws
+pub mod FileLaws
+pub mod ShapeLemmas

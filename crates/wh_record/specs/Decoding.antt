@@ -1,0 +1,60 @@
+-- Reading commits.
+use Rattle.std.specs.Prelude.{ℕ, zero, suc, Bool, List, [], ◌∷◌, length, Option, Some, None, ◌==◌, if◌then◌else◌}
+use Rattle.std.specs.Int.{w32, w64}
+use Rattle.wh_machine.specs.Table.{Column, ColumnType, NumberType, VarcharType, BooleanType}
+use Rattle.wh_machine.specs.Commit.{Partition, TableChange, VersionChange, Change, CreatesTable, PushesVersion, Commit}
+use Rattle.wh_part.specs.Reading.{Reader, ◌>>=◌, then_at, where_at, as_at, list_at, byte_at, number_at, text_at}
+use Rattle.wh_part.specs.Decoding.{partition_at}
+
+unfoldable pub type_at : Reader ColumnType
+type_at [] = None
+type_at (zero ∷ bytes) = None
+type_at (suc zero ∷ bytes) = Some (NumberType, bytes)
+type_at (suc (suc zero) ∷ bytes) = Some (VarcharType, bytes)
+type_at (suc (suc (suc zero)) ∷ bytes) = Some (BooleanType, bytes)
+type_at (suc (suc (suc (suc tag))) ∷ bytes) = None
+
+unfoldable pub column_at : Reader Column
+column_at bytes = as_at (λ p. record { name = p.0; column_type = p.1 }) (then_at text_at (λ _. type_at)) bytes
+
+unfoldable pub table_at : Reader TableChange
+table_at bytes = as_at (λ p. record { id = p.0; name = p.1.0; retention = p.1.1.0; columns = p.1.1.1 })
+    (then_at (number_at w32) (λ _. then_at text_at (λ _. then_at byte_at (λ _. list_at (number_at w32) column_at)))) bytes
+
+-- a list of nothing
+abbrev pub is_zero : ℕ → Bool
+is_zero n = n == 0
+
+unfoldable pub nothing_at : Reader ℕ
+nothing_at bytes = where_at is_zero (number_at w32) bytes
+
+-- the partitions that are added, behind those that are removed, of which there is none
+unfoldable pub added_at : ℕ → Reader (List Partition)
+added_at width bytes = as_at (λ p. p.1) (then_at nothing_at (λ _. list_at (number_at w32) (partition_at width))) bytes
+
+unfoldable pub version_at : Reader VersionChange
+version_at bytes = as_at (λ p. record { id = p.0; data_timestamp = p.1.0; next_row = p.1.1.0; width = p.1.1.1.0; added = p.1.1.1.1 })
+    (then_at (number_at w32) (λ _. then_at (number_at w64) (λ _. then_at (number_at w64) (λ _. then_at (number_at w32) added_at)))) bytes
+
+-- what a tag announces
+abbrev pub change_behind : ℕ → Reader Change
+change_behind tag bytes =
+    if tag == 1 then as_at CreatesTable table_at bytes
+    else if tag == 10 then as_at PushesVersion version_at bytes
+    else None
+
+unfoldable pub change_at : Reader Change
+change_at bytes = byte_at bytes >>= λ tag. change_behind tag.0 tag.1
+
+abbrev pub is_one : ℕ → Bool
+is_one n = n == 1
+
+unfoldable pub one_at : Reader ℕ
+one_at bytes = where_at is_one (number_at w32) bytes
+
+unfoldable pub commit_at : Reader Commit
+commit_at bytes = as_at (λ p. record { stamp = p.0; change = p.1.1 }) (then_at (number_at w64) (λ _. then_at one_at (λ _. change_at))) bytes
+
+-- the commit that all of the bytes spell
+unfoldable pub commit_of_all : List ℕ → Option Commit
+commit_of_all bytes = commit_at bytes >>= λ c. if length c.1 == 0 then Some c.0 else None

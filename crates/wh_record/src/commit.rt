@@ -1,0 +1,42 @@
+use wh_part::Partition;
+use wh_value::{Column, Text};
+
+/// The byte before a new table.
+pub(crate) const TABLE_TAG: u8 = 1;
+
+/// The byte before a new version.
+pub(crate) const VERSION_TAG: u8 = 10;
+
+/// A new table; `retention` is in days.
+#[derive(Debug, Drop)]
+pub struct TableChange {
+    pub id: u32,
+    pub name: Text,
+    pub retention: u8,
+    pub columns: Vec<Column>,
+}
+
+/// A new version of a table, with partitions added to those of its last one. `width` is its number
+/// of columns.
+#[derive(Debug, Drop)]
+pub struct VersionChange {
+    pub id: u32,
+    pub data_timestamp: u64,
+    pub next_row: u64,
+    pub width: u32,
+    pub added: Vec<Partition>,
+}
+
+/// What a commit changes.
+#[derive(Debug, Drop)]
+pub enum Change {
+    CreatesTable(TableChange),
+    PushesVersion(VersionChange),
+}
+
+/// A change, and the stamp at which it is made.
+#[derive(Debug, Drop)]
+pub struct Commit {
+    pub stamp: u64,
+    pub change: Change,
+}

@@ -1,0 +1,12 @@
+//! Commits, and the bytes that a file has of them.
+#![tactic(auto)]
+
+mod commit;
+mod decoding;
+mod encoding;
+
+pub use commit::{Change, Commit, TableChange, VersionChange};
+pub use decoding::spelling_fixes_commits;
+
+#[cfg(test)]
+mod tests;
