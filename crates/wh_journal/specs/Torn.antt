@@ -1,0 +1,12 @@
+-- What an append leaves that was cut short.
+use Rattle.std.specs.Prelude.{◌⊎◌, ℕ, ◌-◌, List, [], ◌∷◌, ◌++◌, length}
+use Rattle.wh_machine.specs.File.{IsFileOf}
+use Rattle.wh_world.specs.Bytes.{written, Torn}
+
+-- the write of a record behind the gate that ends there was cut short, or the write of the gate
+abbrev pub TornRecord : ℕ → List ℕ → List ℕ → List ℕ → Type 0
+TornRecord end framed old new = Torn end (length framed) old new ⊎ Torn (end - 1) 1 (written old end framed) new
+
+-- a file of the payloads, or of the payloads and one more
+abbrev pub HasWithOrWithout : List (List ℕ) → List ℕ → List ℕ → Type 0
+HasWithOrWithout payloads payload file = IsFileOf payloads file ⊎ IsFileOf (payloads ++ payload ∷ []) file

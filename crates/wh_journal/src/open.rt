@@ -1,0 +1,58 @@
+use crate::reading::has_header;
+use crate::records::{begin, empty, list_records};
+use crate::{Journal, OpenFault};
+use std::alloc::Global;
+use wh_world::Disk;
+
+impl Journal {
+    ghost use Rattle.std.specs.Prelude.{◌≡◌, ◌+◌, ◌<◌, ◌≤◌, ◌^◌, [], ◌∷◌, ◌++◌, List, ℕ, Some, None, length, is_some, OnOk, OnErr, IfOk, IsErrOf};
+    ghost use Rattle.wh_world.specs.Told.{Rose};
+    ghost use Rattle.wh_world.specs.Crash.{Only};
+    ghost use Rattle.wh_machine.specs.File.{IsFileOf, header};
+    ghost use Rattle.wh_journal.specs.Journal.{Lists, end_of, limit_of, failed_of, count_of};
+    ghost use Rattle.wh_journal.specs.Fault.{IsFirstFault};
+    ghost use Rattle.wh_journal.specs.Crash.{LeavesOnly, IsKeptOrShort};
+
+    /// The journal of a file. One of at most 8 bytes is written anew, without records. Nothing is written to a longer one.
+    pub fn open<D: Disk>(alloc: Global, disk: &mut D, limit: u64) -> Result<Journal, OpenFault>
+        requires some { 8 ≤ limit }
+        requires most { limit ≤ 2 ^ 40 }
+
+        ensures short { IfOk result (λ j. (file : List ℕ) → D.bytes disk.old ≡ Some file → length file ≤ 8 →
+            (D.bytes disk.new ≡ Some (header ++ 0 ∷ [])) × Lists [] j) }
+        ensures long { IfOk result (λ j. (file : List ℕ) → D.bytes disk.old ≡ Some file → 8 < length file →
+            (D.bytes disk.new ≡ Some file) × ((payloads : List (List ℕ)) × IsFileOf payloads file × Lists payloads j)) }
+
+        // A crash at any moment of the call, whatever it answers, leaves a longer file as it was, and a short one short.
+        ensures any_moment { (file : List ℕ) → D.bytes disk.old ≡ Some file → Only file (D.may_leave disk.old) →
+            LeavesOnly D.moment D.left_since disk.old disk.new (IsKeptOrShort file) }
+
+        // Over any disk.
+        ensures told { OnOk result (is_some (D.bytes disk.new) ≡ is_some (D.bytes disk.old)) }
+        ensures durable { OnOk result ((file : List ℕ) → D.bytes disk.new ≡ Some file → Only file (D.may_leave disk.new)) }
+        ensures reach { IfOk result (λ j. end_of j ≤ D.size disk.new) }
+        ensures limit { IfOk result (λ j. limit_of j ≡ limit) }
+        ensures healthy { IfOk result (λ j. failed_of j ≡ None) }
+        ensures later { D.faults disk.old ≤ D.faults disk.new }
+
+        // One read for the header, one for each record and one for the last gate.
+        ensures cost { IfOk result (λ j. D.reads disk.new ≤ D.reads disk.old + count_of j + 2) }
+
+        ensures refused { (at : ℕ) (file : List ℕ) → IsErrOf result (OpenFault.NotWarehouse at) → D.bytes disk.old ≡ Some file →
+            (8 < length file) × ((payloads : List (List ℕ)) → IsFileOf payloads file → ⊥) }
+        ensures place { (at : ℕ) (file : List ℕ) → IsErrOf result (OpenFault.NotWarehouse at) → D.bytes disk.old ≡ Some file → IsFirstFault file at }
+        ensures kept { (at : ℕ) → IsErrOf result (OpenFault.NotWarehouse at) → D.bytes disk.new ≡ D.bytes disk.old }
+        ensures disk_fault { IsErrOf result OpenFault.DiskFault → Rose (D.faults disk.old) (D.faults disk.new) }
+    {
+        // What is read from here on is on the disk, whatever was written before.
+        disk.sync()?;
+        let size = disk.len()?;
+        if size <= 8 {
+            return begin(alloc, disk, limit);
+        }
+        if !has_header(disk)? {
+            return Err(OpenFault::NotWarehouse { at: 0 });
+        }
+        list_records(disk, size, empty(alloc, limit))
+    }
+}
