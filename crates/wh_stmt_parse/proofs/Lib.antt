@@ -1,0 +1,7 @@
+pub mod PieceLemmas
+pub mod NumberLemmas
+pub mod TokenLemmas
+pub mod NameLemmas
+pub mod FormLemmas
+pub mod RowLemmas
+pub mod ValueLemmas
