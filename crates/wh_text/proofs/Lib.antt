@@ -1,0 +1,4 @@
+pub mod Parts
+pub mod Ahead
+pub mod Cut
+pub mod Turns

@@ -1,0 +1,4 @@
+pub mod View
+pub mod Turn
+pub mod Script
+pub mod Scan

@@ -1,0 +1,169 @@
+ghost use Rattle.std.specs.Prelude.{◌≡◌, [], ◌∷◌, ◌++◌, OnOk, List, ℕ, map, codes, decimal, length};
+ghost use Rattle.std.specs.List.{flat_map};
+ghost use Rattle.wh_machine.specs.Reply.{print, line, parted, row_line, limit_text, refusal_text};
+ghost use Rattle.wh_machine.specs.Value.{literal};
+ghost use Rattle.wh_value.specs.View.{value_of};
+ghost use Rattle.wh_text.specs.View.{reply_view, refusal_view, limit_view};
+
+use crate::{Limit, Refusal, Reply};
+use std::alloc::{AllocError, Global};
+use wh_value::{Bytes, Row, Text, Value, print_literal};
+
+const LF: u8 = b'\n';
+
+/// Adds the lines of a reply, each with its LF.
+#[tactic(auto, unfolding(wh_machine::specs::Reply::print))]
+pub fn print_reply(alloc: Global, reply: &Reply, out: &mut Bytes) -> Result<(), AllocError>
+    ensures { OnOk result (out.new ≡ out.old ++ print (reply_view reply.now)) }
+{
+    match reply {
+        Reply::CreatedTable(name) => put_created(name, out),
+        Reply::Inserted(count) => put_inserted(*count, out),
+        Reply::Listing { names, rows } => put_listing(names, rows, out),
+        Reply::Refused(refusal) => put_refused(refusal, out),
+    }
+}
+
+fn put_created(name: &Text, out: &mut Bytes) -> Result<(), AllocError>
+    ensures { OnOk result (out.new ≡ out.old ++ line (codes "CREATED TABLE " ++ name.now)) }
+{
+    put_line(b"CREATED TABLE ", name.as_bytes(), out)
+}
+
+fn put_line(front: &[u8], text: &[u8], out: &mut Bytes) -> Result<(), AllocError>
+    ensures { OnOk result (out.new ≡ out.old ++ line (front.now ++ text.now)) }
+{
+    out.extend(front)?;
+    out.extend(text)?;
+    out.push(LF)
+}
+
+fn put_inserted(count: u64, out: &mut Bytes) -> Result<(), AllocError>
+    ensures { OnOk result (out.new ≡ out.old ++ line (codes "INSERTED " ++ decimal count)) }
+{
+    out.extend(b"INSERTED ")?;
+    out.extend_decimal(count)?;
+    out.push(LF)
+}
+
+fn put_refused(refusal: &Refusal, out: &mut Bytes) -> Result<(), AllocError>
+    ensures { OnOk result (out.new ≡ out.old ++ line (refusal_text (refusal_view refusal.now))) }
+{
+    put_refusal(refusal, out)?;
+    out.push(LF)
+}
+
+fn put_refusal(refusal: &Refusal, out: &mut Bytes) -> Result<(), AllocError>
+    ensures { OnOk result (out.new ≡ out.old ++ refusal_text (refusal_view refusal.now)) }
+{
+    match refusal {
+        Refusal::Unsupported => out.extend(b"E0 Unsupported"),
+        Refusal::UnknownName(name) => put_named(b"E6 UnknownName ", name, out),
+        Refusal::NameTaken(name) => put_named(b"E7 NameTaken ", name, out),
+        Refusal::TypeMismatch => out.extend(b"E9 TypeMismatch"),
+        Refusal::OverLimit(limit) => put_limit(*limit, out),
+    }
+}
+
+fn put_named(front: &[u8], name: &Text, out: &mut Bytes) -> Result<(), AllocError>
+    ensures { OnOk result (out.new ≡ out.old ++ (front.now ++ name.now)) }
+{
+    out.extend(front)?;
+    out.extend(name.as_bytes())
+}
+
+fn put_limit(limit: Limit, out: &mut Bytes) -> Result<(), AllocError>
+    ensures { OnOk result (out.new ≡ out.old ++ (codes "E13 Limit " ++ limit_text (limit_view limit))) }
+{
+    out.extend(b"E13 Limit ")?;
+    match limit {
+        Limit::Stamp => out.extend(b"STAMP 4611686018427387904"),
+        Limit::Objects => out.extend(b"OBJECTS 1000"),
+        Limit::RowNumber => out.extend(b"ROW_NUMBER 4611686018427387904"),
+    }
+}
+
+fn put_listing(names: &[Text], rows: &[Row], out: &mut Bytes) -> Result<(), AllocError>
+    ensures { OnOk result (out.new ≡ out.old ++
+        (line (parted names.now) ++ flat_map row_line rows.now ++ line (codes "(" ++ decimal (length rows.now) ++ codes " rows)"))) }
+{
+    put_header(names, out)?;
+    put_rows(rows, out)?;
+    put_count(rows.len() as u64, out)
+}
+
+fn put_header(names: &[Text], out: &mut Bytes) -> Result<(), AllocError>
+    ensures { OnOk result (out.new ≡ out.old ++ line (parted names.now)) }
+{
+    put_names(names, out)?;
+    out.push(LF)
+}
+
+fn put_names(names: &[Text], out: &mut Bytes) -> Result<(), AllocError>
+    ensures { OnOk result (out.new ≡ out.old ++ parted names.now) }
+{
+    match names {
+        [] => Ok(()),
+        [first, others @ ..] => {
+            out.extend(first.as_bytes())?;
+            put_other_names(others, out)
+        }
+    }
+}
+
+fn put_other_names(names: &[Text], out: &mut Bytes) -> Result<(), AllocError>
+    ensures { OnOk result (out.new ≡ out.old ++ flat_map (λ name. codes " | " ++ name) names.now) }
+{
+    for name in names {
+        out.extend(b" | ")?;
+        out.extend(name.as_bytes())?;
+    }
+    Ok(())
+}
+
+fn put_rows(rows: &[Row], out: &mut Bytes) -> Result<(), AllocError>
+    ensures { OnOk result (out.new ≡ out.old ++ flat_map row_line rows.now) }
+{
+    for row in rows {
+        put_row(row, out)?;
+    }
+    Ok(())
+}
+
+fn put_row(row: &Row, out: &mut Bytes) -> Result<(), AllocError>
+    ensures { OnOk result (out.new ≡ out.old ++ row_line row.now) }
+{
+    put_values(row.values(), out)?;
+    out.push(LF)
+}
+
+fn put_values(values: &[Value], out: &mut Bytes) -> Result<(), AllocError>
+    ensures { OnOk result (out.new ≡ out.old ++ parted (map literal (map value_of values.now))) }
+{
+    match values {
+        [] => Ok(()),
+        [first, others @ ..] => {
+            print_literal(first, out)?;
+            put_other_values(others, out)
+        }
+    }
+}
+
+fn put_other_values(values: &[Value], out: &mut Bytes) -> Result<(), AllocError>
+    ensures { OnOk result (out.new ≡ out.old ++
+        flat_map (λ value. codes " | " ++ literal (value_of value)) values.now) }
+{
+    for value in values {
+        out.extend(b" | ")?;
+        print_literal(value, out)?;
+    }
+    Ok(())
+}
+
+fn put_count(count: u64, out: &mut Bytes) -> Result<(), AllocError>
+    ensures { OnOk result (out.new ≡ out.old ++ line (codes "(" ++ decimal count ++ codes " rows)")) }
+{
+    out.extend(b"(")?;
+    out.extend_decimal(count)?;
+    out.extend(b" rows)\n")
+}
