@@ -1,0 +1,17 @@
+-- Row numbers of partitions, as tests and bounds that a table can hold.
+--     all_apart          whether each is apart from those before it and from each later one
+--     highest_number     the highest number at the end of a partition
+use Rattle.std.specs.Prelude.{ℕ, max, Bool, true, ◌&&◌, ◌||◌, List, [], ◌∷◌, nat_lt}
+use Rattle.std.specs.List.{list_all}
+use Rattle.wh_machine.specs.Commit.{Partition, first_number, last_number}
+
+abbrev pub are_apart : Partition → Partition → Bool
+are_apart p q = nat_lt (last_number p.rows) (first_number q.rows) || nat_lt (last_number q.rows) (first_number p.rows)
+
+abbrev pub all_apart : List Partition → List Partition → Bool
+all_apart before [] = true
+all_apart before (p ∷ ps) = list_all (are_apart p) before && all_apart (p ∷ before) ps
+
+abbrev pub highest_number : List Partition → ℕ
+highest_number [] = 0
+highest_number (p ∷ ps) = max (last_number p.rows) (highest_number ps)

@@ -1,0 +1,6 @@
+pub mod Apart
+pub mod Conditions
+pub mod Listing
+pub mod Marks
+pub mod Table
+pub mod Catalog
