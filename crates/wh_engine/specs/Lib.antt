@@ -1,0 +1,5 @@
+pub mod Fault
+pub mod Warehouse
+pub mod Plan
+pub mod Replay
+pub mod Laws

@@ -1,0 +1,24 @@
+-- How the payloads of a file lead from one state to another.
+--     Replays     through commits that they spell
+--     Carries     through one commit
+--     CarriesNone     no commit that a payload spells applies
+use Rattle.std.specs.Prelude.{◌≡◌, ℕ, List, map}
+use Rattle.std.specs.List.{AllByRecursion}
+use Rattle.wh_machine.specs.Commit.{Commit, Stored, Applies, applied, Leads}
+use Rattle.wh_machine.specs.Spelling.{payload_of, IsCommit}
+
+pub record Replays (from : Stored) (payloads : List (List ℕ)) (to : Stored) : Type 0 where
+  pub commits : List Commit
+  pub good : AllByRecursion IsCommit commits
+  pub spelled : map payload_of commits ≡ payloads
+  pub leads : Leads from commits to
+
+pub record Carries (payload : List ℕ) (from to : Stored) : Type 0 where
+  pub commit : Commit
+  pub good : IsCommit commit
+  pub spelled : payload ≡ payload_of commit
+  pub applies : Applies from commit
+  pub leaves : to ≡ applied from commit
+
+abbrev pub CarriesNone : List ℕ → Stored → Type 0
+CarriesNone payload from = (c : Commit) → IsCommit c → payload ≡ payload_of c → Applies from c → ⊥

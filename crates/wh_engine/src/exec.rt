@@ -1,0 +1,76 @@
+use crate::plan::Plan;
+use crate::planning::plan_text;
+use crate::{Halt, Warehouse};
+use std::thread::Threads;
+use wh_text::{Limit, Refusal, Reply};
+use wh_world::Disk;
+
+// The greatest stamp of an event.
+const LAST_STAMP: u64 = 4611686018427387903;
+
+impl<D: Disk> Warehouse<D> {
+    ghost use Rattle.std.specs.Prelude.{◌≡◌, ◌+◌, ◌<◌, ◌≤◌, ◌^◌, ◌↔◌, ℕ, List, Option, Some, None, is_some, IfOk, OnOk, OnErr, IsErrOf};
+    ghost use Rattle.wh_world.specs.Told.{Rose};
+    ghost use Rattle.wh_world.specs.Crash.{Only};
+    ghost use Rattle.wh_journal.specs.Crash.{LeavesOnly};
+    ghost use Rattle.wh_machine.specs.Step.{step};
+    ghost use Rattle.wh_text.specs.View.{reply_view};
+    ghost use Rattle.wh_journal.specs.Journal.{end_of, limit_of, failed_of};
+    ghost use Rattle.wh_catalog.specs.Catalog.{stored_of};
+    ghost use Rattle.wh_engine.specs.Plan.{NeedsRecord};
+    ghost use Rattle.wh_engine.specs.Warehouse.{state_of, Filed, StandsForEither, command};
+
+    /// Carries out one command, and gives its reply. A halt leaves the state as it was; after a fault of a write or
+    /// a sync the file has to be opened again.
+    pub fn exec(
+        &mut self,
+        rt: &(impl Threads + Sync),
+        reading: u64,
+        session: u64,
+        text: &[u8],
+    ) -> Result<Reply, Halt>
+        requires session { session ≡ 1 }
+        requires reading { reading < 2 ^ 62 }
+
+        // The reply and the new state are the machine's.
+        ensures stepped { IfOk result (λ reply. (state_of self.new.catalog, reply_view reply) ≡ step (state_of self.old.catalog) (command reading session text.now)) }
+        ensures halted { OnErr result (state_of self.new.catalog ≡ state_of self.old.catalog) }
+
+        // The file goes with the state.
+        ensures filed { Filed (D.bytes self.old.disk) self.old.journal self.old.catalog →
+            OnOk result (Filed (D.bytes self.new.disk) self.new.journal self.new.catalog) }
+        ensures told { OnOk result (is_some (D.bytes self.new.disk) ≡ is_some (D.bytes self.old.disk)) }
+
+        // Over a file that is all on the disk: a crash at any moment leaves a file that stands for the state before the
+        // command or for that after it, and from Ok on for that after it alone.
+        ensures any_moment { (file : List ℕ) → D.bytes self.old.disk ≡ Some file → Only file (D.may_leave self.old.disk) →
+            Filed (D.bytes self.old.disk) self.old.journal self.old.catalog →
+            LeavesOnly D.moment D.left_since self.old.disk self.new.disk (StandsForEither (state_of self.old.catalog)
+            (step (state_of self.old.catalog) (command reading session text.now)).0) }
+        ensures durable { ((file : List ℕ) → D.bytes self.old.disk ≡ Some file → Only file (D.may_leave self.old.disk)) →
+            OnOk result ((file : List ℕ) → D.bytes self.new.disk ≡ Some file → Only file (D.may_leave self.new.disk)) }
+
+        // Why it halts, in the order of the tests.
+        ensures needs_reopen { (faults : ℕ) → IsErrOf result (Halt.NeedsReopen faults) ↔ (failed_of self.old.journal ≡ Some faults) }
+        ensures file_full { (len need : ℕ) → IsErrOf result (Halt.FileFull len need) →
+            (limit_of self.old.journal < len + need) × (len ≡ end_of self.old.journal)
+            × NeedsRecord (stored_of self.old.catalog) (step (state_of self.old.catalog) (command reading session text.now)).0 need }
+        ensures disk_fault { IsErrOf result Halt.DiskFault → Rose (D.faults self.old.disk) (D.faults self.new.disk) }
+
+        // Over any disk.
+        ensures healthy { OnOk result (failed_of self.new.journal ≡ None) }
+        ensures limit { limit_of self.new.journal ≡ limit_of self.old.journal }
+        ensures later { D.faults self.old.disk ≤ D.faults self.new.disk }
+    {
+        if let Some(faults) = self.journal.failed() {
+            return Err(Halt::NeedsReopen { faults });
+        }
+        let stamp = reading.max(self.catalog.last() + 1);
+        if LAST_STAMP < stamp {
+            return Ok(Reply::Refused(Refusal::OverLimit(Limit::Stamp)));
+        }
+        let Plan { reply, commit } = plan_text(self.alloc, &self.catalog, stamp, text)?;
+        self.finish(stamp, commit)?;
+        Ok(reply)
+    }
+}

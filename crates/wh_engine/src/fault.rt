@@ -1,0 +1,101 @@
+use std::alloc::{AllocError, AllocFailed};
+use wh_catalog::ReserveFault;
+use wh_journal::{AppendFault, ReadFault};
+
+/// Why a warehouse could not be opened.
+#[derive(Clone, Copy, Debug, PartialEq, Eq)]
+pub enum OpenFault {
+    OutOfMemory,
+    DiskFault,
+    /// The file stands for no state; `at` is the position of the first fault.
+    NotWarehouse { at: u64 },
+}
+
+/// Why a command was not carried out. The state is as it was.
+#[derive(Clone, Copy, Debug, PartialEq, Eq)]
+pub enum Halt {
+    OutOfMemory,
+    DiskFault,
+    /// The commit's record needs more bytes than the limit leaves: `len` is the position after the present gate.
+    FileFull { len: u64, need: u64 },
+    /// An earlier write or sync failed: open the file again.
+    NeedsReopen { faults: u64 },
+}
+
+impl From<AllocError> for Halt {
+    ghost use Rattle.std.specs.Prelude.{◌≡◌};
+    ghost use Rattle.wh_engine.specs.declared.fault.Halt.TheVariants.{OutOfMemory};
+
+    ghost from_gives = { λ _ halt. halt ≡ OutOfMemory };
+
+    fn from(_: AllocError) -> Self {
+        Halt::OutOfMemory
+    }
+}
+
+// A commit that doesn't apply is made only over a state that no command leaves.
+impl From<ReserveFault> for Halt {
+    ghost use Rattle.std.specs.Prelude.{◌≡◌};
+    ghost use Rattle.wh_engine.specs.declared.fault.Halt.TheVariants.{OutOfMemory};
+
+    ghost from_gives = { λ _ halt. halt ≡ OutOfMemory };
+
+    fn from(_: ReserveFault) -> Self {
+        Halt::OutOfMemory
+    }
+}
+
+impl From<AppendFault> for Halt {
+    ghost use Rattle.std.specs.Prelude.{◌≡◌};
+    ghost use Rattle.wh_engine.specs.Fault.{halt_of};
+
+    ghost from_gives = { λ fault halt. halt ≡ halt_of fault };
+
+    fn from(fault: AppendFault) -> Self {
+        match fault {
+            AppendFault::DiskFault => Halt::DiskFault,
+            AppendFault::FileFull { len, need } => Halt::FileFull { len, need },
+            AppendFault::NeedsReopen { faults } => Halt::NeedsReopen { faults },
+        }
+    }
+}
+
+impl From<AllocError> for OpenFault {
+    ghost use Rattle.std.specs.Prelude.{◌≡◌};
+    ghost use Rattle.wh_engine.specs.declared.fault.OpenFault.TheVariants.{OutOfMemory};
+
+    ghost from_gives = { λ _ fault. fault ≡ OutOfMemory };
+
+    fn from(_: AllocError) -> Self {
+        OpenFault::OutOfMemory
+    }
+}
+
+impl From<ReadFault> for OpenFault {
+    ghost use Rattle.std.specs.Prelude.{◌≡◌};
+    ghost use Rattle.wh_engine.specs.Fault.{fault_of_read};
+
+    ghost from_gives = { λ read fault. fault ≡ fault_of_read read };
+
+    fn from(read: ReadFault) -> Self {
+        match read {
+            ReadFault::OutOfMemory => OpenFault::OutOfMemory,
+            ReadFault::DiskFault => OpenFault::DiskFault,
+        }
+    }
+}
+
+impl From<wh_journal::OpenFault> for OpenFault {
+    ghost use Rattle.std.specs.Prelude.{◌≡◌};
+    ghost use Rattle.wh_engine.specs.Fault.{fault_of};
+
+    ghost from_gives = { λ journal fault. fault ≡ fault_of journal };
+
+    fn from(journal: wh_journal::OpenFault) -> Self {
+        match journal {
+            wh_journal::OpenFault::OutOfMemory => OpenFault::OutOfMemory,
+            wh_journal::OpenFault::DiskFault => OpenFault::DiskFault,
+            wh_journal::OpenFault::NotWarehouse { at } => OpenFault::NotWarehouse { at },
+        }
+    }
+}

@@ -1,0 +1,87 @@
+use crate::replay::replay;
+use crate::{OpenFault, Warehouse};
+use std::alloc::Global;
+use std::thread::Threads;
+use wh_catalog::Catalog;
+use wh_journal::Journal;
+use wh_world::Disk;
+
+impl<D: Disk> Warehouse<D> {
+    ghost use Rattle.std.specs.Prelude.{◌≡◌, ◌<◌, ◌≤◌, ◌^◌, ℕ, List, Some, None, length, is_some, IfOk, IfErr};
+    ghost use Rattle.wh_world.specs.Told.{Rose};
+    ghost use Rattle.wh_machine.specs.Table.{State, at_rest};
+    ghost use Rattle.wh_machine.specs.File.{Stands};
+    ghost use Rattle.wh_journal.specs.Journal.{limit_of, failed_of};
+    ghost use Rattle.wh_engine.specs.Warehouse.{state_of, Filed};
+
+    /// The warehouse of a file of at most `limit` bytes. A file of at most 8 bytes is written anew. A fault hands the
+    /// disk back.
+    pub fn open(
+        rt: &(impl Threads + Sync),
+        alloc: Global,
+        disk: D,
+        workers: u32,
+        limit: u64,
+    ) -> Result<Warehouse<D>, (OpenFault, D)>
+        requires some_worker { 1 ≤ workers }
+        requires most_workers { workers ≤ 64 }
+        requires some { 8 ≤ limit }
+        requires most { limit ≤ 2 ^ 40 }
+
+        // The file stands for the state, which is at rest.
+        ensures opened { IfOk result (λ w. (file : List ℕ) → D.bytes disk ≡ Some file → Stands file (state_of w.catalog)) }
+        ensures at_rest { IfOk result (λ w. at_rest (state_of w.catalog) ≡ state_of w.catalog) }
+        ensures filed { IfOk result (λ w. Filed (D.bytes w.disk) w.journal w.catalog) }
+        ensures told { IfOk result (λ w. is_some (D.bytes w.disk) ≡ is_some (D.bytes disk)) }
+
+        ensures not_warehouse { IfErr result (λ e. (at : ℕ) (file : List ℕ) → e.0 ≡ OpenFault.NotWarehouse at → D.bytes disk ≡ Some file →
+            (8 < length file) × ((state : State) → Stands file state → ⊥) × (D.bytes e.1 ≡ Some file)) }
+        ensures disk_fault { IfErr result (λ e. e.0 ≡ OpenFault.DiskFault → Rose (D.faults disk) (D.faults e.1)) }
+
+        // Over any disk.
+        ensures healthy { IfOk result (λ w. failed_of w.journal ≡ None) }
+        ensures limit { IfOk result (λ w. limit_of w.journal ≡ limit) }
+        ensures later { IfOk result (λ w. D.faults disk ≤ D.faults w.disk) }
+    {
+        let mut disk = disk;
+        match read(alloc, &mut disk, limit) {
+            Ok((journal, catalog)) => Ok(Warehouse {
+                alloc,
+                disk,
+                journal,
+                catalog,
+            }),
+            Err(fault) => Err((fault, disk)),
+        }
+    }
+}
+
+ghost use Rattle.std.specs.Prelude.{◌≡◌, ◌<◌, ◌≤◌, ◌^◌, ℕ, List, Some, None, length, is_some, IfOk, OnOk, IsErrOf};
+ghost use Rattle.wh_world.specs.Told.{Rose};
+ghost use Rattle.wh_machine.specs.Table.{State};
+ghost use Rattle.wh_machine.specs.Commit.{resting};
+ghost use Rattle.wh_machine.specs.File.{Stands};
+ghost use Rattle.wh_journal.specs.Journal.{end_of, limit_of, failed_of};
+ghost use Rattle.wh_catalog.specs.Catalog.{stored_of};
+ghost use Rattle.wh_engine.specs.Warehouse.{state_of, Filed};
+
+// The journal of a file, and the catalog to which it leads.
+fn read<D: Disk>(alloc: Global, disk: &mut D, limit: u64) -> Result<(Journal, Catalog), OpenFault>
+    requires some { 8 ≤ limit }
+    requires most { limit ≤ 2 ^ 40 }
+    ensures opened { IfOk result (λ r. (file : List ℕ) → D.bytes disk.old ≡ Some file → Stands file (state_of r.1)) }
+    ensures rest { IfOk result (λ r. resting (stored_of r.1) ≡ stored_of r.1) }
+    ensures filed { IfOk result (λ r. Filed (D.bytes disk.new) r.0 r.1) }
+    ensures told { OnOk result (is_some (D.bytes disk.new) ≡ is_some (D.bytes disk.old)) }
+    ensures reach { IfOk result (λ r. end_of r.0 ≤ D.size disk.new) }
+    ensures healthy { IfOk result (λ r. failed_of r.0 ≡ None) }
+    ensures limit { IfOk result (λ r. limit_of r.0 ≡ limit) }
+    ensures later { D.faults disk.old ≤ D.faults disk.new }
+    ensures not_warehouse { (at : ℕ) (file : List ℕ) → IsErrOf result (OpenFault.NotWarehouse at) → D.bytes disk.old ≡ Some file →
+        (8 < length file) × ((state : State) → Stands file state → ⊥) × (D.bytes disk.new ≡ Some file) }
+    ensures disk_fault { IsErrOf result OpenFault.DiskFault → Rose (D.faults disk.old) (D.faults disk.new) }
+{
+    let journal = Journal::open(alloc, disk, limit)?;
+    let catalog = replay(alloc, disk, &journal)?;
+    Ok((journal, catalog))
+}

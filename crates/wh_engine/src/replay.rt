@@ -1,0 +1,87 @@
+ghost use Rattle.std.specs.Prelude.{◌≡◌, ◌<◌, ◌≤◌, ℕ, List, Some, slice_get, IfOk, OnOk, IsErrOf};
+ghost use Rattle.wh_world.specs.Told.{Rose};
+ghost use Rattle.wh_machine.specs.Commit.{Stored, first_stored, resting};
+ghost use Rattle.wh_machine.specs.File.{IsFileOf};
+ghost use Rattle.wh_journal.specs.Journal.{Lists, end_of, count_of};
+ghost use Rattle.wh_catalog.specs.Catalog.{stored_of};
+ghost use Rattle.wh_engine.specs.Replay.{Replays, Carries, CarriesNone};
+
+use crate::OpenFault;
+use std::alloc::Global;
+use wh_catalog::{Catalog, ReserveFault};
+use wh_journal::Journal;
+use wh_record::Commit;
+use wh_world::Disk;
+
+// The catalog to which the commits of a file lead, one after the other. It is at rest.
+pub(crate) fn replay<D: Disk>(
+    alloc: Global,
+    disk: &mut D,
+    journal: &Journal,
+) -> Result<Catalog, OpenFault>
+    requires { end_of journal.now ≤ D.size disk.old }
+    ensures led { IfOk result (λ catalog. (payloads : List (List ℕ)) (file : List ℕ) → D.bytes disk.old ≡ Some file →
+        IsFileOf payloads file → Lists payloads journal.now → Replays first_stored payloads (stored_of catalog)) }
+    ensures rest { IfOk result (λ catalog. resting (stored_of catalog) ≡ stored_of catalog) }
+    ensures strays { (at : ℕ) → IsErrOf result (OpenFault.NotWarehouse at) → (payloads : List (List ℕ)) (file : List ℕ) → D.bytes disk.old ≡ Some file →
+        IsFileOf payloads file → Lists payloads journal.now → (s : Stored) → Replays first_stored payloads s → ⊥ }
+    ensures same { (D.bytes disk.new ≡ D.bytes disk.old) × (D.size disk.new ≡ D.size disk.old) }
+    ensures later { D.faults disk.old ≤ D.faults disk.new }
+    ensures disk_fault { IsErrOf result OpenFault.DiskFault → Rose (D.faults disk.old) (D.faults disk.new) }
+{
+    let mut catalog = Catalog::new(alloc);
+    for at in 0..journal.count() {
+        replay_at(alloc, disk, journal, &mut catalog, at)?;
+    }
+    Ok(catalog)
+}
+
+// Carries out the commit of the payload at a place.
+fn replay_at<D: Disk>(
+    alloc: Global,
+    disk: &mut D,
+    journal: &Journal,
+    catalog: &mut Catalog,
+    at: u64,
+) -> Result<(), OpenFault>
+    requires listed { at < count_of journal.now }
+    requires reach { end_of journal.now ≤ D.size disk.old }
+    ensures carried { OnOk result ((payloads : List (List ℕ)) (file : List ℕ) → D.bytes disk.old ≡ Some file → IsFileOf payloads file → Lists payloads journal.now →
+        (payload : List ℕ) × (slice_get payloads at ≡ Some payload) × Carries payload (stored_of catalog.old) (stored_of catalog.new)) }
+    ensures rest { resting (stored_of catalog.old) ≡ stored_of catalog.old → OnOk result (resting (stored_of catalog.new) ≡ stored_of catalog.new) }
+    ensures strays { (place : ℕ) → IsErrOf result (OpenFault.NotWarehouse place) → (payloads : List (List ℕ)) (file : List ℕ) → D.bytes disk.old ≡ Some file →
+        IsFileOf payloads file → Lists payloads journal.now → (payload : List ℕ) × (slice_get payloads at ≡ Some payload) × CarriesNone payload (stored_of catalog.old) }
+    ensures same { (D.bytes disk.new ≡ D.bytes disk.old) × (D.size disk.new ≡ D.size disk.old) }
+    ensures later { D.faults disk.old ≤ D.faults disk.new }
+    ensures disk_fault { IsErrOf result OpenFault.DiskFault → Rose (D.faults disk.old) (D.faults disk.new) }
+{
+    let payload = journal.payload(alloc, disk, at)?;
+    let (position, _) = journal.place(at);
+    // A record's gate stands before the eight bytes of its length.
+    carry_out(alloc, catalog, &payload, position.saturating_sub(9))
+}
+
+// Carries out the commit that a payload spells; `gate` is the position of its record.
+fn carry_out(
+    alloc: Global,
+    catalog: &mut Catalog,
+    payload: &[u8],
+    gate: u64,
+) -> Result<(), OpenFault>
+    ensures carried { OnOk result (Carries payload.now (stored_of catalog.old) (stored_of catalog.new)) }
+    ensures strays { (place : ℕ) → IsErrOf result (OpenFault.NotWarehouse place) → CarriesNone payload.now (stored_of catalog.old) }
+    ensures no_disk { IsErrOf result OpenFault.DiskFault → ⊥ }
+{
+    let Some(decoded) = Commit::decode(alloc, payload) else {
+        return Err(OpenFault::NotWarehouse { at: gate });
+    };
+    let commit = decoded?;
+    match catalog.reserve(&commit) {
+        Ok(()) => {
+            catalog.apply(commit);
+            Ok(())
+        }
+        Err(ReserveFault::OutOfMemory) => Err(OpenFault::OutOfMemory),
+        Err(ReserveFault::NotApplicable) => Err(OpenFault::NotWarehouse { at: gate }),
+    }
+}
