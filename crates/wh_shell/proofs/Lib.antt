@@ -1,0 +1,3 @@
+pub mod LoneWord
+pub mod Progress
+pub mod Ending

@@ -1,0 +1,67 @@
+-- What contracts say of a run.
+--     IsRun        the words that are taken
+--     IsRunOf      over a told file that stands for a state, a told script and told output: what the run wrote and left
+use Rattle.std.specs.Prelude.{◌≡◌, ℕ, ◌+◌, ◌<◌, ◌^◌, List, [], ◌∷◌, ◌++◌, map, length, codes, Option, Some, String, string_bytes}
+use Rattle.std.specs.Global.{Global}
+use Rattle.wh_machine.specs.Table.{State, at_rest}
+use Rattle.wh_machine.specs.Step.{after, text, refusals}
+use Rattle.wh_machine.specs.Script.{events}
+use Rattle.wh_machine.specs.File.{Stands}
+use Rattle.wh_shell.specs.declared.status.Status.{Status}
+use Rattle.wh_shell.specs.declared.status.Status.TheVariants as status
+
+-- the one word `run`
+abbrev pub IsRun : List (String Global) → Type 0
+IsRun words = map string_bytes words ≡ codes "run" ∷ []
+
+-- the script was read to its end: its whole text was written, and the file stands for the state after all events
+pub record IsWhole (start : State) (input held : List ℕ) (count : ℕ) (held_new bytes_new left_new : Option (List ℕ)) : Type 0 where
+  pub written : held_new ≡ Some (held ++ text start (events input))
+  pub refused : count ≡ refusals start (events input)
+  pub read : left_new ≡ Some []
+  pub file : List ℕ
+  pub told : bytes_new ≡ Some file
+  pub stands : Stands file (at_rest (after start (events input)))
+
+-- a front of the text was written
+pub record IsFront (start : State) (input held : List ℕ) (held_new : Option (List ℕ)) : Type 0 where
+  pub front : List ℕ
+  pub rest : List ℕ
+  pub parts : front ++ rest ≡ text start (events input)
+  pub written : held_new ≡ Some (held ++ front)
+
+-- by the status
+abbrev pub IsRunOf : State → List ℕ → List ℕ → Status → Option (List ℕ) → Option (List ℕ) → Option (List ℕ) → Type 0
+IsRunOf start input held status.Done held_new bytes_new left_new = IsWhole start input held 0 held_new bytes_new left_new
+IsRunOf start input held (status.Refused count) held_new bytes_new left_new = (0 < count) × IsWhole start input held count held_new bytes_new left_new
+IsRunOf start input held status.Usage held_new bytes_new left_new = held_new ≡ Some held
+IsRunOf start input held status.OutOfMemory held_new bytes_new left_new = IsFront start input held held_new
+IsRunOf start input held status.DiskFault held_new bytes_new left_new = IsFront start input held held_new
+IsRunOf start input held status.ScriptFault held_new bytes_new left_new = IsFront start input held held_new
+IsRunOf start input held status.OutputFault held_new bytes_new left_new = IsFront start input held held_new
+IsRunOf start input held (status.NotWarehouse at) held_new bytes_new left_new = held_new ≡ Some held
+IsRunOf start input held (status.FileFull len need) held_new bytes_new left_new = IsFront start input held held_new
+IsRunOf start input held (status.ScriptTooLong taken) held_new bytes_new left_new = IsFront start input held held_new
+
+-- the file has more than 8 bytes and stands for no state
+pub record IsForeign (file : List ℕ) : Type 0 where
+  pub long : 8 < length file
+  pub none : (state : State) → Stands file state → ⊥
+
+-- what a foreign file may be answered: that, or a fault that came first
+abbrev pub RefusesFile : Status → Type 0
+RefusesFile (status.NotWarehouse at) = Unit {0}
+RefusesFile status.OutOfMemory = Unit {0}
+RefusesFile status.DiskFault = Unit {0}
+RefusesFile status.Done = ⊥
+RefusesFile (status.Refused count) = ⊥
+RefusesFile status.Usage = ⊥
+RefusesFile status.ScriptFault = ⊥
+RefusesFile status.OutputFault = ⊥
+RefusesFile (status.FileFull len need) = ⊥
+RefusesFile (status.ScriptTooLong taken) = ⊥
+
+-- more than 2^30 bytes were taken, and that many
+pub record WasTooLong (taken : ℕ) (left_old left_new : Option (List ℕ)) : Type 0 where
+  pub long : 2 ^ 30 < taken
+  pub counted : (input : List ℕ) → left_old ≡ Some input → (rest : List ℕ) × (left_new ≡ Some rest) × (length input ≡ taken + length rest)

@@ -1,0 +1,22 @@
+//! The program's words, its statuses, and `run`: a script carried out over a file.
+#![tactic(auto)]
+
+mod file_disk;
+mod in_source;
+mod out_sink;
+mod running;
+mod serving;
+mod status;
+mod system_clock;
+#[cfg(test)]
+mod tests;
+mod turn;
+mod words;
+mod writing;
+
+pub use file_disk::FileDisk;
+pub use in_source::InSource;
+pub use out_sink::OutSink;
+pub use running::run;
+pub use status::Status;
+pub use system_clock::SystemClock;

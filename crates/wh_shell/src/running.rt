@@ -1,0 +1,92 @@
+ghost use Rattle.std.specs.Prelude.{◌≡◌, ◌+◌, ◌<◌, ◌^◌, ◌↔◌, ℕ, List, Some, None, IsTrue, is_some};
+ghost use Rattle.wh_world.specs.Told.{Rose};
+ghost use Rattle.wh_machine.specs.Table.{State};
+ghost use Rattle.wh_machine.specs.File.{Stands};
+ghost use Rattle.wh_journal.specs.Journal.{limit_of, failed_of};
+ghost use Rattle.wh_engine.specs.Warehouse.{state_of, Filed};
+ghost use Rattle.wh_shell.specs.Run.{IsRun, IsRunOf, IsForeign, RefusesFile, WasTooLong};
+ghost use Rattle.wh_shell.specs.Code.{status_of_open};
+ghost use Rattle.wh_shell.specs.Serving.{EndsServing};
+
+use crate::Status;
+use crate::serving::serve;
+use crate::words::is_run;
+use std::alloc::Global;
+use std::thread::Threads;
+use wh_engine::{OpenFault, Warehouse};
+use wh_world::{Clock, Disk, Sink, Source};
+
+// The most bytes of a file.
+const MOST_BYTES: u64 = 1 << 40;
+
+/// Carries out a script over the file of a disk, and writes the replies. Hands the disk back.
+pub fn run<S: Source, K: Sink, D: Disk, C: Clock>(
+    rt: &(impl Threads + Sync),
+    alloc: Global,
+    words: &[String],
+    script: &mut S,
+    out: &mut K,
+    disk: D,
+    clock: &mut C,
+) -> (Status, D)
+    // The replies are the machine's, for every script: over a file that stands for a state, what was written is the
+    // text of all its events, or a front of it, and the file stands for the state after them.
+    ensures runs { (file input held : List ℕ) (start : State) → D.bytes disk ≡ Some file → S.left script.old ≡ Some input →
+        K.held out.old ≡ Some held → Stands file start →
+        IsRunOf start input held result.0 (K.held out.new) (D.bytes result.1) (S.left script.new) }
+
+    // Why it ends otherwise.
+    ensures usage { (result.0 ≡ Status.Usage) ↔ (IsRun words.now → ⊥) }
+    ensures untouched { result.0 ≡ Status.Usage → (result.1 ≡ disk) × (script.new ≡ script.old) × (out.new ≡ out.old) }
+    ensures disk_fault { result.0 ≡ Status.DiskFault → Rose (D.faults disk) (D.faults result.1) }
+    ensures script_fault { result.0 ≡ Status.ScriptFault → Rose (S.faults script.old) (S.faults script.new) }
+    ensures output_fault { result.0 ≡ Status.OutputFault → Rose (K.faults out.old) (K.faults out.new) }
+    ensures not_warehouse { (at : ℕ) (file : List ℕ) → result.0 ≡ Status.NotWarehouse at → D.bytes disk ≡ Some file →
+        IsForeign file × (D.bytes result.1 ≡ Some file) × (out.new ≡ out.old) }
+    ensures foreign { (file : List ℕ) → IsRun words.now → D.bytes disk ≡ Some file → IsForeign file → RefusesFile result.0 }
+    ensures file_full { (len need : ℕ) → result.0 ≡ Status.FileFull len need → 2 ^ 40 < len + need }
+    ensures too_long { (taken : ℕ) → result.0 ≡ Status.ScriptTooLong taken → WasTooLong taken (S.left script.old) (S.left script.new) }
+    ensures clock { clock.new ≡ clock.old }
+{
+    if !is_run(words) {
+        return (Status::Usage, disk);
+    }
+    match Warehouse::open(rt, alloc, disk, 1, MOST_BYTES) {
+        Ok(warehouse) => serve_and_close(rt, alloc, warehouse, script, out),
+        Err((fault, disk)) => (status_of(fault), disk),
+    }
+}
+
+// Serves a script over an open warehouse, and hands its disk back.
+fn serve_and_close<S: Source, K: Sink, D: Disk>(
+    rt: &(impl Threads + Sync),
+    alloc: Global,
+    mut warehouse: Warehouse<D>,
+    script: &mut S,
+    out: &mut K,
+) -> (Status, D)
+    requires filed { Filed (D.bytes warehouse.disk) warehouse.journal warehouse.catalog }
+    requires healthy { failed_of warehouse.journal ≡ None }
+    requires limit { limit_of warehouse.journal ≡ 2 ^ 40 }
+    ensures runs { (input held : List ℕ) → S.left script.old ≡ Some input → K.held out.old ≡ Some held → IsTrue (is_some (D.bytes warehouse.disk)) →
+        IsRunOf (state_of warehouse.catalog) input held result.0 (K.held out.new) (D.bytes result.1) (S.left script.new) }
+    ensures causes { EndsServing result.0 }
+    ensures disk_fault { result.0 ≡ Status.DiskFault → Rose (D.faults warehouse.disk) (D.faults result.1) }
+    ensures script_fault { result.0 ≡ Status.ScriptFault → Rose (S.faults script.old) (S.faults script.new) }
+    ensures output_fault { result.0 ≡ Status.OutputFault → Rose (K.faults out.old) (K.faults out.new) }
+    ensures file_full { (len need : ℕ) → result.0 ≡ Status.FileFull len need → 2 ^ 40 < len + need }
+    ensures too_long { (taken : ℕ) → result.0 ≡ Status.ScriptTooLong taken → WasTooLong taken (S.left script.old) (S.left script.new) }
+{
+    let status = serve(rt, alloc, &mut warehouse, script, out);
+    (status, warehouse.close())
+}
+
+fn status_of(fault: OpenFault) -> Status
+    ensures { result ≡ status_of_open fault }
+{
+    match fault {
+        OpenFault::OutOfMemory => Status::OutOfMemory,
+        OpenFault::DiskFault => Status::DiskFault,
+        OpenFault::NotWarehouse { at } => Status::NotWarehouse { at },
+    }
+}
