@@ -2,6 +2,10 @@
 //! standard output.
 #![tactic(auto)]
 
+ghost use Rattle.std.specs.Prelude.{◌≡◌};
+ghost use Rattle.std.specs.Process.{exit_status};
+ghost use Rattle.wh_shell.specs.Code.{code_of};
+
 use std::env::Env;
 use std::fs::{File, Files};
 use std::io::{ErrorKind, Input};
@@ -16,7 +20,14 @@ fn main(rt: HostRuntime) -> ExitCode {
     let code = status.code();
     // Where standard error takes nothing the exit code still tells.
     let _ = eprintln!(rt; "status {code}");
-    ExitCode::from(code)
+    ended(status)
+}
+
+// What the process ends with: the number of the status.
+fn ended(status: Status) -> ExitCode
+    ensures code { exit_status result ≡ code_of status }
+{
+    ExitCode::from(status.code())
 }
 
 // The file is opened, or created, before the words after its path are read.
