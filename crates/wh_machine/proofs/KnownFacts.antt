@@ -1,17 +1,17 @@
 -- Known values of the definitions, worked out by hand: a wrong rule doesn't check.
-use Rattle.std.proofs.Common.{◌≡◌, ℕ, List, [], ◌∷◌, ◌++◌, Option, Some, None, true, pos, negsuc, refl, sym, ap, ◌∙◌, length, nat_cmp}
+use Rattle.std.proofs.Common.{◌≡◌, ℕ, List, [], ◌∷◌, ◌++◌, Some, None, true, pos, negsuc, refl, sym, ◌∙◌, length, nat_cmp}
 use Rattle.std.proofs.lemmas.List.{nil_from_length}
 use Rattle.std.specs.Prelude.{codes}
-use Rattle.std.specs.FinMap.{FinMap, entries, entries-insert, empty, values, len-entries, len-empty}
+use Rattle.std.specs.FinMap.{entries, entries-insert, empty, values, len-entries, len-empty}
 use Rattle.std.specs.Cmp.{nat_cmp_total}
-use Rattle.wh_machine.specs.Value.{Value, Number, Truth, Text, Null, Row, row_cmp, literal}
-use Rattle.wh_machine.specs.Table.{Column, NumberType, first_state, with_entries}
-use Rattle.wh_machine.specs.Statement.{Statement, CreateTable, InsertValues, SelectAll}
+use Rattle.wh_value.specs.Value.{Number, Truth, Text, Null, Row, literal}
+use Rattle.wh_machine.specs.Table.{first_state, with_entries}
+use Rattle.wh_machine.specs.Statement.{CreateTable, InsertValues, SelectAll}
 use Rattle.wh_machine.specs.Reading.{statement_of, statement_of_tokens, tokens_of, token_of, pieces_of, columns_of, is_column, is_reserved, is_word, is_call, creation, rows_from, number_column}
-use Rattle.wh_machine.specs.Reply.{Reply, print}
-use Rattle.wh_machine.specs.Step.{step, carried_out, create_table, insert_at, text, refusals, in_order, numbered}
+use Rattle.wh_machine.specs.Reply.{print}
+use Rattle.wh_machine.specs.Step.{step, carried_out, create_table, insert_at, text, in_order, numbered}
 use Rattle.wh_machine.specs.Script.{events, commands_of}
-use Rattle.wh_machine.specs.Commit.{Commit, CreatesTable, PushesVersion}
+use Rattle.wh_machine.specs.Commit.{CreatesTable, PushesVersion}
 use Rattle.wh_machine.specs.Spelling.{payload_of, change_bytes, table_bytes, version_bytes, partition_bytes, row_bytes, value_bytes, column_bytes}
 use Rattle.wh_machine.specs.File.{record_of, records_of}
 

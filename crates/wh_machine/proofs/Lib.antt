@@ -1,1 +1,6 @@
 pub mod KnownFacts
+pub mod KnownStops
+pub mod ReplyLaws
+pub mod SoundLaws
+pub mod KnownTokens
+pub mod KnownStatements

@@ -7,8 +7,8 @@ use Rattle.std.specs.Prelude.{◌≡◌, ℕ, zero, suc, ◌+◌, ◌<◌, ◌�
 use Rattle.std.specs.List.{flat_map, AllByRecursion}
 use Rattle.std.specs.FinMap.{empty}
 use Rattle.std.specs.Coded.{Coded, code_by, coded_ℕ, coded_list, coded×}
-use Rattle.wh_machine.specs.Value.{Value, Row, coded_value}
-use Rattle.wh_machine.specs.Table.{Column, ColumnType, NumberType, Rows, Version, Table, State, first_state, at_rest, new_table, latest, no_version, place_of, with_entries}
+use Rattle.wh_value.specs.Value.{Row, coded_value}
+use Rattle.wh_machine.specs.Table.{Column, NumberType, Rows, Table, State, first_state, at_rest, new_table, latest, place_of, with_entries}
 use Rattle.wh_machine.specs.Step.{row_fits, number_limit, objects_limit}
 
 -- rows with their numbers, rising; a partition never changes

@@ -1,10 +1,11 @@
 -- The file: a header, records, a gate that is closed, and any bytes.
 --     IsFileOf     the bytes are a file of these payloads
 --     Stands       the bytes stand for that state
-use Rattle.std.specs.Prelude.{◌≡◌, ◌≢◌, ℕ, ◌<◌, ◌≤◌, ◌^◌, ◌⊎◌, List, [], ◌∷◌, ◌++◌, length, map, codes}
+--     GateEndsAt   the position behind the file's present gate, the one that isn't open
+use Rattle.std.specs.Prelude.{◌≡◌, ◌≢◌, ℕ, ◌+◌, ◌<◌, ◌≤◌, ◌^◌, ◌⊎◌, List, [], ◌∷◌, ◌++◌, length, map}
 use Rattle.std.specs.List.{flat_map, AllByRecursion}
 use Rattle.std.specs.Int.{w64, to_be_bytes}
-use Rattle.wh_machine.specs.Table.{State, first_state}
+use Rattle.wh_machine.specs.Table.{State}
 use Rattle.wh_machine.specs.Commit.{Commit, Stored, first_stored, Leads}
 use Rattle.wh_machine.specs.Spelling.{payload_of, IsCommit}
 
@@ -40,3 +41,8 @@ Keeps bytes s = ((length bytes ≤ 8) × (s ≡ first_stored)) ⊎ ((8 < length 
 
 abbrev pub Stands : List ℕ → State → Type 0
 Stands bytes state = (s : Stored) × Keeps bytes s × (s.state ≡ state)
+
+-- one of at most 8 bytes is written anew, with its gate at the eighth
+abbrev pub GateEndsAt : List ℕ → ℕ → Type 0
+GateEndsAt bytes end = ((length bytes ≤ 8) × (end ≡ 8))
+    ⊎ ((8 < length bytes) × ((payloads : List (List ℕ)) × IsFileOf payloads bytes × (end ≡ length (records_of payloads) + 1)))

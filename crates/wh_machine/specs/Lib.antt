@@ -1,4 +1,4 @@
-pub mod Value
+pub use Rattle.wh_value.specs.Value
 pub mod Table
 pub mod Statement
 pub mod Reading
@@ -8,3 +8,16 @@ pub mod Script
 pub mod Commit
 pub mod Spelling
 pub mod File
+pub mod Made
+pub mod Fault
+pub mod Sound
+pub mod Stop
+pub mod Token
+pub mod Lexing
+pub mod Name
+pub mod Expression
+pub mod Query
+pub mod Changing
+pub mod OptionText
+pub mod Parts
+pub mod Spelled

@@ -2,9 +2,9 @@
 --     pieces_of        a text without its blanks: runs of letters, digits, `_` and `$`, and each other byte by itself
 --     Token            a word in upper case, a number, or a sign
 --     statement_of     the statement of a text; None for each other text
-use Rattle.std.specs.Prelude.{ℕ, ◌+◌, ◌-◌, ◌*◌, Bool, true, false, not, ◌&&◌, ◌||◌, List, [], ◌∷◌, length, map, ℤ, pos, Option, Some, None, nat_le, nat_lt, ◌==◌, if◌then◌else◌, codes, bytes_eq, nat_eq, neg_ℤ}
+use Rattle.std.specs.Prelude.{ℕ, ◌+◌, ◌-◌, ◌*◌, Bool, true, false, not, ◌&&◌, ◌||◌, List, [], ◌∷◌, length, map, pos, Option, Some, None, nat_le, nat_lt, ◌==◌, if◌then◌else◌, codes, bytes_eq, nat_eq, neg_ℤ}
 use Rattle.std.specs.List.{list_any, list_all, starts_with}
-use Rattle.wh_machine.specs.Value.{Value, Number, Null, Row}
+use Rattle.wh_value.specs.Value.{Value, Number, Null, Row}
 use Rattle.wh_machine.specs.Table.{Column, NumberType}
 use Rattle.wh_machine.specs.Statement.{Statement, CreateTable, InsertValues, SelectAll}
 

@@ -1,7 +1,7 @@
 -- The machine's replies, and their text.
 use Rattle.std.specs.Prelude.{ℕ, Bool, true, false, List, [], ◌∷◌, ◌++◌, length, map, codes, decimal}
 use Rattle.std.specs.List.{flat_map, join_by}
-use Rattle.wh_machine.specs.Value.{Value, Row, literal}
+use Rattle.wh_value.specs.Value.{Row, literal}
 
 -- what a refusal by a limit names
 pub data Limit : Type 0 where

@@ -1,6 +1,6 @@
 -- A script as events: between commands blanks and `;` are passed over, and a command ends before the next `;` or
 -- at the end. A text of more than 65,536 bytes is handed on as its first 65,537. The reading is 0 and the session 1.
-use Rattle.std.specs.Prelude.{ℕ, Bool, true, false, List, [], ◌∷◌, ◌==◌, if◌then◌else◌, map, take, filter, length, nat_lt}
+use Rattle.std.specs.Prelude.{ℕ, List, [], ◌∷◌, ◌==◌, if◌then◌else◌, map, take, filter, length, nat_lt}
 use Rattle.wh_machine.specs.Reading.{is_blank, onto}
 use Rattle.wh_machine.specs.Step.{Event}
 

@@ -1,10 +1,10 @@
 -- The bytes of partitions and commits. Whole numbers are big-endian, and a signed one is its two's complement.
 --     partition_bytes, payload_of     what is written
 --     IsPartition, IsCommit           what may be written: numbers, names and values within the format
-use Rattle.std.specs.Prelude.{◌≡◌, ℕ, ◌+◌, ◌<◌, ◌≤◌, ◌^◌, Bool, true, false, List, [], ◌∷◌, ◌++◌, length, map}
+use Rattle.std.specs.Prelude.{◌≡◌, ℕ, ◌+◌, ◌<◌, ◌≤◌, ◌^◌, true, false, List, [], ◌∷◌, ◌++◌, length}
 use Rattle.std.specs.List.{flat_map, AllByRecursion}
 use Rattle.std.specs.Int.{w32, w64, to_be_bytes, cast_unsigned}
-use Rattle.wh_machine.specs.Value.{Value, Number, Truth, Text, Null, Row, IsText, IsValue, IsRow}
+use Rattle.wh_value.specs.Value.{Value, Number, Truth, Text, Null, Row, IsText, IsRow}
 use Rattle.wh_machine.specs.Table.{Column, ColumnType, NumberType, VarcharType, BooleanType}
 use Rattle.wh_machine.specs.Commit.{Partition, TableChange, VersionChange, Change, CreatesTable, PushesVersion, Commit}
 

@@ -1,6 +1,6 @@
 -- The statements that are carried out.
 use Rattle.std.specs.Prelude.{ℕ, List}
-use Rattle.wh_machine.specs.Value.{Row}
+use Rattle.wh_value.specs.Value.{Row}
 use Rattle.wh_machine.specs.Table.{Column}
 
 pub data Statement : Type 0 where

@@ -2,12 +2,12 @@
 --     Event                     a clock reading, a session, and a command's text
 --     step                      the state after an event, and its reply
 --     after, text, refusals     the state after events, the text of their replies, and how many are refusals
-use Rattle.std.specs.Prelude.{ℕ, ◌+◌, ◌/◌, max, Bool, true, false, ◌&&◌, List, [], ◌∷◌, ◌++◌, length, map, Option, Some, None, nat_le, nat_lt, is_some, if◌then◌else◌, slice_get, slice_set, unwrap_or}
-use Rattle.std.specs.Ordering.{is_gt}
+use Rattle.std.specs.Prelude.{ℕ, ◌+◌, ◌/◌, max, Bool, true, false, ◌&&◌, List, [], ◌∷◌, ◌++◌, length, map, Option, Some, None, nat_le, nat_lt, is_some, if◌then◌else◌, slice_get, slice_set}
 use Rattle.std.specs.List.{list_all}
 use Rattle.std.specs.FinMap.{values}
-use Rattle.wh_machine.specs.Value.{Value, Number, Truth, Text, Null, Row, row_cmp}
-use Rattle.wh_machine.specs.Table.{Column, ColumnType, NumberType, VarcharType, BooleanType, Version, Table, State, new_table, latest, place_of, with_entries}
+pub use Rattle.wh_value.specs.Value.{placed, in_order}
+use Rattle.wh_value.specs.Value.{Value, Number, Truth, Text, Null, Row}
+use Rattle.wh_machine.specs.Table.{Column, ColumnType, NumberType, VarcharType, BooleanType, Table, State, new_table, latest, place_of, with_entries}
 use Rattle.wh_machine.specs.Statement.{Statement, CreateTable, InsertValues, SelectAll}
 use Rattle.wh_machine.specs.Reading.{statement_of}
 use Rattle.wh_machine.specs.Reply.{Reply, CreatedTable, Inserted, Listing, Refused, Unsupported, UnknownName, NameTaken, TypeMismatch, OverLimit, StampLimit, ObjectsLimit, RowNumberLimit, is_refusal, print}
@@ -50,15 +50,6 @@ row_fits (c ∷ cs) (v ∷ vs) = fits c.column_type v && row_fits cs vs
 abbrev pub numbered : ℕ → List Row → List (ℕ × Row)
 numbered next [] = []
 numbered next (row ∷ rows) = (next, row) ∷ numbered (next + 1) rows
-
--- rows in the row order: each goes before the first that isn't less
-abbrev pub placed : Row → List Row → List Row
-placed row [] = row ∷ []
-placed row (x ∷ xs) = if is_gt (row_cmp row x) then x ∷ placed row xs else row ∷ x ∷ xs
-
-abbrev pub in_order : List Row → List Row
-in_order [] = []
-in_order (row ∷ rows) = placed row (in_order rows)
 
 -- how many partitions of at most 1,000 rows the added rows fill
 abbrev pub partitions_of : ℕ → ℕ

@@ -2,20 +2,12 @@
 --     Column, Version, Table, State     plain records; a table's id is its place in the catalog, from 1
 --     first_state                       no table, no stamp
 --     at_rest                           a state as the file keeps it: its last stamp is that of its last commit
-use Rattle.std.specs.Prelude.{◌≡◌, ℕ, zero, suc, ◌+◌, ◌-◌, List, [], ◌∷◌, Option, Some, None, Bool, slice_get, unwrap_or, length, bytes_eq, option_map}
+use Rattle.std.specs.Prelude.{ℕ, ◌-◌, List, [], ◌∷◌, Option, slice_get, unwrap_or, length, bytes_eq}
 use Rattle.std.specs.Ordering.{nat_cmp}
-use Rattle.std.specs.List.{find, position}
+use Rattle.std.specs.List.{position}
 use Rattle.std.specs.FinMap.{FinMap, empty, insert}
-use Rattle.wh_machine.specs.Value.{Value, Row}
-
-pub data ColumnType : Type 0 where
-  NumberType : ColumnType
-  VarcharType : ColumnType
-  BooleanType : ColumnType
-
-pub record Column : Type 0 where
-  pub name : List ℕ
-  pub column_type : ColumnType
+pub use Rattle.wh_value.specs.Column.{ColumnType, NumberType, VarcharType, BooleanType, Column}
+use Rattle.wh_value.specs.Value.{Row}
 
 abbrev pub Rows : Type 0
 Rows = FinMap nat_cmp Row

@@ -1,2 +1,4 @@
+pub mod Value
+pub mod Column
 pub mod View
 pub mod Order

@@ -9,7 +9,7 @@ use Rattle.std.specs.Ordering.{nat_cmp, int_cmp, bool_cmp, ordering_then, then_c
 use Rattle.std.specs.Cmp.{IsTotalOrder, nat_cmp_total, int_cmp_total, bool_cmp_total, then_total, on_total}
 use Rattle.std.specs.Cmp.Lexicographic.{slice_cmp, lists_total, nat_list_cmp_total}
 use Rattle.std.specs.FinMap.{IsAntisymmetric, int_cmp-IsAntisymmetric, nat_cmp-IsAntisymmetric, slice_cmp-IsAntisymmetric}
-use Rattle.wh_machine.specs.Value.{Value, Number, Truth, Text, Null, value_cmp, row_cmp}
+use Rattle.wh_value.specs.Value.{Value, Number, Truth, Text, Null, value_cmp, row_cmp}
 
 abbrev kind_of : Value → ℕ
 kind_of (Number z) = 0

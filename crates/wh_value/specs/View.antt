@@ -1,8 +1,8 @@
 -- What values of the code stand for.
 --     value_of     a value of the machine
 --     type_of, column_of     a column's type of the machine, and a column
-use Rattle.wh_machine.specs.Value as machine
-use Rattle.wh_machine.specs.Table as table
+use Rattle.wh_value.specs.Value as machine
+use Rattle.wh_value.specs.Column as table
 use Rattle.wh_value.specs.declared.value.Value.{Value}
 use Rattle.wh_value.specs.declared.value.Value.TheVariants.{Number, Bool, Text, Null}
 use Rattle.wh_value.specs.declared.column.ColumnType.{ColumnType}

@@ -3,6 +3,7 @@
 
 mod bytes;
 mod column;
+mod comparison;
 mod literal;
 mod row;
 #[cfg(test)]
@@ -12,6 +13,7 @@ mod value;
 
 pub use bytes::Bytes;
 pub use column::{Column, ColumnType};
+pub use comparison::Comparison;
 pub use literal::print_literal;
 pub use row::{Row, cmp_rows, sort_rows};
 pub use text::Text;

@@ -1,8 +1,8 @@
 ghost use Rattle.std.specs.Prelude.{◌≡◌, OnOk, OnErr, refl};
 ghost use Rattle.std.specs.Cmp.{partial_equiv_from_equiv, eq_by_cmp_equiv, po};
 ghost use Rattle.std.specs.Ordering.{eq_by_cmp, as_partial_cmp};
-ghost use Rattle.wh_machine.specs.Value.{row_cmp};
-ghost use Rattle.wh_machine.specs.Step.{in_order};
+ghost use Rattle.wh_value.specs.Value.{row_cmp};
+ghost use Rattle.wh_value.specs.Value.{in_order};
 ghost use Rattle.wh_value.specs.Order.{row_total};
 
 use crate::Value;
@@ -19,8 +19,8 @@ pub struct Row {
 impl Model for Row {
     ghost use Rattle.std.specs.Prelude.{List, map};
     ghost use Rattle.std.specs.Coded.{coded_list};
-    ghost use Rattle.wh_machine.specs.Value as machine;
-    ghost use Rattle.wh_machine.specs.Value.{coded_value};
+    ghost use Rattle.wh_value.specs.Value as machine;
+    ghost use Rattle.wh_value.specs.Value.{coded_value};
     ghost use Rattle.wh_value.specs.View.{value_of};
 
     ghost Value = { List machine.Value };

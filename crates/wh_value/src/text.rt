@@ -25,7 +25,7 @@ impl Model for Text {
 
 impl Text {
     ghost use Rattle.std.specs.Prelude.{◌≡◌, ◌≤◌, length, IfOk, IfSome, IfNone};
-    ghost use Rattle.wh_machine.specs.Value.{IsText};
+    ghost use Rattle.wh_value.specs.Value.{IsText};
 
     /// The longest text, in bytes.
     pub const MAX_BYTES: usize = 65536;

@@ -1,5 +1,5 @@
 use Rattle.std.proofs.Common.{◌≡◌, ◌∙◌, refl}
-use Rattle.wh_machine.specs.Value.{value_cmp}
+use Rattle.wh_value.specs.Value.{value_cmp}
 use Rattle.wh_value.specs.View.{value_of}
 use Rattle.wh_value.specs.declared.value.Value.{Value}
 use Rattle.wh_value.specs.declared.value.Value.TheVariants.{Number, Bool, Text, Null}

@@ -8,7 +8,7 @@ use Rattle.std.specs.Prelude.{◌≡◌, ℕ, ◌<◌, ◌≤◌, Bool, true, fa
 use Rattle.std.specs.List.{flat_map, AllByRecursion}
 use Rattle.std.specs.declared.cmp.Ordering.{Ordering}
 use Rattle.std.specs.declared.cmp.Ordering.TheVariants.{Less, Equal, Greater}
-use Rattle.std.specs.Ordering.{nat_cmp, int_cmp, bool_cmp}
+use Rattle.std.specs.Ordering.{nat_cmp, int_cmp, bool_cmp, is_gt}
 use Rattle.std.specs.Cmp.Lexicographic.{slice_cmp}
 use Rattle.std.specs.Fmt.{signed_decimal}
 use Rattle.std.specs.Coded.{Coded, code_by, coded_ℕ, coded_ℤ, coded_bool, coded_list, coded⊎, coded_option}
@@ -43,6 +43,15 @@ Row = List Value
 
 abbrev pub row_cmp : Row → Row → Ordering
 row_cmp = slice_cmp value_cmp
+
+-- rows in the row order: each goes before the first that isn't less
+abbrev pub placed : Row → List Row → List Row
+placed row [] = row ∷ []
+placed row (x ∷ xs) = if is_gt (row_cmp row x) then x ∷ placed row xs else row ∷ x ∷ xs
+
+abbrev pub in_order : List Row → List Row
+in_order [] = []
+in_order (row ∷ rows) = placed row (in_order rows)
 
 -- a text that a value or a name may be
 pub record IsText (bytes : List ℕ) : Type 0 where

@@ -1,0 +1,19 @@
+//! Statements as they are written: names in upper case or as they were quoted. Blanks, comments
+//! and parentheses are gone. Contracts see plain trees.
+#![tactic(auto)]
+
+mod copies;
+mod dml;
+mod expr;
+mod query;
+mod statement;
+#[cfg(test)]
+mod tests;
+
+pub use dml::{Assignment, Dml, MergeClause, Rows};
+pub use expr::{Expr, Operator};
+pub use query::{Core, Item, Join, Key, Query, Sort, Source};
+pub use statement::{
+    Condition, CreateDynamicTable, CreateTable, CreateTask, Initialize, Lag, RefreshMode,
+    Statement, When,
+};

@@ -1,0 +1,33 @@
+-- What a run that was stopped left.
+--     whole_replies      how many replies stand whole in the bytes that were written
+--     most_events        how many events may have been carried out by then
+--     committed_after    the state that a file keeps after the first events
+--     StandsWithin       an image stands for what was committed after some number of events
+use Rattle.std.specs.Prelude.{ℕ, ◌+◌, ◌-◌, ◌≤◌, min, List, [], ◌∷◌, length, take, nat_le, if◌then◌else◌}
+use Rattle.wh_machine.specs.Table.{State, at_rest}
+use Rattle.wh_machine.specs.Reply.{print}
+use Rattle.wh_machine.specs.Step.{Event, step, after}
+use Rattle.wh_machine.specs.File.{Stands}
+use Rattle.wh_machine.specs.Sound.{Sound}
+
+-- of the replies to these events, in so many bytes at the front of their text
+abbrev pub whole_replies : State → List Event → ℕ → ℕ
+whole_replies s [] written = 0
+whole_replies s (e ∷ es) written =
+    if nat_le (length (print (step s e).1)) written
+    then 1 + whole_replies (step s e).0 es (written - length (print (step s e).1))
+    else 0
+
+-- those that were answered in full, and one more if there is one
+abbrev pub most_events : State → List Event → ℕ → ℕ
+most_events s es written = min (whole_replies s es written + 1) (length es)
+
+abbrev pub committed_after : State → List Event → ℕ → State
+committed_after s es count = at_rest (after s (take count es))
+
+pub record StandsWithin (start : State) (es : List Event) (least most : ℕ) (image : List ℕ) : Type 0 where
+  pub count : ℕ
+  pub at_least : least ≤ count
+  pub at_most : count ≤ most
+  pub stands : Stands image (committed_after start es count)
+  pub sound : Sound start → Sound (committed_after start es count)
