@@ -44,7 +44,7 @@ pub goes_on_torn : (old new : DiskState) (event : Event) → new ≡ torn old ev
 goes_on_torn old new event is = rw is (elapses_logged old.first old.past event)
 
 -- a write at a place of the file leaves nothing else than a torn one may
-written_torn : (at : ℕ) (old piece : List ℕ) → at ≤ length old → Torn at (length piece) old (written old at piece)
+pub written_torn : (at : ℕ) (old piece : List ℕ) → at ≤ length old → Torn at (length piece) old (written old at piece)
 written_torn at old piece within =
     let n = length piece in
     let rest = drop (at + n) old in

@@ -16,6 +16,13 @@ content first (wrote at piece ∷ past) = written (content first past) at piece
 content first (tore at n ∷ past) = content first past
 content first (synced ∷ past) = content first past
 
+-- what a read gave at the last sync, or the first bytes where there was none
+abbrev pub last_synced : List ℕ → List Event → List ℕ
+last_synced first [] = first
+last_synced first (wrote at piece ∷ past) = last_synced first past
+last_synced first (tore at n ∷ past) = last_synced first past
+last_synced first (synced ∷ past) = content first past
+
 -- some image after a write that was cut short
 abbrev pub AfterTorn : (List ℕ → Type 0) → ℕ → ℕ → List ℕ → Type 0
 AfterTorn images at n image = (before : List ℕ) × images before × Torn at n before image

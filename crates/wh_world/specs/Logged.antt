@@ -1,5 +1,6 @@
 -- How a disk in memory keeps its past: the calls, oldest first, and the bytes of all writes in order.
-use Rattle.std.specs.Prelude.{◌≡◌, ℕ, ◌+◌, List, [], ◌∷◌, length, take, drop}
+use Rattle.std.specs.Prelude.{◌≡◌, ℕ, ◌+◌, Bool, true, false, List, [], ◌∷◌, length, take, drop}
+use Rattle.wh_world.specs.Bytes.{Torn}
 use Rattle.wh_world.specs.Events.{Event, wrote, tore, synced, content}
 use Rattle.wh_world.specs.declared.logged.Logged.{Logged}
 use Rattle.wh_world.specs.declared.logged.Logged.TheVariants.{Wrote, Tore, Synced}
@@ -22,3 +23,26 @@ bytes_written (Synced ∷ log) = bytes_written log
 pub record Agrees (first bytes pieces : List ℕ) (log : List Logged) : Type 0 where
   pub shown : bytes ≡ content first (events [] log pieces)
   pub spelled : length pieces ≡ bytes_written log
+
+abbrev pub is_sync : Logged → Bool
+is_sync (Wrote at n) = false
+is_sync (Tore at n) = false
+is_sync Synced = true
+
+-- how many bytes are kept for a call
+abbrev pub kept_of : Logged → ℕ
+kept_of (Wrote at n) = n
+kept_of (Tore at n) = 0
+kept_of Synced = 0
+
+-- the event that a call stands for, with the bytes that are kept for it
+abbrev pub event_of : Logged → List ℕ → Event
+event_of (Wrote at n) piece = wrote at piece
+event_of (Tore at n) piece = tore at n
+event_of Synced piece = synced
+
+-- an image after a write that may have happened in part
+abbrev pub Tears : Logged → List ℕ → List ℕ → Type 0
+Tears (Wrote at n) old new = Torn at n old new
+Tears (Tore at n) old new = Torn at n old new
+Tears Synced old new = Unit {0}

@@ -1,7 +1,7 @@
 -- What a disk in memory holds, and what becomes of it in a call.
 use Rattle.std.specs.Prelude.{◌≡◌, ◌⊎◌, ℕ, ◌-◌, ◌<◌, List, [], ◌∷◌, length}
 use Rattle.wh_world.specs.Calls.{CallCount, no_calls, next, passed, failed}
-use Rattle.wh_world.specs.Events.{Event, content, IsImage, WasImage}
+use Rattle.wh_world.specs.Events.{Event, content, last_synced, IsImage, WasImage}
 use Rattle.wh_world.specs.Crash.{Elapses}
 
 pub record DiskState : Type 0 where
@@ -19,6 +19,10 @@ pub record DiskState : Type 0 where
 -- what a read gives
 abbrev pub content_of : DiskState → List ℕ
 content_of disk = content disk.first disk.past
+
+-- what a read gave at the last sync, or the first bytes where there was none
+abbrev pub synced_of : DiskState → List ℕ
+synced_of disk = last_synced disk.first disk.past
 
 -- what a crash may leave
 abbrev pub images_of : DiskState → List ℕ → Type 0

@@ -5,6 +5,7 @@ mod calls;
 mod clock;
 mod disk;
 mod framed;
+mod imaging;
 mod logged;
 mod mem_disk;
 mod mem_sink;

@@ -5,9 +5,10 @@ ghost use Rattle.wh_world.specs.Crash.{Follows, NoOthers, Only};
 ghost use Rattle.wh_world.specs.Events.{wrote, tore, synced, content, WasImage};
 ghost use Rattle.wh_world.specs.Images.{is_shown, counts_now, only_now, some_same};
 ghost use Rattle.std.proofs.Common.{subst};
-ghost use Rattle.wh_world.specs.MemDisk.{content_of, images_of, fresh, Exceeds, done, refused, read_once, logged, torn, GoesOn};
+ghost use Rattle.wh_world.specs.MemDisk.{content_of, synced_of, images_of, fresh, Exceeds, done, refused, read_once, logged, torn, GoesOn};
 
 use crate::calls::Calls;
+use crate::imaging::{Tear, image_of};
 use crate::logged::Logged;
 use crate::{Disk, Failed};
 use std::alloc::{AllocError, Global};
@@ -85,6 +86,25 @@ impl MemDisk {
     {
         &self.bytes
     }
+
+    /// One of the files that a crash may leave now. Pick 0 gives what a read gave at the last sync,
+    /// and pick 1 what a read gives. Any other has the writes since the last sync in part: of
+    /// `pick - 2`, the quotient by 257 is the cut and the remainder the fill. Of the bytes of these
+    /// writes, in the order of the calls, the first ones up to the cut are written as they were
+    /// given, and in the place of each byte behind these stands the fill. At the fill 256 it isn't
+    /// written at all, and the file doesn't grow for it. The bytes of a write that failed count as
+    /// well; those up to the cut are left as the file has them.
+    #[tactic(auto, using(crate::proofs::Imaged::shown_image))]
+    pub fn image(&self, alloc: Global, pick: u64) -> Result<Vec<u8>, AllocError>
+        ensures image { IfOk result (λ image. images_of self.now image.items) }
+        ensures synced { pick ≡ 0 → IfOk result (λ image. image.items ≡ synced_of self.now) }
+        ensures shown { pick ≡ 1 → IfOk result (λ image. image.items ≡ content_of self.now) }
+    {
+        if pick == 1 {
+            return Vec::from_slice(alloc, &self.bytes);
+        }
+        image_of(alloc, &self.first, &self.log, &self.pieces, Tear::of(pick))
+    }
 }
 
 impl MemDisk {
@@ -147,8 +167,8 @@ impl MemDisk {
     }
 }
 
-// Puts a piece in the place of what is there, or at the end, within the memory at hand.
-fn overwrite(bytes: &mut Vec<u8>, at: usize, piece: &[u8])
+/// Puts a piece in the place of what is there, or at the end, within the memory at hand.
+pub fn overwrite(bytes: &mut Vec<u8>, at: usize, piece: &[u8])
     requires place { at ≤ length bytes.old.items }
     requires room { vec_len bytes.old + length piece.now ≤ vec_capacity bytes.old }
     ensures items { bytes.new.items ≡ written bytes.old.items at piece.now }

@@ -1,6 +1,8 @@
 ghost use Rattle.std.specs.Prelude.{◌≡◌, [], ◌∷◌, Some};
 ghost use Rattle.wh_world.specs.Crash.{Only};
 
+mod images;
+
 use super::*;
 use std::alloc::{AllocError, Global};
 use std::process::Abort;
