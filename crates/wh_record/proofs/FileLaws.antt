@@ -20,7 +20,7 @@ reads_frame : Reads {X = ℕ × List ℕ} (λ f. to_be_bytes w64 f.0 ++ f.1) (λ
 reads_frame = reads_then (reads_number wide64) (λ n _. reads_bytes n)
 
 -- a record's bytes fix its payload, and what is behind it
-one_frame : (p q x y : List ℕ) → length p < 2 ^ 64 → length q < 2 ^ 64
+pub one_frame : (p q x y : List ℕ) → length p < 2 ^ 64 → length q < 2 ^ 64
     → (to_be_bytes w64 (length p) ++ p) ++ x ≡ (to_be_bytes w64 (length q) ++ q) ++ y → (p ≡ q) × (x ≡ y)
 one_frame p q x y hp hq same =
     let both : ◌≡◌ {A = Option ((ℕ × List ℕ) × List ℕ)} (Some ((length p, p), x)) (Some ((length q, q), y)) =
@@ -32,7 +32,7 @@ record_split : (p : List ℕ) (ps : List (List ℕ)) (x : List ℕ) → flat_map
 unfolding record_of
 record_split p ps x = ap (λ (l : List ℕ). l ++ x) (flat_map-cons record_of p ps) ∙ append_assoc (record_of p) (flat_map record_of ps) x
 
-heads : (a b : ℕ) (x y : List ℕ) → a ∷ x ≡ b ∷ y → (a ≡ b) × (x ≡ y)
+pub heads : (a b : ℕ) (x y : List ℕ) → a ∷ x ≡ b ∷ y → (a ≡ b) × (x ≡ y)
 heads a b x y e = (cc, cc)
 
 same_records : (ps qs : List (List ℕ)) (g h : ℕ) (x y : List ℕ)

@@ -1,12 +1,15 @@
 -- What the bytes of commits and files fix.
---     PayloadFixesCommit     of a commit
---     FileFixesPayloads      of the records of a file
---     FileFixesState         of a whole file
-use Rattle.std.specs.Prelude.{◌≡◌, ℕ, List}
+--     PayloadFixesCommit          of a commit
+--     FileFixesPayloads           of the records of a file
+--     FileFixesState              of a whole file
+--     FirstFaultIsOne             of a file that stands for no state
+--     FaultyFileStandsForNone     a file has a first fault, or stands for a state, but not both
+use Rattle.std.specs.Prelude.{◌≡◌, ℕ, ◌<◌, List, length}
 use Rattle.wh_machine.specs.Table.{State}
 use Rattle.wh_machine.specs.Commit.{Commit}
 use Rattle.wh_machine.specs.Spelling.{payload_of, IsCommit}
 use Rattle.wh_machine.specs.File.{IsFileOf, Stands}
+use Rattle.wh_machine.specs.Fault.{IsFirstFault}
 
 -- no two commits have one payload
 abbrev pub PayloadFixesCommit : Type 0
@@ -19,3 +22,11 @@ FileFixesPayloads = (ps qs : List (List ℕ)) (bytes : List ℕ) → IsFileOf ps
 -- no bytes stand for two states
 abbrev pub FileFixesState : Type 0
 FileFixesState = (bytes : List ℕ) (a b : State) → Stands bytes a → Stands bytes b → a ≡ b
+
+-- no two positions are where a file has its first fault
+abbrev pub FirstFaultIsOne : Type 0
+FirstFaultIsOne = (file : List ℕ) (a b : ℕ) → IsFirstFault file a → IsFirstFault file b → a ≡ b
+
+-- a longer file than 8 bytes that has a first fault stands for no state
+abbrev pub FaultyFileStandsForNone : Type 0
+FaultyFileStandsForNone = (file : List ℕ) (at : ℕ) (state : State) → 8 < length file → IsFirstFault file at → Stands file state → ⊥

@@ -4,7 +4,7 @@ ghost use Rattle.wh_value.specs.View.{type_of, column_of};
 ghost use Rattle.wh_part.specs.Reading.{Gives, items_at, list_at, number_at};
 ghost use Rattle.wh_part.specs.Decoding.{partition_at};
 ghost use Rattle.wh_record.specs.Decoding.{type_at, column_at, table_at, nothing_at, added_at, version_at, change_behind, change_at, one_at, commit_at, commit_of_all};
-ghost use Rattle.wh_record.specs.Laws.{PayloadFixesCommit, FileFixesPayloads, FileFixesState};
+ghost use Rattle.wh_record.specs.Laws.{PayloadFixesCommit, FileFixesPayloads, FileFixesState, FirstFaultIsOne, FaultyFileStandsForNone};
 ghost use Rattle.wh_record.specs.View.{table_change_of, version_change_of, change_of, commit_of};
 
 use crate::commit::{TABLE_TAG, VERSION_TAG};
@@ -225,4 +225,11 @@ pub fn spelling_fixes_commits()
     ensures payload { PayloadFixesCommit }
     ensures records { FileFixesPayloads }
     ensures state { FileFixesState }
+{}
+
+/// No two positions are where a file has its first fault, and a file of more than 8 bytes that has
+/// one stands for no state.
+pub fn spelling_fixes_faults()
+    ensures position { FirstFaultIsOne }
+    ensures no_state { FaultyFileStandsForNone }
 {}
