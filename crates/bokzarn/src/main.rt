@@ -2,9 +2,11 @@
 //! standard output.
 #![tactic(auto)]
 
-ghost use Rattle.std.specs.Prelude.{◌≡◌};
+ghost use Rattle.std.specs.Prelude.{◌≡◌, ◌⊎◌, [], ◌∷◌, List, String, IfErr};
+ghost use Rattle.std.specs.Global.{Global};
 ghost use Rattle.std.specs.Process.{exit_status};
 ghost use Rattle.wh_shell.specs.Code.{code_of};
+ghost use Rattle.wh_shell.specs.Run.{IsRun};
 
 use std::env::Env;
 use std::fs::{File, Files};
@@ -16,7 +18,10 @@ use std::{env, io};
 use wh_shell::{FileDisk, InSource, OutSink, Status, SystemClock, run};
 
 fn main(rt: HostRuntime) -> ExitCode {
-    let status = carry_out(&rt);
+    let status = match words(&rt) {
+        Ok(words) => carry_out(&rt, &words),
+        Err(status) => status,
+    };
     let code = status.code();
     // Where standard error takes nothing the exit code still tells.
     let _ = eprintln!(rt; "status {code}");
@@ -30,20 +35,31 @@ fn ended(status: Status) -> ExitCode
     ExitCode::from(status.code())
 }
 
-// The file is opened, or created, before the words after its path are read.
-fn carry_out<R>(rt: &R) -> Status
-where
-    R: Env + Files<File = File> + Input + Print + Clock + AllocGlobal + Threads + Sync,
+// The words behind the program's name.
+fn words<R: Env + AllocGlobal>(rt: &R) -> Result<Vec<String>, Status>
+    ensures causes { IfErr result (λ status.
+        (status ≡ Status.OutOfMemory) ⊎ (status ≡ Status.Usage)) }
 {
     let arguments = match env::args(rt) {
         Ok(arguments) => arguments,
-        Err(error) if error.kind() == ErrorKind::OutOfMemory => return Status::OutOfMemory,
+        Err(error) if error.kind() == ErrorKind::OutOfMemory => return Err(Status::OutOfMemory),
         // A word is no text.
-        Err(_) => return Status::Usage,
+        Err(_) => return Err(Status::Usage),
     };
-    let Ok(words) = arguments.skip(1).collect::<Vec<String>>(rt.alloc()) else {
-        return Status::OutOfMemory;
-    };
+    arguments
+        .skip(1)
+        .collect::<Vec<String>>(rt.alloc())
+        .map_err(|_| Status::OutOfMemory)
+}
+
+// The file of the first word is opened, or created, before the words behind it are read.
+fn carry_out<R>(rt: &R, words: &[String]) -> Status
+where
+    R: Files<File = File> + Input + Print + Clock + AllocGlobal + Threads + Sync,
+    ensures no_path { words.now ≡ [] → result ≡ Status.Usage }
+    ensures usage { (path : String Global) (rest : List (String Global)) → words.now ≡ path ∷ rest →
+        result ≡ Status.Usage → IsRun rest → ⊥ }
+{
     let Some((path, words)) = words.split_first() else {
         return Status::Usage;
     };

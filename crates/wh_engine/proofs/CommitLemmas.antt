@@ -1,10 +1,9 @@
 -- Commits over a state at rest, and one commit more at the end.
 --     resting_applies, resting_applied     a commit applies to a state at rest as it does to the state
 --     leads_then                           one more commit
-use Rattle.std.proofs.Common.{◌≡◌, ℕ, zero, suc, ◌+◌, ◌<◌, ◌≤◌, List, [], ◌∷◌, ◌++◌, length, map, Option, Some, None, refl, sym, ◌∙◌, subst, ap, arith}
-use Rattle.std.specs.List.{AllByRecursion}
-use Rattle.wh_machine.specs.Table.{Table, State}
-use Rattle.wh_machine.specs.Commit.{Commit, Change, CreatesTable, PushesVersion, VersionChange, TableApplies, Stored, Applies, ChangeApplies, applied, changed, version_pushed, Leads, resting, at_id}
+use Rattle.std.proofs.Common.{◌≡◌, ℕ, ◌≤◌, List, [], ◌∷◌, ◌++◌, Option, Some, None, refl, sym, subst, ap, arith}
+use Rattle.wh_machine.specs.Table.{Table}
+use Rattle.wh_machine.specs.Commit.{Commit, Change, CreatesTable, PushesVersion, VersionChange, Stored, Applies, ChangeApplies, applied, changed, version_pushed, Leads, resting, at_id}
 
 resting_change : (s : Stored) (c : Change) → ChangeApplies s c → ChangeApplies (resting s) c
 resting_change s (CreatesTable c) h = record {

@@ -2,14 +2,13 @@
 --     stands           what a file of commits stands for
 --     filed_pass       only the last stamp moved
 --     filed_append     one commit was added
-use Rattle.std.proofs.Common.{◌≡◌, ◌≢◌, ℕ, zero, suc, ◌+◌, ◌<◌, ◌≤◌, List, [], ◌∷◌, ◌++◌, length, map, Option, Some, None, is_some, Bool, true, false, refl, sym, ◌∙◌, subst, ap, arith, inl, inr, ◌⊎◌, length-append}
+use Rattle.std.proofs.Common.{◌≡◌, ℕ, suc, ◌+◌, ◌≤◌, List, [], ◌∷◌, ◌++◌, length, map, Option, Some, None, is_some, false, refl, sym, ◌∙◌, subst, ap, arith, inl, inr, length-append}
 use Rattle.std.specs.List.{AllByRecursion}
 use Rattle.std.proofs.lemmas.Bool.{cases_lt}
 use Rattle.std.proofs.lemmas.List.{map-append}
-use Rattle.wh_machine.specs.Table.{State, at_rest}
 use Rattle.wh_machine.specs.Commit.{Commit, Stored, first_stored, Applies, applied, Leads, resting}
 use Rattle.wh_machine.specs.Spelling.{payload_of, IsCommit}
-use Rattle.wh_machine.specs.File.{IsFileOf, Holds, Keeps, Stands, records_of, record_of}
+use Rattle.wh_machine.specs.File.{IsFileOf, Keeps, Stands, records_of, record_of}
 use Rattle.wh_journal.specs.Journal.{Lists, IsSame}
 use Rattle.wh_journal.specs.declared.journal.Journal.{Journal}
 use Rattle.wh_catalog.specs.Catalog.{stored_of, passed}
@@ -94,6 +93,9 @@ filed_append None new j k c d commit told appends applies is good h = record { e
     none_told (Some x) now e f = cc
 filed_append (Some file) new j k c d commit told appends applies is good h =
     record { each = λ now e. file_append file now j k c d commit (subst (λ (o : Option (List ℕ)). Appends (Some file) o j k (payload_of commit)) e appends) applies is good (h.each file refl) }
+
+pub same_journal : (j : Journal) → IsSame j j
+same_journal j = record { places = refl; end = refl; limit = refl; failed = refl }
 
 -- room for one more place changes nothing that is listed
 pub lists_same : (payloads : List (List ℕ)) (j k : Journal) → IsSame j k → Lists payloads j → Lists payloads k

@@ -7,7 +7,7 @@ use Rattle.wh_machine.specs.Table.{State, Table, Column, place_of, new_table}
 use Rattle.wh_machine.specs.Statement.{Statement, CreateTable, InsertValues, SelectAll}
 use Rattle.wh_machine.specs.Reading.{statement_of}
 use Rattle.wh_machine.specs.Reply.{Reply, CreatedTable, Inserted, is_refusal}
-use Rattle.wh_machine.specs.Step.{Event, step, carried_out, create_table, insert_at, row_fits, stamp_of, number_limit, objects_limit, listing_of, on_table, inserted}
+use Rattle.wh_machine.specs.Step.{step, carried_out, create_table, insert_at, row_fits, stamp_of, number_limit, objects_limit, listing_of, on_table, inserted}
 use Rattle.wh_engine.specs.Laws.{RefusalsChangeNothing}
 
 abbrev Keeps : State → State × Reply → Type 0

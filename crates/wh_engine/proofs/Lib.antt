@@ -6,5 +6,7 @@ mod StepLemmas
 mod ReplayLemmas
 mod OpenLemmas
 mod PlanLemmas
+mod MadeLemmas
+mod CutLemmas
 pub mod LawLemmas
 pub mod StopLemmas

@@ -1,13 +1,12 @@
 -- What plans come to.
 --     outcome_refused     a plan without a commit
 --     applied_create, applied_insert     the state that a commit leaves, as a statement says it
-use Rattle.std.proofs.Common.{◌≡◌, ℕ, suc, ◌+◌, ◌≤◌, List, [], ◌∷◌, ◌++◌, Option, Some, None, length, map, slice_get, slice_set, option_map, refl, ap, sym, ◌∙◌, subst, add-one, arith}
+use Rattle.std.proofs.Common.{◌≡◌, ℕ, suc, ◌+◌, List, [], ◌∷◌, ◌++◌, Option, Some, None, length, slice_get, slice_set, option_map, refl, ap, sym, ◌∙◌, add-one}
 use Rattle.std.specs.List.{flat_map}
 use Rattle.wh_machine.specs.Value.{Row}
-use Rattle.wh_machine.specs.Table.{Table, State, Rows, latest, new_table, with_entries}
+use Rattle.wh_machine.specs.Table.{Table, Rows, latest, new_table, with_entries}
 use Rattle.wh_machine.specs.Reply.{Reply, Refusal, Refused}
 use Rattle.wh_machine.specs.Step.{numbered, inserted, partitions_of}
-use Rattle.wh_machine.specs.Commit as machine
 use Rattle.wh_machine.specs.Commit.{Stored, TableChange, VersionChange, CreatesTable, PushesVersion, IsCurrent, Partition, applied, changed, version_pushed, with_version, at_id, with_id, partitions_at, rows_of}
 use Rattle.wh_record.specs.View.{commit_of}
 use Rattle.wh_record.specs.declared.commit.Commit.{Commit}

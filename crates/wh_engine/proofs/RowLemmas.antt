@@ -10,7 +10,7 @@ use Rattle.std.proofs.lemmas.List.Concat.{flat_map-append}
 use Rattle.wh_machine.specs.Value.{Row, IsRow}
 use Rattle.wh_machine.specs.Table.{Rows, Column, with_entries}
 use Rattle.wh_machine.specs.Step.{numbered, fits, row_fits}
-use Rattle.wh_machine.specs.Commit.{Partition, rows_of, NumberedFrom}
+use Rattle.wh_machine.specs.Commit.{Partition, rows_of}
 use Rattle.wh_machine.specs.Spelling.{RisesFrom}
 
 with_entries-append : (rows : Rows) (xs ys : List (ℕ × Row)) → with_entries rows (xs ++ ys) ≡ with_entries (with_entries rows xs) ys
@@ -40,11 +40,11 @@ pub numbered_all : (P : Row → Type 0) (next : ℕ) (rows : List Row) → AllBy
 numbered_all P next [] h = tt
 numbered_all P next (row ∷ rows) h = (h.0, numbered_all P (next + 1) rows h.1)
 
-all_front : {X : Type 0} (P : X → Type 0) (xs ys : List X) → AllByRecursion P (xs ++ ys) → AllByRecursion P xs
+pub all_front : {X : Type 0} (P : X → Type 0) (xs ys : List X) → AllByRecursion P (xs ++ ys) → AllByRecursion P xs
 all_front P [] ys h = tt
 all_front P (x ∷ xs) ys h = (h.0, all_front P xs ys h.1)
 
-all_back : {X : Type 0} (P : X → Type 0) (xs ys : List X) → AllByRecursion P (xs ++ ys) → AllByRecursion P ys
+pub all_back : {X : Type 0} (P : X → Type 0) (xs ys : List X) → AllByRecursion P (xs ++ ys) → AllByRecursion P ys
 all_back P [] ys h = h
 all_back P (x ∷ xs) ys h = all_back P xs ys h.1
 
@@ -89,12 +89,6 @@ thousand_of k rows is =
 pub length-numbered : (next : ℕ) (rows : List Row) → length (numbered next rows) ≡ length rows
 length-numbered next [] = refl
 length-numbered next (row ∷ rows) = ap suc (length-numbered (next + 1) rows)
-
-pub numbers_more : (next : ℕ) (ps : List Partition) (p : Partition) → NumberedFrom next ps → p.number ≡ next + length ps → NumberedFrom next (ps ++ p ∷ [])
-numbers_more next [] p h is = (is ∙ omega arith, tt)
-numbers_more next (q ∷ qs) p h is =
-    let behind : p.number ≡ next + 1 + length qs = is ∙ omega arith in
-    (h.0, numbers_more (next + 1) qs p h.1 behind)
 
 pub numbered_pop : (first done : ℕ) (all rest : List Row) (row : Row) → drop done all ≡ row ∷ rest
     → (numbered first (take (done + 1) all) ≡ numbered first (take done all) ++ (first + done, row) ∷ []) × (rest ≡ drop (done + 1) all)

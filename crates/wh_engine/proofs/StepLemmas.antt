@@ -1,13 +1,13 @@
 -- The machine's step, case by case.
-use Rattle.std.proofs.Common.{◌≡◌, ℕ, ◌≤◌, ◌<◌, ◌+◌, List, [], ◌∷◌, ◌++◌, Option, Some, None, Bool, true, false, leb, refl, ap, ◌∙◌, sym, arith, max, length, is_some, ltb, slice_set, map}
+use Rattle.std.proofs.Common.{◌≡◌, ℕ, ◌≤◌, ◌<◌, ◌+◌, List, [], ◌∷◌, ◌++◌, true, false, leb, ap, ◌∙◌, sym, arith, max, length, is_some, ltb, slice_set}
 use Rattle.std.proofs.lemmas.Bool.{le-leb, lt-leb, lt-ltb, le-ltb}
 use Rattle.wh_machine.specs.Table.{State, Table, Column, place_of, new_table}
-use Rattle.wh_machine.specs.Statement.{Statement}
 use Rattle.wh_machine.specs.Reading.{statement_of}
 use Rattle.wh_machine.specs.Reply.{Reply, CreatedTable, Inserted, Refused, NameTaken, TypeMismatch, OverLimit, ObjectsLimit, StampLimit, RowNumberLimit}
 use Rattle.std.specs.List.{list_all}
 use Rattle.wh_machine.specs.Value.{Row}
 use Rattle.wh_machine.specs.Step.{Event, step, carried_out, create_table, insert_at, inserted, row_fits, stamp_of, number_limit, objects_limit}
+use Rattle.wh_engine.specs.Plan.{stamped}
 
 pub create_taken : (s : State) (name : List ℕ) (columns : List Column) → is_some (place_of name s.tables) ≡ true
     → create_table s name columns ≡ (s, Refused (NameTaken name))
@@ -35,6 +35,16 @@ unfolding step
 step_within s e h =
     let test : ltb (stamp_of s e.reading) number_limit ≡ true = lt-ltb _ _ h in
     rw test
+
+-- an event's stamp, from the parts that it is computed of
+pub stamp_is : (s : State) (reading last stamp : ℕ) → stamp ≡ max reading (last + 1) → last ≡ s.last → stamp ≡ stamp_of s reading
+stamp_is s reading last stamp is now = is ∙ ap (λ (n : ℕ). max reading (n + 1)) now
+
+-- a step is what its statement comes to at its stamp
+pub step_at : (s : State) (e : Event) (stamp : ℕ) (r : State × Reply) → stamp ≡ stamp_of s e.reading → stamp < number_limit
+    → r ≡ carried_out (stamped s stamp) (statement_of e.text) → r ≡ step s e
+step_at s e stamp r is within comes =
+    comes ∙ ap (λ (n : ℕ). carried_out (stamped s n) (statement_of e.text)) is ∙ sym (step_within s e (omega arith))
 
 pub step_beyond : (s : State) (e : Event) → number_limit ≤ stamp_of s e.reading → step s e ≡ (s, Refused (OverLimit StampLimit))
 unfolding step

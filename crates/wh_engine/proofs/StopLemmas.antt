@@ -1,8 +1,8 @@
 -- What a crash leaves while a command is carried out.
-use Rattle.std.proofs.Common.{◌≡◌, ◌⊎◌, inl, inr, ⊎_elim, ℕ, List, [], ◌∷◌, ◌++◌, map, sym, subst, Option, Some}
+use Rattle.std.proofs.Common.{inl, inr, ⊎_elim, ℕ, List, [], ◌∷◌, ◌++◌, map, sym, subst}
 use Rattle.std.proofs.lemmas.List.{map-append}
 use Rattle.wh_machine.specs.Table.{State, at_rest}
-use Rattle.wh_machine.specs.Commit.{Commit, Stored, first_stored, Applies, applied, Leads, resting}
+use Rattle.wh_machine.specs.Commit.{Commit, first_stored, Applies, applied, Leads, resting}
 use Rattle.wh_machine.specs.Spelling.{payload_of, IsCommit}
 use Rattle.wh_machine.specs.File.{IsFileOf, Stands}
 use Rattle.wh_world.specs.Crash.{Only}

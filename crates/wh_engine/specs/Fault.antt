@@ -3,8 +3,6 @@ use Rattle.wh_journal.specs.declared.fault.AppendFault.{AppendFault}
 use Rattle.wh_journal.specs.declared.fault.AppendFault.TheVariants as appends
 use Rattle.wh_journal.specs.declared.fault.ReadFault.{ReadFault}
 use Rattle.wh_journal.specs.declared.fault.ReadFault.TheVariants as reads
-use Rattle.wh_journal.specs.declared.fault.OpenFault as journals
-use Rattle.wh_journal.specs.declared.fault.OpenFault.TheVariants as opens
 use Rattle.wh_engine.specs.declared.fault.Halt.{Halt}
 use Rattle.wh_engine.specs.declared.fault.Halt.TheVariants as halts
 use Rattle.wh_engine.specs.declared.fault.OpenFault.{OpenFault}
@@ -18,8 +16,3 @@ halt_of (appends.NeedsReopen count) = halts.NeedsReopen count
 abbrev pub fault_of_read : ReadFault → OpenFault
 fault_of_read reads.OutOfMemory = faults.OutOfMemory
 fault_of_read reads.DiskFault = faults.DiskFault
-
-abbrev pub fault_of : journals.OpenFault → OpenFault
-fault_of opens.OutOfMemory = faults.OutOfMemory
-fault_of opens.DiskFault = faults.DiskFault
-fault_of (opens.NotWarehouse at) = faults.NotWarehouse at

@@ -2,10 +2,12 @@
 --     Replays     through commits that they spell
 --     Carries     through one commit
 --     CarriesNone     no commit that a payload spells applies
-use Rattle.std.specs.Prelude.{◌≡◌, ℕ, List, map}
+--     StraysAt        one of them carries none, and this is the position of its record
+use Rattle.std.specs.Prelude.{◌≡◌, ℕ, List, ◌∷◌, ◌++◌, length, map}
 use Rattle.std.specs.List.{AllByRecursion}
-use Rattle.wh_machine.specs.Commit.{Commit, Stored, Applies, applied, Leads}
+use Rattle.wh_machine.specs.Commit.{Commit, Stored, first_stored, Applies, applied, Leads}
 use Rattle.wh_machine.specs.Spelling.{payload_of, IsCommit}
+use Rattle.wh_machine.specs.File.{records_of}
 
 pub record Replays (from : Stored) (payloads : List (List ℕ)) (to : Stored) : Type 0 where
   pub commits : List Commit
@@ -22,3 +24,14 @@ pub record Carries (payload : List ℕ) (from to : Stored) : Type 0 where
 
 abbrev pub CarriesNone : List ℕ → Stored → Type 0
 CarriesNone payload from = (c : Commit) → IsCommit c → payload ≡ payload_of c → Applies from c → ⊥
+
+-- behind those that lead from the first state
+pub record StraysAt (payloads : List (List ℕ)) (at : ℕ) : Type 0 where
+  pub before : List (List ℕ)
+  pub payload : List ℕ
+  pub behind : List (List ℕ)
+  pub split : payloads ≡ before ++ payload ∷ behind
+  pub reached : Stored
+  pub replayed : Replays first_stored before reached
+  pub none : CarriesNone payload reached
+  pub place : at ≡ length (records_of before)

@@ -2,11 +2,12 @@
 --     state_of     the machine's state
 --     Filed        where the disk's bytes are told, they are a file of commits that lead to this state at rest
 --     StandsForEither     what a crash leaves while a command leads from one state to another
+--     IsUntouched  a halt left all as it was
 use Rattle.std.specs.Prelude.{◌≡◌, ◌≤◌, ◌⊎◌, ℕ, List, map, Option, Some}
 use Rattle.std.specs.List.{AllByRecursion}
 use Rattle.wh_machine.specs.Table.{State, at_rest}
 use Rattle.wh_machine.specs.Step.{Event}
-use Rattle.wh_machine.specs.Commit.{Commit, Stored, first_stored, resting, Leads}
+use Rattle.wh_machine.specs.Commit.{Commit, first_stored, resting, Leads}
 use Rattle.wh_machine.specs.Spelling.{payload_of, IsCommit}
 use Rattle.wh_machine.specs.File.{IsFileOf, Stands}
 use Rattle.wh_journal.specs.Journal as journals
@@ -31,6 +32,12 @@ pub record IsFileOfCommits (file : List ℕ) (j : Journal) (c : Catalog) : Type 
 -- where bytes are told
 pub record Filed (bytes : Option (List ℕ)) (j : Journal) (c : Catalog) : Type 0 where
   pub each : (file : List ℕ) → bytes ≡ Some file → IsFileOfCommits file j c
+
+-- the same disk, places and end of the journal, and the state that the catalog stands for
+pub record IsUntouched {D : Type 0} (old new : D) (j k : Journal) (c d : Catalog) : Type 0 where
+  pub disk : new ≡ old
+  pub journal : journals.IsSame j k
+  pub catalog : stored_of d ≡ stored_of c
 
 abbrev pub command : ℕ → ℕ → List ℕ → Event
 command reading session text = record { reading = reading; session = session; text = text }

@@ -1,5 +1,7 @@
-ghost use Rattle.std.specs.Prelude.{◌≡◌, ◌<◌, map, IfOk, IfSome};
+ghost use Rattle.std.specs.Prelude.{◌≡◌, ◌<◌, map, Some, option_map, IfOk, IfSome};
 ghost use Rattle.wh_machine.specs.Step.{create_table};
+ghost use Rattle.wh_machine.specs.Statement.{CreateTable};
+ghost use Rattle.wh_machine.specs.Made.{made_by};
 ghost use Rattle.wh_value.specs.View.{column_of};
 ghost use Rattle.wh_record.specs.View.{commit_of, HasValues};
 ghost use Rattle.wh_catalog.specs.Catalog.{stored_of};
@@ -27,8 +29,13 @@ pub(crate) fn create(
     columns: Vec<Column>,
 ) -> Result<Plan, AllocError>
     ensures outcome { IfOk result (λ plan. outcome (stored_of catalog.now) stamp plan
-        ≡ create_table (stamped (stored_of catalog.now).state stamp) name (map column_of columns.items)) }
-    ensures values { IfOk result (λ plan. IfSome plan.commit (λ commit. HasValues (commit_of commit))) }
+        ≡ create_table (stamped (stored_of catalog.now).state stamp)
+        name (map column_of columns.items)) }
+    ensures made { IfOk result (λ plan. option_map commit_of plan.commit
+        ≡ made_by (stamped (stored_of catalog.now).state stamp)
+        (Some (CreateTable name (map column_of columns.items)))) }
+    ensures values { IfOk result (λ plan.
+        IfSome plan.commit (λ commit. HasValues (commit_of commit))) }
 {
     if catalog.find(name.as_bytes()).is_some() {
         return Ok(Plan::refusal(Refusal::NameTaken(name)));

@@ -1,7 +1,7 @@
 ghost use Rattle.std.specs.Prelude.{◌≡◌, ◌+◌, ◌*◌, ◌<◌, ◌≤◌, ◌^◌, map, length, take, drop, IfOk, OnOk};
 ghost use Rattle.std.specs.List.{flat_map};
 ghost use Rattle.wh_machine.specs.Step.{number_limit, numbered, partitions_of};
-ghost use Rattle.wh_machine.specs.Commit.{NumberedFrom};
+ghost use Rattle.wh_machine.specs.Made as made;
 ghost use Rattle.wh_machine.specs.Spelling.{RisesFrom};
 ghost use Rattle.wh_part.specs.View.{numbered_of};
 
@@ -10,7 +10,8 @@ use std::collections::VecDeque;
 use wh_part::{NumberedRow, Partition};
 use wh_value::Row;
 
-// Rows as partitions of 1,000 rows each, and the rest as one more. Rows and partitions are numbered from these on.
+// Rows as partitions of 1,000 rows each, and the rest as one more. Rows and partitions are numbered
+// from these on.
 pub(crate) fn cut(
     alloc: Global,
     rows: Vec<Row>,
@@ -19,9 +20,11 @@ pub(crate) fn cut(
 ) -> Result<Vec<Partition>, AllocError>
     requires rows { first + length rows.items ≤ number_limit }
     requires number { number ≤ 2 ^ 63 }
-    ensures rows { IfOk result (λ parts. flat_map (λ p. p.rows) parts.items ≡ numbered first rows.items) }
+    ensures rows { IfOk result (λ parts. flat_map (λ p. p.rows) parts.items
+        ≡ numbered first rows.items) }
     ensures count { IfOk result (λ parts. length parts.items ≡ partitions_of (length rows.items)) }
-    ensures numbers { IfOk result (λ parts. NumberedFrom number parts.items) }
+    ensures parts { IfOk result (λ parts.
+        parts.items ≡ made.cut number (numbered first rows.items)) }
 {
     let count = rows.len().div_ceil(Partition::MAX_ROWS);
     let mut rest = VecDeque::from(rows);
@@ -47,7 +50,8 @@ fn next_rows(
     ensures some { 0 < length rest.old.items → IfOk result (λ rows. 0 < length rows.items) }
     ensures few { IfOk result (λ rows. length rows.items ≤ 1000) }
     ensures rising { IfOk result (λ rows. RisesFrom 0 (map numbered_of rows.items)) }
-    ensures rows { IfOk result (λ rows. map numbered_of rows.items ≡ numbered first (take 1000 rest.old.items)) }
+    ensures rows { IfOk result (λ rows. map numbered_of rows.items
+        ≡ numbered first (take 1000 rest.old.items)) }
     ensures rest { OnOk result (rest.new.items ≡ drop 1000 rest.old.items) }
 {
     let count = rest.len().min(Partition::MAX_ROWS);

@@ -16,7 +16,8 @@ pub enum OpenFault {
 pub enum Halt {
     OutOfMemory,
     DiskFault,
-    /// The commit's record needs more bytes than the limit leaves: `len` is the position after the present gate.
+    /// The commit's record needs more bytes than the limit leaves: `len` is the position after the
+    /// present gate.
     FileFull { len: u64, need: u64 },
     /// An earlier write or sync failed: open the file again.
     NeedsReopen { faults: u64 },
@@ -81,21 +82,6 @@ impl From<ReadFault> for OpenFault {
         match read {
             ReadFault::OutOfMemory => OpenFault::OutOfMemory,
             ReadFault::DiskFault => OpenFault::DiskFault,
-        }
-    }
-}
-
-impl From<wh_journal::OpenFault> for OpenFault {
-    ghost use Rattle.std.specs.Prelude.{◌≡◌};
-    ghost use Rattle.wh_engine.specs.Fault.{fault_of};
-
-    ghost from_gives = { λ journal fault. fault ≡ fault_of journal };
-
-    fn from(journal: wh_journal::OpenFault) -> Self {
-        match journal {
-            wh_journal::OpenFault::OutOfMemory => OpenFault::OutOfMemory,
-            wh_journal::OpenFault::DiskFault => OpenFault::DiskFault,
-            wh_journal::OpenFault::NotWarehouse { at } => OpenFault::NotWarehouse { at },
         }
     }
 }

@@ -1,8 +1,11 @@
-ghost use Rattle.std.specs.Prelude.{◌≡◌, ◌+◌, ◌<◌, map, IfOk, IfSome, Some, slice_get};
+ghost use Rattle.std.specs.Prelude.{◌≡◌, ◌+◌, ◌<◌, ℕ, List, map, IfOk, IfSome, Some, option_map, slice_get};
 ghost use Rattle.std.specs.List.{AllByRecursion, list_all};
 ghost use Rattle.wh_machine.specs.Value.{IsRow};
 ghost use Rattle.wh_machine.specs.Step as machine;
 ghost use Rattle.wh_machine.specs.Step.{on_table, insert_at};
+ghost use Rattle.wh_machine.specs.Table.{place_of};
+ghost use Rattle.wh_machine.specs.Statement.{InsertValues};
+ghost use Rattle.wh_machine.specs.Made.{made_by};
 ghost use Rattle.wh_machine.specs.Commit.{Stored, IsCurrent};
 ghost use Rattle.wh_value.specs.View.{column_of};
 ghost use Rattle.wh_record.specs.View.{commit_of, HasValues};
@@ -31,8 +34,13 @@ pub(crate) fn insert(
 ) -> Result<Plan, AllocError>
     requires { AllByRecursion IsRow rows.items }
     ensures outcome { IfOk result (λ plan. outcome (stored_of catalog.now) stamp plan
-        ≡ on_table (stamped (stored_of catalog.now).state stamp) table (λ place t. insert_at (stamped (stored_of catalog.now).state stamp) place t rows.items)) }
-    ensures values { IfOk result (λ plan. IfSome plan.commit (λ commit. HasValues (commit_of commit))) }
+        ≡ on_table (stamped (stored_of catalog.now).state stamp) table
+        (λ place t. insert_at (stamped (stored_of catalog.now).state stamp) place t rows.items)) }
+    ensures made { IfOk result (λ plan. option_map commit_of plan.commit
+        ≡ made_by (stamped (stored_of catalog.now).state stamp)
+        (Some (InsertValues table rows.items))) }
+    ensures values { IfOk result (λ plan.
+        IfSome plan.commit (λ commit. HasValues (commit_of commit))) }
 {
     let Some(place) = catalog.find(table.as_bytes()) else {
         return Ok(Plan::refusal(Refusal::UnknownName(table)));
@@ -52,9 +60,17 @@ fn insert_into(
 ) -> Result<Plan, AllocError>
     requires place { place < 1000 }
     requires rows { AllByRecursion IsRow rows.items }
-    ensures outcome { IfOk result (λ plan. (s : Stored) → slice_get s.state.tables place ≡ Some (table_of table.now) → IsCurrent s
-        → outcome s stamp plan ≡ insert_at (stamped s.state stamp) place (table_of table.now) rows.items) }
-    ensures values { IfOk result (λ plan. IfSome plan.commit (λ commit. HasValues (commit_of commit))) }
+    ensures outcome { IfOk result (λ plan. (s : Stored) →
+        slice_get s.state.tables place ≡ Some (table_of table.now) → IsCurrent s →
+        outcome s stamp plan
+        ≡ insert_at (stamped s.state stamp) place (table_of table.now) rows.items) }
+    ensures made { IfOk result (λ plan. (s : Stored) (name : List ℕ) →
+        place_of name s.state.tables ≡ Some place →
+        slice_get s.state.tables place ≡ Some (table_of table.now) →
+        option_map commit_of plan.commit
+        ≡ made_by (stamped s.state stamp) (Some (InsertValues name rows.items))) }
+    ensures values { IfOk result (λ plan.
+        IfSome plan.commit (λ commit. HasValues (commit_of commit))) }
 {
     if !all_fit(table.columns(), &rows) {
         return Ok(Plan::refusal(Refusal::TypeMismatch));

@@ -1,4 +1,5 @@
-//! The warehouse: a file, and the machine's state that it stands for. One command is the machine's step.
+//! The warehouse: a file, and the machine's state that it stands for. One command is the
+//! machine's step.
 #![tactic(auto)]
 
 mod create;

@@ -9,13 +9,16 @@ use wh_world::Disk;
 impl<D: Disk> Warehouse<D> {
     ghost use Rattle.std.specs.Prelude.{◌≡◌, ◌<◌, ◌≤◌, ◌^◌, ℕ, List, Some, None, length, is_some, IfOk, IfErr};
     ghost use Rattle.wh_world.specs.Told.{Rose};
-    ghost use Rattle.wh_machine.specs.Table.{State, at_rest};
-    ghost use Rattle.wh_machine.specs.File.{Stands};
-    ghost use Rattle.wh_journal.specs.Journal.{limit_of, failed_of};
+    ghost use Rattle.wh_machine.specs.Table.{at_rest};
+    ghost use Rattle.wh_machine.specs.File.{Stands, GateEndsAt};
+    ghost use Rattle.wh_machine.specs.Fault.{IsFirstFault};
+    ghost use Rattle.wh_world.specs.Crash.{Only};
+    ghost use Rattle.wh_journal.specs.Crash.{LeavesOnly, IsKeptOrShort};
+    ghost use Rattle.wh_journal.specs.Journal.{end_of, limit_of, failed_of};
     ghost use Rattle.wh_engine.specs.Warehouse.{state_of, Filed};
 
-    /// The warehouse of a file of at most `limit` bytes. A file of at most 8 bytes is written anew. A fault hands the
-    /// disk back.
+    /// The warehouse of a file of at most `limit` bytes. A file of at most 8 bytes is written anew.
+    /// A fault hands the disk back.
     pub fn open(
         rt: &(impl Threads + Sync),
         alloc: Global,
@@ -29,14 +32,31 @@ impl<D: Disk> Warehouse<D> {
         requires most { limit ≤ 2 ^ 40 }
 
         // The file stands for the state, which is at rest.
-        ensures opened { IfOk result (λ w. (file : List ℕ) → D.bytes disk ≡ Some file → Stands file (state_of w.catalog)) }
+        ensures opened { IfOk result (λ w. (file : List ℕ) → D.bytes disk ≡ Some file →
+            Stands file (state_of w.catalog)) }
         ensures at_rest { IfOk result (λ w. at_rest (state_of w.catalog) ≡ state_of w.catalog) }
         ensures filed { IfOk result (λ w. Filed (D.bytes w.disk) w.journal w.catalog) }
         ensures told { IfOk result (λ w. is_some (D.bytes w.disk) ≡ is_some (D.bytes disk)) }
 
-        ensures not_warehouse { IfErr result (λ e. (at : ℕ) (file : List ℕ) → e.0 ≡ OpenFault.NotWarehouse at → D.bytes disk ≡ Some file →
-            (8 < length file) × ((state : State) → Stands file state → ⊥) × (D.bytes e.1 ≡ Some file)) }
-        ensures disk_fault { IfErr result (λ e. e.0 ≡ OpenFault.DiskFault → Rose (D.faults disk) (D.faults e.1)) }
+        // What stands on the disk, and what a crash at any moment of the call leaves: a longer file
+        // as it was, and a short one short.
+        ensures ends { IfOk result (λ w. (file : List ℕ) → D.bytes disk ≡ Some file →
+            GateEndsAt file (end_of w.journal)) }
+        ensures durable { IfOk result (λ w. (file : List ℕ) → D.bytes w.disk ≡ Some file →
+            Only file (D.may_leave w.disk)) }
+        ensures any_moment { IfOk result (λ w. (file : List ℕ) → D.bytes disk ≡ Some file →
+            Only file (D.may_leave disk) →
+            LeavesOnly D.moment D.left_since disk w.disk (IsKeptOrShort file)) }
+        ensures any_moment_err { IfErr result (λ e. (file : List ℕ) → D.bytes disk ≡ Some file →
+            Only file (D.may_leave disk) →
+            LeavesOnly D.moment D.left_since disk e.1 (IsKeptOrShort file)) }
+
+        // The file stands for no state, and this is the position of its first fault.
+        ensures not_warehouse { IfErr result (λ e. (at : ℕ) (file : List ℕ) →
+            e.0 ≡ OpenFault.NotWarehouse at → D.bytes disk ≡ Some file →
+            (8 < length file) × IsFirstFault file at × (D.bytes e.1 ≡ Some file)) }
+        ensures disk_fault { IfErr result (λ e. e.0 ≡ OpenFault.DiskFault →
+            Rose (D.faults disk) (D.faults e.1)) }
 
         // Over any disk.
         ensures healthy { IfOk result (λ w. failed_of w.journal ≡ None) }
@@ -58,9 +78,11 @@ impl<D: Disk> Warehouse<D> {
 
 ghost use Rattle.std.specs.Prelude.{◌≡◌, ◌<◌, ◌≤◌, ◌^◌, ℕ, List, Some, None, length, is_some, IfOk, OnOk, IsErrOf};
 ghost use Rattle.wh_world.specs.Told.{Rose};
-ghost use Rattle.wh_machine.specs.Table.{State};
 ghost use Rattle.wh_machine.specs.Commit.{resting};
-ghost use Rattle.wh_machine.specs.File.{Stands};
+ghost use Rattle.wh_machine.specs.File.{Stands, GateEndsAt};
+ghost use Rattle.wh_machine.specs.Fault.{IsFirstFault};
+ghost use Rattle.wh_world.specs.Crash.{Only};
+ghost use Rattle.wh_journal.specs.Crash.{LeavesOnly, IsKeptOrShort};
 ghost use Rattle.wh_journal.specs.Journal.{end_of, limit_of, failed_of};
 ghost use Rattle.wh_catalog.specs.Catalog.{stored_of};
 ghost use Rattle.wh_engine.specs.Warehouse.{state_of, Filed};
@@ -69,7 +91,8 @@ ghost use Rattle.wh_engine.specs.Warehouse.{state_of, Filed};
 fn read<D: Disk>(alloc: Global, disk: &mut D, limit: u64) -> Result<(Journal, Catalog), OpenFault>
     requires some { 8 ≤ limit }
     requires most { limit ≤ 2 ^ 40 }
-    ensures opened { IfOk result (λ r. (file : List ℕ) → D.bytes disk.old ≡ Some file → Stands file (state_of r.1)) }
+    ensures opened { IfOk result (λ r. (file : List ℕ) → D.bytes disk.old ≡ Some file →
+        Stands file (state_of r.1)) }
     ensures rest { IfOk result (λ r. resting (stored_of r.1) ≡ stored_of r.1) }
     ensures filed { IfOk result (λ r. Filed (D.bytes disk.new) r.0 r.1) }
     ensures told { OnOk result (is_some (D.bytes disk.new) ≡ is_some (D.bytes disk.old)) }
@@ -77,11 +100,24 @@ fn read<D: Disk>(alloc: Global, disk: &mut D, limit: u64) -> Result<(Journal, Ca
     ensures healthy { IfOk result (λ r. failed_of r.0 ≡ None) }
     ensures limit { IfOk result (λ r. limit_of r.0 ≡ limit) }
     ensures later { D.faults disk.old ≤ D.faults disk.new }
-    ensures not_warehouse { (at : ℕ) (file : List ℕ) → IsErrOf result (OpenFault.NotWarehouse at) → D.bytes disk.old ≡ Some file →
-        (8 < length file) × ((state : State) → Stands file state → ⊥) × (D.bytes disk.new ≡ Some file) }
-    ensures disk_fault { IsErrOf result OpenFault.DiskFault → Rose (D.faults disk.old) (D.faults disk.new) }
+    ensures ends { IfOk result (λ r. (file : List ℕ) → D.bytes disk.old ≡ Some file →
+        GateEndsAt file (end_of r.0)) }
+    ensures durable { OnOk result ((file : List ℕ) → D.bytes disk.new ≡ Some file →
+        Only file (D.may_leave disk.new)) }
+    ensures any_moment { (file : List ℕ) → D.bytes disk.old ≡ Some file →
+        Only file (D.may_leave disk.old) →
+        LeavesOnly D.moment D.left_since disk.old disk.new (IsKeptOrShort file) }
+    ensures not_warehouse { (at : ℕ) (file : List ℕ) → IsErrOf result (OpenFault.NotWarehouse at) →
+        D.bytes disk.old ≡ Some file → (8 < length file) × IsFirstFault file at
+        × (D.bytes disk.new ≡ Some file) }
+    ensures disk_fault { IsErrOf result OpenFault.DiskFault →
+        Rose (D.faults disk.old) (D.faults disk.new) }
 {
-    let journal = Journal::open(alloc, disk, limit)?;
+    let (journal, fault) = Journal::recover(alloc, disk, limit)?;
+    // A commit that doesn't apply stands before the fault that its file breaks off at.
     let catalog = replay(alloc, disk, &journal)?;
-    Ok((journal, catalog))
+    match fault {
+        None => Ok((journal, catalog)),
+        Some(at) => Err(OpenFault::NotWarehouse { at }),
+    }
 }

@@ -1,7 +1,8 @@
 use wh_record::Commit;
 use wh_text::{Refusal, Reply};
 
-/// What a statement comes to: its reply, and the commit that it makes if it makes one. Nothing is changed yet.
+/// What a statement comes to: its reply, and the commit that it makes if it makes one. Nothing is
+/// changed yet.
 #[derive(Debug, Drop)]
 pub(crate) struct Plan {
     pub(crate) reply: Reply,

@@ -1,6 +1,7 @@
-ghost use Rattle.std.specs.Prelude.{◌≡◌, ◌<◌, Some, IfOk, IfSome};
+ghost use Rattle.std.specs.Prelude.{◌≡◌, ◌<◌, Some, option_map, IfOk, IfSome};
 ghost use Rattle.wh_machine.specs.Step.{number_limit, carried_out};
 ghost use Rattle.wh_machine.specs.Reading.{statement_of};
+ghost use Rattle.wh_machine.specs.Made.{made_by};
 ghost use Rattle.wh_record.specs.View.{commit_of, HasValues};
 ghost use Rattle.wh_stmt_parse.specs.View as statements;
 ghost use Rattle.wh_catalog.specs.Catalog.{stored_of};
@@ -26,7 +27,10 @@ pub(crate) fn plan_text(
     requires { stamp < number_limit }
     ensures outcome { IfOk result (λ plan. outcome (stored_of catalog.now) stamp plan
         ≡ carried_out (stamped (stored_of catalog.now).state stamp) (statement_of text.now)) }
-    ensures values { IfOk result (λ plan. IfSome plan.commit (λ commit. HasValues (commit_of commit))) }
+    ensures made { IfOk result (λ plan. option_map commit_of plan.commit
+        ≡ made_by (stamped (stored_of catalog.now).state stamp) (statement_of text.now)) }
+    ensures values { IfOk result (λ plan.
+        IfSome plan.commit (λ commit. HasValues (commit_of commit))) }
 {
     match parse(alloc, text)? {
         Some(statement) => plan_statement(alloc, catalog, stamp, statement),
@@ -45,8 +49,13 @@ fn plan_statement(
     requires within { stamp < number_limit }
     requires values { statements.HasValues statement }
     ensures outcome { IfOk result (λ plan. outcome (stored_of catalog.now) stamp plan
-        ≡ carried_out (stamped (stored_of catalog.now).state stamp) (Some (statements.statement_view statement))) }
-    ensures values { IfOk result (λ plan. IfSome plan.commit (λ commit. HasValues (commit_of commit))) }
+        ≡ carried_out (stamped (stored_of catalog.now).state stamp)
+        (Some (statements.statement_view statement))) }
+    ensures made { IfOk result (λ plan. option_map commit_of plan.commit
+        ≡ made_by (stamped (stored_of catalog.now).state stamp)
+        (Some (statements.statement_view statement))) }
+    ensures values { IfOk result (λ plan.
+        IfSome plan.commit (λ commit. HasValues (commit_of commit))) }
 {
     match statement {
         Statement::CreateTable { name, columns } => create(alloc, catalog, stamp, name, columns),

@@ -1,10 +1,12 @@
-ghost use Rattle.std.specs.Prelude.{◌≡◌, ◌<◌, ◌≤◌, ℕ, List, Some, slice_get, IfOk, OnOk, IsErrOf};
+ghost use Rattle.std.specs.Prelude.{◌≡◌, ◌+◌, ◌<◌, ◌≤◌, ◌++◌, ℕ, List, Some, length, take, slice_get, IfOk, OnOk, IsErrOf};
 ghost use Rattle.wh_world.specs.Told.{Rose};
-ghost use Rattle.wh_machine.specs.Commit.{Stored, first_stored, resting};
-ghost use Rattle.wh_machine.specs.File.{IsFileOf};
+ghost use Rattle.wh_world.specs.Crash.{NoOthers};
+ghost use Rattle.wh_machine.specs.Commit.{first_stored, resting};
+ghost use Rattle.wh_machine.specs.File.{records_of};
 ghost use Rattle.wh_journal.specs.Journal.{Lists, end_of, count_of};
+ghost use Rattle.wh_journal.specs.Crash.{LeavesOnly};
 ghost use Rattle.wh_catalog.specs.Catalog.{stored_of};
-ghost use Rattle.wh_engine.specs.Replay.{Replays, Carries, CarriesNone};
+ghost use Rattle.wh_engine.specs.Replay.{Replays, StraysAt, Carries, CarriesNone};
 
 use crate::OpenFault;
 use std::alloc::Global;
@@ -19,15 +21,27 @@ pub(crate) fn replay<D: Disk>(
     disk: &mut D,
     journal: &Journal,
 ) -> Result<Catalog, OpenFault>
-    requires { end_of journal.now ≤ D.size disk.old }
-    ensures led { IfOk result (λ catalog. (payloads : List (List ℕ)) (file : List ℕ) → D.bytes disk.old ≡ Some file →
-        IsFileOf payloads file → Lists payloads journal.now → Replays first_stored payloads (stored_of catalog)) }
+    requires { end_of journal.now ≤ D.size disk.old + 1 }
+
+    // Where the records of the listed payloads stand at the front of the file.
+    ensures led { IfOk result (λ catalog. (payloads : List (List ℕ)) (file rest : List ℕ) →
+        D.bytes disk.old ≡ Some file → file ≡ records_of payloads ++ rest →
+        Lists payloads journal.now → Replays first_stored payloads (stored_of catalog)) }
+    ensures strays { (at : ℕ) → IsErrOf result (OpenFault.NotWarehouse at) →
+        (payloads : List (List ℕ)) (file rest : List ℕ) →
+        D.bytes disk.old ≡ Some file → file ≡ records_of payloads ++ rest →
+        Lists payloads journal.now → StraysAt payloads at }
+
+    // Over any disk.
     ensures rest { IfOk result (λ catalog. resting (stored_of catalog) ≡ stored_of catalog) }
-    ensures strays { (at : ℕ) → IsErrOf result (OpenFault.NotWarehouse at) → (payloads : List (List ℕ)) (file : List ℕ) → D.bytes disk.old ≡ Some file →
-        IsFileOf payloads file → Lists payloads journal.now → (s : Stored) → Replays first_stored payloads s → ⊥ }
+    ensures some { (at : ℕ) → IsErrOf result (OpenFault.NotWarehouse at) →
+        0 < count_of journal.now }
     ensures same { (D.bytes disk.new ≡ D.bytes disk.old) × (D.size disk.new ≡ D.size disk.old) }
+    ensures crash { NoOthers (D.may_leave disk.old) (D.may_leave disk.new) }
+    ensures any_moment { LeavesOnly D.moment D.left_since disk.old disk.new (D.may_leave disk.old) }
     ensures later { D.faults disk.old ≤ D.faults disk.new }
-    ensures disk_fault { IsErrOf result OpenFault.DiskFault → Rose (D.faults disk.old) (D.faults disk.new) }
+    ensures disk_fault { IsErrOf result OpenFault.DiskFault →
+        Rose (D.faults disk.old) (D.faults disk.new) }
 {
     let mut catalog = Catalog::new(alloc);
     for at in 0..journal.count() {
@@ -45,15 +59,29 @@ fn replay_at<D: Disk>(
     at: u64,
 ) -> Result<(), OpenFault>
     requires listed { at < count_of journal.now }
-    requires reach { end_of journal.now ≤ D.size disk.old }
-    ensures carried { OnOk result ((payloads : List (List ℕ)) (file : List ℕ) → D.bytes disk.old ≡ Some file → IsFileOf payloads file → Lists payloads journal.now →
-        (payload : List ℕ) × (slice_get payloads at ≡ Some payload) × Carries payload (stored_of catalog.old) (stored_of catalog.new)) }
-    ensures rest { resting (stored_of catalog.old) ≡ stored_of catalog.old → OnOk result (resting (stored_of catalog.new) ≡ stored_of catalog.new) }
-    ensures strays { (place : ℕ) → IsErrOf result (OpenFault.NotWarehouse place) → (payloads : List (List ℕ)) (file : List ℕ) → D.bytes disk.old ≡ Some file →
-        IsFileOf payloads file → Lists payloads journal.now → (payload : List ℕ) × (slice_get payloads at ≡ Some payload) × CarriesNone payload (stored_of catalog.old) }
+    requires reach { end_of journal.now ≤ D.size disk.old + 1 }
+
+    // Where the records of the listed payloads stand at the front of the file.
+    ensures carried { OnOk result ((payloads : List (List ℕ)) (file rest : List ℕ) →
+        D.bytes disk.old ≡ Some file → file ≡ records_of payloads ++ rest →
+        Lists payloads journal.now → (payload : List ℕ) × (slice_get payloads at ≡ Some payload)
+        × Carries payload (stored_of catalog.old) (stored_of catalog.new)) }
+    ensures strays { (place : ℕ) → IsErrOf result (OpenFault.NotWarehouse place) →
+        (payloads : List (List ℕ)) (file rest : List ℕ) → D.bytes disk.old ≡ Some file →
+        file ≡ records_of payloads ++ rest → Lists payloads journal.now →
+        (payload : List ℕ) × (slice_get payloads at ≡ Some payload)
+        × CarriesNone payload (stored_of catalog.old)
+        × (place ≡ length (records_of (take at payloads))) }
+
+    // Over any disk.
+    ensures rest { resting (stored_of catalog.old) ≡ stored_of catalog.old →
+        OnOk result (resting (stored_of catalog.new) ≡ stored_of catalog.new) }
     ensures same { (D.bytes disk.new ≡ D.bytes disk.old) × (D.size disk.new ≡ D.size disk.old) }
+    ensures crash { NoOthers (D.may_leave disk.old) (D.may_leave disk.new) }
+    ensures any_moment { LeavesOnly D.moment D.left_since disk.old disk.new (D.may_leave disk.old) }
     ensures later { D.faults disk.old ≤ D.faults disk.new }
-    ensures disk_fault { IsErrOf result OpenFault.DiskFault → Rose (D.faults disk.old) (D.faults disk.new) }
+    ensures disk_fault { IsErrOf result OpenFault.DiskFault →
+        Rose (D.faults disk.old) (D.faults disk.new) }
 {
     let payload = journal.payload(alloc, disk, at)?;
     let (position, _) = journal.place(at);
@@ -68,8 +96,10 @@ fn carry_out(
     payload: &[u8],
     gate: u64,
 ) -> Result<(), OpenFault>
-    ensures carried { OnOk result (Carries payload.now (stored_of catalog.old) (stored_of catalog.new)) }
-    ensures strays { (place : ℕ) → IsErrOf result (OpenFault.NotWarehouse place) → CarriesNone payload.now (stored_of catalog.old) }
+    ensures carried { OnOk result
+        (Carries payload.now (stored_of catalog.old) (stored_of catalog.new)) }
+    ensures strays { (place : ℕ) → IsErrOf result (OpenFault.NotWarehouse place) →
+        CarriesNone payload.now (stored_of catalog.old) × (place ≡ gate) }
     ensures no_disk { IsErrOf result OpenFault.DiskFault → ⊥ }
 {
     let Some(decoded) = Commit::decode(alloc, payload) else {

@@ -1,5 +1,8 @@
-ghost use Rattle.std.specs.Prelude.{◌≡◌, ◌<◌, map, IfOk, IfSome, None};
+ghost use Rattle.std.specs.Prelude.{◌≡◌, ◌<◌, map, Some, None, option_map, IfOk, IfSome};
 ghost use Rattle.wh_machine.specs.Step.{on_table, listing_of, names_of};
+ghost use Rattle.wh_machine.specs.Statement.{SelectAll};
+ghost use Rattle.wh_machine.specs.Made.{made_by};
+ghost use Rattle.wh_record.specs.View.{commit_of};
 ghost use Rattle.wh_value.specs.View.{column_of};
 ghost use Rattle.wh_catalog.specs.Catalog.{stored_of};
 ghost use Rattle.wh_catalog.specs.Table.{table_of};
@@ -20,7 +23,10 @@ pub(crate) fn select(
     table: Text,
 ) -> Result<Plan, AllocError>
     ensures outcome { IfOk result (λ plan. outcome (stored_of catalog.now) stamp plan
-        ≡ on_table (stamped (stored_of catalog.now).state stamp) table (λ place t. (stamped (stored_of catalog.now).state stamp, listing_of t))) }
+        ≡ on_table (stamped (stored_of catalog.now).state stamp) table
+        (λ place t. (stamped (stored_of catalog.now).state stamp, listing_of t))) }
+    ensures made { IfOk result (λ plan. option_map commit_of plan.commit
+        ≡ made_by (stamped (stored_of catalog.now).state stamp) (Some (SelectAll table))) }
     ensures commit { IfOk result (λ plan. plan.commit ≡ None) }
 {
     let Some(place) = catalog.find(table.as_bytes()) else {

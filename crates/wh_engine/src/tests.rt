@@ -4,7 +4,7 @@ use super::*;
 use std::alloc::Global;
 use std::test::Fail;
 use std::thread::Threads;
-use wh_text::print_reply;
+use wh_text::{Reply, print_reply};
 use wh_value::{Bytes, Column, ColumnType, Text};
 use wh_world::MemDisk;
 
@@ -81,21 +81,80 @@ fn commands_are_answered_and_a_second_opening_goes_on(rt: HostRuntime) -> Result
 }
 
 #[test]
-fn a_full_file_is_told_with_both_numbers(rt: HostRuntime) -> Result<(), Fail> {
+fn a_full_file_is_told_with_both_numbers_and_nothing_changes(rt: HostRuntime) -> Result<(), Fail> {
+    let alloc = rt.alloc();
     let cases = [
-        ("one byte short", 132u64, false),
-        ("just enough", 133, true),
+        (
+            "one byte short",
+            132u64,
+            false,
+            b"K\n(0 rows)\n".as_slice(),
+            50usize,
+        ),
+        ("just enough", 133, true, b"K\n1\n(1 rows)\n", 133),
     ];
-    for (name, limit, fits) in cases {
+    for (name, limit, fits, rows, len) in cases {
         assert!(rt; 8 <= limit && limit <= 133);
-        let mut warehouse = opened(&rt, rt.alloc(), &ONE_TABLE, limit, &[])?.ok_or(
-            "the file opens",
-        )?;
-        let full = matches!(
-            warehouse.exec(&rt, 0, 1, b"INSERT INTO T VALUES (1)"),
-            Err(Halt::FileFull { len: 50, need: 83 })
+        let mut warehouse = opened(&rt, alloc, &ONE_TABLE, limit, &[])?.ok_or("the file opens")?;
+        let answer = warehouse.exec(&rt, 0, 1, b"INSERT INTO T VALUES (1)");
+        let full = matches!(answer, Err(Halt::FileFull { len: 50, need: 83 }));
+        assert_eq!(rt; full, !fits, "{name}: full");
+        let inserted = matches!(answer, Ok(Reply::Inserted(1)));
+        assert_eq!(rt; inserted, fits, "{name}: inserted");
+        let reply = warehouse.exec(&rt, 0, 1, b"SELECT * FROM T")?;
+        let mut out = Bytes::new(alloc);
+        print_reply(alloc, &reply, &mut out)?;
+        assert_eq!(rt; out.as_slice(), rows, "{name}: rows");
+        let disk = warehouse.close();
+        assert_eq!(rt; disk.bytes().len(), len, "{name}: bytes");
+        assert_eq!(rt;
+            disk.bytes() == ONE_TABLE.as_slice(),
+            !fits,
+            "{name}: the file as before"
         );
-        assert_eq!(rt; full, !fits, "{name}");
+    }
+    Ok(())
+}
+
+#[test]
+fn the_first_fault_of_a_file_is_told(rt: HostRuntime) -> Result<(), Fail> {
+    let alloc = rt.alloc();
+    let none = b"".as_slice();
+    let cases = [
+        (
+            "another header",
+            [b"X".as_slice(), &ONE_TABLE[1..], none],
+            0,
+        ),
+        (
+            "a length beyond the file",
+            [&ONE_TABLE[..15], b"\xff", &ONE_TABLE[16..]],
+            7,
+        ),
+        (
+            "no commit before a cut record",
+            [&ONE_TABLE[..7], b"\x01\0\0\0\0\0\0\0\x01\0", b"\x01\0\0"],
+            7,
+        ),
+        ("no last gate", [&ONE_TABLE[..49], none, none], 49),
+        (
+            "one commit twice",
+            [&ONE_TABLE[..49], &ONE_TABLE[7..], none],
+            49,
+        ),
+    ];
+    for (name, parts, place) in cases {
+        let bytes = parts.concat(alloc)?;
+        let disk = MemDisk::new(alloc, bytes, 0, 10, Vec::new(alloc))?;
+        let fault = match Warehouse::open(&rt, alloc, disk, 1, LIMIT) {
+            Ok(_) => None,
+            Err((fault, _)) => Some(fault),
+        };
+        assert_eq!(rt;
+            fault,
+            Some(OpenFault::NotWarehouse { at: place }),
+            "{name}"
+        );
     }
     Ok(())
 }

@@ -25,8 +25,8 @@ impl<D: Disk> Warehouse<D> {
     /// The disk as it stands.
     pub fn close(self) -> D
         ensures disk { result ≡ self.disk }
-        ensures stands { Filed (D.bytes self.disk) self.journal self.catalog → (file : List ℕ) → D.bytes result ≡ Some file →
-            Stands file (at_rest (state_of self.catalog)) }
+        ensures stands { Filed (D.bytes self.disk) self.journal self.catalog → (file : List ℕ) →
+            D.bytes result ≡ Some file → Stands file (at_rest (state_of self.catalog)) }
     {
         let Warehouse { disk, .. } = self;
         disk

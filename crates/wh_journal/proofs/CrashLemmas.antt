@@ -1,5 +1,5 @@
 -- What a crash at any moment of a run of calls leaves.
-use Rattle.std.proofs.Common.{◌≡◌, ◌⊎◌, inl, inr, ⊎_elim, ℕ, ◌+◌, ◌≤◌, List, length, refl, subst, arith}
+use Rattle.std.proofs.Common.{◌≡◌, inl, inr, ⊎_elim, ℕ, ◌≤◌, List, length, refl, subst, arith}
 use Rattle.wh_world.specs.Bytes.{Torn}
 use Rattle.wh_world.specs.Crash.{Follows, NoOthers, Only, Elapses}
 use Rattle.wh_journal.specs.Crash.{LeavesOnly, IsKeptOrShort}
@@ -76,3 +76,15 @@ module _ {D : Type 0} (moment : D → ℕ) (left_since : D → ℕ → List ℕ 
     write_and_sync old mid new at n file only follows time kept time_on =
         let first = write old mid at n file only follows time in
         both old mid new (Torn at n file) first (weaker mid new (may_leave mid) (Torn at n file) (written_over old mid at n file only follows) (reads mid new kept time_on))
+
+    -- a sync and a look at the length, and then a short file is written anew
+    pub begun : (old synced mid new : D) (file : List ℕ) → length file ≤ 8 → Only file (may_leave old)
+        → NoOthers (may_leave old) (may_leave synced) → Elapses (moment old) (moment synced) (left_since old) (left_since synced) (may_leave synced)
+        → NoOthers (may_leave synced) (may_leave mid) → Elapses (moment synced) (moment mid) (left_since synced) (left_since mid) (may_leave mid)
+        → (Only file (may_leave mid) → LeavesOnly moment left_since mid new (Torn 0 8 file)) → LeavesOnly moment left_since old new (IsKeptOrShort file)
+    begun old synced mid new file short only kept time kept_on time_on write_anew =
+        let first = reads_on old synced mid kept (reads old synced kept time) (reads synced mid kept_on time_on) in
+        let second = write_anew (λ image left. only image (kept image (kept_on image left))) in
+        both old mid new (IsKeptOrShort file)
+        (weaker old mid (may_leave old) (IsKeptOrShort file) (λ image was. inl (only image was)) first)
+        (weaker mid new (Torn 0 8 file) (IsKeptOrShort file) (λ image torn. short_still file image short torn) second)

@@ -7,7 +7,7 @@ use Rattle.std.specs.Cmp.Lexicographic.{pointwise}
 use Rattle.std.proofs.lemmas.Slice.Eq.{slice_eq-Decides}
 use Rattle.std.proofs.lemmas.Bool.Decides.{Decides-eqb}
 use Rattle.wh_machine.specs.File.{header, record_of}
-use Rattle.wh_journal.specs.Fault.{IsCut}
+use Rattle.wh_machine.specs.Fault.{IsCut}
 use Rattle.wh_journal.specs.Head.{IsWhole, IsLast}
 use Rattle.wh_journal.proofs.RecordLemmas.{length-record_of}
 
@@ -56,9 +56,9 @@ module _ (len : ℕ) (rest : List ℕ) (fits : len < 2 ^ 64) where
       }
 
   -- the payload is all that stands behind them
-  pub last : len ≡ length rest → IsLast (head ++ rest)
+  pub last : len ≡ length rest → IsLast (head ++ rest) len
   unfolding record_of
-  last same = record { payload = rest; spelled = ap (λ (n : ℕ). (1 ∷ to_be_bytes w64 n) ++ rest) same; short = omega arith }
+  last same = record { payload = rest; spelled = ap (λ (n : ℕ). (1 ∷ to_be_bytes w64 n) ++ rest) same; size = sym same; short = omega arith }
 
   -- they want more than what stands behind them
   pub cut : length rest < len → IsCut (head ++ rest)

@@ -1,10 +1,12 @@
 -- How the records of a file are listed one after another.
-use Rattle.std.proofs.Common.{◌≡◌, inl, inr, ℕ, ◌-◌, List, [], ◌∷◌, ◌++◌, length, drop, sym, ◌∙◌, ap, subst, arith, append_assoc}
-use Rattle.std.proofs.lemmas.List.{drop_at}
+use Rattle.std.proofs.Common.{◌≡◌, inl, inr, Option, Some, None, ℕ, ◌-◌, List, [], ◌∷◌, ◌++◌, length, drop, refl, sym, ◌∙◌, ap, subst, arith, append_assoc}
+use Rattle.std.specs.Prelude.{MatchOption}
+use Rattle.std.proofs.lemmas.List.{append-nil, drop_at}
 use Rattle.wh_machine.specs.File.{header, record_of, records_of, IsFileOf}
+use Rattle.wh_machine.specs.Fault.{IsCut}
 use Rattle.wh_journal.specs.declared.journal.Journal.{Journal}
 use Rattle.wh_journal.specs.Journal.{Lists, AddsPlace}
-use Rattle.wh_journal.specs.Fault.{BeginsWith, IsCut, IsFirstFault}
+use Rattle.wh_journal.specs.Fault.{BeginsWith, EndsEarly, IsJournalFault, ListsUpTo}
 use Rattle.wh_journal.specs.Head.{IsClosed, IsWhole, IsLast}
 use Rattle.wh_journal.proofs.RecordLemmas.{short_push, records_push, lists_push}
 
@@ -48,20 +50,42 @@ module _ (file : List ℕ) (j : Journal) (begins : BeginsWith file j) where
     begins.lists,
   )
 
-  pub cut_at_gate : IsCut (drop (j.end - 1) file) → IsFirstFault file (j.end - 1)
-  cut_at_gate is_cut = inr (inl (record {
-    payloads = begins.payloads;
-    rest = begins.rest;
-    short = begins.short;
-    spelled = begins.spelled;
-    is_cut = subst IsCut from_gate is_cut;
-    place = omega (arith, begins.lists.end);
-  }))
+  pub cut_at_gate : IsCut (drop (j.end - 1) file) → (payloads : List (List ℕ)) × EndsEarly file payloads (j.end - 1) × Lists payloads j
+  cut_at_gate is_cut = (
+    begins.payloads,
+    record {
+      rest = begins.rest;
+      short = begins.short;
+      spelled = begins.spelled;
+      faulty = inr (subst IsCut from_gate is_cut);
+      place = omega (arith, begins.lists.end);
+    },
+    begins.lists,
+  )
 
-  pub no_gate_at_end : IsLast (drop (j.end - 1) file) → (size : ℕ) → length file ≡ size → IsFirstFault file size
-  no_gate_at_end is_last size same = inr (inr (record {
-    payloads = begins.payloads ++ is_last.payload ∷ [];
-    short = short_push begins.payloads is_last.payload begins.short is_last.short;
-    spelled = begins.spelled ∙ ap (λ (l : List ℕ). records_of begins.payloads ++ l) (sym from_gate ∙ is_last.spelled) ∙ sym (records_push begins.payloads is_last.payload);
-    place = sym same;
-  }))
+  pub no_gate_at_end : (new : Journal) (len size : ℕ) → IsLast (drop (j.end - 1) file) len → AddsPlace j new len → length file ≡ size
+      → (payloads : List (List ℕ)) × EndsEarly file payloads size × Lists payloads new
+  no_gate_at_end new len size is_last adds same =
+      let adds_payload : AddsPlace j new (length is_last.payload) = subst (λ (n : ℕ). AddsPlace j new n) (sym is_last.size) adds in
+      let spelled : file ≡ records_of (begins.payloads ++ is_last.payload ∷ []) =
+      begins.spelled ∙ ap (λ (l : List ℕ). records_of begins.payloads ++ l) (sym from_gate ∙ is_last.spelled) ∙ sym (records_push begins.payloads is_last.payload) in (
+        begins.payloads ++ is_last.payload ∷ [],
+        record {
+          rest = [];
+          short = short_push begins.payloads is_last.payload begins.short is_last.short;
+          spelled = spelled ∙ sym (append-nil (records_of (begins.payloads ++ is_last.payload ∷ [])));
+          faulty = inl refl;
+          place = sym same ∙ ap length spelled;
+        },
+        lists_push begins.payloads is_last.payload j new begins.lists adds_payload,
+      )
+
+-- ---- what a recovery found, in a file of more than 8 bytes
+
+pub match_weaker : {A : Type 0} (P : Type 0) (Q R : A → Type 0) (o : Option A) → ((a : A) → Q a → R a) → MatchOption o P Q → MatchOption o P R
+match_weaker P Q R None has is = is
+match_weaker P Q R (Some a) has is = has a is
+
+pub fault_listed : (file : List ℕ) (j : Journal) (at : ℕ) → ListsUpTo file j at → IsJournalFault file at
+fault_listed file j at (inl lacks) = inl lacks.0
+fault_listed file j at (inr ends) = inr (ends.0, ends.1)

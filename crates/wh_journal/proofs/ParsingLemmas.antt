@@ -3,7 +3,8 @@ use Rattle.std.proofs.Common.{◌≡◌, ◌≢◌, inl, inr, ℕ, List, [], ◌
 use Rattle.std.proofs.lemmas.List.{append-nil, append_cancel_left}
 use Rattle.std.specs.List.{flat_map}
 use Rattle.wh_machine.specs.File.{header, record_of, records_of, IsFileOf}
-use Rattle.wh_journal.specs.Fault.{AllShort, IsCut, IsFirstFault}
+use Rattle.wh_machine.specs.Fault.{IsCut}
+use Rattle.wh_journal.specs.Fault.{AllShort, IsJournalFault}
 use Rattle.wh_journal.proofs.RecordLemmas.{records_split}
 use Rattle.wh_journal.proofs.HeadLemmas.{same_record}
 
@@ -57,14 +58,15 @@ no_cut (p ∷ left) rest gate tail short closed spelled is_cut =
     is_cut.cut p (flat_map record_of left ++ gate ∷ tail) short.0 (spelled ∙ append_assoc (record_of p) (flat_map record_of left) (gate ∷ tail))
 
 -- a file with a fault is a file of no payloads
-pub no_file : (file : List ℕ) (at : ℕ) (payloads : List (List ℕ)) → IsFirstFault file at → IsFileOf payloads file → ⊥
+pub no_file : (file : List ℕ) (at : ℕ) (payloads : List (List ℕ)) → IsJournalFault file at → IsFileOf payloads file → ⊥
 no_file file at payloads (inl lacks) is = let first = header_first payloads file is in lacks.other first.0 first.1
-no_file file at payloads (inr (inl has)) is =
-    let more = after has.payloads payloads has.rest file has.short has.spelled is in
-    no_cut more.left has.rest is.gate is.tail more.short is.closed more.spelled has.is_cut
-no_file file at payloads (inr (inr lacks)) is =
-    let more = after lacks.payloads payloads [] file lacks.short (lacks.spelled ∙ sym (append-nil (records_of lacks.payloads))) is in
-    absurd (omega (arith, ap length more.spelled, length-append (flat_map record_of more.left) (is.gate ∷ is.tail)))
+no_file file at payloads (inr ends) is =
+    let early = ends.1 in
+    let more = after ends.0 payloads early.rest file early.short early.spelled is in
+    elim early.faulty [
+      | inl none ↦ absurd (omega (arith, ap length (sym none ∙ more.spelled), length-append (flat_map record_of more.left) (is.gate ∷ is.tail)))
+      | inr is_cut ↦ no_cut more.left early.rest is.gate is.tail more.short is.closed more.spelled is_cut
+    ]
 
 only_end : (read left : List (List ℕ)) (gate : ℕ) (tail : List ℕ) (other : ℕ) (behind : List ℕ) → other ≢ 1 → other ∷ behind ≡ flat_map record_of left ++ gate ∷ tail → read ≡ read ++ left
 only_end read [] gate tail other behind closed spelled = sym (append-nil read)

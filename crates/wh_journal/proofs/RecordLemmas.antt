@@ -4,7 +4,7 @@ use Rattle.std.proofs.lemmas.List.{append-nil, take_at, drop_at}
 use Rattle.std.proofs.lemmas.List.Concat.{flat_map-append}
 use Rattle.std.specs.List.{flat_map}
 use Rattle.std.specs.Int.{w64, to_be_bytes}
-use Rattle.wh_machine.specs.File.{header, record_of, records_of, IsFileOf}
+use Rattle.wh_machine.specs.File.{header, record_of, records_of}
 use Rattle.wh_world.specs.Bytes.{framed}
 use Rattle.wh_journal.specs.declared.journal.Journal.{Journal}
 use Rattle.wh_journal.specs.Fault.{AllShort}
@@ -79,12 +79,32 @@ listed_from (payload ∷ payloads) front rest file start (suc at) place is start
     listed_from payloads (front ++ record_of payload) rest file (start + length payload + 9) at place whole
     (omega (arith, length-append front (record_of payload), length-record_of payload)) listed
 
-pub listed : (payloads : List (List ℕ)) (file : List ℕ) (at : ℕ) (place : ℕ × ℕ) → IsFileOf payloads file → slice_get (places_of payloads) at ≡ Some place
+pub listed : (payloads : List (List ℕ)) (file rest : List ℕ) (at : ℕ) (place : ℕ × ℕ) → file ≡ records_of payloads ++ rest → slice_get (places_of payloads) at ≡ Some place
     → slice_get payloads at ≡ Some (take (place.1) (drop (place.0) file))
-listed payloads file at place is found =
-    let whole : file ≡ header ++ (flat_map record_of payloads ++ is.gate ∷ is.tail) =
-    is.spelled ∙ ap (λ (l : List ℕ). l ++ is.gate ∷ is.tail) (records_split payloads) ∙ append_assoc header (flat_map record_of payloads) (is.gate ∷ is.tail) in
-    listed_from payloads header (is.gate ∷ is.tail) file 16 at place whole refl found
+listed payloads file rest at place is found =
+    let whole : file ≡ header ++ (flat_map record_of payloads ++ rest) =
+    is ∙ ap (λ (l : List ℕ). l ++ rest) (records_split payloads) ∙ append_assoc header (flat_map record_of payloads) rest in
+    listed_from payloads header rest file 16 at place whole refl found
+
+-- a payload's place is nine bytes behind the records before it
+position_from : (payloads : List (List ℕ)) (start at : ℕ) (place : ℕ × ℕ) → slice_get (places_from start payloads) at ≡ Some place
+    → place.0 ≡ start + length (flat_map record_of (take at payloads))
+position_from [] start at place found = absurd cc
+position_from (payload ∷ payloads) start zero place found =
+    let here : (start, length payload) ≡ place = cc in
+    let same : start ≡ start + 0 = omega arith in
+    sym (ap (λ (p : ℕ × ℕ). p.0) here) ∙ same
+position_from (payload ∷ payloads) start (suc at) place found =
+    omega (
+      arith,
+      position_from payloads (start + length payload + 9) at place found,
+      length-record_of payload,
+      length-append (record_of payload) (flat_map record_of (take at payloads)),
+    )
+
+pub position : (payloads : List (List ℕ)) (at : ℕ) (place : ℕ × ℕ) → slice_get (places_of payloads) at ≡ Some place
+    → place.0 ≡ length (records_of (take at payloads)) + 9
+position payloads at place found = omega (arith, position_from payloads 16 at place found, length-records_of (take at payloads))
 
 pub length-framed : (payload : List ℕ) → length (framed payload) ≡ length payload + 9
 length-framed payload = omega (arith, length-append (to_be_bytes w64 (length payload)) (payload ++ 0 ∷ []), length-append payload (0 ∷ []))

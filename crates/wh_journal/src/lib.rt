@@ -10,6 +10,7 @@ mod open;
 mod payload;
 mod reading;
 mod records;
+mod recover;
 
 pub use fault::{AppendFault, OpenFault, ReadFault};
 pub use journal::Journal;

@@ -2,8 +2,9 @@ use crate::Journal;
 use std::alloc::AllocError;
 
 impl Journal {
-    ghost use Rattle.std.specs.Prelude.{◌≡◌, ◌+◌, ◌-◌, ◌<◌, ◌≤◌, ◌^◌, min, Some, OnOk, OnErr, slice_get};
-    ghost use Rattle.wh_journal.specs.Journal.{HasRoom, IsSame, AddsPlace, end_of, count_of, failed_of, places_in};
+    ghost use Rattle.std.specs.Prelude.{◌≡◌, ◌+◌, ◌-◌, ◌<◌, ◌≤◌, ◌^◌, min, length, take, ℕ, List, Some, OnOk, OnErr, slice_get};
+    ghost use Rattle.wh_journal.specs.Journal.{Lists, HasRoom, IsSame, AddsPlace, end_of, count_of, failed_of, places_in};
+    ghost use Rattle.wh_machine.specs.File.{records_of};
 
     /// Makes room for one more place.
     pub fn reserve(&mut self) -> Result<(), AllocError>
@@ -32,6 +33,7 @@ impl Journal {
         requires { at < count_of self.now }
         ensures listed { slice_get (places_in self.now) at ≡ Some result }
         ensures within { result.0 + result.1 < end_of self.now }
+        ensures position { (payloads : List (List ℕ)) → Lists payloads self.now → result.0 ≡ length (records_of (take at payloads)) + 9 }
     {
         self.places[at as usize]
     }

@@ -1,5 +1,3 @@
-use crate::reading::has_header;
-use crate::records::{begin, empty, list_records};
 use crate::{Journal, OpenFault};
 use std::alloc::Global;
 use wh_world::Disk;
@@ -10,7 +8,7 @@ impl Journal {
     ghost use Rattle.wh_world.specs.Crash.{Only};
     ghost use Rattle.wh_machine.specs.File.{IsFileOf, header};
     ghost use Rattle.wh_journal.specs.Journal.{Lists, end_of, limit_of, failed_of, count_of};
-    ghost use Rattle.wh_journal.specs.Fault.{IsFirstFault};
+    ghost use Rattle.wh_journal.specs.Fault.{IsJournalFault};
     ghost use Rattle.wh_journal.specs.Crash.{LeavesOnly, IsKeptOrShort};
 
     /// The journal of a file. One of at most 8 bytes is written anew, without records. Nothing is written to a longer one.
@@ -40,19 +38,13 @@ impl Journal {
 
         ensures refused { (at : ℕ) (file : List ℕ) → IsErrOf result (OpenFault.NotWarehouse at) → D.bytes disk.old ≡ Some file →
             (8 < length file) × ((payloads : List (List ℕ)) → IsFileOf payloads file → ⊥) }
-        ensures place { (at : ℕ) (file : List ℕ) → IsErrOf result (OpenFault.NotWarehouse at) → D.bytes disk.old ≡ Some file → IsFirstFault file at }
+        ensures place { (at : ℕ) (file : List ℕ) → IsErrOf result (OpenFault.NotWarehouse at) → D.bytes disk.old ≡ Some file → IsJournalFault file at }
         ensures kept { (at : ℕ) → IsErrOf result (OpenFault.NotWarehouse at) → D.bytes disk.new ≡ D.bytes disk.old }
         ensures disk_fault { IsErrOf result OpenFault.DiskFault → Rose (D.faults disk.old) (D.faults disk.new) }
     {
-        // What is read from here on is on the disk, whatever was written before.
-        disk.sync()?;
-        let size = disk.len()?;
-        if size <= 8 {
-            return begin(alloc, disk, limit);
+        match Journal::recover(alloc, disk, limit)? {
+            (journal, None) => Ok(journal),
+            (_, Some(at)) => Err(OpenFault::NotWarehouse { at }),
         }
-        if !has_header(disk)? {
-            return Err(OpenFault::NotWarehouse { at: 0 });
-        }
-        list_records(disk, size, empty(alloc, limit))
     }
 }

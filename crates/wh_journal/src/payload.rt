@@ -3,10 +3,10 @@ use std::alloc::Global;
 use wh_world::Disk;
 
 impl Journal {
-    ghost use Rattle.std.specs.Prelude.{◌≡◌, ◌+◌, ◌<◌, ◌≤◌, List, ℕ, Some, length, IfOk, IsErrOf, slice_get};
+    ghost use Rattle.std.specs.Prelude.{◌≡◌, ◌+◌, ◌<◌, ◌≤◌, ◌++◌, List, ℕ, Some, IfOk, IsErrOf, slice_get};
     ghost use Rattle.wh_world.specs.Told.{Rose};
     ghost use Rattle.wh_world.specs.Crash.{NoOthers};
-    ghost use Rattle.wh_machine.specs.File.{IsFileOf};
+    ghost use Rattle.wh_machine.specs.File.{records_of};
     ghost use Rattle.wh_journal.specs.Journal.{Lists, end_of, count_of};
     ghost use Rattle.wh_journal.specs.Crash.{LeavesOnly};
 
@@ -18,9 +18,10 @@ impl Journal {
         at: u64,
     ) -> Result<Vec<u8>, ReadFault>
         requires listed { at < count_of self.now }
-        requires reach { end_of self.now ≤ D.size disk.old }
-        ensures read { IfOk result (λ bytes. (payloads : List (List ℕ)) (file : List ℕ) → D.bytes disk.old ≡ Some file →
-            IsFileOf payloads file → Lists payloads self.now → slice_get payloads at ≡ Some bytes.items) }
+        requires reach { end_of self.now ≤ D.size disk.old + 1 }
+        // Where the records of the listed payloads stand at the front of the file.
+        ensures read { IfOk result (λ bytes. (payloads : List (List ℕ)) (file rest : List ℕ) → D.bytes disk.old ≡ Some file →
+            file ≡ records_of payloads ++ rest → Lists payloads self.now → slice_get payloads at ≡ Some bytes.items) }
         ensures same { (D.bytes disk.new ≡ D.bytes disk.old) × (D.size disk.new ≡ D.size disk.old) }
         ensures reads { (D.reads disk.old ≤ D.reads disk.new) × (D.reads disk.new ≤ D.reads disk.old + 1) }
         ensures crash { NoOthers (D.may_leave disk.old) (D.may_leave disk.new) }

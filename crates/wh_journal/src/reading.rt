@@ -30,7 +30,7 @@ pub(crate) fn read_head<D: Disk>(disk: &mut D, gate: u64, size: u64) -> Result<H
     requires within { gate < size }
     requires size { size ≡ D.size disk.old }
     ensures says { IfOk result (λ head. (file : List ℕ) → D.bytes disk.old ≡ Some file → Says (drop gate file) head) }
-    ensures leaves { IfOk result (LeavesGate (size - (gate + 9))) }
+    ensures leaves { IfOk result (LeavesGate (size - gate)) }
     ensures same { (D.bytes disk.new ≡ D.bytes disk.old) × (D.size disk.new ≡ D.size disk.old) }
     ensures reads { D.reads disk.new ≤ D.reads disk.old + 1 }
     ensures crash { NoOthers (D.may_leave disk.old) (D.may_leave disk.new) }
@@ -51,7 +51,7 @@ pub(crate) fn read_head<D: Disk>(disk: &mut D, gate: u64, size: u64) -> Result<H
 // What a gate with fewer than 8 bytes behind it says.
 fn short_head(gate: u8) -> Head
     ensures says { (rest : List ℕ) → length rest < 8 → Says (gate ∷ rest) result }
-    ensures leaves { LeavesGate 0 result }
+    ensures leaves { (left : ℕ) → LeavesGate left result }
 {
     if gate == 1 { Head::Cut } else { Head::Closed }
 }
@@ -60,7 +60,7 @@ fn short_head(gate: u8) -> Head
 fn head_of(bytes: &[u8], left: u64) -> Head
     requires { length bytes.now ≡ 9 }
     ensures says { (rest : List ℕ) → length rest ≡ left → Says (bytes.now ++ rest) result }
-    ensures leaves { LeavesGate left result }
+    ensures leaves { LeavesGate (9 + left) result }
 {
     if bytes[0] != 1 {
         return Head::Closed;
@@ -71,7 +71,7 @@ fn head_of(bytes: &[u8], left: u64) -> Head
     if len < left {
         Head::Whole(len)
     } else if len == left {
-        Head::NoGate
+        Head::NoGate(len)
     } else {
         Head::Cut
     }

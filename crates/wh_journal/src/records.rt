@@ -1,15 +1,15 @@
-ghost use Rattle.std.specs.Prelude.{◌≡◌, ◌+◌, ◌-◌, ◌<◌, ◌≤◌, ◌^◌, [], ◌∷◌, ◌++◌, List, ℕ, Some, None, length, is_some, max, option_map, OnOk, OnErr, IfOk, IsErrOf};
+ghost use Rattle.std.specs.Prelude.{◌≡◌, ◌+◌, ◌-◌, ◌<◌, ◌≤◌, ◌^◌, [], ◌∷◌, ◌++◌, List, ℕ, Some, None, length, is_some, max, option_map, OnOk, OnErr, IfOk, IsErrOf, MatchOption};
 ghost use Rattle.wh_world.specs.Told.{Rose};
 ghost use Rattle.wh_world.specs.Bytes.{written, Torn};
 ghost use Rattle.wh_world.specs.Crash.{Only, NoOthers};
 ghost use Rattle.wh_machine.specs.File.{IsFileOf, header};
 ghost use Rattle.wh_journal.specs.Journal.{Lists, end_of, limit_of, failed_of, count_of};
-ghost use Rattle.wh_journal.specs.Fault.{BeginsWith, IsFirstFault};
+ghost use Rattle.wh_journal.specs.Fault.{BeginsWith, EndsEarly};
 ghost use Rattle.wh_journal.specs.Crash.{LeavesOnly};
 
 use crate::head::Head;
 use crate::reading::read_head;
-use crate::{Journal, OpenFault};
+use crate::{Journal, ReadFault};
 use std::alloc::Global;
 use wh_world::Disk;
 
@@ -30,7 +30,7 @@ pub(crate) fn empty(alloc: Global, limit: u64) -> Journal
 }
 
 /// Writes a file without records over one of at most 8 bytes.
-pub(crate) fn begin<D: Disk>(alloc: Global, disk: &mut D, limit: u64) -> Result<Journal, OpenFault>
+pub(crate) fn begin<D: Disk>(alloc: Global, disk: &mut D, limit: u64) -> Result<Journal, ReadFault>
     requires short { D.size disk.old ≤ 8 }
     requires most { limit ≤ 2 ^ 40 }
     ensures told { OnOk result ((file : List ℕ) → D.bytes disk.old ≡ Some file → D.bytes disk.new ≡ Some (header ++ 0 ∷ [])) }
@@ -44,42 +44,48 @@ pub(crate) fn begin<D: Disk>(alloc: Global, disk: &mut D, limit: u64) -> Result<
     ensures healthy { IfOk result (λ j. failed_of j ≡ None) }
     ensures reads { D.reads disk.new ≡ D.reads disk.old }
     ensures later { D.faults disk.old ≤ D.faults disk.new }
-    ensures taken { (at : ℕ) → IsErrOf result (OpenFault.NotWarehouse at) → ⊥ }
-    ensures disk_fault { IsErrOf result OpenFault.DiskFault → Rose (D.faults disk.old) (D.faults disk.new) }
+    ensures disk_fault { IsErrOf result ReadFault.DiskFault → Rose (D.faults disk.old) (D.faults disk.new) }
 {
     disk.write_at(0, b"WHCORE1\0")?;
     disk.sync()?;
     Ok(empty(alloc, limit))
 }
 
-/// Lists the records from the journal's present gate on, each by one read of its head.
+/// Lists the whole records from the journal's present gate on, each by one read of its head. Beside the journal the
+/// position of the fault behind them, if there is one.
 pub(crate) fn list_records<D: Disk>(
     disk: &mut D,
     size: u64,
     mut journal: Journal,
-) -> Result<Journal, OpenFault>
+) -> Result<(Journal, Option<u64>), ReadFault>
     requires begins { (file : List ℕ) → D.bytes disk.old ≡ Some file → BeginsWith file journal }
     requires reach { end_of journal ≤ size }
     requires size { size ≡ D.size disk.old }
-    ensures long { IfOk result (λ j. (file : List ℕ) → D.bytes disk.old ≡ Some file → ((payloads : List (List ℕ)) × IsFileOf payloads file × Lists payloads j)) }
-    ensures place { (at : ℕ) (file : List ℕ) → IsErrOf result (OpenFault.NotWarehouse at) → D.bytes disk.old ≡ Some file → IsFirstFault file at }
-    ensures reach { IfOk result (λ j. end_of j ≤ D.size disk.new) }
-    ensures limit { IfOk result (λ j. limit_of j ≡ limit_of journal) }
-    ensures healthy { IfOk result (λ j. failed_of j ≡ failed_of journal) }
-    ensures cost { IfOk result (λ j. D.reads disk.new + count_of journal ≤ D.reads disk.old + count_of j + 1) }
+    requires fits { size < 2 ^ 64 - 1 }
+    ensures long { IfOk result (λ r. (file : List ℕ) → D.bytes disk.old ≡ Some file → MatchOption r.1
+        ((payloads : List (List ℕ)) × IsFileOf payloads file × Lists payloads r.0)
+        (λ at. (payloads : List (List ℕ)) × EndsEarly file payloads at × Lists payloads r.0)) }
+    ensures reach { IfOk result (λ r. end_of r.0 ≤ size + 1) }
+    ensures whole_reach { IfOk result (λ r. r.1 ≡ None → end_of r.0 ≤ size) }
+    ensures limit { IfOk result (λ r. limit_of r.0 ≡ limit_of journal) }
+    ensures healthy { IfOk result (λ r. failed_of r.0 ≡ failed_of journal) }
+    ensures cost { IfOk result (λ r. D.reads disk.new + count_of journal ≤ D.reads disk.old + count_of r.0 + 1) }
     ensures same { (D.bytes disk.new ≡ D.bytes disk.old) × (D.size disk.new ≡ D.size disk.old) }
     ensures crash { NoOthers (D.may_leave disk.old) (D.may_leave disk.new) }
     ensures any_moment { LeavesOnly D.moment D.left_since disk.old disk.new (D.may_leave disk.old) }
     ensures later { D.faults disk.old ≤ D.faults disk.new }
-    ensures disk_fault { IsErrOf result OpenFault.DiskFault → Rose (D.faults disk.old) (D.faults disk.new) }
+    ensures disk_fault { IsErrOf result ReadFault.DiskFault → Rose (D.faults disk.old) (D.faults disk.new) }
 {
     loop {
         let gate = journal.end - 1;
         match read_head(disk, gate, size)? {
-            Head::Closed => return Ok(journal),
+            Head::Closed => return Ok((journal, None)),
             Head::Whole(len) => journal.list(len)?,
-            Head::Cut => return Err(OpenFault::NotWarehouse { at: gate }),
-            Head::NoGate => return Err(OpenFault::NotWarehouse { at: size }),
+            Head::NoGate(len) => {
+                journal.list(len)?;
+                return Ok((journal, Some(size)));
+            }
+            Head::Cut => return Ok((journal, Some(gate))),
         }
     }
 }

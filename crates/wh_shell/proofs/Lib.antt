@@ -1,3 +1,10 @@
 pub mod LoneWord
+pub mod Written
+pub mod Within
+pub mod Survival
+pub mod Halting
+pub mod Safety
+pub mod RoomLemmas
 pub mod Progress
+pub mod Opening
 pub mod Ending

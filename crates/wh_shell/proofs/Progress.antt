@@ -1,55 +1,39 @@
 -- What is written and answered goes on from turn to turn.
-use Rattle.std.proofs.Common.{◌≡◌, ℕ, ◌+◌, ◌-◌, ◌<◌, ◌≤◌, List, [], ◌∷◌, ◌++◌, length, take, drop, refl, ap, sym, ◌∙◌, subst, arith, append_assoc, add_assoc, add-zero, append-nil, Option, Some, None, Bool, true, false}
+use Rattle.std.proofs.Common.{◌≡◌, ℕ, ◌+◌, ◌<◌, ◌≤◌, List, [], ◌∷◌, ◌++◌, length, refl, ap, sym, ◌∙◌, subst, arith, append_assoc, add-zero, append-nil, length-append, Option, Some, None, Bool, true, false}
 use Rattle.std.specs.Prelude.{option_map, if◌then◌else◌}
-use Rattle.std.proofs.Math.Seq.{take-add}
-use Rattle.std.proofs.lemmas.List.{take-append-drop}
-use Rattle.std.proofs.lemmas.Grind.{common_steps}
 use Rattle.wh_machine.specs.Table.{State}
 use Rattle.wh_machine.specs.Step.{Event, step, after, text, refusals}
 use Rattle.wh_machine.specs.Reply.{is_refusal, print}
 use Rattle.wh_machine.specs.Script.{events}
+use Rattle.wh_machine.specs.Stop.{StandsWithin}
+use Rattle.wh_machine.proofs.ReplyLaws.{after_append, text_append, refusals_append}
 use Rattle.wh_text.specs.Turn.{Gives, command_event, ahead_and}
 use Rattle.wh_text.specs.Script.{Counts}
 use Rattle.wh_text.specs.declared.script.Script.{Script}
+use Rattle.wh_journal.specs.Crash.{LeavesOnly}
+use Rattle.wh_journal.proofs.CrashLemmas.{both, weaker}
+use Rattle.wh_engine.specs.Warehouse.{StandsForEither}
 use Rattle.wh_shell.specs.Run.{IsFront}
-use Rattle.wh_shell.specs.Serving.{Writes, WritesFront, refusals_of, AnswersFirst, Answers, Finds, Stops, Answering, IsTurn, IsStop, Reads, IsServed, IsReadThrough, GoesOn, Goes}
+use Rattle.wh_shell.specs.Crash.{Halts}
+use Rattle.wh_shell.specs.Serving.{refusals_of, AnswersFirst, Answers, Finds, Stops, Answering, IsTurn, IsStop, Reads, IsServed, IsReadThrough, GoesOn, Goes}
 use Rattle.wh_shell.specs.declared.status.Status.{Status}
 use Rattle.wh_shell.specs.declared.status.Status.TheVariants as status
 use Rattle.wh_shell.specs.declared.turn.Turn.{Turn}
 use Rattle.wh_shell.specs.declared.turn.Turn.TheVariants.{Ended, Answered, Stopped}
-
--- two pieces are written one behind the other
-pub writes_both : (first second : List ℕ) (a b c : Option (List ℕ)) → Writes first a b → Writes second b c → Writes (first ++ second) a c
-writes_both first second None b c one two = two ∙ ap (option_map (λ held. held ++ second)) one
-writes_both first second (Some held) b c one two = two ∙ ap (option_map (λ x. x ++ second)) one ∙ ap Some (append_assoc held first second)
-
--- a slice from a place on is the rest
-rest_whole : (piece : List ℕ) (at : ℕ) → take (length piece - at) (drop at piece) ≡ drop at piece
-rest_whole piece at = grind (arith, common_steps)
-
--- n more bytes of a piece are written behind its first ones
-pub writes_more : (piece : List ℕ) (at n : ℕ) (a b c : Option (List ℕ)) → Writes (take at piece) a b →
-    Writes (take n (take (length piece - at) (drop at piece))) b c → Writes (take (at + n) piece) a c
-writes_more piece at n a b c one two =
-    let parts : take at piece ++ take n (take (length piece - at) (drop at piece)) ≡ take (at + n) piece =
-    ap (λ rest. take at piece ++ take n rest) (rest_whole piece at) ∙ sym (take-add at n piece) in
-    subst (λ (x : List ℕ). Writes x a c) parts (writes_both (take at piece) (take n (take (length piece - at) (drop at piece))) a b c one two)
-
--- what is written so far is a front
-pub writes_front : (piece : List ℕ) (at : ℕ) (a b : Option (List ℕ)) → Writes (take at piece) a b → WritesFront piece a b
-writes_front piece at a b so_far = record { front = take at piece; rest = drop at piece; parts = take-append-drop at piece; written = so_far }
+use Rattle.wh_shell.proofs.Within.{within_none, within_either, within_wider}
 
 -- ---- one turn
 
+-- a reply counts as one refusal at most
 choice_few : (refused : Bool) → (if refused then 1 else 0) ≤ 1
 choice_few true = omega arith
 choice_few false = omega arith
 
 -- a front of a command's reply is a front of the text of all that was left
-front_of_reply : (old : State) (command : List ℕ) (input before rest : List ℕ) (held held_new : Option (List ℕ)) →
+front_of_reply : (given : Type 0) (may_leave : List ℕ → Type 0) (old : State) (command : List ℕ) (input before rest : List ℕ) (held held_new : Option (List ℕ)) →
     events input ≡ command_event command ∷ events rest → held ≡ Some before →
-    WritesFront (print (step old (command_event command)).1) held held_new → IsFront old input before held_new
-front_of_reply old command input before rest held held_new first told writes =
+    Halts given may_leave old (command_event command) held held_new → IsFront old input before held_new
+front_of_reply given may_leave old command input before rest held held_new first told writes =
     let e : Event = command_event command in
     let behind : List ℕ = text (step old e).0 (events rest) in
     record {
@@ -60,24 +44,24 @@ front_of_reply old command input before rest held held_new first told writes =
     }
 
 -- a turn whose command is the first one of what was left
-pub turn_of_command : (old new : State) (command : List ℕ) (left left_new held held_new : Option (List ℕ)) (turn : Turn) →
-    Gives left command left_new → Answering old new (command_event command) held held_new turn → IsTurn old new left left_new held held_new turn
-turn_of_command old new command left left_new held held_new Ended gives done = absurd done
-turn_of_command old new command left left_new held held_new (Answered count) gives done = record {
+pub turn_of_command : (given : Type 0) (may_leave : List ℕ → Type 0) (old new : State) (command : List ℕ) (left left_new held held_new : Option (List ℕ)) (turn : Turn) →
+    Gives left command left_new → Answering given may_leave old new (command_event command) held held_new turn → IsTurn old new left left_new held held_new turn
+turn_of_command given may_leave old new command left left_new held held_new Ended gives done = absurd done
+turn_of_command given may_leave old new command left left_new held held_new (Answered count) gives done = record {
   few = subst (λ (x : ℕ). x ≤ 1) (sym done.refused) (choice_few (is_refusal (step old (command_event command)).1));
-  each = λ input before told_left told_held. let given = gives.each input told_left in record {
+  each = λ input before told_left told_held. let found = gives.each input told_left in record {
     event = command_event command;
-    rest = given.0;
-    left = given.1;
-    first = given.2;
+    rest = found.0;
+    left = found.1;
+    first = found.2;
     state = done.state;
     written = done.written ∙ ap (option_map (λ x. x ++ print (step old (command_event command)).1)) told_held;
     refused = done.refused;
   };
 }
-turn_of_command old new command left left_new held held_new (Stopped why) gives done = record {
-  each = λ input before told_left told_held. let given = gives.each input told_left in
-      front_of_reply old command input before given.0 held held_new given.2 told_held done;
+turn_of_command given may_leave old new command left left_new held held_new (Stopped why) gives done = record {
+  each = λ input before told_left told_held. let found = gives.each input told_left in
+      front_of_reply given may_leave old command input before found.0 held held_new found.2 told_held done;
 }
 
 -- ---- all turns so far
@@ -86,60 +70,29 @@ turn_of_command old new command left left_new held held_new (Stopped why) gives 
 pub starts : (ahead input : List ℕ) (left : Option (List ℕ)) → ahead ≡ [] → left ≡ Some input → ahead_and ahead left ≡ Some input
 starts ahead input left none told = rw (told, none)
 
-goes_on_more : (start now new : State) (input before rest : List ℕ) (left held left_new held_new : Option (List ℕ)) (count more : ℕ) →
-    (so_far : GoesOn start now input before left held count) → AnswersFirst now new so_far.rest (before ++ so_far.front) left_new held_new more →
-    GoesOn start new input before left_new held_new (count + more)
-goes_on_more start now new input before rest left held left_new held_new count more so_far answer =
-    let event : Event = answer.event in
-    let reply : List ℕ = print (step now event).1 in
-    let others : List Event = events answer.rest in
-    record {
-      rest = answer.rest;
-      left_is = answer.left;
-      front = so_far.front ++ reply;
-      held_is = answer.written ∙ ap Some (append_assoc before so_far.front reply);
-      parts = append_assoc so_far.front reply (text new others)
-          ∙ ap (λ s. so_far.front ++ (reply ++ text s others)) answer.state
-          ∙ ap (λ es. so_far.front ++ text now es) (sym answer.first)
-          ∙ so_far.parts;
-      refused = add_assoc count more (refusals new others)
-          ∙ ap (λ n. count + (n + refusals new others)) answer.refused
-          ∙ ap (λ s. count + (refusals_of now event + refusals s others)) answer.state
-          ∙ ap (λ es. count + refusals now es) (sym answer.first)
-          ∙ so_far.refused;
-      state = ap (λ s. after s others) answer.state ∙ ap (after now) (sym answer.first) ∙ so_far.state;
-    }
+-- one event behind the first ones
+abbrev then_one : List Event → Event → List Event
+then_one done event = done ++ event ∷ []
 
--- one more command was carried out
-pub goes_more : (start now new : State) (left_start left left_new held_start held held_new : Option (List ℕ)) (count more : ℕ) →
-    Goes start now left_start left held_start held count → Answers now new left left_new held held_new more →
-    Goes start new left_start left_new held_start held_new (count + more)
-goes_more start now new left_start left left_new held_start held held_new count more goes answers = record {
-  each = λ input before told_left told_held.
-      let so_far : GoesOn start now input before left held count = goes.each input before told_left told_held in
-      goes_on_more start now new input before so_far.rest left held left_new held_new count more so_far
-      (answers.each so_far.rest (before ++ so_far.front) so_far.left_is so_far.held_is);
-}
+-- the text of the first events, and the reply to one more
+text_one : (start now : State) (done : List Event) (event : Event) → now ≡ after start done →
+    text start done ++ print (step now event).1 ≡ text start (then_one done event)
+text_one start now done event state =
+    ap (λ s. text start done ++ print (step s event).1) state
+    ∙ ap (λ l. text start done ++ l) (sym (append-nil (print (step (after start done) event).1)))
+    ∙ sym (text_append start done (event ∷ []))
 
--- a front of the rest is a front of the whole
-front_more : (start now : State) (input before : List ℕ) (left held held_new : Option (List ℕ)) (count : ℕ) →
-    GoesOn start now input before left held count → Stops now left held held_new → IsFront start input before held_new
-front_more start now input before left held held_new count so_far stops =
-    let last : IsFront now so_far.rest (before ++ so_far.front) held_new =
-    stops.each so_far.rest (before ++ so_far.front) so_far.left_is so_far.held_is in
-    record {
-      front = so_far.front ++ last.front;
-      rest = last.rest;
-      parts = append_assoc so_far.front last.front last.rest ∙ ap (λ x. so_far.front ++ x) last.parts ∙ so_far.parts;
-      written = last.written ∙ ap Some (append_assoc before so_far.front last.front);
-    }
+-- their refusals, and that of one more
+refusals_one : (start now : State) (done : List Event) (event : Event) → now ≡ after start done →
+    refusals start done + refusals_of now event ≡ refusals start (then_one done event)
+refusals_one start now done event state =
+    ap (λ s. refusals start done + refusals_of s event) state
+    ∙ ap (λ n. refusals start done + n) (sym (add-zero (refusals_of (after start done) event)))
+    ∙ sym (refusals_append start done (event ∷ []))
 
--- what was written so far is a front
-pub front_so_far : (start now : State) (input before : List ℕ) (left held : Option (List ℕ)) (count : ℕ) →
-    GoesOn start now input before left held count → IsFront start input before held
-front_so_far start now input before left held count so_far =
-    record { front = so_far.front; rest = text now (events so_far.rest); parts = so_far.parts; written = so_far.held_is }
+-- ---- the end
 
+-- a run that stopped has written a front
 front_served : (start new : State) (input before : List ℕ) (why : Status) (held_new left_new : Option (List ℕ)) →
     IsStop why → IsFront start input before held_new → IsServed start new input before why held_new left_new
 front_served start new input before status.Done held_new left_new stop front = absurd stop
@@ -153,31 +106,13 @@ front_served start new input before (status.NotWarehouse at) held_new left_new s
 front_served start new input before (status.FileFull len need) held_new left_new stop front = front
 front_served start new input before (status.ScriptTooLong taken) held_new left_new stop front = front
 
--- the run stopped at a turn
-pub stopped_served : (start now new : State) (input before : List ℕ) (left held held_new left_new : Option (List ℕ)) (count : ℕ) (why : Status) →
-    GoesOn start now input before left held count → Stops now left held held_new → IsStop why → IsServed start new input before why held_new left_new
-stopped_served start now new input before left held held_new left_new count why so_far stops stop =
-    front_served start new input before why held_new left_new stop (front_more start now input before left held held_new count so_far stops)
-
+-- where nothing is unread, the source has nothing left
 nothing_left : (ahead : List ℕ) (left : Option (List ℕ)) → ahead_and ahead left ≡ Some [] → left ≡ Some []
 nothing_left ahead None none = cc
 nothing_left [] (Some rest) none = none
 nothing_left (b ∷ ahead) (Some rest) none = cc
 
-reads_all : (start now new : State) (input before ahead : List ℕ) (left held held_new left_new : Option (List ℕ)) (count : ℕ) →
-    GoesOn start now input before left held count → Finds now new left (ahead_and ahead left_new) held held_new →
-    Reads start new input before count held_new left_new
-reads_all start now new input before ahead left held held_new left_new count so_far finds =
-    let end = finds.ends.each so_far.rest so_far.left_is in
-    let none : events so_far.rest ≡ [] = end.1 in
-    record {
-      state = finds.state ∙ ap (after now) (sym none) ∙ so_far.state;
-      written = finds.written ∙ so_far.held_is
-          ∙ ap (λ x. Some (before ++ x)) (sym (append-nil so_far.front) ∙ ap (λ es. so_far.front ++ text now es) (sym none) ∙ so_far.parts);
-      refused = sym (add-zero count) ∙ ap (λ es. count + refusals now es) (sym none) ∙ so_far.refused;
-      read = nothing_left ahead left_new end.0;
-    }
-
+-- a run that read its script to the end has written all
 through_served : (start new : State) (input before : List ℕ) (count : ℕ) (why : Status) (held_new left_new : Option (List ℕ)) →
     IsReadThrough count why → Reads start new input before count held_new left_new → IsServed start new input before why held_new left_new
 through_served start new input before count status.Done held_new left_new through reads =
@@ -195,16 +130,131 @@ through_served start new input before count (status.NotWarehouse at) held_new le
 through_served start new input before count (status.FileFull len need) held_new left_new through reads = absurd through
 through_served start new input before count (status.ScriptTooLong taken) held_new left_new through reads = absurd through
 
--- the script was read to its end
-pub ended_served : (start now new : State) (input before ahead : List ℕ) (left held held_new left_new : Option (List ℕ)) (count : ℕ) (why : Status) →
-    GoesOn start now input before left held count → Finds now new left (ahead_and ahead left_new) held held_new → IsReadThrough count why →
-    IsServed start new input before why held_new left_new
-ended_served start now new input before ahead left held held_new left_new count why so_far finds through =
-    through_served start new input before count why held_new left_new through
-    (reads_all start now new input before ahead left held held_new left_new count so_far finds)
+-- ---- from turn to turn
+
+module _ {D : Type 0} (moment : D → ℕ) (left_since : D → ℕ → List ℕ → Type 0) (told : Type 0) where
+  -- no turn yet
+  pub goes_not_yet : (first : D) (start : State) (left held : Option (List ℕ)) →
+      (told → LeavesOnly moment left_since first first (StandsForEither start start)) → Goes moment left_since told first first start start left left held held 0
+  goes_not_yet first start left held run = record {
+    each = λ input before told_left told_held. record {
+      rest = input;
+      left_is = told_left;
+      done = [];
+      parts = refl;
+      state = refl;
+      held_is = told_held ∙ ap Some (sym (append-nil before));
+      refused = refl;
+      leaves = λ is. weaker moment left_since first first (StandsForEither start start) (StandsWithin start (events input) 0 0)
+          (λ image either. within_none start (events input) 0 0 image (omega arith) either) (run is);
+    };
+  }
+
+  -- one more command, over a told script and told output
+  goes_on_more : (first mid last : D) (start now new : State) (input before : List ℕ) (left held left_new held_new : Option (List ℕ)) (count more : ℕ) →
+      (so_far : GoesOn moment left_since told first mid start now input before left held count) →
+      (told → LeavesOnly moment left_since mid last (StandsForEither now new)) →
+      AnswersFirst now new so_far.rest (before ++ text start so_far.done) left_new held_new more →
+      GoesOn moment left_since told first last start new input before left_new held_new (count + more)
+  goes_on_more first mid last start now new input before left held left_new held_new count more so_far run answer =
+      let event : Event = answer.event in
+      let others : List Event = events answer.rest in
+      let all : List Event = events input in
+      let done : List Event = so_far.done in
+      let behind : done ++ event ∷ others ≡ all = ap (λ es. done ++ es) (sym answer.first) ∙ so_far.parts in
+      record {
+        rest = answer.rest;
+        left_is = answer.left;
+        done = then_one done event;
+        parts = append_assoc done (event ∷ []) others ∙ behind;
+        state = answer.state ∙ ap (λ s. (step s event).0) so_far.state ∙ sym (after_append start done (event ∷ []));
+        held_is = answer.written ∙ ap Some (append_assoc before (text start done) (print (step now event).1))
+            ∙ ap (λ l. Some (before ++ l)) (text_one start now done event so_far.state);
+        refused = ap (λ n. n + more) so_far.refused ∙ ap (λ n. refusals start done + n) answer.refused ∙ refusals_one start now done event so_far.state;
+        leaves = λ is. both moment left_since first mid last (StandsWithin start all 0 (length (then_one done event)))
+            (weaker moment left_since first mid (StandsWithin start all 0 (length done)) (StandsWithin start all 0 (length (then_one done event)))
+            (within_wider start all 0 (length done) 0 (length (then_one done event)) (omega arith) (omega (arith, length-append done (event ∷ [])))) (so_far.leaves is))
+            (weaker moment left_since mid last (StandsForEither now new) (StandsWithin start all 0 (length (then_one done event)))
+            (λ image either. within_either start now new all done others event image behind so_far.state answer.state either) (run is));
+      }
+
+  -- one more command was carried out
+  pub goes_more : (first mid last : D) (start now new : State) (left_start left left_new held_start held held_new : Option (List ℕ)) (count more : ℕ) →
+      Goes moment left_since told first mid start now left_start left held_start held count →
+      (told → LeavesOnly moment left_since mid last (StandsForEither now new)) → Answers now new left left_new held held_new more →
+      Goes moment left_since told first last start new left_start left_new held_start held_new (count + more)
+  goes_more first mid last start now new left_start left left_new held_start held held_new count more goes run answers = record {
+    each = λ input before told_left told_held.
+        let so_far : GoesOn moment left_since told first mid start now input before left held count = goes.each input before told_left told_held in
+        goes_on_more first mid last start now new input before left held left_new held_new count more so_far run
+        (answers.each so_far.rest (before ++ text start so_far.done) so_far.left_is so_far.held_is);
+  }
+
+  -- what is left makes up the whole text
+  text_parts : (first mid : D) (start now : State) (input before : List ℕ) (left held : Option (List ℕ)) (count : ℕ) →
+      (so_far : GoesOn moment left_since told first mid start now input before left held count) →
+      text start so_far.done ++ text now (events so_far.rest) ≡ text start (events input)
+  text_parts first mid start now input before left held count so_far =
+      ap (λ s. text start so_far.done ++ text s (events so_far.rest)) so_far.state
+      ∙ sym (text_append start so_far.done (events so_far.rest)) ∙ ap (text start) so_far.parts
+
+  -- a front of the rest is a front of the whole
+  front_more : (first mid : D) (start now : State) (input before : List ℕ) (left held held_new : Option (List ℕ)) (count : ℕ) →
+      GoesOn moment left_since told first mid start now input before left held count → Stops now left held held_new → IsFront start input before held_new
+  front_more first mid start now input before left held held_new count so_far stops =
+      let front : List ℕ = text start so_far.done in
+      let end : IsFront now so_far.rest (before ++ front) held_new = stops.each so_far.rest (before ++ front) so_far.left_is so_far.held_is in
+      record {
+        front = front ++ end.front;
+        rest = end.rest;
+        parts = append_assoc front end.front end.rest ∙ ap (λ x. front ++ x) end.parts
+            ∙ text_parts first mid start now input before left held count so_far;
+        written = end.written ∙ ap Some (append_assoc before front end.front);
+      }
+
+  -- what was written so far is a front
+  pub front_so_far : (first mid : D) (start now : State) (input before : List ℕ) (left held : Option (List ℕ)) (count : ℕ) →
+      GoesOn moment left_since told first mid start now input before left held count → IsFront start input before held
+  front_so_far first mid start now input before left held count so_far = record {
+    front = text start so_far.done;
+    rest = text now (events so_far.rest);
+    parts = text_parts first mid start now input before left held count so_far;
+    written = so_far.held_is;
+  }
+
+  -- the run stopped at a turn
+  pub stopped_served : (first mid : D) (start now new : State) (input before : List ℕ) (left held held_new left_new : Option (List ℕ)) (count : ℕ) (why : Status) →
+      GoesOn moment left_since told first mid start now input before left held count → Stops now left held held_new → IsStop why →
+      IsServed start new input before why held_new left_new
+  stopped_served first mid start now new input before left held held_new left_new count why so_far stops stop =
+      front_served start new input before why held_new left_new stop (front_more first mid start now input before left held held_new count so_far stops)
+
+  -- where no command is left, all of them were carried out
+  reads_all : (first mid : D) (start now new : State) (input before ahead : List ℕ) (left held held_new left_new : Option (List ℕ)) (count : ℕ) →
+      GoesOn moment left_since told first mid start now input before left held count → Finds now new left (ahead_and ahead left_new) held held_new →
+      Reads start new input before count held_new left_new
+  reads_all first mid start now new input before ahead left held held_new left_new count so_far finds =
+      let end = finds.ends.each so_far.rest so_far.left_is in
+      let whole : so_far.done ≡ events input =
+      sym (append-nil so_far.done) ∙ ap (λ es. so_far.done ++ es) (sym end.1) ∙ so_far.parts in
+      record {
+        state = finds.state ∙ so_far.state ∙ ap (after start) whole;
+        written = finds.written ∙ so_far.held_is ∙ ap (λ es. Some (before ++ text start es)) whole;
+        refused = so_far.refused ∙ ap (refusals start) whole;
+        read = nothing_left ahead left_new end.0;
+      }
+
+  -- the script was read to its end
+  pub ended_served : (first mid : D) (start now new : State) (input before ahead : List ℕ) (left held held_new left_new : Option (List ℕ)) (count : ℕ) (why : Status) →
+      GoesOn moment left_since told first mid start now input before left held count → Finds now new left (ahead_and ahead left_new) held held_new →
+      IsReadThrough count why → IsServed start new input before why held_new left_new
+  ended_served first mid start now new input before ahead left held held_new left_new count why so_far finds through =
+      through_served start new input before count why held_new left_new through
+      (reads_all first mid start now new input before ahead left held held_new left_new count so_far finds)
 
 -- ---- the bytes that were taken
 
+-- one turn behind others
 pub counts_on : (a b c : Script) (left_a left_b left_c : Option (List ℕ)) → Counts a b left_a left_b → Counts b c left_b left_c → Counts a c left_a left_c
 counts_on a b c left_a left_b left_c one two = record {
   each = λ left told.
@@ -213,5 +263,6 @@ counts_on a b c left_a left_b left_c one two = record {
       (second.0, second.1, first.2 ∙ second.2);
 }
 
+-- no turn yet
 pub counts_none : (a : Script) (left_a : Option (List ℕ)) → Counts a a left_a left_a
 counts_none a left_a = record { each = λ left told. (left, told, refl) }

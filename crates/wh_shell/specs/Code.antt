@@ -5,6 +5,7 @@ use Rattle.wh_shell.specs.declared.status.Status.TheVariants.{Done, Refused, Usa
 use Rattle.wh_engine.specs.declared.fault.OpenFault.{OpenFault}
 use Rattle.wh_engine.specs.declared.fault.OpenFault.TheVariants as faults
 
+-- the exit code
 abbrev pub code_of : Status → ℕ
 code_of Done = 0
 code_of (Refused count) = 1

@@ -1,5 +1,6 @@
 -- What contracts say of a run.
 --     IsRun        the words that are taken
+--     IsStart      what is told before a run whose file is all on the disk
 --     IsRunOf      over a told file that stands for a state, a told script and told output: what the run wrote and left
 use Rattle.std.specs.Prelude.{◌≡◌, ℕ, ◌+◌, ◌<◌, ◌^◌, List, [], ◌∷◌, ◌++◌, map, length, codes, Option, Some, String, string_bytes}
 use Rattle.std.specs.Global.{Global}
@@ -7,12 +8,21 @@ use Rattle.wh_machine.specs.Table.{State, at_rest}
 use Rattle.wh_machine.specs.Step.{after, text, refusals}
 use Rattle.wh_machine.specs.Script.{events}
 use Rattle.wh_machine.specs.File.{Stands}
+use Rattle.wh_world.specs.Crash.{Only}
 use Rattle.wh_shell.specs.declared.status.Status.{Status}
 use Rattle.wh_shell.specs.declared.status.Status.TheVariants as status
 
 -- the one word `run`
 abbrev pub IsRun : List (String Global) → Type 0
 IsRun words = map string_bytes words ≡ codes "run" ∷ []
+
+-- the file, which stands for a state and is all that a crash may leave, the script, and what was written before
+pub record IsStart (bytes left held : Option (List ℕ)) (may_leave : List ℕ → Type 0) (file input before : List ℕ) (start : State) : Type 0 where
+  pub told_file : bytes ≡ Some file
+  pub only : Only file may_leave
+  pub told_script : left ≡ Some input
+  pub told_output : held ≡ Some before
+  pub stands : Stands file start
 
 -- the script was read to its end: its whole text was written, and the file stands for the state after all events
 pub record IsWhole (start : State) (input held : List ℕ) (count : ℕ) (held_new bytes_new left_new : Option (List ℕ)) : Type 0 where

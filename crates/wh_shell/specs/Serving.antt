@@ -1,34 +1,34 @@
 -- What contracts say of the turns of a run.
---     Writes          a piece was written at the end of what was held
---     WritesFront     a front of it was
 --     CarriesOut      one command was carried out, and its reply written
 --     IsTurn          what a turn did, by how it went
 --     IsServed        what all turns did, by the status
-use Rattle.std.specs.Prelude.{◌≡◌, ℕ, ◌+◌, ◌<◌, ◌≤◌, List, [], ◌∷◌, ◌++◌, Option, Some, option_map, if◌then◌else◌}
+use Rattle.std.specs.Prelude.{◌≡◌, ℕ, ◌<◌, ◌≤◌, List, [], ◌∷◌, ◌++◌, length, Option, Some, if◌then◌else◌}
 use Rattle.wh_machine.specs.Table.{State}
 use Rattle.wh_machine.specs.Step.{Event, step, after, text, refusals}
 use Rattle.wh_machine.specs.Reply.{is_refusal, print}
 use Rattle.wh_machine.specs.Script.{events}
-use Rattle.wh_text.specs.Turn.{Ends}
+use Rattle.wh_machine.specs.Stop.{StandsWithin}
+use Rattle.wh_text.specs.Turn.{ahead_and, Ends}
+use Rattle.wh_text.specs.Script.{ahead_of}
+use Rattle.wh_text.specs.declared.script.Script.{Script}
+use Rattle.wh_journal.specs.Crash.{LeavesOnly}
 use Rattle.wh_shell.specs.Run.{IsFront}
+use Rattle.wh_shell.specs.Crash.{Halts}
+use Rattle.wh_shell.specs.Writing.{Writes}
 use Rattle.wh_shell.specs.declared.turn.Turn.{Turn}
 use Rattle.wh_shell.specs.declared.turn.Turn.TheVariants.{Ended, Answered, Stopped}
 use Rattle.wh_shell.specs.declared.status.Status.{Status}
 use Rattle.wh_shell.specs.declared.status.Status.TheVariants as status
 
-abbrev pub Writes : List ℕ → Option (List ℕ) → Option (List ℕ) → Type 0
-Writes piece old new = new ≡ option_map (λ held. held ++ piece) old
-
-pub record WritesFront (piece : List ℕ) (old new : Option (List ℕ)) : Type 0 where
-  pub front : List ℕ
-  pub rest : List ℕ
-  pub parts : front ++ rest ≡ piece
-  pub written : Writes front old new
+-- what is still to be read of a script
+abbrev pub unread : Script → Option (List ℕ) → Option (List ℕ)
+unread reader left = ahead_and (ahead_of reader) left
 
 -- 1 for a refusal
 abbrev pub refusals_of : State → Event → ℕ
 refusals_of s e = if is_refusal (step s e).1 then 1 else 0
 
+-- a command was carried out, and its whole reply written
 pub record CarriesOut (old new : State) (event : Event) (held held_new : Option (List ℕ)) (count : ℕ) : Type 0 where
   pub state : new ≡ (step old event).0
   pub written : Writes (print (step old event).1) held held_new
@@ -44,15 +44,18 @@ pub record AnswersFirst (old new : State) (input held : List ℕ) (left_new held
   pub written : held_new ≡ Some (held ++ print (step old event).1)
   pub refused : count ≡ refusals_of old event
 
+-- so where script and output are told, and at most one reply more was a refusal
 pub record Answers (old new : State) (left left_new held held_new : Option (List ℕ)) (count : ℕ) : Type 0 where
   pub few : count ≤ 1
   pub each : (input before : List ℕ) → left ≡ Some input → held ≡ Some before → AnswersFirst old new input before left_new held_new count
 
+-- no command was left
 pub record Finds (old new : State) (left left_new held held_new : Option (List ℕ)) : Type 0 where
   pub state : new ≡ old
   pub ends : Ends left left_new
   pub written : held_new ≡ held
 
+-- where script and output are told, a front of the text was written
 pub record Stops (old : State) (left held held_new : Option (List ℕ)) : Type 0 where
   pub each : (input before : List ℕ) → left ≡ Some input → held ≡ Some before → IsFront old input before held_new
 
@@ -68,6 +71,12 @@ Unstopped Ended P = P
 Unstopped (Answered count) P = P
 Unstopped (Stopped why) P = Unit {0}
 
+-- what holds where it did
+abbrev pub AtStop : Turn → Type 0 → Type 0
+AtStop Ended P = Unit {0}
+AtStop (Answered count) P = Unit {0}
+AtStop (Stopped why) P = P
+
 -- a cause that stops a run
 abbrev pub IsStop : Status → Type 0
 IsStop status.Done = ⊥
@@ -81,6 +90,7 @@ IsStop (status.NotWarehouse at) = ⊥
 IsStop (status.FileFull len need) = Unit {0}
 IsStop (status.ScriptTooLong taken) = Unit {0}
 
+-- why a turn stops
 abbrev pub StopsBy : Turn → Type 0
 StopsBy Ended = Unit {0}
 StopsBy (Answered count) = Unit {0}
@@ -93,6 +103,7 @@ pub record Reads (start new : State) (input held : List ℕ) (count : ℕ) (held
   pub refused : count ≡ refusals start (events input)
   pub read : left_new ≡ Some []
 
+-- by the status
 abbrev pub IsServed : State → State → List ℕ → List ℕ → Status → Option (List ℕ) → Option (List ℕ) → Type 0
 IsServed start new input held status.Done held_new left_new = Reads start new input held 0 held_new left_new
 IsServed start new input held (status.Refused count) held_new left_new = (0 < count) × Reads start new input held count held_new left_new
@@ -170,16 +181,17 @@ ComesFromScript (status.NotWarehouse at) = ⊥
 ComesFromScript (status.FileFull len need) = ⊥
 ComesFromScript (status.ScriptTooLong taken) = Unit {0}
 
+-- why a turn stops whose command is known
 abbrev pub HaltsBy : Turn → Type 0
 HaltsBy Ended = ⊥
 HaltsBy (Answered count) = Unit {0}
 HaltsBy (Stopped why) = IsHalt why
 
 -- a turn whose command is known: carried out, or a front of its reply was written
-abbrev pub Answering : State → State → Event → Option (List ℕ) → Option (List ℕ) → Turn → Type 0
-Answering old new event held held_new Ended = ⊥
-Answering old new event held held_new (Answered count) = CarriesOut old new event held held_new count
-Answering old new event held held_new (Stopped why) = WritesFront (print (step old event).1) held held_new
+abbrev pub Answering : Type 0 → (List ℕ → Type 0) → State → State → Event → Option (List ℕ) → Option (List ℕ) → Turn → Type 0
+Answering told may_leave old new event held held_new Ended = ⊥
+Answering told may_leave old new event held held_new (Answered count) = CarriesOut old new event held held_new count
+Answering told may_leave old new event held held_new (Stopped why) = Halts told may_leave old event held held_new
 
 -- the status of a script that was read to its end with so many refusals
 abbrev pub IsReadThrough : ℕ → Status → Type 0
@@ -196,15 +208,21 @@ IsReadThrough refused (status.ScriptTooLong taken) = ⊥
 
 -- ---- the turns so far
 
--- of a told script and told output: a front of the text was written, and what is left makes up the whole
-pub record GoesOn (start now : State) (input before : List ℕ) (left held : Option (List ℕ)) (count : ℕ) : Type 0 where
+-- of a told script and told output: the first events were carried out, and their whole text was written; over a told file
+-- a crash so far left what was committed after some of them
+pub record GoesOn {D : Type 0} (moment : D → ℕ) (left_since : D → ℕ → List ℕ → Type 0) (told : Type 0) (first last : D)
+    (start now : State) (input before : List ℕ) (left held : Option (List ℕ)) (count : ℕ) : Type 0 where
   pub rest : List ℕ
   pub left_is : left ≡ Some rest
-  pub front : List ℕ
-  pub held_is : held ≡ Some (before ++ front)
-  pub parts : front ++ text now (events rest) ≡ text start (events input)
-  pub refused : count + refusals now (events rest) ≡ refusals start (events input)
-  pub state : after now (events rest) ≡ after start (events input)
+  pub done : List Event
+  pub parts : done ++ events rest ≡ events input
+  pub state : now ≡ after start done
+  pub held_is : held ≡ Some (before ++ text start done)
+  pub refused : count ≡ refusals start done
+  pub leaves : told → LeavesOnly moment left_since first last (StandsWithin start (events input) 0 (length done))
 
-pub record Goes (start now : State) (left_start left held_start held : Option (List ℕ)) (count : ℕ) : Type 0 where
-  pub each : (input before : List ℕ) → left_start ≡ Some input → held_start ≡ Some before → GoesOn start now input before left held count
+-- so where script and output are told
+pub record Goes {D : Type 0} (moment : D → ℕ) (left_since : D → ℕ → List ℕ → Type 0) (told : Type 0) (first last : D)
+    (start now : State) (left_start left held_start held : Option (List ℕ)) (count : ℕ) : Type 0 where
+  pub each : (input before : List ℕ) → left_start ≡ Some input → held_start ≡ Some before →
+      GoesOn moment left_since told first last start now input before left held count

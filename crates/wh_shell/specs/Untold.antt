@@ -2,6 +2,7 @@
 use Rattle.std.specs.Prelude.{◌≡◌, Option, Some, None}
 use Rattle.std.proofs.Common.{subst}
 
+-- nothing is told
 abbrev pub NotSome : {A : Type 0} → Option A → Type 0
 NotSome None = Unit {0}
 NotSome (Some x) = ⊥

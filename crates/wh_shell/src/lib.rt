@@ -7,6 +7,8 @@ mod out_sink;
 mod running;
 mod serving;
 mod status;
+#[cfg(test)]
+mod stop_tests;
 mod system_clock;
 #[cfg(test)]
 mod tests;

@@ -1,6 +1,6 @@
 ghost use Rattle.std.specs.Prelude.{◌≤◌, OnOk, OnErr};
 ghost use Rattle.wh_world.specs.Told.{Rose};
-ghost use Rattle.wh_shell.specs.Serving.{Writes, WritesFront};
+ghost use Rattle.wh_shell.specs.Writing.{Writes, WritesFront};
 
 use wh_world::{Failed, Sink};
 

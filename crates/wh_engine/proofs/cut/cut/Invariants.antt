@@ -1,7 +1,7 @@
 use Rattle.std.proofs.Common.{◌≡◌, ◌*◌, length, take, drop}
 use Rattle.std.specs.List.{flat_map}
 use Rattle.wh_machine.specs.Step.{numbered}
-use Rattle.wh_machine.specs.Commit.{NumberedFrom}
+use Rattle.wh_machine.specs.Made.{cut_into}
 use Rattle.wh_engine.proofs.cut.cut.Given as goal
 
 abbrev pub invariant-loop-done : goal.invariant-loop-done
@@ -9,5 +9,5 @@ invariant-loop-done l = record {
   rows : flat_map (λ p. p.rows) l.parts.items ≡ numbered l.first (take (l.done * 1000) l.fn.rows.items);
   left : l.rest.items ≡ drop (l.done * 1000) l.fn.rows.items;
   count : length l.parts.items ≡ l.done;
-  numbers : NumberedFrom l.number l.parts.items;
+  parts : l.parts.items ≡ cut_into l.number l.done (numbered l.first l.fn.rows.items);
 }

@@ -1,8 +1,8 @@
-use Rattle.std.proofs.Common.{◌≡◌, ◌+◌, ◌-◌, ◌∙◌, sym, ap, subst, length, drop, arith, rules}
+use Rattle.std.proofs.Common.{◌+◌, ◌-◌, ◌∙◌, sym, ap, subst, length, drop, arith, rules}
 use Rattle.std.proofs.lemmas.List.{length_push}
-use Rattle.wh_journal.specs.Fault.{IsCut, IsFirstFault}
+use Rattle.wh_machine.specs.Fault.{IsCut}
 use Rattle.wh_journal.specs.Head.{Says, IsClosed, IsWhole, IsLast}
-use Rattle.wh_journal.proofs.CrashLemmas.{started, reads_on}
+use Rattle.wh_journal.proofs.CrashLemmas.{reads_on}
 use Rattle.wh_journal.proofs.ListingLemmas.{begins_more, is_file, cut_at_gate, no_gate_at_end}
 use Rattle.wh_journal.proofs.records.list_records.Goals as goal
 
@@ -33,21 +33,19 @@ loop-journal-preserved g c =
           c.loop-journal.invariant.crash c.loop-journal.invariant.any_moment c.read_head.ensures.any_moment;
     }
 
-pub returns-in-Cut-clause-place : goal.returns-in-Cut-clause-place
-returns-in-Cut-clause-place g c = λ at file is told.
+pub returns-in-Cut-clause-long : goal.returns-in-Cut-clause-long
+returns-in-Cut-clause-long g c = λ file told.
     let j = c.loop-journal.journal in
     let now = c.loop-journal.invariant.told ∙ told in
     let says : IsCut (drop (j.end - 1) file) = subst (Says (drop (j.end - 1) file)) c.in-Cut.is (c.in_ok-read_head.ensures.says file now) in
-    let here : j.end - 1 ≡ at = cc in
-    subst (λ n. IsFirstFault file n) here (cut_at_gate file j (c.loop-journal.invariant.begins file now) says)
+    cut_at_gate file j (c.loop-journal.invariant.begins file now) says
 
-pub returns-in-NoGate-clause-place : goal.returns-in-NoGate-clause-place
-returns-in-NoGate-clause-place g c = λ at file is told.
+pub returns-in-NoGate-clause-long : goal.returns-in-NoGate-clause-long
+returns-in-NoGate-clause-long g c = λ file told.
     let j = c.loop-journal.journal in
     let now = c.loop-journal.invariant.told ∙ told in
-    let says : IsLast (drop (j.end - 1) file) = subst (Says (drop (j.end - 1) file)) c.in-NoGate.is (c.in_ok-read_head.ensures.says file now) in
-    let here : c.args.size ≡ at = cc in
-    no_gate_at_end file j (c.loop-journal.invariant.begins file now) says at (omega (arith, g.met.D.Disk.spans c.loop-journal.disk file now, here))
+    let says : IsLast (drop (j.end - 1) file) c.in-NoGate.len = subst (Says (drop (j.end - 1) file)) c.in-NoGate.is (c.in_ok-read_head.ensures.says file now) in
+    no_gate_at_end file j (c.loop-journal.invariant.begins file now) _ _ c.args.size says c.in_ok-list-in-NoGate.ensures.added (omega (arith, g.met.D.Disk.spans c.loop-journal.disk file now))
 
 pub returns-in_err-read_head-clause-any_moment : goal.returns-in_err-read_head-clause-any_moment
 returns-in_err-read_head-clause-any_moment g c =

@@ -1,6 +1,6 @@
 use Rattle.std.proofs.Common.{arith, rules, ◌∙◌, ℕ, length-take, length-drop}
-use Rattle.wh_shell.specs.Serving.{WritesFront}
-use Rattle.wh_shell.proofs.Progress.{writes_more, writes_front}
+use Rattle.wh_shell.specs.Writing.{WritesFront}
+use Rattle.wh_shell.proofs.Written.{writes_more, writes_front}
 use Rattle.wh_shell.proofs.writing.write_all.Goals as goal
 
 pub pieces-preserved : goal.pieces-preserved

@@ -1,5 +1,5 @@
 use Rattle.std.proofs.Common.{◌-◌, ◌≤◌, length, take}
-use Rattle.wh_shell.specs.Serving.{Writes}
+use Rattle.wh_shell.specs.Writing.{Writes}
 use Rattle.wh_shell.proofs.writing.write_all.Given as goal
 
 abbrev pub invariant-pieces : goal.invariant-pieces
