@@ -1,0 +1,9 @@
+pub mod Standing
+pub mod NumberLemmas
+pub mod WordLemmas
+pub mod QuoteLemmas
+pub mod GapLemmas
+pub mod QuoteLaws
+pub mod SignLemmas
+pub mod FrontLaws
+pub mod TokenLaws

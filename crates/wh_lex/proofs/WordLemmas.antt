@@ -1,0 +1,74 @@
+-- Lemmas on the bytes of words.
+use Rattle.std.proofs.Common.{◌≡◌, ℕ, zero, suc, ◌<◌, ◌≤◌, Bool, true, false, List, [], ◌∷◌, ◌++◌, length, map, take, drop, refl, arith, one-add}
+use Rattle.std.specs.List.{list_all, prefix_len}
+use Rattle.std.specs.Str.{IsAscii}
+use Rattle.std.proofs.lemmas.Str.{IsUtf8-from_ascii}
+use Rattle.std.proofs.lemmas.Bool.{and_parts}
+use Rattle.std.proofs.lemmas.Bool.Decides.{nat_tests}
+use Rattle.std.proofs.lemmas.List.{length-map}
+use Rattle.wh_machine.specs.Value.{IsText}
+use Rattle.wh_machine.specs.Reading.{is_blank, is_digit, begins_word, is_word_byte, upper}
+use Rattle.wh_machine.specs.Lexing.{begins_with}
+
+upper-lt128 : (b : ℕ) → is_word_byte b ≡ true → upper b < 128
+upper-lt128 b h = grind (arith, nat_tests)
+
+upper-IsAscii : (word : List ℕ) → list_all is_word_byte word ≡ true → IsAscii (map upper word)
+upper-IsAscii [] h i = omega arith
+upper-IsAscii (b ∷ word) h zero = upper-lt128 b (and_parts (is_word_byte b) (list_all is_word_byte word) h).0
+upper-IsAscii (b ∷ word) h (suc i) = upper-IsAscii word (and_parts (is_word_byte b) (list_all is_word_byte word) h).1 i
+
+-- a word in upper case is a text
+pub upper-IsText : (word made : List ℕ) → list_all is_word_byte word ≡ true → length word ≤ 65536 → made ≡ map upper word → IsText made
+upper-IsText word made h short e =
+    let few : length (map upper word) ≤ 65536 = rw length-map short in
+    let text : IsText (map upper word) = record { utf8 = IsUtf8-from_ascii _ (upper-IsAscii word h); short = few } in
+    rw e text
+
+all_by : (p : ℕ → Bool) (b : ℕ) (bytes : List ℕ) (r : Bool) → p b ≡ r → list_all p (take (prefix_len p bytes) bytes) ≡ true
+    → list_all p (take (prefix_len p (b ∷ bytes)) (b ∷ bytes)) ≡ true
+all_by p b bytes true e ih = simp (e, one-add) ih
+all_by p b bytes false e ih = simp e
+
+-- the bytes at the front that pass a test pass it
+pub all-prefix : (p : ℕ → Bool) (bytes : List ℕ) → list_all p (take (prefix_len p bytes) bytes) ≡ true
+all-prefix p [] = refl
+all-prefix p (b ∷ bytes) = all_by p b bytes (p b) refl (all-prefix p bytes)
+
+stops_by : (p : ℕ → Bool) (b : ℕ) (bytes : List ℕ) (r : Bool) → p b ≡ r → begins_with p (drop (prefix_len p bytes) bytes) ≡ false
+    → begins_with p (drop (prefix_len p (b ∷ bytes)) (b ∷ bytes)) ≡ false
+stops_by p b bytes true e ih = simp (e, one-add) ih
+stops_by p b bytes false e ih = simp e
+
+-- and the one behind them doesn't
+pub stops-prefix : (p : ℕ → Bool) (bytes : List ℕ) → begins_with p (drop (prefix_len p bytes) bytes) ≡ false
+stops-prefix p [] = refl
+stops-prefix p (b ∷ bytes) = stops_by p b bytes (p b) refl (stops-prefix p bytes)
+
+none-prefix : (p : ℕ → Bool) (rest : List ℕ) → begins_with p rest ≡ false → prefix_len p rest ≡ 0
+none-prefix p [] h = refl
+none-prefix p (b ∷ rest) h = rw h refl
+
+-- a front that passes, before what doesn't, is as long as it is
+pub prefix_len-front : (p : ℕ → Bool) (bytes rest : List ℕ) → list_all p bytes ≡ true → begins_with p rest ≡ false → prefix_len p (bytes ++ rest) ≡ length bytes
+prefix_len-front p [] rest all stop = none-prefix p rest stop
+prefix_len-front p (b ∷ bytes) rest all stop =
+    let both = and_parts (p b) (list_all p bytes) all in
+    rw (both.0, prefix_len-front p bytes rest both.1 stop) (omega arith)
+
+-- ---- bytes
+
+pub word-not_blank : (b : ℕ) → is_word_byte b ≡ true → is_blank b ≡ false
+word-not_blank b h = grind (arith, nat_tests)
+
+pub begins-word : (b : ℕ) → begins_word b ≡ true → is_word_byte b ≡ true
+begins-word b h = rw h refl
+
+pub digit-word : (b : ℕ) → is_digit b ≡ true → is_word_byte b ≡ true
+digit-word b h = grind (arith, nat_tests)
+
+pub digit-not_blank : (b : ℕ) → is_digit b ≡ true → is_blank b ≡ false
+digit-not_blank b h = grind (arith, nat_tests)
+
+pub digit-other : (b : ℕ) → is_digit b ≡ true → begins_word b ≡ false
+digit-other b h = grind (arith, nat_tests)

@@ -1,0 +1,32 @@
+use Rattle.std.proofs.Common.{◌≡◌, ◌<◌, length, arith, rules, option_map}
+use Rattle.wh_lex.specs.View.{token_of}
+use Rattle.wh_lex.proofs.TokenLaws.{left-more, left-end, left-none, front-shorter, front-IsWithin, not_read}
+use Rattle.wh_lex.proofs.lexing.tokens.Goals as goal
+
+pub returns-then-is_empty-clause-found : goal.returns-then-is_empty-clause-found
+returns-then-is_empty-clause-found c =
+    let none : length c.fronts.rest.now ≡ 0 = search rules in
+    left-end c.fronts.made.items c.fronts.rest.now c.args.text.now c.fronts.invariant.left none
+
+pub returns-in_err-front-clause-none : goal.returns-in_err-front-clause-none
+returns-in_err-front-clause-none c failed vs has =
+    let long : 0 < length c.fronts.rest.now = search rules in
+    let same = rw failed at c.from_residual.ensures.1 in
+    left-none c.fronts.made.items c.fronts.rest.now c.args.text.now vs c.fronts.invariant.left long (not_read _ c.in_err-front.field-0.0 same c.in_err-front.ensures) has
+
+pub push_token-requires : goal.push_token-requires
+push_token-requires c = front-IsWithin c.fronts.rest.now c.in_ok-front.front.token c.in_ok-front.front.rest.now c.in_ok-front.ensures
+
+pub fronts-smaller : goal.fronts-smaller
+fronts-smaller c = front-shorter c.fronts.rest.now (option_map token_of c.in_ok-front.front.token) c.in_ok-front.front.rest.now c.in_ok-front.ensures
+
+pub fronts-preserved : goal.fronts-preserved
+fronts-preserved c =
+    let rest = c.fronts.rest.now in
+    let token = option_map token_of c.in_ok-front.front.token in
+    let after = c.in_ok-front.front.rest.now in
+    let short = front-shorter rest token after c.in_ok-front.ensures in
+    record {
+      short = omega (arith, short, c.fronts.invariant.short);
+      left = left-more c.fronts.made.items _ rest c.args.text.now token after c.fronts.invariant.left c.in_ok-front.ensures c.in_ok-push_token.ensures.ok;
+    }

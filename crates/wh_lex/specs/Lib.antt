@@ -1,0 +1,4 @@
+pub mod View
+pub mod Front
+pub mod Gives
+pub mod Laws

@@ -1,0 +1,54 @@
+ghost use Rattle.std.specs.Prelude.{◌≡◌, ◌≤◌, ◌++◌, length, List, option_map};
+ghost use Rattle.std.specs.Prelude.{IfSome, IfOk, OnOk, IsErrOf, IsOkUnless};
+ghost use Rattle.wh_machine.specs.Token.{Placed};
+ghost use Rattle.wh_machine.specs.Lexing.{HasTokens};
+ghost use Rattle.wh_lex.specs.Laws.{TextFixesTokens};
+ghost use Rattle.wh_lex.specs.Front.{placed_at};
+ghost use Rattle.wh_lex.specs.View.{token_of, IsWithin};
+
+use crate::front::front_of;
+use crate::{Kind, LexFault, Token};
+use std::alloc::Global;
+
+/// The tokens of a text, or a syntax error where it has none.
+pub fn tokens(alloc: Global, text: &[u8]) -> Result<Vec<Token>, LexFault>
+    requires { length text.now ≤ 65536 }
+    ensures found { IfOk result (λ ts. HasTokens text.now ts.items) }
+    ensures none { IsErrOf result LexFault.SyntaxError
+        → (ts : List Placed) → HasTokens text.now ts → ⊥ }
+{
+    let mut made = Vec::new(alloc);
+    let mut rest = text;
+    'fronts: loop {
+        if rest.is_empty() {
+            return Ok(made);
+        }
+        let front = front_of(alloc, rest)?;
+        push_token(&mut made, front.token, rest.len(), front.rest.len())?;
+        rest = front.rest;
+    }
+}
+
+/// Adds a token, if there is one, that begins where `from` bytes are left and ends where `behind`
+/// are.
+fn push_token(
+    made: &mut Vec<Token>,
+    token: Option<Kind>,
+    from: usize,
+    behind: usize,
+) -> Result<(), LexFault>
+    requires { IfSome token (λ kind. IsWithin (token_of kind)) }
+    ensures ok { OnOk result (made.new.items
+        ≡ made.old.items ++ placed_at (option_map token_of token) from behind) }
+    ensures memory { IsOkUnless result LexFault.OutOfMemory }
+{
+    if let Some(kind) = token {
+        made.push(Token::new(kind, from as u64, behind as u64))?;
+    }
+    Ok(())
+}
+
+/// No text has two lists of tokens.
+pub fn text_fixes_tokens()
+    ensures tokens { TextFixesTokens }
+{}

@@ -1,0 +1,85 @@
+ghost use Rattle.std.specs.Prelude.{◌≡◌, ◌≤◌, map, length, true, Some};
+ghost use Rattle.std.specs.List.{list_all};
+ghost use Rattle.wh_machine.specs.Reading as reading;
+ghost use Rattle.wh_lex.specs.Front as spec;
+ghost use Rattle.wh_lex.specs.View.{front_view};
+ghost use Rattle.wh_lex.specs.Gives.{Gives};
+
+use crate::bytes::{is_digit, is_word_byte, upper};
+use crate::front::Front;
+use crate::{Kind, LexFault};
+use std::alloc::{AllocError, Global};
+use wh_value::Text;
+
+/// The least number of 19 digits.
+const LIMIT: u64 = 1_000_000_000_000_000_000;
+
+/// How many bytes at the front are of words.
+fn word_len(text: &[u8]) -> usize
+    ensures is { result ≡ spec.word_len text.now }
+    ensures within { result ≤ length text.now }
+{
+    for (i, byte) in text.iter().enumerate() {
+        if !is_word_byte(*byte) {
+            return i;
+        }
+    }
+    text.len()
+}
+
+/// The word at the front, in upper case, and what follows it.
+pub fn word(alloc: Global, text: &[u8]) -> Result<Front<'_>, LexFault>
+    requires { length text.now ≤ 65536 }
+    ensures { Gives front_view result (Some (spec.word_front text.now)) }
+{
+    let len = word_len(text);
+    let word = upper_case(alloc, &text[..len])?;
+    Ok(Front {
+        token: Some(Kind::Word(word)),
+        rest: &text[len..],
+    })
+}
+
+/// The bytes of a word in upper case.
+fn upper_case(alloc: Global, word: &[u8]) -> Result<Text, LexFault>
+    requires short { length word.now ≤ 65536 }
+    requires word { list_all reading.is_word_byte word.now ≡ true }
+    ensures { Gives (λ made. made) result (Some (map reading.upper word.now)) }
+{
+    let letters: Vec<u8> = word.iter().map(|byte| upper(*byte)).collect(alloc)?;
+    match Text::from_bytes(alloc, &letters) {
+        Some(made) => Ok(made?),
+        None => unreachable!(),
+    }
+}
+
+/// The number at the front, and what follows it.
+pub fn number(text: &[u8]) -> Result<Front<'_>, LexFault>
+    ensures { Gives front_view result (spec.number_front text.now) }
+{
+    let len = word_len(text);
+    let Some(number) = number_of(&text[..len]) else {
+        return Err(LexFault::SyntaxError);
+    };
+    Ok(Front {
+        token: Some(Kind::Number(number)),
+        rest: &text[len..],
+    })
+}
+
+/// The number that digits spell, where it has at most 18 digits beside zeros in front.
+fn number_of(digits: &[u8]) -> Option<u64>
+    ensures { result ≡ spec.number_from 0 digits.now }
+{
+    let mut number: u64 = 0;
+    for byte in digits {
+        if !is_digit(*byte) {
+            return None;
+        }
+        number = number * 10 + u64::from(*byte - b'0');
+        if number >= LIMIT {
+            return None;
+        }
+    }
+    Some(number)
+}
