@@ -1,0 +1,11 @@
+pub mod WordLemmas
+pub mod Turns
+pub mod KeyLemmas
+pub mod Outcomes
+pub mod Soundness
+pub mod Steps
+pub mod Completeness
+pub mod ItemSteps
+pub mod Fronts
+pub mod Found
+pub mod ShortNumbers

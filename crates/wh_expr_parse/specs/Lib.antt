@@ -1,0 +1,7 @@
+pub mod Keys
+pub mod State
+pub mod Read
+pub mod Gives
+pub mod View
+pub mod Nests
+pub mod Laws

@@ -1,0 +1,130 @@
+//! What may follow a sum: a comparison, IS, IN or BETWEEN.
+
+ghost use Rattle.std.specs.Prelude.{◌≡◌, [], true, false};
+ghost use Rattle.wh_expr_parse.specs.Gives.{Reads};
+ghost use Rattle.wh_expr_parse.specs.Keys.{key_of};
+ghost use Rattle.wh_expr_parse.specs.Read as spec;
+ghost use Rattle.wh_expr_parse.specs.Nests.{Nests};
+
+use crate::ParseFault;
+use crate::grammar::{Grammar, Level};
+use crate::key::Key;
+use crate::made::{among, between, binary, is_null};
+use crate::tokens::Tokens;
+use sqlite_items::Items;
+use std::alloc::Global;
+use wh_ast::{Expr, Operator};
+use wh_value::Comparison;
+
+impl<F: Fn(Global, &mut Tokens<'_>, usize, Level) -> Result<Expr, ParseFault>> Grammar<F> {
+    #[tactic(auto, unfolding(crate::specs::Read::test))]
+    pub fn test(&self, tokens: &mut Tokens<'_>) -> Result<Expr, ParseFault>
+        requires { Nests self.now.depth (F.pre self.now.inner) (F.post self.now.inner) }
+        ensures { Reads (spec.test (spec.nested self.now.depth) tokens.old) result tokens.new }
+    {
+        let x = self.sum(tokens)?;
+        self.test_behind(tokens, x)
+    }
+
+    fn test_behind(&self, tokens: &mut Tokens<'_>, x: Expr) -> Result<Expr, ParseFault>
+        requires { Nests self.now.depth (F.pre self.now.inner) (F.post self.now.inner) }
+        ensures { Reads (spec.test_by (spec.nested self.now.depth) x (key_of tokens.old.left) tokens.old) result tokens.new }
+    {
+        match tokens.key() {
+            Key::Equal => self.compared(tokens, x, Comparison::Equal),
+            Key::Unequal => self.compared(tokens, x, Comparison::Unequal),
+            Key::Less => self.compared(tokens, x, Comparison::Less),
+            Key::AtMost => self.compared(tokens, x, Comparison::LessOrEqual),
+            Key::Greater => self.compared(tokens, x, Comparison::Greater),
+            Key::AtLeast => self.compared(tokens, x, Comparison::GreaterOrEqual),
+            Key::Is => self.null_test(tokens, x),
+            Key::In => self.among(tokens, false, x),
+            Key::Between => self.between(tokens, false, x),
+            Key::Not => self.negated_test(tokens, x),
+            _ => Ok(x),
+        }
+    }
+
+    #[tactic(auto, unfolding(crate::specs::Read::compared))]
+    fn compared(
+        &self,
+        tokens: &mut Tokens<'_>,
+        x: Expr,
+        comparison: Comparison,
+    ) -> Result<Expr, ParseFault>
+        requires { Nests self.now.depth (F.pre self.now.inner) (F.post self.now.inner) }
+        ensures { Reads (spec.compared (spec.nested self.now.depth) x comparison tokens.old) result tokens.new }
+    {
+        tokens.skip();
+        tokens.spend()?;
+        let y = self.sum(tokens)?;
+        Ok(binary(self.alloc, Operator::Compare(comparison), x, y)?)
+    }
+
+    #[tactic(auto, unfolding(crate::specs::Read::null_test))]
+    fn null_test(&self, tokens: &mut Tokens<'_>, x: Expr) -> Result<Expr, ParseFault>
+        requires { Nests self.now.depth (F.pre self.now.inner) (F.post self.now.inner) }
+        ensures { Reads (spec.null_test (spec.nested self.now.depth) x tokens.old) result tokens.new }
+    {
+        tokens.skip();
+        let negated = tokens.eat(Key::Not);
+        tokens.expect(Key::Null)?;
+        tokens.spend()?;
+        Ok(is_null(self.alloc, negated, x)?)
+    }
+
+    #[tactic(auto, unfolding(crate::specs::Read::negated_test))]
+    fn negated_test(&self, tokens: &mut Tokens<'_>, x: Expr) -> Result<Expr, ParseFault>
+        requires { Nests self.now.depth (F.pre self.now.inner) (F.post self.now.inner) }
+        ensures { Reads (spec.negated_test (spec.nested self.now.depth) x tokens.old) result tokens.new }
+    {
+        tokens.skip();
+        match tokens.key() {
+            Key::In => self.among(tokens, true, x),
+            Key::Between => self.between(tokens, true, x),
+            _ => Err(ParseFault::SyntaxError),
+        }
+    }
+
+    #[tactic(auto, unfolding(crate::specs::Read::among))]
+    fn among(&self, tokens: &mut Tokens<'_>, negated: bool, x: Expr) -> Result<Expr, ParseFault>
+        requires { Nests self.now.depth (F.pre self.now.inner) (F.post self.now.inner) }
+        ensures { Reads (spec.among (spec.nested self.now.depth) negated x tokens.old) result tokens.new }
+    {
+        tokens.skip();
+        tokens.expect(Key::LParen)?;
+        tokens.spend()?;
+        let items = self.items(tokens)?;
+        tokens.expect(Key::RParen)?;
+        Ok(among(self.alloc, negated, x, items)?)
+    }
+
+    /// One or more, with commas between them; each counts one more.
+    fn items(&self, tokens: &mut Tokens<'_>) -> Result<Items<Expr>, ParseFault>
+        requires { Nests self.now.depth (F.pre self.now.inner) (F.post self.now.inner) }
+        ensures { Reads (spec.items (spec.nested self.now.depth) tokens.old) result tokens.new }
+    {
+        let mut found = Items::new(self.alloc);
+        for _turn in 0..tokens.room() {
+            tokens.spend()?;
+            found.push(self.inner(tokens, Level::Whole)?)?;
+            if !tokens.eat(Key::Comma) {
+                return Ok(found);
+            }
+        }
+        Err(ParseFault::SyntaxError)
+    }
+
+    #[tactic(auto, unfolding(crate::specs::Read::between))]
+    fn between(&self, tokens: &mut Tokens<'_>, negated: bool, x: Expr) -> Result<Expr, ParseFault>
+        requires { Nests self.now.depth (F.pre self.now.inner) (F.post self.now.inner) }
+        ensures { Reads (spec.between (spec.nested self.now.depth) negated x tokens.old) result tokens.new }
+    {
+        tokens.skip();
+        tokens.spend()?;
+        let least = self.sum(tokens)?;
+        tokens.expect(Key::And)?;
+        let greatest = self.sum(tokens)?;
+        Ok(between(self.alloc, negated, x, least, greatest)?)
+    }
+}

@@ -1,0 +1,62 @@
+ghost use Rattle.std.specs.Prelude.{◌≡◌, ℕ, List, IfOk, IsErrOf};
+ghost use Rattle.wh_ast.specs.declared.expr.Expr as ast;
+ghost use Rattle.wh_machine.specs.Expression.{IsExprAt};
+ghost use Rattle.wh_machine.specs.Name.{IsName};
+ghost use Rattle.wh_machine.specs.Token as machine;
+ghost use Rattle.wh_expr_parse.specs.Gives.{Reads};
+ghost use Rattle.wh_expr_parse.specs.Laws as laws;
+ghost use Rattle.wh_expr_parse.specs.Read.{read_name, read_expr};
+
+use crate::grammar::whole;
+use crate::key::binds;
+use crate::tokens::Tokens;
+use crate::{ParseFault, Words};
+use std::alloc::Global;
+use wh_ast::Expr;
+use wh_value::Text;
+
+/// How many operators and IN items an expression may have.
+const ROOM: usize = 1000;
+
+#[tactic(auto, unfolding(crate::specs::Read::read_expr))]
+fn whole_expr(alloc: Global, words: &mut Words<'_>, depth: usize) -> Result<Expr, ParseFault>
+    ensures { Reads (read_expr depth words.old) result words.new }
+{
+    let mut tokens = Tokens::new(Words::new(words.rest()), ROOM);
+    let x = whole(alloc, &mut tokens, depth)?;
+    if binds(tokens.key()) != 0 {
+        return Err(ParseFault::SyntaxError);
+    }
+    *words = tokens.into_words();
+    Ok(x)
+}
+
+/// Takes the expression that the tokens begin with. At most `depth` parentheses, NOT and minus
+/// signs may stand inside one another, and no token behind the expression may go on with it.
+pub fn expr(alloc: Global, words: &mut Words<'_>, depth: usize) -> Result<Expr, ParseFault>
+    ensures found { IfOk result (λ x. IsExprAt depth words.old x words.new) }
+    ensures none { IsErrOf result ParseFault.SyntaxError
+        → (x : ast.Expr) (us : List machine.Token) → IsExprAt depth words.old x us → ⊥ }
+    ensures reads { Reads (read_expr depth words.old) result words.new }
+{
+    whole_expr(alloc, words, depth)
+}
+
+/// Takes the name that the tokens begin with: a word that isn't reserved, or a quoted name.
+pub fn name(alloc: Global, words: &mut Words<'_>) -> Result<Text, ParseFault>
+    ensures found { IfOk result (λ name. IsName words.old name words.new) }
+    ensures none { IsErrOf result ParseFault.SyntaxError
+        → (name : List ℕ) (us : List machine.Token) → IsName words.old name us → ⊥ }
+    ensures reads { Reads (read_name words.old) result words.new }
+{
+    words.name(alloc)
+}
+
+/// No tokens begin with two expressions, and an expression is a front of them. What `read_expr`
+/// and `read_name` read is what stands there.
+pub fn reading_laws()
+    ensures exprs { laws.ReadsExprs }
+    ensures names { laws.ReadsNames }
+    ensures fixed { laws.TokensFixExpr }
+    ensures front { laws.ExprIsFront }
+{}
