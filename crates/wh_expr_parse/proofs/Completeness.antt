@@ -1,23 +1,23 @@
 -- What the rules say is read.
-use Rattle.std.proofs.Common.{◌≡◌, ℕ, zero, suc, ◌+◌, ◌-◌, ◌<◌, ◌≤◌, ◌==◌, Bool, true, false, if◌then◌else◌, List, [], ◌∷◌, Option, Some, None, refl, sym, ap, ◌∙◌, subst, arith}
+use Rattle.std.proofs.Common.{◌≡◌, ℕ, suc, ◌-◌, ◌<◌, Bool, false, List, ◌∷◌, Some, refl, sym, ap, ◌∙◌, subst, arith}
 use Rattle.std.specs.Prelude.{codes}
 use Rattle.std.proofs.lemmas.Option.{same_Some}
 use Rattle.wh_ast.specs.declared.expr.Operator.TheVariants as o
 use Rattle.wh_ast.specs.declared.expr.Expr.{Expr}
 use Rattle.wh_ast.specs.declared.expr.Expr.TheVariants as e
-use Rattle.wh_machine.specs.Reading.{is_reserved}
-use Rattle.wh_machine.specs.Token as token
-use Rattle.wh_machine.specs.Token.{Token, Word, SignToken}
-use Rattle.wh_machine.specs.Expression as g
-use Rattle.wh_machine.specs.Expression.{IsWhole, IsAnd, IsNot, IsTest, AreItems, IsSum, IsProduct, IsUnary, IsPrim, IsExprAt, IsNegation, IsComparison, binds}
+use Rattle.wh_grammar.specs.Words.{is_reserved}
+use Rattle.wh_grammar.specs.Token as token
+use Rattle.wh_grammar.specs.Token.{Token, Word, SignToken}
+use Rattle.wh_grammar.specs.Expression as g
+use Rattle.wh_grammar.specs.Expression.{IsWhole, IsAnd, IsNot, IsTest, AreItems, IsSum, IsProduct, IsUnary, IsPrim, IsExprAt, IsNegation, IsComparison, binds}
 use Rattle.wh_value.specs.declared.comparison.Comparison.{Comparison}
 use Rattle.wh_expr_parse.specs.declared.key.Key.TheVariants as k
 use Rattle.wh_expr_parse.specs.declared.grammar.Level.TheVariants.{Whole, Negation, Unary, Rows}
 use Rattle.wh_expr_parse.specs.Keys.{key_of, key_binds, joins, same_key}
-use Rattle.wh_expr_parse.specs.State.{State, Reader, at, next, sees}
-use Rattle.wh_expr_parse.specs.Read.{rows, primary, unary, product, sum, test, negation, conjunction, whole, nested, ended, read_expr}
+use Rattle.wh_expr_parse.specs.State.{State, Reader, next, sees}
+use Rattle.wh_expr_parse.specs.Read.{rows, primary, unary, product, sum, test, negation, conjunction, whole, nested, read_expr}
 use Rattle.wh_expr_parse.proofs.KeyLemmas.{binds_key}
-use Rattle.wh_expr_parse.proofs.Steps.{Gives, not_seen, column-primary, column_of-primary, number-primary, text-primary, true-primary, false-primary, null-primary, parenthesized-primary, sum-primary, count-primary, rows-primary, negative-gives, primary-unary, not-gives, test-negation, whole-starless, sum-test, compared-test, null-test, GivesItems, last-item, more-items, among-test, between-test, Comes, comes-first, comes-next, comes-ends}
+use Rattle.wh_expr_parse.proofs.RuleSteps.{Gives, column-primary, column_of-primary, number-primary, text-primary, true-primary, false-primary, null-primary, parenthesized-primary, sum-primary, count-primary, rows-primary, negative-gives, primary-unary, not-gives, test-negation, whole-starless, sum-test, compared-test, null-test, GivesItems, last-item, more-items, among-test, between-test, Comes, comes-first, comes-next, comes-ends}
 
 -- ---- one more inside
 

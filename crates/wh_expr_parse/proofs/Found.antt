@@ -1,20 +1,17 @@
 -- From what is read to what stands there.
-use Rattle.std.proofs.Common.{◌≡◌, ℕ, List, ◌∷◌, Option, Some, None, Result, Ok, Err, refl, sym, ap, ◌∙◌, subst}
+use Rattle.std.proofs.Common.{◌≡◌, ℕ, List, Option, Some, Result, Ok, Err, sym, ap, ◌∙◌, subst}
 use Rattle.std.specs.Prelude.{IfOk, IsErrOf}
-use Rattle.std.proofs.lemmas.Option.{same_Some}
-use Rattle.wh_ast.specs.declared.expr.Expr.{Expr}
-use Rattle.wh_machine.specs.Token.{Token}
-use Rattle.wh_machine.specs.Name.{IsName}
-use Rattle.wh_machine.specs.Expression.{IsExprAt}
+use Rattle.wh_grammar.specs.Token.{Token}
+use Rattle.wh_grammar.specs.Name.{IsName}
 use Rattle.wh_expr_parse.specs.declared.fault.ParseFault.{ParseFault}
 use Rattle.wh_expr_parse.specs.declared.fault.ParseFault.TheVariants as faults
-use Rattle.wh_expr_parse.specs.State.{State, at, plainly, moved}
-use Rattle.wh_expr_parse.specs.Gives.{Fails, Reads}
-use Rattle.wh_expr_parse.specs.Read.{read_name, read_expr}
+use Rattle.wh_expr_parse.specs.State.{State, at, moved}
+use Rattle.wh_expr_parse.specs.Gives.{Reads}
+use Rattle.wh_expr_parse.specs.Read.{read_name}
 use Rattle.wh_expr_parse.specs.Laws as laws
-use Rattle.wh_expr_parse.proofs.Outcomes.{Is, Yields}
+use Rattle.wh_expr_parse.proofs.Outcomes.{Is}
 use Rattle.wh_expr_parse.proofs.Soundness.{name-sound, read_sound}
-use Rattle.wh_expr_parse.proofs.Steps.{name-complete}
+use Rattle.wh_expr_parse.proofs.RuleSteps.{name-complete}
 use Rattle.wh_expr_parse.proofs.Completeness.{read_complete, one_expr}
 use Rattle.wh_expr_parse.proofs.Fronts.{expr-front}
 

@@ -1,10 +1,10 @@
 -- What stands for an expression or a name is a front of the tokens, and not empty.
 use Rattle.std.proofs.Common.{◌≡◌, ℕ, Bool, List, [], ◌∷◌, ◌++◌, refl, sym, ap, ◌∙◌, append_assoc}
 use Rattle.wh_ast.specs.declared.expr.Expr.{Expr}
-use Rattle.wh_machine.specs.Token.{Token}
-use Rattle.wh_machine.specs.Name.{IsName, word, quoted}
-use Rattle.wh_machine.specs.Expression as g
-use Rattle.wh_machine.specs.Expression.{IsWhole, IsAnd, IsNot, IsTest, AreItems, IsSum, IsProduct, IsUnary, IsPrim, IsExpr, IsNegation}
+use Rattle.wh_grammar.specs.Token.{Token}
+use Rattle.wh_grammar.specs.Name.{IsName, word, quoted}
+use Rattle.wh_grammar.specs.Expression as g
+use Rattle.wh_grammar.specs.Expression.{IsWhole, IsAnd, IsNot, IsTest, AreItems, IsSum, IsProduct, IsUnary, IsPrim, IsExpr, IsNegation}
 use Rattle.wh_expr_parse.specs.Laws.{Follows}
 
 abbrev Behind : List Token → List Token → Type 0

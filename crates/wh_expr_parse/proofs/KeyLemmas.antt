@@ -1,16 +1,16 @@
 -- What a key says of the token that comes next.
-use Rattle.std.proofs.Common.{◌≡◌, ℕ, Bool, true, false, if◌then◌else◌, List, [], ◌∷◌, Option, Some, None, refl, sym, ap, ◌∙◌, subst, rules}
+use Rattle.std.proofs.Common.{◌≡◌, ℕ, Bool, true, false, if◌then◌else◌, List, [], ◌∷◌, Option, Some, None, refl, ap, subst, rules}
 use Rattle.std.specs.Prelude.{codes, bytes_eq}
 use Rattle.std.proofs.lemmas.Slice.Eq.{bytes_eq-Decides}
 use denote.Enum.Bare.{same_true}
-use Rattle.wh_machine.specs.Reading.{is_reserved}
-use Rattle.wh_machine.specs.Token as token
-use Rattle.wh_machine.specs.Token.{Token, Word, Quoted, TextToken, NumberToken, SignToken}
-use Rattle.wh_machine.specs.Expression.{binds, word_binds}
+use Rattle.wh_grammar.specs.Words.{is_reserved}
+use Rattle.wh_grammar.specs.Token as token
+use Rattle.wh_grammar.specs.Token.{Token, Word, Quoted, TextToken, NumberToken, SignToken}
+use Rattle.wh_grammar.specs.Expression.{binds, word_binds}
 use Rattle.wh_expr_parse.specs.declared.key.Key.{Key}
 use Rattle.wh_expr_parse.specs.declared.key.Key.TheVariants as k
 use Rattle.wh_expr_parse.specs.contracts.key.Key.{the_type}
-use Rattle.wh_expr_parse.specs.Keys.{same_key, key_of, token_key, word_key, reserved_key, constant_key, key_binds}
+use Rattle.wh_expr_parse.specs.Keys.{same_key, key_of, word_key, reserved_key, key_binds}
 use Rattle.wh_expr_parse.specs.State.{tail, sees}
 
 -- the one token that has it, where there is only one

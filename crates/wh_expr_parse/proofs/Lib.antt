@@ -3,9 +3,10 @@ pub mod Turns
 pub mod KeyLemmas
 pub mod Outcomes
 pub mod Soundness
-pub mod Steps
+pub mod RuleSteps
 pub mod Completeness
 pub mod ItemSteps
 pub mod Fronts
 pub mod Found
+pub mod Combine
 pub mod ShortNumbers

@@ -1,9 +1,9 @@
 -- What each step of a rule leaves, where it reads.
-use Rattle.std.proofs.Common.{◌≡◌, ℕ, suc, ◌+◌, ◌-◌, ◌==◌, Bool, true, false, if◌then◌else◌, List, [], ◌∷◌, Option, Some, None, refl, sym, ap, ◌∙◌, subst, eqb-true, arith}
+use Rattle.std.proofs.Common.{◌≡◌, ℕ, suc, ◌+◌, ◌-◌, ◌==◌, Bool, true, false, if◌then◌else◌, List, Option, Some, None, refl, arith}
 use Rattle.std.proofs.lemmas.Bool.Decides.{Decides-eqb, not_from_Decides}
-use Rattle.wh_machine.specs.Token.{Token}
+use Rattle.wh_grammar.specs.Token.{Token}
 use Rattle.wh_expr_parse.specs.declared.key.Key.{Key}
-use Rattle.wh_expr_parse.specs.State.{State, at, tail, next, Reader, and_then, sees, expect, spend, plainly, moved}
+use Rattle.wh_expr_parse.specs.State.{State, at, next, Reader, and_then, sees, expect, spend}
 use Rattle.wh_expr_parse.proofs.KeyLemmas.{fixed, Heads, heads}
 
 -- where there is an outcome, it is such a one

@@ -1,7 +1,7 @@
 -- A text's tokens have numbers of at most 18 digits.
-use Rattle.std.proofs.Common.{◌≡◌, ℕ, ◌<◌, List, [], ◌∷◌, sym, subst}
-use Rattle.wh_machine.specs.Token.{Token, Placed}
-use Rattle.wh_machine.specs.Lexing.{HasTokens, end, gap, token, IsToken, word, number, text, quoted, sign, other_unequal}
+use Rattle.std.proofs.Common.{ℕ, List, sym, subst}
+use Rattle.wh_grammar.specs.Token.{Token, Placed}
+use Rattle.wh_grammar.specs.Lexing.{HasTokens, end, gap, token, IsToken, word, number, text, quoted, sign, other_unequal}
 use Rattle.wh_expr_parse.specs.View.{IsShort, AreShort}
 
 token-short : (bytes : List ℕ) (t : Token) (rest : List ℕ) → IsToken bytes t rest → IsShort t

@@ -1,5 +1,5 @@
 -- What is read is what the rules say.
-use Rattle.std.proofs.Common.{◌≡◌, ℕ, zero, suc, ◌+◌, ◌-◌, ◌≤◌, ◌==◌, Bool, true, false, not, ◌&&◌, if◌then◌else◌, List, [], ◌∷◌, ◌++◌, Option, Some, None, refl, sym, ap, ◌∙◌, subst, append_assoc, arith}
+use Rattle.std.proofs.Common.{◌≡◌, ℕ, zero, suc, ◌+◌, ◌-◌, ◌==◌, Bool, true, false, not, ◌&&◌, if◌then◌else◌, List, [], ◌∷◌, ◌++◌, Option, Some, None, refl, sym, ap, ◌∙◌, subst, append_assoc, arith}
 use Rattle.std.specs.Prelude.{codes}
 use Rattle.std.proofs.lemmas.Bool.{and_parts}
 use Rattle.std.proofs.lemmas.Bool.Decides.{Decides-eqb}
@@ -10,12 +10,12 @@ use Rattle.wh_ast.specs.declared.expr.Operator.{Operator}
 use Rattle.wh_ast.specs.declared.expr.Operator.TheVariants as o
 use Rattle.wh_ast.specs.declared.expr.Expr.{Expr}
 use Rattle.wh_ast.specs.declared.expr.Expr.TheVariants as e
-use Rattle.wh_machine.specs.Reading.{is_reserved, is_call}
-use Rattle.wh_machine.specs.Token as token
-use Rattle.wh_machine.specs.Token.{Token, Word, Quoted, TextToken, NumberToken, SignToken}
-use Rattle.wh_machine.specs.Name.{IsName, opens, word, quoted}
-use Rattle.wh_machine.specs.Expression as g
-use Rattle.wh_machine.specs.Expression.{IsWhole, IsAnd, IsNot, IsTest, AreItems, IsSum, IsProduct, IsUnary, IsPrim, IsExprAt, IsComparison, IsNegation, binds}
+use Rattle.wh_grammar.specs.Words.{is_reserved, is_call}
+use Rattle.wh_grammar.specs.Token as token
+use Rattle.wh_grammar.specs.Token.{Token, Word, Quoted, TextToken, NumberToken, SignToken}
+use Rattle.wh_grammar.specs.Name.{IsName, opens, word, quoted}
+use Rattle.wh_grammar.specs.Expression as g
+use Rattle.wh_grammar.specs.Expression.{IsWhole, IsAnd, IsNot, IsTest, AreItems, IsSum, IsProduct, IsUnary, IsPrim, IsExprAt, IsComparison, IsNegation, binds}
 use Rattle.wh_expr_parse.specs.declared.key.Key.{Key}
 use Rattle.wh_expr_parse.specs.declared.key.Key.TheVariants as k
 use Rattle.wh_expr_parse.specs.declared.grammar.Level.{Level}
@@ -422,7 +422,7 @@ ended-sound d ts x us (Some p) h k = by (key_binds (key_of p.1.left) == 0) refl 
     by : (r : Bool) → (key_binds (key_of p.1.left) == 0) ≡ r → if◌then◌else◌ {A = Option (Expr × List Token)} r (Some (p.0, p.1.left)) None ≡ Some (x, us) → IsExprAt d ts x us
     by false e k = absurd (cc)
     by true e k =
-        let same : (p.0, p.1.left) ≡ (x, us) = same_Some _ _ k in
+        let same : ◌≡◌ {A = Expr × List Token} (p.0, p.1.left) (x, us) = same_Some _ _ k in
         let here : IsExprAt d ts p.0 p.1.left = record {
           expr = record { count = h.count; few = omega (arith, h.spent); whole = h.is };
           ends = sym (binds_key p.1.left) ∙ (Decides-eqb (key_binds (key_of p.1.left)) 0).0 e;

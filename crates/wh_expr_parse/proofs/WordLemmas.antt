@@ -2,7 +2,7 @@
 use Rattle.std.proofs.Common.{◌≡◌, ℕ, ◌||◌, List, [], ◌∷◌, refl, bytes_eq}
 use Rattle.std.specs.List.{list_any}
 use Rattle.std.specs.Cmp.Lexicographic.{nat_list_eq_equiv}
-use Rattle.wh_machine.specs.Reading.{is_reserved, reserved_words}
+use Rattle.wh_grammar.specs.Words.{is_reserved, reserved_words}
 
 flipped : (word : List ℕ) (words : List (List ℕ)) → list_any (λ y. bytes_eq y word) words ≡ list_any (bytes_eq word) words
 flipped word [] = refl

@@ -1,10 +1,10 @@
 -- What a token is for an expression, where its bytes don't matter.
-use Rattle.std.specs.Prelude.{ℕ, Bool, true, false, List, [], ◌∷◌, Option, Some, None, codes, bytes_eq, ◌==◌, if◌then◌else◌}
+use Rattle.std.specs.Prelude.{ℕ, Bool, List, [], ◌∷◌, Option, Some, None, codes, bytes_eq, ◌==◌, if◌then◌else◌}
 use denote.Enum.Bare.{sameb}
 use Rattle.wh_ast.specs.declared.expr.Operator.{Operator}
 use Rattle.wh_ast.specs.declared.expr.Operator.TheVariants as o
-use Rattle.wh_machine.specs.Reading.{is_reserved}
-use Rattle.wh_machine.specs.Token.{Token, Word, Quoted, TextToken, NumberToken, SignToken, Sign, LParen, RParen, Comma, Dot, Star, Plus, Minus, Equal, Unequal, Less, AtMost, Greater, AtLeast, Arrow}
+use Rattle.wh_grammar.specs.Words.{is_reserved}
+use Rattle.wh_grammar.specs.Token.{Token, Word, Quoted, TextToken, NumberToken, SignToken, Sign, LParen, RParen, Comma, Dot, Star, Plus, Minus, Equal, Unequal, Less, AtMost, Greater, AtLeast, Arrow}
 use Rattle.wh_expr_parse.specs.declared.key.Key.{Key}
 use Rattle.wh_expr_parse.specs.declared.key.Key.TheVariants as k
 use Rattle.wh_expr_parse.specs.contracts.key.Key.{the_type}

@@ -5,9 +5,9 @@
 --     ExprIsFront       an expression is a front of the tokens, and not empty
 use Rattle.std.specs.Prelude.{◌≡◌, ◌↔◌, ℕ, List, ◌∷◌, ◌++◌, Some}
 use Rattle.wh_ast.specs.declared.expr.Expr.{Expr}
-use Rattle.wh_machine.specs.Token.{Token}
-use Rattle.wh_machine.specs.Name.{IsName}
-use Rattle.wh_machine.specs.Expression.{IsExpr, IsExprAt}
+use Rattle.wh_grammar.specs.Token.{Token}
+use Rattle.wh_grammar.specs.Name.{IsName}
+use Rattle.wh_grammar.specs.Expression.{IsExpr, IsExprAt}
 use Rattle.wh_expr_parse.specs.Read.{read_name, read_expr}
 
 -- us are what is left of ts behind one token or more

@@ -9,9 +9,9 @@ use Rattle.wh_ast.specs.declared.expr.Operator.{Operator}
 use Rattle.wh_ast.specs.declared.expr.Operator.TheVariants as o
 use Rattle.wh_ast.specs.declared.expr.Expr.{Expr}
 use Rattle.wh_ast.specs.declared.expr.Expr.TheVariants as e
-use Rattle.wh_machine.specs.Reading.{is_reserved, is_call}
-use Rattle.wh_machine.specs.Token.{Token, Word, Quoted, TextToken, NumberToken, SignToken}
-use Rattle.wh_machine.specs.Name.{opens}
+use Rattle.wh_grammar.specs.Words.{is_reserved, is_call}
+use Rattle.wh_grammar.specs.Token.{Token, Word, Quoted, TextToken, NumberToken, SignToken}
+use Rattle.wh_grammar.specs.Name.{opens}
 use Rattle.wh_expr_parse.specs.declared.key.Key.{Key}
 use Rattle.wh_expr_parse.specs.declared.key.Key.TheVariants as k
 use Rattle.wh_expr_parse.specs.declared.grammar.Level.{Level}

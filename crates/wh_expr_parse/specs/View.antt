@@ -1,6 +1,6 @@
 -- What contracts see of tokens.
-use Rattle.std.specs.Prelude.{ℕ, ◌<◌, List, [], ◌∷◌}
-use Rattle.wh_machine.specs.Token.{Token, Word, Quoted, TextToken, NumberToken, SignToken, Placed}
+use Rattle.std.specs.Prelude.{◌<◌, List, [], ◌∷◌}
+use Rattle.wh_grammar.specs.Token.{Token, Word, Quoted, TextToken, NumberToken, SignToken, Placed}
 
 -- a number has at most 18 digits
 abbrev pub IsShort : Token → Type 0

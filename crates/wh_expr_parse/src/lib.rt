@@ -10,6 +10,7 @@ mod predicates;
 mod primaries;
 mod reading;
 mod reserved;
+mod steps;
 #[cfg(test)]
 mod tests;
 mod tokens;

@@ -1,8 +1,8 @@
 ghost use Rattle.std.specs.Prelude.{◌≡◌, ℕ, List, IfOk, IsErrOf};
 ghost use Rattle.wh_ast.specs.declared.expr.Expr as ast;
-ghost use Rattle.wh_machine.specs.Expression.{IsExprAt};
-ghost use Rattle.wh_machine.specs.Name.{IsName};
-ghost use Rattle.wh_machine.specs.Token as machine;
+ghost use Rattle.wh_grammar.specs.Expression.{IsExprAt};
+ghost use Rattle.wh_grammar.specs.Name.{IsName};
+ghost use Rattle.wh_grammar.specs.Token as machine;
 ghost use Rattle.wh_expr_parse.specs.Gives.{Reads};
 ghost use Rattle.wh_expr_parse.specs.Laws as laws;
 ghost use Rattle.wh_expr_parse.specs.Read.{read_name, read_expr};

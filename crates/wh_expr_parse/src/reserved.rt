@@ -1,5 +1,5 @@
 ghost use Rattle.std.specs.Prelude.{◌≡◌, bytes_eq};
-ghost use Rattle.wh_machine.specs.Reading as reading;
+ghost use Rattle.wh_grammar.specs.Words as word_class;
 
 use wh_value::Text;
 
@@ -52,22 +52,22 @@ pub fn is_same(word: &Text, letters: &[u8]) -> bool
 }
 
 fn contains(word: &[u8]) -> bool
-    ensures { result ≡ reading.is_reserved word.now }
+    ensures { result ≡ word_class.is_reserved word.now }
 {
     RESERVED.contains(&word)
 }
 
 /// Whether the word is no name.
 pub fn is_reserved(word: &Text) -> bool
-    ensures { result ≡ reading.is_reserved word.now }
+    ensures { result ≡ word_class.is_reserved word.now }
 {
     contains(word.as_bytes())
 }
 
 /// Whether the word begins a call where a `(` stands behind it.
-#[tactic(auto, unfolding(wh_machine::specs::Reading::is_call))]
+#[tactic(auto, unfolding(wh_grammar::specs::Words::is_call))]
 pub fn is_call(word: &Text) -> bool
-    ensures { result ≡ reading.is_call word.now }
+    ensures { result ≡ word_class.is_call word.now }
 {
     is_same(word, b"SUM") || is_same(word, b"COUNT")
 }

@@ -1,4 +1,4 @@
-use crate::{ParseFault, Words, expr, name};
+use crate::{Key, ParseFault, Words, expr, name};
 use std::alloc::Global;
 use std::test::Fail;
 use wh_ast::{Expr, Operator};
@@ -288,6 +288,68 @@ fn at_most_1000_operators_and_items_are_read(rt: HostRuntime) -> Result<(), Fail
             want,
             "{count} items more"
         );
+    }
+    Ok(())
+}
+
+/// Takes `SET [NOT] word = [-] number , text`, and adds what it took.
+fn take_setting(alloc: Global, words: &mut Words<'_>, out: &mut Bytes) -> Result<(), ParseFault> {
+    words.expect_word(b"SET")?;
+    if words.eat_word(b"NOT") {
+        out.extend(b"not ")?;
+    }
+    out.extend(words.word(alloc)?.as_bytes())?;
+    words.expect(Key::Equal)?;
+    if words.eat(Key::Minus) {
+        out.extend(b"-")?;
+    }
+    out.extend_decimal(words.number()?)?;
+    words.expect(Key::Comma)?;
+    out.extend(words.text(alloc)?.as_bytes())?;
+    Ok(())
+}
+
+/// What steps took from a text, up to one that found something else.
+#[tactic(auto, using(crate::proofs::ShortNumbers::tokens_short))]
+fn taken(alloc: Global, text: &[u8]) -> Result<Bytes, Fail> {
+    let mut out = Bytes::new(alloc);
+    if text.len() > 65536 {
+        return Ok(out);
+    }
+    let all = match tokens(alloc, text) {
+        Ok(all) => all,
+        Err(_) => return Ok(out),
+    };
+    let mut words = Words::new(&all);
+    match take_setting(alloc, &mut words, &mut out) {
+        Ok(()) => out.extend(b".")?,
+        Err(ParseFault::SyntaxError) => out.extend(b"?")?,
+        Err(ParseFault::OutOfMemory) => out.extend(b"no memory")?,
+    }
+    Ok(out)
+}
+
+#[test]
+fn steps_take_what_comes_next(rt: HostRuntime) -> Result<(), Fail> {
+    let alloc = rt.alloc();
+    let cases = [
+        ("each step", "set a = 12, 'x'", "A12x."),
+        (
+            "with what may stand there",
+            "Set Not a = -12, 'x'",
+            "not A-12x.",
+        ),
+        ("a longer word", "sets a = 12, 'x'", "?"),
+        ("a shorter word", "se a = 12, 'x'", "?"),
+        ("a quoted word", "\"SET\" a = 12, 'x'", "?"),
+        ("a text for a word", "set 'a' = 12, 'x'", "?"),
+        ("another sign", "set a => 12, 'x'", "A?"),
+        ("a word for a number", "set a = b, 'x'", "A?"),
+        ("a word for a text", "set a = 12, x", "A12?"),
+    ];
+    for (name, text, want) in cases {
+        let found = taken(alloc, text.as_bytes())?;
+        assert_eq!(rt; found.as_slice(), want.as_bytes(), "{name}");
     }
     Ok(())
 }

@@ -1,6 +1,6 @@
 ghost use Rattle.std.specs.Prelude.{◌≡◌, [], ◌∷◌};
-ghost use Rattle.wh_machine.specs.Name as machine_name;
-ghost use Rattle.wh_machine.specs.Spelled.{tokens_of};
+ghost use Rattle.wh_grammar.specs.Name as machine_name;
+ghost use Rattle.wh_grammar.specs.Spelled.{tokens_of};
 ghost use Rattle.wh_expr_parse.specs.Gives.{Reads};
 ghost use Rattle.wh_expr_parse.specs.Keys.{key_of};
 ghost use Rattle.wh_expr_parse.specs.Read as spec;
@@ -26,8 +26,8 @@ pub struct Words<'a> {
 impl<'a> Model for Words<'a> {
     ghost use Rattle.std.specs.Prelude.{List};
     ghost use Rattle.std.specs.Coded.{coded_list};
-    ghost use Rattle.wh_machine.specs.Token as machine;
-    ghost use Rattle.wh_machine.specs.Spelled.{tokens_of};
+    ghost use Rattle.wh_grammar.specs.Token as machine;
+    ghost use Rattle.wh_grammar.specs.Spelled.{tokens_of};
     ghost use Rattle.wh_expr_parse.specs.View.{AreShort};
 
     ghost Value = { List machine.Token };

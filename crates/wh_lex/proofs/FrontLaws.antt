@@ -4,9 +4,9 @@ use Rattle.std.specs.List.{list_all}
 use Rattle.std.specs.Str.{is_utf8}
 use Rattle.std.proofs.lemmas.Bool.{and_parts, and_from}
 use Rattle.std.proofs.lemmas.Str.{IsUtf8-from_is_utf8, is_utf8-from_IsUtf8}
-use Rattle.wh_machine.specs.Reading.{is_blank, is_digit, begins_word, is_word_byte, upper, number_behind}
-use Rattle.wh_machine.specs.Token.{Token, Word, Quoted, TextToken, NumberToken}
-use Rattle.wh_machine.specs.Lexing.{IsGap, blank, IsToken, word, number, text, quoted, sign, other_unequal, begins_with, is_byte, is_plain, doubled}
+use Rattle.wh_grammar.specs.Bytes.{is_blank, is_digit, begins_word, is_word_byte, upper, number_behind}
+use Rattle.wh_grammar.specs.Token.{Token, Word, Quoted, TextToken, NumberToken}
+use Rattle.wh_grammar.specs.Lexing.{IsGap, blank, IsToken, word, number, text, quoted, sign, other_unequal, begins_with, is_byte, is_plain, doubled}
 use Rattle.wh_lex.specs.Front.{Front, gap, token, word_len, word_front, number_from, number_front, quoted_of, text_front, name_front, line_rest, comment_rest, front_behind, front_of}
 use Rattle.wh_lex.proofs.WordLemmas.{all-prefix, stops-prefix, prefix_len-front, word-not_blank, begins-word, digit-word, digit-other, digit-not_blank}
 use Rattle.wh_lex.proofs.GapLemmas.{begins, line-IsGap, comment-IsGap, GapIf}

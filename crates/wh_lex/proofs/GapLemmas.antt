@@ -2,7 +2,7 @@
 use Rattle.std.proofs.Common.{◌≡◌, ℕ, Bool, true, false, not, ◌&&◌, List, [], ◌∷◌, ◌++◌, drop, Option, Some, None, option_map, refl, sym, ap, ◌∙◌, IsTrue, ◌==◌, eqb, eqb-true}
 use Rattle.std.specs.List.{list_all}
 use Rattle.std.proofs.lemmas.Bool.{and_parts, and_from}
-use Rattle.wh_machine.specs.Lexing.{IsGap, blank, line_comment, last_comment, comment, is_inline, has_comment_end, begins_with, is_byte}
+use Rattle.wh_grammar.specs.Lexing.{IsGap, blank, line_comment, last_comment, comment, is_inline, has_comment_end, begins_with, is_byte}
 use Rattle.wh_lex.proofs.Standing.{or_false}
 use Rattle.wh_lex.specs.Front.{line_rest, comment_rest, front_of, front_behind, gap}
 

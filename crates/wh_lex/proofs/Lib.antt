@@ -7,3 +7,4 @@ pub mod QuoteLaws
 pub mod SignLemmas
 pub mod FrontLaws
 pub mod TokenLaws
+pub mod ReadLaws

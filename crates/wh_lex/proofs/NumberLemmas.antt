@@ -3,7 +3,7 @@ use Rattle.std.proofs.Common.{◌≡◌, ℕ, ◌+◌, ◌-◌, ◌*◌, ◌<◌
 use Rattle.std.specs.List.{list_all}
 use Rattle.std.proofs.lemmas.Bool.Decides.{nat_tests}
 use Rattle.std.proofs.lemmas.List.{at_drop_more, at_drop_all}
-use Rattle.wh_machine.specs.Reading.{is_digit, number_behind}
+use Rattle.wh_grammar.specs.Bytes.{is_digit, number_behind}
 use Rattle.wh_lex.specs.Front.{number_from}
 
 number_behind-le : (n : ℕ) (bytes : List ℕ) → n ≤ number_behind n bytes

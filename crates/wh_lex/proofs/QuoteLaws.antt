@@ -1,6 +1,6 @@
 -- What stands inside quotes: what is read stands there, and what stands there is read.
 use Rattle.std.proofs.Common.{◌≡◌, ℕ, Bool, true, false, List, [], ◌∷◌, ◌++◌, Option, Some, None, refl, sym, ap, ◌∙◌, eqb, eqb-true, eq-eqb}
-use Rattle.wh_machine.specs.Lexing.{begins_with, is_byte, doubled}
+use Rattle.wh_grammar.specs.Lexing.{begins_with, is_byte, doubled}
 use Rattle.wh_lex.specs.Front.{onto, quoted_of}
 
 abbrev pub IsQuoted : ℕ → List ℕ → Option (List ℕ × List ℕ) → Type 0

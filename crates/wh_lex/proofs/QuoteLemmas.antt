@@ -2,7 +2,7 @@
 use Rattle.std.proofs.Common.{◌≡◌, ℕ, Bool, true, false, List, [], ◌∷◌, ◌++◌, Option, Some, None, refl, sym, ap, ◌∙◌, append_assoc, append-nil, eqb, length, ◌≤◌}
 use Rattle.std.specs.Str.{is_utf8}
 use Rattle.std.proofs.lemmas.Str.{IsUtf8-from_is_utf8, is_utf8-from_IsUtf8}
-use Rattle.wh_machine.specs.Value.{IsText}
+use Rattle.wh_value.specs.Value.{IsText}
 use Rattle.wh_lex.specs.Front.{inside_behind, inside_first, onto, quoted_of}
 
 -- ---- one byte after the other

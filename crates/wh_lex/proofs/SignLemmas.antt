@@ -2,8 +2,8 @@
 use Rattle.std.proofs.Common.{◌≡◌, ℕ, Bool, true, false, ◌&&◌, ◌||◌, List, [], ◌∷◌, ◌++◌, Option, Some, None, refl, ap, ◌∙◌, subst, ◌==◌, eqb-true, arith}
 use Rattle.std.proofs.lemmas.Bool.{and_parts}
 use Rattle.std.proofs.lemmas.Bool.Decides.{nat_tests}
-use Rattle.wh_machine.specs.Token.{Sign, LParen, RParen, Comma, Dot, Star, Plus, Minus, Equal, Unequal, Less, AtMost, Greater, AtLeast, Arrow, SignToken}
-use Rattle.wh_machine.specs.Lexing.{IsToken, sign, other_unequal, sign_bytes, extends, begins_with, is_byte}
+use Rattle.wh_grammar.specs.Token.{Sign, LParen, RParen, Comma, Dot, Star, Plus, Minus, Equal, Unequal, Less, AtMost, Greater, AtLeast, Arrow, SignToken}
+use Rattle.wh_grammar.specs.Lexing.{IsToken, sign, other_unequal, sign_bytes, extends, begins_with, is_byte}
 use Rattle.wh_lex.proofs.Standing.{by_test, Stands, or_false}
 use Rattle.wh_lex.specs.Front.{single, double, sign_if, sign_front, front_of, front_behind, token}
 

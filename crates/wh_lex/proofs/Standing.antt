@@ -1,7 +1,7 @@
 -- What it is to stand at the front of bytes, for what is read there.
 use Rattle.std.proofs.Common.{◌≡◌, ℕ, Bool, true, false, ◌||◌, if◌then◌else◌, List, Option, Some, None, refl}
-use Rattle.wh_machine.specs.Token.{Token}
-use Rattle.wh_machine.specs.Lexing.{IsGap, IsToken}
+use Rattle.wh_grammar.specs.Token.{Token}
+use Rattle.wh_grammar.specs.Lexing.{IsGap, IsToken}
 use Rattle.wh_lex.specs.Front.{Front}
 
 -- a token, or none for a gap, stands at the front, before the rest

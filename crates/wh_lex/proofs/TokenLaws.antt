@@ -1,8 +1,8 @@
 -- The tokens of a text, from one front to the next.
 use Rattle.std.proofs.Common.{◌≡◌, ◌≢◌, ℕ, ◌<◌, List, [], ◌∷◌, ◌++◌, length, Option, Some, None, option_map, IfSome, refl, sym, ap, ◌∙◌, subst, append_assoc, append-nil, length-append, arith}
 use Rattle.std.proofs.lemmas.Option.{same_Some}
-use Rattle.wh_machine.specs.Token.{Sign, LParen, Token, Placed}
-use Rattle.wh_machine.specs.Lexing.{IsGap, blank, line_comment, last_comment, comment, IsToken, word, number, text, quoted, sign, other_unequal, sign_bytes, doubled, HasTokens, end, gap, token}
+use Rattle.wh_grammar.specs.Token.{Sign, LParen, Token, Placed}
+use Rattle.wh_grammar.specs.Lexing.{IsGap, blank, line_comment, last_comment, comment, IsToken, word, number, text, quoted, sign, other_unequal, sign_bytes, doubled, HasTokens, end, gap, token}
 use Rattle.wh_lex.specs.Front.{Front, front_of, placed_at}
 use Rattle.wh_lex.specs.declared.fault.LexFault.{LexFault}
 use Rattle.wh_lex.specs.declared.fault.LexFault.TheVariants.{SyntaxError, OutOfMemory}
@@ -77,12 +77,12 @@ pub left-start : (whole : List ℕ) → Left [] whole whole
 left-start whole = record { on = λ us h. h; back = λ vs h. (vs, h, refl) }
 
 -- tokens before those of the rest
-before : (bytes : List ℕ) (t : Option Token) (rest : List ℕ) (us : List Placed) → IsRead bytes t rest → HasTokens rest us
+pub before : (bytes : List ℕ) (t : Option Token) (rest : List ℕ) (us : List Placed) → IsRead bytes t rest → HasTokens rest us
     → HasTokens bytes (placed_at t (length bytes) (length rest) ++ us)
 before bytes None rest us g h = gap g h
 before bytes (Some t) rest us k h = token k h
 
-front_is_read : (bytes : List ℕ) (t : Option Token) (rest : List ℕ) → front_of bytes ≡ Some (t, rest) → IsRead bytes t rest
+pub front_is_read : (bytes : List ℕ) (t : Option Token) (rest : List ℕ) → front_of bytes ≡ Some (t, rest) → IsRead bytes t rest
 front_is_read [] t rest e = absurd (cc)
 front_is_read (b ∷ bytes) t rest e = subst (Stands (b ∷ bytes)) e (front-stands b bytes)
 

@@ -6,9 +6,9 @@ use Rattle.std.proofs.lemmas.Str.{IsUtf8-from_ascii}
 use Rattle.std.proofs.lemmas.Bool.{and_parts}
 use Rattle.std.proofs.lemmas.Bool.Decides.{nat_tests}
 use Rattle.std.proofs.lemmas.List.{length-map}
-use Rattle.wh_machine.specs.Value.{IsText}
-use Rattle.wh_machine.specs.Reading.{is_blank, is_digit, begins_word, is_word_byte, upper}
-use Rattle.wh_machine.specs.Lexing.{begins_with}
+use Rattle.wh_value.specs.Value.{IsText}
+use Rattle.wh_grammar.specs.Bytes.{is_blank, is_digit, begins_word, is_word_byte, upper}
+use Rattle.wh_grammar.specs.Lexing.{begins_with}
 
 upper-lt128 : (b : ℕ) → is_word_byte b ≡ true → upper b < 128
 upper-lt128 b h = grind (arith, nat_tests)

@@ -8,9 +8,9 @@
 use Rattle.std.specs.Prelude.{ℕ, not, ◌&&◌, List, [], ◌∷◌, length, map, take, drop, Option, Some, None, option_map, nat_lt, ◌==◌, if◌then◌else◌}
 use Rattle.std.specs.List.{list_all, prefix_len}
 use Rattle.std.specs.Str.{is_utf8}
-use Rattle.wh_machine.specs.Reading.{is_blank, is_digit, begins_word, is_word_byte, upper, number_behind}
-use Rattle.wh_machine.specs.Token.{Sign, LParen, RParen, Comma, Dot, Star, Plus, Minus, Equal, Unequal, Less, AtMost, Greater, AtLeast, Arrow, Token, Word, Quoted, TextToken, NumberToken, SignToken, Placed}
-use Rattle.wh_machine.specs.Lexing.{begins_with, is_byte, is_inline, is_plain}
+use Rattle.wh_grammar.specs.Bytes.{is_blank, is_digit, begins_word, is_word_byte, upper, number_behind}
+use Rattle.wh_grammar.specs.Token.{Sign, LParen, RParen, Comma, Dot, Star, Plus, Minus, Equal, Unequal, Less, AtMost, Greater, AtLeast, Arrow, Token, Word, Quoted, TextToken, NumberToken, SignToken, Placed}
+use Rattle.wh_grammar.specs.Lexing.{begins_with, is_byte, is_inline, is_plain}
 
 -- a token, or none for a gap, and what follows it
 abbrev pub Front : Type 0

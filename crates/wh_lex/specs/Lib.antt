@@ -1,4 +1,5 @@
 pub mod View
 pub mod Front
+pub mod Read
 pub mod Gives
 pub mod Laws

@@ -4,8 +4,8 @@
 --     placed_of             a token and where it stands
 --     front_view            what was read at the front of a text
 use Rattle.std.specs.Prelude.{ℕ, ◌<◌, List, Option, option_map}
-use Rattle.wh_machine.specs.Token as machine
-use Rattle.wh_machine.specs.Token.{Placed}
+use Rattle.wh_grammar.specs.Token as machine
+use Rattle.wh_grammar.specs.Token.{Placed}
 use Rattle.wh_lex.specs.declared.front.Front.{Front}
 use Rattle.wh_lex.specs.declared.sign.Sign.{Sign}
 use Rattle.wh_lex.specs.declared.sign.Sign.TheVariants as signs

@@ -1,5 +1,5 @@
 ghost use Rattle.std.specs.Prelude.{◌≡◌, ◌∷◌, ◌≤◌, length, option_map, None};
-ghost use Rattle.wh_machine.specs.Token.{SignToken};
+ghost use Rattle.wh_grammar.specs.Token.{SignToken};
 ghost use Rattle.wh_lex.specs.Front as spec;
 ghost use Rattle.wh_lex.specs.Gives.{Gives};
 ghost use Rattle.wh_lex.specs.View.{front_view, sign_of};

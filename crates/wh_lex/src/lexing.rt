@@ -1,9 +1,11 @@
 ghost use Rattle.std.specs.Prelude.{◌≡◌, ◌≤◌, ◌++◌, length, List, option_map};
 ghost use Rattle.std.specs.Prelude.{IfSome, IfOk, OnOk, IsErrOf, IsOkUnless};
-ghost use Rattle.wh_machine.specs.Token.{Placed};
-ghost use Rattle.wh_machine.specs.Lexing.{HasTokens};
-ghost use Rattle.wh_lex.specs.Laws.{TextFixesTokens};
+ghost use Rattle.wh_grammar.specs.Token.{Placed};
+ghost use Rattle.wh_grammar.specs.Lexing.{HasTokens};
+ghost use Rattle.wh_lex.specs.Laws.{TextFixesTokens, ReadsTokens};
 ghost use Rattle.wh_lex.specs.Front.{placed_at};
+ghost use Rattle.wh_lex.specs.Gives.{Gives};
+ghost use Rattle.wh_lex.specs.Read.{read_tokens};
 ghost use Rattle.wh_lex.specs.View.{token_of, IsWithin};
 
 use crate::front::front_of;
@@ -16,6 +18,7 @@ pub fn tokens(alloc: Global, text: &[u8]) -> Result<Vec<Token>, LexFault>
     ensures found { IfOk result (λ ts. HasTokens text.now ts.items) }
     ensures none { IsErrOf result LexFault.SyntaxError
         → (ts : List Placed) → HasTokens text.now ts → ⊥ }
+    ensures reads { Gives (λ ts. ts.items) result (read_tokens text.now) }
 {
     let mut made = Vec::new(alloc);
     let mut rest = text;
@@ -48,7 +51,8 @@ fn push_token(
     Ok(())
 }
 
-/// No text has two lists of tokens.
+/// No text has two lists of tokens. `read_tokens` gives those that it has.
 pub fn text_fixes_tokens()
     ensures tokens { TextFixesTokens }
+    ensures reads { ReadsTokens }
 {}

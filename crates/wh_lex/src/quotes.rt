@@ -1,6 +1,6 @@
 ghost use Rattle.std.specs.Prelude.{◌≡◌, ◌+◌, ◌≤◌, length, option_map, IfOk, IfSome};
 ghost use Rattle.std.specs.List.{list_all};
-ghost use Rattle.wh_machine.specs.Lexing as lexing;
+ghost use Rattle.wh_grammar.specs.Lexing as lexing;
 ghost use Rattle.wh_lex.specs.Front as spec;
 ghost use Rattle.wh_lex.specs.Gives.{Gives};
 ghost use Rattle.wh_lex.specs.View.{front_view};

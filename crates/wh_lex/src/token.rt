@@ -26,7 +26,7 @@ pub struct Token {
 }
 
 impl Model for Token {
-    ghost use Rattle.wh_machine.specs.Token.{Placed, coded_placed};
+    ghost use Rattle.wh_grammar.specs.Token.{Placed, coded_placed};
     ghost use Rattle.wh_lex.specs.View.{token_of, placed_of, IsWithin};
 
     ghost Value = { Placed };

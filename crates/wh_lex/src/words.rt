@@ -1,6 +1,6 @@
 ghost use Rattle.std.specs.Prelude.{◌≡◌, ◌≤◌, map, length, true, Some};
 ghost use Rattle.std.specs.List.{list_all};
-ghost use Rattle.wh_machine.specs.Reading as reading;
+ghost use Rattle.wh_grammar.specs.Bytes as byte_class;
 ghost use Rattle.wh_lex.specs.Front as spec;
 ghost use Rattle.wh_lex.specs.View.{front_view};
 ghost use Rattle.wh_lex.specs.Gives.{Gives};
@@ -43,8 +43,8 @@ pub fn word(alloc: Global, text: &[u8]) -> Result<Front<'_>, LexFault>
 /// The bytes of a word in upper case.
 fn upper_case(alloc: Global, word: &[u8]) -> Result<Text, LexFault>
     requires short { length word.now ≤ 65536 }
-    requires word { list_all reading.is_word_byte word.now ≡ true }
-    ensures { Gives (λ made. made) result (Some (map reading.upper word.now)) }
+    requires word { list_all byte_class.is_word_byte word.now ≡ true }
+    ensures { Gives (λ made. made) result (Some (map byte_class.upper word.now)) }
 {
     let letters: Vec<u8> = word.iter().map(|byte| upper(*byte)).collect(alloc)?;
     match Text::from_bytes(alloc, &letters) {

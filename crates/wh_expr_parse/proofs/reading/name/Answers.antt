@@ -1,7 +1,6 @@
-use Rattle.std.proofs.Common.{List}
-use Rattle.wh_machine.specs.Name.{IsName}
+use Rattle.wh_grammar.specs.Name.{IsName}
 use Rattle.wh_expr_parse.proofs.Found as lemmas
-use Rattle.wh_expr_parse.proofs.Steps.{name-complete}
+use Rattle.wh_expr_parse.proofs.RuleSteps.{name-complete}
 use Rattle.wh_expr_parse.proofs.reading.name.Goals as goal
 
 pub returns-clause-found : goal.returns-clause-found

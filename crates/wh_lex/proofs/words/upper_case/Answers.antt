@@ -1,5 +1,5 @@
 use Rattle.std.proofs.Common.{◌≡◌, rules, map}
-use Rattle.wh_machine.specs.Reading.{upper}
+use Rattle.wh_grammar.specs.Bytes.{upper}
 use Rattle.wh_lex.proofs.WordLemmas.{upper-IsText}
 use Rattle.wh_lex.proofs.words.upper_case.Goals as goal
 

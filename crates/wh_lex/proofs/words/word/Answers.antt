@@ -1,4 +1,4 @@
-use Rattle.wh_machine.specs.Reading.{is_word_byte}
+use Rattle.wh_grammar.specs.Bytes.{is_word_byte}
 use Rattle.wh_lex.proofs.WordLemmas.{all-prefix}
 use Rattle.wh_lex.proofs.words.word.Goals as goal
 

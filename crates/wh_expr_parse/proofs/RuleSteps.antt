@@ -1,5 +1,5 @@
 -- What each step of a rule reads, where its tokens stand.
-use Rattle.std.proofs.Common.{◌≡◌, ℕ, zero, suc, ◌+◌, ◌-◌, ◌<◌, ◌≤◌, ◌==◌, Bool, true, false, not, ◌&&◌, if◌then◌else◌, List, [], ◌∷◌, ◌++◌, Option, Some, None, refl, sym, ap, ◌∙◌, subst, append_assoc, ne_eqb, eqb, bytes_eq, rules, arith}
+use Rattle.std.proofs.Common.{◌≡◌, ℕ, zero, suc, ◌+◌, ◌-◌, ◌<◌, ◌≤◌, ◌==◌, Bool, true, false, not, ◌&&◌, List, [], ◌∷◌, ◌++◌, Some, None, refl, sym, ap, ◌∙◌, subst, append_assoc, ne_eqb, bytes_eq, rules, arith}
 use Rattle.std.specs.Prelude.{codes}
 use denote.Enum.Bare.{same_true}
 use Rattle.wh_value.specs.declared.comparison.Comparison.{Comparison}
@@ -9,21 +9,21 @@ use Rattle.wh_ast.specs.declared.expr.Expr.{Expr}
 use Rattle.wh_ast.specs.declared.expr.Expr.TheVariants as e
 use Rattle.wh_value.specs.declared.value.Value.TheVariants as v
 use Rattle.std.specs.Prelude.{pos}
-use Rattle.wh_machine.specs.Reading.{is_reserved, is_call}
-use Rattle.wh_machine.specs.Token as token
-use Rattle.wh_machine.specs.Token.{Token, Word, Quoted, TextToken, NumberToken, SignToken}
-use Rattle.wh_machine.specs.Name.{IsName, opens, word, quoted}
-use Rattle.wh_machine.specs.Expression as g
-use Rattle.wh_machine.specs.Expression.{IsComparison, IsNegation, binds}
+use Rattle.wh_grammar.specs.Words.{is_reserved, is_call}
+use Rattle.wh_grammar.specs.Token as token
+use Rattle.wh_grammar.specs.Token.{Token, Word, Quoted, TextToken, NumberToken, SignToken}
+use Rattle.wh_grammar.specs.Name.{IsName, opens, word, quoted}
+use Rattle.wh_grammar.specs.Expression as g
+use Rattle.wh_grammar.specs.Expression.{IsComparison, IsNegation, binds}
 use Rattle.wh_expr_parse.specs.declared.key.Key.{Key}
 use Rattle.wh_expr_parse.specs.declared.key.Key.TheVariants as k
 use Rattle.wh_expr_parse.specs.contracts.key.Key.{the_type}
 use Rattle.wh_expr_parse.specs.declared.grammar.Level.{Level}
 use Rattle.wh_expr_parse.specs.declared.grammar.Level.TheVariants.{Whole, Negation, Unary, Rows}
 use Rattle.wh_expr_parse.specs.Keys.{key_of, key_binds, joins, same_key}
-use Rattle.wh_expr_parse.specs.State.{State, at, tail, next, Reader, and_then, plainly, moved, sees, expect, spend}
-use Rattle.wh_expr_parse.specs.Read.{is_name, read_name, read_literal, column_of, column, rows, turns, chain, turn, parenthesized, sum_call, count_by, count_call, call_or_column, primary_by, primary, negative, unary_by, unary, product, sum, compared, null_test, items_from, items, among, between, negated_by, negated_test, test_by, test, not_test, negation_by, negation, conjunction, whole}
-use Rattle.wh_expr_parse.proofs.KeyLemmas.{binds_key, heads, heads_at}
+use Rattle.wh_expr_parse.specs.State.{State, at, tail, next, Reader, sees, expect, spend}
+use Rattle.wh_expr_parse.specs.Read.{read_name, read_literal, column_of, column, turns, chain, parenthesized, sum_call, count_by, count_call, primary, negative, unary, product, sum, compared, null_test, items_from, items, among, between, negated_test, test_by, test, not_test, negation, conjunction, whole}
+use Rattle.wh_expr_parse.proofs.KeyLemmas.{binds_key, heads}
 
 -- with n of the room it reads x, and us are left
 pub record Gives {A : Type 0} (r : Reader A) (n : ℕ) (ts : List Token) (x : A) (us : List Token) : Type 0 where

@@ -1,0 +1,2 @@
+pub mod KnownTokens
+pub mod KnownStatements

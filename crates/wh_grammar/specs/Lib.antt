@@ -1,0 +1,11 @@
+pub mod Bytes
+pub mod Words
+pub mod Token
+pub mod Lexing
+pub mod Name
+pub mod Expression
+pub mod Query
+pub mod Changing
+pub mod OptionText
+pub mod Parts
+pub mod Spelled
