@@ -1,0 +1,12 @@
+pub mod Turns
+pub mod Counting
+pub mod Seen
+pub mod Outcomes
+pub mod Openings
+pub mod Fronts
+pub mod Soundness
+pub mod Ends
+pub mod PartSteps
+pub mod Steps
+pub mod Completeness
+pub mod Reading

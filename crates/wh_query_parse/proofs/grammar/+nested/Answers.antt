@@ -1,0 +1,12 @@
+use Rattle.std.proofs.Common.{◌≡◌, ap, arith}
+use Rattle.wh_query_parse.specs.Read.{nested}
+use Rattle.wh_query_parse.proofs.Turns.{deeper}
+use Rattle.wh_query_parse.proofs.grammar.+nested.Goals as goal
+
+pub returns-then-depth-eq0 : goal.returns-then-depth-eq0
+unfolding nested
+returns-then-depth-eq0 t c = let none : c.args.depth ≡ 0 = omega arith in ap (λ n. nested n c.args.words.now) none
+
+pub returns : goal.returns
+unfolding nested
+returns t c = rw (deeper (λ n. nested n c.args.words.now) c.args.depth (omega arith)) c.query.ensures

@@ -1,0 +1,4 @@
+pub mod Follow
+pub mod Read
+pub mod Nests
+pub mod Laws

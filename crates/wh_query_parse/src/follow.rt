@@ -1,0 +1,93 @@
+//! What may stand behind a query and its parts.
+
+ghost use Rattle.std.specs.Prelude.{◌≡◌, [], ◌∷◌};
+ghost use Rattle.wh_lex.specs.View.{token_of};
+ghost use Rattle.wh_grammar.specs.Expression as machine;
+ghost use Rattle.wh_expr_parse.specs.Keys.{key_binds};
+ghost use Rattle.wh_query_parse.specs.Follow as spec;
+ghost use Rattle.wh_query_parse.specs.Read.{names_all, sees_join};
+
+use wh_expr_parse::{Key, Words};
+use wh_lex::{Kind, Sign};
+
+fn is_query_end(kind: &Kind) -> bool
+    ensures { result ≡ spec.ends_query (token_of kind.now ∷ []) }
+{
+    match kind {
+        Kind::Word(word) => word.as_bytes() == b"ORDER".as_slice(),
+        Kind::Sign(Sign::RParen) => true,
+        _ => false,
+    }
+}
+
+/// Whether nothing, a `)` or ORDER comes next.
+pub fn ends_query(words: &Words<'_>) -> bool
+    ensures { result ≡ spec.ends_query words.now }
+{
+    match words.rest() {
+        [] => true,
+        [first, ..] => is_query_end(first.kind()),
+    }
+}
+
+/// Whether a name may begin with that.
+fn is_named(key: Key) -> bool
+    ensures { result ≡ spec.names_key key }
+{
+    matches!(key, Key::Name | Key::Sum | Key::Count)
+}
+
+/// Whether neither AS nor a name comes next.
+pub fn ends_alias(words: &Words<'_>) -> bool
+    ensures { result ≡ spec.ends_alias words.now }
+{
+    if words.sees_word(b"AS") {
+        return false;
+    }
+    !is_named(words.key())
+}
+
+/// How tightly the next token binds behind an expression: 0 where it doesn't go on with it.
+fn binds(words: &Words<'_>) -> u8
+    ensures { result ≡ machine.binds words.now }
+{
+    key_binds(words.key())
+}
+
+fn key_binds(key: Key) -> u8
+    ensures { result ≡ key_binds key }
+{
+    match key {
+        Key::Or => 1,
+        Key::And => 2,
+        Key::Not | Key::Is | Key::In | Key::Between => 3,
+        Key::Equal | Key::Unequal | Key::Less | Key::AtMost | Key::Greater | Key::AtLeast => 3,
+        Key::Plus | Key::Minus => 4,
+        Key::Star => 5,
+        Key::LParen | Key::Dot => 6,
+        _ => 0,
+    }
+}
+
+/// Whether neither WHERE comes next, nor what goes on with an expression.
+pub fn ends_filter(words: &Words<'_>) -> bool
+    ensures { result ≡ spec.ends_filter words.now }
+{
+    binds(words) == 0 && !words.sees_word(b"WHERE")
+}
+
+/// Whether `. *` stands behind the next token.
+pub fn names_all(words: &Words<'_>) -> bool
+    ensures { result ≡ names_all words.now }
+{
+    let mut ahead = Words::new(words.rest());
+    ahead.skip();
+    ahead.eat(Key::Dot) && ahead.sees(Key::Star)
+}
+
+/// Whether a join comes next.
+pub fn sees_join(words: &Words<'_>) -> bool
+    ensures { result ≡ sees_join words.now }
+{
+    words.sees_word(b"INNER") || words.sees_word(b"JOIN")
+}

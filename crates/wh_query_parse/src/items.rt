@@ -1,0 +1,60 @@
+//! What SELECT shows.
+
+ghost use Rattle.std.specs.Prelude.{◌≡◌, []};
+ghost use Rattle.wh_expr_parse.specs.Gives.{Reads};
+ghost use Rattle.wh_query_parse.specs.Read as spec;
+
+use crate::follow::names_all;
+use crate::parts::{count, optional_alias};
+use sqlite_items::Items;
+use std::alloc::Global;
+use wh_ast::Item;
+use wh_expr_parse::{Key, ParseFault, Words, expr, name};
+
+/// Takes a name and the `. *` behind it.
+#[tactic(auto, unfolding(crate::specs::Read::read_all_of))]
+fn all_of(alloc: Global, words: &mut Words<'_>) -> Result<Item, ParseFault>
+    ensures { Reads (spec.read_all_of words.old) result words.new }
+{
+    let entry = name(alloc, words)?;
+    words.skip();
+    words.skip();
+    Ok(Item::StarOf(entry))
+}
+
+#[tactic(auto, unfolding(crate::specs::Read::read_shown))]
+fn shown(alloc: Global, words: &mut Words<'_>, depth: usize) -> Result<Item, ParseFault>
+    ensures { Reads (spec.read_shown depth words.old) result words.new }
+{
+    let x = expr(alloc, words, depth)?;
+    let alias = optional_alias(alloc, words)?;
+    Ok(Item::Expr(x, alias))
+}
+
+#[tactic(auto, unfolding(crate::specs::Read::read_item))]
+fn item(alloc: Global, words: &mut Words<'_>, depth: usize) -> Result<Item, ParseFault>
+    ensures { Reads (spec.read_item depth words.old) result words.new }
+{
+    if words.sees(Key::Star) {
+        words.skip();
+        return Ok(Item::Star);
+    }
+    if names_all(words) {
+        return all_of(alloc, words);
+    }
+    shown(alloc, words, depth)
+}
+
+/// One item or more, with commas between them.
+pub fn items(alloc: Global, words: &mut Words<'_>, depth: usize) -> Result<Items<Item>, ParseFault>
+    ensures { Reads (spec.listed (spec.read_item depth) words.old) result words.new }
+{
+    let mut found = Items::new(alloc);
+    for _turn in 0..count(words) {
+        found.push(item(alloc, words, depth)?)?;
+        if !words.eat(Key::Comma) {
+            return Ok(found);
+        }
+    }
+    Err(ParseFault::SyntaxError)
+}

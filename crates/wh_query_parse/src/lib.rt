@@ -1,0 +1,12 @@
+//! Queries among tokens.
+#![tactic(auto)]
+
+mod follow;
+mod grammar;
+mod items;
+mod parts;
+mod queries;
+#[cfg(test)]
+mod tests;
+
+pub use queries::{alias, filter, query, reading_laws, source};
