@@ -1,0 +1,11 @@
+pub mod NumberLemmas
+pub mod NameTexts
+pub mod SpanLemmas
+pub mod Yields
+pub mod LagLemmas
+pub mod Frames
+pub mod Conditions
+pub mod Options
+pub mod TaskLemmas
+pub mod TableLemmas
+pub mod Reading

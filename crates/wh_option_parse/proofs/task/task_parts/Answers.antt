@@ -1,0 +1,29 @@
+use Rattle.std.proofs.Common.{rules, arith}
+use Rattle.std.proofs.lemmas.Grind.{common_steps}
+use Rattle.wh_expr_parse.proofs.Turns.{one_more, no_more}
+use Rattle.wh_option_parse.specs.Read.{options_from, task_option}
+use Rattle.wh_option_parse.proofs.task.task_parts.Goals as goal
+
+pub returns-in_err-more : goal.returns-in_err-more
+unfolding options_from
+returns-in_err-more c =
+    let e = one_more (λ n. options_from task_option n c.loop-turn.parts c.loop-turn.words) 3 c.loop-turn._turn c.loop-turn-test.true c.loop-turn.invariant in
+    first_of (search rules, grind (arith, common_steps))
+
+pub returns-in_default : goal.returns-in_default
+unfolding options_from
+returns-in_default c =
+    let e = one_more (λ n. options_from task_option n c.loop-turn.parts c.loop-turn.words) 3 c.loop-turn._turn c.loop-turn-test.true c.loop-turn.invariant in
+    first_of (search rules, grind (arith, common_steps))
+
+pub loop-turn-preserved : goal.loop-turn-preserved
+unfolding options_from
+loop-turn-preserved c =
+    let e = one_more (λ n. options_from task_option n c.loop-turn.parts c.loop-turn.words) 3 c.loop-turn._turn c.loop-turn-test.true c.loop-turn.invariant in
+    first_of (search rules, grind (arith, common_steps))
+
+pub returns : goal.returns
+unfolding options_from
+returns c =
+    let e = no_more (λ n. options_from task_option n c.loop-turn.parts c.loop-turn.words) 3 c.loop-turn._turn c.loop-turn-test.false c.loop-turn.invariant in
+    first_of (search rules, grind (arith, common_steps))

@@ -1,0 +1,188 @@
+//! Conditions of tasks. The rules take the reader of what stands inside as a parameter, so that
+//! each is proved by itself.
+ghost use Rattle.std.specs.Prelude.{◌≡◌, length, IfOk};
+ghost use Rattle.wh_expr_parse.specs.Gives.{Reads};
+ghost use Rattle.wh_option_parse.specs.Nests.{Nests};
+ghost use Rattle.wh_option_parse.specs.Read as spec;
+
+use crate::lags::read_asked;
+use sqlite_items::Boxed;
+use std::alloc::{AllocError, Global};
+use wh_ast::Condition;
+use wh_expr_parse::{Key, ParseFault, Words};
+
+/// What may stand inside a condition.
+#[derive(Clone, Copy, Debug, PartialEq, Eq)]
+pub enum Level {
+    /// Inside parentheses.
+    Whole,
+    /// Behind NOT.
+    Negation,
+}
+
+#[derive(Clone, Copy)]
+pub struct Rules<F> {
+    pub alloc: Global,
+    /// How many parentheses and NOTs may still stand inside one another.
+    pub depth: usize,
+    pub inner: F,
+}
+
+fn left_count(words: &Words<'_>) -> usize
+    ensures { result ≡ length words.now }
+{
+    words.rest().len()
+}
+
+fn either(alloc: Global, x: Condition, y: Condition) -> Result<Condition, AllocError>
+    ensures { IfOk result (λ made. made ≡ Condition.Or x y) }
+{
+    Ok(Condition::Or(Boxed::new(alloc, x)?, Boxed::new(alloc, y)?))
+}
+
+fn both(alloc: Global, x: Condition, y: Condition) -> Result<Condition, AllocError>
+    ensures { IfOk result (λ made. made ≡ Condition.And x y) }
+{
+    Ok(Condition::And(Boxed::new(alloc, x)?, Boxed::new(alloc, y)?))
+}
+
+fn not(alloc: Global, x: Condition) -> Result<Condition, AllocError>
+    ensures { IfOk result (λ made. made ≡ Condition.Not x) }
+{
+    Ok(Condition::Not(Boxed::new(alloc, x)?))
+}
+
+impl<F: Fn(Global, &mut Words<'_>, usize, Level) -> Result<Condition, ParseFault>> Rules<F> {
+    fn inner(&self, words: &mut Words<'_>, level: Level) -> Result<Condition, ParseFault>
+        requires { Nests self.now.depth (F.pre self.now.inner) (F.post self.now.inner) }
+        ensures { Reads (spec.nested self.now.depth level words.old) result words.new }
+    {
+        (self.inner)(self.alloc, words, self.depth, level)
+    }
+
+    fn level(&self, words: &mut Words<'_>, level: Level) -> Result<Condition, ParseFault>
+        requires { Nests self.now.depth (F.pre self.now.inner) (F.post self.now.inner) }
+        ensures { Reads (spec.level (spec.nested self.now.depth) level words.old) result words.new }
+    {
+        match level {
+            Level::Whole => self.whole(words),
+            Level::Negation => self.negation(words),
+        }
+    }
+
+    /// Operands of OR.
+    fn whole(&self, words: &mut Words<'_>) -> Result<Condition, ParseFault>
+        requires { Nests self.now.depth (F.pre self.now.inner) (F.post self.now.inner) }
+        ensures { Reads (spec.whole (spec.nested self.now.depth) words.old) result words.new }
+    {
+        let mut left = self.conjunction(words)?;
+        for _turn in 0..left_count(words) {
+            if !words.sees_word(b"OR") {
+                return Ok(left);
+            }
+            words.skip();
+            let right = self.conjunction(words)?;
+            left = either(self.alloc, left, right)?;
+        }
+        Ok(left)
+    }
+
+    /// Operands of AND.
+    fn conjunction(&self, words: &mut Words<'_>) -> Result<Condition, ParseFault>
+        requires { Nests self.now.depth (F.pre self.now.inner) (F.post self.now.inner) }
+        ensures { Reads (spec.conjunction (spec.nested self.now.depth) words.old) result words.new }
+    {
+        let mut left = self.negation(words)?;
+        for _turn in 0..left_count(words) {
+            if !words.sees_word(b"AND") {
+                return Ok(left);
+            }
+            words.skip();
+            let right = self.negation(words)?;
+            left = both(self.alloc, left, right)?;
+        }
+        Ok(left)
+    }
+
+    #[tactic(auto, unfolding(crate::specs::Read::negation))]
+    fn negation(&self, words: &mut Words<'_>) -> Result<Condition, ParseFault>
+        requires { Nests self.now.depth (F.pre self.now.inner) (F.post self.now.inner) }
+        ensures { Reads (spec.negation (spec.nested self.now.depth) words.old) result words.new }
+    {
+        if words.sees_word(b"NOT") {
+            return self.negated(words);
+        }
+        if words.sees(Key::LParen) {
+            return self.parenthesized(words);
+        }
+        self.has_data(words)
+    }
+
+    /// At `NOT`.
+    #[tactic(auto, unfolding(crate::specs::Read::negated))]
+    fn negated(&self, words: &mut Words<'_>) -> Result<Condition, ParseFault>
+        requires { Nests self.now.depth (F.pre self.now.inner) (F.post self.now.inner) }
+        ensures { Reads (spec.negated (spec.nested self.now.depth) words.old) result words.new }
+    {
+        words.skip();
+        let x = self.inner(words, Level::Negation)?;
+        Ok(not(self.alloc, x)?)
+    }
+
+    /// At `(`.
+    #[tactic(auto, unfolding(crate::specs::Read::parenthesized))]
+    fn parenthesized(&self, words: &mut Words<'_>) -> Result<Condition, ParseFault>
+        requires { Nests self.now.depth (F.pre self.now.inner) (F.post self.now.inner) }
+        ensures { Reads (spec.parenthesized (spec.nested self.now.depth) words.old) result
+            words.new }
+    {
+        words.skip();
+        let x = self.inner(words, Level::Whole)?;
+        words.expect(Key::RParen)?;
+        Ok(x)
+    }
+
+    #[tactic(auto, unfolding(crate::specs::Read::has_data))]
+    fn has_data(&self, words: &mut Words<'_>) -> Result<Condition, ParseFault>
+        ensures { Reads (spec.has_data (spec.nested self.now.depth) words.old) result words.new }
+    {
+        let name = read_asked(self.alloc, words)?;
+        Ok(Condition::HasData(name))
+    }
+}
+
+/// What stands inside, with at most `depth` inside one another.
+fn nested(
+    alloc: Global,
+    words: &mut Words<'_>,
+    depth: usize,
+    level: Level,
+) -> Result<Condition, ParseFault>
+    ensures { Reads (spec.nested depth level words.old) result words.new }
+{
+    if depth == 0 {
+        return Err(ParseFault::SyntaxError);
+    }
+    Rules {
+        alloc,
+        depth: depth - 1,
+        inner: nested,
+    }
+    .level(words, level)
+}
+
+/// A condition, and neither OR nor AND behind it.
+#[tactic(auto, unfolding(crate::specs::Read::read_condition, crate::specs::Read::no_operator))]
+pub fn read_condition(
+    alloc: Global,
+    words: &mut Words<'_>,
+    depth: usize,
+) -> Result<Condition, ParseFault>
+    ensures { Reads (spec.read_condition depth words.old) result words.new }
+{
+    let x = nested(alloc, words, depth, Level::Whole)?;
+    if words.sees_word(b"OR") || words.sees_word(b"AND") {
+        return Err(ParseFault::SyntaxError);
+    }
+    Ok(x)
+}

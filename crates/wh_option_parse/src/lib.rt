@@ -1,0 +1,16 @@
+//! Options of tasks and dynamic tables, their texts, and the conditions of tasks.
+#![tactic(auto)]
+
+mod bytes;
+mod calls;
+mod lags;
+mod levels;
+mod names;
+mod span;
+mod table;
+mod task;
+#[cfg(test)]
+mod tests;
+
+pub use calls::{asked, condition, lag, reading_laws, table_options, task_options};
+pub use table::TableOptions;
