@@ -1,0 +1,5 @@
+mod Several
+mod Shorter
+mod Sound
+mod Complete
+pub mod Reading

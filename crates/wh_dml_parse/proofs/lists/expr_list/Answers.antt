@@ -1,0 +1,31 @@
+use Rattle.std.proofs.Common.{rules, arith}
+use Rattle.std.proofs.lemmas.Grind.{common_steps}
+use Rattle.wh_expr_parse.specs.declared.key.Key.TheVariants as k
+use Rattle.wh_expr_parse.specs.Steps.{eat_key}
+use Rattle.wh_expr_parse.specs.Read.{read_expr}
+use Rattle.wh_dml_parse.specs.Read.{some_from, read_exprs}
+use Rattle.wh_dml_parse.proofs.Several.{one_more, no_more, one_turn}
+use Rattle.wh_dml_parse.proofs.lists.expr_list.Goals as goal
+
+pub returns-in_err-expr : goal.returns-in_err-expr
+unfolding read_exprs some_from
+returns-in_err-expr c =
+    let e = one_more (λ n. some_from (read_expr c.args.depth) (eat_key k.Comma) n c.loop-turn.found c.loop-turn.words) _ c.loop-turn._turn c.loop-turn-test.true c.loop-turn.invariant in
+    first_of (search rules, grind (arith, common_steps))
+
+pub returns-then-not-eat : goal.returns-then-not-eat
+unfolding read_exprs some_from
+returns-then-not-eat c =
+    let e = one_more (λ n. some_from (read_expr c.args.depth) (eat_key k.Comma) n c.loop-turn.found c.loop-turn.words) _ c.loop-turn._turn c.loop-turn-test.true c.loop-turn.invariant in
+    first_of (search rules, grind (arith, common_steps))
+
+pub loop-turn-preserved : goal.loop-turn-preserved
+loop-turn-preserved c =
+    let e = one_more (λ n. some_from (read_expr c.args.depth) (eat_key k.Comma) n c.loop-turn.found c.loop-turn.words) _ c.loop-turn._turn c.loop-turn-test.true c.loop-turn.invariant in
+    grind (arith, common_steps, one_turn)
+
+pub returns : goal.returns
+unfolding read_exprs some_from
+returns c =
+    let e = no_more (λ n. some_from (read_expr c.args.depth) (eat_key k.Comma) n c.loop-turn.found c.loop-turn.words) _ c.loop-turn._turn c.loop-turn-test.false c.loop-turn.invariant in
+    first_of (search rules, grind (arith, common_steps))

@@ -1,0 +1,11 @@
+//! Statements that change rows, among tokens.
+#![tactic(auto)]
+
+mod changing;
+mod clauses;
+mod lists;
+mod statements;
+#[cfg(test)]
+mod tests;
+
+pub use statements::{dml, names, reading_laws};
