@@ -5,10 +5,10 @@ use Rattle.std.specs.Prelude.{nat_le, not, is_some, IsNone}
 use Rattle.std.specs.List.{AllByRecursion}
 use Rattle.std.proofs.lemmas.Bool.{leb-true, le-leb, not-true}
 use Rattle.std.proofs.lemmas.Bool.Decides.{Decides-and, Decides-eqb, Decides-ltb, Decides-like}
-use Rattle.wh_machine.specs.Table.{Column, ColumnType, NumberType, VarcharType, BooleanType, Table, State, latest, place_of}
+use Rattle.wh_machine.specs.Table.{Column, Table, State, latest, place_of}
 use Rattle.wh_machine.specs.Step.{row_fits, number_limit, objects_limit}
 use Rattle.wh_machine.specs.Commit.{Partition, TableChange, VersionChange, IsStoredName, NumberedFrom, RowsFit, TableApplies, VersionFits, FitsSome}
-use Rattle.wh_catalog.specs.Conditions.{is_stored_name, is_number, is_built_column, are_built_columns, table_applies, numbered_from, entry_fits, partition_fits, version_fits, fits_some}
+use Rattle.wh_catalog.specs.Conditions.{is_stored_name, is_stored_column, are_stored_columns, table_applies, numbered_from, entry_fits, partition_fits, version_fits, fits_some}
 use Rattle.wh_catalog.proofs.Apart.{Decides-list_all, Decides-all_apart}
 
 Decides-leb : (a b : ℕ) → Decides (nat_le a b) (a ≤ b)
@@ -24,46 +24,33 @@ not_from_false false e = refl
 Decides-none : {A : Type 0} (o : Option A) → Decides (not (is_some o)) (IsNone o)
 Decides-none o = (not-true (is_some o), not_from_false (is_some o))
 
-Decides-number : (t : ColumnType) → Decides (is_number t) (t ≡ NumberType)
-Decides-number NumberType = (λ _. refl, λ _. refl)
-Decides-number VarcharType = (λ e. cc, λ e. cc)
-Decides-number BooleanType = (λ e. cc, λ e. cc)
-
 Decides-name : (name : List ℕ) → Decides (is_stored_name name) (IsStoredName name)
 Decides-name name = Decides-and _ _ (Decides-ltb 0 (length name)) (Decides-leb (length name) 255)
 
 -- ---- a new table
 
-both_of : {X : Type 0} (P Q : X → Type 0) (xs : List X) → AllByRecursion (λ x. P x × Q x) xs → AllByRecursion P xs × AllByRecursion Q xs
-both_of P Q [] each = (tt, tt)
-both_of P Q (x ∷ xs) each = let rest = both_of P Q xs each.1 in ((each.0.0, rest.0), (each.0.1, rest.1))
-
-both_from : {X : Type 0} (P Q : X → Type 0) (xs : List X) → AllByRecursion P xs → AllByRecursion Q xs → AllByRecursion (λ x. P x × Q x) xs
-both_from P Q [] ps qs = tt
-both_from P Q (x ∷ xs) ps qs = ((ps.0, qs.0), both_from P Q xs ps.1 qs.1)
-
-Decides-columns : (columns : List Column) → Decides (are_built_columns columns) ((0 < length columns) × ((length columns ≤ 64) × AllByRecursion (λ column. IsStoredName column.name × (column.column_type ≡ NumberType)) columns))
+Decides-columns : (columns : List Column) → Decides (are_stored_columns columns) ((0 < length columns) × ((length columns ≤ 64) × AllByRecursion (λ column. IsStoredName column.name) columns))
 Decides-columns columns =
     Decides-and _ _ (Decides-ltb 0 (length columns)) (Decides-and _ _ (Decides-leb (length columns) 64)
-    (Decides-list_all is_built_column _ (λ column. Decides-and _ _ (Decides-name column.name) (Decides-number column.column_type)) columns))
+    (Decides-list_all is_stored_column _ (λ column. Decides-name column.name) columns))
 
 pub Decides-table_applies : (s : State) (c : TableChange) → Decides (table_applies s.tables c) (TableApplies s c)
 Decides-table_applies s c =
     Decides-like (table_applies s.tables c)
-    (λ h. let columns = both_of _ _ c.columns h.1.1.1.1.1.1.1 in record {
+    (λ h. record {
       next_id = h.0;
       few = h.1.0;
       free = h.1.1.0;
       name = h.1.1.1.0;
-      built = (h.1.1.1.1.0, columns.1);
       some_column = h.1.1.1.1.1.0;
       few_columns = h.1.1.1.1.1.1.0;
-      column_names = columns.0;
+      column_names = h.1.1.1.1.1.1.1;
+      retention = h.1.1.1.1.0;
     })
-    (λ a. (a.next_id, (a.few, (a.free, (a.name, (a.built.0, (a.some_column, (a.few_columns, both_from _ _ c.columns a.column_names a.built.1))))))))
+    (λ a. (a.next_id, (a.few, (a.free, (a.name, (a.retention, (a.some_column, (a.few_columns, a.column_names))))))))
     (Decides-and _ _ (Decides-eqb c.id (length s.tables + 1)) (Decides-and _ _ (Decides-ltb (length s.tables) objects_limit)
     (Decides-and _ _ (Decides-none (place_of c.name s.tables)) (Decides-and _ _ (Decides-name c.name)
-    (Decides-and _ _ (Decides-eqb c.retention 1) (Decides-columns c.columns))))))
+    (Decides-and _ _ (Decides-leb c.retention 90) (Decides-columns c.columns))))))
 
 -- ---- a new version
 

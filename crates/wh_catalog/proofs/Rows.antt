@@ -9,7 +9,7 @@ use Rattle.wh_machine.specs.Table as machine
 use Rattle.wh_machine.specs.Step.{fits, row_fits}
 use Rattle.wh_value.specs.declared.column.Column.{Column}
 use Rattle.wh_value.specs.View.{column_of}
-use Rattle.wh_catalog.specs.Conditions.{is_built_column, are_built_columns}
+use Rattle.wh_catalog.specs.Conditions.{is_stored_column, are_stored_columns}
 use Rattle.wh_catalog.proofs.Apart.{list_all-map}
 
 pub not_as_long : (columns : List machine.Column) (row : Row) → (length columns ≡ length row → ⊥) → row_fits columns row ≡ false
@@ -18,10 +18,10 @@ not_as_long [] (v ∷ vs) apart = refl
 not_as_long (c ∷ cs) [] apart = refl
 not_as_long (c ∷ cs) (v ∷ vs) apart = and_right (fits c.column_type v) _ (not_as_long cs vs (λ e. apart (omega arith)))
 
-pub built_by_each : (columns : List Column) → 0 < length columns → length columns ≤ 64
-    → are_built_columns (map column_of columns) ≡ list_all (λ column. is_built_column (column_of column)) columns
-built_by_each columns some few =
+pub stored_by_each : (columns : List Column) → 0 < length columns → length columns ≤ 64
+    → are_stored_columns (map column_of columns) ≡ list_all (λ column. is_stored_column (column_of column)) columns
+stored_by_each columns some few =
     let count = length-map columns column_of in
     let some_true : nat_lt 0 (length (map column_of columns)) ≡ true = lt-ltb 0 _ (omega arith) in
     let few_true : nat_le (length (map column_of columns)) 64 ≡ true = le-leb _ 64 (omega arith) in
-    (λ i. some_true i && (few_true i && list_all is_built_column (map column_of columns))) ∙ list_all-map is_built_column column_of columns
+    (λ i. some_true i && (few_true i && list_all is_stored_column (map column_of columns))) ∙ list_all-map is_stored_column column_of columns

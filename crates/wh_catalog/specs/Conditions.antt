@@ -5,7 +5,7 @@
 use Rattle.std.specs.Prelude.{ℕ, ◌+◌, max, Bool, true, false, not, ◌&&◌, ◌==◌, List, [], ◌∷◌, length, is_some, nat_lt, nat_le, Option, Some, None}
 use Rattle.std.specs.List.{list_all}
 use Rattle.wh_machine.specs.Value.{Row}
-use Rattle.wh_machine.specs.Table.{Column, ColumnType, NumberType, VarcharType, BooleanType, Table, latest, place_of}
+use Rattle.wh_machine.specs.Table.{Column, Table, latest, place_of}
 use Rattle.wh_machine.specs.Step.{row_fits, number_limit, objects_limit}
 use Rattle.wh_machine.specs.Commit.{Partition, TableChange, VersionChange, first_number, last_number}
 use Rattle.wh_catalog.specs.Apart.{all_apart}
@@ -15,21 +15,16 @@ use Rattle.wh_catalog.specs.Apart.{all_apart}
 abbrev pub is_stored_name : List ℕ → Bool
 is_stored_name name = nat_lt 0 (length name) && nat_le (length name) 255
 
-abbrev pub is_number : ColumnType → Bool
-is_number NumberType = true
-is_number VarcharType = false
-is_number BooleanType = false
+abbrev pub is_stored_column : Column → Bool
+is_stored_column column = is_stored_name column.name
 
-abbrev pub is_built_column : Column → Bool
-is_built_column column = is_stored_name column.name && is_number column.column_type
-
-abbrev pub are_built_columns : List Column → Bool
-are_built_columns columns = nat_lt 0 (length columns) && (nat_le (length columns) 64 && list_all is_built_column columns)
+abbrev pub are_stored_columns : List Column → Bool
+are_stored_columns columns = nat_lt 0 (length columns) && (nat_le (length columns) 64 && list_all is_stored_column columns)
 
 abbrev pub table_applies : List Table → TableChange → Bool
 table_applies tables c =
     (c.id == length tables + 1) && (nat_lt (length tables) objects_limit && (not (is_some (place_of c.name tables))
-    && (is_stored_name c.name && ((c.retention == 1) && are_built_columns c.columns))))
+    && (is_stored_name c.name && (nat_le c.retention 90 && are_stored_columns c.columns))))
 
 -- ---- a new version
 

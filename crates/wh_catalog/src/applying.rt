@@ -1,6 +1,6 @@
 use crate::Catalog;
 use wh_record::{Change, Commit, TableChange, VersionChange};
-use wh_value::{Column, ColumnType, Text};
+use wh_value::{Column, Text};
 
 /// Stamps are below it, and row numbers up to it.
 pub(crate) const NUMBER_LIMIT: u64 = 1 << 62;
@@ -11,6 +11,9 @@ const MAX_COLUMNS: usize = 64;
 
 /// The most bytes of a name.
 const MAX_NAME: usize = 255;
+
+/// The most days of a retention.
+const MAX_RETENTION: u8 = 90;
 
 impl Catalog {
     ghost use Rattle.std.specs.Prelude.{◌≡◌, [], map, unwrap_or};
@@ -46,8 +49,8 @@ impl Catalog {
             && self.tables.len() < MAX_TABLES
             && self.find(change.name.as_bytes()).is_none()
             && is_stored_name(&change.name)
-            && change.retention == 1
-            && are_built_columns(&change.columns)
+            && change.retention <= MAX_RETENTION
+            && are_stored_columns(&change.columns)
     }
 
     fn version_applies(&self, change: &VersionChange) -> bool
@@ -66,7 +69,7 @@ impl Catalog {
 ghost use Rattle.std.specs.Prelude.{◌≡◌, map};
 ghost use Rattle.std.specs.List.{list_all};
 ghost use Rattle.wh_value.specs.View.{column_of};
-ghost use Rattle.wh_catalog.specs.Conditions.{is_stored_name, is_built_column, are_built_columns};
+ghost use Rattle.wh_catalog.specs.Conditions.{is_stored_name, is_stored_column, are_stored_columns};
 
 fn is_stored_name(name: &Text) -> bool
     ensures { result ≡ is_stored_name name.now }
@@ -75,24 +78,24 @@ fn is_stored_name(name: &Text) -> bool
     0 < bytes.len() && bytes.len() <= MAX_NAME
 }
 
-fn are_built_columns(columns: &[Column]) -> bool
-    ensures { result ≡ are_built_columns (map column_of columns.now) }
+fn are_stored_columns(columns: &[Column]) -> bool
+    ensures { result ≡ are_stored_columns (map column_of columns.now) }
 {
     let count = columns.len();
     if count == 0 || MAX_COLUMNS < count {
         return false;
     }
-    all_built(columns)
+    all_stored(columns)
 }
 
-fn all_built(columns: &[Column]) -> bool
-    ensures { result ≡ list_all (λ column. is_built_column (column_of column)) columns.now }
+fn all_stored(columns: &[Column]) -> bool
+    ensures { result ≡ list_all (λ column. is_stored_column (column_of column)) columns.now }
 {
-    columns.iter().all(|column| is_built_column(column))
+    columns.iter().all(|column| is_stored_column(column))
 }
 
-fn is_built_column(column: &Column) -> bool
-    ensures { result ≡ is_built_column (column_of column.now) }
+fn is_stored_column(column: &Column) -> bool
+    ensures { result ≡ is_stored_column (column_of column.now) }
 {
-    is_stored_name(&column.name) && column.column_type == ColumnType::Number
+    is_stored_name(&column.name)
 }

@@ -133,19 +133,22 @@ fn tables_that_do_not_apply_are_refused(rt: HostRuntime) -> Result<(), Fail> {
         ("a name that is taken", 13, 2, &b"t"[..], 1, 1, number),
         ("no name", 13, 2, &b""[..], 1, 1, number),
         ("a name too long", 13, 2, &long[..], 1, 1, number),
-        ("two days of retention", 13, 2, &b"u"[..], 2, 1, number),
+        ("91 days of retention", 13, 2, &b"u"[..], 91, 1, number),
         ("no column", 13, 2, &b"u"[..], 1, 0, number),
         ("65 columns", 13, 2, &b"u"[..], 1, 65, number),
-        ("texts", 13, 2, &b"u"[..], 1, 1, ColumnType::Varchar),
     ];
     for (case, stamp, id, name, retention, count, column_type) in cases {
         let commit = creation(alloc, stamp, id, name, retention, count, column_type)?;
         let found = catalog.reserve(&commit);
         assert_eq!(rt; found, Err(ReserveFault::NotApplicable), "{case}");
     }
-    // As long a name and as many columns as may be.
-    let most = creation(alloc, 13, 2, &long[1..], 1, 64, number)?;
-    carry_out(&mut catalog, most)
+    // As long a name, as many columns and as many days as may be, and no day, in each type.
+    let most = creation(alloc, 13, 2, &long[1..], 90, 64, number)?;
+    carry_out(&mut catalog, most)?;
+    let texts = creation(alloc, 14, 3, b"u", 0, 1, ColumnType::Varchar)?;
+    carry_out(&mut catalog, texts)?;
+    let truths = creation(alloc, 15, 4, b"w", 1, 1, ColumnType::Boolean)?;
+    carry_out(&mut catalog, truths)
 }
 
 #[test]

@@ -14,7 +14,7 @@ resting_change s (CreatesTable c) h = record {
   some_column = h.some_column;
   few_columns = h.few_columns;
   column_names = h.column_names;
-  built = h.built;
+  retention = h.retention;
 }
 resting_change s (PushesVersion c) h = h
 

@@ -8,5 +8,11 @@ mod OpenLemmas
 mod PlanLemmas
 mod MadeLemmas
 mod CutLemmas
+mod LiteralLemmas
+mod FormLemmas
+mod RequestLemmas
+mod NameLemmas
+mod LimitLemmas
+mod CreateLemmas
 pub mod LawLemmas
 pub mod StopLemmas

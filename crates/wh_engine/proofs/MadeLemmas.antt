@@ -1,19 +1,23 @@
 -- The commit that a statement makes, and the room that it needs.
 --     made_refused, made_accepted     of any statement
---     made_at, made_beyond            of an event
+--     event_makes, made_beyond        of an event
 --     carried_insert                  an INSERT is carried out at its table's place
 use Rattle.std.proofs.Common.{◌≡◌, ℕ, ◌+◌, ◌<◌, ◌≤◌, List, length, slice_get, Option, Some, None, option_map, Bool, true, false, cond, ltb, refl, ap, sym, ◌∙◌, arith}
 use Rattle.std.specs.Prelude.{IsTrue}
 use Rattle.std.proofs.lemmas.Bool.{lt-ltb, le-ltb, ltb-true}
 use Rattle.wh_machine.specs.Value.{Row}
 use Rattle.wh_machine.specs.Table.{State, Table, Column, place_of}
-use Rattle.wh_machine.specs.Statement.{Statement, CreateTable, InsertValues, SelectAll}
-use Rattle.wh_machine.specs.Reading.{statement_of}
+use Rattle.wh_ast.specs.declared.statement.Statement as tree
+use Rattle.wh_grammar.specs.Spelled.{TooLong, Unreadable, Asked}
+use Rattle.wh_machine.specs.Statement.{Statement, CreateTable, InsertValues, SelectAll, form_of}
 use Rattle.wh_machine.specs.Reply.{Reply, Refusal, Refused, Unsupported, UnknownName, is_refusal}
-use Rattle.wh_machine.specs.Step.{Event, carried_out, create_table, insert_at, stamp_of, number_limit, numbered}
+use Rattle.wh_machine.specs.Step.{Event, reading_of, is_session, carried_out, create_table, insert_at, stamp_of, number_limit, numbered}
 use Rattle.wh_machine.specs.Commit.{Commit, Change, PushesVersion}
-use Rattle.wh_machine.specs.Made.{cut, change_of, made_by, made, is_beyond, record_length}
+use Rattle.wh_machine.specs.Made.{cut, change_of, made_by, made_for, made_at, made, is_beyond, record_length}
 use Rattle.wh_engine.specs.Plan.{stamped}
+
+abbrev Tree : Type 0
+Tree = tree.Statement
 
 pub made_refused : (s t : State) (statement : Option Statement) (why : Refusal) → carried_out s statement ≡ (t, Refused why) → made_by s statement ≡ None
 unfolding made_by
@@ -30,7 +34,7 @@ made_accepted s t statement reply e accepted =
 
 -- ---- statement by statement
 
-carried_none : (s : State) → carried_out s None ≡ (s, Refused Unsupported)
+pub carried_none : (s : State) → carried_out s None ≡ (s, Refused Unsupported)
 unfolding carried_out
 carried_none s = refl
 
@@ -45,9 +49,10 @@ pub made_select : (s : State) (name : List ℕ) → made_by s (Some (SelectAll n
 unfolding made_by
 made_select s name = either_none (is_refusal (carried_out s (Some (SelectAll name))).1)
 
-pub carried_create : (s : State) (name : List ℕ) (columns : List Column) → carried_out s (Some (CreateTable name columns)) ≡ create_table s name columns
+pub carried_create : (s : State) (name : List ℕ) (columns : List Column) (retention : ℕ)
+    → carried_out s (Some (CreateTable name columns retention)) ≡ create_table s name columns retention
 unfolding carried_out
-carried_create s name columns = refl
+carried_create s name columns retention = refl
 
 pub carried_insert : (s : State) (name : List ℕ) (rows : List Row) (place : ℕ) (t : Table) → place_of name s.tables ≡ Some place → slice_get s.tables place ≡ Some t
     → carried_out s (Some (InsertValues name rows)) ≡ insert_at s place t rows
@@ -83,23 +88,41 @@ made_insert s u name rows place t reply at get is accepted =
 
 -- ---- an event
 
-made_within : (s : State) (e : Event) → stamp_of s e.reading < number_limit → made s e ≡ made_by (record s { last = stamp_of s e.reading }) (statement_of e.text)
+made_within : (s : State) (e : Event) → stamp_of s (reading_of e) < number_limit → made s e ≡ made_at (record s { last = stamp_of s (reading_of e) }) e
 unfolding made
 made_within s e h =
-    let test : ltb (stamp_of s e.reading) number_limit ≡ true = lt-ltb _ _ h in
+    let test : ltb (stamp_of s (reading_of e)) number_limit ≡ true = lt-ltb _ _ h in
     rw test
 
--- it makes what its statement makes at its stamp
-pub made_at : (s : State) (e : Event) (stamp : ℕ) (o : Option Commit) → stamp ≡ stamp_of s e.reading → stamp < number_limit
-    → o ≡ made_by (stamped s stamp) (statement_of e.text) → o ≡ made s e
-made_at s e stamp o is within makes =
-    makes ∙ ap (λ (n : ℕ). made_by (stamped s n) (statement_of e.text)) is ∙ sym (made_within s e (omega arith))
+-- it makes what it makes at its stamp
+pub event_makes : (s : State) (e : Event) (stamp : ℕ) (o : Option Commit) → stamp ≡ stamp_of s (reading_of e) → stamp < number_limit
+    → o ≡ made_at (stamped s stamp) e → o ≡ made s e
+event_makes s e stamp o is within makes =
+    makes ∙ ap (λ (n : ℕ). made_at (stamped s n) e) is ∙ sym (made_within s e (omega arith))
 
-pub made_beyond : (s : State) (e : Event) → number_limit ≤ stamp_of s e.reading → made s e ≡ None
+pub made_beyond : (s : State) (e : Event) → number_limit ≤ stamp_of s (reading_of e) → made s e ≡ None
 unfolding made
 made_beyond s e h =
-    let test : ltb (stamp_of s e.reading) number_limit ≡ false = le-ltb _ _ h in
+    let test : ltb (stamp_of s (reading_of e)) number_limit ≡ false = le-ltb _ _ h in
     rw test
+
+-- ---- a command
+
+pub makes_long : (s : State) (session : ℕ) → made_for s session TooLong ≡ None
+unfolding made_for
+makes_long s session = refl
+
+pub makes_unreadable : (s : State) (session : ℕ) → made_for s session Unreadable ≡ None
+unfolding made_for
+makes_unreadable s session = refl
+
+pub makes_for_none : (s : State) (session : ℕ) (t : Tree) → is_session session ≡ false → made_for s session (Asked t) ≡ None
+unfolding made_for
+makes_for_none s session t e = rw e
+
+pub makes_carried : (s : State) (session : ℕ) (t : Tree) → is_session session ≡ true → made_for s session (Asked t) ≡ made_by s (form_of t)
+unfolding made_for
+makes_carried s session t e = rw e
 
 -- ---- the room
 

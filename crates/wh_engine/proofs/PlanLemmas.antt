@@ -1,5 +1,5 @@
 -- What plans come to.
---     outcome_refused     a plan without a commit
+--     outcome_without, outcome_refused     a plan without a commit
 --     applied_create, applied_insert     the state that a commit leaves, as a statement says it
 use Rattle.std.proofs.Common.{◌≡◌, ℕ, suc, ◌+◌, List, [], ◌∷◌, ◌++◌, Option, Some, None, length, slice_get, slice_set, option_map, refl, ap, sym, ◌∙◌, add-one}
 use Rattle.std.specs.List.{flat_map}
@@ -15,11 +15,15 @@ use Rattle.wh_engine.specs.Plan.{stamped, turned, outcome}
 use Rattle.wh_engine.specs.declared.plan.Plan.{Plan}
 use Rattle.wh_engine.proofs.RowLemmas.{rows_of-append}
 
-pub outcome_refused : (s : Stored) (stamp : ℕ) (p : Plan) (why : Refusal) → reply_view p.reply ≡ Refused why → p.commit ≡ None
-    → outcome s stamp p ≡ (stamped s.state stamp, Refused why)
-outcome_refused s stamp p why reply commit =
+pub outcome_without : (s : Stored) (stamp : ℕ) (p : Plan) (r : Reply) → reply_view p.reply ≡ r → p.commit ≡ None
+    → outcome s stamp p ≡ (stamped s.state stamp, r)
+outcome_without s stamp p r reply commit =
     ap (λ (o : Option Commit). ((turned s stamp (option_map commit_of o)).state, reply_view p.reply)) commit
     ∙ ap (λ (r : Reply). (stamped s.state stamp, r)) reply
+
+pub outcome_refused : (s : Stored) (stamp : ℕ) (p : Plan) (why : Refusal) → reply_view p.reply ≡ Refused why → p.commit ≡ None
+    → outcome s stamp p ≡ (stamped s.state stamp, Refused why)
+outcome_refused s stamp p why reply commit = outcome_without s stamp p (Refused why) reply commit
 
 pub applied_create : (s : Stored) (stamp : ℕ) (c : TableChange) → (applied s (record { stamp = stamp; change = CreatesTable c })).state
     ≡ record { last = stamp; committed = stamp; tables = s.state.tables ++ new_table c.name c.columns c.retention stamp ∷ [] }

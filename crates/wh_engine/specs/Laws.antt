@@ -4,7 +4,7 @@ use Rattle.wh_machine.specs.Table.{State}
 use Rattle.wh_machine.specs.Reply.{is_refusal}
 use Rattle.wh_machine.specs.Step.{Event, step}
 
--- a refused command changes nothing but the last stamp
+-- a refused event changes nothing but the last stamp
 abbrev pub RefusalsChangeNothing : Type 0
 RefusalsChangeNothing = (s : State) (e : Event) → IsTrue (is_refusal (step s e).1)
     → ((step s e).0.tables ≡ s.tables) × ((step s e).0.committed ≡ s.committed)

@@ -1,5 +1,10 @@
 pub mod Fault
 pub mod Warehouse
+pub mod Occasion
+pub mod Built
+pub mod Literals
+pub mod Forms
+pub mod Limits
 pub mod Plan
 pub mod Replay
 pub mod Laws

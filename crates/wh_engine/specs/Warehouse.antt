@@ -3,13 +3,15 @@
 --     Filed        where the disk's bytes are told, they are a file of commits that lead to this state at rest
 --     StandsForEither     what a crash leaves while a command leads from one state to another
 --     IsUntouched  a halt left all as it was
+--     command      the event of a command
 use Rattle.std.specs.Prelude.{◌≡◌, ◌≤◌, ◌⊎◌, ℕ, List, map, Option, Some}
 use Rattle.std.specs.List.{AllByRecursion}
 use Rattle.wh_machine.specs.Table.{State, at_rest}
-use Rattle.wh_machine.specs.Step.{Event}
+use Rattle.wh_machine.specs.Step.{Event, Command}
 use Rattle.wh_machine.specs.Commit.{Commit, first_stored, resting, Leads}
 use Rattle.wh_machine.specs.Spelling.{payload_of, IsCommit}
 use Rattle.wh_machine.specs.File.{IsFileOf, Stands}
+use Rattle.wh_stmt_parse.specs.Request.{request_of}
 use Rattle.wh_journal.specs.Journal as journals
 use Rattle.wh_journal.specs.declared.journal.Journal.{Journal}
 use Rattle.wh_catalog.specs.Catalog.{stored_of}
@@ -39,8 +41,9 @@ pub record IsUntouched {D : Type 0} (old new : D) (j k : Journal) (c d : Catalog
   pub journal : journals.IsSame j k
   pub catalog : stored_of d ≡ stored_of c
 
+-- a command's text, as what it asks for
 abbrev pub command : ℕ → ℕ → List ℕ → Event
-command reading session text = record { reading = reading; session = session; text = text }
+command reading session text = Command reading session (request_of text)
 
 abbrev pub StandsForEither : State → State → List ℕ → Type 0
 StandsForEither old new image = Stands image (at_rest old) ⊎ Stands image (at_rest new)

@@ -1,14 +1,19 @@
-//! The warehouse: a file, and the machine's state that it stands for. One command is the
+//! The warehouse: a file, and the machine's state that it stands for. One event is the
 //! machine's step.
 #![tactic(auto)]
 
+mod built;
 mod create;
 mod cut;
 mod exec;
 mod fault;
 mod finish;
+mod forms;
 mod insert;
 mod laws;
+mod limits;
+mod literals;
+mod occasion;
 mod open;
 mod plan;
 mod planning;
@@ -16,6 +21,7 @@ mod replay;
 mod select;
 #[cfg(test)]
 mod tests;
+mod turn;
 mod warehouse;
 
 pub use fault::{Halt, OpenFault};

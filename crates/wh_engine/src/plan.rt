@@ -1,7 +1,7 @@
 use wh_record::Commit;
 use wh_text::{Refusal, Reply};
 
-/// What a statement comes to: its reply, and the commit that it makes if it makes one. Nothing is
+/// What an event comes to: its reply, and the commit that it makes if it makes one. Nothing is
 /// changed yet.
 #[derive(Debug, Drop)]
 pub(crate) struct Plan {
@@ -21,6 +21,17 @@ impl Plan {
     {
         Plan {
             reply: Reply::Refused(why),
+            commit: None,
+        }
+    }
+
+    // Nothing is due.
+    pub(crate) fn idle() -> Plan
+        ensures reply { reply_view result.reply ≡ machine.Idle }
+        ensures commit { result.commit ≡ None }
+    {
+        Plan {
+            reply: Reply::Idle,
             commit: None,
         }
     }

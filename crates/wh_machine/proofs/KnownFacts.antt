@@ -1,49 +1,106 @@
 -- Known values of the definitions, worked out by hand: a wrong rule doesn't check.
-use Rattle.std.proofs.Common.{◌≡◌, ℕ, List, [], ◌∷◌, ◌++◌, Some, None, true, pos, negsuc, refl, sym, ◌∙◌, length, nat_cmp}
+use Rattle.std.proofs.Common.{◌≡◌, ap, ℕ, List, [], ◌∷◌, ◌++◌, Option, Some, None, true, false, pos, negsuc, refl, sym, ◌∙◌, length, nat_cmp}
 use Rattle.std.proofs.lemmas.List.{nil_from_length}
 use Rattle.std.specs.Prelude.{codes}
 use Rattle.std.specs.FinMap.{entries, entries-insert, empty, values, len-entries, len-empty}
 use Rattle.std.specs.Cmp.{nat_cmp_total}
 use Rattle.wh_value.specs.Value.{Number, Truth, Text, Null, Row, literal}
-use Rattle.wh_machine.specs.Table.{first_state, with_entries}
-use Rattle.wh_machine.specs.Statement.{CreateTable, InsertValues, SelectAll}
-use Rattle.wh_machine.specs.Reading.{statement_of, statement_of_tokens, tokens_of, token_of, pieces_of, columns_of, is_column, is_reserved, is_word, is_call, creation, rows_from, number_column}
-use Rattle.wh_machine.specs.Reply.{print}
-use Rattle.wh_machine.specs.Step.{step, carried_out, create_table, insert_at, text, in_order, numbered}
-use Rattle.wh_machine.specs.Script.{events, commands_of}
+use Rattle.wh_value.specs.declared.value.Value.TheVariants as v
+use Rattle.wh_value.specs.declared.column.ColumnType as types_of
+use Rattle.wh_value.specs.declared.column.ColumnType.TheVariants as types
+use Rattle.wh_value.specs.declared.column.Column as written
+use Rattle.wh_ast.specs.declared.expr.Expr.{Expr, out-Expr, roll-Expr, out-roll-Expr}
+use Rattle.wh_ast.specs.declared.expr.Expr.TheOpen.{Expr-F}
+use denote.Hole.Carrier.{out, roll}
+use Rattle.wh_ast.specs.declared.expr.Expr.TheVariants as e
+use Rattle.wh_ast.specs.declared.query.Query.{roll-Query}
+use Rattle.wh_ast.specs.declared.query.Core.{roll-Core}
+use Rattle.wh_ast.specs.declared.query.Item.TheVariants as i
+use Rattle.wh_ast.specs.declared.query.Source.TheVariants as source
+use Rattle.wh_ast.specs.declared.dml.Dml.TheVariants as dml
+use Rattle.wh_ast.specs.declared.dml.Rows.TheVariants as rows
+use Rattle.wh_ast.specs.declared.statement.Statement as tree
+use Rattle.wh_ast.specs.declared.statement.Statement.TheVariants as st
+use Rattle.wh_grammar.specs.Spelled.{TooLong, Unreadable, Asked}
+use Rattle.wh_machine.specs.Table.{NumberType, first_state, with_entries}
+use Rattle.wh_machine.specs.Statement.{CreateTable, InsertValues, behind_minus, literal_in, literal_of, form_of}
+use Rattle.wh_machine.specs.Reply.{Refused, Unsupported, NoSuchSession, print}
+use Rattle.wh_machine.specs.Step.{Event, Command, Tick, step, commanded, carried_out, create_table, taken_name, insert_at, text, in_order, numbered}
+use Rattle.wh_machine.specs.Script.{CommandLine, SessionLine, TickLine, lines_of, lines_from, place_behind, area_behind, marked_line, without_return}
 use Rattle.wh_machine.specs.Commit.{CreatesTable, PushesVersion}
 use Rattle.wh_machine.specs.Spelling.{payload_of, change_bytes, table_bytes, version_bytes, partition_bytes, row_bytes, value_bytes, column_bytes}
 use Rattle.wh_machine.specs.File.{record_of, records_of}
 
-spelled : statement_of (codes "create table T(K NUMBER, v NUMBER)") ≡ Some (CreateTable (codes "T") (number_column (codes "K") ∷ number_column (codes "V") ∷ []))
-unfolding statement_of statement_of_tokens tokens_of token_of pieces_of columns_of is_column is_reserved is_word is_call creation
-spelled = refl
+-- ---- lines and events
 
-values_spelled : statement_of (codes "INSERT INTO T VALUES (007, -5), (NULL,- 0)")
-    ≡ Some (InsertValues (codes "T") ((Number (pos 7) ∷ Number (negsuc 4) ∷ []) ∷ (Null ∷ Number (pos 0) ∷ []) ∷ []))
-unfolding statement_of statement_of_tokens tokens_of token_of pieces_of is_reserved is_word is_call rows_from
-values_spelled = refl
+-- a `;` in quotes and comments ends no command, `''` stays inside its quotes, and a comment between commands is passed over
+lines : lines_of (codes "A 'x;''y' /* ; */ b;;--c;d\n/*e*/ !session 2\r\n\"f;\"-- ;\n") ≡
+    CommandLine (codes "A 'x;''y' /* ; */ b") ∷ SessionLine 2 ∷ CommandLine (codes "\"f;\"-- ;\n") ∷ []
+unfolding lines_from place_behind area_behind marked_line without_return
+lines = refl
 
-selected : statement_of (codes "SELECT*FROM metadata$t ") ≡ Some (SelectAll (codes "METADATA$T"))
-unfolding statement_of statement_of_tokens tokens_of token_of pieces_of is_reserved is_word is_call
-selected = refl
+-- a star and a slash that a comment shares with its opening don't close it, and a comment without its end begins a command
+comments : (lines_of (codes "/*/a;*/b") ≡ CommandLine (codes "b") ∷ []) × (lines_of (codes "/*a;") ≡ CommandLine (codes "/*a;") ∷ [])
+unfolding lines_from place_behind area_behind marked_line without_return
+comments = (refl, refl)
 
--- a call's word before a parenthesis, a reserved word as a name, two signs, 19 digits, a letter behind digits, a comment
-refused_texts : (statement_of (codes "CREATE TABLE SUM(K NUMBER)") ≡ None) × (statement_of (codes "SELECT * FROM FROM") ≡ None)
-    × (statement_of (codes "INSERT INTO T VALUES (--1)") ≡ None) × (statement_of (codes "INSERT INTO T VALUES (1000000000000000000)") ≡ None)
-    × (statement_of (codes "INSERT INTO T VALUES (1a)") ≡ None) × (statement_of (codes "SELECT * FROM T --") ≡ None)
-    × (statement_of (codes "CREATE TABLE T(K NUMBER, k NUMBER)") ≡ None) × (statement_of (codes "CREATE TABLE T(METADATA$K NUMBER)") ≡ None)
-unfolding statement_of statement_of_tokens tokens_of token_of pieces_of columns_of is_column is_reserved is_word is_call creation rows_from
-refused_texts = (refl, refl, refl, refl, refl, refl, refl, refl)
+ticks : lines_of (codes "!tick\n!tick 05\n!tick  5\n!session 1234567890\n!tick\r") ≡
+    TickLine None ∷ TickLine (Some 5) ∷ CommandLine (codes "!tick  5") ∷ CommandLine (codes "!session 1234567890") ∷ CommandLine (codes "!tick\r") ∷ []
+unfolding lines_from place_behind area_behind marked_line without_return
+ticks = refl
 
-scripts : commands_of (codes ";; A b ; ;c") ≡ codes "A b " ∷ codes "c" ∷ []
-scripts = refl
+-- ---- statements as trees
+
+abbrev column : List ℕ → types_of.ColumnType → written.Column
+column name type = record { name = name; column_type = type }
+
+abbrev creation : List ℕ → List written.Column → Option ℕ → tree.Statement
+creation name columns retention = st.CreateTable (record { replace = false; name = name; columns = columns; retention = retention })
+
+abbrev pub insertion : List ℕ → List (List Expr) → tree.Statement
+insertion table found = st.Dml (dml.Insert table None (rows.Values found))
+
+abbrev pub selection : List ℕ → tree.Statement
+selection name = st.Select (roll-Query (record { cores = roll-Core (record { items = i.Star ∷ []; from = source.Named name None; joins = []; filter = None; group = [] }) ∷ [] })) []
+
+abbrev pub number : ℕ → Expr
+number n = e.Const (v.Number (pos n))
+
+abbrev pub asked : tree.Statement → Event
+asked s = Command 0 1 (Asked s)
+
+abbrev pub table_t : tree.Statement
+table_t = creation (codes "T") (column (codes "K") types.Number ∷ []) None
+
+forms : (form_of table_t ≡ Some (CreateTable (codes "T") (record { name = codes "K"; column_type = NumberType } ∷ []) 1))
+    × (form_of (insertion (codes "T") ((number 5 ∷ e.Const v.Null ∷ []) ∷ (e.Const (v.Text (codes "x")) ∷ e.Const (v.Bool true) ∷ []) ∷ []))
+    ≡ Some (InsertValues (codes "T") ((Number (pos 5) ∷ Null ∷ []) ∷ (Text (codes "x") ∷ Truth true ∷ []) ∷ [])))
+    × (form_of (insertion (codes "T") ((e.CountRows ∷ []) ∷ [])) ≡ None) × (form_of st.Begin ≡ None)
+unfolding out-Expr out
+forms = (refl, refl, refl, refl)
+
+-- a number behind a minus sign is a literal
+minus : (x : Expr) → literal_of (e.Neg x) ≡ behind_minus (out-Expr x)
+unfolding out-Expr roll-Expr roll
+minus x = ap literal_in (out-roll-Expr (Expr-F.Neg x))
+
+-- the first name that comes again, and one that is kept for streams
+taken : (taken_name (codes "A" ∷ codes "B" ∷ codes "B" ∷ codes "A" ∷ []) ≡ Some (codes "A")) × (taken_name (codes "K" ∷ codes "METADATA$A" ∷ codes "K" ∷ []) ≡ Some (codes "K"))
+    × (taken_name (codes "A" ∷ codes "METADATA$A" ∷ []) ≡ Some (codes "METADATA$A")) × (taken_name (codes "metadata$k" ∷ codes "K" ∷ []) ≡ None)
+taken = (refl, refl, refl, refl)
 
 -- a refused script
-refused : text first_state (events (codes "CREATE TABLE T(K NUMBER);CREATE TABLE T(K NUMBER);INSERT INTO T VALUES (1, 2);INSERT INTO U VALUES (1);DROP TABLE T;"))
-    ≡ codes "CREATED TABLE T\nE7 NameTaken T\nE9 TypeMismatch\nE6 UnknownName U\nE0 Unsupported\n"
-unfolding events step carried_out create_table insert_at print statement_of statement_of_tokens tokens_of token_of pieces_of columns_of is_column is_reserved is_word is_call creation rows_from
+refused : text first_state (asked table_t ∷ asked table_t ∷ asked (insertion (codes "T") ((number 1 ∷ number 2 ∷ []) ∷ [])) ∷ asked (insertion (codes "U") ((number 1 ∷ []) ∷ []))
+    ∷ Command 0 1 (Asked st.Begin) ∷ Command 0 65 Unreadable ∷ Command 0 65 TooLong ∷ Tick 5 ∷ [])
+    ≡ codes "CREATED TABLE T\nE7 NameTaken T\nE9 TypeMismatch\nE6 UnknownName U\nE0 Unsupported\nE1 SyntaxError\nE13 Limit STATEMENT 65536\nIDLE\n"
+unfolding step commanded carried_out create_table insert_at print out-Expr out
 refused = refl
+
+-- a session that there isn't is tested behind the grammar
+session : ((step first_state (Command 0 65 (Asked st.Begin))).1 ≡ Refused (NoSuchSession 65)) × ((step first_state (Command 0 0 (Asked st.Begin))).1 ≡ Refused (NoSuchSession 0))
+    × ((step first_state (Command 0 64 (Asked st.Begin))).1 ≡ Refused Unsupported)
+unfolding step commanded carried_out
+session = (refl, refl, refl)
 
 abbrev three : List Row
 three = (Number (pos 2) ∷ Number (pos 5) ∷ []) ∷ (Number (pos 1) ∷ Null ∷ []) ∷ (Number (pos 2) ∷ Number (pos 5) ∷ []) ∷ []
@@ -58,7 +115,7 @@ printed : literal (Text (codes "x'y")) ≡ codes "'x''y'"
 printed = refl
 
 -- the file after CREATE TABLE T(K NUMBER) at stamp 1, and the payload of INSERT INTO T VALUES (1) at stamp 2
-created : records_of (payload_of (record { stamp = 1; change = CreatesTable (record { id = 1; name = codes "T"; retention = 1; columns = number_column (codes "K") ∷ [] }) }) ∷ []) ++ 0 ∷ []
+created : records_of (payload_of (record { stamp = 1; change = CreatesTable (record { id = 1; name = codes "T"; retention = 1; columns = (record { name = codes "K"; column_type = NumberType }) ∷ [] }) }) ∷ []) ++ 0 ∷ []
     ≡ 87 ∷ 72 ∷ 67 ∷ 79 ∷ 82 ∷ 69 ∷ 49 ∷ 1 ∷ 0 ∷ 0 ∷ 0 ∷ 0 ∷ 0 ∷ 0 ∷ 0 ∷ 33 ∷ 0 ∷ 0 ∷ 0 ∷ 0 ∷ 0 ∷ 0 ∷ 0 ∷ 1 ∷ 0 ∷ 0 ∷ 0 ∷ 1 ∷ 1 ∷ 0 ∷ 0 ∷ 0 ∷ 1 ∷ 0 ∷ 0 ∷ 0 ∷ 1 ∷ 84 ∷ 1 ∷ 0 ∷ 0 ∷ 0 ∷ 1 ∷ 0 ∷ 0 ∷ 0 ∷ 1 ∷ 75 ∷ 1 ∷ 0 ∷ []
 unfolding records_of record_of payload_of change_bytes table_bytes column_bytes
 created = refl

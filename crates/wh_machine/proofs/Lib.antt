@@ -2,5 +2,3 @@ pub mod KnownFacts
 pub mod KnownStops
 pub mod ReplyLaws
 pub mod SoundLaws
-pub mod KnownTokens
-pub mod KnownStatements

@@ -10,7 +10,7 @@ use Rattle.std.specs.Prelude.{codes, decimal}
 use Rattle.std.specs.List.{flat_map}
 use Rattle.std.proofs.lemmas.Bool.{le-leb, lt-leb}
 use Rattle.wh_machine.specs.Table.{State}
-use Rattle.wh_machine.specs.Reply.{Reply, CreatedTable, Inserted, Listing, Refused, line, parted, row_line, refusal_text, print}
+use Rattle.wh_machine.specs.Reply.{Reply, CreatedTable, Inserted, Listing, Idle, Refused, line, parted, row_line, refusal_text, print}
 use Rattle.wh_machine.specs.Step.{Event, step, after, text, refusals}
 use Rattle.wh_machine.specs.Stop.{whole_replies}
 
@@ -28,6 +28,7 @@ print_some (Inserted count) = line_some (codes "INSERTED " ++ decimal count)
 print_some (Listing names rows) =
     let last : List ℕ = codes "(" ++ decimal (length rows) ++ codes " rows)" in
     ends_some (line (parted names) ++ flat_map row_line rows) (line last) (line_some last)
+print_some Idle = line_some (codes "IDLE")
 print_some (Refused why) = line_some (refusal_text why)
 
 -- ---- runs

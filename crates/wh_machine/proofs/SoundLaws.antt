@@ -5,7 +5,7 @@
 use Rattle.std.proofs.Common.{◌≡◌, ℕ, zero, suc, ◌+◌, ◌-◌, ◌<◌, ◌≤◌, ◌⊎◌, inl, inr, ⊎_elim}
 use Rattle.std.proofs.Common.{Bool, true, false, cond, List, [], ◌∷◌, ◌++◌, length, Option, Some, None}
 use Rattle.std.proofs.Common.{refl, sym, ap, subst, ◌∙◌, arith}
-use Rattle.std.specs.Prelude.{slice_get, slice_set, unwrap_or, is_some, nat_le, nat_lt}
+use Rattle.std.specs.Prelude.{slice_get, slice_set, unwrap_or, is_some, nat_lt}
 use Rattle.std.specs.List.{AllByRecursion, list_all}
 use Rattle.std.specs.FinMap.{get, insert, get-insert, get-empty}
 use Rattle.std.specs.Ordering.{nat_cmp, eq_by_cmp}
@@ -15,11 +15,11 @@ use Rattle.std.proofs.lemmas.Bool.{cases_lt}
 use Rattle.wh_value.specs.Value.{Row}
 use Rattle.wh_machine.specs.Table.{Rows, Version, Table, Column, State, first_state, at_rest}
 use Rattle.wh_machine.specs.Table.{new_table, no_version, latest, place_of, with_entries}
-use Rattle.wh_machine.specs.Statement.{Statement, CreateTable, InsertValues, SelectAll}
-use Rattle.wh_machine.specs.Reading.{statement_of}
-use Rattle.wh_machine.specs.Reply.{Reply, CreatedTable, Inserted}
-use Rattle.wh_machine.specs.Step.{Event, step, carried_out, create_table, insert_at, on_table, after}
-use Rattle.wh_machine.specs.Step.{inserted, numbered, row_fits, stamp_of, number_limit, objects_limit, listing_of}
+use Rattle.wh_machine.specs.Statement.{Statement, CreateTable, InsertValues, SelectAll, form_of}
+use Rattle.wh_grammar.specs.Spelled.{Request, TooLong, Unreadable, Asked}
+use Rattle.wh_machine.specs.Reply.{Reply, Limit, Inserted}
+use Rattle.wh_machine.specs.Step.{Event, Command, Tick, reading_of, step, answered, commanded, is_session, carried_out, create_table, created, taken_name, limit_passed, names_of, insert_at, on_table, after}
+use Rattle.wh_machine.specs.Step.{inserted, numbered, row_fits, stamp_of, number_limit, listing_of}
 use Rattle.wh_machine.specs.Sound.{LacksRow, Rise, NoneReturns, IsTimely, IsBelow, IsSoundTable, Sound}
 
 -- ---- lists
@@ -216,15 +216,20 @@ tables_later s sound =
     let later = sound_later s.committed s.last sound.ordered in
     all_map (IsSoundTable s.committed) (IsSoundTable s.last) later s.tables sound.tables
 
-create_sound : (s : State) (name : List ℕ) (columns : List Column) → Sound s → Sound (create_table s name columns).0
+created_sound_by : (s : State) (name : List ℕ) (columns : List Column) (retention : ℕ) (taken : Option (List ℕ)) (limit : Option Limit) → Sound s
+    → Sound (created s name columns retention taken limit).0
+created_sound_by s name columns retention (Some taken) limit sound = sound
+created_sound_by s name columns retention None (Some limit) sound = sound
+created_sound_by s name columns retention None None sound =
+    let t : Table = new_table name columns retention s.last in
+    let tables = all_more (IsSoundTable s.last) s.tables t (tables_later s sound) (created_sound name columns retention s.last) in
+    record { ordered = omega arith; tables = tables }
+
+create_sound : (s : State) (name : List ℕ) (columns : List Column) (retention : ℕ) → Sound s → Sound (create_table s name columns retention).0
 unfolding create_table
-create_sound s name columns sound =
-    let t : Table = new_table name columns 1 s.last in
-    let new : State = record { last = s.last; committed = s.last; tables = s.tables ++ t ∷ [] } in
-    let tables = all_more (IsSoundTable s.last) s.tables t (tables_later s sound) (created_sound name columns 1 s.last) in
+create_sound s name columns retention sound =
     either (is_some (place_of name s.tables)) _ _ sound
-    (either (nat_le objects_limit (length s.tables)) _ (new, CreatedTable name) sound
-    (record { ordered = omega arith; tables = tables }))
+    (created_sound_by s name columns retention (taken_name (names_of columns)) (limit_passed s name columns retention) sound)
 
 insert_sound : (s : State) (place : ℕ) (t : Table) (rows : List Row) → s.committed < s.last → Sound s
     → slice_get s.tables place ≡ Some t → Sound (insert_at s place t rows).0
@@ -257,20 +262,31 @@ at_table s name go sound keeps = by_place (place_of name s.tables) refl
 carried_sound : (s : State) (statement : Option Statement) → s.committed < s.last → Sound s → Sound (carried_out s statement).0
 unfolding carried_out
 carried_sound s None later sound = sound
-carried_sound s (Some (CreateTable name columns)) later sound = create_sound s name columns sound
+carried_sound s (Some (CreateTable name columns retention)) later sound = create_sound s name columns retention sound
 carried_sound s (Some (InsertValues name rows)) later sound =
     at_table s name (λ place t. insert_at s place t rows) sound (λ place t there. insert_sound s place t rows later sound there)
 carried_sound s (Some (SelectAll name)) later sound =
     at_table s name (λ place t. (s, listing_of t)) sound (λ place t there. sound)
 
+-- a command
+commanded_sound : (s : State) (session : ℕ) (request : Request) → s.committed < s.last → Sound s → Sound (commanded s session request).0
+unfolding commanded
+commanded_sound s session TooLong later sound = sound
+commanded_sound s session Unreadable later sound = sound
+commanded_sound s session (Asked tree) later sound = either (is_session session) _ _ (carried_sound s (form_of tree) later sound) sound
+
+answered_sound : (s : State) (e : Event) → s.committed < s.last → Sound s → Sound (answered s e).0
+answered_sound s (Command reading session request) later sound = commanded_sound s session request later sound
+answered_sound s (Tick reading) later sound = sound
+
 -- an event
 pub sound_step : (s : State) (e : Event) → Sound s → Sound (step s e).0
 unfolding step
 sound_step s e sound =
-    let stamped : State = record s { last = stamp_of s e.reading } in
-    let later : s.committed < stamp_of s e.reading = omega (arith, sound.ordered) in
+    let stamped : State = record s { last = stamp_of s (reading_of e) } in
+    let later : s.committed < stamp_of s (reading_of e) = omega (arith, sound.ordered) in
     let still : Sound stamped = record { ordered = omega arith; tables = sound.tables } in
-    either (nat_lt (stamp_of s e.reading) number_limit) _ _ (carried_sound stamped (statement_of e.text) later still) sound
+    either (nat_lt (stamp_of s (reading_of e)) number_limit) _ _ (answered_sound stamped e later still) sound
 
 -- a run of events
 pub sound_after : (s : State) (es : List Event) → Sound s → Sound (after s es)

@@ -8,7 +8,7 @@ use Rattle.std.specs.List.{flat_map, AllByRecursion}
 use Rattle.std.specs.FinMap.{empty}
 use Rattle.std.specs.Coded.{Coded, code_by, coded_ℕ, coded_list, coded×}
 use Rattle.wh_value.specs.Value.{Row, coded_value}
-use Rattle.wh_machine.specs.Table.{Column, NumberType, Rows, Table, State, first_state, at_rest, new_table, latest, place_of, with_entries}
+use Rattle.wh_machine.specs.Table.{Column, Rows, Table, State, first_state, at_rest, new_table, latest, place_of, with_entries}
 use Rattle.wh_machine.specs.Step.{row_fits, number_limit, objects_limit}
 
 -- rows with their numbers, rising; a partition never changes
@@ -94,10 +94,6 @@ NumberedFrom next (p ∷ ps) = (p.number ≡ next) × NumberedFrom (next + 1) ps
 abbrev pub RowsFit : List Column → ℕ → Partition → Type 0
 RowsFit columns next p = AllByRecursion (λ e. IsTrue (row_fits columns e.1) × (e.0 < next)) p.rows
 
--- the built tables: one day of retention, and columns of numbers
-abbrev pub IsBuiltTable : TableChange → Type 0
-IsBuiltTable c = (c.retention ≡ 1) × AllByRecursion (λ column. column.column_type ≡ NumberType) c.columns
-
 abbrev pub IsStoredName : List ℕ → Type 0
 IsStoredName name = (0 < length name) × (length name ≤ 255)
 
@@ -109,7 +105,7 @@ pub record TableApplies (s : State) (c : TableChange) : Type 0 where
   pub some_column : 0 < length c.columns
   pub few_columns : length c.columns ≤ 64
   pub column_names : AllByRecursion (λ column. IsStoredName column.name) c.columns
-  pub built : IsBuiltTable c
+  pub retention : c.retention ≤ 90
 
 pub record VersionFits (t : Table) (standing : List Partition) (c : VersionChange) : Type 0 where
   pub timestamp : (latest t).data_timestamp ≤ c.data_timestamp

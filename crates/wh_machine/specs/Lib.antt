@@ -1,7 +1,6 @@
 pub use Rattle.wh_value.specs.Value
 pub mod Table
 pub mod Statement
-pub mod Reading
 pub mod Reply
 pub mod Step
 pub mod Script
@@ -12,12 +11,3 @@ pub mod Made
 pub mod Fault
 pub mod Sound
 pub mod Stop
-pub mod Token
-pub mod Lexing
-pub mod Name
-pub mod Expression
-pub mod Query
-pub mod Changing
-pub mod OptionText
-pub mod Parts
-pub mod Spelled

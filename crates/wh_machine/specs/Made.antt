@@ -6,10 +6,10 @@
 use Rattle.std.specs.Prelude.{ℕ, zero, suc, ◌+◌, Bool, false, List, [], ◌∷◌, length, take, drop, Option, Some, None, option_map, nat_lt, if◌then◌else◌, slice_get}
 use Rattle.wh_value.specs.Value.{Row}
 use Rattle.wh_machine.specs.Table.{Table, State, place_of}
-use Rattle.wh_machine.specs.Statement.{Statement, CreateTable, InsertValues, SelectAll}
-use Rattle.wh_machine.specs.Reading.{statement_of}
+use Rattle.wh_grammar.specs.Spelled.{Request, TooLong, Unreadable, Asked}
+use Rattle.wh_machine.specs.Statement.{Statement, CreateTable, InsertValues, SelectAll, form_of}
 use Rattle.wh_machine.specs.Reply.{is_refusal}
-use Rattle.wh_machine.specs.Step.{Event, step, carried_out, stamp_of, number_limit, partitions_of, numbered}
+use Rattle.wh_machine.specs.Step.{Event, Command, Tick, reading_of, step, carried_out, is_session, stamp_of, number_limit, partitions_of, numbered}
 use Rattle.wh_machine.specs.Commit.{Partition, Change, CreatesTable, PushesVersion, Commit}
 use Rattle.wh_machine.specs.Spelling.{payload_of}
 
@@ -39,7 +39,7 @@ added_at s rows (Some place) = added_to s rows place (slice_get s.tables place)
 
 abbrev pub change_of : State → Option Statement → Option Change
 change_of s None = None
-change_of s (Some (CreateTable name columns)) = Some (CreatesTable (record { id = length s.tables + 1; name = name; retention = 1; columns = columns }))
+change_of s (Some (CreateTable name columns retention)) = Some (CreatesTable (record { id = length s.tables + 1; name = name; retention = retention; columns = columns }))
 change_of s (Some (InsertValues name rows)) = added_at s rows (place_of name s.tables)
 change_of s (Some (SelectAll name)) = None
 
@@ -49,10 +49,20 @@ made_by s statement =
     if is_refusal (carried_out s statement).1 then None
     else option_map (λ change. record { stamp = s.last; change = change }) (change_of s statement)
 
+-- of a command of a session
+unfoldable pub made_for : State → ℕ → Request → Option Commit
+made_for s session TooLong = None
+made_for s session Unreadable = None
+made_for s session (Asked tree) = if is_session session then made_by s (form_of tree) else None
+
+abbrev pub made_at : State → Event → Option Commit
+made_at s (Command reading session request) = made_for s session request
+made_at s (Tick reading) = None
+
 unfoldable pub made : State → Event → Option Commit
 made s e =
-    if nat_lt (stamp_of s e.reading) number_limit
-    then made_by (record s { last = stamp_of s e.reading }) (statement_of e.text)
+    if nat_lt (stamp_of s (reading_of e)) number_limit
+    then made_at (record s { last = stamp_of s (reading_of e) }) e
     else None
 
 -- ---- the room that commits need

@@ -1,9 +1,115 @@
--- The statements that are carried out.
-use Rattle.std.specs.Prelude.{ℕ, List}
-use Rattle.wh_value.specs.Value.{Row}
+-- The statements that are carried out, and which trees they are.
+--     Statement     what is carried out so far: a new table, rows of literals, and a table's rows
+--     form_of       of a statement as it was written; None where it isn't carried out yet
+use Rattle.std.specs.Prelude.{ℕ, Bool, true, false, List, [], ◌∷◌, Option, Some, None, map, option_map, unwrap_or, ℤ, neg_ℤ, unsigned_abs, nat_lt, if◌then◌else◌}
+use Rattle.wh_value.specs.Value.{Value, Number, Truth, Text, Null, Row}
+use Rattle.wh_value.specs.View.{column_of}
+use Rattle.wh_value.specs.declared.value.Value as written
+use Rattle.wh_value.specs.declared.value.Value.TheVariants as v
+use Rattle.wh_ast.specs.declared.expr.Expr.{Expr, out-Expr}
+use Rattle.wh_ast.specs.declared.expr.Expr.TheOpen.{Expr-F}
+use Rattle.wh_ast.specs.declared.query.Query.{Query, out-Query}
+use Rattle.wh_ast.specs.declared.query.Core.{Core, out-Core}
+use Rattle.wh_ast.specs.declared.query.Join.{Join}
+use Rattle.wh_ast.specs.declared.query.Item.{Item}
+use Rattle.wh_ast.specs.declared.query.Item.TheVariants as i
+use Rattle.wh_ast.specs.declared.query.Source.{Source, out-Source}
+use Rattle.wh_ast.specs.declared.query.Source.TheOpen.{Source-F}
+use Rattle.wh_ast.specs.declared.query.Sort.{Sort}
+use Rattle.wh_ast.specs.declared.dml.Dml.{Dml}
+use Rattle.wh_ast.specs.declared.dml.Dml.TheVariants as dml
+use Rattle.wh_ast.specs.declared.dml.Rows.{Rows}
+use Rattle.wh_ast.specs.declared.dml.Rows.TheVariants as rows
+use Rattle.wh_ast.specs.declared.statement.CreateTable as create
+use Rattle.wh_ast.specs.declared.statement.Statement as tree
+use Rattle.wh_ast.specs.declared.statement.Statement.TheVariants as st
 use Rattle.wh_machine.specs.Table.{Column}
 
 pub data Statement : Type 0 where
-  CreateTable : (name : List ℕ) → (columns : List Column) → Statement
+  CreateTable : (name : List ℕ) → (columns : List Column) → (retention : ℕ) → Statement
   InsertValues : (table : List ℕ) → (rows : List Row) → Statement
   SelectAll : (table : List ℕ) → Statement
+
+-- ---- literals: constants, and numbers behind a minus sign
+
+-- a number has at most 18 digits
+abbrev pub number_of : ℤ → Option Value
+number_of z = if nat_lt (unsigned_abs z) 1000000000000000000 then Some (Number z) else None
+
+abbrev pub constant : written.Value → Option Value
+constant (v.Number z) = number_of z
+constant (v.Bool b) = Some (Truth b)
+constant (v.Text bytes) = Some (Text bytes)
+constant v.Null = Some Null
+
+abbrev pub negated : written.Value → Option Value
+negated (v.Number z) = number_of (neg_ℤ z)
+negated (v.Bool b) = None
+negated (v.Text bytes) = None
+negated v.Null = None
+
+abbrev pub behind_minus : Expr-F Expr → Option Value
+behind_minus (Expr-F.Const x) = negated x
+behind_minus _ = None
+
+abbrev pub literal_in : Expr-F Expr → Option Value
+literal_in (Expr-F.Const x) = constant x
+literal_in (Expr-F.Neg x) = behind_minus (out-Expr x)
+literal_in _ = None
+
+abbrev pub literal_of : Expr → Option Value
+literal_of x = literal_in (out-Expr x)
+
+-- each of them, if there are all
+abbrev pub with_first : {X : Type 0} → Option X → Option (List X) → Option (List X)
+with_first None rest = None
+with_first (Some x) None = None
+with_first (Some x) (Some xs) = Some (x ∷ xs)
+
+abbrev pub each_of : {X Y : Type 0} → (X → Option Y) → List X → Option (List Y)
+each_of f [] = Some []
+each_of f (x ∷ xs) = with_first (f x) (each_of f xs)
+
+-- ---- forms
+
+-- `*` of one table, which has no alias
+abbrev pub table_in : {A B C D : Type 0} → Source-F A B C D → Option Statement
+table_in (Source-F.Named name None) = Some (SelectAll name)
+table_in _ = None
+
+abbrev pub listing_in : List Item → List Join → Option Expr → List Expr → Source → Option Statement
+listing_in (i.Star ∷ []) [] None [] source = table_in (out-Source source)
+listing_in _ _ _ _ _ = None
+
+abbrev pub core_form : Core → Option Statement
+core_form c = listing_in (out-Core c).items (out-Core c).joins (out-Core c).filter (out-Core c).group (out-Core c).from
+
+abbrev pub cores_form : List Core → Option Statement
+cores_form (c ∷ []) = core_form c
+cores_form _ = None
+
+-- one core without ORDER BY
+abbrev pub select_form : Query → List Sort → Option Statement
+select_form q [] = cores_form (out-Query q).cores
+select_form q (sort ∷ sorts) = None
+
+-- VALUES of literals, without a column list
+abbrev pub insert_form : List ℕ → Option (List (List ℕ)) → Rows → Option Statement
+insert_form table None (rows.Values found) = option_map (InsertValues table) (each_of (each_of literal_of) found)
+insert_form table None (rows.Query q) = None
+insert_form table (Some names) found = None
+
+abbrev pub dml_form : Dml → Option Statement
+dml_form (dml.Insert table names found) = insert_form table names found
+dml_form _ = None
+
+-- without OR REPLACE; the retention is one day where none is written
+abbrev pub create_form : Bool → create.CreateTable → Option Statement
+create_form true c = None
+create_form false c = Some (CreateTable c.name (map column_of c.columns) (unwrap_or c.retention 1))
+
+abbrev pub form_of : tree.Statement → Option Statement
+form_of (st.Select q sorts) = select_form q sorts
+form_of (st.Dml x) = dml_form x
+form_of (st.CreateTable c) = create_form c.replace c
+form_of _ = None

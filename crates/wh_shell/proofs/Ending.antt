@@ -2,8 +2,7 @@
 use Rattle.std.proofs.Common.{◌≡◌, ℕ, List, [], refl, sym, ap, ◌∙◌, subst, append-nil, Option, Some}
 use Rattle.std.specs.Prelude.{is_some, IsTrue}
 use Rattle.wh_machine.specs.Table.{State, at_rest}
-use Rattle.wh_machine.specs.Step.{text}
-use Rattle.wh_machine.specs.Script.{events}
+use Rattle.wh_machine.specs.Step.{Event, text}
 use Rattle.wh_machine.specs.File.{Stands}
 use Rattle.wh_shell.specs.Run.{IsFront, IsWhole, IsRunOf}
 use Rattle.wh_shell.specs.Room.{FillsBy}
@@ -37,10 +36,10 @@ through_with (status.FileFull len need) p q so = tt
 through_with (status.ScriptTooLong taken) p q so = tt
 
 -- the whole text was written, and the file that is left stands for the last state
-whole : (start new : State) (input held : List ℕ) (count : ℕ) (held_new closed left_new : Option (List ℕ)) →
-    Reads start new input held count held_new left_new → (file : List ℕ) × (closed ≡ Some file) × Stands file (at_rest new) →
-    IsWhole start input held count held_new closed left_new
-whole start new input held count held_new closed left_new reads left = record {
+whole : (start new : State) (es : List Event) (held : List ℕ) (count : ℕ) (held_new closed left_new : Option (List ℕ)) →
+    Reads start new es held count held_new left_new → (file : List ℕ) × (closed ≡ Some file) × Stands file (at_rest new) →
+    IsWhole start es held count held_new closed left_new
+whole start new es held count held_new closed left_new reads left = record {
   written = reads.written;
   refused = reads.refused;
   read = reads.read;
@@ -50,19 +49,19 @@ whole start new input held count held_new closed left_new reads left = record {
 }
 
 -- what was served is the run's
-pub served_run : (start new : State) (input held : List ℕ) (why : Status) (held_new closed left_new : Option (List ℕ)) →
-    IsServed start new input held why held_new left_new →
-    Through why ((file : List ℕ) × (closed ≡ Some file) × Stands file (at_rest new)) → IsRunOf start input held why held_new closed left_new
-served_run start new input held status.Done held_new closed left_new served left = whole start new input held 0 held_new closed left_new served left
-served_run start new input held (status.Refused count) held_new closed left_new served left = (served.0, whole start new input held count held_new closed left_new served.1 left)
-served_run start new input held status.Usage held_new closed left_new served left = absurd served
-served_run start new input held status.OutOfMemory held_new closed left_new served left = served
-served_run start new input held status.DiskFault held_new closed left_new served left = served
-served_run start new input held status.ScriptFault held_new closed left_new served left = served
-served_run start new input held status.OutputFault held_new closed left_new served left = served
-served_run start new input held (status.NotWarehouse at) held_new closed left_new served left = absurd served
-served_run start new input held (status.FileFull len need) held_new closed left_new served left = served
-served_run start new input held (status.ScriptTooLong taken) held_new closed left_new served left = served
+pub served_run : (start new : State) (es : List Event) (held : List ℕ) (why : Status) (held_new closed left_new : Option (List ℕ)) →
+    IsServed start new es held why held_new left_new →
+    Through why ((file : List ℕ) × (closed ≡ Some file) × Stands file (at_rest new)) → IsRunOf start es held why held_new closed left_new
+served_run start new es held status.Done held_new closed left_new served left = whole start new es held 0 held_new closed left_new served left
+served_run start new es held (status.Refused count) held_new closed left_new served left = (served.0, whole start new es held count held_new closed left_new served.1 left)
+served_run start new es held status.Usage held_new closed left_new served left = absurd served
+served_run start new es held status.OutOfMemory held_new closed left_new served left = served
+served_run start new es held status.DiskFault held_new closed left_new served left = served
+served_run start new es held status.ScriptFault held_new closed left_new served left = served
+served_run start new es held status.OutputFault held_new closed left_new served left = served
+served_run start new es held (status.NotWarehouse at) held_new closed left_new served left = absurd served
+served_run start new es held (status.FileFull len need) held_new closed left_new served left = served
+served_run start new es held (status.ScriptTooLong taken) held_new closed left_new served left = served
 
 -- only a file that is no warehouse is answered so
 pub no_warehouse : (fault : OpenFault) (at : ℕ) → status_of_open fault ≡ status.NotWarehouse at → fault ≡ faults.NotWarehouse at
@@ -80,15 +79,15 @@ unopened_fills why fault first is = subst (λ (w : Status). FillsBy w first) (sy
     by_fault (faults.NotWarehouse at) = tt
 
 -- a run whose file wasn't opened has written nothing
-pub unopened_run : (start : State) (input held : List ℕ) (why : Status) (fault : OpenFault) (held_new closed left_new : Option (List ℕ)) →
-    why ≡ status_of_open fault → held_new ≡ Some held → IsRunOf start input held why held_new closed left_new
-unopened_run start input held why fault held_new closed left_new is same =
-    subst (λ (w : Status). IsRunOf start input held w held_new closed left_new) (sym is) (by_fault fault)
+pub unopened_run : (start : State) (es : List Event) (held : List ℕ) (why : Status) (fault : OpenFault) (held_new closed left_new : Option (List ℕ)) →
+    why ≡ status_of_open fault → held_new ≡ Some held → IsRunOf start es held why held_new closed left_new
+unopened_run start es held why fault held_new closed left_new is same =
+    subst (λ (w : Status). IsRunOf start es held w held_new closed left_new) (sym is) (by_fault fault)
   where
-    none : IsFront start input held held_new
-    none = record { front = []; rest = text start (events input); parts = refl; written = same ∙ ap Some (sym (append-nil held)) }
+    none : IsFront start es held held_new
+    none = record { front = []; rest = text start es; parts = refl; written = same ∙ ap Some (sym (append-nil held)) }
 
-    by_fault : (f : OpenFault) → IsRunOf start input held (status_of_open f) held_new closed left_new
+    by_fault : (f : OpenFault) → IsRunOf start es held (status_of_open f) held_new closed left_new
     by_fault faults.OutOfMemory = none
     by_fault faults.DiskFault = none
     by_fault (faults.NotWarehouse at) = same

@@ -1,5 +1,8 @@
 pub mod LoneWord
 pub mod Written
+pub mod EventLemmas
+pub mod ReadingLemmas
+pub mod CountLemmas
 pub mod Within
 pub mod Survival
 pub mod Halting

@@ -6,7 +6,6 @@ use Rattle.std.proofs.Common.{◌≡◌, inl, inr, ℕ, ◌+◌, ◌≤◌, List
 use Rattle.std.proofs.lemmas.List.{append_cancel_left}
 use Rattle.wh_machine.specs.Table.{Table, State, at_rest}
 use Rattle.wh_machine.specs.Step.{Event}
-use Rattle.wh_machine.specs.Script.{events}
 use Rattle.wh_machine.specs.Commit.{Commit, Change, CreatesTable, PushesVersion, VersionChange, Stored, first_stored, applied, changed, version_pushed, Leads, at_id}
 use Rattle.wh_machine.specs.Spelling.{payload_of}
 use Rattle.wh_machine.specs.File.{records_of, Keeps, Stands, GateEndsAt}
@@ -90,28 +89,29 @@ module _ {D : Type 0} (moment : D → ℕ) (left_since : D → ℕ → List ℕ 
   }
 
   -- a run behind an opening
-  pub run_survives : (told : Type 0) (first mid last : D) (bytes left held held_new : Option (List ℕ)) (file input before written : List ℕ) (start opened : State) →
-      IsStart bytes left held (may_leave first) file input before start → start ≡ opened → told →
-      LeavesOnly moment left_since first mid (IsKeptOrShort file) → EndsSafely moment left_since may_leave told mid last opened left held held_new →
-      held_new ≡ Some (before ++ written) → Survives moment left_since may_leave first last start (events input) (length written)
-  run_survives told first mid last bytes left held held_new file input before written start opened is same known run ends held_is =
-      let all : SurvivesWith moment left_since may_leave mid last opened (events input) before held_new = ends.each known input before is.told_script is.told_output in
+  pub run_survives : (told : Type 0) (first mid last : D) (bytes left : Option (List ℕ)) (told_events : Option (List Event)) (held held_new : Option (List ℕ))
+      (file input before written : List ℕ) (start opened : State) (es : List Event) →
+      IsStart bytes left held (may_leave first) file input before start → told_events ≡ Some es → start ≡ opened → told →
+      LeavesOnly moment left_since first mid (IsKeptOrShort file) → EndsSafely moment left_since may_leave told mid last opened told_events held held_new →
+      held_new ≡ Some (before ++ written) → Survives moment left_since may_leave first last start es (length written)
+  run_survives told first mid last bytes left told_events held held_new file input before written start opened es is events_are same known run ends held_is =
+      let all : SurvivesWith moment left_since may_leave mid last opened es before held_new = ends.each known es before events_are is.told_output in
       let appended : before ++ all.written ≡ before ++ written = cc (all.held_is, held_is) in
       let written_is : all.written ≡ written = append_cancel_left before all.written written appended in
-      let behind : Survives moment left_since may_leave mid last start (events input) (length all.written) =
-      subst (λ (s : State). Survives moment left_since may_leave mid last s (events input) (length all.written)) (sym same) all.survives in
-      opened_survives first mid last start (events input) (length written)
+      let behind : Survives moment left_since may_leave mid last start es (length all.written) =
+      subst (λ (s : State). Survives moment left_since may_leave mid last s es (length all.written)) (sym same) all.survives in
+      opened_survives first mid last start es (length written)
       (weaker moment left_since first mid (IsKeptOrShort file) (StandsForEither start start) (kept_stands file start is.stands) run)
-      (subst (λ (l : List ℕ). Survives moment left_since may_leave mid last start (events input) (length l)) written_is behind)
+      (subst (λ (l : List ℕ). Survives moment left_since may_leave mid last start es (length l)) written_is behind)
 
   -- a run that opened nothing
   pub unopened_survives : (counts_now : (disk : D) (t : ℕ) (image : List ℕ) → t ≤ moment disk → may_leave disk image → left_since disk t image) →
-      (old new : D) (bytes left held held_new : Option (List ℕ)) (file input before written : List ℕ) (start : State) →
+      (old new : D) (bytes left held held_new : Option (List ℕ)) (file input before written : List ℕ) (start : State) (es : List Event) →
       IsStart bytes left held (may_leave old) file input before start → LeavesOnly moment left_since old new (IsKeptOrShort file) →
-      held_new ≡ held → held_new ≡ Some (before ++ written) → Survives moment left_since may_leave old new start (events input) (length written)
-  unopened_survives counts_now old new bytes left held held_new file input before written start is run same held_is =
+      held_new ≡ held → held_new ≡ Some (before ++ written) → Survives moment left_since may_leave old new start es (length written)
+  unopened_survives counts_now old new bytes left held held_new file input before written start es is run same held_is =
       let appended : before ++ [] ≡ before ++ written = append-nil before ∙ cc (same, held_is, is.told_output) in
       let none : [] ≡ written = append_cancel_left before [] written appended in
-      subst (λ (l : List ℕ). Survives moment left_since may_leave old new start (events input) (length l)) none
-      (none_survives moment left_since may_leave counts_now old new start (events input)
+      subst (λ (l : List ℕ). Survives moment left_since may_leave old new start es (length l)) none
+      (none_survives moment left_since may_leave counts_now old new start es
       (weaker moment left_since old new (IsKeptOrShort file) (StandsForEither start start) (kept_stands file start is.stands) run))

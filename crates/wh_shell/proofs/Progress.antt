@@ -4,15 +4,12 @@ use Rattle.std.specs.Prelude.{option_map, if◌then◌else◌}
 use Rattle.wh_machine.specs.Table.{State}
 use Rattle.wh_machine.specs.Step.{Event, step, after, text, refusals}
 use Rattle.wh_machine.specs.Reply.{is_refusal, print}
-use Rattle.wh_machine.specs.Script.{events}
 use Rattle.wh_machine.specs.Stop.{StandsWithin}
 use Rattle.wh_machine.proofs.ReplyLaws.{after_append, text_append, refusals_append}
-use Rattle.wh_text.specs.Turn.{Gives, command_event, ahead_and}
-use Rattle.wh_text.specs.Script.{Counts}
-use Rattle.wh_text.specs.declared.script.Script.{Script}
 use Rattle.wh_journal.specs.Crash.{LeavesOnly}
 use Rattle.wh_journal.proofs.CrashLemmas.{both, weaker}
 use Rattle.wh_engine.specs.Warehouse.{StandsForEither}
+use Rattle.wh_shell.specs.Reading.{GivesEvent}
 use Rattle.wh_shell.specs.Run.{IsFront}
 use Rattle.wh_shell.specs.Crash.{Halts}
 use Rattle.wh_shell.specs.Serving.{refusals_of, AnswersFirst, Answers, Finds, Stops, Answering, IsTurn, IsStop, Reads, IsServed, IsReadThrough, GoesOn, Goes}
@@ -29,13 +26,11 @@ choice_few : (refused : Bool) → (if refused then 1 else 0) ≤ 1
 choice_few true = omega arith
 choice_few false = omega arith
 
--- a front of a command's reply is a front of the text of all that was left
-front_of_reply : (given : Type 0) (may_leave : List ℕ → Type 0) (old : State) (command : List ℕ) (input before rest : List ℕ) (held held_new : Option (List ℕ)) →
-    events input ≡ command_event command ∷ events rest → held ≡ Some before →
-    Halts given may_leave old (command_event command) held held_new → IsFront old input before held_new
-front_of_reply given may_leave old command input before rest held held_new first told writes =
-    let e : Event = command_event command in
-    let behind : List ℕ = text (step old e).0 (events rest) in
+-- a front of an event's reply is a front of the text of all that was left
+front_of_reply : (given : Type 0) (may_leave : List ℕ → Type 0) (old : State) (event : Event) (es rest : List Event) (before : List ℕ) (held held_new : Option (List ℕ)) →
+    es ≡ event ∷ rest → held ≡ Some before → Halts given may_leave old event held held_new → IsFront old es before held_new
+front_of_reply given may_leave old event es rest before held held_new first told writes =
+    let behind : List ℕ = text (step old event).0 rest in
     record {
       front = writes.front;
       rest = writes.rest ++ behind;
@@ -43,32 +38,29 @@ front_of_reply given may_leave old command input before rest held held_new first
       written = writes.written ∙ ap (option_map (λ x. x ++ writes.front)) told;
     }
 
--- a turn whose command is the first one of what was left
-pub turn_of_command : (given : Type 0) (may_leave : List ℕ → Type 0) (old new : State) (command : List ℕ) (left left_new held held_new : Option (List ℕ)) (turn : Turn) →
-    Gives left command left_new → Answering given may_leave old new (command_event command) held held_new turn → IsTurn old new left left_new held held_new turn
-turn_of_command given may_leave old new command left left_new held held_new Ended gives done = absurd done
-turn_of_command given may_leave old new command left left_new held held_new (Answered count) gives done = record {
-  few = subst (λ (x : ℕ). x ≤ 1) (sym done.refused) (choice_few (is_refusal (step old (command_event command)).1));
-  each = λ input before told_left told_held. let found = gives.each input told_left in record {
-    event = command_event command;
+-- a turn whose event is the first one of what was left
+pub turn_of_event : (given : Type 0) (may_leave : List ℕ → Type 0) (old new : State) (event : Event) (left left_new : Option (List Event))
+    (source_new held held_new : Option (List ℕ)) (turn : Turn) → GivesEvent left event left_new → Answering given may_leave old new event held held_new turn →
+    IsTurn old new left left_new source_new held held_new turn
+turn_of_event given may_leave old new event left left_new source_new held held_new Ended gives done = absurd done
+turn_of_event given may_leave old new event left left_new source_new held held_new (Answered count) gives done = record {
+  few = subst (λ (x : ℕ). x ≤ 1) (sym done.refused) (choice_few (is_refusal (step old event).1));
+  each = λ es before told_left told_held. let found = gives.each es told_left in record {
+    event = event;
     rest = found.0;
     left = found.1;
     first = found.2;
     state = done.state;
-    written = done.written ∙ ap (option_map (λ x. x ++ print (step old (command_event command)).1)) told_held;
+    written = done.written ∙ ap (option_map (λ x. x ++ print (step old event).1)) told_held;
     refused = done.refused;
   };
 }
-turn_of_command given may_leave old new command left left_new held held_new (Stopped why) gives done = record {
-  each = λ input before told_left told_held. let found = gives.each input told_left in
-      front_of_reply given may_leave old command input before found.0 held held_new found.2 told_held done;
+turn_of_event given may_leave old new event left left_new source_new held held_new (Stopped why) gives done = record {
+  each = λ es before told_left told_held. let found = gives.each es told_left in
+      front_of_reply given may_leave old event es found.0 before held held_new found.2 told_held done;
 }
 
 -- ---- all turns so far
-
--- nothing was taken ahead
-pub starts : (ahead input : List ℕ) (left : Option (List ℕ)) → ahead ≡ [] → left ≡ Some input → ahead_and ahead left ≡ Some input
-starts ahead input left none told = rw (told, none)
 
 -- one event behind the first ones
 abbrev then_one : List Event → Event → List Event
@@ -93,75 +85,68 @@ refusals_one start now done event state =
 -- ---- the end
 
 -- a run that stopped has written a front
-front_served : (start new : State) (input before : List ℕ) (why : Status) (held_new left_new : Option (List ℕ)) →
-    IsStop why → IsFront start input before held_new → IsServed start new input before why held_new left_new
-front_served start new input before status.Done held_new left_new stop front = absurd stop
-front_served start new input before (status.Refused count) held_new left_new stop front = absurd stop
-front_served start new input before status.Usage held_new left_new stop front = absurd stop
-front_served start new input before status.OutOfMemory held_new left_new stop front = front
-front_served start new input before status.DiskFault held_new left_new stop front = front
-front_served start new input before status.ScriptFault held_new left_new stop front = front
-front_served start new input before status.OutputFault held_new left_new stop front = front
-front_served start new input before (status.NotWarehouse at) held_new left_new stop front = absurd stop
-front_served start new input before (status.FileFull len need) held_new left_new stop front = front
-front_served start new input before (status.ScriptTooLong taken) held_new left_new stop front = front
-
--- where nothing is unread, the source has nothing left
-nothing_left : (ahead : List ℕ) (left : Option (List ℕ)) → ahead_and ahead left ≡ Some [] → left ≡ Some []
-nothing_left ahead None none = cc
-nothing_left [] (Some rest) none = none
-nothing_left (b ∷ ahead) (Some rest) none = cc
+front_served : (start new : State) (es : List Event) (before : List ℕ) (why : Status) (held_new left_new : Option (List ℕ)) →
+    IsStop why → IsFront start es before held_new → IsServed start new es before why held_new left_new
+front_served start new es before status.Done held_new left_new stop front = absurd stop
+front_served start new es before (status.Refused count) held_new left_new stop front = absurd stop
+front_served start new es before status.Usage held_new left_new stop front = absurd stop
+front_served start new es before status.OutOfMemory held_new left_new stop front = front
+front_served start new es before status.DiskFault held_new left_new stop front = front
+front_served start new es before status.ScriptFault held_new left_new stop front = front
+front_served start new es before status.OutputFault held_new left_new stop front = front
+front_served start new es before (status.NotWarehouse at) held_new left_new stop front = absurd stop
+front_served start new es before (status.FileFull len need) held_new left_new stop front = front
+front_served start new es before (status.ScriptTooLong taken) held_new left_new stop front = front
 
 -- a run that read its script to the end has written all
-through_served : (start new : State) (input before : List ℕ) (count : ℕ) (why : Status) (held_new left_new : Option (List ℕ)) →
-    IsReadThrough count why → Reads start new input before count held_new left_new → IsServed start new input before why held_new left_new
-through_served start new input before count status.Done held_new left_new through reads =
-    subst (λ (n : ℕ). Reads start new input before n held_new left_new) through reads
-through_served start new input before count (status.Refused n) held_new left_new through reads = (
+through_served : (start new : State) (es : List Event) (before : List ℕ) (count : ℕ) (why : Status) (held_new left_new : Option (List ℕ)) →
+    IsReadThrough count why → Reads start new es before count held_new left_new → IsServed start new es before why held_new left_new
+through_served start new es before count status.Done held_new left_new through reads =
+    subst (λ (n : ℕ). Reads start new es before n held_new left_new) through reads
+through_served start new es before count (status.Refused n) held_new left_new through reads = (
   subst (λ (m : ℕ). 0 < m) (sym through.1) through.0,
-  subst (λ (m : ℕ). Reads start new input before m held_new left_new) (sym through.1) reads,
+  subst (λ (m : ℕ). Reads start new es before m held_new left_new) (sym through.1) reads,
 )
-through_served start new input before count status.Usage held_new left_new through reads = absurd through
-through_served start new input before count status.OutOfMemory held_new left_new through reads = absurd through
-through_served start new input before count status.DiskFault held_new left_new through reads = absurd through
-through_served start new input before count status.ScriptFault held_new left_new through reads = absurd through
-through_served start new input before count status.OutputFault held_new left_new through reads = absurd through
-through_served start new input before count (status.NotWarehouse at) held_new left_new through reads = absurd through
-through_served start new input before count (status.FileFull len need) held_new left_new through reads = absurd through
-through_served start new input before count (status.ScriptTooLong taken) held_new left_new through reads = absurd through
+through_served start new es before count status.Usage held_new left_new through reads = absurd through
+through_served start new es before count status.OutOfMemory held_new left_new through reads = absurd through
+through_served start new es before count status.DiskFault held_new left_new through reads = absurd through
+through_served start new es before count status.ScriptFault held_new left_new through reads = absurd through
+through_served start new es before count status.OutputFault held_new left_new through reads = absurd through
+through_served start new es before count (status.NotWarehouse at) held_new left_new through reads = absurd through
+through_served start new es before count (status.FileFull len need) held_new left_new through reads = absurd through
+through_served start new es before count (status.ScriptTooLong taken) held_new left_new through reads = absurd through
 
 -- ---- from turn to turn
 
 module _ {D : Type 0} (moment : D → ℕ) (left_since : D → ℕ → List ℕ → Type 0) (told : Type 0) where
   -- no turn yet
-  pub goes_not_yet : (first : D) (start : State) (left held : Option (List ℕ)) →
+  pub goes_not_yet : (first : D) (start : State) (left : Option (List Event)) (held : Option (List ℕ)) →
       (told → LeavesOnly moment left_since first first (StandsForEither start start)) → Goes moment left_since told first first start start left left held held 0
   goes_not_yet first start left held run = record {
-    each = λ input before told_left told_held. record {
-      rest = input;
+    each = λ es before told_left told_held. record {
+      rest = es;
       left_is = told_left;
       done = [];
       parts = refl;
       state = refl;
       held_is = told_held ∙ ap Some (sym (append-nil before));
       refused = refl;
-      leaves = λ is. weaker moment left_since first first (StandsForEither start start) (StandsWithin start (events input) 0 0)
-          (λ image either. within_none start (events input) 0 0 image (omega arith) either) (run is);
+      leaves = λ is. weaker moment left_since first first (StandsForEither start start) (StandsWithin start es 0 0)
+          (λ image either. within_none start es 0 0 image (omega arith) either) (run is);
     };
   }
 
-  -- one more command, over a told script and told output
-  goes_on_more : (first mid last : D) (start now new : State) (input before : List ℕ) (left held left_new held_new : Option (List ℕ)) (count more : ℕ) →
-      (so_far : GoesOn moment left_since told first mid start now input before left held count) →
+  -- one more event, of told events and told output
+  goes_on_more : (first mid last : D) (start now new : State) (es : List Event) (before : List ℕ) (left left_new : Option (List Event)) (held held_new : Option (List ℕ)) (count more : ℕ) →
+      (so_far : GoesOn moment left_since told first mid start now es before left held count) →
       (told → LeavesOnly moment left_since mid last (StandsForEither now new)) →
       AnswersFirst now new so_far.rest (before ++ text start so_far.done) left_new held_new more →
-      GoesOn moment left_since told first last start new input before left_new held_new (count + more)
-  goes_on_more first mid last start now new input before left held left_new held_new count more so_far run answer =
+      GoesOn moment left_since told first last start new es before left_new held_new (count + more)
+  goes_on_more first mid last start now new es before left left_new held held_new count more so_far run answer =
       let event : Event = answer.event in
-      let others : List Event = events answer.rest in
-      let all : List Event = events input in
+      let others : List Event = answer.rest in
       let done : List Event = so_far.done in
-      let behind : done ++ event ∷ others ≡ all = ap (λ es. done ++ es) (sym answer.first) ∙ so_far.parts in
+      let behind : done ++ event ∷ others ≡ es = ap (λ fs. done ++ fs) (sym answer.first) ∙ so_far.parts in
       record {
         rest = answer.rest;
         left_is = answer.left;
@@ -171,98 +156,72 @@ module _ {D : Type 0} (moment : D → ℕ) (left_since : D → ℕ → List ℕ 
         held_is = answer.written ∙ ap Some (append_assoc before (text start done) (print (step now event).1))
             ∙ ap (λ l. Some (before ++ l)) (text_one start now done event so_far.state);
         refused = ap (λ n. n + more) so_far.refused ∙ ap (λ n. refusals start done + n) answer.refused ∙ refusals_one start now done event so_far.state;
-        leaves = λ is. both moment left_since first mid last (StandsWithin start all 0 (length (then_one done event)))
-            (weaker moment left_since first mid (StandsWithin start all 0 (length done)) (StandsWithin start all 0 (length (then_one done event)))
-            (within_wider start all 0 (length done) 0 (length (then_one done event)) (omega arith) (omega (arith, length-append done (event ∷ [])))) (so_far.leaves is))
-            (weaker moment left_since mid last (StandsForEither now new) (StandsWithin start all 0 (length (then_one done event)))
-            (λ image either. within_either start now new all done others event image behind so_far.state answer.state either) (run is));
+        leaves = λ is. both moment left_since first mid last (StandsWithin start es 0 (length (then_one done event)))
+            (weaker moment left_since first mid (StandsWithin start es 0 (length done)) (StandsWithin start es 0 (length (then_one done event)))
+            (within_wider start es 0 (length done) 0 (length (then_one done event)) (omega arith) (omega (arith, length-append done (event ∷ [])))) (so_far.leaves is))
+            (weaker moment left_since mid last (StandsForEither now new) (StandsWithin start es 0 (length (then_one done event)))
+            (λ image either. within_either start now new es done others event image behind so_far.state answer.state either) (run is));
       }
 
-  -- one more command was carried out
-  pub goes_more : (first mid last : D) (start now new : State) (left_start left left_new held_start held held_new : Option (List ℕ)) (count more : ℕ) →
+  -- one more event was carried out
+  pub goes_more : (first mid last : D) (start now new : State) (left_start left left_new : Option (List Event)) (held_start held held_new : Option (List ℕ)) (count more : ℕ) →
       Goes moment left_since told first mid start now left_start left held_start held count →
       (told → LeavesOnly moment left_since mid last (StandsForEither now new)) → Answers now new left left_new held held_new more →
       Goes moment left_since told first last start new left_start left_new held_start held_new (count + more)
   goes_more first mid last start now new left_start left left_new held_start held held_new count more goes run answers = record {
-    each = λ input before told_left told_held.
-        let so_far : GoesOn moment left_since told first mid start now input before left held count = goes.each input before told_left told_held in
-        goes_on_more first mid last start now new input before left held left_new held_new count more so_far run
+    each = λ es before told_left told_held.
+        let so_far : GoesOn moment left_since told first mid start now es before left held count = goes.each es before told_left told_held in
+        goes_on_more first mid last start now new es before left left_new held held_new count more so_far run
         (answers.each so_far.rest (before ++ text start so_far.done) so_far.left_is so_far.held_is);
   }
 
   -- what is left makes up the whole text
-  text_parts : (first mid : D) (start now : State) (input before : List ℕ) (left held : Option (List ℕ)) (count : ℕ) →
-      (so_far : GoesOn moment left_since told first mid start now input before left held count) →
-      text start so_far.done ++ text now (events so_far.rest) ≡ text start (events input)
-  text_parts first mid start now input before left held count so_far =
-      ap (λ s. text start so_far.done ++ text s (events so_far.rest)) so_far.state
-      ∙ sym (text_append start so_far.done (events so_far.rest)) ∙ ap (text start) so_far.parts
+  text_parts : (first mid : D) (start now : State) (es : List Event) (before : List ℕ) (left : Option (List Event)) (held : Option (List ℕ)) (count : ℕ) →
+      (so_far : GoesOn moment left_since told first mid start now es before left held count) →
+      text start so_far.done ++ text now so_far.rest ≡ text start es
+  text_parts first mid start now es before left held count so_far =
+      ap (λ s. text start so_far.done ++ text s so_far.rest) so_far.state
+      ∙ sym (text_append start so_far.done so_far.rest) ∙ ap (text start) so_far.parts
 
   -- a front of the rest is a front of the whole
-  front_more : (first mid : D) (start now : State) (input before : List ℕ) (left held held_new : Option (List ℕ)) (count : ℕ) →
-      GoesOn moment left_since told first mid start now input before left held count → Stops now left held held_new → IsFront start input before held_new
-  front_more first mid start now input before left held held_new count so_far stops =
+  front_more : (first mid : D) (start now : State) (es : List Event) (before : List ℕ) (left : Option (List Event)) (held held_new : Option (List ℕ)) (count : ℕ) →
+      GoesOn moment left_since told first mid start now es before left held count → Stops now left held held_new → IsFront start es before held_new
+  front_more first mid start now es before left held held_new count so_far stops =
       let front : List ℕ = text start so_far.done in
       let end : IsFront now so_far.rest (before ++ front) held_new = stops.each so_far.rest (before ++ front) so_far.left_is so_far.held_is in
       record {
         front = front ++ end.front;
         rest = end.rest;
         parts = append_assoc front end.front end.rest ∙ ap (λ x. front ++ x) end.parts
-            ∙ text_parts first mid start now input before left held count so_far;
+            ∙ text_parts first mid start now es before left held count so_far;
         written = end.written ∙ ap Some (append_assoc before front end.front);
       }
 
-  -- what was written so far is a front
-  pub front_so_far : (first mid : D) (start now : State) (input before : List ℕ) (left held : Option (List ℕ)) (count : ℕ) →
-      GoesOn moment left_since told first mid start now input before left held count → IsFront start input before held
-  front_so_far first mid start now input before left held count so_far = record {
-    front = text start so_far.done;
-    rest = text now (events so_far.rest);
-    parts = text_parts first mid start now input before left held count so_far;
-    written = so_far.held_is;
-  }
-
   -- the run stopped at a turn
-  pub stopped_served : (first mid : D) (start now new : State) (input before : List ℕ) (left held held_new left_new : Option (List ℕ)) (count : ℕ) (why : Status) →
-      GoesOn moment left_since told first mid start now input before left held count → Stops now left held held_new → IsStop why →
-      IsServed start new input before why held_new left_new
-  stopped_served first mid start now new input before left held held_new left_new count why so_far stops stop =
-      front_served start new input before why held_new left_new stop (front_more first mid start now input before left held held_new count so_far stops)
+  pub stopped_served : (first mid : D) (start now new : State) (es : List Event) (before : List ℕ) (left : Option (List Event)) (held held_new source_new : Option (List ℕ)) (count : ℕ) (why : Status) →
+      GoesOn moment left_since told first mid start now es before left held count → Stops now left held held_new → IsStop why →
+      IsServed start new es before why held_new source_new
+  stopped_served first mid start now new es before left held held_new source_new count why so_far stops stop =
+      front_served start new es before why held_new source_new stop (front_more first mid start now es before left held held_new count so_far stops)
 
-  -- where no command is left, all of them were carried out
-  reads_all : (first mid : D) (start now new : State) (input before ahead : List ℕ) (left held held_new left_new : Option (List ℕ)) (count : ℕ) →
-      GoesOn moment left_since told first mid start now input before left held count → Finds now new left (ahead_and ahead left_new) held held_new →
-      Reads start new input before count held_new left_new
-  reads_all first mid start now new input before ahead left held held_new left_new count so_far finds =
+  -- where no event is left, all of them were carried out
+  reads_all : (first mid : D) (start now new : State) (es : List Event) (before : List ℕ) (left left_new : Option (List Event)) (held held_new source_new : Option (List ℕ)) (count : ℕ) →
+      GoesOn moment left_since told first mid start now es before left held count → Finds now new left left_new source_new held held_new →
+      Reads start new es before count held_new source_new
+  reads_all first mid start now new es before left left_new held held_new source_new count so_far finds =
       let end = finds.ends.each so_far.rest so_far.left_is in
-      let whole : so_far.done ≡ events input =
-      sym (append-nil so_far.done) ∙ ap (λ es. so_far.done ++ es) (sym end.1) ∙ so_far.parts in
+      let whole : so_far.done ≡ es = sym (append-nil so_far.done) ∙ ap (λ fs. so_far.done ++ fs) (sym end.2) ∙ so_far.parts in
       record {
         state = finds.state ∙ so_far.state ∙ ap (after start) whole;
-        written = finds.written ∙ so_far.held_is ∙ ap (λ es. Some (before ++ text start es)) whole;
+        written = finds.written ∙ so_far.held_is ∙ ap (λ fs. Some (before ++ text start fs)) whole;
         refused = so_far.refused ∙ ap (refusals start) whole;
-        read = nothing_left ahead left_new end.0;
+        read = end.1;
       }
 
   -- the script was read to its end
-  pub ended_served : (first mid : D) (start now new : State) (input before ahead : List ℕ) (left held held_new left_new : Option (List ℕ)) (count : ℕ) (why : Status) →
-      GoesOn moment left_since told first mid start now input before left held count → Finds now new left (ahead_and ahead left_new) held held_new →
-      IsReadThrough count why → IsServed start new input before why held_new left_new
-  ended_served first mid start now new input before ahead left held held_new left_new count why so_far finds through =
-      through_served start new input before count why held_new left_new through
-      (reads_all first mid start now new input before ahead left held held_new left_new count so_far finds)
-
--- ---- the bytes that were taken
-
--- one turn behind others
-pub counts_on : (a b c : Script) (left_a left_b left_c : Option (List ℕ)) → Counts a b left_a left_b → Counts b c left_b left_c → Counts a c left_a left_c
-counts_on a b c left_a left_b left_c one two = record {
-  each = λ left told.
-      let first = one.each left told in
-      let second = two.each first.0 first.1 in
-      (second.0, second.1, first.2 ∙ second.2);
-}
-
--- no turn yet
-pub counts_none : (a : Script) (left_a : Option (List ℕ)) → Counts a a left_a left_a
-counts_none a left_a = record { each = λ left told. (left, told, refl) }
+  pub ended_served : (first mid : D) (start now new : State) (es : List Event) (before : List ℕ) (left left_new : Option (List Event)) (held held_new source_new : Option (List ℕ)) (count : ℕ) (why : Status) →
+      GoesOn moment left_since told first mid start now es before left held count → Finds now new left left_new source_new held held_new →
+      IsReadThrough count why → IsServed start new es before why held_new source_new
+  ended_served first mid start now new es before left left_new held held_new source_new count why so_far finds through =
+      through_served start new es before count why held_new source_new through
+      (reads_all first mid start now new es before left left_new held held_new source_new count so_far finds)

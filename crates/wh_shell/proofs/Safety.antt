@@ -1,21 +1,20 @@
 -- What a crash leaves of an open warehouse, of a turn, and of all turns.
 --     open_stands      of an open warehouse
 --     still            while nothing is done
---     none_safely      a turn that carried out no command
---     halts_safely     a turn that was stopped at a command
+--     none_safely      a turn that carried out nothing
+--     halts_safely     a turn that was stopped at an event
 --     safely_more      all turns, the last of which ended so
 use Rattle.std.proofs.Common.{◌≡◌, ⊎_elim, ℕ, ◌≤◌, List, [], ◌++◌, length, refl, sym, ap, subst, ◌∙◌, append_assoc, append-nil, length-append, Option, Some, None}
 use Rattle.std.specs.Prelude.{option_map, is_some, IsTrue}
 use Rattle.wh_machine.specs.Table.{State, at_rest}
 use Rattle.wh_machine.specs.Step.{Event, step, text}
-use Rattle.wh_machine.specs.Script.{events}
 use Rattle.wh_machine.specs.File.{Stands}
 use Rattle.wh_world.specs.declared.disk.Disk.{Ghosts}
-use Rattle.wh_text.specs.Turn.{Gives, command_event}
 use Rattle.wh_journal.specs.Crash.{LeavesOnly}
 use Rattle.wh_engine.specs.Warehouse.{state_of, StandsForEither}
 use Rattle.wh_engine.specs.declared.warehouse.Warehouse.{Warehouse}
 use Rattle.wh_engine.proofs.StopLemmas.{unmoved}
+use Rattle.wh_shell.specs.Reading.{GivesEvent}
 use Rattle.wh_shell.specs.Open.{IsOpen}
 use Rattle.wh_shell.specs.Crash.{Survives, SurvivesWith, EndsSafely, Halts}
 use Rattle.wh_shell.specs.Serving.{Answering, AtStop, GoesOn, Goes}
@@ -43,63 +42,61 @@ module _ {D : Type 0} {g : Ghosts D} (w : Warehouse D g) (ready : IsOpen w) (tol
   open_stands counts_now image left = ⊎_elim (λ is. is) (λ is. is) (still.each image (counts_now w.disk (g.moment w.disk) image still.later left))
 
 module _ {D : Type 0} (moment : D → ℕ) (left_since : D → ℕ → List ℕ → Type 0) (may_leave : D → List ℕ → Type 0) where
-  -- a turn that was stopped at a command
-  halts_safely : (told : Type 0) (old new : D) (s : State) (command : List ℕ) (left left_new held held_new : Option (List ℕ)) → Gives left command left_new →
-      (told → LeavesOnly moment left_since old new (StandsForEither s (step s (command_event command)).0)) →
-      Halts told (may_leave new) s (command_event command) held held_new → EndsSafely moment left_since may_leave told old new s left held held_new
-  halts_safely told old new s command left left_new held held_new gives run halts = record {
-    each = λ is input before told_left told_held.
-        let given = gives.each input told_left in
+  -- a turn that was stopped at an event
+  halts_safely : (told : Type 0) (old new : D) (s : State) (event : Event) (left left_new : Option (List Event)) (held held_new : Option (List ℕ)) →
+      GivesEvent left event left_new → (told → LeavesOnly moment left_since old new (StandsForEither s (step s event).0)) →
+      Halts told (may_leave new) s event held held_new → EndsSafely moment left_since may_leave told old new s left held held_new
+  halts_safely told old new s event left left_new held held_new gives run halts = record {
+    each = λ is es before told_left told_held.
+        let given = gives.each es told_left in
         record {
           written = halts.front;
           held_is = halts.written ∙ ap (option_map (λ x. x ++ halts.front)) told_held;
-          survives = subst (λ (es : List Event). Survives moment left_since may_leave old new s es (length halts.front)) (sym given.2)
-              (halt_survives moment left_since may_leave old new s (command_event command) (events given.0) halts.front halts.rest halts.parts
-              (run is) (halts.leaves is));
+          survives = subst (λ (fs : List Event). Survives moment left_since may_leave old new s fs (length halts.front)) (sym given.2)
+              (halt_survives moment left_since may_leave old new s event given.0 halts.front halts.rest halts.parts (run is) (halts.leaves is));
         };
   }
 
-  -- a turn whose command is known
-  pub stops_safely : (told : Type 0) (old new : D) (s s_new : State) (command : List ℕ) (left left_new held held_new : Option (List ℕ)) (turn : Turn) →
-      Gives left command left_new → (told → LeavesOnly moment left_since old new (StandsForEither s (step s (command_event command)).0)) →
-      Answering told (may_leave new) s s_new (command_event command) held held_new turn →
-      AtStop turn (EndsSafely moment left_since may_leave told old new s left held held_new)
-  stops_safely told old new s s_new command left left_new held held_new Ended gives run done = tt
-  stops_safely told old new s s_new command left left_new held held_new (Answered count) gives run done = tt
-  stops_safely told old new s s_new command left left_new held held_new (Stopped why) gives run done =
-      halts_safely told old new s command left left_new held held_new gives run done
+  -- a turn whose event is known
+  pub stops_safely : (told : Type 0) (old new : D) (s s_new : State) (event : Event) (left left_new : Option (List Event)) (held held_new : Option (List ℕ)) (turn : Turn) →
+      GivesEvent left event left_new → (told → LeavesOnly moment left_since old new (StandsForEither s (step s event).0)) →
+      Answering told (may_leave new) s s_new event held held_new turn → AtStop turn (EndsSafely moment left_since may_leave told old new s left held held_new)
+  stops_safely told old new s s_new event left left_new held held_new Ended gives run done = tt
+  stops_safely told old new s s_new event left left_new held held_new (Answered count) gives run done = tt
+  stops_safely told old new s s_new event left left_new held held_new (Stopped why) gives run done =
+      halts_safely told old new s event left left_new held held_new gives run done
 
   -- all turns, the last of which ended so
-  pub safely_more : (told told_now : Type 0) (first mid last : D) (start now : State) (left_start left_first left held_start held held_new : Option (List ℕ)) (count : ℕ) →
-      (told → told_now) → ((input : List ℕ) → left_start ≡ Some input → left_first ≡ Some input) →
+  pub safely_more : (told told_now : Type 0) (first mid last : D) (start now : State) (left_start left_first left : Option (List Event)) (held_start held held_new : Option (List ℕ)) (count : ℕ) →
+      (told → told_now) → ((es : List Event) → left_start ≡ Some es → left_first ≡ Some es) →
       Goes moment left_since told first mid start now left_first left held_start held count →
       EndsSafely moment left_since may_leave told_now mid last now left held held_new →
       EndsSafely moment left_since may_leave told first last start left_start held_start held_new
   safely_more told told_now first mid last start now left_start left_first left held_start held held_new count stays starts_so goes ends = record {
-    each = λ is input before told_left told_held.
-        let so_far : GoesOn moment left_since told first mid start now input before left held count =
-        goes.each input before (starts_so input told_left) told_held in
+    each = λ is es before told_left told_held.
+        let so_far : GoesOn moment left_since told first mid start now es before left held count =
+        goes.each es before (starts_so es told_left) told_held in
         let front : List ℕ = text start so_far.done in
-        let more : SurvivesWith moment left_since may_leave mid last now (events so_far.rest) (before ++ front) held_new =
+        let more : SurvivesWith moment left_since may_leave mid last now so_far.rest (before ++ front) held_new =
         ends.each (stays is) so_far.rest (before ++ front) so_far.left_is so_far.held_is in
         record {
           written = front ++ more.written;
           held_is = more.held_is ∙ ap Some (append_assoc before front more.written);
-          survives = subst (Survives moment left_since may_leave first last start (events input)) (sym (length-append front more.written))
-              (survives_more moment left_since may_leave first mid last start now (events input) so_far.done (events so_far.rest) (length more.written)
+          survives = subst (Survives moment left_since may_leave first last start es) (sym (length-append front more.written))
+              (survives_more moment left_since may_leave first mid last start now es so_far.done so_far.rest (length more.written)
               so_far.parts so_far.state (so_far.leaves is) more.survives);
         };
   }
 
   module _ (counts_now : (disk : D) (t : ℕ) (image : List ℕ) → t ≤ moment disk → may_leave disk image → left_since disk t image) where
-    -- a turn that carried out no command
-    pub none_safely : (told : Type 0) (old new : D) (s s_new : State) (left held held_new : Option (List ℕ)) → held_new ≡ held → s_new ≡ s →
+    -- a turn that carried out nothing
+    pub none_safely : (told : Type 0) (old new : D) (s s_new : State) (left : Option (List Event)) (held held_new : Option (List ℕ)) → held_new ≡ held → s_new ≡ s →
         (told → LeavesOnly moment left_since old new (StandsForEither s s_new)) → EndsSafely moment left_since may_leave told old new s left held held_new
     none_safely told old new s s_new left held held_new same state run = record {
-      each = λ is input before told_left told_held. record {
+      each = λ is es before told_left told_held. record {
         written = [];
         held_is = same ∙ told_held ∙ ap Some (sym (append-nil before));
-        survives = none_survives moment left_since may_leave counts_now old new s (events input)
+        survives = none_survives moment left_since may_leave counts_now old new s es
             (subst (λ (t : State). LeavesOnly moment left_since old new (StandsForEither s t)) state (run is));
       };
     }

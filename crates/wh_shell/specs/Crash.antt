@@ -1,13 +1,12 @@
 -- What a crash leaves while a script is carried out.
 --     Survives         a run of events, of whose replies so many bytes were written
 --     SurvivesWith     those that were written behind what was held before
---     EndsSafely       where script and output are told, and the file is
+--     EndsSafely       where events and output are told, and the file is
 --     Halts            one command that wasn't answered in full
 use Rattle.std.specs.Prelude.{◌≡◌, ◌⊎◌, ℕ, List, [], ◌++◌, length, Option, Some}
 use Rattle.wh_machine.specs.Table.{State, at_rest}
 use Rattle.wh_machine.specs.Step.{Event, step}
 use Rattle.wh_machine.specs.Reply.{print}
-use Rattle.wh_machine.specs.Script.{events}
 use Rattle.wh_machine.specs.File.{Stands}
 use Rattle.wh_machine.specs.Stop.{whole_replies, most_events, StandsWithin}
 use Rattle.wh_journal.specs.Crash.{LeavesOnly}
@@ -27,11 +26,11 @@ pub record SurvivesWith {D : Type 0} (moment : D → ℕ) (left_since : D → �
   pub held_is : held_new ≡ Some (before ++ written)
   pub survives : Survives moment left_since may_leave old new start es (length written)
 
--- of a told script and told output, over a told file
+-- of told events and told output, over a told file
 pub record EndsSafely {D : Type 0} (moment : D → ℕ) (left_since : D → ℕ → List ℕ → Type 0) (may_leave : D → List ℕ → Type 0)
-    (told : Type 0) (old new : D) (start : State) (left held held_new : Option (List ℕ)) : Type 0 where
-  pub each : told → (input before : List ℕ) → left ≡ Some input → held ≡ Some before →
-      SurvivesWith moment left_since may_leave old new start (events input) before held_new
+    (told : Type 0) (old new : D) (start : State) (left : Option (List Event)) (held held_new : Option (List ℕ)) : Type 0 where
+  pub each : told → (es : List Event) (before : List ℕ) → left ≡ Some es → held ≡ Some before →
+      SurvivesWith moment left_since may_leave old new start es before held_new
 
 -- A front of the reply was written. Over a told file what a crash now leaves stands for the state after the command, or
 -- where nothing was written for that before it.

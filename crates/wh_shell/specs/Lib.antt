@@ -1,6 +1,9 @@
 pub mod Code
 pub mod Crash
+pub mod Events
+pub mod Laws
 pub mod Open
+pub mod Reading
 pub mod Room
 pub mod Run
 pub mod Serving

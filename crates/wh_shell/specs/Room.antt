@@ -4,7 +4,6 @@
 --     FillsBy                by the status: the first commit of a run that there is no room for
 use Rattle.std.specs.Prelude.{◌≡◌, ℕ, ◌+◌, ◌^◌, false, IsTrue, List, Option, Some, None}
 use Rattle.wh_machine.specs.Table.{State}
-use Rattle.wh_machine.specs.Script.{events}
 use Rattle.wh_machine.specs.Commit.{Commit}
 use Rattle.wh_machine.specs.Step.{Event}
 use Rattle.wh_machine.specs.Made.{made, is_beyond, added_length, overflow}
@@ -35,14 +34,14 @@ HasRoomFor event old new = HasRoom (end_of old.journal) (end_of new.journal) (ma
 abbrev pub LacksRoomFor : {D : Type 0} {disk : Ghosts D} → Event → Warehouse D disk → ℕ → ℕ → Type 0
 LacksRoomFor event old len need = LacksRoom len need (end_of old.journal) (made (state_of old.catalog) event)
 
--- where the first commit of a script begins that a warehouse has no room for, and what it needs
-abbrev pub first_beyond : {D : Type 0} {disk : Ghosts D} → Warehouse D disk → List ℕ → Option (ℕ × ℕ)
-first_beyond w input = overflow (2 ^ 40) (end_of w.journal) (state_of w.catalog) (events input)
+-- where the first commit of some events begins that a warehouse has no room for, and what it needs
+abbrev pub first_beyond : {D : Type 0} {disk : Ghosts D} → Warehouse D disk → List Event → Option (ℕ × ℕ)
+first_beyond w es = overflow (2 ^ 40) (end_of w.journal) (state_of w.catalog) es
 
 -- what there is no room for is the same from the old end on and from the new one
-pub record KeepsRoom (end end_new : ℕ) (old new : State) (left left_new : Option (List ℕ)) : Type 0 where
-  pub each : (input : List ℕ) → left ≡ Some input → (rest : List ℕ) × (left_new ≡ Some rest)
-      × (overflow (2 ^ 40) end old (events input) ≡ overflow (2 ^ 40) end_new new (events rest))
+pub record KeepsRoom (end end_new : ℕ) (old new : State) (left left_new : Option (List Event)) : Type 0 where
+  pub each : (es : List Event) → left ≡ Some es → (rest : List Event) × (left_new ≡ Some rest)
+      × (overflow (2 ^ 40) end old es ≡ overflow (2 ^ 40) end_new new rest)
 
 -- the first commit that there is no room for: where all was carried out there is none, and a full file has its numbers
 abbrev pub FillsBy : Status → Option (ℕ × ℕ) → Type 0
@@ -58,7 +57,7 @@ FillsBy (status.FileFull len need) first = first ≡ Some (len, need)
 FillsBy (status.ScriptTooLong taken) first = Unit {0}
 
 -- of a run over a file: its gate ends somewhere, and the room behind it is what the status says
-pub record Fills (file input : List ℕ) (start : State) (why : Status) : Type 0 where
+pub record Fills (file : List ℕ) (es : List Event) (start : State) (why : Status) : Type 0 where
   pub end : ℕ
   pub gate : GateEndsAt file end
-  pub fills : FillsBy why (overflow (2 ^ 40) end start (events input))
+  pub fills : FillsBy why (overflow (2 ^ 40) end start es)

@@ -6,12 +6,9 @@ use Rattle.std.specs.Prelude.{◌≡◌, ℕ, ◌<◌, ◌≤◌, List, [], ◌�
 use Rattle.wh_machine.specs.Table.{State}
 use Rattle.wh_machine.specs.Step.{Event, step, after, text, refusals}
 use Rattle.wh_machine.specs.Reply.{is_refusal, print}
-use Rattle.wh_machine.specs.Script.{events}
 use Rattle.wh_machine.specs.Stop.{StandsWithin}
-use Rattle.wh_text.specs.Turn.{ahead_and, Ends}
-use Rattle.wh_text.specs.Script.{ahead_of}
-use Rattle.wh_text.specs.declared.script.Script.{Script}
 use Rattle.wh_journal.specs.Crash.{LeavesOnly}
+use Rattle.wh_shell.specs.Reading.{EndsEvents}
 use Rattle.wh_shell.specs.Run.{IsFront}
 use Rattle.wh_shell.specs.Crash.{Halts}
 use Rattle.wh_shell.specs.Writing.{Writes}
@@ -19,10 +16,6 @@ use Rattle.wh_shell.specs.declared.turn.Turn.{Turn}
 use Rattle.wh_shell.specs.declared.turn.Turn.TheVariants.{Ended, Answered, Stopped}
 use Rattle.wh_shell.specs.declared.status.Status.{Status}
 use Rattle.wh_shell.specs.declared.status.Status.TheVariants as status
-
--- what is still to be read of a script
-abbrev pub unread : Script → Option (List ℕ) → Option (List ℕ)
-unread reader left = ahead_and (ahead_of reader) left
 
 -- 1 for a refusal
 abbrev pub refusals_of : State → Event → ℕ
@@ -34,36 +27,36 @@ pub record CarriesOut (old new : State) (event : Event) (held held_new : Option 
   pub written : Writes (print (step old event).1) held held_new
   pub refused : count ≡ refusals_of old event
 
--- of a told script and told output: its first command was carried out
-pub record AnswersFirst (old new : State) (input held : List ℕ) (left_new held_new : Option (List ℕ)) (count : ℕ) : Type 0 where
+-- of told events and told output: the first of them was carried out
+pub record AnswersFirst (old new : State) (es : List Event) (held : List ℕ) (left_new : Option (List Event)) (held_new : Option (List ℕ)) (count : ℕ) : Type 0 where
   pub event : Event
-  pub rest : List ℕ
+  pub rest : List Event
   pub left : left_new ≡ Some rest
-  pub first : events input ≡ event ∷ events rest
+  pub first : es ≡ event ∷ rest
   pub state : new ≡ (step old event).0
   pub written : held_new ≡ Some (held ++ print (step old event).1)
   pub refused : count ≡ refusals_of old event
 
--- so where script and output are told, and at most one reply more was a refusal
-pub record Answers (old new : State) (left left_new held held_new : Option (List ℕ)) (count : ℕ) : Type 0 where
+-- so where events and output are told, and at most one reply more was a refusal
+pub record Answers (old new : State) (left left_new : Option (List Event)) (held held_new : Option (List ℕ)) (count : ℕ) : Type 0 where
   pub few : count ≤ 1
-  pub each : (input before : List ℕ) → left ≡ Some input → held ≡ Some before → AnswersFirst old new input before left_new held_new count
+  pub each : (es : List Event) (before : List ℕ) → left ≡ Some es → held ≡ Some before → AnswersFirst old new es before left_new held_new count
 
--- no command was left
-pub record Finds (old new : State) (left left_new held held_new : Option (List ℕ)) : Type 0 where
+-- no event was left, and the source has nothing left
+pub record Finds (old new : State) (left left_new : Option (List Event)) (source_new held held_new : Option (List ℕ)) : Type 0 where
   pub state : new ≡ old
-  pub ends : Ends left left_new
+  pub ends : EndsEvents left left_new source_new
   pub written : held_new ≡ held
 
--- where script and output are told, a front of the text was written
-pub record Stops (old : State) (left held held_new : Option (List ℕ)) : Type 0 where
-  pub each : (input before : List ℕ) → left ≡ Some input → held ≡ Some before → IsFront old input before held_new
+-- where events and output are told, a front of the text was written
+pub record Stops (old : State) (left : Option (List Event)) (held held_new : Option (List ℕ)) : Type 0 where
+  pub each : (es : List Event) (before : List ℕ) → left ≡ Some es → held ≡ Some before → IsFront old es before held_new
 
 -- by how the turn went
-abbrev pub IsTurn : State → State → Option (List ℕ) → Option (List ℕ) → Option (List ℕ) → Option (List ℕ) → Turn → Type 0
-IsTurn old new left left_new held held_new Ended = Finds old new left left_new held held_new
-IsTurn old new left left_new held held_new (Answered count) = Answers old new left left_new held held_new count
-IsTurn old new left left_new held held_new (Stopped why) = Stops old left held held_new
+abbrev pub IsTurn : State → State → Option (List Event) → Option (List Event) → Option (List ℕ) → Option (List ℕ) → Option (List ℕ) → Turn → Type 0
+IsTurn old new left left_new source_new held held_new Ended = Finds old new left left_new source_new held held_new
+IsTurn old new left left_new source_new held held_new (Answered count) = Answers old new left left_new held held_new count
+IsTurn old new left left_new source_new held held_new (Stopped why) = Stops old left held held_new
 
 -- what holds unless the turn stopped
 abbrev pub Unstopped : Turn → Type 0 → Type 0
@@ -71,7 +64,13 @@ Unstopped Ended P = P
 Unstopped (Answered count) P = P
 Unstopped (Stopped why) P = Unit {0}
 
--- what holds where it did
+-- what holds where an event was answered
+abbrev pub AtAnswer : Turn → Type 0 → Type 0
+AtAnswer Ended P = Unit {0}
+AtAnswer (Answered count) P = P
+AtAnswer (Stopped why) P = Unit {0}
+
+-- what holds where the turn stopped
 abbrev pub AtStop : Turn → Type 0 → Type 0
 AtStop Ended P = Unit {0}
 AtStop (Answered count) P = Unit {0}
@@ -97,24 +96,24 @@ StopsBy (Answered count) = Unit {0}
 StopsBy (Stopped why) = IsStop why
 
 -- the script was read to its end
-pub record Reads (start new : State) (input held : List ℕ) (count : ℕ) (held_new left_new : Option (List ℕ)) : Type 0 where
-  pub state : new ≡ after start (events input)
-  pub written : held_new ≡ Some (held ++ text start (events input))
-  pub refused : count ≡ refusals start (events input)
+pub record Reads (start new : State) (es : List Event) (held : List ℕ) (count : ℕ) (held_new left_new : Option (List ℕ)) : Type 0 where
+  pub state : new ≡ after start es
+  pub written : held_new ≡ Some (held ++ text start es)
+  pub refused : count ≡ refusals start es
   pub read : left_new ≡ Some []
 
 -- by the status
-abbrev pub IsServed : State → State → List ℕ → List ℕ → Status → Option (List ℕ) → Option (List ℕ) → Type 0
-IsServed start new input held status.Done held_new left_new = Reads start new input held 0 held_new left_new
-IsServed start new input held (status.Refused count) held_new left_new = (0 < count) × Reads start new input held count held_new left_new
-IsServed start new input held status.Usage held_new left_new = ⊥
-IsServed start new input held status.OutOfMemory held_new left_new = IsFront start input held held_new
-IsServed start new input held status.DiskFault held_new left_new = IsFront start input held held_new
-IsServed start new input held status.ScriptFault held_new left_new = IsFront start input held held_new
-IsServed start new input held status.OutputFault held_new left_new = IsFront start input held held_new
-IsServed start new input held (status.NotWarehouse at) held_new left_new = ⊥
-IsServed start new input held (status.FileFull len need) held_new left_new = IsFront start input held held_new
-IsServed start new input held (status.ScriptTooLong taken) held_new left_new = IsFront start input held held_new
+abbrev pub IsServed : State → State → List Event → List ℕ → Status → Option (List ℕ) → Option (List ℕ) → Type 0
+IsServed start new es held status.Done held_new left_new = Reads start new es held 0 held_new left_new
+IsServed start new es held (status.Refused count) held_new left_new = (0 < count) × Reads start new es held count held_new left_new
+IsServed start new es held status.Usage held_new left_new = ⊥
+IsServed start new es held status.OutOfMemory held_new left_new = IsFront start es held held_new
+IsServed start new es held status.DiskFault held_new left_new = IsFront start es held held_new
+IsServed start new es held status.ScriptFault held_new left_new = IsFront start es held held_new
+IsServed start new es held status.OutputFault held_new left_new = IsFront start es held held_new
+IsServed start new es held (status.NotWarehouse at) held_new left_new = ⊥
+IsServed start new es held (status.FileFull len need) held_new left_new = IsFront start es held held_new
+IsServed start new es held (status.ScriptTooLong taken) held_new left_new = IsFront start es held held_new
 
 -- what holds where the script was read to its end
 abbrev pub Through : Status → Type 0 → Type 0
@@ -208,21 +207,21 @@ IsReadThrough refused (status.ScriptTooLong taken) = ⊥
 
 -- ---- the turns so far
 
--- of a told script and told output: the first events were carried out, and their whole text was written; over a told file
+-- of told events and told output: the first events were carried out, and their whole text was written; over a told file
 -- a crash so far left what was committed after some of them
 pub record GoesOn {D : Type 0} (moment : D → ℕ) (left_since : D → ℕ → List ℕ → Type 0) (told : Type 0) (first last : D)
-    (start now : State) (input before : List ℕ) (left held : Option (List ℕ)) (count : ℕ) : Type 0 where
-  pub rest : List ℕ
+    (start now : State) (es : List Event) (before : List ℕ) (left : Option (List Event)) (held : Option (List ℕ)) (count : ℕ) : Type 0 where
+  pub rest : List Event
   pub left_is : left ≡ Some rest
   pub done : List Event
-  pub parts : done ++ events rest ≡ events input
+  pub parts : done ++ rest ≡ es
   pub state : now ≡ after start done
   pub held_is : held ≡ Some (before ++ text start done)
   pub refused : count ≡ refusals start done
-  pub leaves : told → LeavesOnly moment left_since first last (StandsWithin start (events input) 0 (length done))
+  pub leaves : told → LeavesOnly moment left_since first last (StandsWithin start es 0 (length done))
 
--- so where script and output are told
+-- so where events and output are told
 pub record Goes {D : Type 0} (moment : D → ℕ) (left_since : D → ℕ → List ℕ → Type 0) (told : Type 0) (first last : D)
-    (start now : State) (left_start left held_start held : Option (List ℕ)) (count : ℕ) : Type 0 where
-  pub each : (input before : List ℕ) → left_start ≡ Some input → held_start ≡ Some before →
-      GoesOn moment left_since told first last start now input before left held count
+    (start now : State) (left_start left : Option (List Event)) (held_start held : Option (List ℕ)) (count : ℕ) : Type 0 where
+  pub each : (es : List Event) (before : List ℕ) → left_start ≡ Some es → held_start ≡ Some before →
+      GoesOn moment left_since told first last start now es before left held count

@@ -9,7 +9,7 @@ use wh_world::{MemDisk, MemSink, MemSource};
 const EMPTY_FILE: [u8; 8] = *b"WHCORE1\0";
 
 /// After `CREATE TABLE T(K NUMBER);`.
-const ONE_TABLE: [u8; 50] = [
+pub(crate) const ONE_TABLE: [u8; 50] = [
     0x57, 0x48, 0x43, 0x4f, 0x52, 0x45, 0x31, 1, 0, 0, 0, 0, 0, 0, 0, 0x21, 0, 0, 0, 0, 0, 0, 0, 1,
     0, 0, 0, 1, 1, 0, 0, 0, 1, 0, 0, 0, 1, 0x54, 1, 0, 0, 0, 1, 0, 0, 0, 1, 0x4b, 1, 0,
 ];
@@ -44,10 +44,10 @@ const ROWS: &[u8] = b"K | V
 
 /// What a run answers, writes and leaves.
 #[derive(Drop)]
-struct Outcome {
-    status: Status,
-    out: MemSink,
-    disk: MemDisk,
+pub(crate) struct Outcome {
+    pub(crate) status: Status,
+    pub(crate) out: MemSink,
+    pub(crate) disk: MemDisk,
 }
 
 /// The calls that are to fail, by their numbers from 1.
@@ -86,7 +86,7 @@ fn run_with(
 }
 
 /// Carries out a script over a file, with no failure.
-fn carried_out(
+pub(crate) fn carried_out(
     rt: &(impl Threads + Sync + time::Clock),
     alloc: Global,
     file: &[u8],
@@ -131,7 +131,7 @@ fn scripts_are_answered(rt: HostRuntime) -> Result<(), Fail> {
               INSERT INTO T VALUES (999999999999999999), (-999999999999999999), (0000000000000000000012), (-0);
               INSERT INTO T VALUES (1000000000000000000);
               SELECT * FROM T;",
-            b"CREATED TABLE T\nINSERTED 4\nE0 Unsupported\nK\n-999999999999999999\n0\n12\n999999999999999999\n(4 rows)\n",
+            b"CREATED TABLE T\nINSERTED 4\nE1 SyntaxError\nK\n-999999999999999999\n0\n12\n999999999999999999\n(4 rows)\n",
             Status::Refused { count: 1 },
         ),
         (
@@ -143,7 +143,7 @@ fn scripts_are_answered(rt: HostRuntime) -> Result<(), Fail> {
         (
             "no UTF-8",
             b"SELECT * FROM \xff;\xc3\x28",
-            b"E0 Unsupported\nE0 Unsupported\n",
+            b"E1 SyntaxError\nE1 SyntaxError\n",
             Status::Refused { count: 2 },
         ),
     ];
@@ -232,13 +232,13 @@ fn names_and_columns_have_limits(rt: HostRuntime) -> Result<(), Fail> {
         let text = if created {
             want.as_slice()
         } else {
-            b"E0 Unsupported\n"
+            b"E13 Limit NAME 255\n"
         };
         assert_eq!(rt; done.out.held(), text, "a name of {len} bytes");
     }
     for (count, text) in [
         (64u16, b"CREATED TABLE T\n".as_slice()),
-        (65, b"E0 Unsupported\n"),
+        (65, b"E13 Limit COLUMNS 64\n"),
     ] {
         let mut script = b"CREATE TABLE T(".to_vec(alloc)?;
         for column in 1..count {

@@ -1,7 +1,16 @@
-pub mod PieceLemmas
-pub mod NumberLemmas
-pub mod TokenLemmas
-pub mod NameLemmas
-pub mod FormLemmas
-pub mod RowLemmas
-pub mod ValueLemmas
+mod Pieces
+mod Texts
+mod Listing
+mod PartsSound
+mod PlainSound
+mod Readers
+mod Heads
+mod Parting
+mod KeptSound
+mod PartsComplete
+mod Calls
+mod PlainComplete
+mod KeptComplete
+mod Statements
+pub mod Reading
+mod Outcomes

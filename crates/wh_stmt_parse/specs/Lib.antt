@@ -1,3 +1,7 @@
-pub mod View
-pub mod Scan
-pub mod Forms
+pub mod Parts
+pub mod Plain
+pub mod Kept
+pub mod Read
+pub mod Request
+pub mod Gives
+pub mod Laws

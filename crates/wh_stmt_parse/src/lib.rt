@@ -2,18 +2,14 @@
 #![tactic(auto)]
 
 mod columns;
-mod forms;
-mod letters;
-mod names;
-mod numbers;
+mod kept;
+mod options;
 mod parsing;
-mod pieces;
-mod rows;
-mod statement;
+mod plain;
+mod sorts;
 #[cfg(test)]
 mod tests;
-mod token;
-mod tokens;
+mod verb;
 
-pub use parsing::parse;
-pub use statement::Statement;
+pub use parsing::{parse, reading_laws};
+pub use wh_expr_parse::ParseFault;

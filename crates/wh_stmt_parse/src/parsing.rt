@@ -1,79 +1,161 @@
-ghost use Rattle.std.specs.Prelude.{◌≡◌, option_map, IfOk, IfSome, Some};
-ghost use Rattle.wh_machine.specs.Statement as machine;
-ghost use Rattle.wh_machine.specs.Reading as reading;
-ghost use Rattle.wh_machine.specs.Reading.{statement_of};
-ghost use Rattle.wh_stmt_parse.specs.View.{statement_view, tokens_view, HasValues};
+ghost use Rattle.std.specs.Prelude.{◌≡◌, ◌≤◌, length, Some, None, IfOk, IsErrOf};
+ghost use Rattle.wh_expr_parse.specs.View.{AreShort};
+ghost use Rattle.std.specs.Str as strings;
+ghost use Rattle.wh_ast.specs.declared.statement.Statement as ast;
+ghost use Rattle.wh_grammar.specs.Spelled.{Spells, tokens_of};
+ghost use Rattle.wh_expr_parse.specs.Gives.{Reads};
+ghost use Rattle.wh_lex.specs.Read.{read_tokens};
+ghost use Rattle.wh_stmt_parse.specs.Gives.{Gives};
+ghost use Rattle.wh_stmt_parse.specs.Laws as laws;
+ghost use Rattle.wh_stmt_parse.specs.Read as spec;
+ghost use Rattle.wh_stmt_parse.specs.Read.{read_statement, statement_of};
 
-use crate::Statement;
-use crate::columns::{columns, creation};
-use crate::forms::{create_head, insert_head, select_head};
-use crate::rows::rows;
-use crate::token::Token;
-use crate::tokens::tokens;
-use std::alloc::{AllocError, Global};
-use wh_value::Text;
+use crate::kept::{Source, dynamic_table, task};
+use crate::options::end;
+use crate::plain::{
+    alter, begin, change, commit, drop, execute, replacement, rollback, select, start, stream,
+    table,
+};
+use crate::verb::{Object, Verb, created_object, first_verb};
+use std::alloc::Global;
+use wh_ast::Statement;
+use wh_expr_parse::{ParseFault, Words};
+use wh_lex::{LexFault, Token, tokens};
 
-/// The longest text that is read.
-const MAX_TEXT: usize = 65536;
+/// The longest text of a statement, in bytes.
+const MOST_BYTES: usize = 65536;
 
-/// The statement that a text spells, where it spells one that is carried out.
-pub fn parse(alloc: Global, text: &[u8]) -> Result<Option<Statement>, AllocError>
-    ensures statement { IfOk result (λ found. option_map statement_view found ≡ statement_of text.now) }
-    ensures values { IfOk result (λ found. IfSome found HasValues) }
-{
-    statement_of_text(alloc, text)
-}
-
-fn statement_of_text(alloc: Global, text: &[u8]) -> Result<Option<Statement>, AllocError>
-    ensures { IfOk result (λ found. option_map statement_view found ≡ statement_of text.now) }
-{
-    if text.len() > MAX_TEXT {
-        return Ok(None);
-    }
-    let Some(tokens) = tokens(alloc, text)? else {
-        return Ok(None);
-    };
-    statement(alloc, &tokens)
-}
-
-fn statement(alloc: Global, tokens: &[Token]) -> Result<Option<Statement>, AllocError>
-    ensures { IfOk result (λ found. option_map statement_view found
-        ≡ reading.statement_of_tokens (tokens_view tokens.now)) }
-{
-    if let Some((name, rest)) = create_head(tokens) {
-        return create_table(alloc, name, rest);
-    }
-    if let Some((name, rest)) = insert_head(tokens) {
-        return insert_values(alloc, name, rest);
-    }
-    let Some((name, _)) = select_head(tokens) else {
-        return Ok(None);
-    };
-    let table = name.copy(alloc)?;
-    Ok(Some(Statement::SelectAll { table }))
-}
-
-fn create_table(alloc: Global, name: &Text, rest: &[Token]) -> Result<Option<Statement>, AllocError>
-    ensures { IfOk result (λ found. option_map statement_view found
-        ≡ reading.creation name.now (reading.columns_of (tokens_view rest.now))) }
-{
-    let Some(columns) = columns(alloc, rest)? else {
-        return Ok(None);
-    };
-    creation(alloc, name, columns)
-}
-
-fn insert_values(
+/// Behind CREATE.
+#[tactic(auto, unfolding(crate::specs::Read::read_create))]
+fn creation(
     alloc: Global,
-    name: &Text,
-    rest: &[Token],
-) -> Result<Option<Statement>, AllocError>
-    ensures { IfOk result (λ found. option_map statement_view found
-        ≡ reading.insertion name.now (reading.rows_from reading.BeforeRow (tokens_view rest.now))) }
+    source: Source<'_>,
+    words: &mut Words<'_>,
+) -> Result<Statement, ParseFault>
+    ensures { Reads (spec.read_create source.entry.text.now source.entry.tokens.now words.old)
+        result words.new }
 {
-    let Some(rows) = rows(alloc, rest)? else {
-        return Ok(None);
-    };
-    let table = name.copy(alloc)?;
-    Ok(Some(Statement::InsertValues { table, rows }))
+    let object = created_object(words);
+    words.skip();
+    match object {
+        Object::Table => table(alloc, words, false),
+        Object::Replacement => replacement(alloc, words),
+        Object::Stream => stream(alloc, words),
+        Object::Task => task(alloc, source, words),
+        Object::DynamicTable => dynamic_table(alloc, source, words),
+        Object::Nothing => Err(ParseFault::SyntaxError),
+    }
 }
+
+/// Behind the first word of a statement that is neither a query nor a change of rows.
+fn behind_verb(
+    alloc: Global,
+    source: Source<'_>,
+    words: &mut Words<'_>,
+    verb: Verb,
+) -> Result<Statement, ParseFault>
+    ensures { Reads (spec.behind_verb source.entry.text.now source.entry.tokens.now verb words.old)
+        result words.new }
+{
+    match verb {
+        Verb::Create => creation(alloc, source, words),
+        Verb::Alter => alter(alloc, words),
+        Verb::Execute => execute(alloc, words),
+        Verb::Drop => drop(alloc, words),
+        Verb::Begin => Ok(begin(words)),
+        Verb::Start => start(words),
+        Verb::Commit => Ok(commit(words)),
+        Verb::Rollback => Ok(rollback(words)),
+        Verb::Select | Verb::Change => Err(ParseFault::SyntaxError),
+    }
+}
+
+/// The statement that the tokens begin with.
+#[tactic(auto, unfolding(crate::specs::Read::read_words))]
+fn front(alloc: Global, source: Source<'_>, words: &mut Words<'_>) -> Result<Statement, ParseFault>
+    ensures { Reads (spec.read_words source.entry.text.now source.entry.tokens.now words.old)
+        result words.new }
+{
+    match first_verb(words) {
+        Verb::Select => select(alloc, words),
+        Verb::Change => change(alloc, words),
+        other => {
+            words.skip();
+            behind_verb(alloc, source, words, other)
+        }
+    }
+}
+
+/// The statement that all the tokens are that are left.
+#[tactic(auto, unfolding(crate::specs::Read::read_all))]
+fn all(alloc: Global, source: Source<'_>, words: &mut Words<'_>) -> Result<Statement, ParseFault>
+    ensures { Reads (spec.read_all source.entry.text.now source.entry.tokens.now words.old)
+        result words.new }
+{
+    let found = front(alloc, source, words)?;
+    end(words)?;
+    Ok(found)
+}
+
+fn statement(alloc: Global, text: &[u8], tokens: &[Token]) -> Result<Statement, ParseFault>
+    requires { AreShort tokens.now }
+    ensures { Gives result (statement_of text.now tokens.now) }
+{
+    let mut words = Words::new(tokens);
+    all(alloc, Source { text, tokens }, &mut words)
+}
+
+fn is_utf8(text: &[u8]) -> bool
+    ensures { result ≡ strings.is_utf8 text.now }
+{
+    match str::from_utf8(text) {
+        Ok(_) => true,
+        Err(_) => false,
+    }
+}
+
+/// The tokens of a text.
+fn tokens_of_text(alloc: Global, text: &[u8]) -> Result<Vec<Token>, ParseFault>
+    requires { length text.now ≤ MOST_BYTES }
+    ensures found { IfOk result (λ ts. (read_tokens text.now ≡ Some ts.items)) }
+    ensures short { IfOk result (λ ts. AreShort ts.items) }
+    ensures none { IsErrOf result ParseFault.SyntaxError → read_tokens text.now ≡ None }
+{
+    match tokens(alloc, text) {
+        Ok(found) => Ok(found),
+        Err(LexFault::SyntaxError) => Err(ParseFault::SyntaxError),
+        Err(LexFault::OutOfMemory) => Err(ParseFault::OutOfMemory),
+    }
+}
+
+#[tactic(auto, unfolding(crate::specs::Read::read_statement))]
+fn read(alloc: Global, text: &[u8]) -> Result<Statement, ParseFault>
+    ensures { Gives result (read_statement text.now) }
+{
+    if text.len() > MOST_BYTES {
+        return Err(ParseFault::SyntaxError);
+    }
+    if !is_utf8(text) {
+        return Err(ParseFault::SyntaxError);
+    }
+    let found = tokens_of_text(alloc, text)?;
+    statement(alloc, text, &found)
+}
+
+/// The statement that a text spells, or a syntax error where it spells none.
+pub fn parse(alloc: Global, text: &[u8]) -> Result<Statement, ParseFault>
+    ensures found { IfOk result (λ s. Spells text.now s) }
+    ensures none { IsErrOf result ParseFault.SyntaxError
+        → (s : ast.Statement) → Spells text.now s → ⊥ }
+    ensures reads { Gives result (read_statement text.now) }
+{
+    read(alloc, text)
+}
+
+/// A text spells at most one statement. What `read_statement` and `request_of` read is what it
+/// spells and asks for.
+pub fn reading_laws()
+    ensures texts { laws.ReadsTexts }
+    ensures fixed { laws.TextFixesStatement }
+    ensures requests { laws.ReadsRequests }
+{}

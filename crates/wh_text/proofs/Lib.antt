@@ -1,4 +1,6 @@
 pub mod Parts
-pub mod Ahead
-pub mod Cut
-pub mod Turns
+pub mod AreaLaws
+pub mod MarkedLaws
+pub mod PlaceLaws
+pub mod AheadLaws
+pub mod TurnLaws

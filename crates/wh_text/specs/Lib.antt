@@ -1,4 +1,7 @@
 pub mod View
 pub mod Turn
+pub mod Ahead
+pub mod Fault
 pub mod Script
-pub mod Scan
+pub mod Area
+pub mod Place

@@ -1,12 +1,21 @@
-//! The script's commands, and the text of replies.
+//! The lines of a script, and the text of replies.
 #![tactic(auto)]
 
+mod ahead;
+mod area;
+mod fault;
+mod line;
+mod lines;
+mod marked;
+mod place;
 mod print;
 mod reply;
 mod script;
 #[cfg(test)]
 mod tests;
 
+pub use fault::ScriptFault;
+pub use line::Line;
 pub use print::print_reply;
 pub use reply::{Limit, Refusal, Reply};
-pub use script::{Script, ScriptFault};
+pub use script::Script;

@@ -1,7 +1,7 @@
 ghost use Rattle.std.specs.Prelude.{◌≡◌, [], ◌∷◌, ◌++◌, OnOk, List, ℕ, map, codes, decimal, length};
 ghost use Rattle.std.specs.List.{flat_map};
 ghost use Rattle.wh_machine.specs.Reply.{print, line, parted, row_line, limit_text, refusal_text};
-ghost use Rattle.wh_machine.specs.Value.{literal};
+ghost use Rattle.wh_value.specs.Value.{literal};
 ghost use Rattle.wh_value.specs.View.{value_of};
 ghost use Rattle.wh_text.specs.View.{reply_view, refusal_view, limit_view};
 
@@ -20,6 +20,7 @@ pub fn print_reply(alloc: Global, reply: &Reply, out: &mut Bytes) -> Result<(), 
         Reply::CreatedTable(name) => put_created(name, out),
         Reply::Inserted(count) => put_inserted(*count, out),
         Reply::Listing { names, rows } => put_listing(names, rows, out),
+        Reply::Idle => out.extend(b"IDLE\n"),
         Reply::Refused(refusal) => put_refused(refusal, out),
     }
 }
@@ -58,6 +59,8 @@ fn put_refusal(refusal: &Refusal, out: &mut Bytes) -> Result<(), AllocError>
 {
     match refusal {
         Refusal::Unsupported => out.extend(b"E0 Unsupported"),
+        Refusal::SyntaxError => out.extend(b"E1 SyntaxError"),
+        Refusal::NoSuchSession(session) => put_no_session(*session, out),
         Refusal::UnknownName(name) => put_named(b"E6 UnknownName ", name, out),
         Refusal::NameTaken(name) => put_named(b"E7 NameTaken ", name, out),
         Refusal::TypeMismatch => out.extend(b"E9 TypeMismatch"),
@@ -72,20 +75,38 @@ fn put_named(front: &[u8], name: &Text, out: &mut Bytes) -> Result<(), AllocErro
     out.extend(name.as_bytes())
 }
 
+fn put_no_session(session: u64, out: &mut Bytes) -> Result<(), AllocError>
+    ensures { OnOk result (out.new ≡ out.old ++ (codes "E2 NoSuchSession " ++ decimal session)) }
+{
+    out.extend(b"E2 NoSuchSession ")?;
+    out.extend_decimal(session)
+}
+
 fn put_limit(limit: Limit, out: &mut Bytes) -> Result<(), AllocError>
     ensures { OnOk result (out.new ≡ out.old ++ (codes "E13 Limit " ++ limit_text (limit_view limit))) }
 {
     out.extend(b"E13 Limit ")?;
+    put_limit_name(limit, out)
+}
+
+fn put_limit_name(limit: Limit, out: &mut Bytes) -> Result<(), AllocError>
+    ensures { OnOk result (out.new ≡ out.old ++ limit_text (limit_view limit)) }
+{
     match limit {
+        Limit::Statement => out.extend(b"STATEMENT 65536"),
         Limit::Stamp => out.extend(b"STAMP 4611686018427387904"),
-        Limit::Objects => out.extend(b"OBJECTS 1000"),
         Limit::RowNumber => out.extend(b"ROW_NUMBER 4611686018427387904"),
+        Limit::Objects => out.extend(b"OBJECTS 1000"),
+        Limit::Name => out.extend(b"NAME 255"),
+        Limit::Columns => out.extend(b"COLUMNS 64"),
+        Limit::Retention => out.extend(b"RETENTION 90"),
     }
 }
 
 fn put_listing(names: &[Text], rows: &[Row], out: &mut Bytes) -> Result<(), AllocError>
     ensures { OnOk result (out.new ≡ out.old ++
-        (line (parted names.now) ++ flat_map row_line rows.now ++ line (codes "(" ++ decimal (length rows.now) ++ codes " rows)"))) }
+        (line (parted names.now) ++ flat_map row_line rows.now
+        ++ line (codes "(" ++ decimal (length rows.now) ++ codes " rows)"))) }
 {
     put_header(names, out)?;
     put_rows(rows, out)?;

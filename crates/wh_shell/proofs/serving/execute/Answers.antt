@@ -6,6 +6,6 @@ use Rattle.wh_shell.proofs.serving.execute.Goals as goal
 pub returns-in-Err-NeedsReopen-clause-disk_fault : goal.returns-in-Err-NeedsReopen-clause-disk_fault
 returns-in-Err-NeedsReopen-clause-disk_fault g c =
     let failed : failed_of c.args.warehouse.now.journal ≡ Some c.in-Err-NeedsReopen.field-0-0 =
-    (c.exec.ensures.needs_reopen c.in-Err-NeedsReopen.field-0-0).0 (cc) in
+    (c.reply_of.ensures.needs_reopen c.in-Err-NeedsReopen.field-0-0).0 (cc) in
     let healthy = c.requires.ready.healthy in
     λ _. absurd (cc)

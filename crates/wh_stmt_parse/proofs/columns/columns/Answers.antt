@@ -1,26 +1,29 @@
-use Rattle.std.proofs.Common.{◌≡◌, ◌∙◌, ◌∷◌, [], ◌++◌, ap, map}
-use Rattle.std.proofs.lemmas.List.{map-append}
-use Rattle.wh_machine.specs.Reading.{number_column}
-use Rattle.wh_value.specs.View.{column_of}
-use Rattle.wh_stmt_parse.specs.View.{tokens_view}
-use Rattle.wh_stmt_parse.proofs.FormLemmas.{columns-none, columns-step, columns-last, columns-go_on}
+use Rattle.std.proofs.Common.{rules, arith}
+use Rattle.std.proofs.lemmas.Grind.{common_steps}
+use Rattle.wh_expr_parse.proofs.Turns.{one_more, no_more}
+use Rattle.wh_stmt_parse.specs.Parts.{commas, read_column, read_columns}
+use Rattle.wh_stmt_parse.proofs.Listing.{one_turn}
 use Rattle.wh_stmt_parse.proofs.columns.columns.Goals as goal
 
-pub returns-in_default : goal.returns-in_default
-returns-in_default c = columns-none (map column_of c.columns.made.items) (tokens_view c.columns.rest.now) _ c.columns.invariant c.in_default.ensures.is
+pub returns-in_err-column : goal.returns-in_err-column
+unfolding read_columns commas
+returns-in_err-column c =
+    let e = one_more (λ n. commas read_column n c.loop-turn.found c.loop-turn.words) _ c.loop-turn._turn c.loop-turn-test.true c.loop-turn.invariant in
+    first_of (search rules, grind (arith, common_steps))
 
-pub returns-then-last : goal.returns-then-last
-returns-then-last c =
-    let more : map column_of c.push.new.self.items ≡ map column_of c.columns.made.items ++ number_column c.in-Some.name.now ∷ [] =
-    ap (map column_of) c.in_ok-push.ensures.items ∙ map-append column_of c.columns.made.items _
-    ∙ ap (λ x. map column_of c.columns.made.items ++ x ∷ []) c.in_ok-number_column.ensures in
-    let step = columns-step _ _ _ c.in-Some.last (tokens_view c.in-Some.behind.now) (tokens_view c.columns.rest.now) _ c.columns.invariant c.in-Some.ensures.is more in
-    columns-last _ c.in-Some.last _ _ step c.if-last.true
+pub returns-then-not-eat : goal.returns-then-not-eat
+unfolding read_columns commas
+returns-then-not-eat c =
+    let e = one_more (λ n. commas read_column n c.loop-turn.found c.loop-turn.words) _ c.loop-turn._turn c.loop-turn-test.true c.loop-turn.invariant in
+    first_of (search rules, grind (arith, common_steps))
 
-pub columns-preserved : goal.columns-preserved
-columns-preserved c =
-    let more : map column_of c.push.new.self.items ≡ map column_of c.columns.made.items ++ number_column c.in-Some.name.now ∷ [] =
-    ap (map column_of) c.in_ok-push.ensures.items ∙ map-append column_of c.columns.made.items _
-    ∙ ap (λ x. map column_of c.columns.made.items ++ x ∷ []) c.in_ok-number_column.ensures in
-    let step = columns-step _ _ _ c.in-Some.last (tokens_view c.in-Some.behind.now) (tokens_view c.columns.rest.now) _ c.columns.invariant c.in-Some.ensures.is more in
-    columns-go_on _ c.in-Some.last _ _ step c.if-last.false
+pub loop-turn-preserved : goal.loop-turn-preserved
+loop-turn-preserved c =
+    let e = one_more (λ n. commas read_column n c.loop-turn.found c.loop-turn.words) _ c.loop-turn._turn c.loop-turn-test.true c.loop-turn.invariant in
+    grind (arith, common_steps, one_turn)
+
+pub returns : goal.returns
+unfolding read_columns commas
+returns c =
+    let e = no_more (λ n. commas read_column n c.loop-turn.found c.loop-turn.words) _ c.loop-turn._turn c.loop-turn-test.false c.loop-turn.invariant in
+    first_of (search rules, grind (arith, common_steps))

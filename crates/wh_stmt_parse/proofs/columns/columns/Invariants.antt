@@ -1,12 +1,6 @@
-use Rattle.std.proofs.Common.{◌≡◌, map, length}
-use Rattle.wh_machine.specs.Reading.{columns_of}
-use Rattle.wh_value.specs.View.{column_of}
-use Rattle.wh_stmt_parse.specs.Scan.{joined}
-use Rattle.wh_stmt_parse.specs.View.{tokens_view}
+use Rattle.std.proofs.Common.{◌≡◌, ◌-◌, [], length}
+use Rattle.wh_stmt_parse.specs.Parts.{commas, read_column}
 use Rattle.wh_stmt_parse.proofs.columns.columns.Given as goal
 
-abbrev pub invariant-columns : goal.invariant-columns
-invariant-columns l = joined (map column_of l.made.items) (columns_of (tokens_view l.rest)) ≡ columns_of (tokens_view l.tokens)
-
-abbrev pub decreases-columns : goal.decreases-columns
-decreases-columns l = length l.rest
+abbrev pub invariant-loop-turn : goal.invariant-loop-turn
+invariant-loop-turn l = commas read_column (length l.fn.words) [] l.fn.words ≡ commas read_column (l._turn-end - l._turn) l.found l.words

@@ -1,7 +1,9 @@
-use Rattle.std.proofs.lemmas.Result.{IfOk-weaker}
-use Rattle.wh_stmt_parse.proofs.ValueLemmas.{found-values}
+use Rattle.wh_stmt_parse.proofs.Reading.{readers}
+use Rattle.wh_stmt_parse.proofs.Statements.{found, none}
 use Rattle.wh_stmt_parse.proofs.parsing.parse.Goals as goal
 
-pub returns-clause-values : goal.returns-clause-values
-returns-clause-values c =
-    IfOk-weaker c.statement_of_text.result _ _ (λ found e. found-values c.args.text.now found e) c.statement_of_text.ensures
+pub returns-clause-found : goal.returns-clause-found
+returns-clause-found c = found readers c.args.text.now _ c.read.ensures
+
+pub returns-clause-none : goal.returns-clause-none
+returns-clause-none c = none readers c.args.text.now _ c.read.ensures

@@ -1,6 +1,6 @@
 use Rattle.std.proofs.Common.{◌≡◌, ◌++◌, take, codes}
 use Rattle.std.specs.List.{flat_map}
-use Rattle.wh_machine.specs.Value.{literal}
+use Rattle.wh_value.specs.Value.{literal}
 use Rattle.wh_value.specs.View.{value_of}
 use Rattle.wh_text.proofs.print.put_other_values.Given as goal
 

@@ -1,0 +1,41 @@
+-- The events of a script, as the relation and as the function.
+--     fixes_events     a script has the events that the function gives, and these alone
+--     told_events      of a told script
+use Rattle.std.proofs.Common.{◌≡◌, ℕ, List, [], ◌∷◌, Option, Some, None, refl, sym, ap, ◌∙◌, subst, option_map}
+use Rattle.wh_grammar.specs.Spelled.{Request, Asks}
+use Rattle.wh_machine.specs.Step.{Event, Command, Tick}
+use Rattle.wh_machine.specs.Script.{Line, CommandLine, SessionLine, TickLine, lines_of, HasEvents, ends, sets_session, ticks, ticks_at, commands, IsScript}
+use Rattle.wh_stmt_parse.specs.Request.{request_of}
+use Rattle.wh_stmt_parse.specs.Laws.{ReadsRequests}
+use Rattle.wh_stmt_parse.proofs.Reading.{requests_read}
+use Rattle.wh_shell.specs.Events.{events_from, events}
+use Rattle.wh_shell.specs.Laws.{FixesEvents}
+
+-- lines have no other events
+one_list : {session reading : ℕ} {lines : List Line} {es : List Event} → ReadsRequests → HasEvents session reading lines es →
+    es ≡ events_from session reading lines
+one_list reads ends = refl
+one_list reads (sets_session h) = one_list reads h
+one_list reads (ticks {session} {reading} h) = ap (λ es. Tick reading ∷ es) (one_list reads h)
+one_list reads (ticks_at {session} {reading} {n} h) = ap (λ es. Tick n ∷ es) (one_list reads h)
+one_list reads (commands {session} {reading} {text} {request} {lines} asks h) =
+    ap (λ gs. Command reading session request ∷ gs) (one_list reads h)
+    ∙ ap (λ r. Command reading session r ∷ events_from session reading lines) (sym ((reads text request).1 asks))
+
+-- and they have these
+has_them : ReadsRequests → (session reading : ℕ) (lines : List Line) → HasEvents session reading lines (events_from session reading lines)
+has_them reads session reading [] = ends
+has_them reads session reading (CommandLine text ∷ lines) = commands ((reads text (request_of text)).0 refl) (has_them reads session reading lines)
+has_them reads session reading (SessionLine n ∷ lines) = sets_session (has_them reads n reading lines)
+has_them reads session reading (TickLine None ∷ lines) = ticks (has_them reads session reading lines)
+has_them reads session reading (TickLine (Some n) ∷ lines) = ticks_at (has_them reads session n lines)
+
+pub fixes_events : FixesEvents
+fixes_events script es = (
+  λ is. one_list requests_read is,
+  λ same. subst (λ (fs : List Event). IsScript script fs) (sym same) (has_them requests_read 1 0 (lines_of script)),
+)
+
+-- of a told script
+pub told_events : (script : List ℕ) (es : List Event) (left : Option (List ℕ)) → left ≡ Some script → IsScript script es → option_map events left ≡ Some es
+told_events script es left told is = ap (option_map events) told ∙ ap Some (sym ((fixes_events script es).0 is))

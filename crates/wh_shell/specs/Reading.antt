@@ -1,0 +1,33 @@
+-- What contracts say of a `Reader`.
+--     unread            the events that are still to be read, where the source is told
+--     GivesEvent        the first of them was read
+--     EndsEvents        none was left, and the source has nothing left
+--     PassesOn          they are the same still
+--     Turns             what a line asks for, and what is asked for behind it
+use Rattle.std.specs.Prelude.{◌≡◌, ℕ, List, [], ◌∷◌, Option, Some, None, option_map}
+use Rattle.wh_machine.specs.Step as machine
+use Rattle.wh_machine.specs.Script.{Line, lines_of}
+use Rattle.wh_text.specs.Turn.{ahead_and}
+use Rattle.wh_text.specs.Script.{ahead_of}
+use Rattle.wh_shell.specs.Events.{event_view, events_from}
+use Rattle.wh_shell.specs.declared.event.Event.{Event}
+use Rattle.wh_shell.specs.declared.reader.Reader.{Reader}
+
+abbrev pub unread : Reader → Option (List ℕ) → Option (List machine.Event)
+unread reader left = option_map (λ bytes. events_from reader.session reader.reading (lines_of bytes)) (ahead_and (ahead_of reader.script) left)
+
+pub record GivesEvent (old : Option (List machine.Event)) (event : machine.Event) (new : Option (List machine.Event)) : Type 0 where
+  pub each : (es : List machine.Event) → old ≡ Some es → (rest : List machine.Event) × (new ≡ Some rest) × (es ≡ event ∷ rest)
+
+pub record EndsEvents (old new : Option (List machine.Event)) (left_new : Option (List ℕ)) : Type 0 where
+  pub each : (es : List machine.Event) → old ≡ Some es → (new ≡ Some []) × (left_new ≡ Some []) × (es ≡ [])
+
+pub record PassesOn (old new : Option (List machine.Event)) : Type 0 where
+  pub each : (es : List machine.Event) → old ≡ Some es → new ≡ Some es
+
+-- in front of any others, from one session and reading to the next
+abbrev pub Turns : ℕ → ℕ → Line → Option Event → ℕ → ℕ → Type 0
+Turns session reading line None session_new reading_new =
+    (lines : List Line) → events_from session reading (line ∷ lines) ≡ events_from session_new reading_new lines
+Turns session reading line (Some event) session_new reading_new =
+    (lines : List Line) → events_from session reading (line ∷ lines) ≡ event_view event ∷ events_from session_new reading_new lines

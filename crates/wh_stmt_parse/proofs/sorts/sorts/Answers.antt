@@ -1,0 +1,29 @@
+use Rattle.std.proofs.Common.{rules, arith}
+use Rattle.std.proofs.lemmas.Grind.{common_steps}
+use Rattle.wh_expr_parse.proofs.Turns.{one_more, no_more}
+use Rattle.wh_stmt_parse.specs.Parts.{commas, read_sort, read_sorts}
+use Rattle.wh_stmt_parse.proofs.Listing.{one_turn}
+use Rattle.wh_stmt_parse.proofs.sorts.sorts.Goals as goal
+
+pub returns-in_err-sort : goal.returns-in_err-sort
+unfolding read_sorts commas
+returns-in_err-sort c =
+    let e = one_more (λ n. commas read_sort n c.loop-turn.found c.loop-turn.words) _ c.loop-turn._turn c.loop-turn-test.true c.loop-turn.invariant in
+    first_of (search rules, grind (arith, common_steps))
+
+pub returns-then-not-eat : goal.returns-then-not-eat
+unfolding read_sorts commas
+returns-then-not-eat c =
+    let e = one_more (λ n. commas read_sort n c.loop-turn.found c.loop-turn.words) _ c.loop-turn._turn c.loop-turn-test.true c.loop-turn.invariant in
+    first_of (search rules, grind (arith, common_steps))
+
+pub loop-turn-preserved : goal.loop-turn-preserved
+loop-turn-preserved c =
+    let e = one_more (λ n. commas read_sort n c.loop-turn.found c.loop-turn.words) _ c.loop-turn._turn c.loop-turn-test.true c.loop-turn.invariant in
+    grind (arith, common_steps, one_turn)
+
+pub returns : goal.returns
+unfolding read_sorts commas
+returns c =
+    let e = no_more (λ n. commas read_sort n c.loop-turn.found c.loop-turn.words) _ c.loop-turn._turn c.loop-turn-test.false c.loop-turn.invariant in
+    first_of (search rules, grind (arith, common_steps))

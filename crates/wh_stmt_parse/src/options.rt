@@ -1,0 +1,68 @@
+//! What may stand at the end of a statement.
+
+ghost use Rattle.wh_expr_parse.specs.Gives.{Reads};
+ghost use Rattle.wh_stmt_parse.specs.Parts as spec;
+
+use sqlite_items::Items;
+use std::alloc::Global;
+use wh_dml_parse::names;
+use wh_expr_parse::{Key, ParseFault, Words};
+use wh_value::Text;
+
+/// `DATA_RETENTION_TIME_IN_DAYS = number`, or nothing.
+#[tactic(auto, unfolding(crate::specs::Parts::read_retention))]
+pub fn retention(words: &mut Words<'_>) -> Result<Option<u64>, ParseFault>
+    ensures { Reads (spec.read_retention words.old) result words.new }
+{
+    if !words.eat_word(b"DATA_RETENTION_TIME_IN_DAYS") {
+        return Ok(None);
+    }
+    words.expect(Key::Equal)?;
+    let days = words.number()?;
+    Ok(Some(days))
+}
+
+#[tactic(auto, unfolding(crate::specs::Parts::read_truth))]
+fn truth(words: &mut Words<'_>) -> Result<bool, ParseFault>
+    ensures { Reads (spec.read_truth words.old) result words.new }
+{
+    if words.eat_word(b"TRUE") {
+        return Ok(true);
+    }
+    words.expect_word(b"FALSE")?;
+    Ok(false)
+}
+
+/// `APPEND_ONLY = TRUE`, `APPEND_ONLY = FALSE`, or nothing.
+#[tactic(auto, unfolding(crate::specs::Parts::read_append))]
+pub fn append_only(words: &mut Words<'_>) -> Result<bool, ParseFault>
+    ensures { Reads (spec.read_append words.old) result words.new }
+{
+    if !words.eat_word(b"APPEND_ONLY") {
+        return Ok(false);
+    }
+    words.expect(Key::Equal)?;
+    truth(words)
+}
+
+/// `AFTER name {, name}`, or nothing.
+#[tactic(auto, unfolding(crate::specs::Parts::read_after))]
+pub fn after(alloc: Global, words: &mut Words<'_>) -> Result<Items<Text>, ParseFault>
+    ensures { Reads (spec.read_after words.old) result words.new }
+{
+    if words.eat_word(b"AFTER") {
+        return names(alloc, words);
+    }
+    Ok(Items::new(alloc))
+}
+
+/// The end of the tokens.
+#[tactic(auto, unfolding(crate::specs::Parts::read_end))]
+pub fn end(words: &Words<'_>) -> Result<(), ParseFault>
+    ensures { Reads (spec.read_end words.now) result words.now }
+{
+    match words.rest() {
+        [] => Ok(()),
+        [_, ..] => Err(ParseFault::SyntaxError),
+    }
+}

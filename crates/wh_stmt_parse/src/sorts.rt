@@ -1,0 +1,70 @@
+//! The order of a query's rows.
+
+ghost use Rattle.std.specs.Prelude.{◌≡◌, Some};
+ghost use Rattle.wh_expr_parse.specs.Gives.{Reads};
+ghost use Rattle.wh_stmt_parse.specs.Parts as spec;
+
+use sqlite_items::Items;
+use std::alloc::Global;
+use wh_ast::Sort;
+use wh_expr_parse::{Key, ParseFault, Words, name};
+
+/// A column's name, or its number.
+#[tactic(auto, unfolding(crate::specs::Parts::read_key))]
+fn key(alloc: Global, words: &mut Words<'_>) -> Result<wh_ast::Key, ParseFault>
+    ensures { Reads (spec.read_key words.old) result words.new }
+{
+    if words.sees(Key::Number) {
+        let number = words.number()?;
+        return Ok(wh_ast::Key::Position(number));
+    }
+    let name = name(alloc, words)?;
+    Ok(wh_ast::Key::Name(name))
+}
+
+/// Whether DESC is written.
+#[tactic(auto, unfolding(crate::specs::Parts::read_direction))]
+fn descending(words: &mut Words<'_>) -> bool
+    ensures { spec.read_direction words.old ≡ Some (result, words.new) }
+{
+    if words.eat_word(b"DESC") {
+        return true;
+    }
+    words.eat_word(b"ASC");
+    false
+}
+
+#[tactic(auto, unfolding(crate::specs::Parts::read_sort))]
+fn sort(alloc: Global, words: &mut Words<'_>) -> Result<Sort, ParseFault>
+    ensures { Reads (spec.read_sort words.old) result words.new }
+{
+    let key = key(alloc, words)?;
+    let descending = descending(words);
+    Ok(Sort { key, descending })
+}
+
+/// One or more, with commas between them.
+fn sorts(alloc: Global, words: &mut Words<'_>) -> Result<Items<Sort>, ParseFault>
+    ensures { Reads (spec.read_sorts words.old) result words.new }
+{
+    let mut found = Items::new(alloc);
+    for _turn in 0..words.rest().len() {
+        found.push(sort(alloc, words)?)?;
+        if !words.eat(Key::Comma) {
+            return Ok(found);
+        }
+    }
+    Err(ParseFault::SyntaxError)
+}
+
+/// `ORDER BY key {, key}`, or nothing.
+#[tactic(auto, unfolding(crate::specs::Parts::read_order))]
+pub fn order(alloc: Global, words: &mut Words<'_>) -> Result<Items<Sort>, ParseFault>
+    ensures { Reads (spec.read_order words.old) result words.new }
+{
+    if !words.eat_word(b"ORDER") {
+        return Ok(Items::new(alloc));
+    }
+    words.expect_word(b"BY")?;
+    sorts(alloc, words)
+}
