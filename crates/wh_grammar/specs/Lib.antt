@@ -9,3 +9,4 @@ pub mod Changing
 pub mod OptionText
 pub mod Parts
 pub mod Spelled
+pub mod Script

@@ -2,3 +2,5 @@ pub mod Value
 pub mod Column
 pub mod View
 pub mod Order
+pub mod Fits
+pub mod Limit

@@ -4,6 +4,8 @@
 mod bytes;
 mod column;
 mod comparison;
+mod fits;
+mod limit;
 mod literal;
 mod row;
 #[cfg(test)]
@@ -14,6 +16,8 @@ mod value;
 pub use bytes::Bytes;
 pub use column::{Column, ColumnType};
 pub use comparison::Comparison;
+pub use fits::row_fits;
+pub use limit::Limit;
 pub use literal::print_literal;
 pub use row::{Row, cmp_rows, sort_rows};
 pub use text::Text;

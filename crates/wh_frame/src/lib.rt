@@ -1,0 +1,2 @@
+//! The bytes of a file, as definitions: its header, its records, and the partitions in them. All of it is in `specs/`.
+#![tactic(auto)]

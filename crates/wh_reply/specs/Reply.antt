@@ -1,0 +1,70 @@
+-- Replies, and their text.
+--     Refusal, Reply     what is answered to an event
+--     print              its lines
+use Rattle.std.specs.Prelude.{ℕ, Bool, true, false, List, [], ◌∷◌, ◌++◌, length, map, codes, decimal}
+use Rattle.std.specs.List.{flat_map, join_by}
+use Rattle.wh_value.specs.Value.{Row, literal}
+use Rattle.wh_value.specs.Limit.{bound}
+use Rattle.wh_value.specs.declared.limit.Limit.{Limit}
+use Rattle.wh_value.specs.declared.limit.Limit.TheVariants as limits
+
+pub data Refusal : Type 0 where
+  Unsupported : Refusal
+  SyntaxError : Refusal
+  NoSuchSession : (session : ℕ) → Refusal
+  UnknownName : (name : List ℕ) → Refusal
+  NameTaken : (name : List ℕ) → Refusal
+  TypeMismatch : Refusal
+  OverLimit : Limit → Refusal
+
+pub data Reply : Type 0 where
+  CreatedTable : (name : List ℕ) → Reply
+  Inserted : (count : ℕ) → Reply
+  Listing : (names : List (List ℕ)) → (rows : List Row) → Reply
+  Idle : Reply
+  Refused : Refusal → Reply
+
+abbrev pub is_refusal : Reply → Bool
+is_refusal (CreatedTable name) = false
+is_refusal (Inserted count) = false
+is_refusal (Listing names rows) = false
+is_refusal Idle = false
+is_refusal (Refused why) = true
+
+abbrev pub line : List ℕ → List ℕ
+line text = text ++ 10 ∷ []
+
+-- parts with ` | ` between each two
+abbrev pub parted : List (List ℕ) → List ℕ
+parted parts = join_by (λ p. p) (codes " | ") parts
+
+abbrev pub row_line : Row → List ℕ
+row_line row = line (parted (map literal row))
+
+abbrev pub limit_word : Limit → List ℕ
+limit_word limits.Statement = codes "STATEMENT"
+limit_word limits.Stamp = codes "STAMP"
+limit_word limits.RowNumber = codes "ROW_NUMBER"
+limit_word limits.PartitionNumber = codes "PARTITION_NUMBER"
+limit_word limits.ObjectIds = codes "OBJECT_IDS"
+limit_word limits.Objects = codes "OBJECTS"
+limit_word limits.Name = codes "NAME"
+limit_word limits.Columns = codes "COLUMNS"
+limit_word limits.Output = codes "OUTPUT"
+limit_word limits.Retention = codes "RETENTION"
+
+abbrev pub refusal_text : Refusal → List ℕ
+refusal_text Unsupported = codes "E0 Unsupported"
+refusal_text SyntaxError = codes "E1 SyntaxError"
+refusal_text (NoSuchSession session) = codes "E2 NoSuchSession " ++ decimal session
+refusal_text (UnknownName name) = codes "E6 UnknownName " ++ name
+refusal_text (NameTaken name) = codes "E7 NameTaken " ++ name
+refusal_text TypeMismatch = codes "E9 TypeMismatch"
+refusal_text (OverLimit limit) = codes "E13 Limit " ++ limit_word limit ++ codes " " ++ decimal (bound limit)
+
+unfoldable pub print : Reply → List ℕ
+print (CreatedTable name) = line (codes "CREATED TABLE " ++ name)
+print (Inserted count) = line (codes "INSERTED " ++ decimal count)
+print (Listing names rows) = line (parted names) ++ flat_map row_line rows ++ line (codes "(" ++ decimal (length rows) ++ codes " rows)")
+print Idle = line (codes "IDLE")
+print (Refused why) = line (refusal_text why)

@@ -1,0 +1,22 @@
+-- What replies of the code stand for.
+use Rattle.wh_reply.specs.Reply as machine
+use Rattle.wh_reply.specs.declared.reply.Refusal.{Refusal}
+use Rattle.wh_reply.specs.declared.reply.Refusal.TheVariants as refusals
+use Rattle.wh_reply.specs.declared.reply.Reply.{Reply}
+use Rattle.wh_reply.specs.declared.reply.Reply.TheVariants as replies
+
+abbrev pub refusal_view : Refusal → machine.Refusal
+refusal_view refusals.Unsupported = machine.Unsupported
+refusal_view refusals.SyntaxError = machine.SyntaxError
+refusal_view (refusals.NoSuchSession session) = machine.NoSuchSession session
+refusal_view (refusals.UnknownName name) = machine.UnknownName name
+refusal_view (refusals.NameTaken name) = machine.NameTaken name
+refusal_view refusals.TypeMismatch = machine.TypeMismatch
+refusal_view (refusals.OverLimit limit) = machine.OverLimit limit
+
+abbrev pub reply_view : Reply → machine.Reply
+reply_view (replies.CreatedTable name) = machine.CreatedTable name
+reply_view (replies.Inserted count) = machine.Inserted count
+reply_view (replies.Listing names rows) = machine.Listing names.items rows.items
+reply_view replies.Idle = machine.Idle
+reply_view (replies.Refused refusal) = machine.Refused (refusal_view refusal)

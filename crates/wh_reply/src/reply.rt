@@ -1,0 +1,34 @@
+use wh_value::{Limit, Row, Text};
+
+/// Why a command is refused. docs/replies.md has the exact cause of each.
+#[derive(Debug, Drop)]
+pub enum Refusal {
+    /// The statement's form is not carried out yet.
+    Unsupported,
+    /// The text spells no statement.
+    SyntaxError,
+    /// No session has the number.
+    NoSuchSession(u64),
+    /// No object has the name.
+    UnknownName(Text),
+    /// The name is another's, or stands twice.
+    NameTaken(Text),
+    /// A value doesn't fit its column.
+    TypeMismatch,
+    /// A count would pass a limit.
+    OverLimit(Limit),
+}
+
+/// The answer to an event.
+#[derive(Debug, Drop)]
+pub enum Reply {
+    /// The table's name.
+    CreatedTable(Text),
+    /// The number of inserted rows.
+    Inserted(u64),
+    /// Rows in order, below the names of their columns.
+    Listing { names: Vec<Text>, rows: Vec<Row> },
+    /// Nothing was due.
+    Idle,
+    Refused(Refusal),
+}

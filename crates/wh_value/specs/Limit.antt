@@ -1,0 +1,18 @@
+-- The limits of the language.
+--     bound     the number that a limit's count doesn't pass
+use Rattle.std.specs.Prelude.{ℕ}
+use Rattle.wh_value.specs.declared.limit.Limit.{Limit}
+use Rattle.wh_value.specs.declared.limit.Limit.TheVariants as limits
+
+-- stamps, row numbers and partition numbers have 62 bits
+abbrev pub bound : Limit → ℕ
+bound limits.Statement = 65536
+bound limits.Stamp = 4611686018427387904
+bound limits.RowNumber = 4611686018427387904
+bound limits.PartitionNumber = 4611686018427387904
+bound limits.ObjectIds = 4294967295
+bound limits.Objects = 1000
+bound limits.Name = 255
+bound limits.Columns = 64
+bound limits.Output = 256
+bound limits.Retention = 90

@@ -1,0 +1,45 @@
+ghost use Rattle.std.specs.Prelude.{◌≡◌};
+ghost use Rattle.wh_value.specs.Limit.{bound};
+
+/// A limit of the language. The limits and what they count stand in docs/replies.md.
+#[derive(Clone, Copy, Debug, PartialEq, Eq)]
+pub enum Limit {
+    /// The bytes of a statement's text.
+    Statement,
+    /// Every stamp is below it.
+    Stamp,
+    /// A table's next row number.
+    RowNumber,
+    /// A table's next partition number.
+    PartitionNumber,
+    /// The ids of objects.
+    ObjectIds,
+    /// The objects that live.
+    Objects,
+    /// The bytes of a name.
+    Name,
+    /// The columns of a table.
+    Columns,
+    /// The columns of a query.
+    Output,
+    /// The days of a retention.
+    Retention,
+}
+
+impl Limit {
+    /// The number that isn't passed.
+    pub fn bound(self) -> u64
+        ensures { result ≡ bound self }
+    {
+        match self {
+            Limit::Statement => 65536,
+            Limit::Stamp | Limit::RowNumber | Limit::PartitionNumber => 1 << 62,
+            Limit::ObjectIds => 4294967295,
+            Limit::Objects => 1000,
+            Limit::Name => 255,
+            Limit::Columns => 64,
+            Limit::Output => 256,
+            Limit::Retention => 90,
+        }
+    }
+}
