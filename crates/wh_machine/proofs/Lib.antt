@@ -1,4 +1,0 @@
-pub mod KnownFacts
-pub mod KnownStops
-pub mod ReplyLaws
-pub mod SoundLaws

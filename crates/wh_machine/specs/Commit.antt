@@ -1,20 +1,16 @@
--- Commits, and what they do to what a file stands for.
---     Stored               a state, and of each table the partitions that stand in its last version
---     Commit, Change       a stamp and what is changed at it
---     Applies, applied     when a commit may stand in a file, and what the file then stands for
---     Leads                commits that apply one after the other, from one state to another
-use Rattle.std.specs.Prelude.{◌≡◌, ℕ, zero, suc, ◌+◌, ◌<◌, ◌≤◌, ◌⊎◌, IsTrue, List, [], ◌∷◌, ◌++◌, length, Option, Some, None, slice_get, slice_set, unwrap_or, IsNone, refl}
-use Rattle.std.specs.List.{flat_map, AllByRecursion}
-use Rattle.std.specs.FinMap.{empty}
-use Rattle.std.specs.Coded.{Coded, code_by, coded_ℕ, coded_list, coded×}
-use Rattle.wh_value.specs.Value.{Row, coded_value}
-use Rattle.wh_machine.specs.Table.{Column, Rows, Table, State, first_state, at_rest, new_table, latest, place_of, with_entries}
-use Rattle.wh_machine.specs.Step.{row_fits, number_limit, objects_limit}
-
--- rows with their numbers, rising; a partition never changes
-pub record Partition : Type 0 where
-  pub number : ℕ
-  pub rows : List (ℕ × Row)
+-- Commits, and what they do to what a file says.
+--     Change, Commit       what is changed at a stamp
+--     Applies, applied     when a commit may stand in a file, and what the file then says
+--     Leads                commits that apply one after the other
+use Rattle.std.specs.Prelude.{◌≡◌, ℕ, ◌+◌, ◌<◌, ◌≤◌, ◌⊎◌, Bool, not, IsTrue, List, [], ◌∷◌, ◌++◌, length, filter, Option, Some, None, IsNone, nat_eq}
+use Rattle.std.specs.List.{AllByRecursion, list_any}
+use Rattle.wh_value.specs.Column.{Column}
+use Rattle.wh_value.specs.Fits.{row_fits}
+use Rattle.wh_value.specs.Limit.{bound}
+use Rattle.wh_value.specs.declared.limit.Limit.TheVariants as limits
+use Rattle.wh_frame.specs.Partition.{Partition, first_number, last_number}
+use Rattle.wh_machine.specs.State.{new_table, new_object, last_of, at_id, changed_at, id_of, live_count, VersionOf}
+use Rattle.wh_machine.specs.Stored.{StoredTable, StoredKind, StoredTableKind, StoredObject, Stored, first_stored, standing}
 
 -- a new table
 pub record TableChange : Type 0 where
@@ -23,12 +19,13 @@ pub record TableChange : Type 0 where
   pub retention : ℕ
   pub columns : List Column
 
--- a new version of a table, with partitions added to those of the last one
+-- a new version of a table: partitions of the last one by their numbers that go, and those that come
 pub record VersionChange : Type 0 where
   pub id : ℕ
   pub data_timestamp : ℕ
   pub next_row : ℕ
   pub width : ℕ
+  pub removed : List ℕ
   pub added : List Partition
 
 pub data Change : Type 0 where
@@ -37,45 +34,56 @@ pub data Change : Type 0 where
 
 pub record Commit : Type 0 where
   pub stamp : ℕ
-  pub change : Change
+  pub changes : List Change
 
--- the partitions of a table stand at its place in the catalog
-pub record Stored : Type 0 where
-  pub state : State
-  pub standing : List (List Partition)
+-- ---- what a change leaves
 
-abbrev pub first_stored : Stored
-first_stored = record { state = first_state; standing = [] }
+abbrev pub is_among : ℕ → List ℕ → Bool
+is_among number numbers = list_any (nat_eq number) numbers
 
--- ---- tables by their ids
+-- the partitions whose numbers aren't among those
+abbrev pub without : List ℕ → List Partition → List Partition
+without removed partitions = filter (λ p. not (is_among p.number removed)) partitions
 
-abbrev pub at_id : {X : Type 0} → List X → ℕ → Option X
-at_id xs zero = None
-at_id xs (suc place) = slice_get xs place
+abbrev pub pushed : ℕ → VersionChange → StoredTable → StoredTable
+pushed stamp c t = record t {
+  next_row = c.next_row;
+  next_partition = t.next_partition + length c.added;
+  versions = t.versions ++ (record { stamp = stamp; data_timestamp = c.data_timestamp; content = without c.removed (standing t) ++ c.added }) ∷ [];
+}
 
--- the list with another value at an id's place
-abbrev pub with_id : {X : Type 0} → List X → ℕ → X → List X
-with_id xs zero x = xs
-with_id xs (suc place) x = slice_set xs place x
+abbrev pub pushed_kind : ℕ → VersionChange → StoredKind → StoredKind
+pushed_kind stamp c (StoredTableKind t) = StoredTableKind (pushed stamp c t)
 
-abbrev pub partitions_at : Stored → ℕ → List Partition
-partitions_at s id = unwrap_or (at_id s.standing id) []
+abbrev pub pushed_object : ℕ → VersionChange → StoredObject → StoredObject
+pushed_object stamp c o = record o { kind = pushed_kind stamp c o.kind }
 
--- exactly the rows of these partitions
-abbrev pub rows_of : List Partition → Rows
-rows_of partitions = with_entries empty (flat_map (λ p. p.rows) partitions)
+unfoldable pub changed : ℕ → List StoredObject → Change → List StoredObject
+changed stamp objects (CreatesTable c) = objects ++ new_object c.name stamp (StoredTableKind (new_table [] c.columns c.retention stamp)) ∷ []
+changed stamp objects (PushesVersion c) = changed_at objects c.id (pushed_object stamp c)
 
--- ---- when a commit applies
+abbrev pub all_changed : ℕ → List StoredObject → List Change → List StoredObject
+all_changed stamp objects [] = objects
+all_changed stamp objects (c ∷ cs) = all_changed stamp (changed stamp objects c) cs
 
--- the numbers of a partition's rows lie from its first to its last
-abbrev pub first_number : List (ℕ × Row) → ℕ
-first_number [] = 0
-first_number (e ∷ es) = e.0
+-- the stamp is the commit's, whatever it changes
+abbrev pub applied : Stored → Commit → Stored
+applied s c = record { last = c.stamp; objects = all_changed c.stamp s.objects c.changes }
 
-abbrev pub last_number : List (ℕ × Row) → ℕ
-last_number [] = 0
-last_number (e ∷ []) = e.0
-last_number (e ∷ f ∷ es) = last_number (f ∷ es)
+-- ---- when a change applies
+
+abbrev pub IsStoredName : List ℕ → Type 0
+IsStoredName name = (0 < length name) × (length name ≤ bound limits.Name)
+
+pub record TableApplies (objects : List StoredObject) (c : TableChange) : Type 0 where
+  pub next_id : c.id ≡ length objects + 1
+  pub few : live_count objects < bound limits.Objects
+  pub free : IsNone (id_of c.name objects)
+  pub name : IsStoredName c.name
+  pub some_column : 0 < length c.columns
+  pub few_columns : length c.columns ≤ bound limits.Columns
+  pub column_names : AllByRecursion (λ column. IsStoredName column.name) c.columns
+  pub retention : c.retention ≤ bound limits.Retention
 
 abbrev pub AreApart : Partition → Partition → Type 0
 AreApart p q = (last_number p.rows < first_number q.rows) ⊎ (last_number q.rows < first_number p.rows)
@@ -94,81 +102,46 @@ NumberedFrom next (p ∷ ps) = (p.number ≡ next) × NumberedFrom (next + 1) ps
 abbrev pub RowsFit : List Column → ℕ → Partition → Type 0
 RowsFit columns next p = AllByRecursion (λ e. IsTrue (row_fits columns e.1) × (e.0 < next)) p.rows
 
-abbrev pub IsStoredName : List ℕ → Type 0
-IsStoredName name = (0 < length name) × (length name ≤ 255)
+-- one of these partitions has that number
+abbrev pub Stands : List Partition → ℕ → Type 0
+Stands partitions number = IsTrue (list_any (λ p. nat_eq number p.number) partitions)
 
-pub record TableApplies (s : State) (c : TableChange) : Type 0 where
-  pub next_id : c.id ≡ length s.tables + 1
-  pub few : length s.tables < objects_limit
-  pub free : IsNone (place_of c.name s.tables)
-  pub name : IsStoredName c.name
-  pub some_column : 0 < length c.columns
-  pub few_columns : length c.columns ≤ 64
-  pub column_names : AllByRecursion (λ column. IsStoredName column.name) c.columns
-  pub retention : c.retention ≤ 90
+abbrev pub DoesNotFall : Option (VersionOf (List Partition)) → ℕ → Type 0
+DoesNotFall None timestamp = Unit {0}
+DoesNotFall (Some v) timestamp = v.data_timestamp ≤ timestamp
 
-pub record VersionFits (t : Table) (standing : List Partition) (c : VersionChange) : Type 0 where
-  pub timestamp : (latest t).data_timestamp ≤ c.data_timestamp
+pub record VersionApplies (t : StoredTable) (c : VersionChange) : Type 0 where
+  pub timestamp : DoesNotFall (last_of t.versions) c.data_timestamp
   pub width : c.width ≡ length t.columns
-  pub next_row : c.next_row ≤ number_limit
+  pub next_row : c.next_row ≤ bound limits.RowNumber
+  pub next_partition : t.next_partition + length c.added ≤ bound limits.PartitionNumber
+  pub removed : AllByRecursion (Stands (standing t)) c.removed
   pub numbers : NumberedFrom t.next_partition c.added
   pub rows : AllByRecursion (RowsFit t.columns c.next_row) c.added
-  pub apart : AllApart standing c.added
+  pub apart : AllApart (without c.removed (standing t)) c.added
 
-abbrev pub FitsSome : Option Table → List Partition → VersionChange → Type 0
-FitsSome None standing c = ⊥
-FitsSome (Some t) standing c = VersionFits t standing c
+abbrev pub FitsKind : StoredKind → VersionChange → Type 0
+FitsKind (StoredTableKind t) c = VersionApplies t c
 
-abbrev pub ChangeApplies : Stored → Change → Type 0
-ChangeApplies s (CreatesTable c) = TableApplies s.state c
-ChangeApplies s (PushesVersion c) = FitsSome (at_id s.state.tables c.id) (partitions_at s c.id) c
+abbrev pub FitsObject : Option StoredObject → VersionChange → Type 0
+FitsObject None c = ⊥
+FitsObject (Some o) c = IsTrue o.is_live × FitsKind o.kind c
+
+abbrev pub ChangeApplies : List StoredObject → Change → Type 0
+ChangeApplies objects (CreatesTable c) = TableApplies objects c
+ChangeApplies objects (PushesVersion c) = FitsObject (at_id objects c.id) c
+
+-- each change applies to what those before it leave
+abbrev pub AllApply : ℕ → List StoredObject → List Change → Type 0
+AllApply stamp objects [] = Unit {0}
+AllApply stamp objects (c ∷ cs) = ChangeApplies objects c × AllApply stamp (changed stamp objects c) cs
 
 pub record Applies (s : Stored) (c : Commit) : Type 0 where
-  pub later : s.state.last < c.stamp
-  pub within : c.stamp < number_limit
-  pub change : ChangeApplies s c.change
-
--- ---- what it leaves
-
-abbrev pub with_version : Table → ℕ → List Partition → VersionChange → Table
-with_version t stamp partitions c = record t {
-  next_row = c.next_row;
-  next_partition = t.next_partition + length c.added;
-  versions = t.versions ++ (record { stamp = stamp; data_timestamp = c.data_timestamp; rows = rows_of partitions }) ∷ [];
-}
-
-abbrev pub version_pushed : Stored → ℕ → VersionChange → Option Table → Stored
-version_pushed s stamp c None = s
-version_pushed s stamp c (Some t) = record {
-  state = record { last = stamp; committed = stamp; tables = with_id s.state.tables c.id (with_version t stamp (partitions_at s c.id ++ c.added) c) };
-  standing = with_id s.standing c.id (partitions_at s c.id ++ c.added);
-}
-
-unfoldable pub changed : Stored → ℕ → Change → Stored
-changed s stamp (CreatesTable c) = record {
-  state = record { last = stamp; committed = stamp; tables = s.state.tables ++ new_table c.name c.columns c.retention stamp ∷ [] };
-  standing = s.standing ++ [] ∷ [];
-}
-changed s stamp (PushesVersion c) = version_pushed s stamp c (at_id s.state.tables c.id)
-
-abbrev pub applied : Stored → Commit → Stored
-applied s c = changed s c.stamp c.change
+  pub later : s.last < c.stamp
+  pub within : c.stamp < bound limits.Stamp
+  pub changes : AllApply c.stamp s.objects c.changes
 
 -- the commits apply one after the other, and leave that
 abbrev pub Leads : Stored → List Commit → Stored → Type 0
 Leads old [] new = old ≡ new
 Leads old (c ∷ cs) new = Applies old c × Leads (applied old c) cs new
-
--- a state as the file keeps it, with its partitions
-abbrev pub resting : Stored → Stored
-resting s = record { state = at_rest s.state; standing = s.standing }
-
--- each table's last version has exactly the rows of its standing partitions
-pub record IsCurrent (s : Stored) : Type 0 where
-  pub as_many : length s.standing ≡ length s.state.tables
-  pub rows : (id : ℕ) (t : Table) → at_id s.state.tables id ≡ Some t → (latest t).rows ≡ rows_of (partitions_at s id)
-
--- so that a partition can be what contracts see of a struct
-abbrev pub coded_partition : Coded Partition
-coded_partition = code_by (ℕ × List (ℕ × Row)) (coded× coded_ℕ (coded_list (coded× coded_ℕ (coded_list coded_value))))
-    (λ p. (p.number, p.rows)) (λ p. record { number = p.0; rows = p.1 }) (λ _. refl)

@@ -1,22 +1,12 @@
 -- Where a file of more than 8 bytes that stands for no state has its first fault.
---     LacksHeader     it doesn't begin with the header
---     IsCut           an open gate that no whole record begins at
 --     Strays          a record whose payload is no commit, or one that doesn't apply
 --     IsFirstFault    the position: 0, or behind the records of commits that apply one after the other
-use Rattle.std.specs.Prelude.{◌≡◌, ◌⊎◌, ℕ, ◌<◌, ◌^◌, List, [], ◌∷◌, ◌++◌, length, map}
+use Rattle.std.specs.Prelude.{◌≡◌, ◌⊎◌, ℕ, ◌<◌, ◌^◌, List, [], ◌++◌, length, map}
 use Rattle.std.specs.List.{AllByRecursion}
-use Rattle.wh_machine.specs.Commit.{Commit, Stored, first_stored, Applies, Leads}
+use Rattle.wh_frame.specs.File.{record_of, records_of, LacksHeader, IsCut}
+use Rattle.wh_machine.specs.Stored.{Stored, first_stored}
+use Rattle.wh_machine.specs.Commit.{Commit, Applies, Leads}
 use Rattle.wh_machine.specs.Spelling.{payload_of, IsCommit}
-use Rattle.wh_machine.specs.File.{header, record_of, records_of}
-
-pub record LacksHeader (file : List ℕ) (at : ℕ) : Type 0 where
-  pub place : at ≡ 0
-  pub other : (rest : List ℕ) → file ≡ header ++ rest → ⊥
-
-pub record IsCut (bytes : List ℕ) : Type 0 where
-  pub behind : List ℕ
-  pub open_gate : bytes ≡ 1 ∷ behind
-  pub cut : (payload rest : List ℕ) → length payload < 2 ^ 64 → bytes ≡ record_of payload ++ rest → ⊥
 
 pub record Strays (bytes : List ℕ) (reached : Stored) : Type 0 where
   pub payload : List ℕ

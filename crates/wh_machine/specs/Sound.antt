@@ -2,18 +2,20 @@
 --     HasRow, LacksRow     a version has a row of that number, or none
 --     IsSoundTable         what holds of a table's versions
 --     Sound                of a state
+--     IsSoundFile          of each state that a file stands for
 use Rattle.std.specs.Prelude.{◌≡◌, ℕ, ◌<◌, ◌≤◌, List, [], ◌∷◌, Some, None}
 use Rattle.std.specs.List.{AllByRecursion}
 use Rattle.std.specs.FinMap.{get}
 use Rattle.wh_value.specs.Value.{Row}
-use Rattle.wh_machine.specs.Table.{Version, Table, State}
+use Rattle.wh_machine.specs.State.{Version, Table, Kind, TableKind, Object, State}
+use Rattle.wh_machine.specs.File.{Stands}
 
 pub record HasRow (v : Version) (number : ℕ) : Type 0 where
   pub row : Row
-  pub is_there : get v.rows number ≡ Some row
+  pub is_there : get v.content number ≡ Some row
 
 abbrev pub LacksRow : ℕ → Version → Type 0
-LacksRow number v = get v.rows number ≡ None
+LacksRow number v = get v.content number ≡ None
 
 -- stamps rise, and data timestamps don't fall
 abbrev pub Rise : List Version → Type 0
@@ -42,6 +44,17 @@ pub record IsSoundTable (committed : ℕ) (t : Table) : Type 0 where
   pub below : AllByRecursion (IsBelow t.next_row) t.versions
   pub none_returns : NoneReturns t.versions
 
+abbrev pub IsSoundKind : ℕ → Kind → Type 0
+IsSoundKind committed (TableKind t) = IsSoundTable committed t
+
+-- it wasn't created after the last commit
+pub record IsSoundObject (committed : ℕ) (o : Object) : Type 0 where
+  pub created : o.created ≤ committed
+  pub kind : IsSoundKind committed o.kind
+
 pub record Sound (s : State) : Type 0 where
   pub ordered : s.committed ≤ s.last
-  pub tables : AllByRecursion (IsSoundTable s.committed) s.tables
+  pub objects : AllByRecursion (IsSoundObject s.committed) s.objects
+
+abbrev pub IsSoundFile : List ℕ → Type 0
+IsSoundFile file = (state : State) → Stands file state → Sound state

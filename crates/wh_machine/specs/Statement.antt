@@ -23,7 +23,7 @@ use Rattle.wh_ast.specs.declared.dml.Rows.TheVariants as rows
 use Rattle.wh_ast.specs.declared.statement.CreateTable as create
 use Rattle.wh_ast.specs.declared.statement.Statement as tree
 use Rattle.wh_ast.specs.declared.statement.Statement.TheVariants as st
-use Rattle.wh_machine.specs.Table.{Column}
+use Rattle.wh_value.specs.Column.{Column}
 
 pub data Statement : Type 0 where
   CreateTable : (name : List ℕ) → (columns : List Column) → (retention : ℕ) → Statement

@@ -2,13 +2,13 @@
 --     whole_replies      how many replies stand whole in the bytes that were written
 --     most_events        how many events may have been carried out by then
 --     committed_after    the state that a file keeps after the first events
---     StandsWithin       an image stands for what was committed after some number of events
+--     StandsWithin       an image stands for what was committed after some number of events, and is sound if the start was
 use Rattle.std.specs.Prelude.{ℕ, ◌+◌, ◌-◌, ◌≤◌, min, List, [], ◌∷◌, length, take, nat_le, if◌then◌else◌}
-use Rattle.wh_machine.specs.Table.{State, at_rest}
-use Rattle.wh_machine.specs.Reply.{print}
+use Rattle.wh_machine.specs.State.{State, at_rest}
+use Rattle.wh_reply.specs.Reply.{print}
 use Rattle.wh_machine.specs.Step.{Event, step, after}
 use Rattle.wh_machine.specs.File.{Stands}
-use Rattle.wh_machine.specs.Sound.{Sound}
+use Rattle.wh_machine.specs.Sound.{Sound, IsSoundFile}
 
 -- of the replies to these events, in so many bytes at the front of their text
 abbrev pub whole_replies : State → List Event → ℕ → ℕ
@@ -30,4 +30,4 @@ pub record StandsWithin (start : State) (es : List Event) (least most : ℕ) (im
   pub at_least : least ≤ count
   pub at_most : count ≤ most
   pub stands : Stands image (committed_after start es count)
-  pub sound : Sound start → Sound (committed_after start es count)
+  pub sound : Sound start → IsSoundFile image

@@ -1,0 +1,88 @@
+-- What a statement or a tick does.
+--     Act          a change of the state, in the machine's terms
+--     Outcome      a refusal; or a reply, with the acts of its commit where it makes one
+--     settled      the state and the reply that an outcome comes to
+--     first_of     the first refusal of tests in their order
+use Rattle.std.specs.Prelude.{ℕ, ◌+◌, Bool, true, false, List, [], ◌∷◌, ◌++◌, length, Option, Some, None, nat_lt}
+use Rattle.std.specs.FinMap.{empty}
+use Rattle.wh_value.specs.Value.{Row}
+use Rattle.wh_value.specs.Column.{Column}
+use Rattle.wh_value.specs.Limit.{bound}
+use Rattle.wh_value.specs.declared.limit.Limit.{Limit}
+use Rattle.wh_frame.specs.Partition.{numbered, partitions_of}
+use Rattle.wh_reply.specs.Reply.{Refusal, OverLimit, Reply, Refused}
+use Rattle.wh_machine.specs.State.{State, Kind, TableKind, Object, Table, new_table, new_object, version_at, last_rows, with_entries, changed_at}
+
+pub data Act : Type 0 where
+  -- a new table, with the next id
+  MakesTable : (name : List ℕ) → (columns : List Column) → (retention : ℕ) → Act
+  -- a new version of the table of that id, with rows added at its end
+  AddsRows : (id : ℕ) → (rows : List Row) → Act
+
+pub data Outcome : Type 0 where
+  Refuses : Refusal → Outcome
+  Does : Reply → Option (List Act) → Outcome
+
+-- no commit
+abbrev pub answers : Reply → Outcome
+answers reply = Does reply None
+
+abbrev pub commits : Reply → List Act → Outcome
+commits reply acts = Does reply (Some acts)
+
+-- ---- tests, in their order
+
+abbrev pub refused_if : Bool → Refusal → Option Refusal
+refused_if true why = Some why
+refused_if false why = None
+
+-- a count that is beyond a limit
+abbrev pub refused_past : Limit → ℕ → Option Refusal
+refused_past limit count = refused_if (nat_lt (bound limit) count) (OverLimit limit)
+
+abbrev pub first_of : List (Option Refusal) → Option Refusal
+first_of [] = None
+first_of (Some why ∷ others) = Some why
+first_of (None ∷ others) = first_of others
+
+abbrev pub unless : Option Refusal → Outcome → Outcome
+unless (Some why) outcome = Refuses why
+unless None outcome = outcome
+
+-- ---- what an act does at a stamp
+
+-- a table's next version, with rows added at its end
+abbrev pub grown : ℕ → List Row → Table → Table
+grown stamp rows t = record t {
+  next_row = t.next_row + length rows;
+  next_partition = t.next_partition + partitions_of (length rows);
+  versions = t.versions ++ version_at stamp (with_entries (last_rows t) (numbered t.next_row rows)) ∷ [];
+}
+
+abbrev pub grown_kind : ℕ → List Row → Kind → Kind
+grown_kind stamp rows (TableKind t) = TableKind (grown stamp rows t)
+
+abbrev pub grown_object : ℕ → List Row → Object → Object
+grown_object stamp rows o = record o { kind = grown_kind stamp rows o.kind }
+
+abbrev pub acted : ℕ → List Object → Act → List Object
+acted stamp objects (MakesTable name columns retention) = objects ++ new_object name stamp (TableKind (new_table empty columns retention stamp)) ∷ []
+acted stamp objects (AddsRows id rows) = changed_at objects id (grown_object stamp rows)
+
+abbrev pub all_acted : ℕ → List Object → List Act → List Object
+all_acted stamp objects [] = objects
+all_acted stamp objects (act ∷ acts) = all_acted stamp (acted stamp objects act) acts
+
+-- a commit of acts at the state's last stamp
+abbrev pub done : State → List Act → State
+done s acts = record s { committed = s.last; objects = all_acted s.last s.objects acts }
+
+abbrev pub settled : State → Outcome → State × Reply
+settled s (Refuses why) = (s, Refused why)
+settled s (Does reply None) = (s, reply)
+settled s (Does reply (Some acts)) = (done s acts, reply)
+
+-- the acts of the commit that an outcome makes
+abbrev pub acts_in : Outcome → Option (List Act)
+acts_in (Refuses why) = None
+acts_in (Does reply acts) = acts

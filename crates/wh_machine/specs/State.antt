@@ -1,0 +1,134 @@
+-- The state of the machine.
+--     VersionOf, TableOf       a table as the list of its versions, each with its content
+--     ObjectOf                 a name, whether it lives, when it was created, and what it is
+--     Version, Table, Kind, Object, State     those of the machine, where a version's content is its rows
+--     at_id, changed_at        an object's id is its place in order of creation, from 1
+--     id_of                    the id of the live object of a name
+use Rattle.std.specs.Prelude.{ℕ, zero, suc, ◌+◌, Bool, true, ◌&&◌, List, [], ◌∷◌, Option, Some, None, option_map, slice_get, slice_set, bytes_eq, count_by}
+use Rattle.std.specs.List.{position}
+use Rattle.std.specs.Ordering.{nat_cmp}
+use Rattle.std.specs.FinMap.{FinMap, empty, insert}
+use Rattle.wh_value.specs.Value.{Row}
+use Rattle.wh_value.specs.Column.{Column}
+
+-- ---- tables and objects, whatever a version holds
+
+-- what a table holds at a stamp; for a base table the data timestamp is the stamp
+pub record VersionOf (Content : Type 0) : Type 0 where
+  pub stamp : ℕ
+  pub data_timestamp : ℕ
+  pub content : Content
+
+-- the retention is in days; the versions stand in the order of their stamps
+pub record TableOf (Content : Type 0) : Type 0 where
+  pub columns : List Column
+  pub retention : ℕ
+  pub next_row : ℕ
+  pub next_partition : ℕ
+  pub versions : List (VersionOf Content)
+
+-- a dropped object stays, with the name that it had
+pub record ObjectOf (Kind : Type 0) : Type 0 where
+  pub name : List ℕ
+  pub is_live : Bool
+  pub created : ℕ
+  pub kind : Kind
+
+abbrev pub version_at : {Content : Type 0} → ℕ → Content → VersionOf Content
+version_at stamp content = record { stamp = stamp; data_timestamp = stamp; content = content }
+
+-- a table as it is created: one version, with nothing in it
+abbrev pub new_table : {Content : Type 0} → Content → List Column → ℕ → ℕ → TableOf Content
+new_table nothing columns retention stamp = record {
+  columns = columns;
+  retention = retention;
+  next_row = 1;
+  next_partition = 1;
+  versions = version_at stamp nothing ∷ [];
+}
+
+abbrev pub new_object : {Kind : Type 0} → List ℕ → ℕ → Kind → ObjectOf Kind
+new_object name stamp kind = record { name = name; is_live = true; created = stamp; kind = kind }
+
+abbrev pub last_of : {X : Type 0} → List X → Option X
+last_of [] = None
+last_of (x ∷ []) = Some x
+last_of (x ∷ y ∷ xs) = last_of (y ∷ xs)
+
+abbrev pub content_in : {Content : Type 0} → Content → Option (VersionOf Content) → Content
+content_in nothing None = nothing
+content_in nothing (Some v) = v.content
+
+-- what the last version holds; nothing where there is no version
+abbrev pub last_content : {Content : Type 0} → Content → TableOf Content → Content
+last_content nothing t = content_in nothing (last_of t.versions)
+
+-- ---- lists by ids
+
+abbrev pub at_id : {X : Type 0} → List X → ℕ → Option X
+at_id xs zero = None
+at_id xs (suc place) = slice_get xs place
+
+-- the list with another value at an id's place
+abbrev pub with_id : {X : Type 0} → List X → ℕ → X → List X
+with_id xs zero x = xs
+with_id xs (suc place) x = slice_set xs place x
+
+abbrev pub put_at : {X : Type 0} → List X → ℕ → Option X → List X
+put_at xs id None = xs
+put_at xs id (Some x) = with_id xs id x
+
+-- the list with what stands at an id's place changed, if there is one
+abbrev pub changed_at : {X : Type 0} → List X → ℕ → (X → X) → List X
+changed_at xs id f = put_at xs id (option_map f (at_id xs id))
+
+-- ---- objects by names
+
+abbrev pub is_named : {Kind : Type 0} → List ℕ → ObjectOf Kind → Bool
+is_named name o = o.is_live && bytes_eq o.name name
+
+abbrev pub id_of : {Kind : Type 0} → List ℕ → List (ObjectOf Kind) → Option ℕ
+id_of name objects = option_map (λ place. place + 1) (position (is_named name) objects)
+
+abbrev pub live_count : {Kind : Type 0} → List (ObjectOf Kind) → ℕ
+live_count objects = count_by (λ o. o.is_live) objects
+
+-- ---- the machine's
+
+-- a version's rows, by row number
+abbrev pub Rows : Type 0
+Rows = FinMap nat_cmp Row
+
+abbrev pub Version : Type 0
+Version = VersionOf Rows
+
+abbrev pub Table : Type 0
+Table = TableOf Rows
+
+pub data Kind : Type 0 where
+  TableKind : Table → Kind
+
+abbrev pub Object : Type 0
+Object = ObjectOf Kind
+
+-- the greatest stamp so far, that of the last commit, and the objects in order of creation
+pub record State : Type 0 where
+  pub last : ℕ
+  pub committed : ℕ
+  pub objects : List Object
+
+abbrev pub first_state : State
+first_state = record { last = 0; committed = 0; objects = [] }
+
+-- a state as the file keeps it: its last stamp is that of its last commit
+abbrev pub at_rest : State → State
+at_rest s = record s { last = s.committed }
+
+-- the rows with more entries, one after the other
+abbrev pub with_entries : Rows → List (ℕ × Row) → Rows
+with_entries rows [] = rows
+with_entries rows (e ∷ es) = with_entries (insert rows e.0 e.1) es
+
+-- the rows of a table's last version
+abbrev pub last_rows : Table → Rows
+last_rows t = last_content empty t
