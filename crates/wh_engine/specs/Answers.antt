@@ -28,7 +28,7 @@ pub record CarriesOut {D : Type 0} {disk : Ghosts D} (old new : Warehouse D disk
   -- nothing failed before, or now
   pub healthy : failed_of old.journal ≡ None
   pub still_healthy : failed_of new.journal ≡ None
-  pub faultless : disk.faults new.disk ≡ disk.faults old.disk
+  pub no_fault : disk.faults new.disk ≡ disk.faults old.disk
 
 pub record Answered {D : Type 0} {disk : Ghosts D} (old new : Warehouse D disk) (event : Event) (reply : Reply) : Type 0 where
   pub replied : reply ≡ (step (state_of old.catalog) event).1

@@ -3,6 +3,7 @@
 --     plan_of       of a decision
 --     planned       of an outcome, where the changes say what its acts do
 --     Decides       a decision comes to that outcome, and its changes can be written
+--     commit_at     the commit of changes, where there are any
 use Rattle.std.specs.Prelude.{◌≡◌, ℕ, List, map, Option, Some, None, option_map, Vec}
 use Rattle.std.specs.List.{AllByRecursion}
 use Rattle.std.specs.declared.alloc.Global.{Global}
@@ -48,3 +49,6 @@ AreWritable (Some changes) = AllByRecursion IsWritableChange changes
 pub record Decides (s : Stored) (stamp : ℕ) (decision : Decision) (outcome : Outcome) : Type 0 where
   pub same : plan_of decision ≡ planned s stamp outcome
   pub writable : AreWritable (changes_in (plan_of decision))
+
+abbrev pub commit_at : ℕ → Option (List machine.Change) → Option machine.Commit
+commit_at stamp changes = option_map (λ cs. record { stamp = stamp; changes = cs }) changes

@@ -3,15 +3,16 @@
 --     IsSettled           where bytes are told, a crash leaves them as they are
 --     IsUntouched         disk, journal and catalog are as they were
 --     made_in, led_to     the commit that an event makes, and the state that it leads to
+--     state_with          the state at a stamp, with a commit or without
 use Rattle.std.specs.Prelude.{◌≡◌, ℕ, List, map, Option, Some}
 use Rattle.std.specs.List.{AllByRecursion}
 use Rattle.wh_frame.specs.File.{IsFileOf}
 use Rattle.wh_machine.specs.State.{State}
-use Rattle.wh_machine.specs.Step.{Event, step}
-use Rattle.wh_machine.specs.Stored.{first_stored}
+use Rattle.wh_machine.specs.Step.{Event, step, stamped}
+use Rattle.wh_machine.specs.Stored.{Stored, first_stored, meant}
 use Rattle.wh_machine.specs.Commit.{Commit, Leads}
 use Rattle.wh_machine.specs.Spelling.{payload_of, IsCommit}
-use Rattle.wh_machine.specs.Written.{made}
+use Rattle.wh_machine.specs.Written.{made, kept_after}
 use Rattle.wh_world.specs.Crash.{Only}
 use Rattle.wh_world.specs.declared.disk.Disk.{Ghosts}
 use Rattle.wh_journal.specs.Journal as journals
@@ -46,3 +47,6 @@ made_in w event = made (stored_of w.catalog) (state_of w.catalog) event
 
 abbrev pub led_to : {D : Type 0} {disk : Ghosts D} → Warehouse D disk → Event → State
 led_to w event = (step (state_of w.catalog) event).0
+
+abbrev pub state_with : Stored → ℕ → Option Commit → State
+state_with s stamp commit = stamped (meant (kept_after s commit)) stamp

@@ -7,17 +7,16 @@ use wh_value::Limit;
 use wh_world::Disk;
 
 impl<D: Disk> Warehouse<D> {
-    ghost use Rattle.std.specs.Prelude.{◌≡◌, ◌+◌, ◌<◌, ◌≤◌, None, max, option_map, OnOk, IfOk, IfErr};
+    ghost use Rattle.std.specs.Prelude.{◌≡◌, ◌<◌, None, Some, option_map, OnOk, IfOk, IfErr};
     ghost use Rattle.wh_value.specs.Limit.{bound};
     ghost use Rattle.wh_value.specs.declared.limit.Limit.TheVariants as limits;
-    ghost use Rattle.wh_machine.specs.Commit.{Commit as MachineCommit};
     ghost use Rattle.wh_reply.specs.View.{reply_view};
     ghost use Rattle.wh_record.specs.View.{commit_of, IsWritable};
     ghost use Rattle.wh_journal.specs.Journal.{limit_of, failed_of};
-    ghost use Rattle.wh_catalog.specs.Catalog.{stored_of, state_of};
+    ghost use Rattle.wh_catalog.specs.Catalog.{stored_of};
     ghost use Rattle.wh_engine.specs.Event.{event_of};
-    ghost use Rattle.wh_engine.specs.Decision.{changes_of, commit_at, state_at, AreWritable};
-    ghost use Rattle.wh_engine.specs.Warehouse.{made_in, led_to};
+    ghost use Rattle.wh_engine.specs.Decision.{changes_of, commit_at, AreWritable};
+    ghost use Rattle.wh_engine.specs.Warehouse.{made_in, led_to, state_with};
     ghost use Rattle.wh_engine.specs.Answers.{Answered, CarriesOut};
     ghost use Rattle.wh_engine.specs.Halts.{Halted};
     ghost use Rattle.wh_engine.specs.Leaves.{Leaves};
@@ -56,11 +55,12 @@ impl<D: Disk> Warehouse<D> {
         requires writable { AreWritable (option_map changes_of changes) }
         ensures answered { OnOk result (CarriesOut self.old self.new
             (commit_at stamp (option_map changes_of changes))
-            (state_at self.old.catalog stamp (option_map changes_of changes))) }
+            (state_with (stored_of self.old.catalog) stamp
+            (commit_at stamp (option_map changes_of changes)))) }
         ensures halted { IfErr result (λ halt. Halted self.old self.new
             (commit_at stamp (option_map changes_of changes)) halt) }
-        ensures any_moment { Leaves self.old self.new
-            (state_at self.old.catalog stamp (option_map changes_of changes)) }
+        ensures any_moment { Leaves self.old self.new (state_with (stored_of self.old.catalog)
+            stamp (commit_at stamp (option_map changes_of changes))) }
         ensures limit { limit_of self.new.journal ≡ limit_of self.old.journal }
     {
         match changes {
@@ -77,11 +77,11 @@ impl<D: Disk> Warehouse<D> {
         requires healthy { failed_of self.old.journal ≡ None }
         requires writable { IsWritable (commit_of commit) }
         ensures answered { OnOk result (CarriesOut self.old self.new (Some (commit_of commit))
-            (state_with self.old.catalog (commit_of commit))) }
+            (state_with (stored_of self.old.catalog) commit.stamp (Some (commit_of commit)))) }
         ensures halted { IfErr result (λ halt.
             Halted self.old self.new (Some (commit_of commit)) halt) }
         ensures any_moment { Leaves self.old self.new
-            (state_with self.old.catalog (commit_of commit)) }
+            (state_with (stored_of self.old.catalog) commit.stamp (Some (commit_of commit))) }
         ensures limit { limit_of self.new.journal ≡ limit_of self.old.journal }
     {
         let framed = commit.encode(self.alloc)?;
