@@ -4,7 +4,6 @@
 
 mod built;
 mod carrying;
-mod cut;
 mod deciding;
 mod decision;
 mod event;

@@ -16,12 +16,11 @@ ghost use Rattle.wh_catalog.specs.Catalog.{stored_of, state_of};
 ghost use Rattle.wh_catalog.specs.Table.{table_of};
 ghost use Rattle.wh_engine.specs.Decision.{Decides};
 
-use crate::cut::cut;
 use crate::decision::Decision;
 use crate::limits::{refused_if, refused_past};
 use std::alloc::{AllocError, Global};
 use wh_catalog::{Catalog, StoredTable};
-use wh_part::Partition;
+use wh_part::{Partition, cut};
 use wh_record::{Change, VersionChange};
 use wh_reply::{Refusal, Reply};
 use wh_value::{Column, Limit, Row, Text, row_fits};
