@@ -12,7 +12,7 @@ use Rattle.wh_engine.specs.declared.fault.Halt.TheVariants.{DiskFault, FileFull,
 use Rattle.wh_engine.specs.declared.warehouse.Warehouse.{Warehouse}
 
 -- the commit is the one that was to be added, if there was one
-pub record Halted {D : Type 0} {disk : Ghosts D} (old new : Warehouse D disk) (commit : Option Commit) (halt : Halt) : Type 0 where
+pub record Halted {D : Type 0} {seen : Ghosts D} (old new : Warehouse D seen) (commit : Option Commit) (halt : Halt) : Type 0 where
   pub state : state_of new.catalog ≡ state_of old.catalog
   -- an earlier failure, exactly
   pub needs_reopen : (faults : ℕ) → (halt ≡ NeedsReopen faults) ↔ (failed_of old.journal ≡ Some faults)
@@ -21,7 +21,7 @@ pub record Halted {D : Type 0} {disk : Ghosts D} (old new : Warehouse D disk) (c
       → IsTrue (is_beyond (limit_of old.journal) (end_of old.journal) commit) × (len ≡ end_of old.journal) × (need ≡ added_length commit)
   pub beyond : IsTrue (is_beyond (limit_of old.journal) (end_of old.journal) commit) → halt ≡ DiskFault → ⊥
   -- a failure of the disk; from then on each event is answered NeedsReopen, and no other halt changes anything
-  pub disk_fault : halt ≡ DiskFault → Rose (disk.faults old.disk) (disk.faults new.disk)
-  pub failed : halt ≡ DiskFault → failed_of new.journal ≡ Some (disk.faults new.disk)
+  pub disk_fault : halt ≡ DiskFault → Rose (seen.faults old.disk) (seen.faults new.disk)
+  pub failed : halt ≡ DiskFault → failed_of new.journal ≡ Some (seen.faults new.disk)
   pub untouched : (halt ≡ DiskFault → ⊥) → IsUntouched old new
-  pub later : disk.faults old.disk ≤ disk.faults new.disk
+  pub later : seen.faults old.disk ≤ seen.faults new.disk

@@ -15,7 +15,7 @@ abbrev pub StandsForEither : State → State → List ℕ → Type 0
 StandsForEither old new image = Stands image (at_rest old) ⊎ Stands image (at_rest new)
 
 -- the state before the call, or that one
-pub record Leaves {D : Type 0} {disk : Ghosts D} (old new : Warehouse D disk) (state : State) : Type 0 where
-  pub each : (file : List ℕ) → disk.bytes old.disk ≡ Some file → Only file (disk.may_leave old.disk)
-      → Filed (disk.bytes old.disk) old.journal old.catalog
-      → LeavesOnly disk.moment disk.left_since old.disk new.disk (StandsForEither (state_of old.catalog) state)
+pub record Leaves {D : Type 0} {seen : Ghosts D} (old new : Warehouse D seen) (state : State) : Type 0 where
+  pub each : (file : List ℕ) → seen.bytes old.disk ≡ Some file → Only file (seen.may_leave old.disk)
+      → Filed (seen.bytes old.disk) old.journal old.catalog
+      → LeavesOnly seen.moment seen.left_since old.disk new.disk (StandsForEither (state_of old.catalog) state)

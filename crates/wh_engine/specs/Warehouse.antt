@@ -37,15 +37,15 @@ pub record IsSettled (bytes : Option (List ℕ)) (may_leave : List ℕ → Type 
   pub each : (file : List ℕ) → bytes ≡ Some file → Only file may_leave
 
 -- the same disk, places, end, limit and fault of the journal, and what the catalog says
-pub record IsUntouched {D : Type 0} {disk : Ghosts D} (old new : Warehouse D disk) : Type 0 where
+pub record IsUntouched {D : Type 0} {seen : Ghosts D} (old new : Warehouse D seen) : Type 0 where
   pub disk : new.disk ≡ old.disk
   pub journal : journals.IsSame old.journal new.journal
   pub stored : stored_of new.catalog ≡ stored_of old.catalog
 
-abbrev pub made_in : {D : Type 0} {disk : Ghosts D} → Warehouse D disk → Event → Option Commit
+abbrev pub made_in : {D : Type 0} {seen : Ghosts D} → Warehouse D seen → Event → Option Commit
 made_in w event = made (stored_of w.catalog) (state_of w.catalog) event
 
-abbrev pub led_to : {D : Type 0} {disk : Ghosts D} → Warehouse D disk → Event → State
+abbrev pub led_to : {D : Type 0} {seen : Ghosts D} → Warehouse D seen → Event → State
 led_to w event = (step (state_of w.catalog) event).0
 
 abbrev pub state_with : Stored → ℕ → Option Commit → State

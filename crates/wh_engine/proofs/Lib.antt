@@ -1,0 +1,4 @@
+mod ListLemmas
+mod FileLemmas
+mod HaltLemmas
+pub mod StopLemmas
