@@ -1,7 +1,13 @@
 pub mod Fault
 pub mod Event
+pub mod Decision
 pub mod Warehouse
 pub mod Answers
 pub mod Halts
 pub mod Leaves
+pub mod Built
+pub mod Literals
+pub mod Forms
+pub mod Names
+pub mod Replay
 pub mod Laws

@@ -2,11 +2,24 @@
 //! machine's step.
 #![tactic(auto)]
 
+mod built;
 mod carrying;
+mod deciding;
+mod decision;
 mod event;
 mod fault;
+mod forms;
 mod laws;
+mod limits;
+mod literals;
+mod names;
 mod open;
+mod queries;
+mod replay;
+mod rows;
+mod tables;
+#[cfg(test)]
+mod tests;
 mod warehouse;
 
 pub use event::Event;

@@ -1,6 +1,9 @@
+use crate::replay::replay;
 use crate::{OpenFault, Warehouse};
 use std::alloc::Global;
 use std::thread::Threads;
+use wh_catalog::Catalog;
+use wh_journal::Journal;
 use wh_world::Disk;
 
 impl<D: Disk> Warehouse<D> {
@@ -64,7 +67,62 @@ impl<D: Disk> Warehouse<D> {
         ensures no_fault { IfOk result (λ w. D.faults w.disk ≡ D.faults disk) }
         ensures later { IfErr result (λ e. D.faults disk ≤ D.faults e.1) }
     {
-        let _ = alloc;
-        Err((OpenFault::OutOfMemory, disk))
+        let mut disk = disk;
+        match read(alloc, &mut disk, limit) {
+            Ok((journal, catalog)) => Ok(Warehouse {
+                alloc,
+                disk,
+                journal,
+                catalog,
+            }),
+            Err(fault) => Err((fault, disk)),
+        }
+    }
+}
+
+ghost use Rattle.std.specs.Prelude.{◌≡◌, ◌<◌, ◌≤◌, ◌^◌, ℕ, List, Some, None, length, is_some, IfOk, OnOk, IsErrOf};
+ghost use Rattle.wh_frame.specs.File.{GateEndsAt};
+ghost use Rattle.wh_machine.specs.Stored.{Means};
+ghost use Rattle.wh_machine.specs.File.{Keeps};
+ghost use Rattle.wh_machine.specs.Fault.{IsFirstFault};
+ghost use Rattle.wh_world.specs.Told.{Rose};
+ghost use Rattle.wh_world.specs.Crash.{Only};
+ghost use Rattle.wh_journal.specs.Crash.{LeavesOnly, IsKeptOrShort};
+ghost use Rattle.wh_journal.specs.Journal.{end_of, limit_of, failed_of};
+ghost use Rattle.wh_catalog.specs.Catalog.{stored_of, state_of};
+ghost use Rattle.wh_engine.specs.Warehouse.{Filed, IsSettled};
+
+// The journal of a file, and the catalog to which it leads.
+fn read<D: Disk>(alloc: Global, disk: &mut D, limit: u64) -> Result<(Journal, Catalog), OpenFault>
+    requires some { 8 ≤ limit }
+    requires most { limit ≤ 2 ^ 40 }
+    ensures opened { IfOk result (λ r. (file : List ℕ) → D.bytes disk.old ≡ Some file →
+        Keeps file (stored_of r.1)) }
+    ensures means { IfOk result (λ r. Means (stored_of r.1) (state_of r.1)) }
+    ensures filed { IfOk result (λ r. Filed (D.bytes disk.new) r.0 r.1) }
+    ensures told { OnOk result (is_some (D.bytes disk.new) ≡ is_some (D.bytes disk.old)) }
+    ensures reach { IfOk result (λ r. end_of r.0 ≤ D.size disk.new) }
+    ensures healthy { IfOk result (λ r. failed_of r.0 ≡ None) }
+    ensures limit { IfOk result (λ r. limit_of r.0 ≡ limit) }
+    ensures no_fault { OnOk result (D.faults disk.new ≡ D.faults disk.old) }
+    ensures later { D.faults disk.old ≤ D.faults disk.new }
+    ensures ends { IfOk result (λ r. (file : List ℕ) → D.bytes disk.old ≡ Some file →
+        GateEndsAt file (end_of r.0)) }
+    ensures durable { OnOk result (IsSettled (D.bytes disk.new) (D.may_leave disk.new)) }
+    ensures any_moment { (file : List ℕ) → D.bytes disk.old ≡ Some file →
+        Only file (D.may_leave disk.old) →
+        LeavesOnly D.moment D.left_since disk.old disk.new (IsKeptOrShort file) }
+    ensures not_warehouse { (at : ℕ) (file : List ℕ) → IsErrOf result (OpenFault.NotWarehouse at) →
+        D.bytes disk.old ≡ Some file → (8 < length file) × IsFirstFault file at
+        × (D.bytes disk.new ≡ Some file) × Only file (D.may_leave disk.new) }
+    ensures disk_fault { IsErrOf result OpenFault.DiskFault →
+        Rose (D.faults disk.old) (D.faults disk.new) }
+{
+    let (journal, fault) = Journal::recover(alloc, disk, limit)?;
+    // A commit that doesn't apply stands before the fault that its file breaks off at.
+    let catalog = replay(alloc, disk, &journal)?;
+    match fault {
+        None => Ok((journal, catalog)),
+        Some(at) => Err(OpenFault::NotWarehouse { at }),
     }
 }

@@ -1,4 +1,0 @@
-mod ListLemmas
-mod FileLemmas
-mod HaltLemmas
-pub mod StopLemmas
