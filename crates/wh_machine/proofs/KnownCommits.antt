@@ -2,7 +2,7 @@
 use Rattle.std.proofs.Common.{◌≡◌, ℕ, ◌<◌, ◌⊎◌, List, [], ◌∷◌, ◌++◌, length, true, pos, inl, inr, refl, arith}
 use Rattle.std.specs.Prelude.{codes}
 use Rattle.wh_value.specs.Value.{Number}
-use Rattle.wh_value.specs.Column.{NumberType}
+use Rattle.wh_value.specs.Column.{NumberType, VarcharType, BooleanType}
 use Rattle.wh_frame.specs.Partition.{Partition}
 use Rattle.wh_frame.specs.Spelling.{partition_bytes, row_bytes, value_bytes}
 use Rattle.wh_frame.specs.File.{record_of, records_of}
@@ -61,6 +61,13 @@ lengths = (refl, refl, refl)
 removed_bytes : length (payload_of (record { stamp = 3; changes = PushesVersion (version_t 3 3 (1 ∷ []) (one_row 2 2)) ∷ [] })) ≡ 82
 unfolding payload_of change_bytes version_bytes partition_bytes row_bytes value_bytes
 removed_bytes = refl
+
+-- a column's type is its last byte
+types : (column_bytes (record { name = codes "K"; column_type = NumberType }) ≡ 0 ∷ 0 ∷ 0 ∷ 1 ∷ 75 ∷ 1 ∷ [])
+    × (column_bytes (record { name = codes "K"; column_type = VarcharType }) ≡ 0 ∷ 0 ∷ 0 ∷ 1 ∷ 75 ∷ 2 ∷ [])
+    × (column_bytes (record { name = codes "K"; column_type = BooleanType }) ≡ 0 ∷ 0 ∷ 0 ∷ 1 ∷ 75 ∷ 3 ∷ [])
+unfolding column_bytes
+types = (refl, refl, refl)
 
 -- ---- a commit without changes
 
