@@ -21,12 +21,12 @@ stored_of c = record { last = c.committed; objects = objects_of c }
 unfoldable pub state_of : Catalog → State
 state_of c = record (machine.meant (stored_of c)) { last = c.last }
 
-abbrev pub stored_table_at : List machine.StoredObject → ℕ → Option machine.StoredTable
-stored_table_at objects id = in_object (at_id objects id)
-  where
-    in_kind : machine.StoredKind → Option machine.StoredTable
-    in_kind (machine.StoredTableKind t) = Some t
+abbrev pub table_in_kind : machine.StoredKind → Option machine.StoredTable
+table_in_kind (machine.StoredTableKind t) = Some t
 
-    in_object : Option machine.StoredObject → Option machine.StoredTable
-    in_object None = None
-    in_object (Some o) = in_kind o.kind
+abbrev pub table_in_object : Option machine.StoredObject → Option machine.StoredTable
+table_in_object None = None
+table_in_object (Some o) = table_in_kind o.kind
+
+abbrev pub stored_table_at : List machine.StoredObject → ℕ → Option machine.StoredTable
+stored_table_at objects id = table_in_object (at_id objects id)

@@ -19,13 +19,14 @@ pub struct Catalog {
 }
 
 impl Catalog {
-    ghost use Rattle.std.specs.Prelude.{◌≡◌, ◌<◌, ◌≤◌, length, option_map};
+    ghost use Rattle.std.specs.Prelude.{◌≡◌, ◌<◌, ◌≤◌, length, option_map, IfSome};
+    ghost use Rattle.std.specs.List.{position};
     ghost use Rattle.wh_value.specs.Limit.{bound};
     ghost use Rattle.wh_value.specs.declared.limit.Limit.TheVariants as limits;
-    ghost use Rattle.wh_machine.specs.State.{first_state, id_of, live_count};
+    ghost use Rattle.wh_machine.specs.State.{first_state, id_of, is_named, live_count};
     ghost use Rattle.wh_machine.specs.Stored.{first_stored};
     ghost use Rattle.wh_catalog.specs.Table.{table_of};
-    ghost use Rattle.wh_catalog.specs.Catalog.{stored_of, state_of, stored_table_at};
+    ghost use Rattle.wh_catalog.specs.Catalog.{objects_of, stored_of, state_of, stored_table_at};
 
     /// No object, and no stamp. Takes no memory.
     pub fn new(alloc: Global) -> Catalog
@@ -63,10 +64,17 @@ impl Catalog {
     pub fn find(&self, name: &[u8]) -> Option<u32>
         ensures { result ≡ id_of name.now (stored_of self.now).objects }
     {
-        match self.objects.iter().position(|object| object.has_name(name)) {
+        match self.place_of(name) {
             Some(place) => Some(place as u32 + 1),
             None => None,
         }
+    }
+
+    fn place_of(&self, name: &[u8]) -> Option<usize>
+        ensures place { result ≡ position (is_named name.now) (objects_of self.now) }
+        ensures within { IfSome result (λ place. place < length self.now.objects.items) }
+    {
+        self.objects.iter().position(|object| object.has_name(name))
     }
 
     /// How many objects there are.
@@ -90,12 +98,11 @@ impl Catalog {
         ensures { option_map (λ t. table_of t.now) result
             ≡ stored_table_at (stored_of self.now).objects id }
     {
-        if id == 0 {
+        let place = id as usize;
+        if place == 0 || self.objects.len() < place {
             return None;
         }
-        match self.objects.get(id as usize - 1) {
-            Some(object) => Some(object.table()),
-            None => None,
-        }
+        let object = &self.objects[place - 1];
+        Some(object.table())
     }
 }

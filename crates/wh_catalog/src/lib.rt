@@ -1,5 +1,5 @@
 //! The catalog: objects in order of creation, tables with their versions, and the commits that change them.
-#![tactic(auto)]
+#![tactic(auto, unfolding(crate::specs::Table::kept_table, crate::specs::Catalog::kept_of, crate::specs::Catalog::stored_of, crate::specs::Catalog::state_of))]
 
 mod catalog;
 mod object;
