@@ -2,7 +2,7 @@
 --     standing_at      those that stand in the version at a place
 --     versions_by      the versions of marks
 --     numbered_from, count_to, is_gone_by     what always holds of a table's marks and partitions
-use Rattle.std.specs.Prelude.{ℕ, ◌+◌, Bool, true, ◌&&◌, ◌||◌, List, [], ◌∷◌, map, filter, take, nat_lt, nat_le, nat_eq}
+use Rattle.std.specs.Prelude.{ℕ, ◌+◌, Bool, true, ◌&&◌, ◌||◌, List, [], ◌∷◌, map, filter, take, nat_lt, nat_le, nat_eq, min, if◌then◌else◌}
 use Rattle.wh_frame.specs.Partition.{Partition}
 use Rattle.wh_machine.specs.Stored.{StoredVersion}
 use Rattle.wh_version.specs.declared.kept.Kept.{Kept}
@@ -16,6 +16,19 @@ partitions_in kept = map (λ k. k.partition) kept
 
 abbrev pub standing_at : ℕ → List Kept → List Partition
 standing_at place kept = partitions_in (filter (stands_at place) kept)
+
+-- ---- what a version more changes
+
+abbrev pub fresh : Partition → Kept
+fresh p = record { partition = p; until = 18446744073709551615 }
+
+-- gone from the place on, if it is the one of that number
+abbrev pub part_one : ℕ → ℕ → Kept → Kept
+part_one place number k = if nat_eq k.partition.number number then record k { until = min k.until place } else k
+
+abbrev pub parted : ℕ → List ℕ → List Kept → List Kept
+parted place [] kept = kept
+parted place (number ∷ numbers) kept = parted place numbers (map (part_one place number) kept)
 
 -- ---- versions
 

@@ -3,8 +3,7 @@ ghost use Rattle.std.specs.List.{list_all};
 ghost use Rattle.wh_version.specs.Kept.{numbered_from, count_to, is_gone_by, partitions_in};
 
 use crate::{Kept, VersionMark};
-use std::alloc::{AllocError, Global};
-use wh_part::Partition;
+use std::alloc::Global;
 
 /// The versions of one table. Each partition stands once: a version has those that were there when
 /// it was pushed, and that weren't gone by then.
@@ -69,25 +68,5 @@ impl History {
         ensures { partitions_in (filter is_standing result.now) ≡ standing_in (versions_of self.now) }
     {
         self.kept.as_slice()
-    }
-
-    /// Adds a version: the last one's partitions without those of the removed numbers, and then the
-    /// added ones. Takes memory for what is added alone.
-    pub fn push(
-        &mut self,
-        stamp: u64,
-        data_timestamp: u64,
-        removed: &[u64],
-        added: Vec<Partition>,
-    ) -> Result<(), AllocError>
-        requires { NumberedFrom (next_in (nexts_of self.old)) added.items }
-        ensures versions { OnOk result (versions_of self.new
-            ≡ pushed_with (versions_of self.old) stamp data_timestamp removed.now added.items) }
-        ensures nexts { OnOk result (nexts_of self.new
-            ≡ nexts_of self.old ++ (next_in (nexts_of self.old) + length added.items) ∷ []) }
-        ensures same { OnErr result (versions_of self.new ≡ versions_of self.old) }
-        ensures same_nexts { OnErr result (nexts_of self.new ≡ nexts_of self.old) }
-    {
-        Err(AllocError)
     }
 }
