@@ -1,5 +1,4 @@
 -- The file of a warehouse.
---     rest_of, state_is                  the state of a catalog, and what its commits say
 --     keeps, stands                      what a file of commits says, and stands for
 --     filed_same, filed_append           nothing was added, or one commit
 use Rattle.std.proofs.Common.{◌≡◌, ℕ, suc, ◌+◌, ◌≤◌, List, [], ◌∷◌, ◌++◌, length, map, Option, Some, None, is_some, false, refl, sym, ◌∙◌, subst, ap, arith, inl, inr, length-append}
@@ -18,14 +17,7 @@ use Rattle.wh_catalog.specs.Catalog.{stored_of, state_of}
 use Rattle.wh_catalog.specs.declared.catalog.Catalog.{Catalog}
 use Rattle.wh_engine.specs.Warehouse.{IsFileOfCommits, Filed}
 use Rattle.wh_engine.proofs.ListLemmas.{all_more, leads_then, some_is}
-
-pub state_is : (c : Catalog) → state_of c ≡ record (meant (stored_of c)) { last = (state_of c).last }
-unfolding state_of
-state_is c = refl
-
-pub rest_of : (c : Catalog) → at_rest (state_of c) ≡ meant (stored_of c)
-unfolding state_of
-rest_of c = refl
+use Rattle.wh_engine.proofs.CatalogLemmas.{rest_of}
 
 long_records : (p : List ℕ) (ps : List (List ℕ)) → 8 ≤ length (records_of (p ∷ ps))
 unfolding records_of record_of

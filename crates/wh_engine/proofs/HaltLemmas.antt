@@ -1,12 +1,16 @@
 -- Halts, by their causes.
---     unchanged          a warehouse that stayed as it was
+--     unchanged, untouched     a warehouse that stayed as it was
 --     reopens            an earlier failure
---     starves            want of memory
-use Rattle.std.proofs.Common.{◌≡◌, ℕ, Option, Some, None, refl, ap, ◌∙◌, arith}
+--     starves, starved   want of memory
+--     same_fault         a fault that is passed on as it is
+use Rattle.std.proofs.Common.{◌≡◌, ℕ, Option, Some, None, Result, Ok, Err, refl, sym, ap, subst, ◌∙◌, arith}
+use Rattle.std.specs.Result.{IfErr, IsErrOf, IsErrAnd}
 use Rattle.wh_machine.specs.Commit.{Commit}
 use Rattle.wh_world.specs.declared.disk.Disk.{Ghosts}
-use Rattle.wh_journal.specs.Journal.{failed_of}
-use Rattle.wh_catalog.specs.Catalog.{state_of}
+use Rattle.wh_journal.specs.Journal.{IsSame, failed_of}
+use Rattle.wh_catalog.specs.Catalog.{stored_of, state_of}
+use Rattle.wh_engine.specs.declared.fault.OpenFault.{OpenFault}
+use Rattle.wh_engine.specs.declared.fault.Halt.{Halt}
 use Rattle.wh_engine.specs.declared.fault.Halt.TheVariants.{OutOfMemory, DiskFault, FileFull, NeedsReopen}
 use Rattle.wh_engine.specs.declared.warehouse.Warehouse.{Warehouse}
 use Rattle.wh_engine.specs.Warehouse.{IsUntouched}
@@ -15,6 +19,10 @@ use Rattle.wh_engine.proofs.FileLemmas.{same_journal}
 
 pub unchanged : {D : Type 0} {seen : Ghosts D} (w : Warehouse D seen) → IsUntouched w w
 unchanged w = record { disk = refl; journal = same_journal w.journal; stored = refl }
+
+pub untouched : {D : Type 0} {seen : Ghosts D} {old new : Warehouse D seen} → new.disk ≡ old.disk → IsSame old.journal new.journal
+    → stored_of new.catalog ≡ stored_of old.catalog → IsUntouched old new
+untouched disk journal stored = record { disk = disk; journal = journal; stored = stored }
 
 pub reopens : {D : Type 0} {seen : Ghosts D} (w : Warehouse D seen) (commit : Option Commit) (faults : ℕ) → failed_of w.journal ≡ Some faults
     → Halted w w commit (NeedsReopen faults)
@@ -41,3 +49,18 @@ starves {D} {seen} old new commit healthy same state = record {
   untouched = λ other. same;
   later = omega (arith, ap seen.faults same.disk);
 }
+
+-- want of memory that is passed on
+pub starved : {D T : Type 0} {seen : Ghosts D} (r : Result T Halt) (old new : Warehouse D seen) (commit : Option Commit) → IsErrAnd r (λ halt. halt ≡ OutOfMemory)
+    → failed_of old.journal ≡ None → IsUntouched old new → state_of new.catalog ≡ state_of old.catalog → IfErr r (λ halt. Halted old new commit halt)
+starved (Ok x) old new commit gives healthy same state = tt
+starved (Err h) old new commit gives healthy same state = subst (Halted old new commit) (sym gives) (starves old new commit healthy same state)
+
+-- what holds of a halt that is passed on
+pub passed_on : {T : Type 0} (r : Result T Halt) (passed : Halt) (P : Halt → Type 0) → IsErrAnd r (λ halt. halt ≡ passed) → P passed → IfErr r P
+passed_on (Ok x) passed P gives holds = tt
+passed_on (Err h) passed P gives holds = subst P (sym gives) holds
+
+pub same_fault : {T : Type 0} (r : Result T OpenFault) (fault other : OpenFault) → IsErrAnd r (λ h. h ≡ fault) → IsErrOf r other → fault ≡ other
+same_fault (Ok x) fault other gives is = absurd gives
+same_fault (Err h) fault other gives is = cc

@@ -1,22 +1,18 @@
 -- Names of columns, one after the other.
---     all_names                      a test of each name
+--     any_names                      a test of each name
 --     taken_here, taken_later        the next column's name is taken, or not
 use Rattle.std.proofs.Common.{◌≡◌, ℕ, ◌+◌, ◌<◌, Bool, true, false, cond, List, [], ◌∷◌, Some, map, length, drop, get_or, refl, ap, sym, ◌∙◌}
-use Rattle.std.specs.Prelude.{◌&&◌, ◌||◌, codes, nat_eq, bytes_eq}
-use Rattle.std.specs.List.{list_any, list_all, starts_with}
+use Rattle.std.specs.Prelude.{◌||◌, codes, nat_eq, bytes_eq}
+use Rattle.std.specs.List.{list_any, starts_with}
 use Rattle.std.proofs.lemmas.List.{drop_more}
 use Rattle.wh_value.specs.View.{column_of}
 use Rattle.wh_value.specs.declared.column.Column.{Column}
-use Rattle.wh_machine.specs.Step.{names_of, taken_name}
-use Rattle.wh_engine.specs.Limits.{is_taken}
+use Rattle.wh_machine.specs.Tables.{names_of, taken_name}
+use Rattle.wh_engine.specs.Names.{is_taken}
 
-any_names : (test : List ℕ → Bool) (cs : List Column) → list_any (λ c. test (column_of c).name) cs ≡ list_any test (names_of (map column_of cs))
+pub any_names : (test : List ℕ → Bool) (cs : List Column) → list_any (λ c. test (column_of c).name) cs ≡ list_any test (names_of (map column_of cs))
 any_names test [] = refl
 any_names test (c ∷ cs) = ap (λ b. test c.name || b) (any_names test cs)
-
-pub all_names : (test : List ℕ → Bool) (cs : List Column) → list_all (λ c. test (column_of c).name) cs ≡ list_all test (names_of (map column_of cs))
-all_names test [] = refl
-all_names test (c ∷ cs) = ap (λ b. test c.name && b) (all_names test cs)
 
 next : (cs : List Column) (i : ℕ) (c : Column) → i < length cs → c ≡ get_or cs i c
     → taken_name (names_of (map column_of (drop i cs)))

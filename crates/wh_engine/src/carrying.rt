@@ -7,7 +7,7 @@ use wh_value::Limit;
 use wh_world::Disk;
 
 impl<D: Disk> Warehouse<D> {
-    ghost use Rattle.std.specs.Prelude.{◌≡◌, ◌<◌, None, Some, option_map, OnOk, IfOk, IfErr};
+    ghost use Rattle.std.specs.Prelude.{◌≡◌, ◌<◌, ◌≤◌, None, Some, option_map, OnOk, IfOk, IfErr};
     ghost use Rattle.wh_value.specs.Limit.{bound};
     ghost use Rattle.wh_value.specs.declared.limit.Limit.TheVariants as limits;
     ghost use Rattle.wh_reply.specs.View.{reply_view};
@@ -51,6 +51,7 @@ impl<D: Disk> Warehouse<D> {
     // Adds a commit of these changes, or passes the stamp where there is none.
     fn settle(&mut self, stamp: u64, changes: Option<Vec<Change>>) -> Result<(), Halt>
         requires healthy { failed_of self.old.journal ≡ None }
+        requires later { (stored_of self.old.catalog).last ≤ stamp }
         requires within { stamp < bound limits.Stamp }
         requires writable { AreWritable (option_map changes_of changes) }
         ensures answered { OnOk result (CarriesOut self.old self.new

@@ -1,17 +1,15 @@
-ghost use Rattle.std.specs.Prelude.{◌≡◌, ◌+◌, ◌≤◌, map, length, option_map, IfOk};
+ghost use Rattle.std.specs.Prelude.{◌≡◌, None, map, option_map, IfOk};
 ghost use Rattle.std.specs.List.{AllByRecursion, list_all};
 ghost use Rattle.wh_value.specs.Value.{IsRow};
 ghost use Rattle.wh_value.specs.Fits.{row_fits};
 ghost use Rattle.wh_value.specs.View.{column_of};
-ghost use Rattle.wh_value.specs.Limit.{bound};
-ghost use Rattle.wh_value.specs.declared.limit.Limit.TheVariants as limits;
 ghost use Rattle.wh_reply.specs.View.{refusal_view};
-ghost use Rattle.wh_frame.specs.Partition.{partitions_of};
 ghost use Rattle.wh_machine.specs.Step.{stamped};
 ghost use Rattle.wh_machine.specs.Stored.{table_meant};
+ghost use Rattle.wh_machine.specs.Commit.{PushesVersion};
 ghost use Rattle.wh_machine.specs.Written.{rows_written};
 ghost use Rattle.wh_machine.specs.Rows as machine;
-ghost use Rattle.wh_record.specs.View.{change_of, IsWritableChange};
+ghost use Rattle.wh_record.specs.View.{version_change_of, IsWritableVersion};
 ghost use Rattle.wh_catalog.specs.Catalog.{stored_of, state_of};
 ghost use Rattle.wh_catalog.specs.Table.{table_of};
 ghost use Rattle.wh_engine.specs.Decision.{Decides};
@@ -82,6 +80,11 @@ fn addition(
     table: &StoredTable,
     rows: Vec<Row>,
 ) -> Result<VersionChange, AllocError>
+    requires pass { machine.rows_refusal (table_meant (table_of table.now)) rows.items ≡ None }
+    requires values { AllByRecursion IsRow rows.items }
+    ensures written { IfOk result (λ change. PushesVersion (version_change_of change)
+        ≡ rows_written stamp id rows.items (table_of table.now)) }
+    ensures writable { IfOk result (λ change. IsWritableVersion (version_change_of change)) }
 {
     let first = table.next_row();
     let next_row = first + rows.len() as u64;

@@ -4,8 +4,9 @@ use super::*;
 use std::alloc::Global;
 use std::test::Fail;
 use std::thread::Threads;
-use wh_text::{Limit, Refusal, Reply, print_reply};
-use wh_value::{Bytes, Column, ColumnType, Text};
+use wh_reply::{Refusal, Reply};
+use wh_text::print_reply;
+use wh_value::{Bytes, Limit};
 use wh_world::MemDisk;
 
 const LIMIT: u64 = 1 << 40;
@@ -36,6 +37,29 @@ fn opened(
     Ok(Warehouse::open(rt, alloc, disk, 1, limit).ok())
 }
 
+fn command(alloc: Global, session: u64, text: &[u8]) -> Result<Event, Fail> {
+    Ok(Event::Command {
+        reading: 0,
+        session,
+        text: Bytes::from_slice(alloc, text)?,
+    })
+}
+
+// The lines of the reply to a command.
+fn lines(
+    rt: &(impl Threads + Sync),
+    alloc: Global,
+    warehouse: &mut Warehouse<MemDisk>,
+    session: u64,
+    text: &[u8],
+) -> Result<Bytes, Fail> {
+    let event = command(alloc, session, text)?;
+    let reply = warehouse.carry_out(rt, &event)?;
+    let mut out = Bytes::new(alloc);
+    print_reply(alloc, &reply, &mut out)?;
+    Ok(out)
+}
+
 #[test]
 fn commands_are_answered_and_a_second_opening_goes_on(rt: HostRuntime) -> Result<(), Fail> {
     let alloc = rt.alloc();
@@ -62,19 +86,15 @@ fn commands_are_answered_and_a_second_opening_goes_on(rt: HostRuntime) -> Result
         ),
     ];
     let mut warehouse = opened(&rt, alloc, b"", LIMIT, &[])?.ok_or("a new file opens")?;
-    for (name, text, lines) in commands {
-        let reply = warehouse.exec(&rt, 0, 1, text)?;
-        let mut out = Bytes::new(alloc);
-        print_reply(alloc, &reply, &mut out)?;
-        assert_eq!(rt; out.as_slice(), lines, "{name}");
+    for (name, text, wanted) in commands {
+        let found = lines(&rt, alloc, &mut warehouse, 1, text)?;
+        assert_eq!(rt; found.as_slice(), wanted, "{name}");
     }
     let disk = warehouse.close();
     let mut again = opened(&rt, alloc, disk.bytes(), LIMIT, &[])?.ok_or("the file opens")?;
-    let reply = again.exec(&rt, 0, 1, b"SELECT * FROM T")?;
-    let mut out = Bytes::new(alloc);
-    print_reply(alloc, &reply, &mut out)?;
+    let found = lines(&rt, alloc, &mut again, 1, b"SELECT * FROM T")?;
     assert_eq!(rt;
-        out.as_slice(),
+        found.as_slice(),
         b"K | V\n1 | NULL\n2 | 5\n2 | 5\n(3 rows)\n".as_slice()
     );
     Ok(())
@@ -96,15 +116,14 @@ fn a_full_file_is_told_with_both_numbers_and_nothing_changes(rt: HostRuntime) ->
     for (name, limit, fits, rows, len) in cases {
         assert!(rt; 8 <= limit && limit <= 133);
         let mut warehouse = opened(&rt, alloc, &ONE_TABLE, limit, &[])?.ok_or("the file opens")?;
-        let answer = warehouse.exec(&rt, 0, 1, b"INSERT INTO T VALUES (1)");
+        let insert = command(alloc, 1, b"INSERT INTO T VALUES (1)")?;
+        let answer = warehouse.carry_out(&rt, &insert);
         let full = matches!(answer, Err(Halt::FileFull { len: 50, need: 83 }));
         assert_eq!(rt; full, !fits, "{name}: full");
         let inserted = matches!(answer, Ok(Reply::Inserted(1)));
         assert_eq!(rt; inserted, fits, "{name}: inserted");
-        let reply = warehouse.exec(&rt, 0, 1, b"SELECT * FROM T")?;
-        let mut out = Bytes::new(alloc);
-        print_reply(alloc, &reply, &mut out)?;
-        assert_eq!(rt; out.as_slice(), rows, "{name}: rows");
+        let found = lines(&rt, alloc, &mut warehouse, 1, b"SELECT * FROM T")?;
+        assert_eq!(rt; found.as_slice(), rows, "{name}: rows");
         let disk = warehouse.close();
         assert_eq!(rt; disk.bytes().len(), len, "{name}: bytes");
         assert_eq!(rt;
@@ -160,40 +179,100 @@ fn the_first_fault_of_a_file_is_told(rt: HostRuntime) -> Result<(), Fail> {
 }
 
 #[test]
-fn a_fault_of_a_write_wants_a_new_opening(rt: HostRuntime) -> Result<(), Fail> {
+fn a_fault_of_a_write_leaves_the_state_and_wants_a_new_opening(
+    rt: HostRuntime,
+) -> Result<(), Fail> {
+    let alloc = rt.alloc();
+    let insert = command(alloc, 1, b"INSERT INTO T VALUES (1)")?;
     let mut faults = 0u8;
     for call in 1..20u64 {
-        let Some(mut warehouse) = opened(&rt, rt.alloc(), &ONE_TABLE, LIMIT, &[call])? else {
+        let Some(mut warehouse) = opened(&rt, alloc, &ONE_TABLE, LIMIT, &[call])? else {
             continue;
         };
-        if matches!(
-            warehouse.exec(&rt, 0, 1, b"INSERT INTO T VALUES (1)"),
-            Err(Halt::DiskFault)
-        ) {
+        if matches!(warehouse.carry_out(&rt, &insert), Err(Halt::DiskFault)) {
             faults = faults.saturating_add(1);
-            let again = warehouse.exec(&rt, 0, 1, b"SELECT * FROM T");
-            assert!(rt;
-                matches!(again, Err(Halt::NeedsReopen { faults: 1 })),
-                "call {call}"
-            );
+            let next_row = warehouse.catalog.table(1).map_or(0, |table| table.next_row());
+            assert_eq!(rt; next_row, 1, "call {call}: no row was added");
+            let again = warehouse.carry_out(&rt, &insert);
+            let reopen = matches!(again, Err(Halt::NeedsReopen { faults: 1 }));
+            assert!(rt; reopen, "call {call}: a new opening is wanted");
         }
     }
     assert_eq!(rt; faults, 4, "two writes and two syncs");
     Ok(())
 }
 
-// The lines of the reply to a command.
-fn lines(
-    rt: &(impl Threads + Sync),
-    alloc: Global,
-    warehouse: &mut Warehouse<MemDisk>,
-    session: u64,
-    text: &[u8],
-) -> Result<Bytes, Fail> {
-    let reply = warehouse.exec(rt, 0, session, text)?;
-    let mut out = Bytes::new(alloc);
-    print_reply(alloc, &reply, &mut out)?;
-    Ok(out)
+#[test]
+fn without_a_commit_nothing_is_written(rt: HostRuntime) -> Result<(), Fail> {
+    let alloc = rt.alloc();
+    // The opening takes the one sync.
+    let disk = MemDisk::new(alloc, ONE_TABLE.to_vec(alloc)?, 0, 1, Vec::new(alloc))?;
+    let mut warehouse = Warehouse::open(&rt, alloc, disk, 1, LIMIT)
+        .ok()
+        .ok_or("the file opens")?;
+    let commands = [
+        ("SELECT * FROM T", "K\n(0 rows)\n"),
+        ("CREATE TABLE T(K INT)", "E7 NameTaken T\n"),
+        ("FROM", "E1 SyntaxError\n"),
+    ];
+    for (text, wanted) in commands {
+        let found = lines(&rt, alloc, &mut warehouse, 1, text.as_bytes())?;
+        assert_eq!(rt; found.as_slice(), wanted.as_bytes(), "{text}");
+    }
+    let idle = warehouse.carry_out(&rt, &Event::Tick { reading: 9 })?;
+    assert!(rt; matches!(idle, Reply::Idle));
+    let insert = command(alloc, 1, b"INSERT INTO T VALUES (1)")?;
+    let answer = warehouse.carry_out(&rt, &insert);
+    assert!(rt; matches!(answer, Err(Halt::DiskFault)), "a commit is");
+    Ok(())
+}
+
+// A file of these payloads.
+fn file_of(alloc: Global, payloads: &[&[u8]]) -> Result<Vec<u8>, Fail> {
+    let mut file = b"WHCORE1".to_vec(alloc)?;
+    for payload in payloads {
+        file.push(1)?;
+        file.extend_from_slice(&(payload.len() as u64).to_be_bytes())?;
+        file.extend_from_slice(payload)?;
+    }
+    file.push(0)?;
+    Ok(file)
+}
+
+#[test]
+fn commits_of_any_number_of_changes_are_read(rt: HostRuntime) -> Result<(), Fail> {
+    let alloc = rt.alloc();
+    let payloads = [
+        // a table and its first rows
+        b"\0\0\0\0\0\0\0\x01\0\0\0\x02\
+          \x01\0\0\0\x01\0\0\0\x01T\x01\0\0\0\x01\0\0\0\x01K\x01\
+          \x0a\0\0\0\x01\0\0\0\0\0\0\0\x01\0\0\0\0\0\0\0\x02\0\0\0\x01\0\0\0\0\0\0\0\x01\
+          \0\0\0\0\0\0\0\x01\0\0\0\x01\0\0\0\0\0\0\0\x01\x01\0\0\0\0\0\0\0\x07"
+            .as_slice(),
+        // nothing
+        b"\0\0\0\0\0\0\0\x02\0\0\0\0",
+        // a partition in another's place
+        b"\0\0\0\0\0\0\0\x03\0\0\0\x01\
+          \x0a\0\0\0\x01\0\0\0\0\0\0\0\x03\0\0\0\0\0\0\0\x03\0\0\0\x01\
+          \0\0\0\x01\0\0\0\0\0\0\0\x01\0\0\0\x01\
+          \0\0\0\0\0\0\0\x02\0\0\0\x01\0\0\0\0\0\0\0\x02\x01\0\0\0\0\0\0\0\x08",
+    ];
+    let file = file_of(alloc, &payloads)?;
+    let mut warehouse = opened(&rt, alloc, &file, LIMIT, &[])?.ok_or("the file opens")?;
+    let commands = [
+        ("SELECT * FROM T", "K\n8\n(1 rows)\n"),
+        ("INSERT INTO T VALUES (9)", "INSERTED 1\n"),
+        ("SELECT * FROM T", "K\n8\n9\n(2 rows)\n"),
+    ];
+    for (text, wanted) in commands {
+        let found = lines(&rt, alloc, &mut warehouse, 1, text.as_bytes())?;
+        assert_eq!(rt; found.as_slice(), wanted.as_bytes(), "{text}");
+    }
+    let disk = warehouse.close();
+    let mut again = opened(&rt, alloc, disk.bytes(), LIMIT, &[])?.ok_or("it opens again")?;
+    let found = lines(&rt, alloc, &mut again, 1, b"SELECT * FROM T")?;
+    assert_eq!(rt; found.as_slice(), b"K\n8\n9\n(2 rows)\n".as_slice());
+    Ok(())
 }
 
 #[test]
@@ -387,26 +466,17 @@ fn a_text_has_65536_bytes_at_most(rt: HostRuntime) -> Result<(), Fail> {
 #[test]
 fn a_tick_is_idle_up_to_the_last_stamp(rt: HostRuntime) -> Result<(), Fail> {
     let mut warehouse = opened(&rt, rt.alloc(), b"", LIMIT, &[])?.ok_or("a new file opens")?;
-    for reading in [0, 5, 4, (1 << 62) - 1] {
-        assert!(rt; reading < 1 << 62);
-        let reply = warehouse.tick(&rt, reading)?;
-        assert!(rt; matches!(reply, Reply::Idle), "{reading}");
+    for (reading, idle) in [
+        (0u64, true),
+        (1 << 62, false),
+        (5, true),
+        ((1 << 62) - 1, true),
+        (0, false),
+    ] {
+        let reply = warehouse.carry_out(&rt, &Event::Tick { reading })?;
+        let over = matches!(reply, Reply::Refused(Refusal::OverLimit(Limit::Stamp)));
+        assert_eq!(rt; matches!(reply, Reply::Idle), idle, "{reading}: idle");
+        assert_eq!(rt; over, !idle, "{reading}: no stamp is left");
     }
-    let reply = warehouse.tick(&rt, 0)?;
-    let over = matches!(reply, Reply::Refused(Refusal::OverLimit(Limit::Stamp)));
-    assert!(rt; over, "no stamp is left");
-    Ok(())
-}
-
-#[test]
-fn a_column_is_copied(rt: HostRuntime) -> Result<(), Fail> {
-    let alloc = rt.alloc();
-    let column = Column {
-        name: Text::of(alloc, "K")?,
-        column_type: ColumnType::Varchar,
-    };
-    let copy = column.copy(alloc)?;
-    assert_eq!(rt; copy.name.as_bytes(), b"K".as_slice());
-    assert_eq!(rt; copy.column_type, ColumnType::Varchar);
     Ok(())
 }

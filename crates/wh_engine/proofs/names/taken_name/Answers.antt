@@ -1,9 +1,9 @@
 use Rattle.std.proofs.Common.{◌≡◌, ◌+◌, ◌-◌, Some, length, take, drop, get_or, ap, sym, ◌∙◌, arith}
 use Rattle.std.proofs.lemmas.List.{take_all, length-drop}
 use Rattle.wh_value.specs.declared.column.Column.{Column}
-use Rattle.wh_engine.specs.Limits.{is_taken}
+use Rattle.wh_engine.specs.Names.{is_taken}
 use Rattle.wh_engine.proofs.NameLemmas.{taken_here, taken_later}
-use Rattle.wh_engine.proofs.limits.taken_name.Goals as goal
+use Rattle.wh_engine.proofs.names.taken_name.Goals as goal
 
 pub returns-then-is_taken : goal.returns-then-is_taken
 returns-then-is_taken c =

@@ -3,7 +3,7 @@ use Rattle.wh_journal.specs.Crash.{IsKeptOrShort}
 use Rattle.wh_journal.proofs.CrashLemmas.{both, weaker}
 use Rattle.wh_catalog.specs.Catalog.{stored_of}
 use Rattle.wh_engine.specs.Warehouse.{Filed}
-use Rattle.wh_engine.proofs.FaultLemmas.{same_fault}
+use Rattle.wh_engine.proofs.HaltLemmas.{same_fault}
 use Rattle.wh_engine.proofs.OpenLemmas.{opened, filed, gate_ends, fault_first, stray_first, left_by_opening}
 use Rattle.wh_engine.proofs.open.read.Goals as goal
 
@@ -16,7 +16,7 @@ pub returns-in-None-clause-filed : goal.returns-in-None-clause-filed
 returns-in-None-clause-filed g c =
     subst (λ (bytes : Option (List ℕ)). Filed bytes c.in_ok-journal.journal c.in_ok-catalog.catalog) (sym c.replay.ensures.same.0)
     (filed (g.D.Disk.bytes c.args.disk.now) (g.D.Disk.bytes c.recover.new.disk) c.in_ok-journal.journal c.in_ok-journal.fault c.in_ok-catalog.catalog c.in_ok-journal.ensures.told
-    c.in-None.is c.in_ok-journal.ensures.short c.in_ok-journal.ensures.long c.in_ok-catalog.ensures.led c.in_ok-catalog.ensures.rest)
+    c.in-None.is c.in_ok-journal.ensures.short c.in_ok-journal.ensures.long c.in_ok-catalog.ensures.led)
 
 pub returns-in-None-clause-ends : goal.returns-in-None-clause-ends
 returns-in-None-clause-ends g c =
@@ -24,8 +24,9 @@ returns-in-None-clause-ends g c =
     c.in-None.is c.in_ok-journal.ensures.short c.in_ok-journal.ensures.long
 
 pub returns-in-None-clause-durable : goal.returns-in-None-clause-durable
-returns-in-None-clause-durable g c = λ file told image left.
-    c.in_ok-journal.ensures.durable file (sym c.replay.ensures.same.0 ∙ told) image (c.replay.ensures.crash image left)
+returns-in-None-clause-durable g c = record {
+  each = λ file told image left. c.in_ok-journal.ensures.durable file (sym c.replay.ensures.same.0 ∙ told) image (c.replay.ensures.crash image left);
+}
 
 -- ---- the first fault
 
@@ -34,14 +35,14 @@ returns-in-Some-clause-not_warehouse g c = λ at file is told.
     let found : c.in_ok-journal.fault ≡ Some at = c.in-Some.is ∙ ap Some cc in
     let first = fault_first (g.D.Disk.bytes c.args.disk.now) (g.D.Disk.bytes c.recover.new.disk) c.in_ok-journal.journal c.in_ok-journal.fault at (stored_of c.in_ok-catalog.catalog)
     found c.in_ok-journal.ensures.short c.in_ok-journal.ensures.long c.in_ok-catalog.ensures.led file told in
-    (first.0, first.1, c.replay.ensures.same.0 ∙ first.2)
+    (first.0, first.1, c.replay.ensures.same.0 ∙ first.2, λ image left. c.in_ok-journal.ensures.durable file first.2 image (c.replay.ensures.crash image left))
 
 pub returns-in_err-catalog-clause-not_warehouse : goal.returns-in_err-catalog-clause-not_warehouse
 returns-in_err-catalog-clause-not_warehouse g c = λ at file is told.
     let fault = same_fault c.from_residual-in_err-catalog.result c.in_err-catalog.field-0.0 _ c.from_residual-in_err-catalog.ensures.1 is in
     let first = stray_first (g.D.Disk.bytes c.args.disk.now) (g.D.Disk.bytes c.recover.new.disk) c.in_ok-journal.journal c.in_ok-journal.fault at
     c.in_ok-journal.ensures.short c.in_ok-journal.ensures.long (c.in_err-catalog.ensures.some at (ap Err fault)) (c.in_err-catalog.ensures.strays at (ap Err fault)) file told in
-    (first.0, first.1, c.replay.ensures.same.0 ∙ first.2)
+    (first.0, first.1, c.replay.ensures.same.0 ∙ first.2, λ image left. c.in_ok-journal.ensures.durable file first.2 image (c.replay.ensures.crash image left))
 
 -- ---- a crash: what the replay reads is on the disk
 

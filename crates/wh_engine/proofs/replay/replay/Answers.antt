@@ -23,10 +23,10 @@ loop-at-preserved g c = record {
       let one = c.in_ok-replay_at.ensures.carried payloads file rest (c.loop-at.invariant.bytes ∙ told) begins lists in
       replayed_more payloads (stored_of c.loop-at.catalog) (stored_of c.replay_at.new.catalog) c.loop-at.at one.0 one.1
       (c.loop-at.invariant.replayed payloads file rest told begins lists) one.2;
-  rest = c.in_ok-replay_at.ensures.rest c.loop-at.invariant.rest;
+  means = c.in_ok-replay_at.ensures.means;
   bytes = c.replay_at.ensures.same.0 ∙ c.loop-at.invariant.bytes;
   size = c.replay_at.ensures.same.1 ∙ c.loop-at.invariant.size;
-  later = omega (arith, c.replay_at.ensures.later, c.loop-at.invariant.later);
+  no_fault = c.in_ok-replay_at.ensures.no_fault ∙ c.loop-at.invariant.no_fault;
   crash = λ image left. c.loop-at.invariant.crash image (c.replay_at.ensures.crash image left);
   any_moment = reads_on g.D.Disk.moment g.D.Disk.left_since g.D.Disk.may_leave g.met.D.Disk.only_now c.args.disk.now c.loop-at.disk c.replay_at.new.disk
       c.loop-at.invariant.crash c.loop-at.invariant.any_moment c.replay_at.ensures.any_moment;

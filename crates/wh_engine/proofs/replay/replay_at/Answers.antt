@@ -1,8 +1,8 @@
 use Rattle.std.proofs.Common.{◌≡◌, List, ℕ, length, take, subst, arith}
-use Rattle.wh_machine.specs.File.{records_of}
+use Rattle.wh_frame.specs.File.{records_of}
 use Rattle.wh_engine.specs.Replay.{Carries, CarriesNone}
 use Rattle.wh_catalog.specs.Catalog.{stored_of}
-use Rattle.wh_engine.proofs.ReplayLemmas.{on_ok, rest_next}
+use Rattle.wh_engine.proofs.ReplayLemmas.{on_ok}
 use Rattle.wh_engine.proofs.replay.replay_at.Goals as goal
 
 pub returns-clause-carried : goal.returns-clause-carried
@@ -12,10 +12,6 @@ returns-clause-carried g c =
       c.in_ok-payload.ensures.read payloads file rest told begins lists,
       subst (λ (p : List ℕ). Carries p (stored_of c.args.catalog.now) (stored_of c.carry_out.new.catalog)) c.deref.ensures.value one,
     )) c.carry_out.ensures.carried
-
-pub returns-clause-rest : goal.returns-clause-rest
-returns-clause-rest g c = λ rest.
-    on_ok c.carry_out.result (λ one. rest_next c.deref.result.now (stored_of c.args.catalog.now) (stored_of c.carry_out.new.catalog) one rest) c.carry_out.ensures.carried
 
 pub returns-clause-strays : goal.returns-clause-strays
 returns-clause-strays g c = λ place stray payloads file rest told begins lists.

@@ -1,0 +1,17 @@
+mod ListLemmas
+mod CatalogLemmas
+pub mod FileLemmas
+pub mod StopLemmas
+mod HaltLemmas
+mod CarryLemmas
+mod AppendLemmas
+mod PlanLemmas
+mod OutcomeLemmas
+mod TableLemmas
+mod RowLemmas
+mod ReplayLemmas
+mod OpenLemmas
+mod LiteralLemmas
+mod FormLemmas
+mod RequestLemmas
+mod NameLemmas
