@@ -3,7 +3,7 @@
 --     not_added, is_added      the outcome
 --     RowsPass, rows_pass      what rows that pass all tests keep
 --     cut_writable             their partitions can be written
-use Rattle.std.proofs.Common.{◌≡◌, ℕ, ◌+◌, ◌<◌, ◌≤◌, List, [], ◌∷◌, ◌++◌, length, Option, Some, None, Bool, true, false, refl, sym, ap, subst, ◌∙◌, arith}
+use Rattle.std.proofs.Common.{◌≡◌, ℕ, suc, ◌+◌, ◌<◌, ◌≤◌, List, [], ◌∷◌, ◌++◌, length, Option, Some, None, Bool, true, false, refl, sym, ap, subst, ◌∙◌, arith}
 use Rattle.std.specs.Prelude.{not, ◌&&◌}
 use Rattle.std.specs.List.{AllByRecursion, list_all, flat_map}
 use Rattle.std.proofs.lemmas.Bool.{cases_lt}
@@ -20,7 +20,7 @@ use Rattle.wh_machine.specs.Rows.{rows_refusal, insert_into}
 use Rattle.wh_machine.proofs.CutLaws.{cut_joined}
 use Rattle.wh_record.specs.View.{HasRows}
 use Rattle.wh_engine.proofs.ListLemmas.{all_front, all_back}
-use Rattle.wh_engine.proofs.TableLemmas.{none_first, not_past}
+use Rattle.wh_engine.proofs.TableLemmas.{not_past}
 
 pub refusal_by : (t : Table) (rows : List Row) (a b c : Option Refusal) → a ≡ refused_if (not (list_all (row_fits t.columns) rows)) TypeMismatch
     → b ≡ refused_past limits.RowNumber (t.next_row + length rows) → c ≡ refused_past limits.PartitionNumber (t.next_partition + partitions_of (length rows))
@@ -45,16 +45,21 @@ fits_all : (b : Bool) → refused_if (not b) TypeMismatch ≡ None → b ≡ tru
 fits_all true none = refl
 fits_all false none = absurd cc
 
+none_of_three : (a b c : Option Refusal) → first_of (a ∷ b ∷ c ∷ []) ≡ None → (a ≡ None) × (b ≡ None) × (c ≡ None)
+none_of_three None None None is = (refl, refl, refl)
+none_of_three None None (Some why) is = absurd cc
+none_of_three None (Some why) c is = absurd cc
+none_of_three (Some why) b c is = absurd cc
+
 pub rows_pass : (t : Table) (rows : List Row) → rows_refusal t rows ≡ None → RowsPass t rows
 unfolding rows_refusal
 rows_pass t rows none =
-    let one = none_first _ _ none in
-    let two = none_first _ _ one.1 in
-    let three = none_first _ _ two.1 in
+    let h = none_of_three (refused_if (not (list_all (row_fits t.columns) rows)) TypeMismatch) (refused_past limits.RowNumber (t.next_row + length rows))
+    (refused_past limits.PartitionNumber (t.next_partition + partitions_of (length rows))) none in
     record {
-      fit = fits_all _ one.0;
-      next_row = not_past limits.RowNumber _ two.0;
-      next_partition = not_past limits.PartitionNumber _ three.0;
+      fit = fits_all (list_all (row_fits t.columns) rows) h.0;
+      next_row = not_past limits.RowNumber (t.next_row + length rows) h.1;
+      next_partition = not_past limits.PartitionNumber (t.next_partition + partitions_of (length rows)) h.2;
     }
 
 first_true : (a b : Bool) → (a && b) ≡ true → (a ≡ true) × (b ≡ true)
@@ -66,7 +71,7 @@ row_fits-length : (columns : List Column) (row : Row) → row_fits columns row �
 row_fits-length [] [] e = refl
 row_fits-length [] (v ∷ vs) e = absurd cc
 row_fits-length (c ∷ cs) [] e = absurd cc
-row_fits-length (c ∷ cs) (v ∷ vs) e = ap (λ (n : ℕ). n + 1) (row_fits-length cs vs (first_true (fits c.column_type v) (row_fits cs vs) e).1)
+row_fits-length (c ∷ cs) (v ∷ vs) e = ap suc (row_fits-length cs vs (first_true (fits c.column_type v) (row_fits cs vs) e).1)
 
 -- numbered rows that fit have the width, and their values
 fitting_numbered : (columns : List Column) (next : ℕ) (rows : List Row) → list_all (row_fits columns) rows ≡ true → AllByRecursion IsRow rows

@@ -45,11 +45,6 @@ is_created s stamp name columns retention none =
 
 -- ---- a table that passes them
 
--- where tests come to nothing, the first one does, and the others
-pub none_first : (found : Option Refusal) (others : List (Option Refusal)) → first_of (found ∷ others) ≡ None → (found ≡ None) × (first_of others ≡ None)
-none_first None others is = (refl, is)
-none_first (Some why) others is = absurd cc
-
 pub not_past : (limit : Limit) (count : ℕ) → refused_past limit count ≡ None → count ≤ bound limit
 not_past limit count none = elim (cases_lt (bound limit) count) [
   | inl past ↦
@@ -59,15 +54,22 @@ not_past limit count none = elim (cases_lt (bound limit) count) [
   | inr within ↦ within
 ]
 
+none_of_seven : (a b c d e f g : Option Refusal) → first_of (a ∷ b ∷ c ∷ d ∷ e ∷ f ∷ g ∷ []) ≡ None → (c ≡ None) × (g ≡ None)
+none_of_seven None None None None None None None is = (refl, refl)
+none_of_seven None None None None None None (Some why) is = absurd cc
+none_of_seven None None None None None (Some why) g is = absurd cc
+none_of_seven None None None None (Some why) f g is = absurd cc
+none_of_seven None None None (Some why) e f g is = absurd cc
+none_of_seven None None (Some why) d e f g is = absurd cc
+none_of_seven None (Some why) c d e f g is = absurd cc
+none_of_seven (Some why) b c d e f g is = absurd cc
+
 pub within_limits : (s : State) (name : List ℕ) (columns : List Column) (retention : ℕ) → table_refusal s name columns retention ≡ None
     → (length s.objects + 1 ≤ bound limits.ObjectIds) × (retention ≤ bound limits.Retention)
 unfolding table_refusal
 within_limits s name columns retention none =
-    let one = none_first _ _ none in
-    let two = none_first _ _ one.1 in
-    let three = none_first _ _ two.1 in
-    let four = none_first _ _ three.1 in
-    let five = none_first _ _ four.1 in
-    let six = none_first _ _ five.1 in
-    let seven = none_first _ _ six.1 in
-    (not_past limits.ObjectIds (length s.objects + 1) three.0, not_past limits.Retention retention seven.0)
+    let h = none_of_seven (refused_if (is_some (id_of name s.objects)) (NameTaken name)) (option_map NameTaken (taken_name (names_of columns)))
+    (refused_past limits.ObjectIds (length s.objects + 1)) (refused_past limits.Objects (live_count s.objects + 1))
+    (refused_if (list_any is_long (name ∷ names_of columns)) (OverLimit limits.Name)) (refused_past limits.Columns (length columns))
+    (refused_past limits.Retention retention) none in
+    (not_past limits.ObjectIds (length s.objects + 1) h.0, not_past limits.Retention retention h.1)

@@ -53,7 +53,6 @@ pub(crate) fn insert_rows(
 }
 
 // The first test that rows for a table fail.
-#[tactic(auto, unfolding(wh_machine::specs::Rows::rows_refusal))]
 fn rows_refusal(table: &StoredTable, rows: &[Row]) -> Option<Refusal>
     ensures { option_map refusal_view result
         ≡ machine.rows_refusal (table_meant (table_of table.now)) rows.now }

@@ -65,7 +65,6 @@ fn creation(id: u32, table: NewTable) -> Change
 }
 
 // The first test that a new table fails.
-#[tactic(auto, unfolding(wh_machine::specs::Tables::table_refusal))]
 fn table_refusal(
     alloc: Global,
     catalog: &Catalog,
