@@ -6,6 +6,7 @@ mod HaltLemmas
 mod CarryLemmas
 mod AppendLemmas
 mod PlanLemmas
+mod StepLemmas
 mod OutcomeLemmas
 mod TableLemmas
 mod RowLemmas

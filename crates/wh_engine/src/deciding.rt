@@ -1,6 +1,4 @@
-ghost use Rattle.std.specs.Prelude.{◌≡◌, ◌<◌, Some, option_map, IfOk};
-ghost use Rattle.wh_value.specs.Limit.{bound};
-ghost use Rattle.wh_value.specs.declared.limit.Limit.TheVariants as limits;
+ghost use Rattle.std.specs.Prelude.{◌≡◌, Some, IfOk};
 ghost use Rattle.wh_grammar.specs.Spelled.{Asked};
 ghost use Rattle.wh_machine.specs.Step.{outcome_of, commanded, carried_out, is_session, stamped};
 ghost use Rattle.wh_stmt_parse.specs.Request.{request_of};
@@ -33,7 +31,6 @@ pub(crate) fn decide(
     stamp: u64,
     event: &Event,
 ) -> Result<Decision, AllocError>
-    requires { stamp < bound limits.Stamp }
     ensures { IfOk result (λ decision. Decides (stored_of catalog.now) stamp decision
         (outcome_of (stamped (state_of catalog.now) stamp) (event_of event.now))) }
 {
@@ -57,7 +54,6 @@ fn decide_text(
     session: u64,
     text: &[u8],
 ) -> Result<Decision, AllocError>
-    requires { stamp < bound limits.Stamp }
     ensures { IfOk result (λ decision. Decides (stored_of catalog.now) stamp decision
         (commanded (stamped (state_of catalog.now) stamp) session (request_of text.now))) }
 {
@@ -79,7 +75,6 @@ fn decide_tree(
     session: u64,
     statement: &Statement,
 ) -> Result<Decision, AllocError>
-    requires { stamp < bound limits.Stamp }
     ensures { IfOk result (λ decision. Decides (stored_of catalog.now) stamp decision
         (commanded (stamped (state_of catalog.now) stamp) session (Asked statement.now))) }
 {
@@ -99,15 +94,13 @@ fn is_session(session: u64) -> bool
 }
 
 // What a statement of a built form comes to.
-#[tactic(auto, unfolding(wh_machine::specs::Step::carried_out))]
 fn decide_built(
     alloc: Global,
     catalog: &Catalog,
     stamp: u64,
     statement: Built,
 ) -> Result<Decision, AllocError>
-    requires within { stamp < bound limits.Stamp }
-    requires values { built.HasValues statement }
+    requires { built.HasValues statement }
     ensures { IfOk result (λ decision. Decides (stored_of catalog.now) stamp decision
         (carried_out (stamped (state_of catalog.now) stamp) (Some (built.built_view statement)))) }
 {

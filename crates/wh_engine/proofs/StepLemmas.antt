@@ -1,0 +1,66 @@
+-- The outcome of an event, case by case.
+--     decides_as                    the same decision on an outcome that is said otherwise
+--     command_long .. command_carried     a command
+--     carried_none, carried_create, carried_insert, carried_select     a statement
+use Rattle.std.proofs.Common.{◌≡◌, ℕ, List, Option, Some, None, Result, true, false, refl, subst}
+use Rattle.std.specs.Result.{IfOk}
+use Rattle.wh_value.specs.Value.{Row}
+use Rattle.wh_value.specs.Column.{Column}
+use Rattle.wh_value.specs.declared.limit.Limit.TheVariants as limits
+use Rattle.wh_ast.specs.declared.statement.Statement as tree
+use Rattle.wh_grammar.specs.Spelled.{TooLong, Unreadable, Asked}
+use Rattle.wh_reply.specs.Reply.{OverLimit, SyntaxError, NoSuchSession, Unsupported}
+use Rattle.wh_machine.specs.State.{State}
+use Rattle.wh_machine.specs.Statement.{CreateTable, InsertValues, SelectAll, form_of}
+use Rattle.wh_machine.specs.Outcome.{Outcome, Refuses}
+use Rattle.wh_machine.specs.Tables.{create_table}
+use Rattle.wh_machine.specs.Queries.{select_all}
+use Rattle.wh_machine.specs.Rows.{insert_rows}
+use Rattle.wh_machine.specs.Step.{is_session, commanded, carried_out}
+use Rattle.wh_machine.specs.Stored.{Stored}
+use Rattle.wh_engine.specs.declared.decision.Decision.{Decision}
+use Rattle.wh_engine.specs.Decision.{Decides}
+
+abbrev Tree : Type 0
+Tree = tree.Statement
+
+pub decides_as : {E : Type 0} (s : Stored) (stamp : ℕ) (r : Result Decision E) (o p : Outcome) → o ≡ p → IfOk r (λ d. Decides s stamp d o)
+    → IfOk r (λ d. Decides s stamp d p)
+decides_as s stamp r o p is decides = subst (λ (x : Outcome). IfOk r (λ d. Decides s stamp d x)) is decides
+
+-- ---- commands
+
+pub command_long : (s : State) (session : ℕ) → commanded s session TooLong ≡ Refuses (OverLimit limits.Statement)
+unfolding commanded
+command_long s session = refl
+
+pub command_unreadable : (s : State) (session : ℕ) → commanded s session Unreadable ≡ Refuses SyntaxError
+unfolding commanded
+command_unreadable s session = refl
+
+pub command_of_none : (s : State) (session : ℕ) (t : Tree) → is_session session ≡ false → commanded s session (Asked t) ≡ Refuses (NoSuchSession session)
+unfolding commanded
+command_of_none s session t e = rw e
+
+pub command_carried : (s : State) (session : ℕ) (t : Tree) → is_session session ≡ true → commanded s session (Asked t) ≡ carried_out s (form_of t)
+unfolding commanded
+command_carried s session t e = rw e
+
+-- ---- statements
+
+pub carried_none : (s : State) → carried_out s None ≡ Refuses Unsupported
+unfolding carried_out
+carried_none s = refl
+
+pub carried_create : (s : State) (name : List ℕ) (columns : List Column) (retention : ℕ)
+    → create_table s name columns retention ≡ carried_out s (Some (CreateTable name columns retention))
+unfolding carried_out
+carried_create s name columns retention = refl
+
+pub carried_insert : (s : State) (name : List ℕ) (rows : List Row) → insert_rows s name rows ≡ carried_out s (Some (InsertValues name rows))
+unfolding carried_out
+carried_insert s name rows = refl
+
+pub carried_select : (s : State) (name : List ℕ) → select_all s name ≡ carried_out s (Some (SelectAll name))
+unfolding carried_out
+carried_select s name = refl

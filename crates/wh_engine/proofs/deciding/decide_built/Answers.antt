@@ -1,0 +1,27 @@
+use Rattle.std.proofs.Common.{Some, ap, sym, ◌∙◌}
+use Rattle.wh_machine.specs.Step.{stamped, carried_out}
+use Rattle.wh_catalog.specs.Catalog.{stored_of, state_of}
+use Rattle.wh_engine.specs.declared.built.Built.{Built}
+use Rattle.wh_engine.specs.Built.{columns_of, built_view}
+use Rattle.wh_engine.proofs.StepLemmas.{decides_as, carried_create, carried_insert, carried_select}
+use Rattle.wh_engine.proofs.deciding.decide_built.Goals as goal
+
+pub returns-in-CreateTable : goal.returns-in-CreateTable
+returns-in-CreateTable c =
+    let s = stamped (state_of c.args.catalog.now) c.args.stamp in
+    let t = c.in-CreateTable.table in
+    decides_as (stored_of c.args.catalog.now) c.args.stamp c.create_table.result _ _
+    (carried_create s t.name (columns_of t) t.retention ∙ ap (λ (b : Built). carried_out s (Some (built_view b))) (sym c.in-CreateTable.is)) c.create_table.ensures
+
+pub returns-in-InsertValues : goal.returns-in-InsertValues
+returns-in-InsertValues c =
+    let s = stamped (state_of c.args.catalog.now) c.args.stamp in
+    decides_as (stored_of c.args.catalog.now) c.args.stamp c.insert_rows.result _ _
+    (carried_insert s c.in-InsertValues.table c.in-InsertValues.rows.items ∙ ap (λ (b : Built). carried_out s (Some (built_view b))) (sym c.in-InsertValues.is))
+    c.insert_rows.ensures
+
+pub returns-in-SelectAll : goal.returns-in-SelectAll
+returns-in-SelectAll c =
+    let s = stamped (state_of c.args.catalog.now) c.args.stamp in
+    decides_as (stored_of c.args.catalog.now) c.args.stamp c.select_all.result _ _
+    (carried_select s c.in-SelectAll.table ∙ ap (λ (b : Built). carried_out s (Some (built_view b))) (sym c.in-SelectAll.is)) c.select_all.ensures
