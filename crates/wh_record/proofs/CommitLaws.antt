@@ -1,17 +1,18 @@
 -- What is read of commits is spelled so, and what is spelled so is read.
 --     reads_table, reads_version, reads_commit     the two laws of each
-use Rattle.std.proofs.Common.{◌≡◌, ℕ, zero, suc, ◌^◌, ◌<◌, ◌⊎◌, Bool, true, false, cond, eqb, List, [], ◌∷◌, ◌++◌, length, Option, Some, None, refl, sym, ap, subst, ◌∙◌, append_assoc, arith, inl, inr}
+use Rattle.std.proofs.Common.{◌≡◌, ℕ, zero, suc, ◌+◌, ◌^◌, ◌<◌, ◌⊎◌, Bool, true, false, cond, eqb, leb, List, [], ◌∷◌, ◌++◌, length, Option, Some, None, refl, sym, ap, subst, ◌∙◌, append_assoc, inl, inr}
 use Rattle.std.specs.List.{AllByRecursion}
 use Rattle.std.specs.Int.{w32, w64, to_be_bytes}
-use Rattle.std.proofs.lemmas.Bool.{eqb-true}
 use Rattle.std.proofs.lemmas.List.{append-nil, nil_from_length}
-use Rattle.wh_machine.specs.Table.{ColumnType, NumberType, VarcharType, BooleanType}
+use Rattle.std.proofs.lemmas.Bool.{eqb-true, leb-true, le-leb}
+use Rattle.wh_value.specs.Column.{ColumnType, NumberType, VarcharType, BooleanType}
+use Rattle.wh_frame.specs.Spelling.{text_bytes, list_bytes, partition_bytes}
 use Rattle.wh_machine.specs.Commit.{TableChange, VersionChange, Change, CreatesTable, PushesVersion, Commit}
-use Rattle.wh_machine.specs.Spelling.{text_bytes, list_bytes, partition_bytes, type_byte, column_bytes, table_bytes, version_bytes, change_bytes, payload_of, IsPartition, IsColumn, IsTableChange, IsVersionChange, IsChange, IsCommit}
+use Rattle.wh_machine.specs.Spelling.{type_byte, column_bytes, table_bytes, version_bytes, change_bytes, payload_of, NumbersRiseFrom, IsColumn, IsTableChange, IsVersionChange, IsChange, IsCommit}
 use Rattle.wh_part.specs.Reading.{◌>>=◌}
-use Rattle.wh_part.proofs.ReaderLaws.{AreBytes, Reads, bind_some, some_is, reads_then, reads_where, reads_as, reads_same, reads_list, wide32, wide64, reads_number, reads_byte, reads_text}
+use Rattle.wh_part.proofs.ReaderLaws.{AreBytes, Reads, bind_some, and_parts, some_is, reads_then, reads_where, reads_as, reads_same, reads_list, wide32, wide64, reads_number, reads_byte, reads_text}
 use Rattle.wh_part.proofs.PartitionLaws.{reads_partition}
-use Rattle.wh_record.specs.Decoding.{type_at, column_at, table_at, is_zero, nothing_at, added_at, version_at, change_behind, change_at, is_one, one_at, commit_at, commit_of_all}
+use Rattle.wh_record.specs.Decoding.{type_at, column_at, table_at, numbers_rise, removed_at, version_at, change_behind, change_at, commit_at, commit_of_all}
 use Rattle.wh_record.specs.Laws.{PayloadFixesCommit}
 
 -- ---- columns
@@ -70,23 +71,27 @@ reads_table =
 
 -- ---- new versions
 
-reads_nothing : Reads (to_be_bytes w32) (λ n. n ≡ 0) nothing_at
-unfolding nothing_at
-reads_nothing =
-    reads_same (to_be_bytes w32) (λ n. n ≡ 0) nothing_at (λ bytes. refl) (λ n. refl)
-    (λ n good. eqb-true n 0 good.1) (λ n good. (omega arith, rw good refl))
-    (reads_where is_zero (reads_number wide32))
+-- numbers of 64 bits that pass the test are those that rise
+rising_is : (least : ℕ) (ns : List ℕ) → AllByRecursion (λ n. n < 2 ^ 64) ns → numbers_rise least ns ≡ true → NumbersRiseFrom least ns
+rising_is least [] wide e = tt
+rising_is least (n ∷ ns) wide e =
+    let both = and_parts (leb least n) (numbers_rise (n + 1) ns) e in
+    (leb-true least n both.0, wide.0, rising_is (n + 1) ns wide.1 both.1)
 
-reads_added : (width : ℕ) → Reads (λ ps. to_be_bytes w32 0 ++ list_bytes partition_bytes ps) (λ ps. (length ps < 2 ^ 32) × AllByRecursion (IsPartition width) ps) (added_at width)
-unfolding added_at
-reads_added width =
-    reads_same (λ ps. to_be_bytes w32 0 ++ list_bytes partition_bytes ps) (λ ps. (length ps < 2 ^ 32) × AllByRecursion (IsPartition width) ps) (added_at width)
-    (λ bytes. refl) (λ ps. refl) (λ ps good. good) (λ ps good. good)
-    (reads_as (λ ps. to_be_bytes w32 0 ++ list_bytes partition_bytes ps) (λ ps. (length ps < 2 ^ 32) × AllByRecursion (IsPartition width) ps)
-    (λ p. p.1) (λ ps. (0, ps))
-    (λ p good. (ap (λ (n : ℕ). to_be_bytes w32 n ++ list_bytes partition_bytes p.1) good.0, good.1))
-    (λ ps good. (refl, (refl, good), refl))
-    (reads_then reads_nothing (λ n _. reads_list (reads_number wide32) (reads_partition width))))
+is_rising : (least : ℕ) (ns : List ℕ) → NumbersRiseFrom least ns → numbers_rise least ns ≡ true
+is_rising least [] rises = refl
+is_rising least (n ∷ ns) rises = rw (le-leb least n rises.0) (is_rising (n + 1) ns rises.2)
+
+are_wide : (least : ℕ) (ns : List ℕ) → NumbersRiseFrom least ns → AllByRecursion (λ n. n < 2 ^ 64) ns
+are_wide least [] rises = tt
+are_wide least (n ∷ ns) rises = (rises.1, are_wide (n + 1) ns rises.2)
+
+reads_removed : Reads (list_bytes (to_be_bytes w64)) (λ ns. (length ns < 2 ^ 32) × NumbersRiseFrom 0 ns) removed_at
+unfolding removed_at
+reads_removed =
+    reads_same (list_bytes (to_be_bytes w64)) (λ ns. (length ns < 2 ^ 32) × NumbersRiseFrom 0 ns) removed_at (λ bytes. refl) (λ ns. refl)
+    (λ ns good. (good.0.0, rising_is 0 ns good.0.1 good.1)) (λ ns good. ((good.0, are_wide 0 ns good.1), is_rising 0 ns good.1))
+    (reads_where (numbers_rise 0) (reads_list (reads_number wide32) (reads_number wide64)))
 
 six_grouped : (a b c d e f : List ℕ) → a ++ (b ++ (c ++ (d ++ (e ++ f)))) ≡ a ++ b ++ c ++ d ++ e ++ f
 six_grouped a b c d e f = simp append_assoc
@@ -96,19 +101,30 @@ unfolding version_at version_bytes
 reads_version =
     reads_same version_bytes IsVersionChange version_at (λ bytes. refl) (λ c. refl) (λ c good. good) (λ c good. good)
     (reads_as version_bytes IsVersionChange
-    (λ p. record { id = p.0; data_timestamp = p.1.0; next_row = p.1.1.0; width = p.1.1.1.0; added = p.1.1.1.1 })
-    (λ c. (c.id, (c.data_timestamp, (c.next_row, (c.width, c.added)))))
+    (λ p. record { id = p.0; data_timestamp = p.1.0; next_row = p.1.1.0; width = p.1.1.1.0; removed = p.1.1.1.1.0; added = p.1.1.1.1.1 })
+    (λ c. (c.id, (c.data_timestamp, (c.next_row, (c.width, (c.removed, c.added))))))
     (λ p good. (
-      six_grouped (to_be_bytes w32 p.0) (to_be_bytes w64 p.1.0) (to_be_bytes w64 p.1.1.0) (to_be_bytes w32 p.1.1.1.0) (to_be_bytes w32 0) (list_bytes partition_bytes p.1.1.1.1),
-      record { id = good.0; data_timestamp = good.1.0; next_row = good.1.1.0; width = good.1.1.1.0; few = good.1.1.1.1.0; added = good.1.1.1.1.1 },
+      six_grouped (to_be_bytes w32 p.0) (to_be_bytes w64 p.1.0) (to_be_bytes w64 p.1.1.0) (to_be_bytes w32 p.1.1.1.0)
+          (list_bytes (to_be_bytes w64) p.1.1.1.1.0) (list_bytes partition_bytes p.1.1.1.1.1),
+      record {
+        id = good.0;
+        data_timestamp = good.1.0;
+        next_row = good.1.1.0;
+        width = good.1.1.1.0;
+        few_removed = good.1.1.1.1.0.0;
+        removed = good.1.1.1.1.0.1;
+        few = good.1.1.1.1.1.0;
+        added = good.1.1.1.1.1.1;
+      },
     ))
     (λ c good. (
-      six_grouped (to_be_bytes w32 c.id) (to_be_bytes w64 c.data_timestamp) (to_be_bytes w64 c.next_row) (to_be_bytes w32 c.width) (to_be_bytes w32 0) (list_bytes partition_bytes c.added),
-      (good.id, (good.data_timestamp, (good.next_row, (good.width, (good.few, good.added))))),
+      six_grouped (to_be_bytes w32 c.id) (to_be_bytes w64 c.data_timestamp) (to_be_bytes w64 c.next_row) (to_be_bytes w32 c.width)
+          (list_bytes (to_be_bytes w64) c.removed) (list_bytes partition_bytes c.added),
+      (good.id, (good.data_timestamp, (good.next_row, (good.width, ((good.few_removed, good.removed), (good.few, good.added)))))),
       refl,
     ))
     (reads_then (reads_number wide32) (λ id _. reads_then (reads_number wide64) (λ timestamp _. reads_then (reads_number wide64) (λ row _.
-    reads_then (reads_number wide32) (λ width _. reads_added width))))))
+    reads_then (reads_number wide32) (λ width _. reads_then reads_removed (λ removed _. reads_list (reads_number wide32) (reads_partition width))))))))
 
 -- ---- changes
 
@@ -151,21 +167,14 @@ reads_change = record { takes = change_takes; again = change_again }
 
 -- ---- commits
 
-reads_one : Reads (to_be_bytes w32) (λ n. n ≡ 1) one_at
-unfolding one_at
-reads_one =
-    reads_same (to_be_bytes w32) (λ n. n ≡ 1) one_at (λ bytes. refl) (λ n. refl)
-    (λ n good. eqb-true n 1 good.1) (λ n good. (omega arith, rw good refl))
-    (reads_where is_one (reads_number wide32))
-
 pub reads_commit : Reads payload_of IsCommit commit_at
 unfolding commit_at payload_of
 reads_commit =
     reads_same payload_of IsCommit commit_at (λ bytes. refl) (λ c. refl) (λ c good. good) (λ c good. good)
-    (reads_as payload_of IsCommit (λ p. record { stamp = p.0; change = p.1.1 }) (λ c. (c.stamp, (1, c.change)))
-    (λ p good. (ap (λ (n : ℕ). to_be_bytes w64 p.0 ++ (to_be_bytes w32 n ++ change_bytes p.1.1)) good.1.0, record { stamp = good.0; change = good.1.1 }))
-    (λ c good. (refl, (good.stamp, (refl, good.change)), refl))
-    (reads_then (reads_number wide64) (λ stamp _. reads_then reads_one (λ one _. reads_change))))
+    (reads_as payload_of IsCommit (λ p. record { stamp = p.0; changes = p.1 }) (λ c. (c.stamp, c.changes))
+    (λ p good. (refl, record { stamp = good.0; few = good.1.0; changes = good.1.1 }))
+    (λ c good. (refl, (good.stamp, (good.few, good.changes)), refl))
+    (reads_then (reads_number wide64) (λ stamp _. reads_list (reads_number wide32) reads_change)))
 
 -- ---- what a reading of all the bytes says
 

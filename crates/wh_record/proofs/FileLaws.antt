@@ -1,17 +1,20 @@
 -- What the bytes of a file fix.
 --     file_fixes_payloads     its records
+--     file_fixes_stored       what it keeps
 --     file_fixes_state        the state that it stands for
 use Rattle.std.proofs.Common.{◌≡◌, ◌≢◌, ℕ, ◌^◌, ◌<◌, List, [], ◌∷◌, ◌++◌, length, map, Option, Some, refl, sym, ap, subst, ◌∙◌, append_assoc, arith, inl, inr}
 use Rattle.std.specs.List.{flat_map, AllByRecursion}
 use Rattle.std.specs.Int.{w64, to_be_bytes}
 use Rattle.std.proofs.lemmas.List.{append_cancel_left}
 use Rattle.std.proofs.lemmas.List.Concat.{flat_map-cons}
-use Rattle.wh_machine.specs.Commit.{Commit, Stored, first_stored, Leads, applied}
+use Rattle.wh_frame.specs.File.{header, record_of, records_of}
+use Rattle.wh_machine.specs.Stored.{Stored, first_stored, meant}
+use Rattle.wh_machine.specs.Commit.{Commit, Leads, applied}
 use Rattle.wh_machine.specs.Spelling.{payload_of, IsCommit}
-use Rattle.wh_machine.specs.File.{header, record_of, records_of, Holds, Keeps}
+use Rattle.wh_machine.specs.File.{Holds}
 use Rattle.wh_part.specs.Reading.{then_at, number_at, bytes_at}
 use Rattle.wh_part.proofs.ReaderLaws.{Reads, some_is, reads_then, wide64, reads_number, reads_bytes}
-use Rattle.wh_record.specs.Laws.{FileFixesPayloads, FileFixesState}
+use Rattle.wh_record.specs.Laws.{FileFixesPayloads, FileFixesStored, FileFixesState}
 use Rattle.wh_record.proofs.CommitLaws.{payload_fixes_commit}
 
 -- ---- records
@@ -80,12 +83,11 @@ holds_one bytes s t h k =
     let same = same_commits h.commits k.commits h.good k.good (file_fixes_payloads (map payload_of h.commits) (map payload_of k.commits) bytes h.file k.file) in
     leads_to_one k.commits first_stored s t (subst (λ (cs : List Commit). Leads first_stored cs s) same h.leads) k.leads
 
--- no bytes keep two of what a file stands for
-pub keeps_one : (bytes : List ℕ) (s t : Stored) → Keeps bytes s → Keeps bytes t → s ≡ t
-keeps_one bytes s t (inl h) (inl k) = h.1 ∙ sym k.1
-keeps_one bytes s t (inl h) (inr k) = absurd (omega (arith, h.0, k.0))
-keeps_one bytes s t (inr h) (inl k) = absurd (omega (arith, h.0, k.0))
-keeps_one bytes s t (inr h) (inr k) = holds_one bytes s t h.1 k.1
+pub file_fixes_stored : FileFixesStored
+file_fixes_stored bytes s t (inl h) (inl k) = h.1 ∙ sym k.1
+file_fixes_stored bytes s t (inl h) (inr k) = absurd (omega (arith, h.0, k.0))
+file_fixes_stored bytes s t (inr h) (inl k) = absurd (omega (arith, h.0, k.0))
+file_fixes_stored bytes s t (inr h) (inr k) = holds_one bytes s t h.1 k.1
 
 pub file_fixes_state : FileFixesState
-file_fixes_state bytes a b h k = sym h.2 ∙ ap (λ (s : Stored). s.state) (keeps_one bytes h.0 k.0 h.1 k.1) ∙ k.2
+file_fixes_state bytes a b h k = h.2 ∙ ap meant (file_fixes_stored bytes h.0 k.0 h.1 k.1) ∙ sym k.2

@@ -1,14 +1,17 @@
 -- What the bytes of commits and files fix.
 --     PayloadFixesCommit          of a commit
 --     FileFixesPayloads           of the records of a file
---     FileFixesState              of a whole file
+--     FileFixesStored             of a whole file: what it keeps
+--     FileFixesState              and the state that it stands for
 --     FirstFaultIsOne             of a file that stands for no state
 --     FaultyFileStandsForNone     a file has a first fault, or stands for a state, but not both
 use Rattle.std.specs.Prelude.{◌≡◌, ℕ, ◌<◌, List, length}
-use Rattle.wh_machine.specs.Table.{State}
+use Rattle.wh_frame.specs.File.{IsFileOf}
+use Rattle.wh_machine.specs.State.{State}
+use Rattle.wh_machine.specs.Stored.{Stored}
 use Rattle.wh_machine.specs.Commit.{Commit}
 use Rattle.wh_machine.specs.Spelling.{payload_of, IsCommit}
-use Rattle.wh_machine.specs.File.{IsFileOf, Stands}
+use Rattle.wh_machine.specs.File.{Keeps, Stands}
 use Rattle.wh_machine.specs.Fault.{IsFirstFault}
 
 -- no two commits have one payload
@@ -18,6 +21,10 @@ PayloadFixesCommit = (c d : Commit) → IsCommit c → IsCommit d → payload_of
 -- no bytes are a file of two lists of payloads
 abbrev pub FileFixesPayloads : Type 0
 FileFixesPayloads = (ps qs : List (List ℕ)) (bytes : List ℕ) → IsFileOf ps bytes → IsFileOf qs bytes → ps ≡ qs
+
+-- no bytes keep two things
+abbrev pub FileFixesStored : Type 0
+FileFixesStored = (bytes : List ℕ) (a b : Stored) → Keeps bytes a → Keeps bytes b → a ≡ b
 
 -- no bytes stand for two states
 abbrev pub FileFixesState : Type 0

@@ -1,10 +1,10 @@
-ghost use Rattle.std.specs.Prelude.{◌≡◌, map};
-ghost use Rattle.std.specs.Int.{w32};
+ghost use Rattle.std.specs.Prelude.{◌≡◌, map, nat_le};
+ghost use Rattle.std.specs.Int.{w32, w64};
 ghost use Rattle.wh_value.specs.View.{type_of, column_of};
 ghost use Rattle.wh_part.specs.Reading.{Gives, items_at, list_at, number_at};
-ghost use Rattle.wh_part.specs.Decoding.{partition_at};
-ghost use Rattle.wh_record.specs.Decoding.{type_at, column_at, table_at, nothing_at, added_at, version_at, change_behind, change_at, one_at, commit_at, commit_of_all};
-ghost use Rattle.wh_record.specs.Laws.{PayloadFixesCommit, FileFixesPayloads, FileFixesState, FirstFaultIsOne, FaultyFileStandsForNone};
+ghost use Rattle.wh_part.specs.Decoding.{partition_at, least_after};
+ghost use Rattle.wh_record.specs.Decoding.{type_at, column_at, table_at, numbers_rise, removed_at, version_at, change_behind, change_at, commit_at, commit_of_all};
+ghost use Rattle.wh_record.specs.Laws.{PayloadFixesCommit, FileFixesPayloads, FileFixesStored, FileFixesState, FirstFaultIsOne, FaultyFileStandsForNone};
 ghost use Rattle.wh_record.specs.View.{table_change_of, version_change_of, change_of, commit_of};
 
 use crate::commit::{TABLE_TAG, VERSION_TAG};
@@ -80,16 +80,54 @@ fn read_table(alloc: Global, bytes: &[u8]) -> Result<(TableChange, &[u8]), ReadE
     ))
 }
 
-/// The count of a list that has to be empty.
-#[tactic(auto, unfolding(crate::specs::Decoding::nothing_at))]
-fn read_nothing(bytes: &[u8]) -> Result<(u32, &[u8]), ReadError>
-    ensures { Gives (λ x. (x.0, x.1.now)) result (nothing_at bytes.now) }
+fn read_each_number(alloc: Global, count: u32, bytes: &[u8]) -> Result<(Vec<u64>, &[u8]), ReadError>
+    ensures { Gives (λ x. (x.0.items, x.1.now)) result (items_at (number_at w64) count bytes.now) }
+{
+    let mut numbers = Vec::new(alloc);
+    let mut rest = bytes;
+    for _ in 0..count {
+        let (number, after) = read_u64(rest)?;
+        numbers.push(number)?;
+        rest = after;
+    }
+    Ok((numbers, rest))
+}
+
+/// Whether the number is greater than the last one, if there is one.
+fn follows(last: Option<u64>, number: u64) -> bool
+    ensures { result ≡ nat_le (least_after last) number }
+{
+    match last {
+        None => true,
+        Some(last) => last < number,
+    }
+}
+
+/// Whether each number is greater than the one before.
+fn rise(numbers: &[u64]) -> bool
+    ensures { result ≡ numbers_rise 0 numbers.now }
+{
+    let mut last = None;
+    for number in numbers {
+        if !follows(last, *number) {
+            return false;
+        }
+        last = Some(*number);
+    }
+    true
+}
+
+/// The numbers of the partitions that are removed, which have to rise.
+#[tactic(auto, unfolding(crate::specs::Decoding::removed_at))]
+fn read_removed(alloc: Global, bytes: &[u8]) -> Result<(Vec<u64>, &[u8]), ReadError>
+    ensures { Gives (λ x. (x.0.items, x.1.now)) result (removed_at bytes.now) }
 {
     let (count, rest) = read_u32(bytes)?;
-    if count != 0 {
+    let (numbers, rest) = read_each_number(alloc, count, rest)?;
+    if !rise(&numbers) {
         return Err(ReadError::Malformed);
     }
-    Ok((count, rest))
+    Ok((numbers, rest))
 }
 
 fn read_each_partition(
@@ -111,12 +149,11 @@ fn read_each_partition(
     Ok((partitions, rest))
 }
 
-#[tactic(auto, unfolding(crate::specs::Decoding::added_at))]
 fn read_added(alloc: Global, width: u32, bytes: &[u8]) -> Result<(Vec<Partition>, &[u8]), ReadError>
-    ensures { Gives (λ x. (x.0.items, x.1.now)) result (added_at width bytes.now) }
+    ensures { Gives (λ x. (x.0.items, x.1.now)) result
+        (list_at (number_at w32) (partition_at width) bytes.now) }
 {
-    let (_, rest) = read_nothing(bytes)?;
-    let (count, rest) = read_u32(rest)?;
+    let (count, rest) = read_u32(bytes)?;
     let (added, rest) = read_each_partition(alloc, width, count, rest)?;
     Ok((added, rest))
 }
@@ -129,12 +166,14 @@ fn read_version(alloc: Global, bytes: &[u8]) -> Result<(VersionChange, &[u8]), R
     let (data_timestamp, rest) = read_u64(rest)?;
     let (next_row, rest) = read_u64(rest)?;
     let (width, rest) = read_u32(rest)?;
+    let (removed, rest) = read_removed(alloc, rest)?;
     let (added, rest) = read_added(alloc, width, rest)?;
     let version = VersionChange {
         id,
         data_timestamp,
         next_row,
         width,
+        removed,
         added,
     };
     Ok((version, rest))
@@ -163,16 +202,31 @@ fn read_change(alloc: Global, bytes: &[u8]) -> Result<(Change, &[u8]), ReadError
     Ok((change, rest))
 }
 
-/// The count of a list that has to have one item.
-#[tactic(auto, unfolding(crate::specs::Decoding::one_at))]
-fn read_one(bytes: &[u8]) -> Result<(u32, &[u8]), ReadError>
-    ensures { Gives (λ x. (x.0, x.1.now)) result (one_at bytes.now) }
+fn read_each_change(
+    alloc: Global,
+    count: u32,
+    bytes: &[u8],
+) -> Result<(Vec<Change>, &[u8]), ReadError>
+    ensures { Gives (λ x. (map change_of x.0.items, x.1.now)) result
+        (items_at change_at count bytes.now) }
+{
+    let mut changes = Vec::new(alloc);
+    let mut rest = bytes;
+    for _ in 0..count {
+        let (change, after) = read_change(alloc, rest)?;
+        changes.push(change)?;
+        rest = after;
+    }
+    Ok((changes, rest))
+}
+
+fn read_changes(alloc: Global, bytes: &[u8]) -> Result<(Vec<Change>, &[u8]), ReadError>
+    ensures { Gives (λ x. (map change_of x.0.items, x.1.now)) result
+        (list_at (number_at w32) change_at bytes.now) }
 {
     let (count, rest) = read_u32(bytes)?;
-    if count != 1 {
-        return Err(ReadError::Malformed);
-    }
-    Ok((count, rest))
+    let (changes, rest) = read_each_change(alloc, count, rest)?;
+    Ok((changes, rest))
 }
 
 #[tactic(auto, unfolding(crate::specs::Decoding::commit_at))]
@@ -180,9 +234,8 @@ fn read_commit(alloc: Global, bytes: &[u8]) -> Result<(Commit, &[u8]), ReadError
     ensures { Gives (λ x. (commit_of x.0, x.1.now)) result (commit_at bytes.now) }
 {
     let (stamp, rest) = read_u64(bytes)?;
-    let (_, rest) = read_one(rest)?;
-    let (change, rest) = read_change(alloc, rest)?;
-    Ok((Commit { stamp, change }, rest))
+    let (changes, rest) = read_changes(alloc, rest)?;
+    Ok((Commit { stamp, changes }, rest))
 }
 
 #[tactic(auto, unfolding(crate::specs::Decoding::commit_of_all))]
@@ -219,11 +272,12 @@ impl Commit {
     }
 }
 
-/// No two commits have one payload, no bytes are a file of two lists of records, and none stand for
-/// two states.
+/// No two commits have one payload, no bytes are a file of two lists of records, none keep two
+/// things, and none stand for two states.
 pub fn spelling_fixes_commits()
     ensures payload { PayloadFixesCommit }
     ensures records { FileFixesPayloads }
+    ensures stored { FileFixesStored }
     ensures state { FileFixesState }
 {}
 

@@ -1,10 +1,11 @@
 ghost use Rattle.std.specs.Prelude.{◌≡◌, ◌<◌, ◌^◌, ◌∷◌, [], ◌++◌, map, length, OnOk};
 ghost use Rattle.std.specs.List.{flat_map, AllByRecursion};
 ghost use Rattle.std.specs.Int.{w32, w64, to_be_bytes};
-ghost use Rattle.wh_machine.specs.Spelling.{type_byte, column_bytes, table_bytes, version_bytes, change_bytes, list_bytes, partition_bytes, payload_of, IsColumn, IsTableChange, IsVersionChange, IsChange, IsCommit};
+ghost use Rattle.wh_frame.specs.Spelling.{list_bytes, partition_bytes};
+ghost use Rattle.wh_machine.specs.Spelling.{type_byte, column_bytes, table_bytes, version_bytes, change_bytes, payload_of, IsColumn, IsTableChange, IsVersionChange, IsChange, IsCommit};
 ghost use Rattle.wh_part.specs.Shape.{IsShaped};
 ghost use Rattle.wh_value.specs.View.{type_of, column_of};
-ghost use Rattle.wh_record.specs.View.{table_change_of, version_change_of, change_of, commit_of, HasRows, ChangeHasValues, HasValues};
+ghost use Rattle.wh_record.specs.View.{table_change_of, version_change_of, change_of, commit_of, IsWritableVersion, IsWritableChange, IsWritable, IsSpelledIfWritable};
 
 use crate::commit::{TABLE_TAG, VERSION_TAG};
 use crate::{Change, Commit, TableChange, VersionChange};
@@ -94,11 +95,28 @@ fn write_each_partition(out: &mut Bytes, added: &[Partition]) -> Result<(), Allo
     Ok(())
 }
 
-/// The fields before the partitions, of which none is removed.
+fn write_removed(out: &mut Bytes, removed: &[u64]) -> Result<(), AllocError>
+    ensures written { OnOk result (out.new ≡ out.old ++ list_bytes (to_be_bytes w64) removed.now) }
+    ensures fits { OnOk result (length removed.now < 2 ^ 32) }
+{
+    write_count(out, removed.len())?;
+    write_each_number(out, removed)
+}
+
+fn write_each_number(out: &mut Bytes, numbers: &[u64]) -> Result<(), AllocError>
+    ensures { OnOk result (out.new ≡ out.old ++ flat_map (to_be_bytes w64) numbers.now) }
+{
+    for number in numbers {
+        write_u64(out, *number)?;
+    }
+    Ok(())
+}
+
+/// The fields before the lists of partitions.
 fn write_version_head(out: &mut Bytes, version: &VersionChange) -> Result<(), AllocError>
     ensures written { OnOk result (out.new ≡ out.old ++ (to_be_bytes w32 version.now.id
         ++ to_be_bytes w64 version.now.data_timestamp ++ to_be_bytes w64 version.now.next_row
-        ++ to_be_bytes w32 version.now.width ++ to_be_bytes w32 0)) }
+        ++ to_be_bytes w32 version.now.width)) }
     ensures fits { OnOk result ((version.now.id < 2 ^ 32) × (version.now.data_timestamp < 2 ^ 64)
         × (version.now.next_row < 2 ^ 64) × (version.now.width < 2 ^ 32)) }
 {
@@ -106,17 +124,17 @@ fn write_version_head(out: &mut Bytes, version: &VersionChange) -> Result<(), Al
     write_u64(out, version.data_timestamp)?;
     write_u64(out, version.next_row)?;
     write_u32(out, version.width)?;
-    write_u32(out, 0)?;
     Ok(())
 }
 
 #[tactic(auto, unfolding(wh_machine::specs::Spelling::version_bytes))]
 fn write_version(out: &mut Bytes, version: &VersionChange) -> Result<(), AllocError>
     ensures written { OnOk result (out.new ≡ out.old ++ version_bytes (version_change_of version.now)) }
-    ensures spelled { OnOk result (AllByRecursion (HasRows version.now.width) version.now.added.items
+    ensures spelled { OnOk result (IsWritableVersion (version_change_of version.now)
         → IsVersionChange (version_change_of version.now)) }
 {
     write_version_head(out, version)?;
+    write_removed(out, &version.removed)?;
     write_added(out, &version.added)?;
     Ok(())
 }
@@ -124,7 +142,7 @@ fn write_version(out: &mut Bytes, version: &VersionChange) -> Result<(), AllocEr
 #[tactic(auto, unfolding(wh_machine::specs::Spelling::change_bytes))]
 fn write_change(out: &mut Bytes, change: &Change) -> Result<(), AllocError>
     ensures written { OnOk result (out.new ≡ out.old ++ change_bytes (change_of change.now)) }
-    ensures spelled { OnOk result (ChangeHasValues (change_of change.now) → IsChange (change_of change.now)) }
+    ensures spelled { OnOk result (IsSpelledIfWritable (change_of change.now)) }
 {
     match change {
         Change::CreatesTable(table) => {
@@ -138,25 +156,45 @@ fn write_change(out: &mut Bytes, change: &Change) -> Result<(), AllocError>
     }
 }
 
+fn write_changes(out: &mut Bytes, changes: &[Change]) -> Result<(), AllocError>
+    ensures written { OnOk result (out.new ≡ out.old ++ list_bytes change_bytes (map change_of changes.now)) }
+    ensures fits { OnOk result (length changes.now < 2 ^ 32) }
+    ensures spelled { OnOk result (AllByRecursion IsSpelledIfWritable (map change_of changes.now)) }
+{
+    write_count(out, changes.len())?;
+    write_each_change(out, changes)?;
+    Ok(())
+}
+
+fn write_each_change(out: &mut Bytes, changes: &[Change]) -> Result<(), AllocError>
+    ensures written { OnOk result (out.new ≡ out.old ++ flat_map change_bytes (map change_of changes.now)) }
+    ensures spelled { OnOk result (AllByRecursion IsSpelledIfWritable (map change_of changes.now)) }
+{
+    for change in changes {
+        write_change(out, change)?;
+    }
+    Ok(())
+}
+
+#[tactic(auto, unfolding(wh_machine::specs::Spelling::payload_of))]
 fn write_commit(out: &mut Bytes, commit: &Commit) -> Result<(), AllocError>
     ensures written { OnOk result (out.new ≡ out.old ++ payload_of (commit_of commit.now)) }
-    ensures spelled { OnOk result (HasValues (commit_of commit.now) → IsCommit (commit_of commit.now)) }
+    ensures spelled { OnOk result (IsWritable (commit_of commit.now) → IsCommit (commit_of commit.now)) }
 {
     write_u64(out, commit.stamp)?;
-    write_u32(out, 1)?;
-    write_change(out, &commit.change)?;
+    write_changes(out, &commit.changes)?;
     Ok(())
 }
 
 impl Commit {
     ghost use Rattle.std.specs.Prelude.{◌≡◌, IfOk, OnOk};
     ghost use Rattle.wh_machine.specs.Spelling.{payload_of, IsCommit};
-    ghost use Rattle.wh_record.specs.View.{commit_of, HasValues};
+    ghost use Rattle.wh_record.specs.View.{commit_of, IsWritable};
 
     /// The record of the commit.
     pub fn encode(&self, alloc: Global) -> Result<Framed, AllocError>
         ensures payload { IfOk result (λ framed. framed ≡ payload_of (commit_of self.now)) }
-        ensures spelled { OnOk result (HasValues (commit_of self.now) → IsCommit (commit_of self.now)) }
+        ensures spelled { OnOk result (IsWritable (commit_of self.now) → IsCommit (commit_of self.now)) }
     {
         let mut payload = Bytes::new(alloc);
         write_commit(&mut payload, self)?;

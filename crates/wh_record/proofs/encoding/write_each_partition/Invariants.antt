@@ -1,7 +1,7 @@
 use Rattle.std.proofs.Common.{◌≡◌, ◌++◌, take}
 use Rattle.std.specs.List.{flat_map, AllByRecursion}
 use Rattle.wh_part.specs.Shape.{IsShaped}
-use Rattle.wh_machine.specs.Spelling.{partition_bytes}
+use Rattle.wh_frame.specs.Spelling.{partition_bytes}
 use Rattle.wh_record.proofs.encoding.write_each_partition.Given as goal
 
 -- the partitions so far are written, and have their shape

@@ -1,9 +1,8 @@
-use Rattle.std.proofs.Common.{◌≡◌, ap, sym, subst, length, List}
 use Rattle.wh_record.proofs.ShapeLemmas.{partitions_spelled}
 use Rattle.wh_record.proofs.encoding.write_version.Goals as goal
 
 pub returns-clause-spelled : goal.returns-clause-spelled
-returns-clause-spelled c = λ valued.
+returns-clause-spelled c = λ writable.
     let version = c.args.version.now in
     let fits = c.in_ok-write_version_head.ensures.fits in
     record {
@@ -11,6 +10,8 @@ returns-clause-spelled c = λ valued.
       data_timestamp = fits.1;
       next_row = fits.2;
       width = fits.3;
-      few = rw (← c.deref.ensures.value) c.in_ok-write_added.ensures.fits;
-      added = partitions_spelled version.width version.added.items (rw (← c.deref.ensures.value) c.in_ok-write_added.ensures.shaped) valued;
+      few_removed = rw (← c.deref.ensures.value) c.in_ok-write_removed.ensures.fits;
+      removed = writable.removed;
+      few = rw (← c.deref-2.ensures.value) c.in_ok-write_added.ensures.fits;
+      added = partitions_spelled version.width version.added.items (rw (← c.deref-2.ensures.value) c.in_ok-write_added.ensures.shaped) writable.added;
     }
