@@ -6,3 +6,7 @@ pub mod OutcomeLaws
 pub mod StepLaws
 pub mod SoundLaws
 pub mod ReplyLaws
+pub mod KnownFacts
+pub mod KnownTests
+pub mod KnownCommits
+pub mod KnownStops
