@@ -22,7 +22,7 @@ pub trait Disk {
     /// How often it has failed.
     ghost faults: { Self → ℕ };
 
-    /// How often it was read.
+    /// How often it was read: one more at each call of `read`, up to the end of the count's type.
     ghost reads: { Self → ℕ };
 
     /// How many bytes the file has.
@@ -48,6 +48,7 @@ pub trait Disk {
         ensures content { OnOk result ((b : List ℕ) → bytes self.old ≡ Some b → buf.new ≡ part_at at (length buf.new) b) }
         ensures same { (bytes self.new ≡ bytes self.old) × (size self.new ≡ size self.old) }
         ensures reads { (reads self.old ≤ reads self.new) × (reads self.new ≤ reads self.old + 1) }
+        ensures counted { Rose (reads self.old) (reads self.new) }
         ensures crash { NoOthers (may_leave self.old) (may_leave self.new) }
         ensures time { Elapses (moment self.old) (moment self.new) (left_since self.old) (left_since self.new) (may_leave self.new) }
         ensures later { faults self.old ≤ faults self.new }

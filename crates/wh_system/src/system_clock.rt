@@ -1,0 +1,95 @@
+ghost use Rattle.std.specs.Prelude.{◌<◌, ◌^◌, None, IfSome};
+ghost use Rattle.wh_system.specs.Untold.{untold};
+
+use std::time;
+use std::time::SystemTime;
+use wh_world::Clock;
+
+// No reading is as great.
+const LIMIT: u128 = 1 << 62;
+
+/// The system's clock, in milliseconds since 1970. Where it can't be read or is out of range it gives its last
+/// reading again, 0 at first. Its readings aren't told.
+#[derive(Drop)]
+pub struct SystemClock<'a, T: time::Clock> {
+    system: &'a T,
+    last: u64,
+    ghost below: { last < 2 ^ 62 },
+}
+
+impl<'a, T: time::Clock> SystemClock<'a, T> {
+    pub fn new(system: &'a T) -> SystemClock<'a, T> {
+        SystemClock { system, last: 0 }
+    }
+}
+
+impl<'a, T: time::Clock> Clock for SystemClock<'a, T> {
+    ghost readings = { λ _. None };
+
+    ghost some = { λ clock rs told. untold rs told };
+
+    fn now(&mut self) -> u64 {
+        if let Some(reading) = read(self.system) {
+            self.last = reading;
+        }
+        self.last
+    }
+}
+
+// The milliseconds since 1970, where they are in range.
+fn read<T: time::Clock>(system: &T) -> Option<u64>
+    ensures { IfSome result (λ reading. reading < 2 ^ 62) }
+{
+    let since = SystemTime::now(system)
+        .ok()?
+        .duration_since(SystemTime::UNIX_EPOCH)
+        .ok()?;
+    let reading = since.as_millis();
+    if reading < LIMIT {
+        Some(reading as u64)
+    } else {
+        None
+    }
+}
+
+#[cfg(test)]
+mod tests {
+    use super::*;
+    use std::cell::Cell;
+    use std::io;
+    use std::time::Duration;
+
+    // A system whose clock shows these seconds, or can't be read.
+    #[derive(Drop)]
+    struct System(Cell<Option<u64>>);
+
+    impl time::Clock for System {
+        fn monotonic(&self) -> io::Result<Duration> {
+            Err(io::Error::from(io::ErrorKind::Unsupported))
+        }
+
+        fn since_1970(&self) -> io::Result<Duration> {
+            match self.0.get() {
+                Some(seconds) => Ok(Duration::from_secs(seconds)),
+                None => Err(io::Error::from(io::ErrorKind::Unsupported)),
+            }
+        }
+    }
+
+    #[test]
+    fn the_last_reading_stands_in(rt: HostRuntime) {
+        let system = System(Cell::new(None));
+        let mut clock = SystemClock::new(&system);
+        let cases = [
+            ("not read at first", None, 0),
+            ("two seconds", Some(2), 2000),
+            ("not read", None, 2000),
+            ("out of range", Some(1 << 60), 2000),
+            ("earlier", Some(1), 1000),
+        ];
+        for (name, seconds, want) in cases {
+            system.0.set(seconds);
+            assert_eq!(rt; clock.now(), want, "{name}");
+        }
+    }
+}
