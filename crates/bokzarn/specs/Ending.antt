@@ -2,14 +2,15 @@
 use Rattle.std.specs.Prelude.{ℕ, List, [], ◌∷◌, ◌++◌, codes, decimal}
 use Rattle.wh_shell.specs.Code.{code_of}
 use Rattle.wh_shell.specs.declared.status.Status.{Status}
-use Rattle.wh_shell.specs.declared.status.Status.TheVariants.{Usage, DiskFault}
+use Rattle.wh_shell.specs.declared.status.Status.TheVariants.{Usage, Stopped}
+use Rattle.wh_shell.specs.declared.fault.Fault.TheVariants.{Disk}
 use Rattle.bokzarn.specs.declared.ending.Ending.{Ending}
 use Rattle.bokzarn.specs.declared.ending.Ending.TheVariants.{With, Unopened, Locked}
 
 abbrev pub status_of : Ending → Status
 status_of (With status) = status
-status_of Unopened = DiskFault
-status_of Locked = DiskFault
+status_of Unopened = Stopped Disk
+status_of Locked = Stopped Disk
 
 -- the line that says why, where the status doesn't
 abbrev pub note_of : Ending → List ℕ

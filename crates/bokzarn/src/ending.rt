@@ -7,7 +7,7 @@ ghost use Rattle.bokzarn.specs.Ending.{status_of, note_of, report_of};
 use std::io;
 use std::io::Write;
 use std::process::ExitCode;
-use wh_shell::Status;
+use wh_shell::{Fault, Status};
 
 /// How the program ends.
 #[derive(Clone, Copy, Debug, PartialEq, Eq)]
@@ -27,7 +27,7 @@ impl Ending {
     {
         match self {
             Ending::With(status) => *status,
-            Ending::Unopened | Ending::Locked => Status::DiskFault,
+            Ending::Unopened | Ending::Locked => Status::Stopped(Fault::Disk),
         }
     }
 

@@ -4,11 +4,9 @@
 
 ghost use Rattle.std.specs.Prelude.{◌≡◌, ◌↔◌, ◌⊎◌, [], ◌∷◌, ℕ, List, Err, Some, String, IfOk, IfErr, IfSome, OnOk, OnErr, IsSome};
 ghost use Rattle.std.specs.Global.{Global};
-ghost use Rattle.wh_machine.specs.Table.{State};
+ghost use Rattle.wh_machine.specs.State.{State};
 ghost use Rattle.wh_machine.specs.Step.{Event};
-ghost use Rattle.wh_machine.specs.Script.{IsScript};
-ghost use Rattle.wh_machine.specs.File.{Stands};
-ghost use Rattle.wh_shell.specs.Run.{IsRun, IsRunOf};
+ghost use Rattle.wh_shell.specs.Run.{IsRun, IsStart, IsRunOf};
 ghost use Rattle.bokzarn.specs.Ending.{status_of};
 
 mod ending;
@@ -21,7 +19,7 @@ use std::io::{ErrorKind, Input};
 use std::process::ExitCode;
 use std::thread::Threads;
 use std::{env, io, time};
-use wh_shell::{Status, run};
+use wh_shell::{Fault, Status, run};
 use wh_system::{FileDisk, InSource, OpenError, OutSink, SystemClock};
 use wh_world::{Clock, Disk, Sink, Source};
 
@@ -43,18 +41,18 @@ where
 // The words behind the program's name.
 fn words<R: Env + AllocGlobal>(rt: &R) -> Result<Vec<String>, Status>
     ensures causes { IfErr result (λ status.
-        (status ≡ Status.OutOfMemory) ⊎ (status ≡ Status.Usage)) }
+        (status ≡ Status.Stopped Fault.OutOfMemory) ⊎ (status ≡ Status.Usage)) }
 {
     let arguments = match env::args(rt) {
         Ok(arguments) => arguments,
-        Err(error) if error.kind() == ErrorKind::OutOfMemory => return Err(Status::OutOfMemory),
+        Err(error) if error.kind() == ErrorKind::OutOfMemory => return Err(Status::Stopped(Fault::OutOfMemory)),
         // A word is no text.
         Err(_) => return Err(Status::Usage),
     };
     arguments
         .skip(1)
         .collect::<Vec<String>>(rt.alloc())
-        .map_err(|_| Status::OutOfMemory)
+        .map_err(|_| Status::Stopped(Fault::OutOfMemory))
 }
 
 // The file of the first word is opened, or created, before the words behind it are read.
@@ -94,14 +92,13 @@ fn run_over<S: Source, K: Sink, D: Disk, C: Clock>(
     out: &mut K,
     clock: &mut C,
 ) -> (Ending, Option<D>)
-    ensures unopened { OnErr opened (status_of result.0 ≡ Status.DiskFault) }
+    ensures unopened { OnErr opened (status_of result.0 ≡ Status.Stopped Fault.Disk) }
     ensures locked { opened ≡ Err OpenError.Locked → result.0 ≡ Ending.Locked }
     // Else the status is that of the run.
     ensures usage { OnOk opened ((status_of result.0 ≡ Status.Usage) ↔ (IsRun words.now → ⊥)) }
     ensures runs { IfOk opened (λ before. IfSome result.1 (λ after.
         (file input held : List ℕ) (start : State) (es : List Event) →
-        D.bytes before ≡ Some file → S.left script.old ≡ Some input → K.held out.old ≡ Some held →
-        Stands file start → IsScript input es →
+        IsStart (D.bytes before) (S.left script.old) (K.held out.old) file input held start es →
         IsRunOf start es held (status_of result.0) (K.held out.new) (D.bytes after)
         (S.left script.new))) }
     ensures handed_back { OnOk opened (IsSome result.1) }
