@@ -1,3 +1,4 @@
 pub mod Last
 pub mod Parted
 pub mod Pushed
+pub mod Popped

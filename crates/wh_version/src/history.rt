@@ -2,6 +2,7 @@ ghost use Rattle.std.specs.Prelude.{◌∷◌, length, IsTrue};
 ghost use Rattle.std.specs.List.{list_all};
 ghost use Rattle.wh_version.specs.Kept.{numbered_from, count_to, is_gone_by, partitions_in};
 
+use crate::mark::last_mark;
 use crate::{Kept, VersionMark};
 use std::alloc::Global;
 
@@ -48,11 +49,7 @@ impl History {
     pub fn last_timestamp(&self) -> u64
         ensures { option_map (λ v. v.data_timestamp) (last_of (versions_of self.now)) ≡ Some result }
     {
-        let later = self.later.len();
-        if later == 0 {
-            return self.first.data_timestamp;
-        }
-        self.later[later - 1].data_timestamp
+        last_mark(self.first, &self.later).data_timestamp
     }
 
     /// The number that the next partition has.

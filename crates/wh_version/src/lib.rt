@@ -4,6 +4,7 @@
 mod history;
 mod kept;
 mod mark;
+mod popping;
 mod pushing;
 
 pub use history::History;
