@@ -2,3 +2,4 @@ pub mod Last
 pub mod Parted
 pub mod Pushed
 pub mod Popped
+pub mod Found
