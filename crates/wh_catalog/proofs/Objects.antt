@@ -1,5 +1,5 @@
 -- Objects of the code and what the file says of them.
-use Rattle.std.proofs.Common.{◌≡◌, ℕ, List, map, Some, None, option_map, ap, ◌∙◌}
+use Rattle.std.proofs.Common.{◌≡◌, ℕ, List, [], ◌∷◌, ◌++◌, refl, map, Some, None, option_map, ap, ◌∙◌}
 use Rattle.wh_machine.specs.State.{at_id}
 use Rattle.wh_catalog.specs.declared.object.StoredObject.{StoredObject}
 use Rattle.wh_catalog.specs.declared.table.StoredTable.{StoredTable}
@@ -19,3 +19,7 @@ table_there objects id o t is kind =
 
 pub no_table : (objects : List StoredObject) (id : ℕ) → at_id objects id ≡ None → stored_table_at (map object_in (map kept_object objects)) id ≡ None
 no_table objects id is = ap table_in_object (at_objects objects id ∙ ap (λ f. option_map object_in (option_map kept_object f)) is)
+
+pub map_more : {X Y : Type 0} (f : X → Y) (xs : List X) (x : X) → map f (xs ++ x ∷ []) ≡ map f xs ++ f x ∷ []
+map_more f [] x = refl
+map_more f (y ∷ xs) x = ap (λ l. f y ∷ l) (map_more f xs x)

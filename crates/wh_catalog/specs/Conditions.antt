@@ -51,8 +51,15 @@ abbrev pub rises_above : ℕ → List Partition → Bool
 rises_above bound [] = true
 rises_above bound (p ∷ ps) = nat_lt bound (first_number p.rows) && rises_above (max bound (last_number p.rows)) ps
 
-abbrev pub version_applies : StoredTable → VersionChange → Bool
-version_applies t c =
+abbrev pub is_formed : StoredTable → VersionChange → Bool
+is_formed t c =
     does_not_fall (last_of t.versions) c.data_timestamp && ((c.width == length t.columns) && (nat_le c.next_row (bound limits.RowNumber)
-    && (nat_le (t.next_partition + length c.added) (bound limits.PartitionNumber) && (list_all (is_standing_number (standing t)) c.removed
-    && (numbered_from t.next_partition c.added && (list_all (partition_fits t.columns c.next_row) c.added && all_apart (without c.removed (standing t)) c.added))))))
+    && nat_le (t.next_partition + length c.added) (bound limits.PartitionNumber)))
+
+abbrev pub partitions_apply : StoredTable → VersionChange → Bool
+partitions_apply t c =
+    list_all (is_standing_number (standing t)) c.removed && (numbered_from t.next_partition c.added
+    && (list_all (partition_fits t.columns c.next_row) c.added && all_apart (without c.removed (standing t)) c.added))
+
+abbrev pub version_applies : StoredTable → VersionChange → Bool
+version_applies t c = is_formed t c && partitions_apply t c

@@ -5,21 +5,33 @@ use wh_value::{Column, Limit, row_fits};
 use wh_version::History;
 
 impl StoredTable {
-    ghost use Rattle.std.specs.Prelude.{◌≡◌};
+    ghost use Rattle.std.specs.Prelude.{◌≡◌, IsTrue};
     ghost use Rattle.wh_record.specs.View.{version_change_of};
-    ghost use Rattle.wh_catalog.specs.Conditions.{version_applies};
+    ghost use Rattle.wh_catalog.specs.Conditions.{is_formed, partitions_apply, version_applies};
     ghost use Rattle.wh_catalog.specs.Table.{table_of};
 
     /// Whether a new version applies to the table.
     pub(crate) fn takes(&self, change: &VersionChange) -> bool
         ensures { result ≡ version_applies (table_of self.now) (version_change_of change.now) }
     {
-        let next = self.history.next_partition();
+        self.takes_form(change) && self.takes_partitions(change)
+    }
+
+    fn takes_form(&self, change: &VersionChange) -> bool
+        ensures { result ≡ is_formed (table_of self.now) (version_change_of change.now) }
+    {
         self.history.last_timestamp() <= change.data_timestamp
             && change.width as usize == self.columns.len()
             && change.next_row <= Limit::RowNumber.bound()
-            && are_few(next, change.added.len())
-            && all_stand(&self.history, &change.removed)
+            && are_few(self.history.next_partition(), change.added.len())
+    }
+
+    fn takes_partitions(&self, change: &VersionChange) -> bool
+        requires { IsTrue (is_formed (table_of self.now) (version_change_of change.now)) }
+        ensures { result ≡ partitions_apply (table_of self.now) (version_change_of change.now) }
+    {
+        let next = self.history.next_partition();
+        all_stand(&self.history, &change.removed)
             && are_numbered(next, &change.added)
             && all_fit(&self.columns, change.next_row, &change.added)
             && are_apart(self.highest, &self.history, &change.removed, &change.added)

@@ -41,12 +41,9 @@ impl StoredTable {
         ensures same { OnErr result (kept_table self.new ≡ kept_table self.old) }
     {
         let highest = highest_of(self.highest, &change.added);
-        self.history.push(
-            stamp,
-            change.data_timestamp,
-            &change.removed,
-            change.added,
-        )?;
+        let added = change.added;
+        self.history
+            .push(stamp, change.data_timestamp, &change.removed, added)?;
         self.highest = highest;
         self.next_row = change.next_row;
         Ok(())
