@@ -5,7 +5,8 @@ use Rattle.std.specs.List.{list_all}
 use Rattle.std.proofs.lemmas.Bool.{and_parts, and_from}
 use Rattle.wh_frame.specs.Partition.{Partition}
 use Rattle.wh_machine.specs.State.{last_of, content_in}
-use Rattle.wh_machine.specs.Stored.{StoredVersion}
+use Rattle.wh_machine.specs.Stored.{StoredVersion, version_meant, rows_of}
+use Rattle.std.specs.FinMap.{empty}
 use Rattle.wh_version.specs.Lists.{shortened, but_last}
 use Rattle.wh_version.specs.History.{standing_in, next_in}
 use Rattle.wh_catalog.specs.Apart.{all_apart, is_apart}
@@ -49,3 +50,10 @@ take_apart (suc n) (v ∷ vs) apart = let parts = and_parts (is_apart v) (list_a
 pub shortened_apart : (vs : List StoredVersion) → IsTrue (list_all is_apart vs) → IsTrue (list_all is_apart (shortened vs))
 shortened_apart [] apart = refl
 shortened_apart (v ∷ vs) apart = let parts = and_parts (is_apart v) (list_all is_apart vs) apart in and_from _ _ parts.0 (take_apart _ vs parts.1)
+
+-- ---- what the last version means
+
+pub last_meant : (vs : List StoredVersion) → content_in empty (last_of (map version_meant vs)) ≡ rows_of (standing_in vs)
+last_meant [] = refl
+last_meant (v ∷ []) = refl
+last_meant (v ∷ w ∷ vs) = last_meant (w ∷ vs)

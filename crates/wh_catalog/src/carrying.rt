@@ -105,8 +105,10 @@ fn push_version(
         return Err(StageFault::NotApplicable);
     }
     let object = &mut objects[place - 1];
-    let next_row = object.push(change, stamp)?;
-    Ok(Step::PushedVersion(Pushed { id, next_row }))
+    match object.push(change, stamp) {
+        Ok(next_row) => Ok(Step::PushedVersion(Pushed { id, next_row })),
+        Err(fault) => Err(fault),
+    }
 }
 
 fn take_version_back(objects: &mut Vec<StoredObject>, pushed: Pushed)

@@ -77,8 +77,10 @@ impl Catalog {
             if steps.reserve(1).is_err() {
                 return Err(StageFault::OutOfMemory);
             }
-            let step = self.carry_out(change, stamp)?;
-            steps.push_reserved(step);
+            match self.carry_out(change, stamp) {
+                Ok(step) => steps.push_reserved(step),
+                Err(fault) => return Err(fault),
+            }
         }
         Ok(())
     }

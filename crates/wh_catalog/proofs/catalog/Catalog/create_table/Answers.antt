@@ -17,4 +17,10 @@ returns-in-Ok-clause-applies c = (Decides-table_applies (objects_of c.args.self.
 
 pub returns-in-Ok-clause-changed : goal.returns-in-Ok-clause-changed
 unfolding changed kept_of
-returns-in-Ok-clause-changed c = ?
+returns-in-Ok-clause-changed c =
+    let before = c.args.self.now.objects.items in
+    let object = c.table_of_change-object.result in
+    ap (λ l. map object_in (map kept_object l)) (c.push_reserved.ensures.items ∙ ap (λ l. l ++ object ∷ []) c.reserve.ensures.items)
+    ∙ ap (map object_in) (map_more kept_object before object)
+    ∙ map_more object_in (map kept_object before) (kept_object object)
+    ∙ ap (λ o. map object_in (map kept_object before) ++ o ∷ []) c.table_of_change-object.ensures.table
