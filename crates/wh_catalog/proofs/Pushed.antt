@@ -1,9 +1,8 @@
 -- A version more, or less, of a table.
-use Rattle.std.proofs.Common.{◌≡◌, ℕ, zero, suc, ◌+◌, ◌≤◌, Bool, true, List, [], ◌∷◌, ◌++◌, length, map, take, Option, Some, None, IsTrue, refl, sym, ap, ◌∙◌, arith, length-append}
+use Rattle.std.proofs.Common.{◌≡◌, ℕ, zero, suc, true, List, [], ◌∷◌, ◌++◌, length, map, take, Some, IsTrue, refl, ap, ◌∙◌, arith, length-append}
 use Rattle.std.proofs.lemmas.List.{take-append-le, take_all}
 use Rattle.std.specs.List.{list_all}
 use Rattle.std.proofs.lemmas.Bool.{and_parts, and_from}
-use Rattle.wh_frame.specs.Partition.{Partition}
 use Rattle.wh_machine.specs.State.{last_of, content_in}
 use Rattle.wh_machine.specs.Stored.{StoredVersion, version_meant, rows_of}
 use Rattle.std.specs.FinMap.{empty}

@@ -2,7 +2,7 @@
 --     table_applies        whether a new table applies
 --     version_applies      whether a new version applies to its table
 --     rises_above          whether the row numbers of each partition lie above a bound and above those before it
-use Rattle.std.specs.Prelude.{ℕ, ◌+◌, max, Bool, true, false, not, ◌&&◌, ◌==◌, List, [], ◌∷◌, length, is_some, nat_lt, nat_le, nat_eq, Option, Some, None}
+use Rattle.std.specs.Prelude.{ℕ, ◌+◌, max, Bool, true, not, ◌&&◌, ◌==◌, List, [], ◌∷◌, length, is_some, nat_lt, nat_le, nat_eq, Option, Some, None}
 use Rattle.std.specs.List.{list_all, list_any}
 use Rattle.wh_value.specs.Value.{Row}
 use Rattle.wh_value.specs.Column.{Column}

@@ -41,7 +41,7 @@ fn is_apart_from_kept(partition: &Partition, kept: &[Kept], removed: &[u64]) -> 
 fn is_gone_or_apart(partition: &Partition, one: &Kept, removed: &[u64]) -> bool
     ensures { result ≡ (not (is_standing one.now)
         || (is_among one.now.partition.number removed.now
-            || are_apart partition.now one.now.partition)) }
+        || are_apart partition.now one.now.partition)) }
 {
     !one.stands()
         || is_among(one.partition().number(), removed)

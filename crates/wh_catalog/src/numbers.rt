@@ -23,7 +23,7 @@ pub(crate) fn highest_standing(history: &History) -> u64
     ensures { highest_number (standing_in (versions_of history.now)) ≤ result }
 {
     let kept = history.kept();
-    let mut so_far = 0;
+    let mut so_far: u64 = 0;
     for one in kept {
         so_far = so_far.max(highest_in(one));
     }

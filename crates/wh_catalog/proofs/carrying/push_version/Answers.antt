@@ -1,5 +1,5 @@
-use Rattle.std.proofs.Common.{◌≡◌, ℕ, Err, ◌<◌, ◌-◌, ◌∙◌, ap, sym, subst, map, length, Option, Some, option_map, arith}
-use Rattle.std.specs.Prelude.{IsErrOf}
+use Rattle.std.proofs.Common.{◌≡◌, ℕ, Err, ◌<◌, ◌-◌, ◌∙◌, ap, sym, subst, Option, Some, option_map, arith}
+use Rattle.std.specs.Prelude.{IsErrOf, Result}
 use Rattle.wh_catalog.specs.declared.stage.StageFault.{StageFault}
 use Rattle.wh_catalog.specs.declared.stage.StageFault.TheVariants.{NotApplicable}
 use Rattle.wh_catalog.specs.declared.undo.Step.{Step}
@@ -15,7 +15,7 @@ use Rattle.wh_catalog.proofs.Objects.{changed_twice, changed_back, at_objects}
 use Rattle.wh_catalog.proofs.carrying.push_version.Goals as goal
 
 same_fault : (fault : StageFault) → IsErrOf {T = Step} (Err fault) NotApplicable → IsErrOf {T = ℕ} (Err fault) NotApplicable
-same_fault fault why = why
+same_fault fault why = let e : fault ≡ NotApplicable = cc in ap {B = Result ℕ StageFault} Err e
 
 pub returns-in-Ok-clause-applies : goal.returns-in-Ok-clause-applies
 returns-in-Ok-clause-applies c =

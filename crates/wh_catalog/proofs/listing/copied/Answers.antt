@@ -1,4 +1,4 @@
-use Rattle.std.proofs.Common.{◌≡◌, ◌+◌, ◌++◌, ◌∷◌, [], ◌∙◌, ap, sym, subst, take, filter, List, arith}
+use Rattle.std.proofs.Common.{◌++◌, ◌∷◌, [], ◌∙◌, ap, sym, subst, take, filter, List}
 use Rattle.std.proofs.lemmas.List.{take_all}
 use Rattle.std.specs.List.{AllByRecursion}
 use Rattle.wh_frame.specs.Partition.{Partition}
@@ -19,9 +19,9 @@ loop-one-preserved c =
     let more = standing_more kept i k c.loop-one-test.true c.one-item.is in
     let P : List Partition → Type 0 = λ ps. AllByRecursion (λ p. RisesFrom 0 p.rows) ps in (
       c.in_ok-add_standing.ensures.added
-      ∙ ap (λ rows. rows ++ rows_only (all_rows one)) c.loop-one.invariant.0
-      ∙ sym (rows_of_more front one)
-      ∙ ap (λ ps. rows_only (all_rows ps)) (sym more),
+          ∙ ap (λ rows. rows ++ rows_only (all_rows one)) c.loop-one.invariant.0
+          ∙ sym (rows_of_more front one)
+          ∙ ap (λ ps. rows_only (all_rows ps)) (sym more),
       subst P (sym more) (each_more (λ p. RisesFrom 0 p.rows) front one c.loop-one.invariant.1 c.in_ok-add_standing.ensures.rising),
     )
 

@@ -1,4 +1,4 @@
-use Rattle.std.proofs.Common.{◌≡◌, ◌≤◌, ◌∙◌, ◌∷◌, [], ap, sym, take, filter, arith}
+use Rattle.std.proofs.Common.{◌≡◌, ◌≤◌, ◌∙◌, ◌∷◌, [], ap, take, filter, arith}
 use Rattle.std.proofs.lemmas.List.{take_all}
 use Rattle.wh_version.specs.Kept.{is_standing, partitions_in}
 use Rattle.wh_catalog.specs.Apart.{highest_number}
@@ -13,7 +13,7 @@ loop-one-preserved c =
     let k = c.one-item.result in
     let more = ap highest_number (standing_more kept i k c.loop-one-test.true c.one-item.is) ∙ highest_number-append (partitions_in (filter is_standing (take i kept))) _ in
     let before : highest_number (partitions_in (filter is_standing (take i kept))) ≤ c.loop-one.so_far = c.loop-one.invariant in
-    let here : c.highest_in.result ≡ highest_number (partitions_in (filter is_standing (k ∷ []))) = c.highest_in.ensures ∙ ap (λ x. highest_number (partitions_in (filter is_standing (x ∷ [])))) (sym c.one-item.is) in
+    let here : c.highest_in.result ≡ highest_number (partitions_in (filter is_standing (k ∷ []))) = c.highest_in.ensures in
     omega (arith, more, before, here, c.max-so_far.ensures)
 
 pub returns : goal.returns

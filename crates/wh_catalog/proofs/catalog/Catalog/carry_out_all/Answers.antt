@@ -27,9 +27,9 @@ loop-change-preserved c =
       applied = λ all. let here : P (change ∷ rest) = subst P steps (at.invariant.applied all) in subst Q (sym after) here.1;
       changed = ap (λ os. all_changed stamp os (map change_of rest)) after ∙ ap (λ cs. all_changed stamp (objects_of at.self) (map change_of cs)) (sym steps) ∙ at.invariant.changed;
       back = ap (λ ss. undone ss (kept_of c.carry_out.new.self)) (c.push_reserved.ensures.items ∙ ap (λ ss. ss ++ c.in-Ok.step ∷ []) c.reserve.ensures.items)
-        ∙ undone_more at.steps.items c.in-Ok.step (kept_of c.carry_out.new.self)
-        ∙ ap (undone at.steps.items) c.in-Ok.ensures.back
-        ∙ at.invariant.back;
+          ∙ undone_more at.steps.items c.in-Ok.step (kept_of c.carry_out.new.self)
+          ∙ ap (undone at.steps.items) c.in-Ok.ensures.back
+          ∙ at.invariant.back;
       count = omega arith;
       last = c.carry_out.ensures.last ∙ at.invariant.last;
       committed = c.carry_out.ensures.committed ∙ at.invariant.committed;

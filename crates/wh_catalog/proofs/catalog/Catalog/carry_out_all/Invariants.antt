@@ -14,5 +14,5 @@ invariant-loop-change l = record {
   back : undone l.steps.items (kept_of l.self) ≡ kept_of l.initial.self;
   count : into_iter_len l.change-iterator ≡ length (into_iter_items l.change-iterator);
   last : l.self.last ≡ l.initial.self.last;
-  committed : l.self.committed ≡ l.initial.self.committed
+  committed : l.self.committed ≡ l.initial.self.committed;
 }

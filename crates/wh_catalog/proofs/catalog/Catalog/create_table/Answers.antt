@@ -1,4 +1,4 @@
-use Rattle.std.proofs.Common.{◌≡◌, ◌∙◌, ap, sym, map, ◌++◌, ◌∷◌, []}
+use Rattle.std.proofs.Common.{◌∙◌, ap, sym, map, ◌++◌, ◌∷◌, []}
 use Rattle.wh_machine.specs.Commit.{changed}
 use Rattle.wh_record.specs.View.{table_change_of}
 use Rattle.wh_catalog.specs.Kept.{object_in}

@@ -1,4 +1,4 @@
-use Rattle.std.proofs.Common.{◌≡◌, ◌∙◌, sym, ap, subst, List, []}
+use Rattle.std.proofs.Common.{◌∙◌, sym, ap, subst, List, []}
 use Rattle.std.specs.List.{AllByRecursion}
 use Rattle.std.specs.FinMap.{values}
 use Rattle.wh_value.specs.Value.{in_order}

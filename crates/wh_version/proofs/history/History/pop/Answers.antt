@@ -61,7 +61,7 @@ returns-clause-versions c =
 
 pub returns-clause-nexts : goal.returns-clause-nexts
 unfolding nexts_of
-returns-clause-nexts c = 
+returns-clause-nexts c =
     let h = c.args.self.now in
     let sized = h.later.ok.0 in
     let count : c.len-place.result ≡ length h.later.items = omega (arith, c.len-place.ensures) in

@@ -17,8 +17,8 @@ returns-then-number-eq0 c =
     let sized_later = h.later.ok.0 in
     let standing = ap (list_any (λ p. nat_eq number p.number)) (standing_still h.kept.items h.first h.later.items (omega arith) h.marks h.gone) in
     let none : list_any (λ p. nat_eq number p.number) (partitions_in (filter is_standing h.kept.items)) ≡ false = elim c.then-number-eq0.branch [
-      then-number-eq0-via-then-number-eq0 w ↦ none_there number 1 h.kept.items h.numbers (inl (omega arith))
-    | then-number-eq0-via-else-number-eq0+then-len-number w ↦ none_there number 1 h.kept.items h.numbers (inr (omega (arith, w.len.ensures)))
+      | then-number-eq0-via-then-number-eq0 w ↦ none_there number 1 h.kept.items h.numbers (inl (omega arith))
+      | then-number-eq0-via-else-number-eq0+then-len-number w ↦ none_there number 1 h.kept.items h.numbers (inr (omega (arith, w.len.ensures)))
     ] in
     sym (standing ∙ none)
 
