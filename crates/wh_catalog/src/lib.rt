@@ -19,3 +19,6 @@ pub use object::{StoredKind, StoredObject};
 pub use stage::StageFault;
 pub use table::StoredTable;
 pub use undo::Undo;
+
+#[cfg(test)]
+mod tests;

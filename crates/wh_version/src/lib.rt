@@ -10,3 +10,6 @@ mod pushing;
 pub use history::History;
 pub use kept::Kept;
 pub use mark::VersionMark;
+
+#[cfg(test)]
+mod tests;
