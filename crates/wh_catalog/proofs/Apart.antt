@@ -1,12 +1,15 @@
 -- Tests of apartness, and what they say.
-use Rattle.std.proofs.Common.{◌≡◌, ℕ, ◌+◌, ◌<◌, ◌≤◌, inr, Bool, true, false, List, [], ◌∷◌, ◌++◌, IsTrue, refl, sym, ap, ◌∙◌, arith, map, length, take, drop, get_or, max}
+use Rattle.std.proofs.Common.{◌≡◌, ℕ, ◌+◌, ◌<◌, ◌≤◌, inr, cond, filter, Bool, true, false, List, [], ◌∷◌, ◌++◌, IsTrue, refl, sym, ap, ◌∙◌, arith, map, length, take, drop, get_or, max}
 use Rattle.std.proofs.lemmas.List.{take_more, drop_more}
 use Rattle.std.proofs.lemmas.Bool.{and_from, and_parts, ltb-true}
 use Rattle.std.specs.Bool.{Decides}
-use Rattle.std.specs.Prelude.{◌&&◌}
+use Rattle.std.specs.Prelude.{◌&&◌, ◌||◌, not}
 use Rattle.std.specs.List.{AllByRecursion, list_all}
 use Rattle.std.proofs.lemmas.Bool.Decides.{Decides-and, Decides-or, Decides-ltb}
-use Rattle.wh_machine.specs.Commit.{Partition, first_number, last_number, AreApart, AllApart}
+use Rattle.wh_frame.specs.Partition.{Partition, first_number, last_number}
+use Rattle.wh_machine.specs.Commit.{AreApart, AllApart, without, is_among}
+use Rattle.wh_version.specs.declared.kept.Kept.{Kept}
+use Rattle.wh_version.specs.Kept.{is_standing, partitions_in}
 use Rattle.wh_catalog.specs.Apart.{are_apart, all_apart, highest_number}
 use Rattle.wh_catalog.specs.Conditions.{rises_above}
 
@@ -93,3 +96,60 @@ rising_apart before (p ∷ ps) bound high rises =
     let parts = and_parts _ _ rises in
     let above : bound < first_number p.rows = ltb-true bound (first_number p.rows) parts.0 in
     and_from _ _ (all_below p before bound high above) (rising_apart (p ∷ before) ps (max bound (last_number p.rows)) (omega arith) parts.1)
+
+-- ---- some of the partitions
+
+-- those that pass a test are apart
+pub apart_filter : (test : Partition → Bool) (before other ps : List Partition) → ((P : Partition → Type 0) → AllByRecursion P before → AllByRecursion P other)
+    → AllApart before ps → AllApart other (filter test ps)
+apart_filter test before other [] same apart = tt
+apart_filter test before other (p ∷ ps) same apart =
+    pick (test p)
+    (λ _. (same (AreApart p) apart.0, apart_filter test (p ∷ before) (p ∷ other) ps (λ P each. (each.0, same P each.1)) apart.1))
+    (λ _. apart_filter test (p ∷ before) other ps (λ P each. same P each.1) apart.1)
+  where
+    pick : (b : Bool) → (Unit {0} → AllApart other (p ∷ filter test ps)) → (Unit {0} → AllApart other (filter test ps)) → AllApart other (cond b (p ∷ filter test ps) (filter test ps))
+    pick true here rest = here tt
+    pick false here rest = rest tt
+
+pub highest_number-append : (ps qs : List Partition) → highest_number (ps ++ qs) ≡ max (highest_number ps) (highest_number qs)
+highest_number-append [] qs = omega arith
+highest_number-append (p ∷ ps) qs = let rest = highest_number-append ps qs in omega arith
+
+pub highest_filter : (test : Partition → Bool) (ps : List Partition) → highest_number (filter test ps) ≤ highest_number ps
+highest_filter test [] = omega arith
+highest_filter test (p ∷ ps) = pick (test p) (highest_filter test ps)
+  where
+    pick : (b : Bool) → highest_number (filter test ps) ≤ highest_number ps → highest_number (cond b (p ∷ filter test ps) (filter test ps)) ≤ max (last_number p.rows) (highest_number ps)
+    pick true rest = omega arith
+    pick false rest = omega arith
+
+-- partitions without some, and others that are apart from what is left, are apart
+pub changed_apart : (removed : List ℕ) (ps added : List Partition) → IsTrue (all_apart [] ps) → AllApart (without removed ps) added
+    → IsTrue (all_apart [] (without removed ps ++ added))
+changed_apart removed ps added apart more =
+    still_apart (without removed ps) added
+    ((Decides-all_apart [] (without removed ps)).1 (apart_filter (λ p. not (is_among p.number removed)) [] [] ps (λ P each. each) ((Decides-all_apart [] ps).0 apart))) more
+
+-- ---- those that stand and stay
+
+list_all_stay : (test : Partition → Bool) (removed : List ℕ) (kept : List Kept)
+    → list_all test (without removed (partitions_in (filter is_standing kept))) ≡ list_all (λ k. not (is_standing k) || (is_among k.partition.number removed || test k.partition)) kept
+list_all_stay test removed [] = refl
+list_all_stay test removed (k ∷ kept) = pick (is_standing k) (list_all_stay test removed kept)
+  where
+    inner : (g : Bool) → list_all test (without removed (partitions_in (filter is_standing kept))) ≡ list_all (λ k. not (is_standing k) || (is_among k.partition.number removed || test k.partition)) kept
+        → list_all test (cond (not g) (k.partition ∷ without removed (partitions_in (filter is_standing kept))) (without removed (partitions_in (filter is_standing kept))))
+        ≡ ((g || test k.partition) && list_all (λ k. not (is_standing k) || (is_among k.partition.number removed || test k.partition)) kept)
+    inner true rest = rest
+    inner false rest = ap (λ b. test k.partition && b) rest
+
+    pick : (s : Bool) → list_all test (without removed (partitions_in (filter is_standing kept))) ≡ list_all (λ k. not (is_standing k) || (is_among k.partition.number removed || test k.partition)) kept
+        → list_all test (filter (λ p. not (is_among p.number removed)) (partitions_in (cond s (k ∷ filter is_standing kept) (filter is_standing kept))))
+        ≡ ((not s || (is_among k.partition.number removed || test k.partition)) && list_all (λ k. not (is_standing k) || (is_among k.partition.number removed || test k.partition)) kept)
+    pick false rest = rest
+    pick true rest = inner (is_among k.partition.number removed) rest
+
+pub stay : (test : Partition → Bool) (removed : List ℕ) (kept : List Kept)
+    → list_all (λ k. not (is_standing k) || (is_among k.partition.number removed || test k.partition)) kept ≡ list_all test (without removed (partitions_in (filter is_standing kept)))
+stay test removed kept = sym (list_all_stay test removed kept)

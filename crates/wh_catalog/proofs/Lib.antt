@@ -1,9 +1,9 @@
 pub mod Places
-pub mod Current
-pub mod Listed
+pub mod Objects
 pub mod Apart
-pub mod Versions
-pub mod NumberedRows
-pub mod Pushed
 pub mod Conditions
-pub mod Rows
+pub mod NumberedRows
+pub mod Listed
+pub mod Pushed
+pub mod Columns
+pub mod Standing

@@ -8,11 +8,12 @@ use Rattle.std.specs.FinMap.{empty, get, insert, entries, values, entries-insert
 use Rattle.std.specs.FinMap.Entries.{find, put, by_order}
 use Rattle.std.proofs.lemmas.Cmp.{nat_cmp_total}
 use Rattle.std.proofs.lemmas.List.Sorted.{IsPermutation-swap}
-use Rattle.wh_machine.specs.Value.{Row}
-use Rattle.wh_machine.specs.Table.{Rows, with_entries}
-use Rattle.wh_machine.specs.Step.{placed, in_order}
-use Rattle.wh_machine.specs.Spelling.{RisesFrom}
-use Rattle.wh_machine.specs.Commit.{Partition, first_number, last_number, AreApart, AllApart, rows_of}
+use Rattle.wh_value.specs.Value.{Row, placed, in_order}
+use Rattle.wh_frame.specs.Partition.{Partition, first_number, last_number}
+use Rattle.wh_frame.specs.Spelling.{RisesFrom}
+use Rattle.wh_machine.specs.State.{Rows, with_entries}
+use Rattle.wh_machine.specs.Stored.{rows_of}
+use Rattle.wh_machine.specs.Commit.{AreApart, AllApart}
 use Rattle.wh_catalog.specs.Listing.{rows_only, all_rows}
 use Rattle.wh_value.proofs.InOrder.{in_order-IsPermutation}
 

@@ -1,47 +1,70 @@
 use crate::StoredTable;
-use crate::applying::NUMBER_LIMIT;
 use wh_part::{NumberedRow, Partition};
 use wh_record::VersionChange;
-use wh_value::{Column, ColumnType, Row, Value};
+use wh_value::{Column, Limit, row_fits};
+use wh_version::History;
 
 impl StoredTable {
-    ghost use Rattle.std.specs.Prelude.{◌≡◌};
-    ghost use Rattle.wh_machine.specs.Table.{latest};
+    ghost use Rattle.std.specs.Prelude.{◌≡◌, IsTrue};
     ghost use Rattle.wh_record.specs.View.{version_change_of};
-    ghost use Rattle.wh_catalog.specs.Conditions.{version_fits};
-    ghost use Rattle.wh_catalog.specs.Table.{table_of, partitions_of};
+    ghost use Rattle.wh_catalog.specs.Conditions.{is_formed, partitions_apply, version_applies};
+    ghost use Rattle.wh_catalog.specs.Table.{table_of};
 
-    /// Whether a new version fits the table.
+    /// Whether a new version applies to the table.
     pub(crate) fn takes(&self, change: &VersionChange) -> bool
-        ensures { result
-            ≡ version_fits (table_of self.now) (partitions_of self.now) (version_change_of change.now) }
+        ensures { result ≡ version_applies (table_of self.now) (version_change_of change.now) }
     {
-        self.last_timestamp() <= change.data_timestamp
-            && change.width as usize == self.columns.len()
-            && change.next_row <= NUMBER_LIMIT
-            && are_numbered(self.next_partition, &change.added)
-            && all_fit(&self.columns, change.next_row, &change.added)
-            && are_apart(self.highest, &self.partitions, &change.added)
+        self.takes_form(change) && self.takes_partitions(change)
     }
 
-    fn last_timestamp(&self) -> u64
-        ensures { result ≡ (latest (table_of self.now)).data_timestamp }
+    fn takes_form(&self, change: &VersionChange) -> bool
+        ensures { result ≡ is_formed (table_of self.now) (version_change_of change.now) }
     {
-        let later = self.later.len();
-        if later == 0 {
-            return self.first.data_timestamp;
-        }
-        self.later[later - 1].data_timestamp
+        self.history.last_timestamp() <= change.data_timestamp
+            && change.width as usize == self.columns.len()
+            && change.next_row <= Limit::RowNumber.bound()
+            && are_few(self.history.next_partition(), change.added.len())
+    }
+
+    fn takes_partitions(&self, change: &VersionChange) -> bool
+        requires { IsTrue (is_formed (table_of self.now) (version_change_of change.now)) }
+        ensures { result ≡ partitions_apply (table_of self.now) (version_change_of change.now) }
+    {
+        let next = self.history.next_partition();
+        all_stand(&self.history, &change.removed)
+            && are_numbered(next, &change.added)
+            && all_fit(&self.columns, change.next_row, &change.added)
+            && are_apart(self.highest, &self.history, &change.removed, &change.added)
     }
 }
 
-ghost use Rattle.std.specs.Prelude.{◌≡◌, ◌+◌, ◌<◌, ◌≤◌, ◌^◌, ◌&&◌, map, length};
+ghost use Rattle.std.specs.Prelude.{◌≡◌, ◌+◌, ◌<◌, ◌≤◌, ◌^◌, map, length, nat_le};
 ghost use Rattle.std.specs.List.{list_all};
-ghost use Rattle.wh_machine.specs.Step.{fits, row_fits};
-ghost use Rattle.wh_value.specs.View.{column_of, type_of, value_of};
+ghost use Rattle.wh_value.specs.Limit.{bound};
+ghost use Rattle.wh_value.specs.declared.limit.Limit.TheVariants as limits;
+ghost use Rattle.wh_value.specs.View.{column_of};
 ghost use Rattle.wh_part.specs.View.{numbered_of};
-ghost use Rattle.wh_catalog.specs.Apart.{are_apart, all_apart, highest_number};
-ghost use Rattle.wh_catalog.specs.Conditions.{numbered_from, entry_fits, partition_fits, rises_above};
+ghost use Rattle.wh_version.specs.Kept.{numbered_from};
+ghost use Rattle.wh_version.specs.History.{versions_of, standing_in};
+ghost use Rattle.wh_machine.specs.Commit.{without};
+ghost use Rattle.wh_catalog.specs.Apart.{all_apart, highest_number};
+ghost use Rattle.wh_catalog.specs.Conditions.{is_standing_number, entry_fits, partition_fits, rises_above};
+
+use crate::comparing::compared_apart;
+
+// Whether there are numbers for that many partitions from the next one on.
+fn are_few(next: u64, count: usize) -> bool
+    ensures { result ≡ nat_le (next + count) (bound limits.PartitionNumber) }
+{
+    let most = Limit::PartitionNumber.bound();
+    next <= most && count as u64 <= most - next
+}
+
+fn all_stand(history: &History, numbers: &[u64]) -> bool
+    ensures { result ≡ list_all (is_standing_number (standing_in (versions_of history.now))) numbers.now }
+{
+    numbers.iter().all(|number| history.stands(*number))
+}
 
 // Whether the partitions' numbers rise by one from the next on.
 fn are_numbered(next: u64, partitions: &[Partition]) -> bool
@@ -87,46 +110,15 @@ fn entry_fits(columns: &[Column], next_row: u64, entry: &NumberedRow) -> bool
     row_fits(columns, &entry.row) && entry.number < next_row
 }
 
-/// Whether a row has a value for each column, of its type. NULL fits every type.
-pub fn row_fits(columns: &[Column], row: &Row) -> bool
-    ensures { result ≡ row_fits (map column_of columns.now) row.now }
-{
-    values_fit(columns, row.values())
-}
-
-fn values_fit(columns: &[Column], values: &[Value]) -> bool
-    ensures { result ≡ row_fits (map column_of columns.now) (map value_of values.now) }
-{
-    if columns.len() != values.len() {
-        return false;
-    }
-    for place in 0..columns.len() {
-        if !fits(columns[place].column_type, &values[place]) {
-            return false;
-        }
-    }
-    true
-}
-
-fn fits(column_type: ColumnType, value: &Value) -> bool
-    ensures { result ≡ fits (type_of column_type) (value_of value.now) }
-{
-    match value {
-        Value::Number(_) => column_type == ColumnType::Number,
-        Value::Bool(_) => column_type == ColumnType::Boolean,
-        Value::Text(_) => column_type == ColumnType::Varchar,
-        Value::Null => true,
-    }
-}
-
-// Whether each partition that is added is apart from those that stand, none of whose row numbers is
-// above the highest, and from those before it.
-fn are_apart(highest: u64, standing: &[Partition], added: &[Partition]) -> bool
-    requires { highest_number standing.now ≤ highest }
-    ensures { result ≡ all_apart standing.now added.now }
+// Whether each partition that is added is apart from those that stand and stay, none of whose row
+// numbers is above the highest, and from those before it.
+fn are_apart(highest: u64, history: &History, removed: &[u64], added: &[Partition]) -> bool
+    requires { highest_number (standing_in (versions_of history.now)) ≤ highest }
+    ensures { result
+        ≡ all_apart (without removed.now (standing_in (versions_of history.now))) added.now }
 {
     // Rows are added in rising order, so that each is seldom compared with those that stand.
-    rise_above(highest, added) || compared_apart(standing, added)
+    rise_above(highest, added) || compared_apart(history.kept(), removed, added)
 }
 
 fn rise_above(bound: u64, partitions: &[Partition]) -> bool
@@ -140,33 +132,4 @@ fn rise_above(bound: u64, partitions: &[Partition]) -> bool
         highest = highest.max(partition.last());
     }
     true
-}
-
-fn compared_apart(standing: &[Partition], added: &[Partition]) -> bool
-    ensures { result ≡ all_apart standing.now added.now }
-{
-    for place in 0..added.len() {
-        let partition = &added[place];
-        if !is_free(partition, standing, &added[..place]) {
-            return false;
-        }
-    }
-    true
-}
-
-fn is_free(partition: &Partition, standing: &[Partition], earlier: &[Partition]) -> bool
-    ensures { result ≡ (list_all (are_apart partition.now) standing.now
-        && list_all (are_apart partition.now) earlier.now) }
-{
-    is_apart(partition, standing) && is_apart(partition, earlier)
-}
-
-fn is_apart(partition: &Partition, others: &[Partition]) -> bool
-    ensures { result ≡ list_all (are_apart partition.now) others.now }
-{
-    let first = partition.first();
-    let last = partition.last();
-    others
-        .iter()
-        .all(|other| last < other.first() || other.last() < first)
 }

@@ -1,4 +1,4 @@
-use crate::{Catalog, ReserveFault};
+use crate::{Catalog, StageFault, Undo};
 use std::alloc::Global;
 use std::test::Fail;
 use wh_part::{NumberedRow, Partition};
@@ -32,7 +32,13 @@ fn creation(
         retention,
         columns,
     });
-    Ok(Commit { stamp, change })
+    commit(alloc, stamp, change)
+}
+
+fn commit(alloc: Global, stamp: u64, change: Change) -> Result<Commit, Fail> {
+    let mut changes = Vec::new(alloc);
+    changes.push(change)?;
+    Ok(Commit { stamp, changes })
 }
 
 fn row(alloc: Global, value: Value) -> Result<Row, Fail> {
@@ -60,26 +66,64 @@ fn partitions(alloc: Global, rows: &[(u64, u64, i64)]) -> Result<Vec<Partition>,
     Ok(made)
 }
 
-fn version(stamp: u64, id: u32, timestamp: u64, next_row: u64, added: Vec<Partition>) -> Commit {
+fn version(
+    alloc: Global,
+    stamp: u64,
+    id: u32,
+    timestamp: u64,
+    next_row: u64,
+    removed: &[u64],
+    added: Vec<Partition>,
+) -> Result<Commit, Fail> {
+    let mut gone = Vec::new(alloc);
+    gone.extend_from_slice(removed)?;
     let change = Change::PushesVersion(VersionChange {
         id,
         data_timestamp: timestamp,
         next_row,
         width: 1,
+        removed: gone,
         added,
     });
-    Commit { stamp, change }
+    commit(alloc, stamp, change)
 }
 
-fn carry_out(catalog: &mut Catalog, commit: Commit) -> Result<(), Fail> {
-    match catalog.reserve(&commit) {
-        Ok(()) => {
-            catalog.apply(commit);
-            Ok(())
-        }
-        Err(ReserveFault::OutOfMemory) => Err("no memory".into()),
-        Err(ReserveFault::NotApplicable) => Err("it doesn't apply".into()),
+// The changes of both at the stamp of the first.
+fn both(first: Commit, second: Commit) -> Result<Commit, Fail> {
+    let mut changes = first.changes;
+    for change in second.changes {
+        changes.push(change)?;
     }
+    Ok(Commit {
+        stamp: first.stamp,
+        changes,
+    })
+}
+
+fn carry_out(catalog: &mut Catalog, commit: Commit) -> Result<Undo, Fail> {
+    match catalog.stage(commit) {
+        Ok(undo) => Ok(undo),
+        Err(StageFault::OutOfMemory) => Err("no memory".into()),
+        Err(StageFault::NotApplicable) => Err("it doesn't apply".into()),
+    }
+}
+
+fn is_refused(catalog: &mut Catalog, commit: Commit) -> bool {
+    match catalog.stage(commit) {
+        Ok(_) => false,
+        Err(fault) => fault == StageFault::NotApplicable,
+    }
+}
+
+// Whether the table of an id lists these numbers, in its one column.
+fn lists(alloc: Global, catalog: &Catalog, id: u32, numbers: &[i64]) -> Result<bool, Fail> {
+    let table = catalog.table(id).ok_or("no table")?;
+    let found = table.listing(alloc)?;
+    let mut same = found.len() == numbers.len();
+    for (found, number) in found.iter().zip(numbers) {
+        same = same && *found == row(alloc, Value::Number(*number))?;
+    }
+    Ok(same)
 }
 
 // A table `t` with a row of number 5 in its first partition, at the stamp 12.
@@ -88,34 +132,59 @@ fn one_table(alloc: Global) -> Result<Catalog, Fail> {
     let created = creation(alloc, 10, 1, b"t", 1, 1, ColumnType::Number)?;
     carry_out(&mut catalog, created)?;
     let added = partitions(alloc, &[(1, 5, 7)])?;
-    carry_out(&mut catalog, version(12, 1, 12, 6, added))?;
+    let pushed = version(alloc, 12, 1, 12, 6, &[], added)?;
+    carry_out(&mut catalog, pushed)?;
     Ok(catalog)
 }
 
 #[test]
-fn versions_are_pushed_and_listed(rt: HostRuntime) -> Result<(), Fail> {
+fn a_version_is_listed_and_undone(rt: HostRuntime) -> Result<(), Fail> {
     let alloc = rt.alloc();
     let mut catalog = one_table(alloc)?;
-    // The last row has a lower number than one that stands.
+    // The last row has a lower number than one that stood, and the first partition goes.
     let added = partitions(alloc, &[(2, 6, 5), (3, 9, 11), (4, 2, 3)])?;
-    carry_out(&mut catalog, version(15, 1, 13, 10, added))?;
+    let pushed = version(alloc, 15, 1, 13, 10, &[1], added)?;
+    let undo = carry_out(&mut catalog, pushed)?;
     catalog.pass(20);
+    assert!(rt; lists(alloc, &catalog, 1, &[3, 5, 11])?, "the new version");
     assert_eq!(rt; catalog.last(), 20);
-    assert_eq!(rt; catalog.table_count(), 1);
+    catalog.undo(undo);
+    assert!(rt; lists(alloc, &catalog, 1, &[7])?, "the version before");
+    assert_eq!(rt; catalog.last(), 12);
+    assert_eq!(rt; catalog.find(b"t"), Some(1));
     assert_eq!(rt; catalog.find(b"v"), None);
-    let Some(place) = catalog.find(b"t") else {
-        return Err("no table".into());
+    assert_eq!(rt; catalog.object_count(), 1);
+    assert_eq!(rt; catalog.live_count(), 1);
+    Ok(())
+}
+
+#[test]
+fn a_commit_is_carried_out_whole_or_not_at_all(rt: HostRuntime) -> Result<(), Fail> {
+    let alloc = rt.alloc();
+    let mut catalog = one_table(alloc)?;
+    // No change passes the stamp alone.
+    let nothing = Commit {
+        stamp: 13,
+        changes: Vec::new(alloc),
     };
-    let table = catalog.table(place);
-    assert_eq!(rt; table.columns().len(), 1);
-    assert_eq!(rt; table.next_row(), 10);
-    assert_eq!(rt; table.next_partition(), 5);
-    let found = table.listing(alloc)?;
-    assert_eq!(rt; found.len(), 4);
-    for (found, number) in found.iter().zip([3, 5, 7, 11]) {
-        let wanted = row(alloc, Value::Number(number))?;
-        assert!(rt; *found == wanted, "the row of {number}");
-    }
+    carry_out(&mut catalog, nothing)?;
+    assert_eq!(rt; catalog.last(), 13);
+    // The second change doesn't apply to what the first leaves.
+    let first = creation(alloc, 14, 2, b"u", 1, 1, ColumnType::Number)?;
+    let second = creation(alloc, 14, 2, b"v", 1, 1, ColumnType::Number)?;
+    let wrong = both(first, second)?;
+    assert!(rt; is_refused(&mut catalog, wrong), "one id twice");
+    assert_eq!(rt; catalog.last(), 13);
+    assert_eq!(rt; catalog.object_count(), 1);
+    // A table and its first version.
+    let first = creation(alloc, 14, 2, b"u", 1, 1, ColumnType::Number)?;
+    let added = partitions(alloc, &[(1, 1, 4)])?;
+    let second = version(alloc, 14, 2, 14, 2, &[], added)?;
+    let filled = both(first, second)?;
+    let undo = carry_out(&mut catalog, filled)?;
+    assert!(rt; lists(alloc, &catalog, 2, &[4])?, "the table");
+    catalog.undo(undo);
+    assert_eq!(rt; catalog.object_count(), 1);
     Ok(())
 }
 
@@ -124,31 +193,26 @@ fn tables_that_do_not_apply_are_refused(rt: HostRuntime) -> Result<(), Fail> {
     let alloc = rt.alloc();
     let mut catalog = one_table(alloc)?;
     let long = [b'n'; 256];
-    let number = ColumnType::Number;
     let cases = [
-        ("the last stamp", 12, 2, &b"u"[..], 1, 1, number),
-        ("a stamp at the limit", 1 << 62, 2, &b"u"[..], 1, 1, number),
-        ("an id that is taken", 13, 1, &b"u"[..], 1, 1, number),
-        ("an id further on", 13, 3, &b"u"[..], 1, 1, number),
-        ("a name that is taken", 13, 2, &b"t"[..], 1, 1, number),
-        ("no name", 13, 2, &b""[..], 1, 1, number),
-        ("a name too long", 13, 2, &long[..], 1, 1, number),
-        ("91 days of retention", 13, 2, &b"u"[..], 91, 1, number),
-        ("no column", 13, 2, &b"u"[..], 1, 0, number),
-        ("65 columns", 13, 2, &b"u"[..], 1, 65, number),
+        ("the last stamp", 12, 2, &b"u"[..], 1, 1),
+        ("a stamp at the limit", 1 << 62, 2, &b"u"[..], 1, 1),
+        ("an id that is taken", 13, 1, &b"u"[..], 1, 1),
+        ("an id further on", 13, 3, &b"u"[..], 1, 1),
+        ("a name that is taken", 13, 2, &b"t"[..], 1, 1),
+        ("no name", 13, 2, &b""[..], 1, 1),
+        ("a name too long", 13, 2, &long[..], 1, 1),
+        ("91 days of retention", 13, 2, &b"u"[..], 91, 1),
+        ("no column", 13, 2, &b"u"[..], 1, 0),
+        ("65 columns", 13, 2, &b"u"[..], 1, 65),
     ];
-    for (case, stamp, id, name, retention, count, column_type) in cases {
-        let commit = creation(alloc, stamp, id, name, retention, count, column_type)?;
-        let found = catalog.reserve(&commit);
-        assert_eq!(rt; found, Err(ReserveFault::NotApplicable), "{case}");
+    for (case, stamp, id, name, retention, count) in cases {
+        let wrong = creation(alloc, stamp, id, name, retention, count, ColumnType::Number)?;
+        assert!(rt; is_refused(&mut catalog, wrong), "{case}");
     }
-    // As long a name, as many columns and as many days as may be, and no day, in each type.
-    let most = creation(alloc, 13, 2, &long[1..], 90, 64, number)?;
+    // As long a name, as many columns and as many days as may be.
+    let most = creation(alloc, 13, 2, &long[1..], 90, 64, ColumnType::Varchar)?;
     carry_out(&mut catalog, most)?;
-    let texts = creation(alloc, 14, 3, b"u", 0, 1, ColumnType::Varchar)?;
-    carry_out(&mut catalog, texts)?;
-    let truths = creation(alloc, 15, 4, b"w", 1, 1, ColumnType::Boolean)?;
-    carry_out(&mut catalog, truths)
+    Ok(())
 }
 
 #[test]
@@ -157,23 +221,59 @@ fn versions_that_do_not_apply_are_refused(rt: HostRuntime) -> Result<(), Fail> {
     let mut catalog = one_table(alloc)?;
     let limit = 1 << 62;
     let next = &[(2, 6, 1)][..];
-    // The id, the data timestamp, the next row, and the partitions.
+    // The id, the data timestamp, the next row, what goes, and what comes.
     let cases = [
-        ("no id", 0, 12, 7, next),
-        ("no such table", 2, 12, 7, next),
-        ("data of an older version", 1, 11, 7, next),
-        ("a next row past the limit", 1, 12, limit + 1, next),
-        ("a row at the next one", 1, 12, 6, next),
-        ("a partition that stands", 1, 12, 7, &[(1, 6, 1)][..]),
-        ("a partition further on", 1, 12, 7, &[(3, 6, 1)][..]),
-        ("a row that stands", 1, 12, 7, &[(2, 5, 1)][..]),
-        ("a row twice", 1, 12, 7, &[(2, 6, 1), (3, 6, 1)][..]),
+        ("no id", 0, 12, 7, &[][..], next),
+        ("no such table", 2, 12, 7, &[][..], next),
+        ("data of an older version", 1, 11, 7, &[][..], next),
+        ("a next row past the limit", 1, 12, limit + 1, &[][..], next),
+        ("a row at the next one", 1, 12, 6, &[][..], next),
+        ("a partition that never stood", 1, 12, 7, &[2][..], next),
+        (
+            "a partition that stands",
+            1,
+            12,
+            7,
+            &[][..],
+            &[(1, 6, 1)][..],
+        ),
+        (
+            "a partition further on",
+            1,
+            12,
+            7,
+            &[][..],
+            &[(3, 6, 1)][..],
+        ),
+        ("a row that stands", 1, 12, 7, &[][..], &[(2, 5, 1)][..]),
+        (
+            "a row twice",
+            1,
+            12,
+            7,
+            &[][..],
+            &[(2, 6, 1), (3, 6, 1)][..],
+        ),
     ];
-    for (case, id, timestamp, next_row, rows) in cases {
-        let commit = version(13, id, timestamp, next_row, partitions(alloc, rows)?);
-        let found = catalog.reserve(&commit);
-        assert_eq!(rt; found, Err(ReserveFault::NotApplicable), "{case}");
+    for (case, id, timestamp, next_row, removed, rows) in cases {
+        let wrong = version_of_rows(alloc, id, timestamp, next_row, removed, rows)?;
+        assert!(rt; is_refused(&mut catalog, wrong), "{case}");
     }
-    // As high a next row as may be, and the data of the last version.
-    carry_out(&mut catalog, version(13, 1, 12, limit, Vec::new(alloc)))
+    // The number of a row that goes may come again.
+    let again = version_of_rows(alloc, 1, 12, limit, &[1], &[(2, 5, 8)])?;
+    carry_out(&mut catalog, again)?;
+    assert!(rt; lists(alloc, &catalog, 1, &[8])?, "the row that came");
+    Ok(())
+}
+
+fn version_of_rows(
+    alloc: Global,
+    id: u32,
+    timestamp: u64,
+    next_row: u64,
+    removed: &[u64],
+    rows: &[(u64, u64, i64)],
+) -> Result<Commit, Fail> {
+    let added = partitions(alloc, rows)?;
+    version(alloc, 13, id, timestamp, next_row, removed, added)
 }

@@ -1,5 +1,5 @@
 use Rattle.std.proofs.Common.{◌≡◌, ◌+◌, drop}
-use Rattle.wh_catalog.specs.Conditions.{numbered_from}
+use Rattle.wh_version.specs.Kept.{numbered_from}
 use Rattle.wh_catalog.proofs.fitting.are_numbered.Given as goal
 
 abbrev pub invariant-loop-partition : goal.invariant-loop-partition

@@ -1,8 +1,8 @@
 use Rattle.std.proofs.Common.{◌∙◌, ap, take, arith, [], ◌∷◌, get_or}
 use Rattle.std.proofs.lemmas.List.{take_more}
-use Rattle.wh_machine.specs.Commit.{last_number}
+use Rattle.wh_frame.specs.Partition.{last_number}
 use Rattle.wh_catalog.specs.Apart.{highest_number}
-use Rattle.wh_catalog.proofs.Versions.{highest_number-append}
+use Rattle.wh_catalog.proofs.Apart.{highest_number-append}
 use Rattle.wh_catalog.proofs.numbers.highest_of.Goals as goal
 
 pub loop-partition-preserved : goal.loop-partition-preserved

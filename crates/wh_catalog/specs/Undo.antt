@@ -1,0 +1,27 @@
+-- What it takes to undo a commit.
+--     undone     the objects before steps that were taken one after the other
+--     Undoes     leads back from a catalog to what it was
+use Rattle.std.specs.Prelude.{◌≡◌, List, [], ◌∷◌}
+use Rattle.wh_machine.specs.State.{changed_at}
+use Rattle.wh_version.specs.Lists.{but_last}
+use Rattle.wh_catalog.specs.declared.catalog.Catalog.{Catalog}
+use Rattle.wh_catalog.specs.declared.undo.Step.{Step}
+use Rattle.wh_catalog.specs.declared.undo.Step.TheVariants.{MadeObject, PushedVersion}
+use Rattle.wh_catalog.specs.declared.undo.Undo.{Undo}
+use Rattle.wh_catalog.specs.Kept.{KeptObject}
+use Rattle.wh_catalog.specs.Back.{object_taken_back}
+use Rattle.wh_catalog.specs.Catalog.{kept_of}
+
+abbrev pub step_undone : Step → List KeptObject → List KeptObject
+step_undone MadeObject objects = but_last objects
+step_undone (PushedVersion p) objects = changed_at objects p.id (object_taken_back p.next_row)
+
+-- the last step is undone first
+abbrev pub undone : List Step → List KeptObject → List KeptObject
+undone [] objects = objects
+undone (step ∷ steps) objects = step_undone step (undone steps objects)
+
+pub record Undoes (undo : Undo) (new old : Catalog) : Type 0 where
+  pub objects : undone undo.steps.items (kept_of new) ≡ kept_of old
+  pub last : undo.last ≡ old.last
+  pub committed : undo.committed ≡ old.committed
