@@ -12,16 +12,17 @@ use Rattle.wh_ast.specs.declared.dml.Dml.{Dml}
 use Rattle.wh_grammar.specs.Words.{is_reserved}
 use Rattle.wh_grammar.specs.Token as token
 use Rattle.wh_grammar.specs.Token.{Token, Word, SignToken}
-use Rattle.wh_grammar.specs.Expression.{IsExpr, AreExprs, last_expr, more_exprs, binds}
+use Rattle.wh_grammar.specs.Expression.{IsExpr, AreExprs, last_expr, more_exprs}
+use Rattle.wh_cursor.specs.Binds.{binds}
 use Rattle.wh_grammar.specs.Query as q
 use Rattle.wh_grammar.specs.Query.{IsQuery, AreCores, IsCore, IsSource, MayHaveAlias, MayHaveFilter}
 use Rattle.wh_grammar.specs.Changing as g
 use Rattle.wh_grammar.specs.Changing.{AreNames, MayHaveColumns, IsValuesRow, AreValuesRows, AreRows, IsAssignment, AreAssignments, MayHaveCondition, IsMergeClause, AreMergeClauses, IsDml}
-use Rattle.wh_expr_parse.specs.declared.key.Key.TheVariants as k
-use Rattle.wh_expr_parse.specs.State.{tail, sees}
-use Rattle.wh_expr_parse.specs.Steps.{sees_word, expect_word, eat_key}
-use Rattle.wh_expr_parse.specs.Read.{read_name, read_expr}
-use Rattle.wh_expr_parse.proofs.Combine.{lparen_reads, rparen_reads, equal_reads, sees_key_is, word_no_sign, name_reads, expr_reads, name_shorter, expr_shorter}
+use Rattle.wh_cursor.specs.declared.key.Key.TheVariants as k
+use Rattle.wh_cursor.specs.Steps.{tail, sees, sees_word, expect_word, eat_key, read_name}
+use Rattle.wh_expr_parse.specs.Read.{read_expr}
+use Rattle.wh_cursor.proofs.Combine.{lparen_reads, rparen_reads, equal_reads, sees_key_is, word_no_sign, name_reads, name_shorter}
+use Rattle.wh_expr_parse.proofs.Exprs.{expr_reads, expr_shorter}
 use Rattle.wh_query_parse.specs.Follow.{ends_query, ends_filter}
 use Rattle.wh_query_parse.specs.Read.{read_query, read_source, read_alias, read_filter}
 use Rattle.wh_query_parse.proofs.Reading.{queries_read, sources_read, aliases_read, filters_read}

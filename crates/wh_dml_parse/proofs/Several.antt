@@ -3,12 +3,12 @@ use Rattle.std.proofs.Common.{◌≡◌, ℕ, zero, suc, ◌+◌, ◌-◌, ◌<�
 use Rattle.std.specs.Prelude.{codes}
 use Rattle.wh_grammar.specs.Token as token
 use Rattle.wh_grammar.specs.Token.{Token, Word, Quoted, TextToken, NumberToken, SignToken}
-use Rattle.wh_expr_parse.specs.declared.key.Key.TheVariants as k
-use Rattle.wh_expr_parse.specs.Keys.{key_of, same_key}
-use Rattle.wh_expr_parse.specs.State.{tail, sees}
-use Rattle.wh_expr_parse.specs.Steps.{Reader, pure, eat_key, sees_word}
-use Rattle.wh_expr_parse.proofs.KeyLemmas.{heads}
-use Rattle.wh_expr_parse.proofs.Combine.{Yields, yields, nothing, follow, mapped, sees_key_is, not_that_key}
+use Rattle.wh_cursor.specs.declared.key.Key.TheVariants as k
+use Rattle.wh_cursor.specs.Keys.{key_of, same_key}
+use Rattle.wh_cursor.specs.Steps.{tail, sees, Reader, pure, eat_key, sees_word}
+use Rattle.wh_cursor.proofs.KeyLemmas.{heads}
+use Rattle.wh_cursor.proofs.Yields.{Yields, yields, nothing, follow, mapped}
+use Rattle.wh_cursor.proofs.Combine.{sees_key_is, not_that_key}
 use Rattle.wh_dml_parse.specs.Follow.{ends_names}
 use Rattle.wh_dml_parse.specs.Read.{some_from, peek_word}
 

@@ -7,7 +7,8 @@ use Rattle.wh_grammar.specs.Token.{Token}
 use Rattle.wh_grammar.specs.Expression.{AreExprs, last_expr, more_exprs}
 use Rattle.wh_grammar.specs.Changing as g
 use Rattle.wh_grammar.specs.Changing.{AreNames, MayHaveColumns, IsValuesRow, IsAssignment, AreAssignments, MayHaveCondition, IsMergeClause}
-use Rattle.wh_expr_parse.proofs.Combine.{name_shorter, expr_shorter}
+use Rattle.wh_cursor.proofs.Combine.{name_shorter}
+use Rattle.wh_expr_parse.proofs.Exprs.{expr_shorter}
 
 pub exprs-shorter : {d : ℕ} {ts us : List Token} {xs : List Expr} → AreExprs d ts xs us → length us < length ts
 exprs-shorter (last_expr h) = expr_shorter h

@@ -15,11 +15,12 @@ use Rattle.wh_grammar.specs.Expression.{IsExpr, AreExprs, last_expr, more_exprs}
 use Rattle.wh_grammar.specs.Query.{IsQuery, IsSource, MayHaveAlias, MayHaveFilter}
 use Rattle.wh_grammar.specs.Changing as g
 use Rattle.wh_grammar.specs.Changing.{AreNames, MayHaveColumns, IsValuesRow, AreValuesRows, AreRows, IsAssignment, AreAssignments, MayHaveCondition, IsMergeClause, AreMergeClauses, IsDml}
-use Rattle.wh_expr_parse.specs.declared.key.Key.TheVariants as k
-use Rattle.wh_expr_parse.specs.State.{tail}
-use Rattle.wh_expr_parse.specs.Steps.{eat_key}
-use Rattle.wh_expr_parse.specs.Read.{read_name, read_expr}
-use Rattle.wh_expr_parse.proofs.Combine.{Yields, yields, nothing, yields_law, follow, mapped, then_expect_word, then_expect_key, if_eaten_word, if_eaten_key, name-yields, expr-yields}
+use Rattle.wh_cursor.specs.declared.key.Key.TheVariants as k
+use Rattle.wh_cursor.specs.Steps.{tail, eat_key, read_name}
+use Rattle.wh_expr_parse.specs.Read.{read_expr}
+use Rattle.wh_cursor.proofs.Yields.{Yields, yields, nothing, yields_law, follow, mapped}
+use Rattle.wh_cursor.proofs.Combine.{then_expect_word, then_expect_key, if_eaten_word, if_eaten_key, name-yields}
+use Rattle.wh_expr_parse.proofs.Exprs.{expr-yields}
 use Rattle.wh_query_parse.specs.Read.{read_query, read_source, read_alias, read_filter}
 use Rattle.wh_query_parse.proofs.Reading.{queries_read, sources_read, aliases_read, filters_read}
 use Rattle.wh_dml_parse.specs.Follow.{IsDmlAt, AreNamesAt}

@@ -10,9 +10,9 @@ use Rattle.wh_ast.specs.declared.dml.MergeClause.{MergeClause}
 use Rattle.wh_ast.specs.declared.dml.MergeClause.TheVariants as clause
 use Rattle.wh_ast.specs.declared.dml.Dml.{Dml}
 use Rattle.wh_ast.specs.declared.dml.Dml.TheVariants as dml
-use Rattle.wh_expr_parse.specs.declared.key.Key.TheVariants as k
-use Rattle.wh_expr_parse.specs.Read.{read_name, read_expr}
-use Rattle.wh_expr_parse.specs.Steps.{Reader, ◌>>=◌, ◌>>◌, pure, refuse, sees_word, eat_word, eat_key, expect_word, expect_key}
+use Rattle.wh_cursor.specs.declared.key.Key.TheVariants as k
+use Rattle.wh_cursor.specs.Steps.{read_name, Reader, ◌>>=◌, ◌>>◌, pure, refuse, sees_word, eat_word, eat_key, expect_word, expect_key}
+use Rattle.wh_expr_parse.specs.Read.{read_expr}
 use Rattle.wh_query_parse.specs.Read.{read_query, read_source, read_alias, read_filter}
 
 -- ---- one or more

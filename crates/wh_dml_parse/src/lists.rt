@@ -1,13 +1,14 @@
 //! One or more with commas between them.
 
 ghost use Rattle.std.specs.Prelude.{◌≡◌, length};
-ghost use Rattle.wh_expr_parse.specs.Gives.{Reads};
+ghost use Rattle.wh_cursor.specs.Gives.{Reads};
 ghost use Rattle.wh_dml_parse.specs.Read as spec;
 
 use sqlite_items::Items;
 use std::alloc::Global;
 use wh_ast::{Assignment, Expr};
-use wh_expr_parse::{Key, ParseFault, Words, expr, name};
+use wh_cursor::{Key, ParseFault, Words, name};
+use wh_expr_parse::expr;
 use wh_value::Text;
 
 /// How many tokens are left.

@@ -1,7 +1,7 @@
 ghost use Rattle.std.specs.Prelude.{◌≡◌, ℕ, List, IfOk, IsErrOf};
 ghost use Rattle.wh_ast.specs.declared.dml.Dml as ast;
 ghost use Rattle.wh_grammar.specs.Token as machine;
-ghost use Rattle.wh_expr_parse.specs.Gives.{Reads};
+ghost use Rattle.wh_cursor.specs.Gives.{Reads};
 ghost use Rattle.wh_dml_parse.specs.Follow.{IsDmlAt, AreNamesAt};
 ghost use Rattle.wh_dml_parse.specs.Laws as laws;
 ghost use Rattle.wh_dml_parse.specs.Read.{read_dml, read_names, expect_end};
@@ -11,7 +11,7 @@ use crate::lists::name_list;
 use sqlite_items::Items;
 use std::alloc::Global;
 use wh_ast::Dml;
-use wh_expr_parse::{ParseFault, Words};
+use wh_cursor::{ParseFault, Words};
 use wh_value::Text;
 
 #[tactic(auto, unfolding(crate::specs::Read::expect_end))]

@@ -1,19 +1,16 @@
-ghost use Rattle.std.specs.Prelude.{◌≡◌, ℕ, List, IfOk, IsErrOf};
+ghost use Rattle.std.specs.Prelude.{◌≡◌, List, IfOk, IsErrOf};
 ghost use Rattle.wh_ast.specs.declared.expr.Expr as ast;
-ghost use Rattle.wh_grammar.specs.Expression.{IsExprAt};
-ghost use Rattle.wh_grammar.specs.Name.{IsName};
+ghost use Rattle.wh_expr_parse.specs.Laws.{IsExprAt};
 ghost use Rattle.wh_grammar.specs.Token as machine;
-ghost use Rattle.wh_expr_parse.specs.Gives.{Reads};
+ghost use Rattle.wh_cursor.specs.Gives.{Reads};
 ghost use Rattle.wh_expr_parse.specs.Laws as laws;
-ghost use Rattle.wh_expr_parse.specs.Read.{read_name, read_expr};
+ghost use Rattle.wh_expr_parse.specs.Read.{read_expr};
 
 use crate::grammar::whole;
-use crate::key::binds;
 use crate::tokens::Tokens;
-use crate::{ParseFault, Words};
 use std::alloc::Global;
 use wh_ast::Expr;
-use wh_value::Text;
+use wh_cursor::{ParseFault, Words, binds};
 
 /// How many operators and IN items an expression may have.
 const ROOM: usize = 1000;
@@ -42,21 +39,10 @@ pub fn expr(alloc: Global, words: &mut Words<'_>, depth: usize) -> Result<Expr, 
     whole_expr(alloc, words, depth)
 }
 
-/// Takes the name that the tokens begin with: a word that isn't reserved, or a quoted name.
-pub fn name(alloc: Global, words: &mut Words<'_>) -> Result<Text, ParseFault>
-    ensures found { IfOk result (λ name. IsName words.old name words.new) }
-    ensures none { IsErrOf result ParseFault.SyntaxError
-        → (name : List ℕ) (us : List machine.Token) → IsName words.old name us → ⊥ }
-    ensures reads { Reads (read_name words.old) result words.new }
-{
-    words.name(alloc)
-}
-
 /// No tokens begin with two expressions, and an expression is a front of them. What `read_expr`
-/// and `read_name` read is what stands there.
+/// reads is what stands there.
 pub fn reading_laws()
     ensures exprs { laws.ReadsExprs }
-    ensures names { laws.ReadsNames }
     ensures fixed { laws.TokensFixExpr }
     ensures front { laws.ExprIsFront }
 {}

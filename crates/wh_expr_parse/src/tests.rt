@@ -1,7 +1,8 @@
-use crate::{Key, ParseFault, Words, expr, name};
+use crate::expr;
 use std::alloc::Global;
 use std::test::Fail;
 use wh_ast::{Expr, Operator};
+use wh_cursor::{Key, ParseFault, Words, name};
 use wh_lex::tokens;
 use wh_value::{Bytes, Comparison, print_literal};
 
@@ -88,7 +89,7 @@ fn print(x: &Expr, out: &mut Bytes) -> Result<(), Fail> {
 }
 
 /// The expression at the front of a text, or `none`, and how many tokens are left.
-#[tactic(auto, using(crate::proofs::ShortNumbers::tokens_short))]
+#[tactic(auto, using(wh_cursor::proofs::ShortNumbers::tokens_short))]
 fn read(alloc: Global, text: &[u8], depth: usize) -> Result<Bytes, Fail> {
     let mut out = Bytes::new(alloc);
     if text.len() > 65536 {
@@ -112,7 +113,7 @@ fn read(alloc: Global, text: &[u8], depth: usize) -> Result<Bytes, Fail> {
 }
 
 /// The name at the front of a text, or `none`.
-#[tactic(auto, using(crate::proofs::ShortNumbers::tokens_short))]
+#[tactic(auto, using(wh_cursor::proofs::ShortNumbers::tokens_short))]
 fn read_name(alloc: Global, text: &[u8]) -> Result<Bytes, Fail> {
     let mut out = Bytes::new(alloc);
     if text.len() > 65536 {
@@ -240,7 +241,7 @@ fn repeated(
 }
 
 /// Whether an expression stands at the front of a text.
-#[tactic(auto, using(crate::proofs::ShortNumbers::tokens_short))]
+#[tactic(auto, using(wh_cursor::proofs::ShortNumbers::tokens_short))]
 fn is_read(alloc: Global, text: &[u8], depth: usize) -> bool {
     if text.len() > 65536 {
         return false;
@@ -310,7 +311,7 @@ fn take_setting(alloc: Global, words: &mut Words<'_>, out: &mut Bytes) -> Result
 }
 
 /// What steps took from a text, up to one that found something else.
-#[tactic(auto, using(crate::proofs::ShortNumbers::tokens_short))]
+#[tactic(auto, using(wh_cursor::proofs::ShortNumbers::tokens_short))]
 fn taken(alloc: Global, text: &[u8]) -> Result<Bytes, Fail> {
     let mut out = Bytes::new(alloc);
     if text.len() > 65536 {

@@ -7,11 +7,10 @@ use Rattle.wh_grammar.specs.Words.{is_reserved}
 use Rattle.wh_grammar.specs.Token as token
 use Rattle.wh_grammar.specs.Token.{Token, Word, Quoted, TextToken, NumberToken, SignToken}
 use Rattle.wh_grammar.specs.Parts.{AsksForData, asks, IsCondition, one_cand, or_condition, IsAndCondition, one_cnot, and_condition, IsNotCondition, not_condition, inner_condition, has_data}
-use Rattle.wh_expr_parse.specs.declared.key.Key.TheVariants as k
-use Rattle.wh_expr_parse.specs.Keys.{same_key, key_of}
-use Rattle.wh_expr_parse.specs.State.{tail, sees}
-use Rattle.wh_expr_parse.specs.Steps.{Reader, and_then, sees_word}
-use Rattle.wh_expr_parse.proofs.KeyLemmas.{heads}
+use Rattle.wh_cursor.specs.declared.key.Key.TheVariants as k
+use Rattle.wh_cursor.specs.Keys.{same_key, key_of}
+use Rattle.wh_cursor.specs.Steps.{tail, sees, Reader, and_then, sees_word}
+use Rattle.wh_cursor.proofs.KeyLemmas.{heads}
 use Rattle.wh_option_parse.specs.declared.levels.Level.{Level}
 use Rattle.wh_option_parse.specs.declared.levels.Level.TheVariants.{Whole, Negation}
 use Rattle.wh_option_parse.specs.Follow.{ends_condition, IsConditionAt}

@@ -7,10 +7,9 @@ use Rattle.wh_grammar.specs.Token as token
 use Rattle.wh_grammar.specs.Token.{Token, Word, TextToken, SignToken}
 use Rattle.wh_grammar.specs.OptionText.{IsSchedule, IsNameText}
 use Rattle.wh_grammar.specs.Parts.{IsLag, downstream, lag_text, AsksForData, asks}
-use Rattle.wh_expr_parse.specs.declared.key.Key.TheVariants as k
-use Rattle.wh_expr_parse.specs.Keys.{same_key, key_of}
-use Rattle.wh_expr_parse.specs.State.{tail, sees}
-use Rattle.wh_expr_parse.specs.Steps.{sees_word, expect_word, expect_key, read_text}
+use Rattle.wh_cursor.specs.declared.key.Key.TheVariants as k
+use Rattle.wh_cursor.specs.Keys.{same_key, key_of}
+use Rattle.wh_cursor.specs.Steps.{tail, sees, sees_word, expect_word, expect_key, read_text}
 use Rattle.wh_option_parse.specs.Laws as laws
 use Rattle.wh_option_parse.specs.Read.{lag_of, name_text_of, schedule_of, read_schedule, read_name_text, lag_from, read_lag, read_asked}
 use Rattle.wh_option_parse.proofs.SpanLemmas.{schedule-sound, schedule-complete, lag_text-sound, lag_text-complete}

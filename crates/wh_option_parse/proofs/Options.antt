@@ -1,7 +1,7 @@
 -- Options in any order, each put to those so far: what is read stands there.
 use Rattle.std.proofs.Common.{◌≡◌, ℕ, zero, suc, Bool, true, List, [], ◌∷◌, Option, Some, None, refl, sym, subst}
 use Rattle.wh_grammar.specs.Token.{Token}
-use Rattle.wh_expr_parse.specs.Steps.{Reader}
+use Rattle.wh_cursor.specs.Steps.{Reader}
 use Rattle.wh_option_parse.specs.Read.{goes_on, options_from}
 use Rattle.wh_option_parse.proofs.Yields.{Yields, yields, nothing, follow, mapped}
 

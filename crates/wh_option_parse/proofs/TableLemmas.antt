@@ -13,12 +13,11 @@ use Rattle.wh_grammar.specs.Token.{Token, Word, Quoted, TextToken, NumberToken, 
 use Rattle.wh_grammar.specs.Name.{IsName}
 use Rattle.wh_grammar.specs.Parts as g
 use Rattle.wh_grammar.specs.Parts.{IsLag, IsMode, IsInitialize, IsChosen, TableOption, AreTableOptions, TableOptionsGive, lags_in, modes_in, initialized_in, warehouses_in}
-use Rattle.wh_expr_parse.specs.declared.key.Key.TheVariants as k
-use Rattle.wh_expr_parse.specs.State.{tail}
-use Rattle.wh_expr_parse.specs.Steps.{sees_word, read_word}
-use Rattle.wh_expr_parse.specs.declared.fault.ParseFault.{ParseFault}
-use Rattle.wh_expr_parse.specs.declared.fault.ParseFault.TheVariants as faults
-use Rattle.wh_expr_parse.specs.Gives.{Reads}
+use Rattle.wh_cursor.specs.declared.key.Key.TheVariants as k
+use Rattle.wh_cursor.specs.Steps.{tail, sees_word, read_word}
+use Rattle.wh_cursor.specs.declared.fault.ParseFault.{ParseFault}
+use Rattle.wh_cursor.specs.declared.fault.ParseFault.TheVariants as faults
+use Rattle.wh_cursor.specs.Gives.{Reads}
 use Rattle.wh_expr_parse.proofs.Found.{reads_names}
 use Rattle.wh_option_parse.specs.declared.table.TableOptions.{TableOptions}
 use Rattle.wh_option_parse.specs.declared.table.TableParts.{TableParts}

@@ -3,12 +3,10 @@ use Rattle.std.proofs.Common.{◌≡◌, ℕ, Bool, true, false, if◌then◌els
 use Rattle.std.proofs.lemmas.Slice.Eq.{bytes_eq-Decides}
 use Rattle.wh_grammar.specs.Token.{Token, Word, Quoted, TextToken, NumberToken, SignToken}
 use Rattle.wh_grammar.specs.Name.{IsName}
-use Rattle.wh_expr_parse.specs.declared.key.Key.{Key}
-use Rattle.wh_expr_parse.specs.State.{tail, sees}
-use Rattle.wh_expr_parse.specs.Steps.{Reader, and_then, sees_word, expect_word, expect_key, read_text, read_word}
-use Rattle.wh_expr_parse.specs.Read.{read_name}
-use Rattle.wh_expr_parse.proofs.KeyLemmas.{fixed, Heads, heads}
-use Rattle.wh_expr_parse.proofs.Found.{name_sound}
+use Rattle.wh_cursor.specs.declared.key.Key.{Key}
+use Rattle.wh_cursor.specs.Steps.{tail, sees, Reader, and_then, sees_word, expect_word, expect_key, read_text, read_word, read_name}
+use Rattle.wh_cursor.proofs.KeyLemmas.{fixed, Heads, heads}
+use Rattle.wh_cursor.proofs.Names.{name_sound}
 use Rattle.wh_option_parse.specs.Read.{given, once}
 
 -- where there is an outcome, it is such a one

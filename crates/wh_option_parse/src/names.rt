@@ -2,12 +2,12 @@
 ghost use Rattle.std.specs.Prelude.{◌≡◌, ◌≤◌, length, ℕ, List, true, Some, None, IfOk, IsErrOf};
 ghost use Rattle.wh_grammar.specs.Lexing.{HasTokens};
 ghost use Rattle.wh_grammar.specs.Token.{Placed};
-ghost use Rattle.wh_expr_parse.specs.View.{AreShort};
+ghost use Rattle.wh_cursor.specs.View.{AreShort};
 ghost use Rattle.wh_option_parse.specs.Read as spec;
 ghost use Rattle.wh_option_parse.specs.Alone.{is_alone};
 
 use std::alloc::Global;
-use wh_expr_parse::{ParseFault, Words, name};
+use wh_cursor::{ParseFault, Words, name};
 use wh_lex::{LexFault, Token, tokens};
 use wh_value::Text;
 

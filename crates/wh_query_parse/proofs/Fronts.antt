@@ -12,7 +12,7 @@ use Rattle.wh_grammar.specs.Name.{IsName}
 use Rattle.wh_grammar.specs.Expression.{IsExpr, AreExprs, last_expr, more_exprs}
 use Rattle.wh_grammar.specs.Query as g
 use Rattle.wh_grammar.specs.Query.{IsAlias, MayHaveAlias, IsItem, AreItems, MayHaveFilter, MayHaveGroup, IsJoinWord, IsQuery, AreCores, IsCore, IsSource, AreJoins}
-use Rattle.wh_expr_parse.specs.Laws.{Follows}
+use Rattle.wh_cursor.specs.Laws.{Follows}
 use Rattle.wh_expr_parse.proofs.Fronts as fronts
 
 shorter : {ts us : List Token} → Follows ts us → length us < length ts

@@ -1,10 +1,9 @@
 -- What each step of a rule leaves, where it reads.
 use Rattle.std.proofs.Common.{◌≡◌, ℕ, Bool, true, false, if◌then◌else◌, List, ◌∷◌, Option, Some, None, refl, subst}
 use Rattle.wh_grammar.specs.Token.{Token, Word}
-use Rattle.wh_expr_parse.specs.declared.key.Key.{Key}
-use Rattle.wh_expr_parse.specs.State.{tail, sees}
-use Rattle.wh_expr_parse.specs.Steps.{Reader, and_then, sees_word, expect_word, expect_key}
-use Rattle.wh_expr_parse.proofs.KeyLemmas.{fixed, Heads, heads}
+use Rattle.wh_cursor.specs.declared.key.Key.{Key}
+use Rattle.wh_cursor.specs.Steps.{tail, sees, Reader, and_then, sees_word, expect_word, expect_key}
+use Rattle.wh_cursor.proofs.KeyLemmas.{fixed, Heads, heads}
 use Rattle.wh_query_parse.specs.Read.{provided}
 use Rattle.wh_query_parse.proofs.Seen.{word_seen}
 

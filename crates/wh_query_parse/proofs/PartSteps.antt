@@ -10,15 +10,15 @@ use Rattle.wh_grammar.specs.Words.{is_reserved}
 use Rattle.wh_grammar.specs.Token as token
 use Rattle.wh_grammar.specs.Token.{Token, Word, Quoted, SignToken}
 use Rattle.wh_grammar.specs.Name.{IsName, word, quoted}
-use Rattle.wh_grammar.specs.Expression.{IsExpr, AreExprs, last_expr, more_exprs, binds}
+use Rattle.wh_grammar.specs.Expression.{IsExpr, AreExprs, last_expr, more_exprs}
+use Rattle.wh_cursor.specs.Binds.{binds}
 use Rattle.wh_grammar.specs.Query as g
 use Rattle.wh_grammar.specs.Query.{IsAlias, MayHaveAlias, IsItem, AreItems, MayHaveFilter, MayHaveGroup}
-use Rattle.wh_expr_parse.specs.declared.key.Key.TheVariants as k
-use Rattle.wh_expr_parse.specs.Keys.{same_key, key_of}
-use Rattle.wh_expr_parse.specs.State.{tail, sees}
-use Rattle.wh_expr_parse.specs.Steps.{Reader, sees_word, expect_word, expect_key}
-use Rattle.wh_expr_parse.specs.Read.{read_name, read_expr}
-use Rattle.wh_expr_parse.proofs.KeyLemmas.{heads}
+use Rattle.wh_cursor.specs.declared.key.Key.TheVariants as k
+use Rattle.wh_cursor.specs.Keys.{same_key, key_of}
+use Rattle.wh_cursor.specs.Steps.{tail, sees, Reader, sees_word, expect_word, expect_key, read_name}
+use Rattle.wh_expr_parse.specs.Read.{read_expr}
+use Rattle.wh_cursor.proofs.KeyLemmas.{heads}
 use Rattle.wh_expr_parse.proofs.Found.{reads_names, reads_exprs}
 use Rattle.wh_query_parse.specs.Follow.{ends_alias, ends_filter}
 use Rattle.wh_query_parse.specs.Read.{provided, read_named, some_alias, read_alias, read_filter, commas, listed, read_group, names_all, read_all_of, read_shown, read_item}

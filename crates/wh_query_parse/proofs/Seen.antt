@@ -5,12 +5,11 @@ use Rattle.std.proofs.lemmas.Slice.Eq.{bytes_eq-Decides}
 use Rattle.wh_grammar.specs.Words.{is_reserved}
 use Rattle.wh_grammar.specs.Token as token
 use Rattle.wh_grammar.specs.Token.{Token, Word, Quoted, TextToken, NumberToken, SignToken}
-use Rattle.wh_grammar.specs.Expression.{binds}
-use Rattle.wh_expr_parse.specs.declared.key.Key.TheVariants as k
-use Rattle.wh_expr_parse.specs.Keys.{key_of, reserved_key, key_binds}
-use Rattle.wh_expr_parse.specs.State.{tail}
-use Rattle.wh_expr_parse.specs.Steps.{sees_word}
-use Rattle.wh_expr_parse.proofs.KeyLemmas.{binds_key}
+use Rattle.wh_cursor.specs.Binds.{binds}
+use Rattle.wh_cursor.specs.declared.key.Key.TheVariants as k
+use Rattle.wh_cursor.specs.Keys.{key_of, reserved_key, key_binds}
+use Rattle.wh_cursor.specs.Steps.{tail, sees_word}
+use Rattle.wh_cursor.proofs.KeyLemmas.{binds_key}
 use Rattle.wh_query_parse.specs.Follow.{ends_alias, names_key}
 
 pub word_seen : (w : List ℕ) (ts : List Token) → sees_word w ts ≡ true → ts ≡ Word w ∷ tail ts

@@ -13,14 +13,14 @@ use Rattle.wh_ast.specs.declared.query.Source.TheVariants as s
 use Rattle.wh_grammar.specs.Token as token
 use Rattle.wh_grammar.specs.Token.{Token, Word, SignToken}
 use Rattle.wh_grammar.specs.Name.{IsName, word, quoted}
-use Rattle.wh_grammar.specs.Expression.{IsExpr, IsExprAt, AreExprs, last_expr, more_exprs}
+use Rattle.wh_grammar.specs.Expression.{IsExpr, AreExprs, last_expr, more_exprs}
+use Rattle.wh_expr_parse.specs.Laws.{IsExprAt}
 use Rattle.wh_grammar.specs.Query as g
 use Rattle.wh_grammar.specs.Query.{IsAlias, MayHaveAlias, IsItem, AreItems, MayHaveFilter, MayHaveGroup, IsJoinWord, IsQuery, AreCores, IsCore, IsSource, AreJoins}
-use Rattle.wh_expr_parse.specs.declared.key.Key.TheVariants as k
-use Rattle.wh_expr_parse.specs.State.{tail, sees}
-use Rattle.wh_expr_parse.specs.Steps.{Reader, ◌>>◌, pure, and_then, expect_word}
-use Rattle.wh_expr_parse.specs.Read.{read_name, read_expr}
-use Rattle.wh_expr_parse.proofs.KeyLemmas.{heads}
+use Rattle.wh_cursor.specs.declared.key.Key.TheVariants as k
+use Rattle.wh_cursor.specs.Steps.{tail, sees, Reader, ◌>>◌, pure, and_then, expect_word, read_name}
+use Rattle.wh_expr_parse.specs.Read.{read_expr}
+use Rattle.wh_cursor.proofs.KeyLemmas.{heads}
 use Rattle.wh_expr_parse.proofs.Found.{reads_names, reads_exprs}
 use Rattle.wh_query_parse.specs.Follow.{ends_query, ends_alias, ends_filter, IsQueryAt, IsSourceAt, IsAliasAt, IsFilterAt}
 use Rattle.wh_query_parse.specs.Read.{provided, read_named, some_alias, read_alias, filter_by, read_filter, commas, listed, group_by, read_group, names_all, read_all_of, read_shown, read_item, sees_join, read_named_source, read_subquery, source_of, read_joined, read_join, joins_from, read_core, cores_from, query_of, nested, read_source, read_query}

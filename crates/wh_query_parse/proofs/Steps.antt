@@ -12,14 +12,14 @@ use Rattle.wh_ast.specs.declared.query.Source.TheVariants as s
 use Rattle.wh_grammar.specs.Token as token
 use Rattle.wh_grammar.specs.Token.{Token, Word, SignToken}
 use Rattle.wh_grammar.specs.Name.{IsName, word, quoted}
-use Rattle.wh_grammar.specs.Expression.{IsExpr, binds}
+use Rattle.wh_grammar.specs.Expression.{IsExpr}
+use Rattle.wh_cursor.specs.Binds.{binds}
 use Rattle.wh_grammar.specs.Query as g
 use Rattle.wh_grammar.specs.Query.{IsAlias, MayHaveAlias, AreItems, MayHaveFilter, MayHaveGroup, IsJoinWord}
-use Rattle.wh_expr_parse.specs.declared.key.Key.TheVariants as k
-use Rattle.wh_expr_parse.specs.Keys.{same_key, key_of}
-use Rattle.wh_expr_parse.specs.State.{tail, sees}
-use Rattle.wh_expr_parse.specs.Steps.{Reader, sees_word}
-use Rattle.wh_expr_parse.proofs.KeyLemmas.{heads}
+use Rattle.wh_cursor.specs.declared.key.Key.TheVariants as k
+use Rattle.wh_cursor.specs.Keys.{same_key, key_of}
+use Rattle.wh_cursor.specs.Steps.{tail, sees, Reader, sees_word}
+use Rattle.wh_cursor.proofs.KeyLemmas.{heads}
 use Rattle.wh_query_parse.specs.Follow.{ends_query, ends_alias}
 use Rattle.wh_query_parse.specs.Read.{read_named_source, read_subquery, source_of, sees_join, read_joined, read_join, joins_from, read_core, cores_from, query_of}
 use Rattle.wh_query_parse.proofs.Ends.{CoreEnd, FilterEnd, filter-ends}

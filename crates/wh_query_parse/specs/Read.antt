@@ -13,10 +13,9 @@ use Rattle.wh_ast.specs.declared.query.Item.TheVariants as i
 use Rattle.wh_ast.specs.declared.query.Source.{Source}
 use Rattle.wh_ast.specs.declared.query.Source.TheVariants as s
 use Rattle.wh_grammar.specs.Token.{Token}
-use Rattle.wh_expr_parse.specs.declared.key.Key.TheVariants as k
-use Rattle.wh_expr_parse.specs.State.{tail, sees}
-use Rattle.wh_expr_parse.specs.Steps.{Reader, ◌>>=◌, ◌>>◌, pure, refuse, skip, sees_word, eat_word, eat_key, expect_word, expect_key}
-use Rattle.wh_expr_parse.specs.Read.{read_name, read_expr}
+use Rattle.wh_cursor.specs.declared.key.Key.TheVariants as k
+use Rattle.wh_cursor.specs.Steps.{tail, sees, Reader, ◌>>=◌, ◌>>◌, pure, refuse, skip, sees_word, eat_word, eat_key, expect_word, expect_key, read_name}
+use Rattle.wh_expr_parse.specs.Read.{read_expr}
 use Rattle.wh_query_parse.specs.Follow.{ends_query, ends_alias, ends_filter}
 
 -- takes nothing, and goes on only where that holds of what is left

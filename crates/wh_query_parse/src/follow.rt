@@ -3,11 +3,11 @@
 ghost use Rattle.std.specs.Prelude.{◌≡◌, [], ◌∷◌};
 ghost use Rattle.wh_lex.specs.View.{token_of};
 ghost use Rattle.wh_grammar.specs.Expression as machine;
-ghost use Rattle.wh_expr_parse.specs.Keys.{key_binds};
+ghost use Rattle.wh_cursor.specs.Keys.{key_binds};
 ghost use Rattle.wh_query_parse.specs.Follow as spec;
 ghost use Rattle.wh_query_parse.specs.Read.{names_all, sees_join};
 
-use wh_expr_parse::{Key, Words};
+use wh_cursor::{Key, Words};
 use wh_lex::{Kind, Sign};
 
 fn is_query_end(kind: &Kind) -> bool

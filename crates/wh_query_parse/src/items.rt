@@ -1,7 +1,7 @@
 //! What SELECT shows.
 
 ghost use Rattle.std.specs.Prelude.{◌≡◌, []};
-ghost use Rattle.wh_expr_parse.specs.Gives.{Reads};
+ghost use Rattle.wh_cursor.specs.Gives.{Reads};
 ghost use Rattle.wh_query_parse.specs.Read as spec;
 
 use crate::follow::names_all;
@@ -9,7 +9,8 @@ use crate::parts::{count, optional_alias};
 use sqlite_items::Items;
 use std::alloc::Global;
 use wh_ast::Item;
-use wh_expr_parse::{Key, ParseFault, Words, expr, name};
+use wh_cursor::{Key, ParseFault, Words, name};
+use wh_expr_parse::expr;
 
 /// Takes a name and the `. *` behind it.
 #[tactic(auto, unfolding(crate::specs::Read::read_all_of))]

@@ -1,7 +1,7 @@
 //! Aliases, conditions and groups.
 
 ghost use Rattle.std.specs.Prelude.{◌≡◌, [], length};
-ghost use Rattle.wh_expr_parse.specs.Gives.{Reads};
+ghost use Rattle.wh_cursor.specs.Gives.{Reads};
 ghost use Rattle.wh_expr_parse.specs.Read.{read_expr};
 ghost use Rattle.wh_query_parse.specs.Follow as follow;
 ghost use Rattle.wh_query_parse.specs.Read as spec;
@@ -10,7 +10,8 @@ use crate::follow::{ends_alias, ends_filter};
 use sqlite_items::Items;
 use std::alloc::Global;
 use wh_ast::Expr;
-use wh_expr_parse::{Key, ParseFault, Words, expr, name};
+use wh_cursor::{Key, ParseFault, Words, name};
+use wh_expr_parse::expr;
 use wh_value::Text;
 
 /// How many tokens are left.

@@ -18,8 +18,8 @@ use Rattle.wh_grammar.specs.Parts.{IsCondition, AreTaskOptions, TaskOptionsGive,
 use Rattle.wh_grammar.specs.Name.{IsName}
 use Rattle.wh_grammar.specs.Spelled as g
 use Rattle.wh_grammar.specs.Spelled.{IsStatement, IsTaskHead, task_head, IsTableHead, table_head, MayFollow, follows_none, follows, most_nested, tokens_of, written}
-use Rattle.wh_expr_parse.specs.Steps.{sees_word}
-use Rattle.wh_expr_parse.proofs.Combine.{sees_word_is, expect_word_reads, name_reads, other_word}
+use Rattle.wh_cursor.specs.Steps.{sees_word}
+use Rattle.wh_cursor.proofs.Combine.{sees_word_is, expect_word_reads, name_reads, other_word}
 use Rattle.wh_query_parse.specs.Read.{read_query}
 use Rattle.wh_option_parse.specs.Follow.{ends_task_options}
 use Rattle.wh_option_parse.specs.Read.{read_condition, read_table_options}

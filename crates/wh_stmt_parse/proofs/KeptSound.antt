@@ -16,9 +16,9 @@ use Rattle.wh_grammar.specs.Query.{IsQuery}
 use Rattle.wh_grammar.specs.Parts.{IsCondition, AreTableOptions}
 use Rattle.wh_grammar.specs.Spelled as g
 use Rattle.wh_grammar.specs.Spelled.{IsStatement, IsTaskHead, task_head, IsTableHead, table_head, most_nested, tokens_of, written}
-use Rattle.wh_expr_parse.specs.State.{tail}
-use Rattle.wh_expr_parse.specs.Steps.{Reader, and_then}
-use Rattle.wh_expr_parse.proofs.Combine.{Yields, yields, nothing, follow, yields_law, if_eaten_word, then_expect_word, name-yields}
+use Rattle.wh_cursor.specs.Steps.{tail, Reader, and_then}
+use Rattle.wh_cursor.proofs.Yields.{Yields, yields, nothing, follow, yields_law}
+use Rattle.wh_cursor.proofs.Combine.{if_eaten_word, then_expect_word, name-yields}
 use Rattle.wh_query_parse.specs.Follow.{IsQueryAt}
 use Rattle.wh_option_parse.specs.Follow.{IsConditionAt, AreTaskOptionsAt, AreTableOptionsAt}
 use Rattle.wh_dml_parse.specs.Follow.{IsDmlAt}

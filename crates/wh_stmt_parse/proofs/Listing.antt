@@ -2,10 +2,10 @@
 use Rattle.std.proofs.Common.{◌≡◌, ℕ, zero, suc, ◌<◌, ◌≤◌, Bool, true, false, if◌then◌else◌, List, [], ◌∷◌, ◌++◌, Option, Some, None, length, refl, sym, ap, ◌∙◌, subst, append_assoc, arith}
 use Rattle.wh_grammar.specs.Token as token
 use Rattle.wh_grammar.specs.Token.{Token, SignToken}
-use Rattle.wh_expr_parse.specs.declared.key.Key.TheVariants as k
-use Rattle.wh_expr_parse.specs.State.{tail, sees}
-use Rattle.wh_expr_parse.specs.Steps.{Reader, pure}
-use Rattle.wh_expr_parse.proofs.Combine.{Yields, yields, nothing, follow, mapped, if_eaten_key, sees_key_is}
+use Rattle.wh_cursor.specs.declared.key.Key.TheVariants as k
+use Rattle.wh_cursor.specs.Steps.{tail, sees, Reader, pure}
+use Rattle.wh_cursor.proofs.Yields.{Yields, yields, nothing, follow, mapped}
+use Rattle.wh_cursor.proofs.Combine.{if_eaten_key, sees_key_is}
 use Rattle.wh_stmt_parse.specs.Parts.{given, commas}
 
 -- what holds of tokens holds of equal ones

@@ -13,12 +13,11 @@ use Rattle.wh_grammar.specs.Name.{IsName, word, quoted}
 use Rattle.wh_grammar.specs.Parts as g
 use Rattle.wh_grammar.specs.Parts.{IsType, AreColumns, MayRetain, MayAppend, IsDirection, IsKey, AreSorts, MayHaveOrder}
 use Rattle.wh_grammar.specs.Spelled.{MayFollow, follows_none, follows}
-use Rattle.wh_expr_parse.specs.declared.key.Key.TheVariants as k
-use Rattle.wh_expr_parse.specs.contracts.key.Key.{the_type}
-use Rattle.wh_expr_parse.specs.Keys.{same_key, key_of}
-use Rattle.wh_expr_parse.specs.State.{sees}
-use Rattle.wh_expr_parse.specs.Steps.{sees_word}
-use Rattle.wh_expr_parse.proofs.Combine.{sees_word_is, expect_word_reads, equal_reads, read_word_reads, read_number_reads, name_reads, name_shorter, other_word, end_no_word, sign_no_word}
+use Rattle.wh_cursor.specs.declared.key.Key.TheVariants as k
+use Rattle.wh_cursor.specs.contracts.key.Key.{the_type}
+use Rattle.wh_cursor.specs.Keys.{same_key, key_of}
+use Rattle.wh_cursor.specs.Steps.{sees, sees_word}
+use Rattle.wh_cursor.proofs.Combine.{sees_word_is, expect_word_reads, equal_reads, read_word_reads, read_number_reads, name_reads, name_shorter, other_word, end_no_word, sign_no_word}
 use Rattle.wh_dml_parse.specs.Follow.{ends_names}
 use Rattle.wh_dml_parse.specs.Laws as dml_laws
 use Rattle.wh_stmt_parse.specs.Parts.{type_of, read_type, read_column, read_columns, read_retention, read_truth, read_append, read_key, read_direction, read_sort, read_sorts, read_order, read_after}

@@ -13,9 +13,10 @@ use Rattle.wh_grammar.specs.Name.{IsName}
 use Rattle.wh_grammar.specs.Parts as g
 use Rattle.wh_grammar.specs.Parts.{IsType, AreColumns, MayRetain, MayAppend, IsDirection, IsKey, AreSorts, MayHaveOrder}
 use Rattle.wh_grammar.specs.Spelled.{MayFollow, follows_none, follows}
-use Rattle.wh_expr_parse.specs.declared.key.Key.TheVariants as k
-use Rattle.wh_expr_parse.specs.State.{tail, sees}
-use Rattle.wh_expr_parse.proofs.Combine.{Yields, yields, nothing, follow, mapped, yields_law, if_eaten_word, then_expect_word, then_expect_key, word-yields, number-yields, name-yields}
+use Rattle.wh_cursor.specs.declared.key.Key.TheVariants as k
+use Rattle.wh_cursor.specs.Steps.{tail, sees}
+use Rattle.wh_cursor.proofs.Yields.{Yields, yields, nothing, follow, mapped, yields_law}
+use Rattle.wh_cursor.proofs.Combine.{if_eaten_word, then_expect_word, then_expect_key, word-yields, number-yields, name-yields}
 use Rattle.wh_dml_parse.specs.Follow.{AreNamesAt}
 use Rattle.wh_dml_parse.specs.Laws as dml_laws
 use Rattle.wh_stmt_parse.specs.Parts.{type_of, read_type, read_column, read_columns, retention_by, read_retention, truth_by, read_truth, append_by, read_append, key_by, read_key, direction_by, read_direction, read_sort, read_sorts, order_by, read_order, after_by, read_after, read_end}

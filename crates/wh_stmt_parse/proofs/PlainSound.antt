@@ -9,11 +9,10 @@ use Rattle.wh_grammar.specs.Parts.{IsLag, AreColumns, AsksForData, MayReplace, n
 use Rattle.wh_grammar.specs.Changing.{IsDml}
 use Rattle.wh_grammar.specs.Spelled as g
 use Rattle.wh_grammar.specs.Spelled.{IsPlain, MayEnd, most_nested}
-use Rattle.wh_expr_parse.specs.declared.key.Key.TheVariants as k
-use Rattle.wh_expr_parse.specs.State.{tail}
-use Rattle.wh_expr_parse.specs.Read.{read_name}
-use Rattle.wh_expr_parse.specs.Steps.{◌>>=◌, and_then, sees_word, eat_word}
-use Rattle.wh_expr_parse.proofs.Combine.{Yields, yields, follow, mapped, yields_law, if_test, if_eaten_word, then_expect_word, then_expect_key, sees_word_some, name-yields}
+use Rattle.wh_cursor.specs.declared.key.Key.TheVariants as k
+use Rattle.wh_cursor.specs.Steps.{tail, read_name, ◌>>=◌, and_then, sees_word, eat_word}
+use Rattle.wh_cursor.proofs.Yields.{Yields, yields, follow, mapped, yields_law, if_test}
+use Rattle.wh_cursor.proofs.Combine.{if_eaten_word, then_expect_word, then_expect_key, sees_word_some, name-yields}
 use Rattle.wh_query_parse.specs.Follow.{IsQueryAt}
 use Rattle.wh_query_parse.specs.Laws as query_laws
 use Rattle.wh_option_parse.specs.Laws as option_laws

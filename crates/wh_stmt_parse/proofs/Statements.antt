@@ -12,11 +12,11 @@ use Rattle.wh_grammar.specs.Spelled as g
 use Rattle.wh_grammar.specs.Spelled.{IsPlain, IsStatement, Spells, Request, TooLong, Unreadable, Asked, Asks, tokens_of}
 use Rattle.wh_lex.specs.Read.{read_tokens}
 use Rattle.wh_lex.proofs.ReadLaws.{tokens_read}
-use Rattle.wh_expr_parse.specs.declared.fault.ParseFault.{ParseFault}
-use Rattle.wh_expr_parse.specs.declared.fault.ParseFault.TheVariants as faults
-use Rattle.wh_expr_parse.specs.State.{tail}
-use Rattle.wh_expr_parse.specs.Steps.{sees_word}
-use Rattle.wh_expr_parse.proofs.Combine.{Yields, Is, yields, nothing, follow, mapped, sees_word_some}
+use Rattle.wh_cursor.specs.declared.fault.ParseFault.{ParseFault}
+use Rattle.wh_cursor.specs.declared.fault.ParseFault.TheVariants as faults
+use Rattle.wh_cursor.specs.Steps.{tail, sees_word}
+use Rattle.wh_cursor.proofs.Yields.{Yields, Is, yields, nothing, follow, mapped}
+use Rattle.wh_cursor.proofs.Combine.{sees_word_some}
 use Rattle.wh_stmt_parse.specs.declared.verb.Verb.{Verb}
 use Rattle.wh_stmt_parse.specs.declared.verb.Verb.TheVariants as verb
 use Rattle.wh_stmt_parse.specs.declared.verb.Object.{Object}

@@ -7,8 +7,7 @@ use Rattle.wh_ast.specs.declared.statement.Statement.TheVariants as st
 use Rattle.wh_ast.specs.declared.statement.When.{When}
 use Rattle.wh_grammar.specs.Token.{Placed}
 use Rattle.wh_grammar.specs.Spelled.{most_nested, written}
-use Rattle.wh_expr_parse.specs.Read.{read_name}
-use Rattle.wh_expr_parse.specs.Steps.{Reader, ◌>>=◌, ◌>>◌, pure, refuse, eat_word, expect_word}
+use Rattle.wh_cursor.specs.Steps.{read_name, Reader, ◌>>=◌, ◌>>◌, pure, refuse, eat_word, expect_word}
 use Rattle.wh_query_parse.specs.Read.{read_query}
 use Rattle.wh_option_parse.specs.Read.{read_condition, read_task_options, read_table_options}
 use Rattle.wh_dml_parse.specs.Read.{read_dml}

@@ -12,10 +12,8 @@ use Rattle.wh_value.specs.declared.column.Column.{Column}
 use Rattle.wh_ast.specs.declared.query.Sort.{Sort}
 use Rattle.wh_ast.specs.declared.query.Key as sort_key
 use Rattle.wh_ast.specs.declared.query.Key.TheVariants as key
-use Rattle.wh_expr_parse.specs.declared.key.Key.TheVariants as k
-use Rattle.wh_expr_parse.specs.Read.{read_name}
-use Rattle.wh_expr_parse.specs.State.{sees}
-use Rattle.wh_expr_parse.specs.Steps.{Reader, ◌>>=◌, ◌>>◌, pure, refuse, eat_word, eat_key, expect_word, expect_key, read_word, read_number}
+use Rattle.wh_cursor.specs.declared.key.Key.TheVariants as k
+use Rattle.wh_cursor.specs.Steps.{read_name, sees, Reader, ◌>>=◌, ◌>>◌, pure, refuse, eat_word, eat_key, expect_word, expect_key, read_word, read_number}
 use Rattle.wh_dml_parse.specs.Read.{read_names}
 
 abbrev pub given : {A : Type 0} → Option A → Reader A

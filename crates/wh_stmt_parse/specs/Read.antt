@@ -9,7 +9,7 @@ use Rattle.wh_ast.specs.declared.statement.Statement.TheVariants as st
 use Rattle.wh_grammar.specs.Token.{Token, Placed}
 use Rattle.wh_grammar.specs.Spelled.{tokens_of}
 use Rattle.wh_lex.specs.Read.{read_tokens}
-use Rattle.wh_expr_parse.specs.Steps.{Reader, ◌>>=◌, ◌>>◌, pure, refuse, skip, sees_word}
+use Rattle.wh_cursor.specs.Steps.{Reader, ◌>>=◌, ◌>>◌, pure, refuse, skip, sees_word}
 use Rattle.wh_stmt_parse.specs.declared.verb.Verb.{Verb}
 use Rattle.wh_stmt_parse.specs.declared.verb.Verb.TheVariants as verb
 use Rattle.wh_stmt_parse.specs.declared.verb.Object.{Object}

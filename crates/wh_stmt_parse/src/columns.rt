@@ -1,12 +1,12 @@
 //! The columns of a table.
 
 ghost use Rattle.std.specs.Prelude.{◌≡◌};
-ghost use Rattle.wh_expr_parse.specs.Gives.{Reads};
+ghost use Rattle.wh_cursor.specs.Gives.{Reads};
 ghost use Rattle.wh_stmt_parse.specs.Parts as spec;
 
 use sqlite_items::Items;
 use std::alloc::Global;
-use wh_expr_parse::{Key, ParseFault, Words, name};
+use wh_cursor::{Key, ParseFault, Words, name};
 use wh_value::{Column, ColumnType};
 
 /// A type by any of its names.

@@ -1,7 +1,7 @@
 //! Statements that keep parts of their text: CREATE TASK and CREATE DYNAMIC TABLE.
 
 ghost use Rattle.std.specs.Prelude.{◌≡◌, ◌-◌, length, take, drop};
-ghost use Rattle.wh_expr_parse.specs.Gives.{Reads};
+ghost use Rattle.wh_cursor.specs.Gives.{Reads};
 ghost use Rattle.wh_grammar.specs.Spelled.{end_of, written};
 ghost use Rattle.wh_stmt_parse.specs.Gives.{Gives};
 ghost use Rattle.wh_stmt_parse.specs.Kept as spec;
@@ -12,7 +12,7 @@ use sqlite_items::Items;
 use std::alloc::Global;
 use wh_ast::{CreateDynamicTable, CreateTask, Statement, When};
 use wh_dml_parse::dml;
-use wh_expr_parse::{ParseFault, Words, name};
+use wh_cursor::{ParseFault, Words, name};
 use wh_lex::Token;
 use wh_option_parse::{condition, table_options, task_options};
 use wh_query_parse::query;

@@ -1,9 +1,9 @@
 ghost use Rattle.std.specs.Prelude.{◌≡◌, ◌≤◌, length, Some, None, IfOk, IsErrOf};
-ghost use Rattle.wh_expr_parse.specs.View.{AreShort};
+ghost use Rattle.wh_cursor.specs.View.{AreShort};
 ghost use Rattle.std.specs.Str as strings;
 ghost use Rattle.wh_ast.specs.declared.statement.Statement as ast;
 ghost use Rattle.wh_grammar.specs.Spelled.{Spells, tokens_of};
-ghost use Rattle.wh_expr_parse.specs.Gives.{Reads};
+ghost use Rattle.wh_cursor.specs.Gives.{Reads};
 ghost use Rattle.wh_lex.specs.Read.{read_tokens};
 ghost use Rattle.wh_stmt_parse.specs.Gives.{Gives};
 ghost use Rattle.wh_stmt_parse.specs.Laws as laws;
@@ -19,7 +19,7 @@ use crate::plain::{
 use crate::verb::{Object, Verb, created_object, first_verb};
 use std::alloc::Global;
 use wh_ast::Statement;
-use wh_expr_parse::{ParseFault, Words};
+use wh_cursor::{ParseFault, Words};
 use wh_lex::{LexFault, Token, tokens};
 
 /// The longest text of a statement, in bytes.

@@ -1,13 +1,13 @@
 //! The order of a query's rows.
 
 ghost use Rattle.std.specs.Prelude.{◌≡◌, Some};
-ghost use Rattle.wh_expr_parse.specs.Gives.{Reads};
+ghost use Rattle.wh_cursor.specs.Gives.{Reads};
 ghost use Rattle.wh_stmt_parse.specs.Parts as spec;
 
 use sqlite_items::Items;
 use std::alloc::Global;
 use wh_ast::Sort;
-use wh_expr_parse::{Key, ParseFault, Words, name};
+use wh_cursor::{Key, ParseFault, Words, name};
 
 /// A column's name, or its number.
 #[tactic(auto, unfolding(crate::specs::Parts::read_key))]

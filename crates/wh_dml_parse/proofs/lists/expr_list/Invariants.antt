@@ -1,6 +1,6 @@
 use Rattle.std.proofs.Common.{◌≡◌, ◌-◌}
-use Rattle.wh_expr_parse.specs.declared.key.Key.TheVariants as k
-use Rattle.wh_expr_parse.specs.Steps.{eat_key}
+use Rattle.wh_cursor.specs.declared.key.Key.TheVariants as k
+use Rattle.wh_cursor.specs.Steps.{eat_key}
 use Rattle.wh_expr_parse.specs.Read.{read_expr}
 use Rattle.wh_dml_parse.specs.Read.{listed, some_from}
 use Rattle.wh_dml_parse.proofs.lists.expr_list.Given as goal

@@ -1,8 +1,7 @@
 use Rattle.std.proofs.Common.{rules, arith}
 use Rattle.std.proofs.lemmas.Grind.{common_steps}
-use Rattle.wh_expr_parse.specs.declared.key.Key.TheVariants as k
-use Rattle.wh_expr_parse.specs.Steps.{eat_key}
-use Rattle.wh_expr_parse.specs.Read.{read_name}
+use Rattle.wh_cursor.specs.declared.key.Key.TheVariants as k
+use Rattle.wh_cursor.specs.Steps.{eat_key, read_name}
 use Rattle.wh_dml_parse.specs.Read.{some_from, read_names}
 use Rattle.wh_dml_parse.proofs.Several.{one_more, no_more, one_turn}
 use Rattle.wh_dml_parse.proofs.lists.name_list.Goals as goal

@@ -1,4 +1,4 @@
-use Rattle.wh_grammar.specs.Expression.{IsExprAt}
+use Rattle.wh_expr_parse.specs.Laws.{IsExprAt}
 use Rattle.wh_expr_parse.proofs.Found as lemmas
 use Rattle.wh_expr_parse.proofs.Soundness.{read_sound}
 use Rattle.wh_expr_parse.proofs.Completeness.{read_complete}

@@ -1,7 +1,7 @@
 use Rattle.std.proofs.Common.{◌≡◌, true, false, length, sym, rules, option_map, ℕ, List, [], Err, ap}
-use Rattle.wh_expr_parse.specs.declared.fault.ParseFault.{ParseFault}
-use Rattle.wh_expr_parse.specs.Read.{read_name}
-use Rattle.wh_expr_parse.proofs.ShortNumbers.{tokens_short}
+use Rattle.wh_cursor.specs.declared.fault.ParseFault.{ParseFault}
+use Rattle.wh_cursor.specs.Steps.{read_name}
+use Rattle.wh_cursor.proofs.ShortNumbers.{tokens_short}
 use Rattle.wh_option_parse.specs.Alone.{is_alone}
 use Rattle.wh_option_parse.specs.Read.{name_text_of}
 use Rattle.wh_option_parse.proofs.NameTexts.{none_named, part_named, alone_named, name_found, name_none}

@@ -1,6 +1,6 @@
 use Rattle.std.proofs.Common.{ap, ◌∙◌}
-use Rattle.wh_expr_parse.specs.Keys.{key_binds}
-use Rattle.wh_expr_parse.proofs.KeyLemmas.{binds_key}
+use Rattle.wh_cursor.specs.Keys.{key_binds}
+use Rattle.wh_cursor.proofs.KeyLemmas.{binds_key}
 use Rattle.wh_query_parse.proofs.follow.binds.Goals as goal
 
 pub returns : goal.returns

@@ -1,6 +1,6 @@
 use Rattle.std.proofs.Common.{rules, arith}
 use Rattle.std.proofs.lemmas.Grind.{common_steps}
-use Rattle.wh_expr_parse.proofs.Turns.{one_more, no_more}
+use Rattle.wh_cursor.proofs.Turns.{one_more, no_more}
 use Rattle.wh_stmt_parse.specs.Parts.{commas, read_column, read_columns}
 use Rattle.wh_stmt_parse.proofs.Listing.{one_turn}
 use Rattle.wh_stmt_parse.proofs.columns.columns.Goals as goal

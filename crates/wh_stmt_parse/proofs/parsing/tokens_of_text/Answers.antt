@@ -1,4 +1,4 @@
-use Rattle.wh_expr_parse.proofs.ShortNumbers.{tokens_short}
+use Rattle.wh_cursor.proofs.ShortNumbers.{tokens_short}
 use Rattle.wh_stmt_parse.proofs.parsing.tokens_of_text.Goals as goal
 
 pub returns-in-Ok-clause-short : goal.returns-in-Ok-clause-short

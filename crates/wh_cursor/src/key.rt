@@ -1,13 +1,12 @@
 ghost use Rattle.std.specs.Prelude.{◌≡◌, ◌≤◌, bytes_eq};
 ghost use Rattle.wh_lex.specs.View.{token_of, sign_of};
-ghost use Rattle.wh_expr_parse.specs.Keys as spec;
+ghost use Rattle.wh_cursor.specs.Keys as spec;
 
 use crate::reserved::{is_reserved, is_same};
-use wh_ast::Operator;
 use wh_lex::{Kind, Sign};
 use wh_value::Text;
 
-/// What a token is for an expression.
+/// What a token is for an expression, where its bytes don't matter.
 #[derive(Clone, Copy, Debug, PartialEq, Eq)]
 pub enum Key {
     /// No token.
@@ -45,6 +44,7 @@ pub enum Key {
     Arrow,
 }
 
+/// Whether they are the same.
 #[tactic(auto, unfolding(crate::specs::Keys::same_key))]
 pub fn same_key(a: Key, b: Key) -> bool
     ensures { result ≡ spec.same_key a b }
@@ -65,31 +65,6 @@ pub fn binds(key: Key) -> u8
         Key::Star => 5,
         Key::LParen | Key::Dot => 6,
         _ => 0,
-    }
-}
-
-fn operator(key: Key) -> Option<Operator>
-    ensures { result ≡ spec.operator key }
-{
-    match key {
-        Key::Or => Some(Operator::Or),
-        Key::And => Some(Operator::And),
-        Key::Plus => Some(Operator::Add),
-        Key::Minus => Some(Operator::Sub),
-        Key::Star => Some(Operator::Mul),
-        _ => None,
-    }
-}
-
-/// The operator of a level.
-#[tactic(auto, unfolding(crate::specs::Keys::joins))]
-pub fn joins(level: u8, key: Key) -> Option<Operator>
-    ensures { result ≡ spec.joins level key }
-{
-    if binds(key) == level {
-        operator(key)
-    } else {
-        None
     }
 }
 

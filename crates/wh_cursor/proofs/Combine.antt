@@ -1,106 +1,25 @@
--- What the steps of rules of statements read, and where. Soundness goes from an outcome to what stands at the front
--- of the tokens, completeness from what stands there to the outcome.
---     Bound, bind_some, bind_reads       one step after the other
---     Yields, follow, mapped             what holds of an outcome, step by step: the goal says which lemma serves
+-- What the steps of rules of statements read, and where.
 --     expect_.., sees_.., read_..        `_some`: where it reads, the token stands there; `_reads`, `_is`: it reads the token
+--     then_.., if_eaten_..               the step in front of the others, and behind a token that may stand there
 --     not_that_word, not_that_key        a word or a sign isn't seen where another token stands, or none
---     name_.., expr_..                   names and expressions, and that they take a token at least
+--     name_..                            names, and that each takes a token at least
 use Rattle.std.proofs.Common.{◌≡◌, ℕ, ◌<◌, Bool, true, false, if◌then◌else◌, List, [], ◌∷◌, length, Option, Some, None, refl, sym, ap, ◌∙◌, subst, length-append, arith}
 use Rattle.std.specs.Prelude.{bytes_eq}
 use Rattle.std.proofs.lemmas.Option.{same_Some}
 use Rattle.std.proofs.lemmas.Slice.Eq.{bytes_eq-Decides}
-use Rattle.wh_ast.specs.declared.expr.Expr.{Expr}
 use Rattle.wh_grammar.specs.Words.{is_reserved}
 use Rattle.wh_grammar.specs.Token as token
 use Rattle.wh_grammar.specs.Token.{Token, Word, Quoted, TextToken, NumberToken, SignToken}
 use Rattle.wh_grammar.specs.Name.{IsName}
-use Rattle.wh_grammar.specs.Expression.{IsExpr, IsExprAt}
-use Rattle.wh_expr_parse.specs.declared.key.Key.{Key}
-use Rattle.wh_expr_parse.specs.declared.key.Key.TheVariants as k
-use Rattle.wh_expr_parse.specs.Keys.{same_key, key_of}
-use Rattle.wh_expr_parse.specs.State.{tail, sees}
-use Rattle.wh_expr_parse.specs.Steps.{Reader, and_then, sees_word, expect_word, expect_key, read_word, read_text, read_number}
-use Rattle.wh_expr_parse.specs.Read.{read_name, read_expr}
-use Rattle.wh_expr_parse.specs.Laws.{Follows}
-use Rattle.wh_expr_parse.proofs.KeyLemmas.{fixed, Heads, heads}
-use Rattle.wh_expr_parse.proofs.RuleSteps.{name-complete}
-use Rattle.wh_expr_parse.proofs.Soundness.{read_sound}
-use Rattle.wh_expr_parse.proofs.Completeness.{read_complete}
-use Rattle.wh_expr_parse.proofs.Found.{name_sound}
-use Rattle.wh_expr_parse.proofs.Fronts.{name-front, expr-front}
-
--- ---- one step after the other
-
--- what the first step read, where both read
-pub record Bound {A B : Type 0} (read : Option (A × List Token)) (f : A → Reader B) (y : B) (us : List Token) : Type 0 where
-  pub value : A
-  pub left : List Token
-  pub first : read ≡ Some (value, left)
-  pub next : f value left ≡ Some (y, us)
-
-pub bind_some : {A B : Type 0} (read : Option (A × List Token)) (f : A → Reader B) {y : B} {us : List Token} → and_then read f ≡ Some (y, us) → Bound read f y us
-bind_some None f h = absurd (cc)
-bind_some (Some p) f h = record { value = p.0; left = p.1; first = refl; next = h }
-
-pub bind_reads : {A B : Type 0} {read : Option (A × List Token)} (f : A → Reader B) {x : A} {ms : List Token} → read ≡ Some (x, ms) → and_then read f ≡ f x ms
-bind_reads f h = rw h refl
-
-pub pure_some : {A : Type 0} {x y : A} {ts us : List Token} → ◌≡◌ {A = Option (A × List Token)} (Some (x, ts)) (Some (y, us)) → (x ≡ y) × (ts ≡ us)
-pure_some {A} h = let same = same_Some _ _ h in (ap (λ (q : A × List Token). q.0) same, ap (λ (q : A × List Token). q.1) same)
-
--- ---- what holds of an outcome
-
--- where there is an outcome, it is such a one
-abbrev pub Is : {A : Type 0} → (A → List Token → Type 0) → Option (A × List Token) → Type 0
-Is Q None = Unit {0}
-Is Q (Some p) = Q p.0 p.1
-
-pub record Yields {A : Type 0} (o : Option (A × List Token)) (Q : A → List Token → Type 0) : Type 0 where
-  pub is : Is Q o
-
-pub yields : {A : Type 0} {Q : A → List Token → Type 0} (x : A) (us : List Token) → Q x us → Yields (Some (x, us)) Q
-yields x us h = record { is = h }
-
-pub nothing : {A : Type 0} {Q : A → List Token → Type 0} → Yields None Q
-nothing = record { is = tt }
-
--- to a reading function's law and from it
-pub yielded : {A : Type 0} {o : Option (A × List Token)} {Q : A → List Token → Type 0} → Yields o Q → (x : A) (us : List Token) → o ≡ Some (x, us) → Q x us
-yielded {o = o} {Q} h x us e = subst (Is Q) e h.is
-
-yields_by : {A : Type 0} (o : Option (A × List Token)) (Q : A → List Token → Type 0) → ((x : A) (us : List Token) → o ≡ Some (x, us) → Q x us) → Is Q o
-yields_by None Q k = tt
-yields_by (Some p) Q k = k p.0 p.1 refl
-
-pub yields_law : {A : Type 0} {o : Option (A × List Token)} {Q : A → List Token → Type 0} → ((x : A) (us : List Token) → o ≡ Some (x, us) → Q x us) → Yields o Q
-yields_law {o = o} {Q} k = record { is = yields_by o Q k }
-
-then_by : {A B : Type 0} (o : Option (A × List Token)) (f : A → Reader B) (P : A → List Token → Type 0) (Q : B → List Token → Type 0) → Is P o
-    → ((x : A) (ms : List Token) → P x ms → Yields (f x ms) Q) → Is Q (and_then o f)
-then_by None f P Q h k = tt
-then_by (Some p) f P Q h k = (k p.0 p.1 h).is
-
-pub follow : {A B : Type 0} {o : Option (A × List Token)} {f : A → Reader B} {P : A → List Token → Type 0} {Q : B → List Token → Type 0} → Yields o P
-    → ((x : A) (ms : List Token) → P x ms → Yields (f x ms) Q) → Yields (and_then o f) Q
-follow {o = o} {f} {P} {Q} h k = record { is = then_by o f P Q h.is k }
-
-mapped_by : {A : Type 0} (o : Option (A × List Token)) (P Q : A → List Token → Type 0) → Is P o → ((x : A) (us : List Token) → P x us → Q x us) → Is Q o
-mapped_by None P Q h k = tt
-mapped_by (Some p) P Q h k = k p.0 p.1 h
-
-pub mapped : {A : Type 0} {o : Option (A × List Token)} {P Q : A → List Token → Type 0} → Yields o P → ((x : A) (us : List Token) → P x us → Q x us) → Yields o Q
-mapped {o = o} {P} {Q} h k = record { is = mapped_by o P Q h.is k }
-
--- behind a test
-pub if_test : {A : Type 0} (r : Bool) {x y : Option (A × List Token)} {Q : A → List Token → Type 0} → (r ≡ true → Yields x Q) → (r ≡ false → Yields y Q) → Yields (if r then x else y) Q
-if_test true g h = g refl
-if_test false g h = h refl
-
--- the same, where readers stand behind it
-pub if_readers : {A : Type 0} (r : Bool) (p q : Reader A) {ts : List Token} {Q : A → List Token → Type 0} → (r ≡ true → Yields (p ts) Q) → (r ≡ false → Yields (q ts) Q)
-    → Yields ((if r then p else q) ts) Q
-if_readers true p q g h = g refl
-if_readers false p q g h = h refl
+use Rattle.wh_cursor.specs.declared.key.Key.{Key}
+use Rattle.wh_cursor.specs.declared.key.Key.TheVariants as k
+use Rattle.wh_cursor.specs.Keys.{same_key, key_of}
+use Rattle.wh_cursor.specs.Steps.{Reader, and_then, tail, sees, sees_word, expect_word, expect_key, read_word, read_text, read_number, read_name}
+use Rattle.wh_cursor.specs.Laws.{Follows}
+use Rattle.wh_cursor.proofs.KeyLemmas.{fixed, Heads, heads}
+use Rattle.wh_cursor.proofs.Yields.{pure_some, Yields, nothing, yields_law, follow}
+use Rattle.wh_cursor.proofs.Names.{name-complete, name_sound}
+use Rattle.wh_cursor.proofs.Fronts.{name-front}
 
 -- ---- a word
 
@@ -368,7 +287,7 @@ text-yields ts = yields_law (λ bytes us h. read_text_some ts h)
 pub number-yields : (ts : List Token) → Yields (read_number ts) (λ n us. ts ≡ NumberToken n ∷ us)
 number-yields ts = yields_law (λ n us h. read_number_some ts h)
 
--- ---- names and expressions
+-- ---- names
 
 pub name_some : {ts us : List Token} {name : List ℕ} → read_name ts ≡ Some (name, us) → IsName ts name us
 name_some h = name_sound _ _ _ h
@@ -379,21 +298,9 @@ name_reads h = name-complete h
 pub name-yields : (ts : List Token) → Yields (read_name ts) (λ name us. IsName ts name us)
 name-yields ts = yields_law (λ name us h. name_sound ts name us h)
 
-pub expr_some : {d : ℕ} {ts us : List Token} {x : Expr} → read_expr d ts ≡ Some (x, us) → IsExprAt d ts x us
-expr_some h = read_sound _ _ _ _ h
-
-pub expr_reads : {d : ℕ} {ts us : List Token} {x : Expr} → IsExprAt d ts x us → read_expr d ts ≡ Some (x, us)
-expr_reads h = read_complete _ _ _ _ h
-
-pub expr-yields : (d : ℕ) (ts : List Token) → Yields (read_expr d ts) (λ x us. IsExprAt d ts x us)
-expr-yields d ts = yields_law (λ x us h. read_sound d ts x us h)
-
 -- a token at least is taken
 pub follows-shorter : {ts us : List Token} → Follows ts us → length us < length ts
 follows-shorter {us = us} h = omega (arith, ap length h.is, length-append h.more us)
 
 pub name_shorter : {ts us : List Token} {name : List ℕ} → IsName ts name us → length us < length ts
 name_shorter h = follows-shorter (name-front h)
-
-pub expr_shorter : {d : ℕ} {ts us : List Token} {x : Expr} → IsExpr d ts x us → length us < length ts
-expr_shorter h = follows-shorter (expr-front _ _ _ _ h)

@@ -1,34 +1,52 @@
--- What rules of statements are made of: readers of tokens, and the steps that each takes.
---     Reader                      takes something from the front of tokens, and leaves the rest
---     sees_word                          whether that word comes next
---     eat_word, eat_key                  takes it, or a sign by its key, if it comes next
+-- What rules are made of: readers, and the steps that each takes.
+--     ReaderOf S                         takes something from the front of a state, and leaves the rest; one after the other, by `do`
+--     Reader                             the same of tokens
+--     sees, sees_word                    whether a sign, by its key, or a word comes next
+--     eat_word, eat_key                  takes it, if it comes next
 --     expect_word, expect_key            takes it, and nothing else
 --     read_word, read_text, read_number  takes a token with what it carries
-use Rattle.std.specs.Prelude.{ℕ, Bool, false, if◌then◌else◌, List, [], ◌∷◌, Option, Some, None, bytes_eq}
+--     read_name                          takes a name
+use Rattle.std.specs.Prelude.{ℕ, Bool, false, not, ◌&&◌, List, [], ◌∷◌, Option, Some, None, bytes_eq, if◌then◌else◌}
+use Rattle.wh_grammar.specs.Words.{is_reserved, is_call}
 use Rattle.wh_grammar.specs.Token.{Token, Word, Quoted, TextToken, NumberToken, SignToken}
-use Rattle.wh_expr_parse.specs.declared.key.Key.{Key}
-use Rattle.wh_expr_parse.specs.State.{tail, sees}
+use Rattle.wh_grammar.specs.Name.{opens}
+use Rattle.wh_cursor.specs.declared.key.Key.{Key}
+use Rattle.wh_cursor.specs.Keys.{same_key, key_of}
 
-abbrev pub Reader : Type 0 → Type 0
-Reader A = List Token → Option (A × List Token)
+-- ---- readers over any state
 
-abbrev pub and_then : {A B : Type 0} → Option (A × List Token) → (A → Reader B) → Option (B × List Token)
+abbrev pub ReaderOf : Type 0 → Type 0 → Type 0
+ReaderOf S A = S → Option (A × S)
+
+abbrev pub and_then : {S A B : Type 0} → Option (A × S) → (A → ReaderOf S B) → Option (B × S)
 and_then None f = None
 and_then (Some p) f = f p.0 p.1
 
 infixl 10 ◌>>=◌
-abbrev pub ◌>>=◌ : {A B : Type 0} → Reader A → (A → Reader B) → Reader B
-p >>= f = λ ts. and_then (p ts) f
+abbrev pub ◌>>=◌ : {S A B : Type 0} → ReaderOf S A → (A → ReaderOf S B) → ReaderOf S B
+p >>= f = λ s. and_then (p s) f
 
 infixl 10 ◌>>◌
-abbrev pub ◌>>◌ : {A B : Type 0} → Reader A → Reader B → Reader B
+abbrev pub ◌>>◌ : {S A B : Type 0} → ReaderOf S A → ReaderOf S B → ReaderOf S B
 p >> q = p >>= (λ _. q)
 
-abbrev pub pure : {A : Type 0} → A → Reader A
-pure x = λ ts. Some (x, ts)
+abbrev pub pure : {S A : Type 0} → A → ReaderOf S A
+pure x = λ s. Some (x, s)
 
-abbrev pub refuse : {A : Type 0} → Reader A
+abbrev pub refuse : {S A : Type 0} → ReaderOf S A
 refuse = λ _. None
+
+-- ---- readers of tokens
+
+abbrev pub Reader : Type 0 → Type 0
+Reader A = ReaderOf (List Token) A
+
+abbrev pub tail : List Token → List Token
+tail [] = []
+tail (t ∷ us) = us
+
+unfoldable pub sees : Key → List Token → Bool
+sees key ts = same_key (key_of ts) key
 
 -- takes the token, whatever it is
 abbrev pub skip : Reader (Unit {0})
@@ -83,3 +101,16 @@ read_number (Quoted name ∷ us) = None
 read_number (TextToken bytes ∷ us) = None
 read_number (NumberToken n ∷ us) = Some (n, us)
 read_number (SignToken s ∷ us) = None
+
+-- ---- a name
+
+abbrev pub is_name : List ℕ → List Token → Bool
+is_name w us = not (is_reserved w) && not (is_call w && opens us)
+
+unfoldable pub read_name : Reader (List ℕ)
+read_name [] = None
+read_name (Word w ∷ us) = if is_name w us then Some (w, us) else None
+read_name (Quoted name ∷ us) = Some (name, us)
+read_name (TextToken bytes ∷ us) = None
+read_name (NumberToken n ∷ us) = None
+read_name (SignToken s ∷ us) = None

@@ -1,7 +1,7 @@
 -- What a function of the code returned, and what it left, is what reading gives.
 use Rattle.std.specs.Prelude.{◌≡◌, Option, Some, None, Result, Ok, Err}
-use Rattle.wh_expr_parse.specs.declared.fault.ParseFault.{ParseFault}
-use Rattle.wh_expr_parse.specs.declared.fault.ParseFault.TheVariants.{SyntaxError, OutOfMemory}
+use Rattle.wh_cursor.specs.declared.fault.ParseFault.{ParseFault}
+use Rattle.wh_cursor.specs.declared.fault.ParseFault.TheVariants.{SyntaxError, OutOfMemory}
 
 -- a syntax error is for nothing else than what isn't read
 abbrev pub Fails : {Y : Type 0} → ParseFault → Option Y → Type 0

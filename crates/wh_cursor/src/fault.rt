@@ -1,5 +1,5 @@
 ghost use Rattle.std.specs.Prelude.{◌≡◌};
-ghost use Rattle.wh_expr_parse.specs.declared.fault.ParseFault.TheVariants as faults;
+ghost use Rattle.wh_cursor.specs.declared.fault.ParseFault.TheVariants as faults;
 
 use std::alloc::AllocError;
 

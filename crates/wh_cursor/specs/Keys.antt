@@ -1,13 +1,11 @@
 -- What a token is for an expression, where its bytes don't matter.
-use Rattle.std.specs.Prelude.{ℕ, Bool, List, [], ◌∷◌, Option, Some, None, codes, bytes_eq, ◌==◌, if◌then◌else◌}
+use Rattle.std.specs.Prelude.{ℕ, Bool, List, [], ◌∷◌, codes, bytes_eq, if◌then◌else◌}
 use denote.Enum.Bare.{sameb}
-use Rattle.wh_ast.specs.declared.expr.Operator.{Operator}
-use Rattle.wh_ast.specs.declared.expr.Operator.TheVariants as o
 use Rattle.wh_grammar.specs.Words.{is_reserved}
 use Rattle.wh_grammar.specs.Token.{Token, Word, Quoted, TextToken, NumberToken, SignToken, Sign, LParen, RParen, Comma, Dot, Star, Plus, Minus, Equal, Unequal, Less, AtMost, Greater, AtLeast, Arrow}
-use Rattle.wh_expr_parse.specs.declared.key.Key.{Key}
-use Rattle.wh_expr_parse.specs.declared.key.Key.TheVariants as k
-use Rattle.wh_expr_parse.specs.contracts.key.Key.{the_type}
+use Rattle.wh_cursor.specs.declared.key.Key.{Key}
+use Rattle.wh_cursor.specs.declared.key.Key.TheVariants as k
+use Rattle.wh_cursor.specs.contracts.key.Key.{the_type}
 
 unfoldable pub same_key : Key → Key → Bool
 same_key = sameb the_type
@@ -84,15 +82,3 @@ key_binds k.Star = 5
 key_binds k.LParen = 6
 key_binds k.Dot = 6
 key_binds _ = 0
-
-abbrev pub operator : Key → Option Operator
-operator k.Or = Some o.Or
-operator k.And = Some o.And
-operator k.Plus = Some o.Add
-operator k.Minus = Some o.Sub
-operator k.Star = Some o.Mul
-operator _ = None
-
--- the operator of a level
-unfoldable pub joins : ℕ → Key → Option Operator
-joins level key = if key_binds key == level then operator key else None

@@ -1,21 +1,21 @@
 ghost use Rattle.std.specs.Prelude.{◌≡◌, [], ◌∷◌};
 ghost use Rattle.wh_grammar.specs.Name as machine_name;
 ghost use Rattle.wh_grammar.specs.Spelled.{tokens_of};
-ghost use Rattle.wh_expr_parse.specs.Gives.{Reads};
-ghost use Rattle.wh_expr_parse.specs.Keys.{key_of};
-ghost use Rattle.wh_expr_parse.specs.Read as spec;
-ghost use Rattle.wh_expr_parse.specs.State.{tail};
-ghost use Rattle.wh_expr_parse.specs.View.{AreShort, IsShort};
+ghost use Rattle.wh_cursor.specs.Gives.{Reads};
+ghost use Rattle.wh_cursor.specs.Keys.{key_of};
+ghost use Rattle.wh_cursor.specs.Binds.{binds};
+ghost use Rattle.wh_cursor.specs.Steps as spec;
+ghost use Rattle.wh_cursor.specs.Steps.{tail, sees};
+ghost use Rattle.wh_cursor.specs.View.{AreShort};
 ghost use Rattle.wh_lex.specs.View.{token_of};
 
 use crate::ParseFault;
-use crate::key::{Key, kind_key};
+use crate::key::{Key, binds, kind_key, same_key};
 use crate::reserved::{is_call, is_reserved};
 use std::alloc::Global;
 use std::marker::Model;
-use wh_ast::Expr;
 use wh_lex::{Kind, Sign, Token};
-use wh_value::{Text, Value};
+use wh_value::Text;
 
 /// The tokens that are left of a text. Contracts see them without their places.
 #[derive(Debug, Drop)]
@@ -28,7 +28,7 @@ impl<'a> Model for Words<'a> {
     ghost use Rattle.std.specs.Coded.{coded_list};
     ghost use Rattle.wh_grammar.specs.Token as machine;
     ghost use Rattle.wh_grammar.specs.Spelled.{tokens_of};
-    ghost use Rattle.wh_expr_parse.specs.View.{AreShort};
+    ghost use Rattle.wh_cursor.specs.View.{AreShort};
 
     ghost Value = { List machine.Token };
 
@@ -74,6 +74,22 @@ impl<'a> Words<'a> {
         }
     }
 
+    /// Whether a sign, or a word of expressions, stands behind the next token.
+    #[tactic(auto, unfolding(crate::specs::Steps::sees))]
+    pub fn sees_behind(&self, key: Key) -> bool
+        ensures { result ≡ sees key (tail self.now) }
+    {
+        same_key(self.key_behind(), key)
+    }
+
+    /// How tightly the next token binds behind an expression: 0 where it doesn't go on with it.
+    #[tactic(auto, using(crate::proofs::KeyLemmas::binds_key))]
+    pub fn binds(&self) -> u8
+        ensures { result ≡ binds self.now }
+    {
+        binds(self.key())
+    }
+
     /// Leaves out the next token.
     pub fn skip(&mut self)
         ensures { self.new ≡ tail self.old }
@@ -90,15 +106,6 @@ impl<'a> Words<'a> {
         let name = name_at(alloc, self.rest)?;
         self.skip();
         Ok(name)
-    }
-
-    /// Takes a number or a text.
-    pub fn literal(&mut self, alloc: Global) -> Result<Expr, ParseFault>
-        ensures { Reads (spec.read_literal self.old) result self.new }
-    {
-        let found = literal_at(alloc, self.rest)?;
-        self.skip();
-        Ok(found)
     }
 }
 
@@ -137,7 +144,7 @@ fn is_name(word: &Text, behind: &[Token]) -> bool
     !is_reserved(word) && !(is_call(word) && opens(behind))
 }
 
-#[tactic(auto, unfolding(crate::specs::Read::read_name))]
+#[tactic(auto, unfolding(crate::specs::Steps::read_name))]
 fn name_at(alloc: Global, tokens: &[Token]) -> Result<Text, ParseFault>
     ensures { Reads (spec.read_name (tokens_of tokens.now)) result (tail (tokens_of tokens.now)) }
 {
@@ -147,7 +154,7 @@ fn name_at(alloc: Global, tokens: &[Token]) -> Result<Text, ParseFault>
     }
 }
 
-#[tactic(auto, unfolding(crate::specs::Read::read_name))]
+#[tactic(auto, unfolding(crate::specs::Steps::read_name))]
 fn name_of(alloc: Global, kind: &Kind, behind: &[Token]) -> Result<Text, ParseFault>
     ensures { Reads (spec.read_name (token_of kind.now ∷ tokens_of behind.now)) result
         (tokens_of behind.now) }
@@ -161,30 +168,6 @@ fn name_of(alloc: Global, kind: &Kind, behind: &[Token]) -> Result<Text, ParseFa
             }
         }
         Kind::Quoted(name) => Ok(name.copy(alloc)?),
-        _ => Err(ParseFault::SyntaxError),
-    }
-}
-
-#[tactic(auto, unfolding(crate::specs::Read::read_literal))]
-fn literal_at(alloc: Global, tokens: &[Token]) -> Result<Expr, ParseFault>
-    requires { AreShort tokens.now }
-    ensures { Reads (spec.read_literal (tokens_of tokens.now)) result (tail (tokens_of tokens.now)) }
-{
-    match tokens {
-        [] => Err(ParseFault::SyntaxError),
-        [first, behind @ ..] => literal_of(alloc, first.kind(), behind),
-    }
-}
-
-#[tactic(auto, unfolding(crate::specs::Read::read_literal))]
-fn literal_of(alloc: Global, kind: &Kind, behind: &[Token]) -> Result<Expr, ParseFault>
-    requires { IsShort (token_of kind.now) }
-    ensures { Reads (spec.read_literal (token_of kind.now ∷ tokens_of behind.now)) result
-        (tokens_of behind.now) }
-{
-    match kind {
-        Kind::Number(number) => Ok(Expr::Const(Value::Number(*number as i64))),
-        Kind::Text(text) => Ok(Expr::Const(Value::Text(text.copy(alloc)?))),
         _ => Err(ParseFault::SyntaxError),
     }
 }

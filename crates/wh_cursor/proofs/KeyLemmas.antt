@@ -1,17 +1,17 @@
 -- What a key says of the token that comes next.
-use Rattle.std.proofs.Common.{◌≡◌, ℕ, Bool, true, false, if◌then◌else◌, List, [], ◌∷◌, Option, Some, None, refl, ap, subst, rules}
+use Rattle.std.proofs.Common.{◌≡◌, ℕ, Bool, true, false, List, [], ◌∷◌, Option, Some, None, refl, ap, subst, rules, if◌then◌else◌}
 use Rattle.std.specs.Prelude.{codes, bytes_eq}
 use Rattle.std.proofs.lemmas.Slice.Eq.{bytes_eq-Decides}
 use denote.Enum.Bare.{same_true}
 use Rattle.wh_grammar.specs.Words.{is_reserved}
 use Rattle.wh_grammar.specs.Token as token
 use Rattle.wh_grammar.specs.Token.{Token, Word, Quoted, TextToken, NumberToken, SignToken}
-use Rattle.wh_grammar.specs.Expression.{binds, word_binds}
-use Rattle.wh_expr_parse.specs.declared.key.Key.{Key}
-use Rattle.wh_expr_parse.specs.declared.key.Key.TheVariants as k
-use Rattle.wh_expr_parse.specs.contracts.key.Key.{the_type}
-use Rattle.wh_expr_parse.specs.Keys.{same_key, key_of, word_key, reserved_key, key_binds}
-use Rattle.wh_expr_parse.specs.State.{tail, sees}
+use Rattle.wh_cursor.specs.Binds.{binds, word_binds}
+use Rattle.wh_cursor.specs.declared.key.Key.{Key}
+use Rattle.wh_cursor.specs.declared.key.Key.TheVariants as k
+use Rattle.wh_cursor.specs.contracts.key.Key.{the_type}
+use Rattle.wh_cursor.specs.Keys.{same_key, key_of, word_key, reserved_key, key_binds}
+use Rattle.wh_cursor.specs.Steps.{tail, sees}
 
 -- the one token that has it, where there is only one
 abbrev pub fixed : Key → Option Token

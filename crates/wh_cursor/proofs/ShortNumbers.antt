@@ -2,7 +2,7 @@
 use Rattle.std.proofs.Common.{ℕ, List, sym, subst}
 use Rattle.wh_grammar.specs.Token.{Token, Placed}
 use Rattle.wh_grammar.specs.Lexing.{HasTokens, end, gap, token, IsToken, word, number, text, quoted, sign, other_unequal}
-use Rattle.wh_expr_parse.specs.View.{IsShort, AreShort}
+use Rattle.wh_cursor.specs.View.{IsShort, AreShort}
 
 token-short : (bytes : List ℕ) (t : Token) (rest : List ℕ) → IsToken bytes t rest → IsShort t
 token-short bytes t rest (word b more e h all stop is) = subst IsShort (sym is) tt

@@ -2,9 +2,9 @@
 
 ghost use Rattle.std.specs.Prelude.{◌≡◌, if◌then◌else◌};
 ghost use Rattle.wh_grammar.specs.Spelled.{tokens_of};
-ghost use Rattle.wh_expr_parse.specs.Gives.{Reads};
-ghost use Rattle.wh_expr_parse.specs.State.{tail, sees};
-ghost use Rattle.wh_expr_parse.specs.Steps as spec;
+ghost use Rattle.wh_cursor.specs.Gives.{Reads};
+ghost use Rattle.wh_cursor.specs.Steps.{tail, sees};
+ghost use Rattle.wh_cursor.specs.Steps as spec;
 ghost use Rattle.wh_lex.specs.View.{token_of};
 
 use crate::key::same_key;
@@ -15,7 +15,7 @@ use wh_value::Text;
 
 impl<'a> Words<'a> {
     /// Whether a sign, or a word of expressions, comes next.
-    #[tactic(auto, unfolding(crate::specs::State::sees))]
+    #[tactic(auto, unfolding(crate::specs::Steps::sees))]
     pub fn sees(&self, key: Key) -> bool
         ensures { result ≡ sees key self.now }
     {

@@ -1,0 +1,14 @@
+//! A cursor over tokens, with the steps that the rules of all parsers are made of.
+#![tactic(auto)]
+
+mod fault;
+mod key;
+mod reading;
+mod reserved;
+mod steps;
+mod words;
+
+pub use fault::ParseFault;
+pub use key::{Key, binds};
+pub use reading::{name, reading_laws};
+pub use words::Words;
