@@ -2,6 +2,7 @@
 --     expect_.., sees_.., read_..        `_some`: where it reads, the token stands there; `_reads`, `_is`: it reads the token
 --     then_.., if_eaten_..               the step in front of the others, and behind a token that may stand there
 --     not_that_word, not_that_key        a word or a sign isn't seen where another token stands, or none
+--     given-.., end-..                   what takes nothing
 --     name_..                            names, and that each takes a token at least
 use Rattle.std.proofs.Common.{◌≡◌, ℕ, ◌<◌, Bool, true, false, if◌then◌else◌, List, [], ◌∷◌, length, Option, Some, None, refl, sym, ap, ◌∙◌, subst, length-append, arith}
 use Rattle.std.specs.Prelude.{bytes_eq}
@@ -14,10 +15,10 @@ use Rattle.wh_grammar.specs.Name.{IsName}
 use Rattle.wh_cursor.specs.declared.key.Key.{Key}
 use Rattle.wh_cursor.specs.declared.key.Key.TheVariants as k
 use Rattle.wh_cursor.specs.Keys.{same_key, key_of}
-use Rattle.wh_cursor.specs.Steps.{Reader, and_then, tail, sees, sees_word, expect_word, expect_key, read_word, read_text, read_number, read_name}
+use Rattle.wh_cursor.specs.Steps.{Reader, and_then, tail, sees, sees_word, expect_word, expect_key, read_word, read_text, read_number, read_name, given, read_end}
 use Rattle.wh_cursor.specs.Laws.{Follows}
 use Rattle.wh_cursor.proofs.KeyLemmas.{fixed, Heads, heads}
-use Rattle.wh_cursor.proofs.Yields.{pure_some, Yields, nothing, yields_law, follow}
+use Rattle.wh_cursor.proofs.Yields.{pure_some, Yields, yields, nothing, yields_law, follow}
 use Rattle.wh_cursor.proofs.Names.{name-complete, name_sound}
 use Rattle.wh_cursor.proofs.Fronts.{name-front}
 
@@ -172,6 +173,29 @@ star_reads us = expect_key_reads k.Star _ us refl
 
 pub equal_reads : (us : List Token) → expect_key k.Equal (SignToken token.Equal ∷ us) ≡ Some (tt, us)
 equal_reads us = expect_key_reads k.Equal _ us refl
+
+-- ---- what takes nothing
+
+pub given-yields : {A : Type 0} (o : Option A) (ts : List Token) {Q : A → List Token → Type 0} → ((x : A) → o ≡ Some x → Q x ts) → Yields (given o ts) Q
+given-yields None ts k = nothing
+given-yields (Some x) ts k = yields x ts (k x refl)
+
+pub then_given : {A B : Type 0} (o : Option A) (ts : List Token) (f : A → Reader B) {Q : B → List Token → Type 0} → ((x : A) → o ≡ Some x → Yields (f x ts) Q)
+    → Yields (and_then (given o ts) f) Q
+then_given None ts f k = nothing
+then_given (Some x) ts f k = k x refl
+
+pub given-reads : {A : Type 0} (o : Option A) (x : A) (ts : List Token) → o ≡ Some x → given o ts ≡ Some (x, ts)
+given-reads o x ts h = rw h refl
+
+pub end-yields : (ts : List Token) → Yields (read_end ts) (λ _ us. (ts ≡ []) × (us ≡ []))
+unfolding read_end
+end-yields [] = yields tt [] (refl, refl)
+end-yields (t ∷ us) = nothing
+
+pub end-reads : (us : List Token) → us ≡ [] → read_end us ≡ Some (tt, us)
+unfolding read_end
+end-reads us e = subst (λ (us : List Token). read_end us ≡ Some (tt, us)) (sym e) refl
 
 -- ---- what isn't seen
 

@@ -101,7 +101,8 @@ heads key ts r = heads_at key ts (same_true the_type (search rules) (key_of ts) 
 
 -- ---- what binds
 
-unreserved : (w c : List ℕ) → is_reserved c ≡ true → is_reserved w ≡ false → bytes_eq w c ≡ false
+-- a word that isn't reserved is none of those
+pub unreserved : (w c : List ℕ) → is_reserved c ≡ true → is_reserved w ≡ false → bytes_eq w c ≡ false
 unreserved w c r n = by (bytes_eq w c) refl
   where
     by : (b : Bool) → bytes_eq w c ≡ b → b ≡ false

@@ -3,7 +3,7 @@ pub mod Turns
 pub mod KeyLemmas
 pub mod Yields
 pub mod Combine
+pub mod ListLemmas
 pub mod Names
 pub mod Fronts
 pub mod Found
-pub mod ShortNumbers

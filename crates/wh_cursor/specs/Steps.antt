@@ -6,6 +6,7 @@
 --     expect_word, expect_key            takes it, and nothing else
 --     read_word, read_text, read_number  takes a token with what it carries
 --     read_name                          takes a name
+--     given, read_end                    goes on with what was found, and at the end of the tokens
 use Rattle.std.specs.Prelude.{ℕ, Bool, false, not, ◌&&◌, List, [], ◌∷◌, Option, Some, None, bytes_eq, if◌then◌else◌}
 use Rattle.wh_grammar.specs.Words.{is_reserved, is_call}
 use Rattle.wh_grammar.specs.Token.{Token, Word, Quoted, TextToken, NumberToken, SignToken}
@@ -75,6 +76,16 @@ expect_word w = λ ts. if sees_word w ts then Some (tt, tail ts) else None
 
 unfoldable pub expect_key : Key → Reader (Unit {0})
 expect_key key = λ ts. if sees key ts then Some (tt, tail ts) else None
+
+-- goes on with what was found
+abbrev pub given : {A : Type 0} → Option A → Reader A
+given None = refuse
+given (Some x) = pure x
+
+-- takes nothing, where no token is left
+unfoldable pub read_end : Reader (Unit {0})
+read_end [] = Some (tt, [])
+read_end (t ∷ us) = None
 
 -- ---- a token that carries something
 

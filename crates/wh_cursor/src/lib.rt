@@ -3,6 +3,7 @@
 
 mod fault;
 mod key;
+mod lists;
 mod reading;
 mod reserved;
 mod steps;
@@ -10,5 +11,6 @@ mod words;
 
 pub use fault::ParseFault;
 pub use key::{Key, binds};
-pub use reading::{name, reading_laws};
+pub use lists::listed;
+pub use reading::{name, reading_laws, tokens_of_text};
 pub use words::Words;

@@ -105,6 +105,17 @@ impl<'a> Words<'a> {
         self.skip();
         Ok(number)
     }
+
+    /// Takes nothing, and fails where a token is left.
+    #[tactic(auto, unfolding(crate::specs::Steps::read_end))]
+    pub fn expect_end(&self) -> Result<(), ParseFault>
+        ensures { Reads (spec.read_end self.now) result self.now }
+    {
+        match self.rest() {
+            [] => Ok(()),
+            [_, ..] => Err(ParseFault::SyntaxError),
+        }
+    }
 }
 
 #[tactic(auto, unfolding(crate::specs::Steps::sees_word))]

@@ -1,4 +1,4 @@
-ghost use Rattle.std.specs.Prelude.{◌≡◌, [], ◌∷◌};
+ghost use Rattle.std.specs.Prelude.{◌≡◌, [], ◌∷◌, OnErr};
 ghost use Rattle.wh_grammar.specs.Name as machine_name;
 ghost use Rattle.wh_grammar.specs.Spelled.{tokens_of};
 ghost use Rattle.wh_cursor.specs.Gives.{Reads};
@@ -6,7 +6,6 @@ ghost use Rattle.wh_cursor.specs.Keys.{key_of};
 ghost use Rattle.wh_cursor.specs.Binds.{binds};
 ghost use Rattle.wh_cursor.specs.Steps as spec;
 ghost use Rattle.wh_cursor.specs.Steps.{tail, sees};
-ghost use Rattle.wh_cursor.specs.View.{AreShort};
 ghost use Rattle.wh_lex.specs.View.{token_of};
 
 use crate::ParseFault;
@@ -28,21 +27,17 @@ impl<'a> Model for Words<'a> {
     ghost use Rattle.std.specs.Coded.{coded_list};
     ghost use Rattle.wh_grammar.specs.Token as machine;
     ghost use Rattle.wh_grammar.specs.Spelled.{tokens_of};
-    ghost use Rattle.wh_cursor.specs.View.{AreShort};
 
     ghost Value = { List machine.Token };
 
     ghost coded = { coded_list machine.coded_token };
 
     ghost view = { λ w. tokens_of w.rest.now };
-
-    ghost invariant = { λ w. AreShort w.rest.now };
 }
 
 impl<'a> Words<'a> {
-    /// All the tokens of a text, whose numbers have at most 18 digits.
+    /// All the tokens of a text.
     pub fn new(tokens: &'a [Token]) -> Words<'a>
-        requires { AreShort tokens.now }
         ensures { result ≡ tokens_of tokens.now }
     {
         Words { rest: tokens }
@@ -50,8 +45,7 @@ impl<'a> Words<'a> {
 
     /// The tokens that are left, with their places.
     pub fn rest(&self) -> &'a [Token]
-        ensures tokens { tokens_of result.now ≡ self.now }
-        ensures short { AreShort result.now }
+        ensures { tokens_of result.now ≡ self.now }
     {
         self.rest
     }
@@ -101,7 +95,8 @@ impl<'a> Words<'a> {
 
     /// Takes a name: a word that isn't reserved, or a quoted one.
     pub fn name(&mut self, alloc: Global) -> Result<Text, ParseFault>
-        ensures { Reads (spec.read_name self.old) result self.new }
+        ensures reads { Reads (spec.read_name self.old) result self.new }
+        ensures kept { OnErr result (self.new ≡ self.old) }
     {
         let name = name_at(alloc, self.rest)?;
         self.skip();

@@ -3,7 +3,7 @@
 ghost use Rattle.wh_cursor.specs.Gives.{Reads};
 ghost use Rattle.wh_dml_parse.specs.Read as spec;
 
-use crate::lists::{assignment_list, count, name_list, values_row};
+use crate::lists::{assignment_list, name_list, values_row};
 use sqlite_items::Items;
 use std::alloc::Global;
 use wh_ast::{Expr, MergeClause};
@@ -92,7 +92,7 @@ pub fn merge_clauses(
     ensures { Reads (spec.read_clauses depth words.old) result words.new }
 {
     let mut found = Items::new(alloc);
-    for _turn in 0..count(words) {
+    for _turn in 0..words.rest().len() {
         found.push(merge_clause(alloc, words, depth)?)?;
         if !words.sees_word(b"WHEN") {
             return Ok(found);

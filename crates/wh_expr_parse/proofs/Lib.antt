@@ -5,4 +5,4 @@ pub mod Completeness
 pub mod ItemSteps
 pub mod Fronts
 pub mod Found
-pub mod Exprs
+pub mod ExprSteps

@@ -1,4 +1,5 @@
 -- How expressions are read from the front of tokens.
+--     read_exprs    one or more, with commas between them
 --     read_expr     an expression with at most 1,000 operators and IN items, where no token behind it goes on with it
 use Rattle.std.specs.Prelude.{ℕ, zero, suc, Bool, true, false, ◌==◌, List, [], ◌∷◌, ◌++◌, Option, Some, None, pos, if◌then◌else◌}
 use Rattle.wh_value.specs.declared.value.Value.TheVariants as v
@@ -16,6 +17,7 @@ use Rattle.wh_expr_parse.specs.declared.grammar.Level.TheVariants.{Whole, Negati
 use Rattle.wh_cursor.specs.Keys.{key_of, key_binds}
 use Rattle.wh_expr_parse.specs.Operators.{joins}
 use Rattle.wh_expr_parse.specs.State.{State, at, Reader, peek, skip, eat, expect, spend, plainly}
+use Rattle.wh_cursor.specs.Lists.{listed}
 use Rattle.wh_cursor.specs.Steps.{tail, ◌>>=◌, ◌>>◌, pure, refuse, sees, read_name}
 
 -- ---- what takes no operator
@@ -256,3 +258,7 @@ ended (Some p) = if key_binds (key_of p.1.left) == 0 then Some (p.0, p.1.left) e
 
 unfoldable pub read_expr : ℕ → List Token → Option (Expr × List Token)
 read_expr depth ts = ended (whole (nested depth) (at ts 1000))
+
+-- one or more, with commas between them
+unfoldable pub read_exprs : ℕ → List Token → Option (List Expr × List Token)
+read_exprs d = listed (read_expr d)

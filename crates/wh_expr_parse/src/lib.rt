@@ -13,4 +13,4 @@ mod reading;
 mod tests;
 mod tokens;
 
-pub use reading::{expr, reading_laws};
+pub use reading::{expr, exprs, reading_laws};

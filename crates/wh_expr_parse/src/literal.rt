@@ -1,9 +1,8 @@
 ghost use Rattle.std.specs.Prelude.{◌∷◌};
 ghost use Rattle.wh_grammar.specs.Spelled.{tokens_of};
-ghost use Rattle.wh_lex.specs.View.{token_of};
+ghost use Rattle.wh_lex.specs.View.{token_of, IsWithin};
 ghost use Rattle.wh_cursor.specs.Gives.{Reads};
 ghost use Rattle.wh_cursor.specs.Steps.{tail};
-ghost use Rattle.wh_cursor.specs.View.{AreShort, IsShort};
 ghost use Rattle.wh_expr_parse.specs.Read as spec;
 
 use std::alloc::Global;
@@ -15,7 +14,6 @@ use wh_value::Value;
 /// The number or the text that the tokens begin with.
 #[tactic(auto, unfolding(crate::specs::Read::read_literal))]
 pub fn literal_at(alloc: Global, tokens: &[Token]) -> Result<Expr, ParseFault>
-    requires { AreShort tokens.now }
     ensures { Reads (spec.read_literal (tokens_of tokens.now)) result (tail (tokens_of tokens.now)) }
 {
     match tokens {
@@ -26,7 +24,7 @@ pub fn literal_at(alloc: Global, tokens: &[Token]) -> Result<Expr, ParseFault>
 
 #[tactic(auto, unfolding(crate::specs::Read::read_literal))]
 fn literal_of(alloc: Global, kind: &Kind, behind: &[Token]) -> Result<Expr, ParseFault>
-    requires { IsShort (token_of kind.now) }
+    requires { IsWithin (token_of kind.now) }
     ensures { Reads (spec.read_literal (token_of kind.now ∷ tokens_of behind.now)) result
         (tokens_of behind.now) }
 {

@@ -1,23 +1,25 @@
-ghost use Rattle.std.specs.Prelude.{◌≡◌, List, IfOk, IsErrOf};
+ghost use Rattle.std.specs.Prelude.{◌≡◌, List, IfOk, IsErrOf, OnErr};
 ghost use Rattle.wh_ast.specs.declared.expr.Expr as ast;
 ghost use Rattle.wh_expr_parse.specs.Laws.{IsExprAt};
 ghost use Rattle.wh_grammar.specs.Token as machine;
 ghost use Rattle.wh_cursor.specs.Gives.{Reads};
 ghost use Rattle.wh_expr_parse.specs.Laws as laws;
-ghost use Rattle.wh_expr_parse.specs.Read.{read_expr};
+ghost use Rattle.wh_expr_parse.specs.Read.{read_expr, read_exprs};
 
 use crate::grammar::whole;
 use crate::tokens::Tokens;
+use sqlite_items::Items;
 use std::alloc::Global;
 use wh_ast::Expr;
-use wh_cursor::{ParseFault, Words, binds};
+use wh_cursor::{ParseFault, Words, binds, listed};
 
 /// How many operators and IN items an expression may have.
 const ROOM: usize = 1000;
 
 #[tactic(auto, unfolding(crate::specs::Read::read_expr))]
 fn whole_expr(alloc: Global, words: &mut Words<'_>, depth: usize) -> Result<Expr, ParseFault>
-    ensures { Reads (read_expr depth words.old) result words.new }
+    ensures reads { Reads (read_expr depth words.old) result words.new }
+    ensures kept { OnErr result (words.new ≡ words.old) }
 {
     let mut tokens = Tokens::new(Words::new(words.rest()), ROOM);
     let x = whole(alloc, &mut tokens, depth)?;
@@ -35,8 +37,17 @@ pub fn expr(alloc: Global, words: &mut Words<'_>, depth: usize) -> Result<Expr, 
     ensures none { IsErrOf result ParseFault.SyntaxError
         → (x : ast.Expr) (us : List machine.Token) → IsExprAt depth words.old x us → ⊥ }
     ensures reads { Reads (read_expr depth words.old) result words.new }
+    ensures kept { OnErr result (words.new ≡ words.old) }
 {
     whole_expr(alloc, words, depth)
+}
+
+/// Takes one expression or more, with commas between them.
+#[tactic(auto, unfolding(crate::specs::Read::read_exprs))]
+pub fn exprs(alloc: Global, words: &mut Words<'_>, depth: usize) -> Result<Items<Expr>, ParseFault>
+    ensures { Reads (read_exprs depth words.old) result words.new }
+{
+    listed(alloc, words, depth, &whole_expr)
 }
 
 /// No tokens begin with two expressions, and an expression is a front of them. What `read_expr`

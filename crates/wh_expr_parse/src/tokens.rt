@@ -1,7 +1,7 @@
 ghost use Rattle.std.specs.Prelude.{◌≡◌, true, false, if◌then◌else◌};
 ghost use Rattle.wh_cursor.specs.Gives.{Reads};
 ghost use Rattle.wh_cursor.specs.Keys.{key_of};
-ghost use Rattle.wh_cursor.specs.Steps.{read_name, tail};
+ghost use Rattle.wh_cursor.specs.Steps.{read_name, sees, tail};
 ghost use Rattle.wh_expr_parse.specs.Read.{read_literal};
 ghost use Rattle.wh_expr_parse.specs.State as spec;
 ghost use Rattle.wh_expr_parse.specs.State.{at};

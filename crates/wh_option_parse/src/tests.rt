@@ -93,12 +93,8 @@ fn read_part(
 }
 
 /// What stands at the front of a text, and how many tokens are left; or `none`.
-#[tactic(auto, using(wh_cursor::proofs::ShortNumbers::tokens_short))]
 fn read(alloc: Global, part: Part, text: &[u8], depth: usize) -> Result<Bytes, Fail> {
     let mut out = Bytes::new(alloc);
-    if text.len() > 65536 {
-        return Ok(out);
-    }
     let all = match tokens(alloc, text) {
         Ok(all) => all,
         Err(_) => return Ok(out),

@@ -19,7 +19,7 @@ use Rattle.wh_option_parse.specs.Laws as option_laws
 use Rattle.wh_dml_parse.specs.Follow.{IsDmlAt}
 use Rattle.wh_dml_parse.specs.Laws as dml_laws
 use Rattle.wh_stmt_parse.specs.Plain.{asks, read_has_data, read_rows, read_select, read_change, read_table, read_replacement, read_stream, task_by, read_alter_task, read_set_lag, refreshed_by, suspended_by, resumed_by, read_alter_table, alter_by, read_alter, read_execute, named, read_drop, begin_by, read_begin, read_start, read_ending}
-use Rattle.wh_stmt_parse.proofs.Listing.{stand, then_is}
+use Rattle.wh_stmt_parse.proofs.Carrying.{stand, then_is}
 use Rattle.wh_stmt_parse.proofs.PartsSound.{columns-sound, retention-sound, append-sound, order-sound}
 
 -- a statement, where nothing stands behind it

@@ -55,14 +55,3 @@ pub fn after(alloc: Global, words: &mut Words<'_>) -> Result<Items<Text>, ParseF
     }
     Ok(Items::new(alloc))
 }
-
-/// The end of the tokens.
-#[tactic(auto, unfolding(crate::specs::Parts::read_end))]
-pub fn end(words: &Words<'_>) -> Result<(), ParseFault>
-    ensures { Reads (spec.read_end words.now) result words.now }
-{
-    match words.rest() {
-        [] => Ok(()),
-        [_, ..] => Err(ParseFault::SyntaxError),
-    }
-}
