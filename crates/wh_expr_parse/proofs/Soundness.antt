@@ -34,7 +34,7 @@ use Rattle.wh_expr_parse.proofs.Outcomes.{then_expect, then_spend, if_eaten, Too
 -- what is read plainly takes none of the room
 plainly-sound : {A : Type 0} {P : List Token → A → List Token → Type 0} (read : List Token → Option (A × List Token)) → ((ts : List Token) → Yields (read ts) (P ts))
     → (s : State) → Yields (plainly read s) (λ x t. (t.room ≡ s.room) × P s.left x t.left)
-plainly-sound {P = P} read sound s = record { is = by (read s.left) (sound s.left).is }
+plainly-sound {A = A} {P = P} read sound s = record { is = by (read s.left) (sound s.left).is }
   where
     by : (o : Option (A × List Token)) → Is (P s.left) o → Is (λ x t. (t.room ≡ s.room) × P s.left x t.left) (moved s.room o)
     by None h = tt
