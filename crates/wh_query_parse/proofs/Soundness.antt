@@ -171,7 +171,7 @@ module _ (inner : Reader Query) (d : ℕ) (inside : (ts : List Token) → Yields
   join-sound ts = if_eaten_word (codes "INNER") ts (λ _. read_joined inner d)
       (λ first. joined-sound ts (tail ts) (λ join.
       subst (λ (l : List Token). IsJoinWord l (tail (tail ts))) (sym (first ∙ ap (λ (l : List Token). Word (codes "INNER") ∷ l) join)) g.inner_join_word))
-      (joined-sound ts ts (λ join. subst (λ (l : List Token). IsJoinWord l (tail ts)) (sym join) g.join_word))
+      (λ _. joined-sound ts ts (λ join. subst (λ (l : List Token). IsJoinWord l (tail ts)) (sym join) g.join_word))
 
   -- those so far, and more that stand there
   abbrev Adds : {A : Type 0} → List A → (List A → List Token → Type 0) → List A → List Token → Type 0
