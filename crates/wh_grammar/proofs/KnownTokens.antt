@@ -6,8 +6,8 @@ use Rattle.std.specs.Str.{IsAscii}
 use Rattle.std.proofs.lemmas.Bool.{and_parts}
 use Rattle.std.proofs.lemmas.Str.{IsUtf8-from_ascii}
 use Rattle.wh_value.specs.Value.{IsText}
-use Rattle.wh_grammar.specs.Token.{Word, TextToken, NumberToken, SignToken, AtMost}
-use Rattle.wh_grammar.specs.Lexing.{blank, last_comment, word, number, text, sign, HasTokens, end, gap, token}
+use Rattle.wh_grammar.specs.Token.{Word, NumberToken, SignToken, AtMost}
+use Rattle.wh_grammar.specs.Lexing.{blank, last_comment, word, number, sign, HasTokens, end, gap, token}
 
 ascii : (bytes : List ℕ) → list_all (λ b. ltb b 128) bytes ≡ true → IsAscii bytes
 ascii [] h i = omega arith

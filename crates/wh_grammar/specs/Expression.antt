@@ -2,14 +2,14 @@
 --     IsWhole d n ts x us     the tokens ts begin with an expression that stands for x, and us follow it: it has n
 --                             operators and IN items, and at most d parentheses, NOT and minus signs inside one another
 --     IsExpr                  the same with at most 1,000
-use Rattle.std.specs.Prelude.{◌≡◌, ℕ, suc, ◌+◌, ◌≤◌, Bool, true, false, List, [], ◌∷◌, Some, None, codes, pos}
+use Rattle.std.specs.Prelude.{ℕ, suc, ◌+◌, ◌≤◌, Bool, true, false, List, [], ◌∷◌, Some, None, codes, pos}
 use Rattle.wh_value.specs.declared.value.Value.TheVariants as v
 use Rattle.wh_value.specs.declared.comparison.Comparison.{Comparison}
 use Rattle.wh_value.specs.declared.comparison.Comparison.TheVariants as c
 use Rattle.wh_ast.specs.declared.expr.Operator.TheVariants as o
 use Rattle.wh_ast.specs.declared.expr.Expr.{Expr}
 use Rattle.wh_ast.specs.declared.expr.Expr.TheVariants as e
-use Rattle.wh_grammar.specs.Token.{Token, Word, Quoted, TextToken, NumberToken, SignToken, Sign, LParen, RParen, Comma, Dot, Star, Plus, Minus, Equal, Unequal, Less, AtMost, Greater, AtLeast, Arrow}
+use Rattle.wh_grammar.specs.Token.{Token, Word, TextToken, NumberToken, SignToken, Sign, LParen, RParen, Comma, Dot, Star, Plus, Minus, Equal, Unequal, Less, AtMost, Greater, AtLeast}
 use Rattle.wh_grammar.specs.Name.{IsName}
 
 -- a sign between two sums

@@ -6,7 +6,7 @@
 --     gathered         the sum of what each row of a bag gives, as often as the row is there
 --     restricted       the rows that meet a test
 --     bag_of           the bag of listed rows
-use Rattle.std.specs.Prelude.{ℕ, zero, suc, ◌+◌, ◌*◌, ◌-◌, Bool, List, [], ◌∷◌, Option, Some, None}
+use Rattle.std.specs.Prelude.{ℕ, zero, suc, ◌+◌, ◌*◌, Bool, List, [], ◌∷◌, Option, Some, None}
 use Rattle.std.specs.FinMap.{FinMap, empty, get, insert, entries, retain_keys}
 use Rattle.wh_value.specs.Value.{Row, row_cmp}
 

@@ -1,8 +1,8 @@
 -- What a query means.
 --     Query, Call      the six operators, and the calls of a Group
 --     eval             the bag of a query over the bags of its sources; None where it is undefined
-use Rattle.std.specs.Prelude.{ℕ, suc, ◌+◌, Bool, true, false, not, ◌&&◌, ℤ, pos, ◌+ℤ◌, ◌*ℤ◌, unsigned_abs, nat_lt, if◌then◌else◌, List, [], ◌∷◌, ◌++◌, map, Option, Some, None, is_some, slice_get, unwrap_or}
-use Rattle.std.specs.List.{list_all, list_any}
+use Rattle.std.specs.Prelude.{ℕ, suc, ◌+◌, Bool, true, false, not, ◌&&◌, ℤ, pos, ◌+ℤ◌, ◌*ℤ◌, nat_lt, if◌then◌else◌, List, [], ◌∷◌, ◌++◌, map, Option, Some, None, is_some, slice_get, unwrap_or}
+use Rattle.std.specs.List.{list_all}
 use Rattle.std.specs.FinMap.{entries, keys}
 use Rattle.std.specs.Ordering.{is_eq}
 use Rattle.wh_value.specs.Value.{Value, Number, Null, Row, row_cmp}
@@ -137,4 +137,3 @@ eval (Project q items) instance = over_one (projected items) (eval q instance)
 eval (Join left right on) instance = over_two (joined on) (eval left instance) (eval right instance)
 eval (UnionAll left right) instance = over_two (λ a b. Some (plus a b)) (eval left instance) (eval right instance)
 eval (Group q by calls) instance = over_one (grouped by calls) (eval q instance)
-
