@@ -6,8 +6,7 @@ use Rattle.std.specs.Int.{w64, to_be_bytes, from_be_bytes}
 use Rattle.std.specs.Cmp.Lexicographic.{pointwise}
 use Rattle.std.proofs.lemmas.Slice.Eq.{slice_eq-Decides}
 use Rattle.std.proofs.lemmas.Bool.Decides.{Decides-eqb}
-use Rattle.wh_machine.specs.File.{header, record_of}
-use Rattle.wh_machine.specs.Fault.{IsCut}
+use Rattle.wh_frame.specs.File.{header, record_of, IsCut}
 use Rattle.wh_journal.specs.Head.{IsWhole, IsLast}
 use Rattle.wh_journal.proofs.RecordLemmas.{length-record_of}
 

@@ -2,8 +2,7 @@
 use Rattle.std.proofs.Common.{◌≡◌, inl, inr, Option, Some, None, ℕ, ◌-◌, List, [], ◌∷◌, ◌++◌, length, drop, refl, sym, ◌∙◌, ap, subst, arith, append_assoc}
 use Rattle.std.specs.Prelude.{MatchOption}
 use Rattle.std.proofs.lemmas.List.{append-nil, drop_at}
-use Rattle.wh_machine.specs.File.{header, record_of, records_of, IsFileOf}
-use Rattle.wh_machine.specs.Fault.{IsCut}
+use Rattle.wh_frame.specs.File.{header, record_of, records_of, IsFileOf, IsCut}
 use Rattle.wh_journal.specs.declared.journal.Journal.{Journal}
 use Rattle.wh_journal.specs.Journal.{Lists, AddsPlace}
 use Rattle.wh_journal.specs.Fault.{BeginsWith, EndsEarly, IsJournalFault, ListsUpTo}

@@ -2,8 +2,7 @@
 use Rattle.std.proofs.Common.{◌≡◌, ◌≢◌, inl, inr, ℕ, List, [], ◌∷◌, ◌++◌, length, refl, sym, ◌∙◌, ap, arith, append_assoc, length-append}
 use Rattle.std.proofs.lemmas.List.{append-nil, append_cancel_left}
 use Rattle.std.specs.List.{flat_map}
-use Rattle.wh_machine.specs.File.{header, record_of, records_of, IsFileOf}
-use Rattle.wh_machine.specs.Fault.{IsCut}
+use Rattle.wh_frame.specs.File.{header, record_of, records_of, IsFileOf, IsCut}
 use Rattle.wh_journal.specs.Fault.{AllShort, IsJournalFault}
 use Rattle.wh_journal.proofs.RecordLemmas.{records_split}
 use Rattle.wh_journal.proofs.HeadLemmas.{same_record}

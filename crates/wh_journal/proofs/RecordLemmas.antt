@@ -4,7 +4,7 @@ use Rattle.std.proofs.lemmas.List.{append-nil, take_at, drop_at}
 use Rattle.std.proofs.lemmas.List.Concat.{flat_map-append}
 use Rattle.std.specs.List.{flat_map}
 use Rattle.std.specs.Int.{w64, to_be_bytes}
-use Rattle.wh_machine.specs.File.{header, record_of, records_of}
+use Rattle.wh_frame.specs.File.{header, record_of, records_of}
 use Rattle.wh_world.specs.Bytes.{framed}
 use Rattle.wh_journal.specs.declared.journal.Journal.{Journal}
 use Rattle.wh_journal.specs.Fault.{AllShort}

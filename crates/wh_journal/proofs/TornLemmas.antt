@@ -4,7 +4,7 @@ use Rattle.std.proofs.lemmas.List.{take_at, drop_at, drop_more}
 use Rattle.std.proofs.lemmas.Bool.{cases_eq}
 use Rattle.wh_world.specs.Bytes.{written, framed, Torn}
 use Rattle.wh_world.specs.Told.{Told}
-use Rattle.wh_machine.specs.File.{records_of, IsFileOf}
+use Rattle.wh_frame.specs.File.{records_of, IsFileOf}
 use Rattle.wh_journal.specs.Torn.{TornRecord, HasWithOrWithout}
 use Rattle.wh_journal.proofs.WriteLemmas.{to_gate, staged, before_gate, after_gate, behind, closed_file, open_file}
 

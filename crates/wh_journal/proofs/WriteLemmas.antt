@@ -3,7 +3,7 @@ use Rattle.std.proofs.Common.{◌≡◌, ◌≢◌, ℕ, ◌+◌, ◌-◌, ◌<�
 use Rattle.std.proofs.lemmas.List.{append-nil, take_at, drop_at, drop_all}
 use Rattle.std.specs.Int.{w64, to_be_bytes}
 use Rattle.wh_world.specs.Bytes.{written, framed}
-use Rattle.wh_machine.specs.File.{record_of, records_of, IsFileOf}
+use Rattle.wh_frame.specs.File.{record_of, records_of, IsFileOf}
 use Rattle.wh_journal.specs.Places.{with_record}
 use Rattle.wh_journal.specs.Fault.{AllShort}
 use Rattle.wh_journal.proofs.RecordLemmas.{records_push, short_push}

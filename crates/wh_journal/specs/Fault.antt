@@ -6,8 +6,7 @@
 --     fault_of_read    a fault of reading as one of opening
 use Rattle.std.specs.Prelude.{◌≡◌, ◌⊎◌, ℕ, ◌<◌, ◌^◌, List, [], ◌++◌, length}
 use Rattle.std.specs.List.{AllByRecursion}
-use Rattle.wh_machine.specs.File.{records_of}
-use Rattle.wh_machine.specs.Fault.{LacksHeader, IsCut}
+use Rattle.wh_frame.specs.File.{records_of, LacksHeader, IsCut}
 use Rattle.wh_journal.specs.declared.journal.Journal.{Journal}
 use Rattle.wh_journal.specs.declared.fault.ReadFault.{ReadFault}
 use Rattle.wh_journal.specs.declared.fault.ReadFault.TheVariants as reads

@@ -1,6 +1,6 @@
 -- What an append leaves that was cut short.
 use Rattle.std.specs.Prelude.{◌⊎◌, ℕ, ◌-◌, List, [], ◌∷◌, ◌++◌, length}
-use Rattle.wh_machine.specs.File.{IsFileOf}
+use Rattle.wh_frame.specs.File.{IsFileOf}
 use Rattle.wh_world.specs.Bytes.{written, Torn}
 
 -- the write of a record behind the gate that ends there was cut short, or the write of the gate

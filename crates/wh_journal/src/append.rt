@@ -5,7 +5,7 @@ impl Journal {
     ghost use Rattle.std.specs.Prelude.{◌≡◌, ◌+◌, ◌<◌, ◌≤◌, [], ◌∷◌, ◌++◌, List, ℕ, Some, None, length, is_some, OnOk, OnErr, IsErrOf, ◌↔◌};
     ghost use Rattle.wh_world.specs.Told.{Rose};
     ghost use Rattle.wh_world.specs.Crash.{Only};
-    ghost use Rattle.wh_machine.specs.File.{IsFileOf};
+    ghost use Rattle.wh_frame.specs.File.{IsFileOf};
     ghost use Rattle.wh_journal.specs.Journal.{Lists, HasRoom, AddsPlace, places_in, end_of, limit_of, failed_of, need_of};
     ghost use Rattle.wh_journal.specs.Torn.{HasWithOrWithout};
     ghost use Rattle.wh_journal.specs.Crash.{LeavesOnly};

@@ -4,7 +4,7 @@ use std::alloc::AllocError;
 impl Journal {
     ghost use Rattle.std.specs.Prelude.{◌≡◌, ◌+◌, ◌-◌, ◌<◌, ◌≤◌, ◌^◌, min, length, take, ℕ, List, Some, OnOk, OnErr, slice_get};
     ghost use Rattle.wh_journal.specs.Journal.{Lists, HasRoom, IsSame, AddsPlace, end_of, count_of, failed_of, places_in};
-    ghost use Rattle.wh_machine.specs.File.{records_of};
+    ghost use Rattle.wh_frame.specs.File.{records_of};
 
     /// Makes room for one more place.
     pub fn reserve(&mut self) -> Result<(), AllocError>

@@ -6,7 +6,7 @@ impl Journal {
     ghost use Rattle.std.specs.Prelude.{◌≡◌, ◌+◌, ◌<◌, ◌≤◌, ◌^◌, [], ◌∷◌, ◌++◌, List, ℕ, Some, None, length, is_some, OnOk, OnErr, IfOk, IsErrOf};
     ghost use Rattle.wh_world.specs.Told.{Rose};
     ghost use Rattle.wh_world.specs.Crash.{Only};
-    ghost use Rattle.wh_machine.specs.File.{IsFileOf, header};
+    ghost use Rattle.wh_frame.specs.File.{IsFileOf, header};
     ghost use Rattle.wh_journal.specs.Journal.{Lists, end_of, limit_of, failed_of, count_of};
     ghost use Rattle.wh_journal.specs.Fault.{IsJournalFault};
     ghost use Rattle.wh_journal.specs.Crash.{LeavesOnly, IsKeptOrShort};

@@ -6,7 +6,7 @@ impl Journal {
     ghost use Rattle.std.specs.Prelude.{◌≡◌, ◌+◌, ◌<◌, ◌≤◌, ◌++◌, List, ℕ, Some, IfOk, IsErrOf, slice_get};
     ghost use Rattle.wh_world.specs.Told.{Rose};
     ghost use Rattle.wh_world.specs.Crash.{NoOthers};
-    ghost use Rattle.wh_machine.specs.File.{records_of};
+    ghost use Rattle.wh_frame.specs.File.{records_of};
     ghost use Rattle.wh_journal.specs.Journal.{Lists, end_of, count_of};
     ghost use Rattle.wh_journal.specs.Crash.{LeavesOnly};
 

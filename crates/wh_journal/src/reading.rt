@@ -1,7 +1,7 @@
 ghost use Rattle.std.specs.Prelude.{◌≡◌, ◌+◌, ◌-◌, ◌<◌, ◌≤◌, ◌∷◌, ◌++◌, ◌↔◌, List, ℕ, Some, length, drop, IsTrue, IfOk, OnErr};
 ghost use Rattle.wh_world.specs.Told.{Rose};
 ghost use Rattle.wh_world.specs.Crash.{NoOthers};
-ghost use Rattle.wh_machine.specs.File.{header};
+ghost use Rattle.wh_frame.specs.File.{header};
 ghost use Rattle.wh_journal.specs.Head.{Says, LeavesGate};
 ghost use Rattle.wh_journal.specs.Crash.{LeavesOnly};
 

@@ -2,7 +2,7 @@ ghost use Rattle.std.specs.Prelude.{◌≡◌, ◌+◌, ◌-◌, ◌<◌, ◌≤
 ghost use Rattle.wh_world.specs.Told.{Rose};
 ghost use Rattle.wh_world.specs.Bytes.{written, Torn};
 ghost use Rattle.wh_world.specs.Crash.{Only, NoOthers};
-ghost use Rattle.wh_machine.specs.File.{IsFileOf, header};
+ghost use Rattle.wh_frame.specs.File.{IsFileOf, header};
 ghost use Rattle.wh_journal.specs.Journal.{Lists, end_of, limit_of, failed_of, count_of};
 ghost use Rattle.wh_journal.specs.Fault.{BeginsWith, EndsEarly};
 ghost use Rattle.wh_journal.specs.Crash.{LeavesOnly};

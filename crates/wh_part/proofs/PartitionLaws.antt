@@ -8,9 +8,9 @@ use Rattle.std.specs.Int.{w32, w64, to_be_bytes, cast_unsigned, cast_signed}
 use Rattle.std.proofs.lemmas.Bool.{ltb-true, lt-ltb, leb-true, le-leb}
 use Rattle.std.proofs.lemmas.List.{take_at, length-append}
 use Rattle.std.proofs.lemmas.Int.{of_z-to_z, to_z-of_z, fits_signed_from_abs}
-use Rattle.wh_machine.specs.Value.{Value, Number, Truth, Text, Null, Row, IsValue}
-use Rattle.wh_machine.specs.Commit.{Partition}
-use Rattle.wh_machine.specs.Spelling.{list_bytes, value_bytes, row_bytes, partition_bytes, RisesFrom, IsNumberedRow, IsPartition}
+use Rattle.wh_value.specs.Value.{Value, Number, Truth, Text, Null, Row, IsValue}
+use Rattle.wh_frame.specs.Partition.{Partition}
+use Rattle.wh_frame.specs.Spelling.{list_bytes, value_bytes, row_bytes, partition_bytes, RisesFrom, IsNumberedRow, IsPartition}
 use Rattle.wh_part.specs.Reading.{◌>>=◌, number_at, text_at}
 use Rattle.wh_part.specs.Decoding.{is_short, whole_number_at, value_at, row_at, is_row_count, rises_from, row_count_at, rows_at, partition_at, AreRows}
 use Rattle.wh_part.specs.Laws.{SpellingFixesPartitions}

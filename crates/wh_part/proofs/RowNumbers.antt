@@ -1,6 +1,6 @@
 -- The row numbers of a partition.
 use Rattle.std.proofs.Common.{◌≡◌, ℕ, zero, suc, ◌+◌, List, [], ◌∷◌, length, map, get_or, refl, arith}
-use Rattle.wh_machine.specs.Commit.{last_number}
+use Rattle.wh_frame.specs.Partition.{last_number}
 use Rattle.wh_part.specs.declared.partition.NumberedRow.{NumberedRow}
 use Rattle.wh_part.specs.View.{numbered_of}
 

@@ -2,8 +2,8 @@
 use Rattle.std.proofs.Common.{◌≡◌, ℕ, List, ◌++◌, length, ◌∙◌, append_assoc}
 use Rattle.std.specs.List.{flat_map}
 use Rattle.std.specs.Int.{w32, w64, to_be_bytes}
-use Rattle.wh_machine.specs.Commit.{Partition}
-use Rattle.wh_machine.specs.Spelling.{row_bytes, partition_bytes}
+use Rattle.wh_frame.specs.Partition.{Partition}
+use Rattle.wh_frame.specs.Spelling.{row_bytes, partition_bytes}
 
 -- the number, the count and the rows are the partition
 pub partition_written : (p : Partition) (count : ℕ) (before one two after rows : List ℕ)

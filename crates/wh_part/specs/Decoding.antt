@@ -1,9 +1,9 @@
 -- Reading values, rows and partitions.
 use Rattle.std.specs.Prelude.{ℕ, zero, suc, ◌+◌, ◌<◌, ◌≤◌, Bool, true, false, ◌&&◌, List, [], ◌∷◌, length, ℤ, unsigned_abs, Option, Some, None, nat_lt, nat_le}
 use Rattle.std.specs.Int.{w32, w64, cast_signed}
-use Rattle.wh_machine.specs.Value.{Value, Number, Truth, Text, Null, Row}
-use Rattle.wh_machine.specs.Commit.{Partition}
-use Rattle.wh_machine.specs.Spelling.{RisesFrom}
+use Rattle.wh_value.specs.Value.{Value, Number, Truth, Text, Null, Row}
+use Rattle.wh_frame.specs.Partition.{Partition}
+use Rattle.wh_frame.specs.Spelling.{RisesFrom}
 use Rattle.wh_part.specs.Reading.{Reader, then_at, where_at, as_at, items_at, list_at, number_at, text_at}
 
 -- a number of at most 18 digits

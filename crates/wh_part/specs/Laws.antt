@@ -1,7 +1,7 @@
 -- What the spelling of partitions fixes.
 use Rattle.std.specs.Prelude.{◌≡◌, ℕ, List, ◌++◌}
-use Rattle.wh_machine.specs.Commit.{Partition}
-use Rattle.wh_machine.specs.Spelling.{partition_bytes, IsPartition}
+use Rattle.wh_frame.specs.Partition.{Partition}
+use Rattle.wh_frame.specs.Spelling.{partition_bytes, IsPartition}
 
 -- no partition's spelling begins another's, nor has one spelling two partitions
 abbrev pub SpellingFixesPartitions : Type 0

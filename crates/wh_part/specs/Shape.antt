@@ -1,9 +1,9 @@
 -- What holds of each partition of the code, as its numbers are of 64 bits.
 use Rattle.std.specs.Prelude.{ℕ, ◌<◌, ◌≤◌, ◌^◌, length}
 use Rattle.std.specs.List.{AllByRecursion}
-use Rattle.wh_machine.specs.Value.{Row}
-use Rattle.wh_machine.specs.Commit.{Partition}
-use Rattle.wh_machine.specs.Spelling.{RisesFrom}
+use Rattle.wh_value.specs.Value.{Row}
+use Rattle.wh_frame.specs.Partition.{Partition}
+use Rattle.wh_frame.specs.Spelling.{RisesFrom}
 
 abbrev pub HasWideNumber : ℕ × Row → Type 0
 HasWideNumber e = e.0 < 2 ^ 64

@@ -140,8 +140,8 @@ fn read_rows(
 
 impl Partition {
     ghost use Rattle.std.specs.Prelude.{◌≡◌, ◌≤◌, ◌++◌, List, ℕ, length, take, IfSome, IfNone, IfOk};
-    ghost use Rattle.wh_machine.specs.Commit as machine;
-    ghost use Rattle.wh_machine.specs.Spelling.{partition_bytes, IsPartition};
+    ghost use Rattle.wh_frame.specs.Partition as machine;
+    ghost use Rattle.wh_frame.specs.Spelling.{partition_bytes, IsPartition};
     ghost use Rattle.wh_part.specs.Reading.{Gives};
     ghost use Rattle.wh_part.specs.Decoding.{partition_at};
 

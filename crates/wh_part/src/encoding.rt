@@ -1,6 +1,6 @@
 ghost use Rattle.std.specs.Prelude.{◌≡◌, ◌++◌, map, OnOk};
 ghost use Rattle.std.specs.List.{flat_map, AllByRecursion};
-ghost use Rattle.wh_machine.specs.Spelling.{value_bytes, row_bytes};
+ghost use Rattle.wh_frame.specs.Spelling.{value_bytes, row_bytes};
 ghost use Rattle.wh_part.specs.Shape.{HasWideNumber};
 ghost use Rattle.wh_part.specs.View.{numbered_of};
 ghost use Rattle.wh_value.specs.View.{value_of};
@@ -10,7 +10,7 @@ use crate::{NumberedRow, Partition};
 use std::alloc::AllocError;
 use wh_value::{Bytes, Value};
 
-#[tactic(auto, unfolding(wh_machine::specs::Spelling::value_bytes))]
+#[tactic(auto, unfolding(wh_frame::specs::Spelling::value_bytes))]
 fn write_value(out: &mut Bytes, value: &Value) -> Result<(), AllocError>
     ensures { OnOk result (out.new ≡ out.old ++ value_bytes (value_of value.now)) }
 {
@@ -38,7 +38,7 @@ fn write_values(out: &mut Bytes, values: &[Value]) -> Result<(), AllocError>
     Ok(())
 }
 
-#[tactic(auto, unfolding(wh_machine::specs::Spelling::row_bytes))]
+#[tactic(auto, unfolding(wh_frame::specs::Spelling::row_bytes))]
 fn write_row(out: &mut Bytes, numbered: &NumberedRow) -> Result<(), AllocError>
     ensures written { OnOk result (out.new ≡ out.old ++ row_bytes (numbered_of numbered.now)) }
     ensures wide { OnOk result (HasWideNumber (numbered_of numbered.now)) }
@@ -59,7 +59,7 @@ fn write_rows(out: &mut Bytes, rows: &[NumberedRow]) -> Result<(), AllocError>
 
 impl Partition {
     ghost use Rattle.std.specs.Prelude.{◌≡◌, ◌++◌, OnOk};
-    ghost use Rattle.wh_machine.specs.Spelling.{partition_bytes};
+    ghost use Rattle.wh_frame.specs.Spelling.{partition_bytes};
     ghost use Rattle.wh_part.specs.Shape.{IsShaped};
 
     /// Adds the bytes of the partition.

@@ -19,9 +19,9 @@ pub struct Partition {
 
 impl Model for Partition {
     ghost use Rattle.std.specs.Prelude.{map, length, ◌<◌, ◌≤◌};
-    ghost use Rattle.wh_machine.specs.Commit as machine;
-    ghost use Rattle.wh_machine.specs.Commit.{coded_partition};
-    ghost use Rattle.wh_machine.specs.Spelling.{RisesFrom};
+    ghost use Rattle.wh_frame.specs.Partition as machine;
+    ghost use Rattle.wh_frame.specs.Partition.{coded_partition};
+    ghost use Rattle.wh_frame.specs.Spelling.{RisesFrom};
     ghost use Rattle.wh_part.specs.View.{numbered_of};
 
     ghost Value = { machine.Partition };
@@ -36,8 +36,8 @@ impl Model for Partition {
 
 impl Partition {
     ghost use Rattle.std.specs.Prelude.{◌≡◌, map, length, ◌<◌, ◌≤◌};
-    ghost use Rattle.wh_machine.specs.Commit.{first_number, last_number};
-    ghost use Rattle.wh_machine.specs.Spelling.{RisesFrom};
+    ghost use Rattle.wh_frame.specs.Partition.{first_number, last_number};
+    ghost use Rattle.wh_frame.specs.Spelling.{RisesFrom};
     ghost use Rattle.wh_part.specs.View.{numbered_of};
 
     /// The most rows of a partition.

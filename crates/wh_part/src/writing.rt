@@ -1,7 +1,7 @@
 ghost use Rattle.std.specs.Prelude.{◌≡◌, ◌++◌, OnOk};
 ghost use Rattle.std.specs.Int.{w32, w64, to_be_bytes};
-ghost use Rattle.wh_machine.specs.Value.{IsText};
-ghost use Rattle.wh_machine.specs.Spelling.{text_bytes};
+ghost use Rattle.wh_value.specs.Value.{IsText};
+ghost use Rattle.wh_frame.specs.Spelling.{text_bytes};
 
 use std::alloc::AllocError;
 use wh_value::{Bytes, Text};

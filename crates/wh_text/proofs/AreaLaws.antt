@@ -1,7 +1,7 @@
 -- An area behind one byte, by the definition of a script and by an `Area`.
 use Rattle.std.proofs.Common.{◌≡◌, ℕ, Bool, true, false, ◌||◌, ◌==◌, List, ◌∷◌, if◌then◌else◌, refl, sym, ap, ◌∙◌, eq-eqb, eqb-true, arith}
-use Rattle.wh_machine.specs.Script as scripts
-use Rattle.wh_machine.specs.Script.{area_behind, ends_command}
+use Rattle.wh_grammar.specs.Script as scripts
+use Rattle.wh_grammar.specs.Script.{area_behind, ends_command}
 use Rattle.wh_text.specs.Area.{area_of, behind_plain, behind_comment, behind, ends}
 use Rattle.wh_text.specs.declared.area.Area.{Area}
 use Rattle.wh_text.specs.declared.area.Area.TheVariants.{Plain, Minus, Slash, Between, LineComment, Comment, Star}

@@ -6,7 +6,7 @@ use Rattle.std.proofs.lemmas.Slice.Eq.{bytes_eq-Decides}
 use Rattle.std.specs.Str.{bytes_eq}
 use Rattle.std.specs.List.{starts_with, list_all}
 use Rattle.wh_grammar.specs.Bytes.{is_digit}
-use Rattle.wh_machine.specs.Script.{CommandLine, number_after, command_line, marked_line, without_return}
+use Rattle.wh_grammar.specs.Script.{CommandLine, number_after, command_line, marked_line, without_return}
 
 other_text : (text word : List ℕ) (v : Bool) → bytes_eq text word ≡ v → length word < length text → v ≡ false
 other_text text word false e long = refl

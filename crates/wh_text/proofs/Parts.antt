@@ -2,7 +2,7 @@
 use Rattle.std.proofs.Common.{◌≡◌, ◌<◌, ◌++◌, List, [], ◌∷◌, length, map, drop, get_or, codes, ap, sym, ◌∙◌, arith}
 use Rattle.std.specs.List.{flat_map}
 use Rattle.std.proofs.lemmas.List.Folds.{flat_map-map}
-use Rattle.wh_machine.specs.Reply.{parted}
+use Rattle.wh_reply.specs.Reply.{parted}
 use Rattle.wh_value.specs.Value.{literal}
 use Rattle.wh_value.specs.View.{value_of}
 use Rattle.wh_value.specs.declared.value.Value.{Value}

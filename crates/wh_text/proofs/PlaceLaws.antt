@@ -2,8 +2,8 @@
 use Rattle.std.proofs.Common.{◌≡◌, ℕ, ◌≤◌, Bool, true, false, ◌==◌, List, [], ◌∷◌, ◌++◌, length, drop, Option, Some, None, nat_lt, if◌then◌else◌, refl, sym, ap, ◌∙◌, eqb-true, ltb-false, append_assoc}
 use Rattle.std.proofs.lemmas.List.{take-append-le, take_all}
 use Rattle.wh_grammar.specs.Lexing.{begins_with, is_byte, has_comment_end}
-use Rattle.wh_machine.specs.Script as scripts
-use Rattle.wh_machine.specs.Script.{Line, CommandLine, lines_from, place_behind, area_behind, gap_at, ends_command, command_line, marked_line, without_return}
+use Rattle.wh_grammar.specs.Script as scripts
+use Rattle.wh_grammar.specs.Script.{Line, CommandLine, lines_from, place_behind, area_behind, gap_at, ends_command, command_line, marked_line, without_return}
 use Rattle.wh_text.specs.Area.{area_of, behind_plain, behind_comment, behind, ends}
 use Rattle.wh_text.specs.Place.{closes, lines_at, line_at, last_line_at, is_gap, behind_gap, behind_command, behind_opening, next, with_byte, kept}
 use Rattle.wh_text.specs.declared.area.Area.{Area}

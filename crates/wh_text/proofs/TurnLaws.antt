@@ -1,6 +1,6 @@
 -- One turn over bytes that may be untold: from the script at its start to the place and the text so far.
 use Rattle.std.proofs.Common.{◌≡◌, ℕ, ◌≤◌, Bool, true, false, ◌==◌, List, [], ◌∷◌, length, Option, Some, None, option_map, nat_lt, MatchOption, refl, sym, ap, ◌∙◌, arith, ltb-true, length-append}
-use Rattle.wh_machine.specs.Script.{Line, lines_from, lines_of}
+use Rattle.wh_grammar.specs.Script.{Line, lines_from, lines_of}
 use Rattle.wh_text.specs.View.{line_view}
 use Rattle.wh_text.specs.declared.line.Line as code
 use Rattle.wh_text.specs.Turn.{Gives, Ends}

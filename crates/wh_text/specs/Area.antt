@@ -4,7 +4,7 @@
 --     ends        whether a byte ends the command
 use Rattle.std.specs.Prelude.{ℕ, Bool, false, ◌||◌, List, ◌==◌, if◌then◌else◌}
 use Rattle.wh_grammar.specs.Lexing.{begins_with, is_byte}
-use Rattle.wh_machine.specs.Script as scripts
+use Rattle.wh_grammar.specs.Script as scripts
 use Rattle.wh_text.specs.declared.area.Area.{Area}
 use Rattle.wh_text.specs.declared.area.Area.TheVariants.{Plain, Minus, Slash, Between, LineComment, Comment, Star}
 

@@ -8,7 +8,7 @@
 use Rattle.std.specs.Prelude.{ℕ, Bool, false, ◌&&◌, ◌||◌, List, [], ◌∷◌, ◌++◌, length, drop, Option, Some, None, nat_lt, ◌==◌, if◌then◌else◌}
 use Rattle.wh_grammar.specs.Bytes.{is_blank}
 use Rattle.wh_grammar.specs.Lexing.{begins_with, is_byte, has_comment_end}
-use Rattle.wh_machine.specs.Script as scripts
+use Rattle.wh_grammar.specs.Script as scripts
 use Rattle.wh_text.specs.Area.{area_of, behind, ends}
 use Rattle.wh_text.specs.declared.area.Area.{Area}
 use Rattle.wh_text.specs.declared.area.Area.TheVariants as areas

@@ -3,7 +3,7 @@
 --     Gives, Ends    a turn gives the first line of what is still to be read, or there is none
 --     IsReadable     a line's number is below 2^62
 use Rattle.std.specs.Prelude.{◌≡◌, ℕ, ◌<◌, ◌^◌, List, [], ◌∷◌, ◌++◌, Option, Some, None, option_map}
-use Rattle.wh_machine.specs.Script.{Line, lines_of}
+use Rattle.wh_grammar.specs.Script.{Line, lines_of}
 use Rattle.wh_text.specs.declared.line.Line as code
 use Rattle.wh_text.specs.declared.line.Line.TheVariants.{Command, Session, Tick}
 

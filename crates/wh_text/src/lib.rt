@@ -9,7 +9,6 @@ mod lines;
 mod marked;
 mod place;
 mod print;
-mod reply;
 mod script;
 #[cfg(test)]
 mod tests;
@@ -17,5 +16,4 @@ mod tests;
 pub use fault::ScriptFault;
 pub use line::Line;
 pub use print::print_reply;
-pub use reply::{Limit, Refusal, Reply};
 pub use script::Script;

@@ -2,7 +2,7 @@ ghost use Rattle.std.specs.Prelude.{◌≡◌, ◌<◌, ◌≤◌, ◌^◌, ℕ,
 ghost use Rattle.std.specs.Prelude.{IfOk, IfSome, IfErr};
 ghost use Rattle.std.specs.List.{list_all};
 ghost use Rattle.wh_grammar.specs.Bytes.{is_digit, number_behind};
-ghost use Rattle.wh_machine.specs.Script as scripts;
+ghost use Rattle.wh_grammar.specs.Script as scripts;
 ghost use Rattle.wh_text.specs.Turn.{IsReadable};
 ghost use Rattle.wh_text.specs.View.{line_view};
 
@@ -11,7 +11,7 @@ use std::alloc::Global;
 use wh_value::Bytes;
 
 /// A line that begins with `!`: a tick, a session's number, or a command.
-#[tactic(auto, unfolding(wh_machine::specs::Script::marked_line))]
+#[tactic(auto, unfolding(wh_grammar::specs::Script::marked_line))]
 pub(crate) fn marked_line(alloc: Global, text: &[u8]) -> Result<Line, ScriptFault>
     ensures line { IfOk result (λ line. line_view line ≡ scripts.marked_line text.now) }
     ensures reading { IfOk result IsReadable }

@@ -1,18 +1,19 @@
 ghost use Rattle.std.specs.Prelude.{◌≡◌, [], ◌∷◌, ◌++◌, OnOk, List, ℕ, map, codes, decimal, length};
 ghost use Rattle.std.specs.List.{flat_map};
-ghost use Rattle.wh_machine.specs.Reply.{print, line, parted, row_line, limit_text, refusal_text};
+ghost use Rattle.wh_value.specs.Limit.{bound};
 ghost use Rattle.wh_value.specs.Value.{literal};
 ghost use Rattle.wh_value.specs.View.{value_of};
-ghost use Rattle.wh_text.specs.View.{reply_view, refusal_view, limit_view};
+ghost use Rattle.wh_reply.specs.Reply.{print, line, parted, row_line, limit_word, refusal_text};
+ghost use Rattle.wh_reply.specs.View.{reply_view, refusal_view};
 
-use crate::{Limit, Refusal, Reply};
 use std::alloc::{AllocError, Global};
-use wh_value::{Bytes, Row, Text, Value, print_literal};
+use wh_reply::{Refusal, Reply};
+use wh_value::{Bytes, Limit, Row, Text, Value, print_literal};
 
 const LF: u8 = b'\n';
 
 /// Adds the lines of a reply, each with its LF.
-#[tactic(auto, unfolding(wh_machine::specs::Reply::print))]
+#[tactic(auto, unfolding(wh_reply::specs::Reply::print))]
 pub fn print_reply(alloc: Global, reply: &Reply, out: &mut Bytes) -> Result<(), AllocError>
     ensures { OnOk result (out.new ≡ out.old ++ print (reply_view reply.now)) }
 {
@@ -83,23 +84,29 @@ fn put_no_session(session: u64, out: &mut Bytes) -> Result<(), AllocError>
 }
 
 fn put_limit(limit: Limit, out: &mut Bytes) -> Result<(), AllocError>
-    ensures { OnOk result (out.new ≡ out.old ++ (codes "E13 Limit " ++ limit_text (limit_view limit))) }
+    ensures { OnOk result (out.new ≡ out.old ++
+        (codes "E13 Limit " ++ limit_word limit ++ codes " " ++ decimal (bound limit))) }
 {
     out.extend(b"E13 Limit ")?;
-    put_limit_name(limit, out)
+    put_limit_word(limit, out)?;
+    out.push(b' ')?;
+    out.extend_decimal(limit.bound())
 }
 
-fn put_limit_name(limit: Limit, out: &mut Bytes) -> Result<(), AllocError>
-    ensures { OnOk result (out.new ≡ out.old ++ limit_text (limit_view limit)) }
+fn put_limit_word(limit: Limit, out: &mut Bytes) -> Result<(), AllocError>
+    ensures { OnOk result (out.new ≡ out.old ++ limit_word limit) }
 {
     match limit {
-        Limit::Statement => out.extend(b"STATEMENT 65536"),
-        Limit::Stamp => out.extend(b"STAMP 4611686018427387904"),
-        Limit::RowNumber => out.extend(b"ROW_NUMBER 4611686018427387904"),
-        Limit::Objects => out.extend(b"OBJECTS 1000"),
-        Limit::Name => out.extend(b"NAME 255"),
-        Limit::Columns => out.extend(b"COLUMNS 64"),
-        Limit::Retention => out.extend(b"RETENTION 90"),
+        Limit::Statement => out.extend(b"STATEMENT"),
+        Limit::Stamp => out.extend(b"STAMP"),
+        Limit::RowNumber => out.extend(b"ROW_NUMBER"),
+        Limit::PartitionNumber => out.extend(b"PARTITION_NUMBER"),
+        Limit::ObjectIds => out.extend(b"OBJECT_IDS"),
+        Limit::Objects => out.extend(b"OBJECTS"),
+        Limit::Name => out.extend(b"NAME"),
+        Limit::Columns => out.extend(b"COLUMNS"),
+        Limit::Output => out.extend(b"OUTPUT"),
+        Limit::Retention => out.extend(b"RETENTION"),
     }
 }
 

@@ -1,7 +1,8 @@
 use super::*;
 use std::alloc::Global;
 use std::test::Fail;
-use wh_value::{Bytes, Row, Text, Value};
+use wh_reply::{Refusal, Reply};
+use wh_value::{Bytes, Limit, Row, Text, Value};
 use wh_world::{Failed, MemSource, Source};
 
 /// Gives one byte at a time.
@@ -414,9 +415,15 @@ fn a_limit_is_printed_with_its_number(rt: HostRuntime) -> Result<(), Fail> {
             Limit::RowNumber,
             b"E13 Limit ROW_NUMBER 4611686018427387904\n",
         ),
+        (
+            Limit::PartitionNumber,
+            b"E13 Limit PARTITION_NUMBER 4611686018427387904\n",
+        ),
+        (Limit::ObjectIds, b"E13 Limit OBJECT_IDS 4294967295\n"),
         (Limit::Objects, b"E13 Limit OBJECTS 1000\n"),
         (Limit::Name, b"E13 Limit NAME 255\n"),
         (Limit::Columns, b"E13 Limit COLUMNS 64\n"),
+        (Limit::Output, b"E13 Limit OUTPUT 256\n"),
         (Limit::Retention, b"E13 Limit RETENTION 90\n"),
     ];
     for (limit, want) in cases {

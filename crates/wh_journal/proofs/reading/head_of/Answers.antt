@@ -1,7 +1,7 @@
 use Rattle.std.proofs.Common.{◌≡◌, ℕ, List, ◌∷◌, ◌++◌, sym, subst, arith}
 use Rattle.std.specs.Int.{w64, to_be_bytes}
 use Rattle.wh_journal.specs.Head.{IsWhole, IsLast}
-use Rattle.wh_machine.specs.Fault.{IsCut}
+use Rattle.wh_frame.specs.File.{IsCut}
 use Rattle.wh_journal.proofs.HeadLemmas.{head_read, whole, last, cut}
 use Rattle.wh_journal.proofs.reading.head_of.Goals as goal
 

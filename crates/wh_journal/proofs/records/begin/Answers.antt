@@ -1,5 +1,5 @@
 use Rattle.std.proofs.Common.{ℕ, List, [], ◌∷◌, ◌++◌, Some, option_map, ap, ◌∙◌, arith}
-use Rattle.wh_machine.specs.File.{header}
+use Rattle.wh_frame.specs.File.{header}
 use Rattle.wh_world.specs.Bytes.{written}
 use Rattle.wh_journal.proofs.WriteLemmas.{written_all}
 use Rattle.wh_journal.proofs.CrashLemmas.{write, write_and_sync}

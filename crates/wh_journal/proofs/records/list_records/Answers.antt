@@ -1,6 +1,6 @@
 use Rattle.std.proofs.Common.{◌+◌, ◌-◌, ◌∙◌, sym, ap, subst, length, drop, arith, rules}
 use Rattle.std.proofs.lemmas.List.{length_push}
-use Rattle.wh_machine.specs.Fault.{IsCut}
+use Rattle.wh_frame.specs.File.{IsCut}
 use Rattle.wh_journal.specs.Head.{Says, IsClosed, IsWhole, IsLast}
 use Rattle.wh_journal.proofs.CrashLemmas.{reads_on}
 use Rattle.wh_journal.proofs.ListingLemmas.{begins_more, is_file, cut_at_gate, no_gate_at_end}

@@ -1,7 +1,7 @@
 use Rattle.std.proofs.Common.{◌≡◌, ◌++◌, take, map}
 use Rattle.std.specs.List.{flat_map, AllByRecursion}
 use Rattle.wh_part.specs.Shape.{HasWideNumber}
-use Rattle.wh_machine.specs.Spelling.{row_bytes}
+use Rattle.wh_frame.specs.Spelling.{row_bytes}
 use Rattle.wh_part.specs.View.{numbered_of}
 use Rattle.wh_part.proofs.encoding.write_rows.Given as goal
 

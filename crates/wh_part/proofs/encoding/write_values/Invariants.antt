@@ -1,6 +1,6 @@
 use Rattle.std.proofs.Common.{◌≡◌, ◌++◌, take, map}
 use Rattle.std.specs.List.{flat_map}
-use Rattle.wh_machine.specs.Spelling.{value_bytes}
+use Rattle.wh_frame.specs.Spelling.{value_bytes}
 use Rattle.wh_value.specs.View.{value_of}
 use Rattle.wh_part.proofs.encoding.write_values.Given as goal
 

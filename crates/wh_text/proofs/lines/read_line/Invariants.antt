@@ -1,5 +1,5 @@
 use Rattle.std.proofs.Common.{◌≡◌, ◌+◌, ◌-◌, ◌^◌, ◌≤◌, length, option_map}
-use Rattle.wh_machine.specs.Script.{lines_of}
+use Rattle.wh_grammar.specs.Script.{lines_of}
 use Rattle.wh_text.specs.Ahead.{consumed, total}
 use Rattle.wh_text.specs.Place.{lines_at, most, begun}
 use Rattle.wh_text.specs.Turn.{ahead_and}

@@ -1,6 +1,6 @@
 use Rattle.std.proofs.Common.{◌≡◌, ◌∙◌, ap, take, min, length, arith}
 use Rattle.std.proofs.lemmas.List.{take_min}
-use Rattle.wh_machine.specs.Script.{CommandLine}
+use Rattle.wh_grammar.specs.Script.{CommandLine}
 use Rattle.wh_text.proofs.marked.command_line.Goals as goal
 
 pub returns-clause-line : goal.returns-clause-line

@@ -1,7 +1,7 @@
 use Rattle.std.proofs.Common.{◌≡◌, ℕ, List, [], ◌∷◌, ◌-◌, ◌==◌, false, length, get_or, sym, arith}
 use Rattle.std.proofs.lemmas.Bool.Decides.{nat_tests}
 use Rattle.std.proofs.lemmas.Grind.{common_steps}
-use Rattle.wh_machine.specs.Script.{without_return}
+use Rattle.wh_grammar.specs.Script.{without_return}
 use Rattle.wh_text.proofs.MarkedLaws.{return_dropped, return_kept, return_none}
 use Rattle.wh_text.proofs.marked.without_return.Goals as goal
 use Rattle.wh_text.proofs.marked.without_return.Goals.{else-count-gt0-via-then-count-gt0+else-line-count-eq13, else-count-gt0-via-else-count-gt0}

@@ -1,6 +1,6 @@
 use Rattle.std.proofs.Common.{◌≡◌, ◌++◌, take}
 use Rattle.std.specs.List.{flat_map}
-use Rattle.wh_machine.specs.Reply.{row_line}
+use Rattle.wh_reply.specs.Reply.{row_line}
 use Rattle.wh_text.proofs.print.put_rows.Given as goal
 
 abbrev pub invariant-loop-row : goal.invariant-loop-row

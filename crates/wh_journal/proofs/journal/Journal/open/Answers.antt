@@ -1,7 +1,7 @@
 use Rattle.std.proofs.Common.{◌≡◌, ℕ, List, length, Some, ◌∙◌, inl, inr, subst, ap, arith}
 use Rattle.std.specs.Prelude.{MatchOption}
 use Rattle.std.proofs.lemmas.Bool.{cases_lt}
-use Rattle.wh_machine.specs.File.{IsFileOf}
+use Rattle.wh_frame.specs.File.{IsFileOf}
 use Rattle.wh_journal.specs.Fault.{ListsUpTo}
 use Rattle.wh_journal.specs.Journal.{Lists}
 use Rattle.wh_journal.proofs.ListingLemmas.{fault_listed}

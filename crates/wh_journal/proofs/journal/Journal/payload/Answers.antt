@@ -1,7 +1,7 @@
 use Rattle.std.proofs.Common.{◌≡◌, ℕ, List, ◌++◌, Vec, Some, sym, ◌∙◌, ap}
 use Rattle.std.proofs.lemmas.Result.{IfOk-weaker}
 use Rattle.std.specs.declared.alloc.Global.{Global}
-use Rattle.wh_machine.specs.File.{records_of}
+use Rattle.wh_frame.specs.File.{records_of}
 use Rattle.wh_world.specs.Bytes.{part_at}
 use Rattle.wh_journal.specs.Journal.{Lists}
 use Rattle.std.proofs.Common.{slice_get}

@@ -1,7 +1,7 @@
 use Rattle.std.proofs.Common.{◌∙◌, ap, sym, length}
 use Rattle.std.specs.List.{flat_map}
 use Rattle.std.proofs.lemmas.List.{length-map}
-use Rattle.wh_machine.specs.Spelling.{row_bytes}
+use Rattle.wh_frame.specs.Spelling.{row_bytes}
 use Rattle.wh_part.specs.View.{numbered_of}
 use Rattle.wh_part.proofs.WritingLaws.{partition_written}
 use Rattle.wh_part.proofs.partition.Partition.encode.Goals as goal

@@ -1,5 +1,5 @@
 use Rattle.std.proofs.Common.{◌-◌, ◌∙◌, length, ap, arith}
-use Rattle.wh_machine.specs.Commit.{last_number}
+use Rattle.wh_frame.specs.Partition.{last_number}
 use Rattle.wh_part.proofs.RowNumbers.{last_at}
 use Rattle.wh_part.proofs.partition.Partition.last.Goals as goal
 
