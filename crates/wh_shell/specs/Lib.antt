@@ -7,5 +7,4 @@ pub mod Reading
 pub mod Room
 pub mod Run
 pub mod Serving
-pub mod Untold
 pub mod Writing

@@ -6,7 +6,7 @@ use std::alloc::{AllocError, Global};
 use std::test::Fail;
 use std::thread::Threads;
 use std::time;
-use wh_world::{MemDisk, MemSink, MemSource};
+use wh_world::{MemDisk, MemSink, MemSource, SetClock};
 
 /// Eight commands, each of which makes a commit.
 const COMMANDS: [&[u8]; 8] = [
@@ -64,7 +64,7 @@ fn ran(
     let mut out = MemSink::new(alloc, 1 << 12, Vec::new(alloc))?;
     let file = file.to_vec(alloc)?;
     let disk = MemDisk::new(alloc, file, 1 << 12, 100, failing.to_vec(alloc)?)?;
-    let mut clock = SystemClock::new(rt);
+    let mut clock = SetClock::new([0].to_vec(alloc)?);
     let (status, disk) = run(rt, alloc, &words, &mut source, &mut out, disk, &mut clock);
     Ok(Left { status, out, disk })
 }

@@ -4,7 +4,7 @@ use std::process::Abort;
 use std::test::Fail;
 use std::thread::Threads;
 use std::time;
-use wh_world::{MemDisk, MemSink, MemSource};
+use wh_world::{MemDisk, MemSink, MemSource, SetClock};
 
 const EMPTY_FILE: [u8; 8] = *b"WHCORE1\0";
 
@@ -80,7 +80,7 @@ fn run_with(
     let mut out = MemSink::new(alloc, 1 << 20, failing.sink.to_vec(alloc)?)?;
     let file = file.to_vec(alloc)?;
     let disk = MemDisk::new(alloc, file, 1 << 20, 100, failing.disk.to_vec(alloc)?)?;
-    let mut clock = SystemClock::new(rt);
+    let mut clock = SetClock::new([0].to_vec(alloc)?);
     let (status, disk) = run(rt, alloc, &owned, &mut source, &mut out, disk, &mut clock);
     Ok(Outcome { status, out, disk })
 }

@@ -22,7 +22,7 @@ pub trait Disk {
     /// How often it has failed.
     ghost faults: { Self → ℕ };
 
-    /// How often it was read.
+    /// How often it was read: one more at each call of `read`, up to the end of the count's type.
     ghost reads: { Self → ℕ };
 
     /// How many bytes the file has.
@@ -35,6 +35,7 @@ pub trait Disk {
         ensures crash { NoOthers (may_leave self.old) (may_leave self.new) }
         ensures time { Elapses (moment self.old) (moment self.new) (left_since self.old) (left_since self.new) (may_leave self.new) }
         ensures later { faults self.old ≤ faults self.new }
+        ensures no_fault { OnOk result (faults self.new ≡ faults self.old) }
         ensures failed { OnErr result (Rose (faults self.old) (faults self.new)) };
 
     /// The count of faults.
@@ -47,9 +48,11 @@ pub trait Disk {
         ensures content { OnOk result ((b : List ℕ) → bytes self.old ≡ Some b → buf.new ≡ part_at at (length buf.new) b) }
         ensures same { (bytes self.new ≡ bytes self.old) × (size self.new ≡ size self.old) }
         ensures reads { (reads self.old ≤ reads self.new) × (reads self.new ≤ reads self.old + 1) }
+        ensures counted { Rose (reads self.old) (reads self.new) }
         ensures crash { NoOthers (may_leave self.old) (may_leave self.new) }
         ensures time { Elapses (moment self.old) (moment self.new) (left_since self.old) (left_since self.new) (may_leave self.new) }
         ensures later { faults self.old ≤ faults self.new }
+        ensures no_fault { OnOk result (faults self.new ≡ faults self.old) }
         ensures failed { OnErr result (Rose (faults self.old) (faults self.new)) };
 
     /// Writes over what is there, and past the end. Until a sync a crash may leave any bytes in the range.
@@ -64,6 +67,7 @@ pub trait Disk {
         ensures crash { Follows (Torn at (length piece.now)) (may_leave self.old) (may_leave self.new) }
         ensures time { Elapses (moment self.old) (moment self.new) (left_since self.old) (left_since self.new) (may_leave self.new) }
         ensures later { faults self.old ≤ faults self.new }
+        ensures no_fault { OnOk result (faults self.new ≡ faults self.old) }
         ensures failed { OnErr result (Rose (faults self.old) (faults self.new)) };
 
     /// Brings all that was written onto the disk: from Ok on a crash leaves what a read gives.
@@ -73,6 +77,7 @@ pub trait Disk {
         ensures crash { NoOthers (may_leave self.old) (may_leave self.new) }
         ensures time { Elapses (moment self.old) (moment self.new) (left_since self.old) (left_since self.new) (may_leave self.new) }
         ensures later { faults self.old ≤ faults self.new }
+        ensures no_fault { OnOk result (faults self.new ≡ faults self.old) }
         ensures failed { OnErr result (Rose (faults self.old) (faults self.new)) };
 
     /// The told bytes are as many as the file has.

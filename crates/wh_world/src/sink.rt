@@ -1,4 +1,4 @@
-ghost use Rattle.std.specs.Prelude.{◌≡◌, ◌<◌, ◌≤◌, ◌++◌, List, ℕ, Option, length, take, option_map, IfOk, OnErr};
+ghost use Rattle.std.specs.Prelude.{◌≡◌, ◌<◌, ◌≤◌, ◌++◌, List, ℕ, Option, length, take, option_map, IfOk, OnOk, OnErr};
 ghost use Rattle.wh_world.specs.Told.{Rose};
 
 use crate::Failed;
@@ -18,5 +18,6 @@ pub trait Sink {
         ensures taken { IfOk result (λ n. held self.new ≡ option_map (λ held. held ++ take n piece.now) (held self.old)) }
         ensures kept { OnErr result (held self.new ≡ held self.old) }
         ensures later { faults self.old ≤ faults self.new }
+        ensures no_fault { OnOk result (faults self.new ≡ faults self.old) }
         ensures failed { OnErr result (Rose (faults self.old) (faults self.new)) };
 }

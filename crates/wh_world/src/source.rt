@@ -1,4 +1,4 @@
-ghost use Rattle.std.specs.Prelude.{◌≡◌, ◌<◌, ◌≤◌, [], ◌++◌, List, ℕ, Option, Some, length, take, option_map, IfOk, OnErr};
+ghost use Rattle.std.specs.Prelude.{◌≡◌, ◌<◌, ◌≤◌, [], ◌++◌, List, ℕ, Option, Some, length, take, option_map, IfOk, OnOk, OnErr};
 ghost use Rattle.wh_world.specs.Told.{Rose};
 
 /// The one fault of a device.
@@ -21,5 +21,6 @@ pub trait Source {
         ensures at_end { IfOk result (λ n. n ≡ 0 → (bytes : List ℕ) → left self.old ≡ Some bytes → bytes ≡ []) }
         ensures kept { OnErr result (left self.new ≡ left self.old) }
         ensures later { faults self.old ≤ faults self.new }
+        ensures no_fault { OnOk result (faults self.new ≡ faults self.old) }
         ensures failed { OnErr result (Rose (faults self.old) (faults self.new)) };
 }

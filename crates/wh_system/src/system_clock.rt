@@ -1,5 +1,5 @@
 ghost use Rattle.std.specs.Prelude.{◌<◌, ◌^◌, None, IfSome};
-ghost use Rattle.wh_shell.specs.Untold.{untold};
+ghost use Rattle.wh_system.specs.Untold.{untold};
 
 use std::time;
 use std::time::SystemTime;

@@ -1,0 +1,196 @@
+ghost use Rattle.std.specs.Prelude.{◌≡◌, ◌≤◌, None, IfOk};
+ghost use Rattle.wh_world.specs.Told.{Rose};
+ghost use Rattle.wh_system.specs.Untold.{untold};
+
+use std::fs::{File, Files, OpenOptions, TryLockError};
+use std::io;
+use std::os::unix::fs::FileExt;
+use wh_world::{Disk, Failed};
+
+/// Why a file isn't opened.
+#[derive(Debug, Drop)]
+pub enum OpenError {
+    /// Another opening of the file holds its lock.
+    Locked,
+    /// The system opens it not, or gives neither its lock nor its length.
+    System(io::Error),
+}
+
+impl From<io::Error> for OpenError {
+    fn from(error: io::Error) -> OpenError {
+        OpenError::System(error)
+    }
+}
+
+impl From<TryLockError> for OpenError {
+    fn from(error: TryLockError) -> OpenError {
+        match error {
+            TryLockError::WouldBlock => OpenError::Locked,
+            TryLockError::Error(error) => OpenError::System(error),
+        }
+    }
+}
+
+/// A file of the system, opened for reading and writing. Its bytes aren't told, but their number is.
+///
+/// It holds the system's lock on the file until it is dropped, so no other `FileDisk` has the file meanwhile. A
+/// program that doesn't ask for the lock can still write to it: before each write the file's length is compared with
+/// the one that was left, and where it is another the write fails. What remains is a change that leaves the length as
+/// it was, or that comes between this comparison and the write.
+#[derive(Drop)]
+pub struct FileDisk {
+    file: File,
+    size: u64,
+    reads: u64,
+    faults: u64,
+}
+
+impl FileDisk {
+    /// Opens the file of that path, creates it where it isn't there, and takes its lock without waiting.
+    pub fn open(rt: &impl Files<File = File>, path: &str) -> Result<FileDisk, OpenError>
+        ensures fresh { IfOk result (λ disk. (disk.faults ≡ 0) × (disk.reads ≡ 0)) }
+    {
+        let file = OpenOptions::new()
+            .read(true)
+            .write(true)
+            .create(true)
+            .open(rt, path)?;
+        file.try_lock()?;
+        let size = file.metadata()?.len();
+        Ok(FileDisk {
+            file,
+            size,
+            reads: 0,
+            faults: 0,
+        })
+    }
+
+    // Whether the file's length is the one that was left.
+    fn is_as_left(&self) -> bool {
+        match self.file.metadata() {
+            Ok(metadata) => metadata.len() == self.size,
+            Err(_) => false,
+        }
+    }
+
+    fn fail(&mut self) -> Failed
+        ensures size { self.new.size ≡ self.old.size }
+        ensures reads { self.new.reads ≡ self.old.reads }
+        ensures rose { Rose self.old.faults self.new.faults }
+        ensures later { self.old.faults ≤ self.new.faults }
+    {
+        self.faults = self.faults.saturating_add(1);
+        Failed
+    }
+}
+
+impl Disk for FileDisk {
+    ghost bytes = { λ _. None };
+
+    ghost may_leave = { λ _ _. ⊥ };
+
+    ghost moment = { λ _. 0 };
+
+    ghost left_since = { λ _ _ _. ⊥ };
+
+    ghost faults = { λ disk. disk.faults };
+
+    ghost reads = { λ disk. disk.reads };
+
+    ghost size = { λ disk. disk.size };
+
+    ghost spans = { λ disk b told. untold b told };
+
+    ghost shown = { λ disk b told. untold b told };
+
+    ghost counts_now = { λ disk t image past now. now };
+
+    ghost only_now = { λ disk image none. none };
+
+    fn len(&mut self) -> Result<u64, Failed> {
+        Ok(self.size)
+    }
+
+    fn fault_count(&self) -> u64 {
+        self.faults
+    }
+
+    fn read(&mut self, at: u64, buf: &mut [u8]) -> Result<(), Failed> {
+        self.reads = self.reads.saturating_add(1);
+        if self.file.read_exact_at(buf, at).is_err() {
+            return Err(self.fail());
+        }
+        Ok(())
+    }
+
+    fn write_at(&mut self, at: u64, piece: &[u8]) -> Result<(), Failed> {
+        if !self.is_as_left() || self.file.write_all_at(piece, at).is_err() {
+            return Err(self.fail());
+        }
+        self.size = self.size.max(at + piece.len() as u64);
+        Ok(())
+    }
+
+    fn sync(&mut self) -> Result<(), Failed> {
+        if self.file.sync_all().is_err() {
+            return Err(self.fail());
+        }
+        Ok(())
+    }
+}
+
+#[cfg(test)]
+mod tests {
+    use super::*;
+    use std::alloc::{AllocError, Global};
+    use std::test::Fail;
+    use std::{fs, process};
+
+    fn path_of(alloc: Global, process: process::Process, name: &str) -> Result<String, AllocError> {
+        format!(in alloc; "/tmp/bokzarn-{}-{name}.db", process::id(process))
+    }
+
+    #[test]
+    fn a_file_keeps_what_is_written(rt: HostRuntime) -> Result<(), Fail> {
+        let path = path_of(rt.alloc(), rt.process(), "keeps")?;
+        let mut disk = FileDisk::open(&rt, path.as_str())?;
+        assert_eq!(rt; disk.len(), Ok(0));
+        assert_eq!(rt; disk.write_at(0, b"abcd"), Ok(()));
+        assert_eq!(rt; disk.write_at(3, b"xy"), Ok(()));
+        assert_eq!(rt; disk.sync(), Ok(()));
+        drop(disk);
+        let mut again = FileDisk::open(&rt, path.as_str())?;
+        assert_eq!(rt; again.len(), Ok(5));
+        let mut buf = [0u8; 3];
+        assert_eq!(rt; again.read(2, &mut buf), Ok(()));
+        assert_eq!(rt; buf, *b"cxy");
+        assert_eq!(rt; again.fault_count(), 0);
+        fs::remove_file(&rt, path.as_str())?;
+        Ok(())
+    }
+
+    #[test]
+    fn a_file_is_opened_once_at_a_time(rt: HostRuntime) -> Result<(), Fail> {
+        let path = path_of(rt.alloc(), rt.process(), "once")?;
+        let disk = FileDisk::open(&rt, path.as_str())?;
+        let second = FileDisk::open(&rt, path.as_str());
+        assert!(rt; matches!(second, Err(OpenError::Locked)));
+        drop(disk);
+        assert!(rt; FileDisk::open(&rt, path.as_str()).is_ok());
+        fs::remove_file(&rt, path.as_str())?;
+        Ok(())
+    }
+
+    #[test]
+    fn a_write_fails_where_another_handle_grew_the_file(rt: HostRuntime) -> Result<(), Fail> {
+        let path = path_of(rt.alloc(), rt.process(), "grown")?;
+        let mut disk = FileDisk::open(&rt, path.as_str())?;
+        assert_eq!(rt; disk.write_at(0, b"abcd"), Ok(()));
+        let other = OpenOptions::new().write(true).open(&rt, path.as_str())?;
+        other.write_all_at(b"xy", 4)?;
+        assert_eq!(rt; disk.write_at(4, b"z"), Err(Failed));
+        assert_eq!(rt; disk.fault_count(), 1);
+        fs::remove_file(&rt, path.as_str())?;
+        Ok(())
+    }
+}
