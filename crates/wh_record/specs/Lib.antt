@@ -1,3 +1,1 @@
 pub mod View
-pub mod Decoding
-pub mod Laws

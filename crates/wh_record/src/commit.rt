@@ -16,27 +16,28 @@ pub struct TableChange {
     pub columns: Vec<Column>,
 }
 
-/// A new version of a table, with partitions added to those of its last one. `width` is its number
-/// of columns.
+/// A new version of a table: partitions of its last one, by their rising numbers, are removed, and
+/// others are added. `width` is the table's number of columns.
 #[derive(Debug, Drop)]
 pub struct VersionChange {
     pub id: u32,
     pub data_timestamp: u64,
     pub next_row: u64,
     pub width: u32,
+    pub removed: Vec<u64>,
     pub added: Vec<Partition>,
 }
 
-/// What a commit changes.
+/// One of the things that a commit changes.
 #[derive(Debug, Drop)]
 pub enum Change {
     CreatesTable(TableChange),
     PushesVersion(VersionChange),
 }
 
-/// A change, and the stamp at which it is made.
+/// Changes, and the stamp at which they are made. There may be none.
 #[derive(Debug, Drop)]
 pub struct Commit {
     pub stamp: u64,
-    pub change: Change,
+    pub changes: Vec<Change>,
 }
