@@ -1,7 +1,7 @@
 -- The laws of the row order, for the comparisons of the code and for the crates above.
 --     value_total, row_total                     it is a total order
 --     value-IsAntisymmetric, row-IsAntisymmetric     only equal values, and only equal rows, tie
-use Rattle.std.specs.Prelude.{◌≡◌, ℕ, Bool, true, false, List, [], ◌∷◌, ℤ, pos, refl}
+use Rattle.std.specs.Prelude.{◌≡◌, ℕ, Bool, true, false, List, [], ℤ, pos, refl}
 use Rattle.std.proofs.Common.{ap, subst}
 use Rattle.std.specs.declared.cmp.Ordering.{Ordering}
 use Rattle.std.specs.declared.cmp.Ordering.TheVariants.{Less, Equal, Greater}

@@ -16,8 +16,9 @@ impl Model for Bytes {
 }
 
 impl Bytes {
-    ghost use Rattle.std.specs.Prelude.{◌≡◌, [], ◌∷◌, ◌++◌, length, OnOk, OnErr, IfOk};
+    ghost use Rattle.std.specs.Prelude.{◌≡◌, [], ◌∷◌, ◌++◌, length, take, OnOk, OnErr, IfOk};
     ghost use Rattle.std.specs.Fmt.{decimal};
+    ghost use Rattle.wh_value.specs.Kept.{Keeps};
 
     /// None yet. Takes no memory.
     pub fn new(alloc: Global) -> Bytes
@@ -64,13 +65,33 @@ impl Bytes {
 
     /// Adds a number in decimal.
     pub fn extend_decimal(&mut self, number: u64) -> Result<(), AllocError>
-        ensures { OnOk result (self.new ≡ self.old ++ decimal number) }
+        ensures ok { OnOk result (self.new ≡ self.old ++ decimal number) }
+        ensures err { OnErr result (self.new ≡ self.old) }
+    {
+        let count = self.len();
+        let added = self.push_digits(number);
+        if added.is_err() {
+            self.truncate(count);
+        }
+        added
+    }
+
+    fn push_digits(&mut self, number: u64) -> Result<(), AllocError>
+        ensures ok { OnOk result (self.new ≡ self.old ++ decimal number) }
+        ensures kept { Keeps self.old self.new }
     {
         if number < 10 {
             return self.push(b'0' + number as u8);
         }
-        self.extend_decimal(number / 10)?;
+        self.push_digits(number / 10)?;
         self.push(b'0' + (number % 10) as u8)
+    }
+
+    /// Lets go of the bytes behind the first so many, and keeps the memory.
+    pub fn truncate(&mut self, count: usize)
+        ensures { self.new ≡ take count self.old }
+    {
+        self.items.truncate(count);
     }
 
     /// Lets go of all bytes, and keeps the memory.

@@ -1,6 +1,7 @@
-ghost use Rattle.std.specs.Prelude.{◌≡◌, [], ◌∷◌, ◌++◌, OnOk};
+ghost use Rattle.std.specs.Prelude.{◌≡◌, [], ◌∷◌, ◌++◌, OnOk, OnErr};
 ghost use Rattle.std.specs.Fmt.{signed_decimal};
 ghost use Rattle.std.specs.List.{flat_map};
+ghost use Rattle.wh_value.specs.Kept.{Keeps};
 ghost use Rattle.wh_value.specs.Value.{literal, quoted_byte};
 ghost use Rattle.wh_value.specs.View.{value_of};
 
@@ -11,7 +12,20 @@ const QUOTE: u8 = b'\'';
 
 /// Prints a value as replies show it: a text stands in quotes, with those in it doubled.
 pub fn print_literal(value: &Value, out: &mut Bytes) -> Result<(), AllocError>
-    ensures { OnOk result (out.new ≡ out.old ++ literal (value_of value.now)) }
+    ensures ok { OnOk result (out.new ≡ out.old ++ literal (value_of value.now)) }
+    ensures err { OnErr result (out.new ≡ out.old) }
+{
+    let count = out.len();
+    let printed = put_literal(value, out);
+    if printed.is_err() {
+        out.truncate(count);
+    }
+    printed
+}
+
+fn put_literal(value: &Value, out: &mut Bytes) -> Result<(), AllocError>
+    ensures ok { OnOk result (out.new ≡ out.old ++ literal (value_of value.now)) }
+    ensures kept { Keeps out.old out.new }
 {
     match value {
         Value::Number(number) => print_number(*number, out),
@@ -23,7 +37,8 @@ pub fn print_literal(value: &Value, out: &mut Bytes) -> Result<(), AllocError>
 }
 
 fn print_number(number: i64, out: &mut Bytes) -> Result<(), AllocError>
-    ensures { OnOk result (out.new ≡ out.old ++ signed_decimal number) }
+    ensures ok { OnOk result (out.new ≡ out.old ++ signed_decimal number) }
+    ensures kept { Keeps out.old out.new }
 {
     if number < 0 {
         out.push(b'-')?;
@@ -32,7 +47,8 @@ fn print_number(number: i64, out: &mut Bytes) -> Result<(), AllocError>
 }
 
 fn print_quoted(text: &[u8], out: &mut Bytes) -> Result<(), AllocError>
-    ensures { OnOk result (out.new ≡ out.old ++ 39 ∷ flat_map quoted_byte text.now ++ 39 ∷ []) }
+    ensures ok { OnOk result (out.new ≡ out.old ++ 39 ∷ flat_map quoted_byte text.now ++ 39 ∷ []) }
+    ensures kept { Keeps out.old out.new }
 {
     out.push(QUOTE)?;
     for byte in text {

@@ -1,4 +1,3 @@
-use Rattle.std.proofs.Common.{IsPermutation}
 use Rattle.std.proofs.lemmas.Result.{on_ok_weaker}
 use Rattle.wh_value.proofs.InOrder.{in_order_unique}
 use Rattle.wh_value.proofs.row.sort_rows.Goals as goal
