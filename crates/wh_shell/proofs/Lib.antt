@@ -1,3 +1,4 @@
+pub mod Lab
 pub mod LoneWord
 pub mod Written
 pub mod EventLemmas
@@ -8,6 +9,6 @@ pub mod Survival
 pub mod Halting
 pub mod Safety
 pub mod RoomLemmas
+pub mod CauseLemmas
 pub mod Progress
 pub mod Opening
-pub mod Ending

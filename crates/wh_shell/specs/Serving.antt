@@ -1,5 +1,5 @@
 -- What contracts say of the turns of a run.
---     CarriesOut         an event was carried out, and its reply written
+--     Replies            an event was carried out, and its reply written
 --     Answers, Finds     a turn carried out the first event, or found none
 --     Stops              a front of the text was written
 --     Serves             all events were carried out
@@ -19,7 +19,7 @@ abbrev pub refusals_of : State → Event → ℕ
 refusals_of s e = if is_refusal (step s e).1 then 1 else 0
 
 -- an event was carried out, and its whole reply written
-pub record CarriesOut (old new : State) (event : Event) (held held_new : Option (List ℕ)) (count : ℕ) : Type 0 where
+pub record Replies (old new : State) (event : Event) (held held_new : Option (List ℕ)) (count : ℕ) : Type 0 where
   pub state : new ≡ (step old event).0
   pub written : Writes (print (step old event).1) held held_new
   pub refused : count ≡ refusals_of old event

@@ -79,10 +79,10 @@ impl From<OpenFault> for Fault {
     ghost use Rattle.std.specs.Prelude.{◌≡◌};
     ghost use Rattle.wh_shell.specs.Fault.{fault_of_open};
 
-    ghost from_gives = { λ open fault. fault ≡ fault_of_open open };
+    ghost from_gives = { λ opening fault. fault ≡ fault_of_open opening };
 
-    fn from(open: OpenFault) -> Self {
-        match open {
+    fn from(opening: OpenFault) -> Self {
+        match opening {
             OpenFault::OutOfMemory => Fault::OutOfMemory,
             OpenFault::DiskFault => Fault::Disk,
             OpenFault::NotWarehouse { at } => Fault::NotWarehouse { at },
