@@ -1,2 +1,3 @@
 pub mod KnownTokens
 pub mod KnownStatements
+pub mod KnownLines

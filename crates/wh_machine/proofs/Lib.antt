@@ -1,5 +1,12 @@
 pub mod IdLaws
 pub mod CutLaws
+pub mod VersionLaws
 pub mod MeaningLaws
 pub mod OutcomeLaws
 pub mod StepLaws
+pub mod SoundLaws
+pub mod ReplyLaws
+pub mod KnownFacts
+pub mod KnownTests
+pub mod KnownCommits
+pub mod KnownStops

@@ -1,0 +1,146 @@
+-- Known values of the definitions, worked out by hand: a wrong rule doesn't check.
+--     creation, insertion, asked, table_t     trees and events that the other pages take too
+use Rattle.std.proofs.Common.{◌≡◌, ap, ℕ, List, [], ◌∷◌, Option, Some, None, true, false, pos, negsuc, refl, sym, ◌∙◌, nat_cmp}
+use Rattle.std.proofs.lemmas.List.{nil_from_length}
+use Rattle.std.specs.Prelude.{codes}
+use Rattle.std.specs.Fmt.{digits}
+use Rattle.std.specs.FinMap.{entries, entries-insert, empty, values, len-entries, len-empty}
+use Rattle.std.specs.Cmp.{nat_cmp_total}
+use Rattle.wh_value.specs.Value.{Number, Truth, Text, Null, Row, in_order, literal}
+use Rattle.wh_value.specs.Column.{NumberType}
+use Rattle.wh_value.specs.declared.value.Value.TheVariants as v
+use Rattle.wh_value.specs.declared.column.ColumnType as types_of
+use Rattle.wh_value.specs.declared.column.ColumnType.TheVariants as types
+use Rattle.wh_value.specs.declared.column.Column as columns
+use Rattle.wh_ast.specs.declared.expr.Expr.{Expr, out-Expr, roll-Expr, out-roll-Expr}
+use Rattle.wh_ast.specs.declared.expr.Expr.TheOpen.{Expr-F}
+use denote.Hole.Carrier.{out, roll}
+use Rattle.wh_ast.specs.declared.expr.Expr.TheVariants as e
+use Rattle.wh_ast.specs.declared.query.Query.{roll-Query, out-roll-Query}
+use Rattle.wh_ast.specs.declared.query.Core.{roll-Core, out-roll-Core}
+use Rattle.wh_ast.specs.declared.query.Item.TheVariants as i
+use Rattle.wh_ast.specs.declared.query.Source.{out-Source, roll-Source, out-roll-Source}
+use Rattle.wh_ast.specs.declared.query.Source.TheOpen.{Source-F}
+use Rattle.wh_ast.specs.declared.query.Source.TheVariants as source
+use Rattle.wh_ast.specs.declared.dml.Dml.TheVariants as dml
+use Rattle.wh_ast.specs.declared.dml.Rows.TheVariants as rows
+use Rattle.wh_ast.specs.declared.statement.Statement as tree
+use Rattle.wh_ast.specs.declared.statement.Statement.TheVariants as st
+use Rattle.wh_grammar.specs.Spelled.{TooLong, Unreadable, Asked}
+use Rattle.wh_frame.specs.Partition.{numbered, partitions_of}
+use Rattle.wh_reply.specs.Reply.{Refused, Unsupported, NoSuchSession, OverLimit, Listing, print}
+use Rattle.wh_value.specs.declared.limit.Limit.TheVariants as limits
+use Rattle.wh_machine.specs.State.{first_state, with_entries}
+use Rattle.wh_machine.specs.Statement.{CreateTable, InsertValues, SelectAll, behind_minus, literal_in, literal_of, table_in, form_of}
+use Rattle.wh_machine.specs.Outcome.{answers}
+use Rattle.wh_machine.specs.Queries.{select_all}
+use Rattle.wh_machine.specs.Tables.{table_refusal, taken_name}
+use Rattle.wh_machine.specs.Rows.{rows_refusal}
+use Rattle.wh_machine.specs.Step.{Event, Command, Tick, step, commanded, carried_out, after, text}
+
+-- ---- statements as trees
+
+abbrev column : List ℕ → types_of.ColumnType → columns.Column
+column name type = record { name = name; column_type = type }
+
+abbrev creation : List ℕ → List columns.Column → Option ℕ → tree.Statement
+creation name columns retention = st.CreateTable (record { replace = false; name = name; columns = columns; retention = retention })
+
+abbrev pub insertion : List ℕ → List (List Expr) → tree.Statement
+insertion table found = st.Dml (dml.Insert table None (rows.Values found))
+
+abbrev pub selection : List ℕ → tree.Statement
+selection name = st.Select (roll-Query (record { cores = roll-Core (record { items = i.Star ∷ []; from = source.Named name None; joins = []; filter = None; group = [] }) ∷ [] })) []
+
+abbrev pub number : ℕ → Expr
+number n = e.Const (v.Number (pos n))
+
+abbrev pub asked : tree.Statement → Event
+asked s = Command 0 1 (Asked s)
+
+-- CREATE TABLE T(K NUMBER)
+abbrev pub table_t : tree.Statement
+table_t = creation (codes "T") (column (codes "K") types.Number ∷ []) None
+
+forms : (form_of table_t ≡ Some (CreateTable (codes "T") (record { name = codes "K"; column_type = NumberType } ∷ []) 1))
+    × (form_of (insertion (codes "T") ((number 5 ∷ e.Const v.Null ∷ []) ∷ (e.Const (v.Text (codes "x")) ∷ e.Const (v.Bool true) ∷ []) ∷ []))
+    ≡ Some (InsertValues (codes "T") ((Number (pos 5) ∷ Null ∷ []) ∷ (Text (codes "x") ∷ Truth true ∷ []) ∷ [])))
+    × (form_of (insertion (codes "T") ((e.CountRows ∷ []) ∷ [])) ≡ None) × (form_of st.Begin ≡ None)
+unfolding out-Expr out
+forms = (refl, refl, refl, refl)
+
+named : (name : List ℕ) → table_in (out-Source (source.Named name None)) ≡ Some (SelectAll name)
+unfolding out-Source roll-Source roll
+named name = ap table_in (out-roll-Source (Source-F.Named name None))
+
+-- `*` of one table
+all_of_one : (name : List ℕ) → form_of (selection name) ≡ Some (SelectAll name)
+all_of_one name = rw (out-roll-Query, out-roll-Core) (named name)
+
+-- a number behind a minus sign is a literal
+minus : (x : Expr) → literal_of (e.Neg x) ≡ behind_minus (out-Expr x)
+unfolding out-Expr roll-Expr roll
+minus x = ap literal_in (out-roll-Expr (Expr-F.Neg x))
+
+-- the first name that comes again, and one that is kept for streams
+taken : (taken_name (codes "A" ∷ codes "B" ∷ codes "B" ∷ codes "A" ∷ []) ≡ Some (codes "A")) × (taken_name (codes "K" ∷ codes "METADATA$A" ∷ codes "K" ∷ []) ≡ Some (codes "K"))
+    × (taken_name (codes "A" ∷ codes "METADATA$A" ∷ []) ≡ Some (codes "METADATA$A")) × (taken_name (codes "metadata$k" ∷ codes "K" ∷ []) ≡ None)
+taken = (refl, refl, refl, refl)
+
+-- ---- events and their replies
+
+-- a refused script
+refused : text first_state (asked table_t ∷ asked table_t ∷ asked (insertion (codes "T") ((number 1 ∷ number 2 ∷ []) ∷ [])) ∷ asked (insertion (codes "U") ((number 1 ∷ []) ∷ []))
+    ∷ Command 0 1 (Asked st.Begin) ∷ Command 0 65 Unreadable ∷ Command 0 65 TooLong ∷ Tick 5 ∷ [])
+    ≡ codes "CREATED TABLE T\nE7 NameTaken T\nE9 TypeMismatch\nE6 UnknownName U\nE0 Unsupported\nE1 SyntaxError\nE13 Limit STATEMENT 65536\nIDLE\n"
+unfolding step commanded carried_out table_refusal rows_refusal print out-Expr out digits
+refused = refl
+
+-- a session that there isn't is tested behind the grammar
+session : ((step first_state (Command 0 65 (Asked st.Begin))).1 ≡ Refused (NoSuchSession 65)) × ((step first_state (Command 0 0 (Asked st.Begin))).1 ≡ Refused (NoSuchSession 0))
+    × ((step first_state (Command 0 64 (Asked st.Begin))).1 ≡ Refused Unsupported)
+unfolding step commanded carried_out
+session = (refl, refl, refl)
+
+-- a stamp of 62 bits or more is refused before all else, and doesn't pass; the one before passes
+last_stamp : (step first_state (Command 4611686018427387904 65 TooLong) ≡ (first_state, Refused (OverLimit limits.Stamp)))
+    × ((step first_state (Tick 4611686018427387903)).0.last ≡ 4611686018427387903)
+    × (text first_state (Tick 4611686018427387904 ∷ []) ≡ codes "E13 Limit STAMP 4611686018427387904\n")
+unfolding step commanded print digits
+last_stamp = (refl, refl, refl)
+
+-- a stamp is the reading, or the one behind the last
+stamps : ((step first_state (Tick 0)).0.last ≡ 1) × ((step (step first_state (Tick 7)).0 (Tick 5)).0.last ≡ 8) × ((step first_state (Tick 9)).0.committed ≡ 0)
+unfolding step
+stamps = (refl, refl, refl)
+
+-- ---- rows and values
+
+abbrev three : List Row
+three = (Number (pos 2) ∷ Number (pos 5) ∷ []) ∷ (Number (pos 1) ∷ Null ∷ []) ∷ (Number (pos 2) ∷ Number (pos 5) ∷ []) ∷ []
+
+ordered : in_order three ≡ (Number (pos 1) ∷ Null ∷ []) ∷ (Number (pos 2) ∷ Number (pos 5) ∷ []) ∷ (Number (pos 2) ∷ Number (pos 5) ∷ []) ∷ []
+ordered = refl
+
+null_last : in_order ((Null ∷ []) ∷ (Text (codes "a") ∷ []) ∷ (Truth true ∷ []) ∷ (Number (negsuc 3) ∷ []) ∷ []) ≡ (Number (negsuc 3) ∷ []) ∷ (Truth true ∷ []) ∷ (Text (codes "a") ∷ []) ∷ (Null ∷ []) ∷ []
+null_last = refl
+
+printed : literal (Text (codes "x'y")) ≡ codes "'x''y'"
+printed = refl
+
+entries-empty : entries (empty {K = ℕ} {X = Row} {R = nat_cmp}) ≡ []
+entries-empty = nil_from_length _ (sym (len-entries empty) ∙ len-empty nat_cmp Row)
+
+-- three rows of a version, by row number
+kept : values (with_entries empty (numbered 1 three)) ≡ three
+kept = rw (entries-insert nat_cmp_total, entries-insert nat_cmp_total, entries-insert nat_cmp_total, entries-empty) refl
+
+-- 1,000 rows fill one partition, and one more begins another
+filled : (partitions_of 0 ≡ 0) × (partitions_of 1 ≡ 1) × (partitions_of 1000 ≡ 1) × (partitions_of 1001 ≡ 2)
+filled = (refl, refl, refl, refl)
+
+-- a table's rows, listed in order
+selected : select_all (after first_state (asked table_t ∷ asked (insertion (codes "T") ((number 2 ∷ []) ∷ (number 1 ∷ []) ∷ [])) ∷ [])) (codes "T")
+    ≡ answers (Listing (codes "K" ∷ []) ((Number (pos 1) ∷ []) ∷ (Number (pos 2) ∷ []) ∷ []))
+unfolding step commanded carried_out table_refusal rows_refusal out-Expr out
+selected = rw (entries-insert nat_cmp_total, entries-insert nat_cmp_total, entries-empty) refl
