@@ -7,7 +7,7 @@ use Rattle.wh_value.specs.Value.{IsRow}
 use Rattle.wh_value.specs.View.{column_of}
 use Rattle.wh_frame.specs.Partition.{Partition}
 use Rattle.wh_machine.specs.Commit as machine
-use Rattle.wh_machine.specs.Spelling.{NumbersRiseFrom}
+use Rattle.wh_machine.specs.Spelling.{NumbersRiseFrom, IsChange}
 use Rattle.wh_record.specs.declared.commit.TableChange.{TableChange}
 use Rattle.wh_record.specs.declared.commit.VersionChange.{VersionChange}
 use Rattle.wh_record.specs.declared.commit.Change.{Change}
@@ -45,6 +45,9 @@ pub record IsWritableVersion (c : machine.VersionChange) : Type 0 where
 abbrev pub IsWritableChange : machine.Change → Type 0
 IsWritableChange (machine.CreatesTable c) = Unit {0}
 IsWritableChange (machine.PushesVersion c) = IsWritableVersion c
+
+abbrev pub IsSpelledIfWritable : machine.Change → Type 0
+IsSpelledIfWritable c = IsWritableChange c → IsChange c
 
 abbrev pub IsWritable : machine.Commit → Type 0
 IsWritable c = AllByRecursion IsWritableChange c.changes

@@ -1,5 +1,253 @@
-use crate::Commit;
+ghost use Rattle.std.specs.Prelude.{◌≡◌, map, nat_le};
+ghost use Rattle.std.specs.Int.{w32, w64};
+ghost use Rattle.wh_value.specs.View.{type_of, column_of};
+ghost use Rattle.wh_part.specs.Reading.{Gives, items_at, list_at, number_at};
+ghost use Rattle.wh_part.specs.Decoding.{partition_at, least_after};
+ghost use Rattle.wh_record.specs.Decoding.{type_at, column_at, table_at, numbers_rise, removed_at, version_at, change_behind, change_at, commit_at, commit_of_all};
+ghost use Rattle.wh_record.specs.Laws.{PayloadFixesCommit, FileFixesPayloads, FileFixesStored, FileFixesState, FirstFaultIsOne, FaultyFileStandsForNone};
+ghost use Rattle.wh_record.specs.View.{table_change_of, version_change_of, change_of, commit_of};
+
+use crate::commit::{TABLE_TAG, VERSION_TAG};
+use crate::{Change, Commit, TableChange, VersionChange};
 use std::alloc::{AllocError, Global};
+use wh_part::{Partition, ReadError, read_byte, read_text, read_u32, read_u64};
+use wh_value::{Column, ColumnType};
+
+#[tactic(auto, unfolding(crate::specs::Decoding::type_at))]
+fn read_type(bytes: &[u8]) -> Result<(ColumnType, &[u8]), ReadError>
+    ensures { Gives (λ x. (type_of x.0, x.1.now)) result (type_at bytes.now) }
+{
+    match bytes {
+        [1, rest @ ..] => Ok((ColumnType::Number, rest)),
+        [2, rest @ ..] => Ok((ColumnType::Varchar, rest)),
+        [3, rest @ ..] => Ok((ColumnType::Boolean, rest)),
+        _ => Err(ReadError::Malformed),
+    }
+}
+
+#[tactic(auto, unfolding(crate::specs::Decoding::column_at))]
+fn read_column(alloc: Global, bytes: &[u8]) -> Result<(Column, &[u8]), ReadError>
+    ensures { Gives (λ x. (column_of x.0, x.1.now)) result (column_at bytes.now) }
+{
+    let (name, rest) = read_text(alloc, bytes)?;
+    let (column_type, rest) = read_type(rest)?;
+    Ok((Column { name, column_type }, rest))
+}
+
+fn read_each_column(
+    alloc: Global,
+    count: u32,
+    bytes: &[u8],
+) -> Result<(Vec<Column>, &[u8]), ReadError>
+    ensures { Gives (λ x. (map column_of x.0.items, x.1.now)) result
+        (items_at column_at count bytes.now) }
+{
+    let mut columns = Vec::new(alloc);
+    let mut rest = bytes;
+    for _ in 0..count {
+        let (column, after) = read_column(alloc, rest)?;
+        columns.push(column)?;
+        rest = after;
+    }
+    Ok((columns, rest))
+}
+
+fn read_columns(alloc: Global, bytes: &[u8]) -> Result<(Vec<Column>, &[u8]), ReadError>
+    ensures { Gives (λ x. (map column_of x.0.items, x.1.now)) result
+        (list_at (number_at w32) column_at bytes.now) }
+{
+    let (count, rest) = read_u32(bytes)?;
+    let (columns, rest) = read_each_column(alloc, count, rest)?;
+    Ok((columns, rest))
+}
+
+#[tactic(auto, unfolding(crate::specs::Decoding::table_at))]
+fn read_table(alloc: Global, bytes: &[u8]) -> Result<(TableChange, &[u8]), ReadError>
+    ensures { Gives (λ x. (table_change_of x.0, x.1.now)) result (table_at bytes.now) }
+{
+    let (id, rest) = read_u32(bytes)?;
+    let (name, rest) = read_text(alloc, rest)?;
+    let (retention, rest) = read_byte(rest)?;
+    let (columns, rest) = read_columns(alloc, rest)?;
+    Ok((
+        TableChange {
+            id,
+            name,
+            retention,
+            columns,
+        },
+        rest,
+    ))
+}
+
+fn read_each_number(alloc: Global, count: u32, bytes: &[u8]) -> Result<(Vec<u64>, &[u8]), ReadError>
+    ensures { Gives (λ x. (x.0.items, x.1.now)) result (items_at (number_at w64) count bytes.now) }
+{
+    let mut numbers = Vec::new(alloc);
+    let mut rest = bytes;
+    for _ in 0..count {
+        let (number, after) = read_u64(rest)?;
+        numbers.push(number)?;
+        rest = after;
+    }
+    Ok((numbers, rest))
+}
+
+/// Whether the number is greater than the last one, if there is one.
+fn follows(last: Option<u64>, number: u64) -> bool
+    ensures { result ≡ nat_le (least_after last) number }
+{
+    match last {
+        None => true,
+        Some(last) => last < number,
+    }
+}
+
+/// Whether each number is greater than the one before.
+fn rise(numbers: &[u64]) -> bool
+    ensures { result ≡ numbers_rise 0 numbers.now }
+{
+    let mut last = None;
+    for number in numbers {
+        if !follows(last, *number) {
+            return false;
+        }
+        last = Some(*number);
+    }
+    true
+}
+
+/// The numbers of the partitions that are removed, which have to rise.
+#[tactic(auto, unfolding(crate::specs::Decoding::removed_at))]
+fn read_removed(alloc: Global, bytes: &[u8]) -> Result<(Vec<u64>, &[u8]), ReadError>
+    ensures { Gives (λ x. (x.0.items, x.1.now)) result (removed_at bytes.now) }
+{
+    let (count, rest) = read_u32(bytes)?;
+    let (numbers, rest) = read_each_number(alloc, count, rest)?;
+    if !rise(&numbers) {
+        return Err(ReadError::Malformed);
+    }
+    Ok((numbers, rest))
+}
+
+fn read_each_partition(
+    alloc: Global,
+    width: u32,
+    count: u32,
+    bytes: &[u8],
+) -> Result<(Vec<Partition>, &[u8]), ReadError>
+    ensures { Gives (λ x. (x.0.items, x.1.now)) result
+        (items_at (partition_at width) count bytes.now) }
+{
+    let mut partitions = Vec::new(alloc);
+    let mut rest = bytes;
+    for _ in 0..count {
+        let (partition, after) = Partition::read(alloc, rest, width)?;
+        partitions.push(partition)?;
+        rest = after;
+    }
+    Ok((partitions, rest))
+}
+
+fn read_added(alloc: Global, width: u32, bytes: &[u8]) -> Result<(Vec<Partition>, &[u8]), ReadError>
+    ensures { Gives (λ x. (x.0.items, x.1.now)) result
+        (list_at (number_at w32) (partition_at width) bytes.now) }
+{
+    let (count, rest) = read_u32(bytes)?;
+    let (added, rest) = read_each_partition(alloc, width, count, rest)?;
+    Ok((added, rest))
+}
+
+#[tactic(auto, unfolding(crate::specs::Decoding::version_at))]
+fn read_version(alloc: Global, bytes: &[u8]) -> Result<(VersionChange, &[u8]), ReadError>
+    ensures { Gives (λ x. (version_change_of x.0, x.1.now)) result (version_at bytes.now) }
+{
+    let (id, rest) = read_u32(bytes)?;
+    let (data_timestamp, rest) = read_u64(rest)?;
+    let (next_row, rest) = read_u64(rest)?;
+    let (width, rest) = read_u32(rest)?;
+    let (removed, rest) = read_removed(alloc, rest)?;
+    let (added, rest) = read_added(alloc, width, rest)?;
+    let version = VersionChange {
+        id,
+        data_timestamp,
+        next_row,
+        width,
+        removed,
+        added,
+    };
+    Ok((version, rest))
+}
+
+fn read_change_behind(alloc: Global, tag: u8, bytes: &[u8]) -> Result<(Change, &[u8]), ReadError>
+    ensures { Gives (λ x. (change_of x.0, x.1.now)) result (change_behind tag bytes.now) }
+{
+    if tag == TABLE_TAG {
+        let (table, rest) = read_table(alloc, bytes)?;
+        return Ok((Change::CreatesTable(table), rest));
+    }
+    if tag == VERSION_TAG {
+        let (version, rest) = read_version(alloc, bytes)?;
+        return Ok((Change::PushesVersion(version), rest));
+    }
+    Err(ReadError::Malformed)
+}
+
+#[tactic(auto, unfolding(crate::specs::Decoding::change_at))]
+fn read_change(alloc: Global, bytes: &[u8]) -> Result<(Change, &[u8]), ReadError>
+    ensures { Gives (λ x. (change_of x.0, x.1.now)) result (change_at bytes.now) }
+{
+    let (tag, rest) = read_byte(bytes)?;
+    let (change, rest) = read_change_behind(alloc, tag, rest)?;
+    Ok((change, rest))
+}
+
+fn read_each_change(
+    alloc: Global,
+    count: u32,
+    bytes: &[u8],
+) -> Result<(Vec<Change>, &[u8]), ReadError>
+    ensures { Gives (λ x. (map change_of x.0.items, x.1.now)) result
+        (items_at change_at count bytes.now) }
+{
+    let mut changes = Vec::new(alloc);
+    let mut rest = bytes;
+    for _ in 0..count {
+        let (change, after) = read_change(alloc, rest)?;
+        changes.push(change)?;
+        rest = after;
+    }
+    Ok((changes, rest))
+}
+
+fn read_changes(alloc: Global, bytes: &[u8]) -> Result<(Vec<Change>, &[u8]), ReadError>
+    ensures { Gives (λ x. (map change_of x.0.items, x.1.now)) result
+        (list_at (number_at w32) change_at bytes.now) }
+{
+    let (count, rest) = read_u32(bytes)?;
+    let (changes, rest) = read_each_change(alloc, count, rest)?;
+    Ok((changes, rest))
+}
+
+#[tactic(auto, unfolding(crate::specs::Decoding::commit_at))]
+fn read_commit(alloc: Global, bytes: &[u8]) -> Result<(Commit, &[u8]), ReadError>
+    ensures { Gives (λ x. (commit_of x.0, x.1.now)) result (commit_at bytes.now) }
+{
+    let (stamp, rest) = read_u64(bytes)?;
+    let (changes, rest) = read_changes(alloc, rest)?;
+    Ok((Commit { stamp, changes }, rest))
+}
+
+#[tactic(auto, unfolding(crate::specs::Decoding::commit_of_all))]
+fn read_all(alloc: Global, bytes: &[u8]) -> Result<Commit, ReadError>
+    ensures { Gives (λ commit. commit_of commit) result (commit_of_all bytes.now) }
+{
+    let (commit, rest) = read_commit(alloc, bytes)?;
+    if !rest.is_empty() {
+        return Err(ReadError::Malformed);
+    }
+    Ok(commit)
+}
 
 impl Commit {
     ghost use Rattle.std.specs.Prelude.{◌≡◌, IfSome, IfNone, IfOk};
@@ -16,6 +264,26 @@ impl Commit {
         ensures none { IfNone result ((c : machine.Commit) → IsCommit c →
             payload.now ≡ payload_of c → ⊥) }
     {
-        Some(Err(AllocError))
+        match read_all(alloc, payload) {
+            Ok(commit) => Some(Ok(commit)),
+            Err(ReadError::Malformed) => None,
+            Err(ReadError::Memory) => Some(Err(AllocError)),
+        }
     }
 }
+
+/// No two commits have one payload, no bytes are a file of two lists of records, none keep two
+/// things, and none stand for two states.
+pub fn spelling_fixes_commits()
+    ensures payload { PayloadFixesCommit }
+    ensures records { FileFixesPayloads }
+    ensures stored { FileFixesStored }
+    ensures state { FileFixesState }
+{}
+
+/// No two positions are where a file has its first fault, and a file of more than 8 bytes that has
+/// one stands for no state.
+pub fn spelling_fixes_faults()
+    ensures position { FirstFaultIsOne }
+    ensures no_state { FaultyFileStandsForNone }
+{}

@@ -1,6 +1,190 @@
-use crate::Commit;
+ghost use Rattle.std.specs.Prelude.{◌≡◌, ◌<◌, ◌^◌, ◌∷◌, [], ◌++◌, map, length, OnOk};
+ghost use Rattle.std.specs.List.{flat_map, AllByRecursion};
+ghost use Rattle.std.specs.Int.{w32, w64, to_be_bytes};
+ghost use Rattle.wh_frame.specs.Spelling.{list_bytes, partition_bytes};
+ghost use Rattle.wh_machine.specs.Spelling.{type_byte, column_bytes, table_bytes, version_bytes, change_bytes, payload_of, IsColumn, IsTableChange, IsVersionChange, IsChange, IsCommit};
+ghost use Rattle.wh_part.specs.Shape.{IsShaped};
+ghost use Rattle.wh_value.specs.View.{type_of, column_of};
+ghost use Rattle.wh_record.specs.View.{table_change_of, version_change_of, change_of, commit_of, IsWritableVersion, IsWritableChange, IsWritable, IsSpelledIfWritable};
+
+use crate::commit::{TABLE_TAG, VERSION_TAG};
+use crate::{Change, Commit, TableChange, VersionChange};
 use std::alloc::{AllocError, Global};
+use wh_part::{Partition, write_text, write_u32, write_u64};
+use wh_value::{Bytes, Column, ColumnType};
 use wh_world::Framed;
+
+fn byte_of_type(column_type: ColumnType) -> u8
+    ensures { result ≡ type_byte (type_of column_type) }
+{
+    match column_type {
+        ColumnType::Number => 1,
+        ColumnType::Varchar => 2,
+        ColumnType::Boolean => 3,
+    }
+}
+
+/// Adds the count of a list; one that doesn't fit four bytes is taken for memory that ran out.
+fn write_count(out: &mut Bytes, count: usize) -> Result<(), AllocError>
+    ensures written { OnOk result (out.new ≡ out.old ++ to_be_bytes w32 count) }
+    ensures fits { OnOk result (count < 2 ^ 32) }
+{
+    if count > u32::MAX as usize {
+        return Err(AllocError);
+    }
+    write_u32(out, count as u32)
+}
+
+#[tactic(auto, unfolding(wh_machine::specs::Spelling::column_bytes))]
+fn write_column(out: &mut Bytes, column: &Column) -> Result<(), AllocError>
+    ensures written { OnOk result (out.new ≡ out.old ++ column_bytes (column_of column.now)) }
+    ensures spelled { OnOk result (IsColumn (column_of column.now)) }
+{
+    write_text(out, &column.name)?;
+    out.push(byte_of_type(column.column_type))
+}
+
+fn write_columns(out: &mut Bytes, columns: &[Column]) -> Result<(), AllocError>
+    ensures written { OnOk result (out.new
+        ≡ out.old ++ list_bytes column_bytes (map column_of columns.now)) }
+    ensures fits { OnOk result (length columns.now < 2 ^ 32) }
+    ensures spelled { OnOk result (AllByRecursion IsColumn (map column_of columns.now)) }
+{
+    write_count(out, columns.len())?;
+    write_each_column(out, columns)?;
+    Ok(())
+}
+
+fn write_each_column(out: &mut Bytes, columns: &[Column]) -> Result<(), AllocError>
+    ensures written { OnOk result (out.new ≡ out.old ++ flat_map column_bytes (map column_of columns.now)) }
+    ensures spelled { OnOk result (AllByRecursion IsColumn (map column_of columns.now)) }
+{
+    for column in columns {
+        write_column(out, column)?;
+    }
+    Ok(())
+}
+
+#[tactic(auto, unfolding(wh_machine::specs::Spelling::table_bytes))]
+fn write_table(out: &mut Bytes, table: &TableChange) -> Result<(), AllocError>
+    ensures written { OnOk result (out.new ≡ out.old ++ table_bytes (table_change_of table.now)) }
+    ensures spelled { OnOk result (IsTableChange (table_change_of table.now)) }
+{
+    write_u32(out, table.id)?;
+    write_text(out, &table.name)?;
+    out.push(table.retention)?;
+    write_columns(out, &table.columns)
+}
+
+fn write_added(out: &mut Bytes, added: &[Partition]) -> Result<(), AllocError>
+    ensures written { OnOk result (out.new ≡ out.old ++ list_bytes partition_bytes added.now) }
+    ensures fits { OnOk result (length added.now < 2 ^ 32) }
+    ensures shaped { OnOk result (AllByRecursion IsShaped added.now) }
+{
+    write_count(out, added.len())?;
+    write_each_partition(out, added)
+}
+
+fn write_each_partition(out: &mut Bytes, added: &[Partition]) -> Result<(), AllocError>
+    ensures written { OnOk result (out.new ≡ out.old ++ flat_map partition_bytes added.now) }
+    ensures shaped { OnOk result (AllByRecursion IsShaped added.now) }
+{
+    for partition in added {
+        partition.encode(out)?;
+    }
+    Ok(())
+}
+
+fn write_removed(out: &mut Bytes, removed: &[u64]) -> Result<(), AllocError>
+    ensures written { OnOk result (out.new ≡ out.old ++ list_bytes (to_be_bytes w64) removed.now) }
+    ensures fits { OnOk result (length removed.now < 2 ^ 32) }
+{
+    write_count(out, removed.len())?;
+    write_each_number(out, removed)
+}
+
+fn write_each_number(out: &mut Bytes, numbers: &[u64]) -> Result<(), AllocError>
+    ensures { OnOk result (out.new ≡ out.old ++ flat_map (to_be_bytes w64) numbers.now) }
+{
+    for number in numbers {
+        write_u64(out, *number)?;
+    }
+    Ok(())
+}
+
+/// The fields before the lists of partitions.
+fn write_version_head(out: &mut Bytes, version: &VersionChange) -> Result<(), AllocError>
+    ensures written { OnOk result (out.new ≡ out.old ++ (to_be_bytes w32 version.now.id
+        ++ to_be_bytes w64 version.now.data_timestamp ++ to_be_bytes w64 version.now.next_row
+        ++ to_be_bytes w32 version.now.width)) }
+    ensures fits { OnOk result ((version.now.id < 2 ^ 32) × (version.now.data_timestamp < 2 ^ 64)
+        × (version.now.next_row < 2 ^ 64) × (version.now.width < 2 ^ 32)) }
+{
+    write_u32(out, version.id)?;
+    write_u64(out, version.data_timestamp)?;
+    write_u64(out, version.next_row)?;
+    write_u32(out, version.width)?;
+    Ok(())
+}
+
+#[tactic(auto, unfolding(wh_machine::specs::Spelling::version_bytes))]
+fn write_version(out: &mut Bytes, version: &VersionChange) -> Result<(), AllocError>
+    ensures written { OnOk result (out.new ≡ out.old ++ version_bytes (version_change_of version.now)) }
+    ensures spelled { OnOk result (IsWritableVersion (version_change_of version.now)
+        → IsVersionChange (version_change_of version.now)) }
+{
+    write_version_head(out, version)?;
+    write_removed(out, &version.removed)?;
+    write_added(out, &version.added)?;
+    Ok(())
+}
+
+#[tactic(auto, unfolding(wh_machine::specs::Spelling::change_bytes))]
+fn write_change(out: &mut Bytes, change: &Change) -> Result<(), AllocError>
+    ensures written { OnOk result (out.new ≡ out.old ++ change_bytes (change_of change.now)) }
+    ensures spelled { OnOk result (IsSpelledIfWritable (change_of change.now)) }
+{
+    match change {
+        Change::CreatesTable(table) => {
+            out.push(TABLE_TAG)?;
+            write_table(out, table)
+        }
+        Change::PushesVersion(version) => {
+            out.push(VERSION_TAG)?;
+            write_version(out, version)
+        }
+    }
+}
+
+fn write_changes(out: &mut Bytes, changes: &[Change]) -> Result<(), AllocError>
+    ensures written { OnOk result (out.new ≡ out.old ++ list_bytes change_bytes (map change_of changes.now)) }
+    ensures fits { OnOk result (length changes.now < 2 ^ 32) }
+    ensures spelled { OnOk result (AllByRecursion IsSpelledIfWritable (map change_of changes.now)) }
+{
+    write_count(out, changes.len())?;
+    write_each_change(out, changes)?;
+    Ok(())
+}
+
+fn write_each_change(out: &mut Bytes, changes: &[Change]) -> Result<(), AllocError>
+    ensures written { OnOk result (out.new ≡ out.old ++ flat_map change_bytes (map change_of changes.now)) }
+    ensures spelled { OnOk result (AllByRecursion IsSpelledIfWritable (map change_of changes.now)) }
+{
+    for change in changes {
+        write_change(out, change)?;
+    }
+    Ok(())
+}
+
+#[tactic(auto, unfolding(wh_machine::specs::Spelling::payload_of))]
+fn write_commit(out: &mut Bytes, commit: &Commit) -> Result<(), AllocError>
+    ensures written { OnOk result (out.new ≡ out.old ++ payload_of (commit_of commit.now)) }
+    ensures spelled { OnOk result (IsWritable (commit_of commit.now) → IsCommit (commit_of commit.now)) }
+{
+    write_u64(out, commit.stamp)?;
+    write_changes(out, &commit.changes)?;
+    Ok(())
+}
 
 impl Commit {
     ghost use Rattle.std.specs.Prelude.{◌≡◌, IfOk, OnOk};
@@ -12,6 +196,8 @@ impl Commit {
         ensures payload { IfOk result (λ framed. framed ≡ payload_of (commit_of self.now)) }
         ensures spelled { OnOk result (IsWritable (commit_of self.now) → IsCommit (commit_of self.now)) }
     {
-        Err(AllocError)
+        let mut payload = Bytes::new(alloc);
+        write_commit(&mut payload, self)?;
+        Framed::of(alloc, payload.as_slice())
     }
 }

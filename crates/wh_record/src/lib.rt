@@ -6,3 +6,7 @@ mod decoding;
 mod encoding;
 
 pub use commit::{Change, Commit, TableChange, VersionChange};
+pub use decoding::{spelling_fixes_commits, spelling_fixes_faults};
+
+#[cfg(test)]
+mod tests;

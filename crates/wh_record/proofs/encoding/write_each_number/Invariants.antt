@@ -1,0 +1,8 @@
+use Rattle.std.proofs.Common.{◌≡◌, ◌++◌, take}
+use Rattle.std.specs.List.{flat_map}
+use Rattle.std.specs.Int.{w64, to_be_bytes}
+use Rattle.wh_record.proofs.encoding.write_each_number.Given as goal
+
+-- the numbers so far are written
+abbrev pub invariant-loop-number : goal.invariant-loop-number
+invariant-loop-number l = l.out ≡ l.fn.out ++ flat_map (to_be_bytes w64) (take l.number-index l.numbers)

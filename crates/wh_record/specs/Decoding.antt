@@ -1,0 +1,53 @@
+-- Reading commits.
+use Rattle.std.specs.Prelude.{ℕ, zero, suc, ◌+◌, Bool, true, ◌&&◌, List, [], ◌∷◌, length, Option, Some, None, nat_le, ◌==◌, if◌then◌else◌}
+use Rattle.std.specs.Int.{w32, w64}
+use Rattle.wh_value.specs.Column.{Column, ColumnType, NumberType, VarcharType, BooleanType}
+use Rattle.wh_machine.specs.Commit.{TableChange, VersionChange, Change, CreatesTable, PushesVersion, Commit}
+use Rattle.wh_part.specs.Reading.{Reader, ◌>>=◌, then_at, where_at, as_at, list_at, byte_at, number_at, text_at}
+use Rattle.wh_part.specs.Decoding.{partition_at}
+
+unfoldable pub type_at : Reader ColumnType
+type_at [] = None
+type_at (zero ∷ bytes) = None
+type_at (suc zero ∷ bytes) = Some (NumberType, bytes)
+type_at (suc (suc zero) ∷ bytes) = Some (VarcharType, bytes)
+type_at (suc (suc (suc zero)) ∷ bytes) = Some (BooleanType, bytes)
+type_at (suc (suc (suc (suc tag))) ∷ bytes) = None
+
+unfoldable pub column_at : Reader Column
+column_at bytes = as_at (λ p. record { name = p.0; column_type = p.1 }) (then_at text_at (λ _. type_at)) bytes
+
+unfoldable pub table_at : Reader TableChange
+table_at bytes = as_at (λ p. record { id = p.0; name = p.1.0; retention = p.1.1.0; columns = p.1.1.1 })
+    (then_at (number_at w32) (λ _. then_at text_at (λ _. then_at byte_at (λ _. list_at (number_at w32) column_at)))) bytes
+
+-- whether numbers rise, from a least one on
+abbrev pub numbers_rise : ℕ → List ℕ → Bool
+numbers_rise least [] = true
+numbers_rise least (n ∷ ns) = nat_le least n && numbers_rise (n + 1) ns
+
+unfoldable pub removed_at : Reader (List ℕ)
+removed_at bytes = where_at (numbers_rise 0) (list_at (number_at w32) (number_at w64)) bytes
+
+unfoldable pub version_at : Reader VersionChange
+version_at bytes =
+    as_at (λ p. record { id = p.0; data_timestamp = p.1.0; next_row = p.1.1.0; width = p.1.1.1.0; removed = p.1.1.1.1.0; added = p.1.1.1.1.1 })
+    (then_at (number_at w32) (λ _. then_at (number_at w64) (λ _. then_at (number_at w64) (λ _. then_at (number_at w32)
+    (λ width. then_at removed_at (λ _. list_at (number_at w32) (partition_at width))))))) bytes
+
+-- what a tag announces
+abbrev pub change_behind : ℕ → Reader Change
+change_behind tag bytes =
+    if tag == 1 then as_at CreatesTable table_at bytes
+    else if tag == 10 then as_at PushesVersion version_at bytes
+    else None
+
+unfoldable pub change_at : Reader Change
+change_at bytes = byte_at bytes >>= λ tag. change_behind tag.0 tag.1
+
+unfoldable pub commit_at : Reader Commit
+commit_at bytes = as_at (λ p. record { stamp = p.0; changes = p.1 }) (then_at (number_at w64) (λ _. list_at (number_at w32) change_at)) bytes
+
+-- the commit that all of the bytes spell
+unfoldable pub commit_of_all : List ℕ → Option Commit
+commit_of_all bytes = commit_at bytes >>= λ c. if length c.1 == 0 then Some c.0 else None
