@@ -3,3 +3,4 @@ pub mod WritingLaws
 pub mod Loops
 pub mod RowNumbers
 pub mod PartitionLaws
+pub mod CutLemmas

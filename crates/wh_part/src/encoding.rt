@@ -3,6 +3,7 @@ ghost use Rattle.std.specs.List.{flat_map, AllByRecursion};
 ghost use Rattle.wh_frame.specs.Spelling.{value_bytes, row_bytes};
 ghost use Rattle.wh_part.specs.Shape.{HasWideNumber};
 ghost use Rattle.wh_part.specs.View.{numbered_of};
+ghost use Rattle.wh_value.specs.Kept.{Keeps};
 ghost use Rattle.wh_value.specs.View.{value_of};
 
 use crate::writing::{write_text, write_u32, write_u64};
@@ -12,7 +13,8 @@ use wh_value::{Bytes, Value};
 
 #[tactic(auto, unfolding(wh_frame::specs::Spelling::value_bytes))]
 fn write_value(out: &mut Bytes, value: &Value) -> Result<(), AllocError>
-    ensures { OnOk result (out.new ≡ out.old ++ value_bytes (value_of value.now)) }
+    ensures ok { OnOk result (out.new ≡ out.old ++ value_bytes (value_of value.now)) }
+    ensures kept { Keeps out.old out.new }
 {
     match value {
         Value::Null => out.push(0),
@@ -30,7 +32,8 @@ fn write_value(out: &mut Bytes, value: &Value) -> Result<(), AllocError>
 }
 
 fn write_values(out: &mut Bytes, values: &[Value]) -> Result<(), AllocError>
-    ensures { OnOk result (out.new ≡ out.old ++ flat_map value_bytes (map value_of values.now)) }
+    ensures ok { OnOk result (out.new ≡ out.old ++ flat_map value_bytes (map value_of values.now)) }
+    ensures kept { Keeps out.old out.new }
 {
     for value in values {
         write_value(out, value)?;
@@ -42,6 +45,7 @@ fn write_values(out: &mut Bytes, values: &[Value]) -> Result<(), AllocError>
 fn write_row(out: &mut Bytes, numbered: &NumberedRow) -> Result<(), AllocError>
     ensures written { OnOk result (out.new ≡ out.old ++ row_bytes (numbered_of numbered.now)) }
     ensures wide { OnOk result (HasWideNumber (numbered_of numbered.now)) }
+    ensures kept { Keeps out.old out.new }
 {
     write_u64(out, numbered.number)?;
     write_values(out, numbered.row.values())
@@ -50,6 +54,7 @@ fn write_row(out: &mut Bytes, numbered: &NumberedRow) -> Result<(), AllocError>
 fn write_rows(out: &mut Bytes, rows: &[NumberedRow]) -> Result<(), AllocError>
     ensures written { OnOk result (out.new ≡ out.old ++ flat_map row_bytes (map numbered_of rows.now)) }
     ensures wide { OnOk result (AllByRecursion HasWideNumber (map numbered_of rows.now)) }
+    ensures kept { Keeps out.old out.new }
 {
     for numbered in rows {
         write_row(out, numbered)?;
@@ -58,14 +63,29 @@ fn write_rows(out: &mut Bytes, rows: &[NumberedRow]) -> Result<(), AllocError>
 }
 
 impl Partition {
-    ghost use Rattle.std.specs.Prelude.{◌≡◌, ◌++◌, OnOk};
+    ghost use Rattle.std.specs.Prelude.{◌≡◌, ◌++◌, OnOk, OnErr};
     ghost use Rattle.wh_frame.specs.Spelling.{partition_bytes};
     ghost use Rattle.wh_part.specs.Shape.{IsShaped};
+    ghost use Rattle.wh_value.specs.Kept.{Keeps};
 
-    /// Adds the bytes of the partition.
+    /// Adds the bytes of the partition, or nothing where memory runs out.
     pub fn encode(&self, out: &mut Bytes) -> Result<(), AllocError>
         ensures written { OnOk result (out.new ≡ out.old ++ partition_bytes self.now) }
         ensures shaped { OnOk result (IsShaped self.now) }
+        ensures err { OnErr result (out.new ≡ out.old) }
+    {
+        let count = out.len();
+        let written = self.write(out);
+        if written.is_err() {
+            out.truncate(count);
+        }
+        written
+    }
+
+    fn write(&self, out: &mut Bytes) -> Result<(), AllocError>
+        ensures written { OnOk result (out.new ≡ out.old ++ partition_bytes self.now) }
+        ensures shaped { OnOk result (IsShaped self.now) }
+        ensures kept { Keeps out.old out.new }
     {
         let rows = self.rows();
         write_u64(out, self.number())?;

@@ -1,6 +1,7 @@
 //! Partitions: some of a table's rows by their numbers, and the bytes that a file has of them.
 #![tactic(auto)]
 
+mod cutting;
 mod decoding;
 mod encoding;
 mod fault;
@@ -8,6 +9,7 @@ mod partition;
 mod reading;
 mod writing;
 
+pub use cutting::cut;
 pub use decoding::spelling_fixes_partitions;
 pub use fault::ReadError;
 pub use partition::{NumberedRow, Partition};

@@ -1,4 +1,4 @@
-ghost use Rattle.std.specs.Prelude.{◌≡◌, [], ◌∷◌, ◌++◌, OnOk, List, ℕ, map, codes, decimal, length};
+ghost use Rattle.std.specs.Prelude.{◌≡◌, [], ◌∷◌, ◌++◌, OnOk, OnErr, List, ℕ, map, codes, decimal, length};
 ghost use Rattle.std.specs.List.{flat_map};
 ghost use Rattle.wh_value.specs.Limit.{bound};
 ghost use Rattle.wh_value.specs.Value.{literal};
@@ -12,9 +12,18 @@ use wh_value::{Bytes, Limit, Row, Text, Value, print_literal};
 
 const LF: u8 = b'\n';
 
-/// Adds the lines of a reply, each with its LF.
-#[tactic(auto, unfolding(wh_reply::specs::Reply::print))]
+/// Adds the lines of a reply, each with its LF, or nothing where memory runs out.
 pub fn print_reply(alloc: Global, reply: &Reply, out: &mut Bytes) -> Result<(), AllocError>
+    ensures ok { OnOk result (out.new ≡ out.old ++ print (reply_view reply.now)) }
+    ensures err { OnErr result (out.new ≡ out.old) }
+{
+    let mut lines = Bytes::new(alloc);
+    put_reply(reply, &mut lines)?;
+    out.extend(lines.as_slice())
+}
+
+#[tactic(auto, unfolding(wh_reply::specs::Reply::print))]
+fn put_reply(reply: &Reply, out: &mut Bytes) -> Result<(), AllocError>
     ensures { OnOk result (out.new ≡ out.old ++ print (reply_view reply.now)) }
 {
     match reply {
