@@ -8,7 +8,7 @@ use Rattle.wh_grammar.specs.Script.{Line, CommandLine, SessionLine, TickLine, li
 use Rattle.wh_machine.specs.Script.{HasEvents, ends, sets_session, ticks, ticks_at, commands, IsScript}
 use Rattle.wh_stmt_parse.specs.Request.{request_of}
 use Rattle.wh_stmt_parse.specs.Laws.{ReadsRequests}
-use Rattle.wh_shell.proofs.Lab.{requests_read}
+use Rattle.wh_stmt_parse.proofs.Reading.{requests_read}
 use Rattle.wh_shell.specs.Events.{events_from, events}
 use Rattle.wh_shell.specs.Laws.{FixesEvents}
 

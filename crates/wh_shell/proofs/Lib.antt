@@ -1,4 +1,3 @@
-pub mod Lab
 pub mod LoneWord
 pub mod Written
 pub mod EventLemmas
@@ -12,3 +11,4 @@ pub mod RoomLemmas
 pub mod CauseLemmas
 pub mod Progress
 pub mod Opening
+pub mod Ending

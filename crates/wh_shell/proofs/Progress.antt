@@ -8,7 +8,7 @@ use Rattle.wh_reply.specs.Reply.{is_refusal, print}
 use Rattle.wh_machine.specs.State.{State}
 use Rattle.wh_machine.specs.Step.{Event, step, after, text, refusals}
 use Rattle.wh_machine.specs.Stop.{StandsWithin}
-use Rattle.wh_shell.proofs.Lab.{after_append, text_append, refusals_append}
+use Rattle.wh_machine.proofs.ReplyLaws.{after_append, text_append, refusals_append}
 use Rattle.wh_journal.specs.Crash.{LeavesOnly}
 use Rattle.wh_journal.proofs.CrashLemmas.{both, weaker}
 use Rattle.wh_engine.specs.Leaves.{StandsForEither}

@@ -15,7 +15,7 @@ use Rattle.wh_journal.proofs.CrashLemmas.{weaker, started}
 use Rattle.wh_catalog.specs.Catalog.{state_of}
 use Rattle.wh_engine.specs.Leaves.{StandsForEither, Leaves}
 use Rattle.wh_engine.specs.declared.warehouse.Warehouse.{Warehouse}
-use Rattle.wh_shell.proofs.Lab.{stands_for}
+use Rattle.wh_engine.proofs.FileLemmas.{stands_for}
 use Rattle.wh_shell.specs.Reading.{GivesEvent}
 use Rattle.wh_shell.specs.Open.{IsOpen, IsTold}
 use Rattle.wh_shell.specs.Crash.{Survives, SurvivesWith, EndsSafely, Halts}

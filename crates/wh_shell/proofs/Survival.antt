@@ -9,7 +9,7 @@ use Rattle.wh_machine.specs.Step.{Event, step, after, text}
 use Rattle.wh_reply.specs.Reply.{print}
 use Rattle.wh_machine.specs.File.{Stands}
 use Rattle.wh_machine.specs.Stop.{whole_replies, most_events, StandsWithin}
-use Rattle.wh_shell.proofs.Lab.{whole_replies_of, no_whole_reply, few_replies}
+use Rattle.wh_machine.proofs.ReplyLaws.{whole_replies_of, no_whole_reply, few_replies}
 use Rattle.wh_journal.specs.Crash.{LeavesOnly}
 use Rattle.wh_journal.proofs.CrashLemmas.{both, weaker}
 use Rattle.wh_engine.specs.Leaves.{StandsForEither}

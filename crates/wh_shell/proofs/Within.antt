@@ -10,9 +10,9 @@ use Rattle.wh_machine.specs.Step.{Event, step, after}
 use Rattle.wh_machine.specs.File.{Stands}
 use Rattle.wh_machine.specs.Stop.{committed_after, StandsWithin}
 use Rattle.wh_machine.specs.Sound.{Sound}
-use Rattle.wh_shell.proofs.Lab.{after_append}
-use Rattle.wh_shell.proofs.Lab.{sound_after, sound_rest}
-use Rattle.wh_shell.proofs.Lab.{file_fixes_state}
+use Rattle.wh_machine.proofs.ReplyLaws.{after_append}
+use Rattle.wh_machine.proofs.SoundLaws.{sound_after, sound_rest}
+use Rattle.wh_record.proofs.FileLaws.{file_fixes_state}
 use Rattle.wh_engine.specs.Leaves.{StandsForEither}
 
 -- what was committed after some number of events

@@ -2,15 +2,19 @@
 --     IsRun                      the words that are taken
 --     IsStart                    what is told before a run
 --     IsRunOf                    what the run wrote and left, by its status
+--     Through, EndsBy            where the script was read to its end; a fault that ended it before
 --     IsForeign, RefusesFile     a file that stands for no state, and what it may be answered
+--     Rejects                    that it is no warehouse
 --     WasTooLong                 so many bytes were taken, and they are too many
---     Through                    the script was read to its end
 use Rattle.std.specs.Prelude.{◌≡◌, ◌⊎◌, ℕ, ◌+◌, ◌<◌, ◌^◌, List, [], ◌∷◌, ◌++◌, map, length, codes, Option, Some, String, string_bytes}
 use Rattle.std.specs.Global.{Global}
 use Rattle.wh_machine.specs.State.{State, at_rest}
 use Rattle.wh_machine.specs.Step.{Event, after, text, refusals}
 use Rattle.wh_machine.specs.Script.{IsScript}
 use Rattle.wh_machine.specs.File.{Stands}
+use Rattle.wh_machine.specs.Fault.{IsFirstFault}
+use Rattle.wh_world.specs.Crash.{Only}
+use Rattle.wh_shell.specs.declared.fault.Fault.{Fault}
 use Rattle.wh_shell.specs.declared.fault.Fault.TheVariants.{OutOfMemory, Disk, NotWarehouse}
 use Rattle.wh_shell.specs.declared.status.Status.{Status}
 use Rattle.wh_shell.specs.declared.status.Status.TheVariants.{Usage, Read, Stopped}
@@ -54,6 +58,12 @@ Through Usage P = Unit {0}
 Through (Read count) P = P
 Through (Stopped why) P = Unit {0}
 
+-- nothing ended it before, or a fault of which that holds
+abbrev pub EndsBy : (Fault → Type 0) → Status → Type 0
+EndsBy P Usage = ⊥
+EndsBy P (Read count) = Unit {0}
+EndsBy P (Stopped why) = P why
+
 -- the file has more than 8 bytes and stands for no state
 pub record IsForeign (file : List ℕ) : Type 0 where
   pub long : 8 < length file
@@ -62,6 +72,13 @@ pub record IsForeign (file : List ℕ) : Type 0 where
 -- that it is no warehouse, or a fault that came first
 abbrev pub RefusesFile : Status → Type 0
 RefusesFile status = ((at : ℕ) × (status ≡ Stopped (NotWarehouse at))) ⊎ ((status ≡ Stopped OutOfMemory) ⊎ (status ≡ Stopped Disk))
+
+-- the file's first fault is there, and it stays as it was, whatever a crash then does
+pub record Rejects (at : ℕ) (file : List ℕ) (bytes_new : Option (List ℕ)) (may_leave_new : List ℕ → Type 0) : Type 0 where
+  pub foreign : IsForeign file
+  pub first_fault : IsFirstFault file at
+  pub same : bytes_new ≡ Some file
+  pub only : Only file may_leave_new
 
 -- more than 2^30 bytes were taken, and that many
 pub record WasTooLong (taken : ℕ) (left_old left_new : Option (List ℕ)) : Type 0 where

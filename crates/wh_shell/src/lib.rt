@@ -4,10 +4,13 @@
 mod fault;
 mod laws;
 mod reader;
+mod running;
+mod serving;
 mod status;
 mod words;
 mod writing;
 
 pub use fault::Fault;
 pub use laws::script_fixes_events;
+pub use running::run;
 pub use status::Status;
