@@ -1,9 +1,2 @@
 pub mod Places
-pub mod Current
-pub mod Listed
-pub mod Apart
-pub mod Versions
-pub mod NumberedRows
-pub mod Pushed
-pub mod Conditions
-pub mod Rows
+pub mod Objects

@@ -1,9 +1,9 @@
--- Where a list of tables has one.
-use Rattle.std.proofs.Common.{◌≡◌, ℕ, zero, suc, ◌+◌, ◌<◌, Bool, List, [], ◌∷◌, map, length, Some, slice_get, refl, ap, ◌∙◌, arith, cond, option_map, get_or, set}
+-- Where a list has what.
+use Rattle.std.proofs.Common.{◌≡◌, ℕ, zero, suc, ◌+◌, ◌-◌, ◌<◌, ◌≤◌, Bool, List, [], ◌∷◌, map, length, Some, None, slice_get, refl, ap, ◌∙◌, arith, cond, option_map, get_or, set}
 use Rattle.std.specs.List.{position, prefix_len}
 use Rattle.std.specs.Prelude.{not}
 use Rattle.std.proofs.lemmas.List.{length-map}
-use Rattle.wh_machine.specs.Commit.{at_id}
+use Rattle.wh_machine.specs.State.{at_id}
 
 prefix_len-map : {A B : Type 0} (p : B → Bool) (f : A → B) (xs : List A) → prefix_len p (map f xs) ≡ prefix_len (λ x. p (f x)) xs
 prefix_len-map p f [] = refl
@@ -34,3 +34,25 @@ pub map_set_same : {A B : Type 0} (f : A → B) (xs : List A) (i : ℕ) (old new
 map_set_same f [] i old new within is same = absurd (omega arith)
 map_set_same f (x ∷ xs) zero old new within is same = ap (λ y. y ∷ map f xs) (same ∙ ap f is)
 map_set_same f (x ∷ xs) (suc i) old new within is same = ap (λ l. f x ∷ l) (map_set_same f xs i old new (omega arith) is same)
+
+-- ---- by ids
+
+-- the element at a place has the id behind it
+pub at_place : {A : Type 0} (xs : List A) (id : ℕ) (d : A) → 0 < id → id - 1 < length xs → at_id xs id ≡ Some (get_or xs (id - 1) d)
+at_place xs zero d some here = absurd (omega arith)
+at_place xs (suc place) d some here =
+    let same : place ≡ suc place - 1 = omega arith in
+    slice_get-get_or xs place d (omega arith) ∙ ap (λ n. Some (get_or xs n d)) same
+
+slice_get-beyond : {A : Type 0} (xs : List A) (i : ℕ) → length xs ≤ i → slice_get xs i ≡ None
+slice_get-beyond [] i beyond = refl
+slice_get-beyond (x ∷ xs) zero beyond = absurd (omega arith)
+slice_get-beyond (x ∷ xs) (suc i) beyond = slice_get-beyond xs i (omega arith)
+
+-- no element has an id that there isn't
+pub at_none : {A : Type 0} (xs : List A) → at_id xs 0 ≡ None
+at_none xs = refl
+
+pub at_beyond : {A : Type 0} (xs : List A) (id : ℕ) → length xs < id → at_id xs id ≡ None
+at_beyond xs zero beyond = absurd (omega arith)
+at_beyond xs (suc place) beyond = slice_get-beyond xs place (omega arith)

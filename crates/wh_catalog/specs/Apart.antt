@@ -3,7 +3,8 @@
 --     highest_number     the highest number at the end of a partition
 use Rattle.std.specs.Prelude.{ℕ, max, Bool, true, ◌&&◌, ◌||◌, List, [], ◌∷◌, nat_lt}
 use Rattle.std.specs.List.{list_all}
-use Rattle.wh_machine.specs.Commit.{Partition, first_number, last_number}
+use Rattle.wh_frame.specs.Partition.{Partition, first_number, last_number}
+use Rattle.wh_machine.specs.Stored.{StoredVersion}
 
 abbrev pub are_apart : Partition → Partition → Bool
 are_apart p q = nat_lt (last_number p.rows) (first_number q.rows) || nat_lt (last_number q.rows) (first_number p.rows)
@@ -11,6 +12,10 @@ are_apart p q = nat_lt (last_number p.rows) (first_number q.rows) || nat_lt (las
 abbrev pub all_apart : List Partition → List Partition → Bool
 all_apart before [] = true
 all_apart before (p ∷ ps) = list_all (are_apart p) before && all_apart (p ∷ before) ps
+
+-- whether a version's partitions are apart
+abbrev pub is_apart : StoredVersion → Bool
+is_apart v = all_apart [] v.content
 
 abbrev pub highest_number : List Partition → ℕ
 highest_number [] = 0

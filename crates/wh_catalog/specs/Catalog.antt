@@ -1,34 +1,32 @@
--- What a `Catalog` stands for, and when a commit has its memory.
-use Rattle.std.specs.Prelude.{ℕ, List, ◌<◌, map, vec_len, vec_capacity, Option, Some, None}
-use Rattle.wh_machine.specs.Commit as machine
-use Rattle.wh_record.specs.declared.commit.Commit.{Commit}
-use Rattle.wh_record.specs.declared.commit.Change.{Change}
-use Rattle.wh_record.specs.declared.commit.Change.TheVariants.{CreatesTable, PushesVersion}
+-- What a `Catalog` stands for.
+--     stored_of           what the commits so far say
+--     state_of            the state of the machine, with the last stamp
+--     stored_table_at     the table of an id
+use Rattle.std.specs.Prelude.{ℕ, List, map, Option, Some, None}
+use Rattle.wh_machine.specs.State.{State, at_id}
+use Rattle.wh_machine.specs.Stored as machine
 use Rattle.wh_catalog.specs.declared.catalog.Catalog.{Catalog}
-use Rattle.wh_catalog.specs.declared.table.StoredTable.{StoredTable}
-use Rattle.wh_catalog.specs.Table.{table_of, partitions_of, HasRoom}
+use Rattle.wh_catalog.specs.Kept.{KeptObject, object_in}
+use Rattle.wh_catalog.specs.Table.{kept_object}
 
-abbrev pub stored_with : ℕ → ℕ → List StoredTable → machine.Stored
-stored_with last committed tables = record {
-  state = record { last = last; committed = committed; tables = map table_of tables };
-  standing = map partitions_of tables;
-}
+unfoldable pub kept_of : Catalog → List KeptObject
+kept_of c = map kept_object c.objects.items
+
+abbrev pub objects_of : Catalog → List machine.StoredObject
+objects_of c = map object_in (kept_of c)
 
 unfoldable pub stored_of : Catalog → machine.Stored
-stored_of c = stored_with c.last c.committed c.tables.items
+stored_of c = record { last = c.committed; objects = objects_of c }
 
--- only the last stamp moved
-abbrev pub passed : machine.Stored → ℕ → machine.Stored
-passed s stamp = record { state = record s.state { last = stamp }; standing = s.standing }
+unfoldable pub state_of : Catalog → State
+state_of c = record (machine.meant (stored_of c)) { last = c.last }
 
-abbrev pub HasRoomFor : Option StoredTable → ℕ → Type 0
-HasRoomFor None added = Unit {0}
-HasRoomFor (Some t) added = HasRoom t added
+abbrev pub table_in_kind : machine.StoredKind → Option machine.StoredTable
+table_in_kind (machine.StoredTableKind t) = Some t
 
--- there is memory for what the change adds
-abbrev pub ChangeHasRoom : Catalog → Change → Type 0
-ChangeHasRoom c (CreatesTable change) = vec_len c.tables < vec_capacity c.tables
-ChangeHasRoom c (PushesVersion change) = HasRoomFor (machine.at_id c.tables.items change.id) (vec_len change.added)
+abbrev pub table_in_object : Option machine.StoredObject → Option machine.StoredTable
+table_in_object None = None
+table_in_object (Some o) = table_in_kind o.kind
 
-unfoldable pub IsReady : Catalog → Commit → Type 0
-IsReady c commit = ChangeHasRoom c commit.change
+abbrev pub stored_table_at : List machine.StoredObject → ℕ → Option machine.StoredTable
+stored_table_at objects id = table_in_object (at_id objects id)

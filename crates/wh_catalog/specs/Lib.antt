@@ -1,6 +1,5 @@
 pub mod Apart
-pub mod Conditions
-pub mod Listing
-pub mod Marks
+pub mod Kept
 pub mod Table
 pub mod Catalog
+pub mod Undo

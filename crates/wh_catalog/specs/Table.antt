@@ -1,34 +1,28 @@
--- What a `StoredTable` stands for.
-use Rattle.std.specs.Prelude.{ℕ, ◌+◌, ◌<◌, ◌≤◌, vec_len, vec_capacity, List, ◌∷◌, map, take}
-use Rattle.wh_machine.specs.Table as machine
-use Rattle.wh_machine.specs.Commit.{Partition, rows_of}
+-- What tables and objects of the code stand for.
+use Rattle.std.specs.Prelude.{map}
 use Rattle.wh_value.specs.View.{column_of}
-use Rattle.wh_catalog.specs.declared.table.VersionMark.{VersionMark}
+use Rattle.wh_machine.specs.Stored as machine
+use Rattle.wh_version.specs.History.{versions_of, nexts_of}
 use Rattle.wh_catalog.specs.declared.table.StoredTable.{StoredTable}
+use Rattle.wh_catalog.specs.declared.object.StoredKind.{StoredKind}
+use Rattle.wh_catalog.specs.declared.object.StoredKind.TheVariants.{Table}
+use Rattle.wh_catalog.specs.declared.object.StoredObject.{StoredObject}
+use Rattle.wh_catalog.specs.Kept.{KeptTable, KeptKind, KeptTableKind, KeptObject, table_in}
 
--- a version has the rows of the partitions that stood at its commit
-abbrev pub version_of : List Partition → VersionMark → machine.Version
-version_of partitions mark = record { stamp = mark.stamp; data_timestamp = mark.data_timestamp; rows = rows_of (take mark.partitions partitions) }
-
--- the versions' marks in the order of their stamps
-abbrev pub marks_of : StoredTable → List VersionMark
-marks_of t = t.first ∷ t.later.items
-
-abbrev pub table_of : StoredTable → machine.Table
-table_of t = record {
-  name = t.name;
+unfoldable pub kept_table : StoredTable → KeptTable
+kept_table t = record {
   columns = map column_of t.columns.items;
   retention = t.retention;
   next_row = t.next_row;
-  next_partition = t.next_partition;
-  versions = map (version_of t.partitions.items) (marks_of t);
+  versions = versions_of t.history;
+  nexts = nexts_of t.history;
 }
 
--- those that stand in the last version
-abbrev pub partitions_of : StoredTable → List Partition
-partitions_of t = t.partitions.items
+abbrev pub table_of : StoredTable → machine.StoredTable
+table_of t = table_in (kept_table t)
 
--- there is memory for that many partitions more, and for one more version
-pub record HasRoom (t : StoredTable) (added : ℕ) : Type 0 where
-  pub partitions : vec_len t.partitions + added ≤ vec_capacity t.partitions
-  pub version : vec_len t.later < vec_capacity t.later
+abbrev pub kept_kind : StoredKind → KeptKind
+kept_kind (Table t) = KeptTableKind (kept_table t)
+
+abbrev pub kept_object : StoredObject → KeptObject
+kept_object o = record { name = o.name; is_live = o.is_live; created = o.created; kind = kept_kind o.kind }

@@ -1,77 +1,108 @@
-ghost use Rattle.std.specs.Prelude.{◌≤◌, ◌<◌, length};
-ghost use Rattle.wh_machine.specs.Step.{number_limit, objects_limit};
+ghost use Rattle.std.specs.Prelude.{◌≤◌, ◌<◌, length, count_by};
+ghost use Rattle.wh_value.specs.Limit.{bound};
+ghost use Rattle.wh_value.specs.declared.limit.Limit.TheVariants as limits;
 
-use crate::StoredTable;
+use crate::{StoredKind, StoredObject, StoredTable};
 use std::alloc::Global;
 
-/// The tables in order of creation, the greatest stamp so far, and that of the last commit.
+/// The objects in order of creation, the greatest stamp so far, and that of the last commit.
 #[derive(Debug, Drop)]
 pub struct Catalog {
     pub(crate) alloc: Global,
     pub(crate) last: u64,
     pub(crate) committed: u64,
-    pub(crate) tables: Vec<StoredTable>,
-    ghost stamps: { last < number_limit },
-    ghost few_tables: { length tables.items ≤ objects_limit },
+    pub(crate) objects: Vec<StoredObject>,
+    ghost stamps: { last < bound limits.Stamp },
+    ghost order: { committed ≤ last },
+    ghost ids: { length objects.items ≤ bound limits.ObjectIds },
+    ghost live: { count_by (λ o. o.is_live) objects.items ≤ bound limits.Objects },
 }
 
 impl Catalog {
-    ghost use Rattle.std.specs.Prelude.{◌≡◌, ◌<◌, ◌≤◌, Some, length, slice_get, IfSome};
-    ghost use Rattle.wh_machine.specs.Table.{place_of};
-    ghost use Rattle.wh_machine.specs.Commit.{first_stored, IsCurrent};
-    ghost use Rattle.wh_catalog.specs.Catalog.{stored_of, passed};
+    ghost use Rattle.std.specs.Prelude.{◌≡◌, ◌<◌, ◌≤◌, length, option_map, IfSome};
+    ghost use Rattle.std.specs.List.{position};
+    ghost use Rattle.wh_value.specs.Limit.{bound};
+    ghost use Rattle.wh_value.specs.declared.limit.Limit.TheVariants as limits;
+    ghost use Rattle.wh_machine.specs.State.{first_state, id_of, is_named, live_count};
+    ghost use Rattle.wh_machine.specs.Stored.{first_stored};
     ghost use Rattle.wh_catalog.specs.Table.{table_of};
+    ghost use Rattle.wh_catalog.specs.Catalog.{objects_of, stored_of, state_of, stored_table_at};
 
-    /// No table, and no stamp. Takes no memory.
+    /// No object, and no stamp. Takes no memory.
     pub fn new(alloc: Global) -> Catalog
-        ensures { stored_of result ≡ first_stored }
+        ensures stored { stored_of result ≡ first_stored }
+        ensures state { state_of result ≡ first_state }
     {
         Catalog {
             alloc,
             last: 0,
             committed: 0,
-            tables: Vec::new(alloc),
+            objects: Vec::new(alloc),
         }
     }
 
     /// The greatest stamp so far.
     pub fn last(&self) -> u64
-        ensures last { result ≡ (stored_of self.now).state.last }
-        ensures bounded { result < number_limit }
+        ensures last { result ≡ (state_of self.now).last }
+        ensures bounded { result < bound limits.Stamp }
+        ensures committed { (stored_of self.now).last ≤ result }
     {
         self.last
     }
 
     /// Moves the last stamp on, and nothing else.
     pub fn pass(&mut self, stamp: u64)
-        requires { stamp < number_limit }
-        ensures { stored_of self.new ≡ passed (stored_of self.old) stamp }
+        requires later { (stored_of self.old).last ≤ stamp }
+        requires within { stamp < bound limits.Stamp }
+        ensures state { state_of self.new ≡ record (state_of self.old) { last = stamp } }
+        ensures stored { stored_of self.new ≡ stored_of self.old }
     {
         self.last = stamp;
     }
 
-    /// How many tables there are.
-    pub fn table_count(&self) -> usize
-        ensures count { result ≡ length (stored_of self.now).state.tables }
-        ensures bounded { result ≤ 1000 }
+    /// The id of the live object of that name.
+    pub fn find(&self, name: &[u8]) -> Option<u32>
+        ensures { result ≡ id_of name.now (stored_of self.now).objects }
     {
-        self.tables.len()
+        match self.place_of(name) {
+            Some(place) => Some(place as u32 + 1),
+            None => None,
+        }
     }
 
-    /// The place of the table of that name in the catalog; its id is one more.
-    pub fn find(&self, name: &[u8]) -> Option<usize>
-        ensures place { result ≡ place_of name.now (stored_of self.now).state.tables }
-        ensures within { IfSome result (λ place. place < length (stored_of self.now).state.tables) }
+    fn place_of(&self, name: &[u8]) -> Option<usize>
+        ensures place { result ≡ position (is_named name.now) (objects_of self.now) }
+        ensures within { IfSome result (λ place. place < length self.now.objects.items) }
     {
-        self.tables.iter().position(|table| table.has_name(name))
+        self.objects.iter().position(|object| object.has_name(name))
     }
 
-    /// The table at a place.
-    pub fn table(&self, place: usize) -> &StoredTable
-        requires { place < length (stored_of self.now).state.tables }
-        ensures table { slice_get (stored_of self.now).state.tables place ≡ Some (table_of result.now) }
-        ensures current { IsCurrent (stored_of self.now) }
+    /// How many objects there are.
+    pub fn object_count(&self) -> u64
+        ensures count { result ≡ length (stored_of self.now).objects }
+        ensures bounded { result ≤ bound limits.ObjectIds }
     {
-        &self.tables[place]
+        self.objects.len() as u64
+    }
+
+    /// How many of them live.
+    pub fn live_count(&self) -> u64
+        ensures count { result ≡ live_count (stored_of self.now).objects }
+        ensures bounded { result ≤ bound limits.Objects }
+    {
+        self.objects.iter().filter(|object| object.is_live).count() as u64
+    }
+
+    /// The table of an id.
+    pub fn table(&self, id: u32) -> Option<&StoredTable>
+        ensures { option_map (λ t. table_of t.now) result
+            ≡ stored_table_at (stored_of self.now).objects id }
+    {
+        let place = id as usize;
+        if place == 0 || self.objects.len() < place {
+            return None;
+        }
+        let object = &self.objects[place - 1];
+        Some(object.table())
     }
 }

@@ -1,18 +1,14 @@
-//! The catalog: tables as lists of versions, and the commits that change them.
-#![tactic(auto, unfolding(crate::specs::Catalog::stored_of))]
+//! The catalog: objects in order of creation, tables with their versions, and the commits that change them.
+#![tactic(auto, unfolding(crate::specs::Table::kept_table, crate::specs::Catalog::kept_of, crate::specs::Catalog::stored_of, crate::specs::Catalog::state_of))]
 
-mod apply;
-mod applying;
 mod catalog;
-mod fitting;
-mod listing;
-mod numbers;
-mod reserve;
+mod object;
+mod stage;
 mod table;
-#[cfg(test)]
-mod tests;
+mod undo;
 
 pub use catalog::Catalog;
-pub use fitting::row_fits;
-pub use reserve::ReserveFault;
-pub use table::{StoredTable, VersionMark};
+pub use object::{StoredKind, StoredObject};
+pub use stage::StageFault;
+pub use table::StoredTable;
+pub use undo::Undo;

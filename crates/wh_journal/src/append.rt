@@ -2,7 +2,7 @@ use crate::{AppendFault, Journal};
 use wh_world::{Disk, Failed, Framed};
 
 impl Journal {
-    ghost use Rattle.std.specs.Prelude.{◌≡◌, ◌+◌, ◌<◌, ◌≤◌, [], ◌∷◌, ◌++◌, List, ℕ, Some, None, length, is_some, OnOk, OnErr, IsErrOf, ◌↔◌};
+    ghost use Rattle.std.specs.Prelude.{◌≡◌, ◌+◌, ◌<◌, ◌≤◌, [], ◌∷◌, ◌++◌, max, List, ℕ, Some, None, length, is_some, OnOk, OnErr, IsErrOf, ◌↔◌};
     ghost use Rattle.wh_world.specs.Told.{Rose};
     ghost use Rattle.wh_world.specs.Crash.{Only};
     ghost use Rattle.wh_frame.specs.File.{IsFileOf};
@@ -36,9 +36,13 @@ impl Journal {
         ensures told { OnOk result (is_some (D.bytes disk.new) ≡ is_some (D.bytes disk.old)) }
         ensures durable { OnOk result ((file : List ℕ) → D.bytes disk.new ≡ Some file → Only file (D.may_leave disk.new)) }
         ensures reach { end_of self.new ≤ D.size disk.new }
+        ensures size { OnOk result (D.size disk.new ≡ max (D.size disk.old) (end_of self.old + need_of frame.now)) }
+        ensures size_err { OnErr result ((D.size disk.old ≤ D.size disk.new)
+            × (D.size disk.new ≤ max (D.size disk.old) (end_of self.old + need_of frame.now))) }
         ensures limit { limit_of self.new ≡ limit_of self.old }
         ensures healthy { OnOk result (failed_of self.new ≡ None) }
         ensures later { D.faults disk.old ≤ D.faults disk.new }
+        ensures no_fault { OnOk result (D.faults disk.new ≡ D.faults disk.old) }
         ensures reads { D.reads disk.new ≡ D.reads disk.old }
 
         // Why it isn't added, in the order of the tests.
@@ -92,10 +96,11 @@ fn write_record<D: Disk>(disk: &mut D, end: u64, framed: &[u8]) -> Result<(), Fa
     ensures any_moment { (file : List ℕ) → D.bytes disk.old ≡ Some file → Only file (D.may_leave disk.old) →
         LeavesOnly D.moment D.left_since disk.old disk.new (TornRecord end framed.now file) }
     ensures durable { OnOk result ((file : List ℕ) → D.bytes disk.new ≡ Some file → Only file (D.may_leave disk.new)) }
-    ensures size { OnOk result (end + length framed.now ≤ D.size disk.new) }
-    ensures grows { D.size disk.old ≤ D.size disk.new }
+    ensures size { OnOk result (D.size disk.new ≡ max (D.size disk.old) (end + length framed.now)) }
+    ensures size_err { OnErr result ((D.size disk.old ≤ D.size disk.new) × (D.size disk.new ≤ max (D.size disk.old) (end + length framed.now))) }
     ensures reads { D.reads disk.new ≡ D.reads disk.old }
     ensures later { D.faults disk.old ≤ D.faults disk.new }
+    ensures no_fault { OnOk result (D.faults disk.new ≡ D.faults disk.old) }
     ensures failed { OnErr result (Rose (D.faults disk.old) (D.faults disk.new)) }
 {
     // The payload has to be on the disk first: an open gate before it would count torn bytes.
@@ -113,9 +118,10 @@ fn stage<D: Disk>(disk: &mut D, end: u64, framed: &[u8]) -> Result<(), Failed>
         LeavesOnly D.moment D.left_since disk.old disk.new (Torn end (length framed.now) file) }
     ensures durable { OnOk result ((file : List ℕ) → D.bytes disk.new ≡ Some file → Only file (D.may_leave disk.new)) }
     ensures size { OnOk result (D.size disk.new ≡ max (D.size disk.old) (end + length framed.now)) }
-    ensures grows { D.size disk.old ≤ D.size disk.new }
+    ensures size_err { OnErr result ((D.size disk.old ≤ D.size disk.new) × (D.size disk.new ≤ max (D.size disk.old) (end + length framed.now))) }
     ensures reads { D.reads disk.new ≡ D.reads disk.old }
     ensures later { D.faults disk.old ≤ D.faults disk.new }
+    ensures no_fault { OnOk result (D.faults disk.new ≡ D.faults disk.old) }
     ensures failed { OnErr result (Rose (D.faults disk.old) (D.faults disk.new)) }
 {
     disk.write_at(end, framed)?;
@@ -131,10 +137,10 @@ fn open_gate<D: Disk>(disk: &mut D, gate: u64) -> Result<(), Failed>
     ensures any_moment { (file : List ℕ) → Only file (D.may_leave disk.old) →
         LeavesOnly D.moment D.left_since disk.old disk.new (Torn gate 1 file) }
     ensures durable { OnOk result ((file : List ℕ) → D.bytes disk.new ≡ Some file → Only file (D.may_leave disk.new)) }
-    ensures size { OnOk result (D.size disk.new ≡ D.size disk.old) }
-    ensures grows { D.size disk.old ≤ D.size disk.new }
+    ensures size { D.size disk.new ≡ D.size disk.old }
     ensures reads { D.reads disk.new ≡ D.reads disk.old }
     ensures later { D.faults disk.old ≤ D.faults disk.new }
+    ensures no_fault { OnOk result (D.faults disk.new ≡ D.faults disk.old) }
     ensures failed { OnErr result (Rose (D.faults disk.old) (D.faults disk.new)) }
 {
     disk.write_at(gate, &[1])?;

@@ -32,6 +32,9 @@ impl Journal {
         ensures limit { IfOk result (λ j. limit_of j ≡ limit) }
         ensures healthy { IfOk result (λ j. failed_of j ≡ None) }
         ensures later { D.faults disk.old ≤ D.faults disk.new }
+        ensures no_fault { OnOk result (D.faults disk.new ≡ D.faults disk.old) }
+        ensures memory { IsErrOf result OpenFault.OutOfMemory → D.faults disk.new ≡ D.faults disk.old }
+        ensures unfailed { (at : ℕ) → IsErrOf result (OpenFault.NotWarehouse at) → D.faults disk.new ≡ D.faults disk.old }
 
         // One read for the header, one for each record and one for the last gate.
         ensures cost { IfOk result (λ j. D.reads disk.new ≤ D.reads disk.old + count_of j + 2) }

@@ -3,7 +3,7 @@ use std::alloc::Global;
 use wh_world::Disk;
 
 impl Journal {
-    ghost use Rattle.std.specs.Prelude.{◌≡◌, ◌+◌, ◌<◌, ◌≤◌, ◌++◌, List, ℕ, Some, IfOk, IsErrOf, slice_get};
+    ghost use Rattle.std.specs.Prelude.{◌≡◌, ◌+◌, ◌<◌, ◌≤◌, ◌++◌, List, ℕ, Some, IfOk, OnOk, IsErrOf, slice_get};
     ghost use Rattle.wh_world.specs.Told.{Rose};
     ghost use Rattle.wh_world.specs.Crash.{NoOthers};
     ghost use Rattle.wh_frame.specs.File.{records_of};
@@ -27,6 +27,8 @@ impl Journal {
         ensures crash { NoOthers (D.may_leave disk.old) (D.may_leave disk.new) }
         ensures any_moment { LeavesOnly D.moment D.left_since disk.old disk.new (D.may_leave disk.old) }
         ensures later { D.faults disk.old ≤ D.faults disk.new }
+        ensures no_fault { OnOk result (D.faults disk.new ≡ D.faults disk.old) }
+        ensures memory { IsErrOf result ReadFault.OutOfMemory → D.faults disk.new ≡ D.faults disk.old }
         ensures disk_fault { IsErrOf result ReadFault.DiskFault → Rose (D.faults disk.old) (D.faults disk.new) }
     {
         let (position, len) = self.place(at);
@@ -34,7 +36,7 @@ impl Journal {
     }
 }
 
-ghost use Rattle.std.specs.Prelude.{◌≡◌, ◌+◌, ◌≤◌, List, ℕ, Some, IfOk, IsErrOf};
+ghost use Rattle.std.specs.Prelude.{◌≡◌, ◌+◌, ◌≤◌, List, ℕ, Some, IfOk, OnOk, IsErrOf};
 ghost use Rattle.wh_world.specs.Told.{Rose};
 ghost use Rattle.wh_world.specs.Bytes.{part_at};
 ghost use Rattle.wh_world.specs.Crash.{NoOthers};
@@ -50,6 +52,8 @@ fn read_part<D: Disk>(alloc: Global, disk: &mut D, at: u64, len: u64) -> Result<
     ensures crash { NoOthers (D.may_leave disk.old) (D.may_leave disk.new) }
     ensures any_moment { LeavesOnly D.moment D.left_since disk.old disk.new (D.may_leave disk.old) }
     ensures later { D.faults disk.old ≤ D.faults disk.new }
+    ensures no_fault { OnOk result (D.faults disk.new ≡ D.faults disk.old) }
+    ensures memory { IsErrOf result ReadFault.OutOfMemory → D.faults disk.new ≡ D.faults disk.old }
     ensures disk_fault { IsErrOf result ReadFault.DiskFault → Rose (D.faults disk.old) (D.faults disk.new) }
 {
     let mut bytes = vec![in alloc; 0u8; len as usize]?;

@@ -1,4 +1,4 @@
-ghost use Rattle.std.specs.Prelude.{◌≡◌, ◌+◌, ◌-◌, ◌<◌, ◌≤◌, ◌∷◌, ◌++◌, ◌↔◌, List, ℕ, Some, length, drop, IsTrue, IfOk, OnErr};
+ghost use Rattle.std.specs.Prelude.{◌≡◌, ◌+◌, ◌-◌, ◌<◌, ◌≤◌, ◌∷◌, ◌++◌, ◌↔◌, List, ℕ, Some, length, drop, IsTrue, IfOk, OnOk, OnErr};
 ghost use Rattle.wh_world.specs.Told.{Rose};
 ghost use Rattle.wh_world.specs.Crash.{NoOthers};
 ghost use Rattle.wh_frame.specs.File.{header};
@@ -18,6 +18,7 @@ pub(crate) fn has_header<D: Disk>(disk: &mut D) -> Result<bool, Failed>
     ensures crash { NoOthers (D.may_leave disk.old) (D.may_leave disk.new) }
     ensures any_moment { LeavesOnly D.moment D.left_since disk.old disk.new (D.may_leave disk.old) }
     ensures later { D.faults disk.old ≤ D.faults disk.new }
+    ensures no_fault { OnOk result (D.faults disk.new ≡ D.faults disk.old) }
     ensures failed { OnErr result (Rose (D.faults disk.old) (D.faults disk.new)) }
 {
     let mut bytes = [0; 7];
@@ -36,6 +37,7 @@ pub(crate) fn read_head<D: Disk>(disk: &mut D, gate: u64, size: u64) -> Result<H
     ensures crash { NoOthers (D.may_leave disk.old) (D.may_leave disk.new) }
     ensures any_moment { LeavesOnly D.moment D.left_since disk.old disk.new (D.may_leave disk.old) }
     ensures later { D.faults disk.old ≤ D.faults disk.new }
+    ensures no_fault { OnOk result (D.faults disk.new ≡ D.faults disk.old) }
     ensures failed { OnErr result (Rose (D.faults disk.old) (D.faults disk.new)) }
 {
     if size - gate < 9 {

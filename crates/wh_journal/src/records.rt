@@ -44,6 +44,8 @@ pub(crate) fn begin<D: Disk>(alloc: Global, disk: &mut D, limit: u64) -> Result<
     ensures healthy { IfOk result (λ j. failed_of j ≡ None) }
     ensures reads { D.reads disk.new ≡ D.reads disk.old }
     ensures later { D.faults disk.old ≤ D.faults disk.new }
+    ensures no_fault { OnOk result (D.faults disk.new ≡ D.faults disk.old) }
+    ensures memory { IsErrOf result ReadFault.OutOfMemory → D.faults disk.new ≡ D.faults disk.old }
     ensures disk_fault { IsErrOf result ReadFault.DiskFault → Rose (D.faults disk.old) (D.faults disk.new) }
 {
     disk.write_at(0, b"WHCORE1\0")?;
@@ -74,6 +76,8 @@ pub(crate) fn list_records<D: Disk>(
     ensures crash { NoOthers (D.may_leave disk.old) (D.may_leave disk.new) }
     ensures any_moment { LeavesOnly D.moment D.left_since disk.old disk.new (D.may_leave disk.old) }
     ensures later { D.faults disk.old ≤ D.faults disk.new }
+    ensures no_fault { OnOk result (D.faults disk.new ≡ D.faults disk.old) }
+    ensures memory { IsErrOf result ReadFault.OutOfMemory → D.faults disk.new ≡ D.faults disk.old }
     ensures disk_fault { IsErrOf result ReadFault.DiskFault → Rose (D.faults disk.old) (D.faults disk.new) }
 {
     loop {

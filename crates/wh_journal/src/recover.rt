@@ -43,6 +43,8 @@ impl Journal {
         ensures limit { IfOk result (λ r. limit_of r.0 ≡ limit) }
         ensures healthy { IfOk result (λ r. failed_of r.0 ≡ None) }
         ensures later { D.faults disk.old ≤ D.faults disk.new }
+        ensures no_fault { OnOk result (D.faults disk.new ≡ D.faults disk.old) }
+        ensures memory { IsErrOf result ReadFault.OutOfMemory → D.faults disk.new ≡ D.faults disk.old }
 
         // One read for the header, one for each record and one for what follows the last.
         ensures cost { IfOk result (λ r. D.reads disk.new ≤ D.reads disk.old + count_of r.0 + 2) }

@@ -1,14 +1,14 @@
 -- Commits, worked out by hand: their bytes, which of them apply, and what they leave.
-use Rattle.std.proofs.Common.{◌≡◌, ℕ, ◌<◌, ◌⊎◌, List, [], ◌∷◌, ◌++◌, length, true, pos, inl, inr, refl, arith}
+use Rattle.std.proofs.Common.{◌≡◌, ℕ, ◌<◌, ◌≤◌, ◌⊎◌, List, [], ◌∷◌, ◌++◌, length, true, pos, inl, inr, refl, arith}
 use Rattle.std.specs.Prelude.{codes}
 use Rattle.wh_value.specs.Value.{Number}
 use Rattle.wh_value.specs.Column.{NumberType, VarcharType, BooleanType}
 use Rattle.wh_frame.specs.Partition.{Partition}
 use Rattle.wh_frame.specs.Spelling.{partition_bytes, row_bytes, value_bytes}
 use Rattle.wh_frame.specs.File.{record_of, records_of}
-use Rattle.wh_machine.specs.State.{VersionOf}
-use Rattle.wh_machine.specs.Stored.{StoredTableKind, Stored, first_stored}
-use Rattle.wh_machine.specs.Commit.{TableChange, VersionChange, CreatesTable, PushesVersion, Commit, changed, applied, Applies}
+use Rattle.wh_machine.specs.State.{VersionOf, new_table}
+use Rattle.wh_machine.specs.Stored.{StoredTable, StoredTableKind, Stored, first_stored}
+use Rattle.wh_machine.specs.Commit.{TableApplies, VersionApplies, Leads, TableChange, VersionChange, CreatesTable, PushesVersion, Commit, changed, applied, Applies}
 use Rattle.wh_machine.specs.Spelling.{payload_of, change_bytes, table_bytes, version_bytes, column_bytes}
 
 -- ---- bytes
@@ -109,40 +109,49 @@ both_applied : applied first_stored both ≡ filed 1 2 2 (version 1 [] ∷ versi
 unfolding changed
 both_applied = refl
 
+table_applies : TableApplies [] table_t
+table_applies = record {
+  next_id = refl;
+  few = omega arith;
+  free = refl;
+  name = (omega arith, omega arith);
+  some_column = omega arith;
+  few_columns = omega arith;
+  column_names = ((omega arith, omega arith), tt);
+  retention = omega arith;
+}
+
+-- T as it is created
+abbrev first_table : StoredTable
+first_table = new_table [] table_t.columns 1 1
+
+first_rows : (stamp : ℕ) → 1 ≤ stamp → VersionApplies first_table (version_t stamp 2 [] (one_row 1 1))
+first_rows stamp later = record {
+  timestamp = later;
+  width = refl;
+  next_row = omega arith;
+  next_partition = omega arith;
+  removed = tt;
+  numbers = (refl, tt);
+  rows = (((refl, omega arith), tt), tt);
+  apart = (tt, tt);
+}
+
 both_apply : Applies first_stored both
 unfolding changed
 both_apply = record {
   later = omega arith;
   within = omega arith;
-  changes = (
-    record {
-      next_id = refl;
-      few = omega arith;
-      free = refl;
-      name = (omega arith, omega arith);
-      some_column = omega arith;
-      few_columns = omega arith;
-      column_names = ((omega arith, omega arith), tt);
-      retention = omega arith;
-    },
-    (
-      (
-        refl,
-        record {
-          timestamp = omega arith;
-          width = refl;
-          next_row = omega arith;
-          next_partition = omega arith;
-          removed = tt;
-          numbers = (refl, tt);
-          rows = (((refl, omega arith), tt), tt);
-          apart = (tt, tt);
-        },
-      ),
-      tt,
-    ),
-  );
+  changes = (table_applies, ((refl, first_rows 1 (omega arith)), tt));
 }
+
+-- at two stamps
+one_by_one : Leads first_stored (creation ∷ insertion ∷ []) (filed 2 2 2 (version 1 [] ∷ version 2 (one_row 1 1 ∷ []) ∷ []))
+unfolding changed
+one_by_one = (
+  record { later = omega arith; within = omega arith; changes = (table_applies, tt) },
+  (record { later = omega arith; within = omega arith; changes = ((refl, first_rows 2 (omega arith)), tt) }, refl),
+)
 
 -- ---- a partition that goes
 

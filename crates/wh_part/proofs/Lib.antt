@@ -4,3 +4,4 @@ pub mod Loops
 pub mod RowNumbers
 pub mod PartitionLaws
 pub mod CutLemmas
+pub mod MetaLemmas

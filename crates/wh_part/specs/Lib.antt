@@ -1,4 +1,5 @@
 pub mod View
+pub mod Meta
 pub mod Reading
 pub mod Decoding
 pub mod Laws

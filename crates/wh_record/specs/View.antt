@@ -46,8 +46,9 @@ abbrev pub IsWritableChange : machine.Change → Type 0
 IsWritableChange (machine.CreatesTable c) = Unit {0}
 IsWritableChange (machine.PushesVersion c) = IsWritableVersion c
 
-abbrev pub IsSpelledIfWritable : machine.Change → Type 0
-IsSpelledIfWritable c = IsWritableChange c → IsChange c
-
 abbrev pub IsWritable : machine.Commit → Type 0
 IsWritable c = AllByRecursion IsWritableChange c.changes
+
+-- what is known of a change that is written: if it is writable, its bytes are read again
+abbrev pub IsSpelledIfWritable : machine.Change → Type 0
+IsSpelledIfWritable c = IsWritableChange c → IsChange c

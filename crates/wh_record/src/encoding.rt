@@ -56,7 +56,8 @@ fn write_columns(out: &mut Bytes, columns: &[Column]) -> Result<(), AllocError>
 }
 
 fn write_each_column(out: &mut Bytes, columns: &[Column]) -> Result<(), AllocError>
-    ensures written { OnOk result (out.new ≡ out.old ++ flat_map column_bytes (map column_of columns.now)) }
+    ensures written { OnOk result (out.new
+        ≡ out.old ++ flat_map column_bytes (map column_of columns.now)) }
     ensures spelled { OnOk result (AllByRecursion IsColumn (map column_of columns.now)) }
 {
     for column in columns {
@@ -129,7 +130,8 @@ fn write_version_head(out: &mut Bytes, version: &VersionChange) -> Result<(), Al
 
 #[tactic(auto, unfolding(wh_machine::specs::Spelling::version_bytes))]
 fn write_version(out: &mut Bytes, version: &VersionChange) -> Result<(), AllocError>
-    ensures written { OnOk result (out.new ≡ out.old ++ version_bytes (version_change_of version.now)) }
+    ensures written { OnOk result (out.new
+        ≡ out.old ++ version_bytes (version_change_of version.now)) }
     ensures spelled { OnOk result (IsWritableVersion (version_change_of version.now)
         → IsVersionChange (version_change_of version.now)) }
 {
@@ -157,9 +159,11 @@ fn write_change(out: &mut Bytes, change: &Change) -> Result<(), AllocError>
 }
 
 fn write_changes(out: &mut Bytes, changes: &[Change]) -> Result<(), AllocError>
-    ensures written { OnOk result (out.new ≡ out.old ++ list_bytes change_bytes (map change_of changes.now)) }
+    ensures written { OnOk result (out.new
+        ≡ out.old ++ list_bytes change_bytes (map change_of changes.now)) }
     ensures fits { OnOk result (length changes.now < 2 ^ 32) }
-    ensures spelled { OnOk result (AllByRecursion IsSpelledIfWritable (map change_of changes.now)) }
+    ensures spelled { OnOk result
+        (AllByRecursion IsSpelledIfWritable (map change_of changes.now)) }
 {
     write_count(out, changes.len())?;
     write_each_change(out, changes)?;
@@ -167,8 +171,10 @@ fn write_changes(out: &mut Bytes, changes: &[Change]) -> Result<(), AllocError>
 }
 
 fn write_each_change(out: &mut Bytes, changes: &[Change]) -> Result<(), AllocError>
-    ensures written { OnOk result (out.new ≡ out.old ++ flat_map change_bytes (map change_of changes.now)) }
-    ensures spelled { OnOk result (AllByRecursion IsSpelledIfWritable (map change_of changes.now)) }
+    ensures written { OnOk result (out.new
+        ≡ out.old ++ flat_map change_bytes (map change_of changes.now)) }
+    ensures spelled { OnOk result
+        (AllByRecursion IsSpelledIfWritable (map change_of changes.now)) }
 {
     for change in changes {
         write_change(out, change)?;
@@ -179,7 +185,8 @@ fn write_each_change(out: &mut Bytes, changes: &[Change]) -> Result<(), AllocErr
 #[tactic(auto, unfolding(wh_machine::specs::Spelling::payload_of))]
 fn write_commit(out: &mut Bytes, commit: &Commit) -> Result<(), AllocError>
     ensures written { OnOk result (out.new ≡ out.old ++ payload_of (commit_of commit.now)) }
-    ensures spelled { OnOk result (IsWritable (commit_of commit.now) → IsCommit (commit_of commit.now)) }
+    ensures spelled { OnOk result (IsWritable (commit_of commit.now)
+        → IsCommit (commit_of commit.now)) }
 {
     write_u64(out, commit.stamp)?;
     write_changes(out, &commit.changes)?;
@@ -194,7 +201,8 @@ impl Commit {
     /// The record of the commit.
     pub fn encode(&self, alloc: Global) -> Result<Framed, AllocError>
         ensures payload { IfOk result (λ framed. framed ≡ payload_of (commit_of self.now)) }
-        ensures spelled { OnOk result (IsWritable (commit_of self.now) → IsCommit (commit_of self.now)) }
+        ensures spelled { OnOk result (IsWritable (commit_of self.now)
+            → IsCommit (commit_of self.now)) }
     {
         let mut payload = Bytes::new(alloc);
         write_commit(&mut payload, self)?;

@@ -68,6 +68,7 @@ impl Ahead {
         ensures short { OnOk result (self.new.taken ≤ 2 ^ 30) }
         ensures fault { IfErr result (λ fault. FaultFits (Some fault) self.new.taken) }
         ensures later { S.faults source.old ≤ S.faults source.new }
+        ensures no_fault { OnOk result (S.faults source.new ≡ S.faults source.old) }
         ensures read { IsErrOf result ScriptFault.Read →
             Rose (S.faults source.old) (S.faults source.new) }
     {
@@ -100,6 +101,7 @@ impl Ahead {
         ensures short { OnOk result (self.new.taken ≤ 2 ^ 30) }
         ensures fault { IfErr result (λ fault. FaultFits (Some fault) self.new.taken) }
         ensures later { S.faults source.old ≤ S.faults source.new }
+        ensures no_fault { OnOk result (S.faults source.new ≡ S.faults source.old) }
         ensures read { IsErrOf result ScriptFault.Read →
             Rose (S.faults source.old) (S.faults source.new) }
     {

@@ -34,6 +34,7 @@ pub(crate) fn read_line<S: Source>(
     ensures short { OnOk result (ahead.new.taken ≤ 2 ^ 30) }
     ensures fault { IfErr result (λ fault. FaultFits (Some fault) ahead.new.taken) }
     ensures later { S.faults source.old ≤ S.faults source.new }
+    ensures no_fault { OnOk result (S.faults source.new ≡ S.faults source.old) }
     ensures read { IsErrOf result ScriptFault.Read →
         Rose (S.faults source.old) (S.faults source.new) }
 {

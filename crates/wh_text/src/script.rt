@@ -55,6 +55,7 @@ impl Script {
         // Over any outcome.
         ensures counts { Counts self.old self.new (S.left source.old) (S.left source.new) }
         ensures later { S.faults source.old ≤ S.faults source.new }
+        ensures no_fault { OnOk result (S.faults source.new ≡ S.faults source.old) }
 
         // A fault stays.
         ensures stays { IfErr result (λ fault. fault_of self.new ≡ Some fault) }

@@ -27,7 +27,7 @@ loop-journal-preserved g c =
       told = search rules;
       size = search rules;
       cost = omega (arith, ap length c.in_ok-list-in-Whole.ensures.added.places, length_push j.places.items (j.end + 8, c.in-Whole.len));
-      later = search rules;
+      no_fault = search rules;
       crash = search rules;
       any_moment = reads_on g.D.Disk.moment g.D.Disk.left_since g.D.Disk.may_leave g.met.D.Disk.only_now c.args.disk.now c.loop-journal.disk c.read_head.new.disk
           c.loop-journal.invariant.crash c.loop-journal.invariant.any_moment c.read_head.ensures.any_moment;

@@ -13,7 +13,7 @@ invariant-loop-journal g l = record {
   told : g.D.Disk.bytes l.disk ≡ g.D.Disk.bytes l.fn.disk;
   size : g.D.Disk.size l.disk ≡ g.D.Disk.size l.fn.disk;
   cost : g.D.Disk.reads l.disk + length l.fn.journal.places.items ≤ g.D.Disk.reads l.fn.disk + length l.journal.places.items;
-  later : g.D.Disk.faults l.fn.disk ≤ g.D.Disk.faults l.disk;
+  no_fault : g.D.Disk.faults l.disk ≡ g.D.Disk.faults l.fn.disk;
   crash : NoOthers (g.D.Disk.may_leave l.fn.disk) (g.D.Disk.may_leave l.disk);
   any_moment : LeavesOnly g.D.Disk.moment g.D.Disk.left_since l.fn.disk l.disk (g.D.Disk.may_leave l.fn.disk);
 }

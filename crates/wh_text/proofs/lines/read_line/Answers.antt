@@ -33,5 +33,5 @@ bytes-preserved g c =
       counts = c.in_ok-byte.ensures.counts ∙ c.bytes.invariant.counts;
       short = c.in_ok-byte.ensures.short;
       fits = fits;
-      later = omega (arith, c.bytes.invariant.later, c.take_byte.ensures.later);
+      no_fault = c.in_ok-byte.ensures.no_fault ∙ c.bytes.invariant.no_fault;
     }

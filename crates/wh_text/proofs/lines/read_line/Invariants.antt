@@ -12,7 +12,7 @@ invariant-bytes g l = record {
   counts : total l.ahead (g.S.Source.left l.source) ≡ total l.initial.ahead (g.S.Source.left l.initial.source);
   short : l.ahead.taken ≤ 2 ^ 30;
   fits : length l.text ≤ most l.place;
-  later : g.S.Source.faults l.initial.source ≤ g.S.Source.faults l.source;
+  no_fault : g.S.Source.faults l.source ≡ g.S.Source.faults l.initial.source;
 }
 
 abbrev pub decreases-bytes : goal.decreases-bytes

@@ -1,0 +1,39 @@
+use crate::StoredTable;
+use wh_value::Text;
+
+/// An object of the warehouse. A dropped one stays, with the name that it had.
+#[derive(Debug, Drop)]
+pub struct StoredObject {
+    pub(crate) name: Text,
+    pub(crate) is_live: bool,
+    pub(crate) created: u64,
+    pub(crate) kind: StoredKind,
+}
+
+/// What an object is.
+#[derive(Debug, Drop)]
+pub enum StoredKind {
+    Table(StoredTable),
+}
+
+impl StoredObject {
+    ghost use Rattle.std.specs.Prelude.{◌≡◌};
+    ghost use Rattle.wh_machine.specs.State.{is_named};
+    ghost use Rattle.wh_catalog.specs.Kept.{object_in, KeptTableKind};
+    ghost use Rattle.wh_catalog.specs.Table.{kept_kind, kept_table, kept_object};
+
+    /// Whether it lives under that name.
+    pub(crate) fn has_name(&self, name: &[u8]) -> bool
+        ensures { result ≡ is_named name.now (object_in (kept_object self.now)) }
+    {
+        self.is_live && self.name.as_bytes() == name
+    }
+
+    pub(crate) fn table(&self) -> &StoredTable
+        ensures { kept_kind self.now.kind ≡ KeptTableKind (kept_table result.now) }
+    {
+        match &self.kind {
+            StoredKind::Table(table) => table,
+        }
+    }
+}

@@ -1,0 +1,37 @@
+-- What a `History` stands for.
+--     versions_of      the versions, each with its partitions
+--     nexts_of         the number that the next partition has after each version
+--     standing_in      the partitions of the last version
+--     pushed_with      a version more, of the last one's partitions without some and with others
+use Rattle.std.specs.Prelude.{ℕ, ◌+◌, List, [], ◌∷◌, ◌++◌, map}
+use Rattle.wh_frame.specs.Partition.{Partition}
+use Rattle.wh_machine.specs.State.{content_in, last_of}
+use Rattle.wh_machine.specs.Stored.{StoredVersion}
+use Rattle.wh_machine.specs.Commit.{without}
+use Rattle.wh_version.specs.declared.mark.VersionMark.{VersionMark}
+use Rattle.wh_version.specs.declared.history.History.{History}
+use Rattle.wh_version.specs.Kept.{versions_by}
+
+abbrev pub marks_of : History → List VersionMark
+marks_of h = h.first ∷ h.later.items
+
+unfoldable pub versions_of : History → List StoredVersion
+versions_of h = versions_by h.kept.items 0 (marks_of h)
+
+unfoldable pub nexts_of : History → List ℕ
+nexts_of h = map (λ mark. mark.partitions + 1) (marks_of h)
+
+abbrev pub standing_in : List StoredVersion → List Partition
+standing_in versions = content_in [] (last_of versions)
+
+abbrev pub next_in : List ℕ → ℕ
+next_in [] = 1
+next_in (next ∷ []) = next
+next_in (next ∷ other ∷ nexts) = next_in (other ∷ nexts)
+
+abbrev pub pushed_with : List StoredVersion → ℕ → ℕ → List ℕ → List Partition → List StoredVersion
+pushed_with versions stamp data_timestamp removed added = versions ++ (record {
+  stamp = stamp;
+  data_timestamp = data_timestamp;
+  content = without removed (standing_in versions) ++ added;
+}) ∷ []

@@ -1,0 +1,65 @@
+-- Partitions that stand once, and the marks of versions.
+--     standing_at      those that stand in the version at a place
+--     versions_by      the versions of marks
+--     numbered_from, count_to, is_gone_by     what always holds of a table's marks and partitions
+use Rattle.std.specs.Prelude.{ℕ, ◌+◌, Bool, true, ◌&&◌, ◌||◌, List, [], ◌∷◌, map, filter, take, nat_lt, nat_le, nat_eq, min, if◌then◌else◌}
+use Rattle.wh_frame.specs.Partition.{Partition}
+use Rattle.wh_machine.specs.Stored.{StoredVersion}
+use Rattle.wh_version.specs.declared.kept.Kept.{Kept}
+use Rattle.wh_version.specs.declared.mark.VersionMark.{VersionMark}
+
+abbrev pub stands_at : ℕ → Kept → Bool
+stands_at place k = nat_lt place k.until
+
+abbrev pub partitions_in : List Kept → List Partition
+partitions_in kept = map (λ k. k.partition) kept
+
+abbrev pub standing_at : ℕ → List Kept → List Partition
+standing_at place kept = partitions_in (filter (stands_at place) kept)
+
+-- ---- what a version more changes
+
+abbrev pub fresh : Partition → Kept
+fresh p = record { partition = p; until = 18446744073709551615 }
+
+-- gone from the place on, if it is the one of that number
+abbrev pub part_one : ℕ → ℕ → Kept → Kept
+part_one place number k = if nat_eq k.partition.number number then record k { until = min k.until place } else k
+
+abbrev pub parted : ℕ → List ℕ → List Kept → List Kept
+parted place [] kept = kept
+parted place (number ∷ numbers) kept = parted place numbers (map (part_one place number) kept)
+
+-- ---- versions
+
+-- a version has those of the first partitions, up to its mark, that stand at its place
+abbrev pub version_by : List Kept → ℕ → VersionMark → StoredVersion
+version_by kept place mark = record {
+  stamp = mark.stamp;
+  data_timestamp = mark.data_timestamp;
+  content = standing_at place (take mark.partitions kept);
+}
+
+abbrev pub versions_by : List Kept → ℕ → List VersionMark → List StoredVersion
+versions_by kept place [] = []
+versions_by kept place (mark ∷ marks) = version_by kept place mark ∷ versions_by kept (place + 1) marks
+
+-- ---- what always holds
+
+-- the numbers rise by one from the next on
+abbrev pub numbered_from : ℕ → List Partition → Bool
+numbered_from next [] = true
+numbered_from next (p ∷ ps) = nat_eq p.number next && numbered_from (next + 1) ps
+
+-- the marks count more and more partitions, from a least count on, and the last one counts them all
+abbrev pub count_to : ℕ → List VersionMark → ℕ → Bool
+count_to least [] total = nat_eq least total
+count_to least (mark ∷ marks) total = nat_le least mark.partitions && count_to mark.partitions marks total
+
+-- it stands still
+abbrev pub is_standing : Kept → Bool
+is_standing k = nat_eq k.until 18446744073709551615
+
+-- it stands still, or is gone from a version up to the last one
+abbrev pub is_gone_by : ℕ → Kept → Bool
+is_gone_by last k = nat_le k.until last || is_standing k

@@ -1,0 +1,72 @@
+ghost use Rattle.std.specs.Prelude.{◌∷◌, length, IsTrue};
+ghost use Rattle.std.specs.List.{list_all};
+ghost use Rattle.wh_version.specs.Kept.{numbered_from, count_to, is_gone_by, partitions_in};
+
+use crate::{Kept, VersionMark};
+use std::alloc::Global;
+
+/// The versions of one table. Each partition stands once: a version has those that were there when
+/// it was pushed, and that weren't gone by then.
+#[derive(Debug, Drop)]
+pub struct History {
+    /// By their numbers, which rise by one from 1.
+    pub(crate) kept: Vec<Kept>,
+    /// The version with which the table was created, and those that were pushed since.
+    pub(crate) first: VersionMark,
+    pub(crate) later: Vec<VersionMark>,
+    ghost numbers: { IsTrue (numbered_from 1 (partitions_in kept.items)) },
+    ghost marks: { IsTrue (count_to 0 (first ∷ later.items) (length kept.items)) },
+    ghost gone: { IsTrue (list_all (is_gone_by (length later.items)) kept.items) },
+}
+
+impl History {
+    ghost use Rattle.std.specs.Prelude.{◌≡◌, ◌+◌, ◌≤◌, ◌<◌, ◌^◌, [], ◌∷◌, ◌++◌, Some, length, map, filter, option_map, OnOk, OnErr};
+    ghost use Rattle.wh_machine.specs.State.{version_at, last_of};
+    ghost use Rattle.wh_machine.specs.Commit.{NumberedFrom, Stands};
+    ghost use Rattle.wh_version.specs.Lists.{shortened};
+    ghost use Rattle.wh_version.specs.History.{versions_of, nexts_of, standing_in, next_in, pushed_with};
+    ghost use Rattle.wh_version.specs.Kept.{is_standing, partitions_in};
+
+    /// One version, with nothing in it. Takes no memory.
+    pub fn new(alloc: Global, stamp: u64) -> History
+        ensures versions { versions_of result ≡ version_at stamp [] ∷ [] }
+        ensures nexts { nexts_of result ≡ 1 ∷ [] }
+    {
+        let first = VersionMark {
+            stamp,
+            data_timestamp: stamp,
+            partitions: 0,
+        };
+        History {
+            kept: Vec::new(alloc),
+            first,
+            later: Vec::new(alloc),
+        }
+    }
+
+    /// The data timestamp of the last version.
+    pub fn last_timestamp(&self) -> u64
+        ensures { option_map (λ v. v.data_timestamp) (last_of (versions_of self.now)) ≡ Some result }
+    {
+        let later = self.later.len();
+        if later == 0 {
+            return self.first.data_timestamp;
+        }
+        self.later[later - 1].data_timestamp
+    }
+
+    /// The number that the next partition has.
+    pub fn next_partition(&self) -> u64
+        ensures number { result ≡ next_in (nexts_of self.now) }
+        ensures bounded { result ≤ 2 ^ 63 }
+    {
+        self.kept.len() as u64 + 1
+    }
+
+    /// Each partition of each version, by rising number.
+    pub fn kept(&self) -> &[Kept]
+        ensures { partitions_in (filter is_standing result.now) ≡ standing_in (versions_of self.now) }
+    {
+        self.kept.as_slice()
+    }
+}

@@ -1,0 +1,82 @@
+ghost use Rattle.std.specs.Prelude.{◌≡◌, ◌+◌, ◌≤◌, ◌++◌, length, map, vec_len, vec_capacity, IsTrue};
+ghost use Rattle.wh_version.specs.Kept.{numbered_from, partitions_in, part_one, parted, fresh};
+
+use crate::{History, Kept, VersionMark};
+use std::alloc::AllocError;
+use wh_part::Partition;
+
+impl History {
+    ghost use Rattle.std.specs.Prelude.{◌≡◌, ◌+◌, [], ◌∷◌, ◌++◌, length, OnOk, OnErr};
+    ghost use Rattle.wh_machine.specs.Commit.{NumberedFrom};
+    ghost use Rattle.wh_version.specs.History.{versions_of, nexts_of, next_in, pushed_with};
+
+    /// Adds a version: the last one's partitions without those of the removed numbers, and then the
+    /// added ones. Takes memory for what is added alone, and takes it first.
+    pub fn push(
+        &mut self,
+        stamp: u64,
+        data_timestamp: u64,
+        removed: &[u64],
+        added: Vec<Partition>,
+    ) -> Result<(), AllocError>
+        requires { NumberedFrom (next_in (nexts_of self.old)) added.items }
+        ensures versions { OnOk result (versions_of self.new
+            ≡ pushed_with (versions_of self.old) stamp data_timestamp removed.now added.items) }
+        ensures nexts { OnOk result (nexts_of self.new
+            ≡ nexts_of self.old ++ (next_in (nexts_of self.old) + length added.items) ∷ []) }
+        ensures same { OnErr result (versions_of self.new ≡ versions_of self.old) }
+        ensures same_nexts { OnErr result (nexts_of self.new ≡ nexts_of self.old) }
+    {
+        self.kept.reserve(added.len())?;
+        self.later.reserve(1)?;
+        let place = self.later.len() + 1;
+        part(&mut self.kept, place, removed);
+        append(&mut self.kept, added);
+        let partitions = self.kept.len();
+        self.later.push_reserved(VersionMark {
+            stamp,
+            data_timestamp,
+            partitions,
+        });
+        Ok(())
+    }
+}
+
+// From the place on the partitions of these numbers don't stand.
+fn part(kept: &mut Vec<Kept>, place: usize, removed: &[u64])
+    requires { IsTrue (numbered_from 1 (partitions_in kept.old.items)) }
+    ensures parted { kept.new.items ≡ parted place removed.now kept.old.items }
+    ensures length { vec_len kept.new ≡ vec_len kept.old }
+    ensures capacity { vec_capacity kept.new ≡ vec_capacity kept.old }
+{
+    for number in removed {
+        part_one(kept, place, *number);
+    }
+}
+
+fn part_one(kept: &mut Vec<Kept>, place: usize, number: u64)
+    requires { IsTrue (numbered_from 1 (partitions_in kept.old.items)) }
+    ensures parted { kept.new.items ≡ map (part_one place number) kept.old.items }
+    ensures length { vec_len kept.new ≡ vec_len kept.old }
+    ensures capacity { vec_capacity kept.new ≡ vec_capacity kept.old }
+{
+    let number = number as usize;
+    if number == 0 || kept.len() < number {
+        return;
+    }
+    let one = &mut kept[number - 1];
+    one.until = one.until.min(place);
+}
+
+// Adds partitions that stand, for which there is memory.
+fn append(kept: &mut Vec<Kept>, added: Vec<Partition>)
+    requires { vec_len kept.old + vec_len added ≤ vec_capacity kept.old }
+    ensures { kept.new.items ≡ kept.old.items ++ map fresh added.items }
+{
+    for partition in added {
+        kept.push_reserved(Kept {
+            partition,
+            until: usize::MAX,
+        });
+    }
+}
