@@ -1,30 +1,37 @@
 -- How a run ends: what was served, and the file that is left.
---     good_file                                       a file that is told stays told
+--     left_file                                              the file that is left
 --     served_run, served_through, served_by, served_room     of what was served
 --     unopened_run, unopened_fills, unopened_refuses, unopened_cause     where the file wasn't opened
 use Rattle.std.proofs.Common.{◌≡◌, ℕ, ◌<◌, List, [], length, inl, inr, refl, sym, ap, ◌∙◌, subst, append-nil, Option, Some}
-use Rattle.std.specs.Prelude.{is_some, IsTrue, Result, Ok, Err, IfOk, OnOk, IfErr, OnErr}
+use Rattle.std.specs.Prelude.{Result, Ok, Err, IfOk, OnOk, IfErr, OnErr}
 use Rattle.wh_machine.specs.State.{State, at_rest}
 use Rattle.wh_machine.specs.Step.{Event, text}
 use Rattle.wh_machine.specs.File.{Stands}
+use Rattle.wh_world.specs.declared.disk.Disk.{Ghosts}
+use Rattle.wh_catalog.specs.Catalog.{state_of}
+use Rattle.wh_engine.specs.declared.warehouse.Warehouse.{Warehouse}
 use Rattle.wh_engine.specs.declared.fault.OpenFault.{OpenFault}
 use Rattle.wh_engine.specs.declared.fault.OpenFault.TheVariants as opens
 use Rattle.wh_shell.specs.Code.{status_of}
 use Rattle.wh_shell.specs.Fault.{fault_of_open, HasCause}
+use Rattle.wh_engine.proofs.FileLemmas.{stands_for}
+use Rattle.wh_shell.specs.Open.{IsTold, StaysOpen}
 use Rattle.wh_shell.specs.Run.{IsFront, IsRunOf, Through, EndsBy, RefusesFile}
 use Rattle.wh_shell.specs.Room.{Reach, first_beyond, FillsBy, HasRoomForAll, IsFull}
 use Rattle.wh_shell.specs.Serving.{Stops, Serves}
 use Rattle.wh_shell.specs.declared.fault.Fault.{Fault}
 use Rattle.wh_shell.specs.declared.fault.Fault.TheVariants.{FileFull}
-use Rattle.wh_shell.specs.declared.status.Status.TheVariants.{Stopped}
+use Rattle.wh_shell.specs.declared.status.Status.TheVariants.{Usage, Read, Stopped}
+use Rattle.wh_shell.specs.declared.status.Status.{Status}
 use Rattle.wh_shell.proofs.Safety.{told_file}
 
--- of told bytes that stay told there is a file at the end, which is as what was kept says
-pub good_file : {IsGood : List ℕ → Type 0} (before now : Option (List ℕ)) → is_some now ≡ is_some before → IsTrue (is_some before) →
-    ((file : List ℕ) → now ≡ Some file → IsGood file) → (file : List ℕ) × (now ≡ Some file) × IsGood file
-good_file before now stays told good =
-    let found = told_file now (stays ∙ told) in
-    (found.0, found.1, good found.0 found.1)
+-- where all was served and the file was told, there is one at the end, which stands for the state
+pub left_file : {D : Type 0} {g : Ghosts D} (old new : Warehouse D g) (closed : D) (served : Result ℕ Fault) → closed ≡ new.disk → IsTold old →
+    OnOk served (StaysOpen old new) → OnOk served ((file : List ℕ) × (g.bytes closed ≡ Some file) × Stands file (at_rest (state_of new.catalog)))
+left_file {D} {g} old new closed (Ok count) same told stays =
+    let found = told_file (g.bytes new.disk) (stays.told ∙ told) in
+    (found.0, ap g.bytes same ∙ found.1, stands_for found.0 new.journal new.catalog (stays.opens.filed.each found.0 found.1))
+left_file {D} {g} old new closed (Err why) same told stays = tt
 
 -- ---- what was served
 
@@ -87,3 +94,9 @@ pub unopened_cause : (disk script output : Type 0) (foreign : ℕ → Type 0) (f
 unopened_cause disk script output foreign full long opens.OutOfMemory failed rejects = tt
 unopened_cause disk script output foreign full long opens.DiskFault failed rejects = failed refl
 unopened_cause disk script output foreign full long (opens.NotWarehouse at) failed rejects = rejects at refl
+
+-- what ends a run, said otherwise
+pub ends_by : (P Q : Fault → Type 0) (status : Status) → ((why : Fault) → P why → Q why) → EndsBy P status → EndsBy Q status
+ends_by P Q Usage so ends = ends
+ends_by P Q (Read count) so ends = ends
+ends_by P Q (Stopped why) so ends = so why ends

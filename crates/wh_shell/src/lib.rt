@@ -3,10 +3,16 @@
 
 mod fault;
 mod laws;
+#[cfg(test)]
+mod line_tests;
 mod reader;
 mod running;
 mod serving;
 mod status;
+#[cfg(test)]
+mod stop_tests;
+#[cfg(test)]
+mod tests;
 mod words;
 mod writing;
 

@@ -20,9 +20,9 @@ ghost use Rattle.wh_shell.specs.Room.{reach_of, first_beyond, FillsBy, Fills, Is
 ghost use Rattle.wh_shell.specs.Run.{IsRun, IsStart, IsRunOf, Through, EndsBy};
 ghost use Rattle.wh_shell.specs.Run.{IsForeign, RefusesFile, Rejects, WasTooLong};
 
-use crate::{Fault, Status};
 use crate::serving::serve;
 use crate::words::is_run;
+use crate::{Fault, Status};
 use std::alloc::Global;
 use std::thread::Threads;
 use wh_engine::Warehouse;
@@ -105,8 +105,8 @@ pub fn run<S: Source, K: Sink, D: Disk, C: Clock>(
     run_within(rt, alloc, script, out, disk, MOST_BYTES)
 }
 
-// A run over a file of at most `limit` bytes.
-fn run_within<S: Source, K: Sink, D: Disk>(
+/// A run over a file of at most `limit` bytes.
+pub(crate) fn run_within<S: Source, K: Sink, D: Disk>(
     rt: &(impl Threads + Sync),
     alloc: Global,
     script: &mut S,
