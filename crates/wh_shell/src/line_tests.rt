@@ -92,8 +92,8 @@ fn a_stamp_is_behind_the_ticks_before_it(rt: HostRuntime) -> Result<(), Fail> {
     Ok(())
 }
 
-/// The pieces of a script, each with its reply. The front of a piece spells nothing, but where it has
-/// no more than its end left out.
+/// The pieces of a script, each with its reply. The front of a piece spells nothing, but where it
+/// has no more than its end left out.
 const PIECES: [(&[u8], &[u8]); 10] = [
     (b"CREATE TABLE T(K NUMBER);", b"CREATED TABLE T\n"),
     (b" -- a ; b\n", b""),

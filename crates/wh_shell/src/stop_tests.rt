@@ -1,5 +1,5 @@
-//! What a stop leaves, seen through whole runs: every call of the disk fails in turn, and every file that a crash
-//! may then leave is opened.
+//! What a stop leaves, seen through whole runs: every call of the disk fails in turn, and every
+//! file that a crash may then leave is opened.
 
 use super::*;
 use std::alloc::{AllocError, Global};
@@ -34,8 +34,8 @@ const LISTED: [&[u8]; 9] = [
     b"K\n-4\n1\n2\n3\n5\n(5 rows)\nA | B\n1 | 7\n1 | NULL\n2 | 5\n(3 rows)\n",
 ];
 
-/// A pick: of the bytes that were written and not synced the first `cut` are there, and in the place of those behind
-/// them stands `fill`, or for 256 what was there before.
+/// A pick: of the bytes that were written and not synced the first `cut` are there, and in the
+/// place of those behind them stands `fill`, or for 256 what was there before.
 fn torn(cut: u64, fill: u64) -> u64 {
     cut.saturating_mul(257)
         .saturating_add(fill)
@@ -77,7 +77,8 @@ fn commands_from(alloc: Global, first: usize) -> Result<Vec<u8>, AllocError> {
     Ok(script)
 }
 
-/// How many of the commands a file holds, by what its listings print; none where they print anything else.
+/// How many of the commands a file holds, by what its listings print; none where they print
+/// anything else.
 fn commits_in(
     rt: &(impl Threads + Sync),
     alloc: Global,
@@ -91,8 +92,8 @@ fn lines(text: &[u8]) -> usize {
     text.iter().filter(|byte| **byte == b'\n').count()
 }
 
-/// Whether a file holds the commands that were answered, at most one more, and the others go on from
-/// there.
+/// Whether a file holds the commands that were answered, at most one more, and the others go on
+/// from there.
 fn holds_what_was_answered(
     rt: &(impl Threads + Sync),
     alloc: Global,
@@ -123,8 +124,8 @@ fn pick_holds(
     holds_what_was_answered(rt, alloc, &image, answered)
 }
 
-/// Whether each file that a crash may leave holds what was answered: the synced bytes, what a read
-/// gives, and what is torn at each place with each of these bytes behind.
+/// Whether each file that a crash may leave holds what was answered: the synced bytes, what a
+/// read gives, and what is torn at each place with each of these bytes behind.
 fn picks_hold(
     rt: &(impl Threads + Sync),
     alloc: Global,
@@ -174,9 +175,9 @@ fn sizes(rt: &(impl Threads + Sync), alloc: Global) -> Result<Vec<usize>, AllocE
     Ok(sizes)
 }
 
-/// Where a file that ends within its open records has its first fault: at the gate of the record that
-/// is cut, or at its end where a gate is missing. The gates are the last bytes of the files after each
-/// of the commands.
+/// Where a file that ends within its open records has its first fault: at the gate of the record
+/// that is cut, or at its end where a gate is missing. The gates are the last bytes of the files
+/// after each of the commands.
 fn first_fault(sizes: &[usize], len: usize) -> u64 {
     let mut at = 0;
     for size in sizes {
@@ -187,8 +188,8 @@ fn first_fault(sizes: &[usize], len: usize) -> u64 {
     at
 }
 
-/// Whether a front of a file holds what it is to hold: no command in at most 8 bytes, a first fault
-/// within the open records, which end there, and what was answered from then on.
+/// Whether a front of a file holds what it is to hold: no command in at most 8 bytes, a first
+/// fault within the open records, which end there, and what was answered from then on.
 fn front_holds(
     rt: &(impl Threads + Sync),
     alloc: Global,
