@@ -1,21 +1,31 @@
 -- The file of a warehouse.
---     stands           what a file of commits stands for
---     filed_pass       only the last stamp moved
---     filed_append     one commit was added
+--     rest_of, state_is                  the state of a catalog, and what its commits say
+--     keeps, stands                      what a file of commits says, and stands for
+--     filed_same, filed_append           nothing was added, or one commit
 use Rattle.std.proofs.Common.{◌≡◌, ℕ, suc, ◌+◌, ◌≤◌, List, [], ◌∷◌, ◌++◌, length, map, Option, Some, None, is_some, false, refl, sym, ◌∙◌, subst, ap, arith, inl, inr, length-append}
 use Rattle.std.specs.List.{AllByRecursion}
 use Rattle.std.proofs.lemmas.Bool.{cases_lt}
 use Rattle.std.proofs.lemmas.List.{map-append}
-use Rattle.wh_machine.specs.Commit.{Commit, Stored, first_stored, Applies, applied, Leads, resting}
+use Rattle.wh_frame.specs.File.{IsFileOf, record_of, records_of}
+use Rattle.wh_machine.specs.State.{at_rest}
+use Rattle.wh_machine.specs.Stored.{Stored, first_stored, meant}
+use Rattle.wh_machine.specs.Commit.{Commit, Applies, applied, Leads}
 use Rattle.wh_machine.specs.Spelling.{payload_of, IsCommit}
-use Rattle.wh_machine.specs.File.{IsFileOf, Keeps, Stands, records_of, record_of}
+use Rattle.wh_machine.specs.File.{Keeps, Stands}
 use Rattle.wh_journal.specs.Journal.{Lists, IsSame}
 use Rattle.wh_journal.specs.declared.journal.Journal.{Journal}
-use Rattle.wh_catalog.specs.Catalog.{stored_of, passed}
+use Rattle.wh_catalog.specs.Catalog.{stored_of, state_of}
 use Rattle.wh_catalog.specs.declared.catalog.Catalog.{Catalog}
 use Rattle.wh_engine.specs.Warehouse.{IsFileOfCommits, Filed}
-use Rattle.wh_engine.proofs.CommitLemmas.{resting_applies, resting_applied, applied_ordered, leads_then}
-use Rattle.wh_engine.proofs.RowLemmas.{all_more}
+use Rattle.wh_engine.proofs.ListLemmas.{all_more, leads_then, some_is}
+
+pub state_is : (c : Catalog) → state_of c ≡ record (meant (stored_of c)) { last = (state_of c).last }
+unfolding state_of
+state_is c = refl
+
+pub rest_of : (c : Catalog) → at_rest (state_of c) ≡ meant (stored_of c)
+unfolding state_of
+rest_of c = refl
 
 long_records : (p : List ℕ) (ps : List (List ℕ)) → 8 ≤ length (records_of (p ∷ ps))
 unfolding records_of record_of
@@ -33,33 +43,40 @@ short_leads : (cs : List Commit) (file : List ℕ) (s : Stored) → IsFileOf (ma
 short_leads [] file s is short leads = sym leads
 short_leads (c ∷ cs) file s is short leads = absurd (no_record (payload_of c) (map payload_of cs) file is short)
 
+pub keeps : (cs : List Commit) (file : List ℕ) (s : Stored) → AllByRecursion IsCommit cs → IsFileOf (map payload_of cs) file → Leads first_stored cs s → Keeps file s
+keeps cs file s good is leads = elim (cases_lt 8 (length file)) [
+  | inl long ↦ inr (long, record { commits = cs; good = good; file = is; leads = leads })
+  | inr short ↦ inl (short, short_leads cs file s is short leads)
+]
+
 pub stands : (cs : List Commit) (file : List ℕ) (s : Stored) → AllByRecursion IsCommit cs → IsFileOf (map payload_of cs) file → Leads first_stored cs s
-    → Stands file s.state
-stands cs file s good is leads =
-    let keeps : Keeps file s = elim (cases_lt 8 (length file)) [
-      | inl long ↦ inr (long, record { commits = cs; good = good; file = is; leads = leads })
-      | inr short ↦ inl (short, short_leads cs file s is short leads)
-    ] in (s, keeps, refl)
+    → Stands file (meant s)
+stands cs file s good is leads = (s, keeps cs file s good is leads, refl)
 
--- ---- a command
+-- what the warehouse's file stands for
+pub stands_for : (file : List ℕ) (j : Journal) (c : Catalog) → IsFileOfCommits file j c → Stands file (at_rest (state_of c))
+stands_for file j c h = rw (rest_of c) (stands h.commits file (stored_of c) h.good h.spelled h.leads)
 
-pub some_is : {A : Type 0} (x y : A) → ◌≡◌ {A = Option A} (Some x) (Some y) → x ≡ y
-some_is x y e = cc
+-- ---- what becomes of it
 
-file_pass : (file : List ℕ) (j : Journal) (c d : Catalog) (stamp : ℕ) → stored_of d ≡ passed (stored_of c) stamp → (stored_of c).state.last ≤ stamp
-    → IsFileOfCommits file j c → IsFileOfCommits file j d
-file_pass file j c d stamp is later h = record {
+pub same_journal : (j : Journal) → IsSame j j
+same_journal j = record { places = refl; end = refl; limit = refl; failed = refl }
+
+-- room for one more place changes nothing that is listed
+pub lists_same : (payloads : List (List ℕ)) (j k : Journal) → IsSame j k → Lists payloads j → Lists payloads k
+lists_same payloads j k same h = record { places = same.places ∙ h.places; end = same.end ∙ h.end }
+
+file_same : (file : List ℕ) (j : Journal) (c d : Catalog) → stored_of d ≡ stored_of c → IsFileOfCommits file j c → IsFileOfCommits file j d
+file_same file j c d is h = record {
   commits = h.commits;
   good = h.good;
   spelled = h.spelled;
   listed = h.listed;
-  leads = subst (λ (s : Stored). Leads first_stored h.commits (resting s)) (sym is) h.leads;
-  ordered = subst (λ (s : Stored). s.state.committed ≤ s.state.last) (sym is) (omega (arith, h.ordered));
+  leads = subst (Leads first_stored h.commits) (sym is) h.leads;
 }
 
-pub filed_pass : (bytes : Option (List ℕ)) (j : Journal) (c d : Catalog) (stamp : ℕ) → stored_of d ≡ passed (stored_of c) stamp
-    → (stored_of c).state.last ≤ stamp → Filed bytes j c → Filed bytes j d
-filed_pass bytes j c d stamp is later h = record { each = λ file told. file_pass file j c d stamp is later (h.each file told) }
+pub filed_same : (bytes : Option (List ℕ)) (j : Journal) (c d : Catalog) → stored_of d ≡ stored_of c → Filed bytes j c → Filed bytes j d
+filed_same bytes j c d is h = record { each = λ file told. file_same file j c d is (h.each file told) }
 
 -- what an append does
 abbrev pub Appends : Option (List ℕ) → Option (List ℕ) → Journal → Journal → List ℕ → Type 0
@@ -73,15 +90,12 @@ file_append file now j k c d commit appends applies is good h =
     let added = appends (map payload_of h.commits) file refl h.spelled h.listed in
     let same : added.0.0 ≡ now = sym (some_is now added.0.0 added.0.1) in
     let payloads : map payload_of h.commits ++ payload_of commit ∷ [] ≡ map payload_of (h.commits ++ commit ∷ []) = sym (map-append payload_of h.commits (commit ∷ [])) in
-    let leads : Leads first_stored (h.commits ++ commit ∷ []) (applied (resting s) commit) = leads_then first_stored h.commits (resting s) commit h.leads (resting_applies s commit h.ordered applies) in
     record {
       commits = h.commits ++ commit ∷ [];
       good = all_more IsCommit h.commits commit h.good good;
       spelled = subst (λ (ps : List (List ℕ)). IsFileOf ps now) payloads (subst (IsFileOf (map payload_of h.commits ++ payload_of commit ∷ [])) same added.0.2);
       listed = subst (λ (ps : List (List ℕ)). Lists ps k) payloads added.1;
-      leads = subst (λ (t : Stored). Leads first_stored (h.commits ++ commit ∷ []) (resting t)) (sym is)
-          (subst (Leads first_stored (h.commits ++ commit ∷ [])) (sym (resting_applied s commit)) leads);
-      ordered = subst (λ (t : Stored). t.state.committed ≤ t.state.last) (sym is) (applied_ordered s commit h.ordered);
+      leads = subst (Leads first_stored (h.commits ++ commit ∷ [])) (sym is) (leads_then first_stored h.commits s commit h.leads applies);
     }
 
 pub filed_append : (old new : Option (List ℕ)) (j k : Journal) (c d : Catalog) (commit : Commit) → is_some new ≡ is_some old → Appends old new j k (payload_of commit)
@@ -93,10 +107,3 @@ filed_append None new j k c d commit told appends applies is good h = record { e
     none_told (Some x) now e f = cc
 filed_append (Some file) new j k c d commit told appends applies is good h =
     record { each = λ now e. file_append file now j k c d commit (subst (λ (o : Option (List ℕ)). Appends (Some file) o j k (payload_of commit)) e appends) applies is good (h.each file refl) }
-
-pub same_journal : (j : Journal) → IsSame j j
-same_journal j = record { places = refl; end = refl; limit = refl; failed = refl }
-
--- room for one more place changes nothing that is listed
-pub lists_same : (payloads : List (List ℕ)) (j k : Journal) → IsSame j k → Lists payloads j → Lists payloads k
-lists_same payloads j k same h = record { places = same.places ∙ h.places; end = same.end ∙ h.end }

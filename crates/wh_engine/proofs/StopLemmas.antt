@@ -1,47 +1,60 @@
--- What a crash leaves while a command is carried out.
-use Rattle.std.proofs.Common.{inl, inr, ⊎_elim, ℕ, List, [], ◌∷◌, ◌++◌, map, sym, subst}
+-- What a crash leaves while a call goes on.
+--     with_or_without     while a commit is added
+--     leaves_still        where the disk isn't touched
+use Rattle.std.proofs.Common.{inl, inr, ⊎_elim, ℕ, List, [], ◌∷◌, ◌++◌, ◌≡◌, map, sym, subst}
 use Rattle.std.proofs.lemmas.List.{map-append}
-use Rattle.wh_machine.specs.Table.{State, at_rest}
-use Rattle.wh_machine.specs.Commit.{Commit, first_stored, Applies, applied, Leads, resting}
+use Rattle.wh_frame.specs.File.{IsFileOf}
+use Rattle.wh_machine.specs.State.{State, at_rest}
+use Rattle.wh_machine.specs.Stored.{first_stored, meant}
+use Rattle.wh_machine.specs.Commit.{Commit, Applies, applied}
 use Rattle.wh_machine.specs.Spelling.{payload_of, IsCommit}
-use Rattle.wh_machine.specs.File.{IsFileOf, Stands}
+use Rattle.wh_machine.specs.File.{Stands}
 use Rattle.wh_world.specs.Crash.{Only}
 use Rattle.wh_journal.specs.Crash.{LeavesOnly}
 use Rattle.wh_journal.specs.Torn.{HasWithOrWithout}
 use Rattle.wh_journal.proofs.CrashLemmas.{weaker, started}
 use Rattle.wh_journal.specs.declared.journal.Journal.{Journal}
-use Rattle.wh_catalog.specs.Catalog.{stored_of}
+use Rattle.wh_catalog.specs.Catalog.{stored_of, state_of}
 use Rattle.wh_catalog.specs.declared.catalog.Catalog.{Catalog}
-use Rattle.wh_engine.specs.Warehouse.{IsFileOfCommits, StandsForEither}
-use Rattle.wh_engine.proofs.CommitLemmas.{resting_applies, resting_applied, leads_then}
-use Rattle.wh_engine.proofs.FileLemmas.{stands}
-use Rattle.wh_engine.proofs.RowLemmas.{all_more}
+use Rattle.wh_engine.specs.Warehouse.{IsFileOfCommits}
+use Rattle.wh_world.specs.declared.disk.Disk.{Ghosts}
+use Rattle.wh_engine.specs.declared.warehouse.Warehouse.{Warehouse}
+use Rattle.wh_engine.specs.Leaves.{StandsForEither, Leaves}
+use Rattle.wh_engine.proofs.ListLemmas.{all_more, leads_then}
+use Rattle.wh_engine.proofs.FileLemmas.{rest_of, stands, stands_for}
 
--- a file of the commits so far stands for the state before the command
-before : (file image : List ℕ) (j : Journal) (c : Catalog) (h : IsFileOfCommits file j c) → IsFileOf (map payload_of h.commits) image → Stands image (at_rest (stored_of c).state)
-before file image j c h is = stands h.commits image (resting (stored_of c)) h.good is h.leads
+-- a file of the commits so far stands for the state before the call
+before : (file image : List ℕ) (j : Journal) (c : Catalog) (h : IsFileOfCommits file j c) → IsFileOf (map payload_of h.commits) image → Stands image (at_rest (state_of c))
+before file image j c h is = rw (rest_of c) (stands h.commits image (stored_of c) h.good is h.leads)
 
 -- and one with the new commit for that after it
 after_it : (file image : List ℕ) (j : Journal) (c : Catalog) (commit : Commit) (h : IsFileOfCommits file j c) → Applies (stored_of c) commit → IsCommit commit
-    → IsFileOf (map payload_of h.commits ++ payload_of commit ∷ []) image → Stands image (at_rest (applied (stored_of c) commit).state)
+    → IsFileOf (map payload_of h.commits ++ payload_of commit ∷ []) image → Stands image (meant (applied (stored_of c) commit))
 after_it file image j c commit h applies good is =
-    let s = stored_of c in
-    let leads : Leads first_stored (h.commits ++ commit ∷ []) (applied (resting s) commit) = leads_then first_stored h.commits (resting s) commit h.leads (resting_applies s commit h.ordered applies) in
-    stands (h.commits ++ commit ∷ []) image (resting (applied s commit)) (all_more IsCommit h.commits commit h.good good)
+    stands (h.commits ++ commit ∷ []) image (applied (stored_of c) commit) (all_more IsCommit h.commits commit h.good good)
     (subst (λ (ps : List (List ℕ)). IsFileOf ps image) (sym (map-append payload_of h.commits (commit ∷ []))) is)
-    (subst (Leads first_stored (h.commits ++ commit ∷ [])) (sym (resting_applied s commit)) leads)
+    (leads_then first_stored h.commits (stored_of c) commit h.leads applies)
 
-pub with_or_without : (file : List ℕ) (j : Journal) (c : Catalog) (commit : Commit) (h : IsFileOfCommits file j c) → Applies (stored_of c) commit → IsCommit commit
-    → (image : List ℕ) → HasWithOrWithout (map payload_of h.commits) (payload_of commit) image → StandsForEither (stored_of c).state (applied (stored_of c) commit).state image
-with_or_without file j c commit h applies good image has =
-    ⊎_elim (λ is. inl (before file image j c h is)) (λ is. inr (after_it file image j c commit h applies good is)) has
+pub with_or_without : (file : List ℕ) (j : Journal) (c : Catalog) (commit : Commit) (state : State) (h : IsFileOfCommits file j c)
+    → at_rest state ≡ meant (applied (stored_of c) commit) → Applies (stored_of c) commit → IsCommit commit
+    → (image : List ℕ) → HasWithOrWithout (map payload_of h.commits) (payload_of commit) image → StandsForEither (state_of c) state image
+with_or_without file j c commit state h is applies good image has =
+    ⊎_elim (λ old. inl (before file image j c h old))
+    (λ new. inr (subst (Stands image) (sym is) (after_it file image j c commit h applies good new))) has
 
-module _ {D : Type 0} (moment : D → ℕ) (left_since : D → ℕ → List ℕ → Type 0) (may_leave : D → List ℕ → Type 0)
-    (only_now : (disk : D) (image : List ℕ) → left_since disk (moment disk) image → may_leave disk image) where
-  -- a call that doesn't touch the disk
-  pub unmoved : (disk : D) (file : List ℕ) (j : Journal) (c : Catalog) (new : State) → Only file (may_leave disk) → IsFileOfCommits file j c
-      → LeavesOnly moment left_since disk disk (StandsForEither (stored_of c).state new)
-  unmoved disk file j c new only h =
-      weaker moment left_since disk disk (may_leave disk) (StandsForEither (stored_of c).state new)
-      (λ image is. inl (subst (λ (l : List ℕ). Stands l (at_rest (stored_of c).state)) (sym (only image is)) (before file file j c h h.spelled)))
-      (started moment left_since may_leave only_now disk)
+-- what a disk that isn't touched may leave
+unmoved : {D : Type 0} (moment : D → ℕ) (left_since : D → ℕ → List ℕ → Type 0) (may_leave : D → List ℕ → Type 0)
+    → ((disk : D) (image : List ℕ) → left_since disk (moment disk) image → may_leave disk image)
+    → (disk : D) (file : List ℕ) (j : Journal) (c : Catalog) (new : State) → Only file (may_leave disk) → IsFileOfCommits file j c
+    → LeavesOnly moment left_since disk disk (StandsForEither (state_of c) new)
+unmoved moment left_since may_leave only_now disk file j c new only h =
+    weaker moment left_since disk disk (may_leave disk) (StandsForEither (state_of c) new)
+    (λ image is. inl (subst (λ (l : List ℕ). Stands l (at_rest (state_of c))) (sym (only image is)) (stands_for file j c h)))
+    (started moment left_since may_leave only_now disk)
+
+pub leaves_still : {D : Type 0} {seen : Ghosts D} (only_now : (disk : D) (image : List ℕ) → seen.left_since disk (seen.moment disk) image → seen.may_leave disk image)
+    → (old new : Warehouse D seen) (state : State) → new.disk ≡ old.disk → Leaves old new state
+leaves_still {D} {seen} only_now old new state same = record {
+  each = λ file told only filed. subst (λ (disk : D). LeavesOnly seen.moment seen.left_since old.disk disk (StandsForEither (state_of old.catalog) state)) (sym same)
+      (unmoved seen.moment seen.left_since seen.may_leave only_now old.disk file old.journal old.catalog state only (filed.each file told));
+}

@@ -6,7 +6,7 @@ use Rattle.std.specs.Prelude.{List, map}
 use Rattle.std.specs.List.{AllByRecursion}
 use Rattle.wh_value.specs.Value.{IsRow}
 use Rattle.wh_value.specs.View.{column_of}
-use Rattle.wh_machine.specs.Table.{Column}
+use Rattle.wh_value.specs.Column.{Column}
 use Rattle.wh_machine.specs.Statement.{Statement, CreateTable, InsertValues, SelectAll}
 use Rattle.wh_engine.specs.declared.built.NewTable.{NewTable}
 use Rattle.wh_engine.specs.declared.built.Built.{Built}

@@ -1,10 +1,13 @@
 pub mod Fault
+pub mod Event
+pub mod Decision
 pub mod Warehouse
-pub mod Occasion
+pub mod Answers
+pub mod Halts
+pub mod Leaves
 pub mod Built
 pub mod Literals
 pub mod Forms
-pub mod Limits
-pub mod Plan
+pub mod Names
 pub mod Replay
 pub mod Laws

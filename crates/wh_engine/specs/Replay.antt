@@ -1,13 +1,14 @@
--- How the payloads of a file lead from one state to another.
+-- How the payloads of a file lead from what a file says to what a longer one says.
 --     Replays     through commits that they spell
 --     Carries     through one commit
 --     CarriesNone     no commit that a payload spells applies
 --     StraysAt        one of them carries none, and this is the position of its record
 use Rattle.std.specs.Prelude.{◌≡◌, ℕ, List, ◌∷◌, ◌++◌, length, map}
 use Rattle.std.specs.List.{AllByRecursion}
-use Rattle.wh_machine.specs.Commit.{Commit, Stored, first_stored, Applies, applied, Leads}
+use Rattle.wh_frame.specs.File.{records_of}
+use Rattle.wh_machine.specs.Stored.{Stored, first_stored}
+use Rattle.wh_machine.specs.Commit.{Commit, Applies, applied, Leads}
 use Rattle.wh_machine.specs.Spelling.{payload_of, IsCommit}
-use Rattle.wh_machine.specs.File.{records_of}
 
 pub record Replays (from : Stored) (payloads : List (List ℕ)) (to : Stored) : Type 0 where
   pub commits : List Commit

@@ -1,49 +1,52 @@
 -- What contracts say of a `Warehouse`.
---     state_of     the machine's state
---     Filed        where the disk's bytes are told, they are a file of commits that lead to this state at rest
---     StandsForEither     what a crash leaves while a command leads from one state to another
---     IsUntouched  a halt left all as it was
---     command      the event of a command
-use Rattle.std.specs.Prelude.{◌≡◌, ◌≤◌, ◌⊎◌, ℕ, List, map, Option, Some}
+--     Filed               where the disk's bytes are told, they are a file of commits that lead to what the catalog says
+--     IsSettled           where bytes are told, a crash leaves them as they are
+--     IsUntouched         disk, journal and catalog are as they were
+--     made_in, led_to     the commit that an event makes, and the state that it leads to
+--     state_with          the state at a stamp, with a commit or without
+use Rattle.std.specs.Prelude.{◌≡◌, ℕ, List, map, Option, Some}
 use Rattle.std.specs.List.{AllByRecursion}
-use Rattle.wh_machine.specs.Table.{State, at_rest}
-use Rattle.wh_machine.specs.Step.{Event, Command}
-use Rattle.wh_machine.specs.Commit.{Commit, first_stored, resting, Leads}
+use Rattle.wh_frame.specs.File.{IsFileOf}
+use Rattle.wh_machine.specs.State.{State}
+use Rattle.wh_machine.specs.Step.{Event, step, stamped}
+use Rattle.wh_machine.specs.Stored.{Stored, first_stored, meant}
+use Rattle.wh_machine.specs.Commit.{Commit, Leads}
 use Rattle.wh_machine.specs.Spelling.{payload_of, IsCommit}
-use Rattle.wh_machine.specs.File.{IsFileOf, Stands}
-use Rattle.wh_stmt_parse.specs.Request.{request_of}
+use Rattle.wh_machine.specs.Written.{made, kept_after}
+use Rattle.wh_world.specs.Crash.{Only}
+use Rattle.wh_world.specs.declared.disk.Disk.{Ghosts}
 use Rattle.wh_journal.specs.Journal as journals
 use Rattle.wh_journal.specs.declared.journal.Journal.{Journal}
-use Rattle.wh_catalog.specs.Catalog.{stored_of}
+use Rattle.wh_catalog.specs.Catalog.{stored_of, state_of}
 use Rattle.wh_catalog.specs.declared.catalog.Catalog.{Catalog}
+use Rattle.wh_engine.specs.declared.warehouse.Warehouse.{Warehouse}
 
--- the machine's state, and the partitions of each table
-abbrev pub state_of : Catalog → State
-state_of c = (stored_of c).state
-
--- these commits are the file's, are listed by the journal, and lead to what the catalog stands for; its last commit
--- isn't later than its last stamp
+-- these commits are the file's, are listed by the journal, and lead to what the catalog says
 pub record IsFileOfCommits (file : List ℕ) (j : Journal) (c : Catalog) : Type 0 where
   pub commits : List Commit
   pub good : AllByRecursion IsCommit commits
   pub spelled : IsFileOf (map payload_of commits) file
   pub listed : journals.Lists (map payload_of commits) j
-  pub leads : Leads first_stored commits (resting (stored_of c))
-  pub ordered : (stored_of c).state.committed ≤ (stored_of c).state.last
+  pub leads : Leads first_stored commits (stored_of c)
 
 -- where bytes are told
 pub record Filed (bytes : Option (List ℕ)) (j : Journal) (c : Catalog) : Type 0 where
   pub each : (file : List ℕ) → bytes ≡ Some file → IsFileOfCommits file j c
 
--- the same disk, places and end of the journal, and the state that the catalog stands for
-pub record IsUntouched {D : Type 0} (old new : D) (j k : Journal) (c d : Catalog) : Type 0 where
-  pub disk : new ≡ old
-  pub journal : journals.IsSame j k
-  pub catalog : stored_of d ≡ stored_of c
+pub record IsSettled (bytes : Option (List ℕ)) (may_leave : List ℕ → Type 0) : Type 0 where
+  pub each : (file : List ℕ) → bytes ≡ Some file → Only file may_leave
 
--- a command's text, as what it asks for
-abbrev pub command : ℕ → ℕ → List ℕ → Event
-command reading session text = Command reading session (request_of text)
+-- the same disk, places, end, limit and fault of the journal, and what the catalog says
+pub record IsUntouched {D : Type 0} {seen : Ghosts D} (old new : Warehouse D seen) : Type 0 where
+  pub disk : new.disk ≡ old.disk
+  pub journal : journals.IsSame old.journal new.journal
+  pub stored : stored_of new.catalog ≡ stored_of old.catalog
 
-abbrev pub StandsForEither : State → State → List ℕ → Type 0
-StandsForEither old new image = Stands image (at_rest old) ⊎ Stands image (at_rest new)
+abbrev pub made_in : {D : Type 0} {seen : Ghosts D} → Warehouse D seen → Event → Option Commit
+made_in w event = made (stored_of w.catalog) (state_of w.catalog) event
+
+abbrev pub led_to : {D : Type 0} {seen : Ghosts D} → Warehouse D seen → Event → State
+led_to w event = (step (state_of w.catalog) event).0
+
+abbrev pub state_with : Stored → ℕ → Option Commit → State
+state_with s stamp commit = stamped (meant (kept_after s commit)) stamp

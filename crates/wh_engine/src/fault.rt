@@ -1,5 +1,5 @@
 use std::alloc::{AllocError, AllocFailed};
-use wh_catalog::ReserveFault;
+use wh_catalog::StageFault;
 use wh_journal::{AppendFault, ReadFault};
 
 /// Why a warehouse could not be opened.
@@ -35,13 +35,13 @@ impl From<AllocError> for Halt {
 }
 
 // A commit that doesn't apply is made only over a state that no command leaves.
-impl From<ReserveFault> for Halt {
+impl From<StageFault> for Halt {
     ghost use Rattle.std.specs.Prelude.{◌≡◌};
     ghost use Rattle.wh_engine.specs.declared.fault.Halt.TheVariants.{OutOfMemory};
 
     ghost from_gives = { λ _ halt. halt ≡ OutOfMemory };
 
-    fn from(_: ReserveFault) -> Self {
+    fn from(_: StageFault) -> Self {
         Halt::OutOfMemory
     }
 }

@@ -3,27 +3,26 @@
 #![tactic(auto)]
 
 mod built;
-mod create;
-mod cut;
-mod exec;
+mod carrying;
+mod deciding;
+mod decision;
+mod event;
 mod fault;
-mod finish;
 mod forms;
-mod insert;
 mod laws;
 mod limits;
 mod literals;
-mod occasion;
+mod names;
 mod open;
-mod plan;
-mod planning;
+mod queries;
 mod replay;
-mod select;
+mod rows;
+mod tables;
 #[cfg(test)]
 mod tests;
-mod turn;
 mod warehouse;
 
+pub use event::Event;
 pub use fault::{Halt, OpenFault};
 pub use laws::refusals_change_nothing;
 pub use warehouse::Warehouse;

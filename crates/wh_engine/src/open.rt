@@ -8,19 +8,21 @@ use wh_world::Disk;
 
 impl<D: Disk> Warehouse<D> {
     ghost use Rattle.std.specs.Prelude.{◌≡◌, ◌<◌, ◌≤◌, ◌^◌, ℕ, List, Some, None, length, is_some, IfOk, IfErr};
-    ghost use Rattle.wh_world.specs.Told.{Rose};
-    ghost use Rattle.wh_machine.specs.Table.{at_rest};
-    ghost use Rattle.wh_machine.specs.File.{Stands, GateEndsAt};
+    ghost use Rattle.wh_frame.specs.File.{GateEndsAt};
+    ghost use Rattle.wh_machine.specs.Stored.{Means};
+    ghost use Rattle.wh_machine.specs.File.{Keeps};
     ghost use Rattle.wh_machine.specs.Fault.{IsFirstFault};
+    ghost use Rattle.wh_world.specs.Told.{Rose};
     ghost use Rattle.wh_world.specs.Crash.{Only};
     ghost use Rattle.wh_journal.specs.Crash.{LeavesOnly, IsKeptOrShort};
     ghost use Rattle.wh_journal.specs.Journal.{end_of, limit_of, failed_of};
-    ghost use Rattle.wh_engine.specs.Warehouse.{state_of, Filed};
+    ghost use Rattle.wh_catalog.specs.Catalog.{stored_of, state_of};
+    ghost use Rattle.wh_engine.specs.Warehouse.{Filed, IsSettled};
 
     /// The warehouse of a file of at most `limit` bytes. A file of at most 8 bytes is written anew.
     /// A fault hands the disk back.
     pub fn open(
-        rt: &(impl Threads + Sync),
+        _rt: &(impl Threads + Sync),
         alloc: Global,
         disk: D,
         workers: u32,
@@ -31,10 +33,10 @@ impl<D: Disk> Warehouse<D> {
         requires some { 8 ≤ limit }
         requires most { limit ≤ 2 ^ 40 }
 
-        // The file stands for the state, which is at rest.
+        // What the file says, and the state that is meant.
         ensures opened { IfOk result (λ w. (file : List ℕ) → D.bytes disk ≡ Some file →
-            Stands file (state_of w.catalog)) }
-        ensures at_rest { IfOk result (λ w. at_rest (state_of w.catalog) ≡ state_of w.catalog) }
+            Keeps file (stored_of w.catalog)) }
+        ensures means { IfOk result (λ w. Means (stored_of w.catalog) (state_of w.catalog)) }
         ensures filed { IfOk result (λ w. Filed (D.bytes w.disk) w.journal w.catalog) }
         ensures told { IfOk result (λ w. is_some (D.bytes w.disk) ≡ is_some (D.bytes disk)) }
 
@@ -42,8 +44,7 @@ impl<D: Disk> Warehouse<D> {
         // as it was, and a short one short.
         ensures ends { IfOk result (λ w. (file : List ℕ) → D.bytes disk ≡ Some file →
             GateEndsAt file (end_of w.journal)) }
-        ensures durable { IfOk result (λ w. (file : List ℕ) → D.bytes w.disk ≡ Some file →
-            Only file (D.may_leave w.disk)) }
+        ensures durable { IfOk result (λ w. IsSettled (D.bytes w.disk) (D.may_leave w.disk)) }
         ensures any_moment { IfOk result (λ w. (file : List ℕ) → D.bytes disk ≡ Some file →
             Only file (D.may_leave disk) →
             LeavesOnly D.moment D.left_since disk w.disk (IsKeptOrShort file)) }
@@ -51,17 +52,20 @@ impl<D: Disk> Warehouse<D> {
             Only file (D.may_leave disk) →
             LeavesOnly D.moment D.left_since disk e.1 (IsKeptOrShort file)) }
 
-        // The file stands for no state, and this is the position of its first fault.
+        // The file stands for no state, and this is the position of its first fault. It stays as it
+        // was, and is what a crash leaves.
         ensures not_warehouse { IfErr result (λ e. (at : ℕ) (file : List ℕ) →
             e.0 ≡ OpenFault.NotWarehouse at → D.bytes disk ≡ Some file →
-            (8 < length file) × IsFirstFault file at × (D.bytes e.1 ≡ Some file)) }
+            (8 < length file) × IsFirstFault file at × (D.bytes e.1 ≡ Some file)
+            × Only file (D.may_leave e.1)) }
         ensures disk_fault { IfErr result (λ e. e.0 ≡ OpenFault.DiskFault →
             Rose (D.faults disk) (D.faults e.1)) }
 
         // Over any disk.
         ensures healthy { IfOk result (λ w. failed_of w.journal ≡ None) }
         ensures limit { IfOk result (λ w. limit_of w.journal ≡ limit) }
-        ensures later { IfOk result (λ w. D.faults disk ≤ D.faults w.disk) }
+        ensures no_fault { IfOk result (λ w. D.faults w.disk ≡ D.faults disk) }
+        ensures later { IfErr result (λ e. D.faults disk ≤ D.faults e.1) }
     {
         let mut disk = disk;
         match read(alloc, &mut disk, limit) {
@@ -77,39 +81,40 @@ impl<D: Disk> Warehouse<D> {
 }
 
 ghost use Rattle.std.specs.Prelude.{◌≡◌, ◌<◌, ◌≤◌, ◌^◌, ℕ, List, Some, None, length, is_some, IfOk, OnOk, IsErrOf};
-ghost use Rattle.wh_world.specs.Told.{Rose};
-ghost use Rattle.wh_machine.specs.Commit.{resting};
-ghost use Rattle.wh_machine.specs.File.{Stands, GateEndsAt};
+ghost use Rattle.wh_frame.specs.File.{GateEndsAt};
+ghost use Rattle.wh_machine.specs.Stored.{Means};
+ghost use Rattle.wh_machine.specs.File.{Keeps};
 ghost use Rattle.wh_machine.specs.Fault.{IsFirstFault};
+ghost use Rattle.wh_world.specs.Told.{Rose};
 ghost use Rattle.wh_world.specs.Crash.{Only};
 ghost use Rattle.wh_journal.specs.Crash.{LeavesOnly, IsKeptOrShort};
 ghost use Rattle.wh_journal.specs.Journal.{end_of, limit_of, failed_of};
-ghost use Rattle.wh_catalog.specs.Catalog.{stored_of};
-ghost use Rattle.wh_engine.specs.Warehouse.{state_of, Filed};
+ghost use Rattle.wh_catalog.specs.Catalog.{stored_of, state_of};
+ghost use Rattle.wh_engine.specs.Warehouse.{Filed, IsSettled};
 
 // The journal of a file, and the catalog to which it leads.
 fn read<D: Disk>(alloc: Global, disk: &mut D, limit: u64) -> Result<(Journal, Catalog), OpenFault>
     requires some { 8 ≤ limit }
     requires most { limit ≤ 2 ^ 40 }
     ensures opened { IfOk result (λ r. (file : List ℕ) → D.bytes disk.old ≡ Some file →
-        Stands file (state_of r.1)) }
-    ensures rest { IfOk result (λ r. resting (stored_of r.1) ≡ stored_of r.1) }
+        Keeps file (stored_of r.1)) }
+    ensures means { IfOk result (λ r. Means (stored_of r.1) (state_of r.1)) }
     ensures filed { IfOk result (λ r. Filed (D.bytes disk.new) r.0 r.1) }
     ensures told { OnOk result (is_some (D.bytes disk.new) ≡ is_some (D.bytes disk.old)) }
     ensures reach { IfOk result (λ r. end_of r.0 ≤ D.size disk.new) }
     ensures healthy { IfOk result (λ r. failed_of r.0 ≡ None) }
     ensures limit { IfOk result (λ r. limit_of r.0 ≡ limit) }
+    ensures no_fault { OnOk result (D.faults disk.new ≡ D.faults disk.old) }
     ensures later { D.faults disk.old ≤ D.faults disk.new }
     ensures ends { IfOk result (λ r. (file : List ℕ) → D.bytes disk.old ≡ Some file →
         GateEndsAt file (end_of r.0)) }
-    ensures durable { OnOk result ((file : List ℕ) → D.bytes disk.new ≡ Some file →
-        Only file (D.may_leave disk.new)) }
+    ensures durable { OnOk result (IsSettled (D.bytes disk.new) (D.may_leave disk.new)) }
     ensures any_moment { (file : List ℕ) → D.bytes disk.old ≡ Some file →
         Only file (D.may_leave disk.old) →
         LeavesOnly D.moment D.left_since disk.old disk.new (IsKeptOrShort file) }
     ensures not_warehouse { (at : ℕ) (file : List ℕ) → IsErrOf result (OpenFault.NotWarehouse at) →
         D.bytes disk.old ≡ Some file → (8 < length file) × IsFirstFault file at
-        × (D.bytes disk.new ≡ Some file) }
+        × (D.bytes disk.new ≡ Some file) × Only file (D.may_leave disk.new) }
     ensures disk_fault { IsErrOf result OpenFault.DiskFault →
         Rose (D.faults disk.old) (D.faults disk.new) }
 {

@@ -1,21 +1,21 @@
 ghost use Rattle.std.specs.Prelude.{◌≡◌, ◌+◌, ◌<◌, ◌≤◌, ◌++◌, ℕ, List, Some, length, take, slice_get, IfOk, OnOk, IsErrOf};
 ghost use Rattle.wh_world.specs.Told.{Rose};
 ghost use Rattle.wh_world.specs.Crash.{NoOthers};
-ghost use Rattle.wh_machine.specs.Commit.{first_stored, resting};
-ghost use Rattle.wh_machine.specs.File.{records_of};
+ghost use Rattle.wh_frame.specs.File.{records_of};
+ghost use Rattle.wh_machine.specs.Stored.{first_stored, Means};
 ghost use Rattle.wh_journal.specs.Journal.{Lists, end_of, count_of};
 ghost use Rattle.wh_journal.specs.Crash.{LeavesOnly};
-ghost use Rattle.wh_catalog.specs.Catalog.{stored_of};
+ghost use Rattle.wh_catalog.specs.Catalog.{stored_of, state_of};
 ghost use Rattle.wh_engine.specs.Replay.{Replays, StraysAt, Carries, CarriesNone};
 
 use crate::OpenFault;
 use std::alloc::Global;
-use wh_catalog::{Catalog, ReserveFault};
+use wh_catalog::{Catalog, StageFault};
 use wh_journal::Journal;
 use wh_record::Commit;
 use wh_world::Disk;
 
-// The catalog to which the commits of a file lead, one after the other. It is at rest.
+// The catalog to which the commits of a file lead, one after the other.
 pub(crate) fn replay<D: Disk>(
     alloc: Global,
     disk: &mut D,
@@ -33,12 +33,13 @@ pub(crate) fn replay<D: Disk>(
         Lists payloads journal.now → StraysAt payloads at }
 
     // Over any disk.
-    ensures rest { IfOk result (λ catalog. resting (stored_of catalog) ≡ stored_of catalog) }
+    ensures means { IfOk result (λ catalog. Means (stored_of catalog) (state_of catalog)) }
     ensures some { (at : ℕ) → IsErrOf result (OpenFault.NotWarehouse at) →
         0 < count_of journal.now }
     ensures same { (D.bytes disk.new ≡ D.bytes disk.old) × (D.size disk.new ≡ D.size disk.old) }
     ensures crash { NoOthers (D.may_leave disk.old) (D.may_leave disk.new) }
     ensures any_moment { LeavesOnly D.moment D.left_since disk.old disk.new (D.may_leave disk.old) }
+    ensures no_fault { OnOk result (D.faults disk.new ≡ D.faults disk.old) }
     ensures later { D.faults disk.old ≤ D.faults disk.new }
     ensures disk_fault { IsErrOf result OpenFault.DiskFault →
         Rose (D.faults disk.old) (D.faults disk.new) }
@@ -74,11 +75,11 @@ fn replay_at<D: Disk>(
         × (place ≡ length (records_of (take at payloads))) }
 
     // Over any disk.
-    ensures rest { resting (stored_of catalog.old) ≡ stored_of catalog.old →
-        OnOk result (resting (stored_of catalog.new) ≡ stored_of catalog.new) }
+    ensures means { OnOk result (Means (stored_of catalog.new) (state_of catalog.new)) }
     ensures same { (D.bytes disk.new ≡ D.bytes disk.old) × (D.size disk.new ≡ D.size disk.old) }
     ensures crash { NoOthers (D.may_leave disk.old) (D.may_leave disk.new) }
     ensures any_moment { LeavesOnly D.moment D.left_since disk.old disk.new (D.may_leave disk.old) }
+    ensures no_fault { OnOk result (D.faults disk.new ≡ D.faults disk.old) }
     ensures later { D.faults disk.old ≤ D.faults disk.new }
     ensures disk_fault { IsErrOf result OpenFault.DiskFault →
         Rose (D.faults disk.old) (D.faults disk.new) }
@@ -98,6 +99,7 @@ fn carry_out(
 ) -> Result<(), OpenFault>
     ensures carried { OnOk result
         (Carries payload.now (stored_of catalog.old) (stored_of catalog.new)) }
+    ensures means { OnOk result (Means (stored_of catalog.new) (state_of catalog.new)) }
     ensures strays { (place : ℕ) → IsErrOf result (OpenFault.NotWarehouse place) →
         CarriesNone payload.now (stored_of catalog.old) × (place ≡ gate) }
     ensures no_disk { IsErrOf result OpenFault.DiskFault → ⊥ }
@@ -106,12 +108,9 @@ fn carry_out(
         return Err(OpenFault::NotWarehouse { at: gate });
     };
     let commit = decoded?;
-    match catalog.reserve(&commit) {
-        Ok(()) => {
-            catalog.apply(commit);
-            Ok(())
-        }
-        Err(ReserveFault::OutOfMemory) => Err(OpenFault::OutOfMemory),
-        Err(ReserveFault::NotApplicable) => Err(OpenFault::NotWarehouse { at: gate }),
+    match catalog.stage(commit) {
+        Ok(_undo) => Ok(()),
+        Err(StageFault::OutOfMemory) => Err(OpenFault::OutOfMemory),
+        Err(StageFault::NotApplicable) => Err(OpenFault::NotWarehouse { at: gate }),
     }
 }

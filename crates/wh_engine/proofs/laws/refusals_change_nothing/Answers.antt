@@ -1,5 +1,5 @@
-use Rattle.wh_engine.proofs.LawLemmas as lemmas
+use Rattle.wh_machine.proofs.StepLaws as laws
 use Rattle.wh_engine.proofs.laws.refusals_change_nothing.Goals as goal
 
 pub returns : goal.returns
-returns c = lemmas.refusals_change_nothing
+returns c = laws.refusals_change_nothing

@@ -1,9 +1,5 @@
-use Rattle.wh_machine.specs.Commit.{resting}
-use Rattle.wh_catalog.specs.Catalog.{stored_of}
-use Rattle.wh_engine.proofs.FileLemmas.{stands}
+use Rattle.wh_engine.proofs.FileLemmas.{stands_for}
 use Rattle.wh_engine.proofs.warehouse.Warehouse.close.Goals as goal
 
 pub returns-clause-stands : goal.returns-clause-stands
-returns-clause-stands g c = λ filed file told.
-    let h = filed.each file told in
-    stands h.commits file (resting (stored_of c.args.self.catalog)) h.good h.spelled h.leads
+returns-clause-stands g c = λ filed file told. stands_for file c.args.self.journal c.args.self.catalog (filed.each file told)

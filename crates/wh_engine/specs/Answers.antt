@@ -1,0 +1,35 @@
+-- What a call that goes well makes of a warehouse.
+--     CarriesOut     a commit is added, where there is one, and the state is that
+--     Answered       an event is carried out, and that is its reply
+use Rattle.std.specs.Prelude.{◌≡◌, ◌+◌, Option, Some, None, is_some, false}
+use Rattle.wh_machine.specs.State.{State}
+use Rattle.wh_machine.specs.Step.{Event, step}
+use Rattle.wh_machine.specs.Commit.{Commit}
+use Rattle.wh_machine.specs.Written.{kept_after, added_length, is_beyond}
+use Rattle.wh_reply.specs.Reply.{Reply}
+use Rattle.wh_world.specs.declared.disk.Disk.{Ghosts}
+use Rattle.wh_journal.specs.Journal.{end_of, limit_of, failed_of}
+use Rattle.wh_catalog.specs.Catalog.{stored_of, state_of}
+use Rattle.wh_engine.specs.Warehouse.{Filed, IsSettled, made_in, led_to}
+use Rattle.wh_engine.specs.declared.warehouse.Warehouse.{Warehouse}
+
+pub record CarriesOut {D : Type 0} {seen : Ghosts D} (old new : Warehouse D seen) (commit : Option Commit) (state : State) : Type 0 where
+  pub stepped : state_of new.catalog ≡ state
+  pub stored : stored_of new.catalog ≡ kept_after (stored_of old.catalog) commit
+  -- the file goes with the state, and what was all on the disk still is
+  pub filed : Filed (seen.bytes old.disk) old.journal old.catalog → Filed (seen.bytes new.disk) new.journal new.catalog
+  pub told : is_some (seen.bytes new.disk) ≡ is_some (seen.bytes old.disk)
+  pub durable : IsSettled (seen.bytes old.disk) (seen.may_leave old.disk) → IsSettled (seen.bytes new.disk) (seen.may_leave new.disk)
+  -- without a commit the disk isn't touched
+  pub kept : commit ≡ None → new.disk ≡ old.disk
+  -- there was room, and it is taken
+  pub room : is_beyond (limit_of old.journal) (end_of old.journal) commit ≡ false
+  pub grows : end_of new.journal ≡ end_of old.journal + added_length commit
+  -- nothing failed before, or now
+  pub healthy : failed_of old.journal ≡ None
+  pub still_healthy : failed_of new.journal ≡ None
+  pub no_fault : seen.faults new.disk ≡ seen.faults old.disk
+
+pub record Answered {D : Type 0} {seen : Ghosts D} (old new : Warehouse D seen) (event : Event) (reply : Reply) : Type 0 where
+  pub replied : reply ≡ (step (state_of old.catalog) event).1
+  pub carried : CarriesOut old new (made_in old event) (led_to old event)
