@@ -115,6 +115,12 @@ fn is_refused(catalog: &mut Catalog, commit: Commit) -> bool {
     }
 }
 
+fn pass_on(catalog: &mut Catalog) {
+    if catalog.last() < 20 {
+        catalog.pass(20);
+    }
+}
+
 // Whether the table of an id lists these numbers, in its one column.
 fn lists(alloc: Global, catalog: &Catalog, id: u32, numbers: &[i64]) -> Result<bool, Fail> {
     let table = catalog.table(id).ok_or("no table")?;
@@ -145,7 +151,7 @@ fn a_version_is_listed_and_undone(rt: HostRuntime) -> Result<(), Fail> {
     let added = partitions(alloc, &[(2, 6, 5), (3, 9, 11), (4, 2, 3)])?;
     let pushed = version(alloc, 15, 1, 13, 10, &[1], added)?;
     let undo = carry_out(&mut catalog, pushed)?;
-    catalog.pass(20);
+    pass_on(&mut catalog);
     assert!(rt; lists(alloc, &catalog, 1, &[3, 5, 11])?, "the new version");
     assert_eq!(rt; catalog.last(), 20);
     catalog.undo(undo);
