@@ -45,7 +45,9 @@ fn words<R: Env + AllocGlobal>(rt: &R) -> Result<Vec<String>, Status>
 {
     let arguments = match env::args(rt) {
         Ok(arguments) => arguments,
-        Err(error) if error.kind() == ErrorKind::OutOfMemory => return Err(Status::Stopped(Fault::OutOfMemory)),
+        Err(error) if error.kind() == ErrorKind::OutOfMemory => return Err(Status::Stopped(
+            Fault::OutOfMemory,
+        )),
         // A word is no text.
         Err(_) => return Err(Status::Usage),
     };

@@ -81,8 +81,7 @@ fn addition(
     stamp: u64,
     table: &StoredTable,
     rows: Vec<Row>,
-) -> Result<VersionChange, AllocError>
-{
+) -> Result<VersionChange, AllocError> {
     let first = table.next_row();
     let next_row = first + rows.len() as u64;
     Ok(VersionChange {

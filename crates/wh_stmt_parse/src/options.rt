@@ -5,8 +5,8 @@ ghost use Rattle.wh_stmt_parse.specs.Parts as spec;
 
 use sqlite_items::Items;
 use std::alloc::Global;
-use wh_dml_parse::names;
 use wh_cursor::{Key, ParseFault, Words};
+use wh_dml_parse::names;
 use wh_value::Text;
 
 /// `DATA_RETENTION_TIME_IN_DAYS = number`, or nothing.
