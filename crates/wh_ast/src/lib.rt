@@ -2,13 +2,10 @@
 //! and parentheses are gone. Contracts see plain trees.
 #![tactic(auto)]
 
-mod copies;
 mod dml;
 mod expr;
 mod query;
 mod statement;
-#[cfg(test)]
-mod tests;
 
 pub use dml::{Assignment, Dml, MergeClause, Rows};
 pub use expr::{Expr, Operator};

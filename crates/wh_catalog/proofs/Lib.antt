@@ -1,2 +1,9 @@
 pub mod Places
 pub mod Objects
+pub mod Apart
+pub mod Conditions
+pub mod NumberedRows
+pub mod Listed
+pub mod Pushed
+pub mod Columns
+pub mod Standing

@@ -1,5 +1,8 @@
 pub mod Apart
+pub mod Listing
+pub mod Conditions
 pub mod Kept
 pub mod Table
 pub mod Catalog
+pub mod Back
 pub mod Undo

@@ -1,29 +1,20 @@
 -- What it takes to undo a commit.
 --     undone     the objects before steps that were taken one after the other
 --     Undoes     leads back from a catalog to what it was
-use Rattle.std.specs.Prelude.{◌≡◌, ℕ, List, [], ◌∷◌}
+use Rattle.std.specs.Prelude.{◌≡◌, List, [], ◌∷◌}
 use Rattle.wh_machine.specs.State.{changed_at}
-use Rattle.wh_version.specs.Lists.{but_last, shortened}
+use Rattle.wh_version.specs.Lists.{but_last}
 use Rattle.wh_catalog.specs.declared.catalog.Catalog.{Catalog}
 use Rattle.wh_catalog.specs.declared.undo.Step.{Step}
 use Rattle.wh_catalog.specs.declared.undo.Step.TheVariants.{MadeObject, PushedVersion}
 use Rattle.wh_catalog.specs.declared.undo.Undo.{Undo}
-use Rattle.wh_catalog.specs.Kept.{KeptTable, KeptKind, KeptTableKind, KeptObject}
+use Rattle.wh_catalog.specs.Kept.{KeptObject}
+use Rattle.wh_catalog.specs.Back.{object_taken_back}
 use Rattle.wh_catalog.specs.Catalog.{kept_of}
-
--- a table without its last version
-abbrev pub taken_back : ℕ → KeptTable → KeptTable
-taken_back next_row t = record t { next_row = next_row; versions = shortened t.versions; nexts = shortened t.nexts }
-
-abbrev pub kind_taken_back : ℕ → KeptKind → KeptKind
-kind_taken_back next_row (KeptTableKind t) = KeptTableKind (taken_back next_row t)
-
-abbrev pub object_taken_back : ℕ → KeptObject → KeptObject
-object_taken_back next_row o = record o { kind = kind_taken_back next_row o.kind }
 
 abbrev pub step_undone : Step → List KeptObject → List KeptObject
 step_undone MadeObject objects = but_last objects
-step_undone (PushedVersion id next_row) objects = changed_at objects id (object_taken_back next_row)
+step_undone (PushedVersion p) objects = changed_at objects p.id (object_taken_back p.next_row)
 
 -- the last step is undone first
 abbrev pub undone : List Step → List KeptObject → List KeptObject

@@ -1,8 +1,15 @@
 //! The catalog: objects in order of creation, tables with their versions, and the commits that change them.
 #![tactic(auto, unfolding(crate::specs::Table::kept_table, crate::specs::Catalog::kept_of, crate::specs::Catalog::stored_of, crate::specs::Catalog::state_of))]
 
+mod carrying;
 mod catalog;
+mod comparing;
+mod creating;
+mod fitting;
+mod listing;
+mod numbers;
 mod object;
+mod pushing;
 mod stage;
 mod table;
 mod undo;
@@ -12,3 +19,6 @@ pub use object::{StoredKind, StoredObject};
 pub use stage::StageFault;
 pub use table::StoredTable;
 pub use undo::Undo;
+
+#[cfg(test)]
+mod tests;

@@ -1,5 +1,7 @@
+use crate::undo::Step;
 use crate::{Catalog, Undo};
-use wh_record::Commit;
+use wh_record::{Change, Commit};
+use wh_value::Limit;
 
 /// Why a commit isn't carried out.
 #[derive(Clone, Copy, Debug, PartialEq, Eq)]
@@ -10,11 +12,11 @@ pub enum StageFault {
 }
 
 impl Catalog {
-    ghost use Rattle.std.specs.Prelude.{◌≡◌, OnOk, IfOk, OnErr, IsErrOf};
-    ghost use Rattle.wh_machine.specs.Commit.{Applies, applied};
-    ghost use Rattle.wh_record.specs.View.{commit_of};
-    ghost use Rattle.wh_catalog.specs.Catalog.{stored_of, state_of};
-    ghost use Rattle.wh_catalog.specs.Undo.{Undoes};
+    ghost use Rattle.std.specs.Prelude.{◌≡◌, [], map, OnOk, IfOk, OnErr, IsErrOf};
+    ghost use Rattle.wh_machine.specs.Commit.{Applies, applied, AllApply, all_changed};
+    ghost use Rattle.wh_record.specs.View.{commit_of, change_of};
+    ghost use Rattle.wh_catalog.specs.Catalog.{stored_of, state_of, objects_of, kept_of};
+    ghost use Rattle.wh_catalog.specs.Undo.{undone, Undoes};
 
     /// Carries out a commit, each of its changes tested on what those before it left. The result
     /// takes it back.
@@ -29,7 +31,58 @@ impl Catalog {
         ensures same { OnErr result (stored_of self.new ≡ stored_of self.old) }
         ensures same_state { OnErr result (state_of self.new ≡ state_of self.old) }
     {
-        Err(StageFault::OutOfMemory)
+        let Commit { stamp, changes } = commit;
+        if stamp <= self.committed || Limit::Stamp.bound() <= stamp {
+            return Err(StageFault::NotApplicable);
+        }
+        let last = self.last;
+        let committed = self.committed;
+        let mut steps = Vec::new(self.alloc);
+        match self.carry_out_all(changes, stamp, &mut steps) {
+            Ok(()) => {
+                self.last = stamp;
+                self.committed = stamp;
+                Ok(Undo {
+                    last,
+                    committed,
+                    steps,
+                })
+            }
+            Err(fault) => {
+                self.take_back_all(steps);
+                Err(fault)
+            }
+        }
+    }
+
+    // Carries out changes one after the other, up to one that can't be, and keeps what takes them
+    // back.
+    fn carry_out_all(
+        &mut self,
+        changes: Vec<Change>,
+        stamp: u64,
+        steps: &mut Vec<Step>,
+    ) -> Result<(), StageFault>
+        requires { steps.old.items ≡ [] }
+        ensures apply { OnOk result (AllApply stamp (objects_of self.old) (map change_of changes.items)) }
+        ensures changed { OnOk result (objects_of self.new
+            ≡ all_changed stamp (objects_of self.old) (map change_of changes.items)) }
+        ensures not_applicable { IsErrOf result StageFault.NotApplicable
+            → AllApply stamp (objects_of self.old) (map change_of changes.items) → ⊥ }
+        ensures back { undone steps.new.items (kept_of self.new) ≡ kept_of self.old }
+        ensures last { self.new.last ≡ self.old.last }
+        ensures committed { self.new.committed ≡ self.old.committed }
+    {
+        for change in changes {
+            if steps.reserve(1).is_err() {
+                return Err(StageFault::OutOfMemory);
+            }
+            match self.carry_out(change, stamp) {
+                Ok(step) => steps.push_reserved(step),
+                Err(fault) => return Err(fault),
+            }
+        }
+        Ok(())
     }
 
     /// Takes back what was staged. Takes no memory, and can't fail.
@@ -39,7 +92,24 @@ impl Catalog {
         ensures state { (before : Catalog) → Undoes undo self.old before
             → state_of self.new ≡ state_of before }
     {
-        self.last = undo.last;
-        self.committed = undo.committed;
+        let Undo {
+            last,
+            committed,
+            steps,
+        } = undo;
+        self.take_back_all(steps);
+        self.last = last;
+        self.committed = committed;
+    }
+
+    // Takes steps back, the last one first.
+    fn take_back_all(&mut self, mut steps: Vec<Step>)
+        ensures back { kept_of self.new ≡ undone steps.items (kept_of self.old) }
+        ensures last { self.new.last ≡ self.old.last }
+        ensures committed { self.new.committed ≡ self.old.committed }
+    {
+        while let Some(step) = steps.pop() {
+            self.take_back(step);
+        }
     }
 }

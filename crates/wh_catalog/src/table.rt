@@ -5,8 +5,7 @@ ghost use Rattle.wh_value.specs.declared.limit.Limit.TheVariants as limits;
 ghost use Rattle.wh_version.specs.History.{versions_of, standing_in};
 ghost use Rattle.wh_catalog.specs.Apart.{highest_number, is_apart};
 
-use std::alloc::{AllocError, Global};
-use wh_value::{Column, Row};
+use wh_value::Column;
 use wh_version::History;
 
 /// A table with all its versions.
@@ -25,14 +24,10 @@ pub struct StoredTable {
 }
 
 impl StoredTable {
-    ghost use Rattle.std.specs.Prelude.{◌≡◌, ◌≤◌, ◌^◌, map, length, IfOk};
-    ghost use Rattle.std.specs.FinMap.{values};
-    ghost use Rattle.wh_value.specs.Value.{in_order};
+    ghost use Rattle.std.specs.Prelude.{◌≡◌, ◌≤◌, ◌^◌, map, length};
     ghost use Rattle.wh_value.specs.View.{column_of};
     ghost use Rattle.wh_value.specs.Limit.{bound};
     ghost use Rattle.wh_value.specs.declared.limit.Limit.TheVariants as limits;
-    ghost use Rattle.wh_machine.specs.State.{last_rows};
-    ghost use Rattle.wh_machine.specs.Stored.{table_meant};
     ghost use Rattle.wh_catalog.specs.Table.{table_of};
 
     pub fn columns(&self) -> &[Column]
@@ -54,13 +49,5 @@ impl StoredTable {
         ensures bounded { result ≤ 2 ^ 63 }
     {
         self.history.next_partition()
-    }
-
-    /// The rows of the last version in the row order, each with memory of its own.
-    pub fn listing(&self, alloc: Global) -> Result<Vec<Row>, AllocError>
-        ensures { IfOk result (λ rows. rows.items
-            ≡ in_order (values (last_rows (table_meant (table_of self.now))))) }
-    {
-        Err(AllocError)
     }
 }

@@ -2,13 +2,19 @@ ghost use Rattle.std.specs.Prelude.{◌≤◌, ◌<◌};
 ghost use Rattle.wh_value.specs.Limit.{bound};
 ghost use Rattle.wh_value.specs.declared.limit.Limit.TheVariants as limits;
 
+/// A version that was pushed to the table of an id, whose next row was that one.
+#[derive(Debug, Drop)]
+pub(crate) struct Pushed {
+    pub(crate) id: u32,
+    pub(crate) next_row: u64,
+    ghost bounded: { next_row ≤ bound limits.RowNumber },
+}
+
 /// What was done, with what is needed to take it back.
-#[derive(Clone, Copy, Debug)]
+#[derive(Debug, Drop)]
 pub(crate) enum Step {
-    /// The last object was made.
     MadeObject,
-    /// A version was pushed to the table of an id, whose next row was that one.
-    PushedVersion { id: u32, next_row: u64 },
+    PushedVersion(Pushed),
 }
 
 /// What leads back from a commit that was staged.
@@ -19,5 +25,4 @@ pub struct Undo {
     pub(crate) steps: Vec<Step>,
     ghost stamps: { last < bound limits.Stamp },
     ghost order: { committed ≤ last },
-    ghost never: { ⊥ },
 }

@@ -12,44 +12,33 @@ use Rattle.wh_ast.specs.declared.dml.Dml.{Dml}
 use Rattle.wh_grammar.specs.Words.{is_reserved}
 use Rattle.wh_grammar.specs.Token as token
 use Rattle.wh_grammar.specs.Token.{Token, Word, SignToken}
-use Rattle.wh_grammar.specs.Expression.{IsExpr, AreExprs, last_expr, more_exprs, binds}
+use Rattle.wh_cursor.specs.Binds.{binds}
 use Rattle.wh_grammar.specs.Query as q
 use Rattle.wh_grammar.specs.Query.{IsQuery, AreCores, IsCore, IsSource, MayHaveAlias, MayHaveFilter}
 use Rattle.wh_grammar.specs.Changing as g
 use Rattle.wh_grammar.specs.Changing.{AreNames, MayHaveColumns, IsValuesRow, AreValuesRows, AreRows, IsAssignment, AreAssignments, MayHaveCondition, IsMergeClause, AreMergeClauses, IsDml}
-use Rattle.wh_expr_parse.specs.declared.key.Key.TheVariants as k
-use Rattle.wh_expr_parse.specs.State.{tail, sees}
-use Rattle.wh_expr_parse.specs.Steps.{sees_word, expect_word, eat_key}
-use Rattle.wh_expr_parse.specs.Read.{read_name, read_expr}
-use Rattle.wh_expr_parse.proofs.Combine.{lparen_reads, rparen_reads, equal_reads, sees_key_is, word_no_sign, name_reads, expr_reads, name_shorter, expr_shorter}
+use Rattle.wh_cursor.specs.declared.key.Key.TheVariants as k
+use Rattle.wh_cursor.specs.Steps.{tail, sees, sees_word, expect_word, read_name}
+use Rattle.wh_cursor.proofs.Combine.{lparen_reads, rparen_reads, equal_reads, sees_key_is, word_no_sign, name_reads, name_shorter, end-reads}
+use Rattle.wh_cursor.proofs.ListLemmas.{GivesSome, gives-last, gives-more, GivesListed, listed-last, listed-more, listed-reads}
+use Rattle.wh_expr_parse.proofs.ExprSteps.{expr_reads, exprs_read}
 use Rattle.wh_query_parse.specs.Follow.{ends_query, ends_filter}
 use Rattle.wh_query_parse.specs.Read.{read_query, read_source, read_alias, read_filter}
 use Rattle.wh_query_parse.proofs.Reading.{queries_read, sources_read, aliases_read, filters_read}
 use Rattle.wh_dml_parse.specs.Follow.{IsDmlAt, ends_names}
-use Rattle.wh_dml_parse.specs.Read.{read_names, read_exprs, read_columns, row_within, read_values_row, read_values_rows, read_rows, read_assignment, read_assignments, read_condition, read_matched, read_unmatched, read_clause, peek_word, read_clauses, read_insert, read_update, read_delete, read_merge, read_change, expect_end, read_dml}
-use Rattle.wh_dml_parse.proofs.Several.{GivesSome, gives-last, gives-more, comma-eaten, comma-ends}
+use Rattle.wh_dml_parse.specs.Read.{read_names, read_columns, row_within, read_values_row, read_values_rows, read_rows, read_assignment, read_assignments, read_condition, read_matched, read_unmatched, read_clause, peek_word, read_clauses, read_insert, read_update, read_delete, read_merge, read_change, read_dml}
+use Rattle.wh_dml_parse.proofs.Several.{comma-none}
 use Rattle.wh_dml_parse.proofs.Shorter.{row-shorter, assignment-shorter, clause-shorter}
-
-expr-reads : {d : ℕ} {ts us : List Token} {x : Expr} → IsExpr d ts x us → binds us ≡ 0 → read_expr d ts ≡ Some (x, us)
-expr-reads h e = expr_reads (record { expr = h; ends = e })
 
 -- ---- lists with commas
 
-names-give : {ts us : List Token} {names : List (List ℕ)} → AreNames ts names us → ends_names us ≡ true → GivesSome read_name (eat_key k.Comma) ts names us
-names-give (g.last_name {us = us} h) e = gives-last (name_reads h) (name_shorter h) (comma-ends us e)
-names-give (g.more_names {us = us} h more) e = gives-more (name_reads h) (name_shorter h) (comma-eaten us) (omega arith) (names-give more e)
+names-give : {ts us : List Token} {names : List (List ℕ)} → AreNames ts names us → ends_names us ≡ true → GivesListed read_name ts names us
+names-give (g.last_name {us = us} h) e = listed-last (name_reads h) (name_shorter h) (comma-none us e)
+names-give (g.more_names h more) e = listed-more (name_reads h) (name_shorter h) (names-give more e)
 
 pub names-read : {ts us : List Token} {names : List (List ℕ)} → AreNames ts names us → ends_names us ≡ true → read_names ts ≡ Some (names, us)
 unfolding read_names
-names-read {ts = ts} h e = (names-give h e).run (length ts) [] (omega arith)
-
-exprs-give : {d : ℕ} {ts us : List Token} {xs : List Expr} → AreExprs d ts xs us → binds us ≡ 0 → ends_names us ≡ true → GivesSome (read_expr d) (eat_key k.Comma) ts xs us
-exprs-give (last_expr {us = us} h) b e = gives-last (expr-reads h b) (expr_shorter h) (comma-ends us e)
-exprs-give (more_exprs {us = us} h more) b e = gives-more (expr-reads h refl) (expr_shorter h) (comma-eaten us) (omega arith) (exprs-give more b e)
-
-exprs-read : {d : ℕ} {ts us : List Token} {xs : List Expr} → AreExprs d ts xs us → binds us ≡ 0 → ends_names us ≡ true → read_exprs d ts ≡ Some (xs, us)
-unfolding read_exprs
-exprs-read {ts = ts} h b e = (exprs-give h b e).run (length ts) [] (omega arith)
+names-read h e = listed-reads (names-give h e)
 
 row-by : (d n : ℕ) (ts : List Token) {us : List Token} {xs : List Expr} → d ≡ suc n → row_within n ts ≡ Some (xs, us) → read_values_row d ts ≡ Some (xs, us)
 unfolding read_values_row
@@ -59,30 +48,30 @@ row-by d n ts e h =
     rw (some, less) h
 
 row-reads : {d : ℕ} {ts us : List Token} {xs : List Expr} → IsValuesRow d ts xs us → read_values_row d ts ≡ Some (xs, us)
-row-reads (g.values_row {d = d} {ts = ts} {us = us} h) = row-by (suc d) d (SignToken token.LParen ∷ ts) refl (rw (lparen_reads ts, exprs-read h refl refl, rparen_reads us) refl)
+row-reads (g.values_row {d = d} {ts = ts} {us = us} h) = row-by (suc d) d (SignToken token.LParen ∷ ts) refl (rw (lparen_reads ts, exprs_read h refl (comma-none (SignToken token.RParen ∷ us) refl), rparen_reads us) refl)
 
 values-give : {d : ℕ} {ts us : List Token} {found : List (List Expr)} → AreValuesRows d ts found us → ends_names us ≡ true
-    → GivesSome (read_values_row d) (eat_key k.Comma) ts found us
-values-give (g.last_row {us = us} h) e = gives-last (row-reads h) (row-shorter h) (comma-ends us e)
-values-give (g.more_rows {us = us} h more) e = gives-more (row-reads h) (row-shorter h) (comma-eaten us) (omega arith) (values-give more e)
+    → GivesListed (read_values_row d) ts found us
+values-give (g.last_row {us = us} h) e = listed-last (row-reads h) (row-shorter h) (comma-none us e)
+values-give (g.more_rows h more) e = listed-more (row-reads h) (row-shorter h) (values-give more e)
 
 values-read : {d : ℕ} {ts us : List Token} {found : List (List Expr)} → AreValuesRows d ts found us → ends_names us ≡ true → read_values_rows d ts ≡ Some (found, us)
 unfolding read_values_rows
-values-read {ts = ts} h e = (values-give h e).run (length ts) [] (omega arith)
+values-read h e = listed-reads (values-give h e)
 
 assignment-reads : {d : ℕ} {ts us : List Token} {a : Assignment} → IsAssignment d ts a us → binds us ≡ 0 → read_assignment d ts ≡ Some (a, us)
 unfolding read_assignment
-assignment-reads (g.assignment {us = us} column value) b = rw (name_reads column, equal_reads us, expr-reads value b) refl
+assignment-reads (g.assignment {us = us} column value) b = rw (name_reads column, equal_reads us, expr_reads value b) refl
 
 assignments-give : {d : ℕ} {ts us : List Token} {set : List Assignment} → AreAssignments d ts set us → binds us ≡ 0 → ends_names us ≡ true
-    → GivesSome (read_assignment d) (eat_key k.Comma) ts set us
-assignments-give (g.last_assignment {us = us} h) b e = gives-last (assignment-reads h b) (assignment-shorter h) (comma-ends us e)
-assignments-give (g.more_assignments {us = us} h more) b e = gives-more (assignment-reads h refl) (assignment-shorter h) (comma-eaten us) (omega arith) (assignments-give more b e)
+    → GivesListed (read_assignment d) ts set us
+assignments-give (g.last_assignment {us = us} h) b e = listed-last (assignment-reads h b) (assignment-shorter h) (comma-none us e)
+assignments-give (g.more_assignments h more) b e = listed-more (assignment-reads h refl) (assignment-shorter h) (assignments-give more b e)
 
 assignments-read : {d : ℕ} {ts us : List Token} {set : List Assignment} → AreAssignments d ts set us → binds us ≡ 0 → ends_names us ≡ true
     → read_assignments d ts ≡ Some (set, us)
 unfolding read_assignments
-assignments-read {ts = ts} h b e = (assignments-give h b e).run (length ts) [] (omega arith)
+assignments-read h b e = listed-reads (assignments-give h b e)
 
 -- ---- clauses of MERGE
 
@@ -94,7 +83,7 @@ columns-read (g.columns {ts = ts} {us = us} h) e = rw (sees_key_is k.LParen (Sig
 condition-reads : {d : ℕ} {ts us : List Token} {condition : Option Expr} → MayHaveCondition d ts condition us → read_condition d ts ≡ Some (condition, us)
 unfolding read_condition sees_word expect_word
 condition-reads g.no_condition = refl
-condition-reads (g.a_condition h) = rw (expr-reads h refl) refl
+condition-reads (g.a_condition h) = rw (expr_reads h refl) refl
 
 values-open : (us : List Token) → sees k.LParen (Word (codes "VALUES") ∷ us) ≡ false
 values-open us = word_no_sign k.LParen token.LParen _ us refl
@@ -187,12 +176,8 @@ change-reads (g.update table set filter) e =
     rw (name_reads table, assignments-read set behind.0 behind.1, filter-reads filter e) refl
 change-reads (g.delete table filter) e = rw (name_reads table, filter-reads filter e) refl
 change-reads (g.merge target alias source on clauses) e =
-    rw (name_reads target, alias-reads alias, source-reads source, expr-reads on (ap binds (clauses-head clauses)), clauses-read clauses e) refl
-
-end-taken : (us : List Token) → us ≡ [] → expect_end us ≡ Some (tt, us)
-unfolding expect_end
-end-taken us e = subst (λ (us : List Token). expect_end us ≡ Some (tt, us)) (sym e) refl
+    rw (name_reads target, alias-reads alias, source-reads source, expr_reads on (ap binds (clauses-head clauses)), clauses-read clauses e) refl
 
 pub dml-reads : {d : ℕ} {ts us : List Token} {x : Dml} → IsDmlAt d ts x us → read_dml d ts ≡ Some (x, us)
 unfolding read_dml
-dml-reads {us = us} h = rw (change-reads h.dml h.ends, end-taken us h.ends) refl
+dml-reads {us = us} h = rw (change-reads h.dml h.ends, end-reads us h.ends) refl

@@ -8,7 +8,7 @@ use Rattle.wh_grammar.specs.Token.{Token, Word, Quoted, SignToken}
 use Rattle.wh_grammar.specs.Name.{IsName, opens, word, quoted}
 use Rattle.wh_grammar.specs.Changing as g
 use Rattle.wh_grammar.specs.Changing.{AreNames}
-use Rattle.wh_expr_parse.proofs.Combine.{yielded}
+use Rattle.wh_cursor.proofs.Yields.{yielded}
 use Rattle.wh_dml_parse.specs.Laws.{ReadsDml, ReadsNames, TokensFixDml, NamesFrame, NamesFront}
 use Rattle.wh_dml_parse.proofs.Sound.{names-sound, dml-sound}
 use Rattle.wh_dml_parse.proofs.Complete.{names-read, dml-reads}

@@ -4,21 +4,14 @@ use Rattle.wh_ast.specs.declared.expr.Expr.{Expr}
 use Rattle.wh_ast.specs.declared.dml.Assignment.{Assignment}
 use Rattle.wh_ast.specs.declared.dml.MergeClause.{MergeClause}
 use Rattle.wh_grammar.specs.Token.{Token}
-use Rattle.wh_grammar.specs.Expression.{AreExprs, last_expr, more_exprs}
 use Rattle.wh_grammar.specs.Changing as g
 use Rattle.wh_grammar.specs.Changing.{AreNames, MayHaveColumns, IsValuesRow, IsAssignment, AreAssignments, MayHaveCondition, IsMergeClause}
-use Rattle.wh_expr_parse.proofs.Combine.{name_shorter, expr_shorter}
-
-pub exprs-shorter : {d : ℕ} {ts us : List Token} {xs : List Expr} → AreExprs d ts xs us → length us < length ts
-exprs-shorter (last_expr h) = expr_shorter h
-exprs-shorter (more_exprs h more) =
-    let one = expr_shorter h in
-    let all = exprs-shorter more in
-    omega (arith, one, all)
+use Rattle.wh_cursor.proofs.Combine.{name_shorter}
+use Rattle.wh_expr_parse.proofs.ExprSteps.{expr_shorter, exprs_shorter}
 
 pub row-shorter : {d : ℕ} {ts us : List Token} {xs : List Expr} → IsValuesRow d ts xs us → length us < length ts
 row-shorter (g.values_row h) =
-    let inside = exprs-shorter h in
+    let inside = exprs_shorter h in
     omega (arith, inside)
 
 names-shorter : {ts us : List Token} {names : List (List ℕ)} → AreNames ts names us → length us < length ts

@@ -2,8 +2,6 @@
 use Rattle.std.proofs.Common.{◌≡◌, ℕ, suc, ◌-◌, ◌==◌, Bool, true, false, if◌then◌else◌, List, [], ◌∷◌, Option, Some, None, length, refl, sym, ap, ◌∙◌, subst, arith}
 use Rattle.std.specs.Prelude.{codes}
 use Rattle.std.proofs.lemmas.Bool.Decides.{Decides-eqb, not_from_Decides}
-use Rattle.wh_ast.specs.declared.expr.Expr.{Expr}
-use Rattle.wh_ast.specs.declared.dml.Assignment.{Assignment}
 use Rattle.wh_ast.specs.declared.dml.Rows.TheVariants as rows
 use Rattle.wh_ast.specs.declared.dml.MergeClause.{MergeClause}
 use Rattle.wh_ast.specs.declared.dml.MergeClause.TheVariants as clause
@@ -11,20 +9,22 @@ use Rattle.wh_ast.specs.declared.dml.Dml.{Dml}
 use Rattle.wh_ast.specs.declared.dml.Dml.TheVariants as dml
 use Rattle.wh_grammar.specs.Token.{Token, Word}
 use Rattle.wh_grammar.specs.Name.{IsName}
-use Rattle.wh_grammar.specs.Expression.{IsExpr, AreExprs, last_expr, more_exprs}
+use Rattle.wh_grammar.specs.Expression.{IsExpr, AreExprs}
 use Rattle.wh_grammar.specs.Query.{IsQuery, IsSource, MayHaveAlias, MayHaveFilter}
 use Rattle.wh_grammar.specs.Changing as g
 use Rattle.wh_grammar.specs.Changing.{AreNames, MayHaveColumns, IsValuesRow, AreValuesRows, AreRows, IsAssignment, AreAssignments, MayHaveCondition, IsMergeClause, AreMergeClauses, IsDml}
-use Rattle.wh_expr_parse.specs.declared.key.Key.TheVariants as k
-use Rattle.wh_expr_parse.specs.State.{tail}
-use Rattle.wh_expr_parse.specs.Steps.{eat_key}
-use Rattle.wh_expr_parse.specs.Read.{read_name, read_expr}
-use Rattle.wh_expr_parse.proofs.Combine.{Yields, yields, nothing, yields_law, follow, mapped, then_expect_word, then_expect_key, if_eaten_word, if_eaten_key, name-yields, expr-yields}
+use Rattle.wh_cursor.specs.declared.key.Key.TheVariants as k
+use Rattle.wh_cursor.specs.Steps.{tail, read_name}
+use Rattle.wh_expr_parse.specs.Read.{read_expr}
+use Rattle.wh_cursor.proofs.Yields.{Yields, yields, nothing, yields_law, follow, mapped}
+use Rattle.wh_cursor.proofs.Combine.{then_expect_word, then_expect_key, if_eaten_word, if_eaten_key, name-yields, end-yields}
+use Rattle.wh_cursor.proofs.ListLemmas.{some-sound, listed-sound}
+use Rattle.wh_expr_parse.proofs.ExprSteps.{expr-yields, exprs-yields}
 use Rattle.wh_query_parse.specs.Read.{read_query, read_source, read_alias, read_filter}
 use Rattle.wh_query_parse.proofs.Reading.{queries_read, sources_read, aliases_read, filters_read}
 use Rattle.wh_dml_parse.specs.Follow.{IsDmlAt, AreNamesAt}
-use Rattle.wh_dml_parse.specs.Read.{read_names, read_exprs, columns_by, read_columns, row_within, read_values_row, read_values_rows, rows_by, read_rows, read_assignment, read_assignments, condition_by, read_condition, change_by, read_matched, read_unmatched, clause_by, read_clause, peek_word, read_clauses, read_insert, read_update, read_delete, read_merge, merge_by, delete_by, update_by, insert_by, read_change, expect_end, read_dml}
-use Rattle.wh_dml_parse.proofs.Several.{some-sound, AtComma, comma-sound}
+use Rattle.wh_dml_parse.specs.Read.{read_names, columns_by, read_columns, row_within, read_values_row, read_values_rows, rows_by, read_rows, read_assignment, read_assignments, condition_by, read_condition, change_by, read_matched, read_unmatched, clause_by, read_clause, peek_word, read_clauses, read_insert, read_update, read_delete, read_merge, merge_by, delete_by, update_by, insert_by, read_change, read_dml}
+use Rattle.wh_dml_parse.proofs.Several.{none-ends}
 
 -- a rule behind the tokens that were taken
 behind : (P : List Token → Type 0) {ts us : List Token} → ts ≡ us → P us → P ts
@@ -37,24 +37,12 @@ expr-sound d ts = mapped (expr-yields d ts) (λ x us h. h.expr)
 
 pub names-sound : (ts : List Token) → Yields (read_names ts) (λ names us. AreNamesAt ts names us)
 unfolding read_names
-names-sound ts = mapped
-    (some-sound read_name (eat_key k.Comma) IsName AtComma AreNamesAt name-yields comma-sound
-    (λ ts us vs x h i. record { names = g.last_name (subst (λ (us : List Token). IsName ts x us) i.0 h); ends = i.1 })
-    (λ ts us vs ws x xs h i l. record { names = g.more_names (subst (λ (us : List Token). IsName ts x us) i h) l.names; ends = l.ends })
-    (length ts) [] ts)
-    (λ ys us l. subst (λ (ys : List (List ℕ)). AreNamesAt ts ys us) (sym l.1) l.2)
-
-exprs-sound : (d : ℕ) (ts : List Token) → Yields (read_exprs d ts) (λ xs us. AreExprs d ts xs us)
-unfolding read_exprs
-exprs-sound d ts = mapped
-    (some-sound (read_expr d) (eat_key k.Comma) (IsExpr d) AtComma (AreExprs d) (expr-sound d) comma-sound
-    (λ ts us vs x h i. last_expr (subst (λ (us : List Token). IsExpr d ts x us) i.0 h))
-    (λ ts us vs ws x xs h i l. more_exprs (subst (λ (us : List Token). IsExpr d ts x us) i h) l)
-    (length ts) [] ts)
-    (λ ys us l. subst (λ (ys : List Expr). AreExprs d ts ys us) (sym l.1) l.2)
+names-sound = listed-sound read_name IsName AreNamesAt name-yields
+    (λ ts us x h end. record { names = g.last_name h; ends = none-ends us end })
+    (λ ts us vs x xs h l. record { names = g.more_names h l.names; ends = l.ends })
 
 row_within-sound : (d : ℕ) (ts : List Token) → Yields (row_within d ts) (λ xs us. IsValuesRow (suc d) ts xs us)
-row_within-sound d ts = then_expect_key k.LParen ts _ (λ opened. follow (exprs-sound d (tail ts)) (λ xs us h. then_expect_key k.RParen us _ (λ closed.
+row_within-sound d ts = then_expect_key k.LParen ts _ (λ opened. follow (exprs-yields d (tail ts)) (λ xs us h. then_expect_key k.RParen us _ (λ closed.
     yields xs (tail us) (behind (λ ts. IsValuesRow (suc d) ts xs (tail us)) opened (g.values_row (subst (λ (us : List Token). AreExprs d (tail ts) xs us) closed h))))))
 
 row-sound : (d : ℕ) (ts : List Token) → Yields (read_values_row d ts) (λ xs us. IsValuesRow d ts xs us)
@@ -70,12 +58,7 @@ row-sound d ts = by (d == 0) refl
 
 values-sound : (d : ℕ) (ts : List Token) → Yields (read_values_rows d ts) (λ found us. AreValuesRows d ts found us)
 unfolding read_values_rows
-values-sound d ts = mapped
-    (some-sound (read_values_row d) (eat_key k.Comma) (IsValuesRow d) AtComma (AreValuesRows d) (row-sound d) comma-sound
-    (λ ts us vs x h i. g.last_row (subst (λ (us : List Token). IsValuesRow d ts x us) i.0 h))
-    (λ ts us vs ws x xs h i l. g.more_rows (subst (λ (us : List Token). IsValuesRow d ts x us) i h) l)
-    (length ts) [] ts)
-    (λ ys us l. subst (λ (ys : List (List Expr)). AreValuesRows d ts ys us) (sym l.1) l.2)
+values-sound d = listed-sound (read_values_row d) (IsValuesRow d) (AreValuesRows d) (row-sound d) (λ ts us x h end. g.last_row h) (λ ts us vs x xs h l. g.more_rows h l)
 
 assignment-sound : (d : ℕ) (ts : List Token) → Yields (read_assignment d ts) (λ a us. IsAssignment d ts a us)
 unfolding read_assignment
@@ -84,12 +67,8 @@ assignment-sound d ts = follow (name-yields ts) (λ column us h. then_expect_key
 
 assignments-sound : (d : ℕ) (ts : List Token) → Yields (read_assignments d ts) (λ set us. AreAssignments d ts set us)
 unfolding read_assignments
-assignments-sound d ts = mapped
-    (some-sound (read_assignment d) (eat_key k.Comma) (IsAssignment d) AtComma (AreAssignments d) (assignment-sound d) comma-sound
-    (λ ts us vs x h i. g.last_assignment (subst (λ (us : List Token). IsAssignment d ts x us) i.0 h))
-    (λ ts us vs ws x xs h i l. g.more_assignments (subst (λ (us : List Token). IsAssignment d ts x us) i h) l)
-    (length ts) [] ts)
-    (λ ys us l. subst (λ (ys : List Assignment). AreAssignments d ts ys us) (sym l.1) l.2)
+assignments-sound d = listed-sound (read_assignment d) (IsAssignment d) (AreAssignments d) (assignment-sound d) (λ ts us x h end. g.last_assignment h)
+    (λ ts us vs x xs h l. g.more_assignments h l)
 
 -- ---- clauses of MERGE
 
@@ -201,12 +180,7 @@ change-sound d ts = if_eaten_word (codes "INSERT") ts (insert_by d) (first d (co
     (λ _. if_eaten_word (codes "MERGE") ts (merge_by d) (first d (codes "MERGE") ts (merge-sound d (tail ts)))
     (λ _. nothing))))
 
-end-sound : (ts : List Token) → Yields (expect_end ts) (λ _ us. (ts ≡ us) × (us ≡ []))
-unfolding expect_end
-end-sound [] = yields tt [] (refl, refl)
-end-sound (t ∷ us) = nothing
-
 pub dml-sound : (d : ℕ) (ts : List Token) → Yields (read_dml d ts) (λ x us. IsDmlAt d ts x us)
 unfolding read_dml
-dml-sound d ts = follow (change-sound d ts) (λ x us h. follow (end-sound us) (λ _ vs i.
-    yields x vs (record { dml = subst (λ (us : List Token). IsDml d ts x us) i.0 h; ends = i.1 })))
+dml-sound d ts = follow (change-sound d ts) (λ x us h. follow (end-yields us) (λ _ vs i.
+    yields x vs (record { dml = subst (λ (us : List Token). IsDml d ts x us) (i.0 ∙ sym i.1) h; ends = i.1 })))

@@ -1,7 +1,7 @@
 -- How statements that change rows are read from the front of tokens.
 --     read_names     names with commas between them, and the tokens that follow them
 --     read_dml       a statement that takes all tokens
-use Rattle.std.specs.Prelude.{ℕ, zero, suc, ◌-◌, ◌==◌, Bool, true, false, if◌then◌else◌, List, [], ◌∷◌, ◌++◌, Option, Some, None, length, codes}
+use Rattle.std.specs.Prelude.{ℕ, ◌-◌, ◌==◌, Bool, true, false, if◌then◌else◌, List, [], Option, Some, None, length, codes}
 use Rattle.wh_ast.specs.declared.expr.Expr.{Expr}
 use Rattle.wh_ast.specs.declared.dml.Assignment.{Assignment}
 use Rattle.wh_ast.specs.declared.dml.Rows.{Rows}
@@ -10,30 +10,16 @@ use Rattle.wh_ast.specs.declared.dml.MergeClause.{MergeClause}
 use Rattle.wh_ast.specs.declared.dml.MergeClause.TheVariants as clause
 use Rattle.wh_ast.specs.declared.dml.Dml.{Dml}
 use Rattle.wh_ast.specs.declared.dml.Dml.TheVariants as dml
-use Rattle.wh_expr_parse.specs.declared.key.Key.TheVariants as k
-use Rattle.wh_expr_parse.specs.Read.{read_name, read_expr}
-use Rattle.wh_expr_parse.specs.Steps.{Reader, ◌>>=◌, ◌>>◌, pure, refuse, sees_word, eat_word, eat_key, expect_word, expect_key}
+use Rattle.wh_cursor.specs.declared.key.Key.TheVariants as k
+use Rattle.wh_cursor.specs.Steps.{read_name, Reader, ◌>>=◌, ◌>>◌, pure, refuse, sees_word, eat_word, eat_key, expect_word, expect_key, read_end}
+use Rattle.wh_cursor.specs.Lists.{some_from, listed}
+use Rattle.wh_expr_parse.specs.Read.{read_expr, read_exprs}
 use Rattle.wh_query_parse.specs.Read.{read_query, read_source, read_alias, read_filter}
 
 -- ---- one or more
 
--- behind each, `again` says whether one more follows; the number bounds how many
-unfoldable pub some_from : {A : Type 0} → Reader A → Reader Bool → ℕ → List A → Reader (List A)
-some_from item again zero found = refuse
-some_from item again (suc n) found = do
-  x ← item
-  more ← again
-  if more then some_from item again n (found ++ x ∷ []) else pure (found ++ x ∷ [])
-
--- with commas between them
-abbrev pub listed : {A : Type 0} → Reader A → Reader (List A)
-listed item = λ ts. some_from item (eat_key k.Comma) (length ts) [] ts
-
 unfoldable pub read_names : Reader (List (List ℕ))
 read_names = listed read_name
-
-unfoldable pub read_exprs : ℕ → Reader (List Expr)
-read_exprs d = listed (read_expr d)
 
 -- ---- what INSERT adds
 
@@ -205,13 +191,8 @@ insert_by d false = eat_word (codes "UPDATE") >>= update_by d
 unfoldable pub read_change : ℕ → Reader Dml
 read_change d = eat_word (codes "INSERT") >>= insert_by d
 
--- no token is left
-unfoldable pub expect_end : Reader (Unit {0})
-expect_end [] = Some (tt, [])
-expect_end (t ∷ us) = None
-
 unfoldable pub read_dml : ℕ → Reader Dml
 read_dml d = do
   x ← read_change d
-  expect_end
+  read_end
   pure x

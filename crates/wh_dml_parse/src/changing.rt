@@ -1,13 +1,14 @@
 //! The statements, each behind its first word.
 
-ghost use Rattle.wh_expr_parse.specs.Gives.{Reads};
+ghost use Rattle.wh_cursor.specs.Gives.{Reads};
 ghost use Rattle.wh_dml_parse.specs.Read as spec;
 
 use crate::clauses::{columns, merge_clauses};
 use crate::lists::{assignment_list, row_list};
 use std::alloc::Global;
 use wh_ast::{Dml, Rows};
-use wh_expr_parse::{ParseFault, Words, expr, name};
+use wh_cursor::{ParseFault, Words, name};
+use wh_expr_parse::expr;
 use wh_query_parse::{alias, filter, query, source};
 
 /// `VALUES row {, row}`, or a query.

@@ -1,13 +1,14 @@
 //! What MERGE does with a row that is matched, and with one that isn't.
 
-ghost use Rattle.wh_expr_parse.specs.Gives.{Reads};
+ghost use Rattle.wh_cursor.specs.Gives.{Reads};
 ghost use Rattle.wh_dml_parse.specs.Read as spec;
 
-use crate::lists::{assignment_list, count, name_list, values_row};
+use crate::lists::{assignment_list, name_list, values_row};
 use sqlite_items::Items;
 use std::alloc::Global;
 use wh_ast::{Expr, MergeClause};
-use wh_expr_parse::{Key, ParseFault, Words, expr};
+use wh_cursor::{Key, ParseFault, Words};
+use wh_expr_parse::expr;
 use wh_value::Text;
 
 /// `[( name {, name} )]`
@@ -91,7 +92,7 @@ pub fn merge_clauses(
     ensures { Reads (spec.read_clauses depth words.old) result words.new }
 {
     let mut found = Items::new(alloc);
-    for _turn in 0..count(words) {
+    for _turn in 0..words.rest().len() {
         found.push(merge_clause(alloc, words, depth)?)?;
         if !words.sees_word(b"WHEN") {
             return Ok(found);

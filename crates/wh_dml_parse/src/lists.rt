@@ -1,53 +1,32 @@
 //! One or more with commas between them.
 
-ghost use Rattle.std.specs.Prelude.{◌≡◌, length};
-ghost use Rattle.wh_expr_parse.specs.Gives.{Reads};
+ghost use Rattle.wh_cursor.specs.Gives.{Reads};
+ghost use Rattle.wh_cursor.specs.Steps.{read_name};
 ghost use Rattle.wh_dml_parse.specs.Read as spec;
 
 use sqlite_items::Items;
 use std::alloc::Global;
 use wh_ast::{Assignment, Expr};
-use wh_expr_parse::{Key, ParseFault, Words, expr, name};
+use wh_cursor::{Key, ParseFault, Words, listed, name};
+use wh_expr_parse::{expr, exprs};
 use wh_value::Text;
 
-/// How many tokens are left.
-pub fn count(words: &Words<'_>) -> usize
-    ensures { result ≡ length words.now }
+/// To any depth, since nothing stands inside a name.
+fn one_name(alloc: Global, words: &mut Words<'_>, _depth: usize) -> Result<Text, ParseFault>
+    ensures { Reads (read_name words.old) result words.new }
 {
-    words.rest().len()
+    name(alloc, words)
 }
 
+#[tactic(auto, unfolding(crate::specs::Read::read_names))]
 pub fn name_list(alloc: Global, words: &mut Words<'_>) -> Result<Items<Text>, ParseFault>
     ensures { Reads (spec.read_names words.old) result words.new }
 {
-    let mut found = Items::new(alloc);
-    for _turn in 0..count(words) {
-        found.push(name(alloc, words)?)?;
-        if !words.eat(Key::Comma) {
-            return Ok(found);
-        }
-    }
-    Err(ParseFault::SyntaxError)
-}
-
-pub fn expr_list(
-    alloc: Global,
-    words: &mut Words<'_>,
-    depth: usize,
-) -> Result<Items<Expr>, ParseFault>
-    ensures { Reads (spec.read_exprs depth words.old) result words.new }
-{
-    let mut found = Items::new(alloc);
-    for _turn in 0..count(words) {
-        found.push(expr(alloc, words, depth)?)?;
-        if !words.eat(Key::Comma) {
-            return Ok(found);
-        }
-    }
-    Err(ParseFault::SyntaxError)
+    listed(alloc, words, 0, &one_name)
 }
 
 /// Rows, each in its parentheses.
+#[tactic(auto, unfolding(crate::specs::Read::read_values_rows))]
 pub fn row_list(
     alloc: Global,
     words: &mut Words<'_>,
@@ -55,16 +34,10 @@ pub fn row_list(
 ) -> Result<Items<Items<Expr>>, ParseFault>
     ensures { Reads (spec.read_values_rows depth words.old) result words.new }
 {
-    let mut found = Items::new(alloc);
-    for _turn in 0..count(words) {
-        found.push(values_row(alloc, words, depth)?)?;
-        if !words.eat(Key::Comma) {
-            return Ok(found);
-        }
-    }
-    Err(ParseFault::SyntaxError)
+    listed(alloc, words, depth, &values_row)
 }
 
+#[tactic(auto, unfolding(crate::specs::Read::read_assignments))]
 pub fn assignment_list(
     alloc: Global,
     words: &mut Words<'_>,
@@ -72,14 +45,7 @@ pub fn assignment_list(
 ) -> Result<Items<Assignment>, ParseFault>
     ensures { Reads (spec.read_assignments depth words.old) result words.new }
 {
-    let mut found = Items::new(alloc);
-    for _turn in 0..count(words) {
-        found.push(assignment(alloc, words, depth)?)?;
-        if !words.eat(Key::Comma) {
-            return Ok(found);
-        }
-    }
-    Err(ParseFault::SyntaxError)
+    listed(alloc, words, depth, &assignment)
 }
 
 /// `( expr {, expr} )`. Its parenthesis counts.
@@ -95,7 +61,7 @@ pub fn values_row(
         return Err(ParseFault::SyntaxError);
     }
     words.expect(Key::LParen)?;
-    let row = expr_list(alloc, words, depth - 1)?;
+    let row = exprs(alloc, words, depth - 1)?;
     words.expect(Key::RParen)?;
     Ok(row)
 }

@@ -1,35 +1,25 @@
 ghost use Rattle.std.specs.Prelude.{◌≡◌, ℕ, List, IfOk, IsErrOf};
 ghost use Rattle.wh_ast.specs.declared.dml.Dml as ast;
 ghost use Rattle.wh_grammar.specs.Token as machine;
-ghost use Rattle.wh_expr_parse.specs.Gives.{Reads};
+ghost use Rattle.wh_cursor.specs.Gives.{Reads};
 ghost use Rattle.wh_dml_parse.specs.Follow.{IsDmlAt, AreNamesAt};
 ghost use Rattle.wh_dml_parse.specs.Laws as laws;
-ghost use Rattle.wh_dml_parse.specs.Read.{read_dml, read_names, expect_end};
+ghost use Rattle.wh_dml_parse.specs.Read.{read_dml, read_names};
 
 use crate::changing::change;
 use crate::lists::name_list;
 use sqlite_items::Items;
 use std::alloc::Global;
 use wh_ast::Dml;
-use wh_expr_parse::{ParseFault, Words};
+use wh_cursor::{ParseFault, Words};
 use wh_value::Text;
-
-#[tactic(auto, unfolding(crate::specs::Read::expect_end))]
-fn ended(words: &Words<'_>) -> Result<(), ParseFault>
-    ensures { Reads (expect_end words.now) result words.now }
-{
-    match words.rest() {
-        [] => Ok(()),
-        [_, ..] => Err(ParseFault::SyntaxError),
-    }
-}
 
 #[tactic(auto, unfolding(crate::specs::Read::read_dml))]
 fn whole_dml(alloc: Global, words: &mut Words<'_>, depth: usize) -> Result<Dml, ParseFault>
     ensures { Reads (read_dml depth words.old) result words.new }
 {
     let found = change(alloc, words, depth)?;
-    ended(words)?;
+    words.expect_end()?;
     Ok(found)
 }
 

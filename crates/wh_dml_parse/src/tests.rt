@@ -2,7 +2,7 @@ use crate::{dml, names};
 use std::alloc::Global;
 use std::test::Fail;
 use wh_ast::{Assignment, Dml, Expr, MergeClause, Operator, Rows, Source};
-use wh_expr_parse::{ParseFault, Words};
+use wh_cursor::{ParseFault, Words};
 use wh_lex::tokens;
 use wh_value::{Bytes, Comparison, Text, print_literal};
 
@@ -173,12 +173,8 @@ fn print_dml(x: &Dml, out: &mut Bytes) -> Result<(), Fail> {
 }
 
 /// The statement that a text is, or `none`.
-#[tactic(auto, using(wh_expr_parse::proofs::ShortNumbers::tokens_short))]
 fn read(alloc: Global, text: &[u8], depth: usize) -> Result<Bytes, Fail> {
     let mut out = Bytes::new(alloc);
-    if text.len() > 65536 {
-        return Ok(out);
-    }
     let all = match tokens(alloc, text) {
         Ok(all) => all,
         Err(_) => return Ok(out),
@@ -193,12 +189,8 @@ fn read(alloc: Global, text: &[u8], depth: usize) -> Result<Bytes, Fail> {
 }
 
 /// The names at the front of a text, and how many tokens are left.
-#[tactic(auto, using(wh_expr_parse::proofs::ShortNumbers::tokens_short))]
 fn read_names(alloc: Global, text: &[u8]) -> Result<Bytes, Fail> {
     let mut out = Bytes::new(alloc);
-    if text.len() > 65536 {
-        return Ok(out);
-    }
     let all = match tokens(alloc, text) {
         Ok(all) => all,
         Err(_) => return Ok(out),

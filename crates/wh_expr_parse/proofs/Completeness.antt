@@ -9,14 +9,18 @@ use Rattle.wh_grammar.specs.Words.{is_reserved}
 use Rattle.wh_grammar.specs.Token as token
 use Rattle.wh_grammar.specs.Token.{Token, Word, SignToken}
 use Rattle.wh_grammar.specs.Expression as g
-use Rattle.wh_grammar.specs.Expression.{IsWhole, IsAnd, IsNot, IsTest, AreItems, IsSum, IsProduct, IsUnary, IsPrim, IsExprAt, IsNegation, IsComparison, binds}
+use Rattle.wh_grammar.specs.Expression.{IsWhole, IsAnd, IsNot, IsTest, AreItems, IsSum, IsProduct, IsUnary, IsPrim, IsNegation, IsComparison}
+use Rattle.wh_expr_parse.specs.Laws.{IsExprAt}
+use Rattle.wh_cursor.specs.Binds.{binds}
 use Rattle.wh_value.specs.declared.comparison.Comparison.{Comparison}
-use Rattle.wh_expr_parse.specs.declared.key.Key.TheVariants as k
+use Rattle.wh_cursor.specs.declared.key.Key.TheVariants as k
 use Rattle.wh_expr_parse.specs.declared.grammar.Level.TheVariants.{Whole, Negation, Unary, Rows}
-use Rattle.wh_expr_parse.specs.Keys.{key_of, key_binds, joins, same_key}
-use Rattle.wh_expr_parse.specs.State.{State, Reader, next, sees}
+use Rattle.wh_cursor.specs.Keys.{key_of, key_binds, same_key}
+use Rattle.wh_expr_parse.specs.Operators.{joins}
+use Rattle.wh_expr_parse.specs.State.{State, Reader, next}
+use Rattle.wh_cursor.specs.Steps.{sees}
 use Rattle.wh_expr_parse.specs.Read.{rows, primary, unary, product, sum, test, negation, conjunction, whole, nested, read_expr}
-use Rattle.wh_expr_parse.proofs.KeyLemmas.{binds_key}
+use Rattle.wh_cursor.proofs.KeyLemmas.{binds_key}
 use Rattle.wh_expr_parse.proofs.RuleSteps.{Gives, column-primary, column_of-primary, number-primary, text-primary, true-primary, false-primary, null-primary, parenthesized-primary, sum-primary, count-primary, rows-primary, negative-gives, primary-unary, not-gives, test-negation, whole-starless, sum-test, compared-test, null-test, GivesItems, last-item, more-items, among-test, between-test, Comes, comes-first, comes-next, comes-ends}
 
 -- ---- one more inside

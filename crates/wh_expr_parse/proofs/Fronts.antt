@@ -1,44 +1,15 @@
--- What stands for an expression or a name is a front of the tokens, and not empty.
-use Rattle.std.proofs.Common.{◌≡◌, ℕ, Bool, List, [], ◌∷◌, ◌++◌, refl, sym, ap, ◌∙◌, append_assoc}
+-- What stands for an expression is a front of the tokens, and not empty.
+use Rattle.std.proofs.Common.{ℕ, Bool, List}
 use Rattle.wh_ast.specs.declared.expr.Expr.{Expr}
 use Rattle.wh_grammar.specs.Token.{Token}
-use Rattle.wh_grammar.specs.Name.{IsName, word, quoted}
 use Rattle.wh_grammar.specs.Expression as g
 use Rattle.wh_grammar.specs.Expression.{IsWhole, IsAnd, IsNot, IsTest, AreItems, IsSum, IsProduct, IsUnary, IsPrim, IsExpr, IsNegation}
-use Rattle.wh_expr_parse.specs.Laws.{Follows}
-
-abbrev Behind : List Token → List Token → Type 0
-Behind ts us = (front : List Token) × (ts ≡ front ++ us)
-
-loose : {ts us : List Token} → Follows ts us → Behind ts us
-loose h = (h.first ∷ h.more, h.is)
-
-cons : (t : Token) {ts us : List Token} → Behind ts us → Behind (t ∷ ts) us
-cons t h = (t ∷ h.0, ap (λ (l : List Token). t ∷ l) h.1)
-
-on : {ts us vs : List Token} → Follows ts us → Behind us vs → Follows ts vs
-on {vs = vs} h l = record {
-  first = h.first;
-  more = h.more ++ l.0;
-  is = h.is ∙ ap (λ (us : List Token). h.first ∷ (h.more ++ us)) l.1 ∙ ap (λ (us : List Token). h.first ∷ us) (sym (append_assoc h.more l.0 vs));
-}
-
-onto : {ts us vs : List Token} → Behind ts us → Behind us vs → Behind ts vs
-onto {vs = vs} h l = (h.0 ++ l.0, h.1 ∙ ap (λ (us : List Token). h.0 ++ us) l.1 ∙ sym (append_assoc h.0 l.0 vs))
-
-first : (t : Token) {ts us : List Token} → Behind ts us → Follows (t ∷ ts) us
-first t h = record { first = t; more = h.0; is = ap (λ (us : List Token). t ∷ us) h.1 }
-
-here : (ts : List Token) → Behind ts ts
-here ts = ([], refl)
+use Rattle.wh_cursor.specs.Laws.{Follows}
+use Rattle.wh_cursor.proofs.Fronts.{Behind, loose, cons, on, onto, first, here, name-front}
 
 negation-front : {negated : Bool} {us vs : List Token} → IsNegation negated us vs → Behind us vs
 negation-front (g.negated {us}) = cons _ (here us)
 negation-front (g.plain {us}) = here us
-
-pub name-front : {ts us : List Token} {name : List ℕ} → IsName ts name us → Follows ts us
-name-front (word {us = us} r c) = first _ (here us)
-name-front (quoted {us = us}) = first _ (here us)
 
 mutual
   whole-front : {d n : ℕ} {ts us : List Token} {x : Expr} → IsWhole d n ts x us → Follows ts us

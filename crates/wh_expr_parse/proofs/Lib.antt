@@ -1,6 +1,3 @@
-pub mod WordLemmas
-pub mod Turns
-pub mod KeyLemmas
 pub mod Outcomes
 pub mod Soundness
 pub mod RuleSteps
@@ -8,5 +5,4 @@ pub mod Completeness
 pub mod ItemSteps
 pub mod Fronts
 pub mod Found
-pub mod Combine
-pub mod ShortNumbers
+pub mod ExprSteps

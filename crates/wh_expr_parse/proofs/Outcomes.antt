@@ -1,40 +1,12 @@
 -- What each step of a rule leaves, where it reads.
-use Rattle.std.proofs.Common.{◌≡◌, ℕ, suc, ◌+◌, ◌-◌, ◌==◌, Bool, true, false, if◌then◌else◌, List, Option, Some, None, refl, arith}
+use Rattle.std.proofs.Common.{◌≡◌, ℕ, suc, ◌+◌, ◌-◌, ◌==◌, Bool, true, false, List, Some, None, refl, arith, if◌then◌else◌}
 use Rattle.std.proofs.lemmas.Bool.Decides.{Decides-eqb, not_from_Decides}
 use Rattle.wh_grammar.specs.Token.{Token}
-use Rattle.wh_expr_parse.specs.declared.key.Key.{Key}
-use Rattle.wh_expr_parse.specs.State.{State, at, next, Reader, and_then, sees, expect, spend}
-use Rattle.wh_expr_parse.proofs.KeyLemmas.{fixed, Heads, heads}
-
--- where there is an outcome, it is such a one
-abbrev pub Is : {A : Type 0} → (A → State → Type 0) → Option (A × State) → Type 0
-Is Q None = Unit {0}
-Is Q (Some p) = Q p.0 p.1
-
-pub record Yields {A : Type 0} (o : Option (A × State)) (Q : A → State → Type 0) : Type 0 where
-  pub is : Is Q o
-
-pub yields : {A : Type 0} {Q : A → State → Type 0} (x : A) (s : State) → Q x s → Yields (Some (x, s)) Q
-yields x s h = record { is = h }
-
-pub nothing : {A : Type 0} {Q : A → State → Type 0} → Yields None Q
-nothing = record { is = tt }
-
-then_by : {A B : Type 0} (o : Option (A × State)) (f : A → Reader B) (P : A → State → Type 0) (Q : B → State → Type 0) → Is P o
-    → ((x : A) (t : State) → P x t → Yields (f x t) Q) → Is Q (and_then o f)
-then_by None f P Q h k = tt
-then_by (Some p) f P Q h k = (k p.0 p.1 h).is
-
-pub follow : {A B : Type 0} {o : Option (A × State)} {f : A → Reader B} {P : A → State → Type 0} {Q : B → State → Type 0} → Yields o P
-    → ((x : A) (t : State) → P x t → Yields (f x t) Q) → Yields (and_then o f) Q
-follow {o = o} {f = f} {P = P} {Q = Q} h k = record { is = then_by o f P Q h.is k }
-
-mapped_by : {A : Type 0} (o : Option (A × State)) (P Q : A → State → Type 0) → Is P o → ((x : A) (t : State) → P x t → Q x t) → Is Q o
-mapped_by None P Q h k = tt
-mapped_by (Some p) P Q h k = k p.0 p.1 h
-
-pub mapped : {A : Type 0} {o : Option (A × State)} {P Q : A → State → Type 0} → Yields o P → ((x : A) (t : State) → P x t → Q x t) → Yields o Q
-mapped {o = o} {P = P} {Q = Q} h k = record { is = mapped_by o P Q h.is k }
+use Rattle.wh_cursor.specs.declared.key.Key.{Key}
+use Rattle.wh_expr_parse.specs.State.{State, at, next, Reader, expect, spend}
+use Rattle.wh_cursor.specs.Steps.{and_then, sees}
+use Rattle.wh_cursor.proofs.Yields.{Is, Yields}
+use Rattle.wh_cursor.proofs.KeyLemmas.{fixed, Heads, heads}
 
 expect_by : {B : Type 0} (r : Bool) (s : State) (f : Unit {0} → Reader B) (Q : B → State → Type 0) → (r ≡ true → Yields (f tt (next s)) Q)
     → Is Q (and_then (if r then Some (tt, next s) else None) f)

@@ -11,19 +11,23 @@ use Rattle.wh_value.specs.declared.value.Value.TheVariants as v
 use Rattle.std.specs.Prelude.{pos}
 use Rattle.wh_grammar.specs.Words.{is_reserved, is_call}
 use Rattle.wh_grammar.specs.Token as token
-use Rattle.wh_grammar.specs.Token.{Token, Word, Quoted, TextToken, NumberToken, SignToken}
+use Rattle.wh_grammar.specs.Token.{Token, Word, TextToken, NumberToken, SignToken}
 use Rattle.wh_grammar.specs.Name.{IsName, opens, word, quoted}
 use Rattle.wh_grammar.specs.Expression as g
-use Rattle.wh_grammar.specs.Expression.{IsComparison, IsNegation, binds}
-use Rattle.wh_expr_parse.specs.declared.key.Key.{Key}
-use Rattle.wh_expr_parse.specs.declared.key.Key.TheVariants as k
-use Rattle.wh_expr_parse.specs.contracts.key.Key.{the_type}
+use Rattle.wh_grammar.specs.Expression.{IsComparison, IsNegation}
+use Rattle.wh_cursor.specs.Binds.{binds}
+use Rattle.wh_cursor.specs.declared.key.Key.{Key}
+use Rattle.wh_cursor.specs.declared.key.Key.TheVariants as k
+use Rattle.wh_cursor.specs.contracts.key.Key.{the_type}
 use Rattle.wh_expr_parse.specs.declared.grammar.Level.{Level}
 use Rattle.wh_expr_parse.specs.declared.grammar.Level.TheVariants.{Whole, Negation, Unary, Rows}
-use Rattle.wh_expr_parse.specs.Keys.{key_of, key_binds, joins, same_key}
-use Rattle.wh_expr_parse.specs.State.{State, at, tail, next, Reader, sees, expect, spend}
-use Rattle.wh_expr_parse.specs.Read.{read_name, read_literal, column_of, column, turns, chain, parenthesized, sum_call, count_by, count_call, primary, negative, unary, product, sum, compared, null_test, items_from, items, among, between, negated_test, test_by, test, not_test, negation, conjunction, whole}
-use Rattle.wh_expr_parse.proofs.KeyLemmas.{binds_key, heads}
+use Rattle.wh_cursor.specs.Keys.{key_of, key_binds, same_key}
+use Rattle.wh_expr_parse.specs.Operators.{joins}
+use Rattle.wh_expr_parse.specs.State.{State, at, next, Reader, expect, spend}
+use Rattle.wh_cursor.specs.Steps.{tail, sees}
+use Rattle.wh_expr_parse.specs.Read.{read_literal, column_of, column, turns, chain, parenthesized, sum_call, count_by, count_call, primary, negative, unary, product, sum, compared, null_test, items_from, items, among, between, negated_test, test_by, test, not_test, negation, conjunction, whole}
+use Rattle.wh_cursor.proofs.Names.{name-complete}
+use Rattle.wh_cursor.proofs.KeyLemmas.{binds_key, heads}
 
 -- with n of the room it reads x, and us are left
 pub record Gives {A : Type 0} (r : Reader A) (n : ℕ) (ts : List Token) (x : A) (us : List Token) : Type 0 where
@@ -60,11 +64,6 @@ joins-none level us h =
     rw other refl
 
 -- ---- names and columns
-
-pub name-complete : {ts us : List Token} {name : List ℕ} → IsName ts name us → read_name ts ≡ Some (name, us)
-unfolding read_name
-name-complete (word r c) = rw (r, c) refl
-name-complete quoted = refl
 
 dot-seen : (us : List Token) → sees k.Dot (SignToken token.Dot ∷ us) ≡ true
 unfolding sees same_key key_of

@@ -1,7 +1,6 @@
 -- What is read is what the rules say.
-use Rattle.std.proofs.Common.{◌≡◌, ℕ, zero, suc, ◌+◌, ◌-◌, ◌==◌, Bool, true, false, not, ◌&&◌, if◌then◌else◌, List, [], ◌∷◌, ◌++◌, Option, Some, None, refl, sym, ap, ◌∙◌, subst, append_assoc, arith}
+use Rattle.std.proofs.Common.{◌≡◌, ℕ, zero, suc, ◌+◌, ◌-◌, ◌==◌, Bool, true, false, not, if◌then◌else◌, List, [], ◌∷◌, ◌++◌, Option, Some, None, refl, sym, ap, ◌∙◌, subst, append_assoc, arith}
 use Rattle.std.specs.Prelude.{codes}
-use Rattle.std.proofs.lemmas.Bool.{and_parts}
 use Rattle.std.proofs.lemmas.Bool.Decides.{Decides-eqb}
 use Rattle.std.proofs.lemmas.Option.{same_Some}
 use Rattle.wh_value.specs.declared.comparison.Comparison.{Comparison}
@@ -10,45 +9,39 @@ use Rattle.wh_ast.specs.declared.expr.Operator.{Operator}
 use Rattle.wh_ast.specs.declared.expr.Operator.TheVariants as o
 use Rattle.wh_ast.specs.declared.expr.Expr.{Expr}
 use Rattle.wh_ast.specs.declared.expr.Expr.TheVariants as e
-use Rattle.wh_grammar.specs.Words.{is_reserved, is_call}
 use Rattle.wh_grammar.specs.Token as token
 use Rattle.wh_grammar.specs.Token.{Token, Word, Quoted, TextToken, NumberToken, SignToken}
-use Rattle.wh_grammar.specs.Name.{IsName, opens, word, quoted}
+use Rattle.wh_grammar.specs.Name.{IsName}
 use Rattle.wh_grammar.specs.Expression as g
-use Rattle.wh_grammar.specs.Expression.{IsWhole, IsAnd, IsNot, IsTest, AreItems, IsSum, IsProduct, IsUnary, IsPrim, IsExprAt, IsComparison, IsNegation, binds}
-use Rattle.wh_expr_parse.specs.declared.key.Key.{Key}
-use Rattle.wh_expr_parse.specs.declared.key.Key.TheVariants as k
+use Rattle.wh_grammar.specs.Expression.{IsWhole, IsAnd, IsNot, IsTest, AreItems, IsSum, IsProduct, IsUnary, IsPrim, IsComparison, IsNegation}
+use Rattle.wh_expr_parse.specs.Laws.{IsExprAt}
+use Rattle.wh_cursor.specs.declared.key.Key.{Key}
+use Rattle.wh_cursor.specs.declared.key.Key.TheVariants as k
 use Rattle.wh_expr_parse.specs.declared.grammar.Level.{Level}
 use Rattle.wh_expr_parse.specs.declared.grammar.Level.TheVariants.{Whole, Negation, Unary, Rows}
-use Rattle.wh_expr_parse.specs.Keys.{key_of, key_binds, joins}
-use Rattle.wh_expr_parse.specs.State.{State, at, tail, next, Reader, and_then, plainly, moved, sees, expect, spend}
-use Rattle.wh_expr_parse.specs.Read.{is_name, read_name, read_literal, column_of, column, rows, turns, chain, turn, parenthesized, sum_call, count_by, count_call, call_or_column, primary_by, primary, negative, unary_by, unary, product, sum, compared, null_test, items_from, items, among, between, negated_by, negated_test, test_by, test, not_test, negation_by, negation, conjunction, whole, level, nested, ended, read_expr}
-use Rattle.wh_expr_parse.proofs.KeyLemmas.{fixed, Heads, heads, heads_at, binds_key}
-use Rattle.wh_expr_parse.proofs.Outcomes.{Is, Yields, yields, nothing, follow, mapped, then_expect, then_spend, if_eaten, Took}
+use Rattle.wh_cursor.specs.Keys.{key_of, key_binds}
+use Rattle.wh_expr_parse.specs.Operators.{joins}
+use Rattle.wh_expr_parse.specs.State.{State, at, next, Reader, plainly, moved, expect, spend}
+use Rattle.wh_cursor.specs.Steps.{tail, and_then, sees, read_name}
+use Rattle.wh_expr_parse.specs.Read.{read_literal, column_of, column, rows, turns, chain, turn, parenthesized, sum_call, count_by, count_call, call_or_column, primary_by, primary, negative, unary_by, unary, product, sum, compared, null_test, items_from, items, among, between, negated_by, negated_test, test_by, test, not_test, negation_by, negation, conjunction, whole, level, nested, ended, read_expr}
+use Rattle.wh_cursor.proofs.Names.{name-sound}
+use Rattle.wh_cursor.proofs.KeyLemmas.{fixed, Heads, heads, heads_at, binds_key}
+use Rattle.wh_cursor.proofs.Yields.{Is, Yields, yields, nothing, follow, mapped}
+use Rattle.wh_expr_parse.proofs.Outcomes.{then_expect, then_spend, if_eaten, Took}
 
 -- ---- what takes no operator
 
-not_true : (b : Bool) → not b ≡ true → b ≡ false
-not_true true e = sym e
-not_true false e = refl
-
-name_by : (room : ℕ) (ts : List Token) → Yields (moved room (read_name ts)) (λ name t. (t.room ≡ room) × IsName ts name t.left)
-unfolding read_name
-name_by room [] = nothing
-name_by room (Word w ∷ us) = record { is = by (is_name w us) refl }
+-- what is read plainly takes none of the room
+plainly-sound : {A : Type 0} {P : List Token → A → List Token → Type 0} (read : List Token → Option (A × List Token)) → ((ts : List Token) → Yields (read ts) (P ts))
+    → (s : State) → Yields (plainly read s) (λ x t. (t.room ≡ s.room) × P s.left x t.left)
+plainly-sound {A = A} {P = P} read sound s = record { is = by (read s.left) (sound s.left).is }
   where
-    by : (r : Bool) → is_name w us ≡ r → Is (λ name t. (t.room ≡ room) × IsName (Word w ∷ us) name t.left) (moved room (if r then Some (w, us) else None))
-    by true h =
-        let both = and_parts (not (is_reserved w)) (not (is_call w && opens us)) h in
-        (refl, word (not_true _ both.0) (not_true _ both.1))
-    by false h = tt
-name_by room (Quoted name ∷ us) = yields name (at us room) (refl, quoted)
-name_by room (TextToken bytes ∷ us) = nothing
-name_by room (NumberToken n ∷ us) = nothing
-name_by room (SignToken s ∷ us) = nothing
+    by : (o : Option (A × List Token)) → Is (P s.left) o → Is (λ x t. (t.room ≡ s.room) × P s.left x t.left) (moved s.room o)
+    by None h = tt
+    by (Some p) h = (refl, h)
 
-pub name-sound : (s : State) → Yields (plainly read_name s) (λ name t. (t.room ≡ s.room) × IsName s.left name t.left)
-name-sound s = name_by s.room s.left
+name-plain : (s : State) → Yields (plainly read_name s) (λ name t. (t.room ≡ s.room) × IsName s.left name t.left)
+name-plain = plainly-sound read_name name-sound
 
 literal_by : (d room : ℕ) (ts : List Token) → Yields (moved room (read_literal ts)) (λ x t. (t.room ≡ room) × IsPrim d 0 ts x t.left)
 unfolding read_literal
@@ -64,9 +57,9 @@ literal-sound d s = mapped (literal_by d s.room s.left) (λ x t h. record { coun
 
 column-sound : (d : ℕ) (s : State) → Yields (column s) (Took (IsPrim d) s)
 unfolding column column_of
-column-sound d s = follow (name-sound s) (λ first t h.
+column-sound d s = follow (name-plain s) (λ first t h.
     if_eaten k.Dot t (column_of first)
-    (λ dot. follow (name-sound (next t)) (λ name u i.
+    (λ dot. follow (name-plain (next t)) (λ name u i.
     yields _ u (record { count = 0; spent = omega (arith, h.0, i.0); is = g.column_of (subst (λ (us : List Token). IsName s.left first us) dot h.1) i.1 })))
     (yields _ t (record { count = 0; spent = omega (arith, h.0); is = g.column h.1 })))
 

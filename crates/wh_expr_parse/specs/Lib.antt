@@ -1,8 +1,5 @@
-pub mod Keys
+pub mod Operators
 pub mod State
 pub mod Read
-pub mod Steps
-pub mod Gives
-pub mod View
 pub mod Nests
 pub mod Laws

@@ -3,9 +3,9 @@ use Rattle.std.specs.Prelude.{ℕ, Result}
 use Rattle.std.specs.declared.alloc.Global.{Global}
 use denote.Ref.{MutBor}
 use Rattle.wh_ast.specs.declared.expr.Expr.{Expr}
-use Rattle.wh_expr_parse.specs.declared.fault.ParseFault.{ParseFault}
+use Rattle.wh_cursor.specs.declared.fault.ParseFault.{ParseFault}
 use Rattle.wh_expr_parse.specs.declared.grammar.Level.{Level}
-use Rattle.wh_expr_parse.specs.Gives.{Reads}
+use Rattle.wh_cursor.specs.Gives.{Reads}
 use Rattle.wh_expr_parse.specs.State.{State}
 use Rattle.wh_expr_parse.specs.Read.{nested}
 

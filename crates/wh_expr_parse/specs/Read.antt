@@ -1,7 +1,7 @@
--- How names and expressions are read from the front of tokens.
---     read_name     a name, and the tokens that follow it
+-- How expressions are read from the front of tokens.
+--     read_exprs    one or more, with commas between them
 --     read_expr     an expression with at most 1,000 operators and IN items, where no token behind it goes on with it
-use Rattle.std.specs.Prelude.{ℕ, zero, suc, Bool, true, false, not, ◌&&◌, ◌==◌, if◌then◌else◌, List, [], ◌∷◌, ◌++◌, Option, Some, None, pos}
+use Rattle.std.specs.Prelude.{ℕ, zero, suc, Bool, true, false, ◌==◌, List, [], ◌∷◌, ◌++◌, Option, Some, None, pos, if◌then◌else◌}
 use Rattle.wh_value.specs.declared.value.Value.TheVariants as v
 use Rattle.wh_value.specs.declared.comparison.Comparison.{Comparison}
 use Rattle.wh_value.specs.declared.comparison.Comparison.TheVariants as c
@@ -9,28 +9,18 @@ use Rattle.wh_ast.specs.declared.expr.Operator.{Operator}
 use Rattle.wh_ast.specs.declared.expr.Operator.TheVariants as o
 use Rattle.wh_ast.specs.declared.expr.Expr.{Expr}
 use Rattle.wh_ast.specs.declared.expr.Expr.TheVariants as e
-use Rattle.wh_grammar.specs.Words.{is_reserved, is_call}
 use Rattle.wh_grammar.specs.Token.{Token, Word, Quoted, TextToken, NumberToken, SignToken}
-use Rattle.wh_grammar.specs.Name.{opens}
-use Rattle.wh_expr_parse.specs.declared.key.Key.{Key}
-use Rattle.wh_expr_parse.specs.declared.key.Key.TheVariants as k
+use Rattle.wh_cursor.specs.declared.key.Key.{Key}
+use Rattle.wh_cursor.specs.declared.key.Key.TheVariants as k
 use Rattle.wh_expr_parse.specs.declared.grammar.Level.{Level}
 use Rattle.wh_expr_parse.specs.declared.grammar.Level.TheVariants.{Whole, Negation, Unary, Rows}
-use Rattle.wh_expr_parse.specs.Keys.{key_of, key_binds, joins}
-use Rattle.wh_expr_parse.specs.State.{State, at, tail, Reader, ◌>>=◌, ◌>>◌, pure, refuse, peek, skip, eat, expect, spend, plainly, sees}
+use Rattle.wh_cursor.specs.Keys.{key_of, key_binds}
+use Rattle.wh_expr_parse.specs.Operators.{joins}
+use Rattle.wh_expr_parse.specs.State.{State, at, Reader, peek, skip, eat, expect, spend, plainly}
+use Rattle.wh_cursor.specs.Lists.{listed}
+use Rattle.wh_cursor.specs.Steps.{tail, ◌>>=◌, ◌>>◌, pure, refuse, sees, read_name}
 
 -- ---- what takes no operator
-
-abbrev pub is_name : List ℕ → List Token → Bool
-is_name w us = not (is_reserved w) && not (is_call w && opens us)
-
-unfoldable pub read_name : List Token → Option (List ℕ × List Token)
-read_name [] = None
-read_name (Word w ∷ us) = if is_name w us then Some (w, us) else None
-read_name (Quoted name ∷ us) = Some (name, us)
-read_name (TextToken bytes ∷ us) = None
-read_name (NumberToken n ∷ us) = None
-read_name (SignToken s ∷ us) = None
 
 unfoldable pub read_literal : List Token → Option (Expr × List Token)
 read_literal [] = None
@@ -268,3 +258,7 @@ ended (Some p) = if key_binds (key_of p.1.left) == 0 then Some (p.0, p.1.left) e
 
 unfoldable pub read_expr : ℕ → List Token → Option (Expr × List Token)
 read_expr depth ts = ended (whole (nested depth) (at ts 1000))
+
+-- one or more, with commas between them
+unfoldable pub read_exprs : ℕ → List Token → Option (List Expr × List Token)
+read_exprs d = listed (read_expr d)

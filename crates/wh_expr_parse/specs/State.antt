@@ -1,9 +1,10 @@
 -- What an expression is read from, and the steps that every rule is made of.
-use Rattle.std.specs.Prelude.{ℕ, ◌-◌, Bool, ◌==◌, if◌then◌else◌, List, [], ◌∷◌, Option, Some, None, refl}
+use Rattle.std.specs.Prelude.{ℕ, ◌-◌, Bool, ◌==◌, List, Option, Some, None, refl, if◌then◌else◌}
 use Rattle.std.specs.Coded.{Coded, code_by, coded×, coded_ℕ, coded_list}
 use Rattle.wh_grammar.specs.Token.{Token, coded_token}
-use Rattle.wh_expr_parse.specs.declared.key.Key.{Key}
-use Rattle.wh_expr_parse.specs.Keys.{same_key, key_of}
+use Rattle.wh_cursor.specs.declared.key.Key.{Key}
+use Rattle.wh_cursor.specs.Keys.{key_of}
+use Rattle.wh_cursor.specs.Steps.{ReaderOf, tail, sees}
 
 -- the tokens that are left, and how many operators and IN items the expression may still have
 pub record State : Type 0 where
@@ -16,30 +17,8 @@ coded_state = code_by (List Token × ℕ) (coded× (coded_list coded_token) code
 abbrev pub at : List Token → ℕ → State
 at ts room = record { left = ts; room = room }
 
-abbrev pub tail : List Token → List Token
-tail [] = []
-tail (t ∷ us) = us
-
 abbrev pub Reader : Type 0 → Type 0
-Reader A = State → Option (A × State)
-
-abbrev pub and_then : {A B : Type 0} → Option (A × State) → (A → Reader B) → Option (B × State)
-and_then None f = None
-and_then (Some p) f = f p.0 p.1
-
-infixl 10 ◌>>=◌
-abbrev pub ◌>>=◌ : {A B : Type 0} → Reader A → (A → Reader B) → Reader B
-p >>= f = λ s. and_then (p s) f
-
-infixl 10 ◌>>◌
-abbrev pub ◌>>◌ : {A B : Type 0} → Reader A → Reader B → Reader B
-p >> q = p >>= (λ _. q)
-
-abbrev pub pure : {A : Type 0} → A → Reader A
-pure x = λ s. Some (x, s)
-
-abbrev pub refuse : {A : Type 0} → Reader A
-refuse = λ _. None
+Reader A = ReaderOf State A
 
 abbrev pub peek : Reader Key
 peek = λ s. Some (key_of s.left, s)
@@ -50,9 +29,6 @@ next s = at (tail s.left) s.room
 -- takes the token, whatever it is
 abbrev pub skip : Reader (Unit {0})
 skip = λ s. Some (tt, next s)
-
-unfoldable pub sees : Key → List Token → Bool
-sees key ts = same_key (key_of ts) key
 
 -- takes a token of this kind, if it comes next
 abbrev pub eat : Key → Reader Bool

@@ -1,14 +1,14 @@
 //! The rules take the reader of what stands inside as a parameter, so that each is proved by itself.
 
-ghost use Rattle.wh_expr_parse.specs.Gives.{Reads};
+ghost use Rattle.wh_cursor.specs.Gives.{Reads};
 ghost use Rattle.wh_expr_parse.specs.Read as spec;
 ghost use Rattle.wh_expr_parse.specs.Nests.{Nests};
 
-use crate::ParseFault;
 use crate::primaries::rows;
 use crate::tokens::Tokens;
 use std::alloc::Global;
 use wh_ast::Expr;
+use wh_cursor::ParseFault;
 
 /// What may stand inside an expression.
 #[derive(Clone, Copy, Debug, PartialEq, Eq)]

@@ -1,17 +1,17 @@
 //! The levels of operators, the loosest first.
 
 ghost use Rattle.std.specs.Prelude.{◌≡◌, [], true, false};
-ghost use Rattle.wh_expr_parse.specs.Gives.{Reads};
+ghost use Rattle.wh_cursor.specs.Gives.{Reads};
 ghost use Rattle.wh_expr_parse.specs.Read as spec;
 ghost use Rattle.wh_expr_parse.specs.Nests.{Nests};
 
-use crate::ParseFault;
 use crate::grammar::{Grammar, Level};
-use crate::key::{Key, joins};
 use crate::made::{binary, negated, negative};
+use crate::operators::joins;
 use crate::tokens::Tokens;
 use std::alloc::Global;
 use wh_ast::Expr;
+use wh_cursor::{Key, ParseFault};
 
 impl<F: Fn(Global, &mut Tokens<'_>, usize, Level) -> Result<Expr, ParseFault>> Grammar<F> {
     /// Operands of OR.

@@ -1,22 +1,16 @@
-//! Expressions and names among tokens.
+//! Expressions among tokens.
 #![tactic(auto)]
 
-mod fault;
 mod grammar;
-mod key;
 mod levels;
+mod literal;
 mod made;
+mod operators;
 mod predicates;
 mod primaries;
 mod reading;
-mod reserved;
-mod steps;
 #[cfg(test)]
 mod tests;
 mod tokens;
-mod words;
 
-pub use fault::ParseFault;
-pub use key::Key;
-pub use reading::{expr, name, reading_laws};
-pub use words::Words;
+pub use reading::{expr, exprs, reading_laws};

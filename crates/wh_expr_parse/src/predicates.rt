@@ -1,19 +1,18 @@
 //! What may follow a sum: a comparison, IS, IN or BETWEEN.
 
 ghost use Rattle.std.specs.Prelude.{◌≡◌, [], true, false};
-ghost use Rattle.wh_expr_parse.specs.Gives.{Reads};
-ghost use Rattle.wh_expr_parse.specs.Keys.{key_of};
+ghost use Rattle.wh_cursor.specs.Gives.{Reads};
+ghost use Rattle.wh_cursor.specs.Keys.{key_of};
 ghost use Rattle.wh_expr_parse.specs.Read as spec;
 ghost use Rattle.wh_expr_parse.specs.Nests.{Nests};
 
-use crate::ParseFault;
 use crate::grammar::{Grammar, Level};
-use crate::key::Key;
 use crate::made::{among, between, binary, is_null};
 use crate::tokens::Tokens;
 use sqlite_items::Items;
 use std::alloc::Global;
 use wh_ast::{Expr, Operator};
+use wh_cursor::{Key, ParseFault};
 use wh_value::Comparison;
 
 impl<F: Fn(Global, &mut Tokens<'_>, usize, Level) -> Result<Expr, ParseFault>> Grammar<F> {

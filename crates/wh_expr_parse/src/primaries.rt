@@ -1,18 +1,17 @@
 //! Constants, columns, parentheses and calls.
 
 ghost use Rattle.std.specs.Prelude.{◌≡◌, [], true, false, Ok};
-ghost use Rattle.wh_expr_parse.specs.Gives.{Reads};
+ghost use Rattle.wh_cursor.specs.Gives.{Reads};
 ghost use Rattle.wh_expr_parse.specs.Read as spec;
 ghost use Rattle.wh_expr_parse.specs.Nests.{Nests};
 ghost use Rattle.wh_expr_parse.specs.State as state;
 
-use crate::ParseFault;
 use crate::grammar::{Grammar, Level};
-use crate::key::Key;
 use crate::made::{count, sum};
 use crate::tokens::Tokens;
 use std::alloc::Global;
 use wh_ast::Expr;
+use wh_cursor::{Key, ParseFault};
 use wh_value::{Text, Value};
 
 #[tactic(auto, unfolding(crate::specs::Read::column))]

@@ -1,26 +1,25 @@
-ghost use Rattle.std.specs.Prelude.{◌≡◌, ℕ, List, IfOk, IsErrOf};
+ghost use Rattle.std.specs.Prelude.{◌≡◌, List, IfOk, IsErrOf, OnErr};
 ghost use Rattle.wh_ast.specs.declared.expr.Expr as ast;
-ghost use Rattle.wh_grammar.specs.Expression.{IsExprAt};
-ghost use Rattle.wh_grammar.specs.Name.{IsName};
+ghost use Rattle.wh_expr_parse.specs.Laws.{IsExprAt};
 ghost use Rattle.wh_grammar.specs.Token as machine;
-ghost use Rattle.wh_expr_parse.specs.Gives.{Reads};
+ghost use Rattle.wh_cursor.specs.Gives.{Reads};
 ghost use Rattle.wh_expr_parse.specs.Laws as laws;
-ghost use Rattle.wh_expr_parse.specs.Read.{read_name, read_expr};
+ghost use Rattle.wh_expr_parse.specs.Read.{read_expr, read_exprs};
 
 use crate::grammar::whole;
-use crate::key::binds;
 use crate::tokens::Tokens;
-use crate::{ParseFault, Words};
+use sqlite_items::Items;
 use std::alloc::Global;
 use wh_ast::Expr;
-use wh_value::Text;
+use wh_cursor::{ParseFault, Words, binds, listed};
 
 /// How many operators and IN items an expression may have.
 const ROOM: usize = 1000;
 
 #[tactic(auto, unfolding(crate::specs::Read::read_expr))]
 fn whole_expr(alloc: Global, words: &mut Words<'_>, depth: usize) -> Result<Expr, ParseFault>
-    ensures { Reads (read_expr depth words.old) result words.new }
+    ensures reads { Reads (read_expr depth words.old) result words.new }
+    ensures kept { OnErr result (words.new ≡ words.old) }
 {
     let mut tokens = Tokens::new(Words::new(words.rest()), ROOM);
     let x = whole(alloc, &mut tokens, depth)?;
@@ -38,25 +37,23 @@ pub fn expr(alloc: Global, words: &mut Words<'_>, depth: usize) -> Result<Expr, 
     ensures none { IsErrOf result ParseFault.SyntaxError
         → (x : ast.Expr) (us : List machine.Token) → IsExprAt depth words.old x us → ⊥ }
     ensures reads { Reads (read_expr depth words.old) result words.new }
+    ensures kept { OnErr result (words.new ≡ words.old) }
 {
     whole_expr(alloc, words, depth)
 }
 
-/// Takes the name that the tokens begin with: a word that isn't reserved, or a quoted name.
-pub fn name(alloc: Global, words: &mut Words<'_>) -> Result<Text, ParseFault>
-    ensures found { IfOk result (λ name. IsName words.old name words.new) }
-    ensures none { IsErrOf result ParseFault.SyntaxError
-        → (name : List ℕ) (us : List machine.Token) → IsName words.old name us → ⊥ }
-    ensures reads { Reads (read_name words.old) result words.new }
+/// Takes one expression or more, with commas between them.
+#[tactic(auto, unfolding(crate::specs::Read::read_exprs))]
+pub fn exprs(alloc: Global, words: &mut Words<'_>, depth: usize) -> Result<Items<Expr>, ParseFault>
+    ensures { Reads (read_exprs depth words.old) result words.new }
 {
-    words.name(alloc)
+    listed(alloc, words, depth, &whole_expr)
 }
 
 /// No tokens begin with two expressions, and an expression is a front of them. What `read_expr`
-/// and `read_name` read is what stands there.
+/// reads is what stands there.
 pub fn reading_laws()
     ensures exprs { laws.ReadsExprs }
-    ensures names { laws.ReadsNames }
     ensures fixed { laws.TokensFixExpr }
     ensures front { laws.ExprIsFront }
 {}

@@ -1,7 +1,8 @@
-use crate::{Key, ParseFault, Words, expr, name};
+use crate::expr;
 use std::alloc::Global;
 use std::test::Fail;
 use wh_ast::{Expr, Operator};
+use wh_cursor::{Key, ParseFault, Words, name};
 use wh_lex::tokens;
 use wh_value::{Bytes, Comparison, print_literal};
 
@@ -88,12 +89,8 @@ fn print(x: &Expr, out: &mut Bytes) -> Result<(), Fail> {
 }
 
 /// The expression at the front of a text, or `none`, and how many tokens are left.
-#[tactic(auto, using(crate::proofs::ShortNumbers::tokens_short))]
 fn read(alloc: Global, text: &[u8], depth: usize) -> Result<Bytes, Fail> {
     let mut out = Bytes::new(alloc);
-    if text.len() > 65536 {
-        return Ok(out);
-    }
     let all = match tokens(alloc, text) {
         Ok(all) => all,
         Err(_) => return Ok(out),
@@ -112,12 +109,8 @@ fn read(alloc: Global, text: &[u8], depth: usize) -> Result<Bytes, Fail> {
 }
 
 /// The name at the front of a text, or `none`.
-#[tactic(auto, using(crate::proofs::ShortNumbers::tokens_short))]
 fn read_name(alloc: Global, text: &[u8]) -> Result<Bytes, Fail> {
     let mut out = Bytes::new(alloc);
-    if text.len() > 65536 {
-        return Ok(out);
-    }
     let all = match tokens(alloc, text) {
         Ok(all) => all,
         Err(_) => return Ok(out),
@@ -240,11 +233,7 @@ fn repeated(
 }
 
 /// Whether an expression stands at the front of a text.
-#[tactic(auto, using(crate::proofs::ShortNumbers::tokens_short))]
 fn is_read(alloc: Global, text: &[u8], depth: usize) -> bool {
-    if text.len() > 65536 {
-        return false;
-    }
     let all = match tokens(alloc, text) {
         Ok(all) => all,
         Err(_) => return false,
@@ -310,12 +299,8 @@ fn take_setting(alloc: Global, words: &mut Words<'_>, out: &mut Bytes) -> Result
 }
 
 /// What steps took from a text, up to one that found something else.
-#[tactic(auto, using(crate::proofs::ShortNumbers::tokens_short))]
 fn taken(alloc: Global, text: &[u8]) -> Result<Bytes, Fail> {
     let mut out = Bytes::new(alloc);
-    if text.len() > 65536 {
-        return Ok(out);
-    }
     let all = match tokens(alloc, text) {
         Ok(all) => all,
         Err(_) => return Ok(out),

@@ -1,16 +1,16 @@
 ghost use Rattle.std.specs.Prelude.{◌≡◌, true, false, if◌then◌else◌};
-ghost use Rattle.wh_expr_parse.specs.Gives.{Reads};
-ghost use Rattle.wh_expr_parse.specs.Keys.{key_of};
-ghost use Rattle.wh_expr_parse.specs.Read.{read_name, read_literal};
+ghost use Rattle.wh_cursor.specs.Gives.{Reads};
+ghost use Rattle.wh_cursor.specs.Keys.{key_of};
+ghost use Rattle.wh_cursor.specs.Steps.{read_name, sees, tail};
+ghost use Rattle.wh_expr_parse.specs.Read.{read_literal};
 ghost use Rattle.wh_expr_parse.specs.State as spec;
-ghost use Rattle.wh_expr_parse.specs.State.{at, tail};
+ghost use Rattle.wh_expr_parse.specs.State.{at};
 
-use crate::ParseFault;
-use crate::key::{Key, same_key};
-use crate::words::Words;
+use crate::literal::literal_at;
 use std::alloc::Global;
 use std::marker::Model;
 use wh_ast::Expr;
+use wh_cursor::{Key, ParseFault, Words};
 use wh_value::Text;
 
 /// The tokens that are left, and how many operators and IN items the expression may still have.
@@ -63,23 +63,21 @@ impl<'a> Tokens<'a> {
         self.words.skip();
     }
 
-    #[tactic(auto, unfolding(crate::specs::State::sees))]
     pub fn sees(&self, key: Key) -> bool
-        ensures { result ≡ spec.sees key self.now.left }
+        ensures { result ≡ sees key self.now.left }
     {
-        same_key(self.key(), key)
+        self.words.sees(key)
     }
 
-    #[tactic(auto, unfolding(crate::specs::State::sees))]
     pub fn sees_behind(&self, key: Key) -> bool
-        ensures { result ≡ spec.sees key (tail self.now.left) }
+        ensures { result ≡ sees key (tail self.now.left) }
     {
-        same_key(self.words.key_behind(), key)
+        self.words.sees_behind(key)
     }
 
     pub fn eat(&mut self, key: Key) -> bool
-        ensures found { result ≡ spec.sees key self.old.left }
-        ensures after { self.new ≡ (if spec.sees key self.old.left then spec.next self.old else self.old) }
+        ensures found { result ≡ sees key self.old.left }
+        ensures after { self.new ≡ (if sees key self.old.left then spec.next self.old else self.old) }
     {
         let found = self.sees(key);
         if found {
@@ -121,6 +119,8 @@ impl<'a> Tokens<'a> {
     pub fn literal(&mut self, alloc: Global) -> Result<Expr, ParseFault>
         ensures { Reads (spec.plainly read_literal self.old) result self.new }
     {
-        self.words.literal(alloc)
+        let literal = literal_at(alloc, self.words.rest())?;
+        self.skip();
+        Ok(literal)
     }
 }

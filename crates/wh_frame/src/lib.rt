@@ -1,2 +1,3 @@
-//! The bytes of a file, as definitions: its header, its records, and the partitions in them. All of it is in `specs/`.
+//! The bytes of a file, as definitions: its header, its records, and the partitions in them.
+//! All of it is in `specs/`.
 #![tactic(auto)]

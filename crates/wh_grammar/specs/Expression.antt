@@ -1,19 +1,16 @@
 -- Which tokens are an expression.
 --     IsWhole d n ts x us     the tokens ts begin with an expression that stands for x, and us follow it: it has n
 --                             operators and IN items, and at most d parentheses, NOT and minus signs inside one another
---     IsExpr, IsExprAt        the same with at most 1,000; and none of the tokens behind it goes on with it
-use Rattle.std.specs.Prelude.{◌≡◌, ℕ, suc, ◌+◌, ◌≤◌, Bool, true, false, List, [], ◌∷◌, Some, None, codes, pos, bytes_eq, if◌then◌else◌}
+--     IsExpr                  the same with at most 1,000
+use Rattle.std.specs.Prelude.{ℕ, suc, ◌+◌, ◌≤◌, Bool, true, false, List, [], ◌∷◌, Some, None, codes, pos}
 use Rattle.wh_value.specs.declared.value.Value.TheVariants as v
 use Rattle.wh_value.specs.declared.comparison.Comparison.{Comparison}
 use Rattle.wh_value.specs.declared.comparison.Comparison.TheVariants as c
 use Rattle.wh_ast.specs.declared.expr.Operator.TheVariants as o
 use Rattle.wh_ast.specs.declared.expr.Expr.{Expr}
 use Rattle.wh_ast.specs.declared.expr.Expr.TheVariants as e
-use Rattle.wh_grammar.specs.Token.{Token, Word, Quoted, TextToken, NumberToken, SignToken, Sign, LParen, RParen, Comma, Dot, Star, Plus, Minus, Equal, Unequal, Less, AtMost, Greater, AtLeast, Arrow}
+use Rattle.wh_grammar.specs.Token.{Token, Word, TextToken, NumberToken, SignToken, Sign, LParen, RParen, Comma, Dot, Star, Plus, Minus, Equal, Unequal, Less, AtMost, Greater, AtLeast}
 use Rattle.wh_grammar.specs.Name.{IsName}
-
-abbrev pub keyword : List ℕ → Token
-keyword bytes = Word bytes
 
 -- a sign between two sums
 pub data IsComparison : Sign → Comparison → Type 0 where
@@ -102,51 +99,11 @@ mutual
     count : {d n : ℕ} {ts us : List Token} {x : Expr} → IsWhole d n ts x (SignToken RParen ∷ us)
         → IsPrim (suc d) n (Word (codes "COUNT") ∷ SignToken LParen ∷ ts) (e.Count x) us
 
--- How tightly a token binds behind an expression: 0 where none goes on with it.
-abbrev pub sign_binds : Sign → ℕ
-sign_binds LParen = 6
-sign_binds RParen = 0
-sign_binds Comma = 0
-sign_binds Dot = 6
-sign_binds Star = 5
-sign_binds Plus = 4
-sign_binds Minus = 4
-sign_binds Equal = 3
-sign_binds Unequal = 3
-sign_binds Less = 3
-sign_binds AtMost = 3
-sign_binds Greater = 3
-sign_binds AtLeast = 3
-sign_binds Arrow = 0
-
-abbrev pub word_binds : List ℕ → ℕ
-word_binds w =
-    if bytes_eq w (codes "OR") then 1
-    else if bytes_eq w (codes "AND") then 2
-    else if bytes_eq w (codes "NOT") then 3
-    else if bytes_eq w (codes "IS") then 3
-    else if bytes_eq w (codes "IN") then 3
-    else if bytes_eq w (codes "BETWEEN") then 3
-    else 0
-
-abbrev pub binds : List Token → ℕ
-binds [] = 0
-binds (Word w ∷ us) = word_binds w
-binds (Quoted name ∷ us) = 0
-binds (TextToken bytes ∷ us) = 0
-binds (NumberToken n ∷ us) = 0
-binds (SignToken s ∷ us) = sign_binds s
-
 -- an expression with at most 1,000 operators and IN items
 pub record IsExpr (d : ℕ) (ts : List Token) (x : Expr) (us : List Token) : Type 0 where
   pub count : ℕ
   pub few : count ≤ 1000
   pub whole : IsWhole d count ts x us
-
--- and no token goes on with it
-pub record IsExprAt (d : ℕ) (ts : List Token) (x : Expr) (us : List Token) : Type 0 where
-  pub expr : IsExpr d ts x us
-  pub ends : binds us ≡ 0
 
 -- one or more, with commas between them
 pub data AreExprs (d : ℕ) : List Token → List Expr → List Token → Type 0 where

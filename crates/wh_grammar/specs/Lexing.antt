@@ -2,8 +2,9 @@
 --     IsGap       a blank or a comment stands at the front of the bytes
 --     IsToken     a token does, the longest that there is
 --     HasTokens   the text is gaps and these tokens, to its end
-use Rattle.std.specs.Prelude.{◌≡◌, ◌≢◌, ℕ, ◌<◌, Bool, false, not, ◌&&◌, ◌||◌, IsTrue, List, [], ◌∷◌, ◌++◌, length, map, ◌==◌, if◌then◌else◌, IsUtf8}
+use Rattle.std.specs.Prelude.{◌≡◌, ◌≢◌, ℕ, ◌<◌, Bool, false, not, ◌&&◌, ◌||◌, IsTrue, List, [], ◌∷◌, ◌++◌, length, map, ◌==◌, if◌then◌else◌}
 use Rattle.std.specs.List.{list_all, flat_map}
+use Rattle.wh_value.specs.Value.{IsText}
 use Rattle.wh_grammar.specs.Bytes.{is_blank, is_digit, begins_word, is_word_byte, upper, number_behind}
 use Rattle.wh_grammar.specs.Token.{Sign, LParen, RParen, Comma, Dot, Star, Plus, Minus, Equal, Unequal, Less, AtMost, Greater, AtLeast, Arrow, Token, Word, Quoted, TextToken, NumberToken, SignToken, Placed}
 
@@ -80,18 +81,18 @@ is_plain b = not (b == 92)
 abbrev pub doubled : ℕ → List ℕ → List ℕ
 doubled quote inside = flat_map (λ b. if b == quote then quote ∷ quote ∷ [] else b ∷ []) inside
 
--- a token at the front of the bytes, and what follows it
+-- a token at the front of the bytes, and what follows it; a word, a name and a text have at most 65,536 bytes each
 pub data IsToken (bytes : List ℕ) (t : Token) (rest : List ℕ) : Type 0 where
   word : (b : ℕ) (more : List ℕ) → bytes ≡ b ∷ (more ++ rest) → IsTrue (begins_word b) → IsTrue (list_all is_word_byte more)
-      → begins_with is_word_byte rest ≡ false → t ≡ Word (map upper (b ∷ more)) → IsToken bytes t rest
+      → begins_with is_word_byte rest ≡ false → IsText (map upper (b ∷ more)) → t ≡ Word (map upper (b ∷ more)) → IsToken bytes t rest
   -- at most 18 digits behind leading zeros, and no letter behind them
   number : (digits : List ℕ) → bytes ≡ digits ++ rest → digits ≢ [] → IsTrue (list_all is_digit digits) → number_behind 0 digits < 1000000000000000000
       → begins_with is_word_byte rest ≡ false → t ≡ NumberToken (number_behind 0 digits) → IsToken bytes t rest
   -- characters without a backslash
-  text : (inside : List ℕ) → bytes ≡ 39 ∷ (doubled 39 inside ++ 39 ∷ rest) → IsUtf8 inside → IsTrue (list_all is_plain inside)
+  text : (inside : List ℕ) → bytes ≡ 39 ∷ (doubled 39 inside ++ 39 ∷ rest) → IsText inside → IsTrue (list_all is_plain inside)
       → begins_with (is_byte 39) rest ≡ false
       → t ≡ TextToken inside → IsToken bytes t rest
-  quoted : (inside : List ℕ) → bytes ≡ 34 ∷ (doubled 34 inside ++ 34 ∷ rest) → IsUtf8 inside → inside ≢ [] → begins_with (is_byte 34) rest ≡ false
+  quoted : (inside : List ℕ) → bytes ≡ 34 ∷ (doubled 34 inside ++ 34 ∷ rest) → IsText inside → inside ≢ [] → begins_with (is_byte 34) rest ≡ false
       → t ≡ Quoted inside → IsToken bytes t rest
   sign : (s : Sign) → bytes ≡ sign_bytes s ++ rest → begins_with (extends s) rest ≡ false → t ≡ SignToken s → IsToken bytes t rest
   -- `!=` is `<>`

@@ -1,11 +1,7 @@
--- Names among tokens, and single tokens.
+-- Names among tokens.
 use Rattle.std.specs.Prelude.{◌≡◌, ℕ, Bool, true, false, ◌&&◌, List, ◌∷◌}
 use Rattle.wh_grammar.specs.Words.{is_reserved, is_call}
 use Rattle.wh_grammar.specs.Token.{Token, Word, Quoted, SignToken, LParen}
-
--- the tokens begin with that one, and these follow
-abbrev pub Begins : Token → List Token → List Token → Type 0
-Begins t ts us = ts ≡ t ∷ us
 
 abbrev pub opens : List Token → Bool
 opens (SignToken LParen ∷ us) = true

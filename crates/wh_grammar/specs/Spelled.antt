@@ -1,9 +1,12 @@
 -- Which texts spell a statement, and which.
 --     IsPlain         tokens of a statement that keeps none of its text
 --     IsStatement     placed tokens of a statement
---     Spells          a text of at most 65,536 bytes spells it
+--     IsKept          a part of its text that a statement keeps
+--     Spells          a text spells it
 --     Asks            what a command's text asks for
 use Rattle.std.specs.Prelude.{◌≡◌, ℕ, ◌-◌, ◌<◌, ◌≤◌, ◌⊎◌, Bool, List, [], ◌∷◌, ◌++◌, Option, Some, None, length, map, take, drop, codes, IsUtf8}
+use Rattle.wh_value.specs.Limit.{bound}
+use Rattle.wh_value.specs.declared.limit.Limit.TheVariants as limits
 use Rattle.wh_value.specs.declared.column.Column.{Column}
 use Rattle.wh_ast.specs.declared.query.Query.{Query}
 use Rattle.wh_ast.specs.declared.query.Sort.{Sort}
@@ -77,6 +80,11 @@ abbrev pub written : List ℕ → List Placed → List ℕ
 written text [] = []
 written text (t ∷ ts) = take (t.from - end_of t ts) (drop (length text - t.from) text)
 
+-- what is kept of some tokens: the text as it is written, of at most 65,536 bytes
+pub record IsKept (text : List ℕ) (ts : List Placed) (kept : List ℕ) : Type 0 where
+  pub is : kept ≡ written text ts
+  pub short : length kept ≤ 65536
+
 -- [AFTER name {, name}]
 pub data MayFollow : List Token → List (List ℕ) → List Token → Type 0 where
   follows_none : {ts : List Token} → MayFollow ts [] ts
@@ -96,31 +104,30 @@ pub data IsTableHead : List Token → List ℕ → Lag → RefreshMode → Initi
 
 pub data IsStatement (text : List ℕ) (placed : List Placed) : Statement → Type 0 where
   plain : {s : Statement} → IsPlain (tokens_of placed) s → IsStatement text placed s
-  task : (head body : List Placed) {name : List ℕ} {minutes : Option ℕ} {names : List (List ℕ)} {x : Dml} → placed ≡ head ++ body
-      → IsTaskHead (tokens_of head) name minutes names (Word (codes "AS") ∷ []) → IsDml most_nested (tokens_of body) x []
-      → IsStatement text placed (st.CreateTask (record { name = name; minutes = minutes; after = names; when = None; body = x; body_text = written text body }))
-  guarded_task : (head guard body : List Placed) (link : Placed) {name : List ℕ} {minutes : Option ℕ} {names : List (List ℕ)} {condition : Condition} {x : Dml}
+  task : (head body : List Placed) {name : List ℕ} {minutes : Option ℕ} {names : List (List ℕ)} {x : Dml} {kept : List ℕ} → placed ≡ head ++ body
+      → IsTaskHead (tokens_of head) name minutes names (Word (codes "AS") ∷ []) → IsDml most_nested (tokens_of body) x [] → IsKept text body kept
+      → IsStatement text placed (st.CreateTask (record { name = name; minutes = minutes; after = names; when = None; body = x; body_text = kept }))
+  guarded_task : (head guard body : List Placed) (link : Placed) {name : List ℕ} {minutes : Option ℕ} {names : List (List ℕ)} {condition : Condition} {x : Dml} {kept body_kept : List ℕ}
       → placed ≡ head ++ (guard ++ link ∷ body) → IsTaskHead (tokens_of head) name minutes names (Word (codes "WHEN") ∷ [])
-      → IsCondition most_nested (tokens_of guard) condition [] → link.token ≡ Word (codes "AS") → IsDml most_nested (tokens_of body) x []
-      → IsStatement text placed (st.CreateTask (record { name = name; minutes = minutes; after = names; when = Some (record { condition = condition; text = written text guard }); body = x; body_text = written text body }))
-  dynamic_table : (head body : List Placed) {name : List ℕ} {l : Lag} {m : RefreshMode} {i : Initialize} {q : Query} → placed ≡ head ++ body
-      → IsTableHead (tokens_of head) name l m i (Word (codes "AS") ∷ []) → IsQuery most_nested (tokens_of body) q []
-      → IsStatement text placed (st.CreateDynamicTable (record { name = name; lag = l; mode = m; initialize = i; query = q; query_text = written text body }))
+      → IsCondition most_nested (tokens_of guard) condition [] → IsKept text guard kept → link.token ≡ Word (codes "AS") → IsDml most_nested (tokens_of body) x [] → IsKept text body body_kept
+      → IsStatement text placed (st.CreateTask (record { name = name; minutes = minutes; after = names; when = Some (record { condition = condition; text = kept }); body = x; body_text = body_kept }))
+  dynamic_table : (head body : List Placed) {name : List ℕ} {l : Lag} {m : RefreshMode} {i : Initialize} {q : Query} {kept : List ℕ} → placed ≡ head ++ body
+      → IsTableHead (tokens_of head) name l m i (Word (codes "AS") ∷ []) → IsQuery most_nested (tokens_of body) q [] → IsKept text body kept
+      → IsStatement text placed (st.CreateDynamicTable (record { name = name; lag = l; mode = m; initialize = i; query = q; query_text = kept }))
 
 pub record Spells (text : List ℕ) (statement : Statement) : Type 0 where
   pub utf8 : IsUtf8 text
-  pub short : length text ≤ 65536
   pub placed : List Placed
   pub tokens : HasTokens text placed
   pub is_statement : IsStatement text placed statement
 
--- what a command's text asks for: nothing, where it is longer than 65,536 bytes or spells no statement
+-- what a command's text asks for: nothing, where it is longer than a statement may be or spells none
 pub data Request : Type 0 where
   TooLong : Request
   Unreadable : Request
   Asked : Statement → Request
 
 pub data Asks (text : List ℕ) : Request → Type 0 where
-  is_long : 65536 < length text → Asks text TooLong
-  spells_none : length text ≤ 65536 → ((s : Statement) → Spells text s → ⊥) → Asks text Unreadable
-  spells : (s : Statement) → Spells text s → Asks text (Asked s)
+  is_long : bound limits.Statement < length text → Asks text TooLong
+  spells_none : length text ≤ bound limits.Statement → ((s : Statement) → Spells text s → ⊥) → Asks text Unreadable
+  spells : (s : Statement) → length text ≤ bound limits.Statement → Spells text s → Asks text (Asked s)

@@ -1,16 +1,16 @@
 -- What is read at the front of a text stands there, and what stands there is read.
-use Rattle.std.proofs.Common.{◌≡◌, ◌≢◌, ℕ, suc, ◌<◌, Bool, true, false, ◌&&◌, if◌then◌else◌, List, [], ◌∷◌, ◌++◌, length, map, take, drop, Option, Some, None, option_map, refl, sym, ap, ap₂, ◌∙◌, subst, ne_eqb, ltb, ltb-true, lt-ltb, ◌==◌, eqb-true, arith, IsUtf8, take_at, drop_at, take-append-drop, one-add}
+use Rattle.std.proofs.Common.{◌≡◌, ◌≢◌, ℕ, suc, ◌<◌, Bool, true, false, ◌&&◌, if◌then◌else◌, List, [], ◌∷◌, ◌++◌, length, map, take, drop, Option, Some, None, option_map, refl, sym, ap, ap₂, ◌∙◌, subst, ne_eqb, ltb, ltb-true, lt-ltb, ◌==◌, eqb-true, arith, take_at, drop_at, take-append-drop, one-add}
 use Rattle.std.specs.List.{list_all}
-use Rattle.std.specs.Str.{is_utf8}
 use Rattle.std.proofs.lemmas.Bool.{and_parts, and_from}
-use Rattle.std.proofs.lemmas.Str.{IsUtf8-from_is_utf8, is_utf8-from_IsUtf8}
+use Rattle.wh_value.specs.Value.{IsText}
 use Rattle.wh_grammar.specs.Bytes.{is_blank, is_digit, begins_word, is_word_byte, upper, number_behind}
 use Rattle.wh_grammar.specs.Token.{Token, Word, Quoted, TextToken, NumberToken}
 use Rattle.wh_grammar.specs.Lexing.{IsGap, blank, IsToken, word, number, text, quoted, sign, other_unequal, begins_with, is_byte, is_plain, doubled}
-use Rattle.wh_lex.specs.Front.{Front, gap, token, word_len, word_front, number_from, number_front, quoted_of, text_front, name_front, line_rest, comment_rest, front_behind, front_of}
+use Rattle.wh_lex.specs.Front.{Front, gap, token, text_of, word_len, word_front, number_from, number_front, quoted_of, text_front, name_front, line_rest, comment_rest, front_behind, front_of}
 use Rattle.wh_lex.proofs.WordLemmas.{all-prefix, stops-prefix, prefix_len-front, word-not_blank, begins-word, digit-word, digit-other, digit-not_blank}
 use Rattle.wh_lex.proofs.GapLemmas.{begins, line-IsGap, comment-IsGap, GapIf}
 use Rattle.wh_lex.proofs.QuoteLaws.{IsQuoted, quoted-stands, quoted-read}
+use Rattle.wh_lex.proofs.TextLemmas.{of_text, text-read}
 use Rattle.wh_lex.proofs.Standing.{by_test, Stands}
 use Rattle.wh_lex.proofs.SignLemmas.{sign-stands, sign_is_read, unequal_is_read}
 
@@ -19,12 +19,14 @@ limit = 1000000000000000000
 
 -- ---- words and numbers stand where they are read
 
-word-stands : (b : ℕ) (bytes : List ℕ) → begins_word b ≡ true → Stands (b ∷ bytes) (Some (word_front (b ∷ bytes)))
+word-stands : (b : ℕ) (bytes : List ℕ) → begins_word b ≡ true → Stands (b ∷ bytes) (word_front (b ∷ bytes))
 word-stands b bytes h =
     let k = begins-word b h in
     let n = word_len bytes in
-    let here : IsToken (b ∷ bytes) (Word (map upper (b ∷ take n bytes))) (drop n bytes) =
-    word b (take n bytes) (ap (λ l. b ∷ l) (sym (take-append-drop n bytes))) h (all-prefix is_word_byte bytes) (stops-prefix is_word_byte bytes) refl in
+    let made : List ℕ = map upper (b ∷ take n bytes) in
+    let here : Stands (b ∷ bytes) (option_map (λ w. token (Word w) (drop n bytes)) (text_of made)) =
+    of_text (λ o. Stands (b ∷ bytes) (option_map (λ w. token (Word w) (drop n bytes)) o)) made
+    (λ t. word b (take n bytes) (ap (λ l. b ∷ l) (sym (take-append-drop n bytes))) h (all-prefix is_word_byte bytes) (stops-prefix is_word_byte bytes) t refl) tt in
     simp (k, one-add) here
 
 number_by : (bytes digits rest : List ℕ) (r : Bool) → bytes ≡ digits ++ rest → digits ≢ [] → begins_with is_word_byte rest ≡ false
@@ -49,13 +51,9 @@ text_by : (bytes : List ℕ) (o : Option (List ℕ × List ℕ)) → IsQuoted 39
 text_by bytes None h = tt
 text_by bytes (Some p) h =
     by_test (Stands (39 ∷ bytes)) (list_all is_plain p.0) _ _
-    (λ plain. utf8_by (is_utf8 p.0) (λ utf8. text p.0 (ap (λ l. 39 ∷ l) h.0) (IsUtf8-from_is_utf8 p.0 utf8) plain h.1 refl))
+    (λ plain. of_text (λ o. Stands (39 ∷ bytes) (option_map (λ t. token (TextToken t) p.1) o)) p.0
+    (λ made. text p.0 (ap (λ l. 39 ∷ l) h.0) made plain h.1 refl) tt)
     (λ _. tt)
-  where
-    utf8_by : (r : Bool) → (r ≡ true → IsToken (39 ∷ bytes) (TextToken p.0) p.1)
-        → Stands (39 ∷ bytes) (option_map (λ t. token (TextToken t) p.1) (if r then Some p.0 else None))
-    utf8_by true k = k refl
-    utf8_by false k = tt
 
 not_empty : (bytes : List ℕ) → (length bytes == 0) ≡ false → bytes ≢ []
 not_empty [] h e = cc
@@ -65,12 +63,8 @@ name_by : (bytes : List ℕ) (o : Option (List ℕ × List ℕ)) → IsQuoted 34
 name_by bytes None h = tt
 name_by bytes (Some p) h =
     by_test (Stands (34 ∷ bytes)) (length p.0 == 0) _ _ (λ _. tt)
-    (λ some. utf8_by (is_utf8 p.0) (λ utf8. quoted p.0 (ap (λ l. 34 ∷ l) h.0) (IsUtf8-from_is_utf8 p.0 utf8) (not_empty p.0 some) h.1 refl))
-  where
-    utf8_by : (r : Bool) → (r ≡ true → IsToken (34 ∷ bytes) (Quoted p.0) p.1)
-        → Stands (34 ∷ bytes) (option_map (λ t. token (Quoted t) p.1) (if r then Some p.0 else None))
-    utf8_by true k = k refl
-    utf8_by false k = tt
+    (λ some. of_text (λ o. Stands (34 ∷ bytes) (option_map (λ t. token (Quoted t) p.1) o)) p.0
+    (λ made. quoted p.0 (ap (λ l. 34 ∷ l) h.0) made (not_empty p.0 some) h.1 refl) tt)
 
 -- ---- gaps do
 
@@ -107,13 +101,14 @@ front-stands b bytes =
 
 -- ---- what stands there is read
 
-word_is_read : (b : ℕ) (more rest : List ℕ) → begins_word b ≡ true → list_all is_word_byte more ≡ true → begins_with is_word_byte rest ≡ false
+word_is_read : (b : ℕ) (more rest : List ℕ) → begins_word b ≡ true → list_all is_word_byte more ≡ true → begins_with is_word_byte rest ≡ false → IsText (map upper (b ∷ more))
     → front_behind b (more ++ rest) ≡ Some (token (Word (map upper (b ∷ more))) rest)
 unfolding front_behind
-word_is_read b more rest h all stop =
+word_is_read b more rest h all stop made =
     let no_blank = word-not_blank b (begins-word b h) in
     let len = prefix_len-front is_word_byte more rest all stop in
-    simp (no_blank, h, len, one-add, take_at more rest (length more) refl, drop_at more rest (length more) refl)
+    let read = text-read (map upper (b ∷ more)) made in
+    simp (no_blank, h, len, one-add, take_at more rest (length more) refl, drop_at more rest (length more) refl, read)
 
 digits_are_word : (digits : List ℕ) → list_all is_digit digits ≡ true → list_all is_word_byte digits ≡ true
 digits_are_word [] h = refl
@@ -147,28 +142,28 @@ number_is_read [] rest some all small stop = absurd (some refl)
 number_is_read (d ∷ digits) rest some all small stop =
     digit_is_read d (digits ++ rest) (and_parts (is_digit d) (list_all is_digit digits) all).0 ∙ number_front-digits (d ∷ digits) rest all small stop
 
-text_is_read : (inside rest : List ℕ) → IsUtf8 inside → list_all is_plain inside ≡ true → begins_with (is_byte 39) rest ≡ false
+text_is_read : (inside rest : List ℕ) → IsText inside → list_all is_plain inside ≡ true → begins_with (is_byte 39) rest ≡ false
     → front_of (39 ∷ (doubled 39 inside ++ 39 ∷ rest)) ≡ Some (token (TextToken inside) rest)
 unfolding front_behind
-text_is_read inside rest utf8 plain stop = rw (quoted-read 39 inside rest stop, plain, is_utf8-from_IsUtf8 inside utf8) refl
+text_is_read inside rest made plain stop = rw (quoted-read 39 inside rest stop, plain, text-read inside made) refl
 
 some_inside : (inside : List ℕ) → inside ≢ [] → (length inside == 0) ≡ false
 some_inside [] h = absurd (h refl)
 some_inside (b ∷ inside) h = ne_eqb (length (b ∷ inside)) 0 (λ (e : suc (length inside) ≡ 0). absurd (omega arith))
 
-name_is_read : (inside rest : List ℕ) → IsUtf8 inside → inside ≢ [] → begins_with (is_byte 34) rest ≡ false
+name_is_read : (inside rest : List ℕ) → IsText inside → inside ≢ [] → begins_with (is_byte 34) rest ≡ false
     → front_of (34 ∷ (doubled 34 inside ++ 34 ∷ rest)) ≡ Some (token (Quoted inside) rest)
 unfolding front_behind
-name_is_read inside rest utf8 some stop = rw (quoted-read 34 inside rest stop, some_inside inside some, is_utf8-from_IsUtf8 inside utf8) refl
+name_is_read inside rest made some stop = rw (quoted-read 34 inside rest stop, some_inside inside some, text-read inside made) refl
 
 pub token_is_read : (bytes : List ℕ) (t : Token) (rest : List ℕ) → IsToken bytes t rest → front_of bytes ≡ Some (token t rest)
-token_is_read bytes t rest (word b more e h all stop is) =
-    ap front_of e ∙ word_is_read b more rest h all stop ∙ ap (λ u. Some (token u rest)) (sym is)
+token_is_read bytes t rest (word b more e h all stop made is) =
+    ap front_of e ∙ word_is_read b more rest h all stop made ∙ ap (λ u. Some (token u rest)) (sym is)
 token_is_read bytes t rest (number digits e some all small stop is) =
     ap front_of e ∙ number_is_read digits rest some all small stop ∙ ap (λ u. Some (token u rest)) (sym is)
-token_is_read bytes t rest (text inside e utf8 plain stop is) =
-    ap front_of e ∙ text_is_read inside rest utf8 plain stop ∙ ap (λ u. Some (token u rest)) (sym is)
-token_is_read bytes t rest (quoted inside e utf8 some stop is) =
-    ap front_of e ∙ name_is_read inside rest utf8 some stop ∙ ap (λ u. Some (token u rest)) (sym is)
+token_is_read bytes t rest (text inside e made plain stop is) =
+    ap front_of e ∙ text_is_read inside rest made plain stop ∙ ap (λ u. Some (token u rest)) (sym is)
+token_is_read bytes t rest (quoted inside e made some stop is) =
+    ap front_of e ∙ name_is_read inside rest made some stop ∙ ap (λ u. Some (token u rest)) (sym is)
 token_is_read bytes t rest (sign s e stop is) = sign_is_read s bytes rest e stop ∙ ap (λ u. Some (token u rest)) (sym is)
 token_is_read bytes t rest (other_unequal e is) = unequal_is_read bytes rest e ∙ ap (λ u. Some (token u rest)) (sym is)

@@ -2,6 +2,7 @@ pub mod Standing
 pub mod NumberLemmas
 pub mod WordLemmas
 pub mod QuoteLemmas
+pub mod TextLemmas
 pub mod GapLemmas
 pub mod QuoteLaws
 pub mod SignLemmas

@@ -1,8 +1,5 @@
 -- Lemmas on what stands inside quotes.
-use Rattle.std.proofs.Common.{◌≡◌, ℕ, Bool, true, false, List, [], ◌∷◌, ◌++◌, Option, Some, None, refl, sym, ap, ◌∙◌, append_assoc, append-nil, eqb, length, ◌≤◌}
-use Rattle.std.specs.Str.{is_utf8}
-use Rattle.std.proofs.lemmas.Str.{IsUtf8-from_is_utf8, is_utf8-from_IsUtf8}
-use Rattle.wh_value.specs.Value.{IsText}
+use Rattle.std.proofs.Common.{◌≡◌, ℕ, Bool, true, false, List, [], ◌∷◌, ◌++◌, Option, Some, None, refl, sym, ap, ◌∙◌, append_assoc, append-nil, eqb}
 use Rattle.wh_lex.specs.Front.{inside_behind, inside_first, onto, quoted_of}
 
 -- ---- one byte after the other
@@ -63,15 +60,3 @@ pub quoted-more : (quote b : ℕ) (inside rest bytes after made : List ℕ) → 
 quoted-more quote b inside rest bytes after made left e more =
     ap (λ l. grown l (quoted_of quote after)) more ∙ sym (grown-onto inside b (quoted_of quote after))
     ∙ ap (grown inside) (ap (by_first quote) e ∙ quoted_of-first quote rest) ∙ left
-
--- ---- texts
-
-pub utf8-text : (bytes : List ℕ) → IsText bytes → is_utf8 bytes ≡ true
-utf8-text bytes t = is_utf8-from_IsUtf8 bytes t.utf8
-
-fails : {P : Type 0} (b : Bool) → (b ≡ true → P) → (P → ⊥) → b ≡ false
-fails true p h = absurd (h (p refl))
-fails false p h = refl
-
-pub utf8-none : (bytes : List ℕ) → length bytes ≤ 65536 → (IsText bytes → ⊥) → is_utf8 bytes ≡ false
-utf8-none bytes short h = fails (is_utf8 bytes) (λ e. record { utf8 = IsUtf8-from_is_utf8 bytes e; short = short }) h

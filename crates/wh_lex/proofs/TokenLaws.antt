@@ -115,7 +115,7 @@ sign-long LParen = omega arith
 sign-long _ = omega arith
 
 token-shorter : (bytes : List ℕ) (t : Token) (rest : List ℕ) → IsToken bytes t rest → length rest < length bytes
-token-shorter bytes t rest (word b more e h all stop is) = omega (arith, ap length e, length-append more rest)
+token-shorter bytes t rest (word b more e h all stop made is) = omega (arith, ap length e, length-append more rest)
 token-shorter bytes t rest (number digits e some all small stop is) = omega (arith, ap length e, length-append digits rest, some-long digits some)
 token-shorter bytes t rest (text inside e utf8 plain stop is) = omega (arith, ap length e, length-append (doubled 39 inside) (39 ∷ rest))
 token-shorter bytes t rest (quoted inside e utf8 some stop is) = omega (arith, ap length e, length-append (doubled 34 inside) (34 ∷ rest))
@@ -132,7 +132,7 @@ front-shorter bytes t rest e = read-shorter bytes t rest (front_is_read bytes t 
 -- ---- numbers are of at most 18 digits
 
 token-IsWithin : (bytes : List ℕ) (t : Token) (rest : List ℕ) → IsToken bytes t rest → IsWithin t
-token-IsWithin bytes t rest (word b more e h all stop is) = subst IsWithin (sym is) tt
+token-IsWithin bytes t rest (word b more e h all stop made is) = subst IsWithin (sym is) tt
 token-IsWithin bytes t rest (number digits e some all small stop is) = subst IsWithin (sym is) small
 token-IsWithin bytes t rest (text inside e utf8 plain stop is) = subst IsWithin (sym is) tt
 token-IsWithin bytes t rest (quoted inside e utf8 some stop is) = subst IsWithin (sym is) tt

@@ -1,29 +1,10 @@
 -- Lemmas on the bytes of words.
-use Rattle.std.proofs.Common.{◌≡◌, ℕ, zero, suc, ◌<◌, ◌≤◌, Bool, true, false, List, [], ◌∷◌, ◌++◌, length, map, take, drop, refl, arith, one-add}
+use Rattle.std.proofs.Common.{◌≡◌, ℕ, Bool, true, false, List, [], ◌∷◌, ◌++◌, length, take, drop, refl, arith, one-add}
 use Rattle.std.specs.List.{list_all, prefix_len}
-use Rattle.std.specs.Str.{IsAscii}
-use Rattle.std.proofs.lemmas.Str.{IsUtf8-from_ascii}
 use Rattle.std.proofs.lemmas.Bool.{and_parts}
 use Rattle.std.proofs.lemmas.Bool.Decides.{nat_tests}
-use Rattle.std.proofs.lemmas.List.{length-map}
-use Rattle.wh_value.specs.Value.{IsText}
-use Rattle.wh_grammar.specs.Bytes.{is_blank, is_digit, begins_word, is_word_byte, upper}
+use Rattle.wh_grammar.specs.Bytes.{is_blank, is_digit, begins_word, is_word_byte}
 use Rattle.wh_grammar.specs.Lexing.{begins_with}
-
-upper-lt128 : (b : ℕ) → is_word_byte b ≡ true → upper b < 128
-upper-lt128 b h = grind (arith, nat_tests)
-
-upper-IsAscii : (word : List ℕ) → list_all is_word_byte word ≡ true → IsAscii (map upper word)
-upper-IsAscii [] h i = omega arith
-upper-IsAscii (b ∷ word) h zero = upper-lt128 b (and_parts (is_word_byte b) (list_all is_word_byte word) h).0
-upper-IsAscii (b ∷ word) h (suc i) = upper-IsAscii word (and_parts (is_word_byte b) (list_all is_word_byte word) h).1 i
-
--- a word in upper case is a text
-pub upper-IsText : (word made : List ℕ) → list_all is_word_byte word ≡ true → length word ≤ 65536 → made ≡ map upper word → IsText made
-upper-IsText word made h short e =
-    let few : length (map upper word) ≤ 65536 = rw length-map short in
-    let text : IsText (map upper word) = record { utf8 = IsUtf8-from_ascii _ (upper-IsAscii word h); short = few } in
-    rw e text
 
 all_by : (p : ℕ → Bool) (b : ℕ) (bytes : List ℕ) (r : Bool) → p b ≡ r → list_all p (take (prefix_len p bytes) bytes) ≡ true
     → list_all p (take (prefix_len p (b ∷ bytes)) (b ∷ bytes)) ≡ true

@@ -1,11 +1,12 @@
 -- What stands at the front of a text, read from the left.
 --     line_rest, comment_rest     what is behind a comment
+--     text_of                     the bytes, where they are UTF-8 of at most 65,536 bytes
 --     word_front, number_front    the word and the number there
 --     quoted_of                   what stands inside quotes, and what is behind them
 --     text_front, name_front      that as a text and as a quoted name
 --     single, double              signs of one byte and of two
 --     front_of                    the token at the front, or none for a gap, and what follows it; None where neither stands there
-use Rattle.std.specs.Prelude.{ℕ, not, ◌&&◌, List, [], ◌∷◌, length, map, take, drop, Option, Some, None, option_map, nat_lt, ◌==◌, if◌then◌else◌}
+use Rattle.std.specs.Prelude.{ℕ, not, ◌&&◌, List, [], ◌∷◌, length, map, take, drop, Option, Some, None, option_map, nat_lt, nat_le, ◌==◌, if◌then◌else◌}
 use Rattle.std.specs.List.{list_all, prefix_len}
 use Rattle.std.specs.Str.{is_utf8}
 use Rattle.wh_grammar.specs.Bytes.{is_blank, is_digit, begins_word, is_word_byte, upper, number_behind}
@@ -41,12 +42,15 @@ comment_rest (b ∷ bytes) = if b == 42 && begins_with (is_byte 47) bytes then S
 
 -- ---- words and numbers
 
+unfoldable pub text_of : List ℕ → Option (List ℕ)
+text_of bytes = if is_utf8 bytes && nat_le (length bytes) 65536 then Some bytes else None
+
 -- how many bytes at the front are of words
 abbrev pub word_len : List ℕ → ℕ
 word_len bytes = prefix_len is_word_byte bytes
 
-abbrev pub word_front : List ℕ → Front
-word_front bytes = token (Word (map upper (take (word_len bytes) bytes))) (drop (word_len bytes) bytes)
+abbrev pub word_front : List ℕ → Option Front
+word_front bytes = option_map (λ w. token (Word w) (drop (word_len bytes) bytes)) (text_of (map upper (take (word_len bytes) bytes)))
 
 -- the number that digits spell behind a number, where it has at most 18 digits
 unfoldable pub number_from : ℕ → List ℕ → Option ℕ
@@ -82,16 +86,13 @@ quoted_of quote (b ∷ c ∷ bytes) =
     else if quote == c then onto quote (quoted_of quote bytes)
     else Some ([], c ∷ bytes)
 
-abbrev pub utf8_of : List ℕ → Option (List ℕ)
-utf8_of bytes = if is_utf8 bytes then Some bytes else None
-
 abbrev pub text_front : Option (List ℕ × List ℕ) → Option Front
 text_front None = None
-text_front (Some p) = if list_all is_plain p.0 then option_map (λ text. token (TextToken text) p.1) (utf8_of p.0) else None
+text_front (Some p) = if list_all is_plain p.0 then option_map (λ text. token (TextToken text) p.1) (text_of p.0) else None
 
 abbrev pub name_front : Option (List ℕ × List ℕ) → Option Front
 name_front None = None
-name_front (Some p) = if length p.0 == 0 then None else option_map (λ name. token (Quoted name) p.1) (utf8_of p.0)
+name_front (Some p) = if length p.0 == 0 then None else option_map (λ name. token (Quoted name) p.1) (text_of p.0)
 
 -- ---- signs
 
@@ -132,7 +133,7 @@ sign_front b (c ∷ bytes) = sign_if (double b c) bytes (sign_if (single b) (c �
 unfoldable pub front_behind : ℕ → List ℕ → Option Front
 front_behind b bytes =
     if is_blank b then Some (gap bytes)
-    else if begins_word b then Some (word_front (b ∷ bytes))
+    else if begins_word b then word_front (b ∷ bytes)
     else if is_digit b then number_front (b ∷ bytes)
     else if b == 39 then text_front (quoted_of 39 bytes)
     else if b == 34 then name_front (quoted_of 34 bytes)

@@ -1,4 +1,4 @@
-ghost use Rattle.std.specs.Prelude.{◌≡◌, ◌∷◌, ◌≤◌, length, option_map, None};
+ghost use Rattle.std.specs.Prelude.{◌≡◌, ◌∷◌, option_map, None};
 ghost use Rattle.wh_grammar.specs.Token.{SignToken};
 ghost use Rattle.wh_lex.specs.Front as spec;
 ghost use Rattle.wh_lex.specs.Gives.{Gives};
@@ -20,7 +20,6 @@ pub struct Front<'a> {
 
 /// The gap or the token at the front. A syntax error where neither stands there.
 pub fn front_of(alloc: Global, text: &[u8]) -> Result<Front<'_>, LexFault>
-    requires { length text.now ≤ 65536 }
     ensures { Gives front_view result (spec.front_of text.now) }
 {
     match text {
@@ -36,8 +35,7 @@ fn front_behind<'a>(
     first: u8,
     rest: &'a [u8],
 ) -> Result<Front<'a>, LexFault>
-    requires short { length text.now ≤ 65536 }
-    requires parts { text.now ≡ first ∷ rest.now }
+    requires { text.now ≡ first ∷ rest.now }
     ensures { Gives front_view result (spec.front_behind first rest.now) }
 {
     if is_blank(first) {

@@ -1,4 +1,4 @@
-ghost use Rattle.std.specs.Prelude.{◌≡◌, ◌≤◌, ◌++◌, length, List, option_map};
+ghost use Rattle.std.specs.Prelude.{◌≡◌, ◌++◌, List, option_map};
 ghost use Rattle.std.specs.Prelude.{IfSome, IfOk, OnOk, IsErrOf, IsOkUnless};
 ghost use Rattle.wh_grammar.specs.Token.{Placed};
 ghost use Rattle.wh_grammar.specs.Lexing.{HasTokens};
@@ -14,7 +14,6 @@ use std::alloc::Global;
 
 /// The tokens of a text, or a syntax error where it has none.
 pub fn tokens(alloc: Global, text: &[u8]) -> Result<Vec<Token>, LexFault>
-    requires { length text.now ≤ 65536 }
     ensures found { IfOk result (λ ts. HasTokens text.now ts.items) }
     ensures none { IsErrOf result LexFault.SyntaxError
         → (ts : List Placed) → HasTokens text.now ts → ⊥ }

@@ -1,4 +1,4 @@
-ghost use Rattle.std.specs.Prelude.{◌≡◌, ◌+◌, ◌≤◌, length, option_map, IfOk, IfSome};
+ghost use Rattle.std.specs.Prelude.{◌≡◌, ◌+◌, ◌≤◌, length, option_map, IfSome};
 ghost use Rattle.std.specs.List.{list_all};
 ghost use Rattle.wh_grammar.specs.Lexing as lexing;
 ghost use Rattle.wh_lex.specs.Front as spec;
@@ -13,7 +13,6 @@ use wh_value::Text;
 
 /// The text behind its opening quote, and what follows it.
 pub fn text_behind(alloc: Global, bytes: &[u8]) -> Result<Front<'_>, LexFault>
-    requires { length bytes.now ≤ 65536 }
     ensures { Gives front_view result (spec.text_front (spec.quoted_of 39 bytes.now)) }
 {
     let (inside, rest) = quoted(alloc, b'\'', bytes)?;
@@ -29,7 +28,6 @@ pub fn text_behind(alloc: Global, bytes: &[u8]) -> Result<Front<'_>, LexFault>
 
 /// The quoted name behind its opening quote, and what follows it.
 pub fn name_behind(alloc: Global, bytes: &[u8]) -> Result<Front<'_>, LexFault>
-    requires { length bytes.now ≤ 65536 }
     ensures { Gives front_view result (spec.name_front (spec.quoted_of 34 bytes.now)) }
 {
     let (inside, rest) = quoted(alloc, b'"', bytes)?;
@@ -45,8 +43,7 @@ pub fn name_behind(alloc: Global, bytes: &[u8]) -> Result<Front<'_>, LexFault>
 
 /// What stands up to a quote that isn't doubled, and what is behind that.
 fn quoted(alloc: Global, quote: u8, bytes: &[u8]) -> Result<(Vec<u8>, &[u8]), LexFault>
-    ensures is { Gives (λ p. (p.0.items, p.1.now)) result (spec.quoted_of quote bytes.now) }
-    ensures within { IfOk result (λ p. length p.0.items ≤ length bytes.now) }
+    ensures { Gives (λ p. (p.0.items, p.1.now)) result (spec.quoted_of quote bytes.now) }
 {
     let mut inside = Vec::new(alloc);
     let mut rest = bytes;
@@ -93,9 +90,9 @@ fn is_plain(bytes: &[u8]) -> bool
     bytes.iter().all(|byte| *byte != b'\\')
 }
 
-fn made_text(alloc: Global, bytes: &[u8]) -> Result<Text, LexFault>
-    requires { length bytes.now ≤ 65536 }
-    ensures { Gives (λ text. text) result (spec.utf8_of bytes.now) }
+/// The text of the bytes, where they are one.
+pub fn made_text(alloc: Global, bytes: &[u8]) -> Result<Text, LexFault>
+    ensures { Gives (λ text. text) result (spec.text_of bytes.now) }
 {
     match Text::from_bytes(alloc, bytes) {
         Some(made) => Ok(made?),

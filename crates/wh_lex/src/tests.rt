@@ -45,9 +45,6 @@ fn show(token: &Token, out: &mut Bytes) -> Result<(), AllocError> {
 /// The tokens of a text, or `refused`.
 fn shown(alloc: Global, text: &[u8]) -> Result<Bytes, Fail> {
     let mut out = Bytes::new(alloc);
-    if text.len() > 65536 {
-        return Ok(out);
-    }
     match tokens(alloc, text) {
         Ok(found) => {
             for token in &found {
@@ -225,11 +222,11 @@ fn long_texts_are_read(rt: HostRuntime) -> Result<(), Fail> {
         signs.push(b'<')?;
         word.push(b'a')?;
     }
-    for (text, many) in [(&signs, 65536), (&word, 1)] {
-        let bytes = text.as_slice();
-        if bytes.len() <= 65536 {
-            assert_eq!(rt; tokens(alloc, bytes)?.len(), many);
-        }
-    }
+    assert_eq!(rt; tokens(alloc, word.as_slice())?.len(), 1);
+    word.push(b'a')?;
+    let longer = tokens(alloc, word.as_slice());
+    assert!(rt; matches!(longer, Err(LexFault::SyntaxError)));
+    signs.push(b'<')?;
+    assert_eq!(rt; tokens(alloc, signs.as_slice())?.len(), 65537);
     Ok(())
 }

@@ -1,5 +1,4 @@
-ghost use Rattle.std.specs.Prelude.{◌≡◌, ◌≤◌, map, length, true, Some};
-ghost use Rattle.std.specs.List.{list_all};
+ghost use Rattle.std.specs.Prelude.{◌≡◌, ◌≤◌, map, length};
 ghost use Rattle.wh_grammar.specs.Bytes as byte_class;
 ghost use Rattle.wh_lex.specs.Front as spec;
 ghost use Rattle.wh_lex.specs.View.{front_view};
@@ -7,8 +6,9 @@ ghost use Rattle.wh_lex.specs.Gives.{Gives};
 
 use crate::bytes::{is_digit, is_word_byte, upper};
 use crate::front::Front;
+use crate::quotes::made_text;
 use crate::{Kind, LexFault};
-use std::alloc::{AllocError, Global};
+use std::alloc::Global;
 use wh_value::Text;
 
 /// The least number of 19 digits.
@@ -29,8 +29,7 @@ fn word_len(text: &[u8]) -> usize
 
 /// The word at the front, in upper case, and what follows it.
 pub fn word(alloc: Global, text: &[u8]) -> Result<Front<'_>, LexFault>
-    requires { length text.now ≤ 65536 }
-    ensures { Gives front_view result (Some (spec.word_front text.now)) }
+    ensures { Gives front_view result (spec.word_front text.now) }
 {
     let len = word_len(text);
     let word = upper_case(alloc, &text[..len])?;
@@ -42,15 +41,10 @@ pub fn word(alloc: Global, text: &[u8]) -> Result<Front<'_>, LexFault>
 
 /// The bytes of a word in upper case.
 fn upper_case(alloc: Global, word: &[u8]) -> Result<Text, LexFault>
-    requires short { length word.now ≤ 65536 }
-    requires word { list_all byte_class.is_word_byte word.now ≡ true }
-    ensures { Gives (λ made. made) result (Some (map byte_class.upper word.now)) }
+    ensures { Gives (λ made. made) result (spec.text_of (map byte_class.upper word.now)) }
 {
     let letters: Vec<u8> = word.iter().map(|byte| upper(*byte)).collect(alloc)?;
-    match Text::from_bytes(alloc, &letters) {
-        Some(made) => Ok(made?),
-        None => unreachable!(),
-    }
+    made_text(alloc, &letters)
 }
 
 /// The number at the front, and what follows it.

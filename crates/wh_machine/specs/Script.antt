@@ -1,7 +1,7 @@
 -- The events of a script.
 --     HasEvents      the events of lines, from a session and a reading on
 --     IsScript       the events of a script
-use Rattle.std.specs.Prelude.{ℕ, List, [], ◌∷◌, Option, Some, None}
+use Rattle.std.specs.Prelude.{ℕ, List, [], ◌∷◌, Some, None}
 use Rattle.wh_grammar.specs.Spelled.{Request, Asks}
 use Rattle.wh_grammar.specs.Script.{Line, CommandLine, SessionLine, TickLine, lines_of}
 use Rattle.wh_machine.specs.Step.{Event, Command, Tick}

@@ -1,7 +1,7 @@
 -- The bytes of commits.
 --     payload_of     a stamp, and a list of changes, each behind its tag
 --     IsCommit       what a commit may be: numbers, names and values within the format
-use Rattle.std.specs.Prelude.{◌≡◌, ℕ, ◌+◌, ◌<◌, ◌≤◌, ◌^◌, List, [], ◌∷◌, ◌++◌, length}
+use Rattle.std.specs.Prelude.{ℕ, ◌+◌, ◌<◌, ◌≤◌, ◌^◌, List, [], ◌∷◌, ◌++◌, length}
 use Rattle.std.specs.List.{AllByRecursion}
 use Rattle.std.specs.Int.{w32, w64, to_be_bytes}
 use Rattle.wh_value.specs.Value.{IsText}

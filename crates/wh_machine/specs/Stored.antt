@@ -2,7 +2,7 @@
 --     StoredTable, StoredKind, Stored     objects as records say them: a version holds its partitions
 --     rows_of                             the rows of partitions
 --     meant, Means                        the state that is meant
-use Rattle.std.specs.Prelude.{◌≡◌, ℕ, List, [], ◌++◌, map}
+use Rattle.std.specs.Prelude.{◌≡◌, ℕ, List, [], map}
 use Rattle.std.specs.List.{flat_map}
 use Rattle.std.specs.FinMap.{empty}
 use Rattle.wh_frame.specs.Partition.{Partition}

@@ -7,19 +7,19 @@ use Rattle.wh_grammar.specs.Words.{is_reserved}
 use Rattle.wh_grammar.specs.Token as token
 use Rattle.wh_grammar.specs.Token.{Token, Word, Quoted, TextToken, NumberToken, SignToken}
 use Rattle.wh_grammar.specs.Parts.{AsksForData, asks, IsCondition, one_cand, or_condition, IsAndCondition, one_cnot, and_condition, IsNotCondition, not_condition, inner_condition, has_data}
-use Rattle.wh_expr_parse.specs.declared.key.Key.TheVariants as k
-use Rattle.wh_expr_parse.specs.Keys.{same_key, key_of}
-use Rattle.wh_expr_parse.specs.State.{tail, sees}
-use Rattle.wh_expr_parse.specs.Steps.{Reader, and_then, sees_word}
-use Rattle.wh_expr_parse.proofs.KeyLemmas.{heads}
+use Rattle.wh_cursor.specs.declared.key.Key.TheVariants as k
+use Rattle.wh_cursor.specs.Keys.{same_key, key_of}
+use Rattle.wh_cursor.specs.Steps.{tail, sees, Reader, and_then, sees_word}
+use Rattle.wh_cursor.proofs.KeyLemmas.{heads}
 use Rattle.wh_option_parse.specs.declared.levels.Level.{Level}
 use Rattle.wh_option_parse.specs.declared.levels.Level.TheVariants.{Whole, Negation}
 use Rattle.wh_option_parse.specs.Follow.{ends_condition, IsConditionAt}
 use Rattle.wh_option_parse.specs.Laws as laws
 use Rattle.wh_option_parse.specs.Read as read
 use Rattle.wh_option_parse.specs.Read.{turn, turns, chain, either, both, negated, parenthesized, negation_by, negation, conjunction, whole, nested, no_operator, read_condition}
-use Rattle.wh_option_parse.proofs.Yields.{Yields, yields, nothing, follow, at_outcome, word_heads, word_seen, then_key}
-use Rattle.wh_option_parse.proofs.LagLemmas.{asked_yields, asked_given, close_expected}
+use Rattle.wh_cursor.proofs.Yields.{Yields, yields, nothing, follow, yielded}
+use Rattle.wh_cursor.proofs.Combine.{sees_word_some, sees_word_is, then_expect_key, rparen_reads}
+use Rattle.wh_option_parse.proofs.LagLemmas.{asked_yields, asked_given}
 use Rattle.wh_option_parse.proofs.Frames.{cand-frame, cnot-frame, rest-short}
 
 -- ---- what is read stands there
@@ -35,7 +35,7 @@ turns-sound w join item P Q joined items ts₀ (suc fuel) x ts h = by (turns-sou
         → Yields (turn (turns w join item fuel) item join x r ts) (P ts₀)
     by more false e = yields x ts h
     by more true e = follow (items (tail ts)) (λ y vs i.
-        more (join x y) vs (joined ts₀ (tail ts) x y vs (subst (λ (us : List Token). P ts₀ x us) (word_heads w ts e) h) i))
+        more (join x y) vs (joined ts₀ (tail ts) x y vs (subst (λ (us : List Token). P ts₀ x us) (sees_word_some w ts e) h) i))
 
 chain-sound : (w : List ℕ) (join : Condition → Condition → Condition) (item : Reader Condition) (P Q : List Token → Condition → List Token → Type 0)
     → ((ts : List Token) (x : Condition) (us : List Token) → Q ts x us → P ts x us)
@@ -55,7 +55,7 @@ module _ (inner : Level → Reader Condition) (d : ℕ) (inside : Inside inner d
 
   parenthesized-sound : (ts : List Token) → ts ≡ SignToken token.LParen ∷ tail ts → Yields (parenthesized inner ts) (IsNotCondition (suc d) ts)
   unfolding parenthesized
-  parenthesized-sound ts is = follow (inside.whole (tail ts)) (λ x us h. then_key k.RParen us _ (λ close.
+  parenthesized-sound ts is = follow (inside.whole (tail ts)) (λ x us h. then_expect_key k.RParen us _ (λ close.
       yields x (tail us) (subst (λ (vs : List Token). IsNotCondition (suc d) vs x (tail us)) (sym is)
       (inner_condition (subst (λ (vs : List Token). IsCondition d (tail ts) x vs) close h)))))
 
@@ -65,7 +65,7 @@ module _ (inner : Level → Reader Condition) (d : ℕ) (inside : Inside inner d
 
   negation-sound : (ts : List Token) → Yields (negation inner ts) (IsNotCondition (suc d) ts)
   unfolding negation
-  negation-sound ts = by (sees_word (codes "NOT") ts) (sees k.LParen ts) (word_heads (codes "NOT") ts) (heads k.LParen ts)
+  negation-sound ts = by (sees_word (codes "NOT") ts) (sees k.LParen ts) (sees_word_some (codes "NOT") ts) (heads k.LParen ts)
     where
       by : (a b : Bool) → (a ≡ true → ts ≡ Word (codes "NOT") ∷ tail ts) → (b ≡ true → ts ≡ SignToken token.LParen ∷ tail ts)
           → Yields (negation_by inner a b ts) (IsNotCondition (suc d) ts)
@@ -133,7 +133,7 @@ comes-next {w} {join} {item} {r} {ts} {us} {vs} {x} {y} h l short = by h.fuel h.
   where
     by : (fuel : ℕ) → length (Word w ∷ us) ≤ fuel → r ts ≡ turns w join item fuel x (Word w ∷ us) → Comes w join item r ts (join x y) vs
     by zero few is = absurd (omega (arith, few))
-    by (suc fuel) few is = record { fuel = fuel; enough = omega (arith, few, short); run = is ∙ rw (word_seen w us, l) refl }
+    by (suc fuel) few is = record { fuel = fuel; enough = omega (arith, few, short); run = is ∙ rw (sees_word_is w us, l) refl }
 
 comes-ends : {w : List ℕ} {join : Condition → Condition → Condition} {item r : Reader Condition} {ts us : List Token} {x : Condition}
     → Comes w join item r ts x us → sees_word w us ≡ false → r ts ≡ Some (x, us)
@@ -207,7 +207,7 @@ module _ (inner : Level → Reader Condition) where
 
   inner-gives : {ts us : List Token} {x : Condition} → inner Whole ts ≡ Some (x, SignToken token.RParen ∷ us) → negation inner (SignToken token.LParen ∷ ts) ≡ Some (x, us)
   unfolding negation parenthesized
-  inner-gives {ts = ts} {us = us} h = rw (open-other ts, open-seen ts, h, close_expected us) refl
+  inner-gives {ts = ts} {us = us} h = rw (open-other ts, open-seen ts, h, rparen_reads us) refl
 
   asks-gives : {ts us : List Token} {name : List ℕ} → AsksForData ts name us → negation inner ts ≡ Some (c.HasData name, us)
   unfolding negation read.has_data
@@ -256,4 +256,4 @@ condition_given d ts x us h =
     rw (read, none) refl
 
 pub conditions_read : laws.ReadsConditions
-conditions_read d ts x us = (λ e. at_outcome x us (condition_yields d ts) e, condition_given d ts x us)
+conditions_read d ts x us = (λ e. yielded (condition_yields d ts) x us e, condition_given d ts x us)

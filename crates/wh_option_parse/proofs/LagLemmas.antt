@@ -7,33 +7,14 @@ use Rattle.wh_grammar.specs.Token as token
 use Rattle.wh_grammar.specs.Token.{Token, Word, TextToken, SignToken}
 use Rattle.wh_grammar.specs.OptionText.{IsSchedule, IsNameText}
 use Rattle.wh_grammar.specs.Parts.{IsLag, downstream, lag_text, AsksForData, asks}
-use Rattle.wh_expr_parse.specs.declared.key.Key.TheVariants as k
-use Rattle.wh_expr_parse.specs.Keys.{same_key, key_of}
-use Rattle.wh_expr_parse.specs.State.{tail, sees}
-use Rattle.wh_expr_parse.specs.Steps.{sees_word, expect_word, expect_key, read_text}
+use Rattle.wh_cursor.specs.declared.key.Key.TheVariants as k
+use Rattle.wh_cursor.specs.Steps.{tail, sees_word}
 use Rattle.wh_option_parse.specs.Laws as laws
 use Rattle.wh_option_parse.specs.Read.{lag_of, name_text_of, schedule_of, read_schedule, read_name_text, lag_from, read_lag, read_asked}
 use Rattle.wh_option_parse.proofs.SpanLemmas.{schedule-sound, schedule-complete, lag_text-sound, lag_text-complete}
 use Rattle.wh_option_parse.proofs.NameTexts.{name_text-sound, name_text-complete}
-use Rattle.wh_option_parse.proofs.Yields.{Yields, yields, follow, at_outcome, word_heads, then_word, then_key, text_yields, given_yields}
-
--- ---- signs
-
-pub equal_expected : (us : List Token) → expect_key k.Equal (SignToken token.Equal ∷ us) ≡ Some (tt, us)
-unfolding expect_key sees same_key key_of
-equal_expected us = refl
-
-pub open_expected : (us : List Token) → expect_key k.LParen (SignToken token.LParen ∷ us) ≡ Some (tt, us)
-unfolding expect_key sees same_key key_of
-open_expected us = refl
-
-pub close_expected : (us : List Token) → expect_key k.RParen (SignToken token.RParen ∷ us) ≡ Some (tt, us)
-unfolding expect_key sees same_key key_of
-close_expected us = refl
-
-pub text_read : (bytes : List ℕ) (us : List Token) → read_text (TextToken bytes ∷ us) ≡ Some (bytes, us)
-unfolding read_text
-text_read bytes us = refl
+use Rattle.wh_cursor.proofs.Yields.{Yields, yields, follow, yielded}
+use Rattle.wh_cursor.proofs.Combine.{sees_word_some, then_expect_word, then_expect_key, text-yields, given-yields, sees_word_is, text_no_word, read_text_reads, expect_word_reads, lparen_reads, rparen_reads}
 
 -- ---- texts
 
@@ -45,12 +26,12 @@ pub record Scheduled (ts : List Token) (minutes : ℕ) (us : List Token) : Type 
 
 pub schedule_yields : (ts : List Token) → Yields (read_schedule ts) (Scheduled ts)
 unfolding read_schedule
-schedule_yields ts = follow (text_yields ts) (λ bytes us is.
-    given_yields (schedule_of bytes) us (λ n e. record { bytes = bytes; is = is; schedule = schedule-sound bytes n e }))
+schedule_yields ts = follow (text-yields ts) (λ bytes us is.
+    given-yields (schedule_of bytes) us (λ n e. record { bytes = bytes; is = is; schedule = schedule-sound bytes n e }))
 
 pub schedule_read : {bytes : List ℕ} {n : ℕ} (us : List Token) → IsSchedule bytes n → read_schedule (TextToken bytes ∷ us) ≡ Some (n, us)
 unfolding read_schedule
-schedule_read {bytes} {n} us h = rw (text_read bytes us, schedule-complete h) refl
+schedule_read {bytes} {n} us h = rw (read_text_reads bytes us, schedule-complete h) refl
 
 -- a text with a name
 record NameGiven (ts : List Token) (name : List ℕ) (us : List Token) : Type 0 where
@@ -60,39 +41,31 @@ record NameGiven (ts : List Token) (name : List ℕ) (us : List Token) : Type 0 
 
 name_text_yields : (ts : List Token) → Yields (read_name_text ts) (NameGiven ts)
 unfolding read_name_text
-name_text_yields ts = follow (text_yields ts) (λ bytes us is.
-    given_yields (name_text_of bytes) us (λ name e. record { bytes = bytes; is = is; names = name_text-sound bytes name e }))
+name_text_yields ts = follow (text-yields ts) (λ bytes us is.
+    given-yields (name_text_of bytes) us (λ name e. record { bytes = bytes; is = is; names = name_text-sound bytes name e }))
 
-name_text_read : {bytes name : List ℕ} (us : List Token) → IsNameText bytes name → read_name_text (TextToken bytes ∷ us) ≡ Some (name, us)
+name_read_text_reads : {bytes name : List ℕ} (us : List Token) → IsNameText bytes name → read_name_text (TextToken bytes ∷ us) ≡ Some (name, us)
 unfolding read_name_text
-name_text_read {bytes} {name} us h = rw (text_read bytes us, name_text-complete h) refl
+name_read_text_reads {bytes} {name} us h = rw (read_text_reads bytes us, name_text-complete h) refl
 
 -- ---- lags
 
 pub lag_yields : (ts : List Token) → Yields (read_lag ts) (λ l us. IsLag ts l us)
 unfolding read_lag
-lag_yields ts = by (sees_word (codes "DOWNSTREAM") ts) (word_heads (codes "DOWNSTREAM") ts)
+lag_yields ts = by (sees_word (codes "DOWNSTREAM") ts) (sees_word_some (codes "DOWNSTREAM") ts)
   where
     by : (r : Bool) → (r ≡ true → ts ≡ Word (codes "DOWNSTREAM") ∷ tail ts) → Yields (lag_from r ts) (λ l us. IsLag ts l us)
     by true h = yields lag.Downstream (tail ts) (subst (λ (vs : List Token). IsLag vs lag.Downstream (tail ts)) (sym (h refl)) downstream)
-    by false h = follow (text_yields ts) (λ bytes us is.
-        given_yields (lag_of bytes) us (λ l e. subst (λ (vs : List Token). IsLag vs l us) (sym is) (lag_text (lag_text-sound bytes l e))))
-
-text_no_word : (w bytes : List ℕ) (us : List Token) → sees_word w (TextToken bytes ∷ us) ≡ false
-unfolding sees_word
-text_no_word w bytes us = refl
-
-down_seen : (us : List Token) → sees_word (codes "DOWNSTREAM") (Word (codes "DOWNSTREAM") ∷ us) ≡ true
-unfolding sees_word
-down_seen us = refl
+    by false h = follow (text-yields ts) (λ bytes us is.
+        given-yields (lag_of bytes) us (λ l e. subst (λ (vs : List Token). IsLag vs l us) (sym is) (lag_text (lag_text-sound bytes l e))))
 
 pub lag_read : {ts us : List Token} {l : Lag} → IsLag ts l us → read_lag ts ≡ Some (l, us)
 unfolding read_lag
-lag_read (downstream {us}) = rw (down_seen us) refl
-lag_read (lag_text {us} {bytes} {l} h) = rw (text_no_word (codes "DOWNSTREAM") bytes us, text_read bytes us, lag_text-complete h) refl
+lag_read (downstream {us}) = rw (sees_word_is (codes "DOWNSTREAM") us) refl
+lag_read (lag_text {us} {bytes} {l} h) = rw (text_no_word (codes "DOWNSTREAM") bytes us, read_text_reads bytes us, lag_text-complete h) refl
 
 pub lags_read : laws.ReadsLags
-lags_read ts l us = (λ e. at_outcome l us (lag_yields ts) e, λ h. lag_read h)
+lags_read ts l us = (λ e. yielded (lag_yields ts) l us e, λ h. lag_read h)
 
 -- ---- what asks for data
 
@@ -101,22 +74,18 @@ at_front ts bytes name us = ts ≡ Word (codes "SYSTEM$STREAM_HAS_DATA") ∷ Sig
 
 pub asked_yields : (ts : List Token) → Yields (read_asked ts) (λ name us. AsksForData ts name us)
 unfolding read_asked
-asked_yields ts = then_word (codes "SYSTEM$STREAM_HAS_DATA") ts _ (λ one. then_key k.LParen (tail ts) _ (λ two.
-    follow (name_text_yields (tail (tail ts))) (λ name us h. then_key k.RParen us _ (λ close.
+asked_yields ts = then_expect_word (codes "SYSTEM$STREAM_HAS_DATA") ts _ (λ one. then_expect_key k.LParen (tail ts) _ (λ two.
+    follow (name_text_yields (tail (tail ts))) (λ name us h. then_expect_key k.RParen us _ (λ close.
     yields name (tail us) (
     let is : at_front ts h.bytes name (tail us) = one ∙ ap (λ (vs : List Token). Word (codes "SYSTEM$STREAM_HAS_DATA") ∷ vs) (two
     ∙ ap (λ (vs : List Token). SignToken token.LParen ∷ vs) (h.is ∙ ap (λ (vs : List Token). TextToken h.bytes ∷ vs) close)) in
     subst (λ (vs : List Token). AsksForData vs name (tail us)) (sym is) (asks h.names))))))
 
-system_expected : (us : List Token) → expect_word (codes "SYSTEM$STREAM_HAS_DATA") (Word (codes "SYSTEM$STREAM_HAS_DATA") ∷ us) ≡ Some (tt, us)
-unfolding expect_word sees_word
-system_expected us = refl
-
 pub asked_given : {ts us : List Token} {name : List ℕ} → AsksForData ts name us → read_asked ts ≡ Some (name, us)
 unfolding read_asked
 asked_given (asks {us} {bytes} {name} h) =
     let rest : List Token = SignToken token.RParen ∷ us in
-    rw (system_expected (SignToken token.LParen ∷ TextToken bytes ∷ rest), open_expected (TextToken bytes ∷ rest), name_text_read rest h, close_expected us) refl
+    rw (expect_word_reads (codes "SYSTEM$STREAM_HAS_DATA") (SignToken token.LParen ∷ TextToken bytes ∷ rest), lparen_reads (TextToken bytes ∷ rest), name_read_text_reads rest h, rparen_reads us) refl
 
 pub asked_read : laws.ReadsAsked
-asked_read ts name us = (λ e. at_outcome name us (asked_yields ts) e, λ h. asked_given h)
+asked_read ts name us = (λ e. yielded (asked_yields ts) name us e, λ h. asked_given h)

@@ -1,7 +1,6 @@
 pub mod NumberLemmas
 pub mod NameTexts
 pub mod SpanLemmas
-pub mod Yields
 pub mod LagLemmas
 pub mod Frames
 pub mod Conditions

@@ -13,10 +13,10 @@ use Rattle.wh_lex.proofs.GapLemmas.{gap_is_read}
 use Rattle.wh_lex.proofs.Standing.{Stands}
 use Rattle.wh_lex.proofs.FrontLaws.{front-stands, token_is_read}
 use Rattle.wh_lex.proofs.TokenLaws.{front-shorter, text_fixes_tokens}
-use Rattle.wh_expr_parse.specs.declared.fault.ParseFault.{ParseFault}
-use Rattle.wh_expr_parse.specs.declared.fault.ParseFault.TheVariants as faults
-use Rattle.wh_expr_parse.specs.Gives.{Reads}
-use Rattle.wh_expr_parse.specs.Read.{read_name}
+use Rattle.wh_cursor.specs.declared.fault.ParseFault.{ParseFault}
+use Rattle.wh_cursor.specs.declared.fault.ParseFault.TheVariants as faults
+use Rattle.wh_cursor.specs.Gives.{Reads}
+use Rattle.wh_cursor.specs.Steps.{read_name}
 use Rattle.wh_option_parse.specs.Alone.{is_alone}
 use Rattle.wh_option_parse.specs.Read.{named_by, name_text_by, name_text_of}
 

@@ -1,9 +1,9 @@
 -- Options in any order, each put to those so far: what is read stands there.
-use Rattle.std.proofs.Common.{◌≡◌, ℕ, zero, suc, Bool, true, List, [], ◌∷◌, Option, Some, None, refl, sym, subst}
+use Rattle.std.proofs.Common.{◌≡◌, ℕ, zero, suc, Bool, true, false, List, [], ◌∷◌, Option, Some, None, refl, sym, subst}
 use Rattle.wh_grammar.specs.Token.{Token}
-use Rattle.wh_expr_parse.specs.Steps.{Reader}
-use Rattle.wh_option_parse.specs.Read.{goes_on, options_from}
-use Rattle.wh_option_parse.proofs.Yields.{Yields, yields, nothing, follow, mapped}
+use Rattle.wh_cursor.specs.Steps.{Reader, and_then}
+use Rattle.wh_option_parse.specs.Read.{goes_on, options_from, once}
+use Rattle.wh_cursor.proofs.Yields.{Yields, yields, nothing, follow, mapped}
 
 abbrev pub then_put : {P : Type 0} → Option P → (P → Option P) → Option P
 then_put None f = None
@@ -62,3 +62,9 @@ pub options_more : {P : Type 0} (option : P → Reader (Option P)) (fuel : ℕ) 
     → options_from option (suc fuel) parts ts ≡ options_from option fuel next us
 unfolding options_from
 options_more option fuel parts next ts us e = rw e refl
+
+-- in front of the others, unless it was seen before
+pub then_once : {B : Type 0} (b : Bool) (ts : List Token) (f : Unit {0} → Reader B) {Q : B → List Token → Type 0} → (b ≡ false → Yields (f tt ts) Q)
+    → Yields (and_then (once b ts) f) Q
+then_once true ts f k = nothing
+then_once false ts f k = k refl

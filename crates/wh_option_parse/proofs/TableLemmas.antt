@@ -13,21 +13,21 @@ use Rattle.wh_grammar.specs.Token.{Token, Word, Quoted, TextToken, NumberToken, 
 use Rattle.wh_grammar.specs.Name.{IsName}
 use Rattle.wh_grammar.specs.Parts as g
 use Rattle.wh_grammar.specs.Parts.{IsLag, IsMode, IsInitialize, IsChosen, TableOption, AreTableOptions, TableOptionsGive, lags_in, modes_in, initialized_in, warehouses_in}
-use Rattle.wh_expr_parse.specs.declared.key.Key.TheVariants as k
-use Rattle.wh_expr_parse.specs.State.{tail}
-use Rattle.wh_expr_parse.specs.Steps.{sees_word, read_word}
-use Rattle.wh_expr_parse.specs.declared.fault.ParseFault.{ParseFault}
-use Rattle.wh_expr_parse.specs.declared.fault.ParseFault.TheVariants as faults
-use Rattle.wh_expr_parse.specs.Gives.{Reads}
-use Rattle.wh_expr_parse.proofs.Found.{reads_names}
+use Rattle.wh_cursor.specs.declared.key.Key.TheVariants as k
+use Rattle.wh_cursor.specs.Steps.{tail, sees_word, read_word}
+use Rattle.wh_cursor.specs.declared.fault.ParseFault.{ParseFault}
+use Rattle.wh_cursor.specs.declared.fault.ParseFault.TheVariants as faults
+use Rattle.wh_cursor.specs.Gives.{Reads}
 use Rattle.wh_option_parse.specs.declared.table.TableOptions.{TableOptions}
 use Rattle.wh_option_parse.specs.declared.table.TableParts.{TableParts}
 use Rattle.wh_option_parse.specs.View.{seen}
 use Rattle.wh_option_parse.specs.Follow.{ends_table_options, AreTableOptionsAt}
 use Rattle.wh_option_parse.specs.Laws as laws
 use Rattle.wh_option_parse.specs.Read.{is_some, mode_of, initialize_of, table_lag, table_warehouse, table_mode, table_initialize, table_option_by, table_option, no_table_parts, options_from, read_table_options}
-use Rattle.wh_option_parse.proofs.Yields.{Yields, yields, follow, at_outcome, word_heads, name_yields, word_yields, then_given, then_key, then_once}
-use Rattle.wh_option_parse.proofs.LagLemmas.{equal_expected, lag_yields, lag_read}
+use Rattle.wh_cursor.proofs.Yields.{Yields, yields, follow, yielded}
+use Rattle.wh_cursor.proofs.Combine.{sees_word_some, name-yields, word-yields, then_given, then_expect_key, equal_reads, name_reads}
+use Rattle.wh_option_parse.proofs.Options.{then_once}
+use Rattle.wh_option_parse.proofs.LagLemmas.{lag_yields, lag_read}
 use Rattle.wh_option_parse.proofs.Options.{then_put, puts, More, Stepped, options_yield, options_end, options_more}
 
 abbrev parts_of : Option Lag → Bool → Option RefreshMode → Option Initialize → TableParts
@@ -68,7 +68,7 @@ front w ts us one two three = one ∙ ap (λ (vs : List Token). Word w ∷ vs) (
 
 lag-sound : (parts : TableParts) (ts : List Token) → ts ≡ Word (codes "TARGET_LAG") ∷ tail ts → Yields (table_lag parts (tail ts)) (More put AreTableOptions parts ts)
 unfolding table_lag
-lag-sound parts ts is = then_once (is_some parts.lag) (tail ts) _ (λ free. then_key k.Equal (tail ts) _ (λ equal. follow (lag_yields (tail (tail ts))) (λ l us n.
+lag-sound parts ts is = then_once (is_some parts.lag) (tail ts) _ (λ free. then_expect_key k.Equal (tail ts) _ (λ equal. follow (lag_yields (tail (tail ts))) (λ l us n.
     yields (with_lag parts l) us (record {
       one = g.TargetLag l;
       adds = rw free refl;
@@ -77,7 +77,7 @@ lag-sound parts ts is = then_once (is_some parts.lag) (tail ts) _ (λ free. then
 
 warehouse-sound : (parts : TableParts) (ts : List Token) → ts ≡ Word (codes "WAREHOUSE") ∷ tail ts → Yields (table_warehouse parts (tail ts)) (More put AreTableOptions parts ts)
 unfolding table_warehouse
-warehouse-sound parts ts is = then_once parts.warehouse (tail ts) _ (λ free. then_key k.Equal (tail ts) _ (λ equal. follow (name_yields (tail (tail ts))) (λ name us n.
+warehouse-sound parts ts is = then_once parts.warehouse (tail ts) _ (λ free. then_expect_key k.Equal (tail ts) _ (λ equal. follow (name-yields (tail (tail ts))) (λ name us n.
     yields (with_warehouse parts) us (record {
       one = g.TableWarehouse;
       adds = rw free refl;
@@ -121,7 +121,7 @@ initialize_of-sound w i =
 
 mode-sound : (parts : TableParts) (ts : List Token) → ts ≡ Word (codes "REFRESH_MODE") ∷ tail ts → Yields (table_mode parts (tail ts)) (More put AreTableOptions parts ts)
 unfolding table_mode
-mode-sound parts ts is = then_once (is_some parts.mode) (tail ts) _ (λ free. then_key k.Equal (tail ts) _ (λ equal. follow (word_yields (tail (tail ts))) (λ w us n.
+mode-sound parts ts is = then_once (is_some parts.mode) (tail ts) _ (λ free. then_expect_key k.Equal (tail ts) _ (λ equal. follow (word-yields (tail (tail ts))) (λ w us n.
     then_given (mode_of w) us _ (λ m e.
     yields (with_mode parts m) us (record {
       one = g.Mode m;
@@ -131,7 +131,7 @@ mode-sound parts ts is = then_once (is_some parts.mode) (tail ts) _ (λ free. th
 
 initialize-sound : (parts : TableParts) (ts : List Token) → ts ≡ Word (codes "INITIALIZE") ∷ tail ts → Yields (table_initialize parts (tail ts)) (More put AreTableOptions parts ts)
 unfolding table_initialize
-initialize-sound parts ts is = then_once (is_some parts.initialize) (tail ts) _ (λ free. then_key k.Equal (tail ts) _ (λ equal. follow (word_yields (tail (tail ts))) (λ w us n.
+initialize-sound parts ts is = then_once (is_some parts.initialize) (tail ts) _ (λ free. then_expect_key k.Equal (tail ts) _ (λ equal. follow (word-yields (tail (tail ts))) (λ w us n.
     then_given (initialize_of w) us _ (λ i e.
     yields (with_initialize parts i) us (record {
       one = g.Initialized i;
@@ -145,10 +145,10 @@ option_yields parts ts = by (sees_word (codes "TARGET_LAG") ts) (sees_word (code
   where
     by : (l w m i : Bool) → sees_word (codes "TARGET_LAG") ts ≡ l → sees_word (codes "WAREHOUSE") ts ≡ w → sees_word (codes "REFRESH_MODE") ts ≡ m → sees_word (codes "INITIALIZE") ts ≡ i
         → Yields (table_option_by parts l w m i ts) (Stepped put AreTableOptions ends_table_options parts ts)
-    by true w m i a b c d = follow (lag-sound parts ts (word_heads (codes "TARGET_LAG") ts a)) (λ next us h. yields (Some next) us h)
-    by false true m i a b c d = follow (warehouse-sound parts ts (word_heads (codes "WAREHOUSE") ts b)) (λ next us h. yields (Some next) us h)
-    by false false true i a b c d = follow (mode-sound parts ts (word_heads (codes "REFRESH_MODE") ts c)) (λ next us h. yields (Some next) us h)
-    by false false false true a b c d = follow (initialize-sound parts ts (word_heads (codes "INITIALIZE") ts d)) (λ next us h. yields (Some next) us h)
+    by true w m i a b c d = follow (lag-sound parts ts (sees_word_some (codes "TARGET_LAG") ts a)) (λ next us h. yields (Some next) us h)
+    by false true m i a b c d = follow (warehouse-sound parts ts (sees_word_some (codes "WAREHOUSE") ts b)) (λ next us h. yields (Some next) us h)
+    by false false true i a b c d = follow (mode-sound parts ts (sees_word_some (codes "REFRESH_MODE") ts c)) (λ next us h. yields (Some next) us h)
+    by false false false true a b c d = follow (initialize-sound parts ts (sees_word_some (codes "INITIALIZE") ts d)) (λ next us h. yields (Some next) us h)
     by false false false false a b c d = yields None ts (refl, unseen-ends ts a b c d)
 
 -- ---- what was put is what the options have
@@ -286,14 +286,14 @@ lag-read : {ts us : List Token} {l : Lag} (parts : TableParts) → is_some parts
 unfolding table_option table_lag
 lag-read {ts} {us} {l} parts free n =
     let none = none-from parts.lag free in
-    rw ((sees-lag (SignToken token.Equal ∷ ts)).0, none, equal_expected ts, lag_read n) refl
+    rw ((sees-lag (SignToken token.Equal ∷ ts)).0, none, equal_reads ts, lag_read n) refl
 
 warehouse-read : {ts us : List Token} {name : List ℕ} (parts : TableParts) → parts.warehouse ≡ false → IsName ts name us
     → table_option parts (Word (codes "WAREHOUSE") ∷ SignToken token.Equal ∷ ts) ≡ Some (Some (with_warehouse parts), us)
 unfolding table_option table_warehouse
 warehouse-read {ts} {us} {name} parts free n =
     let seen = sees-warehouse (SignToken token.Equal ∷ ts) in
-    rw (seen.0, seen.1, free, equal_expected ts, (reads_names ts name us).1 n) refl
+    rw (seen.0, seen.1, free, equal_reads ts, name_reads n) refl
 
 -- the word that a token is
 record WordOf {A : Type 0} (of : List ℕ → Option A) (t : Token) (x : A) : Type 0 where
@@ -319,7 +319,7 @@ mode-by : {us : List Token} {m : RefreshMode} (parts : TableParts) (w : List ℕ
 unfolding table_option table_mode
 mode-by {us} {m} parts w none says =
     let seen = sees-mode (SignToken token.Equal ∷ Word w ∷ us) in
-    rw (seen.0, seen.1, seen.2, none, equal_expected (Word w ∷ us), word-given w us, says) refl
+    rw (seen.0, seen.1, seen.2, none, equal_reads (Word w ∷ us), word-given w us, says) refl
 
 mode-read : {t : Token} {us : List Token} {m : RefreshMode} (parts : TableParts) → is_some parts.mode ≡ false → IsMode t m
     → table_option parts (Word (codes "REFRESH_MODE") ∷ SignToken token.Equal ∷ t ∷ us) ≡ Some (Some (with_mode parts m), us)
@@ -332,7 +332,7 @@ initialize-by : {us : List Token} {i : Initialize} (parts : TableParts) (w : Lis
 unfolding table_option table_initialize
 initialize-by {us} {i} parts w none says =
     let seen = sees-initialize (SignToken token.Equal ∷ Word w ∷ us) in
-    rw (seen.0, seen.1, seen.2, seen.3, none, equal_expected (Word w ∷ us), word-given w us, says) refl
+    rw (seen.0, seen.1, seen.2, seen.3, none, equal_reads (Word w ∷ us), word-given w us, says) refl
 
 initialize-read : {t : Token} {us : List Token} {i : Initialize} (parts : TableParts) → is_some parts.initialize ≡ false → IsInitialize t i
     → table_option parts (Word (codes "INITIALIZE") ∷ SignToken token.Equal ∷ t ∷ us) ≡ Some (Some (with_initialize parts i), us)
@@ -440,7 +440,7 @@ table_given ts l m i us h =
     rw (read, lag, mode, initialize) refl
 
 pub table_options_read : laws.ReadsTableOptions
-table_options_read ts l m i us = (λ e. at_outcome (l, (m, i)) us (table_yields ts) e, table_given ts l m i us)
+table_options_read ts l m i us = (λ e. yielded (table_yields ts) (l, (m, i)) us e, table_given ts l m i us)
 
 -- ---- for what a call returned
 

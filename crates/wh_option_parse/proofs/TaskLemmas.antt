@@ -8,16 +8,16 @@ use Rattle.wh_grammar.specs.Name.{IsName}
 use Rattle.wh_grammar.specs.OptionText.{IsSchedule}
 use Rattle.wh_grammar.specs.Parts as g
 use Rattle.wh_grammar.specs.Parts.{TaskOption, AreTaskOptions, TaskOptionsGive}
-use Rattle.wh_expr_parse.specs.declared.key.Key.TheVariants as k
-use Rattle.wh_expr_parse.specs.State.{tail}
-use Rattle.wh_expr_parse.specs.Steps.{sees_word}
-use Rattle.wh_expr_parse.proofs.Found.{reads_names}
+use Rattle.wh_cursor.specs.declared.key.Key.TheVariants as k
+use Rattle.wh_cursor.specs.Steps.{tail, sees_word}
 use Rattle.wh_option_parse.specs.declared.task.TaskParts.{TaskParts}
 use Rattle.wh_option_parse.specs.Follow.{ends_task_options, AreTaskOptionsAt}
 use Rattle.wh_option_parse.specs.Laws as laws
 use Rattle.wh_option_parse.specs.Read.{is_some, task_warehouse, task_schedule, task_option_by, task_option, no_task_parts, options_from, read_task_options}
-use Rattle.wh_option_parse.proofs.Yields.{Yields, yields, follow, at_outcome, word_heads, word_seen, name_yields, then_key, then_once}
-use Rattle.wh_option_parse.proofs.LagLemmas.{equal_expected, schedule_yields, schedule_read}
+use Rattle.wh_cursor.proofs.Yields.{Yields, yields, follow, yielded}
+use Rattle.wh_cursor.proofs.Combine.{sees_word_some, sees_word_is, name-yields, then_expect_key, equal_reads, name_reads}
+use Rattle.wh_option_parse.proofs.Options.{then_once}
+use Rattle.wh_option_parse.proofs.LagLemmas.{schedule_yields, schedule_read}
 use Rattle.wh_option_parse.proofs.Options.{then_put, puts, More, Stepped, options_yield, options_end, options_more}
 
 abbrev parts_of : Bool → Option ℕ → TaskParts
@@ -43,7 +43,7 @@ front w ts one two = one ∙ ap (λ (us : List Token). Word w ∷ us) two
 
 warehouse-sound : (parts : TaskParts) (ts : List Token) → ts ≡ Word (codes "WAREHOUSE") ∷ tail ts → Yields (task_warehouse parts (tail ts)) (More put AreTaskOptions parts ts)
 unfolding task_warehouse
-warehouse-sound parts ts is = then_once parts.warehouse (tail ts) _ (λ free. then_key k.Equal (tail ts) _ (λ equal. follow (name_yields (tail (tail ts))) (λ name us n.
+warehouse-sound parts ts is = then_once parts.warehouse (tail ts) _ (λ free. then_expect_key k.Equal (tail ts) _ (λ equal. follow (name-yields (tail (tail ts))) (λ name us n.
     yields (parts_of true parts.minutes) us (record {
       one = g.Warehouse;
       adds = rw free refl;
@@ -52,7 +52,7 @@ warehouse-sound parts ts is = then_once parts.warehouse (tail ts) _ (λ free. th
 
 schedule-sound : (parts : TaskParts) (ts : List Token) → ts ≡ Word (codes "SCHEDULE") ∷ tail ts → Yields (task_schedule parts (tail ts)) (More put AreTaskOptions parts ts)
 unfolding task_schedule
-schedule-sound parts ts is = then_once (is_some parts.minutes) (tail ts) _ (λ free. then_key k.Equal (tail ts) _ (λ equal. follow (schedule_yields (tail (tail ts))) (λ minutes us s.
+schedule-sound parts ts is = then_once (is_some parts.minutes) (tail ts) _ (λ free. then_expect_key k.Equal (tail ts) _ (λ equal. follow (schedule_yields (tail (tail ts))) (λ minutes us s.
     yields (parts_of parts.warehouse (Some minutes)) us (record {
       one = g.Schedule minutes;
       adds = rw free refl;
@@ -66,8 +66,8 @@ option_yields parts ts = by (sees_word (codes "WAREHOUSE") ts) (sees_word (codes
   where
     by : (a b : Bool) → sees_word (codes "WAREHOUSE") ts ≡ a → sees_word (codes "SCHEDULE") ts ≡ b
         → Yields (task_option_by parts a b ts) (Stepped put AreTaskOptions ends_task_options parts ts)
-    by true b e f = follow (warehouse-sound parts ts (word_heads (codes "WAREHOUSE") ts e)) (λ next us h. yields (Some next) us h)
-    by false true e f = follow (schedule-sound parts ts (word_heads (codes "SCHEDULE") ts f)) (λ next us h. yields (Some next) us h)
+    by true b e f = follow (warehouse-sound parts ts (sees_word_some (codes "WAREHOUSE") ts e)) (λ next us h. yields (Some next) us h)
+    by false true e f = follow (schedule-sound parts ts (sees_word_some (codes "SCHEDULE") ts f)) (λ next us h. yields (Some next) us h)
     by false false e f = yields None ts (refl, unseen-ends ts e f)
 
 give : (options : List TaskOption) (q : TaskParts) → puts put no_task_parts options ≡ Some q → TaskOptionsGive options q.minutes
@@ -116,14 +116,14 @@ warehouse-read : {ts us : List Token} {name : List ℕ} (parts : TaskParts) → 
     → task_option parts (Word (codes "WAREHOUSE") ∷ SignToken token.Equal ∷ ts) ≡ Some (Some (parts_of true parts.minutes), us)
 unfolding task_option task_warehouse
 warehouse-read {ts} {us} {name} parts free n =
-    rw (word_seen (codes "WAREHOUSE") (SignToken token.Equal ∷ ts), free, equal_expected ts, (reads_names ts name us).1 n) refl
+    rw (sees_word_is (codes "WAREHOUSE") (SignToken token.Equal ∷ ts), free, equal_reads ts, name_reads n) refl
 
 schedule-read : {us : List Token} {bytes : List ℕ} {n : ℕ} (parts : TaskParts) → parts.minutes ≡ None → IsSchedule bytes n
     → task_option parts (Word (codes "SCHEDULE") ∷ SignToken token.Equal ∷ TextToken bytes ∷ us) ≡ Some (Some (parts_of parts.warehouse (Some n)), us)
 unfolding task_option task_schedule
 schedule-read {us} {bytes} {n} parts free s =
     let rest : List Token = TextToken bytes ∷ us in
-    rw (schedule-other (SignToken token.Equal ∷ rest), word_seen (codes "SCHEDULE") (SignToken token.Equal ∷ rest), free, equal_expected rest, schedule_read us s) refl
+    rw (schedule-other (SignToken token.Equal ∷ rest), sees_word_is (codes "SCHEDULE") (SignToken token.Equal ∷ rest), free, equal_reads rest, schedule_read us s) refl
 
 if_free : {A : Type 0} (b : Bool) (next : TaskParts) (f : TaskParts → Option TaskParts) (q : TaskParts) → then_put (if b then None else Some next) f ≡ Some q
     → (b ≡ false → f next ≡ Some q → A) → A
@@ -170,4 +170,4 @@ task_given ts minutes us h =
     rw read (ap (λ (m : Option ℕ). Some (m, us)) p.same)
 
 pub task_options_read : laws.ReadsTaskOptions
-task_options_read ts minutes us = (λ e. at_outcome minutes us (task_yields ts) e, task_given ts minutes us)
+task_options_read ts minutes us = (λ e. yielded (task_yields ts) minutes us e, task_given ts minutes us)

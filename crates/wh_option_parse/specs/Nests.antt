@@ -4,8 +4,8 @@ use Rattle.std.specs.declared.alloc.Global.{Global}
 use denote.Ref.{MutBor}
 use Rattle.wh_ast.specs.declared.statement.Condition.{Condition}
 use Rattle.wh_grammar.specs.Token.{Token}
-use Rattle.wh_expr_parse.specs.declared.fault.ParseFault.{ParseFault}
-use Rattle.wh_expr_parse.specs.Gives.{Reads}
+use Rattle.wh_cursor.specs.declared.fault.ParseFault.{ParseFault}
+use Rattle.wh_cursor.specs.Gives.{Reads}
 use Rattle.wh_option_parse.specs.declared.levels.Level.{Level}
 use Rattle.wh_option_parse.specs.Read.{nested}
 

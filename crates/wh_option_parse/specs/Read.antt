@@ -18,10 +18,8 @@ use Rattle.wh_grammar.specs.Bytes.{is_blank, is_digit, upper, number_behind}
 use Rattle.wh_grammar.specs.Words.{is_reserved}
 use Rattle.wh_grammar.specs.Token.{Token, Word, Quoted, TextToken, NumberToken, SignToken}
 use Rattle.wh_lex.specs.Front.{front_of}
-use Rattle.wh_expr_parse.specs.declared.key.Key.TheVariants as k
-use Rattle.wh_expr_parse.specs.State.{sees}
-use Rattle.wh_expr_parse.specs.Steps.{Reader, ◌>>=◌, ◌>>◌, pure, refuse, skip, sees_word, expect_word, expect_key, read_text, read_word}
-use Rattle.wh_expr_parse.specs.Read.{read_name}
+use Rattle.wh_cursor.specs.declared.key.Key.TheVariants as k
+use Rattle.wh_cursor.specs.Steps.{sees, Reader, ◌>>=◌, ◌>>◌, pure, refuse, skip, sees_word, expect_word, expect_key, read_text, read_word, read_name, given}
 use Rattle.wh_option_parse.specs.declared.levels.Level.{Level}
 use Rattle.wh_option_parse.specs.declared.levels.Level.TheVariants.{Whole, Negation}
 use Rattle.wh_option_parse.specs.declared.task.TaskParts.{TaskParts}
@@ -84,11 +82,6 @@ unfoldable pub name_text_of : List ℕ → Option (List ℕ)
 name_text_of bytes = name_text_by (front_of bytes)
 
 -- ---- steps
-
--- goes on with what was found
-abbrev pub given : {A : Type 0} → Option A → Reader A
-given None = refuse
-given (Some x) = pure x
 
 -- goes on, unless it was seen before
 abbrev pub once : Bool → Reader (Unit {0})

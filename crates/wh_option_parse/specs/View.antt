@@ -3,7 +3,7 @@ use Rattle.std.specs.Prelude.{Result, Ok, Err}
 use Rattle.wh_ast.specs.declared.statement.Lag.{Lag}
 use Rattle.wh_ast.specs.declared.statement.RefreshMode.{RefreshMode}
 use Rattle.wh_ast.specs.declared.statement.Initialize.{Initialize}
-use Rattle.wh_expr_parse.specs.declared.fault.ParseFault.{ParseFault}
+use Rattle.wh_cursor.specs.declared.fault.ParseFault.{ParseFault}
 use Rattle.wh_option_parse.specs.declared.table.TableOptions.{TableOptions}
 
 abbrev pub triple : TableOptions → Lag × (RefreshMode × Initialize)

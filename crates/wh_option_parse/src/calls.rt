@@ -5,7 +5,7 @@ ghost use Rattle.wh_ast.specs.declared.statement.Lag as ast_lag;
 ghost use Rattle.wh_ast.specs.declared.statement.RefreshMode as ast_mode;
 ghost use Rattle.wh_grammar.specs.Parts.{IsLag, AsksForData};
 ghost use Rattle.wh_grammar.specs.Token as machine;
-ghost use Rattle.wh_expr_parse.specs.Gives.{Reads};
+ghost use Rattle.wh_cursor.specs.Gives.{Reads};
 ghost use Rattle.wh_option_parse.specs.Follow.{IsConditionAt, AreTaskOptionsAt, AreTableOptionsAt};
 ghost use Rattle.wh_option_parse.specs.Laws as laws;
 ghost use Rattle.wh_option_parse.specs.Read as spec;
@@ -18,7 +18,7 @@ use crate::table::read_table_options;
 use crate::task::read_task_options;
 use std::alloc::Global;
 use wh_ast::{Condition, Lag};
-use wh_expr_parse::{ParseFault, Words};
+use wh_cursor::{ParseFault, Words};
 use wh_value::Text;
 
 /// Takes the lag that the tokens begin with.

@@ -1,14 +1,14 @@
 //! Lags, schedules, and what asks for a stream's data.
 ghost use Rattle.std.specs.Prelude.{◌≡◌, false};
-ghost use Rattle.wh_expr_parse.specs.Gives.{Reads};
-ghost use Rattle.wh_expr_parse.specs.Steps.{read_text};
+ghost use Rattle.wh_cursor.specs.Gives.{Reads};
+ghost use Rattle.wh_cursor.specs.Steps.{read_text};
 ghost use Rattle.wh_option_parse.specs.Read as spec;
 
 use crate::names::name_text;
 use crate::span::{lag_text, schedule};
 use std::alloc::Global;
 use wh_ast::Lag;
-use wh_expr_parse::{Key, ParseFault, Words};
+use wh_cursor::{Key, ParseFault, Words};
 use wh_value::Text;
 
 fn lag_by_text(alloc: Global, words: &mut Words<'_>) -> Result<Lag, ParseFault>

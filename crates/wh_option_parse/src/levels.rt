@@ -1,7 +1,7 @@
 //! Conditions of tasks. The rules take the reader of what stands inside as a parameter, so that
 //! each is proved by itself.
 ghost use Rattle.std.specs.Prelude.{◌≡◌, length, IfOk};
-ghost use Rattle.wh_expr_parse.specs.Gives.{Reads};
+ghost use Rattle.wh_cursor.specs.Gives.{Reads};
 ghost use Rattle.wh_option_parse.specs.Nests.{Nests};
 ghost use Rattle.wh_option_parse.specs.Read as spec;
 
@@ -9,7 +9,7 @@ use crate::lags::read_asked;
 use sqlite_items::Boxed;
 use std::alloc::{AllocError, Global};
 use wh_ast::Condition;
-use wh_expr_parse::{Key, ParseFault, Words};
+use wh_cursor::{Key, ParseFault, Words};
 
 /// What may stand inside a condition.
 #[derive(Clone, Copy, Debug, PartialEq, Eq)]

@@ -1,29 +1,12 @@
 //! A stream's name in a text.
-ghost use Rattle.std.specs.Prelude.{◌≡◌, ◌≤◌, length, ℕ, List, true, Some, None, IfOk, IsErrOf};
-ghost use Rattle.wh_grammar.specs.Lexing.{HasTokens};
-ghost use Rattle.wh_grammar.specs.Token.{Placed};
-ghost use Rattle.wh_expr_parse.specs.View.{AreShort};
+ghost use Rattle.std.specs.Prelude.{◌≡◌, Some, None, IfOk, IsErrOf};
 ghost use Rattle.wh_option_parse.specs.Read as spec;
 ghost use Rattle.wh_option_parse.specs.Alone.{is_alone};
 
 use std::alloc::Global;
-use wh_expr_parse::{ParseFault, Words, name};
-use wh_lex::{LexFault, Token, tokens};
+use wh_cursor::{ParseFault, Words, name, tokens_of_text};
+use wh_lex::Token;
 use wh_value::Text;
-
-/// The tokens inside a text.
-fn inside(alloc: Global, text: &[u8]) -> Result<Vec<Token>, ParseFault>
-    requires { length text.now ≤ 65536 }
-    ensures found { IfOk result (λ ts. HasTokens text.now ts.items) }
-    ensures none { IsErrOf result ParseFault.SyntaxError
-        → (ts : List Placed) → HasTokens text.now ts → ⊥ }
-{
-    match tokens(alloc, text) {
-        Ok(found) => Ok(found),
-        Err(LexFault::SyntaxError) => Err(ParseFault::SyntaxError),
-        Err(LexFault::OutOfMemory) => Err(ParseFault::OutOfMemory),
-    }
-}
 
 /// Whether there is one token, from the first byte of so many to the last.
 fn is_alone(tokens: &[Token], len: usize) -> bool
@@ -41,7 +24,7 @@ pub fn name_text(alloc: Global, text: &Text) -> Result<Text, ParseFault>
     ensures none { IsErrOf result ParseFault.SyntaxError → spec.name_text_of text.now ≡ None }
 {
     let bytes = text.as_bytes();
-    let found = inside(alloc, bytes)?;
+    let found = tokens_of_text(alloc, bytes)?;
     if !is_alone(&found, bytes.len()) {
         return Err(ParseFault::SyntaxError);
     }

@@ -1,13 +1,13 @@
 //! Options of dynamic tables.
 ghost use Rattle.std.specs.Prelude.{◌≡◌};
-ghost use Rattle.wh_expr_parse.specs.Gives.{Reads};
+ghost use Rattle.wh_cursor.specs.Gives.{Reads};
 ghost use Rattle.wh_option_parse.specs.Read as spec;
 ghost use Rattle.wh_option_parse.specs.View.{seen};
 
 use crate::lags::read_lag;
 use std::alloc::Global;
 use wh_ast::{Initialize, Lag, RefreshMode};
-use wh_expr_parse::{Key, ParseFault, Words, name};
+use wh_cursor::{Key, ParseFault, Words, name};
 use wh_value::Text;
 
 /// What the options of a dynamic table say.

@@ -1,11 +1,11 @@
 //! Options of tasks.
 ghost use Rattle.std.specs.Prelude.{◌≡◌};
-ghost use Rattle.wh_expr_parse.specs.Gives.{Reads};
+ghost use Rattle.wh_cursor.specs.Gives.{Reads};
 ghost use Rattle.wh_option_parse.specs.Read as spec;
 
 use crate::lags::read_schedule;
 use std::alloc::Global;
-use wh_expr_parse::{Key, ParseFault, Words, name};
+use wh_cursor::{Key, ParseFault, Words, name};
 
 /// The options of a task so far.
 #[derive(Clone, Copy, Debug)]

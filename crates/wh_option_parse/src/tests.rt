@@ -2,7 +2,7 @@ use crate::{asked, condition, lag, table_options, task_options};
 use std::alloc::{AllocError, Global};
 use std::test::Fail;
 use wh_ast::{Condition, Initialize, Lag, RefreshMode};
-use wh_expr_parse::{ParseFault, Words};
+use wh_cursor::{ParseFault, Words};
 use wh_lex::tokens;
 use wh_value::Bytes;
 
@@ -93,12 +93,8 @@ fn read_part(
 }
 
 /// What stands at the front of a text, and how many tokens are left; or `none`.
-#[tactic(auto, using(wh_expr_parse::proofs::ShortNumbers::tokens_short))]
 fn read(alloc: Global, part: Part, text: &[u8], depth: usize) -> Result<Bytes, Fail> {
     let mut out = Bytes::new(alloc);
-    if text.len() > 65536 {
-        return Ok(out);
-    }
     let all = match tokens(alloc, text) {
         Ok(all) => all,
         Err(_) => return Ok(out),

@@ -1,8 +1,8 @@
 -- The values of a column.
-use Rattle.std.proofs.Common.{◌≡◌, ℕ, ◌<◌, ◌+◌, Bool, true, false, List, [], ◌∷◌, ◌++◌, refl, length, map, get_or, ap, sym, subst, ◌∙◌, arith}
+use Rattle.std.proofs.Common.{◌≡◌, ℕ, zero, suc, ◌<◌, ◌+◌, Bool, true, false, List, [], ◌∷◌, ◌++◌, refl, length, map, get_or, ap, sym, subst, ◌∙◌, arith}
 use borrow.Author.Count.{below_more}
 use Rattle.std.specs.Cmp.{IsStrictWeakOrder}
-use Rattle.std.specs.List.{All, IsFirstBest}
+use Rattle.std.specs.List.{All, AllByRecursion, IsFirstBest}
 use Rattle.std.specs.Ordering.{is_lt}
 use Rattle.std.proofs.lemmas.List.{length-map, get_or-map, get_or_default, get_or_push, get_or_append_left}
 use Rattle.std.proofs.lemmas.List.MinMax.{ranks_by, IsStrictWeakOrder-flip, IsFirstBest-takes, IsFirstBest-keeps}
@@ -11,7 +11,9 @@ use Rattle.wh_value.specs.Value as machine
 use Rattle.wh_value.specs.Value.{Row, Null, value_cmp}
 use Rattle.wh_value.specs.View.{value_of}
 use Rattle.wh_value.specs.declared.value.Value.{Value}
-use Rattle.wh_part.specs.Meta.{width_of, column, IsBoundsOf}
+use Rattle.wh_frame.specs.Partition.{Partition}
+use Rattle.wh_frame.specs.Spelling.{IsNumberedRow, IsPartition}
+use Rattle.wh_part.specs.Meta.{IsEven, width_of, column}
 use Rattle.wh_part.specs.declared.meta.Bounds.{Bounds}
 use Rattle.wh_part.specs.View.{numbered_of}
 use Rattle.wh_part.specs.declared.partition.NumberedRow.{NumberedRow}
@@ -53,23 +55,6 @@ best_on ranks values i best x y so_far within new old =
     let there = old ∙ get_or_default values best Null y low in
     (IsFirstBest-takes ranks values i best x y so_far within here there, IsFirstBest-keeps ranks values i best x y so_far within here there)
 
--- the values that are found
-pub bounds_found : (b : Bounds) (values : List machine.Value) (count least greatest : ℕ) → count ≡ length values → IsFirstBest (λ x y. is_lt (value_cmp x y)) values count least
-    → IsFirstBest (λ x y. is_lt (value_cmp y x)) values count greatest → value_of b.least ≡ get_or values least Null → value_of b.greatest ≡ get_or values greatest Null → IsBoundsOf b values
-bounds_found b values count least greatest all low high l g =
-    let low_within : least < length values = omega (arith, low.0) in
-    let high_within : greatest < length values = omega (arith, high.0) in
-    record {
-      least = record {
-        held = (least, low_within, get_or_default values least (value_of b.least) Null low_within ∙ sym l);
-        none_less = λ k d within. ap (λ (v : machine.Value). is_lt (value_cmp (get_or values k d) v)) (l ∙ get_or_default values least Null d low_within) ∙ low.1 k d (omega arith);
-      };
-      greatest = record {
-        held = (greatest, high_within, get_or_default values greatest (value_of b.greatest) Null high_within ∙ sym g);
-        none_greater = λ k d within. ap (λ (v : machine.Value). is_lt (value_cmp v (get_or values k d))) (g ∙ get_or_default values greatest Null d high_within) ∙ high.1 k d (omega arith);
-      };
-    }
-
 pub length_column : (place : ℕ) (rows : List NumberedRow) → length rows ≡ length (column place (map numbered_of rows))
 length_column place rows = sym (length-map (map numbered_of rows) (λ (e : ℕ × Row). get_or e.1 place Null) ∙ length-map rows numbered_of)
 
@@ -84,3 +69,16 @@ one_column_more P columns b n size below here k d within =
 pub width_found : (rows : List NumberedRow) (d : NumberedRow) → 0 < length rows → length (get_or rows 0 d).row ≡ width_of (map numbered_of rows)
 width_found [] d some = absurd (omega arith)
 width_found (row ∷ rows) d some = refl
+
+each_width : (width : ℕ) (rows : List (ℕ × Row)) → AllByRecursion (IsNumberedRow width) rows → (k : ℕ) (d : ℕ × Row) → k < length rows → length (get_or rows k d).1 ≡ width
+each_width width [] all k d within = absurd (omega arith)
+each_width width (e ∷ es) all zero d within = all.0.1
+each_width width (e ∷ es) all (suc k) d within = each_width width es all.1 k d (omega arith)
+
+even_rows : (width : ℕ) (rows : List (ℕ × Row)) → AllByRecursion (IsNumberedRow width) rows → IsEven rows
+even_rows width [] all k d within = absurd (omega arith)
+even_rows width (e ∷ es) all k d within = each_width width (e ∷ es) all k d within ∙ sym all.0.1
+
+-- what may stand in a file is even
+pub even_partition : (width : ℕ) (p : Partition) → IsPartition width p → IsEven p.rows
+even_partition width p is = even_rows width p.rows is.rows

@@ -1,7 +1,7 @@
 use super::*;
 use std::alloc::{AllocError, Global};
 use std::test::*;
-use wh_value::{Bytes, Row, Text, Value};
+use wh_value::{Bytes, Row, Text, Value, print_literal};
 
 /// Partition 1 with the one row (1), whose number is 1.
 const ONE_ROW: [u8; 29] = [
@@ -134,5 +134,76 @@ fn a_thousand_rows_are_a_partition(rt: HostRuntime) -> Result<(), Fail> {
     assert_eq!(rt; found.rows().len(), 1000);
     assert_eq!(rt; found.last(), 999);
     assert!(rt; bare(rt.alloc(), 1001)?.is_none(), "1,001 rows");
+    Ok(())
+}
+
+/// That many rows without values, cut: each partition's number, and those of its first and last row.
+fn cut_rows(alloc: Global, count: u32) -> Result<Vec<(u64, u64, u64)>, AllocError> {
+    let mut rows = Vec::new(alloc);
+    for _ in 0..count {
+        rows.push(Row::new(alloc))?;
+    }
+    if rows.len() > 5000 {
+        return Err(AllocError);
+    }
+    let mut found = Vec::new(alloc);
+    for partition in &cut(alloc, rows, 5, 7)? {
+        found.push((partition.number(), partition.first(), partition.last()))?;
+    }
+    Ok(found)
+}
+
+#[test]
+fn rows_are_cut_at_each_thousand(rt: HostRuntime) -> Result<(), Fail> {
+    let cases = [
+        (0, [].as_slice()),
+        (1, &[(7, 5, 5)]),
+        (1000, &[(7, 5, 1004)]),
+        (1001, &[(7, 5, 1004), (8, 1005, 1005)]),
+        (2000, &[(7, 5, 1004), (8, 1005, 2004)]),
+    ];
+    for (count, want) in cases {
+        let found = cut_rows(rt.alloc(), count)?;
+        assert_eq!(rt; found.as_slice(), want, "{count} rows");
+    }
+    Ok(())
+}
+
+/// What is known of the partition that these bytes begin with.
+#[tactic(auto, using(crate::proofs::MetaLemmas::even_partition))]
+fn meta_of(alloc: Global, bytes: &[u8], width: u32) -> Result<Option<PartMeta>, AllocError> {
+    match Partition::decode(alloc, bytes, width) {
+        Some(found) => {
+            let (partition, _) = found?;
+            let meta = partition.meta(alloc, 3, 100, 48)?;
+            Ok(Some(meta))
+        }
+        None => Ok(None),
+    }
+}
+
+fn print_bounds(columns: &[Bounds], out: &mut Bytes) -> Result<(), AllocError> {
+    for bounds in columns {
+        print_literal(&bounds.least, out)?;
+        out.extend(b"..")?;
+        print_literal(&bounds.greatest, out)?;
+        out.push(b' ')?;
+    }
+    Ok(())
+}
+
+#[test]
+fn bounds_follow_the_value_order(rt: HostRuntime) -> Result<(), Fail> {
+    let alloc = rt.alloc();
+    let meta = meta_of(alloc, &ALL_KINDS, 3)?.ok_or("a partition")?;
+    assert_eq!(rt; (meta.id.object, meta.id.number), (3, 7));
+    assert_eq!(rt; (meta.at, meta.length), (100, 48));
+    assert_eq!(rt; (meta.rows, meta.first, meta.last), (2, 2, 258));
+    let mut printed = Bytes::new(alloc);
+    print_bounds(&meta.columns, &mut printed)?;
+    assert_eq!(rt;
+        printed.as_slice(),
+        b"TRUE..NULL -1..'hi' FALSE..NULL ".as_slice()
+    );
     Ok(())
 }

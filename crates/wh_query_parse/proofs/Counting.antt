@@ -5,15 +5,8 @@ use Rattle.wh_ast.specs.declared.query.Query.{Query}
 use Rattle.wh_ast.specs.declared.query.Core.{Core}
 use Rattle.wh_ast.specs.declared.query.Join.{Join}
 use Rattle.wh_grammar.specs.Token.{Token}
-use Rattle.wh_expr_parse.specs.declared.key.Key.TheVariants as k
-use Rattle.wh_expr_parse.specs.State.{tail, sees}
-use Rattle.wh_expr_parse.specs.Steps.{Reader, sees_word, expect_word}
-use Rattle.wh_query_parse.specs.Read.{commas, sees_join, read_join, joins_from, read_core, cores_from}
-
-pub one_item : {A : Type 0} (one : Reader A) (n : ℕ) (found : List A) (ts us : List Token) (x : A) → one ts ≡ Some (x, us) → sees k.Comma us ≡ true
-    → commas one (suc n) found ts ≡ commas one n (found ++ x ∷ []) (tail us)
-unfolding commas
-one_item one n found ts us x read comma = rw (read, comma) refl
+use Rattle.wh_cursor.specs.Steps.{tail, Reader, sees_word, expect_word}
+use Rattle.wh_query_parse.specs.Read.{sees_join, read_join, joins_from, read_core, cores_from}
 
 pub one_join : (inner : Reader Query) (d n : ℕ) (found : List Join) (ts us : List Token) (x : Join) → sees_join ts ≡ true → read_join inner d ts ≡ Some (x, us)
     → joins_from inner d (suc n) found ts ≡ joins_from inner d n (found ++ x ∷ []) us

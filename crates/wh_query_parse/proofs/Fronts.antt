@@ -1,6 +1,5 @@
 -- What stands for a part of a query is a front of the tokens, and not empty.
-use Rattle.std.proofs.Common.{◌≡◌, ℕ, suc, ◌+◌, ◌<◌, ◌≤◌, List, length, Option, ap, ◌∙◌, arith}
-use Rattle.std.proofs.lemmas.List.{length-append}
+use Rattle.std.proofs.Common.{ℕ, ◌<◌, ◌≤◌, List, length, Option, arith}
 use Rattle.wh_ast.specs.declared.expr.Expr.{Expr}
 use Rattle.wh_ast.specs.declared.query.Query.{Query}
 use Rattle.wh_ast.specs.declared.query.Core.{Core}
@@ -8,27 +7,14 @@ use Rattle.wh_ast.specs.declared.query.Join.{Join}
 use Rattle.wh_ast.specs.declared.query.Item.{Item}
 use Rattle.wh_ast.specs.declared.query.Source.{Source}
 use Rattle.wh_grammar.specs.Token.{Token}
-use Rattle.wh_grammar.specs.Name.{IsName}
-use Rattle.wh_grammar.specs.Expression.{IsExpr, AreExprs, last_expr, more_exprs}
 use Rattle.wh_grammar.specs.Query as g
 use Rattle.wh_grammar.specs.Query.{IsAlias, MayHaveAlias, IsItem, AreItems, MayHaveFilter, MayHaveGroup, IsJoinWord, IsQuery, AreCores, IsCore, IsSource, AreJoins}
-use Rattle.wh_expr_parse.specs.Laws.{Follows}
-use Rattle.wh_expr_parse.proofs.Fronts as fronts
-
-shorter : {ts us : List Token} → Follows ts us → length us < length ts
-shorter {ts} {us} h =
-    let long : length ts ≡ suc (length h.more + length us) = ap (λ (l : List Token). length l) h.is ∙ ap suc (length-append h.more us) in
-    omega (arith, long)
-
-pub name-front : {ts us : List Token} {name : List ℕ} → IsName ts name us → length us < length ts
-name-front h = shorter (fronts.name-front h)
-
-pub expr-front : {d : ℕ} {ts us : List Token} {x : Expr} → IsExpr d ts x us → length us < length ts
-expr-front {d} {ts} {us} {x} h = shorter (fronts.expr-front d ts x us h)
+use Rattle.wh_cursor.proofs.Combine.{name_shorter}
+use Rattle.wh_expr_parse.proofs.ExprSteps.{expr_shorter, exprs_shorter}
 
 alias-front : {ts us : List Token} {name : List ℕ} → IsAlias ts name us → length us < length ts
-alias-front (g.bare name) = name-front name
-alias-front (g.with_as name) = let n = name-front name in omega (arith, n)
+alias-front (g.bare name) = name_shorter name
+alias-front (g.with_as name) = let n = name_shorter name in omega (arith, n)
 
 optional-front : {ts us : List Token} {alias : Option (List ℕ)} → MayHaveAlias ts alias us → length us ≤ length ts
 optional-front g.no_alias = omega arith
@@ -36,24 +22,20 @@ optional-front (g.an_alias a) = let n = alias-front a in omega (arith, n)
 
 pub item-front : {d : ℕ} {ts us : List Token} {x : Item} → IsItem d ts x us → length us < length ts
 item-front g.star = omega arith
-item-front (g.star_of name) = let n = name-front name in omega (arith, n)
-item-front (g.shown x alias) = let n = expr-front x in let m = optional-front alias in omega (arith, n, m)
+item-front (g.star_of name) = let n = name_shorter name in omega (arith, n)
+item-front (g.shown x alias) = let n = expr_shorter x in let m = optional-front alias in omega (arith, n, m)
 
 items-front : {d : ℕ} {ts us : List Token} {xs : List Item} → AreItems d ts xs us → length us < length ts
 items-front (g.last_item x) = item-front x
 items-front (g.more_items x more) = let n = item-front x in let m = items-front more in omega (arith, n, m)
 
-exprs-front : {d : ℕ} {ts us : List Token} {xs : List Expr} → AreExprs d ts xs us → length us < length ts
-exprs-front (last_expr x) = expr-front x
-exprs-front (more_exprs x more) = let n = expr-front x in let m = exprs-front more in omega (arith, n, m)
-
 filter-front : {d : ℕ} {ts us : List Token} {x : Option Expr} → MayHaveFilter d ts x us → length us ≤ length ts
 filter-front g.no_filter = omega arith
-filter-front (g.a_filter x) = let n = expr-front x in omega (arith, n)
+filter-front (g.a_filter x) = let n = expr_shorter x in omega (arith, n)
 
 group-front : {d : ℕ} {ts us : List Token} {xs : List Expr} → MayHaveGroup d ts xs us → length us ≤ length ts
 group-front g.no_group = omega arith
-group-front (g.a_group xs) = let n = exprs-front xs in omega (arith, n)
+group-front (g.a_group xs) = let n = exprs_shorter xs in omega (arith, n)
 
 join-word-front : {ts us : List Token} → IsJoinWord ts us → length us < length ts
 join-word-front g.join_word = omega arith
@@ -77,7 +59,7 @@ mutual
       omega (arith, a, b, c, e, f)
 
   source-front : {d : ℕ} {ts us : List Token} {x : Source} → IsSource d ts x us → length us < length ts
-  source-front (g.named name alias) = let n = name-front name in let m = optional-front alias in omega (arith, n, m)
+  source-front (g.named name alias) = let n = name_shorter name in let m = optional-front alias in omega (arith, n, m)
   source-front (g.subquery q alias) = let n = query-front q in let m = alias-front alias in omega (arith, n, m)
 
   joins-front : {d : ℕ} {ts us : List Token} {xs : List Join} → AreJoins d ts xs us → length us ≤ length ts
@@ -85,7 +67,7 @@ mutual
   joins-front (g.more_joins join source on more) =
       let a = join-word-front join in
       let b = source-front source in
-      let c = expr-front on in
+      let c = expr_shorter on in
       let e = joins-front more in
       omega (arith, a, b, c, e)
 

@@ -1,7 +1,5 @@
-pub mod Turns
 pub mod Counting
 pub mod Seen
-pub mod Outcomes
 pub mod Openings
 pub mod Fronts
 pub mod Soundness

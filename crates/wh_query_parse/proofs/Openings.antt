@@ -6,7 +6,7 @@ use Rattle.wh_grammar.specs.Token.{Token, Word, SignToken, Sign, Dot, Star}
 use Rattle.wh_grammar.specs.Name.{IsName, word, quoted}
 use Rattle.wh_grammar.specs.Expression as g
 use Rattle.wh_grammar.specs.Expression.{IsWhole, IsAnd, IsNot, IsTest, IsSum, IsProduct, IsUnary, IsPrim, IsComparison, IsNegation}
-use Rattle.wh_expr_parse.specs.State.{tail}
+use Rattle.wh_cursor.specs.Steps.{tail}
 
 -- neither a star nor a dot comes first
 abbrev pub Opens : List Token → Type 0

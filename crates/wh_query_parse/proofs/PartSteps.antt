@@ -1,57 +1,35 @@
 -- What stands there for aliases, conditions, groups and items is read.
-use Rattle.std.proofs.Common.{◌≡◌, ℕ, zero, suc, ◌<◌, ◌≤◌, ◌==◌, Bool, true, false, not, ◌&&◌, List, [], ◌∷◌, ◌++◌, length, Option, Some, refl, sym, ap, ◌∙◌, subst, append_assoc, arith}
+use Rattle.std.proofs.Common.{◌≡◌, ℕ, ◌==◌, Bool, true, false, not, ◌&&◌, List, [], ◌∷◌, Option, Some, refl, sym, ap, ◌∙◌, subst, arith}
 use Rattle.std.specs.Prelude.{codes}
 use Rattle.std.proofs.lemmas.Bool.{and_parts}
 use Rattle.std.proofs.lemmas.Bool.Decides.{Decides-eqb}
-use Rattle.std.proofs.lemmas.Slice.Eq.{bytes_eq-Decides}
 use Rattle.wh_ast.specs.declared.expr.Expr.{Expr}
 use Rattle.wh_ast.specs.declared.query.Item.{Item}
 use Rattle.wh_grammar.specs.Words.{is_reserved}
 use Rattle.wh_grammar.specs.Token as token
-use Rattle.wh_grammar.specs.Token.{Token, Word, Quoted, SignToken}
+use Rattle.wh_grammar.specs.Token.{Token, Word, SignToken}
 use Rattle.wh_grammar.specs.Name.{IsName, word, quoted}
-use Rattle.wh_grammar.specs.Expression.{IsExpr, AreExprs, last_expr, more_exprs, binds}
+use Rattle.wh_grammar.specs.Expression.{IsExpr}
+use Rattle.wh_cursor.specs.Binds.{binds}
 use Rattle.wh_grammar.specs.Query as g
 use Rattle.wh_grammar.specs.Query.{IsAlias, MayHaveAlias, IsItem, AreItems, MayHaveFilter, MayHaveGroup}
-use Rattle.wh_expr_parse.specs.declared.key.Key.TheVariants as k
-use Rattle.wh_expr_parse.specs.Keys.{same_key, key_of}
-use Rattle.wh_expr_parse.specs.State.{tail, sees}
-use Rattle.wh_expr_parse.specs.Steps.{Reader, sees_word, expect_word, expect_key}
-use Rattle.wh_expr_parse.specs.Read.{read_name, read_expr}
-use Rattle.wh_expr_parse.proofs.KeyLemmas.{heads}
-use Rattle.wh_expr_parse.proofs.Found.{reads_names, reads_exprs}
+use Rattle.wh_cursor.specs.declared.key.Key.TheVariants as k
+use Rattle.wh_cursor.specs.Keys.{same_key, key_of}
+use Rattle.wh_cursor.specs.Steps.{tail, sees, sees_word}
+use Rattle.wh_cursor.proofs.KeyLemmas.{heads, unreserved}
+use Rattle.wh_cursor.proofs.Combine.{sees_word_is, expect_word_reads, name_reads}
+use Rattle.wh_cursor.proofs.ListLemmas.{GivesListed, listed-last, listed-more, listed-reads}
 use Rattle.wh_query_parse.specs.Follow.{ends_alias, ends_filter}
-use Rattle.wh_query_parse.specs.Read.{provided, read_named, some_alias, read_alias, read_filter, commas, listed, read_group, names_all, read_all_of, read_shown, read_item}
-use Rattle.wh_query_parse.proofs.Seen.{unreserved, name_binds}
+use Rattle.wh_query_parse.specs.Read.{provided, read_named, some_alias, read_alias, read_filter, read_group, names_all, read_all_of, read_shown, read_item, read_items}
+use Rattle.wh_query_parse.proofs.Seen.{name_binds}
 use Rattle.wh_query_parse.proofs.Openings.{Opens, name-opens, whole-opens, whole-ahead}
-use Rattle.wh_query_parse.proofs.Fronts.{expr-front, item-front}
+use Rattle.wh_expr_parse.proofs.ExprSteps.{expr_reads, exprs_read}
+use Rattle.wh_query_parse.proofs.Fronts.{item-front}
 use Rattle.wh_query_parse.proofs.Ends.{CoreEnd, no-comma, no-group, core-binds, ItemEnd, comma, from, item-ends, item-binds, from-comma}
-
--- ---- single tokens
-
-pub word-stands : (w : List ℕ) (us : List Token) → sees_word w (Word w ∷ us) ≡ true
-unfolding sees_word
-word-stands w us = (bytes_eq-Decides w w).1 refl
-
-pub expect-stands : (w : List ℕ) (us : List Token) → expect_word w (Word w ∷ us) ≡ Some (tt, us)
-unfolding expect_word
-expect-stands w us = rw (word-stands w us) refl
-
-pub close-stands : (us : List Token) → expect_key k.RParen (SignToken token.RParen ∷ us) ≡ Some (tt, us)
-unfolding expect_key sees same_key key_of
-close-stands us = refl
 
 pub provided-holds : (holds : List Token → Bool) (us : List Token) → holds us ≡ true → provided holds us ≡ Some (tt, us)
 unfolding provided
 provided-holds holds us e = rw (e) refl
-
--- ---- names and expressions
-
-pub name-complete : {ts us : List Token} {name : List ℕ} → IsName ts name us → read_name ts ≡ Some (name, us)
-name-complete {ts} {us} {name} h = (reads_names ts name us).1 h
-
-pub expr-complete : {d : ℕ} {ts us : List Token} {x : Expr} → IsExpr d ts x us → binds us ≡ 0 → read_expr d ts ≡ Some (x, us)
-expr-complete {d} {ts} {us} {x} h e = (reads_exprs d ts x us).1 (record { expr = h; ends = e })
 
 -- ---- aliases
 
@@ -62,8 +40,8 @@ as-none quoted = refl
 
 pub named-complete : {ts us : List Token} {name : List ℕ} → IsAlias ts name us → read_named ts ≡ Some (name, us)
 unfolding read_named
-named-complete (g.bare h) = rw (as-none h) (name-complete h)
-named-complete (g.with_as {ts = ts} h) = rw (word-stands (codes "AS") ts) (name-complete h)
+named-complete (g.bare h) = rw (as-none h) (name_reads h)
+named-complete (g.with_as {ts = ts} h) = rw (sees_word_is (codes "AS") ts) (name_reads h)
 
 alias-begins : {ts us : List Token} {name : List ℕ} → IsAlias ts name us → ends_alias ts ≡ false
 unfolding is_reserved
@@ -101,42 +79,7 @@ pub filter-complete : {d : ℕ} {ts us : List Token} {x : Option Expr} → MayHa
 unfolding read_filter
 filter-complete (g.no_filter {ts = ts}) e = rw ((filter-parts ts e).1, provided-holds ends_filter ts e) refl
 filter-complete (g.a_filter {ts = ts} {us = us} h) e =
-    rw (word-stands (codes "WHERE") ts, expr-complete h (filter-parts us e).0, provided-holds ends_filter us e) refl
-
--- ---- lists with commas
-
--- those that stand there are read behind those so far
-record Lists {A : Type 0} (one : Reader A) (ts : List Token) (xs : List A) (us : List Token) : Type 0 where
-  pub run : (n : ℕ) (found : List A) → length ts ≤ n → commas one n found ts ≡ Some (found ++ xs, us)
-
-comma-seen : (us : List Token) → sees k.Comma (SignToken token.Comma ∷ us) ≡ true
-unfolding sees same_key key_of
-comma-seen us = refl
-
-last-one : {A : Type 0} {one : Reader A} {ts us : List Token} {x : A} → one ts ≡ Some (x, us) → sees k.Comma us ≡ false → length us < length ts → Lists one ts (x ∷ []) us
-unfolding commas
-last-one {A} {one} {ts} {us} {x} read end front = record { run = by }
-  where
-    by : (n : ℕ) (found : List A) → length ts ≤ n → commas one n found ts ≡ Some (found ++ x ∷ [], us)
-    by zero found few = absurd (omega (arith, few, front))
-    by (suc n) found few = rw (read, end) refl
-
-one-more : {A : Type 0} {one : Reader A} {ts us vs : List Token} {x : A} {xs : List A} → one ts ≡ Some (x, SignToken token.Comma ∷ us)
-    → suc (length us) < length ts → Lists one us xs vs → Lists one ts (x ∷ xs) vs
-unfolding commas
-one-more {A} {one} {ts} {us} {vs} {x} {xs} read front more = record { run = by }
-  where
-    by : (n : ℕ) (found : List A) → length ts ≤ n → commas one n found ts ≡ Some (found ++ x ∷ xs, vs)
-    by zero found few = absurd (omega (arith, few, front))
-    by (suc n) found few = rw (read, comma-seen us)
-        (more.run n (found ++ x ∷ []) (omega (arith, few, front)) ∙ ap (λ (ys : List A). Some (ys, vs)) (append_assoc found (x ∷ []) xs))
-
-all-listed : {A : Type 0} {one : Reader A} {ts us : List Token} {xs : List A} → Lists one ts xs us → listed one ts ≡ Some (xs, us)
-all-listed {ts = ts} h = h.run (length ts) [] (omega arith)
-
-exprs-listed : {d : ℕ} {ts us : List Token} {xs : List Expr} → AreExprs d ts xs us → binds us ≡ 0 → sees k.Comma us ≡ false → Lists (read_expr d) ts xs us
-exprs-listed (last_expr h) e end = last-one (expr-complete h e) end (expr-front h)
-exprs-listed (more_exprs h more) e end = one-more (expr-complete h refl) (expr-front h) (exprs-listed more e end)
+    rw (sees_word_is (codes "WHERE") ts, expr_reads h (filter-parts us e).0, provided-holds ends_filter us e) refl
 
 -- ---- groups
 
@@ -144,7 +87,7 @@ pub group-complete : {d : ℕ} {ts us : List Token} {xs : List Expr} → MayHave
 unfolding read_group
 group-complete g.no_group end = rw (no-group end) refl
 group-complete (g.a_group {ts = ts} h) end =
-    rw (word-stands (codes "GROUP") (Word (codes "BY") ∷ ts), expect-stands (codes "BY") ts) (all-listed (exprs-listed h (core-binds end) (no-comma end)))
+    rw (sees_word_is (codes "GROUP") (Word (codes "BY") ∷ ts), expect_word_reads (codes "BY") ts) (exprs_read h (core-binds end) (no-comma end))
 
 -- ---- items
 
@@ -190,18 +133,19 @@ names-all ts us name h = subst (λ (l : List Token). (sees k.Dot l && sees k.Sta
 item-complete : {d : ℕ} {ts us : List Token} {x : Item} → IsItem d ts x us → ItemEnd us → read_item d ts ≡ Some (x, us)
 unfolding read_item read_all_of read_shown
 item-complete (g.star {us = us}) end = rw (star-seen us) refl
-item-complete (g.star_of {ts = ts} {us = us} {name = name} h) end = rw (no-star ts (name-opens h), names-all ts us name h, name-complete h) refl
+item-complete (g.star_of {ts = ts} {us = us} {name = name} h) end = rw (no-star ts (name-opens h), names-all ts us name h, name_reads h) refl
 item-complete (g.shown {ts = ts} {us = us} {x = x} h alias) end =
     rw (
       no-star ts (whole-opens h.whole),
       no-all ts us x h (optional-binds alias (item-binds end)),
-      expr-complete h (optional-binds alias (item-binds end)),
+      expr_reads h (optional-binds alias (item-binds end)),
       alias-complete alias (item-ends end),
     ) refl
 
-items-listed : {d : ℕ} {ts us : List Token} {xs : List Item} → AreItems d ts xs (Word (codes "FROM") ∷ us) → Lists (read_item d) ts xs (Word (codes "FROM") ∷ us)
-items-listed {us = us} (g.last_item h) = last-one (item-complete h from) (from-comma us) (item-front h)
-items-listed (g.more_items h more) = one-more (item-complete h comma) (item-front h) (items-listed more)
+items-listed : {d : ℕ} {ts us : List Token} {xs : List Item} → AreItems d ts xs (Word (codes "FROM") ∷ us) → GivesListed (read_item d) ts xs (Word (codes "FROM") ∷ us)
+items-listed {us = us} (g.last_item h) = listed-last (item-complete h from) (item-front h) (from-comma us)
+items-listed (g.more_items h more) = listed-more (item-complete h comma) (item-front h) (items-listed more)
 
-pub items-complete : {d : ℕ} {ts us : List Token} {xs : List Item} → AreItems d ts xs (Word (codes "FROM") ∷ us) → listed (read_item d) ts ≡ Some (xs, Word (codes "FROM") ∷ us)
-items-complete h = all-listed (items-listed h)
+pub items-complete : {d : ℕ} {ts us : List Token} {xs : List Item} → AreItems d ts xs (Word (codes "FROM") ∷ us) → read_items d ts ≡ Some (xs, Word (codes "FROM") ∷ us)
+unfolding read_items
+items-complete h = listed-reads (items-listed h)

@@ -5,7 +5,7 @@ use Rattle.wh_ast.specs.declared.query.Query.{Query}
 use Rattle.wh_grammar.specs.Token.{Token}
 use Rattle.wh_query_parse.specs.Read.{read_source, read_query}
 use Rattle.wh_query_parse.specs.Laws.{ReadsQueries, ReadsSources, ReadsAliases, ReadsFilters, TokensFixQuery, QueryIsFront, SourceIsFront}
-use Rattle.wh_query_parse.proofs.Outcomes.{to_law}
+use Rattle.wh_cursor.proofs.Yields.{yielded}
 use Rattle.wh_query_parse.proofs.Fronts.{query_front, source_front}
 use Rattle.wh_query_parse.proofs.Soundness.{read_query-sound, read_source-sound, alias-sound, filter-sound}
 use Rattle.wh_query_parse.proofs.PartSteps.{alias-complete, filter-complete}
@@ -13,17 +13,17 @@ use Rattle.wh_query_parse.proofs.Completeness.{query-complete, source-complete}
 
 pub queries_read : ReadsQueries
 unfolding read_query
-queries_read d ts q us = (to_law q us (read_query-sound d ts), λ h. query-complete h.query h.ends)
+queries_read d ts q us = (yielded (read_query-sound d ts) q us, λ h. query-complete h.query h.ends)
 
 pub sources_read : ReadsSources
 unfolding read_source
-sources_read d ts x us = (to_law x us (read_source-sound d ts), λ h. source-complete h.source h.ends)
+sources_read d ts x us = (yielded (read_source-sound d ts) x us, λ h. source-complete h.source h.ends)
 
 pub aliases_read : ReadsAliases
-aliases_read ts x us = (to_law x us (alias-sound ts), λ h. alias-complete h.alias h.ends)
+aliases_read ts x us = (yielded (alias-sound ts) x us, λ h. alias-complete h.alias h.ends)
 
 pub filters_read : ReadsFilters
-filters_read d ts x us = (to_law x us (filter-sound d ts), λ h. filter-complete h.filter h.ends)
+filters_read d ts x us = (yielded (filter-sound d ts) x us, λ h. filter-complete h.filter h.ends)
 
 pub tokens_fix_query : TokensFixQuery
 tokens_fix_query d ts q r us vs h l =

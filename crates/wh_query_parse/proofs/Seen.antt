@@ -1,35 +1,17 @@
 -- What it says of tokens that a word or a sign is seen, or that none is.
 use Rattle.std.proofs.Common.{◌≡◌, ℕ, Bool, true, false, not, ◌&&◌, if◌then◌else◌, List, [], ◌∷◌, refl, sym, ap, ◌∙◌}
 use Rattle.std.specs.Prelude.{codes, bytes_eq}
-use Rattle.std.proofs.lemmas.Slice.Eq.{bytes_eq-Decides}
 use Rattle.wh_grammar.specs.Words.{is_reserved}
 use Rattle.wh_grammar.specs.Token as token
 use Rattle.wh_grammar.specs.Token.{Token, Word, Quoted, TextToken, NumberToken, SignToken}
-use Rattle.wh_grammar.specs.Expression.{binds}
-use Rattle.wh_expr_parse.specs.declared.key.Key.TheVariants as k
-use Rattle.wh_expr_parse.specs.Keys.{key_of, reserved_key, key_binds}
-use Rattle.wh_expr_parse.specs.State.{tail}
-use Rattle.wh_expr_parse.specs.Steps.{sees_word}
-use Rattle.wh_expr_parse.proofs.KeyLemmas.{binds_key}
+use Rattle.wh_cursor.specs.Binds.{binds}
+use Rattle.wh_cursor.specs.declared.key.Key.TheVariants as k
+use Rattle.wh_cursor.specs.Keys.{key_of, reserved_key, key_binds}
+use Rattle.wh_cursor.specs.Steps.{sees_word}
+use Rattle.wh_cursor.proofs.KeyLemmas.{binds_key}
 use Rattle.wh_query_parse.specs.Follow.{ends_alias, names_key}
 
-pub word_seen : (w : List ℕ) (ts : List Token) → sees_word w ts ≡ true → ts ≡ Word w ∷ tail ts
-unfolding sees_word
-word_seen w [] e = absurd (cc)
-word_seen w (Word v ∷ us) e = ap (λ (v : List ℕ). Word v ∷ us) ((bytes_eq-Decides v w).0 e)
-word_seen w (Quoted name ∷ us) e = absurd (cc)
-word_seen w (TextToken bytes ∷ us) e = absurd (cc)
-word_seen w (NumberToken n ∷ us) e = absurd (cc)
-word_seen w (SignToken s ∷ us) e = absurd (cc)
-
 -- ---- words that aren't reserved
-
-pub unreserved : (w c : List ℕ) → is_reserved c ≡ true → is_reserved w ≡ false → bytes_eq w c ≡ false
-unreserved w c r n = by (bytes_eq w c) refl
-  where
-    by : (b : Bool) → bytes_eq w c ≡ b → b ≡ false
-    by false e = refl
-    by true e = absurd (let same = ap is_reserved ((bytes_eq-Decides w c).0 e) in cc)
 
 pub name_binds : (w : List ℕ) (us : List Token) → is_reserved w ≡ false → binds (Word w ∷ us) ≡ 0
 unfolding key_of

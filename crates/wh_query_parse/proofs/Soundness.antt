@@ -1,5 +1,5 @@
 -- What is read is what the rules say.
-use Rattle.std.proofs.Common.{◌≡◌, ℕ, zero, suc, ◌≤◌, true, if◌then◌else◌, List, [], ◌∷◌, ◌++◌, length, Some, None, refl, sym, ap, ◌∙◌, subst, append_assoc, arith}
+use Rattle.std.proofs.Common.{◌≡◌, ℕ, zero, suc, ◌≤◌, true, if◌then◌else◌, List, [], ◌∷◌, ◌++◌, length, Some, None, refl, sym, ap, ◌∙◌, subst, append_assoc, arith, Bool, false}
 use Rattle.std.specs.Prelude.{codes}
 use Rattle.std.proofs.lemmas.Bool.{and_parts}
 use Rattle.std.proofs.lemmas.List.{append-nil}
@@ -13,32 +13,36 @@ use Rattle.wh_ast.specs.declared.query.Source.TheVariants as s
 use Rattle.wh_grammar.specs.Token as token
 use Rattle.wh_grammar.specs.Token.{Token, Word, SignToken}
 use Rattle.wh_grammar.specs.Name.{IsName, word, quoted}
-use Rattle.wh_grammar.specs.Expression.{IsExpr, IsExprAt, AreExprs, last_expr, more_exprs}
+use Rattle.wh_grammar.specs.Expression.{IsExpr}
 use Rattle.wh_grammar.specs.Query as g
-use Rattle.wh_grammar.specs.Query.{IsAlias, MayHaveAlias, IsItem, AreItems, MayHaveFilter, MayHaveGroup, IsJoinWord, IsQuery, AreCores, IsCore, IsSource, AreJoins}
-use Rattle.wh_expr_parse.specs.declared.key.Key.TheVariants as k
-use Rattle.wh_expr_parse.specs.State.{tail, sees}
-use Rattle.wh_expr_parse.specs.Steps.{Reader, ◌>>◌, pure, and_then, expect_word}
-use Rattle.wh_expr_parse.specs.Read.{read_name, read_expr}
-use Rattle.wh_expr_parse.proofs.KeyLemmas.{heads}
-use Rattle.wh_expr_parse.proofs.Found.{reads_names, reads_exprs}
+use Rattle.wh_grammar.specs.Query.{IsAlias, IsItem, AreItems, MayHaveFilter, MayHaveGroup, IsJoinWord, IsQuery, AreCores, IsCore, IsSource, AreJoins}
+use Rattle.wh_cursor.specs.declared.key.Key.TheVariants as k
+use Rattle.wh_cursor.specs.Steps.{tail, sees, Reader, ◌>>◌, pure, and_then, expect_word, read_name}
+use Rattle.wh_cursor.proofs.KeyLemmas.{heads}
 use Rattle.wh_query_parse.specs.Follow.{ends_query, ends_alias, ends_filter, IsQueryAt, IsSourceAt, IsAliasAt, IsFilterAt}
-use Rattle.wh_query_parse.specs.Read.{provided, read_named, some_alias, read_alias, filter_by, read_filter, commas, listed, group_by, read_group, names_all, read_all_of, read_shown, read_item, sees_join, read_named_source, read_subquery, source_of, read_joined, read_join, joins_from, read_core, cores_from, query_of, nested, read_source, read_query}
-use Rattle.wh_query_parse.proofs.Outcomes.{Yields, yields, nothing, follow, mapped, by_law, either, then_word, then_key, if_word, if_key, then_provided}
+use Rattle.wh_query_parse.specs.Read.{provided, read_named, some_alias, read_alias, filter_by, read_filter, group_by, read_group, names_all, read_all_of, read_shown, read_item, read_items, sees_join, read_named_source, read_subquery, source_of, read_joined, read_join, joins_from, read_core, cores_from, query_of, nested, read_source, read_query}
+use Rattle.wh_cursor.proofs.Yields.{Yields, yields, nothing, follow, mapped, if_test}
+use Rattle.wh_cursor.proofs.Combine.{then_expect_word, then_expect_key, if_eaten_word, name-yields}
+use Rattle.wh_cursor.proofs.ListLemmas.{listed-sound}
+use Rattle.wh_expr_parse.proofs.ExprSteps.{expr-yields, exprs-yields}
 
 -- ---- names, expressions and aliases
 
-name-sound : (ts : List Token) → Yields (read_name ts) (IsName ts)
-name-sound ts = by_law (read_name ts) (IsName ts) (λ name us. (reads_names ts name us).0)
-
-expr-sound : (d : ℕ) (ts : List Token) → Yields (read_expr d ts) (IsExprAt d ts)
-expr-sound d ts = by_law (read_expr d ts) (IsExprAt d ts) (λ x us. (reads_exprs d ts x us).0)
+-- in front of the others, where that holds
+then_provided : {B : Type 0} (holds : List Token → Bool) (ts : List Token) (f : Unit {0} → Reader B) {Q : B → List Token → Type 0}
+    → (holds ts ≡ true → Yields (f tt ts) Q) → Yields (and_then (provided holds ts) f) Q
+unfolding provided
+then_provided holds ts f {Q = Q} k = by (holds ts) k
+  where
+    by : (r : Bool) → (r ≡ true → Yields (f tt ts) Q) → Yields (and_then (if r then Some (tt, ts) else None) f) Q
+    by true k = record { is = (k refl).is }
+    by false k = nothing
 
 named-sound : (ts : List Token) → Yields (read_named ts) (IsAlias ts)
 unfolding read_named
-named-sound ts = if_word (codes "AS") ts (λ _. read_name)
-    (λ first. mapped (name-sound (tail ts)) (λ name us h. subst (λ (l : List Token). IsAlias l name us) (sym first) (g.with_as h)))
-    (mapped (name-sound ts) (λ name us h. g.bare h))
+named-sound ts = if_eaten_word (codes "AS") ts (λ _. read_name)
+    (λ first. mapped (name-yields (tail ts)) (λ name us h. subst (λ (l : List Token). IsAlias l name us) (sym first) (g.with_as h)))
+    (λ _. mapped (name-yields ts) (λ name us h. g.bare h))
 
 some-sound : (ts : List Token) → Yields (some_alias ts) (IsAliasAt ts)
 unfolding some_alias
@@ -47,58 +51,30 @@ some-sound ts = follow (named-sound ts) (λ name us h.
 
 pub alias-sound : (ts : List Token) → Yields (read_alias ts) (IsAliasAt ts)
 unfolding read_alias
-alias-sound ts = either (ends_alias ts) (λ e. yields None ts (record { alias = g.no_alias; ends = e })) (λ _. some-sound ts)
+alias-sound ts = if_test (ends_alias ts) (λ e. yields None ts (record { alias = g.no_alias; ends = e })) (λ _. some-sound ts)
 
 -- ---- conditions
 
 condition-sound : (d : ℕ) (ts : List Token) → ts ≡ Word (codes "WHERE") ∷ tail ts → Yields (filter_by d true (tail ts)) (MayHaveFilter d ts)
-condition-sound d ts where_ = follow (expr-sound d (tail ts)) (λ x us h.
+condition-sound d ts where_ = follow (expr-yields d (tail ts)) (λ x us h.
     yields (Some x) us (subst (λ (l : List Token). MayHaveFilter d l (Some x) us) (sym where_) (g.a_filter h.expr)))
 
 pub filter-sound : (d : ℕ) (ts : List Token) → Yields (read_filter d ts) (IsFilterAt d ts)
 unfolding read_filter
-filter-sound d ts = if_word (codes "WHERE") ts
+filter-sound d ts = if_eaten_word (codes "WHERE") ts
     (λ found us. and_then (filter_by d found us) (λ filter vs. and_then (provided ends_filter vs) (λ _. pure filter)))
     (λ where_. follow (condition-sound d ts where_) (λ x us h. then_provided ends_filter us _ (λ e. yields x us (record { filter = h; ends = e }))))
-    (then_provided ends_filter ts _ (λ e. yields None ts (record { filter = g.no_filter; ends = e })))
-
--- ---- lists with commas
-
--- those so far, and more that stand there
-abbrev pub Adds : {A : Type 0} → List A → (List A → List Token → Type 0) → List A → List Token → Type 0
-Adds {A} found Ps ys us = (xs : List A) × (ys ≡ found ++ xs) × Ps xs us
-
-commas-sound : {A : Type 0} (one : Reader A) (P : List Token → A → List Token → Type 0) (Ps : List Token → List A → List Token → Type 0)
-    → ((ts : List Token) → Yields (one ts) (P ts)) → ((ts us : List Token) (x : A) → P ts x us → Ps ts (x ∷ []) us)
-    → ((ts us vs : List Token) (x : A) (xs : List A) → P ts x (SignToken token.Comma ∷ us) → Ps us xs vs → Ps ts (x ∷ xs) vs)
-    → (n : ℕ) (found : List A) (ts : List Token) → Yields (commas one n found ts) (Adds found (Ps ts))
-unfolding commas
-commas-sound one P Ps sound last more zero found ts = nothing
-commas-sound {A} one P Ps sound last more (suc n) found ts = follow (sound ts) (λ x us h.
-    if_key k.Comma us (λ again. if again then commas one n (found ++ x ∷ []) else pure (found ++ x ∷ []))
-    (λ comma. mapped (commas-sound one P Ps sound last more n (found ++ x ∷ []) (tail us)) (λ ys vs r.
-    (x ∷ r.0, r.1 ∙ append_assoc found (x ∷ []) r.0, more ts (tail us) vs x r.0 (subst (P ts x) comma h) r.2)))
-    (yields (found ++ x ∷ []) us (x ∷ [], refl, last ts us x h)))
-
-listed-sound : {A : Type 0} (one : Reader A) (P : List Token → A → List Token → Type 0) (Ps : List Token → List A → List Token → Type 0)
-    → ((ts : List Token) → Yields (one ts) (P ts)) → ((ts us : List Token) (x : A) → P ts x us → Ps ts (x ∷ []) us)
-    → ((ts us vs : List Token) (x : A) (xs : List A) → P ts x (SignToken token.Comma ∷ us) → Ps us xs vs → Ps ts (x ∷ xs) vs)
-    → (ts : List Token) → Yields (listed one ts) (Ps ts)
-listed-sound {A} one P Ps sound last more ts = mapped (commas-sound one P Ps sound last more (length ts) [] ts) (λ ys us r.
-    subst (λ (l : List A). Ps ts l us) (sym r.1) r.2)
-
-exprs-sound : (d : ℕ) (ts : List Token) → Yields (listed (read_expr d) ts) (AreExprs d ts)
-exprs-sound d = listed-sound (read_expr d) (IsExprAt d) (AreExprs d) (expr-sound d) (λ ts us x h. last_expr h.expr) (λ ts us vs x xs h more. more_exprs h.expr more)
+    (λ _. then_provided ends_filter ts _ (λ e. yields None ts (record { filter = g.no_filter; ends = e })))
 
 -- ---- groups
 
 grouped-sound : (d : ℕ) (ts : List Token) → ts ≡ Word (codes "GROUP") ∷ tail ts → Yields (group_by d true (tail ts)) (MayHaveGroup d ts)
-grouped-sound d ts group = then_word (codes "BY") (tail ts) _ (λ by. mapped (exprs-sound d (tail (tail ts))) (λ xs us h.
+grouped-sound d ts group = then_expect_word (codes "BY") (tail ts) _ (λ by. mapped (exprs-yields d (tail (tail ts))) (λ xs us h.
     subst (λ (l : List Token). MayHaveGroup d l xs us) (sym (group ∙ ap (λ (l : List Token). Word (codes "GROUP") ∷ l) by)) (g.a_group h)))
 
 group-sound : (d : ℕ) (ts : List Token) → Yields (read_group d ts) (MayHaveGroup d ts)
 unfolding read_group
-group-sound d ts = if_word (codes "GROUP") ts (group_by d) (grouped-sound d ts) (yields [] ts g.no_group)
+group-sound d ts = if_eaten_word (codes "GROUP") ts (group_by d) (grouped-sound d ts) (λ _. yields [] ts g.no_group)
 
 -- ---- items
 
@@ -108,7 +84,7 @@ name-tail quoted = refl
 
 all-of-sound : (d : ℕ) (ts : List Token) → names_all ts ≡ true → Yields (read_all_of ts) (IsItem d ts)
 unfolding read_all_of
-all-of-sound d ts all = follow (name-sound ts) (λ name us h.
+all-of-sound d ts all = follow (name-yields ts) (λ name us h.
     yields (i.StarOf name) (tail (tail us)) (g.star_of (subst (IsName ts name) (subst (λ (l : List Token). l ≡ SignToken token.Dot ∷ SignToken token.Star ∷ tail (tail l)) (name-tail h) front) h)))
   where
     both : (sees k.Dot (tail ts) ≡ true) × (sees k.Star (tail (tail ts)) ≡ true)
@@ -119,16 +95,17 @@ all-of-sound d ts all = follow (name-sound ts) (λ name us h.
 
 shown-sound : (d : ℕ) (ts : List Token) → Yields (read_shown d ts) (IsItem d ts)
 unfolding read_shown
-shown-sound d ts = follow (expr-sound d ts) (λ x us h. follow (alias-sound us) (λ alias vs l. yields (i.Expr x alias) vs (g.shown h.expr l.alias)))
+shown-sound d ts = follow (expr-yields d ts) (λ x us h. follow (alias-sound us) (λ alias vs l. yields (i.Expr x alias) vs (g.shown h.expr l.alias)))
 
 item-sound : (d : ℕ) (ts : List Token) → Yields (read_item d ts) (IsItem d ts)
 unfolding read_item
-item-sound d ts = either (sees k.Star ts)
+item-sound d ts = if_test (sees k.Star ts)
     (λ star. yields i.Star (tail ts) (subst (λ (l : List Token). IsItem d l i.Star (tail ts)) (sym (heads k.Star ts star)) g.star))
-    (λ _. either (names_all ts) (all-of-sound d ts) (λ _. shown-sound d ts))
+    (λ _. if_test (names_all ts) (all-of-sound d ts) (λ _. shown-sound d ts))
 
-items-sound : (d : ℕ) (ts : List Token) → Yields (listed (read_item d) ts) (AreItems d ts)
-items-sound d = listed-sound (read_item d) (IsItem d) (AreItems d) (item-sound d) (λ ts us x h. g.last_item h) (λ ts us vs x xs h more. g.more_items h more)
+items-sound : (d : ℕ) (ts : List Token) → Yields (read_items d ts) (AreItems d ts)
+unfolding read_items
+items-sound d = listed-sound (read_item d) (IsItem d) (AreItems d) (item-sound d) (λ ts us x h end. g.last_item h) (λ ts us vs x xs h more. g.more_items h more)
 
 -- ---- the rules, over what stands in parentheses
 
@@ -144,7 +121,7 @@ in-parentheses (suc d) ts us vs q alias h a = g.subquery h a
 
 named-source-sound : (d : ℕ) (ts : List Token) → Yields (read_named_source ts) (IsSourceAt d ts)
 unfolding read_named_source
-named-source-sound d ts = follow (name-sound ts) (λ name us h.
+named-source-sound d ts = follow (name-yields ts) (λ name us h.
     follow (alias-sound us) (λ alias vs l. yields (s.Named name alias) vs (record { source = g.named h l.alias; ends = l.ends })))
 
 -- a join, and what it stands for
@@ -162,7 +139,7 @@ module _ (inner : Reader Query) (d : ℕ) (inside : (ts : List Token) → Yields
   subquery-sound : (ts : List Token) → ts ≡ SignToken token.LParen ∷ tail ts → Yields (read_subquery inner ts) (IsSourceAt d ts)
   unfolding read_subquery
   subquery-sound ts open_ = follow (inside (tail ts)) (λ q us h.
-      then_key k.RParen us _ (λ close.
+      then_expect_key k.RParen us _ (λ close.
       follow (named-sound (tail us)) (λ alias vs a.
       then_provided ends_alias vs _ (λ e. yields (s.Subquery q alias) vs (record {
         source = subst (λ (l : List Token). IsSource d l (s.Subquery q alias) vs) (sym open_) (in-parentheses d (tail ts) (tail us) vs q alias (subst (Inside d (tail ts) q) close h) a);
@@ -171,14 +148,14 @@ module _ (inner : Reader Query) (d : ℕ) (inside : (ts : List Token) → Yields
 
   pub source-sound : (ts : List Token) → Yields (source_of inner ts) (IsSourceAt d ts)
   unfolding source_of
-  source-sound ts = either (sees k.LParen ts) (λ r. subquery-sound ts (heads k.LParen ts r)) (λ _. named-source-sound d ts)
+  source-sound ts = if_test (sees k.LParen ts) (λ r. subquery-sound ts (heads k.LParen ts r)) (λ _. named-source-sound d ts)
 
   joined-sound : (ts us : List Token) → (us ≡ Word (codes "JOIN") ∷ tail us → IsJoinWord ts (tail us)) → Yields (read_joined inner d us) (IsJoin d ts)
   unfolding read_joined
-  joined-sound ts us words = then_word (codes "JOIN") us _ (λ join.
+  joined-sound ts us words = then_expect_word (codes "JOIN") us _ (λ join.
       follow (source-sound (tail us)) (λ source vs a.
-      then_word (codes "ON") vs _ (λ on.
-      follow (expr-sound d (tail vs)) (λ x ws h. yields (roll-Join (record { source = source; on = x })) ws (record {
+      then_expect_word (codes "ON") vs _ (λ on.
+      follow (expr-yields d (tail vs)) (λ x ws h. yields (roll-Join (record { source = source; on = x })) ws (record {
         it = source;
         on = x;
         left = tail us;
@@ -191,10 +168,14 @@ module _ (inner : Reader Query) (d : ℕ) (inside : (ts : List Token) → Yields
 
   join-sound : (ts : List Token) → Yields (read_join inner d ts) (IsJoin d ts)
   unfolding read_join
-  join-sound ts = if_word (codes "INNER") ts (λ _. read_joined inner d)
+  join-sound ts = if_eaten_word (codes "INNER") ts (λ _. read_joined inner d)
       (λ first. joined-sound ts (tail ts) (λ join.
       subst (λ (l : List Token). IsJoinWord l (tail (tail ts))) (sym (first ∙ ap (λ (l : List Token). Word (codes "INNER") ∷ l) join)) g.inner_join_word))
-      (joined-sound ts ts (λ join. subst (λ (l : List Token). IsJoinWord l (tail ts)) (sym join) g.join_word))
+      (λ _. joined-sound ts ts (λ join. subst (λ (l : List Token). IsJoinWord l (tail ts)) (sym join) g.join_word))
+
+  -- those so far, and more that stand there
+  abbrev Adds : {A : Type 0} → List A → (List A → List Token → Type 0) → List A → List Token → Type 0
+  Adds {A} found Ps ys us = (xs : List A) × (ys ≡ found ++ xs) × Ps xs us
 
   abbrev Joins : ℕ → List Token → List Join → List Token → Type 0
   Joins n ts xs us = (length xs ≤ n) × AreJoins d ts xs us
@@ -202,7 +183,7 @@ module _ (inner : Reader Query) (d : ℕ) (inside : (ts : List Token) → Yields
   joins-sound : (n : ℕ) (found : List Join) (ts : List Token) → Yields (joins_from inner d n found ts) (Adds found (Joins n ts))
   unfolding joins_from
   joins-sound zero found ts = yields found ts ([], sym (append-nil found), (omega arith, g.no_joins))
-  joins-sound (suc n) found ts = either (sees_join ts)
+  joins-sound (suc n) found ts = if_test (sees_join ts)
       (λ _. follow (join-sound ts) (λ join us h.
       mapped (joins-sound n (found ++ join ∷ []) us) (λ ys vs r.
       (join ∷ r.0, r.1 ∙ append_assoc found (join ∷ []) r.0, (let few = r.2.0 in omega (arith, few), subst (λ (j : Join). AreJoins d ts (j ∷ r.0) vs) (sym h.is) (g.more_joins h.word h.source h.expr r.2.1))))))
@@ -210,9 +191,9 @@ module _ (inner : Reader Query) (d : ℕ) (inside : (ts : List Token) → Yields
 
   core-sound : (ts : List Token) → Yields (read_core inner d ts) (IsCore d ts)
   unfolding read_core
-  core-sound ts = then_word (codes "SELECT") ts _ (λ select.
+  core-sound ts = then_expect_word (codes "SELECT") ts _ (λ select.
       follow (items-sound d (tail ts)) (λ items us h.
-      then_word (codes "FROM") us _ (λ from.
+      then_expect_word (codes "FROM") us _ (λ from.
       follow (source-sound (tail us)) (λ source vs a.
       follow (joins-sound 15 [] vs) (λ joins ws b.
       follow (filter-sound d ws) (λ filter rs c.
@@ -229,14 +210,14 @@ module _ (inner : Reader Query) (d : ℕ) (inside : (ts : List Token) → Yields
   unfolding cores_from
   cores-sound zero found ts = nothing
   cores-sound (suc n) found ts = follow (core-sound ts) (λ core us h.
-      if_word (codes "UNION") us (λ again. if again then (expect_word (codes "ALL") >> cores_from inner d n (found ++ core ∷ [])) else pure (found ++ core ∷ []))
-      (λ union. then_word (codes "ALL") (tail us) _ (λ all.
+      if_eaten_word (codes "UNION") us (λ again. if again then (expect_word (codes "ALL") >> cores_from inner d n (found ++ core ∷ [])) else pure (found ++ core ∷ []))
+      (λ union. then_expect_word (codes "ALL") (tail us) _ (λ all.
       mapped (cores-sound n (found ++ core ∷ []) (tail (tail us))) (λ ys vs r. (
         core ∷ r.0,
         r.1 ∙ append_assoc found (core ∷ []) r.0,
         (let few = r.2.0 in omega (arith, few), g.more_cores (subst (IsCore d ts core) (union ∙ ap (λ (l : List Token). Word (codes "UNION") ∷ l) all) h) r.2.1),
       ))))
-      (yields (found ++ core ∷ []) us (core ∷ [], refl, (omega arith, g.last_core h))))
+      (λ _. yields (found ++ core ∷ []) us (core ∷ [], refl, (omega arith, g.last_core h))))
 
   query-sound : (ts : List Token) → Yields (query_of inner d ts) (IsQueryAt d ts)
   unfolding query_of

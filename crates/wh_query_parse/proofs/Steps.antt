@@ -1,5 +1,5 @@
 -- What stands there for sources, joins and cores is read, where their parts are.
-use Rattle.std.proofs.Common.{◌≡◌, ℕ, zero, suc, ◌≤◌, Bool, true, false, List, [], ◌∷◌, ◌++◌, length, Option, Some, refl, sym, ap, ◌∙◌, append_assoc, arith}
+use Rattle.std.proofs.Common.{◌≡◌, ℕ, zero, suc, ◌≤◌, true, false, List, [], ◌∷◌, ◌++◌, length, Option, Some, refl, sym, ap, ◌∙◌, append_assoc, arith}
 use Rattle.std.specs.Prelude.{codes}
 use Rattle.std.proofs.lemmas.List.{append-nil}
 use Rattle.wh_ast.specs.declared.expr.Expr.{Expr}
@@ -12,51 +12,39 @@ use Rattle.wh_ast.specs.declared.query.Source.TheVariants as s
 use Rattle.wh_grammar.specs.Token as token
 use Rattle.wh_grammar.specs.Token.{Token, Word, SignToken}
 use Rattle.wh_grammar.specs.Name.{IsName, word, quoted}
-use Rattle.wh_grammar.specs.Expression.{IsExpr, binds}
+use Rattle.wh_grammar.specs.Expression.{IsExpr}
+use Rattle.wh_cursor.specs.Binds.{binds}
 use Rattle.wh_grammar.specs.Query as g
 use Rattle.wh_grammar.specs.Query.{IsAlias, MayHaveAlias, AreItems, MayHaveFilter, MayHaveGroup, IsJoinWord}
-use Rattle.wh_expr_parse.specs.declared.key.Key.TheVariants as k
-use Rattle.wh_expr_parse.specs.Keys.{same_key, key_of}
-use Rattle.wh_expr_parse.specs.State.{tail, sees}
-use Rattle.wh_expr_parse.specs.Steps.{Reader, sees_word}
-use Rattle.wh_expr_parse.proofs.KeyLemmas.{heads}
+use Rattle.wh_cursor.specs.declared.key.Key.TheVariants as k
+use Rattle.wh_cursor.specs.Steps.{sees, Reader, sees_word}
+use Rattle.wh_cursor.proofs.Combine.{Lacks, not_that_key, sees_key_is, sees_word_is, expect_word_reads, rparen_reads, other_word, name_reads}
+use Rattle.wh_expr_parse.proofs.ExprSteps.{expr_reads}
 use Rattle.wh_query_parse.specs.Follow.{ends_query, ends_alias}
 use Rattle.wh_query_parse.specs.Read.{read_named_source, read_subquery, source_of, sees_join, read_joined, read_join, joins_from, read_core, cores_from, query_of}
 use Rattle.wh_query_parse.proofs.Ends.{CoreEnd, FilterEnd, filter-ends}
-use Rattle.wh_query_parse.proofs.PartSteps.{word-stands, expect-stands, close-stands, provided-holds, name-complete, expr-complete, named-complete, alias-complete, filter-complete, group-complete, items-complete}
+use Rattle.wh_query_parse.proofs.PartSteps.{provided-holds, named-complete, alias-complete, filter-complete, group-complete, items-complete}
 
 -- ---- sources
 
-open-seen : (us : List Token) → sees k.LParen (SignToken token.LParen ∷ us) ≡ true
-unfolding sees same_key key_of
-open-seen us = refl
-
-not-open : {ts us : List Token} {name : List ℕ} → IsName ts name us → ts ≡ SignToken token.LParen ∷ tail ts → ⊥
-not-open (word r c) e = cc
-not-open quoted e = cc
-
 no-open : {ts us : List Token} {name : List ℕ} → IsName ts name us → sees k.LParen ts ≡ false
-no-open {ts} h = by (sees k.LParen ts) refl
+no-open {ts} h = not_that_key k.LParen (SignToken token.LParen) ts refl (not-open h)
   where
-    by : (r : Bool) → sees k.LParen ts ≡ r → r ≡ false
-    by false e = refl
-    by true e = absurd (not-open h (heads k.LParen ts e))
+    not-open : {ts us : List Token} {name : List ℕ} → IsName ts name us → Lacks (SignToken token.LParen) ts
+    not-open (word r c) e = cc
+    not-open quoted e = cc
 
 pub named-source : (inner : Reader Query) {ts us vs : List Token} {name : List ℕ} {alias : Option (List ℕ)} → IsName ts name us → MayHaveAlias us alias vs → ends_alias vs ≡ true
     → source_of inner ts ≡ Some (s.Named name alias, vs)
 unfolding source_of read_named_source
-named-source inner h alias e = rw (no-open h, name-complete h, alias-complete alias e) refl
+named-source inner h alias e = rw (no-open h, name_reads h, alias-complete alias e) refl
 
 pub subquery : (inner : Reader Query) {ts us vs : List Token} {q : Query} {alias : List ℕ} → inner ts ≡ Some (q, SignToken token.RParen ∷ us) → IsAlias us alias vs
     → ends_alias vs ≡ true → source_of inner (SignToken token.LParen ∷ ts) ≡ Some (s.Subquery q alias, vs)
 unfolding source_of read_subquery
-subquery inner {ts} {us} {vs} read alias e = rw (open-seen ts, read, close-stands us, named-complete alias, provided-holds ends_alias vs e) refl
+subquery inner {ts} {us} {vs} read alias e = rw (sees_key_is k.LParen (SignToken token.LParen) ts refl, read, rparen_reads us, named-complete alias, provided-holds ends_alias vs e) refl
 
 -- ---- joins
-
-no-inner : (us : List Token) → sees_word (codes "INNER") (Word (codes "JOIN") ∷ us) ≡ false
-unfolding sees_word
-no-inner us = refl
 
 join-seen : {ts us : List Token} → IsJoinWord ts us → sees_join ts ≡ true
 unfolding sees_word
@@ -66,13 +54,13 @@ join-seen g.inner_join_word = refl
 joined : (inner : Reader Query) (d : ℕ) (ts us : List Token) {vs : List Token} {source : Source} {x : Expr} → source_of inner ts ≡ Some (source, Word (codes "ON") ∷ us)
     → IsExpr d us x vs → binds vs ≡ 0 → read_joined inner d (Word (codes "JOIN") ∷ ts) ≡ Some (roll-Join (record { source = source; on = x }), vs)
 unfolding read_joined
-joined inner d ts us source h e = rw (expect-stands (codes "JOIN") ts, source, expect-stands (codes "ON") us, expr-complete h e) refl
+joined inner d ts us source h e = rw (expect_word_reads (codes "JOIN") ts, source, expect_word_reads (codes "ON") us, expr_reads h e) refl
 
 one-join : (inner : Reader Query) (d : ℕ) {ts us vs ws : List Token} {source : Source} {x : Expr} → IsJoinWord ts us → source_of inner us ≡ Some (source, Word (codes "ON") ∷ vs)
     → IsExpr d vs x ws → binds ws ≡ 0 → read_join inner d ts ≡ Some (roll-Join (record { source = source; on = x }), ws)
 unfolding read_join
-one-join inner d {vs = vs} (g.join_word {ts = ts}) source h e = rw (no-inner ts) (joined inner d ts vs source h e)
-one-join inner d {vs = vs} (g.inner_join_word {ts = ts}) source h e = rw (word-stands (codes "INNER") (Word (codes "JOIN") ∷ ts)) (joined inner d ts vs source h e)
+one-join inner d {vs = vs} (g.join_word {ts = ts}) source h e = rw (other_word (codes "INNER") (codes "JOIN") ts refl) (joined inner d ts vs source h e)
+one-join inner d {vs = vs} (g.inner_join_word {ts = ts}) source h e = rw (sees_word_is (codes "INNER") (Word (codes "JOIN") ∷ ts)) (joined inner d ts vs source h e)
 
 -- those that stand there are read behind those so far
 pub record Joins (inner : Reader Query) (d : ℕ) (ts : List Token) (xs : List Join) (us : List Token) : Type 0 where
@@ -109,9 +97,9 @@ pub one-core : (inner : Reader Query) (d : ℕ) {ts us vs ws rs ends : List Toke
 unfolding read_core
 one-core inner d {ts} {us} few items source joins filter behind group end =
     rw (
-      expect-stands (codes "SELECT") ts,
+      expect_word_reads (codes "SELECT") ts,
       items-complete items,
-      expect-stands (codes "FROM") us,
+      expect_word_reads (codes "FROM") us,
       source,
       joins.run 15 [] few,
       filter-complete filter (filter-ends behind),
@@ -137,7 +125,7 @@ more-cores inner d {ts} {us} {vs} {x} {xs} read more = record { run = by }
   where
     by : (n : ℕ) (found : List Core) → suc (length xs) ≤ n → cores_from inner d n found ts ≡ Some (found ++ x ∷ xs, vs)
     by zero found few = absurd (omega (arith, few))
-    by (suc n) found few = rw (read, word-stands (codes "UNION") (Word (codes "ALL") ∷ us), expect-stands (codes "ALL") us)
+    by (suc n) found few = rw (read, sees_word_is (codes "UNION") (Word (codes "ALL") ∷ us), expect_word_reads (codes "ALL") us)
         (more.run n (found ++ x ∷ []) (omega (arith, few)) ∙ ap (λ (l : List Core). Some (l, vs)) (append_assoc found (x ∷ []) xs))
 
 pub whole-query : (inner : Reader Query) (d : ℕ) {ts us : List Token} {xs : List Core} → length xs ≤ 64 → Cores inner d ts xs us → ends_query us ≡ true

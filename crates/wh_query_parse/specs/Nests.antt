@@ -4,8 +4,8 @@ use Rattle.std.specs.declared.alloc.Global.{Global}
 use denote.Ref.{MutBor}
 use Rattle.wh_ast.specs.declared.query.Query.{Query}
 use Rattle.wh_grammar.specs.Token.{Token}
-use Rattle.wh_expr_parse.specs.declared.fault.ParseFault.{ParseFault}
-use Rattle.wh_expr_parse.specs.Gives.{Reads}
+use Rattle.wh_cursor.specs.declared.fault.ParseFault.{ParseFault}
+use Rattle.wh_cursor.specs.Gives.{Reads}
 use Rattle.wh_query_parse.specs.Read.{nested}
 
 pub record Nests (depth : ℕ) (pre : Global → MutBor (List Token) → ℕ → Type 0)

@@ -3,7 +3,7 @@
 --     read_filter     a condition behind WHERE, or none
 --     read_source     a name or a query in parentheses, with its alias
 --     read_query      cores with UNION ALL between them
-use Rattle.std.specs.Prelude.{ℕ, zero, suc, Bool, true, false, ◌&&◌, ◌||◌, if◌then◌else◌, List, [], ◌∷◌, ◌++◌, Option, Some, None, length, codes}
+use Rattle.std.specs.Prelude.{ℕ, zero, suc, Bool, true, false, ◌&&◌, ◌||◌, if◌then◌else◌, List, [], ◌∷◌, ◌++◌, Option, Some, None, codes}
 use Rattle.wh_ast.specs.declared.expr.Expr.{Expr}
 use Rattle.wh_ast.specs.declared.query.Query.{Query, roll-Query}
 use Rattle.wh_ast.specs.declared.query.Core.{Core, roll-Core}
@@ -13,10 +13,10 @@ use Rattle.wh_ast.specs.declared.query.Item.TheVariants as i
 use Rattle.wh_ast.specs.declared.query.Source.{Source}
 use Rattle.wh_ast.specs.declared.query.Source.TheVariants as s
 use Rattle.wh_grammar.specs.Token.{Token}
-use Rattle.wh_expr_parse.specs.declared.key.Key.TheVariants as k
-use Rattle.wh_expr_parse.specs.State.{tail, sees}
-use Rattle.wh_expr_parse.specs.Steps.{Reader, ◌>>=◌, ◌>>◌, pure, refuse, skip, sees_word, eat_word, eat_key, expect_word, expect_key}
-use Rattle.wh_expr_parse.specs.Read.{read_name, read_expr}
+use Rattle.wh_cursor.specs.declared.key.Key.TheVariants as k
+use Rattle.wh_cursor.specs.Steps.{tail, sees, Reader, ◌>>=◌, ◌>>◌, pure, refuse, skip, sees_word, eat_word, eat_key, expect_word, expect_key, read_name}
+use Rattle.wh_cursor.specs.Lists.{listed}
+use Rattle.wh_expr_parse.specs.Read.{read_expr, read_exprs}
 use Rattle.wh_query_parse.specs.Follow.{ends_query, ends_alias, ends_filter}
 
 -- takes nothing, and goes on only where that holds of what is left
@@ -54,23 +54,11 @@ read_filter d = do
   provided ends_filter
   pure filter
 
--- the number bounds the turns, and each turn takes a token
-unfoldable pub commas : {A : Type 0} → Reader A → ℕ → List A → Reader (List A)
-commas one zero found = refuse
-commas one (suc n) found = do
-  x ← one
-  more ← eat_key k.Comma
-  if more then commas one n (found ++ x ∷ []) else pure (found ++ x ∷ [])
-
--- one or more, with commas between them
-abbrev pub listed : {A : Type 0} → Reader A → Reader (List A)
-listed one = λ ts. commas one (length ts) [] ts
-
 -- behind GROUP, or where it doesn't stand
 abbrev pub group_by : ℕ → Bool → Reader (List Expr)
 group_by d true = do
   expect_word (codes "BY")
-  listed (read_expr d)
+  read_exprs d
 group_by d false = pure []
 
 unfoldable pub read_group : ℕ → Reader (List Expr)
@@ -99,6 +87,9 @@ read_shown d = do
 
 unfoldable pub read_item : ℕ → Reader Item
 read_item d = λ ts. if sees k.Star ts then Some (i.Star, tail ts) else if names_all ts then read_all_of ts else read_shown d ts
+
+unfoldable pub read_items : ℕ → Reader (List Item)
+read_items d = listed (read_item d)
 
 -- ---- sources, cores and queries, over what stands in parentheses
 
@@ -151,7 +142,7 @@ module _ (inner : Reader Query) where
     unfoldable pub read_core : Reader Core
     read_core = do
       expect_word (codes "SELECT")
-      items ← listed (read_item d)
+      items ← read_items d
       expect_word (codes "FROM")
       source ← source_of
       joins ← joins_from 15 []

@@ -2,12 +2,10 @@
 
 ghost use Rattle.std.specs.Prelude.{◌≡◌, [], ◌∷◌};
 ghost use Rattle.wh_lex.specs.View.{token_of};
-ghost use Rattle.wh_grammar.specs.Expression as machine;
-ghost use Rattle.wh_expr_parse.specs.Keys.{key_binds};
 ghost use Rattle.wh_query_parse.specs.Follow as spec;
 ghost use Rattle.wh_query_parse.specs.Read.{names_all, sees_join};
 
-use wh_expr_parse::{Key, Words};
+use wh_cursor::{Key, Words};
 use wh_lex::{Kind, Sign};
 
 fn is_query_end(kind: &Kind) -> bool
@@ -47,33 +45,11 @@ pub fn ends_alias(words: &Words<'_>) -> bool
     !is_named(words.key())
 }
 
-/// How tightly the next token binds behind an expression: 0 where it doesn't go on with it.
-fn binds(words: &Words<'_>) -> u8
-    ensures { result ≡ machine.binds words.now }
-{
-    key_binds(words.key())
-}
-
-fn key_binds(key: Key) -> u8
-    ensures { result ≡ key_binds key }
-{
-    match key {
-        Key::Or => 1,
-        Key::And => 2,
-        Key::Not | Key::Is | Key::In | Key::Between => 3,
-        Key::Equal | Key::Unequal | Key::Less | Key::AtMost | Key::Greater | Key::AtLeast => 3,
-        Key::Plus | Key::Minus => 4,
-        Key::Star => 5,
-        Key::LParen | Key::Dot => 6,
-        _ => 0,
-    }
-}
-
 /// Whether neither WHERE comes next, nor what goes on with an expression.
 pub fn ends_filter(words: &Words<'_>) -> bool
     ensures { result ≡ spec.ends_filter words.now }
 {
-    binds(words) == 0 && !words.sees_word(b"WHERE")
+    words.binds() == 0 && !words.sees_word(b"WHERE")
 }
 
 /// Whether `. *` stands behind the next token.

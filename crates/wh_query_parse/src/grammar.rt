@@ -2,7 +2,7 @@
 //! by itself.
 
 ghost use Rattle.std.specs.Prelude.{◌≡◌, []};
-ghost use Rattle.wh_expr_parse.specs.Gives.{Reads};
+ghost use Rattle.wh_cursor.specs.Gives.{Reads};
 ghost use Rattle.wh_query_parse.specs.Follow as follow;
 ghost use Rattle.wh_query_parse.specs.Nests.{Nests};
 ghost use Rattle.wh_query_parse.specs.Read as spec;
@@ -13,7 +13,8 @@ use crate::parts::{expect_alias_end, group, named, optional_alias, optional_filt
 use sqlite_items::{Boxed, Items};
 use std::alloc::Global;
 use wh_ast::{Core, Join, Query, Source};
-use wh_expr_parse::{Key, ParseFault, Words, expr, name};
+use wh_cursor::{Key, ParseFault, Words, name};
+use wh_expr_parse::expr;
 
 /// How many cores a query may have.
 const CORES: usize = 64;

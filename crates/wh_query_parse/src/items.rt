@@ -1,15 +1,16 @@
 //! What SELECT shows.
 
 ghost use Rattle.std.specs.Prelude.{◌≡◌, []};
-ghost use Rattle.wh_expr_parse.specs.Gives.{Reads};
+ghost use Rattle.wh_cursor.specs.Gives.{Reads};
 ghost use Rattle.wh_query_parse.specs.Read as spec;
 
 use crate::follow::names_all;
-use crate::parts::{count, optional_alias};
+use crate::parts::optional_alias;
 use sqlite_items::Items;
 use std::alloc::Global;
 use wh_ast::Item;
-use wh_expr_parse::{Key, ParseFault, Words, expr, name};
+use wh_cursor::{Key, ParseFault, Words, listed, name};
+use wh_expr_parse::expr;
 
 /// Takes a name and the `. *` behind it.
 #[tactic(auto, unfolding(crate::specs::Read::read_all_of))]
@@ -46,15 +47,9 @@ fn item(alloc: Global, words: &mut Words<'_>, depth: usize) -> Result<Item, Pars
 }
 
 /// One item or more, with commas between them.
+#[tactic(auto, unfolding(crate::specs::Read::read_items))]
 pub fn items(alloc: Global, words: &mut Words<'_>, depth: usize) -> Result<Items<Item>, ParseFault>
-    ensures { Reads (spec.listed (spec.read_item depth) words.old) result words.new }
+    ensures { Reads (spec.read_items depth words.old) result words.new }
 {
-    let mut found = Items::new(alloc);
-    for _turn in 0..count(words) {
-        found.push(item(alloc, words, depth)?)?;
-        if !words.eat(Key::Comma) {
-            return Ok(found);
-        }
-    }
-    Err(ParseFault::SyntaxError)
+    listed(alloc, words, depth, &item)
 }

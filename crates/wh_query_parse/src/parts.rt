@@ -1,8 +1,7 @@
 //! Aliases, conditions and groups.
 
-ghost use Rattle.std.specs.Prelude.{◌≡◌, [], length};
-ghost use Rattle.wh_expr_parse.specs.Gives.{Reads};
-ghost use Rattle.wh_expr_parse.specs.Read.{read_expr};
+ghost use Rattle.std.specs.Prelude.{◌≡◌, []};
+ghost use Rattle.wh_cursor.specs.Gives.{Reads};
 ghost use Rattle.wh_query_parse.specs.Follow as follow;
 ghost use Rattle.wh_query_parse.specs.Read as spec;
 
@@ -10,15 +9,9 @@ use crate::follow::{ends_alias, ends_filter};
 use sqlite_items::Items;
 use std::alloc::Global;
 use wh_ast::Expr;
-use wh_expr_parse::{Key, ParseFault, Words, expr, name};
+use wh_cursor::{ParseFault, Words, name};
+use wh_expr_parse::{expr, exprs};
 use wh_value::Text;
-
-/// How many tokens are left.
-pub fn count(words: &Words<'_>) -> usize
-    ensures { result ≡ length words.now }
-{
-    words.rest().len()
-}
 
 /// Takes an alias, with or without AS.
 #[tactic(auto, unfolding(crate::specs::Read::read_named))]
@@ -99,20 +92,6 @@ pub fn optional_filter(
     let filter = filter_by(alloc, words, depth, found)?;
     expect_filter_end(words)?;
     Ok(filter)
-}
-
-/// One expression or more, with commas between them.
-fn exprs(alloc: Global, words: &mut Words<'_>, depth: usize) -> Result<Items<Expr>, ParseFault>
-    ensures { Reads (spec.listed (read_expr depth) words.old) result words.new }
-{
-    let mut found = Items::new(alloc);
-    for _turn in 0..count(words) {
-        found.push(expr(alloc, words, depth)?)?;
-        if !words.eat(Key::Comma) {
-            return Ok(found);
-        }
-    }
-    Err(ParseFault::SyntaxError)
 }
 
 fn group_by(

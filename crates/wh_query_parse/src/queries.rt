@@ -3,7 +3,7 @@ ghost use Rattle.wh_ast.specs.declared.expr.Expr as ast_expr;
 ghost use Rattle.wh_ast.specs.declared.query.Query as ast_query;
 ghost use Rattle.wh_ast.specs.declared.query.Source as ast_source;
 ghost use Rattle.wh_grammar.specs.Token as machine;
-ghost use Rattle.wh_expr_parse.specs.Gives.{Reads};
+ghost use Rattle.wh_cursor.specs.Gives.{Reads};
 ghost use Rattle.wh_query_parse.specs.Follow.{IsQueryAt, IsSourceAt, IsAliasAt, IsFilterAt};
 ghost use Rattle.wh_query_parse.specs.Laws as laws;
 ghost use Rattle.wh_query_parse.specs.Read.{read_query, read_source, read_alias, read_filter};
@@ -12,7 +12,7 @@ use crate::grammar::{whole_query, whole_source};
 use crate::parts::{optional_alias, optional_filter};
 use std::alloc::Global;
 use wh_ast::{Expr, Query, Source};
-use wh_expr_parse::{ParseFault, Words};
+use wh_cursor::{ParseFault, Words};
 use wh_value::Text;
 
 /// Takes the query that the tokens begin with: behind it stands nothing, a `)` or ORDER. At most

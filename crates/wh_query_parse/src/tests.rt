@@ -2,7 +2,7 @@ use crate::{alias, filter, query, source};
 use std::alloc::Global;
 use std::test::Fail;
 use wh_ast::{Core, Expr, Item, Join, Query, Source};
-use wh_expr_parse::{ParseFault, Words};
+use wh_cursor::{ParseFault, Words};
 use wh_lex::tokens;
 use wh_value::{Bytes, Text, print_literal};
 
@@ -104,12 +104,8 @@ fn print_query(query: &Query, out: &mut Bytes) -> Result<(), Fail> {
 }
 
 /// The query at the front of a text and how many tokens are left, or `none`.
-#[tactic(auto, using(wh_expr_parse::proofs::ShortNumbers::tokens_short))]
 fn read(alloc: Global, text: &[u8], depth: usize) -> Result<Bytes, Fail> {
     let mut out = Bytes::new(alloc);
-    if text.len() > 65536 {
-        return Ok(out);
-    }
     let all = match tokens(alloc, text) {
         Ok(all) => all,
         Err(_) => return Ok(out),
@@ -128,12 +124,8 @@ fn read(alloc: Global, text: &[u8], depth: usize) -> Result<Bytes, Fail> {
 }
 
 /// The source at the front of a text, or `none`.
-#[tactic(auto, using(wh_expr_parse::proofs::ShortNumbers::tokens_short))]
 fn read_source(alloc: Global, text: &[u8], depth: usize) -> Result<Bytes, Fail> {
     let mut out = Bytes::new(alloc);
-    if text.len() > 65536 {
-        return Ok(out);
-    }
     let all = match tokens(alloc, text) {
         Ok(all) => all,
         Err(_) => return Ok(out),
@@ -283,12 +275,8 @@ fn sources_are_read(rt: HostRuntime) -> Result<(), Fail> {
 }
 
 /// The alias and then the condition at the front of a text, or `none`.
-#[tactic(auto, using(wh_expr_parse::proofs::ShortNumbers::tokens_short))]
 fn read_parts(alloc: Global, text: &[u8]) -> Result<Bytes, Fail> {
     let mut out = Bytes::new(alloc);
-    if text.len() > 65536 {
-        return Ok(out);
-    }
     let all = match tokens(alloc, text) {
         Ok(all) => all,
         Err(_) => return Ok(out),
@@ -344,11 +332,7 @@ fn repeated(
 }
 
 /// Whether a query stands at the front of a text.
-#[tactic(auto, using(wh_expr_parse::proofs::ShortNumbers::tokens_short))]
 fn is_read(alloc: Global, text: &[u8], depth: usize) -> bool {
-    if text.len() > 65536 {
-        return false;
-    }
     let all = match tokens(alloc, text) {
         Ok(all) => all,
         Err(_) => return false,

@@ -1,9 +1,10 @@
 -- The bytes that were taken.
 --     counts_none, counts_on      no turn yet; one turn behind others
---     was_long                    more than 2^30 bytes of a told script
+--     was_long, was_too_long      more than 2^30 bytes of a told script
 use Rattle.std.proofs.Common.{◌≡◌, ℕ, ◌+◌, ◌-◌, ◌^◌, ◌<◌, List, length, Option, Some, refl, ap, ◌∙◌, sym, arith}
 use Rattle.wh_text.specs.Script.{Counts, taken_of}
 use Rattle.wh_text.specs.declared.script.Script.{Script}
+use Rattle.wh_shell.specs.Run.{WasTooLong}
 
 -- one turn behind others
 pub counts_on : (a b c : Script) (left_a left_b left_c : Option (List ℕ)) → Counts a b left_a left_b → Counts b c left_b left_c → Counts a c left_a left_c
@@ -28,3 +29,15 @@ was_long first last left left_new input rest none counts told told_new long =
     let size : length found.0 ≡ length rest = ap length same in
     let all : length input + taken_of first ≡ length found.0 + taken_of last = found.2 in
     (omega arith, omega arith)
+
+-- and what a turn that took too many bytes says of all turns
+pub was_too_long : (first last : Script) (left left_new : Option (List ℕ)) (taken : ℕ) → taken_of first ≡ 0 → Counts first last left left_new →
+    (2 ^ 30 < taken) × (taken ≡ taken_of last) → WasTooLong taken left left_new
+was_too_long first last left left_new taken none counts long = record {
+  long = long.0;
+  counted = λ input told.
+      let found = counts.each input told in
+      let all : length input + taken_of first ≡ length found.0 + taken_of last = found.2 in
+      let number = long.1 in
+      (found.0, found.1, omega arith);
+}

@@ -1,93 +1,102 @@
 -- How a run ends: what was served, and the file that is left.
-use Rattle.std.proofs.Common.{◌≡◌, ℕ, List, [], refl, sym, ap, ◌∙◌, subst, append-nil, Option, Some}
-use Rattle.std.specs.Prelude.{is_some, IsTrue}
-use Rattle.wh_machine.specs.Table.{State, at_rest}
+--     left_file                                              the file that is left
+--     served_run, served_through, served_by, served_room     of what was served
+--     unopened_run, unopened_fills, unopened_refuses, unopened_cause     where the file wasn't opened
+use Rattle.std.proofs.Common.{◌≡◌, ℕ, ◌<◌, List, [], length, inl, inr, refl, sym, ap, ◌∙◌, subst, append-nil, Option, Some}
+use Rattle.std.specs.Prelude.{Result, Ok, Err, IfOk, OnOk, IfErr, OnErr}
+use Rattle.wh_machine.specs.State.{State, at_rest}
 use Rattle.wh_machine.specs.Step.{Event, text}
 use Rattle.wh_machine.specs.File.{Stands}
-use Rattle.wh_shell.specs.Run.{IsFront, IsWhole, IsRunOf}
-use Rattle.wh_shell.specs.Room.{FillsBy}
-use Rattle.wh_shell.proofs.Safety.{told_file}
-use Rattle.wh_shell.specs.Code.{status_of_open}
-use Rattle.wh_shell.specs.Serving.{Reads, IsServed, Through}
-use Rattle.wh_shell.specs.declared.status.Status.{Status}
-use Rattle.wh_shell.specs.declared.status.Status.TheVariants as status
+use Rattle.wh_world.specs.declared.disk.Disk.{Ghosts}
+use Rattle.wh_catalog.specs.Catalog.{state_of}
+use Rattle.wh_engine.specs.declared.warehouse.Warehouse.{Warehouse}
 use Rattle.wh_engine.specs.declared.fault.OpenFault.{OpenFault}
-use Rattle.wh_engine.specs.declared.fault.OpenFault.TheVariants as faults
+use Rattle.wh_engine.specs.declared.fault.OpenFault.TheVariants as opens
+use Rattle.wh_shell.specs.Code.{status_of}
+use Rattle.wh_shell.specs.Fault.{fault_of_open, HasCause}
+use Rattle.wh_engine.proofs.FileLemmas.{stands_for}
+use Rattle.wh_shell.specs.Open.{IsTold, StaysOpen}
+use Rattle.wh_shell.specs.Run.{IsFront, IsRunOf, Through, EndsBy, RefusesFile}
+use Rattle.wh_shell.specs.Room.{Reach, first_beyond, FillsBy, HasRoomForAll, IsFull}
+use Rattle.wh_shell.specs.Serving.{Stops, Serves}
+use Rattle.wh_shell.specs.declared.fault.Fault.{Fault}
+use Rattle.wh_shell.specs.declared.fault.Fault.TheVariants.{FileFull}
+use Rattle.wh_shell.specs.declared.status.Status.TheVariants.{Usage, Read, Stopped}
+use Rattle.wh_shell.specs.declared.status.Status.{Status}
+use Rattle.wh_shell.proofs.Safety.{told_file}
 
--- of told bytes that stay told there is a file at the end, which is as what was kept says
-pub good_file : {Kept : Type 0} {IsGood : List ℕ → Type 0} (before now closed : Option (List ℕ)) →
-    Kept → is_some now ≡ is_some before → IsTrue (is_some before) → closed ≡ now → (Kept → (file : List ℕ) → closed ≡ Some file → IsGood file) →
-    (file : List ℕ) × (closed ≡ Some file) × IsGood file
-good_file before now closed kept stays told same good =
-    let found = told_file closed (ap is_some same ∙ stays ∙ told) in
-    (found.0, found.1, good kept found.0 found.1)
+-- where all was served and the file was told, there is one at the end, which stands for the state
+pub left_file : {D : Type 0} {g : Ghosts D} (old new : Warehouse D g) (closed : D) (served : Result ℕ Fault) → closed ≡ new.disk → IsTold old →
+    OnOk served (StaysOpen old new) → OnOk served ((file : List ℕ) × (g.bytes closed ≡ Some file) × Stands file (at_rest (state_of new.catalog)))
+left_file {D} {g} old new closed (Ok count) same told stays =
+    let found = told_file (g.bytes new.disk) (stays.told ∙ told) in
+    (found.0, ap g.bytes same ∙ found.1, stands_for found.0 new.journal new.catalog (stays.opens.filed.each found.0 found.1))
+left_file {D} {g} old new closed (Err why) same told stays = tt
 
--- where the script was read to its end, what follows from two things that hold there
-pub through_with : {P Q R : Type 0} (why : Status) → Through why P → Through why Q → (P → Q → R) → Through why R
-through_with status.Done p q so = so p q
-through_with (status.Refused count) p q so = so p q
-through_with status.Usage p q so = tt
-through_with status.OutOfMemory p q so = tt
-through_with status.DiskFault p q so = tt
-through_with status.ScriptFault p q so = tt
-through_with status.OutputFault p q so = tt
-through_with (status.NotWarehouse at) p q so = tt
-through_with (status.FileFull len need) p q so = tt
-through_with (status.ScriptTooLong taken) p q so = tt
+-- ---- what was served
 
--- the whole text was written, and the file that is left stands for the last state
-whole : (start new : State) (es : List Event) (held : List ℕ) (count : ℕ) (held_new closed left_new : Option (List ℕ)) →
-    Reads start new es held count held_new left_new → (file : List ℕ) × (closed ≡ Some file) × Stands file (at_rest new) →
-    IsWhole start es held count held_new closed left_new
-whole start new es held count held_new closed left_new reads left = record {
-  written = reads.written;
-  refused = reads.refused;
-  read = reads.read;
-  file = left.0;
-  told = left.1;
-  stands = subst (λ (s : State). Stands left.0 (at_rest s)) reads.state left.2;
-}
+-- the whole text was written, and the file that is left stands for the last state; or a front of it was
+pub served_run : (start new : State) (es : List Event) (before : List ℕ) (left : Option (List Event)) (held held_new bytes_new left_new : Option (List ℕ))
+    (served : Result ℕ Fault) → left ≡ Some es → held ≡ Some before → IfOk served (Serves start new left held held_new left_new) →
+    OnErr served (Stops start left held held_new) → OnOk served ((file : List ℕ) × (bytes_new ≡ Some file) × Stands file (at_rest new)) →
+    IsRunOf start es before (status_of served) held_new bytes_new left_new
+served_run start new es before left held held_new bytes_new left_new (Ok count) told_left told_held serves stops file =
+    let all = serves.each es before told_left told_held in
+    record {
+      written = all.written;
+      refused = all.refused;
+      read = all.read;
+      file = file.0;
+      told = file.1;
+      stands = subst (λ (s : State). Stands file.0 (at_rest s)) all.state file.2;
+    }
+served_run start new es before left held held_new bytes_new left_new (Err why) told_left told_held serves stops file =
+    stops.each es before told_left told_held
 
--- what was served is the run's
-pub served_run : (start new : State) (es : List Event) (held : List ℕ) (why : Status) (held_new closed left_new : Option (List ℕ)) →
-    IsServed start new es held why held_new left_new →
-    Through why ((file : List ℕ) × (closed ≡ Some file) × Stands file (at_rest new)) → IsRunOf start es held why held_new closed left_new
-served_run start new es held status.Done held_new closed left_new served left = whole start new es held 0 held_new closed left_new served left
-served_run start new es held (status.Refused count) held_new closed left_new served left = (served.0, whole start new es held count held_new closed left_new served.1 left)
-served_run start new es held status.Usage held_new closed left_new served left = absurd served
-served_run start new es held status.OutOfMemory held_new closed left_new served left = served
-served_run start new es held status.DiskFault held_new closed left_new served left = served
-served_run start new es held status.ScriptFault held_new closed left_new served left = served
-served_run start new es held status.OutputFault held_new closed left_new served left = served
-served_run start new es held (status.NotWarehouse at) held_new closed left_new served left = absurd served
-served_run start new es held (status.FileFull len need) held_new closed left_new served left = served
-served_run start new es held (status.ScriptTooLong taken) held_new closed left_new served left = served
+-- what holds where all was served
+pub served_through : (P : Type 0) (served : Result ℕ Fault) → OnOk served P → Through (status_of served) P
+served_through P (Ok count) is = is
+served_through P (Err why) is = tt
 
--- only a file that is no warehouse is answered so
-pub no_warehouse : (fault : OpenFault) (at : ℕ) → status_of_open fault ≡ status.NotWarehouse at → fault ≡ faults.NotWarehouse at
-no_warehouse faults.OutOfMemory at e = cc
-no_warehouse faults.DiskFault at e = cc
-no_warehouse (faults.NotWarehouse n) at e = cc
+pub served_by : (P : Fault → Type 0) (served : Result ℕ Fault) → IfErr served P → EndsBy P (status_of served)
+served_by P (Ok count) is = tt
+served_by P (Err why) is = is
 
--- a run whose file wasn't opened has filled none
-pub unopened_fills : (why : Status) (fault : OpenFault) (first : Option (ℕ × ℕ)) → why ≡ status_of_open fault → FillsBy why first
-unopened_fills why fault first is = subst (λ (w : Status). FillsBy w first) (sym is) (by_fault fault)
-  where
-    by_fault : (f : OpenFault) → FillsBy (status_of_open f) first
-    by_fault faults.OutOfMemory = tt
-    by_fault faults.DiskFault = tt
-    by_fault (faults.NotWarehouse at) = tt
+-- a full file has its numbers, and where all was served there was room
+pub served_room : (limit : ℕ) (reach : Reach) (left : Option (List Event)) (es : List Event) (disk script output : Type 0) (foreign : ℕ → Type 0) (long : ℕ → Type 0)
+    (served : Result ℕ Fault) → left ≡ Some es → OnOk served (HasRoomForAll limit reach left) →
+    IfErr served (HasCause disk script output foreign (IsFull limit reach left) long) → FillsBy (status_of served) (first_beyond limit reach es)
+served_room limit reach left es disk script output foreign long (Ok count) told room cause = room.each es told
+served_room limit reach left es disk script output foreign long (Err why) told room cause =
+    λ len need is. (subst (HasCause disk script output foreign (IsFull limit reach left) long) is cause).first es told
 
--- a run whose file wasn't opened has written nothing
-pub unopened_run : (start : State) (es : List Event) (held : List ℕ) (why : Status) (fault : OpenFault) (held_new closed left_new : Option (List ℕ)) →
-    why ≡ status_of_open fault → held_new ≡ Some held → IsRunOf start es held why held_new closed left_new
-unopened_run start es held why fault held_new closed left_new is same =
-    subst (λ (w : Status). IsRunOf start es held w held_new closed left_new) (sym is) (by_fault fault)
-  where
-    none : IsFront start es held held_new
-    none = record { front = []; rest = text start es; parts = refl; written = same ∙ ap Some (sym (append-nil held)) }
+-- ---- where the file wasn't opened
 
-    by_fault : (f : OpenFault) → IsRunOf start es held (status_of_open f) held_new closed left_new
-    by_fault faults.OutOfMemory = none
-    by_fault faults.DiskFault = none
-    by_fault (faults.NotWarehouse at) = same
+-- nothing was written
+pub unopened_run : (start : State) (es : List Event) (held : List ℕ) (held_new : Option (List ℕ)) → held_new ≡ Some held → IsFront start es held held_new
+unopened_run start es held held_new same =
+    record { front = []; rest = text start es; parts = refl; written = same ∙ ap Some (sym (append-nil held)) }
+
+-- and no file is full
+pub unopened_fills : (why : Fault) (fault : OpenFault) (first : Option (ℕ × ℕ)) → why ≡ fault_of_open fault → FillsBy (Stopped why) first
+unopened_fills why opens.OutOfMemory first is = λ len need full. cc
+unopened_fills why opens.DiskFault first is = λ len need full. cc
+unopened_fills why (opens.NotWarehouse at) first is = λ len need full. cc
+
+pub unopened_refuses : (why : Fault) (fault : OpenFault) → why ≡ fault_of_open fault → RefusesFile (Stopped why)
+unopened_refuses why opens.OutOfMemory is = inr (inl (ap Stopped is))
+unopened_refuses why opens.DiskFault is = inr (inr (ap Stopped is))
+unopened_refuses why (opens.NotWarehouse at) is = inl (at, ap Stopped is)
+
+pub unopened_cause : (disk script output : Type 0) (foreign : ℕ → Type 0) (full : ℕ → ℕ → Type 0) (long : ℕ → Type 0) (fault : OpenFault) →
+    (fault ≡ opens.DiskFault → disk) → ((at : ℕ) → fault ≡ opens.NotWarehouse at → foreign at) →
+    HasCause disk script output foreign full long (fault_of_open fault)
+unopened_cause disk script output foreign full long opens.OutOfMemory failed rejects = tt
+unopened_cause disk script output foreign full long opens.DiskFault failed rejects = failed refl
+unopened_cause disk script output foreign full long (opens.NotWarehouse at) failed rejects = rejects at refl
+
+-- what ends a run, said otherwise
+pub ends_by : (P Q : Fault → Type 0) (status : Status) → ((why : Fault) → P why → Q why) → EndsBy P status → EndsBy Q status
+ends_by P Q Usage so ends = ends
+ends_by P Q (Read count) so ends = ends
+ends_by P Q (Stopped why) so ends = so why ends

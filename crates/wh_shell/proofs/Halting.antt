@@ -2,11 +2,11 @@
 --     halts_before     it may not have been carried out, and nothing was written
 --     halts_behind     it was carried out, and a front of its reply was written
 use Rattle.std.proofs.Common.{◌≡◌, ⊎_elim, inl, inr, ℕ, List, [], refl, sym, ap, subst, append-nil, Option, Some, None}
-use Rattle.wh_machine.specs.Table.{State, at_rest}
+use Rattle.wh_machine.specs.State.{State, at_rest}
 use Rattle.wh_machine.specs.Step.{Event, step}
-use Rattle.wh_machine.specs.Reply.{print}
+use Rattle.wh_reply.specs.Reply.{print}
 use Rattle.wh_machine.specs.File.{Stands}
-use Rattle.wh_engine.specs.Warehouse.{StandsForEither}
+use Rattle.wh_engine.specs.Leaves.{StandsForEither}
 use Rattle.wh_shell.specs.Writing.{Writes, WritesFront}
 use Rattle.wh_shell.specs.Crash.{Halts}
 

@@ -8,6 +8,7 @@ pub mod Survival
 pub mod Halting
 pub mod Safety
 pub mod RoomLemmas
+pub mod CauseLemmas
 pub mod Progress
 pub mod Opening
 pub mod Ending

@@ -2,18 +2,19 @@
 --     some_gate                           a file's gate ends somewhere
 --     not_opened                          what a crash leaves where nothing is opened
 --     run_survives, unopened_survives     what a crash leaves of a run
-use Rattle.std.proofs.Common.{◌≡◌, inl, inr, ℕ, ◌+◌, ◌≤◌, List, [], ◌∷◌, ◌++◌, length, map, refl, sym, subst, ◌∙◌, append-nil, arith, Option, Some, None}
+use Rattle.std.proofs.Common.{◌≡◌, inl, inr, ℕ, ◌+◌, ◌≤◌, List, [], ◌++◌, length, map, refl, sym, ap, subst, ◌∙◌, append-nil, arith, Option, Some}
 use Rattle.std.proofs.lemmas.List.{append_cancel_left}
-use Rattle.wh_machine.specs.Table.{Table, State, at_rest}
+use Rattle.wh_frame.specs.File.{records_of, GateEndsAt}
+use Rattle.wh_machine.specs.State.{State, at_rest}
+use Rattle.wh_machine.specs.Stored.{Stored}
 use Rattle.wh_machine.specs.Step.{Event}
-use Rattle.wh_machine.specs.Commit.{Commit, Change, CreatesTable, PushesVersion, VersionChange, Stored, first_stored, applied, changed, version_pushed, Leads, at_id}
 use Rattle.wh_machine.specs.Spelling.{payload_of}
-use Rattle.wh_machine.specs.File.{records_of, Keeps, Stands, GateEndsAt}
+use Rattle.wh_machine.specs.File.{Keeps, Stands}
 use Rattle.wh_machine.specs.Stop.{most_events, StandsWithin}
 use Rattle.wh_world.specs.Crash.{Only}
 use Rattle.wh_journal.specs.Crash.{LeavesOnly, IsKeptOrShort}
 use Rattle.wh_journal.proofs.CrashLemmas.{both, weaker, started}
-use Rattle.wh_engine.specs.Warehouse.{StandsForEither}
+use Rattle.wh_engine.specs.Leaves.{StandsForEither}
 use Rattle.wh_shell.specs.Crash.{Survives, SurvivesWith, EndsSafely}
 use Rattle.wh_shell.specs.Run.{IsStart}
 use Rattle.wh_shell.proofs.Within.{within_none}
@@ -21,41 +22,15 @@ use Rattle.wh_shell.proofs.Survival.{none_survives}
 
 -- ---- the file
 
--- a version more keeps a state at rest
-pushed_rest : (s : Stored) (stamp : ℕ) (c : VersionChange) (t : Option Table) → at_rest s.state ≡ s.state →
-    at_rest (version_pushed s stamp c t).state ≡ (version_pushed s stamp c t).state
-pushed_rest s stamp c None is = is
-pushed_rest s stamp c (Some t) is = refl
-
--- and so does each change
-changed_rest : (s : Stored) (stamp : ℕ) (c : Change) → at_rest s.state ≡ s.state → at_rest (changed s stamp c).state ≡ (changed s stamp c).state
-unfolding changed
-changed_rest s stamp (CreatesTable c) is = refl
-changed_rest s stamp (PushesVersion c) is = pushed_rest s stamp c (at_id s.state.tables c.id) is
-
--- and each run of commits
-leads_rest : (cs : List Commit) (old new : Stored) → at_rest old.state ≡ old.state → Leads old cs new → at_rest new.state ≡ new.state
-leads_rest [] old new is leads = subst (λ (s : Stored). at_rest s.state ≡ s.state) leads is
-leads_rest (c ∷ cs) old new is leads = leads_rest cs (applied old c) new (changed_rest old c.stamp c.change is) leads.1
-
--- what a file keeps is at rest
-keeps_rest : (file : List ℕ) (s : Stored) → Keeps file s → at_rest s.state ≡ s.state
-keeps_rest file s (inl short) = subst (λ (t : Stored). at_rest t.state ≡ t.state) (sym short.1) refl
-keeps_rest file s (inr long) = leads_rest long.1.commits first_stored s refl long.1.leads
-
 -- a file stands for a state at rest
 stands_rest : (file : List ℕ) (s : State) → Stands file s → at_rest s ≡ s
-stands_rest file s stands = subst (λ (t : State). at_rest t ≡ t) stands.2 (keeps_rest file stands.0 stands.1)
+stands_rest file s stands = ap at_rest stands.2 ∙ sym stands.2
 
--- the gate of what a file keeps
-gate_of : (file : List ℕ) (s : Stored) → Keeps file s → (end : ℕ) × GateEndsAt file end
-gate_of file s (inl short) = (8, inl (short.0, refl))
-gate_of file s (inr long) =
+-- the gate of what a file keeps ends somewhere
+pub some_gate : (file : List ℕ) (s : Stored) → Keeps file s → (end : ℕ) × GateEndsAt file end
+some_gate file s (inl short) = (8, inl (short.0, refl))
+some_gate file s (inr long) =
     (length (records_of (map payload_of long.1.commits)) + 1, inr (long.0, (map payload_of long.1.commits, long.1.file, refl)))
-
--- its gate ends somewhere
-pub some_gate : (file : List ℕ) (s : State) → Stands file s → (end : ℕ) × GateEndsAt file end
-some_gate file s stands = gate_of file stands.0 stands.1
 
 -- an image that an opening may leave keeps the same
 kept : (file image : List ℕ) (s : Stored) → IsKeptOrShort file image → Keeps file s → Keeps image s
@@ -66,7 +41,7 @@ kept file image s (inr short) (inr long) = absurd (omega (arith, short.0, long.0
 -- what an opening may leave stands for the same state
 kept_stands : (file : List ℕ) (s : State) → Stands file s → (image : List ℕ) → IsKeptOrShort file image → StandsForEither s s image
 kept_stands file s stands image is =
-    inl (stands.0, kept file image stands.0 is stands.1, stands.2 ∙ sym (stands_rest file s stands))
+    inl (stands.0, kept file image stands.0 is stands.1, stands_rest file s stands ∙ stands.2)
 
 -- ---- what a crash leaves
 
@@ -91,7 +66,7 @@ module _ {D : Type 0} (moment : D → ℕ) (left_since : D → ℕ → List ℕ 
   -- a run behind an opening
   pub run_survives : (told : Type 0) (first mid last : D) (bytes left : Option (List ℕ)) (told_events : Option (List Event)) (held held_new : Option (List ℕ))
       (file input before written : List ℕ) (start opened : State) (es : List Event) →
-      IsStart bytes left held (may_leave first) file input before start → told_events ≡ Some es → start ≡ opened → told →
+      IsStart bytes left held file input before start es → told_events ≡ Some es → start ≡ opened → told →
       LeavesOnly moment left_since first mid (IsKeptOrShort file) → EndsSafely moment left_since may_leave told mid last opened told_events held held_new →
       held_new ≡ Some (before ++ written) → Survives moment left_since may_leave first last start es (length written)
   run_survives told first mid last bytes left told_events held held_new file input before written start opened es is events_are same known run ends held_is =
@@ -107,7 +82,7 @@ module _ {D : Type 0} (moment : D → ℕ) (left_since : D → ℕ → List ℕ 
   -- a run that opened nothing
   pub unopened_survives : (counts_now : (disk : D) (t : ℕ) (image : List ℕ) → t ≤ moment disk → may_leave disk image → left_since disk t image) →
       (old new : D) (bytes left held held_new : Option (List ℕ)) (file input before written : List ℕ) (start : State) (es : List Event) →
-      IsStart bytes left held (may_leave old) file input before start → LeavesOnly moment left_since old new (IsKeptOrShort file) →
+      IsStart bytes left held file input before start es → LeavesOnly moment left_since old new (IsKeptOrShort file) →
       held_new ≡ held → held_new ≡ Some (before ++ written) → Survives moment left_since may_leave old new start es (length written)
   unopened_survives counts_now old new bytes left held held_new file input before written start es is run same held_is =
       let appended : before ++ [] ≡ before ++ written = append-nil before ∙ cc (same, held_is, is.told_output) in

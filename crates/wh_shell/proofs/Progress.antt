@@ -1,22 +1,21 @@
 -- What is written and answered goes on from turn to turn.
+--     answers_first, stops_first     a turn whose event is known
+--     goes_not_yet, goes_more        the turns so far
+--     stops_more, serves_all         how they end
 use Rattle.std.proofs.Common.{◌≡◌, ℕ, ◌+◌, ◌<◌, ◌≤◌, List, [], ◌∷◌, ◌++◌, length, refl, ap, sym, ◌∙◌, subst, arith, append_assoc, add-zero, append-nil, length-append, Option, Some, None, Bool, true, false}
 use Rattle.std.specs.Prelude.{option_map, if◌then◌else◌}
-use Rattle.wh_machine.specs.Table.{State}
+use Rattle.wh_reply.specs.Reply.{is_refusal, print}
+use Rattle.wh_machine.specs.State.{State}
 use Rattle.wh_machine.specs.Step.{Event, step, after, text, refusals}
-use Rattle.wh_machine.specs.Reply.{is_refusal, print}
 use Rattle.wh_machine.specs.Stop.{StandsWithin}
 use Rattle.wh_machine.proofs.ReplyLaws.{after_append, text_append, refusals_append}
 use Rattle.wh_journal.specs.Crash.{LeavesOnly}
 use Rattle.wh_journal.proofs.CrashLemmas.{both, weaker}
-use Rattle.wh_engine.specs.Warehouse.{StandsForEither}
+use Rattle.wh_engine.specs.Leaves.{StandsForEither}
 use Rattle.wh_shell.specs.Reading.{GivesEvent}
 use Rattle.wh_shell.specs.Run.{IsFront}
 use Rattle.wh_shell.specs.Crash.{Halts}
-use Rattle.wh_shell.specs.Serving.{refusals_of, AnswersFirst, Answers, Finds, Stops, Answering, IsTurn, IsStop, Reads, IsServed, IsReadThrough, GoesOn, Goes}
-use Rattle.wh_shell.specs.declared.status.Status.{Status}
-use Rattle.wh_shell.specs.declared.status.Status.TheVariants as status
-use Rattle.wh_shell.specs.declared.turn.Turn.{Turn}
-use Rattle.wh_shell.specs.declared.turn.Turn.TheVariants.{Ended, Answered, Stopped}
+use Rattle.wh_shell.specs.Serving.{refusals_of, Replies, AnswersFirst, Answers, Finds, Stops, ServesAll, Serves, GoesOn, Goes}
 use Rattle.wh_shell.proofs.Within.{within_none, within_either, within_wider}
 
 -- ---- one turn
@@ -26,24 +25,10 @@ choice_few : (refused : Bool) → (if refused then 1 else 0) ≤ 1
 choice_few true = omega arith
 choice_few false = omega arith
 
--- a front of an event's reply is a front of the text of all that was left
-front_of_reply : (given : Type 0) (may_leave : List ℕ → Type 0) (old : State) (event : Event) (es rest : List Event) (before : List ℕ) (held held_new : Option (List ℕ)) →
-    es ≡ event ∷ rest → held ≡ Some before → Halts given may_leave old event held held_new → IsFront old es before held_new
-front_of_reply given may_leave old event es rest before held held_new first told writes =
-    let behind : List ℕ = text (step old event).0 rest in
-    record {
-      front = writes.front;
-      rest = writes.rest ++ behind;
-      parts = sym (append_assoc writes.front writes.rest behind) ∙ ap (λ x. x ++ behind) writes.parts ∙ sym (ap (text old) first);
-      written = writes.written ∙ ap (option_map (λ x. x ++ writes.front)) told;
-    }
-
--- a turn whose event is the first one of what was left
-pub turn_of_event : (given : Type 0) (may_leave : List ℕ → Type 0) (old new : State) (event : Event) (left left_new : Option (List Event))
-    (source_new held held_new : Option (List ℕ)) (turn : Turn) → GivesEvent left event left_new → Answering given may_leave old new event held held_new turn →
-    IsTurn old new left left_new source_new held held_new turn
-turn_of_event given may_leave old new event left left_new source_new held held_new Ended gives done = absurd done
-turn_of_event given may_leave old new event left left_new source_new held held_new (Answered count) gives done = record {
+-- the first event of what was left was carried out
+pub answers_first : (old new : State) (event : Event) (left left_new : Option (List Event)) (held held_new : Option (List ℕ)) (count : ℕ) →
+    GivesEvent left event left_new → Replies old new event held held_new count → Answers old new left left_new held held_new count
+answers_first old new event left left_new held held_new count gives done = record {
   few = subst (λ (x : ℕ). x ≤ 1) (sym done.refused) (choice_few (is_refusal (step old event).1));
   each = λ es before told_left told_held. let found = gives.each es told_left in record {
     event = event;
@@ -55,9 +40,35 @@ turn_of_event given may_leave old new event left left_new source_new held held_n
     refused = done.refused;
   };
 }
-turn_of_event given may_leave old new event left left_new source_new held held_new (Stopped why) gives done = record {
+
+-- a front of its reply is a front of the text of all that was left
+front_of_reply : (given : Type 0) (may_leave : List ℕ → Type 0) (old : State) (event : Event) (es rest : List Event) (before : List ℕ) (held held_new : Option (List ℕ)) →
+    es ≡ event ∷ rest → held ≡ Some before → Halts given may_leave old event held held_new → IsFront old es before held_new
+front_of_reply given may_leave old event es rest before held held_new first told writes =
+    let behind : List ℕ = text (step old event).0 rest in
+    record {
+      front = writes.front;
+      rest = writes.rest ++ behind;
+      parts = sym (append_assoc writes.front writes.rest behind) ∙ ap (λ x. x ++ behind) writes.parts ∙ sym (ap (text old) first);
+      written = writes.written ∙ ap (option_map (λ x. x ++ writes.front)) told;
+    }
+
+pub stops_first : (given : Type 0) (may_leave : List ℕ → Type 0) (old : State) (event : Event) (left left_new : Option (List Event)) (held held_new : Option (List ℕ)) →
+    GivesEvent left event left_new → Halts given may_leave old event held held_new → Stops old left held held_new
+stops_first given may_leave old event left left_new held held_new gives done = record {
   each = λ es before told_left told_held. let found = gives.each es told_left in
       front_of_reply given may_leave old event es found.0 before held held_new found.2 told_held done;
+}
+
+-- nothing was written
+pub stops_none : (old : State) (left : Option (List Event)) (held : Option (List ℕ)) → Stops old left held held
+stops_none old left held = record {
+  each = λ es before told_left told_held. record {
+    front = [];
+    rest = text old es;
+    parts = refl;
+    written = told_held ∙ ap Some (sym (append-nil before));
+  };
 }
 
 -- ---- all turns so far
@@ -82,50 +93,16 @@ refusals_one start now done event state =
     ∙ ap (λ n. refusals start done + n) (sym (add-zero (refusals_of (after start done) event)))
     ∙ sym (refusals_append start done (event ∷ []))
 
--- ---- the end
-
--- a run that stopped has written a front
-front_served : (start new : State) (es : List Event) (before : List ℕ) (why : Status) (held_new left_new : Option (List ℕ)) →
-    IsStop why → IsFront start es before held_new → IsServed start new es before why held_new left_new
-front_served start new es before status.Done held_new left_new stop front = absurd stop
-front_served start new es before (status.Refused count) held_new left_new stop front = absurd stop
-front_served start new es before status.Usage held_new left_new stop front = absurd stop
-front_served start new es before status.OutOfMemory held_new left_new stop front = front
-front_served start new es before status.DiskFault held_new left_new stop front = front
-front_served start new es before status.ScriptFault held_new left_new stop front = front
-front_served start new es before status.OutputFault held_new left_new stop front = front
-front_served start new es before (status.NotWarehouse at) held_new left_new stop front = absurd stop
-front_served start new es before (status.FileFull len need) held_new left_new stop front = front
-front_served start new es before (status.ScriptTooLong taken) held_new left_new stop front = front
-
--- a run that read its script to the end has written all
-through_served : (start new : State) (es : List Event) (before : List ℕ) (count : ℕ) (why : Status) (held_new left_new : Option (List ℕ)) →
-    IsReadThrough count why → Reads start new es before count held_new left_new → IsServed start new es before why held_new left_new
-through_served start new es before count status.Done held_new left_new through reads =
-    subst (λ (n : ℕ). Reads start new es before n held_new left_new) through reads
-through_served start new es before count (status.Refused n) held_new left_new through reads = (
-  subst (λ (m : ℕ). 0 < m) (sym through.1) through.0,
-  subst (λ (m : ℕ). Reads start new es before m held_new left_new) (sym through.1) reads,
-)
-through_served start new es before count status.Usage held_new left_new through reads = absurd through
-through_served start new es before count status.OutOfMemory held_new left_new through reads = absurd through
-through_served start new es before count status.DiskFault held_new left_new through reads = absurd through
-through_served start new es before count status.ScriptFault held_new left_new through reads = absurd through
-through_served start new es before count status.OutputFault held_new left_new through reads = absurd through
-through_served start new es before count (status.NotWarehouse at) held_new left_new through reads = absurd through
-through_served start new es before count (status.FileFull len need) held_new left_new through reads = absurd through
-through_served start new es before count (status.ScriptTooLong taken) held_new left_new through reads = absurd through
-
 -- ---- from turn to turn
 
 module _ {D : Type 0} (moment : D → ℕ) (left_since : D → ℕ → List ℕ → Type 0) (told : Type 0) where
   -- no turn yet
-  pub goes_not_yet : (first : D) (start : State) (left : Option (List Event)) (held : Option (List ℕ)) →
-      (told → LeavesOnly moment left_since first first (StandsForEither start start)) → Goes moment left_since told first first start start left left held held 0
-  goes_not_yet first start left held run = record {
+  pub goes_not_yet : (first : D) (start : State) (left_start left : Option (List Event)) (held : Option (List ℕ)) → left ≡ left_start →
+      (told → LeavesOnly moment left_since first first (StandsForEither start start)) → Goes moment left_since told first first start start left_start left held held 0
+  goes_not_yet first start left_start left held same run = record {
     each = λ es before told_left told_held. record {
       rest = es;
-      left_is = told_left;
+      left_is = same ∙ told_left;
       done = [];
       parts = refl;
       state = refl;
@@ -198,17 +175,18 @@ module _ {D : Type 0} (moment : D → ℕ) (left_since : D → ℕ → List ℕ 
       }
 
   -- the run stopped at a turn
-  pub stopped_served : (first mid : D) (start now new : State) (es : List Event) (before : List ℕ) (left : Option (List Event)) (held held_new source_new : Option (List ℕ)) (count : ℕ) (why : Status) →
-      GoesOn moment left_since told first mid start now es before left held count → Stops now left held held_new → IsStop why →
-      IsServed start new es before why held_new source_new
-  stopped_served first mid start now new es before left held held_new source_new count why so_far stops stop =
-      front_served start new es before why held_new source_new stop (front_more first mid start now es before left held held_new count so_far stops)
+  pub stops_more : (first mid : D) (start now : State) (left_start left : Option (List Event)) (held_start held held_new : Option (List ℕ)) (count : ℕ) →
+      Goes moment left_since told first mid start now left_start left held_start held count → Stops now left held held_new → Stops start left_start held_start held_new
+  stops_more first mid start now left_start left held_start held held_new count goes stops = record {
+    each = λ es before told_left told_held.
+        front_more first mid start now es before left held held_new count (goes.each es before told_left told_held) stops;
+  }
 
   -- where no event is left, all of them were carried out
-  reads_all : (first mid : D) (start now new : State) (es : List Event) (before : List ℕ) (left left_new : Option (List Event)) (held held_new source_new : Option (List ℕ)) (count : ℕ) →
+  all_served : (first mid : D) (start now new : State) (es : List Event) (before : List ℕ) (left left_new : Option (List Event)) (held held_new source_new : Option (List ℕ)) (count : ℕ) →
       GoesOn moment left_since told first mid start now es before left held count → Finds now new left left_new source_new held held_new →
-      Reads start new es before count held_new source_new
-  reads_all first mid start now new es before left left_new held held_new source_new count so_far finds =
+      ServesAll start new es before count held_new source_new
+  all_served first mid start now new es before left left_new held held_new source_new count so_far finds =
       let end = finds.ends.each so_far.rest so_far.left_is in
       let whole : so_far.done ≡ es = sym (append-nil so_far.done) ∙ ap (λ fs. so_far.done ++ fs) (sym end.2) ∙ so_far.parts in
       record {
@@ -219,9 +197,10 @@ module _ {D : Type 0} (moment : D → ℕ) (left_since : D → ℕ → List ℕ 
       }
 
   -- the script was read to its end
-  pub ended_served : (first mid : D) (start now new : State) (es : List Event) (before : List ℕ) (left left_new : Option (List Event)) (held held_new source_new : Option (List ℕ)) (count : ℕ) (why : Status) →
-      GoesOn moment left_since told first mid start now es before left held count → Finds now new left left_new source_new held held_new →
-      IsReadThrough count why → IsServed start new es before why held_new source_new
-  ended_served first mid start now new es before left left_new held held_new source_new count why so_far finds through =
-      through_served start new es before count why held_new source_new through
-      (reads_all first mid start now new es before left left_new held held_new source_new count so_far finds)
+  pub serves_all : (first mid : D) (start now new : State) (left_start left left_new : Option (List Event)) (held_start held held_new source_new : Option (List ℕ)) (count : ℕ) →
+      Goes moment left_since told first mid start now left_start left held_start held count → Finds now new left left_new source_new held held_new →
+      Serves start new left_start held_start held_new source_new count
+  serves_all first mid start now new left_start left left_new held_start held held_new source_new count goes finds = record {
+    each = λ es before told_left told_held.
+        all_served first mid start now new es before left left_new held held_new source_new count (goes.each es before told_left told_held) finds;
+  }

@@ -1,25 +1,25 @@
 -- What a crash leaves of an open warehouse, of a turn, and of all turns.
---     open_stands      of an open warehouse
---     still            while nothing is done
---     none_safely      a turn that carried out nothing
---     halts_safely     a turn that was stopped at an event
---     safely_more      all turns, the last of which ended so
-use Rattle.std.proofs.Common.{◌≡◌, ⊎_elim, ℕ, ◌≤◌, List, [], ◌++◌, length, refl, sym, ap, subst, ◌∙◌, append_assoc, append-nil, length-append, Option, Some, None}
+--     leaves_open, leaves_same     over an open warehouse; while nothing is done
+--     open_stands                  what a crash leaves now
+--     none_safely                  a turn that carried out nothing
+--     halts_safely                 a turn that was stopped at an event
+--     safely_more                  all turns, the last of which ended so
+use Rattle.std.proofs.Common.{◌≡◌, ⊎_elim, inl, ℕ, ◌≤◌, List, [], ◌++◌, length, refl, sym, ap, subst, ◌∙◌, append_assoc, append-nil, length-append, Option, Some, None}
 use Rattle.std.specs.Prelude.{option_map, is_some, IsTrue}
-use Rattle.wh_machine.specs.Table.{State, at_rest}
+use Rattle.wh_machine.specs.State.{State, at_rest}
 use Rattle.wh_machine.specs.Step.{Event, step, text}
 use Rattle.wh_machine.specs.File.{Stands}
 use Rattle.wh_world.specs.declared.disk.Disk.{Ghosts}
 use Rattle.wh_journal.specs.Crash.{LeavesOnly}
-use Rattle.wh_engine.specs.Warehouse.{state_of, StandsForEither}
+use Rattle.wh_journal.proofs.CrashLemmas.{weaker, started}
+use Rattle.wh_catalog.specs.Catalog.{state_of}
+use Rattle.wh_engine.specs.Leaves.{StandsForEither, Leaves}
 use Rattle.wh_engine.specs.declared.warehouse.Warehouse.{Warehouse}
-use Rattle.wh_engine.proofs.StopLemmas.{unmoved}
+use Rattle.wh_engine.proofs.FileLemmas.{stands_for}
 use Rattle.wh_shell.specs.Reading.{GivesEvent}
-use Rattle.wh_shell.specs.Open.{IsOpen}
+use Rattle.wh_shell.specs.Open.{IsOpen, IsTold}
 use Rattle.wh_shell.specs.Crash.{Survives, SurvivesWith, EndsSafely, Halts}
-use Rattle.wh_shell.specs.Serving.{Answering, AtStop, GoesOn, Goes}
-use Rattle.wh_shell.specs.declared.turn.Turn.{Turn}
-use Rattle.wh_shell.specs.declared.turn.Turn.TheVariants.{Ended, Answered, Stopped}
+use Rattle.wh_shell.specs.Serving.{GoesOn, Goes}
 use Rattle.wh_shell.proofs.Survival.{none_survives, halt_survives, survives_more}
 
 -- told bytes are a file
@@ -27,23 +27,35 @@ pub told_file : (bytes : Option (List ℕ)) → IsTrue (is_some bytes) → (file
 told_file None told = cc
 told_file (Some file) told = (file, refl)
 
-module _ {D : Type 0} {g : Ghosts D} (w : Warehouse D g) (ready : IsOpen w) (told : IsTrue (is_some (g.bytes w.disk)))
-    (only_now : (disk : D) (image : List ℕ) → g.left_since disk (g.moment disk) image → g.may_leave disk image) where
-  -- while nothing is done a crash leaves a file that stands for the state
-  pub still : LeavesOnly g.moment g.left_since w.disk w.disk (StandsForEither (state_of w.catalog) (state_of w.catalog))
-  still =
-      let found = told_file (g.bytes w.disk) told in
-      unmoved g.moment g.left_since g.may_leave only_now w.disk found.0 w.journal w.catalog (state_of w.catalog)
-      (ready.settled.each found.0 found.1) (ready.filed.each found.0 found.1)
+module _ {D : Type 0} {g : Ghosts D} where
+  -- over an open warehouse
+  pub leaves_open : (old new : Warehouse D g) (state : State) → IsOpen old → IsTold old → Leaves old new state →
+      LeavesOnly g.moment g.left_since old.disk new.disk (StandsForEither (state_of old.catalog) state)
+  leaves_open old new state ready told leaves =
+      let found = told_file (g.bytes old.disk) told in
+      leaves.each found.0 found.1 (ready.settled.each found.0 found.1) ready.filed
 
-  -- and so does one now
-  pub open_stands : (counts_now : (disk : D) (t : ℕ) (image : List ℕ) → t ≤ g.moment disk → g.may_leave disk image → g.left_since disk t image) →
-      (image : List ℕ) → g.may_leave w.disk image → Stands image (at_rest (state_of w.catalog))
-  open_stands counts_now image left = ⊎_elim (λ is. is) (λ is. is) (still.each image (counts_now w.disk (g.moment w.disk) image still.later left))
+  module _ (only_now : (disk : D) (image : List ℕ) → g.left_since disk (g.moment disk) image → g.may_leave disk image) where
+    -- while nothing is done a crash leaves a file that stands for the state
+    pub leaves_same : (w : Warehouse D g) (state : State) → Leaves w w state
+    leaves_same w state = record {
+      each = λ file told only filed.
+          weaker g.moment g.left_since w.disk w.disk (g.may_leave w.disk) (StandsForEither (state_of w.catalog) state)
+          (λ image left. inl (subst (λ (l : List ℕ). Stands l (at_rest (state_of w.catalog))) (sym (only image left))
+          (stands_for file w.journal w.catalog (filed.each file told))))
+          (started g.moment g.left_since g.may_leave only_now w.disk);
+    }
+
+    -- and so does one now
+    pub open_stands : (counts_now : (disk : D) (t : ℕ) (image : List ℕ) → t ≤ g.moment disk → g.may_leave disk image → g.left_since disk t image) →
+        (w : Warehouse D g) → IsOpen w → IsTold w → (image : List ℕ) → g.may_leave w.disk image → Stands image (at_rest (state_of w.catalog))
+    open_stands counts_now w ready told image left =
+        let still = leaves_open w w (state_of w.catalog) ready told (leaves_same w (state_of w.catalog)) in
+        ⊎_elim (λ is. is) (λ is. is) (still.each image (counts_now w.disk (g.moment w.disk) image still.later left))
 
 module _ {D : Type 0} (moment : D → ℕ) (left_since : D → ℕ → List ℕ → Type 0) (may_leave : D → List ℕ → Type 0) where
   -- a turn that was stopped at an event
-  halts_safely : (told : Type 0) (old new : D) (s : State) (event : Event) (left left_new : Option (List Event)) (held held_new : Option (List ℕ)) →
+  pub halts_safely : (told : Type 0) (old new : D) (s : State) (event : Event) (left left_new : Option (List Event)) (held held_new : Option (List ℕ)) →
       GivesEvent left event left_new → (told → LeavesOnly moment left_since old new (StandsForEither s (step s event).0)) →
       Halts told (may_leave new) s event held held_new → EndsSafely moment left_since may_leave told old new s left held held_new
   halts_safely told old new s event left left_new held held_new gives run halts = record {
@@ -57,25 +69,15 @@ module _ {D : Type 0} (moment : D → ℕ) (left_since : D → ℕ → List ℕ 
         };
   }
 
-  -- a turn whose event is known
-  pub stops_safely : (told : Type 0) (old new : D) (s s_new : State) (event : Event) (left left_new : Option (List Event)) (held held_new : Option (List ℕ)) (turn : Turn) →
-      GivesEvent left event left_new → (told → LeavesOnly moment left_since old new (StandsForEither s (step s event).0)) →
-      Answering told (may_leave new) s s_new event held held_new turn → AtStop turn (EndsSafely moment left_since may_leave told old new s left held held_new)
-  stops_safely told old new s s_new event left left_new held held_new Ended gives run done = tt
-  stops_safely told old new s s_new event left left_new held held_new (Answered count) gives run done = tt
-  stops_safely told old new s s_new event left left_new held held_new (Stopped why) gives run done =
-      halts_safely told old new s event left left_new held held_new gives run done
-
   -- all turns, the last of which ended so
-  pub safely_more : (told told_now : Type 0) (first mid last : D) (start now : State) (left_start left_first left : Option (List Event)) (held_start held held_new : Option (List ℕ)) (count : ℕ) →
-      (told → told_now) → ((es : List Event) → left_start ≡ Some es → left_first ≡ Some es) →
-      Goes moment left_since told first mid start now left_first left held_start held count →
+  pub safely_more : (told told_now : Type 0) (first mid last : D) (start now : State) (left_start left : Option (List Event)) (held_start held held_new : Option (List ℕ)) (count : ℕ) →
+      (told → told_now) → Goes moment left_since told first mid start now left_start left held_start held count →
       EndsSafely moment left_since may_leave told_now mid last now left held held_new →
       EndsSafely moment left_since may_leave told first last start left_start held_start held_new
-  safely_more told told_now first mid last start now left_start left_first left held_start held held_new count stays starts_so goes ends = record {
+  safely_more told told_now first mid last start now left_start left held_start held held_new count stays goes ends = record {
     each = λ is es before told_left told_held.
         let so_far : GoesOn moment left_since told first mid start now es before left held count =
-        goes.each es before (starts_so es told_left) told_held in
+        goes.each es before told_left told_held in
         let front : List ℕ = text start so_far.done in
         let more : SurvivesWith moment left_since may_leave mid last now so_far.rest (before ++ front) held_new =
         ends.each (stays is) so_far.rest (before ++ front) so_far.left_is so_far.held_is in

@@ -4,15 +4,15 @@
 --     survives_more       behind the first events
 use Rattle.std.proofs.Common.{◌≡◌, ◌⊎◌, inl, inr, ℕ, ◌+◌, ◌<◌, ◌≤◌, List, [], ◌∷◌, ◌++◌, length, refl, sym, ap, subst, ◌∙◌, arith, length-append}
 use Rattle.std.proofs.lemmas.Bool.{cases_lt}
-use Rattle.wh_machine.specs.Table.{State, at_rest}
+use Rattle.wh_machine.specs.State.{State, at_rest}
 use Rattle.wh_machine.specs.Step.{Event, step, after, text}
-use Rattle.wh_machine.specs.Reply.{print}
+use Rattle.wh_reply.specs.Reply.{print}
 use Rattle.wh_machine.specs.File.{Stands}
 use Rattle.wh_machine.specs.Stop.{whole_replies, most_events, StandsWithin}
 use Rattle.wh_machine.proofs.ReplyLaws.{whole_replies_of, no_whole_reply, few_replies}
 use Rattle.wh_journal.specs.Crash.{LeavesOnly}
 use Rattle.wh_journal.proofs.CrashLemmas.{both, weaker}
-use Rattle.wh_engine.specs.Warehouse.{StandsForEither}
+use Rattle.wh_engine.specs.Leaves.{StandsForEither}
 use Rattle.wh_shell.specs.Crash.{Survives}
 use Rattle.wh_shell.proofs.Within.{within_front, within_more, within_wider, within_none}
 

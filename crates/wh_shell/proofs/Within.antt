@@ -5,13 +5,15 @@
 --     within_either    the first events, or one more
 use Rattle.std.proofs.Common.{◌≡◌, inl, inr, ℕ, ◌+◌, ◌≤◌, List, [], ◌∷◌, ◌++◌, length, take, refl, sym, ap, subst, ◌∙◌, append_assoc, arith, length-append}
 use Rattle.std.proofs.Math.Seq.{take-append_seam, take-append-add}
-use Rattle.wh_machine.specs.Table.{State, at_rest}
+use Rattle.wh_machine.specs.State.{State, at_rest}
 use Rattle.wh_machine.specs.Step.{Event, step, after}
 use Rattle.wh_machine.specs.File.{Stands}
 use Rattle.wh_machine.specs.Stop.{committed_after, StandsWithin}
+use Rattle.wh_machine.specs.Sound.{Sound}
 use Rattle.wh_machine.proofs.ReplyLaws.{after_append}
 use Rattle.wh_machine.proofs.SoundLaws.{sound_after, sound_rest}
-use Rattle.wh_engine.specs.Warehouse.{StandsForEither}
+use Rattle.wh_record.proofs.FileLaws.{file_fixes_state}
+use Rattle.wh_engine.specs.Leaves.{StandsForEither}
 
 -- what was committed after some number of events
 counted : (start : State) (es : List Event) (count least most : ℕ) (image : List ℕ) → least ≤ count → count ≤ most →
@@ -21,7 +23,9 @@ counted start es count least most image low high is = record {
   at_least = low;
   at_most = high;
   stands = is;
-  sound = λ sound. sound_rest (after start (take count es)) (sound_after start (take count es) sound);
+  -- an image stands for one state alone
+  sound = λ sound state stands. subst Sound (file_fixes_state image (committed_after start es count) state is stands)
+      (sound_rest (after start (take count es)) (sound_after start (take count es) sound));
 }
 
 -- the state after the first events

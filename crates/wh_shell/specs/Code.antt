@@ -1,25 +1,26 @@
--- The exit code of each status, and the status of each fault.
-use Rattle.std.specs.Prelude.{ℕ}
+-- The status of a run, and its exit code.
+use Rattle.std.specs.Prelude.{ℕ, zero, suc, Result, Ok, Err}
+use Rattle.wh_shell.specs.declared.fault.Fault.{Fault}
+use Rattle.wh_shell.specs.declared.fault.Fault.TheVariants.{OutOfMemory, Disk, Script, Output, NotWarehouse, FileFull, ScriptTooLong}
 use Rattle.wh_shell.specs.declared.status.Status.{Status}
-use Rattle.wh_shell.specs.declared.status.Status.TheVariants.{Done, Refused, Usage, OutOfMemory, DiskFault, ScriptFault, OutputFault, NotWarehouse, FileFull, ScriptTooLong}
-use Rattle.wh_engine.specs.declared.fault.OpenFault.{OpenFault}
-use Rattle.wh_engine.specs.declared.fault.OpenFault.TheVariants as faults
+use Rattle.wh_shell.specs.declared.status.Status.TheVariants.{Usage, Read, Stopped}
 
--- the exit code
+-- of a script that was served with so many refusals, or ended by a fault
+abbrev pub status_of : Result ℕ Fault → Status
+status_of (Ok refusals) = Read refusals
+status_of (Err why) = Stopped why
+
+abbrev pub fault_code_of : Fault → ℕ
+fault_code_of OutOfMemory = 3
+fault_code_of Disk = 4
+fault_code_of Script = 5
+fault_code_of Output = 6
+fault_code_of (NotWarehouse at) = 7
+fault_code_of (FileFull len need) = 8
+fault_code_of (ScriptTooLong taken) = 9
+
 abbrev pub code_of : Status → ℕ
-code_of Done = 0
-code_of (Refused count) = 1
+code_of (Read zero) = 0
+code_of (Read (suc more)) = 1
 code_of Usage = 2
-code_of OutOfMemory = 3
-code_of DiskFault = 4
-code_of ScriptFault = 5
-code_of OutputFault = 6
-code_of (NotWarehouse at) = 7
-code_of (FileFull len need) = 8
-code_of (ScriptTooLong taken) = 9
-
--- why a file wasn't opened
-abbrev pub status_of_open : OpenFault → Status
-status_of_open faults.OutOfMemory = OutOfMemory
-status_of_open faults.DiskFault = DiskFault
-status_of_open (faults.NotWarehouse at) = NotWarehouse at
+code_of (Stopped why) = fault_code_of why

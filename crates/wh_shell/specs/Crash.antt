@@ -4,9 +4,9 @@
 --     EndsSafely       where events and output are told, and the file is
 --     Halts            one command that wasn't answered in full
 use Rattle.std.specs.Prelude.{◌≡◌, ◌⊎◌, ℕ, List, [], ◌++◌, length, Option, Some}
-use Rattle.wh_machine.specs.Table.{State, at_rest}
+use Rattle.wh_machine.specs.State.{State, at_rest}
 use Rattle.wh_machine.specs.Step.{Event, step}
-use Rattle.wh_machine.specs.Reply.{print}
+use Rattle.wh_reply.specs.Reply.{print}
 use Rattle.wh_machine.specs.File.{Stands}
 use Rattle.wh_machine.specs.Stop.{whole_replies, most_events, StandsWithin}
 use Rattle.wh_journal.specs.Crash.{LeavesOnly}

@@ -1,6 +1,7 @@
 pub mod Code
 pub mod Crash
 pub mod Events
+pub mod Fault
 pub mod Laws
 pub mod Open
 pub mod Reading

@@ -4,13 +4,18 @@
 --     EndsEvents        none was left, and the source has nothing left
 --     PassesOn          they are the same still
 --     Turns             what a line asks for, and what is asked for behind it
-use Rattle.std.specs.Prelude.{◌≡◌, ℕ, List, [], ◌∷◌, Option, Some, None, option_map}
+--     FailsBy           why no event could be read
+use Rattle.std.specs.Prelude.{◌≡◌, ◌<◌, ◌^◌, ℕ, List, [], ◌∷◌, Option, Some, None, option_map}
+use Rattle.wh_grammar.specs.Script.{Line, lines_of}
 use Rattle.wh_machine.specs.Step as machine
-use Rattle.wh_machine.specs.Script.{Line, lines_of}
 use Rattle.wh_text.specs.Turn.{ahead_and}
-use Rattle.wh_text.specs.Script.{ahead_of}
-use Rattle.wh_shell.specs.Events.{event_view, events_from}
-use Rattle.wh_shell.specs.declared.event.Event.{Event}
+use Rattle.wh_text.specs.Script.{ahead_of, taken_of}
+use Rattle.wh_text.specs.declared.script.Script.{Script}
+use Rattle.wh_text.specs.declared.fault.ScriptFault.{ScriptFault}
+use Rattle.wh_text.specs.declared.fault.ScriptFault.TheVariants.{OutOfMemory, Read, TooLong}
+use Rattle.wh_engine.specs.Event.{event_of}
+use Rattle.wh_engine.specs.declared.event.Event.{Event}
+use Rattle.wh_shell.specs.Events.{events_from}
 use Rattle.wh_shell.specs.declared.reader.Reader.{Reader}
 
 abbrev pub unread : Reader → Option (List ℕ) → Option (List machine.Event)
@@ -30,4 +35,10 @@ abbrev pub Turns : ℕ → ℕ → Line → Option Event → ℕ → ℕ → Typ
 Turns session reading line None session_new reading_new =
     (lines : List Line) → events_from session reading (line ∷ lines) ≡ events_from session_new reading_new lines
 Turns session reading line (Some event) session_new reading_new =
-    (lines : List Line) → events_from session reading (line ∷ lines) ≡ event_view event ∷ events_from session_new reading_new lines
+    (lines : List Line) → events_from session reading (line ∷ lines) ≡ event_of event ∷ events_from session_new reading_new lines
+
+-- the source failed, or more than 2^30 bytes were taken, and that many
+abbrev pub FailsBy : Type 0 → Script → ScriptFault → Type 0
+FailsBy failed new OutOfMemory = Unit {0}
+FailsBy failed new Read = failed
+FailsBy failed new (TooLong taken) = (2 ^ 30 < taken) × (taken ≡ taken_of new)

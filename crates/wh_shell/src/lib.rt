@@ -1,7 +1,7 @@
 //! The program's words, its statuses, and `run`: a script carried out over a file.
 #![tactic(auto)]
 
-mod event;
+mod fault;
 mod laws;
 #[cfg(test)]
 mod line_tests;
@@ -13,10 +13,10 @@ mod status;
 mod stop_tests;
 #[cfg(test)]
 mod tests;
-mod turn;
 mod words;
 mod writing;
 
+pub use fault::Fault;
 pub use laws::script_fixes_events;
 pub use running::run;
 pub use status::Status;

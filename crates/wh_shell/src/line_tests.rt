@@ -1,12 +1,11 @@
 //! Scripts as lines, seen through whole runs: quotes and comments, sessions, ticks, and each front
 //! of a script.
 
-use crate::Status;
 use crate::tests::{ONE_TABLE, carried_out};
+use crate::{Fault, Status};
 use std::alloc::{AllocError, Global};
 use std::test::Fail;
 use std::thread::Threads;
-use std::time;
 
 /// `SELECT`, so many spaces and `;`.
 fn long_select(alloc: Global, spaces: usize) -> Result<Vec<u8>, AllocError> {
@@ -27,7 +26,7 @@ fn a_text_that_spells_nothing_is_refused(rt: HostRuntime) -> Result<(), Fail> {
         done.out.held(),
         b"E1 SyntaxError\nE13 Limit STATEMENT 65536\nE2 NoSuchSession 65\nE1 SyntaxError\n".as_slice()
     );
-    assert_eq!(rt; done.status, Status::Refused { count: 4 });
+    assert_eq!(rt; done.status, Status::Read { refusals: 4 });
     Ok(())
 }
 
@@ -57,7 +56,7 @@ IDLE
 ";
     let done = carried_out(&rt, rt.alloc(), b"", script)?;
     assert_eq!(rt; done.out.held(), text.as_slice());
-    assert_eq!(rt; done.status, Status::Refused { count: 1 });
+    assert_eq!(rt; done.status, Status::Read { refusals: 1 });
     Ok(())
 }
 
@@ -93,8 +92,8 @@ fn a_stamp_is_behind_the_ticks_before_it(rt: HostRuntime) -> Result<(), Fail> {
     Ok(())
 }
 
-/// The pieces of a script, each with its reply. The front of a piece spells nothing, but where it has
-/// no more than its end left out.
+/// The pieces of a script, each with its reply. The front of a piece spells nothing, but where it
+/// has no more than its end left out.
 const PIECES: [(&[u8], &[u8]); 10] = [
     (b"CREATE TABLE T(K NUMBER);", b"CREATED TABLE T\n"),
     (b" -- a ; b\n", b""),
@@ -118,7 +117,7 @@ fn is_answer(written: &[u8], before: &[u8], reply: &[u8]) -> bool {
 
 /// Whether each front of a piece, behind the pieces before it, is answered so.
 fn fronts_are_answered(
-    rt: &(impl Threads + Sync + time::Clock),
+    rt: &(impl Threads + Sync),
     alloc: Global,
     script: &[u8],
     before: &[u8],

@@ -1,8 +1,5 @@
-ghost use Rattle.std.specs.Prelude.{◌<◌, ◌^◌};
-
-use crate::Status;
-use crate::event::Event;
 use std::alloc::Global;
+use wh_engine::Event;
 use wh_text::{Line, Script, ScriptFault};
 use wh_world::Source;
 
@@ -14,7 +11,6 @@ pub(crate) struct Reader {
     pub(crate) session: u64,
     // the number of the last tick that has one
     pub(crate) reading: u64,
-    ghost bounded: { reading < 2 ^ 62 },
 }
 
 impl Reader {
@@ -22,13 +18,12 @@ impl Reader {
     ghost use Rattle.std.specs.Prelude.{option_map, MatchOption, IfSome};
     ghost use Rattle.std.specs.Prelude.{IfOk, OnOk, IfErr, IsErrOf};
     ghost use Rattle.wh_world.specs.Told.{Rose};
-    ghost use Rattle.wh_machine.specs.Step.{reading_of};
     ghost use Rattle.wh_text.specs.View.{line_view};
-    ghost use Rattle.wh_text.specs.Turn.{ahead_and, Gives, Ends, IsReadable};
+    ghost use Rattle.wh_text.specs.Turn.{ahead_and};
     ghost use Rattle.wh_text.specs.Script.{ahead_of, taken_of, consumed_of, fault_of, Counts};
-    ghost use Rattle.wh_shell.specs.Events.{event_view, events};
-    ghost use Rattle.wh_shell.specs.Reading.{unread, GivesEvent, EndsEvents, Turns};
-    ghost use Rattle.wh_shell.specs.Serving.{ComesFromScript};
+    ghost use Rattle.wh_engine.specs.Event.{event_of};
+    ghost use Rattle.wh_shell.specs.Events.{events};
+    ghost use Rattle.wh_shell.specs.Reading.{unread, GivesEvent, EndsEvents, Turns, FailsBy};
 
     /// At the start of a script. Takes no memory.
     pub(crate) fn new(alloc: Global) -> Reader
@@ -44,33 +39,26 @@ impl Reader {
     }
 
     /// The next event; None at the end of the script. Nothing more is to be read after an Err.
-    pub(crate) fn next<S: Source>(&mut self, source: &mut S) -> Result<Option<Event>, Status>
+    pub(crate) fn next<S: Source>(&mut self, source: &mut S) -> Result<Option<Event>, ScriptFault>
         requires { fault_of self.old.script ≡ None }
         ensures turn { IfOk result (λ found. MatchOption found
             (EndsEvents (unread self.old (S.left source.old))
             (unread self.new (S.left source.new)) (S.left source.new))
             (λ event. GivesEvent (unread self.old (S.left source.old))
-            (event_view event) (unread self.new (S.left source.new)))) }
-        ensures reading { IfOk result (λ found. IfSome found (λ event.
-            reading_of (event_view event) < 2 ^ 62)) }
+            (event_of event) (unread self.new (S.left source.new)))) }
         ensures progress { IfOk result (λ found. IfSome found (λ event.
             consumed_of self.old.script < consumed_of self.new.script)) }
+        ensures goes { OnOk result (fault_of self.new.script ≡ None) }
+        ensures causes { IfErr result (FailsBy
+            (Rose (S.faults source.old) (S.faults source.new)) self.new.script) }
         ensures counts { Counts self.old.script self.new.script
             (S.left source.old) (S.left source.new) }
-        ensures goes { OnOk result (fault_of self.new.script ≡ None) }
-
-        // Why there is none.
-        ensures causes { IfErr result ComesFromScript }
-        ensures too_long { (taken : ℕ) → IsErrOf result (Status.ScriptTooLong taken) →
-            (2 ^ 30 < taken) × (taken ≡ taken_of self.new.script) }
         ensures long { 2 ^ 30 < taken_of self.new.script →
-            IsErrOf result (Status.ScriptTooLong (taken_of self.new.script)) }
-        ensures script_fault { IsErrOf result Status.ScriptFault →
-            Rose (S.faults source.old) (S.faults source.new) }
+            IsErrOf result (ScriptFault.TooLong (taken_of self.new.script)) }
         ensures later { S.faults source.old ≤ S.faults source.new }
     {
         'lines: loop {
-            let Some(line) = self.next_line(source)? else {
+            let Some(line) = self.script.next(source)? else {
                 return Ok(None);
             };
             if let Some(event) = self.take_line(line) {
@@ -81,10 +69,8 @@ impl Reader {
 
     // What a line asks for: a session's line sets the session, and asks for nothing.
     fn take_line(&mut self, line: Line) -> Option<Event>
-        requires { IsReadable line }
         ensures turned { Turns self.old.session self.old.reading (line_view line) result
             self.new.session self.new.reading }
-        ensures reading { IfSome result (λ event. reading_of (event_view event) < 2 ^ 62) }
         ensures script { self.new.script ≡ self.old.script }
     {
         match line {
@@ -103,10 +89,8 @@ impl Reader {
 
     // A tick: its number is the reading of the events from there on.
     fn tick(&mut self, number: Option<u64>) -> Event
-        requires { IsReadable (Line.Tick number) }
         ensures turned { Turns self.old.session self.old.reading
             (line_view (Line.Tick number)) (Some result) self.new.session self.new.reading }
-        ensures reading { reading_of (event_view result) < 2 ^ 62 }
         ensures script { self.new.script ≡ self.old.script }
     {
         if let Some(reading) = number {
@@ -114,41 +98,6 @@ impl Reader {
         }
         Event::Tick {
             reading: self.reading,
-        }
-    }
-
-    // The next line; None at the end of the script.
-    fn next_line<S: Source>(&mut self, source: &mut S) -> Result<Option<Line>, Status>
-        requires { fault_of self.old.script ≡ None }
-        ensures turn { IfOk result (λ found. MatchOption found
-            (Ends (ahead_and (ahead_of self.old.script) (S.left source.old))
-            (ahead_and (ahead_of self.new.script) (S.left source.new)))
-            (λ line. Gives (ahead_and (ahead_of self.old.script) (S.left source.old))
-            (line_view line) (ahead_and (ahead_of self.new.script) (S.left source.new)))) }
-        ensures numbers { IfOk result (λ found. IfSome found IsReadable) }
-        ensures progress { IfOk result (λ found. IfSome found (λ line.
-            consumed_of self.old.script < consumed_of self.new.script)) }
-        ensures counts { Counts self.old.script self.new.script
-            (S.left source.old) (S.left source.new) }
-        ensures place { (self.new.session ≡ self.old.session)
-            × (self.new.reading ≡ self.old.reading) }
-        ensures goes { OnOk result (fault_of self.new.script ≡ None) }
-
-        // Why there is none.
-        ensures causes { IfErr result ComesFromScript }
-        ensures too_long { (taken : ℕ) → IsErrOf result (Status.ScriptTooLong taken) →
-            (2 ^ 30 < taken) × (taken ≡ taken_of self.new.script) }
-        ensures long { 2 ^ 30 < taken_of self.new.script →
-            IsErrOf result (Status.ScriptTooLong (taken_of self.new.script)) }
-        ensures script_fault { IsErrOf result Status.ScriptFault →
-            Rose (S.faults source.old) (S.faults source.new) }
-        ensures later { S.faults source.old ≤ S.faults source.new }
-    {
-        match self.script.next(source) {
-            Ok(found) => Ok(found),
-            Err(ScriptFault::OutOfMemory) => Err(Status::OutOfMemory),
-            Err(ScriptFault::Read) => Err(Status::ScriptFault),
-            Err(ScriptFault::TooLong { taken }) => Err(Status::ScriptTooLong { taken }),
         }
     }
 }

@@ -1,43 +1,58 @@
-/// How a run ended. A run that ends with 3 to 6, 8 or 9 has written a front of the whole text.
+use crate::Fault;
+
+/// How a run ended.
 #[derive(Clone, Copy, Debug, PartialEq, Eq)]
 pub enum Status {
-    /// The script was read to its end, and no reply was a refusal.
-    Done,
-    /// The script was read to its end, and `count` replies were refusals.
-    Refused { count: u64 },
     /// The words are none that the program takes; nothing was opened.
     Usage,
-    OutOfMemory,
-    DiskFault,
-    ScriptFault,
-    OutputFault,
-    /// The file is no warehouse: `at` is the position of its first fault.
-    NotWarehouse { at: u64 },
-    /// A commit needs `need` bytes from `len` on, past the 2^40 that a file may have.
-    FileFull { len: u64, need: u64 },
-    /// More than 2^30 bytes were taken from the script: `taken` is their number.
-    ScriptTooLong { taken: u64 },
+    /// The script was read to its end; so many replies were refusals.
+    Read { refusals: u64 },
+    /// It ended before, and what was written is a front of the whole text.
+    Stopped(Fault),
 }
 
 impl Status {
     ghost use Rattle.std.specs.Prelude.{◌≡◌};
-    ghost use Rattle.wh_shell.specs.Code.{code_of};
+    ghost use Rattle.wh_shell.specs.Code.{code_of, status_of};
+
+    /// What was served, or what ended it.
+    pub(crate) fn of(served: Result<u64, Fault>) -> Status
+        ensures { result ≡ status_of served }
+    {
+        match served {
+            Ok(refusals) => Status::Read { refusals },
+            Err(fault) => Status::Stopped(fault),
+        }
+    }
 
     /// The exit code.
     pub fn code(&self) -> u8
         ensures { result ≡ code_of self.now }
     {
         match self {
-            Status::Done => 0,
-            Status::Refused { .. } => 1,
+            Status::Read { refusals: 0 } => 0,
+            Status::Read { .. } => 1,
             Status::Usage => 2,
-            Status::OutOfMemory => 3,
-            Status::DiskFault => 4,
-            Status::ScriptFault => 5,
-            Status::OutputFault => 6,
-            Status::NotWarehouse { .. } => 7,
-            Status::FileFull { .. } => 8,
-            Status::ScriptTooLong { .. } => 9,
+            Status::Stopped(fault) => fault.code(),
+        }
+    }
+}
+
+impl Fault {
+    ghost use Rattle.std.specs.Prelude.{◌≡◌};
+    ghost use Rattle.wh_shell.specs.Code.{fault_code_of};
+
+    fn code(&self) -> u8
+        ensures { result ≡ fault_code_of self.now }
+    {
+        match self {
+            Fault::OutOfMemory => 3,
+            Fault::Disk => 4,
+            Fault::Script => 5,
+            Fault::Output => 6,
+            Fault::NotWarehouse { .. } => 7,
+            Fault::FileFull { .. } => 8,
+            Fault::ScriptTooLong { .. } => 9,
         }
     }
 }

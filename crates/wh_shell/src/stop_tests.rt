@@ -1,11 +1,10 @@
-//! What a stop leaves, seen through whole runs: every call of the disk fails in turn, and every file that a crash
-//! may then leave is opened.
+//! What a stop leaves, seen through whole runs: every call of the disk fails in turn, and every
+//! file that a crash may then leave is opened.
 
 use super::*;
 use std::alloc::{AllocError, Global};
 use std::test::Fail;
 use std::thread::Threads;
-use std::time;
 use wh_world::{MemDisk, MemSink, MemSource, SetClock};
 
 /// Eight commands, each of which makes a commit.
@@ -35,8 +34,8 @@ const LISTED: [&[u8]; 9] = [
     b"K\n-4\n1\n2\n3\n5\n(5 rows)\nA | B\n1 | 7\n1 | NULL\n2 | 5\n(3 rows)\n",
 ];
 
-/// A pick: of the bytes that were written and not synced the first `cut` are there, and in the place of those behind
-/// them stands `fill`, or for 256 what was there before.
+/// A pick: of the bytes that were written and not synced the first `cut` are there, and in the
+/// place of those behind them stands `fill`, or for 256 what was there before.
 fn torn(cut: u64, fill: u64) -> u64 {
     cut.saturating_mul(257)
         .saturating_add(fill)
@@ -52,7 +51,7 @@ struct Left {
 }
 
 fn ran(
-    rt: &(impl Threads + Sync + time::Clock),
+    rt: &(impl Threads + Sync),
     alloc: Global,
     file: &[u8],
     script: &[u8],
@@ -78,9 +77,10 @@ fn commands_from(alloc: Global, first: usize) -> Result<Vec<u8>, AllocError> {
     Ok(script)
 }
 
-/// How many of the commands a file holds, by what its listings print; none where they print anything else.
+/// How many of the commands a file holds, by what its listings print; none where they print
+/// anything else.
 fn commits_in(
-    rt: &(impl Threads + Sync + time::Clock),
+    rt: &(impl Threads + Sync),
     alloc: Global,
     file: &[u8],
 ) -> Result<Option<usize>, AllocError> {
@@ -92,10 +92,10 @@ fn lines(text: &[u8]) -> usize {
     text.iter().filter(|byte| **byte == b'\n').count()
 }
 
-/// Whether a file holds the commands that were answered, at most one more, and the others go on from
-/// there.
+/// Whether a file holds the commands that were answered, at most one more, and the others go on
+/// from there.
 fn holds_what_was_answered(
-    rt: &(impl Threads + Sync + time::Clock),
+    rt: &(impl Threads + Sync),
     alloc: Global,
     file: &[u8],
     answered: usize,
@@ -104,14 +104,14 @@ fn holds_what_was_answered(
         return Ok(false);
     };
     let rest = ran(rt, alloc, file, &commands_from(alloc, held)?, &[])?;
-    let goes_on = rest.status == Status::Done
+    let goes_on = rest.status == Status::Read { refusals: 0 }
         && commits_in(rt, alloc, rest.disk.bytes())? == Some(8);
     Ok((held == answered || held == answered.saturating_add(1)) && goes_on)
 }
 
 /// Whether a pick's file holds what was answered.
 fn pick_holds(
-    rt: &(impl Threads + Sync + time::Clock),
+    rt: &(impl Threads + Sync),
     alloc: Global,
     disk: &MemDisk,
     pick: u64,
@@ -124,10 +124,10 @@ fn pick_holds(
     holds_what_was_answered(rt, alloc, &image, answered)
 }
 
-/// Whether each file that a crash may leave holds what was answered: the synced bytes, what a read
-/// gives, and what is torn at each place with each of these bytes behind.
+/// Whether each file that a crash may leave holds what was answered: the synced bytes, what a
+/// read gives, and what is torn at each place with each of these bytes behind.
 fn picks_hold(
-    rt: &(impl Threads + Sync + time::Clock),
+    rt: &(impl Threads + Sync),
     alloc: Global,
     disk: &MemDisk,
     answered: usize,
@@ -151,7 +151,7 @@ fn each_file_that_a_failed_call_may_leave_holds_what_was_answered(
     // Four calls to open, and four for each commit.
     for call in 1..37u64 {
         let left = ran(&rt, alloc, b"", &script, &[call])?;
-        assert_eq!(rt; left.status, Status::DiskFault, "call {call}");
+        assert_eq!(rt; left.status, Status::Stopped(Fault::Disk), "call {call}");
         let answered = lines(left.out.held());
         assert!(rt;
             picks_hold(&rt, alloc, &left.disk, answered)?,
@@ -159,15 +159,12 @@ fn each_file_that_a_failed_call_may_leave_holds_what_was_answered(
         );
     }
     let done = ran(&rt, alloc, b"", &script, &[37])?;
-    assert_eq!(rt; done.status, Status::Done);
+    assert_eq!(rt; done.status, Status::Read { refusals: 0 });
     Ok(())
 }
 
 /// How many bytes the file has after none to all of the commands.
-fn sizes(
-    rt: &(impl Threads + Sync + time::Clock),
-    alloc: Global,
-) -> Result<Vec<usize>, AllocError> {
+fn sizes(rt: &(impl Threads + Sync), alloc: Global) -> Result<Vec<usize>, AllocError> {
     let mut sizes = Vec::new(alloc);
     let mut script = Vec::new(alloc);
     sizes.push(ran(rt, alloc, b"", &script, &[])?.disk.bytes().len())?;
@@ -178,9 +175,9 @@ fn sizes(
     Ok(sizes)
 }
 
-/// Where a file that ends within its open records has its first fault: at the gate of the record that
-/// is cut, or at its end where a gate is missing. The gates are the last bytes of the files after each
-/// of the commands.
+/// Where a file that ends within its open records has its first fault: at the gate of the record
+/// that is cut, or at its end where a gate is missing. The gates are the last bytes of the files
+/// after each of the commands.
 fn first_fault(sizes: &[usize], len: usize) -> u64 {
     let mut at = 0;
     for size in sizes {
@@ -191,10 +188,10 @@ fn first_fault(sizes: &[usize], len: usize) -> u64 {
     at
 }
 
-/// Whether a front of a file holds what it is to hold: no command in at most 8 bytes, a first fault
-/// within the open records, which end there, and what was answered from then on.
+/// Whether a front of a file holds what it is to hold: no command in at most 8 bytes, a first
+/// fault within the open records, which end there, and what was answered from then on.
 fn front_holds(
-    rt: &(impl Threads + Sync + time::Clock),
+    rt: &(impl Threads + Sync),
     alloc: Global,
     front: &[u8],
     sizes: &[usize],
@@ -208,12 +205,12 @@ fn front_holds(
         return holds_what_was_answered(rt, alloc, front, answered);
     }
     let at = first_fault(sizes, front.len());
-    Ok(ran(rt, alloc, front, LISTINGS, &[])?.status == Status::NotWarehouse { at })
+    Ok(ran(rt, alloc, front, LISTINGS, &[])?.status == Status::Stopped(Fault::NotWarehouse { at }))
 }
 
 /// Whether each front of a file does.
 fn fronts_hold(
-    rt: &(impl Threads + Sync + time::Clock),
+    rt: &(impl Threads + Sync),
     alloc: Global,
     file: &[u8],
     sizes: &[usize],
@@ -251,7 +248,7 @@ fn each_front_of_a_file_holds_whole_commits_or_has_a_first_fault(
 
 /// Whether a file with a byte turned to ff opens, or is no warehouse.
 fn turned_is_named(
-    rt: &(impl Threads + Sync + time::Clock),
+    rt: &(impl Threads + Sync),
     alloc: Global,
     file: &[u8],
     at: usize,
@@ -261,7 +258,7 @@ fn turned_is_named(
         *byte = 0xff;
     }
     let named = match ran(rt, alloc, &turned, LISTINGS, &[])?.status {
-        Status::Done | Status::Refused { .. } | Status::NotWarehouse { .. } => true,
+        Status::Read { .. } | Status::Stopped(Fault::NotWarehouse { .. }) => true,
         _ => false,
     };
     Ok(named)
@@ -283,7 +280,7 @@ fn a_file_with_any_byte_turned_opens_or_is_no_warehouse(rt: HostRuntime) -> Resu
 
 /// Whether the table is there in a file exactly where its gate is open.
 fn gate_decides(
-    rt: &(impl Threads + Sync + time::Clock),
+    rt: &(impl Threads + Sync),
     alloc: Global,
     disk: &MemDisk,
     gate: u64,
@@ -299,7 +296,7 @@ fn a_stop_at_the_gate_leaves_the_table_or_not(rt: HostRuntime) -> Result<(), Fai
     let alloc = rt.alloc();
     // The eighth call is the sync behind the write of the gate.
     let left = ran(&rt, alloc, b"", COMMANDS[0], &[8])?;
-    assert_eq!(rt; left.status, Status::DiskFault);
+    assert_eq!(rt; left.status, Status::Stopped(Fault::Disk));
     assert_eq!(rt; left.out.held(), b"".as_slice());
     for gate in 0..256u64 {
         assert!(rt; gate_decides(&rt, alloc, &left.disk, gate)?, "gate {gate}");
@@ -311,7 +308,7 @@ fn a_stop_at_the_gate_leaves_the_table_or_not(rt: HostRuntime) -> Result<(), Fai
 fn after_the_reply_each_file_has_the_table(rt: HostRuntime) -> Result<(), Fail> {
     let alloc = rt.alloc();
     let done = ran(&rt, alloc, b"", COMMANDS[0], &[])?;
-    assert_eq!(rt; done.status, Status::Done);
+    assert_eq!(rt; done.status, Status::Read { refusals: 0 });
     for pick in 0..1000u64 {
         let image = done.disk.image(alloc, pick)?;
         assert_eq!(rt; commits_in(&rt, alloc, &image)?, Some(1), "pick {pick}");

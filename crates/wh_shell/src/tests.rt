@@ -1,10 +1,12 @@
+ghost use Rattle.std.specs.Prelude.{Some};
+
 use super::*;
+use crate::running::run_within;
 use std::alloc::{AllocError, Global};
 use std::process::Abort;
 use std::test::Fail;
 use std::thread::Threads;
-use std::time;
-use wh_world::{MemDisk, MemSink, MemSource, SetClock};
+use wh_world::{Failed, MemDisk, MemSink, MemSource, SetClock, Sink};
 
 const EMPTY_FILE: [u8; 8] = *b"WHCORE1\0";
 
@@ -42,6 +44,36 @@ const ROWS: &[u8] = b"K | V
 (3 rows)
 ";
 
+/// A sink that takes one byte at a time.
+#[derive(Drop)]
+struct ByteSink {
+    held: Vec<u8>,
+    faults: u64,
+}
+
+impl ByteSink {
+    fn new(alloc: Global) -> ByteSink {
+        ByteSink {
+            held: Vec::new(alloc),
+            faults: 0,
+        }
+    }
+}
+
+impl Sink for ByteSink {
+    ghost held = { λ s. Some s.held.items };
+
+    ghost faults = { λ s. s.faults };
+
+    fn write(&mut self, piece: &[u8]) -> Result<usize, Failed> {
+        if self.held.push(piece[0]).is_err() {
+            self.faults = self.faults.saturating_add(1);
+            return Err(Failed);
+        }
+        Ok(1)
+    }
+}
+
 /// What a run answers, writes and leaves.
 #[derive(Drop)]
 pub(crate) struct Outcome {
@@ -65,7 +97,7 @@ const NO_FAILURE: Failing<'static> = Failing {
 };
 
 fn run_with(
-    rt: &(impl Threads + Sync + time::Clock),
+    rt: &(impl Threads + Sync),
     alloc: Global,
     words: &[&str],
     file: &[u8],
@@ -87,7 +119,7 @@ fn run_with(
 
 /// Carries out a script over a file, with no failure.
 pub(crate) fn carried_out(
-    rt: &(impl Threads + Sync + time::Clock),
+    rt: &(impl Threads + Sync),
     alloc: Global,
     file: &[u8],
     script: &[u8],
@@ -115,15 +147,30 @@ fn other_words_touch_nothing(rt: HostRuntime) -> Result<(), Fail> {
 #[test]
 fn scripts_are_answered(rt: HostRuntime) -> Result<(), Fail> {
     let cases = [
-        ("nothing", b"".as_slice(), b"".as_slice(), Status::Done),
-        ("gaps alone", b" ;\t;\r\n;; ", b"", Status::Done),
-        ("the first one", SCRIPT, REPLIES, Status::Done),
+        (
+            "nothing",
+            b"".as_slice(),
+            b"".as_slice(),
+            Status::Read { refusals: 0 },
+        ),
+        (
+            "gaps alone",
+            b" ;\t;\r\n;; ",
+            b"",
+            Status::Read { refusals: 0 },
+        ),
+        (
+            "the first one",
+            SCRIPT,
+            REPLIES,
+            Status::Read { refusals: 0 },
+        ),
         (
             "refusals",
             b"CREATE TABLE T(K NUMBER); CREATE TABLE T(K NUMBER); INSERT INTO T VALUES (1, 2);
               INSERT INTO U VALUES (1); DROP TABLE T;",
             b"CREATED TABLE T\nE7 NameTaken T\nE9 TypeMismatch\nE6 UnknownName U\nE0 Unsupported\n",
-            Status::Refused { count: 4 },
+            Status::Read { refusals: 4 },
         ),
         (
             "numbers",
@@ -132,19 +179,19 @@ fn scripts_are_answered(rt: HostRuntime) -> Result<(), Fail> {
               INSERT INTO T VALUES (1000000000000000000);
               SELECT * FROM T;",
             b"CREATED TABLE T\nINSERTED 4\nE1 SyntaxError\nK\n-999999999999999999\n0\n12\n999999999999999999\n(4 rows)\n",
-            Status::Refused { count: 1 },
+            Status::Read { refusals: 1 },
         ),
         (
             "blanks, small letters, no `;` at the end",
             b"\t create\r\ntable\tt (k\nnumber)\r; select * from t",
             b"CREATED TABLE T\nK\n(0 rows)\n",
-            Status::Done,
+            Status::Read { refusals: 0 },
         ),
         (
             "no UTF-8",
             b"SELECT * FROM \xff;\xc3\x28",
             b"E1 SyntaxError\nE1 SyntaxError\n",
-            Status::Refused { count: 2 },
+            Status::Read { refusals: 2 },
         ),
     ];
     for (name, script, text, status) in cases {
@@ -174,11 +221,50 @@ fn a_file_has_these_bytes(rt: HostRuntime) -> Result<(), Fail> {
     Ok(())
 }
 
+// The table's record ends at 50, with the gate behind it, and the row's needs 83 bytes more.
+#[test]
+fn a_file_is_full_where_its_limit_is_passed(rt: HostRuntime) -> Result<(), Fail> {
+    let alloc = rt.alloc();
+    let script = b"CREATE TABLE T(K NUMBER); INSERT INTO T VALUES (1);";
+    let full = Status::Stopped(Fault::FileFull { len: 50, need: 83 });
+    let cases = [
+        (132, full, b"CREATED TABLE T\n".as_slice()),
+        (
+            133,
+            Status::Read { refusals: 0 },
+            b"CREATED TABLE T\nINSERTED 1\n",
+        ),
+    ];
+    for (limit, status, text) in cases {
+        let mut source = MemSource::new(script.to_vec(alloc)?, Vec::new(alloc));
+        let mut out = MemSink::new(alloc, 100, Vec::new(alloc))?;
+        let disk = MemDisk::new(alloc, Vec::new(alloc), 200, 100, Vec::new(alloc))?;
+        let (ended, _) = run_within(&rt, alloc, &mut source, &mut out, disk, limit);
+        assert_eq!(rt; ended, status, "{limit} bytes");
+        assert_eq!(rt; out.held(), text, "{limit} bytes");
+    }
+    Ok(())
+}
+
+#[test]
+fn replies_are_written_byte_by_byte(rt: HostRuntime) -> Result<(), Fail> {
+    let alloc = rt.alloc();
+    let mut source = MemSource::new(SCRIPT.to_vec(alloc)?, Vec::new(alloc));
+    let mut out = ByteSink::new(alloc);
+    let disk = MemDisk::new(alloc, Vec::new(alloc), 1000, 100, Vec::new(alloc))?;
+    let mut clock = SetClock::new([0].to_vec(alloc)?);
+    let words = [String::from_str(alloc, "run")?];
+    let (ended, _) = run(&rt, alloc, &words, &mut source, &mut out, disk, &mut clock);
+    assert_eq!(rt; ended, Status::Read { refusals: 0 });
+    assert_eq!(rt; out.held.as_slice(), REPLIES);
+    Ok(())
+}
+
 #[test]
 fn a_second_run_finds_the_rows(rt: HostRuntime) -> Result<(), Fail> {
     let first = carried_out(&rt, rt.alloc(), b"", SCRIPT)?;
     let second = carried_out(&rt, rt.alloc(), first.disk.bytes(), b"SELECT * FROM T;")?;
-    assert_eq!(rt; second.status, Status::Done);
+    assert_eq!(rt; second.status, Status::Read { refusals: 0 });
     assert_eq!(rt; second.out.held(), ROWS);
     assert_eq!(rt; second.disk.bytes(), first.disk.bytes());
     Ok(())
@@ -254,9 +340,9 @@ fn names_and_columns_have_limits(rt: HostRuntime) -> Result<(), Fail> {
 #[test]
 fn a_device_that_fails_leaves_a_front(rt: HostRuntime) -> Result<(), Fail> {
     let cases = [
-        ("script", true, false, false, Status::ScriptFault),
-        ("output", false, true, false, Status::OutputFault),
-        ("disk", false, false, true, Status::DiskFault),
+        ("script", true, false, false, Status::Stopped(Fault::Script)),
+        ("output", false, true, false, Status::Stopped(Fault::Output)),
+        ("disk", false, false, true, Status::Stopped(Fault::Disk)),
     ];
     for (name, source, sink, disk, fault) in cases {
         let mut faults = 0u64;
@@ -276,7 +362,11 @@ fn a_device_that_fails_leaves_a_front(rt: HostRuntime) -> Result<(), Fail> {
             if done.status == fault {
                 faults = faults.saturating_add(1);
             } else {
-                assert_eq!(rt; done.status, Status::Done, "{name} at call {call}");
+                assert_eq!(rt;
+                    done.status,
+                    Status::Read { refusals: 0 },
+                    "{name} at call {call}"
+                );
                 assert_eq!(rt; done.out.held(), REPLIES, "{name} at call {call}");
             }
         }

@@ -8,15 +8,15 @@ use Rattle.wh_ast.specs.declared.query.Item.{Item}
 use Rattle.wh_ast.specs.declared.query.Query.{Query}
 use Rattle.wh_ast.specs.declared.query.Core.{Core}
 use Rattle.wh_grammar.specs.Token as token
-use Rattle.wh_grammar.specs.Token.{Token, Word, Quoted, SignToken}
+use Rattle.wh_grammar.specs.Token.{Token, Word, SignToken}
 use Rattle.wh_grammar.specs.Name.{IsName, word, quoted}
 use Rattle.wh_grammar.specs.Expression as g
-use Rattle.wh_grammar.specs.Expression.{IsWhole, IsAnd, IsNot, IsTest, IsSum, IsProduct, IsUnary, IsPrim, IsExpr, IsNegation}
+use Rattle.wh_grammar.specs.Expression.{IsWhole, IsAnd, IsNot, IsTest, IsSum, IsProduct, IsUnary, IsPrim, IsNegation}
 use Rattle.wh_grammar.specs.Query as q
-use Rattle.wh_grammar.specs.Query.{IsAlias, MayHaveAlias, IsItem, AreItems, IsCore, AreCores, IsQuery}
-use Rattle.wh_expr_parse.specs.declared.key.Key.TheVariants as k
-use Rattle.wh_expr_parse.specs.State.{tail}
-use Rattle.wh_expr_parse.proofs.Combine.{sees_word_some, sees_key_some}
+use Rattle.wh_grammar.specs.Query.{IsAlias, IsItem, AreItems, IsCore, AreCores, IsQuery}
+use Rattle.wh_cursor.specs.declared.key.Key.TheVariants as k
+use Rattle.wh_cursor.specs.Steps.{tail}
+use Rattle.wh_cursor.proofs.Combine.{sees_word_some, sees_key_some}
 use Rattle.wh_stmt_parse.specs.Plain.{asks}
 
 abbrev has_data : List ℕ

@@ -11,7 +11,7 @@ use Rattle.wh_grammar.specs.Parts.{TaskOption, AreTaskOptions, TableOption, AreT
 use Rattle.wh_grammar.specs.Spelled.{MayFollow, follows_none, follows, IsTaskHead, task_head, IsTableHead, table_head}
 use Rattle.wh_dml_parse.specs.Laws as dml_laws
 use Rattle.wh_option_parse.specs.Laws as option_laws
-use Rattle.wh_stmt_parse.proofs.Listing.{cons}
+use Rattle.wh_stmt_parse.proofs.Carrying.{cons}
 
 pub record Fronts (P : List Token → List Token → Type 0) (ts us : List Token) : Type 0 where
   pub front : List Token

@@ -1,5 +1,5 @@
 -- What is a statement that keeps parts of its text is read as it.
-use Rattle.std.proofs.Common.{◌≡◌, ℕ, ◌≤◌, ◌⊎◌, inl, inr, true, false, List, [], ◌∷◌, ◌++◌, Option, Some, None, length, refl, sym, ap, ◌∙◌, append_assoc, arith, IsUtf8}
+use Rattle.std.proofs.Common.{◌≡◌, ℕ, ◌≤◌, ◌⊎◌, inl, inr, true, false, List, [], ◌∷◌, ◌++◌, Option, Some, None, length, refl, sym, ap, ◌∙◌, append_assoc, IsUtf8, subst}
 use Rattle.std.specs.Prelude.{codes}
 use Rattle.wh_value.specs.Value.{IsText}
 use Rattle.wh_ast.specs.declared.dml.Dml.{Dml}
@@ -17,26 +17,27 @@ use Rattle.wh_grammar.specs.Query.{IsQuery}
 use Rattle.wh_grammar.specs.Parts.{IsCondition, AreTaskOptions, TaskOptionsGive, TaskOption}
 use Rattle.wh_grammar.specs.Name.{IsName}
 use Rattle.wh_grammar.specs.Spelled as g
-use Rattle.wh_grammar.specs.Spelled.{IsStatement, IsTaskHead, task_head, IsTableHead, table_head, MayFollow, follows_none, follows, most_nested, tokens_of, written}
-use Rattle.wh_expr_parse.specs.Steps.{sees_word}
-use Rattle.wh_expr_parse.proofs.Combine.{sees_word_is, expect_word_reads, name_reads, other_word}
+use Rattle.wh_grammar.specs.Spelled.{IsStatement, IsTaskHead, task_head, IsTableHead, table_head, MayFollow, follows_none, follows, most_nested, tokens_of, written, IsKept}
+use Rattle.wh_cursor.specs.Steps.{sees_word}
+use Rattle.wh_cursor.proofs.Combine.{sees_word_is, expect_word_reads, name_reads, other_word}
 use Rattle.wh_query_parse.specs.Read.{read_query}
 use Rattle.wh_option_parse.specs.Follow.{ends_task_options}
 use Rattle.wh_option_parse.specs.Read.{read_condition, read_table_options}
 use Rattle.wh_dml_parse.specs.Follow.{ends_names}
 use Rattle.wh_dml_parse.specs.Read.{read_dml}
 use Rattle.wh_stmt_parse.specs.declared.kept.TaskHead.{TaskHead}
-use Rattle.wh_stmt_parse.specs.Kept.{text_of, between, starts_once, read_task_head, piece, read_guard, read_task, read_dynamic_table}
+use Rattle.wh_stmt_parse.specs.Kept.{between, starts_once, read_task_head, piece, read_guard, read_task, read_dynamic_table}
 use Rattle.wh_stmt_parse.specs.Read.{object_of, read_create, read_words}
 use Rattle.wh_stmt_parse.proofs.Heads.{task-frame, table-frame}
 use Rattle.wh_stmt_parse.proofs.KeptSound.{made, shown, at_as}
-use Rattle.wh_stmt_parse.proofs.Listing.{given-reads}
+use Rattle.wh_cursor.proofs.Combine.{given-reads}
 use Rattle.wh_stmt_parse.proofs.Parting.{between_is, last_is, nothing_behind, tokens-append}
 use Rattle.wh_stmt_parse.proofs.PartsComplete.{after-reads}
 use Rattle.wh_stmt_parse.proofs.Pieces.{piece_is}
 use Rattle.wh_stmt_parse.proofs.PlainComplete.{at-create, plain-read}
 use Rattle.wh_stmt_parse.proofs.Readers.{Readers}
-use Rattle.wh_stmt_parse.proofs.Texts.{text-read}
+use Rattle.wh_lex.specs.Front.{text_of}
+use Rattle.wh_lex.proofs.TextLemmas.{text-read}
 
 -- ---- the head of a task
 
@@ -85,10 +86,13 @@ head-read r (task_head {ts = ts} n o give f once) e = record { behind = ts; is =
 
 -- ---- pieces and WHEN
 
-piece-read : (text : List ℕ) (placed : List Placed) (from to : ℕ) (part : List Placed) (ts : List Token) → between placed from to ≡ part → IsText (written text part)
-    → piece text placed from to ts ≡ Some (written text part, ts)
+piece-read : (text : List ℕ) (placed : List Placed) (from to : ℕ) (part : List Placed) (kept : List ℕ) (ts : List Token) → between placed from to ≡ part → IsUtf8 (written text part)
+    → IsKept text part kept → piece text placed from to ts ≡ Some (kept, ts)
 unfolding piece
-piece-read text placed from to part ts e t = given-reads (text_of (written text (between placed from to))) (written text part) ts (ap (λ (l : List Placed). text_of (written text l)) e ∙ text-read (written text part) t)
+piece-read text placed from to part kept ts e utf8 k =
+    let made : IsText (written text part) = record { utf8 = utf8; short = subst (λ (l : List ℕ). length l ≤ 65536) k.is k.short } in
+    given-reads (text_of (written text (between placed from to))) kept ts
+    (ap (λ (l : List Placed). text_of (written text l)) e ∙ text-read (written text part) made ∙ ap (λ (l : List ℕ). Some l) (sym k.is))
 
 no_guard : (text : List ℕ) (placed : List Placed) (bs : List Token) → read_guard text placed (at_as bs) ≡ Some (None, at_as bs)
 unfolding read_guard
@@ -121,17 +125,12 @@ created-dynamic_table text placed us = refl
 
 -- ---- over the tokens of a text
 
-module _ (text : List ℕ) (placed : List Placed) (utf8 : IsUtf8 text) (short : length text ≤ 65536) (tokens : HasTokens text placed) where
-  part_text : (head part tail : List Placed) → placed ≡ head ++ (part ++ tail) → IsText (written text part)
-  part_text head part tail e =
-      let p = piece_is text placed head part tail utf8 tokens e in
-      let few = p.short in
-      record { utf8 = p.utf8; short = omega (arith, few, short) }
-
+module _ (text : List ℕ) (placed : List Placed) (utf8 : IsUtf8 text) (tokens : HasTokens text placed) where
   -- the body, to the end
-  body-read : (head body : List Placed) → placed ≡ head ++ body → piece text placed (length (tokens_of body)) 0 [] ≡ Some (written text body, [])
-  body-read head body e =
-      piece-read text placed (length (tokens_of body)) 0 body [] (last_is head body e refl) (part_text head body [] (e ∙ ap (λ (l : List Placed). head ++ l) (sym (nothing_behind body))))
+  body-read : (head body : List Placed) (kept : List ℕ) → placed ≡ head ++ body → IsKept text body kept → piece text placed (length (tokens_of body)) 0 [] ≡ Some (kept, [])
+  body-read head body kept e k =
+      let utf8_body = piece_is text placed head body [] utf8 tokens (e ∙ ap (λ (l : List Placed). head ++ l) (sym (nothing_behind body))) in
+      piece-read text placed (length (tokens_of body)) 0 body kept [] (last_is head body e refl) utf8_body k
 
   -- the tokens, where the head's are known up to the token that ends it
   headed : (front : List Token) (t : Token) (head rest : List Placed) → placed ≡ head ++ rest → tokens_of head ≡ front ++ t ∷ [] → tokens_of placed ≡ front ++ t ∷ tokens_of rest
@@ -142,23 +141,23 @@ module _ (text : List ℕ) (placed : List Placed) (utf8 : IsUtf8 text) (short : 
       → read_words text placed (tokens_of placed) ≡ Some (s, [])
   from-task ts e h = ap (read_words text placed) e ∙ at-create text placed (Word (codes "TASK") ∷ ts) ∙ created-task text placed ts ∙ h
 
-  task-read : Readers → (head body : List Placed) {name : List ℕ} {minutes : Option ℕ} {names : List (List ℕ)} {x : Dml} → placed ≡ head ++ body
-      → IsTaskHead (tokens_of head) name minutes names (at_as []) → IsDml most_nested (tokens_of body) x []
-      → read_words text placed (tokens_of placed) ≡ Some (made (record { name = name; minutes = minutes; after = names }) None x (written text body), [])
-  task-read r head body {name} {minutes} {names} {x} e h b =
+  task-read : Readers → (head body : List Placed) {name : List ℕ} {minutes : Option ℕ} {names : List (List ℕ)} {x : Dml} {kept : List ℕ} → placed ≡ head ++ body
+      → IsTaskHead (tokens_of head) name minutes names (at_as []) → IsDml most_nested (tokens_of body) x [] → IsKept text body kept
+      → read_words text placed (tokens_of placed) ≡ Some (made (record { name = name; minutes = minutes; after = names }) None x kept, [])
+  task-read r head body {name} {minutes} {names} {x} {kept} e h b k =
       let f = task-frame r.names_frame r.task_options_frame h in
       let bs = tokens_of body in
       let run = head-read r (f.stands (at_as bs) refl) (as_ends bs) in
       from-task run.behind (headed f.front (Word (codes "AS")) head body e f.is ∙ run.is)
-      (task-run text placed run.behind (at_as bs) bs (record { name = name; minutes = minutes; after = names }) None x (written text body) run.reads (no_guard text placed bs)
-      ((r.dml most_nested bs x []).1 (record { dml = b; ends = refl })) (body-read head body e))
+      (task-run text placed run.behind (at_as bs) bs (record { name = name; minutes = minutes; after = names }) None x kept run.reads (no_guard text placed bs)
+      ((r.dml most_nested bs x []).1 (record { dml = b; ends = refl })) (body-read head body kept e k))
 
-  guarded-read : Readers → (head guard body : List Placed) (link : Placed) {name : List ℕ} {minutes : Option ℕ} {names : List (List ℕ)} {condition : Condition} {x : Dml}
+  guarded-read : Readers → (head guard body : List Placed) (link : Placed) {name : List ℕ} {minutes : Option ℕ} {names : List (List ℕ)} {condition : Condition} {x : Dml} {kept body_kept : List ℕ}
       → placed ≡ head ++ (guard ++ link ∷ body) → IsTaskHead (tokens_of head) name minutes names (Word (codes "WHEN") ∷ [])
-      → IsCondition most_nested (tokens_of guard) condition [] → link.token ≡ Word (codes "AS") → IsDml most_nested (tokens_of body) x []
+      → IsCondition most_nested (tokens_of guard) condition [] → IsKept text guard kept → link.token ≡ Word (codes "AS") → IsDml most_nested (tokens_of body) x [] → IsKept text body body_kept
       → read_words text placed (tokens_of placed)
-      ≡ Some (made (record { name = name; minutes = minutes; after = names }) (Some (record { condition = condition; text = written text guard })) x (written text body), [])
-  guarded-read r head guard body link {name} {minutes} {names} {condition} {x} e h c l b =
+      ≡ Some (made (record { name = name; minutes = minutes; after = names }) (Some (record { condition = condition; text = kept })) x body_kept, [])
+  guarded-read r head guard body link {name} {minutes} {names} {condition} {x} {kept} {body_kept} e h c k l b body_k =
       let f = task-frame r.names_frame r.task_options_frame h in
       let bs = tokens_of body in
       let behind_is : tokens_of (link ∷ body) ≡ at_as bs = ap (λ (t : Token). t ∷ bs) l in
@@ -172,10 +171,11 @@ module _ (text : List ℕ) (placed : List Placed) (utf8 : IsUtf8 text) (short : 
       let condition_read = (r.conditions most_nested gs condition (at_as bs)).1 (record { condition = r.condition_back most_nested (tokens_of guard) condition (at_as bs) c; ends = refl }) in
       from-task run.behind (all_is ∙ run.is)
       (task-run text placed run.behind (Word (codes "WHEN") ∷ gs) bs (record { name = name; minutes = minutes; after = names })
-      (Some (record { condition = condition; text = written text guard })) x (written text body) run.reads
-      (a_guard text placed gs (at_as bs) condition (written text guard) condition_read
-      (piece-read text placed (length gs) (length (at_as bs)) guard (at_as bs) (between_is head guard (link ∷ body) e gs_is behind_is) (part_text head guard (link ∷ body) e)))
-      ((r.dml most_nested bs x []).1 (record { dml = b; ends = refl })) (body-read (head ++ (guard ++ link ∷ [])) body body_at))
+      (Some (record { condition = condition; text = kept })) x body_kept run.reads
+      (a_guard text placed gs (at_as bs) condition kept condition_read
+      (piece-read text placed (length gs) (length (at_as bs)) guard kept (at_as bs) (between_is head guard (link ∷ body) e gs_is behind_is)
+      (piece_is text placed head guard (link ∷ body) utf8 tokens e) k))
+      ((r.dml most_nested bs x []).1 (record { dml = b; ends = refl })) (body-read (head ++ (guard ++ link ∷ [])) body body_kept body_at body_k))
 
   table-made : Readers → {ts : List Token} (bs : List Token) {name kept : List ℕ} {l : Lag} {m : RefreshMode} {i : Initialize} {q : Query} → tokens_of placed ≡ ts
       → IsTableHead ts name l m i (at_as bs) → IsQuery most_nested bs q [] → piece text placed (length bs) 0 [] ≡ Some (kept, [])
@@ -185,15 +185,15 @@ module _ (text : List ℕ) (placed : List Placed) (utf8 : IsUtf8 text) (short : 
       ∙ table-run text placed ts us bs name l m i q kept n ((r.table_options us l m i (at_as bs)).1 (record { options = options; are = o; give = give; ends = refl }))
       ((r.queries most_nested bs q []).1 (record { query = b; ends = refl })) p
 
-  table-read : Readers → (head body : List Placed) {name : List ℕ} {l : Lag} {m : RefreshMode} {i : Initialize} {q : Query} → placed ≡ head ++ body
-      → IsTableHead (tokens_of head) name l m i (at_as []) → IsQuery most_nested (tokens_of body) q []
-      → read_words text placed (tokens_of placed) ≡ Some (shown name l m i q (written text body), [])
-  table-read r head body e h b =
+  table-read : Readers → (head body : List Placed) {name : List ℕ} {l : Lag} {m : RefreshMode} {i : Initialize} {q : Query} {kept : List ℕ} → placed ≡ head ++ body
+      → IsTableHead (tokens_of head) name l m i (at_as []) → IsQuery most_nested (tokens_of body) q [] → IsKept text body kept
+      → read_words text placed (tokens_of placed) ≡ Some (shown name l m i q kept, [])
+  table-read r head body {kept = kept} e h b k =
       let f = table-frame r.table_options_frame h in
-      table-made r (tokens_of body) (headed f.front (Word (codes "AS")) head body e f.is) (f.stands (at_as (tokens_of body)) refl) b (body-read head body e)
+      table-made r (tokens_of body) (headed f.front (Word (codes "AS")) head body e f.is) (f.stands (at_as (tokens_of body)) refl) b (body-read head body kept e k)
 
   pub words-read : Readers → {s : Statement} → IsStatement text placed s → read_words text placed (tokens_of placed) ≡ Some (s, [])
   words-read r (g.plain h) = plain-read text placed r h
-  words-read r (g.task head body e h b) = task-read r head body e h b
-  words-read r (g.guarded_task head guard body link e h c l b) = guarded-read r head guard body link e h c l b
-  words-read r (g.dynamic_table head body e h b) = table-read r head body e h b
+  words-read r (g.task head body e h b k) = task-read r head body e h b k
+  words-read r (g.guarded_task head guard body link e h c k l b body_k) = guarded-read r head guard body link e h c k l b body_k
+  words-read r (g.dynamic_table head body e h b k) = table-read r head body e h b k

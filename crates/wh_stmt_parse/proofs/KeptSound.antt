@@ -1,5 +1,5 @@
 -- What is read as a statement that keeps parts of its text is one.
-use Rattle.std.proofs.Common.{◌≡◌, ℕ, ◌⊎◌, inl, inr, Bool, true, false, if◌then◌else◌, List, [], ◌∷◌, ◌++◌, Option, Some, None, length, refl, sym, ap, ◌∙◌, subst, append_assoc}
+use Rattle.std.proofs.Common.{◌≡◌, ℕ, ◌≤◌, ◌⊎◌, inl, inr, Bool, true, false, List, [], ◌∷◌, ◌++◌, Option, Some, None, length, refl, sym, ap, ◌∙◌, subst, append_assoc}
 use Rattle.std.specs.Prelude.{codes}
 use Rattle.std.proofs.lemmas.Option.{same_Some}
 use Rattle.wh_ast.specs.declared.dml.Dml.{Dml}
@@ -15,17 +15,20 @@ use Rattle.wh_grammar.specs.Changing.{IsDml}
 use Rattle.wh_grammar.specs.Query.{IsQuery}
 use Rattle.wh_grammar.specs.Parts.{IsCondition, AreTableOptions}
 use Rattle.wh_grammar.specs.Spelled as g
-use Rattle.wh_grammar.specs.Spelled.{IsStatement, IsTaskHead, task_head, IsTableHead, table_head, most_nested, tokens_of, written}
-use Rattle.wh_expr_parse.specs.State.{tail}
-use Rattle.wh_expr_parse.specs.Steps.{Reader, and_then}
-use Rattle.wh_expr_parse.proofs.Combine.{Yields, yields, nothing, follow, yields_law, if_eaten_word, then_expect_word, name-yields}
+use Rattle.wh_grammar.specs.Spelled.{IsStatement, IsTaskHead, task_head, IsTableHead, table_head, most_nested, tokens_of, written, IsKept}
+use Rattle.wh_cursor.specs.Steps.{tail, Reader, and_then}
+use Rattle.wh_cursor.proofs.Yields.{Yields, yields, nothing, follow, yields_law}
+use Rattle.wh_cursor.proofs.Combine.{if_eaten_word, then_expect_word, name-yields}
 use Rattle.wh_query_parse.specs.Follow.{IsQueryAt}
 use Rattle.wh_option_parse.specs.Follow.{IsConditionAt, AreTaskOptionsAt, AreTableOptionsAt}
 use Rattle.wh_dml_parse.specs.Follow.{IsDmlAt}
 use Rattle.wh_stmt_parse.specs.declared.kept.TaskHead.{TaskHead}
-use Rattle.wh_stmt_parse.specs.Kept.{text_of, between, starts_once, checked, read_task_head, piece, guard_by, read_guard, read_task, read_dynamic_table}
+use Rattle.wh_lex.specs.Front.{text_of}
+use Rattle.wh_lex.proofs.TextLemmas.{of_text}
+use Rattle.wh_stmt_parse.specs.Kept.{between, starts_once, checked, read_task_head, piece, guard_by, read_guard, read_task, read_dynamic_table}
 use Rattle.wh_stmt_parse.proofs.Heads.{task-frame, table-frame}
-use Rattle.wh_stmt_parse.proofs.Listing.{stand, cons, given-yields}
+use Rattle.wh_cursor.proofs.Combine.{given-yields}
+use Rattle.wh_stmt_parse.proofs.Carrying.{stand, cons}
 use Rattle.wh_stmt_parse.proofs.Parting.{parted, linked, between_is, last_is}
 use Rattle.wh_stmt_parse.proofs.PartsSound.{after-sound}
 use Rattle.wh_stmt_parse.proofs.Readers.{Readers}
@@ -37,18 +40,15 @@ checked-yields : {B : Type 0} (b : Bool) (ts : List Token) (f : Unit {0} → Rea
 checked-yields true ts f k = record { is = (k refl).is }
 checked-yields false ts f k = nothing
 
-text_some : (bytes kept : List ℕ) → text_of bytes ≡ Some kept → kept ≡ bytes
-unfolding text_of
-text_some bytes kept h = by _ h
-  where
-    by : (r : Bool) → (if r then Some bytes else None) ≡ Some kept → kept ≡ bytes
-    by true h = sym (same_Some _ _ h)
-    by false h = absurd (cc)
+text_kept : (text : List ℕ) (ts : List Placed) (kept : List ℕ) → text_of (written text ts) ≡ Some kept → IsKept text ts kept
+text_kept text ts kept = of_text (λ o. o ≡ Some kept → IsKept text ts kept) (written text ts)
+    (λ made h. let is : written text ts ≡ kept = same_Some _ _ h in record { is = sym is; short = subst (λ (l : List ℕ). length l ≤ 65536) is made.short })
+    (λ h. absurd (cc))
 
 piece-sound : (text : List ℕ) (placed : List Placed) (from to : ℕ) (ts : List Token)
-    → Yields (piece text placed from to ts) (λ kept us. (us ≡ ts) × (kept ≡ written text (between placed from to)))
+    → Yields (piece text placed from to ts) (λ kept us. (us ≡ ts) × IsKept text (between placed from to) kept)
 unfolding piece
-piece-sound text placed from to ts = given-yields (text_of (written text (between placed from to))) ts (λ kept h. (refl, text_some _ kept h))
+piece-sound text placed from to ts = given-yields (text_of (written text (between placed from to))) ts (λ kept h. (refl, text_kept text _ kept h))
 
 -- ---- the head of a task
 
@@ -72,7 +72,7 @@ head-sound r ts = follow (name-yields ts) (λ name us h.
 -- a condition and its text stand between two places
 pub record HasGuard (text : List ℕ) (placed : List Placed) (us : List Token) (guard : When) (vs : List Token) : Type 0 where
   pub condition : IsConditionAt most_nested us guard.condition vs
-  pub kept : guard.text ≡ written text (between placed (length us) (length vs))
+  pub kept : IsKept text (between placed (length us) (length vs)) guard.text
 
 abbrev MayGuard : List ℕ → List Placed → List Token → Option When → List Token → Type 0
 MayGuard text placed us None vs = us ≡ vs
@@ -101,18 +101,17 @@ one_more fronts t us = sym (append_assoc fronts (t ∷ []) us)
 
 task_made : Readers → (text : List ℕ) (placed : List Placed) (ts : List Token) (head : TaskHead) (bs : List Token) (body : Dml) (kept : List ℕ)
     → tokens_of placed ≡ Word (codes "CREATE") ∷ Word (codes "TASK") ∷ ts → HasHead ts head (at_as bs) → IsDml most_nested bs body []
-    → kept ≡ written text (between placed (length bs) 0) → IsStatement text placed (made head None body kept)
+    → IsKept text (between placed (length bs) 0) kept → IsStatement text placed (made head None body kept)
 task_made r text placed ts head bs body kept e h b k =
     let f = task-frame r.names_frame r.task_options_frame h in
     let p = parted placed (f.front ++ at_as []) bs (e ∙ f.is ∙ one_more f.front _ bs) in
-    let kept_is : kept ≡ written text p.body = k ∙ ap (written text) (last_is p.head p.body p.is p.body_is) in
-    subst (λ (kept : List ℕ). IsStatement text placed (made head None body kept)) (sym kept_is)
-    (g.task p.head p.body p.is (stand (λ (ts : List Token). IsTaskHead ts head.name head.minutes head.after (at_as [])) p.head_is (f.stands (at_as []) refl))
-    (stand (λ (ts : List Token). IsDml most_nested ts body []) p.body_is b))
+    g.task p.head p.body p.is (stand (λ (ts : List Token). IsTaskHead ts head.name head.minutes head.after (at_as [])) p.head_is (f.stands (at_as []) refl))
+    (stand (λ (ts : List Token). IsDml most_nested ts body []) p.body_is b)
+    (subst (λ (ps : List Placed). IsKept text ps kept) (last_is p.head p.body p.is p.body_is) k)
 
 guarded_made : Readers → (text : List ℕ) (placed : List Placed) (ts : List Token) (head : TaskHead) (gs : List Token) (guard : When) (bs : List Token) (body : Dml) (kept : List ℕ)
     → tokens_of placed ≡ Word (codes "CREATE") ∷ Word (codes "TASK") ∷ ts → HasHead ts head (Word (codes "WHEN") ∷ gs) → HasGuard text placed gs guard (at_as bs) → IsDml most_nested bs body []
-    → kept ≡ written text (between placed (length bs) 0) → IsStatement text placed (made head (Some guard) body kept)
+    → IsKept text (between placed (length bs) 0) kept → IsStatement text placed (made head (Some guard) body kept)
 guarded_made r text placed ts head gs guard bs body kept e h w b k =
     let f = task-frame r.names_frame r.task_options_frame h in
     let c = r.condition_frame most_nested gs guard.condition (at_as bs) w.condition.condition in
@@ -121,21 +120,18 @@ guarded_made r text placed ts head gs guard bs body kept e h w b k =
     let l = linked q.body (Word (codes "AS")) bs q.body_is in
     let rest_is : p.body ≡ q.head ++ l.link ∷ l.body = q.is ∙ ap (λ (l : List Placed). q.head ++ l) l.is in
     let all_is : placed ≡ p.head ++ (q.head ++ l.link ∷ l.body) = p.is ∙ ap (λ (l : List Placed). p.head ++ l) rest_is in
-    let text_is : guard.text ≡ written text q.head = w.kept ∙ ap (written text)
-    (between_is p.head q.head (l.link ∷ l.body) all_is (ap tokens_of (sym rest_is) ∙ p.body_is) (ap tokens_of (sym l.is) ∙ q.body_is)) in
+    let guard_at = between_is p.head q.head (l.link ∷ l.body) all_is (ap tokens_of (sym rest_is) ∙ p.body_is) (ap tokens_of (sym l.is) ∙ q.body_is) in
     let body_at : placed ≡ (p.head ++ (q.head ++ l.link ∷ [])) ++ l.body =
     all_is ∙ ap (λ (m : List Placed). p.head ++ m) (sym (append_assoc q.head (l.link ∷ []) l.body)) ∙ sym (append_assoc p.head (q.head ++ l.link ∷ []) l.body) in
-    let kept_is : kept ≡ written text l.body = k ∙ ap (written text) (last_is (p.head ++ (q.head ++ l.link ∷ [])) l.body body_at l.body_is) in
-    subst (λ (kept : List ℕ). IsStatement text placed (made head (Some guard) body kept)) (sym kept_is)
-    (subst (λ (words : List ℕ). IsStatement text placed (made head (Some (record { condition = guard.condition; text = words })) body (written text l.body))) (sym text_is)
-    (g.guarded_task p.head q.head l.body l.link all_is
+    g.guarded_task p.head q.head l.body l.link all_is
     (stand (λ (ts : List Token). IsTaskHead ts head.name head.minutes head.after (Word (codes "WHEN") ∷ [])) p.head_is (f.stands (Word (codes "WHEN") ∷ []) refl))
-    (stand (λ (ts : List Token). IsCondition most_nested ts guard.condition []) q.head_is c.2)
-    l.link_is (stand (λ (ts : List Token). IsDml most_nested ts body []) l.body_is b)))
+    (stand (λ (ts : List Token). IsCondition most_nested ts guard.condition []) q.head_is c.2) (subst (λ (ps : List Placed). IsKept text ps guard.text) guard_at w.kept)
+    l.link_is (stand (λ (ts : List Token). IsDml most_nested ts body []) l.body_is b)
+    (subst (λ (ps : List Placed). IsKept text ps kept) (last_is (p.head ++ (q.head ++ l.link ∷ [])) l.body body_at l.body_is) k)
 
 any_task : Readers → (text : List ℕ) (placed : List Placed) (ts : List Token) (head : TaskHead) (us : List Token) (when : Option When) (vs : List Token) (body : Dml) (kept : List ℕ)
     → tokens_of placed ≡ Word (codes "CREATE") ∷ Word (codes "TASK") ∷ ts → HasHead ts head us → MayGuard text placed us when vs → vs ≡ at_as (tail vs) → IsDml most_nested (tail vs) body []
-    → kept ≡ written text (between placed (length (tail vs)) 0) → IsStatement text placed (made head when body kept)
+    → IsKept text (between placed (length (tail vs)) 0) kept → IsStatement text placed (made head when body kept)
 any_task r text placed ts head us None vs body kept e h w a b k =
     task_made r text placed ts head (tail vs) body kept e (subst (HasHead ts head) (w ∙ a) h) b k
 any_task r text placed ts head us (Some guard) vs body kept e h w a b k =
@@ -156,14 +152,13 @@ shown name l m i q kept = st.CreateDynamicTable (record { name = name; lag = l; 
 
 table_made : Readers → (text : List ℕ) (placed : List Placed) (ts : List Token) (name : List ℕ) (l : Lag) (m : RefreshMode) (i : Initialize) (bs : List Token) (q : Query) (kept : List ℕ)
     → tokens_of placed ≡ ts → IsTableHead ts name l m i (at_as bs) → IsQuery most_nested bs q []
-    → kept ≡ written text (between placed (length bs) 0) → IsStatement text placed (shown name l m i q kept)
+    → IsKept text (between placed (length bs) 0) kept → IsStatement text placed (shown name l m i q kept)
 table_made r text placed ts name l m i bs q kept e h b k =
     let f = table-frame r.table_options_frame h in
     let p = parted placed (f.front ++ at_as []) bs (e ∙ f.is ∙ one_more f.front _ bs) in
-    let kept_is : kept ≡ written text p.body = k ∙ ap (written text) (last_is p.head p.body p.is p.body_is) in
-    subst (λ (kept : List ℕ). IsStatement text placed (shown name l m i q kept)) (sym kept_is)
-    (g.dynamic_table p.head p.body p.is (stand (λ (ts : List Token). IsTableHead ts name l m i (at_as [])) p.head_is (f.stands (at_as []) refl))
-    (stand (λ (ts : List Token). IsQuery most_nested ts q []) p.body_is b))
+    g.dynamic_table p.head p.body p.is (stand (λ (ts : List Token). IsTableHead ts name l m i (at_as [])) p.head_is (f.stands (at_as []) refl))
+    (stand (λ (ts : List Token). IsQuery most_nested ts q []) p.body_is b)
+    (subst (λ (ps : List Placed). IsKept text ps kept) (last_is p.head p.body p.is p.body_is) k)
 
 pub dynamic_table-sound : Readers → (text : List ℕ) (placed : List Placed) (ts : List Token) → tokens_of placed ≡ Word (codes "CREATE") ∷ Word (codes "DYNAMIC") ∷ ts
     → Yields (read_dynamic_table text placed ts) (λ s us. us ≡ [] → IsStatement text placed s)

@@ -1,6 +1,6 @@
 mod Pieces
 mod Texts
-mod Listing
+mod Carrying
 mod PartsSound
 mod PlainSound
 mod Readers

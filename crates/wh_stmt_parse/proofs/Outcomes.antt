@@ -1,8 +1,8 @@
 -- From what a call read to what is kept of it.
 use Rattle.std.proofs.Common.{◌≡◌, Option, option_map, Result, Ok, Err, refl}
-use Rattle.wh_expr_parse.specs.declared.fault.ParseFault.{ParseFault}
-use Rattle.wh_expr_parse.specs.declared.fault.ParseFault.TheVariants as faults
-use Rattle.wh_expr_parse.specs.Gives.{Reads}
+use Rattle.wh_cursor.specs.declared.fault.ParseFault.{ParseFault}
+use Rattle.wh_cursor.specs.declared.fault.ParseFault.TheVariants as faults
+use Rattle.wh_cursor.specs.Gives.{Reads}
 use Rattle.wh_stmt_parse.specs.Gives.{Gives}
 
 gives : {A S : Type 0} (read : Option (A × S)) (r : Result A ParseFault) (left : S) → Reads read r left → Gives r (option_map (λ p. p.0) read)

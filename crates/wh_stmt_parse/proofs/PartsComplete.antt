@@ -13,16 +13,15 @@ use Rattle.wh_grammar.specs.Name.{IsName, word, quoted}
 use Rattle.wh_grammar.specs.Parts as g
 use Rattle.wh_grammar.specs.Parts.{IsType, AreColumns, MayRetain, MayAppend, IsDirection, IsKey, AreSorts, MayHaveOrder}
 use Rattle.wh_grammar.specs.Spelled.{MayFollow, follows_none, follows}
-use Rattle.wh_expr_parse.specs.declared.key.Key.TheVariants as k
-use Rattle.wh_expr_parse.specs.contracts.key.Key.{the_type}
-use Rattle.wh_expr_parse.specs.Keys.{same_key, key_of}
-use Rattle.wh_expr_parse.specs.State.{sees}
-use Rattle.wh_expr_parse.specs.Steps.{sees_word}
-use Rattle.wh_expr_parse.proofs.Combine.{sees_word_is, expect_word_reads, equal_reads, read_word_reads, read_number_reads, name_reads, name_shorter, other_word, end_no_word, sign_no_word}
+use Rattle.wh_cursor.specs.declared.key.Key.TheVariants as k
+use Rattle.wh_cursor.specs.contracts.key.Key.{the_type}
+use Rattle.wh_cursor.specs.Keys.{same_key, key_of}
+use Rattle.wh_cursor.specs.Steps.{sees, sees_word}
+use Rattle.wh_cursor.proofs.Combine.{sees_word_is, expect_word_reads, equal_reads, read_word_reads, read_number_reads, name_reads, name_shorter, other_word, end_no_word, sign_no_word}
 use Rattle.wh_dml_parse.specs.Follow.{ends_names}
 use Rattle.wh_dml_parse.specs.Laws as dml_laws
 use Rattle.wh_stmt_parse.specs.Parts.{type_of, read_type, read_column, read_columns, read_retention, read_truth, read_append, read_key, read_direction, read_sort, read_sorts, read_order, read_after}
-use Rattle.wh_stmt_parse.proofs.Listing.{GivesCommas, gives-last, gives-more}
+use Rattle.wh_cursor.proofs.ListLemmas.{GivesListed, listed-last, listed-more, listed-reads}
 
 -- ---- columns
 
@@ -42,13 +41,13 @@ column-reads : {ts us : List Token} {name w : List ℕ} {t : ColumnType} → IsN
 unfolding read_column read_type
 column-reads {us = us} {w = w} n t = rw (name_reads n, read_word_reads w us, type-reads t) refl
 
-columns-give : {ts us : List Token} {cs : List Column} → AreColumns ts cs us → sees k.Comma us ≡ false → GivesCommas read_column ts cs us
-columns-give (g.last_column n t) end = let less = name_shorter n in gives-last (column-reads n t) (omega (arith, less)) end
-columns-give (g.more_columns n t more) end = let less = name_shorter n in gives-more (column-reads n t) (omega (arith, less)) (columns-give more end)
+columns-give : {ts us : List Token} {cs : List Column} → AreColumns ts cs us → sees k.Comma us ≡ false → GivesListed read_column ts cs us
+columns-give (g.last_column n t) end = let less = name_shorter n in listed-last (column-reads n t) (omega (arith, less)) end
+columns-give (g.more_columns n t more) end = let less = name_shorter n in listed-more (column-reads n t) (omega (arith, less)) (columns-give more end)
 
 pub columns-reads : {ts us : List Token} {cs : List Column} → AreColumns ts cs us → sees k.Comma us ≡ false → read_columns ts ≡ Some (cs, us)
 unfolding read_columns
-columns-reads {ts} h end = (columns-give h end).run (length ts) [] (omega arith)
+columns-reads h end = listed-reads (columns-give h end)
 
 -- ---- options at the end
 
@@ -137,19 +136,19 @@ comma_not : sees k.Comma [] ≡ false
 unfolding sees same_key key_of
 comma_not = refl
 
-sorts-give : {ts : List Token} {sorts : List Sort} → AreSorts ts sorts → GivesCommas read_sort ts sorts []
+sorts-give : {ts : List Token} {sorts : List Sort} → AreSorts ts sorts → GivesListed read_sort ts sorts []
 sorts-give (g.last_sort key direction) =
     let a = key-shorter key in
     let b = direction-shorter direction in
-    gives-last (sort-reads key direction none_at_end) (omega (arith, a, b)) comma_not
+    listed-last (sort-reads key direction none_at_end) (omega (arith, a, b)) comma_not
 sorts-give (g.more_sorts {vs = vs} key direction more) =
     let a = key-shorter key in
     let b = direction-shorter direction in
-    gives-more (sort-reads key direction (none_at_comma vs)) (omega (arith, a, b)) (sorts-give more)
+    listed-more (sort-reads key direction (none_at_comma vs)) (omega (arith, a, b)) (sorts-give more)
 
 sorts-reads : {ts : List Token} {sorts : List Sort} → AreSorts ts sorts → read_sorts ts ≡ Some (sorts, [])
 unfolding read_sorts
-sorts-reads {ts} h = (sorts-give h).run (length ts) [] (omega arith)
+sorts-reads h = listed-reads (sorts-give h)
 
 pub order-reads : {ts : List Token} {sorts : List Sort} → MayHaveOrder ts sorts → read_order ts ≡ Some (sorts, [])
 unfolding read_order

@@ -1,5 +1,5 @@
 -- What is read as a part of a statement is one.
-use Rattle.std.proofs.Common.{◌≡◌, ℕ, Bool, true, false, if◌then◌else◌, List, [], ◌∷◌, Option, Some, None, length, refl, sym, subst}
+use Rattle.std.proofs.Common.{◌≡◌, ℕ, Bool, true, false, if◌then◌else◌, List, [], ◌∷◌, Option, Some, None, refl, sym, subst}
 use Rattle.std.specs.Prelude.{codes, bytes_eq}
 use Rattle.std.proofs.lemmas.Option.{same_Some}
 use Rattle.std.proofs.lemmas.Slice.Eq.{bytes_eq-Decides}
@@ -8,23 +8,21 @@ use Rattle.wh_value.specs.declared.column.Column.{Column}
 use Rattle.wh_ast.specs.declared.query.Sort.{Sort}
 use Rattle.wh_ast.specs.declared.query.Key.TheVariants as key
 use Rattle.wh_grammar.specs.Token as token
-use Rattle.wh_grammar.specs.Token.{Token, Word, NumberToken, SignToken}
+use Rattle.wh_grammar.specs.Token.{Token, Word, SignToken}
 use Rattle.wh_grammar.specs.Name.{IsName}
 use Rattle.wh_grammar.specs.Parts as g
 use Rattle.wh_grammar.specs.Parts.{IsType, AreColumns, MayRetain, MayAppend, IsDirection, IsKey, AreSorts, MayHaveOrder}
 use Rattle.wh_grammar.specs.Spelled.{MayFollow, follows_none, follows}
-use Rattle.wh_expr_parse.specs.declared.key.Key.TheVariants as k
-use Rattle.wh_expr_parse.specs.State.{tail, sees}
-use Rattle.wh_expr_parse.proofs.Combine.{Yields, yields, nothing, follow, mapped, yields_law, if_eaten_word, then_expect_word, then_expect_key, word-yields, number-yields, name-yields}
+use Rattle.wh_cursor.specs.declared.key.Key.TheVariants as k
+use Rattle.wh_cursor.specs.Steps.{tail, sees}
+use Rattle.wh_cursor.proofs.Yields.{Yields, yields, follow, mapped, yields_law}
+use Rattle.wh_cursor.proofs.Combine.{if_eaten_word, then_expect_word, then_expect_key, word-yields, number-yields, name-yields}
 use Rattle.wh_dml_parse.specs.Follow.{AreNamesAt}
 use Rattle.wh_dml_parse.specs.Laws as dml_laws
-use Rattle.wh_stmt_parse.specs.Parts.{type_of, read_type, read_column, read_columns, retention_by, read_retention, truth_by, read_truth, append_by, read_append, key_by, read_key, direction_by, read_direction, read_sort, read_sorts, order_by, read_order, after_by, read_after, read_end}
-use Rattle.wh_stmt_parse.proofs.Listing.{stand, then_is, given-yields, commas-sound}
-
-pub end-sound : (ts : List Token) → Yields (read_end ts) (λ _ us. (ts ≡ []) × (us ≡ []))
-unfolding read_end
-end-sound [] = yields tt [] (refl, refl)
-end-sound (t ∷ us) = nothing
+use Rattle.wh_stmt_parse.specs.Parts.{type_of, read_type, read_column, read_columns, retention_by, read_retention, truth_by, read_truth, append_by, read_append, key_by, read_key, direction_by, read_direction, read_sort, read_sorts, order_by, read_order, after_by, read_after}
+use Rattle.wh_cursor.proofs.Combine.{given-yields}
+use Rattle.wh_cursor.proofs.ListLemmas.{listed-sound}
+use Rattle.wh_stmt_parse.proofs.Carrying.{stand, then_is}
 
 -- ---- columns
 
@@ -65,8 +63,7 @@ column-sound ts = follow (name-yields ts) (λ name us h. follow (type-sound us) 
 
 pub columns-sound : (ts : List Token) → Yields (read_columns ts) (λ cs us. AreColumns ts cs us)
 unfolding read_columns
-columns-sound ts = mapped (commas-sound read_column IsColumn AreColumns column-sound (λ ts us c h. g.last_column h.1 h.2)
-    (λ ts us vs c cs h l. g.more_columns h.1 h.2 l) (length ts) [] ts) (λ ys us l. subst (λ (cs : List Column). AreColumns ts cs us) (sym l.1) l.2)
+columns-sound = listed-sound read_column IsColumn AreColumns column-sound (λ ts us c h end. g.last_column h.1 h.2) (λ ts us vs c cs h l. g.more_columns h.1 h.2 l)
 
 -- ---- options at the end
 
@@ -128,9 +125,9 @@ AreSortsTo ts sorts us = us ≡ [] → AreSorts ts sorts
 
 sorts-sound : (ts : List Token) → Yields (read_sorts ts) (λ sorts us. AreSortsTo ts sorts us)
 unfolding read_sorts
-sorts-sound ts = mapped (commas-sound read_sort IsSort AreSortsTo sort-sound
-    (λ ts us s h end. g.last_sort h.1 (subst (λ (us : List Token). IsDirection h.0 s.descending us) end h.2))
-    (λ ts us vs s more h l end. g.more_sorts h.1 h.2 (l end)) (length ts) [] ts) (λ ys us l. subst (λ (sorts : List Sort). AreSortsTo ts sorts us) (sym l.1) l.2)
+sorts-sound = listed-sound read_sort IsSort AreSortsTo sort-sound
+    (λ ts us s h last end. g.last_sort h.1 (subst (λ (us : List Token). IsDirection h.0 s.descending us) end h.2))
+    (λ ts us vs s more h l end. g.more_sorts h.1 h.2 (l end))
 
 pub order-sound : (ts : List Token) → Yields (read_order ts) (λ sorts us. us ≡ [] → MayHaveOrder ts sorts)
 unfolding read_order

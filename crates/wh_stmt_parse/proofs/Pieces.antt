@@ -1,9 +1,9 @@
 -- A piece of a text that begins and ends where tokens do is a text.
-use Rattle.std.proofs.Common.{◌≡◌, ℕ, ◌+◌, ◌-◌, ◌<◌, ◌≤◌, true, List, [], ◌∷◌, ◌++◌, length, take, drop, get_or, length-drop, refl, sym, ap, ◌∙◌, subst, append_assoc, arith, length-append, IsUtf8, IsCharBoundary}
+use Rattle.std.proofs.Common.{◌≡◌, ℕ, ◌+◌, ◌-◌, ◌<◌, ◌≤◌, true, List, [], ◌∷◌, ◌++◌, length, take, drop, get_or, refl, sym, ap, ◌∙◌, subst, append_assoc, arith, length-append, IsUtf8, IsCharBoundary}
 use Rattle.std.specs.List.{list_all}
 use Rattle.std.proofs.lemmas.Bool.{and_parts}
 use Rattle.std.proofs.lemmas.Bool.Decides.{nat_tests}
-use Rattle.std.proofs.lemmas.List.{get_or-append-add, length-take}
+use Rattle.std.proofs.lemmas.List.{get_or-append-add}
 use Rattle.std.proofs.lemmas.Str.{IsUtf8-between, IsUtf8-nil}
 use Rattle.wh_grammar.specs.Bytes.{is_blank, is_digit, begins_word}
 use Rattle.wh_grammar.specs.Token.{Token, Sign, LParen, RParen, Comma, Dot, Star, Plus, Minus, Equal, Unequal, Less, AtMost, Greater, AtLeast, Arrow, Placed}
@@ -69,7 +69,7 @@ quotes-begin quote bytes inside rest e small =
     begins quote (inside ++ quote ∷ []) (e ∙ ap (λ (l : List ℕ). quote ∷ l) (sym (append_assoc inside (quote ∷ []) rest))) small
 
 token-begins : (bytes : List ℕ) (t : Token) (rest : List ℕ) → IsToken bytes t rest → Begins bytes rest
-token-begins bytes t rest (lex.word b more e h all stop is) = begins b more e (letter-small b h)
+token-begins bytes t rest (lex.word b more e h all stop made is) = begins b more e (letter-small b h)
 token-begins bytes t rest (lex.number digits e some all small stop is) = number-begins bytes digits rest e some all
 token-begins bytes t rest (lex.text inside e utf8 plain stop is) = quotes-begin 39 bytes (doubled 39 inside) rest e (omega arith)
 token-begins bytes t rest (lex.quoted inside e utf8 some stop is) = quotes-begin 34 bytes (doubled 34 inside) rest e (omega arith)
@@ -147,25 +147,16 @@ ends text n t (u ∷ more) tail h =
 
 -- ---- the piece
 
-pub record IsPiece (text bytes : List ℕ) : Type 0 where
-  pub utf8 : IsUtf8 bytes
-  pub short : length bytes ≤ length text
-
-between-cuts : (text : List ℕ) (from to : ℕ) → IsUtf8 text → Cut text from → Cut text to → to ≤ from → IsPiece text (take (from - to) (drop (length text - from) text))
+between-cuts : (text : List ℕ) (from to : ℕ) → IsUtf8 text → Cut text from → Cut text to → to ≤ from → IsUtf8 (take (from - to) (drop (length text - from) text))
 between-cuts text from to utf8 a b before =
     let a_within = a.within in
     let b_within = b.within in
     let width : (length text - to) - (length text - from) ≡ from - to = omega (arith, a_within, b_within, before) in
-    let few : length (take (from - to) (drop (length text - from) text)) ≤ length text =
-    omega (arith, length-take (from - to) (drop (length text - from) text), length-drop (length text - from) text) in
-    record {
-      utf8 = subst (λ (n : ℕ). IsUtf8 (take n (drop (length text - from) text))) width
-          (IsUtf8-between text (length text - from) (length text - to) utf8 (omega (arith, before)) a.boundary b.boundary);
-      short = few;
-    }
+    subst (λ (n : ℕ). IsUtf8 (take n (drop (length text - from) text))) width
+    (IsUtf8-between text (length text - from) (length text - to) utf8 (omega (arith, before)) a.boundary b.boundary)
 
-pub piece_is : (text : List ℕ) (placed head ts tail : List Placed) → IsUtf8 text → HasTokens text placed → placed ≡ head ++ (ts ++ tail) → IsPiece text (written text ts)
-piece_is text placed head [] tail utf8 h e = record { utf8 = IsUtf8-nil; short = omega arith }
+pub piece_is : (text : List ℕ) (placed head ts tail : List Placed) → IsUtf8 text → HasTokens text placed → placed ≡ head ++ (ts ++ tail) → IsUtf8 (written text ts)
+piece_is text placed head [] tail utf8 h e = IsUtf8-nil
 piece_is text placed head (t ∷ ts) tail utf8 h e =
     let all = subst (Cuts text (length text)) e (cuts-by text [] refl h) in
     let from = behind text (length text) head (t ∷ (ts ++ tail)) all in

@@ -18,11 +18,10 @@ use Rattle.wh_grammar.specs.Parts as parts
 use Rattle.wh_grammar.specs.Parts.{IsLag, AreColumns, AsksForData, asks, MayReplace, no_replace, or_replace, MayRetain, MayAppend, MayHaveOrder}
 use Rattle.wh_grammar.specs.Spelled as g
 use Rattle.wh_grammar.specs.Spelled.{IsPlain, MayEnd, most_nested}
-use Rattle.wh_expr_parse.specs.declared.key.Key.TheVariants as k
-use Rattle.wh_expr_parse.specs.Keys.{same_key, key_of}
-use Rattle.wh_expr_parse.specs.State.{tail, sees}
-use Rattle.wh_expr_parse.specs.Steps.{sees_word}
-use Rattle.wh_expr_parse.proofs.Combine.{sees_word_is, expect_word_reads, equal_reads, lparen_reads, rparen_reads, name_reads, other_word, end_no_word, sees_key_is}
+use Rattle.wh_cursor.specs.declared.key.Key.TheVariants as k
+use Rattle.wh_cursor.specs.Keys.{same_key, key_of}
+use Rattle.wh_cursor.specs.Steps.{tail, sees, sees_word}
+use Rattle.wh_cursor.proofs.Combine.{sees_word_is, expect_word_reads, equal_reads, lparen_reads, rparen_reads, name_reads, other_word, end_no_word, sees_key_is}
 use Rattle.wh_query_parse.specs.Follow.{ends_query}
 use Rattle.wh_stmt_parse.specs.Plain.{read_has_data, read_rows, read_select, read_change, read_table, read_replacement, read_stream, read_alter_task, read_set_lag, read_alter_table, read_alter, read_execute, read_drop, read_begin, read_start, read_ending}
 use Rattle.wh_stmt_parse.specs.Read.{verb_of, object_of, read_create, read_words}

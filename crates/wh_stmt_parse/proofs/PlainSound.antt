@@ -9,18 +9,17 @@ use Rattle.wh_grammar.specs.Parts.{IsLag, AreColumns, AsksForData, MayReplace, n
 use Rattle.wh_grammar.specs.Changing.{IsDml}
 use Rattle.wh_grammar.specs.Spelled as g
 use Rattle.wh_grammar.specs.Spelled.{IsPlain, MayEnd, most_nested}
-use Rattle.wh_expr_parse.specs.declared.key.Key.TheVariants as k
-use Rattle.wh_expr_parse.specs.State.{tail}
-use Rattle.wh_expr_parse.specs.Read.{read_name}
-use Rattle.wh_expr_parse.specs.Steps.{◌>>=◌, and_then, sees_word, eat_word}
-use Rattle.wh_expr_parse.proofs.Combine.{Yields, yields, follow, mapped, yields_law, if_test, if_eaten_word, then_expect_word, then_expect_key, sees_word_some, name-yields}
+use Rattle.wh_cursor.specs.declared.key.Key.TheVariants as k
+use Rattle.wh_cursor.specs.Steps.{tail, read_name, ◌>>=◌, and_then, sees_word, eat_word}
+use Rattle.wh_cursor.proofs.Yields.{Yields, yields, follow, mapped, yields_law, if_test}
+use Rattle.wh_cursor.proofs.Combine.{if_eaten_word, then_expect_word, then_expect_key, sees_word_some, name-yields}
 use Rattle.wh_query_parse.specs.Follow.{IsQueryAt}
 use Rattle.wh_query_parse.specs.Laws as query_laws
 use Rattle.wh_option_parse.specs.Laws as option_laws
 use Rattle.wh_dml_parse.specs.Follow.{IsDmlAt}
 use Rattle.wh_dml_parse.specs.Laws as dml_laws
 use Rattle.wh_stmt_parse.specs.Plain.{asks, read_has_data, read_rows, read_select, read_change, read_table, read_replacement, read_stream, task_by, read_alter_task, read_set_lag, refreshed_by, suspended_by, resumed_by, read_alter_table, alter_by, read_alter, read_execute, named, read_drop, begin_by, read_begin, read_start, read_ending}
-use Rattle.wh_stmt_parse.proofs.Listing.{stand, then_is}
+use Rattle.wh_stmt_parse.proofs.Carrying.{stand, then_is}
 use Rattle.wh_stmt_parse.proofs.PartsSound.{columns-sound, retention-sound, append-sound, order-sound}
 
 -- a statement, where nothing stands behind it

@@ -9,14 +9,14 @@ use Rattle.wh_ast.specs.declared.statement.Statement.TheVariants as st
 use Rattle.wh_grammar.specs.Token.{Token, Word, Placed}
 use Rattle.wh_grammar.specs.Lexing.{HasTokens}
 use Rattle.wh_grammar.specs.Spelled as g
-use Rattle.wh_grammar.specs.Spelled.{IsPlain, IsStatement, Spells, Request, TooLong, Unreadable, Asked, Asks, tokens_of}
+use Rattle.wh_grammar.specs.Spelled.{IsPlain, IsStatement, Spells, Request, TooLong, Unreadable, Asks, tokens_of}
 use Rattle.wh_lex.specs.Read.{read_tokens}
 use Rattle.wh_lex.proofs.ReadLaws.{tokens_read}
-use Rattle.wh_expr_parse.specs.declared.fault.ParseFault.{ParseFault}
-use Rattle.wh_expr_parse.specs.declared.fault.ParseFault.TheVariants as faults
-use Rattle.wh_expr_parse.specs.State.{tail}
-use Rattle.wh_expr_parse.specs.Steps.{sees_word}
-use Rattle.wh_expr_parse.proofs.Combine.{Yields, Is, yields, nothing, follow, mapped, sees_word_some}
+use Rattle.wh_cursor.specs.declared.fault.ParseFault.{ParseFault}
+use Rattle.wh_cursor.specs.declared.fault.ParseFault.TheVariants as faults
+use Rattle.wh_cursor.specs.Steps.{tail, sees_word}
+use Rattle.wh_cursor.proofs.Yields.{Yields, Is, yields, nothing, follow, mapped}
+use Rattle.wh_cursor.proofs.Combine.{sees_word_some}
 use Rattle.wh_stmt_parse.specs.declared.verb.Verb.{Verb}
 use Rattle.wh_stmt_parse.specs.declared.verb.Verb.TheVariants as verb
 use Rattle.wh_stmt_parse.specs.declared.verb.Object.{Object}
@@ -24,12 +24,12 @@ use Rattle.wh_stmt_parse.specs.declared.verb.Object.TheVariants as object
 use Rattle.wh_stmt_parse.specs.Gives.{Gives}
 use Rattle.wh_stmt_parse.specs.Laws as laws
 use Rattle.wh_stmt_parse.specs.Read.{verb_of, object_of, create_by, read_create, by_verb, read_words, read_all, statement_of, of_tokens, read_statement}
-use Rattle.wh_stmt_parse.specs.Parts.{read_end}
+use Rattle.wh_cursor.specs.Steps.{read_end}
 use Rattle.wh_stmt_parse.specs.Request.{request_by, request_of}
 use Rattle.wh_stmt_parse.proofs.KeptComplete.{words-read}
 use Rattle.wh_stmt_parse.proofs.KeptSound.{task-sound, dynamic_table-sound}
-use Rattle.wh_stmt_parse.proofs.Listing.{stand, cons}
-use Rattle.wh_stmt_parse.proofs.PartsSound.{end-sound}
+use Rattle.wh_stmt_parse.proofs.Carrying.{stand, cons}
+use Rattle.wh_cursor.proofs.Combine.{end-yields}
 use Rattle.wh_stmt_parse.proofs.PlainSound.{select-sound, change-sound, table-sound, replacement-sound, stream-sound, alter-sound, execute-sound, drop-sound, begin-sound, start-sound, ending-sound}
 use Rattle.wh_stmt_parse.proofs.Readers.{Readers}
 
@@ -124,7 +124,7 @@ module _ (r : Readers) (text : List ℕ) (placed : List Placed) where
 
   all-sound : (ts : List Token) → tokens_of placed ≡ ts → Yields (read_all text placed ts) (λ s us. IsStatement text placed s)
   unfolding read_all
-  all-sound ts e = follow (words-sound ts e) (λ s us h. follow (end-sound us) (λ _ vs i. yields s vs (h i.0)))
+  all-sound ts e = follow (words-sound ts e) (λ s us h. follow (end-yields us) (λ _ vs i. yields s vs (h i.0)))
 
   of-sound : (o : Option (Statement × List Token)) (s : Statement) → Is (λ s us. IsStatement text placed s) o → option_map (λ p. p.0) o ≡ Some s → IsStatement text placed s
   of-sound None s h e = absurd (cc)
@@ -138,37 +138,30 @@ all-complete : (text : List ℕ) (placed : List Placed) (ts : List Token) (s : S
 unfolding read_all read_end
 all-complete text placed ts s h = rw h refl
 
-statement-complete : Readers → (text : List ℕ) (placed : List Placed) (s : Statement) → IsUtf8 text → length text ≤ 65536 → HasTokens text placed → IsStatement text placed s
+statement-complete : Readers → (text : List ℕ) (placed : List Placed) (s : Statement) → IsUtf8 text → HasTokens text placed → IsStatement text placed s
     → statement_of text placed ≡ Some s
 unfolding statement_of
-statement-complete r text placed s utf8 short tokens h = rw (all-complete text placed (tokens_of placed) s (words-read text placed utf8 short tokens r h)) refl
+statement-complete r text placed s utf8 tokens h = rw (all-complete text placed (tokens_of placed) s (words-read text placed utf8 tokens r h)) refl
 
 -- ---- texts
 
-tokens-sound : Readers → (text : List ℕ) (s : Statement) → IsUtf8 text → length text ≤ 65536 → (o : Option (List Placed)) → read_tokens text ≡ o → of_tokens text o ≡ Some s → Spells text s
-tokens-sound r text s utf8 short None e h = absurd (cc)
-tokens-sound r text s utf8 short (Some placed) e h =
-    record { utf8 = utf8; short = short; placed = placed; tokens = (tokens_read text placed).0 e; is_statement = statement-sound r text placed s h }
-
-not_long : (n : ℕ) → ltb 65536 n ≡ false → n ≤ 65536
-not_long n e = let short = ltb-false 65536 n e in omega (arith, short)
+tokens-sound : Readers → (text : List ℕ) (s : Statement) → IsUtf8 text → (o : Option (List Placed)) → read_tokens text ≡ o → of_tokens text o ≡ Some s → Spells text s
+tokens-sound r text s utf8 None e h = absurd (cc)
+tokens-sound r text s utf8 (Some placed) e h =
+    record { utf8 = utf8; placed = placed; tokens = (tokens_read text placed).0 e; is_statement = statement-sound r text placed s h }
 
 text-sound : Readers → (text : List ℕ) (s : Statement) → read_statement text ≡ Some s → Spells text s
 unfolding read_statement
-text-sound r text s h = by (ltb 65536 (length text)) refl (is_utf8 text) refl h
+text-sound r text s h = by (is_utf8 text) refl h
   where
-    by : (long : Bool) → ltb 65536 (length text) ≡ long → (utf8 : Bool) → is_utf8 text ≡ utf8
-        → (if long then None else if utf8 then of_tokens text (read_tokens text) else None) ≡ Some s → Spells text s
-    by true e utf8 u h = absurd (cc)
-    by false e true u h =
-        let short : length text ≤ 65536 = not_long (length text) e in
-        tokens-sound r text s (IsUtf8-from_is_utf8 text u) short (read_tokens text) refl h
-    by false e false u h = absurd (cc)
+    by : (utf8 : Bool) → is_utf8 text ≡ utf8 → (if utf8 then of_tokens text (read_tokens text) else None) ≡ Some s → Spells text s
+    by true u h = tokens-sound r text s (IsUtf8-from_is_utf8 text u) (read_tokens text) refl h
+    by false u h = absurd (cc)
 
 text-complete : Readers → (text : List ℕ) (s : Statement) → Spells text s → read_statement text ≡ Some s
 unfolding read_statement
 text-complete r text s h =
-    rw (le-ltb 65536 (length text) h.short, is_utf8-from_IsUtf8 text h.utf8, (tokens_read text h.placed).1 h.tokens) (statement-complete r text h.placed s h.utf8 h.short h.tokens h.is_statement)
+    rw (is_utf8-from_IsUtf8 text h.utf8, (tokens_read text h.placed).1 h.tokens) (statement-complete r text h.placed s h.utf8 h.tokens h.is_statement)
 
 pub texts-read : Readers → laws.ReadsTexts
 texts-read r text s = (text-sound r text s, text-complete r text s)
@@ -178,13 +171,16 @@ fixes-statement r text s t h k = same_Some _ _ (sym (text-complete r text s h) �
 
 -- ---- requests
 
+not_long : (n : ℕ) → ltb 65536 n ≡ false → n ≤ 65536
+not_long n e = let short = ltb-false 65536 n e in omega (arith, short)
+
 -- a text that is read as none spells none
 pub none-spelled : Readers → (text : List ℕ) → read_statement text ≡ None → (s : Statement) → Spells text s → ⊥
 none-spelled r text e s h = let k = sym e ∙ text-complete r text s h in cc
 
 short-request : Readers → (text : List ℕ) → length text ≤ 65536 → (o : Option Statement) → read_statement text ≡ o → Asks text (request_by o)
 short-request r text short None e = g.spells_none short (none-spelled r text e)
-short-request r text short (Some s) e = g.spells s (text-sound r text s e)
+short-request r text short (Some s) e = g.spells s short (text-sound r text s e)
 
 request-asked : Readers → (text : List ℕ) → Asks text (request_of text)
 unfolding request_of
@@ -202,7 +198,7 @@ request-is : Readers → (text : List ℕ) (q : Request) → Asks text q → req
 unfolding request_of
 request-is r text _ (g.is_long long) = rw (lt-ltb 65536 (length text) long) refl
 request-is r text _ (g.spells_none short none) = rw (le-ltb 65536 (length text) short) (none-read r text none (read_statement text) refl)
-request-is r text _ (g.spells s h) = rw (le-ltb 65536 (length text) h.short) (ap request_by (text-complete r text s h))
+request-is r text _ (g.spells s short h) = rw (le-ltb 65536 (length text) short) (ap request_by (text-complete r text s h))
 
 pub requests-read : Readers → laws.ReadsRequests
 requests-read r text q = (λ e. subst (Asks text) e (request-asked r text), request-is r text q)

@@ -1,23 +1,18 @@
 -- How statements that keep parts of their text are read: CREATE TASK and CREATE DYNAMIC TABLE.
 --     between, piece     the tokens between two places, and their text
-use Rattle.std.specs.Prelude.{ℕ, ◌-◌, Bool, true, false, ◌&&◌, if◌then◌else◌, List, [], ◌∷◌, Option, Some, None, length, take, drop, nat_le, codes}
-use Rattle.std.specs.Str.{is_utf8}
+use Rattle.std.specs.Prelude.{ℕ, ◌-◌, Bool, true, false, List, [], ◌∷◌, Option, Some, None, length, take, drop, codes}
 use Rattle.wh_ast.specs.declared.statement.Statement.{Statement}
 use Rattle.wh_ast.specs.declared.statement.Statement.TheVariants as st
 use Rattle.wh_ast.specs.declared.statement.When.{When}
 use Rattle.wh_grammar.specs.Token.{Placed}
 use Rattle.wh_grammar.specs.Spelled.{most_nested, written}
-use Rattle.wh_expr_parse.specs.Read.{read_name}
-use Rattle.wh_expr_parse.specs.Steps.{Reader, ◌>>=◌, ◌>>◌, pure, refuse, eat_word, expect_word}
+use Rattle.wh_cursor.specs.Steps.{read_name, Reader, ◌>>=◌, ◌>>◌, pure, refuse, eat_word, expect_word, given}
+use Rattle.wh_lex.specs.Front.{text_of}
 use Rattle.wh_query_parse.specs.Read.{read_query}
 use Rattle.wh_option_parse.specs.Read.{read_condition, read_task_options, read_table_options}
 use Rattle.wh_dml_parse.specs.Read.{read_dml}
 use Rattle.wh_stmt_parse.specs.declared.kept.TaskHead.{TaskHead}
-use Rattle.wh_stmt_parse.specs.Parts.{given, read_after}
-
--- the bytes, where they are a text
-unfoldable pub text_of : List ℕ → Option (List ℕ)
-text_of bytes = if is_utf8 bytes && nat_le (length bytes) 65536 then Some bytes else None
+use Rattle.wh_stmt_parse.specs.Parts.{read_after}
 
 -- from where so many tokens are left to where so many are
 abbrev pub between : List Placed → ℕ → ℕ → List Placed

@@ -1,30 +1,19 @@
 -- How parts of statements are read.
 --     read_type, read_column      a column's type by any of its names, and a column
---     commas                      items with commas between them
 --     read_retention, read_append, read_order     options at the end of a statement
 --     read_key, read_direction, read_sort         sort keys
 --     read_after                  the tasks that a task follows
---     read_end                    nothing, at the end of the tokens
-use Rattle.std.specs.Prelude.{ℕ, zero, suc, Bool, true, false, if◌then◌else◌, List, [], ◌∷◌, ◌++◌, Option, Some, None, length, codes, bytes_eq}
+use Rattle.std.specs.Prelude.{ℕ, Bool, true, false, if◌then◌else◌, List, [], Option, Some, None, codes, bytes_eq}
 use Rattle.wh_value.specs.declared.column.ColumnType.{ColumnType}
 use Rattle.wh_value.specs.declared.column.ColumnType.TheVariants as types
 use Rattle.wh_value.specs.declared.column.Column.{Column}
 use Rattle.wh_ast.specs.declared.query.Sort.{Sort}
 use Rattle.wh_ast.specs.declared.query.Key as sort_key
 use Rattle.wh_ast.specs.declared.query.Key.TheVariants as key
-use Rattle.wh_expr_parse.specs.declared.key.Key.TheVariants as k
-use Rattle.wh_expr_parse.specs.Read.{read_name}
-use Rattle.wh_expr_parse.specs.State.{sees}
-use Rattle.wh_expr_parse.specs.Steps.{Reader, ◌>>=◌, ◌>>◌, pure, refuse, eat_word, eat_key, expect_word, expect_key, read_word, read_number}
+use Rattle.wh_cursor.specs.declared.key.Key.TheVariants as k
+use Rattle.wh_cursor.specs.Steps.{read_name, sees, Reader, ◌>>=◌, ◌>>◌, pure, eat_word, eat_key, expect_word, expect_key, read_word, read_number, given}
+use Rattle.wh_cursor.specs.Lists.{listed}
 use Rattle.wh_dml_parse.specs.Read.{read_names}
-
-abbrev pub given : {A : Type 0} → Option A → Reader A
-given None = refuse
-given (Some x) = pure x
-
-unfoldable pub read_end : Reader (Unit {0})
-read_end [] = Some (tt, [])
-read_end (t ∷ us) = None
 
 -- ---- columns
 
@@ -51,16 +40,8 @@ read_column = do
   type ← read_type
   pure (record { name = name; column_type = type })
 
--- the number bounds how many
-unfoldable pub commas : {A : Type 0} → Reader A → ℕ → List A → Reader (List A)
-commas item zero found = refuse
-commas item (suc n) found = do
-  x ← item
-  more ← eat_key k.Comma
-  if more then commas item n (found ++ x ∷ []) else pure (found ++ x ∷ [])
-
 unfoldable pub read_columns : Reader (List Column)
-read_columns = λ ts. commas read_column (length ts) [] ts
+read_columns = listed read_column
 
 -- ---- options at the end
 
@@ -123,7 +104,7 @@ read_sort = do
   pure (record { key = key; descending = descending })
 
 unfoldable pub read_sorts : Reader (List Sort)
-read_sorts = λ ts. commas read_sort (length ts) [] ts
+read_sorts = listed read_sort
 
 abbrev pub order_by : Bool → Reader (List Sort)
 order_by true = expect_word (codes "BY") >> read_sorts

@@ -2,19 +2,18 @@
 --     verb_of            what the first word begins
 --     statement_of       the statement of placed tokens
 --     read_statement     the statement that a text's bytes spell
-use Rattle.std.specs.Prelude.{ℕ, false, if◌then◌else◌, List, Option, Some, None, option_map, length, nat_lt, codes}
+use Rattle.std.specs.Prelude.{ℕ, false, if◌then◌else◌, List, Option, Some, None, option_map, codes}
 use Rattle.std.specs.Str.{is_utf8}
 use Rattle.wh_ast.specs.declared.statement.Statement.{Statement}
 use Rattle.wh_ast.specs.declared.statement.Statement.TheVariants as st
 use Rattle.wh_grammar.specs.Token.{Token, Placed}
 use Rattle.wh_grammar.specs.Spelled.{tokens_of}
 use Rattle.wh_lex.specs.Read.{read_tokens}
-use Rattle.wh_expr_parse.specs.Steps.{Reader, ◌>>=◌, ◌>>◌, pure, refuse, skip, sees_word}
+use Rattle.wh_cursor.specs.Steps.{Reader, ◌>>=◌, ◌>>◌, pure, refuse, skip, sees_word, read_end}
 use Rattle.wh_stmt_parse.specs.declared.verb.Verb.{Verb}
 use Rattle.wh_stmt_parse.specs.declared.verb.Verb.TheVariants as verb
 use Rattle.wh_stmt_parse.specs.declared.verb.Object.{Object}
 use Rattle.wh_stmt_parse.specs.declared.verb.Object.TheVariants as object
-use Rattle.wh_stmt_parse.specs.Parts.{read_end}
 use Rattle.wh_stmt_parse.specs.Plain.{read_select, read_change, read_table, read_replacement, read_stream, read_alter, read_execute, read_drop, read_begin, read_start, read_ending}
 use Rattle.wh_stmt_parse.specs.Kept.{read_task, read_dynamic_table}
 
@@ -97,6 +96,5 @@ of_tokens text (Some placed) = statement_of text placed
 
 unfoldable pub read_statement : List ℕ → Option Statement
 read_statement text =
-    if nat_lt 65536 (length text) then None
-    else if is_utf8 text then of_tokens text (read_tokens text)
+    if is_utf8 text then of_tokens text (read_tokens text)
     else None

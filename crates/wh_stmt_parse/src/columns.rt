@@ -1,12 +1,12 @@
 //! The columns of a table.
 
 ghost use Rattle.std.specs.Prelude.{◌≡◌};
-ghost use Rattle.wh_expr_parse.specs.Gives.{Reads};
+ghost use Rattle.wh_cursor.specs.Gives.{Reads};
 ghost use Rattle.wh_stmt_parse.specs.Parts as spec;
 
 use sqlite_items::Items;
 use std::alloc::Global;
-use wh_expr_parse::{Key, ParseFault, Words, name};
+use wh_cursor::{ParseFault, Words, listed, name};
 use wh_value::{Column, ColumnType};
 
 /// A type by any of its names.
@@ -41,8 +41,9 @@ fn column_type(alloc: Global, words: &mut Words<'_>) -> Result<ColumnType, Parse
     }
 }
 
+/// To any depth, since nothing stands inside a column.
 #[tactic(auto, unfolding(crate::specs::Parts::read_column))]
-fn column(alloc: Global, words: &mut Words<'_>) -> Result<Column, ParseFault>
+fn column(alloc: Global, words: &mut Words<'_>, _depth: usize) -> Result<Column, ParseFault>
     ensures { Reads (spec.read_column words.old) result words.new }
 {
     let name = name(alloc, words)?;
@@ -51,15 +52,9 @@ fn column(alloc: Global, words: &mut Words<'_>) -> Result<Column, ParseFault>
 }
 
 /// One or more, with commas between them.
+#[tactic(auto, unfolding(crate::specs::Parts::read_columns))]
 pub fn columns(alloc: Global, words: &mut Words<'_>) -> Result<Items<Column>, ParseFault>
     ensures { Reads (spec.read_columns words.old) result words.new }
 {
-    let mut found = Items::new(alloc);
-    for _turn in 0..words.rest().len() {
-        found.push(column(alloc, words)?)?;
-        if !words.eat(Key::Comma) {
-            return Ok(found);
-        }
-    }
-    Err(ParseFault::SyntaxError)
+    listed(alloc, words, 0, &column)
 }

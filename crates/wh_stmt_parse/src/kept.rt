@@ -1,8 +1,9 @@
 //! Statements that keep parts of their text: CREATE TASK and CREATE DYNAMIC TABLE.
 
 ghost use Rattle.std.specs.Prelude.{◌≡◌, ◌-◌, length, take, drop};
-ghost use Rattle.wh_expr_parse.specs.Gives.{Reads};
+ghost use Rattle.wh_cursor.specs.Gives.{Reads};
 ghost use Rattle.wh_grammar.specs.Spelled.{end_of, written};
+ghost use Rattle.wh_lex.specs.Front.{text_of};
 ghost use Rattle.wh_stmt_parse.specs.Gives.{Gives};
 ghost use Rattle.wh_stmt_parse.specs.Kept as spec;
 
@@ -11,8 +12,8 @@ use crate::plain::MOST_NESTED;
 use sqlite_items::Items;
 use std::alloc::Global;
 use wh_ast::{CreateDynamicTable, CreateTask, Statement, When};
+use wh_cursor::{ParseFault, Words, name};
 use wh_dml_parse::dml;
-use wh_expr_parse::{ParseFault, Words, name};
 use wh_lex::Token;
 use wh_option_parse::{condition, table_options, task_options};
 use wh_query_parse::query;
@@ -67,9 +68,9 @@ fn bytes_of<'a>(text: &'a [u8], piece: &[Token]) -> &'a [u8]
     front(behind, from.saturating_sub(end))
 }
 
-#[tactic(auto, unfolding(crate::specs::Kept::text_of))]
+#[tactic(auto, unfolding(wh_lex::specs::Front::text_of))]
 fn text_of(alloc: Global, bytes: &[u8]) -> Result<Text, ParseFault>
-    ensures { Gives result (spec.text_of bytes.now) }
+    ensures { Gives result (text_of bytes.now) }
 {
     match Text::from_bytes(alloc, bytes) {
         Some(made) => Ok(made?),
@@ -91,7 +92,7 @@ fn between(tokens: &[Token], from: usize, to: usize) -> &[Token]
 
 /// The text from where so many tokens are left to where so many are.
 fn piece(alloc: Global, source: Source<'_>, from: usize, to: usize) -> Result<Text, ParseFault>
-    ensures { Gives result (spec.text_of
+    ensures { Gives result (text_of
         (written source.entry.text.now (spec.between source.entry.tokens.now from to))) }
 {
     text_of(

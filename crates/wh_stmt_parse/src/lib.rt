@@ -12,4 +12,4 @@ mod tests;
 mod verb;
 
 pub use parsing::{parse, reading_laws};
-pub use wh_expr_parse::ParseFault;
+pub use wh_cursor::ParseFault;

@@ -1,12 +1,12 @@
 //! What may stand at the end of a statement.
 
-ghost use Rattle.wh_expr_parse.specs.Gives.{Reads};
+ghost use Rattle.wh_cursor.specs.Gives.{Reads};
 ghost use Rattle.wh_stmt_parse.specs.Parts as spec;
 
 use sqlite_items::Items;
 use std::alloc::Global;
+use wh_cursor::{Key, ParseFault, Words};
 use wh_dml_parse::names;
-use wh_expr_parse::{Key, ParseFault, Words};
 use wh_value::Text;
 
 /// `DATA_RETENTION_TIME_IN_DAYS = number`, or nothing.
@@ -54,15 +54,4 @@ pub fn after(alloc: Global, words: &mut Words<'_>) -> Result<Items<Text>, ParseF
         return names(alloc, words);
     }
     Ok(Items::new(alloc))
-}
-
-/// The end of the tokens.
-#[tactic(auto, unfolding(crate::specs::Parts::read_end))]
-pub fn end(words: &Words<'_>) -> Result<(), ParseFault>
-    ensures { Reads (spec.read_end words.now) result words.now }
-{
-    match words.rest() {
-        [] => Ok(()),
-        [_, ..] => Err(ParseFault::SyntaxError),
-    }
 }

@@ -1,17 +1,14 @@
-ghost use Rattle.std.specs.Prelude.{◌≡◌, ◌≤◌, length, Some, None, IfOk, IsErrOf};
-ghost use Rattle.wh_expr_parse.specs.View.{AreShort};
+ghost use Rattle.std.specs.Prelude.{◌≡◌, IfOk, IsErrOf};
 ghost use Rattle.std.specs.Str as strings;
 ghost use Rattle.wh_ast.specs.declared.statement.Statement as ast;
-ghost use Rattle.wh_grammar.specs.Spelled.{Spells, tokens_of};
-ghost use Rattle.wh_expr_parse.specs.Gives.{Reads};
-ghost use Rattle.wh_lex.specs.Read.{read_tokens};
+ghost use Rattle.wh_grammar.specs.Spelled.{Spells};
+ghost use Rattle.wh_cursor.specs.Gives.{Reads};
 ghost use Rattle.wh_stmt_parse.specs.Gives.{Gives};
 ghost use Rattle.wh_stmt_parse.specs.Laws as laws;
 ghost use Rattle.wh_stmt_parse.specs.Read as spec;
 ghost use Rattle.wh_stmt_parse.specs.Read.{read_statement, statement_of};
 
 use crate::kept::{Source, dynamic_table, task};
-use crate::options::end;
 use crate::plain::{
     alter, begin, change, commit, drop, execute, replacement, rollback, select, start, stream,
     table,
@@ -19,11 +16,8 @@ use crate::plain::{
 use crate::verb::{Object, Verb, created_object, first_verb};
 use std::alloc::Global;
 use wh_ast::Statement;
-use wh_expr_parse::{ParseFault, Words};
-use wh_lex::{LexFault, Token, tokens};
-
-/// The longest text of a statement, in bytes.
-const MOST_BYTES: usize = 65536;
+use wh_cursor::{ParseFault, Words, tokens_of_text};
+use wh_lex::Token;
 
 /// Behind CREATE.
 #[tactic(auto, unfolding(crate::specs::Read::read_create))]
@@ -93,12 +87,11 @@ fn all(alloc: Global, source: Source<'_>, words: &mut Words<'_>) -> Result<State
         result words.new }
 {
     let found = front(alloc, source, words)?;
-    end(words)?;
+    words.expect_end()?;
     Ok(found)
 }
 
 fn statement(alloc: Global, text: &[u8], tokens: &[Token]) -> Result<Statement, ParseFault>
-    requires { AreShort tokens.now }
     ensures { Gives result (statement_of text.now tokens.now) }
 {
     let mut words = Words::new(tokens);
@@ -114,27 +107,10 @@ fn is_utf8(text: &[u8]) -> bool
     }
 }
 
-/// The tokens of a text.
-fn tokens_of_text(alloc: Global, text: &[u8]) -> Result<Vec<Token>, ParseFault>
-    requires { length text.now ≤ MOST_BYTES }
-    ensures found { IfOk result (λ ts. (read_tokens text.now ≡ Some ts.items)) }
-    ensures short { IfOk result (λ ts. AreShort ts.items) }
-    ensures none { IsErrOf result ParseFault.SyntaxError → read_tokens text.now ≡ None }
-{
-    match tokens(alloc, text) {
-        Ok(found) => Ok(found),
-        Err(LexFault::SyntaxError) => Err(ParseFault::SyntaxError),
-        Err(LexFault::OutOfMemory) => Err(ParseFault::OutOfMemory),
-    }
-}
-
 #[tactic(auto, unfolding(crate::specs::Read::read_statement))]
 fn read(alloc: Global, text: &[u8]) -> Result<Statement, ParseFault>
     ensures { Gives result (read_statement text.now) }
 {
-    if text.len() > MOST_BYTES {
-        return Err(ParseFault::SyntaxError);
-    }
     if !is_utf8(text) {
         return Err(ParseFault::SyntaxError);
     }

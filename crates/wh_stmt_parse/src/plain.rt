@@ -2,7 +2,7 @@
 
 ghost use Rattle.std.specs.Prelude.{◌≡◌, Some};
 ghost use Rattle.wh_ast.specs.declared.statement.Statement.TheVariants as statements;
-ghost use Rattle.wh_expr_parse.specs.Gives.{Reads};
+ghost use Rattle.wh_cursor.specs.Gives.{Reads};
 ghost use Rattle.wh_stmt_parse.specs.Plain as spec;
 
 use crate::columns::columns;
@@ -10,8 +10,8 @@ use crate::options::{append_only, retention};
 use crate::sorts::order;
 use std::alloc::Global;
 use wh_ast::{CreateTable, Statement};
+use wh_cursor::{Key, ParseFault, Words, name};
 use wh_dml_parse::dml;
-use wh_expr_parse::{Key, ParseFault, Words, name};
 use wh_option_parse::{asked, lag};
 use wh_query_parse::query;
 use wh_value::Text;

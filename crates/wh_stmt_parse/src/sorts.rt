@@ -1,13 +1,13 @@
 //! The order of a query's rows.
 
 ghost use Rattle.std.specs.Prelude.{◌≡◌, Some};
-ghost use Rattle.wh_expr_parse.specs.Gives.{Reads};
+ghost use Rattle.wh_cursor.specs.Gives.{Reads};
 ghost use Rattle.wh_stmt_parse.specs.Parts as spec;
 
 use sqlite_items::Items;
 use std::alloc::Global;
 use wh_ast::Sort;
-use wh_expr_parse::{Key, ParseFault, Words, name};
+use wh_cursor::{Key, ParseFault, Words, listed, name};
 
 /// A column's name, or its number.
 #[tactic(auto, unfolding(crate::specs::Parts::read_key))]
@@ -34,8 +34,9 @@ fn descending(words: &mut Words<'_>) -> bool
     false
 }
 
+/// To any depth, since nothing stands inside a sort key.
 #[tactic(auto, unfolding(crate::specs::Parts::read_sort))]
-fn sort(alloc: Global, words: &mut Words<'_>) -> Result<Sort, ParseFault>
+fn sort(alloc: Global, words: &mut Words<'_>, _depth: usize) -> Result<Sort, ParseFault>
     ensures { Reads (spec.read_sort words.old) result words.new }
 {
     let key = key(alloc, words)?;
@@ -44,17 +45,11 @@ fn sort(alloc: Global, words: &mut Words<'_>) -> Result<Sort, ParseFault>
 }
 
 /// One or more, with commas between them.
+#[tactic(auto, unfolding(crate::specs::Parts::read_sorts))]
 fn sorts(alloc: Global, words: &mut Words<'_>) -> Result<Items<Sort>, ParseFault>
     ensures { Reads (spec.read_sorts words.old) result words.new }
 {
-    let mut found = Items::new(alloc);
-    for _turn in 0..words.rest().len() {
-        found.push(sort(alloc, words)?)?;
-        if !words.eat(Key::Comma) {
-            return Ok(found);
-        }
-    }
-    Err(ParseFault::SyntaxError)
+    listed(alloc, words, 0, &sort)
 }
 
 /// `ORDER BY key {, key}`, or nothing.

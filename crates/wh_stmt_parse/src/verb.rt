@@ -3,7 +3,7 @@
 ghost use Rattle.std.specs.Prelude.{◌≡◌};
 ghost use Rattle.wh_stmt_parse.specs.Read.{verb_of, object_of};
 
-use wh_expr_parse::Words;
+use wh_cursor::Words;
 
 /// The first word of a statement. `Change` is any other than these.
 #[derive(Clone, Copy, Debug, PartialEq, Eq)]

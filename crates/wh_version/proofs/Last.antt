@@ -1,5 +1,5 @@
 -- The last version, by its mark.
-use Rattle.std.proofs.Common.{◌≡◌, ℕ, ◌+◌, ◌-◌, ◌<◌, ◌≤◌, ◌⊎◌, inl, inr, cond, Bool, true, false, List, [], ◌∷◌, length, map, filter, take, get_or, option_map, Option, Some, None, IsTrue, refl, sym, ap, ◌∙◌, arith}
+use Rattle.std.proofs.Common.{◌≡◌, ℕ, ◌+◌, ◌-◌, ◌<◌, ◌≤◌, ◌⊎◌, inl, inr, cond, true, List, [], ◌∷◌, length, map, filter, take, get_or, option_map, Some, IsTrue, refl, sym, ap, ◌∙◌, arith}
 use Rattle.std.proofs.lemmas.Bool.{and_parts, or_cases, leb-true, eqb-true, ne_eqb, le-ltb, lt-ltb}
 use Rattle.std.proofs.lemmas.List.{take_all}
 use Rattle.std.specs.Prelude.{nat_lt, nat_le, nat_eq, ◌||◌}
@@ -16,7 +16,7 @@ last_of-get_or x [] d = refl
 last_of-get_or x (y ∷ ys) d = last_of-get_or y ys d
 
 -- the place is there, so that it doesn't matter what is taken elsewhere
-get_or_any : (m : VersionMark) (marks : List VersionMark) (d : VersionMark) → get_or (m ∷ marks) (length marks) m ≡ get_or (m ∷ marks) (length marks) d
+pub get_or_any : (m : VersionMark) (marks : List VersionMark) (d : VersionMark) → get_or (m ∷ marks) (length marks) m ≡ get_or (m ∷ marks) (length marks) d
 get_or_any m [] d = refl
 get_or_any m (n ∷ marks) d = sym (get_or_any n marks m) ∙ get_or_any n marks d
 

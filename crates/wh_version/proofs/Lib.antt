@@ -1,3 +1,5 @@
 pub mod Last
 pub mod Parted
 pub mod Pushed
+pub mod Popped
+pub mod Found

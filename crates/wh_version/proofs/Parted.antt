@@ -1,9 +1,9 @@
 -- Partitions that are gone from a place on.
-use Rattle.std.proofs.Common.{◌≡◌, ℕ, zero, suc, ◌+◌, ◌<◌, ◌≤◌, ◌⊎◌, inl, inr, cond, Bool, true, false, List, [], ◌∷◌, ◌++◌, length, map, filter, take, set, get_or, IsTrue, refl, sym, ap, ◌∙◌, arith}
+use Rattle.std.proofs.Common.{◌≡◌, ℕ, zero, suc, ◌+◌, ◌<◌, ◌≤◌, ◌⊎◌, inl, inr, cond, Bool, true, false, List, [], ◌∷◌, length, map, filter, take, set, get_or, IsTrue, refl, sym, ap, ◌∙◌, arith}
 use Rattle.std.proofs.lemmas.Bool.{and_parts, and_from, and_right, or_cases, or_left, or_right, cases_lt, eqb-true, eq-eqb, ne_eqb, le-ltb, lt-ltb, leb-true, le-leb}
 use Rattle.std.proofs.lemmas.List.{take-map, length-map}
 use Rattle.std.specs.List.{list_all}
-use Rattle.std.specs.Prelude.{nat_lt, nat_le, nat_eq, min, not, ◌&&◌, ◌||◌, if◌then◌else◌}
+use Rattle.std.specs.Prelude.{nat_lt, nat_le, nat_eq, min, not, ◌&&◌, ◌||◌}
 use Rattle.wh_frame.specs.Partition.{Partition}
 use Rattle.wh_machine.specs.Commit.{without, is_among}
 use Rattle.wh_version.specs.declared.kept.Kept.{Kept}

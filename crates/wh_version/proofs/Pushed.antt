@@ -1,15 +1,14 @@
 -- A version more, over plain lists.
-use Rattle.std.proofs.Common.{◌≡◌, ℕ, ◌+◌, ◌<◌, ◌≤◌, cond, Bool, true, false, List, [], ◌∷◌, ◌++◌, length, map, filter, take, IsTrue, refl, sym, subst, ap, ◌∙◌, arith, length-append, append-nil}
+use Rattle.std.proofs.Common.{◌≡◌, ℕ, ◌+◌, ◌<◌, ◌≤◌, cond, Bool, true, false, List, [], ◌∷◌, ◌++◌, length, map, filter, take, IsTrue, refl, subst, ap, ◌∙◌, arith}
 use Rattle.std.proofs.lemmas.Bool.{and_parts, and_from, or_right, eqb-true, eq-eqb, leb-true, le-leb, lt-ltb}
 use Rattle.std.proofs.lemmas.List.{take-append-le, take_all, length-map}
-use Rattle.std.specs.Prelude.{◌&&◌, nat_lt, nat_le, nat_eq}
+use Rattle.std.specs.Prelude.{nat_lt, nat_le}
 use Rattle.std.specs.List.{list_all}
 use Rattle.wh_frame.specs.Partition.{Partition}
-use Rattle.wh_machine.specs.Stored.{StoredVersion}
 use Rattle.wh_machine.specs.Commit.{NumberedFrom, without}
 use Rattle.wh_version.specs.declared.kept.Kept.{Kept}
 use Rattle.wh_version.specs.declared.mark.VersionMark.{VersionMark}
-use Rattle.wh_version.specs.Kept.{stands_at, standing_at, partitions_in, numbered_from, count_to, is_gone_by, is_standing, fresh, part_one, parted, version_by, versions_by}
+use Rattle.wh_version.specs.Kept.{stands_at, standing_at, partitions_in, numbered_from, count_to, is_gone_by, fresh, parted, version_by, versions_by}
 use Rattle.wh_version.proofs.Parted.{parted_before, parted_there, parted_partitions, length-parted}
 
 -- ---- lists

@@ -30,6 +30,10 @@ abbrev pub parted : ℕ → List ℕ → List Kept → List Kept
 parted place [] kept = kept
 parted place (number ∷ numbers) kept = parted place numbers (map (part_one place number) kept)
 
+-- what was gone from the place on stands again
+abbrev pub stands_again : ℕ → Kept → Kept
+stands_again place k = if nat_eq k.until place then record k { until = 18446744073709551615 } else k
+
 -- ---- versions
 
 -- a version has those of the first partitions, up to its mark, that stand at its place

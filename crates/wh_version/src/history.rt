@@ -2,6 +2,7 @@ ghost use Rattle.std.specs.Prelude.{◌∷◌, length, IsTrue};
 ghost use Rattle.std.specs.List.{list_all};
 ghost use Rattle.wh_version.specs.Kept.{numbered_from, count_to, is_gone_by, partitions_in};
 
+use crate::mark::last_mark;
 use crate::{Kept, VersionMark};
 use std::alloc::Global;
 
@@ -20,12 +21,11 @@ pub struct History {
 }
 
 impl History {
-    ghost use Rattle.std.specs.Prelude.{◌≡◌, ◌+◌, ◌≤◌, ◌<◌, ◌^◌, [], ◌∷◌, ◌++◌, Some, length, map, filter, option_map, OnOk, OnErr};
+    ghost use Rattle.std.specs.Prelude.{◌≡◌, ◌≤◌, ◌^◌, [], ◌∷◌, Some, filter, option_map, nat_eq};
+    ghost use Rattle.std.specs.List.{list_any};
     ghost use Rattle.wh_machine.specs.State.{version_at, last_of};
-    ghost use Rattle.wh_machine.specs.Commit.{NumberedFrom, Stands};
-    ghost use Rattle.wh_version.specs.Lists.{shortened};
-    ghost use Rattle.wh_version.specs.History.{versions_of, nexts_of, standing_in, next_in, pushed_with};
     ghost use Rattle.wh_version.specs.Kept.{is_standing, partitions_in};
+    ghost use Rattle.wh_version.specs.History.{versions_of, nexts_of, standing_in, next_in};
 
     /// One version, with nothing in it. Takes no memory.
     pub fn new(alloc: Global, stamp: u64) -> History
@@ -48,11 +48,7 @@ impl History {
     pub fn last_timestamp(&self) -> u64
         ensures { option_map (λ v. v.data_timestamp) (last_of (versions_of self.now)) ≡ Some result }
     {
-        let later = self.later.len();
-        if later == 0 {
-            return self.first.data_timestamp;
-        }
-        self.later[later - 1].data_timestamp
+        last_mark(self.first, &self.later).data_timestamp
     }
 
     /// The number that the next partition has.
@@ -61,6 +57,18 @@ impl History {
         ensures bounded { result ≤ 2 ^ 63 }
     {
         self.kept.len() as u64 + 1
+    }
+
+    /// Whether the last version has the partition of that number.
+    pub fn stands(&self, number: u64) -> bool
+        ensures { result ≡ list_any (λ p. nat_eq number p.number) (standing_in (versions_of self.now)) }
+    {
+        let number = number as usize;
+        if number == 0 || self.kept.len() < number {
+            return false;
+        }
+        let one = &self.kept[number - 1];
+        one.stands()
     }
 
     /// Each partition of each version, by rising number.

@@ -9,7 +9,7 @@ pub struct Kept {
 
 impl Kept {
     ghost use Rattle.std.specs.Prelude.{◌≡◌};
-    ghost use Rattle.wh_version.specs.Kept.{is_standing};
+    ghost use Rattle.wh_version.specs.Kept.{is_standing, stands_again};
 
     pub fn partition(&self) -> &Partition
         ensures { result.now ≡ self.now.partition }
@@ -22,5 +22,14 @@ impl Kept {
         ensures { result ≡ is_standing self.now }
     {
         self.until == usize::MAX
+    }
+
+    /// If it was gone from the place on, it stands again.
+    pub(crate) fn stand_again(&mut self, place: usize)
+        ensures { self.new ≡ stands_again place self.old }
+    {
+        if self.until == place {
+            self.until = usize::MAX;
+        }
     }
 }

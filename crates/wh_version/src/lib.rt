@@ -4,8 +4,12 @@
 mod history;
 mod kept;
 mod mark;
+mod popping;
 mod pushing;
 
 pub use history::History;
 pub use kept::Kept;
 pub use mark::VersionMark;
+
+#[cfg(test)]
+mod tests;

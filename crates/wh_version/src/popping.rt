@@ -1,6 +1,7 @@
 ghost use Rattle.std.specs.Prelude.{◌≡◌, map};
-ghost use Rattle.wh_version.specs.Kept.{stand_again};
+ghost use Rattle.wh_version.specs.Kept.{stands_again};
 
+use crate::mark::last_mark;
 use crate::{History, Kept};
 
 impl History {
@@ -18,32 +19,18 @@ impl History {
         if place == 0 {
             return;
         }
-        let partitions = self.partitions_before(place);
         self.later.truncate(place - 1);
-        self.kept.truncate(partitions);
+        let mark = last_mark(self.first, &self.later);
+        self.kept.truncate(mark.partitions);
         stand_again(&mut self.kept, place);
-    }
-
-    // How many partitions there were before the version at a place.
-    fn partitions_before(&self, place: usize) -> usize
-        requires some { 0 < place }
-        requires within { place ≤ length self.now.later.items }
-        ensures { result ≡ counted_before (marks_of self.now) place }
-    {
-        if place == 1 {
-            return self.first.partitions;
-        }
-        self.later[place - 2].partitions
     }
 }
 
 // What was gone from the place on stands again.
 fn stand_again(kept: &mut [Kept], place: usize)
-    ensures { kept.new ≡ map (stand_again place) kept.old }
+    ensures { kept.new ≡ map (stands_again place) kept.old }
 {
     for one in kept.iter_mut() {
-        if one.until == place {
-            one.until = usize::MAX;
-        }
+        one.stand_again(place);
     }
 }

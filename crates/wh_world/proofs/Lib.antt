@@ -1,3 +1,4 @@
 mod Kept
 mod Moments
 mod Imaged
+pub mod Cutting

@@ -10,3 +10,4 @@ pub mod Events
 pub mod Logged
 pub mod MemDisk
 pub mod Images
+pub mod Cut

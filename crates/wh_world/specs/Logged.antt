@@ -46,3 +46,9 @@ abbrev pub Tears : Logged → List ℕ → List ℕ → Type 0
 Tears (Wrote at n) old new = Torn at n old new
 Tears (Tore at n) old new = Torn at n old new
 Tears Synced old new = Unit {0}
+
+-- how many bytes a call was to write
+abbrev pub size_of : Logged → ℕ
+size_of (Wrote at n) = n
+size_of (Tore at n) = n
+size_of Synced = 0

@@ -1,7 +1,8 @@
-ghost use Rattle.std.specs.Prelude.{◌≡◌, ◌+◌, ◌≤◌, [], ◌∷◌, None, length, IfOk, OnOk};
-ghost use Rattle.wh_world.specs.Bytes.{written, Torn};
+ghost use Rattle.std.specs.Prelude.{◌≡◌, ◌-◌, ◌≤◌, [], ◌∷◌, None, min, length, IfOk, OnOk};
+ghost use Rattle.wh_world.specs.Bytes.{written, part_at, Torn};
+ghost use Rattle.wh_world.specs.Cut.{image_at, cut_of, fill_of, filled, patched, cut_call};
 ghost use Rattle.wh_world.specs.Events.{content, last_synced, IsImage};
-ghost use Rattle.wh_world.specs.Logged.{events, bytes_written, kept_of, event_of, Tears};
+ghost use Rattle.wh_world.specs.Logged.{events, bytes_written, kept_of, size_of, event_of, Tears};
 
 use crate::logged::Logged;
 use crate::mem_disk::overwrite;
@@ -19,7 +20,8 @@ impl Tear {
     /// The tear of a pick. At 0 there is nothing of these writes; from 2 on the picks go through
     /// the 256 fills and none, for each cut in turn.
     pub fn of(pick: u64) -> Tear
-        ensures { pick ≡ 0 → (result.cut ≡ 0) × (result.fill ≡ None) }
+        ensures none { pick ≡ 0 → (result.cut ≡ 0) × (result.fill ≡ None) }
+        ensures picked { 2 ≤ pick → (result.cut ≡ cut_of pick) × (result.fill ≡ fill_of pick) }
     {
         match pick.checked_sub(2) {
             None => Tear { cut: 0, fill: None },
@@ -43,6 +45,8 @@ pub fn image_of(
     requires { bytes_written log.now ≤ length pieces.now }
     ensures image { IfOk result (λ image.
         IsImage first.now (events [] log.now pieces.now) image.items) }
+    ensures cut { IfOk result (λ image.
+        image.items ≡ image_at first.now (events [] log.now pieces.now) tear.cut tear.fill) }
     ensures synced { tear.cut ≡ 0 → tear.fill ≡ None → IfOk result (λ image.
         image.items ≡ last_synced first.now (events [] log.now pieces.now)) }
 {
@@ -85,9 +89,9 @@ fn replay_torn(
 ) -> Result<(), AllocError>
     requires { length piece.now ≡ kept_of call }
     ensures torn { OnOk result (Tears call image.old.items image.new.items) }
-    ensures bare { cut.old ≡ 0 → fill ≡ None → OnOk result
-        (image.new.items ≡ image.old.items) }
-    ensures cut { cut.new ≤ cut.old }
+    ensures there { OnOk result
+        (image.new.items ≡ cut_call call piece.now image.old.items cut.old fill) }
+    ensures cut { OnOk result (cut.new ≡ cut.old - size_of call) }
 {
     match call {
         Logged::Wrote { at, size } => {
@@ -110,8 +114,8 @@ fn replay_torn(
 
 // Takes a number from the cut, or what there is of it, and gives what it took.
 fn spend(cut: &mut u64, size: u64) -> usize
-    ensures spent { result + cut.new ≡ cut.old }
-    ensures most { result ≤ size }
+    ensures spent { result ≡ min size cut.old }
+    ensures rest { cut.new ≡ cut.old - size }
 {
     let spent = size.min(*cut);
     *cut -= spent;
@@ -120,7 +124,8 @@ fn spend(cut: &mut u64, size: u64) -> usize
 
 // The bytes from a place on, at most so many.
 fn part_of(alloc: Global, bytes: &[u8], at: usize, most: usize) -> Result<Vec<u8>, AllocError>
-    ensures { IfOk result (λ part. length part.items ≤ most) }
+    ensures part { IfOk result (λ part. part.items ≡ part_at at most bytes.now) }
+    ensures most { IfOk result (λ part. length part.items ≤ most) }
 {
     let behind = bytes.get(at..).unwrap_or(&[]);
     Vec::from_slice(alloc, &behind[..most.min(behind.len())])
@@ -130,22 +135,33 @@ fn part_of(alloc: Global, bytes: &[u8], at: usize, most: usize) -> Result<Vec<u8
 fn patch(
     image: &mut Vec<u8>,
     at: usize,
-    mut front: Vec<u8>,
+    front: Vec<u8>,
     size: usize,
     fill: Option<u8>,
 ) -> Result<(), AllocError>
     requires { length front.items ≤ size }
     ensures torn { OnOk result (Torn at size image.old.items image.new.items) }
-    ensures bare { front.items ≡ [] → fill ≡ None → OnOk result
-        (image.new.items ≡ image.old.items) }
+    ensures patched { OnOk result
+        (image.new.items ≡ patched image.old.items at size front.items fill) }
 {
     if at > image.len() {
         return Ok(());
     }
-    if let Some(byte) = fill {
-        front.resize(size, byte)?;
+    let piece = filled(front, size, fill)?;
+    put(image, at, &piece)
+}
+
+// The front of a piece of that size, and the fill in the place of each byte behind it.
+fn filled(mut front: Vec<u8>, size: usize, fill: Option<u8>) -> Result<Vec<u8>, AllocError>
+    requires { length front.items ≤ size }
+    ensures filled { IfOk result (λ piece. piece.items ≡ filled front.items size fill) }
+    ensures most { IfOk result (λ piece. length piece.items ≤ size) }
+{
+    match fill {
+        Some(byte) => front.resize(size, byte)?,
+        None => {}
     }
-    put(image, at, &front)
+    Ok(front)
 }
 
 // Puts a piece at its place, or at the end where that comes first.

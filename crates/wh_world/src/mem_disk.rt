@@ -2,6 +2,7 @@ ghost use Rattle.std.specs.Prelude.{◌≡◌, ◌↔◌, ◌⊎◌, ◌+◌, �
 ghost use Rattle.wh_world.specs.Bytes.{written, part_at, Torn};
 ghost use Rattle.wh_world.specs.Calls.{next, is_due};
 ghost use Rattle.wh_world.specs.Crash.{Follows, NoOthers, Only};
+ghost use Rattle.wh_world.specs.Cut.{picked};
 ghost use Rattle.wh_world.specs.Events.{wrote, tore, synced, content, WasImage};
 ghost use Rattle.wh_world.specs.Images.{is_shown, counts_now, only_now, some_same};
 ghost use Rattle.std.proofs.Common.{subst};
@@ -99,6 +100,7 @@ impl MemDisk {
         ensures image { IfOk result (λ image. images_of self.now image.items) }
         ensures synced { pick ≡ 0 → IfOk result (λ image. image.items ≡ synced_of self.now) }
         ensures shown { pick ≡ 1 → IfOk result (λ image. image.items ≡ content_of self.now) }
+        ensures picked { 2 ≤ pick → IfOk result (λ image. image.items ≡ picked self.now pick) }
     {
         if pick == 1 {
             return Vec::from_slice(alloc, &self.bytes);

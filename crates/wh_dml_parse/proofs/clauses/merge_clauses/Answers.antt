@@ -1,8 +1,10 @@
 use Rattle.std.proofs.Common.{rules, arith}
 use Rattle.std.proofs.lemmas.Grind.{common_steps}
 use Rattle.std.specs.Prelude.{codes}
-use Rattle.wh_dml_parse.specs.Read.{some_from, read_clauses, read_clause, peek_word}
-use Rattle.wh_dml_parse.proofs.Several.{one_more, no_more, one_clause}
+use Rattle.wh_cursor.specs.Lists.{some_from}
+use Rattle.wh_dml_parse.specs.Read.{read_clauses, read_clause, peek_word}
+use Rattle.wh_cursor.proofs.Turns.{one_more, no_more}
+use Rattle.wh_dml_parse.proofs.Several.{one_clause}
 use Rattle.wh_dml_parse.proofs.clauses.merge_clauses.Goals as goal
 
 pub returns-in_err-merge_clause : goal.returns-in_err-merge_clause

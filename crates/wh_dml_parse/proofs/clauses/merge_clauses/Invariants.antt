@@ -1,6 +1,7 @@
 use Rattle.std.proofs.Common.{◌≡◌, ◌-◌, length, []}
 use Rattle.std.specs.Prelude.{codes}
-use Rattle.wh_dml_parse.specs.Read.{some_from, peek_word, read_clause}
+use Rattle.wh_cursor.specs.Lists.{some_from}
+use Rattle.wh_dml_parse.specs.Read.{peek_word, read_clause}
 use Rattle.wh_dml_parse.proofs.clauses.merge_clauses.Given as goal
 
 abbrev pub invariant-loop-turn : goal.invariant-loop-turn

@@ -1,4 +1,4 @@
-use Rattle.wh_expr_parse.proofs.Found as lemmas
+use Rattle.wh_cursor.proofs.Found as lemmas
 use Rattle.wh_dml_parse.specs.Follow.{AreNamesAt}
 use Rattle.wh_dml_parse.proofs.Reading.{names_read}
 use Rattle.wh_dml_parse.proofs.statements.names.Goals as goal

@@ -1,6 +1,6 @@
 use Rattle.std.proofs.Common.{◌≡◌, ap, arith}
 use Rattle.wh_expr_parse.specs.Read.{nested}
-use Rattle.wh_expr_parse.proofs.Turns.{deeper}
+use Rattle.wh_cursor.proofs.Turns.{deeper}
 use Rattle.wh_expr_parse.proofs.grammar.+nested.Goals as goal
 
 pub returns-then-depth-eq0 : goal.returns-then-depth-eq0

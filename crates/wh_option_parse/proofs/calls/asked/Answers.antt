@@ -1,5 +1,5 @@
 use Rattle.wh_grammar.specs.Parts.{AsksForData}
-use Rattle.wh_expr_parse.proofs.Found.{found, none}
+use Rattle.wh_cursor.proofs.Found.{found, none}
 use Rattle.wh_option_parse.specs.Read.{read_asked}
 use Rattle.wh_option_parse.proofs.LagLemmas.{asked_read}
 use Rattle.wh_option_parse.proofs.calls.asked.Goals as goal

@@ -1,5 +1,5 @@
 use Rattle.wh_option_parse.specs.Follow.{IsConditionAt}
-use Rattle.wh_expr_parse.proofs.Found.{found, none}
+use Rattle.wh_cursor.proofs.Found.{found, none}
 use Rattle.wh_option_parse.specs.Read.{read_condition}
 use Rattle.wh_option_parse.proofs.Conditions.{conditions_read}
 use Rattle.wh_option_parse.proofs.calls.condition.Goals as goal

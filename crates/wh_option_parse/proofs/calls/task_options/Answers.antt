@@ -1,5 +1,5 @@
 use Rattle.wh_option_parse.specs.Follow.{AreTaskOptionsAt}
-use Rattle.wh_expr_parse.proofs.Found.{found, none}
+use Rattle.wh_cursor.proofs.Found.{found, none}
 use Rattle.wh_option_parse.specs.Read.{read_task_options}
 use Rattle.wh_option_parse.proofs.TaskLemmas.{task_options_read}
 use Rattle.wh_option_parse.proofs.calls.task_options.Goals as goal

@@ -1,5 +1,5 @@
 use Rattle.std.proofs.Common.{◌≡◌, ap, arith}
-use Rattle.wh_expr_parse.proofs.Turns.{deeper}
+use Rattle.wh_cursor.proofs.Turns.{deeper}
 use Rattle.wh_option_parse.specs.Read.{nested}
 use Rattle.wh_option_parse.proofs.levels.+nested.Goals as goal
 

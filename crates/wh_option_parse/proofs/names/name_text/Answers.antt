@@ -1,7 +1,6 @@
 use Rattle.std.proofs.Common.{◌≡◌, true, false, length, sym, rules, option_map, ℕ, List, [], Err, ap}
-use Rattle.wh_expr_parse.specs.declared.fault.ParseFault.{ParseFault}
-use Rattle.wh_expr_parse.specs.Read.{read_name}
-use Rattle.wh_expr_parse.proofs.ShortNumbers.{tokens_short}
+use Rattle.wh_cursor.specs.declared.fault.ParseFault.{ParseFault}
+use Rattle.wh_cursor.specs.Steps.{read_name}
 use Rattle.wh_option_parse.specs.Alone.{is_alone}
 use Rattle.wh_option_parse.specs.Read.{name_text_of}
 use Rattle.wh_option_parse.proofs.NameTexts.{none_named, part_named, alone_named, name_found, name_none}
@@ -17,11 +16,6 @@ returns-then-not-is_alone-clause-none c failed =
     let part : is_alone (length c.args.text.now) c.in_ok-found.found.items ≡ false = search rules in
     let has = rw c.as_bytes-bytes.ensures.value at c.in_ok-found.ensures.found in
     part_named c.args.text.now c.in_ok-found.found.items has part
-
-pub new-words-requires : goal.new-words-requires
-new-words-requires c =
-    let short = tokens_short _ _ c.in_ok-found.ensures.found in
-    rw c.deref-2.ensures.value short
 
 pub returns-clause-found : goal.returns-clause-found
 returns-clause-found c =

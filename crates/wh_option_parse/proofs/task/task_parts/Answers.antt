@@ -1,6 +1,6 @@
 use Rattle.std.proofs.Common.{rules, arith}
 use Rattle.std.proofs.lemmas.Grind.{common_steps}
-use Rattle.wh_expr_parse.proofs.Turns.{one_more, no_more}
+use Rattle.wh_cursor.proofs.Turns.{one_more, no_more}
 use Rattle.wh_option_parse.specs.Read.{options_from, task_option}
 use Rattle.wh_option_parse.proofs.task.task_parts.Goals as goal
 

@@ -1,4 +1,4 @@
-use Rattle.wh_expr_parse.proofs.Found as lemmas
+use Rattle.wh_cursor.proofs.Found as lemmas
 use Rattle.wh_query_parse.specs.Follow.{IsAliasAt}
 use Rattle.wh_query_parse.proofs.Reading.{aliases_read}
 use Rattle.wh_query_parse.proofs.queries.alias.Goals as goal

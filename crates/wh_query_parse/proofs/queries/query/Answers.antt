@@ -1,4 +1,4 @@
-use Rattle.wh_expr_parse.proofs.Found as lemmas
+use Rattle.wh_cursor.proofs.Found as lemmas
 use Rattle.wh_query_parse.specs.Follow.{IsQueryAt}
 use Rattle.wh_query_parse.proofs.Reading.{queries_read}
 use Rattle.wh_query_parse.proofs.queries.query.Goals as goal

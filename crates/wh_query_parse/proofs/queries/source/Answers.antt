@@ -1,4 +1,4 @@
-use Rattle.wh_expr_parse.proofs.Found as lemmas
+use Rattle.wh_cursor.proofs.Found as lemmas
 use Rattle.wh_query_parse.specs.Follow.{IsSourceAt}
 use Rattle.wh_query_parse.proofs.Reading.{sources_read}
 use Rattle.wh_query_parse.proofs.queries.source.Goals as goal

@@ -1,25 +1,25 @@
 use Rattle.std.proofs.Common.{◌≡◌, ◌≤◌, ◌-◌, ◌^◌, None}
-use Rattle.std.specs.Prelude.{is_some, IsTrue}
-use Rattle.wh_journal.specs.Journal.{end_of}
+use Rattle.std.specs.Prelude.{is_some, IsTrue, option_map}
+use Rattle.wh_journal.specs.Journal.{limit_of}
 use Rattle.wh_text.specs.Script.{consumed_of, fault_of, Counts}
-use Rattle.wh_engine.specs.Warehouse.{state_of}
-use Rattle.wh_shell.specs.Open.{IsOpen}
+use Rattle.wh_catalog.specs.Catalog.{state_of}
+use Rattle.wh_shell.specs.Events.{events}
+use Rattle.wh_shell.specs.Open.{StaysOpen}
 use Rattle.wh_shell.specs.Reading.{unread}
-use Rattle.wh_shell.specs.Room.{KeepsRoom}
+use Rattle.wh_shell.specs.Room.{reach_of, KeepsRoom}
 use Rattle.wh_shell.specs.Serving.{Goes}
 use Rattle.wh_shell.proofs.serving.serve.Given as goal
 
 abbrev pub invariant-turns : goal.invariant-turns
 invariant-turns g l = record {
   goes : Goes g.D.Disk.moment g.D.Disk.left_since (IsTrue (is_some (g.D.Disk.bytes l.fn.warehouse.disk))) l.fn.warehouse.disk l.warehouse.disk
-      (state_of l.fn.warehouse.catalog) (state_of l.warehouse.catalog) (unread l.initial.reader (g.S.Source.left l.fn.script))
+      (state_of l.fn.warehouse.catalog) (state_of l.warehouse.catalog) (option_map events (g.S.Source.left l.fn.script))
       (unread l.reader (g.S.Source.left l.script)) (g.K.Sink.held l.fn.out) (g.K.Sink.held l.out) l.refused;
   few : l.refused ≤ consumed_of l.reader.script;
   fault : fault_of l.reader.script ≡ None;
-  ready : IsOpen l.warehouse;
-  told : is_some (g.D.Disk.bytes l.warehouse.disk) ≡ is_some (g.D.Disk.bytes l.fn.warehouse.disk);
-  room : KeepsRoom (end_of l.fn.warehouse.journal) (end_of l.warehouse.journal) (state_of l.fn.warehouse.catalog) (state_of l.warehouse.catalog)
-      (unread l.initial.reader (g.S.Source.left l.fn.script)) (unread l.reader (g.S.Source.left l.script));
+  ready : StaysOpen l.fn.warehouse l.warehouse;
+  room : KeepsRoom (limit_of l.fn.warehouse.journal) (reach_of l.fn.warehouse) (reach_of l.warehouse)
+      (option_map events (g.S.Source.left l.fn.script)) (unread l.reader (g.S.Source.left l.script));
   counts : Counts l.initial.reader.script l.reader.script (g.S.Source.left l.fn.script) (g.S.Source.left l.script);
   disk_later : g.D.Disk.faults l.fn.warehouse.disk ≤ g.D.Disk.faults l.warehouse.disk;
   script_later : g.S.Source.faults l.fn.script ≤ g.S.Source.faults l.script;

@@ -1,45 +1,52 @@
-use Rattle.std.specs.Prelude.{is_some, IsTrue}
-use Rattle.std.proofs.Common.{refl}
-use Rattle.wh_journal.specs.Journal.{end_of}
-use Rattle.wh_engine.specs.Warehouse.{state_of}
-use Rattle.wh_shell.specs.Events.{event_view}
+use Rattle.std.proofs.Common.{refl, rules}
+use Rattle.wh_machine.specs.Step.{step}
+use Rattle.wh_catalog.specs.Catalog.{state_of}
+use Rattle.wh_engine.specs.Event.{event_of}
+use Rattle.wh_shell.specs.Open.{IsTold}
 use Rattle.wh_shell.specs.Reading.{unread}
-use Rattle.wh_shell.proofs.Progress.{turn_of_event}
-use Rattle.wh_shell.proofs.RoomLemmas.{ends_room}
-use Rattle.wh_shell.proofs.Safety.{still, none_safely, stops_safely}
+use Rattle.wh_shell.specs.Crash.{EndsSafely}
+use Rattle.wh_shell.specs.Serving.{Stops}
+use Rattle.wh_shell.proofs.Progress.{stops_first}
+use Rattle.wh_shell.proofs.Safety.{leaves_open, leaves_same, none_safely, halts_safely}
 use Rattle.wh_shell.proofs.serving.turn.Goals as goal
 
--- the event is the first of what was left
-pub returns-in-Ok-Some-clause-went : goal.returns-in-Ok-Some-clause-went
-returns-in-Ok-Some-clause-went g c =
-    turn_of_event (IsTrue (is_some (g.D.Disk.bytes c.args.warehouse.now.disk))) (g.D.Disk.may_leave c.answer.new.warehouse.disk)
-    (state_of c.args.warehouse.now.catalog) (state_of c.answer.new.warehouse.catalog) (event_view c.in-Ok-Some.event)
-    (unread c.args.reader.now (g.S.Source.left c.args.script.now)) (unread c.next.new.self (g.S.Source.left c.next.new.source))
-    (g.S.Source.left c.next.new.source) (g.K.Sink.held c.args.out.now) (g.K.Sink.held c.answer.new.out) c.answer.result
-    (rw c.in-Ok-Some.field-0-is at c.in-Ok-Some.ensures.turn) c.answer.ensures.answered
-
-pub returns-in-Ok-Some-clause-safe : goal.returns-in-Ok-Some-clause-safe
-returns-in-Ok-Some-clause-safe g c =
-    stops_safely g.D.Disk.moment g.D.Disk.left_since g.D.Disk.may_leave (IsTrue (is_some (g.D.Disk.bytes c.args.warehouse.now.disk)))
-    c.args.warehouse.now.disk c.answer.new.warehouse.disk (state_of c.args.warehouse.now.catalog) (state_of c.answer.new.warehouse.catalog)
-    (event_view c.in-Ok-Some.event)
-    (unread c.args.reader.now (g.S.Source.left c.args.script.now)) (unread c.next.new.self (g.S.Source.left c.next.new.source))
-    (g.K.Sink.held c.args.out.now) (g.K.Sink.held c.answer.new.out) c.answer.result
-    (rw c.in-Ok-Some.field-0-is at c.in-Ok-Some.ensures.turn) c.answer.ensures.any_moment c.answer.ensures.answered
-
-pub returns-in-Ok-None-clause-room : goal.returns-in-Ok-None-clause-room
-returns-in-Ok-None-clause-room g c =
-    ends_room (state_of c.args.warehouse.now.catalog) (end_of c.args.warehouse.now.journal)
-    (unread c.args.reader.now (g.S.Source.left c.args.script.now)) (unread c.next.new.self (g.S.Source.left c.next.new.source))
-    (g.S.Source.left c.next.new.source) (rw c.in-Ok-None.field-0-is at c.in-Ok-None.ensures.turn)
-
 -- no event was read, and the disk is as it was
-pub returns-in-Ok-None-clause-any_moment : goal.returns-in-Ok-None-clause-any_moment
-returns-in-Ok-None-clause-any_moment g c = λ told. still c.args.warehouse.now c.requires.ready told g.met.D.Disk.only_now
+pub returns-in_default-clause-any_moment : goal.returns-in_default-clause-any_moment
+returns-in_default-clause-any_moment g c = leaves_same g.met.D.Disk.only_now c.args.warehouse.now (state_of c.args.warehouse.now.catalog)
 
-pub returns-in-Err-clause-safe : goal.returns-in-Err-clause-safe
-returns-in-Err-clause-safe g c =
-    none_safely g.D.Disk.moment g.D.Disk.left_since g.D.Disk.may_leave g.met.D.Disk.counts_now (IsTrue (is_some (g.D.Disk.bytes c.args.warehouse.now.disk)))
-    c.args.warehouse.now.disk c.args.warehouse.now.disk (state_of c.args.warehouse.now.catalog) (state_of c.args.warehouse.now.catalog)
-    (unread c.args.reader.now (g.S.Source.left c.args.script.now)) (g.K.Sink.held c.args.out.now) (g.K.Sink.held c.args.out.now) refl refl
-    (λ told. still c.args.warehouse.now c.requires.ready told g.met.D.Disk.only_now)
+pub returns-in_err-event-clause-safe : goal.returns-in_err-event-clause-safe
+returns-in_err-event-clause-safe g c =
+    let w = c.args.warehouse.now in
+    let left = unread c.args.reader.now (g.S.Source.left c.args.script.now) in
+    let held = g.K.Sink.held c.args.out.now in
+    let safe : EndsSafely g.D.Disk.moment g.D.Disk.left_since g.D.Disk.may_leave (IsTold w) w.disk w.disk (state_of w.catalog) left held held =
+    none_safely g.D.Disk.moment g.D.Disk.left_since g.D.Disk.may_leave g.met.D.Disk.counts_now (IsTold w) w.disk w.disk
+    (state_of w.catalog) (state_of w.catalog) left held held refl refl
+    (λ told. leaves_open w w (state_of w.catalog) c.requires.ready told (leaves_same g.met.D.Disk.only_now w (state_of w.catalog))) in
+    search rules
+
+-- the event is the first of what was left, and was stopped at
+pub returns-in_err-refusals-clause-stopped : goal.returns-in_err-refusals-clause-stopped
+returns-in_err-refusals-clause-stopped g c =
+    let old = c.args.warehouse.now in
+    let left = unread c.args.reader.now (g.S.Source.left c.args.script.now) in
+    let stops : Stops (state_of old.catalog) left (g.K.Sink.held c.args.out.now) (g.K.Sink.held c.answer.new.out) =
+    stops_first (IsTold old) (g.D.Disk.may_leave c.answer.new.warehouse.disk) (state_of old.catalog) (event_of c.in-Some.event)
+    left (unread c.next.new.self (g.S.Source.left c.next.new.source)) (g.K.Sink.held c.args.out.now) (g.K.Sink.held c.answer.new.out)
+    (rw c.in-Some.is at c.in_ok-event.ensures.turn) c.in_err-refusals.ensures.halts in
+    search rules
+
+pub returns-in_err-refusals-clause-safe : goal.returns-in_err-refusals-clause-safe
+returns-in_err-refusals-clause-safe g c =
+    let old = c.args.warehouse.now in
+    let new = c.answer.new.warehouse in
+    let s = state_of old.catalog in
+    let event = event_of c.in-Some.event in
+    let left = unread c.args.reader.now (g.S.Source.left c.args.script.now) in
+    let safe : EndsSafely g.D.Disk.moment g.D.Disk.left_since g.D.Disk.may_leave (IsTold old) old.disk new.disk s left
+    (g.K.Sink.held c.args.out.now) (g.K.Sink.held c.answer.new.out) =
+    halts_safely g.D.Disk.moment g.D.Disk.left_since g.D.Disk.may_leave (IsTold old) old.disk new.disk s event
+    left (unread c.next.new.self (g.S.Source.left c.next.new.source)) (g.K.Sink.held c.args.out.now) (g.K.Sink.held c.answer.new.out)
+    (rw c.in-Some.is at c.in_ok-event.ensures.turn)
+    (λ told. leaves_open old new (step s event).0 c.requires.ready told c.answer.ensures.any_moment) c.in_err-refusals.ensures.halts in
+    search rules

@@ -1,5 +1,5 @@
 use Rattle.std.proofs.Common.{◌∙◌, Some, ap, sym}
-use Rattle.wh_stmt_parse.proofs.Texts.{text-read, text-none}
+use Rattle.wh_lex.proofs.TextLemmas.{text-read, text-none}
 use Rattle.wh_stmt_parse.proofs.kept.text_of.Goals as goal
 
 pub returns-in_ok-made-in-Some : goal.returns-in_ok-made-in-Some

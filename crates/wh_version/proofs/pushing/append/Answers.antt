@@ -27,9 +27,9 @@ loop-partition-preserved c =
     let gone = c.in-Some.ensures.steps.1 in
     let count = ap length steps in (
       ap (λ ks. ks ++ map fresh rest) c.push_reserved.ensures.items
-      ∙ append_assoc at.kept.items (fresh p ∷ []) (map fresh rest)
-      ∙ ap (λ ps. at.kept.items ++ map fresh ps) (sym steps)
-      ∙ at.invariant.0,
+          ∙ append_assoc at.kept.items (fresh p ∷ []) (map fresh rest)
+          ∙ ap (λ ps. at.kept.items ++ map fresh ps) (sym steps)
+          ∙ at.invariant.0,
       omega arith,
       omega (arith, c.push_reserved.ensures.len, c.push_reserved.ensures.capacity),
     )

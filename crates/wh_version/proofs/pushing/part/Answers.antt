@@ -19,7 +19,7 @@ loop-number-preserved c =
     let before = at.invariant in
     let step = c.part_one.ensures in (
       ap (parted c.args.place (drop (at.number-index + 1) removed)) step.parted
-      ∙ sym (ap (λ l. parted c.args.place l at.kept.items) left) ∙ before.0,
+          ∙ sym (ap (λ l. parted c.args.place l at.kept.items) left) ∙ before.0,
       ap partitions_in step.parted ∙ one_partitions c.args.place number at.kept.items ∙ before.1,
       step.length ∙ before.2,
       step.capacity ∙ before.3,

@@ -9,8 +9,8 @@ returns-then-number-eq0-clause-parted c =
     let kept = c.args.kept.now in
     let sized = kept.ok.0 in
     elim c.then-number-eq0.branch [
-      then-number-eq0-via-then-number-eq0 w ↦ sym (not_there c.args.place 1 c.args.number kept.items c.requires (inl (omega arith)))
-    | then-number-eq0-via-else-number-eq0+then-len-number w ↦ sym (not_there c.args.place 1 c.args.number kept.items c.requires (inr (omega (arith, w.len.ensures))))
+      | then-number-eq0-via-then-number-eq0 w ↦ sym (not_there c.args.place 1 c.args.number kept.items c.requires (inl (omega arith)))
+      | then-number-eq0-via-else-number-eq0+then-len-number w ↦ sym (not_there c.args.place 1 c.args.number kept.items c.requires (inr (omega (arith, w.len.ensures))))
     ]
 
 pub returns-clause-parted : goal.returns-clause-parted

@@ -1,7 +1,7 @@
 use Rattle.std.proofs.Common.{rules, arith}
 use Rattle.std.proofs.lemmas.Grind.{common_steps}
 use Rattle.wh_expr_parse.specs.Read.{nested, conjunction, negation, turns}
-use Rattle.wh_expr_parse.proofs.Turns.{one_more, no_more}
+use Rattle.wh_cursor.proofs.Turns.{one_more, no_more}
 use Rattle.wh_expr_parse.proofs.grammar.Grammar.conjunction.Goals as goal
 
 pub loop-turn-init : goal.loop-turn-init

@@ -1,7 +1,7 @@
 use Rattle.std.proofs.Common.{rules, arith}
 use Rattle.std.specs.Prelude.{codes}
 use Rattle.std.proofs.lemmas.Grind.{common_steps}
-use Rattle.wh_expr_parse.proofs.Turns.{one_more, no_more}
+use Rattle.wh_cursor.proofs.Turns.{one_more, no_more}
 use Rattle.wh_option_parse.specs.Read.{nested, whole, conjunction, turns, either}
 use Rattle.wh_option_parse.proofs.levels.Rules.whole.Goals as goal
 

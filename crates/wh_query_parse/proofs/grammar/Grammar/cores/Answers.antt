@@ -2,7 +2,7 @@ use Rattle.std.proofs.Common.{rules, arith}
 use Rattle.std.proofs.lemmas.Grind.{common_steps}
 use Rattle.wh_query_parse.specs.Read.{nested, cores_from}
 use Rattle.wh_query_parse.proofs.Counting.{one_core}
-use Rattle.wh_query_parse.proofs.Turns.{one_more, no_more}
+use Rattle.wh_cursor.proofs.Turns.{one_more, no_more}
 use Rattle.wh_query_parse.proofs.grammar.Grammar.cores.Goals as goal
 
 pub returns-in_err-core : goal.returns-in_err-core

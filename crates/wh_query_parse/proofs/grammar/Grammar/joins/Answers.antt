@@ -2,7 +2,7 @@ use Rattle.std.proofs.Common.{rules, arith}
 use Rattle.std.proofs.lemmas.Grind.{common_steps}
 use Rattle.wh_query_parse.specs.Read.{nested, joins_from}
 use Rattle.wh_query_parse.proofs.Counting.{one_join}
-use Rattle.wh_query_parse.proofs.Turns.{one_more, no_more}
+use Rattle.wh_cursor.proofs.Turns.{one_more, no_more}
 use Rattle.wh_query_parse.proofs.grammar.Grammar.joins.Goals as goal
 
 pub returns-then-not-sees_join : goal.returns-then-not-sees_join

@@ -1,0 +1,83 @@
+use Rattle.std.proofs.Common.{◌≡◌, ◌≤◌, ◌+◌, ◌∙◌, ◌++◌, ◌∷◌, [], ap, sym, subst, List, length, map, IsTrue, arith}
+use Rattle.std.specs.List.{list_all}
+use Rattle.std.specs.Prelude.{not}
+use Rattle.wh_frame.specs.Partition.{Partition}
+use Rattle.wh_value.specs.View.{column_of}
+use Rattle.wh_machine.specs.State.{content_in}
+use Rattle.wh_machine.specs.Stored.{StoredVersion}
+use Rattle.wh_machine.specs.Commit.{without, is_among}
+use Rattle.wh_version.specs.Lists.{shortened}
+use Rattle.wh_version.specs.History.{versions_of, nexts_of, standing_in, next_in, pushed_with}
+use Rattle.wh_catalog.specs.Table.{kept_table}
+use Rattle.wh_catalog.specs.Apart.{is_apart, highest_number}
+use Rattle.wh_catalog.proofs.Apart.{changed_apart, highest_number-append, highest_filter}
+use Rattle.wh_catalog.proofs.Pushed.{shortened-push, last_of-push, next_in-push, all_apart-push, last_apart}
+use Rattle.wh_catalog.proofs.table.StoredTable.add_version.Goals as goal
+
+pub invariant_of-self : goal.invariant_of-self
+unfolding kept_table
+invariant_of-self c =
+    let t = c.args.self.now in
+    let P : List StoredVersion → Type 0 = λ vs. IsTrue (list_all is_apart vs) in
+    let same = sym c.in_err-push.ensures.same in
+    record {
+      few_columns = t.few_columns;
+      row_numbers = t.row_numbers;
+      highest_row = subst (λ vs. highest_number (standing_in vs) ≤ t.highest) same t.highest_row;
+      apart = subst P same t.apart;
+    }
+
+pub invariant_of-self-2 : goal.invariant_of-self-2
+unfolding kept_table
+invariant_of-self-2 c =
+    let t = c.args.self.now in
+    let versions = versions_of t.history in
+    let removed = c.args.change.removed.items in
+    let added = c.args.change.added.items in
+    let ps : List Partition = standing_in versions in
+    let v : StoredVersion = record { stamp = c.args.stamp; data_timestamp = c.args.change.data_timestamp; content = without removed ps ++ added } in
+    let now : versions_of c.push.new.self ≡ versions ++ v ∷ [] = c.in_ok-push.ensures.versions ∙ ap (λ l. pushed_with versions c.args.stamp c.args.change.data_timestamp l added) c.deref-2.ensures.value in
+    let P : List StoredVersion → Type 0 = λ vs. IsTrue (list_all is_apart vs) in
+    let last : standing_in (versions ++ v ∷ []) ≡ without removed ps ++ added = ap (content_in []) (last_of-push versions v) in
+    let size = ap highest_number (ap standing_in now ∙ last) ∙ highest_number-append (without removed ps) added in
+    let fewer = highest_filter (λ p. not (is_among p.number removed)) ps in
+    let before = t.highest_row in
+    record {
+      few_columns = t.few_columns;
+      row_numbers = c.requires.next_row;
+      highest_row = omega (arith, size, fewer, before, c.highest_of-highest.ensures, ap highest_number c.deref.ensures.value);
+      apart = subst P (sym now) (all_apart-push versions v t.apart (changed_apart removed ps added (last_apart versions t.apart) c.requires.apart));
+    }
+
+pub returns-clause-pushed : goal.returns-clause-pushed
+unfolding kept_table
+returns-clause-pushed c =
+    let t = c.args.self.now in
+    let versions = versions_of t.history in
+    let removed = c.args.change.removed.items in
+    let added = c.args.change.added.items in
+    let now : versions_of c.push.new.self ≡ pushed_with versions c.args.stamp c.args.change.data_timestamp removed added =
+    c.in_ok-push.ensures.versions ∙ ap (λ l. pushed_with versions c.args.stamp c.args.change.data_timestamp l added) c.deref-2.ensures.value in
+    let next : next_in (nexts_of c.push.new.self) ≡ next_in (nexts_of t.history) + length added =
+    ap next_in c.in_ok-push.ensures.nexts ∙ next_in-push (nexts_of t.history) _ in
+    λ i. record {
+      columns = map column_of t.columns.items;
+      retention = t.retention;
+      next_row = c.args.change.next_row;
+      next_partition = next i;
+      versions = now i;
+    }
+
+pub returns-clause-back : goal.returns-clause-back
+unfolding kept_table versions_of nexts_of
+returns-clause-back c =
+    let t = c.args.self.now in
+    let versions = ap shortened c.in_ok-push.ensures.versions ∙ shortened-push _ _ _ in
+    let nexts = ap shortened c.in_ok-push.ensures.nexts ∙ shortened-push _ _ _ in
+    λ i. record {
+      columns = map column_of t.columns.items;
+      retention = t.retention;
+      next_row = t.next_row;
+      versions = versions i;
+      nexts = nexts i;
+    }

@@ -1,0 +1,127 @@
+use crate::undo::{Pushed, Step};
+use crate::{Catalog, StageFault, StoredObject};
+use wh_record::{Change, TableChange, VersionChange};
+
+impl Catalog {
+    ghost use Rattle.std.specs.Prelude.{◌≡◌, OnOk, OnErr, IfOk, IsErrOf};
+    ghost use Rattle.wh_machine.specs.Commit.{ChangeApplies, TableApplies, changed, CreatesTable};
+    ghost use Rattle.wh_record.specs.View.{change_of, table_change_of};
+    ghost use Rattle.wh_catalog.specs.Catalog.{objects_of, kept_of};
+    ghost use Rattle.wh_catalog.specs.Undo.{step_undone};
+
+    /// Carries out a change, if it applies.
+    pub(crate) fn carry_out(&mut self, change: Change, stamp: u64) -> Result<Step, StageFault>
+        ensures applies { OnOk result (ChangeApplies (objects_of self.old) (change_of change)) }
+        ensures changed { OnOk result (objects_of self.new
+            ≡ changed stamp (objects_of self.old) (change_of change)) }
+        ensures back { IfOk result (λ step. step_undone step (kept_of self.new) ≡ kept_of self.old) }
+        ensures not_applicable { IsErrOf result StageFault.NotApplicable
+            → ChangeApplies (objects_of self.old) (change_of change) → ⊥ }
+        ensures same { OnErr result (kept_of self.new ≡ kept_of self.old) }
+        ensures last { self.new.last ≡ self.old.last }
+        ensures committed { self.new.committed ≡ self.old.committed }
+    {
+        match change {
+            Change::CreatesTable(change) => self.create_table(change, stamp),
+            Change::PushesVersion(change) => push_version(&mut self.objects, change, stamp),
+        }
+    }
+
+    fn create_table(&mut self, change: TableChange, stamp: u64) -> Result<Step, StageFault>
+        ensures applies { OnOk result (TableApplies (objects_of self.old) (table_change_of change)) }
+        ensures changed { OnOk result (objects_of self.new
+            ≡ changed stamp (objects_of self.old) (CreatesTable (table_change_of change))) }
+        ensures back { IfOk result (λ step. step_undone step (kept_of self.new) ≡ kept_of self.old) }
+        ensures not_applicable { IsErrOf result StageFault.NotApplicable
+            → TableApplies (objects_of self.old) (table_change_of change) → ⊥ }
+        ensures same { OnErr result (kept_of self.new ≡ kept_of self.old) }
+        ensures last { self.new.last ≡ self.old.last }
+        ensures committed { self.new.committed ≡ self.old.committed }
+    {
+        if !self.table_applies(&change) {
+            return Err(StageFault::NotApplicable);
+        }
+        match self.objects.reserve(1) {
+            Ok(()) => {
+                let object = StoredObject::table_of_change(self.alloc, change, stamp);
+                self.objects.push_reserved(object);
+                Ok(Step::MadeObject)
+            }
+            Err(_) => Err(StageFault::OutOfMemory),
+        }
+    }
+
+    /// Takes a step back.
+    pub(crate) fn take_back(&mut self, step: Step)
+        ensures back { kept_of self.new ≡ step_undone step (kept_of self.old) }
+        ensures last { self.new.last ≡ self.old.last }
+        ensures committed { self.new.committed ≡ self.old.committed }
+    {
+        match step {
+            Step::MadeObject => {
+                let count = self.objects.len();
+                self.objects.truncate(count.saturating_sub(1));
+            }
+            Step::PushedVersion(pushed) => take_version_back(&mut self.objects, pushed),
+        }
+    }
+}
+
+ghost use Rattle.std.specs.Prelude.{◌≡◌, map, length, count_by, OnOk, OnErr, IfOk, IsErrOf};
+ghost use Rattle.wh_machine.specs.State.{at_id, changed_at};
+ghost use Rattle.wh_machine.specs.Commit.{FitsObject, pushed_object};
+ghost use Rattle.wh_record.specs.View.{version_change_of};
+ghost use Rattle.wh_catalog.specs.Kept.{object_in};
+ghost use Rattle.wh_catalog.specs.Table.{kept_object};
+ghost use Rattle.wh_catalog.specs.Back.{object_taken_back};
+ghost use Rattle.wh_catalog.specs.Undo.{step_undone};
+
+// Adds a version to the table of the change.
+fn push_version(
+    objects: &mut Vec<StoredObject>,
+    change: VersionChange,
+    stamp: u64,
+) -> Result<Step, StageFault>
+    ensures applies { OnOk result (FitsObject
+        (at_id (map object_in (map kept_object objects.old.items)) change.id)
+        (version_change_of change)) }
+    ensures changed { OnOk result (map object_in (map kept_object objects.new.items)
+        ≡ changed_at (map object_in (map kept_object objects.old.items)) change.id
+        (pushed_object stamp (version_change_of change))) }
+    ensures back { IfOk result (λ step. step_undone step (map kept_object objects.new.items)
+        ≡ map kept_object objects.old.items) }
+    ensures not_applicable { IsErrOf result StageFault.NotApplicable
+        → FitsObject (at_id (map object_in (map kept_object objects.old.items)) change.id)
+        (version_change_of change) → ⊥ }
+    ensures same { OnErr result (map kept_object objects.new.items
+        ≡ map kept_object objects.old.items) }
+    ensures count { length objects.new.items ≡ length objects.old.items }
+    ensures live { count_by (λ o. o.is_live) objects.new.items
+        ≡ count_by (λ o. o.is_live) objects.old.items }
+{
+    let id = change.id;
+    let place = id as usize;
+    if place == 0 || objects.len() < place {
+        return Err(StageFault::NotApplicable);
+    }
+    let object = &mut objects[place - 1];
+    match object.push(change, stamp) {
+        Ok(next_row) => Ok(Step::PushedVersion(Pushed { id, next_row })),
+        Err(fault) => Err(fault),
+    }
+}
+
+fn take_version_back(objects: &mut Vec<StoredObject>, pushed: Pushed)
+    ensures back { map kept_object objects.new.items
+        ≡ changed_at (map kept_object objects.old.items) pushed.id (object_taken_back pushed.next_row) }
+    ensures count { length objects.new.items ≡ length objects.old.items }
+    ensures live { count_by (λ o. o.is_live) objects.new.items
+        ≡ count_by (λ o. o.is_live) objects.old.items }
+{
+    let place = pushed.id as usize;
+    if place == 0 || objects.len() < place {
+        return;
+    }
+    let object = &mut objects[place - 1];
+    object.take_back(pushed.next_row);
+}

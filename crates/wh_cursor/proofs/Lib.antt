@@ -1,0 +1,9 @@
+pub mod WordLemmas
+pub mod Turns
+pub mod KeyLemmas
+pub mod Yields
+pub mod Combine
+pub mod ListLemmas
+pub mod Names
+pub mod Fronts
+pub mod Found

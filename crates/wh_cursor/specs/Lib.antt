@@ -1,0 +1,6 @@
+pub mod Keys
+pub mod Binds
+pub mod Steps
+pub mod Lists
+pub mod Gives
+pub mod Laws

@@ -1,9 +1,0 @@
-use Rattle.std.proofs.Common.{◌≡◌, ◌-◌}
-use Rattle.wh_expr_parse.specs.declared.key.Key.TheVariants as k
-use Rattle.wh_expr_parse.specs.Steps.{eat_key}
-use Rattle.wh_expr_parse.specs.Read.{read_expr}
-use Rattle.wh_dml_parse.specs.Read.{listed, some_from}
-use Rattle.wh_dml_parse.proofs.lists.expr_list.Given as goal
-
-abbrev pub invariant-loop-turn : goal.invariant-loop-turn
-invariant-loop-turn l = listed (read_expr l.depth) l.fn.words ≡ some_from (read_expr l.depth) (eat_key k.Comma) (l._turn-end - l._turn) l.found l.words

@@ -1,6 +1,0 @@
-use Rattle.std.proofs.Common.{◌∙◌}
-use Rattle.wh_expr_parse.proofs.WordLemmas.{is_reserved-flipped}
-use Rattle.wh_expr_parse.proofs.reserved.contains.Goals as goal
-
-pub returns : goal.returns
-returns c = c.contains.ensures.value ∙ is_reserved-flipped c.args.word.now

@@ -1,0 +1,3 @@
+pub mod Scalar
+pub mod Bag
+pub mod Query

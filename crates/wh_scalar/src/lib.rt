@@ -1,0 +1,13 @@
+//! Scalars: expressions over a row, bound to its columns, and their value.
+#![tactic(auto)]
+
+mod arithmetic;
+mod eval;
+mod fault;
+mod scalar;
+#[cfg(test)]
+mod tests;
+mod truth;
+
+pub use fault::EvalFault;
+pub use scalar::Scalar;
