@@ -61,7 +61,11 @@ fn decide_text(
         return Ok(Decision::Refuse(Refusal::OverLimit(Limit::Statement)));
     }
     match parse(alloc, text) {
-        Ok(statement) => decide_tree(alloc, catalog, stamp, session, &statement),
+        Ok(statement) => {
+            let decision = decide_tree(alloc, catalog, stamp, session, &statement);
+            drop(statement);
+            decision
+        }
         Err(ParseFault::SyntaxError) => Ok(Decision::Refuse(Refusal::SyntaxError)),
         Err(ParseFault::OutOfMemory) => Err(AllocError),
     }
