@@ -1,7 +1,7 @@
 use Rattle.std.proofs.Common.{Err, ap, ◌∙◌, arith}
 use Rattle.wh_catalog.specs.Catalog.{stored_of}
 use Rattle.wh_journal.proofs.CrashLemmas.{reads_on}
-use Rattle.wh_engine.proofs.FaultLemmas.{same_fault}
+use Rattle.wh_engine.proofs.HaltLemmas.{same_fault}
 use Rattle.wh_engine.proofs.ReplayLemmas.{replayed_more, replayed_all, stray_found}
 use Rattle.wh_engine.proofs.replay.replay.Goals as goal
 
