@@ -3,7 +3,7 @@
 --     is_full          there was no room
 --     append_halts     what the halt then leaves
 --     not_by_disk      the other causes
-use Rattle.std.proofs.Common.{◌≡◌, ℕ, ◌+◌, ◌<◌, ◌≤◌, List, length, Option, Some, None, Result, Ok, Err, refl, sym, ap, subst, ◌∙◌, arith}
+use Rattle.std.proofs.Common.{◌≡◌, ℕ, ◌+◌, ◌<◌, ◌≤◌, List, Option, Some, None, Result, Err, refl, sym, ap, ◌∙◌, arith}
 use Rattle.std.specs.Prelude.{IsTrue, ◌↔◌}
 use Rattle.std.specs.Result.{IsErrOf}
 use Rattle.wh_machine.specs.Commit.{Commit}
@@ -15,10 +15,8 @@ use Rattle.wh_journal.specs.Journal.{IsSame, end_of, limit_of, failed_of, need_o
 use Rattle.wh_journal.specs.declared.journal.Journal.{Journal}
 use Rattle.wh_journal.specs.declared.fault.AppendFault.{AppendFault}
 use Rattle.wh_journal.specs.declared.fault.AppendFault.TheVariants as appends
-use Rattle.wh_catalog.specs.Catalog.{stored_of, state_of}
+use Rattle.wh_catalog.specs.Catalog.{state_of}
 use Rattle.wh_engine.specs.declared.warehouse.Warehouse.{Warehouse}
-use Rattle.wh_engine.specs.declared.fault.Halt.{Halt}
-use Rattle.wh_engine.specs.declared.fault.Halt.TheVariants as halts
 use Rattle.wh_engine.specs.Fault.{halt_of}
 use Rattle.wh_engine.specs.Warehouse.{IsUntouched}
 use Rattle.wh_engine.specs.Halts.{Halted}

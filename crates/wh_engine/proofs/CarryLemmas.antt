@@ -3,7 +3,7 @@
 --     state_passed        the state where a stamp passes
 --     state_reached       the state with a commit
 --     has_room, lacks_room, is_lacking     whether there is room for it
-use Rattle.std.proofs.Common.{◌≡◌, ℕ, ◌+◌, ◌<◌, ◌≤◌, List, length, Option, Some, None, is_some, true, false, inl, inr, refl, sym, ap, subst, ◌∙◌, arith}
+use Rattle.std.proofs.Common.{◌≡◌, ℕ, ◌+◌, ◌<◌, Option, Some, None, is_some, false, inl, inr, sym, ap, ◌∙◌, arith}
 use Rattle.std.specs.Prelude.{IsTrue}
 use Rattle.std.proofs.lemmas.Bool.{cases_lt, lt-ltb, le-ltb, ltb-true}
 use Rattle.wh_machine.specs.State.{State}
@@ -12,11 +12,11 @@ use Rattle.wh_machine.specs.Stored.{Stored, meant}
 use Rattle.wh_machine.specs.Commit.{Commit, applied}
 use Rattle.wh_machine.specs.Written.{is_beyond, record_length}
 use Rattle.wh_world.specs.declared.disk.Disk.{Ghosts}
-use Rattle.wh_journal.specs.Journal.{end_of, limit_of, failed_of}
+use Rattle.wh_journal.specs.Journal.{end_of, failed_of}
 use Rattle.wh_catalog.specs.Catalog.{stored_of, state_of}
 use Rattle.wh_catalog.specs.declared.catalog.Catalog.{Catalog}
 use Rattle.wh_engine.specs.declared.warehouse.Warehouse.{Warehouse}
-use Rattle.wh_engine.specs.Warehouse.{Filed, IsSettled, state_with}
+use Rattle.wh_engine.specs.Warehouse.{state_with}
 use Rattle.wh_engine.specs.Answers.{CarriesOut}
 use Rattle.wh_engine.proofs.CatalogLemmas.{state_is}
 use Rattle.wh_engine.proofs.FileLemmas.{filed_same}

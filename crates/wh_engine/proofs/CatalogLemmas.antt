@@ -4,7 +4,7 @@
 --     table_there, table_missing            the table at an id
 --     written_rows                          the change that rows for it are written as
 --     means_by                              a commit is carried out
-use Rattle.std.proofs.Common.{◌≡◌, ℕ, List, [], ◌∷◌, ◌++◌, length, map, Option, Some, None, option_map, refl, sym, ap, ◌∙◌}
+use Rattle.std.proofs.Common.{◌≡◌, ℕ, List, [], ◌∷◌, ◌++◌, length, map, Option, Some, None, refl, sym, ap, ◌∙◌}
 use Rattle.wh_value.specs.Value.{Row}
 use Rattle.wh_machine.specs.State.{State, Object, at_id, id_of, live_count, at_rest}
 use Rattle.wh_machine.specs.Outcome.{AddsRows}

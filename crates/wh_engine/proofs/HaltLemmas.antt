@@ -11,7 +11,7 @@ use Rattle.wh_journal.specs.Journal.{IsSame, failed_of}
 use Rattle.wh_catalog.specs.Catalog.{stored_of, state_of}
 use Rattle.wh_engine.specs.declared.fault.OpenFault.{OpenFault}
 use Rattle.wh_engine.specs.declared.fault.Halt.{Halt}
-use Rattle.wh_engine.specs.declared.fault.Halt.TheVariants.{OutOfMemory, DiskFault, FileFull, NeedsReopen}
+use Rattle.wh_engine.specs.declared.fault.Halt.TheVariants.{OutOfMemory, NeedsReopen}
 use Rattle.wh_engine.specs.declared.warehouse.Warehouse.{Warehouse}
 use Rattle.wh_engine.specs.Warehouse.{IsUntouched}
 use Rattle.wh_engine.specs.Halts.{Halted}

@@ -6,13 +6,13 @@ use Rattle.std.proofs.Common.{◌≡◌, ℕ, ◌+◌, ◌<◌, ◌≤◌, max, 
 use Rattle.std.proofs.lemmas.Bool.{lt-ltb, le-ltb}
 use Rattle.wh_value.specs.Limit.{bound}
 use Rattle.wh_value.specs.declared.limit.Limit.TheVariants as limits
-use Rattle.wh_reply.specs.Reply.{Refusal, Reply, Refused, OverLimit}
+use Rattle.wh_reply.specs.Reply.{Reply, Refused, OverLimit}
 use Rattle.wh_machine.specs.State.{State}
-use Rattle.wh_machine.specs.Outcome.{Act, Outcome, Refuses, Does, settled, acts_in}
-use Rattle.wh_machine.specs.Step.{Event, reading_of, stamp_of, stamped, has_stamp, outcome_of, decided, step, acts_of}
+use Rattle.wh_machine.specs.Outcome.{Outcome, Refuses, Does, settled, acts_in}
+use Rattle.wh_machine.specs.Step.{Event, reading_of, stamp_of, stamped, has_stamp, outcome_of, decided, step}
 use Rattle.wh_machine.specs.Stored.{Stored, meant}
 use Rattle.wh_machine.specs.Commit.{Change}
-use Rattle.wh_machine.specs.Written.{commit_for, made, kept_after}
+use Rattle.wh_machine.specs.Written.{commit_for, made}
 use Rattle.wh_machine.proofs.StepLaws.{step_at, acts_at, stamp_refused, no_acts, settled_meant}
 use Rattle.wh_engine.specs.declared.decision.Decision.{Decision}
 use Rattle.wh_engine.specs.Decision.{Plan, reply_in, changes_in, plan_of, planned, Decides, commit_at}

@@ -3,10 +3,9 @@
 --     not_added, is_added      the outcome
 --     RowsPass, rows_pass      what rows that pass all tests keep
 --     cut_writable             their partitions can be written
-use Rattle.std.proofs.Common.{◌≡◌, ℕ, suc, ◌+◌, ◌<◌, ◌≤◌, List, [], ◌∷◌, ◌++◌, length, Option, Some, None, Bool, true, false, refl, sym, ap, subst, ◌∙◌, arith}
+use Rattle.std.proofs.Common.{◌≡◌, ℕ, suc, ◌+◌, ◌≤◌, List, [], ◌∷◌, length, Option, Some, None, Bool, true, false, refl, ap}
 use Rattle.std.specs.Prelude.{not, ◌&&◌}
 use Rattle.std.specs.List.{AllByRecursion, list_all, flat_map}
-use Rattle.std.proofs.lemmas.Bool.{cases_lt}
 use Rattle.wh_value.specs.Value.{Row, IsRow}
 use Rattle.wh_value.specs.Column.{Column}
 use Rattle.wh_value.specs.Fits.{fits, row_fits}
@@ -15,7 +14,7 @@ use Rattle.wh_value.specs.declared.limit.Limit.TheVariants as limits
 use Rattle.wh_reply.specs.Reply.{Refusal, TypeMismatch, Inserted}
 use Rattle.wh_frame.specs.Partition.{Partition, numbered, partitions_of, cut}
 use Rattle.wh_machine.specs.State.{Table}
-use Rattle.wh_machine.specs.Outcome.{Outcome, Refuses, AddsRows, commits, refused_if, refused_past, first_of, unless}
+use Rattle.wh_machine.specs.Outcome.{Refuses, AddsRows, commits, refused_if, refused_past, first_of, unless}
 use Rattle.wh_machine.specs.Rows.{rows_refusal, insert_into}
 use Rattle.wh_machine.proofs.CutLaws.{cut_joined}
 use Rattle.wh_record.specs.View.{HasRows}

@@ -2,7 +2,7 @@
 --     decides_as                    the same decision on an outcome that is said otherwise
 --     command_long .. command_carried     a command
 --     carried_none, carried_create, carried_insert, carried_select     a statement
-use Rattle.std.proofs.Common.{◌≡◌, ℕ, List, Option, Some, None, Result, true, false, refl, subst}
+use Rattle.std.proofs.Common.{◌≡◌, ℕ, List, Some, None, Result, true, false, refl, subst}
 use Rattle.std.specs.Result.{IfOk}
 use Rattle.wh_value.specs.Value.{Row}
 use Rattle.wh_value.specs.Column.{Column}

@@ -3,7 +3,7 @@
 --     refusal_stamped          whatever the last stamp is
 --     is_refused, is_created   the outcome
 --     within_limits            what a table that passes all tests keeps
-use Rattle.std.proofs.Common.{◌≡◌, ℕ, ◌+◌, ◌<◌, ◌≤◌, List, [], ◌∷◌, length, Option, Some, None, option_map, is_some, true, false, Bool, inl, inr, refl, sym, ap, ◌∙◌, arith}
+use Rattle.std.proofs.Common.{◌≡◌, ℕ, ◌+◌, ◌≤◌, List, [], ◌∷◌, length, Option, Some, None, option_map, is_some, true, inl, inr, refl, ap, ◌∙◌}
 use Rattle.std.specs.Prelude.{nat_lt}
 use Rattle.std.specs.List.{list_any}
 use Rattle.std.proofs.lemmas.Bool.{cases_lt, lt-ltb}
@@ -13,7 +13,7 @@ use Rattle.wh_value.specs.declared.limit.Limit.{Limit}
 use Rattle.wh_value.specs.declared.limit.Limit.TheVariants as limits
 use Rattle.wh_reply.specs.Reply.{Refusal, NameTaken, OverLimit, CreatedTable}
 use Rattle.wh_machine.specs.State.{State, id_of, live_count}
-use Rattle.wh_machine.specs.Outcome.{Outcome, Refuses, MakesTable, commits, refused_if, refused_past, first_of, unless}
+use Rattle.wh_machine.specs.Outcome.{Refuses, MakesTable, commits, refused_if, refused_past, first_of, unless}
 use Rattle.wh_machine.specs.Tables.{names_of, taken_name, is_long, table_refusal, create_table}
 use Rattle.wh_machine.specs.Step.{stamped}
 

@@ -1,7 +1,7 @@
 -- What a call that goes well makes of a warehouse.
 --     CarriesOut     a commit is added, where there is one, and the state is that
 --     Answered       an event is carried out, and that is its reply
-use Rattle.std.specs.Prelude.{◌≡◌, ◌+◌, Option, Some, None, is_some, false}
+use Rattle.std.specs.Prelude.{◌≡◌, ◌+◌, Option, None, is_some, false}
 use Rattle.wh_machine.specs.State.{State}
 use Rattle.wh_machine.specs.Step.{Event, step}
 use Rattle.wh_machine.specs.Commit.{Commit}

@@ -23,11 +23,7 @@ impl<D: Disk> Warehouse<D> {
 
     /// Carries out one event, and gives its reply. A halt leaves the state as it was; after a fault
     /// of a write or a sync the file has to be opened again.
-    pub fn carry_out(
-        &mut self,
-        _rt: &(impl Threads + Sync),
-        event: &Event,
-    ) -> Result<Reply, Halt>
+    pub fn carry_out(&mut self, _rt: &(impl Threads + Sync), event: &Event) -> Result<Reply, Halt>
         ensures answered { IfOk result (λ reply.
             Answered self.old self.new (event_of event.now) (reply_view reply)) }
         ensures halted { IfErr result (λ halt.

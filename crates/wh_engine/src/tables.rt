@@ -48,8 +48,12 @@ pub(crate) fn create_table(
 // A new table of that id.
 fn creation(id: u32, table: NewTable) -> Change
     requires { table.retention ≤ bound limits.Retention }
-    ensures { change_of result ≡ CreatesTable (record { id = id; name = table.name;
-        retention = table.retention; columns = columns_of table }) }
+    ensures { change_of result ≡ CreatesTable (record {
+      id = id;
+      name = table.name;
+      retention = table.retention;
+      columns = columns_of table;
+    }) }
 {
     let NewTable {
         name,
@@ -77,13 +81,15 @@ fn table_refusal(
     let name = &table.name;
     let is_taken = catalog.find(name.as_bytes()).is_some();
     let columns = table.columns.len() as u64;
-    Ok(refused_if(is_taken, Refusal::NameTaken(name.copy(alloc)?))
-        .or(taken_column(alloc, table)?)
-        .or(refused_past(Limit::ObjectIds, catalog.object_count(), 1))
-        .or(refused_past(Limit::Objects, catalog.live_count(), 1))
-        .or(refused_if(has_long_name(table), Refusal::OverLimit(Limit::Name)))
-        .or(refused_past(Limit::Columns, columns, 0))
-        .or(refused_past(Limit::Retention, table.retention, 0)))
+    Ok(
+        refused_if(is_taken, Refusal::NameTaken(name.copy(alloc)?))
+            .or(taken_column(alloc, table)?)
+            .or(refused_past(Limit::ObjectIds, catalog.object_count(), 1))
+            .or(refused_past(Limit::Objects, catalog.live_count(), 1))
+            .or(refused_if(has_long_name(table), Refusal::OverLimit(Limit::Name)))
+            .or(refused_past(Limit::Columns, columns, 0))
+            .or(refused_past(Limit::Retention, table.retention, 0)),
+    )
 }
 
 // Where one of its columns has a name that isn't free.

@@ -191,7 +191,10 @@ fn a_fault_of_a_write_leaves_the_state_and_wants_a_new_opening(
         };
         if matches!(warehouse.carry_out(&rt, &insert), Err(Halt::DiskFault)) {
             faults = faults.saturating_add(1);
-            let next_row = warehouse.catalog.table(1).map_or(0, |table| table.next_row());
+            let next_row = warehouse
+                .catalog
+                .table(1)
+                .map_or(0, |table| table.next_row());
             assert_eq!(rt; next_row, 1, "call {call}: no row was added");
             let again = warehouse.carry_out(&rt, &insert);
             let reopen = matches!(again, Err(Halt::NeedsReopen { faults: 1 }));

@@ -1,4 +1,4 @@
-use Rattle.std.proofs.Common.{◌≡◌, ◌≤◌, ◌++◌, ℕ, List, Some, take}
+use Rattle.std.proofs.Common.{◌≡◌, ◌++◌, ℕ, List, Some, take}
 use Rattle.wh_world.specs.Crash.{NoOthers}
 use Rattle.wh_frame.specs.File.{records_of}
 use Rattle.wh_machine.specs.Stored.{first_stored, Means}

@@ -1,17 +1,16 @@
-use Rattle.std.proofs.Common.{◌≡◌, ℕ, List, [], ◌∷◌, length, map, Option, Some, None, option_map, refl, ap, sym, subst, ◌∙◌, arith}
-use Rattle.wh_value.specs.Value.{Row}
+use Rattle.std.proofs.Common.{◌≡◌, ℕ, List, [], ◌∷◌, length, map, Some, None, option_map, refl, ap, sym, subst, ◌∙◌, arith}
 use Rattle.wh_reply.specs.Reply.{Inserted}
 use Rattle.wh_reply.specs.View.{refusal_view}
 use Rattle.wh_machine.specs.State.{id_of}
 use Rattle.wh_machine.specs.Outcome.{AddsRows}
 use Rattle.wh_machine.specs.Rows.{insert_into, rows_refusal}
 use Rattle.wh_machine.specs.Stored.{table_meant}
-use Rattle.wh_machine.specs.Commit.{Change, PushesVersion}
+use Rattle.wh_machine.specs.Commit.{Change}
 use Rattle.wh_machine.specs.Written.{rows_written}
-use Rattle.wh_record.specs.View.{change_of, version_change_of, IsWritableChange}
+use Rattle.wh_record.specs.View.{change_of, IsWritableChange}
 use Rattle.wh_catalog.specs.Catalog.{stored_of, stored_table_at}
 use Rattle.wh_catalog.specs.Table.{table_of}
-use Rattle.wh_engine.specs.Decision.{Goes, AreWritable}
+use Rattle.wh_engine.specs.Decision.{Goes}
 use Rattle.wh_engine.proofs.CatalogLemmas.{written_rows}
 use Rattle.wh_engine.proofs.OutcomeLemmas.{declines, commits, unknown_name, unknown_table, at_table}
 use Rattle.wh_engine.proofs.RowLemmas.{not_added, is_added}

@@ -1,10 +1,9 @@
-use Rattle.std.proofs.Common.{◌≡◌, ◌≤◌, None, max, refl, sym, ap, subst, ◌∙◌, arith, rules}
+use Rattle.std.proofs.Common.{◌≡◌, ◌≤◌, None, refl, sym, ap, subst, ◌∙◌, arith, rules}
 use Rattle.wh_value.specs.Limit.{bound}
 use Rattle.wh_value.specs.declared.limit.Limit.TheVariants as limits
 use Rattle.wh_reply.specs.Reply.{Reply}
 use Rattle.wh_machine.specs.State.{State}
 use Rattle.wh_machine.specs.Step.{reading_of, stamp_of}
-use Rattle.wh_journal.specs.Journal.{failed_of}
 use Rattle.wh_catalog.specs.Catalog.{stored_of, state_of}
 use Rattle.wh_engine.specs.Event.{event_of}
 use Rattle.wh_engine.specs.Decision.{AreWritable}

@@ -1,5 +1,4 @@
-use Rattle.std.proofs.Common.{◌≡◌, ◌+◌, ℕ, List, Some, Err, refl, ap, sym, subst, ◌∙◌, arith}
-use Rattle.wh_machine.specs.Spelling.{payload_of}
+use Rattle.std.proofs.Common.{Some, Err, refl, ap, sym, subst, ◌∙◌, arith}
 use Rattle.wh_record.specs.View.{commit_of}
 use Rattle.wh_journal.specs.Journal.{IsSame, end_of, limit_of, failed_of, need_of}
 use Rattle.wh_engine.specs.Warehouse.{IsUntouched}

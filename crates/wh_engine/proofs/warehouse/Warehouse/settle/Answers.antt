@@ -1,5 +1,4 @@
-use Rattle.std.proofs.Common.{◌≡◌, None, Option, option_map, refl, ap}
-use Rattle.wh_machine.specs.Commit.{Commit}
+use Rattle.std.proofs.Common.{◌≡◌, None, option_map, refl}
 use Rattle.wh_engine.specs.Decision.{changes_of, commit_at}
 use Rattle.wh_engine.proofs.StopLemmas.{leaves_still}
 use Rattle.wh_engine.proofs.CarryLemmas.{carries_nothing, state_passed}
