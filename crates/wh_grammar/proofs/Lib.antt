@@ -1,3 +1,5 @@
 pub mod KnownTokens
+pub mod KnownRefusals
+pub mod KnownCounts
 pub mod KnownStatements
 pub mod KnownLines

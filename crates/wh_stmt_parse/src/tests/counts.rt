@@ -126,7 +126,16 @@ fn so_many_are_read_and_no_more(rt: HostRuntime) -> Result<(), Fail> {
             15,
             growing("SELECT a FROM t", "", "", " JOIN t ON a", ""),
         ),
-        ("bytes", 65531, growing("BEGIN", "", "", " ", "")),
+        (
+            "bytes of a text",
+            65536,
+            growing("SELECT '", "", "", "a", "' FROM t"),
+        ),
+        (
+            "bytes of a body",
+            65524,
+            growing("CREATE TASK k AS DELETE FROM", "", "", " ", "t"),
+        ),
     ];
     for (name, most, text) in cases {
         let as_many = text.is_spelled(rt.alloc(), most)?;
