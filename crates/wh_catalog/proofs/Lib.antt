@@ -3,7 +3,7 @@ pub mod Objects
 pub mod Apart
 pub mod Conditions
 pub mod NumberedRows
-pub mod Listed
+pub mod TableBag
 pub mod Pushed
 pub mod Columns
 pub mod Standing

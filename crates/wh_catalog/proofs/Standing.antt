@@ -5,8 +5,8 @@ use Rattle.std.proofs.lemmas.List.{take_more}
 use Rattle.wh_frame.specs.Partition.{Partition}
 use Rattle.wh_version.specs.declared.kept.Kept.{Kept}
 use Rattle.wh_version.specs.Kept.{is_standing, partitions_in}
-use Rattle.wh_catalog.specs.Listing.{rows_only, all_rows}
-use Rattle.wh_catalog.proofs.Listed.{rows_more}
+use Rattle.wh_catalog.specs.Rows.{rows_only, all_rows}
+use Rattle.wh_catalog.proofs.TableBag.{rows_more}
 
 standing_append : (xs ys : List Kept) → partitions_in (filter is_standing (xs ++ ys)) ≡ partitions_in (filter is_standing xs) ++ partitions_in (filter is_standing ys)
 standing_append [] ys = refl

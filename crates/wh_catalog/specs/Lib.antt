@@ -1,5 +1,5 @@
 pub mod Apart
-pub mod Listing
+pub mod Rows
 pub mod Conditions
 pub mod Kept
 pub mod Table

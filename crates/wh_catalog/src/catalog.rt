@@ -19,13 +19,14 @@ pub struct Catalog {
 }
 
 impl Catalog {
-    ghost use Rattle.std.specs.Prelude.{◌≡◌, ◌<◌, ◌≤◌, length, option_map, IfSome};
+    ghost use Rattle.std.specs.Prelude.{◌≡◌, ◌<◌, ◌≤◌, length, map, option_map, IfSome};
     ghost use Rattle.std.specs.List.{position};
     ghost use Rattle.wh_value.specs.Limit.{bound};
     ghost use Rattle.wh_value.specs.declared.limit.Limit.TheVariants as limits;
     ghost use Rattle.wh_machine.specs.State.{first_state, id_of, is_named, live_count};
     ghost use Rattle.wh_machine.specs.Stored.{first_stored};
-    ghost use Rattle.wh_catalog.specs.Table.{table_of};
+    ghost use Rattle.wh_catalog.specs.Kept.{object_in};
+    ghost use Rattle.wh_catalog.specs.Table.{table_of, kept_object};
     ghost use Rattle.wh_catalog.specs.Catalog.{objects_of, stored_of, state_of, stored_table_at};
 
     /// No object, and no stamp. Takes no memory.
@@ -75,6 +76,15 @@ impl Catalog {
         ensures within { IfSome result (λ place. place < length self.now.objects.items) }
     {
         self.objects.iter().position(|object| object.has_name(name))
+    }
+
+    /// The objects, each at the place before its id.
+    pub fn objects(&self) -> &[StoredObject]
+        ensures objects { map object_in (map kept_object result.now)
+            ≡ (stored_of self.now).objects }
+        ensures bounded { length result.now ≤ bound limits.ObjectIds }
+    {
+        self.objects.as_slice()
     }
 
     /// How many objects there are.

@@ -22,6 +22,25 @@ impl StoredObject {
     ghost use Rattle.wh_catalog.specs.Kept.{object_in, KeptTableKind};
     ghost use Rattle.wh_catalog.specs.Table.{kept_kind, kept_table, kept_object};
 
+    /// The name that it has, or had.
+    pub fn name(&self) -> &Text
+        ensures { result.now ≡ (kept_object self.now).name }
+    {
+        &self.name
+    }
+
+    pub fn is_live(&self) -> bool
+        ensures { result ≡ (kept_object self.now).is_live }
+    {
+        self.is_live
+    }
+
+    pub fn kind(&self) -> &StoredKind
+        ensures { kept_kind result.now ≡ (kept_object self.now).kind }
+    {
+        &self.kind
+    }
+
     /// Whether it lives under that name.
     pub(crate) fn has_name(&self, name: &[u8]) -> bool
         ensures { result ≡ is_named name.now (object_in (kept_object self.now)) }

@@ -121,13 +121,13 @@ fn pass_on(catalog: &mut Catalog) {
     }
 }
 
-// Whether the table of an id lists these numbers, in its one column.
-fn lists(alloc: Global, catalog: &Catalog, id: u32, numbers: &[i64]) -> Result<bool, Fail> {
+// Whether the table of an id holds these numbers, in its one column.
+fn holds(alloc: Global, catalog: &Catalog, id: u32, numbers: &[i64]) -> Result<bool, Fail> {
     let table = catalog.table(id).ok_or("no table")?;
-    let found = table.listing(alloc)?;
+    let found = table.rows(alloc)?;
     let mut same = found.len() == numbers.len();
     for (found, number) in found.iter().zip(numbers) {
-        same = same && *found == row(alloc, Value::Number(*number))?;
+        same = same && **found == row(alloc, Value::Number(*number))?;
     }
     Ok(same)
 }
@@ -144,7 +144,7 @@ fn one_table(alloc: Global) -> Result<Catalog, Fail> {
 }
 
 #[test]
-fn a_version_is_listed_and_undone(rt: HostRuntime) -> Result<(), Fail> {
+fn a_version_is_held_and_undone(rt: HostRuntime) -> Result<(), Fail> {
     let alloc = rt.alloc();
     let mut catalog = one_table(alloc)?;
     // The last row has a lower number than one that stood, and the first partition goes.
@@ -152,10 +152,10 @@ fn a_version_is_listed_and_undone(rt: HostRuntime) -> Result<(), Fail> {
     let pushed = version(alloc, 15, 1, 13, 10, &[1], added)?;
     let undo = carry_out(&mut catalog, pushed)?;
     pass_on(&mut catalog);
-    assert!(rt; lists(alloc, &catalog, 1, &[3, 5, 11])?, "the new version");
+    assert!(rt; holds(alloc, &catalog, 1, &[5, 11, 3])?, "the new version");
     assert_eq!(rt; catalog.last(), 20);
     catalog.undo(undo);
-    assert!(rt; lists(alloc, &catalog, 1, &[7])?, "the version before");
+    assert!(rt; holds(alloc, &catalog, 1, &[7])?, "the version before");
     assert_eq!(rt; catalog.last(), 12);
     assert_eq!(rt; catalog.find(b"t"), Some(1));
     assert_eq!(rt; catalog.find(b"v"), None);
@@ -188,7 +188,7 @@ fn a_commit_is_carried_out_whole_or_not_at_all(rt: HostRuntime) -> Result<(), Fa
     let second = version(alloc, 14, 2, 14, 2, &[], added)?;
     let filled = both(first, second)?;
     let undo = carry_out(&mut catalog, filled)?;
-    assert!(rt; lists(alloc, &catalog, 2, &[4])?, "the table");
+    assert!(rt; holds(alloc, &catalog, 2, &[4])?, "the table");
     catalog.undo(undo);
     assert_eq!(rt; catalog.object_count(), 1);
     Ok(())
@@ -268,7 +268,7 @@ fn versions_that_do_not_apply_are_refused(rt: HostRuntime) -> Result<(), Fail> {
     // The number of a row that goes may come again.
     let again = version_of_rows(alloc, 1, 12, limit, &[1], &[(2, 5, 8)])?;
     carry_out(&mut catalog, again)?;
-    assert!(rt; lists(alloc, &catalog, 1, &[8])?, "the row that came");
+    assert!(rt; holds(alloc, &catalog, 1, &[8])?, "the row that came");
     Ok(())
 }
 

@@ -1,5 +1,6 @@
 //! One or more with commas between them.
 
+ghost use Rattle.std.specs.Prelude.{◌≡◌, OnErr};
 ghost use Rattle.wh_cursor.specs.Gives.{Reads};
 ghost use Rattle.wh_cursor.specs.Steps.{read_name};
 ghost use Rattle.wh_dml_parse.specs.Read as spec;
@@ -20,9 +21,13 @@ fn one_name(alloc: Global, words: &mut Words<'_>, _depth: usize) -> Result<Text,
 
 #[tactic(auto, unfolding(crate::specs::Read::read_names))]
 pub fn name_list(alloc: Global, words: &mut Words<'_>) -> Result<Items<Text>, ParseFault>
-    ensures { Reads (spec.read_names words.old) result words.new }
+    ensures reads { Reads (spec.read_names words.old) result words.new }
+    ensures kept { OnErr result (words.new ≡ words.old) }
 {
-    listed(alloc, words, 0, &one_name)
+    let mut ahead = Words::new(words.rest());
+    let names = listed(alloc, &mut ahead, 0, &one_name)?;
+    *words = ahead;
+    Ok(names)
 }
 
 /// Rows, each in its parentheses.

@@ -1,4 +1,4 @@
-ghost use Rattle.std.specs.Prelude.{◌≡◌, ℕ, List, IfOk, IsErrOf};
+ghost use Rattle.std.specs.Prelude.{◌≡◌, ℕ, List, IfOk, IsErrOf, OnErr};
 ghost use Rattle.wh_ast.specs.declared.dml.Dml as ast;
 ghost use Rattle.wh_grammar.specs.Token as machine;
 ghost use Rattle.wh_cursor.specs.Gives.{Reads};
@@ -16,10 +16,13 @@ use wh_value::Text;
 
 #[tactic(auto, unfolding(crate::specs::Read::read_dml))]
 fn whole_dml(alloc: Global, words: &mut Words<'_>, depth: usize) -> Result<Dml, ParseFault>
-    ensures { Reads (read_dml depth words.old) result words.new }
+    ensures reads { Reads (read_dml depth words.old) result words.new }
+    ensures kept { OnErr result (words.new ≡ words.old) }
 {
-    let found = change(alloc, words, depth)?;
-    words.expect_end()?;
+    let mut ahead = Words::new(words.rest());
+    let found = change(alloc, &mut ahead, depth)?;
+    ahead.expect_end()?;
+    *words = ahead;
     Ok(found)
 }
 
@@ -30,6 +33,7 @@ pub fn dml(alloc: Global, words: &mut Words<'_>, depth: usize) -> Result<Dml, Pa
     ensures none { IsErrOf result ParseFault.SyntaxError
         → (x : ast.Dml) (us : List machine.Token) → IsDmlAt depth words.old x us → ⊥ }
     ensures reads { Reads (read_dml depth words.old) result words.new }
+    ensures kept { OnErr result (words.new ≡ words.old) }
 {
     whole_dml(alloc, words, depth)
 }
@@ -40,6 +44,7 @@ pub fn names(alloc: Global, words: &mut Words<'_>) -> Result<Items<Text>, ParseF
     ensures none { IsErrOf result ParseFault.SyntaxError
         → (names : List (List ℕ)) (us : List machine.Token) → AreNamesAt words.old names us → ⊥ }
     ensures reads { Reads (read_names words.old) result words.new }
+    ensures kept { OnErr result (words.new ≡ words.old) }
 {
     name_list(alloc, words)
 }

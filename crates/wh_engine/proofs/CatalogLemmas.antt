@@ -1,5 +1,5 @@
 -- A catalog's state, and what its commits say.
---     state_is, rest_of                     the state, but for its last stamp and at rest
+--     state_is, rest_of, objects_are        the state, but for its last stamp and at rest; its objects
 --     found_is, count_is, live_is           objects by names, and how many there are
 --     table_there, table_missing            the table at an id
 --     written_rows                          the change that rows for it are written as
@@ -26,7 +26,7 @@ pub rest_of : (c : Catalog) → at_rest (state_of c) ≡ meant (stored_of c)
 unfolding state_of
 rest_of c = refl
 
-objects_are : (c : Catalog) → (state_of c).objects ≡ map object_meant (stored_of c).objects
+pub objects_are : (c : Catalog) → (state_of c).objects ≡ map object_meant (stored_of c).objects
 objects_are c = ap (λ (s : State). s.objects) (state_is c)
 
 -- ---- objects

@@ -13,6 +13,7 @@ mod RowLemmas
 mod ReplayLemmas
 mod OpenLemmas
 mod LiteralLemmas
-mod FormLemmas
+mod QueryLemmas
+mod ObjectLemmas
 mod RequestLemmas
 mod NameLemmas

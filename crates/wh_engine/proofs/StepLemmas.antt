@@ -8,13 +8,15 @@ use Rattle.wh_value.specs.Value.{Row}
 use Rattle.wh_value.specs.Column.{Column}
 use Rattle.wh_value.specs.declared.limit.Limit.TheVariants as limits
 use Rattle.wh_ast.specs.declared.statement.Statement as tree
+use Rattle.wh_ast.specs.declared.query.Query.{Query}
+use Rattle.wh_ast.specs.declared.query.Sort.{Sort}
 use Rattle.wh_grammar.specs.Spelled.{TooLong, Unreadable, Asked}
 use Rattle.wh_reply.specs.Reply.{OverLimit, SyntaxError, NoSuchSession, Unsupported}
 use Rattle.wh_machine.specs.State.{State}
-use Rattle.wh_machine.specs.Statement.{CreateTable, InsertValues, SelectAll, form_of}
+use Rattle.wh_machine.specs.Statement.{CreateTable, InsertValues, Select, form_of}
 use Rattle.wh_machine.specs.Outcome.{Outcome, Refuses}
 use Rattle.wh_machine.specs.Tables.{create_table}
-use Rattle.wh_machine.specs.Queries.{select_all}
+use Rattle.wh_machine.specs.Queries.{select_rows}
 use Rattle.wh_machine.specs.Rows.{insert_rows}
 use Rattle.wh_machine.specs.Step.{is_session, commanded, carried_out}
 use Rattle.wh_machine.specs.Stored.{Stored}
@@ -61,6 +63,6 @@ pub carried_insert : (s : State) (name : List ℕ) (rows : List Row) → insert_
 unfolding carried_out
 carried_insert s name rows = refl
 
-pub carried_select : (s : State) (name : List ℕ) → select_all s name ≡ carried_out s (Some (SelectAll name))
+pub carried_select : (s : State) (query : Query) (sorts : List Sort) → select_rows s query sorts ≡ carried_out s (Some (Select query sorts))
 unfolding carried_out
-carried_select s name = refl
+carried_select s query sorts = refl

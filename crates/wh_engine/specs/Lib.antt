@@ -7,7 +7,7 @@ pub mod Halts
 pub mod Leaves
 pub mod Built
 pub mod Literals
-pub mod Forms
 pub mod Names
+pub mod Objects
 pub mod Replay
 pub mod Laws

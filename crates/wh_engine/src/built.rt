@@ -1,12 +1,14 @@
+use wh_ast::{Query, Sort};
 use wh_value::{Column, Row, Text};
 
 /// A statement of a form that is carried out so far.
 #[derive(Debug, Drop)]
-pub(crate) enum Built {
+pub(crate) enum Built<'a> {
     CreateTable(NewTable),
     /// The table and the rows.
     InsertValues(Text, Vec<Row>),
-    SelectAll(Text),
+    /// A query and its ORDER BY, as they are written.
+    Select(&'a Query, &'a [Sort]),
 }
 
 #[derive(Debug, Drop)]

@@ -11,7 +11,7 @@ use crate::Event;
 use crate::built::Built;
 use crate::decision::Decision;
 use crate::forms::form;
-use crate::queries::select_all;
+use crate::queries::select;
 use crate::rows::insert_rows;
 use crate::tables::create_table;
 use std::alloc::{AllocError, Global};
@@ -102,15 +102,15 @@ fn decide_built(
     alloc: Global,
     catalog: &Catalog,
     stamp: u64,
-    statement: Built,
+    statement: Built<'_>,
 ) -> Result<Decision, AllocError>
     requires { built.HasValues statement }
     ensures { IfOk result (λ decision. Decides (stored_of catalog.now) stamp decision
-        (carried_out (stamped (state_of catalog.now) stamp) (Some (built.built_view statement)))) }
+        (carried_out (stamped (state_of catalog.now) stamp) (Some (built.built_view statement.entry)))) }
 {
     match statement {
         Built::CreateTable(table) => create_table(alloc, catalog, stamp, table),
         Built::InsertValues(table, rows) => insert_rows(alloc, catalog, stamp, table, rows),
-        Built::SelectAll(table) => select_all(alloc, catalog, stamp, table),
+        Built::Select(query, sorts) => select(alloc, catalog, stamp, query, sorts),
     }
 }

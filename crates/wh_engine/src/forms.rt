@@ -1,102 +1,33 @@
-ghost use Rattle.std.specs.Prelude.{◌≡◌, map, option_map, cond, IfOk, IfSome};
+ghost use Rattle.std.specs.Prelude.{◌≡◌, map, option_map, IfOk, IfSome};
 ghost use Rattle.wh_value.specs.View.{column_of};
-ghost use Rattle.wh_ast.specs.declared.query.Source.{out-Source};
 ghost use Rattle.wh_machine.specs.Statement as machine;
 ghost use Rattle.wh_engine.specs.Built.{built_view, HasValues};
-ghost use Rattle.wh_engine.specs.Forms.{is_star, is_plain};
 
 use crate::built::{Built, NewTable};
 use crate::literals::rows_of;
 use sqlite_items::Items;
 use std::alloc::{AllocError, Global};
-use wh_ast::{Core, CreateTable, Dml, Expr, Item, Query, Rows, Sort, Source, Statement};
+use wh_ast::{CreateTable, Dml, Expr, Rows, Statement};
 use wh_value::{Column, Text};
 
 // How many days back a table can be read where its statement doesn't say.
 const USUAL_RETENTION: u64 = 1;
 
 // The statement in its built form, where it has one.
-pub(crate) fn form(alloc: Global, statement: &Statement) -> Result<Option<Built>, AllocError>
+pub(crate) fn form(alloc: Global, statement: &Statement) -> Result<Option<Built<'_>>, AllocError>
     ensures form { IfOk result (λ found. option_map built_view found
         ≡ machine.form_of statement.now) }
     ensures values { IfOk result (λ found. IfSome found HasValues) }
 {
     match statement {
-        Statement::Select(query, sorts) => select_form(alloc, query, sorts.as_slice()),
+        Statement::Select(query, sorts) => Ok(Some(Built::Select(query, sorts.as_slice()))),
         Statement::Dml(dml) => dml_form(alloc, dml),
         Statement::CreateTable(table) => create_form(alloc, table),
         _ => Ok(None),
     }
 }
 
-// One core without ORDER BY.
-fn select_form(alloc: Global, query: &Query, sorts: &[Sort]) -> Result<Option<Built>, AllocError>
-    ensures form { IfOk result (λ found. option_map built_view found
-        ≡ machine.select_form query.now sorts.now) }
-    ensures values { IfOk result (λ found. IfSome found HasValues) }
-{
-    match sorts {
-        [] => cores_form(alloc, query.cores.as_slice()),
-        _ => Ok(None),
-    }
-}
-
-fn cores_form(alloc: Global, cores: &[Core]) -> Result<Option<Built>, AllocError>
-    ensures form { IfOk result (λ found. option_map built_view found
-        ≡ machine.cores_form cores.now) }
-    ensures values { IfOk result (λ found. IfSome found HasValues) }
-{
-    match cores {
-        [core] => core_form(alloc, core),
-        _ => Ok(None),
-    }
-}
-
-// `*` of one table.
-fn core_form(alloc: Global, core: &Core) -> Result<Option<Built>, AllocError>
-    ensures form { IfOk result (λ found. option_map built_view found
-        ≡ machine.core_form core.now) }
-    ensures values { IfOk result (λ found. IfSome found HasValues) }
-{
-    if is_plain(core) {
-        table_form(alloc, &core.from)
-    } else {
-        Ok(None)
-    }
-}
-
-// Whether a core has nothing but its `*` and its source.
-fn is_plain(core: &Core) -> bool
-    ensures { result ≡ is_plain core.now }
-{
-    is_star(core.items.as_slice())
-        && core.joins.is_empty()
-        && core.filter.is_none()
-        && core.group.is_empty()
-}
-
-fn is_star(items: &[Item]) -> bool
-    ensures { result ≡ is_star items.now }
-{
-    match items {
-        [Item::Star] => true,
-        _ => false,
-    }
-}
-
-// A name without an alias.
-fn table_form(alloc: Global, source: &Source) -> Result<Option<Built>, AllocError>
-    ensures form { IfOk result (λ found. option_map built_view found
-        ≡ machine.table_in (out-Source source.now)) }
-    ensures values { IfOk result (λ found. IfSome found HasValues) }
-{
-    match source {
-        Source::Named(name, None) => Ok(Some(Built::SelectAll(name.copy(alloc)?))),
-        _ => Ok(None),
-    }
-}
-
-fn dml_form(alloc: Global, dml: &Dml) -> Result<Option<Built>, AllocError>
+fn dml_form(alloc: Global, dml: &Dml) -> Result<Option<Built<'static>>, AllocError>
     ensures form { IfOk result (λ found. option_map built_view found ≡ machine.dml_form dml.now) }
     ensures values { IfOk result (λ found. IfSome found HasValues) }
 {
@@ -111,7 +42,7 @@ fn values_form(
     alloc: Global,
     table: &Text,
     rows: &[Items<Expr>],
-) -> Result<Option<Built>, AllocError>
+) -> Result<Option<Built<'static>>, AllocError>
     ensures form { IfOk result (λ found. option_map built_view found
         ≡ option_map (machine.InsertValues table.now)
         (machine.each_of (machine.each_of machine.literal_of) rows.now)) }
@@ -124,7 +55,7 @@ fn values_form(
 }
 
 // Without OR REPLACE.
-fn create_form(alloc: Global, table: &CreateTable) -> Result<Option<Built>, AllocError>
+fn create_form(alloc: Global, table: &CreateTable) -> Result<Option<Built<'static>>, AllocError>
     ensures form { IfOk result (λ found. option_map built_view found
         ≡ machine.create_form table.now.replace table.now) }
     ensures values { IfOk result (λ found. IfSome found HasValues) }

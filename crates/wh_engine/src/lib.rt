@@ -13,10 +13,14 @@ mod laws;
 mod limits;
 mod literals;
 mod names;
+mod objects;
 mod open;
 mod queries;
+#[cfg(test)]
+mod query_tests;
 mod replay;
 mod rows;
+mod sources;
 mod tables;
 #[cfg(test)]
 mod tests;

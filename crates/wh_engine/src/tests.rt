@@ -9,15 +9,15 @@ use wh_text::print_reply;
 use wh_value::{Bytes, Limit};
 use wh_world::MemDisk;
 
-const LIMIT: u64 = 1 << 40;
+pub(crate) const LIMIT: u64 = 1 << 40;
 
 /// After `CREATE TABLE T(K NUMBER);`.
-const ONE_TABLE: [u8; 50] = [
+pub(crate) const ONE_TABLE: [u8; 50] = [
     0x57, 0x48, 0x43, 0x4f, 0x52, 0x45, 0x31, 1, 0, 0, 0, 0, 0, 0, 0, 0x21, 0, 0, 0, 0, 0, 0, 0, 1,
     0, 0, 0, 1, 1, 0, 0, 0, 1, 0, 0, 0, 1, 0x54, 1, 0, 0, 0, 1, 0, 0, 0, 1, 0x4b, 1, 0,
 ];
 
-fn opened(
+pub(crate) fn opened(
     rt: &(impl Threads + Sync),
     alloc: Global,
     bytes: &[u8],
@@ -46,7 +46,7 @@ fn command(alloc: Global, session: u64, text: &[u8]) -> Result<Event, Fail> {
 }
 
 // The lines of the reply to a command.
-fn lines(
+pub(crate) fn lines(
     rt: &(impl Threads + Sync),
     alloc: Global,
     warehouse: &mut Warehouse<MemDisk>,
@@ -346,8 +346,7 @@ fn other_statements_are_not_carried_out(rt: HostRuntime) -> Result<(), Fail> {
         "INSERT INTO N VALUES (- -3)",
         "INSERT INTO N VALUES (1 + 1)",
         "INSERT INTO N (K) VALUES (1)",
-        "SELECT * FROM N AS M",
-        "SELECT * FROM N WHERE K = 1",
+        "UPDATE N SET K = 1",
         "CREATE OR REPLACE TABLE N(K INT)",
         "DROP TABLE N",
     ];

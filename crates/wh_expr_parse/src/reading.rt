@@ -45,9 +45,13 @@ pub fn expr(alloc: Global, words: &mut Words<'_>, depth: usize) -> Result<Expr, 
 /// Takes one expression or more, with commas between them.
 #[tactic(auto, unfolding(crate::specs::Read::read_exprs))]
 pub fn exprs(alloc: Global, words: &mut Words<'_>, depth: usize) -> Result<Items<Expr>, ParseFault>
-    ensures { Reads (read_exprs depth words.old) result words.new }
+    ensures reads { Reads (read_exprs depth words.old) result words.new }
+    ensures kept { OnErr result (words.new ≡ words.old) }
 {
-    listed(alloc, words, depth, &whole_expr)
+    let mut ahead = Words::new(words.rest());
+    let found = listed(alloc, &mut ahead, depth, &whole_expr)?;
+    *words = ahead;
+    Ok(found)
 }
 
 /// No tokens begin with two expressions, and an expression is a front of them. What `read_expr`

@@ -3,3 +3,4 @@ pub mod KnownRefusals
 pub mod KnownCounts
 pub mod KnownStatements
 pub mod KnownLines
+pub mod KnownTask

@@ -16,11 +16,9 @@ use Rattle.wh_ast.specs.declared.expr.Expr.{Expr, out-Expr, roll-Expr, out-roll-
 use Rattle.wh_ast.specs.declared.expr.Expr.TheOpen.{Expr-F}
 use denote.Hole.Carrier.{out, roll}
 use Rattle.wh_ast.specs.declared.expr.Expr.TheVariants as e
-use Rattle.wh_ast.specs.declared.query.Query.{roll-Query, out-roll-Query}
-use Rattle.wh_ast.specs.declared.query.Core.{roll-Core, out-roll-Core}
+use Rattle.wh_ast.specs.declared.query.Query.{roll-Query}
+use Rattle.wh_ast.specs.declared.query.Core.{roll-Core}
 use Rattle.wh_ast.specs.declared.query.Item.TheVariants as i
-use Rattle.wh_ast.specs.declared.query.Source.{out-Source, roll-Source, out-roll-Source}
-use Rattle.wh_ast.specs.declared.query.Source.TheOpen.{Source-F}
 use Rattle.wh_ast.specs.declared.query.Source.TheVariants as source
 use Rattle.wh_ast.specs.declared.dml.Dml.TheVariants as dml
 use Rattle.wh_ast.specs.declared.dml.Rows.TheVariants as rows
@@ -28,15 +26,13 @@ use Rattle.wh_ast.specs.declared.statement.Statement as tree
 use Rattle.wh_ast.specs.declared.statement.Statement.TheVariants as st
 use Rattle.wh_grammar.specs.Spelled.{TooLong, Unreadable, Asked}
 use Rattle.wh_frame.specs.Partition.{numbered, partitions_of}
-use Rattle.wh_reply.specs.Reply.{Refused, Unsupported, NoSuchSession, OverLimit, Listing, print}
+use Rattle.wh_reply.specs.Reply.{Refused, Unsupported, NoSuchSession, OverLimit, print}
 use Rattle.wh_value.specs.declared.limit.Limit.TheVariants as limits
 use Rattle.wh_machine.specs.State.{first_state, with_entries}
-use Rattle.wh_machine.specs.Statement.{CreateTable, InsertValues, SelectAll, behind_minus, literal_in, literal_of, table_in, form_of}
-use Rattle.wh_machine.specs.Outcome.{answers}
-use Rattle.wh_machine.specs.Queries.{select_all}
+use Rattle.wh_machine.specs.Statement.{CreateTable, InsertValues, behind_minus, literal_in, literal_of, form_of}
 use Rattle.wh_machine.specs.Tables.{table_refusal, taken_name}
 use Rattle.wh_machine.specs.Rows.{rows_refusal}
-use Rattle.wh_machine.specs.Step.{Event, Command, Tick, step, commanded, carried_out, after, text}
+use Rattle.wh_machine.specs.Step.{Event, Command, Tick, step, commanded, carried_out, text}
 
 -- ---- statements as trees
 
@@ -68,14 +64,6 @@ forms : (form_of table_t ≡ Some (CreateTable (codes "T") (record { name = code
     × (form_of (insertion (codes "T") ((e.CountRows ∷ []) ∷ [])) ≡ None) × (form_of st.Begin ≡ None)
 unfolding out-Expr out
 forms = (refl, refl, refl, refl)
-
-named : (name : List ℕ) → table_in (out-Source (source.Named name None)) ≡ Some (SelectAll name)
-unfolding out-Source roll-Source roll
-named name = ap table_in (out-roll-Source (Source-F.Named name None))
-
--- `*` of one table
-all_of_one : (name : List ℕ) → form_of (selection name) ≡ Some (SelectAll name)
-all_of_one name = rw (out-roll-Query, out-roll-Core) (named name)
 
 -- a number behind a minus sign is a literal
 minus : (x : Expr) → literal_of (e.Neg x) ≡ behind_minus (out-Expr x)
@@ -138,9 +126,3 @@ kept = rw (entries-insert nat_cmp_total, entries-insert nat_cmp_total, entries-i
 -- 1,000 rows fill one partition, and one more begins another
 filled : (partitions_of 0 ≡ 0) × (partitions_of 1 ≡ 1) × (partitions_of 1000 ≡ 1) × (partitions_of 1001 ≡ 2)
 filled = (refl, refl, refl, refl)
-
--- a table's rows, listed in order
-selected : select_all (after first_state (asked table_t ∷ asked (insertion (codes "T") ((number 2 ∷ []) ∷ (number 1 ∷ []) ∷ [])) ∷ [])) (codes "T")
-    ≡ answers (Listing (codes "K" ∷ []) ((Number (pos 1) ∷ []) ∷ (Number (pos 2) ∷ []) ∷ []))
-unfolding step commanded carried_out table_refusal rows_refusal out-Expr out
-selected = rw (entries-insert nat_cmp_total, entries-insert nat_cmp_total, entries-empty) refl

@@ -1,5 +1,5 @@
 -- The statements that are carried out, and which trees they are.
---     Statement     what is carried out so far: a new table, rows of literals, and a table's rows
+--     Statement     what is carried out so far: a new table, rows of literals, and queries
 --     form_of       of a statement as it was written; None where it isn't carried out yet
 use Rattle.std.specs.Prelude.{ℕ, Bool, true, false, List, [], ◌∷◌, Option, Some, None, map, option_map, unwrap_or, ℤ, neg_ℤ, unsigned_abs, nat_lt, if◌then◌else◌}
 use Rattle.wh_value.specs.Value.{Value, Number, Truth, Text, Null, Row}
@@ -8,13 +8,7 @@ use Rattle.wh_value.specs.declared.value.Value as written
 use Rattle.wh_value.specs.declared.value.Value.TheVariants as v
 use Rattle.wh_ast.specs.declared.expr.Expr.{Expr, out-Expr}
 use Rattle.wh_ast.specs.declared.expr.Expr.TheOpen.{Expr-F}
-use Rattle.wh_ast.specs.declared.query.Query.{Query, out-Query}
-use Rattle.wh_ast.specs.declared.query.Core.{Core, out-Core}
-use Rattle.wh_ast.specs.declared.query.Join.{Join}
-use Rattle.wh_ast.specs.declared.query.Item.{Item}
-use Rattle.wh_ast.specs.declared.query.Item.TheVariants as i
-use Rattle.wh_ast.specs.declared.query.Source.{Source, out-Source}
-use Rattle.wh_ast.specs.declared.query.Source.TheOpen.{Source-F}
+use Rattle.wh_ast.specs.declared.query.Query.{Query}
 use Rattle.wh_ast.specs.declared.query.Sort.{Sort}
 use Rattle.wh_ast.specs.declared.dml.Dml.{Dml}
 use Rattle.wh_ast.specs.declared.dml.Dml.TheVariants as dml
@@ -28,7 +22,7 @@ use Rattle.wh_value.specs.Column.{Column}
 pub data Statement : Type 0 where
   CreateTable : (name : List ℕ) → (columns : List Column) → (retention : ℕ) → Statement
   InsertValues : (table : List ℕ) → (rows : List Row) → Statement
-  SelectAll : (table : List ℕ) → Statement
+  Select : Query → List Sort → Statement
 
 -- ---- literals: constants, and numbers behind a minus sign
 
@@ -72,27 +66,6 @@ each_of f (x ∷ xs) = with_first (f x) (each_of f xs)
 
 -- ---- forms
 
--- `*` of one table, which has no alias
-abbrev pub table_in : {A B C D : Type 0} → Source-F A B C D → Option Statement
-table_in (Source-F.Named name None) = Some (SelectAll name)
-table_in _ = None
-
-abbrev pub listing_in : List Item → List Join → Option Expr → List Expr → Source → Option Statement
-listing_in (i.Star ∷ []) [] None [] source = table_in (out-Source source)
-listing_in _ _ _ _ _ = None
-
-abbrev pub core_form : Core → Option Statement
-core_form c = listing_in (out-Core c).items (out-Core c).joins (out-Core c).filter (out-Core c).group (out-Core c).from
-
-abbrev pub cores_form : List Core → Option Statement
-cores_form (c ∷ []) = core_form c
-cores_form _ = None
-
--- one core without ORDER BY
-abbrev pub select_form : Query → List Sort → Option Statement
-select_form q [] = cores_form (out-Query q).cores
-select_form q (sort ∷ sorts) = None
-
 -- VALUES of literals, without a column list
 abbrev pub insert_form : List ℕ → Option (List (List ℕ)) → Rows → Option Statement
 insert_form table None (rows.Values found) = option_map (InsertValues table) (each_of (each_of literal_of) found)
@@ -109,7 +82,7 @@ create_form true c = None
 create_form false c = Some (CreateTable c.name (map column_of c.columns) (unwrap_or c.retention 1))
 
 abbrev pub form_of : tree.Statement → Option Statement
-form_of (st.Select q sorts) = select_form q sorts
+form_of (st.Select q sorts) = Some (Select q sorts)
 form_of (st.Dml x) = dml_form x
 form_of (st.CreateTable c) = create_form c.replace c
 form_of _ = None

@@ -1,3 +1,4 @@
 pub mod Scalar
 pub mod Bag
 pub mod Query
+pub mod Listing

@@ -1,13 +1,12 @@
 -- What a query means.
 --     Query, Call      the six operators, and the calls of a Group
 --     eval             the bag of a query over the bags of its sources; None where it is undefined
-use Rattle.std.specs.Prelude.{ℕ, suc, ◌+◌, Bool, true, false, not, ◌&&◌, ℤ, pos, ◌+ℤ◌, ◌*ℤ◌, nat_lt, if◌then◌else◌, List, [], ◌∷◌, ◌++◌, map, Option, Some, None, is_some, slice_get, unwrap_or}
-use Rattle.std.specs.List.{list_all}
-use Rattle.std.specs.FinMap.{entries, keys}
+use Rattle.std.specs.Prelude.{ℕ, zero, suc, Bool, true, false, ℤ, pos, ◌+ℤ◌, if◌then◌else◌, List, [], ◌∷◌, ◌++◌, Option, Some, None, option_map, slice_get, unwrap_or}
+use Rattle.std.specs.FinMap.{keys}
 use Rattle.std.specs.Ordering.{is_eq}
-use Rattle.wh_value.specs.Value.{Value, Number, Null, Row, row_cmp}
-use Rattle.wh_meaning.specs.Scalar.{Scalar, val, holds, ranged, is_null}
-use Rattle.wh_meaning.specs.Bag.{Bag, no_rows, plus, gathered, restricted, one_row}
+use Rattle.wh_value.specs.Value.{Value, Number, Truth, Text, Null, Row, row_cmp}
+use Rattle.wh_meaning.specs.Scalar.{Scalar, val, ranged, is_true, of_one, of_two}
+use Rattle.wh_meaning.specs.Bag.{Bag, no_rows, one_row, plus, beside, gathered, restricted, fold_bag}
 
 pub data Call : Type 0 where
   Sum : Scalar → Call
@@ -30,110 +29,108 @@ Instance = List Bag
 abbrev pub source_in : Instance → ℕ → Bag
 source_in instance place = unwrap_or (slice_get instance place) no_rows
 
--- ---- scalars over bags
+-- ---- Filter, Project, Join
 
--- whether a scalar is defined on each row
-abbrev pub is_defined_on : Bag → Scalar → Bool
-is_defined_on b e = list_all (λ row. is_some (val e row)) (keys b)
+abbrev pub if_true : Row → Value → Bag
+if_true row v = if is_true v then one_row row else no_rows
 
-abbrev pub are_defined_on : Bag → List Scalar → Bool
-are_defined_on b es = list_all (is_defined_on b) es
+-- the row itself where a condition is TRUE on it
+abbrev pub kept_by : Scalar → Row → Option Bag
+kept_by condition row = option_map (if_true row) (val condition row)
 
--- the values of scalars on a row on which they are defined
-abbrev pub values_on : List Scalar → Row → Row
-values_on es row = map (λ e. unwrap_or (val e row) Null) es
+abbrev pub with_value : Option Value → Option Row → Option Row
+with_value first rest = of_two (λ v row. Some (v ∷ row)) first rest
 
-abbrev pub if_defined : Bool → Bag → Option Bag
-if_defined true b = Some b
-if_defined false b = None
+-- the values of scalars on a row
+unfoldable pub values_on : List Scalar → Row → Option Row
+values_on [] row = Some []
+values_on (e ∷ es) row = with_value (val e row) (values_on es row)
 
--- ---- operators over bags
+abbrev pub image_by : List Scalar → Row → Option Bag
+image_by items row = option_map one_row (values_on items row)
 
 abbrev pub filtered : Scalar → Bag → Option Bag
-filtered condition b = if_defined (is_defined_on b condition) (restricted (holds condition) b)
+filtered condition b = gathered (kept_by condition) b
 
 abbrev pub projected : List Scalar → Bag → Option Bag
-projected items b = if_defined (are_defined_on b items) (gathered (λ row. one_row (values_on items row)) b)
+projected items b = gathered (image_by items) b
 
--- each pair of a left and a right row, as often as both are there
-abbrev pub paired : Bag → Bag → Bag
-paired left right = gathered (λ l. gathered (λ r. one_row (l ++ r)) right) left
+-- each pair of a left and a right row on which the condition is TRUE, as often as both are there
+abbrev pub paired_with : Scalar → Bag → Row → Option Bag
+paired_with on right l = gathered (λ r. kept_by on (l ++ r)) right
 
 abbrev pub joined : Scalar → Bag → Bag → Option Bag
-joined on left right = filtered on (paired left right)
+joined on left right = gathered (paired_with on right) left
 
--- ---- groups
+-- ---- Group
 
-abbrev pub is_row : Row → Row → Bool
-is_row a b = is_eq (row_cmp a b)
+-- numbers that aren't NULL: their sum, and how many there are
+pub record Total : Type 0 where
+  pub sum : ℤ
+  pub values : ℕ
 
--- the rows of a bag whose keys are these
-abbrev pub grouped_by : List Scalar → Row → Bag → Bag
-grouped_by by key b = restricted (λ row. is_row (values_on by row) key) b
+abbrev pub with_number : Value → Total → Total
+with_number (Number z) t = record { sum = z +ℤ t.sum; values = suc t.values }
+with_number (Truth b) t = record t { values = suc t.values }
+with_number (Text bytes) t = record t { values = suc t.values }
+with_number Null t = t
 
--- arguments that aren't NULL, as often as their rows are there: their sum, and how many there are
-abbrev pub number_in : Value → ℤ
-number_in (Number z) = z
-number_in _ = pos 0
+abbrev pub with_argument : Option Value → Option Total → Option Total
+with_argument argument total = of_two (λ v t. Some (with_number v t)) argument total
 
-abbrev pub sum_over : Scalar → List (Row × ℕ) → ℤ
-sum_over e [] = pos 0
-sum_over e ((row, more) ∷ rows) = (pos (suc more) *ℤ number_in (unwrap_or (val e row) Null)) +ℤ sum_over e rows
+abbrev pub total_of : Scalar → Bag → Option Total
+total_of e b = fold_bag (λ row t. with_argument (val e row) t) (Some (record { sum = pos 0; values = 0 })) b
 
-abbrev pub count_over : (Row → Bool) → List (Row × ℕ) → ℕ
-count_over test [] = 0
-count_over test ((row, more) ∷ rows) = (if test row then suc more else 0) + count_over test rows
+abbrev pub rows_in : Bag → ℕ
+rows_in b = fold_bag (λ row n. suc n) 0 b
 
-abbrev pub has_value : Scalar → Row → Bool
-has_value e row = not (is_null (unwrap_or (val e row) Null))
+abbrev pub count_value : ℕ → Option Value
+count_value n = ranged (pos n)
 
--- a call over the rows of a group: SUM of nothing is NULL; the limit of 18 digits is looked at once, over all of them
-abbrev pub call_over : Bag → Call → Option Value
-call_over b (Sum e) = if nat_lt 0 (count_over (has_value e) (entries b)) then ranged (sum_over e (entries b)) else Some Null
-call_over b CountRows = ranged (pos (count_over (λ row. true) (entries b)))
-call_over b (Count e) = ranged (pos (count_over (has_value e) (entries b)))
+-- SUM of nothing is NULL; its limit is looked at once, over all rows
+abbrev pub sum_value : ℤ → ℕ → Option Value
+sum_value sum zero = Some Null
+sum_value sum (suc n) = ranged sum
 
-abbrev pub is_defined_call : Bag → Call → Bool
-is_defined_call b (Sum e) = is_defined_on b e
-is_defined_call b CountRows = true
-is_defined_call b (Count e) = is_defined_on b e
+-- a call over the rows of a group
+unfoldable pub call_over : Bag → Call → Option Value
+call_over b (Sum e) = of_one (λ t. sum_value t.sum t.values) (total_of e b)
+call_over b CountRows = count_value (rows_in b)
+call_over b (Count e) = of_one (λ t. count_value t.values) (total_of e b)
 
-abbrev pub calls_on : List Call → Bag → Row
-calls_on calls b = map (λ c. unwrap_or (call_over b c) Null) calls
+abbrev pub calls_over : Bag → List Call → Option Row
+calls_over b [] = Some []
+calls_over b (call ∷ calls) = with_value (call_over b call) (calls_over b calls)
 
--- the distinct keys; without keys there is exactly one group
-abbrev pub keys_of : List Scalar → Bag → List Row
-keys_of [] b = [] ∷ []
-keys_of (e ∷ es) b = keys (gathered (λ row. one_row (values_on (e ∷ es) row)) b)
+abbrev pub is_row : Row → Option Row → Bool
+is_row key None = false
+is_row key (Some row) = is_eq (row_cmp key row)
 
-abbrev pub group_bag : List Scalar → List Call → Bag → List Row → Bag
-group_bag by calls b [] = no_rows
-group_bag by calls b (key ∷ rest) = plus (one_row (key ++ calls_on calls (grouped_by by key b))) (group_bag by calls b rest)
+-- the rows of a bag that have a key
+abbrev pub with_key : List Scalar → Row → Bag → Bag
+with_key by key b = restricted (λ row. is_row key (values_on by row)) b
 
--- keys and arguments are defined on each row, and each call in each group
-abbrev pub is_defined_group : List Scalar → List Call → Bag → Bool
-is_defined_group by calls b =
-    are_defined_on b by && list_all (is_defined_call b) calls
-    && list_all (λ key. list_all (λ c. is_some (call_over (grouped_by by key b) c)) calls) (keys_of by b)
+abbrev pub group_row : List Scalar → List Call → Bag → Row → Option Bag
+group_row by calls b key = option_map (λ values. one_row (key ++ values)) (calls_over (with_key by key b) calls)
+
+abbrev pub group_rows : List Scalar → List Call → Bag → List Row → Option Bag
+group_rows by calls b [] = Some no_rows
+group_rows by calls b (key ∷ rest) = beside (group_row by calls b key) (group_rows by calls b rest)
+
+-- the distinct keys among the keys of all rows; without keys there is exactly one group
+abbrev pub distinct : List Scalar → Bag → List Row
+distinct [] keyed = [] ∷ []
+distinct (e ∷ es) keyed = keys keyed
 
 abbrev pub grouped : List Scalar → List Call → Bag → Option Bag
-grouped by calls b = if_defined (is_defined_group by calls b) (group_bag by calls b (keys_of by b))
+grouped by calls b = of_one (λ keyed. group_rows by calls b (distinct by keyed)) (projected by b)
 
 -- ---- the query
 
-abbrev pub over_one : (Bag → Option Bag) → Option Bag → Option Bag
-over_one f None = None
-over_one f (Some b) = f b
-
-abbrev pub over_two : (Bag → Bag → Option Bag) → Option Bag → Option Bag → Option Bag
-over_two f None b = None
-over_two f (Some a) None = None
-over_two f (Some a) (Some b) = f a b
-
 unfoldable pub eval : Query → Instance → Option Bag
 eval (Scan source) instance = Some (source_in instance source)
-eval (Filter q condition) instance = over_one (filtered condition) (eval q instance)
-eval (Project q items) instance = over_one (projected items) (eval q instance)
-eval (Join left right on) instance = over_two (joined on) (eval left instance) (eval right instance)
-eval (UnionAll left right) instance = over_two (λ a b. Some (plus a b)) (eval left instance) (eval right instance)
-eval (Group q by calls) instance = over_one (grouped by calls) (eval q instance)
+eval (Filter q condition) instance = of_one (filtered condition) (eval q instance)
+eval (Project q items) instance = of_one (projected items) (eval q instance)
+eval (Join left right on) instance = of_two (joined on) (eval left instance) (eval right instance)
+eval (UnionAll left right) instance = of_two (λ a b. Some (plus a b)) (eval left instance) (eval right instance)
+eval (Group q by calls) instance = of_one (grouped by calls) (eval q instance)

@@ -77,11 +77,12 @@ inverted _ = Null
 
 -- ---- the value of a scalar: each part of it is evaluated
 
-abbrev pub of_one : (Value → Option Value) → Option Value → Option Value
+-- what is made of parts, where all of them are there
+abbrev pub of_one : {A B : Type 0} → (A → Option B) → Option A → Option B
 of_one f None = None
 of_one f (Some a) = f a
 
-abbrev pub of_two : (Value → Value → Option Value) → Option Value → Option Value → Option Value
+abbrev pub of_two : {A B C : Type 0} → (A → B → Option C) → Option A → Option B → Option C
 of_two f None b = None
 of_two f (Some a) None = None
 of_two f (Some a) (Some b) = f a b

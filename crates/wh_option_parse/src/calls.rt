@@ -1,4 +1,4 @@
-ghost use Rattle.std.specs.Prelude.{◌≡◌, ℕ, List, Option, IfOk, IsErrOf};
+ghost use Rattle.std.specs.Prelude.{◌≡◌, ℕ, List, Option, IfOk, IsErrOf, OnErr};
 ghost use Rattle.wh_ast.specs.declared.statement.Condition as ast_condition;
 ghost use Rattle.wh_ast.specs.declared.statement.Initialize as ast_initialize;
 ghost use Rattle.wh_ast.specs.declared.statement.Lag as ast_lag;
@@ -27,6 +27,7 @@ pub fn lag(alloc: Global, words: &mut Words<'_>) -> Result<Lag, ParseFault>
     ensures none { IsErrOf result ParseFault.SyntaxError
         → (l : ast_lag.Lag) (us : List machine.Token) → IsLag words.old l us → ⊥ }
     ensures reads { Reads (spec.read_lag words.old) result words.new }
+    ensures kept { OnErr result (words.new ≡ words.old) }
 {
     read_lag(alloc, words)
 }
@@ -37,6 +38,7 @@ pub fn asked(alloc: Global, words: &mut Words<'_>) -> Result<Text, ParseFault>
     ensures none { IsErrOf result ParseFault.SyntaxError
         → (name : List ℕ) (us : List machine.Token) → AsksForData words.old name us → ⊥ }
     ensures reads { Reads (spec.read_asked words.old) result words.new }
+    ensures kept { OnErr result (words.new ≡ words.old) }
 {
     read_asked(alloc, words)
 }
@@ -53,6 +55,7 @@ pub fn condition(
         → (x : ast_condition.Condition) (us : List machine.Token)
         → IsConditionAt depth words.old x us → ⊥ }
     ensures reads { Reads (spec.read_condition depth words.old) result words.new }
+    ensures kept { OnErr result (words.new ≡ words.old) }
 {
     read_condition(alloc, words, depth)
 }
@@ -64,6 +67,7 @@ pub fn task_options(alloc: Global, words: &mut Words<'_>) -> Result<Option<u64>,
         → (minutes : Option ℕ) (us : List machine.Token)
         → AreTaskOptionsAt words.old minutes us → ⊥ }
     ensures reads { Reads (spec.read_task_options words.old) result words.new }
+    ensures kept { OnErr result (words.new ≡ words.old) }
 {
     read_task_options(alloc, words)
 }
@@ -76,6 +80,7 @@ pub fn table_options(alloc: Global, words: &mut Words<'_>) -> Result<TableOption
         → (l : ast_lag.Lag) (m : ast_mode.RefreshMode) (i : ast_initialize.Initialize)
         → (us : List machine.Token) → AreTableOptionsAt words.old l m i us → ⊥ }
     ensures reads { Reads (spec.read_table_options words.old) (seen result) words.new }
+    ensures kept { OnErr result (words.new ≡ words.old) }
 {
     read_table_options(alloc, words)
 }

@@ -1,5 +1,5 @@
 //! Lags, schedules, and what asks for a stream's data.
-ghost use Rattle.std.specs.Prelude.{◌≡◌, false};
+ghost use Rattle.std.specs.Prelude.{◌≡◌, false, OnErr};
 ghost use Rattle.wh_cursor.specs.Gives.{Reads};
 ghost use Rattle.wh_cursor.specs.Steps.{read_text};
 ghost use Rattle.wh_option_parse.specs.Read as spec;
@@ -12,19 +12,23 @@ use wh_cursor::{Key, ParseFault, Words};
 use wh_value::Text;
 
 fn lag_by_text(alloc: Global, words: &mut Words<'_>) -> Result<Lag, ParseFault>
-    ensures { Reads (spec.lag_from false words.old) result words.new }
+    ensures reads { Reads (spec.lag_from false words.old) result words.new }
+    ensures kept { OnErr result (words.new ≡ words.old) }
 {
-    let text = words.text(alloc)?;
-    match lag_text(alloc, text.as_bytes())? {
-        Some(lag) => Ok(lag),
-        None => Err(ParseFault::SyntaxError),
-    }
+    let mut ahead = Words::new(words.rest());
+    let text = ahead.text(alloc)?;
+    let Some(lag) = lag_text(alloc, text.as_bytes())? else {
+        return Err(ParseFault::SyntaxError);
+    };
+    *words = ahead;
+    Ok(lag)
 }
 
 /// DOWNSTREAM, or a text with a span.
 #[tactic(auto, unfolding(crate::specs::Read::read_lag))]
 pub fn read_lag(alloc: Global, words: &mut Words<'_>) -> Result<Lag, ParseFault>
-    ensures { Reads (spec.read_lag words.old) result words.new }
+    ensures reads { Reads (spec.read_lag words.old) result words.new }
+    ensures kept { OnErr result (words.new ≡ words.old) }
 {
     if words.sees_word(b"DOWNSTREAM") {
         words.skip();
@@ -58,11 +62,14 @@ fn read_name_text(alloc: Global, words: &mut Words<'_>) -> Result<Text, ParseFau
 /// `SYSTEM$STREAM_HAS_DATA ( text )`
 #[tactic(auto, unfolding(crate::specs::Read::read_asked))]
 pub fn read_asked(alloc: Global, words: &mut Words<'_>) -> Result<Text, ParseFault>
-    ensures { Reads (spec.read_asked words.old) result words.new }
+    ensures reads { Reads (spec.read_asked words.old) result words.new }
+    ensures kept { OnErr result (words.new ≡ words.old) }
 {
-    words.expect_word(b"SYSTEM$STREAM_HAS_DATA")?;
-    words.expect(Key::LParen)?;
-    let name = read_name_text(alloc, words)?;
-    words.expect(Key::RParen)?;
+    let mut ahead = Words::new(words.rest());
+    ahead.expect_word(b"SYSTEM$STREAM_HAS_DATA")?;
+    ahead.expect(Key::LParen)?;
+    let name = read_name_text(alloc, &mut ahead)?;
+    ahead.expect(Key::RParen)?;
+    *words = ahead;
     Ok(name)
 }

@@ -1,6 +1,6 @@
 //! Conditions of tasks. The rules take the reader of what stands inside as a parameter, so that
 //! each is proved by itself.
-ghost use Rattle.std.specs.Prelude.{◌≡◌, length, IfOk};
+ghost use Rattle.std.specs.Prelude.{◌≡◌, length, IfOk, OnErr};
 ghost use Rattle.wh_cursor.specs.Gives.{Reads};
 ghost use Rattle.wh_option_parse.specs.Nests.{Nests};
 ghost use Rattle.wh_option_parse.specs.Read as spec;
@@ -178,11 +178,14 @@ pub fn read_condition(
     words: &mut Words<'_>,
     depth: usize,
 ) -> Result<Condition, ParseFault>
-    ensures { Reads (spec.read_condition depth words.old) result words.new }
+    ensures reads { Reads (spec.read_condition depth words.old) result words.new }
+    ensures kept { OnErr result (words.new ≡ words.old) }
 {
-    let x = nested(alloc, words, depth, Level::Whole)?;
-    if words.sees_word(b"OR") || words.sees_word(b"AND") {
+    let mut ahead = Words::new(words.rest());
+    let x = nested(alloc, &mut ahead, depth, Level::Whole)?;
+    if ahead.sees_word(b"OR") || ahead.sees_word(b"AND") {
         return Err(ParseFault::SyntaxError);
     }
+    *words = ahead;
     Ok(x)
 }

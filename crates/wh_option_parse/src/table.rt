@@ -1,5 +1,5 @@
 //! Options of dynamic tables.
-ghost use Rattle.std.specs.Prelude.{◌≡◌};
+ghost use Rattle.std.specs.Prelude.{◌≡◌, OnErr};
 ghost use Rattle.wh_cursor.specs.Gives.{Reads};
 ghost use Rattle.wh_option_parse.specs.Read as spec;
 ghost use Rattle.wh_option_parse.specs.View.{seen};
@@ -207,12 +207,15 @@ fn table_parts(alloc: Global, words: &mut Words<'_>) -> Result<TableParts, Parse
 /// The options of a dynamic table, in any order. The lag must be there.
 #[tactic(auto, unfolding(crate::specs::Read::read_table_options))]
 pub fn read_table_options(alloc: Global, words: &mut Words<'_>) -> Result<TableOptions, ParseFault>
-    ensures { Reads (spec.read_table_options words.old) (seen result) words.new }
+    ensures reads { Reads (spec.read_table_options words.old) (seen result) words.new }
+    ensures kept { OnErr result (words.new ≡ words.old) }
 {
-    let parts = table_parts(alloc, words)?;
+    let mut ahead = Words::new(words.rest());
+    let parts = table_parts(alloc, &mut ahead)?;
     let Some(lag) = parts.lag else {
         return Err(ParseFault::SyntaxError);
     };
+    *words = ahead;
     Ok(TableOptions {
         lag,
         mode: parts.mode.unwrap_or(RefreshMode::Auto),

@@ -1,5 +1,5 @@
 //! Options of tasks.
-ghost use Rattle.std.specs.Prelude.{◌≡◌};
+ghost use Rattle.std.specs.Prelude.{◌≡◌, OnErr};
 ghost use Rattle.wh_cursor.specs.Gives.{Reads};
 ghost use Rattle.wh_option_parse.specs.Read as spec;
 
@@ -97,8 +97,11 @@ fn task_parts(alloc: Global, words: &mut Words<'_>) -> Result<TaskParts, ParseFa
 /// The options of a task, in any order: its schedule, if it has one.
 #[tactic(auto, unfolding(crate::specs::Read::read_task_options))]
 pub fn read_task_options(alloc: Global, words: &mut Words<'_>) -> Result<Option<u64>, ParseFault>
-    ensures { Reads (spec.read_task_options words.old) result words.new }
+    ensures reads { Reads (spec.read_task_options words.old) result words.new }
+    ensures kept { OnErr result (words.new ≡ words.old) }
 {
-    let parts = task_parts(alloc, words)?;
+    let mut ahead = Words::new(words.rest());
+    let parts = task_parts(alloc, &mut ahead)?;
+    *words = ahead;
     Ok(parts.minutes)
 }

@@ -1,7 +1,7 @@
 //! The rules take the reader of what stands in parentheses as a parameter, so that each is proved
 //! by itself.
 
-ghost use Rattle.std.specs.Prelude.{◌≡◌, []};
+ghost use Rattle.std.specs.Prelude.{◌≡◌, [], OnErr};
 ghost use Rattle.wh_cursor.specs.Gives.{Reads};
 ghost use Rattle.wh_query_parse.specs.Follow as follow;
 ghost use Rattle.wh_query_parse.specs.Nests.{Nests};
@@ -193,14 +193,18 @@ fn nested(alloc: Global, words: &mut Words<'_>, depth: usize) -> Result<Query, P
 
 #[tactic(auto, unfolding(crate::specs::Read::read_query))]
 pub fn whole_query(alloc: Global, words: &mut Words<'_>, depth: usize) -> Result<Query, ParseFault>
-    ensures { Reads (spec.read_query depth words.old) result words.new }
+    ensures reads { Reads (spec.read_query depth words.old) result words.new }
+    ensures kept { OnErr result (words.new ≡ words.old) }
 {
-    Grammar {
+    let mut ahead = Words::new(words.rest());
+    let query = Grammar {
         alloc,
         depth,
         inner: nested,
     }
-    .query(words)
+    .query(&mut ahead)?;
+    *words = ahead;
+    Ok(query)
 }
 
 #[tactic(auto, unfolding(crate::specs::Read::read_source))]
@@ -209,12 +213,16 @@ pub fn whole_source(
     words: &mut Words<'_>,
     depth: usize,
 ) -> Result<Source, ParseFault>
-    ensures { Reads (spec.read_source depth words.old) result words.new }
+    ensures reads { Reads (spec.read_source depth words.old) result words.new }
+    ensures kept { OnErr result (words.new ≡ words.old) }
 {
-    Grammar {
+    let mut ahead = Words::new(words.rest());
+    let source = Grammar {
         alloc,
         depth,
         inner: nested,
     }
-    .source(words)
+    .source(&mut ahead)?;
+    *words = ahead;
+    Ok(source)
 }

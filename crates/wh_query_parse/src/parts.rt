@@ -1,6 +1,6 @@
 //! Aliases, conditions and groups.
 
-ghost use Rattle.std.specs.Prelude.{◌≡◌, []};
+ghost use Rattle.std.specs.Prelude.{◌≡◌, [], OnErr};
 ghost use Rattle.wh_cursor.specs.Gives.{Reads};
 ghost use Rattle.wh_query_parse.specs.Follow as follow;
 ghost use Rattle.wh_query_parse.specs.Read as spec;
@@ -36,16 +36,20 @@ pub fn expect_alias_end(words: &mut Words<'_>) -> Result<(), ParseFault>
 /// Takes an alias, and no name may stand behind it.
 #[tactic(auto, unfolding(crate::specs::Read::some_alias))]
 fn some_alias(alloc: Global, words: &mut Words<'_>) -> Result<Option<Text>, ParseFault>
-    ensures { Reads (spec.some_alias words.old) result words.new }
+    ensures reads { Reads (spec.some_alias words.old) result words.new }
+    ensures kept { OnErr result (words.new ≡ words.old) }
 {
-    let name = named(alloc, words)?;
-    expect_alias_end(words)?;
+    let mut ahead = Words::new(words.rest());
+    let name = named(alloc, &mut ahead)?;
+    expect_alias_end(&mut ahead)?;
+    *words = ahead;
     Ok(Some(name))
 }
 
 #[tactic(auto, unfolding(crate::specs::Read::read_alias))]
 pub fn optional_alias(alloc: Global, words: &mut Words<'_>) -> Result<Option<Text>, ParseFault>
-    ensures { Reads (spec.read_alias words.old) result words.new }
+    ensures reads { Reads (spec.read_alias words.old) result words.new }
+    ensures kept { OnErr result (words.new ≡ words.old) }
 {
     if ends_alias(words) {
         Ok(None)
@@ -86,11 +90,14 @@ pub fn optional_filter(
     words: &mut Words<'_>,
     depth: usize,
 ) -> Result<Option<Expr>, ParseFault>
-    ensures { Reads (spec.read_filter depth words.old) result words.new }
+    ensures reads { Reads (spec.read_filter depth words.old) result words.new }
+    ensures kept { OnErr result (words.new ≡ words.old) }
 {
-    let found = words.eat_word(b"WHERE");
-    let filter = filter_by(alloc, words, depth, found)?;
-    expect_filter_end(words)?;
+    let mut ahead = Words::new(words.rest());
+    let found = ahead.eat_word(b"WHERE");
+    let filter = filter_by(alloc, &mut ahead, depth, found)?;
+    expect_filter_end(&mut ahead)?;
+    *words = ahead;
     Ok(filter)
 }
 

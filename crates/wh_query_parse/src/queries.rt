@@ -1,4 +1,4 @@
-ghost use Rattle.std.specs.Prelude.{◌≡◌, ℕ, List, Option, IfOk, IsErrOf};
+ghost use Rattle.std.specs.Prelude.{◌≡◌, ℕ, List, Option, IfOk, IsErrOf, OnErr};
 ghost use Rattle.wh_ast.specs.declared.expr.Expr as ast_expr;
 ghost use Rattle.wh_ast.specs.declared.query.Query as ast_query;
 ghost use Rattle.wh_ast.specs.declared.query.Source as ast_source;
@@ -22,6 +22,7 @@ pub fn query(alloc: Global, words: &mut Words<'_>, depth: usize) -> Result<Query
     ensures none { IsErrOf result ParseFault.SyntaxError
         → (q : ast_query.Query) (us : List machine.Token) → IsQueryAt depth words.old q us → ⊥ }
     ensures reads { Reads (read_query depth words.old) result words.new }
+    ensures kept { OnErr result (words.new ≡ words.old) }
 {
     whole_query(alloc, words, depth)
 }
@@ -33,6 +34,7 @@ pub fn source(alloc: Global, words: &mut Words<'_>, depth: usize) -> Result<Sour
     ensures none { IsErrOf result ParseFault.SyntaxError
         → (x : ast_source.Source) (us : List machine.Token) → IsSourceAt depth words.old x us → ⊥ }
     ensures reads { Reads (read_source depth words.old) result words.new }
+    ensures kept { OnErr result (words.new ≡ words.old) }
 {
     whole_source(alloc, words, depth)
 }
@@ -43,6 +45,7 @@ pub fn alias(alloc: Global, words: &mut Words<'_>) -> Result<Option<Text>, Parse
     ensures none { IsErrOf result ParseFault.SyntaxError
         → (x : Option (List ℕ)) (us : List machine.Token) → IsAliasAt words.old x us → ⊥ }
     ensures reads { Reads (read_alias words.old) result words.new }
+    ensures kept { OnErr result (words.new ≡ words.old) }
 {
     optional_alias(alloc, words)
 }
@@ -58,6 +61,7 @@ pub fn filter(
         → (x : Option ast_expr.Expr) (us : List machine.Token)
         → IsFilterAt depth words.old x us → ⊥ }
     ensures reads { Reads (read_filter depth words.old) result words.new }
+    ensures kept { OnErr result (words.new ≡ words.old) }
 {
     optional_filter(alloc, words, depth)
 }

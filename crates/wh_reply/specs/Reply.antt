@@ -14,8 +14,10 @@ pub data Refusal : Type 0 where
   NoSuchSession : (session : ℕ) → Refusal
   UnknownName : (name : List ℕ) → Refusal
   NameTaken : (name : List ℕ) → Refusal
+  WrongKind : (name : List ℕ) → Refusal
   TypeMismatch : Refusal
   OverLimit : Limit → Refusal
+  NumberOutOfRange : Refusal
 
 pub data Reply : Type 0 where
   CreatedTable : (name : List ℕ) → Reply
@@ -59,8 +61,10 @@ refusal_text SyntaxError = codes "E1 SyntaxError"
 refusal_text (NoSuchSession session) = codes "E2 NoSuchSession " ++ decimal session
 refusal_text (UnknownName name) = codes "E6 UnknownName " ++ name
 refusal_text (NameTaken name) = codes "E7 NameTaken " ++ name
+refusal_text (WrongKind name) = codes "E8 WrongKind " ++ name
 refusal_text TypeMismatch = codes "E9 TypeMismatch"
 refusal_text (OverLimit limit) = codes "E13 Limit " ++ limit_word limit ++ codes " " ++ decimal (bound limit)
+refusal_text NumberOutOfRange = codes "E19 NumberOutOfRange"
 
 unfoldable pub print : Reply → List ℕ
 print (CreatedTable name) = line (codes "CREATED TABLE " ++ name)

@@ -11,8 +11,10 @@ refusal_view refusals.SyntaxError = machine.SyntaxError
 refusal_view (refusals.NoSuchSession session) = machine.NoSuchSession session
 refusal_view (refusals.UnknownName name) = machine.UnknownName name
 refusal_view (refusals.NameTaken name) = machine.NameTaken name
+refusal_view (refusals.WrongKind name) = machine.WrongKind name
 refusal_view refusals.TypeMismatch = machine.TypeMismatch
 refusal_view (refusals.OverLimit limit) = machine.OverLimit limit
+refusal_view refusals.NumberOutOfRange = machine.NumberOutOfRange
 
 abbrev pub reply_view : Reply → machine.Reply
 reply_view (replies.CreatedTable name) = machine.CreatedTable name

@@ -9,14 +9,18 @@ pub enum Refusal {
     SyntaxError,
     /// No session has the number.
     NoSuchSession(u64),
-    /// No object has the name.
+    /// No object, or no one column, has the name.
     UnknownName(Text),
     /// The name is another's, or stands twice.
     NameTaken(Text),
-    /// A value doesn't fit its column.
+    /// The object of that name is of a kind that its place doesn't take.
+    WrongKind(Text),
+    /// An expression isn't typed, or a value doesn't fit its column.
     TypeMismatch,
     /// A count would pass a limit.
     OverLimit(Limit),
+    /// A number of an evaluation has more than 18 digits.
+    NumberOutOfRange,
 }
 
 /// The answer to an event.

@@ -2,6 +2,7 @@
 #![tactic(auto)]
 
 mod arithmetic;
+mod copying;
 mod eval;
 mod fault;
 mod scalar;

@@ -73,8 +73,10 @@ fn put_refusal(refusal: &Refusal, out: &mut Bytes) -> Result<(), AllocError>
         Refusal::NoSuchSession(session) => put_no_session(*session, out),
         Refusal::UnknownName(name) => put_named(b"E6 UnknownName ", name, out),
         Refusal::NameTaken(name) => put_named(b"E7 NameTaken ", name, out),
+        Refusal::WrongKind(name) => put_named(b"E8 WrongKind ", name, out),
         Refusal::TypeMismatch => out.extend(b"E9 TypeMismatch"),
         Refusal::OverLimit(limit) => put_limit(*limit, out),
+        Refusal::NumberOutOfRange => out.extend(b"E19 NumberOutOfRange"),
     }
 }
 

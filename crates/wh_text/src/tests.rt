@@ -395,7 +395,9 @@ fn a_refusal_is_printed_by_its_number(rt: HostRuntime) -> Result<(), Fail> {
             b"E6 UnknownName T\n",
         ),
         (Refusal::NameTaken(text(alloc, b"T")?), b"E7 NameTaken T\n"),
+        (Refusal::WrongKind(text(alloc, b"T")?), b"E8 WrongKind T\n"),
         (Refusal::TypeMismatch, b"E9 TypeMismatch\n"),
+        (Refusal::NumberOutOfRange, b"E19 NumberOutOfRange\n"),
     ];
     for (refusal, want) in cases {
         let mut out = Bytes::new(alloc);

@@ -20,8 +20,8 @@ returns-in-InsertValues c =
     (carried_insert s c.in-InsertValues.table c.in-InsertValues.rows.items ∙ ap (λ (b : Built). carried_out s (Some (built_view b))) (sym c.in-InsertValues.is))
     c.insert_rows.ensures
 
-pub returns-in-SelectAll : goal.returns-in-SelectAll
-returns-in-SelectAll c =
+pub returns-in-Select : goal.returns-in-Select
+returns-in-Select c =
     let s = stamped (state_of c.args.catalog.now) c.args.stamp in
-    decides_as (stored_of c.args.catalog.now) c.args.stamp c.select_all.result _ _
-    (carried_select s c.in-SelectAll.table ∙ ap (λ (b : Built). carried_out s (Some (built_view b))) (sym c.in-SelectAll.is)) c.select_all.ensures
+    decides_as (stored_of c.args.catalog.now) c.args.stamp c.select.result _ _
+    (carried_select s c.in-Select.query.now c.in-Select.sorts.now ∙ ap (λ (b : Built). carried_out s (Some (built_view b))) (sym c.in-Select.is)) c.select.ensures

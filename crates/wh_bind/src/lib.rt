@@ -1,0 +1,16 @@
+//! A SELECT bound to the objects that it names: its query over numbered sources, and what is found
+//! wrong with it.
+#![tactic(auto)]
+
+mod binding;
+mod cores;
+mod fault;
+mod joins;
+mod keys;
+mod merging;
+mod select;
+mod sources;
+mod unions;
+
+pub use fault::BindFault;
+pub use select::{BoundSelect, bind_select};

@@ -1,0 +1,14 @@
+//! Cores bound over their FROM entries: items, WHERE and GROUP BY.
+#![tactic(auto)]
+
+mod bound;
+mod group;
+mod items;
+mod keys;
+mod output;
+mod parts;
+mod shown;
+
+pub use bound::bound_core;
+pub use output::Output;
+pub use parts::{BoundQuery, Joined};

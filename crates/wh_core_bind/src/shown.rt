@@ -1,0 +1,164 @@
+ghost use Rattle.std.specs.Prelude.{◌≡◌, ◌++◌, map, OnOk, IfOk};
+ghost use Rattle.wh_value.specs.View.{column_of};
+ghost use Rattle.wh_algebra.specs.View.{scalars_of};
+ghost use Rattle.wh_naming.specs.Select as naming;
+ghost use Rattle.wh_core_bind.specs.View.{outputs_of, shown_in};
+ghost use Rattle.wh_expr_bind.specs.View.{typed_view};
+ghost use Rattle.wh_scalar.specs.View.{scalar_of};
+ghost use Rattle.wh_meaning.specs.Scalar as meaning;
+
+use crate::Output;
+use std::alloc::{AllocError, Global};
+use wh_algebra::Call;
+use wh_expr_bind::{Findings, Typed};
+use wh_scalar::Scalar;
+use wh_value::{Column, Text};
+
+/// The columns that items give, and the calls in them.
+#[derive(Debug, Drop)]
+pub(crate) struct Shown {
+    pub outputs: Vec<Output>,
+    pub scalars: Vec<Scalar>,
+    pub calls: Vec<Call>,
+    pub has_star: bool,
+    pub findings: Findings,
+}
+
+pub(crate) fn nothing_shown(alloc: Global) -> Shown
+    ensures { shown_in result ≡ naming.nothing_shown }
+{
+    Shown {
+        outputs: Vec::new(alloc),
+        scalars: Vec::new(alloc),
+        calls: Vec::new(alloc),
+        has_star: false,
+        findings: Findings::nothing(),
+    }
+}
+
+/// Columns of a star, the first of which has that place.
+pub(crate) fn with_columns(
+    alloc: Global,
+    shown: Shown,
+    from: usize,
+    columns: &[Column],
+) -> Result<Shown, AllocError>
+    ensures { IfOk result (λ s. shown_in s
+        ≡ naming.with_columns (shown_in shown) from (map column_of columns.now)) }
+{
+    let Shown {
+        mut outputs,
+        mut scalars,
+        calls,
+        findings,
+        ..
+    } = shown;
+    add_outputs(alloc, &mut outputs, columns)?;
+    add_places(&mut scalars, from, columns)?;
+    Ok(Shown {
+        outputs,
+        scalars,
+        calls,
+        has_star: true,
+        findings,
+    })
+}
+
+fn add_outputs(
+    alloc: Global,
+    outputs: &mut Vec<Output>,
+    columns: &[Column],
+) -> Result<(), AllocError>
+    ensures { OnOk result (outputs_of outputs.new.items
+        ≡ outputs_of outputs.old.items ++ map naming.output_of (map column_of columns.now)) }
+{
+    for column in columns {
+        outputs.push(Output {
+            name: column.name.copy(alloc)?,
+            type_of: Some(column.column_type),
+        })?;
+    }
+    Ok(())
+}
+
+fn add_places(scalars: &mut Vec<Scalar>, from: usize, columns: &[Column]) -> Result<(), AllocError>
+    ensures { OnOk result (scalars_of scalars.new.items
+        ≡ scalars_of scalars.old.items ++ naming.places_from from (map column_of columns.now)) }
+{
+    let mut place = from;
+    for _column in columns {
+        scalars.push(column_at(place)?)?;
+        place = behind(place)?;
+    }
+    Ok(())
+}
+
+// More columns than a `u32` counts are more than memory holds.
+fn column_at(place: usize) -> Result<Scalar, AllocError>
+    ensures { IfOk result (λ column. scalar_of column ≡ meaning.Column place) }
+{
+    let Ok(place) = u32::try_from(place) else {
+        return Err(AllocError);
+    };
+    Ok(Scalar::Column(place))
+}
+
+ghost use Rattle.std.specs.Prelude.{suc};
+
+fn behind(place: usize) -> Result<usize, AllocError>
+    ensures { IfOk result (λ next. next ≡ suc place) }
+{
+    place.checked_add(1).ok_or(AllocError)
+}
+
+/// A star of no entry, or of several.
+pub(crate) fn without_span(alloc: Global, shown: Shown, name: &Text) -> Result<Shown, AllocError>
+    ensures { IfOk result (λ s. shown_in s
+        ≡ naming.with_span (shown_in shown) name.now None) }
+{
+    let found = Findings::unknown_column(name.copy(alloc)?);
+    let Shown {
+        outputs,
+        scalars,
+        calls,
+        findings,
+        ..
+    } = shown;
+    Ok(Shown {
+        outputs,
+        scalars,
+        calls,
+        has_star: true,
+        findings: findings.followed(found),
+    })
+}
+
+/// An expression under its name.
+pub(crate) fn with_item(shown: Shown, name: Text, x: Typed) -> Result<Shown, AllocError>
+    ensures { IfOk result (λ s. shown_in s
+        ≡ naming.with_item (shown_in shown) name (typed_view x)) }
+{
+    let Shown {
+        mut outputs,
+        mut scalars,
+        mut calls,
+        has_star,
+        findings,
+    } = shown;
+    let Typed {
+        scalar,
+        type_of,
+        calls: mut more,
+        findings: found,
+    } = x;
+    outputs.push(Output { name, type_of })?;
+    scalars.push(scalar)?;
+    calls.append(&mut more)?;
+    Ok(Shown {
+        outputs,
+        scalars,
+        calls,
+        has_star,
+        findings: findings.followed(found),
+    })
+}

@@ -1,0 +1,91 @@
+use crate::tests::{LIMIT, ONE_TABLE, lines, opened};
+use std::alloc::Global;
+use std::test::Fail;
+
+#[test]
+fn queries_are_answered_by_their_rows(rt: HostRuntime) -> Result<(), Fail> {
+    let alloc = rt.alloc();
+    let commands = [
+        ("CREATE TABLE T(K NUMBER, V VARCHAR)", "CREATED TABLE T\n"),
+        (
+            "INSERT INTO T VALUES (2, 'b'), (1, NULL), (2, 'a'), (NULL, 'b')",
+            "INSERTED 4\n",
+        ),
+        ("CREATE TABLE U(K NUMBER)", "CREATED TABLE U\n"),
+        ("INSERT INTO U VALUES (2), (2), (3)", "INSERTED 3\n"),
+        (
+            "SELECT K + 1 AS N, V FROM T AS A WHERE A.K = 2 ORDER BY V DESC",
+            "N | V\n3 | 'b'\n3 | 'a'\n(2 rows)\n",
+        ),
+        (
+            "SELECT T.V, U.K FROM T JOIN U ON T.K = U.K",
+            "V | K\n'a' | 2\n'a' | 2\n'b' | 2\n'b' | 2\n(4 rows)\n",
+        ),
+        (
+            "SELECT V, SUM(K), COUNT(*) FROM T GROUP BY V",
+            "V | COL2 | COL3\n'a' | 2 | 1\n'b' | 2 | 2\nNULL | 1 | 1\n(3 rows)\n",
+        ),
+        (
+            "SELECT K FROM U UNION ALL SELECT S.K FROM (SELECT K FROM T) AS S ORDER BY 1",
+            "K\n1\n2\n2\n2\n2\n3\nNULL\n(7 rows)\n",
+        ),
+    ];
+    let mut warehouse = opened(&rt, alloc, b"", LIMIT, &[])?.ok_or("a new file opens")?;
+    for (text, wanted) in commands {
+        let found = lines(&rt, alloc, &mut warehouse, 1, text.as_bytes())?;
+        assert_eq!(rt; found.as_slice(), wanted.as_bytes(), "{text}");
+    }
+    Ok(())
+}
+
+#[test]
+fn queries_are_refused_by_the_first_failing_test(rt: HostRuntime) -> Result<(), Fail> {
+    let alloc = rt.alloc();
+    let commands = [
+        ("CREATE TABLE T(K NUMBER, V VARCHAR)", "CREATED TABLE T\n"),
+        (
+            "INSERT INTO T VALUES (999999999999999999, 'a')",
+            "INSERTED 1\n",
+        ),
+        ("SELECT X FROM U WHERE 1", "E6 UnknownName U\n"),
+        ("SELECT X, V + 1 FROM T", "E6 UnknownName X\n"),
+        ("SELECT V + 1 FROM T JOIN T ON TRUE", "E7 NameTaken T\n"),
+        ("SELECT V + 1 FROM T", "E9 TypeMismatch\n"),
+        ("SELECT K + 1 FROM T", "E19 NumberOutOfRange\n"),
+        ("SELECT K + 1 FROM T WHERE K = 0", "COL1\n(0 rows)\n"),
+    ];
+    let mut warehouse = opened(&rt, alloc, b"", LIMIT, &[])?.ok_or("a new file opens")?;
+    for (text, wanted) in commands {
+        let found = lines(&rt, alloc, &mut warehouse, 1, text.as_bytes())?;
+        assert_eq!(rt; found.as_slice(), wanted.as_bytes(), "{text}");
+    }
+    Ok(())
+}
+
+// `SELECT K + 1, .. FROM T` with so many items.
+fn many_items(alloc: Global, count: usize) -> Result<Vec<u8>, Fail> {
+    let mut text = b"SELECT K + 1".to_vec(alloc)?;
+    for _ in 1..count {
+        text.extend_from_slice(b", K")?;
+    }
+    text.extend_from_slice(b" FROM T")?;
+    Ok(text)
+}
+
+#[test]
+fn an_output_has_256_columns_at_most(rt: HostRuntime) -> Result<(), Fail> {
+    let alloc = rt.alloc();
+    let mut warehouse = opened(&rt, alloc, &ONE_TABLE, LIMIT, &[])?.ok_or("the file opens")?;
+    lines(
+        &rt,
+        alloc,
+        &mut warehouse,
+        1,
+        b"INSERT INTO T VALUES (999999999999999999)",
+    )?;
+    let most = lines(&rt, alloc, &mut warehouse, 1, &many_items(alloc, 256)?)?;
+    assert_eq!(rt; most.as_slice(), b"E19 NumberOutOfRange\n".as_slice());
+    let more = lines(&rt, alloc, &mut warehouse, 1, &many_items(alloc, 257)?)?;
+    assert_eq!(rt; more.as_slice(), b"E13 Limit OUTPUT 256\n".as_slice());
+    Ok(())
+}

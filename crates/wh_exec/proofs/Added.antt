@@ -1,0 +1,101 @@
+-- Rows that a loop adds to rows that are there.
+--     put_one             a row put behind them is in their bag once more
+--     kept_.., image_put  one row: kept by a condition or not; its image
+--     Added               what the rows of a list give is added to those at the start
+--     added_..            by none of the rows, by one more, by all of them; a row that fails
+use Rattle.std.specs.Prelude.{◌≡◌, ℕ, ◌+◌, ◌<◌, List, [], ◌∷◌, ◌++◌, length, Option, Some, true, false, if◌then◌else◌, option_map, take, drop}
+use Rattle.std.proofs.Common.{sym, ap, subst, ◌∙◌, get_or, take-append-drop}
+use Rattle.std.proofs.lemmas.List.{map-append, take_more, drop_more}
+use Rattle.wh_value.specs.Value.{Value, Row}
+use Rattle.wh_meaning.specs.Scalar.{Scalar, val, is_true}
+use Rattle.wh_meaning.specs.Bag.{Bag, no_rows, one_row, bag_of, plus, beside, gathered}
+use Rattle.wh_meaning.specs.Query.{if_true, kept_by, values_on, image_by}
+use Rattle.wh_meaning.proofs.BagLaws.{bag_of-append, plus-no_rows}
+use Rattle.wh_meaning.proofs.Gathered.{gathered-no_rows, gathered-push, gathered-none, beside-assoc, nothing-beside}
+use Rattle.wh_scalar.specs.declared.fault.EvalFault.{EvalFault}
+use Rattle.wh_scalar.specs.declared.fault.EvalFault.TheVariants.{NumberOutOfRange, OutOfMemory}
+use Rattle.wh_algebra.specs.declared.tuple.Tuple.{Tuple}
+use Rattle.wh_algebra.specs.declared.tuple.Tuple.TheVariants.{Made}
+use Rattle.wh_algebra.specs.Tuple.{row_in, rows_in}
+use Rattle.wh_aggregate.specs.Given.{IsFaultOf}
+
+pub put_one : (before after : List Tuple) (t : Tuple) → after ≡ before ++ t ∷ [] → plus (bag_of (rows_in before)) (one_row (row_in t)) ≡ bag_of (rows_in after)
+put_one before after t e = sym (ap (λ ts. bag_of (rows_in ts)) e ∙ ap bag_of (map-append row_in before (t ∷ [])) ∙ bag_of-append (rows_in before) (row_in t ∷ []))
+
+-- ---- one row that a condition keeps or doesn't
+
+pub kept_true : (e : Scalar) (row : Row) (v : Value) (before after : List Tuple) (t : Tuple) →
+    row ≡ row_in t → val e row ≡ Some v → true ≡ is_true v → after ≡ before ++ t ∷ [] →
+    beside (Some (bag_of (rows_in before))) (kept_by e row) ≡ Some (bag_of (rows_in after))
+kept_true e row v before after t same valued meets put =
+    ap (λ found. beside (Some (bag_of (rows_in before))) (option_map (if_true row) found)) valued
+    ∙ ap (λ b. Some (plus (bag_of (rows_in before)) (if b then one_row row else no_rows))) (sym meets)
+    ∙ ap (λ r. Some (plus (bag_of (rows_in before)) (one_row r))) same
+    ∙ ap Some (put_one before after t put)
+
+pub kept_false : (e : Scalar) (row : Row) (v : Value) (before : List Tuple) →
+    val e row ≡ Some v → false ≡ is_true v →
+    beside (Some (bag_of (rows_in before))) (kept_by e row) ≡ Some (bag_of (rows_in before))
+kept_false e row v before valued fails =
+    ap (λ found. beside (Some (bag_of (rows_in before))) (option_map (if_true row) found)) valued
+    ∙ ap (λ b. Some (plus (bag_of (rows_in before)) (if b then one_row row else no_rows))) (sym fails)
+    ∙ ap Some (plus-no_rows (bag_of (rows_in before)))
+
+-- ---- one image
+
+pub image_put : (items : List Scalar) (row image : Row) (before after : List Tuple) →
+    values_on items row ≡ Some image → after ≡ before ++ Made image ∷ [] →
+    beside (Some (bag_of (rows_in before))) (image_by items row) ≡ Some (bag_of (rows_in after))
+image_put items row image before after valued put =
+    ap (λ found. beside (Some (bag_of (rows_in before))) (option_map one_row found)) valued ∙ ap Some (put_one before after (Made image) put)
+
+-- ---- what the rows of a list give, one after the other
+
+pub record Added (f : Row → Option Bag) (start rows out : List Tuple) : Type 0 where
+  pub sum : beside (Some (bag_of (rows_in start))) (gathered f (bag_of (rows_in rows))) ≡ Some (bag_of (rows_in out))
+
+pub added_none : (f : Row → Option Bag) (start : List Tuple) → Added f start [] start
+added_none f start = record {
+  sum = ap (beside (Some (bag_of (rows_in start)))) (gathered-no_rows f) ∙ ap Some (plus-no_rows (bag_of (rows_in start)));
+}
+
+pub added_more : (f : Row → Option Bag) (start rows mid out : List Tuple) (t : Tuple) →
+    Added f start rows mid → beside (Some (bag_of (rows_in mid))) (f (row_in t)) ≡ Some (bag_of (rows_in out)) →
+    Added f start (rows ++ t ∷ []) out
+added_more f start rows mid out t so step = record {
+  sum = ap (λ rs. beside (Some (bag_of (rows_in start))) (gathered f (bag_of rs))) (map-append row_in rows (t ∷ []))
+      ∙ ap (beside (Some (bag_of (rows_in start)))) (gathered-push f (rows_in rows) (row_in t))
+      ∙ sym (beside-assoc (Some (bag_of (rows_in start))) (gathered f (bag_of (rows_in rows))) (f (row_in t)))
+      ∙ ap (λ found. beside found (f (row_in t))) so.sum
+      ∙ step;
+}
+
+-- all of them, from no row
+pub added_all : (f : Row → Option Bag) (rows all out : List Tuple) → rows ≡ all →
+    Added f [] rows out → gathered f (bag_of (rows_in all)) ≡ Some (bag_of (rows_in out))
+added_all f rows all out same so =
+    ap (λ ts. gathered f (bag_of (rows_in ts))) (sym same) ∙ sym (nothing-beside (gathered f (bag_of (rows_in rows)))) ∙ so.sum
+
+pub added_fails : (fault : EvalFault) (f : Row → Option Bag) (rows rest all : List Tuple) (t : Tuple) →
+    all ≡ rows ++ t ∷ rest → IsFaultOf fault (f (row_in t)) → IsFaultOf fault (gathered f (bag_of (rows_in all)))
+added_fails NumberOutOfRange f rows rest all t is none =
+    ap (λ ts. gathered f (bag_of (rows_in ts))) is
+    ∙ ap (λ rs. gathered f (bag_of rs)) (map-append row_in rows (t ∷ rest))
+    ∙ gathered-none f (rows_in rows) (row_in t) (rows_in rest) none
+added_fails OutOfMemory f rows rest all t is none = tt
+
+-- ---- a loop over a slice
+
+pub added_step : (f : Row → Option Bag) (start mid out all : List Tuple) (i : ℕ) (t : Tuple) (row : Row) →
+    i < length all → t ≡ get_or all i t → row ≡ row_in t → Added f start (take i all) mid →
+    beside (Some (bag_of (rows_in mid))) (f row) ≡ Some (bag_of (rows_in out)) → Added f start (take (i + 1) all) out
+added_step f start mid out all i t row within at same so step =
+    subst (λ rows. Added f start rows out) (sym (take_more all i t within ∙ ap (λ x. take i all ++ x ∷ []) (sym at)))
+    (added_more f start (take i all) mid out t so (ap (λ r. beside (Some (bag_of (rows_in mid))) (f r)) (sym same) ∙ step))
+
+pub added_fails_at : (fault : EvalFault) (f : Row → Option Bag) (all : List Tuple) (i : ℕ) (t : Tuple) (row : Row) →
+    i < length all → t ≡ get_or all i t → row ≡ row_in t → IsFaultOf fault (f row) → IsFaultOf fault (gathered f (bag_of (rows_in all)))
+added_fails_at fault f all i t row within at same none =
+    added_fails fault f (take i all) (drop (i + 1) all) all t
+    (sym (take-append-drop i all) ∙ ap (λ rest. take i all ++ rest) (drop_more all i t within ∙ ap (λ x. x ∷ drop (i + 1) all) (sym at)))
+    (subst (λ r. IsFaultOf fault (f r)) same none)

@@ -1,0 +1,10 @@
+//! Rows in the order that a query asks for.
+#![tactic(auto)]
+
+mod key;
+mod listing;
+#[cfg(test)]
+mod tests;
+
+pub use key::{SortKey, compare_rows};
+pub use listing::listed;

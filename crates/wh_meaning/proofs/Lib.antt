@@ -1,0 +1,5 @@
+pub mod BagLaws
+pub mod Gathered
+pub mod KnownQueries
+pub mod KnownScalars
+pub mod Listed

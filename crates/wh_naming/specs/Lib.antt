@@ -1,0 +1,5 @@
+pub mod Findings
+pub mod Scope
+pub mod Typing
+pub mod Grouping
+pub mod Select

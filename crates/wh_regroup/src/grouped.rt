@@ -1,0 +1,94 @@
+ghost use Rattle.std.specs.Prelude.{◌≡◌, Some, map, option_map, IfOk};
+ghost use Rattle.wh_naming.specs.Grouping.{regrouped};
+ghost use Rattle.wh_regroup.specs.Regrouping.{Regroups, with_part, with_sides};
+ghost use Rattle.wh_scalar.specs.View.{scalar_of};
+
+use crate::fault::GroupFault;
+use crate::keys::{call_column, column, key_of};
+use sqlite_items::Boxed;
+use std::alloc::{AllocError, Global};
+use wh_scalar::Scalar;
+
+/// The scalar over the rows of groups; None where a column stands outside of keys and calls.
+/// Each outermost part that is a key is the key's column, and a call is a column behind the keys.
+pub fn regrouped(
+    alloc: Global,
+    keys: &[Scalar],
+    width: usize,
+    scalar: &Scalar,
+) -> Result<Option<Scalar>, AllocError>
+    ensures { IfOk result (λ found. option_map scalar_of found
+        ≡ regrouped (map scalar_of keys.now) width (scalar_of scalar.now)) }
+{
+    match over_groups(alloc, keys, width, scalar) {
+        Ok(found) => Ok(Some(found)),
+        Err(GroupFault::ColumnOutside) => Ok(None),
+        Err(GroupFault::OutOfMemory) => Err(AllocError),
+    }
+}
+
+#[tactic(auto, unfolding(wh_naming::specs::Grouping::regrouped), using(crate::proofs::KeyLemmas::key_first))]
+fn over_groups(
+    alloc: Global,
+    keys: &[Scalar],
+    width: usize,
+    scalar: &Scalar,
+) -> Result<Scalar, GroupFault>
+    ensures { Regroups result (regrouped (map scalar_of keys.now) width (scalar_of scalar.now)) }
+{
+    if let Some(place) = key_of(keys, scalar) {
+        return column(place);
+    }
+    match scalar {
+        Scalar::Const(value) => Ok(Scalar::Const(value.copy(alloc)?)),
+        Scalar::Column(place) => call_column(keys.len(), width, *place),
+        Scalar::Neg(x) | Scalar::Not(x) | Scalar::IsNull(x) => {
+            let part = over_groups(alloc, keys, width, x.get())?;
+            with_part(alloc, scalar, part)
+        }
+        Scalar::Add(x, y)
+        | Scalar::Sub(x, y)
+        | Scalar::Mul(x, y)
+        | Scalar::Compare(_, x, y)
+        | Scalar::And(x, y)
+        | Scalar::Or(x, y) => {
+            let left = over_groups(alloc, keys, width, x.get())?;
+            let right = over_groups(alloc, keys, width, y.get())?;
+            with_sides(alloc, scalar, left, right)
+        }
+    }
+}
+
+// The operator of a scalar of one part, over this part.
+fn with_part(alloc: Global, scalar: &Scalar, part: Scalar) -> Result<Scalar, GroupFault>
+    ensures { Regroups result (Some (with_part (scalar_of scalar.now) (scalar_of part))) }
+{
+    let part = Boxed::new(alloc, part)?;
+    Ok(match scalar {
+        Scalar::Neg(_) => Scalar::Neg(part),
+        Scalar::Not(_) => Scalar::Not(part),
+        _ => Scalar::IsNull(part),
+    })
+}
+
+// The operator of a scalar of two sides, over these sides.
+fn with_sides(
+    alloc: Global,
+    scalar: &Scalar,
+    left: Scalar,
+    right: Scalar,
+) -> Result<Scalar, GroupFault>
+    ensures { Regroups result
+        (Some (with_sides (scalar_of scalar.now) (scalar_of left) (scalar_of right))) }
+{
+    let left = Boxed::new(alloc, left)?;
+    let right = Boxed::new(alloc, right)?;
+    Ok(match scalar {
+        Scalar::Add(..) => Scalar::Add(left, right),
+        Scalar::Sub(..) => Scalar::Sub(left, right),
+        Scalar::Mul(..) => Scalar::Mul(left, right),
+        Scalar::Compare(comparison, ..) => Scalar::Compare(*comparison, left, right),
+        Scalar::And(..) => Scalar::And(left, right),
+        _ => Scalar::Or(left, right),
+    })
+}

@@ -1,0 +1,14 @@
+//! Items of a core with GROUP BY: scalars over the rows of groups.
+#![tactic(auto)]
+
+mod comparing;
+mod fault;
+mod grouped;
+mod keys;
+mod laws;
+#[cfg(test)]
+mod tests;
+
+pub use comparing::is_same;
+pub use grouped::regrouped;
+pub use laws::same_scalars_are_equal;
