@@ -3,3 +3,4 @@ pub mod Scope
 pub mod Typing
 pub mod Grouping
 pub mod Select
+pub mod Changes
