@@ -6,8 +6,6 @@ mod expr;
 mod parts;
 mod query;
 mod statement;
-#[cfg(test)]
-mod tests;
 
 pub use dml::copy_dml;
 pub use expr::copy_expr;

@@ -5,7 +5,5 @@ mod changing;
 mod clauses;
 mod lists;
 mod statements;
-#[cfg(test)]
-mod tests;
 
 pub use statements::{dml, names, reading_laws};

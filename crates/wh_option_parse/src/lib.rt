@@ -9,8 +9,6 @@ mod names;
 mod span;
 mod table;
 mod task;
-#[cfg(test)]
-mod tests;
 
 pub use calls::{asked, condition, lag, reading_laws, table_options, task_options};
 pub use table::TableOptions;

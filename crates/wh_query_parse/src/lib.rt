@@ -6,7 +6,5 @@ mod grammar;
 mod items;
 mod parts;
 mod queries;
-#[cfg(test)]
-mod tests;
 
 pub use queries::{alias, filter, query, reading_laws, source};

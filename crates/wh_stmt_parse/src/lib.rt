@@ -7,8 +7,6 @@ mod options;
 mod parsing;
 mod plain;
 mod sorts;
-#[cfg(test)]
-mod tests;
 mod verb;
 
 pub use parsing::{parse, reading_laws};

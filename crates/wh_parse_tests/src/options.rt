@@ -1,9 +1,9 @@
-use crate::{asked, condition, lag, table_options, task_options};
 use std::alloc::{AllocError, Global};
 use std::test::Fail;
 use wh_ast::{Condition, Initialize, Lag, RefreshMode};
 use wh_cursor::{ParseFault, Words};
 use wh_lex::tokens;
+use wh_option_parse::{asked, condition, lag, table_options, task_options};
 use wh_value::Bytes;
 
 /// What is looked for at the front of a text.

@@ -1,8 +1,8 @@
-use crate::expr;
 use std::alloc::Global;
 use std::test::Fail;
 use wh_ast::{Expr, Operator};
 use wh_cursor::{Key, ParseFault, Words, name};
+use wh_expr_parse::expr;
 use wh_lex::tokens;
 use wh_value::{Bytes, Comparison, print_literal};
 

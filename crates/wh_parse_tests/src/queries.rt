@@ -1,9 +1,9 @@
-use crate::{alias, filter, query, source};
 use std::alloc::Global;
 use std::test::Fail;
 use wh_ast::{Core, Expr, Item, Join, Query, Source};
 use wh_cursor::{ParseFault, Words};
 use wh_lex::tokens;
+use wh_query_parse::{alias, filter, query, source};
 use wh_value::{Bytes, Text, print_literal};
 
 fn print_alias(alias: &Option<Text>, out: &mut Bytes) -> Result<(), Fail> {

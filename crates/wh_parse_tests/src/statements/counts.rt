@@ -1,8 +1,8 @@
 //! How many may stand inside one another, and beside one another.
 
-use crate::parse;
 use std::alloc::Global;
 use std::test::Fail;
+use wh_stmt_parse::parse;
 use wh_value::Bytes;
 
 /// A text with pieces so many times before and behind its middle.

@@ -10,16 +10,17 @@ mod selecting;
 mod tasks;
 mod worked;
 
-use crate::{ParseFault, parse};
 use std::alloc::Global;
 use std::test::Fail;
+use wh_copy::copy_statement;
+use wh_stmt_parse::{ParseFault, parse};
 use wh_value::Bytes;
 
-/// The statement that a text spells, or `none`.
+/// The statement that a text spells, read off a copy of it, or `none`.
 fn spelled(alloc: Global, text: &[u8]) -> Result<Bytes, Fail> {
     let mut out = Bytes::new(alloc);
     match parse(alloc, text) {
-        Ok(found) => print::statement(&found, &mut out)?,
+        Ok(found) => print::statement(&copy_statement(alloc, &found)?, &mut out)?,
         Err(ParseFault::SyntaxError) => out.extend(b"none")?,
         Err(ParseFault::OutOfMemory) => out.extend(b"no memory")?,
     }

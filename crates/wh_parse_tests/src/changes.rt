@@ -1,8 +1,8 @@
-use crate::{dml, names};
 use std::alloc::Global;
 use std::test::Fail;
 use wh_ast::{Assignment, Dml, Expr, MergeClause, Operator, Rows, Source};
 use wh_cursor::{ParseFault, Words};
+use wh_dml_parse::{dml, names};
 use wh_lex::tokens;
 use wh_value::{Bytes, Comparison, Text, print_literal};
 
