@@ -16,14 +16,10 @@ mod names;
 mod objects;
 mod open;
 mod queries;
-#[cfg(test)]
-mod query_tests;
 mod replay;
 mod rows;
 mod sources;
 mod tables;
-#[cfg(test)]
-mod tests;
 mod warehouse;
 
 pub use event::Event;

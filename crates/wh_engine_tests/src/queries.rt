@@ -1,4 +1,4 @@
-use crate::tests::{LIMIT, ONE_TABLE, lines, opened};
+use crate::commands::{LIMIT, ONE_TABLE, lines, opened};
 use std::alloc::Global;
 use std::test::Fail;
 

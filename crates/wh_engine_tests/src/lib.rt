@@ -1,0 +1,7 @@
+//! Tests of the warehouse over files in memory, by its public calls.
+#![tactic(auto)]
+
+#[cfg(test)]
+mod commands;
+#[cfg(test)]
+mod queries;
