@@ -11,7 +11,7 @@ use wh_value::Row;
 pub fn values_on(alloc: Global, scalars: &[Scalar], row: &Row) -> Result<Row, EvalFault>
     ensures { Gives result (values_on (scalars_of scalars.now) row.now) }
 {
-    let mut values = Row::new(alloc);
+    let mut values = Row::with_capacity(alloc, scalars.len())?;
     for scalar in scalars {
         values.push(scalar.eval(alloc, row)?)?;
     }

@@ -35,7 +35,7 @@ fn row_of(alloc: Global, exprs: &[Expr]) -> Result<Option<Row>, AllocError>
     ensures row { IfOk result (λ found. found ≡ machine.each_of machine.literal_of exprs.now) }
     ensures values { IfOk result (λ found. IfSome found IsRow) }
 {
-    let mut made = Row::new(alloc);
+    let mut made = Row::with_capacity(alloc, exprs.len())?;
     for expr in exprs {
         let Some(value) = literal(alloc, expr)? else {
             return Ok(None);

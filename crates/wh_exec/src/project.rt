@@ -21,7 +21,7 @@ pub(crate) fn projected<'a>(
     ensures { Evaluates result
         (meaning.projected (scalars_of items.now) (bag_of (rows_in rows.now))) }
 {
-    let mut images = Vec::new(alloc);
+    let mut images = Vec::with_capacity(alloc, rows.len())?;
     for tuple in rows {
         project(alloc, items, tuple.row(), &mut images)?;
     }

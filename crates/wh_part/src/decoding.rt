@@ -49,7 +49,8 @@ fn read_value(alloc: Global, bytes: &[u8]) -> Result<(Value, &[u8]), ReadError>
 fn read_values(alloc: Global, width: u32, bytes: &[u8]) -> Result<(Row, &[u8]), ReadError>
     ensures { Gives (λ x. (x.0, x.1.now)) result (items_at value_at width bytes.now) }
 {
-    let mut row = Row::new(alloc);
+    // each value has a byte at least
+    let mut row = Row::with_capacity(alloc, (width as usize).min(bytes.len()))?;
     let mut rest = bytes;
     for _ in 0..width {
         let (value, after) = read_value(alloc, rest)?;

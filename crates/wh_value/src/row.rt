@@ -43,6 +43,14 @@ impl Row {
         }
     }
 
+    /// No value yet, with memory for so many.
+    pub fn with_capacity(alloc: Global, count: usize) -> Result<Row, AllocError>
+        ensures { IfOk result (λ row. row ≡ []) }
+    {
+        let values = Vec::with_capacity(alloc, count)?;
+        Ok(Row { values })
+    }
+
     pub fn push(&mut self, value: Value) -> Result<(), AllocError>
         ensures ok { OnOk result (self.new ≡ self.old ++ value_of value ∷ []) }
         ensures err { OnErr result (self.new ≡ self.old) }
@@ -67,7 +75,7 @@ impl Row {
     pub fn copy(&self, alloc: Global) -> Result<Row, AllocError>
         ensures { IfOk result (λ copy. copy ≡ self.now) }
     {
-        let mut values = Vec::new(alloc);
+        let mut values = Vec::with_capacity(alloc, self.values.len())?;
         for value in &self.values {
             values.push(value.copy(alloc)?)?;
         }
