@@ -1,4 +1,6 @@
--- A function value that reads what stands inside, to a depth.
+-- What a function value reads.
+--     Nests           what stands inside, to a depth
+--     ReadsOperand    an operand of a level's operators
 use Rattle.std.specs.Prelude.{ℕ, Result}
 use Rattle.std.specs.declared.alloc.Global.{Global}
 use denote.Ref.{MutBor}
@@ -6,7 +8,7 @@ use Rattle.wh_ast.specs.declared.expr.Expr.{Expr}
 use Rattle.wh_cursor.specs.declared.fault.ParseFault.{ParseFault}
 use Rattle.wh_expr_parse.specs.declared.grammar.Level.{Level}
 use Rattle.wh_cursor.specs.Gives.{Reads}
-use Rattle.wh_expr_parse.specs.State.{State}
+use Rattle.wh_expr_parse.specs.State.{State, Reader}
 use Rattle.wh_expr_parse.specs.Read.{nested}
 
 pub record Nests (depth : ℕ) (pre : Global → MutBor State → ℕ → Level → Type 0)
@@ -14,3 +16,7 @@ pub record Nests (depth : ℕ) (pre : Global → MutBor State → ℕ → Level 
   pub callable : (alloc : Global) (old : MutBor State) (level : Level) → pre alloc old depth level
   pub reads : (alloc : Global) (old new : MutBor State) (level : Level) (r : Result Expr ParseFault) → post alloc old depth level r new
       → Reads (nested depth level old.now) r new.now
+
+pub record ReadsOperand (operand : Reader Expr)
+    (post : MutBor State → Result Expr ParseFault → MutBor State → Type 0) : Type 0 where
+  pub reads : (old new : MutBor State) (r : Result Expr ParseFault) → post old r new → Reads (operand old.now) r new.now

@@ -238,6 +238,11 @@ module _ (inner : Level → Reader Expr) where
   unfoldable pub whole : Reader Expr
   whole = chain 1 conjunction
 
+  -- what the operators of a level stand between
+  unfoldable pub operand : ℕ → Reader Expr
+  operand level =
+      if level == 1 then conjunction else (if level == 2 then negation else (if level == 4 then product else unary))
+
 -- ---- inside one another, as deep as the number says
 
 abbrev pub level : (Level → Reader Expr) → Level → Reader Expr

@@ -3,7 +3,7 @@
 ghost use Rattle.std.specs.Prelude.{◌≡◌, [], true, false};
 ghost use Rattle.wh_cursor.specs.Gives.{Reads};
 ghost use Rattle.wh_expr_parse.specs.Read as spec;
-ghost use Rattle.wh_expr_parse.specs.Nests.{Nests};
+ghost use Rattle.wh_expr_parse.specs.Nests.{Nests, ReadsOperand};
 
 use crate::grammar::{Grammar, Level};
 use crate::made::{binary, negated, negative};
@@ -14,40 +14,49 @@ use wh_ast::Expr;
 use wh_cursor::{Key, ParseFault};
 
 impl<F: Fn(Global, &mut Tokens<'_>, usize, Level) -> Result<Expr, ParseFault>> Grammar<F> {
-    /// Operands of OR.
-    pub fn whole(&self, tokens: &mut Tokens<'_>) -> Result<Expr, ParseFault>
-        requires { Nests self.now.depth (F.pre self.now.inner) (F.post self.now.inner) }
-        ensures { Reads (spec.whole (spec.nested self.now.depth) tokens.old) result tokens.new }
+    /// Operands with a level's operators between them, grouped to the left.
+    #[tactic(auto, using(crate::proofs::ChainSteps::turns_more, crate::proofs::ChainSteps::turns_end))]
+    fn chain<G: Fn(&mut Tokens<'_>) -> Result<Expr, ParseFault>>(
+        &self,
+        tokens: &mut Tokens<'_>,
+        level: u8,
+        operand: &G,
+    ) -> Result<Expr, ParseFault>
+        requires callable { G.IsAlwaysCallable operand.now }
+        requires reads { ReadsOperand (spec.operand (spec.nested self.now.depth) level)
+            (G.post operand.now) }
+        ensures { Reads (spec.chain level (spec.operand (spec.nested self.now.depth) level)
+            tokens.old) result tokens.new }
     {
-        let mut left = self.conjunction(tokens)?;
+        let mut left = operand(tokens)?;
         for _turn in 0..tokens.room() {
-            let Some(operator) = joins(1, tokens.key()) else {
+            let Some(operator) = joins(level, tokens.key()) else {
                 return Ok(left);
             };
             tokens.skip();
             tokens.spend()?;
-            let right = self.conjunction(tokens)?;
+            let right = operand(tokens)?;
             left = binary(self.alloc, operator, left, right)?;
         }
         Ok(left)
     }
 
+    /// Operands of OR.
+    #[tactic(auto, unfolding(crate::specs::Read::whole, crate::specs::Read::operand))]
+    pub fn whole(&self, tokens: &mut Tokens<'_>) -> Result<Expr, ParseFault>
+        requires { Nests self.now.depth (F.pre self.now.inner) (F.post self.now.inner) }
+        ensures { Reads (spec.whole (spec.nested self.now.depth) tokens.old) result tokens.new }
+    {
+        self.chain(tokens, 1, &|tokens| self.conjunction(tokens))
+    }
+
     /// Operands of AND.
+    #[tactic(auto, unfolding(crate::specs::Read::conjunction, crate::specs::Read::operand))]
     fn conjunction(&self, tokens: &mut Tokens<'_>) -> Result<Expr, ParseFault>
         requires { Nests self.now.depth (F.pre self.now.inner) (F.post self.now.inner) }
         ensures { Reads (spec.conjunction (spec.nested self.now.depth) tokens.old) result tokens.new }
     {
-        let mut left = self.negation(tokens)?;
-        for _turn in 0..tokens.room() {
-            let Some(operator) = joins(2, tokens.key()) else {
-                return Ok(left);
-            };
-            tokens.skip();
-            tokens.spend()?;
-            let right = self.negation(tokens)?;
-            left = binary(self.alloc, operator, left, right)?;
-        }
-        Ok(left)
+        self.chain(tokens, 2, &|tokens| self.negation(tokens))
     }
 
     #[tactic(auto, unfolding(crate::specs::Read::negation))]
@@ -74,39 +83,21 @@ impl<F: Fn(Global, &mut Tokens<'_>, usize, Level) -> Result<Expr, ParseFault>> G
     }
 
     /// Operands of plus and minus.
+    #[tactic(auto, unfolding(crate::specs::Read::sum, crate::specs::Read::operand))]
     pub fn sum(&self, tokens: &mut Tokens<'_>) -> Result<Expr, ParseFault>
         requires { Nests self.now.depth (F.pre self.now.inner) (F.post self.now.inner) }
         ensures { Reads (spec.sum (spec.nested self.now.depth) tokens.old) result tokens.new }
     {
-        let mut left = self.product(tokens)?;
-        for _turn in 0..tokens.room() {
-            let Some(operator) = joins(4, tokens.key()) else {
-                return Ok(left);
-            };
-            tokens.skip();
-            tokens.spend()?;
-            let right = self.product(tokens)?;
-            left = binary(self.alloc, operator, left, right)?;
-        }
-        Ok(left)
+        self.chain(tokens, 4, &|tokens| self.product(tokens))
     }
 
     /// Operands of a star.
+    #[tactic(auto, unfolding(crate::specs::Read::product, crate::specs::Read::operand))]
     fn product(&self, tokens: &mut Tokens<'_>) -> Result<Expr, ParseFault>
         requires { Nests self.now.depth (F.pre self.now.inner) (F.post self.now.inner) }
         ensures { Reads (spec.product (spec.nested self.now.depth) tokens.old) result tokens.new }
     {
-        let mut left = self.unary(tokens)?;
-        for _turn in 0..tokens.room() {
-            let Some(operator) = joins(5, tokens.key()) else {
-                return Ok(left);
-            };
-            tokens.skip();
-            tokens.spend()?;
-            let right = self.unary(tokens)?;
-            left = binary(self.alloc, operator, left, right)?;
-        }
-        Ok(left)
+        self.chain(tokens, 5, &|tokens| self.unary(tokens))
     }
 
     #[tactic(auto, unfolding(crate::specs::Read::unary))]

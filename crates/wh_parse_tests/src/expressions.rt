@@ -90,11 +90,8 @@ fn print(x: &Expr, out: &mut Bytes) -> Result<(), Fail> {
 
 /// The expression at the front of a text, or `none`, and how many tokens are left.
 fn read(alloc: Global, text: &[u8], depth: usize) -> Result<Bytes, Fail> {
+    let all = tokens(alloc, text)?;
     let mut out = Bytes::new(alloc);
-    let all = match tokens(alloc, text) {
-        Ok(all) => all,
-        Err(_) => return Ok(out),
-    };
     let mut words = Words::new(&all);
     match expr(alloc, &mut words, depth) {
         Ok(x) => {
@@ -110,11 +107,8 @@ fn read(alloc: Global, text: &[u8], depth: usize) -> Result<Bytes, Fail> {
 
 /// The name at the front of a text, or `none`.
 fn read_name(alloc: Global, text: &[u8]) -> Result<Bytes, Fail> {
+    let all = tokens(alloc, text)?;
     let mut out = Bytes::new(alloc);
-    let all = match tokens(alloc, text) {
-        Ok(all) => all,
-        Err(_) => return Ok(out),
-    };
     let mut words = Words::new(&all);
     match name(alloc, &mut words) {
         Ok(found) => out.extend(found.as_bytes())?,
@@ -233,13 +227,10 @@ fn repeated(
 }
 
 /// Whether an expression stands at the front of a text.
-fn is_read(alloc: Global, text: &[u8], depth: usize) -> bool {
-    let all = match tokens(alloc, text) {
-        Ok(all) => all,
-        Err(_) => return false,
-    };
+fn is_read(alloc: Global, text: &[u8], depth: usize) -> Result<bool, Fail> {
+    let all = tokens(alloc, text)?;
     let mut words = Words::new(&all);
-    expr(alloc, &mut words, depth).is_ok()
+    Ok(expr(alloc, &mut words, depth).is_ok())
 }
 
 #[test]
@@ -249,13 +240,13 @@ fn as_many_stand_inside_one_another_as_the_depth_says(rt: HostRuntime) -> Result
         let closes = repeated(alloc, b"a", count, b")", b"")?;
         let text = repeated(alloc, b"", count, b"(", closes.as_slice())?;
         assert_eq!(rt;
-            is_read(alloc, text.as_slice(), 64),
+            is_read(alloc, text.as_slice(), 64)?,
             want,
             "{count} parentheses"
         );
     }
-    assert_eq!(rt; is_read(alloc, b"COUNT (*)", 1), true);
-    assert_eq!(rt; is_read(alloc, b"COUNT (*)", 0), false);
+    assert_eq!(rt; is_read(alloc, b"COUNT (*)", 1)?, true);
+    assert_eq!(rt; is_read(alloc, b"COUNT (*)", 0)?, false);
     Ok(())
 }
 
@@ -265,7 +256,7 @@ fn at_most_1000_operators_and_items_are_read(rt: HostRuntime) -> Result<(), Fail
     for (count, want) in [(1000, true), (1001, false)] {
         let text = repeated(alloc, b"a", count, b"+a", b"")?;
         assert_eq!(rt;
-            is_read(alloc, text.as_slice(), 64),
+            is_read(alloc, text.as_slice(), 64)?,
             want,
             "{count} operators"
         );
@@ -273,7 +264,7 @@ fn at_most_1000_operators_and_items_are_read(rt: HostRuntime) -> Result<(), Fail
     for (count, want) in [(998, true), (999, false)] {
         let text = repeated(alloc, b"a IN (b", count, b",b", b")")?;
         assert_eq!(rt;
-            is_read(alloc, text.as_slice(), 64),
+            is_read(alloc, text.as_slice(), 64)?,
             want,
             "{count} items more"
         );
@@ -300,11 +291,8 @@ fn take_setting(alloc: Global, words: &mut Words<'_>, out: &mut Bytes) -> Result
 
 /// What steps took from a text, up to one that found something else.
 fn taken(alloc: Global, text: &[u8]) -> Result<Bytes, Fail> {
+    let all = tokens(alloc, text)?;
     let mut out = Bytes::new(alloc);
-    let all = match tokens(alloc, text) {
-        Ok(all) => all,
-        Err(_) => return Ok(out),
-    };
     let mut words = Words::new(&all);
     match take_setting(alloc, &mut words, &mut out) {
         Ok(()) => out.extend(b".")?,
