@@ -4,7 +4,7 @@
 --     under         two parts with an operator between them, and whether it is mistyped
 --     equal_to      a part's equality with a scalar on its left
 --     sees          what an expression sees
-use Rattle.std.specs.Prelude.{Bool, Option, Some, ◌++◌}
+use Rattle.std.specs.Prelude.{Bool, Some, ◌++◌}
 use Rattle.wh_value.specs.Column.{ColumnType}
 use Rattle.wh_value.specs.declared.comparison.Comparison.TheVariants.{Equal}
 use Rattle.wh_naming.specs.Findings.{nothing_found, followed, mistyped_if}
