@@ -1,5 +1,6 @@
 //! Calls: places behind the columns of all entries.
-ghost use Rattle.std.specs.Prelude.{◌≡◌, ◌+◌, ◌∷◌, [], IfOk};
+ghost use Rattle.std.specs.Prelude.{◌≡◌, ◌+◌, ◌∷◌, [], true, Some, IfOk};
+ghost use Rattle.wh_value.specs.Value.{Null};
 ghost use Rattle.wh_value.specs.Column.{NumberType};
 ghost use Rattle.wh_meaning.specs.Query as meaning;
 ghost use Rattle.wh_meaning.specs.Scalar as scalars;
@@ -67,7 +68,6 @@ pub(crate) fn count_rows(
 }
 
 // A call by its number. Where calls may not stand it is mistyped.
-#[tactic(auto, unfolding(crate::specs::View::part_in))]
 fn called(
     alloc: Global,
     call: Call,
@@ -78,13 +78,29 @@ fn called(
     ensures { IfOk result (λ t. part_in t
         ≡ naming.called (sees context.entry) number (call_of call) (findings_of findings)) }
 {
-    if !context.takes_calls {
-        let findings = findings.followed(Findings::mistyped_if(true));
-        let scalar = Scalar::Const(Value::Null);
-        return leaf(alloc, scalar, Some(ColumnType::Number), findings);
+    if context.takes_calls {
+        placed(alloc, call, findings, context, number)
+    } else {
+        drop(call);
+        mistyped(alloc, findings)
     }
-    let scalar = place_of(context, number)?;
+}
+
+// A call where calls may stand.
+#[tactic(auto, unfolding(crate::specs::View::part_in))]
+fn placed(
+    alloc: Global,
+    call: Call,
+    findings: Findings,
+    context: Context,
+    number: usize,
+) -> Result<Boxed<Typed>, AllocError>
+    requires { context.takes_calls ≡ true }
+    ensures { IfOk result (λ t. part_in t
+        ≡ naming.called (sees context.entry) number (call_of call) (findings_of findings)) }
+{
     let calls = only(alloc, call)?;
+    let scalar = place_of(context, number)?;
     Boxed::new(
         alloc,
         Typed {
@@ -96,6 +112,15 @@ fn called(
     )
 }
 
+// What stands where no call may stand.
+fn mistyped(alloc: Global, findings: Findings) -> Result<Boxed<Typed>, AllocError>
+    ensures { IfOk result (λ t. part_in t ≡ naming.leaf (scalars.Const Null) (Some NumberType)
+        (wrong.followed (findings_of findings) (wrong.mistyped_if true))) }
+{
+    let findings = findings.followed(Findings::mistyped_if(true));
+    let scalar = Scalar::Const(Value::Null);
+    leaf(alloc, scalar, Some(ColumnType::Number), findings)
+}
 // The place of a call by its number, behind the columns of all entries.
 fn place_of(context: Context, number: usize) -> Result<Scalar, AllocError>
     ensures { IfOk result (λ place. scalar_of place
