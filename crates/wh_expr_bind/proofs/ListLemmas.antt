@@ -1,5 +1,5 @@
 -- Entries and columns, with one more at the end, and the one of several.
-use Rattle.std.proofs.Common.{◌≡◌, ℕ, zero, suc, ◌+◌, Bool, true, false, List, [], ◌∷◌, ◌++◌, length, Option, Some, None, refl, sym, ap, ◌∙◌, append_assoc, append-nil, bytes_eq, rules, arith, if◌then◌else◌, ◌<◌, take, get_or, map}
+use Rattle.std.proofs.Common.{◌≡◌, ℕ, suc, ◌+◌, Bool, true, false, List, [], ◌∷◌, ◌++◌, length, Option, Some, None, refl, sym, ◌∙◌, append_assoc, append-nil, bytes_eq, arith, if◌then◌else◌, ◌<◌, take, get_or, map}
 use Rattle.std.specs.Prelude.{is_some}
 use Rattle.std.proofs.lemmas.List.{map_more, length-take-le, length-map}
 use Rattle.wh_value.specs.Column.{Column}
@@ -8,7 +8,7 @@ use Rattle.wh_value.specs.declared.column.Column as stored
 use Rattle.wh_expr_bind.specs.declared.entries.Entry as made
 use Rattle.wh_expr_bind.specs.View.{entry_of, entries_of}
 use Rattle.wh_naming.specs.Findings.{Name}
-use Rattle.wh_naming.specs.Scope.{Entry, Place, Span, width, places_among, places_of, may_be_of, spans_of, only}
+use Rattle.wh_naming.specs.Scope.{Entry, width, places_among, places_of, may_be_of, spans_of, only}
 
 pub width_more : (es : List Entry) (e : Entry) → width (es ++ e ∷ []) ≡ width es + length e.columns
 width_more [] e = omega arith

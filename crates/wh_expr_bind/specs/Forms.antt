@@ -1,10 +1,13 @@
 -- Forms of scalars and expressions.
 --     scalar_by     what stands between two scalars
 --     alone         a scalar of a type, with nothing else
+--     under         two parts with an operator between them, and whether it is mistyped
+--     equal_to      a part's equality with a scalar on its left
 --     sees          what an expression sees
-use Rattle.std.specs.Prelude.{Option}
+use Rattle.std.specs.Prelude.{Bool, Some, ◌++◌}
 use Rattle.wh_value.specs.Column.{ColumnType}
-use Rattle.wh_naming.specs.Findings.{nothing_found}
+use Rattle.wh_value.specs.declared.comparison.Comparison.TheVariants.{Equal}
+use Rattle.wh_naming.specs.Findings.{nothing_found, followed, mistyped_if}
 use Rattle.wh_naming.specs.Typing.{Typed, leaf}
 use Rattle.wh_naming.specs.Typing as typing
 use Rattle.wh_expr_bind.specs.View.{context_of}
@@ -22,8 +25,19 @@ scalar_by operators.Add = meaning.Add
 scalar_by operators.Sub = meaning.Sub
 scalar_by operators.Mul = meaning.Mul
 
-abbrev pub alone : Scalar → Option ColumnType → Typed
-alone scalar type_of = leaf scalar type_of nothing_found
+abbrev pub alone : Typed → Typed
+alone x = leaf x.scalar x.type_of nothing_found
+
+unfoldable pub under : Operator → ColumnType → Typed → Typed → Bool → Typed
+under operator given x y is_mistyped = record {
+  scalar = scalar_by operator x.scalar y.scalar;
+  type_of = Some given;
+  calls = x.calls ++ y.calls;
+  findings = followed (followed x.findings y.findings) (mistyped_if is_mistyped);
+}
+
+abbrev pub equal_to : Typed → Typed → Typed
+equal_to left x = record x { scalar = meaning.Compare Equal left.scalar x.scalar }
 
 abbrev pub sees : Context → typing.Context
 sees c = context_of c.entries.now c.takes_calls

@@ -4,7 +4,7 @@
 --     entry_of, entries_of          a FROM entry, and all of them
 --     place_of, span_of             a column's place, and columns with the place of the first
 --     type_of_option                a type, or that of NULL
---     typed_view                    what an expression stands for
+--     typed_view, part_in           what an expression stands for, and the same as one name for a boxed part
 --     context_of                    what an expression sees
 use Rattle.std.specs.Prelude.{Bool, List, map, Option, option_map}
 use Rattle.wh_value.specs.Column as table
@@ -61,6 +61,9 @@ type_of_option t = option_map type_of t
 
 abbrev pub typed_view : Typed → typing.Typed
 typed_view t = record { scalar = scalar_of t.scalar; type_of = type_of_option t.type_of; calls = calls_of t.calls.items; findings = findings_of t.findings }
+
+unfoldable pub part_in : Typed → typing.Typed
+part_in t = typed_view t
 
 abbrev pub context_of : List Entry → Bool → typing.Context
 context_of entries takes_calls = record { entries = entries_of entries; takes_calls = takes_calls }

@@ -1,22 +1,22 @@
 //! What an expression stands for, case by case.
-ghost use Rattle.std.specs.Prelude.{◌≡◌, ◌+◌, map, length, drop, IfOk, OnOk};
+ghost use Rattle.std.specs.Prelude.{◌≡◌, ◌+◌, map, length, drop, IfOk};
 ghost use Rattle.wh_ast.specs.declared.expr.Expr.{fold-Expr};
 ghost use Rattle.wh_value.specs.declared.comparison.Comparison.TheVariants.{Equal};
 ghost use Rattle.wh_naming.specs.Scope as scope;
 ghost use Rattle.wh_naming.specs.Typing as naming;
-ghost use Rattle.wh_expr_bind.specs.View.{type_of_option, typed_view, context_of};
-ghost use Rattle.wh_expr_bind.specs.Forms.{alone, sees};
-ghost use Rattle.wh_scalar.specs.View.{scalar_of};
+ghost use Rattle.wh_expr_bind.specs.View.{typed_view, part_in, context_of};
+ghost use Rattle.wh_expr_bind.specs.Forms.{sees};
 
 use crate::context::Context;
 use crate::count::counted;
 use crate::{Entry, Typed, calls, column_at, forms, ranges};
+use sqlite_items::Boxed;
 use std::alloc::{AllocError, Global};
 use wh_ast::{Expr, Operator};
-use wh_scalar::Scalar;
-use wh_value::{ColumnType, Comparison, Text};
+use wh_value::{Comparison, Text};
 
 /// What an expression stands for, behind that many calls.
+#[tactic(auto, unfolding(crate::specs::View::part_in))]
 pub fn typed(
     alloc: Global,
     x: &Expr,
@@ -27,33 +27,29 @@ pub fn typed(
     ensures { IfOk result (λ t. typed_view t
         ≡ naming.typed x.now (context_of entries.now takes_calls) calls) }
 {
-    typed_in(
-        alloc,
-        x,
-        Context {
-            entries,
-            takes_calls,
-        },
-        calls,
-    )
+    let context = Context {
+        entries,
+        takes_calls,
+    };
+    let part = typed_in(alloc, x, context, calls)?;
+    Ok(part.into_inner())
 }
 
 #[cycle(typed)]
 #[tactic(auto, unfolding(wh_naming::specs::Typing::step))]
-fn typed_in(alloc: Global, x: &Expr, context: Context, number: usize) -> Result<Typed, AllocError>
-    ensures { IfOk result (λ t. typed_view t ≡ naming.typed x.now (sees context.entry) number) }
+fn typed_in(
+    alloc: Global,
+    x: &Expr,
+    context: Context,
+    number: usize,
+) -> Result<Boxed<Typed>, AllocError>
+    ensures { IfOk result (λ t. part_in t ≡ naming.typed x.now (sees context.entry) number) }
 {
     match x {
         Expr::Const(value) => forms::constant(alloc, value),
         Expr::Column(entry, name) => column(alloc, entry, name, context),
-        Expr::Neg(x) => {
-            let x = typed_in(alloc, x.get(), context, number)?;
-            forms::negated(alloc, x)
-        }
-        Expr::Not(x) => {
-            let x = typed_in(alloc, x.get(), context, number)?;
-            forms::inverted(alloc, x)
-        }
+        Expr::Neg(x) => forms::negated(alloc, typed_in(alloc, x.get(), context, number)?),
+        Expr::Not(x) => forms::inverted(alloc, typed_in(alloc, x.get(), context, number)?),
         Expr::Binary(operator, x, y) => {
             let x = typed_in(alloc, x.get(), context, number)?;
             binary(alloc, y.get(), *operator, x, context, number)
@@ -69,8 +65,9 @@ fn typed_in(alloc: Global, x: &Expr, context: Context, number: usize) -> Result<
         }
         Expr::Between(negated, x, low, high) => {
             let x = typed_in(alloc, x.get(), context, number)?;
-            let low = typed_behind(alloc, low.get(), &x, context, number)?;
-            let test = up_to(alloc, high.get(), x, low, context, number)?;
+            let behind = number_behind(number, x.get())?;
+            let low = typed_in(alloc, low.get(), context, behind)?;
+            let test = up_to(alloc, high.get(), x, low, context, behind)?;
             forms::inverted_if(alloc, *negated, test)
         }
         Expr::Sum(x) => {
@@ -90,8 +87,8 @@ fn column(
     entry: &Option<Text>,
     name: &Text,
     context: Context,
-) -> Result<Typed, AllocError>
-    ensures { IfOk result (λ t. typed_view t ≡ naming.column_typed name.now
+) -> Result<Boxed<Typed>, AllocError>
+    ensures { IfOk result (λ t. part_in t ≡ naming.column_typed name.now
         (scope.column_at entry.now name.now (sees context.entry).entries)) }
 {
     let place = column_at(alloc, entry, name, context.entries)?;
@@ -104,14 +101,14 @@ fn binary(
     alloc: Global,
     second: &Expr,
     operator: Operator,
-    x: Typed,
+    x: Boxed<Typed>,
     context: Context,
     number: usize,
-) -> Result<Typed, AllocError>
-    ensures { IfOk result (λ t. typed_view t
-        ≡ naming.binary operator (typed_view x) (naming.typed second.now) (sees context.entry) number) }
+) -> Result<Boxed<Typed>, AllocError>
+    ensures { IfOk result (λ t. part_in t
+        ≡ naming.binary operator (part_in x) (naming.typed second.now) (sees context.entry) number) }
 {
-    let y = typed_behind(alloc, second, &x, context, number)?;
+    let y = typed_behind(alloc, second, x.get(), context, number)?;
     forms::combined(alloc, operator, x, y)
 }
 
@@ -123,30 +120,36 @@ fn typed_behind(
     x: &Typed,
     context: Context,
     number: usize,
-) -> Result<Typed, AllocError>
-    ensures { IfOk result (λ t. typed_view t ≡ naming.typed second.now (sees context.entry)
-        (number + length (typed_view x.now).calls)) }
+) -> Result<Boxed<Typed>, AllocError>
+    ensures { IfOk result (λ t. part_in t ≡ naming.typed second.now (sees context.entry)
+        (number + length (part_in x.now).calls)) }
 {
-    let behind = counted(number, x.calls.len())?;
+    let behind = number_behind(number, x)?;
     typed_in(alloc, second, context, behind)
 }
 
-// BETWEEN, of a typed part and its least.
+// The number of the next call behind a part.
+#[tactic(auto, unfolding(crate::specs::View::part_in))]
+fn number_behind(number: usize, x: &Typed) -> Result<usize, AllocError>
+    ensures { IfOk result (λ n. n ≡ number + length (part_in x.now).calls) }
+{
+    counted(number, x.calls.len())
+}
+
+// BETWEEN, of a typed part and its least, behind which that many calls stand.
 #[cycle(typed)]
 fn up_to(
     alloc: Global,
     high: &Expr,
-    x: Typed,
-    low: Typed,
+    x: Boxed<Typed>,
+    low: Boxed<Typed>,
     context: Context,
     number: usize,
-) -> Result<Typed, AllocError>
-    ensures { IfOk result (λ t. typed_view t ≡ naming.ranged_between (typed_view x) (typed_view low)
-        (naming.typed high.now (sees context.entry)
-        ((number + length (typed_view x).calls) + length (typed_view low).calls))) }
+) -> Result<Boxed<Typed>, AllocError>
+    ensures { IfOk result (λ t. part_in t ≡ naming.ranged_between (part_in x) (part_in low)
+        (naming.typed high.now (sees context.entry) (number + length (part_in low).calls))) }
 {
-    let behind = counted(counted(number, x.calls.len())?, low.calls.len())?;
-    let high = typed_in(alloc, high, context, behind)?;
+    let high = typed_behind(alloc, high, low.get(), context, number)?;
     ranges::ranged_between(alloc, x, low, high)
 }
 
@@ -155,17 +158,17 @@ fn up_to(
 fn among(
     alloc: Global,
     items: &[Expr],
-    x: Typed,
+    x: Boxed<Typed>,
     context: Context,
     number: usize,
-) -> Result<Typed, AllocError>
-    ensures { IfOk result (λ t. typed_view t ≡ naming.among (typed_view x)
+) -> Result<Boxed<Typed>, AllocError>
+    ensures { IfOk result (λ t. part_in t ≡ naming.among (part_in x)
         (map (fold-Expr naming.Reading naming.step) items.now) (sees context.entry) number) }
 {
     if items.is_empty() {
-        return Ok(ranges::among_none(x));
+        return ranges::among_none(alloc, x);
     }
-    let first = typed_behind(alloc, &items[0], &x, context, number)?;
+    let first = typed_behind(alloc, &items[0], x.get(), context, number)?;
     among_more(alloc, items, x, first, context, number)
 }
 
@@ -175,43 +178,54 @@ fn among(
 fn among_more(
     alloc: Global,
     items: &[Expr],
-    x: Typed,
-    first: Typed,
+    x: Boxed<Typed>,
+    first: Boxed<Typed>,
     context: Context,
     number: usize,
-) -> Result<Typed, AllocError>
-    ensures { IfOk result (λ t. typed_view t ≡ naming.more_items (typed_view x)
+) -> Result<Boxed<Typed>, AllocError>
+    ensures { IfOk result (λ t. part_in t ≡ naming.more_items (part_in x)
         (map (fold-Expr naming.Reading naming.step) (drop 1 items.now)) (sees context.entry) number
-        (naming.compared_with Equal (typed_view x) (typed_view first))) }
+        (naming.compared_with Equal (part_in x) (part_in first))) }
 {
-    let left = x.scalar.copy(alloc)?;
-    let left_type = x.type_of;
-    let mut tests = forms::compared(alloc, Comparison::Equal, x, first)?;
-    more_items(alloc, items, &left, left_type, &mut tests, context, number)?;
-    Ok(tests)
+    let left = forms::alone(alloc, x.get())?;
+    let test = forms::compared(alloc, Comparison::Equal, x, first)?;
+    more_items(alloc, items, left.get(), test, context, number)
 }
 
-// The items behind the first, behind the tests so far.
+// The items behind the first, behind its test.
 #[cycle(typed)]
 fn more_items(
     alloc: Global,
     items: &[Expr],
-    left: &Scalar,
-    left_type: Option<ColumnType>,
-    tests: &mut Typed,
+    left: &Typed,
+    first: Boxed<Typed>,
     context: Context,
     number: usize,
-) -> Result<(), AllocError>
-    ensures { OnOk result (typed_view tests.new ≡ naming.more_items
-        (alone (scalar_of left.now) (type_of_option left_type))
+) -> Result<Boxed<Typed>, AllocError>
+    ensures { IfOk result (λ t. part_in t ≡ naming.more_items (part_in left.now)
         (map (fold-Expr naming.Reading naming.step) (drop 1 items.now)) (sees context.entry) number
-        (typed_view tests.old)) }
+        (part_in first)) }
 {
-    for (place, item) in items.iter().enumerate() {
-        if place > 0 {
-            let item = typed_behind(alloc, item, tests, context, number)?;
-            ranges::add_equal(alloc, left, left_type, tests, item)?;
-        }
+    let mut tests = first;
+    for place in 1..items.len() {
+        tests = one_more(alloc, &items[place], left, tests, context, number)?;
     }
-    Ok(())
+    Ok(tests)
+}
+
+// One item behind the tests so far.
+#[cycle(typed)]
+fn one_more(
+    alloc: Global,
+    item: &Expr,
+    left: &Typed,
+    tests: Boxed<Typed>,
+    context: Context,
+    number: usize,
+) -> Result<Boxed<Typed>, AllocError>
+    ensures { IfOk result (λ t. part_in t ≡ naming.or_equal (part_in left.now) (part_in tests)
+        (naming.typed item.now (sees context.entry) (number + length (part_in tests).calls))) }
+{
+    let item = typed_behind(alloc, item, tests.get(), context, number)?;
+    ranges::or_equal(alloc, left, tests, item)
 }

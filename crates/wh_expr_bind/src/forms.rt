@@ -3,103 +3,197 @@ ghost use Rattle.std.specs.Prelude.{◌≡◌, ◌++◌, not, IfOk, option_map};
 ghost use Rattle.wh_value.specs.Column.{NumberType, BooleanType};
 ghost use Rattle.wh_value.specs.View.{value_of, type_of};
 ghost use Rattle.wh_meaning.specs.Scalar as meaning;
+ghost use Rattle.wh_scalar.specs.View.{scalar_of};
 ghost use Rattle.wh_algebra.specs.View.{calls_of};
 ghost use Rattle.wh_naming.specs.Findings as wrong;
 ghost use Rattle.wh_naming.specs.Typing as naming;
-ghost use Rattle.wh_expr_bind.specs.View.{findings_of, place_of, type_of_option, typed_view};
-ghost use Rattle.wh_expr_bind.specs.Forms.{scalar_by};
+ghost use Rattle.wh_expr_bind.specs.View.{findings_of, part_in, place_of, type_of_option};
+ghost use Rattle.wh_expr_bind.specs.Forms.{alone, scalar_by, under};
 
 use crate::types::value_type;
 use crate::{Findings, Place, Typed, alike, scalars};
+use sqlite_items::Boxed;
 use std::alloc::{AllocError, Global};
 use wh_algebra::Call;
 use wh_ast::Operator;
 use wh_scalar::Scalar;
 use wh_value::{ColumnType, Comparison, Text, Value};
 
-pub(crate) fn constant(alloc: Global, value: &Value) -> Result<Typed, AllocError>
-    ensures { IfOk result (λ t. typed_view t ≡ naming.leaf (meaning.Const (value_of value.now))
+/// A scalar of a type without calls.
+#[tactic(auto, unfolding(crate::specs::View::part_in))]
+pub(crate) fn leaf(
+    alloc: Global,
+    scalar: Scalar,
+    type_of: Option<ColumnType>,
+    findings: Findings,
+) -> Result<Boxed<Typed>, AllocError>
+    ensures { IfOk result (λ t. part_in t
+        ≡ naming.leaf (scalar_of scalar) (type_of_option type_of) (findings_of findings)) }
+{
+    let calls = Vec::new(alloc);
+    Boxed::new(
+        alloc,
+        Typed {
+            scalar,
+            type_of,
+            calls,
+            findings,
+        },
+    )
+}
+
+pub(crate) fn constant(alloc: Global, value: &Value) -> Result<Boxed<Typed>, AllocError>
+    ensures { IfOk result (λ t. part_in t ≡ naming.leaf (meaning.Const (value_of value.now))
         (naming.value_type (value_of value.now)) wrong.nothing_found) }
 {
-    Ok(Typed {
-        scalar: Scalar::Const(value.copy(alloc)?),
-        type_of: value_type(value),
-        calls: Vec::new(alloc),
-        findings: Findings::nothing(),
-    })
+    let scalar = Scalar::Const(value.copy(alloc)?);
+    leaf(alloc, scalar, value_type(value), Findings::nothing())
 }
 
 /// The column of a name at a place, or the finding that no one column has it.
-pub(crate) fn column(alloc: Global, name: &Text, place: Option<Place>) -> Result<Typed, AllocError>
-    ensures { IfOk result (λ t. typed_view t
+pub(crate) fn column(
+    alloc: Global,
+    name: &Text,
+    place: Option<Place>,
+) -> Result<Boxed<Typed>, AllocError>
+    ensures { IfOk result (λ t. part_in t
         ≡ naming.column_typed name.now (option_map place_of place)) }
 {
     let Some(place) = place else {
-        return Ok(Typed {
-            scalar: Scalar::Const(Value::Null),
-            type_of: None,
-            calls: Vec::new(alloc),
-            findings: Findings::unknown_column(name.copy(alloc)?),
-        });
+        let findings = Findings::unknown_column(name.copy(alloc)?);
+        return leaf(alloc, Scalar::Const(Value::Null), None, findings);
     };
-    Ok(Typed {
-        scalar: scalars::column(place.place)?,
-        type_of: Some(place.column_type),
-        calls: Vec::new(alloc),
-        findings: Findings::nothing(),
-    })
+    let scalar = scalars::column(place.place)?;
+    leaf(alloc, scalar, Some(place.column_type), Findings::nothing())
 }
 
-/// What is found where a part takes a type.
-pub(crate) fn takes(taken: ColumnType, x: &Typed) -> Findings
-    ensures { findings_of result ≡ naming.takes (type_of taken) (typed_view x.now) }
+/// A copy of a part's scalar with its type.
+#[tactic(auto, unfolding(crate::specs::View::part_in))]
+pub(crate) fn alone(alloc: Global, x: &Typed) -> Result<Boxed<Typed>, AllocError>
+    ensures { IfOk result (λ t. part_in t ≡ alone (part_in x.now)) }
 {
-    Findings::mistyped_if(!alike(Some(taken), x.type_of))
+    let scalar = x.scalar.copy(alloc)?;
+    leaf(alloc, scalar, x.type_of, Findings::nothing())
 }
 
-/// What is found where a part has another type than the part that it is compared with.
-pub(crate) fn likened(first: Option<ColumnType>, x: &Typed) -> Findings
-    ensures { findings_of result
-        ≡ wrong.mistyped_if (not (naming.alike (type_of_option first) (type_of_option x.now.type_of))) }
+/// Whether a part fits where a type is taken.
+#[tactic(auto, unfolding(crate::specs::View::part_in))]
+pub(crate) fn fits(taken: ColumnType, x: &Typed) -> bool
+    ensures { result ≡ naming.alike (Some (type_of taken)) (part_in x.now).type_of }
 {
-    Findings::mistyped_if(!alike(first, x.type_of))
+    alike(Some(taken), x.type_of)
 }
 
-pub(crate) fn negated(alloc: Global, x: Typed) -> Result<Typed, AllocError>
-    ensures { IfOk result (λ t. typed_view t
-        ≡ naming.over meaning.Neg NumberType NumberType (typed_view x)) }
+/// Whether two parts that are compared have one type.
+#[tactic(auto, unfolding(crate::specs::View::part_in))]
+pub(crate) fn are_alike(x: &Typed, y: &Typed) -> bool
+    ensures { result ≡ naming.alike (part_in x.now).type_of (part_in y.now).type_of }
 {
-    let wrong = takes(ColumnType::Number, &x);
-    Ok(Typed {
-        scalar: scalars::negated(alloc, x.scalar)?,
-        type_of: Some(ColumnType::Number),
-        calls: x.calls,
-        findings: x.findings.followed(wrong),
-    })
+    alike(x.type_of, y.type_of)
 }
 
-pub(crate) fn inverted(alloc: Global, x: Typed) -> Result<Typed, AllocError>
-    ensures { IfOk result (λ t. typed_view t
-        ≡ naming.over meaning.Not BooleanType BooleanType (typed_view x)) }
+#[tactic(auto, unfolding(crate::specs::View::part_in))]
+pub(crate) fn negated(alloc: Global, x: Boxed<Typed>) -> Result<Boxed<Typed>, AllocError>
+    ensures { IfOk result (λ t. part_in t
+        ≡ naming.over meaning.Neg NumberType NumberType (part_in x)) }
 {
-    let wrong = takes(ColumnType::Boolean, &x);
-    Ok(Typed {
-        scalar: scalars::inverted(alloc, x.scalar)?,
-        type_of: Some(ColumnType::Boolean),
-        calls: x.calls,
-        findings: x.findings.followed(wrong),
-    })
+    let is_mistyped = !fits(ColumnType::Number, x.get());
+    let x = x.into_inner();
+    let scalar = scalars::negated(alloc, x.scalar)?;
+    Boxed::new(
+        alloc,
+        Typed {
+            scalar,
+            type_of: Some(ColumnType::Number),
+            calls: x.calls,
+            findings: x.findings.followed(Findings::mistyped_if(is_mistyped)),
+        },
+    )
+}
+
+#[tactic(auto, unfolding(crate::specs::View::part_in))]
+pub(crate) fn inverted(alloc: Global, x: Boxed<Typed>) -> Result<Boxed<Typed>, AllocError>
+    ensures { IfOk result (λ t. part_in t
+        ≡ naming.over meaning.Not BooleanType BooleanType (part_in x)) }
+{
+    let is_mistyped = !fits(ColumnType::Boolean, x.get());
+    let x = x.into_inner();
+    let scalar = scalars::inverted(alloc, x.scalar)?;
+    Boxed::new(
+        alloc,
+        Typed {
+            scalar,
+            type_of: Some(ColumnType::Boolean),
+            calls: x.calls,
+            findings: x.findings.followed(Findings::mistyped_if(is_mistyped)),
+        },
+    )
+}
+
+/// With NOT, where it is written.
+#[tactic(auto, unfolding(crate::specs::View::part_in))]
+pub(crate) fn inverted_if(
+    alloc: Global,
+    negated: bool,
+    x: Boxed<Typed>,
+) -> Result<Boxed<Typed>, AllocError>
+    ensures { IfOk result (λ t. part_in t ≡ naming.inverted_if negated (part_in x)) }
+{
+    if !negated {
+        return Ok(x);
+    }
+    let x = x.into_inner();
+    let scalar = scalars::inverted(alloc, x.scalar)?;
+    Boxed::new(
+        alloc,
+        Typed {
+            scalar,
+            type_of: x.type_of,
+            calls: x.calls,
+            findings: x.findings,
+        },
+    )
+}
+
+/// IS NULL, or IS NOT NULL.
+pub(crate) fn null_test(
+    alloc: Global,
+    negated: bool,
+    x: Boxed<Typed>,
+) -> Result<Boxed<Typed>, AllocError>
+    ensures { IfOk result (λ t. part_in t
+        ≡ naming.inverted_if negated (naming.null_test (part_in x))) }
+{
+    let test = is_null(alloc, x)?;
+    inverted_if(alloc, negated, test)
+}
+
+#[tactic(auto, unfolding(crate::specs::View::part_in))]
+fn is_null(alloc: Global, x: Boxed<Typed>) -> Result<Boxed<Typed>, AllocError>
+    ensures { IfOk result (λ t. part_in t ≡ naming.null_test (part_in x)) }
+{
+    let x = x.into_inner();
+    let scalar = scalars::is_null(alloc, x.scalar)?;
+    Boxed::new(
+        alloc,
+        Typed {
+            scalar,
+            type_of: Some(ColumnType::Boolean),
+            calls: x.calls,
+            findings: x.findings,
+        },
+    )
 }
 
 /// Two parts, with an operator between them.
 pub(crate) fn combined(
     alloc: Global,
     operator: Operator,
-    x: Typed,
-    y: Typed,
-) -> Result<Typed, AllocError>
-    ensures { IfOk result (λ t. typed_view t
-        ≡ naming.combined operator (typed_view x) (typed_view y)) }
+    x: Boxed<Typed>,
+    y: Boxed<Typed>,
+) -> Result<Boxed<Typed>, AllocError>
+    ensures { IfOk result (λ t. part_in t
+        ≡ naming.combined operator (part_in x) (part_in y)) }
 {
     match operator {
         Operator::Or | Operator::And => over_both(alloc, operator, ColumnType::Boolean, x, y),
@@ -111,77 +205,70 @@ pub(crate) fn combined(
 }
 
 // Two parts that both take a type, and give it.
+#[tactic(auto, unfolding(crate::specs::Forms::under))]
 fn over_both(
     alloc: Global,
     operator: Operator,
     taken: ColumnType,
-    x: Typed,
-    y: Typed,
-) -> Result<Typed, AllocError>
-    ensures { IfOk result (λ t. typed_view t ≡ naming.over_both (scalar_by operator)
-        (type_of taken) (type_of taken) (typed_view x) (typed_view y)) }
+    x: Boxed<Typed>,
+    y: Boxed<Typed>,
+) -> Result<Boxed<Typed>, AllocError>
+    ensures { IfOk result (λ t. part_in t ≡ naming.over_both (scalar_by operator)
+        (type_of taken) (type_of taken) (part_in x) (part_in y)) }
 {
-    let wrong = takes(taken, &x).followed(takes(taken, &y));
-    Ok(Typed {
-        scalar: scalars::by(alloc, operator, x.scalar, y.scalar)?,
-        type_of: Some(taken),
-        calls: joined(x.calls, y.calls)?,
-        findings: x.findings.followed(y.findings).followed(wrong),
-    })
+    let is_mistyped = !fits(taken, x.get()) || !fits(taken, y.get());
+    under(alloc, operator, taken, x, y, is_mistyped)
 }
 
 /// Two parts of one type.
+#[tactic(auto, unfolding(crate::specs::Forms::under))]
 pub(crate) fn compared(
     alloc: Global,
     comparison: Comparison,
-    x: Typed,
-    y: Typed,
-) -> Result<Typed, AllocError>
-    ensures { IfOk result (λ t. typed_view t
-        ≡ naming.compared_with comparison (typed_view x) (typed_view y)) }
+    x: Boxed<Typed>,
+    y: Boxed<Typed>,
+) -> Result<Boxed<Typed>, AllocError>
+    ensures { IfOk result (λ t. part_in t
+        ≡ naming.compared_with comparison (part_in x) (part_in y)) }
 {
-    let wrong = likened(x.type_of, &y);
-    Ok(Typed {
-        scalar: scalars::compared(alloc, comparison, x.scalar, y.scalar)?,
-        type_of: Some(ColumnType::Boolean),
-        calls: joined(x.calls, y.calls)?,
-        findings: x.findings.followed(y.findings).followed(wrong),
-    })
+    let is_mistyped = !are_alike(x.get(), y.get());
+    let operator = Operator::Compare(comparison);
+    under(alloc, operator, ColumnType::Boolean, x, y, is_mistyped)
 }
 
-pub(crate) fn joined(mut first: Vec<Call>, next: Vec<Call>) -> Result<Vec<Call>, AllocError>
+/// Two parts with an operator between them that gives a type, and whether it is mistyped.
+#[tactic(auto, unfolding(crate::specs::View::part_in, crate::specs::Forms::under))]
+pub(crate) fn under(
+    alloc: Global,
+    operator: Operator,
+    given: ColumnType,
+    x: Boxed<Typed>,
+    y: Boxed<Typed>,
+    is_mistyped: bool,
+) -> Result<Boxed<Typed>, AllocError>
+    ensures { IfOk result (λ t. part_in t
+        ≡ under operator (type_of given) (part_in x) (part_in y) is_mistyped) }
+{
+    let x = x.into_inner();
+    let y = y.into_inner();
+    let found = x.findings.followed(y.findings);
+    let findings = found.followed(Findings::mistyped_if(is_mistyped));
+    let scalar = scalars::by(alloc, operator, x.scalar, y.scalar)?;
+    let calls = joined(x.calls, y.calls)?;
+    Boxed::new(
+        alloc,
+        Typed {
+            scalar,
+            type_of: Some(given),
+            calls,
+            findings,
+        },
+    )
+}
+
+fn joined(mut first: Vec<Call>, mut next: Vec<Call>) -> Result<Vec<Call>, AllocError>
     ensures { IfOk result (λ both. calls_of both.items ≡ calls_of first.items ++ calls_of next.items) }
 {
-    for call in next {
-        first.push(call)?;
-    }
+    first.append(&mut next)?;
     Ok(first)
-}
-
-/// With NOT, where it is written.
-pub(crate) fn inverted_if(alloc: Global, negated: bool, x: Typed) -> Result<Typed, AllocError>
-    ensures { IfOk result (λ t. typed_view t ≡ naming.inverted_if negated (typed_view x)) }
-{
-    if !negated {
-        return Ok(x);
-    }
-    Ok(Typed {
-        scalar: scalars::inverted(alloc, x.scalar)?,
-        type_of: x.type_of,
-        calls: x.calls,
-        findings: x.findings,
-    })
-}
-
-pub(crate) fn null_test(alloc: Global, negated: bool, x: Typed) -> Result<Typed, AllocError>
-    ensures { IfOk result (λ t. typed_view t
-        ≡ naming.inverted_if negated (naming.null_test (typed_view x))) }
-{
-    let test = Typed {
-        scalar: scalars::is_null(alloc, x.scalar)?,
-        type_of: Some(ColumnType::Boolean),
-        calls: x.calls,
-        findings: x.findings,
-    };
-    inverted_if(alloc, negated, test)
 }

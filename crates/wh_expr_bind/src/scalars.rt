@@ -20,14 +20,20 @@ pub(crate) fn by(
 {
     let x = Boxed::new(alloc, x)?;
     let y = Boxed::new(alloc, y)?;
-    Ok(match operator {
+    Ok(between(operator, x, y))
+}
+
+fn between(operator: Operator, x: Boxed<Scalar>, y: Boxed<Scalar>) -> Scalar
+    ensures { scalar_of result ≡ scalar_by operator (scalar_of x) (scalar_of y) }
+{
+    match operator {
         Operator::Or => Scalar::Or(x, y),
         Operator::And => Scalar::And(x, y),
         Operator::Compare(comparison) => Scalar::Compare(comparison, x, y),
         Operator::Add => Scalar::Add(x, y),
         Operator::Sub => Scalar::Sub(x, y),
         Operator::Mul => Scalar::Mul(x, y),
-    })
+    }
 }
 
 pub(crate) fn compared(
