@@ -1,1 +1,5 @@
-pub mod Walks
+pub mod Faults
+pub mod Entries
+pub mod Excess
+pub mod Sum
+pub mod Changes

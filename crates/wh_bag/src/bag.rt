@@ -94,7 +94,7 @@ impl Bag {
     }
 
     /// The rows that are here more often than in the other bag, each so often.
-    pub fn excess(&self, alloc: Global, other: &Bag) -> Result<Bag, AllocError>
+    pub(crate) fn excess(&self, alloc: Global, other: &Bag) -> Result<Bag, AllocError>
         ensures { IfOk result (λ more. IsExcess self.now other.now more) }
     {
         let mut more = Bag::new(alloc);

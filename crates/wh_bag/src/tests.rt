@@ -15,7 +15,8 @@ fn row_of(alloc: Global, number: i64) -> Result<Row, Fail> {
 fn bag_of(alloc: Global, rows: Counted<'_>) -> Result<Bag, Fail> {
     let mut bag = Bag::new(alloc);
     for (number, count) in rows {
-        bag.add(row_of(alloc, *number)?, *count).map_err(|_| "not added")?;
+        bag.add(row_of(alloc, *number)?, *count)
+            .map_err(|_| "not added")?;
     }
     Ok(bag)
 }
@@ -72,7 +73,12 @@ fn a_net_change_leads_from_one_bag_to_the_other(rt: HostRuntime) -> Result<(), F
     Ok(())
 }
 
-type Case<'a> = (&'a str, Counted<'a>, Counted<'a>, Result<Counted<'a>, ApplyFault>);
+type Case<'a> = (
+    &'a str,
+    Counted<'a>,
+    Counted<'a>,
+    Result<Counted<'a>, ApplyFault>,
+);
 
 #[test]
 fn both_sides_of_a_change_are_counted(rt: HostRuntime) -> Result<(), Fail> {
@@ -80,10 +86,30 @@ fn both_sides_of_a_change_are_counted(rt: HostRuntime) -> Result<(), Fail> {
     let old: &[(i64, u64)] = &[(1, 2), (2, u64::MAX)];
     let cases: [Case<'_>; 5] = [
         ("nothing", &[], &[], Ok(old)),
-        ("a row on both sides", &[(3, 5)], &[(1, 1), (3, 3)], Ok(&[(1, 1), (2, u64::MAX), (3, 2)])),
-        ("full, and one less", &[(2, 4)], &[(2, 5)], Ok(&[(1, 2), (2, u64::MAX - 1)])),
-        ("full, and one more", &[(2, 5)], &[(2, 4)], Err(ApplyFault::TooMany)),
-        ("one too few", &[(1, 1)], &[(1, 4)], Err(ApplyFault::Missing)),
+        (
+            "a row on both sides",
+            &[(3, 5)],
+            &[(1, 1), (3, 3)],
+            Ok(&[(1, 1), (2, u64::MAX), (3, 2)]),
+        ),
+        (
+            "full, and one less",
+            &[(2, 4)],
+            &[(2, 5)],
+            Ok(&[(1, 2), (2, u64::MAX - 1)]),
+        ),
+        (
+            "full, and one more",
+            &[(2, 5)],
+            &[(2, 4)],
+            Err(ApplyFault::TooMany),
+        ),
+        (
+            "one too few",
+            &[(1, 1)],
+            &[(1, 4)],
+            Err(ApplyFault::Missing),
+        ),
     ];
     for (name, plus, minus, want) in cases {
         let plus = bag_of(alloc, plus)?;

@@ -48,7 +48,7 @@ pub find_below : (q : Row) (es : List (Row × ℕ)) → T (below_all row_cmp q e
 find_below q [] h = refl
 find_below q (e ∷ es) h = ap (λ r. cond (is_eq r) (Some e.1) (find row_cmp q es)) (is-Less _ (first _ _ h)) ∙ find_below q es (second _ _ h)
 
-again-past : {A : Type 0} (f g : A → A) → ((x : A) → f (g x) ≡ g (f x)) → (n : ℕ) (x : A) → again n f (g x) ≡ g (again n f x)
+pub again-past : {A : Type 0} (f g : A → A) → ((x : A) → f (g x) ≡ g (f x)) → (n : ℕ) (x : A) → again n f (g x) ≡ g (again n f x)
 again-past f g past zero x = refl
 again-past f g past (suc n) x = ap f (again-past f g past n x) ∙ past (again n f x)
 

@@ -10,7 +10,8 @@ use Rattle.std.specs.BTreeMap.{is_at}
 use Rattle.std.specs.Map.{lookup, keys_of}
 use Rattle.std.specs.List.Sorted.{IsStrictlySortedBy}
 use Rattle.std.proofs.lemmas.Map.Keys.{sorted_head, sorted_tail}
-use Rattle.std.specs.FinMap.{empty, get, insert, entries, from_entries, find, put, get-from_entries, get-insert, entries-insert, same_map, len-entries, len-empty}
+use Rattle.std.specs.FinMap.{empty, get, insert, entries, from_entries, find, put, same_map}
+use Rattle.std.specs.FinMap.{get-from_entries, get-insert, entries-insert, len-entries, len-empty}
 use Rattle.std.specs.FinMap.Entries.{by_order}
 use Rattle.wh_value.specs.Value.{Row, row_cmp}
 use Rattle.wh_value.specs.Order.{row_total, row-IsAntisymmetric}
@@ -27,19 +28,24 @@ module _ {X : Type 0} where
   no_length [] e = refl
   no_length (x ∷ es) e = absurd (omega arith)
 
-  put_first : (e : Row × X) (es : List (Row × X)) → IsStrictlySortedBy row_cmp (keys_of (e ∷ es)) → put row_cmp e.0 e.1 es ≡ e ∷ es
+  put_first : (e : Row × X) (es : List (Row × X)) → IsStrictlySortedBy row_cmp (keys_of (e ∷ es))
+      → put row_cmp e.0 e.1 es ≡ e ∷ es
   put_first e [] sorted = refl
   put_first e (f ∷ es) sorted =
-      ap (λ r. by_order r (e ∷ f ∷ es) ((f.0, e.1) ∷ es) (f ∷ put row_cmp e.0 e.1 es)) (sorted_head row_cmp e.0 (keys_of (f ∷ es)) sorted).0
+      ap (λ r. by_order r (e ∷ f ∷ es) ((f.0, e.1) ∷ es) (f ∷ put row_cmp e.0 e.1 es))
+      (sorted_head row_cmp e.0 (keys_of (f ∷ es)) sorted).0
 
-  pub entries_in_order : (es : List (Row × X)) → IsStrictlySortedBy row_cmp (keys_of es) → entries (from_entries {R = row_cmp} es) ≡ es
+  pub entries_in_order : (es : List (Row × X)) → IsStrictlySortedBy row_cmp (keys_of es)
+      → entries (from_entries {R = row_cmp} es) ≡ es
   entries_in_order [] sorted = no_length (entries empty) (sym (len-entries empty) ∙ len-empty row_cmp X)
   entries_in_order (e ∷ es) sorted =
       entries-insert row_total (from_entries es) e.0 e.1
       ∙ ap (put row_cmp e.0 e.1) (entries_in_order es (sorted_tail row_cmp e.0 (keys_of es) sorted))
       ∙ put_first e es sorted
 
-  pub map_after : (m n : List (Row × X)) (key : Row) (v : X) → ((q : Row) → lookup (is_at (row_cmp q)) n ≡ cond (is_eq (row_cmp key q)) (Some v) (lookup (is_at (row_cmp q)) m))
+  pub map_after : (m n : List (Row × X)) (key : Row) (v : X)
+      → ((q : Row) → lookup (is_at (row_cmp q)) n
+      ≡ cond (is_eq (row_cmp key q)) (Some v) (lookup (is_at (row_cmp q)) m))
       → from_entries {R = row_cmp} n ≡ insert (from_entries m) key v
   map_after m n key v has = same_map row_total row-IsAntisymmetric _ _ (λ q.
       gotten n q

@@ -1,4 +1,4 @@
-use Rattle.wh_bag.proofs.Walks.{emptied}
+use Rattle.wh_bag.proofs.Entries.{emptied}
 use Rattle.wh_bag.proofs.bag.Bag.is_empty.Goals as goal
 
 pub returns : goal.returns

@@ -4,4 +4,7 @@ use Rattle.wh_meaning.proofs.RowMaps.{entries_in_order}
 use Rattle.wh_bag.proofs.bag.Bag.iter.Goals as goal
 
 pub returns : goal.returns
-returns c = c.iter.ensures.rest ∙ sym (entries_in_order c.self.inside.map.entries c.iter.ensures.ordered) ∙ ap entries c.self.view_is
+returns c =
+    c.iter.ensures.rest
+    ∙ sym (entries_in_order c.self.inside.map.entries c.iter.ensures.ordered)
+    ∙ ap entries c.self.view_is
