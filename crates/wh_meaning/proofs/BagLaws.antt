@@ -10,7 +10,7 @@ use Rattle.std.proofs.Common.{arith, refl, sym, ap, subst, ◌∙◌}
 use Rattle.std.specs.declared.cmp.Ordering.{Ordering}
 use Rattle.std.specs.declared.cmp.Ordering.TheVariants.{Less, Equal, Greater}
 use Rattle.std.specs.Ordering.{is_eq, is_lt, eq_by_cmp}
-use Rattle.std.specs.FinMap.{entries, entries_sorted, entries-insert, get-entries, len-entries, len-empty, get, get-empty, get-insert, get-retain_keys, same_map, find, put, is_sorted}
+use Rattle.std.specs.FinMap.{entries, entries_sorted, entries-insert, get-entries, len-entries, len-empty, get, insert, get-empty, get-insert, get-retain_keys, same_map, find, put, is_sorted}
 use Rattle.std.specs.FinMap.Entries.{below_all, by_order}
 use Rattle.wh_value.specs.Value.{Row, row_cmp}
 use Rattle.wh_value.specs.Order.{row_total, row-IsAntisymmetric}
@@ -22,11 +22,11 @@ fold_list op z (row ∷ rows) = op row (fold_list op z rows)
 
 -- ---- entries in order
 
-first : (a b : Bool) → T (a && b) → T a
+pub first : (a b : Bool) → T (a && b) → T a
 first true b h = tt
 first false b h = h
 
-second : (a b : Bool) → T (a && b) → T b
+pub second : (a b : Bool) → T (a && b) → T b
 second true b h = h
 second false b h = absurd h
 
@@ -44,11 +44,11 @@ below_less x y [] p h = tt
 below_less x y (e ∷ es) p h =
     both _ _ (subst (λ r. T (is_lt r)) (sym (row_total.trans x y e.0 p (is-Less _ (first _ _ h)))) tt) (below_less x y es p (second _ _ h))
 
-find_below : (q : Row) (es : List (Row × ℕ)) → T (below_all row_cmp q es) → find row_cmp q es ≡ None
+pub find_below : (q : Row) (es : List (Row × ℕ)) → T (below_all row_cmp q es) → find row_cmp q es ≡ None
 find_below q [] h = refl
 find_below q (e ∷ es) h = ap (λ r. cond (is_eq r) (Some e.1) (find row_cmp q es)) (is-Less _ (first _ _ h)) ∙ find_below q es (second _ _ h)
 
-again-past : {A : Type 0} (f g : A → A) → ((x : A) → f (g x) ≡ g (f x)) → (n : ℕ) (x : A) → again n f (g x) ≡ g (again n f x)
+pub again-past : {A : Type 0} (f g : A → A) → ((x : A) → f (g x) ≡ g (f x)) → (n : ℕ) (x : A) → again n f (g x) ≡ g (again n f x)
 again-past f g past zero x = refl
 again-past f g past (suc n) x = ap f (again-past f g past n x) ∙ past (again n f x)
 
@@ -101,7 +101,7 @@ times-cond : (t : Bool) (n : ℕ) (found : Option ℕ) → times (cond t (Some n
 times-cond true n found = refl
 times-cond false n found = refl
 
-cond-same : (t : Bool) (a b c : ℕ) → (t ≡ true → a ≡ b) → cond t a c ≡ cond t b c
+pub cond-same : (t : Bool) (a b c : ℕ) → (t ≡ true → a ≡ b) → cond t a c ≡ cond t b c
 cond-same true a b c e = e refl
 cond-same false a b c e = refl
 
@@ -113,10 +113,12 @@ is-Equal Greater e = cc
 pub tied_rows : (q row : Row) → eq_by_cmp row_cmp q row ≡ true → q ≡ row
 tied_rows q row t = row-IsAntisymmetric q row (is-Equal _ t)
 
+pub count-insert : (row : Row) (n : ℕ) (b : Bag) (q : Row) → count (insert b row n) q ≡ cond (eq_by_cmp row_cmp q row) (suc n) (count b q)
+count-insert row n b q = ap times (get-insert row_total b row n q) ∙ times-cond (eq_by_cmp row_cmp q row) n (get b q)
+
 pub count-with_row : (row : Row) (b : Bag) (q : Row) → count (with_row row b) q ≡ cond (eq_by_cmp row_cmp q row) (suc (count b q)) (count b q)
 count-with_row row b q =
-    ap times (get-insert row_total b row (count b row) q)
-    ∙ times-cond (eq_by_cmp row_cmp q row) (count b row) (get b q)
+    count-insert row (count b row) b q
     ∙ cond-same _ _ _ _ (λ t. ap (λ r. suc (count b r)) (sym (tied_rows q row t)))
 
 swapped : (s t : Bool) (n : ℕ) → cond s (suc (cond t (suc n) n)) (cond t (suc n) n) ≡ cond t (suc (cond s (suc n) n)) (cond s (suc n) n)
@@ -133,7 +135,7 @@ with_row-with_row x y b = bag_of_same _ _ (λ q.
     ∙ sym (ap (λ n. cond (eq_by_cmp row_cmp q y) (suc n) n) (count-with_row x b q))
     ∙ sym (count-with_row y (with_row x b) q))
 
-count-again : (row : Row) (n : ℕ) (b : Bag) (q : Row) → count (again n (with_row row) b) q ≡ cond (eq_by_cmp row_cmp q row) (n + count b q) (count b q)
+pub count-again : (row : Row) (n : ℕ) (b : Bag) (q : Row) → count (again n (with_row row) b) q ≡ cond (eq_by_cmp row_cmp q row) (n + count b q) (count b q)
 count-again row zero b q = elim (eq_by_cmp row_cmp q row) as (λ t. count b q ≡ cond t (0 + count b q) (count b q)) [ true ↦ omega arith | false ↦ refl ]
 count-again row (suc n) b q =
     count-with_row row (again n (with_row row) b) q

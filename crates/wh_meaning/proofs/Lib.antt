@@ -3,3 +3,4 @@ pub mod Gathered
 pub mod KnownQueries
 pub mod KnownScalars
 pub mod Listed
+pub mod RowMaps
