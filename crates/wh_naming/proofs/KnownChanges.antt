@@ -23,7 +23,7 @@ use Rattle.wh_naming.specs.Findings.{Name, Failing, UnknownName, WrongKind, Name
 use Rattle.wh_naming.specs.Scope.{column_at}
 use Rattle.wh_naming.specs.Typing.{step}
 use Rattle.wh_naming.specs.Select.{QueryReading, SourcePart, source_step, core_step, query_step}
-use Rattle.wh_naming.specs.Changes.{Change, InsertRows, InsertQuery, Update, Delete, Merge, UpdateMatched, DeleteMatched, InsertUnmatched, BoundChange, target_at, insert_query, bound_merge, bound_change}
+use Rattle.wh_naming.specs.Changes.{Change, InsertRows, InsertQuery, Update, Delete, Merge, UpdateMatched, DeleteMatched, InsertUnmatched, BoundChange, target_at, condition_of, insert_query, bound_merge, bound_change}
 use Rattle.wh_naming.proofs.Written.{WrittenSource, WrittenQuery, k, v, objects, number, truth, text, null, column, column_in, plus, equal, sum, count_rows, shown, shown_as, object, object_as, subquery, select, of_layers}
 
 -- a statement with what it stands for by its query's or source's parts
@@ -175,7 +175,7 @@ one_test_after_the_other = (read refl, read (simp of_layers), read (simp of_laye
 pub parts_read_the_old_row : Means (update (set v (column k) ∷ set k (plus (column_in t v) (number 1)) ∷ []) None) (Update always (Add (Column 1) (literal 1) ∷ Column 0 ∷ []))
     × Means (update (set v (number 1) ∷ []) (Some (equal (column k) (number 1)))) (Update (Compare comparisons.Equal (Column 0) (literal 1)) (Column 0 ∷ literal 1 ∷ []))
 unfolding bound_change first_failing source_step core_step query_step step column_at
-parts_read_the_old_row = (read (simp of_layers), read (simp of_layers))
+parts_read_the_old_row = (read (simp of_layers), read (simp (of_layers, condition_of)))
 
 -- `SET K = Y, Z = 1`, `SET Z = Y`, `SET K = 1, V = 1, V = 1, K = 1`, and `SET K = 1, K = 2 WHERE Z = 1`
 pub order_of_set_names : Answers (update (set k (column (codes "Y")) ∷ set z (number 1) ∷ []) None) (Some (UnknownName (codes "Y")))
@@ -218,7 +218,7 @@ pub rows_of_merge : Means (on_keys (clauses.Update None (set v (column_in (codes
     × Means (on_keys (clauses.Delete (Some same_keys) ∷ [])) (Merge (Scan 0) keys_meet (DeleteMatched keys_meet ∷ []))
     × Means (on_keys (clauses.Insert None (Some (v ∷ [])) (column k ∷ []) ∷ [])) (Merge (Scan 0) keys_meet (InsertUnmatched always (nothing ∷ Column 0 ∷ []) ∷ []))
 unfolding bound_change first_failing source_step core_step query_step step column_at
-rows_of_merge = (read (simp of_layers), read (simp of_layers), read (simp of_layers))
+rows_of_merge = (read (simp of_layers), read (simp (of_layers, condition_of)), read (simp of_layers))
 
 -- X.K as a value, as a condition, and V; the columns that are given values are the target's
 pub unmatched_sees_the_source : Answers (on_keys (clauses.Insert None (Some (v ∷ [])) (column_in (codes "X") k ∷ []) ∷ [])) (Some (UnknownName k))
