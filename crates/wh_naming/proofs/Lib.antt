@@ -1,0 +1,3 @@
+pub mod KnownChanges
+pub mod KnownNames
+pub mod Written
