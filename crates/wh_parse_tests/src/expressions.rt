@@ -4,7 +4,7 @@ use wh_ast::{Expr, Operator};
 use wh_cursor::{Key, ParseFault, Words, name};
 use wh_expr_parse::expr;
 use wh_lex::tokens;
-use wh_value::{Bytes, Comparison, print_literal};
+use wh_value::{Bytes, Comparison, Text, print_literal};
 
 fn sign(operator: Operator) -> &'static [u8] {
     match operator {
@@ -22,8 +22,22 @@ fn sign(operator: Operator) -> &'static [u8] {
     }
 }
 
-fn not(negated: bool) -> &'static [u8] {
-    if negated { b" NOT" } else { b"" }
+/// A test's word, behind NOT where it is negated.
+fn print_word(negated: bool, word: &[u8], out: &mut Bytes) -> Result<(), Fail> {
+    if negated {
+        out.extend(b" NOT")?;
+    }
+    out.extend(word)?;
+    Ok(())
+}
+
+fn print_column(entry: &Option<Text>, name: &Text, out: &mut Bytes) -> Result<(), Fail> {
+    if let Some(entry) = entry {
+        out.extend(entry.as_bytes())?;
+        out.extend(b".")?;
+    }
+    out.extend(name.as_bytes())?;
+    Ok(())
 }
 
 /// An expression with all its parentheses.
@@ -31,13 +45,7 @@ fn print(x: &Expr, out: &mut Bytes) -> Result<(), Fail> {
     out.extend(b"(")?;
     match x {
         Expr::Const(value) => print_literal(value, out)?,
-        Expr::Column(entry, name) => {
-            if let Some(entry) = entry {
-                out.extend(entry.as_bytes())?;
-                out.extend(b".")?;
-            }
-            out.extend(name.as_bytes())?;
-        }
+        Expr::Column(entry, name) => print_column(entry, name, out)?,
         Expr::Neg(x) => {
             out.extend(b"-")?;
             print(x.get(), out)?;
@@ -54,13 +62,11 @@ fn print(x: &Expr, out: &mut Bytes) -> Result<(), Fail> {
         Expr::IsNull(negated, x) => {
             print(x.get(), out)?;
             out.extend(b" IS")?;
-            out.extend(not(*negated))?;
-            out.extend(b" NULL")?;
+            print_word(*negated, b" NULL", out)?;
         }
         Expr::In(negated, x, items) => {
             print(x.get(), out)?;
-            out.extend(not(*negated))?;
-            out.extend(b" IN")?;
+            print_word(*negated, b" IN", out)?;
             for item in items.as_slice() {
                 out.extend(b" ")?;
                 print(item, out)?;
@@ -68,8 +74,7 @@ fn print(x: &Expr, out: &mut Bytes) -> Result<(), Fail> {
         }
         Expr::Between(negated, x, least, greatest) => {
             print(x.get(), out)?;
-            out.extend(not(*negated))?;
-            out.extend(b" BETWEEN ")?;
+            print_word(*negated, b" BETWEEN ", out)?;
             print(least.get(), out)?;
             out.extend(b" ")?;
             print(greatest.get(), out)?;
