@@ -1,15 +1,16 @@
 -- The walk of an excess.
 --     excess-turn     at a step
 --     excess-is       where it ends
+--     none-within, entered-within     no count on the way is too great
 use Rattle.std.specs.Prelude.{◌≡◌, ℕ, zero, suc, ◌+◌, ◌-◌, ◌⊎◌, Bool, true, false, cond, T, List, [], ◌∷◌}
-use Rattle.std.specs.Prelude.{Option, Some, None}
+use Rattle.std.specs.Prelude.{Option, Some, None, ◌<◌, ◌^◌}
 use Rattle.std.proofs.Common.{refl, sym, ap, subst, ◌∙◌, arith, inl, inr}
 use Rattle.std.specs.Ordering.{eq_by_cmp}
 use Rattle.std.specs.FinMap.Entries.{below_all}
 use Rattle.std.specs.FinMap.{entries, entries_sorted, find, is_sorted}
 use Rattle.wh_value.specs.Value.{Row, row_cmp}
 use Rattle.wh_meaning.specs.Bag.{Bag, no_rows, times, count}
-use Rattle.wh_meaning.specs.Change.{IsExcess}
+use Rattle.wh_meaning.specs.Change.{IsExcess, IsWithin}
 use Rattle.wh_meaning.proofs.BagLaws.{count-no_rows, count-insert, tied_rows, find_below, second, first}
 use Rattle.wh_bag.specs.Walk.{entered, excess}
 use Rattle.wh_bag.proofs.Entries.{count-entries}
@@ -86,3 +87,14 @@ excess-is a other more left none walked q =
     ∙ count-excess other (entries a) no_rows q (entries_sorted a) (inr nothing)
     ∙ ap (λ n. (n - count other q) + count no_rows q) (count-entries a q)
     ∙ omega arith
+
+pub none-within : IsWithin no_rows
+none-within q = let none = count-no_rows q in omega arith
+
+pub entered-within : (row : Row) (many : ℕ) (b b' : Bag) → b' ≡ entered row many b → many < 2 ^ 64
+    → IsWithin b → IsWithin b'
+entered-within row zero b b' made fits within = subst IsWithin (sym made) within
+entered-within row (suc n) b b' made fits within = subst IsWithin (sym made) (λ q.
+    let was = within q in
+    subst (λ k. k < 2 ^ 64) (sym (count-insert row n b q))
+    (elim (eq_by_cmp row_cmp q row) as (λ t. cond t (suc n) (count b q) < 2 ^ 64) [ true ↦ fits | false ↦ was ]))

@@ -2,13 +2,17 @@
 --     sum-turn     at a step
 --     sum-is       where it ends
 --     sum-full     where a count is too great
-use Rattle.std.specs.Prelude.{◌≡◌, ℕ, zero, suc, ◌+◌, ◌≤◌, true, false, cond, List, [], ◌∷◌}
+--     sum-within   where none is
+use Rattle.std.specs.Prelude.{◌≡◌, ℕ, zero, suc, ◌+◌, ◌^◌, ◌<◌, ◌≤◌, Result, Ok, Err, true, false, cond, List, [], ◌∷◌}
 use Rattle.std.proofs.Common.{refl, sym, ap, subst, ◌∙◌, arith}
 use Rattle.std.specs.Ordering.{eq_by_cmp}
 use Rattle.std.specs.FinMap.{entries}
 use Rattle.wh_value.specs.Value.{Row, row_cmp}
 use Rattle.wh_meaning.specs.Bag.{Bag, count, with_row, again, over_entries, fold_bag, plus}
-use Rattle.wh_meaning.proofs.BagLaws.{again-past, count-again, count-plus, with_row-with_row}
+use Rattle.wh_meaning.specs.Change.{IsWithin}
+use Rattle.wh_meaning.proofs.BagLaws.{tied_rows, again-past, count-again, count-plus, with_row-with_row}
+use Rattle.wh_bag.specs.declared.fault.AddFault.{AddFault}
+use Rattle.wh_bag.specs.declared.fault.AddFault.TheVariants.{TooMany}
 use Rattle.wh_bag.proofs.Entries.{tied}
 
 -- the entries added
@@ -78,3 +82,19 @@ sum-full a b0 b left e es row many bound left_is row_is many_is walked over =
     let here : count b row ≡ count b e.0 = ap (count b) row_is in
     let rest = passed e es b in
     (e.0, omega arith)
+
+again-within : (row : Row) (many : ℕ) (b : Bag) → (2 ^ 64 ≤ count b row + many → ⊥) → IsWithin b
+    → IsWithin (again many (with_row row) b)
+again-within row many b fits within q =
+    let was = within q in
+    subst (λ k. k < 2 ^ 64) (sym (count-again row many b q))
+    (elim (eq_by_cmp row_cmp q row) as (λ t. eq_by_cmp row_cmp q row ≡ t
+    → cond t (many + count b q) (count b q) < 2 ^ 64) [
+      | true ↦ λ t. let here = ap (count b) (tied_rows q row t) in omega (arith, fits)
+      | false ↦ λ _. was
+    ] refl)
+
+pub sum-within : {A : Type 0} (done : A) (row : Row) (many : ℕ) (b b' : Bag) → b' ≡ again many (with_row row) b
+    → (2 ^ 64 ≤ count b row + many → ◌≡◌ {A = Result A AddFault} (Ok done) (Err TooMany)) → IsWithin b → IsWithin b'
+sum-within done row many b b' made full within =
+    subst IsWithin (sym made) (again-within row many b (λ over. cc (full over)) within)

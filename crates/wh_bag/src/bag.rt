@@ -30,7 +30,7 @@ impl Bag {
     ghost use Rattle.wh_value.specs.Value as values;
     ghost use Rattle.wh_meaning.specs.Bag as bags;
     ghost use Rattle.wh_meaning.specs.Bag.{no_rows, with_row, again, plus};
-    ghost use Rattle.wh_meaning.specs.Change.{IsExcess};
+    ghost use Rattle.wh_meaning.specs.Change.{IsExcess, IsWithin};
     ghost use Rattle.wh_bag.specs.Walk.{entered};
     ghost use Rattle.wh_bag.specs.declared.fault.AddFault.TheVariants.{TooMany};
 
@@ -95,7 +95,8 @@ impl Bag {
 
     /// The rows that are here more often than in the other bag, each so often.
     pub(crate) fn excess(&self, alloc: Global, other: &Bag) -> Result<Bag, AllocError>
-        ensures { IfOk result (λ more. IsExcess self.now other.now more) }
+        ensures excess { IfOk result (IsExcess self.now other.now) }
+        ensures within { IfOk result IsWithin }
     {
         let mut more = Bag::new(alloc);
         for (row, times) in self.iter() {
@@ -110,6 +111,7 @@ impl Bag {
     /// Each row of the other bag as often more as it is there. A fault leaves some of them added.
     pub(crate) fn add_all(&mut self, alloc: Global, other: &Bag) -> Result<(), AddFault>
         ensures ok { OnOk result (self.new ≡ plus other.now self.old) }
+        ensures within { OnOk result (IsWithin self.old → IsWithin self.new) }
         ensures too_many { result ≡ Err TooMany
             → (row : values.Row) × (2 ^ 64 ≤ bags.count self.old row + bags.count other.now row) }
     {

@@ -1,5 +1,5 @@
 ghost use Rattle.std.specs.Prelude.{◌≡◌, Err, IfOk};
-ghost use Rattle.wh_meaning.specs.Change.{IsNet, IsChanged, Lacks, Overflows};
+ghost use Rattle.wh_meaning.specs.Change.{IsNet, IsChanged, IsWithin, Lacks, Overflows};
 ghost use Rattle.wh_bag.specs.declared.fault.ApplyFault.TheVariants.{Missing, TooMany};
 
 use crate::{ApplyFault, Bag};
@@ -24,6 +24,7 @@ pub fn net(alloc: Global, old: &Bag, new: &Bag) -> Result<Signed, AllocError>
 /// The bag that a change leaves.
 pub fn apply(alloc: Global, old: &Bag, change: &Signed) -> Result<Bag, ApplyFault>
     ensures changed { IfOk result (IsChanged old.now change.now.plus change.now.minus) }
+    ensures within { IfOk result IsWithin }
     ensures missing { result ≡ Err Missing → Lacks old.now change.now.plus change.now.minus }
     ensures too_many { result ≡ Err TooMany → Overflows old.now change.now.plus change.now.minus }
 {

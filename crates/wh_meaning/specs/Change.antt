@@ -4,6 +4,7 @@
 --     IsChanged       the bag that a change leaves
 --     Lacks           a row is taken away more often than it is there
 --     Overflows       a row would be there 2^64 times or more
+--     IsWithin        no row is there so often
 use Rattle.std.specs.Prelude.{◌≡◌, ◌+◌, ◌-◌, ◌^◌, ◌<◌, ◌≤◌}
 use Rattle.wh_value.specs.Value.{Row}
 use Rattle.wh_meaning.specs.Bag.{Bag, count}
@@ -23,3 +24,6 @@ Lacks old plus minus = (row : Row) × (count old row + count plus row < count mi
 
 abbrev pub Overflows : Bag → Bag → Bag → Type 0
 Overflows old plus minus = (row : Row) × (2 ^ 64 + count minus row ≤ count old row + count plus row)
+
+abbrev pub IsWithin : Bag → Type 0
+IsWithin b = (row : Row) → count b row < 2 ^ 64

@@ -12,7 +12,7 @@ returns-then-not-is_empty-clause-missing c _ =
     let change = c.args.change.now in
     let least = c.in_ok-least.least in
     lacks c.args.old.now change.plus change.minus least.plus least.minus c.in_ok-excess.field-0
-    c.in_ok-least.ensures c.in_ok-excess.ensures some
+    c.in_ok-least.ensures c.in_ok-excess.ensures.excess some
 
 pub returns-in_err-add_all-clause-too_many : goal.returns-in_err-add_all-clause-too_many
 returns-in_err-add_all-clause-too_many c full =
@@ -22,7 +22,7 @@ returns-in_err-add_all-clause-too_many c full =
     let handed = c.from_residual-in_err-add_all in
     let fault = sum_full handed.result c.in_err-add_all.field-0.0 handed.ensures.1 full in
     overflows c.args.old.now change.plus change.minus least.plus least.minus c.in_ok-excess.field-0
-    c.in_ok-least.ensures c.in_ok-excess.ensures none c.in_ok-new.new c.in_ok-new.ensures
+    c.in_ok-least.ensures c.in_ok-excess.ensures.excess none c.in_ok-new.new c.in_ok-new.ensures.excess
     (c.in_err-add_all.ensures.too_many (ap Err fault))
 
 pub returns-clause-changed : goal.returns-clause-changed
@@ -31,5 +31,5 @@ returns-clause-changed c =
     let change = c.args.change.now in
     let least = c.in_ok-least.least in
     changed c.args.old.now change.plus change.minus least.plus least.minus c.in_ok-excess.field-0
-    c.in_ok-least.ensures c.in_ok-excess.ensures none c.in_ok-new.new c.in_ok-new.ensures
+    c.in_ok-least.ensures c.in_ok-excess.ensures.excess none c.in_ok-new.new c.in_ok-new.ensures.excess
     c.add_all.new.self c.in_ok-add_all.ensures.ok
