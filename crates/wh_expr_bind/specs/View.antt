@@ -4,7 +4,8 @@
 --     entry_of, entries_of          a FROM entry, and all of them
 --     place_of, span_of             a column's place, and columns with the place of the first
 --     type_of_option                a type, or that of NULL
---     typed_view, part_in           what an expression stands for, and the same as one name for a boxed part
+--     typed_view                    what an expression stands for
+--     part_in                       the same of a part that is handed on boxed
 --     context_of                    what an expression sees
 use Rattle.std.specs.Prelude.{Bool, List, map, Option, option_map}
 use Rattle.wh_value.specs.Column as table
@@ -27,7 +28,13 @@ use Rattle.wh_expr_bind.specs.declared.entries.Span.{Span}
 use Rattle.wh_expr_bind.specs.declared.parts.Typed.{Typed}
 
 abbrev pub findings_of : Findings → wrong.Findings
-findings_of f = record { unknown_object = f.unknown_object; wrong_kind = f.wrong_kind; unknown_column = f.unknown_column; taken = f.taken; is_mistyped = f.is_mistyped }
+findings_of f = record {
+  unknown_object = f.unknown_object;
+  wrong_kind = f.wrong_kind;
+  unknown_column = f.unknown_column;
+  taken = f.taken;
+  is_mistyped = f.is_mistyped;
+}
 
 abbrev pub failing_of : Failing → wrong.Failing
 failing_of (UnknownName name) = wrong.UnknownName name
@@ -60,7 +67,12 @@ abbrev pub type_of_option : Option ColumnType → Option table.ColumnType
 type_of_option t = option_map type_of t
 
 abbrev pub typed_view : Typed → typing.Typed
-typed_view t = record { scalar = scalar_of t.scalar; type_of = type_of_option t.type_of; calls = calls_of t.calls.items; findings = findings_of t.findings }
+typed_view t = record {
+  scalar = scalar_of t.scalar;
+  type_of = type_of_option t.type_of;
+  calls = calls_of t.calls.items;
+  findings = findings_of t.findings;
+}
 
 unfoldable pub part_in : Typed → typing.Typed
 part_in t = typed_view t
