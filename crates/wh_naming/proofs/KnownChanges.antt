@@ -185,7 +185,7 @@ pub values_see_no_column : IsUnknown k (insert name_t None ((column k ∷ number
 unfolding bound_change first_failing source_step core_step query_step step column_at
 values_see_no_column = (read (simp layers), read (simp layers), read (simp layers))
 
--- `N SELECT Y FROM A`, `T (Z) SELECT K FROM A`, `T (Z) SELECT Y FROM T`, and `T (K, K) SELECT 1 + TRUE, 1 FROM T`
+-- `N SELECT Z FROM A`, `T (Z) SELECT K FROM A`, `T (Z) SELECT Y FROM T`, and `T (K, K) SELECT 1 + TRUE, 1 FROM T`
 pub one_test_after_the_other : IsUnknown name_n (insert_from name_n None
     (select (only (column name_z)) (object name_a)))
     × IsWrong name_a (insert_from name_t (Some (name_z ∷ [])) (select (only (column k)) (object name_a)))

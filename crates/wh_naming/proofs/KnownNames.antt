@@ -313,12 +313,13 @@ pub calls_stand_behind_keys : Means (grouped (shown (sum (column v)) ∷ shown (
 unfolding first_failing source_step core_step query_step step column_at is_same regrouped
 calls_stand_behind_keys = (read (simp layers), read (simp layers), read (simp layers))
 
--- `SELECT *, COUNT(*) FROM T`, and K of it, which is a column
-pub no_star_in_groups : IsMistyped (select (items.Star ∷ shown count_rows ∷ []) t)
+-- `SELECT * FROM T GROUP BY K, V`, `SELECT *, COUNT(*) FROM T`, and K and Z of the latter: K is a column of it
+pub no_star_in_groups : IsMistyped (grouped (items.Star ∷ []) (column k ∷ column v ∷ []))
+    × IsMistyped (select (items.Star ∷ shown count_rows ∷ []) t)
     × IsMistyped (select (only (column k)) (subquery (select (items.Star ∷ shown count_rows ∷ []) t) name_q))
     × IsUnknown name_z (select (only (column name_z)) (subquery (select (items.Star ∷ shown count_rows ∷ []) t) name_q))
 unfolding first_failing source_step core_step query_step step column_at is_same regrouped
-no_star_in_groups = (read (simp layers), read (simp layers), read (simp layers))
+no_star_in_groups = (read (simp layers), read (simp layers), read (simp layers), read (simp layers))
 
 -- a call in WHERE, ON, GROUP BY and in a call
 pub calls_out_of_place : IsMistyped (filtered one (equal count_rows (number 1)))
@@ -344,7 +345,7 @@ pub sources_are_read : Passes (joined (items.Star ∷ []) t (also (object name_s
 unfolding first_failing source_step core_step query_step join_step step column_at
 sources_are_read = (read (simp layers), read (simp layers))
 
--- Z of a table that isn't there, also as the second entry, of a task, and of T with a mistyped item before it
+-- Z of a table that isn't there, also as the second entry; Z of a task; a task beside a table that isn't there
 pub objects_come_first : IsUnknown name_n (select (only (column name_z)) (object name_n))
     × IsUnknown name_n (joined (only (column name_z)) t (also (object name_n) ∷ []))
     × IsWrong name_a (select (only (column name_z)) (object name_a))

@@ -255,8 +255,7 @@ core shown from joins filter group = record {
     from = from.part;
     joins = join_parts joins;
     filter = filter;
-    group =
-        group;
+    group = group;
   });
   is = fold-roll-Core SourcePart QueryReading JoinPart QueryReading source_step core_step join_step query_step
       (record { items = shown; from = from.tree; joins = join_trees joins; filter = filter; group = group })
