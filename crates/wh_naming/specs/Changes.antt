@@ -245,7 +245,7 @@ clause_findings columns t s (clauses.Update condition parts) =
 clause_findings columns t s (clauses.Delete condition) = filter_findings (t ∷ s ∷ []) condition
 clause_findings columns t s (clauses.Insert condition listed values) =
     followed (filter_findings (s ∷ []) condition)
-        (followed (given_findings columns listed) (new_row columns (given_places columns listed) (typed_all (s ∷ []) values)).findings)
+    (followed (given_findings columns listed) (new_row columns (given_places columns listed) (typed_all (s ∷ []) values)).findings)
 
 abbrev pub all_clause_findings : List table.Column → Entry → Entry → List MergeClause → Findings
 all_clause_findings columns t s [] = nothing_found
