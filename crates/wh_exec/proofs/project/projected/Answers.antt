@@ -4,7 +4,7 @@ use Rattle.wh_exec.proofs.Added.{added_none, added_step, added_fails_at, added_a
 use Rattle.wh_exec.proofs.project.projected.Goals as goal
 
 pub loop-tuple-init : goal.loop-tuple-init
-loop-tuple-init c = rw c.new-images.ensures.items (added_none _ [])
+loop-tuple-init c = rw c.in_ok-images.ensures.items (added_none _ [])
 
 pub loop-tuple-preserved : goal.loop-tuple-preserved
 loop-tuple-preserved c =
@@ -12,7 +12,7 @@ loop-tuple-preserved c =
 
 pub returns-in_err-project : goal.returns-in_err-project
 returns-in_err-project c =
-    let p = err_from_is_err_and c.from_residual.result c.from_residual.ensures.1 in
+    let p = err_from_is_err_and c.from_residual-in_err-project.result c.from_residual-in_err-project.ensures.1 in
     rw (p.1, p.2) (added_fails_at _ _ _ c.loop-tuple.tuple-index c.tuple-item.result _ c.loop-tuple-test.true c.tuple-item.is c.row.ensures c.in_err-project.ensures)
 
 pub returns : goal.returns
