@@ -1,3 +1,7 @@
+ghost use Rattle.std.specs.Prelude.{◌≡◌};
+ghost use Rattle.wh_naming.specs.Typing as naming;
+ghost use Rattle.wh_expr_bind.specs.Forms.{sees};
+
 use crate::Entry;
 
 /// What an expression sees: entries, and whether calls may stand there.
@@ -8,13 +12,9 @@ pub(crate) struct Context<'a> {
 }
 
 impl Context<'_> {
-    ghost use Rattle.std.specs.Prelude.{◌≡◌};
-    ghost use Rattle.wh_naming.specs.Typing.{argument};
-    ghost use Rattle.wh_expr_bind.specs.Forms.{sees};
-
     /// What a call's argument sees: no call may stand in a call.
     pub(crate) fn argument(self) -> Self
-        ensures { sees result ≡ argument (sees self.entry) }
+        ensures { sees result ≡ naming.argument (sees self.entry) }
     {
         Context {
             entries: self.entries,

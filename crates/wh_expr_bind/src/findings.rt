@@ -1,3 +1,7 @@
+ghost use Rattle.std.specs.Prelude.{◌≡◌, true, option_map};
+ghost use Rattle.wh_naming.specs.Findings as naming;
+ghost use Rattle.wh_expr_bind.specs.View.{findings_of, failing_of};
+
 use wh_value::Text;
 
 /// What is found wrong: for each test the first name in the text that fails it, and whether anything
@@ -21,10 +25,6 @@ pub enum Failing {
 }
 
 impl Findings {
-    ghost use Rattle.std.specs.Prelude.{◌≡◌, true, option_map};
-    ghost use Rattle.wh_naming.specs.Findings as naming;
-    ghost use Rattle.wh_expr_bind.specs.View.{findings_of, failing_of};
-
     pub fn nothing() -> Findings
         ensures { findings_of result ≡ naming.nothing_found }
     {
@@ -142,11 +142,8 @@ impl Findings {
     }
 }
 
-ghost use Rattle.std.specs.Prelude.{◌≡◌};
-ghost use Rattle.wh_naming.specs.Findings.{either};
-
 fn either(first: Option<Text>, next: Option<Text>) -> Option<Text>
-    ensures { result ≡ either first next }
+    ensures { result ≡ naming.either first next }
 {
     match first {
         Some(name) => Some(name),
