@@ -9,7 +9,7 @@ use Rattle.wh_aggregate.specs.Given.{GivesListed}
 use Rattle.wh_aggregate.specs.Groups.{listed}
 use Rattle.wh_aggregate.proofs.FaultLemmas.{still, passed_on}
 use Rattle.wh_aggregate.proofs.LoopLemmas.{listed_more, listed_none}
-use Rattle.wh_aggregate.proofs.MapLemmas.{entries_in_order}
+use Rattle.wh_meaning.proofs.RowMaps.{entries_in_order}
 use Rattle.wh_aggregate.proofs.groups.Groups.list.Goals as goal
 
 pub returns-in_err-row : goal.returns-in_err-row
