@@ -16,7 +16,7 @@ use wh_expr_bind::Named;
 
 /// A query as it is written, whose sources have the numbers from `next` on.
 #[cycle(bind)]
-pub(crate) fn bind_query(
+pub fn bind_query(
     alloc: Global,
     names: &[Named<'_>],
     next: u32,
@@ -94,8 +94,9 @@ fn bind_joins(
     Ok(left)
 }
 
+/// A FROM entry with its rows, whose sources have the numbers from `number` on.
 #[cycle(bind)]
-fn bind_source(
+pub fn bind_source(
     alloc: Global,
     names: &[Named<'_>],
     number: u32,

@@ -1,7 +1,7 @@
 use std::alloc::AllocError;
 use wh_expr_bind::Failing;
 
-/// Why a SELECT isn't bound.
+/// Why a statement isn't bound.
 #[derive(Debug, Drop)]
 pub enum BindFault {
     /// The first failing test, each over the whole statement before the next one.

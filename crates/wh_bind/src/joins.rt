@@ -15,11 +15,11 @@ use crate::unions::{behind, both_ids};
 use sqlite_items::Boxed;
 use std::alloc::{AllocError, Global};
 use wh_algebra::Query;
-use wh_ast::{Expr, Join, Source};
-use wh_core_bind::Joined;
-use wh_expr_bind::{Entry, Findings, alike, typed};
+use wh_ast::{Join, Source};
+use wh_core_bind::{Joined, condition};
+use wh_expr_bind::{Entry, Findings};
 use wh_scalar::Scalar;
-use wh_value::{Column, ColumnType, Text};
+use wh_value::{Column, Text};
 
 /// The entry behind FROM.
 #[tactic(auto, unfolding(crate::specs::Steps::started, crate::specs::View::source_in, wh_core_bind::specs::View::joined_in))]
@@ -110,31 +110,9 @@ fn with_last(
     Ok(entries)
 }
 
-/// A condition, and what is found wrong in it.
-#[derive(Debug, Drop)]
-struct OnClause {
-    scalar: Scalar,
-    findings: Findings,
-}
-
-// A condition is a BOOLEAN.
-fn condition(alloc: Global, entries: &[Entry], on: &Expr) -> Result<OnClause, AllocError>
-    ensures scalar { IfOk result (λ c. scalar_of c.scalar
-        ≡ (naming.plain (entries_of entries.now) on.now).scalar) }
-    ensures findings { IfOk result (λ c. findings_of c.findings
-        ≡ naming.condition_findings (naming.plain (entries_of entries.now) on.now)) }
-{
-    let x = typed(alloc, on, entries, false, 0)?;
-    let is_mistyped = !alike(Some(ColumnType::Boolean), x.type_of);
-    Ok(OnClause {
-        scalar: x.scalar,
-        findings: x.findings.followed(Findings::mistyped_if(is_mistyped)),
-    })
-}
-
-// An entry's name is its alias, or else its object's name.
+/// An entry's name is its alias, or else its object's name.
 #[tactic(auto, unfolding(crate::specs::View::source_part, wh_naming::specs::Select::source_step))]
-fn source_name(source: &Source) -> &Text
+pub fn source_name(source: &Source) -> &Text
     ensures { result.now ≡ (source_part source.now).name }
 {
     match source {

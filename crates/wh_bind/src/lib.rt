@@ -12,5 +12,8 @@ mod select;
 mod sources;
 mod unions;
 
+pub use binding::{bind_query, bind_source};
 pub use fault::BindFault;
+pub use joins::source_name;
 pub use select::{BoundSelect, bind_select};
+pub use sources::{BoundSource, copied_columns, find};

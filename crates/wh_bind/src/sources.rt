@@ -17,7 +17,7 @@ use wh_value::{Column, Text};
 
 /// A FROM entry with its rows.
 #[derive(Debug, Drop)]
-pub(crate) struct BoundSource {
+pub struct BoundSource {
     pub query: Query,
     pub columns: Vec<Column>,
     pub sources: Vec<u32>,
@@ -41,7 +41,8 @@ pub(crate) fn object_source(
     }
 }
 
-fn find<'a>(names: &[Named<'a>], name: &Text) -> Option<Named<'a>>
+/// The object of a name.
+pub fn find<'a>(names: &[Named<'a>], name: &Text) -> Option<Named<'a>>
     ensures { option_map named_of result ≡ scope.named (map named_of names.now) name.now }
 {
     for object in names {
@@ -81,7 +82,7 @@ fn known_source(
         ≡ naming.object_source name.now number (Some (named_of object.entry))) }
 {
     let sources = only_id(alloc, object.id)?;
-    let columns = copied(alloc, object.columns)?;
+    let columns = copied_columns(alloc, object.columns)?;
     let findings = kind_findings(alloc, object.kind, name)?;
     Boxed::new(
         alloc,
@@ -120,7 +121,8 @@ fn only_id(alloc: Global, id: u32) -> Result<Vec<u32>, AllocError>
     Ok(ids)
 }
 
-fn copied(alloc: Global, columns: &[Column]) -> Result<Vec<Column>, AllocError>
+/// Equal columns, with memory of their own.
+pub fn copied_columns(alloc: Global, columns: &[Column]) -> Result<Vec<Column>, AllocError>
     ensures { IfOk result (λ copies. map column_of copies.items ≡ map column_of columns.now) }
 {
     let mut copies = Vec::new(alloc);

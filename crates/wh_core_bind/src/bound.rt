@@ -2,9 +2,10 @@ ghost use Rattle.std.specs.Prelude.{◌≡◌, IfOk};
 ghost use Rattle.wh_naming.specs.Select as naming;
 ghost use Rattle.wh_core_bind.specs.View.{joined_in, query_in};
 
+use crate::filters::{filtered, row_filter};
 use crate::group::projected;
 use crate::items::all_shown;
-use crate::keys::{GroupKeys, condition, filtered, group_keys};
+use crate::keys::{GroupKeys, group_keys};
 use crate::shown::Shown;
 use crate::{BoundQuery, Joined, Output};
 use std::alloc::{AllocError, Global};
@@ -92,7 +93,7 @@ fn filtered_rows(alloc: Global, joined: Joined, filter: &Option<Expr>) -> Result
         findings,
         is_wide,
     } = joined;
-    let filter = condition(alloc, &entries, filter)?;
+    let filter = row_filter(alloc, &entries, filter)?;
     Ok(Rows {
         query: filtered(alloc, query, filter.scalar)?,
         sources,

@@ -2,6 +2,7 @@
 #![tactic(auto)]
 
 mod bound;
+mod filters;
 mod group;
 mod items;
 mod keys;
@@ -10,5 +11,7 @@ mod parts;
 mod shown;
 
 pub use bound::bound_core;
+pub use filters::condition;
 pub use output::Output;
-pub use parts::{BoundQuery, Joined};
+pub use parts::{BoundQuery, Condition, Joined};
+pub use shown::column_scalar;

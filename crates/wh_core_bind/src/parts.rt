@@ -1,6 +1,7 @@
 use crate::Output;
 use wh_algebra::Query;
 use wh_expr_bind::{Entry, Findings};
+use wh_scalar::Scalar;
 
 /// A query with its output columns, the ids of its sources in the order of the text, and what is
 /// found wrong.
@@ -22,4 +23,11 @@ pub struct Joined {
     pub sources: Vec<u32>,
     pub findings: Findings,
     pub is_wide: bool,
+}
+
+/// A condition, and what is found wrong in it.
+#[derive(Debug, Drop)]
+pub struct Condition {
+    pub scalar: Scalar,
+    pub findings: Findings,
 }

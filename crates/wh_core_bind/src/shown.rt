@@ -87,14 +87,14 @@ fn add_places(scalars: &mut Vec<Scalar>, from: usize, columns: &[Column]) -> Res
 {
     let mut place = from;
     for _column in columns {
-        scalars.push(column_at(place)?)?;
+        scalars.push(column_scalar(place)?)?;
         place = behind(place)?;
     }
     Ok(())
 }
 
-// More columns than a `u32` counts are more than memory holds.
-fn column_at(place: usize) -> Result<Scalar, AllocError>
+/// A column by its place. More columns than a `u32` counts are more than memory holds.
+pub fn column_scalar(place: usize) -> Result<Scalar, AllocError>
     ensures { IfOk result (λ column. scalar_of column ≡ meaning.Column place) }
 {
     let Ok(place) = u32::try_from(place) else {

@@ -1,6 +1,6 @@
 use Rattle.std.proofs.Common.{◌≡◌, map, take}
 use Rattle.wh_value.specs.View.{column_of}
-use Rattle.wh_bind.proofs.sources.copied.Given as goal
+use Rattle.wh_bind.proofs.sources.copied_columns.Given as goal
 
 abbrev pub invariant-loop-column : goal.invariant-loop-column
 invariant-loop-column l = map column_of l.copies.items ≡ map column_of (take l.column-index l.columns)
