@@ -1,0 +1,5 @@
+//! Tests of the binder, by its public calls.
+#![tactic(auto)]
+
+#[cfg(test)]
+mod changes;

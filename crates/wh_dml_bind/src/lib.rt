@@ -1,0 +1,19 @@
+//! INSERT, UPDATE, DELETE and MERGE bound to the objects that they name: what becomes of the
+//! target's rows, and what is found wrong.
+#![tactic(auto)]
+
+mod assignments;
+mod binding;
+mod change;
+mod clauses;
+mod filters;
+mod insert;
+mod merge;
+mod places;
+mod rows;
+mod target;
+mod update;
+mod values;
+
+pub use binding::bind_change;
+pub use change::{BoundChange, BoundClause, Change};
