@@ -1,3 +1,4 @@
+use crate::texts::print_column;
 use std::alloc::Global;
 use std::test::Fail;
 use wh_ast::{Assignment, Dml, Expr, MergeClause, Operator, Rows, Source};
@@ -10,13 +11,7 @@ use wh_value::{Bytes, Comparison, Text, print_literal};
 fn print(x: &Expr, out: &mut Bytes) -> Result<(), Fail> {
     match x {
         Expr::Const(value) => print_literal(value, out)?,
-        Expr::Column(entry, name) => {
-            if let Some(entry) = entry {
-                out.extend(entry.as_bytes())?;
-                out.extend(b".")?;
-            }
-            out.extend(name.as_bytes())?;
-        }
+        Expr::Column(entry, name) => print_column(entry, name, out)?,
         Expr::Binary(Operator::Add, x, y) => {
             print(x.get(), out)?;
             out.extend(b"+")?;

@@ -1,3 +1,4 @@
+use crate::texts::{print_column, repeated};
 use std::alloc::Global;
 use std::test::Fail;
 use wh_ast::{Expr, Operator};
@@ -28,15 +29,6 @@ fn print_word(negated: bool, word: &[u8], out: &mut Bytes) -> Result<(), Fail> {
         out.extend(b" NOT")?;
     }
     out.extend(word)?;
-    Ok(())
-}
-
-fn print_column(entry: &Option<Text>, name: &Text, out: &mut Bytes) -> Result<(), Fail> {
-    if let Some(entry) = entry {
-        out.extend(entry.as_bytes())?;
-        out.extend(b".")?;
-    }
-    out.extend(name.as_bytes())?;
     Ok(())
 }
 
@@ -213,22 +205,6 @@ fn names_are_words_that_are_not_reserved(rt: HostRuntime) -> Result<(), Fail> {
         assert_eq!(rt; found.as_slice(), want.as_bytes(), "{name}");
     }
     Ok(())
-}
-
-/// A text that has `piece` so many times between its front and its end.
-fn repeated(
-    alloc: Global,
-    front: &[u8],
-    count: usize,
-    piece: &[u8],
-    end: &[u8],
-) -> Result<Bytes, Fail> {
-    let mut text = Bytes::from_slice(alloc, front)?;
-    for _turn in 0..count {
-        text.extend(piece)?;
-    }
-    text.extend(end)?;
-    Ok(text)
 }
 
 /// Whether an expression stands at the front of a text.

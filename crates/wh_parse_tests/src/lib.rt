@@ -11,3 +11,5 @@ mod options;
 mod queries;
 #[cfg(test)]
 mod statements;
+#[cfg(test)]
+mod texts;

@@ -1,3 +1,4 @@
+use crate::texts::{print_column, repeated};
 use std::alloc::Global;
 use std::test::Fail;
 use wh_ast::{Core, Expr, Item, Join, Query, Source};
@@ -18,13 +19,7 @@ fn print_alias(alias: &Option<Text>, out: &mut Bytes) -> Result<(), Fail> {
 fn print_expr(x: &Expr, out: &mut Bytes) -> Result<(), Fail> {
     match x {
         Expr::Const(value) => print_literal(value, out)?,
-        Expr::Column(entry, name) => {
-            if let Some(entry) = entry {
-                out.extend(entry.as_bytes())?;
-                out.extend(b".")?;
-            }
-            out.extend(name.as_bytes())?;
-        }
+        Expr::Column(entry, name) => print_column(entry, name, out)?,
         _ => out.extend(b"?")?,
     }
     Ok(())
@@ -315,30 +310,11 @@ fn aliases_and_conditions_are_read(rt: HostRuntime) -> Result<(), Fail> {
     Ok(())
 }
 
-/// A text that has `piece` so many times between its front and its end.
-fn repeated(
-    alloc: Global,
-    front: &[u8],
-    count: usize,
-    piece: &[u8],
-    end: &[u8],
-) -> Result<Bytes, Fail> {
-    let mut text = Bytes::from_slice(alloc, front)?;
-    for _turn in 0..count {
-        text.extend(piece)?;
-    }
-    text.extend(end)?;
-    Ok(text)
-}
-
 /// Whether a query stands at the front of a text.
-fn is_read(alloc: Global, text: &[u8], depth: usize) -> bool {
-    let all = match tokens(alloc, text) {
-        Ok(all) => all,
-        Err(_) => return false,
-    };
+fn is_read(alloc: Global, text: &[u8], depth: usize) -> Result<bool, Fail> {
+    let all = tokens(alloc, text)?;
     let mut words = Words::new(&all);
-    query(alloc, &mut words, depth).is_ok()
+    Ok(query(alloc, &mut words, depth).is_ok())
 }
 
 #[test]
@@ -353,14 +329,14 @@ fn at_most_64_cores_and_16_sources_are_read(rt: HostRuntime) -> Result<(), Fail>
             b"",
         )?;
         assert_eq!(rt;
-            is_read(alloc, text.as_slice(), 64),
+            is_read(alloc, text.as_slice(), 64)?,
             want,
             "{count} cores more"
         );
     }
     for (count, want) in [(15, true), (16, false)] {
         let text = repeated(alloc, b"SELECT a FROM t", count, b" JOIN t ON a", b"")?;
-        assert_eq!(rt; is_read(alloc, text.as_slice(), 64), want, "{count} joins");
+        assert_eq!(rt; is_read(alloc, text.as_slice(), 64)?, want, "{count} joins");
     }
     Ok(())
 }
@@ -372,17 +348,17 @@ fn as_many_stand_inside_one_another_as_the_depth_says(rt: HostRuntime) -> Result
         let closes = repeated(alloc, b"SELECT a FROM t", count, b") t", b"")?;
         let text = repeated(alloc, b"", count, b"SELECT a FROM (", closes.as_slice())?;
         assert_eq!(rt;
-            is_read(alloc, text.as_slice(), 64),
+            is_read(alloc, text.as_slice(), 64)?,
             want,
             "{count} subqueries"
         );
     }
     assert_eq!(rt;
-        is_read(alloc, b"SELECT a FROM (SELECT (a) FROM t) t", 1),
+        is_read(alloc, b"SELECT a FROM (SELECT (a) FROM t) t", 1)?,
         false
     );
     assert_eq!(rt;
-        is_read(alloc, b"SELECT a FROM (SELECT (a) FROM t) t", 2),
+        is_read(alloc, b"SELECT a FROM (SELECT (a) FROM t) t", 2)?,
         true
     );
     Ok(())

@@ -1,5 +1,6 @@
 //! Expressions, queries and changes of rows as short texts, for tables of tests.
 
+use crate::texts::print_column;
 use std::test::Fail;
 use wh_ast::{
     Assignment, Core, Dml, Expr, Item, Join, Key, MergeClause, Operator, Query, Rows, Sort, Source,
@@ -33,19 +34,10 @@ fn not(negated: bool) -> &'static [u8] {
     if negated { b"not " } else { b"" }
 }
 
-fn column(entry: &Option<Text>, name: &Text, out: &mut Bytes) -> Result<(), Fail> {
-    if let Some(entry) = entry {
-        out.extend(entry.as_bytes())?;
-        out.extend(b".")?;
-    }
-    out.extend(name.as_bytes())?;
-    Ok(())
-}
-
 fn expr(x: &Expr, out: &mut Bytes) -> Result<(), Fail> {
     match x {
         Expr::Const(value) => print_literal(value, out)?,
-        Expr::Column(entry, name) => column(entry, name, out)?,
+        Expr::Column(entry, name) => print_column(entry, name, out)?,
         Expr::Neg(x) => {
             out.extend(b"(neg ")?;
             expr(x.get(), out)?;
