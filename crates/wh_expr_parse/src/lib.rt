@@ -9,6 +9,8 @@ mod operators;
 mod predicates;
 mod primaries;
 mod reading;
+#[cfg(test)]
+mod tests;
 mod tokens;
 
 pub use reading::{expr, exprs, reading_laws};
