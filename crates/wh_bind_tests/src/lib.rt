@@ -1,5 +1,0 @@
-//! Tests of the binder, by its public calls.
-#![tactic(auto)]
-
-#[cfg(test)]
-mod changes;
