@@ -5,6 +5,7 @@ ghost use Rattle.wh_dml_parse.specs.Read as spec;
 
 use crate::clauses::{columns, merge_clauses};
 use crate::lists::{assignment_list, row_list};
+use sqlite_items::Boxed;
 use std::alloc::Global;
 use wh_ast::{Dml, Rows};
 use wh_cursor::{ParseFault, Words, name};
@@ -62,11 +63,11 @@ fn merge(alloc: Global, words: &mut Words<'_>, depth: usize) -> Result<Dml, Pars
     let target = name(alloc, words)?;
     let alias = alias(alloc, words)?;
     words.expect_word(b"USING")?;
-    let source = source(alloc, words, depth)?;
+    let source = Boxed::new(alloc, source(alloc, words, depth)?)?;
     words.expect_word(b"ON")?;
-    let on = expr(alloc, words, depth)?;
+    let on = Boxed::new(alloc, expr(alloc, words, depth)?)?;
     let clauses = merge_clauses(alloc, words, depth)?;
-    Ok(Dml::Merge(target, alias, source, on, clauses))
+    Ok(Dml::Merge(target, alias, source.into_inner(), on.into_inner(), clauses))
 }
 
 #[tactic(auto, unfolding(crate::specs::Read::read_change))]

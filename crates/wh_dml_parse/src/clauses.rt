@@ -4,7 +4,7 @@ ghost use Rattle.wh_cursor.specs.Gives.{Reads};
 ghost use Rattle.wh_dml_parse.specs.Read as spec;
 
 use crate::lists::{assignment_list, name_list, values_row};
-use sqlite_items::Items;
+use sqlite_items::{Boxed, Items};
 use std::alloc::Global;
 use wh_ast::{Expr, MergeClause};
 use wh_cursor::{Key, ParseFault, Words};
@@ -43,14 +43,14 @@ fn condition(alloc: Global, words: &mut Words<'_>, depth: usize) -> Result<Optio
 fn matched(alloc: Global, words: &mut Words<'_>, depth: usize) -> Result<MergeClause, ParseFault>
     ensures { Reads (spec.read_matched depth words.old) result words.new }
 {
-    let condition = condition(alloc, words, depth)?;
+    let condition = Boxed::new(alloc, condition(alloc, words, depth)?)?;
     if words.eat_word(b"DELETE") {
-        return Ok(MergeClause::Delete(condition));
+        return Ok(MergeClause::Delete(condition.into_inner()));
     }
     words.expect_word(b"UPDATE")?;
     words.expect_word(b"SET")?;
     let set = assignment_list(alloc, words, depth)?;
-    Ok(MergeClause::Update(condition, set))
+    Ok(MergeClause::Update(condition.into_inner(), set))
 }
 
 /// Behind `WHEN NOT`.
@@ -59,12 +59,12 @@ fn unmatched(alloc: Global, words: &mut Words<'_>, depth: usize) -> Result<Merge
     ensures { Reads (spec.read_unmatched depth words.old) result words.new }
 {
     words.expect_word(b"MATCHED")?;
-    let condition = condition(alloc, words, depth)?;
+    let condition = Boxed::new(alloc, condition(alloc, words, depth)?)?;
     words.expect_word(b"INSERT")?;
-    let names = columns(alloc, words)?;
+    let names = Boxed::new(alloc, columns(alloc, words)?)?;
     words.expect_word(b"VALUES")?;
     let row = values_row(alloc, words, depth)?;
-    Ok(MergeClause::Insert(condition, names, row))
+    Ok(MergeClause::Insert(condition.into_inner(), names.into_inner(), row))
 }
 
 #[tactic(auto, unfolding(crate::specs::Read::read_clause))]

@@ -8,7 +8,7 @@ ghost use Rattle.wh_dml_parse.specs.Read.{read_dml, read_names};
 
 use crate::changing::change;
 use crate::lists::name_list;
-use sqlite_items::Items;
+use sqlite_items::{Boxed, Items};
 use std::alloc::Global;
 use wh_ast::Dml;
 use wh_cursor::{ParseFault, Words};
@@ -20,10 +20,10 @@ fn whole_dml(alloc: Global, words: &mut Words<'_>, depth: usize) -> Result<Dml, 
     ensures kept { OnErr result (words.new ≡ words.old) }
 {
     let mut ahead = Words::new(words.rest());
-    let found = change(alloc, &mut ahead, depth)?;
+    let found = Boxed::new(alloc, change(alloc, &mut ahead, depth)?)?;
     ahead.expect_end()?;
     *words = ahead;
-    Ok(found)
+    Ok(found.into_inner())
 }
 
 /// Takes the INSERT, UPDATE, DELETE or MERGE that all the tokens are. At most `depth` parentheses,

@@ -9,7 +9,7 @@ ghost use Rattle.wh_stmt_parse.specs.Kept as spec;
 
 use crate::options::after;
 use crate::plain::MOST_NESTED;
-use sqlite_items::Items;
+use sqlite_items::{Boxed, Items};
 use std::alloc::Global;
 use wh_ast::{CreateDynamicTable, CreateTask, Statement, When};
 use wh_cursor::{ParseFault, Words, name};
@@ -160,18 +160,19 @@ pub fn task(
 ) -> Result<Statement, ParseFault>
     ensures { Reads (spec.read_task source.entry.text.now source.entry.tokens.now words.old) result words.new }
 {
-    let head = task_head(alloc, words)?;
-    let when = guard(alloc, source, words)?;
+    let head = Boxed::new(alloc, task_head(alloc, words)?)?;
+    let when = Boxed::new(alloc, guard(alloc, source, words)?)?;
     words.expect_word(b"AS")?;
     let from = here(words);
-    let body = dml(alloc, words, MOST_NESTED)?;
+    let body = Boxed::new(alloc, dml(alloc, words, MOST_NESTED)?)?;
     let body_text = piece(alloc, source, from, 0)?;
+    let head = head.into_inner();
     Ok(Statement::CreateTask(CreateTask {
         name: head.name,
         minutes: head.minutes,
         after: head.after,
-        when,
-        body,
+        when: when.into_inner(),
+        body: body.into_inner(),
         body_text,
     }))
 }

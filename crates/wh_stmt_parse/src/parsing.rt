@@ -14,6 +14,7 @@ use crate::plain::{
     table,
 };
 use crate::verb::{Object, Verb, created_object, first_verb};
+use sqlite_items::Boxed;
 use std::alloc::Global;
 use wh_ast::Statement;
 use wh_cursor::{ParseFault, Words, tokens_of_text};
@@ -86,9 +87,9 @@ fn all(alloc: Global, source: Source<'_>, words: &mut Words<'_>) -> Result<State
     ensures { Reads (spec.read_all source.entry.text.now source.entry.tokens.now words.old)
         result words.new }
 {
-    let found = front(alloc, source, words)?;
+    let found = Boxed::new(alloc, front(alloc, source, words)?)?;
     words.expect_end()?;
-    Ok(found)
+    Ok(found.into_inner())
 }
 
 fn statement(alloc: Global, text: &[u8], tokens: &[Token]) -> Result<Statement, ParseFault>
