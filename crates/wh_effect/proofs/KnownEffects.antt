@@ -1,11 +1,11 @@
 -- Known values of changing statements, worked by hand over a target of two rows, (1, 10) and (2, 20), numbered 1 and 2.
-use Rattle.std.specs.Prelude.{◌≡◌, ℕ, true, false, List, [], ◌∷◌, pos, Option, Some, None, refl}
+use Rattle.std.specs.Prelude.{◌≡◌, ℕ, true, List, [], ◌∷◌, pos, Some, refl}
 use Rattle.wh_value.specs.Value.{Value, Number, Truth, Null, Row}
 use Rattle.wh_value.specs.declared.comparison.Comparison.TheVariants as comparisons
 use Rattle.wh_meaning.specs.Scalar.{Scalar, Const, Column, Add, Compare, val}
 use Rattle.wh_meaning.specs.Query.{values_on}
 use Rattle.wh_naming.specs.Changes.{BoundClause, UpdateMatched, DeleteMatched, InsertUnmatched, InsertRows, Update, Delete}
-use Rattle.wh_effect.specs.Effect.{Kept, Effect, Outcome, Undefined, Ambiguous, Does, effect, merged}
+use Rattle.wh_effect.specs.Effect.{Kept, Outcome, Undefined, Ambiguous, Does, effect, merged}
 
 abbrev n : ℕ → Value
 n k = Number (pos k)

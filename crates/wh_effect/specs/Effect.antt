@@ -6,7 +6,7 @@ use Rattle.std.specs.Prelude.{ℕ, Bool, true, false, not, ◌&&◌, if◌then�
 use Rattle.std.specs.List.{list_all, list_any, filter}
 use Rattle.wh_value.specs.Value.{Value, Row}
 use Rattle.wh_meaning.specs.Scalar.{Scalar, val, is_true, holds}
-use Rattle.wh_meaning.specs.Query.{Query, Instance, values_on, eval}
+use Rattle.wh_meaning.specs.Query.{Instance, values_on, eval}
 use Rattle.wh_meaning.specs.Bag.{Bag}
 use Rattle.wh_meaning.specs.Listing.{listed}
 use Rattle.wh_naming.specs.Changes.{BoundClause, UpdateMatched, DeleteMatched, InsertUnmatched, Change, InsertRows, InsertQuery, Update, Delete, Merge}

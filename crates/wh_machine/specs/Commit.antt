@@ -2,14 +2,15 @@
 --     Change, Commit       what is changed at a stamp
 --     Applies, applied     when a commit may stand in a file, and what the file then says
 --     Leads                commits that apply one after the other
-use Rattle.std.specs.Prelude.{◌≡◌, ℕ, ◌+◌, ◌<◌, ◌≤◌, ◌⊎◌, Bool, not, IsTrue, List, [], ◌∷◌, ◌++◌, length, filter, Option, Some, None, IsNone, nat_eq}
+use Rattle.std.specs.Prelude.{◌≡◌, ℕ, ◌+◌, ◌<◌, ◌≤◌, ◌⊎◌, IsTrue, List, [], ◌∷◌, ◌++◌, length, Option, Some, None, IsNone, nat_eq}
 use Rattle.std.specs.List.{AllByRecursion, list_any}
 use Rattle.wh_value.specs.Column.{Column}
 use Rattle.wh_value.specs.Fits.{row_fits}
 use Rattle.wh_value.specs.Limit.{bound}
 use Rattle.wh_value.specs.declared.limit.Limit.TheVariants as limits
 use Rattle.wh_frame.specs.Partition.{Partition, first_number, last_number}
-use Rattle.wh_machine.specs.State.{new_table, new_object, last_of, at_id, changed_at, id_of, live_count, VersionOf}
+use Rattle.wh_machine.specs.State.{new_table, new_object, dropped, last_of, at_id, changed_at, id_of, live_count, VersionOf}
+use Rattle.wh_machine.specs.Edits.{without}
 use Rattle.wh_machine.specs.Stored.{StoredTable, StoredKind, StoredTableKind, StoredObject, Stored, standing}
 
 -- a new table
@@ -30,6 +31,8 @@ pub record VersionChange : Type 0 where
 
 pub data Change : Type 0 where
   CreatesTable : TableChange → Change
+  -- by its id
+  Drops : (id : ℕ) → Change
   PushesVersion : VersionChange → Change
 
 pub record Commit : Type 0 where
@@ -37,13 +40,6 @@ pub record Commit : Type 0 where
   pub changes : List Change
 
 -- ---- what a change leaves
-
-abbrev pub is_among : ℕ → List ℕ → Bool
-is_among number numbers = list_any (nat_eq number) numbers
-
--- the partitions whose numbers aren't among those
-abbrev pub without : List ℕ → List Partition → List Partition
-without removed partitions = filter (λ p. not (is_among p.number removed)) partitions
 
 abbrev pub pushed : ℕ → VersionChange → StoredTable → StoredTable
 pushed stamp c t = record t {
@@ -60,6 +56,7 @@ pushed_object stamp c o = record o { kind = pushed_kind stamp c o.kind }
 
 unfoldable pub changed : ℕ → List StoredObject → Change → List StoredObject
 changed stamp objects (CreatesTable c) = objects ++ new_object c.name stamp (StoredTableKind (new_table [] c.columns c.retention stamp)) ∷ []
+changed stamp objects (Drops id) = changed_at objects id dropped
 changed stamp objects (PushesVersion c) = changed_at objects c.id (pushed_object stamp c)
 
 abbrev pub all_changed : ℕ → List StoredObject → List Change → List StoredObject
@@ -127,8 +124,13 @@ abbrev pub FitsObject : Option StoredObject → VersionChange → Type 0
 FitsObject None c = ⊥
 FitsObject (Some o) c = IsTrue o.is_live × FitsKind o.kind c
 
+abbrev pub IsLiveObject : Option StoredObject → Type 0
+IsLiveObject None = ⊥
+IsLiveObject (Some o) = IsTrue o.is_live
+
 abbrev pub ChangeApplies : List StoredObject → Change → Type 0
 ChangeApplies objects (CreatesTable c) = TableApplies objects c
+ChangeApplies objects (Drops id) = IsLiveObject (at_id objects id)
 ChangeApplies objects (PushesVersion c) = FitsObject (at_id objects c.id) c
 
 -- each change applies to what those before it leave

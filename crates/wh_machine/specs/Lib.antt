@@ -1,10 +1,11 @@
 pub use Rattle.wh_value.specs.Value
 pub mod State
+pub mod Edits
 pub mod Statement
 pub mod Outcome
 pub mod Tables
 pub mod Queries
-pub mod Rows
+pub mod Changes
 pub mod Step
 pub mod Script
 pub mod Stored
@@ -12,6 +13,7 @@ pub mod Commit
 pub mod Spelling
 pub mod Written
 pub mod File
+pub mod Orderly
 pub mod Fault
 pub mod Sound
 pub mod Stop

@@ -4,20 +4,21 @@
 --     settled      the state and the reply that an outcome comes to
 --     first_of     the first refusal of tests in their order
 use Rattle.std.specs.Prelude.{ℕ, ◌+◌, Bool, true, false, List, [], ◌∷◌, ◌++◌, length, Option, Some, None, nat_lt}
-use Rattle.std.specs.FinMap.{empty}
-use Rattle.wh_value.specs.Value.{Row}
 use Rattle.wh_value.specs.Column.{Column}
+use Rattle.wh_frame.specs.Partition.{Partition}
 use Rattle.wh_value.specs.Limit.{bound}
 use Rattle.wh_value.specs.declared.limit.Limit.{Limit}
-use Rattle.wh_frame.specs.Partition.{numbered, partitions_of}
 use Rattle.wh_reply.specs.Reply.{Refusal, OverLimit, Reply, Refused}
-use Rattle.wh_machine.specs.State.{State, Kind, TableKind, Object, Table, new_table, new_object, version_at, last_rows, with_entries, changed_at}
+use Rattle.wh_machine.specs.State.{State, Kind, TableKind, Object, Table, Contents, nothing_held, new_table, new_object, dropped, version_at, last_content, last_partitions, changed_at}
+use Rattle.wh_machine.specs.Edits.{Edits, partitions_made, contents_after}
 
 pub data Act : Type 0 where
   -- a new table, with the next id
   MakesTable : (name : List ℕ) → (columns : List Column) → (retention : ℕ) → Act
-  -- a new version of the table of that id, with rows added at its end
-  AddsRows : (id : ℕ) → (rows : List Row) → Act
+  -- the object of that id is dropped
+  DropsObject : (id : ℕ) → Act
+  -- a new version of the table of that id
+  EditsRows : (id : ℕ) → Edits → Act
 
 pub data Outcome : Type 0 where
   Refuses : Refusal → Outcome
@@ -51,23 +52,32 @@ unless None outcome = outcome
 
 -- ---- what an act does at a stamp
 
--- a table's next version, with rows added at its end
-abbrev pub grown : ℕ → List Row → Table → Table
-grown stamp rows t = record t {
-  next_row = t.next_row + length rows;
-  next_partition = t.next_partition + partitions_of (length rows);
-  versions = t.versions ++ version_at stamp (with_entries (last_rows t) (numbered t.next_row rows)) ∷ [];
+-- the partitions that edits make of a table's last version
+abbrev pub table_partitions_made : Edits → Table → List Partition
+table_partitions_made e t = partitions_made t.next_partition t.next_row e (last_partitions t)
+
+abbrev pub next_contents : Edits → Table → Contents
+next_contents e t = contents_after t.next_partition t.next_row e (last_content nothing_held t)
+
+-- a table with its next version
+unfoldable pub edited_table : ℕ → Edits → Table → Table
+edited_table stamp e t = record t {
+  next_row = t.next_row + length e.added;
+  next_partition = t.next_partition + length (table_partitions_made e t);
+  versions = t.versions ++ version_at stamp (next_contents e t) ∷ [];
 }
 
-abbrev pub grown_kind : ℕ → List Row → Kind → Kind
-grown_kind stamp rows (TableKind t) = TableKind (grown stamp rows t)
+abbrev pub edited_kind : ℕ → Edits → Kind → Kind
+edited_kind stamp e (TableKind t) = TableKind (edited_table stamp e t)
 
-abbrev pub grown_object : ℕ → List Row → Object → Object
-grown_object stamp rows o = record o { kind = grown_kind stamp rows o.kind }
+abbrev pub edited_object : ℕ → Edits → Object → Object
+edited_object stamp e o = record o { kind = edited_kind stamp e o.kind }
 
 abbrev pub acted : ℕ → List Object → Act → List Object
-acted stamp objects (MakesTable name columns retention) = objects ++ new_object name stamp (TableKind (new_table empty columns retention stamp)) ∷ []
-acted stamp objects (AddsRows id rows) = changed_at objects id (grown_object stamp rows)
+acted stamp objects (MakesTable name columns retention) =
+    objects ++ new_object name stamp (TableKind (new_table nothing_held columns retention stamp)) ∷ []
+acted stamp objects (DropsObject id) = changed_at objects id dropped
+acted stamp objects (EditsRows id e) = changed_at objects id (edited_object stamp e)
 
 abbrev pub all_acted : ℕ → List Object → List Act → List Object
 all_acted stamp objects [] = objects

@@ -2,7 +2,7 @@
 --     names_from       the live objects by their names, ids and columns
 --     instance_of      the rows of the tables of ids, each as often as it stands
 --     select_rows      the outcome of SELECT: its rows in the order that it asks for
-use Rattle.std.specs.Prelude.{ℕ, suc, if◌then◌else◌, List, [], ◌∷◌, ◌++◌, map, Option, Some, None, option_map}
+use Rattle.std.specs.Prelude.{ℕ, suc, Bool, if◌then◌else◌, List, [], ◌∷◌, ◌++◌, map, Option, Some, None, option_map}
 use Rattle.std.specs.FinMap.{values}
 use Rattle.wh_value.specs.Column.{Column}
 use Rattle.wh_value.specs.declared.limit.Limit.TheVariants as limits
@@ -12,7 +12,7 @@ use Rattle.wh_meaning.specs.Bag.{Bag, no_rows, bag_of}
 use Rattle.wh_meaning.specs.Query.{Instance, eval}
 use Rattle.wh_meaning.specs.Listing.{listed}
 use Rattle.wh_naming.specs.Findings as naming
-use Rattle.wh_naming.specs.Findings.{Failing, first_failing}
+use Rattle.wh_naming.specs.Findings.{Findings, Failing, first_failing}
 use Rattle.wh_naming.specs.Scope.{Named, ObjectKind, TableObject}
 use Rattle.wh_naming.specs.Select.{BoundSelect, bound_select}
 use Rattle.wh_reply.specs.Reply.{Refusal, UnknownName, NameTaken, WrongKind, TypeMismatch, OverLimit, NumberOutOfRange, Listing}
@@ -52,16 +52,16 @@ instance_of objects ids = map (λ id. table_bag (table_at objects id)) ids
 
 -- ---- SELECT
 
--- names and types first, and then the columns of its queries
-abbrev pub select_refusal : BoundSelect → Option Refusal
-select_refusal b = first_of (option_map refusal_of (first_failing b.findings) ∷ refused_if b.is_wide (OverLimit limits.Output) ∷ [])
+-- what is found wrong with names and types, and then the columns of queries
+abbrev pub naming_refusal : Findings → Bool → Option Refusal
+naming_refusal findings is_wide = first_of (option_map refusal_of (first_failing findings) ∷ refused_if is_wide (OverLimit limits.Output) ∷ [])
 
 abbrev pub listing_of : BoundSelect → Option Bag → Outcome
 listing_of b None = Refuses NumberOutOfRange
 listing_of b (Some rows) = answers (Listing b.names (listed b.keys rows))
 
 abbrev pub select_bound : List Object → BoundSelect → Outcome
-select_bound objects b = unless (select_refusal b) (listing_of b (eval b.query (instance_of objects b.sources)))
+select_bound objects b = unless (naming_refusal b.findings b.is_wide) (listing_of b (eval b.query (instance_of objects b.sources)))
 
 unfoldable pub select_rows : State → written.Query → List Sort → Outcome
 select_rows s query sorts = select_bound s.objects (bound_select (names_from 1 s.objects) query sorts)

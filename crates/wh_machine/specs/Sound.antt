@@ -12,10 +12,10 @@ use Rattle.wh_machine.specs.File.{Stands}
 
 pub record HasRow (v : Version) (number : ℕ) : Type 0 where
   pub row : Row
-  pub is_there : get v.content number ≡ Some row
+  pub is_there : get v.content.rows number ≡ Some row
 
 abbrev pub LacksRow : ℕ → Version → Type 0
-LacksRow number v = get v.content number ≡ None
+LacksRow number v = get v.content.rows number ≡ None
 
 -- stamps rise, and data timestamps don't fall
 abbrev pub Rise : List Version → Type 0

@@ -7,7 +7,7 @@ use Rattle.std.specs.Int.{w32, w64, to_be_bytes}
 use Rattle.wh_value.specs.Value.{IsText}
 use Rattle.wh_value.specs.Column.{Column, ColumnType, NumberType, VarcharType, BooleanType}
 use Rattle.wh_frame.specs.Spelling.{text_bytes, list_bytes, partition_bytes, IsPartition}
-use Rattle.wh_machine.specs.Commit.{TableChange, VersionChange, Change, CreatesTable, PushesVersion, Commit}
+use Rattle.wh_machine.specs.Commit.{TableChange, VersionChange, Change, CreatesTable, Drops, PushesVersion, Commit}
 
 abbrev pub type_byte : ColumnType → ℕ
 type_byte NumberType = 1
@@ -26,6 +26,7 @@ version_bytes c = to_be_bytes w32 c.id ++ to_be_bytes w64 c.data_timestamp ++ to
 
 unfoldable pub change_bytes : Change → List ℕ
 change_bytes (CreatesTable c) = 1 ∷ table_bytes c
+change_bytes (Drops id) = 2 ∷ to_be_bytes w32 id
 change_bytes (PushesVersion c) = 10 ∷ version_bytes c
 
 unfoldable pub payload_of : Commit → List ℕ
@@ -60,6 +61,7 @@ pub record IsVersionChange (c : VersionChange) : Type 0 where
 
 abbrev pub IsChange : Change → Type 0
 IsChange (CreatesTable c) = IsTableChange c
+IsChange (Drops id) = id < 2 ^ 32
 IsChange (PushesVersion c) = IsVersionChange c
 
 pub record IsCommit (c : Commit) : Type 0 where

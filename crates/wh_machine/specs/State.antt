@@ -1,15 +1,17 @@
 -- The state of the machine.
 --     VersionOf, TableOf       a table as the list of its versions, each with its content
 --     ObjectOf                 a name, whether it lives, when it was created, and what it is
---     Version, Table, Kind, Object, State     those of the machine, where a version's content is its rows
+--     Contents                 what a version of the machine holds: its rows, by row number, and the partitions that they are written in
+--     Version, Table, Kind, Object, State     those of the machine
 --     at_id, changed_at        an object's id is its place in order of creation, from 1
 --     id_of                    the id of the live object of a name
-use Rattle.std.specs.Prelude.{ℕ, zero, suc, ◌+◌, Bool, true, ◌&&◌, List, [], ◌∷◌, Option, Some, None, option_map, slice_get, slice_set, bytes_eq, count_by}
+use Rattle.std.specs.Prelude.{ℕ, zero, suc, ◌+◌, Bool, true, false, ◌&&◌, List, [], ◌∷◌, Option, Some, None, option_map, slice_get, slice_set, bytes_eq, count_by}
 use Rattle.std.specs.List.{position}
 use Rattle.std.specs.Ordering.{nat_cmp}
 use Rattle.std.specs.FinMap.{FinMap, empty, insert}
 use Rattle.wh_value.specs.Value.{Row}
 use Rattle.wh_value.specs.Column.{Column}
+use Rattle.wh_frame.specs.Partition.{Partition}
 
 -- ---- tables and objects, whatever a version holds
 
@@ -49,6 +51,10 @@ new_table nothing columns retention stamp = record {
 
 abbrev pub new_object : {Kind : Type 0} → List ℕ → ℕ → Kind → ObjectOf Kind
 new_object name stamp kind = record { name = name; is_live = true; created = stamp; kind = kind }
+
+-- a dropped object keeps its name and its id
+abbrev pub dropped : {Kind : Type 0} → ObjectOf Kind → ObjectOf Kind
+dropped o = record o { is_live = false }
 
 abbrev pub last_of : {X : Type 0} → List X → Option X
 last_of [] = None
@@ -95,15 +101,23 @@ live_count objects = count_by (λ o. o.is_live) objects
 
 -- ---- the machine's
 
--- a version's rows, by row number
+-- rows by row number
 abbrev pub Rows : Type 0
 Rows = FinMap nat_cmp Row
 
+-- from the partitions the numbers of later ones follow, and nothing else
+pub record Contents : Type 0 where
+  pub rows : Rows
+  pub partitions : List Partition
+
+abbrev pub nothing_held : Contents
+nothing_held = record { rows = empty; partitions = [] }
+
 abbrev pub Version : Type 0
-Version = VersionOf Rows
+Version = VersionOf Contents
 
 abbrev pub Table : Type 0
-Table = TableOf Rows
+Table = TableOf Contents
 
 pub data Kind : Type 0 where
   TableKind : Table → Kind
@@ -129,6 +143,9 @@ abbrev pub with_entries : Rows → List (ℕ × Row) → Rows
 with_entries rows [] = rows
 with_entries rows (e ∷ es) = with_entries (insert rows e.0 e.1) es
 
--- the rows of a table's last version
+-- the rows of a table's last version, and its partitions
 abbrev pub last_rows : Table → Rows
-last_rows t = last_content empty t
+last_rows t = (last_content nothing_held t).rows
+
+abbrev pub last_partitions : Table → List Partition
+last_partitions t = (last_content nothing_held t).partitions

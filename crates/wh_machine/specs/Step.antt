@@ -10,11 +10,11 @@ use Rattle.wh_value.specs.declared.limit.Limit.TheVariants as limits
 use Rattle.wh_grammar.specs.Spelled.{Request, TooLong, Unreadable, Asked}
 use Rattle.wh_reply.specs.Reply.{Reply, Idle, Refused, Unsupported, SyntaxError, NoSuchSession, OverLimit, is_refusal, print}
 use Rattle.wh_machine.specs.State.{State}
-use Rattle.wh_machine.specs.Statement.{Statement, CreateTable, InsertValues, Select, form_of}
+use Rattle.wh_machine.specs.Statement.{Statement, CreateTable, DropTable, ChangeRows, Select, form_of}
 use Rattle.wh_machine.specs.Outcome.{Act, Outcome, Refuses, answers, settled, acts_in}
-use Rattle.wh_machine.specs.Tables.{create_table}
+use Rattle.wh_machine.specs.Tables.{create_table, drop_table}
 use Rattle.wh_machine.specs.Queries.{select_rows}
-use Rattle.wh_machine.specs.Rows.{insert_rows}
+use Rattle.wh_machine.specs.Changes.{change_rows}
 
 pub data Event : Type 0 where
   Command : (reading session : ℕ) → Request → Event
@@ -28,8 +28,9 @@ reading_of (Tick reading) = reading
 
 unfoldable pub carried_out : State → Option Statement → Outcome
 carried_out s None = Refuses Unsupported
-carried_out s (Some (CreateTable name columns retention)) = create_table s name columns retention
-carried_out s (Some (InsertValues name rows)) = insert_rows s name rows
+carried_out s (Some (CreateTable replace name columns retention)) = create_table s replace name columns retention
+carried_out s (Some (DropTable name)) = drop_table s name
+carried_out s (Some (ChangeRows statement)) = change_rows s statement
 carried_out s (Some (Select query sorts)) = select_rows s query sorts
 
 -- there are sessions 1 to 64

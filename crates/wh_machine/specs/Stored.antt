@@ -6,7 +6,7 @@ use Rattle.std.specs.Prelude.{◌≡◌, ℕ, List, [], map}
 use Rattle.std.specs.List.{flat_map}
 use Rattle.std.specs.FinMap.{empty}
 use Rattle.wh_frame.specs.Partition.{Partition}
-use Rattle.wh_machine.specs.State.{VersionOf, TableOf, ObjectOf, Rows, Version, Table, Kind, TableKind, Object, State, last_content, with_entries}
+use Rattle.wh_machine.specs.State.{VersionOf, TableOf, ObjectOf, Rows, Contents, Version, Table, Kind, TableKind, Object, State, last_content, with_entries}
 
 abbrev pub StoredVersion : Type 0
 StoredVersion = VersionOf (List Partition)
@@ -36,8 +36,11 @@ standing t = last_content [] t
 abbrev pub rows_of : List Partition → Rows
 rows_of partitions = with_entries empty (flat_map (λ p. p.rows) partitions)
 
+abbrev pub contents_meant : List Partition → Contents
+contents_meant partitions = record { rows = rows_of partitions; partitions = partitions }
+
 abbrev pub version_meant : StoredVersion → Version
-version_meant v = record { stamp = v.stamp; data_timestamp = v.data_timestamp; content = rows_of v.content }
+version_meant v = record { stamp = v.stamp; data_timestamp = v.data_timestamp; content = contents_meant v.content }
 
 abbrev pub table_meant : StoredTable → Table
 table_meant t = record {

@@ -3,39 +3,38 @@
 --     made           the commit that an event makes, where it makes one
 --     overflow       the first commit of some events that a file has no room for
 use Rattle.std.specs.Prelude.{ℕ, ◌+◌, Bool, false, List, [], ◌∷◌, ◌++◌, length, Option, Some, None, option_map, nat_lt, if◌then◌else◌}
-use Rattle.wh_value.specs.Value.{Row}
-use Rattle.wh_frame.specs.Partition.{numbered, cut}
 use Rattle.wh_machine.specs.State.{State, at_id}
-use Rattle.wh_machine.specs.Outcome.{Act, MakesTable, AddsRows}
+use Rattle.wh_machine.specs.Edits.{Edits, numbers_gone, partitions_made}
+use Rattle.wh_machine.specs.Outcome.{Act, MakesTable, DropsObject, EditsRows}
 use Rattle.wh_machine.specs.Step.{Event, reading_of, stamp_of, step, acts_of}
-use Rattle.wh_machine.specs.Stored.{StoredTable, StoredKind, StoredTableKind, StoredObject, Stored}
-use Rattle.wh_machine.specs.Commit.{Change, CreatesTable, PushesVersion, Commit, all_changed, applied}
+use Rattle.wh_machine.specs.Stored.{StoredTable, StoredKind, StoredTableKind, StoredObject, Stored, standing}
+use Rattle.wh_machine.specs.Commit.{Change, CreatesTable, Drops, PushesVersion, Commit, all_changed, applied}
 use Rattle.wh_machine.specs.Spelling.{payload_of}
 
 -- ---- acts as changes
 
--- added rows follow the last version's partitions, cut in partitions of 1,000
-abbrev pub rows_written : ℕ → ℕ → List Row → StoredTable → Change
-rows_written stamp id rows t = PushesVersion (record {
+abbrev pub version_written : ℕ → ℕ → Edits → StoredTable → Change
+version_written stamp id e t = PushesVersion (record {
   id = id;
   data_timestamp = stamp;
-  next_row = t.next_row + length rows;
+  next_row = t.next_row + length e.added;
   width = length t.columns;
-  removed = [];
-  added = cut t.next_partition (numbered t.next_row rows);
+  removed = numbers_gone e.rows (standing t);
+  added = partitions_made t.next_partition t.next_row e (standing t);
 })
 
-abbrev pub rows_written_to : ℕ → ℕ → List Row → Option StoredObject → List Change
-rows_written_to stamp id rows None = []
-rows_written_to stamp id rows (Some o) = to_kind o.kind
+abbrev pub version_written_to : ℕ → ℕ → Edits → Option StoredObject → List Change
+version_written_to stamp id e None = []
+version_written_to stamp id e (Some o) = to_kind o.kind
   where
     to_kind : StoredKind → List Change
-    to_kind (StoredTableKind t) = rows_written stamp id rows t ∷ []
+    to_kind (StoredTableKind t) = version_written stamp id e t ∷ []
 
 abbrev pub act_written : ℕ → List StoredObject → Act → List Change
 act_written stamp objects (MakesTable name columns retention) =
     CreatesTable (record { id = length objects + 1; name = name; retention = retention; columns = columns }) ∷ []
-act_written stamp objects (AddsRows id rows) = rows_written_to stamp id rows (at_id objects id)
+act_written stamp objects (DropsObject id) = Drops id ∷ []
+act_written stamp objects (EditsRows id e) = version_written_to stamp id e (at_id objects id)
 
 abbrev pub written : ℕ → List StoredObject → List Act → List Change
 written stamp objects [] = []

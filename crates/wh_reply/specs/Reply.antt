@@ -18,17 +18,27 @@ pub data Refusal : Type 0 where
   TypeMismatch : Refusal
   OverLimit : Limit → Refusal
   NumberOutOfRange : Refusal
+  -- a row of the target that several source rows would change
+  AmbiguousMerge : Row → Refusal
 
 pub data Reply : Type 0 where
   CreatedTable : (name : List ℕ) → Reply
+  DroppedTable : (name : List ℕ) → Reply
   Inserted : (count : ℕ) → Reply
+  Updated : (count : ℕ) → Reply
+  Deleted : (count : ℕ) → Reply
+  Merged : (inserted updated deleted : ℕ) → Reply
   Listing : (names : List (List ℕ)) → (rows : List Row) → Reply
   Idle : Reply
   Refused : Refusal → Reply
 
 abbrev pub is_refusal : Reply → Bool
 is_refusal (CreatedTable name) = false
+is_refusal (DroppedTable name) = false
 is_refusal (Inserted count) = false
+is_refusal (Updated count) = false
+is_refusal (Deleted count) = false
+is_refusal (Merged inserted updated deleted) = false
 is_refusal (Listing names rows) = false
 is_refusal Idle = false
 is_refusal (Refused why) = true
@@ -40,8 +50,11 @@ line text = text ++ 10 ∷ []
 abbrev pub parted : List (List ℕ) → List ℕ
 parted parts = join_by (λ p. p) (codes " | ") parts
 
+abbrev pub values_text : Row → List ℕ
+values_text row = parted (map literal row)
+
 abbrev pub row_line : Row → List ℕ
-row_line row = line (parted (map literal row))
+row_line row = line (values_text row)
 
 abbrev pub limit_word : Limit → List ℕ
 limit_word limits.Statement = codes "STATEMENT"
@@ -65,10 +78,16 @@ refusal_text (WrongKind name) = codes "E8 WrongKind " ++ name
 refusal_text TypeMismatch = codes "E9 TypeMismatch"
 refusal_text (OverLimit limit) = codes "E13 Limit " ++ limit_word limit ++ codes " " ++ decimal (bound limit)
 refusal_text NumberOutOfRange = codes "E19 NumberOutOfRange"
+refusal_text (AmbiguousMerge row) = codes "E20 AmbiguousMerge " ++ values_text row
 
 unfoldable pub print : Reply → List ℕ
 print (CreatedTable name) = line (codes "CREATED TABLE " ++ name)
+print (DroppedTable name) = line (codes "DROPPED TABLE " ++ name)
 print (Inserted count) = line (codes "INSERTED " ++ decimal count)
+print (Updated count) = line (codes "UPDATED " ++ decimal count)
+print (Deleted count) = line (codes "DELETED " ++ decimal count)
+print (Merged inserted updated deleted) =
+    line (codes "MERGED " ++ decimal inserted ++ codes " INSERTED " ++ decimal updated ++ codes " UPDATED " ++ decimal deleted ++ codes " DELETED")
 print (Listing names rows) = line (parted names) ++ flat_map row_line rows ++ line (codes "(" ++ decimal (length rows) ++ codes " rows)")
 print Idle = line (codes "IDLE")
 print (Refused why) = line (refusal_text why)

@@ -15,10 +15,15 @@ refusal_view (refusals.WrongKind name) = machine.WrongKind name
 refusal_view refusals.TypeMismatch = machine.TypeMismatch
 refusal_view (refusals.OverLimit limit) = machine.OverLimit limit
 refusal_view refusals.NumberOutOfRange = machine.NumberOutOfRange
+refusal_view (refusals.AmbiguousMerge row) = machine.AmbiguousMerge row
 
 abbrev pub reply_view : Reply → machine.Reply
 reply_view (replies.CreatedTable name) = machine.CreatedTable name
+reply_view (replies.DroppedTable name) = machine.DroppedTable name
 reply_view (replies.Inserted count) = machine.Inserted count
+reply_view (replies.Updated count) = machine.Updated count
+reply_view (replies.Deleted count) = machine.Deleted count
+reply_view (replies.Merged inserted updated deleted) = machine.Merged inserted updated deleted
 reply_view (replies.Listing names rows) = machine.Listing names.items rows.items
 reply_view replies.Idle = machine.Idle
 reply_view (replies.Refused refusal) = machine.Refused (refusal_view refusal)

@@ -21,6 +21,8 @@ pub enum Refusal {
     OverLimit(Limit),
     /// A number of an evaluation has more than 18 digits.
     NumberOutOfRange,
+    /// Several source rows of a MERGE would change this row of the target.
+    AmbiguousMerge(Row),
 }
 
 /// The answer to an event.
@@ -28,8 +30,20 @@ pub enum Refusal {
 pub enum Reply {
     /// The table's name.
     CreatedTable(Text),
+    /// The table's name.
+    DroppedTable(Text),
     /// The number of inserted rows.
     Inserted(u64),
+    /// The number of rows that an UPDATE selected.
+    Updated(u64),
+    /// The number of deleted rows.
+    Deleted(u64),
+    /// The numbers of inserted, updated and deleted rows of a MERGE.
+    Merged {
+        inserted: u64,
+        updated: u64,
+        deleted: u64,
+    },
     /// Rows in order, below the names of their columns.
     Listing { names: Vec<Text>, rows: Vec<Row> },
     /// Nothing was due.

@@ -1,0 +1,27 @@
+-- What holds of the partitions that stand in the tables of a file that runs leave.
+--     IsOrderly           partitions with rising numbers, each with rows by rising number, apart from one another
+--     IsOrderlyStored     so in the last version of each table
+use Rattle.std.specs.Prelude.{List, [], map}
+use Rattle.std.specs.List.{AllByRecursion}
+use Rattle.wh_frame.specs.Partition.{Partition}
+use Rattle.wh_frame.specs.Spelling.{RisesFrom}
+use Rattle.wh_machine.specs.Stored.{StoredKind, StoredTableKind, StoredObject, Stored, standing}
+use Rattle.wh_machine.specs.Commit.{AllApart}
+use Rattle.wh_machine.specs.Spelling.{NumbersRiseFrom}
+
+abbrev pub HasRisingRows : Partition → Type 0
+HasRisingRows p = RisesFrom 0 p.rows
+
+pub record IsOrderly (partitions : List Partition) : Type 0 where
+  pub numbers : NumbersRiseFrom 0 (map (λ p. p.number) partitions)
+  pub rows : AllByRecursion HasRisingRows partitions
+  pub apart : AllApart [] partitions
+
+abbrev pub IsOrderlyKind : StoredKind → Type 0
+IsOrderlyKind (StoredTableKind t) = IsOrderly (standing t)
+
+abbrev pub IsOrderlyObject : StoredObject → Type 0
+IsOrderlyObject o = IsOrderlyKind o.kind
+
+abbrev pub IsOrderlyStored : Stored → Type 0
+IsOrderlyStored s = AllByRecursion IsOrderlyObject s.objects
