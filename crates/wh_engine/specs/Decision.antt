@@ -2,10 +2,9 @@
 --     Plan          a refusal, or a reply with what a commit changes
 --     plan_of       of a decision
 --     planned       of an outcome, where the changes say what its acts do
---     Decides       a decision comes to that outcome, and its changes can be written
+--     Decides       a decision comes to that outcome
 --     commit_at     the commit of changes, where there are any
 use Rattle.std.specs.Prelude.{◌≡◌, ℕ, List, map, Option, Some, None, option_map, Vec}
-use Rattle.std.specs.List.{AllByRecursion}
 use Rattle.std.specs.declared.alloc.Global.{Global}
 use Rattle.wh_reply.specs.Reply.{Refusal, Reply, Refused}
 use Rattle.wh_reply.specs.View.{refusal_view, reply_view}
@@ -13,7 +12,7 @@ use Rattle.wh_machine.specs.Outcome.{Outcome, Refuses, Does}
 use Rattle.wh_machine.specs.Stored.{Stored}
 use Rattle.wh_machine.specs.Commit as machine
 use Rattle.wh_machine.specs.Written.{written}
-use Rattle.wh_record.specs.View.{change_of, IsWritableChange}
+use Rattle.wh_record.specs.View.{change_of}
 use Rattle.wh_record.specs.declared.commit.Change.{Change}
 use Rattle.wh_engine.specs.declared.decision.Decision.{Decision}
 use Rattle.wh_engine.specs.declared.decision.Decision.TheVariants as decisions
@@ -42,13 +41,9 @@ abbrev pub planned : Stored → ℕ → Outcome → Plan
 planned s stamp (Refuses why) = Declines why
 planned s stamp (Does reply acts) = Goes reply (option_map (written stamp s.objects) acts)
 
-abbrev pub AreWritable : Option (List machine.Change) → Type 0
-AreWritable None = Unit {0}
-AreWritable (Some changes) = AllByRecursion IsWritableChange changes
-
-pub record Decides (s : Stored) (stamp : ℕ) (decision : Decision) (outcome : Outcome) : Type 0 where
-  pub same : plan_of decision ≡ planned s stamp outcome
-  pub writable : AreWritable (changes_in (plan_of decision))
+-- a decision comes to that outcome
+abbrev pub Decides : Stored → ℕ → Decision → Outcome → Type 0
+Decides s stamp decision outcome = plan_of decision ≡ planned s stamp outcome
 
 abbrev pub commit_at : ℕ → Option (List machine.Change) → Option machine.Commit
 commit_at stamp changes = option_map (λ cs. record { stamp = stamp; changes = cs }) changes

@@ -6,7 +6,8 @@ pub mod Answers
 pub mod Halts
 pub mod Leaves
 pub mod Built
-pub mod Literals
+pub mod Tables
+pub mod Rows
 pub mod Names
 pub mod Objects
 pub mod Replay

@@ -1,18 +1,21 @@
-use wh_ast::{Query, Sort};
-use wh_value::{Column, Row, Text};
+use wh_ast::{Dml, Query, Sort};
+use wh_value::{Column, Text};
 
 /// A statement of a form that is carried out so far.
 #[derive(Debug, Drop)]
 pub(crate) enum Built<'a> {
     CreateTable(NewTable),
-    /// The table and the rows.
-    InsertValues(Text, Vec<Row>),
+    DropTable(&'a Text),
+    /// INSERT, UPDATE, DELETE or MERGE, as it is written.
+    ChangeRows(&'a Dml),
     /// A query and its ORDER BY, as they are written.
     Select(&'a Query, &'a [Sort]),
 }
 
 #[derive(Debug, Drop)]
 pub(crate) struct NewTable {
+    /// Whether it takes the place of a live object of its name.
+    pub(crate) replace: bool,
     pub(crate) name: Text,
     pub(crate) columns: Vec<Column>,
     /// In days.

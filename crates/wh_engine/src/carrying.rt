@@ -11,11 +11,11 @@ impl<D: Disk> Warehouse<D> {
     ghost use Rattle.wh_value.specs.Limit.{bound};
     ghost use Rattle.wh_value.specs.declared.limit.Limit.TheVariants as limits;
     ghost use Rattle.wh_reply.specs.View.{reply_view};
-    ghost use Rattle.wh_record.specs.View.{commit_of, IsWritable};
+    ghost use Rattle.wh_record.specs.View.{commit_of};
     ghost use Rattle.wh_journal.specs.Journal.{limit_of, failed_of};
     ghost use Rattle.wh_catalog.specs.Catalog.{stored_of};
     ghost use Rattle.wh_engine.specs.Event.{event_of};
-    ghost use Rattle.wh_engine.specs.Decision.{changes_of, commit_at, AreWritable};
+    ghost use Rattle.wh_engine.specs.Decision.{changes_of, commit_at};
     ghost use Rattle.wh_engine.specs.Warehouse.{made_in, led_to, state_with};
     ghost use Rattle.wh_engine.specs.Answers.{Answered, CarriesOut};
     ghost use Rattle.wh_engine.specs.Halts.{Halted};
@@ -49,7 +49,6 @@ impl<D: Disk> Warehouse<D> {
         requires healthy { failed_of self.old.journal ≡ None }
         requires later { (stored_of self.old.catalog).last ≤ stamp }
         requires within { stamp < bound limits.Stamp }
-        requires writable { AreWritable (option_map changes_of changes) }
         ensures answered { OnOk result (CarriesOut self.old self.new
             (commit_at stamp (option_map changes_of changes))
             (state_with (stored_of self.old.catalog) stamp
@@ -72,7 +71,6 @@ impl<D: Disk> Warehouse<D> {
     // Carries out a commit, in the catalog first, where it can be undone, and then in the file.
     fn commit(&mut self, commit: Commit) -> Result<(), Halt>
         requires healthy { failed_of self.old.journal ≡ None }
-        requires writable { IsWritable (commit_of commit) }
         ensures answered { OnOk result (CarriesOut self.old self.new (Some (commit_of commit))
             (state_with (stored_of self.old.catalog) commit.stamp (Some (commit_of commit)))) }
         ensures halted { IfErr result (λ halt.

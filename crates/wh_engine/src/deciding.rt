@@ -9,11 +9,11 @@ ghost use Rattle.wh_engine.specs.Decision.{Decides};
 
 use crate::Event;
 use crate::built::Built;
+use crate::changes::change_rows;
 use crate::decision::Decision;
 use crate::forms::form;
 use crate::queries::select;
-use crate::rows::insert_rows;
-use crate::tables::create_table;
+use crate::tables::{create_table, drop_table};
 use std::alloc::{AllocError, Global};
 use wh_ast::Statement;
 use wh_catalog::Catalog;
@@ -104,13 +104,13 @@ fn decide_built(
     stamp: u64,
     statement: Built<'_>,
 ) -> Result<Decision, AllocError>
-    requires { built.HasValues statement }
     ensures { IfOk result (λ decision. Decides (stored_of catalog.now) stamp decision
         (carried_out (stamped (state_of catalog.now) stamp) (Some (built.built_view statement.entry)))) }
 {
     match statement {
         Built::CreateTable(table) => create_table(alloc, catalog, stamp, table),
-        Built::InsertValues(table, rows) => insert_rows(alloc, catalog, stamp, table, rows),
+        Built::DropTable(name) => drop_table(alloc, catalog, stamp, name),
+        Built::ChangeRows(change) => change_rows(alloc, catalog, stamp, change),
         Built::Select(query, sorts) => select(alloc, catalog, stamp, query, sorts),
     }
 }

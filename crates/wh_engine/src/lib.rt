@@ -4,6 +4,7 @@
 
 mod built;
 mod carrying;
+mod changes;
 mod deciding;
 mod decision;
 mod event;
@@ -11,13 +12,11 @@ mod fault;
 mod forms;
 mod laws;
 mod limits;
-mod literals;
 mod names;
 mod objects;
 mod open;
 mod queries;
 mod replay;
-mod rows;
 mod sources;
 mod tables;
 mod warehouse;

@@ -11,7 +11,7 @@ ghost use Rattle.wh_machine.specs.Step.{stamped};
 ghost use Rattle.wh_machine.specs.Queries as machine;
 ghost use Rattle.wh_catalog.specs.Catalog.{stored_of, state_of};
 ghost use Rattle.wh_engine.specs.Decision.{Decides};
-ghost use Rattle.wh_engine.specs.Literals.{rows_found};
+ghost use Rattle.wh_engine.specs.Rows.{rows_found};
 
 use crate::decision::Decision;
 use crate::objects::named_objects;
@@ -101,7 +101,7 @@ fn copies(alloc: Global, names: &[Text]) -> Result<Vec<Text>, AllocError>
     Ok(copies)
 }
 
-fn refusal(failing: Failing) -> Refusal
+pub(crate) fn refusal(failing: Failing) -> Refusal
     ensures { refusal_view result ≡ machine.refusal_of (failing_of failing) }
 {
     match failing {
