@@ -7,9 +7,9 @@ use Rattle.std.proofs.lemmas.List.{append-nil, nil_from_length}
 use Rattle.std.proofs.lemmas.Bool.{eqb-true, leb-true, le-leb}
 use Rattle.wh_value.specs.Column.{ColumnType, NumberType, VarcharType, BooleanType}
 use Rattle.wh_frame.specs.Spelling.{text_bytes, list_bytes, partition_bytes}
-use Rattle.wh_machine.specs.Commit.{TableChange, VersionChange, Change, CreatesTable, PushesVersion, Commit}
+use Rattle.wh_machine.specs.Commit.{TableChange, VersionChange, Change, CreatesTable, Drops, PushesVersion, Commit}
 use Rattle.wh_machine.specs.Spelling.{type_byte, column_bytes, table_bytes, version_bytes, change_bytes, payload_of, NumbersRiseFrom, IsColumn, IsTableChange, IsVersionChange, IsChange, IsCommit}
-use Rattle.wh_part.specs.Reading.{◌>>=◌}
+use Rattle.wh_part.specs.Reading.{◌>>=◌, as_at, number_at}
 use Rattle.wh_part.proofs.ReaderLaws.{AreBytes, Reads, bind_some, and_parts, some_is, reads_then, reads_where, reads_as, reads_same, reads_list, wide32, wide64, reads_number, reads_byte, reads_text}
 use Rattle.wh_part.proofs.PartitionLaws.{reads_partition}
 use Rattle.wh_record.specs.Decoding.{type_at, column_at, table_at, numbers_rise, removed_at, version_at, change_behind, change_at, commit_at, commit_of_all}
@@ -72,7 +72,7 @@ reads_table =
 -- ---- new versions
 
 -- numbers of 64 bits that pass the test are those that rise
-rising_is : (least : ℕ) (ns : List ℕ) → AllByRecursion (λ n. n < 2 ^ 64) ns → numbers_rise least ns ≡ true → NumbersRiseFrom least ns
+pub rising_is : (least : ℕ) (ns : List ℕ) → AllByRecursion (λ n. n < 2 ^ 64) ns → numbers_rise least ns ≡ true → NumbersRiseFrom least ns
 rising_is least [] wide e = tt
 rising_is least (n ∷ ns) wide e =
     let both = and_parts (leb least n) (numbers_rise (n + 1) ns) e in
@@ -132,23 +132,36 @@ chosen : {X : Type 0} (b : Bool) (x y : Option X) (z : Option X) → cond b x y 
 chosen true x y z e = inl (refl, e)
 chosen false x y z e = inr (refl, e)
 
+version_takes : (tag : ℕ) (bytes : List ℕ) (c : Change) (rest : List ℕ) → AreBytes bytes
+    → cond (eqb tag 10) (as_at PushesVersion version_at bytes) None ≡ Some (c, rest) → (tag ∷ bytes ≡ change_bytes c ++ rest) × IsChange c
+unfolding change_bytes
+version_takes tag bytes c rest fits e =
+    elim (chosen (eqb tag 10) (as_at PushesVersion version_at bytes) None (Some (c, rest)) e) [
+      | inl is ↦ (
+          let a = bind_some (version_at bytes) (λ x. Some (PushesVersion x.0, x.1)) (c, rest) is.1 in
+          let one = reads_version.takes bytes a.0.0 a.0.1 fits a.1 in
+          subst (λ (z : Change × List ℕ). (tag ∷ bytes ≡ change_bytes z.0 ++ z.1) × IsChange z.0) (some_is (PushesVersion a.0.0, a.0.1) (c, rest) a.2)
+          (rw (eqb-true tag 10 is.0) (ap (λ (l : List ℕ). 10 ∷ l) one.0), one.1))
+      | inr none ↦ absurd cc
+    ]
+
 behind_takes : (tag : ℕ) (bytes : List ℕ) (c : Change) (rest : List ℕ) → AreBytes bytes → change_behind tag bytes ≡ Some (c, rest) → (tag ∷ bytes ≡ change_bytes c ++ rest) × IsChange c
 unfolding change_bytes
 behind_takes tag bytes c rest fits e =
-    elim (chosen (eqb tag 1) (table_at bytes >>= λ x. Some (CreatesTable x.0, x.1)) (cond (eqb tag 10) (version_at bytes >>= λ x. Some (PushesVersion x.0, x.1)) None) (Some (c, rest)) e) [
+    elim (chosen (eqb tag 1) (as_at CreatesTable table_at bytes) (cond (eqb tag 2) (as_at Drops (number_at w32) bytes) (cond (eqb tag 10) (as_at PushesVersion version_at bytes) None)) (Some (c, rest)) e) [
       | inl is ↦ (
           let a = bind_some (table_at bytes) (λ x. Some (CreatesTable x.0, x.1)) (c, rest) is.1 in
           let one = reads_table.takes bytes a.0.0 a.0.1 fits a.1 in
           subst (λ (z : Change × List ℕ). (tag ∷ bytes ≡ change_bytes z.0 ++ z.1) × IsChange z.0) (some_is (CreatesTable a.0.0, a.0.1) (c, rest) a.2)
           (rw (eqb-true tag 1 is.0) (ap (λ (l : List ℕ). 1 ∷ l) one.0), one.1))
       | inr other ↦
-          elim (chosen (eqb tag 10) (version_at bytes >>= λ x. Some (PushesVersion x.0, x.1)) None (Some (c, rest)) other.1) [
+          elim (chosen (eqb tag 2) (as_at Drops (number_at w32) bytes) (cond (eqb tag 10) (as_at PushesVersion version_at bytes) None) (Some (c, rest)) other.1) [
             | inl is ↦ (
-                let a = bind_some (version_at bytes) (λ x. Some (PushesVersion x.0, x.1)) (c, rest) is.1 in
-                let one = reads_version.takes bytes a.0.0 a.0.1 fits a.1 in
-                subst (λ (z : Change × List ℕ). (tag ∷ bytes ≡ change_bytes z.0 ++ z.1) × IsChange z.0) (some_is (PushesVersion a.0.0, a.0.1) (c, rest) a.2)
-                (rw (eqb-true tag 10 is.0) (ap (λ (l : List ℕ). 10 ∷ l) one.0), one.1))
-            | inr none ↦ absurd cc
+                let a = bind_some (number_at w32 bytes) (λ x. Some (Drops x.0, x.1)) (c, rest) is.1 in
+                let one = (reads_number wide32).takes bytes a.0.0 a.0.1 fits a.1 in
+                subst (λ (z : Change × List ℕ). (tag ∷ bytes ≡ change_bytes z.0 ++ z.1) × IsChange z.0) (some_is (Drops a.0.0, a.0.1) (c, rest) a.2)
+                (rw (eqb-true tag 2 is.0) (ap (λ (l : List ℕ). 2 ∷ l) one.0), one.1))
+            | inr third ↦ version_takes tag bytes c rest fits third.1
           ]
     ]
 
@@ -160,6 +173,7 @@ change_takes (tag ∷ bytes) c rest fits e = behind_takes tag bytes c rest (λ i
 change_again : (c : Change) (rest : List ℕ) → IsChange c → change_at (change_bytes c ++ rest) ≡ Some (c, rest)
 unfolding change_at change_bytes
 change_again (CreatesTable c) rest good = ap (λ (o : Option (TableChange × List ℕ)). o >>= λ x. Some (CreatesTable x.0, x.1)) (reads_table.again c rest good)
+change_again (Drops id) rest good = ap (λ (o : Option (ℕ × List ℕ)). o >>= λ x. Some (Drops x.0, x.1)) ((reads_number wide32).again id rest good)
 change_again (PushesVersion c) rest good = ap (λ (o : Option (VersionChange × List ℕ)). o >>= λ x. Some (PushesVersion x.0, x.1)) (reads_version.again c rest good)
 
 pub reads_change : Reads change_bytes IsChange change_at

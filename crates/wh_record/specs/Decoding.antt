@@ -2,7 +2,7 @@
 use Rattle.std.specs.Prelude.{ℕ, zero, suc, ◌+◌, Bool, true, ◌&&◌, List, [], ◌∷◌, length, Option, Some, None, nat_le, ◌==◌, if◌then◌else◌}
 use Rattle.std.specs.Int.{w32, w64}
 use Rattle.wh_value.specs.Column.{Column, ColumnType, NumberType, VarcharType, BooleanType}
-use Rattle.wh_machine.specs.Commit.{TableChange, VersionChange, Change, CreatesTable, PushesVersion, Commit}
+use Rattle.wh_machine.specs.Commit.{TableChange, VersionChange, Change, CreatesTable, Drops, PushesVersion, Commit}
 use Rattle.wh_part.specs.Reading.{Reader, ◌>>=◌, then_at, where_at, as_at, list_at, byte_at, number_at, text_at}
 use Rattle.wh_part.specs.Decoding.{partition_at}
 
@@ -39,6 +39,7 @@ version_at bytes =
 abbrev pub change_behind : ℕ → Reader Change
 change_behind tag bytes =
     if tag == 1 then as_at CreatesTable table_at bytes
+    else if tag == 2 then as_at Drops (number_at w32) bytes
     else if tag == 10 then as_at PushesVersion version_at bytes
     else None
 

@@ -4,6 +4,9 @@ use wh_value::{Column, Text};
 /// The byte before a new table.
 pub(crate) const TABLE_TAG: u8 = 1;
 
+/// The byte before the id of an object that is dropped.
+pub(crate) const DROP_TAG: u8 = 2;
+
 /// The byte before a new version.
 pub(crate) const VERSION_TAG: u8 = 10;
 
@@ -32,6 +35,8 @@ pub struct VersionChange {
 #[derive(Debug, Drop)]
 pub enum Change {
     CreatesTable(TableChange),
+    /// The object of that id is dropped.
+    Drops(u32),
     PushesVersion(VersionChange),
 }
 

@@ -1,13 +1,14 @@
-ghost use Rattle.std.specs.Prelude.{◌≡◌, map, nat_le};
+ghost use Rattle.std.specs.Prelude.{◌≡◌, map};
 ghost use Rattle.std.specs.Int.{w32, w64};
 ghost use Rattle.wh_value.specs.View.{type_of, column_of};
 ghost use Rattle.wh_part.specs.Reading.{Gives, items_at, list_at, number_at};
-ghost use Rattle.wh_part.specs.Decoding.{partition_at, least_after};
-ghost use Rattle.wh_record.specs.Decoding.{type_at, column_at, table_at, numbers_rise, removed_at, version_at, change_behind, change_at, commit_at, commit_of_all};
+ghost use Rattle.wh_part.specs.Decoding.{partition_at};
+ghost use Rattle.wh_record.specs.Decoding.{type_at, column_at, table_at, removed_at, version_at, change_behind, change_at, commit_at, commit_of_all};
 ghost use Rattle.wh_record.specs.Laws.{PayloadFixesCommit, FileFixesPayloads, FileFixesStored, FileFixesState, FirstFaultIsOne, FaultyFileStandsForNone};
 ghost use Rattle.wh_record.specs.View.{table_change_of, version_change_of, change_of, commit_of};
 
-use crate::commit::{TABLE_TAG, VERSION_TAG};
+use crate::commit::{DROP_TAG, TABLE_TAG, VERSION_TAG};
+use crate::format::rise;
 use crate::{Change, Commit, TableChange, VersionChange};
 use std::alloc::{AllocError, Global};
 use wh_part::{Partition, ReadError, read_byte, read_text, read_u32, read_u64};
@@ -93,30 +94,6 @@ fn read_each_number(alloc: Global, count: u32, bytes: &[u8]) -> Result<(Vec<u64>
     Ok((numbers, rest))
 }
 
-/// Whether the number is greater than the last one, if there is one.
-fn follows(last: Option<u64>, number: u64) -> bool
-    ensures { result ≡ nat_le (least_after last) number }
-{
-    match last {
-        None => true,
-        Some(last) => last < number,
-    }
-}
-
-/// Whether each number is greater than the one before.
-fn rise(numbers: &[u64]) -> bool
-    ensures { result ≡ numbers_rise 0 numbers.now }
-{
-    let mut last = None;
-    for number in numbers {
-        if !follows(last, *number) {
-            return false;
-        }
-        last = Some(*number);
-    }
-    true
-}
-
 /// The numbers of the partitions that are removed, which have to rise.
 #[tactic(auto, unfolding(crate::specs::Decoding::removed_at))]
 fn read_removed(alloc: Global, bytes: &[u8]) -> Result<(Vec<u64>, &[u8]), ReadError>
@@ -185,6 +162,10 @@ fn read_change_behind(alloc: Global, tag: u8, bytes: &[u8]) -> Result<(Change, &
     if tag == TABLE_TAG {
         let (table, rest) = read_table(alloc, bytes)?;
         return Ok((Change::CreatesTable(table), rest));
+    }
+    if tag == DROP_TAG {
+        let (id, rest) = read_u32(bytes)?;
+        return Ok((Change::Drops(id), rest));
     }
     if tag == VERSION_TAG {
         let (version, rest) = read_version(alloc, bytes)?;

@@ -1,13 +1,13 @@
 ghost use Rattle.std.specs.Prelude.{◌≡◌, ◌<◌, ◌^◌, ◌∷◌, [], ◌++◌, map, length, OnOk};
 ghost use Rattle.std.specs.List.{flat_map, AllByRecursion};
 ghost use Rattle.std.specs.Int.{w32, w64, to_be_bytes};
-ghost use Rattle.wh_frame.specs.Spelling.{list_bytes, partition_bytes};
-ghost use Rattle.wh_machine.specs.Spelling.{type_byte, column_bytes, table_bytes, version_bytes, change_bytes, payload_of, IsColumn, IsTableChange, IsVersionChange, IsChange, IsCommit};
-ghost use Rattle.wh_part.specs.Shape.{IsShaped};
+ghost use Rattle.wh_frame.specs.Spelling.{list_bytes, partition_bytes, IsPartition};
+ghost use Rattle.wh_machine.specs.Spelling.{type_byte, column_bytes, table_bytes, version_bytes, change_bytes, payload_of, NumbersRiseFrom, IsColumn, IsTableChange, IsVersionChange, IsChange, IsCommit};
 ghost use Rattle.wh_value.specs.View.{type_of, column_of};
-ghost use Rattle.wh_record.specs.View.{table_change_of, version_change_of, change_of, commit_of, IsWritableVersion, IsWritableChange, IsWritable, IsSpelledIfWritable};
+ghost use Rattle.wh_record.specs.View.{table_change_of, version_change_of, change_of, commit_of};
 
-use crate::commit::{TABLE_TAG, VERSION_TAG};
+use crate::commit::{DROP_TAG, TABLE_TAG, VERSION_TAG};
+use crate::format::{has_rows, rise};
 use crate::{Change, Commit, TableChange, VersionChange};
 use std::alloc::{AllocError, Global};
 use wh_part::{Partition, write_text, write_u32, write_u64};
@@ -77,35 +77,54 @@ fn write_table(out: &mut Bytes, table: &TableChange) -> Result<(), AllocError>
     write_columns(out, &table.columns)
 }
 
-fn write_added(out: &mut Bytes, added: &[Partition]) -> Result<(), AllocError>
+fn write_added(out: &mut Bytes, width: u32, added: &[Partition]) -> Result<(), AllocError>
     ensures written { OnOk result (out.new ≡ out.old ++ list_bytes partition_bytes added.now) }
     ensures fits { OnOk result (length added.now < 2 ^ 32) }
-    ensures shaped { OnOk result (AllByRecursion IsShaped added.now) }
+    ensures spelled { OnOk result (AllByRecursion (IsPartition width) added.now) }
 {
     write_count(out, added.len())?;
-    write_each_partition(out, added)
+    write_each_partition(out, width, added)
 }
 
-fn write_each_partition(out: &mut Bytes, added: &[Partition]) -> Result<(), AllocError>
+fn write_each_partition(out: &mut Bytes, width: u32, added: &[Partition]) -> Result<(), AllocError>
     ensures written { OnOk result (out.new ≡ out.old ++ flat_map partition_bytes added.now) }
-    ensures shaped { OnOk result (AllByRecursion IsShaped added.now) }
+    ensures spelled { OnOk result (AllByRecursion (IsPartition width) added.now) }
 {
     for partition in added {
-        partition.encode(out)?;
+        write_partition(out, width, partition)?;
     }
     Ok(())
 }
 
+/// Rows that aren't within the format are taken for memory that ran out.
+fn write_partition(out: &mut Bytes, width: u32, partition: &Partition) -> Result<(), AllocError>
+    ensures written { OnOk result (out.new ≡ out.old ++ partition_bytes partition.now) }
+    ensures spelled { OnOk result (IsPartition width partition.now) }
+{
+    if !has_rows(width, partition) {
+        return Err(AllocError);
+    }
+    partition.encode(out)?;
+    Ok(())
+}
+
+/// Numbers that don't rise are taken for memory that ran out.
 fn write_removed(out: &mut Bytes, removed: &[u64]) -> Result<(), AllocError>
     ensures written { OnOk result (out.new ≡ out.old ++ list_bytes (to_be_bytes w64) removed.now) }
     ensures fits { OnOk result (length removed.now < 2 ^ 32) }
+    ensures rising { OnOk result (NumbersRiseFrom 0 removed.now) }
 {
+    if !rise(removed) {
+        return Err(AllocError);
+    }
     write_count(out, removed.len())?;
-    write_each_number(out, removed)
+    write_each_number(out, removed)?;
+    Ok(())
 }
 
 fn write_each_number(out: &mut Bytes, numbers: &[u64]) -> Result<(), AllocError>
-    ensures { OnOk result (out.new ≡ out.old ++ flat_map (to_be_bytes w64) numbers.now) }
+    ensures written { OnOk result (out.new ≡ out.old ++ flat_map (to_be_bytes w64) numbers.now) }
+    ensures wide { OnOk result (AllByRecursion (λ n. n < 2 ^ 64) numbers.now) }
 {
     for number in numbers {
         write_u64(out, *number)?;
@@ -132,24 +151,27 @@ fn write_version_head(out: &mut Bytes, version: &VersionChange) -> Result<(), Al
 fn write_version(out: &mut Bytes, version: &VersionChange) -> Result<(), AllocError>
     ensures written { OnOk result (out.new
         ≡ out.old ++ version_bytes (version_change_of version.now)) }
-    ensures spelled { OnOk result (IsWritableVersion (version_change_of version.now)
-        → IsVersionChange (version_change_of version.now)) }
+    ensures spelled { OnOk result (IsVersionChange (version_change_of version.now)) }
 {
     write_version_head(out, version)?;
     write_removed(out, &version.removed)?;
-    write_added(out, &version.added)?;
+    write_added(out, version.width, &version.added)?;
     Ok(())
 }
 
 #[tactic(auto, unfolding(wh_machine::specs::Spelling::change_bytes))]
 fn write_change(out: &mut Bytes, change: &Change) -> Result<(), AllocError>
     ensures written { OnOk result (out.new ≡ out.old ++ change_bytes (change_of change.now)) }
-    ensures spelled { OnOk result (IsSpelledIfWritable (change_of change.now)) }
+    ensures spelled { OnOk result (IsChange (change_of change.now)) }
 {
     match change {
         Change::CreatesTable(table) => {
             out.push(TABLE_TAG)?;
             write_table(out, table)
+        }
+        Change::Drops(id) => {
+            out.push(DROP_TAG)?;
+            write_u32(out, *id)
         }
         Change::PushesVersion(version) => {
             out.push(VERSION_TAG)?;
@@ -162,8 +184,7 @@ fn write_changes(out: &mut Bytes, changes: &[Change]) -> Result<(), AllocError>
     ensures written { OnOk result (out.new
         ≡ out.old ++ list_bytes change_bytes (map change_of changes.now)) }
     ensures fits { OnOk result (length changes.now < 2 ^ 32) }
-    ensures spelled { OnOk result
-        (AllByRecursion IsSpelledIfWritable (map change_of changes.now)) }
+    ensures spelled { OnOk result (AllByRecursion IsChange (map change_of changes.now)) }
 {
     write_count(out, changes.len())?;
     write_each_change(out, changes)?;
@@ -173,8 +194,7 @@ fn write_changes(out: &mut Bytes, changes: &[Change]) -> Result<(), AllocError>
 fn write_each_change(out: &mut Bytes, changes: &[Change]) -> Result<(), AllocError>
     ensures written { OnOk result (out.new
         ≡ out.old ++ flat_map change_bytes (map change_of changes.now)) }
-    ensures spelled { OnOk result
-        (AllByRecursion IsSpelledIfWritable (map change_of changes.now)) }
+    ensures spelled { OnOk result (AllByRecursion IsChange (map change_of changes.now)) }
 {
     for change in changes {
         write_change(out, change)?;
@@ -185,8 +205,7 @@ fn write_each_change(out: &mut Bytes, changes: &[Change]) -> Result<(), AllocErr
 #[tactic(auto, unfolding(wh_machine::specs::Spelling::payload_of))]
 fn write_commit(out: &mut Bytes, commit: &Commit) -> Result<(), AllocError>
     ensures written { OnOk result (out.new ≡ out.old ++ payload_of (commit_of commit.now)) }
-    ensures spelled { OnOk result (IsWritable (commit_of commit.now)
-        → IsCommit (commit_of commit.now)) }
+    ensures spelled { OnOk result (IsCommit (commit_of commit.now)) }
 {
     write_u64(out, commit.stamp)?;
     write_changes(out, &commit.changes)?;
@@ -196,13 +215,14 @@ fn write_commit(out: &mut Bytes, commit: &Commit) -> Result<(), AllocError>
 impl Commit {
     ghost use Rattle.std.specs.Prelude.{◌≡◌, IfOk, OnOk};
     ghost use Rattle.wh_machine.specs.Spelling.{payload_of, IsCommit};
-    ghost use Rattle.wh_record.specs.View.{commit_of, IsWritable};
+    ghost use Rattle.wh_record.specs.View.{commit_of};
 
-    /// The record of the commit.
+    /// The record of the commit. `AllocError` is also the answer where a list's count doesn't fit
+    /// four bytes, a row has another number of values than the width, a number has more than 18
+    /// digits, or the numbers of removed partitions don't rise. No run makes such a commit.
     pub fn encode(&self, alloc: Global) -> Result<Framed, AllocError>
         ensures payload { IfOk result (λ framed. framed ≡ payload_of (commit_of self.now)) }
-        ensures spelled { OnOk result (IsWritable (commit_of self.now)
-            → IsCommit (commit_of self.now)) }
+        ensures spelled { OnOk result (IsCommit (commit_of self.now)) }
     {
         let mut payload = Bytes::new(alloc);
         write_commit(&mut payload, self)?;

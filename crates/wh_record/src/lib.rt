@@ -4,6 +4,7 @@
 mod commit;
 mod decoding;
 mod encoding;
+mod format;
 
 pub use commit::{Change, Commit, TableChange, VersionChange};
 pub use decoding::{spelling_fixes_commits, spelling_fixes_faults};

@@ -13,6 +13,9 @@ const CREATE: [u8; 33] = [
     0x4b, 1,
 ];
 
+/// Object 258 is dropped at stamp 4.
+const DROP: [u8; 17] = [0, 0, 0, 0, 0, 0, 0, 4, 0, 0, 0, 1, 2, 0, 0, 1, 2];
+
 /// The row (1), of number 1, in partition 1 of table 1 at stamp 2.
 const INSERT: [u8; 74] = [
     0, 0, 0, 0, 0, 0, 0, 2, 0, 0, 0, 1, 10, 0, 0, 0, 1, 0, 0, 0, 0, 0, 0, 0, 2, 0, 0, 0, 0, 0, 0,
@@ -49,8 +52,12 @@ fn created(alloc: Global) -> Result<Change, AllocError> {
 }
 
 fn inserted(alloc: Global, stamp: u64) -> Result<Change, AllocError> {
+    inserted_number(alloc, stamp, 1)
+}
+
+fn inserted_number(alloc: Global, stamp: u64, number: i64) -> Result<Change, AllocError> {
     let mut row = Row::new(alloc);
-    row.push(Value::Number(1))?;
+    row.push(Value::Number(number))?;
     let mut rows = Vec::new(alloc);
     rows.push(NumberedRow { number: 1, row })?;
     let mut added = Vec::new(alloc);
@@ -119,6 +126,11 @@ fn commits_are_written_and_read_byte_by_byte(rt: HostRuntime) -> Result<(), Fail
     assert!(rt; there_and_back(&nothing, alloc, &NOTHING), "no change");
     let create = one(alloc, 1, created(alloc)?)?;
     assert!(rt; there_and_back(&create, alloc, &CREATE), "a new table");
+    let drop = one(alloc, 4, Change::Drops(258))?;
+    assert!(rt;
+        there_and_back(&drop, alloc, &DROP),
+        "an object that is dropped"
+    );
     let insert = one(alloc, 2, inserted(alloc, 2)?)?;
     assert!(rt; there_and_back(&insert, alloc, &INSERT), "a new version");
     let both = two(alloc, 1, created(alloc)?, inserted(alloc, 1)?)?;
@@ -130,6 +142,27 @@ fn commits_are_written_and_read_byte_by_byte(rt: HostRuntime) -> Result<(), Fail
     assert!(rt;
         there_and_back(&remove, alloc, &REMOVE),
         "partitions that go"
+    );
+    Ok(())
+}
+
+#[test]
+fn what_is_no_commit_is_not_written(rt: HostRuntime) -> Result<(), Fail> {
+    let alloc = rt.alloc();
+    let least = inserted_number(alloc, 2, -999_999_999_999_999_999)?;
+    assert!(rt;
+        one(alloc, 2, least)?.encode(alloc).is_ok(),
+        "a number of 18 digits"
+    );
+    let long = inserted_number(alloc, 2, 1_000_000_000_000_000_000)?;
+    assert!(rt;
+        one(alloc, 2, long)?.encode(alloc).is_err(),
+        "a number of 19 digits"
+    );
+    let falling = removed(alloc, 5, &[3, 1])?;
+    assert!(rt;
+        one(alloc, 5, falling)?.encode(alloc).is_err(),
+        "removed numbers that fall"
     );
     Ok(())
 }
@@ -146,9 +179,10 @@ fn has_a_prefix(alloc: Global, payload: &[u8]) -> bool {
 
 #[test]
 fn no_prefix_is_a_commit(rt: HostRuntime) {
-    let cases: [(&str, &[u8]); 5] = [
+    let cases: [(&str, &[u8]); 6] = [
         ("no change", &NOTHING),
         ("a new table", &CREATE),
+        ("an object that is dropped", &DROP),
         ("a new version", &INSERT),
         ("a new table and its first version", &BOTH),
         ("partitions that go", &REMOVE),
@@ -172,12 +206,13 @@ fn with_byte(alloc: Global, bytes: &[u8], place: usize, byte: u8) -> Result<Vec<
 #[test]
 fn what_is_no_commit_is_not_read(rt: HostRuntime) -> Result<(), Fail> {
     let alloc = rt.alloc();
-    let cases: [(&str, &[u8], usize, u8); 15] = [
+    let cases: [(&str, &[u8], usize, u8); 16] = [
         ("fewer changes than there are", &BOTH, 11, 1),
         ("more changes than there are", &CREATE, 11, 2),
         ("four billion changes", &NOTHING, 8, 255),
         ("a tag of 0", &CREATE, 12, 0),
-        ("a tag of 2", &CREATE, 12, 2),
+        ("a tag of 3", &DROP, 12, 3),
+        ("a byte behind a drop", &DROP, 17, 0),
         ("a name that passes the end", &CREATE, 20, 20),
         ("a name that isn't UTF-8", &CREATE, 31, 255),
         ("a type byte of 4", &CREATE, 32, 4),

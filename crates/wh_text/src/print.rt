@@ -3,7 +3,8 @@ ghost use Rattle.std.specs.List.{flat_map};
 ghost use Rattle.wh_value.specs.Limit.{bound};
 ghost use Rattle.wh_value.specs.Value.{literal};
 ghost use Rattle.wh_value.specs.View.{value_of};
-ghost use Rattle.wh_reply.specs.Reply.{print, line, parted, row_line, limit_word, refusal_text};
+ghost use Rattle.wh_reply.specs.Reply.{print, line, parted, values_text, row_line, limit_word};
+ghost use Rattle.wh_reply.specs.Reply.{refusal_text};
 ghost use Rattle.wh_reply.specs.View.{reply_view, refusal_view};
 
 use std::alloc::{AllocError, Global};
@@ -27,34 +28,59 @@ fn put_reply(reply: &Reply, out: &mut Bytes) -> Result<(), AllocError>
     ensures { OnOk result (out.new ≡ out.old ++ print (reply_view reply.now)) }
 {
     match reply {
-        Reply::CreatedTable(name) => put_created(name, out),
-        Reply::Inserted(count) => put_inserted(*count, out),
+        Reply::CreatedTable(name) => put_name_line(b"CREATED TABLE ", name, out),
+        Reply::DroppedTable(name) => put_name_line(b"DROPPED TABLE ", name, out),
+        Reply::Inserted(count) => put_count_line(b"INSERTED ", *count, out),
+        Reply::Updated(count) => put_count_line(b"UPDATED ", *count, out),
+        Reply::Deleted(count) => put_count_line(b"DELETED ", *count, out),
+        Reply::Merged {
+            inserted,
+            updated,
+            deleted,
+        } => put_merged(*inserted, *updated, *deleted, out),
         Reply::Listing { names, rows } => put_listing(names, rows, out),
         Reply::Idle => out.extend(b"IDLE\n"),
         Reply::Refused(refusal) => put_refused(refusal, out),
     }
 }
 
-fn put_created(name: &Text, out: &mut Bytes) -> Result<(), AllocError>
-    ensures { OnOk result (out.new ≡ out.old ++ line (codes "CREATED TABLE " ++ name.now)) }
+fn put_name_line(front: &[u8], name: &Text, out: &mut Bytes) -> Result<(), AllocError>
+    ensures { OnOk result (out.new ≡ out.old ++ line (front.now ++ name.now)) }
 {
-    put_line(b"CREATED TABLE ", name.as_bytes(), out)
+    put_name(front, name, out)?;
+    out.push(LF)
 }
 
-fn put_line(front: &[u8], text: &[u8], out: &mut Bytes) -> Result<(), AllocError>
-    ensures { OnOk result (out.new ≡ out.old ++ line (front.now ++ text.now)) }
+fn put_name(front: &[u8], name: &Text, out: &mut Bytes) -> Result<(), AllocError>
+    ensures { OnOk result (out.new ≡ out.old ++ (front.now ++ name.now)) }
 {
     out.extend(front)?;
-    out.extend(text)?;
+    out.extend(name.as_bytes())
+}
+
+fn put_count_line(front: &[u8], count: u64, out: &mut Bytes) -> Result<(), AllocError>
+    ensures { OnOk result (out.new ≡ out.old ++ line (front.now ++ decimal count)) }
+{
+    put_number(front, count, out)?;
     out.push(LF)
 }
 
-fn put_inserted(count: u64, out: &mut Bytes) -> Result<(), AllocError>
-    ensures { OnOk result (out.new ≡ out.old ++ line (codes "INSERTED " ++ decimal count)) }
+fn put_number(front: &[u8], number: u64, out: &mut Bytes) -> Result<(), AllocError>
+    ensures { OnOk result (out.new ≡ out.old ++ (front.now ++ decimal number)) }
 {
-    out.extend(b"INSERTED ")?;
-    out.extend_decimal(count)?;
-    out.push(LF)
+    out.extend(front)?;
+    out.extend_decimal(number)
+}
+
+fn put_merged(inserted: u64, updated: u64, deleted: u64, out: &mut Bytes) -> Result<(), AllocError>
+    ensures { OnOk result (out.new ≡ out.old ++ line (codes "MERGED " ++ decimal inserted
+        ++ codes " INSERTED " ++ decimal updated ++ codes " UPDATED " ++ decimal deleted
+        ++ codes " DELETED")) }
+{
+    put_number(b"MERGED ", inserted, out)?;
+    put_number(b" INSERTED ", updated, out)?;
+    put_number(b" UPDATED ", deleted, out)?;
+    out.extend(b" DELETED\n")
 }
 
 fn put_refused(refusal: &Refusal, out: &mut Bytes) -> Result<(), AllocError>
@@ -70,28 +96,22 @@ fn put_refusal(refusal: &Refusal, out: &mut Bytes) -> Result<(), AllocError>
     match refusal {
         Refusal::Unsupported => out.extend(b"E0 Unsupported"),
         Refusal::SyntaxError => out.extend(b"E1 SyntaxError"),
-        Refusal::NoSuchSession(session) => put_no_session(*session, out),
-        Refusal::UnknownName(name) => put_named(b"E6 UnknownName ", name, out),
-        Refusal::NameTaken(name) => put_named(b"E7 NameTaken ", name, out),
-        Refusal::WrongKind(name) => put_named(b"E8 WrongKind ", name, out),
+        Refusal::NoSuchSession(session) => put_number(b"E2 NoSuchSession ", *session, out),
+        Refusal::UnknownName(name) => put_name(b"E6 UnknownName ", name, out),
+        Refusal::NameTaken(name) => put_name(b"E7 NameTaken ", name, out),
+        Refusal::WrongKind(name) => put_name(b"E8 WrongKind ", name, out),
         Refusal::TypeMismatch => out.extend(b"E9 TypeMismatch"),
         Refusal::OverLimit(limit) => put_limit(*limit, out),
         Refusal::NumberOutOfRange => out.extend(b"E19 NumberOutOfRange"),
+        Refusal::AmbiguousMerge(row) => put_named_row(b"E20 AmbiguousMerge ", row, out),
     }
 }
 
-fn put_named(front: &[u8], name: &Text, out: &mut Bytes) -> Result<(), AllocError>
-    ensures { OnOk result (out.new ≡ out.old ++ (front.now ++ name.now)) }
+fn put_named_row(front: &[u8], row: &Row, out: &mut Bytes) -> Result<(), AllocError>
+    ensures { OnOk result (out.new ≡ out.old ++ (front.now ++ values_text row.now)) }
 {
     out.extend(front)?;
-    out.extend(name.as_bytes())
-}
-
-fn put_no_session(session: u64, out: &mut Bytes) -> Result<(), AllocError>
-    ensures { OnOk result (out.new ≡ out.old ++ (codes "E2 NoSuchSession " ++ decimal session)) }
-{
-    out.extend(b"E2 NoSuchSession ")?;
-    out.extend_decimal(session)
+    put_values(row.values(), out)
 }
 
 fn put_limit(limit: Limit, out: &mut Bytes) -> Result<(), AllocError>
@@ -177,7 +197,7 @@ fn put_row(row: &Row, out: &mut Bytes) -> Result<(), AllocError>
 }
 
 fn put_values(values: &[Value], out: &mut Bytes) -> Result<(), AllocError>
-    ensures { OnOk result (out.new ≡ out.old ++ parted (map literal (map value_of values.now))) }
+    ensures { OnOk result (out.new ≡ out.old ++ values_text (map value_of values.now)) }
 {
     match values {
         [] => Ok(()),

@@ -1,12 +1,12 @@
 use Rattle.std.proofs.Common.{◌≡◌, ◌++◌, take, map}
 use Rattle.std.specs.List.{flat_map, AllByRecursion}
-use Rattle.wh_machine.specs.Spelling.{change_bytes}
-use Rattle.wh_record.specs.View.{change_of, IsSpelledIfWritable}
+use Rattle.wh_machine.specs.Spelling.{change_bytes, IsChange}
+use Rattle.wh_record.specs.View.{change_of}
 use Rattle.wh_record.proofs.encoding.write_each_change.Given as goal
 
--- the changes so far are written, and those of them that are writable may be
+-- the changes so far are written, and may be
 abbrev pub invariant-loop-change : goal.invariant-loop-change
 invariant-loop-change l = record {
   written : l.out ≡ l.fn.out ++ flat_map change_bytes (map change_of (take l.change-index l.changes));
-  spelled : AllByRecursion IsSpelledIfWritable (map change_of (take l.change-index l.changes));
+  spelled : AllByRecursion IsChange (map change_of (take l.change-index l.changes));
 }

@@ -1,9 +1,7 @@
-use Rattle.wh_record.proofs.ShapeLemmas.{partitions_spelled}
 use Rattle.wh_record.proofs.encoding.write_version.Goals as goal
 
 pub returns-clause-spelled : goal.returns-clause-spelled
-returns-clause-spelled c = λ writable.
-    let version = c.args.version.now in
+returns-clause-spelled c =
     let fits = c.in_ok-write_version_head.ensures.fits in
     record {
       id = fits.0;
@@ -11,7 +9,7 @@ returns-clause-spelled c = λ writable.
       next_row = fits.2;
       width = fits.3;
       few_removed = rw (← c.deref.ensures.value) c.in_ok-write_removed.ensures.fits;
-      removed = writable.removed;
+      removed = rw (← c.deref.ensures.value) c.in_ok-write_removed.ensures.rising;
       few = rw (← c.deref-2.ensures.value) c.in_ok-write_added.ensures.fits;
-      added = partitions_spelled version.width version.added.items (rw (← c.deref-2.ensures.value) c.in_ok-write_added.ensures.shaped) writable.added;
+      added = rw (← c.deref-2.ensures.value) c.in_ok-write_added.ensures.spelled;
     }
