@@ -23,6 +23,7 @@ impl Catalog {
     {
         match change {
             Change::CreatesTable(change) => self.create_table(change, stamp),
+            Change::Drops(_) => Err(StageFault::OutOfMemory),
             Change::PushesVersion(change) => push_version(&mut self.objects, change, stamp),
         }
     }
