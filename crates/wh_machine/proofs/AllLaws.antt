@@ -1,8 +1,8 @@
 -- What holds of each element of a list.
 --     all_map, all_both, all_filter     also another thing, and of the elements that pass a test
---     all_more, all_changed_at          one more element, and one that is changed
+--     all_at, all_more, all_changed_at  the one of an id, one more, and one that is changed
 --     filter_same                       tests that agree on each element
-use Rattle.std.proofs.Common.{◌≡◌, ℕ, zero, suc, Bool, true, false, cond, List, [], ◌∷◌, ◌++◌, Option, Some, None, option_map, refl, ap, subst}
+use Rattle.std.proofs.Common.{◌≡◌, ℕ, zero, suc, Bool, true, false, cond, List, [], ◌∷◌, ◌++◌, Option, Some, None, option_map, refl, subst}
 use Rattle.std.specs.Prelude.{slice_get, slice_set}
 use Rattle.std.specs.List.{AllByRecursion, filter}
 use Rattle.wh_machine.specs.State.{at_id, with_id, put_at, changed_at}
@@ -49,7 +49,7 @@ all_set P [] place x h here = tt
 all_set P (y ∷ ys) zero x h here = (here, h.1)
 all_set P (y ∷ ys) (suc place) x h here = (h.0, all_set P ys place x h.1 here)
 
-all_at : {X : Type 0} (P : X → Type 0) (xs : List X) (id : ℕ) (x : X) → AllByRecursion P xs → at_id xs id ≡ Some x → P x
+pub all_at : {X : Type 0} (P : X → Type 0) (xs : List X) (id : ℕ) (x : X) → AllByRecursion P xs → at_id xs id ≡ Some x → P x
 all_at P xs zero x h e = absurd cc
 all_at P xs (suc place) x h e = all_get P xs place x h e
 

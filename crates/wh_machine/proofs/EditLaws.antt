@@ -137,9 +137,9 @@ hold_apart : (p q : Partition) → HasRisingRows p → HasRisingRows q → AreAp
 hold_apart p q rising other apart =
     all_both (λ e. first_number p.rows ≤ e.0) (λ e. e.0 ≤ last_number p.rows) (λ e. LacksNumber e.0 q.rows)
     (λ e low high.
-        all_both (λ f. first_number q.rows ≤ f.0) (λ f. f.0 ≤ last_number q.rows) (λ f. e.0 ≡ f.0 → ⊥)
-        (λ f least most same. differ e.0 f.0 low high least most apart same)
-        q.rows (from_first 0 q.rows other) (to_last 0 q.rows other))
+    all_both (λ f. first_number q.rows ≤ f.0) (λ f. f.0 ≤ last_number q.rows) (λ f. e.0 ≡ f.0 → ⊥)
+    (λ f least most same. differ e.0 f.0 low high least most apart same)
+    q.rows (from_first 0 q.rows other) (to_last 0 q.rows other))
     p.rows (from_first 0 p.rows rising) (to_last 0 p.rows rising)
   where
     differ : (m n : ℕ) → first_number p.rows ≤ m → m ≤ last_number p.rows → first_number q.rows ≤ n → n ≤ last_number q.rows
@@ -212,10 +212,12 @@ gone_touched edits least (p ∷ ps) rise =
     by_test : (b : Bool) → is_touched edits p ≡ b → AllByRecursion (λ q. is_among q.number (numbers_gone edits ps) ≡ is_touched edits q) ps
         → AllByRecursion (λ q. is_among q.number (map (λ p. p.number) (cond b (p ∷ touched edits ps) (touched edits ps))) ≡ is_touched edits q) (p ∷ ps)
     by_test true is rest =
-        let self : nat_eq p.number p.number ≡ true = grind (arith, nat_tests) in
-        (rw self (sym is), all_both (λ q. p.number + 1 ≤ q.number) (λ q. is_among q.number (numbers_gone edits ps) ≡ is_touched edits q)
-        (λ q. is_among q.number (p.number ∷ numbers_gone edits ps) ≡ is_touched edits q)
-        (λ q later same. other_number q.number p.number (numbers_gone edits ps) later ∙ same) ps (numbers_from (p.number + 1) ps rise.2) rest)
+        let self : nat_eq p.number p.number ≡ true = grind (arith, nat_tests) in (
+          rw self (sym is),
+          all_both (λ q. p.number + 1 ≤ q.number) (λ q. is_among q.number (numbers_gone edits ps) ≡ is_touched edits q)
+              (λ q. is_among q.number (p.number ∷ numbers_gone edits ps) ≡ is_touched edits q)
+              (λ q later same. other_number q.number p.number (numbers_gone edits ps) later ∙ same) ps (numbers_from (p.number + 1) ps rise.2) rest,
+        )
     by_test false is rest = (below_none p.number (p.number + 1) (numbers_gone edits ps) rest_rise (omega arith) ∙ sym is, rest)
 
 abbrev pub untouched : RowEdits → List Partition → List Partition

@@ -1,9 +1,9 @@
 -- Rows by their numbers, put in one after the other.
---     number_tied, tied_self                what a test of two numbers says
+--     number_tied, put_get                  what a test of two numbers says, and what stands behind a row that is put in
 --     insert_past, entries_swapped          rows of different numbers, whichever come first
 --     entries_rebuilt                       rows are those of their entries
---     edited_get, edited_same, after_get    what stands at a number after edits
-use Rattle.std.proofs.Common.{◌≡◌, ℕ, suc, Bool, true, false, cond, List, [], ◌∷◌, ◌++◌, Option, Some, None, refl, sym, ap, ◌∙◌, arith, T, nat_lt, ◌==◌, Less, Equal, Greater}
+--     row_left, edited_at, edited_same      what stands at a number after edits
+use Rattle.std.proofs.Common.{◌≡◌, ℕ, Bool, true, false, cond, List, [], ◌∷◌, ◌++◌, Option, Some, None, refl, sym, ap, ◌∙◌, arith, T, nat_lt, ◌==◌, Less, Equal, Greater}
 use Rattle.std.specs.Prelude.{◌&&◌}
 use Rattle.std.specs.List.{AllByRecursion}
 use Rattle.std.specs.FinMap.{empty, get, insert, entries, from_entries, entries_sorted, get-entries, get-empty, get-insert, get-from_entries, same_map, nat_cmp-IsAntisymmetric}
@@ -20,11 +20,8 @@ use Rattle.wh_machine.specs.Edits.{RowEdits, row_as, edited}
 pub number_tied : (x y : ℕ) → eq_by_cmp nat_cmp x y ≡ true → x ≡ y
 number_tied x y e = grind (arith, nat_tests)
 
-pub tied_self : (x : ℕ) → eq_by_cmp nat_cmp x x ≡ true
-tied_self x = grind (arith, nat_tests)
-
 -- what stands at a number behind a row that was put in
-put_get : (rows : Rows) (k : ℕ) (row : Row) (q : ℕ) → get (insert rows k row) q ≡ cond (eq_by_cmp nat_cmp q k) (Some row) (get rows q)
+pub put_get : (rows : Rows) (k : ℕ) (row : Row) (q : ℕ) → get (insert rows k row) q ≡ cond (eq_by_cmp nat_cmp q k) (Some row) (get rows q)
 put_get rows k row q = get-insert nat_cmp_total rows k row q
 
 -- ---- rows of different numbers
@@ -134,7 +131,7 @@ put_new edits m n k row new q named same = by_tie (eq_by_cmp nat_cmp q k) refl
     by_tie false is = rw (put_get n k new q, put_get m k row q, is) same
 
 -- edited entries behind rows that are what edits leave of others
-pub edited_get : (edits : RowEdits) (es : List (ℕ × Row)) (m n : Rows) (q : ℕ) → get n q ≡ row_left (get m q) (get edits q)
+edited_get : (edits : RowEdits) (es : List (ℕ × Row)) (m n : Rows) (q : ℕ) → get n q ≡ row_left (get m q) (get edits q)
     → get (with_entries n (edited edits es)) q ≡ row_left (get (with_entries m es) q) (get edits q)
 edited_get edits [] m n q same = same
 edited_get edits (e ∷ es) m n q same = by_edit (get edits e.0) refl (λ m n h. edited_get edits es m n q h)
