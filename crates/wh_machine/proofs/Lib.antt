@@ -1,0 +1,12 @@
+pub mod AllLaws
+pub mod IdLaws
+pub mod CutLaws
+pub mod RowLaws
+pub mod EditLaws
+pub mod VersionLaws
+pub mod MeaningLaws
+pub mod ActLaws
+pub mod OutcomeLaws
+pub mod StepLaws
+pub mod SoundLaws
+pub mod ReplyLaws
