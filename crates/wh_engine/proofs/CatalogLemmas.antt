@@ -2,17 +2,17 @@
 --     state_is, rest_of, objects_are        the state, but for its last stamp and at rest; its objects
 --     found_is, count_is, live_is           objects by names, and how many there are
 --     table_there, table_missing            the table at an id
---     written_rows                          the change that rows for it are written as
+--     written_edits                         the change that edits of it are written as
 --     means_by                              a commit is carried out
 use Rattle.std.proofs.Common.{◌≡◌, ℕ, List, [], ◌∷◌, ◌++◌, length, map, Option, Some, None, refl, sym, ap, ◌∙◌}
-use Rattle.wh_value.specs.Value.{Row}
 use Rattle.wh_machine.specs.State.{State, Object, at_id, id_of, live_count, at_rest}
-use Rattle.wh_machine.specs.Outcome.{AddsRows}
+use Rattle.wh_machine.specs.Edits.{Edits}
+use Rattle.wh_machine.specs.Outcome.{EditsRows}
 use Rattle.wh_machine.specs.Tables.{table_at}
 use Rattle.wh_machine.specs.Stored.{Stored, StoredTable, StoredKind, StoredTableKind, StoredObject, table_meant, object_meant, meant}
 use Rattle.wh_machine.specs.Commit.{Change, Commit, applied}
 use Rattle.wh_machine.specs.Step.{stamped}
-use Rattle.wh_machine.specs.Written.{rows_written, rows_written_to, written}
+use Rattle.wh_machine.specs.Written.{version_written, version_written_to, written}
 use Rattle.wh_machine.proofs.MeaningLaws.{length_meant, id_of_meant, live_count_meant, table_at_none, table_at_some}
 use Rattle.wh_catalog.specs.Catalog.{stored_of, state_of, stored_table_at}
 use Rattle.wh_catalog.specs.declared.catalog.Catalog.{Catalog}
@@ -81,16 +81,16 @@ pub table_missing : (c : Catalog) (id : ℕ) → stored_table_at (stored_of c).o
 table_missing c id is =
     ap (λ (objects : List Object). table_at objects id) (objects_are c) ∙ table_at_none (stored_of c).objects id (has_none (stored_of c).objects id is)
 
-kind_written : (stamp id : ℕ) (rows : List Row) (o : StoredObject) (t : StoredTable) → o.kind ≡ StoredTableKind t
-    → rows_written_to stamp id rows (Some o) ≡ rows_written stamp id rows t ∷ []
-kind_written stamp id rows o t kind = rw kind
+kind_written : (stamp id : ℕ) (e : Edits) (o : StoredObject) (t : StoredTable) → o.kind ≡ StoredTableKind t
+    → version_written_to stamp id e (Some o) ≡ version_written stamp id e t ∷ []
+kind_written stamp id e o t kind = rw kind
 
-pub written_rows : (stamp : ℕ) (objects : List StoredObject) (id : ℕ) (rows : List Row) (t : StoredTable) → stored_table_at objects id ≡ Some t
-    → written stamp objects (AddsRows id rows ∷ []) ≡ rows_written stamp id rows t ∷ []
-written_rows stamp objects id rows t is =
+pub written_edits : (stamp : ℕ) (objects : List StoredObject) (id : ℕ) (e : Edits) (t : StoredTable) → stored_table_at objects id ≡ Some t
+    → written stamp objects (EditsRows id e ∷ []) ≡ version_written stamp id e t ∷ []
+written_edits stamp objects id e t is =
     let h = has_table objects id t is in
-    ap (λ (found : Option StoredObject). rows_written_to stamp id rows found ++ []) h.there
-    ∙ ap (λ (cs : List Change). cs ++ []) (kind_written stamp id rows h.object t h.kind)
+    ap (λ (found : Option StoredObject). version_written_to stamp id e found ++ []) h.there
+    ∙ ap (λ (cs : List Change). cs ++ []) (kind_written stamp id e h.object t h.kind)
 
 -- ---- a commit
 

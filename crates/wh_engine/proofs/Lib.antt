@@ -9,10 +9,10 @@ mod PlanLemmas
 mod StepLemmas
 mod OutcomeLemmas
 mod TableLemmas
-mod RowLemmas
+mod ChangeLemmas
+mod EditLemmas
 mod ReplayLemmas
 mod OpenLemmas
-mod LiteralLemmas
 mod QueryLemmas
 mod ObjectLemmas
 mod RequestLemmas

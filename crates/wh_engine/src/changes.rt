@@ -1,15 +1,19 @@
-ghost use Rattle.std.specs.Prelude.{◌≡◌, ◌+◌, ◌≤◌, IfOk};
+ghost use Rattle.std.specs.Prelude.{◌≡◌, ◌+◌, ◌≤◌, Some, length, nat_lt, IfOk};
+ghost use Rattle.wh_value.specs.Limit.{bound};
+ghost use Rattle.wh_value.specs.declared.limit.Limit.TheVariants as limits;
 ghost use Rattle.wh_reply.specs.View.{reply_view};
-ghost use Rattle.wh_effect.specs.Effect.{effect};
+ghost use Rattle.wh_effect.specs.Effect.{effect, Does};
 ghost use Rattle.wh_naming.specs.Changes as naming;
 ghost use Rattle.wh_dml_bind.specs.Binds.{IsBound};
-ghost use Rattle.wh_dml_bind.specs.View.{change_of};
+ghost use Rattle.wh_dml_bind.specs.View as changes;
 ghost use Rattle.wh_dml.specs.View.{effect_of, targets_of, Gives};
 ghost use Rattle.wh_machine.specs.Step.{stamped};
-ghost use Rattle.wh_machine.specs.Stored.{table_meant};
+ghost use Rattle.wh_machine.specs.Stored.{Stored, table_meant};
+ghost use Rattle.wh_machine.specs.Commit.{PushesVersion};
 ghost use Rattle.wh_machine.specs.Queries.{instance_of};
 ghost use Rattle.wh_machine.specs.Changes as machine;
-ghost use Rattle.wh_catalog.specs.Catalog.{stored_of, state_of};
+ghost use Rattle.wh_record.specs.View.{change_of};
+ghost use Rattle.wh_catalog.specs.Catalog.{stored_of, state_of, stored_table_at};
 ghost use Rattle.wh_catalog.specs.Table.{table_of};
 ghost use Rattle.wh_engine.specs.Decision.{Decides};
 
@@ -24,7 +28,7 @@ use wh_bind::BindFault;
 use wh_catalog::{Catalog, StoredTable};
 use wh_dml::{Effect, EffectFault, TargetRow, effect};
 use wh_dml_bind::{BoundChange, Change, bind_change};
-use wh_record::VersionChange;
+use wh_record::{Change as Written, VersionChange};
 use wh_reply::{Refusal, Reply};
 use wh_value::Limit;
 use wh_version::{Edits, Rewritten};
@@ -86,7 +90,7 @@ fn effect_on(
     bound: &BoundChange,
     table: &StoredTable,
 ) -> Result<Effect, EffectFault>
-    ensures { Gives result (effect (change_of bound.now.change)
+    ensures { Gives result (effect (changes.change_of bound.now.change)
         (machine.rows_seen (table_meant (table_of table.now)))
         (instance_of (state_of catalog.now).objects bound.now.sources.items)) }
 {
@@ -127,6 +131,11 @@ fn edit(
     table: &StoredTable,
     effect: Effect,
 ) -> Result<Decision, AllocError>
+    ensures { IfOk result (λ decision. (s : Stored)
+        → stored_table_at s.objects bound.now.target ≡ Some (table_of table.now)
+        → Decides s stamp decision (machine.settled_effect bound.now.target
+        (changes.change_of bound.now.change) (table_meant (table_of table.now))
+        (Does (effect_of effect)))) }
 {
     let more = effect.added.len() as u64;
     if let Some(why) = refused_past(Limit::RowNumber, table.next_row(), more) {
@@ -163,11 +172,19 @@ fn version(
     more: u64,
     table: &StoredTable,
     rewritten: Rewritten,
-) -> wh_record::Change
+) -> Written
     requires { (table_of table.now).next_row + more ≤ bound limits.RowNumber }
+    ensures { change_of result ≡ PushesVersion (record {
+      id = id;
+      data_timestamp = stamp;
+      next_row = (table_of table.now).next_row + more;
+      width = length (table_of table.now).columns;
+      removed = rewritten.removed.items;
+      added = rewritten.added.items;
+    }) }
 {
     let Rewritten { removed, added } = rewritten;
-    wh_record::Change::PushesVersion(VersionChange {
+    Written::PushesVersion(VersionChange {
         id,
         data_timestamp: stamp,
         next_row: table.next_row() + more,
@@ -185,7 +202,7 @@ fn is_counted(effect: &Effect) -> bool
 }
 
 fn reply_to(change: &Change, effect: &Effect) -> Reply
-    ensures { reply_view result ≡ machine.reply_to (change_of change.now) (effect_of effect.now) }
+    ensures { reply_view result ≡ machine.reply_to (changes.change_of change.now) (effect_of effect.now) }
 {
     let inserted = effect.added.len() as u64;
     let updated = effect.changed.len() as u64;

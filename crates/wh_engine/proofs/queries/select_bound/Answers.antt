@@ -3,7 +3,7 @@ use Rattle.wh_value.specs.declared.limit.Limit.TheVariants as limits
 use Rattle.wh_reply.specs.Reply.{OverLimit, NumberOutOfRange, Listing}
 use Rattle.wh_reply.specs.declared.reply.Reply.TheVariants as shown
 use Rattle.wh_catalog.specs.Catalog.{stored_of, state_of}
-use Rattle.wh_engine.specs.Literals.{rows_found}
+use Rattle.wh_engine.specs.Rows.{rows_found}
 use Rattle.wh_engine.specs.declared.decision.Decision.TheVariants.{Do}
 use Rattle.wh_engine.specs.Decision.{Goes}
 use Rattle.wh_engine.proofs.OutcomeLemmas.{declines, replies}

@@ -6,7 +6,6 @@ use Rattle.wh_machine.specs.State.{State}
 use Rattle.wh_machine.specs.Step.{reading_of, stamp_of}
 use Rattle.wh_catalog.specs.Catalog.{stored_of, state_of}
 use Rattle.wh_engine.specs.Event.{event_of}
-use Rattle.wh_engine.specs.Decision.{AreWritable}
 use Rattle.wh_engine.specs.Warehouse.{made_in}
 use Rattle.wh_engine.specs.Halts.{Halted}
 use Rattle.wh_engine.proofs.StopLemmas.{leaves_still}
@@ -53,14 +52,13 @@ settle-requires g c =
       healthy = sym c.failed.ensures ∙ none;
       later = omega (arith, c.max-stamp.ensures, c.last.ensures.committed);
       within = omega (arith, c.bound.ensures, c.if-bound-stamp.false);
-      writable = subst AreWritable (sym c.into_parts-reply.ensures.changes) c.in_ok-decision.ensures.writable;
     }
 
 pub returns-in_err-settle-clause-halted : goal.returns-in_err-settle-clause-halted
 returns-in_err-settle-clause-halted g c =
     let w = c.args.self.now in
     let e = event_of c.args.event.now in
-    let h = turns w.catalog e c.reading.result c.last.result c.bound.result c.max-stamp.result c.in_ok-decision.decision _ _ c.reading.ensures c.last.ensures.last
+    let h = turns w.catalog e c.reading.result c.last.result c.bound.result c.max-stamp.result c.in_ok-decision.decision _ _ c.last.ensures.orderly c.reading.ensures c.last.ensures.last
     c.bound.ensures c.max-stamp.ensures c.if-bound-stamp.false c.in_ok-decision.ensures c.into_parts-reply.ensures.changes c.into_parts-reply.ensures.reply in
     passed_on c.from_residual-in_err-settle.result c.in_err-settle.field-0.0 (λ halt. Halted w c.settle.new.self (made_in w e) halt)
     c.from_residual-in_err-settle.ensures.1 (rw h.commit c.in_err-settle.ensures.halted)
@@ -69,7 +67,7 @@ pub returns-in_err-settle-clause-any_moment : goal.returns-in_err-settle-clause-
 returns-in_err-settle-clause-any_moment g c =
     let w = c.args.self.now in
     let e = event_of c.args.event.now in
-    let h = turns w.catalog e c.reading.result c.last.result c.bound.result c.max-stamp.result c.in_ok-decision.decision _ _ c.reading.ensures c.last.ensures.last
+    let h = turns w.catalog e c.reading.result c.last.result c.bound.result c.max-stamp.result c.in_ok-decision.decision _ _ c.last.ensures.orderly c.reading.ensures c.last.ensures.last
     c.bound.ensures c.max-stamp.ensures c.if-bound-stamp.false c.in_ok-decision.ensures c.into_parts-reply.ensures.changes c.into_parts-reply.ensures.reply in
     rw h.leaves c.settle.ensures.any_moment
 
@@ -77,7 +75,7 @@ pub returns-clause-answered : goal.returns-clause-answered
 returns-clause-answered g c =
     let w = c.args.self.now in
     let e = event_of c.args.event.now in
-    let h = turns w.catalog e c.reading.result c.last.result c.bound.result c.max-stamp.result c.in_ok-decision.decision _ _ c.reading.ensures c.last.ensures.last
+    let h = turns w.catalog e c.reading.result c.last.result c.bound.result c.max-stamp.result c.in_ok-decision.decision _ _ c.last.ensures.orderly c.reading.ensures c.last.ensures.last
     c.bound.ensures c.max-stamp.ensures c.if-bound-stamp.false c.in_ok-decision.ensures c.into_parts-reply.ensures.changes c.into_parts-reply.ensures.reply in
     record { replied = h.replied; carried = rw (h.commit, h.leaves) c.in_ok-settle.ensures.answered }
 
@@ -85,6 +83,6 @@ pub returns-clause-any_moment : goal.returns-clause-any_moment
 returns-clause-any_moment g c =
     let w = c.args.self.now in
     let e = event_of c.args.event.now in
-    let h = turns w.catalog e c.reading.result c.last.result c.bound.result c.max-stamp.result c.in_ok-decision.decision _ _ c.reading.ensures c.last.ensures.last
+    let h = turns w.catalog e c.reading.result c.last.result c.bound.result c.max-stamp.result c.in_ok-decision.decision _ _ c.last.ensures.orderly c.reading.ensures c.last.ensures.last
     c.bound.ensures c.max-stamp.ensures c.if-bound-stamp.false c.in_ok-decision.ensures c.into_parts-reply.ensures.changes c.into_parts-reply.ensures.reply in
     rw h.leaves c.settle.ensures.any_moment
