@@ -1,0 +1,183 @@
+CREATE TABLE T(K NUMBER, V NUMBER);
+CREATE TABLE U(K NUMBER, V NUMBER);
+CREATE TABLE TWO(X NUMBER);
+INSERT INTO TWO VALUES (1), (1);
+INSERT INTO T VALUES (1, 10), (2, 20);
+INSERT INTO U VALUES (1, 11), (3, 30);
+-- a matched row is changed, and a source row without a match is inserted
+MERGE INTO T USING U ON T.K = U.K WHEN MATCHED THEN UPDATE SET V = U.V WHEN NOT MATCHED THEN INSERT VALUES (U.K, U.V);
+-- a row of the target without a match stays
+SELECT * FROM T;
+INSERT INTO U VALUES (1, 12);
+-- two source rows that change one row of the target
+MERGE INTO T USING U ON T.K = U.K WHEN MATCHED THEN UPDATE SET V = U.V WHEN NOT MATCHED THEN INSERT VALUES (U.K, U.V);
+-- aliases of both, with AS and without
+MERGE INTO T AS A USING U B ON A.K = B.K AND B.V > 11 WHEN MATCHED THEN UPDATE SET V = A.V + B.V;
+-- both rows are computed from both entries
+SELECT * FROM T;
+-- a query as source, and a row that becomes an equal one
+MERGE INTO T USING (SELECT K, SUM(V) AS S FROM U GROUP BY K) Q ON T.K = Q.K WHEN MATCHED THEN UPDATE SET V = S;
+-- the target as its own source
+MERGE INTO T USING T S ON T.K = S.K WHEN MATCHED THEN UPDATE SET V = T.V + S.V;
+-- it is read as it was
+SELECT * FROM T;
+-- one source row may change several rows of the target
+MERGE INTO T USING (SELECT K FROM U WHERE V = 30) S ON T.K < S.K WHEN MATCHED THEN UPDATE SET V = 0;
+-- an alias hides the target's name
+MERGE INTO T A USING U ON T.K = U.K WHEN MATCHED THEN DELETE;
+CREATE TABLE M(K NUMBER, V NUMBER);
+CREATE TABLE S(K NUMBER, A VARCHAR);
+INSERT INTO M VALUES (1, 1), (2, 2), (3, 3), (4, 4);
+INSERT INTO S VALUES (1, 'u'), (2, 'd'), (3, NULL), (5, 'i'), (6, 'j'), (7, NULL);
+-- the first clause whose condition is TRUE, of five
+MERGE INTO M USING S ON M.K = S.K
+WHEN MATCHED AND A = 'u' THEN UPDATE SET V = 10
+WHEN MATCHED AND A IS NOT NULL THEN DELETE
+WHEN MATCHED THEN UPDATE SET V = 30
+WHEN NOT MATCHED AND A = 'i' THEN INSERT VALUES (S.K, 50)
+WHEN NOT MATCHED AND A <> 'i' THEN INSERT (K) VALUES (S.K);
+-- a condition that is NULL selects nothing, and a column that is left out is NULL
+SELECT * FROM M;
+-- a source row that is matched isn't inserted, though no clause is selected for it
+MERGE INTO M USING S ON M.K = S.K WHEN MATCHED AND A = 'zz' THEN DELETE WHEN NOT MATCHED THEN INSERT (V, K) VALUES (0, S.K);
+-- a condition that is NULL on every pair
+MERGE INTO M USING S ON M.K = S.K WHEN MATCHED AND NULL THEN DELETE;
+-- an ON that is NULL matches nothing
+MERGE INTO M USING (SELECT V AS N FROM M WHERE K = 6) Q ON M.V = Q.N WHEN MATCHED THEN DELETE WHEN NOT MATCHED THEN INSERT VALUES (8, Q.N);
+-- no clause for source rows without a match
+MERGE INTO M USING S ON FALSE WHEN MATCHED THEN DELETE;
+-- no clause for pairs
+MERGE INTO M USING S ON TRUE WHEN NOT MATCHED THEN INSERT VALUES (9, 9);
+-- a source without rows
+MERGE INTO M USING (SELECT K FROM S WHERE FALSE) Q ON M.K = Q.K WHEN MATCHED THEN DELETE WHEN NOT MATCHED THEN INSERT VALUES (Q.K, 1);
+-- clauses of the two kinds in any order
+MERGE INTO M USING S ON M.K = S.K WHEN NOT MATCHED THEN INSERT VALUES (0, 0) WHEN MATCHED AND S.K > 2 THEN DELETE WHEN MATCHED THEN UPDATE SET V = - V;
+-- what is left
+SELECT * FROM M;
+CREATE TABLE E(K NUMBER, V NUMBER);
+-- equal source rows count each, and over no pair ON isn't evaluated
+MERGE INTO E USING TWO ON 999999999999999999 + X > 0 WHEN MATCHED THEN DELETE WHEN NOT MATCHED THEN INSERT VALUES (X, 0);
+-- two equal rows
+SELECT * FROM E;
+-- two equal source rows that both delete are two
+MERGE INTO E USING TWO ON E.K = TWO.X WHEN MATCHED THEN DELETE;
+-- two that would change a row to an equal one are two as well
+MERGE INTO E USING TWO ON E.K = TWO.X WHEN MATCHED THEN UPDATE SET V = E.V;
+-- two source rows are matched, and one of them selects a clause
+MERGE INTO E USING U ON E.K = U.K WHEN MATCHED AND U.V = 12 THEN UPDATE SET V = U.V;
+-- two that select two clauses
+MERGE INTO E USING U ON E.K = U.K WHEN MATCHED AND U.V = 11 THEN DELETE WHEN MATCHED THEN UPDATE SET V = 5;
+-- a refused MERGE inserts nothing either
+MERGE INTO E USING U ON E.K = U.K WHEN MATCHED THEN DELETE WHEN NOT MATCHED THEN INSERT VALUES (U.K, U.V);
+-- the rows are as they were
+SELECT * FROM E;
+CREATE TABLE R(K NUMBER, W VARCHAR, P BOOLEAN);
+INSERT INTO R VALUES (9, 'it''s', TRUE), (2, NULL, NULL), (5, '', FALSE);
+-- the ambiguous row of the least number, its values as literals
+MERGE INTO R USING TWO ON TRUE WHEN MATCHED THEN DELETE;
+-- only a row with several source rows
+MERGE INTO R USING TWO ON K < 9 WHEN MATCHED THEN UPDATE SET K = 0;
+CREATE TABLE Q(A NUMBER, B NUMBER);
+CREATE TABLE P(K NUMBER);
+INSERT INTO Q VALUES (2, 8), (1, 9);
+MERGE INTO P USING Q ON FALSE WHEN NOT MATCHED THEN INSERT VALUES (B);
+-- rows are added in the row order of the whole source row
+MERGE INTO P USING TWO ON TRUE WHEN MATCHED THEN DELETE;
+DELETE FROM P;
+MERGE INTO P USING Q ON FALSE WHEN NOT MATCHED AND A = 2 THEN INSERT VALUES (22) WHEN NOT MATCHED THEN INSERT VALUES (11);
+-- and not in that of the clauses
+MERGE INTO P USING TWO ON TRUE WHEN MATCHED THEN DELETE;
+CREATE TABLE L(K NUMBER, V NUMBER);
+INSERT INTO L VALUES (1, 999999999999999999), (2, 5);
+-- ON is evaluated on every pair
+MERGE INTO L USING Q ON L.K = 2 AND L.V + 1 > 0 WHEN MATCHED THEN DELETE;
+-- a MATCHED condition on every pair on which ON is TRUE
+MERGE INTO L USING Q ON L.K = Q.A WHEN MATCHED AND L.V + 1 > 0 THEN DELETE;
+-- and on no other
+MERGE INTO L USING Q ON L.K = 2 AND Q.A = 2 WHEN MATCHED AND L.V + 1 > 0 THEN UPDATE SET V = 6;
+-- that of a later clause too
+MERGE INTO L USING Q ON L.K = Q.A WHEN MATCHED THEN UPDATE SET K = L.K WHEN MATCHED AND L.V + 1 > 0 THEN DELETE;
+-- SET of a clause that is selected
+MERGE INTO L USING Q ON L.K = Q.A WHEN MATCHED THEN UPDATE SET V = L.V + 1;
+-- SET of a clause that isn't selected is not evaluated
+MERGE INTO L USING Q ON L.K = Q.A WHEN MATCHED AND Q.B = 8 THEN UPDATE SET V = L.V + 1;
+-- nor that of a clause behind the one that is selected
+MERGE INTO L USING Q ON L.K = Q.A WHEN MATCHED AND Q.A = 1 THEN UPDATE SET K = 1 WHEN MATCHED THEN UPDATE SET V = L.V + 1;
+-- a NOT MATCHED condition on every source row without a match
+MERGE INTO L USING Q ON FALSE WHEN NOT MATCHED AND 999999999999999999 + Q.A > 0 THEN INSERT VALUES (0, 0);
+-- that of a later clause too
+MERGE INTO L USING Q ON FALSE WHEN NOT MATCHED THEN INSERT VALUES (0, 0) WHEN NOT MATCHED AND 999999999999999999 + Q.A > 0 THEN INSERT VALUES (1, 1);
+-- and on no other
+MERGE INTO L USING Q ON L.K = Q.A WHEN NOT MATCHED AND 999999999999999999 + Q.A > 0 THEN INSERT VALUES (0, 0);
+-- VALUES of a clause that is selected
+MERGE INTO L USING Q ON FALSE WHEN NOT MATCHED AND Q.A = 2 THEN INSERT VALUES (999999999999999999 + Q.A, 0);
+-- VALUES of a clause that isn't selected are not evaluated
+MERGE INTO L USING Q ON FALSE WHEN NOT MATCHED AND Q.A = 3 THEN INSERT VALUES (999999999999999999 + Q.A, 0);
+-- a source that is undefined
+MERGE INTO L USING (SELECT A * 999999999999999999 AS N FROM Q) S ON FALSE WHEN MATCHED THEN DELETE;
+-- undefined comes before ambiguous
+MERGE INTO L USING TWO ON TRUE WHEN MATCHED THEN UPDATE SET V = L.V + 1;
+-- also where a source row can't be inserted
+MERGE INTO L USING U ON L.K = U.K WHEN MATCHED THEN UPDATE SET V = 0 WHEN NOT MATCHED THEN INSERT VALUES (999999999999999999 + U.K, 0);
+-- ambiguous where all is defined
+MERGE INTO L USING TWO ON TRUE WHEN MATCHED AND L.K = 2 THEN UPDATE SET V = L.V + 1;
+-- refused statements change nothing
+SELECT * FROM L;
+-- behind NOT MATCHED the target's columns have no meaning
+MERGE INTO T USING U ON T.K = U.K WHEN NOT MATCHED THEN INSERT VALUES (T.K, U.V);
+-- by its alias neither
+MERGE INTO T A USING U ON A.K = U.K WHEN NOT MATCHED AND A.V = 1 THEN INSERT VALUES (U.K, U.V);
+-- a lone name is the source's there
+MERGE INTO T USING U ON FALSE WHEN NOT MATCHED AND V > 11 THEN INSERT VALUES (K, V);
+-- in ON both entries have it
+MERGE INTO T USING U ON K = 1 WHEN MATCHED THEN DELETE;
+-- and on the right of SET; on its left it is the target's
+MERGE INTO T USING U ON FALSE WHEN MATCHED THEN UPDATE SET V = V;
+-- one name for both entries
+MERGE INTO T USING T ON TRUE WHEN MATCHED THEN DELETE;
+-- one alias for both
+MERGE INTO T A USING U A ON TRUE WHEN MATCHED THEN DELETE;
+-- the target's name as the alias of a query
+MERGE INTO T USING (SELECT X FROM TWO) T ON TRUE WHEN MATCHED THEN DELETE;
+-- the source's name as the alias of the target
+MERGE INTO T U USING U ON TRUE WHEN MATCHED THEN DELETE;
+-- an unknown target
+MERGE INTO NOPE USING U ON TRUE WHEN MATCHED THEN DELETE;
+-- an unknown source
+MERGE INTO T USING NOPE ON TRUE WHEN MATCHED THEN DELETE;
+-- an unknown column that is set
+MERGE INTO T USING U ON TRUE WHEN MATCHED THEN UPDATE SET ZZ = 1;
+-- a column of the source that is set
+MERGE INTO T USING TWO ON TRUE WHEN MATCHED THEN UPDATE SET X = 1;
+-- a column that is set twice
+MERGE INTO T USING U ON TRUE WHEN MATCHED THEN UPDATE SET V = 1, V = 2;
+-- one column in two clauses is free
+MERGE INTO T USING U ON FALSE WHEN MATCHED AND T.K = 1 THEN UPDATE SET V = 1 WHEN MATCHED THEN UPDATE SET V = 2;
+-- a list with an unknown column
+MERGE INTO T USING U ON TRUE WHEN NOT MATCHED THEN INSERT (ZZ) VALUES (1);
+-- a list with a column twice
+MERGE INTO T USING U ON TRUE WHEN NOT MATCHED THEN INSERT (K, K) VALUES (1, 2);
+-- a value too few
+MERGE INTO T USING U ON TRUE WHEN NOT MATCHED THEN INSERT VALUES (1);
+-- a text for a number
+MERGE INTO M USING S ON M.K = S.K WHEN NOT MATCHED THEN INSERT VALUES (S.K, A);
+-- a text that is set
+MERGE INTO M USING S ON M.K = S.K WHEN MATCHED THEN UPDATE SET V = A;
+-- ON takes a truth value
+MERGE INTO T USING U ON T.K WHEN MATCHED THEN DELETE;
+-- so does a condition
+MERGE INTO T USING U ON TRUE WHEN MATCHED AND T.K THEN DELETE;
+-- no call in ON
+MERGE INTO T USING U ON COUNT(*) = 1 WHEN MATCHED THEN DELETE;
+-- no call in a condition
+MERGE INTO T USING U ON TRUE WHEN NOT MATCHED AND SUM(U.V) > 0 THEN INSERT VALUES (1, 1);
+-- no call in SET
+MERGE INTO T USING U ON TRUE WHEN MATCHED THEN UPDATE SET V = SUM(U.V);
+-- a matched row isn't inserted
+MERGE INTO T USING U ON TRUE WHEN MATCHED THEN INSERT VALUES (1, 1);
+-- a row that isn't matched isn't deleted
+MERGE INTO T USING U ON TRUE WHEN NOT MATCHED THEN DELETE;
+-- no clause
+MERGE INTO T USING U ON TRUE;
+-- a query as source has an alias
+MERGE INTO T USING (SELECT X FROM TWO) ON TRUE WHEN MATCHED THEN DELETE;
