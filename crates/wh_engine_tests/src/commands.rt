@@ -336,12 +336,11 @@ fn numbers_have_a_minus_sign_and_18_digits(rt: HostRuntime) -> Result<(), Fail> 
 fn other_statements_are_not_carried_out(rt: HostRuntime) -> Result<(), Fail> {
     let alloc = rt.alloc();
     let texts = [
-        "INSERT INTO N VALUES (- -3)",
-        "INSERT INTO N VALUES (1 + 1)",
-        "INSERT INTO N (K) VALUES (1)",
-        "UPDATE N SET K = 1",
-        "CREATE OR REPLACE TABLE N(K INT)",
-        "DROP TABLE N",
+        "BEGIN",
+        "COMMIT",
+        "CREATE STREAM S ON TABLE N",
+        "CREATE TASK A AS DELETE FROM N",
+        "DROP DYNAMIC TABLE N",
     ];
     let mut warehouse = opened(&rt, alloc, b"", LIMIT, &[])?.ok_or("a new file opens")?;
     for text in texts {

@@ -104,7 +104,7 @@ const PIECES: [(&[u8], &[u8]); 10] = [
     (b"!session 1\r\n", b""),
     (b"/* ; */SELECT * FROM T;", b"K\n12\n(1 rows)\n"),
     (b"SELECT ';' FROM;", b"E1 SyntaxError\n"),
-    (b"DROP TABLE T", b"E0 Unsupported\n"),
+    (b"ROLLBACK", b"E0 Unsupported\n"),
 ];
 
 /// Whether behind what was written before stands nothing, that text is none, or the piece's reply.

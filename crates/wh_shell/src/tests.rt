@@ -168,7 +168,7 @@ fn scripts_are_answered(rt: HostRuntime) -> Result<(), Fail> {
         (
             "refusals",
             b"CREATE TABLE T(K NUMBER); CREATE TABLE T(K NUMBER); INSERT INTO T VALUES (1, 2);
-              INSERT INTO U VALUES (1); DROP TABLE T;",
+              INSERT INTO U VALUES (1); COMMIT;",
             b"CREATED TABLE T\nE7 NameTaken T\nE9 TypeMismatch\nE6 UnknownName U\nE0 Unsupported\n",
             Status::Read { refusals: 4 },
         ),
