@@ -10,3 +10,8 @@ pub mod OutcomeLaws
 pub mod StepLaws
 pub mod SoundLaws
 pub mod ReplyLaws
+pub mod KnownFacts
+pub mod KnownTests
+pub mod KnownCommits
+pub mod KnownStops
+pub mod KnownEdits

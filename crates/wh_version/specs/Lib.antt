@@ -1,4 +1,4 @@
-pub mod Edits
-pub mod History
-pub mod Kept
 pub mod Lists
+pub mod Kept
+pub mod History
+pub mod Edits

@@ -1,9 +1,13 @@
+ghost use Rattle.std.specs.Prelude.{◌≡◌, map, OnOk};
+ghost use Rattle.wh_machine.specs.Edits.{with_removed, with_changed};
+ghost use Rattle.wh_version.specs.Edits.{kept_of};
+
 use crate::row_edits::RowEdits;
 use std::alloc::{AllocError, Global};
 use wh_part::NumberedRow;
 use wh_value::Row;
 
-/// Edits of a table's rows: rows that become new ones or go, by their numbers, and rows that come.
+/// Edits of a table's rows: rows that become others or go, by their numbers, and rows that come.
 #[derive(Debug, Drop)]
 pub struct Edits {
     pub(crate) rows: RowEdits,
@@ -15,8 +19,8 @@ impl Edits {
     ghost use Rattle.wh_machine.specs.Edits.{edits_of};
     ghost use Rattle.wh_version.specs.Edits.{kept_of, edits_in};
 
-    /// What becomes of rows by their numbers: some are removed, some are changed to new ones. Where
-    /// a number is there twice, the later one counts. And the rows that are added.
+    /// Rows that go, by their numbers, rows that become others, and rows that come. Where a number
+    /// is named twice, the last one counts.
     pub fn new(
         alloc: Global,
         removed: &[u64],
@@ -29,9 +33,10 @@ impl Edits {
           added = added.items;
         })) }
     {
-        let _rows = RowEdits::new(alloc);
-        let _both = (removed, changed, added);
-        Err(AllocError)
+        let mut rows = RowEdits::new(alloc);
+        remove(&mut rows, removed)?;
+        change(&mut rows, changed)?;
+        Ok(Edits { rows, added })
     }
 
     /// The rows that come.
@@ -40,4 +45,22 @@ impl Edits {
     {
         self.added.as_slice()
     }
+}
+
+fn remove(rows: &mut RowEdits, removed: &[u64]) -> Result<(), AllocError>
+    ensures { OnOk result (rows.new ≡ with_removed rows.old removed.now) }
+{
+    for number in removed {
+        rows.put(*number, None)?;
+    }
+    Ok(())
+}
+
+fn change(rows: &mut RowEdits, changed: Vec<NumberedRow>) -> Result<(), AllocError>
+    ensures { OnOk result (rows.new ≡ with_changed rows.old (map kept_of changed.items)) }
+{
+    for NumberedRow { number, row } in changed {
+        rows.put(number, Some(row))?;
+    }
+    Ok(())
 }

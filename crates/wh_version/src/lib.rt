@@ -1,6 +1,7 @@
 //! The versions of a table by copy on write: partitions that stand once, whichever versions have them.
 #![tactic(auto, unfolding(crate::specs::History::versions_of, crate::specs::History::nexts_of))]
 
+mod editing;
 mod edits;
 mod history;
 mod kept;
@@ -9,6 +10,8 @@ mod popping;
 mod pushing;
 mod rewriting;
 mod row_edits;
+mod sorting;
+mod touching;
 
 pub use edits::Edits;
 pub use history::History;

@@ -1,6 +1,14 @@
+ghost use Rattle.std.specs.Prelude.{◌≡◌, ◌+◌, ◌≤◌, ◌^◌, length, map, nat_le, is_some, IfOk, IfSome};
+ghost use Rattle.wh_value.specs.Limit.{bound};
+ghost use Rattle.wh_machine.specs.Edits.{by_rows, edited, made_of, with_added};
+ghost use Rattle.wh_version.specs.Edits.{edits_in, partitions_at};
+
+use crate::editing::left;
+use crate::sorting::by_rows;
+use crate::touching::{numbers, touched};
 use crate::{Edits, History};
 use std::alloc::{AllocError, Global};
-use wh_part::Partition;
+use wh_part::{Partition, cut};
 use wh_value::Limit;
 
 /// The partitions that edits leave behind: those that go, by rising number, and those that come.
@@ -36,7 +44,48 @@ impl History {
             ≡ partitions_made (next_in (nexts_of self.now)) next_row (edits_in edits)
             (standing_in (versions_of self.now)))) }
     {
-        let _all = (alloc, edits, next_row, self);
-        Err(AllocError)
+        let touched = touched(alloc, &edits.rows, self.kept())?;
+        let removed = numbers(alloc, &touched)?;
+        let next = self.next_partition();
+        let Some(added) = made(alloc, edits, &touched, next, next_row)? else {
+            return Ok(None);
+        };
+        Ok(Some(Rewritten { removed, added }))
     }
+}
+
+// The partitions that come, in the places of those that are touched and of the rows that are added.
+fn made(
+    alloc: Global,
+    edits: Edits,
+    touched: &[&Partition],
+    next: u64,
+    next_row: u64,
+) -> Result<Option<Vec<Partition>>, AllocError>
+    requires rows { next_row + length (edits_in edits).added ≤ bound Limit.RowNumber }
+    ensures fits { IfOk result (λ found. is_some found ≡ nat_le (next + length
+        (with_added next next_row edits.added.items (made_of next
+        (map (λ p. edited edits.rows p.rows) (by_rows (partitions_at touched.now))))))
+        (bound Limit.PartitionNumber)) }
+    ensures made { IfOk result (λ found. IfSome found (λ made. made.items
+        ≡ with_added next next_row edits.added.items (made_of next
+        (map (λ p. edited edits.rows p.rows) (by_rows (partitions_at touched.now)))))) }
+{
+    let limit = Limit::PartitionNumber.bound();
+    if next > limit {
+        return Ok(None);
+    }
+    let Edits { rows, added } = edits;
+    let sorted = by_rows(alloc, touched)?;
+    let mut made = left(alloc, &rows, &sorted, next)?;
+    let behind = next + made.len() as u64;
+    if behind > limit {
+        return Ok(None);
+    }
+    let mut more = cut(alloc, added, next_row, behind)?;
+    made.append(&mut more)?;
+    if next + made.len() as u64 > limit {
+        return Ok(None);
+    }
+    Ok(Some(made))
 }

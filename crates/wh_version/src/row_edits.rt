@@ -3,8 +3,7 @@ use std::collections::BTreeMap;
 use std::marker::Model;
 use wh_value::Row;
 
-/// By their numbers, rows that become new ones, and rows that go, where there is none.
-/// Contracts see the machine's row edits.
+/// By row numbers, the new row, or none where the row goes. Contracts see the machine's row edits.
 #[derive(Debug, Drop)]
 pub(crate) struct RowEdits {
     map: BTreeMap<u64, Option<Row>>,
@@ -24,8 +23,10 @@ impl Model for RowEdits {
 }
 
 impl RowEdits {
-    ghost use Rattle.std.specs.Prelude.{◌≡◌};
-    ghost use Rattle.std.specs.FinMap.{empty};
+    ghost use Rattle.std.specs.Prelude.{◌≡◌, is_some, OnOk};
+    ghost use Rattle.std.specs.FinMap.{empty, get, insert};
+    ghost use Rattle.wh_machine.specs.Edits.{edited_row};
+    ghost use Rattle.wh_version.specs.Edits.{row_left};
 
     /// Each row stays. Takes no memory.
     pub(crate) fn new(alloc: Global) -> RowEdits
@@ -33,6 +34,34 @@ impl RowEdits {
     {
         RowEdits {
             map: BTreeMap::new(alloc),
+        }
+    }
+
+    /// The row of that number becomes another, or goes.
+    pub(crate) fn put(&mut self, number: u64, row: Option<Row>) -> Result<(), AllocError>
+        ensures { OnOk result (self.new ≡ insert self.old number row) }
+    {
+        let Ok(_) = self.map.insert(number, row) else {
+            return Err(AllocError);
+        };
+        Ok(())
+    }
+
+    /// Whether the row of that number becomes another, be it an equal one, or goes.
+    pub(crate) fn has(&self, number: u64) -> bool
+        ensures { result ≡ is_some (get self.now number) }
+    {
+        self.map.contains_key(&number)
+    }
+
+    /// What becomes of a row.
+    pub(crate) fn edited_row<'a>(&'a self, number: u64, row: &'a Row) -> Option<&'a Row>
+        ensures { row_left number result ≡ edited_row self.now (number, row.now) }
+    {
+        match self.map.get(&number) {
+            None => Some(row),
+            Some(None) => None,
+            Some(Some(new)) => Some(new),
         }
     }
 }
