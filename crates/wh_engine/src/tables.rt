@@ -75,8 +75,8 @@ fn creation(
 {
     let made = table_change(id, table);
     match replaced {
-        Some(old) => vec![in alloc; Change::Drops(old), made],
-        None => vec![in alloc; made],
+        Some(old) => Ok(vec![in alloc; Change::Drops(old), made]?),
+        None => Ok(vec![in alloc; made]?),
     }
 }
 
