@@ -15,3 +15,4 @@ pub mod KnownTests
 pub mod KnownCommits
 pub mod KnownStops
 pub mod KnownEdits
+pub mod KnownChanges
