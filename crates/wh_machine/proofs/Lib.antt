@@ -6,6 +6,7 @@ pub mod EditLaws
 pub mod VersionLaws
 pub mod MeaningLaws
 pub mod ActLaws
+pub mod OrderlyLaws
 pub mod OutcomeLaws
 pub mod StepLaws
 pub mod SoundLaws
@@ -15,3 +16,4 @@ pub mod KnownTests
 pub mod KnownCommits
 pub mod KnownStops
 pub mod KnownEdits
+pub mod KnownChanges

@@ -1,9 +1,13 @@
 -- A tree of the code whose keys are numbers, and the finite map of its entries.
 --     gotten        both have the same at each key
 --     map_after     a tree with one key written, and the map with it
-use Rattle.std.specs.Prelude.{◌≡◌, ℕ, cond, List, [], ◌∷◌, Some}
-use Rattle.std.proofs.Common.{refl, sym, ap, ◌∙◌}
-use Rattle.std.specs.Ordering.{is_eq, nat_cmp}
+--     not_greater   a bound on keys
+use Rattle.std.specs.Prelude.{◌≡◌, ℕ, ◌<◌, ◌≤◌, false, cond, List, [], ◌∷◌, Some}
+use Rattle.std.proofs.Common.{refl, sym, ap, ◌∙◌, arith}
+use Rattle.std.specs.declared.cmp.Ordering.{Ordering}
+use Rattle.std.specs.declared.cmp.Ordering.TheVariants.{Less, Equal, Greater}
+use Rattle.std.specs.Ordering.{is_eq, is_gt, nat_cmp, MatchOrdering}
+use Rattle.std.proofs.lemmas.Cmp.{ranked}
 use Rattle.std.specs.Cmp.{eq_by_cmp_equiv, nat_cmp_total}
 use Rattle.std.specs.BTreeMap.{is_at}
 use Rattle.std.specs.Map.{lookup}
@@ -26,3 +30,11 @@ module _ {X : Type 0} where
       ∙ ap (λ b. cond b (Some v) (lookup (is_at (nat_cmp q)) m)) ((eq_by_cmp_equiv nat_cmp_total).symm key q)
       ∙ ap (cond (is_eq (nat_cmp q key)) (Some v)) (sym (gotten m q))
       ∙ sym (get-insert nat_cmp_total (from_entries m) key v q))
+
+pub not_greater : (a b : ℕ) → a ≤ b → is_gt (nat_cmp a b) ≡ false
+not_greater a b below = by_order (nat_cmp a b) (ranked a b (nat_cmp a b) refl)
+  where
+    by_order : (r : Ordering) → MatchOrdering r (a < b) (a ≡ b) (b < a) → is_gt r ≡ false
+    by_order Less here = refl
+    by_order Equal here = refl
+    by_order Greater here = absurd (omega arith)

@@ -23,7 +23,8 @@ impl Model for RowEdits {
 }
 
 impl RowEdits {
-    ghost use Rattle.std.specs.Prelude.{◌≡◌, is_some, OnOk};
+    ghost use Rattle.std.specs.Prelude.{◌≡◌, ℕ, ◌≤◌, None, is_some, OnOk};
+    ghost use Rattle.std.specs.Bool.{OnFalse};
     ghost use Rattle.std.specs.FinMap.{empty, get, insert};
     ghost use Rattle.wh_machine.specs.Edits.{edited_row};
     ghost use Rattle.wh_version.specs.Edits.{row_left};
@@ -52,6 +53,15 @@ impl RowEdits {
         ensures { result ≡ is_some (get self.now number) }
     {
         self.map.contains_key(&number)
+    }
+
+    /// Whether some row from the first of these numbers to the last becomes another or goes.
+    pub(crate) fn has_between(&self, first: u64, last: u64) -> bool
+        requires { first ≤ last }
+        ensures { OnFalse result ((number : ℕ) → first ≤ number → number ≤ last
+            → get self.now number ≡ None) }
+    {
+        self.map.range(first..=last).next().is_some()
     }
 
     /// What becomes of a row.

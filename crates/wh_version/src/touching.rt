@@ -43,7 +43,12 @@ fn add_touched<'a>(
 fn is_touched(edits: &RowEdits, partition: &Partition) -> bool
     ensures { result ≡ is_touched edits.now partition.now }
 {
-    names_one(edits, partition.rows())
+    let rows = partition.rows();
+    // One look for most of the partitions, rather than one for each row.
+    if !edits.has_between(partition.first(), partition.last()) {
+        return false;
+    }
+    names_one(edits, rows)
 }
 
 fn names_one(edits: &RowEdits, rows: &[NumberedRow]) -> bool
