@@ -1,6 +1,6 @@
 use crate::StoredTable;
 use std::alloc::{AllocError, Global};
-use wh_part::{NumberedRow, Partition};
+use wh_part::Partition;
 use wh_value::Row;
 use wh_version::Kept;
 
@@ -8,21 +8,10 @@ impl StoredTable {
     ghost use Rattle.std.specs.Prelude.{◌≡◌, IfOk};
     ghost use Rattle.std.specs.FinMap.{values};
     ghost use Rattle.wh_meaning.specs.Bag.{bag_of};
-    ghost use Rattle.std.specs.FinMap.{entries};
-    ghost use Rattle.wh_part.specs.View.{numbered_of};
     ghost use Rattle.wh_machine.specs.State.{last_rows};
     ghost use Rattle.wh_machine.specs.Stored.{table_meant};
     ghost use Rattle.wh_catalog.specs.Rows.{rows_at};
     ghost use Rattle.wh_catalog.specs.Table.{table_of};
-
-    /// The rows of the last version by rising number.
-    pub fn numbered_rows(&self, alloc: Global) -> Result<Vec<&NumberedRow>, AllocError>
-        ensures { IfOk result (λ rows. map (λ row. numbered_of row.now) rows.items
-            ≡ entries (last_rows (table_meant (table_of self.now)))) }
-    {
-        let _alloc = alloc;
-        Err(AllocError)
-    }
 
     /// The rows of the last version, as its partitions keep them.
     pub fn rows(&self, alloc: Global) -> Result<Vec<&Row>, AllocError>
