@@ -1,10 +1,10 @@
 //! Stub.
 #![tactic(auto)]
 
-mod effect;
+mod changing;
 mod fault;
 mod target;
 
-pub use effect::effect;
+pub use changing::effect;
 pub use fault::EffectFault;
 pub use target::{Effect, TargetRow};
