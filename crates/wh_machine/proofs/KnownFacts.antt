@@ -16,10 +16,6 @@ use Rattle.wh_value.specs.declared.column.Column as columns
 use Rattle.wh_value.specs.declared.value.Value as values_of
 use Rattle.wh_ast.specs.declared.expr.Expr.{Expr, roll-Expr, fold-roll-Expr}
 use Rattle.wh_ast.specs.declared.expr.Expr.TheOpen.{Expr-F}
-use Rattle.wh_ast.specs.declared.query.Query.{roll-Query}
-use Rattle.wh_ast.specs.declared.query.Core.{roll-Core}
-use Rattle.wh_ast.specs.declared.query.Item.TheVariants as i
-use Rattle.wh_ast.specs.declared.query.Source.TheVariants as source
 use Rattle.wh_ast.specs.declared.dml.Dml.{Dml}
 use Rattle.wh_ast.specs.declared.dml.Dml.TheVariants as dml
 use Rattle.wh_ast.specs.declared.dml.Rows.TheVariants as rows
@@ -57,9 +53,6 @@ insertion_into table found = dml.Insert table None (rows.Values found)
 
 abbrev pub insertion : List ℕ → List (List Expr) → tree.Statement
 insertion table found = st.Dml (insertion_into table found)
-
-abbrev pub selection : List ℕ → tree.Statement
-selection name = st.Select (roll-Query (record { cores = roll-Core (record { items = i.Star ∷ []; from = source.Named name None; joins = []; filter = None; group = [] }) ∷ [] })) []
 
 abbrev pub number : ℕ → Expr
 number n = roll-Expr (Expr-F.Const (v.Number (pos n)))
