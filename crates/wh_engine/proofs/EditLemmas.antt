@@ -5,7 +5,7 @@
 --     version_is                     the change that edits are written as
 use Rattle.std.proofs.Common.{◌≡◌, ℕ, ◌+◌, ◌≤◌, List, [], ◌∷◌, length, Option, Some, None, Bool, true, false, inl, inr, refl, ap, sym, ◌∙◌, arith}
 use Rattle.std.specs.Prelude.{nat_le, nat_lt}
-use Rattle.std.proofs.lemmas.Bool.{cases_lt, lt-ltb, le-ltb, le-leb}
+use Rattle.std.proofs.lemmas.Bool.{cases_lt, lt-ltb, le-ltb, le-leb, lt-leb}
 use Rattle.wh_value.specs.Limit.{bound}
 use Rattle.wh_value.specs.declared.limit.Limit.{Limit}
 use Rattle.wh_value.specs.declared.limit.Limit.TheVariants as limits
@@ -47,7 +47,7 @@ past limit count over = elim (cases_lt (bound limit) count) [
 
 not_past : (limit : Limit) (count : ℕ) → nat_le count (bound limit) ≡ true → refused_past limit count ≡ None
 not_past limit count fits = elim (cases_lt (bound limit) count) [
-  | inl more ↦ absurd (omega (arith, more, fits))
+  | inl more ↦ let over : nat_le count (bound limit) ≡ false = lt-leb _ _ more in absurd cc
   | inr within ↦ ap (λ (b : Bool). refused_if b (OverLimit limit)) (le-ltb _ _ within)
 ]
 

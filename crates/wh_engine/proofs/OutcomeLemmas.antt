@@ -14,15 +14,15 @@ use Rattle.wh_engine.specs.Decision.{Declines, Goes, plan_of, planned, Decides}
 -- ---- decisions
 
 pub declines : (s : Stored) (stamp : ℕ) (d : Decision) (o : Outcome) (why : Refusal) → plan_of d ≡ Declines why → o ≡ Refuses why → Decides s stamp d o
-declines s stamp d o why is same = is ∙ ap (planned s stamp) (sym same)
+declines s stamp d o why is same = record { same = is ∙ ap (planned s stamp) (sym same) }
 
 pub replies : (s : Stored) (stamp : ℕ) (d : Decision) (o : Outcome) (reply : Reply) → plan_of d ≡ Goes reply None → o ≡ Does reply None → Decides s stamp d o
-replies s stamp d o reply is same = is ∙ ap (planned s stamp) (sym same)
+replies s stamp d o reply is same = record { same = is ∙ ap (planned s stamp) (sym same) }
 
 pub commits : (s : Stored) (stamp : ℕ) (d : Decision) (o : Outcome) (reply : Reply) (acts : List Act) (changes : List Change)
     → plan_of d ≡ Goes reply (Some changes) → o ≡ Does reply (Some acts) → changes ≡ written stamp s.objects acts → Decides s stamp d o
 commits s stamp d o reply acts changes is same say =
-    is ∙ ap (λ (cs : List Change). Goes reply (Some cs)) say ∙ ap (planned s stamp) (sym same)
+    record { same = is ∙ ap (λ (cs : List Change). Goes reply (Some cs)) say ∙ ap (planned s stamp) (sym same) }
 
 -- ---- tests
 

@@ -60,7 +60,7 @@ comes : (s : Stored) (state : State) (e : Event) (stamp : ℕ) (d : Decision) (c
 comes s state e stamp d changes reply orderly is at within h made_of reply_of =
     let has : has_stamp state e ≡ true = lt-ltb _ _ (omega arith) in
     let plan : planned s (stamp_of state (reading_of e)) (decided state e) ≡ plan_of d =
-    ap (λ (n : ℕ). planned s n (outcome_of (stamped state n) e)) (sym at) ∙ sym h in
+    ap (λ (n : ℕ). planned s n (outcome_of (stamped state n) e)) (sym at) ∙ sym h.same in
     let told : Plan = planned s (stamp_of state (reading_of e)) (decided state e) in
     subst (λ (n : ℕ). Comes s state e n changes reply) (sym at)
     (subst (λ (r : Reply). Comes s state e (stamp_of state (reading_of e)) changes r) (ap reply_in plan ∙ sym reply_of)

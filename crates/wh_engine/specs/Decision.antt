@@ -42,8 +42,8 @@ planned s stamp (Refuses why) = Declines why
 planned s stamp (Does reply acts) = Goes reply (option_map (written stamp s.objects) acts)
 
 -- a decision comes to that outcome
-abbrev pub Decides : Stored → ℕ → Decision → Outcome → Type 0
-Decides s stamp decision outcome = plan_of decision ≡ planned s stamp outcome
+pub record Decides (s : Stored) (stamp : ℕ) (decision : Decision) (outcome : Outcome) : Type 0 where
+  pub same : plan_of decision ≡ planned s stamp outcome
 
 abbrev pub commit_at : ℕ → Option (List machine.Change) → Option machine.Commit
 commit_at stamp changes = option_map (λ cs. record { stamp = stamp; changes = cs }) changes

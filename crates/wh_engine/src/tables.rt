@@ -1,4 +1,4 @@
-ghost use Rattle.std.specs.Prelude.{◌≡◌, ◌≤◌, option_map, is_some, IfOk};
+ghost use Rattle.std.specs.Prelude.{◌≡◌, ◌≤◌, cond, option_map, is_some, IfOk};
 ghost use Rattle.wh_value.specs.Limit.{bound};
 ghost use Rattle.wh_value.specs.declared.limit.Limit.TheVariants as limits;
 ghost use Rattle.wh_reply.specs.Reply.{NameTaken};
@@ -117,18 +117,31 @@ fn table_refusal(
         (columns_of table.now) table.now.retention) }
 {
     let name = &table.name;
-    let is_taken = !table.replace && catalog.find(name.as_bytes()).is_some();
-    let more = if is_replaced { 0 } else { 1 };
     let columns = table.columns.len() as u64;
     Ok(
-        refused_if(is_taken, Refusal::NameTaken(name.copy(alloc)?))
+        refused_if(is_taken(catalog, table), Refusal::NameTaken(name.copy(alloc)?))
             .or(taken_column(alloc, table)?)
             .or(refused_past(Limit::ObjectIds, catalog.object_count(), 1))
-            .or(refused_past(Limit::Objects, catalog.live_count(), more))
+            .or(refused_past(Limit::Objects, catalog.live_count(), more(is_replaced)))
             .or(refused_if(has_long_name(table), Refusal::OverLimit(Limit::Name)))
             .or(refused_past(Limit::Columns, columns, 0))
             .or(refused_past(Limit::Retention, table.retention, 0)),
     )
+}
+
+// Whether its name is a live object's that it doesn't replace.
+fn is_taken(catalog: &Catalog, table: &NewTable) -> bool
+    ensures { result ≡ machine.is_name_taken (state_of catalog.now)
+        table.now.replace table.now.name }
+{
+    !table.replace && catalog.find(table.name.as_bytes()).is_some()
+}
+
+// How many live objects more there are with a new one.
+fn more(is_replaced: bool) -> u64
+    ensures { result ≡ cond is_replaced 0 1 }
+{
+    if is_replaced { 0 } else { 1 }
 }
 
 // Where one of its columns has a name that isn't free.

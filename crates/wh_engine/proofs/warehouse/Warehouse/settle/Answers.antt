@@ -25,4 +25,4 @@ pub returns-in-Some-clause-any_moment : goal.returns-in-Some-clause-any_moment
 returns-in-Some-clause-any_moment g c = rw c.in-Some.is c.commit.ensures.any_moment
 
 pub commit-requires : goal.commit-requires
-commit-requires g c = c.requires.healthy
+commit-requires g c = record { healthy = c.requires.healthy }
