@@ -11,7 +11,6 @@ mod fitting;
 mod numbers;
 mod object;
 mod pushing;
-mod rewriting;
 mod rows;
 mod stage;
 mod table;
