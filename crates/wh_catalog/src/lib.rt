@@ -11,6 +11,7 @@ mod fitting;
 mod numbers;
 mod object;
 mod pushing;
+mod rewriting;
 mod rows;
 mod stage;
 mod table;

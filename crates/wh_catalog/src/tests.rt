@@ -4,6 +4,7 @@ use std::test::Fail;
 use wh_part::{NumberedRow, Partition};
 use wh_record::{Change, Commit, TableChange, VersionChange};
 use wh_value::{Column, ColumnType, Row, Text, Value};
+use wh_version::Edits;
 
 fn text(alloc: Global, bytes: &[u8]) -> Result<Text, Fail> {
     let made = Text::from_bytes(alloc, bytes).ok_or("no text")?;
@@ -143,6 +144,23 @@ fn is_numbered(alloc: Global, catalog: &Catalog, id: u32, numbers: &[u64]) -> Re
     Ok(same)
 }
 
+// Whether these partitions of the table of an id go where the row of that number goes.
+fn gives_up(
+    alloc: Global,
+    catalog: &Catalog,
+    id: u32,
+    number: u64,
+    partitions: &[u64],
+) -> Result<bool, Fail> {
+    let table = catalog.table(id).ok_or("no table")?;
+    let edits = Edits::new(alloc, &[number], Vec::new(alloc), Vec::new(alloc))?;
+    if table.next_row() + edits.added().len() as u64 > 1 << 62 {
+        return Ok(false);
+    }
+    let made = table.rewrite(alloc, edits)?.ok_or("no number is left")?;
+    Ok(made.removed.as_slice() == partitions && made.added.is_empty())
+}
+
 // A table `t` with a row of number 5 in its first partition, at the stamp 12.
 fn one_table(alloc: Global) -> Result<Catalog, Fail> {
     let mut catalog = Catalog::new(alloc);
@@ -165,6 +183,7 @@ fn a_version_is_held_and_undone(rt: HostRuntime) -> Result<(), Fail> {
     pass_on(&mut catalog);
     assert!(rt; holds(alloc, &catalog, 1, &[5, 11, 3])?, "the new version");
     assert!(rt; is_numbered(alloc, &catalog, 1, &[2, 6, 9])?, "by number");
+    assert!(rt; gives_up(alloc, &catalog, 1, 9, &[3])?, "a row that goes");
     assert_eq!(rt; catalog.last(), 20);
     catalog.undo(undo);
     assert!(rt; holds(alloc, &catalog, 1, &[7])?, "the version before");
