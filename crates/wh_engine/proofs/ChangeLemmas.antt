@@ -5,17 +5,21 @@
 --     is_too_wide          nothing is found wrong, but a query is too wide
 --     is_settled           neither, so it comes to its effect on the table
 --     no_table             the target is none
-use Rattle.std.proofs.Common.{◌≡◌, ℕ, true, false, List, [], ◌∷◌, Option, Some, None, option_map, Result, Ok, Err, ap, sym, subst, ◌∙◌}
+--     unseen               an INSERT looks at no row of its target
+--     outcome_is, decides_settled   from its effect on the table
+use Rattle.std.proofs.Common.{◌≡◌, ℕ, true, false, List, [], ◌∷◌, Option, Some, None, option_map, Result, Ok, Err, refl, ap, sym, subst, ◌∙◌}
 use Rattle.std.specs.Result.{IfOk}
 use Rattle.wh_value.specs.declared.limit.Limit.TheVariants as limits
 use Rattle.wh_ast.specs.declared.dml.Dml.{Dml}
+use Rattle.wh_meaning.specs.Query.{Instance}
 use Rattle.wh_naming.specs.Findings.{Failing, first_failing}
 use Rattle.wh_naming.specs.Scope.{Named}
-use Rattle.wh_naming.specs.Changes.{BoundChange, bound_change}
+use Rattle.wh_naming.specs.Changes.{BoundChange, Change, InsertRows, InsertQuery, Update, Delete, Merge, bound_change}
 use Rattle.wh_dml_bind.specs.declared.change.BoundChange as code
 use Rattle.wh_dml_bind.specs.Binds.{IsBound}
 use Rattle.wh_dml_bind.specs.View.{change_of}
-use Rattle.wh_effect.specs.Effect.{effect}
+use Rattle.wh_effect.specs.Effect as effects
+use Rattle.wh_effect.specs.Effect.{Kept, Effect, Does, effect}
 use Rattle.wh_reply.specs.Reply.{OverLimit, TypeMismatch}
 use Rattle.wh_machine.specs.State.{State, Object, Table}
 use Rattle.wh_machine.specs.Outcome.{Outcome, Refuses, refused_if, first_of, unless}
@@ -23,10 +27,13 @@ use Rattle.wh_machine.specs.Tables.{table_at}
 use Rattle.wh_machine.specs.Queries.{names_from, instance_of, refusal_of}
 use Rattle.wh_machine.specs.Changes.{rows_seen, settled_effect, change_table, change_bound, change_rows}
 use Rattle.wh_machine.specs.Step.{stamped}
-use Rattle.wh_catalog.specs.Catalog.{stored_of, state_of}
+use Rattle.wh_machine.specs.Stored.{Stored, StoredTable, table_meant}
+use Rattle.wh_catalog.specs.Catalog.{stored_of, state_of, stored_table_at}
 use Rattle.wh_catalog.specs.declared.catalog.Catalog.{Catalog}
 use Rattle.wh_engine.specs.declared.decision.Decision.{Decision}
+use Rattle.wh_engine.specs.Changes.{is_insert}
 use Rattle.wh_engine.specs.Decision.{Decides}
+use Rattle.wh_engine.proofs.CatalogLemmas.{table_there}
 
 pub change_is : (s : State) (stamp : ℕ) (statement : Dml) (names : List Named) → names ≡ names_from 1 s.objects
     → change_bound s.objects (bound_change names statement) ≡ change_rows (stamped s stamp) statement
@@ -63,6 +70,15 @@ pub no_table : (objects : List Object) (b : BoundChange) → first_failing b.fin
     → change_bound objects b ≡ Refuses TypeMismatch
 no_table objects b none narrow missing = on_target objects b none narrow ∙ ap (change_table objects b) missing
 
+-- an INSERT looks at no row of its target
+pub unseen : (change : Change) (target : List Kept) (i : Instance) → is_insert change ≡ true → effect change [] i ≡ effect change target i
+unfolding effect
+unseen (InsertRows rows) target i is = refl
+unseen (InsertQuery query parts) target i is = refl
+unseen (Update condition parts) target i is = absurd cc
+unseen (Delete condition) target i is = absurd cc
+unseen (Merge source on clauses) target i is = absurd cc
+
 -- what the bound change of the code says, on its table
 pub is_settled : (objects : List Object) (b : code.BoundChange) (meant : BoundChange) (t : Table) → IsBound b meant → b.is_wide ≡ false
     → table_at objects b.target ≡ Some t
@@ -71,3 +87,21 @@ is_settled objects b meant t is narrow there =
     sym (on_target objects meant is.nothing_found (sym is.is_wide ∙ narrow)
     ∙ ap (change_table objects meant) (ap (table_at objects) (sym is.target) ∙ there)
     ∙ (λ i. settled_effect (sym is.target i) (sym is.change i) t (effect (sym is.change i) (rows_seen t) (instance_of objects (sym is.sources i)))))
+
+-- from its effect on the table
+pub outcome_is : (objects : List Object) (b : code.BoundChange) (meant : BoundChange) (t : Table) (o : effects.Outcome) → IsBound b meant → b.is_wide ≡ false
+    → table_at objects b.target ≡ Some t → effect (change_of b.change) (rows_seen t) (instance_of objects b.sources.items) ≡ o
+    → change_bound objects meant ≡ settled_effect b.target (change_of b.change) t o
+outcome_is objects b meant t o is narrow there comes =
+    sym (is_settled objects b meant t is narrow there) ∙ ap (settled_effect b.target (change_of b.change) t) comes
+
+-- what is decided on its effect is decided on it
+pub decides_settled : {E : Type 0} (r : Result Decision E) (c : Catalog) (stamp : ℕ) (b : code.BoundChange) (t : StoredTable) (e : Effect) → b.is_wide ≡ false
+    → stored_table_at (stored_of c).objects b.target ≡ Some t
+    → effect (change_of b.change) (rows_seen (table_meant t)) (instance_of (state_of c).objects b.sources.items) ≡ Does e
+    → IfOk r (λ d. (s : Stored) → stored_table_at s.objects b.target ≡ Some t → Decides s stamp d (settled_effect b.target (change_of b.change) (table_meant t) (Does e)))
+    → IfOk r (λ d. (meant : BoundChange) → IsBound b meant → Decides (stored_of c) stamp d (change_bound (state_of c).objects meant))
+decides_settled (Ok d) c stamp b t e narrow there comes h = λ meant is.
+    subst (λ (o : Outcome). Decides (stored_of c) stamp d o)
+    (sym (outcome_is (state_of c).objects b meant (table_meant t) (Does e) is narrow (table_there c b.target t there) comes)) (h (stored_of c) there)
+decides_settled (Err e) c stamp b t f narrow there comes h = tt

@@ -3,6 +3,8 @@
 --     edits_pass                     neither, so they are carried out
 --     uncounted, is_counted          where no row counts there is no commit
 --     version_is                     the change that edits are written as
+--     within                         the next row number stays within its limit
+--     added_is                       the rows that are added
 use Rattle.std.proofs.Common.{◌≡◌, ℕ, ◌+◌, ◌≤◌, List, [], ◌∷◌, length, Option, Some, None, Bool, true, false, inl, inr, refl, ap, sym, ◌∙◌, arith}
 use Rattle.std.specs.Prelude.{nat_le, nat_lt}
 use Rattle.std.proofs.lemmas.Bool.{cases_lt, lt-ltb, le-ltb, le-leb, lt-leb}
@@ -14,17 +16,14 @@ use Rattle.wh_reply.specs.Reply.{Refusal, OverLimit}
 use Rattle.wh_naming.specs.Changes.{Change}
 use Rattle.wh_effect.specs.Effect.{Effect, Does}
 use Rattle.wh_machine.specs.State.{Table}
-use Rattle.wh_machine.specs.Edits.{Edits, edits_of, numbers_gone, partitions_made}
+use Rattle.wh_machine.specs.Edits.{edits_of, numbers_gone, partitions_made}
 use Rattle.wh_machine.specs.Outcome.{Outcome, Refuses, EditsRows, answers, commits, refused_if, refused_past, first_of, unless, table_partitions_made}
 use Rattle.wh_machine.specs.Changes.{edits_refusal, counted, reply_to, carried_over, settled_effect}
 use Rattle.wh_machine.specs.Stored.{StoredTable, standing, table_meant}
 use Rattle.wh_machine.specs.Commit as machine
 use Rattle.wh_machine.specs.Written.{version_written}
 use Rattle.wh_machine.proofs.MeaningLaws.{last_partitions_meant}
-
--- how many partitions edits make of a table
-abbrev pub made_count : Effect → StoredTable → ℕ
-made_count e t = t.next_partition + length (partitions_made t.next_partition t.next_row (edits_of e) (standing t))
+use Rattle.wh_engine.specs.Changes.{made_count}
 
 count_meant : (e : Effect) (t : StoredTable) → (table_meant t).next_partition + length (table_partitions_made (edits_of e) (table_meant t)) ≡ made_count e t
 count_meant e t = ap (λ (ps : List Partition). t.next_partition + length (partitions_made t.next_partition t.next_row (edits_of e) ps)) (last_partitions_meant t)
@@ -73,8 +72,26 @@ pub is_counted : (id : ℕ) (change : Change) (t : StoredTable) (e : Effect) →
     → settled_effect id change (table_meant t) (Does e) ≡ commits (reply_to change e) (EditsRows id (edits_of e) ∷ [])
 is_counted id change t e none fits some = edits_pass id change t e none fits ∙ rw some
 
-pub version_is : (stamp id : ℕ) (e : Edits) (t : StoredTable) (next_row width : ℕ) (removed : List ℕ) (added : List Partition) → next_row ≡ t.next_row + length e.added
-    → width ≡ length t.columns → removed ≡ numbers_gone e.rows (standing t) → added ≡ partitions_made t.next_partition t.next_row e (standing t)
-    → machine.PushesVersion (record { id = id; data_timestamp = stamp; next_row = next_row; width = width; removed = removed; added = added }) ≡ version_written stamp id e t
+pub version_is : (stamp id : ℕ) (e : Effect) (t : StoredTable) (next_row width : ℕ) (removed : List ℕ) (added : List Partition)
+    → next_row ≡ t.next_row + length e.added → width ≡ length t.columns → removed ≡ numbers_gone (edits_of e).rows (standing t)
+    → added ≡ partitions_made t.next_partition t.next_row (edits_of e) (standing t)
+    → machine.PushesVersion (record { id = id; data_timestamp = stamp; next_row = next_row; width = width; removed = removed; added = added })
+    ≡ version_written stamp id (edits_of e) t
+unfolding edits_of
 version_is stamp id e t next_row width removed added at_row at_width at_gone at_made =
     λ i. machine.PushesVersion (record { id = id; data_timestamp = stamp; next_row = at_row i; width = at_width i; removed = at_gone i; added = at_made i })
+
+-- the next row number stays within its limit
+pub within : (t : StoredTable) (e : Effect) → refused_past limits.RowNumber (t.next_row + length e.added) ≡ None → t.next_row + length e.added ≤ bound limits.RowNumber
+within t e none = elim (cases_lt (bound limits.RowNumber) (t.next_row + length e.added)) [
+  | inl more ↦
+      let test : nat_lt (bound limits.RowNumber) (t.next_row + length e.added) ≡ true = lt-ltb _ _ more in
+      let found = rw test at none in
+      absurd cc
+  | inr held ↦ held
+]
+
+-- the rows that are added
+pub added_is : (e : Effect) → (edits_of e).added ≡ e.added
+unfolding edits_of
+added_is e = refl

@@ -11,6 +11,7 @@ mod OutcomeLemmas
 mod TableLemmas
 mod ChangeLemmas
 mod EditLemmas
+mod TargetLemmas
 mod ReplayLemmas
 mod OpenLemmas
 mod QueryLemmas

@@ -1,8 +1,10 @@
--- CREATE TABLE: its tests, and its outcome.
+-- CREATE TABLE and DROP TABLE: their tests, and their outcomes.
 --     refusal_by               the first test that fails, from each
 --     refusal_stamped          whatever the last stamp is
 --     is_refused, is_created   the outcome
 --     within_limits            what a table that passes all tests keeps
+--     creation_written         what is written for it
+--     none_dropped, is_dropped     DROP TABLE
 use Rattle.std.proofs.Common.{◌≡◌, ℕ, ◌+◌, ◌-◌, ◌≤◌, List, [], ◌∷◌, ◌++◌, length, Option, Some, None, option_map, is_some, Bool, true, false, cond, inl, inr, refl, ap, sym, ◌∙◌, arith}
 use Rattle.std.specs.Prelude.{nat_lt, not, ◌&&◌}
 use Rattle.std.specs.List.{list_any}
@@ -11,10 +13,10 @@ use Rattle.wh_value.specs.Column.{Column}
 use Rattle.wh_value.specs.Limit.{bound}
 use Rattle.wh_value.specs.declared.limit.Limit.{Limit}
 use Rattle.wh_value.specs.declared.limit.Limit.TheVariants as limits
-use Rattle.wh_reply.specs.Reply.{Refusal, NameTaken, OverLimit, CreatedTable}
+use Rattle.wh_reply.specs.Reply.{Refusal, NameTaken, OverLimit, UnknownName, CreatedTable, DroppedTable}
 use Rattle.wh_machine.specs.State.{State, dropped, id_of, live_count}
-use Rattle.wh_machine.specs.Outcome.{Outcome, Refuses, MakesTable, commits, refused_if, refused_past, first_of, unless}
-use Rattle.wh_machine.specs.Tables.{names_of, taken_name, is_long, one_if, replaced_id, is_name_taken, table_refusal, drops, create_table}
+use Rattle.wh_machine.specs.Outcome.{Outcome, Refuses, MakesTable, DropsObject, commits, refused_if, refused_past, first_of, unless}
+use Rattle.wh_machine.specs.Tables.{names_of, taken_name, is_long, one_if, replaced_id, is_name_taken, table_refusal, drops, create_table, drop_of, drop_table}
 use Rattle.wh_machine.specs.Stored.{StoredObject}
 use Rattle.wh_machine.specs.Commit.{CreatesTable, Drops, changed}
 use Rattle.wh_machine.specs.Written.{written}
@@ -126,3 +128,14 @@ pub creation_written : (stamp : ℕ) (objects : List StoredObject) (replaced : O
 creation_written stamp objects None name columns retention = refl
 creation_written stamp objects (Some id) name columns retention =
     ap (λ (n : ℕ). Drops id ∷ CreatesTable (record { id = n + 1; name = name; retention = retention; columns = columns }) ∷ []) (sym (after_drop stamp id objects))
+
+-- ---- DROP TABLE
+
+pub none_dropped : (s : State) (stamp : ℕ) (name : List ℕ) → id_of name s.objects ≡ None → drop_table (stamped s stamp) name ≡ Refuses (UnknownName name)
+unfolding drop_table
+none_dropped s stamp name none = ap (drop_of name) none
+
+pub is_dropped : (s : State) (stamp : ℕ) (name : List ℕ) (id : ℕ) → id_of name s.objects ≡ Some id
+    → drop_table (stamped s stamp) name ≡ commits (DroppedTable name) (DropsObject id ∷ [])
+unfolding drop_table
+is_dropped s stamp name id some = ap (drop_of name) some

@@ -8,6 +8,7 @@ pub mod Leaves
 pub mod Built
 pub mod Tables
 pub mod Rows
+pub mod Changes
 pub mod Names
 pub mod Objects
 pub mod Replay

@@ -1,8 +1,11 @@
-ghost use Rattle.std.specs.Prelude.{◌≡◌, ◌+◌, ◌≤◌, Some, length, nat_lt, IfOk};
+ghost use Rattle.std.specs.Prelude.{◌≡◌, ◌+◌, ◌≤◌, Some, length, map, nat_le, nat_lt, is_some, IfOk, IfSome};
 ghost use Rattle.wh_value.specs.Limit.{bound};
 ghost use Rattle.wh_value.specs.declared.limit.Limit.TheVariants as limits;
+ghost use Rattle.wh_part.specs.View.{numbered_of};
 ghost use Rattle.wh_reply.specs.View.{reply_view};
+ghost use Rattle.wh_effect.specs.Effect as effects;
 ghost use Rattle.wh_effect.specs.Effect.{effect, Does};
+ghost use Rattle.wh_meaning.specs.Query.{Instance};
 ghost use Rattle.wh_naming.specs.Changes as naming;
 ghost use Rattle.wh_dml_bind.specs.Binds.{IsBound};
 ghost use Rattle.wh_dml_bind.specs.View as changes;
@@ -16,6 +19,7 @@ ghost use Rattle.wh_record.specs.View.{change_of};
 ghost use Rattle.wh_catalog.specs.Catalog.{stored_of, state_of, stored_table_at};
 ghost use Rattle.wh_catalog.specs.Table.{table_of};
 ghost use Rattle.wh_engine.specs.Decision.{Decides};
+ghost use Rattle.wh_engine.specs.Changes.{IsCountOf, is_insert, made_count, IsRewritten};
 
 use crate::decision::Decision;
 use crate::limits::refused_past;
@@ -28,6 +32,7 @@ use wh_bind::BindFault;
 use wh_catalog::{Catalog, StoredTable};
 use wh_dml::{Effect, EffectFault, TargetRow, effect};
 use wh_dml_bind::{BoundChange, Change, bind_change};
+use wh_part::NumberedRow;
 use wh_record::{Change as Written, VersionChange};
 use wh_reply::{Refusal, Reply};
 use wh_value::Limit;
@@ -95,15 +100,33 @@ fn effect_on(
         (instance_of (state_of catalog.now).objects bound.now.sources.items)) }
 {
     let sources = sources(alloc, catalog, &bound.sources)?;
-    match &bound.change {
-        // An INSERT sees no row of its target.
-        Change::InsertRows(_) | Change::InsertQuery(_, _) => {
-            effect(alloc, &bound.change, &[], &sources)
-        }
-        Change::Update(_, _) | Change::Delete(_) | Change::Merge(_, _, _) => {
-            let rows = target_rows(alloc, table)?;
-            effect(alloc, &bound.change, &rows, &sources)
-        }
+    let rows = seen_rows(alloc, &bound.change, table)?;
+    effect(alloc, &bound.change, &rows, &sources)
+}
+
+// The rows of the target that a change goes over: none for an INSERT.
+fn seen_rows<'a>(
+    alloc: Global,
+    change: &Change,
+    table: &'a StoredTable,
+) -> Result<Vec<TargetRow<'a>>, AllocError>
+    ensures { IfOk result (λ rows. (i : Instance)
+        → effect (changes.change_of change.now) (targets_of rows.items) i
+        ≡ effect (changes.change_of change.now)
+        (machine.rows_seen (table_meant (table_of table.now))) i) }
+{
+    if is_insert(change) {
+        return Ok(Vec::new(alloc));
+    }
+    target_rows(alloc, table)
+}
+
+fn is_insert(change: &Change) -> bool
+    ensures { result ≡ is_insert (changes.change_of change.now) }
+{
+    match change {
+        Change::InsertRows(_) | Change::InsertQuery(_, _) => true,
+        Change::Update(_, _) | Change::Delete(_) | Change::Merge(_, _, _) => false,
     }
 }
 
@@ -113,8 +136,15 @@ fn target_rows(alloc: Global, table: &StoredTable) -> Result<Vec<TargetRow<'_>>,
         ≡ machine.rows_seen (table_meant (table_of table.now))) }
 {
     let rows = table.numbered_rows(alloc)?;
+    targets(alloc, &rows)
+}
+
+fn targets<'a>(alloc: Global, rows: &[&'a NumberedRow]) -> Result<Vec<TargetRow<'a>>, AllocError>
+    ensures { IfOk result (λ targets. targets_of targets.items
+        ≡ map (λ row. machine.numbered_row (numbered_of row.now)) rows.now) }
+{
     let mut targets = Vec::with_capacity(alloc, rows.len())?;
-    for row in &rows {
+    for row in rows {
         targets.push(TargetRow {
             number: row.number,
             row: &row.row,
@@ -137,32 +167,47 @@ fn edit(
         (changes.change_of bound.now.change) (table_meant (table_of table.now))
         (Does (effect_of effect)))) }
 {
-    let more = effect.added.len() as u64;
-    if let Some(why) = refused_past(Limit::RowNumber, table.next_row(), more) {
+    let counts = counts_of(&effect);
+    if let Some(why) = refused_past(Limit::RowNumber, table.next_row(), counts.inserted) {
         return Ok(Decision::Refuse(why));
     }
-    let reply = reply_to(&bound.change, &effect);
-    let is_counted = is_counted(&effect);
+    let Some(rewritten) = rewritten(alloc, table, effect)? else {
+        return Ok(Decision::Refuse(Refusal::OverLimit(Limit::PartitionNumber)));
+    };
+    if !is_some_counted(counts) {
+        return Ok(Decision::Do {
+            reply: reply_to(&bound.change, counts),
+            changes: None,
+        });
+    }
+    let change = version(stamp, bound.target, counts.inserted, table, rewritten);
+    let changes = vec![in alloc; change]?;
+    Ok(Decision::Do {
+        reply: reply_to(&bound.change, counts),
+        changes: Some(changes),
+    })
+}
+
+// The partitions that an effect leaves behind, or None where their numbers would pass the limit.
+fn rewritten(
+    alloc: Global,
+    table: &StoredTable,
+    effect: Effect,
+) -> Result<Option<Rewritten>, AllocError>
+    requires { (table_of table.now).next_row + length effect.added.items ≤ bound limits.RowNumber }
+    ensures fits { IfOk result (λ found. is_some found
+        ≡ nat_le (made_count (effect_of effect) (table_of table.now))
+        (bound limits.PartitionNumber)) }
+    ensures rewritten { IfOk result (λ found. IfSome found (λ made.
+        IsRewritten made (effect_of effect) (table_of table.now))) }
+{
     let Effect {
         removed,
         changed,
         added,
     } = effect;
     let edits = Edits::new(alloc, &removed, changed, added)?;
-    let Some(rewritten) = table.rewrite(alloc, edits)? else {
-        return Ok(Decision::Refuse(Refusal::OverLimit(Limit::PartitionNumber)));
-    };
-    if !is_counted {
-        return Ok(Decision::Do {
-            reply,
-            changes: None,
-        });
-    }
-    let change = version(stamp, bound.target, more, table, rewritten);
-    Ok(Decision::Do {
-        reply,
-        changes: Some(vec![in alloc; change]?),
-    })
+    table.rewrite(alloc, edits)
 }
 
 // A version of the table with these partitions in the place of others, and so many rows more.
@@ -194,19 +239,39 @@ fn version(
     })
 }
 
-// Whether a row was counted.
-fn is_counted(effect: &Effect) -> bool
-    ensures { result ≡ nat_lt 0 (machine.counted (effect_of effect.now)) }
-{
-    !(effect.added.is_empty() && effect.changed.is_empty() && effect.removed.is_empty())
+// How many rows an effect adds, changes and removes.
+#[derive(Clone, Copy, Debug)]
+struct Counts {
+    inserted: u64,
+    updated: u64,
+    deleted: u64,
 }
 
-fn reply_to(change: &Change, effect: &Effect) -> Reply
-    ensures { reply_view result ≡ machine.reply_to (changes.change_of change.now) (effect_of effect.now) }
+fn counts_of(effect: &Effect) -> Counts
+    ensures { IsCountOf result (effect_of effect.now) }
 {
-    let inserted = effect.added.len() as u64;
-    let updated = effect.changed.len() as u64;
-    let deleted = effect.removed.len() as u64;
+    Counts {
+        inserted: effect.added.len() as u64,
+        updated: effect.changed.len() as u64,
+        deleted: effect.removed.len() as u64,
+    }
+}
+
+fn is_some_counted(counts: Counts) -> bool
+    ensures { (e : effects.Effect) → IsCountOf counts e → result ≡ nat_lt 0 (machine.counted e) }
+{
+    0 < counts.inserted || 0 < counts.updated || 0 < counts.deleted
+}
+
+fn reply_to(change: &Change, counts: Counts) -> Reply
+    ensures { (e : effects.Effect) → IsCountOf counts e
+        → reply_view result ≡ machine.reply_to (changes.change_of change.now) e }
+{
+    let Counts {
+        inserted,
+        updated,
+        deleted,
+    } = counts;
     match change {
         Change::InsertRows(_) | Change::InsertQuery(_, _) => Reply::Inserted(inserted),
         Change::Update(_, _) => Reply::Updated(updated),

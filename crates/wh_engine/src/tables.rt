@@ -134,7 +134,10 @@ fn is_taken(catalog: &Catalog, table: &NewTable) -> bool
     ensures { result ≡ machine.is_name_taken (state_of catalog.now)
         table.now.replace table.now.name }
 {
-    !table.replace && catalog.find(table.name.as_bytes()).is_some()
+    if table.replace {
+        return false;
+    }
+    catalog.find(table.name.as_bytes()).is_some()
 }
 
 // How many live objects more there are with a new one.
