@@ -5,7 +5,7 @@
 --     version_is                     the change that edits are written as
 --     within                         the next row number stays within its limit
 --     added_is                       the rows that are added
-use Rattle.std.proofs.Common.{◌≡◌, ℕ, ◌+◌, ◌≤◌, List, [], ◌∷◌, length, Option, Some, None, Bool, true, false, inl, inr, refl, ap, sym, ◌∙◌, arith}
+use Rattle.std.proofs.Common.{◌≡◌, ℕ, ◌+◌, ◌≤◌, List, [], ◌∷◌, length, Option, Some, None, Bool, true, false, inl, inr, refl, ap, sym, ◌∙◌}
 use Rattle.std.specs.Prelude.{nat_le, nat_lt}
 use Rattle.std.proofs.lemmas.Bool.{cases_lt, lt-ltb, le-ltb, le-leb, lt-leb}
 use Rattle.wh_value.specs.Limit.{bound}
@@ -15,9 +15,8 @@ use Rattle.wh_frame.specs.Partition.{Partition}
 use Rattle.wh_reply.specs.Reply.{Refusal, OverLimit}
 use Rattle.wh_naming.specs.Changes.{Change}
 use Rattle.wh_effect.specs.Effect.{Effect, Does}
-use Rattle.wh_machine.specs.State.{Table}
 use Rattle.wh_machine.specs.Edits.{edits_of, numbers_gone, partitions_made}
-use Rattle.wh_machine.specs.Outcome.{Outcome, Refuses, EditsRows, answers, commits, refused_if, refused_past, first_of, unless, table_partitions_made}
+use Rattle.wh_machine.specs.Outcome.{Refuses, EditsRows, answers, commits, refused_if, refused_past, first_of, unless, table_partitions_made}
 use Rattle.wh_machine.specs.Changes.{edits_refusal, counted, reply_to, carried_over, settled_effect}
 use Rattle.wh_machine.specs.Stored.{StoredTable, standing, table_meant}
 use Rattle.wh_machine.specs.Commit as machine

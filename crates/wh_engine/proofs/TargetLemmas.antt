@@ -7,7 +7,6 @@ use Rattle.std.specs.FinMap.{entries}
 use Rattle.std.proofs.lemmas.List.{map-append, take_more}
 use Rattle.std.proofs.lemmas.Simd.{map-map}
 use denote.Ref.{Bor}
-use Rattle.wh_value.specs.Value.{Row}
 use Rattle.wh_part.specs.View.{numbered_of}
 use Rattle.wh_part.specs.declared.partition.NumberedRow.{NumberedRow}
 use Rattle.wh_effect.specs.Effect.{Kept}

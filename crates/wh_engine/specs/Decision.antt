@@ -4,7 +4,7 @@
 --     planned       of an outcome, where the changes say what its acts do
 --     Decides       a decision comes to that outcome
 --     commit_at     the commit of changes, where there are any
-use Rattle.std.specs.Prelude.{◌≡◌, ℕ, List, map, Option, Some, None, option_map, Vec}
+use Rattle.std.specs.Prelude.{◌≡◌, ℕ, List, map, Option, None, option_map, Vec}
 use Rattle.std.specs.declared.alloc.Global.{Global}
 use Rattle.wh_reply.specs.Reply.{Refusal, Reply, Refused}
 use Rattle.wh_reply.specs.View.{refusal_view, reply_view}

@@ -211,13 +211,7 @@ fn rewritten(
 }
 
 // A version of the table with these partitions in the place of others, and so many rows more.
-fn version(
-    stamp: u64,
-    id: u32,
-    more: u64,
-    table: &StoredTable,
-    rewritten: Rewritten,
-) -> Written
+fn version(stamp: u64, id: u32, more: u64, table: &StoredTable, rewritten: Rewritten) -> Written
     requires { (table_of table.now).next_row + more ≤ bound limits.RowNumber }
     ensures { change_of result ≡ PushesVersion (record {
       id = id;

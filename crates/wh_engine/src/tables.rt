@@ -119,13 +119,16 @@ fn table_refusal(
     let name = &table.name;
     let columns = table.columns.len() as u64;
     Ok(
-        refused_if(is_taken(catalog, table), Refusal::NameTaken(name.copy(alloc)?))
-            .or(taken_column(alloc, table)?)
-            .or(refused_past(Limit::ObjectIds, catalog.object_count(), 1))
-            .or(refused_past(Limit::Objects, catalog.live_count(), more(is_replaced)))
-            .or(refused_if(has_long_name(table), Refusal::OverLimit(Limit::Name)))
-            .or(refused_past(Limit::Columns, columns, 0))
-            .or(refused_past(Limit::Retention, table.retention, 0)),
+        refused_if(
+            is_taken(catalog, table),
+            Refusal::NameTaken(name.copy(alloc)?),
+        )
+        .or(taken_column(alloc, table)?)
+        .or(refused_past(Limit::ObjectIds, catalog.object_count(), 1))
+        .or(refused_past(Limit::Objects, catalog.live_count(), more(is_replaced)))
+        .or(refused_if(has_long_name(table), Refusal::OverLimit(Limit::Name)))
+        .or(refused_past(Limit::Columns, columns, 0))
+        .or(refused_past(Limit::Retention, table.retention, 0)),
     )
 }
 

@@ -10,10 +10,7 @@ fn rows_are_changed_by_statements(rt: HostRuntime) -> Result<(), Fail> {
         ("INSERT INTO T (V, K) VALUES (5 + 5, 1)", "INSERTED 1\n"),
         ("INSERT INTO T (K) SELECT K + 1 FROM T", "INSERTED 1\n"),
         ("UPDATE T SET K = V, V = K WHERE K = 2", "UPDATED 1\n"),
-        (
-            "SELECT * FROM T",
-            "K | V\n1 | 10\nNULL | 2\n(2 rows)\n",
-        ),
+        ("SELECT * FROM T", "K | V\n1 | 10\nNULL | 2\n(2 rows)\n"),
         ("DELETE FROM T WHERE K <> 1", "DELETED 0\n"),
         ("DELETE FROM T WHERE K IS NULL", "DELETED 1\n"),
         ("INSERT INTO U VALUES (1, 11), (3, 30)", "INSERTED 2\n"),

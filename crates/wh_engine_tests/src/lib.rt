@@ -2,8 +2,8 @@
 #![tactic(auto)]
 
 #[cfg(test)]
-mod commands;
-#[cfg(test)]
 mod changes;
+#[cfg(test)]
+mod commands;
 #[cfg(test)]
 mod queries;

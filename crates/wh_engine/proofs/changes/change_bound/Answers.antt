@@ -1,4 +1,4 @@
-use Rattle.std.proofs.Common.{◌≡◌, Some, None, Err, ap, refl, sym, subst, ◌∙◌}
+use Rattle.std.proofs.Common.{◌≡◌, None, Err, ap, refl, sym, subst, ◌∙◌}
 use Rattle.wh_value.specs.declared.limit.Limit.TheVariants as limits
 use Rattle.wh_effect.specs.Effect.{effect, Undefined, Ambiguous}
 use Rattle.wh_dml_bind.specs.View.{change_of}
@@ -9,7 +9,7 @@ use Rattle.wh_machine.specs.Tables.{table_at}
 use Rattle.wh_machine.specs.Queries.{instance_of}
 use Rattle.wh_machine.specs.Changes.{rows_seen}
 use Rattle.wh_machine.specs.Stored.{table_meant}
-use Rattle.wh_catalog.specs.Catalog.{stored_of, state_of, stored_table_at}
+use Rattle.wh_catalog.specs.Catalog.{stored_of, state_of}
 use Rattle.wh_catalog.specs.Table.{table_of}
 use Rattle.wh_engine.specs.Decision.{Declines}
 use Rattle.wh_engine.proofs.CatalogLemmas.{table_there, table_missing}

@@ -1,14 +1,14 @@
-use Rattle.std.proofs.Common.{◌≡◌, ℕ, ◌+◌, List, [], ◌∷◌, length, map, Option, Some, None, Bool, is_some, true, false, option_map, refl, ap, sym, ◌∙◌}
-use Rattle.std.specs.Prelude.{nat_le, nat_lt}
+use Rattle.std.proofs.Common.{◌≡◌, ℕ, ◌+◌, [], ◌∷◌, length, map, Some, None, is_some, true, false, option_map, refl, ap, sym, ◌∙◌}
+use Rattle.std.specs.Prelude.{nat_le}
 use Rattle.wh_value.specs.Limit.{bound}
 use Rattle.wh_value.specs.declared.limit.Limit.TheVariants as limits
-use Rattle.wh_reply.specs.Reply.{Refusal, OverLimit}
+use Rattle.wh_reply.specs.Reply.{OverLimit}
 use Rattle.wh_reply.specs.View.{refusal_view}
 use Rattle.wh_dml_bind.specs.View as changes
 use Rattle.wh_dml.specs.View.{effect_of}
 use Rattle.wh_machine.specs.Edits.{edits_of}
 use Rattle.wh_machine.specs.Outcome.{EditsRows, refused_past}
-use Rattle.wh_machine.specs.Changes.{counted, reply_to}
+use Rattle.wh_machine.specs.Changes.{reply_to}
 use Rattle.wh_machine.specs.Commit.{Change}
 use Rattle.wh_machine.specs.Written.{version_written}
 use Rattle.wh_record.specs.View.{change_of}

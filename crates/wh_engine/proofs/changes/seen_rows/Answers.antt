@@ -1,4 +1,4 @@
-use Rattle.std.proofs.Common.{List, ap, sym, ◌∙◌}
+use Rattle.std.proofs.Common.{ap, sym, ◌∙◌}
 use Rattle.wh_effect.specs.Effect.{effect}
 use Rattle.wh_dml_bind.specs.View.{change_of}
 use Rattle.wh_dml.specs.View.{targets_of}

@@ -1,4 +1,4 @@
-use Rattle.std.proofs.Common.{◌≡◌, ℕ, ◌+◌, List, [], ◌∷◌, ◌++◌, length, Some, None, option_map, is_some, refl, ap, sym, ◌∙◌, arith, rules}
+use Rattle.std.proofs.Common.{◌≡◌, ℕ, ◌+◌, [], ◌∷◌, ◌++◌, length, Some, None, option_map, is_some, refl, ap, sym, ◌∙◌, arith, rules}
 use Rattle.wh_reply.specs.Reply.{CreatedTable}
 use Rattle.wh_reply.specs.View.{refusal_view}
 use Rattle.wh_machine.specs.Outcome.{MakesTable}
