@@ -209,8 +209,8 @@ abbrev pub merged_by : Scalar → List BoundClause → List BoundClause → List
 merged_by on matching others target source =
     if is_merge_defined on matching others (target_rows target) source
     then unless_several (first_several (selecting on matching source) (target_rows target))
-        (defined (with_added (inserted others (unmatched on (target_rows target) source))
-        (turned (λ t. merged_turn matching (selecting on matching source t)) target)))
+    (defined (with_added (inserted others (unmatched on (target_rows target) source))
+    (turned (λ t. merged_turn matching (selecting on matching source t)) target)))
     else Undefined
 
 abbrev pub merged : Scalar → List BoundClause → List Kept → Option (List Row) → Outcome

@@ -45,7 +45,10 @@ pub enum Reply {
         deleted: u64,
     },
     /// Rows in order, below the names of their columns.
-    Listing { names: Vec<Text>, rows: Vec<Row> },
+    Listing {
+        names: Vec<Text>,
+        rows: Vec<Row>,
+    },
     /// Nothing was due.
     Idle,
     Refused(Refusal),
