@@ -7,7 +7,8 @@ use Rattle.std.specs.Prelude.{◌&&◌, ◌||◌, not}
 use Rattle.std.specs.List.{AllByRecursion, list_all}
 use Rattle.std.proofs.lemmas.Bool.Decides.{Decides-and, Decides-or, Decides-ltb}
 use Rattle.wh_frame.specs.Partition.{Partition, first_number, last_number}
-use Rattle.wh_machine.specs.Commit.{AreApart, AllApart, without, is_among}
+use Rattle.wh_machine.specs.Commit.{AreApart, AllApart}
+use Rattle.wh_machine.specs.Edits.{without, is_among}
 use Rattle.wh_version.specs.declared.kept.Kept.{Kept}
 use Rattle.wh_version.specs.Kept.{is_standing, partitions_in}
 use Rattle.wh_catalog.specs.Apart.{are_apart, all_apart, highest_number}
@@ -69,7 +70,7 @@ list_all-turned : (test : Partition → Bool) (before ps : List Partition) → l
 list_all-turned test before [] = and_true (list_all test before)
 list_all-turned test before (p ∷ ps) = list_all-turned test (p ∷ before) ps ∙ and_turn (test p) (list_all test before) (list_all test ps)
 
-turned_push : (before ps : List Partition) (q : Partition) → turned before (ps ++ q ∷ []) ≡ q ∷ turned before ps
+pub turned_push : (before ps : List Partition) (q : Partition) → turned before (ps ++ q ∷ []) ≡ q ∷ turned before ps
 turned_push before [] q = refl
 turned_push before (p ∷ ps) q = turned_push (p ∷ before) ps q
 

@@ -12,7 +12,8 @@ use Rattle.wh_value.specs.declared.limit.Limit.TheVariants as limits
 use Rattle.wh_frame.specs.Partition.{Partition}
 use Rattle.wh_machine.specs.State.{last_of, id_of, live_count}
 use Rattle.wh_machine.specs.Stored.{StoredVersion, StoredTable, StoredObject, standing}
-use Rattle.wh_machine.specs.Commit.{TableChange, VersionChange, IsStoredName, NumberedFrom, RowsFit, Stands, DoesNotFall, AllApart, TableApplies, VersionApplies, without}
+use Rattle.wh_machine.specs.Commit.{TableChange, VersionChange, IsStoredName, NumberedFrom, RowsFit, Stands, DoesNotFall, AllApart, TableApplies, VersionApplies}
+use Rattle.wh_machine.specs.Edits.{without}
 use Rattle.wh_version.specs.Kept.{numbered_from}
 use Rattle.wh_catalog.specs.Conditions.{is_stored_name, is_stored_column, are_stored_columns, table_applies, entry_fits, partition_fits, does_not_fall, is_standing_number, is_formed, partitions_apply, version_applies}
 use Rattle.wh_catalog.proofs.Apart.{Decides-list_all, Decides-all_apart}

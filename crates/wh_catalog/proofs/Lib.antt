@@ -5,5 +5,10 @@ pub mod Conditions
 pub mod NumberedRows
 pub mod TableBag
 pub mod Pushed
+pub mod Rising
+pub mod Dropped
+pub mod OrderlyTables
+pub mod Chain
+pub mod Entries
 pub mod Columns
 pub mod Standing

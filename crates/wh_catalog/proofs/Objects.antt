@@ -27,6 +27,10 @@ pub map_more : {X Y : Type 0} (f : X → Y) (xs : List X) (x : X) → map f (xs 
 map_more f [] x = refl
 map_more f (y ∷ xs) x = ap (λ l. f y ∷ l) (map_more f xs x)
 
+pub map_with : {X Y : Type 0} (f : X → Y) (xs ys : List X) (x : X) → map f (xs ++ x ∷ ys) ≡ map f xs ++ f x ∷ map f ys
+map_with f [] ys x = refl
+map_with f (y ∷ xs) ys x = ap (λ l. f y ∷ l) (map_with f xs ys x)
+
 -- ---- one in another's place
 
 with_place : {A : Type 0} (xs : List A) (id : ℕ) (x : A) → 0 < id → with_id xs id x ≡ set xs (id - 1) x

@@ -1,11 +1,10 @@
 -- A version more, or less, of a table.
-use Rattle.std.proofs.Common.{◌≡◌, ℕ, zero, suc, true, List, [], ◌∷◌, ◌++◌, length, map, take, Some, IsTrue, refl, ap, ◌∙◌, arith, length-append}
+use Rattle.std.proofs.Common.{◌≡◌, ℕ, true, List, [], ◌∷◌, ◌++◌, length, map, take, Some, IsTrue, refl, ap, ◌∙◌, arith, length-append}
 use Rattle.std.proofs.lemmas.List.{take-append-le, take_all}
 use Rattle.std.specs.List.{list_all}
-use Rattle.std.proofs.lemmas.Bool.{and_parts, and_from}
-use Rattle.wh_machine.specs.State.{last_of, content_in}
+use Rattle.std.proofs.lemmas.Bool.{and_parts}
+use Rattle.wh_machine.specs.State.{last_of, content_in, nothing_held}
 use Rattle.wh_machine.specs.Stored.{StoredVersion, version_meant, rows_of}
-use Rattle.std.specs.FinMap.{empty}
 use Rattle.wh_version.specs.Lists.{shortened, but_last}
 use Rattle.wh_version.specs.History.{standing_in, next_in}
 use Rattle.wh_catalog.specs.Apart.{all_apart, is_apart}
@@ -32,27 +31,14 @@ shortened-push y ys x = ap (λ l. y ∷ l) (but_last-push ys x)
 
 -- ---- versions whose partitions are apart
 
-pub all_apart-push : (vs : List StoredVersion) (v : StoredVersion) → IsTrue (list_all is_apart vs) → IsTrue (is_apart v) → IsTrue (list_all is_apart (vs ++ v ∷ []))
-all_apart-push [] v apart more = and_from _ _ more refl
-all_apart-push (w ∷ vs) v apart more = let parts = and_parts (is_apart w) (list_all is_apart vs) apart in and_from _ _ parts.0 (all_apart-push vs v parts.1 more)
-
 pub last_apart : (vs : List StoredVersion) → IsTrue (list_all is_apart vs) → IsTrue (all_apart [] (standing_in vs))
 last_apart [] apart = refl
 last_apart (v ∷ []) apart = (and_parts (is_apart v) true apart).0
 last_apart (v ∷ w ∷ vs) apart = last_apart (w ∷ vs) (and_parts (is_apart v) (list_all is_apart (w ∷ vs)) apart).1
 
-take_apart : (n : ℕ) (vs : List StoredVersion) → IsTrue (list_all is_apart vs) → IsTrue (list_all is_apart (take n vs))
-take_apart zero vs apart = refl
-take_apart (suc n) [] apart = refl
-take_apart (suc n) (v ∷ vs) apart = let parts = and_parts (is_apart v) (list_all is_apart vs) apart in and_from _ _ parts.0 (take_apart n vs parts.1)
-
-pub shortened_apart : (vs : List StoredVersion) → IsTrue (list_all is_apart vs) → IsTrue (list_all is_apart (shortened vs))
-shortened_apart [] apart = refl
-shortened_apart (v ∷ vs) apart = let parts = and_parts (is_apart v) (list_all is_apart vs) apart in and_from _ _ parts.0 (take_apart _ vs parts.1)
-
 -- ---- what the last version means
 
-pub last_meant : (vs : List StoredVersion) → content_in empty (last_of (map version_meant vs)) ≡ rows_of (standing_in vs)
+pub last_meant : (vs : List StoredVersion) → (content_in nothing_held (last_of (map version_meant vs))).rows ≡ rows_of (standing_in vs)
 last_meant [] = refl
 last_meant (v ∷ []) = refl
 last_meant (v ∷ w ∷ vs) = last_meant (w ∷ vs)

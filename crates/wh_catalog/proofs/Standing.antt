@@ -23,7 +23,7 @@ standing_more kept i k within is =
     ap (λ ks. partitions_in (filter is_standing ks)) (take_more kept i k within ∙ ap (λ x. take i kept ++ x ∷ []) (sym is))
     ∙ standing_append (take i kept) (k ∷ [])
 
-all_more : (ps qs : List Partition) → all_rows (ps ++ qs) ≡ all_rows ps ++ all_rows qs
+pub all_more : (ps qs : List Partition) → all_rows (ps ++ qs) ≡ all_rows ps ++ all_rows qs
 all_more [] qs = refl
 all_more (p ∷ ps) qs = ap (λ l. p.rows ++ l) (all_more ps qs) ∙ sym (append_assoc p.rows (all_rows ps) (all_rows qs))
 

@@ -57,11 +57,11 @@ get_other m k v q apart = get-insert nat_cmp_total m k v q ∙ ap (λ b. cond b 
 
 -- ---- the rows of one partition
 
-tail_last : (e : ℕ × Row) (es : List (ℕ × Row)) → last_number es ≤ last_number (e ∷ es)
+pub tail_last : (e : ℕ × Row) (es : List (ℕ × Row)) → last_number es ≤ last_number (e ∷ es)
 tail_last e [] = omega arith
 tail_last e (f ∷ es) = omega arith
 
-head_last : (e : ℕ × Row) (es : List (ℕ × Row)) → RisesFrom (e.0 + 1) es → e.0 ≤ last_number (e ∷ es)
+pub head_last : (e : ℕ × Row) (es : List (ℕ × Row)) → RisesFrom (e.0 + 1) es → e.0 ≤ last_number (e ∷ es)
 head_last e [] up = omega arith
 head_last e (f ∷ es) up = let rest = head_last f es up.1 in omega (arith, up.0)
 
@@ -108,7 +108,7 @@ rises_first : (es : List (ℕ × Row)) → RisesFrom 0 es → RisesFrom (first_n
 rises_first [] up = tt
 rises_first (e ∷ es) up = (omega arith, up.1)
 
-with_more : (m : Rows) (es fs : List (ℕ × Row)) → with_entries m (es ++ fs) ≡ with_entries (with_entries m es) fs
+pub with_more : (m : Rows) (es fs : List (ℕ × Row)) → with_entries m (es ++ fs) ≡ with_entries (with_entries m es) fs
 with_more m [] fs = refl
 with_more m (e ∷ es) fs = with_more (insert m e.0 e.1) es fs
 
@@ -133,7 +133,7 @@ parts_bag m before (p ∷ ps) apart up free =
     ∙ blocks (rows_only (all_rows ps)) (rows_only p.rows) (values m)
     ∙ ap (λ l. bag_of (l ++ values m)) (sym (rows_more p.rows (all_rows ps)))
 
-no_entries : (es : List (ℕ × Row)) → length es ≡ 0 → es ≡ []
+pub no_entries : (es : List (ℕ × Row)) → length es ≡ 0 → es ≡ []
 no_entries [] e = refl
 no_entries (x ∷ es) e = absurd (omega arith)
 

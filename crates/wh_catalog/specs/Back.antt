@@ -1,5 +1,8 @@
--- Tables and objects without their last version.
-use Rattle.std.specs.Prelude.{ℕ}
+-- Objects as they were: tables without their last version, and dropped objects that live again.
+use Rattle.std.specs.Prelude.{ℕ, true, List, nat_lt, if◌then◌else◌}
+use Rattle.wh_value.specs.Limit.{bound}
+use Rattle.wh_value.specs.declared.limit.Limit.TheVariants as limits
+use Rattle.wh_machine.specs.State.{changed_at, live_count}
 use Rattle.wh_version.specs.Lists.{shortened}
 use Rattle.wh_catalog.specs.Kept.{KeptTable, KeptKind, KeptTableKind, KeptObject}
 
@@ -12,3 +15,11 @@ kind_taken_back next_row (KeptTableKind t) = KeptTableKind (taken_back next_row 
 
 abbrev pub object_taken_back : ℕ → KeptObject → KeptObject
 object_taken_back next_row o = record o { kind = kind_taken_back next_row o.kind }
+
+-- an object lives again
+abbrev pub alive : KeptObject → KeptObject
+alive o = record o { is_live = true }
+
+-- the object of an id lives again, if there is room for it among those that live
+abbrev pub lives_again : ℕ → List KeptObject → List KeptObject
+lives_again id objects = if nat_lt (live_count objects) (bound limits.Objects) then changed_at objects id alive else objects

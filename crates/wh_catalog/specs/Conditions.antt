@@ -12,7 +12,8 @@ use Rattle.wh_value.specs.declared.limit.Limit.TheVariants as limits
 use Rattle.wh_frame.specs.Partition.{Partition, first_number, last_number}
 use Rattle.wh_machine.specs.State.{last_of, id_of, live_count}
 use Rattle.wh_machine.specs.Stored.{StoredVersion, StoredTable, StoredObject, standing}
-use Rattle.wh_machine.specs.Commit.{TableChange, VersionChange, without}
+use Rattle.wh_machine.specs.Commit.{TableChange, VersionChange}
+use Rattle.wh_machine.specs.Edits.{without}
 use Rattle.wh_version.specs.Kept.{numbered_from}
 use Rattle.wh_catalog.specs.Apart.{all_apart}
 

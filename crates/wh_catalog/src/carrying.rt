@@ -1,6 +1,8 @@
+use crate::dropping::{drop_object, revive};
 use crate::undo::{Pushed, Step};
 use crate::{Catalog, StageFault, StoredObject};
 use wh_record::{Change, TableChange, VersionChange};
+use wh_value::Limit;
 
 impl Catalog {
     ghost use Rattle.std.specs.Prelude.{◌≡◌, OnOk, OnErr, IfOk, IsErrOf};
@@ -23,6 +25,7 @@ impl Catalog {
     {
         match change {
             Change::CreatesTable(change) => self.create_table(change, stamp),
+            Change::Drops(id) => drop_object(&mut self.objects, id),
             Change::PushesVersion(change) => push_version(&mut self.objects, change, stamp),
         }
     }
@@ -61,6 +64,12 @@ impl Catalog {
             Step::MadeObject => {
                 let count = self.objects.len();
                 self.objects.truncate(count.saturating_sub(1));
+            }
+            Step::DroppedObject(id) => {
+                // Whatever the undo is of, no more objects than the limit live.
+                if self.live_count() < Limit::Objects.bound() {
+                    revive(&mut self.objects, id);
+                }
             }
             Step::PushedVersion(pushed) => take_version_back(&mut self.objects, pushed),
         }

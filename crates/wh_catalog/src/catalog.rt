@@ -25,6 +25,7 @@ impl Catalog {
     ghost use Rattle.wh_value.specs.declared.limit.Limit.TheVariants as limits;
     ghost use Rattle.wh_machine.specs.State.{first_state, id_of, is_named, live_count};
     ghost use Rattle.wh_machine.specs.Stored.{first_stored};
+    ghost use Rattle.wh_machine.specs.Orderly.{IsOrderlyStored};
     ghost use Rattle.wh_catalog.specs.Kept.{object_in};
     ghost use Rattle.wh_catalog.specs.Table.{table_of, kept_object};
     ghost use Rattle.wh_catalog.specs.Catalog.{objects_of, stored_of, state_of, stored_table_at};
@@ -42,11 +43,12 @@ impl Catalog {
         }
     }
 
-    /// The greatest stamp so far.
+    /// The greatest stamp so far. What stands in a catalog's tables is orderly.
     pub fn last(&self) -> u64
         ensures last { result ≡ (state_of self.now).last }
         ensures bounded { result < bound limits.Stamp }
         ensures committed { (stored_of self.now).last ≤ result }
+        ensures orderly { IsOrderlyStored (stored_of self.now) }
     {
         self.last
     }

@@ -3,7 +3,7 @@ ghost use Rattle.std.specs.List.{list_all};
 ghost use Rattle.wh_value.specs.Limit.{bound};
 ghost use Rattle.wh_value.specs.declared.limit.Limit.TheVariants as limits;
 ghost use Rattle.wh_version.specs.History.{versions_of, standing_in};
-ghost use Rattle.wh_catalog.specs.Apart.{highest_number, is_apart};
+ghost use Rattle.wh_catalog.specs.Apart.{highest_number, is_apart, is_rising};
 
 use wh_value::Column;
 use wh_version::History;
@@ -21,6 +21,7 @@ pub struct StoredTable {
     ghost row_numbers: { next_row ≤ bound limits.RowNumber },
     ghost highest_row: { highest_number (standing_in (versions_of history)) ≤ highest },
     ghost apart: { IsTrue (list_all is_apart (versions_of history)) },
+    ghost rising: { IsTrue (list_all is_rising (versions_of history)) },
 }
 
 impl StoredTable {

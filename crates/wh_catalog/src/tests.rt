@@ -4,6 +4,7 @@ use std::test::Fail;
 use wh_part::{NumberedRow, Partition};
 use wh_record::{Change, Commit, TableChange, VersionChange};
 use wh_value::{Column, ColumnType, Row, Text, Value};
+use wh_version::Edits;
 
 fn text(alloc: Global, bytes: &[u8]) -> Result<Text, Fail> {
     let made = Text::from_bytes(alloc, bytes).ok_or("no text")?;
@@ -132,6 +133,34 @@ fn holds(alloc: Global, catalog: &Catalog, id: u32, numbers: &[i64]) -> Result<b
     Ok(same)
 }
 
+// Whether the rows of the table of an id have these numbers, in this order.
+fn is_numbered(alloc: Global, catalog: &Catalog, id: u32, numbers: &[u64]) -> Result<bool, Fail> {
+    let table = catalog.table(id).ok_or("no table")?;
+    let found = table.numbered_rows(alloc)?;
+    let mut same = found.len() == numbers.len();
+    for (found, number) in found.iter().zip(numbers) {
+        same = same && found.number == *number;
+    }
+    Ok(same)
+}
+
+// Whether these partitions of the table of an id go where the row of that number goes.
+fn gives_up(
+    alloc: Global,
+    catalog: &Catalog,
+    id: u32,
+    number: u64,
+    partitions: &[u64],
+) -> Result<bool, Fail> {
+    let table = catalog.table(id).ok_or("no table")?;
+    let edits = Edits::new(alloc, &[number], Vec::new(alloc), Vec::new(alloc))?;
+    if table.next_row() + edits.added().len() as u64 > 1 << 62 {
+        return Ok(false);
+    }
+    let made = table.rewrite(alloc, edits)?.ok_or("no number is left")?;
+    Ok(made.removed.as_slice() == partitions && made.added.is_empty())
+}
+
 // A table `t` with a row of number 5 in its first partition, at the stamp 12.
 fn one_table(alloc: Global) -> Result<Catalog, Fail> {
     let mut catalog = Catalog::new(alloc);
@@ -153,6 +182,8 @@ fn a_version_is_held_and_undone(rt: HostRuntime) -> Result<(), Fail> {
     let undo = carry_out(&mut catalog, pushed)?;
     pass_on(&mut catalog);
     assert!(rt; holds(alloc, &catalog, 1, &[5, 11, 3])?, "the new version");
+    assert!(rt; is_numbered(alloc, &catalog, 1, &[2, 6, 9])?, "by number");
+    assert!(rt; gives_up(alloc, &catalog, 1, 9, &[3])?, "a row that goes");
     assert_eq!(rt; catalog.last(), 20);
     catalog.undo(undo);
     assert!(rt; holds(alloc, &catalog, 1, &[7])?, "the version before");
@@ -191,6 +222,38 @@ fn a_commit_is_carried_out_whole_or_not_at_all(rt: HostRuntime) -> Result<(), Fa
     assert!(rt; holds(alloc, &catalog, 2, &[4])?, "the table");
     catalog.undo(undo);
     assert_eq!(rt; catalog.object_count(), 1);
+    Ok(())
+}
+
+fn drop_of(alloc: Global, stamp: u64, id: u32) -> Result<Commit, Fail> {
+    commit(alloc, stamp, Change::Drops(id))
+}
+
+#[test]
+fn a_dropped_table_gives_its_name_away_and_lives_again(rt: HostRuntime) -> Result<(), Fail> {
+    let alloc = rt.alloc();
+    let mut catalog = one_table(alloc)?;
+    let gone = drop_of(alloc, 13, 1)?;
+    let other = creation(alloc, 13, 2, b"t", 1, 1, ColumnType::Number)?;
+    let replaced = both(gone, other)?;
+    let undo = carry_out(&mut catalog, replaced)?;
+    assert_eq!(rt; catalog.find(b"t"), Some(2));
+    assert_eq!(rt; catalog.object_count(), 2);
+    assert_eq!(rt; catalog.live_count(), 1);
+    for (case, id) in [("no id", 0), ("a dropped table", 1), ("no such object", 3)] {
+        let wrong = drop_of(alloc, 14, id)?;
+        assert!(rt; is_refused(&mut catalog, wrong), "{case}");
+    }
+    let late = version(alloc, 14, 1, 14, 7, &[], partitions(alloc, &[(2, 6, 1)])?)?;
+    assert!(rt;
+        is_refused(&mut catalog, late),
+        "a version of a dropped table"
+    );
+    catalog.undo(undo);
+    assert_eq!(rt; catalog.find(b"t"), Some(1));
+    assert_eq!(rt; catalog.object_count(), 1);
+    assert_eq!(rt; catalog.live_count(), 1);
+    assert!(rt; holds(alloc, &catalog, 1, &[7])?, "its rows");
     Ok(())
 }
 

@@ -14,6 +14,8 @@ pub(crate) struct Pushed {
 #[derive(Debug, Drop)]
 pub(crate) enum Step {
     MadeObject,
+    /// By its id.
+    DroppedObject(u32),
     PushedVersion(Pushed),
 }
 

@@ -1,6 +1,7 @@
 -- What holds of each element of a list.
 --     all_map, all_both, all_filter     also another thing, and of the elements that pass a test
---     all_at, all_more, all_changed_at  the one of an id, one more, and one that is changed
+--     all_append, all_more              others behind them, and one more
+--     all_at, all_with, all_changed_at  the one of an id, another one there, and one that is changed
 --     filter_same                       tests that agree on each element
 use Rattle.std.proofs.Common.{◌≡◌, ℕ, zero, suc, Bool, true, false, cond, List, [], ◌∷◌, ◌++◌, Option, Some, None, option_map, refl, subst}
 use Rattle.std.specs.Prelude.{slice_get, slice_set}
@@ -32,6 +33,10 @@ filter_same test other (x ∷ xs) same =
     let rest = filter_same test other xs same.1 in
     rw (here, rest) refl
 
+pub all_append : {X : Type 0} (P : X → Type 0) (xs ys : List X) → AllByRecursion P xs → AllByRecursion P ys → AllByRecursion P (xs ++ ys)
+all_append P [] ys h k = k
+all_append P (x ∷ xs) ys h k = (h.0, all_append P xs ys h.1 k)
+
 pub all_more : {X : Type 0} (P : X → Type 0) (xs : List X) (x : X)
     → AllByRecursion P xs → P x → AllByRecursion P (xs ++ x ∷ [])
 all_more P [] x h here = (here, tt)
@@ -53,7 +58,7 @@ pub all_at : {X : Type 0} (P : X → Type 0) (xs : List X) (id : ℕ) (x : X) �
 all_at P xs zero x h e = absurd cc
 all_at P xs (suc place) x h e = all_get P xs place x h e
 
-all_with : {X : Type 0} (P : X → Type 0) (xs : List X) (id : ℕ) (x : X) → AllByRecursion P xs → P x → AllByRecursion P (with_id xs id x)
+pub all_with : {X : Type 0} (P : X → Type 0) (xs : List X) (id : ℕ) (x : X) → AllByRecursion P xs → P x → AllByRecursion P (with_id xs id x)
 all_with P xs zero x h here = h
 all_with P xs (suc place) x h here = all_set P xs place x h here
 

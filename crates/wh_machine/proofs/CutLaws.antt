@@ -1,18 +1,15 @@
 -- Rows one after the other, and the partitions that they are cut into.
 --     entries_append, rows_append         the rows of some entries, and then of more
---     length_numbered, length_cut         how many there are
 --     cut_joined                          the rows of the partitions are those that were cut
---     without_none                        where no number is removed, all partitions stay
 use Rattle.std.proofs.Common.{◌≡◌, ℕ, zero, suc, ◌+◌, ◌*◌, ◌≤◌, List, [], ◌∷◌, ◌++◌, length, take, drop, refl, ap, ◌∙◌, arith}
 use Rattle.std.specs.List.{flat_map}
 use Rattle.std.specs.FinMap.{empty, insert}
 use Rattle.std.proofs.lemmas.List.{take-append-drop, length-drop}
 use Rattle.std.proofs.lemmas.List.Concat.{flat_map-append}
 use Rattle.wh_value.specs.Value.{Row}
-use Rattle.wh_frame.specs.Partition.{Partition, numbered, partitions_of, cut, cut_into}
+use Rattle.wh_frame.specs.Partition.{Partition, partitions_of, cut, cut_into}
 use Rattle.wh_machine.specs.State.{Rows, with_entries}
 use Rattle.wh_machine.specs.Stored.{rows_of}
-use Rattle.wh_machine.specs.Edits.{without}
 
 pub entries_append : (rows : Rows) (xs ys : List (ℕ × Row)) → with_entries rows (xs ++ ys) ≡ with_entries (with_entries rows xs) ys
 entries_append rows [] ys = refl
@@ -22,17 +19,6 @@ pub rows_append : (ps qs : List Partition) → rows_of (ps ++ qs) ≡ with_entri
 rows_append ps qs =
     ap (with_entries empty) (flat_map-append (λ (p : Partition). p.rows) ps qs)
     ∙ entries_append empty (flat_map (λ p. p.rows) ps) (flat_map (λ p. p.rows) qs)
-
-pub length_numbered : (next : ℕ) (rows : List Row) → length (numbered next rows) ≡ length rows
-length_numbered next [] = refl
-length_numbered next (row ∷ rows) = ap suc (length_numbered (next + 1) rows)
-
-length_into : (next count : ℕ) (rows : List (ℕ × Row)) → length (cut_into next count rows) ≡ count
-length_into next zero rows = refl
-length_into next (suc count) rows = ap suc (length_into (next + 1) count (drop 1000 rows))
-
-pub length_cut : (next : ℕ) (rows : List (ℕ × Row)) → length (cut next rows) ≡ partitions_of (length rows)
-length_cut next rows = length_into next (partitions_of (length rows)) rows
 
 -- none is left over where there are enough partitions
 joined_into : (next count : ℕ) (rows : List (ℕ × Row)) → length rows ≤ count * 1000 → flat_map (λ p. p.rows) (cut_into next count rows) ≡ rows
@@ -47,7 +33,3 @@ enough count = omega arith
 
 pub cut_joined : (next : ℕ) (rows : List (ℕ × Row)) → flat_map (λ p. p.rows) (cut next rows) ≡ rows
 cut_joined next rows = joined_into next (partitions_of (length rows)) rows (enough (length rows))
-
-pub without_none : (ps : List Partition) → without [] ps ≡ ps
-without_none [] = refl
-without_none (p ∷ ps) = ap (p ∷◌) (without_none ps)

@@ -169,7 +169,7 @@ rise_from : (least most : ℕ) → least ≤ most → (ns : List ℕ) → Number
 rise_from least most h [] rise = tt
 rise_from least most h (n ∷ ns) rise = (omega (arith, rise.0), rise.1, rise.2)
 
-rise_filter : (test : Partition → Bool) (least : ℕ) (ps : List Partition) → NumbersRiseFrom least (map (λ p. p.number) ps)
+pub rise_filter : (test : Partition → Bool) (least : ℕ) (ps : List Partition) → NumbersRiseFrom least (map (λ p. p.number) ps)
     → NumbersRiseFrom least (map (λ p. p.number) (filter test ps))
 rise_filter test least [] rise = tt
 rise_filter test least (p ∷ ps) rise = by_test (test p) (rise_filter test (p.number + 1) ps rise.2)

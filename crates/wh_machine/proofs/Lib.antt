@@ -6,7 +6,14 @@ pub mod EditLaws
 pub mod VersionLaws
 pub mod MeaningLaws
 pub mod ActLaws
+pub mod OrderlyLaws
 pub mod OutcomeLaws
 pub mod StepLaws
 pub mod SoundLaws
 pub mod ReplyLaws
+pub mod KnownFacts
+pub mod KnownTests
+pub mod KnownCommits
+pub mod KnownStops
+pub mod KnownEdits
+pub mod KnownChanges

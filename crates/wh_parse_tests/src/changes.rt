@@ -1,209 +1,189 @@
-use crate::texts::print_column;
+use crate::reading::{Part, assert_none, assert_read};
+use crate::texts::Printer;
+use sqlite_items::Boxed;
 use std::alloc::Global;
 use std::test::Fail;
 use wh_ast::{Assignment, Dml, Expr, MergeClause, Operator, Rows, Source};
 use wh_cursor::{ParseFault, Words};
 use wh_dml_parse::{dml, names};
-use wh_lex::tokens;
-use wh_value::{Bytes, Comparison, Text, print_literal};
+use wh_value::{Comparison, Text};
 
 /// An expression of constants, columns, sums and comparisons for equality.
-fn print(x: &Expr, out: &mut Bytes) -> Result<(), Fail> {
+fn print(x: &Expr, out: &mut Printer) {
     match x {
-        Expr::Const(value) => print_literal(value, out)?,
-        Expr::Column(entry, name) => print_column(entry, name, out)?,
+        Expr::Const(value) => out.literal(value),
+        Expr::Column(entry, name) => out.column(entry, name),
         Expr::Binary(Operator::Add, x, y) => {
-            print(x.get(), out)?;
-            out.extend(b"+")?;
-            print(y.get(), out)?;
+            print(x.get(), out);
+            out.put(b"+");
+            print(y.get(), out);
         }
         Expr::Binary(Operator::Compare(Comparison::Equal), x, y) => {
-            print(x.get(), out)?;
-            out.extend(b"=")?;
-            print(y.get(), out)?;
+            print(x.get(), out);
+            out.put(b"=");
+            print(y.get(), out);
         }
-        _ => out.extend(b"?")?,
+        _ => out.put(b"?"),
     }
-    Ok(())
 }
 
 /// Each behind a blank.
-fn print_row(row: &[Expr], out: &mut Bytes) -> Result<(), Fail> {
+fn print_row(row: &[Expr], out: &mut Printer) {
     for x in row {
-        out.extend(b" ")?;
-        print(x, out)?;
+        out.put(b" ");
+        print(x, out);
     }
-    Ok(())
 }
 
-fn print_names(names: &[Text], out: &mut Bytes) -> Result<(), Fail> {
+fn print_names(names: &[Text], out: &mut Printer) {
     for name in names {
-        out.extend(b" ")?;
-        out.extend(name.as_bytes())?;
+        out.put(b" ");
+        out.put(name.as_bytes());
     }
-    Ok(())
 }
 
 /// ` columns` and their names, if they are written.
-fn print_columns(columns: Option<&[Text]>, out: &mut Bytes) -> Result<(), Fail> {
+fn print_columns(columns: Option<&[Text]>, out: &mut Printer) {
     if let Some(columns) = columns {
-        out.extend(b" columns")?;
-        print_names(columns, out)?;
+        out.put(b" columns");
+        print_names(columns, out);
     }
-    Ok(())
 }
 
 /// A condition behind a word, if there is one.
-fn print_condition(word: &[u8], condition: &Option<Expr>, out: &mut Bytes) -> Result<(), Fail> {
+fn print_condition(word: &[u8], condition: &Option<Expr>, out: &mut Printer) {
     if let Some(x) = condition {
-        out.extend(word)?;
-        print(x, out)?;
+        out.put(word);
+        print(x, out);
     }
-    Ok(())
 }
 
-fn print_set(set: &[Assignment], out: &mut Bytes) -> Result<(), Fail> {
+fn print_set(set: &[Assignment], out: &mut Printer) {
     for assignment in set {
-        out.extend(b" ")?;
-        out.extend(assignment.column.as_bytes())?;
-        out.extend(b":=")?;
-        print(&assignment.value, out)?;
+        out.put(b" ");
+        out.put(assignment.column.as_bytes());
+        out.put(b":=");
+        print(&assignment.value, out);
     }
-    Ok(())
 }
 
-fn print_rows(rows: &Rows, out: &mut Bytes) -> Result<(), Fail> {
+fn print_rows(rows: &Rows, out: &mut Printer) {
     match rows {
         Rows::Values(rows) => {
             for row in rows.as_slice() {
-                out.extend(b" row")?;
-                print_row(row.as_slice(), out)?;
+                out.put(b" row");
+                print_row(row.as_slice(), out);
             }
         }
         Rows::Query(query) => {
-            out.extend(b" query of ")?;
-            out.extend_decimal(query.cores.len() as u64)?;
+            out.put(b" query of ");
+            out.decimal(query.cores.len() as u64);
         }
     }
-    Ok(())
 }
 
-fn print_alias(alias: &Option<Text>, out: &mut Bytes) -> Result<(), Fail> {
+fn print_alias(alias: &Option<Text>, out: &mut Printer) {
     if let Some(alias) = alias {
-        out.extend(b" as ")?;
-        out.extend(alias.as_bytes())?;
+        out.put(b" as ");
+        out.put(alias.as_bytes());
     }
-    Ok(())
 }
 
-fn print_source(source: &Source, out: &mut Bytes) -> Result<(), Fail> {
+fn print_source(source: &Source, out: &mut Printer) {
     match source {
         Source::Named(name, alias) => {
-            out.extend(name.as_bytes())?;
-            print_alias(alias, out)?;
+            out.put(name.as_bytes());
+            print_alias(alias, out);
         }
         Source::Subquery(_, alias) => {
-            out.extend(b"query as ")?;
-            out.extend(alias.as_bytes())?;
+            out.put(b"query as ");
+            out.put(alias.as_bytes());
         }
     }
-    Ok(())
 }
 
-fn print_clause(clause: &MergeClause, out: &mut Bytes) -> Result<(), Fail> {
+fn print_clause(clause: &MergeClause, out: &mut Printer) {
     match clause {
         MergeClause::Update(condition, set) => {
-            out.extend(b" | update")?;
-            print_set(set.as_slice(), out)?;
-            print_condition(b" if ", condition, out)?;
+            out.put(b" | update");
+            print_set(set.as_slice(), out);
+            print_condition(b" if ", condition, out);
         }
         MergeClause::Delete(condition) => {
-            out.extend(b" | delete")?;
-            print_condition(b" if ", condition, out)?;
+            out.put(b" | delete");
+            print_condition(b" if ", condition, out);
         }
         MergeClause::Insert(condition, columns, row) => {
-            out.extend(b" | insert")?;
-            print_columns(columns.as_ref().map(|names| names.as_slice()), out)?;
-            out.extend(b" row")?;
-            print_row(row.as_slice(), out)?;
-            print_condition(b" if ", condition, out)?;
+            out.put(b" | insert");
+            print_columns(columns.as_ref().map(|names| names.as_slice()), out);
+            out.put(b" row");
+            print_row(row.as_slice(), out);
+            print_condition(b" if ", condition, out);
         }
     }
-    Ok(())
 }
 
-fn print_dml(x: &Dml, out: &mut Bytes) -> Result<(), Fail> {
+fn print_dml(x: &Dml, out: &mut Printer) {
     match x {
         Dml::Insert(table, columns, rows) => {
-            out.extend(b"insert ")?;
-            out.extend(table.as_bytes())?;
-            print_columns(columns.as_ref().map(|names| names.as_slice()), out)?;
-            print_rows(rows, out)?;
+            out.put(b"insert ");
+            out.put(table.as_bytes());
+            print_columns(columns.as_ref().map(|names| names.as_slice()), out);
+            print_rows(rows, out);
         }
         Dml::Update(table, set, filter) => {
-            out.extend(b"update ")?;
-            out.extend(table.as_bytes())?;
-            print_set(set.as_slice(), out)?;
-            print_condition(b" where ", filter, out)?;
+            out.put(b"update ");
+            out.put(table.as_bytes());
+            print_set(set.as_slice(), out);
+            print_condition(b" where ", filter, out);
         }
         Dml::Delete(table, filter) => {
-            out.extend(b"delete ")?;
-            out.extend(table.as_bytes())?;
-            print_condition(b" where ", filter, out)?;
+            out.put(b"delete ");
+            out.put(table.as_bytes());
+            print_condition(b" where ", filter, out);
         }
         Dml::Merge(target, alias, source, on, clauses) => {
-            out.extend(b"merge ")?;
-            out.extend(target.as_bytes())?;
-            print_alias(alias, out)?;
-            out.extend(b" using ")?;
-            print_source(source, out)?;
-            out.extend(b" on ")?;
-            print(on, out)?;
+            out.put(b"merge ");
+            out.put(target.as_bytes());
+            print_alias(alias, out);
+            out.put(b" using ");
+            print_source(source, out);
+            out.put(b" on ");
+            print(on, out);
             for clause in clauses.as_slice() {
-                print_clause(clause, out)?;
+                print_clause(clause, out);
             }
         }
     }
+}
+
+/// The INSERT, UPDATE, DELETE or MERGE.
+pub(crate) fn read_dml(
+    alloc: Global,
+    words: &mut Words<'_>,
+    depth: usize,
+    out: &mut Printer,
+) -> Result<(), ParseFault> {
+    let found = Boxed::new(alloc, dml(alloc, words, depth)?)?;
+    print_dml(found.get(), out);
     Ok(())
 }
 
-/// The statement that a text is, or `none`.
-fn read(alloc: Global, text: &[u8], depth: usize) -> Result<Bytes, Fail> {
-    let mut out = Bytes::new(alloc);
-    let all = match tokens(alloc, text) {
-        Ok(all) => all,
-        Err(_) => return Ok(out),
-    };
-    let mut words = Words::new(&all);
-    match dml(alloc, &mut words, depth) {
-        Ok(x) => print_dml(&x, &mut out)?,
-        Err(ParseFault::SyntaxError) => out.extend(b"none")?,
-        Err(ParseFault::OutOfMemory) => out.extend(b"no memory")?,
-    }
-    Ok(out)
-}
-
-/// The names at the front of a text, and how many tokens are left.
-fn read_names(alloc: Global, text: &[u8]) -> Result<Bytes, Fail> {
-    let mut out = Bytes::new(alloc);
-    let all = match tokens(alloc, text) {
-        Ok(all) => all,
-        Err(_) => return Ok(out),
-    };
-    let mut words = Words::new(&all);
-    match names(alloc, &mut words) {
-        Ok(found) => {
-            out.extend_decimal(words.rest().len() as u64)?;
-            print_names(found.as_slice(), &mut out)?;
-        }
-        Err(_) => out.extend(b"none")?,
-    }
-    Ok(out)
+/// How many tokens are left behind the names, and the names.
+pub(crate) fn read_names(
+    alloc: Global,
+    words: &mut Words<'_>,
+    out: &mut Printer,
+) -> Result<(), ParseFault> {
+    let found = names(alloc, words)?;
+    out.decimal(words.rest().len() as u64);
+    print_names(found.as_slice(), out);
+    Ok(())
 }
 
 #[test]
 fn statements_are_read(rt: HostRuntime) -> Result<(), Fail> {
-    let cases = [
+    let cases = &[
         (
             "rows in their order",
             "INSERT INTO t VALUES (1, 'a'), (2 + 3, NULL)",
@@ -256,17 +236,12 @@ fn statements_are_read(rt: HostRuntime) -> Result<(), Fail> {
             "merge T using query as Y on A=1 | delete",
         ),
     ];
-    let alloc = rt.alloc();
-    for (name, text, want) in cases {
-        let found = read(alloc, text.as_bytes(), 64)?;
-        assert_eq!(rt; found.as_slice(), want.as_bytes(), "{name}");
-    }
-    Ok(())
+    assert_read(&rt, rt.alloc(), Part::Dml, 64, cases)
 }
 
 #[test]
 fn other_tokens_are_none(rt: HostRuntime) -> Result<(), Fail> {
-    let cases = [
+    let cases = &[
         ("nothing", ""),
         ("a query", "SELECT a FROM t"),
         ("no INTO", "INSERT t VALUES (1)"),
@@ -296,33 +271,26 @@ fn other_tokens_are_none(rt: HostRuntime) -> Result<(), Fail> {
             "MERGE INTO t USING u ON a WHEN NOT MATCHED THEN INSERT VALUES (1), (2)",
         ),
     ];
-    let alloc = rt.alloc();
-    for (name, text) in cases {
-        let found = read(alloc, text.as_bytes(), 64)?;
-        assert_eq!(rt; found.as_slice(), b"none".as_slice(), "{name}");
-    }
-    Ok(())
+    assert_none(&rt, rt.alloc(), Part::Dml, 64, cases)
 }
 
 #[test]
 fn a_row_counts_one_parenthesis(rt: HostRuntime) -> Result<(), Fail> {
-    let cases = [
-        ("none is left", "INSERT INTO t VALUES (1)", 0, "none"),
-        ("one", "INSERT INTO t VALUES (1)", 1, "insert T row 1"),
-        ("two", "INSERT INTO t VALUES ((1))", 1, "none"),
-        ("no row", "DELETE FROM t", 0, "delete T"),
+    let at_depth_0 = &[
+        ("none is left", "INSERT INTO t VALUES (1)", "none"),
+        ("no row", "DELETE FROM t", "delete T"),
     ];
-    let alloc = rt.alloc();
-    for (name, text, depth, want) in cases {
-        let found = read(alloc, text.as_bytes(), depth)?;
-        assert_eq!(rt; found.as_slice(), want.as_bytes(), "{name}");
-    }
-    Ok(())
+    assert_read(&rt, rt.alloc(), Part::Dml, 0, at_depth_0)?;
+    let at_depth_1 = &[
+        ("one", "INSERT INTO t VALUES (1)", "insert T row 1"),
+        ("two", "INSERT INTO t VALUES ((1))", "none"),
+    ];
+    assert_read(&rt, rt.alloc(), Part::Dml, 1, at_depth_1)
 }
 
 #[test]
 fn names_go_on_behind_a_comma(rt: HostRuntime) -> Result<(), Fail> {
-    let cases = [
+    let cases = &[
         ("one", "a", "0 A"),
         ("three", "a, \"b\", sum", "0 A b SUM"),
         ("others behind them", "a, b AS c", "2 A B"),
@@ -330,10 +298,5 @@ fn names_go_on_behind_a_comma(rt: HostRuntime) -> Result<(), Fail> {
         ("a call", "a, sum (b)", "none"),
         ("a reserved word", "select", "none"),
     ];
-    let alloc = rt.alloc();
-    for (name, text, want) in cases {
-        let found = read_names(alloc, text.as_bytes())?;
-        assert_eq!(rt; found.as_slice(), want.as_bytes(), "{name}");
-    }
-    Ok(())
+    assert_read(&rt, rt.alloc(), Part::Names, 0, cases)
 }

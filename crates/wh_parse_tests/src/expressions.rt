@@ -1,11 +1,12 @@
-use crate::texts::{print_column, repeated};
+use crate::reading::{Part, assert_most, assert_none, assert_read, print_left};
+use crate::texts::{Pieces, Printer};
+use sqlite_items::Boxed;
 use std::alloc::Global;
 use std::test::Fail;
 use wh_ast::{Expr, Operator};
 use wh_cursor::{Key, ParseFault, Words, name};
 use wh_expr_parse::expr;
-use wh_lex::tokens;
-use wh_value::{Bytes, Comparison, Text, print_literal};
+use wh_value::Comparison;
 
 fn sign(operator: Operator) -> &'static [u8] {
     match operator {
@@ -24,99 +25,92 @@ fn sign(operator: Operator) -> &'static [u8] {
 }
 
 /// A test's word, behind NOT where it is negated.
-fn print_word(negated: bool, word: &[u8], out: &mut Bytes) -> Result<(), Fail> {
+fn print_word(negated: bool, word: &[u8], out: &mut Printer) {
     if negated {
-        out.extend(b" NOT")?;
+        out.put(b" NOT");
     }
-    out.extend(word)?;
-    Ok(())
+    out.put(word);
 }
 
 /// An expression with all its parentheses.
-fn print(x: &Expr, out: &mut Bytes) -> Result<(), Fail> {
-    out.extend(b"(")?;
+fn print(x: &Expr, out: &mut Printer) {
+    out.put(b"(");
     match x {
-        Expr::Const(value) => print_literal(value, out)?,
-        Expr::Column(entry, name) => print_column(entry, name, out)?,
+        Expr::Const(value) => out.literal(value),
+        Expr::Column(entry, name) => out.column(entry, name),
         Expr::Neg(x) => {
-            out.extend(b"-")?;
-            print(x.get(), out)?;
+            out.put(b"-");
+            print(x.get(), out);
         }
         Expr::Not(x) => {
-            out.extend(b"NOT ")?;
-            print(x.get(), out)?;
+            out.put(b"NOT ");
+            print(x.get(), out);
         }
         Expr::Binary(operator, x, y) => {
-            print(x.get(), out)?;
-            out.extend(sign(*operator))?;
-            print(y.get(), out)?;
+            print(x.get(), out);
+            out.put(sign(*operator));
+            print(y.get(), out);
         }
         Expr::IsNull(negated, x) => {
-            print(x.get(), out)?;
-            out.extend(b" IS")?;
-            print_word(*negated, b" NULL", out)?;
+            print(x.get(), out);
+            out.put(b" IS");
+            print_word(*negated, b" NULL", out);
         }
         Expr::In(negated, x, items) => {
-            print(x.get(), out)?;
-            print_word(*negated, b" IN", out)?;
+            print(x.get(), out);
+            print_word(*negated, b" IN", out);
             for item in items.as_slice() {
-                out.extend(b" ")?;
-                print(item, out)?;
+                out.put(b" ");
+                print(item, out);
             }
         }
         Expr::Between(negated, x, least, greatest) => {
-            print(x.get(), out)?;
-            print_word(*negated, b" BETWEEN ", out)?;
-            print(least.get(), out)?;
-            out.extend(b" ")?;
-            print(greatest.get(), out)?;
+            print(x.get(), out);
+            print_word(*negated, b" BETWEEN ", out);
+            print(least.get(), out);
+            out.put(b" ");
+            print(greatest.get(), out);
         }
         Expr::Sum(x) => {
-            out.extend(b"SUM ")?;
-            print(x.get(), out)?;
+            out.put(b"SUM ");
+            print(x.get(), out);
         }
-        Expr::CountRows => out.extend(b"COUNT *")?,
+        Expr::CountRows => out.put(b"COUNT *"),
         Expr::Count(x) => {
-            out.extend(b"COUNT ")?;
-            print(x.get(), out)?;
+            out.put(b"COUNT ");
+            print(x.get(), out);
         }
     }
-    out.extend(b")")?;
+    out.put(b")");
+}
+
+/// The expression, and how many tokens are left.
+pub(crate) fn read_expr(
+    alloc: Global,
+    words: &mut Words<'_>,
+    depth: usize,
+    out: &mut Printer,
+) -> Result<(), ParseFault> {
+    let found = Boxed::new(alloc, expr(alloc, words, depth)?)?;
+    print(found.get(), out);
+    print_left(words, out);
     Ok(())
 }
 
-/// The expression at the front of a text, or `none`, and how many tokens are left.
-fn read(alloc: Global, text: &[u8], depth: usize) -> Result<Bytes, Fail> {
-    let all = tokens(alloc, text)?;
-    let mut out = Bytes::new(alloc);
-    let mut words = Words::new(&all);
-    match expr(alloc, &mut words, depth) {
-        Ok(x) => {
-            print(&x, &mut out)?;
-            out.extend(b" ")?;
-            out.extend_decimal(words.rest().len() as u64)?;
-        }
-        Err(ParseFault::SyntaxError) => out.extend(b"none")?,
-        Err(ParseFault::OutOfMemory) => out.extend(b"no memory")?,
-    }
-    Ok(out)
-}
-
-/// The name at the front of a text, or `none`.
-fn read_name(alloc: Global, text: &[u8]) -> Result<Bytes, Fail> {
-    let all = tokens(alloc, text)?;
-    let mut out = Bytes::new(alloc);
-    let mut words = Words::new(&all);
-    match name(alloc, &mut words) {
-        Ok(found) => out.extend(found.as_bytes())?,
-        Err(_) => out.extend(b"none")?,
-    }
-    Ok(out)
+/// The name.
+pub(crate) fn read_name(
+    alloc: Global,
+    words: &mut Words<'_>,
+    out: &mut Printer,
+) -> Result<(), ParseFault> {
+    let found = name(alloc, words)?;
+    out.put(found.as_bytes());
+    Ok(())
 }
 
 #[test]
 fn expressions_group_by_precedence(rt: HostRuntime) -> Result<(), Fail> {
-    let cases = [
+    let cases = &[
         ("OR and AND", "a OR b AND c", "((A) OR ((B) AND (C))) 0"),
         ("AND and OR", "a AND b OR c", "(((A) AND (B)) OR (C)) 0"),
         ("AND and NOT", "NOT a AND b", "((NOT (A)) AND (B)) 0"),
@@ -160,17 +154,12 @@ fn expressions_group_by_precedence(rt: HostRuntime) -> Result<(), Fail> {
         ),
         ("what follows", "a, b", "(A) 2"),
     ];
-    let alloc = rt.alloc();
-    for (name, text, want) in cases {
-        let found = read(alloc, text.as_bytes(), 64)?;
-        assert_eq!(rt; found.as_slice(), want.as_bytes(), "{name}");
-    }
-    Ok(())
+    assert_read(&rt, rt.alloc(), Part::Expr, 64, cases)
 }
 
 #[test]
 fn other_tokens_are_none(rt: HostRuntime) -> Result<(), Fail> {
-    let cases = [
+    let cases = &[
         ("nothing", ""),
         ("no operand", "a + * b"),
         ("a second comparison", "a = b = c"),
@@ -182,111 +171,83 @@ fn other_tokens_are_none(rt: HostRuntime) -> Result<(), Fail> {
         ("IS without NULL", "a IS b"),
         ("NOT behind a sum", "a NOT b"),
     ];
-    let alloc = rt.alloc();
-    for (name, text) in cases {
-        let found = read(alloc, text.as_bytes(), 64)?;
-        assert_eq!(rt; found.as_slice(), b"none".as_slice(), "{name}");
-    }
-    Ok(())
+    assert_none(&rt, rt.alloc(), Part::Expr, 64, cases)
 }
 
 #[test]
 fn names_are_words_that_are_not_reserved(rt: HostRuntime) -> Result<(), Fail> {
-    let cases = [
+    let cases = &[
         ("a word", "t", "T"),
         ("a quoted name", "\"select\"", "select"),
         ("SUM", "sum", "SUM"),
         ("a call", "sum (a)", "none"),
         ("a reserved word", "select", "none"),
     ];
-    let alloc = rt.alloc();
-    for (name, text, want) in cases {
-        let found = read_name(alloc, text.as_bytes())?;
-        assert_eq!(rt; found.as_slice(), want.as_bytes(), "{name}");
-    }
-    Ok(())
-}
-
-/// Whether an expression stands at the front of a text.
-fn is_read(alloc: Global, text: &[u8], depth: usize) -> Result<bool, Fail> {
-    let all = tokens(alloc, text)?;
-    let mut words = Words::new(&all);
-    Ok(expr(alloc, &mut words, depth).is_ok())
+    assert_read(&rt, rt.alloc(), Part::Name, 0, cases)
 }
 
 #[test]
 fn as_many_stand_inside_one_another_as_the_depth_says(rt: HostRuntime) -> Result<(), Fail> {
-    let alloc = rt.alloc();
-    for (count, want) in [(64, true), (65, false)] {
-        let closes = repeated(alloc, b"a", count, b")", b"")?;
-        let text = repeated(alloc, b"", count, b"(", closes.as_slice())?;
-        assert_eq!(rt;
-            is_read(alloc, text.as_slice(), 64)?,
-            want,
-            "{count} parentheses"
-        );
-    }
-    assert_eq!(rt; is_read(alloc, b"COUNT (*)", 1)?, true);
-    assert_eq!(rt; is_read(alloc, b"COUNT (*)", 0)?, false);
-    Ok(())
+    const CASES: &[(&str, usize, Pieces)] = &[("parentheses", 64, ["", "(", "a", ")", ""])];
+    assert_most(&rt, rt.alloc(), Part::Expr, CASES)
+}
+
+#[test]
+fn the_parenthesis_of_a_call_counts(rt: HostRuntime) -> Result<(), Fail> {
+    let deep = &[("a call", "COUNT (*)", "(COUNT *) 0")];
+    assert_read(&rt, rt.alloc(), Part::Expr, 1, deep)?;
+    assert_none(&rt, rt.alloc(), Part::Expr, 0, &[("a call", "COUNT (*)")])
 }
 
 #[test]
 fn at_most_1000_operators_and_items_are_read(rt: HostRuntime) -> Result<(), Fail> {
-    let alloc = rt.alloc();
-    for (count, want) in [(1000, true), (1001, false)] {
-        let text = repeated(alloc, b"a", count, b"+a", b"")?;
-        assert_eq!(rt;
-            is_read(alloc, text.as_slice(), 64)?,
-            want,
-            "{count} operators"
-        );
-    }
-    for (count, want) in [(998, true), (999, false)] {
-        let text = repeated(alloc, b"a IN (b", count, b",b", b")")?;
-        assert_eq!(rt;
-            is_read(alloc, text.as_slice(), 64)?,
-            want,
-            "{count} items more"
-        );
-    }
-    Ok(())
+    const CASES: &[(&str, usize, Pieces)] = &[
+        ("operators", 1000, ["a", "", "", "+a", ""]),
+        ("items more", 998, ["a IN (b", "", "", ",b", ")"]),
+    ];
+    assert_most(&rt, rt.alloc(), Part::Expr, CASES)
 }
 
-/// Takes `SET [NOT] word = [-] number , text`, and adds what it took.
-fn take_setting(alloc: Global, words: &mut Words<'_>, out: &mut Bytes) -> Result<(), ParseFault> {
+/// Takes `SET [NOT] word = [-] number , text`, and prints what it took.
+fn take_setting(alloc: Global, words: &mut Words<'_>, out: &mut Printer) -> Result<(), ParseFault> {
     words.expect_word(b"SET")?;
     if words.eat_word(b"NOT") {
-        out.extend(b"not ")?;
+        out.put(b"not ");
     }
-    out.extend(words.word(alloc)?.as_bytes())?;
+    let word = words.word(alloc)?;
+    out.put(word.as_bytes());
+    take_value(alloc, words, out)
+}
+
+fn take_value(alloc: Global, words: &mut Words<'_>, out: &mut Printer) -> Result<(), ParseFault> {
     words.expect(Key::Equal)?;
     if words.eat(Key::Minus) {
-        out.extend(b"-")?;
+        out.put(b"-");
     }
-    out.extend_decimal(words.number()?)?;
+    out.decimal(words.number()?);
     words.expect(Key::Comma)?;
-    out.extend(words.text(alloc)?.as_bytes())?;
+    let text = words.text(alloc)?;
+    out.put(text.as_bytes());
     Ok(())
 }
 
-/// What steps took from a text, up to one that found something else.
-fn taken(alloc: Global, text: &[u8]) -> Result<Bytes, Fail> {
-    let all = tokens(alloc, text)?;
-    let mut out = Bytes::new(alloc);
-    let mut words = Words::new(&all);
-    match take_setting(alloc, &mut words, &mut out) {
-        Ok(()) => out.extend(b".")?,
-        Err(ParseFault::SyntaxError) => out.extend(b"?")?,
-        Err(ParseFault::OutOfMemory) => out.extend(b"no memory")?,
+/// What steps took, up to one that found something else.
+pub(crate) fn read_setting(
+    alloc: Global,
+    words: &mut Words<'_>,
+    out: &mut Printer,
+) -> Result<(), ParseFault> {
+    match take_setting(alloc, words, out) {
+        Ok(()) => out.put(b"."),
+        Err(ParseFault::SyntaxError) => out.put(b"?"),
+        Err(ParseFault::OutOfMemory) => out.put(b"no memory"),
     }
-    Ok(out)
+    Ok(())
 }
 
 #[test]
 fn steps_take_what_comes_next(rt: HostRuntime) -> Result<(), Fail> {
-    let alloc = rt.alloc();
-    let cases = [
+    let cases = &[
         ("each step", "set a = 12, 'x'", "A12x."),
         (
             "with what may stand there",
@@ -301,9 +262,5 @@ fn steps_take_what_comes_next(rt: HostRuntime) -> Result<(), Fail> {
         ("a word for a number", "set a = b, 'x'", "A?"),
         ("a word for a text", "set a = 12, x", "A12?"),
     ];
-    for (name, text, want) in cases {
-        let found = taken(alloc, text.as_bytes())?;
-        assert_eq!(rt; found.as_slice(), want.as_bytes(), "{name}");
-    }
-    Ok(())
+    assert_read(&rt, rt.alloc(), Part::Setting, 0, cases)
 }

@@ -10,6 +10,8 @@ mod options;
 #[cfg(test)]
 mod queries;
 #[cfg(test)]
+mod reading;
+#[cfg(test)]
 mod statements;
 #[cfg(test)]
 mod texts;

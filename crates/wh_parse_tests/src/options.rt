@@ -1,54 +1,44 @@
-use std::alloc::{AllocError, Global};
+use crate::reading::{Part, assert_most, assert_read, print_left, read};
+use crate::texts::{Pieces, Printer};
+use sqlite_items::Boxed;
+use std::alloc::Global;
 use std::test::Fail;
 use wh_ast::{Condition, Initialize, Lag, RefreshMode};
 use wh_cursor::{ParseFault, Words};
-use wh_lex::tokens;
 use wh_option_parse::{asked, condition, lag, table_options, task_options};
 use wh_value::Bytes;
 
-/// What is looked for at the front of a text.
-#[derive(Clone, Copy)]
-enum Part {
-    Lag,
-    Asked,
-    Condition,
-    TaskOptions,
-    TableOptions,
-}
-
-fn print_lag(lag: Lag, out: &mut Bytes) -> Result<(), AllocError> {
+fn print_lag(lag: Lag, out: &mut Printer) {
     match lag {
-        Lag::Downstream => out.extend(b"downstream")?,
-        Lag::Seconds(seconds) => out.extend_decimal(seconds)?,
+        Lag::Downstream => out.put(b"downstream"),
+        Lag::Seconds(seconds) => out.decimal(seconds),
     }
-    Ok(())
 }
 
 /// A condition with all its parentheses.
-fn print(x: &Condition, out: &mut Bytes) -> Result<(), AllocError> {
+fn print(x: &Condition, out: &mut Printer) {
     match x {
         Condition::Or(x, y) => {
-            out.extend(b"(")?;
-            print(x.get(), out)?;
-            out.extend(b" OR ")?;
-            print(y.get(), out)?;
-            out.extend(b")")?;
+            out.put(b"(");
+            print(x.get(), out);
+            out.put(b" OR ");
+            print(y.get(), out);
+            out.put(b")");
         }
         Condition::And(x, y) => {
-            out.extend(b"(")?;
-            print(x.get(), out)?;
-            out.extend(b" AND ")?;
-            print(y.get(), out)?;
-            out.extend(b")")?;
+            out.put(b"(");
+            print(x.get(), out);
+            out.put(b" AND ");
+            print(y.get(), out);
+            out.put(b")");
         }
         Condition::Not(x) => {
-            out.extend(b"(NOT ")?;
-            print(x.get(), out)?;
-            out.extend(b")")?;
+            out.put(b"(NOT ");
+            print(x.get(), out);
+            out.put(b")");
         }
-        Condition::HasData(name) => out.extend(name.as_bytes())?,
+        Condition::HasData(name) => out.put(name.as_bytes()),
     }
-    Ok(())
 }
 
 fn mode_word(mode: RefreshMode) -> &'static [u8] {
@@ -66,54 +56,68 @@ fn initialize_word(initialize: Initialize) -> &'static [u8] {
     }
 }
 
-/// Takes it, and prints what it is.
-fn read_part(
+pub(crate) fn read_asked(
     alloc: Global,
-    part: Part,
     words: &mut Words<'_>,
-    depth: usize,
-    out: &mut Bytes,
+    out: &mut Printer,
 ) -> Result<(), ParseFault> {
-    match part {
-        Part::Lag => print_lag(lag(alloc, words)?, out)?,
-        Part::Asked => out.extend(asked(alloc, words)?.as_bytes())?,
-        Part::Condition => print(&condition(alloc, words, depth)?, out)?,
-        Part::TaskOptions => match task_options(alloc, words)? {
-            Some(minutes) => out.extend_decimal(minutes)?,
-            None => out.extend(b"no schedule")?,
-        },
-        Part::TableOptions => {
-            let options = table_options(alloc, words)?;
-            print_lag(options.lag, out)?;
-            out.extend(mode_word(options.mode))?;
-            out.extend(initialize_word(options.initialize))?;
-        }
-    }
+    let name = asked(alloc, words)?;
+    out.put(name.as_bytes());
+    print_left(words, out);
     Ok(())
 }
 
-/// What stands at the front of a text, and how many tokens are left; or `none`.
-fn read(alloc: Global, part: Part, text: &[u8], depth: usize) -> Result<Bytes, Fail> {
-    let mut out = Bytes::new(alloc);
-    let all = match tokens(alloc, text) {
-        Ok(all) => all,
-        Err(_) => return Ok(out),
-    };
-    let mut words = Words::new(&all);
-    match read_part(alloc, part, &mut words, depth, &mut out) {
-        Ok(()) => {
-            out.extend(b" ")?;
-            out.extend_decimal(words.rest().len() as u64)?;
-        }
-        Err(ParseFault::SyntaxError) => out.extend(b"none")?,
-        Err(ParseFault::OutOfMemory) => out.extend(b"no memory")?,
+pub(crate) fn read_condition(
+    alloc: Global,
+    words: &mut Words<'_>,
+    depth: usize,
+    out: &mut Printer,
+) -> Result<(), ParseFault> {
+    let found = Boxed::new(alloc, condition(alloc, words, depth)?)?;
+    print(found.get(), out);
+    print_left(words, out);
+    Ok(())
+}
+
+pub(crate) fn read_lag(
+    alloc: Global,
+    words: &mut Words<'_>,
+    out: &mut Printer,
+) -> Result<(), ParseFault> {
+    print_lag(lag(alloc, words)?, out);
+    print_left(words, out);
+    Ok(())
+}
+
+pub(crate) fn read_task_options(
+    alloc: Global,
+    words: &mut Words<'_>,
+    out: &mut Printer,
+) -> Result<(), ParseFault> {
+    match task_options(alloc, words)? {
+        Some(minutes) => out.decimal(minutes),
+        None => out.put(b"no schedule"),
     }
-    Ok(out)
+    print_left(words, out);
+    Ok(())
+}
+
+pub(crate) fn read_table_options(
+    alloc: Global,
+    words: &mut Words<'_>,
+    out: &mut Printer,
+) -> Result<(), ParseFault> {
+    let options = table_options(alloc, words)?;
+    print_lag(options.lag, out);
+    out.put(mode_word(options.mode));
+    out.put(initialize_word(options.initialize));
+    print_left(words, out);
+    Ok(())
 }
 
 #[test]
 fn a_lag_is_downstream_or_a_span(rt: HostRuntime) -> Result<(), Fail> {
-    let cases = [
+    let cases = &[
         ("downstream", "downstream AS", "downstream 1"),
         ("seconds", "'90 SECONDS'", "90 0"),
         ("a second", "'1 second'", "1 0"),
@@ -140,17 +144,12 @@ fn a_lag_is_downstream_or_a_span(rt: HostRuntime) -> Result<(), Fail> {
         ("a text", "'DOWNSTREAM'", "none"),
         ("no tokens", "", "none"),
     ];
-    let alloc = rt.alloc();
-    for (name, text, want) in cases {
-        let found = read(alloc, Part::Lag, text.as_bytes(), 64)?;
-        assert_eq!(rt; found.as_slice(), want.as_bytes(), "{name}");
-    }
-    Ok(())
+    assert_read(&rt, rt.alloc(), Part::Lag, 64, cases)
 }
 
 #[test]
 fn a_stream_is_asked_for_by_one_name(rt: HostRuntime) -> Result<(), Fail> {
-    let cases = [
+    let cases = &[
         ("a word", "system$stream_has_data('s_1') AS", "S_1 1"),
         (
             "a quoted name",
@@ -179,32 +178,27 @@ fn a_stream_is_asked_for_by_one_name(rt: HostRuntime) -> Result<(), Fail> {
         ("no close", "SYSTEM$STREAM_HAS_DATA('s'", "none"),
         ("another function", "SYSTEM$HAS_DATA('s')", "none"),
     ];
-    let alloc = rt.alloc();
-    for (name, text, want) in cases {
-        let found = read(alloc, Part::Asked, text.as_bytes(), 64)?;
-        assert_eq!(rt; found.as_slice(), want.as_bytes(), "{name}");
-    }
-    Ok(())
+    assert_read(&rt, rt.alloc(), Part::Asked, 64, cases)
 }
 
 /// The text, where each small letter asks for the stream of that name.
 fn with_asked(alloc: Global, text: &[u8]) -> Result<Bytes, Fail> {
-    let mut out = Bytes::new(alloc);
+    let mut out = Printer::new(alloc);
     for byte in text {
         if *byte >= b'a' && *byte <= b'z' {
-            out.extend(b" SYSTEM$STREAM_HAS_DATA('")?;
-            out.extend(&[*byte])?;
-            out.extend(b"') ")?;
+            out.put(b" SYSTEM$STREAM_HAS_DATA('");
+            out.put(&[*byte]);
+            out.put(b"') ");
         } else {
-            out.extend(&[*byte])?;
+            out.put(&[*byte]);
         }
     }
-    Ok(out)
+    out.finish()
 }
 
 #[test]
 fn conditions_group_by_precedence(rt: HostRuntime) -> Result<(), Fail> {
-    let cases = [
+    let cases = &[
         ("one", "a", "A 0"),
         ("OR and AND", "a OR b AND c", "(A OR (B AND C)) 0"),
         ("AND and OR", "a AND b OR c", "((A AND B) OR C) 0"),
@@ -230,26 +224,17 @@ fn conditions_group_by_precedence(rt: HostRuntime) -> Result<(), Fail> {
 
 #[test]
 fn as_many_stand_inside_one_another_as_the_depth_says(rt: HostRuntime) -> Result<(), Fail> {
-    let alloc = rt.alloc();
-    for (count, is_read) in [(63, true), (64, false)] {
-        let mut text = Bytes::new(alloc);
-        for _turn in 0..count {
-            text.extend(b"NOT ")?;
-        }
-        text.extend(b"SYSTEM$STREAM_HAS_DATA('a')")?;
-        let found = read(alloc, Part::Condition, text.as_slice(), 64)?;
-        assert_eq!(rt;
-            found.as_slice() != b"none".as_slice(),
-            is_read,
-            "{count} times NOT"
-        );
-    }
-    Ok(())
+    const CASES: &[(&str, usize, Pieces)] = &[(
+        "NOT",
+        63,
+        ["", "NOT ", "SYSTEM$STREAM_HAS_DATA('a')", "", ""],
+    )];
+    assert_most(&rt, rt.alloc(), Part::Condition, CASES)
 }
 
 #[test]
 fn options_of_tasks_stand_in_any_order(rt: HostRuntime) -> Result<(), Fail> {
-    let cases = [
+    let cases = &[
         ("none", "AS SELECT", "no schedule 2"),
         ("no tokens", "", "no schedule 0"),
         ("a warehouse", "WAREHOUSE = w AS", "no schedule 1"),
@@ -287,17 +272,12 @@ fn options_of_tasks_stand_in_any_order(rt: HostRuntime) -> Result<(), Fail> {
         ("a reserved word", "WAREHOUSE = select", "none"),
         ("a call", "WAREHOUSE = sum (a)", "none"),
     ];
-    let alloc = rt.alloc();
-    for (name, text, want) in cases {
-        let found = read(alloc, Part::TaskOptions, text.as_bytes(), 64)?;
-        assert_eq!(rt; found.as_slice(), want.as_bytes(), "{name}");
-    }
-    Ok(())
+    assert_read(&rt, rt.alloc(), Part::TaskOptions, 64, cases)
 }
 
 #[test]
 fn options_of_dynamic_tables_stand_in_any_order(rt: HostRuntime) -> Result<(), Fail> {
-    let cases = [
+    let cases = &[
         ("a lag", "TARGET_LAG = '1 DAY' AS", "86400 auto on_create 1"),
         (
             "all four",
@@ -353,10 +333,5 @@ fn options_of_dynamic_tables_stand_in_any_order(rt: HostRuntime) -> Result<(), F
         ),
         ("no equal sign", "TARGET_LAG '1 DAY'", "none"),
     ];
-    let alloc = rt.alloc();
-    for (name, text, want) in cases {
-        let found = read(alloc, Part::TableOptions, text.as_bytes(), 64)?;
-        assert_eq!(rt; found.as_slice(), want.as_bytes(), "{name}");
-    }
-    Ok(())
+    assert_read(&rt, rt.alloc(), Part::TableOptions, 64, cases)
 }

@@ -1,141 +1,125 @@
-use crate::texts::{print_column, repeated};
+use crate::reading::{Part, assert_most, assert_none, assert_read, print_left};
+use crate::texts::{Pieces, Printer};
+use sqlite_items::Boxed;
 use std::alloc::Global;
 use std::test::Fail;
 use wh_ast::{Core, Expr, Item, Join, Query, Source};
 use wh_cursor::{ParseFault, Words};
-use wh_lex::tokens;
 use wh_query_parse::{alias, filter, query, source};
-use wh_value::{Bytes, Text, print_literal};
+use wh_value::Text;
 
-fn print_alias(alias: &Option<Text>, out: &mut Bytes) -> Result<(), Fail> {
+fn print_alias(alias: &Option<Text>, out: &mut Printer) {
     if let Some(alias) = alias {
-        out.extend(b":")?;
-        out.extend(alias.as_bytes())?;
+        out.put(b":");
+        out.put(alias.as_bytes());
     }
-    Ok(())
 }
 
 /// A column or a constant; any other expression as `?`.
-fn print_expr(x: &Expr, out: &mut Bytes) -> Result<(), Fail> {
+fn print_expr(x: &Expr, out: &mut Printer) {
     match x {
-        Expr::Const(value) => print_literal(value, out)?,
-        Expr::Column(entry, name) => print_column(entry, name, out)?,
-        _ => out.extend(b"?")?,
+        Expr::Const(value) => out.literal(value),
+        Expr::Column(entry, name) => out.column(entry, name),
+        _ => out.put(b"?"),
     }
-    Ok(())
 }
 
-fn print_item(item: &Item, out: &mut Bytes) -> Result<(), Fail> {
+fn print_item(item: &Item, out: &mut Printer) {
     match item {
-        Item::Star => out.extend(b"*")?,
+        Item::Star => out.put(b"*"),
         Item::StarOf(name) => {
-            out.extend(name.as_bytes())?;
-            out.extend(b".*")?;
+            out.put(name.as_bytes());
+            out.put(b".*");
         }
         Item::Expr(x, alias) => {
-            print_expr(x, out)?;
-            print_alias(alias, out)?;
+            print_expr(x, out);
+            print_alias(alias, out);
         }
     }
-    Ok(())
 }
 
 #[cycle(print)]
-fn print_source(source: &Source, out: &mut Bytes) -> Result<(), Fail> {
+fn print_source(source: &Source, out: &mut Printer) {
     match source {
         Source::Named(name, alias) => {
-            out.extend(name.as_bytes())?;
-            print_alias(alias, out)?;
+            out.put(name.as_bytes());
+            print_alias(alias, out);
         }
         Source::Subquery(query, alias) => {
-            out.extend(b"(")?;
-            print_query(query.get(), out)?;
-            out.extend(b"):")?;
-            out.extend(alias.as_bytes())?;
+            out.put(b"(");
+            print_query(query.get(), out);
+            out.put(b"):");
+            out.put(alias.as_bytes());
         }
     }
-    Ok(())
 }
 
 #[cycle(print)]
-fn print_join(join: &Join, out: &mut Bytes) -> Result<(), Fail> {
-    out.extend(b" & ")?;
-    print_source(&join.source, out)?;
-    out.extend(b" on ")?;
-    print_expr(&join.on, out)?;
-    Ok(())
+fn print_join(join: &Join, out: &mut Printer) {
+    out.put(b" & ");
+    print_source(&join.source, out);
+    out.put(b" on ");
+    print_expr(&join.on, out);
 }
 
 #[cycle(print)]
-fn print_core(core: &Core, out: &mut Bytes) -> Result<(), Fail> {
-    out.extend(b"[")?;
+fn print_core(core: &Core, out: &mut Printer) {
+    out.put(b"[");
     for item in core.items.as_slice() {
-        print_item(item, out)?;
-        out.extend(b" ")?;
+        print_item(item, out);
+        out.put(b" ");
     }
-    out.extend(b"< ")?;
-    print_source(&core.from, out)?;
+    out.put(b"< ");
+    print_source(&core.from, out);
     for join in core.joins.as_slice() {
-        print_join(join, out)?;
+        print_join(join, out);
     }
     if let Some(filter) = &core.filter {
-        out.extend(b" if ")?;
-        print_expr(filter, out)?;
+        out.put(b" if ");
+        print_expr(filter, out);
     }
     for x in core.group.as_slice() {
-        out.extend(b" by ")?;
-        print_expr(x, out)?;
+        out.put(b" by ");
+        print_expr(x, out);
     }
-    out.extend(b"]")?;
-    Ok(())
+    out.put(b"]");
 }
 
 #[cycle(print)]
-fn print_query(query: &Query, out: &mut Bytes) -> Result<(), Fail> {
+fn print_query(query: &Query, out: &mut Printer) {
     for core in query.cores.as_slice() {
-        print_core(core, out)?;
+        print_core(core, out);
     }
+}
+
+/// The query, and how many tokens are left.
+pub(crate) fn read_query(
+    alloc: Global,
+    words: &mut Words<'_>,
+    depth: usize,
+    out: &mut Printer,
+) -> Result<(), ParseFault> {
+    let found = Boxed::new(alloc, query(alloc, words, depth)?)?;
+    print_query(found.get(), out);
+    print_left(words, out);
     Ok(())
 }
 
-/// The query at the front of a text and how many tokens are left, or `none`.
-fn read(alloc: Global, text: &[u8], depth: usize) -> Result<Bytes, Fail> {
-    let mut out = Bytes::new(alloc);
-    let all = match tokens(alloc, text) {
-        Ok(all) => all,
-        Err(_) => return Ok(out),
-    };
-    let mut words = Words::new(&all);
-    match query(alloc, &mut words, depth) {
-        Ok(found) => {
-            print_query(&found, &mut out)?;
-            out.extend(b" ")?;
-            out.extend_decimal(words.rest().len() as u64)?;
-        }
-        Err(ParseFault::SyntaxError) => out.extend(b"none")?,
-        Err(ParseFault::OutOfMemory) => out.extend(b"no memory")?,
-    }
-    Ok(out)
-}
-
-/// The source at the front of a text, or `none`.
-fn read_source(alloc: Global, text: &[u8], depth: usize) -> Result<Bytes, Fail> {
-    let mut out = Bytes::new(alloc);
-    let all = match tokens(alloc, text) {
-        Ok(all) => all,
-        Err(_) => return Ok(out),
-    };
-    let mut words = Words::new(&all);
-    match source(alloc, &mut words, depth) {
-        Ok(found) => print_source(&found, &mut out)?,
-        Err(_) => out.extend(b"none")?,
-    }
-    Ok(out)
+/// The source.
+pub(crate) fn read_source(
+    alloc: Global,
+    words: &mut Words<'_>,
+    depth: usize,
+    out: &mut Printer,
+) -> Result<(), ParseFault> {
+    let found = Boxed::new(alloc, source(alloc, words, depth)?)?;
+    print_source(found.get(), out);
+    Ok(())
 }
 
 #[test]
 fn queries_are_read(rt: HostRuntime) -> Result<(), Fail> {
-    let cases = [
+    let cases = &[
         ("the least", "SELECT * FROM t", "[* < T] 0"),
         (
             "items",
@@ -194,17 +178,12 @@ fn queries_are_read(rt: HostRuntime) -> Result<(), Fail> {
         ("ORDER behind it", "SELECT a FROM t ORDER BY a", "[A < T] 3"),
         ("a parenthesis behind it", "SELECT a FROM t) x", "[A < T] 2"),
     ];
-    let alloc = rt.alloc();
-    for (name, text, want) in cases {
-        let found = read(alloc, text.as_bytes(), 64)?;
-        assert_eq!(rt; found.as_slice(), want.as_bytes(), "{name}");
-    }
-    Ok(())
+    assert_read(&rt, rt.alloc(), Part::Query, 64, cases)
 }
 
 #[test]
 fn other_tokens_are_none(rt: HostRuntime) -> Result<(), Fail> {
-    let cases = [
+    let cases = &[
         ("nothing", ""),
         ("no items", "SELECT FROM t"),
         ("no source", "SELECT a"),
@@ -237,17 +216,12 @@ fn other_tokens_are_none(rt: HostRuntime) -> Result<(), Fail> {
         ("an open subquery", "SELECT a FROM (SELECT b FROM t u"),
         ("something behind it", "SELECT a FROM t 1"),
     ];
-    let alloc = rt.alloc();
-    for (name, text) in cases {
-        let found = read(alloc, text.as_bytes(), 64)?;
-        assert_eq!(rt; found.as_slice(), b"none".as_slice(), "{name}");
-    }
-    Ok(())
+    assert_none(&rt, rt.alloc(), Part::Query, 64, cases)
 }
 
 #[test]
 fn sources_are_read(rt: HostRuntime) -> Result<(), Fail> {
-    let cases = [
+    let cases = &[
         ("a name", "t ON a", "T"),
         ("a name with an alias", "t AS u ON a", "T:U"),
         ("a subquery", "(SELECT * FROM t) u ON a", "([* < T]):U"),
@@ -257,44 +231,57 @@ fn sources_are_read(rt: HostRuntime) -> Result<(), Fail> {
             "none",
         ),
     ];
-    let alloc = rt.alloc();
-    for (name, text, want) in cases {
-        let found = read_source(alloc, text.as_bytes(), 1)?;
-        assert_eq!(rt; found.as_slice(), want.as_bytes(), "{name}");
+    assert_read(&rt, rt.alloc(), Part::Source, 1, cases)?;
+    let too_deep = &[("a subquery", "(SELECT * FROM t) u")];
+    assert_none(&rt, rt.alloc(), Part::Source, 0, too_deep)
+}
+
+fn print_filter(found: &Option<Expr>, out: &mut Printer) {
+    match found {
+        Some(x) => {
+            out.put(b" if ");
+            print_expr(x, out);
+        }
+        None => out.put(b" all"),
     }
-    assert_eq!(rt;
-        read_source(alloc, b"(SELECT * FROM t) u", 0)?.as_slice(),
-        b"none".as_slice()
-    );
+}
+
+fn read_alias(alloc: Global, words: &mut Words<'_>, out: &mut Printer) -> Result<(), ParseFault> {
+    let found = alias(alloc, words)?;
+    print_alias(&found, out);
     Ok(())
 }
 
-/// The alias and then the condition at the front of a text, or `none`.
-fn read_parts(alloc: Global, text: &[u8]) -> Result<Bytes, Fail> {
-    let mut out = Bytes::new(alloc);
-    let all = match tokens(alloc, text) {
-        Ok(all) => all,
-        Err(_) => return Ok(out),
-    };
-    let mut words = Words::new(&all);
-    match alias(alloc, &mut words) {
-        Ok(found) => print_alias(&found, &mut out)?,
-        Err(_) => out.extend(b"none")?,
+fn read_filter(
+    alloc: Global,
+    words: &mut Words<'_>,
+    depth: usize,
+    out: &mut Printer,
+) -> Result<(), ParseFault> {
+    let found = Boxed::new(alloc, filter(alloc, words, depth)?)?;
+    print_filter(found.get(), out);
+    Ok(())
+}
+
+/// The alias and then the condition; `none` for each that isn't one.
+pub(crate) fn read_alias_and_filter(
+    alloc: Global,
+    words: &mut Words<'_>,
+    depth: usize,
+    out: &mut Printer,
+) -> Result<(), ParseFault> {
+    if read_alias(alloc, words, out).is_err() {
+        out.put(b"none");
     }
-    match filter(alloc, &mut words, 1) {
-        Ok(Some(x)) => {
-            out.extend(b" if ")?;
-            print_expr(&x, &mut out)?;
-        }
-        Ok(None) => out.extend(b" all")?,
-        Err(_) => out.extend(b" none")?,
+    if read_filter(alloc, words, depth, out).is_err() {
+        out.put(b" none");
     }
-    Ok(out)
+    Ok(())
 }
 
 #[test]
 fn aliases_and_conditions_are_read(rt: HostRuntime) -> Result<(), Fail> {
-    let cases = [
+    let cases = &[
         ("neither", "", " all"),
         ("an alias", "a", ":A all"),
         ("a condition", "WHERE b", " if B"),
@@ -302,64 +289,36 @@ fn aliases_and_conditions_are_read(rt: HostRuntime) -> Result<(), Fail> {
         ("no condition behind WHERE", "a WHERE SET", ":A none"),
         ("what goes on with an expression", "a + b", ":A none"),
     ];
-    let alloc = rt.alloc();
-    for (name, text, want) in cases {
-        let found = read_parts(alloc, text.as_bytes())?;
-        assert_eq!(rt; found.as_slice(), want.as_bytes(), "{name}");
-    }
-    Ok(())
-}
-
-/// Whether a query stands at the front of a text.
-fn is_read(alloc: Global, text: &[u8], depth: usize) -> Result<bool, Fail> {
-    let all = tokens(alloc, text)?;
-    let mut words = Words::new(&all);
-    Ok(query(alloc, &mut words, depth).is_ok())
+    assert_read(&rt, rt.alloc(), Part::AliasAndFilter, 1, cases)
 }
 
 #[test]
 fn at_most_64_cores_and_16_sources_are_read(rt: HostRuntime) -> Result<(), Fail> {
-    let alloc = rt.alloc();
-    for (count, want) in [(63, true), (64, false)] {
-        let text = repeated(
-            alloc,
-            b"SELECT a FROM t",
-            count,
-            b" UNION ALL SELECT a FROM t",
-            b"",
-        )?;
-        assert_eq!(rt;
-            is_read(alloc, text.as_slice(), 64)?,
-            want,
-            "{count} cores more"
-        );
-    }
-    for (count, want) in [(15, true), (16, false)] {
-        let text = repeated(alloc, b"SELECT a FROM t", count, b" JOIN t ON a", b"")?;
-        assert_eq!(rt; is_read(alloc, text.as_slice(), 64)?, want, "{count} joins");
-    }
-    Ok(())
+    const CASES: &[(&str, usize, Pieces)] = &[
+        (
+            "cores more",
+            63,
+            ["SELECT a FROM t", "", "", " UNION ALL SELECT a FROM t", ""],
+        ),
+        ("joins", 15, ["SELECT a FROM t", "", "", " JOIN t ON a", ""]),
+    ];
+    assert_most(&rt, rt.alloc(), Part::Query, CASES)
 }
 
 #[test]
 fn as_many_stand_inside_one_another_as_the_depth_says(rt: HostRuntime) -> Result<(), Fail> {
-    let alloc = rt.alloc();
-    for (count, want) in [(64, true), (65, false)] {
-        let closes = repeated(alloc, b"SELECT a FROM t", count, b") t", b"")?;
-        let text = repeated(alloc, b"", count, b"SELECT a FROM (", closes.as_slice())?;
-        assert_eq!(rt;
-            is_read(alloc, text.as_slice(), 64)?,
-            want,
-            "{count} subqueries"
-        );
-    }
-    assert_eq!(rt;
-        is_read(alloc, b"SELECT a FROM (SELECT (a) FROM t) t", 1)?,
-        false
-    );
-    assert_eq!(rt;
-        is_read(alloc, b"SELECT a FROM (SELECT (a) FROM t) t", 2)?,
-        true
-    );
-    Ok(())
+    const CASES: &[(&str, usize, Pieces)] = &[(
+        "subqueries",
+        64,
+        ["", "SELECT a FROM (", "SELECT a FROM t", ") t", ""],
+    )];
+    assert_most(&rt, rt.alloc(), Part::Query, CASES)
+}
+
+#[test]
+fn a_subquery_counts_one_parenthesis(rt: HostRuntime) -> Result<(), Fail> {
+    let text = "SELECT a FROM (SELECT (a) FROM t) t";
+    assert_none(&rt, rt.alloc(), Part::Query, 1, &[("one", text)])?;
+    let deep = &[("two", text, "[A < ([A < T]):T] 0")];
+    assert_read(&rt, rt.alloc(), Part::Query, 2, deep)
 }

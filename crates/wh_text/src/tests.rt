@@ -1,18 +1,19 @@
+mod replies;
+
 use super::*;
-use std::alloc::Global;
-use std::test::Fail;
-use wh_reply::{Refusal, Reply};
-use wh_value::{Bytes, Limit, Row, Text, Value};
+use std::alloc::{AllocError, Global};
+use std::process::Abort;
+use wh_value::Bytes;
 use wh_world::{Failed, MemSource, Source};
 
 /// Gives one byte at a time.
 #[derive(Drop)]
-struct OneByOne {
-    bytes: Vec<u8>,
+struct OneByOne<'a> {
+    bytes: &'a [u8],
     taken: usize,
 }
 
-impl Source for OneByOne {
+impl<'a> Source for OneByOne<'a> {
     ghost use Rattle.std.specs.Prelude.{None};
 
     ghost left = { λ s. None };
@@ -49,93 +50,139 @@ impl Source for Endless {
     }
 }
 
-/// The lines that a source gives, each with a `|` behind it: a command's text, `S` and a session,
-/// `T` and a reading. `!` where a turn fails.
-fn lines<S: Source>(alloc: Global, source: &mut S) -> Result<Bytes, Fail> {
-    let mut script = Script::new(alloc);
+/// A name, a script and its lines.
+type Case = (&'static str, &'static [u8], &'static [u8]);
+
+/// A name, then of a script and of its lines, how often a byte stands in front, and what follows.
+type RunCase = (&'static str, usize, &'static [u8], usize, &'static [u8]);
+
+/// Whether six turns over a source give these lines, each with a `|` behind it: a command's text,
+/// `S` and a session, `T` and a reading. `!` where a turn fails, with the bytes of a script that is
+/// too long.
+fn gives<S: Source>(alloc: Global, mut script: Script, source: &mut S, want: &[u8]) -> bool {
     let mut all = Bytes::new(alloc);
-    for _ in 0..6 {
-        match script.next(source) {
-            Ok(Some(line)) => add_line(&line, &mut all)?,
-            Ok(None) => break,
-            Err(_) => all.push(b'!')?,
-        }
-    }
-    Ok(all)
+    let added = add_lines(&mut script, source, &mut all);
+    added.is_ok() && all.as_slice() == want
 }
 
-fn add_line(line: &Line, all: &mut Bytes) -> Result<(), Fail> {
-    match line {
-        Line::Command(text) => all.extend(text.as_slice())?,
-        Line::Session(session) => {
-            all.push(b'S')?;
-            all.extend_decimal(*session)?;
-        }
-        Line::Tick(None) => all.push(b'T')?,
-        Line::Tick(Some(reading)) => {
-            all.push(b'T')?;
-            all.extend_decimal(*reading)?;
-        }
+fn add_lines<S: Source>(
+    script: &mut Script,
+    source: &mut S,
+    all: &mut Bytes,
+) -> Result<(), AllocError> {
+    for _ in 0..6 {
+        add_turn(script.next(source), all)?;
     }
-    all.push(b'|')?;
     Ok(())
 }
 
-/// The name of the first case whose script doesn't come to its lines, also byte by byte.
-fn first_wrong<'a>(
-    alloc: Global,
-    cases: &[(&'a str, &'a [u8], &'a [u8])],
-) -> Result<Option<&'a str>, Fail> {
-    for (name, script, want) in cases {
-        let mut source = MemSource::new(script.to_vec(alloc)?, Vec::new(alloc));
-        let mut slow = OneByOne {
-            bytes: script.to_vec(alloc)?,
-            taken: 0,
-        };
-        let got = lines(alloc, &mut source)?;
-        let same = lines(alloc, &mut slow)?;
-        if got.as_slice() != *want || same.as_slice() != *want {
-            return Ok(Some(*name));
-        }
+fn add_turn(turn: Result<Option<Line>, ScriptFault>, all: &mut Bytes) -> Result<(), AllocError> {
+    match turn {
+        Ok(Some(line)) => add_line(&line, all),
+        Ok(None) => Ok(()),
+        Err(ScriptFault::TooLong { taken }) => add_marked(b'!', Some(taken), all),
+        Err(_) => all.push(b'!'),
     }
-    Ok(None)
+}
+
+fn add_line(line: &Line, all: &mut Bytes) -> Result<(), AllocError> {
+    match line {
+        Line::Command(text) => all.extend(text.as_slice())?,
+        Line::Session(session) => add_marked(b'S', Some(*session), all)?,
+        Line::Tick(reading) => add_marked(b'T', *reading, all)?,
+    }
+    all.push(b'|')
+}
+
+fn add_marked(mark: u8, number: Option<u64>, all: &mut Bytes) -> Result<(), AllocError> {
+    all.push(mark)?;
+    match number {
+        Some(number) => all.extend_decimal(number),
+        None => Ok(()),
+    }
+}
+
+/// Whether a script comes to its lines. The reads of these numbers fail.
+fn comes_to(alloc: Global, script: Vec<u8>, failing: Vec<u64>, want: &[u8]) -> bool {
+    let mut source = MemSource::new(script, failing);
+    gives(alloc, Script::new(alloc), &mut source, want)
+}
+
+fn comes_to_by_bytes(alloc: Global, script: &[u8], want: &[u8]) -> bool {
+    let mut source = OneByOne {
+        bytes: script,
+        taken: 0,
+    };
+    gives(alloc, Script::new(alloc), &mut source, want)
+}
+
+fn text_comes_to(alloc: Global, script: &[u8], want: &[u8]) -> Result<bool, AllocError> {
+    let script = script.to_vec(alloc)?;
+    Ok(comes_to(alloc, script, Vec::new(alloc), want))
+}
+
+/// Each script comes to its lines, also byte by byte.
+fn check(rt: &impl Abort, alloc: Global, cases: &[Case]) {
+    for (name, script, want) in cases {
+        let same = comes_to_by_bytes(alloc, script, want);
+        assert!(rt;
+            same && text_comes_to(alloc, script, want) == Ok(true),
+            "{name}"
+        );
+    }
+}
+
+/// The byte so many times, and what follows.
+fn run(alloc: Global, byte: u8, count: usize, behind: &[u8]) -> Result<Vec<u8>, AllocError> {
+    let mut bytes = Vec::new(alloc);
+    bytes.resize(count, byte)?;
+    bytes.extend_from_slice(behind)?;
+    Ok(bytes)
+}
+
+fn run_comes_to(alloc: Global, byte: u8, case: &RunCase) -> Result<bool, AllocError> {
+    let (_, count, behind, kept, last) = case;
+    let script = run(alloc, byte, *count, behind)?;
+    let want = run(alloc, byte, *kept, last)?;
+    Ok(comes_to(alloc, script, Vec::new(alloc), want.as_slice()))
+}
+
+fn check_runs(rt: &impl Abort, alloc: Global, byte: u8, cases: &[RunCase]) {
+    for case in cases {
+        let name = case.0;
+        assert!(rt; run_comes_to(alloc, byte, case) == Ok(true), "{name}");
+    }
 }
 
 #[test]
-fn a_script_is_split_at_its_semicolons(rt: HostRuntime) -> Result<(), Fail> {
-    let cases = [
-        ("no byte", b"".as_slice(), b"".as_slice()),
+fn a_script_is_split_at_its_semicolons(rt: HostRuntime) {
+    const CASES: [Case; 5] = [
+        ("no byte", b"", b""),
         ("blanks and semicolons", b" ;\t;\r\n", b""),
         ("no last semicolon", b"a;b", b"a|b|"),
         ("blanks", b" \r\n a \t;\tb\n", b"a \t|b\n|"),
         ("no text", b"\xff\x00;\x0bc3", b"\xff\x00|\x0bc3|"),
     ];
-    assert_eq!(rt; first_wrong(rt.alloc(), cases.as_slice())?, None);
-    Ok(())
+    check(&rt, rt.alloc(), &CASES);
 }
 
 #[test]
-fn a_semicolon_in_quotes_ends_no_command(rt: HostRuntime) -> Result<(), Fail> {
-    let cases = [
-        ("a text", b"'a;b';c".as_slice(), b"'a;b'|c|".as_slice()),
+fn a_semicolon_in_quotes_ends_no_command(rt: HostRuntime) {
+    const CASES: [Case; 6] = [
+        ("a text", b"'a;b';c", b"'a;b'|c|"),
         ("a name", b"\"a;b\";c", b"\"a;b\"|c|"),
         ("a doubled quote", b"'a'';b';c", b"'a'';b'|c|"),
         ("the other quote", b"'\";';\"';\"", b"'\";'|\"';\"|"),
         ("a backslash", b"'\\';a", b"'\\'|a|"),
         ("no end", b"a;'b;c", b"a|'b;c|"),
     ];
-    assert_eq!(rt; first_wrong(rt.alloc(), cases.as_slice())?, None);
-    Ok(())
+    check(&rt, rt.alloc(), &CASES);
 }
 
 #[test]
-fn a_semicolon_in_a_comment_ends_no_command(rt: HostRuntime) -> Result<(), Fail> {
-    let cases = [
-        (
-            "to the line's end",
-            b"a--b;'\nd;e".as_slice(),
-            b"a--b;'\nd|e|".as_slice(),
-        ),
+fn a_semicolon_in_a_comment_ends_no_command(rt: HostRuntime) {
+    const CASES: [Case; 7] = [
+        ("to the line's end", b"a--b;'\nd;e", b"a--b;'\nd|e|"),
         ("to its own end", b"a/*b;c*/d;e", b"a/*b;c*/d|e|"),
         ("none in quotes", b"'--';'/*';b", b"'--'|'/*'|b|"),
         ("one sign", b"a-b/c;- -;/ *;b", b"a-b/c|- -|/ *|b|"),
@@ -143,32 +190,26 @@ fn a_semicolon_in_a_comment_ends_no_command(rt: HostRuntime) -> Result<(), Fail>
         ("no end", b"a/*b;c", b"a/*b;c|"),
         ("a slash behind", b"a/*/;*/;b", b"a/*/;*/|b|"),
     ];
-    assert_eq!(rt; first_wrong(rt.alloc(), cases.as_slice())?, None);
-    Ok(())
+    check(&rt, rt.alloc(), &CASES);
 }
 
 #[test]
-fn a_comment_between_commands_is_passed_over(rt: HostRuntime) -> Result<(), Fail> {
-    let cases = [
-        (
-            "both kinds",
-            b"---a;b\nc;/*d;*/e;".as_slice(),
-            b"c|e|".as_slice(),
-        ),
+fn a_comment_between_commands_is_passed_over(rt: HostRuntime) {
+    const CASES: [Case; 6] = [
+        ("both kinds", b"---a;b\nc;/*d;*/e;", b"c|e|"),
         ("stars", b"/*;* /**;**//*;*/a;b", b"a|b|"),
         ("at the end", b"a;--b", b"a|"),
         ("no end", b"a;/*b;*", b"a|/*b;*|"),
         ("a slash behind", b"/*/;a", b"/*/;a|"),
         ("an end alone", b"*/a;/;-", b"*/a|/|-|"),
     ];
-    assert_eq!(rt; first_wrong(rt.alloc(), cases.as_slice())?, None);
-    Ok(())
+    check(&rt, rt.alloc(), &CASES);
 }
 
 #[test]
-fn a_marked_line_may_be_a_session(rt: HostRuntime) -> Result<(), Fail> {
-    let cases = [
-        ("a CR", b"!session 2\r\na;".as_slice(), b"S2|a|".as_slice()),
+fn a_marked_line_may_be_a_session(rt: HostRuntime) {
+    const CASES: [Case; 7] = [
+        ("a CR", b"!session 2\r\na;", b"S2|a|"),
         ("two", b"!session 2\r\r\na;", b"!session 2\r|a|"),
         ("a CR at the end", b"!session 2\r", b"!session 2\r|"),
         ("no line end", b"a;!session 007", b"a|S7|"),
@@ -180,14 +221,13 @@ fn a_marked_line_may_be_a_session(rt: HostRuntime) -> Result<(), Fail> {
         ),
         ("no number", b"!session \n", b"!session |"),
     ];
-    assert_eq!(rt; first_wrong(rt.alloc(), cases.as_slice())?, None);
-    Ok(())
+    check(&rt, rt.alloc(), &CASES);
 }
 
 #[test]
-fn a_marked_line_may_be_a_tick(rt: HostRuntime) -> Result<(), Fail> {
-    let cases = [
-        ("no reading", b" !tick\r\na".as_slice(), b"T|a|".as_slice()),
+fn a_marked_line_may_be_a_tick(rt: HostRuntime) {
+    const CASES: [Case; 9] = [
+        ("no reading", b" !tick\r\na", b"T|a|"),
         ("a reading", b"!tick 5\n!tick 0", b"T5|T0|"),
         (
             "most digits",
@@ -209,229 +249,97 @@ fn a_marked_line_may_be_a_tick(rt: HostRuntime) -> Result<(), Fail> {
         ("a semicolon", b"!tick 5;'--\nb", b"!tick 5;'--|b|"),
         ("in a command", b"a\n!tick\n;b", b"a\n!tick\n|b|"),
     ];
-    assert_eq!(rt; first_wrong(rt.alloc(), cases.as_slice())?, None);
-    Ok(())
+    check(&rt, rt.alloc(), &CASES);
 }
 
 // The texts are runs of `x`; a command `y` stands behind each.
 #[test]
-fn a_long_text_is_given_by_its_front(rt: HostRuntime) -> Result<(), Fail> {
-    let alloc = rt.alloc();
-    let cases = [
-        ("one below the most", 65535, 65535),
-        ("as long as a text may be", 65536, 65536),
-        ("one more", 65537, 65537),
-        ("one that isn't kept", 65538, 65537),
-        ("more than a read", 70000, 65537),
-        ("many reads", 200000, 65537),
+fn a_long_text_is_given_by_its_front(rt: HostRuntime) {
+    const CASES: [RunCase; 6] = [
+        ("one below the most", 65535, b";y", 65535, b"|y|"),
+        ("as long as a text may be", 65536, b";y", 65536, b"|y|"),
+        ("one more", 65537, b";y", 65537, b"|y|"),
+        ("one that isn't kept", 65538, b";y", 65537, b"|y|"),
+        ("more than a read", 70000, b";y", 65537, b"|y|"),
+        ("many reads", 200000, b";y", 65537, b"|y|"),
     ];
-    for (name, length, kept) in cases {
-        let mut bytes = Vec::new(alloc);
-        bytes.resize(length, b'x')?;
-        bytes.extend_from_slice(b";y")?;
-        let mut want = Vec::new(alloc);
-        want.resize(kept, b'x')?;
-        want.extend_from_slice(b"|y|")?;
-        let mut source = MemSource::new(bytes, Vec::new(alloc));
-        assert!(rt;
-            lines(alloc, &mut source)?.as_slice() == want.as_slice(),
-            "{name}"
-        );
-    }
-    Ok(())
+    check_runs(&rt, rt.alloc(), b'x', &CASES);
 }
 
 // The lines are runs of `!`, and what stands behind; a command `y` is the next line.
 #[test]
-fn a_long_marked_line_is_given_by_its_front(rt: HostRuntime) -> Result<(), Fail> {
-    let alloc = rt.alloc();
-    let cases = [
+fn a_long_marked_line_is_given_by_its_front(rt: HostRuntime) {
+    const CASES: [RunCase; 5] = [
+        ("as long as a text may be", 65536, b"\ny", 65536, b"|y|"),
+        ("and a CR", 65536, b"\r\ny", 65536, b"|y|"),
+        ("one more, and a CR", 65537, b"\r\ny", 65537, b"|y|"),
         (
-            "as long as a text may be",
+            "a CR that isn't the last",
             65536,
-            b"".as_slice(),
+            b"\rx\ny",
             65536,
-            b"".as_slice(),
+            b"\r|y|",
         ),
-        ("and a CR", 65536, b"\r", 65536, b""),
-        ("one more, and a CR", 65537, b"\r", 65537, b""),
-        ("a CR that isn't the last", 65536, b"\rx", 65536, b"\r"),
-        ("more than a read", 70000, b"", 65537, b""),
+        ("more than a read", 70000, b"\ny", 65537, b"|y|"),
     ];
-    for (name, length, behind, kept, last) in cases {
-        let mut bytes = Vec::new(alloc);
-        bytes.resize(length, b'!')?;
-        bytes.extend_from_slice(behind)?;
-        bytes.extend_from_slice(b"\ny")?;
-        let mut want = Vec::new(alloc);
-        want.resize(kept, b'!')?;
-        want.extend_from_slice(last)?;
-        want.extend_from_slice(b"|y|")?;
-        let mut source = MemSource::new(bytes, Vec::new(alloc));
-        assert!(rt;
-            lines(alloc, &mut source)?.as_slice() == want.as_slice(),
-            "{name}"
-        );
-    }
-    Ok(())
+    check_runs(&rt, rt.alloc(), b'!', &CASES);
 }
 
 // The second read comes in the second command, and the third at the end.
 #[test]
-fn a_failed_read_stays(rt: HostRuntime) -> Result<(), Fail> {
-    let alloc = rt.alloc();
-    let mut bytes = Vec::new(alloc);
-    bytes.extend_from_slice(b"a;")?;
-    bytes.resize(65540, b' ')?;
-    bytes.extend_from_slice(b"b;c")?;
-    let cases = [
-        ("no failure", [].as_slice(), b"a|b|c|".as_slice()),
-        ("the first read", [1].as_slice(), b"!!!!!!"),
-        ("the second read", [2].as_slice(), b"a|!!!!!"),
-        ("the last read", [3].as_slice(), b"a|b|!!!!"),
+fn a_failed_read_stays(rt: HostRuntime) {
+    const CASES: [(&str, &[u64], &[u8]); 4] = [
+        ("no failure", &[], b"a|b|c|"),
+        ("the first read", &[1], b"!!!!!!"),
+        ("the second read", &[2], b"a|!!!!!"),
+        ("the last read", &[3], b"a|b|!!!!"),
     ];
-    for (name, failing, want) in cases {
-        let mut source = MemSource::new(bytes.clone()?, failing.to_vec(alloc)?);
-        assert_eq!(rt; lines(alloc, &mut source)?.as_slice(), want, "{name}");
+    for (name, failing, want) in &CASES {
+        assert!(rt;
+            apart_comes_to(rt.alloc(), failing, want) == Ok(true),
+            "{name}"
+        );
     }
-    Ok(())
+}
+
+/// Whether three commands, of which the second ends behind a read, come to these lines.
+fn apart_comes_to(alloc: Global, failing: &[u64], want: &[u8]) -> Result<bool, AllocError> {
+    let script = commands_apart(alloc)?;
+    let failing = failing.to_vec(alloc)?;
+    Ok(comes_to(alloc, script, failing, want))
+}
+
+fn commands_apart(alloc: Global) -> Result<Vec<u8>, AllocError> {
+    let mut script = Vec::new(alloc);
+    script.extend_from_slice(b"a;")?;
+    script.resize(65540, b' ')?;
+    script.extend_from_slice(b"b;c")?;
+    Ok(script)
 }
 
 // All but three of the 2^30 bytes were taken before.
 #[test]
-fn a_script_may_have_two_to_the_30_bytes(rt: HostRuntime) -> Result<(), Fail> {
-    let cases = [
-        ("as many", 3, None),
-        ("one more", 4, Some(1073741825)),
-        ("many more", 1000000, Some(1073807357)),
+fn a_script_may_have_two_to_the_30_bytes(rt: HostRuntime) {
+    const CASES: [(&str, u64, &[u8]); 3] = [
+        ("as many", 3, b"\0\0\0|"),
+        (
+            "one more",
+            4,
+            b"!1073741825!1073741825!1073741825!1073741825!1073741825!1073741825",
+        ),
+        (
+            "many more",
+            1000000,
+            b"!1073807357!1073807357!1073807357!1073807357!1073807357!1073807357",
+        ),
     ];
-    for (name, left, want) in cases {
-        let mut script = Script::new(rt.alloc());
-        script.ahead.taken = 1073741821;
-        let mut source = Endless { left };
-        let first = script.next(&mut source);
-        let got = match (first, script.next(&mut source)) {
-            (Ok(Some(_)), Ok(None)) => None,
-            (Err(ScriptFault::TooLong { taken }), Err(_)) => Some(taken),
-            _ => Some(0),
-        };
-        assert_eq!(rt; got, want, "{name}");
+    for (name, left, want) in &CASES {
+        assert!(rt; rest_comes_to(rt.alloc(), *left, want), "{name}");
     }
-    Ok(())
 }
 
-fn text(alloc: Global, bytes: &[u8]) -> Result<Text, Fail> {
-    let made = Text::from_bytes(alloc, bytes).ok_or("no text")?;
-    Ok(made?)
-}
-
-fn listing(alloc: Global) -> Result<Reply, Fail> {
-    let mut names = Vec::new(alloc);
-    names.push(text(alloc, b"A")?)?;
-    names.push(text(alloc, b"B")?)?;
-    names.push(text(alloc, b"C")?)?;
-    let mut first = Row::new(alloc);
-    first.push(Value::Number(-12))?;
-    first.push(Value::Text(text(alloc, b"it's")?))?;
-    first.push(Value::Bool(true))?;
-    let mut second = Row::new(alloc);
-    second.push(Value::Null)?;
-    second.push(Value::Text(text(alloc, b"")?))?;
-    second.push(Value::Bool(false))?;
-    let mut rows = Vec::new(alloc);
-    rows.push(first)?;
-    rows.push(second)?;
-    Ok(Reply::Listing { names, rows })
-}
-
-fn empty_listing(alloc: Global) -> Result<Reply, Fail> {
-    let mut names = Vec::new(alloc);
-    names.push(text(alloc, b"A")?)?;
-    Ok(Reply::Listing {
-        names,
-        rows: Vec::new(alloc),
-    })
-}
-
-#[test]
-fn a_reply_is_printed_as_lines(rt: HostRuntime) -> Result<(), Fail> {
-    let alloc = rt.alloc();
-    let cases = [
-        (
-            "created",
-            Reply::CreatedTable(text(alloc, b"ORDERS")?),
-            b"CREATED TABLE ORDERS\n".as_slice(),
-        ),
-        ("inserted", Reply::Inserted(1205), b"INSERTED 1205\n"),
-        (
-            "rows",
-            listing(alloc)?,
-            b"A | B | C\n-12 | 'it''s' | TRUE\nNULL | '' | FALSE\n(2 rows)\n",
-        ),
-        ("no rows", empty_listing(alloc)?, b"A\n(0 rows)\n"),
-        ("idle", Reply::Idle, b"IDLE\n"),
-    ];
-    let mut all = Bytes::new(alloc);
-    for (name, reply, want) in &cases {
-        let before = all.len();
-        print_reply(alloc, reply, &mut all)?;
-        assert_eq!(rt; all.as_slice().get(before..), Some(*want), "{name}");
-    }
-    Ok(())
-}
-
-#[test]
-fn a_refusal_is_printed_by_its_number(rt: HostRuntime) -> Result<(), Fail> {
-    let alloc = rt.alloc();
-    let cases = [
-        (Refusal::Unsupported, b"E0 Unsupported\n".as_slice()),
-        (Refusal::SyntaxError, b"E1 SyntaxError\n"),
-        (
-            Refusal::NoSuchSession(999999999),
-            b"E2 NoSuchSession 999999999\n",
-        ),
-        (
-            Refusal::UnknownName(text(alloc, b"T")?),
-            b"E6 UnknownName T\n",
-        ),
-        (Refusal::NameTaken(text(alloc, b"T")?), b"E7 NameTaken T\n"),
-        (Refusal::WrongKind(text(alloc, b"T")?), b"E8 WrongKind T\n"),
-        (Refusal::TypeMismatch, b"E9 TypeMismatch\n"),
-        (Refusal::NumberOutOfRange, b"E19 NumberOutOfRange\n"),
-    ];
-    for (refusal, want) in cases {
-        let mut out = Bytes::new(alloc);
-        print_reply(alloc, &Reply::Refused(refusal), &mut out)?;
-        assert_eq!(rt; out.as_slice(), want);
-    }
-    Ok(())
-}
-
-#[test]
-fn a_limit_is_printed_with_its_number(rt: HostRuntime) -> Result<(), Fail> {
-    let alloc = rt.alloc();
-    let cases = [
-        (Limit::Statement, b"E13 Limit STATEMENT 65536\n".as_slice()),
-        (Limit::Stamp, b"E13 Limit STAMP 4611686018427387904\n"),
-        (
-            Limit::RowNumber,
-            b"E13 Limit ROW_NUMBER 4611686018427387904\n",
-        ),
-        (
-            Limit::PartitionNumber,
-            b"E13 Limit PARTITION_NUMBER 4611686018427387904\n",
-        ),
-        (Limit::ObjectIds, b"E13 Limit OBJECT_IDS 4294967295\n"),
-        (Limit::Objects, b"E13 Limit OBJECTS 1000\n"),
-        (Limit::Name, b"E13 Limit NAME 255\n"),
-        (Limit::Columns, b"E13 Limit COLUMNS 64\n"),
-        (Limit::Output, b"E13 Limit OUTPUT 256\n"),
-        (Limit::Retention, b"E13 Limit RETENTION 90\n"),
-    ];
-    for (limit, want) in cases {
-        let mut out = Bytes::new(alloc);
-        print_reply(alloc, &Reply::Refused(Refusal::OverLimit(limit)), &mut out)?;
-        assert_eq!(rt; out.as_slice(), want);
-    }
-    Ok(())
+fn rest_comes_to(alloc: Global, left: u64, want: &[u8]) -> bool {
+    let mut script = Script::new(alloc);
+    script.ahead.taken = 1073741821;
+    gives(alloc, script, &mut Endless { left }, want)
 }

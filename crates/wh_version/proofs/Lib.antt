@@ -3,3 +3,9 @@ pub mod Parted
 pub mod Pushed
 pub mod Popped
 pub mod Found
+pub mod NumberMaps
+pub mod Steps
+pub mod Touched
+pub mod ByRows
+pub mod Left
+pub mod Made

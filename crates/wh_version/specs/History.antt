@@ -7,7 +7,7 @@ use Rattle.std.specs.Prelude.{ℕ, ◌+◌, List, [], ◌∷◌, ◌++◌, map}
 use Rattle.wh_frame.specs.Partition.{Partition}
 use Rattle.wh_machine.specs.State.{content_in, last_of}
 use Rattle.wh_machine.specs.Stored.{StoredVersion}
-use Rattle.wh_machine.specs.Commit.{without}
+use Rattle.wh_machine.specs.Edits.{without}
 use Rattle.wh_version.specs.declared.mark.VersionMark.{VersionMark}
 use Rattle.wh_version.specs.declared.history.History.{History}
 use Rattle.wh_version.specs.Kept.{versions_by}

@@ -1,15 +1,23 @@
 //! The versions of a table by copy on write: partitions that stand once, whichever versions have them.
 #![tactic(auto, unfolding(crate::specs::History::versions_of, crate::specs::History::nexts_of))]
 
+mod editing;
+mod edits;
 mod history;
 mod kept;
 mod mark;
 mod popping;
 mod pushing;
+mod rewriting;
+mod row_edits;
+mod sorting;
+mod touching;
 
+pub use edits::Edits;
 pub use history::History;
 pub use kept::Kept;
 pub use mark::VersionMark;
+pub use rewriting::Rewritten;
 
 #[cfg(test)]
 mod tests;

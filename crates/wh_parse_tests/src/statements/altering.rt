@@ -1,11 +1,11 @@
 //! ALTER, EXECUTE, DROP and transactions.
 
-use super::spelled;
+use super::{assert_none, assert_spelled};
 use std::test::Fail;
 
 #[test]
 fn objects_are_altered_and_dropped(rt: HostRuntime) -> Result<(), Fail> {
-    let cases = [
+    let cases = &[
         ("ALTER TASK k RESUME", "resume task K"),
         ("ALTER TASK k SUSPEND", "suspend task K"),
         ("alter task \"k\" resume", "resume task k"),
@@ -61,16 +61,12 @@ fn objects_are_altered_and_dropped(rt: HostRuntime) -> Result<(), Fail> {
         ("ROLLBACK", "rollback"),
         ("Rollback Work", "rollback"),
     ];
-    for (text, want) in cases {
-        let found = spelled(rt.alloc(), text.as_bytes())?;
-        assert_eq!(rt; found.as_slice(), want.as_bytes(), "{text}");
-    }
-    Ok(())
+    assert_spelled(&rt, rt.alloc(), cases)
 }
 
 #[test]
 fn other_changes_of_objects_are_none(rt: HostRuntime) -> Result<(), Fail> {
-    let cases = [
+    let cases = &[
         "ALTER",
         "ALTER TASK",
         "ALTER TASK k",
@@ -117,9 +113,5 @@ fn other_changes_of_objects_are_none(rt: HostRuntime) -> Result<(), Fail> {
         "WORK",
         "TRANSACTION",
     ];
-    for text in cases {
-        let found = spelled(rt.alloc(), text.as_bytes())?;
-        assert_eq!(rt; found.as_slice(), b"none".as_slice(), "{text}");
-    }
-    Ok(())
+    assert_none(&rt, rt.alloc(), cases)
 }

@@ -1,11 +1,11 @@
 //! INSERT, UPDATE, DELETE and MERGE.
 
-use super::spelled;
+use super::{assert_none, assert_spelled};
 use std::test::Fail;
 
 #[test]
 fn changes_of_rows_are_read(rt: HostRuntime) -> Result<(), Fail> {
-    let cases = [
+    let cases = &[
         ("INSERT INTO t VALUES (1)", "insert T row 1"),
         (
             "INSERT INTO t VALUES (1, 'a'), (NULL, a + 1)",
@@ -48,16 +48,12 @@ fn changes_of_rows_are_read(rt: HostRuntime) -> Result<(), Fail> {
             "merge T from U on A | update if B C:=1 D:=2",
         ),
     ];
-    for (text, want) in cases {
-        let found = spelled(rt.alloc(), text.as_bytes())?;
-        assert_eq!(rt; found.as_slice(), want.as_bytes(), "{text}");
-    }
-    Ok(())
+    assert_spelled(&rt, rt.alloc(), cases)
 }
 
 #[test]
 fn other_changes_of_rows_are_none(rt: HostRuntime) -> Result<(), Fail> {
-    let cases = [
+    let cases = &[
         "INSERT t VALUES (1)",
         "INSERT INTO t",
         "INSERT INTO t VALUES",
@@ -93,9 +89,5 @@ fn other_changes_of_rows_are_none(rt: HostRuntime) -> Result<(), Fail> {
         "MERGE INTO t USING u ON a WHEN MATCHED THEN UPDATE b = 1",
         "MERGE INTO t USING u ON a WHEN NOT MATCHED THEN INSERT (a) SELECT 1 FROM u",
     ];
-    for text in cases {
-        let found = spelled(rt.alloc(), text.as_bytes())?;
-        assert_eq!(rt; found.as_slice(), b"none".as_slice(), "{text}");
-    }
-    Ok(())
+    assert_none(&rt, rt.alloc(), cases)
 }

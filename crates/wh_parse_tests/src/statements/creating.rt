@@ -1,11 +1,11 @@
 //! CREATE TABLE and CREATE STREAM.
 
-use super::spelled;
+use super::{assert_none, assert_spelled};
 use std::test::Fail;
 
 #[test]
 fn tables_and_streams_are_created(rt: HostRuntime) -> Result<(), Fail> {
-    let cases = [
+    let cases = &[
         ("CREATE TABLE t (a NUMBER)", "table T A:number"),
         ("create table t(a number)", "table T A:number"),
         (
@@ -85,16 +85,12 @@ fn tables_and_streams_are_created(rt: HostRuntime) -> Result<(), Fail> {
             "stream S on APPEND_ONLY appended",
         ),
     ];
-    for (text, want) in cases {
-        let found = spelled(rt.alloc(), text.as_bytes())?;
-        assert_eq!(rt; found.as_slice(), want.as_bytes(), "{text}");
-    }
-    Ok(())
+    assert_spelled(&rt, rt.alloc(), cases)
 }
 
 #[test]
 fn other_creations_are_none(rt: HostRuntime) -> Result<(), Fail> {
-    let cases = [
+    let cases = &[
         "CREATE",
         "CREATE TABLE",
         "CREATE TABLE t",
@@ -140,9 +136,5 @@ fn other_creations_are_none(rt: HostRuntime) -> Result<(), Fail> {
         "CREATE VIEW v AS SELECT * FROM t",
         "CREATE t (a INT)",
     ];
-    for text in cases {
-        let found = spelled(rt.alloc(), text.as_bytes())?;
-        assert_eq!(rt; found.as_slice(), b"none".as_slice(), "{text}");
-    }
-    Ok(())
+    assert_none(&rt, rt.alloc(), cases)
 }

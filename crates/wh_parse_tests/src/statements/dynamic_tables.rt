@@ -1,11 +1,11 @@
 //! CREATE DYNAMIC TABLE.
 
-use super::spelled;
+use super::{assert_none, assert_spelled};
 use std::test::Fail;
 
 #[test]
 fn dynamic_tables_are_created(rt: HostRuntime) -> Result<(), Fail> {
-    let cases = [
+    let cases = &[
         (
             "CREATE DYNAMIC TABLE d TARGET_LAG = '1 MINUTE' AS SELECT * FROM t",
             "dynamic table D 60 auto now [* from T] <SELECT * FROM t>",
@@ -79,16 +79,12 @@ fn dynamic_tables_are_created(rt: HostRuntime) -> Result<(), Fail> {
             "dynamic table D downstream auto now [A from T]['ü' from U] <SELECT a FROM t UNION ALL SELECT 'ü' FROM u>",
         ),
     ];
-    for (text, want) in cases {
-        let found = spelled(rt.alloc(), text.as_bytes())?;
-        assert_eq!(rt; found.as_slice(), want.as_bytes(), "{text}");
-    }
-    Ok(())
+    assert_spelled(&rt, rt.alloc(), cases)
 }
 
 #[test]
 fn other_dynamic_tables_are_none(rt: HostRuntime) -> Result<(), Fail> {
-    let cases = [
+    let cases = &[
         "CREATE DYNAMIC",
         "CREATE DYNAMIC TABLE",
         "CREATE DYNAMIC TABLE d",
@@ -117,9 +113,5 @@ fn other_dynamic_tables_are_none(rt: HostRuntime) -> Result<(), Fail> {
         "CREATE DYNAMIC TABLE d TARGET_LAG = DOWNSTREAM AS DELETE FROM t",
         "CREATE OR REPLACE DYNAMIC TABLE d TARGET_LAG = DOWNSTREAM AS SELECT * FROM t",
     ];
-    for text in cases {
-        let found = spelled(rt.alloc(), text.as_bytes())?;
-        assert_eq!(rt; found.as_slice(), b"none".as_slice(), "{text}");
-    }
-    Ok(())
+    assert_none(&rt, rt.alloc(), cases)
 }

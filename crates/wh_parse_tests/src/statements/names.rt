@@ -1,12 +1,13 @@
 //! Which words may be names, and what may stand between tokens.
 
-use super::{joined, spelled};
+use super::{assert_spelled, joined, spelled};
 use std::alloc::Global;
+use std::process::Abort;
 use std::test::Fail;
 use wh_value::Bytes;
 
 /// The words that are no names.
-const RESERVED: [&str; 38] = [
+const RESERVED: &[&str] = &[
     "ALL", "AND", "AS", "BETWEEN", "BY", "CROSS", "DELETE", "DISTINCT", "FALSE", "FROM", "FULL",
     "GROUP", "HAVING", "IN", "INNER", "INSERT", "INTO", "IS", "JOIN", "LEFT", "MERGE", "NATURAL",
     "NOT", "NULL", "ON", "OR", "ORDER", "RIGHT", "SELECT", "SET", "THEN", "TRUE", "UNION",
@@ -17,6 +18,16 @@ const RESERVED: [&str; 38] = [
 fn dropped(alloc: Global, quote: &[u8], word: &str) -> Result<Bytes, Fail> {
     let text = joined(alloc, &[b"DROP TABLE ", quote, word.as_bytes(), quote])?;
     spelled(alloc, text.as_slice())
+}
+
+/// Finds each word as the name, in quotes or not.
+fn assert_names(rt: &impl Abort, alloc: Global, quote: &[u8], words: &[&str]) -> Result<(), Fail> {
+    for word in words {
+        let want = joined(alloc, &[b"drop table ", word.as_bytes()])?;
+        let found = dropped(alloc, quote, word)?;
+        assert_eq!(rt; found.as_slice(), want.as_slice(), "{word}");
+    }
+    Ok(())
 }
 
 #[test]
@@ -30,17 +41,12 @@ fn reserved_words_are_no_names(rt: HostRuntime) -> Result<(), Fail> {
 
 #[test]
 fn reserved_words_are_names_in_quotes(rt: HostRuntime) -> Result<(), Fail> {
-    for word in RESERVED {
-        let want = joined(rt.alloc(), &[b"drop table ", word.as_bytes()])?;
-        let found = dropped(rt.alloc(), b"\"", word)?;
-        assert_eq!(rt; found.as_slice(), want.as_slice(), "{word}");
-    }
-    Ok(())
+    assert_names(&rt, rt.alloc(), b"\"", RESERVED)
 }
 
 #[test]
 fn other_words_are_names(rt: HostRuntime) -> Result<(), Fail> {
-    let words = [
+    let words = &[
         "ALTER",
         "APPEND_ONLY",
         "ASC",
@@ -86,17 +92,12 @@ fn other_words_are_names(rt: HostRuntime) -> Result<(), Fail> {
         "WAREHOUSE",
         "WORK",
     ];
-    for word in words {
-        let want = joined(rt.alloc(), &[b"drop table ", word.as_bytes()])?;
-        let found = dropped(rt.alloc(), b"", word)?;
-        assert_eq!(rt; found.as_slice(), want.as_slice(), "{word}");
-    }
-    Ok(())
+    assert_names(&rt, rt.alloc(), b"", words)
 }
 
 #[test]
 fn blanks_and_comments_part_tokens(rt: HostRuntime) -> Result<(), Fail> {
-    let cases = [
+    let cases = &[
         ("DROP\tTABLE\nt", "drop table T"),
         ("DROP\r\nTABLE\r\n\r\nt\r\n", "drop table T"),
         ("  DROP   TABLE   t  ", "drop table T"),
@@ -155,9 +156,5 @@ fn blanks_and_comments_part_tokens(rt: HostRuntime) -> Result<(), Fail> {
         ("DROP TABLE 1a", "none"),
         ("DROP TABLE _1", "drop table _1"),
     ];
-    for (text, want) in cases {
-        let found = spelled(rt.alloc(), text.as_bytes())?;
-        assert_eq!(rt; found.as_slice(), want.as_bytes(), "{text}");
-    }
-    Ok(())
+    assert_spelled(&rt, rt.alloc(), cases)
 }

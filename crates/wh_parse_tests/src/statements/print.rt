@@ -1,11 +1,11 @@
 //! Statements as short texts, for tables of tests.
 
 use super::print_rows::{dml, names, query, sorts, word};
-use std::test::Fail;
+use crate::texts::Printer;
 use wh_ast::{
     Condition, CreateDynamicTable, CreateTable, CreateTask, Initialize, Lag, RefreshMode, Statement,
 };
-use wh_value::{Bytes, Column, ColumnType, Text};
+use wh_value::{Column, ColumnType, Text};
 
 fn column_type(column_type: ColumnType) -> &'static [u8] {
     match column_type {
@@ -15,90 +15,85 @@ fn column_type(column_type: ColumnType) -> &'static [u8] {
     }
 }
 
-fn columns(columns: &[Column], out: &mut Bytes) -> Result<(), Fail> {
+fn columns(columns: &[Column], out: &mut Printer) {
     for found in columns {
-        word(out, found.name.as_bytes())?;
-        out.extend(column_type(found.column_type))?;
+        word(out, found.name.as_bytes());
+        out.put(column_type(found.column_type));
     }
-    Ok(())
 }
 
-fn table(table: &CreateTable, out: &mut Bytes) -> Result<(), Fail> {
-    out.extend(if table.replace {
+fn table(table: &CreateTable, out: &mut Printer) {
+    out.put(if table.replace {
         b"replace table "
     } else {
         b"table "
-    })?;
-    out.extend(table.name.as_bytes())?;
-    columns(table.columns.as_slice(), out)?;
+    });
+    out.put(table.name.as_bytes());
+    columns(table.columns.as_slice(), out);
     if let Some(days) = table.retention {
-        out.extend(b" kept ")?;
-        out.extend_decimal(days)?;
+        out.put(b" kept ");
+        out.decimal(days);
     }
-    Ok(())
 }
 
-fn condition(found: &Condition, out: &mut Bytes) -> Result<(), Fail> {
+fn condition(found: &Condition, out: &mut Printer) {
     match found {
         Condition::Or(x, y) => {
-            out.extend(b"(")?;
-            condition(x.get(), out)?;
-            out.extend(b" or ")?;
-            condition(y.get(), out)?;
-            out.extend(b")")?;
+            out.put(b"(");
+            condition(x.get(), out);
+            out.put(b" or ");
+            condition(y.get(), out);
+            out.put(b")");
         }
         Condition::And(x, y) => {
-            out.extend(b"(")?;
-            condition(x.get(), out)?;
-            out.extend(b" and ")?;
-            condition(y.get(), out)?;
-            out.extend(b")")?;
+            out.put(b"(");
+            condition(x.get(), out);
+            out.put(b" and ");
+            condition(y.get(), out);
+            out.put(b")");
         }
         Condition::Not(x) => {
-            out.extend(b"(not ")?;
-            condition(x.get(), out)?;
-            out.extend(b")")?;
+            out.put(b"(not ");
+            condition(x.get(), out);
+            out.put(b")");
         }
-        Condition::HasData(name) => out.extend(name.as_bytes())?,
+        Condition::HasData(name) => out.put(name.as_bytes()),
     }
-    Ok(())
 }
 
-fn task(task: &CreateTask, out: &mut Bytes) -> Result<(), Fail> {
-    out.extend(b"task ")?;
-    out.extend(task.name.as_bytes())?;
+fn task(task: &CreateTask, out: &mut Printer) {
+    out.put(b"task ");
+    out.put(task.name.as_bytes());
     if let Some(minutes) = task.minutes {
-        out.extend(b" each ")?;
-        out.extend_decimal(minutes)?;
+        out.put(b" each ");
+        out.decimal(minutes);
     }
     if !task.after.as_slice().is_empty() {
-        out.extend(b" after")?;
-        names(task.after.as_slice(), out)?;
+        out.put(b" after");
+        names(task.after.as_slice(), out);
     }
     if let Some(when) = &task.when {
-        out.extend(b" when ")?;
-        condition(&when.condition, out)?;
-        out.extend(b" <")?;
-        out.extend(when.text.as_bytes())?;
-        out.extend(b">")?;
+        out.put(b" when ");
+        condition(&when.condition, out);
+        out.put(b" <");
+        out.put(when.text.as_bytes());
+        out.put(b">");
     }
-    out.extend(b" do ")?;
-    dml(&task.body, out)?;
-    out.extend(b" <")?;
-    out.extend(task.body_text.as_bytes())?;
-    out.extend(b">")?;
-    Ok(())
+    out.put(b" do ");
+    dml(&task.body, out);
+    out.put(b" <");
+    out.put(task.body_text.as_bytes());
+    out.put(b">");
 }
 
-fn lag(lag: Lag, out: &mut Bytes) -> Result<(), Fail> {
+fn lag(lag: Lag, out: &mut Printer) {
     match lag {
-        Lag::Downstream => out.extend(b" downstream")?,
+        Lag::Downstream => out.put(b" downstream"),
         Lag::Seconds(seconds) => {
-            out.extend(b" ")?;
-            out.extend_decimal(seconds)?;
+            out.put(b" ");
+            out.decimal(seconds);
         }
     }
-    Ok(())
 }
 
 fn mode(mode: RefreshMode) -> &'static [u8] {
@@ -116,38 +111,36 @@ fn initialize(initialize: Initialize) -> &'static [u8] {
     }
 }
 
-fn dynamic_table(table: &CreateDynamicTable, out: &mut Bytes) -> Result<(), Fail> {
-    out.extend(b"dynamic table ")?;
-    out.extend(table.name.as_bytes())?;
-    lag(table.lag, out)?;
-    out.extend(mode(table.mode))?;
-    out.extend(initialize(table.initialize))?;
-    query(&table.query, out)?;
-    out.extend(b" <")?;
-    out.extend(table.query_text.as_bytes())?;
-    out.extend(b">")?;
-    Ok(())
+fn dynamic_table(table: &CreateDynamicTable, out: &mut Printer) {
+    out.put(b"dynamic table ");
+    out.put(table.name.as_bytes());
+    lag(table.lag, out);
+    out.put(mode(table.mode));
+    out.put(initialize(table.initialize));
+    query(&table.query, out);
+    out.put(b" <");
+    out.put(table.query_text.as_bytes());
+    out.put(b">");
 }
 
-fn named(what: &[u8], name: &Text, out: &mut Bytes) -> Result<(), Fail> {
-    out.extend(what)?;
+fn named(what: &[u8], name: &Text, out: &mut Printer) {
+    out.put(what);
     word(out, name.as_bytes())
 }
 
-fn stream(name: &Text, table: &Text, append_only: bool, out: &mut Bytes) -> Result<(), Fail> {
-    named(b"stream", name, out)?;
-    out.extend(b" on ")?;
-    out.extend(table.as_bytes())?;
+fn stream(name: &Text, table: &Text, append_only: bool, out: &mut Printer) {
+    named(b"stream", name, out);
+    out.put(b" on ");
+    out.put(table.as_bytes());
     if append_only {
-        out.extend(b" appended")?;
+        out.put(b" appended");
     }
-    Ok(())
 }
 
-pub fn statement(found: &Statement, out: &mut Bytes) -> Result<(), Fail> {
+pub fn statement(found: &Statement, out: &mut Printer) {
     match found {
         Statement::Select(shown, keys) => {
-            query(shown, out)?;
+            query(shown, out);
             sorts(keys.as_slice(), out)
         }
         Statement::HasData(name) => named(b"has data", name, out),
@@ -163,15 +156,15 @@ pub fn statement(found: &Statement, out: &mut Bytes) -> Result<(), Fail> {
         Statement::SuspendDynamicTable(name) => named(b"suspend dynamic table", name, out),
         Statement::RefreshDynamicTable(name) => named(b"refresh dynamic table", name, out),
         Statement::SetTargetLag(name, found) => {
-            named(b"lag", name, out)?;
+            named(b"lag", name, out);
             lag(*found, out)
         }
         Statement::DropTable(name) => named(b"drop table", name, out),
         Statement::DropStream(name) => named(b"drop stream", name, out),
         Statement::DropTask(name) => named(b"drop task", name, out),
         Statement::DropDynamicTable(name) => named(b"drop dynamic table", name, out),
-        Statement::Begin => Ok(out.extend(b"begin")?),
-        Statement::Commit => Ok(out.extend(b"commit")?),
-        Statement::Rollback => Ok(out.extend(b"rollback")?),
+        Statement::Begin => out.put(b"begin"),
+        Statement::Commit => out.put(b"commit"),
+        Statement::Rollback => out.put(b"rollback"),
     }
 }

@@ -1,17 +1,15 @@
 //! Expressions, queries and changes of rows as short texts, for tables of tests.
 
-use crate::texts::print_column;
-use std::test::Fail;
+use crate::texts::Printer;
 use wh_ast::{
     Assignment, Core, Dml, Expr, Item, Join, Key, MergeClause, Operator, Query, Rows, Sort, Source,
 };
-use wh_value::{Bytes, Comparison, Text, print_literal};
+use wh_value::{Comparison, Text};
 
 /// A blank and a word.
-pub fn word(out: &mut Bytes, text: &[u8]) -> Result<(), Fail> {
-    out.extend(b" ")?;
-    out.extend(text)?;
-    Ok(())
+pub fn word(out: &mut Printer, text: &[u8]) {
+    out.put(b" ");
+    out.put(text);
 }
 
 fn operator_text(operator: Operator) -> &'static [u8] {
@@ -34,279 +32,249 @@ fn not(negated: bool) -> &'static [u8] {
     if negated { b"not " } else { b"" }
 }
 
-fn expr(x: &Expr, out: &mut Bytes) -> Result<(), Fail> {
-    match x {
-        Expr::Const(value) => print_literal(value, out)?,
-        Expr::Column(entry, name) => print_column(entry, name, out)?,
-        Expr::Neg(x) => {
-            out.extend(b"(neg ")?;
-            expr(x.get(), out)?;
-            out.extend(b")")?;
-        }
-        Expr::Not(x) => {
-            out.extend(b"(not ")?;
-            expr(x.get(), out)?;
-            out.extend(b")")?;
-        }
-        Expr::Binary(operator, x, y) => {
-            out.extend(b"(")?;
-            expr(x.get(), out)?;
-            out.extend(operator_text(*operator))?;
-            expr(y.get(), out)?;
-            out.extend(b")")?;
-        }
-        Expr::IsNull(negated, x) => {
-            out.extend(b"(")?;
-            out.extend(not(*negated))?;
-            out.extend(b"null ")?;
-            expr(x.get(), out)?;
-            out.extend(b")")?;
-        }
-        Expr::In(negated, x, items) => {
-            out.extend(b"(")?;
-            out.extend(not(*negated))?;
-            out.extend(b"in ")?;
-            expr(x.get(), out)?;
-            for item in items.as_slice() {
-                out.extend(b" ")?;
-                expr(item, out)?;
-            }
-            out.extend(b")")?;
-        }
-        Expr::Between(negated, x, least, greatest) => {
-            out.extend(b"(")?;
-            out.extend(not(*negated))?;
-            out.extend(b"between ")?;
-            expr(x.get(), out)?;
-            out.extend(b" ")?;
-            expr(least.get(), out)?;
-            out.extend(b" ")?;
-            expr(greatest.get(), out)?;
-            out.extend(b")")?;
-        }
-        Expr::Sum(x) => {
-            out.extend(b"(sum ")?;
-            expr(x.get(), out)?;
-            out.extend(b")")?;
-        }
-        Expr::CountRows => out.extend(b"(count *)")?,
-        Expr::Count(x) => {
-            out.extend(b"(count ")?;
-            expr(x.get(), out)?;
-            out.extend(b")")?;
-        }
-    }
-    Ok(())
+/// A word and an expression in parentheses.
+#[cycle(print_expr)]
+fn behind(before: &[u8], x: &Expr, out: &mut Printer) {
+    out.put(b"(");
+    out.put(before);
+    expr(x, out);
+    out.put(b")");
 }
 
-fn exprs(found: &[Expr], out: &mut Bytes) -> Result<(), Fail> {
-    for x in found {
-        out.extend(b" ")?;
-        expr(x, out)?;
+#[cycle(print_expr)]
+fn expr(x: &Expr, out: &mut Printer) {
+    match x {
+        Expr::Const(value) => out.literal(value),
+        Expr::Column(entry, name) => out.column(entry, name),
+        Expr::Neg(x) => behind(b"neg ", x.get(), out),
+        Expr::Not(x) => behind(b"not ", x.get(), out),
+        Expr::Binary(operator, x, y) => {
+            out.put(b"(");
+            expr(x.get(), out);
+            out.put(operator_text(*operator));
+            expr(y.get(), out);
+            out.put(b")");
+        }
+        Expr::IsNull(false, x) => behind(b"null ", x.get(), out),
+        Expr::IsNull(true, x) => behind(b"not null ", x.get(), out),
+        Expr::In(negated, x, items) => {
+            out.put(b"(");
+            out.put(not(*negated));
+            out.put(b"in ");
+            expr(x.get(), out);
+            exprs(items.as_slice(), out);
+            out.put(b")");
+        }
+        Expr::Between(negated, x, least, greatest) => {
+            out.put(b"(");
+            out.put(not(*negated));
+            out.put(b"between ");
+            expr(x.get(), out);
+            out.put(b" ");
+            expr(least.get(), out);
+            out.put(b" ");
+            expr(greatest.get(), out);
+            out.put(b")");
+        }
+        Expr::Sum(x) => behind(b"sum ", x.get(), out),
+        Expr::CountRows => out.put(b"(count *)"),
+        Expr::Count(x) => behind(b"count ", x.get(), out),
     }
-    Ok(())
+}
+
+#[cycle(print_expr)]
+fn exprs(found: &[Expr], out: &mut Printer) {
+    for x in found {
+        out.put(b" ");
+        expr(x, out);
+    }
 }
 
 /// A word and an expression, if there is one.
-fn optional(before: &[u8], x: &Option<Expr>, out: &mut Bytes) -> Result<(), Fail> {
+fn optional(before: &[u8], x: &Option<Expr>, out: &mut Printer) {
     if let Some(x) = x {
-        word(out, before)?;
-        out.extend(b" ")?;
-        expr(x, out)?;
+        word(out, before);
+        out.put(b" ");
+        expr(x, out);
     }
-    Ok(())
 }
 
-fn alias(alias: &Option<Text>, out: &mut Bytes) -> Result<(), Fail> {
+fn alias(alias: &Option<Text>, out: &mut Printer) {
     if let Some(alias) = alias {
-        out.extend(b":")?;
-        out.extend(alias.as_bytes())?;
+        out.put(b":");
+        out.put(alias.as_bytes());
     }
-    Ok(())
 }
 
-fn item(item: &Item, out: &mut Bytes) -> Result<(), Fail> {
+fn item(item: &Item, out: &mut Printer) {
     match item {
-        Item::Star => out.extend(b"*")?,
+        Item::Star => out.put(b"*"),
         Item::StarOf(name) => {
-            out.extend(name.as_bytes())?;
-            out.extend(b".*")?;
+            out.put(name.as_bytes());
+            out.put(b".*");
         }
         Item::Expr(x, name) => {
-            expr(x, out)?;
-            alias(name, out)?;
+            expr(x, out);
+            alias(name, out);
         }
     }
-    Ok(())
 }
 
 #[cycle(print_query)]
-fn source(source: &Source, out: &mut Bytes) -> Result<(), Fail> {
+fn source(source: &Source, out: &mut Printer) {
     match source {
         Source::Named(name, other) => {
-            out.extend(name.as_bytes())?;
-            alias(other, out)?;
+            out.put(name.as_bytes());
+            alias(other, out);
         }
         Source::Subquery(inner, name) => {
-            out.extend(b"(")?;
-            query(inner.get(), out)?;
-            out.extend(b"):")?;
-            out.extend(name.as_bytes())?;
+            out.put(b"(");
+            query(inner.get(), out);
+            out.put(b"):");
+            out.put(name.as_bytes());
         }
     }
-    Ok(())
 }
 
 #[cycle(print_query)]
-fn join(join: &Join, out: &mut Bytes) -> Result<(), Fail> {
-    out.extend(b" join ")?;
-    source(&join.source, out)?;
-    out.extend(b" on ")?;
-    expr(&join.on, out)?;
-    Ok(())
+fn join(join: &Join, out: &mut Printer) {
+    out.put(b" join ");
+    source(&join.source, out);
+    out.put(b" on ");
+    expr(&join.on, out);
 }
 
 /// `[items from source joins if filter by group]`
 #[cycle(print_query)]
-fn core(core: &Core, out: &mut Bytes) -> Result<(), Fail> {
-    out.extend(b"[")?;
+fn core(core: &Core, out: &mut Printer) {
+    out.put(b"[");
     for shown in core.items.as_slice() {
-        item(shown, out)?;
-        out.extend(b" ")?;
+        item(shown, out);
+        out.put(b" ");
     }
-    out.extend(b"from ")?;
-    source(&core.from, out)?;
+    out.put(b"from ");
+    source(&core.from, out);
     for joined in core.joins.as_slice() {
-        join(joined, out)?;
+        join(joined, out);
     }
-    optional(b"if", &core.filter, out)?;
+    optional(b"if", &core.filter, out);
     if !core.group.as_slice().is_empty() {
-        out.extend(b" by")?;
-        exprs(core.group.as_slice(), out)?;
+        out.put(b" by");
+        exprs(core.group.as_slice(), out);
     }
-    out.extend(b"]")?;
-    Ok(())
+    out.put(b"]");
 }
 
 #[cycle(print_query)]
-pub fn query(query: &Query, out: &mut Bytes) -> Result<(), Fail> {
+pub fn query(query: &Query, out: &mut Printer) {
     for one in query.cores.as_slice() {
-        core(one, out)?;
+        core(one, out);
     }
-    Ok(())
 }
 
-pub fn sorts(sorts: &[Sort], out: &mut Bytes) -> Result<(), Fail> {
+pub fn sorts(sorts: &[Sort], out: &mut Printer) {
     for sort in sorts {
-        out.extend(if sort.descending { b" down " } else { b" up " })?;
+        out.put(if sort.descending { b" down " } else { b" up " });
         match &sort.key {
-            Key::Name(name) => out.extend(name.as_bytes())?,
-            Key::Position(number) => out.extend_decimal(*number)?,
+            Key::Name(name) => out.put(name.as_bytes()),
+            Key::Position(number) => out.decimal(*number),
         }
     }
-    Ok(())
 }
 
-pub fn names(names: &[Text], out: &mut Bytes) -> Result<(), Fail> {
+pub fn names(names: &[Text], out: &mut Printer) {
     for name in names {
-        word(out, name.as_bytes())?;
+        word(out, name.as_bytes());
     }
-    Ok(())
 }
 
 /// Names in parentheses, if they are written.
-fn columns_of(columns: Option<&[Text]>, out: &mut Bytes) -> Result<(), Fail> {
+fn columns_of(columns: Option<&[Text]>, out: &mut Printer) {
     if let Some(found) = columns {
-        out.extend(b" (")?;
-        names(found, out)?;
-        out.extend(b" )")?;
+        out.put(b" (");
+        names(found, out);
+        out.put(b" )");
     }
-    Ok(())
 }
 
-fn rows(rows: &Rows, out: &mut Bytes) -> Result<(), Fail> {
+fn rows(rows: &Rows, out: &mut Printer) {
     match rows {
         Rows::Values(found) => {
             for row in found.as_slice() {
-                out.extend(b" row")?;
-                exprs(row.as_slice(), out)?;
+                out.put(b" row");
+                exprs(row.as_slice(), out);
             }
         }
         Rows::Query(found) => {
-            out.extend(b" ")?;
-            query(found, out)?;
+            out.put(b" ");
+            query(found, out);
         }
     }
-    Ok(())
 }
 
-fn set(set: &[Assignment], out: &mut Bytes) -> Result<(), Fail> {
+fn set(set: &[Assignment], out: &mut Printer) {
     for assignment in set {
-        word(out, assignment.column.as_bytes())?;
-        out.extend(b":=")?;
-        expr(&assignment.value, out)?;
+        word(out, assignment.column.as_bytes());
+        out.put(b":=");
+        expr(&assignment.value, out);
     }
-    Ok(())
 }
 
-fn clause(clause: &MergeClause, out: &mut Bytes) -> Result<(), Fail> {
+fn clause(clause: &MergeClause, out: &mut Printer) {
     match clause {
         MergeClause::Update(condition, found) => {
-            out.extend(b" | update")?;
-            optional(b"if", condition, out)?;
-            set(found.as_slice(), out)?;
+            out.put(b" | update");
+            optional(b"if", condition, out);
+            set(found.as_slice(), out);
         }
         MergeClause::Delete(condition) => {
-            out.extend(b" | delete")?;
-            optional(b"if", condition, out)?;
+            out.put(b" | delete");
+            optional(b"if", condition, out);
         }
         MergeClause::Insert(condition, columns, row) => {
-            out.extend(b" | insert")?;
-            optional(b"if", condition, out)?;
-            columns_of(columns.as_ref().map(|found| found.as_slice()), out)?;
-            out.extend(b" row")?;
-            exprs(row.as_slice(), out)?;
+            out.put(b" | insert");
+            optional(b"if", condition, out);
+            columns_of(columns.as_ref().map(|found| found.as_slice()), out);
+            out.put(b" row");
+            exprs(row.as_slice(), out);
         }
     }
-    Ok(())
 }
 
-fn clauses(clauses: &[MergeClause], out: &mut Bytes) -> Result<(), Fail> {
+fn clauses(clauses: &[MergeClause], out: &mut Printer) {
     for found in clauses {
-        clause(found, out)?;
+        clause(found, out);
     }
-    Ok(())
 }
 
-pub fn dml(dml: &Dml, out: &mut Bytes) -> Result<(), Fail> {
+pub fn dml(dml: &Dml, out: &mut Printer) {
     match dml {
         Dml::Insert(table, columns, found) => {
-            out.extend(b"insert ")?;
-            out.extend(table.as_bytes())?;
-            columns_of(columns.as_ref().map(|found| found.as_slice()), out)?;
-            rows(found, out)?;
+            out.put(b"insert ");
+            out.put(table.as_bytes());
+            columns_of(columns.as_ref().map(|found| found.as_slice()), out);
+            rows(found, out);
         }
         Dml::Update(table, found, filter) => {
-            out.extend(b"update ")?;
-            out.extend(table.as_bytes())?;
-            set(found.as_slice(), out)?;
-            optional(b"if", filter, out)?;
+            out.put(b"update ");
+            out.put(table.as_bytes());
+            set(found.as_slice(), out);
+            optional(b"if", filter, out);
         }
         Dml::Delete(table, filter) => {
-            out.extend(b"delete ")?;
-            out.extend(table.as_bytes())?;
-            optional(b"if", filter, out)?;
+            out.put(b"delete ");
+            out.put(table.as_bytes());
+            optional(b"if", filter, out);
         }
         Dml::Merge(target, name, from, on, found) => {
-            out.extend(b"merge ")?;
-            out.extend(target.as_bytes())?;
-            alias(name, out)?;
-            out.extend(b" from ")?;
-            source(from, out)?;
-            out.extend(b" on ")?;
-            expr(on, out)?;
-            clauses(found.as_slice(), out)?;
+            out.put(b"merge ");
+            out.put(target.as_bytes());
+            alias(name, out);
+            out.put(b" from ");
+            source(from, out);
+            out.put(b" on ");
+            expr(on, out);
+            clauses(found.as_slice(), out);
         }
     }
-    Ok(())
 }

@@ -1,11 +1,11 @@
 //! Queries, and whether a stream has data.
 
-use super::spelled;
+use super::{assert_none, assert_spelled};
 use std::test::Fail;
 
 #[test]
 fn queries_are_read(rt: HostRuntime) -> Result<(), Fail> {
-    let cases = [
+    let cases = &[
         ("SELECT * FROM t", "[* from T]"),
         ("SELECT t.* FROM t", "[T.* from T]"),
         ("SELECT a, t.b, 1 FROM t", "[A T.B 1 from T]"),
@@ -117,16 +117,12 @@ fn queries_are_read(rt: HostRuntime) -> Result<(), Fail> {
             "[(neg A) (neg (neg 1)) A TRUE FALSE NULL 'it''s' from T]",
         ),
     ];
-    for (text, want) in cases {
-        let found = spelled(rt.alloc(), text.as_bytes())?;
-        assert_eq!(rt; found.as_slice(), want.as_bytes(), "{text}");
-    }
-    Ok(())
+    assert_spelled(&rt, rt.alloc(), cases)
 }
 
 #[test]
 fn other_queries_are_none(rt: HostRuntime) -> Result<(), Fail> {
-    let cases = [
+    let cases = &[
         "SELECT",
         "SELECT *",
         "SELECT * FROM",
@@ -180,9 +176,5 @@ fn other_queries_are_none(rt: HostRuntime) -> Result<(), Fail> {
         "SELECT a IS TRUE FROM t",
         "SELECT a BETWEEN 1 FROM t",
     ];
-    for text in cases {
-        let found = spelled(rt.alloc(), text.as_bytes())?;
-        assert_eq!(rt; found.as_slice(), b"none".as_slice(), "{text}");
-    }
-    Ok(())
+    assert_none(&rt, rt.alloc(), cases)
 }

@@ -1,11 +1,11 @@
 //! CREATE TASK.
 
-use super::spelled;
+use super::{assert_none, assert_spelled};
 use std::test::Fail;
 
 #[test]
 fn tasks_are_created(rt: HostRuntime) -> Result<(), Fail> {
-    let cases = [
+    let cases = &[
         (
             "CREATE TASK k AS DELETE FROM t",
             "task K do delete T <DELETE FROM t>",
@@ -115,16 +115,12 @@ fn tasks_are_created(rt: HostRuntime) -> Result<(), Fail> {
             "task K after A B when S <SYSTEM$STREAM_HAS_DATA('s')> do delete T <DELETE FROM t>",
         ),
     ];
-    for (text, want) in cases {
-        let found = spelled(rt.alloc(), text.as_bytes())?;
-        assert_eq!(rt; found.as_slice(), want.as_bytes(), "{text}");
-    }
-    Ok(())
+    assert_spelled(&rt, rt.alloc(), cases)
 }
 
 #[test]
 fn other_tasks_are_none(rt: HostRuntime) -> Result<(), Fail> {
-    let cases = [
+    let cases = &[
         "CREATE TASK",
         "CREATE TASK k",
         "CREATE TASK k AS",
@@ -168,9 +164,5 @@ fn other_tasks_are_none(rt: HostRuntime) -> Result<(), Fail> {
         "CREATE TASK k WHEN SYSTEM$STREAM_HAS_DATA('s') WHEN SYSTEM$STREAM_HAS_DATA('s') AS DELETE FROM t",
         "CREATE TASK k AS DELETE FROM t WHEN SYSTEM$STREAM_HAS_DATA('s')",
     ];
-    for text in cases {
-        let found = spelled(rt.alloc(), text.as_bytes())?;
-        assert_eq!(rt; found.as_slice(), b"none".as_slice(), "{text}");
-    }
-    Ok(())
+    assert_none(&rt, rt.alloc(), cases)
 }

@@ -1,11 +1,11 @@
 //! Statements as data teams write them: tables with streams, task graphs and dynamic tables.
 
-use super::spelled;
+use super::assert_some;
 use std::test::Fail;
 
 #[test]
 fn statements_on_tables_and_streams_are_read(rt: HostRuntime) -> Result<(), Fail> {
-    let texts = [
+    let texts = &[
         "CREATE TABLE T(K NUMBER, V NUMBER)",
         "CREATE TABLE RAW(ID NUMBER, REGION VARCHAR, AMOUNT NUMBER)",
         "CREATE STREAM S ON TABLE T",
@@ -25,16 +25,12 @@ fn statements_on_tables_and_streams_are_read(rt: HostRuntime) -> Result<(), Fail
         "ROLLBACK",
         "DROP TABLE T",
     ];
-    for text in texts {
-        let found = spelled(rt.alloc(), text.as_bytes())?;
-        assert_ne!(rt; found.as_slice(), b"none".as_slice(), "{text}");
-    }
-    Ok(())
+    assert_some(&rt, rt.alloc(), texts)
 }
 
 #[test]
 fn queries_of_changes_are_read(rt: HostRuntime) -> Result<(), Fail> {
-    let texts = [
+    let texts = &[
         "SELECT * FROM T",
         "SELECT K FROM S",
         "SELECT Z FROM T",
@@ -51,16 +47,12 @@ fn queries_of_changes_are_read(rt: HostRuntime) -> Result<(), Fail> {
         "SELECT V * 999999999999999999 FROM T",
         "SELECT A.K, COUNT(*) AS N, COUNT(A.V) AS M, SUM(A.V) AS S FROM T AS A JOIN T AS B ON A.K = B.K WHERE A.V IS NULL OR A.V > 0 GROUP BY A.K",
     ];
-    for text in texts {
-        let found = spelled(rt.alloc(), text.as_bytes())?;
-        assert_ne!(rt; found.as_slice(), b"none".as_slice(), "{text}");
-    }
-    Ok(())
+    assert_some(&rt, rt.alloc(), texts)
 }
 
 #[test]
 fn statements_on_tasks_and_dynamic_tables_are_read(rt: HostRuntime) -> Result<(), Fail> {
-    let texts = [
+    let texts = &[
         "CREATE TASK R AS INSERT INTO L VALUES (0)",
         "CREATE TASK A AFTER R AS INSERT INTO L VALUES (1)",
         "CREATE TASK B AFTER R WHEN SYSTEM$STREAM_HAS_DATA('S') AS INSERT INTO L SELECT K FROM S",
@@ -82,9 +74,5 @@ fn statements_on_tasks_and_dynamic_tables_are_read(rt: HostRuntime) -> Result<()
         "ALTER DYNAMIC TABLE D SET TARGET_LAG = '2 days'",
         "DROP DYNAMIC TABLE D2",
     ];
-    for text in texts {
-        let found = spelled(rt.alloc(), text.as_bytes())?;
-        assert_ne!(rt; found.as_slice(), b"none".as_slice(), "{text}");
-    }
-    Ok(())
+    assert_some(&rt, rt.alloc(), texts)
 }

@@ -1,17 +1,19 @@
-use Rattle.std.proofs.Common.{◌≡◌, ◌≤◌, ◌+◌, ◌∙◌, ◌++◌, ◌∷◌, [], ap, sym, subst, List, length, map, IsTrue, arith}
+use Rattle.std.proofs.Common.{◌≡◌, refl, ◌≤◌, ◌+◌, ◌∙◌, ◌++◌, ◌∷◌, [], ap, sym, subst, List, length, map, IsTrue, arith}
 use Rattle.std.specs.List.{list_all}
+use Rattle.std.proofs.lemmas.Bool.{and_from}
 use Rattle.std.specs.Prelude.{not}
 use Rattle.wh_frame.specs.Partition.{Partition}
 use Rattle.wh_value.specs.View.{column_of}
 use Rattle.wh_machine.specs.State.{content_in}
 use Rattle.wh_machine.specs.Stored.{StoredVersion}
-use Rattle.wh_machine.specs.Commit.{without, is_among}
+use Rattle.wh_machine.specs.Edits.{without, is_among}
 use Rattle.wh_version.specs.Lists.{shortened}
 use Rattle.wh_version.specs.History.{versions_of, nexts_of, standing_in, next_in, pushed_with}
 use Rattle.wh_catalog.specs.Table.{kept_table}
-use Rattle.wh_catalog.specs.Apart.{is_apart, highest_number}
+use Rattle.wh_catalog.specs.Apart.{is_apart, is_rising, rows_rise, highest_number}
 use Rattle.wh_catalog.proofs.Apart.{changed_apart, highest_number-append, highest_filter}
-use Rattle.wh_catalog.proofs.Pushed.{shortened-push, last_of-push, next_in-push, all_apart-push, last_apart}
+use Rattle.wh_catalog.proofs.Pushed.{shortened-push, last_of-push, next_in-push, last_apart}
+use Rattle.wh_catalog.proofs.Rising.{each_filter, each_append, last_rising}
 use Rattle.wh_catalog.proofs.table.StoredTable.add_version.Goals as goal
 
 pub invariant_of-self : goal.invariant_of-self
@@ -25,6 +27,7 @@ invariant_of-self c =
       row_numbers = t.row_numbers;
       highest_row = subst (λ vs. highest_number (standing_in vs) ≤ t.highest) same t.highest_row;
       apart = subst P same t.apart;
+      rising = subst (λ vs. IsTrue (list_all is_rising vs)) same t.rising;
     }
 
 pub invariant_of-self-2 : goal.invariant_of-self-2
@@ -42,11 +45,14 @@ invariant_of-self-2 c =
     let size = ap highest_number (ap standing_in now ∙ last) ∙ highest_number-append (without removed ps) added in
     let fewer = highest_filter (λ p. not (is_among p.number removed)) ps in
     let before = t.highest_row in
+    let added_rising : IsTrue (list_all rows_rise added) = subst (λ qs. IsTrue (list_all rows_rise qs)) c.deref.ensures.value c.highest_of-highest.ensures.rising in
+    let new_rising = each_append rows_rise (without removed ps) added (each_filter rows_rise (λ p. not (is_among p.number removed)) ps (last_rising versions t.rising)) added_rising in
     record {
       few_columns = t.few_columns;
       row_numbers = c.requires.next_row;
-      highest_row = omega (arith, size, fewer, before, c.highest_of-highest.ensures, ap highest_number c.deref.ensures.value);
-      apart = subst P (sym now) (all_apart-push versions v t.apart (changed_apart removed ps added (last_apart versions t.apart) c.requires.apart));
+      highest_row = omega (arith, size, fewer, before, c.highest_of-highest.ensures.highest, ap highest_number c.deref.ensures.value);
+      apart = subst P (sym now) (each_append is_apart versions (v ∷ []) t.apart (and_from _ _ (changed_apart removed ps added (last_apart versions t.apart) c.requires.apart) refl));
+      rising = subst (λ vs. IsTrue (list_all is_rising vs)) (sym now) (each_append is_rising versions (v ∷ []) t.rising (and_from _ _ new_rising refl));
     }
 
 pub returns-clause-pushed : goal.returns-clause-pushed

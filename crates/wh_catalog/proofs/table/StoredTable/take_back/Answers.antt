@@ -2,8 +2,8 @@ use Rattle.std.proofs.Common.{sym, subst, List, IsTrue}
 use Rattle.std.specs.List.{list_all}
 use Rattle.wh_machine.specs.Stored.{StoredVersion}
 use Rattle.wh_version.specs.History.{versions_of}
-use Rattle.wh_catalog.specs.Apart.{is_apart}
-use Rattle.wh_catalog.proofs.Pushed.{shortened_apart}
+use Rattle.wh_catalog.specs.Apart.{is_apart, is_rising}
+use Rattle.wh_catalog.proofs.Rising.{each_shortened}
 use Rattle.wh_catalog.proofs.table.StoredTable.take_back.Goals as goal
 
 pub invariant_of-self : goal.invariant_of-self
@@ -14,5 +14,6 @@ invariant_of-self c =
       few_columns = t.few_columns;
       row_numbers = c.requires;
       highest_row = c.highest_standing-self.ensures;
-      apart = subst P (sym c.pop.ensures.versions) (shortened_apart (versions_of t.history) t.apart);
+      apart = subst P (sym c.pop.ensures.versions) (each_shortened is_apart (versions_of t.history) t.apart);
+      rising = subst (λ vs. IsTrue (list_all is_rising vs)) (sym c.pop.ensures.versions) (each_shortened is_rising (versions_of t.history) t.rising);
     }

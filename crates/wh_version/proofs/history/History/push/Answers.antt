@@ -1,7 +1,8 @@
 use Rattle.std.proofs.Common.{◌≡◌, ℕ, ◌+◌, ◌<◌, ◌≤◌, ◌∙◌, ◌∷◌, [], ◌++◌, ap, sym, subst, length, map, filter, IsTrue, arith, length-append}
 use Rattle.std.specs.List.{list_all}
 use Rattle.std.proofs.lemmas.List.{length-map}
-use Rattle.wh_machine.specs.Commit.{NumberedFrom, without}
+use Rattle.wh_machine.specs.Commit.{NumberedFrom}
+use Rattle.wh_machine.specs.Edits.{without}
 use Rattle.wh_version.specs.declared.mark.VersionMark.{VersionMark}
 use Rattle.wh_version.specs.Kept.{partitions_in, numbered_from, count_to, is_gone_by, is_standing, parted, fresh, standing_at, versions_by}
 use Rattle.wh_version.specs.History.{versions_of, nexts_of, marks_of, standing_in}

@@ -1,0 +1,58 @@
+//! Objects that are dropped, and that live again.
+ghost use Rattle.std.specs.Prelude.{◌≡◌, ◌≤◌, ◌+◌, map, length, count_by, OnOk, OnErr, IfOk, IsErrOf};
+ghost use Rattle.wh_value.specs.Limit.{bound};
+ghost use Rattle.wh_value.specs.declared.limit.Limit.TheVariants as limits;
+ghost use Rattle.wh_machine.specs.State.{at_id, changed_at, dropped};
+ghost use Rattle.wh_machine.specs.Commit.{IsLiveObject};
+ghost use Rattle.wh_catalog.specs.Kept.{object_in};
+ghost use Rattle.wh_catalog.specs.Table.{kept_object};
+ghost use Rattle.wh_catalog.specs.Back.{alive};
+ghost use Rattle.wh_catalog.specs.Undo.{step_undone};
+
+use crate::undo::Step;
+use crate::{StageFault, StoredObject};
+
+/// Drops the object of an id, if it lives.
+pub(crate) fn drop_object(objects: &mut Vec<StoredObject>, id: u32) -> Result<Step, StageFault>
+    requires { count_by (λ o. o.is_live) objects.old.items ≤ bound limits.Objects }
+    ensures applies { OnOk result (IsLiveObject
+        (at_id (map object_in (map kept_object objects.old.items)) id)) }
+    ensures changed { OnOk result (map object_in (map kept_object objects.new.items)
+        ≡ changed_at (map object_in (map kept_object objects.old.items)) id dropped) }
+    ensures back { IfOk result (λ step. step_undone step (map kept_object objects.new.items)
+        ≡ map kept_object objects.old.items) }
+    ensures not_applicable { IsErrOf result StageFault.NotApplicable
+        → IsLiveObject (at_id (map object_in (map kept_object objects.old.items)) id) → ⊥ }
+    ensures same { OnErr result (map kept_object objects.new.items
+        ≡ map kept_object objects.old.items) }
+    ensures count { length objects.new.items ≡ length objects.old.items }
+    ensures live { count_by (λ o. o.is_live) objects.new.items
+        ≤ count_by (λ o. o.is_live) objects.old.items }
+{
+    let place = id as usize;
+    if place == 0 || objects.len() < place {
+        return Err(StageFault::NotApplicable);
+    }
+    let object = &mut objects[place - 1];
+    if !object.is_live {
+        return Err(StageFault::NotApplicable);
+    }
+    object.is_live = false;
+    Ok(Step::DroppedObject(id))
+}
+
+/// The object of an id lives again.
+pub(crate) fn revive(objects: &mut Vec<StoredObject>, id: u32)
+    ensures back { map kept_object objects.new.items
+        ≡ changed_at (map kept_object objects.old.items) id alive }
+    ensures count { length objects.new.items ≡ length objects.old.items }
+    ensures live { count_by (λ o. o.is_live) objects.new.items
+        ≤ count_by (λ o. o.is_live) objects.old.items + 1 }
+{
+    let place = id as usize;
+    if place == 0 || objects.len() < place {
+        return;
+    }
+    let object = &mut objects[place - 1];
+    object.is_live = true;
+}

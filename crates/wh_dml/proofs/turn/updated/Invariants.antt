@@ -1,0 +1,14 @@
+use Rattle.std.proofs.Common.{◌≡◌, drop}
+use Rattle.std.specs.Option.{option_map}
+use Rattle.wh_scalar.specs.View.{scalar_of}
+use Rattle.wh_algebra.specs.View.{scalars_of}
+use Rattle.wh_effect.specs.Effect as meaning
+use Rattle.wh_dml.specs.View.{effect_of, targets_of}
+use Rattle.wh_dml.specs.Steps.{before}
+use Rattle.wh_dml.proofs.turn.updated.Given as goal
+
+abbrev pub invariant-loop-kept : goal.invariant-loop-kept
+invariant-loop-kept l =
+    meaning.turned (meaning.updated (scalar_of l.condition) (scalars_of l.parts)) (targets_of l.target)
+    ≡ option_map (before (effect_of l.effect))
+    (meaning.turned (meaning.updated (scalar_of l.condition) (scalars_of l.parts)) (targets_of (drop l.kept-index l.target)))

@@ -1,0 +1,3 @@
+pub mod View
+pub mod Given
+pub mod Steps

@@ -1,0 +1,121 @@
+-- Steps of a change.
+--     before, done_by                 the effect of rows and then of others, and of one row's turn
+--     clause_at, clauses_at           the clauses that references point to
+--     choice                          the first clause whose condition is TRUE, where the conditions of all are defined
+--     turns_on                        the turns of a target's row, one for each source row that selects a clause
+--     marked, marks                   which source rows are matched, after one row of the target and after all
+--     Settled, settled                what the target's rows come to, by their turns
+--     outcome                         the effect with the rows that are added, or the ambiguous row
+--     left_over, inserts_of           the source rows that aren't matched, and the rows that they add
+use Rattle.std.specs.Prelude.{ℕ, Bool, ◌||◌, if◌then◌else◌, List, [], ◌∷◌, ◌++◌, map, Option, Some, None, option_map}
+use denote.Ref.{Bor}
+use Rattle.wh_value.specs.Value.{Value, Row}
+use Rattle.wh_meaning.specs.Scalar.{Scalar, val, is_true, holds, of_one, of_two}
+use Rattle.wh_meaning.specs.Query.{values_on}
+use Rattle.wh_naming.specs.Changes.{BoundClause, UpdateMatched, DeleteMatched, InsertUnmatched}
+use Rattle.wh_effect.specs.Effect.{Kept, Effect, Outcome, Does, no_effect, unless_several, Turn, Stays, Goes, Becomes, condition_of, inserted_by}
+use Rattle.wh_dml_bind.specs.View.{clause_of}
+use Rattle.wh_dml_bind.specs.declared.change.BoundClause as code
+
+abbrev pub before : Effect → Effect → Effect
+before a b = record { removed = a.removed ++ b.removed; changed = a.changed ++ b.changed; added = a.added ++ b.added }
+
+abbrev pub done_by : ℕ → Turn → Effect
+done_by number Stays = no_effect
+done_by number Goes = record no_effect { removed = number ∷ [] }
+done_by number (Becomes row) = record no_effect { changed = (record { number = number; row = row }) ∷ [] }
+
+-- ---- the clauses of MERGE
+
+abbrev pub clause_at : Bor code.BoundClause → BoundClause
+clause_at clause = clause_of clause.now
+
+abbrev pub clauses_at : List (Bor code.BoundClause) → List BoundClause
+clauses_at clauses = map clause_at clauses
+
+abbrev pub first_of : {A : Type 0} → Option A → Option A → Option A
+first_of None other = other
+first_of (Some a) other = Some a
+
+abbrev pub where_true : BoundClause → Value → Option BoundClause
+where_true clause v = if is_true v then Some clause else None
+
+abbrev pub with_choice : BoundClause → Option Value → Option (Option BoundClause) → Option (Option BoundClause)
+with_choice clause value rest = of_two (λ v found. Some (first_of (where_true clause v) found)) value rest
+
+abbrev pub choice : List BoundClause → Row → Option (Option BoundClause)
+choice [] row = Some None
+choice (c ∷ cs) row = with_choice c (val (condition_of c) row) (choice cs row)
+
+-- ---- the pairs of a row of the target
+
+-- some and then others, where both are there
+abbrev pub joined : {A : Type 0} → Option (List A) → Option (List A) → Option (List A)
+joined some others = of_two (λ xs ys. Some (xs ++ ys)) some others
+
+abbrev pub turns_by : Option BoundClause → Row → Option (List Turn)
+turns_by None pair = Some []
+turns_by (Some (UpdateMatched condition parts)) pair = option_map (λ row. Becomes row ∷ []) (values_on parts pair)
+turns_by (Some (DeleteMatched condition)) pair = Some (Goes ∷ [])
+turns_by (Some (InsertUnmatched condition parts)) pair = Some []
+
+abbrev pub matched_turns : List BoundClause → Row → Option (List Turn)
+matched_turns clauses pair = of_one (λ c. turns_by c pair) (choice clauses pair)
+
+abbrev pub turns_where : Option Value → Option (List Turn) → Option (List Turn)
+turns_where on turns = of_one (λ v. if is_true v then turns else Some []) on
+
+abbrev pub pair_turns : Scalar → List BoundClause → Row → Option (List Turn)
+pair_turns on clauses pair = turns_where (val on pair) (matched_turns clauses pair)
+
+abbrev pub turns_on : Scalar → List BoundClause → List Row → Row → Option (List Turn)
+turns_on on clauses [] t = Some []
+turns_on on clauses (s ∷ ss) t = joined (pair_turns on clauses (t ++ s)) (turns_on on clauses ss t)
+
+abbrev pub marked : Scalar → Row → List Row → List Bool → List Bool
+marked on t [] flags = flags
+marked on t (s ∷ ss) [] = []
+marked on t (s ∷ ss) (f ∷ fs) = (f || holds on (t ++ s)) ∷ marked on t ss fs
+
+-- ---- all rows of the target
+
+abbrev pub marks : Scalar → List Kept → List Row → List Bool → List Bool
+marks on [] source flags = flags
+marks on (kept ∷ rest) source flags = marks on rest source (marked on kept.row source flags)
+
+-- the first row of several turns, and the effect of rows that have one
+pub record Settled : Type 0 where
+  pub ambiguous : Option Row
+  pub effect : Effect
+
+abbrev pub nothing : Settled
+nothing = record { ambiguous = None; effect = no_effect }
+
+abbrev pub after : Settled → Settled → Settled
+after a b = record { ambiguous = first_of a.ambiguous b.ambiguous; effect = before a.effect b.effect }
+
+abbrev pub settled_by : Kept → List Turn → Settled
+settled_by kept [] = nothing
+settled_by kept (turn ∷ []) = record nothing { effect = done_by kept.number turn }
+settled_by kept (turn ∷ another ∷ others) = record nothing { ambiguous = Some kept.row }
+
+abbrev pub settled : (Row → Option (List Turn)) → List Kept → Option Settled
+settled turns [] = Some nothing
+settled turns (kept ∷ rest) = of_two (λ found others. Some (after (settled_by kept found) others)) (turns kept.row) (settled turns rest)
+
+abbrev pub outcome : Settled → List Row → Outcome
+outcome s added = unless_several s.ambiguous (Does (record s.effect { added = added }))
+
+-- ---- the source rows that aren't matched
+
+abbrev pub left_over : List Row → List Bool → List Row
+left_over [] flags = []
+left_over (s ∷ ss) [] = []
+left_over (s ∷ ss) (f ∷ fs) = if f then left_over ss fs else s ∷ left_over ss fs
+
+abbrev pub inserts_by : List BoundClause → Row → Option (List Row)
+inserts_by clauses row = of_one (λ c. inserted_by c row) (choice clauses row)
+
+abbrev pub inserts_of : List BoundClause → List Row → Option (List Row)
+inserts_of clauses [] = Some []
+inserts_of clauses (s ∷ ss) = joined (inserts_by clauses s) (inserts_of clauses ss)

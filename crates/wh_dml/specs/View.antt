@@ -1,0 +1,54 @@
+-- What the types of the code stand for, and what the effect of a change is.
+--     kept_of, targets_of     rows of the target by their numbers
+--     changed_of, effect_of   a changed row, and an effect
+--     turn_of, turns_of       what becomes of a row
+--     settled_of              what the rows of a target come to in MERGE
+--     fault_of                the fault of an evaluation
+--     Gives                   what `effect` gives: the effect that is meant, or why there is none
+use Rattle.std.specs.Prelude.{◌≡◌, List, map, Result, Ok, Err}
+use Rattle.wh_part.specs.declared.partition.NumberedRow.{NumberedRow}
+use Rattle.wh_scalar.specs.declared.fault.EvalFault.{EvalFault}
+use Rattle.wh_scalar.specs.declared.fault.EvalFault.TheVariants as faults
+use Rattle.wh_effect.specs.Effect as meaning
+use Rattle.wh_effect.specs.Effect.{Outcome, Undefined, Ambiguous, Does}
+use Rattle.wh_dml.specs.Steps as steps
+use Rattle.wh_dml.specs.declared.target.TargetRow.{TargetRow}
+use Rattle.wh_dml.specs.declared.target.Effect.{Effect}
+use Rattle.wh_dml.specs.declared.turn.Turn.{Turn}
+use Rattle.wh_dml.specs.declared.turn.Turn.TheVariants.{Stays, Goes, Becomes}
+use Rattle.wh_dml.specs.declared.settled.Settled.{Settled}
+use Rattle.wh_dml.specs.declared.fault.EffectFault.{EffectFault}
+use Rattle.wh_dml.specs.declared.fault.EffectFault.TheVariants.{OutOfMemory, NumberOutOfRange, AmbiguousMerge}
+
+abbrev pub kept_of : TargetRow → meaning.Kept
+kept_of t = record { number = t.number; row = t.row.now }
+
+abbrev pub targets_of : List TargetRow → List meaning.Kept
+targets_of target = map kept_of target
+
+abbrev pub changed_of : NumberedRow → meaning.Kept
+changed_of e = record { number = e.number; row = e.row }
+
+abbrev pub effect_of : Effect → meaning.Effect
+effect_of e = record { removed = e.removed.items; changed = map changed_of e.changed.items; added = e.added.items }
+
+abbrev pub turn_of : Turn → meaning.Turn
+turn_of Stays = meaning.Stays
+turn_of Goes = meaning.Goes
+turn_of (Becomes row) = meaning.Becomes row
+
+abbrev pub turns_of : List Turn → List meaning.Turn
+turns_of turns = map turn_of turns
+
+abbrev pub settled_of : Settled → steps.Settled
+settled_of s = record { ambiguous = s.ambiguous; effect = effect_of s.effect }
+
+abbrev pub fault_of : EvalFault → EffectFault
+fault_of faults.NumberOutOfRange = NumberOutOfRange
+fault_of faults.OutOfMemory = OutOfMemory
+
+abbrev pub Gives : Result Effect EffectFault → Outcome → Type 0
+Gives (Ok e) meant = meant ≡ Does (effect_of e)
+Gives (Err NumberOutOfRange) meant = meant ≡ Undefined
+Gives (Err (AmbiguousMerge row)) meant = meant ≡ Ambiguous row
+Gives (Err OutOfMemory) meant = Unit {0}

@@ -1,0 +1,42 @@
+ghost use Rattle.wh_dml.specs.View.{Gives, targets_of};
+ghost use Rattle.wh_dml_bind.specs.View.{change_of};
+ghost use Rattle.wh_effect.specs.Effect as meaning;
+ghost use Rattle.wh_exec.specs.Evaluation.{instance_of};
+
+use crate::insert::{rows_in_order, rows_of, rows_over};
+use crate::merge::merged;
+use crate::turn::{deleted, updated};
+use crate::{Effect, EffectFault, TargetRow};
+use std::alloc::Global;
+use wh_dml_bind::Change;
+use wh_value::Row;
+
+/// What a change does to the rows of its target, over the rows of its sources.
+#[tactic(auto, unfolding(wh_effect::specs::Effect::effect))]
+pub fn effect(
+    alloc: Global,
+    change: &Change,
+    target: &[TargetRow<'_>],
+    sources: &[Vec<&Row>],
+) -> Result<Effect, EffectFault>
+    ensures { Gives result
+        (meaning.effect (change_of change.now) (targets_of target.now) (instance_of sources.now)) }
+{
+    match change {
+        Change::InsertRows(rows) => {
+            let added = rows_of(alloc, rows)?;
+            Ok(Effect::adding(alloc, added))
+        }
+        Change::InsertQuery(query, parts) => {
+            let source = rows_in_order(alloc, query, sources)?;
+            let added = rows_over(alloc, parts, &source)?;
+            Ok(Effect::adding(alloc, added))
+        }
+        Change::Update(condition, parts) => Ok(updated(alloc, condition, parts, target)?),
+        Change::Delete(condition) => Ok(deleted(alloc, condition, target)?),
+        Change::Merge(query, on, clauses) => {
+            let source = rows_in_order(alloc, query, sources)?;
+            merged(alloc, on, clauses, target, &source)
+        }
+    }
+}

@@ -1,0 +1,75 @@
+//! INSERT: the new rows.
+ghost use Rattle.wh_aggregate.specs.Given.{GivesListed};
+ghost use Rattle.wh_algebra.specs.View.{query_of, scalars_of};
+ghost use Rattle.wh_dml_bind.specs.View as bound;
+ghost use Rattle.wh_effect.specs.Effect as meaning;
+ghost use Rattle.wh_exec.specs.Evaluation.{instance_of};
+ghost use Rattle.wh_meaning.specs.Query.{eval};
+
+use crate::Effect;
+use std::alloc::{AllocError, Global};
+use wh_aggregate::values_on;
+use wh_algebra::Query;
+use wh_exec::evaluate;
+use wh_listing::listed;
+use wh_scalar::{EvalFault, Scalar};
+use wh_value::Row;
+
+/// The rows of scalars, each on a row without columns.
+pub(crate) fn rows_of(alloc: Global, rows: &[Vec<Scalar>]) -> Result<Vec<Row>, EvalFault>
+    ensures { GivesListed result (meaning.rows_of (bound.rows_of rows.now)) }
+{
+    let none = Row::new(alloc);
+    let mut added = Vec::with_capacity(alloc, rows.len())?;
+    for parts in rows {
+        let row = values_on(alloc, parts, &none)?;
+        added.push(row).map_err(AllocError::from)?;
+    }
+    Ok(added)
+}
+
+/// A row for each source row, in their order.
+pub(crate) fn rows_over(
+    alloc: Global,
+    parts: &[Scalar],
+    source: &[Row],
+) -> Result<Vec<Row>, EvalFault>
+    ensures { GivesListed result (meaning.rows_over (scalars_of parts.now) source.now) }
+{
+    let mut added = Vec::with_capacity(alloc, source.len())?;
+    for old in source {
+        let row = values_on(alloc, parts, old)?;
+        added.push(row).map_err(AllocError::from)?;
+    }
+    Ok(added)
+}
+
+/// The rows of a query in the row order.
+pub(crate) fn rows_in_order(
+    alloc: Global,
+    query: &Query,
+    sources: &[Vec<&Row>],
+) -> Result<Vec<Row>, EvalFault>
+    ensures { GivesListed result
+        (meaning.rows_in_order (eval (query_of query.now) (instance_of sources.now))) }
+{
+    let rows = evaluate(alloc, query, sources)?;
+    Ok(listed(alloc, &[], rows)?)
+}
+
+impl Effect {
+    ghost use Rattle.std.specs.Prelude.{◌≡◌};
+    ghost use Rattle.wh_dml.specs.View.{effect_of};
+    ghost use Rattle.wh_effect.specs.Effect as meaning;
+
+    /// No row goes or is changed, and these are added.
+    pub(crate) fn adding(alloc: Global, added: Vec<Row>) -> Effect
+        ensures { effect_of result ≡ record meaning.no_effect { added = added.items } }
+    {
+        Effect {
+            removed: Vec::new(alloc),
+            changed: Vec::new(alloc),
+            added,
+        }
+    }
+}

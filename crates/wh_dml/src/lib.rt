@@ -1,0 +1,20 @@
+//! What a bound changing statement does to the rows of its target: the rows that go, those that
+//! are changed, and those that are added.
+#![tactic(auto)]
+
+mod changing;
+mod clauses;
+mod fault;
+mod insert;
+mod merge;
+mod pairs;
+mod settled;
+mod target;
+#[cfg(test)]
+mod tests;
+mod turn;
+mod values;
+
+pub use changing::effect;
+pub use fault::EffectFault;
+pub use target::{Effect, TargetRow};

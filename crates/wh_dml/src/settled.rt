@@ -1,0 +1,79 @@
+use crate::turn::Turn;
+use crate::{Effect, EffectFault, TargetRow};
+use std::alloc::{AllocError, Global};
+use wh_value::Row;
+
+/// What the target's rows come to so far.
+#[derive(Debug, Drop)]
+pub(crate) struct Settled {
+    /// The first row of which several source rows select a change.
+    ambiguous: Option<Row>,
+    effect: Effect,
+}
+
+impl Settled {
+    ghost use Rattle.std.specs.Prelude.{◌≡◌, Some, OnOk};
+    ghost use Rattle.wh_dml.specs.Steps.{after, nothing, outcome, settled_by};
+    ghost use Rattle.wh_dml.specs.View.{kept_of, settled_of, turns_of, Gives};
+
+    pub(crate) fn new(alloc: Global) -> Settled
+        ensures { settled_of result ≡ nothing }
+    {
+        Settled {
+            ambiguous: None,
+            effect: Effect::new(alloc),
+        }
+    }
+
+    /// Adds the turns of the next row.
+    pub(crate) fn put(
+        &mut self,
+        alloc: Global,
+        kept: &TargetRow<'_>,
+        turns: Vec<Turn>,
+    ) -> Result<(), AllocError>
+        ensures { OnOk result (settled_of self.new
+            ≡ after (settled_of self.old) (settled_by (kept_of kept.now) (turns_of turns.items))) }
+    {
+        let mut turns = turns;
+        if turns.len() > 1 {
+            return self.put_several(alloc, kept.row);
+        }
+        if let Some(turn) = turns.pop() {
+            self.effect.put(kept.number, turn)?;
+        }
+        Ok(())
+    }
+
+    fn put_several(&mut self, alloc: Global, row: &Row) -> Result<(), AllocError>
+        ensures { OnOk result (settled_of self.new
+            ≡ after (settled_of self.old) (record nothing { ambiguous = Some row.now })) }
+    {
+        if self.ambiguous.is_none() {
+            self.ambiguous = Some(row.copy(alloc)?);
+        }
+        Ok(())
+    }
+
+    /// The effect with the rows that are added.
+    pub(crate) fn adding(self, added: Vec<Row>) -> Result<Effect, EffectFault>
+        ensures { Gives result (outcome (settled_of self) added.items) }
+    {
+        let Settled { ambiguous, effect } = self;
+        match ambiguous {
+            Some(row) => Err(EffectFault::AmbiguousMerge(row)),
+            None => {
+                let Effect {
+                    removed,
+                    changed,
+                    added: _,
+                } = effect;
+                Ok(Effect {
+                    removed,
+                    changed,
+                    added,
+                })
+            }
+        }
+    }
+}

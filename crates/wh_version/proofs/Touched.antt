@@ -1,0 +1,84 @@
+-- Partitions that edits touch.
+--     any-map            a test of what elements stand for
+--     each_touched       one that is kept, and those behind it
+--     first_last         the numbers of rows lie between the first and the last
+--     apart_untouched    edits that lie apart from them touch none
+use Rattle.std.proofs.Common.{◌≡◌, ℕ, ◌+◌, ◌≤◌, cond, Bool, true, false, List, [], ◌∷◌, ◌++◌, map, filter, None, is_some, refl, ap, ◌∙◌, arith}
+use Rattle.std.specs.Prelude.{◌||◌}
+use Rattle.std.specs.List.{list_any}
+use Rattle.std.specs.FinMap.{get}
+use Rattle.wh_value.specs.Value.{Row}
+use Rattle.wh_frame.specs.Partition.{Partition, first_number, last_number}
+use Rattle.wh_frame.specs.Spelling.{RisesFrom}
+use Rattle.wh_machine.specs.Edits.{RowEdits, is_touched, touched}
+use Rattle.wh_version.specs.declared.kept.Kept.{Kept}
+use Rattle.wh_version.specs.Kept.{is_standing, partitions_in}
+
+pub any-map : {X Y : Type 0} (f : X → Y) (test : Y → Bool) (xs : List X) → list_any (λ x. test (f x)) xs ≡ list_any test (map f xs)
+any-map f test [] = refl
+any-map f test (x ∷ xs) = ap (λ b. test (f x) || b) (any-map f test xs)
+
+-- of those that are kept, the ones that stand and are touched
+abbrev pub touched_of : RowEdits → List Kept → List Partition
+touched_of edits kept = touched edits (partitions_in (filter is_standing kept))
+
+pub each_touched : (edits : RowEdits) (k : Kept) (ks : List Kept) → touched_of edits (k ∷ ks) ≡ touched_of edits (k ∷ []) ++ touched_of edits ks
+each_touched edits k ks = pick (is_standing k)
+  where
+    by_touch : (t : Bool) → cond t (k.partition ∷ touched_of edits ks) (touched_of edits ks) ≡ cond t (k.partition ∷ []) [] ++ touched_of edits ks
+    by_touch true = refl
+    by_touch false = refl
+
+    pick : (s : Bool) → touched edits (partitions_in (cond s (k ∷ filter is_standing ks) (filter is_standing ks)))
+        ≡ touched edits (partitions_in (cond s (k ∷ []) [])) ++ touched_of edits ks
+    pick true = by_touch (is_touched edits k.partition)
+    pick false = refl
+
+pub stands_touched : (edits : RowEdits) (k : Kept) → is_standing k ≡ true → is_touched edits k.partition ≡ true → touched_of edits (k ∷ []) ≡ k.partition ∷ []
+stands_touched edits k stands is =
+    ap (λ s. touched edits (partitions_in (cond s (k ∷ []) []))) stands ∙ ap (λ t. cond t (k.partition ∷ []) []) is
+
+pub not_standing : (edits : RowEdits) (k : Kept) → is_standing k ≡ false → touched_of edits (k ∷ []) ≡ []
+not_standing edits k gone = ap (λ s. touched edits (partitions_in (cond s (k ∷ []) []))) gone
+
+pub not_touched : (edits : RowEdits) (k : Kept) → is_touched edits k.partition ≡ false → touched_of edits (k ∷ []) ≡ []
+not_touched edits k not = pick (is_standing k)
+  where
+    pick : (s : Bool) → touched edits (partitions_in (cond s (k ∷ []) [])) ≡ []
+    pick true = ap (λ t. cond t (k.partition ∷ []) []) not
+    pick false = refl
+
+-- ---- edits that lie apart from a partition
+
+last_above : (least : ℕ) (e : ℕ × Row) (es : List (ℕ × Row)) → RisesFrom least (e ∷ es) → least ≤ last_number (e ∷ es)
+last_above least e [] rises = rises.0
+last_above least e (f ∷ es) rises =
+    let here = rises.0 in
+    let rest = last_above (e.0 + 1) f es rises.1 in
+    omega arith
+
+pub first_last : (rows : List (ℕ × Row)) → RisesFrom 0 rows → first_number rows ≤ last_number rows
+first_last [] rises = omega arith
+first_last (e ∷ es) rises = last_above e.0 e es (omega arith, rises.1)
+
+abbrev pub AreApart : RowEdits → ℕ → ℕ → Type 0
+AreApart edits first last = (number : ℕ) → first ≤ number → number ≤ last → get edits number ≡ None
+
+none_from : (edits : RowEdits) (first least : ℕ) (rows : List (ℕ × Row)) → first ≤ least → RisesFrom least rows → AreApart edits first (last_number rows)
+    → list_any (λ e. is_some (get edits e.0)) rows ≡ false
+none_from edits first least [] below rises apart = refl
+none_from edits first least (e ∷ []) below rises apart =
+    let here = rises.0 in
+    ap (λ o. is_some o || false) (apart e.0 (omega arith) (omega arith))
+none_from edits first least (e ∷ f ∷ es) below rises apart =
+    let here = rises.0 in
+    let last = last_above (e.0 + 1) f es rises.1 in
+    ap (λ o. is_some o || list_any (λ e. is_some (get edits e.0)) (f ∷ es)) (apart e.0 (omega arith) (omega arith))
+    ∙ none_from edits first (e.0 + 1) (f ∷ es) (omega arith) rises.1 apart
+
+pub apart_untouched : (edits : RowEdits) (p : Partition) → RisesFrom 0 p.rows → AreApart edits (first_number p.rows) (last_number p.rows) → is_touched edits p ≡ false
+apart_untouched edits p = of_rows p.rows
+  where
+    of_rows : (rows : List (ℕ × Row)) → RisesFrom 0 rows → AreApart edits (first_number rows) (last_number rows) → list_any (λ e. is_some (get edits e.0)) rows ≡ false
+    of_rows [] rises apart = refl
+    of_rows (e ∷ es) rises apart = none_from edits e.0 e.0 (e ∷ es) (omega arith) (omega arith, rises.1) apart

@@ -1,0 +1,66 @@
+ghost use Rattle.std.specs.Prelude.{◌≡◌, map, OnOk};
+ghost use Rattle.wh_machine.specs.Edits.{with_removed, with_changed};
+ghost use Rattle.wh_version.specs.Edits.{kept_of};
+
+use crate::row_edits::RowEdits;
+use std::alloc::{AllocError, Global};
+use wh_part::NumberedRow;
+use wh_value::Row;
+
+/// Edits of a table's rows: rows that become others or go, by their numbers, and rows that come.
+#[derive(Debug, Drop)]
+pub struct Edits {
+    pub(crate) rows: RowEdits,
+    pub(crate) added: Vec<Row>,
+}
+
+impl Edits {
+    ghost use Rattle.std.specs.Prelude.{◌≡◌, map, IfOk};
+    ghost use Rattle.wh_machine.specs.Edits.{edits_of};
+    ghost use Rattle.wh_version.specs.Edits.{kept_of, edits_in};
+
+    /// Rows that go, by their numbers, rows that become others, and rows that come. Where a number
+    /// is named twice, the last one counts.
+    pub fn new(
+        alloc: Global,
+        removed: &[u64],
+        changed: Vec<NumberedRow>,
+        added: Vec<Row>,
+    ) -> Result<Edits, AllocError>
+        ensures { IfOk result (λ e. edits_in e ≡ edits_of (record {
+          removed = removed.now;
+          changed = map kept_of changed.items;
+          added = added.items;
+        })) }
+    {
+        let mut rows = RowEdits::new(alloc);
+        remove(&mut rows, removed)?;
+        change(&mut rows, changed)?;
+        Ok(Edits { rows, added })
+    }
+
+    /// The rows that come.
+    pub fn added(&self) -> &[Row]
+        ensures { result.now ≡ (edits_in self.now).added }
+    {
+        self.added.as_slice()
+    }
+}
+
+fn remove(rows: &mut RowEdits, removed: &[u64]) -> Result<(), AllocError>
+    ensures { OnOk result (rows.new ≡ with_removed rows.old removed.now) }
+{
+    for number in removed {
+        rows.put(*number, None)?;
+    }
+    Ok(())
+}
+
+fn change(rows: &mut RowEdits, changed: Vec<NumberedRow>) -> Result<(), AllocError>
+    ensures { OnOk result (rows.new ≡ with_changed rows.old (map kept_of changed.items)) }
+{
+    for NumberedRow { number, row } in changed {
+        rows.put(number, Some(row))?;
+    }
+    Ok(())
+}

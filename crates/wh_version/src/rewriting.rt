@@ -1,0 +1,91 @@
+ghost use Rattle.std.specs.Prelude.{◌≡◌, ◌+◌, ◌≤◌, ◌^◌, length, map, nat_le, is_some, IfOk, IfSome};
+ghost use Rattle.wh_value.specs.Limit.{bound};
+ghost use Rattle.wh_machine.specs.Edits.{by_rows, edited, made_of, with_added};
+ghost use Rattle.wh_version.specs.Edits.{edits_in, partitions_at};
+
+use crate::editing::left;
+use crate::sorting::by_rows;
+use crate::touching::{numbers, touched};
+use crate::{Edits, History};
+use std::alloc::{AllocError, Global};
+use wh_part::{Partition, cut};
+use wh_value::Limit;
+
+/// The partitions that edits leave behind: those that go, by rising number, and those that come.
+#[derive(Debug, Drop)]
+pub struct Rewritten {
+    pub removed: Vec<u64>,
+    pub added: Vec<Partition>,
+}
+
+impl History {
+    ghost use Rattle.std.specs.Prelude.{◌≡◌, ◌+◌, ◌≤◌, length, nat_le, is_some, IfOk, IfSome};
+    ghost use Rattle.wh_value.specs.Limit.{bound};
+    ghost use Rattle.wh_machine.specs.Edits.{numbers_gone, partitions_made};
+    ghost use Rattle.wh_version.specs.Edits.{edits_in};
+    ghost use Rattle.wh_version.specs.History.{versions_of, nexts_of, standing_in, next_in};
+
+    /// What edits make of the last version, by the cutting rule. None exactly where the next
+    /// partition number would pass its limit.
+    pub fn rewrite(
+        &self,
+        alloc: Global,
+        edits: Edits,
+        next_row: u64,
+    ) -> Result<Option<Rewritten>, AllocError>
+        requires rows { next_row + length (edits_in edits).added ≤ bound Limit.RowNumber }
+        ensures fits { IfOk result (λ found. is_some found ≡ nat_le
+            (next_in (nexts_of self.now) + length (partitions_made (next_in (nexts_of self.now))
+            next_row (edits_in edits) (standing_in (versions_of self.now))))
+            (bound Limit.PartitionNumber)) }
+        ensures removed { IfOk result (λ found. IfSome found (λ r. r.removed.items
+            ≡ numbers_gone (edits_in edits).rows (standing_in (versions_of self.now)))) }
+        ensures added { IfOk result (λ found. IfSome found (λ r. r.added.items
+            ≡ partitions_made (next_in (nexts_of self.now)) next_row (edits_in edits)
+            (standing_in (versions_of self.now)))) }
+    {
+        let touched = touched(alloc, &edits.rows, self.kept())?;
+        let removed = numbers(alloc, &touched)?;
+        let next = self.next_partition();
+        let Some(added) = made(alloc, edits, &touched, next, next_row)? else {
+            return Ok(None);
+        };
+        Ok(Some(Rewritten { removed, added }))
+    }
+}
+
+// The partitions that come, in the places of those that are touched and of the rows that are added.
+fn made(
+    alloc: Global,
+    edits: Edits,
+    touched: &[&Partition],
+    next: u64,
+    next_row: u64,
+) -> Result<Option<Vec<Partition>>, AllocError>
+    requires rows { next_row + length (edits_in edits).added ≤ bound Limit.RowNumber }
+    ensures fits { IfOk result (λ found. is_some found ≡ nat_le (next + length
+        (with_added next next_row edits.added.items (made_of next
+        (map (λ p. edited edits.rows p.rows) (by_rows (partitions_at touched.now))))))
+        (bound Limit.PartitionNumber)) }
+    ensures made { IfOk result (λ found. IfSome found (λ made. made.items
+        ≡ with_added next next_row edits.added.items (made_of next
+        (map (λ p. edited edits.rows p.rows) (by_rows (partitions_at touched.now)))))) }
+{
+    let limit = Limit::PartitionNumber.bound();
+    if next > limit {
+        return Ok(None);
+    }
+    let Edits { rows, added } = edits;
+    let sorted = by_rows(alloc, touched)?;
+    let mut made = left(alloc, &rows, &sorted, next)?;
+    let behind = next + made.len() as u64;
+    if behind > limit {
+        return Ok(None);
+    }
+    let mut more = cut(alloc, added, next_row, behind)?;
+    made.append(&mut more)?;
+    if next + made.len() as u64 > limit {
+        return Ok(None);
+    }
+    Ok(Some(made))
+}
