@@ -19,7 +19,7 @@ use Rattle.wh_cursor.specs.Keys.{key_of, key_binds, same_key}
 use Rattle.wh_expr_parse.specs.Operators.{joins}
 use Rattle.wh_expr_parse.specs.State.{State, Reader, next}
 use Rattle.wh_cursor.specs.Steps.{sees}
-use Rattle.wh_expr_parse.specs.Read.{rows, primary, unary, product, sum, test, negation, conjunction, whole, nested, read_expr}
+use Rattle.wh_expr_parse.specs.Read.{rows, primary, unary, product, sum, predicate, negation, conjunction, whole, nested, read_expr}
 use Rattle.wh_cursor.proofs.KeyLemmas.{binds_key}
 use Rattle.wh_expr_parse.proofs.RuleSteps.{Gives, column-primary, column_of-primary, number-primary, text-primary, true-primary, false-primary, null-primary, parenthesized-primary, sum-primary, count-primary, rows-primary, negative-gives, primary-unary, not-gives, test-negation, whole-starless, sum-test, compared-test, null-test, GivesItems, last-item, more-items, among-test, between-test, Comes, comes-first, comes-next, comes-ends}
 
@@ -113,7 +113,7 @@ mutual
   not-run (g.one_test a) h = test-negation _ (test-run a h)
   not-run (g.not a) h = not-gives _ (inner-negation _ (not-run a h))
 
-  test-run : {d n : ℕ} {ts us : List Token} {x : Expr} → IsTest d n ts x us → binds us < 3 → Gives (test (nested d)) n ts x us
+  test-run : {d n : ℕ} {ts us : List Token} {x : Expr} → IsTest d n ts x us → binds us < 3 → Gives (predicate (nested d)) n ts x us
   test-run (g.one_sum a) h = sum-test _ (comes-ends (sum-run a (omega (arith, h))) (omega (arith, h))) h
   test-run (g.compared {us = us} is l r) h = compared-test _ is (comes-ends (sum-run l (compared-binds us is)) (compared-ends us is)) (comes-ends (sum-run r (omega (arith, h))) (omega (arith, h)))
   test-run (g.is_null a not) h = null-test _ (comes-ends (sum-run a (omega arith)) (omega arith)) not

@@ -25,7 +25,7 @@ use Rattle.wh_cursor.specs.Keys.{key_of, key_binds, same_key}
 use Rattle.wh_expr_parse.specs.Operators.{joins}
 use Rattle.wh_expr_parse.specs.State.{State, at, next, Reader, expect, spend}
 use Rattle.wh_cursor.specs.Steps.{tail, sees}
-use Rattle.wh_expr_parse.specs.Read.{read_literal, column_of, column, turns, chain, parenthesized, sum_call, count_by, count_call, primary, negative, unary, product, sum, compared, null_test, items_from, items, among, between, negated_test, test_by, test, not_test, negation, conjunction, whole}
+use Rattle.wh_expr_parse.specs.Read.{read_literal, column_of, column, turns, chain, parenthesized, sum_call, count_by, count_call, primary, negative, unary, product, sum, compared, null_test, items_from, items, among, between, negated_test, test_by, predicate, not_test, negation, conjunction, whole}
 use Rattle.wh_cursor.proofs.Names.{name-complete}
 use Rattle.wh_cursor.proofs.KeyLemmas.{binds_key, heads}
 
@@ -227,12 +227,12 @@ module _ (inner : Level → Reader Expr) where
   unfolding sees
   other_key ts key other h d = rw h d
 
-  refuses-not : (ts : List Token) (room : ℕ) → key_of ts ≡ k.Not → test inner (at ts room) ≡ None
-  unfolding test sum product unary primary sees same_key
+  refuses-not : (ts : List Token) (room : ℕ) → key_of ts ≡ k.Not → predicate inner (at ts room) ≡ None
+  unfolding predicate sum product unary primary sees same_key
   refuses-not ts room h = rw h (rw h refl)
 
   refuses-star : (ts : List Token) (room : ℕ) → key_of ts ≡ k.Star → whole inner (at ts room) ≡ None
-  unfolding whole conjunction negation test sum product unary primary sees same_key
+  unfolding whole conjunction negation predicate sum product unary primary sees same_key
   refuses-star ts room h = rw h (rw h (rw h refl))
 
   unseen : {A : Type 0} {r : Reader A} (key : Key) {n : ℕ} {ts us : List Token} {x : A} → ((room : ℕ) → key_of ts ≡ key → r (at ts room) ≡ None) → Gives r n ts x us
@@ -250,7 +250,7 @@ module _ (inner : Level → Reader Expr) where
       let other = unseen k.Minus (refuses-minus ts) h in
       record { run = λ room left i. rw other (h.run room left i) }
 
-  pub test-negation : {n : ℕ} {ts us : List Token} {x : Expr} → Gives (test inner) n ts x us → Gives (negation inner) n ts x us
+  pub test-negation : {n : ℕ} {ts us : List Token} {x : Expr} → Gives (predicate inner) n ts x us → Gives (negation inner) n ts x us
   unfolding negation
   test-negation {ts = ts} h =
       let other = unseen k.Not (refuses-not ts) h in
@@ -274,8 +274,8 @@ module _ (inner : Level → Reader Expr) where
   no_test k.Not x s h = absurd (omega (arith, h))
   no_test _ x s h = refl
 
-  pub sum-test : {n : ℕ} {ts us : List Token} {x : Expr} → Gives (sum inner) n ts x us → binds us < 3 → Gives (test inner) n ts x us
-  unfolding test
+  pub sum-test : {n : ℕ} {ts us : List Token} {x : Expr} → Gives (sum inner) n ts x us → binds us < 3 → Gives (predicate inner) n ts x us
+  unfolding predicate
   sum-test {us = us} {x = x} h end = record {
     run = λ room left i.
         let low : key_binds (key_of us) < 3 = let b = binds_key us in omega (arith, end, b) in
@@ -291,8 +291,8 @@ module _ (inner : Level → Reader Expr) where
   }
 
   pub compared-test : {m n : ℕ} {ts us vs : List Token} {x y : Expr} {s : token.Sign} {comparison : Comparison} → IsComparison s comparison
-      → Gives (sum inner) m ts x (SignToken s ∷ us) → Gives (sum inner) n us y vs → Gives (test inner) (suc (m + n)) ts (e.Binary (o.Compare comparison) x y) vs
-  unfolding test key_of
+      → Gives (sum inner) m ts x (SignToken s ∷ us) → Gives (sum inner) n us y vs → Gives (predicate inner) (suc (m + n)) ts (e.Binary (o.Compare comparison) x y) vs
+  unfolding predicate key_of
   compared-test {n = n} {us = us} {vs = vs} {x = x} {y = y} is h l = record { run = λ room left i. rw (h.run room (suc n + left) (omega (arith, i))) (by is left) }
     where
       by : {s : token.Sign} {c : Comparison} → IsComparison s c → (left : ℕ)
@@ -328,8 +328,8 @@ module _ (inner : Level → Reader Expr) where
       }
 
   pub null-test : {n : ℕ} {ts us vs : List Token} {x : Expr} {negated : Bool} → Gives (sum inner) n ts x (Word (codes "IS") ∷ us)
-      → IsNegation negated us (Word (codes "NULL") ∷ vs) → Gives (test inner) (suc n) ts (e.IsNull negated x) vs
-  unfolding test key_of is_reserved
+      → IsNegation negated us (Word (codes "NULL") ∷ vs) → Gives (predicate inner) (suc n) ts (e.IsNull negated x) vs
+  unfolding predicate key_of is_reserved
   null-test {n = n} {x = x} h not = record {
     run = λ room left i.
         rw (h.run room (suc left) (omega (arith, i))) ((null_test-gives x not).run (suc left) left (omega arith));
@@ -346,8 +346,8 @@ module _ (inner : Level → Reader Expr) where
   unfolding negated_test key_of is_reserved
   between-behind x h = record { run = λ room left i. h.run room left i }
 
-  behind-sum : {m n : ℕ} {ts us vs : List Token} {x y : Expr} → Gives (sum inner) m ts x us → Gives (test_by inner x (key_of us)) n us y vs → Gives (test inner) (m + n) ts y vs
-  unfolding test
+  behind-sum : {m n : ℕ} {ts us vs : List Token} {x y : Expr} → Gives (sum inner) m ts x us → Gives (test_by inner x (key_of us)) n us y vs → Gives (predicate inner) (m + n) ts y vs
+  unfolding predicate
   behind-sum {n = n} h l = record { run = λ room left i. rw (h.run room (n + left) (omega (arith, i))) (l.run (n + left) left refl) }
 
   in-tests : {us vs ws : List Token} {n : ℕ} {y : Expr} {negated : Bool} (x : Expr) → IsNegation negated us (Word (codes "IN") ∷ vs)
@@ -416,7 +416,7 @@ module _ (inner : Level → Reader Expr) where
 
   pub among-test : {m n : ℕ} {ts us vs ws : List Token} {x : Expr} {ys : List Expr} {negated : Bool} → Gives (sum inner) m ts x us
       → IsNegation negated us (Word (codes "IN") ∷ SignToken token.LParen ∷ vs) → GivesItems n vs ys (SignToken token.RParen ∷ ws)
-      → Gives (test inner) (m + suc n) ts (e.In negated x ys) ws
+      → Gives (predicate inner) (m + suc n) ts (e.In negated x ys) ws
   among-test h not items = behind-sum h (in-tests _ not (among-gives _ _ items))
 
   and-seen : (us : List Token) → sees k.And (Word (codes "AND") ∷ us) ≡ true
@@ -438,7 +438,7 @@ module _ (inner : Level → Reader Expr) where
 
   pub between-test : {l m n : ℕ} {ts us vs ws rs : List Token} {x y z : Expr} {negated : Bool} → Gives (sum inner) l ts x us
       → IsNegation negated us (Word (codes "BETWEEN") ∷ vs) → Gives (sum inner) m vs y (Word (codes "AND") ∷ ws) → Gives (sum inner) n ws z rs
-      → Gives (test inner) (l + suc (m + n)) ts (e.Between negated x y z) rs
+      → Gives (predicate inner) (l + suc (m + n)) ts (e.Between negated x y z) rs
   between-test h not one two = behind-sum h (between-tests _ not (between-gives _ _ one two))
 
 -- ---- operators of one level

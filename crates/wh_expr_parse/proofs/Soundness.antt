@@ -23,7 +23,7 @@ use Rattle.wh_cursor.specs.Keys.{key_of, key_binds}
 use Rattle.wh_expr_parse.specs.Operators.{joins}
 use Rattle.wh_expr_parse.specs.State.{State, at, next, Reader, plainly, moved, expect, spend}
 use Rattle.wh_cursor.specs.Steps.{tail, and_then, sees, read_name}
-use Rattle.wh_expr_parse.specs.Read.{read_literal, column_of, column, rows, turns, chain, turn, parenthesized, sum_call, count_by, count_call, call_or_column, primary_by, primary, negative, unary_by, unary, product, sum, compared, null_test, items_from, items, among, between, negated_by, negated_test, test_by, test, not_test, negation_by, negation, conjunction, whole, level, nested, ended, read_expr}
+use Rattle.wh_expr_parse.specs.Read.{read_literal, column_of, column, rows, turns, chain, turn, parenthesized, sum_call, count_by, count_call, call_or_column, primary_by, primary, negative, unary_by, unary, product, sum, compared, null_test, items_from, items, among, between, negated_by, negated_test, test_by, predicate, not_test, negation_by, negation, conjunction, whole, level, nested, ended, read_expr}
 use Rattle.wh_cursor.proofs.Names.{name-sound}
 use Rattle.wh_cursor.proofs.KeyLemmas.{fixed, Heads, heads, heads_at, binds_key}
 use Rattle.wh_cursor.proofs.Yields.{Is, Yields, yields, nothing, follow, mapped}
@@ -357,8 +357,8 @@ module _ (inner : Level → Reader Expr) (d : ℕ) (inside : Inside inner d) whe
   test_by-sound s₀ s x k.Not h front = negated_test-sound s₀ s x h front
   test_by-sound s₀ s x _ h front = yields x s (record { count = h.count; spent = h.spent; is = g.one_sum h.is })
 
-  test-sound : (s : State) → Yields (test inner s) (Took (IsTest d) s)
-  unfolding test
+  test-sound : (s : State) → Yields (predicate inner s) (Took (IsTest d) s)
+  unfolding predicate
   test-sound s = follow (sum-sound s) (λ x t h. test_by-sound s t x (key_of t.left) h (heads_at (key_of t.left) t.left refl))
 
   not_test-sound : (s : State) → s.left ≡ Word (codes "NOT") ∷ tail s.left → Yields (not_test inner s) (Took (IsNot d) s)

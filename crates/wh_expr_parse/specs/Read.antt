@@ -212,8 +212,8 @@ module _ (inner : Level → Reader Expr) where
   test_by x k.Not = negated_test x
   test_by x _ = pure x
 
-  unfoldable pub test : Reader Expr
-  test = do
+  unfoldable pub predicate : Reader Expr
+  predicate = do
     x ← sum
     key ← peek
     test_by x key
@@ -227,7 +227,7 @@ module _ (inner : Level → Reader Expr) where
 
   abbrev pub negation_by : Bool → Reader Expr
   negation_by true = not_test
-  negation_by false = test
+  negation_by false = predicate
 
   unfoldable pub negation : Reader Expr
   negation = λ s. negation_by (sees k.Not s.left) s

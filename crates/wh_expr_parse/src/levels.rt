@@ -67,7 +67,7 @@ impl<F: Fn(Global, &mut Tokens<'_>, usize, Level) -> Result<Expr, ParseFault>> G
         if tokens.sees(Key::Not) {
             self.not_test(tokens)
         } else {
-            self.test(tokens)
+            self.predicate(tokens)
         }
     }
 

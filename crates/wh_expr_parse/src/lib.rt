@@ -9,8 +9,6 @@ mod operators;
 mod predicates;
 mod primaries;
 mod reading;
-#[cfg(test)]
-mod tests;
 mod tokens;
 
 pub use reading::{expr, exprs, reading_laws};

@@ -16,10 +16,10 @@ use wh_cursor::{Key, ParseFault};
 use wh_value::Comparison;
 
 impl<F: Fn(Global, &mut Tokens<'_>, usize, Level) -> Result<Expr, ParseFault>> Grammar<F> {
-    #[tactic(auto, unfolding(crate::specs::Read::test))]
-    pub fn test(&self, tokens: &mut Tokens<'_>) -> Result<Expr, ParseFault>
+    #[tactic(auto, unfolding(crate::specs::Read::predicate))]
+    pub fn predicate(&self, tokens: &mut Tokens<'_>) -> Result<Expr, ParseFault>
         requires { Nests self.now.depth (F.pre self.now.inner) (F.post self.now.inner) }
-        ensures { Reads (spec.test (spec.nested self.now.depth) tokens.old) result tokens.new }
+        ensures { Reads (spec.predicate (spec.nested self.now.depth) tokens.old) result tokens.new }
     {
         let x = self.sum(tokens)?;
         self.test_behind(tokens, x)
