@@ -7,31 +7,35 @@ use std::test::Fail;
 use std::thread::Threads;
 use wh_world::{MemDisk, MemSink, MemSource, SetClock};
 
-/// Eight commands, each of which makes a commit.
-const COMMANDS: [&[u8]; 8] = [
+/// Ten commands, each of which makes a commit.
+const COMMANDS: [&[u8]; 10] = [
     b"CREATE TABLE T(K NUMBER);",
     b"INSERT INTO T VALUES (1);",
     b"INSERT INTO T VALUES (2), (3);",
     b"CREATE TABLE U(A NUMBER, B NUMBER);",
-    b"INSERT INTO U VALUES (1, NULL);",
-    b"INSERT INTO T VALUES (-4);",
-    b"INSERT INTO U VALUES (2, 5), (1, 7);",
-    b"INSERT INTO T VALUES (5);",
+    b"INSERT INTO U SELECT K, K + 6 FROM T WHERE K < 3;",
+    b"UPDATE T SET K = K + 3 WHERE K > 1;",
+    b"MERGE INTO T USING U ON T.K = U.A WHEN MATCHED THEN DELETE WHEN NOT MATCHED THEN INSERT VALUES (U.B);",
+    b"DELETE FROM U WHERE B = 7;",
+    b"CREATE OR REPLACE TABLE U(C NUMBER);",
+    b"DROP TABLE T;",
 ];
 
 const LISTINGS: &[u8] = b"SELECT * FROM T; SELECT * FROM U;";
 
 /// What the listings print after the first of the commands, after none to all of them.
-const LISTED: [&[u8]; 9] = [
+const LISTED: [&[u8]; 11] = [
     b"E6 UnknownName T\nE6 UnknownName U\n",
     b"K\n(0 rows)\nE6 UnknownName U\n",
     b"K\n1\n(1 rows)\nE6 UnknownName U\n",
     b"K\n1\n2\n3\n(3 rows)\nE6 UnknownName U\n",
     b"K\n1\n2\n3\n(3 rows)\nA | B\n(0 rows)\n",
-    b"K\n1\n2\n3\n(3 rows)\nA | B\n1 | NULL\n(1 rows)\n",
-    b"K\n-4\n1\n2\n3\n(4 rows)\nA | B\n1 | NULL\n(1 rows)\n",
-    b"K\n-4\n1\n2\n3\n(4 rows)\nA | B\n1 | 7\n1 | NULL\n2 | 5\n(3 rows)\n",
-    b"K\n-4\n1\n2\n3\n5\n(5 rows)\nA | B\n1 | 7\n1 | NULL\n2 | 5\n(3 rows)\n",
+    b"K\n1\n2\n3\n(3 rows)\nA | B\n1 | 7\n2 | 8\n(2 rows)\n",
+    b"K\n1\n5\n6\n(3 rows)\nA | B\n1 | 7\n2 | 8\n(2 rows)\n",
+    b"K\n5\n6\n8\n(3 rows)\nA | B\n1 | 7\n2 | 8\n(2 rows)\n",
+    b"K\n5\n6\n8\n(3 rows)\nA | B\n2 | 8\n(1 rows)\n",
+    b"K\n5\n6\n8\n(3 rows)\nC\n(0 rows)\n",
+    b"E6 UnknownName T\nC\n(0 rows)\n",
 ];
 
 /// A pick: of the bytes that were written and not synced the first `cut` are there, and in the
@@ -105,7 +109,7 @@ fn holds_what_was_answered(
     };
     let rest = ran(rt, alloc, file, &commands_from(alloc, held)?, &[])?;
     let goes_on = rest.status == Status::Read { refusals: 0 }
-        && commits_in(rt, alloc, rest.disk.bytes())? == Some(8);
+        && commits_in(rt, alloc, rest.disk.bytes())? == Some(COMMANDS.len());
     Ok((held == answered || held == answered.saturating_add(1)) && goes_on)
 }
 
@@ -149,7 +153,7 @@ fn each_file_that_a_failed_call_may_leave_holds_what_was_answered(
     let alloc = rt.alloc();
     let script = commands_from(alloc, 0)?;
     // Four calls to open, and four for each commit.
-    for call in 1..37u64 {
+    for call in 1..45u64 {
         let left = ran(&rt, alloc, b"", &script, &[call])?;
         assert_eq!(rt; left.status, Status::Stopped(Fault::Disk), "call {call}");
         let answered = lines(left.out.held());
@@ -158,7 +162,7 @@ fn each_file_that_a_failed_call_may_leave_holds_what_was_answered(
             "call {call}"
         );
     }
-    let done = ran(&rt, alloc, b"", &script, &[37])?;
+    let done = ran(&rt, alloc, b"", &script, &[45])?;
     assert_eq!(rt; done.status, Status::Read { refusals: 0 });
     Ok(())
 }
@@ -237,7 +241,7 @@ fn each_front_of_a_file_holds_whole_commits_or_has_a_first_fault(
     let alloc = rt.alloc();
     let script = commands_from(alloc, 0)?;
     let sizes = sizes(&rt, alloc)?;
-    for call in 4..38u64 {
+    for call in 4..46u64 {
         let left = ran(&rt, alloc, b"", &script, &[call])?;
         let answered = lines(left.out.held());
         let holds = fronts_hold(&rt, alloc, left.disk.bytes(), &sizes, answered)?;
