@@ -1,6 +1,6 @@
 -- Rows that a loop adds to rows that are there.
 --     put_one             a row put behind them is in their bag once more
---     kept_.., image_put  one row: kept by a condition or not; its image
+--     kept_.., image_..   one row: kept by a condition or not; its image, which may be the row itself
 --     Added               what the rows of a list give is added to those at the start
 --     added_..            by none of the rows, by one more, by all of them; a row that fails
 use Rattle.std.specs.Prelude.{◌≡◌, ℕ, ◌+◌, ◌<◌, List, [], ◌∷◌, ◌++◌, length, Option, Some, true, false, if◌then◌else◌, option_map, take, drop}
@@ -48,6 +48,11 @@ pub image_put : (items : List Scalar) (row image : Row) (before after : List Tup
     beside (Some (bag_of (rows_in before))) (image_by items row) ≡ Some (bag_of (rows_in after))
 image_put items row image before after valued put =
     ap (λ found. beside (Some (bag_of (rows_in before))) (option_map one_row found)) valued ∙ ap Some (put_one before after (Made image) put)
+
+pub image_kept : (items : List Scalar) (before after : List Tuple) (t : Tuple) → values_on items (row_in t) ≡ Some (row_in t) → after ≡ before ++ t ∷ [] →
+    beside (Some (bag_of (rows_in before))) (image_by items (row_in t)) ≡ Some (bag_of (rows_in after))
+image_kept items before after t same put =
+    ap (λ found. beside (Some (bag_of (rows_in before))) (option_map one_row found)) same ∙ ap Some (put_one before after t put)
 
 -- ---- what the rows of a list give, one after the other
 

@@ -3,7 +3,7 @@
 --     instance_of     the bag of each source
 --     Evaluates       what a fallible evaluation gives: rows of the bag that is meant, or the fault where there is none
 --     Adds            the same, where the rows are added to rows that are there
-use Rattle.std.specs.Prelude.{◌≡◌, List, map, Option, Some, None, Result, Ok, Err, Vec}
+use Rattle.std.specs.Prelude.{◌≡◌, List, map, Option, Some, Result, Ok, Err, Vec}
 use Rattle.std.specs.Global.{Global}
 use denote.Ref.{Bor}
 use Rattle.wh_value.specs.Value.{Row}

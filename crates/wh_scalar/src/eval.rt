@@ -1,4 +1,5 @@
 use crate::arithmetic::{added, multiplied, negated, subtracted};
+use crate::at_hand::both_at_hand;
 use crate::truth::{compared, conjoined, disjoined, inverted, is_null};
 use crate::{EvalFault, Scalar};
 use std::alloc::Global;
@@ -19,21 +20,33 @@ impl Scalar {
             Scalar::Column(place) => cell(alloc, row, *place),
             Scalar::Neg(x) => negated(&x.get().eval(alloc, row)?),
             Scalar::Add(x, y) => {
+                if let Some((a, b)) = both_at_hand(x.get(), y.get(), row) {
+                    return added(a, b);
+                }
                 let a = x.get().eval(alloc, row)?;
                 let b = y.get().eval(alloc, row)?;
                 added(&a, &b)
             }
             Scalar::Sub(x, y) => {
+                if let Some((a, b)) = both_at_hand(x.get(), y.get(), row) {
+                    return subtracted(a, b);
+                }
                 let a = x.get().eval(alloc, row)?;
                 let b = y.get().eval(alloc, row)?;
                 subtracted(&a, &b)
             }
             Scalar::Mul(x, y) => {
+                if let Some((a, b)) = both_at_hand(x.get(), y.get(), row) {
+                    return multiplied(a, b);
+                }
                 let a = x.get().eval(alloc, row)?;
                 let b = y.get().eval(alloc, row)?;
                 multiplied(&a, &b)
             }
             Scalar::Compare(comparison, x, y) => {
+                if let Some((a, b)) = both_at_hand(x.get(), y.get(), row) {
+                    return Ok(compared(*comparison, a, b));
+                }
                 let a = x.get().eval(alloc, row)?;
                 let b = y.get().eval(alloc, row)?;
                 Ok(compared(*comparison, &a, &b))

@@ -2,6 +2,7 @@
 #![tactic(auto)]
 
 mod arithmetic;
+mod at_hand;
 mod copying;
 mod eval;
 mod fault;
