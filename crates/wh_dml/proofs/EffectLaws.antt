@@ -2,13 +2,17 @@
 --     before_assoc, before_none     three effects, and an effect with none behind it
 --     one_turn                      the turn of the next row, and then those of the others
 --     turned_append, more_turns     the turns of rows and then of others
-use Rattle.std.specs.Prelude.{◌≡◌, List, [], ◌∷◌, ◌++◌, Option, Some, None, option_map, refl}
-use Rattle.std.proofs.Common.{ap, sym, ◌∙◌}
-use Rattle.std.proofs.lemmas.List.{append_assoc, append-nil}
+--     partition_done, partition_fails   the rows of the next partition, and then those of the others
+use Rattle.std.specs.Prelude.{◌≡◌, ℕ, ◌+◌, ◌<◌, length, drop, List, [], ◌∷◌, ◌++◌, Option, Some, None, option_map, refl}
+use Rattle.std.proofs.Common.{get_or, ap, sym, ◌∙◌}
+use Rattle.std.proofs.lemmas.List.{append_assoc, append-nil, drop_more}
+use denote.Ref.{Bor}
+use Rattle.wh_frame.specs.Partition.{Partition}
 use Rattle.wh_value.specs.Value.{Row}
 use Rattle.wh_meaning.specs.Scalar.{of_two}
 use Rattle.wh_effect.specs.Effect.{Kept, Effect, no_effect, Turn, Stays, Goes, Becomes, with_turn, turned}
 use Rattle.wh_dml.specs.Steps.{before, done_by}
+use Rattle.wh_dml.specs.View.{kept_rows, targets_of}
 
 pub before_assoc : (a b c : Effect) → before (before a b) c ≡ before a (before b c)
 before_assoc a b c =
@@ -72,3 +76,31 @@ pub more_turns : (turn : Row → Option Turn) (some others : List Kept) (old new
     → option_map (before old) (turned turn (some ++ others)) ≡ option_map (before new) (turned turn others)
 more_turns turn some others old new is =
     ap (option_map (before old)) (turned_append turn some others) ∙ added_both (turned turn some) (turned turn others) old new is
+
+-- the rows of the next partition, and those of the others
+pub next_partition : (target : List (Bor Partition)) (i : ℕ) (p : Bor Partition) (rows : List (ℕ × Row)) → i < length target → p ≡ get_or target i p → rows ≡ p.now.rows
+    → targets_of (drop i target) ≡ kept_rows rows ++ targets_of (drop (i + 1) target)
+next_partition target i p rows within is same =
+    ap targets_of (drop_more target i p within ∙ ap (λ q. q ∷ drop (i + 1) target) (sym is))
+    ∙ ap (λ r. kept_rows r ++ targets_of (drop (i + 1) target)) (sym same)
+
+-- what is done so far, with the turns of the next partition's rows, and the rest
+pub partition_done : (turn : Row → Option Turn) (target : List (Bor Partition)) (i : ℕ) (p : Bor Partition) (rows : List (ℕ × Row)) (old new : Effect)
+    → i < length target → p ≡ get_or target i p → rows ≡ p.now.rows
+    → option_map (λ more. before old more) (turned turn (kept_rows rows)) ≡ Some new
+    → option_map (before old) (turned turn (targets_of (drop i target))) ≡ option_map (before new) (turned turn (targets_of (drop (i + 1) target)))
+partition_done turn target i p rows old new within is same done =
+    ap (λ ts. option_map (before old) (turned turn ts)) (next_partition target i p rows within is same)
+    ∙ more_turns turn (kept_rows rows) (targets_of (drop (i + 1) target)) old new done
+
+fails_both : (some others : Option Effect) → some ≡ None → both some others ≡ None
+fails_both None others none = refl
+fails_both (Some a) others none = absurd cc
+
+-- where a row of the next partition has no turn, there is no effect
+pub partition_fails : (turn : Row → Option Turn) (target : List (Bor Partition)) (i : ℕ) (p : Bor Partition) (rows : List (ℕ × Row))
+    → i < length target → p ≡ get_or target i p → rows ≡ p.now.rows → turned turn (kept_rows rows) ≡ None → turned turn (targets_of (drop i target)) ≡ None
+partition_fails turn target i p rows within is same none =
+    ap (turned turn) (next_partition target i p rows within is same)
+    ∙ turned_append turn (kept_rows rows) (targets_of (drop (i + 1) target))
+    ∙ fails_both (turned turn (kept_rows rows)) (turned turn (targets_of (drop (i + 1) target))) none
