@@ -6,7 +6,7 @@ use Rattle.std.specs.FinMap.{entries}
 use Rattle.std.proofs.lemmas.List.{map-append}
 use denote.Ref.{Bor}
 use Rattle.wh_frame.specs.Partition.{Partition}
-use Rattle.wh_dml.specs.View.{kept_of, kept_rows, targets_of}
+use Rattle.wh_dml.specs.View.{kept_rows, targets_of}
 use Rattle.wh_machine.specs.State.{Table, last_rows}
 use Rattle.wh_machine.specs.Changes.{numbered_row, rows_seen}
 use Rattle.wh_catalog.specs.Rows.{all_rows, partitions_at}

@@ -1,4 +1,3 @@
-use Rattle.std.proofs.Common.{◌∙◌}
 use Rattle.wh_catalog.specs.Table.{table_of}
 use Rattle.wh_machine.specs.Stored.{table_meant}
 use Rattle.wh_engine.proofs.TargetLemmas.{all_seen}
