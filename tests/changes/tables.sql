@@ -114,3 +114,11 @@ CREATE TABLE "SELECT"("FROM" NUMBER);
 CREATE TABLE SUM(K NUMBER);
 -- nothing was changed by what was refused
 SELECT * FROM X;
+-- SUM in quotes is a name, and COUNT before no parenthesis
+CREATE TABLE "SUM"(COUNT NUMBER);
+-- SUM before no parenthesis is one
+INSERT INTO SUM VALUES (1);
+-- so are both here
+SELECT COUNT, SUM.COUNT FROM SUM;
+-- before a list COUNT begins a call
+INSERT INTO COUNT (K) VALUES (1);

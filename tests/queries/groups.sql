@@ -95,3 +95,9 @@ SELECT COUNT(*) AS N FROM T GROUP BY K, V;
 SELECT COUNT(NULL), SUM(NULL) FROM T;
 -- equal rows of a group count each
 SELECT COUNT(X), SUM(X) FROM (SELECT 1 AS X FROM T) Q;
+-- calls in all places of a BETWEEN
+SELECT COUNT(*) BETWEEN COUNT(V) AND COUNT(*), COUNT(V) BETWEEN SUM(K) AND COUNT(*) FROM T;
+-- calls in all places of an IN
+SELECT 3 IN (COUNT(V), SUM(K), COUNT(*)), SUM(V) NOT IN (COUNT(*), SUM(K) + 11) FROM T;
+-- an undefined argument where the call is spared nothing
+SELECT FALSE AND SUM(K * 999999999999999999) > 0 FROM T;
