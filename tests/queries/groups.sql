@@ -99,5 +99,5 @@ SELECT COUNT(X), SUM(X) FROM (SELECT 1 AS X FROM T) Q;
 SELECT COUNT(*) BETWEEN COUNT(V) AND COUNT(*), COUNT(V) BETWEEN SUM(K) AND COUNT(*) FROM T;
 -- calls in all places of an IN
 SELECT 3 IN (COUNT(V), SUM(K), COUNT(*)), SUM(V) NOT IN (COUNT(*), SUM(K) + 11) FROM T;
--- an undefined argument where the call is spared nothing
+-- FALSE AND spares no argument of a call
 SELECT FALSE AND SUM(K * 999999999999999999) > 0 FROM T;
