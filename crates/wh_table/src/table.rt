@@ -7,7 +7,7 @@ ghost use Rattle.wh_table.specs.Apart.{highest_number, is_apart, is_rising};
 
 use std::alloc::Global;
 use wh_value::Column;
-use wh_version::History;
+use wh_version::{History, Version};
 
 /// A table with all its versions.
 #[derive(Debug, Drop)]
@@ -26,11 +26,13 @@ pub struct StoredTable {
 }
 
 impl StoredTable {
-    ghost use Rattle.std.specs.Prelude.{◌≡◌, ◌≤◌, ◌^◌, [], map, length};
+    ghost use Rattle.std.specs.Prelude.{◌≡◌, ◌≤◌, ◌^◌, [], map, length, option_map};
     ghost use Rattle.wh_value.specs.View.{column_of};
     ghost use Rattle.wh_value.specs.Limit.{bound};
     ghost use Rattle.wh_value.specs.declared.limit.Limit.TheVariants as limits;
     ghost use Rattle.wh_machine.specs.State.{new_table};
+    ghost use Rattle.wh_version.specs.Times.{data_at, visible_at};
+    ghost use Rattle.wh_version.specs.Version.{version_in};
     ghost use Rattle.wh_table.specs.Table.{table_of};
 
     /// A table with one version without rows. Takes no memory.
@@ -66,5 +68,20 @@ impl StoredTable {
         ensures bounded { result ≤ 2 ^ 63 }
     {
         self.history.next_partition()
+    }
+
+    /// The last version whose data timestamp is at most that. None exactly where no version is
+    /// old enough.
+    pub fn at(&self, timestamp: u64) -> Option<Version<'_>>
+        ensures { option_map version_in result ≡ data_at timestamp (table_of self.now).versions }
+    {
+        self.history.at(timestamp)
+    }
+
+    /// The last version whose stamp is at most that. None exactly where no version is old enough.
+    pub fn visible(&self, stamp: u64) -> Option<Version<'_>>
+        ensures { option_map version_in result ≡ visible_at stamp (table_of self.now).versions }
+    {
+        self.history.visible(stamp)
     }
 }

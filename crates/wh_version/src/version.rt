@@ -16,11 +16,19 @@ pub struct Version<'a> {
 }
 
 impl History {
-    ghost use Rattle.std.specs.Prelude.{◌≡◌, ◌<◌, length, option_map, slice_index_or as get_or};
+    ghost use Rattle.std.specs.Prelude.{◌≡◌, ◌<◌, Some, length, option_map, slice_index_or as get_or};
+    ghost use Rattle.wh_machine.specs.State.{last_of};
     ghost use Rattle.wh_version.specs.Kept.{version_by};
     ghost use Rattle.wh_version.specs.Times.{data_at, visible_at, is_up_to, last_place};
     ghost use Rattle.wh_version.specs.History.{versions_of, marks_of};
     ghost use Rattle.wh_version.specs.Version.{version_in};
+
+    /// The last version.
+    pub fn last(&self) -> Version<'_>
+        ensures { last_of (versions_of self.now) ≡ Some (version_in result) }
+    {
+        self.version(self.later.len())
+    }
 
     /// The last version whose data timestamp is at most that. None exactly where no version is
     /// old enough.
