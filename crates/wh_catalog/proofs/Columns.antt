@@ -7,7 +7,7 @@ use Rattle.std.proofs.lemmas.List.{length-map}
 use Rattle.wh_value.specs.declared.column.Column.{Column}
 use Rattle.wh_value.specs.View.{column_of}
 use Rattle.wh_catalog.specs.Conditions.{is_stored_column, are_stored_columns}
-use Rattle.wh_catalog.proofs.Apart.{list_all-map}
+use Rattle.wh_table.proofs.Apart.{list_all-map}
 
 pub stored_by_each : (columns : List Column) → 0 < length columns → length columns ≤ 64
     → are_stored_columns (map column_of columns) ≡ list_all (λ column. is_stored_column (column_of column)) columns

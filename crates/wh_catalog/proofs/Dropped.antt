@@ -8,7 +8,7 @@ use Rattle.wh_value.specs.declared.limit.Limit.TheVariants as limits
 use Rattle.wh_machine.specs.State.{live_count, changed_at}
 use Rattle.wh_catalog.specs.declared.object.StoredObject.{StoredObject}
 use Rattle.wh_catalog.specs.Kept.{KeptObject}
-use Rattle.wh_catalog.specs.Table.{kept_object}
+use Rattle.wh_catalog.specs.Object.{kept_object}
 use Rattle.wh_catalog.specs.Back.{alive, lives_again}
 use Rattle.wh_catalog.proofs.Objects.{changed_back}
 

@@ -1,14 +1,6 @@
 pub mod Places
 pub mod Objects
-pub mod Apart
 pub mod Conditions
-pub mod NumberedRows
-pub mod TableBag
-pub mod Pushed
-pub mod Rising
 pub mod Dropped
-pub mod OrderlyTables
-pub mod Chain
-pub mod Entries
+pub mod OrderlyObjects
 pub mod Columns
-pub mod Standing

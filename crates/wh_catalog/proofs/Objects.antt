@@ -3,9 +3,10 @@ use Rattle.std.proofs.lemmas.List.{map-set}
 use Rattle.std.proofs.Common.{◌≡◌, ℕ, zero, suc, ◌-◌, ◌<◌, length, set, get_or, slice_get, arith, List, [], ◌∷◌, ◌++◌, refl, map, Some, None, option_map, ap, ◌∙◌, sym}
 use Rattle.wh_machine.specs.State.{at_id, with_id, put_at, changed_at}
 use Rattle.wh_catalog.specs.declared.object.StoredObject.{StoredObject}
-use Rattle.wh_catalog.specs.declared.table.StoredTable.{StoredTable}
+use Rattle.wh_table.specs.declared.table.StoredTable.{StoredTable}
+use Rattle.wh_table.specs.Table.{kept_table, table_of}
 use Rattle.wh_catalog.specs.Kept.{KeptTableKind, kind_in, object_in, KeptObject}
-use Rattle.wh_catalog.specs.Table.{kept_kind, kept_table, kept_object, table_of}
+use Rattle.wh_catalog.specs.Object.{kept_kind, kept_object}
 use Rattle.wh_catalog.specs.Catalog.{stored_table_at, table_in_kind, table_in_object}
 use Rattle.wh_catalog.specs.declared.undo.Step.{Step}
 use Rattle.wh_catalog.specs.Undo.{step_undone, undone}
@@ -26,10 +27,6 @@ no_table objects id is = ap table_in_object (at_objects objects id ∙ ap (λ f.
 pub map_more : {X Y : Type 0} (f : X → Y) (xs : List X) (x : X) → map f (xs ++ x ∷ []) ≡ map f xs ++ f x ∷ []
 map_more f [] x = refl
 map_more f (y ∷ xs) x = ap (λ l. f y ∷ l) (map_more f xs x)
-
-pub map_with : {X Y : Type 0} (f : X → Y) (xs ys : List X) (x : X) → map f (xs ++ x ∷ ys) ≡ map f xs ++ f x ∷ map f ys
-map_with f [] ys x = refl
-map_with f (y ∷ xs) ys x = ap (λ l. f y ∷ l) (map_with f xs ys x)
 
 -- ---- one in another's place
 

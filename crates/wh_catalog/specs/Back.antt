@@ -3,13 +3,10 @@ use Rattle.std.specs.Prelude.{ℕ, true, List, nat_lt, if◌then◌else◌}
 use Rattle.wh_value.specs.Limit.{bound}
 use Rattle.wh_value.specs.declared.limit.Limit.TheVariants as limits
 use Rattle.wh_machine.specs.State.{changed_at, live_count}
-use Rattle.wh_version.specs.Lists.{shortened}
-use Rattle.wh_catalog.specs.Kept.{KeptTable, KeptKind, KeptTableKind, KeptObject}
+use Rattle.wh_table.specs.Kept.{taken_back}
+use Rattle.wh_catalog.specs.Kept.{KeptKind, KeptTableKind, KeptObject}
 
--- the next row is that of before
-abbrev pub taken_back : ℕ → KeptTable → KeptTable
-taken_back next_row t = record t { next_row = next_row; versions = shortened t.versions; nexts = shortened t.nexts }
-
+-- a table without its last version; the next row is that of before
 abbrev pub kind_taken_back : ℕ → KeptKind → KeptKind
 kind_taken_back next_row (KeptTableKind t) = KeptTableKind (taken_back next_row t)
 

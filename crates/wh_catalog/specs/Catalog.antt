@@ -7,7 +7,7 @@ use Rattle.wh_machine.specs.State.{State, at_id}
 use Rattle.wh_machine.specs.Stored as machine
 use Rattle.wh_catalog.specs.declared.catalog.Catalog.{Catalog}
 use Rattle.wh_catalog.specs.Kept.{KeptObject, object_in}
-use Rattle.wh_catalog.specs.Table.{kept_object}
+use Rattle.wh_catalog.specs.Object.{kept_object}
 
 unfoldable pub kept_of : Catalog → List KeptObject
 kept_of c = map kept_object c.objects.items

@@ -1,33 +1,15 @@
--- Tables and objects with what it takes to take a version back.
---     KeptTable, KeptObject       a table with the number that its next partition had after each version
---     table_in, object_in         what the file says of it
-use Rattle.std.specs.Prelude.{ℕ, List}
-use Rattle.wh_value.specs.Column.{Column}
+-- Objects with what it takes to take a table's version back.
+--     KeptKind, KeptObject      what an object is, and the object
+--     kind_in, object_in        what the file says of it
 use Rattle.wh_machine.specs.State.{ObjectOf}
-use Rattle.wh_machine.specs.Stored.{StoredVersion, StoredTable, StoredKind, StoredTableKind, StoredObject}
-use Rattle.wh_version.specs.History.{next_in}
-
-pub record KeptTable : Type 0 where
-  pub columns : List Column
-  pub retention : ℕ
-  pub next_row : ℕ
-  pub versions : List StoredVersion
-  pub nexts : List ℕ
+use Rattle.wh_machine.specs.Stored.{StoredKind, StoredTableKind, StoredObject}
+use Rattle.wh_table.specs.Kept.{KeptTable, table_in}
 
 pub data KeptKind : Type 0 where
   KeptTableKind : KeptTable → KeptKind
 
 abbrev pub KeptObject : Type 0
 KeptObject = ObjectOf KeptKind
-
-abbrev pub table_in : KeptTable → StoredTable
-table_in t = record {
-  columns = t.columns;
-  retention = t.retention;
-  next_row = t.next_row;
-  next_partition = next_in t.nexts;
-  versions = t.versions;
-}
 
 abbrev pub kind_in : KeptKind → StoredKind
 kind_in (KeptTableKind t) = StoredTableKind (table_in t)

@@ -1,9 +1,6 @@
-pub mod Apart
-pub mod Rows
-pub mod Chain
 pub mod Conditions
 pub mod Kept
-pub mod Table
+pub mod Object
 pub mod Catalog
 pub mod Back
 pub mod Undo

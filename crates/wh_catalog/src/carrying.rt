@@ -81,7 +81,7 @@ ghost use Rattle.wh_machine.specs.State.{at_id, changed_at};
 ghost use Rattle.wh_machine.specs.Commit.{FitsObject, pushed_object};
 ghost use Rattle.wh_record.specs.View.{version_change_of};
 ghost use Rattle.wh_catalog.specs.Kept.{object_in};
-ghost use Rattle.wh_catalog.specs.Table.{kept_object};
+ghost use Rattle.wh_catalog.specs.Object.{kept_object};
 ghost use Rattle.wh_catalog.specs.Back.{object_taken_back};
 ghost use Rattle.wh_catalog.specs.Undo.{step_undone};
 

@@ -2,8 +2,9 @@ ghost use Rattle.std.specs.Prelude.{◌≤◌, ◌<◌, length, count_by};
 ghost use Rattle.wh_value.specs.Limit.{bound};
 ghost use Rattle.wh_value.specs.declared.limit.Limit.TheVariants as limits;
 
-use crate::{StoredKind, StoredObject, StoredTable};
+use crate::StoredObject;
 use std::alloc::Global;
+use wh_table::StoredTable;
 
 /// The objects in order of creation, the greatest stamp so far, and that of the last commit.
 #[derive(Debug, Drop)]
@@ -27,7 +28,8 @@ impl Catalog {
     ghost use Rattle.wh_machine.specs.Stored.{first_stored};
     ghost use Rattle.wh_machine.specs.Orderly.{IsOrderlyStored};
     ghost use Rattle.wh_catalog.specs.Kept.{object_in};
-    ghost use Rattle.wh_catalog.specs.Table.{table_of, kept_object};
+    ghost use Rattle.wh_table.specs.Table.{table_of};
+    ghost use Rattle.wh_catalog.specs.Object.{kept_object};
     ghost use Rattle.wh_catalog.specs.Catalog.{objects_of, stored_of, state_of, stored_table_at};
 
     /// No object, and no stamp. Takes no memory.

@@ -1,8 +1,8 @@
-use crate::{Catalog, StoredKind, StoredObject, StoredTable};
+use crate::{Catalog, StoredKind, StoredObject};
 use std::alloc::Global;
 use wh_record::TableChange;
+use wh_table::StoredTable;
 use wh_value::{Column, Limit, Text};
-use wh_version::History;
 
 impl Catalog {
     ghost use Rattle.std.specs.Prelude.{◌≡◌};
@@ -31,7 +31,7 @@ impl StoredObject {
     ghost use Rattle.wh_machine.specs.State.{new_table, new_object};
     ghost use Rattle.wh_machine.specs.Stored.{StoredTableKind};
     ghost use Rattle.wh_catalog.specs.Kept.{object_in};
-    ghost use Rattle.wh_catalog.specs.Table.{kept_object};
+    ghost use Rattle.wh_catalog.specs.Object.{kept_object};
 
     /// The table of a change, with one version without rows. Takes no memory.
     pub(crate) fn table_of_change(alloc: Global, change: TableChange, stamp: u64) -> StoredObject
@@ -40,13 +40,7 @@ impl StoredObject {
             (StoredTableKind (new_table [] (map column_of change.columns.items) change.retention stamp)) }
         ensures live { result.is_live ≡ true }
     {
-        let table = StoredTable {
-            columns: change.columns,
-            retention: change.retention,
-            next_row: 1,
-            highest: 0,
-            history: History::new(alloc, stamp),
-        };
+        let table = StoredTable::new(alloc, change.columns, change.retention, stamp);
         StoredObject {
             name: change.name,
             is_live: true,

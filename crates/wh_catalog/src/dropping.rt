@@ -5,7 +5,7 @@ ghost use Rattle.wh_value.specs.declared.limit.Limit.TheVariants as limits;
 ghost use Rattle.wh_machine.specs.State.{at_id, changed_at, dropped};
 ghost use Rattle.wh_machine.specs.Commit.{IsLiveObject};
 ghost use Rattle.wh_catalog.specs.Kept.{object_in};
-ghost use Rattle.wh_catalog.specs.Table.{kept_object};
+ghost use Rattle.wh_catalog.specs.Object.{kept_object};
 ghost use Rattle.wh_catalog.specs.Back.{alive};
 ghost use Rattle.wh_catalog.specs.Undo.{step_undone};
 

@@ -1,4 +1,4 @@
-use crate::StoredTable;
+use wh_table::StoredTable;
 use wh_value::Text;
 
 /// An object of the warehouse. A dropped one stays, with the name that it had.
@@ -20,7 +20,8 @@ impl StoredObject {
     ghost use Rattle.std.specs.Prelude.{◌≡◌};
     ghost use Rattle.wh_machine.specs.State.{is_named};
     ghost use Rattle.wh_catalog.specs.Kept.{object_in, KeptTableKind};
-    ghost use Rattle.wh_catalog.specs.Table.{kept_kind, kept_table, kept_object};
+    ghost use Rattle.wh_table.specs.Table.{kept_table};
+    ghost use Rattle.wh_catalog.specs.Object.{kept_kind, kept_object};
 
     /// The name that it has, or had.
     pub fn name(&self) -> &Text

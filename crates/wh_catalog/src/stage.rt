@@ -1,15 +1,7 @@
 use crate::undo::Step;
-use crate::{Catalog, Undo};
+use crate::{Catalog, StageFault, Undo};
 use wh_record::{Change, Commit};
 use wh_value::Limit;
-
-/// Why a commit isn't carried out.
-#[derive(Clone, Copy, Debug, PartialEq, Eq)]
-pub enum StageFault {
-    OutOfMemory,
-    /// The commit doesn't apply to what the catalog stands for.
-    NotApplicable,
-}
 
 impl Catalog {
     ghost use Rattle.std.specs.Prelude.{◌≡◌, [], map, OnOk, IfOk, OnErr, IsErrOf};

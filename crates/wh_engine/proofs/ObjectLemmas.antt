@@ -9,7 +9,7 @@ use Rattle.wh_machine.specs.State.{Object}
 use Rattle.wh_machine.specs.Stored.{object_meant}
 use Rattle.wh_machine.specs.Queries.{names_from}
 use Rattle.wh_catalog.specs.Kept.{object_in}
-use Rattle.wh_catalog.specs.Table.{kept_object}
+use Rattle.wh_catalog.specs.Object.{kept_object}
 use Rattle.wh_catalog.specs.declared.object.StoredObject.{StoredObject}
 use Rattle.wh_engine.specs.Objects.{object_of, live_name}
 

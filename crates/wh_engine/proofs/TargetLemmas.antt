@@ -9,7 +9,7 @@ use Rattle.wh_frame.specs.Partition.{Partition}
 use Rattle.wh_dml.specs.View.{kept_rows, targets_of}
 use Rattle.wh_machine.specs.State.{Table, last_rows}
 use Rattle.wh_machine.specs.Changes.{numbered_row, rows_seen}
-use Rattle.wh_catalog.specs.Rows.{all_rows, partitions_at}
+use Rattle.wh_table.specs.Rows.{all_rows, partitions_at}
 
 each_kept : (target : List (Bor Partition)) → targets_of target ≡ map numbered_row (all_rows (partitions_at target))
 each_kept [] = refl

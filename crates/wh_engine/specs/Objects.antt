@@ -7,7 +7,7 @@ use Rattle.wh_machine.specs.State.{Object}
 use Rattle.wh_machine.specs.Stored.{object_meant}
 use Rattle.wh_machine.specs.Queries.{named_object}
 use Rattle.wh_catalog.specs.Kept.{object_in}
-use Rattle.wh_catalog.specs.Table.{kept_object}
+use Rattle.wh_catalog.specs.Object.{kept_object}
 use Rattle.wh_catalog.specs.declared.object.StoredObject.{StoredObject}
 
 abbrev pub object_of : StoredObject → Object

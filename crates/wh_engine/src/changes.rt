@@ -16,7 +16,7 @@ ghost use Rattle.wh_machine.specs.Queries.{instance_of};
 ghost use Rattle.wh_machine.specs.Changes as machine;
 ghost use Rattle.wh_record.specs.View.{change_of};
 ghost use Rattle.wh_catalog.specs.Catalog.{stored_of, state_of, stored_table_at};
-ghost use Rattle.wh_catalog.specs.Table.{table_of};
+ghost use Rattle.wh_table.specs.Table.{table_of};
 ghost use Rattle.wh_engine.specs.Decision.{Decides};
 ghost use Rattle.wh_engine.specs.Changes.{IsCountOf, is_insert, made_count, IsRewritten};
 

@@ -5,7 +5,7 @@ ghost use Rattle.wh_expr_bind.specs.View.{named_of};
 ghost use Rattle.wh_machine.specs.Stored.{kind_meant};
 ghost use Rattle.wh_machine.specs.Queries as machine;
 ghost use Rattle.wh_catalog.specs.Kept.{kind_in};
-ghost use Rattle.wh_catalog.specs.Table.{kept_kind};
+ghost use Rattle.wh_catalog.specs.Object.{kept_kind};
 ghost use Rattle.wh_catalog.specs.Catalog.{state_of};
 ghost use Rattle.wh_engine.specs.Objects.{object_of, live_name};
 

@@ -9,3 +9,4 @@ pub mod Touched
 pub mod ByRows
 pub mod Left
 pub mod Made
+pub mod LastUpTo

@@ -1,4 +1,6 @@
 pub mod Lists
 pub mod Kept
+pub mod Times
 pub mod History
+pub mod Version
 pub mod Edits

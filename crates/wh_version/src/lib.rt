@@ -11,13 +11,16 @@ mod pushing;
 mod rewriting;
 mod row_edits;
 mod sorting;
+mod times;
 mod touching;
+mod version;
 
 pub use edits::Edits;
 pub use history::History;
 pub use kept::Kept;
 pub use mark::VersionMark;
 pub use rewriting::Rewritten;
+pub use version::Version;
 
 #[cfg(test)]
 mod tests;

@@ -1,4 +1,4 @@
-ghost use Rattle.std.specs.Prelude.{◌≡◌, ◌∷◌, length, slice_index_or as get_or};
+ghost use Rattle.std.specs.Prelude.{◌≡◌, ◌<◌, ◌∷◌, length, slice_index_or as get_or};
 
 /// A version of a table: when it was pushed, whose data it shows, and how many partitions there
 /// were by then.
@@ -18,4 +18,15 @@ pub(crate) fn last_mark(first: VersionMark, later: &[VersionMark]) -> VersionMar
         return first;
     }
     later[count - 1]
+}
+
+/// The mark at a place.
+pub(crate) fn mark_at(first: VersionMark, later: &[VersionMark], place: usize) -> VersionMark
+    requires { place < length (first ∷ later.now) }
+    ensures { result ≡ get_or (first ∷ later.now) place first }
+{
+    if place == 0 {
+        return first;
+    }
+    later[place - 1]
 }

@@ -1,6 +1,6 @@
 ghost use Rattle.std.specs.Prelude.{◌≡◌, ◌+◌, ◌≤◌, ◌^◌, length, IfOk};
 
-use crate::{Edits, History, Rewritten};
+use crate::{Edits, History, Rewritten, Version};
 use std::alloc::Global;
 use std::ops::Range;
 use std::test::Fail;
@@ -52,6 +52,45 @@ fn a_version_is_pushed_and_taken_back(rt: HostRuntime) -> Result<(), Fail> {
     history.pop();
     assert_eq!(rt; standing(&history), [false, false, false]);
     assert_eq!(rt; history.last_timestamp(), 10);
+    Ok(())
+}
+
+// The numbers of the partitions of a version, and its place by its stamp; nothing where there is none.
+fn shown(alloc: Global, version: Option<Version<'_>>) -> Result<String, Fail> {
+    let Some(version) = version else {
+        return Ok(String::new(alloc));
+    };
+    let stamp = version.stamp;
+    let timestamp = version.data_timestamp;
+    let found = version.partitions(alloc)?;
+    let mut numbers = Vec::with_capacity(alloc, found.len())?;
+    for partition in &found {
+        numbers.push(partition.number())?;
+    }
+    let text = format!(in alloc; "{stamp} {timestamp} {numbers:?}")?;
+    Ok(text)
+}
+
+#[test]
+fn a_version_is_found_by_its_times(rt: HostRuntime) -> Result<(), Fail> {
+    let alloc = rt.alloc();
+    // Stamps 10, 20, 20, and data timestamps 10, 15, 15.
+    let mut history = History::new(alloc, 10);
+    push(alloc, &mut history, &[])?;
+    push(alloc, &mut history, &[1])?;
+    let cases = [
+        ("before the first", 9, "", ""),
+        ("the first", 10, "10 10 []", "10 10 []"),
+        ("data of the last", 15, "20 15 [2]", "10 10 []"),
+        ("between", 19, "20 15 [2]", "10 10 []"),
+        ("the last", 20, "20 15 [2]", "20 15 [2]"),
+    ];
+    for (case, time, at, visible) in cases {
+        let found = shown(alloc, history.at(time))?;
+        assert_eq!(rt; found.as_str(), at, "{case}");
+        let found = shown(alloc, history.visible(time))?;
+        assert_eq!(rt; found.as_str(), visible, "{case}");
+    }
     Ok(())
 }
 

@@ -1,7 +1,7 @@
 use Rattle.std.proofs.Common.{◌≡◌, ℕ, Err, ◌<◌, ◌-◌, ◌∙◌, ap, sym, subst, Option, Some, option_map, arith}
 use Rattle.std.specs.Prelude.{IsErrOf, Result}
-use Rattle.wh_catalog.specs.declared.stage.StageFault.{StageFault}
-use Rattle.wh_catalog.specs.declared.stage.StageFault.TheVariants.{NotApplicable}
+use Rattle.wh_table.specs.declared.fault.StageFault.{StageFault}
+use Rattle.wh_table.specs.declared.fault.StageFault.TheVariants.{NotApplicable}
 use Rattle.wh_catalog.specs.declared.undo.Step.{Step}
 use Rattle.wh_machine.specs.State.{at_id}
 use Rattle.wh_machine.specs.Stored.{StoredObject}
@@ -9,7 +9,7 @@ use Rattle.wh_machine.specs.Commit.{FitsObject, pushed_object}
 use Rattle.wh_record.specs.View.{version_change_of}
 use Rattle.wh_catalog.specs.Back.{object_taken_back}
 use Rattle.wh_catalog.specs.Kept.{object_in}
-use Rattle.wh_catalog.specs.Table.{kept_object}
+use Rattle.wh_catalog.specs.Object.{kept_object}
 use Rattle.wh_catalog.proofs.Places.{at_place, map_set_same}
 use Rattle.wh_catalog.proofs.Objects.{changed_twice, changed_back, at_objects}
 use Rattle.wh_catalog.proofs.carrying.push_version.Goals as goal

@@ -1,7 +1,7 @@
 use Rattle.std.proofs.Common.{◌≡◌, ◌<◌, ◌∙◌, ap, sym, Some, arith}
 use Rattle.wh_machine.specs.State.{at_id}
 use Rattle.wh_catalog.specs.Back.{object_taken_back}
-use Rattle.wh_catalog.specs.Table.{kept_object}
+use Rattle.wh_catalog.specs.Object.{kept_object}
 use Rattle.wh_catalog.proofs.Places.{at_place}
 use Rattle.wh_catalog.proofs.Objects.{changed_by}
 use Rattle.wh_catalog.proofs.carrying.take_version_back.Goals as goal

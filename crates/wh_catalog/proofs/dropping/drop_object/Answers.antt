@@ -2,7 +2,7 @@ use Rattle.std.proofs.Common.{◌≡◌, true, false, refl, ◌<◌, ◌∙◌, 
 use Rattle.wh_machine.specs.State.{at_id, dropped}
 use Rattle.wh_machine.specs.Commit.{IsLiveObject}
 use Rattle.wh_catalog.specs.Kept.{object_in}
-use Rattle.wh_catalog.specs.Table.{kept_object}
+use Rattle.wh_catalog.specs.Object.{kept_object}
 use Rattle.wh_catalog.proofs.Places.{at_place}
 use Rattle.std.proofs.lemmas.Bool.{false≢true}
 use Rattle.wh_catalog.proofs.Dropped.{revived}

@@ -1,4 +1,4 @@
-use Rattle.wh_catalog.specs.Table.{table_of}
+use Rattle.wh_table.specs.Table.{table_of}
 use Rattle.wh_machine.specs.Stored.{table_meant}
 use Rattle.wh_engine.proofs.TargetLemmas.{all_seen}
 use Rattle.wh_engine.proofs.changes.by_rows.Goals as goal

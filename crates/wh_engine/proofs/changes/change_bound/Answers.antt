@@ -10,7 +10,7 @@ use Rattle.wh_machine.specs.Queries.{instance_of}
 use Rattle.wh_machine.specs.Changes.{rows_seen}
 use Rattle.wh_machine.specs.Stored.{table_meant}
 use Rattle.wh_catalog.specs.Catalog.{stored_of, state_of}
-use Rattle.wh_catalog.specs.Table.{table_of}
+use Rattle.wh_table.specs.Table.{table_of}
 use Rattle.wh_engine.specs.Decision.{Declines}
 use Rattle.wh_engine.proofs.CatalogLemmas.{table_there, table_missing}
 use Rattle.wh_engine.proofs.OutcomeLemmas.{declines}

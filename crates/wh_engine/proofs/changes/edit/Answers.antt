@@ -12,7 +12,7 @@ use Rattle.wh_machine.specs.Changes.{reply_to}
 use Rattle.wh_machine.specs.Commit.{Change}
 use Rattle.wh_machine.specs.Written.{version_written}
 use Rattle.wh_record.specs.View.{change_of}
-use Rattle.wh_catalog.specs.Table.{table_of}
+use Rattle.wh_table.specs.Table.{table_of}
 use Rattle.wh_engine.specs.Decision.{Goes}
 use Rattle.wh_engine.specs.Changes.{made_count, IsRewritten}
 use Rattle.wh_engine.proofs.CatalogLemmas.{written_edits}

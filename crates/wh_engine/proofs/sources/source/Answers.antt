@@ -3,7 +3,7 @@ use Rattle.std.specs.Result.{IfOk}
 use Rattle.wh_meaning.specs.Bag.{Bag, bag_of}
 use Rattle.wh_exec.specs.Evaluation.{rows_at}
 use Rattle.wh_machine.specs.Queries.{table_bag}
-use Rattle.wh_catalog.specs.Table.{table_of}
+use Rattle.wh_table.specs.Table.{table_of}
 use Rattle.wh_engine.proofs.CatalogLemmas.{table_there, table_missing}
 use Rattle.wh_engine.proofs.sources.source.Goals as goal
 

@@ -4,7 +4,7 @@ use Rattle.wh_machine.specs.Commit.{changed}
 use Rattle.wh_record.specs.declared.commit.Change.{Change}
 use Rattle.wh_record.specs.View.{change_of}
 use Rattle.wh_catalog.specs.Kept.{object_in}
-use Rattle.wh_catalog.specs.Table.{kept_object}
+use Rattle.wh_catalog.specs.Object.{kept_object}
 use Rattle.wh_catalog.specs.Catalog.{objects_of, kept_of}
 use Rattle.wh_catalog.proofs.catalog.Catalog.carry_out.Goals as goal
 

@@ -2,7 +2,7 @@ use Rattle.std.proofs.Common.{◌∙◌, ap, sym, map, ◌++◌, ◌∷◌, []}
 use Rattle.wh_machine.specs.Commit.{changed}
 use Rattle.wh_record.specs.View.{table_change_of}
 use Rattle.wh_catalog.specs.Kept.{object_in}
-use Rattle.wh_catalog.specs.Table.{kept_object}
+use Rattle.wh_catalog.specs.Object.{kept_object}
 use Rattle.wh_catalog.specs.Catalog.{kept_of, objects_of}
 use Rattle.wh_catalog.proofs.Conditions.{Decides-table_applies}
 use Rattle.wh_catalog.proofs.Objects.{map_more}

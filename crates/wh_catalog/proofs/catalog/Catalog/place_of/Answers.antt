@@ -5,7 +5,7 @@ use Rattle.std.proofs.lemmas.Iterator.Search.{position_from_yields_List}
 use Rattle.wh_machine.specs.State.{is_named}
 use Rattle.wh_catalog.specs.declared.object.StoredObject.{StoredObject}
 use Rattle.wh_catalog.specs.Kept.{object_in}
-use Rattle.wh_catalog.specs.Table.{kept_object}
+use Rattle.wh_catalog.specs.Object.{kept_object}
 use Rattle.wh_catalog.specs.Catalog.{kept_of}
 use Rattle.wh_catalog.proofs.Places.{position-map}
 use Rattle.wh_catalog.proofs.catalog.Catalog.place_of.Goals as goal

@@ -1,6 +1,6 @@
 use Rattle.std.proofs.Common.{◌≡◌, ◌-◌, ◌∙◌, ap, sym, map, take, length, arith}
 use Rattle.std.proofs.lemmas.List.{take-map, length-map}
-use Rattle.wh_catalog.specs.Table.{kept_object}
+use Rattle.wh_catalog.specs.Object.{kept_object}
 use Rattle.wh_catalog.specs.Catalog.{kept_of}
 use Rattle.wh_catalog.specs.Undo.{step_undone}
 use Rattle.wh_catalog.proofs.catalog.Catalog.take_back.Goals as goal

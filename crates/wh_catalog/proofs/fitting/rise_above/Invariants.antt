@@ -1,6 +1,0 @@
-use Rattle.std.proofs.Common.{◌≡◌, drop}
-use Rattle.wh_catalog.specs.Conditions.{rises_above}
-use Rattle.wh_catalog.proofs.fitting.rise_above.Given as goal
-
-abbrev pub invariant-loop-partition : goal.invariant-loop-partition
-invariant-loop-partition l = rises_above l.highest (drop l.partition-index l.partitions) ≡ rises_above l.bound l.partitions

@@ -1,0 +1,10 @@
+pub mod Apart
+pub mod Conditions
+pub mod NumberedRows
+pub mod TableBag
+pub mod Pushed
+pub mod Rising
+pub mod OrderlyTables
+pub mod Chain
+pub mod Entries
+pub mod Standing

@@ -1,0 +1,10 @@
+use Rattle.std.proofs.Common.{◌≡◌, drop, take, filter}
+use Rattle.wh_machine.specs.Edits.{without}
+use Rattle.wh_version.specs.Kept.{is_standing, partitions_in}
+use Rattle.wh_table.specs.Apart.{all_apart}
+use Rattle.wh_table.proofs.Apart.{turned}
+use Rattle.wh_table.proofs.comparing.compared_apart.Given as goal
+
+abbrev pub invariant-loop-place : goal.invariant-loop-place
+invariant-loop-place l = all_apart (turned (without l.removed (partitions_in (filter is_standing l.kept))) (take l.place l.added)) (drop l.place l.added)
+    ≡ all_apart (without l.removed (partitions_in (filter is_standing l.kept))) l.added

@@ -1,0 +1,6 @@
+use Rattle.std.proofs.Common.{◌≡◌, drop}
+use Rattle.wh_table.specs.Conditions.{rises_above}
+use Rattle.wh_table.proofs.fitting.rise_above.Given as goal
+
+abbrev pub invariant-loop-partition : goal.invariant-loop-partition
+invariant-loop-partition l = rises_above l.highest (drop l.partition-index l.partitions) ≡ rises_above l.bound l.partitions

@@ -1,0 +1,29 @@
+-- Tables with what it takes to take a version back.
+--     KeptTable      a table with the number that its next partition had after each version
+--     table_in       what the file says of it
+--     taken_back     the table without its last version
+use Rattle.std.specs.Prelude.{ℕ, List}
+use Rattle.wh_value.specs.Column.{Column}
+use Rattle.wh_machine.specs.Stored.{StoredVersion, StoredTable}
+use Rattle.wh_version.specs.Lists.{shortened}
+use Rattle.wh_version.specs.History.{next_in}
+
+pub record KeptTable : Type 0 where
+  pub columns : List Column
+  pub retention : ℕ
+  pub next_row : ℕ
+  pub versions : List StoredVersion
+  pub nexts : List ℕ
+
+abbrev pub table_in : KeptTable → StoredTable
+table_in t = record {
+  columns = t.columns;
+  retention = t.retention;
+  next_row = t.next_row;
+  next_partition = next_in t.nexts;
+  versions = t.versions;
+}
+
+-- the next row is that of before
+abbrev pub taken_back : ℕ → KeptTable → KeptTable
+taken_back next_row t = record t { next_row = next_row; versions = shortened t.versions; nexts = shortened t.nexts }

@@ -1,0 +1,6 @@
+pub mod Apart
+pub mod Rows
+pub mod Chain
+pub mod Conditions
+pub mod Kept
+pub mod Table

@@ -1,0 +1,19 @@
+-- What a `StoredTable` stands for.
+use Rattle.std.specs.Prelude.{map}
+use Rattle.wh_value.specs.View.{column_of}
+use Rattle.wh_machine.specs.Stored as machine
+use Rattle.wh_version.specs.History.{versions_of, nexts_of}
+use Rattle.wh_table.specs.declared.table.StoredTable.{StoredTable}
+use Rattle.wh_table.specs.Kept.{KeptTable, table_in}
+
+unfoldable pub kept_table : StoredTable → KeptTable
+kept_table t = record {
+  columns = map column_of t.columns.items;
+  retention = t.retention;
+  next_row = t.next_row;
+  versions = versions_of t.history;
+  nexts = nexts_of t.history;
+}
+
+abbrev pub table_of : StoredTable → machine.StoredTable
+table_of t = table_in (kept_table t)

@@ -1,0 +1,67 @@
+//! Partitions compared with each other.
+ghost use Rattle.std.specs.Prelude.{◌≡◌, ◌&&◌, ◌||◌, not, filter};
+ghost use Rattle.std.specs.List.{list_all};
+ghost use Rattle.wh_machine.specs.Edits.{without, is_among};
+ghost use Rattle.wh_version.specs.Kept.{is_standing, partitions_in};
+ghost use Rattle.wh_table.specs.Apart.{are_apart, all_apart};
+
+use wh_part::Partition;
+use wh_version::Kept;
+
+/// Whether each partition is apart from those that stand and stay, and from those before it.
+pub(crate) fn compared_apart(kept: &[Kept], removed: &[u64], added: &[Partition]) -> bool
+    ensures { result
+        ≡ all_apart (without removed.now (partitions_in (filter is_standing kept.now))) added.now }
+{
+    for place in 0..added.len() {
+        let partition = &added[place];
+        if !is_free(partition, kept, removed, &added[..place]) {
+            return false;
+        }
+    }
+    true
+}
+
+fn is_free(partition: &Partition, kept: &[Kept], removed: &[u64], earlier: &[Partition]) -> bool
+    ensures { result ≡ (list_all (are_apart partition.now)
+        (without removed.now (partitions_in (filter is_standing kept.now)))
+        && list_all (are_apart partition.now) earlier.now) }
+{
+    is_apart_from_kept(partition, kept, removed) && is_apart_from(partition, earlier)
+}
+
+fn is_apart_from_kept(partition: &Partition, kept: &[Kept], removed: &[u64]) -> bool
+    ensures { result ≡ list_all (λ k. not (is_standing k)
+        || (is_among k.partition.number removed.now || are_apart partition.now k.partition)) kept.now }
+{
+    kept.iter()
+        .all(|one| is_gone_or_apart(partition, one, removed))
+}
+
+fn is_gone_or_apart(partition: &Partition, one: &Kept, removed: &[u64]) -> bool
+    ensures { result ≡ (not (is_standing one.now)
+        || (is_among one.now.partition.number removed.now
+        || are_apart partition.now one.now.partition)) }
+{
+    !one.stands()
+        || is_among(one.partition().number(), removed)
+        || is_apart(partition, one.partition())
+}
+
+fn is_among(number: u64, numbers: &[u64]) -> bool
+    ensures { result ≡ is_among number numbers.now }
+{
+    numbers.contains(&number)
+}
+
+fn is_apart_from(partition: &Partition, others: &[Partition]) -> bool
+    ensures { result ≡ list_all (are_apart partition.now) others.now }
+{
+    others.iter().all(|other| is_apart(partition, other))
+}
+
+fn is_apart(partition: &Partition, other: &Partition) -> bool
+    ensures { result ≡ are_apart partition.now other.now }
+{
+    partition.last() < other.first() || other.last() < partition.first()
+}

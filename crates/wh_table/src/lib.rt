@@ -1,0 +1,15 @@
+//! A table with all its versions: its columns and rows, and the versions that are pushed and taken back.
+#![tactic(auto, unfolding(crate::specs::Table::kept_table))]
+
+mod by_number;
+mod comparing;
+mod fault;
+mod fitting;
+mod numbers;
+mod pushing;
+mod rewriting;
+mod rows;
+mod table;
+
+pub use fault::StageFault;
+pub use table::StoredTable;

@@ -1,0 +1,115 @@
+use crate::mark::mark_at;
+use crate::times::{Time, last_place};
+use crate::{History, Kept};
+use std::alloc::{AllocError, Global};
+use wh_part::Partition;
+
+/// A version of a table: when it was pushed, whose data it shows, and what it holds.
+#[derive(Clone, Copy, Debug)]
+pub struct Version<'a> {
+    pub stamp: u64,
+    pub data_timestamp: u64,
+    /// Its place among the versions of its table.
+    pub(crate) place: usize,
+    /// The partitions that there were by then.
+    pub(crate) kept: &'a [Kept],
+}
+
+impl History {
+    ghost use Rattle.std.specs.Prelude.{◌≡◌, ◌<◌, Some, length, option_map, slice_index_or as get_or};
+    ghost use Rattle.wh_machine.specs.State.{last_of};
+    ghost use Rattle.wh_version.specs.Kept.{version_by};
+    ghost use Rattle.wh_version.specs.Times.{data_at, visible_at, is_up_to, last_place};
+    ghost use Rattle.wh_version.specs.History.{versions_of, marks_of};
+    ghost use Rattle.wh_version.specs.Version.{version_in};
+
+    /// The last version.
+    pub fn last(&self) -> Version<'_>
+        ensures { last_of (versions_of self.now) ≡ Some (version_in result) }
+    {
+        self.version(self.later.len())
+    }
+
+    /// The last version whose data timestamp is at most that. None exactly where no version is
+    /// old enough.
+    pub fn at(&self, timestamp: u64) -> Option<Version<'_>>
+        ensures { option_map version_in result ≡ data_at timestamp (versions_of self.now) }
+    {
+        self.last_up_to(Time::Data, timestamp)
+    }
+
+    /// The last version whose stamp is at most that. None exactly where no version is old enough.
+    pub fn visible(&self, stamp: u64) -> Option<Version<'_>>
+        ensures { option_map version_in result ≡ visible_at stamp (versions_of self.now) }
+    {
+        self.last_up_to(Time::Stamp, stamp)
+    }
+
+    fn last_up_to(&self, time: Time, limit: u64) -> Option<Version<'_>>
+        ensures { option_map version_in result ≡ option_map
+            (λ place. version_by self.now.kept.items place
+            (get_or (marks_of self.now) place self.now.first))
+            (last_place (is_up_to time limit) (marks_of self.now)) }
+    {
+        let Some(place) = last_place(self.first, &self.later, time, limit) else {
+            return None;
+        };
+        Some(self.version(place))
+    }
+
+    fn version(&self, place: usize) -> Version<'_>
+        requires { place < length (marks_of self.now) }
+        ensures { version_in result ≡ version_by self.now.kept.items place
+            (get_or (marks_of self.now) place self.now.first) }
+    {
+        let mark = mark_at(self.first, &self.later, place);
+        Version {
+            stamp: mark.stamp,
+            data_timestamp: mark.data_timestamp,
+            place,
+            kept: &self.kept[..mark.partitions],
+        }
+    }
+}
+
+impl<'a> Version<'a> {
+    ghost use Rattle.std.specs.Prelude.{◌≡◌, IfOk};
+    ghost use Rattle.wh_version.specs.Edits.{partitions_at};
+    ghost use Rattle.wh_version.specs.Version.{version_in};
+
+    /// Its partitions, by rising number.
+    pub fn partitions(&self, alloc: Global) -> Result<Vec<&'a Partition>, AllocError>
+        ensures { IfOk result (λ found. partitions_at found.items ≡ (version_in self.now).content) }
+    {
+        standing_at(self.place, self.kept, alloc)
+    }
+}
+
+ghost use Rattle.std.specs.Prelude.{◌≡◌, ◌++◌, ◌∷◌, [], OnOk, IfOk};
+ghost use Rattle.wh_version.specs.Kept.{standing_at};
+ghost use Rattle.wh_version.specs.Edits.{partitions_at};
+
+// The partitions that stand in the version at a place.
+fn standing_at(place: usize, kept: &[Kept], alloc: Global) -> Result<Vec<&Partition>, AllocError>
+    ensures { IfOk result (λ found. partitions_at found.items ≡ standing_at place kept.now) }
+{
+    let mut found = Vec::new(alloc);
+    for one in kept {
+        add_standing(&mut found, place, one)?;
+    }
+    Ok(found)
+}
+
+fn add_standing<'a>(
+    found: &mut Vec<&'a Partition>,
+    place: usize,
+    one: &'a Kept,
+) -> Result<(), AllocError>
+    ensures { OnOk result (partitions_at found.new.items
+        ≡ partitions_at found.old.items ++ standing_at place (one.now ∷ [])) }
+{
+    if place < one.until {
+        found.push(one.partition())?;
+    }
+    Ok(())
+}
