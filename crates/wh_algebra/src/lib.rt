@@ -1,9 +1,15 @@
-//! Bound queries: trees of the six operators over numbered sources, and the rows that operators
-//! take and give.
+//! Bound queries: trees of the six operators over numbered sources, plans that carry them out, and
+//! the rows that operators take and give.
 #![tactic(auto)]
 
+mod copying;
+mod increments;
+mod physical;
+mod plain;
 mod query;
 mod tuple;
 
+pub use increments::incrementable;
+pub use physical::{Operator, Physical};
 pub use query::{Call, Query};
 pub use tuple::Tuple;

@@ -1,0 +1,143 @@
+ghost use Rattle.std.specs.Prelude.{◌≡◌, IfOk};
+ghost use Rattle.wh_meaning.specs.Query as meaning;
+ghost use Rattle.wh_scalar.specs.View.{scalar_of};
+ghost use Rattle.wh_algebra.specs.View.{scalars_of, calls_of};
+ghost use Rattle.wh_algebra.specs.Plan.{plan_of, operator_of};
+
+use crate::Call;
+use sqlite_items::{Boxed, Items};
+use std::alloc::{AllocError, Global};
+use wh_scalar::Scalar;
+
+/// A plan: how a query is carried out. Contracts see it as the query that it stands for.
+#[cycle(plan)]
+#[derive(Debug, Drop)]
+pub struct Physical {
+    step: Step,
+}
+
+#[cycle(plan)]
+#[derive(Debug, Drop)]
+enum Step {
+    Scan(u32),
+    Filter(Boxed<Physical>, Scalar),
+    Project(Boxed<Physical>, Items<Scalar>),
+    Join(Boxed<Physical>, Boxed<Physical>, Scalar),
+    UnionAll(Boxed<Physical>, Boxed<Physical>),
+    Group(Boxed<Physical>, Items<Scalar>, Items<Call>),
+}
+
+/// The last operator of a plan, with its parts.
+#[derive(Debug, Drop)]
+pub enum Operator<'a> {
+    /// The number of the source.
+    Scan(u32),
+    Filter(&'a Physical, &'a Scalar),
+    Project(&'a Physical, &'a [Scalar]),
+    /// The scalar sees the left row's columns and then the right one's. Each pair is tried.
+    Join(&'a Physical, &'a Physical, &'a Scalar),
+    UnionAll(&'a Physical, &'a Physical),
+    /// A row for each distinct key: the keys, and then the calls.
+    Group(&'a Physical, &'a [Scalar], &'a [Call]),
+}
+
+impl Physical {
+    /// The last operator, and its parts.
+    pub fn operator(&self) -> Operator<'_>
+        ensures { operator_of result ≡ plan_of self.now }
+    {
+        match &self.step {
+            Step::Scan(source) => Operator::Scan(*source),
+            Step::Filter(input, condition) => Operator::Filter(input.get(), condition),
+            Step::Project(input, items) => Operator::Project(input.get(), items.as_slice()),
+            Step::Join(left, right, on) => Operator::Join(left.get(), right.get(), on),
+            Step::UnionAll(left, right) => Operator::UnionAll(left.get(), right.get()),
+            Step::Group(input, by, calls) => {
+                Operator::Group(input.get(), by.as_slice(), calls.as_slice())
+            }
+        }
+    }
+
+    pub fn scan(source: u32) -> Physical
+        ensures { plan_of result ≡ meaning.Scan source }
+    {
+        Physical {
+            step: Step::Scan(source),
+        }
+    }
+
+    pub fn filter(
+        alloc: Global,
+        input: Physical,
+        condition: Scalar,
+    ) -> Result<Physical, AllocError>
+        ensures { IfOk result (λ plan. plan_of plan
+            ≡ meaning.Filter (plan_of input) (scalar_of condition)) }
+    {
+        let input = Boxed::new(alloc, input)?;
+        Ok(Physical {
+            step: Step::Filter(input, condition),
+        })
+    }
+
+    pub fn project(
+        alloc: Global,
+        input: Physical,
+        items: Items<Scalar>,
+    ) -> Result<Physical, AllocError>
+        ensures { IfOk result (λ plan. plan_of plan
+            ≡ meaning.Project (plan_of input) (scalars_of items)) }
+    {
+        let input = Boxed::new(alloc, input)?;
+        Ok(Physical {
+            step: Step::Project(input, items),
+        })
+    }
+
+    /// A join that tries each pair of rows.
+    pub fn join(
+        alloc: Global,
+        left: Physical,
+        right: Physical,
+        on: Scalar,
+    ) -> Result<Physical, AllocError>
+        ensures { IfOk result (λ plan. plan_of plan
+            ≡ meaning.Join (plan_of left) (plan_of right) (scalar_of on)) }
+    {
+        let left = Boxed::new(alloc, left)?;
+        let right = Boxed::new(alloc, right)?;
+        Ok(Physical {
+            step: Step::Join(left, right, on),
+        })
+    }
+
+    pub fn union_all(
+        alloc: Global,
+        left: Physical,
+        right: Physical,
+    ) -> Result<Physical, AllocError>
+        ensures { IfOk result (λ plan. plan_of plan
+            ≡ meaning.UnionAll (plan_of left) (plan_of right)) }
+    {
+        let left = Boxed::new(alloc, left)?;
+        let right = Boxed::new(alloc, right)?;
+        Ok(Physical {
+            step: Step::UnionAll(left, right),
+        })
+    }
+
+    pub fn group(
+        alloc: Global,
+        input: Physical,
+        by: Items<Scalar>,
+        calls: Items<Call>,
+    ) -> Result<Physical, AllocError>
+        ensures { IfOk result (λ plan. plan_of plan
+            ≡ meaning.Group (plan_of input) (scalars_of by) (calls_of calls)) }
+    {
+        let input = Boxed::new(alloc, input)?;
+        Ok(Physical {
+            step: Step::Group(input, by, calls),
+        })
+    }
+}
