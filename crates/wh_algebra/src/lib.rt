@@ -7,6 +7,8 @@ mod increments;
 mod physical;
 mod plain;
 mod query;
+#[cfg(test)]
+mod tests;
 mod tuple;
 
 pub use increments::incrementable;

@@ -1,2 +1,6 @@
 pub mod Added
 mod Columns
+mod Told
+mod Referred
+mod Sizes
+mod Meant
