@@ -2,6 +2,8 @@ ghost use Rattle.std.specs.Prelude.{◌≡◌, ◌≤◌, List, ℕ, Option, Err
 ghost use Rattle.std.specs.Arc.{arc_value};
 ghost use Rattle.wh_world.specs.Told.{Rose};
 ghost use Rattle.wh_frame.specs.Partition.{Partition as Contents};
+ghost use Rattle.wh_part.specs.declared.meta.PartId.{PartId};
+ghost use Rattle.wh_part.specs.declared.meta.PartMeta.{PartMeta};
 ghost use Rattle.wh_fetch.specs.declared.fault.FetchFault.TheVariants.{Read};
 ghost use Rattle.wh_fetch.specs.Fetch.{IsTold, Asks};
 

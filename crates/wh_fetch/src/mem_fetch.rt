@@ -74,7 +74,7 @@ impl Fetch for MemFetch {
 
     fn fetch(&mut self, part: &PartMeta) -> Result<Arc<Partition>, FetchFault> {
         self.asked.push(part.id)?;
-        let found = self.parts.get(key(part.id)).unwrap();
+        let found = self.parts.get(&key(part.id)).unwrap();
         Ok(Arc::try_clone(found)?)
     }
 
