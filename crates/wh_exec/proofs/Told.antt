@@ -2,6 +2,7 @@
 --     rows_told-push, instance_told-push     with one more behind them
 --     told_part, told_source                 what is loaded so far is what is told, and so is one more
 --     bag_told-same, covered_on              a source at a later state of the fetch
+--     all_at                                 what holds of all holds of the one at a place
 use Rattle.std.specs.Prelude.{◌≡◌, ℕ, suc, ◌+◌, ◌<◌, List, [], ◌∷◌, ◌++◌, length, map, take, Option, Some, None, option_map, slice_index_or}
 use Rattle.std.specs.List.{All, flat_map}
 use Rattle.std.specs.Global.{Global}
@@ -123,3 +124,6 @@ bag_told-same now then covers same (Rows bag) all = refl
 pub covered_on : (then now : PartMeta → Type 0) → ((part : PartMeta) → then part → now part) → (given : Given) → IsCovered then given → IsCovered now given
 covered_on then now on (Parts parts) all = λ k d h. on (slice_index_or parts.items k d) (all k d h)
 covered_on then now on (Rows bag) all = tt
+
+pub all_at : {X : Type 0} (P : X → Type 0) (all : List X) (i : ℕ) (x : X) → i < length all → x ≡ get_or all i x → All P all → P x
+all_at P all i x within at every = subst P (sym at) (every i x within)
