@@ -3,8 +3,9 @@
 
 usage: bench/two_runs.py [TIMES [INSERTS]]      20 times with 5,000 INSERTs each where none is given
 
-Each time one of the two has to end with 0, with all of its rows answered, and the other with 4 and no reply, or with 0
-where the first had ended before it began. Then the file has to hold exactly the rows that were answered.
+By turns both are started as the program, one of them by the script ./bokzarn, or both by it. Each time one of the two has
+to end with 0, with all of its rows answered, and the other with 4 and no reply, or with 0 where the first had ended before
+it began. Then the file has to hold exactly the rows that were answered.
 Besides, as often, a program that doesn't ask for the lock lets the file grow in mid-run: the run has to end with 4,
 and the file to hold each row that was answered, and at most one more.
 Prints a line for each time that did not hold, and a summary; ends with 1 where there was one.
@@ -18,6 +19,8 @@ import time
 
 HERE = os.path.dirname(os.path.abspath(__file__))
 PROGRAM = os.path.join(HERE, "..", "crates", "bokzarn", "out", "bokzarn")
+WRAPPER = os.path.join(HERE, "..", "bokzarn")
+WAYS = ((PROGRAM, PROGRAM), (PROGRAM, WRAPPER), (WRAPPER, WRAPPER))
 
 
 def run(db, script):
@@ -34,13 +37,13 @@ def rows_in(db):
     return [int(line) for line in lines[1:-2]]
 
 
-def begin(work, db, name, script):
+def begin(work, db, name, script, program=PROGRAM):
     """A run with its script and its replies in files."""
     source = os.path.join(work, name + ".sql")
     with open(source, "wb") as file:
         file.write(script)
     with open(source, "rb") as stdin, open(os.path.join(work, name + ".out"), "wb") as stdout:
-        return subprocess.Popen([PROGRAM, db, "run"], stdin=stdin, stdout=stdout, stderr=subprocess.DEVNULL)
+        return subprocess.Popen([program, db, "run"], stdin=stdin, stdout=stdout, stderr=subprocess.DEVNULL)
 
 
 def answered(work, name):
@@ -58,8 +61,9 @@ def created(work, number):
 def two_at_once(work, number, count):
     """Whether two runs at once held, and whether one of them found the file locked."""
     db = created(work, number)
-    first = begin(work, db, "first", inserts(1, count))
-    second = begin(work, db, "second", inserts(count + 1, count))
+    ways = WAYS[number % len(WAYS)]
+    first = begin(work, db, "first", inserts(1, count), ways[0])
+    second = begin(work, db, "second", inserts(count + 1, count), ways[1])
     ends = (first.wait(), second.wait())
     replies = (answered(work, "first"), answered(work, "second"))
     rows = sorted(rows_in(db))

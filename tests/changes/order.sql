@@ -120,3 +120,45 @@ MERGE INTO T USING TWO ON TRUE WHEN MATCHED AND T.K = 2 THEN DELETE WHEN MATCHED
 MERGE INTO T USING TWO ON TRUE WHEN MATCHED AND T.K >= 2 THEN DELETE;
 -- nothing was changed by what was refused
 SELECT * FROM T;
+-- an unknown target before a list with a column twice
+INSERT INTO NOPE (K, K) VALUES (1, 2);
+-- an unknown source before it, which stands first
+INSERT INTO T (K, K) SELECT 1, 2 FROM NOPE;
+-- an unknown target before a type behind it
+INSERT INTO NOPE VALUES ('a' + 1);
+-- an unknown source before a type, which stands first
+INSERT INTO T SELECT 'a' + 1, 1 FROM NOPE;
+-- an unknown column before a type behind it
+INSERT INTO T VALUES (ZZ, 1), ('a', 1);
+-- an entry that comes twice before a type, which stands first
+INSERT INTO T SELECT 'a' + 1, 2 FROM U JOIN U ON TRUE;
+-- an unknown column of a query before an entry that comes twice behind it
+INSERT INTO T SELECT ZZ, 2 FROM U JOIN U ON TRUE;
+-- an unknown target before a type
+UPDATE NOPE SET K = 'a' + 1;
+-- an unknown column before a type behind it
+DELETE FROM T WHERE ZZ = K + 'a';
+-- an unknown source before a column, which stands first
+MERGE INTO T USING (SELECT ZZ FROM NOPE) S ON TRUE WHEN MATCHED THEN DELETE;
+-- an unknown source before a column that is set twice
+MERGE INTO T USING NOPE ON TRUE WHEN MATCHED THEN UPDATE SET V = 1, V = 2;
+-- an unknown source before an entry that comes twice, which stands first
+MERGE INTO T USING (SELECT 1 AS X FROM U JOIN U ON TRUE JOIN NOPE ON TRUE) S ON TRUE WHEN MATCHED THEN DELETE;
+-- an unknown source before a type behind it
+MERGE INTO T USING NOPE ON 1 WHEN MATCHED THEN DELETE;
+-- an unknown source before a type, which stands first
+MERGE INTO T USING (SELECT 'a' + 1 AS X FROM NOPE) S ON TRUE WHEN MATCHED THEN DELETE;
+-- an unknown column before a column that is set twice behind it
+MERGE INTO T USING U ON ZZ = 1 WHEN MATCHED THEN UPDATE SET V = 1, V = 2;
+-- an unknown column before a column that is set twice, which stands first
+MERGE INTO T USING U ON TRUE WHEN MATCHED THEN UPDATE SET V = 1, V = 2 WHEN NOT MATCHED AND ZZ = 1 THEN INSERT VALUES (1, 1);
+-- an unknown column before a type behind it
+MERGE INTO T USING U ON ZZ = 'a' + 1 WHEN MATCHED THEN DELETE;
+-- an unknown column before a type, which stands first
+MERGE INTO T USING U ON 'a' + 1 = ZZ WHEN MATCHED THEN DELETE;
+-- a column that is set twice before a type, which stands first
+MERGE INTO T USING U ON 1 WHEN MATCHED THEN UPDATE SET V = 1, V = 2;
+-- a column that is set twice before a type behind it
+MERGE INTO T USING U ON TRUE WHEN MATCHED THEN UPDATE SET V = 1, V = 2 WHEN NOT MATCHED AND 1 THEN INSERT VALUES (1, 1);
+-- a type before an ON of 19 digits, which stands first
+MERGE INTO T USING U ON T.V + 1 > 0 WHEN MATCHED THEN UPDATE SET V = 'a';

@@ -93,3 +93,32 @@ BEGIN;
 -- in a session too many this isn't looked at
 !session 65
 COMMIT;
+!session 1
+-- of two columns that come twice the one whose first place stands first
+CREATE TABLE X(A NUMBER, B NUMBER, B NUMBER, A NUMBER);
+-- a name that is kept for the columns of streams has its own place
+CREATE TABLE X(K NUMBER, METADATA$A NUMBER, K NUMBER);
+-- before that one
+CREATE TABLE X(METADATA$A NUMBER, K NUMBER, K NUMBER);
+-- in small letters it is free
+CREATE TABLE X("metadata$k" NUMBER, "k" NUMBER, K NUMBER);
+-- a table's own name may begin so
+CREATE TABLE METADATA$T(K NUMBER);
+-- words that are not reserved are names
+CREATE TABLE TABLE(NUMBER NUMBER, TABLE VARCHAR);
+-- a reserved word isn't
+CREATE TABLE SELECT(K NUMBER);
+-- in quotes it is
+CREATE TABLE "SELECT"("FROM" NUMBER);
+-- SUM before a parenthesis is no name
+CREATE TABLE SUM(K NUMBER);
+-- nothing was changed by what was refused
+SELECT * FROM X;
+-- SUM in quotes is a name, and COUNT before no parenthesis
+CREATE TABLE "SUM"(COUNT NUMBER);
+-- SUM before no parenthesis is one
+INSERT INTO SUM VALUES (1);
+-- so are both here
+SELECT COUNT, SUM.COUNT FROM SUM;
+-- before a list COUNT begins a call
+INSERT INTO COUNT (K) VALUES (1);

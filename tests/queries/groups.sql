@@ -77,3 +77,27 @@ SELECT COUNT(*) FROM L GROUP BY X + 1;
 SELECT COUNT(X + 1) FROM L WHERE X < 5;
 -- a union of groups
 SELECT COUNT(*) AS N FROM T UNION ALL SELECT SUM(V) FROM T GROUP BY K;
+-- a call beside a key in one item
+SELECT K + COUNT(*) FROM T GROUP BY K;
+-- a column in a call needs no key
+SELECT SUM(V) FROM T GROUP BY K;
+-- NOT IN is NOT of IN
+SELECT K NOT IN (1, 2) FROM T GROUP BY K IN (1, 2);
+-- NOT BETWEEN is NOT of BETWEEN
+SELECT K NOT BETWEEN 2 AND 3 FROM T GROUP BY K BETWEEN 2 AND 3;
+-- an item that says the same with parentheses
+SELECT (K + (1)) FROM T GROUP BY K + 1;
+-- a constant is a key as any other
+SELECT 1 + V FROM T GROUP BY 1, V;
+-- a key that is no item
+SELECT COUNT(*) AS N FROM T GROUP BY K, V;
+-- COUNT of what is NULL on every row
+SELECT COUNT(NULL), SUM(NULL) FROM T;
+-- equal rows of a group count each
+SELECT COUNT(X), SUM(X) FROM (SELECT 1 AS X FROM T) Q;
+-- calls in all places of a BETWEEN
+SELECT COUNT(*) BETWEEN COUNT(V) AND COUNT(*), COUNT(V) BETWEEN SUM(K) AND COUNT(*) FROM T;
+-- calls in all places of an IN
+SELECT 3 IN (COUNT(V), SUM(K), COUNT(*)), SUM(V) NOT IN (COUNT(*), SUM(K) + 11) FROM T;
+-- FALSE AND spares no argument of a call
+SELECT FALSE AND SUM(K * 999999999999999999) > 0 FROM T;

@@ -45,3 +45,17 @@ SELECT W FROM U ORDER BY W DESC;
 SELECT K = 1 AS Y FROM T ORDER BY Y;
 -- numbers by size
 SELECT K - 2 AS D FROM U ORDER BY D;
+-- by the name of an item without one
+SELECT K + 1 FROM T ORDER BY COL1 DESC;
+-- by a name of the first core's
+SELECT K AS A FROM T UNION ALL SELECT V AS B FROM T ORDER BY A DESC;
+-- not by one of a later core's
+SELECT K AS A FROM T UNION ALL SELECT V AS B FROM T ORDER BY B;
+-- by a name in quotes
+SELECT K AS "k", V AS K FROM T ORDER BY "k" DESC, K;
+-- an entry's name stands in no key
+SELECT K FROM T ORDER BY T.K;
+-- an unknown position before a type, which stands first
+SELECT 'a' + 1 FROM T ORDER BY 2;
+-- a key that comes twice
+SELECT K, V FROM T ORDER BY K, K DESC, V DESC;

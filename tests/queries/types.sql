@@ -99,3 +99,27 @@ SELECT NULL AS A FROM ONE UNION ALL SELECT 1 FROM ONE;
 SELECT X = 'a' FROM (SELECT NULL AS X FROM ONE) Q;
 -- a type that a later core tells
 SELECT X + 1 FROM (SELECT NULL AS X FROM ONE UNION ALL SELECT 2 FROM ONE) Q;
+-- AND has a truth value behind it
+SELECT TRUE AND 1 FROM ONE;
+-- OR has one before it
+SELECT 1 OR TRUE FROM ONE;
+-- NOT IN has one type
+SELECT 1 NOT IN ('a') FROM ONE;
+-- NOT BETWEEN has one type
+SELECT 1 NOT BETWEEN 0 AND 'a' FROM ONE;
+-- an IN is a truth value
+SELECT (1 IN (1)) + 1 FROM ONE;
+-- IS NULL is a truth value
+SELECT (K IS NULL) + 1 FROM T;
+-- IS NULL takes anything
+SELECT W IS NULL, (K = 1) IS NULL, K IS NOT NULL FROM U WHERE W = 'a';
+-- NULL is a truth value too
+SELECT NULL AND TRUE, NULL OR TRUE, NOT NULL FROM ONE;
+-- a call in a subquery is none of the core around it
+SELECT X, N FROM ONE JOIN (SELECT COUNT(*) AS N FROM T) Q ON TRUE;
+-- a call in one core is none of another
+SELECT K FROM T WHERE V = 5 UNION ALL SELECT COUNT(*) FROM T;
+-- a column beside a call in one item
+SELECT K + COUNT(*) FROM T;
+-- ORDER BY takes no call
+SELECT K FROM T ORDER BY COUNT(*);

@@ -7,10 +7,7 @@ use sqlite_items::Items;
 use std::alloc::{AllocError, Global};
 use wh_scalar::Scalar;
 
-pub(crate) fn copy_scalars(
-    alloc: Global,
-    scalars: &[Scalar],
-) -> Result<Items<Scalar>, AllocError>
+pub(crate) fn copy_scalars(alloc: Global, scalars: &[Scalar]) -> Result<Items<Scalar>, AllocError>
     ensures { IfOk result (λ copies. scalars_of copies ≡ scalars_of scalars.now) }
 {
     let mut copies = Items::new(alloc);

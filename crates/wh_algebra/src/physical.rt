@@ -66,11 +66,7 @@ impl Physical {
         }
     }
 
-    pub fn filter(
-        alloc: Global,
-        input: Physical,
-        condition: Scalar,
-    ) -> Result<Physical, AllocError>
+    pub fn filter(alloc: Global, input: Physical, condition: Scalar) -> Result<Physical, AllocError>
         ensures { IfOk result (λ plan. plan_of plan
             ≡ meaning.Filter (plan_of input) (scalar_of condition)) }
     {
@@ -111,11 +107,7 @@ impl Physical {
         })
     }
 
-    pub fn union_all(
-        alloc: Global,
-        left: Physical,
-        right: Physical,
-    ) -> Result<Physical, AllocError>
+    pub fn union_all(alloc: Global, left: Physical, right: Physical) -> Result<Physical, AllocError>
         ensures { IfOk result (λ plan. plan_of plan
             ≡ meaning.UnionAll (plan_of left) (plan_of right)) }
     {

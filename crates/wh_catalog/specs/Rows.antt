@@ -2,14 +2,11 @@
 --     rows_at                  the rows that references point to
 --     rows_only, all_rows      the rows of partitions, one after the other
 --     partitions_at            the partitions that references point to
---     numbered_at              the rows with their numbers that references point to
 use Rattle.std.specs.Prelude.{ℕ, List, map}
 use Rattle.std.specs.List.{flat_map}
 use denote.Ref.{Bor}
 use Rattle.wh_value.specs.Value.{Row}
 use Rattle.wh_frame.specs.Partition.{Partition}
-use Rattle.wh_part.specs.declared.partition.NumberedRow.{NumberedRow}
-use Rattle.wh_part.specs.View.{numbered_of}
 
 abbrev pub rows_at : List (Bor Row) → List Row
 rows_at rows = map (λ row. row.now) rows
@@ -22,6 +19,3 @@ all_rows partitions = flat_map (λ p. p.rows) partitions
 
 abbrev pub partitions_at : List (Bor Partition) → List Partition
 partitions_at partitions = map (λ p. p.now) partitions
-
-abbrev pub numbered_at : List (Bor NumberedRow) → List (ℕ × Row)
-numbered_at rows = map (λ r. numbered_of r.now) rows

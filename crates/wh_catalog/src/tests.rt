@@ -133,13 +133,13 @@ fn holds(alloc: Global, catalog: &Catalog, id: u32, numbers: &[i64]) -> Result<b
     Ok(same)
 }
 
-// Whether the rows of the table of an id have these numbers, in this order.
-fn is_numbered(alloc: Global, catalog: &Catalog, id: u32, numbers: &[u64]) -> Result<bool, Fail> {
+// Whether the partitions of the table of an id begin with these row numbers, in this order.
+fn is_by_rows(alloc: Global, catalog: &Catalog, id: u32, numbers: &[u64]) -> Result<bool, Fail> {
     let table = catalog.table(id).ok_or("no table")?;
-    let found = table.numbered_rows(alloc)?;
+    let found = table.by_rows(alloc)?;
     let mut same = found.len() == numbers.len();
     for (found, number) in found.iter().zip(numbers) {
-        same = same && found.number == *number;
+        same = same && found.first() == *number;
     }
     Ok(same)
 }
@@ -182,7 +182,10 @@ fn a_version_is_held_and_undone(rt: HostRuntime) -> Result<(), Fail> {
     let undo = carry_out(&mut catalog, pushed)?;
     pass_on(&mut catalog);
     assert!(rt; holds(alloc, &catalog, 1, &[5, 11, 3])?, "the new version");
-    assert!(rt; is_numbered(alloc, &catalog, 1, &[2, 6, 9])?, "by number");
+    assert!(rt;
+        is_by_rows(alloc, &catalog, 1, &[2, 6, 9])?,
+        "by their rows"
+    );
     assert!(rt; gives_up(alloc, &catalog, 1, 9, &[3])?, "a row that goes");
     assert_eq!(rt; catalog.last(), 20);
     catalog.undo(undo);

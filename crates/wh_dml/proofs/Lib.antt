@@ -1,4 +1,6 @@
 pub mod OptionLaws
+pub mod EffectLaws
+pub mod SettledLaws
 pub mod ClauseLaws
 pub mod PairLaws
 pub mod TargetLaws

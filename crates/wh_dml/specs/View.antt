@@ -1,18 +1,21 @@
 -- What the types of the code stand for, and what the effect of a change is.
---     kept_of, targets_of     rows of the target by their numbers
+--     kept_rows, targets_of   rows of the target by their numbers, of one partition and of several
 --     changed_of, effect_of   a changed row, and an effect
 --     turn_of, turns_of       what becomes of a row
 --     settled_of              what the rows of a target come to in MERGE
 --     fault_of                the fault of an evaluation
 --     Gives                   what `effect` gives: the effect that is meant, or why there is none
-use Rattle.std.specs.Prelude.{◌≡◌, List, map, Result, Ok, Err}
+use Rattle.std.specs.Prelude.{◌≡◌, ℕ, List, map, Result, Ok, Err}
+use Rattle.std.specs.List.{flat_map}
+use denote.Ref.{Bor}
+use Rattle.wh_value.specs.Value.{Row}
+use Rattle.wh_frame.specs.Partition.{Partition}
 use Rattle.wh_part.specs.declared.partition.NumberedRow.{NumberedRow}
 use Rattle.wh_scalar.specs.declared.fault.EvalFault.{EvalFault}
 use Rattle.wh_scalar.specs.declared.fault.EvalFault.TheVariants as faults
 use Rattle.wh_effect.specs.Effect as meaning
 use Rattle.wh_effect.specs.Effect.{Outcome, Undefined, Ambiguous, Does}
 use Rattle.wh_dml.specs.Steps as steps
-use Rattle.wh_dml.specs.declared.target.TargetRow.{TargetRow}
 use Rattle.wh_dml.specs.declared.target.Effect.{Effect}
 use Rattle.wh_dml.specs.declared.turn.Turn.{Turn}
 use Rattle.wh_dml.specs.declared.turn.Turn.TheVariants.{Stays, Goes, Becomes}
@@ -20,11 +23,14 @@ use Rattle.wh_dml.specs.declared.settled.Settled.{Settled}
 use Rattle.wh_dml.specs.declared.fault.EffectFault.{EffectFault}
 use Rattle.wh_dml.specs.declared.fault.EffectFault.TheVariants.{OutOfMemory, NumberOutOfRange, AmbiguousMerge}
 
-abbrev pub kept_of : TargetRow → meaning.Kept
-kept_of t = record { number = t.number; row = t.row.now }
+abbrev pub kept_of : ℕ × Row → meaning.Kept
+kept_of entry = record { number = entry.0; row = entry.1 }
 
-abbrev pub targets_of : List TargetRow → List meaning.Kept
-targets_of target = map kept_of target
+abbrev pub kept_rows : List (ℕ × Row) → List meaning.Kept
+kept_rows rows = map kept_of rows
+
+abbrev pub targets_of : List (Bor Partition) → List meaning.Kept
+targets_of target = flat_map (λ p. kept_rows p.now.rows) target
 
 abbrev pub changed_of : NumberedRow → meaning.Kept
 changed_of e = record { number = e.number; row = e.row }

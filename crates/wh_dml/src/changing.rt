@@ -3,20 +3,23 @@ ghost use Rattle.wh_dml_bind.specs.View.{change_of};
 ghost use Rattle.wh_effect.specs.Effect as meaning;
 ghost use Rattle.wh_exec.specs.Evaluation.{instance_of};
 
+use crate::delete::deleted;
 use crate::insert::{rows_in_order, rows_of, rows_over};
 use crate::merge::merged;
-use crate::turn::{deleted, updated};
-use crate::{Effect, EffectFault, TargetRow};
+use crate::update::updated;
+use crate::{Effect, EffectFault};
 use std::alloc::Global;
 use wh_dml_bind::Change;
+use wh_part::Partition;
 use wh_value::Row;
 
-/// What a change does to the rows of its target, over the rows of its sources.
+/// What a change does to the rows of its target's partitions, in their order, over the rows of its
+/// sources.
 #[tactic(auto, unfolding(wh_effect::specs::Effect::effect))]
 pub fn effect(
     alloc: Global,
     change: &Change,
-    target: &[TargetRow<'_>],
+    target: &[&Partition],
     sources: &[Vec<&Row>],
 ) -> Result<Effect, EffectFault>
     ensures { Gives result

@@ -8,7 +8,6 @@ ghost use Rattle.wh_effect.specs.Effect as meaning;
 ghost use Rattle.wh_scalar.specs.View.{scalar_of};
 
 use crate::turn::Turn;
-use crate::values::is_true;
 use std::alloc::{AllocError, Global};
 use wh_aggregate::values_on;
 use wh_dml_bind::BoundClause;
@@ -100,7 +99,7 @@ fn chosen<'a>(
 {
     let mut found = None;
     for clause in clauses {
-        let holds = is_true(&condition_of(clause).eval(alloc, row)?);
+        let holds = condition_of(clause).holds(alloc, row)?;
         if holds && found.is_none() {
             found = Some(*clause);
         }

@@ -4,6 +4,7 @@
 
 mod changing;
 mod clauses;
+mod delete;
 mod fault;
 mod insert;
 mod merge;
@@ -13,8 +14,8 @@ mod target;
 #[cfg(test)]
 mod tests;
 mod turn;
-mod values;
+mod update;
 
 pub use changing::effect;
 pub use fault::EffectFault;
-pub use target::{Effect, TargetRow};
+pub use target::Effect;

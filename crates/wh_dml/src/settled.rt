@@ -1,6 +1,7 @@
 use crate::turn::Turn;
-use crate::{Effect, EffectFault, TargetRow};
+use crate::{Effect, EffectFault};
 use std::alloc::{AllocError, Global};
+use wh_part::NumberedRow;
 use wh_value::Row;
 
 /// What the target's rows come to so far.
@@ -15,6 +16,7 @@ impl Settled {
     ghost use Rattle.std.specs.Prelude.{◌≡◌, Some, OnOk};
     ghost use Rattle.wh_dml.specs.Steps.{after, nothing, outcome, settled_by};
     ghost use Rattle.wh_dml.specs.View.{kept_of, settled_of, turns_of, Gives};
+    ghost use Rattle.wh_part.specs.View.{numbered_of};
 
     pub(crate) fn new(alloc: Global) -> Settled
         ensures { settled_of result ≡ nothing }
@@ -29,18 +31,18 @@ impl Settled {
     pub(crate) fn put(
         &mut self,
         alloc: Global,
-        kept: &TargetRow<'_>,
+        entry: &NumberedRow,
         turns: Vec<Turn>,
     ) -> Result<(), AllocError>
         ensures { OnOk result (settled_of self.new
-            ≡ after (settled_of self.old) (settled_by (kept_of kept.now) (turns_of turns.items))) }
+            ≡ after (settled_of self.old) (settled_by (kept_of (numbered_of entry.now)) (turns_of turns.items))) }
     {
         let mut turns = turns;
         if turns.len() > 1 {
-            return self.put_several(alloc, kept.row);
+            return self.put_several(alloc, &entry.row);
         }
         if let Some(turn) = turns.pop() {
-            self.effect.put(kept.number, turn)?;
+            self.effect.put(entry.number, turn)?;
         }
         Ok(())
     }

@@ -1,8 +1,11 @@
-use crate::{Effect, EffectFault, TargetRow, effect};
+ghost use Rattle.std.specs.Prelude.{◌≡◌, IfOk};
+
+use crate::{Effect, EffectFault, effect};
 use sqlite_items::Boxed;
 use std::alloc::{AllocError, Global};
 use wh_algebra::Query;
 use wh_dml_bind::{BoundClause, Change};
+use wh_part::{NumberedRow, Partition};
 use wh_scalar::Scalar;
 use wh_value::{Comparison, Row, Value};
 
@@ -35,7 +38,7 @@ fn done(
 }
 
 fn over(alloc: Global, change: &Change, times: usize) -> Result<Effect, EffectFault> {
-    let target = targets(alloc)?;
+    let target = target(alloc)?;
     let source = twos(alloc, times)?;
     run(alloc, change, &target, &source)
 }
@@ -43,28 +46,31 @@ fn over(alloc: Global, change: &Change, times: usize) -> Result<Effect, EffectFa
 fn run(
     alloc: Global,
     change: &Change,
-    rows: &[Row],
+    target: &Partition,
     others: &[Row],
 ) -> Result<Effect, EffectFault> {
-    let mut target = Vec::new(alloc);
-    for row in rows {
-        target
-            .push(TargetRow { number: 1, row })
-            .map_err(AllocError::from)?;
-    }
     let mut source = Vec::new(alloc);
     for row in others {
         source.push(row).map_err(AllocError::from)?;
     }
     let sources = [source];
-    effect(alloc, change, &target, &sources)
+    effect(alloc, change, &[target], &sources)
 }
 
-fn targets(alloc: Global) -> Result<Vec<Row>, AllocError> {
+fn target(alloc: Global) -> Result<Partition, AllocError> {
     let mut rows = Vec::new(alloc);
-    rows.push(row(alloc, 1)?)?;
-    rows.push(row(alloc, 2)?)?;
-    Ok(rows)
+    rows.push(numbered(alloc, 1)?)?;
+    rows.push(numbered(alloc, 2)?)?;
+    Ok(Partition::make(1, rows))
+}
+
+// A row of its number.
+fn numbered(alloc: Global, number: u32) -> Result<NumberedRow, AllocError>
+    ensures { IfOk result (λ entry. entry.number ≡ number) }
+{
+    let row = row(alloc, number as i64)?;
+    let number = number as u64;
+    Ok(NumberedRow { number, row })
 }
 
 fn twos(alloc: Global, times: usize) -> Result<Vec<Row>, AllocError> {

@@ -1,16 +1,6 @@
-//! What becomes of the rows that there are, one by one.
-ghost use Rattle.wh_algebra.specs.View.{scalars_of};
-ghost use Rattle.wh_dml.specs.Given.{Shows};
-ghost use Rattle.wh_dml.specs.View.{effect_of, targets_of, turn_of};
-ghost use Rattle.wh_effect.specs.Effect as meaning;
-ghost use Rattle.wh_scalar.specs.View.{scalar_of};
-
-use crate::values::is_true;
-use crate::{Effect, TargetRow};
+use crate::Effect;
 use std::alloc::{AllocError, Global};
-use wh_aggregate::values_on;
 use wh_part::NumberedRow;
-use wh_scalar::{EvalFault, Scalar};
 use wh_value::Row;
 
 /// What becomes of a row.
@@ -44,71 +34,26 @@ impl Effect {
     {
         match turn {
             Turn::Stays => Ok(()),
-            Turn::Goes => {
-                self.removed.push(number)?;
-                Ok(())
-            }
-            Turn::Becomes(row) => {
-                self.changed.push(NumberedRow { number, row })?;
-                Ok(())
-            }
+            Turn::Goes => self.remove(number),
+            Turn::Becomes(row) => self.change(number, row),
         }
     }
-}
 
-/// UPDATE: the rows on which the condition is TRUE, changed. The parts read the old row.
-pub(crate) fn updated(
-    alloc: Global,
-    condition: &Scalar,
-    parts: &[Scalar],
-    target: &[TargetRow<'_>],
-) -> Result<Effect, EvalFault>
-    ensures { Shows effect_of result (meaning.turned
-        (meaning.updated (scalar_of condition.now) (scalars_of parts.now)) (targets_of target.now)) }
-{
-    let mut effect = Effect::new(alloc);
-    for kept in target {
-        let turn = updated_turn(alloc, condition, parts, kept.row)?;
-        effect.put(kept.number, turn)?;
+    /// The row of that number goes.
+    pub(crate) fn remove(&mut self, number: u64) -> Result<(), AllocError>
+        ensures { OnOk result
+            (effect_of self.new ≡ before (effect_of self.old) (done_by number meaning.Goes)) }
+    {
+        self.removed.push(number)?;
+        Ok(())
     }
-    Ok(effect)
-}
 
-fn updated_turn(
-    alloc: Global,
-    condition: &Scalar,
-    parts: &[Scalar],
-    row: &Row,
-) -> Result<Turn, EvalFault>
-    ensures { Shows turn_of result
-        (meaning.updated (scalar_of condition.now) (scalars_of parts.now) row.now) }
-{
-    if is_true(&condition.eval(alloc, row)?) {
-        return Ok(Turn::Becomes(values_on(alloc, parts, row)?));
+    /// The row of that number becomes another.
+    pub(crate) fn change(&mut self, number: u64, row: Row) -> Result<(), AllocError>
+        ensures { OnOk result (effect_of self.new
+            ≡ before (effect_of self.old) (done_by number (meaning.Becomes row))) }
+    {
+        self.changed.push(NumberedRow { number, row })?;
+        Ok(())
     }
-    Ok(Turn::Stays)
-}
-
-/// DELETE: the rows on which the condition is TRUE go.
-pub(crate) fn deleted(
-    alloc: Global,
-    condition: &Scalar,
-    target: &[TargetRow<'_>],
-) -> Result<Effect, EvalFault>
-    ensures { Shows effect_of result
-        (meaning.turned (meaning.deleted (scalar_of condition.now)) (targets_of target.now)) }
-{
-    let mut effect = Effect::new(alloc);
-    for kept in target {
-        let turn = deleted_turn(alloc, condition, kept.row)?;
-        effect.put(kept.number, turn)?;
-    }
-    Ok(effect)
-}
-
-fn deleted_turn(alloc: Global, condition: &Scalar, row: &Row) -> Result<Turn, EvalFault>
-    ensures { Shows turn_of result (meaning.deleted (scalar_of condition.now) row.now) }
-{
-    let goes = is_true(&condition.eval(alloc, row)?);
-    Ok(if goes { Turn::Goes } else { Turn::Stays })
 }

@@ -1,7 +1,6 @@
-ghost use Rattle.std.specs.Prelude.{◌≡◌, ◌+◌, ◌≤◌, Some, length, map, nat_le, nat_lt, is_some, IfOk, IfSome};
+ghost use Rattle.std.specs.Prelude.{◌≡◌, ◌+◌, ◌≤◌, Some, length, nat_le, nat_lt, is_some, IfOk, IfSome};
 ghost use Rattle.wh_value.specs.Limit.{bound};
 ghost use Rattle.wh_value.specs.declared.limit.Limit.TheVariants as limits;
-ghost use Rattle.wh_part.specs.View.{numbered_of};
 ghost use Rattle.wh_reply.specs.View.{reply_view};
 ghost use Rattle.wh_effect.specs.Effect as effects;
 ghost use Rattle.wh_effect.specs.Effect.{effect, Does};
@@ -30,9 +29,9 @@ use std::alloc::{AllocError, Global};
 use wh_ast::Dml;
 use wh_bind::BindFault;
 use wh_catalog::{Catalog, StoredTable};
-use wh_dml::{Effect, EffectFault, TargetRow, effect};
+use wh_dml::{Effect, EffectFault, effect};
 use wh_dml_bind::{BoundChange, Change, bind_change};
-use wh_part::NumberedRow;
+use wh_part::Partition;
 use wh_record::{Change as Written, VersionChange};
 use wh_reply::{Refusal, Reply};
 use wh_value::Limit;
@@ -100,25 +99,25 @@ fn effect_on(
         (instance_of (state_of catalog.now).objects bound.now.sources.items)) }
 {
     let sources = sources(alloc, catalog, &bound.sources)?;
-    let rows = seen_rows(alloc, &bound.change, table)?;
-    effect(alloc, &bound.change, &rows, &sources)
+    let target = seen(alloc, &bound.change, table)?;
+    effect(alloc, &bound.change, &target, &sources)
 }
 
-// The rows of the target that a change goes over: none for an INSERT.
-fn seen_rows<'a>(
+// The partitions of the target that a change goes over: none for an INSERT.
+fn seen<'a>(
     alloc: Global,
     change: &Change,
     table: &'a StoredTable,
-) -> Result<Vec<TargetRow<'a>>, AllocError>
-    ensures { IfOk result (λ rows. (i : Instance)
-        → effect (changes.change_of change.now) (targets_of rows.items) i
+) -> Result<Vec<&'a Partition>, AllocError>
+    ensures { IfOk result (λ target. (i : Instance)
+        → effect (changes.change_of change.now) (targets_of target.items) i
         ≡ effect (changes.change_of change.now)
         (machine.rows_seen (table_meant (table_of table.now))) i) }
 {
     if is_insert(change) {
         return Ok(Vec::new(alloc));
     }
-    target_rows(alloc, table)
+    by_rows(alloc, table)
 }
 
 fn is_insert(change: &Change) -> bool
@@ -130,27 +129,13 @@ fn is_insert(change: &Change) -> bool
     }
 }
 
-// The rows of a table by rising number.
-fn target_rows(alloc: Global, table: &StoredTable) -> Result<Vec<TargetRow<'_>>, AllocError>
-    ensures { IfOk result (λ rows. targets_of rows.items
+// The partitions of a table, whose row numbers rise from each to the next.
+fn by_rows(alloc: Global, table: &StoredTable) -> Result<Vec<&Partition>, AllocError>
+    ensures { IfOk result (λ target. targets_of target.items
         ≡ machine.rows_seen (table_meant (table_of table.now))) }
 {
-    let rows = table.numbered_rows(alloc)?;
-    targets(alloc, &rows)
-}
-
-fn targets<'a>(alloc: Global, rows: &[&'a NumberedRow]) -> Result<Vec<TargetRow<'a>>, AllocError>
-    ensures { IfOk result (λ targets. targets_of targets.items
-        ≡ map (λ row. machine.numbered_row (numbered_of row.now)) rows.now) }
-{
-    let mut targets = Vec::with_capacity(alloc, rows.len())?;
-    for row in rows {
-        targets.push(TargetRow {
-            number: row.number,
-            row: &row.row,
-        })?;
-    }
-    Ok(targets)
+    let target = table.by_rows(alloc)?;
+    Ok(target)
 }
 
 // What an effect on the target comes to.

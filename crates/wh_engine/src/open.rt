@@ -65,6 +65,10 @@ impl<D: Disk> Warehouse<D> {
         ensures healthy { IfOk result (λ w. failed_of w.journal ≡ None) }
         ensures limit { IfOk result (λ w. limit_of w.journal ≡ limit) }
         ensures no_fault { IfOk result (λ w. D.faults w.disk ≡ D.faults disk) }
+        ensures memory { IfErr result (λ e. e.0 ≡ OpenFault.OutOfMemory →
+            D.faults e.1 ≡ D.faults disk) }
+        ensures unfailed { IfErr result (λ e. (at : ℕ) → e.0 ≡ OpenFault.NotWarehouse at →
+            D.faults e.1 ≡ D.faults disk) }
         ensures later { IfErr result (λ e. D.faults disk ≤ D.faults e.1) }
     {
         let mut disk = disk;
@@ -115,6 +119,10 @@ fn read<D: Disk>(alloc: Global, disk: &mut D, limit: u64) -> Result<(Journal, Ca
     ensures not_warehouse { (at : ℕ) (file : List ℕ) → IsErrOf result (OpenFault.NotWarehouse at) →
         D.bytes disk.old ≡ Some file → (8 < length file) × IsFirstFault file at
         × (D.bytes disk.new ≡ Some file) × Only file (D.may_leave disk.new) }
+    ensures memory { IsErrOf result OpenFault.OutOfMemory →
+        D.faults disk.new ≡ D.faults disk.old }
+    ensures unfailed { (at : ℕ) → IsErrOf result (OpenFault.NotWarehouse at) →
+        D.faults disk.new ≡ D.faults disk.old }
     ensures disk_fault { IsErrOf result OpenFault.DiskFault →
         Rose (D.faults disk.old) (D.faults disk.new) }
 {

@@ -40,6 +40,10 @@ pub(crate) fn replay<D: Disk>(
     ensures crash { NoOthers (D.may_leave disk.old) (D.may_leave disk.new) }
     ensures any_moment { LeavesOnly D.moment D.left_since disk.old disk.new (D.may_leave disk.old) }
     ensures no_fault { OnOk result (D.faults disk.new ≡ D.faults disk.old) }
+    ensures memory { IsErrOf result OpenFault.OutOfMemory →
+        D.faults disk.new ≡ D.faults disk.old }
+    ensures unfailed { (at : ℕ) → IsErrOf result (OpenFault.NotWarehouse at) →
+        D.faults disk.new ≡ D.faults disk.old }
     ensures later { D.faults disk.old ≤ D.faults disk.new }
     ensures disk_fault { IsErrOf result OpenFault.DiskFault →
         Rose (D.faults disk.old) (D.faults disk.new) }
@@ -80,6 +84,10 @@ fn replay_at<D: Disk>(
     ensures crash { NoOthers (D.may_leave disk.old) (D.may_leave disk.new) }
     ensures any_moment { LeavesOnly D.moment D.left_since disk.old disk.new (D.may_leave disk.old) }
     ensures no_fault { OnOk result (D.faults disk.new ≡ D.faults disk.old) }
+    ensures memory { IsErrOf result OpenFault.OutOfMemory →
+        D.faults disk.new ≡ D.faults disk.old }
+    ensures unfailed { (at : ℕ) → IsErrOf result (OpenFault.NotWarehouse at) →
+        D.faults disk.new ≡ D.faults disk.old }
     ensures later { D.faults disk.old ≤ D.faults disk.new }
     ensures disk_fault { IsErrOf result OpenFault.DiskFault →
         Rose (D.faults disk.old) (D.faults disk.new) }

@@ -6,4 +6,6 @@ mod changes;
 #[cfg(test)]
 mod commands;
 #[cfg(test)]
+mod limits;
+#[cfg(test)]
 mod queries;

@@ -3,7 +3,7 @@
 --     kept_.., image_..   one row: kept by a condition or not; its image, which may be the row itself
 --     Added               what the rows of a list give is added to those at the start
 --     added_..            by none of the rows, by one more, by all of them; a row that fails
-use Rattle.std.specs.Prelude.{◌≡◌, ℕ, ◌+◌, ◌<◌, List, [], ◌∷◌, ◌++◌, length, Option, Some, true, false, if◌then◌else◌, option_map, take, drop}
+use Rattle.std.specs.Prelude.{◌≡◌, refl, Bool, ℕ, ◌+◌, ◌<◌, List, [], ◌∷◌, ◌++◌, length, Option, Some, None, true, false, if◌then◌else◌, option_map, take, drop}
 use Rattle.std.proofs.Common.{sym, ap, subst, ◌∙◌, get_or, take-append-drop}
 use Rattle.std.proofs.lemmas.List.{map-append, take_more, drop_more}
 use Rattle.wh_value.specs.Value.{Value, Row}
@@ -24,21 +24,26 @@ put_one before after t e = sym (ap (λ ts. bag_of (rows_in ts)) e ∙ ap bag_of 
 
 -- ---- one row that a condition keeps or doesn't
 
-pub kept_true : (e : Scalar) (row : Row) (v : Value) (before after : List Tuple) (t : Tuple) →
-    row ≡ row_in t → val e row ≡ Some v → true ≡ is_true v → after ≡ before ++ t ∷ [] →
+by_truth : (row : Row) (found : Option Value) → option_map (if_true row) found ≡ option_map (λ b. if b then one_row row else no_rows) (option_map is_true found)
+by_truth row None = refl
+by_truth row (Some v) = refl
+
+kept_if : (e : Scalar) (row : Row) (b : Bool) → option_map is_true (val e row) ≡ Some b → kept_by e row ≡ Some (if b then one_row row else no_rows)
+kept_if e row b is = by_truth row (val e row) ∙ ap (option_map (λ b. if b then one_row row else no_rows)) is
+
+pub kept_true : (e : Scalar) (row : Row) (before after : List Tuple) (t : Tuple) →
+    row ≡ row_in t → option_map is_true (val e row) ≡ Some true → after ≡ before ++ t ∷ [] →
     beside (Some (bag_of (rows_in before))) (kept_by e row) ≡ Some (bag_of (rows_in after))
-kept_true e row v before after t same valued meets put =
-    ap (λ found. beside (Some (bag_of (rows_in before))) (option_map (if_true row) found)) valued
-    ∙ ap (λ b. Some (plus (bag_of (rows_in before)) (if b then one_row row else no_rows))) (sym meets)
+kept_true e row before after t same holds put =
+    ap (beside (Some (bag_of (rows_in before)))) (kept_if e row true holds)
     ∙ ap (λ r. Some (plus (bag_of (rows_in before)) (one_row r))) same
     ∙ ap Some (put_one before after t put)
 
-pub kept_false : (e : Scalar) (row : Row) (v : Value) (before : List Tuple) →
-    val e row ≡ Some v → false ≡ is_true v →
+pub kept_false : (e : Scalar) (row : Row) (before : List Tuple) →
+    option_map is_true (val e row) ≡ Some false →
     beside (Some (bag_of (rows_in before))) (kept_by e row) ≡ Some (bag_of (rows_in before))
-kept_false e row v before valued fails =
-    ap (λ found. beside (Some (bag_of (rows_in before))) (option_map (if_true row) found)) valued
-    ∙ ap (λ b. Some (plus (bag_of (rows_in before)) (if b then one_row row else no_rows))) (sym fails)
+kept_false e row before holds =
+    ap (beside (Some (bag_of (rows_in before)))) (kept_if e row false holds)
     ∙ ap Some (plus-no_rows (bag_of (rows_in before)))
 
 -- ---- one image

@@ -1,8 +1,5 @@
 //! Filter: the rows on which a condition is TRUE. Rows are moved, not copied.
-ghost use Rattle.std.specs.Prelude.{◌≡◌};
-ghost use Rattle.wh_value.specs.View.{value_of};
 ghost use Rattle.wh_meaning.specs.Bag.{bag_of};
-ghost use Rattle.wh_meaning.specs.Scalar as scalars;
 ghost use Rattle.wh_meaning.specs.Query.{kept_by};
 ghost use Rattle.wh_meaning.specs.Query as meaning;
 ghost use Rattle.wh_scalar.specs.View.{scalar_of};
@@ -13,7 +10,6 @@ use crate::tuples::put;
 use std::alloc::Global;
 use wh_algebra::Tuple;
 use wh_scalar::{EvalFault, Scalar};
-use wh_value::Value;
 
 pub(crate) fn filtered<'a>(
     alloc: Global,
@@ -40,14 +36,8 @@ fn keep<'a>(
     ensures { Adds result kept.old.items kept.new.items
         (kept_by (scalar_of condition.now) (row_in row.entry)) }
 {
-    if is_true(&condition.eval(alloc, row.row())?) {
+    if condition.holds(alloc, row.row())? {
         put(kept, row)?;
     }
     Ok(())
-}
-
-pub(crate) fn is_true(value: &Value) -> bool
-    ensures { result ≡ scalars.is_true (value_of value.now) }
-{
-    matches!(value, Value::Bool(true))
 }

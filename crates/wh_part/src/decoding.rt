@@ -74,7 +74,7 @@ fn read_row_count(bytes: &[u8]) -> Result<(u32, &[u8]), ReadError>
     ensures { Gives (λ x. (x.0, x.1.now)) result (row_count_at bytes.now) }
 {
     let (count, rest) = read_u32(bytes)?;
-    if count == 0 || count > 1000 {
+    if count == 0 || count as usize > Partition::MAX_ROWS {
         return Err(ReadError::Malformed);
     }
     Ok((count, rest))

@@ -1,7 +1,8 @@
 -- What scalars of the code stand for.
 --     scalar_of     the scalar of a tree
 --     Gives         what a fallible evaluation gives: the value that is meant, or the fault where there is none
-use Rattle.std.specs.Prelude.{◌≡◌, Option, Some, None, Result, Ok, Err}
+--     Tells         what a fallible test gives: whether the value that is meant is TRUE
+use Rattle.std.specs.Prelude.{◌≡◌, Bool, Option, Some, None, option_map, Result, Ok, Err}
 use Rattle.wh_value.specs.Value as values
 use Rattle.wh_value.specs.View.{value_of}
 use Rattle.wh_value.specs.declared.value.Value.{Value}
@@ -31,3 +32,8 @@ abbrev pub Gives : Result Value EvalFault → Option values.Value → Type 0
 Gives (Ok v) meant = meant ≡ Some (value_of v)
 Gives (Err NumberOutOfRange) meant = meant ≡ None
 Gives (Err OutOfMemory) meant = Unit {0}
+
+abbrev pub Tells : Result Bool EvalFault → Option values.Value → Type 0
+Tells (Ok truth) meant = option_map meaning.is_true meant ≡ Some truth
+Tells (Err NumberOutOfRange) meant = meant ≡ None
+Tells (Err OutOfMemory) meant = Unit {0}

@@ -6,6 +6,7 @@ mod at_hand;
 mod copying;
 mod eval;
 mod fault;
+mod holds;
 mod scalar;
 #[cfg(test)]
 mod tests;

@@ -15,7 +15,7 @@ pub(crate) fn compared(comparison: Comparison, a: &Value, b: &Value) -> Value
     Value::Bool(meets(comparison, a.cmp(b)))
 }
 
-fn meets(comparison: Comparison, order: Ordering) -> bool
+pub(crate) fn meets(comparison: Comparison, order: Ordering) -> bool
     ensures { result ≡ meaning.meets comparison order }
 {
     match comparison {

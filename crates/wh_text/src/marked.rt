@@ -6,6 +6,7 @@ ghost use Rattle.wh_grammar.specs.Script as scripts;
 ghost use Rattle.wh_text.specs.Turn.{IsReadable};
 ghost use Rattle.wh_text.specs.View.{line_view};
 
+use crate::place::COMMAND_BYTES;
 use crate::{Line, ScriptFault};
 use std::alloc::Global;
 use wh_value::Bytes;
@@ -35,7 +36,7 @@ fn command_line(alloc: Global, text: &[u8]) -> Result<Line, ScriptFault>
     ensures reading { IfOk result IsReadable }
     ensures fault { IfErr result (λ fault. fault ≡ ScriptFault.OutOfMemory) }
 {
-    let count = text.len().min(65537);
+    let count = text.len().min(COMMAND_BYTES);
     let Ok(front) = Bytes::from_slice(alloc, &text[..count]) else {
         return Err(ScriptFault::OutOfMemory);
     };

@@ -6,7 +6,7 @@ use crate::area::Area;
 use wh_value::Bytes;
 
 // the most bytes of a command that are handed on
-const COMMAND_BYTES: usize = 65537;
+pub(crate) const COMMAND_BYTES: usize = 65537;
 
 // one more tells whether a marked line is longer than that without its CR
 const MARKED_BYTES: usize = 65538;

@@ -3,7 +3,7 @@ use Rattle.wh_effect.specs.Effect.{effect}
 use Rattle.wh_dml_bind.specs.View.{change_of}
 use Rattle.wh_dml.specs.View.{targets_of}
 use Rattle.wh_engine.proofs.ChangeLemmas.{unseen}
-use Rattle.wh_engine.proofs.changes.seen_rows.Goals as goal
+use Rattle.wh_engine.proofs.changes.seen.Goals as goal
 
 pub returns-then-is_insert : goal.returns-then-is_insert
 returns-then-is_insert c = λ i.

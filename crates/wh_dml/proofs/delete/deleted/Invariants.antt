@@ -4,10 +4,9 @@ use Rattle.wh_scalar.specs.View.{scalar_of}
 use Rattle.wh_effect.specs.Effect as meaning
 use Rattle.wh_dml.specs.View.{effect_of, targets_of}
 use Rattle.wh_dml.specs.Steps.{before}
-use Rattle.wh_dml.proofs.turn.deleted.Given as goal
+use Rattle.wh_dml.proofs.delete.deleted.Given as goal
 
-abbrev pub invariant-loop-kept : goal.invariant-loop-kept
-invariant-loop-kept l =
+abbrev pub invariant-loop-partition : goal.invariant-loop-partition
+invariant-loop-partition l =
     meaning.turned (meaning.deleted (scalar_of l.condition)) (targets_of l.target)
-    ≡ option_map (before (effect_of l.effect))
-    (meaning.turned (meaning.deleted (scalar_of l.condition)) (targets_of (drop l.kept-index l.target)))
+    ≡ option_map (before (effect_of l.effect)) (meaning.turned (meaning.deleted (scalar_of l.condition)) (targets_of (drop l.partition-index l.target)))

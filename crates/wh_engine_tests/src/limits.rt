@@ -1,0 +1,99 @@
+//! The limits that count what is there already.
+
+use crate::commands::{LIMIT, ONE_TABLE, lines, opened};
+use std::alloc::Global;
+use std::process::Abort;
+use std::test::Fail;
+use std::thread::Threads;
+use wh_engine::Warehouse;
+use wh_world::MemDisk;
+
+/// Carries out the command of each case, `(text, lines)`.
+fn assert_answered(
+    rt: &(impl Abort + Threads + Sync),
+    alloc: Global,
+    warehouse: &mut Warehouse<MemDisk>,
+    cases: &[(&str, &str)],
+) -> Result<(), Fail> {
+    for (text, wanted) in cases {
+        let found = lines(rt, alloc, warehouse, 1, text.as_bytes())?;
+        assert_eq!(rt; found.as_slice(), wanted.as_bytes(), "{text}");
+    }
+    Ok(())
+}
+
+/// A warehouse of the live tables A0 to A999.
+fn of_1000_tables(rt: &(impl Threads + Sync), alloc: Global) -> Result<Warehouse<MemDisk>, Fail> {
+    let disk = MemDisk::new(alloc, Vec::new(alloc), 1 << 17, 5000, Vec::new(alloc))?;
+    let mut warehouse = Warehouse::open(rt, alloc, disk, 1, LIMIT)
+        .ok()
+        .ok_or("a new file opens")?;
+    for number in 0..1000u32 {
+        let text = format!(in alloc; "CREATE TABLE A{number}(K NUMBER)")?;
+        let _created = lines(rt, alloc, &mut warehouse, 1, text.as_bytes())?;
+    }
+    Ok(warehouse)
+}
+
+#[test]
+fn a_thousand_tables_live_at_once_and_no_more(rt: HostRuntime) -> Result<(), Fail> {
+    const CASES: &[(&str, &str)] = &[
+        ("CREATE TABLE B(K NUMBER)", "E13 Limit OBJECTS 1000\n"),
+        (
+            "CREATE OR REPLACE TABLE B(K NUMBER)",
+            "E13 Limit OBJECTS 1000\n",
+        ),
+        ("CREATE TABLE A1(K NUMBER)", "E7 NameTaken A1\n"),
+        ("CREATE TABLE B(K NUMBER, K NUMBER)", "E7 NameTaken K\n"),
+        (
+            "CREATE TABLE B(K NUMBER) DATA_RETENTION_TIME_IN_DAYS = 91",
+            "E13 Limit OBJECTS 1000\n",
+        ),
+        ("CREATE OR REPLACE TABLE A1(L NUMBER)", "CREATED TABLE A1\n"),
+        ("SELECT * FROM A1", "L\n(0 rows)\n"),
+        ("DROP TABLE A2", "DROPPED TABLE A2\n"),
+        ("CREATE TABLE B(K NUMBER)", "CREATED TABLE B\n"),
+        ("CREATE TABLE A2(K NUMBER)", "E13 Limit OBJECTS 1000\n"),
+        ("INSERT INTO A999 SELECT COUNT(*) FROM B", "INSERTED 1\n"),
+        ("SELECT * FROM A999", "K\n0\n(1 rows)\n"),
+    ];
+    let alloc = rt.alloc();
+    let mut warehouse = of_1000_tables(&rt, alloc)?;
+    assert_answered(&rt, alloc, &mut warehouse, CASES)
+}
+
+// The file says that T's next row has the last number but one.
+#[test]
+fn a_row_without_a_number_is_refused(rt: HostRuntime) -> Result<(), Fail> {
+    const CASES: &[(&str, &str)] = &[
+        (
+            "INSERT INTO T VALUES (1), (2)",
+            "E13 Limit ROW_NUMBER 4611686018427387904\n",
+        ),
+        (
+            "INSERT INTO T VALUES (999999999999999999 + 1), (2)",
+            "E19 NumberOutOfRange\n",
+        ),
+        ("INSERT INTO T VALUES (7)", "INSERTED 1\n"),
+        (
+            "INSERT INTO T VALUES (8)",
+            "E13 Limit ROW_NUMBER 4611686018427387904\n",
+        ),
+        ("UPDATE T SET K = K + 1", "UPDATED 1\n"),
+        ("SELECT * FROM T", "K\n8\n(1 rows)\n"),
+        ("DELETE FROM T", "DELETED 1\n"),
+        ("INSERT INTO T SELECT K FROM T", "INSERTED 0\n"),
+        (
+            "INSERT INTO T VALUES (9)",
+            "E13 Limit ROW_NUMBER 4611686018427387904\n",
+        ),
+    ];
+    let alloc = rt.alloc();
+    let nothing = b"\x01\0\0\0\0\0\0\0\x2d\0\0\0\0\0\0\0\x02\0\0\0\x01\
+        \x0a\0\0\0\x01\0\0\0\0\0\0\0\x02\x3f\xff\xff\xff\xff\xff\xff\xff\0\0\0\x01\
+        \0\0\0\0\0\0\0\0\0";
+    let parts = [&ONE_TABLE[..49], nothing.as_slice()];
+    let file = parts.concat(alloc)?;
+    let mut warehouse = opened(&rt, alloc, &file, LIMIT, &[])?.ok_or("the file opens")?;
+    assert_answered(&rt, alloc, &mut warehouse, CASES)
+}
