@@ -3,4 +3,3 @@ mod Columns
 mod Told
 mod Referred
 mod Sizes
-mod Meant

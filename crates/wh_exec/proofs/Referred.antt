@@ -2,10 +2,11 @@
 --     listed           the rows of entries, each as often as it is there
 --     listed-turn      at a step of the walk over the entries
 --     listed-all       the bag of all of them
---     collected-push   a row more
-use Rattle.std.specs.Prelude.{◌≡◌, ℕ, zero, suc, List, [], ◌∷◌, ◌++◌, replicate}
+--     often_turn       a row once more
+--     collected-push   a row more in a bag
+use Rattle.std.specs.Prelude.{◌≡◌, ℕ, zero, suc, ◌+◌, List, [], ◌∷◌, ◌++◌, replicate}
 use Rattle.std.specs.FinMap.{entries}
-use Rattle.std.proofs.Common.{refl, sym, ap, ◌∙◌, append_assoc, append-nil}
+use Rattle.std.proofs.Common.{refl, sym, ap, ◌∙◌, append_assoc, append-nil, arith}
 use Rattle.std.proofs.lemmas.List.{map-append}
 use Rattle.wh_value.specs.Value.{Row}
 use Rattle.wh_meaning.specs.Bag.{Bag, no_rows, with_row, one_row, bag_of, plus, again, over_entries, fold_bag}
@@ -15,6 +16,19 @@ use Rattle.wh_algebra.specs.Tuple.{row_in, rows_in}
 
 abbrev pub listed : List (Row × ℕ) → List Row
 listed es = over_entries (λ row rows. row ∷ rows) [] es
+
+replicate-push : (row : Row) (n : ℕ) → replicate n row ++ row ∷ [] ≡ replicate (suc n) row
+replicate-push row zero = refl
+replicate-push row (suc n) = ap (λ rest. row ∷ rest) (replicate-push row n)
+
+pub often_turn : (before now after : List Row) (row : Row) (n : ℕ) → now ≡ before ++ replicate n row → after ≡ now ++ row ∷ [] → after ≡ before ++ replicate (n + 1) row
+often_turn before now after row n so put =
+    let more : suc n ≡ n + 1 = omega arith in
+    put
+    ∙ ap (λ rows. rows ++ row ∷ []) so
+    ∙ append_assoc before (replicate n row) (row ∷ [])
+    ∙ ap (λ rows. before ++ rows) (replicate-push row n)
+    ∙ ap (λ k. before ++ replicate k row) more
 
 replicate-again : (row : Row) (n : ℕ) (rows : List Row) → replicate n row ++ rows ≡ again n (λ rest. row ∷ rest) rows
 replicate-again row zero rows = refl

@@ -2,9 +2,10 @@
 --     rows_told-push, instance_told-push     with one more behind them
 --     told_part, told_source                 what is loaded so far is what is told, and so is one more
 --     bag_told-same, covered_on              a source at a later state of the fetch
+--     loaded_turn                            the rows of one more partition that is loaded
 --     all_at                                 what holds of all holds of the one at a place
 use Rattle.std.specs.Prelude.{◌≡◌, ℕ, suc, ◌+◌, ◌<◌, List, [], ◌∷◌, ◌++◌, length, map, take, Option, Some, None, option_map, slice_index_or}
-use Rattle.std.specs.List.{All, flat_map}
+use Rattle.std.specs.List.{All}
 use Rattle.std.specs.Global.{Global}
 use Rattle.std.specs.Arc.{arc_value}
 use Rattle.std.specs.declared.sync.Arc.{Arc}
@@ -16,7 +17,6 @@ use Rattle.wh_part.specs.declared.meta.PartMeta.{PartMeta}
 use Rattle.wh_fetch.specs.Fetch.{IsTold}
 use Rattle.wh_meaning.specs.Scalar.{of_two}
 use Rattle.wh_meaning.specs.Bag.{Bag, bag_of}
-use Rattle.wh_meaning.specs.Query as meaning
 use Rattle.wh_exec.specs.declared.instance.Given.{Given}
 use Rattle.wh_exec.specs.declared.instance.Given.TheVariants.{Parts, Rows}
 use Rattle.wh_exec.specs.declared.loading.Loaded.{Loaded}
@@ -127,3 +127,13 @@ covered_on then now on (Rows bag) all = tt
 
 pub all_at : {X : Type 0} (P : X → Type 0) (all : List X) (i : ℕ) (x : X) → i < length all → x ≡ get_or all i x → All P all → P x
 all_at P all i x within at every = subst P (sym at) (every i x within)
+
+pub loaded_turn : (all : List (Arc Partition Global)) (i : ℕ) (part : Arc Partition Global) (rows : List (ℕ × Row)) (before after : List Row) →
+    i < length all → part ≡ get_or all i part → rows ≡ (arc_value part).rows → before ≡ rows_loaded (take i all) → after ≡ before ++ map (λ e. e.1) rows →
+    after ≡ rows_loaded (take (i + 1) all)
+loaded_turn all i part rows before after within at same so put =
+    put
+    ∙ ap (λ xs. before ++ map (λ e. e.1) xs) same
+    ∙ ap (λ xs. xs ++ rows_of (arc_value part)) so
+    ∙ sym (rows_loaded-push (take i all) part)
+    ∙ ap rows_loaded (sym (take_more all i part within ∙ ap (λ x. take i all ++ x ∷ []) (sym at)))

@@ -7,7 +7,7 @@ ghost use Rattle.wh_fetch.specs.Fetch.{IsTold};
 ghost use Rattle.wh_exec.specs.Given.{rows_told, bag_told, instance_told, IsCovered, AreCovered};
 ghost use Rattle.wh_exec.specs.Loaded.{rows_loaded, bag_loaded, bags_loaded};
 
-use crate::{Given, Instance};
+use crate::Given;
 use std::alloc::Global;
 use std::sync::Arc;
 use wh_bag::Bag;
@@ -24,19 +24,18 @@ pub(crate) enum Loaded<'a> {
 /// The rows of each source.
 pub(crate) fn load<'a, F: Fetch>(
     alloc: Global,
-    instance: &'a Instance,
+    sources: &'a [Given],
     fetch: &mut F,
 ) -> Result<Vec<Loaded<'a>>, FetchFault>
-    requires { AreCovered (F.covers fetch.old) instance.now.sources.items }
-    ensures loaded { IfOk result (λ loaded. IsTold
-        (instance_told (F.contents fetch.old) instance.now.sources.items)
+    requires { AreCovered (F.covers fetch.old) sources.now }
+    ensures loaded { IfOk result (λ loaded. IsTold (instance_told (F.contents fetch.old) sources.now)
         (bags_loaded loaded.items)) }
     ensures stays { F.stays fetch.old fetch.new }
     ensures later { F.faults fetch.old ≤ F.faults fetch.new }
     ensures read { result ≡ Err Read → Rose (F.faults fetch.old) (F.faults fetch.new) }
 {
     let mut loaded = Vec::new(alloc);
-    for given in &instance.sources {
+    for given in sources {
         let source = load_source(alloc, given, fetch)?;
         loaded.push(source)?;
     }

@@ -58,15 +58,11 @@ pub fn run_one<F: Fetch>(
     ensures later { F.faults fetch.old ≤ F.faults fetch.new }
     ensures read { result ≡ Err Read → Rose (F.faults fetch.old) (F.faults fetch.new) }
 {
-    let loaded = load(alloc, instance, fetch)?;
+    let loaded = load(alloc, &instance.sources, fetch)?;
     run_loaded(alloc, plan, &loaded)
 }
 
-fn run_loaded(
-    alloc: Global,
-    plan: &Physical,
-    loaded: &[Loaded<'_>],
-) -> Result<Bag, ExecFault>
+fn run_loaded(alloc: Global, plan: &Physical, loaded: &[Loaded<'_>]) -> Result<Bag, ExecFault>
     ensures bag { Runs result (eval (plan_of plan.now) (bags_loaded loaded.now)) }
     ensures no_read { result ≡ Err Read → ⊥ }
 {

@@ -6,7 +6,7 @@ use Rattle.wh_exec.proofs.loading.load.Given as goal
 
 abbrev pub invariant-loop-given : goal.invariant-loop-given
 invariant-loop-given g l = record {
-  told : IsTold (instance_told (g.F.Fetch.contents l.fn.fetch) (take l.given-index l.given-items)) (bags_loaded l.loaded.items);
+  told : IsTold (instance_told (g.F.Fetch.contents l.fn.fetch) (take l.given-index l.sources)) (bags_loaded l.loaded.items);
   stays : g.F.Fetch.stays l.fn.fetch l.fetch;
   later : g.F.Fetch.faults l.fn.fetch ≤ g.F.Fetch.faults l.fetch;
 }
