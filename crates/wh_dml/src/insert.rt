@@ -9,7 +9,7 @@ ghost use Rattle.wh_meaning.specs.Query.{eval};
 use crate::Effect;
 use std::alloc::{AllocError, Global};
 use wh_aggregate::values_on;
-use wh_algebra::Query;
+use wh_algebra::{Physical, Query};
 use wh_exec::evaluate;
 use wh_listing::listed;
 use wh_scalar::{EvalFault, Scalar};
@@ -53,7 +53,8 @@ pub(crate) fn rows_in_order(
     ensures { GivesListed result
         (meaning.rows_in_order (eval (query_of query.now) (instance_of sources.now))) }
 {
-    let rows = evaluate(alloc, query, sources)?;
+    let plan = Physical::plain(alloc, query)?;
+    let rows = evaluate(alloc, &plan, sources)?;
     Ok(listed(alloc, &[], rows)?)
 }
 

@@ -17,6 +17,7 @@ use crate::decision::Decision;
 use crate::objects::named_objects;
 use crate::sources::sources;
 use std::alloc::{AllocError, Global};
+use wh_algebra::Physical;
 use wh_ast::{Query, Sort};
 use wh_bind::{BindFault, BoundSelect, bind_select};
 use wh_catalog::Catalog;
@@ -84,7 +85,8 @@ fn listed_rows(
         (machine.instance_of (state_of catalog.now).objects bound.now.sources.items))) }
 {
     let sources = sources(alloc, catalog, &bound.sources)?;
-    match evaluate(alloc, &bound.query, &sources) {
+    let plan = Physical::plain(alloc, &bound.query)?;
+    match evaluate(alloc, &plan, &sources) {
         Ok(tuples) => Ok(Some(listed(alloc, &bound.keys, tuples)?)),
         Err(EvalFault::NumberOutOfRange) => Ok(None),
         Err(EvalFault::OutOfMemory) => Err(AllocError),

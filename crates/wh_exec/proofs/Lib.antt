@@ -1,2 +1,5 @@
 pub mod Added
 mod Columns
+mod Told
+mod Referred
+mod Sizes

@@ -1,11 +1,17 @@
 //! Evaluation: the rows of a query over the rows of its sources.
 #![tactic(auto)]
 
+mod collecting;
 mod evaluation;
+mod fault;
 mod filter;
 mod grouping;
+mod instance;
 mod join;
+mod loading;
 mod project;
+mod referring;
+mod running;
 mod scan;
 #[cfg(test)]
 mod tests;
@@ -13,3 +19,6 @@ mod tuples;
 mod union;
 
 pub use evaluation::evaluate;
+pub use fault::ExecFault;
+pub use instance::{Given, Instance};
+pub use running::{run, run_one};

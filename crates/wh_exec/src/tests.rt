@@ -1,52 +1,146 @@
-use crate::evaluate;
+ghost use Rattle.std.specs.Prelude.{◌≡◌};
+
+mod shelf;
+
+use crate::{ExecFault, Given, Instance, run, run_one};
+use shelf::Shelf;
 use sqlite_items::{Boxed, Items};
 use std::alloc::Global;
+use std::sync::Arc;
 use std::test::Fail;
-use wh_algebra::Query;
-use wh_scalar::{EvalFault, Scalar};
-use wh_value::{Row, Value};
+use wh_algebra::{Call, Physical};
+use wh_bag::Bag;
+use wh_fetch::Fetch;
+use wh_part::{NumberedRow, PartId, PartMeta, Partition};
+use wh_scalar::Scalar;
+use wh_value::{Comparison, Row, Value};
 
-// How many rows a query gives over one source of one row, the number 7.
-fn count(alloc: Global, query: &Query) -> Result<Result<usize, EvalFault>, Fail> {
+fn row_of(alloc: Global, numbers: &[i64]) -> Result<Row, Fail> {
     let mut row = Row::new(alloc);
-    row.push(Value::Number(7))?;
+    for number in numbers {
+        row.push(Value::Number(*number))?;
+    }
+    Ok(row)
+}
+
+// The partition of one row, a number.
+fn part_of(alloc: Global, number: i64) -> Result<Arc<Partition>, Fail> {
+    let row = row_of(alloc, &[number])?;
     let mut rows = Vec::new(alloc);
-    rows.push(&row)?;
-    let sources = [rows];
-    Ok(match evaluate(alloc, query, &sources) {
-        Ok(tuples) => Ok(tuples.len()),
-        Err(fault) => Err(fault),
-    })
+    rows.push(NumberedRow { number: 1, row })?;
+    Ok(Arc::new(alloc, Partition::make(1, rows))?)
 }
 
-fn scan(alloc: Global) -> Result<Boxed<Query>, Fail> {
-    Ok(Boxed::new(alloc, Query::Scan(0))?)
+// The numbers 1, 2 and 3, a partition each. The call of that number fails.
+fn shelf(alloc: Global, failing: u64) -> Result<Shelf, Fail> {
+    let mut parts = Vec::new(alloc);
+    for number in 1..4 {
+        parts.push(part_of(alloc, number)?)?;
+    }
+    Ok(Shelf::new(alloc, parts, failing))
 }
 
-fn group(alloc: Global) -> Result<Query, Fail> {
-    let rows = scan(alloc)?;
-    Ok(Query::Group(rows, Items::new(alloc), Items::new(alloc)))
+fn meta(alloc: Global, at: u64) -> PartMeta {
+    PartMeta {
+        id: PartId {
+            object: 1,
+            number: at,
+        },
+        at,
+        length: 0,
+        rows: 1,
+        first: 1,
+        last: 1,
+        columns: Vec::new(alloc),
+    }
+}
+
+// The partitions at these places.
+fn parts(alloc: Global, places: &[u64]) -> Result<Given, Fail> {
+    let mut parts = Vec::new(alloc);
+    for place in places {
+        parts.push(meta(alloc, *place))?;
+    }
+    Ok(Given::Parts(parts))
+}
+
+// The number 2, three times.
+fn thrice(alloc: Global) -> Result<Given, Fail> {
+    let mut bag = Bag::new(alloc);
+    bag.add(row_of(alloc, &[2])?, 3).map_err(|_| "not added")?;
+    Ok(Given::Rows(bag))
+}
+
+// Source 0 has the partitions of 1 and 2, source 1 the number 2 thrice, source 2 the partition of 3.
+fn instance(alloc: Global) -> Result<Instance, Fail> {
+    let mut sources = Vec::new(alloc);
+    sources.push(parts(alloc, &[0, 1])?)?;
+    sources.push(thrice(alloc)?)?;
+    sources.push(parts(alloc, &[2])?)?;
+    Ok(Instance { sources })
+}
+
+fn columns(alloc: Global) -> Result<Items<Scalar>, Fail> {
+    let mut columns = Items::new(alloc);
+    columns.push(Scalar::Column(0))?;
+    Ok(columns)
+}
+
+fn calls(alloc: Global) -> Result<Items<Call>, Fail> {
+    let mut calls = Items::new(alloc);
+    calls.push(Call::CountRows)?;
+    Ok(calls)
+}
+
+fn first_is_second(alloc: Global) -> Result<Scalar, Fail> {
+    let first = Boxed::new(alloc, Scalar::Column(0))?;
+    let second = Boxed::new(alloc, Scalar::Column(1))?;
+    Ok(Scalar::Compare(Comparison::Equal, first, second))
+}
+
+// The rows of source 1 that source 0 has too, and the rows of source 0 beside them.
+fn shared(alloc: Global) -> Result<Physical, Fail> {
+    let on = first_is_second(alloc)?;
+    let pairs = Physical::join(alloc, Physical::scan(0), Physical::scan(1), on)?;
+    let pairs = Physical::filter(alloc, pairs, Scalar::Const(Value::Bool(true)))?;
+    let items = columns(alloc)?;
+    let rows = Physical::project(alloc, pairs, items)?;
+    Ok(Physical::union_all(alloc, rows, Physical::scan(0))?)
+}
+
+// How often each of them is there.
+fn counted(alloc: Global) -> Result<Physical, Fail> {
+    let by = columns(alloc)?;
+    let calls = calls(alloc)?;
+    let rows = shared(alloc)?;
+    Ok(Physical::group(alloc, rows, by, calls)?)
 }
 
 #[test]
-fn a_group_without_keys_is_one_row(rt: HostRuntime) -> Result<(), Fail> {
+fn the_six_operators_run_over_partitions_and_a_bag(rt: HostRuntime) -> Result<(), Fail> {
     let alloc = rt.alloc();
-    let query = group(alloc)?;
-    let found = count(alloc, &query)?;
-    assert_eq!(rt; found, Ok(1));
+    let plan = counted(alloc)?;
+    let instance = instance(alloc)?;
+    let mut fetch = shelf(alloc, 0)?;
+    let one = row_of(alloc, &[1, 1])?;
+    let two = row_of(alloc, &[2, 4])?;
+    let bag = run_one(alloc, &plan, &instance, &mut fetch).map_err(|_| "no rows")?;
+    assert_eq!(rt; (bag.count(&one), bag.count(&two)), (1, 1));
+    let bag = run(alloc, &rt, 2, &plan, &instance, &mut fetch).map_err(|_| "no rows")?;
+    assert_eq!(rt; (bag.count(&one), bag.count(&two)), (1, 1));
     Ok(())
 }
 
-fn filter(alloc: Global) -> Result<Query, Fail> {
-    let rows = scan(alloc)?;
-    Ok(Query::Filter(rows, Scalar::Const(Value::Bool(true))))
-}
-
 #[test]
-fn a_filter_keeps_what_is_true(rt: HostRuntime) -> Result<(), Fail> {
+fn a_partition_that_is_not_read_ends_the_run(rt: HostRuntime) -> Result<(), Fail> {
     let alloc = rt.alloc();
-    let query = filter(alloc)?;
-    let found = count(alloc, &query)?;
-    assert_eq!(rt; found, Ok(1));
+    let plan = Physical::scan(0);
+    let instance = instance(alloc)?;
+    for failing in 1..4 {
+        let mut fetch = shelf(alloc, failing)?;
+        let found = run_one(alloc, &plan, &instance, &mut fetch);
+        assert_eq!(rt; found.err(), Some(ExecFault::Read));
+        assert_eq!(rt; fetch.fetched(), failing);
+    }
     Ok(())
 }
