@@ -7,6 +7,7 @@ ghost use Rattle.wh_exec.specs.Evaluation.{instance_of};
 ghost use Rattle.wh_meaning.specs.Query.{eval};
 
 use crate::Effect;
+use sqlite_items::Boxed;
 use std::alloc::{AllocError, Global};
 use wh_aggregate::values_on;
 use wh_algebra::{Physical, Query};
@@ -53,8 +54,8 @@ pub(crate) fn rows_in_order(
     ensures { GivesListed result
         (meaning.rows_in_order (eval (query_of query.now) (instance_of sources.now))) }
 {
-    let plan = Physical::plain(alloc, query)?;
-    let rows = evaluate(alloc, &plan, sources)?;
+    let plan = Boxed::new(alloc, Physical::plain(alloc, query)?)?;
+    let rows = evaluate(alloc, plan.get(), sources)?;
     Ok(listed(alloc, &[], rows)?)
 }
 

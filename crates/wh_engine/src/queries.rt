@@ -16,6 +16,7 @@ ghost use Rattle.wh_engine.specs.Rows.{rows_found};
 use crate::decision::Decision;
 use crate::objects::named_objects;
 use crate::sources::sources;
+use sqlite_items::Boxed;
 use std::alloc::{AllocError, Global};
 use wh_algebra::Physical;
 use wh_ast::{Query, Sort};
@@ -85,8 +86,8 @@ fn listed_rows(
         (machine.instance_of (state_of catalog.now).objects bound.now.sources.items))) }
 {
     let sources = sources(alloc, catalog, &bound.sources)?;
-    let plan = Physical::plain(alloc, &bound.query)?;
-    match evaluate(alloc, &plan, &sources) {
+    let plan = Boxed::new(alloc, Physical::plain(alloc, &bound.query)?)?;
+    match evaluate(alloc, plan.get(), &sources) {
         Ok(tuples) => Ok(Some(listed(alloc, &bound.keys, tuples)?)),
         Err(EvalFault::NumberOutOfRange) => Ok(None),
         Err(EvalFault::OutOfMemory) => Err(AllocError),
