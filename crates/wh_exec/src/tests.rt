@@ -1,5 +1,3 @@
-ghost use Rattle.std.specs.Prelude.{◌≡◌};
-
 mod shelf;
 
 use crate::{ExecFault, Given, Instance, run, run_one};
@@ -32,7 +30,7 @@ fn part_of(alloc: Global, number: i64) -> Result<Arc<Partition>, Fail> {
 }
 
 // The numbers 1, 2 and 3, a partition each. The call of that number fails.
-fn shelf(alloc: Global, failing: u64) -> Result<Shelf, Fail> {
+fn numbers(alloc: Global, failing: u64) -> Result<Shelf, Fail> {
     let mut parts = Vec::new(alloc);
     for number in 1..4 {
         parts.push(part_of(alloc, number)?)?;
@@ -116,18 +114,37 @@ fn counted(alloc: Global) -> Result<Physical, Fail> {
     Ok(Physical::group(alloc, rows, by, calls)?)
 }
 
+// How often (1, 1) and (2, 4) are in the bag.
+fn counts(alloc: Global, bag: &Bag) -> Result<(u64, u64), Fail> {
+    let one = row_of(alloc, &[1, 1])?;
+    let two = row_of(alloc, &[2, 4])?;
+    Ok((bag.count(&one), bag.count(&two)))
+}
+
+fn found(alloc: Global, instance: &Instance, fetch: &mut Shelf) -> Result<Bag, Fail> {
+    let plan = counted(alloc)?;
+    Ok(run_one(alloc, &plan, instance, fetch).map_err(|_| "no rows")?)
+}
+
 #[test]
 fn the_six_operators_run_over_partitions_and_a_bag(rt: HostRuntime) -> Result<(), Fail> {
     let alloc = rt.alloc();
-    let plan = counted(alloc)?;
     let instance = instance(alloc)?;
-    let mut fetch = shelf(alloc, 0)?;
-    let one = row_of(alloc, &[1, 1])?;
-    let two = row_of(alloc, &[2, 4])?;
-    let bag = run_one(alloc, &plan, &instance, &mut fetch).map_err(|_| "no rows")?;
-    assert_eq!(rt; (bag.count(&one), bag.count(&two)), (1, 1));
+    let mut fetch = numbers(alloc, 0)?;
+    let bag = found(alloc, &instance, &mut fetch)?;
+    assert_eq!(rt; counts(alloc, &bag)?, (1, 1));
+    assert_eq!(rt; fetch.fetched(), 3);
+    Ok(())
+}
+
+#[test]
+fn two_workers_give_the_rows_too(rt: HostRuntime) -> Result<(), Fail> {
+    let alloc = rt.alloc();
+    let plan = Physical::scan(1);
+    let instance = instance(alloc)?;
+    let mut fetch = numbers(alloc, 0)?;
     let bag = run(alloc, &rt, 2, &plan, &instance, &mut fetch).map_err(|_| "no rows")?;
-    assert_eq!(rt; (bag.count(&one), bag.count(&two)), (1, 1));
+    assert_eq!(rt; bag.count(&row_of(alloc, &[2])?), 3);
     Ok(())
 }
 
@@ -137,7 +154,7 @@ fn a_partition_that_is_not_read_ends_the_run(rt: HostRuntime) -> Result<(), Fail
     let plan = Physical::scan(0);
     let instance = instance(alloc)?;
     for failing in 1..4 {
-        let mut fetch = shelf(alloc, failing)?;
+        let mut fetch = numbers(alloc, failing)?;
         let found = run_one(alloc, &plan, &instance, &mut fetch);
         assert_eq!(rt; found.err(), Some(ExecFault::Read));
         assert_eq!(rt; fetch.fetched(), failing);

@@ -1,5 +1,5 @@
 //! A fetch for tests: partitions at their places, and a call that fails.
-ghost use Rattle.std.specs.Prelude.{refl};
+ghost use Rattle.std.specs.Prelude.{None, refl};
 
 use std::alloc::Global;
 use std::sync::Arc;
