@@ -1,4 +1,3 @@
-use Rattle.std.proofs.Common.{◌≡◌}
 use Rattle.wh_ddl_naming.specs.Statements.{bound}
 use Rattle.wh_ddl_bind.specs.declared.bound.Bound.TheVariants as code
 use Rattle.wh_ddl_bind.proofs.BoundLemmas.{plain_bound}
