@@ -4,6 +4,8 @@ ghost use Rattle.wh_meaning.specs.Query.{eval};
 ghost use Rattle.wh_meaning.specs.Listing.{listed};
 ghost use Rattle.wh_naming.specs.Select as naming;
 ghost use Rattle.wh_algebra.specs.View.{query_of};
+ghost use Rattle.wh_exec.specs.Evaluation as evaluation;
+ghost use Rattle.wh_exec.specs.Evaluation.{Evaluates};
 ghost use Rattle.wh_expr_bind.specs.View.{failing_of};
 ghost use Rattle.wh_bind.specs.Binds.{IsBound};
 ghost use Rattle.wh_listing.specs.View.{keys_of};
@@ -18,7 +20,7 @@ use crate::objects::named_objects;
 use crate::sources::sources;
 use sqlite_items::Boxed;
 use std::alloc::{AllocError, Global};
-use wh_algebra::Physical;
+use wh_algebra::{Physical, Tuple};
 use wh_ast::{Query, Sort};
 use wh_bind::{BindFault, BoundSelect, bind_select};
 use wh_catalog::Catalog;
@@ -86,12 +88,23 @@ fn listed_rows(
         (machine.instance_of (state_of catalog.now).objects bound.now.sources.items))) }
 {
     let sources = sources(alloc, catalog, &bound.sources)?;
-    let plan = Boxed::new(alloc, Physical::plain(alloc, &bound.query)?)?;
-    match evaluate(alloc, plan.get(), &sources) {
+    match planned_rows(alloc, &bound.query, &sources) {
         Ok(tuples) => Ok(Some(listed(alloc, &bound.keys, tuples)?)),
         Err(EvalFault::NumberOutOfRange) => Ok(None),
         Err(EvalFault::OutOfMemory) => Err(AllocError),
     }
+}
+
+// The rows of a query by the plan that carries it out as it is written.
+fn planned_rows<'a>(
+    alloc: Global,
+    query: &wh_algebra::Query,
+    sources: &[Vec<&'a Row>],
+) -> Result<Vec<Tuple<'a>>, EvalFault>
+    ensures { Evaluates result (eval (query_of query.now) (evaluation.instance_of sources.now)) }
+{
+    let plan = Boxed::new(alloc, Physical::plain(alloc, query)?)?;
+    evaluate(alloc, plan.get(), sources)
 }
 
 fn copies(alloc: Global, names: &[Text]) -> Result<Vec<Text>, AllocError>
