@@ -3,9 +3,9 @@ mod shelf;
 use crate::{ExecFault, Given, Instance, run, run_one};
 use shelf::Shelf;
 use sqlite_items::{Boxed, Items};
-use std::alloc::Global;
+use std::alloc::{AllocError, Global};
 use std::sync::Arc;
-use std::test::Fail;
+use std::thread::Threads;
 use wh_algebra::{Call, Physical};
 use wh_bag::Bag;
 use wh_fetch::Fetch;
@@ -13,7 +13,7 @@ use wh_part::{NumberedRow, PartId, PartMeta, Partition};
 use wh_scalar::Scalar;
 use wh_value::{Comparison, Row, Value};
 
-fn row_of(alloc: Global, numbers: &[i64]) -> Result<Row, Fail> {
+fn row_of(alloc: Global, numbers: &[i64]) -> Result<Row, AllocError> {
     let mut row = Row::new(alloc);
     for number in numbers {
         row.push(Value::Number(*number))?;
@@ -22,7 +22,7 @@ fn row_of(alloc: Global, numbers: &[i64]) -> Result<Row, Fail> {
 }
 
 // The partition of one row, a number.
-fn part_of(alloc: Global, number: i64) -> Result<Arc<Partition>, Fail> {
+fn part_of(alloc: Global, number: i64) -> Result<Arc<Partition>, AllocError> {
     let row = row_of(alloc, &[number])?;
     let mut rows = Vec::new(alloc);
     rows.push(NumberedRow { number: 1, row })?;
@@ -30,7 +30,7 @@ fn part_of(alloc: Global, number: i64) -> Result<Arc<Partition>, Fail> {
 }
 
 // The numbers 1, 2 and 3, a partition each. The call of that number fails.
-fn numbers(alloc: Global, failing: u64) -> Result<Shelf, Fail> {
+fn numbers(alloc: Global, failing: u64) -> Result<Shelf, AllocError> {
     let mut parts = Vec::new(alloc);
     for number in 1..4 {
         parts.push(part_of(alloc, number)?)?;
@@ -54,7 +54,7 @@ fn meta(alloc: Global, at: u64) -> PartMeta {
 }
 
 // The partitions at these places.
-fn parts(alloc: Global, places: &[u64]) -> Result<Given, Fail> {
+fn parts(alloc: Global, places: &[u64]) -> Result<Given, AllocError> {
     let mut parts = Vec::new(alloc);
     for place in places {
         parts.push(meta(alloc, *place))?;
@@ -63,14 +63,14 @@ fn parts(alloc: Global, places: &[u64]) -> Result<Given, Fail> {
 }
 
 // The number 2, three times.
-fn thrice(alloc: Global) -> Result<Given, Fail> {
+fn thrice(alloc: Global) -> Result<Given, AllocError> {
     let mut bag = Bag::new(alloc);
-    bag.add(row_of(alloc, &[2])?, 3).map_err(|_| "not added")?;
+    bag.add(row_of(alloc, &[2])?, 3).map_err(|_| AllocError)?;
     Ok(Given::Rows(bag))
 }
 
 // Source 0 has the partitions of 1 and 2, source 1 the number 2 thrice, source 2 the partition of 3.
-fn instance(alloc: Global) -> Result<Instance, Fail> {
+fn instance(alloc: Global) -> Result<Instance, AllocError> {
     let mut sources = Vec::new(alloc);
     sources.push(parts(alloc, &[0, 1])?)?;
     sources.push(thrice(alloc)?)?;
@@ -78,86 +78,132 @@ fn instance(alloc: Global) -> Result<Instance, Fail> {
     Ok(Instance { sources })
 }
 
-fn columns(alloc: Global) -> Result<Items<Scalar>, Fail> {
+fn columns(alloc: Global) -> Result<Items<Scalar>, AllocError> {
     let mut columns = Items::new(alloc);
     columns.push(Scalar::Column(0))?;
     Ok(columns)
 }
 
-fn calls(alloc: Global) -> Result<Items<Call>, Fail> {
+fn calls(alloc: Global) -> Result<Items<Call>, AllocError> {
     let mut calls = Items::new(alloc);
     calls.push(Call::CountRows)?;
     Ok(calls)
 }
 
-fn first_is_second(alloc: Global) -> Result<Scalar, Fail> {
+fn first_is_second(alloc: Global) -> Result<Scalar, AllocError> {
     let first = Boxed::new(alloc, Scalar::Column(0))?;
     let second = Boxed::new(alloc, Scalar::Column(1))?;
     Ok(Scalar::Compare(Comparison::Equal, first, second))
 }
 
-// The rows of source 1 that source 0 has too, and the rows of source 0 beside them.
-fn shared(alloc: Global) -> Result<Physical, Fail> {
+fn boxed(alloc: Global, plan: Physical) -> Result<Boxed<Physical>, AllocError> {
+    Boxed::new(alloc, plan)
+}
+
+// The rows of source 0 beside those of source 1 that are equal.
+fn pairs(alloc: Global) -> Result<Boxed<Physical>, AllocError> {
     let on = first_is_second(alloc)?;
     let pairs = Physical::join(alloc, Physical::scan(0), Physical::scan(1), on)?;
-    let pairs = Physical::filter(alloc, pairs, Scalar::Const(Value::Bool(true)))?;
+    boxed(alloc, pairs)
+}
+
+fn kept(alloc: Global) -> Result<Boxed<Physical>, AllocError> {
+    let pairs = pairs(alloc)?;
+    let truth = Scalar::Const(Value::Bool(true));
+    let kept = Physical::filter(alloc, pairs.into_inner(), truth)?;
+    boxed(alloc, kept)
+}
+
+fn first_columns(alloc: Global) -> Result<Boxed<Physical>, AllocError> {
+    let kept = kept(alloc)?;
     let items = columns(alloc)?;
-    let rows = Physical::project(alloc, pairs, items)?;
-    Ok(Physical::union_all(alloc, rows, Physical::scan(0))?)
+    let rows = Physical::project(alloc, kept.into_inner(), items)?;
+    boxed(alloc, rows)
+}
+
+// The rows of source 1 that source 0 has too, and the rows of source 0 beside them.
+fn shared(alloc: Global) -> Result<Boxed<Physical>, AllocError> {
+    let rows = first_columns(alloc)?;
+    let shared = Physical::union_all(alloc, rows.into_inner(), Physical::scan(0))?;
+    boxed(alloc, shared)
 }
 
 // How often each of them is there.
-fn counted(alloc: Global) -> Result<Physical, Fail> {
+fn counted(alloc: Global) -> Result<Boxed<Physical>, AllocError> {
+    let shared = shared(alloc)?;
     let by = columns(alloc)?;
     let calls = calls(alloc)?;
-    let rows = shared(alloc)?;
-    Ok(Physical::group(alloc, rows, by, calls)?)
+    let counted = Physical::group(alloc, shared.into_inner(), by, calls)?;
+    boxed(alloc, counted)
 }
 
-// How often (1, 1) and (2, 4) are in the bag.
-fn counts(alloc: Global, bag: &Bag) -> Result<(u64, u64), Fail> {
-    let one = row_of(alloc, &[1, 1])?;
-    let two = row_of(alloc, &[2, 4])?;
-    Ok((bag.count(&one), bag.count(&two)))
-}
-
-fn found(alloc: Global, instance: &Instance, fetch: &mut Shelf) -> Result<Bag, Fail> {
-    let plan = counted(alloc)?;
-    Ok(run_one(alloc, &plan, instance, fetch).map_err(|_| "no rows")?)
+// How often the row of these numbers is in what a plan gives; None where it gives no rows.
+fn count_of(
+    alloc: Global,
+    plan: &Physical,
+    instance: &Instance,
+    fetch: &mut Shelf,
+    row: &Row,
+) -> Option<u64> {
+    match run_one(alloc, plan, instance, fetch) {
+        Ok(bag) => Some(bag.count(row)),
+        Err(_) => None,
+    }
 }
 
 #[test]
-fn the_six_operators_run_over_partitions_and_a_bag(rt: HostRuntime) -> Result<(), Fail> {
+fn the_six_operators_run_over_partitions_and_a_bag(rt: HostRuntime) {
     let alloc = rt.alloc();
-    let instance = instance(alloc)?;
-    let mut fetch = numbers(alloc, 0)?;
-    let bag = found(alloc, &instance, &mut fetch)?;
-    assert_eq!(rt; counts(alloc, &bag)?, (1, 1));
+    let row = row_of(alloc, &[2, 4]).expect(&rt, "memory");
+    let instance = instance(alloc).expect(&rt, "memory");
+    let mut fetch = numbers(alloc, 0).expect(&rt, "memory");
+    let plan = counted(alloc).expect(&rt, "memory");
+    let found = count_of(alloc, plan.get(), &instance, &mut fetch, &row);
+    assert_eq!(rt; found, Some(1));
     assert_eq!(rt; fetch.fetched(), 3);
-    Ok(())
+}
+
+fn count_by_two(
+    rt: &(impl Threads + Sync),
+    alloc: Global,
+    instance: &Instance,
+    fetch: &mut Shelf,
+    row: &Row,
+) -> Option<u64> {
+    match run(alloc, rt, 2, &Physical::scan(1), instance, fetch) {
+        Ok(bag) => Some(bag.count(row)),
+        Err(_) => None,
+    }
 }
 
 #[test]
-fn two_workers_give_the_rows_too(rt: HostRuntime) -> Result<(), Fail> {
+fn two_workers_give_the_rows_too(rt: HostRuntime) {
     let alloc = rt.alloc();
-    let plan = Physical::scan(1);
-    let instance = instance(alloc)?;
-    let mut fetch = numbers(alloc, 0)?;
-    let bag = run(alloc, &rt, 2, &plan, &instance, &mut fetch).map_err(|_| "no rows")?;
-    assert_eq!(rt; bag.count(&row_of(alloc, &[2])?), 3);
-    Ok(())
+    let row = row_of(alloc, &[2]).expect(&rt, "memory");
+    let instance = instance(alloc).expect(&rt, "memory");
+    let mut fetch = numbers(alloc, 0).expect(&rt, "memory");
+    let found = count_by_two(&rt, alloc, &instance, &mut fetch, &row);
+    assert_eq!(rt; found, Some(3));
+}
+
+// What a scan of source 0 fails with, if it does.
+fn fault_of(alloc: Global, instance: &Instance, fetch: &mut Shelf) -> Option<ExecFault> {
+    match run_one(alloc, &Physical::scan(0), instance, fetch) {
+        Ok(_) => None,
+        Err(fault) => Some(fault),
+    }
 }
 
 #[test]
-fn a_partition_that_is_not_read_ends_the_run(rt: HostRuntime) -> Result<(), Fail> {
+fn a_partition_that_is_not_read_ends_the_run(rt: HostRuntime) {
     let alloc = rt.alloc();
-    let plan = Physical::scan(0);
-    let instance = instance(alloc)?;
+    let instance = instance(alloc).expect(&rt, "memory");
     for failing in 1..4 {
-        let mut fetch = numbers(alloc, failing)?;
-        let found = run_one(alloc, &plan, &instance, &mut fetch);
-        assert_eq!(rt; found.err(), Some(ExecFault::Read));
+        let mut fetch = numbers(alloc, failing).expect(&rt, "memory");
+        assert_eq!(rt;
+            fault_of(alloc, &instance, &mut fetch),
+            Some(ExecFault::Read)
+        );
         assert_eq!(rt; fetch.fetched(), failing);
     }
-    Ok(())
 }
