@@ -3,8 +3,10 @@ use Rattle.std.specs.Prelude.{◌≡◌, ℕ, true, List, [], ◌∷◌, pos, So
 use Rattle.wh_value.specs.Value.{Value, Number, Truth, Null, Row}
 use Rattle.wh_value.specs.declared.comparison.Comparison.TheVariants as comparisons
 use Rattle.wh_meaning.specs.Scalar.{Scalar, Const, Column, Add, Compare, val}
-use Rattle.wh_meaning.specs.Query.{values_on}
-use Rattle.wh_naming.specs.Changes.{BoundClause, UpdateMatched, DeleteMatched, InsertUnmatched, InsertRows, Update, Delete}
+use Rattle.wh_meaning.specs.Bag.{bag_of, fold_bag}
+use Rattle.wh_meaning.specs.Listing.{listed, order_by}
+use Rattle.wh_meaning.specs.Query.{Scan, values_on, eval}
+use Rattle.wh_naming.specs.Changes.{BoundClause, UpdateMatched, DeleteMatched, InsertUnmatched, InsertRows, InsertQuery, Update, Delete}
 use Rattle.wh_effect.specs.Effect.{Kept, Outcome, Undefined, Ambiguous, Does, effect, merged}
 
 abbrev n : ℕ → Value
@@ -121,3 +123,28 @@ undefined_in_a_later_clause = refl
 undefined_part_of_an_ambiguous_row : merged on (UpdateMatched yes (Column 0 ∷ Add (Column 3) near_the_limit ∷ []) ∷ []) target (Some (pair 1 1 ∷ pair 1 99 ∷ [])) ≡ Undefined
 unfolding values_on val
 undefined_part_of_an_ambiguous_row = refl
+
+-- rows that are matched with nothing are inserted in the order of the source
+inserted_in_source_order : merged on upsert target (Some (pair 3 30 ∷ pair 4 40 ∷ [])) ≡ does [] [] (pair 3 30 ∷ pair 4 40 ∷ [])
+unfolding values_on val
+inserted_in_source_order = refl
+
+-- of two ambiguous rows the one with the lower number is named
+first_ambiguous_row : merged on upsert target (Some (pair 2 21 ∷ pair 2 22 ∷ pair 1 11 ∷ pair 1 12 ∷ [])) ≡ Ambiguous (pair 1 10)
+unfolding values_on val
+first_ambiguous_row = refl
+
+-- a MATCHED condition is not evaluated on a pair on which ON isn't TRUE: 20 would pass 18 digits, 10 doesn't
+matched_conditions_on_matched_pairs : merged on (DeleteMatched (equal (Add (Column 1) near_the_limit) (Const (n 0))) ∷ []) (kept 1 (pair 1 10) ∷ kept 2 (pair 2 20) ∷ []) (Some (pair 1 7 ∷ [])) ≡ does [] [] []
+unfolding values_on val
+matched_conditions_on_matched_pairs = refl
+
+-- a NOT MATCHED condition is not evaluated on a row that is matched
+unmatched_conditions_on_unmatched_rows : merged on (InsertUnmatched (equal (Add (Column 1) near_the_limit) (Const (n 0))) (Column 0 ∷ Column 1 ∷ []) ∷ []) target (Some (pair 1 99 ∷ pair 3 1 ∷ [])) ≡ does [] [] []
+unfolding values_on val
+unmatched_conditions_on_unmatched_rows = refl
+
+-- the rows of a query are inserted in the row order, an equal one as often as it is there
+query_rows_in_row_order : effect (InsertQuery (Scan 0) (Column 0 ∷ Column 1 ∷ [])) target (bag_of (pair 4 1 ∷ pair 3 2 ∷ pair 4 1 ∷ pair 3 1 ∷ []) ∷ []) ≡ does [] [] (pair 3 1 ∷ pair 3 2 ∷ pair 4 1 ∷ pair 4 1 ∷ [])
+unfolding effect values_on val eval listed order_by fold_bag
+query_rows_in_row_order = refl

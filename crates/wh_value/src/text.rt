@@ -8,9 +8,10 @@ use std::cmp::Ordering;
 use std::marker::Model;
 
 /// UTF-8 of at most 65,536 bytes, the longest that a statement can hold. Contracts see the bytes.
+/// It takes one word where it stands, so that a value takes two.
 #[derive(Debug, Drop)]
 pub struct Text {
-    inner: String,
+    inner: Box<String>,
 }
 
 impl Model for Text {
@@ -18,9 +19,9 @@ impl Model for Text {
 
     ghost Value = { List ℕ };
 
-    ghost view = { λ t. string_bytes t.inner };
+    ghost view = { λ t. string_bytes t.inner.value };
 
-    ghost invariant = { λ t. length (string_bytes t.inner) ≤ 65536 };
+    ghost invariant = { λ t. length (string_bytes t.inner.value) ≤ 65536 };
 }
 
 impl Text {
@@ -49,7 +50,8 @@ impl Text {
         requires { length text.now ≤ 65536 }
         ensures { IfOk result (λ made. made ≡ text.now) }
     {
-        let inner = String::from_str(alloc, text)?;
+        let owned = String::from_str(alloc, text)?;
+        let inner = Box::new(alloc, owned)?;
         Ok(Text { inner })
     }
 
