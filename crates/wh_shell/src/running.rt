@@ -143,7 +143,7 @@ pub(crate) fn run_within<S: Source, K: Sink, D: Disk>(
 {
     match Warehouse::open(rt, alloc, disk, 1, limit) {
         Ok(warehouse) => serve_and_close(rt, alloc, warehouse, script, out),
-        Err((fault, disk)) => (Status::Stopped(Fault::from(fault)), disk),
+        Err((fault, disk)) => (Status::of(Err(Fault::from(fault))), disk),
     }
 }
 

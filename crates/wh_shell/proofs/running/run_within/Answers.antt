@@ -8,11 +8,14 @@ use Rattle.wh_record.proofs.FileLaws.{file_fixes_state, file_fixes_stored}
 use Rattle.wh_record.proofs.FaultLaws.{faulty_file_stands_for_none}
 use Rattle.wh_journal.specs.Journal.{end_of, limit_of}
 use Rattle.wh_catalog.specs.Catalog.{stored_of, state_of}
+use Rattle.wh_engine.specs.Warehouse.{IsSettled}
 use Rattle.wh_shell.specs.Events.{events}
 use Rattle.wh_shell.specs.Fault.{fault_of_open, HasCause, never}
 use Rattle.wh_shell.specs.Open.{IsTold}
 use Rattle.wh_shell.specs.Room.{reach_of, FillsBy, IsFull}
-use Rattle.wh_shell.specs.Run.{IsRunOf, Rejects, WasTooLong}
+use Rattle.wh_shell.specs.Run.{IsRunOf, Rejects, WasTooLong, EndsBy, RefusesFile, Through}
+use Rattle.wh_shell.specs.declared.status.Status.{Status}
+use Rattle.wh_shell.specs.declared.status.Status.TheVariants.{Stopped}
 use Rattle.wh_shell.proofs.EventLemmas.{told_events}
 use Rattle.wh_shell.proofs.CauseLemmas.{more_causes, rose_since}
 use Rattle.wh_shell.proofs.Opening.{some_gate, run_survives, unopened_survives}
@@ -90,13 +93,20 @@ returns-in-Ok-clause-file_full g c = λ file input s start es told told_left kee
 -- ---- it wasn't
 
 pub returns-in-Err-clause-runs : goal.returns-in-Err-clause-runs
-returns-in-Err-clause-runs g c = λ file input held start es is. unopened_run start es held (g.K.Sink.held c.args.out.now) is.told_output
+returns-in-Err-clause-runs g c = λ file input held start es is.
+    subst (λ (s : Status). IsRunOf start es held s (g.K.Sink.held c.args.out.now) (g.D.Disk.bytes c.in-Err.disk) (g.S.Source.left c.args.script.now))
+    (sym c.of.ensures) (unopened_run start es held (g.K.Sink.held c.args.out.now) is.told_output)
 
 pub returns-in-Err-clause-survives : goal.returns-in-Err-clause-survives
 returns-in-Err-clause-survives g c = λ file input before written start es is only held_is.
     unopened_survives g.D.Disk.moment g.D.Disk.left_since g.D.Disk.may_leave g.met.D.Disk.counts_now c.args.disk c.in-Err.disk
     (g.D.Disk.bytes c.args.disk) (g.S.Source.left c.args.script.now) (g.K.Sink.held c.args.out.now) (g.K.Sink.held c.args.out.now)
     file input before written start es is (c.in-Err.ensures.any_moment_err file is.told_file only) refl held_is
+
+-- a run that is stopped isn't through
+pub returns-in-Err-clause-durable : goal.returns-in-Err-clause-durable
+returns-in-Err-clause-durable g c =
+    subst (λ (s : Status). Through s (IsSettled (g.D.Disk.bytes c.in-Err.disk) (g.D.Disk.may_leave c.in-Err.disk))) (sym c.of.ensures) tt
 
 -- the file has a first fault
 pub returns-in-Err-clause-causes : goal.returns-in-Err-clause-causes
@@ -108,7 +118,7 @@ returns-in-Err-clause-causes g c =
     g.D.Disk.bytes c.args.disk ≡ Some file → Rejects at file (g.D.Disk.bytes c.in-Err.disk) (g.D.Disk.may_leave c.in-Err.disk)) in
     let full = λ (len need : ℕ). c.args.limit < len + need in
     let long = λ (taken : ℕ). WasTooLong taken (g.S.Source.left c.args.script.now) (g.S.Source.left c.args.script.now) in
-    subst (HasCause disk script output foreign full long) (sym c.from.ensures)
+    subst (EndsBy (HasCause disk script output foreign full long)) (sym (c.of.ensures ∙ ap Stopped c.from.ensures))
     (unopened_cause disk script output foreign full long c.in-Err.fault c.in-Err.ensures.disk_fault
     (λ at is. (
       refl,
@@ -124,9 +134,15 @@ returns-in-Err-clause-causes g c =
     )))
 
 pub returns-in-Err-clause-foreign : goal.returns-in-Err-clause-foreign
-returns-in-Err-clause-foreign g c = λ file told foreign. unopened_refuses c.from.result c.in-Err.fault c.from.ensures
+returns-in-Err-clause-foreign g c = λ file told foreign.
+    subst RefusesFile (sym c.of.ensures) (unopened_refuses c.from.result c.in-Err.fault c.from.ensures)
 
 pub returns-in-Err-clause-file_full : goal.returns-in-Err-clause-file_full
 returns-in-Err-clause-file_full g c = λ file input s start es told told_left keeps means script.
     let gate = some_gate file s keeps in
-    record { end = gate.0; gate = gate.1; fills = unopened_fills c.from.result c.in-Err.fault (overflow c.args.limit gate.0 s start es) c.from.ensures }
+    let need = overflow c.args.limit gate.0 s start es in
+    record {
+      end = gate.0;
+      gate = gate.1;
+      fills = subst (λ (s : Status). FillsBy s need) (sym c.of.ensures) (unopened_fills c.from.result c.in-Err.fault need c.from.ensures);
+    }
