@@ -3,11 +3,9 @@ use Rattle.std.specs.Prelude.{◌≡◌, ℕ, true, List, [], ◌∷◌, pos, So
 use Rattle.wh_value.specs.Value.{Value, Number, Truth, Null, Row}
 use Rattle.wh_value.specs.declared.comparison.Comparison.TheVariants as comparisons
 use Rattle.wh_meaning.specs.Scalar.{Scalar, Const, Column, Add, Compare, val}
-use Rattle.wh_meaning.specs.Bag.{bag_of, fold_bag}
-use Rattle.wh_meaning.specs.Listing.{listed, order_by}
-use Rattle.wh_meaning.specs.Query.{Scan, values_on, eval}
-use Rattle.wh_naming.specs.Changes.{BoundClause, UpdateMatched, DeleteMatched, InsertUnmatched, InsertRows, InsertQuery, Update, Delete}
-use Rattle.wh_effect.specs.Effect.{Kept, Outcome, Undefined, Ambiguous, Does, effect, merged}
+use Rattle.wh_meaning.specs.Query.{values_on}
+use Rattle.wh_naming.specs.Changes.{BoundClause, UpdateMatched, DeleteMatched, InsertUnmatched, InsertRows, Update, Delete}
+use Rattle.wh_effect.specs.Effect.{Kept, Outcome, Undefined, Ambiguous, Does, effect, merged, inserts_over}
 
 abbrev n : ℕ → Value
 n k = Number (pos k)
@@ -144,7 +142,7 @@ unmatched_conditions_on_unmatched_rows : merged on (InsertUnmatched (equal (Add 
 unfolding values_on val
 unmatched_conditions_on_unmatched_rows = refl
 
--- the rows of a query are inserted in the row order, an equal one as often as it is there
-query_rows_in_row_order : effect (InsertQuery (Scan 0) (Column 0 ∷ Column 1 ∷ [])) target (bag_of (pair 4 1 ∷ pair 3 2 ∷ pair 4 1 ∷ pair 3 1 ∷ []) ∷ []) ≡ does [] [] (pair 3 1 ∷ pair 3 2 ∷ pair 4 1 ∷ pair 4 1 ∷ [])
-unfolding effect values_on val eval listed order_by fold_bag
-query_rows_in_row_order = refl
+-- a row of a query is inserted as often as it is there, in the order of the query's rows
+query_rows_in_their_order : inserts_over (Column 1 ∷ Column 0 ∷ []) (Some (pair 3 1 ∷ pair 3 2 ∷ pair 4 1 ∷ pair 4 1 ∷ [])) ≡ does [] [] (pair 1 3 ∷ pair 2 3 ∷ pair 1 4 ∷ pair 1 4 ∷ [])
+unfolding values_on val
+query_rows_in_their_order = refl
