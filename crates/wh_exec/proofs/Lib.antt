@@ -1,4 +1,5 @@
 pub mod Added
+pub mod Asked
 mod Columns
 mod Told
 mod Referred
