@@ -1,11 +1,10 @@
 -- What a fetch was asked for, where it is asked in turn.
---     asked_some                     whatever the result, a front was asked for
 --     part_asked, source_asked       one more at a turn of a loop
 --     part_stopped, source_stopped   the loop ends at a turn
 use Rattle.std.specs.Prelude.{◌≡◌, ℕ, ◌+◌, ◌<◌, List, [], ◌∷◌, ◌++◌, length, take, drop, Result, Ok, Err}
-use Rattle.std.proofs.Common.{inl, inr, refl, sym, ap, subst, ◌∙◌, append_assoc, append-nil, get_or, take-append-drop}
+use Rattle.std.proofs.Common.{inl, inr, refl, sym, ap, subst, ◌∙◌, append_assoc, append-nil, get_or}
 use Rattle.std.proofs.lemmas.Grind.{flat_map-append}
-use Rattle.std.proofs.lemmas.List.{take_more, drop_more, map-append, flat_map_more}
+use Rattle.std.proofs.lemmas.List.{map-append, flat_map_more}
 use Rattle.wh_part.specs.declared.meta.PartId.{PartId}
 use Rattle.wh_part.specs.declared.meta.PartMeta.{PartMeta}
 use Rattle.wh_fetch.specs.Fetch.{Asks}
@@ -13,11 +12,12 @@ use Rattle.wh_fetch.specs.declared.fault.FetchFault.{FetchFault}
 use Rattle.wh_fetch.specs.declared.fault.FetchFault.TheVariants.{Read, OutOfMemory}
 use Rattle.wh_exec.specs.declared.instance.Given.{Given}
 use Rattle.wh_exec.specs.Asked.{ids_at, ids_in, ids_of, AsksSome, AsksFor}
+use Rattle.wh_exec.proofs.Turns.{one_more, parted_at}
 
 whole_front : (ids before after : List PartId) → after ≡ before ++ ids → AsksSome ids before after
 whole_front ids before after all = record { front = ids; rest = []; parted = sym (append-nil ids); asked = all }
 
-pub asked_some : {X E : Type 0} (result : Result X E) (ids before after : List PartId) → AsksFor result ids before after → AsksSome ids before after
+asked_some : {X E : Type 0} (result : Result X E) (ids before after : List PartId) → AsksFor result ids before after → AsksSome ids before after
 asked_some (Ok found) ids before after all = whole_front ids before after all
 asked_some (Err fault) ids before after some = some
 
@@ -44,12 +44,6 @@ asked_within before at after done more rest so some = record {
       ∙ sym (append_assoc done some.front (some.rest ++ rest));
   asked = asked_more before at after done some.front so some.asked;
 }
-
-parted_at : {X : Type 0} (all : List X) (i : ℕ) (x : X) → i < length all → x ≡ get_or all i x → all ≡ take i all ++ x ∷ drop (i + 1) all
-parted_at all i x within at = sym (take-append-drop i all) ∙ ap (λ rest. take i all ++ rest) (drop_more all i x within ∙ ap (λ y. y ∷ drop (i + 1) all) (sym at))
-
-one_more : {X : Type 0} (all : List X) (i : ℕ) (x : X) → i < length all → x ≡ get_or all i x → take (i + 1) all ≡ take i all ++ x ∷ []
-one_more all i x within at = take_more all i x within ∙ ap (λ y. take i all ++ y ∷ []) (sym at)
 
 -- ---- partitions
 

@@ -1,3 +1,4 @@
+mod Turns
 pub mod Added
 pub mod Asked
 mod Columns
