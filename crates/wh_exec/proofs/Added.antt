@@ -3,9 +3,11 @@
 --     kept_.., image_..   one row: kept by a condition or not; its image, which may be the row itself
 --     Added               what the rows of a list give is added to those at the start
 --     added_..            by none of the rows, by one more, by all of them; a row that fails
+--     AddedSoFar          the same, with the rows that are left to be moved out of a list
+--     so_far_..           with one more moved, with all of them; a row that fails
 use Rattle.std.specs.Prelude.{◌≡◌, refl, Bool, ℕ, ◌+◌, ◌<◌, List, [], ◌∷◌, ◌++◌, length, Option, Some, None, true, false, if◌then◌else◌, option_map, take, drop}
-use Rattle.std.proofs.Common.{sym, ap, subst, ◌∙◌, get_or, take-append-drop}
-use Rattle.std.proofs.lemmas.List.{map-append, take_more, drop_more}
+use Rattle.std.proofs.Common.{sym, ap, subst, ◌∙◌, get_or, append_assoc, append-nil, arith}
+use Rattle.std.proofs.lemmas.List.{map-append, nil_from_length}
 use Rattle.wh_value.specs.Value.{Value, Row}
 use Rattle.wh_meaning.specs.Scalar.{Scalar, val, is_true}
 use Rattle.wh_meaning.specs.Bag.{Bag, no_rows, one_row, bag_of, plus, beside, gathered}
@@ -18,6 +20,7 @@ use Rattle.wh_algebra.specs.declared.tuple.Tuple.{Tuple}
 use Rattle.wh_algebra.specs.declared.tuple.Tuple.TheVariants.{Made}
 use Rattle.wh_algebra.specs.Tuple.{row_in, rows_in}
 use Rattle.wh_aggregate.specs.Given.{IsFaultOf}
+use Rattle.wh_exec.proofs.Turns.{one_more, parted_at}
 
 pub put_one : (before after : List Tuple) (t : Tuple) → after ≡ before ++ t ∷ [] → plus (bag_of (rows_in before)) (one_row (row_in t)) ≡ bag_of (rows_in after)
 put_one before after t e = sym (ap (λ ts. bag_of (rows_in ts)) e ∙ ap bag_of (map-append row_in before (t ∷ [])) ∙ bag_of-append (rows_in before) (row_in t ∷ []))
@@ -100,12 +103,39 @@ pub added_step : (f : Row → Option Bag) (start mid out all : List Tuple) (i : 
     i < length all → t ≡ get_or all i t → row ≡ row_in t → Added f start (take i all) mid →
     beside (Some (bag_of (rows_in mid))) (f row) ≡ Some (bag_of (rows_in out)) → Added f start (take (i + 1) all) out
 added_step f start mid out all i t row within at same so step =
-    subst (λ rows. Added f start rows out) (sym (take_more all i t within ∙ ap (λ x. take i all ++ x ∷ []) (sym at)))
+    subst (λ rows. Added f start rows out) (sym (one_more all i t within at))
     (added_more f start (take i all) mid out t so (ap (λ r. beside (Some (bag_of (rows_in mid))) (f r)) (sym same) ∙ step))
 
 pub added_fails_at : (fault : EvalFault) (f : Row → Option Bag) (all : List Tuple) (i : ℕ) (t : Tuple) (row : Row) →
     i < length all → t ≡ get_or all i t → row ≡ row_in t → IsFaultOf fault (f row) → IsFaultOf fault (gathered f (bag_of (rows_in all)))
 added_fails_at fault f all i t row within at same none =
     added_fails fault f (take i all) (drop (i + 1) all) all t
-    (sym (take-append-drop i all) ∙ ap (λ rest. take i all ++ rest) (drop_more all i t within ∙ ap (λ x. x ∷ drop (i + 1) all) (sym at)))
+    (parted_at all i t within at)
     (subst (λ r. IsFaultOf fault (f r)) same none)
+
+-- ---- a loop that moves the rows out of a list
+
+pub record AddedSoFar (f : Row → Option Bag) (all yielded left : List Tuple) (count : ℕ) (out : List Tuple) : Type 0 where
+  pub whole : yielded ++ left ≡ all
+  pub added : Added f [] yielded out
+  pub counted : count ≡ length left
+
+pub so_far_more : {f : Row → Option Bag} {all yielded left rest mid out : List Tuple} {count fewer : ℕ} {t : Tuple} → AddedSoFar f all yielded left count mid →
+    left ≡ t ∷ rest → fewer + 1 ≡ count → beside (Some (bag_of (rows_in mid))) (f (row_in t)) ≡ Some (bag_of (rows_in out)) →
+    AddedSoFar f all (yielded ++ t ∷ []) rest fewer out
+so_far_more {f} {all} {yielded} {left} {rest} {mid} {out} {count} {fewer} {t} so step gone put = record {
+  whole = append_assoc yielded (t ∷ []) rest ∙ ap (λ ts. yielded ++ ts) (sym step) ∙ so.whole;
+  added = added_more f [] yielded mid out t so.added put;
+  counted = let was = so.counted in let short = ap length step in omega arith;
+}
+
+pub so_far_all : {f : Row → Option Bag} {all yielded left out : List Tuple} {count : ℕ} → AddedSoFar f all yielded left count out → count ≡ 0 →
+    gathered f (bag_of (rows_in all)) ≡ Some (bag_of (rows_in out))
+so_far_all {f} {all} {yielded} {left} {out} so none =
+    let empty : left ≡ [] = nil_from_length left (sym so.counted ∙ none) in
+    added_all f yielded all out (sym (append-nil yielded) ∙ ap (λ ts. yielded ++ ts) (sym empty) ∙ so.whole) so.added
+
+pub so_far_fails : {f : Row → Option Bag} {all yielded left rest out : List Tuple} {count : ℕ} {t : Tuple} (fault : EvalFault) → AddedSoFar f all yielded left count out →
+    left ≡ t ∷ rest → IsFaultOf fault (f (row_in t)) → IsFaultOf fault (gathered f (bag_of (rows_in all)))
+so_far_fails {f} {all} {yielded} {left} {rest} {out} {count} {t} fault so step none =
+    added_fails fault f yielded rest all t (sym so.whole ∙ ap (λ ts. yielded ++ ts) step) none

@@ -1,4 +1,6 @@
+mod Turns
 pub mod Added
+pub mod Asked
 mod Columns
 mod Told
 mod Referred

@@ -10,7 +10,7 @@ use Rattle.std.specs.Global.{Global}
 use Rattle.std.specs.Arc.{arc_value}
 use Rattle.std.specs.declared.sync.Arc.{Arc}
 use Rattle.std.proofs.Common.{refl, sym, ap, subst, ◌∙◌, arith, append_assoc, append-nil, get_or}
-use Rattle.std.proofs.lemmas.List.{take_more, map-append}
+use Rattle.std.proofs.lemmas.List.{map-append}
 use Rattle.wh_value.specs.Value.{Row}
 use Rattle.wh_frame.specs.Partition.{Partition}
 use Rattle.wh_part.specs.declared.meta.PartMeta.{PartMeta}
@@ -22,6 +22,7 @@ use Rattle.wh_exec.specs.declared.instance.Given.TheVariants.{Parts, Rows}
 use Rattle.wh_exec.specs.declared.loading.Loaded.{Loaded}
 use Rattle.wh_exec.specs.Given.{rows_of, rows_told, bag_told, instance_told, IsCovered}
 use Rattle.wh_exec.specs.Loaded.{rows_loaded, bag_loaded, bags_loaded}
+use Rattle.wh_exec.proofs.Turns.{one_more}
 
 abbrev Contents : Type 0
 Contents = PartMeta → Option Partition
@@ -89,7 +90,7 @@ pub told_part : (now then : Contents) (all : List PartMeta) (i : ℕ) (part : Pa
     IsTold (rows_told then (take i all)) (rows_loaded loaded) → IsTold (now part) (arc_value found) →
     IsTold (rows_told then (take (i + 1) all)) (rows_loaded after)
 told_part now then all i part loaded after found within at same put so one =
-    let parts : take (i + 1) all ≡ take i all ++ part ∷ [] = take_more all i part within ∙ ap (λ x. take i all ++ x ∷ []) (sym at) in
+    let parts : take (i + 1) all ≡ take i all ++ part ∷ [] = one_more all i part within at in
     let here = same_told (now part) (then part) (arc_value found) same one in
     let more = both_told (λ rows p. rows ++ rows_of p) (rows_told then (take i all)) (then part) (rows_loaded loaded) (arc_value found) so here in
     let told = same_told _ _ (rows_loaded loaded ++ rows_of (arc_value found)) (sym (rows_told-push then (take i all) part) ∙ ap (rows_told then) (sym parts)) more in
@@ -100,7 +101,7 @@ pub told_source : (now then : Contents) (all : List Given) (i : ℕ) (given : Gi
     IsTold (instance_told then (take i all)) (bags_loaded loaded) → IsTold (bag_told now given) (bag_loaded source) →
     IsTold (instance_told then (take (i + 1) all)) (bags_loaded after)
 told_source now then all i given loaded after source within at same put so one =
-    let sources : take (i + 1) all ≡ take i all ++ given ∷ [] = take_more all i given within ∙ ap (λ x. take i all ++ x ∷ []) (sym at) in
+    let sources : take (i + 1) all ≡ take i all ++ given ∷ [] = one_more all i given within at in
     let here = same_told (bag_told now given) (bag_told then given) (bag_loaded source) same one in
     let more = both_told (λ bags bag. bags ++ bag ∷ []) (instance_told then (take i all)) (bag_told then given) (bags_loaded loaded) (bag_loaded source) so here in
     let told = same_told _ _ (bags_loaded loaded ++ bag_loaded source ∷ []) (sym (instance_told-push then (take i all) given) ∙ ap (instance_told then) (sym sources)) more in
@@ -136,4 +137,4 @@ loaded_turn all i part rows before after within at same so put =
     ∙ ap (λ xs. before ++ map (λ e. e.1) xs) same
     ∙ ap (λ xs. xs ++ rows_of (arc_value part)) so
     ∙ sym (rows_loaded-push (take i all) part)
-    ∙ ap rows_loaded (sym (take_more all i part within ∙ ap (λ x. take i all ++ x ∷ []) (sym at)))
+    ∙ ap rows_loaded (sym (one_more all i part within at))

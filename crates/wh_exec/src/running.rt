@@ -4,6 +4,7 @@ ghost use Rattle.wh_meaning.specs.Query.{eval};
 ghost use Rattle.wh_meaning.specs.Query as meaning;
 ghost use Rattle.wh_algebra.specs.Plan.{plan_of};
 ghost use Rattle.wh_exec.specs.declared.fault.ExecFault.TheVariants.{Read};
+ghost use Rattle.wh_exec.specs.Asked.{ids_of, AsksFor};
 ghost use Rattle.wh_exec.specs.Given.{instance_told, AreCovered, Runs};
 ghost use Rattle.wh_exec.specs.Loaded.{bags_loaded};
 
@@ -36,6 +37,8 @@ pub fn run<F: Fetch>(
         → Runs result (eval (plan_of plan.now) sources) }
 
     // Over any fetch.
+    ensures asked { AsksFor result (ids_of instance.now.sources.items)
+        (F.asked fetch.old) (F.asked fetch.new) }
     ensures stays { F.stays fetch.old fetch.new }
     ensures later { F.faults fetch.old ≤ F.faults fetch.new }
     ensures read { result ≡ Err Read → Rose (F.faults fetch.old) (F.faults fetch.new) }
@@ -54,6 +57,8 @@ pub fn run_one<F: Fetch>(
     ensures bag { (sources : meaning.Instance)
         → instance_told (F.contents fetch.old) instance.now.sources.items ≡ Some sources
         → Runs result (eval (plan_of plan.now) sources) }
+    ensures asked { AsksFor result (ids_of instance.now.sources.items)
+        (F.asked fetch.old) (F.asked fetch.new) }
     ensures stays { F.stays fetch.old fetch.new }
     ensures later { F.faults fetch.old ≤ F.faults fetch.new }
     ensures read { result ≡ Err Read → Rose (F.faults fetch.old) (F.faults fetch.new) }

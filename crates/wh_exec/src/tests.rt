@@ -8,7 +8,6 @@ use std::sync::Arc;
 use std::thread::Threads;
 use wh_algebra::{Call, Physical};
 use wh_bag::Bag;
-use wh_fetch::Fetch;
 use wh_part::{NumberedRow, PartId, PartMeta, Partition};
 use wh_scalar::Scalar;
 use wh_value::{Comparison, Row, Value};
@@ -38,12 +37,18 @@ fn numbers(alloc: Global, failing: u64) -> Result<Shelf, AllocError> {
     Ok(Shelf::new(alloc, parts, failing))
 }
 
+fn id(number: u64) -> PartId {
+    PartId { object: 1, number }
+}
+
+// The names of the three partitions.
+fn ids() -> [PartId; 3] {
+    [id(0), id(1), id(2)]
+}
+
 fn meta(alloc: Global, at: u64) -> PartMeta {
     PartMeta {
-        id: PartId {
-            object: 1,
-            number: at,
-        },
+        id: id(at),
         at,
         length: 0,
         rows: 1,
@@ -160,7 +165,7 @@ fn the_six_operators_run_over_partitions_and_a_bag(rt: HostRuntime) {
     let plan = counted(alloc).expect(&rt, "memory");
     let found = count_of(alloc, plan.get(), &instance, &mut fetch, &row);
     assert_eq!(rt; found, Some(1));
-    assert_eq!(rt; fetch.fetched(), 3);
+    assert_eq!(rt; fetch.asked(), ids().as_slice());
 }
 
 fn count_by_two(
@@ -198,12 +203,13 @@ fn fault_of(alloc: Global, instance: &Instance, fetch: &mut Shelf) -> Option<Exe
 fn a_partition_that_is_not_read_ends_the_run(rt: HostRuntime) {
     let alloc = rt.alloc();
     let instance = instance(alloc).expect(&rt, "memory");
+    let ids = ids();
     for failing in 1..4 {
         let mut fetch = numbers(alloc, failing).expect(&rt, "memory");
         assert_eq!(rt;
             fault_of(alloc, &instance, &mut fetch),
             Some(ExecFault::Read)
         );
-        assert_eq!(rt; fetch.fetched(), failing);
+        assert_eq!(rt; fetch.asked(), &ids[..failing as usize]);
     }
 }

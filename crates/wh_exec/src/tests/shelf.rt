@@ -25,6 +25,11 @@ impl Shelf {
             faults: 0,
         }
     }
+
+    /// The partitions that it was asked for, in order.
+    pub fn asked(&self) -> &[PartId] {
+        &self.asked
+    }
 }
 
 impl Fetch for Shelf {
