@@ -2,6 +2,7 @@
 --     found_none, found_at     the last object of a name is the one that lives, if any does
 --     last_more                with one more object, of a name that no live one has
 use Rattle.std.proofs.Common.{◌≡◌, ℕ, zero, suc, ◌+◌, ◌-◌, ◌<◌, Bool, true, false, cond, ◌&&◌, not, List, [], ◌∷◌, ◌++◌, length, map, get_or, Option, Some, None, option_map, bytes_eq, nat_lt, refl, sym, ap, subst, ◌∙◌, arith}
+use Rattle.std.specs.Bool.{then_some}
 use Rattle.std.specs.Prelude.{IsNone}
 use Rattle.std.specs.List.{position, prefix_len}
 use Rattle.std.specs.Cmp.Lexicographic.{bytes_decides, nat_list_eq_equiv}
@@ -12,7 +13,7 @@ use Rattle.wh_catalog.specs.declared.object.StoredObject.{StoredObject}
 use Rattle.wh_catalog.specs.Kept.{object_in}
 use Rattle.wh_catalog.specs.Object.{kept_object}
 use Rattle.wh_catalog.specs.Names.{or_first, last_place, last_id, names_of, AreLast}
-use Rattle.wh_catalog.proofs.Names.{more_names, place_of_id, id_within}
+use Rattle.wh_catalog.proofs.Names.{more_names, place_of_id}
 use Rattle.wh_catalog.proofs.Objects.{map_more}
 use Rattle.wh_catalog.proofs.Places.{position-map}
 
@@ -110,14 +111,14 @@ module _ (name : List ℕ) (os : List StoredObject) (last : AreLast os) where
       by (Some place) e = cc
 
   pub found_at : (id : ℕ) (o : StoredObject) → last_id name (names_of os) ≡ Some id → id - 1 < length os → 0 < id → o ≡ get_or os (id - 1) o
-      → id_of name (map object_in (map kept_object os)) ≡ cond o.is_live (Some id) None
+      → id_of name (map object_in (map kept_object os)) ≡ then_some o.is_live id
   found_at id o some here first is =
       found_id
       ∙ ap (λ r. option_map (λ place. place + 1) (living os r)) (place_of_id (last_place name (names_of os)) id some)
       ∙ ap (option_map (λ place. place + 1)) (living_at os (id - 1) o here is)
       ∙ by o.is_live
     where
-      by : (b : Bool) → option_map (λ place. place + 1) (cond b (Some (id - 1)) None) ≡ cond b (Some id) None
+      by : (b : Bool) → option_map (λ place. place + 1) (cond b (Some (id - 1)) None) ≡ then_some b id
       by true = ap Some (omega arith)
       by false = refl
 
@@ -126,12 +127,11 @@ module _ (name : List ℕ) (os : List StoredObject) (last : AreLast os) where
 more : (os : List StoredObject) (o : StoredObject) → AreLast os → position (has_name o.name) os ≡ None → AreLast (os ++ o ∷ [])
 more [] o last free = (λ live. refl, tt)
 more (p ∷ os) o last free =
-    let none = none_first (has_name o.name p) (position (has_name o.name) os) (sym (position-cons (has_name o.name) p os) ∙ free) in
-    (
+    let none = none_first (has_name o.name p) (position (has_name o.name) os) (sym (position-cons (has_name o.name) p os) ∙ free) in (
       λ live.
-        let other : bytes_eq o.name p.name ≡ false = nat_list_eq_equiv.symm o.name p.name ∙ ap (λ l. l && bytes_eq p.name o.name) (sym live) ∙ none.0 in
-        ap (last_place p.name) (map_more (λ (q : StoredObject). q.name) os o) ∙ more_names p.name (names_of os) o.name
-        ∙ ap (λ b. cond b (Some (length (names_of os))) (last_place p.name (names_of os))) other ∙ last.0 live,
+          let other : bytes_eq o.name p.name ≡ false = nat_list_eq_equiv.symm o.name p.name ∙ ap (λ l. l && bytes_eq p.name o.name) (sym live) ∙ none.0 in
+          ap (last_place p.name) (map_more (λ (q : StoredObject). q.name) os o) ∙ more_names p.name (names_of os) o.name
+          ∙ ap (λ b. cond b (Some (length (names_of os))) (last_place p.name (names_of os))) other ∙ last.0 live,
       more os o last.1 none.1,
     )
 

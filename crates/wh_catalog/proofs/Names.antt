@@ -33,11 +33,11 @@ without_last os name (suc left) o some here is =
     let last = get_or os left o in
     let same : left ≡ suc left - 1 = omega arith in
     subst (λ n. last_place name (names_of (take (suc left) os)) ≡ cond (bytes_eq o.name name) (Some n) (last_place name (names_of (take n os)))) same (
-      ap (λ (l : List StoredObject). last_place name (names_of l)) (take-suc os left o (omega arith))
-      ∙ ap (last_place name) (map_more (λ (q : StoredObject). q.name) before last)
-      ∙ more_names name (names_of before) last.name
-      ∙ ap (λ (q : StoredObject). cond (bytes_eq q.name name) (Some (length (names_of before))) (last_place name (names_of before))) (ap (λ n. get_or os n o) same ∙ sym is)
-      ∙ ap (λ n. cond (bytes_eq o.name name) (Some n) (last_place name (names_of before))) (length-map before (λ (q : StoredObject). q.name) ∙ length-take-le left os (omega arith))
+    ap (λ (l : List StoredObject). last_place name (names_of l)) (take-suc os left o (omega arith))
+    ∙ ap (last_place name) (map_more (λ (q : StoredObject). q.name) before last)
+    ∙ more_names name (names_of before) last.name
+    ∙ ap (λ (q : StoredObject). cond (bytes_eq q.name name) (Some (length (names_of before))) (last_place name (names_of before))) (ap (λ n. get_or os n o) same ∙ sym is)
+    ∙ ap (λ n. cond (bytes_eq o.name name) (Some n) (last_place name (names_of before))) (length-map before (λ (q : StoredObject). q.name) ∙ length-take-le left os (omega arith))
     )
 
 place_behind : (p : Option ℕ) (is_meant : Bool) (n : ℕ) → or_first p is_meant ≡ Some (suc n) → p ≡ Some n

@@ -49,7 +49,12 @@ impl Catalog {
         if self.objects.reserve(1).is_err() {
             return Err(StageFault::OutOfMemory);
         }
-        match give_id(&mut self.names, self.alloc, change.name.as_bytes(), change.id) {
+        match give_id(
+            &mut self.names,
+            self.alloc,
+            change.name.as_bytes(),
+            change.id,
+        ) {
             Ok(()) => {
                 let object = StoredObject::table_of_change(self.alloc, change, stamp);
                 self.objects.push_reserved(object);

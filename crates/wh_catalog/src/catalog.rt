@@ -79,11 +79,7 @@ impl Catalog {
         // Of the objects of a name only the last one can live.
         let id = *self.names.get(name)?;
         let object = &self.objects[id as usize - 1];
-        if object.is_live {
-            Some(id)
-        } else {
-            None
-        }
+        object.is_live.then_some(id)
     }
 
     /// Whether the object of an id is the last one of its name.

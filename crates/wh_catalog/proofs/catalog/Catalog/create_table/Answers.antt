@@ -45,16 +45,16 @@ invariant_of-self-in-Ok-clause-named c =
     let object = c.table_of_change-object.result in
     let name : object.name ≡ change.name = ap (λ (o : machine.StoredObject). o.name) c.table_of_change-object.ensures.table in
     let names : names_of c.push_reserved.new.self.items ≡ names_of before ++ change.name ∷ [] =
-        ap names_of (c.push_reserved.ensures.items ∙ ap (λ l. l ++ object ∷ []) c.reserve.ensures.items)
-        ∙ map_more (λ (o : StoredObject). o.name) before object
-        ∙ ap (λ n. names_of before ++ n ∷ []) name in
+    ap names_of (c.push_reserved.ensures.items ∙ ap (λ l. l ++ object ∷ []) c.reserve.ensures.items)
+    ∙ map_more (λ (o : StoredObject). o.name) before object
+    ∙ ap (λ n. names_of before ++ n ∷ []) name in
     let applies = (Decides-table_applies (objects_of self) (table_change_of change)).0 (sym c.table_applies.ensures ∙ c.if-not-table_applies.false) in
     let id : change.id ≡ length (names_of before) + 1 =
-        omega (arith, applies.next_id, length-map (map kept_object before) object_in, length-map before kept_object, length-map before (λ (o : StoredObject). o.name)) in
+    omega (arith, applies.next_id, length-map (map kept_object before) object_in, length-map before kept_object, length-map before (λ (o : StoredObject). o.name)) in
     λ other.
-      indexed_more self.names c.give_id.new.names change.name (names_of before) change.id id self.named
-      (λ n. c.in-Ok.ensures.given n ∙ ap (λ b. cond (bytes_eq b n) (Some change.id) (id_at self.names n)) c.as_bytes.ensures.value) other
-      ∙ ap (last_id other) (sym names)
+    indexed_more self.names c.give_id.new.names change.name (names_of before) change.id id self.named
+    (λ n. c.in-Ok.ensures.given n ∙ ap (λ b. cond (bytes_eq b n) (Some change.id) (id_at self.names n)) c.as_bytes.ensures.value) other
+    ∙ ap (last_id other) (sym names)
 
 pub invariant_of-self-in-Ok-clause-unique : goal.invariant_of-self-in-Ok-clause-unique
 unfolding kept_of

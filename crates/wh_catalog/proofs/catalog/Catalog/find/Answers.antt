@@ -1,4 +1,4 @@
-use Rattle.std.proofs.Common.{◌≡◌, ℕ, ◌+◌, ◌-◌, ◌<◌, ◌≤◌, Bool, List, length, Some, None, cond, sym, ap, ◌∙◌, arith}
+use Rattle.std.proofs.Common.{◌≡◌, ℕ, ◌-◌, ◌<◌, ◌≤◌, List, length, Some, sym, ap, ◌∙◌, arith}
 use Rattle.std.specs.Option.{option_copied}
 use Rattle.std.proofs.lemmas.List.{length-map}
 use Rattle.wh_catalog.specs.declared.catalog.Catalog.{Catalog}
@@ -36,22 +36,12 @@ index-object-requires c =
     let sized = self.objects.ok.0 in
     omega arith
 
-pub returns-then-object : goal.returns-then-object
+pub returns : goal.returns
 unfolding stored_of kept_of
-returns-then-object c =
+returns c =
     let self = c.args.self.now in
     let name = c.args.name.now in
     let id = c.in_ok-id.field-0.now in
     let some : last_id name (names_of self.objects.items) ≡ Some id = sym (self.named name) ∙ sym c.get.ensures.value ∙ ap option_copied c.in_ok-id.was in
     let there = within self name id some in
-    sym (found_at name self.objects.items self.unique id c.index-object.result.now some there.1 there.0 c.index-object.ensures ∙ ap (λ (b : Bool). cond b (Some id) None) c.if-object.true)
-
-pub returns-else-object : goal.returns-else-object
-unfolding stored_of kept_of
-returns-else-object c =
-    let self = c.args.self.now in
-    let name = c.args.name.now in
-    let id = c.in_ok-id.field-0.now in
-    let some : last_id name (names_of self.objects.items) ≡ Some id = sym (self.named name) ∙ sym c.get.ensures.value ∙ ap option_copied c.in_ok-id.was in
-    let there = within self name id some in
-    sym (found_at name self.objects.items self.unique id c.index-object.result.now some there.1 there.0 c.index-object.ensures ∙ ap (λ (b : Bool). cond b (Some id) None) c.if-object.false)
+    c.then_some.ensures ∙ sym (found_at name self.objects.items self.unique id c.index-object.result.now some there.1 there.0 c.index-object.ensures)

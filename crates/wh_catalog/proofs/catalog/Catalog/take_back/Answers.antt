@@ -1,4 +1,4 @@
-use Rattle.std.proofs.Common.{◌≡◌, ◌<◌, ◌≤◌, ◌∙◌, ap, sym, map, arith}
+use Rattle.std.proofs.Common.{◌<◌, ◌≤◌, ◌∙◌, ap, sym, map, arith}
 use Rattle.wh_value.specs.Limit.{bound}
 use Rattle.wh_value.specs.declared.limit.Limit.TheVariants as limits
 use Rattle.wh_machine.specs.State.{live_count}
@@ -26,11 +26,11 @@ returns-else-live_count-bound-clause-back c =
     let xs = c.args.self.now.objects.items in
     let id = c.in-DroppedObject.id in
     elim c.else-live_count-bound.branch [
-      else-live_count-bound-via-then-live_count-bound+else-is_last w ↦
+      | else-live_count-bound-via-then-live_count-bound+else-is_last w ↦
           let room : live_count (map object_in (map kept_object xs)) < bound limits.Objects = omega (arith, c.live_count.ensures.count, c.bound.ensures, w.if-live_count-bound.true) in
           sym (stays_if_not_last xs id room (sym w.is_last.ensures ∙ w.if-is_last.false))
           ∙ ap (λ step. step_undone step (map kept_object xs)) (sym c.in-DroppedObject.is)
-    | else-live_count-bound-via-else-live_count-bound w ↦
+      | else-live_count-bound-via-else-live_count-bound w ↦
           let full : bound limits.Objects ≤ live_count (map object_in (map kept_object xs)) = omega (arith, c.live_count.ensures.count, c.bound.ensures, w.if-live_count-bound.false) in
           sym (stays_if_full xs id full)
           ∙ ap (λ step. step_undone step (map kept_object xs)) (sym c.in-DroppedObject.is)
