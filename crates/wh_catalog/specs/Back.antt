@@ -20,4 +20,6 @@ alive o = record o { is_live = true }
 
 -- the object of an id lives again, if there is room for it among those that live, and it is the last one of its name
 abbrev pub lives_again : ℕ → List KeptObject → List KeptObject
-lives_again id objects = if nat_lt (live_count objects) (bound limits.Objects) && is_last id (map (λ o. o.name) objects) then changed_at objects id alive else objects
+lives_again id objects =
+    if nat_lt (live_count objects) (bound limits.Objects) && is_last id (map (λ o. o.name) objects)
+    then changed_at objects id alive else objects
