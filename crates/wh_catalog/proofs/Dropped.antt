@@ -1,16 +1,21 @@
 -- An object that is dropped, and lives again.
-use Rattle.std.proofs.Common.{◌≡◌, ℕ, ◌+◌, ◌-◌, ◌<◌, ◌≤◌, Bool, true, false, cond, List, [], ◌∷◌, length, map, set, get_or, refl, sym, ap, ◌∙◌, arith}
-use Rattle.std.proofs.lemmas.Bool.{lt-ltb}
-use Rattle.std.proofs.lemmas.List.Sums.{sum_by-cons, sum_by-set}
+use Rattle.std.proofs.Common.{◌≡◌, ℕ, ◌+◌, ◌-◌, ◌<◌, ◌≤◌, Bool, true, false, ◌&&◌, cond, List, [], ◌∷◌, length, map, set, get_or, ◌++◌, nat_lt, refl, sym, ap, ◌∙◌, arith}
+use Rattle.std.proofs.lemmas.Bool.{lt-ltb, le-ltb}
+use Rattle.std.proofs.lemmas.List.Sums.{sum_by-append, sum_by-cons, sum_by-set}
 use Rattle.std.specs.List.{count_by}
 use Rattle.wh_value.specs.Limit.{bound}
 use Rattle.wh_value.specs.declared.limit.Limit.TheVariants as limits
 use Rattle.wh_machine.specs.State.{live_count, changed_at}
 use Rattle.wh_catalog.specs.declared.object.StoredObject.{StoredObject}
-use Rattle.wh_catalog.specs.Kept.{KeptObject}
+use Rattle.wh_machine.specs.Stored as machine
+use Rattle.wh_machine.proofs.IdLaws.{map_count}
+use Rattle.wh_catalog.specs.Kept.{KeptObject, object_in}
 use Rattle.wh_catalog.specs.Object.{kept_object}
 use Rattle.wh_catalog.specs.Back.{alive, lives_again}
-use Rattle.wh_catalog.proofs.Objects.{changed_back}
+use Rattle.wh_catalog.specs.Names.{is_last, names_of, AreLast}
+use Rattle.wh_catalog.proofs.Names.{lives_by_id}
+use Rattle.wh_catalog.proofs.Objects.{changed_back, maps}
+use Rattle.wh_catalog.proofs.Places.{map_set_same}
 
 abbrev without_life : StoredObject → StoredObject
 without_life o = record o { is_live = false }
@@ -34,12 +39,54 @@ one_less xs i old within is live =
     let same = same_count (set xs i (without_life old)) in
     omega (arith, before, sums, same)
 
--- there is room for one that was dropped
+-- there is room for one that was dropped, and it is still the last one of its name
 pub revived : (xs : List StoredObject) (id : ℕ) (old : StoredObject) → 0 < id → id - 1 < length xs → old ≡ get_or xs (id - 1) old → old.is_live ≡ true
-    → count_by (λ o. o.is_live) xs ≤ bound limits.Objects → lives_again id (map kept_object (set xs (id - 1) (without_life old))) ≡ map kept_object xs
-revived xs id old some within is live few =
+    → count_by (λ o. o.is_live) xs ≤ bound limits.Objects → AreLast xs → lives_again id (map kept_object (set xs (id - 1) (without_life old))) ≡ map kept_object xs
+revived xs id old some within is live few last =
     let after : List KeptObject = map kept_object (set xs (id - 1) (without_life old)) in
     let less = one_less xs (id - 1) old within is live in
     let room : live_count after < bound limits.Objects = omega (arith, less, few) in
-    ap (λ b. cond b (changed_at after id alive) after) (lt-ltb (live_count after) (bound limits.Objects) room)
+    let names : map (λ (k : KeptObject). k.name) after ≡ names_of xs = maps (λ (k : KeptObject). k.name) kept_object (set xs (id - 1) (without_life old)) ∙ map_set_same (λ (o : StoredObject). o.name) xs (id - 1) old (without_life old) within is refl in
+    ap (λ b. cond (b && is_last id (map (λ (k : KeptObject). k.name) after)) (changed_at after id alive) after) (lt-ltb (live_count after) (bound limits.Objects) room)
+    ∙ ap (λ b. cond b (changed_at after id alive) after) (ap (is_last id) names ∙ lives_by_id xs id old some within is last live)
     ∙ changed_back kept_object alive xs id old (without_life old) some within is (ap (λ b. record (kept_object old) { is_live = b }) (sym live))
+
+-- ---- the tests of the code
+
+counted : (xs : List StoredObject) → live_count (map object_in (map kept_object xs)) ≡ count_by (λ o. o.is_live) xs
+counted xs = map_count object_in (λ (k : KeptObject). k.is_live) (λ (o : machine.StoredObject). o.is_live) (λ k. refl) (map kept_object xs) ∙ same_count xs
+
+pub one_more : (xs : List StoredObject) (o : StoredObject) (n : ℕ) → live_count (map object_in (map kept_object xs)) < n → count_by (λ (q : StoredObject). q.is_live) (xs ++ o ∷ []) ≤ n
+one_more xs o n few =
+    let same = counted xs in
+    let more = sum_by-append (λ (q : StoredObject). one_if q.is_live) xs (o ∷ []) in
+    let alone = sum_by-cons (λ (q : StoredObject). one_if q.is_live) o [] in
+    let one = one_at_most o.is_live in
+    omega (arith, same, more, alone, one)
+  where
+    one_at_most : (b : Bool) → one_if b ≤ 1
+    one_at_most true = omega arith
+    one_at_most false = omega arith
+
+module _ (xs : List StoredObject) (id : ℕ) where
+  lives_as : lives_again id (map kept_object xs)
+      ≡ cond (nat_lt (live_count (map object_in (map kept_object xs))) (bound limits.Objects) && is_last id (names_of xs)) (changed_at (map kept_object xs) id alive) (map kept_object xs)
+  lives_as =
+      ap (λ n. cond (nat_lt n (bound limits.Objects) && is_last id (map (λ (k : KeptObject). k.name) (map kept_object xs))) (changed_at (map kept_object xs) id alive) (map kept_object xs)) (same_count xs ∙ sym (counted xs))
+      ∙ ap (λ ns. cond (nat_lt (live_count (map object_in (map kept_object xs))) (bound limits.Objects) && is_last id ns) (changed_at (map kept_object xs) id alive) (map kept_object xs)) (maps (λ (k : KeptObject). k.name) kept_object xs)
+
+  tested : (room last : Bool) → nat_lt (live_count (map object_in (map kept_object xs))) (bound limits.Objects) ≡ room → is_last id (names_of xs) ≡ last
+      → lives_again id (map kept_object xs) ≡ cond (room && last) (changed_at (map kept_object xs) id alive) (map kept_object xs)
+  tested room last a b =
+      lives_as
+      ∙ ap (λ r. cond (r && is_last id (names_of xs)) (changed_at (map kept_object xs) id alive) (map kept_object xs)) a
+      ∙ ap (λ l. cond (room && l) (changed_at (map kept_object xs) id alive) (map kept_object xs)) b
+
+  pub comes_back : live_count (map object_in (map kept_object xs)) < bound limits.Objects → is_last id (names_of xs) ≡ true → lives_again id (map kept_object xs) ≡ changed_at (map kept_object xs) id alive
+  comes_back room last = tested true true (lt-ltb _ _ room) last
+
+  pub stays_if_full : bound limits.Objects ≤ live_count (map object_in (map kept_object xs)) → lives_again id (map kept_object xs) ≡ map kept_object xs
+  stays_if_full full = tested false (is_last id (names_of xs)) (le-ltb _ _ full) refl
+
+  pub stays_if_not_last : live_count (map object_in (map kept_object xs)) < bound limits.Objects → is_last id (names_of xs) ≡ false → lives_again id (map kept_object xs) ≡ map kept_object xs
+  stays_if_not_last room last = tested true false (lt-ltb _ _ room) last

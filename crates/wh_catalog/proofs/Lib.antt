@@ -4,3 +4,6 @@ pub mod Conditions
 pub mod Dropped
 pub mod OrderlyObjects
 pub mod Columns
+pub mod Names
+pub mod LiveNames
+pub mod Index

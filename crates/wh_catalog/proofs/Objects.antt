@@ -42,7 +42,7 @@ changed_by f g xs id old new some is changed =
     ∙ sym (with_place (map f xs) id (g (f old)) some)
     ∙ ap (λ o. put_at (map f xs) id (option_map g o)) (sym (at_id-map f xs id ∙ ap (option_map f) is))
 
-maps : {A B C : Type 0} (g : B → C) (f : A → B) (xs : List A) → map g (map f xs) ≡ map (λ x. g (f x)) xs
+pub maps : {A B C : Type 0} (g : B → C) (f : A → B) (xs : List A) → map g (map f xs) ≡ map (λ x. g (f x)) xs
 maps g f [] = refl
 maps g f (x ∷ xs) = ap (λ l. g (f x) ∷ l) (maps g f xs)
 

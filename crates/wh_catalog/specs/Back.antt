@@ -1,10 +1,11 @@
 -- Objects as they were: tables without their last version, and dropped objects that live again.
-use Rattle.std.specs.Prelude.{ℕ, true, List, nat_lt, if◌then◌else◌}
+use Rattle.std.specs.Prelude.{ℕ, true, ◌&&◌, List, map, nat_lt, if◌then◌else◌}
 use Rattle.wh_value.specs.Limit.{bound}
 use Rattle.wh_value.specs.declared.limit.Limit.TheVariants as limits
 use Rattle.wh_machine.specs.State.{changed_at, live_count}
 use Rattle.wh_table.specs.Kept.{taken_back}
 use Rattle.wh_catalog.specs.Kept.{KeptKind, KeptTableKind, KeptObject}
+use Rattle.wh_catalog.specs.Names.{is_last}
 
 -- a table without its last version; the next row is that of before
 abbrev pub kind_taken_back : ℕ → KeptKind → KeptKind
@@ -17,6 +18,8 @@ object_taken_back next_row o = record o { kind = kind_taken_back next_row o.kind
 abbrev pub alive : KeptObject → KeptObject
 alive o = record o { is_live = true }
 
--- the object of an id lives again, if there is room for it among those that live
+-- the object of an id lives again, if there is room for it among those that live, and it is the last one of its name
 abbrev pub lives_again : ℕ → List KeptObject → List KeptObject
-lives_again id objects = if nat_lt (live_count objects) (bound limits.Objects) then changed_at objects id alive else objects
+lives_again id objects =
+    if nat_lt (live_count objects) (bound limits.Objects) && is_last id (map (λ o. o.name) objects)
+    then changed_at objects id alive else objects

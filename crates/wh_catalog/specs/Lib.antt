@@ -1,6 +1,7 @@
 pub mod Conditions
 pub mod Kept
 pub mod Object
+pub mod Names
 pub mod Catalog
 pub mod Back
 pub mod Undo

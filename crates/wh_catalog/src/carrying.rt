@@ -1,4 +1,5 @@
 use crate::dropping::{drop_object, revive};
+use crate::naming::{change_id, give_id, last_id};
 use crate::undo::{Pushed, Step};
 use crate::{Catalog, StageFault, StoredObject};
 use wh_record::{Change, TableChange, VersionChange};
@@ -8,6 +9,7 @@ impl Catalog {
     ghost use Rattle.std.specs.Prelude.{◌≡◌, OnOk, OnErr, IfOk, IsErrOf};
     ghost use Rattle.wh_machine.specs.Commit.{ChangeApplies, TableApplies, changed, CreatesTable};
     ghost use Rattle.wh_record.specs.View.{change_of, table_change_of};
+    ghost use Rattle.wh_version.specs.Lists.{but_last};
     ghost use Rattle.wh_catalog.specs.Catalog.{objects_of, kept_of};
     ghost use Rattle.wh_catalog.specs.Undo.{step_undone};
 
@@ -44,7 +46,15 @@ impl Catalog {
         if !self.table_applies(&change) {
             return Err(StageFault::NotApplicable);
         }
-        match self.objects.reserve(1) {
+        if self.objects.reserve(1).is_err() {
+            return Err(StageFault::OutOfMemory);
+        }
+        match give_id(
+            &mut self.names,
+            self.alloc,
+            change.name.as_bytes(),
+            change.id,
+        ) {
             Ok(()) => {
                 let object = StoredObject::table_of_change(self.alloc, change, stamp);
                 self.objects.push_reserved(object);
@@ -61,17 +71,27 @@ impl Catalog {
         ensures committed { self.new.committed ≡ self.old.committed }
     {
         match step {
-            Step::MadeObject => {
-                let count = self.objects.len();
-                self.objects.truncate(count.saturating_sub(1));
-            }
+            Step::MadeObject => self.take_object_back(),
             Step::DroppedObject(id) => {
-                // Whatever the undo is of, no more objects than the limit live.
-                if self.live_count() < Limit::Objects.bound() {
+                // Whatever the undo is of, no more objects than the limit live, one of each name.
+                if self.live_count() < Limit::Objects.bound() && self.is_last(id) {
                     revive(&mut self.objects, id);
                 }
             }
             Step::PushedVersion(pushed) => take_version_back(&mut self.objects, pushed),
+        }
+    }
+
+    // The last object goes. Its name has the id again of the last one before it that was made under it.
+    fn take_object_back(&mut self)
+        ensures back { kept_of self.new ≡ but_last (kept_of self.old) }
+        ensures last { self.new.last ≡ self.old.last }
+        ensures committed { self.new.committed ≡ self.old.committed }
+    {
+        if let Some(object) = self.objects.pop() {
+            let name = object.name.as_bytes();
+            let id = last_id(&self.objects, name);
+            change_id(&mut self.names, name, id);
         }
     }
 }
@@ -82,6 +102,7 @@ ghost use Rattle.wh_machine.specs.Commit.{FitsObject, pushed_object};
 ghost use Rattle.wh_record.specs.View.{version_change_of};
 ghost use Rattle.wh_catalog.specs.Kept.{object_in};
 ghost use Rattle.wh_catalog.specs.Object.{kept_object};
+ghost use Rattle.wh_catalog.specs.Names.{KeepsNames};
 ghost use Rattle.wh_catalog.specs.Back.{object_taken_back};
 ghost use Rattle.wh_catalog.specs.Undo.{step_undone};
 
@@ -107,6 +128,7 @@ fn push_version(
     ensures count { length objects.new.items ≡ length objects.old.items }
     ensures live { count_by (λ o. o.is_live) objects.new.items
         ≡ count_by (λ o. o.is_live) objects.old.items }
+    ensures names { KeepsNames objects.old.items objects.new.items }
 {
     let id = change.id;
     let place = id as usize;
@@ -126,6 +148,7 @@ fn take_version_back(objects: &mut Vec<StoredObject>, pushed: Pushed)
     ensures count { length objects.new.items ≡ length objects.old.items }
     ensures live { count_by (λ o. o.is_live) objects.new.items
         ≡ count_by (λ o. o.is_live) objects.old.items }
+    ensures names { KeepsNames objects.old.items objects.new.items }
 {
     let place = pushed.id as usize;
     if place == 0 || objects.len() < place {

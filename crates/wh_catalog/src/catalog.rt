@@ -1,36 +1,42 @@
-ghost use Rattle.std.specs.Prelude.{◌≤◌, ◌<◌, length, count_by};
+ghost use Rattle.std.specs.Prelude.{◌≡◌, ◌≤◌, ◌<◌, ℕ, List, length, count_by};
 ghost use Rattle.wh_value.specs.Limit.{bound};
 ghost use Rattle.wh_value.specs.declared.limit.Limit.TheVariants as limits;
+ghost use Rattle.wh_catalog.specs.Names.{names_of, last_id, AreLast, AreLast-prop, id_at};
 
 use crate::StoredObject;
+use indexmap::IndexMap;
 use std::alloc::Global;
 use wh_table::StoredTable;
 
 /// The objects in order of creation, the greatest stamp so far, and that of the last commit.
+/// Each name has the id of the last object that was made under it, whether that one lives or not.
 #[derive(Debug, Drop)]
 pub struct Catalog {
     pub(crate) alloc: Global,
     pub(crate) last: u64,
     pub(crate) committed: u64,
     pub(crate) objects: Vec<StoredObject>,
+    pub(crate) names: IndexMap<Vec<u8>, u32>,
     ghost stamps: { last < bound limits.Stamp },
     ghost order: { committed ≤ last },
     ghost ids: { length objects.items ≤ bound limits.ObjectIds },
     ghost live: { count_by (λ o. o.is_live) objects.items ≤ bound limits.Objects },
+    ghost named: { (name : List ℕ) → id_at names name ≡ last_id name (names_of objects.items) },
+    ghost unique: { AreLast objects.items } by { AreLast-prop objects.items },
 }
 
 impl Catalog {
-    ghost use Rattle.std.specs.Prelude.{◌≡◌, ◌<◌, ◌≤◌, length, map, option_map, IfSome};
-    ghost use Rattle.std.specs.List.{position};
+    ghost use Rattle.std.specs.Prelude.{◌≡◌, ◌<◌, ◌≤◌, length, map, option_map};
     ghost use Rattle.wh_value.specs.Limit.{bound};
     ghost use Rattle.wh_value.specs.declared.limit.Limit.TheVariants as limits;
-    ghost use Rattle.wh_machine.specs.State.{first_state, id_of, is_named, live_count};
+    ghost use Rattle.wh_machine.specs.State.{first_state, id_of, live_count};
     ghost use Rattle.wh_machine.specs.Stored.{first_stored};
     ghost use Rattle.wh_machine.specs.Orderly.{IsOrderlyStored};
     ghost use Rattle.wh_catalog.specs.Kept.{object_in};
     ghost use Rattle.wh_table.specs.Table.{table_of};
     ghost use Rattle.wh_catalog.specs.Object.{kept_object};
-    ghost use Rattle.wh_catalog.specs.Catalog.{objects_of, stored_of, state_of, stored_table_at};
+    ghost use Rattle.wh_catalog.specs.Names.{names_of, is_last};
+    ghost use Rattle.wh_catalog.specs.Catalog.{stored_of, state_of, stored_table_at};
 
     /// No object, and no stamp. Takes no memory.
     pub fn new(alloc: Global) -> Catalog
@@ -42,6 +48,7 @@ impl Catalog {
             last: 0,
             committed: 0,
             objects: Vec::new(alloc),
+            names: IndexMap::new(alloc),
         }
     }
 
@@ -69,17 +76,25 @@ impl Catalog {
     pub fn find(&self, name: &[u8]) -> Option<u32>
         ensures { result ≡ id_of name.now (stored_of self.now).objects }
     {
-        match self.place_of(name) {
-            Some(place) => Some(place as u32 + 1),
-            None => None,
-        }
+        // Of the objects of a name only the last one can live.
+        let id = *self.names.get(name)?;
+        let object = &self.objects[id as usize - 1];
+        object.is_live.then_some(id)
     }
 
-    fn place_of(&self, name: &[u8]) -> Option<usize>
-        ensures place { result ≡ position (is_named name.now) (objects_of self.now) }
-        ensures within { IfSome result (λ place. place < length self.now.objects.items) }
+    /// Whether the object of an id is the last one of its name.
+    pub(crate) fn is_last(&self, id: u32) -> bool
+        ensures { result ≡ is_last id (names_of self.now.objects.items) }
     {
-        self.objects.iter().position(|object| object.has_name(name))
+        let place = id as usize;
+        if place == 0 || self.objects.len() < place {
+            return false;
+        }
+        let object = &self.objects[place - 1];
+        match self.names.get(object.name.as_bytes()) {
+            Some(last) => *last == id,
+            None => false,
+        }
     }
 
     /// The objects, each at the place before its id.

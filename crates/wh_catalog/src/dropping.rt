@@ -1,11 +1,12 @@
 //! Objects that are dropped, and that live again.
-ghost use Rattle.std.specs.Prelude.{◌≡◌, ◌≤◌, ◌+◌, map, length, count_by, OnOk, OnErr, IfOk, IsErrOf};
+ghost use Rattle.std.specs.Prelude.{◌≡◌, ◌≤◌, ◌+◌, true, map, length, count_by, OnOk, OnErr, IfOk, IsErrOf};
 ghost use Rattle.wh_value.specs.Limit.{bound};
 ghost use Rattle.wh_value.specs.declared.limit.Limit.TheVariants as limits;
 ghost use Rattle.wh_machine.specs.State.{at_id, changed_at, dropped};
 ghost use Rattle.wh_machine.specs.Commit.{IsLiveObject};
 ghost use Rattle.wh_catalog.specs.Kept.{object_in};
 ghost use Rattle.wh_catalog.specs.Object.{kept_object};
+ghost use Rattle.wh_catalog.specs.Names.{names_of, is_last, AreLast, KeepsNames};
 ghost use Rattle.wh_catalog.specs.Back.{alive};
 ghost use Rattle.wh_catalog.specs.Undo.{step_undone};
 
@@ -14,7 +15,8 @@ use crate::{StageFault, StoredObject};
 
 /// Drops the object of an id, if it lives.
 pub(crate) fn drop_object(objects: &mut Vec<StoredObject>, id: u32) -> Result<Step, StageFault>
-    requires { count_by (λ o. o.is_live) objects.old.items ≤ bound limits.Objects }
+    requires live { count_by (λ o. o.is_live) objects.old.items ≤ bound limits.Objects }
+    requires last { AreLast objects.old.items }
     ensures applies { OnOk result (IsLiveObject
         (at_id (map object_in (map kept_object objects.old.items)) id)) }
     ensures changed { OnOk result (map object_in (map kept_object objects.new.items)
@@ -28,6 +30,7 @@ pub(crate) fn drop_object(objects: &mut Vec<StoredObject>, id: u32) -> Result<St
     ensures count { length objects.new.items ≡ length objects.old.items }
     ensures live { count_by (λ o. o.is_live) objects.new.items
         ≤ count_by (λ o. o.is_live) objects.old.items }
+    ensures names { KeepsNames objects.old.items objects.new.items }
 {
     let place = id as usize;
     if place == 0 || objects.len() < place {
@@ -41,13 +44,15 @@ pub(crate) fn drop_object(objects: &mut Vec<StoredObject>, id: u32) -> Result<St
     Ok(Step::DroppedObject(id))
 }
 
-/// The object of an id lives again.
+/// The object of an id, the last one of its name, lives again.
 pub(crate) fn revive(objects: &mut Vec<StoredObject>, id: u32)
+    requires { is_last id (names_of objects.old.items) ≡ true }
     ensures back { map kept_object objects.new.items
         ≡ changed_at (map kept_object objects.old.items) id alive }
     ensures count { length objects.new.items ≡ length objects.old.items }
     ensures live { count_by (λ o. o.is_live) objects.new.items
         ≤ count_by (λ o. o.is_live) objects.old.items + 1 }
+    ensures names { KeepsNames objects.old.items objects.new.items }
 {
     let place = id as usize;
     if place == 0 || objects.len() < place {

@@ -5,6 +5,7 @@ mod carrying;
 mod catalog;
 mod creating;
 mod dropping;
+mod naming;
 mod object;
 mod pushing;
 mod stage;

@@ -18,8 +18,7 @@ pub enum StoredKind {
 
 impl StoredObject {
     ghost use Rattle.std.specs.Prelude.{◌≡◌};
-    ghost use Rattle.wh_machine.specs.State.{is_named};
-    ghost use Rattle.wh_catalog.specs.Kept.{object_in, KeptTableKind};
+    ghost use Rattle.wh_catalog.specs.Kept.{KeptTableKind};
     ghost use Rattle.wh_table.specs.Table.{kept_table};
     ghost use Rattle.wh_catalog.specs.Object.{kept_kind, kept_object};
 
@@ -40,13 +39,6 @@ impl StoredObject {
         ensures { kept_kind result.now ≡ (kept_object self.now).kind }
     {
         &self.kind
-    }
-
-    /// Whether it lives under that name.
-    pub(crate) fn has_name(&self, name: &[u8]) -> bool
-        ensures { result ≡ is_named name.now (object_in (kept_object self.now)) }
-    {
-        self.is_live && self.name.as_bytes() == name
     }
 
     pub(crate) fn table(&self) -> &StoredTable

@@ -25,6 +25,7 @@ impl StoredObject {
             → FitsObject (Some (object_in (kept_object self.old))) (version_change_of change) → ⊥ }
         ensures same { OnErr result (kept_object self.new ≡ kept_object self.old) }
         ensures live { self.new.is_live ≡ self.old.is_live }
+        ensures name { self.new.name ≡ self.old.name }
     {
         if !self.is_live {
             return Err(StageFault::NotApplicable);
@@ -43,6 +44,7 @@ impl StoredObject {
         requires { next_row ≤ bound limits.RowNumber }
         ensures back { kept_object self.new ≡ object_taken_back next_row (kept_object self.old) }
         ensures live { self.new.is_live ≡ self.old.is_live }
+        ensures name { self.new.name ≡ self.old.name }
     {
         match &mut self.kind {
             StoredKind::Table(table) => table.take_back(next_row),

@@ -261,6 +261,35 @@ fn a_dropped_table_gives_its_name_away_and_lives_again(rt: HostRuntime) -> Resul
 }
 
 #[test]
+fn a_name_is_found_while_its_last_object_lives(rt: HostRuntime) -> Result<(), Fail> {
+    let alloc = rt.alloc();
+    let mut catalog = one_table(alloc)?;
+    let gone = drop_of(alloc, 13, 1)?;
+    let dropping = carry_out(&mut catalog, gone)?;
+    assert_eq!(rt; catalog.find(b"t"), None, "dropped");
+    let other = creation(alloc, 14, 2, b"t", 1, 1, ColumnType::Number)?;
+    let making = carry_out(&mut catalog, other)?;
+    assert_eq!(rt; catalog.find(b"t"), Some(2), "made again");
+    catalog.undo(making);
+    assert_eq!(rt; catalog.find(b"t"), None, "still dropped");
+    catalog.undo(dropping);
+    assert_eq!(rt; catalog.find(b"t"), Some(1), "alive again");
+    let new = creation(alloc, 13, 2, b"u", 1, 1, ColumnType::Number)?;
+    let adding = carry_out(&mut catalog, new)?;
+    assert_eq!(rt; catalog.find(b"u"), Some(2), "a new name");
+    catalog.undo(adding);
+    assert_eq!(rt; catalog.find(b"u"), None, "never made");
+    // OR REPLACE: the drop and the creation are one commit.
+    let gone = drop_of(alloc, 13, 1)?;
+    let other = creation(alloc, 13, 2, b"t", 1, 1, ColumnType::Number)?;
+    let replacing = carry_out(&mut catalog, both(gone, other)?)?;
+    assert_eq!(rt; catalog.find(b"t"), Some(2), "replaced");
+    catalog.undo(replacing);
+    assert_eq!(rt; catalog.find(b"t"), Some(1), "the first again");
+    Ok(())
+}
+
+#[test]
 fn tables_that_do_not_apply_are_refused(rt: HostRuntime) -> Result<(), Fail> {
     let alloc = rt.alloc();
     let mut catalog = one_table(alloc)?;

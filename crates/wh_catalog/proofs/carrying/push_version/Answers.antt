@@ -11,6 +11,7 @@ use Rattle.wh_catalog.specs.Back.{object_taken_back}
 use Rattle.wh_catalog.specs.Kept.{object_in}
 use Rattle.wh_catalog.specs.Object.{kept_object}
 use Rattle.wh_catalog.proofs.Places.{at_place, map_set_same}
+use Rattle.wh_catalog.proofs.Names.{keeps_life}
 use Rattle.wh_catalog.proofs.Objects.{changed_twice, changed_back, at_objects}
 use Rattle.wh_catalog.proofs.carrying.push_version.Goals as goal
 
@@ -67,3 +68,15 @@ returns-in-Err-clause-same c =
     let old = c.index_mut-object.result.now in
     let sized = objects.ok.0 in
     map_set_same kept_object objects.items (id - 1) old c.push.new.self (omega (arith, c.len.ensures)) c.index_mut-object.ensures.value c.in-Err.ensures.same
+
+pub returns-in-Ok-clause-names : goal.returns-in-Ok-clause-names
+returns-in-Ok-clause-names c =
+    let objects = c.args.objects.now in
+    let sized = objects.ok.0 in
+    keeps_life objects.items (c.args.change.id - 1) c.index_mut-object.result.now c.push.new.self (omega (arith, c.len.ensures)) c.index_mut-object.ensures.value c.push.ensures.name c.push.ensures.live
+
+pub returns-in-Err-clause-names : goal.returns-in-Err-clause-names
+returns-in-Err-clause-names c =
+    let objects = c.args.objects.now in
+    let sized = objects.ok.0 in
+    keeps_life objects.items (c.args.change.id - 1) c.index_mut-object.result.now c.push.new.self (omega (arith, c.len.ensures)) c.index_mut-object.ensures.value c.push.ensures.name c.push.ensures.live

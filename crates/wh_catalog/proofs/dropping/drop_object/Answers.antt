@@ -1,4 +1,4 @@
-use Rattle.std.proofs.Common.{◌≡◌, true, false, refl, ◌<◌, ◌∙◌, ap, sym, subst, Some, option_map, arith}
+use Rattle.std.proofs.Common.{◌≡◌, true, false, refl, ◌<◌, ◌-◌, ◌∙◌, ap, sym, subst, Some, option_map, arith}
 use Rattle.wh_machine.specs.State.{at_id, dropped}
 use Rattle.wh_machine.specs.Commit.{IsLiveObject}
 use Rattle.wh_catalog.specs.Kept.{object_in}
@@ -6,6 +6,7 @@ use Rattle.wh_catalog.specs.Object.{kept_object}
 use Rattle.wh_catalog.proofs.Places.{at_place}
 use Rattle.std.proofs.lemmas.Bool.{false≢true}
 use Rattle.wh_catalog.proofs.Dropped.{revived}
+use Rattle.wh_catalog.proofs.Names.{keeps_names}
 use Rattle.wh_catalog.proofs.Objects.{changed_twice, at_objects}
 use Rattle.wh_catalog.proofs.dropping.drop_object.Goals as goal
 
@@ -49,4 +50,12 @@ returns-clause-back c =
     let old = c.index_mut-object.result.now in
     let sized = objects.ok.0 in
     let some : 0 < id = omega arith in
-    revived objects.items id old some (omega (arith, c.len.ensures)) c.index_mut-object.ensures.value c.if-not-object.false c.requires
+    revived objects.items id old some (omega (arith, c.len.ensures)) c.index_mut-object.ensures.value c.if-not-object.false c.requires.live c.requires.last
+
+pub returns-clause-names : goal.returns-clause-names
+returns-clause-names c =
+    let objects = c.args.objects.now in
+    let id = c.args.id in
+    let old = c.index_mut-object.result.now in
+    let sized = objects.ok.0 in
+    keeps_names objects.items (id - 1) old (record old { is_live = false }) (omega (arith, c.len.ensures)) c.index_mut-object.ensures.value refl (λ last live. absurd (false≢true live))
