@@ -1,10 +1,8 @@
-use crate::commands::{LIMIT, ONE_TABLE, lines, opened};
-use std::test::Fail;
+use crate::answering::{ONE_TABLE, assert_answered, spliced};
 
 #[test]
-fn rows_are_changed_by_statements(rt: HostRuntime) -> Result<(), Fail> {
-    let alloc = rt.alloc();
-    let commands = [
+fn rows_are_changed_by_statements(rt: HostRuntime) {
+    const CASES: &[(&str, &str)] = &[
         ("CREATE TABLE T(K NUMBER, V NUMBER)", "CREATED TABLE T\n"),
         ("CREATE TABLE U(K NUMBER, V NUMBER)", "CREATED TABLE U\n"),
         ("INSERT INTO T (V, K) VALUES (5 + 5, 1)", "INSERTED 1\n"),
@@ -35,53 +33,34 @@ fn rows_are_changed_by_statements(rt: HostRuntime) -> Result<(), Fail> {
         ("DROP TABLE T", "E6 UnknownName T\n"),
         ("CREATE TABLE T(K NUMBER)", "CREATED TABLE T\n"),
     ];
-    let mut warehouse = opened(&rt, alloc, b"", LIMIT, &[])?.ok_or("a new file opens")?;
-    for (text, wanted) in commands {
-        let found = lines(&rt, alloc, &mut warehouse, 1, text.as_bytes())?;
-        assert_eq!(rt; found.as_slice(), wanted.as_bytes(), "{text}");
-    }
-    let disk = warehouse.close();
-    let mut again = opened(&rt, alloc, disk.bytes(), LIMIT, &[])?.ok_or("it opens again")?;
-    let found = lines(&rt, alloc, &mut again, 1, b"SELECT U.V FROM U")?;
-    assert_eq!(rt; found.as_slice(), b"V\n11\n12\n30\n(3 rows)\n".as_slice());
-    Ok(())
+    const AGAIN: &[(&str, &str)] = &[("SELECT U.V FROM U", "V\n11\n12\n30\n(3 rows)\n")];
+    let disk = assert_answered(&rt, rt.alloc(), b"", CASES);
+    assert_answered(&rt, rt.alloc(), disk.bytes(), AGAIN);
 }
 
+// The records of an INSERT, an UPDATE, a DELETE and a DROP.
+const RECORDS: &[u8] = b"\x01\0\0\0\0\0\0\0\x5b\0\0\0\0\0\0\0\x02\0\0\0\x01\
+    \x0a\0\0\0\x01\0\0\0\0\0\0\0\x02\0\0\0\0\0\0\0\x03\0\0\0\x01\
+    \0\0\0\0\0\0\0\x01\0\0\0\0\0\0\0\x01\0\0\0\x02\
+    \0\0\0\0\0\0\0\x01\x01\0\0\0\0\0\0\0\x01\0\0\0\0\0\0\0\x02\x01\0\0\0\0\0\0\0\x02\
+    \x01\0\0\0\0\0\0\0\x63\0\0\0\0\0\0\0\x03\0\0\0\x01\
+    \x0a\0\0\0\x01\0\0\0\0\0\0\0\x03\0\0\0\0\0\0\0\x03\0\0\0\x01\
+    \0\0\0\x01\0\0\0\0\0\0\0\x01\0\0\0\x01\0\0\0\0\0\0\0\x02\0\0\0\x02\
+    \0\0\0\0\0\0\0\x01\x01\0\0\0\0\0\0\0\x05\0\0\0\0\0\0\0\x02\x01\0\0\0\0\0\0\0\x02\
+    \x01\0\0\0\0\0\0\0\x35\0\0\0\0\0\0\0\x04\0\0\0\x01\
+    \x0a\0\0\0\x01\0\0\0\0\0\0\0\x04\0\0\0\0\0\0\0\x03\0\0\0\x01\
+    \0\0\0\x01\0\0\0\0\0\0\0\x02\0\0\0\0\
+    \x01\0\0\0\0\0\0\0\x11\0\0\0\0\0\0\0\x05\0\0\0\x01\x02\0\0\0\x01\0";
+
 #[test]
-fn an_update_and_a_delete_are_written_so(rt: HostRuntime) -> Result<(), Fail> {
-    let alloc = rt.alloc();
-    let inserted = b"\x01\0\0\0\0\0\0\0\x5b\0\0\0\0\0\0\0\x02\0\0\0\x01\
-        \x0a\0\0\0\x01\0\0\0\0\0\0\0\x02\0\0\0\0\0\0\0\x03\0\0\0\x01\
-        \0\0\0\0\0\0\0\x01\0\0\0\0\0\0\0\x01\0\0\0\x02\
-        \0\0\0\0\0\0\0\x01\x01\0\0\0\0\0\0\0\x01\0\0\0\0\0\0\0\x02\x01\0\0\0\0\0\0\0\x02";
-    let updated = b"\x01\0\0\0\0\0\0\0\x63\0\0\0\0\0\0\0\x03\0\0\0\x01\
-        \x0a\0\0\0\x01\0\0\0\0\0\0\0\x03\0\0\0\0\0\0\0\x03\0\0\0\x01\
-        \0\0\0\x01\0\0\0\0\0\0\0\x01\0\0\0\x01\0\0\0\0\0\0\0\x02\0\0\0\x02\
-        \0\0\0\0\0\0\0\x01\x01\0\0\0\0\0\0\0\x05\0\0\0\0\0\0\0\x02\x01\0\0\0\0\0\0\0\x02";
-    let deleted = b"\x01\0\0\0\0\0\0\0\x35\0\0\0\0\0\0\0\x04\0\0\0\x01\
-        \x0a\0\0\0\x01\0\0\0\0\0\0\0\x04\0\0\0\0\0\0\0\x03\0\0\0\x01\
-        \0\0\0\x01\0\0\0\0\0\0\0\x02\0\0\0\0";
-    let dropped = b"\x01\0\0\0\0\0\0\0\x11\0\0\0\0\0\0\0\x05\0\0\0\x01\x02\0\0\0\x01\0";
-    let parts = [
-        &ONE_TABLE[..49],
-        inserted.as_slice(),
-        updated,
-        deleted,
-        dropped,
-    ];
-    let wanted = parts.concat(alloc)?;
-    let commands = [
+fn an_update_and_a_delete_are_written_so(rt: HostRuntime) {
+    const CASES: &[(&str, &str)] = &[
         ("INSERT INTO T VALUES (1), (2)", "INSERTED 2\n"),
         ("UPDATE T SET K = 5 WHERE K = 1", "UPDATED 1\n"),
         ("DELETE FROM T", "DELETED 2\n"),
         ("DROP TABLE T", "DROPPED TABLE T\n"),
     ];
-    let mut warehouse = opened(&rt, alloc, &ONE_TABLE, LIMIT, &[])?.ok_or("the file opens")?;
-    for (text, reply) in commands {
-        let found = lines(&rt, alloc, &mut warehouse, 1, text.as_bytes())?;
-        assert_eq!(rt; found.as_slice(), reply.as_bytes(), "{text}");
-    }
-    let disk = warehouse.close();
+    let wanted = spliced(&rt, rt.alloc(), 49, RECORDS, 50);
+    let disk = assert_answered(&rt, rt.alloc(), &ONE_TABLE, CASES);
     assert_eq!(rt; disk.bytes(), wanted.as_slice());
-    Ok(())
 }

@@ -1,42 +1,36 @@
 //! The limits that count what is there already.
 
-use crate::commands::{LIMIT, ONE_TABLE, lines, opened};
+use crate::answering::{
+    LIMIT, ONE_TABLE, assert_answered, assert_replies, disk_of, lines, opened, spliced,
+};
 use std::alloc::Global;
 use std::process::Abort;
-use std::test::Fail;
 use std::thread::Threads;
 use wh_engine::Warehouse;
 use wh_world::MemDisk;
 
-/// Carries out the command of each case, `(text, lines)`.
-fn assert_answered(
+fn create(
     rt: &(impl Abort + Threads + Sync),
     alloc: Global,
     warehouse: &mut Warehouse<MemDisk>,
-    cases: &[(&str, &str)],
-) -> Result<(), Fail> {
-    for (text, wanted) in cases {
-        let found = lines(rt, alloc, warehouse, 1, text.as_bytes())?;
-        assert_eq!(rt; found.as_slice(), wanted.as_bytes(), "{text}");
-    }
-    Ok(())
+    number: u32,
+) {
+    let text = format!(in alloc; "CREATE TABLE A{number}(K NUMBER)").expect(rt, "memory");
+    lines(rt, alloc, warehouse, 1, text.as_bytes());
 }
 
 /// A warehouse of the live tables A0 to A999.
-fn of_1000_tables(rt: &(impl Threads + Sync), alloc: Global) -> Result<Warehouse<MemDisk>, Fail> {
-    let disk = MemDisk::new(alloc, Vec::new(alloc), 1 << 17, 5000, Vec::new(alloc))?;
-    let mut warehouse = Warehouse::open(rt, alloc, disk, 1, LIMIT)
-        .ok()
-        .ok_or("a new file opens")?;
+fn of_1000_tables(rt: &(impl Abort + Threads + Sync), alloc: Global) -> Warehouse<MemDisk> {
+    let disk = disk_of(rt, alloc, b"", 1 << 17, 5000, &[]);
+    let mut warehouse = opened(rt, alloc, disk, LIMIT).expect(rt, "a new file opens");
     for number in 0..1000u32 {
-        let text = format!(in alloc; "CREATE TABLE A{number}(K NUMBER)")?;
-        let _created = lines(rt, alloc, &mut warehouse, 1, text.as_bytes())?;
+        create(rt, alloc, &mut warehouse, number);
     }
-    Ok(warehouse)
+    warehouse
 }
 
 #[test]
-fn a_thousand_tables_live_at_once_and_no_more(rt: HostRuntime) -> Result<(), Fail> {
+fn a_thousand_tables_live_at_once_and_no_more(rt: HostRuntime) {
     const CASES: &[(&str, &str)] = &[
         ("CREATE TABLE B(K NUMBER)", "E13 Limit OBJECTS 1000\n"),
         (
@@ -58,13 +52,17 @@ fn a_thousand_tables_live_at_once_and_no_more(rt: HostRuntime) -> Result<(), Fai
         ("SELECT * FROM A999", "K\n0\n(1 rows)\n"),
     ];
     let alloc = rt.alloc();
-    let mut warehouse = of_1000_tables(&rt, alloc)?;
-    assert_answered(&rt, alloc, &mut warehouse, CASES)
+    let mut warehouse = of_1000_tables(&rt, alloc);
+    assert_replies(&rt, alloc, &mut warehouse, CASES);
 }
 
-// The file says that T's next row has the last number but one.
+// A record by which T's next row has the last number but one, and the gate behind it.
+const NUMBERS_USED: &[u8] = b"\x01\0\0\0\0\0\0\0\x2d\0\0\0\0\0\0\0\x02\0\0\0\x01\
+    \x0a\0\0\0\x01\0\0\0\0\0\0\0\x02\x3f\xff\xff\xff\xff\xff\xff\xff\0\0\0\x01\
+    \0\0\0\0\0\0\0\0\0";
+
 #[test]
-fn a_row_without_a_number_is_refused(rt: HostRuntime) -> Result<(), Fail> {
+fn a_row_without_a_number_is_refused(rt: HostRuntime) {
     const CASES: &[(&str, &str)] = &[
         (
             "INSERT INTO T VALUES (1), (2)",
@@ -88,12 +86,6 @@ fn a_row_without_a_number_is_refused(rt: HostRuntime) -> Result<(), Fail> {
             "E13 Limit ROW_NUMBER 4611686018427387904\n",
         ),
     ];
-    let alloc = rt.alloc();
-    let nothing = b"\x01\0\0\0\0\0\0\0\x2d\0\0\0\0\0\0\0\x02\0\0\0\x01\
-        \x0a\0\0\0\x01\0\0\0\0\0\0\0\x02\x3f\xff\xff\xff\xff\xff\xff\xff\0\0\0\x01\
-        \0\0\0\0\0\0\0\0\0";
-    let parts = [&ONE_TABLE[..49], nothing.as_slice()];
-    let file = parts.concat(alloc)?;
-    let mut warehouse = opened(&rt, alloc, &file, LIMIT, &[])?.ok_or("the file opens")?;
-    assert_answered(&rt, alloc, &mut warehouse, CASES)
+    let file = spliced(&rt, rt.alloc(), 49, NUMBERS_USED, 50);
+    assert_answered(&rt, rt.alloc(), &file, CASES);
 }

@@ -1,11 +1,13 @@
-use crate::commands::{LIMIT, ONE_TABLE, lines, opened};
+use crate::answering::{ONE_TABLE, assert_answered, assert_replies, lines, warehouse_of};
 use std::alloc::Global;
-use std::test::Fail;
+use std::process::Abort;
+use std::thread::Threads;
+use wh_engine::Warehouse;
+use wh_world::MemDisk;
 
 #[test]
-fn queries_are_answered_by_their_rows(rt: HostRuntime) -> Result<(), Fail> {
-    let alloc = rt.alloc();
-    let commands = [
+fn queries_are_answered_by_their_rows(rt: HostRuntime) {
+    const CASES: &[(&str, &str)] = &[
         ("CREATE TABLE T(K NUMBER, V VARCHAR)", "CREATED TABLE T\n"),
         (
             "INSERT INTO T VALUES (2, 'b'), (1, NULL), (2, 'a'), (NULL, 'b')",
@@ -30,18 +32,12 @@ fn queries_are_answered_by_their_rows(rt: HostRuntime) -> Result<(), Fail> {
             "K\n1\n2\n2\n2\n2\n3\nNULL\n(7 rows)\n",
         ),
     ];
-    let mut warehouse = opened(&rt, alloc, b"", LIMIT, &[])?.ok_or("a new file opens")?;
-    for (text, wanted) in commands {
-        let found = lines(&rt, alloc, &mut warehouse, 1, text.as_bytes())?;
-        assert_eq!(rt; found.as_slice(), wanted.as_bytes(), "{text}");
-    }
-    Ok(())
+    assert_answered(&rt, rt.alloc(), b"", CASES);
 }
 
 #[test]
-fn queries_are_refused_by_the_first_failing_test(rt: HostRuntime) -> Result<(), Fail> {
-    let alloc = rt.alloc();
-    let commands = [
+fn queries_are_refused_by_the_first_failing_test(rt: HostRuntime) {
+    const CASES: &[(&str, &str)] = &[
         ("CREATE TABLE T(K NUMBER, V VARCHAR)", "CREATED TABLE T\n"),
         (
             "INSERT INTO T VALUES (999999999999999999, 'a')",
@@ -55,38 +51,38 @@ fn queries_are_refused_by_the_first_failing_test(rt: HostRuntime) -> Result<(), 
         ("SELECT K + 1 FROM T", "E19 NumberOutOfRange\n"),
         ("SELECT K + 1 FROM T WHERE K = 0", "COL1\n(0 rows)\n"),
     ];
-    let mut warehouse = opened(&rt, alloc, b"", LIMIT, &[])?.ok_or("a new file opens")?;
-    for (text, wanted) in commands {
-        let found = lines(&rt, alloc, &mut warehouse, 1, text.as_bytes())?;
-        assert_eq!(rt; found.as_slice(), wanted.as_bytes(), "{text}");
-    }
-    Ok(())
+    assert_answered(&rt, rt.alloc(), b"", CASES);
 }
 
 // `SELECT K + 1, .. FROM T` with so many items.
-fn many_items(alloc: Global, count: usize) -> Result<Vec<u8>, Fail> {
-    let mut text = b"SELECT K + 1".to_vec(alloc)?;
+fn many_items(rt: &impl Abort, alloc: Global, count: usize) -> Vec<u8> {
+    let mut text = b"SELECT K + 1".to_vec(alloc).expect(rt, "memory");
     for _ in 1..count {
-        text.extend_from_slice(b", K")?;
+        text.extend_from_slice(b", K").expect(rt, "memory");
     }
-    text.extend_from_slice(b" FROM T")?;
-    Ok(text)
+    text.extend_from_slice(b" FROM T").expect(rt, "memory");
+    text
+}
+
+// Selects so many items, and finds these lines.
+fn assert_items(
+    rt: &(impl Abort + Threads + Sync),
+    alloc: Global,
+    warehouse: &mut Warehouse<MemDisk>,
+    count: usize,
+    wanted: &str,
+) {
+    let text = many_items(rt, alloc, count);
+    let found = lines(rt, alloc, warehouse, 1, &text);
+    assert_eq!(rt; found.as_slice(), wanted.as_bytes(), "{count} items");
 }
 
 #[test]
-fn an_output_has_256_columns_at_most(rt: HostRuntime) -> Result<(), Fail> {
+fn an_output_has_256_columns_at_most(rt: HostRuntime) {
+    const ROW: &[(&str, &str)] = &[("INSERT INTO T VALUES (999999999999999999)", "INSERTED 1\n")];
     let alloc = rt.alloc();
-    let mut warehouse = opened(&rt, alloc, &ONE_TABLE, LIMIT, &[])?.ok_or("the file opens")?;
-    lines(
-        &rt,
-        alloc,
-        &mut warehouse,
-        1,
-        b"INSERT INTO T VALUES (999999999999999999)",
-    )?;
-    let most = lines(&rt, alloc, &mut warehouse, 1, &many_items(alloc, 256)?)?;
-    assert_eq!(rt; most.as_slice(), b"E19 NumberOutOfRange\n".as_slice());
-    let more = lines(&rt, alloc, &mut warehouse, 1, &many_items(alloc, 257)?)?;
-    assert_eq!(rt; more.as_slice(), b"E13 Limit OUTPUT 256\n".as_slice());
-    Ok(())
+    let mut warehouse = warehouse_of(&rt, alloc, &ONE_TABLE);
+    assert_replies(&rt, alloc, &mut warehouse, ROW);
+    assert_items(&rt, alloc, &mut warehouse, 256, "E19 NumberOutOfRange\n");
+    assert_items(&rt, alloc, &mut warehouse, 257, "E13 Limit OUTPUT 256\n");
 }
