@@ -12,6 +12,8 @@ mod status;
 #[cfg(test)]
 mod stop_tests;
 #[cfg(test)]
+mod testing;
+#[cfg(test)]
 mod tests;
 mod words;
 mod writing;

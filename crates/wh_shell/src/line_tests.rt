@@ -1,45 +1,53 @@
 //! Scripts as lines, seen through whole runs: quotes and comments, sessions, ticks, and each front
 //! of a script.
 
-use crate::tests::{ONE_TABLE, carried_out};
-use crate::{Fault, Status};
-use std::alloc::{AllocError, Global};
-use std::test::Fail;
+use crate::Status;
+use crate::testing::{ONE_TABLE, carried_out};
+use std::alloc::Global;
+use std::process::Abort;
 use std::thread::Threads;
 
+/// Carries out a script over no file, which writes that text.
+fn assert_written(
+    rt: &(impl Abort + Threads + Sync),
+    alloc: Global,
+    script: &[u8],
+    text: &[u8],
+) -> Status {
+    let done = carried_out(rt, alloc, b"", script);
+    assert_eq!(rt; done.out.held(), text, "of {} bytes", script.len());
+    done.status
+}
+
 /// `SELECT`, so many spaces and `;`.
-fn long_select(alloc: Global, spaces: usize) -> Result<Vec<u8>, AllocError> {
-    let mut text = b"SELECT".to_vec(alloc)?;
-    text.resize(spaces.saturating_add(6), b' ')?;
-    text.push(b';')?;
-    Ok(text)
+fn long_select(rt: &impl Abort, alloc: Global, spaces: usize) -> Vec<u8> {
+    let mut text = b"SELECT".to_vec(alloc).expect(rt, "memory");
+    let length = spaces.saturating_add(6);
+    text.resize(length, b' ').expect(rt, "memory");
+    text.push(b';').expect(rt, "memory");
+    text
 }
 
 #[test]
-fn a_text_that_spells_nothing_is_refused(rt: HostRuntime) -> Result<(), Fail> {
+fn a_text_that_spells_nothing_is_refused(rt: HostRuntime) {
     let alloc = rt.alloc();
-    let mut script = b"SELECT '\xff';".to_vec(alloc)?;
-    script.extend_from_slice(&long_select(alloc, 65531)?)?;
-    script.extend_from_slice(b"\n!session 65\nBEGIN;\n!session 1\nSELECT 'abc")?;
-    let done = carried_out(&rt, alloc, b"", &script)?;
-    assert_eq!(rt;
-        done.out.held(),
-        b"E1 SyntaxError\nE13 Limit STATEMENT 65536\nE2 NoSuchSession 65\nE1 SyntaxError\n".as_slice()
-    );
-    assert_eq!(rt; done.status, Status::Read { refusals: 4 });
-    Ok(())
+    let long = long_select(&rt, alloc, 65531);
+    let rest = b"\n!session 65\nBEGIN;\n!session 1\nSELECT 'abc".as_slice();
+    let pieces = [b"SELECT '\xff';".as_slice(), &long, rest];
+    let script = pieces.concat(alloc).expect(&rt, "memory");
+    let text = b"E1 SyntaxError\nE13 Limit STATEMENT 65536\nE2 NoSuchSession 65\nE1 SyntaxError\n";
+    let status = assert_written(&rt, alloc, &script, text);
+    assert_eq!(rt; status, Status::Read { refusals: 4 });
 }
 
 #[test]
-fn a_text_of_65536_bytes_is_read(rt: HostRuntime) -> Result<(), Fail> {
-    let script = long_select(rt.alloc(), 65530)?;
-    let done = carried_out(&rt, rt.alloc(), b"", &script)?;
-    assert_eq!(rt; done.out.held(), b"E1 SyntaxError\n".as_slice());
-    Ok(())
+fn a_text_of_65536_bytes_is_read(rt: HostRuntime) {
+    let script = long_select(&rt, rt.alloc(), 65530);
+    assert_written(&rt, rt.alloc(), &script, b"E1 SyntaxError\n");
 }
 
 #[test]
-fn quotes_comments_and_ticks_are_answered(rt: HostRuntime) -> Result<(), Fail> {
+fn quotes_comments_and_ticks_are_answered(rt: HostRuntime) {
     let script = b"CREATE TABLE \"a\"(K VARCHAR);
 INSERT INTO \"a\" VALUES ('x''y');
 SELECT * FROM \"a\"; -- end
@@ -54,17 +62,29 @@ K
 E6 UnknownName A
 IDLE
 ";
-    let done = carried_out(&rt, rt.alloc(), b"", script)?;
-    assert_eq!(rt; done.out.held(), text.as_slice());
-    assert_eq!(rt; done.status, Status::Read { refusals: 1 });
-    Ok(())
+    let status = assert_written(&rt, rt.alloc(), script, text);
+    assert_eq!(rt; status, Status::Read { refusals: 1 });
 }
 
-// The stamp of the commit is the last byte of the file's first 24.
+/// The stamp of a script's one commit. But for it the file is that of one table.
+fn assert_stamp(
+    rt: &(impl Abort + Threads + Sync),
+    alloc: Global,
+    name: &str,
+    script: &[u8],
+    stamp: u8,
+) {
+    let done = carried_out(rt, alloc, b"", script);
+    let mut want = ONE_TABLE;
+    // The stamp is the last byte of the file's first 24.
+    want[23] = stamp;
+    assert_eq!(rt; done.disk.bytes(), want.as_slice(), "{name}");
+}
+
 #[test]
-fn a_stamp_is_behind_the_ticks_before_it(rt: HostRuntime) -> Result<(), Fail> {
-    let cases = [
-        ("no tick", b"CREATE TABLE T(K NUMBER);".as_slice(), 1),
+fn a_stamp_is_behind_the_ticks_before_it(rt: HostRuntime) {
+    const CASES: &[(&str, &[u8], u8)] = &[
+        ("no tick", b"CREATE TABLE T(K NUMBER);", 1),
         ("a tick", b"!tick\nCREATE TABLE T(K NUMBER);", 2),
         ("at 5", b"!tick 5\nCREATE TABLE T(K NUMBER);", 6),
         (
@@ -83,18 +103,14 @@ fn a_stamp_is_behind_the_ticks_before_it(rt: HostRuntime) -> Result<(), Fail> {
             7,
         ),
     ];
-    for (name, script, stamp) in cases {
-        let done = carried_out(&rt, rt.alloc(), b"", script)?;
-        let mut want = ONE_TABLE;
-        want[23] = stamp;
-        assert_eq!(rt; done.disk.bytes(), want.as_slice(), "{name}");
+    for (name, script, stamp) in CASES {
+        assert_stamp(&rt, rt.alloc(), name, script, *stamp);
     }
-    Ok(())
 }
 
 /// The pieces of a script, each with its reply. The front of a piece spells nothing, but where it
 /// has no more than its end left out.
-const PIECES: [(&[u8], &[u8]); 10] = [
+const PIECES: &[(&[u8], &[u8])] = &[
     (b"CREATE TABLE T(K NUMBER);", b"CREATED TABLE T\n"),
     (b" -- a ; b\n", b""),
     (b"INSERT INTO T VALUES (12);", b"INSERTED 1\n"),
@@ -115,43 +131,56 @@ fn is_answer(written: &[u8], before: &[u8], reply: &[u8]) -> bool {
     }
 }
 
-/// Whether each front of a piece, behind the pieces before it, is answered so.
-fn fronts_are_answered(
-    rt: &(impl Threads + Sync),
+/// The front of a piece, behind the pieces before it, is answered so.
+fn assert_front(
+    rt: &(impl Abort + Threads + Sync),
     alloc: Global,
     script: &[u8],
-    before: &[u8],
-    piece: (&[u8], &[u8]),
-) -> Result<bool, AllocError> {
-    let (text, reply) = piece;
-    for cut in 0..text.len() {
-        let mut front = script.to_vec(alloc)?;
-        front.extend_from_slice(&text[..cut])?;
-        let done = carried_out(rt, alloc, b"", &front)?;
-        if !is_answer(done.out.held(), before, reply) {
-            return Ok(false);
-        }
+    front: &[u8],
+    replies: (&[u8], &[u8]),
+) {
+    let (before, reply) = replies;
+    let script = [script, front].concat(alloc).expect(rt, "memory");
+    let done = carried_out(rt, alloc, b"", &script);
+    let answered = is_answer(done.out.held(), before, reply);
+    assert!(rt; answered, "of {} bytes", script.len());
+}
+
+/// Each front of a piece is.
+fn assert_fronts(
+    rt: &(impl Abort + Threads + Sync),
+    alloc: Global,
+    script: &[u8],
+    piece: &[u8],
+    replies: (&[u8], &[u8]),
+) {
+    for cut in 0..piece.len() {
+        assert_front(rt, alloc, script, &piece[..cut], replies);
     }
-    Ok(true)
+}
+
+/// A piece and each of its fronts are answered behind the pieces before it.
+fn assert_piece(
+    rt: &(impl Abort + Threads + Sync),
+    alloc: Global,
+    script: &mut Vec<u8>,
+    replies: &mut Vec<u8>,
+    piece: (&[u8], &[u8]),
+) {
+    let (text, reply) = piece;
+    let answers = (replies.as_slice(), reply);
+    assert_fronts(rt, alloc, script.as_slice(), text, answers);
+    script.extend_from_slice(text).expect(rt, "memory");
+    replies.extend_from_slice(reply).expect(rt, "memory");
+    assert_written(rt, alloc, script.as_slice(), replies.as_slice());
 }
 
 #[test]
-fn each_front_of_a_script_has_its_replies(rt: HostRuntime) -> Result<(), Fail> {
+fn each_front_of_a_script_has_its_replies(rt: HostRuntime) {
     let alloc = rt.alloc();
     let mut script = Vec::new(alloc);
     let mut replies = Vec::new(alloc);
-    for (text, reply) in PIECES {
-        let answered = fronts_are_answered(&rt, alloc, &script, &replies, (text, reply))?;
-        assert!(rt; answered, "behind {} bytes", script.len());
-        script.extend_from_slice(text)?;
-        replies.extend_from_slice(reply)?;
-        let done = carried_out(&rt, alloc, b"", &script)?;
-        assert_eq!(rt;
-            done.out.held(),
-            replies.as_slice(),
-            "of {} bytes",
-            script.len()
-        );
+    for piece in PIECES {
+        assert_piece(&rt, alloc, &mut script, &mut replies, *piece);
     }
-    Ok(())
 }

@@ -1,15 +1,18 @@
 //! What a stop leaves, seen through whole runs: every call of the disk fails in turn, and every
 //! file that a crash may then leave is opened.
 
-use super::*;
-use std::alloc::{AllocError, Global};
-use std::test::Fail;
+use crate::testing::{Failing, Given, Outcome, run_with};
+use crate::{Fault, Status};
+use std::alloc::Global;
+use std::process::Abort;
 use std::thread::Threads;
-use wh_world::{MemDisk, MemSink, MemSource, SetClock};
+use wh_world::MemDisk;
+
+const CREATE: &[u8] = b"CREATE TABLE T(K NUMBER);";
 
 /// Ten commands, each of which makes a commit.
-const COMMANDS: [&[u8]; 10] = [
-    b"CREATE TABLE T(K NUMBER);",
+const COMMANDS: &[&[u8]] = &[
+    CREATE,
     b"INSERT INTO T VALUES (1);",
     b"INSERT INTO T VALUES (2), (3);",
     b"CREATE TABLE U(A NUMBER, B NUMBER);",
@@ -24,7 +27,7 @@ const COMMANDS: [&[u8]; 10] = [
 const LISTINGS: &[u8] = b"SELECT * FROM T; SELECT * FROM U;";
 
 /// What the listings print after the first of the commands, after none to all of them.
-const LISTED: [&[u8]; 11] = [
+const LISTED: &[&[u8]] = &[
     b"E6 UnknownName T\nE6 UnknownName U\n",
     b"K\n(0 rows)\nE6 UnknownName U\n",
     b"K\n1\n(1 rows)\nE6 UnknownName U\n",
@@ -46,137 +49,181 @@ fn torn(cut: u64, fill: u64) -> u64 {
         .saturating_add(2)
 }
 
-/// What a run answers, writes and leaves.
-#[derive(Drop)]
-struct Left {
-    status: Status,
-    out: MemSink,
-    disk: MemDisk,
-}
-
+/// Carries out a script over a file, where these calls of the disk fail.
 fn ran(
-    rt: &(impl Threads + Sync),
+    rt: &(impl Abort + Threads + Sync),
     alloc: Global,
     file: &[u8],
     script: &[u8],
     failing: &[u64],
-) -> Result<Left, AllocError> {
-    let mut words = Vec::new(alloc);
-    words.push(String::from_str(alloc, "run")?)?;
-    let mut source = MemSource::new(script.to_vec(alloc)?, Vec::new(alloc));
-    let mut out = MemSink::new(alloc, 1 << 12, Vec::new(alloc))?;
-    let file = file.to_vec(alloc)?;
-    let disk = MemDisk::new(alloc, file, 1 << 12, 100, failing.to_vec(alloc)?)?;
-    let mut clock = SetClock::new([0].to_vec(alloc)?);
-    let (status, disk) = run(rt, alloc, &words, &mut source, &mut out, disk, &mut clock);
-    Ok(Left { status, out, disk })
+) -> Outcome {
+    let given = Given {
+        file,
+        script,
+        failing: Failing {
+            source: &[],
+            sink: &[],
+            disk: failing,
+        },
+        room: 1 << 12,
+    };
+    run_with(rt, alloc, &["run"], &given)
 }
 
 /// The commands from a place on, as one script.
-fn commands_from(alloc: Global, first: usize) -> Result<Vec<u8>, AllocError> {
-    let mut script = Vec::new(alloc);
-    for command in COMMANDS.iter().skip(first) {
-        script.extend_from_slice(command)?;
+fn commands_from(rt: &impl Abort, alloc: Global, first: usize) -> Vec<u8> {
+    let commands = COMMANDS.get(first..).expect(rt, "a command");
+    commands.concat(alloc).expect(rt, "memory")
+}
+
+/// After how many of the commands the listings print that text; none where they never do.
+fn place_of(text: &[u8]) -> Option<usize> {
+    for (place, listed) in LISTED.iter().enumerate() {
+        if *listed == text {
+            return Some(place);
+        }
     }
-    Ok(script)
+    None
 }
 
 /// How many of the commands a file holds, by what its listings print; none where they print
 /// anything else.
-fn commits_in(
-    rt: &(impl Threads + Sync),
-    alloc: Global,
-    file: &[u8],
-) -> Result<Option<usize>, AllocError> {
-    let left = ran(rt, alloc, file, LISTINGS, &[])?;
-    Ok(LISTED.iter().position(|text| *text == left.out.held()))
+fn commits_in(rt: &(impl Abort + Threads + Sync), alloc: Global, file: &[u8]) -> Option<usize> {
+    let left = ran(rt, alloc, file, LISTINGS, &[]);
+    place_of(left.out.held())
+}
+
+/// How a run of the listings over a file ends.
+fn listing_status(rt: &(impl Abort + Threads + Sync), alloc: Global, file: &[u8]) -> Status {
+    ran(rt, alloc, file, LISTINGS, &[]).status
 }
 
 fn lines(text: &[u8]) -> usize {
-    text.iter().filter(|byte| **byte == b'\n').count()
+    let mut lines = 0usize;
+    for byte in text {
+        if *byte == b'\n' {
+            lines = lines.saturating_add(1);
+        }
+    }
+    lines
+}
+
+/// How a run of the commands from a place on ends over a file, and how many of the commands the
+/// file then holds.
+fn gone_on(
+    rt: &(impl Abort + Threads + Sync),
+    alloc: Global,
+    file: &[u8],
+    held: usize,
+) -> (Status, Option<usize>) {
+    let script = commands_from(rt, alloc, held);
+    let rest = ran(rt, alloc, file, &script, &[]);
+    (rest.status, commits_in(rt, alloc, rest.disk.bytes()))
 }
 
 /// Whether a file holds the commands that were answered, at most one more, and the others go on
 /// from there.
 fn holds_what_was_answered(
-    rt: &(impl Threads + Sync),
+    rt: &(impl Abort + Threads + Sync),
     alloc: Global,
     file: &[u8],
     answered: usize,
-) -> Result<bool, AllocError> {
-    let Some(held) = commits_in(rt, alloc, file)? else {
-        return Ok(false);
+) -> bool {
+    let Some(held) = commits_in(rt, alloc, file) else {
+        return false;
     };
-    let rest = ran(rt, alloc, file, &commands_from(alloc, held)?, &[])?;
-    let goes_on = rest.status == Status::Read { refusals: 0 }
-        && commits_in(rt, alloc, rest.disk.bytes())? == Some(COMMANDS.len());
-    Ok((held == answered || held == answered.saturating_add(1)) && goes_on)
+    let (status, all) = gone_on(rt, alloc, file, held);
+    let goes_on = status == Status::Read { refusals: 0 } && all == Some(COMMANDS.len());
+    (held == answered || held == answered.saturating_add(1)) && goes_on
 }
 
 /// Whether a pick's file holds what was answered.
 fn pick_holds(
-    rt: &(impl Threads + Sync),
+    rt: &(impl Abort + Threads + Sync),
     alloc: Global,
     disk: &MemDisk,
     pick: u64,
     answered: usize,
-) -> Result<bool, AllocError> {
-    let image = disk.image(alloc, pick)?;
-    if 1 < pick && image.as_slice() == disk.bytes() {
-        return Ok(true);
+) -> bool {
+    let image = disk.image(alloc, pick).expect(rt, "memory");
+    let is_shown = 1 < pick && image.as_slice() == disk.bytes();
+    is_shown || holds_what_was_answered(rt, alloc, &image, answered)
+}
+
+/// Whether each pick's file holds what was answered, where what is torn at a place has each of these
+/// bytes behind.
+fn torn_hold(
+    rt: &(impl Abort + Threads + Sync),
+    alloc: Global,
+    disk: &MemDisk,
+    cut: u64,
+    answered: usize,
+) -> bool {
+    const FILLS: &[u64] = &[0, 1, 255, 256];
+    for fill in FILLS {
+        if !pick_holds(rt, alloc, disk, torn(cut, *fill), answered) {
+            return false;
+        }
     }
-    holds_what_was_answered(rt, alloc, &image, answered)
+    true
 }
 
 /// Whether each file that a crash may leave holds what was answered: the synced bytes, what a
-/// read gives, and what is torn at each place with each of these bytes behind.
+/// read gives, and what is torn at each place.
 fn picks_hold(
-    rt: &(impl Threads + Sync),
+    rt: &(impl Abort + Threads + Sync),
     alloc: Global,
     disk: &MemDisk,
     answered: usize,
-) -> Result<bool, AllocError> {
+) -> bool {
     for cut in 0..130u64 {
-        for fill in [0, 1, 255, 256] {
-            if !pick_holds(rt, alloc, disk, torn(cut, fill), answered)? {
-                return Ok(false);
-            }
+        if !torn_hold(rt, alloc, disk, cut, answered) {
+            return false;
         }
     }
-    Ok(pick_holds(rt, alloc, disk, 0, answered)? && pick_holds(rt, alloc, disk, 1, answered)?)
+    pick_holds(rt, alloc, disk, 0, answered) && pick_holds(rt, alloc, disk, 1, answered)
+}
+
+/// A script that is stopped at that call leaves what was answered.
+fn assert_stop(rt: &(impl Abort + Threads + Sync), alloc: Global, script: &[u8], call: u64) {
+    let left = ran(rt, alloc, b"", script, &[call]);
+    assert_eq!(rt; left.status, Status::Stopped(Fault::Disk), "call {call}");
+    let answered = lines(left.out.held());
+    let holds = picks_hold(rt, alloc, &left.disk, answered);
+    assert!(rt; holds, "call {call}");
 }
 
 #[test]
-fn each_file_that_a_failed_call_may_leave_holds_what_was_answered(
-    rt: HostRuntime,
-) -> Result<(), Fail> {
+fn each_file_that_a_failed_call_may_leave_holds_what_was_answered(rt: HostRuntime) {
     let alloc = rt.alloc();
-    let script = commands_from(alloc, 0)?;
+    let script = commands_from(&rt, alloc, 0);
     // Four calls to open, and four for each commit.
     for call in 1..45u64 {
-        let left = ran(&rt, alloc, b"", &script, &[call])?;
-        assert_eq!(rt; left.status, Status::Stopped(Fault::Disk), "call {call}");
-        let answered = lines(left.out.held());
-        assert!(rt;
-            picks_hold(&rt, alloc, &left.disk, answered)?,
-            "call {call}"
-        );
+        assert_stop(&rt, alloc, &script, call);
     }
-    let done = ran(&rt, alloc, b"", &script, &[45])?;
+    let done = ran(&rt, alloc, b"", &script, &[45]);
     assert_eq!(rt; done.status, Status::Read { refusals: 0 });
-    Ok(())
+}
+
+/// How many bytes the file has after a script.
+fn size_after(rt: &(impl Abort + Threads + Sync), alloc: Global, script: &[u8]) -> usize {
+    ran(rt, alloc, b"", script, &[]).disk.bytes().len()
 }
 
 /// How many bytes the file has after none to all of the commands.
-fn sizes(rt: &(impl Threads + Sync), alloc: Global) -> Result<Vec<usize>, AllocError> {
+fn sizes(rt: &(impl Abort + Threads + Sync), alloc: Global) -> Vec<usize> {
     let mut sizes = Vec::new(alloc);
     let mut script = Vec::new(alloc);
-    sizes.push(ran(rt, alloc, b"", &script, &[])?.disk.bytes().len())?;
+    sizes
+        .push(size_after(rt, alloc, &script))
+        .expect(rt, "memory");
     for command in COMMANDS {
-        script.extend_from_slice(command)?;
-        sizes.push(ran(rt, alloc, b"", &script, &[])?.disk.bytes().len())?;
+        script.extend_from_slice(command).expect(rt, "memory");
+        sizes
+            .push(size_after(rt, alloc, &script))
+            .expect(rt, "memory");
     }
-    Ok(sizes)
+    sizes
 }
 
 /// Where a file that ends within its open records has its first fault: at the gate of the record
@@ -195,127 +242,131 @@ fn first_fault(sizes: &[usize], len: usize) -> u64 {
 /// Whether a front of a file holds what it is to hold: no command in at most 8 bytes, a first
 /// fault within the open records, which end there, and what was answered from then on.
 fn front_holds(
-    rt: &(impl Threads + Sync),
+    rt: &(impl Abort + Threads + Sync),
     alloc: Global,
     front: &[u8],
     sizes: &[usize],
     end: usize,
     answered: usize,
-) -> Result<bool, AllocError> {
+) -> bool {
     if front.len() <= 8 {
-        return Ok(commits_in(rt, alloc, front)? == Some(0));
+        return commits_in(rt, alloc, front) == Some(0);
     }
     if end <= front.len() {
         return holds_what_was_answered(rt, alloc, front, answered);
     }
     let at = first_fault(sizes, front.len());
-    Ok(ran(rt, alloc, front, LISTINGS, &[])?.status == Status::Stopped(Fault::NotWarehouse { at }))
+    listing_status(rt, alloc, front) == Status::Stopped(Fault::NotWarehouse { at })
 }
 
 /// Whether each front of a file does.
 fn fronts_hold(
-    rt: &(impl Threads + Sync),
+    rt: &(impl Abort + Threads + Sync),
     alloc: Global,
     file: &[u8],
     sizes: &[usize],
     answered: usize,
-) -> Result<bool, AllocError> {
-    let Some(held) = commits_in(rt, alloc, file)? else {
-        return Ok(false);
+) -> bool {
+    let Some(held) = commits_in(rt, alloc, file) else {
+        return false;
     };
     let Some(end) = sizes.get(held) else {
-        return Ok(false);
+        return false;
     };
     for len in 0..file.len() {
-        if !front_holds(rt, alloc, &file[..len], sizes, *end, answered)? {
-            return Ok(false);
+        if !front_holds(rt, alloc, &file[..len], sizes, *end, answered) {
+            return false;
         }
     }
-    Ok(true)
+    true
+}
+
+/// Each front of what a script leaves that is stopped at that call does.
+fn assert_fronts(
+    rt: &(impl Abort + Threads + Sync),
+    alloc: Global,
+    script: &[u8],
+    sizes: &[usize],
+    call: u64,
+) {
+    let left = ran(rt, alloc, b"", script, &[call]);
+    let answered = lines(left.out.held());
+    let holds = fronts_hold(rt, alloc, left.disk.bytes(), sizes, answered);
+    assert!(rt; holds, "call {call}");
 }
 
 #[test]
-fn each_front_of_a_file_holds_whole_commits_or_has_a_first_fault(
-    rt: HostRuntime,
-) -> Result<(), Fail> {
+fn each_front_of_a_file_holds_whole_commits_or_has_a_first_fault(rt: HostRuntime) {
     let alloc = rt.alloc();
-    let script = commands_from(alloc, 0)?;
-    let sizes = sizes(&rt, alloc)?;
+    let script = commands_from(&rt, alloc, 0);
+    let sizes = sizes(&rt, alloc);
     for call in 4..46u64 {
-        let left = ran(&rt, alloc, b"", &script, &[call])?;
-        let answered = lines(left.out.held());
-        let holds = fronts_hold(&rt, alloc, left.disk.bytes(), &sizes, answered)?;
-        assert!(rt; holds, "call {call}");
+        assert_fronts(&rt, alloc, &script, &sizes, call);
     }
-    Ok(())
 }
 
-/// Whether a file with a byte turned to ff opens, or is no warehouse.
-fn turned_is_named(
-    rt: &(impl Threads + Sync),
-    alloc: Global,
-    file: &[u8],
-    at: usize,
-) -> Result<bool, AllocError> {
-    let mut turned = file.to_vec(alloc)?;
+/// A file with a byte turned to ff.
+fn turned(rt: &impl Abort, alloc: Global, file: &[u8], at: usize) -> Vec<u8> {
+    let mut turned = file.to_vec(alloc).expect(rt, "memory");
     if let Some(byte) = turned.get_mut(at) {
         *byte = 0xff;
     }
-    let named = match ran(rt, alloc, &turned, LISTINGS, &[])?.status {
+    turned
+}
+
+/// A file with a byte turned to ff opens, or is no warehouse.
+fn assert_named(rt: &(impl Abort + Threads + Sync), alloc: Global, file: &[u8], at: usize) {
+    let turned = turned(rt, alloc, file, at);
+    let named = match listing_status(rt, alloc, &turned) {
         Status::Read { .. } | Status::Stopped(Fault::NotWarehouse { .. }) => true,
         _ => false,
     };
-    Ok(named)
+    assert!(rt; named, "byte {at}");
 }
 
 #[test]
-fn a_file_with_any_byte_turned_opens_or_is_no_warehouse(rt: HostRuntime) -> Result<(), Fail> {
+fn a_file_with_any_byte_turned_opens_or_is_no_warehouse(rt: HostRuntime) {
     let alloc = rt.alloc();
-    let script = commands_from(alloc, 0)?;
-    let whole = ran(&rt, alloc, b"", &script, &[])?;
+    let script = commands_from(&rt, alloc, 0);
+    let whole = ran(&rt, alloc, b"", &script, &[]);
     for at in 0..whole.disk.bytes().len() {
-        assert!(rt;
-            turned_is_named(&rt, alloc, whole.disk.bytes(), at)?,
-            "byte {at}"
-        );
+        assert_named(&rt, alloc, whole.disk.bytes(), at);
     }
-    Ok(())
 }
 
-/// Whether the table is there in a file exactly where its gate is open.
-fn gate_decides(
-    rt: &(impl Threads + Sync),
-    alloc: Global,
-    disk: &MemDisk,
-    gate: u64,
-) -> Result<bool, AllocError> {
-    let image = disk.image(alloc, torn(0, gate))?;
-    let is_there = commits_in(rt, alloc, &image)?;
-    let stands = image.get(7).copied() == u8::try_from(gate).ok();
-    Ok(stands && is_there == Some(if gate == 1 { 1 } else { 0 }))
+/// The table is there in a file exactly where its gate is open.
+fn assert_gate(rt: &(impl Abort + Threads + Sync), alloc: Global, disk: &MemDisk, gate: u8) {
+    let pick = torn(0, u64::from(gate));
+    let image = disk.image(alloc, pick).expect(rt, "memory");
+    let commits = if gate == 1 { 1 } else { 0 };
+    assert_eq!(rt; image.get(7).copied(), Some(gate), "gate {gate}");
+    assert_eq!(rt; commits_in(rt, alloc, &image), Some(commits), "gate {gate}");
 }
 
 #[test]
-fn a_stop_at_the_gate_leaves_the_table_or_not(rt: HostRuntime) -> Result<(), Fail> {
+fn a_stop_at_the_gate_leaves_the_table_or_not(rt: HostRuntime) {
     let alloc = rt.alloc();
     // The eighth call is the sync behind the write of the gate.
-    let left = ran(&rt, alloc, b"", COMMANDS[0], &[8])?;
+    let left = ran(&rt, alloc, b"", CREATE, &[8]);
     assert_eq!(rt; left.status, Status::Stopped(Fault::Disk));
     assert_eq!(rt; left.out.held(), b"".as_slice());
-    for gate in 0..256u64 {
-        assert!(rt; gate_decides(&rt, alloc, &left.disk, gate)?, "gate {gate}");
+    for gate in 0..=255u8 {
+        assert_gate(&rt, alloc, &left.disk, gate);
     }
-    Ok(())
+}
+
+/// A pick's file has the table.
+fn assert_table(rt: &(impl Abort + Threads + Sync), alloc: Global, disk: &MemDisk, pick: u64) {
+    let image = disk.image(alloc, pick).expect(rt, "memory");
+    assert_eq!(rt; commits_in(rt, alloc, &image), Some(1), "pick {pick}");
 }
 
 #[test]
-fn after_the_reply_each_file_has_the_table(rt: HostRuntime) -> Result<(), Fail> {
+fn after_the_reply_each_file_has_the_table(rt: HostRuntime) {
     let alloc = rt.alloc();
-    let done = ran(&rt, alloc, b"", COMMANDS[0], &[])?;
+    let done = ran(&rt, alloc, b"", CREATE, &[]);
     assert_eq!(rt; done.status, Status::Read { refusals: 0 });
     for pick in 0..1000u64 {
-        let image = done.disk.image(alloc, pick)?;
-        assert_eq!(rt; commits_in(&rt, alloc, &image)?, Some(1), "pick {pick}");
+        assert_table(&rt, alloc, &done.disk, pick);
     }
-    Ok(())
 }
