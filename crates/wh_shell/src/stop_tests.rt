@@ -50,12 +50,12 @@ fn torn(cut: u64, fill: u64) -> u64 {
 }
 
 /// Carries out a script over a file, where these calls of the disk fail.
-fn ran(
+fn ran<'x>(
     rt: &(impl Abort + Threads + Sync),
     alloc: Global,
-    file: &[u8],
-    script: &[u8],
-    failing: &[u64],
+    file: &'x [u8],
+    script: &'x [u8],
+    failing: &'x [u64],
 ) -> Outcome {
     let given = Given {
         file,

@@ -103,11 +103,11 @@ pub(crate) fn run_with(
 }
 
 /// Carries out a script over a file, with no failure.
-pub(crate) fn carried_out(
+pub(crate) fn carried_out<'x>(
     rt: &(impl Abort + Threads + Sync),
     alloc: Global,
-    file: &[u8],
-    script: &[u8],
+    file: &'x [u8],
+    script: &'x [u8],
 ) -> Outcome {
     let given = Given {
         file,
