@@ -5,8 +5,6 @@ mod grouping;
 mod groups;
 mod tallies;
 mod tally;
-#[cfg(test)]
-mod tests;
 mod values;
 
 pub use grouping::grouped;

@@ -7,8 +7,6 @@ mod increments;
 mod physical;
 mod plain;
 mod query;
-#[cfg(test)]
-mod tests;
 mod tuple;
 
 pub use increments::incrementable;

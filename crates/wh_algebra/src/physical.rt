@@ -1,4 +1,4 @@
-ghost use Rattle.std.specs.Prelude.{◌≡◌, IfOk};
+ghost use Rattle.std.specs.Prelude.{◌≡◌};
 ghost use Rattle.wh_meaning.specs.Query as meaning;
 ghost use Rattle.wh_scalar.specs.View.{scalar_of};
 ghost use Rattle.wh_algebra.specs.View.{scalars_of, calls_of};
@@ -6,7 +6,6 @@ ghost use Rattle.wh_algebra.specs.Plan.{plan_of, operator_of};
 
 use crate::Call;
 use sqlite_items::{Boxed, Items};
-use std::alloc::{AllocError, Global};
 use wh_scalar::Scalar;
 
 /// A plan: how a query is carried out. Contracts see it as the query that it stands for.
@@ -66,70 +65,45 @@ impl Physical {
         }
     }
 
-    pub fn filter(alloc: Global, input: Physical, condition: Scalar) -> Result<Physical, AllocError>
-        ensures { IfOk result (λ plan. plan_of plan
-            ≡ meaning.Filter (plan_of input) (scalar_of condition)) }
+    pub fn filter(input: Boxed<Physical>, condition: Scalar) -> Physical
+        ensures { plan_of result ≡ meaning.Filter (plan_of input) (scalar_of condition) }
     {
-        let input = Boxed::new(alloc, input)?;
-        Ok(Physical {
+        Physical {
             step: Step::Filter(input, condition),
-        })
+        }
     }
 
-    pub fn project(
-        alloc: Global,
-        input: Physical,
-        items: Items<Scalar>,
-    ) -> Result<Physical, AllocError>
-        ensures { IfOk result (λ plan. plan_of plan
-            ≡ meaning.Project (plan_of input) (scalars_of items)) }
+    pub fn project(input: Boxed<Physical>, items: Items<Scalar>) -> Physical
+        ensures { plan_of result ≡ meaning.Project (plan_of input) (scalars_of items) }
     {
-        let input = Boxed::new(alloc, input)?;
-        Ok(Physical {
+        Physical {
             step: Step::Project(input, items),
-        })
+        }
     }
 
     /// A join that tries each pair of rows.
-    pub fn join(
-        alloc: Global,
-        left: Physical,
-        right: Physical,
-        on: Scalar,
-    ) -> Result<Physical, AllocError>
-        ensures { IfOk result (λ plan. plan_of plan
-            ≡ meaning.Join (plan_of left) (plan_of right) (scalar_of on)) }
+    pub fn join(left: Boxed<Physical>, right: Boxed<Physical>, on: Scalar) -> Physical
+        ensures { plan_of result ≡ meaning.Join (plan_of left) (plan_of right) (scalar_of on) }
     {
-        let left = Boxed::new(alloc, left)?;
-        let right = Boxed::new(alloc, right)?;
-        Ok(Physical {
+        Physical {
             step: Step::Join(left, right, on),
-        })
+        }
     }
 
-    pub fn union_all(alloc: Global, left: Physical, right: Physical) -> Result<Physical, AllocError>
-        ensures { IfOk result (λ plan. plan_of plan
-            ≡ meaning.UnionAll (plan_of left) (plan_of right)) }
+    pub fn union_all(left: Boxed<Physical>, right: Boxed<Physical>) -> Physical
+        ensures { plan_of result ≡ meaning.UnionAll (plan_of left) (plan_of right) }
     {
-        let left = Boxed::new(alloc, left)?;
-        let right = Boxed::new(alloc, right)?;
-        Ok(Physical {
+        Physical {
             step: Step::UnionAll(left, right),
-        })
+        }
     }
 
-    pub fn group(
-        alloc: Global,
-        input: Physical,
-        by: Items<Scalar>,
-        calls: Items<Call>,
-    ) -> Result<Physical, AllocError>
-        ensures { IfOk result (λ plan. plan_of plan
-            ≡ meaning.Group (plan_of input) (scalars_of by) (calls_of calls)) }
+    pub fn group(input: Boxed<Physical>, by: Items<Scalar>, calls: Items<Call>) -> Physical
+        ensures { plan_of result
+            ≡ meaning.Group (plan_of input) (scalars_of by) (calls_of calls) }
     {
-        let input = Boxed::new(alloc, input)?;
-        Ok(Physical {
+        Physical {
             step: Step::Group(input, by, calls),
-        })
+        }
     }
 }

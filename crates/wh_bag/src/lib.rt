@@ -4,8 +4,6 @@
 mod bag;
 mod change;
 mod fault;
-#[cfg(test)]
-mod tests;
 mod times;
 
 pub use bag::Bag;

@@ -15,6 +15,3 @@ pub use catalog::Catalog;
 pub use object::{StoredKind, StoredObject};
 pub use undo::Undo;
 pub use wh_table::{StageFault, StoredTable};
-
-#[cfg(test)]
-mod tests;

@@ -54,7 +54,7 @@ pub(crate) fn rows_in_order(
     ensures { GivesListed result
         (meaning.rows_in_order (eval (query_of query.now) (instance_of sources.now))) }
 {
-    let plan = Boxed::new(alloc, Physical::plain(alloc, query)?)?;
+    let plan = Physical::plain(alloc, query)?;
     let rows = evaluate(alloc, plan.get(), sources)?;
     Ok(listed(alloc, &[], rows)?)
 }

@@ -11,8 +11,6 @@ mod merge;
 mod pairs;
 mod settled;
 mod target;
-#[cfg(test)]
-mod tests;
 mod turn;
 mod update;
 

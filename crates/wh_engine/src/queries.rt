@@ -103,7 +103,7 @@ fn planned_rows<'a>(
 ) -> Result<Vec<Tuple<'a>>, EvalFault>
     ensures { Evaluates result (eval (query_of query.now) (evaluation.instance_of sources.now)) }
 {
-    let plan = Boxed::new(alloc, Physical::plain(alloc, query)?)?;
+    let plan = Physical::plain(alloc, query)?;
     evaluate(alloc, plan.get(), sources)
 }
 

@@ -13,8 +13,6 @@ mod project;
 mod referring;
 mod running;
 mod scan;
-#[cfg(test)]
-mod tests;
 mod tuples;
 mod union;
 

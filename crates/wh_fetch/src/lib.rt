@@ -4,8 +4,6 @@
 mod fault;
 mod fetch;
 mod mem_fetch;
-#[cfg(test)]
-mod tests;
 
 pub use fault::FetchFault;
 pub use fetch::Fetch;

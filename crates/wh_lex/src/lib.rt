@@ -8,8 +8,6 @@ mod gaps;
 mod lexing;
 mod quotes;
 mod sign;
-#[cfg(test)]
-mod tests;
 mod token;
 mod words;
 

@@ -3,8 +3,6 @@
 
 mod key;
 mod listing;
-#[cfg(test)]
-mod tests;
 
 pub use key::{SortKey, compare_rows};
 pub use listing::listed;

@@ -17,6 +17,3 @@ pub use meta::{Bounds, PartId, PartMeta};
 pub use partition::{NumberedRow, Partition};
 pub use reading::{read_byte, read_text, read_u32, read_u64};
 pub use writing::{write_text, write_u32, write_u64};
-
-#[cfg(test)]
-mod tests;

@@ -8,6 +8,3 @@ mod format;
 
 pub use commit::{Change, Commit, TableChange, VersionChange};
 pub use decoding::{spelling_fixes_commits, spelling_fixes_faults};
-
-#[cfg(test)]
-mod tests;

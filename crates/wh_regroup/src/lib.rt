@@ -6,8 +6,6 @@ mod fault;
 mod grouped;
 mod keys;
 mod laws;
-#[cfg(test)]
-mod tests;
 
 pub use comparing::is_same;
 pub use grouped::regrouped;

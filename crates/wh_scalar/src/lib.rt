@@ -8,8 +8,6 @@ mod eval;
 mod fault;
 mod holds;
 mod scalar;
-#[cfg(test)]
-mod tests;
 mod truth;
 
 pub use fault::EvalFault;

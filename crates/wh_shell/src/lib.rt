@@ -3,22 +3,14 @@
 
 mod fault;
 mod laws;
-#[cfg(test)]
-mod line_tests;
 mod reader;
 mod running;
 mod serving;
 mod status;
-#[cfg(test)]
-mod stop_tests;
-#[cfg(test)]
-mod testing;
-#[cfg(test)]
-mod tests;
 mod words;
 mod writing;
 
 pub use fault::Fault;
 pub use laws::script_fixes_events;
-pub use running::run;
+pub use running::{run, run_within};
 pub use status::Status;

@@ -106,7 +106,7 @@ pub fn run<S: Source, K: Sink, D: Disk, C: Clock>(
 }
 
 /// A run over a file of at most `limit` bytes.
-pub(crate) fn run_within<S: Source, K: Sink, D: Disk>(
+pub fn run_within<S: Source, K: Sink, D: Disk>(
     rt: &(impl Threads + Sync),
     alloc: Global,
     script: &mut S,

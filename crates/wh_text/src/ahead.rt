@@ -20,7 +20,7 @@ pub(crate) struct Ahead {
     buffer: Vec<u8>,
     at: usize,
     end: usize,
-    pub(crate) taken: u64,
+    taken: u64,
 }
 
 impl Model for Ahead {
@@ -45,16 +45,17 @@ impl Ahead {
     ghost use Rattle.wh_text.specs.Ahead.{consumed, Uses, AtEnd, Fills, total};
     ghost use Rattle.wh_text.specs.Fault.{FaultFits};
 
-    /// Nothing is taken yet. Takes no memory.
-    pub(crate) fn new(alloc: Global) -> Ahead
-        ensures { result ≡ record { bytes = []; taken = 0 } }
+    /// `taken` bytes are taken and used. Takes no memory.
+    pub(crate) fn after(alloc: Global, taken: u64) -> Ahead
+        requires most { taken ≤ 2 ^ 30 }
+        ensures { result ≡ record { bytes = []; taken = taken } }
     {
         Ahead {
             alloc,
             buffer: Vec::new(alloc),
             at: 0,
             end: 0,
-            taken: 0,
+            taken,
         }
     }
 

@@ -10,8 +10,6 @@ mod marked;
 mod place;
 mod print;
 mod script;
-#[cfg(test)]
-mod tests;
 
 pub use fault::ScriptFault;
 pub use line::Line;

@@ -10,7 +10,7 @@ use wh_world::Source;
 #[derive(Debug, Drop)]
 pub struct Script {
     alloc: Global,
-    pub(crate) ahead: Ahead,
+    ahead: Ahead,
     fault: Option<ScriptFault>,
     ghost fits: { FaultFits fault ahead.taken } by { FaultFits-prop fault ahead.taken },
 }
@@ -32,9 +32,19 @@ impl Script {
         ensures taken { taken_of result ≡ 0 }
         ensures fault { fault_of result ≡ None }
     {
+        Script::after(alloc, 0)
+    }
+
+    /// What comes after the first `taken` bytes of a script. Takes no memory.
+    pub fn after(alloc: Global, taken: u64) -> Script
+        requires most { taken ≤ 2 ^ 30 }
+        ensures ahead { ahead_of result ≡ [] }
+        ensures taken { taken_of result ≡ taken }
+        ensures fault { fault_of result ≡ None }
+    {
         Script {
             alloc,
-            ahead: Ahead::new(alloc),
+            ahead: Ahead::after(alloc, taken),
             fault: None,
         }
     }

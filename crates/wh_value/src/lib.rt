@@ -8,8 +8,6 @@ mod fits;
 mod limit;
 mod literal;
 mod row;
-#[cfg(test)]
-mod tests;
 mod text;
 mod value;
 

@@ -21,6 +21,3 @@ pub use kept::Kept;
 pub use mark::VersionMark;
 pub use rewriting::Rewritten;
 pub use version::Version;
-
-#[cfg(test)]
-mod tests;

@@ -23,6 +23,3 @@ pub use mem_source::MemSource;
 pub use set_clock::SetClock;
 pub use sink::Sink;
 pub use source::{Failed, Source};
-
-#[cfg(test)]
-mod tests;

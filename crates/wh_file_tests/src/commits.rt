@@ -1,0 +1,232 @@
+use std::alloc::{AllocError, Global};
+use std::test::*;
+use wh_part::{NumberedRow, Partition};
+use wh_record::*;
+use wh_value::{Column, ColumnType, Row, Text, Value};
+
+/// No change at stamp 3.
+const NOTHING: [u8; 12] = [0, 0, 0, 0, 0, 0, 0, 3, 0, 0, 0, 0];
+
+/// `CREATE TABLE T(K NUMBER)` at stamp 1.
+const CREATE: [u8; 33] = [
+    0, 0, 0, 0, 0, 0, 0, 1, 0, 0, 0, 1, 1, 0, 0, 0, 1, 0, 0, 0, 1, 0x54, 1, 0, 0, 0, 1, 0, 0, 0, 1,
+    0x4b, 1,
+];
+
+/// Object 258 is dropped at stamp 4.
+const DROP: [u8; 17] = [0, 0, 0, 0, 0, 0, 0, 4, 0, 0, 0, 1, 2, 0, 0, 1, 2];
+
+/// The row (1), of number 1, in partition 1 of table 1 at stamp 2.
+const INSERT: [u8; 74] = [
+    0, 0, 0, 0, 0, 0, 0, 2, 0, 0, 0, 1, 10, 0, 0, 0, 1, 0, 0, 0, 0, 0, 0, 0, 2, 0, 0, 0, 0, 0, 0,
+    0, 2, 0, 0, 0, 1, 0, 0, 0, 0, 0, 0, 0, 1, 0, 0, 0, 0, 0, 0, 0, 1, 0, 0, 0, 1, 0, 0, 0, 0, 0, 0,
+    0, 1, 1, 0, 0, 0, 0, 0, 0, 0, 1,
+];
+
+/// Both at stamp 1.
+const BOTH: [u8; 95] = [
+    0, 0, 0, 0, 0, 0, 0, 1, 0, 0, 0, 2, 1, 0, 0, 0, 1, 0, 0, 0, 1, 0x54, 1, 0, 0, 0, 1, 0, 0, 0, 1,
+    0x4b, 1, 10, 0, 0, 0, 1, 0, 0, 0, 0, 0, 0, 0, 1, 0, 0, 0, 0, 0, 0, 0, 2, 0, 0, 0, 1, 0, 0, 0,
+    0, 0, 0, 0, 1, 0, 0, 0, 0, 0, 0, 0, 1, 0, 0, 0, 1, 0, 0, 0, 0, 0, 0, 0, 1, 1, 0, 0, 0, 0, 0, 0,
+    0, 1,
+];
+
+/// Partitions 1 and 3 of table 1 go at stamp 5, and none comes.
+const REMOVE: [u8; 61] = [
+    0, 0, 0, 0, 0, 0, 0, 5, 0, 0, 0, 1, 10, 0, 0, 0, 1, 0, 0, 0, 0, 0, 0, 0, 5, 0, 0, 0, 0, 0, 0,
+    0, 2, 0, 0, 0, 1, 0, 0, 0, 2, 0, 0, 0, 0, 0, 0, 0, 1, 0, 0, 0, 0, 0, 0, 0, 3, 0, 0, 0, 0,
+];
+
+fn created(alloc: Global) -> Result<Change, AllocError> {
+    let mut columns = Vec::new(alloc);
+    columns.push(Column {
+        name: Text::of(alloc, "K")?,
+        column_type: ColumnType::Number,
+    })?;
+    Ok(Change::CreatesTable(TableChange {
+        id: 1,
+        name: Text::of(alloc, "T")?,
+        retention: 1,
+        columns,
+    }))
+}
+
+fn inserted(alloc: Global, stamp: u64) -> Result<Change, AllocError> {
+    inserted_number(alloc, stamp, 1)
+}
+
+fn inserted_number(alloc: Global, stamp: u64, number: i64) -> Result<Change, AllocError> {
+    let mut row = Row::new(alloc);
+    row.push(Value::Number(number))?;
+    let mut rows = Vec::new(alloc);
+    rows.push(NumberedRow { number: 1, row })?;
+    let mut added = Vec::new(alloc);
+    added.push(Partition::make(1, rows))?;
+    Ok(Change::PushesVersion(VersionChange {
+        id: 1,
+        data_timestamp: stamp,
+        next_row: 2,
+        width: 1,
+        removed: Vec::new(alloc),
+        added,
+    }))
+}
+
+fn removed(alloc: Global, stamp: u64, numbers: &[u64]) -> Result<Change, AllocError> {
+    Ok(Change::PushesVersion(VersionChange {
+        id: 1,
+        data_timestamp: stamp,
+        next_row: 2,
+        width: 1,
+        removed: Vec::from_slice(alloc, numbers)?,
+        added: Vec::new(alloc),
+    }))
+}
+
+fn one(alloc: Global, stamp: u64, change: Change) -> Result<Commit, AllocError> {
+    let mut changes = Vec::new(alloc);
+    changes.push(change)?;
+    Ok(Commit { stamp, changes })
+}
+
+fn two(alloc: Global, stamp: u64, first: Change, second: Change) -> Result<Commit, AllocError> {
+    let mut commit = one(alloc, stamp, first)?;
+    commit.changes.push(second)?;
+    Ok(commit)
+}
+
+/// Whether a record has this payload: its length in eight bytes, the payload, and a closed gate.
+fn is_record_of(commit: &Commit, alloc: Global, payload: &[u8]) -> bool {
+    match commit.encode(alloc) {
+        Ok(framed) => {
+            let bytes = framed.as_slice();
+            bytes.len() == payload.len() + 9 && &bytes[8..bytes.len() - 1] == payload
+        }
+        Err(_) => false,
+    }
+}
+
+/// Whether the commit is written as this payload, and read from it as one that is written so again.
+fn there_and_back(commit: &Commit, alloc: Global, payload: &[u8]) -> bool {
+    match Commit::decode(alloc, payload) {
+        Some(Ok(read)) => {
+            is_record_of(commit, alloc, payload) && is_record_of(&read, alloc, payload)
+        }
+        _ => false,
+    }
+}
+
+#[test]
+fn commits_are_written_and_read_byte_by_byte(rt: HostRuntime) -> Result<(), Fail> {
+    let alloc = rt.alloc();
+    let nothing = Commit {
+        stamp: 3,
+        changes: Vec::new(alloc),
+    };
+    assert!(rt; there_and_back(&nothing, alloc, &NOTHING), "no change");
+    let create = one(alloc, 1, created(alloc)?)?;
+    assert!(rt; there_and_back(&create, alloc, &CREATE), "a new table");
+    let drop = one(alloc, 4, Change::Drops(258))?;
+    assert!(rt;
+        there_and_back(&drop, alloc, &DROP),
+        "an object that is dropped"
+    );
+    let insert = one(alloc, 2, inserted(alloc, 2)?)?;
+    assert!(rt; there_and_back(&insert, alloc, &INSERT), "a new version");
+    let both = two(alloc, 1, created(alloc)?, inserted(alloc, 1)?)?;
+    assert!(rt;
+        there_and_back(&both, alloc, &BOTH),
+        "a new table and its first version"
+    );
+    let remove = one(alloc, 5, removed(alloc, 5, &[1, 3])?)?;
+    assert!(rt;
+        there_and_back(&remove, alloc, &REMOVE),
+        "partitions that go"
+    );
+    Ok(())
+}
+
+#[test]
+fn what_is_no_commit_is_not_written(rt: HostRuntime) -> Result<(), Fail> {
+    let alloc = rt.alloc();
+    let least = inserted_number(alloc, 2, -999_999_999_999_999_999)?;
+    assert!(rt;
+        one(alloc, 2, least)?.encode(alloc).is_ok(),
+        "a number of 18 digits"
+    );
+    let long = inserted_number(alloc, 2, 1_000_000_000_000_000_000)?;
+    assert!(rt;
+        one(alloc, 2, long)?.encode(alloc).is_err(),
+        "a number of 19 digits"
+    );
+    let falling = removed(alloc, 5, &[3, 1])?;
+    assert!(rt;
+        one(alloc, 5, falling)?.encode(alloc).is_err(),
+        "removed numbers that fall"
+    );
+    Ok(())
+}
+
+/// Whether some of the first bytes, and not all, are a commit.
+fn has_a_prefix(alloc: Global, payload: &[u8]) -> bool {
+    for len in 0..payload.len() {
+        if Commit::decode(alloc, &payload[..len]).is_some() {
+            return true;
+        }
+    }
+    false
+}
+
+#[test]
+fn no_prefix_is_a_commit(rt: HostRuntime) {
+    let cases: [(&str, &[u8]); 6] = [
+        ("no change", &NOTHING),
+        ("a new table", &CREATE),
+        ("an object that is dropped", &DROP),
+        ("a new version", &INSERT),
+        ("a new table and its first version", &BOTH),
+        ("partitions that go", &REMOVE),
+    ];
+    for (name, payload) in cases {
+        assert!(rt; !has_a_prefix(rt.alloc(), payload), "{name}");
+    }
+}
+
+/// The bytes with another byte at a place; at the place behind the last one it is added.
+fn with_byte(alloc: Global, bytes: &[u8], place: usize, byte: u8) -> Result<Vec<u8>, AllocError> {
+    let mut changed = Vec::from_slice(alloc, bytes)?;
+    if place < changed.len() {
+        changed[place] = byte;
+    } else {
+        changed.push(byte)?;
+    }
+    Ok(changed)
+}
+
+#[test]
+fn what_is_no_commit_is_not_read(rt: HostRuntime) -> Result<(), Fail> {
+    let alloc = rt.alloc();
+    let cases: [(&str, &[u8], usize, u8); 16] = [
+        ("fewer changes than there are", &BOTH, 11, 1),
+        ("more changes than there are", &CREATE, 11, 2),
+        ("four billion changes", &NOTHING, 8, 255),
+        ("a tag of 0", &CREATE, 12, 0),
+        ("a tag of 3", &DROP, 12, 3),
+        ("a byte behind a drop", &DROP, 17, 0),
+        ("a name that passes the end", &CREATE, 20, 20),
+        ("a name that isn't UTF-8", &CREATE, 31, 255),
+        ("a type byte of 4", &CREATE, 32, 4),
+        ("a byte behind the commit", &CREATE, 33, 0),
+        ("another width", &INSERT, 36, 2),
+        ("removed numbers that fall", &REMOVE, 48, 4),
+        ("a removed number that stands twice", &REMOVE, 48, 3),
+        ("more removed numbers than there are", &REMOVE, 40, 3),
+        ("four billion removed numbers", &REMOVE, 37, 255),
+        ("more partitions than there are", &REMOVE, 60, 1),
+    ];
+    for (name, bytes, place, byte) in cases {
+        let changed = with_byte(alloc, bytes, place, byte)?;
+        assert!(rt; Commit::decode(alloc, &changed).is_none(), "{name}");
+    }
+    Ok(())
+}

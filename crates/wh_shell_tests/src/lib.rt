@@ -1,0 +1,11 @@
+//! Tests of whole runs over the forms in memory.
+#![tactic(auto)]
+
+#[cfg(test)]
+mod lines;
+#[cfg(test)]
+mod running;
+#[cfg(test)]
+mod runs;
+#[cfg(test)]
+mod stops;

@@ -1,0 +1,119 @@
+//! Runs over the forms in memory. Where memory runs out a call ends the test: a step that returned
+//! would drop all that is alive.
+
+use std::alloc::Global;
+use std::process::Abort;
+use std::thread::Threads;
+use wh_shell::{Status, run};
+use wh_world::{MemDisk, MemSink, MemSource, SetClock};
+
+/// After `CREATE TABLE T(K NUMBER);`.
+pub(crate) const ONE_TABLE: [u8; 50] = [
+    0x57, 0x48, 0x43, 0x4f, 0x52, 0x45, 0x31, 1, 0, 0, 0, 0, 0, 0, 0, 0x21, 0, 0, 0, 0, 0, 0, 0, 1,
+    0, 0, 0, 1, 1, 0, 0, 0, 1, 0, 0, 0, 1, 0x54, 1, 0, 0, 0, 1, 0, 0, 0, 1, 0x4b, 1, 0,
+];
+
+/// What a run answers, writes and leaves.
+#[derive(Drop)]
+pub(crate) struct Outcome {
+    pub(crate) status: Status,
+    pub(crate) out: MemSink,
+    pub(crate) disk: MemDisk,
+}
+
+/// The calls that are to fail, by their numbers from 1.
+#[derive(Clone, Copy)]
+pub(crate) struct Failing<'a> {
+    pub(crate) source: &'a [u64],
+    pub(crate) sink: &'a [u64],
+    pub(crate) disk: &'a [u64],
+}
+
+pub(crate) const NO_FAILURE: Failing<'static> = Failing {
+    source: &[],
+    sink: &[],
+    disk: &[],
+};
+
+pub(crate) fn owned(rt: &impl Abort, alloc: Global, words: &[&str]) -> Vec<String> {
+    let mut owned = Vec::new(alloc);
+    for word in words {
+        let word = String::from_str(alloc, word).expect(rt, "memory");
+        owned.push(word).expect(rt, "memory");
+    }
+    owned
+}
+
+pub(crate) fn source_of(
+    rt: &impl Abort,
+    alloc: Global,
+    script: &[u8],
+    failing: &[u64],
+) -> MemSource {
+    let script = script.to_vec(alloc).expect(rt, "memory");
+    let failing = failing.to_vec(alloc).expect(rt, "memory");
+    MemSource::new(script, failing)
+}
+
+pub(crate) fn sink_of(rt: &impl Abort, alloc: Global, room: u64, failing: &[u64]) -> MemSink {
+    let failing = failing.to_vec(alloc).expect(rt, "memory");
+    MemSink::new(alloc, room, failing).expect(rt, "memory")
+}
+
+pub(crate) fn disk_of(
+    rt: &impl Abort,
+    alloc: Global,
+    file: &[u8],
+    room: u64,
+    failing: &[u64],
+) -> MemDisk {
+    let file = file.to_vec(alloc).expect(rt, "memory");
+    let failing = failing.to_vec(alloc).expect(rt, "memory");
+    MemDisk::new(alloc, file, room, 100, failing).expect(rt, "memory")
+}
+
+pub(crate) fn clock_at_0(rt: &impl Abort, alloc: Global) -> SetClock {
+    SetClock::new([0].to_vec(alloc).expect(rt, "memory"))
+}
+
+/// What a run is over: the bytes of its file, its script, the calls that fail, and for how many more
+/// bytes the disk and the sink have room.
+#[derive(Clone, Copy)]
+pub(crate) struct Given<'a> {
+    pub(crate) file: &'a [u8],
+    pub(crate) script: &'a [u8],
+    pub(crate) failing: Failing<'a>,
+    pub(crate) room: u64,
+}
+
+pub(crate) fn run_with(
+    rt: &(impl Abort + Threads + Sync),
+    alloc: Global,
+    words: &[&str],
+    given: &Given<'_>,
+) -> Outcome {
+    let failing = given.failing;
+    let words = owned(rt, alloc, words);
+    let mut source = source_of(rt, alloc, given.script, failing.source);
+    let mut out = sink_of(rt, alloc, given.room, failing.sink);
+    let disk = disk_of(rt, alloc, given.file, given.room, failing.disk);
+    let mut clock = clock_at_0(rt, alloc);
+    let (status, disk) = run(rt, alloc, &words, &mut source, &mut out, disk, &mut clock);
+    Outcome { status, out, disk }
+}
+
+/// Carries out a script over a file, with no failure.
+pub(crate) fn carried_out<'x>(
+    rt: &(impl Abort + Threads + Sync),
+    alloc: Global,
+    file: &'x [u8],
+    script: &'x [u8],
+) -> Outcome {
+    let given = Given {
+        file,
+        script,
+        failing: NO_FAILURE,
+        room: 1 << 20,
+    };
+    run_with(rt, alloc, &["run"], &given)
+}

@@ -1,0 +1,7 @@
+//! Tests of versions and of the catalog.
+#![tactic(auto)]
+
+#[cfg(test)]
+mod catalog;
+#[cfg(test)]
+mod versions;

@@ -1,0 +1,232 @@
+use std::alloc::{AllocError, Global};
+use std::test::Fail;
+use wh_lex::{Kind, LexFault, Sign, Token, tokens};
+use wh_value::Bytes;
+
+fn sign_text(sign: Sign) -> &'static [u8] {
+    match sign {
+        Sign::LParen => b"(",
+        Sign::RParen => b")",
+        Sign::Comma => b",",
+        Sign::Dot => b".",
+        Sign::Star => b"*",
+        Sign::Plus => b"+",
+        Sign::Minus => b"-",
+        Sign::Equal => b"=",
+        Sign::Unequal => b"<>",
+        Sign::Less => b"<",
+        Sign::AtMost => b"<=",
+        Sign::Greater => b">",
+        Sign::AtLeast => b">=",
+        Sign::Arrow => b"=>",
+    }
+}
+
+/// Adds a token with a blank behind it: words bare, `N[name]`, `T[text]`, numbers and signs.
+fn show(token: &Token, out: &mut Bytes) -> Result<(), AllocError> {
+    match token.kind() {
+        Kind::Word(word) => out.extend(word.as_bytes())?,
+        Kind::Quoted(name) => {
+            out.extend(b"N[")?;
+            out.extend(name.as_bytes())?;
+            out.extend(b"]")?;
+        }
+        Kind::Text(text) => {
+            out.extend(b"T[")?;
+            out.extend(text.as_bytes())?;
+            out.extend(b"]")?;
+        }
+        Kind::Number(number) => out.extend_decimal(*number)?,
+        Kind::Sign(sign) => out.extend(sign_text(*sign))?,
+    }
+    out.extend(b" ")
+}
+
+/// The tokens of a text, or `refused`.
+fn shown(alloc: Global, text: &[u8]) -> Result<Bytes, Fail> {
+    let mut out = Bytes::new(alloc);
+    match tokens(alloc, text) {
+        Ok(found) => {
+            for token in &found {
+                show(token, &mut out)?;
+            }
+        }
+        Err(LexFault::SyntaxError) => out.extend(b"refused")?,
+        Err(LexFault::OutOfMemory) => out.extend(b"out of memory")?,
+    }
+    Ok(out)
+}
+
+#[test]
+fn signs_are_as_long_as_they_can_be(rt: HostRuntime) -> Result<(), Fail> {
+    let alloc = rt.alloc();
+    let cases: [(&[u8], &[u8]); 18] = [
+        (b"(),.*+-", b"( ) , . * + - "),
+        (b"=", b"= "),
+        (b"<", b"< "),
+        (b">", b"> "),
+        (b"<>", b"<> "),
+        (b"!=", b"<> "),
+        (b"<=", b"<= "),
+        (b">=", b">= "),
+        (b"=>", b"=> "),
+        (b"<=>", b"<= > "),
+        (b"=>=", b"=> = "),
+        (b"==>", b"= => "),
+        (b"<<>>", b"< <> > "),
+        (b"> =", b"> = "),
+        (b"a<-1", b"A < - 1 "),
+        (b"- -", b"- - "),
+        (b"a.b", b"A . B "),
+        (b"!!=", b"refused"),
+    ];
+    for (text, want) in cases {
+        assert_eq!(rt; shown(alloc, text)?.as_slice(), want);
+    }
+    Ok(())
+}
+
+#[test]
+fn gaps_part_tokens(rt: HostRuntime) -> Result<(), Fail> {
+    let alloc = rt.alloc();
+    let cases: [(&str, &[u8], &[u8]); 19] = [
+        ("nothing", b"", b""),
+        ("each blank", b" a\tb\rc\nd ", b"A B C D "),
+        ("a vertical tab", b"a\x0bb", b"refused"),
+        ("to the end of the line", b"a--b\nc", b"A C "),
+        ("to the end of the text", b"a--b", b"A "),
+        ("an empty comment", b"a--", b"A "),
+        ("a CR doesn't end it", b"a--b\rc\nd", b"A D "),
+        ("a comment in it", b"--/*\na", b"A "),
+        ("a comment", b"a/* b */c", b"A C "),
+        ("no byte inside", b"/**/a", b"A "),
+        ("a slash first inside", b"/*/ */a", b"A "),
+        ("a star last inside", b"/* **/a", b"A "),
+        ("they don't nest", b"/* /* */a*/", b"refused"),
+        ("a quote inside", b"/* ' */a", b"A "),
+        ("a comment in a text", b"'/* -- */'", b"T[/* -- */] "),
+        ("without an end", b"a /* b", b"refused"),
+        ("a star at the end", b"/* *", b"refused"),
+        ("the star counts once", b"/*/", b"refused"),
+        ("a slash", b"a/b", b"refused"),
+    ];
+    for (name, text, want) in cases {
+        assert_eq!(rt; shown(alloc, text)?.as_slice(), want, "{name}");
+    }
+    Ok(())
+}
+
+#[test]
+fn words_and_numbers_are_read(rt: HostRuntime) -> Result<(), Fail> {
+    let alloc = rt.alloc();
+    let cases: [(&str, &[u8], &[u8]); 17] = [
+        ("in upper case", b"seLect _a9z", b"SELECT _A9Z "),
+        (
+            "with a dollar sign",
+            b"a$1 SYSTEM$STREAM",
+            b"A$1 SYSTEM$STREAM ",
+        ),
+        ("a dollar sign first", b"$1", b"refused"),
+        ("zero", b"0", b"0 "),
+        ("zeros in front", b"007", b"7 "),
+        ("18 digits", b"999999999999999999", b"999999999999999999 "),
+        ("19 digits", b"1000000000000000000", b"refused"),
+        (
+            "19 digits, a zero first",
+            b"0999999999999999999",
+            b"999999999999999999 ",
+        ),
+        ("past 2^64", b"18446744073709551617", b"refused"),
+        ("a letter behind", b"1a", b"refused"),
+        ("an underscore behind", b"1_", b"refused"),
+        ("a dollar sign behind", b"1$", b"refused"),
+        ("a point", b"1.5", b"1 . 5 "),
+        ("a sign behind", b"12)", b"12 ) "),
+        ("a text behind", b"a'b'1", b"A T[b] 1 "),
+        ("a byte above ASCII", b"\xc3\xa4", b"refused"),
+        ("in a word", b"a\xc3\xa4", b"refused"),
+    ];
+    for (name, text, want) in cases {
+        assert_eq!(rt; shown(alloc, text)?.as_slice(), want, "{name}");
+    }
+    Ok(())
+}
+
+#[test]
+fn quotes_are_doubled_inside(rt: HostRuntime) -> Result<(), Fail> {
+    let alloc = rt.alloc();
+    let cases: [(&str, &[u8], &[u8]); 20] = [
+        ("a text", b"'a b'", b"T[a b] "),
+        ("an empty text", b"''", b"T[] "),
+        ("a quote in a text", b"'x''y'", b"T[x'y] "),
+        ("a text of a quote", b"''''", b"T['] "),
+        ("a quote at the end", b"'a'''", b"T[a'] "),
+        ("two texts", b"'a' 'b'", b"T[a] T[b] "),
+        ("the other quote", b"'\"'", b"T[\"] "),
+        ("over lines", b"'a\nb'", b"T[a\nb] "),
+        ("above ASCII", b"'\xc3\xa4'", b"T[\xc3\xa4] "),
+        ("half a character", b"'\xc3'", b"refused"),
+        ("a backslash", b"'a\\b'", b"refused"),
+        ("no end", b"'a", b"refused"),
+        ("a doubled quote at the end", b"'a''", b"refused"),
+        ("one quote", b"'", b"refused"),
+        ("a name", b"\"a b\"", b"N[a b] "),
+        ("an empty name", b"\"\"", b"refused"),
+        ("a name of a quote", b"\"\"\"\"", b"N[\"] "),
+        ("a backslash in a name", b"\"a\\b\"", b"N[a\\b] "),
+        ("no end of a name", b"\"a", b"refused"),
+        ("no UTF-8 in a name", b"\"\xff\"", b"refused"),
+    ];
+    for (name, text, want) in cases {
+        assert_eq!(rt; shown(alloc, text)?.as_slice(), want, "{name}");
+    }
+    Ok(())
+}
+
+#[test]
+fn other_bytes_begin_nothing(rt: HostRuntime) -> Result<(), Fail> {
+    let alloc = rt.alloc();
+    for byte in [
+        b'#', b':', b'!', b';', b'$', b'/', b'\\', b'[', b'`', 0, 0x7f, 0xff,
+    ] {
+        let mut text = Bytes::from_slice(alloc, b"a ")?;
+        text.push(byte)?;
+        text.extend(b" b")?;
+        assert_eq!(rt;
+            shown(alloc, text.as_slice())?.as_slice(),
+            b"refused".as_slice(),
+            "{byte}"
+        );
+    }
+    Ok(())
+}
+
+#[test]
+fn tokens_have_places(rt: HostRuntime) -> Result<(), Fail> {
+    let alloc = rt.alloc();
+    let found = tokens(alloc, b" ab /**/<='''' 12--")?;
+    let want = [(18, 16), (11, 9), (9, 5), (4, 2)];
+    assert_eq!(rt; found.len(), want.len());
+    for (token, place) in found.iter().zip(&want) {
+        assert_eq!(rt; (token.from(), token.behind()), *place);
+    }
+    Ok(())
+}
+
+#[test]
+fn long_texts_are_read(rt: HostRuntime) -> Result<(), Fail> {
+    let alloc = rt.alloc();
+    let mut signs = Bytes::new(alloc);
+    let mut word = Bytes::new(alloc);
+    for _ in 0..65536 {
+        signs.push(b'<')?;
+        word.push(b'a')?;
+    }
+    assert_eq!(rt; tokens(alloc, word.as_slice())?.len(), 1);
+    word.push(b'a')?;
+    let longer = tokens(alloc, word.as_slice());
+    assert!(rt; matches!(longer, Err(LexFault::SyntaxError)));
+    signs.push(b'<')?;
+    assert_eq!(rt; tokens(alloc, signs.as_slice())?.len(), 65537);
+    Ok(())
+}
