@@ -32,11 +32,12 @@ pub(crate) fn first_entry(
     ensures { IfOk result (λ j. joined_in j
         ≡ started (source_part from.now) (map join_part joins.now) (source_in source)) }
 {
-    let name = source_name(from);
-    let taken = taken_findings(alloc, name, joins)?;
-    let name = name.copy(alloc)?;
+    let mut entries = Vec::with_capacity(alloc, 1)?;
+    let name = source_name(from).copy(alloc)?;
+    let taken = taken_findings(alloc, &name, joins)?;
     let source = source.into_inner();
-    let entries = with_last(Vec::new(alloc), name, source.columns)?;
+    let columns = source.columns;
+    entries.push(Entry { name, columns }).unwrap();
     Boxed::new(
         alloc,
         Joined {

@@ -1,4 +1,4 @@
-ghost use Rattle.std.specs.Prelude.{◌≡◌, [], None, Some, false, decimal, IfOk};
+ghost use Rattle.std.specs.Prelude.{◌≡◌, [], None, Some, false, decimal, IfOk, OnOk};
 ghost use Rattle.wh_naming.specs.Scope.{only};
 ghost use Rattle.wh_naming.specs.Select as naming;
 ghost use Rattle.wh_core_bind.specs.View.{outputs_of};
@@ -6,6 +6,7 @@ ghost use Rattle.wh_bind.specs.Steps.{nothing_sorted, position_below};
 ghost use Rattle.wh_bind.specs.View.{sorted_in};
 
 use std::alloc::{AllocError, Global};
+use std::mem;
 use wh_ast::{Key, Sort};
 use wh_core_bind::Output;
 use wh_expr_bind::Findings;
@@ -30,7 +31,7 @@ pub(crate) fn all_sorted(
 {
     let mut keys = no_keys(alloc);
     for sort in sorts {
-        keys = sorted_by(alloc, outputs, keys, sort)?;
+        add_key(alloc, outputs, &mut keys, sort)?;
     }
     Ok(keys)
 }
@@ -44,45 +45,43 @@ fn no_keys(alloc: Global) -> BoundKeys
     }
 }
 
-fn sorted_by(
+fn add_key(
     alloc: Global,
     outputs: &[Output],
-    keys: BoundKeys,
+    keys: &mut BoundKeys,
     sort: &Sort,
-) -> Result<BoundKeys, AllocError>
-    ensures { IfOk result (λ k. sorted_in k
-        ≡ naming.sorted_by (outputs_of outputs.now) (sorted_in keys) sort.now) }
+) -> Result<(), AllocError>
+    ensures { OnOk result (sorted_in keys.new
+        ≡ naming.sorted_by (outputs_of outputs.now) (sorted_in keys.old) sort.now) }
 {
     match &sort.key {
         Key::Name(name) => match place_of(name, outputs)? {
-            Some(place) => with_place(keys, place, sort.descending),
-            None => Ok(with_unknown(keys, name.copy(alloc)?)),
+            Some(place) => add_place(keys, place, sort.descending),
+            None => Ok(add_unknown(keys, name.copy(alloc)?)),
         },
         Key::Position(number) => match position_in(*number, outputs.len())? {
-            Some(place) => with_place(keys, place, sort.descending),
-            None => Ok(with_unknown(keys, printed(alloc, *number)?)),
+            Some(place) => add_place(keys, place, sort.descending),
+            None => Ok(add_unknown(keys, printed(alloc, *number)?)),
         },
     }
 }
 
-fn with_place(mut keys: BoundKeys, place: u32, is_descending: bool) -> Result<BoundKeys, AllocError>
-    ensures { IfOk result (λ k. sorted_in k
-        ≡ naming.with_key (sorted_in keys) is_descending [] (Some place)) }
+fn add_place(keys: &mut BoundKeys, place: u32, is_descending: bool) -> Result<(), AllocError>
+    ensures { OnOk result (sorted_in keys.new
+        ≡ naming.with_key (sorted_in keys.old) is_descending [] (Some place)) }
 {
     keys.keys.push(SortKey {
         place,
         is_descending,
     })?;
-    Ok(keys)
+    Ok(())
 }
 
-fn with_unknown(keys: BoundKeys, name: Text) -> BoundKeys
-    ensures { sorted_in result ≡ naming.with_key (sorted_in keys) false name None }
+fn add_unknown(keys: &mut BoundKeys, name: Text)
+    ensures { sorted_in keys.new ≡ naming.with_key (sorted_in keys.old) false name None }
 {
-    BoundKeys {
-        keys: keys.keys,
-        findings: keys.findings.followed(Findings::unknown_column(name)),
-    }
+    let found = mem::replace(&mut keys.findings, Findings::nothing());
+    keys.findings = found.followed(Findings::unknown_column(name));
 }
 
 // The place of the one output of that name.

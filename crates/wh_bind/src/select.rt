@@ -1,18 +1,16 @@
 ghost use Rattle.std.specs.Prelude.{◌≡◌, map, IfOk};
 ghost use Rattle.wh_naming.specs.Select as naming;
 ghost use Rattle.wh_expr_bind.specs.View.{named_of};
-ghost use Rattle.wh_core_bind.specs.View.{query_in, outputs_of};
+ghost use Rattle.wh_core_bind.specs.View.{outputs_of};
 ghost use Rattle.wh_bind.specs.Binds.{Binds};
-ghost use Rattle.wh_bind.specs.View.{sorted_in};
 
 use crate::BindFault;
 use crate::binding::bind_query;
-use crate::keys::{BoundKeys, all_sorted};
-use sqlite_items::Boxed;
+use crate::keys::all_sorted;
 use std::alloc::{AllocError, Global};
 use wh_algebra::Query;
 use wh_ast::Sort;
-use wh_core_bind::{BoundQuery, Output};
+use wh_core_bind::Output;
 use wh_expr_bind::Named;
 use wh_listing::SortKey;
 use wh_value::Text;
@@ -43,29 +41,24 @@ pub fn bind_select(
         (naming.bound_select (map named_of names.now) query.now sorts.now) }
 {
     let query = bind_query(alloc, names, 0, query)?;
-    let keys = all_sorted(alloc, &query.get().outputs, sorts)?;
-    select_of(alloc, query, keys)
-}
-
-#[tactic(auto, unfolding(wh_core_bind::specs::View::query_in))]
-fn select_of(
-    alloc: Global,
-    query: Boxed<BoundQuery>,
-    keys: BoundKeys,
-) -> Result<BoundSelect, BindFault>
-    ensures { Binds result (naming.select_of (query_in query) (sorted_in keys)) }
-{
     let names = names_of(alloc, &query.get().outputs)?;
+    let keys = all_sorted(alloc, &query.get().outputs, sorts)?;
     let query = query.into_inner();
-    match query.findings.followed(keys.findings).first_failing() {
-        Some(failing) => Err(BindFault::Failing(failing)),
-        None => Ok(BoundSelect {
-            query: query.query,
-            names,
-            sources: query.sources,
-            keys: keys.keys,
-            is_wide: query.is_wide,
-        }),
+    let failing = query.findings.followed(keys.findings).first_failing();
+    let select = BoundSelect {
+        query: query.query,
+        names,
+        sources: query.sources,
+        keys: keys.keys,
+        is_wide: query.is_wide,
+    };
+    match failing {
+        Some(failing) => {
+            // One call for the prover, where each part would be dropped here by itself.
+            drop(select);
+            Err(BindFault::Failing(failing))
+        }
+        None => Ok(select),
     }
 }
 

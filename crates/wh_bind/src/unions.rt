@@ -2,6 +2,8 @@ ghost use Rattle.std.specs.Prelude.{◌≡◌, ◌+◌, ◌++◌, option_map, If
 ghost use Rattle.wh_naming.specs.Select as naming;
 ghost use Rattle.wh_bind.specs.Steps.{number_behind, after_core};
 ghost use Rattle.wh_core_bind.specs.View.{query_in};
+ghost use Rattle.wh_algebra.specs.View.{query_of};
+ghost use Rattle.wh_expr_bind.specs.View.{findings_of};
 
 use crate::merging::{fit_each_other, merged};
 use sqlite_items::Boxed;
@@ -52,23 +54,41 @@ fn united(
     ensures { IfOk result (λ q. query_in q ≡ naming.united (query_in query) (query_in other)) }
 {
     let is_mistyped = !fit_each_other(&query.get().outputs, &other.get().outputs);
+    let is_wide = query.get().is_wide || other.get().is_wide;
     let outputs = merged(alloc, &query.get().outputs, &other.get().outputs)?;
     let sources = both_ids(alloc, &query.get().sources, &other.get().sources)?;
-    let first = query.into_inner();
-    let second = other.into_inner();
-    let above = Boxed::new(alloc, first.query)?;
-    let query = Query::UnionAll(above, Boxed::new(alloc, second.query)?);
+    let first = rows_of(alloc, query)?;
+    let second = rows_of(alloc, other)?;
     let found = first.findings.followed(second.findings);
     Boxed::new(
         alloc,
         BoundQuery {
-            query,
+            query: Query::UnionAll(first.query, second.query),
             outputs,
             sources,
             findings: found.followed(Findings::mistyped_if(is_mistyped)),
-            is_wide: first.is_wide || second.is_wide,
+            is_wide,
         },
     )
+}
+
+/// The rows of a query, and what is found wrong in it.
+#[derive(Debug, Drop)]
+struct Rows {
+    query: Boxed<Query>,
+    findings: Findings,
+}
+
+#[tactic(auto, unfolding(wh_core_bind::specs::View::query_in))]
+fn rows_of(alloc: Global, query: Boxed<BoundQuery>) -> Result<Rows, AllocError>
+    ensures query { IfOk result (λ r. query_of r.query ≡ (query_in query).query) }
+    ensures findings { IfOk result (λ r. findings_of r.findings ≡ (query_in query).findings) }
+{
+    let query = query.into_inner();
+    Ok(Rows {
+        query: Boxed::new(alloc, query.query)?,
+        findings: query.findings,
+    })
 }
 
 /// The ids of both, in their order.

@@ -1,5 +1,5 @@
 -- One turn of a loop over columns, entries, items and keys.
-use Rattle.std.proofs.Common.{◌≡◌, ℕ, suc, ◌+◌, ◌<◌, ◌≤◌, Bool, ◌||◌, false, List, [], ◌∷◌, ◌++◌, length, take, get_or, map, refl, sym, ap, ◌∙◌, append_assoc, append-nil, rules, arith}
+use Rattle.std.proofs.Common.{◌≡◌, ℕ, suc, ◌+◌, ◌<◌, ◌≤◌, Bool, ◌||◌, List, [], ◌∷◌, ◌++◌, length, take, get_or, map, refl, sym, ap, ◌∙◌, append_assoc, append-nil, arith}
 use Rattle.std.specs.Prelude.{not, is_some}
 use Rattle.std.specs.List.{list_any}
 use Rattle.std.proofs.lemmas.List.{map_more, map-append, take_more, length-map, length-take-le}
@@ -13,7 +13,7 @@ use Rattle.wh_meaning.specs.Scalar.{Scalar, Column}
 use Rattle.wh_scalar.specs.View.{scalar_of}
 use Rattle.wh_scalar.specs.declared.scalar.Scalar as code
 use Rattle.wh_algebra.specs.View.{scalars_of}
-use Rattle.wh_naming.specs.Findings.{Findings, followed, nothing_found}
+use Rattle.wh_naming.specs.Findings.{Findings, followed}
 use Rattle.wh_naming.specs.Scope.{Entry}
 use Rattle.wh_naming.specs.Grouping.{regrouped}
 use Rattle.wh_naming.specs.Select.{Shown, output_of, places_from, all_columns, shown_with, all_shown, plain, key_scalars, key_findings, regrouped_all, scalar_or}

@@ -29,12 +29,12 @@ abbrev pub found_in_groups : Bool → Bool → List Scalar → ℕ → List Scal
 found_in_groups false has_star keys width scalars = nothing_found
 found_in_groups true has_star keys width scalars = mistyped_if (has_star || list_any (λ s. not (is_some (regrouped keys width s))) scalars)
 
--- a core of these parts
-abbrev pub finished : Bool → Query → List ℕ → Bool → Findings → Findings → List Scalar → Findings → ℕ → Shown → BoundQuery
-finished is_grouped rows sources is_wide joined filter keys in_keys width shown = record {
+-- a core of these parts; `found` is what is found below its items
+abbrev pub finished : Bool → Query → List ℕ → Bool → Findings → List Scalar → ℕ → Shown → BoundQuery
+finished is_grouped rows sources is_wide found keys width shown = record {
   query = projected_from is_grouped rows keys width shown.scalars shown.calls;
   outputs = shown.outputs;
   sources = sources;
-  findings = followed shown.findings (followed joined (followed filter (followed in_keys (found_in_groups is_grouped shown.has_star keys width shown.scalars))));
+  findings = followed (followed shown.findings found) (found_in_groups is_grouped shown.has_star keys width shown.scalars);
   is_wide = is_wide || is_too_wide shown.outputs;
 }

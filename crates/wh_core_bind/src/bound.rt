@@ -8,6 +8,7 @@ use crate::items::all_shown;
 use crate::keys::{GroupKeys, group_keys};
 use crate::shown::Shown;
 use crate::{BoundQuery, Joined, Output};
+use sqlite_items::Boxed;
 use std::alloc::{AllocError, Global};
 use wh_algebra::{Call, Query};
 use wh_ast::{Expr, Item};
@@ -26,14 +27,16 @@ pub fn bound_core(
     ensures { IfOk result (λ q. query_in q
         ≡ naming.bound_core items.now (joined_in joined) filter.now group.now) }
 {
-    let shown = all_shown(alloc, &joined.entries, items)?;
+    // Boxed, so that each drop on the way is one call.
+    let joined = Boxed::new(alloc, joined)?;
+    let shown = Boxed::new(alloc, all_shown(alloc, &joined.get().entries, items)?)?;
     core_of(alloc, joined, filter, group, shown)
 }
 
 ghost use Rattle.std.specs.Prelude.{option_map};
 ghost use Rattle.wh_scalar.specs.View.{scalar_of};
 ghost use Rattle.wh_algebra.specs.View.{query_of, scalars_of};
-ghost use Rattle.wh_naming.specs.Scope as scope;
+ghost use Rattle.wh_naming.specs.Findings as wrong;
 ghost use Rattle.wh_expr_bind.specs.View.{entries_of, findings_of};
 ghost use Rattle.wh_core_bind.specs.View.{shown_in};
 ghost use Rattle.wh_core_bind.specs.Parts.{filter_of, filtered, finished};
@@ -41,17 +44,17 @@ ghost use Rattle.wh_core_bind.specs.Parts.{filter_of, filtered, finished};
 #[tactic(auto, unfolding(crate::specs::View::joined_in))]
 fn core_of(
     alloc: Global,
-    joined: Joined,
+    joined: Boxed<Joined>,
     filter: &Option<Expr>,
     group: &[Expr],
-    shown: Shown,
+    shown: Boxed<Shown>,
 ) -> Result<BoundQuery, AllocError>
     ensures { IfOk result (λ q. query_in q
         ≡ naming.core_of (joined_in joined) filter.now group.now (shown_in shown)) }
 {
-    let is_grouped = is_grouped(group, &shown.calls);
-    let keys = group_keys(alloc, &joined.entries, group)?;
-    let width = width(&joined.entries)?;
+    let is_grouped = is_grouped(group, &shown.get().calls);
+    let width = width(&joined.get().entries)?;
+    let keys = Boxed::new(alloc, group_keys(alloc, &joined.get().entries, group)?)?;
     let rows = filtered_rows(alloc, joined, filter)?;
     finished(alloc, is_grouped, rows, keys, width, shown)
 }
@@ -67,39 +70,36 @@ fn is_grouped(group: &[Expr], calls: &[Call]) -> bool
     }
 }
 
-/// The rows below the items of a core.
+/// The rows below the items of a core, and what is found wrong in FROM and WHERE.
 #[derive(Debug, Drop)]
 struct Rows {
     query: Query,
     sources: Vec<u32>,
     findings: Findings,
-    filter: Findings,
     is_wide: bool,
 }
 
-fn filtered_rows(alloc: Global, joined: Joined, filter: &Option<Expr>) -> Result<Rows, AllocError>
+fn filtered_rows(
+    alloc: Global,
+    joined: Boxed<Joined>,
+    filter: &Option<Expr>,
+) -> Result<Rows, AllocError>
     ensures query { IfOk result (λ r. query_of r.query ≡ filtered (query_of joined.query)
         (filter_of (entries_of joined.entries.items) filter.now)) }
     ensures sources { IfOk result (λ r. r.sources.items ≡ joined.sources.items) }
-    ensures findings { IfOk result (λ r. findings_of r.findings ≡ findings_of joined.findings) }
-    ensures filter { IfOk result (λ r. findings_of r.filter
-        ≡ naming.filter_findings (entries_of joined.entries.items) filter.now) }
+    ensures findings { IfOk result (λ r. findings_of r.findings
+        ≡ wrong.followed (findings_of joined.findings)
+        (naming.filter_findings (entries_of joined.entries.items) filter.now)) }
     ensures wide { IfOk result (λ r. r.is_wide ≡ joined.is_wide) }
 {
-    let Joined {
-        query,
-        entries,
-        sources,
-        findings,
-        is_wide,
-    } = joined;
-    let filter = row_filter(alloc, &entries, filter)?;
+    let filter = row_filter(alloc, &joined.get().entries, filter)?;
+    let joined = joined.into_inner();
+    let findings = joined.findings.followed(filter.findings);
     Ok(Rows {
-        query: filtered(alloc, query, filter.scalar)?,
-        sources,
+        query: filtered(alloc, joined.query, filter.scalar)?,
+        sources: joined.sources,
         findings,
-        filter: filter.findings,
-        is_wide,
+        is_wide: joined.is_wide,
     })
 }
 
@@ -108,38 +108,35 @@ fn finished(
     alloc: Global,
     is_grouped: bool,
     rows: Rows,
-    keys: GroupKeys,
+    keys: Boxed<GroupKeys>,
     width: usize,
-    shown: Shown,
+    shown: Boxed<Shown>,
 ) -> Result<BoundQuery, AllocError>
     ensures { IfOk result (λ q. query_in q ≡ finished is_grouped (query_of rows.query)
-        rows.sources.items rows.is_wide (findings_of rows.findings) (findings_of rows.filter)
-        (scalars_of keys.scalars.items) (findings_of keys.findings) width (shown_in shown)) }
+        rows.sources.items rows.is_wide
+        (wrong.followed (findings_of rows.findings) (findings_of keys.findings))
+        (scalars_of keys.scalars.items) width (shown_in shown)) }
 {
-    let Shown {
-        outputs,
-        scalars,
-        calls,
-        has_star,
-        findings,
-    } = shown;
+    let is_wide = rows.is_wide || is_too_wide(&shown.get().outputs);
+    let keys = keys.into_inner();
+    let shown = shown.into_inner();
+    let below = rows.findings.followed(keys.findings);
+    let found = shown.findings.followed(below);
     let items = projected(
         alloc,
         is_grouped,
         rows.query,
         keys.scalars,
         width,
-        scalars,
-        calls,
-        has_star,
+        shown.scalars,
+        shown.calls,
+        shown.has_star,
     )?;
-    let behind = rows.filter.followed(keys.findings.followed(items.findings));
-    let is_wide = rows.is_wide || is_too_wide(&outputs);
     Ok(BoundQuery {
         query: items.query,
-        outputs,
+        outputs: shown.outputs,
         sources: rows.sources,
-        findings: findings.followed(rows.findings.followed(behind)),
+        findings: found.followed(items.findings),
         is_wide,
     })
 }

@@ -38,14 +38,14 @@ pub(crate) fn projected(
     ensures findings { IfOk result (λ p. findings_of p.findings ≡ found_in_groups is_grouped
         has_star (scalars_of keys.items) width (scalars_of scalars.items)) }
 {
+    let rows = Boxed::new(alloc, rows)?;
     if !is_grouped {
         return Ok(ItemRows {
-            query: Query::Project(Boxed::new(alloc, rows)?, Items::from_vec(scalars)),
+            query: Query::Project(rows, Items::from_vec(scalars)),
             findings: Findings::nothing(),
         });
     }
     let items = all_regrouped(alloc, &keys, width, &scalars)?;
-    let rows = Boxed::new(alloc, rows)?;
     let groups = Query::Group(rows, Items::from_vec(keys), Items::from_vec(calls));
     Ok(ItemRows {
         query: Query::Project(Boxed::new(alloc, groups)?, Items::from_vec(items.scalars)),

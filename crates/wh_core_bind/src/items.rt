@@ -4,7 +4,7 @@ ghost use Rattle.wh_naming.specs.Select as naming;
 ghost use Rattle.wh_core_bind.specs.View.{shown_in};
 ghost use Rattle.wh_expr_bind.specs.View.{entries_of};
 
-use crate::shown::{Shown, nothing_shown, with_columns, with_item, without_span};
+use crate::shown::{Shown, add_item, add_star, add_unknown, nothing_shown};
 use std::alloc::{AllocError, Global};
 use wh_ast::{Expr, Item};
 use wh_expr_bind::{Entry, columns_of_entry, typed};
@@ -21,27 +21,22 @@ pub(crate) fn all_shown(
 {
     let mut shown = nothing_shown(alloc);
     for item in items {
-        shown = shown_with(alloc, entries, shown, item)?;
+        show(alloc, entries, &mut shown, item)?;
     }
     Ok(shown)
 }
 
-fn shown_with(
-    alloc: Global,
-    entries: &[Entry],
-    shown: Shown,
-    item: &Item,
-) -> Result<Shown, AllocError>
-    ensures { IfOk result (λ s. shown_in s
-        ≡ naming.shown_with (entries_of entries.now) (shown_in shown) item.now) }
+fn show(alloc: Global, entries: &[Entry], shown: &mut Shown, item: &Item) -> Result<(), AllocError>
+    ensures { OnOk result (shown_in shown.new
+        ≡ naming.shown_with (entries_of entries.now) (shown_in shown.old) item.now) }
 {
     match item {
         Item::Star => {
             let columns = all_columns(alloc, entries)?;
-            with_columns(alloc, shown, 0, &columns)
+            add_star(alloc, shown, 0, &columns)
         }
-        Item::StarOf(name) => with_star_of(alloc, entries, shown, name),
-        Item::Expr(x, alias) => with_expression(alloc, entries, shown, x, alias),
+        Item::StarOf(name) => show_star_of(alloc, entries, shown, name),
+        Item::Expr(x, alias) => show_expression(alloc, entries, shown, x, alias),
     }
 }
 
@@ -72,19 +67,19 @@ fn add_columns(alloc: Global, columns: &mut Vec<Column>, more: &[Column]) -> Res
     Ok(())
 }
 
-fn with_star_of(
+fn show_star_of(
     alloc: Global,
     entries: &[Entry],
-    shown: Shown,
+    shown: &mut Shown,
     name: &Text,
-) -> Result<Shown, AllocError>
-    ensures { IfOk result (λ s. shown_in s
-        ≡ naming.with_span (shown_in shown) name.now
+) -> Result<(), AllocError>
+    ensures { OnOk result (shown_in shown.new
+        ≡ naming.with_span (shown_in shown.old) name.now
         (naming_scope.columns_of_entry name.now (entries_of entries.now))) }
 {
     match columns_of_entry(name, entries)? {
-        Some(span) => with_columns(alloc, shown, span.from, span.columns),
-        None => without_span(alloc, shown, name),
+        Some(span) => add_star(alloc, shown, span.from, span.columns),
+        None => add_unknown(alloc, shown, name),
     }
 }
 
@@ -92,25 +87,25 @@ ghost use Rattle.wh_naming.specs.Scope as naming_scope;
 ghost use Rattle.std.specs.Prelude.{suc, length};
 ghost use Rattle.wh_naming.specs.Typing as typing;
 
-fn with_expression(
+fn show_expression(
     alloc: Global,
     entries: &[Entry],
-    shown: Shown,
+    shown: &mut Shown,
     x: &Expr,
     alias: &Option<Text>,
-) -> Result<Shown, AllocError>
-    ensures { IfOk result (λ s. shown_in s
-        ≡ naming.with_item (shown_in shown)
-        (naming.output_name alias.now x.now (suc (length (shown_in shown).outputs)))
+) -> Result<(), AllocError>
+    ensures { OnOk result (shown_in shown.new
+        ≡ naming.with_item (shown_in shown.old)
+        (naming.output_name alias.now x.now (suc (length (shown_in shown.old).outputs)))
         (typing.typed x.now (naming.item_context (entries_of entries.now))
-        (length (shown_in shown).calls))) }
+        (length (shown_in shown.old).calls))) }
 {
     let Some(position) = shown.outputs.len().checked_add(1) else {
         return Err(AllocError);
     };
     let name = output_name(alloc, alias, x, position)?;
     let x = typed(alloc, x, entries, true, shown.calls.len())?;
-    with_item(shown, name, x)
+    add_item(shown, name, x)
 }
 
 ghost use Rattle.wh_ast.specs.declared.expr.Expr.{out-Expr};

@@ -3,12 +3,14 @@ ghost use Rattle.wh_value.specs.View.{column_of};
 ghost use Rattle.wh_algebra.specs.View.{scalars_of};
 ghost use Rattle.wh_naming.specs.Select as naming;
 ghost use Rattle.wh_core_bind.specs.View.{outputs_of, shown_in};
-ghost use Rattle.wh_expr_bind.specs.View.{typed_view};
+ghost use Rattle.wh_expr_bind.specs.View.{findings_of, typed_view};
+ghost use Rattle.wh_naming.specs.Findings as wrong;
 ghost use Rattle.wh_scalar.specs.View.{scalar_of};
 ghost use Rattle.wh_meaning.specs.Scalar as meaning;
 
 use crate::Output;
 use std::alloc::{AllocError, Global};
+use std::mem;
 use wh_algebra::Call;
 use wh_expr_bind::{Findings, Typed};
 use wh_scalar::Scalar;
@@ -36,32 +38,20 @@ pub(crate) fn nothing_shown(alloc: Global) -> Shown
     }
 }
 
-/// Columns of a star, the first of which has that place.
-pub(crate) fn with_columns(
+/// Adds the columns of a star, the first of which has that place.
+pub(crate) fn add_star(
     alloc: Global,
-    shown: Shown,
+    shown: &mut Shown,
     from: usize,
     columns: &[Column],
-) -> Result<Shown, AllocError>
-    ensures { IfOk result (λ s. shown_in s
-        ≡ naming.with_columns (shown_in shown) from (map column_of columns.now)) }
+) -> Result<(), AllocError>
+    ensures { OnOk result (shown_in shown.new
+        ≡ naming.with_columns (shown_in shown.old) from (map column_of columns.now)) }
 {
-    let Shown {
-        mut outputs,
-        mut scalars,
-        calls,
-        findings,
-        ..
-    } = shown;
-    add_outputs(alloc, &mut outputs, columns)?;
-    add_places(&mut scalars, from, columns)?;
-    Ok(Shown {
-        outputs,
-        scalars,
-        calls,
-        has_star: true,
-        findings,
-    })
+    add_outputs(alloc, &mut shown.outputs, columns)?;
+    add_places(&mut shown.scalars, from, columns)?;
+    shown.has_star = true;
+    Ok(())
 }
 
 fn add_outputs(
@@ -111,54 +101,37 @@ fn behind(place: usize) -> Result<usize, AllocError>
     place.checked_add(1).ok_or(AllocError)
 }
 
-/// A star of no entry, or of several.
-pub(crate) fn without_span(alloc: Global, shown: Shown, name: &Text) -> Result<Shown, AllocError>
-    ensures { IfOk result (λ s. shown_in s
-        ≡ naming.with_span (shown_in shown) name.now None) }
+/// Adds a star of no entry, or of several.
+pub(crate) fn add_unknown(alloc: Global, shown: &mut Shown, name: &Text) -> Result<(), AllocError>
+    ensures { OnOk result (shown_in shown.new
+        ≡ naming.with_span (shown_in shown.old) name.now None) }
 {
-    let found = Findings::unknown_column(name.copy(alloc)?);
-    let Shown {
-        outputs,
-        scalars,
-        calls,
-        findings,
-        ..
-    } = shown;
-    Ok(Shown {
-        outputs,
-        scalars,
-        calls,
-        has_star: true,
-        findings: findings.followed(found),
-    })
+    let name = name.copy(alloc)?;
+    shown.has_star = true;
+    add(&mut shown.findings, Findings::unknown_column(name));
+    Ok(())
 }
 
-/// An expression under its name.
-pub(crate) fn with_item(shown: Shown, name: Text, x: Typed) -> Result<Shown, AllocError>
-    ensures { IfOk result (λ s. shown_in s
-        ≡ naming.with_item (shown_in shown) name (typed_view x)) }
+/// Adds an expression under its name.
+pub(crate) fn add_item(shown: &mut Shown, name: Text, x: Typed) -> Result<(), AllocError>
+    ensures { OnOk result (shown_in shown.new
+        ≡ naming.with_item (shown_in shown.old) name (typed_view x)) }
 {
-    let Shown {
-        mut outputs,
-        mut scalars,
-        mut calls,
-        has_star,
-        findings,
-    } = shown;
-    let Typed {
-        scalar,
-        type_of,
-        calls: mut more,
-        findings: found,
-    } = x;
-    outputs.push(Output { name, type_of })?;
-    scalars.push(scalar)?;
-    calls.append(&mut more)?;
-    Ok(Shown {
-        outputs,
-        scalars,
-        calls,
-        has_star,
-        findings: findings.followed(found),
-    })
+    add(&mut shown.findings, x.findings);
+    shown.scalars.push(x.scalar)?;
+    let mut calls = x.calls;
+    shown.calls.append(&mut calls)?;
+    shown.outputs.push(Output {
+        name,
+        type_of: x.type_of,
+    })?;
+    Ok(())
+}
+
+fn add(findings: &mut Findings, next: Findings)
+    ensures { findings_of findings.new
+        ≡ wrong.followed (findings_of findings.old) (findings_of next) }
+{
+    let found = mem::replace(findings, Findings::nothing());
+    *findings = found.followed(next);
 }

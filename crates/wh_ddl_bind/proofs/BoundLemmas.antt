@@ -8,8 +8,8 @@ use Rattle.wh_naming.specs.Select as selects
 use Rattle.wh_naming.specs.Changes as changes
 use Rattle.wh_bind.specs.Binds as select_binds
 use Rattle.wh_bind.specs.declared.select.BoundSelect.{BoundSelect}
+use Rattle.wh_bound_change.specs.declared.change.BoundChange.{BoundChange}
 use Rattle.wh_dml_bind.specs.Binds as change_binds
-use Rattle.wh_dml_bind.specs.declared.change.BoundChange.{BoundChange}
 use Rattle.wh_ddl_naming.specs.Statements.{Select, Change, selected, changed, plain}
 use Rattle.wh_ddl_bind.specs.View.{select_of, change_of, bound_of}
 use Rattle.wh_ddl_bind.specs.Binds.{IsBound}

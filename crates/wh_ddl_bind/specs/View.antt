@@ -15,8 +15,8 @@ use Rattle.wh_naming.specs.Select as selects
 use Rattle.wh_naming.specs.Changes as changes
 use Rattle.wh_expr_bind.specs.View.{named_of, findings_of}
 use Rattle.wh_bind.specs.declared.select.BoundSelect.{BoundSelect}
-use Rattle.wh_dml_bind.specs.View as dml
-use Rattle.wh_dml_bind.specs.declared.change.BoundChange.{BoundChange}
+use Rattle.wh_bound_change.specs.View as dml
+use Rattle.wh_bound_change.specs.declared.change.BoundChange.{BoundChange}
 use Rattle.wh_ddl_naming.specs.Meant.{Meant}
 use Rattle.wh_ddl_naming.specs.Objects as naming
 use Rattle.wh_ddl_naming.specs.Tables as tables

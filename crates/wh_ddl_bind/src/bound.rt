@@ -2,7 +2,7 @@ use sqlite_items::Boxed;
 use wh_algebra::Query;
 use wh_ast::{Dml, Initialize, Lag, RefreshMode, When};
 use wh_bind::BoundSelect;
-use wh_dml_bind::BoundChange;
+use wh_bound_change::BoundChange;
 use wh_value::{Column, Text};
 
 /// A statement with ids in place of objects' names, and with its queries and changes bound.

@@ -3,9 +3,10 @@
 --     one_turn                      the turn of the next row, and then those of the others
 --     turned_append, more_turns     the turns of rows and then of others
 --     partition_done, partition_fails   the rows of the next partition, and then those of the others
-use Rattle.std.specs.Prelude.{◌≡◌, ℕ, ◌+◌, ◌<◌, length, drop, List, [], ◌∷◌, ◌++◌, Option, Some, None, option_map, refl}
+--     all_done                      no partition is left
+use Rattle.std.specs.Prelude.{◌≡◌, ℕ, ◌+◌, ◌<◌, ◌≤◌, length, drop, List, [], ◌∷◌, ◌++◌, Option, Some, None, option_map, refl}
 use Rattle.std.proofs.Common.{get_or, ap, sym, ◌∙◌}
-use Rattle.std.proofs.lemmas.List.{append_assoc, append-nil, drop_more}
+use Rattle.std.proofs.lemmas.List.{append_assoc, append-nil, drop_more, drop_all}
 use denote.Ref.{Bor}
 use Rattle.wh_frame.specs.Partition.{Partition}
 use Rattle.wh_value.specs.Value.{Row}
@@ -92,6 +93,12 @@ pub partition_done : (turn : Row → Option Turn) (target : List (Bor Partition)
 partition_done turn target i p rows old new within is same done =
     ap (λ ts. option_map (before old) (turned turn ts)) (next_partition target i p rows within is same)
     ∙ more_turns turn (kept_rows rows) (targets_of (drop (i + 1) target)) old new done
+
+-- behind the last partition nothing is left to do
+pub all_done : (turn : Row → Option Turn) (target : List (Bor Partition)) (i : ℕ) (e : Effect) → length target ≤ i
+    → option_map (before e) (turned turn (targets_of (drop i target))) ≡ Some e
+all_done turn target i e past =
+    ap (λ ts. option_map (before e) (turned turn (targets_of ts))) (drop_all i target past) ∙ ap Some (before_none e)
 
 fails_both : (some others : Option Effect) → some ≡ None → both some others ≡ None
 fails_both None others none = refl

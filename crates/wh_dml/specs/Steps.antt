@@ -14,8 +14,8 @@ use Rattle.wh_meaning.specs.Scalar.{Scalar, val, is_true, holds, of_one, of_two}
 use Rattle.wh_meaning.specs.Query.{values_on}
 use Rattle.wh_naming.specs.Changes.{BoundClause, UpdateMatched, DeleteMatched, InsertUnmatched}
 use Rattle.wh_effect.specs.Effect.{Kept, Effect, Outcome, Does, no_effect, unless_several, Turn, Stays, Goes, Becomes, condition_of, inserted_by}
-use Rattle.wh_dml_bind.specs.View.{clause_of}
-use Rattle.wh_dml_bind.specs.declared.change.BoundClause as code
+use Rattle.wh_bound_change.specs.View.{clause_of}
+use Rattle.wh_bound_change.specs.declared.change.BoundClause as code
 
 abbrev pub before : Effect → Effect → Effect
 before a b = record { removed = a.removed ++ b.removed; changed = a.changed ++ b.changed; added = a.added ++ b.added }

@@ -1,5 +1,5 @@
+ghost use Rattle.wh_bound_change.specs.View.{change_of};
 ghost use Rattle.wh_dml.specs.View.{Gives, targets_of};
-ghost use Rattle.wh_dml_bind.specs.View.{change_of};
 ghost use Rattle.wh_effect.specs.Effect as meaning;
 ghost use Rattle.wh_exec.specs.Evaluation.{instance_of};
 
@@ -9,7 +9,7 @@ use crate::merge::merged;
 use crate::update::updated;
 use crate::{Effect, EffectFault};
 use std::alloc::Global;
-use wh_dml_bind::Change;
+use wh_bound_change::Change;
 use wh_part::Partition;
 use wh_value::Row;
 

@@ -1,16 +1,16 @@
 //! The clauses of MERGE.
 ghost use Rattle.std.specs.Prelude.{◌≡◌, IfOk, option_map, option_to_list};
+ghost use Rattle.wh_bound_change.specs.View.{clause_of, clauses_of};
 ghost use Rattle.wh_dml.specs.Given.{Shows};
 ghost use Rattle.wh_dml.specs.Steps.{choice, clause_at, clauses_at, inserts_by, matched_turns};
 ghost use Rattle.wh_dml.specs.View.{turns_of};
-ghost use Rattle.wh_dml_bind.specs.View.{clause_of, clauses_of};
 ghost use Rattle.wh_effect.specs.Effect as meaning;
 ghost use Rattle.wh_scalar.specs.View.{scalar_of};
 
 use crate::turn::Turn;
 use std::alloc::{AllocError, Global};
 use wh_aggregate::values_on;
-use wh_dml_bind::BoundClause;
+use wh_bound_change::BoundClause;
 use wh_scalar::{EvalFault, Scalar};
 use wh_value::Row;
 

@@ -11,7 +11,7 @@ use std::alloc::Global;
 use wh_part::{NumberedRow, Partition};
 use wh_scalar::{EvalFault, Scalar};
 
-#[tactic(auto, using(crate::proofs::EffectLaws::partition_done, crate::proofs::EffectLaws::partition_fails))]
+#[tactic(auto, using(crate::proofs::EffectLaws::partition_fails))]
 pub(crate) fn deleted(
     alloc: Global,
     condition: &Scalar,

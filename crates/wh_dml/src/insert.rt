@@ -1,13 +1,12 @@
 //! INSERT: the new rows.
 ghost use Rattle.wh_aggregate.specs.Given.{GivesListed};
 ghost use Rattle.wh_algebra.specs.View.{query_of, scalars_of};
-ghost use Rattle.wh_dml_bind.specs.View as bound;
+ghost use Rattle.wh_bound_change.specs.View as bound;
 ghost use Rattle.wh_effect.specs.Effect as meaning;
 ghost use Rattle.wh_exec.specs.Evaluation.{instance_of};
 ghost use Rattle.wh_meaning.specs.Query.{eval};
 
 use crate::Effect;
-use sqlite_items::Boxed;
 use std::alloc::{AllocError, Global};
 use wh_aggregate::values_on;
 use wh_algebra::{Physical, Query};

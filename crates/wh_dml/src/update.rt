@@ -13,7 +13,7 @@ use wh_aggregate::values_on;
 use wh_part::{NumberedRow, Partition};
 use wh_scalar::{EvalFault, Scalar};
 
-#[tactic(auto, using(crate::proofs::EffectLaws::partition_done, crate::proofs::EffectLaws::partition_fails))]
+#[tactic(auto, using(crate::proofs::EffectLaws::partition_fails))]
 pub(crate) fn updated(
     alloc: Global,
     condition: &Scalar,

@@ -1,10 +1,10 @@
 -- Places of columns, one after another.
-use Rattle.std.proofs.Common.{◌≡◌, ◌∙◌, ◌<◌, ◌≤◌, sym, ap, refl, ℕ, zero, suc, ◌+◌, Bool, true, false, if◌then◌else◌, List, [], ◌∷◌, ◌++◌, append-nil, map, length, drop, take, get_or, Option, Some, None, option_map, bytes_eq, add-one, drop-cons, arith}
-use Rattle.std.proofs.lemmas.List.{drop_all}
+use Rattle.std.proofs.Common.{◌≡◌, ◌∙◌, ◌<◌, ◌≤◌, sym, ap, refl, ℕ, zero, suc, ◌+◌, Bool, true, false, if◌then◌else◌, List, [], ◌∷◌, ◌++◌, append-nil, map, length, drop, take, get_or, Option, Some, None, add-one, drop-cons, arith}
+use Rattle.std.proofs.lemmas.List.{drop_all, map_more}
 use Rattle.wh_value.specs.Column as table
 use Rattle.wh_value.specs.View.{type_of, column_of}
 use Rattle.wh_value.specs.declared.column.Column as stored
-use Rattle.wh_naming.specs.Findings.{Name, Findings, followed, nothing_found, taken_if}
+use Rattle.wh_naming.specs.Findings.{Name, Findings, followed, taken_if}
 use Rattle.wh_naming.specs.Scope.{Place, only, places_among, column_at}
 use Rattle.wh_naming.specs.Changes.{place_in, places_from, place_findings, names_again, list_findings, fit_places}
 use Rattle.wh_core_bind.proofs.FindingLaws.{followed_assoc, followed_nothing}
@@ -32,6 +32,12 @@ places_turn cs i c l is = rw add-one (places_take 0 i i cs c l is (omega arith))
 
 pub drop_here : {A : Type 0} (xs : List A) (i : ℕ) (x : A) → i < length xs → x ≡ get_or xs i x → drop i xs ≡ x ∷ drop (i + 1) xs
 drop_here xs i x l is = rw (add-one, drop-cons xs i x l) (ap (λ y. y ∷ drop (suc i) xs) (sym is))
+
+pub map_turn : {A B : Type 0} (f : A → B) (xs : List A) (i : ℕ) (x : A) → i < length xs → x ≡ get_or xs i x
+    → map f (take (i + 1) xs) ≡ map f (take i xs) ++ f x ∷ []
+map_turn f xs i x l is =
+    let more = map_more f xs i x l in
+    rw (more, ← is) refl
 
 -- one name more
 pub names_turn : (columns : List table.Column) (names : List Name) (i : ℕ) (name : Name) (f found : Findings) → i < length names → name ≡ get_or names i name

@@ -1,16 +1,16 @@
 -- Values, rows of values and parts of SET, one after another.
 use Rattle.std.proofs.Common.{◌≡◌, ◌∙◌, ◌<◌, ◌≤◌, sym, ap, refl, ℕ, zero, suc, ◌+◌, List, [], ◌∷◌, ◌++◌, map, length, drop, take, get_or, Option, add-one, arith}
-use Rattle.std.proofs.lemmas.List.{map_more, map-append, take_more, drop_all}
+use Rattle.std.proofs.lemmas.List.{map_more, map-append, drop_all}
 use Rattle.wh_value.specs.Column as table
 use Rattle.wh_ast.specs.declared.expr.Expr.{Expr}
 use Rattle.wh_ast.specs.declared.dml.Assignment.{Assignment}
-use Rattle.wh_meaning.specs.Scalar.{Scalar, Column}
+use Rattle.wh_meaning.specs.Scalar.{Column}
 use Rattle.wh_naming.specs.Findings.{Findings, followed}
 use Rattle.wh_naming.specs.Scope.{Entry, Place}
 use Rattle.wh_naming.specs.Typing.{Typed}
-use Rattle.wh_naming.specs.Select.{Output, plain}
+use Rattle.wh_naming.specs.Select.{plain}
 use Rattle.wh_naming.specs.Changes.{NewRow, typed_all, all_findings, value_rows, new_row, row_findings, part_findings, set_findings, outputs_from}
-use Rattle.wh_core_bind.specs.View.{output_of, outputs_of}
+use Rattle.wh_core_bind.specs.View.{outputs_of}
 use Rattle.wh_core_bind.specs.declared.output.Output as made
 use Rattle.wh_core_bind.proofs.FindingLaws.{followed_assoc, followed_nothing}
 use Rattle.wh_dml_bind.proofs.PlaceLemmas.{drop_here}

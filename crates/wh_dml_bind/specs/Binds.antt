@@ -7,8 +7,8 @@ use Rattle.wh_naming.specs.Findings.{first_failing}
 use Rattle.wh_naming.specs.Changes as naming
 use Rattle.wh_bind.specs.declared.fault.BindFault.{BindFault}
 use Rattle.wh_bind.specs.declared.fault.BindFault.TheVariants.{Failing, OutOfMemory}
-use Rattle.wh_dml_bind.specs.View.{change_of}
-use Rattle.wh_dml_bind.specs.declared.change.BoundChange.{BoundChange}
+use Rattle.wh_bound_change.specs.View.{change_of}
+use Rattle.wh_bound_change.specs.declared.change.BoundChange.{BoundChange}
 
 pub record IsBound (b : BoundChange) (meant : naming.BoundChange) : Type 0 where
   pub nothing_found : first_failing meant.findings ≡ None

@@ -1,28 +1,24 @@
 -- What the types of the code stand for.
 --     places_of                places of columns, of which some have no meaning
 --     target_in                a statement's target
---     row_in, rows_of          a row of values, and the scalars of rows
---     clause_of, clauses_of    a clause of MERGE, and all of them
---     change_of                what becomes of the target's rows
+--     row_in                   a row of values
+--     merge_in                 a MERGE of its parts
 --     checked_in               a change, and what is found wrong in its statement
-use Rattle.std.specs.Prelude.{List, map, Option, option_map, Vec}
-use Rattle.std.specs.declared.alloc.Global.{Global}
+use Rattle.std.specs.Prelude.{List, map, Option, option_map}
 use Rattle.wh_value.specs.View.{column_of}
-use Rattle.wh_meaning.specs.Scalar as meaning
 use Rattle.wh_scalar.specs.View.{scalar_of}
-use Rattle.wh_scalar.specs.declared.scalar.Scalar.{Scalar}
-use Rattle.wh_algebra.specs.View.{query_of, scalars_of}
+use Rattle.wh_algebra.specs.View.{scalars_of}
 use Rattle.wh_naming.specs.Scope as scope
+use Rattle.wh_naming.specs.Select.{BoundSource}
 use Rattle.wh_naming.specs.Changes as naming
+use Rattle.wh_bound_change.specs.View.{clauses_of, change_of}
 use Rattle.wh_expr_bind.specs.View.{place_of, findings_of}
 use Rattle.wh_expr_bind.specs.declared.columns.Place.{Place}
+use Rattle.wh_dml_bind.specs.Steps.{merge_of}
 use Rattle.wh_dml_bind.specs.declared.target.Target.{Target}
 use Rattle.wh_dml_bind.specs.declared.values.NewRow.{NewRow}
-use Rattle.wh_dml_bind.specs.declared.change.Change.{Change}
-use Rattle.wh_dml_bind.specs.declared.change.Change.TheVariants.{InsertRows, InsertQuery, Update, Delete, Merge}
-use Rattle.wh_dml_bind.specs.declared.change.BoundClause.{BoundClause}
-use Rattle.wh_dml_bind.specs.declared.change.BoundClause.TheVariants.{UpdateMatched, DeleteMatched, InsertUnmatched}
-use Rattle.wh_dml_bind.specs.declared.change.Checked.{Checked}
+use Rattle.wh_dml_bind.specs.declared.merge.MergeParts.{MergeParts}
+use Rattle.wh_dml_bind.specs.declared.checked.Checked.{Checked}
 
 abbrev pub places_of : List (Option Place) → List (Option scope.Place)
 places_of ps = map (option_map place_of) ps
@@ -33,23 +29,8 @@ target_in t = record { id = t.id; columns = map column_of t.columns.items; findi
 abbrev pub row_in : NewRow → naming.NewRow
 row_in r = record { scalars = scalars_of r.scalars.items; findings = findings_of r.findings }
 
-abbrev pub rows_of : List (Vec Scalar Global) → List (List meaning.Scalar)
-rows_of rows = map (λ row. scalars_of row.items) rows
-
-abbrev pub clause_of : BoundClause → naming.BoundClause
-clause_of (UpdateMatched condition row) = naming.UpdateMatched (scalar_of condition) (scalars_of row.items)
-clause_of (DeleteMatched condition) = naming.DeleteMatched (scalar_of condition)
-clause_of (InsertUnmatched condition row) = naming.InsertUnmatched (scalar_of condition) (scalars_of row.items)
-
-abbrev pub clauses_of : List BoundClause → List naming.BoundClause
-clauses_of clauses = map clause_of clauses
-
-abbrev pub change_of : Change → naming.Change
-change_of (InsertRows rows) = naming.InsertRows (rows_of rows.items)
-change_of (InsertQuery query row) = naming.InsertQuery (query_of query) (scalars_of row.items)
-change_of (Update condition row) = naming.Update (scalar_of condition) (scalars_of row.items)
-change_of (Delete condition) = naming.Delete (scalar_of condition)
-change_of (Merge source on clauses) = naming.Merge (query_of source) (scalar_of on) (clauses_of clauses.items)
+abbrev pub merge_in : naming.Target → BoundSource → MergeParts → naming.BoundChange
+merge_in t s p = merge_of t s (findings_of p.taken) (scalar_of p.on) (clauses_of p.clauses.items) (findings_of p.findings)
 
 unfoldable pub checked_in : Checked → naming.BoundChange
 checked_in c = record {

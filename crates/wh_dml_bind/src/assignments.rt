@@ -1,10 +1,12 @@
-ghost use Rattle.std.specs.Prelude.{◌≡◌, ◌<◌, ◌+◌, map, length, drop, option_map, IfOk};
+ghost use Rattle.std.specs.Prelude.{◌≡◌, ◌<◌, ◌+◌, ◌∷◌, ◌++◌, [], map, length, drop, option_map, IfOk};
 ghost use Rattle.wh_value.specs.View.{column_of};
 ghost use Rattle.wh_scalar.specs.View.{scalar_of};
 ghost use Rattle.wh_algebra.specs.View.{scalars_of};
+ghost use Rattle.wh_naming.specs.Findings as wrong;
 ghost use Rattle.wh_naming.specs.Select as select;
 ghost use Rattle.wh_naming.specs.Changes as naming;
 ghost use Rattle.wh_expr_bind.specs.View.{entries_of, place_of, findings_of};
+ghost use Rattle.wh_dml_bind.specs.View.{places_of};
 
 use crate::places::{name_findings, place_in, place_type};
 use crate::rows::changed_from;
@@ -33,18 +35,64 @@ pub(crate) fn changed_row(
     ensures findings { IfOk result (λ r. findings_of r.findings
         ≡ naming.set_findings (map column_of columns.now) (entries_of entries.now) parts.now) }
 {
-    let mut places = Vec::new(alloc);
-    let mut scalars = Vec::new(alloc);
-    let mut findings = Findings::nothing();
+    let set = set_columns(alloc, columns, entries, parts)?;
+    let scalars = changed_from(alloc, columns, &set.places, &set.scalars)?;
+    Ok(ChangedRow {
+        scalars,
+        findings: set.findings,
+    })
+}
+
+/// Columns with their values, and what is found wrong with them.
+#[derive(Drop)]
+struct SetColumns {
+    places: Vec<Option<Place>>,
+    scalars: Vec<Scalar>,
+    findings: Findings,
+}
+
+impl SetColumns {
+    // One column more.
+    fn with(self, set: SetColumn) -> Result<SetColumns, AllocError>
+        ensures places { IfOk result (λ s. places_of s.places.items
+            ≡ places_of self.places.items ++ option_map place_of set.place ∷ []) }
+        ensures scalars { IfOk result (λ s. scalars_of s.scalars.items
+            ≡ scalars_of self.scalars.items ++ scalar_of set.scalar ∷ []) }
+        ensures findings { IfOk result (λ s. findings_of s.findings
+            ≡ wrong.followed (findings_of self.findings) (findings_of set.findings)) }
+    {
+        let mut columns = self;
+        columns.findings = columns.findings.followed(set.findings);
+        columns.scalars.push(set.scalar)?;
+        columns.places.push(set.place)?;
+        Ok(columns)
+    }
+}
+
+fn set_columns(
+    alloc: Global,
+    columns: &[Column],
+    entries: &[Entry],
+    parts: &[Assignment],
+) -> Result<SetColumns, AllocError>
+    ensures places { IfOk result (λ s. places_of s.places.items
+        ≡ map (λ part. naming.place_in (map column_of columns.now) part.column) parts.now) }
+    ensures scalars { IfOk result (λ s. scalars_of s.scalars.items
+        ≡ map (λ part. (select.plain (entries_of entries.now) part.value).scalar) parts.now) }
+    ensures findings { IfOk result (λ s. findings_of s.findings
+        ≡ naming.set_findings (map column_of columns.now) (entries_of entries.now) parts.now) }
+{
+    let mut all = SetColumns {
+        places: Vec::new(alloc),
+        scalars: Vec::new(alloc),
+        findings: Findings::nothing(),
+    };
     for index in 0..parts.len() {
         let part = &parts[index];
         let set = set_column(alloc, columns, entries, part, parts_behind(parts, index))?;
-        places.push(set.place)?;
-        scalars.push(set.scalar)?;
-        findings = findings.followed(set.findings);
+        all = all.with(set)?;
     }
-    let scalars = changed_from(alloc, columns, &places, &scalars)?;
-    Ok(ChangedRow { scalars, findings })
+    Ok(all)
 }
 
 fn parts_behind(parts: &[Assignment], index: usize) -> &[Assignment]

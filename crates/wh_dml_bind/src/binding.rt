@@ -3,7 +3,7 @@ ghost use Rattle.wh_expr_bind.specs.View.{named_of};
 ghost use Rattle.wh_naming.specs.Changes as naming;
 ghost use Rattle.wh_dml_bind.specs.Binds.{Binds};
 
-use crate::change::{BoundChange, Checked};
+use crate::checked::Checked;
 use crate::insert::insert;
 use crate::merge::merge;
 use crate::target::{target_at, target_entries};
@@ -12,6 +12,7 @@ use sqlite_items::Boxed;
 use std::alloc::{AllocError, Global};
 use wh_ast::{Assignment, Dml, Expr};
 use wh_bind::BindFault;
+use wh_bound_change::BoundChange;
 use wh_expr_bind::Named;
 use wh_value::Text;
 
@@ -36,7 +37,10 @@ fn bound(checked: Boxed<Checked>) -> Result<BoundChange, BindFault>
 {
     let Checked { bound, findings } = checked.into_inner();
     match findings.first_failing() {
-        Some(failing) => Err(BindFault::Failing(failing)),
+        Some(failing) => {
+            drop(bound);
+            Err(BindFault::Failing(failing))
+        }
         None => Ok(bound),
     }
 }

@@ -1,18 +1,19 @@
-ghost use Rattle.std.specs.Prelude.{◌≡◌, map, length, IfOk};
+ghost use Rattle.std.specs.Prelude.{◌≡◌, ◌∷◌, ◌++◌, [], map, length, IfOk};
 ghost use Rattle.wh_value.specs.View.{column_of};
+ghost use Rattle.wh_naming.specs.Findings as wrong;
+ghost use Rattle.wh_naming.specs.Select as select;
 ghost use Rattle.wh_naming.specs.Changes as naming;
 ghost use Rattle.wh_expr_bind.specs.View.{entries_of, findings_of};
-ghost use Rattle.wh_dml_bind.specs.View.{clauses_of};
+ghost use Rattle.wh_bound_change.specs.View.{clause_of, clauses_of};
 ghost use Rattle.wh_dml_bind.specs.Steps.{first_of, second_of};
 
 use crate::assignments::changed_row;
-use crate::change::BoundClause;
 use crate::filters::condition_of;
-use crate::places::{given_findings, given_places};
-use crate::values::new_row;
+use crate::values::listed_row;
 use sqlite_items::Items;
 use std::alloc::{AllocError, Global};
 use wh_ast::{Assignment, Expr, MergeClause};
+use wh_bound_change::BoundClause;
 use wh_expr_bind::{Entry, Findings};
 use wh_value::{Column, Text};
 
@@ -21,6 +22,21 @@ use wh_value::{Column, Text};
 pub(crate) struct Clauses {
     pub clauses: Vec<BoundClause>,
     pub findings: Findings,
+}
+
+impl Clauses {
+    // One clause more.
+    fn with(self, one: Clause) -> Result<Clauses, AllocError>
+        ensures clauses { IfOk result (λ c. clauses_of c.clauses.items
+            ≡ clauses_of self.clauses.items ++ clause_of one.clause ∷ []) }
+        ensures findings { IfOk result (λ c. findings_of c.findings
+            ≡ wrong.followed (findings_of self.findings) (findings_of one.findings)) }
+    {
+        let mut clauses = self;
+        clauses.findings = clauses.findings.followed(one.findings);
+        clauses.clauses.push(one.clause)?;
+        Ok(clauses)
+    }
 }
 
 /// The clauses over the entries of target and source.
@@ -38,22 +54,16 @@ pub(crate) fn bound_clauses(
         ≡ naming.all_clause_findings (map column_of columns.now) (first_of (entries_of both.now))
         (second_of (entries_of both.now)) clauses.now) }
 {
-    let mut bound = Vec::new(alloc);
-    let mut findings = Findings::nothing();
+    let mut bound = Clauses {
+        clauses: Vec::new(alloc),
+        findings: Findings::nothing(),
+    };
     for clause in clauses {
         let one = bound_clause(alloc, columns, both, clause)?;
-        bound.push(one.clause)?;
-        findings = findings.followed(one.findings);
+        bound = bound.with(one)?;
     }
-    Ok(Clauses {
-        clauses: bound,
-        findings,
-    })
+    Ok(bound)
 }
-
-ghost use Rattle.wh_naming.specs.Findings as wrong;
-ghost use Rattle.wh_naming.specs.Select as select;
-ghost use Rattle.wh_dml_bind.specs.View.{clause_of};
 
 /// A clause, and what is found wrong in it.
 #[derive(Drop)]
@@ -103,8 +113,8 @@ fn update_matched(
         (select.filter_findings (entries_of both.now) filter.now)
         (naming.set_findings (map column_of columns.now) (entries_of both.now) parts.now)) }
 {
-    let filter = condition_of(alloc, both, filter)?;
     let row = changed_row(alloc, columns, both, parts)?;
+    let filter = condition_of(alloc, both, filter)?;
     Ok(Clause {
         clause: BoundClause::UpdateMatched(filter.scalar, row.scalars),
         findings: filter.findings.followed(row.findings),
@@ -148,12 +158,10 @@ fn insert_unmatched(
         (naming.given_places (map column_of columns.now) listed.now)
         (naming.typed_all (entries_of source.now) values.now)).findings)) }
 {
+    let row = listed_row(alloc, columns, listed, source, values)?;
     let filter = condition_of(alloc, source, filter)?;
-    let in_list = given_findings(alloc, columns, listed)?;
-    let places = given_places(alloc, columns, listed)?;
-    let row = new_row(alloc, columns, &places, source, values)?;
     Ok(Clause {
         clause: BoundClause::InsertUnmatched(filter.scalar, row.scalars),
-        findings: filter.findings.followed(in_list.followed(row.findings)),
+        findings: filter.findings.followed(row.findings),
     })
 }

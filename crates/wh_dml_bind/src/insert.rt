@@ -2,12 +2,12 @@ ghost use Rattle.std.specs.Prelude.{◌≡◌, map, IfOk};
 ghost use Rattle.wh_value.specs.View.{column_of};
 ghost use Rattle.wh_algebra.specs.View.{scalars_of};
 ghost use Rattle.wh_naming.specs.Changes as naming;
-ghost use Rattle.wh_expr_bind.specs.View.{named_of, type_of_option};
+ghost use Rattle.wh_expr_bind.specs.View.{named_of, type_of_option, findings_of};
 ghost use Rattle.wh_core_bind.specs.View.{query_in, output_of, outputs_of};
 ghost use Rattle.wh_dml_bind.specs.View.{target_in, checked_in};
 
-use crate::change::{BoundChange, Change, Checked};
-use crate::places::{fit_places, given_findings, given_places};
+use crate::checked::Checked;
+use crate::places::{fit_places, given_columns};
 use crate::rows::row_from;
 use crate::target::{Target, change_alone};
 use crate::values::value_rows;
@@ -15,10 +15,11 @@ use sqlite_items::{Boxed, Items};
 use std::alloc::{AllocError, Global};
 use wh_ast::{Expr, Rows};
 use wh_bind::bind_query;
+use wh_bound_change::{BoundChange, Change};
 use wh_core_bind::{BoundQuery, Output, column_scalar};
 use wh_expr_bind::{Findings, Named};
 use wh_scalar::Scalar;
-use wh_value::{ColumnType, Text};
+use wh_value::{Column, ColumnType, Text};
 
 /// INSERT of rows, with a list of columns or without.
 #[tactic(auto, unfolding(wh_bind::specs::View::query_reading))]
@@ -51,10 +52,9 @@ fn insert_values(
         (naming.value_rows (target_in target).columns
         (naming.given_places (target_in target).columns listed.now) found.now)) }
 {
-    let in_list = given_findings(alloc, &target.columns, listed)?;
-    let places = given_places(alloc, &target.columns, listed)?;
-    let rows = value_rows(alloc, &target.columns, &places, found)?;
-    let findings = in_list.followed(rows.findings);
+    let given = given_columns(alloc, &target.columns, listed)?;
+    let rows = value_rows(alloc, &target.columns, &given.places, found)?;
+    let findings = given.findings.followed(rows.findings);
     change_alone(alloc, target, Change::InsertRows(rows.rows), findings)
 }
 
@@ -68,22 +68,54 @@ fn insert_query(
     ensures { IfOk result (λ c. checked_in c
         ≡ naming.insert_query (target_in target) listed.now (query_in query)) }
 {
-    let in_list = given_findings(alloc, &target.columns, listed)?;
-    let places = given_places(alloc, &target.columns, listed)?;
-    let types = output_types(alloc, &query.get().outputs)?;
-    let fits = fit_places(&places, &types);
-    let outputs = output_scalars(alloc, &query.get().outputs)?;
-    let row = row_from(alloc, &target.columns, &places, &outputs)?;
+    let row = query_row(alloc, &target.columns, listed, &query.get().outputs)?;
     let query = query.into_inner();
-    let in_query = query.findings.followed(Findings::mistyped_if(!fits));
-    let findings = target.findings.followed(in_list.followed(in_query));
+    let in_query = query.findings.followed(Findings::mistyped_if(!row.fits));
+    let findings = target.findings.followed(row.findings.followed(in_query));
     let bound = BoundChange {
         target: target.id,
-        change: Change::InsertQuery(query.query, row),
+        change: Change::InsertQuery(query.query, row.scalars),
         sources: query.sources,
         is_wide: query.is_wide,
     };
     Boxed::new(alloc, Checked { bound, findings })
+}
+
+/// The new row for each row of a query, what is found wrong with the list of columns, and whether
+/// the query's columns fit those of the list.
+#[derive(Drop)]
+struct QueryRow {
+    scalars: Vec<Scalar>,
+    findings: Findings,
+    fits: bool,
+}
+
+fn query_row(
+    alloc: Global,
+    columns: &[Column],
+    listed: &Option<Items<Text>>,
+    outputs: &[Output],
+) -> Result<QueryRow, AllocError>
+    ensures scalars { IfOk result (λ r. scalars_of r.scalars.items
+        ≡ naming.row_from 0 (map column_of columns.now)
+        (naming.given_places (map column_of columns.now) listed.now)
+        (naming.outputs_from 0 (outputs_of outputs.now))) }
+    ensures findings { IfOk result (λ r. findings_of r.findings
+        ≡ naming.given_findings (map column_of columns.now) listed.now) }
+    ensures fits { IfOk result (λ r. r.fits
+        ≡ naming.fit_places (naming.given_places (map column_of columns.now) listed.now)
+        (naming.output_types (outputs_of outputs.now))) }
+{
+    let types = output_types(alloc, outputs)?;
+    let outputs = output_scalars(alloc, outputs)?;
+    let given = given_columns(alloc, columns, listed)?;
+    let fits = fit_places(&given.places, &types);
+    let scalars = row_from(alloc, columns, &given.places, &outputs)?;
+    Ok(QueryRow {
+        scalars,
+        findings: given.findings,
+        fits,
+    })
 }
 
 fn output_types(alloc: Global, outputs: &[Output]) -> Result<Vec<Option<ColumnType>>, AllocError>

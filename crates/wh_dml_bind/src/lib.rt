@@ -4,7 +4,7 @@
 
 mod assignments;
 mod binding;
-mod change;
+mod checked;
 mod clauses;
 mod filters;
 mod insert;
@@ -16,4 +16,3 @@ mod update;
 mod values;
 
 pub use binding::bind_change;
-pub use change::{BoundChange, BoundClause, Change};

@@ -6,16 +6,18 @@ ghost use Rattle.wh_naming.specs.Select as select;
 ghost use Rattle.wh_naming.specs.Changes as naming;
 ghost use Rattle.wh_expr_bind.specs.View.{named_of, entries_of, findings_of};
 ghost use Rattle.wh_bind.specs.View.{source_in};
-ghost use Rattle.wh_dml_bind.specs.View.{target_in, clauses_of, checked_in};
-ghost use Rattle.wh_dml_bind.specs.Steps.{source_entry, merge_of};
+ghost use Rattle.wh_bound_change.specs.View.{clauses_of};
+ghost use Rattle.wh_dml_bind.specs.View.{target_in, merge_in, checked_in};
+ghost use Rattle.wh_dml_bind.specs.Steps.{source_entry};
 
-use crate::change::{BoundChange, BoundClause, Change, Checked};
+use crate::checked::Checked;
 use crate::clauses::bound_clauses;
 use crate::target::{Target, target_entries};
 use sqlite_items::Boxed;
 use std::alloc::{AllocError, Global};
 use wh_ast::{Expr, MergeClause, Source};
 use wh_bind::{BoundSource, bind_source, copied_columns, source_name};
+use wh_bound_change::{BoundChange, BoundClause, Change};
 use wh_core_bind::condition;
 use wh_expr_bind::{Entry, Findings, Named};
 use wh_scalar::Scalar;
@@ -37,10 +39,37 @@ pub(crate) fn merge(
 {
     let rows = bind_source(alloc, names, 0, source)?;
     let source = source_name(source);
-    let taken = taken_findings(alloc, name, source)?;
-    let both = both_entries(alloc, name, &target, source, rows.get())?;
-    let parts = parts_over(alloc, &target, &both, on, clauses)?;
-    merged(alloc, target, rows, taken, parts)
+    let parts = merge_parts(alloc, name, &target, source, rows.get(), on, clauses)?;
+    merged(alloc, target, rows, parts)
+}
+
+/// ON and the clauses, what is found wrong in them, and what is found wrong with the source's name.
+#[derive(Drop)]
+pub(crate) struct MergeParts {
+    pub on: Scalar,
+    pub clauses: Vec<BoundClause>,
+    pub findings: Findings,
+    pub taken: Findings,
+}
+
+fn merge_parts(
+    alloc: Global,
+    name: &Text,
+    target: &Target,
+    source_name: &Text,
+    source: &BoundSource,
+    on: &Expr,
+    clauses: &[MergeClause],
+) -> Result<MergeParts, AllocError>
+    ensures { IfOk result (λ p. merge_in (target_in target.now) (source_in source.now) p
+        ≡ naming.merged_on (target_in target.now)
+        (naming.target_entry name.now (target_in target.now))
+        (source_entry source_name.now (source_in source.now))
+        (source_in source.now) on.now clauses.now) }
+{
+    let both = both_entries(alloc, name, target, source_name, source)?;
+    let taken = taken_findings(alloc, name, source_name)?;
+    parts_over(alloc, target, &both, on, clauses, taken)
 }
 
 // The source has another name than the target.
@@ -74,14 +103,6 @@ fn both_entries(
     Ok(both)
 }
 
-/// ON and the clauses, and what is found wrong in them.
-#[derive(Drop)]
-struct MergeParts {
-    on: Scalar,
-    clauses: Vec<BoundClause>,
-    findings: Findings,
-}
-
 ghost use Rattle.std.specs.Prelude.{length};
 ghost use Rattle.wh_dml_bind.specs.Steps.{first_of, second_of};
 
@@ -91,6 +112,7 @@ fn parts_over(
     both: &[Entry],
     on: &Expr,
     clauses: &[MergeClause],
+    taken: Findings,
 ) -> Result<MergeParts, AllocError>
     requires { length both.now ≡ 2 }
     ensures on { IfOk result (λ p. scalar_of p.on
@@ -102,13 +124,15 @@ fn parts_over(
         (select.condition_findings (select.plain (entries_of both.now) on.now))
         (naming.all_clause_findings (target_in target.now).columns
         (first_of (entries_of both.now)) (second_of (entries_of both.now)) clauses.now)) }
+    ensures taken { IfOk result (λ p. findings_of p.taken ≡ findings_of taken) }
 {
-    let on = condition(alloc, both, on)?;
     let clauses = bound_clauses(alloc, &target.columns, both, clauses)?;
+    let on = condition(alloc, both, on)?;
     Ok(MergeParts {
         on: on.scalar,
         clauses: clauses.clauses,
         findings: on.findings.followed(clauses.findings),
+        taken,
     })
 }
 
@@ -117,15 +141,15 @@ fn merged(
     alloc: Global,
     target: Target,
     source: Boxed<BoundSource>,
-    taken: Findings,
     parts: MergeParts,
 ) -> Result<Boxed<Checked>, AllocError>
-    ensures { IfOk result (λ c. checked_in c ≡ merge_of (target_in target) (source_in source)
-        (findings_of taken) (scalar_of parts.on) (clauses_of parts.clauses.items)
-        (findings_of parts.findings)) }
+    ensures { IfOk result (λ c. checked_in c
+        ≡ merge_in (target_in target) (source_in source) parts) }
 {
     let source = source.into_inner();
-    let behind = taken.followed(source.findings.followed(parts.findings));
+    let behind = parts
+        .taken
+        .followed(source.findings.followed(parts.findings));
     let findings = target.findings.followed(behind);
     let bound = BoundChange {
         target: target.id,

@@ -9,8 +9,30 @@ use std::alloc::{AllocError, Global};
 use wh_expr_bind::{Findings, Place, alike};
 use wh_value::{Column, ColumnType, Text};
 
-/// The places of the columns that a statement gives values: those of its list, or else all of them.
-pub(crate) fn given_places(
+/// The places of the columns that a statement gives values, and what is found wrong with its list.
+#[derive(Drop)]
+pub(crate) struct GivenColumns {
+    pub places: Vec<Option<Place>>,
+    pub findings: Findings,
+}
+
+/// The columns of a statement's list, or else all of them.
+pub(crate) fn given_columns(
+    alloc: Global,
+    columns: &[Column],
+    listed: &Option<Items<Text>>,
+) -> Result<GivenColumns, AllocError>
+    ensures places { IfOk result (λ g. places_of g.places.items
+        ≡ naming.given_places (map column_of columns.now) listed.now) }
+    ensures findings { IfOk result (λ g. findings_of g.findings
+        ≡ naming.given_findings (map column_of columns.now) listed.now) }
+{
+    let findings = given_findings(alloc, columns, listed)?;
+    let places = given_places(alloc, columns, listed)?;
+    Ok(GivenColumns { places, findings })
+}
+
+fn given_places(
     alloc: Global,
     columns: &[Column],
     listed: &Option<Items<Text>>,
@@ -71,8 +93,8 @@ pub(crate) fn place_in(columns: &[Column], name: &Text) -> Option<Place>
     found
 }
 
-/// What is found wrong with a list of columns.
-pub(crate) fn given_findings(
+// What is found wrong with a list of columns.
+fn given_findings(
     alloc: Global,
     columns: &[Column],
     listed: &Option<Items<Text>>,

@@ -3,12 +3,14 @@ ghost use Rattle.wh_value.specs.View.{column_of};
 ghost use Rattle.wh_naming.specs.Findings as wrong;
 ghost use Rattle.wh_naming.specs.Changes as naming;
 ghost use Rattle.wh_expr_bind.specs.View.{named_of, kind_of, entries_of, findings_of};
-ghost use Rattle.wh_dml_bind.specs.View.{target_in, change_of, checked_in};
+ghost use Rattle.wh_bound_change.specs.View.{change_of};
+ghost use Rattle.wh_dml_bind.specs.View.{target_in, checked_in};
 
-use crate::change::{BoundChange, Change, Checked};
+use crate::checked::Checked;
 use sqlite_items::Boxed;
 use std::alloc::{AllocError, Global};
 use wh_bind::{copied_columns, find};
+use wh_bound_change::{BoundChange, Change};
 use wh_expr_bind::{Entry, Findings, Named, ObjectKind};
 use wh_value::{Column, Text};
 

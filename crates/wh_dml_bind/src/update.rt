@@ -4,12 +4,13 @@ ghost use Rattle.wh_expr_bind.specs.View.{entries_of};
 ghost use Rattle.wh_dml_bind.specs.View.{target_in, checked_in};
 
 use crate::assignments::changed_row;
-use crate::change::{Change, Checked};
+use crate::checked::Checked;
 use crate::filters::condition_of;
 use crate::target::{Target, change_alone};
 use sqlite_items::Boxed;
 use std::alloc::{AllocError, Global};
 use wh_ast::{Assignment, Expr};
+use wh_bound_change::Change;
 use wh_expr_bind::Entry;
 
 /// UPDATE of the rows on which its condition is TRUE.

@@ -31,7 +31,7 @@ fn insert(alloc: Global, words: &mut Words<'_>, depth: usize) -> Result<Dml, Par
     let table = name(alloc, words)?;
     let names = columns(alloc, words)?;
     let found = rows(alloc, words, depth)?;
-    Ok(Dml::Insert(table, names, found))
+    Ok(Dml::Insert(table, names.into_inner(), found))
 }
 
 #[tactic(auto, unfolding(crate::specs::Read::read_update))]

@@ -13,29 +13,36 @@ use wh_value::Text;
 
 /// `[( name {, name} )]`
 #[tactic(auto, unfolding(crate::specs::Read::read_columns))]
-pub fn columns(alloc: Global, words: &mut Words<'_>) -> Result<Option<Items<Text>>, ParseFault>
+pub fn columns(
+    alloc: Global,
+    words: &mut Words<'_>,
+) -> Result<Boxed<Option<Items<Text>>>, ParseFault>
     ensures { Reads (spec.read_columns words.old) result words.new }
 {
     if !words.eat(Key::LParen) {
-        return Ok(None);
+        return Ok(Boxed::new(alloc, None)?);
     }
     let found = name_list(alloc, words)?;
     words.expect(Key::RParen)?;
-    Ok(Some(found))
+    Ok(Boxed::new(alloc, Some(found))?)
 }
 
 /// `[AND expr] THEN`
 #[tactic(auto, unfolding(crate::specs::Read::read_condition))]
-fn condition(alloc: Global, words: &mut Words<'_>, depth: usize) -> Result<Option<Expr>, ParseFault>
+fn condition(
+    alloc: Global,
+    words: &mut Words<'_>,
+    depth: usize,
+) -> Result<Boxed<Option<Expr>>, ParseFault>
     ensures { Reads (spec.read_condition depth words.old) result words.new }
 {
     if !words.eat_word(b"AND") {
         words.expect_word(b"THEN")?;
-        return Ok(None);
+        return Ok(Boxed::new(alloc, None)?);
     }
-    let x = expr(alloc, words, depth)?;
+    let x = Boxed::new(alloc, Some(expr(alloc, words, depth)?))?;
     words.expect_word(b"THEN")?;
-    Ok(Some(x))
+    Ok(x)
 }
 
 /// Behind `WHEN MATCHED`.
@@ -43,7 +50,7 @@ fn condition(alloc: Global, words: &mut Words<'_>, depth: usize) -> Result<Optio
 fn matched(alloc: Global, words: &mut Words<'_>, depth: usize) -> Result<MergeClause, ParseFault>
     ensures { Reads (spec.read_matched depth words.old) result words.new }
 {
-    let condition = Boxed::new(alloc, condition(alloc, words, depth)?)?;
+    let condition = condition(alloc, words, depth)?;
     if words.eat_word(b"DELETE") {
         return Ok(MergeClause::Delete(condition.into_inner()));
     }
@@ -59,9 +66,9 @@ fn unmatched(alloc: Global, words: &mut Words<'_>, depth: usize) -> Result<Merge
     ensures { Reads (spec.read_unmatched depth words.old) result words.new }
 {
     words.expect_word(b"MATCHED")?;
-    let condition = Boxed::new(alloc, condition(alloc, words, depth)?)?;
+    let condition = condition(alloc, words, depth)?;
     words.expect_word(b"INSERT")?;
-    let names = Boxed::new(alloc, columns(alloc, words)?)?;
+    let names = columns(alloc, words)?;
     words.expect_word(b"VALUES")?;
     let row = values_row(alloc, words, depth)?;
     Ok(MergeClause::Insert(condition.into_inner(), names.into_inner(), row))

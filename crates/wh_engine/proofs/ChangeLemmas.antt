@@ -15,9 +15,9 @@ use Rattle.wh_meaning.specs.Query.{Instance}
 use Rattle.wh_naming.specs.Findings.{Failing, first_failing}
 use Rattle.wh_naming.specs.Scope.{Named}
 use Rattle.wh_naming.specs.Changes.{BoundChange, Change, InsertRows, InsertQuery, Update, Delete, Merge, bound_change}
-use Rattle.wh_dml_bind.specs.declared.change.BoundChange as code
+use Rattle.wh_bound_change.specs.declared.change.BoundChange as code
+use Rattle.wh_bound_change.specs.View.{change_of}
 use Rattle.wh_dml_bind.specs.Binds.{IsBound}
-use Rattle.wh_dml_bind.specs.View.{change_of}
 use Rattle.wh_effect.specs.Effect as effects
 use Rattle.wh_effect.specs.Effect.{Kept, Effect, Does, effect}
 use Rattle.wh_reply.specs.Reply.{OverLimit, TypeMismatch}

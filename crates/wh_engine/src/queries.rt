@@ -18,7 +18,6 @@ ghost use Rattle.wh_engine.specs.Rows.{rows_found};
 use crate::decision::Decision;
 use crate::objects::named_objects;
 use crate::sources::sources;
-use sqlite_items::Boxed;
 use std::alloc::{AllocError, Global};
 use wh_algebra::{Physical, Tuple};
 use wh_ast::{Query, Sort};

@@ -18,9 +18,13 @@ pub(crate) fn by(
 ) -> Result<Scalar, AllocError>
     ensures { IfOk result (λ both. scalar_of both ≡ scalar_by operator (scalar_of x) (scalar_of y)) }
 {
-    let x = Boxed::new(alloc, x)?;
-    let y = Boxed::new(alloc, y)?;
-    Ok(between(operator, x, y))
+    match Boxed::new(alloc, x) {
+        Ok(x) => Ok(between(operator, x, Boxed::new(alloc, y)?)),
+        Err(fault) => {
+            drop(y);
+            Err(fault)
+        }
+    }
 }
 
 fn between(operator: Operator, x: Boxed<Scalar>, y: Boxed<Scalar>) -> Scalar

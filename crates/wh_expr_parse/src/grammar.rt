@@ -6,12 +6,13 @@ ghost use Rattle.wh_expr_parse.specs.Nests.{Nests};
 
 use crate::primaries::rows;
 use crate::tokens::Tokens;
+use sqlite_items::Boxed;
 use std::alloc::Global;
 use wh_ast::Expr;
 use wh_cursor::ParseFault;
 
 /// What may stand inside an expression.
-#[derive(Clone, Copy, Debug, PartialEq, Eq)]
+#[derive(Clone, Copy)]
 pub enum Level {
     /// Inside parentheses.
     Whole,
@@ -23,7 +24,7 @@ pub enum Level {
     Rows,
 }
 
-#[derive(Clone, Copy)]
+#[derive(Drop)]
 pub struct Grammar<F> {
     pub alloc: Global,
     /// How many parentheses, NOT and minus signs may still stand inside one another.
@@ -31,15 +32,15 @@ pub struct Grammar<F> {
     pub inner: F,
 }
 
-impl<F: Fn(Global, &mut Tokens<'_>, usize, Level) -> Result<Expr, ParseFault>> Grammar<F> {
-    pub fn inner(&self, tokens: &mut Tokens<'_>, level: Level) -> Result<Expr, ParseFault>
+impl<F: Fn(Global, &mut Tokens<'_>, usize, Level) -> Result<Boxed<Expr>, ParseFault>> Grammar<F> {
+    pub fn inner(&self, tokens: &mut Tokens<'_>, level: Level) -> Result<Boxed<Expr>, ParseFault>
         requires { Nests self.now.depth (F.pre self.now.inner) (F.post self.now.inner) }
         ensures { Reads (spec.nested self.now.depth level tokens.old) result tokens.new }
     {
         (self.inner)(self.alloc, tokens, self.depth, level)
     }
 
-    fn level(&self, tokens: &mut Tokens<'_>, level: Level) -> Result<Expr, ParseFault>
+    fn level(&self, tokens: &mut Tokens<'_>, level: Level) -> Result<Boxed<Expr>, ParseFault>
         requires { Nests self.now.depth (F.pre self.now.inner) (F.post self.now.inner) }
         ensures { Reads (spec.level (spec.nested self.now.depth) level tokens.old) result tokens.new }
     {
@@ -47,7 +48,7 @@ impl<F: Fn(Global, &mut Tokens<'_>, usize, Level) -> Result<Expr, ParseFault>> G
             Level::Whole => self.whole(tokens),
             Level::Negation => self.negation(tokens),
             Level::Unary => self.unary(tokens),
-            Level::Rows => Ok(rows(tokens)),
+            Level::Rows => rows(self.alloc, tokens),
         }
     }
 }
@@ -58,7 +59,7 @@ fn nested(
     tokens: &mut Tokens<'_>,
     depth: usize,
     level: Level,
-) -> Result<Expr, ParseFault>
+) -> Result<Boxed<Expr>, ParseFault>
     ensures { Reads (spec.nested depth level tokens.old) result tokens.new }
 {
     if depth == 0 {
@@ -72,7 +73,11 @@ fn nested(
     .level(tokens, level)
 }
 
-pub fn whole(alloc: Global, tokens: &mut Tokens<'_>, depth: usize) -> Result<Expr, ParseFault>
+pub fn whole(
+    alloc: Global,
+    tokens: &mut Tokens<'_>,
+    depth: usize,
+) -> Result<Boxed<Expr>, ParseFault>
     ensures { Reads (spec.whole (spec.nested depth) tokens.old) result tokens.new }
 {
     Grammar {

@@ -6,22 +6,21 @@ ghost use Rattle.wh_expr_parse.specs.Read as spec;
 ghost use Rattle.wh_expr_parse.specs.Nests.{Nests, ReadsOperand};
 
 use crate::grammar::{Grammar, Level};
-use crate::made::{binary, negated, negative};
 use crate::operators::joins;
 use crate::tokens::Tokens;
+use sqlite_items::Boxed;
 use std::alloc::Global;
 use wh_ast::Expr;
 use wh_cursor::{Key, ParseFault};
 
-impl<F: Fn(Global, &mut Tokens<'_>, usize, Level) -> Result<Expr, ParseFault>> Grammar<F> {
+impl<F: Fn(Global, &mut Tokens<'_>, usize, Level) -> Result<Boxed<Expr>, ParseFault>> Grammar<F> {
     /// Operands with a level's operators between them, grouped to the left.
-    #[tactic(auto, using(crate::proofs::ChainSteps::turns_more, crate::proofs::ChainSteps::turns_end))]
-    fn chain<G: Fn(&mut Tokens<'_>) -> Result<Expr, ParseFault>>(
+    fn chain<G: Fn(&mut Tokens<'_>) -> Result<Boxed<Expr>, ParseFault>>(
         &self,
         tokens: &mut Tokens<'_>,
         level: u8,
         operand: &G,
-    ) -> Result<Expr, ParseFault>
+    ) -> Result<Boxed<Expr>, ParseFault>
         requires callable { G.IsAlwaysCallable operand.now }
         requires reads { ReadsOperand (spec.operand (spec.nested self.now.depth) level)
             (G.post operand.now) }
@@ -36,14 +35,14 @@ impl<F: Fn(Global, &mut Tokens<'_>, usize, Level) -> Result<Expr, ParseFault>> G
             tokens.skip();
             tokens.spend()?;
             let right = operand(tokens)?;
-            left = binary(self.alloc, operator, left, right)?;
+            left = Boxed::new(self.alloc, Expr::Binary(operator, left, right))?;
         }
         Ok(left)
     }
 
     /// Operands of OR.
     #[tactic(auto, unfolding(crate::specs::Read::whole, crate::specs::Read::operand))]
-    pub fn whole(&self, tokens: &mut Tokens<'_>) -> Result<Expr, ParseFault>
+    pub fn whole(&self, tokens: &mut Tokens<'_>) -> Result<Boxed<Expr>, ParseFault>
         requires { Nests self.now.depth (F.pre self.now.inner) (F.post self.now.inner) }
         ensures { Reads (spec.whole (spec.nested self.now.depth) tokens.old) result tokens.new }
     {
@@ -52,7 +51,7 @@ impl<F: Fn(Global, &mut Tokens<'_>, usize, Level) -> Result<Expr, ParseFault>> G
 
     /// Operands of AND.
     #[tactic(auto, unfolding(crate::specs::Read::conjunction, crate::specs::Read::operand))]
-    fn conjunction(&self, tokens: &mut Tokens<'_>) -> Result<Expr, ParseFault>
+    fn conjunction(&self, tokens: &mut Tokens<'_>) -> Result<Boxed<Expr>, ParseFault>
         requires { Nests self.now.depth (F.pre self.now.inner) (F.post self.now.inner) }
         ensures { Reads (spec.conjunction (spec.nested self.now.depth) tokens.old) result tokens.new }
     {
@@ -60,7 +59,7 @@ impl<F: Fn(Global, &mut Tokens<'_>, usize, Level) -> Result<Expr, ParseFault>> G
     }
 
     #[tactic(auto, unfolding(crate::specs::Read::negation))]
-    pub fn negation(&self, tokens: &mut Tokens<'_>) -> Result<Expr, ParseFault>
+    pub fn negation(&self, tokens: &mut Tokens<'_>) -> Result<Boxed<Expr>, ParseFault>
         requires { Nests self.now.depth (F.pre self.now.inner) (F.post self.now.inner) }
         ensures { Reads (spec.negation (spec.nested self.now.depth) tokens.old) result tokens.new }
     {
@@ -72,19 +71,19 @@ impl<F: Fn(Global, &mut Tokens<'_>, usize, Level) -> Result<Expr, ParseFault>> G
     }
 
     #[tactic(auto, unfolding(crate::specs::Read::not_test))]
-    fn not_test(&self, tokens: &mut Tokens<'_>) -> Result<Expr, ParseFault>
+    fn not_test(&self, tokens: &mut Tokens<'_>) -> Result<Boxed<Expr>, ParseFault>
         requires { Nests self.now.depth (F.pre self.now.inner) (F.post self.now.inner) }
         ensures { Reads (spec.not_test (spec.nested self.now.depth) tokens.old) result tokens.new }
     {
         tokens.skip();
         tokens.spend()?;
         let x = self.inner(tokens, Level::Negation)?;
-        Ok(negated(self.alloc, x)?)
+        Ok(Boxed::new(self.alloc, Expr::Not(x))?)
     }
 
     /// Operands of plus and minus.
     #[tactic(auto, unfolding(crate::specs::Read::sum, crate::specs::Read::operand))]
-    pub fn sum(&self, tokens: &mut Tokens<'_>) -> Result<Expr, ParseFault>
+    pub fn sum(&self, tokens: &mut Tokens<'_>) -> Result<Boxed<Expr>, ParseFault>
         requires { Nests self.now.depth (F.pre self.now.inner) (F.post self.now.inner) }
         ensures { Reads (spec.sum (spec.nested self.now.depth) tokens.old) result tokens.new }
     {
@@ -93,7 +92,7 @@ impl<F: Fn(Global, &mut Tokens<'_>, usize, Level) -> Result<Expr, ParseFault>> G
 
     /// Operands of a star.
     #[tactic(auto, unfolding(crate::specs::Read::product, crate::specs::Read::operand))]
-    fn product(&self, tokens: &mut Tokens<'_>) -> Result<Expr, ParseFault>
+    fn product(&self, tokens: &mut Tokens<'_>) -> Result<Boxed<Expr>, ParseFault>
         requires { Nests self.now.depth (F.pre self.now.inner) (F.post self.now.inner) }
         ensures { Reads (spec.product (spec.nested self.now.depth) tokens.old) result tokens.new }
     {
@@ -101,7 +100,7 @@ impl<F: Fn(Global, &mut Tokens<'_>, usize, Level) -> Result<Expr, ParseFault>> G
     }
 
     #[tactic(auto, unfolding(crate::specs::Read::unary))]
-    pub fn unary(&self, tokens: &mut Tokens<'_>) -> Result<Expr, ParseFault>
+    pub fn unary(&self, tokens: &mut Tokens<'_>) -> Result<Boxed<Expr>, ParseFault>
         requires { Nests self.now.depth (F.pre self.now.inner) (F.post self.now.inner) }
         ensures { Reads (spec.unary (spec.nested self.now.depth) tokens.old) result tokens.new }
     {
@@ -113,13 +112,13 @@ impl<F: Fn(Global, &mut Tokens<'_>, usize, Level) -> Result<Expr, ParseFault>> G
     }
 
     #[tactic(auto, unfolding(crate::specs::Read::negative))]
-    fn negative(&self, tokens: &mut Tokens<'_>) -> Result<Expr, ParseFault>
+    fn negative(&self, tokens: &mut Tokens<'_>) -> Result<Boxed<Expr>, ParseFault>
         requires { Nests self.now.depth (F.pre self.now.inner) (F.post self.now.inner) }
         ensures { Reads (spec.negative (spec.nested self.now.depth) tokens.old) result tokens.new }
     {
         tokens.skip();
         tokens.spend()?;
         let x = self.inner(tokens, Level::Unary)?;
-        Ok(negative(self.alloc, x)?)
+        Ok(Boxed::new(self.alloc, Expr::Neg(x))?)
     }
 }

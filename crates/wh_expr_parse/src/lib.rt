@@ -4,7 +4,6 @@
 mod grammar;
 mod levels;
 mod literal;
-mod made;
 mod operators;
 mod predicates;
 mod primaries;

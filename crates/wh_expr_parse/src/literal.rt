@@ -5,6 +5,7 @@ ghost use Rattle.wh_cursor.specs.Gives.{Reads};
 ghost use Rattle.wh_cursor.specs.Steps.{tail};
 ghost use Rattle.wh_expr_parse.specs.Read as spec;
 
+use sqlite_items::Boxed;
 use std::alloc::Global;
 use wh_ast::Expr;
 use wh_cursor::ParseFault;
@@ -13,7 +14,7 @@ use wh_value::Value;
 
 /// The number or the text that the tokens begin with.
 #[tactic(auto, unfolding(crate::specs::Read::read_literal))]
-pub fn literal_at(alloc: Global, tokens: &[Token]) -> Result<Expr, ParseFault>
+pub fn literal_at(alloc: Global, tokens: &[Token]) -> Result<Boxed<Expr>, ParseFault>
     ensures { Reads (spec.read_literal (tokens_of tokens.now)) result (tail (tokens_of tokens.now)) }
 {
     match tokens {
@@ -23,14 +24,14 @@ pub fn literal_at(alloc: Global, tokens: &[Token]) -> Result<Expr, ParseFault>
 }
 
 #[tactic(auto, unfolding(crate::specs::Read::read_literal))]
-fn literal_of(alloc: Global, kind: &Kind, behind: &[Token]) -> Result<Expr, ParseFault>
+fn literal_of(alloc: Global, kind: &Kind, behind: &[Token]) -> Result<Boxed<Expr>, ParseFault>
     requires { IsWithin (token_of kind.now) }
     ensures { Reads (spec.read_literal (token_of kind.now ∷ tokens_of behind.now)) result
         (tokens_of behind.now) }
 {
     match kind {
-        Kind::Number(number) => Ok(Expr::Const(Value::Number(*number as i64))),
-        Kind::Text(text) => Ok(Expr::Const(Value::Text(text.copy(alloc)?))),
+        Kind::Number(number) => Ok(Boxed::new(alloc, Expr::Const(Value::Number(*number as i64)))?),
+        Kind::Text(text) => Ok(Boxed::new(alloc, Expr::Const(Value::Text(text.copy(alloc)?)))?),
         _ => Err(ParseFault::SyntaxError),
     }
 }

@@ -7,17 +7,16 @@ ghost use Rattle.wh_expr_parse.specs.Read as spec;
 ghost use Rattle.wh_expr_parse.specs.Nests.{Nests};
 
 use crate::grammar::{Grammar, Level};
-use crate::made::{among, between, binary, is_null};
 use crate::tokens::Tokens;
-use sqlite_items::Items;
+use sqlite_items::{Boxed, Items};
 use std::alloc::Global;
 use wh_ast::{Expr, Operator};
 use wh_cursor::{Key, ParseFault};
 use wh_value::Comparison;
 
-impl<F: Fn(Global, &mut Tokens<'_>, usize, Level) -> Result<Expr, ParseFault>> Grammar<F> {
+impl<F: Fn(Global, &mut Tokens<'_>, usize, Level) -> Result<Boxed<Expr>, ParseFault>> Grammar<F> {
     #[tactic(auto, unfolding(crate::specs::Read::predicate))]
-    pub fn predicate(&self, tokens: &mut Tokens<'_>) -> Result<Expr, ParseFault>
+    pub fn predicate(&self, tokens: &mut Tokens<'_>) -> Result<Boxed<Expr>, ParseFault>
         requires { Nests self.now.depth (F.pre self.now.inner) (F.post self.now.inner) }
         ensures { Reads (spec.predicate (spec.nested self.now.depth) tokens.old) result tokens.new }
     {
@@ -25,7 +24,11 @@ impl<F: Fn(Global, &mut Tokens<'_>, usize, Level) -> Result<Expr, ParseFault>> G
         self.test_behind(tokens, x)
     }
 
-    fn test_behind(&self, tokens: &mut Tokens<'_>, x: Expr) -> Result<Expr, ParseFault>
+    fn test_behind(
+        &self,
+        tokens: &mut Tokens<'_>,
+        x: Boxed<Expr>,
+    ) -> Result<Boxed<Expr>, ParseFault>
         requires { Nests self.now.depth (F.pre self.now.inner) (F.post self.now.inner) }
         ensures { Reads (spec.test_by (spec.nested self.now.depth) x (key_of tokens.old.left) tokens.old) result tokens.new }
     {
@@ -48,20 +51,21 @@ impl<F: Fn(Global, &mut Tokens<'_>, usize, Level) -> Result<Expr, ParseFault>> G
     fn compared(
         &self,
         tokens: &mut Tokens<'_>,
-        x: Expr,
+        x: Boxed<Expr>,
         comparison: Comparison,
-    ) -> Result<Expr, ParseFault>
+    ) -> Result<Boxed<Expr>, ParseFault>
         requires { Nests self.now.depth (F.pre self.now.inner) (F.post self.now.inner) }
         ensures { Reads (spec.compared (spec.nested self.now.depth) x comparison tokens.old) result tokens.new }
     {
         tokens.skip();
         tokens.spend()?;
         let y = self.sum(tokens)?;
-        Ok(binary(self.alloc, Operator::Compare(comparison), x, y)?)
+        let x = Expr::Binary(Operator::Compare(comparison), x, y);
+        Ok(Boxed::new(self.alloc, x)?)
     }
 
     #[tactic(auto, unfolding(crate::specs::Read::null_test))]
-    fn null_test(&self, tokens: &mut Tokens<'_>, x: Expr) -> Result<Expr, ParseFault>
+    fn null_test(&self, tokens: &mut Tokens<'_>, x: Boxed<Expr>) -> Result<Boxed<Expr>, ParseFault>
         requires { Nests self.now.depth (F.pre self.now.inner) (F.post self.now.inner) }
         ensures { Reads (spec.null_test (spec.nested self.now.depth) x tokens.old) result tokens.new }
     {
@@ -69,11 +73,15 @@ impl<F: Fn(Global, &mut Tokens<'_>, usize, Level) -> Result<Expr, ParseFault>> G
         let negated = tokens.eat(Key::Not);
         tokens.expect(Key::Null)?;
         tokens.spend()?;
-        Ok(is_null(self.alloc, negated, x)?)
+        Ok(Boxed::new(self.alloc, Expr::IsNull(negated, x))?)
     }
 
     #[tactic(auto, unfolding(crate::specs::Read::negated_test))]
-    fn negated_test(&self, tokens: &mut Tokens<'_>, x: Expr) -> Result<Expr, ParseFault>
+    fn negated_test(
+        &self,
+        tokens: &mut Tokens<'_>,
+        x: Boxed<Expr>,
+    ) -> Result<Boxed<Expr>, ParseFault>
         requires { Nests self.now.depth (F.pre self.now.inner) (F.post self.now.inner) }
         ensures { Reads (spec.negated_test (spec.nested self.now.depth) x tokens.old) result tokens.new }
     {
@@ -86,7 +94,12 @@ impl<F: Fn(Global, &mut Tokens<'_>, usize, Level) -> Result<Expr, ParseFault>> G
     }
 
     #[tactic(auto, unfolding(crate::specs::Read::among))]
-    fn among(&self, tokens: &mut Tokens<'_>, negated: bool, x: Expr) -> Result<Expr, ParseFault>
+    fn among(
+        &self,
+        tokens: &mut Tokens<'_>,
+        negated: bool,
+        x: Boxed<Expr>,
+    ) -> Result<Boxed<Expr>, ParseFault>
         requires { Nests self.now.depth (F.pre self.now.inner) (F.post self.now.inner) }
         ensures { Reads (spec.among (spec.nested self.now.depth) negated x tokens.old) result tokens.new }
     {
@@ -95,7 +108,7 @@ impl<F: Fn(Global, &mut Tokens<'_>, usize, Level) -> Result<Expr, ParseFault>> G
         tokens.spend()?;
         let items = self.items(tokens)?;
         tokens.expect(Key::RParen)?;
-        Ok(among(self.alloc, negated, x, items)?)
+        Ok(Boxed::new(self.alloc, Expr::In(negated, x, items))?)
     }
 
     /// One or more, with commas between them; each counts one more.
@@ -106,7 +119,7 @@ impl<F: Fn(Global, &mut Tokens<'_>, usize, Level) -> Result<Expr, ParseFault>> G
         let mut found = Items::new(self.alloc);
         for _turn in 0..tokens.room() {
             tokens.spend()?;
-            found.push(self.inner(tokens, Level::Whole)?)?;
+            found.push(self.inner(tokens, Level::Whole)?.into_inner())?;
             if !tokens.eat(Key::Comma) {
                 return Ok(found);
             }
@@ -115,7 +128,12 @@ impl<F: Fn(Global, &mut Tokens<'_>, usize, Level) -> Result<Expr, ParseFault>> G
     }
 
     #[tactic(auto, unfolding(crate::specs::Read::between))]
-    fn between(&self, tokens: &mut Tokens<'_>, negated: bool, x: Expr) -> Result<Expr, ParseFault>
+    fn between(
+        &self,
+        tokens: &mut Tokens<'_>,
+        negated: bool,
+        x: Boxed<Expr>,
+    ) -> Result<Boxed<Expr>, ParseFault>
         requires { Nests self.now.depth (F.pre self.now.inner) (F.post self.now.inner) }
         ensures { Reads (spec.between (spec.nested self.now.depth) negated x tokens.old) result tokens.new }
     {
@@ -124,6 +142,7 @@ impl<F: Fn(Global, &mut Tokens<'_>, usize, Level) -> Result<Expr, ParseFault>> G
         let least = self.sum(tokens)?;
         tokens.expect(Key::And)?;
         let greatest = self.sum(tokens)?;
-        Ok(between(self.alloc, negated, x, least, greatest)?)
+        let x = Expr::Between(negated, x, least, greatest);
+        Ok(Boxed::new(self.alloc, x)?)
     }
 }

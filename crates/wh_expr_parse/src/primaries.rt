@@ -1,21 +1,21 @@
 //! Constants, columns, parentheses and calls.
 
-ghost use Rattle.std.specs.Prelude.{◌≡◌, [], true, false, Ok};
+ghost use Rattle.std.specs.Prelude.{◌≡◌, [], true, false, Some};
 ghost use Rattle.wh_cursor.specs.Gives.{Reads};
 ghost use Rattle.wh_expr_parse.specs.Read as spec;
 ghost use Rattle.wh_expr_parse.specs.Nests.{Nests};
 ghost use Rattle.wh_expr_parse.specs.State as state;
 
 use crate::grammar::{Grammar, Level};
-use crate::made::{count, sum};
 use crate::tokens::Tokens;
+use sqlite_items::Boxed;
 use std::alloc::Global;
 use wh_ast::Expr;
 use wh_cursor::{Key, ParseFault};
 use wh_value::{Text, Value};
 
 #[tactic(auto, unfolding(crate::specs::Read::column))]
-fn column(alloc: Global, tokens: &mut Tokens<'_>) -> Result<Expr, ParseFault>
+fn column(alloc: Global, tokens: &mut Tokens<'_>) -> Result<Boxed<Expr>, ParseFault>
     ensures { Reads (spec.column tokens.old) result tokens.new }
 {
     let first = tokens.name(alloc)?;
@@ -30,37 +30,36 @@ fn column_of(
     tokens: &mut Tokens<'_>,
     first: Text,
     dotted: bool,
-) -> Result<Expr, ParseFault>
+) -> Result<Boxed<Expr>, ParseFault>
     ensures { Reads (spec.column_of first dotted tokens.old) result tokens.new }
 {
     if dotted {
         let column = tokens.name(alloc)?;
-        Ok(Expr::Column(Some(first), column))
+        Ok(Boxed::new(alloc, Expr::Column(Some(first), column))?)
     } else {
-        Ok(Expr::Column(None, first))
+        Ok(Boxed::new(alloc, Expr::Column(None, first))?)
     }
 }
 
 /// The star of `COUNT ( * )`.
 #[tactic(auto, unfolding(crate::specs::Read::rows))]
-pub fn rows(tokens: &mut Tokens<'_>) -> Expr
-    ensures { Reads (spec.rows tokens.old) (Ok result) tokens.new }
+pub fn rows(alloc: Global, tokens: &mut Tokens<'_>) -> Result<Boxed<Expr>, ParseFault>
+    ensures { Reads (spec.rows tokens.old) result tokens.new }
 {
     tokens.skip();
-    Expr::CountRows
+    Ok(Boxed::new(alloc, Expr::CountRows)?)
 }
 
-fn constant(tokens: &mut Tokens<'_>, value: Value) -> Expr
-    ensures value { result ≡ Expr.Const value }
-    ensures next { tokens.new ≡ state.next tokens.old }
+fn constant(alloc: Global, tokens: &mut Tokens<'_>, value: Value) -> Result<Boxed<Expr>, ParseFault>
+    ensures { Reads (Some (Expr.Const value, state.next tokens.old)) result tokens.new }
 {
     tokens.skip();
-    Expr::Const(value)
+    Ok(Boxed::new(alloc, Expr::Const(value))?)
 }
 
-impl<F: Fn(Global, &mut Tokens<'_>, usize, Level) -> Result<Expr, ParseFault>> Grammar<F> {
+impl<F: Fn(Global, &mut Tokens<'_>, usize, Level) -> Result<Boxed<Expr>, ParseFault>> Grammar<F> {
     #[tactic(auto, unfolding(crate::specs::Read::primary))]
-    pub fn primary(&self, tokens: &mut Tokens<'_>) -> Result<Expr, ParseFault>
+    pub fn primary(&self, tokens: &mut Tokens<'_>) -> Result<Boxed<Expr>, ParseFault>
         requires { Nests self.now.depth (F.pre self.now.inner) (F.post self.now.inner) }
         ensures { Reads (spec.primary (spec.nested self.now.depth) tokens.old) result tokens.new }
     {
@@ -70,9 +69,9 @@ impl<F: Fn(Global, &mut Tokens<'_>, usize, Level) -> Result<Expr, ParseFault>> G
                 self.parenthesized(tokens)
             }
             Key::Number | Key::Text => tokens.literal(self.alloc),
-            Key::True => Ok(constant(tokens, Value::Bool(true))),
-            Key::False => Ok(constant(tokens, Value::Bool(false))),
-            Key::Null => Ok(constant(tokens, Value::Null)),
+            Key::True => constant(self.alloc, tokens, Value::Bool(true)),
+            Key::False => constant(self.alloc, tokens, Value::Bool(false)),
+            Key::Null => constant(self.alloc, tokens, Value::Null),
             Key::Sum => self.sum_or_column(tokens),
             Key::Count => self.count_or_column(tokens),
             Key::Name => column(self.alloc, tokens),
@@ -82,7 +81,7 @@ impl<F: Fn(Global, &mut Tokens<'_>, usize, Level) -> Result<Expr, ParseFault>> G
 
     /// Behind the `(`.
     #[tactic(auto, unfolding(crate::specs::Read::parenthesized))]
-    fn parenthesized(&self, tokens: &mut Tokens<'_>) -> Result<Expr, ParseFault>
+    fn parenthesized(&self, tokens: &mut Tokens<'_>) -> Result<Boxed<Expr>, ParseFault>
         requires { Nests self.now.depth (F.pre self.now.inner) (F.post self.now.inner) }
         ensures { Reads (spec.parenthesized (spec.nested self.now.depth) tokens.old) result tokens.new }
     {
@@ -91,7 +90,7 @@ impl<F: Fn(Global, &mut Tokens<'_>, usize, Level) -> Result<Expr, ParseFault>> G
         Ok(x)
     }
 
-    fn sum_or_column(&self, tokens: &mut Tokens<'_>) -> Result<Expr, ParseFault>
+    fn sum_or_column(&self, tokens: &mut Tokens<'_>) -> Result<Boxed<Expr>, ParseFault>
         requires { Nests self.now.depth (F.pre self.now.inner) (F.post self.now.inner) }
         ensures { Reads (spec.call_or_column (spec.nested self.now.depth) (spec.sum_call (spec.nested self.now.depth)) tokens.old) result tokens.new }
     {
@@ -105,16 +104,16 @@ impl<F: Fn(Global, &mut Tokens<'_>, usize, Level) -> Result<Expr, ParseFault>> G
 
     /// Behind `SUM`.
     #[tactic(auto, unfolding(crate::specs::Read::sum_call))]
-    fn sum_call(&self, tokens: &mut Tokens<'_>) -> Result<Expr, ParseFault>
+    fn sum_call(&self, tokens: &mut Tokens<'_>) -> Result<Boxed<Expr>, ParseFault>
         requires { Nests self.now.depth (F.pre self.now.inner) (F.post self.now.inner) }
         ensures { Reads (spec.sum_call (spec.nested self.now.depth) tokens.old) result tokens.new }
     {
         tokens.skip();
         let x = self.parenthesized(tokens)?;
-        Ok(sum(self.alloc, x)?)
+        Ok(Boxed::new(self.alloc, Expr::Sum(x))?)
     }
 
-    fn count_or_column(&self, tokens: &mut Tokens<'_>) -> Result<Expr, ParseFault>
+    fn count_or_column(&self, tokens: &mut Tokens<'_>) -> Result<Boxed<Expr>, ParseFault>
         requires { Nests self.now.depth (F.pre self.now.inner) (F.post self.now.inner) }
         ensures { Reads (spec.call_or_column (spec.nested self.now.depth) (spec.count_call (spec.nested self.now.depth)) tokens.old) result tokens.new }
     {
@@ -128,7 +127,7 @@ impl<F: Fn(Global, &mut Tokens<'_>, usize, Level) -> Result<Expr, ParseFault>> G
 
     /// Behind `COUNT`.
     #[tactic(auto, unfolding(crate::specs::Read::count_call))]
-    fn count_call(&self, tokens: &mut Tokens<'_>) -> Result<Expr, ParseFault>
+    fn count_call(&self, tokens: &mut Tokens<'_>) -> Result<Boxed<Expr>, ParseFault>
         requires { Nests self.now.depth (F.pre self.now.inner) (F.post self.now.inner) }
         ensures { Reads (spec.count_call (spec.nested self.now.depth) tokens.old) result tokens.new }
     {
@@ -139,7 +138,7 @@ impl<F: Fn(Global, &mut Tokens<'_>, usize, Level) -> Result<Expr, ParseFault>> G
 
     /// Behind `COUNT (`, and whether a star stands there.
     #[tactic(auto, unfolding(crate::specs::Read::count_by))]
-    fn count_of(&self, tokens: &mut Tokens<'_>, star: bool) -> Result<Expr, ParseFault>
+    fn count_of(&self, tokens: &mut Tokens<'_>, star: bool) -> Result<Boxed<Expr>, ParseFault>
         requires { Nests self.now.depth (F.pre self.now.inner) (F.post self.now.inner) }
         ensures { Reads (spec.count_by (spec.nested self.now.depth) star tokens.old) result tokens.new }
     {
@@ -149,6 +148,6 @@ impl<F: Fn(Global, &mut Tokens<'_>, usize, Level) -> Result<Expr, ParseFault>> G
             return Ok(x);
         }
         let x = self.parenthesized(tokens)?;
-        Ok(count(self.alloc, x)?)
+        Ok(Boxed::new(self.alloc, Expr::Count(x))?)
     }
 }

@@ -27,7 +27,7 @@ fn whole_expr(alloc: Global, words: &mut Words<'_>, depth: usize) -> Result<Expr
         return Err(ParseFault::SyntaxError);
     }
     *words = tokens.into_words();
-    Ok(x)
+    Ok(x.into_inner())
 }
 
 /// Takes the expression that the tokens begin with. At most `depth` parentheses, NOT and minus

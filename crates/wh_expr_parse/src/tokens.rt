@@ -7,6 +7,7 @@ ghost use Rattle.wh_expr_parse.specs.State as spec;
 ghost use Rattle.wh_expr_parse.specs.State.{at};
 
 use crate::literal::literal_at;
+use sqlite_items::Boxed;
 use std::alloc::Global;
 use std::marker::Model;
 use wh_ast::Expr;
@@ -14,7 +15,7 @@ use wh_cursor::{Key, ParseFault, Words};
 use wh_value::Text;
 
 /// The tokens that are left, and how many operators and IN items the expression may still have.
-#[derive(Debug, Drop)]
+#[derive(Drop)]
 pub struct Tokens<'a> {
     words: Words<'a>,
     room: usize,
@@ -116,7 +117,7 @@ impl<'a> Tokens<'a> {
         self.words.name(alloc)
     }
 
-    pub fn literal(&mut self, alloc: Global) -> Result<Expr, ParseFault>
+    pub fn literal(&mut self, alloc: Global) -> Result<Boxed<Expr>, ParseFault>
         ensures { Reads (spec.plainly read_literal self.old) result self.new }
     {
         let literal = literal_at(alloc, self.words.rest())?;

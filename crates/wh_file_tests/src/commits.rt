@@ -1,4 +1,5 @@
 use std::alloc::{AllocError, Global};
+use std::process::Abort;
 use std::test::*;
 use wh_part::{NumberedRow, Partition};
 use wh_record::*;
@@ -37,62 +38,65 @@ const REMOVE: [u8; 61] = [
     0, 2, 0, 0, 0, 1, 0, 0, 0, 2, 0, 0, 0, 0, 0, 0, 0, 1, 0, 0, 0, 0, 0, 0, 0, 3, 0, 0, 0, 0,
 ];
 
-fn created(alloc: Global) -> Result<Change, AllocError> {
+fn created(rt: &impl Abort, alloc: Global) -> Change {
     let mut columns = Vec::new(alloc);
-    columns.push(Column {
-        name: Text::of(alloc, "K")?,
-        column_type: ColumnType::Number,
-    })?;
-    Ok(Change::CreatesTable(TableChange {
+    columns
+        .push(Column {
+            name: Text::of(alloc, "K").expect(rt, "memory"),
+            column_type: ColumnType::Number,
+        })
+        .expect(rt, "memory");
+    Change::CreatesTable(TableChange {
         id: 1,
-        name: Text::of(alloc, "T")?,
+        name: Text::of(alloc, "T").expect(rt, "memory"),
         retention: 1,
         columns,
-    }))
+    })
 }
 
-fn inserted(alloc: Global, stamp: u64) -> Result<Change, AllocError> {
-    inserted_number(alloc, stamp, 1)
+fn inserted(rt: &impl Abort, alloc: Global, stamp: u64) -> Change {
+    inserted_number(rt, alloc, stamp, 1)
 }
 
-fn inserted_number(alloc: Global, stamp: u64, number: i64) -> Result<Change, AllocError> {
+fn inserted_number(rt: &impl Abort, alloc: Global, stamp: u64, number: i64) -> Change {
     let mut row = Row::new(alloc);
-    row.push(Value::Number(number))?;
+    row.push(Value::Number(number)).expect(rt, "memory");
     let mut rows = Vec::new(alloc);
-    rows.push(NumberedRow { number: 1, row })?;
+    rows.push(NumberedRow { number: 1, row })
+        .expect(rt, "memory");
     let mut added = Vec::new(alloc);
-    added.push(Partition::make(1, rows))?;
-    Ok(Change::PushesVersion(VersionChange {
+    added.push(Partition::make(1, rows)).expect(rt, "memory");
+    Change::PushesVersion(VersionChange {
         id: 1,
         data_timestamp: stamp,
         next_row: 2,
         width: 1,
         removed: Vec::new(alloc),
         added,
-    }))
+    })
 }
 
-fn removed(alloc: Global, stamp: u64, numbers: &[u64]) -> Result<Change, AllocError> {
-    Ok(Change::PushesVersion(VersionChange {
+fn removed(rt: &impl Abort, alloc: Global, stamp: u64, numbers: &[u64]) -> Change {
+    Change::PushesVersion(VersionChange {
         id: 1,
         data_timestamp: stamp,
         next_row: 2,
         width: 1,
-        removed: Vec::from_slice(alloc, numbers)?,
+        removed: Vec::from_slice(alloc, numbers).expect(rt, "memory"),
         added: Vec::new(alloc),
-    }))
+    })
 }
 
-fn one(alloc: Global, stamp: u64, change: Change) -> Result<Commit, AllocError> {
+fn one(rt: &impl Abort, alloc: Global, stamp: u64, change: Change) -> Commit {
     let mut changes = Vec::new(alloc);
-    changes.push(change)?;
-    Ok(Commit { stamp, changes })
+    changes.push(change).expect(rt, "memory");
+    Commit { stamp, changes }
 }
 
-fn two(alloc: Global, stamp: u64, first: Change, second: Change) -> Result<Commit, AllocError> {
-    let mut commit = one(alloc, stamp, first)?;
-    commit.changes.push(second)?;
-    Ok(commit)
+fn two(rt: &impl Abort, alloc: Global, stamp: u64, first: Change, second: Change) -> Commit {
+    let mut commit = one(rt, alloc, stamp, first);
+    commit.changes.push(second).expect(rt, "memory");
+    commit
 }
 
 /// Whether a record has this payload: its length in eight bytes, the payload, and a closed gate.
@@ -117,54 +121,52 @@ fn there_and_back(commit: &Commit, alloc: Global, payload: &[u8]) -> bool {
 }
 
 #[test]
-fn commits_are_written_and_read_byte_by_byte(rt: HostRuntime) -> Result<(), Fail> {
+fn commits_are_written_and_read_byte_by_byte(rt: HostRuntime) {
     let alloc = rt.alloc();
     let nothing = Commit {
         stamp: 3,
         changes: Vec::new(alloc),
     };
     assert!(rt; there_and_back(&nothing, alloc, &NOTHING), "no change");
-    let create = one(alloc, 1, created(alloc)?)?;
+    let create = one(&rt, alloc, 1, created(&rt, alloc));
     assert!(rt; there_and_back(&create, alloc, &CREATE), "a new table");
-    let drop = one(alloc, 4, Change::Drops(258))?;
+    let drop = one(&rt, alloc, 4, Change::Drops(258));
     assert!(rt;
         there_and_back(&drop, alloc, &DROP),
         "an object that is dropped"
     );
-    let insert = one(alloc, 2, inserted(alloc, 2)?)?;
+    let insert = one(&rt, alloc, 2, inserted(&rt, alloc, 2));
     assert!(rt; there_and_back(&insert, alloc, &INSERT), "a new version");
-    let both = two(alloc, 1, created(alloc)?, inserted(alloc, 1)?)?;
+    let both = two(&rt, alloc, 1, created(&rt, alloc), inserted(&rt, alloc, 1));
     assert!(rt;
         there_and_back(&both, alloc, &BOTH),
         "a new table and its first version"
     );
-    let remove = one(alloc, 5, removed(alloc, 5, &[1, 3])?)?;
+    let remove = one(&rt, alloc, 5, removed(&rt, alloc, 5, &[1, 3]));
     assert!(rt;
         there_and_back(&remove, alloc, &REMOVE),
         "partitions that go"
     );
-    Ok(())
 }
 
 #[test]
-fn what_is_no_commit_is_not_written(rt: HostRuntime) -> Result<(), Fail> {
+fn what_is_no_commit_is_not_written(rt: HostRuntime) {
     let alloc = rt.alloc();
-    let least = inserted_number(alloc, 2, -999_999_999_999_999_999)?;
+    let least = inserted_number(&rt, alloc, 2, -999_999_999_999_999_999);
     assert!(rt;
-        one(alloc, 2, least)?.encode(alloc).is_ok(),
+        one(&rt, alloc, 2, least).encode(alloc).is_ok(),
         "a number of 18 digits"
     );
-    let long = inserted_number(alloc, 2, 1_000_000_000_000_000_000)?;
+    let long = inserted_number(&rt, alloc, 2, 1_000_000_000_000_000_000);
     assert!(rt;
-        one(alloc, 2, long)?.encode(alloc).is_err(),
+        one(&rt, alloc, 2, long).encode(alloc).is_err(),
         "a number of 19 digits"
     );
-    let falling = removed(alloc, 5, &[3, 1])?;
+    let falling = removed(&rt, alloc, 5, &[3, 1]);
     assert!(rt;
-        one(alloc, 5, falling)?.encode(alloc).is_err(),
+        one(&rt, alloc, 5, falling).encode(alloc).is_err(),
         "removed numbers that fall"
     );
-    Ok(())
 }
 
 /// Whether some of the first bytes, and not all, are a commit.
@@ -193,18 +195,18 @@ fn no_prefix_is_a_commit(rt: HostRuntime) {
 }
 
 /// The bytes with another byte at a place; at the place behind the last one it is added.
-fn with_byte(alloc: Global, bytes: &[u8], place: usize, byte: u8) -> Result<Vec<u8>, AllocError> {
-    let mut changed = Vec::from_slice(alloc, bytes)?;
+fn with_byte(rt: &impl Abort, alloc: Global, bytes: &[u8], place: usize, byte: u8) -> Vec<u8> {
+    let mut changed = Vec::from_slice(alloc, bytes).expect(rt, "memory");
     if place < changed.len() {
         changed[place] = byte;
     } else {
-        changed.push(byte)?;
+        changed.push(byte).expect(rt, "memory");
     }
-    Ok(changed)
+    changed
 }
 
 #[test]
-fn what_is_no_commit_is_not_read(rt: HostRuntime) -> Result<(), Fail> {
+fn what_is_no_commit_is_not_read(rt: HostRuntime) {
     let alloc = rt.alloc();
     let cases: [(&str, &[u8], usize, u8); 16] = [
         ("fewer changes than there are", &BOTH, 11, 1),
@@ -225,8 +227,7 @@ fn what_is_no_commit_is_not_read(rt: HostRuntime) -> Result<(), Fail> {
         ("more partitions than there are", &REMOVE, 60, 1),
     ];
     for (name, bytes, place, byte) in cases {
-        let changed = with_byte(alloc, bytes, place, byte)?;
+        let changed = with_byte(&rt, alloc, bytes, place, byte);
         assert!(rt; Commit::decode(alloc, &changed).is_none(), "{name}");
     }
-    Ok(())
 }

@@ -1,8 +1,8 @@
 ghost use Rattle.std.specs.Prelude.{◌≡◌};
 
 use std::alloc::Global;
+use std::process::Abort;
 use std::sync::Arc;
-use std::test::Fail;
 use wh_fetch::{Fetch, MemFetch};
 use wh_part::{NumberedRow, PartId, PartMeta, Partition};
 use wh_value::Row;
@@ -18,13 +18,14 @@ const SECOND: PartId = PartId {
 };
 
 // A partition of one row without values, whose number is this one.
-fn part(alloc: Global, number: u64) -> Result<Arc<Partition>, Fail> {
+fn part(rt: &impl Abort, alloc: Global, number: u64) -> Arc<Partition> {
     let mut rows = Vec::new(alloc);
     rows.push(NumberedRow {
         number: 1,
         row: Row::new(alloc),
-    })?;
-    Ok(Arc::new(alloc, Partition::make(number, rows))?)
+    })
+    .expect(rt, "memory");
+    Arc::new(alloc, Partition::make(number, rows)).expect(rt, "memory")
 }
 
 fn meta(alloc: Global, id: PartId) -> PartMeta
@@ -42,19 +43,30 @@ fn meta(alloc: Global, id: PartId) -> PartMeta
 }
 
 #[test]
-fn a_partition_is_given_by_its_name(rt: HostRuntime) -> Result<(), Fail> {
+fn a_partition_is_given_by_its_name(rt: HostRuntime) {
     let alloc = rt.alloc();
     let mut parts = Vec::new(alloc);
-    parts.push((meta(alloc, FIRST), part(alloc, 7)?))?;
-    parts.push((meta(alloc, SECOND), part(alloc, 8)?))?;
-    parts.push((meta(alloc, FIRST), part(alloc, 9)?))?;
-    let mut fetch = MemFetch::new(alloc, parts)?;
+    parts
+        .push((meta(alloc, FIRST), part(&rt, alloc, 7)))
+        .expect(&rt, "memory");
+    parts
+        .push((meta(alloc, SECOND), part(&rt, alloc, 8)))
+        .expect(&rt, "memory");
+    parts
+        .push((meta(alloc, FIRST), part(&rt, alloc, 9)))
+        .expect(&rt, "memory");
+    let mut fetch = MemFetch::new(alloc, parts).expect(&rt, "memory");
     let second = meta(alloc, SECOND);
     let first = meta(alloc, FIRST);
-    let found = fetch.fetch(&second).map_err(|_| "not given")?;
+    let found = fetch
+        .fetch(&second)
+        .map_err(|_| "not given")
+        .expect(&rt, "memory");
     assert_eq!(rt; found.number(), 8);
-    let last = fetch.fetch(&first).map_err(|_| "not given")?;
+    let last = fetch
+        .fetch(&first)
+        .map_err(|_| "not given")
+        .expect(&rt, "memory");
     assert_eq!(rt; last.number(), 9);
     assert_eq!(rt; fetch.fetched(), 2);
-    Ok(())
 }

@@ -170,7 +170,7 @@ fn rows_are_cut_at_each_thousand(rt: HostRuntime) -> Result<(), Fail> {
 }
 
 /// What is known of the partition that these bytes begin with.
-#[tactic(auto, using(crate::proofs::MetaLemmas::even_partition))]
+#[tactic(auto, using(wh_part::proofs::MetaLemmas::even_partition))]
 fn meta_of(alloc: Global, bytes: &[u8], width: u32) -> Result<Option<PartMeta>, AllocError> {
     match Partition::decode(alloc, bytes, width) {
         Some(found) => {

@@ -12,7 +12,7 @@ use crate::{Kind, LexFault, Sign};
 use std::alloc::Global;
 
 /// What stands at the front of a text, a token, or none for a gap, and what follows it.
-#[derive(Debug, Drop)]
+#[derive(Drop)]
 pub struct Front<'a> {
     pub token: Option<Kind>,
     pub rest: &'a [u8],

@@ -1,18 +1,18 @@
 //! Conditions of tasks. The rules take the reader of what stands inside as a parameter, so that
 //! each is proved by itself.
-ghost use Rattle.std.specs.Prelude.{◌≡◌, length, IfOk, OnErr};
+ghost use Rattle.std.specs.Prelude.{◌≡◌, length, OnErr};
 ghost use Rattle.wh_cursor.specs.Gives.{Reads};
 ghost use Rattle.wh_option_parse.specs.Nests.{Nests};
 ghost use Rattle.wh_option_parse.specs.Read as spec;
 
 use crate::lags::read_asked;
 use sqlite_items::Boxed;
-use std::alloc::{AllocError, Global};
+use std::alloc::Global;
 use wh_ast::Condition;
 use wh_cursor::{Key, ParseFault, Words};
 
 /// What may stand inside a condition.
-#[derive(Clone, Copy, Debug, PartialEq, Eq)]
+#[derive(Clone, Copy)]
 pub enum Level {
     /// Inside parentheses.
     Whole,
@@ -20,7 +20,7 @@ pub enum Level {
     Negation,
 }
 
-#[derive(Clone, Copy)]
+#[derive(Drop)]
 pub struct Rules<F> {
     pub alloc: Global,
     /// How many parentheses and NOTs may still stand inside one another.
@@ -34,33 +34,15 @@ fn left_count(words: &Words<'_>) -> usize
     words.rest().len()
 }
 
-fn either(alloc: Global, x: Condition, y: Condition) -> Result<Condition, AllocError>
-    ensures { IfOk result (λ made. made ≡ Condition.Or x y) }
-{
-    Ok(Condition::Or(Boxed::new(alloc, x)?, Boxed::new(alloc, y)?))
-}
-
-fn both(alloc: Global, x: Condition, y: Condition) -> Result<Condition, AllocError>
-    ensures { IfOk result (λ made. made ≡ Condition.And x y) }
-{
-    Ok(Condition::And(Boxed::new(alloc, x)?, Boxed::new(alloc, y)?))
-}
-
-fn not(alloc: Global, x: Condition) -> Result<Condition, AllocError>
-    ensures { IfOk result (λ made. made ≡ Condition.Not x) }
-{
-    Ok(Condition::Not(Boxed::new(alloc, x)?))
-}
-
-impl<F: Fn(Global, &mut Words<'_>, usize, Level) -> Result<Condition, ParseFault>> Rules<F> {
-    fn inner(&self, words: &mut Words<'_>, level: Level) -> Result<Condition, ParseFault>
+impl<F: Fn(Global, &mut Words<'_>, usize, Level) -> Result<Boxed<Condition>, ParseFault>> Rules<F> {
+    fn inner(&self, words: &mut Words<'_>, level: Level) -> Result<Boxed<Condition>, ParseFault>
         requires { Nests self.now.depth (F.pre self.now.inner) (F.post self.now.inner) }
         ensures { Reads (spec.nested self.now.depth level words.old) result words.new }
     {
         (self.inner)(self.alloc, words, self.depth, level)
     }
 
-    fn level(&self, words: &mut Words<'_>, level: Level) -> Result<Condition, ParseFault>
+    fn level(&self, words: &mut Words<'_>, level: Level) -> Result<Boxed<Condition>, ParseFault>
         requires { Nests self.now.depth (F.pre self.now.inner) (F.post self.now.inner) }
         ensures { Reads (spec.level (spec.nested self.now.depth) level words.old) result words.new }
     {
@@ -71,7 +53,7 @@ impl<F: Fn(Global, &mut Words<'_>, usize, Level) -> Result<Condition, ParseFault
     }
 
     /// Operands of OR.
-    fn whole(&self, words: &mut Words<'_>) -> Result<Condition, ParseFault>
+    fn whole(&self, words: &mut Words<'_>) -> Result<Boxed<Condition>, ParseFault>
         requires { Nests self.now.depth (F.pre self.now.inner) (F.post self.now.inner) }
         ensures { Reads (spec.whole (spec.nested self.now.depth) words.old) result words.new }
     {
@@ -82,13 +64,13 @@ impl<F: Fn(Global, &mut Words<'_>, usize, Level) -> Result<Condition, ParseFault
             }
             words.skip();
             let right = self.conjunction(words)?;
-            left = either(self.alloc, left, right)?;
+            left = Boxed::new(self.alloc, Condition::Or(left, right))?;
         }
         Ok(left)
     }
 
     /// Operands of AND.
-    fn conjunction(&self, words: &mut Words<'_>) -> Result<Condition, ParseFault>
+    fn conjunction(&self, words: &mut Words<'_>) -> Result<Boxed<Condition>, ParseFault>
         requires { Nests self.now.depth (F.pre self.now.inner) (F.post self.now.inner) }
         ensures { Reads (spec.conjunction (spec.nested self.now.depth) words.old) result words.new }
     {
@@ -99,13 +81,13 @@ impl<F: Fn(Global, &mut Words<'_>, usize, Level) -> Result<Condition, ParseFault
             }
             words.skip();
             let right = self.negation(words)?;
-            left = both(self.alloc, left, right)?;
+            left = Boxed::new(self.alloc, Condition::And(left, right))?;
         }
         Ok(left)
     }
 
     #[tactic(auto, unfolding(crate::specs::Read::negation))]
-    fn negation(&self, words: &mut Words<'_>) -> Result<Condition, ParseFault>
+    fn negation(&self, words: &mut Words<'_>) -> Result<Boxed<Condition>, ParseFault>
         requires { Nests self.now.depth (F.pre self.now.inner) (F.post self.now.inner) }
         ensures { Reads (spec.negation (spec.nested self.now.depth) words.old) result words.new }
     {
@@ -120,18 +102,18 @@ impl<F: Fn(Global, &mut Words<'_>, usize, Level) -> Result<Condition, ParseFault
 
     /// At `NOT`.
     #[tactic(auto, unfolding(crate::specs::Read::negated))]
-    fn negated(&self, words: &mut Words<'_>) -> Result<Condition, ParseFault>
+    fn negated(&self, words: &mut Words<'_>) -> Result<Boxed<Condition>, ParseFault>
         requires { Nests self.now.depth (F.pre self.now.inner) (F.post self.now.inner) }
         ensures { Reads (spec.negated (spec.nested self.now.depth) words.old) result words.new }
     {
         words.skip();
         let x = self.inner(words, Level::Negation)?;
-        Ok(not(self.alloc, x)?)
+        Ok(Boxed::new(self.alloc, Condition::Not(x))?)
     }
 
     /// At `(`.
     #[tactic(auto, unfolding(crate::specs::Read::parenthesized))]
-    fn parenthesized(&self, words: &mut Words<'_>) -> Result<Condition, ParseFault>
+    fn parenthesized(&self, words: &mut Words<'_>) -> Result<Boxed<Condition>, ParseFault>
         requires { Nests self.now.depth (F.pre self.now.inner) (F.post self.now.inner) }
         ensures { Reads (spec.parenthesized (spec.nested self.now.depth) words.old) result
             words.new }
@@ -143,11 +125,11 @@ impl<F: Fn(Global, &mut Words<'_>, usize, Level) -> Result<Condition, ParseFault
     }
 
     #[tactic(auto, unfolding(crate::specs::Read::has_data))]
-    fn has_data(&self, words: &mut Words<'_>) -> Result<Condition, ParseFault>
+    fn has_data(&self, words: &mut Words<'_>) -> Result<Boxed<Condition>, ParseFault>
         ensures { Reads (spec.has_data (spec.nested self.now.depth) words.old) result words.new }
     {
         let name = read_asked(self.alloc, words)?;
-        Ok(Condition::HasData(name))
+        Ok(Boxed::new(self.alloc, Condition::HasData(name))?)
     }
 }
 
@@ -157,7 +139,7 @@ fn nested(
     words: &mut Words<'_>,
     depth: usize,
     level: Level,
-) -> Result<Condition, ParseFault>
+) -> Result<Boxed<Condition>, ParseFault>
     ensures { Reads (spec.nested depth level words.old) result words.new }
 {
     if depth == 0 {
@@ -187,5 +169,5 @@ pub fn read_condition(
         return Err(ParseFault::SyntaxError);
     }
     *words = ahead;
-    Ok(x)
+    Ok(x.into_inner())
 }

@@ -7,7 +7,7 @@ use std::alloc::{AllocError, Global};
 use wh_ast::Lag;
 
 /// A number of 1 to 9 digits, and the letters of its unit in upper case.
-#[derive(Debug, Drop)]
+#[derive(Drop)]
 struct Span {
     number: u64,
     unit: Vec<u8>,

@@ -19,7 +19,7 @@ pub struct TableOptions {
 }
 
 /// The options of a dynamic table so far.
-#[derive(Clone, Copy, Debug)]
+#[derive(Clone, Copy)]
 pub struct TableParts {
     pub lag: Option<Lag>,
     pub warehouse: bool,

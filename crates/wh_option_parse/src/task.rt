@@ -8,7 +8,7 @@ use std::alloc::Global;
 use wh_cursor::{Key, ParseFault, Words, name};
 
 /// The options of a task so far.
-#[derive(Clone, Copy, Debug)]
+#[derive(Clone, Copy)]
 pub struct TaskParts {
     pub warehouse: bool,
     pub minutes: Option<u64>,

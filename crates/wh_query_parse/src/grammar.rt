@@ -22,7 +22,7 @@ const CORES: usize = 64;
 /// How many joins a core may have.
 const JOINS: usize = 15;
 
-#[derive(Clone, Copy)]
+#[derive(Drop)]
 pub struct Grammar<F> {
     pub alloc: Global,
     /// How many parentheses, NOT and minus signs may still stand inside one another.
@@ -31,12 +31,12 @@ pub struct Grammar<F> {
 }
 
 #[tactic(auto, unfolding(crate::specs::Read::read_named_source))]
-fn named_source(alloc: Global, words: &mut Words<'_>) -> Result<Source, ParseFault>
+fn named_source(alloc: Global, words: &mut Words<'_>) -> Result<Boxed<Source>, ParseFault>
     ensures { Reads (spec.read_named_source words.old) result words.new }
 {
     let object = name(alloc, words)?;
     let alias = optional_alias(alloc, words)?;
-    Ok(Source::Named(object, alias))
+    Ok(Boxed::new(alloc, Source::Named(object, alias))?)
 }
 
 #[tactic(auto, unfolding(crate::specs::Read::provided))]
@@ -60,21 +60,21 @@ impl<F: Fn(Global, &mut Words<'_>, usize) -> Result<Query, ParseFault>> Grammar<
 
     /// Takes a query in parentheses, and its alias.
     #[tactic(auto, unfolding(crate::specs::Read::read_subquery))]
-    fn subquery(&self, words: &mut Words<'_>) -> Result<Source, ParseFault>
+    fn subquery(&self, words: &mut Words<'_>) -> Result<Boxed<Source>, ParseFault>
         requires { Nests self.now.depth (F.pre self.now.inner) (F.post self.now.inner) }
         ensures { Reads (spec.read_subquery (spec.nested self.now.depth) words.old)
             result words.new }
     {
         words.skip();
-        let query = self.inner(words)?;
+        let query = Boxed::new(self.alloc, self.inner(words)?)?;
         words.expect(Key::RParen)?;
         let alias = named(self.alloc, words)?;
         expect_alias_end(words)?;
-        Ok(Source::Subquery(Boxed::new(self.alloc, query)?, alias))
+        Ok(Boxed::new(self.alloc, Source::Subquery(query, alias))?)
     }
 
     #[tactic(auto, unfolding(crate::specs::Read::source_of))]
-    pub fn source(&self, words: &mut Words<'_>) -> Result<Source, ParseFault>
+    pub fn source(&self, words: &mut Words<'_>) -> Result<Boxed<Source>, ParseFault>
         requires { Nests self.now.depth (F.pre self.now.inner) (F.post self.now.inner) }
         ensures { Reads (spec.source_of (spec.nested self.now.depth) words.old) result words.new }
     {
@@ -96,7 +96,10 @@ impl<F: Fn(Global, &mut Words<'_>, usize) -> Result<Query, ParseFault>> Grammar<
         let source = self.source(words)?;
         words.expect_word(b"ON")?;
         let on = expr(self.alloc, words, self.depth)?;
-        Ok(Join { source, on })
+        Ok(Join {
+            source: source.into_inner(),
+            on,
+        })
     }
 
     #[tactic(auto, unfolding(crate::specs::Read::read_join))]
@@ -136,13 +139,13 @@ impl<F: Fn(Global, &mut Words<'_>, usize) -> Result<Query, ParseFault>> Grammar<
         words.expect_word(b"FROM")?;
         let from = self.source(words)?;
         let joins = self.joins(words)?;
-        let filter = optional_filter(self.alloc, words, self.depth)?;
+        let filter = Boxed::new(self.alloc, optional_filter(self.alloc, words, self.depth)?)?;
         let group = group(self.alloc, words, self.depth)?;
         Ok(Core {
             items,
-            from,
+            from: from.into_inner(),
             joins,
-            filter,
+            filter: filter.into_inner(),
             group,
         })
     }
@@ -224,5 +227,5 @@ pub fn whole_source(
     }
     .source(&mut ahead)?;
     *words = ahead;
-    Ok(source)
+    Ok(source.into_inner())
 }

@@ -6,7 +6,7 @@ ghost use Rattle.wh_query_parse.specs.Read as spec;
 
 use crate::follow::names_all;
 use crate::parts::optional_alias;
-use sqlite_items::Items;
+use sqlite_items::{Boxed, Items};
 use std::alloc::Global;
 use wh_ast::Item;
 use wh_cursor::{Key, ParseFault, Words, listed, name};
@@ -27,9 +27,9 @@ fn all_of(alloc: Global, words: &mut Words<'_>) -> Result<Item, ParseFault>
 fn shown(alloc: Global, words: &mut Words<'_>, depth: usize) -> Result<Item, ParseFault>
     ensures { Reads (spec.read_shown depth words.old) result words.new }
 {
-    let x = expr(alloc, words, depth)?;
+    let x = Boxed::new(alloc, expr(alloc, words, depth)?)?;
     let alias = optional_alias(alloc, words)?;
-    Ok(Item::Expr(x, alias))
+    Ok(Item::Expr(x.into_inner(), alias))
 }
 
 #[tactic(auto, unfolding(crate::specs::Read::read_item))]

@@ -6,7 +6,7 @@ ghost use Rattle.wh_query_parse.specs.Follow as follow;
 ghost use Rattle.wh_query_parse.specs.Read as spec;
 
 use crate::follow::{ends_alias, ends_filter};
-use sqlite_items::Items;
+use sqlite_items::{Boxed, Items};
 use std::alloc::Global;
 use wh_ast::Expr;
 use wh_cursor::{ParseFault, Words, name};
@@ -95,10 +95,10 @@ pub fn optional_filter(
 {
     let mut ahead = Words::new(words.rest());
     let found = ahead.eat_word(b"WHERE");
-    let filter = filter_by(alloc, &mut ahead, depth, found)?;
+    let filter = Boxed::new(alloc, filter_by(alloc, &mut ahead, depth, found)?)?;
     expect_filter_end(&mut ahead)?;
     *words = ahead;
-    Ok(filter)
+    Ok(filter.into_inner())
 }
 
 fn group_by(

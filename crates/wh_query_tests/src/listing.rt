@@ -1,6 +1,6 @@
 use std::alloc::Global;
 use std::cmp::Ordering;
-use std::test::Fail;
+use std::process::Abort;
 use wh_algebra::Tuple;
 use wh_listing::{SortKey, compare_rows, listed};
 use wh_value::{Row, Value};
@@ -41,38 +41,40 @@ fn cell(number: i64) -> Value {
     }
 }
 
-fn row(alloc: Global, cells: (i64, i64)) -> Result<Row, Fail> {
+fn row(rt: &impl Abort, alloc: Global, cells: (i64, i64)) -> Row {
     let mut row = Row::new(alloc);
-    row.push(cell(cells.0))?;
-    row.push(cell(cells.1))?;
-    Ok(row)
+    row.push(cell(cells.0)).expect(rt, "memory");
+    row.push(cell(cells.1)).expect(rt, "memory");
+    row
 }
 
-fn rows(alloc: Global, cells: &[(i64, i64)]) -> Result<Vec<Row>, Fail> {
+fn rows(rt: &impl Abort, alloc: Global, cells: &[(i64, i64)]) -> Vec<Row> {
     let mut rows = Vec::new(alloc);
     for pair in cells {
-        rows.push(row(alloc, *pair)?)?;
+        rows.push(row(rt, alloc, *pair)).expect(rt, "memory");
     }
-    Ok(rows)
+    rows
 }
 
 // The rows at even places are lent, the others given.
-fn tuples<'a>(alloc: Global, lent: &'a [Row]) -> Result<Vec<Tuple<'a>>, Fail> {
+fn tuples<'a>(rt: &impl Abort, alloc: Global, lent: &'a [Row]) -> Vec<Tuple<'a>> {
     let mut tuples = Vec::new(alloc);
     for (i, row) in lent.iter().enumerate() {
         if i % 2 == 0 {
-            tuples.push(Tuple::Kept(row))?;
+            tuples.push(Tuple::Kept(row)).expect(rt, "memory");
         } else {
-            tuples.push(Tuple::Made(row.copy(alloc)?))?;
+            tuples
+                .push(Tuple::Made(row.copy(alloc).expect(rt, "memory")))
+                .expect(rt, "memory");
         }
     }
-    Ok(tuples)
+    tuples
 }
 
 #[test]
-fn rows_are_listed_by_their_keys(rt: HostRuntime) -> Result<(), Fail> {
+fn rows_are_listed_by_their_keys(rt: HostRuntime) {
     let alloc = rt.alloc();
-    let lent = rows(alloc, &ROWS)?;
+    let lent = rows(&rt, alloc, &ROWS);
     let none: [SortKey; 0] = [];
     let cases: [(&str, &[SortKey], [(i64, i64); 6]); 7] = [
         (
@@ -112,21 +114,20 @@ fn rows_are_listed_by_their_keys(rt: HostRuntime) -> Result<(), Fail> {
         ),
     ];
     for (name, keys, want) in cases {
-        let wanted = rows(alloc, &want)?;
-        let found = listed(alloc, keys, tuples(alloc, lent.as_slice())?)?;
+        let wanted = rows(&rt, alloc, &want);
+        let found = listed(alloc, keys, tuples(&rt, alloc, lent.as_slice())).expect(&rt, "memory");
         assert_eq!(rt; found.len(), wanted.len(), "{name}");
         for (i, (x, y)) in found.iter().zip(&wanted).enumerate() {
             assert_eq!(rt; x.cmp(y), Ordering::Equal, "{name}: row {i}");
         }
     }
-    Ok(())
 }
 
 #[test]
-fn rows_are_compared_by_their_keys(rt: HostRuntime) -> Result<(), Fail> {
+fn rows_are_compared_by_their_keys(rt: HostRuntime) {
     let alloc = rt.alloc();
-    let a = row(alloc, (1, 2))?;
-    let b = row(alloc, (1, 3))?;
+    let a = row(&rt, alloc, (1, 2));
+    let b = row(&rt, alloc, (1, 3));
     assert_eq!(rt;
         compare_rows(&[DOWN], &a, &b),
         Ordering::Less,
@@ -142,5 +143,4 @@ fn rows_are_compared_by_their_keys(rt: HostRuntime) -> Result<(), Fail> {
         Ordering::Equal,
         "the same"
     );
-    Ok(())
 }

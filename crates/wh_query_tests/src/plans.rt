@@ -1,6 +1,6 @@
 use sqlite_items::{Boxed, Items};
 use std::alloc::Global;
-use std::test::Fail;
+use std::process::Abort;
 use wh_algebra::{Call, Operator, Physical, Query, incrementable};
 use wh_scalar::Scalar;
 use wh_value::Value;
@@ -9,36 +9,42 @@ fn truth() -> Scalar {
     Scalar::Const(Value::Bool(true))
 }
 
-fn scan(alloc: Global) -> Result<Boxed<Query>, Fail> {
-    Ok(Boxed::new(alloc, Query::Scan(0))?)
+fn scan(rt: &impl Abort, alloc: Global) -> Boxed<Query> {
+    Boxed::new(alloc, Query::Scan(0)).expect(rt, "memory")
 }
 
-fn columns(alloc: Global) -> Result<Items<Scalar>, Fail> {
+fn columns(rt: &impl Abort, alloc: Global) -> Items<Scalar> {
     let mut columns = Items::new(alloc);
-    columns.push(Scalar::Column(0))?;
-    Ok(columns)
+    columns.push(Scalar::Column(0)).expect(rt, "memory");
+    columns
 }
 
-fn calls(alloc: Global) -> Result<Items<Call>, Fail> {
+fn calls(rt: &impl Abort, alloc: Global) -> Items<Call> {
     let mut calls = Items::new(alloc);
-    calls.push(Call::Count(Scalar::Column(0)))?;
-    Ok(calls)
+    calls
+        .push(Call::Count(Scalar::Column(0)))
+        .expect(rt, "memory");
+    calls
 }
 
 // Columns of pairs of a source with itself.
-fn pairs(alloc: Global) -> Result<Boxed<Query>, Fail> {
-    let columns = columns(alloc)?;
-    let filter = Boxed::new(alloc, Query::Filter(scan(alloc)?, truth()))?;
-    let join = Boxed::new(alloc, Query::Join(filter, scan(alloc)?, truth()))?;
-    Ok(Boxed::new(alloc, Query::Project(join, columns))?)
+fn pairs(rt: &impl Abort, alloc: Global) -> Boxed<Query> {
+    let columns = columns(rt, alloc);
+    let filter = Boxed::new(alloc, Query::Filter(scan(rt, alloc), truth())).expect(rt, "memory");
+    let join = Boxed::new(alloc, Query::Join(filter, scan(rt, alloc), truth())).expect(
+        rt, "memory",
+    );
+    Boxed::new(alloc, Query::Project(join, columns)).expect(rt, "memory")
 }
 
 // All six operators.
-fn query(alloc: Global) -> Result<Query, Fail> {
-    let columns = columns(alloc)?;
-    let calls = calls(alloc)?;
-    let union = Boxed::new(alloc, Query::UnionAll(pairs(alloc)?, scan(alloc)?))?;
-    Ok(Query::Group(union, columns, calls))
+fn query(rt: &impl Abort, alloc: Global) -> Query {
+    let columns = columns(rt, alloc);
+    let calls = calls(rt, alloc);
+    let union = Boxed::new(alloc, Query::UnionAll(pairs(rt, alloc), scan(rt, alloc))).expect(
+        rt, "memory",
+    );
+    Query::Group(union, columns, calls)
 }
 
 fn letter(plan: &Physical) -> (u8, Option<&Physical>) {
@@ -68,11 +74,10 @@ fn spelled(plan: &Physical) -> [u8; 6] {
 }
 
 #[test]
-fn a_plain_plan_has_the_operators_of_its_query(rt: HostRuntime) -> Result<(), Fail> {
+fn a_plain_plan_has_the_operators_of_its_query(rt: HostRuntime) {
     let alloc = rt.alloc();
-    let query = query(alloc)?;
+    let query = query(&rt, alloc);
     assert!(rt; incrementable(&query));
-    let plan = Physical::plain(alloc, &query)?;
+    let plan = Physical::plain(alloc, &query).expect(&rt, "memory");
     assert_eq!(rt; spelled(plan.get()), *b"gupjfs");
-    Ok(())
 }

@@ -1,6 +1,6 @@
 use sqlite_items::Boxed;
 use std::alloc::Global;
-use std::test::Fail;
+use std::process::Abort;
 use wh_scalar::{EvalFault, Scalar};
 use wh_value::{Comparison, Row, Text, Value};
 
@@ -22,13 +22,16 @@ fn value_of(truth: Option<bool>) -> Value {
     }
 }
 
-fn boxed(alloc: Global, scalar: Scalar) -> Result<Boxed<Scalar>, Fail> {
-    Ok(Boxed::new(alloc, scalar)?)
+fn boxed(rt: &impl Abort, alloc: Global, scalar: Scalar) -> Boxed<Scalar> {
+    Boxed::new(alloc, scalar).expect(rt, "memory")
 }
 
 // More than 18 digits.
-fn too_great(alloc: Global) -> Result<Scalar, Fail> {
-    Ok(Scalar::Add(boxed(alloc, number(GREATEST))?, boxed(alloc, number(1))?))
+fn too_great(rt: &impl Abort, alloc: Global) -> Scalar {
+    Scalar::Add(
+        boxed(rt, alloc, number(GREATEST)),
+        boxed(rt, alloc, number(1)),
+    )
 }
 
 fn on_no_row(alloc: Global, scalar: &Scalar) -> Result<Value, EvalFault> {
@@ -40,7 +43,7 @@ const YES: Option<bool> = Some(true);
 const NO: Option<bool> = Some(false);
 
 #[test]
-fn two_sides_of_and_or_give_one_truth(rt: HostRuntime) -> Result<(), Fail> {
+fn two_sides_of_and_or_give_one_truth(rt: HostRuntime) {
     let alloc = rt.alloc();
     let cases = [
         (NO, NO, NO, NO),
@@ -54,39 +57,46 @@ fn two_sides_of_and_or_give_one_truth(rt: HostRuntime) -> Result<(), Fail> {
         (YES, YES, YES, YES),
     ];
     for (left, right, both, some) in cases {
-        let and = Scalar::And(boxed(alloc, truth(left))?, boxed(alloc, truth(right))?);
-        let or = Scalar::Or(boxed(alloc, truth(left))?, boxed(alloc, truth(right))?);
+        let and = Scalar::And(
+            boxed(&rt, alloc, truth(left)),
+            boxed(&rt, alloc, truth(right)),
+        );
+        let or = Scalar::Or(
+            boxed(&rt, alloc, truth(left)),
+            boxed(&rt, alloc, truth(right)),
+        );
         assert_eq!(rt; on_no_row(alloc, &and), Ok(value_of(both)));
         assert_eq!(rt; on_no_row(alloc, &or), Ok(value_of(some)));
     }
-    Ok(())
 }
 
 #[test]
-fn each_part_is_evaluated(rt: HostRuntime) -> Result<(), Fail> {
+fn each_part_is_evaluated(rt: HostRuntime) {
     let alloc = rt.alloc();
     let above = Scalar::Compare(
         Comparison::Greater,
-        boxed(alloc, too_great(alloc)?)?,
-        boxed(alloc, number(0))?,
+        boxed(&rt, alloc, too_great(&rt, alloc)),
+        boxed(&rt, alloc, number(0)),
     );
-    let spared = Scalar::And(boxed(alloc, truth(NO))?, boxed(alloc, above)?);
+    let spared = Scalar::And(boxed(&rt, alloc, truth(NO)), boxed(&rt, alloc, above));
     assert_eq!(rt; on_no_row(alloc, &spared), Err(EvalFault::NumberOutOfRange));
-    let difference = Scalar::Sub(boxed(alloc, number(-GREATEST))?, boxed(alloc, truth(None))?);
+    let difference = Scalar::Sub(
+        boxed(&rt, alloc, number(-GREATEST)),
+        boxed(&rt, alloc, truth(None)),
+    );
     assert_eq!(rt; on_no_row(alloc, &difference), Ok(Value::Null));
-    Ok(())
 }
 
 #[test]
-fn a_column_is_read_from_the_row(rt: HostRuntime) -> Result<(), Fail> {
+fn a_column_is_read_from_the_row(rt: HostRuntime) {
     let alloc = rt.alloc();
     let mut row = Row::new(alloc);
-    row.push(Value::Null)?;
-    let text = Text::from_bytes(alloc, b"x").ok_or("no text")?;
-    row.push(Value::Text(text?))?;
-    let null = Scalar::IsNull(boxed(alloc, Scalar::Column(0))?);
+    row.push(Value::Null).expect(&rt, "memory");
+    let text = Text::from_bytes(alloc, b"x").expect(&rt, "no text");
+    row.push(Value::Text(text.expect(&rt, "memory")))
+        .expect(&rt, "memory");
+    let null = Scalar::IsNull(boxed(&rt, alloc, Scalar::Column(0)));
     assert_eq!(rt; null.eval(alloc, &row), Ok(Value::Bool(true)));
     let copy = Scalar::Column(1).eval(alloc, &row);
     assert_eq!(rt; copy.as_ref().ok(), row.values().get(1));
-    Ok(())
 }

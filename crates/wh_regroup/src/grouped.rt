@@ -44,7 +44,7 @@ fn over_groups(
         Scalar::Column(place) => call_column(keys.len(), width, *place),
         Scalar::Neg(x) | Scalar::Not(x) | Scalar::IsNull(x) => {
             let part = over_groups(alloc, keys, width, x.get())?;
-            with_part(alloc, scalar, part)
+            Ok(with_part(scalar, Boxed::new(alloc, part)?))
         }
         Scalar::Add(x, y)
         | Scalar::Sub(x, y)
@@ -52,43 +52,35 @@ fn over_groups(
         | Scalar::Compare(_, x, y)
         | Scalar::And(x, y)
         | Scalar::Or(x, y) => {
-            let left = over_groups(alloc, keys, width, x.get())?;
-            let right = over_groups(alloc, keys, width, y.get())?;
-            with_sides(alloc, scalar, left, right)
+            let left = Boxed::new(alloc, over_groups(alloc, keys, width, x.get())?)?;
+            let right = Boxed::new(alloc, over_groups(alloc, keys, width, y.get())?)?;
+            Ok(with_sides(scalar, left, right))
         }
     }
 }
 
 // The operator of a scalar of one part, over this part.
-fn with_part(alloc: Global, scalar: &Scalar, part: Scalar) -> Result<Scalar, GroupFault>
-    ensures { Regroups result (Some (with_part (scalar_of scalar.now) (scalar_of part))) }
+fn with_part(scalar: &Scalar, part: Boxed<Scalar>) -> Scalar
+    ensures { scalar_of result ≡ with_part (scalar_of scalar.now) (scalar_of part) }
 {
-    let part = Boxed::new(alloc, part)?;
-    Ok(match scalar {
+    match scalar {
         Scalar::Neg(_) => Scalar::Neg(part),
         Scalar::Not(_) => Scalar::Not(part),
         _ => Scalar::IsNull(part),
-    })
+    }
 }
 
 // The operator of a scalar of two sides, over these sides.
-fn with_sides(
-    alloc: Global,
-    scalar: &Scalar,
-    left: Scalar,
-    right: Scalar,
-) -> Result<Scalar, GroupFault>
-    ensures { Regroups result
-        (Some (with_sides (scalar_of scalar.now) (scalar_of left) (scalar_of right))) }
+fn with_sides(scalar: &Scalar, left: Boxed<Scalar>, right: Boxed<Scalar>) -> Scalar
+    ensures { scalar_of result
+        ≡ with_sides (scalar_of scalar.now) (scalar_of left) (scalar_of right) }
 {
-    let left = Boxed::new(alloc, left)?;
-    let right = Boxed::new(alloc, right)?;
-    Ok(match scalar {
+    match scalar {
         Scalar::Add(..) => Scalar::Add(left, right),
         Scalar::Sub(..) => Scalar::Sub(left, right),
         Scalar::Mul(..) => Scalar::Mul(left, right),
         Scalar::Compare(comparison, ..) => Scalar::Compare(*comparison, left, right),
         Scalar::And(..) => Scalar::And(left, right),
         _ => Scalar::Or(left, right),
-    })
+    }
 }

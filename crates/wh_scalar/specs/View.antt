@@ -1,8 +1,9 @@
 -- What scalars of the code stand for.
 --     scalar_of     the scalar of a tree
+--     of_sides      the operator of a scalar of two sides, on their values
 --     Gives         what a fallible evaluation gives: the value that is meant, or the fault where there is none
 --     Tells         what a fallible test gives: whether the value that is meant is TRUE
-use Rattle.std.specs.Prelude.{◌≡◌, Bool, Option, Some, None, option_map, Result, Ok, Err}
+use Rattle.std.specs.Prelude.{◌≡◌, Bool, ◌+ℤ◌, ◌-ℤ◌, ◌*ℤ◌, Option, Some, None, option_map, Result, Ok, Err}
 use Rattle.wh_value.specs.Value as values
 use Rattle.wh_value.specs.View.{value_of}
 use Rattle.wh_value.specs.declared.value.Value.{Value}
@@ -27,6 +28,14 @@ layer_of (Scalar-F.IsNull x) = meaning.IsNull x
 
 abbrev pub scalar_of : Scalar → meaning.Scalar
 scalar_of e = fold-Scalar meaning.Scalar layer_of e
+
+abbrev pub of_sides : meaning.Scalar → values.Value → values.Value → Option values.Value
+of_sides (meaning.Add a b) v w = meaning.computed (λ x y. x +ℤ y) v w
+of_sides (meaning.Sub a b) v w = meaning.computed (λ x y. x -ℤ y) v w
+of_sides (meaning.Mul a b) v w = meaning.computed (λ x y. x *ℤ y) v w
+of_sides (meaning.Compare c a b) v w = Some (meaning.compared c v w)
+of_sides (meaning.And a b) v w = Some (meaning.conjoined v w)
+of_sides _ v w = Some (meaning.disjoined v w)
 
 abbrev pub Gives : Result Value EvalFault → Option values.Value → Type 0
 Gives (Ok v) meant = meant ≡ Some (value_of v)

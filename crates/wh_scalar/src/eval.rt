@@ -11,6 +11,7 @@ impl Scalar {
 
     /// The value on a row. Each part is evaluated, so a number of more than 18 digits anywhere in it
     /// leaves it without a value. A column that the row lacks is NULL.
+    #[cycle(eval)]
     #[tactic(auto, unfolding(wh_meaning::specs::Scalar::val))]
     pub fn eval(&self, alloc: Global, row: &Row) -> Result<Value, EvalFault>
         ensures { Gives result (val (scalar_of self.now) row.now) }
@@ -19,47 +20,17 @@ impl Scalar {
             Scalar::Const(value) => Ok(value.copy(alloc)?),
             Scalar::Column(place) => cell(alloc, row, *place),
             Scalar::Neg(x) => negated(&x.get().eval(alloc, row)?),
-            Scalar::Add(x, y) => {
+            Scalar::Add(x, y)
+            | Scalar::Sub(x, y)
+            | Scalar::Mul(x, y)
+            | Scalar::Compare(_, x, y)
+            | Scalar::And(x, y)
+            | Scalar::Or(x, y) => {
                 if let Some((a, b)) = both_at_hand(x.get(), y.get(), row) {
-                    return added(a, b);
+                    return of_sides(self, a, b);
                 }
                 let a = x.get().eval(alloc, row)?;
-                let b = y.get().eval(alloc, row)?;
-                added(&a, &b)
-            }
-            Scalar::Sub(x, y) => {
-                if let Some((a, b)) = both_at_hand(x.get(), y.get(), row) {
-                    return subtracted(a, b);
-                }
-                let a = x.get().eval(alloc, row)?;
-                let b = y.get().eval(alloc, row)?;
-                subtracted(&a, &b)
-            }
-            Scalar::Mul(x, y) => {
-                if let Some((a, b)) = both_at_hand(x.get(), y.get(), row) {
-                    return multiplied(a, b);
-                }
-                let a = x.get().eval(alloc, row)?;
-                let b = y.get().eval(alloc, row)?;
-                multiplied(&a, &b)
-            }
-            Scalar::Compare(comparison, x, y) => {
-                if let Some((a, b)) = both_at_hand(x.get(), y.get(), row) {
-                    return Ok(compared(*comparison, a, b));
-                }
-                let a = x.get().eval(alloc, row)?;
-                let b = y.get().eval(alloc, row)?;
-                Ok(compared(*comparison, &a, &b))
-            }
-            Scalar::And(x, y) => {
-                let a = x.get().eval(alloc, row)?;
-                let b = y.get().eval(alloc, row)?;
-                Ok(conjoined(&a, &b))
-            }
-            Scalar::Or(x, y) => {
-                let a = x.get().eval(alloc, row)?;
-                let b = y.get().eval(alloc, row)?;
-                Ok(disjoined(&a, &b))
+                with_second(alloc, y.get(), self, &a, row)
             }
             Scalar::Not(x) => Ok(inverted(&x.get().eval(alloc, row)?)),
             Scalar::IsNull(x) => Ok(Value::Bool(is_null(&x.get().eval(alloc, row)?))),
@@ -68,8 +39,41 @@ impl Scalar {
 }
 
 ghost use Rattle.std.specs.Prelude.{Some, unwrap_or, slice_get};
+ghost use Rattle.wh_meaning.specs.Scalar.{of_two, val};
 ghost use Rattle.wh_value.specs.Value.{Null};
-ghost use Rattle.wh_scalar.specs.View.{Gives};
+ghost use Rattle.wh_value.specs.View.{value_of};
+ghost use Rattle.wh_scalar.specs.View.{scalar_of, Gives, of_sides};
+
+// A scalar of two sides, behind the value of the first.
+#[cycle(eval)]
+fn with_second(
+    alloc: Global,
+    y: &Scalar,
+    scalar: &Scalar,
+    a: &Value,
+    row: &Row,
+) -> Result<Value, EvalFault>
+    ensures { Gives result (of_two (of_sides (scalar_of scalar.now)) (Some (value_of a.now))
+        (val (scalar_of y.now) row.now)) }
+{
+    let b = y.eval(alloc, row)?;
+    of_sides(scalar, a, &b)
+}
+
+// The operator of a scalar of two sides, on their values.
+fn of_sides(scalar: &Scalar, a: &Value, b: &Value) -> Result<Value, EvalFault>
+    ensures { Gives result
+        (of_sides (scalar_of scalar.now) (value_of a.now) (value_of b.now)) }
+{
+    match scalar {
+        Scalar::Add(..) => added(a, b),
+        Scalar::Sub(..) => subtracted(a, b),
+        Scalar::Mul(..) => multiplied(a, b),
+        Scalar::Compare(comparison, ..) => Ok(compared(*comparison, a, b)),
+        Scalar::And(..) => Ok(conjoined(a, b)),
+        _ => Ok(disjoined(a, b)),
+    }
+}
 
 // The value of a column.
 fn cell(alloc: Global, row: &Row, place: u32) -> Result<Value, EvalFault>

@@ -1,30 +1,36 @@
 //! The columns of a table.
 
-ghost use Rattle.std.specs.Prelude.{◌≡◌};
+ghost use Rattle.std.specs.Prelude.{◌≡◌, bytes_eq};
 ghost use Rattle.wh_cursor.specs.Gives.{Reads};
 ghost use Rattle.wh_stmt_parse.specs.Parts as spec;
 
 use sqlite_items::Items;
 use std::alloc::Global;
 use wh_cursor::{ParseFault, Words, listed, name};
-use wh_value::{Column, ColumnType};
+use wh_value::{Column, ColumnType, Text};
+
+fn is_word(word: &Text, letters: &[u8]) -> bool
+    ensures { result ≡ bytes_eq word.now letters.now }
+{
+    word.as_bytes() == letters
+}
 
 /// A type by any of its names.
 #[tactic(auto, unfolding(crate::specs::Parts::type_of))]
-fn type_of(word: &[u8]) -> Option<ColumnType>
+fn type_of(word: &Text) -> Option<ColumnType>
     ensures { result ≡ spec.type_of word.now }
 {
-    if word == b"NUMBER".as_slice()
-        || word == b"INT".as_slice()
-        || word == b"INTEGER".as_slice()
-        || word == b"BIGINT".as_slice()
+    if is_word(word, b"NUMBER")
+        || is_word(word, b"INT")
+        || is_word(word, b"INTEGER")
+        || is_word(word, b"BIGINT")
     {
         return Some(ColumnType::Number);
     }
-    if word == b"VARCHAR".as_slice() || word == b"STRING".as_slice() || word == b"TEXT".as_slice() {
+    if is_word(word, b"VARCHAR") || is_word(word, b"STRING") || is_word(word, b"TEXT") {
         return Some(ColumnType::Varchar);
     }
-    if word == b"BOOLEAN".as_slice() {
+    if is_word(word, b"BOOLEAN") {
         return Some(ColumnType::Boolean);
     }
     None
@@ -35,7 +41,7 @@ fn column_type(alloc: Global, words: &mut Words<'_>) -> Result<ColumnType, Parse
     ensures { Reads (spec.read_type words.old) result words.new }
 {
     let word = words.word(alloc)?;
-    match type_of(word.as_bytes()) {
+    match type_of(&word) {
         Some(found) => Ok(found),
         None => Err(ParseFault::SyntaxError),
     }

@@ -20,7 +20,7 @@ use wh_query_parse::query;
 use wh_value::Text;
 
 /// What stands in CREATE TASK before WHEN or AS.
-#[derive(Debug, Drop)]
+#[derive(Drop)]
 pub struct TaskHead {
     pub name: Text,
     pub minutes: Option<u64>,
@@ -28,7 +28,7 @@ pub struct TaskHead {
 }
 
 /// A text and its tokens.
-#[derive(Clone, Copy, Debug)]
+#[derive(Clone, Copy)]
 pub struct Source<'a> {
     pub text: &'a [u8],
     pub tokens: &'a [Token],

@@ -6,7 +6,7 @@ ghost use Rattle.wh_stmt_parse.specs.Read.{verb_of, object_of};
 use wh_cursor::Words;
 
 /// The first word of a statement. `Change` is any other than these.
-#[derive(Clone, Copy, Debug, PartialEq, Eq)]
+#[derive(Clone, Copy)]
 pub enum Verb {
     Select,
     Create,
@@ -21,7 +21,7 @@ pub enum Verb {
 }
 
 /// What stands behind CREATE. `Replacement` is OR.
-#[derive(Clone, Copy, Debug, PartialEq, Eq)]
+#[derive(Clone, Copy)]
 pub enum Object {
     Table,
     Replacement,

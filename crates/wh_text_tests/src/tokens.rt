@@ -1,5 +1,5 @@
 use std::alloc::{AllocError, Global};
-use std::test::Fail;
+use std::process::Abort;
 use wh_lex::{Kind, LexFault, Sign, Token, tokens};
 use wh_value::Bytes;
 
@@ -23,42 +23,42 @@ fn sign_text(sign: Sign) -> &'static [u8] {
 }
 
 /// Adds a token with a blank behind it: words bare, `N[name]`, `T[text]`, numbers and signs.
-fn show(token: &Token, out: &mut Bytes) -> Result<(), AllocError> {
+fn show(rt: &impl Abort, token: &Token, out: &mut Bytes) {
     match token.kind() {
-        Kind::Word(word) => out.extend(word.as_bytes())?,
+        Kind::Word(word) => out.extend(word.as_bytes()).expect(rt, "memory"),
         Kind::Quoted(name) => {
-            out.extend(b"N[")?;
-            out.extend(name.as_bytes())?;
-            out.extend(b"]")?;
+            out.extend(b"N[").expect(rt, "memory");
+            out.extend(name.as_bytes()).expect(rt, "memory");
+            out.extend(b"]").expect(rt, "memory");
         }
         Kind::Text(text) => {
-            out.extend(b"T[")?;
-            out.extend(text.as_bytes())?;
-            out.extend(b"]")?;
+            out.extend(b"T[").expect(rt, "memory");
+            out.extend(text.as_bytes()).expect(rt, "memory");
+            out.extend(b"]").expect(rt, "memory");
         }
-        Kind::Number(number) => out.extend_decimal(*number)?,
-        Kind::Sign(sign) => out.extend(sign_text(*sign))?,
+        Kind::Number(number) => out.extend_decimal(*number).expect(rt, "memory"),
+        Kind::Sign(sign) => out.extend(sign_text(*sign)).expect(rt, "memory"),
     }
-    out.extend(b" ")
+    out.extend(b" ").expect(rt, "memory");
 }
 
 /// The tokens of a text, or `refused`.
-fn shown(alloc: Global, text: &[u8]) -> Result<Bytes, Fail> {
+fn shown(rt: &impl Abort, alloc: Global, text: &[u8]) -> Bytes {
     let mut out = Bytes::new(alloc);
     match tokens(alloc, text) {
         Ok(found) => {
             for token in &found {
-                show(token, &mut out)?;
+                show(rt, token, &mut out);
             }
         }
-        Err(LexFault::SyntaxError) => out.extend(b"refused")?,
-        Err(LexFault::OutOfMemory) => out.extend(b"out of memory")?,
+        Err(LexFault::SyntaxError) => out.extend(b"refused").expect(rt, "memory"),
+        Err(LexFault::OutOfMemory) => out.extend(b"out of memory").expect(rt, "memory"),
     }
-    Ok(out)
+    out
 }
 
 #[test]
-fn signs_are_as_long_as_they_can_be(rt: HostRuntime) -> Result<(), Fail> {
+fn signs_are_as_long_as_they_can_be(rt: HostRuntime) {
     let alloc = rt.alloc();
     let cases: [(&[u8], &[u8]); 18] = [
         (b"(),.*+-", b"( ) , . * + - "),
@@ -81,13 +81,12 @@ fn signs_are_as_long_as_they_can_be(rt: HostRuntime) -> Result<(), Fail> {
         (b"!!=", b"refused"),
     ];
     for (text, want) in cases {
-        assert_eq!(rt; shown(alloc, text)?.as_slice(), want);
+        assert_eq!(rt; shown(&rt, alloc, text).as_slice(), want);
     }
-    Ok(())
 }
 
 #[test]
-fn gaps_part_tokens(rt: HostRuntime) -> Result<(), Fail> {
+fn gaps_part_tokens(rt: HostRuntime) {
     let alloc = rt.alloc();
     let cases: [(&str, &[u8], &[u8]); 19] = [
         ("nothing", b"", b""),
@@ -111,13 +110,12 @@ fn gaps_part_tokens(rt: HostRuntime) -> Result<(), Fail> {
         ("a slash", b"a/b", b"refused"),
     ];
     for (name, text, want) in cases {
-        assert_eq!(rt; shown(alloc, text)?.as_slice(), want, "{name}");
+        assert_eq!(rt; shown(&rt, alloc, text).as_slice(), want, "{name}");
     }
-    Ok(())
 }
 
 #[test]
-fn words_and_numbers_are_read(rt: HostRuntime) -> Result<(), Fail> {
+fn words_and_numbers_are_read(rt: HostRuntime) {
     let alloc = rt.alloc();
     let cases: [(&str, &[u8], &[u8]); 17] = [
         ("in upper case", b"seLect _a9z", b"SELECT _A9Z "),
@@ -147,13 +145,12 @@ fn words_and_numbers_are_read(rt: HostRuntime) -> Result<(), Fail> {
         ("in a word", b"a\xc3\xa4", b"refused"),
     ];
     for (name, text, want) in cases {
-        assert_eq!(rt; shown(alloc, text)?.as_slice(), want, "{name}");
+        assert_eq!(rt; shown(&rt, alloc, text).as_slice(), want, "{name}");
     }
-    Ok(())
 }
 
 #[test]
-fn quotes_are_doubled_inside(rt: HostRuntime) -> Result<(), Fail> {
+fn quotes_are_doubled_inside(rt: HostRuntime) {
     let alloc = rt.alloc();
     let cases: [(&str, &[u8], &[u8]); 20] = [
         ("a text", b"'a b'", b"T[a b] "),
@@ -178,55 +175,57 @@ fn quotes_are_doubled_inside(rt: HostRuntime) -> Result<(), Fail> {
         ("no UTF-8 in a name", b"\"\xff\"", b"refused"),
     ];
     for (name, text, want) in cases {
-        assert_eq!(rt; shown(alloc, text)?.as_slice(), want, "{name}");
+        assert_eq!(rt; shown(&rt, alloc, text).as_slice(), want, "{name}");
     }
-    Ok(())
 }
 
 #[test]
-fn other_bytes_begin_nothing(rt: HostRuntime) -> Result<(), Fail> {
+fn other_bytes_begin_nothing(rt: HostRuntime) {
     let alloc = rt.alloc();
     for byte in [
         b'#', b':', b'!', b';', b'$', b'/', b'\\', b'[', b'`', 0, 0x7f, 0xff,
     ] {
-        let mut text = Bytes::from_slice(alloc, b"a ")?;
-        text.push(byte)?;
-        text.extend(b" b")?;
+        let mut text = Bytes::from_slice(alloc, b"a ").expect(&rt, "memory");
+        text.push(byte).expect(&rt, "memory");
+        text.extend(b" b").expect(&rt, "memory");
         assert_eq!(rt;
-            shown(alloc, text.as_slice())?.as_slice(),
+            shown(&rt, alloc, text.as_slice()).as_slice(),
             b"refused".as_slice(),
             "{byte}"
         );
     }
-    Ok(())
 }
 
 #[test]
-fn tokens_have_places(rt: HostRuntime) -> Result<(), Fail> {
+fn tokens_have_places(rt: HostRuntime) {
     let alloc = rt.alloc();
-    let found = tokens(alloc, b" ab /**/<='''' 12--")?;
+    let found = tokens(alloc, b" ab /**/<='''' 12--").expect(&rt, "memory");
     let want = [(18, 16), (11, 9), (9, 5), (4, 2)];
     assert_eq!(rt; found.len(), want.len());
     for (token, place) in found.iter().zip(&want) {
         assert_eq!(rt; (token.from(), token.behind()), *place);
     }
-    Ok(())
 }
 
 #[test]
-fn long_texts_are_read(rt: HostRuntime) -> Result<(), Fail> {
+fn long_texts_are_read(rt: HostRuntime) {
     let alloc = rt.alloc();
     let mut signs = Bytes::new(alloc);
     let mut word = Bytes::new(alloc);
     for _ in 0..65536 {
-        signs.push(b'<')?;
-        word.push(b'a')?;
+        signs.push(b'<').expect(&rt, "memory");
+        word.push(b'a').expect(&rt, "memory");
     }
-    assert_eq!(rt; tokens(alloc, word.as_slice())?.len(), 1);
-    word.push(b'a')?;
+    assert_eq!(rt;
+        tokens(alloc, word.as_slice()).expect(&rt, "memory").len(),
+        1
+    );
+    word.push(b'a').expect(&rt, "memory");
     let longer = tokens(alloc, word.as_slice());
     assert!(rt; matches!(longer, Err(LexFault::SyntaxError)));
-    signs.push(b'<')?;
-    assert_eq!(rt; tokens(alloc, signs.as_slice())?.len(), 65537);
-    Ok(())
+    signs.push(b'<').expect(&rt, "memory");
+    assert_eq!(rt;
+        tokens(alloc, signs.as_slice()).expect(&rt, "memory").len(),
+        65537
+    );
 }

@@ -1,22 +1,22 @@
 use std::alloc::Global;
 use std::cmp::Ordering;
-use std::test::Fail;
+use std::process::Abort;
 use wh_value::{Bytes, Column, ColumnType, Row, Text, Value, print_literal, sort_rows};
 
-fn text(alloc: Global, bytes: &[u8]) -> Result<Value, Fail> {
-    let made = Text::from_bytes(alloc, bytes).ok_or("no text")?;
-    Ok(Value::Text(made?))
+fn text(rt: &impl Abort, alloc: Global, bytes: &[u8]) -> Value {
+    let made = Text::from_bytes(alloc, bytes).expect(rt, "no text");
+    Value::Text(made.expect(rt, "memory"))
 }
 
-fn row(alloc: Global, first: Value, second: Value) -> Result<Row, Fail> {
+fn row(rt: &impl Abort, alloc: Global, first: Value, second: Value) -> Row {
     let mut row = Row::new(alloc);
-    row.push(first)?;
-    row.push(second)?;
-    Ok(row)
+    row.push(first).expect(rt, "memory");
+    row.push(second).expect(rt, "memory");
+    row
 }
 
 #[test]
-fn values_stand_by_kind_and_then_by_size(rt: HostRuntime) -> Result<(), Fail> {
+fn values_stand_by_kind_and_then_by_size(rt: HostRuntime) {
     let alloc = rt.alloc();
     // Each stands before the next.
     let rising = [
@@ -28,12 +28,12 @@ fn values_stand_by_kind_and_then_by_size(rt: HostRuntime) -> Result<(), Fail> {
         ("ten", Value::Number(10)),
         ("false", Value::Bool(false)),
         ("true", Value::Bool(true)),
-        ("no byte", text(alloc, b"")?),
-        ("A", text(alloc, b"A")?),
-        ("AA", text(alloc, b"AA")?),
-        ("AB", text(alloc, b"AB")?),
-        ("B", text(alloc, b"B")?),
-        ("a", text(alloc, b"a")?),
+        ("no byte", text(&rt, alloc, b"")),
+        ("A", text(&rt, alloc, b"A")),
+        ("AA", text(&rt, alloc, b"AA")),
+        ("AB", text(&rt, alloc, b"AB")),
+        ("B", text(&rt, alloc, b"B")),
+        ("a", text(&rt, alloc, b"a")),
         ("null", Value::Null),
     ];
     for (i, (name, value)) in rising.iter().enumerate() {
@@ -41,34 +41,40 @@ fn values_stand_by_kind_and_then_by_size(rt: HostRuntime) -> Result<(), Fail> {
             assert_eq!(rt; value.cmp(other), i.cmp(&j), "{name} and {other_name}");
         }
     }
-    Ok(())
 }
 
 #[test]
-fn rows_are_sorted_from_left_to_right(rt: HostRuntime) -> Result<(), Fail> {
+fn rows_are_sorted_from_left_to_right(rt: HostRuntime) {
     let alloc = rt.alloc();
     let mut rows = Vec::new(alloc);
-    rows.push(row(alloc, Value::Null, Value::Number(1))?)?;
-    rows.push(row(alloc, Value::Number(2), Value::Number(1))?)?;
-    rows.push(row(alloc, Value::Number(1), Value::Null)?)?;
-    rows.push(row(alloc, Value::Number(1), Value::Number(3))?)?;
-    sort_rows(&mut rows)?;
+    rows.push(row(&rt, alloc, Value::Null, Value::Number(1)))
+        .expect(&rt, "memory");
+    rows.push(row(&rt, alloc, Value::Number(2), Value::Number(1)))
+        .expect(&rt, "memory");
+    rows.push(row(&rt, alloc, Value::Number(1), Value::Null))
+        .expect(&rt, "memory");
+    rows.push(row(&rt, alloc, Value::Number(1), Value::Number(3)))
+        .expect(&rt, "memory");
+    sort_rows(&mut rows).expect(&rt, "memory");
     let want = [
-        row(alloc, Value::Number(1), Value::Number(3))?,
-        row(alloc, Value::Number(1), Value::Null)?,
-        row(alloc, Value::Number(2), Value::Number(1))?,
-        row(alloc, Value::Null, Value::Number(1))?,
+        row(&rt, alloc, Value::Number(1), Value::Number(3)),
+        row(&rt, alloc, Value::Number(1), Value::Null),
+        row(&rt, alloc, Value::Number(2), Value::Number(1)),
+        row(&rt, alloc, Value::Null, Value::Number(1)),
     ];
     assert_eq!(rt; rows.len(), want.len());
     for (i, (found, wanted)) in rows.iter().zip(&want).enumerate() {
         assert_eq!(rt; found.cmp(wanted), Ordering::Equal, "row {i}");
-        assert_eq!(rt; found.copy(alloc)?.values().len(), 2, "the copy of row {i}");
+        assert_eq!(rt;
+            found.copy(alloc).expect(&rt, "memory").values().len(),
+            2,
+            "the copy of row {i}"
+        );
     }
-    Ok(())
 }
 
 #[test]
-fn literals_are_printed(rt: HostRuntime) -> Result<(), Fail> {
+fn literals_are_printed(rt: HostRuntime) {
     let alloc = rt.alloc();
     let cases = [
         ("zero", Value::Number(0), "0"),
@@ -82,30 +88,29 @@ fn literals_are_printed(rt: HostRuntime) -> Result<(), Fail> {
         ("true", Value::Bool(true), "TRUE"),
         ("false", Value::Bool(false), "FALSE"),
         ("null", Value::Null, "NULL"),
-        ("an empty text", text(alloc, b"")?, "''"),
-        ("a text with a quote", text(alloc, b"x'y")?, "'x''y'"),
-        ("a quote", text(alloc, b"'")?, "''''"),
+        ("an empty text", text(&rt, alloc, b""), "''"),
+        ("a text with a quote", text(&rt, alloc, b"x'y"), "'x''y'"),
+        ("a quote", text(&rt, alloc, b"'"), "''''"),
     ];
     for (name, value, want) in cases {
-        let mut out = Bytes::from_slice(alloc, b"> ")?;
-        print_literal(&value.copy(alloc)?, &mut out)?;
+        let mut out = Bytes::from_slice(alloc, b"> ").expect(&rt, "memory");
+        print_literal(&value.copy(alloc).expect(&rt, "memory"), &mut out).expect(&rt, "memory");
         assert_eq!(rt; &out.as_slice()[2..], want.as_bytes(), "{name}");
     }
-    Ok(())
 }
 
 #[test]
-fn a_text_is_utf8_of_limited_length(rt: HostRuntime) -> Result<(), Fail> {
+fn a_text_is_utf8_of_limited_length(rt: HostRuntime) {
     let alloc = rt.alloc();
     let mut long = Bytes::new(alloc);
     for _ in 0..65536 {
-        long.push(b'x')?;
+        long.push(b'x').expect(&rt, "memory");
     }
     assert!(rt;
         Text::from_bytes(alloc, long.as_slice()).is_some(),
         "65,536 bytes"
     );
-    long.extend(b"x")?;
+    long.extend(b"x").expect(&rt, "memory");
     assert!(rt;
         Text::from_bytes(alloc, long.as_slice()).is_none(),
         "65,537 bytes"
@@ -121,18 +126,16 @@ fn a_text_is_utf8_of_limited_length(rt: HostRuntime) -> Result<(), Fail> {
     );
     long.clear();
     assert_eq!(rt; long.len(), 0);
-    Ok(())
 }
 
 #[test]
-fn a_column_is_copied(rt: HostRuntime) -> Result<(), Fail> {
+fn a_column_is_copied(rt: HostRuntime) {
     let alloc = rt.alloc();
     let column = Column {
-        name: Text::of(alloc, "N")?,
+        name: Text::of(alloc, "N").expect(&rt, "memory"),
         column_type: ColumnType::Varchar,
     };
-    let copy = column.copy(alloc)?;
+    let copy = column.copy(alloc).expect(&rt, "memory");
     assert_eq!(rt; copy.name.as_bytes(), b"N".as_slice());
     assert_eq!(rt; copy.column_type, ColumnType::Varchar);
-    Ok(())
 }

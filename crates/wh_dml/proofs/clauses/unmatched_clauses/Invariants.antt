@@ -1,5 +1,5 @@
 use Rattle.std.proofs.Common.{◌≡◌, ◌++◌, drop}
-use Rattle.wh_dml_bind.specs.View.{clauses_of}
+use Rattle.wh_bound_change.specs.View.{clauses_of}
 use Rattle.wh_effect.specs.Effect as meaning
 use Rattle.wh_dml.specs.Steps.{clauses_at}
 use Rattle.wh_dml.proofs.clauses.unmatched_clauses.Given as goal

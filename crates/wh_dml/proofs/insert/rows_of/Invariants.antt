@@ -1,6 +1,6 @@
 use Rattle.std.proofs.Common.{◌≡◌, ◌++◌, drop}
 use Rattle.std.specs.Option.{option_map}
-use Rattle.wh_dml_bind.specs.View as bound
+use Rattle.wh_bound_change.specs.View as bound
 use Rattle.wh_effect.specs.Effect.{rows_of}
 use Rattle.wh_dml.proofs.insert.rows_of.Given as goal
 

@@ -1,9 +1,7 @@
-use Rattle.std.proofs.Common.{◌≡◌, ap, map, arith}
+use Rattle.std.proofs.Common.{ap, map, arith}
 use Rattle.std.proofs.lemmas.Grind.{common_steps}
 use Rattle.wh_value.specs.View.{column_of}
-use Rattle.wh_naming.specs.Changes.{NewRow, typed_all, new_row}
-use Rattle.wh_algebra.specs.View.{scalars_of}
-use Rattle.wh_expr_bind.specs.View.{findings_of}
+use Rattle.wh_naming.specs.Changes.{NewRow}
 use Rattle.wh_dml_bind.specs.View.{places_of}
 use Rattle.wh_dml_bind.proofs.ValueLemmas.{rows_turn, row_findings_turn}
 use Rattle.wh_dml_bind.proofs.values.value_rows.Goals as goal

@@ -1,7 +1,7 @@
 use Rattle.std.proofs.Common.{◌≡◌, None, Err, ap, refl, sym, subst, ◌∙◌}
 use Rattle.wh_value.specs.declared.limit.Limit.TheVariants as limits
 use Rattle.wh_effect.specs.Effect.{effect, Undefined, Ambiguous}
-use Rattle.wh_dml_bind.specs.View.{change_of}
+use Rattle.wh_bound_change.specs.View.{change_of}
 use Rattle.wh_dml.specs.View.{effect_of, Gives}
 use Rattle.wh_dml.specs.declared.fault.EffectFault.{EffectFault}
 use Rattle.wh_reply.specs.Reply.{OverLimit, TypeMismatch, NumberOutOfRange, AmbiguousMerge}

@@ -4,7 +4,7 @@ use Rattle.wh_value.specs.Limit.{bound}
 use Rattle.wh_value.specs.declared.limit.Limit.TheVariants as limits
 use Rattle.wh_reply.specs.Reply.{OverLimit}
 use Rattle.wh_reply.specs.View.{refusal_view}
-use Rattle.wh_dml_bind.specs.View as changes
+use Rattle.wh_bound_change.specs.View as changes
 use Rattle.wh_dml.specs.View.{effect_of}
 use Rattle.wh_machine.specs.Edits.{edits_of}
 use Rattle.wh_machine.specs.Outcome.{EditsRows, refused_past}

@@ -1,6 +1,6 @@
 use Rattle.std.proofs.Common.{ap, sym, ◌∙◌}
 use Rattle.wh_effect.specs.Effect.{effect}
-use Rattle.wh_dml_bind.specs.View.{change_of}
+use Rattle.wh_bound_change.specs.View.{change_of}
 use Rattle.wh_dml.specs.View.{targets_of}
 use Rattle.wh_engine.proofs.ChangeLemmas.{unseen}
 use Rattle.wh_engine.proofs.changes.seen.Goals as goal

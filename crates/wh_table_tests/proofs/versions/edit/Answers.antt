@@ -4,7 +4,7 @@ use Rattle.wh_machine.specs.Commit.{NumberedFrom}
 use Rattle.wh_version.specs.Edits.{edits_in}
 use Rattle.wh_version.specs.History.{versions_of, nexts_of, standing_in, next_in}
 use Rattle.wh_version.proofs.Made.{made_numbered}
-use Rattle.wh_version.proofs.tests.edit.Goals as goal
+use Rattle.wh_table_tests.proofs.versions.edit.Goals as goal
 
 pub push-requires : goal.push-requires
 push-requires c =

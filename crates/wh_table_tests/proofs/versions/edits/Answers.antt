@@ -1,6 +1,6 @@
 use Rattle.std.proofs.Common.{length, ap, ◌∙◌}
 use Rattle.wh_machine.specs.Edits.{edits_of}
-use Rattle.wh_version.proofs.tests.edits.Goals as goal
+use Rattle.wh_table_tests.proofs.versions.edits.Goals as goal
 
 pub returns : goal.returns
 unfolding edits_of

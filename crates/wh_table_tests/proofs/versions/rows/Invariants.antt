@@ -1,5 +1,5 @@
 use Rattle.std.proofs.Common.{◌≡◌, length}
-use Rattle.wh_version.proofs.tests.rows.Given as goal
+use Rattle.wh_table_tests.proofs.versions.rows.Given as goal
 
 abbrev pub invariant-loop : goal.invariant-loop
 invariant-loop l = length l.rows.items ≡ l.counter

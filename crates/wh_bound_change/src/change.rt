@@ -1,5 +1,4 @@
 use wh_algebra::Query;
-use wh_expr_bind::Findings;
 use wh_scalar::Scalar;
 
 /// What becomes of the target's rows.
@@ -38,11 +37,4 @@ pub struct BoundChange {
     pub sources: Vec<u32>,
     /// Whether a query in it has more columns than the limit.
     pub is_wide: bool,
-}
-
-/// A change, and what is found wrong in its statement.
-#[derive(Drop)]
-pub(crate) struct Checked {
-    pub bound: BoundChange,
-    pub findings: Findings,
 }

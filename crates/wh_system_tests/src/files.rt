@@ -1,0 +1,55 @@
+use std::alloc::{AllocError, Global};
+use std::fs::OpenOptions;
+use std::os::unix::fs::FileExt;
+use std::test::Fail;
+use std::{fs, process};
+use wh_system::{FileDisk, OpenError};
+use wh_world::{Disk, Failed};
+
+fn path_of(alloc: Global, process: process::Process, name: &str) -> Result<String, AllocError> {
+    format!(in alloc; "/tmp/bokzarn-{}-{name}.db", process::id(process))
+}
+
+#[test]
+fn a_file_keeps_what_is_written(rt: HostRuntime) -> Result<(), Fail> {
+    let path = path_of(rt.alloc(), rt.process(), "keeps")?;
+    let mut disk = FileDisk::open(&rt, path.as_str())?;
+    assert_eq!(rt; disk.len(), Ok(0));
+    assert_eq!(rt; disk.write_at(0, b"abcd"), Ok(()));
+    assert_eq!(rt; disk.write_at(3, b"xy"), Ok(()));
+    assert_eq!(rt; disk.sync(), Ok(()));
+    drop(disk);
+    let mut again = FileDisk::open(&rt, path.as_str())?;
+    assert_eq!(rt; again.len(), Ok(5));
+    let mut buf = [0u8; 3];
+    assert_eq!(rt; again.read(2, &mut buf), Ok(()));
+    assert_eq!(rt; buf, *b"cxy");
+    assert_eq!(rt; again.fault_count(), 0);
+    fs::remove_file(&rt, path.as_str())?;
+    Ok(())
+}
+
+#[test]
+fn a_file_is_opened_once_at_a_time(rt: HostRuntime) -> Result<(), Fail> {
+    let path = path_of(rt.alloc(), rt.process(), "once")?;
+    let disk = FileDisk::open(&rt, path.as_str())?;
+    let second = FileDisk::open(&rt, path.as_str());
+    assert!(rt; matches!(second, Err(OpenError::Locked)));
+    drop(disk);
+    assert!(rt; FileDisk::open(&rt, path.as_str()).is_ok());
+    fs::remove_file(&rt, path.as_str())?;
+    Ok(())
+}
+
+#[test]
+fn a_write_fails_where_another_handle_grew_the_file(rt: HostRuntime) -> Result<(), Fail> {
+    let path = path_of(rt.alloc(), rt.process(), "grown")?;
+    let mut disk = FileDisk::open(&rt, path.as_str())?;
+    assert_eq!(rt; disk.write_at(0, b"abcd"), Ok(()));
+    let other = OpenOptions::new().write(true).open(&rt, path.as_str())?;
+    other.write_all_at(b"xy", 4)?;
+    assert_eq!(rt; disk.write_at(4, b"z"), Err(Failed));
+    assert_eq!(rt; disk.fault_count(), 1);
+    fs::remove_file(&rt, path.as_str())?;
+    Ok(())
+}
