@@ -1,0 +1,96 @@
+-- Transactions worked out by hand, over a table whose next row number is 3.
+--     first, second      the edits of a statement that adds two rows, and of one that changes row 1 and the second added row, deletes the first added row and adds another
+--     of_two             a transaction that touched table 2 and holds table 5 untouched
+use Rattle.std.proofs.Common.{◌≡◌, ℕ, true, false, [], ◌∷◌, Some, None, cond, pos, sym, ◌∙◌}
+use Rattle.std.proofs.lemmas.List.{nil_from_length}
+use Rattle.std.specs.FinMap.{FinMap, empty, get, insert, remove, entries, get-empty, get-insert, get-remove, entries-insert, len-entries, len-empty}
+use Rattle.std.specs.FinMap.Entries.{put}
+use Rattle.std.specs.Ordering.{nat_cmp, eq_by_cmp}
+use Rattle.std.specs.Cmp.{nat_cmp_total}
+use Rattle.wh_value.specs.Value.{Number, Row}
+use Rattle.wh_machine.specs.State.{Rows}
+use Rattle.wh_machine.specs.Edits.{Edits, rows_after}
+use Rattle.wh_machine.specs.Outcome.{EditsRows}
+use Rattle.wh_sessions.specs.Transaction.{Staged, Transaction, no_edits, later_edits, acts_of}
+use Rattle.wh_sessions.specs.Sessions.{Sessions, no_sessions, number_of, holder, locked_by, with_begun, with_ended, with_transaction}
+
+abbrev row : ℕ → Row
+row k = Number (pos k) ∷ []
+
+put_in : {X : Type 0} (m : FinMap nat_cmp X) (k : ℕ) (x : X) → entries (insert m k x) ≡ put nat_cmp k x (entries m)
+put_in m k x = entries-insert nat_cmp_total m k x
+
+none_in : {X : Type 0} → entries (empty {K = ℕ} {X = X} {R = nat_cmp}) ≡ []
+none_in {X} = nil_from_length _ (sym (len-entries empty) ∙ len-empty nat_cmp X)
+
+got : {X : Type 0} (m : FinMap nat_cmp X) (k : ℕ) (x : X) (q : ℕ) → get (insert m k x) q ≡ cond (eq_by_cmp nat_cmp q k) (Some x) (get m q)
+got m k x q = get-insert nat_cmp_total m k x q
+
+got_none : {X : Type 0} (q : ℕ) → get (empty {K = ℕ} {X = X} {R = nat_cmp}) q ≡ None
+got_none q = get-empty nat_cmp q
+
+left : {X : Type 0} (m : FinMap nat_cmp X) (k q : ℕ) → get (remove m k) q ≡ cond (eq_by_cmp nat_cmp q k) None (get m q)
+left m k q = get-remove nat_cmp_total m k q
+
+-- ---- edits on top of earlier ones
+
+abbrev first : Edits
+first = record { rows = empty; added = row 30 ∷ row 40 ∷ [] }
+
+-- the added rows are seen under the numbers 3 and 4
+abbrev second : Edits
+second = record { rows = insert (insert (insert empty 3 None) 4 (Some (row 41))) 1 (Some (row 11)); added = row 50 ∷ [] }
+
+-- a row that was added and deleted takes no number
+both : later_edits 3 first second ≡ record { rows = insert empty 1 (Some (row 11)); added = row 41 ∷ row 50 ∷ [] }
+unfolding later_edits
+both = simp (put_in, none_in, got)
+
+abbrev committed : Rows
+committed = insert (insert empty 1 (row 10)) 2 (row 20)
+
+seen_rows : entries (rows_after 3 (later_edits 3 first second) committed) ≡ (1, row 11) ∷ (2, row 20) ∷ (3, row 41) ∷ (4, row 50) ∷ []
+unfolding rows_after later_edits
+seen_rows = simp (put_in, none_in, got, got_none)
+
+-- ---- what a commit has
+
+abbrev staged_as : Edits → Staged
+staged_as e = record { edits = e; is_touched = true }
+
+abbrev held_alone : Staged
+held_alone = record { edits = no_edits; is_touched = false }
+
+abbrev of_two : Transaction
+of_two = record { number = 7; tables = insert (insert empty 5 held_alone) 2 (staged_as first) }
+
+a_table_that_is_held_alone_gets_no_version : acts_of of_two ≡ Some (EditsRows 2 first ∷ [])
+unfolding acts_of
+a_table_that_is_held_alone_gets_no_version = simp (put_in, none_in)
+
+holds_alone_make_no_commit : acts_of (record { number = 7; tables = insert empty 5 held_alone }) ≡ None
+unfolding acts_of
+holds_alone_make_no_commit = simp (put_in, none_in)
+
+-- ---- holds: session 1 has `of_two`, and session 3 a transaction that holds nothing
+
+abbrev opened : Sessions
+opened = with_begun (with_transaction no_sessions 1 of_two) 3 9
+
+a_held_table_is_locked_for_others : locked_by opened 3 5 ≡ Some 7
+unfolding locked_by
+a_held_table_is_locked_for_others = simp (put_in, none_in, got)
+
+and_not_for_its_own_session : locked_by opened 1 5 ≡ None
+unfolding locked_by
+and_not_for_its_own_session = simp (put_in, none_in, got_none)
+
+a_table_that_nobody_holds : holder opened 4 ≡ None
+unfolding holder
+a_table_that_nobody_holds = simp (put_in, none_in, got, got_none)
+
+an_ended_transaction_has_no_number : number_of (with_ended opened 1) 1 ≡ None
+an_ended_transaction_has_no_number = simp left
+
+others_keep_theirs : number_of (with_ended opened 1) 3 ≡ Some 9
+others_keep_theirs = simp (left, got)

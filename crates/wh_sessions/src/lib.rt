@@ -1,0 +1,3 @@
+//! Sessions and their transactions, as definitions that no code shares. All of it is in `specs/` and
+//! `proofs/`.
+#![tactic(auto)]
