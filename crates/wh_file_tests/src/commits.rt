@@ -1,6 +1,5 @@
-use std::alloc::{AllocError, Global};
+use std::alloc::Global;
 use std::process::Abort;
-use std::test::*;
 use wh_part::{NumberedRow, Partition};
 use wh_record::*;
 use wh_value::{Column, ColumnType, Row, Text, Value};

@@ -3,13 +3,12 @@ ghost use Rattle.wh_world.specs.Crash.{Only};
 
 mod images;
 
-use std::alloc::{AllocError, Global};
+use std::alloc::Global;
 use std::process::Abort;
-use std::test::Fail;
 use wh_world::*;
 
 #[test]
-fn a_record_has_its_length_and_a_closed_gate(rt: HostRuntime) -> Result<(), Fail> {
+fn a_record_has_its_length_and_a_closed_gate(rt: HostRuntime) {
     let none: [u8; 0] = [];
     let cases = [
         (
@@ -24,16 +23,15 @@ fn a_record_has_its_length_and_a_closed_gate(rt: HostRuntime) -> Result<(), Fail
         ),
     ];
     for (name, payload, want) in cases {
-        let framed = Framed::of(rt.alloc(), payload)?;
+        let framed = Framed::of(rt.alloc(), payload).expect(&rt, "memory");
         assert_eq!(rt; framed.as_slice(), want, "{name}");
     }
-    Ok(())
 }
 
 // Each call asks for two bytes. Its number of bytes stands before what the buffer then holds; 9 is
 // a call that failed.
 #[test]
-fn a_source_gives_its_bytes_in_order(rt: HostRuntime) -> Result<(), Fail> {
+fn a_source_gives_its_bytes_in_order(rt: HostRuntime) {
     let alloc = rt.alloc();
     let none: [u64; 0] = [];
     let cases = [
@@ -59,21 +57,24 @@ fn a_source_gives_its_bytes_in_order(rt: HostRuntime) -> Result<(), Fail> {
         ),
     ];
     for (name, failing, want) in cases {
-        let mut source = MemSource::new([1, 2, 3, 4, 5].to_vec(alloc)?, failing.to_vec(alloc)?);
+        let mut source = MemSource::new(
+            [1, 2, 3, 4, 5].to_vec(alloc).expect(&rt, "memory"),
+            failing.to_vec(alloc).expect(&rt, "memory"),
+        );
         let mut got = Vec::new(alloc);
         let mut buf = [0u8; 2];
         for _ in 0..4 {
-            got.push(source.read(&mut buf).map_or(9, |n| n as u8))?;
-            got.extend_from_slice(&buf)?;
+            got.push(source.read(&mut buf).map_or(9, |n| n as u8))
+                .expect(&rt, "memory");
+            got.extend_from_slice(&buf).expect(&rt, "memory");
         }
         assert_eq!(rt; got.as_slice(), want, "{name}");
     }
-    Ok(())
 }
 
 // The pieces are of two bytes, of three and of one.
 #[test]
-fn a_sink_takes_what_fits(rt: HostRuntime) -> Result<(), Fail> {
+fn a_sink_takes_what_fits(rt: HostRuntime) {
     let alloc = rt.alloc();
     let none: [u64; 0] = [];
     let cases = [
@@ -128,20 +129,26 @@ fn a_sink_takes_what_fits(rt: HostRuntime) -> Result<(), Fail> {
         ),
     ];
     for (name, room, failing, counts, held) in cases {
-        let mut sink = MemSink::new(alloc, room, failing.to_vec(alloc)?)?;
+        let mut sink = MemSink::new(
+            alloc,
+            room,
+            failing.to_vec(alloc).expect(&rt, "memory"),
+        ).expect(&rt, "memory");
         let mut got = Vec::new(alloc);
-        got.push(sink.write(&[1, 2]).unwrap_or(9))?;
-        got.push(sink.write(&[3, 4, 5]).unwrap_or(9))?;
-        got.push(sink.write(&[6]).unwrap_or(9))?;
+        got.push(sink.write(&[1, 2]).unwrap_or(9))
+            .expect(&rt, "memory");
+        got.push(sink.write(&[3, 4, 5]).unwrap_or(9))
+            .expect(&rt, "memory");
+        got.push(sink.write(&[6]).unwrap_or(9))
+            .expect(&rt, "memory");
         assert_eq!(rt; got.as_slice(), counts, "{name}");
         assert_eq!(rt; sink.held(), held, "{name}");
     }
-    Ok(())
 }
 
 #[test]
-fn a_clock_stays_at_its_last_reading(rt: HostRuntime) -> Result<(), Fail> {
-    let mut clock = SetClock::new([5, 7, 6].to_vec(rt.alloc())?);
+fn a_clock_stays_at_its_last_reading(rt: HostRuntime) {
+    let mut clock = SetClock::new([5, 7, 6].to_vec(rt.alloc()).expect(&rt, "memory"));
     for (name, want) in [
         ("first", 5),
         ("second", 7),
@@ -151,7 +158,6 @@ fn a_clock_stays_at_its_last_reading(rt: HostRuntime) -> Result<(), Fail> {
     ] {
         assert_eq!(rt; clock.now(), want, "{name}");
     }
-    Ok(())
 }
 
 #[derive(Clone, Copy)]
@@ -365,18 +371,17 @@ const CASES: [Case; 15] = [
 ];
 
 #[test]
-fn a_disk_takes_writes_within_its_bounds(rt: HostRuntime) -> Result<(), Fail> {
+fn a_disk_takes_writes_within_its_bounds(rt: HostRuntime) {
     for case in &CASES {
-        check(&rt, rt.alloc(), case)?;
+        check(&rt, rt.alloc(), case);
     }
-    Ok(())
 }
 
-fn check(rt: &impl Abort, alloc: Global, case: &Case) -> Result<(), AllocError> {
+fn check(rt: &impl Abort, alloc: Global, case: &Case) {
     let name = case.name;
-    let bytes = [10, 20, 30, 40].to_vec(alloc)?;
-    let failing = case.failing.to_vec(alloc)?;
-    let mut disk = MemDisk::new(alloc, bytes, case.room, case.calls, failing)?;
+    let bytes = [10, 20, 30, 40].to_vec(alloc).expect(rt, "memory");
+    let failing = case.failing.to_vec(alloc).expect(rt, "memory");
+    let mut disk = MemDisk::new(alloc, bytes, case.room, case.calls, failing).expect(rt, "memory");
     for (i, step) in case.steps.iter().enumerate() {
         let number = i as u64 + 1;
         let succeeds = !case.failed.contains(&number);
@@ -388,21 +393,21 @@ fn check(rt: &impl Abort, alloc: Global, case: &Case) -> Result<(), AllocError> 
     }
     assert_eq!(rt; disk.bytes(), case.bytes, "{name}");
     assert_eq!(rt; disk.fault_count(), case.failed.len() as u64, "{name}");
-    Ok(())
 }
 
 // Through the bounds a caller knows what a new form holds, from which it reads and writes.
 #[test]
-fn a_new_form_tells_what_it_holds(rt: HostRuntime) -> Result<(), Fail> {
+fn a_new_form_tells_what_it_holds(rt: HostRuntime) {
     let alloc = rt.alloc();
-    let mut source = MemSource::new([7, 8].to_vec(alloc)?, Vec::new(alloc));
-    let mut sink = MemSink::new(alloc, 2, Vec::new(alloc))?;
-    let mut disk = MemDisk::new(alloc, Vec::new(alloc), 2, 2, Vec::new(alloc))?;
+    let mut source = MemSource::new([7, 8].to_vec(alloc).expect(&rt, "memory"), Vec::new(alloc));
+    let mut sink = MemSink::new(alloc, 2, Vec::new(alloc)).expect(&rt, "memory");
+    let mut disk = MemDisk::new(alloc, Vec::new(alloc), 2, 2, Vec::new(alloc)).expect(
+        &rt, "memory",
+    );
     store(&rt, &mut source, &mut disk);
     show(&rt, &mut disk, &mut sink);
     assert_eq!(rt; disk.bytes(), [7, 8].as_slice());
     assert_eq!(rt; sink.held(), [7, 8].as_slice());
-    Ok(())
 }
 
 fn store<S: Source, D: Disk>(rt: &impl Abort, source: &mut S, disk: &mut D)

@@ -2,7 +2,7 @@ ghost use Rattle.std.specs.Prelude.{◌≤◌};
 ghost use Rattle.wh_journal.specs.Journal.{end_of};
 
 use std::alloc::Global;
-use std::test::Fail;
+use std::process::Abort;
 use wh_journal::*;
 use wh_world::{Disk, Framed, MemDisk};
 
@@ -12,60 +12,67 @@ const ROOM: u64 = 200;
 const CALLS: u64 = 40;
 
 // A disk on which the call of that number fails; none has the number 0.
-fn disk_of(alloc: Global, bytes: &[u8], failing: u64) -> Result<MemDisk, Fail> {
-    Ok(MemDisk::new(
+fn disk_of(rt: &impl Abort, alloc: Global, bytes: &[u8], failing: u64) -> MemDisk {
+    MemDisk::new(
         alloc,
-        bytes.to_vec(alloc)?,
+        bytes.to_vec(alloc).expect(rt, "memory"),
         ROOM,
         CALLS,
-        [failing].to_vec(alloc)?,
-    )?)
+        [failing].to_vec(alloc).expect(rt, "memory"),
+    )
+    .expect(rt, "memory")
 }
 
 // Adds a payload, with the memory for it.
 fn add<D: Disk>(
+    rt: &impl Abort,
     alloc: Global,
     journal: &mut Journal,
     disk: &mut D,
     payload: &[u8],
-) -> Result<Result<(), AppendFault>, Fail>
+) -> Result<(), AppendFault>
     requires { end_of journal.old ≤ D.size disk.old }
     ensures { end_of journal.new ≤ D.size disk.new }
 {
-    journal.reserve()?;
-    let frame = Framed::of(alloc, payload)?;
-    Ok(journal.append(disk, &frame))
+    journal.reserve().expect(rt, "memory");
+    let frame = Framed::of(alloc, payload).expect(rt, "memory");
+    journal.append(disk, &frame)
 }
 
 #[test]
-fn payloads_are_found_again(rt: HostRuntime) -> Result<(), Fail> {
+fn payloads_are_found_again(rt: HostRuntime) {
     let alloc = rt.alloc();
-    let mut disk = disk_of(alloc, b"", 0)?;
-    let mut journal = Journal::open(alloc, &mut disk, 1000)?;
-    add(alloc, &mut journal, &mut disk, &[7, 8])??;
-    add(alloc, &mut journal, &mut disk, &[])??;
+    let mut disk = disk_of(&rt, alloc, b"", 0);
+    let mut journal = Journal::open(alloc, &mut disk, 1000).expect(&rt, "memory");
+    add(&rt, alloc, &mut journal, &mut disk, &[7, 8]).expect(&rt, "memory");
+    add(&rt, alloc, &mut journal, &mut disk, &[]).expect(&rt, "memory");
     assert_eq!(rt;
         disk.bytes(),
         b"WHCORE1\x01\0\0\0\0\0\0\0\x02\x07\x08\x01\0\0\0\0\0\0\0\0\0".as_slice()
     );
 
-    let again = Journal::open(alloc, &mut disk, 1000)?;
+    let again = Journal::open(alloc, &mut disk, 1000).expect(&rt, "memory");
     assert_eq!(rt; again.count(), 2);
     assert_eq!(rt; again.place(0), (16, 2));
     assert_eq!(rt;
-        again.payload(alloc, &mut disk, 0)?.as_slice(),
+        again
+            .payload(alloc, &mut disk, 0)
+            .expect(&rt, "memory")
+            .as_slice(),
         [7, 8].as_slice()
     );
     assert_eq!(rt;
-        again.payload(alloc, &mut disk, 1)?.as_slice(),
+        again
+            .payload(alloc, &mut disk, 1)
+            .expect(&rt, "memory")
+            .as_slice(),
         [].as_slice()
     );
-    Ok(())
 }
 
 // How many payloads a file has and where the next would stand, or why it is none.
 #[test]
-fn a_file_stands_only_with_a_closed_gate(rt: HostRuntime) -> Result<(), Fail> {
+fn a_file_stands_only_with_a_closed_gate(rt: HostRuntime) {
     let alloc = rt.alloc();
     let cases = [
         ("empty", b"".as_slice(), Ok((0, 16))),
@@ -118,19 +125,18 @@ fn a_file_stands_only_with_a_closed_gate(rt: HostRuntime) -> Result<(), Fail> {
         ),
     ];
     for (name, bytes, want) in cases {
-        let mut disk = disk_of(alloc, bytes, 0)?;
+        let mut disk = disk_of(&rt, alloc, bytes, 0);
         let got = Journal::open(alloc, &mut disk, 1000).map(|journal| (
             journal.count(),
             journal.next_place(),
         ));
         assert_eq!(rt; got, want, "{name}");
     }
-    Ok(())
 }
 
 // A record of two bytes takes eleven, and the header and its gate take eight.
 #[test]
-fn a_record_fits_up_to_the_limit(rt: HostRuntime) -> Result<(), Fail> {
+fn a_record_fits_up_to_the_limit(rt: HostRuntime) {
     let alloc = rt.alloc();
     let cases = [
         ("at the limit", 19, Ok(())),
@@ -141,45 +147,45 @@ fn a_record_fits_up_to_the_limit(rt: HostRuntime) -> Result<(), Fail> {
         ),
     ];
     for (name, limit, want) in cases {
-        let mut disk = disk_of(alloc, b"", 0)?;
-        let mut journal = Journal::open(alloc, &mut disk, limit)?;
+        let mut disk = disk_of(&rt, alloc, b"", 0);
+        let mut journal = Journal::open(alloc, &mut disk, limit).expect(&rt, "memory");
         assert_eq!(rt;
-            add(alloc, &mut journal, &mut disk, &[7, 8])?,
+            add(&rt, alloc, &mut journal, &mut disk, &[7, 8]),
             want,
             "{name}"
         );
     }
-    Ok(())
 }
 
 // Opening an empty file makes four calls, and an append four more.
 #[test]
-fn a_failing_call_is_told(rt: HostRuntime) -> Result<(), Fail> {
+fn a_failing_call_is_told(rt: HostRuntime) {
     let alloc = rt.alloc();
     for failing in 1..5 {
-        let mut disk = disk_of(alloc, b"", failing)?;
+        let mut disk = disk_of(&rt, alloc, b"", failing);
         let got = Journal::open(alloc, &mut disk, 1000).map(|journal| journal.count());
         assert_eq!(rt; got, Err(OpenFault::DiskFault), "call {failing}");
     }
     for (failing, found) in [(5, 0), (6, 0), (7, 0), (8, 1)] {
-        let mut disk = disk_of(alloc, b"", failing)?;
-        let mut journal = Journal::open(alloc, &mut disk, 1000)?;
+        let mut disk = disk_of(&rt, alloc, b"", failing);
+        let mut journal = Journal::open(alloc, &mut disk, 1000).expect(&rt, "memory");
         assert_eq!(rt;
-            add(alloc, &mut journal, &mut disk, &[7])?,
+            add(&rt, alloc, &mut journal, &mut disk, &[7]),
             Err(AppendFault::DiskFault),
             "call {failing}"
         );
-        let next = add(alloc, &mut journal, &mut disk, &[7])?;
+        let next = add(&rt, alloc, &mut journal, &mut disk, &[7]);
         assert_eq!(rt;
             next,
             Err(AppendFault::NeedsReopen { faults: 1 }),
             "after call {failing}"
         );
         assert_eq!(rt;
-            Journal::open(alloc, &mut disk, 1000)?.count(),
+            Journal::open(alloc, &mut disk, 1000)
+                .expect(&rt, "memory")
+                .count(),
             found,
             "after call {failing}"
         );
     }
-    Ok(())
 }

@@ -1,5 +1,5 @@
-use std::alloc::{AllocError, Global};
-use std::test::*;
+use std::alloc::Global;
+use std::process::Abort;
 use wh_part::*;
 use wh_value::{Bytes, Row, Text, Value, print_literal};
 
@@ -14,33 +14,38 @@ const ALL_KINDS: [u8; 48] = [
     255, 255, 2, 0, 0, 0, 0, 0, 0, 1, 2, 3, 4, 0, 0, 0, 2, 104, 105, 0,
 ];
 
-fn one_row(alloc: Global) -> Result<Partition, AllocError> {
+fn one_row(rt: &impl Abort, alloc: Global) -> Partition {
     let mut row = Row::new(alloc);
-    row.push(Value::Number(1))?;
+    row.push(Value::Number(1)).expect(rt, "memory");
     let mut rows = Vec::new(alloc);
-    rows.push(NumberedRow { number: 1, row })?;
-    Ok(Partition::make(1, rows))
+    rows.push(NumberedRow { number: 1, row })
+        .expect(rt, "memory");
+    Partition::make(1, rows)
 }
 
-fn all_kinds(alloc: Global) -> Result<Partition, AllocError> {
+fn all_kinds(rt: &impl Abort, alloc: Global) -> Partition {
     let mut first = Row::new(alloc);
-    first.push(Value::Null)?;
-    first.push(Value::Number(-1))?;
-    first.push(Value::Bool(false))?;
+    first.push(Value::Null).expect(rt, "memory");
+    first.push(Value::Number(-1)).expect(rt, "memory");
+    first.push(Value::Bool(false)).expect(rt, "memory");
     let mut second = Row::new(alloc);
-    second.push(Value::Bool(true))?;
-    second.push(Value::Text(Text::of(alloc, "hi")?))?;
-    second.push(Value::Null)?;
+    second.push(Value::Bool(true)).expect(rt, "memory");
+    second
+        .push(Value::Text(Text::of(alloc, "hi").expect(rt, "memory")))
+        .expect(rt, "memory");
+    second.push(Value::Null).expect(rt, "memory");
     let mut rows = Vec::new(alloc);
     rows.push(NumberedRow {
         number: 2,
         row: first,
-    })?;
+    })
+    .expect(rt, "memory");
     rows.push(NumberedRow {
         number: 258,
         row: second,
-    })?;
-    Ok(Partition::make(7, rows))
+    })
+    .expect(rt, "memory");
+    Partition::make(7, rows)
 }
 
 /// The partition is written as these bytes, and they are read as one that is written so again.
@@ -59,20 +64,19 @@ fn there_and_back(alloc: Global, partition: Partition, width: u32, bytes: &[u8])
 }
 
 #[test]
-fn partitions_are_written_and_read_byte_by_byte(rt: HostRuntime) -> Result<(), Fail> {
+fn partitions_are_written_and_read_byte_by_byte(rt: HostRuntime) {
     let alloc = rt.alloc();
     assert!(rt;
-        there_and_back(alloc, one_row(alloc)?, 1, &ONE_ROW),
+        there_and_back(alloc, one_row(&rt, alloc), 1, &ONE_ROW),
         "one row"
     );
     assert!(rt;
-        there_and_back(alloc, all_kinds(alloc)?, 3, &ALL_KINDS),
+        there_and_back(alloc, all_kinds(&rt, alloc), 3, &ALL_KINDS),
         "all kinds of value"
     );
-    let partition = all_kinds(alloc)?;
+    let partition = all_kinds(&rt, alloc);
     assert_eq!(rt; partition.number(), 7);
     assert_eq!(rt; (partition.first(), partition.last()), (2, 258));
-    Ok(())
 }
 
 #[test]
@@ -86,16 +90,16 @@ fn no_prefix_is_a_partition(rt: HostRuntime) {
 }
 
 /// The bytes with another byte at a place.
-fn with_byte(alloc: Global, bytes: &[u8], place: usize, byte: u8) -> Result<Vec<u8>, AllocError> {
-    let mut changed = Vec::from_slice(alloc, bytes)?;
+fn with_byte(rt: &impl Abort, alloc: Global, bytes: &[u8], place: usize, byte: u8) -> Vec<u8> {
+    let mut changed = Vec::from_slice(alloc, bytes).expect(rt, "memory");
     if place < changed.len() {
         changed[place] = byte;
     }
-    Ok(changed)
+    changed
 }
 
 #[test]
-fn what_is_no_partition_is_not_read(rt: HostRuntime) -> Result<(), Fail> {
+fn what_is_no_partition_is_not_read(rt: HostRuntime) {
     let alloc = rt.alloc();
     let cases = [
         ("no row", 11, 0, 3),
@@ -108,53 +112,53 @@ fn what_is_no_partition_is_not_read(rt: HostRuntime) -> Result<(), Fail> {
         ("a text that passes the end", 44, 4, 3),
     ];
     for (name, place, byte, width) in cases {
-        let bytes = with_byte(alloc, &ALL_KINDS, place, byte)?;
+        let bytes = with_byte(&rt, alloc, &ALL_KINDS, place, byte);
         assert!(rt; Partition::decode(alloc, &bytes, width).is_none(), "{name}");
     }
-    Ok(())
 }
 
 /// A partition of that many rows without values.
-fn bare(alloc: Global, count: u32) -> Result<Option<Partition>, AllocError> {
+fn bare(rt: &impl Abort, alloc: Global, count: u32) -> Option<Partition> {
     let mut bytes = Bytes::new(alloc);
-    write_u64(&mut bytes, 1)?;
-    write_u32(&mut bytes, count)?;
+    write_u64(&mut bytes, 1).expect(rt, "memory");
+    write_u32(&mut bytes, count).expect(rt, "memory");
     for number in 0..count {
-        write_u64(&mut bytes, u64::from(number))?;
+        write_u64(&mut bytes, u64::from(number)).expect(rt, "memory");
     }
     match Partition::decode(alloc, bytes.as_slice(), 0) {
-        Some(found) => Ok(Some(found?.0)),
-        None => Ok(None),
+        Some(found) => Some(found.expect(rt, "memory").0),
+        None => None,
     }
 }
 
 #[test]
-fn a_thousand_rows_are_a_partition(rt: HostRuntime) -> Result<(), Fail> {
-    let found = bare(rt.alloc(), 1000)?.ok_or("1,000 rows are a partition")?;
+fn a_thousand_rows_are_a_partition(rt: HostRuntime) {
+    let found = bare(&rt, rt.alloc(), 1000).expect(&rt, "1,000 rows are a partition");
     assert_eq!(rt; found.rows().len(), 1000);
     assert_eq!(rt; found.last(), 999);
-    assert!(rt; bare(rt.alloc(), 1001)?.is_none(), "1,001 rows");
-    Ok(())
+    assert!(rt; bare(&rt, rt.alloc(), 1001).is_none(), "1,001 rows");
 }
 
 /// That many rows without values, cut: each partition's number, and those of its first and last row.
-fn cut_rows(alloc: Global, count: u32) -> Result<Vec<(u64, u64, u64)>, AllocError> {
+fn cut_rows(rt: &impl Abort, alloc: Global, count: u32) -> Vec<(u64, u64, u64)> {
     let mut rows = Vec::new(alloc);
     for _ in 0..count {
-        rows.push(Row::new(alloc))?;
+        rows.push(Row::new(alloc)).expect(rt, "memory");
     }
     if rows.len() > 5000 {
-        return Err(AllocError);
+        return Vec::new(alloc);
     }
     let mut found = Vec::new(alloc);
-    for partition in &cut(alloc, rows, 5, 7)? {
-        found.push((partition.number(), partition.first(), partition.last()))?;
+    for partition in &cut(alloc, rows, 5, 7).expect(rt, "memory") {
+        found
+            .push((partition.number(), partition.first(), partition.last()))
+            .expect(rt, "memory");
     }
-    Ok(found)
+    found
 }
 
 #[test]
-fn rows_are_cut_at_each_thousand(rt: HostRuntime) -> Result<(), Fail> {
+fn rows_are_cut_at_each_thousand(rt: HostRuntime) {
     let cases = [
         (0, [].as_slice()),
         (1, &[(7, 5, 5)]),
@@ -163,47 +167,44 @@ fn rows_are_cut_at_each_thousand(rt: HostRuntime) -> Result<(), Fail> {
         (2000, &[(7, 5, 1004), (8, 1005, 2004)]),
     ];
     for (count, want) in cases {
-        let found = cut_rows(rt.alloc(), count)?;
+        let found = cut_rows(&rt, rt.alloc(), count);
         assert_eq!(rt; found.as_slice(), want, "{count} rows");
     }
-    Ok(())
 }
 
 /// What is known of the partition that these bytes begin with.
 #[tactic(auto, using(wh_part::proofs::MetaLemmas::even_partition))]
-fn meta_of(alloc: Global, bytes: &[u8], width: u32) -> Result<Option<PartMeta>, AllocError> {
+fn meta_of(rt: &impl Abort, alloc: Global, bytes: &[u8], width: u32) -> Option<PartMeta> {
     match Partition::decode(alloc, bytes, width) {
         Some(found) => {
-            let (partition, _) = found?;
-            let meta = partition.meta(alloc, 3, 100, 48)?;
-            Ok(Some(meta))
+            let (partition, _) = found.expect(rt, "memory");
+            let meta = partition.meta(alloc, 3, 100, 48).expect(rt, "memory");
+            Some(meta)
         }
-        None => Ok(None),
+        None => None,
     }
 }
 
-fn print_bounds(columns: &[Bounds], out: &mut Bytes) -> Result<(), AllocError> {
+fn print_bounds(rt: &impl Abort, columns: &[Bounds], out: &mut Bytes) {
     for bounds in columns {
-        print_literal(&bounds.least, out)?;
-        out.extend(b"..")?;
-        print_literal(&bounds.greatest, out)?;
-        out.push(b' ')?;
+        print_literal(&bounds.least, out).expect(rt, "memory");
+        out.extend(b"..").expect(rt, "memory");
+        print_literal(&bounds.greatest, out).expect(rt, "memory");
+        out.push(b' ').expect(rt, "memory");
     }
-    Ok(())
 }
 
 #[test]
-fn bounds_follow_the_value_order(rt: HostRuntime) -> Result<(), Fail> {
+fn bounds_follow_the_value_order(rt: HostRuntime) {
     let alloc = rt.alloc();
-    let meta = meta_of(alloc, &ALL_KINDS, 3)?.ok_or("a partition")?;
+    let meta = meta_of(&rt, alloc, &ALL_KINDS, 3).expect(&rt, "a partition");
     assert_eq!(rt; (meta.id.object, meta.id.number), (3, 7));
     assert_eq!(rt; (meta.at, meta.length), (100, 48));
     assert_eq!(rt; (meta.rows, meta.first, meta.last), (2, 2, 258));
     let mut printed = Bytes::new(alloc);
-    print_bounds(&meta.columns, &mut printed)?;
+    print_bounds(&rt, &meta.columns, &mut printed);
     assert_eq!(rt;
         printed.as_slice(),
         b"TRUE..NULL -1..'hi' FALSE..NULL ".as_slice()
     );
-    Ok(())
 }

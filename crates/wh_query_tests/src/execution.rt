@@ -3,6 +3,7 @@ mod shelf;
 use shelf::Shelf;
 use sqlite_items::{Boxed, Items};
 use std::alloc::{AllocError, Global};
+use std::process::Abort;
 use std::sync::Arc;
 use std::thread::Threads;
 use wh_algebra::{Call, Physical};
@@ -12,29 +13,30 @@ use wh_part::{NumberedRow, PartId, PartMeta, Partition};
 use wh_scalar::Scalar;
 use wh_value::{Comparison, Row, Value};
 
-fn row_of(alloc: Global, numbers: &[i64]) -> Result<Row, AllocError> {
+fn row_of(rt: &impl Abort, alloc: Global, numbers: &[i64]) -> Row {
     let mut row = Row::new(alloc);
     for number in numbers {
-        row.push(Value::Number(*number))?;
+        row.push(Value::Number(*number)).expect(rt, "memory");
     }
-    Ok(row)
+    row
 }
 
 // The partition of one row, a number.
-fn part_of(alloc: Global, number: i64) -> Result<Arc<Partition>, AllocError> {
-    let row = row_of(alloc, &[number])?;
+fn part_of(rt: &impl Abort, alloc: Global, number: i64) -> Arc<Partition> {
+    let row = row_of(rt, alloc, &[number]);
     let mut rows = Vec::new(alloc);
-    rows.push(NumberedRow { number: 1, row })?;
-    Ok(Arc::new(alloc, Partition::make(1, rows))?)
+    rows.push(NumberedRow { number: 1, row })
+        .expect(rt, "memory");
+    Arc::new(alloc, Partition::make(1, rows)).expect(rt, "memory")
 }
 
 // The numbers 1, 2 and 3, a partition each. The call of that number fails.
-fn numbers(alloc: Global, failing: u64) -> Result<Shelf, AllocError> {
+fn numbers(rt: &impl Abort, alloc: Global, failing: u64) -> Shelf {
     let mut parts = Vec::new(alloc);
     for number in 1..4 {
-        parts.push(part_of(alloc, number)?)?;
+        parts.push(part_of(rt, alloc, number)).expect(rt, "memory");
     }
-    Ok(Shelf::new(alloc, parts, failing))
+    Shelf::new(alloc, parts, failing)
 }
 
 fn id(number: u64) -> PartId {
@@ -59,81 +61,83 @@ fn meta(alloc: Global, at: u64) -> PartMeta {
 }
 
 // The partitions at these places.
-fn parts(alloc: Global, places: &[u64]) -> Result<Given, AllocError> {
+fn parts(rt: &impl Abort, alloc: Global, places: &[u64]) -> Given {
     let mut parts = Vec::new(alloc);
     for place in places {
-        parts.push(meta(alloc, *place))?;
+        parts.push(meta(alloc, *place)).expect(rt, "memory");
     }
-    Ok(Given::Parts(parts))
+    Given::Parts(parts)
 }
 
 // The number 2, three times.
-fn thrice(alloc: Global) -> Result<Given, AllocError> {
+fn thrice(rt: &impl Abort, alloc: Global) -> Given {
     let mut bag = Bag::new(alloc);
-    bag.add(row_of(alloc, &[2])?, 3).map_err(|_| AllocError)?;
-    Ok(Given::Rows(bag))
+    bag.add(row_of(rt, alloc, &[2]), 3)
+        .map_err(|_| AllocError)
+        .expect(rt, "memory");
+    Given::Rows(bag)
 }
 
 // Source 0 has the partitions of 1 and 2, source 1 the number 2 thrice, source 2 the partition of 3.
-fn instance(alloc: Global) -> Result<Instance, AllocError> {
+fn instance(rt: &impl Abort, alloc: Global) -> Instance {
     let mut sources = Vec::new(alloc);
-    sources.push(parts(alloc, &[0, 1])?)?;
-    sources.push(thrice(alloc)?)?;
-    sources.push(parts(alloc, &[2])?)?;
-    Ok(Instance { sources })
+    sources.push(parts(rt, alloc, &[0, 1])).expect(rt, "memory");
+    sources.push(thrice(rt, alloc)).expect(rt, "memory");
+    sources.push(parts(rt, alloc, &[2])).expect(rt, "memory");
+    Instance { sources }
 }
 
-fn columns(alloc: Global) -> Result<Items<Scalar>, AllocError> {
+fn columns(rt: &impl Abort, alloc: Global) -> Items<Scalar> {
     let mut columns = Items::new(alloc);
-    columns.push(Scalar::Column(0))?;
-    Ok(columns)
+    columns.push(Scalar::Column(0)).expect(rt, "memory");
+    columns
 }
 
-fn calls(alloc: Global) -> Result<Items<Call>, AllocError> {
+fn calls(rt: &impl Abort, alloc: Global) -> Items<Call> {
     let mut calls = Items::new(alloc);
-    calls.push(Call::CountRows)?;
-    Ok(calls)
+    calls.push(Call::CountRows).expect(rt, "memory");
+    calls
 }
 
-fn first_is_second(alloc: Global) -> Result<Scalar, AllocError> {
-    let first = Boxed::new(alloc, Scalar::Column(0))?;
-    let second = Boxed::new(alloc, Scalar::Column(1))?;
-    Ok(Scalar::Compare(Comparison::Equal, first, second))
+fn first_is_second(rt: &impl Abort, alloc: Global) -> Scalar {
+    let first = Boxed::new(alloc, Scalar::Column(0)).expect(rt, "memory");
+    let second = Boxed::new(alloc, Scalar::Column(1)).expect(rt, "memory");
+    Scalar::Compare(Comparison::Equal, first, second)
 }
 
 // The rows of source 0 beside those of source 1 that are equal.
-fn pairs(alloc: Global) -> Result<Boxed<Physical>, AllocError> {
-    let on = first_is_second(alloc)?;
-    let left = Boxed::new(alloc, Physical::scan(0))?;
-    let right = Boxed::new(alloc, Physical::scan(1))?;
-    Boxed::new(alloc, Physical::join(left, right, on))
+fn pairs(rt: &impl Abort, alloc: Global) -> Boxed<Physical> {
+    let on = first_is_second(rt, alloc);
+    let left = Boxed::new(alloc, Physical::scan(0)).expect(rt, "memory");
+    let right = Boxed::new(alloc, Physical::scan(1)).expect(rt, "memory");
+    Boxed::new(alloc, Physical::join(left, right, on)).expect(rt, "memory")
 }
 
-fn kept(alloc: Global) -> Result<Boxed<Physical>, AllocError> {
-    let pairs = pairs(alloc)?;
+fn kept(rt: &impl Abort, alloc: Global) -> Boxed<Physical> {
+    let pairs = pairs(rt, alloc);
     let truth = Scalar::Const(Value::Bool(true));
-    Boxed::new(alloc, Physical::filter(pairs, truth))
+    Boxed::new(alloc, Physical::filter(pairs, truth)).expect(rt, "memory")
 }
 
-fn first_columns(alloc: Global) -> Result<Boxed<Physical>, AllocError> {
-    let kept = kept(alloc)?;
-    let items = columns(alloc)?;
-    Boxed::new(alloc, Physical::project(kept, items))
+fn first_columns(rt: &impl Abort, alloc: Global) -> Boxed<Physical> {
+    let kept = kept(rt, alloc);
+    let items = columns(rt, alloc);
+    Boxed::new(alloc, Physical::project(kept, items)).expect(rt, "memory")
 }
 
 // The rows of source 1 that source 0 has too, and the rows of source 0 beside them.
-fn shared(alloc: Global) -> Result<Boxed<Physical>, AllocError> {
-    let rows = first_columns(alloc)?;
-    let others = Boxed::new(alloc, Physical::scan(0))?;
-    Boxed::new(alloc, Physical::union_all(rows, others))
+fn shared(rt: &impl Abort, alloc: Global) -> Boxed<Physical> {
+    let rows = first_columns(rt, alloc);
+    let others = Boxed::new(alloc, Physical::scan(0)).expect(rt, "memory");
+    Boxed::new(alloc, Physical::union_all(rows, others)).expect(rt, "memory")
 }
 
 // How often each of them is there.
-fn counted(alloc: Global) -> Result<Boxed<Physical>, AllocError> {
-    let shared = shared(alloc)?;
-    let by = columns(alloc)?;
-    let calls = calls(alloc)?;
-    Boxed::new(alloc, Physical::group(shared, by, calls))
+fn counted(rt: &impl Abort, alloc: Global) -> Boxed<Physical> {
+    let shared = shared(rt, alloc);
+    let by = columns(rt, alloc);
+    let calls = calls(rt, alloc);
+    Boxed::new(alloc, Physical::group(shared, by, calls)).expect(rt, "memory")
 }
 
 // How often the row of these numbers is in what a plan gives; None where it gives no rows.
@@ -153,10 +157,10 @@ fn count_of(
 #[test]
 fn the_six_operators_run_over_partitions_and_a_bag(rt: HostRuntime) {
     let alloc = rt.alloc();
-    let row = row_of(alloc, &[2, 4]).expect(&rt, "memory");
-    let instance = instance(alloc).expect(&rt, "memory");
-    let mut fetch = numbers(alloc, 0).expect(&rt, "memory");
-    let plan = counted(alloc).expect(&rt, "memory");
+    let row = row_of(&rt, alloc, &[2, 4]);
+    let instance = instance(&rt, alloc);
+    let mut fetch = numbers(&rt, alloc, 0);
+    let plan = counted(&rt, alloc);
     let found = count_of(alloc, plan.get(), &instance, &mut fetch, &row);
     assert_eq!(rt; found, Some(1));
     assert_eq!(rt; fetch.asked(), ids().as_slice());
@@ -178,9 +182,9 @@ fn count_by_two(
 #[test]
 fn two_workers_give_the_rows_too(rt: HostRuntime) {
     let alloc = rt.alloc();
-    let row = row_of(alloc, &[2]).expect(&rt, "memory");
-    let instance = instance(alloc).expect(&rt, "memory");
-    let mut fetch = numbers(alloc, 0).expect(&rt, "memory");
+    let row = row_of(&rt, alloc, &[2]);
+    let instance = instance(&rt, alloc);
+    let mut fetch = numbers(&rt, alloc, 0);
     let found = count_by_two(&rt, alloc, &instance, &mut fetch, &row);
     assert_eq!(rt; found, Some(3));
 }
@@ -196,10 +200,10 @@ fn fault_of(alloc: Global, instance: &Instance, fetch: &mut Shelf) -> Option<Exe
 #[test]
 fn a_partition_that_is_not_read_ends_the_run(rt: HostRuntime) {
     let alloc = rt.alloc();
-    let instance = instance(alloc).expect(&rt, "memory");
+    let instance = instance(&rt, alloc);
     let ids = ids();
     for failing in 1..4 {
-        let mut fetch = numbers(alloc, failing).expect(&rt, "memory");
+        let mut fetch = numbers(&rt, alloc, failing);
         assert_eq!(rt;
             fault_of(alloc, &instance, &mut fetch),
             Some(ExecFault::Read)

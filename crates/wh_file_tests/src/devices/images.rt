@@ -1,7 +1,6 @@
 use super::{Step, run};
-use std::alloc::{AllocError, Global};
+use std::alloc::Global;
 use std::process::Abort;
-use std::test::Fail;
 use wh_world::MemDisk;
 
 // In the place of a fill: the bytes behind the cut are left as they are.
@@ -133,23 +132,25 @@ const CASES: [Case; 8] = [
 ];
 
 #[test]
-fn a_pick_gives_the_synced_bytes_or_the_shown_or_a_torn_write(rt: HostRuntime) -> Result<(), Fail> {
+fn a_pick_gives_the_synced_bytes_or_the_shown_or_a_torn_write(rt: HostRuntime) {
     let alloc = rt.alloc();
     for case in &CASES {
         let name = case.name;
-        let disk = disk_after(&rt, alloc, case.failing, case.steps)?;
+        let disk = disk_after(&rt, alloc, case.failing, case.steps);
         assert_eq!(rt;
-            disk.image(alloc, 0)?.as_slice(),
+            disk.image(alloc, 0).expect(&rt, "memory").as_slice(),
             case.synced,
             "{name}, synced"
         );
         assert_eq!(rt;
-            disk.image(alloc, 1)?.as_slice(),
+            disk.image(alloc, 1).expect(&rt, "memory").as_slice(),
             case.shown,
             "{name}, shown"
         );
         for (cut, fill, want) in case.images {
-            let image = disk.image(alloc, pick_of(*cut, *fill))?;
+            let image = disk
+                .image(alloc, pick_of(*cut, *fill))
+                .expect(&rt, "memory");
             assert_eq!(rt;
                 image.as_slice(),
                 *want,
@@ -157,34 +158,33 @@ fn a_pick_gives_the_synced_bytes_or_the_shown_or_a_torn_write(rt: HostRuntime) -
             );
         }
     }
-    Ok(())
 }
 
 #[test]
-fn the_picks_give_each_value_of_one_byte(rt: HostRuntime) -> Result<(), Fail> {
+fn the_picks_give_each_value_of_one_byte(rt: HostRuntime) {
     let alloc = rt.alloc();
-    let disk = disk_after(&rt, alloc, &[], &[Step::Write(1, &[5])])?;
+    let disk = disk_after(&rt, alloc, &[], &[Step::Write(1, &[5])]);
     for value in 0..=255u8 {
-        let image = disk.image(alloc, pick_of(0, u64::from(value)))?;
+        let image = disk
+            .image(alloc, pick_of(0, u64::from(value)))
+            .expect(&rt, "memory");
         assert_eq!(rt; image.as_slice(), [10, value, 30, 40].as_slice());
     }
-    Ok(())
 }
 
 #[test]
-fn after_a_sync_all_picks_give_the_same(rt: HostRuntime) -> Result<(), Fail> {
+fn after_a_sync_all_picks_give_the_same(rt: HostRuntime) {
     let alloc = rt.alloc();
     let steps = [Step::Write(0, &[9]), Step::Write(3, &[1, 2]), Step::Sync];
-    let disk = disk_after(&rt, alloc, &[1], &steps)?;
+    let disk = disk_after(&rt, alloc, &[1], &steps);
     for pick in 0..1000 {
-        let image = disk.image(alloc, pick)?;
+        let image = disk.image(alloc, pick).expect(&rt, "memory");
         assert_eq!(rt;
             image.as_slice(),
             [10, 20, 30, 1, 2].as_slice(),
             "pick {pick}"
         );
     }
-    Ok(())
 }
 
 fn pick_of(cut: u64, fill: u64) -> u64 {
@@ -193,16 +193,18 @@ fn pick_of(cut: u64, fill: u64) -> u64 {
         .saturating_add(2)
 }
 
-fn disk_after(
-    rt: &impl Abort,
-    alloc: Global,
-    failing: &[u64],
-    steps: &[Step],
-) -> Result<MemDisk, AllocError> {
-    let bytes = [10, 20, 30, 40].to_vec(alloc)?;
-    let mut disk = MemDisk::new(alloc, bytes, 10, 10, failing.to_vec(alloc)?)?;
+fn disk_after(rt: &impl Abort, alloc: Global, failing: &[u64], steps: &[Step]) -> MemDisk {
+    let bytes = [10, 20, 30, 40].to_vec(alloc).expect(rt, "memory");
+    let mut disk = MemDisk::new(
+        alloc,
+        bytes,
+        10,
+        10,
+        failing.to_vec(alloc).expect(rt, "memory"),
+    )
+    .expect(rt, "memory");
     for step in steps {
         let _ = run(rt, &mut disk, *step);
     }
-    Ok(disk)
+    disk
 }
