@@ -1,17 +1,24 @@
 -- Transactions worked out by hand, over a table whose next row number is 3.
---     first, second      the edits of a statement that adds two rows, and of one that changes row 1 and the second added row, deletes the first added row and adds another
+--     first, second      the edits of a statement that adds two rows; and of one that changes row 1 and the second
+--                        added row, deletes the first added row and adds another
 --     of_two             a transaction that touched table 2 and holds table 5 untouched
-use Rattle.std.proofs.Common.{◌≡◌, ℕ, true, false, [], ◌∷◌, Some, None, cond, pos, sym, ◌∙◌}
+use Rattle.std.proofs.Common.{◌≡◌, ℕ, true, false, List, [], ◌∷◌, Option, Some, None, cond, pos, sym, ◌∙◌}
 use Rattle.std.proofs.lemmas.List.{nil_from_length}
 use Rattle.std.specs.FinMap.{FinMap, empty, get, insert, remove, entries, get-empty, get-insert, get-remove, entries-insert, len-entries, len-empty}
 use Rattle.std.specs.FinMap.Entries.{put}
 use Rattle.std.specs.Ordering.{nat_cmp, eq_by_cmp}
 use Rattle.std.specs.Cmp.{nat_cmp_total}
 use Rattle.wh_value.specs.Value.{Number, Row}
-use Rattle.wh_machine.specs.State.{Rows}
-use Rattle.wh_machine.specs.Edits.{Edits, rows_after}
-use Rattle.wh_machine.specs.Outcome.{EditsRows}
-use Rattle.wh_sessions.specs.Transaction.{Staged, Transaction, no_edits, later_edits, acts_of}
+use Rattle.std.specs.Option.{option_map}
+use Rattle.wh_value.specs.Limit.{bound}
+use Rattle.wh_value.specs.declared.limit.Limit.TheVariants as limits
+use Rattle.wh_reply.specs.Reply.{OverLimit}
+use Rattle.wh_effect.specs.Effect.{Effect}
+use Rattle.wh_machine.specs.State.{Rows, Object, TableKind, new_object, version_at, last_rows}
+use Rattle.wh_machine.specs.Tables.{table_at}
+use Rattle.wh_machine.specs.Edits.{Edits, edits_of, rows_after}
+use Rattle.wh_machine.specs.Outcome.{EditsRows, edited_table}
+use Rattle.wh_sessions.specs.Transaction.{Staged, Transaction, begun, no_edits, later_edits, seen, staged, acts_of, commit_refusal}
 use Rattle.wh_sessions.specs.Sessions.{Sessions, no_sessions, number_of, holder, locked_by, with_begun, with_ended, with_transaction}
 
 abbrev row : ℕ → Row
@@ -52,6 +59,46 @@ committed = insert (insert empty 1 (row 10)) 2 (row 20)
 seen_rows : entries (rows_after 3 (later_edits 3 first second) committed) ≡ (1, row 11) ∷ (2, row 20) ∷ (3, row 41) ∷ (4, row 50) ∷ []
 unfolding rows_after later_edits
 seen_rows = simp (put_in, none_in, got, got_none)
+
+-- ---- a statement in a transaction, and what it then sees
+
+abbrev table_with : ℕ → Object
+table_with next_row = new_object [] 5 (TableKind (record {
+  columns = [];
+  retention = 1;
+  next_row = next_row;
+  next_partition = 1;
+  versions = version_at 5 (record { rows = committed; partitions = [] }) ∷ [];
+}))
+
+abbrev effect_of_one : Effect
+effect_of_one = record { removed = []; changed = record { number = 1; row = row 11 } ∷ []; added = row 30 ∷ [] }
+
+abbrev after_one : Transaction
+after_one = record {
+  number = 7;
+  tables = insert empty 1 (record {
+    edits = record { rows = insert empty 1 (Some (row 11)); added = row 30 ∷ [] };
+    is_touched = true;
+  });
+}
+
+a_statement_is_staged : staged (table_with 3 ∷ []) (begun 7) 1 effect_of_one ≡ after_one
+unfolding staged later_edits edits_of
+a_statement_is_staged = simp (put_in, none_in, got_none)
+
+abbrev rows_at : List Object → ℕ → Option (List (ℕ × Row))
+rows_at objects id = option_map (λ t. entries (last_rows t)) (table_at objects id)
+
+its_rows_are_seen : rows_at (seen (record { last = 9; committed = 5; objects = table_with 3 ∷ [] }) after_one).objects 1
+    ≡ Some ((1, row 11) ∷ (2, row 20) ∷ (3, row 30) ∷ [])
+unfolding seen edited_table rows_after
+its_rows_are_seen = simp (put_in, none_in, got, got_none)
+
+-- one row more than there are numbers
+a_commit_past_the_last_row_number : commit_refusal (table_with (bound limits.RowNumber) ∷ []) after_one ≡ Some (OverLimit limits.RowNumber)
+unfolding commit_refusal
+a_commit_past_the_last_row_number = simp (put_in, none_in)
 
 -- ---- what a commit has
 

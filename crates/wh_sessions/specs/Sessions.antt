@@ -34,7 +34,8 @@ holder sessions id = first_number (filter (λ entry. holds id entry.1) (entries 
 
 -- the same of another session's
 unfoldable pub locked_by : Sessions → ℕ → ℕ → Option ℕ
-locked_by sessions session id = first_number (filter (λ entry. not (nat_eq entry.0 session) && holds id entry.1) (entries sessions))
+locked_by sessions session id =
+    first_number (filter (λ entry. not (nat_eq entry.0 session) && holds id entry.1) (entries sessions))
 
 -- ---- transactions that begin and end; holds go with their transaction
 

@@ -1,5 +1,5 @@
 -- A transaction: what a session has changed and not committed.
---     Staged, Transaction     the edits of a table that is held; a transaction's number, and the tables that it holds, by their ids
+--     Staged, Transaction     the edits of a table that is held; a number, and the tables that are held, by their ids
 --     begun, start_of         a new transaction, and the stamp that its streams are read up to
 --     later_edits             edits on top of earlier ones
 --     seen                    the state as a transaction sees it
@@ -38,11 +38,14 @@ begun stamp = record { number = stamp; tables = empty }
 abbrev pub start_of : Transaction → ℕ
 start_of t = t.number - 1
 
--- ---- edits on top of earlier ones: rows that were added have the numbers from the table's next one on, in their order
+-- ---- edits on top of earlier ones
+
+-- rows that were added have the numbers from the table's next one on, in their order
 
 abbrev pub with_later : ℕ → RowEdits → List (ℕ × Option Row) → RowEdits
 with_later next_row edits [] = edits
-with_later next_row edits (e ∷ es) = with_later next_row (if nat_lt e.0 next_row then insert edits e.0 e.1 else edits) es
+with_later next_row edits (e ∷ es) =
+    with_later next_row (if nat_lt e.0 next_row then insert edits e.0 e.1 else edits) es
 
 -- the added rows that are left, with the changed ones in place
 abbrev pub added_left : ℕ → RowEdits → List Row → List Row
@@ -83,7 +86,9 @@ with_effect next_row e s = record {
 
 -- over the committed objects
 unfoldable pub staged : List Object → Transaction → ℕ → Effect → Transaction
-staged objects t id e = record t { tables = insert t.tables id (with_effect (next_row_of (table_at objects id)) e (staged_in (get t.tables id))) }
+staged objects t id e = record t {
+  tables = insert t.tables id (with_effect (next_row_of (table_at objects id)) e (staged_in (get t.tables id)));
+}
 
 -- ---- its commit
 
@@ -99,14 +104,16 @@ unfoldable pub acts_of : Transaction → Option (List Act)
 acts_of t = acts_in (touched t)
 
 abbrev pub row_past : List Object → ℕ × Staged → Bool
-row_past objects entry = nat_lt (bound limits.RowNumber) (next_row_of (table_at objects entry.0) + length entry.1.edits.added)
+row_past objects entry =
+    nat_lt (bound limits.RowNumber) (next_row_of (table_at objects entry.0) + length entry.1.edits.added)
 
 abbrev pub next_partition_of : Edits → Option Table → ℕ
 next_partition_of e None = 1
 next_partition_of e (Some t) = t.next_partition + length (table_partitions_made e t)
 
 abbrev pub partition_past : List Object → ℕ × Staged → Bool
-partition_past objects entry = nat_lt (bound limits.PartitionNumber) (next_partition_of entry.1.edits (table_at objects entry.0))
+partition_past objects entry =
+    nat_lt (bound limits.PartitionNumber) (next_partition_of entry.1.edits (table_at objects entry.0))
 
 unfoldable pub commit_refusal : List Object → Transaction → Option Refusal
 commit_refusal objects t = first_of (
