@@ -1,6 +1,8 @@
 -- Edits of a table's rows, and the cutting rule: the partitions that they leave behind.
 --     Edits, edits_of      new rows by their numbers, or None for those that go; and the rows that come
 --     rows_after           a version's rows after edits
+--     no_edits             nothing goes, changes or comes
+--     later_edits          edits on top of earlier ones
 --     numbers_gone         the partitions with a row that the edits name
 --     partitions_made      those that take their places, and those of the rows that come
 --     contents_after       what a version then holds
@@ -49,6 +51,28 @@ edited edits rows = flat_map (edited_row edits) rows
 -- the rows that come have the next numbers
 unfoldable pub rows_after : ℕ → Edits → Rows → Rows
 rows_after next_row e rows = with_entries (with_entries empty (edited e.rows (entries rows))) (numbered next_row e.added)
+
+-- ---- edits on top of earlier ones, before either is in a version
+
+abbrev pub no_edits : Edits
+no_edits = record { rows = empty; added = [] }
+
+-- rows that were added have the numbers from the table's next one on, in their order
+
+abbrev pub with_later : ℕ → RowEdits → List (ℕ × Option Row) → RowEdits
+with_later next_row edits [] = edits
+with_later next_row edits (e ∷ es) =
+    with_later next_row (if nat_lt e.0 next_row then insert edits e.0 e.1 else edits) es
+
+-- the added rows that are left, with the changed ones in place
+abbrev pub added_left : ℕ → RowEdits → List Row → List Row
+added_left next_row edits added = map (λ entry. entry.1) (edited edits (numbered next_row added))
+
+unfoldable pub later_edits : ℕ → Edits → Edits → Edits
+later_edits next_row old new = record {
+  rows = with_later next_row old.rows (entries new.rows);
+  added = added_left next_row new.rows old.added ++ new.added;
+}
 
 -- ---- partitions
 

@@ -12,11 +12,17 @@ pub data Refusal : Type 0 where
   Unsupported : Refusal
   SyntaxError : Refusal
   NoSuchSession : (session : ℕ) → Refusal
+  -- the number of the session's own transaction
+  DdlInTransaction : (number : ℕ) → Refusal
+  TransactionOpen : (number : ℕ) → Refusal
+  NoTransaction : Refusal
   UnknownName : (name : List ℕ) → Refusal
   NameTaken : (name : List ℕ) → Refusal
   WrongKind : (name : List ℕ) → Refusal
   TypeMismatch : Refusal
   OverLimit : Limit → Refusal
+  -- the number of another session's transaction
+  Locked : (number : ℕ) → Refusal
   NumberOutOfRange : Refusal
   -- a row of the target that several source rows would change
   AmbiguousMerge : Row → Refusal
@@ -28,6 +34,10 @@ pub data Reply : Type 0 where
   Updated : (count : ℕ) → Reply
   Deleted : (count : ℕ) → Reply
   Merged : (inserted updated deleted : ℕ) → Reply
+  Begun : (number : ℕ) → Reply
+  Committed : (stamp : ℕ) → Reply
+  CommittedNothing : Reply
+  RolledBack : Reply
   Listing : (names : List (List ℕ)) → (rows : List Row) → Reply
   Idle : Reply
   Refused : Refusal → Reply
@@ -39,6 +49,10 @@ is_refusal (Inserted count) = false
 is_refusal (Updated count) = false
 is_refusal (Deleted count) = false
 is_refusal (Merged inserted updated deleted) = false
+is_refusal (Begun number) = false
+is_refusal (Committed stamp) = false
+is_refusal CommittedNothing = false
+is_refusal RolledBack = false
 is_refusal (Listing names rows) = false
 is_refusal Idle = false
 is_refusal (Refused why) = true
@@ -72,11 +86,15 @@ abbrev pub refusal_text : Refusal → List ℕ
 refusal_text Unsupported = codes "E0 Unsupported"
 refusal_text SyntaxError = codes "E1 SyntaxError"
 refusal_text (NoSuchSession session) = codes "E2 NoSuchSession " ++ decimal session
+refusal_text (DdlInTransaction number) = codes "E3 DdlInTransaction " ++ decimal number
+refusal_text (TransactionOpen number) = codes "E4 TransactionOpen " ++ decimal number
+refusal_text NoTransaction = codes "E5 NoTransaction"
 refusal_text (UnknownName name) = codes "E6 UnknownName " ++ name
 refusal_text (NameTaken name) = codes "E7 NameTaken " ++ name
 refusal_text (WrongKind name) = codes "E8 WrongKind " ++ name
 refusal_text TypeMismatch = codes "E9 TypeMismatch"
 refusal_text (OverLimit limit) = codes "E13 Limit " ++ limit_word limit ++ codes " " ++ decimal (bound limit)
+refusal_text (Locked number) = codes "E18 Locked " ++ decimal number
 refusal_text NumberOutOfRange = codes "E19 NumberOutOfRange"
 refusal_text (AmbiguousMerge row) = codes "E20 AmbiguousMerge " ++ values_text row
 
@@ -86,8 +104,13 @@ print (DroppedTable name) = line (codes "DROPPED TABLE " ++ name)
 print (Inserted count) = line (codes "INSERTED " ++ decimal count)
 print (Updated count) = line (codes "UPDATED " ++ decimal count)
 print (Deleted count) = line (codes "DELETED " ++ decimal count)
-print (Merged inserted updated deleted) =
-    line (codes "MERGED " ++ decimal inserted ++ codes " INSERTED " ++ decimal updated ++ codes " UPDATED " ++ decimal deleted ++ codes " DELETED")
-print (Listing names rows) = line (parted names) ++ flat_map row_line rows ++ line (codes "(" ++ decimal (length rows) ++ codes " rows)")
+print (Merged inserted updated deleted) = line (codes "MERGED " ++ decimal inserted ++ codes " INSERTED "
+    ++ decimal updated ++ codes " UPDATED " ++ decimal deleted ++ codes " DELETED")
+print (Begun number) = line (codes "BEGUN " ++ decimal number)
+print (Committed stamp) = line (codes "COMMITTED " ++ decimal stamp)
+print CommittedNothing = line (codes "COMMITTED NOTHING")
+print RolledBack = line (codes "ROLLED BACK")
+print (Listing names rows) = line (parted names) ++ flat_map row_line rows
+    ++ line (codes "(" ++ decimal (length rows) ++ codes " rows)")
 print Idle = line (codes "IDLE")
 print (Refused why) = line (refusal_text why)

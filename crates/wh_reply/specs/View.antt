@@ -9,11 +9,15 @@ abbrev pub refusal_view : Refusal → machine.Refusal
 refusal_view refusals.Unsupported = machine.Unsupported
 refusal_view refusals.SyntaxError = machine.SyntaxError
 refusal_view (refusals.NoSuchSession session) = machine.NoSuchSession session
+refusal_view (refusals.DdlInTransaction number) = machine.DdlInTransaction number
+refusal_view (refusals.TransactionOpen number) = machine.TransactionOpen number
+refusal_view refusals.NoTransaction = machine.NoTransaction
 refusal_view (refusals.UnknownName name) = machine.UnknownName name
 refusal_view (refusals.NameTaken name) = machine.NameTaken name
 refusal_view (refusals.WrongKind name) = machine.WrongKind name
 refusal_view refusals.TypeMismatch = machine.TypeMismatch
 refusal_view (refusals.OverLimit limit) = machine.OverLimit limit
+refusal_view (refusals.Locked number) = machine.Locked number
 refusal_view refusals.NumberOutOfRange = machine.NumberOutOfRange
 refusal_view (refusals.AmbiguousMerge row) = machine.AmbiguousMerge row
 
@@ -24,6 +28,10 @@ reply_view (replies.Inserted count) = machine.Inserted count
 reply_view (replies.Updated count) = machine.Updated count
 reply_view (replies.Deleted count) = machine.Deleted count
 reply_view (replies.Merged inserted updated deleted) = machine.Merged inserted updated deleted
+reply_view (replies.Begun number) = machine.Begun number
+reply_view (replies.Committed stamp) = machine.Committed stamp
+reply_view replies.CommittedNothing = machine.CommittedNothing
+reply_view replies.RolledBack = machine.RolledBack
 reply_view (replies.Listing names rows) = machine.Listing names.items rows.items
 reply_view replies.Idle = machine.Idle
 reply_view (replies.Refused refusal) = machine.Refused (refusal_view refusal)

@@ -9,6 +9,12 @@ pub enum Refusal {
     SyntaxError,
     /// No session has the number.
     NoSuchSession(u64),
+    /// The session's transaction of that number is open, in which no object is made or dropped.
+    DdlInTransaction(u64),
+    /// The session's transaction of that number is still open.
+    TransactionOpen(u64),
+    /// The session has no open transaction.
+    NoTransaction,
     /// No object, or no one column, has the name.
     UnknownName(Text),
     /// The name is another's, or stands twice.
@@ -19,6 +25,8 @@ pub enum Refusal {
     TypeMismatch,
     /// A count would pass a limit.
     OverLimit(Limit),
+    /// The transaction of that number, of another session, holds what would be changed.
+    Locked(u64),
     /// A number of an evaluation has more than 18 digits.
     NumberOutOfRange,
     /// Several source rows of a MERGE would change this row of the target.
@@ -44,6 +52,13 @@ pub enum Reply {
         updated: u64,
         deleted: u64,
     },
+    /// The number of the transaction.
+    Begun(u64),
+    /// The stamp of the transaction's commit.
+    Committed(u64),
+    /// The transaction ended, and had touched nothing.
+    CommittedNothing,
+    RolledBack,
     /// Rows in order, below the names of their columns.
     Listing {
         names: Vec<Text>,

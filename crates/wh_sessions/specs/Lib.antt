@@ -1,2 +1,5 @@
 pub mod Transaction
 pub mod Sessions
+pub mod Outcome
+pub mod Statements
+pub mod Step

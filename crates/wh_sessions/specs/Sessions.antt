@@ -1,49 +1,53 @@
 -- The sessions of a script, each with at most one open transaction.
---     Sessions                        the open transactions, by their sessions
---     number_of                       the number of a session's transaction
+--     Sessions                        the open transaction of each session, by its number
+--     transaction_in, number_in       that of a session, and its number
 --     holder, locked_by               the number of the transaction that holds an object, and of one of another session
-use Rattle.std.specs.Prelude.{ℕ, Bool, not, ◌&&◌, List, [], ◌∷◌, Option, Some, None, option_map, is_some, nat_eq}
-use Rattle.std.specs.List.{filter}
-use Rattle.std.specs.FinMap.{FinMap, empty, get, insert, remove, entries}
-use Rattle.std.specs.Ordering.{nat_cmp}
+--     with_begun, with_ended          a transaction that begins or ends; its holds go with it
+use Rattle.std.specs.Prelude.{ℕ, Bool, true, false, List, [], ◌∷◌, Option, Some, None, option_map, is_some, cond, replicate, slice_get, slice_set, unwrap_or}
+use Rattle.std.specs.FinMap.{get}
 use Rattle.wh_sessions.specs.Transaction.{Transaction, begun}
 
+-- sessions 1 to 64, each at the place of its number; none stands at 0
 abbrev pub Sessions : Type 0
-Sessions = FinMap nat_cmp Transaction
+Sessions = List (Option Transaction)
 
 -- as a file is opened
 abbrev pub no_sessions : Sessions
-no_sessions = empty
+no_sessions = replicate 65 None
 
--- None where no transaction is open
-abbrev pub number_of : Sessions → ℕ → Option ℕ
-number_of sessions session = option_map (λ t. t.number) (get sessions session)
+-- None where none is open
+abbrev pub transaction_in : Sessions → ℕ → Option Transaction
+transaction_in sessions session = unwrap_or (slice_get sessions session) None
+
+abbrev pub number_in : Sessions → ℕ → Option ℕ
+number_in sessions session = option_map (λ t. t.number) (transaction_in sessions session)
 
 -- ---- holds
 
-abbrev pub holds : ℕ → Transaction → Bool
-holds id t = is_some (get t.tables id)
+abbrev pub held_by : ℕ → Option Transaction → Option ℕ
+held_by id None = None
+held_by id (Some t) = cond (is_some (get t.tables id)) (Some t.number) None
 
-abbrev pub first_number : List (ℕ × Transaction) → Option ℕ
-first_number [] = None
-first_number (entry ∷ others) = Some entry.1.number
+abbrev pub or_later : Option ℕ → Option ℕ → Option ℕ
+or_later None later = later
+or_later (Some number) later = Some number
 
 -- the number of the transaction that holds the object of an id
-unfoldable pub holder : Sessions → ℕ → Option ℕ
-holder sessions id = first_number (filter (λ entry. holds id entry.1) (entries sessions))
+abbrev pub holder : Sessions → ℕ → Option ℕ
+holder [] id = None
+holder (one ∷ others) id = or_later (held_by id one) (holder others id)
 
--- the same of another session's
-unfoldable pub locked_by : Sessions → ℕ → ℕ → Option ℕ
-locked_by sessions session id =
-    first_number (filter (λ entry. not (nat_eq entry.0 session) && holds id entry.1) (entries sessions))
-
--- ---- transactions that begin and end; holds go with their transaction
-
-abbrev pub with_begun : Sessions → ℕ → ℕ → Sessions
-with_begun sessions session stamp = insert sessions session (begun stamp)
-
-abbrev pub with_ended : Sessions → ℕ → Sessions
-with_ended sessions session = remove sessions session
+-- ---- transactions that begin and end
 
 abbrev pub with_transaction : Sessions → ℕ → Transaction → Sessions
-with_transaction sessions session t = insert sessions session t
+with_transaction sessions session t = slice_set sessions session (Some t)
+
+abbrev pub with_begun : Sessions → ℕ → ℕ → Sessions
+with_begun sessions session stamp = with_transaction sessions session (begun stamp)
+
+abbrev pub with_ended : Sessions → ℕ → Sessions
+with_ended sessions session = slice_set sessions session None
+
+-- the number of another session's transaction that holds it
+abbrev pub locked_by : Sessions → ℕ → ℕ → Option ℕ
+locked_by sessions session id = holder (with_ended sessions session) id

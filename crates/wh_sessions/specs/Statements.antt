@@ -1,0 +1,118 @@
+-- The statements of a session, at the last stamp of the machine.
+--     begin, commit, rollback        transactions that begin and end
+--     defines                        CREATE and DROP, which stand outside of transactions
+--     changes_rows                   INSERT, UPDATE, DELETE and MERGE: staged in a transaction, or a commit of their own
+--     selects                        SELECT, of what its transaction sees
+use Rattle.std.specs.Prelude.{ℕ, List, [], ◌∷◌, Option, Some, None, option_map}
+use Rattle.wh_ast.specs.declared.dml.Dml.{Dml}
+use Rattle.wh_ast.specs.declared.query.Query as written
+use Rattle.wh_ast.specs.declared.query.Sort.{Sort}
+use Rattle.wh_naming.specs.Changes.{BoundChange, Change, bound_change}
+use Rattle.wh_reply.specs.Reply.{Refusal, DdlInTransaction, TransactionOpen, NoTransaction, TypeMismatch, Locked}
+use Rattle.wh_reply.specs.Reply.{NumberOutOfRange, AmbiguousMerge, Begun, Committed, CommittedNothing, RolledBack}
+use Rattle.wh_effect.specs.Effect as effects
+use Rattle.wh_effect.specs.Effect.{Effect, effect}
+use Rattle.wh_machine.specs.State.{Object, Table, id_of}
+use Rattle.wh_machine.specs.Outcome as tables
+use Rattle.wh_machine.specs.Outcome.{Act, first_of}
+use Rattle.wh_machine.specs.Tables.{table_at}
+use Rattle.wh_machine.specs.Queries.{names_from, instance_of, naming_refusal, select_rows}
+use Rattle.wh_machine.specs.Changes.{rows_seen, reply_to, edits_refusal, carried_over}
+use Rattle.wh_sessions.specs.Transaction.{Transaction, seen, staged, acts_of, commit_refusal, next_row_of}
+use Rattle.wh_sessions.specs.Sessions.{Sessions, transaction_in, number_in, holder, locked_by}
+use Rattle.wh_sessions.specs.Sessions.{with_transaction, with_begun, with_ended}
+use Rattle.wh_sessions.specs.Outcome.{Machine, Outcome, Refuses, Does, alone, unless, last_test}
+
+-- ---- BEGIN, COMMIT, ROLLBACK
+
+unfoldable pub begin : Machine → ℕ → Outcome
+begin m session = unless (option_map TransactionOpen (number_in m.sessions session))
+    (Does (Begun m.state.last) (with_begun m.sessions session m.state.last) None)
+
+abbrev pub committed : Machine → ℕ → Option (List Act) → Outcome
+committed m session None = Does CommittedNothing (with_ended m.sessions session) None
+committed m session (Some acts) = Does (Committed m.state.last) (with_ended m.sessions session) (Some acts)
+
+abbrev pub commit_of : Machine → ℕ → Option Transaction → Outcome
+commit_of m session None = Refuses NoTransaction
+commit_of m session (Some t) = unless (commit_refusal m.state.objects t) (committed m session (acts_of t))
+
+-- a commit that is refused leaves its transaction open
+unfoldable pub commit : Machine → ℕ → Outcome
+commit m session = commit_of m session (transaction_in m.sessions session)
+
+abbrev pub rollback_of : Machine → ℕ → Option Transaction → Outcome
+rollback_of m session None = Refuses NoTransaction
+rollback_of m session (Some t) = Does RolledBack (with_ended m.sessions session) None
+
+unfoldable pub rollback : Machine → ℕ → Outcome
+rollback m session = rollback_of m session (transaction_in m.sessions session)
+
+-- ---- CREATE and DROP
+
+abbrev pub holder_of : Sessions → Option ℕ → Option ℕ
+holder_of sessions None = None
+holder_of sessions (Some id) = holder sessions id
+
+-- `old` is the object that is dropped or replaced, if there is one; that nobody holds it is tested last
+unfoldable pub defines : Machine → ℕ → Option ℕ → tables.Outcome → Outcome
+defines m session old outcome = unless (option_map DdlInTransaction (number_in m.sessions session))
+    (last_test (option_map Locked (holder_of m.sessions old)) (alone m.sessions outcome))
+
+-- ---- INSERT, UPDATE, DELETE, MERGE
+
+-- what a change comes to before its numbers are tested
+pub data Changed : Type 0 where
+  Fails : Refusal → Changed
+  Gives : (id : ℕ) → Change → Effect → Changed
+
+abbrev pub given : ℕ → Change → effects.Outcome → Changed
+given id change effects.Undefined = Fails NumberOutOfRange
+given id change (effects.Ambiguous row) = Fails (AmbiguousMerge row)
+given id change (effects.Does e) = Gives id change e
+
+-- a target that nothing is found wrong with is a table
+abbrev pub given_on : List Object → BoundChange → Option Table → Changed
+given_on objects b None = Fails TypeMismatch
+given_on objects b (Some t) = given b.target b.change (effect b.change (rows_seen t) (instance_of objects b.sources))
+
+abbrev pub fails_or : Option Refusal → Changed → Changed
+fails_or (Some why) changed = Fails why
+fails_or None changed = changed
+
+abbrev pub change_refusal : Machine → ℕ → BoundChange → Option Refusal
+change_refusal m session b = first_of (
+    naming_refusal b.findings b.is_wide
+    ∷ option_map Locked (locked_by m.sessions session b.target)
+    ∷ [])
+
+-- names and types first, then that no other transaction holds the target, and then its evaluation on what is seen
+abbrev pub bound_changed : Machine → ℕ → List Object → BoundChange → Changed
+bound_changed m session objects b =
+    fails_or (change_refusal m session b) (given_on objects b (table_at objects b.target))
+
+unfoldable pub changed : Machine → ℕ → Dml → Changed
+changed m session statement = bound_changed m session
+    (seen m.state (transaction_in m.sessions session)).objects (bound_change (names_from 1 m.state.objects) statement)
+
+abbrev pub numbered_change : ℕ → Change → Effect → Option Table → tables.Outcome
+numbered_change id change e None = tables.Refuses TypeMismatch
+numbered_change id change e (Some t) = tables.unless (edits_refusal t e) (carried_over id change e)
+
+-- in a transaction it is staged, and its numbers are tested by COMMIT; outside it is a transaction of its own
+abbrev pub changes_in : Machine → ℕ → Option Transaction → Changed → Outcome
+changes_in m session t (Fails why) = Refuses why
+changes_in m session None (Gives id change e) =
+    alone m.sessions (numbered_change id change e (table_at m.state.objects id))
+changes_in m session (Some t) (Gives id change e) = Does (reply_to change e)
+    (with_transaction m.sessions session (staged t id (next_row_of (table_at m.state.objects id)) e)) None
+
+unfoldable pub changes_rows : Machine → ℕ → Dml → Outcome
+changes_rows m session statement =
+    changes_in m session (transaction_in m.sessions session) (changed m session statement)
+
+-- ---- SELECT
+
+unfoldable pub selects : Machine → ℕ → written.Query → List Sort → Outcome
+selects m session query sorts =
+    alone m.sessions (select_rows (seen m.state (transaction_in m.sessions session)) query sorts)
