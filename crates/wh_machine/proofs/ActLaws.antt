@@ -3,18 +3,18 @@
 --     act_meant                   one act, over a table whose partitions are orderly
 --     IsOfOneStatement            the acts that a statement may come to
 --     acts_meant, written_meant   these, and their commit
-use Rattle.std.proofs.Common.{◌≡◌, ℕ, ◌+◌, List, [], ◌∷◌, ◌++◌, length, map, Option, Some, None, option_map, refl, sym, ap, ◌∙◌}
+use Rattle.std.proofs.Common.{◌≡◌, ℕ, suc, ◌+◌, ◌<◌, ◌≤◌, List, [], ◌∷◌, ◌++◌, length, map, Option, Some, None, option_map}
+use Rattle.std.proofs.Common.{refl, sym, ap, subst, ◌∙◌, arith}
 use Rattle.std.proofs.lemmas.List.{map-append}
-use Rattle.wh_machine.specs.State.{Rows, Contents, nothing_held, Version, Table, Object, at_id, with_id, put_at, dropped, last_content, version_at}
+use Rattle.wh_machine.specs.State.{Rows, Contents, nothing_held, Version, Table, Object, at_id, with_id, put_at, dropped, last_content, version_at, stamped}
 use Rattle.wh_machine.specs.Edits.{Edits, numbers_gone, partitions_made, without, contents_after}
 use Rattle.wh_machine.specs.Outcome.{Act, MakesTable, DropsObject, EditsRows, edited_table, edited_object, acted, all_acted, done}
-use Rattle.wh_machine.specs.Step.{stamped}
 use Rattle.wh_machine.specs.Stored.{StoredTable, StoredKind, StoredTableKind, StoredObject, Stored, standing, contents_meant, version_meant, table_meant, object_meant, meant}
 use Rattle.wh_machine.specs.Commit.{Change, TableChange, VersionChange, CreatesTable, Drops, pushed, pushed_object, changed, all_changed, applied}
 use Rattle.wh_machine.specs.Orderly.{IsOrderly, IsOrderlyKind, IsOrderlyObject, IsOrderlyStored}
 use Rattle.wh_machine.specs.Written.{version_written, version_written_to, act_written, written, commit_for}
 use Rattle.wh_machine.proofs.AllLaws.{all_at}
-use Rattle.wh_machine.proofs.IdLaws.{map_changed}
+use Rattle.wh_machine.proofs.IdLaws.{map_changed, at_other}
 use Rattle.wh_machine.proofs.EditLaws.{edits_written}
 use Rattle.wh_machine.proofs.MeaningLaws.{at_id_meant, with_id_meant, last_content_meant}
 
@@ -126,22 +126,22 @@ act_meant stamp objects (EditsRows id e) orderly =
     by_found None none orderly = refl
     by_found (Some o) there orderly = by_kind o o.kind there refl orderly
 
-orderly_for : (s : Stored) (act : Act) → IsOrderlyStored s → OrderlyFor s.objects act
-orderly_for s (MakesTable name columns retention) orderly = tt
-orderly_for s (DropsObject id) orderly = tt
-orderly_for s (EditsRows id e) orderly = by_found (at_id s.objects id) refl
-  where
-    by_found : (found : Option StoredObject) → at_id s.objects id ≡ found → OrderlyAt found
-    by_found None none = tt
-    by_found (Some o) there = all_at IsOrderlyObject s.objects id o orderly there
-
 -- ---- the acts of a statement
 
--- none, one, or a drop with a new table
+-- edits of tables by rising ids, from that id on
+abbrev pub AreEditsFrom : ℕ → List Act → Type 0
+AreEditsFrom least [] = Unit {0}
+AreEditsFrom least (MakesTable name columns retention ∷ acts) = ⊥
+AreEditsFrom least (DropsObject id ∷ acts) = ⊥
+AreEditsFrom least (EditsRows id e ∷ acts) = (least ≤ id) × AreEditsFrom (suc id) acts
+
+-- none, one, a drop with a new table, or edits of several tables
 abbrev pub IsOfOneStatement : List Act → Type 0
 IsOfOneStatement [] = Unit {0}
-IsOfOneStatement (act ∷ []) = Unit {0}
+IsOfOneStatement (MakesTable name columns retention ∷ []) = Unit {0}
+IsOfOneStatement (DropsObject id ∷ []) = Unit {0}
 IsOfOneStatement (DropsObject id ∷ MakesTable name columns retention ∷ []) = Unit {0}
+IsOfOneStatement (EditsRows id e ∷ acts) = AreEditsFrom (suc id) acts
 IsOfOneStatement _ = ⊥
 
 pub all_changed_append : (stamp : ℕ) (objects : List StoredObject) (cs ds : List Change)
@@ -151,22 +151,65 @@ all_changed_append stamp objects (c ∷ cs) ds = all_changed_append stamp (chang
 
 -- an act, and then others
 more_meant : (stamp : ℕ) (objects : List StoredObject) (act : Act) (acts : List Act) → OrderlyFor objects act
-    → ((first : List StoredObject) → map object_meant (all_changed stamp first (written stamp first acts)) ≡ all_acted stamp (map object_meant first) acts)
-    → map object_meant (all_changed stamp objects (written stamp objects (act ∷ acts))) ≡ all_acted stamp (map object_meant objects) (act ∷ acts)
+    → ((first : List StoredObject) → first ≡ all_changed stamp objects (act_written stamp objects act)
+    → map object_meant (all_changed stamp first (written stamp first acts)) ≡ all_acted stamp (map object_meant first) acts)
+    → map object_meant (all_changed stamp objects (written stamp objects (act ∷ acts)))
+    ≡ all_acted stamp (map object_meant objects) (act ∷ acts)
 more_meant stamp objects act acts orderly rest =
     let first : List StoredObject = all_changed stamp objects (act_written stamp objects act) in
     ap (map object_meant) (all_changed_append stamp objects (act_written stamp objects act) (written stamp first acts))
-    ∙ rest first ∙ ap (λ (l : List Object). all_acted stamp l acts) (act_meant stamp objects act orderly)
+    ∙ rest first refl ∙ ap (λ (l : List Object). all_acted stamp l acts) (act_meant stamp objects act orderly)
+
+-- what is written for the edits of a table leaves what stands behind it
+pub edit_leaves : (stamp id : ℕ) (e : Edits) (objects : List StoredObject) (later : ℕ) → id < later
+    → at_id (all_changed stamp objects (act_written stamp objects (EditsRows id e))) later ≡ at_id objects later
+unfolding changed
+edit_leaves stamp id e objects later h = by_found (at_id objects id)
+  where
+    by_kind : (o : StoredObject) (k : StoredKind)
+        → at_id (all_changed stamp objects (version_written_to stamp id e (Some (record o { kind = k })))) later
+        ≡ at_id objects later
+    by_kind o (StoredTableKind t) = at_other (pushed_object stamp (version_change stamp id e t)) objects id later h
+
+    by_found : (found : Option StoredObject)
+        → at_id (all_changed stamp objects (version_written_to stamp id e found)) later ≡ at_id objects later
+    by_found None = refl
+    by_found (Some o) = by_kind o o.kind
+
+abbrev pub OrderlyFrom : ℕ → List StoredObject → Type 0
+OrderlyFrom least objects = (id : ℕ) → least ≤ id → OrderlyAt (at_id objects id)
+
+edits_all_meant : (stamp least : ℕ) (objects : List StoredObject) (acts : List Act) → AreEditsFrom least acts
+    → OrderlyFrom least objects
+    → map object_meant (all_changed stamp objects (written stamp objects acts)) ≡ all_acted stamp (map object_meant objects) acts
+edits_all_meant stamp least objects [] rising orderly = refl
+edits_all_meant stamp least objects (MakesTable name columns retention ∷ acts) rising orderly = absurd rising
+edits_all_meant stamp least objects (DropsObject id ∷ acts) rising orderly = absurd rising
+edits_all_meant stamp least objects (EditsRows id e ∷ acts) rising orderly =
+    more_meant stamp objects (EditsRows id e) acts (orderly id rising.0) (λ first is.
+    edits_all_meant stamp (suc id) first acts rising.1 (λ later h.
+    subst OrderlyAt (sym (ap (λ (l : List StoredObject). at_id l later) is ∙ edit_leaves stamp id e objects later (omega arith)))
+    (orderly later (omega (arith, rising.0)))))
+
+orderly_from : (s : Stored) → IsOrderlyStored s → OrderlyFrom 0 s.objects
+orderly_from s orderly id h = by_found (at_id s.objects id) refl
+  where
+    by_found : (found : Option StoredObject) → at_id s.objects id ≡ found → OrderlyAt found
+    by_found None none = tt
+    by_found (Some o) there = all_at IsOrderlyObject s.objects id o orderly there
 
 pub acts_meant : (s : Stored) (stamp : ℕ) (acts : List Act) → IsOfOneStatement acts → IsOrderlyStored s
     → map object_meant (all_changed stamp s.objects (written stamp s.objects acts)) ≡ all_acted stamp (map object_meant s.objects) acts
 acts_meant s stamp [] shape orderly = refl
-acts_meant s stamp (act ∷ []) shape orderly = more_meant stamp s.objects act [] (orderly_for s act orderly) (λ first. refl)
+acts_meant s stamp (MakesTable n c r ∷ []) shape orderly =
+    more_meant stamp s.objects (MakesTable n c r) [] tt (λ first is. refl)
+acts_meant s stamp (DropsObject id ∷ []) shape orderly = more_meant stamp s.objects (DropsObject id) [] tt (λ first is. refl)
 acts_meant s stamp (DropsObject id ∷ MakesTable name columns retention ∷ []) shape orderly =
     more_meant stamp s.objects (DropsObject id) (MakesTable name columns retention ∷ []) tt
-    (λ first. more_meant stamp first (MakesTable name columns retention) [] tt (λ second. refl))
+    (λ first is. more_meant stamp first (MakesTable name columns retention) [] tt (λ second at. refl))
+acts_meant s stamp (EditsRows id e ∷ acts) shape orderly =
+    edits_all_meant stamp 0 s.objects (EditsRows id e ∷ acts) (omega arith, shape) (orderly_from s orderly)
 acts_meant s stamp (MakesTable n c r ∷ act ∷ acts) shape orderly = absurd shape
-acts_meant s stamp (EditsRows id e ∷ act ∷ acts) shape orderly = absurd shape
 acts_meant s stamp (DropsObject id ∷ DropsObject other ∷ acts) shape orderly = absurd shape
 acts_meant s stamp (DropsObject id ∷ EditsRows other e ∷ acts) shape orderly = absurd shape
 acts_meant s stamp (DropsObject id ∷ MakesTable n c r ∷ act ∷ acts) shape orderly = absurd shape

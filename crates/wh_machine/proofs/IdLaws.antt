@@ -1,9 +1,11 @@
 -- Lists by ids and names, where each element is looked at through a function.
 --     map_at, map_with, map_put         what stands at an id, and another value there
 --     map_changed                       what stands there is changed
+--     at_other                          what stands at an id behind it stays
 --     map_last, last_more               the last element
 --     map_position, map_count           the first that passes a test, and how many pass
-use Rattle.std.proofs.Common.{◌≡◌, ℕ, zero, suc, ◌+◌, Bool, cond, List, [], ◌∷◌, ◌++◌, map, Option, Some, None, option_map, refl, sym, ap, ◌∙◌}
+use Rattle.std.proofs.Common.{◌≡◌, ℕ, zero, suc, ◌+◌, ◌<◌, Bool, cond, List, [], ◌∷◌, ◌++◌, map}
+use Rattle.std.proofs.Common.{Option, Some, None, option_map, refl, sym, ap, ◌∙◌, arith}
 use Rattle.std.specs.Prelude.{slice_get, slice_set, not, fold, count_by}
 use Rattle.std.specs.List.{position, prefix_len}
 use Rattle.std.proofs.lemmas.List.{length-map}
@@ -42,6 +44,27 @@ map_changed f g h same xs id =
     through : (found : Option _) → option_map f (option_map g found) ≡ option_map h (option_map f found)
     through None = refl
     through (Some x) = ap Some (same x)
+
+-- what stands at a later place
+get_other : {X : Type 0} (xs : List X) (place later : ℕ) (x : X) → place < later
+    → slice_get (slice_set xs place x) later ≡ slice_get xs later
+get_other [] place later x h = refl
+get_other (y ∷ ys) zero zero x h = absurd (omega arith)
+get_other (y ∷ ys) zero (suc later) x h = refl
+get_other (y ∷ ys) (suc place) zero x h = absurd (omega arith)
+get_other (y ∷ ys) (suc place) (suc later) x h = get_other ys place later x (omega arith)
+
+with_other : {X : Type 0} (xs : List X) (id later : ℕ) (x : X) → id < later → at_id (with_id xs id x) later ≡ at_id xs later
+with_other xs zero later x h = refl
+with_other xs (suc place) zero x h = absurd (omega arith)
+with_other xs (suc place) (suc later) x h = get_other xs place later x (omega arith)
+
+pub at_other : {X : Type 0} (f : X → X) (xs : List X) (id later : ℕ) → id < later → at_id (changed_at xs id f) later ≡ at_id xs later
+at_other f xs id later h = by_found (at_id xs id)
+  where
+    by_found : (found : Option _) → at_id (put_at xs id (option_map f found)) later ≡ at_id xs later
+    by_found None = refl
+    by_found (Some x) = with_other xs id later (f x) h
 
 -- ---- the last element
 

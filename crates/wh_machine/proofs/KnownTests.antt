@@ -4,30 +4,21 @@ use Rattle.std.specs.Prelude.{codes}
 use Rattle.std.specs.Fmt.{digits}
 use Rattle.std.specs.FinMap.{empty, insert}
 use Rattle.wh_value.specs.Value.{Number, Text, Null, Row}
-use Rattle.wh_value.specs.declared.value.Value.TheVariants as v
-use Rattle.wh_ast.specs.declared.dml.Dml.{Dml}
-use Rattle.wh_ast.specs.declared.dml.Dml.TheVariants as dml
-use Rattle.wh_ast.specs.declared.dml.Rows.TheVariants as rows
-use Rattle.wh_ast.specs.declared.expr.Expr.{Expr, roll-Expr}
-use Rattle.wh_ast.specs.declared.expr.Expr.TheOpen.{Expr-F}
 use Rattle.wh_value.specs.Column.{Column, NumberType}
 use Rattle.wh_value.specs.declared.limit.Limit.TheVariants as limits
-use Rattle.wh_meaning.specs.Scalar.{Const, val}
-use Rattle.wh_meaning.specs.Query.{Scan, values_on}
+use Rattle.wh_meaning.specs.Scalar.{Const}
+use Rattle.wh_meaning.specs.Query.{Scan}
 use Rattle.wh_naming.specs.Findings.{nothing_found, mistyped_if, first_failing}
-use Rattle.wh_naming.specs.Typing as typing
-use Rattle.wh_naming.specs.Changes.{InsertRows, Update, Delete, Merge, bound_change}
+use Rattle.wh_naming.specs.Changes.{InsertRows, Update, Delete, Merge}
 use Rattle.wh_effect.specs.Effect as effects
-use Rattle.wh_effect.specs.Effect.{Effect, effect}
+use Rattle.wh_effect.specs.Effect.{Effect}
 use Rattle.wh_reply.specs.Reply.{NameTaken, TypeMismatch, OverLimit, NumberOutOfRange, AmbiguousMerge, Inserted, Updated, Deleted, Merged, refusal_text}
 use Rattle.wh_machine.specs.State.{State, Table, TableKind, Object, first_state, nothing_held, new_table, id_of}
 use Rattle.wh_machine.specs.Edits.{edits_of, partitions_made}
 use Rattle.wh_machine.specs.Outcome.{Refuses, EditsRows, answers, commits}
-use Rattle.wh_machine.specs.Tables.{table_refusal, create_table}
+use Rattle.wh_machine.specs.Tables.{table_refusal}
 use Rattle.wh_machine.specs.Queries.{naming_refusal}
-use Rattle.wh_machine.specs.Changes.{edits_refusal, reply_to, settled_effect, change_rows}
-use Rattle.wh_machine.specs.Step.{step, commanded, carried_out}
-use Rattle.wh_machine.proofs.KnownFacts.{table_t, number, asked, literal_typed}
+use Rattle.wh_machine.specs.Changes.{Fails, Gives, given, edits_refusal, reply_to, settled_effect}
 
 -- ---- CREATE TABLE
 
@@ -117,14 +108,19 @@ numbers_tested : (edits_refusal (next_at 4611686018427387904 4611686018427387904
 unfolding edits_refusal partitions_made edits_of
 numbers_tested = (refl, refl, refl, refl)
 
--- undefined and ambiguous changes, one that is past a limit, one in which no row counts, and one that makes a commit
-settled_as : (settled_effect 1 (InsertRows []) (next_at 1 1) effects.Undefined ≡ Refuses NumberOutOfRange)
-    × (settled_effect 1 (InsertRows []) (next_at 1 1) (effects.Ambiguous (Null ∷ [])) ≡ Refuses (AmbiguousMerge (Null ∷ [])))
-    × (settled_effect 1 (InsertRows []) (next_at 4611686018427387904 1) (effects.Does (adding one)) ≡ Refuses (OverLimit limits.RowNumber))
-    × (settled_effect 1 (InsertRows []) (next_at 1 1) (effects.Does (adding [])) ≡ answers (Inserted 0))
-    × (settled_effect 7 (InsertRows []) (next_at 1 1) (effects.Does (adding one)) ≡ commits (Inserted 1) (EditsRows 7 (record { rows = empty; added = one }) ∷ []))
+-- undefined and ambiguous changes, and one that does something
+given_as : (given 1 (InsertRows []) effects.Undefined ≡ Fails NumberOutOfRange)
+    × (given 1 (InsertRows []) (effects.Ambiguous (Null ∷ [])) ≡ Fails (AmbiguousMerge (Null ∷ [])))
+    × (given 1 (InsertRows []) (effects.Does (adding [])) ≡ Gives 1 (InsertRows []) (adding []))
+given_as = (refl, refl, refl)
+
+-- one that is past a limit, one in which no row counts, and one that makes a commit
+settled_as : (settled_effect 1 (InsertRows []) (adding one) (Some (next_at 4611686018427387904 1)) ≡ Refuses (OverLimit limits.RowNumber))
+    × (settled_effect 1 (InsertRows []) (adding []) (Some (next_at 1 1)) ≡ answers (Inserted 0))
+    × (settled_effect 7 (InsertRows []) (adding one) (Some (next_at 1 1))
+    ≡ commits (Inserted 1) (EditsRows 7 (record { rows = empty; added = one }) ∷ []))
 unfolding edits_refusal partitions_made edits_of
-settled_as = (refl, refl, refl, refl, refl)
+settled_as = (refl, refl, refl)
 
 -- two rows go, one is changed and one comes
 abbrev of_all : Effect
@@ -137,27 +133,6 @@ counts_told = (refl, refl, refl, refl)
 edits_are : edits_of of_all ≡ record { rows = insert (insert (insert empty 4 None) 5 None) 6 (Some (Null ∷ [])); added = one }
 unfolding edits_of
 edits_are = refl
-
--- T with one column of numbers, as it is created
-abbrev created : State
-created = (step first_state (asked table_t)).0
-
-abbrev insertion_of : List (List Expr) → Dml
-insertion_of found = dml.Insert (codes "T") None (rows.Values found)
-
-abbrev null : Expr
-null = roll-Expr (Expr-F.Const v.Null)
-
-abbrev text_one : Expr
-text_one = roll-Expr (Expr-F.Const (v.Text (codes "1")))
-
--- it takes one value for each column, of its type or NULL
-rows_fit : (change_rows created (insertion_of ((null ∷ []) ∷ (number 1 ∷ []) ∷ []))
-    ≡ commits (Inserted 2) (EditsRows 1 (record { rows = empty; added = (Null ∷ []) ∷ (Number (pos 1) ∷ []) ∷ [] }) ∷ []))
-    × (change_rows created (insertion_of ((null ∷ null ∷ []) ∷ [])) ≡ Refuses TypeMismatch) × (change_rows created (insertion_of ([] ∷ [])) ≡ Refuses TypeMismatch)
-    × (change_rows created (insertion_of ((null ∷ []) ∷ (text_one ∷ []) ∷ [])) ≡ Refuses TypeMismatch)
-unfolding step commanded carried_out create_table table_refusal change_rows bound_change first_failing typing.step effect values_on val edits_refusal partitions_made edits_of
-rows_fit = (simp literal_typed, simp literal_typed, refl, simp literal_typed)
 
 -- ---- limits as they are told
 

@@ -7,13 +7,9 @@ pub mod VersionLaws
 pub mod MeaningLaws
 pub mod ActLaws
 pub mod OrderlyLaws
-pub mod OutcomeLaws
-pub mod StepLaws
 pub mod SoundLaws
-pub mod ReplyLaws
 pub mod KnownFacts
 pub mod KnownTests
 pub mod KnownCommits
-pub mod KnownStops
 pub mod KnownEdits
 pub mod KnownChanges

@@ -1,23 +1,22 @@
 -- What is sound stays so.
 --     sound_first                  the first state is sound
 --     sound_rest                   so is a sound state as the file keeps it
---     sound_done, sound_replaced   a commit of one act at a later stamp, and one of a drop and a new table
---     sound_step, sound_after      an event, and a run of them
-use Rattle.std.proofs.Common.{◌≡◌, ℕ, ◌+◌, ◌<◌, ◌≤◌, ◌⊎◌, inl, inr, Bool, true, false, List, [], ◌∷◌, length, Option, Some, None, refl, arith}
+--     sound_done                   a commit of the acts of a statement at a later stamp
+use Rattle.std.proofs.Common.{◌≡◌, ℕ, suc, ◌+◌, ◌<◌, ◌≤◌, ◌⊎◌, inl, inr, List, [], ◌∷◌, length}
+use Rattle.std.proofs.Common.{Option, Some, None, option_map, refl, sym, subst, arith}
 use Rattle.std.specs.List.{AllByRecursion}
 use Rattle.std.specs.FinMap.{get}
 use Rattle.std.proofs.lemmas.Bool.{cases_lt}
 use Rattle.wh_value.specs.Value.{Row}
 use Rattle.wh_value.specs.Column.{Column}
-use Rattle.wh_machine.specs.State.{Version, Table, Kind, TableKind, Object, State, nothing_held, new_table, new_object, dropped, version_at, last_rows, first_state, at_rest}
+use Rattle.wh_machine.specs.State.{Version, Table, Kind, TableKind, Object, State, nothing_held, new_table, new_object, dropped, version_at, last_rows, first_state, at_rest, at_id, put_at}
 use Rattle.wh_machine.specs.Edits.{Edits}
-use Rattle.wh_machine.specs.Outcome.{Act, MakesTable, DropsObject, EditsRows, Outcome, next_contents, edited_table, edited_kind, edited_object, acted, all_acted, done, settled}
-use Rattle.wh_machine.specs.Step.{Event, reading_of, stamp_of, stamped, has_stamp, step, after}
+use Rattle.wh_machine.specs.Outcome.{Act, MakesTable, DropsObject, EditsRows, next_contents, edited_table, edited_kind, edited_object, acted, all_acted, done}
 use Rattle.wh_machine.specs.Sound.{IsTimely, IsBelow, IsSoundTable, IsSoundKind, IsSoundObject, Sound}
-use Rattle.wh_machine.proofs.AllLaws.{all_map, all_more, all_changed_at}
+use Rattle.wh_machine.proofs.AllLaws.{all_map, all_more, all_at, all_with, all_changed_at}
+use Rattle.wh_machine.proofs.IdLaws.{at_other}
+use Rattle.wh_machine.proofs.ActLaws.{AreEditsFrom, IsOfOneStatement}
 use Rattle.wh_machine.proofs.VersionLaws.{still_lacks, empty_lacks, last_below, rise_more, none_more}
-use Rattle.wh_machine.proofs.OutcomeLaws.{HoldsOfEach, outcome_of_event}
-use Rattle.wh_machine.proofs.StepLaws.{step_at, stamp_refused}
 
 -- ---- tables
 
@@ -111,13 +110,65 @@ acted_sound committed stamp later objects sound (EditsRows id e) =
     all_changed_at (IsSoundObject committed) (IsSoundObject stamp) (edited_object stamp e) (object_later committed stamp (omega arith))
     (edited_object_sound committed stamp e later) objects id sound
 
--- a drop, and a new table at the same stamp
-replaced_sound : (committed stamp : ℕ) → committed < stamp → (objects : List Object) → AllByRecursion (IsSoundObject committed) objects
-    → (id : ℕ) (name : List ℕ) (columns : List Column) (retention : ℕ)
-    → AllByRecursion (IsSoundObject stamp) (all_acted stamp objects (DropsObject id ∷ MakesTable name columns retention ∷ []))
-replaced_sound committed stamp later objects sound id name columns retention =
-    all_more (IsSoundObject stamp) (acted stamp objects (DropsObject id)) _ (acted_sound committed stamp later objects sound (DropsObject id))
-    (new_object_sound name columns retention stamp)
+-- ---- the acts of a statement
+
+-- what stands at an id was sound before
+abbrev SoundAt : ℕ → Option Object → Type 0
+SoundAt committed None = Unit {0}
+SoundAt committed (Some o) = IsSoundObject committed o
+
+abbrev SoundFrom : ℕ → ℕ → List Object → Type 0
+SoundFrom committed least objects = (id : ℕ) → least ≤ id → SoundAt committed (at_id objects id)
+
+sound_from : (committed : ℕ) (objects : List Object) → AllByRecursion (IsSoundObject committed) objects → SoundFrom committed 0 objects
+sound_from committed objects sound id h = by_found (at_id objects id) refl
+  where
+    by_found : (found : Option Object) → at_id objects id ≡ found → SoundAt committed found
+    by_found None none = tt
+    by_found (Some o) there = all_at (IsSoundObject committed) objects id o sound there
+
+edit_sound : (committed stamp id : ℕ) (e : Edits) → committed < stamp → (objects : List Object)
+    → AllByRecursion (IsSoundObject stamp) objects → SoundAt committed (at_id objects id)
+    → AllByRecursion (IsSoundObject stamp) (acted stamp objects (EditsRows id e))
+edit_sound committed stamp id e later objects sound here = by_found (at_id objects id) here
+  where
+    by_found : (found : Option Object) → SoundAt committed found
+        → AllByRecursion (IsSoundObject stamp) (put_at objects id (option_map (edited_object stamp e) found))
+    by_found None here = sound
+    by_found (Some o) here =
+        all_with (IsSoundObject stamp) objects id (edited_object stamp e o) sound (edited_object_sound committed stamp e later o here)
+
+edits_sound : (committed stamp least : ℕ) → committed < stamp → (objects : List Object) (acts : List Act) → AreEditsFrom least acts
+    → AllByRecursion (IsSoundObject stamp) objects → SoundFrom committed least objects
+    → AllByRecursion (IsSoundObject stamp) (all_acted stamp objects acts)
+edits_sound committed stamp least later objects [] rising sound before = sound
+edits_sound committed stamp least later objects (MakesTable n c r ∷ acts) rising sound before = absurd rising
+edits_sound committed stamp least later objects (DropsObject id ∷ acts) rising sound before = absurd rising
+edits_sound committed stamp least later objects (EditsRows id e ∷ acts) rising sound before =
+    edits_sound committed stamp (suc id) later (acted stamp objects (EditsRows id e)) acts rising.1
+    (edit_sound committed stamp id e later objects sound (before id rising.0))
+    (λ other h. subst (SoundAt committed) (sym (at_other (edited_object stamp e) objects id other (omega arith)))
+    (before other (omega (arith, rising.0))))
+
+acts_sound : (committed stamp : ℕ) → committed < stamp → (objects : List Object) → AllByRecursion (IsSoundObject committed) objects
+    → (acts : List Act) → IsOfOneStatement acts → AllByRecursion (IsSoundObject stamp) (all_acted stamp objects acts)
+acts_sound committed stamp later objects sound [] shape =
+    all_map (IsSoundObject committed) (IsSoundObject stamp) (object_later committed stamp (omega arith)) objects sound
+acts_sound committed stamp later objects sound (MakesTable n c r ∷ []) shape =
+    acted_sound committed stamp later objects sound (MakesTable n c r)
+acts_sound committed stamp later objects sound (DropsObject id ∷ []) shape =
+    acted_sound committed stamp later objects sound (DropsObject id)
+acts_sound committed stamp later objects sound (DropsObject id ∷ MakesTable n c r ∷ []) shape =
+    all_more (IsSoundObject stamp) (acted stamp objects (DropsObject id)) _
+    (acted_sound committed stamp later objects sound (DropsObject id)) (new_object_sound n c r stamp)
+acts_sound committed stamp later objects sound (EditsRows id e ∷ acts) shape =
+    edits_sound committed stamp 0 later objects (EditsRows id e ∷ acts) (omega arith, shape)
+    (all_map (IsSoundObject committed) (IsSoundObject stamp) (object_later committed stamp (omega arith)) objects sound)
+    (sound_from committed objects sound)
+acts_sound committed stamp later objects sound (MakesTable n c r ∷ act ∷ acts) shape = absurd shape
+acts_sound committed stamp later objects sound (DropsObject id ∷ DropsObject other ∷ acts) shape = absurd shape
+acts_sound committed stamp later objects sound (DropsObject id ∷ EditsRows other e ∷ acts) shape = absurd shape
+acts_sound committed stamp later objects sound (DropsObject id ∷ MakesTable n c r ∷ act ∷ acts) shape = absurd shape
 
 -- ---- states
 
@@ -129,39 +180,7 @@ sound_first = record { ordered = omega arith; objects = tt }
 pub sound_rest : (s : State) → Sound s → Sound (at_rest s)
 sound_rest s sound = record { ordered = omega arith; objects = sound.objects }
 
--- a commit of one act at a stamp past the last commit
-pub sound_done : (s : State) → s.committed < s.last → Sound s → (act : Act) → Sound (done s (act ∷ []))
-sound_done s later sound act = record { ordered = omega arith; objects = acted_sound s.committed s.last later s.objects sound.objects act }
-
--- a commit of a drop and a new table
-pub sound_replaced : (s : State) → s.committed < s.last → Sound s → (id : ℕ) (name : List ℕ) (columns : List Column) (retention : ℕ)
-    → Sound (done s (DropsObject id ∷ MakesTable name columns retention ∷ []))
-sound_replaced s later sound id name columns retention =
-    record { ordered = omega arith; objects = replaced_sound s.committed s.last later s.objects sound.objects id name columns retention }
-
-abbrev SettlesSound : State → Outcome → Type 0
-SettlesSound s o = Sound (settled s o).0
-
-settles_sound : (s : State) → s.committed < s.last → Sound s → HoldsOfEach (SettlesSound s)
-settles_sound s later sound = record {
-  refusal = λ why. sound;
-  answer = λ reply accepted. sound;
-  commit = λ reply act accepted. sound_done s later sound act;
-  replacement = λ reply id name columns retention accepted. sound_replaced s later sound id name columns retention;
-}
-
--- an event
-pub sound_step : (s : State) (e : Event) → Sound s → Sound (step s e).0
-sound_step s e sound = by_stamp (has_stamp s e) refl
-  where
-    by_stamp : (has : Bool) → has_stamp s e ≡ has → Sound (step s e).0
-    by_stamp true is =
-        let new : State = stamped s (stamp_of s (reading_of e)) in
-        let still : Sound new = record { ordered = omega (arith, sound.ordered); objects = sound.objects } in
-        rw (step_at s e is) (outcome_of_event (SettlesSound new) (settles_sound new (omega (arith, sound.ordered)) still) new e)
-    by_stamp false is = rw (stamp_refused s e is) sound
-
--- a run of events
-pub sound_after : (s : State) (es : List Event) → Sound s → Sound (after s es)
-sound_after s [] sound = sound
-sound_after s (e ∷ es) sound = sound_after (step s e).0 es (sound_step s e sound)
+-- a commit of the acts of a statement at a stamp past the last commit
+pub sound_done : (s : State) → s.committed < s.last → Sound s → (acts : List Act) → IsOfOneStatement acts → Sound (done s acts)
+sound_done s later sound acts shape =
+    record { ordered = omega arith; objects = acts_sound s.committed s.last later s.objects sound.objects acts shape }

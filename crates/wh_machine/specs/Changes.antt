@@ -1,20 +1,19 @@
 -- Changing statements: INSERT, UPDATE, DELETE and MERGE.
---     change_rows      the outcome: a new version of the target where a row counts, else no commit
---     rows_seen        the rows of a table by rising number
+--     rows_seen          the rows of a table by rising number
+--     Changed            what a change comes to before its numbers are tested: a refusal, or its effect on a table
+--     settled_effect     an effect as a commit of its own: a new version of the target where a row counts
 use Rattle.std.specs.Prelude.{ℕ, ◌+◌, if◌then◌else◌, List, [], ◌∷◌, length, map, Option, Some, None, nat_lt}
 use Rattle.std.specs.FinMap.{entries}
 use Rattle.wh_value.specs.Value.{Row}
 use Rattle.wh_value.specs.declared.limit.Limit.TheVariants as limits
-use Rattle.wh_ast.specs.declared.dml.Dml.{Dml}
-use Rattle.wh_naming.specs.Changes.{BoundChange, Change, InsertRows, InsertQuery, Update, Delete, Merge, bound_change}
+use Rattle.wh_naming.specs.Changes.{BoundChange, Change, InsertRows, InsertQuery, Update, Delete, Merge}
 use Rattle.wh_reply.specs.Reply.{Refusal, Reply, TypeMismatch, NumberOutOfRange, AmbiguousMerge, Inserted, Updated, Deleted, Merged}
 use Rattle.wh_effect.specs.Effect as effects
 use Rattle.wh_effect.specs.Effect.{Kept, Effect, effect}
-use Rattle.wh_machine.specs.State.{State, Object, Table, last_rows}
+use Rattle.wh_machine.specs.State.{Object, Table, last_rows}
 use Rattle.wh_machine.specs.Edits.{edits_of}
 use Rattle.wh_machine.specs.Outcome.{Outcome, Refuses, EditsRows, answers, commits, refused_past, first_of, unless, table_partitions_made}
-use Rattle.wh_machine.specs.Tables.{table_at}
-use Rattle.wh_machine.specs.Queries.{names_from, instance_of, naming_refusal}
+use Rattle.wh_machine.specs.Queries.{instance_of}
 
 -- the first number that would pass its limit
 unfoldable pub edits_refusal : Table → Effect → Option Refusal
@@ -40,24 +39,34 @@ reply_to (Update condition parts) e = Updated (length e.changed)
 reply_to (Delete condition) e = Deleted (length e.removed)
 reply_to (Merge source on clauses) e = Merged (length e.added) (length e.changed) (length e.removed)
 
--- no commit where no row counts
-abbrev pub carried_over : ℕ → Change → Effect → Outcome
-carried_over id change e =
-    if nat_lt 0 (counted e) then commits (reply_to change e) (EditsRows id (edits_of e) ∷ []) else answers (reply_to change e)
+-- ---- what a change comes to before its numbers are tested
 
-abbrev pub settled_effect : ℕ → Change → Table → effects.Outcome → Outcome
-settled_effect id change t effects.Undefined = Refuses NumberOutOfRange
-settled_effect id change t (effects.Ambiguous row) = Refuses (AmbiguousMerge row)
-settled_effect id change t (effects.Does e) = unless (edits_refusal t e) (carried_over id change e)
+pub data Changed : Type 0 where
+  Fails : Refusal → Changed
+  Gives : (id : ℕ) → Change → Effect → Changed
+
+abbrev pub given : ℕ → Change → effects.Outcome → Changed
+given id change effects.Undefined = Fails NumberOutOfRange
+given id change (effects.Ambiguous row) = Fails (AmbiguousMerge row)
+given id change (effects.Does e) = Gives id change e
 
 -- a target that nothing is found wrong with is a table
-abbrev pub change_table : List Object → BoundChange → Option Table → Outcome
-change_table objects b None = Refuses TypeMismatch
-change_table objects b (Some t) = settled_effect b.target b.change t (effect b.change (rows_seen t) (instance_of objects b.sources))
+abbrev pub given_on : List Object → BoundChange → Option Table → Changed
+given_on objects b None = Fails TypeMismatch
+given_on objects b (Some t) = given b.target b.change (effect b.change (rows_seen t) (instance_of objects b.sources))
 
--- names and types first, and then the columns of its queries
-abbrev pub change_bound : List Object → BoundChange → Outcome
-change_bound objects b = unless (naming_refusal b.findings b.is_wide) (change_table objects b (table_at objects b.target))
+abbrev pub fails_or : Option Refusal → Changed → Changed
+fails_or (Some why) changed = Fails why
+fails_or None changed = changed
 
-unfoldable pub change_rows : State → Dml → Outcome
-change_rows s statement = change_bound s.objects (bound_change (names_from 1 s.objects) statement)
+-- ---- the commit of a change by itself
+
+-- none where no row counts
+abbrev pub carried_over : ℕ → Change → Effect → Outcome
+carried_over id change e =
+    if nat_lt 0 (counted e) then commits (reply_to change e) (EditsRows id (edits_of e) ∷ [])
+    else answers (reply_to change e)
+
+abbrev pub settled_effect : ℕ → Change → Effect → Option Table → Outcome
+settled_effect id change e None = Refuses TypeMismatch
+settled_effect id change e (Some t) = unless (edits_refusal t e) (carried_over id change e)

@@ -6,8 +6,6 @@ pub mod Outcome
 pub mod Tables
 pub mod Queries
 pub mod Changes
-pub mod Step
-pub mod Script
 pub mod Stored
 pub mod Commit
 pub mod Spelling
@@ -16,4 +14,3 @@ pub mod File
 pub mod Orderly
 pub mod Fault
 pub mod Sound
-pub mod Stop

@@ -3,6 +3,7 @@
 --     ObjectOf                 a name, whether it lives, when it was created, and what it is
 --     Contents                 what a version of the machine holds: its rows, by row number, and the partitions that they are written in
 --     Version, Table, Kind, Object, State     those of the machine
+--     at_rest, stamped         a state as the file keeps it, and at another stamp
 --     at_id, changed_at        an object's id is its place in order of creation, from 1
 --     id_of                    the id of the live object of a name
 use Rattle.std.specs.Prelude.{ℕ, zero, suc, ◌+◌, Bool, true, false, ◌&&◌, List, [], ◌∷◌, Option, Some, None, option_map, slice_get, slice_set, bytes_eq, count_by}
@@ -137,6 +138,9 @@ first_state = record { last = 0; committed = 0; objects = [] }
 -- a state as the file keeps it: its last stamp is that of its last commit
 abbrev pub at_rest : State → State
 at_rest s = record s { last = s.committed }
+
+abbrev pub stamped : State → ℕ → State
+stamped s stamp = record s { last = stamp }
 
 -- the rows with more entries, one after the other
 abbrev pub with_entries : Rows → List (ℕ × Row) → Rows

@@ -1,5 +1,5 @@
 -- The statements that are carried out, and which trees they are.
---     Statement     tables that are made or dropped, changes of rows, and queries
+--     Statement     transactions that begin and end, tables that are made or dropped, changes of rows, and queries
 --     form_of       of a statement as it was written; None where it isn't carried out yet
 use Rattle.std.specs.Prelude.{ℕ, Bool, List, Option, Some, None, map, unwrap_or}
 use Rattle.wh_value.specs.View.{column_of}
@@ -12,6 +12,9 @@ use Rattle.wh_ast.specs.declared.statement.Statement as tree
 use Rattle.wh_ast.specs.declared.statement.Statement.TheVariants as st
 
 pub data Statement : Type 0 where
+  Begin : Statement
+  Commit : Statement
+  Rollback : Statement
   CreateTable : (replace : Bool) → (name : List ℕ) → (columns : List Column) → (retention : ℕ) → Statement
   DropTable : (name : List ℕ) → Statement
   ChangeRows : Dml → Statement
@@ -22,6 +25,9 @@ abbrev pub create_form : create.CreateTable → Statement
 create_form c = CreateTable c.replace c.name (map column_of c.columns) (unwrap_or c.retention 1)
 
 abbrev pub form_of : tree.Statement → Option Statement
+form_of st.Begin = Some Begin
+form_of st.Commit = Some Commit
+form_of st.Rollback = Some Rollback
 form_of (st.Select q sorts) = Some (Select q sorts)
 form_of (st.Dml x) = Some (ChangeRows x)
 form_of (st.CreateTable c) = Some (create_form c)

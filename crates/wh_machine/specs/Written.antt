@@ -1,12 +1,12 @@
 -- The commit that is written for acts.
 --     written        the changes that say what acts do
---     made           the commit that an event makes, where it makes one
---     overflow       the first commit of some events that a file has no room for
-use Rattle.std.specs.Prelude.{ℕ, ◌+◌, Bool, false, List, [], ◌∷◌, ◌++◌, length, Option, Some, None, option_map, nat_lt, if◌then◌else◌}
-use Rattle.wh_machine.specs.State.{State, at_id}
+--     commit_for     the commit of acts at a stamp
+--     kept_after     what the file says behind a commit, where there is one
+--     is_beyond      whether a file has no room for it
+use Rattle.std.specs.Prelude.{ℕ, ◌+◌, Bool, false, List, [], ◌∷◌, ◌++◌, length, Option, Some, None, nat_lt}
+use Rattle.wh_machine.specs.State.{at_id}
 use Rattle.wh_machine.specs.Edits.{Edits, numbers_gone, partitions_made}
 use Rattle.wh_machine.specs.Outcome.{Act, MakesTable, DropsObject, EditsRows}
-use Rattle.wh_machine.specs.Step.{Event, reading_of, stamp_of, step, acts_of}
 use Rattle.wh_machine.specs.Stored.{StoredTable, StoredKind, StoredTableKind, StoredObject, Stored, standing}
 use Rattle.wh_machine.specs.Commit.{Change, CreatesTable, Drops, PushesVersion, Commit, all_changed, applied}
 use Rattle.wh_machine.specs.Spelling.{payload_of}
@@ -43,11 +43,6 @@ written stamp objects (act ∷ acts) = act_written stamp objects act ++ written 
 abbrev pub commit_for : Stored → ℕ → List Act → Commit
 commit_for s stamp acts = record { stamp = stamp; changes = written stamp s.objects acts }
 
--- ---- the commit of an event, over a file that says that much and a state
-
-abbrev pub made : Stored → State → Event → Option Commit
-made s state e = option_map (commit_for s (stamp_of state (reading_of e))) (acts_of state e)
-
 -- what the file says afterwards
 abbrev pub kept_after : Stored → Option Commit → Stored
 kept_after s None = s
@@ -67,10 +62,3 @@ added_length (Some c) = record_length c
 abbrev pub is_beyond : ℕ → ℕ → Option Commit → Bool
 is_beyond most end None = false
 is_beyond most end (Some c) = nat_lt most (end + record_length c)
-
--- where the first commit would begin that there is no room for, and what it needs
-abbrev pub overflow : ℕ → ℕ → Stored → State → List Event → Option (ℕ × ℕ)
-overflow most end s state [] = None
-overflow most end s state (e ∷ es) =
-    if is_beyond most end (made s state e) then Some (end, added_length (made s state e))
-    else overflow most (end + added_length (made s state e)) (kept_after s (made s state e)) (step state e).0 es

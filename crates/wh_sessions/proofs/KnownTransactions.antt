@@ -2,9 +2,9 @@
 --     first, second      the edits of a statement that adds two rows; and of one that changes row 1 and the second
 --                        added row, deletes the first added row and adds another
 --     of_two             a transaction that touched table 2 and holds table 5 untouched
-use Rattle.std.proofs.Common.{◌≡◌, ℕ, true, false, List, [], ◌∷◌, Option, Some, None, cond, pos, sym, ◌∙◌}
+use Rattle.std.proofs.Common.{◌≡◌, ℕ, true, false, List, [], ◌∷◌, Option, Some, None, cond, pos, refl, sym, ◌∙◌}
 use Rattle.std.proofs.lemmas.List.{nil_from_length}
-use Rattle.std.specs.FinMap.{FinMap, empty, get, insert, remove, entries, get-empty, get-insert, get-remove, entries-insert, len-entries, len-empty}
+use Rattle.std.specs.FinMap.{FinMap, empty, get, insert, entries, get-empty, get-insert, entries-insert, len-entries, len-empty}
 use Rattle.std.specs.FinMap.Entries.{put}
 use Rattle.std.specs.Ordering.{nat_cmp, eq_by_cmp}
 use Rattle.std.specs.Cmp.{nat_cmp_total}
@@ -16,10 +16,11 @@ use Rattle.wh_reply.specs.Reply.{OverLimit}
 use Rattle.wh_effect.specs.Effect.{Effect}
 use Rattle.wh_machine.specs.State.{Rows, Object, TableKind, new_object, version_at, last_rows}
 use Rattle.wh_machine.specs.Tables.{table_at}
-use Rattle.wh_machine.specs.Edits.{Edits, edits_of, rows_after}
+use Rattle.wh_machine.specs.Edits.{Edits, no_edits, later_edits, edits_of, rows_after}
 use Rattle.wh_machine.specs.Outcome.{EditsRows, edited_table}
-use Rattle.wh_sessions.specs.Transaction.{Staged, Transaction, begun, no_edits, later_edits, seen, staged, acts_of, commit_refusal}
-use Rattle.wh_sessions.specs.Sessions.{Sessions, no_sessions, number_of, holder, locked_by, with_begun, with_ended, with_transaction}
+use Rattle.wh_sessions.specs.Transaction.{Staged, Transaction, begun, seen, staged, acts_of, past_limit, commit_refusal}
+use Rattle.wh_sessions.specs.Sessions.{Sessions, no_sessions, number_in, holder, locked_by}
+use Rattle.wh_sessions.specs.Sessions.{with_begun, with_ended, with_transaction}
 
 abbrev row : ℕ → Row
 row k = Number (pos k) ∷ []
@@ -35,9 +36,6 @@ got m k x q = get-insert nat_cmp_total m k x q
 
 got_none : {X : Type 0} (q : ℕ) → get (empty {K = ℕ} {X = X} {R = nat_cmp}) q ≡ None
 got_none q = get-empty nat_cmp q
-
-left : {X : Type 0} (m : FinMap nat_cmp X) (k q : ℕ) → get (remove m k) q ≡ cond (eq_by_cmp nat_cmp q k) None (get m q)
-left m k q = get-remove nat_cmp_total m k q
 
 -- ---- edits on top of earlier ones
 
@@ -83,21 +81,21 @@ after_one = record {
   });
 }
 
-a_statement_is_staged : staged (table_with 3 ∷ []) (begun 7) 1 effect_of_one ≡ after_one
+a_statement_is_staged : staged (begun 7) 1 3 effect_of_one ≡ after_one
 unfolding staged later_edits edits_of
 a_statement_is_staged = simp (put_in, none_in, got_none)
 
 abbrev rows_at : List Object → ℕ → Option (List (ℕ × Row))
 rows_at objects id = option_map (λ t. entries (last_rows t)) (table_at objects id)
 
-its_rows_are_seen : rows_at (seen (record { last = 9; committed = 5; objects = table_with 3 ∷ [] }) after_one).objects 1
+its_rows_are_seen : rows_at (seen (record { last = 9; committed = 5; objects = table_with 3 ∷ [] }) (Some after_one)).objects 1
     ≡ Some ((1, row 11) ∷ (2, row 20) ∷ (3, row 30) ∷ [])
 unfolding seen edited_table rows_after
 its_rows_are_seen = simp (put_in, none_in, got, got_none)
 
 -- one row more than there are numbers
 a_commit_past_the_last_row_number : commit_refusal (table_with (bound limits.RowNumber) ∷ []) after_one ≡ Some (OverLimit limits.RowNumber)
-unfolding commit_refusal
+unfolding past_limit
 a_commit_past_the_last_row_number = simp (put_in, none_in)
 
 -- ---- what a commit has
@@ -125,19 +123,16 @@ abbrev opened : Sessions
 opened = with_begun (with_transaction no_sessions 1 of_two) 3 9
 
 a_held_table_is_locked_for_others : locked_by opened 3 5 ≡ Some 7
-unfolding locked_by
-a_held_table_is_locked_for_others = simp (put_in, none_in, got)
+a_held_table_is_locked_for_others = simp got
 
 and_not_for_its_own_session : locked_by opened 1 5 ≡ None
-unfolding locked_by
-and_not_for_its_own_session = simp (put_in, none_in, got_none)
+and_not_for_its_own_session = simp got_none
 
 a_table_that_nobody_holds : holder opened 4 ≡ None
-unfolding holder
-a_table_that_nobody_holds = simp (put_in, none_in, got, got_none)
+a_table_that_nobody_holds = simp (got, got_none)
 
-an_ended_transaction_has_no_number : number_of (with_ended opened 1) 1 ≡ None
-an_ended_transaction_has_no_number = simp left
+an_ended_transaction_has_no_number : number_in (with_ended opened 1) 1 ≡ None
+an_ended_transaction_has_no_number = refl
 
-others_keep_theirs : number_of (with_ended opened 1) 3 ≡ Some 9
-others_keep_theirs = simp (left, got)
+others_keep_theirs : number_in (with_ended opened 1) 3 ≡ Some 9
+others_keep_theirs = refl

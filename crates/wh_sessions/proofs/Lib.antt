@@ -1,1 +1,9 @@
+pub mod EntryLaws
+pub mod OutcomeLaws
+pub mod StepLaws
+pub mod ReplyLaws
+pub mod SoundLaws
 pub mod KnownTransactions
+pub mod KnownEvents
+pub mod KnownChanges
+pub mod KnownStops

@@ -3,3 +3,6 @@ pub mod Sessions
 pub mod Outcome
 pub mod Statements
 pub mod Step
+pub mod Script
+pub mod Made
+pub mod Stop

@@ -1,6 +1,7 @@
 -- The machine with its sessions, and what an event does to it.
 --     Machine            the committed state, and the open transactions
---     Outcome            a refusal; or a reply, with the sessions that it leaves and the acts of its commit, where it makes one
+--     opened, rest_of    the machine of a file's state, and what a file keeps of a machine
+--     Outcome            a refusal; or a reply, with the sessions that it leaves, and the acts of its commit where it makes one
 --     alone              of a statement that leaves the sessions as they are
 --     settled            the machine and the reply that an outcome comes to
 use Rattle.std.specs.Prelude.{List, Option, Some, None}
@@ -19,8 +20,8 @@ abbrev pub opened : State → Machine
 opened s = record { state = s; sessions = no_sessions }
 
 -- what a file keeps of it: no open transaction, and the last stamp is that of the last commit
-abbrev pub kept : Machine → State
-kept m = at_rest m.state
+abbrev pub rest_of : Machine → State
+rest_of m = at_rest m.state
 
 pub data Outcome : Type 0 where
   Refuses : Refusal → Outcome

@@ -7,17 +7,15 @@ use Rattle.std.specs.Prelude.{ℕ, List, [], ◌∷◌, Option, Some, None, opti
 use Rattle.wh_ast.specs.declared.dml.Dml.{Dml}
 use Rattle.wh_ast.specs.declared.query.Query as written
 use Rattle.wh_ast.specs.declared.query.Sort.{Sort}
-use Rattle.wh_naming.specs.Changes.{BoundChange, Change, bound_change}
-use Rattle.wh_reply.specs.Reply.{Refusal, DdlInTransaction, TransactionOpen, NoTransaction, TypeMismatch, Locked}
-use Rattle.wh_reply.specs.Reply.{NumberOutOfRange, AmbiguousMerge, Begun, Committed, CommittedNothing, RolledBack}
-use Rattle.wh_effect.specs.Effect as effects
-use Rattle.wh_effect.specs.Effect.{Effect, effect}
-use Rattle.wh_machine.specs.State.{Object, Table, id_of}
+use Rattle.wh_naming.specs.Changes.{BoundChange, bound_change}
+use Rattle.wh_reply.specs.Reply.{Refusal, DdlInTransaction, TransactionOpen, NoTransaction, Locked}
+use Rattle.wh_reply.specs.Reply.{Begun, Committed, CommittedNothing, RolledBack}
+use Rattle.wh_machine.specs.State.{Object}
 use Rattle.wh_machine.specs.Outcome as tables
 use Rattle.wh_machine.specs.Outcome.{Act, first_of}
 use Rattle.wh_machine.specs.Tables.{table_at}
-use Rattle.wh_machine.specs.Queries.{names_from, instance_of, naming_refusal, select_rows}
-use Rattle.wh_machine.specs.Changes.{rows_seen, reply_to, edits_refusal, carried_over}
+use Rattle.wh_machine.specs.Queries.{names_from, naming_refusal, select_rows}
+use Rattle.wh_machine.specs.Changes.{Changed, Fails, Gives, given_on, fails_or, reply_to, settled_effect}
 use Rattle.wh_sessions.specs.Transaction.{Transaction, seen, staged, acts_of, commit_refusal, next_row_of}
 use Rattle.wh_sessions.specs.Sessions.{Sessions, transaction_in, number_in, holder, locked_by}
 use Rattle.wh_sessions.specs.Sessions.{with_transaction, with_begun, with_ended}
@@ -61,25 +59,6 @@ defines m session old outcome = unless (option_map DdlInTransaction (number_in m
 
 -- ---- INSERT, UPDATE, DELETE, MERGE
 
--- what a change comes to before its numbers are tested
-pub data Changed : Type 0 where
-  Fails : Refusal → Changed
-  Gives : (id : ℕ) → Change → Effect → Changed
-
-abbrev pub given : ℕ → Change → effects.Outcome → Changed
-given id change effects.Undefined = Fails NumberOutOfRange
-given id change (effects.Ambiguous row) = Fails (AmbiguousMerge row)
-given id change (effects.Does e) = Gives id change e
-
--- a target that nothing is found wrong with is a table
-abbrev pub given_on : List Object → BoundChange → Option Table → Changed
-given_on objects b None = Fails TypeMismatch
-given_on objects b (Some t) = given b.target b.change (effect b.change (rows_seen t) (instance_of objects b.sources))
-
-abbrev pub fails_or : Option Refusal → Changed → Changed
-fails_or (Some why) changed = Fails why
-fails_or None changed = changed
-
 abbrev pub change_refusal : Machine → ℕ → BoundChange → Option Refusal
 change_refusal m session b = first_of (
     naming_refusal b.findings b.is_wide
@@ -95,15 +74,11 @@ unfoldable pub changed : Machine → ℕ → Dml → Changed
 changed m session statement = bound_changed m session
     (seen m.state (transaction_in m.sessions session)).objects (bound_change (names_from 1 m.state.objects) statement)
 
-abbrev pub numbered_change : ℕ → Change → Effect → Option Table → tables.Outcome
-numbered_change id change e None = tables.Refuses TypeMismatch
-numbered_change id change e (Some t) = tables.unless (edits_refusal t e) (carried_over id change e)
-
 -- in a transaction it is staged, and its numbers are tested by COMMIT; outside it is a transaction of its own
 abbrev pub changes_in : Machine → ℕ → Option Transaction → Changed → Outcome
 changes_in m session t (Fails why) = Refuses why
 changes_in m session None (Gives id change e) =
-    alone m.sessions (numbered_change id change e (table_at m.state.objects id))
+    alone m.sessions (settled_effect id change e (table_at m.state.objects id))
 changes_in m session (Some t) (Gives id change e) = Does (reply_to change e)
     (with_transaction m.sessions session (staged t id (next_row_of (table_at m.state.objects id)) e)) None
 

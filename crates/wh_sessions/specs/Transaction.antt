@@ -4,18 +4,20 @@
 --     seen                    the state as a transaction sees it
 --     staged                  a transaction with an effect more
 --     acts_of                 the acts of its commit, or None where it touched no table
---     commit_refusal          the first number that its commit would bring past its limit
-use Rattle.std.specs.Prelude.{ℕ, suc, ◌+◌, ◌-◌, Bool, false, ◌||◌, List, [], ◌∷◌, length, map, Option, Some, None, nat_lt}
-use Rattle.std.specs.List.{filter, list_any}
+--     past_limit, commit_refusal     the first number that its commit would bring past its limit
+use Rattle.std.specs.Prelude.{ℕ, suc, ◌+◌, ◌-◌, Bool, false, ◌||◌, if◌then◌else◌, List, [], ◌∷◌, length, map}
+use Rattle.std.specs.Prelude.{Option, Some, None, option_map, nat_lt}
+use Rattle.std.specs.List.{filter}
 use Rattle.std.specs.FinMap.{FinMap, empty, get, insert, entries}
 use Rattle.std.specs.Ordering.{nat_cmp}
 use Rattle.wh_value.specs.Limit.{bound}
+use Rattle.wh_value.specs.declared.limit.Limit.{Limit}
 use Rattle.wh_value.specs.declared.limit.Limit.TheVariants as limits
 use Rattle.wh_reply.specs.Reply.{Refusal, OverLimit}
 use Rattle.wh_effect.specs.Effect.{Effect}
 use Rattle.wh_machine.specs.State.{State, Object, Table}
 use Rattle.wh_machine.specs.Edits.{Edits, no_edits, edits_of, later_edits}
-use Rattle.wh_machine.specs.Outcome.{Act, EditsRows, edited_object, refused_if, first_of, table_partitions_made}
+use Rattle.wh_machine.specs.Outcome.{Act, EditsRows, edited_object, table_partitions_made}
 use Rattle.wh_machine.specs.Tables.{table_at}
 use Rattle.wh_machine.specs.Changes.{counted}
 
@@ -97,9 +99,18 @@ abbrev pub partition_past : List Object → ℕ × Staged → Bool
 partition_past objects entry =
     nat_lt (bound limits.PartitionNumber) (next_partition_of entry.1.edits (table_at objects entry.0))
 
--- over the committed objects
-unfoldable pub commit_refusal : List Object → Transaction → Option Refusal
-commit_refusal objects t = first_of (
-    refused_if (list_any (row_past objects) (touched t)) (OverLimit limits.RowNumber)
-    ∷ refused_if (list_any (partition_past objects) (touched t)) (OverLimit limits.PartitionNumber)
-    ∷ [])
+abbrev pub first_past : (ℕ × Staged → Bool) → Limit → List (ℕ × Staged) → Option (ℕ × Limit)
+first_past is_past which [] = None
+first_past is_past which (entry ∷ others) = if is_past entry then Some (entry.0, which) else first_past is_past which others
+
+abbrev pub or_else : Option (ℕ × Limit) → Option (ℕ × Limit) → Option (ℕ × Limit)
+or_else None other = other
+or_else (Some found) other = Some found
+
+-- over the committed objects: the least id of a table that would pass a limit, and which; row numbers first
+unfoldable pub past_limit : List Object → Transaction → Option (ℕ × Limit)
+past_limit objects t = or_else (first_past (row_past objects) limits.RowNumber (touched t))
+    (first_past (partition_past objects) limits.PartitionNumber (touched t))
+
+abbrev pub commit_refusal : List Object → Transaction → Option Refusal
+commit_refusal objects t = option_map (λ found. OverLimit found.1) (past_limit objects t)

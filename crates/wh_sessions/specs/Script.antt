@@ -4,7 +4,7 @@
 use Rattle.std.specs.Prelude.{ℕ, List, [], ◌∷◌, Some, None}
 use Rattle.wh_grammar.specs.Spelled.{Request, Asks}
 use Rattle.wh_grammar.specs.Script.{Line, CommandLine, SessionLine, TickLine, lines_of}
-use Rattle.wh_machine.specs.Step.{Event, Command, Tick}
+use Rattle.wh_sessions.specs.Step.{Event, Command, Tick}
 
 -- A session's line sets the session of the commands behind it. The reading of an event is the number of the last tick that
 -- has one.

@@ -1,0 +1,13 @@
+//! The open transactions of the sessions: what is staged, held and seen, and the commit that it comes to.
+#![tactic(auto)]
+
+mod fault;
+mod recording;
+mod seeing;
+mod sessions;
+mod staging;
+mod transaction;
+
+pub use fault::RecordFault;
+pub use seeing::TableSeen;
+pub use sessions::Sessions;
