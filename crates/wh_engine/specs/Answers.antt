@@ -1,20 +1,20 @@
 -- What a call that goes well makes of a warehouse.
---     CarriesOut     a commit is added, where there is one, and the state is that
+--     CarriesOut     a commit is added, where there is one, and the machine is that
 --     Answered       an event is carried out, and that is its reply
 use Rattle.std.specs.Prelude.{◌≡◌, ◌+◌, Option, None, is_some, false}
-use Rattle.wh_machine.specs.State.{State}
-use Rattle.wh_machine.specs.Step.{Event, step}
 use Rattle.wh_machine.specs.Commit.{Commit}
 use Rattle.wh_machine.specs.Written.{kept_after, added_length, is_beyond}
+use Rattle.wh_sessions.specs.Outcome.{Machine}
+use Rattle.wh_sessions.specs.Step.{Event, step}
 use Rattle.wh_reply.specs.Reply.{Reply}
 use Rattle.wh_world.specs.declared.disk.Disk.{Ghosts}
 use Rattle.wh_journal.specs.Journal.{end_of, limit_of, failed_of}
-use Rattle.wh_catalog.specs.Catalog.{stored_of, state_of}
-use Rattle.wh_engine.specs.Warehouse.{Filed, IsSettled, made_in, led_to}
+use Rattle.wh_catalog.specs.Catalog.{stored_of}
+use Rattle.wh_engine.specs.Warehouse.{Filed, IsSettled, machine_of, made_in, led_to}
 use Rattle.wh_engine.specs.declared.warehouse.Warehouse.{Warehouse}
 
-pub record CarriesOut {D : Type 0} {seen : Ghosts D} (old new : Warehouse D seen) (commit : Option Commit) (state : State) : Type 0 where
-  pub stepped : state_of new.catalog ≡ state
+pub record CarriesOut {D : Type 0} {seen : Ghosts D} (old new : Warehouse D seen) (commit : Option Commit) (machine : Machine) : Type 0 where
+  pub stepped : machine_of new ≡ machine
   pub stored : stored_of new.catalog ≡ kept_after (stored_of old.catalog) commit
   -- the file goes with the state, and what was all on the disk still is
   pub filed : Filed (seen.bytes old.disk) old.journal old.catalog → Filed (seen.bytes new.disk) new.journal new.catalog
@@ -31,5 +31,5 @@ pub record CarriesOut {D : Type 0} {seen : Ghosts D} (old new : Warehouse D seen
   pub no_fault : seen.faults new.disk ≡ seen.faults old.disk
 
 pub record Answered {D : Type 0} {seen : Ghosts D} (old new : Warehouse D seen) (event : Event) (reply : Reply) : Type 0 where
-  pub replied : reply ≡ (step (state_of old.catalog) event).1
+  pub replied : reply ≡ (step (machine_of old) event).1
   pub carried : CarriesOut old new (made_in old event) (led_to old event)

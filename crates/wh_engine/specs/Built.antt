@@ -5,7 +5,7 @@
 use Rattle.std.specs.Prelude.{List, map}
 use Rattle.wh_value.specs.View.{column_of}
 use Rattle.wh_value.specs.Column.{Column}
-use Rattle.wh_machine.specs.Statement.{Statement, CreateTable, DropTable, ChangeRows, Select}
+use Rattle.wh_machine.specs.Statement.{Statement, Begin, Commit, Rollback, CreateTable, DropTable, ChangeRows, Select}
 use Rattle.wh_engine.specs.declared.built.NewTable.{NewTable}
 use Rattle.wh_engine.specs.declared.built.Built.{Built}
 use Rattle.wh_engine.specs.declared.built.Built.TheVariants as forms
@@ -17,6 +17,9 @@ abbrev pub new_table_view : NewTable → Statement
 new_table_view t = CreateTable t.replace t.name (columns_of t) t.retention
 
 abbrev pub built_view : Built → Statement
+built_view forms.Begin = Begin
+built_view forms.Commit = Commit
+built_view forms.Rollback = Rollback
 built_view (forms.CreateTable t) = new_table_view t
 built_view (forms.DropTable name) = DropTable name.now
 built_view (forms.ChangeRows statement) = ChangeRows statement.now

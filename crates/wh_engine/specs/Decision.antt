@@ -1,49 +1,73 @@
 -- What is decided on an event.
---     Plan          a refusal, or a reply with what a commit changes
---     plan_of       of a decision
---     planned       of an outcome, where the changes say what its acts do
---     Decides       a decision comes to that outcome
---     commit_at     the commit of changes, where there are any
-use Rattle.std.specs.Prelude.{◌≡◌, ℕ, List, map, Option, None, option_map, Vec}
+--     Plan             a refusal, or a reply with the sessions that it leaves and what a commit changes
+--     plan_of          of a decision, over the open transactions and a stamp
+--     planned          of an outcome, where the changes say what its acts do
+--     Decides          a decision comes to that outcome
+--     commit_at        the commit of changes, where there are any
+use Rattle.std.specs.Prelude.{◌≡◌, ℕ, List, map, Option, Some, None, option_map, unwrap_or, Vec}
 use Rattle.std.specs.declared.alloc.Global.{Global}
 use Rattle.wh_reply.specs.Reply.{Refusal, Reply, Refused}
 use Rattle.wh_reply.specs.View.{refusal_view, reply_view}
-use Rattle.wh_machine.specs.Outcome.{Outcome, Refuses, Does}
+use Rattle.wh_machine.specs.State.{State}
 use Rattle.wh_machine.specs.Stored.{Stored}
 use Rattle.wh_machine.specs.Commit as machine
 use Rattle.wh_machine.specs.Written.{written}
+use Rattle.wh_sessions.specs.Transaction.{Transaction, staged, begun}
+use Rattle.wh_sessions.specs.Sessions.{Sessions, transaction_in, with_transaction, with_begun, with_ended}
+use Rattle.wh_sessions.specs.Outcome.{Machine, Outcome, Refuses, Does}
+use Rattle.wh_dml.specs.View.{effect_of}
 use Rattle.wh_record.specs.View.{change_of}
 use Rattle.wh_record.specs.declared.commit.Change.{Change}
 use Rattle.wh_engine.specs.declared.decision.Decision.{Decision}
 use Rattle.wh_engine.specs.declared.decision.Decision.TheVariants as decisions
+use Rattle.wh_engine.specs.declared.decision.Settlement.{Settlement}
+use Rattle.wh_engine.specs.declared.decision.Settlement.TheVariants as settlements
 
 pub data Plan : Type 0 where
   Declines : Refusal → Plan
-  Goes : Reply → Option (List machine.Change) → Plan
-
-abbrev pub reply_in : Plan → Reply
-reply_in (Declines why) = Refused why
-reply_in (Goes reply changes) = reply
-
-abbrev pub changes_in : Plan → Option (List machine.Change)
-changes_in (Declines why) = None
-changes_in (Goes reply changes) = changes
+  Goes : Reply → Sessions → Option (List machine.Change) → Plan
 
 abbrev pub changes_of : Vec Change Global → List machine.Change
 changes_of changes = map change_of changes.items
 
-abbrev pub plan_of : Decision → Plan
-plan_of (decisions.Refuse why) = Declines (refusal_view why)
-plan_of (decisions.Do reply changes) = Goes (reply_view reply) (option_map changes_of changes)
+-- ---- what becomes of the sessions, and of the file
+
+abbrev pub transaction_or_new : Option Transaction → ℕ → Transaction
+transaction_or_new open stamp = unwrap_or open (begun stamp)
+
+abbrev pub sessions_after : ℕ → Sessions → Settlement → Sessions
+sessions_after stamp sessions settlements.Answers = sessions
+sessions_after stamp sessions (settlements.Commits changes) = sessions
+sessions_after stamp sessions (settlements.Begins session) = with_begun sessions session stamp
+sessions_after stamp sessions (settlements.Stages session id next_row effect) =
+    with_transaction sessions session
+    (staged (transaction_or_new (transaction_in sessions session) stamp) id next_row (effect_of effect))
+sessions_after stamp sessions (settlements.Ends session changes) = with_ended sessions session
+
+abbrev pub changes_in : Settlement → Option (List machine.Change)
+changes_in settlements.Answers = None
+changes_in (settlements.Commits changes) = Some (changes_of changes)
+changes_in (settlements.Begins session) = None
+changes_in (settlements.Stages session id next_row effect) = None
+changes_in (settlements.Ends session changes) = option_map changes_of changes
+
+abbrev pub plan_of : ℕ → Sessions → Decision → Plan
+plan_of stamp sessions (decisions.Refuse why) = Declines (refusal_view why)
+plan_of stamp sessions (decisions.Do reply settlement) =
+    Goes (reply_view reply) (sessions_after stamp sessions settlement) (changes_in settlement)
 
 -- over what a file says, at a stamp
 abbrev pub planned : Stored → ℕ → Outcome → Plan
 planned s stamp (Refuses why) = Declines why
-planned s stamp (Does reply acts) = Goes reply (option_map (written stamp s.objects) acts)
+planned s stamp (Does reply sessions acts) = Goes reply sessions (option_map (written stamp s.objects) acts)
 
--- a decision comes to that outcome
-pub record Decides (s : Stored) (stamp : ℕ) (decision : Decision) (outcome : Outcome) : Type 0 where
-  pub same : plan_of decision ≡ planned s stamp outcome
+-- a decision comes to that outcome, where those transactions are open
+pub record Decides (s : Stored) (sessions : Sessions) (stamp : ℕ) (decision : Decision) (outcome : Outcome) : Type 0 where
+  pub same : plan_of stamp sessions decision ≡ planned s stamp outcome
 
 abbrev pub commit_at : ℕ → Option (List machine.Change) → Option machine.Commit
 commit_at stamp changes = option_map (λ cs. record { stamp = stamp; changes = cs }) changes
+
+-- the machine over what a file says and the transactions that are open
+abbrev pub machine_at : State → Sessions → Machine
+machine_at state sessions = record { state = state; sessions = sessions }

@@ -1,6 +1,6 @@
 -- The machine's events that events of the code stand for.
 use Rattle.std.specs.Prelude.{ℕ, List}
-use Rattle.wh_machine.specs.Step as machine
+use Rattle.wh_sessions.specs.Step as machine
 use Rattle.wh_stmt_parse.specs.Request.{request_of}
 use Rattle.wh_engine.specs.declared.event.Event.{Event}
 use Rattle.wh_engine.specs.declared.event.Event.TheVariants.{Command, Tick}

@@ -5,15 +5,14 @@ use Rattle.wh_machine.specs.Written.{added_length, is_beyond}
 use Rattle.wh_world.specs.Told.{Rose}
 use Rattle.wh_world.specs.declared.disk.Disk.{Ghosts}
 use Rattle.wh_journal.specs.Journal.{end_of, limit_of, failed_of}
-use Rattle.wh_catalog.specs.Catalog.{state_of}
-use Rattle.wh_engine.specs.Warehouse.{IsUntouched}
+use Rattle.wh_engine.specs.Warehouse.{IsUntouched, machine_of}
 use Rattle.wh_engine.specs.declared.fault.Halt.{Halt}
 use Rattle.wh_engine.specs.declared.fault.Halt.TheVariants.{DiskFault, FileFull, NeedsReopen}
 use Rattle.wh_engine.specs.declared.warehouse.Warehouse.{Warehouse}
 
 -- the commit is the one that was to be added, if there was one
 pub record Halted {D : Type 0} {seen : Ghosts D} (old new : Warehouse D seen) (commit : Option Commit) (halt : Halt) : Type 0 where
-  pub state : state_of new.catalog ≡ state_of old.catalog
+  pub state : machine_of new ≡ machine_of old
   -- an earlier failure, exactly
   pub needs_reopen : (faults : ℕ) → (halt ≡ NeedsReopen faults) ↔ (failed_of old.journal ≡ Some faults)
   -- no room for the commit; the way back, but for want of memory

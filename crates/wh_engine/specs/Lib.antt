@@ -1,6 +1,7 @@
 pub mod Fault
 pub mod Event
 pub mod Decision
+pub mod Sight
 pub mod Warehouse
 pub mod Answers
 pub mod Halts

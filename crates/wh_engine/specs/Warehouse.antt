@@ -2,23 +2,27 @@
 --     Filed               where the disk's bytes are told, they are a file of commits that lead to what the catalog says
 --     IsSettled           where bytes are told, a crash leaves them as they are
 --     IsUntouched         disk, journal and catalog are as they were
---     made_in, led_to     the commit that an event makes, and the state that it leads to
+--     machine_of          the machine that it is
+--     made_in, led_to     the commit that an event makes, and the machine that it leads to
 --     state_with          the state at a stamp, with a commit or without
 use Rattle.std.specs.Prelude.{◌≡◌, ℕ, List, map, Option, Some}
 use Rattle.std.specs.List.{AllByRecursion}
 use Rattle.wh_frame.specs.File.{IsFileOf}
-use Rattle.wh_machine.specs.State.{State}
-use Rattle.wh_machine.specs.Step.{Event, step, stamped}
+use Rattle.wh_machine.specs.State.{State, stamped}
 use Rattle.wh_machine.specs.Stored.{Stored, first_stored, meant}
 use Rattle.wh_machine.specs.Commit.{Commit, Leads}
 use Rattle.wh_machine.specs.Spelling.{payload_of, IsCommit}
-use Rattle.wh_machine.specs.Written.{made, kept_after}
+use Rattle.wh_machine.specs.Written.{kept_after}
+use Rattle.wh_sessions.specs.Outcome.{Machine}
+use Rattle.wh_sessions.specs.Step.{Event, step}
+use Rattle.wh_sessions.specs.Made.{made}
 use Rattle.wh_world.specs.Crash.{Only}
 use Rattle.wh_world.specs.declared.disk.Disk.{Ghosts}
 use Rattle.wh_journal.specs.Journal as journals
 use Rattle.wh_journal.specs.declared.journal.Journal.{Journal}
 use Rattle.wh_catalog.specs.Catalog.{stored_of, state_of}
 use Rattle.wh_catalog.specs.declared.catalog.Catalog.{Catalog}
+use Rattle.wh_txn.specs.View.{sessions_of}
 use Rattle.wh_engine.specs.declared.warehouse.Warehouse.{Warehouse}
 
 -- these commits are the file's, are listed by the journal, and lead to what the catalog says
@@ -36,17 +40,21 @@ pub record Filed (bytes : Option (List ℕ)) (j : Journal) (c : Catalog) : Type 
 pub record IsSettled (bytes : Option (List ℕ)) (may_leave : List ℕ → Type 0) : Type 0 where
   pub each : (file : List ℕ) → bytes ≡ Some file → Only file may_leave
 
--- the same disk, places, end, limit and fault of the journal, and what the catalog says
+-- the same disk, places, end, limit and fault of the journal, what the catalog says, and open transactions
 pub record IsUntouched {D : Type 0} {seen : Ghosts D} (old new : Warehouse D seen) : Type 0 where
   pub disk : new.disk ≡ old.disk
   pub journal : journals.IsSame old.journal new.journal
   pub stored : stored_of new.catalog ≡ stored_of old.catalog
+  pub sessions : sessions_of new.sessions ≡ sessions_of old.sessions
+
+abbrev pub machine_of : {D : Type 0} {seen : Ghosts D} → Warehouse D seen → Machine
+machine_of w = record { state = state_of w.catalog; sessions = sessions_of w.sessions }
 
 abbrev pub made_in : {D : Type 0} {seen : Ghosts D} → Warehouse D seen → Event → Option Commit
-made_in w event = made (stored_of w.catalog) (state_of w.catalog) event
+made_in w event = made (stored_of w.catalog) (machine_of w) event
 
-abbrev pub led_to : {D : Type 0} {seen : Ghosts D} → Warehouse D seen → Event → State
-led_to w event = (step (state_of w.catalog) event).0
+abbrev pub led_to : {D : Type 0} {seen : Ghosts D} → Warehouse D seen → Event → Machine
+led_to w event = (step (machine_of w) event).0
 
 abbrev pub state_with : Stored → ℕ → Option Commit → State
 state_with s stamp commit = stamped (meant (kept_after s commit)) stamp

@@ -1,3 +1,4 @@
+use wh_dml::Effect;
 use wh_record::Change;
 use wh_reply::{Refusal, Reply};
 
@@ -5,26 +6,32 @@ use wh_reply::{Refusal, Reply};
 #[derive(Debug, Drop)]
 pub(crate) enum Decision {
     Refuse(Refusal),
-    /// A reply, and what its commit changes where it makes one. A commit may change nothing.
+    /// A reply, and what has to be done for it.
     Do {
         reply: Reply,
-        changes: Option<Vec<Change>>,
+        settlement: Settlement,
     },
 }
 
-impl Decision {
-    ghost use Rattle.std.specs.Prelude.{◌≡◌, option_map};
-    ghost use Rattle.wh_reply.specs.View.{reply_view};
-    ghost use Rattle.wh_engine.specs.Decision.{changes_of, plan_of, reply_in, changes_in};
-
-    // The reply, and what is changed.
-    pub(crate) fn into_parts(self) -> (Reply, Option<Vec<Change>>)
-        ensures reply { reply_view result.0 ≡ reply_in (plan_of self) }
-        ensures changes { option_map changes_of result.1 ≡ changes_in (plan_of self) }
-    {
-        match self {
-            Decision::Refuse(why) => (Reply::Refused(why), None),
-            Decision::Do { reply, changes } => (reply, changes),
-        }
-    }
+/// What becomes of the file and of the open transactions.
+#[derive(Debug, Drop)]
+pub(crate) enum Settlement {
+    /// Nothing but the stamp passes.
+    Answers,
+    /// A commit of these changes. There may be none.
+    Commits(Vec<Change>),
+    /// The session's transaction begins.
+    Begins(u64),
+    /// The effect on a table is staged in the session's open transaction.
+    Stages {
+        session: u64,
+        id: u32,
+        next_row: u64,
+        effect: Effect,
+    },
+    /// The session's transaction ends, with a commit of these changes where there are some.
+    Ends {
+        session: u64,
+        changes: Option<Vec<Change>>,
+    },
 }
