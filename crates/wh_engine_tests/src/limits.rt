@@ -89,3 +89,24 @@ fn a_row_without_a_number_is_refused(rt: HostRuntime) {
     let file = spliced(&rt, rt.alloc(), 49, NUMBERS_USED, 50);
     assert_answered(&rt, rt.alloc(), &file, CASES);
 }
+
+#[test]
+fn a_commit_without_row_numbers_is_refused_and_leaves_its_transaction_open(rt: HostRuntime) {
+    const CASES: &[(&str, &str)] = &[
+        ("BEGIN", "BEGUN 3\n"),
+        ("INSERT INTO T VALUES (1), (2)", "INSERTED 2\n"),
+        ("SELECT * FROM T", "K\n1\n2\n(2 rows)\n"),
+        ("COMMIT", "E13 Limit ROW_NUMBER 4611686018427387904\n"),
+        ("SELECT * FROM T", "K\n1\n2\n(2 rows)\n"),
+        ("DELETE FROM T WHERE K = 1", "DELETED 1\n"),
+        ("COMMIT", "COMMITTED 9\n"),
+        ("SELECT * FROM T", "K\n2\n(1 rows)\n"),
+        ("BEGIN", "BEGUN 11\n"),
+        ("INSERT INTO T VALUES (3)", "INSERTED 1\n"),
+        ("COMMIT", "E13 Limit ROW_NUMBER 4611686018427387904\n"),
+        ("ROLLBACK", "ROLLED BACK\n"),
+        ("SELECT * FROM T", "K\n2\n(1 rows)\n"),
+    ];
+    let file = spliced(&rt, rt.alloc(), 49, NUMBERS_USED, 50);
+    assert_answered(&rt, rt.alloc(), &file, CASES);
+}

@@ -9,3 +9,5 @@ mod running;
 mod runs;
 #[cfg(test)]
 mod stops;
+#[cfg(test)]
+mod transactions;
