@@ -13,13 +13,15 @@ use Rattle.wh_catalog.specs.Catalog.{stored_of, state_of}
 use Rattle.wh_engine.specs.Warehouse.{Filed, IsSettled, made_in, led_to}
 use Rattle.wh_engine.specs.declared.warehouse.Warehouse.{Warehouse}
 
-pub record CarriesOut {D : Type 0} {seen : Ghosts D} (old new : Warehouse D seen) (commit : Option Commit) (state : State) : Type 0 where
+pub record CarriesOut {D : Type 0} {seen : Ghosts D} (old new : Warehouse D seen) (commit : Option Commit)
+    (state : State) : Type 0 where
   pub stepped : state_of new.catalog ≡ state
   pub stored : stored_of new.catalog ≡ kept_after (stored_of old.catalog) commit
   -- the file goes with the state, and what was all on the disk still is
   pub filed : Filed (seen.bytes old.disk) old.journal old.catalog → Filed (seen.bytes new.disk) new.journal new.catalog
   pub told : is_some (seen.bytes new.disk) ≡ is_some (seen.bytes old.disk)
-  pub durable : IsSettled (seen.bytes old.disk) (seen.may_leave old.disk) → IsSettled (seen.bytes new.disk) (seen.may_leave new.disk)
+  pub durable : IsSettled (seen.bytes old.disk) (seen.may_leave old.disk)
+      → IsSettled (seen.bytes new.disk) (seen.may_leave new.disk)
   -- without a commit the disk isn't touched
   pub kept : commit ≡ None → new.disk ≡ old.disk
   -- there was room, and it is taken
@@ -30,6 +32,7 @@ pub record CarriesOut {D : Type 0} {seen : Ghosts D} (old new : Warehouse D seen
   pub still_healthy : failed_of new.journal ≡ None
   pub no_fault : seen.faults new.disk ≡ seen.faults old.disk
 
-pub record Answered {D : Type 0} {seen : Ghosts D} (old new : Warehouse D seen) (event : Event) (reply : Reply) : Type 0 where
+pub record Answered {D : Type 0} {seen : Ghosts D} (old new : Warehouse D seen)
+    (event : Event) (reply : Reply) : Type 0 where
   pub replied : reply ≡ (step (state_of old.catalog) event).1
   pub carried : CarriesOut old new (made_in old event) (led_to old event)

@@ -12,13 +12,16 @@ use Rattle.wh_engine.specs.declared.fault.Halt.TheVariants.{DiskFault, FileFull,
 use Rattle.wh_engine.specs.declared.warehouse.Warehouse.{Warehouse}
 
 -- the commit is the one that was to be added, if there was one
-pub record Halted {D : Type 0} {seen : Ghosts D} (old new : Warehouse D seen) (commit : Option Commit) (halt : Halt) : Type 0 where
+pub record Halted {D : Type 0} {seen : Ghosts D} (old new : Warehouse D seen) (commit : Option Commit)
+    (halt : Halt) : Type 0 where
   pub state : state_of new.catalog ≡ state_of old.catalog
   -- an earlier failure, exactly
   pub needs_reopen : (faults : ℕ) → (halt ≡ NeedsReopen faults) ↔ (failed_of old.journal ≡ Some faults)
   -- no room for the commit; the way back, but for want of memory
-  pub file_full : (len need : ℕ) → halt ≡ FileFull len need
-      → IsTrue (is_beyond (limit_of old.journal) (end_of old.journal) commit) × (len ≡ end_of old.journal) × (need ≡ added_length commit)
+  pub file_full : (len need : ℕ)
+      → halt ≡ FileFull len need
+      → IsTrue (is_beyond (limit_of old.journal) (end_of old.journal) commit) × (len ≡ end_of old.journal)
+      × (need ≡ added_length commit)
   pub beyond : IsTrue (is_beyond (limit_of old.journal) (end_of old.journal) commit) → halt ≡ DiskFault → ⊥
   -- a failure of the disk; from then on each event is answered NeedsReopen, and no other halt changes anything
   pub disk_fault : halt ≡ DiskFault → Rose (seen.faults old.disk) (seen.faults new.disk)

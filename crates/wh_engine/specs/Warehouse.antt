@@ -1,5 +1,6 @@
 -- What contracts say of a `Warehouse`.
---     Filed               where the disk's bytes are told, they are a file of commits that lead to what the catalog says
+--     Filed               where the disk's bytes are told, they are a file of commits that
+--                         lead to what the catalog says
 --     IsSettled           where bytes are told, a crash leaves them as they are
 --     IsUntouched         disk, journal and catalog are as they were
 --     made_in, led_to     the commit that an event makes, and the state that it leads to

@@ -7,12 +7,14 @@ use Rattle.wh_value.specs.Value.{Row}
 use Rattle.wh_value.specs.declared.limit.Limit.TheVariants as limits
 use Rattle.wh_ast.specs.declared.dml.Dml.{Dml}
 use Rattle.wh_naming.specs.Changes.{BoundChange, Change, InsertRows, InsertQuery, Update, Delete, Merge, bound_change}
-use Rattle.wh_reply.specs.Reply.{Refusal, Reply, TypeMismatch, NumberOutOfRange, AmbiguousMerge, Inserted, Updated, Deleted, Merged}
+use Rattle.wh_reply.specs.Reply.{Refusal, Reply, TypeMismatch, NumberOutOfRange, AmbiguousMerge, Inserted, Updated}
+use Rattle.wh_reply.specs.Reply.{Deleted, Merged}
 use Rattle.wh_effect.specs.Effect as effects
 use Rattle.wh_effect.specs.Effect.{Kept, Effect, effect}
 use Rattle.wh_machine.specs.State.{State, Object, Table, last_rows}
 use Rattle.wh_machine.specs.Edits.{edits_of}
-use Rattle.wh_machine.specs.Outcome.{Outcome, Refuses, EditsRows, answers, commits, refused_past, first_of, unless, table_partitions_made}
+use Rattle.wh_machine.specs.Outcome.{Outcome, Refuses, EditsRows, answers, commits, refused_past, first_of, unless}
+use Rattle.wh_machine.specs.Outcome.{table_partitions_made}
 use Rattle.wh_machine.specs.Tables.{table_at}
 use Rattle.wh_machine.specs.Queries.{names_from, instance_of, naming_refusal}
 
@@ -43,7 +45,8 @@ reply_to (Merge source on clauses) e = Merged (length e.added) (length e.changed
 -- no commit where no row counts
 abbrev pub carried_over : ℕ → Change → Effect → Outcome
 carried_over id change e =
-    if nat_lt 0 (counted e) then commits (reply_to change e) (EditsRows id (edits_of e) ∷ []) else answers (reply_to change e)
+    if nat_lt 0 (counted e) then commits (reply_to change e) (EditsRows id (edits_of e) ∷ [])
+    else answers (reply_to change e)
 
 abbrev pub settled_effect : ℕ → Change → Table → effects.Outcome → Outcome
 settled_effect id change t effects.Undefined = Refuses NumberOutOfRange
@@ -53,11 +56,13 @@ settled_effect id change t (effects.Does e) = unless (edits_refusal t e) (carrie
 -- a target that nothing is found wrong with is a table
 abbrev pub change_table : List Object → BoundChange → Option Table → Outcome
 change_table objects b None = Refuses TypeMismatch
-change_table objects b (Some t) = settled_effect b.target b.change t (effect b.change (rows_seen t) (instance_of objects b.sources))
+change_table objects b (Some t) =
+    settled_effect b.target b.change t (effect b.change (rows_seen t) (instance_of objects b.sources))
 
 -- names and types first, and then the columns of its queries
 abbrev pub change_bound : List Object → BoundChange → Outcome
-change_bound objects b = unless (naming_refusal b.findings b.is_wide) (change_table objects b (table_at objects b.target))
+change_bound objects b =
+    unless (naming_refusal b.findings b.is_wide) (change_table objects b (table_at objects b.target))
 
 unfoldable pub change_rows : State → Dml → Outcome
 change_rows s statement = change_bound s.objects (bound_change (names_from 1 s.objects) statement)

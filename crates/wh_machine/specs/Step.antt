@@ -4,11 +4,13 @@
 --     step                      the state after an event, and its reply
 --     acts_of                   the acts of the commit that an event makes, where it makes one
 --     after, text, refusals     the state after events, the text of their replies, and how many are refusals
-use Rattle.std.specs.Prelude.{ℕ, ◌+◌, max, Bool, ◌&&◌, List, [], ◌∷◌, ◌++◌, Option, Some, None, nat_le, nat_lt, if◌then◌else◌}
+use Rattle.std.specs.Prelude.{ℕ, ◌+◌, max, Bool, ◌&&◌, List, [], ◌∷◌, ◌++◌, Option, Some, None}
+use Rattle.std.specs.Prelude.{nat_le, nat_lt, if◌then◌else◌}
 use Rattle.wh_value.specs.Limit.{bound}
 use Rattle.wh_value.specs.declared.limit.Limit.TheVariants as limits
 use Rattle.wh_grammar.specs.Spelled.{Request, TooLong, Unreadable, Asked}
-use Rattle.wh_reply.specs.Reply.{Reply, Idle, Refused, Unsupported, SyntaxError, NoSuchSession, OverLimit, is_refusal, print}
+use Rattle.wh_reply.specs.Reply.{Reply, Idle, Refused, Unsupported, SyntaxError, NoSuchSession}
+use Rattle.wh_reply.specs.Reply.{OverLimit, is_refusal, print}
 use Rattle.wh_machine.specs.State.{State}
 use Rattle.wh_machine.specs.Statement.{Statement, CreateTable, DropTable, ChangeRows, Select, form_of}
 use Rattle.wh_machine.specs.Outcome.{Act, Outcome, Refuses, answers, settled, acts_in}
@@ -41,7 +43,8 @@ is_session session = nat_le 1 session && nat_le session 64
 unfoldable pub commanded : State → ℕ → Request → Outcome
 commanded s session TooLong = Refuses (OverLimit limits.Statement)
 commanded s session Unreadable = Refuses SyntaxError
-commanded s session (Asked tree) = if is_session session then carried_out s (form_of tree) else Refuses (NoSuchSession session)
+commanded s session (Asked tree) =
+    if is_session session then carried_out s (form_of tree) else Refuses (NoSuchSession session)
 
 -- nothing is ever due yet at a tick
 abbrev pub outcome_of : State → Event → Outcome

@@ -2,7 +2,8 @@
 --     written        the changes that say what acts do
 --     made           the commit that an event makes, where it makes one
 --     overflow       the first commit of some events that a file has no room for
-use Rattle.std.specs.Prelude.{ℕ, ◌+◌, Bool, false, List, [], ◌∷◌, ◌++◌, length, Option, Some, None, option_map, nat_lt, if◌then◌else◌}
+use Rattle.std.specs.Prelude.{ℕ, ◌+◌, Bool, false, List, [], ◌∷◌, ◌++◌, length, Option, Some, None}
+use Rattle.std.specs.Prelude.{option_map, nat_lt, if◌then◌else◌}
 use Rattle.wh_machine.specs.State.{State, at_id}
 use Rattle.wh_machine.specs.Edits.{Edits, numbers_gone, partitions_made}
 use Rattle.wh_machine.specs.Outcome.{Act, MakesTable, DropsObject, EditsRows}
@@ -38,7 +39,8 @@ act_written stamp objects (EditsRows id e) = version_written_to stamp id e (at_i
 
 abbrev pub written : ℕ → List StoredObject → List Act → List Change
 written stamp objects [] = []
-written stamp objects (act ∷ acts) = act_written stamp objects act ++ written stamp (all_changed stamp objects (act_written stamp objects act)) acts
+written stamp objects (act ∷ acts) =
+    act_written stamp objects act ++ written stamp (all_changed stamp objects (act_written stamp objects act)) acts
 
 abbrev pub commit_for : Stored → ℕ → List Act → Commit
 commit_for s stamp acts = record { stamp = stamp; changes = written stamp s.objects acts }

@@ -87,7 +87,9 @@ print (Inserted count) = line (codes "INSERTED " ++ decimal count)
 print (Updated count) = line (codes "UPDATED " ++ decimal count)
 print (Deleted count) = line (codes "DELETED " ++ decimal count)
 print (Merged inserted updated deleted) =
-    line (codes "MERGED " ++ decimal inserted ++ codes " INSERTED " ++ decimal updated ++ codes " UPDATED " ++ decimal deleted ++ codes " DELETED")
-print (Listing names rows) = line (parted names) ++ flat_map row_line rows ++ line (codes "(" ++ decimal (length rows) ++ codes " rows)")
+    line (codes "MERGED " ++ decimal inserted ++ codes " INSERTED " ++ decimal updated ++ codes " UPDATED "
+    ++ decimal deleted ++ codes " DELETED")
+print (Listing names rows) =
+    line (parted names) ++ flat_map row_line rows ++ line (codes "(" ++ decimal (length rows) ++ codes " rows)")
 print Idle = line (codes "IDLE")
 print (Refused why) = line (refusal_text why)
