@@ -23,7 +23,8 @@ use Rattle.wh_naming.specs.Changes.{bound_change, condition_of}
 use Rattle.wh_naming.proofs.Written.{layers, number, null, column, equal, plus}
 use Rattle.wh_effect.specs.Effect.{effect}
 use Rattle.wh_reply.specs.Reply.{NumberOutOfRange, Inserted, Updated, Deleted}
-use Rattle.wh_machine.specs.State.{Rows, Contents, Table, TableKind, State, Version, nothing_held, version_at, last_rows, last_partitions}
+use Rattle.wh_machine.specs.State.{Rows, Contents, Table, TableKind, State, Version, nothing_held, version_at}
+use Rattle.wh_machine.specs.State.{last_rows, last_partitions}
 use Rattle.wh_machine.specs.Edits.{RowEdits, Edits, rows_after, edits_of, partitions_made}
 use Rattle.wh_machine.specs.Outcome.{Refuses, edited_table, EditsRows, answers, commits}
 use Rattle.wh_machine.specs.Changes.{edits_refusal, change_rows}
@@ -48,12 +49,17 @@ table_t = record {
 }
 
 abbrev filled : State
-filled = record { last = 3; committed = 2; objects = record { name = codes "T"; is_live = true; created = 1; kind = TableKind table_t } ∷ [] }
+filled = record {
+  last = 3;
+  committed = 2;
+  objects = record { name = codes "T"; is_live = true; created = 1; kind = TableKind table_t } ∷ [];
+}
 
 row_put : (rows : Rows) (k : ℕ) (row : Row) → entries (insert rows k row) ≡ put nat_cmp k row (entries rows)
 row_put rows k row = entries-insert nat_cmp_total rows k row
 
-edit_put : (edits : RowEdits) (k : ℕ) (new : Option Row) (q : ℕ) → get (insert edits k new) q ≡ cond (eq_by_cmp nat_cmp q k) (Some new) (get edits q)
+edit_put : (edits : RowEdits) (k : ℕ) (new : Option Row) (q : ℕ)
+    → get (insert edits k new) q ≡ cond (eq_by_cmp nat_cmp q k) (Some new) (get edits q)
 edit_put edits k new q = get-insert nat_cmp_total edits k new q
 
 edit_none : (q : ℕ) → get (empty {K = ℕ} {X = Option Row} {R = nat_cmp}) q ≡ None
@@ -73,29 +79,41 @@ abbrev update : Expr → Option Expr → Dml
 update x filter = dml.Update (codes "T") ((record { column = codes "K"; value = x }) ∷ []) filter
 
 -- the row of the condition goes; without one all go
-deleted : (change_rows filled (delete (Some (is_k 7))) ≡ commits (Deleted 1) (EditsRows 1 (record { rows = insert empty 2 None; added = [] }) ∷ []))
-    × (change_rows filled (delete None) ≡ commits (Deleted 2) (EditsRows 1 (record { rows = insert (insert empty 1 None) 2 None; added = [] }) ∷ []))
-unfolding change_rows bound_change first_failing column_at typing.step effect values_on val edits_refusal partitions_made edits_of
+deleted : (change_rows filled (delete (Some (is_k 7)))
+    ≡ commits (Deleted 1) (EditsRows 1 (record { rows = insert empty 2 None; added = [] }) ∷ []))
+    × (change_rows filled (delete None)
+    ≡ commits (Deleted 2) (EditsRows 1 (record { rows = insert (insert empty 1 None) 2 None; added = [] }) ∷ []))
+unfolding change_rows bound_change first_failing column_at typing.step effect values_on val edits_refusal
+    partitions_made edits_of
 deleted = (simp steps, simp steps)
 
 -- also where the new row is an equal one
-updated : (change_rows filled (update (plus (column (codes "K")) (number 1)) (Some (is_k 7))) ≡ commits (Updated 1) (EditsRows 1 (record { rows = insert empty 2 (Some (row 8)); added = [] }) ∷ []))
-    × (change_rows filled (update (number 5) None) ≡ commits (Updated 2) (EditsRows 1 (record { rows = insert (insert empty 1 (Some (row 5))) 2 (Some (row 5)); added = [] }) ∷ []))
-unfolding change_rows bound_change first_failing column_at typing.step effect values_on val edits_refusal partitions_made edits_of
+updated : (change_rows filled (update (plus (column (codes "K")) (number 1)) (Some (is_k 7)))
+    ≡ commits (Updated 1) (EditsRows 1 (record { rows = insert empty 2 (Some (row 8)); added = [] }) ∷ []))
+    × (change_rows filled (update (number 5) None) ≡ commits (Updated 2)
+    (EditsRows 1 (record { rows = insert (insert empty 1 (Some (row 5))) 2 (Some (row 5)); added = [] }) ∷ []))
+unfolding change_rows bound_change first_failing column_at typing.step effect values_on val edits_refusal
+    partitions_made edits_of
 updated = (simp steps, simp steps)
 
-added : change_rows filled (dml.Insert (codes "T") None (rows.Values ((number 5 ∷ []) ∷ []))) ≡ commits (Inserted 1) (EditsRows 1 (record { rows = empty; added = row 5 ∷ [] }) ∷ [])
-unfolding change_rows bound_change first_failing column_at typing.step effect values_on val edits_refusal partitions_made edits_of
+added : change_rows filled (dml.Insert (codes "T") None (rows.Values ((number 5 ∷ []) ∷ [])))
+    ≡ commits (Inserted 1) (EditsRows 1 (record { rows = empty; added = row 5 ∷ [] }) ∷ [])
+unfolding change_rows bound_change first_failing column_at typing.step effect values_on val edits_refusal
+    partitions_made edits_of
 added = simp steps
 
-none_counts : (change_rows filled (delete (Some (is_k 6))) ≡ answers (Deleted 0)) × (change_rows filled (update (number 9) (Some (is_k 6))) ≡ answers (Updated 0))
-unfolding change_rows bound_change first_failing column_at typing.step effect values_on val edits_refusal partitions_made edits_of
+none_counts : (change_rows filled (delete (Some (is_k 6))) ≡ answers (Deleted 0))
+    × (change_rows filled (update (number 9) (Some (is_k 6))) ≡ answers (Updated 0))
+unfolding change_rows bound_change first_failing column_at typing.step effect values_on val edits_refusal
+    partitions_made edits_of
 none_counts = (simp steps, simp steps)
 
 -- a condition that is NULL holds on no row; one that is undefined on a row leaves no outcome
 no_value : (change_rows filled (delete (Some (equal (column (codes "K")) null))) ≡ answers (Deleted 0))
-    × (change_rows filled (delete (Some (equal (plus (column (codes "K")) (number 999999999999999994)) (number 0)))) ≡ Refuses NumberOutOfRange)
-unfolding change_rows bound_change first_failing column_at typing.step effect values_on val edits_refusal partitions_made edits_of
+    × (change_rows filled (delete (Some (equal (plus (column (codes "K")) (number 999999999999999994)) (number 0))))
+    ≡ Refuses NumberOutOfRange)
+unfolding change_rows bound_change first_failing column_at typing.step effect values_on val edits_refusal
+    partitions_made edits_of
 no_value = (simp steps, simp steps)
 
 -- ---- the table after a commit
@@ -104,7 +122,8 @@ abbrev change : Edits
 change = record { rows = insert empty 2 (Some (row 8)); added = row 9 ∷ [] }
 
 -- both versions stay; the third has a partition in the place of the one that goes, and one of the row that comes
-rewritten : (map (λ p. p.rows) (last_partitions (edited_table 4 change table_t)) ≡ ((1, row 5) ∷ (2, row 8) ∷ []) ∷ ((3, row 9) ∷ []) ∷ [])
+rewritten : (map (λ p. p.rows) (last_partitions (edited_table 4 change table_t))
+    ≡ ((1, row 5) ∷ (2, row 8) ∷ []) ∷ ((3, row 9) ∷ []) ∷ [])
     × (map (λ p. p.number) (last_partitions (edited_table 4 change table_t)) ≡ 2 ∷ 3 ∷ [])
     × (values (last_rows (edited_table 4 change table_t)) ≡ row 5 ∷ row 8 ∷ row 9 ∷ [])
     × ((edited_table 4 change table_t).next_row ≡ 4) × ((edited_table 4 change table_t).next_partition ≡ 4)

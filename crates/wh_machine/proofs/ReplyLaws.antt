@@ -10,7 +10,8 @@ use Rattle.std.specs.Prelude.{codes, decimal}
 use Rattle.std.specs.List.{flat_map}
 use Rattle.std.proofs.lemmas.Bool.{le-leb, lt-leb}
 use Rattle.wh_machine.specs.State.{State}
-use Rattle.wh_reply.specs.Reply.{Reply, CreatedTable, DroppedTable, Inserted, Updated, Deleted, Merged, Listing, Idle, Refused, line, parted, row_line, refusal_text, print}
+use Rattle.wh_reply.specs.Reply.{Reply, CreatedTable, DroppedTable, Inserted, Updated, Deleted, Merged, Listing, Idle}
+use Rattle.wh_reply.specs.Reply.{Refused, line, parted, row_line, refusal_text, print}
 use Rattle.wh_machine.specs.Step.{Event, step, after, text, refusals}
 use Rattle.wh_machine.specs.Stop.{whole_replies}
 
@@ -29,7 +30,8 @@ print_some (Inserted count) = line_some (codes "INSERTED " ++ decimal count)
 print_some (Updated count) = line_some (codes "UPDATED " ++ decimal count)
 print_some (Deleted count) = line_some (codes "DELETED " ++ decimal count)
 print_some (Merged inserted updated deleted) =
-    line_some (codes "MERGED " ++ decimal inserted ++ codes " INSERTED " ++ decimal updated ++ codes " UPDATED " ++ decimal deleted ++ codes " DELETED")
+    line_some (codes "MERGED " ++ decimal inserted ++ codes " INSERTED " ++ decimal updated ++ codes " UPDATED "
+    ++ decimal deleted ++ codes " DELETED")
 print_some (Listing names rows) =
     let last : List ℕ = codes "(" ++ decimal (length rows) ++ codes " rows)" in
     ends_some (line (parted names) ++ flat_map row_line rows) (line last) (line_some last)
@@ -51,7 +53,8 @@ text_append s (e ∷ es) fs =
     ∙ sym (append_assoc (print (step s e).1) (text (step s e).0 es) (text (after s (e ∷ es)) fs))
 
 -- how many are refused of events, and then of more
-pub refusals_append : (s : State) (es fs : List Event) → refusals s (es ++ fs) ≡ refusals s es + refusals (after s es) fs
+pub refusals_append : (s : State) (es fs : List Event)
+    → refusals s (es ++ fs) ≡ refusals s es + refusals (after s es) fs
 refusals_append s [] fs = omega arith
 refusals_append s (e ∷ es) fs = omega (arith, refusals_append (step s e).0 es fs)
 

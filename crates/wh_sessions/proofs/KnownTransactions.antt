@@ -4,7 +4,8 @@
 --     of_two             a transaction that touched table 2 and holds table 5 untouched
 use Rattle.std.proofs.Common.{◌≡◌, ℕ, true, false, List, [], ◌∷◌, Option, Some, None, cond, pos, sym, ◌∙◌}
 use Rattle.std.proofs.lemmas.List.{nil_from_length}
-use Rattle.std.specs.FinMap.{FinMap, empty, get, insert, remove, entries, get-empty, get-insert, get-remove, entries-insert, len-entries, len-empty}
+use Rattle.std.specs.FinMap.{FinMap, empty, get, insert, remove, entries, get-empty, get-insert, get-remove}
+use Rattle.std.specs.FinMap.{entries-insert, len-entries, len-empty}
 use Rattle.std.specs.FinMap.Entries.{put}
 use Rattle.std.specs.Ordering.{nat_cmp, eq_by_cmp}
 use Rattle.std.specs.Cmp.{nat_cmp_total}
@@ -18,8 +19,10 @@ use Rattle.wh_machine.specs.State.{Rows, Object, TableKind, new_object, version_
 use Rattle.wh_machine.specs.Tables.{table_at}
 use Rattle.wh_machine.specs.Edits.{Edits, edits_of, rows_after}
 use Rattle.wh_machine.specs.Outcome.{EditsRows, edited_table}
-use Rattle.wh_sessions.specs.Transaction.{Staged, Transaction, begun, no_edits, later_edits, seen, staged, acts_of, commit_refusal}
-use Rattle.wh_sessions.specs.Sessions.{Sessions, no_sessions, number_of, holder, locked_by, with_begun, with_ended, with_transaction}
+use Rattle.wh_sessions.specs.Transaction.{Staged, Transaction, begun, no_edits, later_edits, seen, staged, acts_of}
+use Rattle.wh_sessions.specs.Transaction.{commit_refusal}
+use Rattle.wh_sessions.specs.Sessions.{Sessions, no_sessions, number_of, holder, locked_by, with_begun, with_ended}
+use Rattle.wh_sessions.specs.Sessions.{with_transaction}
 
 abbrev row : ℕ → Row
 row k = Number (pos k) ∷ []
@@ -30,7 +33,8 @@ put_in m k x = entries-insert nat_cmp_total m k x
 none_in : {X : Type 0} → entries (empty {K = ℕ} {X = X} {R = nat_cmp}) ≡ []
 none_in {X} = nil_from_length _ (sym (len-entries empty) ∙ len-empty nat_cmp X)
 
-got : {X : Type 0} (m : FinMap nat_cmp X) (k : ℕ) (x : X) (q : ℕ) → get (insert m k x) q ≡ cond (eq_by_cmp nat_cmp q k) (Some x) (get m q)
+got : {X : Type 0} (m : FinMap nat_cmp X) (k : ℕ) (x : X) (q : ℕ)
+    → get (insert m k x) q ≡ cond (eq_by_cmp nat_cmp q k) (Some x) (get m q)
 got m k x q = get-insert nat_cmp_total m k x q
 
 got_none : {X : Type 0} (q : ℕ) → get (empty {K = ℕ} {X = X} {R = nat_cmp}) q ≡ None
@@ -46,7 +50,8 @@ first = record { rows = empty; added = row 30 ∷ row 40 ∷ [] }
 
 -- the added rows are seen under the numbers 3 and 4
 abbrev second : Edits
-second = record { rows = insert (insert (insert empty 3 None) 4 (Some (row 41))) 1 (Some (row 11)); added = row 50 ∷ [] }
+second =
+    record { rows = insert (insert (insert empty 3 None) 4 (Some (row 41))) 1 (Some (row 11)); added = row 50 ∷ [] }
 
 -- a row that was added and deleted takes no number
 both : later_edits 3 first second ≡ record { rows = insert empty 1 (Some (row 11)); added = row 41 ∷ row 50 ∷ [] }
@@ -56,7 +61,8 @@ both = simp (put_in, none_in, got)
 abbrev committed : Rows
 committed = insert (insert empty 1 (row 10)) 2 (row 20)
 
-seen_rows : entries (rows_after 3 (later_edits 3 first second) committed) ≡ (1, row 11) ∷ (2, row 20) ∷ (3, row 41) ∷ (4, row 50) ∷ []
+seen_rows : entries (rows_after 3 (later_edits 3 first second) committed)
+    ≡ (1, row 11) ∷ (2, row 20) ∷ (3, row 41) ∷ (4, row 50) ∷ []
 unfolding rows_after later_edits
 seen_rows = simp (put_in, none_in, got, got_none)
 
@@ -96,7 +102,8 @@ unfolding seen edited_table rows_after
 its_rows_are_seen = simp (put_in, none_in, got, got_none)
 
 -- one row more than there are numbers
-a_commit_past_the_last_row_number : commit_refusal (table_with (bound limits.RowNumber) ∷ []) after_one ≡ Some (OverLimit limits.RowNumber)
+a_commit_past_the_last_row_number : commit_refusal (table_with (bound limits.RowNumber) ∷ []) after_one
+    ≡ Some (OverLimit limits.RowNumber)
 unfolding commit_refusal
 a_commit_past_the_last_row_number = simp (put_in, none_in)
 
