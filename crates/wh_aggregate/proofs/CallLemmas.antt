@@ -6,7 +6,8 @@ use Rattle.std.proofs.lemmas.Int.{ints}
 use Rattle.wh_value.specs.Value.{Value, Number, Truth, Text, Null, Row}
 use Rattle.wh_meaning.specs.Scalar.{Scalar, val, of_one, of_two}
 use Rattle.wh_meaning.specs.Bag.{bag_of}
-use Rattle.wh_meaning.specs.Query.{Call, Sum, CountRows, Count, Total, with_number, with_argument, with_value, sum_value, count_value, call_over, calls_over, total_of}
+use Rattle.wh_meaning.specs.Query.{Call, Sum, CountRows, Count, Total, with_number, with_argument, with_value}
+use Rattle.wh_meaning.specs.Query.{sum_value, count_value, call_over, calls_over, total_of}
 use Rattle.wh_meaning.proofs.BagLaws.{fold_list, fold_bag_of}
 use Rattle.wh_aggregate.specs.Tally.{argument_of, nothing, before, tallied, answer, answers}
 use Rattle.wh_aggregate.specs.Groups.{totals_from}
@@ -17,7 +18,8 @@ sums-turned x y s = omega (arith, ints)
 numbers-turned : (a b : Value) (t : Total) → with_number a (with_number b t) ≡ with_number b (with_number a t)
 numbers-turned Null b t = refl
 numbers-turned (Number x) Null t = refl
-numbers-turned (Number x) (Number y) t = ap (λ s. let r : Total = record { sum = s; values = suc (suc t.values) } in r) (sums-turned x y t.sum)
+numbers-turned (Number x) (Number y) t =
+    ap (λ s. let r : Total = record { sum = s; values = suc (suc t.values) } in r) (sums-turned x y t.sum)
 numbers-turned (Number x) (Truth b) t = refl
 numbers-turned (Number x) (Text b) t = refl
 numbers-turned (Truth a) Null t = refl
@@ -29,7 +31,8 @@ numbers-turned (Text a) (Number y) t = refl
 numbers-turned (Text a) (Truth b) t = refl
 numbers-turned (Text a) (Text b) t = refl
 
-arguments-turned : (a b : Option Value) (t : Option Total) → with_argument a (with_argument b t) ≡ with_argument b (with_argument a t)
+arguments-turned : (a b : Option Value) (t : Option Total)
+    → with_argument a (with_argument b t) ≡ with_argument b (with_argument a t)
 arguments-turned None None t = refl
 arguments-turned None (Some b) t = refl
 arguments-turned (Some a) None t = refl
@@ -41,13 +44,16 @@ abbrev total_from : Call → List Row → Option Total
 total_from call rows = fold_list (λ row t. with_argument (argument_of call row) t) (Some nothing) rows
 
 total_of-bag_of : (e : Scalar) (rows : List Row) → total_of e (bag_of rows) ≡ total_from (Sum e) rows
-total_of-bag_of e rows = fold_bag_of (λ row t. with_argument (val e row) t) (Some nothing) (λ x y t. arguments-turned (val e x) (val e y) t) rows
+total_of-bag_of e rows = fold_bag_of (λ row t. with_argument (val e row) t) (Some nothing)
+    (λ x y t. arguments-turned (val e x) (val e y) t) rows
 
-rows_counted : (rows : List Row) → total_from CountRows rows ≡ Some (record { sum = pos 0; values = fold_list (λ row n. suc n) 0 rows })
+rows_counted : (rows : List Row)
+    → total_from CountRows rows ≡ Some (record { sum = pos 0; values = fold_list (λ row n. suc n) 0 rows })
 rows_counted [] = refl
 rows_counted (row ∷ rows) = ap (with_argument (argument_of CountRows row)) (rows_counted rows)
 
-answer-bag_of : (call : Call) (rows : List Row) → call_over (bag_of rows) call ≡ of_one (answer call) (total_from call rows)
+answer-bag_of : (call : Call) (rows : List Row)
+    → call_over (bag_of rows) call ≡ of_one (answer call) (total_from call rows)
 unfolding call_over
 answer-bag_of (Sum e) rows = ap (of_one (λ t. sum_value t.sum t.values)) (total_of-bag_of e rows)
 answer-bag_of CountRows rows =
@@ -62,12 +68,15 @@ nothing_beside f None = refl
 nothing_beside f (Some a) = refl
 
 tallied-both : (call : Call) (calls : List Call) (row : Row) (t : Option Total) (ts : Option (List Total)) →
-    of_one (tallied (call ∷ calls) row) (of_two before t ts) ≡ of_two before (with_argument (argument_of call row) t) (of_one (tallied calls row) ts)
-tallied-both call calls row None ts = sym (ap (λ t. of_two before t (of_one (tallied calls row) ts)) (nothing_beside _ (argument_of call row)))
+    of_one (tallied (call ∷ calls) row) (of_two before t ts)
+    ≡ of_two before (with_argument (argument_of call row) t) (of_one (tallied calls row) ts)
+tallied-both call calls row None ts =
+    sym (ap (λ t. of_two before t (of_one (tallied calls row) ts)) (nothing_beside _ (argument_of call row)))
 tallied-both call calls row (Some t) None = sym (nothing_beside before _)
 tallied-both call calls row (Some t) (Some ts) = refl
 
-totals_from-both : (call : Call) (calls : List Call) (rows : List Row) → totals_from (call ∷ calls) rows ≡ of_two before (total_from call rows) (totals_from calls rows)
+totals_from-both : (call : Call) (calls : List Call) (rows : List Row)
+    → totals_from (call ∷ calls) rows ≡ of_two before (total_from call rows) (totals_from calls rows)
 totals_from-both call calls [] = refl
 totals_from-both call calls (row ∷ rows) =
     ap (of_one (tallied (call ∷ calls) row)) (totals_from-both call calls rows)
@@ -78,12 +87,14 @@ totals_from-none [] = refl
 totals_from-none (row ∷ rows) = ap (of_one (tallied [] row)) (totals_from-none rows)
 
 answers-both : (call : Call) (calls : List Call) (t : Option Total) (ts : Option (List Total)) →
-    with_value (of_one (answer call) t) (of_one (answers calls) ts) ≡ of_one (answers (call ∷ calls)) (of_two before t ts)
+    with_value (of_one (answer call) t) (of_one (answers calls) ts)
+    ≡ of_one (answers (call ∷ calls)) (of_two before t ts)
 answers-both call calls None ts = refl
 answers-both call calls (Some t) None = nothing_beside _ (answer call t)
 answers-both call calls (Some t) (Some ts) = refl
 
-pub answers-bag_of : (calls : List Call) (rows : List Row) → calls_over (bag_of rows) calls ≡ of_one (answers calls) (totals_from calls rows)
+pub answers-bag_of : (calls : List Call) (rows : List Row)
+    → calls_over (bag_of rows) calls ≡ of_one (answers calls) (totals_from calls rows)
 answers-bag_of [] rows = sym (ap (of_one (answers [])) (totals_from-none rows))
 answers-bag_of (call ∷ calls) rows =
     ap (λ v. with_value v (calls_over (bag_of rows) calls)) (answer-bag_of call rows)

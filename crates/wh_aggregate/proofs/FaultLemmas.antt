@@ -11,17 +11,20 @@ use Rattle.wh_scalar.specs.declared.fault.EvalFault.TheVariants.{NumberOutOfRang
 use Rattle.wh_aggregate.specs.Given.{IsFaultOf, Gives, GivesRows}
 
 -- the whole has nothing without the part
-pub still : {A B : Type 0} (fault : EvalFault) (part : Option A) (whole : Option B) → (part ≡ None → whole ≡ None) → IsFaultOf fault part → IsFaultOf fault whole
+pub still : {A B : Type 0} (fault : EvalFault) (part : Option A) (whole : Option B) → (part ≡ None → whole ≡ None)
+    → IsFaultOf fault part → IsFaultOf fault whole
 still NumberOutOfRange part whole stops is = stops is
 still OutOfMemory part whole stops is = tt
 
-pub passed_on : {T : Type 0} (r : Result T EvalFault) (fault : EvalFault) (P : Result T EvalFault → Type 0) → IsErrAnd r (λ f. f ≡ fault) → P (Err fault) → P r
+pub passed_on : {T : Type 0} (r : Result T EvalFault) (fault : EvalFault) (P : Result T EvalFault → Type 0)
+    → IsErrAnd r (λ f. f ≡ fault) → P (Err fault) → P r
 passed_on (Ok x) fault P gives is = absurd gives
 passed_on (Err f) fault P gives is = subst (λ e. P (Err e)) (sym gives) is
 
-pub stopped : {A B : Type 0} (r : Result B EvalFault) (fault : EvalFault) (part : Option A) (whole : Option B) → IsErrAnd r (λ f. f ≡ fault)
-    → (part ≡ None → whole ≡ None) → IsFaultOf fault part → Gives r whole
-stopped r fault part whole gives stops is = passed_on r fault (λ x. Gives x whole) gives (still fault part whole stops is)
+pub stopped : {A B : Type 0} (r : Result B EvalFault) (fault : EvalFault) (part : Option A) (whole : Option B)
+    → IsErrAnd r (λ f. f ≡ fault) → (part ≡ None → whole ≡ None) → IsFaultOf fault part → Gives r whole
+stopped r fault part whole gives stops is =
+    passed_on r fault (λ x. Gives x whole) gives (still fault part whole stops is)
 
 pub fault_of_rows : (fault : EvalFault) (meant : Option Bag) → IsFaultOf fault meant → GivesRows (Err fault) meant
 fault_of_rows NumberOutOfRange meant is = is

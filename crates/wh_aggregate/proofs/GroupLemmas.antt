@@ -2,7 +2,8 @@
 --     grouped-listed        where it ends, the rows of its groups are those that are meant
 --     grouped-undefined     where it stops, none are meant
 --     grouped-whole         the same without keys
-use Rattle.std.specs.Prelude.{◌≡◌, ℕ, Bool, true, false, cond, ◌||◌, ◌⊎◌, List, [], ◌∷◌, ◌++◌, map, filter, Option, Some, None, option_map, is_some, unwrap_or}
+use Rattle.std.specs.Prelude.{◌≡◌, ℕ, Bool, true, false, cond, ◌||◌, ◌⊎◌, List, [], ◌∷◌, ◌++◌, map, filter, Option}
+use Rattle.std.specs.Prelude.{Some, None, option_map, is_some, unwrap_or}
 use Rattle.std.proofs.Common.{refl, sym, ap, ◌∙◌, inl, inr}
 use Rattle.std.specs.List.{AllByRecursion, list_any}
 use Rattle.std.specs.Ordering.{is_eq, eq_by_cmp}
@@ -15,9 +16,11 @@ use Rattle.wh_meaning.specs.Query.{Call, Total, values_on, image_by, projected, 
 use Rattle.wh_meaning.specs.Query as meaning
 use Rattle.wh_meaning.proofs.BagLaws.{tied_rows, one_row-plus, restricted-bag_of}
 use Rattle.wh_aggregate.specs.Tally.{begun, tallied, answers}
-use Rattle.wh_aggregate.specs.Groups.{Groups, totals_from, totals_at, noted, groups_from, group_row, row_before, listed, alone, whole_from}
+use Rattle.wh_aggregate.specs.Groups.{Groups, totals_from, totals_at, noted, groups_from, group_row, row_before, listed}
+use Rattle.wh_aggregate.specs.Groups.{alone, whole_from}
 use Rattle.wh_aggregate.proofs.CallLemmas.{answers-bag_of, nothing_beside}
-use Rattle.wh_aggregate.proofs.KeyLemmas.{gathered-no_rows, gathered-with_row, keys-insert, keys-empty, tied, entries_found}
+use Rattle.wh_aggregate.proofs.KeyLemmas.{gathered-no_rows, gathered-with_row, keys-insert}
+use Rattle.wh_aggregate.proofs.KeyLemmas.{keys-empty, tied, entries_found}
 
 abbrev has_key : List Scalar → Row → Row → Bool
 has_key by key row = is_row key (values_on by row)
@@ -28,11 +31,13 @@ own by key rows = filter (has_key by key) rows
 
 -- ---- what a step that ends tells of its parts
 
-mapped : {A B : Type 0} (f : A → B) (o : Option A) (y : B) → option_map f o ≡ Some y → (x : A) × (o ≡ Some x) × (y ≡ f x)
+mapped : {A B : Type 0} (f : A → B) (o : Option A) (y : B) → option_map f o ≡ Some y
+    → (x : A) × (o ≡ Some x) × (y ≡ f x)
 mapped f None y e = cc
 mapped f (Some x) y e = (x, refl, cc)
 
-record Step (calls : List Call) (row : Row) (key_found : Option Row) (found : Option Groups) (groups : Groups) : Type 0 where
+record Step (calls : List Call) (row : Row) (key_found : Option Row) (found : Option Groups)
+    (groups : Groups) : Type 0 where
   key : Row
   before : Groups
   totals : List Total
@@ -41,23 +46,38 @@ record Step (calls : List Call) (row : Row) (key_found : Option Row) (found : Op
   totals_is : tallied calls row (totals_at calls before key) ≡ Some totals
   groups_is : groups ≡ insert before key totals
 
-step_of : (calls : List Call) (row : Row) (k : Option Row) (g : Option Groups) (groups : Groups) → of_two (noted calls row) k g ≡ Some groups → Step calls row k g groups
+step_of : (calls : List Call) (row : Row) (k : Option Row) (g : Option Groups) (groups : Groups)
+    → of_two (noted calls row) k g ≡ Some groups
+    → Step calls row k g groups
 step_of calls row None g groups e = cc
 step_of calls row (Some key) None groups e = cc
 step_of calls row (Some key) (Some before) groups e =
     let found = mapped (insert before key) (tallied calls row (totals_at calls before key)) groups e in
-    record { key = key; before = before; totals = found.0; key_is = refl; before_is = refl; totals_is = found.1; groups_is = found.2 }
+    record {
+      key = key;
+      before = before;
+      totals = found.0;
+      key_is = refl;
+      before_is = refl;
+      totals_is = found.1;
+      groups_is = found.2;
+    }
 
 -- ---- the totals at a key are those of the rows that have it
 
-module _ (calls : List Call) (row : Row) (key : Row) (before : Groups) (totals : List Total) (totals_is : tallied calls row (totals_at calls before key) ≡ Some totals) where
-  totals_step : (q : Row) (rows : List Row) (b : Bool) → is_eq (row_cmp q key) ≡ b → totals_from calls rows ≡ Some (totals_at calls before q)
-      → totals_from calls (cond b (row ∷ rows) rows) ≡ Some (unwrap_or (cond b (Some totals) (get before q)) (begun calls))
+module _ (calls : List Call) (row : Row) (key : Row) (before : Groups) (totals : List Total)
+    (totals_is : tallied calls row (totals_at calls before key) ≡ Some totals) where
+  totals_step : (q : Row) (rows : List Row) (b : Bool) → is_eq (row_cmp q key) ≡ b
+      → totals_from calls rows ≡ Some (totals_at calls before q)
+      → totals_from calls (cond b (row ∷ rows) rows)
+      ≡ Some (unwrap_or (cond b (Some totals) (get before q)) (begun calls))
   totals_step q rows true t e =
-      ap (of_one (tallied calls row)) e ∙ ap (λ k. tallied calls row (totals_at calls before k)) (tied_rows q key t) ∙ totals_is
+      ap (of_one (tallied calls row)) e
+      ∙ ap (λ k. tallied calls row (totals_at calls before k)) (tied_rows q key t) ∙ totals_is
   totals_step q rows false t e = e
 
-own_totals : (by : List Scalar) (calls : List Call) (rows : List Row) (groups : Groups) → groups_from by calls rows ≡ Some groups → (q : Row)
+own_totals : (by : List Scalar) (calls : List Call) (rows : List Row) (groups : Groups)
+    → groups_from by calls rows ≡ Some groups → (q : Row)
     → totals_from calls (own by q rows) ≡ Some (totals_at calls groups q)
 own_totals by calls [] groups e q =
     let is : empty ≡ groups = cc in
@@ -65,19 +85,25 @@ own_totals by calls [] groups e q =
 own_totals by calls (row ∷ rows) groups e q =
     let s = step_of calls row (values_on by row) (groups_from by calls rows) groups e in
     ap (λ k. totals_from calls (cond (is_row q k) (row ∷ own by q rows) (own by q rows))) s.key_is
-    ∙ totals_step calls row s.key s.before s.totals s.totals_is q (own by q rows) (is_eq (row_cmp q s.key)) refl (own_totals by calls rows s.before s.before_is q)
-    ∙ ap (λ o. Some (unwrap_or o (begun calls))) (sym (ap (λ m. get m q) s.groups_is ∙ get-insert row_total s.before s.key s.totals q))
+    ∙ totals_step calls row s.key s.before s.totals s.totals_is q (own by q rows) (is_eq (row_cmp q s.key)) refl
+    (own_totals by calls rows s.before s.before_is q)
+    ∙ ap (λ o. Some (unwrap_or o (begun calls)))
+    (sym (ap (λ m. get m q) s.groups_is ∙ get-insert row_total s.before s.key s.totals q))
 
 -- ---- the keys of the groups are those of the rows
 
-projected-more : (by : List Scalar) (row : Row) (rows : List Row) → projected by (bag_of (row ∷ rows)) ≡ beside (image_by by row) (projected by (bag_of rows))
+projected-more : (by : List Scalar) (row : Row) (rows : List Row)
+    → projected by (bag_of (row ∷ rows)) ≡ beside (image_by by row) (projected by (bag_of rows))
 projected-more by row rows = gathered-with_row (image_by by) row (bag_of rows)
 
-one_more : (key : Row) (o : Option Row) (p : Option Bag) (keyed : Bag) → o ≡ Some key → p ≡ Some keyed → beside (option_map one_row o) p ≡ Some (with_row key keyed)
+one_more : (key : Row) (o : Option Row) (p : Option Bag) (keyed : Bag) → o ≡ Some key → p ≡ Some keyed
+    → beside (option_map one_row o) p ≡ Some (with_row key keyed)
 one_more key o p keyed o_is p_is =
-    ap (λ x. beside (option_map one_row x) p) o_is ∙ ap (beside (Some (one_row key))) p_is ∙ ap Some (one_row-plus key keyed)
+    ap (λ x. beside (option_map one_row x) p) o_is ∙ ap (beside (Some (one_row key))) p_is
+    ∙ ap Some (one_row-plus key keyed)
 
-keyed_rows : (by : List Scalar) (calls : List Call) (rows : List Row) (groups : Groups) → groups_from by calls rows ≡ Some groups
+keyed_rows : (by : List Scalar) (calls : List Call) (rows : List Row) (groups : Groups)
+    → groups_from by calls rows ≡ Some groups
     → (keyed : Bag) × (projected by (bag_of rows) ≡ Some keyed) × (keys groups ≡ keys keyed)
 keyed_rows by calls [] groups e =
     let is : groups ≡ empty = cc in
@@ -86,15 +112,18 @@ keyed_rows by calls (row ∷ rows) groups e =
     let s = step_of calls row (values_on by row) (groups_from by calls rows) groups e in
     let rest = keyed_rows by calls rows s.before s.before_is in (
       with_row s.key rest.0,
-      projected-more by row rows ∙ one_more s.key (values_on by row) (projected by (bag_of rows)) rest.0 s.key_is rest.1,
+      projected-more by row rows
+          ∙ one_more s.key (values_on by row) (projected by (bag_of rows)) rest.0 s.key_is rest.1,
       ap keys s.groups_is ∙ keys-insert s.before rest.0 s.key s.totals (count rest.0 s.key) rest.2,
     )
 
 -- a key that a row has is among them
-keyed_has_more : (key q : Row) (keyed : Bag) → contains_key (with_row key keyed) q ≡ (is_eq (row_cmp q key) || contains_key keyed q)
+keyed_has_more : (key q : Row) (keyed : Bag)
+    → contains_key (with_row key keyed) q ≡ (is_eq (row_cmp q key) || contains_key keyed q)
 keyed_has_more key q keyed =
     ap is_some (get-insert row_total keyed key (count keyed key) q)
-    ∙ elim (is_eq (row_cmp q key)) as (λ b. is_some (cond b (Some (count keyed key)) (get keyed q)) ≡ (b || is_some (get keyed q))) [ true ↦ refl | false ↦ refl ]
+    ∙ elim (is_eq (row_cmp q key)) as (λ b. is_some (cond b (Some (count keyed key)) (get keyed q))
+    ≡ (b || is_some (get keyed q))) [ true ↦ refl | false ↦ refl ]
 
 record Image (o : Option Row) (p : Option Bag) (keyed : Bag) : Type 0 where
   key : Row
@@ -103,14 +132,16 @@ record Image (o : Option Row) (p : Option Bag) (keyed : Bag) : Type 0 where
   rest_is : p ≡ Some rest
   keyed_is : keyed ≡ with_row key rest
 
-image_of : (o : Option Row) (p : Option Bag) (keyed : Bag) → beside (option_map one_row o) p ≡ Some keyed → Image o p keyed
+image_of : (o : Option Row) (p : Option Bag) (keyed : Bag) → beside (option_map one_row o) p ≡ Some keyed
+    → Image o p keyed
 image_of None p keyed e = cc
 image_of (Some key) None keyed e = cc
 image_of (Some key) (Some rest) keyed e =
     let joined : Some (with_row key rest) ≡ Some keyed = ap Some (sym (one_row-plus key rest)) ∙ e in
     record { key = key; rest = rest; key_is = refl; rest_is = refl; keyed_is = cc joined }
 
-keyed_has : (by : List Scalar) (q : Row) (rows : List Row) (keyed : Bag) → projected by (bag_of rows) ≡ Some keyed → contains_key keyed q ≡ list_any (has_key by q) rows
+keyed_has : (by : List Scalar) (q : Row) (rows : List Row) (keyed : Bag) → projected by (bag_of rows) ≡ Some keyed
+    → contains_key keyed q ≡ list_any (has_key by q) rows
 keyed_has by q [] keyed e =
     let is : Some no_rows ≡ Some keyed = sym (gathered-no_rows (image_by by)) ∙ e in
     let same : keyed ≡ no_rows = cc is in
@@ -124,26 +155,32 @@ keyed_has by q (row ∷ rows) keyed e =
 
 -- ---- where the walk ends
 
-calls_of_key : (by : List Scalar) (calls : List Call) (rows : List Row) (key : Row) → calls_over (with_key by key (bag_of rows)) calls ≡ of_one (answers calls) (totals_from calls (own by key rows))
+calls_of_key : (by : List Scalar) (calls : List Call) (rows : List Row) (key : Row)
+    → calls_over (with_key by key (bag_of rows)) calls ≡ of_one (answers calls) (totals_from calls (own by key rows))
 calls_of_key by calls rows key =
     ap (λ b. calls_over b calls) (restricted-bag_of (has_key by key) rows) ∙ answers-bag_of calls (own by key rows)
 
 group_before : (key : Row) (a : Option Row) (rest : Option (List Row)) →
-    beside (option_map (λ values. one_row (key ++ values)) a) (option_map bag_of rest) ≡ option_map bag_of (of_two row_before (option_map (λ values. key ++ values) a) rest)
+    beside (option_map (λ values. one_row (key ++ values)) a) (option_map bag_of rest)
+    ≡ option_map bag_of (of_two row_before (option_map (λ values. key ++ values) a) rest)
 group_before key None rest = refl
 group_before key (Some values) None = refl
 group_before key (Some values) (Some rows) = ap Some (one_row-plus (key ++ values) (bag_of rows))
 
-rows_listed : (by : List Scalar) (calls : List Call) (b : Bag) (es : List (Row × List Total)) → AllByRecursion (λ e. calls_over (with_key by e.0 b) calls ≡ answers calls e.1) es
+rows_listed : (by : List Scalar) (calls : List Call) (b : Bag) (es : List (Row × List Total))
+    → AllByRecursion (λ e. calls_over (with_key by e.0 b) calls ≡ answers calls e.1) es
     → meaning.group_rows by calls b (map (λ e. e.0) es) ≡ option_map bag_of (listed calls es)
 rows_listed by calls b [] all = refl
 rows_listed by calls b (e ∷ es) all =
-    ap (λ a. beside (option_map (λ values. one_row (e.0 ++ values)) a) (meaning.group_rows by calls b (map (λ x. x.0) es))) all.0
+    ap (λ a. beside (option_map (λ values. one_row (e.0 ++ values)) a)
+    (meaning.group_rows by calls b (map (λ x. x.0) es))) all.0
     ∙ ap (beside (option_map (λ values. one_row (e.0 ++ values)) (answers calls e.1))) (rows_listed by calls b es all.1)
     ∙ group_before e.0 (answers calls e.1) (listed calls es)
 
-entries_answered : (by : List Scalar) (calls : List Call) (rows : List Row) (groups : Groups) → groups_from by calls rows ≡ Some groups
-    → (es : List (Row × List Total)) → AllByRecursion (λ e. get groups e.0 ≡ Some e.1) es → AllByRecursion (λ e. calls_over (with_key by e.0 (bag_of rows)) calls ≡ answers calls e.1) es
+entries_answered : (by : List Scalar) (calls : List Call) (rows : List Row) (groups : Groups)
+    → groups_from by calls rows ≡ Some groups → (es : List (Row × List Total))
+    → AllByRecursion (λ e. get groups e.0 ≡ Some e.1) es
+    → AllByRecursion (λ e. calls_over (with_key by e.0 (bag_of rows)) calls ≡ answers calls e.1) es
 entries_answered by calls rows groups is [] all = tt
 entries_answered by calls rows groups is (e ∷ es) all = (
   calls_of_key by calls rows e.0
@@ -152,14 +189,16 @@ entries_answered by calls rows groups is (e ∷ es) all = (
   entries_answered by calls rows groups is es all.1,
 )
 
-pub grouped-listed : (e : Scalar) (es : List Scalar) (calls : List Call) (rows : List Row) (groups : Groups) → groups_from (e ∷ es) calls rows ≡ Some groups
+pub grouped-listed : (e : Scalar) (es : List Scalar) (calls : List Call) (rows : List Row) (groups : Groups)
+    → groups_from (e ∷ es) calls rows ≡ Some groups
     → grouped (e ∷ es) calls (bag_of rows) ≡ option_map bag_of (listed calls (entries groups))
 grouped-listed e es calls rows groups is =
     let by = e ∷ es in
     let keyed = keyed_rows by calls rows groups is in
     ap (of_one (λ k. meaning.group_rows by calls (bag_of rows) (keys k))) keyed.1
     ∙ ap (meaning.group_rows by calls (bag_of rows)) (sym keyed.2)
-    ∙ rows_listed by calls (bag_of rows) (entries groups) (entries_answered by calls rows groups is (entries groups) (entries_found groups))
+    ∙ rows_listed by calls (bag_of rows) (entries groups)
+    (entries_answered by calls rows groups is (entries groups) (entries_found groups))
 
 -- ---- where it stops
 
@@ -180,7 +219,8 @@ true_or : (a b : Bool) → a ≡ true → (a || b) ≡ true
 true_or true b e = refl
 true_or false b e = cc
 
-none_before : (calls : List Call) (row : Row) (rows : List Row) (b : Bool) → totals_from calls rows ≡ None → totals_from calls (cond b (row ∷ rows) rows) ≡ None
+none_before : (calls : List Call) (row : Row) (rows : List Row) (b : Bool) → totals_from calls rows ≡ None
+    → totals_from calls (cond b (row ∷ rows) rows) ≡ None
 none_before calls row rows true e = ap (of_one (tallied calls row)) e
 none_before calls row rows false e = e
 
@@ -188,13 +228,16 @@ mapped_none : {A B : Type 0} (f : A → B) (o : Option A) → option_map f o ≡
 mapped_none f None e = refl
 mapped_none f (Some x) e = cc
 
-undefined_step : (by : List Scalar) (calls : List Call) (row : Row) (rows : List Row) (k : Option Row) → values_on by row ≡ k → (g : Option Groups) → groups_from by calls rows ≡ g
-    → (groups_from by calls rows ≡ None → Undefined by calls rows) → of_two (noted calls row) k g ≡ None → Undefined by calls (row ∷ rows)
+undefined_step : (by : List Scalar) (calls : List Call) (row : Row) (rows : List Row) (k : Option Row)
+    → values_on by row ≡ k → (g : Option Groups) → groups_from by calls rows ≡ g
+    → (groups_from by calls rows ≡ None → Undefined by calls rows) → of_two (noted calls row) k g ≡ None
+    → Undefined by calls (row ∷ rows)
 undefined_step by calls row rows None k_is g g_is earlier e =
     inl (projected-more by row rows ∙ ap (λ o. beside (option_map one_row o) (projected by (bag_of rows))) k_is)
 undefined_step by calls row rows (Some key) k_is None g_is earlier e =
     elim (earlier g_is) as (λ _. Undefined by calls (row ∷ rows)) [
-      | inl none ↦ inl (projected-more by row rows ∙ ap (beside (image_by by row)) none ∙ nothing_beside _ (image_by by row))
+      | inl none ↦
+          inl (projected-more by row rows ∙ ap (beside (image_by by row)) none ∙ nothing_beside _ (image_by by row))
       | inr w ↦ inr (record {
         key = w.key;
         stands = or_true (has_key by w.key row) _ w.stands;
@@ -211,32 +254,43 @@ undefined_step by calls row rows (Some key) k_is (Some groups) g_is earlier e =
           ∙ mapped_none (insert groups key) (tallied calls row (totals_at calls groups key)) e;
     })
 
-undefined : (by : List Scalar) (calls : List Call) (rows : List Row) → groups_from by calls rows ≡ None → Undefined by calls rows
+undefined : (by : List Scalar) (calls : List Call) (rows : List Row) → groups_from by calls rows ≡ None
+    → Undefined by calls rows
 undefined by calls [] e = cc
 undefined by calls (row ∷ rows) e =
-    undefined_step by calls row rows (values_on by row) refl (groups_from by calls rows) refl (undefined by calls rows) e
+    undefined_step by calls row rows (values_on by row) refl (groups_from by calls rows) refl
+    (undefined by calls rows) e
 
-no_group_rows : (by : List Scalar) (calls : List Call) (b : Bag) (key : Row) → calls_over (with_key by key b) calls ≡ None
-    → (ks : List Row) → list_any (eq_by_cmp row_cmp key) ks ≡ true → meaning.group_rows by calls b ks ≡ None
+no_group_rows : (by : List Scalar) (calls : List Call) (b : Bag) (key : Row)
+    → calls_over (with_key by key b) calls ≡ None → (ks : List Row) → list_any (eq_by_cmp row_cmp key) ks ≡ true
+    → meaning.group_rows by calls b ks ≡ None
 no_group_rows by calls b key none [] any = cc
 no_group_rows by calls b key none (k ∷ ks) any =
-    elim (is_eq (row_cmp key k)) as (λ t. is_eq (row_cmp key k) ≡ t → (t || list_any (eq_by_cmp row_cmp key) ks) ≡ true → meaning.group_rows by calls b (k ∷ ks) ≡ None) [
-      | true ↦ λ t _. ap (λ a. beside (option_map (λ values. one_row (k ++ values)) a) (meaning.group_rows by calls b ks))
+    elim (is_eq (row_cmp key k)) as (λ t. is_eq (row_cmp key k) ≡ t → (t || list_any (eq_by_cmp row_cmp key) ks) ≡ true
+    → meaning.group_rows by calls b (k ∷ ks) ≡ None) [
+      | true ↦
+          λ t _. ap (λ a. beside (option_map (λ values. one_row (k ++ values)) a) (meaning.group_rows by calls b ks))
           (ap (λ q. calls_over (with_key by q b) calls) (sym (tied_rows key k t)) ∙ none)
-      | false ↦ λ t later. ap (beside (meaning.group_row by calls b k)) (no_group_rows by calls b key none ks later) ∙ nothing_beside _ (meaning.group_row by calls b k)
+      | false ↦ λ t later. ap (beside (meaning.group_row by calls b k)) (no_group_rows by calls b key none ks later)
+          ∙ nothing_beside _ (meaning.group_row by calls b k)
     ] refl any
 
-pub grouped-undefined : (e : Scalar) (es : List Scalar) (calls : List Call) (rows : List Row) → groups_from (e ∷ es) calls rows ≡ None → grouped (e ∷ es) calls (bag_of rows) ≡ None
+pub grouped-undefined : (e : Scalar) (es : List Scalar) (calls : List Call) (rows : List Row)
+    → groups_from (e ∷ es) calls rows ≡ None
+    → grouped (e ∷ es) calls (bag_of rows) ≡ None
 grouped-undefined e es calls rows is =
     let by = e ∷ es in
     let b = bag_of rows in
     elim (undefined by calls rows is) as (λ _. grouped by calls b ≡ None) [
       | inl none ↦ ap (of_one (λ k. meaning.group_rows by calls b (keys k))) none
       | inr w ↦
-          let none : calls_over (with_key by w.key b) calls ≡ None = calls_of_key by calls rows w.key ∙ ap (of_one (answers calls)) w.without in
-          elim (projected by b) as (λ p. projected by b ≡ p → of_one (λ k. meaning.group_rows by calls b (keys k)) p ≡ None) [
+          let none : calls_over (with_key by w.key b) calls ≡ None =
+          calls_of_key by calls rows w.key ∙ ap (of_one (answers calls)) w.without in
+          elim (projected by b)
+          as (λ p. projected by b ≡ p → of_one (λ k. meaning.group_rows by calls b (keys k)) p ≡ None) [
             | None ↦ λ _. refl
-            | Some keyed ↦ λ p. no_group_rows by calls b w.key none (keys keyed) (sym (contains_key-keys keyed w.key) ∙ keyed_has by w.key rows keyed p ∙ w.stands)
+            | Some keyed ↦ λ p. no_group_rows by calls b w.key none (keys keyed)
+                (sym (contains_key-keys keyed w.key) ∙ keyed_has by w.key rows keyed p ∙ w.stands)
           ] refl
     ]
 
@@ -246,25 +300,33 @@ keyed_anyway : (rows : List Row) → (keyed : Bag) × (projected [] (bag_of rows
 unfolding values_on
 keyed_anyway [] = (no_rows, gathered-no_rows (image_by []))
 keyed_anyway (row ∷ rows) =
-    let rest = keyed_anyway rows in
-    (with_row [] rest.0, projected-more [] row rows ∙ one_more [] (values_on [] row) (projected [] (bag_of rows)) rest.0 refl rest.1)
+    let rest = keyed_anyway rows in (
+      with_row [] rest.0,
+      projected-more [] row rows
+          ∙ one_more [] (values_on [] row) (projected [] (bag_of rows)) rest.0 refl rest.1,
+    )
 
 all_own : (rows : List Row) → own [] [] rows ≡ rows
 unfolding values_on
 all_own [] = refl
 all_own (row ∷ rows) = ap (λ rest. row ∷ rest) (all_own rows)
 
-one_answer : (a : Option Row) → beside (option_map (λ values. one_row ([] ++ values)) a) (Some no_rows) ≡ option_map bag_of (option_map alone (option_map (λ values. [] ++ values) a))
+one_answer : (a : Option Row)
+    → beside (option_map (λ values. one_row ([] ++ values)) a) (Some no_rows)
+    ≡ option_map bag_of (option_map alone (option_map (λ values. [] ++ values) a))
 one_answer None = refl
 one_answer (Some values) = ap Some (one_row-plus values no_rows)
 
 one_group : (calls : List Call) (found : Option (List Total)) →
-    beside (option_map (λ values. one_row ([] ++ values)) (of_one (answers calls) found)) (Some no_rows) ≡ option_map bag_of (option_map alone (of_one (group_row calls []) found))
+    beside (option_map (λ values. one_row ([] ++ values)) (of_one (answers calls) found)) (Some no_rows)
+    ≡ option_map bag_of (option_map alone (of_one (group_row calls []) found))
 one_group calls None = refl
 one_group calls (Some totals) = one_answer (answers calls totals)
 
-pub grouped-whole : (calls : List Call) (rows : List Row) → grouped [] calls (bag_of rows) ≡ option_map bag_of (whole_from calls rows)
+pub grouped-whole : (calls : List Call) (rows : List Row)
+    → grouped [] calls (bag_of rows) ≡ option_map bag_of (whole_from calls rows)
 grouped-whole calls rows =
     ap (of_one (λ k. meaning.group_rows [] calls (bag_of rows) ([] ∷ []))) (keyed_anyway rows).1
-    ∙ ap (λ a. beside (option_map (λ values. one_row ([] ++ values)) a) (Some no_rows)) (calls_of_key [] calls rows [] ∙ ap (λ xs. of_one (answers calls) (totals_from calls xs)) (all_own rows))
+    ∙ ap (λ a. beside (option_map (λ values. one_row ([] ++ values)) a) (Some no_rows))
+    (calls_of_key [] calls rows [] ∙ ap (λ xs. of_one (answers calls) (totals_from calls xs)) (all_own rows))
     ∙ one_group calls (totals_from calls rows)

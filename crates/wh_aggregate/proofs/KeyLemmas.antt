@@ -8,7 +8,8 @@ use Rattle.std.specs.List.{AllByRecursion}
 use Rattle.std.specs.declared.cmp.Ordering.{Ordering}
 use Rattle.std.specs.declared.cmp.Ordering.TheVariants.{Less, Equal, Greater}
 use Rattle.std.specs.Ordering.{is_eq, is_lt, ordering_reverse}
-use Rattle.std.specs.FinMap.{FinMap, empty, insert, get, keys, entries, entries_sorted, entries-insert, get-entries, len-entries, len-empty, find, put, is_sorted}
+use Rattle.std.specs.FinMap.{FinMap, empty, insert, get, keys, entries, entries_sorted, entries-insert, get-entries}
+use Rattle.std.specs.FinMap.{len-entries, len-empty, find, put, is_sorted}
 use Rattle.std.specs.Cmp.{tied_itself}
 use Rattle.std.specs.FinMap.Entries.{below_all, by_order}
 use Rattle.wh_value.specs.Value.{Row, row_cmp}
@@ -31,8 +32,10 @@ beside-turned (Some a) (Some b) (Some c) = ap Some (plus-turned a b c)
 pub gathered-no_rows : (f : Row → Option Bag) → gathered f no_rows ≡ Some no_rows
 gathered-no_rows f = fold-no_rows (λ row found. beside (f row) found) (Some no_rows)
 
-pub gathered-with_row : (f : Row → Option Bag) (row : Row) (b : Bag) → gathered f (with_row row b) ≡ beside (f row) (gathered f b)
-gathered-with_row f row b = fold-with_row (λ row found. beside (f row) found) (Some no_rows) (λ x y found. beside-turned (f x) (f y) found) row b
+pub gathered-with_row : (f : Row → Option Bag) (row : Row) (b : Bag)
+    → gathered f (with_row row b) ≡ beside (f row) (gathered f b)
+gathered-with_row f row b = fold-with_row (λ row found. beside (f row) found) (Some no_rows)
+    (λ x y found. beside-turned (f x) (f y) found) row b
 
 -- ---- a key more
 
@@ -41,10 +44,13 @@ put_key key [] = key ∷ []
 put_key key (x ∷ xs) = by_order (row_cmp key x) (key ∷ x ∷ xs) (x ∷ xs) (x ∷ put_key key xs)
 
 module _ {X : Type 0} where
-  keys-put : (key : Row) (v : X) (es : List (Row × X)) → map (λ e. e.0) (put row_cmp key v es) ≡ put_key key (map (λ e. e.0) es)
+  keys-put : (key : Row) (v : X) (es : List (Row × X))
+      → map (λ e. e.0) (put row_cmp key v es) ≡ put_key key (map (λ e. e.0) es)
   keys-put key v [] = refl
   keys-put key v (e ∷ es) =
-      elim (row_cmp key e.0) as (λ r. map (λ x. x.0) (by_order r ((key, v) ∷ e ∷ es) ((e.0, v) ∷ es) (e ∷ put row_cmp key v es)) ≡ by_order r (key ∷ e.0 ∷ map (λ x. x.0) es) (e.0 ∷ map (λ x. x.0) es) (e.0 ∷ put_key key (map (λ x. x.0) es))) [
+      elim (row_cmp key e.0)
+      as (λ r. map (λ x. x.0) (by_order r ((key, v) ∷ e ∷ es) ((e.0, v) ∷ es) (e ∷ put row_cmp key v es)) ≡ by_order
+      r (key ∷ e.0 ∷ map (λ x. x.0) es) (e.0 ∷ map (λ x. x.0) es) (e.0 ∷ put_key key (map (λ x. x.0) es))) [
         | Less ↦ refl
         | Equal ↦ refl
         | Greater ↦ ap (λ ks. e.0 ∷ ks) (keys-put key v es)
@@ -58,10 +64,12 @@ module _ {X : Type 0} where
   no_length (x ∷ es) e = absurd (omega arith)
 
 keys-empty_none : (X : Type 0) → keys (empty {X = X} {R = row_cmp}) ≡ []
-keys-empty_none X = ap (λ es. map (λ e. e.0) es) (no_length (entries empty) (sym (len-entries empty) ∙ len-empty row_cmp X))
+keys-empty_none X =
+    ap (λ es. map (λ e. e.0) es) (no_length (entries empty) (sym (len-entries empty) ∙ len-empty row_cmp X))
 
 module _ {X Y : Type 0} where
-  pub keys-insert : (m : FinMap row_cmp X) (n : FinMap row_cmp Y) (key : Row) (v : X) (w : Y) → keys m ≡ keys n → keys (insert m key v) ≡ keys (insert n key w)
+  pub keys-insert : (m : FinMap row_cmp X) (n : FinMap row_cmp Y) (key : Row) (v : X) (w : Y) → keys m ≡ keys n
+      → keys (insert m key v) ≡ keys (insert n key w)
   keys-insert m n key v w same = keys-insert_put m key v ∙ ap (put_key key) same ∙ sym (keys-insert_put n key w)
 
 pub keys-empty : (X Y : Type 0) → keys (empty {X = X} {R = row_cmp}) ≡ keys (empty {X = Y} {R = row_cmp})
@@ -86,17 +94,25 @@ apart Equal h = absurd h
 apart Greater h = absurd h
 
 module _ {X : Type 0} where
-  found_later : (e : Row × X) (rest es : List (Row × X)) → T (below_all row_cmp e.0 es) → AllByRecursion (λ f. find row_cmp f.0 rest ≡ Some f.1) es → AllByRecursion (λ f. find row_cmp f.0 (e ∷ rest) ≡ Some f.1) es
+  found_later : (e : Row × X) (rest es : List (Row × X)) → T (below_all row_cmp e.0 es)
+      → AllByRecursion (λ f. find row_cmp f.0 rest ≡ Some f.1) es
+      → AllByRecursion (λ f. find row_cmp f.0 (e ∷ rest) ≡ Some f.1) es
   found_later e rest [] h all = tt
   found_later e rest (f ∷ es) h all =
-      let later : is_eq (row_cmp f.0 e.0) ≡ false = ap is_eq (row_total.antisymm f.0 e.0) ∙ apart (row_cmp e.0 f.0) (first _ _ h) in
+      let later : is_eq (row_cmp f.0 e.0) ≡ false =
+      ap is_eq (row_total.antisymm f.0 e.0) ∙ apart (row_cmp e.0 f.0) (first _ _ h) in
       (ap (λ b. cond b (Some e.1) (find row_cmp f.0 rest)) later ∙ all.0, found_later e rest es (second _ _ h) all.1)
 
   all_found : (es : List (Row × X)) → T (is_sorted row_cmp es) → AllByRecursion (λ e. find row_cmp e.0 es ≡ Some e.1) es
   all_found [] h = tt
-  all_found (e ∷ es) h = (ap (λ b. cond b (Some e.1) (find row_cmp e.0 es)) (tied e.0), found_later e es es (first _ _ h) (all_found es (second _ _ h)))
+  all_found (e ∷ es) h = (
+    ap (λ b. cond b (Some e.1) (find row_cmp e.0 es)) (tied e.0),
+    found_later e es es (first _ _ h) (all_found es (second _ _ h)),
+  )
 
-  all_gotten : (m : FinMap row_cmp X) (es : List (Row × X)) → AllByRecursion (λ e. find row_cmp e.0 (entries m) ≡ Some e.1) es → AllByRecursion (λ e. get m e.0 ≡ Some e.1) es
+  all_gotten : (m : FinMap row_cmp X) (es : List (Row × X))
+      → AllByRecursion (λ e. find row_cmp e.0 (entries m) ≡ Some e.1) es
+      → AllByRecursion (λ e. get m e.0 ≡ Some e.1) es
   all_gotten m [] all = tt
   all_gotten m (e ∷ es) all = (get-entries m e.0 ∙ all.0, all_gotten m es all.1)
 

@@ -17,20 +17,26 @@ use Rattle.wh_aggregate.specs.Tally.{begun, tallied}
 use Rattle.wh_aggregate.specs.Groups.{Groups, noted}
 use Rattle.wh_aggregate.proofs.FaultLemmas.{still}
 
-module _ (calls : List meaning.Call) (row key : Row) (m n : List (Row × List Total)) (groups : Groups) (groups_is : groups ≡ from_entries m)
+module _ (calls : List meaning.Call) (row key : Row) (m n : List (Row × List Total))
+    (groups : Groups) (groups_is : groups ≡ from_entries m)
     (old new : List Total) (old_is : old ≡ unwrap_or (lookup (is_at (row_cmp key)) m) (begun calls)) where
   noted_as : noted calls row key groups ≡ option_map (insert (from_entries m) key) (tallied calls row old)
   noted_as =
       ap (noted calls row key) groups_is
-      ∙ ap (λ ts. option_map (insert (from_entries m) key) (tallied calls row ts)) (ap (λ o. unwrap_or o (begun calls)) (gotten m key) ∙ sym old_is)
+      ∙ ap (λ ts. option_map (insert (from_entries m) key) (tallied calls row ts))
+      (ap (λ o. unwrap_or o (begun calls)) (gotten m key) ∙ sym old_is)
 
-  module _ (has : (q : Row) → lookup (is_at (row_cmp q)) n ≡ cond (is_eq (row_cmp key q)) (Some new) (lookup (is_at (row_cmp q)) m)) where
+  module _ (has : (q : Row)
+      → lookup (is_at (row_cmp q)) n ≡ cond (is_eq (row_cmp key q)) (Some new) (lookup (is_at (row_cmp q)) m)) where
     pub row_noted : tallied calls row old ≡ Some new → noted calls row key groups ≡ Some (from_entries n)
-    row_noted is = noted_as ∙ ap (option_map (insert (from_entries m) key)) is ∙ ap Some (sym (map_after m n key new has))
+    row_noted is = noted_as ∙ ap (option_map (insert (from_entries m) key)) is
+        ∙ ap Some (sym (map_after m n key new has))
 
-    pub row_left : {B : Type 0} (r : Result B EvalFault) → Leaves r new (tallied calls row old) → Leaves r (from_entries n) (noted calls row key groups)
+    pub row_left : {B : Type 0} (r : Result B EvalFault) → Leaves r new (tallied calls row old)
+        → Leaves r (from_entries n) (noted calls row key groups)
     row_left (Ok done) is = row_noted is
-    row_left (Err fault) is = still fault (tallied calls row old) _ (λ none. noted_as ∙ ap (option_map (insert (from_entries m) key)) none) is
+    row_left (Err fault) is =
+        still fault (tallied calls row old) _ (λ none. noted_as ∙ ap (option_map (insert (from_entries m) key)) none) is
 
   pub not_noted : tallied calls row old ≡ None → noted calls row key groups ≡ None
   not_noted none = noted_as ∙ ap (option_map (insert (from_entries m) key)) none

@@ -7,7 +7,8 @@ use Rattle.std.specs.Prelude.{List, [], ◌∷◌, ℤ, ℕ, pos, ◌≡◌, tru
 use Rattle.std.specs.Coded.{Coded, code_by, coded×, coded_ℤ, coded_ℕ}
 use Rattle.wh_value.specs.Value.{Value, Truth, Row}
 use Rattle.wh_meaning.specs.Scalar.{val, of_two}
-use Rattle.wh_meaning.specs.Query.{Call, Sum, CountRows, Count, Total, with_argument, with_value, sum_value, count_value}
+use Rattle.wh_meaning.specs.Query.{Call, Sum, CountRows, Count, Total, with_argument}
+use Rattle.wh_meaning.specs.Query.{with_value, sum_value, count_value}
 
 abbrev pub argument_of : Call → Row → Option Value
 argument_of (Sum e) row = val e row
@@ -27,7 +28,8 @@ before t ts = Some (t ∷ ts)
 abbrev pub tallied : List Call → Row → List Total → Option (List Total)
 tallied [] row ts = Some ts
 tallied (call ∷ calls) row [] = Some []
-tallied (call ∷ calls) row (t ∷ ts) = of_two before (with_argument (argument_of call row) (Some t)) (tallied calls row ts)
+tallied (call ∷ calls) row (t ∷ ts) =
+    of_two before (with_argument (argument_of call row) (Some t)) (tallied calls row ts)
 
 abbrev pub answer : Call → Total → Option Value
 answer (Sum e) t = sum_value t.sum t.values

@@ -19,19 +19,28 @@ use Rattle.wh_bind.specs.declared.sources.BoundSource.{BoundSource}
 use Rattle.wh_bind.specs.declared.keys.BoundKeys.{BoundKeys}
 
 unfoldable pub source_in : BoundSource → naming.BoundSource
-source_in s = record { query = query_of s.query; columns = map column_of s.columns.items; sources = s.sources.items; findings = findings_of s.findings; is_wide = s.is_wide }
+source_in s = record {
+  query = query_of s.query;
+  columns = map column_of s.columns.items;
+  sources = s.sources.items;
+  findings = findings_of s.findings;
+  is_wide = s.is_wide;
+}
 
 abbrev pub sorted_in : BoundKeys → naming.BoundKeys
 sorted_in k = record { keys = keys_of k.keys.items; findings = findings_of k.findings }
 
 unfoldable pub source_part : ast_source.Source → SourcePart
-source_part s = ast_source.fold-Source SourcePart QueryReading JoinPart QueryReading source_step core_step join_step query_step s
+source_part s =
+    ast_source.fold-Source SourcePart QueryReading JoinPart QueryReading source_step core_step join_step query_step s
 
 unfoldable pub join_part : ast_join.Join → JoinPart
-join_part j = ast_join.fold-Join SourcePart QueryReading JoinPart QueryReading source_step core_step join_step query_step j
+join_part j =
+    ast_join.fold-Join SourcePart QueryReading JoinPart QueryReading source_step core_step join_step query_step j
 
 unfoldable pub core_reading : ast_core.Core → QueryReading
-core_reading c = ast_core.fold-Core SourcePart QueryReading JoinPart QueryReading source_step core_step join_step query_step c
+core_reading c =
+    ast_core.fold-Core SourcePart QueryReading JoinPart QueryReading source_step core_step join_step query_step c
 
 unfoldable pub query_reading : ast_query.Query → QueryReading
 query_reading q = naming.bound_query q

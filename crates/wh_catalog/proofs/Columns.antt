@@ -15,4 +15,5 @@ stored_by_each columns some few =
     let count = length-map columns column_of in
     let some_true : nat_lt 0 (length (map column_of columns)) ≡ true = lt-ltb 0 _ (omega arith) in
     let few_true : nat_le (length (map column_of columns)) 64 ≡ true = le-leb _ 64 (omega arith) in
-    (λ i. some_true i && (few_true i && list_all is_stored_column (map column_of columns))) ∙ list_all-map is_stored_column column_of columns
+    (λ i. some_true i && (few_true i && list_all is_stored_column (map column_of columns)))
+    ∙ list_all-map is_stored_column column_of columns

@@ -25,12 +25,16 @@ Decides-none o = (not-true (is_some o), not_from_false (is_some o))
 Decides-name : (name : List ℕ) → Decides (is_stored_name name) (IsStoredName name)
 Decides-name name = Decides-and _ _ (Decides-ltb 0 (length name)) (Decides-leb (length name) (bound limits.Name))
 
-Decides-columns : (columns : List Column) → Decides (are_stored_columns columns) ((0 < length columns) × ((length columns ≤ bound limits.Columns) × AllByRecursion (λ column. IsStoredName column.name) columns))
+Decides-columns : (columns : List Column)
+    → Decides (are_stored_columns columns) ((0 < length columns)
+    × ((length columns ≤ bound limits.Columns) × AllByRecursion (λ column. IsStoredName column.name) columns))
 Decides-columns columns =
-    Decides-and _ _ (Decides-ltb 0 (length columns)) (Decides-and _ _ (Decides-leb (length columns) (bound limits.Columns))
+    Decides-and _ _ (Decides-ltb 0 (length columns))
+    (Decides-and _ _ (Decides-leb (length columns) (bound limits.Columns))
     (Decides-list_all is_stored_column _ (λ column. Decides-name column.name) columns))
 
-pub Decides-table_applies : (objects : List StoredObject) (c : TableChange) → Decides (table_applies objects c) (TableApplies objects c)
+pub Decides-table_applies : (objects : List StoredObject) (c : TableChange)
+    → Decides (table_applies objects c) (TableApplies objects c)
 Decides-table_applies objects c =
     Decides-like (table_applies objects c)
     (λ h. record {
@@ -44,6 +48,7 @@ Decides-table_applies objects c =
       retention = h.1.1.1.1.0;
     })
     (λ a. (a.next_id, (a.few, (a.free, (a.name, (a.retention, (a.some_column, (a.few_columns, a.column_names))))))))
-    (Decides-and _ _ (Decides-eqb c.id (length objects + 1)) (Decides-and _ _ (Decides-ltb (live_count objects) (bound limits.Objects))
+    (Decides-and _ _ (Decides-eqb c.id (length objects + 1))
+    (Decides-and _ _ (Decides-ltb (live_count objects) (bound limits.Objects))
     (Decides-and _ _ (Decides-none (id_of c.name objects)) (Decides-and _ _ (Decides-name c.name)
     (Decides-and _ _ (Decides-leb c.retention (bound limits.Retention)) (Decides-columns c.columns))))))

@@ -1,5 +1,6 @@
 -- An object that is dropped, and lives again.
-use Rattle.std.proofs.Common.{◌≡◌, ℕ, ◌+◌, ◌-◌, ◌<◌, ◌≤◌, Bool, true, false, ◌&&◌, cond, List, [], ◌∷◌, length, map, set, get_or, ◌++◌, nat_lt, refl, sym, ap, ◌∙◌, arith}
+use Rattle.std.proofs.Common.{◌≡◌, ℕ, ◌+◌, ◌-◌, ◌<◌, ◌≤◌, Bool, true, false, ◌&&◌, cond, List, [], ◌∷◌, length, map}
+use Rattle.std.proofs.Common.{set, get_or, ◌++◌, nat_lt, refl, sym, ap, ◌∙◌, arith}
 use Rattle.std.proofs.lemmas.Bool.{lt-ltb, le-ltb}
 use Rattle.std.proofs.lemmas.List.Sums.{sum_by-append, sum_by-cons, sum_by-set}
 use Rattle.std.specs.List.{count_by}
@@ -31,7 +32,8 @@ same_count (x ∷ xs) =
     ∙ sym (sum_by-cons (λ o. one_if o.is_live) x xs)
 
 -- one that is dropped is no longer counted
-one_less : (xs : List StoredObject) (i : ℕ) (old : StoredObject) → i < length xs → old ≡ get_or xs i old → old.is_live ≡ true
+one_less : (xs : List StoredObject) (i : ℕ) (old : StoredObject) → i < length xs → old ≡ get_or xs i old
+    → old.is_live ≡ true
     → live_count (map kept_object (set xs i (without_life old))) + 1 ≡ count_by (λ o. o.is_live) xs
 one_less xs i old within is live =
     let before : one_if (get_or xs i old).is_live ≡ 1 = ap (λ o. one_if o.is_live) (sym is) ∙ ap one_if live in
@@ -40,23 +42,32 @@ one_less xs i old within is live =
     omega (arith, before, sums, same)
 
 -- there is room for one that was dropped, and it is still the last one of its name
-pub revived : (xs : List StoredObject) (id : ℕ) (old : StoredObject) → 0 < id → id - 1 < length xs → old ≡ get_or xs (id - 1) old → old.is_live ≡ true
-    → count_by (λ o. o.is_live) xs ≤ bound limits.Objects → AreLast xs → lives_again id (map kept_object (set xs (id - 1) (without_life old))) ≡ map kept_object xs
+pub revived : (xs : List StoredObject) (id : ℕ) (old : StoredObject) → 0 < id → id - 1 < length xs
+    → old ≡ get_or xs (id - 1) old → old.is_live ≡ true → count_by (λ o. o.is_live) xs ≤ bound limits.Objects
+    → AreLast xs
+    → lives_again id (map kept_object (set xs (id - 1) (without_life old))) ≡ map kept_object xs
 revived xs id old some within is live few last =
     let after : List KeptObject = map kept_object (set xs (id - 1) (without_life old)) in
     let less = one_less xs (id - 1) old within is live in
     let room : live_count after < bound limits.Objects = omega (arith, less, few) in
-    let names : map (λ (k : KeptObject). k.name) after ≡ names_of xs = maps (λ (k : KeptObject). k.name) kept_object (set xs (id - 1) (without_life old)) ∙ map_set_same (λ (o : StoredObject). o.name) xs (id - 1) old (without_life old) within is refl in
-    ap (λ b. cond (b && is_last id (map (λ (k : KeptObject). k.name) after)) (changed_at after id alive) after) (lt-ltb (live_count after) (bound limits.Objects) room)
-    ∙ ap (λ b. cond b (changed_at after id alive) after) (ap (is_last id) names ∙ lives_by_id xs id old some within is last live)
-    ∙ changed_back kept_object alive xs id old (without_life old) some within is (ap (λ b. record (kept_object old) { is_live = b }) (sym live))
+    let names : map (λ (k : KeptObject). k.name) after ≡ names_of xs =
+    maps (λ (k : KeptObject). k.name) kept_object (set xs (id - 1) (without_life old))
+    ∙ map_set_same (λ (o : StoredObject). o.name) xs (id - 1) old (without_life old) within is refl in
+    ap (λ b. cond (b && is_last id (map (λ (k : KeptObject). k.name) after)) (changed_at after id alive) after)
+    (lt-ltb (live_count after) (bound limits.Objects) room)
+    ∙ ap (λ b. cond b (changed_at after id alive) after)
+    (ap (is_last id) names ∙ lives_by_id xs id old some within is last live)
+    ∙ changed_back kept_object alive xs id old (without_life old) some within is
+    (ap (λ b. record (kept_object old) { is_live = b }) (sym live))
 
 -- ---- the tests of the code
 
 counted : (xs : List StoredObject) → live_count (map object_in (map kept_object xs)) ≡ count_by (λ o. o.is_live) xs
-counted xs = map_count object_in (λ (k : KeptObject). k.is_live) (λ (o : machine.StoredObject). o.is_live) (λ k. refl) (map kept_object xs) ∙ same_count xs
+counted xs = map_count object_in (λ (k : KeptObject). k.is_live) (λ (o : machine.StoredObject). o.is_live) (λ k. refl)
+    (map kept_object xs) ∙ same_count xs
 
-pub one_more : (xs : List StoredObject) (o : StoredObject) (n : ℕ) → live_count (map object_in (map kept_object xs)) < n → count_by (λ (q : StoredObject). q.is_live) (xs ++ o ∷ []) ≤ n
+pub one_more : (xs : List StoredObject) (o : StoredObject) (n : ℕ) → live_count (map object_in (map kept_object xs)) < n
+    → count_by (λ (q : StoredObject). q.is_live) (xs ++ o ∷ []) ≤ n
 one_more xs o n few =
     let same = counted xs in
     let more = sum_by-append (λ (q : StoredObject). one_if q.is_live) xs (o ∷ []) in
@@ -70,23 +81,35 @@ one_more xs o n few =
 
 module _ (xs : List StoredObject) (id : ℕ) where
   lives_as : lives_again id (map kept_object xs)
-      ≡ cond (nat_lt (live_count (map object_in (map kept_object xs))) (bound limits.Objects) && is_last id (names_of xs)) (changed_at (map kept_object xs) id alive) (map kept_object xs)
+      ≡ cond (nat_lt (live_count (map object_in (map kept_object xs))) (bound limits.Objects)
+      && is_last id (names_of xs)) (changed_at (map kept_object xs) id alive) (map kept_object xs)
   lives_as =
-      ap (λ n. cond (nat_lt n (bound limits.Objects) && is_last id (map (λ (k : KeptObject). k.name) (map kept_object xs))) (changed_at (map kept_object xs) id alive) (map kept_object xs)) (same_count xs ∙ sym (counted xs))
-      ∙ ap (λ ns. cond (nat_lt (live_count (map object_in (map kept_object xs))) (bound limits.Objects) && is_last id ns) (changed_at (map kept_object xs) id alive) (map kept_object xs)) (maps (λ (k : KeptObject). k.name) kept_object xs)
+      ap (λ n. cond
+      (nat_lt n (bound limits.Objects) && is_last id (map (λ (k : KeptObject). k.name) (map kept_object xs)))
+      (changed_at (map kept_object xs) id alive) (map kept_object xs)) (same_count xs ∙ sym (counted xs))
+      ∙ ap (λ ns. cond (nat_lt (live_count (map object_in (map kept_object xs))) (bound limits.Objects)
+      && is_last id ns) (changed_at (map kept_object xs) id alive) (map kept_object xs))
+      (maps (λ (k : KeptObject). k.name) kept_object xs)
 
-  tested : (room last : Bool) → nat_lt (live_count (map object_in (map kept_object xs))) (bound limits.Objects) ≡ room → is_last id (names_of xs) ≡ last
-      → lives_again id (map kept_object xs) ≡ cond (room && last) (changed_at (map kept_object xs) id alive) (map kept_object xs)
+  tested : (room last : Bool) → nat_lt (live_count (map object_in (map kept_object xs))) (bound limits.Objects) ≡ room
+      → is_last id (names_of xs) ≡ last
+      → lives_again id (map kept_object xs)
+      ≡ cond (room && last) (changed_at (map kept_object xs) id alive) (map kept_object xs)
   tested room last a b =
       lives_as
       ∙ ap (λ r. cond (r && is_last id (names_of xs)) (changed_at (map kept_object xs) id alive) (map kept_object xs)) a
       ∙ ap (λ l. cond (room && l) (changed_at (map kept_object xs) id alive) (map kept_object xs)) b
 
-  pub comes_back : live_count (map object_in (map kept_object xs)) < bound limits.Objects → is_last id (names_of xs) ≡ true → lives_again id (map kept_object xs) ≡ changed_at (map kept_object xs) id alive
+  pub comes_back : live_count (map object_in (map kept_object xs)) < bound limits.Objects
+      → is_last id (names_of xs) ≡ true
+      → lives_again id (map kept_object xs) ≡ changed_at (map kept_object xs) id alive
   comes_back room last = tested true true (lt-ltb _ _ room) last
 
-  pub stays_if_full : bound limits.Objects ≤ live_count (map object_in (map kept_object xs)) → lives_again id (map kept_object xs) ≡ map kept_object xs
+  pub stays_if_full : bound limits.Objects ≤ live_count (map object_in (map kept_object xs))
+      → lives_again id (map kept_object xs) ≡ map kept_object xs
   stays_if_full full = tested false (is_last id (names_of xs)) (le-ltb _ _ full) refl
 
-  pub stays_if_not_last : live_count (map object_in (map kept_object xs)) < bound limits.Objects → is_last id (names_of xs) ≡ false → lives_again id (map kept_object xs) ≡ map kept_object xs
+  pub stays_if_not_last : live_count (map object_in (map kept_object xs)) < bound limits.Objects
+      → is_last id (names_of xs) ≡ false
+      → lives_again id (map kept_object xs) ≡ map kept_object xs
   stays_if_not_last room last = tested true false (lt-ltb _ _ room) last

@@ -3,7 +3,8 @@
 --     updated           what a change at one name leaves
 --     indexed_more      with one more object
 --     indexed_fewer     without the last one
-use Rattle.std.proofs.Common.{◌≡◌, ℕ, ◌+◌, Bool, true, false, cond, List, [], ◌∷◌, ◌++◌, length, Option, Some, option_map, bytes_eq, refl, sym, ap, subst, ◌∙◌}
+use Rattle.std.proofs.Common.{◌≡◌, ℕ, ◌+◌, Bool, true, false, cond, List, [], ◌∷◌, ◌++◌, length, Option, Some}
+use Rattle.std.proofs.Common.{option_map, bytes_eq, refl, sym, ap, subst, ◌∙◌}
 use Rattle.std.specs.declared.vec.Vec.{Vec}
 use Rattle.std.specs.Cmp.Lexicographic.{bytes_decides, nat_list_eq_equiv}
 use Rattle.std.specs.Map.{lookup, IsKeyTest, AreApart, KeepsOthers}
@@ -20,10 +21,13 @@ apart : (name other key : List ℕ) → bytes_eq name other ≡ false → bytes_
 apart name other key n y = nat_list_eq_equiv.symm other key ∙ sym (nat_list_eq_equiv.congr name key other y) ∙ n
 
 module _ (name : List ℕ) (ns : List (List ℕ)) where
-  more_ids : (other : List ℕ) → last_id other (ns ++ name ∷ []) ≡ cond (bytes_eq name other) (Some (length ns + 1)) (last_id other ns)
+  more_ids : (other : List ℕ)
+      → last_id other (ns ++ name ∷ []) ≡ cond (bytes_eq name other) (Some (length ns + 1)) (last_id other ns)
   more_ids other = ap (option_map (λ place. place + 1)) (more_names other ns name) ∙ by (bytes_eq name other)
     where
-      by : (b : Bool) → option_map (λ place. place + 1) (cond b (Some (length ns)) (last_place other ns)) ≡ cond b (Some (length ns + 1)) (last_id other ns)
+      by : (b : Bool)
+          → option_map (λ place. place + 1) (cond b (Some (length ns)) (last_place other ns))
+          ≡ cond b (Some (length ns + 1)) (last_id other ns)
       by true = refl
       by false = refl
 
@@ -37,7 +41,8 @@ module _ {A S : Type 0} (m n : IndexMap (Vec ℕ A) ℕ S) (name : List ℕ) whe
     where
       by : (b : Bool) → bytes_eq name other ≡ b → id_at n other ≡ cond b id (id_at m other)
       by true e = subst (λ l. id_at n l ≡ id) ((bytes_decides name other).0 e) h.1
-      by false e = others _ _ _ _ h.3 _ (λ x y. nat_list_eq_equiv.congr other x.items y.items) (λ k. apart name other k.items e)
+      by false e =
+          others _ _ _ _ h.3 _ (λ x y. nat_list_eq_equiv.congr other x.items y.items) (λ k. apart name other k.items e)
 
   module _ (ns : List (List ℕ)) where
     pub indexed_more : (id : ℕ) → id ≡ length ns + 1 → ((other : List ℕ) → id_at m other ≡ last_id other ns)
@@ -52,8 +57,10 @@ module _ {A S : Type 0} (m n : IndexMap (Vec ℕ A) ℕ S) (name : List ℕ) whe
     pub indexed_fewer : ((other : List ℕ) → id_at m other ≡ last_id other (ns ++ name ∷ []))
         → ((other : List ℕ) → id_at n other ≡ cond (bytes_eq name other) (last_id name ns) (id_at m other))
         → (other : List ℕ) → id_at n other ≡ last_id other ns
-    indexed_fewer was given other = given other ∙ ap (cond (bytes_eq name other) (last_id name ns)) (was other ∙ more_ids name ns other) ∙ by (bytes_eq name other) refl
+    indexed_fewer was given other = given other ∙ ap (cond (bytes_eq name other) (last_id name ns))
+        (was other ∙ more_ids name ns other) ∙ by (bytes_eq name other) refl
       where
-        by : (b : Bool) → bytes_eq name other ≡ b → cond b (last_id name ns) (cond b (Some (length ns + 1)) (last_id other ns)) ≡ last_id other ns
+        by : (b : Bool) → bytes_eq name other ≡ b
+            → cond b (last_id name ns) (cond b (Some (length ns + 1)) (last_id other ns)) ≡ last_id other ns
         by true e = ap (λ l. last_id l ns) ((bytes_decides name other).0 e)
         by false e = refl

@@ -4,7 +4,9 @@
 --     keeps_names, keeps_life       one in another's place
 --     last_fewer                    without the last one
 --     is_last_by, not_last, last_place_by, lives_by_id     what the test of an id says
-use Rattle.std.proofs.Common.{◌≡◌, ℕ, zero, suc, ◌+◌, ◌-◌, ◌<◌, ◌≤◌, Bool, true, false, cond, List, [], ◌∷◌, ◌++◌, length, take, set, get_or, Option, Some, None, option_map, bytes_eq, nat_eq, refl, sym, ap, subst, ◌∙◌, arith}
+use Rattle.std.proofs.Common.{◌≡◌, ℕ, zero, suc, ◌+◌, ◌-◌, ◌<◌, ◌≤◌, Bool, true, false, cond, List, [], ◌∷◌, ◌++◌}
+use Rattle.std.proofs.Common.{length, take, set, get_or, Option, Some, None, option_map, bytes_eq, nat_eq, refl, sym}
+use Rattle.std.proofs.Common.{ap, subst, ◌∙◌, arith}
 use Rattle.std.specs.Option.{option_eq, option_map_or}
 use Rattle.std.specs.Cmp.{nat_eq_equiv}
 use Rattle.std.specs.Cmp.Lexicographic.{nat_list_eq_equiv}
@@ -17,27 +19,35 @@ use Rattle.wh_catalog.specs.Names.{or_first, last_place, last_id, is_last, names
 use Rattle.wh_catalog.proofs.Objects.{map_more}
 use Rattle.wh_catalog.proofs.Places.{map_set_same, at_id-map, at_place}
 
-split : (b : Bool) (n : ℕ) (found : Option ℕ) (is_meant : Bool) → or_first (cond b (Some n) found) is_meant ≡ cond b (Some (suc n)) (or_first found is_meant)
+split : (b : Bool) (n : ℕ) (found : Option ℕ) (is_meant : Bool)
+    → or_first (cond b (Some n) found) is_meant ≡ cond b (Some (suc n)) (or_first found is_meant)
 split true n found is_meant = refl
 split false n found is_meant = refl
 
-pub more_names : (name : List ℕ) (ns : List (List ℕ)) (n : List ℕ) → last_place name (ns ++ n ∷ []) ≡ cond (bytes_eq n name) (Some (length ns)) (last_place name ns)
+pub more_names : (name : List ℕ) (ns : List (List ℕ)) (n : List ℕ)
+    → last_place name (ns ++ n ∷ []) ≡ cond (bytes_eq n name) (Some (length ns)) (last_place name ns)
 more_names name [] n = refl
-more_names name (m ∷ ns) n = ap (λ p. or_first p (bytes_eq m name)) (more_names name ns n) ∙ split (bytes_eq n name) (length ns) (last_place name ns) (bytes_eq m name)
+more_names name (m ∷ ns) n = ap (λ p. or_first p (bytes_eq m name)) (more_names name ns n)
+    ∙ split (bytes_eq n name) (length ns) (last_place name ns) (bytes_eq m name)
 
-pub without_last : (os : List StoredObject) (name : List ℕ) (left : ℕ) (o : StoredObject) → 0 < left → left ≤ length os → o ≡ get_or os (left - 1) o
-    → last_place name (names_of (take left os)) ≡ cond (bytes_eq o.name name) (Some (left - 1)) (last_place name (names_of (take (left - 1) os)))
+pub without_last : (os : List StoredObject) (name : List ℕ) (left : ℕ) (o : StoredObject) → 0 < left → left ≤ length os
+    → o ≡ get_or os (left - 1) o
+    → last_place name (names_of (take left os))
+    ≡ cond (bytes_eq o.name name) (Some (left - 1)) (last_place name (names_of (take (left - 1) os)))
 without_last os name zero o some here is = absurd (omega arith)
 without_last os name (suc left) o some here is =
     let before = take left os in
     let last = get_or os left o in
     let same : left ≡ suc left - 1 = omega arith in
-    subst (λ n. last_place name (names_of (take (suc left) os)) ≡ cond (bytes_eq o.name name) (Some n) (last_place name (names_of (take n os)))) same (
+    subst (λ n. last_place name (names_of (take (suc left) os))
+    ≡ cond (bytes_eq o.name name) (Some n) (last_place name (names_of (take n os)))) same (
     ap (λ (l : List StoredObject). last_place name (names_of l)) (take-suc os left o (omega arith))
     ∙ ap (last_place name) (map_more (λ (q : StoredObject). q.name) before last)
     ∙ more_names name (names_of before) last.name
-    ∙ ap (λ (q : StoredObject). cond (bytes_eq q.name name) (Some (length (names_of before))) (last_place name (names_of before))) (ap (λ n. get_or os n o) same ∙ sym is)
-    ∙ ap (λ n. cond (bytes_eq o.name name) (Some n) (last_place name (names_of before))) (length-map before (λ (q : StoredObject). q.name) ∙ length-take-le left os (omega arith))
+    ∙ ap (λ (q : StoredObject). cond (bytes_eq q.name name) (Some (length (names_of before)))
+    (last_place name (names_of before))) (ap (λ n. get_or os n o) same ∙ sym is)
+    ∙ ap (λ n. cond (bytes_eq o.name name) (Some n) (last_place name (names_of before)))
+    (length-map before (λ (q : StoredObject). q.name) ∙ length-take-le left os (omega arith))
     )
 
 place_behind : (p : Option ℕ) (is_meant : Bool) (n : ℕ) → or_first p is_meant ≡ Some (suc n) → p ≡ Some n
@@ -52,29 +62,46 @@ none_behind None is_meant is = refl
 pub within : (name : List ℕ) (ns : List (List ℕ)) (place : ℕ) → last_place name ns ≡ Some place → place < length ns
 within name [] place is = cc
 within name (n ∷ ns) zero is = omega arith
-within name (n ∷ ns) (suc place) is = let there = within name ns place (place_behind (last_place name ns) (bytes_eq n name) place is) in omega arith
+within name (n ∷ ns) (suc place) is =
+    let there = within name ns place (place_behind (last_place name ns) (bytes_eq n name) place is) in omega arith
 
 -- ---- live objects
 
-pub lives_last : (os : List StoredObject) (place : ℕ) (o : StoredObject) → AreLast os → place < length os → o ≡ get_or os place o → o.is_live ≡ true → last_place o.name (names_of os) ≡ Some place
+pub lives_last : (os : List StoredObject) (place : ℕ) (o : StoredObject) → AreLast os → place < length os
+    → o ≡ get_or os place o → o.is_live ≡ true
+    → last_place o.name (names_of os) ≡ Some place
 lives_last [] place o last here is live = absurd (omega arith)
 lives_last (p ∷ os) zero o last here is live =
-    let none : last_place o.name (names_of os) ≡ None = subst (λ (q : StoredObject). last_place q.name (names_of os) ≡ None) (sym is) (last.0 (ap (λ (q : StoredObject). q.is_live) (sym is) ∙ live)) in
+    let none : last_place o.name (names_of os) ≡ None =
+    subst (λ (q : StoredObject). last_place q.name (names_of os) ≡ None) (sym is)
+    (last.0 (ap (λ (q : StoredObject). q.is_live) (sym is) ∙ live)) in
     ap (λ r. or_first r (bytes_eq p.name o.name)) none
-    ∙ ap (λ b. cond b (Some 0) None) (ap (λ (q : StoredObject). bytes_eq q.name o.name) (sym is) ∙ nat_list_eq_equiv.refl o.name)
-lives_last (p ∷ os) (suc place) o last here is live = ap (λ r. or_first r (bytes_eq p.name o.name)) (lives_last os place o last.1 (omega arith) is live)
+    ∙ ap (λ b. cond b (Some 0) None)
+    (ap (λ (q : StoredObject). bytes_eq q.name o.name) (sym is) ∙ nat_list_eq_equiv.refl o.name)
+lives_last (p ∷ os) (suc place) o last here is live =
+    ap (λ r. or_first r (bytes_eq p.name o.name)) (lives_last os place o last.1 (omega arith) is live)
 
-last_set : (os : List StoredObject) (place : ℕ) (old new : StoredObject) → AreLast os → place < length os → old ≡ get_or os place old → new.name ≡ old.name
-    → (new.is_live ≡ true → last_place old.name (names_of os) ≡ Some place) → AreLast (set os place new)
+last_set : (os : List StoredObject) (place : ℕ) (old new : StoredObject) → AreLast os → place < length os
+    → old ≡ get_or os place old → new.name ≡ old.name
+    → (new.is_live ≡ true → last_place old.name (names_of os) ≡ Some place)
+    → AreLast (set os place new)
 last_set [] place old new last here is same stands = tt
-last_set (o ∷ os) zero old new last here is same stands = (λ live. ap (λ n. last_place n (names_of os)) same ∙ none_behind (last_place old.name (names_of os)) (bytes_eq o.name old.name) (stands live), last.1)
+last_set (o ∷ os) zero old new last here is same stands = (
+  λ live. ap (λ n. last_place n (names_of os)) same
+      ∙ none_behind (last_place old.name (names_of os)) (bytes_eq o.name old.name) (stands live),
+  last.1,
+)
 last_set (o ∷ os) (suc place) old new last here is same stands = (
-  λ live. ap (last_place o.name) (map_set_same (λ (q : StoredObject). q.name) os place old new (omega arith) is same) ∙ last.0 live,
-  last_set os place old new last.1 (omega arith) is same (λ live. place_behind (last_place old.name (names_of os)) (bytes_eq o.name old.name) place (stands live)),
+  λ live. ap (last_place o.name) (map_set_same (λ (q : StoredObject). q.name) os place old new (omega arith) is same)
+      ∙ last.0 live,
+  last_set os place old new last.1 (omega arith) is same
+      (λ live. place_behind (last_place old.name (names_of os)) (bytes_eq o.name old.name) place (stands live)),
 )
 
-module _ (os : List StoredObject) (place : ℕ) (old new : StoredObject) (here : place < length os) (is : old ≡ get_or os place old) (same : new.name ≡ old.name) where
-  pub keeps_names : (AreLast os → new.is_live ≡ true → last_place old.name (names_of os) ≡ Some place) → KeepsNames os (set os place new)
+module _ (os : List StoredObject) (place : ℕ) (old new : StoredObject) (here : place < length os)
+    (is : old ≡ get_or os place old) (same : new.name ≡ old.name) where
+  pub keeps_names : (AreLast os → new.is_live ≡ true → last_place old.name (names_of os) ≡ Some place)
+      → KeepsNames os (set os place new)
   keeps_names stands = record {
     names = map_set_same (λ (q : StoredObject). q.name) os place old new here is same;
     last = λ last. last_set os place old new last here is same (stands last);
@@ -91,7 +118,8 @@ pub last_fewer : (os : List StoredObject) (o : StoredObject) → AreLast (os ++ 
 last_fewer [] o last = tt
 last_fewer (p ∷ os) o last = (
   λ live. none_of (bytes_eq o.name p.name) (length (names_of os)) (last_place p.name (names_of os))
-      (sym (more_names p.name (names_of os) o.name) ∙ ap (last_place p.name) (sym (map_more (λ (q : StoredObject). q.name) os o)) ∙ last.0 live),
+      (sym (more_names p.name (names_of os) o.name)
+      ∙ ap (last_place p.name) (sym (map_more (λ (q : StoredObject). q.name) os o)) ∙ last.0 live),
   last_fewer os o last.1,
 )
 
@@ -129,12 +157,15 @@ module _ (ns : List (List ℕ)) (id : ℕ) (name : List ℕ) (at : at_id ns id �
       by None e = cc
       by (Some n) e = ap Some (eqb-true n id e)
 
-module _ (os : List StoredObject) (id : ℕ) (o : StoredObject) (some : 0 < id) (here : id - 1 < length os) (is : o ≡ get_or os (id - 1) o) where
+module _ (os : List StoredObject) (id : ℕ) (o : StoredObject) (some : 0 < id) (here : id - 1 < length os)
+    (is : o ≡ get_or os (id - 1) o) where
   pub named_at : at_id (names_of os) id ≡ Some o.name
-  named_at = at_id-map (λ (q : StoredObject). q.name) os id ∙ ap (option_map (λ (q : StoredObject). q.name)) (at_place os id o some here ∙ ap Some (sym is))
+  named_at = at_id-map (λ (q : StoredObject). q.name) os id
+      ∙ ap (option_map (λ (q : StoredObject). q.name)) (at_place os id o some here ∙ ap Some (sym is))
 
   pub lives_by_id : AreLast os → o.is_live ≡ true → is_last id (names_of os) ≡ true
   lives_by_id last live =
       let same : id - 1 + 1 ≡ id = omega arith in
-      is_last_by (names_of os) id o.name named_at id (ap (option_map (λ place. place + 1)) (lives_last os (id - 1) o last here is live) ∙ ap Some same)
+      is_last_by (names_of os) id o.name named_at id
+      (ap (option_map (λ place. place + 1)) (lives_last os (id - 1) o last here is live) ∙ ap Some same)
       ∙ nat_eq_equiv.refl id

@@ -15,9 +15,11 @@ abbrev pub is_stored_column : Column → Bool
 is_stored_column column = is_stored_name column.name
 
 abbrev pub are_stored_columns : List Column → Bool
-are_stored_columns columns = nat_lt 0 (length columns) && (nat_le (length columns) (bound limits.Columns) && list_all is_stored_column columns)
+are_stored_columns columns = nat_lt 0 (length columns)
+    && (nat_le (length columns) (bound limits.Columns) && list_all is_stored_column columns)
 
 abbrev pub table_applies : List StoredObject → TableChange → Bool
 table_applies objects c =
-    (c.id == length objects + 1) && (nat_lt (live_count objects) (bound limits.Objects) && (not (is_some (id_of c.name objects))
+    (c.id == length objects + 1)
+    && (nat_lt (live_count objects) (bound limits.Objects) && (not (is_some (id_of c.name objects))
     && (is_stored_name c.name && (nat_le c.retention (bound limits.Retention) && are_stored_columns c.columns))))

@@ -1,5 +1,6 @@
 -- One turn of a loop over columns, entries, items and keys.
-use Rattle.std.proofs.Common.{◌≡◌, ℕ, suc, ◌+◌, ◌<◌, ◌≤◌, Bool, ◌||◌, List, [], ◌∷◌, ◌++◌, length, take, get_or, map, refl, sym, ap, ◌∙◌, append_assoc, append-nil, arith}
+use Rattle.std.proofs.Common.{◌≡◌, ℕ, suc, ◌+◌, ◌<◌, ◌≤◌, Bool, ◌||◌, List, [], ◌∷◌, ◌++◌, length, take, get_or, map}
+use Rattle.std.proofs.Common.{refl, sym, ap, ◌∙◌, append_assoc, append-nil, arith}
 use Rattle.std.specs.Prelude.{not, is_some}
 use Rattle.std.specs.List.{list_any}
 use Rattle.std.proofs.lemmas.List.{map_more, map-append, take_more, length-map, length-take-le}
@@ -16,25 +17,29 @@ use Rattle.wh_algebra.specs.View.{scalars_of}
 use Rattle.wh_naming.specs.Findings.{Findings, followed}
 use Rattle.wh_naming.specs.Scope.{Entry}
 use Rattle.wh_naming.specs.Grouping.{regrouped}
-use Rattle.wh_naming.specs.Select.{Shown, output_of, places_from, all_columns, shown_with, all_shown, plain, key_scalars, key_findings, regrouped_all, scalar_or}
+use Rattle.wh_naming.specs.Select.{Shown, output_of, places_from, all_columns, shown_with, all_shown, plain}
+use Rattle.wh_naming.specs.Select.{key_scalars, key_findings, regrouped_all, scalar_or}
 use Rattle.wh_expr_bind.specs.View.{entry_of, entries_of}
 use Rattle.wh_expr_bind.specs.declared.entries.Entry as made
 use Rattle.wh_core_bind.proofs.FindingLaws.{followed_assoc, followed_nothing, or_false}
 
 pub outputs_turn : (cs : List stored.Column) (i : ℕ) (c : stored.Column) → i < length cs → c ≡ get_or cs i c
-    → map output_of (map column_of (take (i + 1) cs)) ≡ map output_of (map column_of (take i cs)) ++ output_of (column_of c) ∷ []
+    → map output_of (map column_of (take (i + 1) cs))
+    ≡ map output_of (map column_of (take i cs)) ++ output_of (column_of c) ∷ []
 outputs_turn cs i c l is =
     let more = map_more column_of cs i c l in
     rw (more, ← is, map-append) refl
 
-places_more : (from : ℕ) (cs : List table.Column) (c : table.Column) → places_from from (cs ++ c ∷ []) ≡ places_from from cs ++ Column (from + length cs) ∷ []
+places_more : (from : ℕ) (cs : List table.Column) (c : table.Column)
+    → places_from from (cs ++ c ∷ []) ≡ places_from from cs ++ Column (from + length cs) ∷ []
 places_more from [] c = let same : from + 0 ≡ from = omega arith in rw same refl
 places_more from (x ∷ cs) c =
     let same : from + suc (length cs) ≡ suc from + length cs = omega arith in
     rw (same, places_more (suc from) cs c) refl
 
 pub places_turn : (from : ℕ) (cs : List stored.Column) (i : ℕ) (c : stored.Column) → i < length cs → c ≡ get_or cs i c
-    → places_from from (map column_of (take (i + 1) cs)) ≡ places_from from (map column_of (take i cs)) ++ Column (from + i) ∷ []
+    → places_from from (map column_of (take (i + 1) cs))
+    ≡ places_from from (map column_of (take i cs)) ++ Column (from + i) ∷ []
 places_turn from cs i c l is =
     let more = map_more column_of cs i c l in
     let within : i ≤ length cs = omega arith in
@@ -51,17 +56,20 @@ columns_turn es i e l is =
     let more = map_more entry_of es i e l in
     rw (more, ← is, columns_more (entries_of (take i es)) (entry_of e)) refl
 
-shown_more : (entries : List Entry) (s : Shown) (xs : List Item) (x : Item) → all_shown entries s (xs ++ x ∷ []) ≡ shown_with entries (all_shown entries s xs) x
+shown_more : (entries : List Entry) (s : Shown) (xs : List Item) (x : Item)
+    → all_shown entries s (xs ++ x ∷ []) ≡ shown_with entries (all_shown entries s xs) x
 shown_more entries s [] x = refl
 shown_more entries s (y ∷ xs) x = shown_more entries (shown_with entries s y) xs x
 
-pub shown_turn : (entries : List Entry) (s : Shown) (xs : List Item) (i : ℕ) (x : Item) → i < length xs → x ≡ get_or xs i x
+pub shown_turn : (entries : List Entry) (s : Shown) (xs : List Item) (i : ℕ) (x : Item) → i < length xs
+    → x ≡ get_or xs i x
     → all_shown entries s (take (i + 1) xs) ≡ shown_with entries (all_shown entries s (take i xs)) x
 shown_turn entries s xs i x l is =
     let more = take_more xs i x l in
     rw (more, ← is) (shown_more entries s (take i xs) x)
 
-findings_more : (entries : List Entry) (es : List Expr) (e : Expr) → key_findings entries (es ++ e ∷ []) ≡ followed (key_findings entries es) (plain entries e).findings
+findings_more : (entries : List Entry) (es : List Expr) (e : Expr)
+    → key_findings entries (es ++ e ∷ []) ≡ followed (key_findings entries es) (plain entries e).findings
 findings_more entries [] e = followed_nothing (plain entries e).findings
 findings_more entries (x ∷ es) e =
     ap (λ (f : Findings). followed (plain entries x).findings f) (findings_more entries es e)
@@ -79,15 +87,20 @@ keys_turn entries es i e l is =
     let more = map_more (λ x. (plain entries x).scalar) es i e l in
     rw (more, ← is) refl
 
-pub regrouped_turn : (keys : List Scalar) (wide : ℕ) (es : List code.Scalar) (i : ℕ) (e : code.Scalar) → i < length es → e ≡ get_or es i e
-    → regrouped_all keys wide (scalars_of (take (i + 1) es)) ≡ regrouped_all keys wide (scalars_of (take i es)) ++ scalar_or (regrouped keys wide (scalar_of e)) ∷ []
+pub regrouped_turn : (keys : List Scalar) (wide : ℕ) (es : List code.Scalar) (i : ℕ) (e : code.Scalar) → i < length es
+    → e ≡ get_or es i e
+    → regrouped_all keys wide (scalars_of (take (i + 1) es))
+    ≡ regrouped_all keys wide (scalars_of (take i es)) ++ scalar_or (regrouped keys wide (scalar_of e)) ∷ []
 regrouped_turn keys wide es i e l is =
     let more = map_more scalar_of es i e l in
     rw (more, ← is, map-append) refl
 
-pub outside_turn : (keys : List Scalar) (wide : ℕ) (es : List code.Scalar) (i : ℕ) (e : code.Scalar) → i < length es → e ≡ get_or es i e
+pub outside_turn : (keys : List Scalar) (wide : ℕ) (es : List code.Scalar) (i : ℕ) (e : code.Scalar)
+    → i < length es → e ≡ get_or es i e
     → list_any (λ s. not (is_some (regrouped keys wide s))) (scalars_of (take (i + 1) es))
-    ≡ (list_any (λ s. not (is_some (regrouped keys wide s))) (scalars_of (take i es)) || not (is_some (regrouped keys wide (scalar_of e))))
+    ≡ (list_any (λ s. not (is_some (regrouped keys wide s))) (scalars_of (take i es))
+    || not (is_some (regrouped keys wide (scalar_of e))))
 outside_turn keys wide es i e l is =
     let more = map_more scalar_of es i e l in
-    rw (more, ← is, list_any-append) (ap (λ (b : Bool). list_any (λ s. not (is_some (regrouped keys wide s))) (scalars_of (take i es)) || b) (or_false (not (is_some (regrouped keys wide (scalar_of e))))))
+    rw (more, ← is, list_any-append) (ap (λ (b : Bool). list_any (λ s. not (is_some (regrouped keys wide s)))
+    (scalars_of (take i es)) || b) (or_false (not (is_some (regrouped keys wide (scalar_of e))))))

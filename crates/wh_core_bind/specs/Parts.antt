@@ -27,7 +27,8 @@ projected_from true q keys width scalars calls = Project (Group q keys calls) (r
 
 abbrev pub found_in_groups : Bool → Bool → List Scalar → ℕ → List Scalar → Findings
 found_in_groups false has_star keys width scalars = nothing_found
-found_in_groups true has_star keys width scalars = mistyped_if (has_star || list_any (λ s. not (is_some (regrouped keys width s))) scalars)
+found_in_groups true has_star keys width scalars =
+    mistyped_if (has_star || list_any (λ s. not (is_some (regrouped keys width s))) scalars)
 
 -- a core of these parts; `found` is what is found below its items
 abbrev pub finished : Bool → Query → List ℕ → Bool → Findings → List Scalar → ℕ → Shown → BoundQuery
@@ -35,6 +36,7 @@ finished is_grouped rows sources is_wide found keys width shown = record {
   query = projected_from is_grouped rows keys width shown.scalars shown.calls;
   outputs = shown.outputs;
   sources = sources;
-  findings = followed (followed shown.findings found) (found_in_groups is_grouped shown.has_star keys width shown.scalars);
+  findings =
+      followed (followed shown.findings found) (found_in_groups is_grouped shown.has_star keys width shown.scalars);
   is_wide = is_wide || is_too_wide shown.outputs;
 }

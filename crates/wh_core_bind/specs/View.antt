@@ -19,10 +19,28 @@ abbrev pub outputs_of : List Output → List naming.Output
 outputs_of os = map output_of os
 
 unfoldable pub query_in : BoundQuery → naming.BoundQuery
-query_in q = record { query = query_of q.query; outputs = outputs_of q.outputs.items; sources = q.sources.items; findings = findings_of q.findings; is_wide = q.is_wide }
+query_in q = record {
+  query = query_of q.query;
+  outputs = outputs_of q.outputs.items;
+  sources = q.sources.items;
+  findings = findings_of q.findings;
+  is_wide = q.is_wide;
+}
 
 unfoldable pub joined_in : Joined → naming.Joined
-joined_in j = record { query = query_of j.query; entries = entries_of j.entries.items; sources = j.sources.items; findings = findings_of j.findings; is_wide = j.is_wide }
+joined_in j = record {
+  query = query_of j.query;
+  entries = entries_of j.entries.items;
+  sources = j.sources.items;
+  findings = findings_of j.findings;
+  is_wide = j.is_wide;
+}
 
 abbrev pub shown_in : Shown → naming.Shown
-shown_in s = record { outputs = outputs_of s.outputs.items; scalars = scalars_of s.scalars.items; calls = calls_of s.calls.items; has_star = s.has_star; findings = findings_of s.findings }
+shown_in s = record {
+  outputs = outputs_of s.outputs.items;
+  scalars = scalars_of s.scalars.items;
+  calls = calls_of s.calls.items;
+  has_star = s.has_star;
+  findings = findings_of s.findings;
+}

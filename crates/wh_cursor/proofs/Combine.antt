@@ -1,10 +1,12 @@
 -- What the steps of rules of statements read, and where.
---     expect_.., sees_.., read_..        `_some`: where it reads, the token stands there; `_reads`, `_is`: it reads the token
+--     expect_.., sees_.., read_..        `_some`: where it reads, the token stands there;
+--                                        `_reads`, `_is`: it reads the token
 --     then_.., if_eaten_..               the step in front of the others, and behind a token that may stand there
 --     not_that_word, not_that_key        a word or a sign isn't seen where another token stands, or none
 --     given-.., end-..                   what takes nothing
 --     name_..                            names, and that each takes a token at least
-use Rattle.std.proofs.Common.{◌≡◌, ℕ, ◌<◌, Bool, true, false, if◌then◌else◌, List, [], ◌∷◌, length, Option, Some, None, refl, sym, ap, ◌∙◌, subst, length-append, arith}
+use Rattle.std.proofs.Common.{◌≡◌, ℕ, ◌<◌, Bool, true, false, if◌then◌else◌, List, [], ◌∷◌, length, Option, Some, None}
+use Rattle.std.proofs.Common.{refl, sym, ap, ◌∙◌, subst, length-append, arith}
 use Rattle.std.specs.Prelude.{bytes_eq}
 use Rattle.std.proofs.lemmas.Option.{same_Some}
 use Rattle.std.proofs.lemmas.Slice.Eq.{bytes_eq-Decides}
@@ -15,7 +17,8 @@ use Rattle.wh_grammar.specs.Name.{IsName}
 use Rattle.wh_cursor.specs.declared.key.Key.{Key}
 use Rattle.wh_cursor.specs.declared.key.Key.TheVariants as k
 use Rattle.wh_cursor.specs.Keys.{same_key, key_of}
-use Rattle.wh_cursor.specs.Steps.{Reader, and_then, tail, sees, sees_word, expect_word, expect_key, read_word, read_text, read_number, read_name, given, read_end}
+use Rattle.wh_cursor.specs.Steps.{Reader, and_then, tail, sees, sees_word, expect_word, expect_key, read_word}
+use Rattle.wh_cursor.specs.Steps.{read_text, read_number, read_name, given, read_end}
 use Rattle.wh_cursor.specs.Laws.{Follows}
 use Rattle.wh_cursor.proofs.KeyLemmas.{fixed, Heads, heads}
 use Rattle.wh_cursor.proofs.Yields.{pure_some, Yields, yields, nothing, yields_law, follow}
@@ -40,12 +43,14 @@ pub sees_word_is : (w : List ℕ) (us : List Token) → sees_word w (Word w ∷ 
 unfolding sees_word
 sees_word_is w us = (bytes_eq-Decides w w).1 refl
 
-expect_by : (r : Bool) (ts : List Token) {u : Unit {0}} {us : List Token} → if◌then◌else◌ {A = Option (Unit {0} × List Token)} r (Some (tt, tail ts)) None ≡ Some (u, us)
+expect_by : (r : Bool) (ts : List Token) {u : Unit {0}} {us : List Token}
+    → if◌then◌else◌ {A = Option (Unit {0} × List Token)} r (Some (tt, tail ts)) None ≡ Some (u, us)
     → (r ≡ true) × (tail ts ≡ us)
 expect_by true ts h = (refl, (pure_some h).1)
 expect_by false ts h = absurd (cc)
 
-pub expect_word_some : (w : List ℕ) (ts : List Token) {u : Unit {0}} {us : List Token} → expect_word w ts ≡ Some (u, us) → ts ≡ Word w ∷ us
+pub expect_word_some : (w : List ℕ) (ts : List Token) {u : Unit {0}} {us : List Token} → expect_word w ts ≡ Some (u, us)
+    → ts ≡ Word w ∷ us
 unfolding expect_word
 expect_word_some w ts h =
     let both = expect_by (sees_word w ts) ts h in
@@ -55,10 +60,13 @@ pub expect_word_reads : (w : List ℕ) (us : List Token) → expect_word w (Word
 unfolding expect_word
 expect_word_reads w us = rw (sees_word_is w us) refl
 
-pub then_expect_word : {B : Type 0} (w : List ℕ) (ts : List Token) (f : Unit {0} → Reader B) {Q : B → List Token → Type 0}
-    → (ts ≡ Word w ∷ tail ts → Yields (f tt (tail ts)) Q) → Yields (and_then (expect_word w ts) f) Q
+pub then_expect_word : {B : Type 0} (w : List ℕ) (ts : List Token)
+    (f : Unit {0} → Reader B) {Q : B → List Token → Type 0}
+    → (ts ≡ Word w ∷ tail ts → Yields (f tt (tail ts)) Q)
+    → Yields (and_then (expect_word w ts) f) Q
 then_expect_word w ts f {Q} g = follow {P = λ _ us. ts ≡ Word w ∷ us} (yields_law (λ _ us h. expect_word_some w ts h))
-    (λ _ us h. let same = ap tail h in subst (λ (us : List Token). Yields (f tt us) Q) same (g (h ∙ ap (λ (us : List Token). Word w ∷ us) (sym same))))
+    (λ _ us h. let same = ap tail h in
+    subst (λ (us : List Token). Yields (f tt us) Q) same (g (h ∙ ap (λ (us : List Token). Word w ∷ us) (sym same))))
 
 -- behind a word that may stand there
 pub if_eaten_word : {B : Type 0} (w : List ℕ) (ts : List Token) (f : Bool → Reader B) {Q : B → List Token → Type 0}
@@ -66,37 +74,47 @@ pub if_eaten_word : {B : Type 0} (w : List ℕ) (ts : List Token) (f : Bool → 
     → Yields (f (sees_word w ts) (if sees_word w ts then tail ts else ts)) Q
 if_eaten_word w ts f {Q} g h = by (sees_word w ts) (λ r. g (sees_word_some w ts r)) h
   where
-    by : (r : Bool) → (r ≡ true → Yields (f true (tail ts)) Q) → (r ≡ false → Yields (f false ts) Q) → Yields (f r (if r then tail ts else ts)) Q
+    by : (r : Bool) → (r ≡ true → Yields (f true (tail ts)) Q) → (r ≡ false → Yields (f false ts) Q)
+        → Yields (f r (if r then tail ts else ts)) Q
     by true g h = g refl
     by false g h = h refl
 
 -- ---- a token by its key
 
-pub sees_key_some : (key : Key) (t : Token) (ts : List Token) → fixed key ≡ Some t → sees key ts ≡ true → ts ≡ t ∷ tail ts
+pub sees_key_some : (key : Key) (t : Token) (ts : List Token) → fixed key ≡ Some t → sees key ts ≡ true
+    → ts ≡ t ∷ tail ts
 sees_key_some key t ts is h = subst (λ (o : Option Token). Heads o ts) is (heads key ts h)
 
-pub expect_key_some : (key : Key) (t : Token) (ts : List Token) {u : Unit {0}} {us : List Token} → fixed key ≡ Some t → expect_key key ts ≡ Some (u, us) → ts ≡ t ∷ us
+pub expect_key_some : (key : Key) (t : Token) (ts : List Token) {u : Unit {0}} {us : List Token} → fixed key ≡ Some t
+    → expect_key key ts ≡ Some (u, us)
+    → ts ≡ t ∷ us
 unfolding expect_key
 expect_key_some key t ts is h =
     let both = expect_by (sees key ts) ts h in
     sees_key_some key t ts is both.0 ∙ ap (λ (us : List Token). t ∷ us) both.1
 
-pub lparen_some : (ts : List Token) {u : Unit {0}} {us : List Token} → expect_key k.LParen ts ≡ Some (u, us) → ts ≡ SignToken token.LParen ∷ us
+pub lparen_some : (ts : List Token) {u : Unit {0}} {us : List Token} → expect_key k.LParen ts ≡ Some (u, us)
+    → ts ≡ SignToken token.LParen ∷ us
 lparen_some ts h = expect_key_some k.LParen _ ts refl h
 
-pub rparen_some : (ts : List Token) {u : Unit {0}} {us : List Token} → expect_key k.RParen ts ≡ Some (u, us) → ts ≡ SignToken token.RParen ∷ us
+pub rparen_some : (ts : List Token) {u : Unit {0}} {us : List Token} → expect_key k.RParen ts ≡ Some (u, us)
+    → ts ≡ SignToken token.RParen ∷ us
 rparen_some ts h = expect_key_some k.RParen _ ts refl h
 
-pub comma_some : (ts : List Token) {u : Unit {0}} {us : List Token} → expect_key k.Comma ts ≡ Some (u, us) → ts ≡ SignToken token.Comma ∷ us
+pub comma_some : (ts : List Token) {u : Unit {0}} {us : List Token} → expect_key k.Comma ts ≡ Some (u, us)
+    → ts ≡ SignToken token.Comma ∷ us
 comma_some ts h = expect_key_some k.Comma _ ts refl h
 
-pub dot_some : (ts : List Token) {u : Unit {0}} {us : List Token} → expect_key k.Dot ts ≡ Some (u, us) → ts ≡ SignToken token.Dot ∷ us
+pub dot_some : (ts : List Token) {u : Unit {0}} {us : List Token} → expect_key k.Dot ts ≡ Some (u, us)
+    → ts ≡ SignToken token.Dot ∷ us
 dot_some ts h = expect_key_some k.Dot _ ts refl h
 
-pub star_some : (ts : List Token) {u : Unit {0}} {us : List Token} → expect_key k.Star ts ≡ Some (u, us) → ts ≡ SignToken token.Star ∷ us
+pub star_some : (ts : List Token) {u : Unit {0}} {us : List Token} → expect_key k.Star ts ≡ Some (u, us)
+    → ts ≡ SignToken token.Star ∷ us
 star_some ts h = expect_key_some k.Star _ ts refl h
 
-pub equal_some : (ts : List Token) {u : Unit {0}} {us : List Token} → expect_key k.Equal ts ≡ Some (u, us) → ts ≡ SignToken token.Equal ∷ us
+pub equal_some : (ts : List Token) {u : Unit {0}} {us : List Token} → expect_key k.Equal ts ≡ Some (u, us)
+    → ts ≡ SignToken token.Equal ∷ us
 equal_some ts h = expect_key_some k.Equal _ ts refl h
 
 pub then_expect_key : {B : Type 0} (key : Key) (ts : List Token) (f : Unit {0} → Reader B) {Q : B → List Token → Type 0}
@@ -104,7 +122,8 @@ pub then_expect_key : {B : Type 0} (key : Key) (ts : List Token) (f : Unit {0} �
 unfolding expect_key
 then_expect_key key ts f {Q} g = by (sees key ts) (λ r. g (heads key ts r))
   where
-    by : (r : Bool) → (r ≡ true → Yields (f tt (tail ts)) Q) → Yields (and_then (if r then Some (tt, tail ts) else None) f) Q
+    by : (r : Bool) → (r ≡ true → Yields (f tt (tail ts)) Q)
+        → Yields (and_then (if r then Some (tt, tail ts) else None) f) Q
     by true g = record { is = (g refl).is }
     by false g = nothing
 
@@ -114,7 +133,8 @@ pub if_eaten_key : {B : Type 0} (key : Key) (ts : List Token) (f : Bool → Read
     → Yields (f (sees key ts) (if sees key ts then tail ts else ts)) Q
 if_eaten_key key ts f {Q} g h = by (sees key ts) (λ r. g (heads key ts r)) h
   where
-    by : (r : Bool) → (r ≡ true → Yields (f true (tail ts)) Q) → (r ≡ false → Yields (f false ts) Q) → Yields (f r (if r then tail ts else ts)) Q
+    by : (r : Bool) → (r ≡ true → Yields (f true (tail ts)) Q) → (r ≡ false → Yields (f false ts) Q)
+        → Yields (f r (if r then tail ts else ts)) Q
     by true g h = g refl
     by false g h = h refl
 
@@ -152,7 +172,8 @@ sees_key_is k.Greater t us is = rw (sym (same_Some _ _ is)) refl
 sees_key_is k.AtLeast t us is = rw (sym (same_Some _ _ is)) refl
 sees_key_is k.Arrow t us is = absurd (cc)
 
-pub expect_key_reads : (key : Key) (t : Token) (us : List Token) → fixed key ≡ Some t → expect_key key (t ∷ us) ≡ Some (tt, us)
+pub expect_key_reads : (key : Key) (t : Token) (us : List Token) → fixed key ≡ Some t
+    → expect_key key (t ∷ us) ≡ Some (tt, us)
 unfolding expect_key
 expect_key_reads key t us is = rw (sees_key_is key t us is) refl
 
@@ -176,11 +197,13 @@ equal_reads us = expect_key_reads k.Equal _ us refl
 
 -- ---- what takes nothing
 
-pub given-yields : {A : Type 0} (o : Option A) (ts : List Token) {Q : A → List Token → Type 0} → ((x : A) → o ≡ Some x → Q x ts) → Yields (given o ts) Q
+pub given-yields : {A : Type 0} (o : Option A) (ts : List Token) {Q : A → List Token → Type 0}
+    → ((x : A) → o ≡ Some x → Q x ts) → Yields (given o ts) Q
 given-yields None ts k = nothing
 given-yields (Some x) ts k = yields x ts (k x refl)
 
-pub then_given : {A B : Type 0} (o : Option A) (ts : List Token) (f : A → Reader B) {Q : B → List Token → Type 0} → ((x : A) → o ≡ Some x → Yields (f x ts) Q)
+pub then_given : {A B : Type 0} (o : Option A) (ts : List Token) (f : A → Reader B) {Q : B → List Token → Type 0}
+    → ((x : A) → o ≡ Some x → Yields (f x ts) Q)
     → Yields (and_then (given o ts) f) Q
 then_given None ts f k = nothing
 then_given (Some x) ts f k = k x refl
@@ -242,14 +265,17 @@ pub end_no_key : (key : Key) (t : Token) → fixed key ≡ Some t → sees key [
 end_no_key key t is = not_that_key key t [] is (λ e. cc)
 
 -- a word is no sign, and another word isn't that one
-pub word_no_sign : (key : Key) (s : token.Sign) (v : List ℕ) (us : List Token) → fixed key ≡ Some (SignToken s) → sees key (Word v ∷ us) ≡ false
+pub word_no_sign : (key : Key) (s : token.Sign) (v : List ℕ) (us : List Token) → fixed key ≡ Some (SignToken s)
+    → sees key (Word v ∷ us) ≡ false
 word_no_sign key s v us is = not_that_key key (SignToken s) (Word v ∷ us) is (λ e. cc)
 
-pub word_no_key : (key : Key) (w v : List ℕ) (us : List Token) → fixed key ≡ Some (Word w) → bytes_eq v w ≡ false → sees key (Word v ∷ us) ≡ false
+pub word_no_key : (key : Key) (w v : List ℕ) (us : List Token) → fixed key ≡ Some (Word w) → bytes_eq v w ≡ false
+    → sees key (Word v ∷ us) ≡ false
 word_no_key key w v us is other = not_that_key key (Word w) (Word v ∷ us) is
     (λ e. let same : v ≡ w = cc in let k = sym other ∙ (bytes_eq-Decides v w).1 same in cc)
 
-pub quoted_no_key : (key : Key) (name : List ℕ) (us : List Token) (t : Token) → fixed key ≡ Some t → sees key (Quoted name ∷ us) ≡ false
+pub quoted_no_key : (key : Key) (name : List ℕ) (us : List Token) (t : Token) → fixed key ≡ Some t
+    → sees key (Quoted name ∷ us) ≡ false
 unfolding sees same_key key_of
 quoted_no_key key name us t is = by key is
   where
@@ -258,7 +284,8 @@ quoted_no_key key name us t is = by key is
     by _ is = refl
 
 -- a sign is no word, and another sign isn't that one
-pub sign_no_key : (key : Key) (w : List ℕ) (s : token.Sign) (us : List Token) → fixed key ≡ Some (Word w) → sees key (SignToken s ∷ us) ≡ false
+pub sign_no_key : (key : Key) (w : List ℕ) (s : token.Sign) (us : List Token) → fixed key ≡ Some (Word w)
+    → sees key (SignToken s ∷ us) ≡ false
 sign_no_key key w s us is = not_that_key key (Word w) (SignToken s ∷ us) is (λ e. cc)
 
 -- ---- a token that carries something
@@ -276,7 +303,8 @@ pub read_word_reads : (w : List ℕ) (us : List Token) → read_word (Word w ∷
 unfolding read_word
 read_word_reads w us = refl
 
-pub read_text_some : (ts : List Token) {bytes : List ℕ} {us : List Token} → read_text ts ≡ Some (bytes, us) → ts ≡ TextToken bytes ∷ us
+pub read_text_some : (ts : List Token) {bytes : List ℕ} {us : List Token} → read_text ts ≡ Some (bytes, us)
+    → ts ≡ TextToken bytes ∷ us
 unfolding read_text
 read_text_some [] h = absurd (cc)
 read_text_some (Word v ∷ vs) h = absurd (cc)
@@ -289,7 +317,8 @@ pub read_text_reads : (bytes : List ℕ) (us : List Token) → read_text (TextTo
 unfolding read_text
 read_text_reads bytes us = refl
 
-pub read_number_some : (ts : List Token) {n : ℕ} {us : List Token} → read_number ts ≡ Some (n, us) → ts ≡ NumberToken n ∷ us
+pub read_number_some : (ts : List Token) {n : ℕ} {us : List Token} → read_number ts ≡ Some (n, us)
+    → ts ≡ NumberToken n ∷ us
 unfolding read_number
 read_number_some [] h = absurd (cc)
 read_number_some (Word v ∷ vs) h = absurd (cc)

@@ -18,7 +18,8 @@ pub on : {ts us vs : List Token} → Follows ts us → Behind us vs → Follows 
 on {vs = vs} h l = record {
   first = h.first;
   more = h.more ++ l.0;
-  is = h.is ∙ ap (λ (us : List Token). h.first ∷ (h.more ++ us)) l.1 ∙ ap (λ (us : List Token). h.first ∷ us) (sym (append_assoc h.more l.0 vs));
+  is = h.is ∙ ap (λ (us : List Token). h.first ∷ (h.more ++ us)) l.1
+      ∙ ap (λ (us : List Token). h.first ∷ us) (sym (append_assoc h.more l.0 vs));
 }
 
 pub onto : {ts us vs : List Token} → Behind ts us → Behind us vs → Behind ts vs

@@ -1,5 +1,6 @@
 -- What a key says of the token that comes next.
-use Rattle.std.proofs.Common.{◌≡◌, ℕ, Bool, true, false, List, [], ◌∷◌, Option, Some, None, refl, ap, subst, rules, if◌then◌else◌}
+use Rattle.std.proofs.Common.{◌≡◌, ℕ, Bool, true, false, List, [], ◌∷◌, Option, Some, None, refl, ap}
+use Rattle.std.proofs.Common.{subst, rules, if◌then◌else◌}
 use Rattle.std.specs.Prelude.{codes, bytes_eq}
 use Rattle.std.proofs.lemmas.Slice.Eq.{bytes_eq-Decides}
 use denote.Enum.Bare.{same_true}
@@ -110,19 +111,23 @@ unreserved w c r n = by (bytes_eq w c) refl
     by true e = absurd (let same = ap is_reserved ((bytes_eq-Decides w c).0 e) in cc)
 
 word_by : (w : List ℕ) (r : Bool) → is_reserved w ≡ r
-    → key_binds (if r then reserved_key w else if bytes_eq w (codes "SUM") then k.Sum else if bytes_eq w (codes "COUNT") then k.Count else k.Name) ≡ word_binds w
+    → key_binds (if r then reserved_key w else if bytes_eq w (codes "SUM") then k.Sum else if bytes_eq w (codes "COUNT")
+    then k.Count else k.Name) ≡ word_binds w
 unfolding is_reserved
-word_by w true e = six (bytes_eq w (codes "OR")) (bytes_eq w (codes "AND")) (bytes_eq w (codes "NOT")) (bytes_eq w (codes "IS")) (bytes_eq w (codes "IN")) (bytes_eq w (codes "BETWEEN")) _
+word_by w true e = six (bytes_eq w (codes "OR")) (bytes_eq w (codes "AND")) (bytes_eq w (codes "NOT"))
+    (bytes_eq w (codes "IS")) (bytes_eq w (codes "IN")) (bytes_eq w (codes "BETWEEN")) _
     (three (bytes_eq w (codes "NULL")) (bytes_eq w (codes "TRUE")) (bytes_eq w (codes "FALSE")))
   where
-    three : (a b c : Bool) → key_binds (if a then k.Null else if b then k.True else if c then k.False else k.Reserved) ≡ 0
+    three : (a b c : Bool)
+        → key_binds (if a then k.Null else if b then k.True else if c then k.False else k.Reserved) ≡ 0
     three true b c = refl
     three false true c = refl
     three false false true = refl
     three false false false = refl
 
     six : (a b c d e f : Bool) (key : Key) → key_binds key ≡ 0
-        → key_binds (if a then k.Or else if b then k.And else if c then k.Not else if d then k.Is else if e then k.In else if f then k.Between else key)
+        → key_binds (if a then k.Or else if b then k.And else if c then k.Not else if d then k.Is else if e then k.In
+        else if f then k.Between else key)
         ≡ (if a then 1 else if b then 2 else if c then 3 else if d then 3 else if e then 3 else if f then 3 else 0)
     six true b c d e f key h = refl
     six false true c d e f key h = refl
@@ -133,7 +138,14 @@ word_by w true e = six (bytes_eq w (codes "OR")) (bytes_eq w (codes "AND")) (byt
     six false false false false false false key h = h
 word_by w false e =
     let none : (c : List ℕ) → is_reserved c ≡ true → bytes_eq w c ≡ false = λ c r. unreserved w c r e in
-    rw (none (codes "OR") refl, none (codes "AND") refl, none (codes "NOT") refl, none (codes "IS") refl, none (codes "IN") refl, none (codes "BETWEEN") refl)
+    rw (
+      none (codes "OR") refl,
+      none (codes "AND") refl,
+      none (codes "NOT") refl,
+      none (codes "IS") refl,
+      none (codes "IN") refl,
+      none (codes "BETWEEN") refl,
+    )
     (two (bytes_eq w (codes "SUM")) (bytes_eq w (codes "COUNT")))
   where
     two : (a b : Bool) → key_binds (if a then k.Sum else if b then k.Count else k.Name) ≡ 0

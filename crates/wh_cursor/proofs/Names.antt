@@ -27,7 +27,8 @@ name-sound (TextToken bytes ∷ us) = nothing
 name-sound (NumberToken n ∷ us) = nothing
 name-sound (SignToken s ∷ us) = nothing
 
-pub name_sound : (ts : List Token) (name : List ℕ) (us : List Token) → read_name ts ≡ Some (name, us) → IsName ts name us
+pub name_sound : (ts : List Token) (name : List ℕ) (us : List Token) → read_name ts ≡ Some (name, us)
+    → IsName ts name us
 name_sound ts = yielded (name-sound ts)
 
 pub name-complete : {ts us : List Token} {name : List ℕ} → IsName ts name us → read_name ts ≡ Some (name, us)

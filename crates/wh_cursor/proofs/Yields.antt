@@ -1,5 +1,5 @@
--- What holds of a reader's outcome, step by step, over any state: the goal says which lemma serves. Soundness goes from an
--- outcome to what stands at the front, completeness from what stands there to the outcome.
+-- What holds of a reader's outcome, step by step, over any state: the goal says which lemma serves. Soundness goes from
+-- an outcome to what stands at the front, completeness from what stands there to the outcome.
 --     Bound, bind_some, bind_reads       one step after the other
 --     Yields, follow, mapped             what holds of an outcome
 --     yields_law, yielded                from a reading function's law, and to it
@@ -16,14 +16,17 @@ pub record Bound {S A B : Type 0} (read : Option (A × S)) (f : A → ReaderOf S
   pub first : read ≡ Some (value, left)
   pub next : f value left ≡ Some (y, us)
 
-pub bind_some : {S A B : Type 0} (read : Option (A × S)) (f : A → ReaderOf S B) {y : B} {us : S} → and_then read f ≡ Some (y, us) → Bound read f y us
+pub bind_some : {S A B : Type 0} (read : Option (A × S)) (f : A → ReaderOf S B) {y : B} {us : S}
+    → and_then read f ≡ Some (y, us) → Bound read f y us
 bind_some None f h = absurd (cc)
 bind_some (Some p) f h = record { value = p.0; left = p.1; first = refl; next = h }
 
-pub bind_reads : {S A B : Type 0} {read : Option (A × S)} (f : A → ReaderOf S B) {x : A} {ms : S} → read ≡ Some (x, ms) → and_then read f ≡ f x ms
+pub bind_reads : {S A B : Type 0} {read : Option (A × S)} (f : A → ReaderOf S B) {x : A} {ms : S} → read ≡ Some (x, ms)
+    → and_then read f ≡ f x ms
 bind_reads f h = rw h refl
 
-pub pure_some : {S A : Type 0} {x y : A} {ts us : S} → ◌≡◌ {A = Option (A × S)} (Some (x, ts)) (Some (y, us)) → (x ≡ y) × (ts ≡ us)
+pub pure_some : {S A : Type 0} {x y : A} {ts us : S}
+    → ◌≡◌ {A = Option (A × S)} (Some (x, ts)) (Some (y, us)) → (x ≡ y) × (ts ≡ us)
 pure_some {S} {A} h = let same = same_Some _ _ h in (ap (λ (q : A × S). q.0) same, ap (λ (q : A × S). q.1) same)
 
 -- ---- what holds of an outcome
@@ -43,39 +46,50 @@ pub nothing : {S A : Type 0} {Q : A → S → Type 0} → Yields None Q
 nothing = record { is = tt }
 
 -- to a reading function's law and from it
-pub yielded : {S A : Type 0} {o : Option (A × S)} {Q : A → S → Type 0} → Yields o Q → (x : A) (us : S) → o ≡ Some (x, us) → Q x us
+pub yielded : {S A : Type 0} {o : Option (A × S)} {Q : A → S → Type 0} → Yields o Q → (x : A) (us : S)
+    → o ≡ Some (x, us) → Q x us
 yielded {o = o} {Q} h x us e = subst (Is Q) e h.is
 
-yields_by : {S A : Type 0} (o : Option (A × S)) (Q : A → S → Type 0) → ((x : A) (us : S) → o ≡ Some (x, us) → Q x us) → Is Q o
+yields_by : {S A : Type 0} (o : Option (A × S)) (Q : A → S → Type 0) → ((x : A) (us : S) → o ≡ Some (x, us) → Q x us)
+    → Is Q o
 yields_by None Q k = tt
 yields_by (Some p) Q k = k p.0 p.1 refl
 
-pub yields_law : {S A : Type 0} {o : Option (A × S)} {Q : A → S → Type 0} → ((x : A) (us : S) → o ≡ Some (x, us) → Q x us) → Yields o Q
+pub yields_law : {S A : Type 0} {o : Option (A × S)} {Q : A → S → Type 0}
+    → ((x : A) (us : S) → o ≡ Some (x, us) → Q x us)
+    → Yields o Q
 yields_law {o = o} {Q} k = record { is = yields_by o Q k }
 
-then_by : {S A B : Type 0} (o : Option (A × S)) (f : A → ReaderOf S B) (P : A → S → Type 0) (Q : B → S → Type 0) → Is P o
-    → ((x : A) (ms : S) → P x ms → Yields (f x ms) Q) → Is Q (and_then o f)
+then_by : {S A B : Type 0} (o : Option (A × S)) (f : A → ReaderOf S B) (P : A → S → Type 0) (Q : B → S → Type 0)
+    → Is P o → ((x : A) (ms : S) → P x ms → Yields (f x ms) Q)
+    → Is Q (and_then o f)
 then_by None f P Q h k = tt
 then_by (Some p) f P Q h k = (k p.0 p.1 h).is
 
-pub follow : {S A B : Type 0} {o : Option (A × S)} {f : A → ReaderOf S B} {P : A → S → Type 0} {Q : B → S → Type 0} → Yields o P
-    → ((x : A) (ms : S) → P x ms → Yields (f x ms) Q) → Yields (and_then o f) Q
+pub follow : {S A B : Type 0} {o : Option (A × S)} {f : A → ReaderOf S B} {P : A → S → Type 0} {Q : B → S → Type 0}
+    → Yields o P → ((x : A) (ms : S) → P x ms → Yields (f x ms) Q)
+    → Yields (and_then o f) Q
 follow {o = o} {f} {P} {Q} h k = record { is = then_by o f P Q h.is k }
 
-mapped_by : {S A : Type 0} (o : Option (A × S)) (P Q : A → S → Type 0) → Is P o → ((x : A) (us : S) → P x us → Q x us) → Is Q o
+mapped_by : {S A : Type 0} (o : Option (A × S)) (P Q : A → S → Type 0) → Is P o → ((x : A) (us : S) → P x us → Q x us)
+    → Is Q o
 mapped_by None P Q h k = tt
 mapped_by (Some p) P Q h k = k p.0 p.1 h
 
-pub mapped : {S A : Type 0} {o : Option (A × S)} {P Q : A → S → Type 0} → Yields o P → ((x : A) (us : S) → P x us → Q x us) → Yields o Q
+pub mapped : {S A : Type 0} {o : Option (A × S)} {P Q : A → S → Type 0} → Yields o P
+    → ((x : A) (us : S) → P x us → Q x us)
+    → Yields o Q
 mapped {o = o} {P} {Q} h k = record { is = mapped_by o P Q h.is k }
 
 -- behind a test
-pub if_test : {S A : Type 0} (r : Bool) {x y : Option (A × S)} {Q : A → S → Type 0} → (r ≡ true → Yields x Q) → (r ≡ false → Yields y Q) → Yields (if r then x else y) Q
+pub if_test : {S A : Type 0} (r : Bool) {x y : Option (A × S)} {Q : A → S → Type 0} → (r ≡ true → Yields x Q)
+    → (r ≡ false → Yields y Q) → Yields (if r then x else y) Q
 if_test true g h = g refl
 if_test false g h = h refl
 
 -- the same, where readers stand behind it
-pub if_readers : {S A : Type 0} (r : Bool) (p q : ReaderOf S A) {ts : S} {Q : A → S → Type 0} → (r ≡ true → Yields (p ts) Q) → (r ≡ false → Yields (q ts) Q)
+pub if_readers : {S A : Type 0} (r : Bool) (p q : ReaderOf S A) {ts : S} {Q : A → S → Type 0}
+    → (r ≡ true → Yields (p ts) Q) → (r ≡ false → Yields (q ts) Q)
     → Yields ((if r then p else q) ts) Q
 if_readers true p q g h = g refl
 if_readers false p q g h = h refl

@@ -1,7 +1,8 @@
 -- Which tokens go on with an expression. The grammar doesn't need it: it lets a parser that reads from the left say
 -- where an expression ends.
 use Rattle.std.specs.Prelude.{ℕ, List, [], ◌∷◌, codes, bytes_eq, if◌then◌else◌}
-use Rattle.wh_grammar.specs.Token.{Token, Word, Quoted, TextToken, NumberToken, SignToken, Sign, LParen, RParen, Comma, Dot, Star, Plus, Minus, Equal, Unequal, Less, AtMost, Greater, AtLeast, Arrow}
+use Rattle.wh_grammar.specs.Token.{Token, Word, Quoted, TextToken, NumberToken, SignToken, Sign, LParen, RParen, Comma}
+use Rattle.wh_grammar.specs.Token.{Dot, Star, Plus, Minus, Equal, Unequal, Less, AtMost, Greater, AtLeast, Arrow}
 
 -- How tightly a token binds behind an expression: 0 where none goes on with it.
 abbrev pub sign_binds : Sign → ℕ

@@ -24,4 +24,5 @@ listed item = λ ts. some_from item (eat_key k.Comma) (length ts) [] ts
 
 pub record ReadsItem {T : Type 0} (item : Reader T) (depth : ℕ)
     (post : Global → MutBor (List Token) → ℕ → Result T ParseFault → MutBor (List Token) → Type 0) : Type 0 where
-  pub reads : (alloc : Global) (old new : MutBor (List Token)) (r : Result T ParseFault) → post alloc old depth r new → Reads (item old.now) r new.now
+  pub reads : (alloc : Global) (old new : MutBor (List Token)) (r : Result T ParseFault) → post alloc old depth r new
+      → Reads (item old.now) r new.now

@@ -1,5 +1,6 @@
 -- What rules are made of: readers, and the steps that each takes.
---     ReaderOf S                         takes something from the front of a state, and leaves the rest; one after the other, by `do`
+--     ReaderOf S                         takes something from the front of a state, and leaves the rest;
+--                                        one after the other, by `do`
 --     Reader                             the same of tokens
 --     sees, sees_word                    whether a sign, by its key, or a word comes next
 --     eat_word, eat_key                  takes it, if it comes next

@@ -17,7 +17,8 @@ use Rattle.wh_ddl_bind.specs.declared.bound.Bound.{Bound}
 use Rattle.wh_ddl_bind.specs.declared.bound.Bound.TheVariants as code
 
 of_parts : (a b c d : Option Name) (e : Bool)
-    → first_failing (record { unknown_object = a; wrong_kind = b; unknown_column = c; taken = d; is_mistyped = e }) ≡ None
+    → first_failing (record { unknown_object = a; wrong_kind = b; unknown_column = c; taken = d; is_mistyped = e })
+    ≡ None
     → record { unknown_object = a; wrong_kind = b; unknown_column = c; taken = d; is_mistyped = e } ≡ nothing_found
 unfolding first_failing
 of_parts (Some x) b c d e h = absurd cc
@@ -30,7 +31,8 @@ of_parts None None None None false h = refl
 no_findings : (f : Findings) → first_failing f ≡ None → f ≡ nothing_found
 no_findings f h = of_parts f.unknown_object f.wrong_kind f.unknown_column f.taken f.is_mistyped h
 
-pub select_bound : (b : BoundSelect) (s : selects.BoundSelect) → select_binds.IsBound b s → IsBound (code.Select b) (selected s)
+pub select_bound : (b : BoundSelect) (s : selects.BoundSelect) → select_binds.IsBound b s
+    → IsBound (code.Select b) (selected s)
 select_bound b s h = record { nothing_found = h.nothing_found; bound = ap Select same }
   where
     same : select_of b ≡ s
@@ -43,7 +45,8 @@ select_bound b s h = record { nothing_found = h.nothing_found; bound = ap Select
       is_wide = h.is_wide i;
     }
 
-pub change_bound : (b : BoundChange) (s : changes.BoundChange) → change_binds.IsBound b s → IsBound (code.Change b) (changed s)
+pub change_bound : (b : BoundChange) (s : changes.BoundChange) → change_binds.IsBound b s
+    → IsBound (code.Change b) (changed s)
 change_bound b s h = record { nothing_found = h.nothing_found; bound = ap Change same }
   where
     same : change_of b ≡ s

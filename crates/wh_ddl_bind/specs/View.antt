@@ -51,7 +51,8 @@ abbrev pub predecessors_in : Predecessors → Meant (List ℕ)
 predecessors_in p = record { value = p.ids.items; taken_object = None; findings = findings_of p.findings }
 
 abbrev pub new_table_of : NewTable → tables.NewTable
-new_table_of t = record { name = t.name; replaced = t.replaced; columns = map column_of t.columns.items; retention = t.retention }
+new_table_of t =
+    record { name = t.name; replaced = t.replaced; columns = map column_of t.columns.items; retention = t.retention }
 
 abbrev pub new_stream_of : NewStream → streams.NewStream
 new_stream_of s = record { name = s.name; table = s.table; is_append_only = s.is_append_only }

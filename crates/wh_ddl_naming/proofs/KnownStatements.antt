@@ -30,7 +30,8 @@ use Rattle.wh_naming.specs.Select.{QueryReading, ordered, bound_select, source_s
 use Rattle.wh_naming.specs.Changes.{bound_change}
 use Rattle.wh_naming.proofs.Written.{WrittenQuery, k, v, name_a, name_b, name_d, name_n, name_q, name_s, name_t}
 use Rattle.wh_naming.proofs.Written.{name_u, name_x, name_y, name_z, objects, number, truth, null, column, plus}
-use Rattle.wh_naming.proofs.Written.{only, shown, shown_as, object, object_as, subquery, join, core, query, select, layers}
+use Rattle.wh_naming.proofs.Written.{only, shown, shown_as, object, object_as, subquery, join}
+use Rattle.wh_naming.proofs.Written.{core, query, select, layers}
 use Rattle.wh_ddl_naming.specs.Meant.{Meant, within, first_failing}
 use Rattle.wh_ddl_naming.specs.Objects.{Names}
 use Rattle.wh_ddl_naming.specs.DynamicTables.{inside, over_query}
@@ -92,10 +93,12 @@ number_columns listed = map number_column listed
 
 -- CREATE TABLE name (columns), without and with OR REPLACE
 abbrev create : Name → List Name → WrittenStatement
-create name listed = plain (written.CreateTable (record { replace = false; name = name; columns = number_columns listed; retention = Some 3 }))
+create name listed = plain
+    (written.CreateTable (record { replace = false; name = name; columns = number_columns listed; retention = Some 3 }))
 
 abbrev replace : Name → List Name → WrittenStatement
-replace name listed = plain (written.CreateTable (record { replace = true; name = name; columns = number_columns listed; retention = None }))
+replace name listed = plain
+    (written.CreateTable (record { replace = true; name = name; columns = number_columns listed; retention = None }))
 
 abbrev stream : Name → Name → WrittenStatement
 stream name table = plain (written.CreateStream name table true)
@@ -138,12 +141,17 @@ dynamic name q = record {
 abbrev over : WrittenQuery → WrittenStatement
 over q = dynamic name_z q
 
-pub of_selected : (q : WrittenQuery) → bound names (written.Select q.tree []) ≡ selected (ordered (q.reading names.objects 0) [])
+pub of_selected : (q : WrittenQuery)
+    → bound names (written.Select q.tree []) ≡ selected (ordered (q.reading names.objects 0) [])
 unfolding bound bound_select
 of_selected q = ap (λ (r : QueryReading). selected (ordered (r names.objects 0) [])) q.is
 
 abbrev selecting : WrittenQuery → WrittenStatement
-selecting q = record { tree = written.Select q.tree []; meant = selected (ordered (q.reading names.objects 0) []); is = of_selected q }
+selecting q = record {
+  tree = written.Select q.tree [];
+  meant = selected (ordered (q.reading names.objects 0) []);
+  is = of_selected q;
+}
 
 abbrev metadata : Name
 metadata = codes "METADATA$A"
@@ -153,7 +161,8 @@ metadata = codes "METADATA$A"
 -- `SELECT K FROM S`, SYSTEM$STREAM_HAS_DATA('S'), and `DELETE FROM T`
 pub reads_and_changes : Passes (selecting (select (only (column k)) (object name_s)))
     × Means (plain (written.HasData name_s)) (bound.HasData 5)
-    × Means (plain (written.Dml (dml.Delete name_t None))) (bound.Change (bound_change names.objects (dml.Delete name_t None)))
+    × Means (plain (written.Dml (dml.Delete name_t None)))
+    (bound.Change (bound_change names.objects (dml.Delete name_t None)))
 unfolding bound naming.first_failing source_step core_step query_step step column_at
 reads_and_changes = (read (simp layers), read refl, read refl)
 
@@ -183,14 +192,16 @@ unfolding bound
 tasks = (read refl, read refl, read refl)
 
 -- `SELECT 1, NULL AS X FROM D`: a column that is NULL in every core is VARCHAR
-pub dynamic_tables : Means (over (query (core (shown (number 1) ∷ shown_as null name_x ∷ []) (object name_d) [] None [] ∷ [])))
+pub dynamic_tables : Means
+    (over (query (core (shown (number 1) ∷ shown_as null name_x ∷ []) (object name_d) [] None [] ∷ [])))
     (bound.CreateDynamicTable (record {
       name = name_z;
       lag = lags.Seconds 60;
       mode = modes.Auto;
       initialize = starts.OnCreate;
       query = Project (Scan 0) (Const (value.Number (pos 1)) ∷ Const value.Null ∷ []);
-      columns = (record { name = codes "COL1"; column_type = NumberType }) ∷ (record { name = name_x; column_type = VarcharType }) ∷ [];
+      columns = (record { name = codes "COL1"; column_type = NumberType })
+          ∷ (record { name = name_x; column_type = VarcharType }) ∷ [];
       sources = 6 ∷ [];
       is_wide = false;
       query_text = name_y;
@@ -258,13 +269,16 @@ taken_before_wrong = (read refl, read refl, read (simp layers), read refl)
 -- OR REPLACE of D(K, K), `SELECT K AS X, Z AS X FROM S`, and `SELECT K, Z FROM T` of two columns K
 pub wrong_before_columns : IsWrong name_d (replace name_d (k ∷ k ∷ []))
     × IsWrong name_s (over (select (shown_as (column k) name_x ∷ shown_as (column name_z) name_x ∷ []) (object name_s)))
-    × IsUnknown name_y (over (select (shown (column k) ∷ shown (column k) ∷ shown (column name_y) ∷ []) (object name_t)))
-    × IsUnknown name_y (over (select (shown (column name_y) ∷ shown (column k) ∷ shown (column k) ∷ []) (object name_t)))
+    × IsUnknown name_y
+    (over (select (shown (column k) ∷ shown (column k) ∷ shown (column name_y) ∷ []) (object name_t)))
+    × IsUnknown name_y
+    (over (select (shown (column name_y) ∷ shown (column k) ∷ shown (column k) ∷ []) (object name_t)))
 unfolding bound naming.first_failing source_step core_step query_step step column_at
 wrong_before_columns = (read refl, read (simp layers), read (simp layers), read (simp layers))
 
 -- K and a sum of a number and a truth value, in both orders
-pub columns_before_types : IsTaken k (over (select (shown (column k) ∷ shown_as (plus (number 1) truth) k ∷ []) (object name_t)))
+pub columns_before_types : IsTaken k
+    (over (select (shown (column k) ∷ shown_as (plus (number 1) truth) k ∷ []) (object name_t)))
     × IsTaken k (over (select (shown_as (plus (number 1) truth) k ∷ shown (column k) ∷ []) (object name_t)))
     × IsMistyped (over (select (only (plus (number 1) truth)) (object name_t)))
 unfolding bound naming.first_failing source_step core_step query_step step column_at digits
@@ -281,9 +295,11 @@ unfolding bound naming.first_failing
 columns_of_tables = (read refl, read refl, read refl, read refl)
 
 -- `1 AS X, 2 AS X FROM T JOIN T`, `1 AS X FROM T JOIN T`, a name that is kept, and in a subquery alone
-pub columns_of_queries : IsTaken name_x (over (query (core (shown_as (number 1) name_x ∷ shown_as (number 2) name_x ∷ [])
+pub columns_of_queries : IsTaken name_x
+    (over (query (core (shown_as (number 1) name_x ∷ shown_as (number 2) name_x ∷ [])
     (object name_t) (join (object name_t) truth ∷ []) None [] ∷ [])))
-    × IsTaken name_t (over (query (core (shown_as (number 1) name_x ∷ []) (object name_t) (join (object name_t) truth ∷ [])
+    × IsTaken name_t
+    (over (query (core (shown_as (number 1) name_x ∷ []) (object name_t) (join (object name_t) truth ∷ [])
     None [] ∷ [])))
     × IsTaken metadata (over (select (shown_as (number 1) metadata ∷ []) (object name_t)))
     × Passes (over (select (shown_as (number 1) name_x ∷ [])
@@ -304,7 +320,8 @@ pub each_its_own_kind : IsWrong name_d (plain (written.DropTable name_d))
     × IsUnknown name_n (plain (written.DropTable name_n))
     × IsUnknown name_n (plain (written.HasData name_n))
 unfolding bound naming.first_failing
-each_its_own_kind = (read refl, read refl, read refl, read refl, read refl, read refl, read refl, read refl, read refl, read refl)
+each_its_own_kind =
+    (read refl, read refl, read refl, read refl, read refl, read refl, read refl, read refl, read refl, read refl)
 
 -- A and X are roots, B is none, and T is no task
 pub roots : Passes (plain (written.ExecuteTask name_a)) × Passes (plain (written.ExecuteTask name_x))
@@ -325,10 +342,20 @@ tasks_of_one_root = (read refl, read refl, read refl, read refl, read refl, read
 
 -- a stream, a stream in parentheses, and a task behind a stream; a table, and a dynamic table
 pub sources_of_dynamic_tables : IsWrong name_s (over (select (only (column k)) (object name_s)))
-    × IsWrong name_s (over (select (only (column k)) (subquery (select (only (column k)) (object_as name_s name_x)) name_q)))
-    × IsWrong name_s (over (query (core (only (number 1)) (object name_s) (join (object name_a) truth ∷ []) None [] ∷ [])))
-    × IsWrong name_a (over (query (core (only (number 1)) (object name_a) (join (object name_s) truth ∷ []) None [] ∷ [])))
+    × IsWrong name_s
+    (over (select (only (column k)) (subquery (select (only (column k)) (object_as name_s name_x)) name_q)))
+    × IsWrong name_s
+    (over (query (core (only (number 1)) (object name_s) (join (object name_a) truth ∷ []) None [] ∷ [])))
+    × IsWrong name_a
+    (over (query (core (only (number 1)) (object name_a) (join (object name_s) truth ∷ []) None [] ∷ [])))
     × Passes (over (select (only (column k)) (object name_t)))
     × Passes (over (select (only (column k)) (object name_d)))
 unfolding bound naming.first_failing source_step core_step query_step join_step step column_at
-sources_of_dynamic_tables = (read (simp layers), read (simp layers), read (simp layers), read (simp layers), read (simp layers), read (simp layers))
+sources_of_dynamic_tables = (
+  read (simp layers),
+  read (simp layers),
+  read (simp layers),
+  read (simp layers),
+  read (simp layers),
+  read (simp layers),
+)

@@ -16,8 +16,8 @@ use Rattle.wh_ddl_naming.specs.Meant.{Meant}
 use Rattle.wh_ddl_naming.specs.Objects.{Names, taken_name}
 use Rattle.wh_ddl_naming.specs.Tables.{column_names, column_findings}
 
--- its columns are the query's outputs, its sources their ids in the order of the text; wide where the query, or one in it,
--- has more columns than the limit
+-- its columns are the query's outputs, its sources their ids in the order of the text; wide where the query, or one in
+-- it, has more columns than the limit
 pub record NewDynamicTable : Type 0 where
   pub name : Name
   pub lag : Lag

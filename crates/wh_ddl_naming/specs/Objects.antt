@@ -4,7 +4,8 @@
 --     of_kind, is_root, is_task_of    what a place takes
 --     found_where    the object of a name, where its place takes it
 --     taken_name     a created name that is a live object's
-use Rattle.std.specs.Prelude.{ℕ, Bool, true, false, not, ◌&&◌, if◌then◌else◌, List, [], ◌∷◌, Option, Some, None, is_some, nat_eq}
+use Rattle.std.specs.Prelude.{ℕ, Bool, true, false, not, ◌&&◌, if◌then◌else◌, List, [], ◌∷◌, Option, Some, None}
+use Rattle.std.specs.Prelude.{is_some, nat_eq}
 use Rattle.wh_naming.specs.Findings.{Name, unknown_object, wrong_kind_if, name_if}
 use Rattle.wh_naming.specs.Scope.{ObjectKind, TableObject, StreamObject, TaskObject, DynamicTableObject, Named, named}
 use Rattle.wh_ddl_naming.specs.Meant.{Meant}

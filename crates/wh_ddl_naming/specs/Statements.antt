@@ -54,7 +54,8 @@ bound names (written.Select q sorts) = selected (bound_select names.objects q so
 bound names (written.HasData stream) = within HasData (object_of StreamObject names stream)
 bound names (written.Dml statement) = changed (bound_change names.objects statement)
 bound names (written.CreateTable t) = within CreateTable (bound_table names t)
-bound names (written.CreateStream name table is_append_only) = within CreateStream (bound_stream names name table is_append_only)
+bound names (written.CreateStream name table is_append_only) =
+    within CreateStream (bound_stream names name table is_append_only)
 bound names (written.CreateTask t) = within CreateTask (bound_task names t)
 bound names (written.ResumeTask task) = within ResumeTask (object_of TaskObject names task)
 bound names (written.SuspendTask task) = within SuspendTask (object_of TaskObject names task)
@@ -63,7 +64,8 @@ bound names (written.CreateDynamicTable t) = within CreateDynamicTable (bound_dy
 bound names (written.ResumeDynamicTable table) = within ResumeDynamicTable (object_of DynamicTableObject names table)
 bound names (written.SuspendDynamicTable table) = within SuspendDynamicTable (object_of DynamicTableObject names table)
 bound names (written.RefreshDynamicTable table) = within RefreshDynamicTable (object_of DynamicTableObject names table)
-bound names (written.SetTargetLag table lag) = within (λ id. SetTargetLag id lag) (object_of DynamicTableObject names table)
+bound names (written.SetTargetLag table lag) =
+    within (λ id. SetTargetLag id lag) (object_of DynamicTableObject names table)
 bound names (written.DropTable table) = within DropTable (object_of TableObject names table)
 bound names (written.DropStream stream) = within DropStream (object_of StreamObject names stream)
 bound names (written.DropTask task) = within DropTask (object_of TaskObject names task)

@@ -3,7 +3,8 @@
 --     taken_column       of columns' names the first that comes again, or that is kept for the columns of streams
 --     column_findings    what is found wrong with the names of new columns
 --     bound_table        of a statement as it is written
-use Rattle.std.specs.Prelude.{ℕ, Bool, not, ◌||◌, if◌then◌else◌, List, [], ◌∷◌, map, Option, Some, None, option_map, nat_eq, bytes_eq, codes}
+use Rattle.std.specs.Prelude.{ℕ, Bool, not, ◌||◌, if◌then◌else◌, List, [], ◌∷◌, map, Option, Some, None, option_map}
+use Rattle.std.specs.Prelude.{nat_eq, bytes_eq, codes}
 use Rattle.std.specs.List.{list_any, starts_with}
 use Rattle.wh_value.specs.Column.{Column}
 use Rattle.wh_value.specs.View.{column_of}
@@ -50,5 +51,9 @@ bound_table names t = over (named names.objects t.name) (column_findings (column
   where
     over : Option Named → Findings → Meant NewTable
     over live columns = if t.replace
-        then (record { value = new_table t live; taken_object = None; findings = followed (replace_findings t.name live) columns })
+        then (record {
+          value = new_table t live;
+          taken_object = None;
+          findings = followed (replace_findings t.name live) columns;
+        })
         else (record { value = new_table t None; taken_object = taken_name names t.name; findings = columns })

@@ -34,7 +34,8 @@ first_root names (name ∷ others) = root_at names (named names.objects name)
 
 abbrev pub predecessor_findings : Names → ℕ → List Name → Findings
 predecessor_findings names root [] = nothing_found
-predecessor_findings names root (name ∷ others) = followed (predecessor names root name).findings (predecessor_findings names root others)
+predecessor_findings names root (name ∷ others) =
+    followed (predecessor names root name).findings (predecessor_findings names root others)
 
 abbrev pub predecessors : Names → ℕ → List Name → Meant (List ℕ)
 predecessors names root after = record {
@@ -57,7 +58,8 @@ abbrev pub bound_task : Names → CreateTask → Meant NewTask
 bound_task names t = behind (predecessors names (first_root names t.after) t.after)
   where
     behind : Meant (List ℕ) → Meant NewTask
-    behind after = record { value = new_task t after.value; taken_object = taken_name names t.name; findings = after.findings }
+    behind after =
+        record { value = new_task t after.value; taken_object = taken_name names t.name; findings = after.findings }
 
 abbrev pub root_task : Names → Name → Meant ℕ
 root_task names name = found_where (is_root names.roots) name (named names.objects name)

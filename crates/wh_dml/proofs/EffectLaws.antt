@@ -4,7 +4,8 @@
 --     turned_append, more_turns     the turns of rows and then of others
 --     partition_done, partition_fails   the rows of the next partition, and then those of the others
 --     all_done                      no partition is left
-use Rattle.std.specs.Prelude.{◌≡◌, ℕ, ◌+◌, ◌<◌, ◌≤◌, length, drop, List, [], ◌∷◌, ◌++◌, Option, Some, None, option_map, refl}
+use Rattle.std.specs.Prelude.{◌≡◌, ℕ, ◌+◌, ◌<◌, ◌≤◌, length, drop, List, [], ◌∷◌, ◌++◌, Option}
+use Rattle.std.specs.Prelude.{Some, None, option_map, refl}
 use Rattle.std.proofs.Common.{get_or, ap, sym, ◌∙◌}
 use Rattle.std.proofs.lemmas.List.{append_assoc, append-nil, drop_more, drop_all}
 use denote.Ref.{Bor}
@@ -17,12 +18,17 @@ use Rattle.wh_dml.specs.View.{kept_rows, targets_of}
 
 pub before_assoc : (a b c : Effect) → before (before a b) c ≡ before a (before b c)
 before_assoc a b c =
-    rw (append_assoc a.removed b.removed c.removed, append_assoc a.changed b.changed c.changed, append_assoc a.added b.added c.added) refl
+    rw (
+      append_assoc a.removed b.removed c.removed,
+      append_assoc a.changed b.changed c.changed,
+      append_assoc a.added b.added c.added,
+    ) refl
 
 pub before_none : (a : Effect) → before a no_effect ≡ a
 before_none a = rw (append-nil a.removed, append-nil a.changed, append-nil a.added) refl
 
-pub turn_done : (kept : Kept) (turn : Turn) (e : Effect) → with_turn kept (Some turn) (Some e) ≡ Some (before (done_by kept.number turn) e)
+pub turn_done : (kept : Kept) (turn : Turn) (e : Effect)
+    → with_turn kept (Some turn) (Some e) ≡ Some (before (done_by kept.number turn) e)
 turn_done kept Stays e = refl
 turn_done kept Goes e = refl
 turn_done kept (Becomes row) e = refl
@@ -42,7 +48,8 @@ one_turn kept (Some turn) (Some e) old new is =
 abbrev pub both : Option Effect → Option Effect → Option Effect
 both some others = of_two (λ a b. Some (before a b)) some others
 
-row_both : (kept : Kept) (turn : Option Turn) (some others : Option Effect) → with_turn kept turn (both some others) ≡ both (with_turn kept turn some) others
+row_both : (kept : Kept) (turn : Option Turn) (some others : Option Effect)
+    → with_turn kept turn (both some others) ≡ both (with_turn kept turn some) others
 row_both kept None some others = refl
 row_both kept (Some turn) None others = refl
 row_both kept (Some Stays) (Some a) None = refl
@@ -56,7 +63,8 @@ none_both : (others : Option Effect) → others ≡ both (Some no_effect) others
 none_both None = refl
 none_both (Some b) = refl
 
-pub turned_append : (turn : Row → Option Turn) (some others : List Kept) → turned turn (some ++ others) ≡ both (turned turn some) (turned turn others)
+pub turned_append : (turn : Row → Option Turn) (some others : List Kept)
+    → turned turn (some ++ others) ≡ both (turned turn some) (turned turn others)
 turned_append turn [] others = none_both (turned turn others)
 turned_append turn (kept ∷ rest) others =
     ap (with_turn kept (turn kept.row)) (turned_append turn rest others)
@@ -76,20 +84,24 @@ pub more_turns : (turn : Row → Option Turn) (some others : List Kept) (old new
     → option_map (λ more. before old more) (turned turn some) ≡ Some new
     → option_map (before old) (turned turn (some ++ others)) ≡ option_map (before new) (turned turn others)
 more_turns turn some others old new is =
-    ap (option_map (before old)) (turned_append turn some others) ∙ added_both (turned turn some) (turned turn others) old new is
+    ap (option_map (before old)) (turned_append turn some others)
+    ∙ added_both (turned turn some) (turned turn others) old new is
 
 -- the rows of the next partition, and those of the others
-pub next_partition : (target : List (Bor Partition)) (i : ℕ) (p : Bor Partition) (rows : List (ℕ × Row)) → i < length target → p ≡ get_or target i p → rows ≡ p.now.rows
+pub next_partition : (target : List (Bor Partition)) (i : ℕ) (p : Bor Partition) (rows : List (ℕ × Row))
+    → i < length target → p ≡ get_or target i p → rows ≡ p.now.rows
     → targets_of (drop i target) ≡ kept_rows rows ++ targets_of (drop (i + 1) target)
 next_partition target i p rows within is same =
     ap targets_of (drop_more target i p within ∙ ap (λ q. q ∷ drop (i + 1) target) (sym is))
     ∙ ap (λ r. kept_rows r ++ targets_of (drop (i + 1) target)) (sym same)
 
 -- what is done so far, with the turns of the next partition's rows, and the rest
-pub partition_done : (turn : Row → Option Turn) (target : List (Bor Partition)) (i : ℕ) (p : Bor Partition) (rows : List (ℕ × Row)) (old new : Effect)
+pub partition_done : (turn : Row → Option Turn) (target : List (Bor Partition)) (i : ℕ) (p : Bor Partition)
+    (rows : List (ℕ × Row)) (old new : Effect)
     → i < length target → p ≡ get_or target i p → rows ≡ p.now.rows
     → option_map (λ more. before old more) (turned turn (kept_rows rows)) ≡ Some new
-    → option_map (before old) (turned turn (targets_of (drop i target))) ≡ option_map (before new) (turned turn (targets_of (drop (i + 1) target)))
+    → option_map (before old) (turned turn (targets_of (drop i target)))
+    ≡ option_map (before new) (turned turn (targets_of (drop (i + 1) target)))
 partition_done turn target i p rows old new within is same done =
     ap (λ ts. option_map (before old) (turned turn ts)) (next_partition target i p rows within is same)
     ∙ more_turns turn (kept_rows rows) (targets_of (drop (i + 1) target)) old new done
@@ -105,8 +117,10 @@ fails_both None others none = refl
 fails_both (Some a) others none = absurd cc
 
 -- where a row of the next partition has no turn, there is no effect
-pub partition_fails : (turn : Row → Option Turn) (target : List (Bor Partition)) (i : ℕ) (p : Bor Partition) (rows : List (ℕ × Row))
-    → i < length target → p ≡ get_or target i p → rows ≡ p.now.rows → turned turn (kept_rows rows) ≡ None → turned turn (targets_of (drop i target)) ≡ None
+pub partition_fails : (turn : Row → Option Turn) (target : List (Bor Partition)) (i : ℕ) (p : Bor Partition)
+    (rows : List (ℕ × Row))
+    → i < length target → p ≡ get_or target i p → rows ≡ p.now.rows → turned turn (kept_rows rows) ≡ None
+    → turned turn (targets_of (drop i target)) ≡ None
 partition_fails turn target i p rows within is same none =
     ap (turned turn) (next_partition target i p rows within is same)
     ∙ turned_append turn (kept_rows rows) (targets_of (drop (i + 1) target))

@@ -1,7 +1,8 @@
 -- What a step gives.
 --     Shows     what is meant, as a view of what is found, or the fault where nothing is meant
 --     AddsTo    the same, where it is added to what is there
---     AddsTurns, AddsTurn, AddsSettled   the same for effects: of rows, of one row's turn, and what rows come to in MERGE
+--     AddsTurns, AddsTurn, AddsSettled   the same for effects: of rows, of one row's turn, and
+--                                        what rows come to in MERGE
 use Rattle.std.specs.Prelude.{◌≡◌, ◌++◌, ℕ, List, Option, Some, option_map, Result, Ok, Err}
 use Rattle.wh_scalar.specs.declared.fault.EvalFault.{EvalFault}
 use Rattle.wh_aggregate.specs.Given.{IsFaultOf}

@@ -13,7 +13,8 @@ use Rattle.wh_value.specs.Value.{Value, Row}
 use Rattle.wh_meaning.specs.Scalar.{Scalar, val, is_true, holds, of_one, of_two}
 use Rattle.wh_meaning.specs.Query.{values_on}
 use Rattle.wh_naming.specs.Changes.{BoundClause, UpdateMatched, DeleteMatched, InsertUnmatched}
-use Rattle.wh_effect.specs.Effect.{Kept, Effect, Outcome, Does, no_effect, unless_several, Turn, Stays, Goes, Becomes, condition_of, inserted_by}
+use Rattle.wh_effect.specs.Effect.{Kept, Effect, Outcome, Does, no_effect, unless_several, Turn, Stays, Goes, Becomes}
+use Rattle.wh_effect.specs.Effect.{condition_of, inserted_by}
 use Rattle.wh_bound_change.specs.View.{clause_of}
 use Rattle.wh_bound_change.specs.declared.change.BoundClause as code
 
@@ -101,7 +102,8 @@ settled_by kept (turn ∷ another ∷ others) = record nothing { ambiguous = Som
 
 abbrev pub settled : (Row → Option (List Turn)) → List Kept → Option Settled
 settled turns [] = Some nothing
-settled turns (kept ∷ rest) = of_two (λ found others. Some (after (settled_by kept found) others)) (turns kept.row) (settled turns rest)
+settled turns (kept ∷ rest) =
+    of_two (λ found others. Some (after (settled_by kept found) others)) (turns kept.row) (settled turns rest)
 
 abbrev pub outcome : Settled → List Row → Outcome
 outcome s added = unless_several s.ambiguous (Does (record s.effect { added = added }))

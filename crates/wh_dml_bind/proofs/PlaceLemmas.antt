@@ -1,5 +1,7 @@
 -- Places of columns, one after another.
-use Rattle.std.proofs.Common.{◌≡◌, ◌∙◌, ◌<◌, ◌≤◌, sym, ap, refl, ℕ, zero, suc, ◌+◌, Bool, true, false, if◌then◌else◌, List, [], ◌∷◌, ◌++◌, append-nil, map, length, drop, take, get_or, Option, Some, None, add-one, drop-cons, arith}
+use Rattle.std.proofs.Common.{◌≡◌, ◌∙◌, ◌<◌, ◌≤◌, sym, ap, refl, ℕ, zero, suc, ◌+◌, Bool, true, false, if◌then◌else◌}
+use Rattle.std.proofs.Common.{List, [], ◌∷◌, ◌++◌, append-nil, map, length, drop, take, get_or, Option, Some, None}
+use Rattle.std.proofs.Common.{add-one, drop-cons, arith}
 use Rattle.std.proofs.lemmas.List.{drop_all, map_more}
 use Rattle.wh_value.specs.Column as table
 use Rattle.wh_value.specs.View.{type_of, column_of}
@@ -13,12 +15,15 @@ abbrev pub listed : {A : Type 0} → Option A → List A
 listed None = []
 listed (Some x) = x ∷ []
 
-pub place_in_is : (columns : List table.Column) (name : Name) → only (places_among name 0 columns) ≡ place_in columns name
+pub place_in_is : (columns : List table.Column) (name : Name)
+    → only (places_among name 0 columns) ≡ place_in columns name
 unfolding column_at
 place_in_is columns name = ap only (sym (append-nil (places_among name 0 columns)))
 
-places_take : (from i k : ℕ) (cs : List stored.Column) (c : stored.Column) → i < length cs → c ≡ get_or cs i c → k ≡ from + i
-    → places_from from (map column_of (take (suc i) cs)) ≡ places_from from (map column_of (take i cs)) ++ Some (record { place = k; column_type = type_of c.column_type }) ∷ []
+places_take : (from i k : ℕ) (cs : List stored.Column) (c : stored.Column) → i < length cs → c ≡ get_or cs i c
+    → k ≡ from + i
+    → places_from from (map column_of (take (suc i) cs)) ≡ places_from from (map column_of (take i cs))
+    ++ Some (record { place = k; column_type = type_of c.column_type }) ∷ []
 places_take from i k [] c l is e = absurd (omega arith)
 places_take from zero k (x ∷ cs) c l is e = let same : k ≡ from = omega (arith, e) in rw (same, is) refl
 places_take from (suc i) k (x ∷ cs) c l is e =
@@ -27,10 +32,12 @@ places_take from (suc i) k (x ∷ cs) c l is e =
     rw (places_take (suc from) i k cs c within is next) refl
 
 pub places_turn : (cs : List stored.Column) (i : ℕ) (c : stored.Column) → i < length cs → c ≡ get_or cs i c
-    → places_from 0 (map column_of (take (i + 1) cs)) ≡ places_from 0 (map column_of (take i cs)) ++ Some (record { place = i; column_type = type_of c.column_type }) ∷ []
+    → places_from 0 (map column_of (take (i + 1) cs)) ≡ places_from 0 (map column_of (take i cs))
+    ++ Some (record { place = i; column_type = type_of c.column_type }) ∷ []
 places_turn cs i c l is = rw add-one (places_take 0 i i cs c l is (omega arith))
 
-pub drop_here : {A : Type 0} (xs : List A) (i : ℕ) (x : A) → i < length xs → x ≡ get_or xs i x → drop i xs ≡ x ∷ drop (i + 1) xs
+pub drop_here : {A : Type 0} (xs : List A) (i : ℕ) (x : A) → i < length xs → x ≡ get_or xs i x
+    → drop i xs ≡ x ∷ drop (i + 1) xs
 drop_here xs i x l is = rw (add-one, drop-cons xs i x l) (ap (λ y. y ∷ drop (suc i) xs) (sym is))
 
 pub map_turn : {A B : Type 0} (f : A → B) (xs : List A) (i : ℕ) (x : A) → i < length xs → x ≡ get_or xs i x
@@ -40,9 +47,12 @@ map_turn f xs i x l is =
     rw (more, ← is) refl
 
 -- one name more
-pub names_turn : (columns : List table.Column) (names : List Name) (i : ℕ) (name : Name) (f found : Findings) → i < length names → name ≡ get_or names i name
-    → found ≡ followed (place_findings name (place_in columns name)) (taken_if (names_again name (drop (i + 1) names)) name)
-    → followed (followed f found) (list_findings columns (drop (i + 1) names)) ≡ followed f (list_findings columns (drop i names))
+pub names_turn : (columns : List table.Column) (names : List Name) (i : ℕ) (name : Name) (f found : Findings)
+    → i < length names → name ≡ get_or names i name
+    → found ≡ followed (place_findings name (place_in columns name))
+    (taken_if (names_again name (drop (i + 1) names)) name)
+    → followed (followed f found) (list_findings columns (drop (i + 1) names))
+    ≡ followed f (list_findings columns (drop i names))
 names_turn columns names i name f found l is e =
     followed_assoc f found (list_findings columns (drop (i + 1) names))
     ∙ ap (λ (x : Findings). followed f (followed x (list_findings columns (drop (i + 1) names)))) e
@@ -50,9 +60,11 @@ names_turn columns names i name f found l is e =
 
 pub names_end : (columns : List table.Column) (names : List Name) (i : ℕ) (f : Findings) → length names ≤ i
     → followed f (list_findings columns (drop i names)) ≡ f
-names_end columns names i f le = ap (λ (xs : List Name). followed f (list_findings columns xs)) (drop_all i names le) ∙ followed_nothing f
+names_end columns names i f le =
+    ap (λ (xs : List Name). followed f (list_findings columns xs)) (drop_all i names le) ∙ followed_nothing f
 
-pub not_as_many : (ps : List (Option Place)) (ts : List (Option table.ColumnType)) → (length ps ≡ length ts → ⊥) → fit_places ps ts ≡ false
+pub not_as_many : (ps : List (Option Place)) (ts : List (Option table.ColumnType)) → (length ps ≡ length ts → ⊥)
+    → fit_places ps ts ≡ false
 not_as_many [] [] apart = absurd (apart refl)
 not_as_many [] (t ∷ ts) apart = refl
 not_as_many (p ∷ ps) [] apart = refl

@@ -1,5 +1,7 @@
 -- A row's columns, one after another.
-use Rattle.std.proofs.Common.{◌≡◌, ◌∙◌, ◌<◌, sym, ap, refl, ℕ, zero, suc, ◌+◌, Bool, true, false, if◌then◌else◌, List, [], ◌∷◌, ◌++◌, map, length, drop, take, get_or, Option, Some, None, option_map, add-one, arith}
+use Rattle.std.proofs.Common.{◌≡◌, ◌∙◌, ◌<◌, sym, ap, refl, ℕ, zero, suc, ◌+◌, Bool, true, false, if◌then◌else◌}
+use Rattle.std.proofs.Common.{List, [], ◌∷◌, ◌++◌, map, length, drop, take, get_or, Option, Some, None}
+use Rattle.std.proofs.Common.{option_map, add-one, arith}
 use Rattle.std.specs.Prelude.{unwrap_or, slice_get}
 use Rattle.wh_value.specs.Value.{Null}
 use Rattle.wh_value.specs.View.{column_of}
@@ -29,8 +31,10 @@ given_is place (p ∷ ps) (s ∷ ss) otherwise =
     ap (λ (x : meaning.Scalar). if is_at place p then s else x) (given_is place ps ss otherwise)
     ∙ if_unwrapped (is_at place p) s otherwise (given place ps ss)
 
-row_take : (from i k : ℕ) (cs : List stored.Column) (ps : List (Option scope.Place)) (ss : List meaning.Scalar) → i < length cs → k ≡ from + i
-    → row_from from (map column_of (take (suc i) cs)) ps ss ≡ row_from from (map column_of (take i cs)) ps ss ++ given_at k ps ss (Const Null) ∷ []
+row_take : (from i k : ℕ) (cs : List stored.Column) (ps : List (Option scope.Place)) (ss : List meaning.Scalar)
+    → i < length cs → k ≡ from + i
+    → row_from from (map column_of (take (suc i) cs)) ps ss
+    ≡ row_from from (map column_of (take i cs)) ps ss ++ given_at k ps ss (Const Null) ∷ []
 row_take from i k [] ps ss l e = absurd (omega arith)
 row_take from zero k (c ∷ cs) ps ss l e = let same : k ≡ from = omega (arith, e) in rw same refl
 row_take from (suc i) k (c ∷ cs) ps ss l e =
@@ -38,8 +42,10 @@ row_take from (suc i) k (c ∷ cs) ps ss l e =
     let next : k ≡ suc from + i = omega (arith, e) in
     rw (row_take (suc from) i k cs ps ss within next) refl
 
-changed_take : (from i k : ℕ) (cs : List stored.Column) (ps : List (Option scope.Place)) (ss : List meaning.Scalar) → i < length cs → k ≡ from + i
-    → changed_from from (map column_of (take (suc i) cs)) ps ss ≡ changed_from from (map column_of (take i cs)) ps ss ++ given_at k ps ss (Column k) ∷ []
+changed_take : (from i k : ℕ) (cs : List stored.Column) (ps : List (Option scope.Place)) (ss : List meaning.Scalar)
+    → i < length cs → k ≡ from + i
+    → changed_from from (map column_of (take (suc i) cs)) ps ss
+    ≡ changed_from from (map column_of (take i cs)) ps ss ++ given_at k ps ss (Column k) ∷ []
 changed_take from i k [] ps ss l e = absurd (omega arith)
 changed_take from zero k (c ∷ cs) ps ss l e = let same : k ≡ from = omega (arith, e) in rw same refl
 changed_take from (suc i) k (c ∷ cs) ps ss l e =
@@ -47,12 +53,16 @@ changed_take from (suc i) k (c ∷ cs) ps ss l e =
     let next : k ≡ suc from + i = omega (arith, e) in
     rw (changed_take (suc from) i k cs ps ss within next) refl
 
-pub row_turn : (cs : List stored.Column) (ps : List (Option scope.Place)) (ss : List meaning.Scalar) (i : ℕ) → i < length cs
-    → row_from 0 (map column_of (take (i + 1) cs)) ps ss ≡ row_from 0 (map column_of (take i cs)) ps ss ++ unwrap_or (given i ps ss) (Const Null) ∷ []
+pub row_turn : (cs : List stored.Column) (ps : List (Option scope.Place)) (ss : List meaning.Scalar) (i : ℕ)
+    → i < length cs
+    → row_from 0 (map column_of (take (i + 1) cs)) ps ss
+    ≡ row_from 0 (map column_of (take i cs)) ps ss ++ unwrap_or (given i ps ss) (Const Null) ∷ []
 row_turn cs ps ss i l = rw (add-one, ← given_is i ps ss (Const Null)) (row_take 0 i i cs ps ss l (omega arith))
 
-pub changed_turn : (cs : List stored.Column) (ps : List (Option scope.Place)) (ss : List meaning.Scalar) (i : ℕ) → i < length cs
-    → changed_from 0 (map column_of (take (i + 1) cs)) ps ss ≡ changed_from 0 (map column_of (take i cs)) ps ss ++ unwrap_or (given i ps ss) (Column i) ∷ []
+pub changed_turn : (cs : List stored.Column) (ps : List (Option scope.Place)) (ss : List meaning.Scalar) (i : ℕ)
+    → i < length cs
+    → changed_from 0 (map column_of (take (i + 1) cs)) ps ss
+    ≡ changed_from 0 (map column_of (take i cs)) ps ss ++ unwrap_or (given i ps ss) (Column i) ∷ []
 changed_turn cs ps ss i l = rw (add-one, ← given_is i ps ss (Column i)) (changed_take 0 i i cs ps ss l (omega arith))
 
 -- ---- what the column at a place is given, one place after another
@@ -75,16 +85,20 @@ if_none false x y e f = sym f
 
 given_nothing : (place i : ℕ) (ps : List (Option Place)) (b : Bool)
     → given place (places_of (drop i ps)) (scalars_of (drop i []))
-    ≡ (if b then option_map scalar_of (slice_get [] i) else given place (places_of (drop (suc i) ps)) (scalars_of (drop (suc i) [])))
+    ≡ (if b then option_map scalar_of (slice_get [] i)
+    else given place (places_of (drop (suc i) ps)) (scalars_of (drop (suc i) [])))
 given_nothing place i ps b =
-    ap (λ (xs : List Scalar). given place (places_of (drop i ps)) (scalars_of xs)) (none_dropped i) ∙ none_given place (places_of (drop i ps))
+    ap (λ (xs : List Scalar). given place (places_of (drop i ps)) (scalars_of xs)) (none_dropped i)
+    ∙ none_given place (places_of (drop i ps))
     ∙ if_none b _ _ (none_got i) (none_given place (places_of (drop (suc i) ps)))
 
 given_step : (place i : ℕ) (ps : List (Option Place)) (ss : List Scalar) (d : Option Place) → i < length ps
     → given place (places_of (drop i ps)) (scalars_of (drop i ss))
-    ≡ (if is_at place (option_map place_of (get_or ps i d)) then option_map scalar_of (slice_get ss i) else given place (places_of (drop (suc i) ps)) (scalars_of (drop (suc i) ss)))
+    ≡ (if is_at place (option_map place_of (get_or ps i d)) then option_map scalar_of (slice_get ss i)
+    else given place (places_of (drop (suc i) ps)) (scalars_of (drop (suc i) ss)))
 given_step place i [] ss d l = absurd (omega arith)
-given_step place i (x ∷ ps) [] d l = given_nothing place i (x ∷ ps) (is_at place (option_map place_of (get_or (x ∷ ps) i d)))
+given_step place i (x ∷ ps) [] d l =
+    given_nothing place i (x ∷ ps) (is_at place (option_map place_of (get_or (x ∷ ps) i d)))
 given_step place zero (x ∷ ps) (s ∷ ss) d l = refl
 given_step place (suc i) (x ∷ ps) (s ∷ ss) d l = given_step place i ps ss d (omega arith)
 
@@ -93,12 +107,15 @@ pub given_met : (place i : ℕ) (ps : List (Option Place)) (ss : List Scalar) (d
     → given place (places_of (drop i ps)) (scalars_of (drop i ss)) ≡ option_map scalar_of (slice_get ss i)
 given_met place i ps ss d l met =
     given_step place i ps ss d l
-    ∙ ap (λ (b : Bool). if b then option_map scalar_of (slice_get ss i) else given place (places_of (drop (suc i) ps)) (scalars_of (drop (suc i) ss))) met
+    ∙ ap (λ (b : Bool). if b then option_map scalar_of (slice_get ss i)
+    else given place (places_of (drop (suc i) ps)) (scalars_of (drop (suc i) ss))) met
 
 pub given_passed : (place i : ℕ) (ps : List (Option Place)) (ss : List Scalar) (d : Option Place) → i < length ps
     → is_at place (option_map place_of (get_or ps i d)) ≡ false
-    → given place (places_of (drop i ps)) (scalars_of (drop i ss)) ≡ given place (places_of (drop (i + 1) ps)) (scalars_of (drop (i + 1) ss))
+    → given place (places_of (drop i ps)) (scalars_of (drop i ss))
+    ≡ given place (places_of (drop (i + 1) ps)) (scalars_of (drop (i + 1) ss))
 given_passed place i ps ss d l passed =
     given_step place i ps ss d l
-    ∙ ap (λ (b : Bool). if b then option_map scalar_of (slice_get ss i) else given place (places_of (drop (suc i) ps)) (scalars_of (drop (suc i) ss))) passed
+    ∙ ap (λ (b : Bool). if b then option_map scalar_of (slice_get ss i)
+    else given place (places_of (drop (suc i) ps)) (scalars_of (drop (suc i) ss))) passed
     ∙ ap (λ (k : ℕ). given place (places_of (drop k ps)) (scalars_of (drop k ss))) (sym (add-one i))

@@ -30,7 +30,8 @@ abbrev pub row_in : NewRow → naming.NewRow
 row_in r = record { scalars = scalars_of r.scalars.items; findings = findings_of r.findings }
 
 abbrev pub merge_in : naming.Target → BoundSource → MergeParts → naming.BoundChange
-merge_in t s p = merge_of t s (findings_of p.taken) (scalar_of p.on) (clauses_of p.clauses.items) (findings_of p.findings)
+merge_in t s p =
+    merge_of t s (findings_of p.taken) (scalar_of p.on) (clauses_of p.clauses.items) (findings_of p.findings)
 
 unfoldable pub checked_in : Checked → naming.BoundChange
 checked_in c = record {

@@ -11,8 +11,10 @@ use Rattle.wh_cursor.proofs.Combine.{not_that_key}
 use Rattle.wh_dml_parse.specs.Follow.{ends_names}
 use Rattle.wh_dml_parse.specs.Read.{peek_word}
 
-pub one_clause : {A : Type 0} (item : Reader A) (n : ℕ) (found : List A) (ts us : List Token) (x : A) → item ts ≡ Some (x, us) → sees_word (codes "WHEN") us ≡ true
-    → some_from item (peek_word (codes "WHEN")) (suc n) found ts ≡ some_from item (peek_word (codes "WHEN")) n (found ++ x ∷ []) us
+pub one_clause : {A : Type 0} (item : Reader A) (n : ℕ) (found : List A) (ts us : List Token) (x : A)
+    → item ts ≡ Some (x, us) → sees_word (codes "WHEN") us ≡ true
+    → some_from item (peek_word (codes "WHEN")) (suc n) found ts
+    ≡ some_from item (peek_word (codes "WHEN")) n (found ++ x ∷ []) us
 unfolding some_from
 one_clause item n found ts us x one when = rw (one, when) refl
 

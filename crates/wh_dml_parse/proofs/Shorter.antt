@@ -5,7 +5,8 @@ use Rattle.wh_ast.specs.declared.dml.Assignment.{Assignment}
 use Rattle.wh_ast.specs.declared.dml.MergeClause.{MergeClause}
 use Rattle.wh_grammar.specs.Token.{Token}
 use Rattle.wh_grammar.specs.Changing as g
-use Rattle.wh_grammar.specs.Changing.{AreNames, MayHaveColumns, IsValuesRow, IsAssignment, AreAssignments, MayHaveCondition, IsMergeClause}
+use Rattle.wh_grammar.specs.Changing.{AreNames, MayHaveColumns, IsValuesRow, IsAssignment, AreAssignments}
+use Rattle.wh_grammar.specs.Changing.{MayHaveCondition, IsMergeClause}
 use Rattle.wh_cursor.proofs.Combine.{name_shorter}
 use Rattle.wh_expr_parse.proofs.ExprSteps.{expr_shorter, exprs_shorter}
 
@@ -21,7 +22,8 @@ names-shorter (g.more_names h more) =
     let all = names-shorter more in
     omega (arith, one, all)
 
-columns-shorter : {ts us : List Token} {names : Option (List (List ℕ))} → MayHaveColumns ts names us → length us ≤ length ts
+columns-shorter : {ts us : List Token} {names : Option (List (List ℕ))} → MayHaveColumns ts names us
+    → length us ≤ length ts
 columns-shorter g.no_columns = omega arith
 columns-shorter (g.columns h) =
     let inside = names-shorter h in
@@ -33,14 +35,16 @@ assignment-shorter (g.assignment column value) =
     let two = expr_shorter value in
     omega (arith, one, two)
 
-assignments-shorter : {d : ℕ} {ts us : List Token} {set : List Assignment} → AreAssignments d ts set us → length us < length ts
+assignments-shorter : {d : ℕ} {ts us : List Token} {set : List Assignment} → AreAssignments d ts set us
+    → length us < length ts
 assignments-shorter (g.last_assignment h) = assignment-shorter h
 assignments-shorter (g.more_assignments h more) =
     let one = assignment-shorter h in
     let all = assignments-shorter more in
     omega (arith, one, all)
 
-condition-shorter : {d : ℕ} {ts us : List Token} {condition : Option Expr} → MayHaveCondition d ts condition us → length us < length ts
+condition-shorter : {d : ℕ} {ts us : List Token} {condition : Option Expr} → MayHaveCondition d ts condition us
+    → length us < length ts
 condition-shorter g.no_condition = omega arith
 condition-shorter (g.a_condition h) =
     let one = expr_shorter h in

@@ -15,10 +15,12 @@ abbrev pub ReadsDml : Type 0
 ReadsDml = (d : ℕ) (ts : List Token) (x : Dml) (us : List Token) → (read_dml d ts ≡ Some (x, us)) ↔ IsDmlAt d ts x us
 
 abbrev pub ReadsNames : Type 0
-ReadsNames = (ts : List Token) (names : List (List ℕ)) (us : List Token) → (read_names ts ≡ Some (names, us)) ↔ AreNamesAt ts names us
+ReadsNames = (ts : List Token) (names : List (List ℕ)) (us : List Token)
+    → (read_names ts ≡ Some (names, us)) ↔ AreNamesAt ts names us
 
 abbrev pub TokensFixDml : Type 0
-TokensFixDml = (d : ℕ) (ts : List Token) (x y : Dml) (us vs : List Token) → IsDmlAt d ts x us → IsDmlAt d ts y vs → (x ≡ y) × (us ≡ vs)
+TokensFixDml = (d : ℕ) (ts : List Token) (x y : Dml) (us vs : List Token) → IsDmlAt d ts x us
+    → IsDmlAt d ts y vs → (x ≡ y) × (us ≡ vs)
 
 -- the front of the tokens that the names are
 pub record NamesFront (ts : List Token) (names : List (List ℕ)) (us : List Token) : Type 0 where

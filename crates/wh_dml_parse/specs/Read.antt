@@ -1,7 +1,8 @@
 -- How statements that change rows are read from the front of tokens.
 --     read_names     names with commas between them, and the tokens that follow them
 --     read_dml       a statement that takes all tokens
-use Rattle.std.specs.Prelude.{ℕ, ◌-◌, ◌==◌, Bool, true, false, if◌then◌else◌, List, [], Option, Some, None, length, codes}
+use Rattle.std.specs.Prelude.{ℕ, ◌-◌, ◌==◌, Bool, true, false, if◌then◌else◌, List, [], Option}
+use Rattle.std.specs.Prelude.{Some, None, length, codes}
 use Rattle.wh_ast.specs.declared.expr.Expr.{Expr}
 use Rattle.wh_ast.specs.declared.dml.Assignment.{Assignment}
 use Rattle.wh_ast.specs.declared.dml.Rows.{Rows}
@@ -11,7 +12,8 @@ use Rattle.wh_ast.specs.declared.dml.MergeClause.TheVariants as clause
 use Rattle.wh_ast.specs.declared.dml.Dml.{Dml}
 use Rattle.wh_ast.specs.declared.dml.Dml.TheVariants as dml
 use Rattle.wh_cursor.specs.declared.key.Key.TheVariants as k
-use Rattle.wh_cursor.specs.Steps.{read_name, Reader, ◌>>=◌, ◌>>◌, pure, refuse, sees_word, eat_word, eat_key, expect_word, expect_key, read_end}
+use Rattle.wh_cursor.specs.Steps.{read_name, Reader, ◌>>=◌, ◌>>◌, pure, refuse, sees_word, eat_word, eat_key}
+use Rattle.wh_cursor.specs.Steps.{expect_word, expect_key, read_end}
 use Rattle.wh_cursor.specs.Lists.{some_from, listed}
 use Rattle.wh_expr_parse.specs.Read.{read_expr, read_exprs}
 use Rattle.wh_query_parse.specs.Read.{read_query, read_source, read_alias, read_filter}

@@ -4,7 +4,8 @@ use Rattle.wh_value.specs.Value.{Value, Number, Truth, Null, Row}
 use Rattle.wh_value.specs.declared.comparison.Comparison.TheVariants as comparisons
 use Rattle.wh_meaning.specs.Scalar.{Scalar, Const, Column, Add, Compare, val}
 use Rattle.wh_meaning.specs.Query.{values_on}
-use Rattle.wh_naming.specs.Changes.{BoundClause, UpdateMatched, DeleteMatched, InsertUnmatched, InsertRows, Update, Delete}
+use Rattle.wh_naming.specs.Changes.{BoundClause, UpdateMatched, DeleteMatched, InsertUnmatched}
+use Rattle.wh_naming.specs.Changes.{InsertRows, Update, Delete}
 use Rattle.wh_effect.specs.Effect.{Kept, Outcome, Undefined, Ambiguous, Does, effect, merged, inserts_over}
 
 abbrev n : ℕ → Value
@@ -30,12 +31,14 @@ abbrev does : List ℕ → List Kept → List Row → Outcome
 does removed changed added = Does (record { removed = removed; changed = changed; added = added })
 
 -- UPDATE: SET parts read the old row
-update_swaps_columns : effect (Update (equal (Column 0) (Const (n 2))) (Column 1 ∷ Column 0 ∷ [])) target [] ≡ does [] (kept 2 (pair 20 2) ∷ []) []
+update_swaps_columns : effect (Update (equal (Column 0) (Const (n 2))) (Column 1 ∷ Column 0 ∷ [])) target []
+    ≡ does [] (kept 2 (pair 20 2) ∷ []) []
 unfolding effect values_on val
 update_swaps_columns = refl
 
 -- an equal new row is a changed row
-update_to_an_equal_row : effect (Update (equal (Column 0) (Const (n 1))) (Column 0 ∷ Column 1 ∷ [])) target [] ≡ does [] (kept 1 (pair 1 10) ∷ []) []
+update_to_an_equal_row : effect (Update (equal (Column 0) (Const (n 1))) (Column 0 ∷ Column 1 ∷ [])) target []
+    ≡ does [] (kept 1 (pair 1 10) ∷ []) []
 unfolding effect values_on val
 update_to_an_equal_row = refl
 
@@ -54,13 +57,15 @@ unfolding effect values_on val
 undefined_on_one_row = refl
 
 -- a part is computed on the rows that are selected alone
-parts_of_selected_rows : effect (Update (equal (Column 0) (Const (n 1))) (Column 0 ∷ Add (Column 1) near_the_limit ∷ [])) target []
+parts_of_selected_rows : effect
+    (Update (equal (Column 0) (Const (n 1))) (Column 0 ∷ Add (Column 1) near_the_limit ∷ [])) target []
     ≡ does [] (kept 1 (pair 1 999999999999999995) ∷ []) []
 unfolding effect values_on val
 parts_of_selected_rows = refl
 
 -- INSERT: in the order in which rows are written, equal ones too
-insert_in_written_order : effect (InsertRows ((Const (n 2) ∷ Const (n 5) ∷ []) ∷ (Const (n 1) ∷ Const Null ∷ []) ∷ (Const (n 2) ∷ Const (n 5) ∷ []) ∷ [])) target []
+insert_in_written_order : effect (InsertRows ((Const (n 2) ∷ Const (n 5) ∷ []) ∷ (Const (n 1) ∷ Const Null ∷ [])
+    ∷ (Const (n 2) ∷ Const (n 5) ∷ []) ∷ [])) target []
     ≡ does [] [] (pair 2 5 ∷ (n 1 ∷ Null ∷ []) ∷ pair 2 5 ∷ [])
 unfolding effect values_on val
 insert_in_written_order = refl
@@ -76,12 +81,14 @@ yes = Const (Truth true)
 abbrev upsert : List BoundClause
 upsert = UpdateMatched yes (Column 0 ∷ Column 3 ∷ []) ∷ InsertUnmatched yes (Column 0 ∷ Column 1 ∷ []) ∷ []
 
-upsert_changes_and_adds : merged on upsert target (Some (pair 1 11 ∷ pair 3 30 ∷ [])) ≡ does [] (kept 1 (pair 1 11) ∷ []) (pair 3 30 ∷ [])
+upsert_changes_and_adds : merged on upsert target (Some (pair 1 11 ∷ pair 3 30 ∷ []))
+    ≡ does [] (kept 1 (pair 1 11) ∷ []) (pair 3 30 ∷ [])
 unfolding values_on val
 upsert_changes_and_adds = refl
 
 -- equal source rows count each
-equal_rows_are_inserted_each : merged on upsert target (Some (pair 3 30 ∷ pair 3 30 ∷ [])) ≡ does [] [] (pair 3 30 ∷ pair 3 30 ∷ [])
+equal_rows_are_inserted_each : merged on upsert target (Some (pair 3 30 ∷ pair 3 30 ∷ []))
+    ≡ does [] [] (pair 3 30 ∷ pair 3 30 ∷ [])
 unfolding values_on val
 equal_rows_are_inserted_each = refl
 
@@ -90,15 +97,18 @@ unfolding values_on val
 two_sources_of_a_row = refl
 
 -- also where both would delete
-two_deletes_of_a_row : merged on (DeleteMatched yes ∷ []) target (Some (pair 2 7 ∷ pair 2 7 ∷ [])) ≡ Ambiguous (pair 2 20)
+two_deletes_of_a_row : merged on (DeleteMatched yes ∷ []) target (Some (pair 2 7 ∷ pair 2 7 ∷ []))
+    ≡ Ambiguous (pair 2 20)
 unfolding values_on val
 two_deletes_of_a_row = refl
 
 -- the first clause whose condition is TRUE is selected
 abbrev choosy : List BoundClause
-choosy = DeleteMatched (equal (Column 3) (Const (n 0))) ∷ UpdateMatched (equal (Column 3) (Const (n 7))) (Column 0 ∷ Column 3 ∷ []) ∷ InsertUnmatched yes (Column 0 ∷ Column 1 ∷ []) ∷ []
+choosy = DeleteMatched (equal (Column 3) (Const (n 0))) ∷ UpdateMatched (equal (Column 3) (Const (n 7)))
+    (Column 0 ∷ Column 3 ∷ []) ∷ InsertUnmatched yes (Column 0 ∷ Column 1 ∷ []) ∷ []
 
-first_clause_that_holds : merged on choosy target (Some (pair 1 0 ∷ pair 2 7 ∷ pair 2 8 ∷ [])) ≡ does (1 ∷ []) (kept 2 (pair 2 7) ∷ []) []
+first_clause_that_holds : merged on choosy target (Some (pair 1 0 ∷ pair 2 7 ∷ pair 2 8 ∷ []))
+    ≡ does (1 ∷ []) (kept 2 (pair 2 7) ∷ []) []
 unfolding values_on val
 first_clause_that_holds = refl
 
@@ -108,41 +118,52 @@ unfolding values_on val
 matched_without_a_clause = refl
 
 -- undefined comes before ambiguous
-undefined_before_ambiguous : merged (equal (Column 0) (Add (Column 2) (Column 3))) upsert target (Some (pair 1 0 ∷ pair 1 0 ∷ pair 1 999999999999999999 ∷ [])) ≡ Undefined
+undefined_before_ambiguous : merged (equal (Column 0) (Add (Column 2) (Column 3))) upsert target
+    (Some (pair 1 0 ∷ pair 1 0 ∷ pair 1 999999999999999999 ∷ [])) ≡ Undefined
 unfolding values_on val
 undefined_before_ambiguous = refl
 
 -- the condition of a later clause is evaluated too
-undefined_in_a_later_clause : merged on (DeleteMatched yes ∷ DeleteMatched (equal (Add (Column 1) near_the_limit) (Const (n 0))) ∷ []) target (Some (pair 2 7 ∷ [])) ≡ Undefined
+undefined_in_a_later_clause : merged on
+    (DeleteMatched yes ∷ DeleteMatched (equal (Add (Column 1) near_the_limit) (Const (n 0))) ∷ []) target
+    (Some (pair 2 7 ∷ [])) ≡ Undefined
 unfolding values_on val
 undefined_in_a_later_clause = refl
 
 -- SET parts of a selecting pair are evaluated also where the row is ambiguous
-undefined_part_of_an_ambiguous_row : merged on (UpdateMatched yes (Column 0 ∷ Add (Column 3) near_the_limit ∷ []) ∷ []) target (Some (pair 1 1 ∷ pair 1 99 ∷ [])) ≡ Undefined
+undefined_part_of_an_ambiguous_row : merged on (UpdateMatched yes (Column 0 ∷ Add (Column 3) near_the_limit ∷ []) ∷ [])
+    target (Some (pair 1 1 ∷ pair 1 99 ∷ [])) ≡ Undefined
 unfolding values_on val
 undefined_part_of_an_ambiguous_row = refl
 
 -- rows that are matched with nothing are inserted in the order of the source
-inserted_in_source_order : merged on upsert target (Some (pair 3 30 ∷ pair 4 40 ∷ [])) ≡ does [] [] (pair 3 30 ∷ pair 4 40 ∷ [])
+inserted_in_source_order : merged on upsert target (Some (pair 3 30 ∷ pair 4 40 ∷ []))
+    ≡ does [] [] (pair 3 30 ∷ pair 4 40 ∷ [])
 unfolding values_on val
 inserted_in_source_order = refl
 
 -- of two ambiguous rows the one with the lower number is named
-first_ambiguous_row : merged on upsert target (Some (pair 2 21 ∷ pair 2 22 ∷ pair 1 11 ∷ pair 1 12 ∷ [])) ≡ Ambiguous (pair 1 10)
+first_ambiguous_row : merged on upsert target (Some (pair 2 21 ∷ pair 2 22 ∷ pair 1 11 ∷ pair 1 12 ∷ []))
+    ≡ Ambiguous (pair 1 10)
 unfolding values_on val
 first_ambiguous_row = refl
 
 -- a MATCHED condition is not evaluated on a pair on which ON isn't TRUE: 20 would pass 18 digits, 10 doesn't
-matched_conditions_on_matched_pairs : merged on (DeleteMatched (equal (Add (Column 1) near_the_limit) (Const (n 0))) ∷ []) (kept 1 (pair 1 10) ∷ kept 2 (pair 2 20) ∷ []) (Some (pair 1 7 ∷ [])) ≡ does [] [] []
+matched_conditions_on_matched_pairs : merged on (DeleteMatched (equal (Add (Column 1) near_the_limit) (Const (n 0)))
+    ∷ []) (kept 1 (pair 1 10) ∷ kept 2 (pair 2 20) ∷ []) (Some (pair 1 7 ∷ [])) ≡ does [] [] []
 unfolding values_on val
 matched_conditions_on_matched_pairs = refl
 
 -- a NOT MATCHED condition is not evaluated on a row that is matched
-unmatched_conditions_on_unmatched_rows : merged on (InsertUnmatched (equal (Add (Column 1) near_the_limit) (Const (n 0))) (Column 0 ∷ Column 1 ∷ []) ∷ []) target (Some (pair 1 99 ∷ pair 3 1 ∷ [])) ≡ does [] [] []
+unmatched_conditions_on_unmatched_rows : merged on
+    (InsertUnmatched (equal (Add (Column 1) near_the_limit) (Const (n 0))) (Column 0 ∷ Column 1 ∷ []) ∷ []) target
+    (Some (pair 1 99 ∷ pair 3 1 ∷ [])) ≡ does [] [] []
 unfolding values_on val
 unmatched_conditions_on_unmatched_rows = refl
 
 -- a row of a query is inserted as often as it is there, in the order of the query's rows
-query_rows_in_their_order : inserts_over (Column 1 ∷ Column 0 ∷ []) (Some (pair 3 1 ∷ pair 3 2 ∷ pair 4 1 ∷ pair 4 1 ∷ [])) ≡ does [] [] (pair 1 3 ∷ pair 2 3 ∷ pair 1 4 ∷ pair 1 4 ∷ [])
+query_rows_in_their_order : inserts_over (Column 1 ∷ Column 0 ∷ [])
+    (Some (pair 3 1 ∷ pair 3 2 ∷ pair 4 1 ∷ pair 4 1 ∷ []))
+    ≡ does [] [] (pair 1 3 ∷ pair 2 3 ∷ pair 1 4 ∷ pair 1 4 ∷ [])
 unfolding values_on val
 query_rows_in_their_order = refl

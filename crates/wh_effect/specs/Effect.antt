@@ -1,15 +1,18 @@
 -- What a changing statement does to the rows of its target.
---     Kept, Effect     a row by its number; the rows that go, those that are changed, and those that are added, in order
+--     Kept, Effect     a row by its number; the rows that go, those that are changed, and
+--                      those that are added, in order
 --     Outcome          undefined, or ambiguous with a row of the target, or an effect
 --     effect           of a change over the target's rows, by rising number, and the bags of its sources
-use Rattle.std.specs.Prelude.{ℕ, Bool, true, false, not, ◌&&◌, if◌then◌else◌, List, [], ◌∷◌, ◌++◌, map, Option, Some, None, option_map, is_some}
+use Rattle.std.specs.Prelude.{ℕ, Bool, true, false, not, ◌&&◌, if◌then◌else◌, List, [], ◌∷◌, ◌++◌, map, Option, Some}
+use Rattle.std.specs.Prelude.{None, option_map, is_some}
 use Rattle.std.specs.List.{list_all, list_any, filter}
 use Rattle.wh_value.specs.Value.{Value, Row}
 use Rattle.wh_meaning.specs.Scalar.{Scalar, val, is_true, holds}
 use Rattle.wh_meaning.specs.Query.{Instance, values_on, eval}
 use Rattle.wh_meaning.specs.Bag.{Bag}
 use Rattle.wh_meaning.specs.Listing.{listed}
-use Rattle.wh_naming.specs.Changes.{BoundClause, UpdateMatched, DeleteMatched, InsertUnmatched, Change, InsertRows, InsertQuery, Update, Delete, Merge}
+use Rattle.wh_naming.specs.Changes.{BoundClause, UpdateMatched, DeleteMatched, InsertUnmatched, Change, InsertRows}
+use Rattle.wh_naming.specs.Changes.{InsertQuery, Update, Delete, Merge}
 
 pub record Kept : Type 0 where
   pub number : ℕ
@@ -52,7 +55,8 @@ with_turn kept None rest = None
 with_turn kept (Some turn) None = None
 with_turn kept (Some Stays) (Some e) = Some e
 with_turn kept (Some Goes) (Some e) = Some (record e { removed = kept.number ∷ e.removed })
-with_turn kept (Some (Becomes row)) (Some e) = Some (record e { changed = (record { number = kept.number; row = row }) ∷ e.changed })
+with_turn kept (Some (Becomes row)) (Some e) =
+    Some (record e { changed = (record { number = kept.number; row = row }) ∷ e.changed })
 
 -- each row's turn, where all are defined
 abbrev pub turned : (Row → Option Turn) → List Kept → Option Effect
@@ -127,7 +131,8 @@ is_defined_part (Some (InsertUnmatched condition parts)) row = is_some (values_o
 
 -- every condition, and the parts of the clause that is selected
 abbrev pub is_defined_on : List BoundClause → Row → Bool
-is_defined_on clauses row = list_all (λ c. is_some (val (condition_of c) row)) clauses && is_defined_part (selected clauses row) row
+is_defined_on clauses row = list_all (λ c. is_some (val (condition_of c) row)) clauses
+    && is_defined_part (selected clauses row) row
 
 -- the pairs of a target row on which ON is TRUE, and those of them on which a clause is selected
 abbrev pub pairs_of : Scalar → List Row → Row → List Row
@@ -152,7 +157,8 @@ unmatched on target source = filter (is_alone on target) source
 abbrev pub is_defined_pair : Scalar → Row → Row → Bool
 is_defined_pair on t s = is_some (val on (t ++ s))
 
--- ON on every pair; the conditions of a kind, and the parts of the clause that is selected, on every pair or row of the kind
+-- ON on every pair; the conditions of a kind, and the parts of the clause that is selected,
+-- on every pair or row of the kind
 abbrev pub is_merge_defined : Scalar → List BoundClause → List BoundClause → List Row → List Row → Bool
 is_merge_defined on matching others target source =
     list_all (λ t. list_all (is_defined_pair on t) source) target
@@ -215,7 +221,8 @@ merged_by on matching others target source =
 
 abbrev pub merged : Scalar → List BoundClause → List Kept → Option (List Row) → Outcome
 merged on clauses target None = Undefined
-merged on clauses target (Some source) = merged_by on (matched_clauses clauses) (unmatched_clauses clauses) target source
+merged on clauses target (Some source) =
+    merged_by on (matched_clauses clauses) (unmatched_clauses clauses) target source
 
 -- ---- the change
 

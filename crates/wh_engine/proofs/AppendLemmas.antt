@@ -23,7 +23,8 @@ use Rattle.wh_engine.specs.Halts.{Halted}
 use Rattle.wh_engine.proofs.CarryLemmas.{lacks_room, is_lacking}
 
 -- over the journal that it was called with, and the counts of faults before and after
-pub record Fails {T : Type 0} (r : Result T AppendFault) (j : Journal) (payload : List ℕ) (before now : ℕ) (failed_now : Option ℕ) : Type 0 where
+pub record Fails {T : Type 0} (r : Result T AppendFault) (j : Journal) (payload : List ℕ)
+    (before now : ℕ) (failed_now : Option ℕ) : Type 0 where
   pub needs_reopen : (faults : ℕ) → IsErrOf r (appends.NeedsReopen faults) ↔ (failed_of j ≡ Some faults)
   pub file_full : (len need : ℕ) → IsErrOf r (appends.FileFull len need)
       ↔ ((failed_of j ≡ None) × (limit_of j < end_of j + need_of payload) × (len ≡ end_of j) × (need ≡ need_of payload))
@@ -37,18 +38,24 @@ pub record Calls (old j : Journal) (c : Commit) (payload : List ℕ) : Type 0 wh
   pub spelled : payload ≡ payload_of c
 
 -- where there is no room, FileFull is the answer
-pub is_full : {T : Type 0} (r : Result T AppendFault) (old j : Journal) (c : Commit) (payload : List ℕ) → Calls old j c payload
+pub is_full : {T : Type 0} (r : Result T AppendFault) (old j : Journal) (c : Commit) (payload : List ℕ)
+    → Calls old j c payload
     → ((len need : ℕ) → IsErrOf r (appends.FileFull len need)
     ↔ ((failed_of j ≡ None) × (limit_of j < end_of j + need_of payload) × (len ≡ end_of j) × (need ≡ need_of payload)))
-    → IsTrue (is_beyond (limit_of old) (end_of old) (Some c)) → IsErrOf r (appends.FileFull (end_of j) (need_of payload))
+    → IsTrue (is_beyond (limit_of old) (end_of old) (Some c))
+    → IsErrOf r (appends.FileFull (end_of j) (need_of payload))
 is_full r old j c payload calls full beyond =
     let size : need_of payload ≡ record_length c = ap need_of calls.spelled in
     let lacking : limit_of old < end_of old + record_length c = is_lacking (limit_of old) (end_of old) c beyond in
-    (full (end_of j) (need_of payload)).1 (calls.same.failed ∙ calls.healthy, omega (arith, calls.same.limit, calls.same.end), refl, refl)
+    (full (end_of j) (need_of payload)).1
+    (calls.same.failed ∙ calls.healthy, omega (arith, calls.same.limit, calls.same.end), refl, refl)
 
-pub append_halts : {D T : Type 0} {seen : Ghosts D} (r : Result T AppendFault) (fault : AppendFault) (old new : Warehouse D seen) (j : Journal) (c : Commit) (payload : List ℕ)
-    → r ≡ Err fault → Calls old.journal j c payload → Fails r j payload (seen.faults old.disk) (seen.faults new.disk) (failed_of new.journal)
-    → ((fault ≡ appends.DiskFault → ⊥) → IsUntouched old new) → state_of new.catalog ≡ state_of old.catalog → seen.faults old.disk ≤ seen.faults new.disk
+pub append_halts : {D T : Type 0} {seen : Ghosts D} (r : Result T AppendFault)
+    (fault : AppendFault) (old new : Warehouse D seen) (j : Journal) (c : Commit) (payload : List ℕ)
+    → r ≡ Err fault → Calls old.journal j c payload
+    → Fails r j payload (seen.faults old.disk) (seen.faults new.disk) (failed_of new.journal)
+    → ((fault ≡ appends.DiskFault → ⊥) → IsUntouched old new) → state_of new.catalog ≡ state_of old.catalog
+    → seen.faults old.disk ≤ seen.faults new.disk
     → Halted old new (Some c) (halt_of fault)
 append_halts r appends.DiskFault old new j c payload is calls fails same state later = record {
   state = state;
@@ -63,7 +70,8 @@ append_halts r appends.DiskFault old new j c payload is calls fails same state l
 append_halts r (appends.FileFull len need) old new j c payload is calls fails same state later =
     let why = (fails.file_full len need).0 is in
     let size : need_of payload ≡ record_length c = ap need_of calls.spelled in
-    let room : limit_of old.journal < end_of old.journal + record_length c = omega (arith, why.1, calls.same.limit, calls.same.end) in
+    let room : limit_of old.journal < end_of old.journal + record_length c =
+    omega (arith, why.1, calls.same.limit, calls.same.end) in
     let at : len ≡ end_of old.journal = why.2 ∙ calls.same.end in
     let wants : need ≡ record_length c = why.3 ∙ size in
     record {
@@ -71,7 +79,8 @@ append_halts r (appends.FileFull len need) old new j c payload is calls fails sa
       needs_reopen = λ n. (λ e. absurd cc, λ e. let healthy = calls.healthy in absurd cc);
       file_full = λ l n e.
           let len_is : len ≡ l = cc in
-          let need_is : need ≡ n = cc in (lacks_room (limit_of old.journal) (end_of old.journal) c room, sym len_is ∙ at, sym need_is ∙ wants);
+          let need_is : need ≡ n = cc in
+          (lacks_room (limit_of old.journal) (end_of old.journal) c room, sym len_is ∙ at, sym need_is ∙ wants);
       beyond = λ b e. cc;
       disk_fault = λ e. absurd cc;
       failed = λ e. absurd cc;
@@ -84,8 +93,9 @@ append_halts r (appends.NeedsReopen faults) old new j c payload is calls fails s
     absurd cc
 
 -- where the disk is no cause, the append changes nothing
-pub not_by_disk : (P : Type 0) (fault : AppendFault) → (fault ≡ appends.DiskFault → ⊥) → ((len need : ℕ) → fault ≡ appends.FileFull len need → P)
-    → ((faults : ℕ) → fault ≡ appends.NeedsReopen faults → P) → P
+pub not_by_disk : (P : Type 0) (fault : AppendFault) → (fault ≡ appends.DiskFault → ⊥)
+    → ((len need : ℕ) → fault ≡ appends.FileFull len need → P) → ((faults : ℕ) → fault ≡ appends.NeedsReopen faults → P)
+    → P
 not_by_disk P appends.DiskFault other full reopen = absurd (other refl)
 not_by_disk P (appends.FileFull len need) other full reopen = full len need refl
 not_by_disk P (appends.NeedsReopen faults) other full reopen = reopen faults refl

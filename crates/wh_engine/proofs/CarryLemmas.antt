@@ -23,13 +23,16 @@ use Rattle.wh_engine.proofs.FileLemmas.{filed_same}
 
 -- ---- no commit
 
-pub carries_nothing : {D : Type 0} {seen : Ghosts D} (old new : Warehouse D seen) (commit : Option Commit) (state : State) → commit ≡ None
-    → new.disk ≡ old.disk → new.journal ≡ old.journal → stored_of new.catalog ≡ stored_of old.catalog → state_of new.catalog ≡ state
-    → failed_of old.journal ≡ None → CarriesOut old new commit state
+pub carries_nothing : {D : Type 0} {seen : Ghosts D} (old new : Warehouse D seen)
+    (commit : Option Commit) (state : State)
+    → commit ≡ None → new.disk ≡ old.disk → new.journal ≡ old.journal → stored_of new.catalog ≡ stored_of old.catalog
+    → state_of new.catalog ≡ state → failed_of old.journal ≡ None
+    → CarriesOut old new commit state
 carries_nothing {D} {seen} old new commit state none disk journal stored is healthy = record {
   stepped = is;
   stored = rw none stored;
-  filed = λ filed. rw (disk, journal) (filed_same (seen.bytes old.disk) old.journal old.catalog new.catalog stored filed);
+  filed =
+      λ filed. rw (disk, journal) (filed_same (seen.bytes old.disk) old.journal old.catalog new.catalog stored filed);
   told = ap (λ (d : D). is_some (seen.bytes d)) disk;
   durable = λ settled. rw disk settled;
   kept = λ _. disk;
@@ -40,7 +43,8 @@ carries_nothing {D} {seen} old new commit state none disk journal stored is heal
   no_fault = ap seen.faults disk;
 }
 
-pub state_passed : (old new : Catalog) (stamp : ℕ) (commit : Option Commit) → commit ≡ None → state_of new ≡ record (state_of old) { last = stamp }
+pub state_passed : (old new : Catalog) (stamp : ℕ) (commit : Option Commit) → commit ≡ None
+    → state_of new ≡ record (state_of old) { last = stamp }
     → state_of new ≡ state_with (stored_of old) stamp commit
 state_passed old new stamp commit none is =
     is ∙ ap (λ (s : State). stamped s stamp) (state_is old) ∙ ap (state_with (stored_of old) stamp) (sym none)
@@ -48,12 +52,15 @@ state_passed old new stamp commit none is =
 -- ---- a commit
 
 -- the state with a commit, from what the catalog then says
-pub state_reached : (old new : Catalog) (c : Commit) → stored_of new ≡ applied (stored_of old) c → (state_of new).last ≡ c.stamp
+pub state_reached : (old new : Catalog) (c : Commit) → stored_of new ≡ applied (stored_of old) c
+    → (state_of new).last ≡ c.stamp
     → state_of new ≡ state_with (stored_of old) c.stamp (Some c)
 state_reached old new c stored last =
-    state_is new ∙ ap (λ (s : Stored). stamped (meant s) (state_of new).last) stored ∙ ap (stamped (meant (applied (stored_of old) c))) last
+    state_is new ∙ ap (λ (s : Stored). stamped (meant s) (state_of new).last) stored
+    ∙ ap (stamped (meant (applied (stored_of old) c))) last
 
-pub has_room : (most end : ℕ) (c : Commit) → (IsTrue (is_beyond most end (Some c)) → ⊥) → is_beyond most end (Some c) ≡ false
+pub has_room : (most end : ℕ) (c : Commit) → (IsTrue (is_beyond most end (Some c)) → ⊥)
+    → is_beyond most end (Some c) ≡ false
 has_room most end c none = elim (cases_lt most (end + record_length c)) [
   | inl past ↦ absurd (none (lt-ltb most (end + record_length c) past))
   | inr within ↦ le-ltb most (end + record_length c) within

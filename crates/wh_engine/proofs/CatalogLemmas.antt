@@ -9,7 +9,8 @@ use Rattle.wh_machine.specs.State.{State, Object, at_id, id_of, live_count, at_r
 use Rattle.wh_machine.specs.Edits.{Edits}
 use Rattle.wh_machine.specs.Outcome.{EditsRows}
 use Rattle.wh_machine.specs.Tables.{table_at}
-use Rattle.wh_machine.specs.Stored.{Stored, StoredTable, StoredKind, StoredTableKind, StoredObject, table_meant, object_meant, meant}
+use Rattle.wh_machine.specs.Stored.{Stored, StoredTable, StoredKind, StoredTableKind, StoredObject, table_meant}
+use Rattle.wh_machine.specs.Stored.{object_meant, meant}
 use Rattle.wh_machine.specs.Commit.{Change, Commit, applied}
 use Rattle.wh_machine.specs.Step.{stamped}
 use Rattle.wh_machine.specs.Written.{version_written, version_written_to, written}
@@ -48,7 +49,8 @@ record HasTable (objects : List StoredObject) (id : ℕ) (t : StoredTable) : Typ
   there : at_id objects id ≡ Some object
   kind : object.kind ≡ StoredTableKind t
 
-has_table : (objects : List StoredObject) (id : ℕ) (t : StoredTable) → stored_table_at objects id ≡ Some t → HasTable objects id t
+has_table : (objects : List StoredObject) (id : ℕ) (t : StoredTable) → stored_table_at objects id ≡ Some t
+    → HasTable objects id t
 has_table objects id t is = by_object (at_id objects id) refl
   where
     by_kind : (o : StoredObject) (k : StoredKind) → at_id objects id ≡ Some o → o.kind ≡ k → HasTable objects id t
@@ -75,17 +77,21 @@ pub table_there : (c : Catalog) (id : ℕ) (t : StoredTable) → stored_table_at
     → table_at (state_of c).objects id ≡ Some (table_meant t)
 table_there c id t is =
     let h = has_table (stored_of c).objects id t is in
-    ap (λ (objects : List Object). table_at objects id) (objects_are c) ∙ table_at_some (stored_of c).objects id h.object t h.there h.kind
+    ap (λ (objects : List Object). table_at objects id) (objects_are c)
+    ∙ table_at_some (stored_of c).objects id h.object t h.there h.kind
 
-pub table_missing : (c : Catalog) (id : ℕ) → stored_table_at (stored_of c).objects id ≡ None → table_at (state_of c).objects id ≡ None
+pub table_missing : (c : Catalog) (id : ℕ) → stored_table_at (stored_of c).objects id ≡ None
+    → table_at (state_of c).objects id ≡ None
 table_missing c id is =
-    ap (λ (objects : List Object). table_at objects id) (objects_are c) ∙ table_at_none (stored_of c).objects id (has_none (stored_of c).objects id is)
+    ap (λ (objects : List Object). table_at objects id) (objects_are c)
+    ∙ table_at_none (stored_of c).objects id (has_none (stored_of c).objects id is)
 
 kind_written : (stamp id : ℕ) (e : Edits) (o : StoredObject) (t : StoredTable) → o.kind ≡ StoredTableKind t
     → version_written_to stamp id e (Some o) ≡ version_written stamp id e t ∷ []
 kind_written stamp id e o t kind = rw kind
 
-pub written_edits : (stamp : ℕ) (objects : List StoredObject) (id : ℕ) (e : Edits) (t : StoredTable) → stored_table_at objects id ≡ Some t
+pub written_edits : (stamp : ℕ) (objects : List StoredObject) (id : ℕ) (e : Edits) (t : StoredTable)
+    → stored_table_at objects id ≡ Some t
     → written stamp objects (EditsRows id e ∷ []) ≡ version_written stamp id e t ∷ []
 written_edits stamp objects id e t is =
     let h = has_table objects id t is in
@@ -95,5 +101,8 @@ written_edits stamp objects id e t is =
 -- ---- a commit
 
 -- with it the state is what is meant
-pub means_by : (c : Catalog) (s : Stored) (commit : Commit) → stored_of c ≡ applied s commit → (state_of c).last ≡ commit.stamp → state_of c ≡ meant (stored_of c)
-means_by c s commit is last = state_is c ∙ ap (stamped (meant (stored_of c))) (last ∙ sym (ap (λ (t : Stored). t.last) is))
+pub means_by : (c : Catalog) (s : Stored) (commit : Commit) → stored_of c ≡ applied s commit
+    → (state_of c).last ≡ commit.stamp
+    → state_of c ≡ meant (stored_of c)
+means_by c s commit is last =
+    state_is c ∙ ap (stamped (meant (stored_of c))) (last ∙ sym (ap (λ (t : Stored). t.last) is))

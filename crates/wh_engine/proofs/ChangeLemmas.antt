@@ -7,7 +7,8 @@
 --     no_table             the target is none
 --     unseen               an INSERT looks at no row of its target
 --     outcome_is, decides_settled   from its effect on the table
-use Rattle.std.proofs.Common.{◌≡◌, ℕ, true, false, List, [], ◌∷◌, Option, Some, None, option_map, Result, Ok, Err, refl, ap, sym, subst, ◌∙◌}
+use Rattle.std.proofs.Common.{◌≡◌, ℕ, true, false, List, [], ◌∷◌, Option, Some, None, option_map, Result, Ok, Err, refl}
+use Rattle.std.proofs.Common.{ap, sym, subst, ◌∙◌}
 use Rattle.std.specs.Result.{IfOk}
 use Rattle.wh_value.specs.declared.limit.Limit.TheVariants as limits
 use Rattle.wh_ast.specs.declared.dml.Dml.{Dml}
@@ -40,18 +41,22 @@ pub change_is : (s : State) (stamp : ℕ) (statement : Dml) (names : List Named)
 unfolding change_rows
 change_is s stamp statement names is = ap (λ (ns : List Named). change_bound s.objects (bound_change ns statement)) is
 
-pub decides_change : {E : Type 0} (r : Result Decision E) (c : Catalog) (stamp : ℕ) (statement : Dml) (names : List Named) (b : code.BoundChange)
+pub decides_change : {E : Type 0} (r : Result Decision E)
+    (c : Catalog) (stamp : ℕ) (statement : Dml) (names : List Named) (b : code.BoundChange)
     → names ≡ names_from 1 (state_of c).objects → IsBound b (bound_change names statement)
-    → IfOk r (λ d. (meant : BoundChange) → IsBound b meant → Decides (stored_of c) stamp d (change_bound (state_of c).objects meant))
+    → IfOk r (λ d. (meant : BoundChange) → IsBound b meant
+    → Decides (stored_of c) stamp d (change_bound (state_of c).objects meant))
     → IfOk r (λ d. Decides (stored_of c) stamp d (change_rows (stamped (state_of c) stamp) statement))
 decides_change (Ok d) c stamp statement names b named is h =
-    subst (λ (o : Outcome). Decides (stored_of c) stamp d o) (change_is (state_of c) stamp statement names named) (h (bound_change names statement) is)
+    subst (λ (o : Outcome). Decides (stored_of c) stamp d o) (change_is (state_of c) stamp statement names named)
+    (h (bound_change names statement) is)
 decides_change (Err e) c stamp statement names b named is h = tt
 
 pub is_failing : (objects : List Object) (b : BoundChange) (failing : Failing) → first_failing b.findings ≡ Some failing
     → change_bound objects b ≡ Refuses (refusal_of failing)
 is_failing objects b failing is =
-    ap (λ (found : Option Failing). unless (first_of (option_map refusal_of found ∷ refused_if b.is_wide (OverLimit limits.Output) ∷ []))
+    ap (λ (found : Option Failing). unless
+    (first_of (option_map refusal_of found ∷ refused_if b.is_wide (OverLimit limits.Output) ∷ []))
     (change_table objects b (table_at objects b.target))) is
 
 pub is_too_wide : (objects : List Object) (b : BoundChange) → first_failing b.findings ≡ None → b.is_wide ≡ true
@@ -66,12 +71,14 @@ on_target objects b none narrow =
     λ i. unless (first_of (option_map refusal_of (none i) ∷ refused_if (narrow i) (OverLimit limits.Output) ∷ []))
     (change_table objects b (table_at objects b.target))
 
-pub no_table : (objects : List Object) (b : BoundChange) → first_failing b.findings ≡ None → b.is_wide ≡ false → table_at objects b.target ≡ None
+pub no_table : (objects : List Object) (b : BoundChange) → first_failing b.findings ≡ None → b.is_wide ≡ false
+    → table_at objects b.target ≡ None
     → change_bound objects b ≡ Refuses TypeMismatch
 no_table objects b none narrow missing = on_target objects b none narrow ∙ ap (change_table objects b) missing
 
 -- an INSERT looks at no row of its target
-pub unseen : (change : Change) (target : List Kept) (i : Instance) → is_insert change ≡ true → effect change [] i ≡ effect change target i
+pub unseen : (change : Change) (target : List Kept) (i : Instance) → is_insert change ≡ true
+    → effect change [] i ≡ effect change target i
 unfolding effect
 unseen (InsertRows rows) target i is = refl
 unseen (InsertQuery query parts) target i is = refl
@@ -80,28 +87,36 @@ unseen (Delete condition) target i is = absurd cc
 unseen (Merge source on clauses) target i is = absurd cc
 
 -- what the bound change of the code says, on its table
-pub is_settled : (objects : List Object) (b : code.BoundChange) (meant : BoundChange) (t : Table) → IsBound b meant → b.is_wide ≡ false
-    → table_at objects b.target ≡ Some t
-    → settled_effect b.target (change_of b.change) t (effect (change_of b.change) (rows_seen t) (instance_of objects b.sources.items)) ≡ change_bound objects meant
+pub is_settled : (objects : List Object) (b : code.BoundChange) (meant : BoundChange) (t : Table) → IsBound b meant
+    → b.is_wide ≡ false → table_at objects b.target ≡ Some t
+    → settled_effect b.target (change_of b.change) t
+    (effect (change_of b.change) (rows_seen t) (instance_of objects b.sources.items)) ≡ change_bound objects meant
 is_settled objects b meant t is narrow there =
     sym (on_target objects meant is.nothing_found (sym is.is_wide ∙ narrow)
     ∙ ap (change_table objects meant) (ap (table_at objects) (sym is.target) ∙ there)
-    ∙ (λ i. settled_effect (sym is.target i) (sym is.change i) t (effect (sym is.change i) (rows_seen t) (instance_of objects (sym is.sources i)))))
+    ∙ (λ i. settled_effect (sym is.target i) (sym is.change i) t
+    (effect (sym is.change i) (rows_seen t) (instance_of objects (sym is.sources i)))))
 
 -- from its effect on the table
-pub outcome_is : (objects : List Object) (b : code.BoundChange) (meant : BoundChange) (t : Table) (o : effects.Outcome) → IsBound b meant → b.is_wide ≡ false
-    → table_at objects b.target ≡ Some t → effect (change_of b.change) (rows_seen t) (instance_of objects b.sources.items) ≡ o
+pub outcome_is : (objects : List Object) (b : code.BoundChange) (meant : BoundChange) (t : Table) (o : effects.Outcome)
+    → IsBound b meant → b.is_wide ≡ false → table_at objects b.target ≡ Some t
+    → effect (change_of b.change) (rows_seen t) (instance_of objects b.sources.items) ≡ o
     → change_bound objects meant ≡ settled_effect b.target (change_of b.change) t o
 outcome_is objects b meant t o is narrow there comes =
     sym (is_settled objects b meant t is narrow there) ∙ ap (settled_effect b.target (change_of b.change) t) comes
 
 -- what is decided on its effect is decided on it
-pub decides_settled : {E : Type 0} (r : Result Decision E) (c : Catalog) (stamp : ℕ) (b : code.BoundChange) (t : StoredTable) (e : Effect) → b.is_wide ≡ false
-    → stored_table_at (stored_of c).objects b.target ≡ Some t
-    → effect (change_of b.change) (rows_seen (table_meant t)) (instance_of (state_of c).objects b.sources.items) ≡ Does e
-    → IfOk r (λ d. (s : Stored) → stored_table_at s.objects b.target ≡ Some t → Decides s stamp d (settled_effect b.target (change_of b.change) (table_meant t) (Does e)))
-    → IfOk r (λ d. (meant : BoundChange) → IsBound b meant → Decides (stored_of c) stamp d (change_bound (state_of c).objects meant))
+pub decides_settled : {E : Type 0} (r : Result Decision E)
+    (c : Catalog) (stamp : ℕ) (b : code.BoundChange) (t : StoredTable) (e : Effect)
+    → b.is_wide ≡ false → stored_table_at (stored_of c).objects b.target ≡ Some t
+    → effect (change_of b.change) (rows_seen (table_meant t))
+    (instance_of (state_of c).objects b.sources.items) ≡ Does e
+    → IfOk r (λ d. (s : Stored) → stored_table_at s.objects b.target ≡ Some t
+    → Decides s stamp d (settled_effect b.target (change_of b.change) (table_meant t) (Does e)))
+    → IfOk r (λ d. (meant : BoundChange) → IsBound b meant
+    → Decides (stored_of c) stamp d (change_bound (state_of c).objects meant))
 decides_settled (Ok d) c stamp b t e narrow there comes h = λ meant is.
     subst (λ (o : Outcome). Decides (stored_of c) stamp d o)
-    (sym (outcome_is (state_of c).objects b meant (table_meant t) (Does e) is narrow (table_there c b.target t there) comes)) (h (stored_of c) there)
+    (sym (outcome_is (state_of c).objects b meant (table_meant t) (Does e) is narrow
+    (table_there c b.target t there) comes)) (h (stored_of c) there)
 decides_settled (Err e) c stamp b t f narrow there comes h = tt

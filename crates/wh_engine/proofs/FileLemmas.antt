@@ -1,7 +1,8 @@
 -- The file of a warehouse.
 --     keeps, stands                      what a file of commits says, and stands for
 --     filed_same, filed_append           nothing was added, or one commit
-use Rattle.std.proofs.Common.{◌≡◌, ℕ, suc, ◌+◌, ◌≤◌, List, [], ◌∷◌, ◌++◌, length, map, Option, Some, None, is_some, false, refl, sym, ◌∙◌, subst, ap, arith, inl, inr, length-append}
+use Rattle.std.proofs.Common.{◌≡◌, ℕ, suc, ◌+◌, ◌≤◌, List, [], ◌∷◌, ◌++◌, length, map, Option, Some, None, is_some}
+use Rattle.std.proofs.Common.{false, refl, sym, ◌∙◌, subst, ap, arith, inl, inr, length-append}
 use Rattle.std.specs.List.{AllByRecursion}
 use Rattle.std.proofs.lemmas.Bool.{cases_lt}
 use Rattle.std.proofs.lemmas.List.{map-append}
@@ -27,26 +28,33 @@ long_records p ps = omega arith
 no_record : (p : List ℕ) (ps : List (List ℕ)) (file : List ℕ) → IsFileOf (p ∷ ps) file → length file ≤ 8 → ⊥
 no_record p ps file is short =
     let long : 8 ≤ length (records_of (p ∷ ps)) = long_records p ps in
-    let size : length file ≡ length (records_of (p ∷ ps)) + length (is.gate ∷ is.tail) = ap length is.spelled ∙ length-append (records_of (p ∷ ps)) (is.gate ∷ is.tail) in
+    let size : length file ≡ length (records_of (p ∷ ps)) + length (is.gate ∷ is.tail) =
+    ap length is.spelled ∙ length-append (records_of (p ∷ ps)) (is.gate ∷ is.tail) in
     let some : length (is.gate ∷ is.tail) ≡ suc (length is.tail) = refl in
     omega arith
 
-short_leads : (cs : List Commit) (file : List ℕ) (s : Stored) → IsFileOf (map payload_of cs) file → length file ≤ 8 → Leads first_stored cs s → s ≡ first_stored
+short_leads : (cs : List Commit) (file : List ℕ) (s : Stored) → IsFileOf (map payload_of cs) file → length file ≤ 8
+    → Leads first_stored cs s
+    → s ≡ first_stored
 short_leads [] file s is short leads = sym leads
 short_leads (c ∷ cs) file s is short leads = absurd (no_record (payload_of c) (map payload_of cs) file is short)
 
-pub keeps : (cs : List Commit) (file : List ℕ) (s : Stored) → AllByRecursion IsCommit cs → IsFileOf (map payload_of cs) file → Leads first_stored cs s → Keeps file s
+pub keeps : (cs : List Commit) (file : List ℕ) (s : Stored) → AllByRecursion IsCommit cs
+    → IsFileOf (map payload_of cs) file → Leads first_stored cs s
+    → Keeps file s
 keeps cs file s good is leads = elim (cases_lt 8 (length file)) [
   | inl long ↦ inr (long, record { commits = cs; good = good; file = is; leads = leads })
   | inr short ↦ inl (short, short_leads cs file s is short leads)
 ]
 
-pub stands : (cs : List Commit) (file : List ℕ) (s : Stored) → AllByRecursion IsCommit cs → IsFileOf (map payload_of cs) file → Leads first_stored cs s
+pub stands : (cs : List Commit) (file : List ℕ) (s : Stored) → AllByRecursion IsCommit cs
+    → IsFileOf (map payload_of cs) file → Leads first_stored cs s
     → Stands file (meant s)
 stands cs file s good is leads = (s, keeps cs file s good is leads, refl)
 
 -- what the warehouse's file stands for
-pub stands_for : (file : List ℕ) (j : Journal) (c : Catalog) → IsFileOfCommits file j c → Stands file (at_rest (state_of c))
+pub stands_for : (file : List ℕ) (j : Journal) (c : Catalog) → IsFileOfCommits file j c
+    → Stands file (at_rest (state_of c))
 stands_for file j c h = rw (rest_of c) (stands h.commits file (stored_of c) h.good h.spelled h.leads)
 
 -- ---- what becomes of it
@@ -58,7 +66,8 @@ same_journal j = record { places = refl; end = refl; limit = refl; failed = refl
 pub lists_same : (payloads : List (List ℕ)) (j k : Journal) → IsSame j k → Lists payloads j → Lists payloads k
 lists_same payloads j k same h = record { places = same.places ∙ h.places; end = same.end ∙ h.end }
 
-file_same : (file : List ℕ) (j : Journal) (c d : Catalog) → stored_of d ≡ stored_of c → IsFileOfCommits file j c → IsFileOfCommits file j d
+file_same : (file : List ℕ) (j : Journal) (c d : Catalog) → stored_of d ≡ stored_of c → IsFileOfCommits file j c
+    → IsFileOfCommits file j d
 file_same file j c d is h = record {
   commits = h.commits;
   good = h.good;
@@ -67,35 +76,48 @@ file_same file j c d is h = record {
   leads = subst (Leads first_stored h.commits) (sym is) h.leads;
 }
 
-pub filed_same : (bytes : Option (List ℕ)) (j : Journal) (c d : Catalog) → stored_of d ≡ stored_of c → Filed bytes j c → Filed bytes j d
+pub filed_same : (bytes : Option (List ℕ)) (j : Journal) (c d : Catalog) → stored_of d ≡ stored_of c → Filed bytes j c
+    → Filed bytes j d
 filed_same bytes j c d is h = record { each = λ file told. file_same file j c d is (h.each file told) }
 
 -- what an append does
 abbrev pub Appends : Option (List ℕ) → Option (List ℕ) → Journal → Journal → List ℕ → Type 0
-Appends old new j k payload = (payloads : List (List ℕ)) (file : List ℕ) → old ≡ Some file → IsFileOf payloads file → Lists payloads j
+Appends old new j k payload = (payloads : List (List ℕ)) (file : List ℕ) → old ≡ Some file
+    → IsFileOf payloads file → Lists payloads j
     → ((now : List ℕ) × (new ≡ Some now) × IsFileOf (payloads ++ payload ∷ []) now) × Lists (payloads ++ payload ∷ []) k
 
-file_append : (file now : List ℕ) (j k : Journal) (c d : Catalog) (commit : Commit) → Appends (Some file) (Some now) j k (payload_of commit)
-    → Applies (stored_of c) commit → stored_of d ≡ applied (stored_of c) commit → IsCommit commit → IsFileOfCommits file j c → IsFileOfCommits now k d
+file_append : (file now : List ℕ) (j k : Journal) (c d : Catalog) (commit : Commit)
+    → Appends (Some file) (Some now) j k (payload_of commit) → Applies (stored_of c) commit
+    → stored_of d ≡ applied (stored_of c) commit → IsCommit commit → IsFileOfCommits file j c
+    → IsFileOfCommits now k d
 file_append file now j k c d commit appends applies is good h =
     let s = stored_of c in
     let added = appends (map payload_of h.commits) file refl h.spelled h.listed in
     let same : added.0.0 ≡ now = sym (some_is now added.0.0 added.0.1) in
-    let payloads : map payload_of h.commits ++ payload_of commit ∷ [] ≡ map payload_of (h.commits ++ commit ∷ []) = sym (map-append payload_of h.commits (commit ∷ [])) in
+    let payloads : map payload_of h.commits ++ payload_of commit ∷ [] ≡ map payload_of (h.commits ++ commit ∷ []) =
+    sym (map-append payload_of h.commits (commit ∷ [])) in
     record {
       commits = h.commits ++ commit ∷ [];
       good = all_more IsCommit h.commits commit h.good good;
-      spelled = subst (λ (ps : List (List ℕ)). IsFileOf ps now) payloads (subst (IsFileOf (map payload_of h.commits ++ payload_of commit ∷ [])) same added.0.2);
+      spelled = subst (λ (ps : List (List ℕ)). IsFileOf ps now) payloads
+          (subst (IsFileOf (map payload_of h.commits ++ payload_of commit ∷ [])) same added.0.2);
       listed = subst (λ (ps : List (List ℕ)). Lists ps k) payloads added.1;
-      leads = subst (Leads first_stored (h.commits ++ commit ∷ [])) (sym is) (leads_then first_stored h.commits s commit h.leads applies);
+      leads = subst (Leads first_stored (h.commits ++ commit ∷ [])) (sym is)
+          (leads_then first_stored h.commits s commit h.leads applies);
     }
 
-pub filed_append : (old new : Option (List ℕ)) (j k : Journal) (c d : Catalog) (commit : Commit) → is_some new ≡ is_some old → Appends old new j k (payload_of commit)
-    → Applies (stored_of c) commit → stored_of d ≡ applied (stored_of c) commit → IsCommit commit → Filed old j c → Filed new k d
-filed_append None new j k c d commit told appends applies is good h = record { each = λ now e. absurd (none_told new now told e) }
+pub filed_append : (old new : Option (List ℕ)) (j k : Journal) (c d : Catalog) (commit : Commit)
+    → is_some new ≡ is_some old → Appends old new j k (payload_of commit) → Applies (stored_of c) commit
+    → stored_of d ≡ applied (stored_of c) commit → IsCommit commit → Filed old j c
+    → Filed new k d
+filed_append None new j k c d commit told appends applies is good h =
+    record { each = λ now e. absurd (none_told new now told e) }
   where
     none_told : (o : Option (List ℕ)) (now : List ℕ) → is_some o ≡ false → o ≡ Some now → ⊥
     none_told None now e f = cc
     none_told (Some x) now e f = cc
 filed_append (Some file) new j k c d commit told appends applies is good h =
-    record { each = λ now e. file_append file now j k c d commit (subst (λ (o : Option (List ℕ)). Appends (Some file) o j k (payload_of commit)) e appends) applies is good (h.each file refl) }
+    record {
+      each = λ now e. file_append file now j k c d commit (subst (λ (o : Option (List ℕ)). Appends
+          (Some file) o j k (payload_of commit)) e appends) applies is good (h.each file refl);
+    }

@@ -20,11 +20,13 @@ use Rattle.wh_engine.proofs.FileLemmas.{same_journal}
 pub unchanged : {D : Type 0} {seen : Ghosts D} (w : Warehouse D seen) → IsUntouched w w
 unchanged w = record { disk = refl; journal = same_journal w.journal; stored = refl }
 
-pub untouched : {D : Type 0} {seen : Ghosts D} {old new : Warehouse D seen} → new.disk ≡ old.disk → IsSame old.journal new.journal
-    → stored_of new.catalog ≡ stored_of old.catalog → IsUntouched old new
+pub untouched : {D : Type 0} {seen : Ghosts D} {old new : Warehouse D seen} → new.disk ≡ old.disk
+    → IsSame old.journal new.journal → stored_of new.catalog ≡ stored_of old.catalog
+    → IsUntouched old new
 untouched disk journal stored = record { disk = disk; journal = journal; stored = stored }
 
-pub reopens : {D : Type 0} {seen : Ghosts D} (w : Warehouse D seen) (commit : Option Commit) (faults : ℕ) → failed_of w.journal ≡ Some faults
+pub reopens : {D : Type 0} {seen : Ghosts D} (w : Warehouse D seen) (commit : Option Commit) (faults : ℕ)
+    → failed_of w.journal ≡ Some faults
     → Halted w w commit (NeedsReopen faults)
 reopens w commit faults failed = record {
   state = refl;
@@ -37,8 +39,9 @@ reopens w commit faults failed = record {
   later = omega arith;
 }
 
-pub starves : {D : Type 0} {seen : Ghosts D} (old new : Warehouse D seen) (commit : Option Commit) → failed_of old.journal ≡ None → IsUntouched old new
-    → state_of new.catalog ≡ state_of old.catalog → Halted old new commit OutOfMemory
+pub starves : {D : Type 0} {seen : Ghosts D} (old new : Warehouse D seen) (commit : Option Commit)
+    → failed_of old.journal ≡ None → IsUntouched old new → state_of new.catalog ≡ state_of old.catalog
+    → Halted old new commit OutOfMemory
 starves {D} {seen} old new commit healthy same state = record {
   state = state;
   needs_reopen = λ n. (λ e. absurd cc, λ e. absurd cc);
@@ -51,16 +54,22 @@ starves {D} {seen} old new commit healthy same state = record {
 }
 
 -- want of memory that is passed on
-pub starved : {D T : Type 0} {seen : Ghosts D} (r : Result T Halt) (old new : Warehouse D seen) (commit : Option Commit) → IsErrAnd r (λ halt. halt ≡ OutOfMemory)
-    → failed_of old.journal ≡ None → IsUntouched old new → state_of new.catalog ≡ state_of old.catalog → IfErr r (λ halt. Halted old new commit halt)
+pub starved : {D T : Type 0} {seen : Ghosts D} (r : Result T Halt) (old new : Warehouse D seen) (commit : Option Commit)
+    → IsErrAnd r (λ halt. halt ≡ OutOfMemory) → failed_of old.journal ≡ None → IsUntouched old new
+    → state_of new.catalog ≡ state_of old.catalog
+    → IfErr r (λ halt. Halted old new commit halt)
 starved (Ok x) old new commit gives healthy same state = tt
-starved (Err h) old new commit gives healthy same state = subst (Halted old new commit) (sym gives) (starves old new commit healthy same state)
+starved (Err h) old new commit gives healthy same state =
+    subst (Halted old new commit) (sym gives) (starves old new commit healthy same state)
 
 -- what holds of a halt that is passed on
-pub passed_on : {T : Type 0} (r : Result T Halt) (passed : Halt) (P : Halt → Type 0) → IsErrAnd r (λ halt. halt ≡ passed) → P passed → IfErr r P
+pub passed_on : {T : Type 0} (r : Result T Halt) (passed : Halt) (P : Halt → Type 0)
+    → IsErrAnd r (λ halt. halt ≡ passed) → P passed
+    → IfErr r P
 passed_on (Ok x) passed P gives holds = tt
 passed_on (Err h) passed P gives holds = subst P (sym gives) holds
 
-pub same_fault : {T : Type 0} (r : Result T OpenFault) (fault other : OpenFault) → IsErrAnd r (λ h. h ≡ fault) → IsErrOf r other → fault ≡ other
+pub same_fault : {T : Type 0} (r : Result T OpenFault) (fault other : OpenFault) → IsErrAnd r (λ h. h ≡ fault)
+    → IsErrOf r other → fault ≡ other
 same_fault (Ok x) fault other gives is = absurd gives
 same_fault (Err h) fault other gives is = cc

@@ -2,7 +2,8 @@
 --     all_more, all_front, all_back      what holds of each
 --     leads_then                         one more commit
 --     length_changed_at                  a list with one element changed is as long
-use Rattle.std.proofs.Common.{◌≡◌, ℕ, zero, suc, List, [], ◌∷◌, ◌++◌, length, Option, Some, None, option_map, refl, sym, subst, ap}
+use Rattle.std.proofs.Common.{◌≡◌, ℕ, zero, suc, List, [], ◌∷◌, ◌++◌, length, Option, Some, None}
+use Rattle.std.proofs.Common.{option_map, refl, sym, subst, ap}
 use Rattle.std.specs.Prelude.{slice_set}
 use Rattle.std.specs.List.{AllByRecursion}
 use Rattle.wh_machine.specs.State.{at_id, with_id, put_at, changed_at}
@@ -12,7 +13,8 @@ use Rattle.wh_machine.specs.Commit.{Commit, Applies, applied, Leads}
 pub some_is : {A : Type 0} (x y : A) → ◌≡◌ {A = Option A} (Some x) (Some y) → x ≡ y
 some_is x y e = cc
 
-pub all_more : {X : Type 0} (P : X → Type 0) (xs : List X) (x : X) → AllByRecursion P xs → P x → AllByRecursion P (xs ++ x ∷ [])
+pub all_more : {X : Type 0} (P : X → Type 0) (xs : List X) (x : X) → AllByRecursion P xs → P x
+    → AllByRecursion P (xs ++ x ∷ [])
 all_more P [] x h here = (here, tt)
 all_more P (y ∷ ys) x h here = (h.0, all_more P ys x h.1 here)
 

@@ -2,7 +2,8 @@
 --     opened, filed, gate_ends     one that was replayed to its end
 --     fault_first, stray_first     one that breaks off, and one with a record that strays
 --     left_by_opening              what a crash leaves behind the journal's recovery
-use Rattle.std.proofs.Common.{◌≡◌, ℕ, ◌<◌, ◌≤◌, ◌^◌, ◌⊎◌, List, [], ◌∷◌, ◌++◌, length, map, Option, Some, None, is_some, false, refl, sym, ◌∙◌, subst, ap, arith, inl, inr, append_assoc}
+use Rattle.std.proofs.Common.{◌≡◌, ℕ, ◌<◌, ◌≤◌, ◌^◌, ◌⊎◌, List, [], ◌∷◌, ◌++◌, length, map, Option, Some, None, is_some}
+use Rattle.std.proofs.Common.{false, refl, sym, ◌∙◌, subst, ap, arith, inl, inr, append_assoc}
 use Rattle.std.specs.Prelude.{MatchOption}
 use Rattle.std.specs.List.{AllByRecursion, flat_map}
 use Rattle.std.proofs.lemmas.Bool.{cases_lt}
@@ -27,20 +28,24 @@ use Rattle.wh_engine.proofs.ListLemmas.{all_front, all_back, some_is}
 
 -- what the journal's recovery says of a short file, and of a longer one
 abbrev pub Begun : Option (List ℕ) → Option (List ℕ) → Journal → Option ℕ → Type 0
-Begun old mid j fault = (file : List ℕ) → old ≡ Some file → length file ≤ 8 → (mid ≡ Some (header ++ 0 ∷ [])) × Lists [] j × (fault ≡ None)
+Begun old mid j fault = (file : List ℕ) → old ≡ Some file → length file ≤ 8
+    → (mid ≡ Some (header ++ 0 ∷ [])) × Lists [] j × (fault ≡ None)
 
 abbrev pub IsWhole : List ℕ → Journal → Type 0
 IsWhole file j = (payloads : List (List ℕ)) × IsFileOf payloads file × Lists payloads j
 
 abbrev pub Read : Option (List ℕ) → Option (List ℕ) → Journal → Option ℕ → Type 0
-Read old mid j fault = (file : List ℕ) → old ≡ Some file → 8 < length file → (mid ≡ Some file) × MatchOption fault (IsWhole file j) (λ at. ListsUpTo file j at)
+Read old mid j fault = (file : List ℕ) → old ≡ Some file → 8 < length file
+    → (mid ≡ Some file) × MatchOption fault (IsWhole file j) (λ at. ListsUpTo file j at)
 
 -- and what the replay says
 abbrev pub Led : Option (List ℕ) → Journal → Stored → Type 0
-Led mid j s = (payloads : List (List ℕ)) (file rest : List ℕ) → mid ≡ Some file → file ≡ records_of payloads ++ rest → Lists payloads j → Replays first_stored payloads s
+Led mid j s = (payloads : List (List ℕ)) (file rest : List ℕ) → mid ≡ Some file → file ≡ records_of payloads ++ rest
+    → Lists payloads j → Replays first_stored payloads s
 
 abbrev pub Stray : Option (List ℕ) → Journal → ℕ → Type 0
-Stray mid j at = (payloads : List (List ℕ)) (file rest : List ℕ) → mid ≡ Some file → file ≡ records_of payloads ++ rest → Lists payloads j → StraysAt payloads at
+Stray mid j at = (payloads : List (List ℕ)) (file rest : List ℕ) → mid ≡ Some file → file ≡ records_of payloads ++ rest
+    → Lists payloads j → StraysAt payloads at
 
 begun_file : IsFileOf [] (header ++ 0 ∷ [])
 unfolding records_of
@@ -50,11 +55,15 @@ begun_end : (j : Journal) → Lists [] j → end_of j ≡ 8
 unfolding records_of
 begun_end j lists = lists.end
 
-whole_at_none : (file : List ℕ) (j : Journal) (fault : Option ℕ) → fault ≡ None → MatchOption fault (IsWhole file j) (λ at. ListsUpTo file j at) → IsWhole file j
+whole_at_none : (file : List ℕ) (j : Journal) (fault : Option ℕ) → fault ≡ None
+    → MatchOption fault (IsWhole file j) (λ at. ListsUpTo file j at)
+    → IsWhole file j
 whole_at_none file j None none h = h
 whole_at_none file j (Some at) none h = absurd cc
 
-fault_at_some : (file : List ℕ) (j : Journal) (fault : Option ℕ) (at : ℕ) → fault ≡ Some at → MatchOption fault (IsWhole file j) (λ n. ListsUpTo file j n) → ListsUpTo file j at
+fault_at_some : (file : List ℕ) (j : Journal) (fault : Option ℕ) (at : ℕ) → fault ≡ Some at
+    → MatchOption fault (IsWhole file j) (λ n. ListsUpTo file j n)
+    → ListsUpTo file j at
 fault_at_some file j None at is h = absurd cc
 fault_at_some file j (Some n) at is h = let same : n ≡ at = cc in subst (ListsUpTo file j) same h
 
@@ -64,12 +73,12 @@ no_commits : (cs : List Commit) (s : Stored) → map payload_of cs ≡ [] → Le
 no_commits [] s e leads = sym leads
 no_commits (c ∷ cs) s e leads = absurd cc
 
-led_whole : (payloads : List (List ℕ)) (file : List ℕ) (mid : Option (List ℕ)) (j : Journal) (s : Stored) → mid ≡ Some file → IsFileOf payloads file → Lists payloads j → Led mid j s
-    → Replays first_stored payloads s
+led_whole : (payloads : List (List ℕ)) (file : List ℕ) (mid : Option (List ℕ)) (j : Journal) (s : Stored)
+    → mid ≡ Some file → IsFileOf payloads file → Lists payloads j → Led mid j s → Replays first_stored payloads s
 led_whole payloads file mid j s told is lists led = led payloads file (is.gate ∷ is.tail) told is.spelled lists
 
-pub opened : (old mid : Option (List ℕ)) (j : Journal) (fault : Option ℕ) (s : Stored) → fault ≡ None → Begun old mid j fault → Read old mid j fault → Led mid j s
-    → (file : List ℕ) → old ≡ Some file → Keeps file s
+pub opened : (old mid : Option (List ℕ)) (j : Journal) (fault : Option ℕ) (s : Stored) → fault ≡ None
+    → Begun old mid j fault → Read old mid j fault → Led mid j s → (file : List ℕ) → old ≡ Some file → Keeps file s
 opened old mid j fault s none begun read led file told = elim (cases_lt 8 (length file)) [
   | inl long ↦
       let r = read file told long in
@@ -82,7 +91,8 @@ opened old mid j fault s none begun read led file told = elim (cases_lt 8 (lengt
       inl (short, no_commits h.commits s h.spelled h.leads)
 ]
 
-filed_by : (payloads : List (List ℕ)) (file : List ℕ) (j : Journal) (c : Catalog) → IsFileOf payloads file → Lists payloads j → Replays first_stored payloads (stored_of c)
+filed_by : (payloads : List (List ℕ)) (file : List ℕ) (j : Journal) (c : Catalog) → IsFileOf payloads file
+    → Lists payloads j → Replays first_stored payloads (stored_of c)
     → IsFileOfCommits file j c
 filed_by payloads file j c is lists h = record {
   commits = h.commits;
@@ -92,8 +102,9 @@ filed_by payloads file j c is lists h = record {
   leads = h.leads;
 }
 
-filed_told : (old mid : Option (List ℕ)) (j : Journal) (fault : Option ℕ) (c : Catalog) → fault ≡ None → Begun old mid j fault → Read old mid j fault → Led mid j (stored_of c)
-    → (file now : List ℕ) → old ≡ Some file → mid ≡ Some now → IsFileOfCommits now j c
+filed_told : (old mid : Option (List ℕ)) (j : Journal) (fault : Option ℕ) (c : Catalog) → fault ≡ None
+    → Begun old mid j fault → Read old mid j fault → Led mid j (stored_of c) → (file now : List ℕ) → old ≡ Some file
+    → mid ≡ Some now → IsFileOfCommits now j c
 filed_told old mid j fault c none begun read led file now told is = elim (cases_lt 8 (length file)) [
   | inl long ↦
       let r = read file told long in
@@ -105,11 +116,12 @@ filed_told old mid j fault c none begun read led file now told is = elim (cases_
       let b = begun file told short in
       let same : header ++ 0 ∷ [] ≡ now = some_is (header ++ 0 ∷ []) now (sym b.0 ∙ is) in
       subst (λ (f : List ℕ). IsFileOfCommits f j c) same
-      (filed_by [] (header ++ 0 ∷ []) j c begun_file b.1 (led_whole [] (header ++ 0 ∷ []) mid j (stored_of c) b.0 begun_file b.1 led))
+      (filed_by [] (header ++ 0 ∷ []) j c begun_file b.1
+      (led_whole [] (header ++ 0 ∷ []) mid j (stored_of c) b.0 begun_file b.1 led))
 ]
 
-pub filed : (old mid : Option (List ℕ)) (j : Journal) (fault : Option ℕ) (c : Catalog) → is_some mid ≡ is_some old → fault ≡ None → Begun old mid j fault → Read old mid j fault
-    → Led mid j (stored_of c) → Filed mid j c
+pub filed : (old mid : Option (List ℕ)) (j : Journal) (fault : Option ℕ) (c : Catalog) → is_some mid ≡ is_some old
+    → fault ≡ None → Begun old mid j fault → Read old mid j fault → Led mid j (stored_of c) → Filed mid j c
 filed None mid j fault c told none begun read led = record { each = λ now e. absurd (none_told mid now told e) }
   where
     none_told : (o : Option (List ℕ)) (now : List ℕ) → is_some o ≡ false → o ≡ Some now → ⊥
@@ -118,8 +130,8 @@ filed None mid j fault c told none begun read led = record { each = λ now e. ab
 filed (Some file) mid j fault c told none begun read led =
     record { each = λ now e. filed_told (Some file) mid j fault c none begun read led file now refl e }
 
-pub gate_ends : (old mid : Option (List ℕ)) (j : Journal) (fault : Option ℕ) → fault ≡ None → Begun old mid j fault → Read old mid j fault
-    → (file : List ℕ) → old ≡ Some file → GateEndsAt file (end_of j)
+pub gate_ends : (old mid : Option (List ℕ)) (j : Journal) (fault : Option ℕ) → fault ≡ None → Begun old mid j fault
+    → Read old mid j fault → (file : List ℕ) → old ≡ Some file → GateEndsAt file (end_of j)
 gate_ends old mid j fault none begun read file told = elim (cases_lt 8 (length file)) [
   | inl long ↦
       let whole = whole_at_none file j fault none (read file told long).1 in
@@ -134,19 +146,22 @@ regroup : (h a b c r : List ℕ) → (h ++ (a ++ (b ++ c))) ++ r ≡ (h ++ a) ++
 regroup h a b c r = simp append_assoc
 
 records_around : (before behind : List (List ℕ)) (payload rest : List ℕ)
-    → records_of (before ++ payload ∷ behind) ++ rest ≡ records_of before ++ (record_of payload ++ (flat_map record_of behind ++ rest))
+    → records_of (before ++ payload ∷ behind) ++ rest
+    ≡ records_of before ++ (record_of payload ++ (flat_map record_of behind ++ rest))
 unfolding records_of
 records_around before behind payload rest =
     ap (λ (l : List ℕ). (header ++ l) ++ rest) (flat_map-append record_of before (payload ∷ behind))
     ∙ regroup header (flat_map record_of before) (record_of payload) (flat_map record_of behind) rest
 
-short_commits : (cs : List Commit) → AllShort (map payload_of cs) → AllByRecursion (λ c. length (payload_of c) < 2 ^ 64) cs
+short_commits : (cs : List Commit) → AllShort (map payload_of cs)
+    → AllByRecursion (λ c. length (payload_of c) < 2 ^ 64) cs
 short_commits [] h = tt
 short_commits (c ∷ cs) h = (h.0, short_commits cs h.1)
 
 -- behind the commits that were replayed
-breaks_off : (payloads : List (List ℕ)) (file rest : List ℕ) (at : ℕ) (s : Stored) → Replays first_stored payloads s → AllShort payloads → file ≡ records_of payloads ++ rest
-    → IsFaulty rest s → at ≡ length (records_of payloads) → BreaksOff file at
+breaks_off : (payloads : List (List ℕ)) (file rest : List ℕ) (at : ℕ) (s : Stored) → Replays first_stored payloads s
+    → AllShort payloads → file ≡ records_of payloads ++ rest → IsFaulty rest s → at ≡ length (records_of payloads)
+    → BreaksOff file at
 breaks_off payloads file rest at s h short is faulty place = record {
   commits = h.commits;
   good = h.good;
@@ -159,11 +174,15 @@ breaks_off payloads file rest at s h short is faulty place = record {
   place = subst (λ (ps : List (List ℕ)). at ≡ length (records_of ps)) (sym h.spelled) place;
 }
 
-stray_breaks_off : (payloads : List (List ℕ)) (file rest : List ℕ) (at : ℕ) → AllShort payloads → file ≡ records_of payloads ++ rest → StraysAt payloads at → BreaksOff file at
+stray_breaks_off : (payloads : List (List ℕ)) (file rest : List ℕ) (at : ℕ) → AllShort payloads
+    → file ≡ records_of payloads ++ rest → StraysAt payloads at
+    → BreaksOff file at
 stray_breaks_off payloads file rest at short is h =
     let split : AllShort (h.before ++ h.payload ∷ h.behind) = subst AllShort h.split short in
-    let front : AllShort h.before = all_front (λ (p : List ℕ). length p < 2 ^ 64) h.before (h.payload ∷ h.behind) split in
-    let back : AllShort (h.payload ∷ h.behind) = all_back (λ (p : List ℕ). length p < 2 ^ 64) h.before (h.payload ∷ h.behind) split in
+    let front : AllShort h.before =
+    all_front (λ (p : List ℕ). length p < 2 ^ 64) h.before (h.payload ∷ h.behind) split in
+    let back : AllShort (h.payload ∷ h.behind) =
+    all_back (λ (p : List ℕ). length p < 2 ^ 64) h.before (h.payload ∷ h.behind) split in
     let left : List ℕ = flat_map record_of h.behind ++ rest in
     let whole : file ≡ records_of h.before ++ (record_of h.payload ++ left) =
     is ∙ ap (λ (ps : List (List ℕ)). records_of ps ++ rest) h.split ∙ records_around h.before h.behind h.payload rest in
@@ -174,7 +193,8 @@ early : (rest : List ℕ) (s : Stored) → (rest ≡ []) ⊎ IsCut rest → IsFa
 early rest s (inl none) = inl none
 early rest s (inr cut) = inr (inl cut)
 
-up_to : (file : List ℕ) (mid : Option (List ℕ)) (j : Journal) (at : ℕ) (s : Stored) → mid ≡ Some file → ListsUpTo file j at → Led mid j s → IsFirstFault file at
+up_to : (file : List ℕ) (mid : Option (List ℕ)) (j : Journal) (at : ℕ) (s : Stored) → mid ≡ Some file
+    → ListsUpTo file j at → Led mid j s → IsFirstFault file at
 up_to file mid j at s told (inl lacks) led = inl lacks.0
 up_to file mid j at s told (inr up) led =
     let ends = up.1 in
@@ -182,29 +202,34 @@ up_to file mid j at s told (inr up) led =
     inr (breaks_off up.0 file ends.rest at s h ends.short ends.spelled (early ends.rest s ends.faulty) ends.place)
 
 -- where each record that the journal lists was replayed, it is where the file breaks off
-pub fault_first : (old mid : Option (List ℕ)) (j : Journal) (fault : Option ℕ) (at : ℕ) (s : Stored) → fault ≡ Some at → Begun old mid j fault → Read old mid j fault → Led mid j s
-    → (file : List ℕ) → old ≡ Some file → (8 < length file) × IsFirstFault file at × (mid ≡ Some file)
+pub fault_first : (old mid : Option (List ℕ)) (j : Journal) (fault : Option ℕ) (at : ℕ) (s : Stored) → fault ≡ Some at
+    → Begun old mid j fault → Read old mid j fault → Led mid j s → (file : List ℕ) → old ≡ Some file
+    → (8 < length file) × IsFirstFault file at × (mid ≡ Some file)
 fault_first old mid j fault at s is begun read led file told = elim (cases_lt 8 (length file)) [
-  | inl long ↦ let r = read file told long in (long, up_to file mid j at s r.0 (fault_at_some file j fault at is r.1) led, r.0)
+  | inl long ↦ let r = read file told long in
+      (long, up_to file mid j at s r.0 (fault_at_some file j fault at is r.1) led, r.0)
   | inr short ↦ let b = begun file told short in absurd (cc (is, b.2))
 ]
 
 count_none : (j : Journal) → Lists [] j → count_of j ≡ 0
 count_none j lists = ap length lists.places
 
-strays_up_to : (file : List ℕ) (mid : Option (List ℕ)) (j : Journal) (at : ℕ) (fault : Option ℕ) → mid ≡ Some file → 0 < count_of j
-    → MatchOption fault (IsWhole file j) (λ n. ListsUpTo file j n) → Stray mid j at → BreaksOff file at
+strays_up_to : (file : List ℕ) (mid : Option (List ℕ)) (j : Journal) (at : ℕ) (fault : Option ℕ) → mid ≡ Some file
+    → 0 < count_of j → MatchOption fault (IsWhole file j) (λ n. ListsUpTo file j n) → Stray mid j at
+    → BreaksOff file at
 strays_up_to file mid j at None told some whole stray =
     let is = whole.1 in
-    stray_breaks_off whole.0 file (is.gate ∷ is.tail) at is.short is.spelled (stray whole.0 file (is.gate ∷ is.tail) told is.spelled whole.2)
+    stray_breaks_off whole.0 file (is.gate ∷ is.tail) at is.short is.spelled
+    (stray whole.0 file (is.gate ∷ is.tail) told is.spelled whole.2)
 strays_up_to file mid j at (Some n) told some (inl lacks) stray = absurd (omega (arith, count_none j lacks.1))
 strays_up_to file mid j at (Some n) told some (inr up) stray =
     let ends = up.1 in
     stray_breaks_off up.0 file ends.rest at ends.short ends.spelled (stray up.0 file ends.rest told ends.spelled up.2)
 
 -- else it is at the record that strays, which stands before
-pub stray_first : (old mid : Option (List ℕ)) (j : Journal) (fault : Option ℕ) (at : ℕ) → Begun old mid j fault → Read old mid j fault → 0 < count_of j → Stray mid j at
-    → (file : List ℕ) → old ≡ Some file → (8 < length file) × IsFirstFault file at × (mid ≡ Some file)
+pub stray_first : (old mid : Option (List ℕ)) (j : Journal) (fault : Option ℕ) (at : ℕ) → Begun old mid j fault
+    → Read old mid j fault → 0 < count_of j → Stray mid j at → (file : List ℕ) → old ≡ Some file
+    → (8 < length file) × IsFirstFault file at × (mid ≡ Some file)
 stray_first old mid j fault at begun read some stray file told = elim (cases_lt 8 (length file)) [
   | inl long ↦ let r = read file told long in (long, inr (strays_up_to file mid j at fault r.0 some r.1 stray), r.0)
   | inr short ↦ let b = begun file told short in absurd (omega (arith, count_none j b.1))
@@ -213,8 +238,10 @@ stray_first old mid j fault at begun read some stray file told = elim (cases_lt 
 -- ---- a crash
 
 -- what stands on the disk once the journal is recovered
-pub left_by_opening : (old mid : Option (List ℕ)) (j : Journal) (fault : Option ℕ) (images : List ℕ → Type 0) → Begun old mid j fault → Read old mid j fault
-    → ((now : List ℕ) → mid ≡ Some now → Only now images) → (file : List ℕ) → old ≡ Some file → (image : List ℕ) → images image → IsKeptOrShort file image
+pub left_by_opening : (old mid : Option (List ℕ)) (j : Journal) (fault : Option ℕ) (images : List ℕ → Type 0)
+    → Begun old mid j fault → Read old mid j fault → ((now : List ℕ) → mid ≡ Some now → Only now images)
+    → (file : List ℕ) → old ≡ Some file → (image : List ℕ) → images image
+    → IsKeptOrShort file image
 left_by_opening old mid j fault images begun read only file told image is = elim (cases_lt 8 (length file)) [
   | inl long ↦ inl (only file (read file told long).0 image is)
   | inr short ↦

@@ -21,5 +21,6 @@ as_read text h =
     let test : ltb 65536 (length text) ≡ false = le-ltb _ _ h in
     rw test
 
-pub short_request : (text : List ℕ) (found : Option Tree) → length text ≤ 65536 → read_statement text ≡ found → request_of text ≡ request_by found
+pub short_request : (text : List ℕ) (found : Option Tree) → length text ≤ 65536 → read_statement text ≡ found
+    → request_of text ≡ request_by found
 short_request text found h is = as_read text h ∙ ap request_by is

@@ -26,7 +26,8 @@ use Rattle.wh_engine.specs.Decision.{Decides}
 abbrev Tree : Type 0
 Tree = tree.Statement
 
-pub decides_as : {E : Type 0} (s : Stored) (stamp : ℕ) (r : Result Decision E) (o p : Outcome) → o ≡ p → IfOk r (λ d. Decides s stamp d o)
+pub decides_as : {E : Type 0} (s : Stored) (stamp : ℕ) (r : Result Decision E) (o p : Outcome) → o ≡ p
+    → IfOk r (λ d. Decides s stamp d o)
     → IfOk r (λ d. Decides s stamp d p)
 decides_as s stamp r o p is decides = subst (λ (x : Outcome). IfOk r (λ d. Decides s stamp d x)) is decides
 
@@ -40,11 +41,13 @@ pub command_unreadable : (s : State) (session : ℕ) → commanded s session Unr
 unfolding commanded
 command_unreadable s session = refl
 
-pub command_of_none : (s : State) (session : ℕ) (t : Tree) → is_session session ≡ false → commanded s session (Asked t) ≡ Refuses (NoSuchSession session)
+pub command_of_none : (s : State) (session : ℕ) (t : Tree) → is_session session ≡ false
+    → commanded s session (Asked t) ≡ Refuses (NoSuchSession session)
 unfolding commanded
 command_of_none s session t e = rw e
 
-pub command_carried : (s : State) (session : ℕ) (t : Tree) → is_session session ≡ true → commanded s session (Asked t) ≡ carried_out s (form_of t)
+pub command_carried : (s : State) (session : ℕ) (t : Tree) → is_session session ≡ true
+    → commanded s session (Asked t) ≡ carried_out s (form_of t)
 unfolding commanded
 command_carried s session t e = rw e
 
@@ -63,10 +66,12 @@ pub carried_drop : (s : State) (name : List ℕ) → drop_table s name ≡ carri
 unfolding carried_out
 carried_drop s name = refl
 
-pub carried_change : (s : State) (statement : Dml) → change_rows s statement ≡ carried_out s (Some (ChangeRows statement))
+pub carried_change : (s : State) (statement : Dml)
+    → change_rows s statement ≡ carried_out s (Some (ChangeRows statement))
 unfolding carried_out
 carried_change s statement = refl
 
-pub carried_select : (s : State) (query : Query) (sorts : List Sort) → select_rows s query sorts ≡ carried_out s (Some (Select query sorts))
+pub carried_select : (s : State) (query : Query) (sorts : List Sort)
+    → select_rows s query sorts ≡ carried_out s (Some (Select query sorts))
 unfolding carried_out
 carried_select s query sorts = refl

@@ -17,5 +17,6 @@ each_kept (p ∷ ps) =
     ap (λ rest. kept_rows p.now.rows ++ rest) (each_kept ps)
     ∙ sym (map-append numbered_row p.now.rows (all_rows (partitions_at ps)))
 
-pub all_seen : (t : Table) (target : List (Bor Partition)) → all_rows (partitions_at target) ≡ entries (last_rows t) → targets_of target ≡ rows_seen t
+pub all_seen : (t : Table) (target : List (Bor Partition)) → all_rows (partitions_at target) ≡ entries (last_rows t)
+    → targets_of target ≡ rows_seen t
 all_seen t target is = each_kept target ∙ ap (map numbered_row) is

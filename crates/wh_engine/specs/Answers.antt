@@ -19,7 +19,8 @@ pub record CarriesOut {D : Type 0} {seen : Ghosts D} (old new : Warehouse D seen
   -- the file goes with the state, and what was all on the disk still is
   pub filed : Filed (seen.bytes old.disk) old.journal old.catalog → Filed (seen.bytes new.disk) new.journal new.catalog
   pub told : is_some (seen.bytes new.disk) ≡ is_some (seen.bytes old.disk)
-  pub durable : IsSettled (seen.bytes old.disk) (seen.may_leave old.disk) → IsSettled (seen.bytes new.disk) (seen.may_leave new.disk)
+  pub durable : IsSettled (seen.bytes old.disk) (seen.may_leave old.disk)
+      → IsSettled (seen.bytes new.disk) (seen.may_leave new.disk)
   -- without a commit the disk isn't touched
   pub kept : commit ≡ None → new.disk ≡ old.disk
   -- there was room, and it is taken

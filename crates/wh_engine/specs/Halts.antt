@@ -16,8 +16,10 @@ pub record Halted {D : Type 0} {seen : Ghosts D} (old new : Warehouse D seen) (c
   -- an earlier failure, exactly
   pub needs_reopen : (faults : ℕ) → (halt ≡ NeedsReopen faults) ↔ (failed_of old.journal ≡ Some faults)
   -- no room for the commit; the way back, but for want of memory
-  pub file_full : (len need : ℕ) → halt ≡ FileFull len need
-      → IsTrue (is_beyond (limit_of old.journal) (end_of old.journal) commit) × (len ≡ end_of old.journal) × (need ≡ added_length commit)
+  pub file_full : (len need : ℕ)
+      → halt ≡ FileFull len need
+      → IsTrue (is_beyond (limit_of old.journal) (end_of old.journal) commit) × (len ≡ end_of old.journal)
+      × (need ≡ added_length commit)
   pub beyond : IsTrue (is_beyond (limit_of old.journal) (end_of old.journal) commit) → halt ≡ DiskFault → ⊥
   -- a failure of the disk; from then on each event is answered NeedsReopen, and no other halt changes anything
   pub disk_fault : halt ≡ DiskFault → Rose (seen.faults old.disk) (seen.faults new.disk)

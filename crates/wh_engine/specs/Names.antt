@@ -6,4 +6,5 @@ use Rattle.wh_value.specs.View.{column_of}
 use Rattle.wh_value.specs.declared.column.Column.{Column}
 
 abbrev pub is_taken : List ℕ → List Column → Bool
-is_taken name columns = starts_with nat_eq name (codes "METADATA$") || list_any (λ c. bytes_eq name (column_of c).name) columns
+is_taken name columns = starts_with nat_eq name (codes "METADATA$")
+    || list_any (λ c. bytes_eq name (column_of c).name) columns

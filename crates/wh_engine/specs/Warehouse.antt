@@ -1,5 +1,6 @@
 -- What contracts say of a `Warehouse`.
---     Filed               where the disk's bytes are told, they are a file of commits that lead to what the catalog says
+--     Filed               where the disk's bytes are told, they are a file of commits that
+--                         lead to what the catalog says
 --     IsSettled           where bytes are told, a crash leaves them as they are
 --     IsUntouched         disk, journal and catalog are as they were
 --     machine_of          the machine that it is

@@ -1,4 +1,5 @@
-ghost use Rattle.std.specs.Prelude.{◌≡◌, ◌+◌, ◌<◌, ◌≤◌, ◌++◌, ℕ, List, Some, length, take, slice_get, IfOk, OnOk, IsErrOf};
+ghost use Rattle.std.specs.Prelude.{◌≡◌, ◌+◌, ◌<◌, ◌≤◌, ◌++◌, ℕ, List, Some, length, take};
+ghost use Rattle.std.specs.Prelude.{slice_get, IfOk, OnOk, IsErrOf};
 ghost use Rattle.wh_world.specs.Told.{Rose};
 ghost use Rattle.wh_world.specs.Crash.{NoOthers};
 ghost use Rattle.wh_frame.specs.File.{records_of};

@@ -13,7 +13,8 @@ fn rows_are_changed_by_statements(rt: HostRuntime) {
         ("DELETE FROM T WHERE K IS NULL", "DELETED 1\n"),
         ("INSERT INTO U VALUES (1, 11), (3, 30)", "INSERTED 2\n"),
         (
-            "MERGE INTO T USING U ON T.K = U.K WHEN MATCHED THEN UPDATE SET V = U.V WHEN NOT MATCHED THEN INSERT VALUES (U.K, U.V)",
+            "MERGE INTO T USING U ON T.K = U.K WHEN MATCHED THEN UPDATE SET V = U.V \
+             WHEN NOT MATCHED THEN INSERT VALUES (U.K, U.V)",
             "MERGED 1 INSERTED 1 UPDATED 0 DELETED\n",
         ),
         ("SELECT * FROM T", "K | V\n1 | 11\n3 | 30\n(2 rows)\n"),

@@ -1,6 +1,7 @@
 -- Columns of a row as items: their values are the row.
 --     columns_valued     all of them
-use Rattle.std.proofs.Common.{◌≡◌, ℕ, suc, Bool, true, false, List, [], ◌∷◌, ◌++◌, length, Option, Some, refl, ap, sym, ◌∙◌, append_assoc, arith, length-append}
+use Rattle.std.proofs.Common.{◌≡◌, ℕ, suc, Bool, true, false, List, [], ◌∷◌, ◌++◌, length, Option, Some, refl, ap, sym}
+use Rattle.std.proofs.Common.{◌∙◌, append_assoc, arith, length-append}
 use Rattle.std.specs.Prelude.{◌&&◌, nat_eq, slice_get, unwrap_or}
 use Rattle.std.proofs.lemmas.Bool.Decides.{nat_tests}
 use Rattle.wh_value.specs.Value.{Value, Null, Row}
@@ -21,7 +22,8 @@ both false b is = absurd cc
 tied : (a b : ℕ) → nat_eq a b ≡ true → a ≡ b
 tied a b e = grind (arith, nat_tests)
 
-column_value : (e : Scalar) (front : Row) (v : Value) (rest : Row) → is_column e (length front) ≡ true → val e (front ++ v ∷ rest) ≡ Some v
+column_value : (e : Scalar) (front : Row) (v : Value) (rest : Row) → is_column e (length front) ≡ true
+    → val e (front ++ v ∷ rest) ≡ Some v
 unfolding val
 column_value (Column place) front v rest is =
     ap (λ (n : ℕ). Some (unwrap_or (slice_get (front ++ v ∷ rest) n) Null)) (tied place (length front) is)
@@ -37,7 +39,8 @@ column_value (meaning.Or x y) front v rest is = absurd cc
 column_value (meaning.Not x) front v rest is = absurd cc
 column_value (meaning.IsNull x) front v rest is = absurd cc
 
-from_place : (es : List Scalar) (front rest : Row) → are_columns (length front) es ≡ true → length es ≡ length rest → values_on es (front ++ rest) ≡ Some rest
+from_place : (es : List Scalar) (front rest : Row) → are_columns (length front) es ≡ true → length es ≡ length rest
+    → values_on es (front ++ rest) ≡ Some rest
 unfolding values_on
 from_place [] front [] is same = refl
 from_place [] front (v ∷ rest) is same = absurd (omega (arith, same))
@@ -47,8 +50,10 @@ from_place (e ∷ es) front (v ∷ rest) is same =
     let longer : length (front ++ v ∷ []) ≡ suc (length front) = omega (arith, length-append front (v ∷ [])) in
     let rows : front ++ v ∷ rest ≡ (front ++ v ∷ []) ++ rest = sym (append_assoc front (v ∷ []) rest) in
     let others : values_on es (front ++ v ∷ rest) ≡ Some rest =
-    ap (values_on es) rows ∙ from_place es (front ++ v ∷ []) rest (ap (λ (n : ℕ). are_columns n es) longer ∙ h.1) (omega (arith, same)) in
+    ap (values_on es) rows
+    ∙ from_place es (front ++ v ∷ []) rest (ap (λ (n : ℕ). are_columns n es) longer ∙ h.1) (omega (arith, same)) in
     λ i. with_value (column_value e front v rest h.0 i) (others i)
 
-pub columns_valued : (es : List Scalar) (row : Row) → are_columns 0 es ≡ true → length es ≡ length row → values_on es row ≡ Some row
+pub columns_valued : (es : List Scalar) (row : Row) → are_columns 0 es ≡ true → length es ≡ length row
+    → values_on es row ≡ Some row
 columns_valued es row is same = from_place es [] row is same

@@ -1,4 +1,5 @@
--- Expressions as a step of other rules: what is read, what is read where it stands, and that each takes a token at least.
+-- Expressions as a step of other rules: what is read, what is read where it stands, and
+-- that each takes a token at least.
 use Rattle.std.proofs.Common.{◌≡◌, ℕ, ◌<◌, false, List, length, Some, refl, arith}
 use Rattle.wh_ast.specs.declared.expr.Expr.{Expr}
 use Rattle.wh_grammar.specs.Token.{Token}
@@ -18,7 +19,8 @@ use Rattle.wh_expr_parse.proofs.Fronts.{expr-front}
 pub expr_some : {d : ℕ} {ts us : List Token} {x : Expr} → read_expr d ts ≡ Some (x, us) → IsExprAt d ts x us
 expr_some h = read_sound _ _ _ _ h
 
-pub expr_reads : {d : ℕ} {ts us : List Token} {x : Expr} → IsExpr d ts x us → binds us ≡ 0 → read_expr d ts ≡ Some (x, us)
+pub expr_reads : {d : ℕ} {ts us : List Token} {x : Expr} → IsExpr d ts x us → binds us ≡ 0
+    → read_expr d ts ≡ Some (x, us)
 expr_reads h e = read_complete _ _ _ _ (record { expr = h; ends = e })
 
 pub expr-yields : (d : ℕ) (ts : List Token) → Yields (read_expr d ts) (IsExprAt d ts)
@@ -31,13 +33,17 @@ expr_shorter h = follows-shorter (expr-front _ _ _ _ h)
 
 pub exprs-yields : (d : ℕ) (ts : List Token) → Yields (read_exprs d ts) (AreExprs d ts)
 unfolding read_exprs
-exprs-yields d = listed-sound (read_expr d) (IsExprAt d) (AreExprs d) (expr-yields d) (λ ts us x h end. last_expr h.expr) (λ ts us vs x xs h more. more_exprs h.expr more)
+exprs-yields d = listed-sound (read_expr d) (IsExprAt d) (AreExprs d) (expr-yields d)
+    (λ ts us x h end. last_expr h.expr) (λ ts us vs x xs h more. more_exprs h.expr more)
 
-exprs-give : {d : ℕ} {ts us : List Token} {xs : List Expr} → AreExprs d ts xs us → binds us ≡ 0 → sees k.Comma us ≡ false → GivesListed (read_expr d) ts xs us
+exprs-give : {d : ℕ} {ts us : List Token} {xs : List Expr} → AreExprs d ts xs us → binds us ≡ 0
+    → sees k.Comma us ≡ false
+    → GivesListed (read_expr d) ts xs us
 exprs-give (last_expr h) e end = listed-last (expr_reads h e) (expr_shorter h) end
 exprs-give (more_exprs h more) e end = listed-more (expr_reads h refl) (expr_shorter h) (exprs-give more e end)
 
-pub exprs_read : {d : ℕ} {ts us : List Token} {xs : List Expr} → AreExprs d ts xs us → binds us ≡ 0 → sees k.Comma us ≡ false → read_exprs d ts ≡ Some (xs, us)
+pub exprs_read : {d : ℕ} {ts us : List Token} {xs : List Expr} → AreExprs d ts xs us → binds us ≡ 0
+    → sees k.Comma us ≡ false → read_exprs d ts ≡ Some (xs, us)
 unfolding read_exprs
 exprs_read h e end = listed-reads (exprs-give h e end)
 

@@ -3,7 +3,8 @@ use Rattle.std.proofs.Common.{ℕ, Bool, List}
 use Rattle.wh_ast.specs.declared.expr.Expr.{Expr}
 use Rattle.wh_grammar.specs.Token.{Token}
 use Rattle.wh_grammar.specs.Expression as g
-use Rattle.wh_grammar.specs.Expression.{IsWhole, IsAnd, IsNot, IsTest, AreItems, IsSum, IsProduct, IsUnary, IsPrim, IsExpr, IsNegation}
+use Rattle.wh_grammar.specs.Expression.{IsWhole, IsAnd, IsNot, IsTest, AreItems, IsSum, IsProduct, IsUnary, IsPrim}
+use Rattle.wh_grammar.specs.Expression.{IsExpr, IsNegation}
 use Rattle.wh_cursor.specs.Laws.{Follows}
 use Rattle.wh_cursor.proofs.Fronts.{Behind, loose, cons, on, onto, first, here, name-front}
 
@@ -28,8 +29,10 @@ mutual
   test-front (g.one_sum a) = sum-front a
   test-front (g.compared is l r) = on (sum-front l) (cons _ (loose (sum-front r)))
   test-front (g.is_null {vs = vs} a not) = on (sum-front a) (cons _ (onto (negation-front not) (cons _ (here vs))))
-  test-front (g.among {ws = ws} a not items) = on (sum-front a) (onto (negation-front not) (cons _ (cons _ (onto (loose (items-front items)) (cons _ (here ws))))))
-  test-front (g.between a not b c) = on (sum-front a) (onto (negation-front not) (cons _ (onto (loose (sum-front b)) (cons _ (loose (sum-front c))))))
+  test-front (g.among {ws = ws} a not items) = on (sum-front a)
+      (onto (negation-front not) (cons _ (cons _ (onto (loose (items-front items)) (cons _ (here ws))))))
+  test-front (g.between a not b c) =
+      on (sum-front a) (onto (negation-front not) (cons _ (onto (loose (sum-front b)) (cons _ (loose (sum-front c))))))
 
   items-front : {d n : ℕ} {ts us : List Token} {xs : List Expr} → AreItems d n ts xs us → Follows ts us
   items-front (g.last_item a) = whole-front a

@@ -8,7 +8,8 @@ use Rattle.wh_expr_parse.specs.State.{State, next, Reader, spend}
 use Rattle.wh_cursor.specs.Steps.{sees}
 use Rattle.wh_expr_parse.specs.Read.{items_from}
 
-pub one_item : (inner : Level → Reader Expr) (n : ℕ) (found : List Expr) (s t u : State) (x : Expr) → spend s ≡ Some (tt, t) → inner Whole t ≡ Some (x, u)
-    → sees k.Comma u.left ≡ true → items_from inner (suc n) found s ≡ items_from inner n (found ++ x ∷ []) (next u)
+pub one_item : (inner : Level → Reader Expr) (n : ℕ) (found : List Expr) (s t u : State) (x : Expr)
+    → spend s ≡ Some (tt, t) → inner Whole t ≡ Some (x, u) → sees k.Comma u.left ≡ true
+    → items_from inner (suc n) found s ≡ items_from inner n (found ++ x ∷ []) (next u)
 unfolding items_from
 one_item inner n found s t u x one read comma = rw (one, read, comma) refl

@@ -1,5 +1,6 @@
 -- What each step of a rule leaves, where it reads.
-use Rattle.std.proofs.Common.{◌≡◌, ℕ, suc, ◌+◌, ◌-◌, ◌==◌, Bool, true, false, List, Some, None, refl, arith, if◌then◌else◌}
+use Rattle.std.proofs.Common.{◌≡◌, ℕ, suc, ◌+◌, ◌-◌, ◌==◌, Bool, true, false, List, Some, None}
+use Rattle.std.proofs.Common.{refl, arith, if◌then◌else◌}
 use Rattle.std.proofs.lemmas.Bool.Decides.{Decides-eqb, not_from_Decides}
 use Rattle.wh_grammar.specs.Token.{Token}
 use Rattle.wh_cursor.specs.declared.key.Key.{Key}
@@ -8,7 +9,8 @@ use Rattle.wh_cursor.specs.Steps.{and_then, sees}
 use Rattle.wh_cursor.proofs.Yields.{Is, Yields}
 use Rattle.wh_cursor.proofs.KeyLemmas.{fixed, Heads, heads}
 
-expect_by : {B : Type 0} (r : Bool) (s : State) (f : Unit {0} → Reader B) (Q : B → State → Type 0) → (r ≡ true → Yields (f tt (next s)) Q)
+expect_by : {B : Type 0} (r : Bool) (s : State) (f : Unit {0} → Reader B) (Q : B → State → Type 0)
+    → (r ≡ true → Yields (f tt (next s)) Q)
     → Is Q (and_then (if r then Some (tt, next s) else None) f)
 expect_by true s f Q k = (k refl).is
 expect_by false s f Q k = tt
@@ -42,7 +44,8 @@ if_eaten key s f {Q = Q} yes_ no_ = by (sees key s.left) (λ r. yes_ (heads key 
     by false k = no_
 
 -- so many were counted in between
-pub record Took {A : Type 0} (P : ℕ → List Token → A → List Token → Type 0) (s : State) (x : A) (t : State) : Type 0 where
+pub record Took {A : Type 0} (P : ℕ → List Token → A → List Token → Type 0)
+    (s : State) (x : A) (t : State) : Type 0 where
   pub count : ℕ
   pub spent : s.room ≡ count + t.room
   pub is : P count s.left x t.left

@@ -1,5 +1,6 @@
 -- What each step of a rule reads, where its tokens stand.
-use Rattle.std.proofs.Common.{◌≡◌, ℕ, zero, suc, ◌+◌, ◌-◌, ◌<◌, ◌≤◌, ◌==◌, Bool, true, false, not, ◌&&◌, List, [], ◌∷◌, ◌++◌, Some, None, refl, sym, ap, ◌∙◌, subst, append_assoc, ne_eqb, bytes_eq, rules, arith}
+use Rattle.std.proofs.Common.{◌≡◌, ℕ, zero, suc, ◌+◌, ◌-◌, ◌<◌, ◌≤◌, ◌==◌, Bool, true, false, not, ◌&&◌, List, [], ◌∷◌}
+use Rattle.std.proofs.Common.{◌++◌, Some, None, refl, sym, ap, ◌∙◌, subst, append_assoc, ne_eqb, bytes_eq, rules, arith}
 use Rattle.std.specs.Prelude.{codes}
 use denote.Enum.Bare.{same_true}
 use Rattle.wh_value.specs.declared.comparison.Comparison.{Comparison}
@@ -25,7 +26,10 @@ use Rattle.wh_cursor.specs.Keys.{key_of, key_binds, same_key}
 use Rattle.wh_expr_parse.specs.Operators.{joins}
 use Rattle.wh_expr_parse.specs.State.{State, at, next, Reader, expect, spend}
 use Rattle.wh_cursor.specs.Steps.{tail, sees}
-use Rattle.wh_expr_parse.specs.Read.{read_literal, column_of, column, turns, chain, parenthesized, sum_call, count_by, count_call, primary, negative, unary, product, sum, compared, null_test, items_from, items, among, between, negated_test, test_by, predicate, not_test, negation, conjunction, whole}
+use Rattle.wh_expr_parse.specs.Read.{read_literal, column_of, column, turns, chain, parenthesized, sum_call, count_by}
+use Rattle.wh_expr_parse.specs.Read.{count_call, primary, negative, unary, product, sum, compared, null_test}
+use Rattle.wh_expr_parse.specs.Read.{items_from, items, among, between, negated_test, test_by, predicate, not_test}
+use Rattle.wh_expr_parse.specs.Read.{negation, conjunction, whole}
 use Rattle.wh_cursor.proofs.Names.{name-complete}
 use Rattle.wh_cursor.proofs.KeyLemmas.{binds_key, heads}
 
@@ -42,7 +46,8 @@ spend-some us room left h =
     let less : room - 1 ≡ left = omega (arith, h) in
     rw (some, less) refl
 
-pub expect-some : (key : Key) (ts : List Token) (room : ℕ) → sees key ts ≡ true → expect key (at ts room) ≡ Some (tt, at (tail ts) room)
+pub expect-some : (key : Key) (ts : List Token) (room : ℕ) → sees key ts ≡ true
+    → expect key (at ts room) ≡ Some (tt, at (tail ts) room)
 unfolding expect
 expect-some key ts room h = rw h refl
 
@@ -60,7 +65,8 @@ not_seen key us h = by (same_key (key_of us) key) refl
 pub joins-none : (level : ℕ) (us : List Token) → binds us < level → joins level (key_of us) ≡ None
 unfolding joins
 joins-none level us h =
-    let other : (key_binds (key_of us) == level) ≡ false = ne_eqb (key_binds (key_of us)) level (λ same. let b = binds_key us in omega (arith, h, same, b)) in
+    let other : (key_binds (key_of us) == level) ≡ false =
+    ne_eqb (key_binds (key_of us)) level (λ same. let b = binds_key us in omega (arith, h, same, b)) in
     rw other refl
 
 -- ---- names and columns
@@ -69,7 +75,8 @@ dot-seen : (us : List Token) → sees k.Dot (SignToken token.Dot ∷ us) ≡ tru
 unfolding sees same_key key_of
 dot-seen us = refl
 
-pub column-gives : {ts us : List Token} {name : List ℕ} → IsName ts name us → binds us < 6 → Gives column 0 ts (e.Column None name) us
+pub column-gives : {ts us : List Token} {name : List ℕ} → IsName ts name us → binds us < 6
+    → Gives column 0 ts (e.Column None name) us
 unfolding column column_of
 column-gives {us = us} h end = record {
   run = λ room left i.
@@ -77,7 +84,8 @@ column-gives {us = us} h end = record {
       rw (name-complete h, not_seen k.Dot us end, same) refl;
 }
 
-pub column_of-gives : {ts us vs : List Token} {entry name : List ℕ} → IsName ts entry (SignToken token.Dot ∷ us) → IsName us name vs
+pub column_of-gives : {ts us vs : List Token} {entry name : List ℕ} → IsName ts entry (SignToken token.Dot ∷ us)
+    → IsName us name vs
     → Gives column 0 ts (e.Column (Some entry) name) vs
 unfolding column column_of
 column_of-gives {us = us} h l = record {
@@ -95,7 +103,8 @@ data Named (ts : List Token) : Type 0 where
 opened : (us : List Token) → sees k.LParen us ≡ true → opens us ≡ true
 opened us h = let front = heads k.LParen us h in rw front refl
 
-word-named : (w : List ℕ) (us : List Token) → is_reserved w ≡ false → (is_call w && opens us) ≡ false → Named (Word w ∷ us)
+word-named : (w : List ℕ) (us : List Token) → is_reserved w ≡ false → (is_call w && opens us) ≡ false
+    → Named (Word w ∷ us)
 unfolding key_of is_call
 word-named w us r c = by (bytes_eq w (codes "SUM")) (bytes_eq w (codes "COUNT")) refl refl
   where
@@ -104,7 +113,8 @@ word-named w us r c = by (bytes_eq w (codes "SUM")) (bytes_eq w (codes "COUNT"))
       where
         by_seen : (b : Bool) → sees k.LParen us ≡ b → b ≡ false
         by_seen false is = refl
-        by_seen true is = absurd (let open_ = opened us is in let both : (true && true) ≡ false = rw (call, open_) at c in cc)
+        by_seen true is =
+            absurd (let open_ = opened us is in let both : (true && true) ≡ false = rw (call, open_) at c in cc)
 
     by : (a b : Bool) → bytes_eq w (codes "SUM") ≡ a → bytes_eq w (codes "COUNT") ≡ b → Named (Word w ∷ us)
     by true b ea eb = sum_name (rw (r, ea) refl) (none (rw ea refl))
@@ -119,24 +129,29 @@ named quoted = plain_name refl
 -- ---- the rules, over what stands inside
 
 module _ (inner : Level → Reader Expr) where
-  name-primary : {n : ℕ} {ts us : List Token} {x : Expr} → Named ts → Gives column n ts x us → Gives (primary inner) n ts x us
+  name-primary : {n : ℕ} {ts us : List Token} {x : Expr} → Named ts → Gives column n ts x us
+      → Gives (primary inner) n ts x us
   unfolding primary
   name-primary (plain_name is) h = record { run = λ room left i. rw is (h.run room left i) }
   name-primary (sum_name is other) h = record { run = λ room left i. rw (is, other) (h.run room left i) }
   name-primary (count_name is other) h = record { run = λ room left i. rw (is, other) (h.run room left i) }
 
-  pub column-primary : {ts us : List Token} {name : List ℕ} → IsName ts name us → binds us < 6 → Gives (primary inner) 0 ts (e.Column None name) us
+  pub column-primary : {ts us : List Token} {name : List ℕ} → IsName ts name us → binds us < 6
+      → Gives (primary inner) 0 ts (e.Column None name) us
   column-primary h end = name-primary (named h) (column-gives h end)
 
-  pub column_of-primary : {ts us vs : List Token} {entry name : List ℕ} → IsName ts entry (SignToken token.Dot ∷ us) → IsName us name vs
+  pub column_of-primary : {ts us vs : List Token} {entry name : List ℕ} → IsName ts entry (SignToken token.Dot ∷ us)
+      → IsName us name vs
       → Gives (primary inner) 0 ts (e.Column (Some entry) name) vs
   column_of-primary h l = name-primary (named h) (column_of-gives h l)
 
-  pub number-primary : (n : ℕ) (us : List Token) → Gives (primary inner) 0 (NumberToken n ∷ us) (e.Const (v.Number (pos n))) us
+  pub number-primary : (n : ℕ) (us : List Token)
+      → Gives (primary inner) 0 (NumberToken n ∷ us) (e.Const (v.Number (pos n))) us
   unfolding primary key_of read_literal
   number-primary n us = record { run = λ room left i. let same : room ≡ left = omega (arith, i) in rw same refl }
 
-  pub text-primary : (bytes : List ℕ) (us : List Token) → Gives (primary inner) 0 (TextToken bytes ∷ us) (e.Const (v.Text bytes)) us
+  pub text-primary : (bytes : List ℕ) (us : List Token)
+      → Gives (primary inner) 0 (TextToken bytes ∷ us) (e.Const (v.Text bytes)) us
   unfolding primary key_of read_literal
   text-primary bytes us = record { run = λ room left i. let same : room ≡ left = omega (arith, i) in rw same refl }
 
@@ -144,7 +159,8 @@ module _ (inner : Level → Reader Expr) where
   unfolding primary key_of is_reserved
   true-primary us = record { run = λ room left i. let same : room ≡ left = omega (arith, i) in rw same refl }
 
-  pub false-primary : (us : List Token) → Gives (primary inner) 0 (Word (codes "FALSE") ∷ us) (e.Const (v.Bool false)) us
+  pub false-primary : (us : List Token)
+      → Gives (primary inner) 0 (Word (codes "FALSE") ∷ us) (e.Const (v.Bool false)) us
   unfolding primary key_of is_reserved
   false-primary us = record { run = λ room left i. let same : room ≡ left = omega (arith, i) in rw same refl }
 
@@ -160,11 +176,17 @@ module _ (inner : Level → Reader Expr) where
   unfolding sees same_key key_of
   open-seen us = refl
 
-  pub parenthesized-gives : {n : ℕ} {ts us : List Token} {x : Expr} → Gives (inner Whole) n ts x (SignToken token.RParen ∷ us) → Gives (parenthesized inner) n ts x us
+  pub parenthesized-gives : {n : ℕ} {ts us : List Token} {x : Expr}
+      → Gives (inner Whole) n ts x (SignToken token.RParen ∷ us)
+      → Gives (parenthesized inner) n ts x us
   unfolding parenthesized
-  parenthesized-gives {us = us} h = record { run = λ room left i. rw (h.run room left i, expect-some k.RParen (SignToken token.RParen ∷ us) left (close-seen us)) refl }
+  parenthesized-gives {us = us} h = record {
+    run = λ room left i.
+        rw (h.run room left i, expect-some k.RParen (SignToken token.RParen ∷ us) left (close-seen us)) refl;
+  }
 
-  pub parenthesized-primary : {n : ℕ} {ts us : List Token} {x : Expr} → Gives (inner Whole) n ts x (SignToken token.RParen ∷ us)
+  pub parenthesized-primary : {n : ℕ} {ts us : List Token} {x : Expr}
+      → Gives (inner Whole) n ts x (SignToken token.RParen ∷ us)
       → Gives (primary inner) n (SignToken token.LParen ∷ ts) x us
   unfolding primary key_of
   parenthesized-primary h = record { run = λ room left i. (parenthesized-gives h).run room left i }
@@ -172,25 +194,35 @@ module _ (inner : Level → Reader Expr) where
   pub sum-primary : {n : ℕ} {ts us : List Token} {x : Expr} → Gives (inner Whole) n ts x (SignToken token.RParen ∷ us)
       → Gives (primary inner) n (Word (codes "SUM") ∷ SignToken token.LParen ∷ ts) (e.Sum x) us
   unfolding primary sum_call key_of is_reserved
-  sum-primary {ts = ts} h = record { run = λ room left i. rw (open-seen ts, (parenthesized-gives h).run room left i) refl }
+  sum-primary {ts = ts} h =
+      record { run = λ room left i. rw (open-seen ts, (parenthesized-gives h).run room left i) refl }
 
-  pub count-primary : {n : ℕ} {ts us : List Token} {x : Expr} → sees k.Star ts ≡ false → Gives (inner Whole) n ts x (SignToken token.RParen ∷ us)
+  pub count-primary : {n : ℕ} {ts us : List Token} {x : Expr} → sees k.Star ts ≡ false
+      → Gives (inner Whole) n ts x (SignToken token.RParen ∷ us)
       → Gives (primary inner) n (Word (codes "COUNT") ∷ SignToken token.LParen ∷ ts) (e.Count x) us
   unfolding primary count_call count_by key_of is_reserved
-  count-primary {ts = ts} star h = record { run = λ room left i. rw (open-seen ts, star, (parenthesized-gives h).run room left i) refl }
+  count-primary {ts = ts} star h =
+      record { run = λ room left i. rw (open-seen ts, star, (parenthesized-gives h).run room left i) refl }
 
   star-seen : (us : List Token) → sees k.Star (SignToken token.Star ∷ us) ≡ true
   unfolding sees same_key key_of
   star-seen us = refl
 
   pub rows-primary : {us : List Token} → ((s : State) → inner Rows s ≡ Some (e.CountRows, next s))
-      → Gives (primary inner) 0 (Word (codes "COUNT") ∷ SignToken token.LParen ∷ SignToken token.Star ∷ SignToken token.RParen ∷ us) e.CountRows us
+      → Gives (primary inner) 0 (Word (codes "COUNT") ∷ SignToken token.LParen ∷ SignToken token.Star
+      ∷ SignToken token.RParen ∷ us) e.CountRows us
   unfolding primary count_call count_by key_of is_reserved
   rows-primary {us = us} h = record {
     run = λ room left i.
         let same : room ≡ left = omega (arith, i) in
         let rest : List Token = SignToken token.RParen ∷ us in
-        rw (open-seen (SignToken token.Star ∷ rest), star-seen rest, h (at (SignToken token.Star ∷ rest) room), expect-some k.RParen rest room (close-seen us), same) refl;
+        rw (
+          open-seen (SignToken token.Star ∷ rest),
+          star-seen rest,
+          h (at (SignToken token.Star ∷ rest) room),
+          expect-some k.RParen rest room (close-seen us),
+          same,
+        ) refl;
   }
 
   -- ---- minus signs and NOT
@@ -199,7 +231,8 @@ module _ (inner : Level → Reader Expr) where
   unfolding sees same_key key_of
   minus-seen us = refl
 
-  pub negative-gives : {n : ℕ} {ts us : List Token} {x : Expr} → Gives (inner Unary) n ts x us → Gives (unary inner) (suc n) (SignToken token.Minus ∷ ts) (e.Neg x) us
+  pub negative-gives : {n : ℕ} {ts us : List Token} {x : Expr} → Gives (inner Unary) n ts x us
+      → Gives (unary inner) (suc n) (SignToken token.Minus ∷ ts) (e.Neg x) us
   unfolding unary negative
   negative-gives {n = n} {ts = ts} h = record {
     run = λ room left i.
@@ -210,7 +243,8 @@ module _ (inner : Level → Reader Expr) where
   unfolding sees same_key key_of is_reserved
   not-seen us = refl
 
-  pub not-gives : {n : ℕ} {ts us : List Token} {x : Expr} → Gives (inner Negation) n ts x us → Gives (negation inner) (suc n) (Word (codes "NOT") ∷ ts) (e.Not x) us
+  pub not-gives : {n : ℕ} {ts us : List Token} {x : Expr} → Gives (inner Negation) n ts x us
+      → Gives (negation inner) (suc n) (Word (codes "NOT") ∷ ts) (e.Not x) us
   unfolding negation not_test
   not-gives {n = n} {ts = ts} h = record {
     run = λ room left i.
@@ -235,22 +269,26 @@ module _ (inner : Level → Reader Expr) where
   unfolding whole conjunction negation predicate sum product unary primary sees same_key
   refuses-star ts room h = rw h (rw h (rw h refl))
 
-  unseen : {A : Type 0} {r : Reader A} (key : Key) {n : ℕ} {ts us : List Token} {x : A} → ((room : ℕ) → key_of ts ≡ key → r (at ts room) ≡ None) → Gives r n ts x us
+  unseen : {A : Type 0} {r : Reader A} (key : Key) {n : ℕ} {ts us : List Token} {x : A}
+      → ((room : ℕ) → key_of ts ≡ key → r (at ts room) ≡ None) → Gives r n ts x us
       → sees key ts ≡ false
   unfolding sees same_key
   unseen {r = r} key {n = n} {ts = ts} f h = by (same_key (key_of ts) key) refl
     where
       by : (b : Bool) → same_key (key_of ts) key ≡ b → b ≡ false
       by false is = refl
-      by true is = absurd (let none = f (n + 0) (same_true the_type (search rules) (key_of ts) key is) in let some = h.run (n + 0) 0 refl in let both = sym none ∙ some in cc)
+      by true is = absurd (let none = f (n + 0) (same_true the_type (search rules) (key_of ts) key is) in
+          let some = h.run (n + 0) 0 refl in let both = sym none ∙ some in cc)
 
-  pub primary-unary : {n : ℕ} {ts us : List Token} {x : Expr} → Gives (primary inner) n ts x us → Gives (unary inner) n ts x us
+  pub primary-unary : {n : ℕ} {ts us : List Token} {x : Expr} → Gives (primary inner) n ts x us
+      → Gives (unary inner) n ts x us
   unfolding unary
   primary-unary {ts = ts} h =
       let other = unseen k.Minus (refuses-minus ts) h in
       record { run = λ room left i. rw other (h.run room left i) }
 
-  pub test-negation : {n : ℕ} {ts us : List Token} {x : Expr} → Gives (predicate inner) n ts x us → Gives (negation inner) n ts x us
+  pub test-negation : {n : ℕ} {ts us : List Token} {x : Expr} → Gives (predicate inner) n ts x us
+      → Gives (negation inner) n ts x us
   unfolding negation
   test-negation {ts = ts} h =
       let other = unseen k.Not (refuses-not ts) h in
@@ -274,7 +312,8 @@ module _ (inner : Level → Reader Expr) where
   no_test k.Not x s h = absurd (omega (arith, h))
   no_test _ x s h = refl
 
-  pub sum-test : {n : ℕ} {ts us : List Token} {x : Expr} → Gives (sum inner) n ts x us → binds us < 3 → Gives (predicate inner) n ts x us
+  pub sum-test : {n : ℕ} {ts us : List Token} {x : Expr} → Gives (sum inner) n ts x us → binds us < 3
+      → Gives (predicate inner) n ts x us
   unfolding predicate
   sum-test {us = us} {x = x} h end = record {
     run = λ room left i.
@@ -282,7 +321,8 @@ module _ (inner : Level → Reader Expr) where
         rw (h.run room left i, no_test (key_of us) x (at us left) low) refl;
   }
 
-  compared-gives : {n : ℕ} {us vs : List Token} {y : Expr} {t : Token} (x : Expr) (comparison : Comparison) → Gives (sum inner) n us y vs
+  compared-gives : {n : ℕ} {us vs : List Token} {y : Expr} {t : Token} (x : Expr) (comparison : Comparison)
+      → Gives (sum inner) n us y vs
       → Gives (compared inner x comparison) (suc n) (t ∷ us) (e.Binary (o.Compare comparison) x y) vs
   unfolding compared
   compared-gives {n = n} {us = us} x comparison h = record {
@@ -290,13 +330,16 @@ module _ (inner : Level → Reader Expr) where
         rw (spend-some us room (n + left) (omega (arith, i)), h.run (n + left) left refl) refl;
   }
 
-  pub compared-test : {m n : ℕ} {ts us vs : List Token} {x y : Expr} {s : token.Sign} {comparison : Comparison} → IsComparison s comparison
-      → Gives (sum inner) m ts x (SignToken s ∷ us) → Gives (sum inner) n us y vs → Gives (predicate inner) (suc (m + n)) ts (e.Binary (o.Compare comparison) x y) vs
+  pub compared-test : {m n : ℕ} {ts us vs : List Token} {x y : Expr} {s : token.Sign} {comparison : Comparison}
+      → IsComparison s comparison → Gives (sum inner) m ts x (SignToken s ∷ us) → Gives (sum inner) n us y vs
+      → Gives (predicate inner) (suc (m + n)) ts (e.Binary (o.Compare comparison) x y) vs
   unfolding predicate key_of
-  compared-test {n = n} {us = us} {vs = vs} {x = x} {y = y} is h l = record { run = λ room left i. rw (h.run room (suc n + left) (omega (arith, i))) (by is left) }
+  compared-test {n = n} {us = us} {vs = vs} {x = x} {y = y} is h l =
+      record { run = λ room left i. rw (h.run room (suc n + left) (omega (arith, i))) (by is left) }
     where
       by : {s : token.Sign} {c : Comparison} → IsComparison s c → (left : ℕ)
-          → test_by inner x (key_of (SignToken s ∷ us)) (at (SignToken s ∷ us) (suc n + left)) ≡ Some (e.Binary (o.Compare c) x y, at vs left)
+          → test_by inner x (key_of (SignToken s ∷ us)) (at (SignToken s ∷ us) (suc n + left))
+          ≡ Some (e.Binary (o.Compare c) x y, at vs left)
       by g.equal left = (compared-gives x _ l).run (suc n + left) left refl
       by g.unequal left = (compared-gives x _ l).run (suc n + left) left refl
       by g.less left = (compared-gives x _ l).run (suc n + left) left refl
@@ -312,23 +355,36 @@ module _ (inner : Level → Reader Expr) where
   unfolding sees same_key key_of is_reserved
   not-null us = refl
 
-  null_test-gives : {us vs : List Token} {negated : Bool} {t : Token} (x : Expr) → IsNegation negated us (Word (codes "NULL") ∷ vs)
+  null_test-gives : {us vs : List Token} {negated : Bool} {t : Token} (x : Expr)
+      → IsNegation negated us (Word (codes "NULL") ∷ vs)
       → Gives (null_test inner x) 1 (t ∷ us) (e.IsNull negated x) vs
   unfolding null_test
   null_test-gives {vs = vs} x is = by is refl
     where
-      by : {us ws : List Token} {negated : Bool} {t : Token} → IsNegation negated us ws → ws ≡ Word (codes "NULL") ∷ vs → Gives (null_test inner x) 1 (t ∷ us) (e.IsNull negated x) vs
+      by : {us ws : List Token} {negated : Bool} {t : Token} → IsNegation negated us ws → ws ≡ Word (codes "NULL") ∷ vs
+          → Gives (null_test inner x) 1 (t ∷ us) (e.IsNull negated x) vs
       by (g.negated {us}) same = record {
         run = λ room left i.
-            rw (not-seen us, same, expect-some k.Null (Word (codes "NULL") ∷ vs) room (null-seen vs), spend-some vs room left (omega (arith, i))) refl;
+            rw (
+              not-seen us,
+              same,
+              expect-some k.Null (Word (codes "NULL") ∷ vs) room (null-seen vs),
+              spend-some vs room left (omega (arith, i)),
+            ) refl;
       }
       by g.plain same = record {
         run = λ room left i.
-            rw (same, not-null vs, expect-some k.Null (Word (codes "NULL") ∷ vs) room (null-seen vs), spend-some vs room left (omega (arith, i))) refl;
+            rw (
+              same,
+              not-null vs,
+              expect-some k.Null (Word (codes "NULL") ∷ vs) room (null-seen vs),
+              spend-some vs room left (omega (arith, i)),
+            ) refl;
       }
 
-  pub null-test : {n : ℕ} {ts us vs : List Token} {x : Expr} {negated : Bool} → Gives (sum inner) n ts x (Word (codes "IS") ∷ us)
-      → IsNegation negated us (Word (codes "NULL") ∷ vs) → Gives (predicate inner) (suc n) ts (e.IsNull negated x) vs
+  pub null-test : {n : ℕ} {ts us vs : List Token} {x : Expr} {negated : Bool}
+      → Gives (sum inner) n ts x (Word (codes "IS") ∷ us) → IsNegation negated us (Word (codes "NULL") ∷ vs)
+      → Gives (predicate inner) (suc n) ts (e.IsNull negated x) vs
   unfolding predicate key_of is_reserved
   null-test {n = n} {x = x} h not = record {
     run = λ room left i.
@@ -337,42 +393,58 @@ module _ (inner : Level → Reader Expr) where
 
   -- ---- IN and BETWEEN
 
-  in-behind : {vs ws : List Token} {n : ℕ} {y : Expr} (x : Expr) → Gives (among inner true x) n (Word (codes "IN") ∷ vs) y ws → Gives (negated_test inner x) n (Word (codes "NOT") ∷ Word (codes "IN") ∷ vs) y ws
+  in-behind : {vs ws : List Token} {n : ℕ} {y : Expr} (x : Expr)
+      → Gives (among inner true x) n (Word (codes "IN") ∷ vs) y ws
+      → Gives (negated_test inner x) n (Word (codes "NOT") ∷ Word (codes "IN") ∷ vs) y ws
   unfolding negated_test key_of is_reserved
   in-behind x h = record { run = λ room left i. h.run room left i }
 
-  between-behind : {vs ws : List Token} {n : ℕ} {y : Expr} (x : Expr) → Gives (between inner true x) n (Word (codes "BETWEEN") ∷ vs) y ws
+  between-behind : {vs ws : List Token} {n : ℕ} {y : Expr} (x : Expr)
+      → Gives (between inner true x) n (Word (codes "BETWEEN") ∷ vs) y ws
       → Gives (negated_test inner x) n (Word (codes "NOT") ∷ Word (codes "BETWEEN") ∷ vs) y ws
   unfolding negated_test key_of is_reserved
   between-behind x h = record { run = λ room left i. h.run room left i }
 
-  behind-sum : {m n : ℕ} {ts us vs : List Token} {x y : Expr} → Gives (sum inner) m ts x us → Gives (test_by inner x (key_of us)) n us y vs → Gives (predicate inner) (m + n) ts y vs
+  behind-sum : {m n : ℕ} {ts us vs : List Token} {x y : Expr} → Gives (sum inner) m ts x us
+      → Gives (test_by inner x (key_of us)) n us y vs
+      → Gives (predicate inner) (m + n) ts y vs
   unfolding predicate
-  behind-sum {n = n} h l = record { run = λ room left i. rw (h.run room (n + left) (omega (arith, i))) (l.run (n + left) left refl) }
+  behind-sum {n = n} h l =
+      record { run = λ room left i. rw (h.run room (n + left) (omega (arith, i))) (l.run (n + left) left refl) }
 
-  in-tests : {us vs ws : List Token} {n : ℕ} {y : Expr} {negated : Bool} (x : Expr) → IsNegation negated us (Word (codes "IN") ∷ vs)
-      → Gives (among inner negated x) n (Word (codes "IN") ∷ vs) y ws → Gives (test_by inner x (key_of us)) n us y ws
+  in-tests : {us vs ws : List Token} {n : ℕ} {y : Expr} {negated : Bool} (x : Expr)
+      → IsNegation negated us (Word (codes "IN") ∷ vs) → Gives (among inner negated x) n (Word (codes "IN") ∷ vs) y ws
+      → Gives (test_by inner x (key_of us)) n us y ws
   unfolding key_of is_reserved
   in-tests {vs = vs} {ws = ws} {n = n} {y = y} x not h = by not refl h
     where
       by : {us rs : List Token} {negated : Bool} → IsNegation negated us rs → rs ≡ Word (codes "IN") ∷ vs
-          → Gives (among inner negated x) n (Word (codes "IN") ∷ vs) y ws → Gives (test_by inner x (key_of us)) n us y ws
-      by (g.negated {us}) same h = subst (λ (rs : List Token). Gives (negated_test inner x) n (Word (codes "NOT") ∷ rs) y ws) (sym same) (in-behind x h)
+          → Gives (among inner negated x) n (Word (codes "IN") ∷ vs) y ws
+          → Gives (test_by inner x (key_of us)) n us y ws
+      by (g.negated {us}) same h =
+          subst (λ (rs : List Token). Gives (negated_test inner x) n (Word (codes "NOT") ∷ rs) y ws)
+          (sym same) (in-behind x h)
       by (g.plain {us}) same h = subst (λ (rs : List Token). Gives (test_by inner x (key_of rs)) n rs y ws) (sym same) h
 
-  between-tests : {us vs ws : List Token} {n : ℕ} {y : Expr} {negated : Bool} (x : Expr) → IsNegation negated us (Word (codes "BETWEEN") ∷ vs)
-      → Gives (between inner negated x) n (Word (codes "BETWEEN") ∷ vs) y ws → Gives (test_by inner x (key_of us)) n us y ws
+  between-tests : {us vs ws : List Token} {n : ℕ} {y : Expr} {negated : Bool} (x : Expr)
+      → IsNegation negated us (Word (codes "BETWEEN") ∷ vs)
+      → Gives (between inner negated x) n (Word (codes "BETWEEN") ∷ vs) y ws
+      → Gives (test_by inner x (key_of us)) n us y ws
   unfolding key_of is_reserved
   between-tests {vs = vs} {ws = ws} {n = n} {y = y} x not h = by not refl h
     where
       by : {us rs : List Token} {negated : Bool} → IsNegation negated us rs → rs ≡ Word (codes "BETWEEN") ∷ vs
-          → Gives (between inner negated x) n (Word (codes "BETWEEN") ∷ vs) y ws → Gives (test_by inner x (key_of us)) n us y ws
-      by (g.negated {us}) same h = subst (λ (rs : List Token). Gives (negated_test inner x) n (Word (codes "NOT") ∷ rs) y ws) (sym same) (between-behind x h)
+          → Gives (between inner negated x) n (Word (codes "BETWEEN") ∷ vs) y ws
+          → Gives (test_by inner x (key_of us)) n us y ws
+      by (g.negated {us}) same h =
+          subst (λ (rs : List Token). Gives (negated_test inner x) n (Word (codes "NOT") ∷ rs) y ws)
+          (sym same) (between-behind x h)
       by (g.plain {us}) same h = subst (λ (rs : List Token). Gives (test_by inner x (key_of rs)) n rs y ws) (sym same) h
 
   -- items behind those so far
   pub record GivesItems (n : ℕ) (ts : List Token) (xs : List Expr) (us : List Token) : Type 0 where
-    pub run : (fuel : ℕ) (found : List Expr) (room left : ℕ) → room ≡ n + left → room ≤ fuel → items_from inner fuel found (at ts room) ≡ Some (found ++ xs, at us left)
+    pub run : (fuel : ℕ) (found : List Expr) (room left : ℕ) → room ≡ n + left → room ≤ fuel
+        → items_from inner fuel found (at ts room) ≡ Some (found ++ xs, at us left)
 
   comma-seen : (us : List Token) → sees k.Comma (SignToken token.Comma ∷ us) ≡ true
   unfolding sees same_key key_of
@@ -382,26 +454,37 @@ module _ (inner : Level → Reader Expr) where
   unfolding sees same_key key_of
   comma-none us = refl
 
-  pub last-item : {n : ℕ} {ts us : List Token} {x : Expr} → Gives (inner Whole) n ts x us → sees k.Comma us ≡ false → GivesItems (suc n) ts (x ∷ []) us
+  pub last-item : {n : ℕ} {ts us : List Token} {x : Expr} → Gives (inner Whole) n ts x us → sees k.Comma us ≡ false
+      → GivesItems (suc n) ts (x ∷ []) us
   unfolding items_from
   last-item {n} {ts} {us} {x} h end = record { run = by }
     where
-      by : (fuel : ℕ) (found : List Expr) (room left : ℕ) → room ≡ suc n + left → room ≤ fuel → items_from inner fuel found (at ts room) ≡ Some (found ++ x ∷ [], at us left)
+      by : (fuel : ℕ) (found : List Expr) (room left : ℕ) → room ≡ suc n + left → room ≤ fuel
+          → items_from inner fuel found (at ts room) ≡ Some (found ++ x ∷ [], at us left)
       by zero found room left i few = absurd (omega (arith, i, few))
-      by (suc fuel) found room left i few = rw (spend-some ts room (n + left) (omega (arith, i)), h.run (n + left) left refl, end) refl
+      by (suc fuel) found room left i few =
+          rw (spend-some ts room (n + left) (omega (arith, i)), h.run (n + left) left refl, end) refl
 
-  pub more-items : {m n : ℕ} {ts us vs : List Token} {x : Expr} {xs : List Expr} → Gives (inner Whole) m ts x (SignToken token.Comma ∷ us) → GivesItems n us xs vs
+  pub more-items : {m n : ℕ} {ts us vs : List Token} {x : Expr} {xs : List Expr}
+      → Gives (inner Whole) m ts x (SignToken token.Comma ∷ us) → GivesItems n us xs vs
       → GivesItems (suc (m + n)) ts (x ∷ xs) vs
   unfolding items_from
   more-items {m} {n} {ts} {us} {vs} {x} {xs} h l = record { run = by }
     where
-      by : (fuel : ℕ) (found : List Expr) (room left : ℕ) → room ≡ suc (m + n) + left → room ≤ fuel → items_from inner fuel found (at ts room) ≡ Some (found ++ x ∷ xs, at vs left)
+      by : (fuel : ℕ) (found : List Expr) (room left : ℕ) → room ≡ suc (m + n) + left → room ≤ fuel
+          → items_from inner fuel found (at ts room) ≡ Some (found ++ x ∷ xs, at vs left)
       by zero found room left i few = absurd (omega (arith, i, few))
       by (suc fuel) found room left i few =
-          rw (spend-some ts room (m + (n + left)) (omega (arith, i)), h.run (m + (n + left)) (n + left) refl, comma-seen us)
-          (l.run fuel (found ++ x ∷ []) (n + left) left refl (omega (arith, i, few)) ∙ ap (λ (ys : List Expr). Some (ys, at vs left)) (append_assoc found (x ∷ []) xs))
+          rw (
+            spend-some ts room (m + (n + left)) (omega (arith, i)),
+            h.run (m + (n + left)) (n + left) refl,
+            comma-seen us,
+          )
+          (l.run fuel (found ++ x ∷ []) (n + left) left refl (omega (arith, i, few))
+          ∙ ap (λ (ys : List Expr). Some (ys, at vs left)) (append_assoc found (x ∷ []) xs))
 
-  among-gives : {n : ℕ} {vs ws : List Token} {ys : List Expr} (negated : Bool) (x : Expr) → GivesItems n vs ys (SignToken token.RParen ∷ ws)
+  among-gives : {n : ℕ} {vs ws : List Token} {ys : List Expr} (negated : Bool) (x : Expr)
+      → GivesItems n vs ys (SignToken token.RParen ∷ ws)
       → Gives (among inner negated x) (suc n) (Word (codes "IN") ∷ SignToken token.LParen ∷ vs) (e.In negated x ys) ws
   unfolding among items
   among-gives {n = n} {vs = vs} {ws = ws} negated x h = record {
@@ -414,8 +497,9 @@ module _ (inner : Level → Reader Expr) where
         ) refl;
   }
 
-  pub among-test : {m n : ℕ} {ts us vs ws : List Token} {x : Expr} {ys : List Expr} {negated : Bool} → Gives (sum inner) m ts x us
-      → IsNegation negated us (Word (codes "IN") ∷ SignToken token.LParen ∷ vs) → GivesItems n vs ys (SignToken token.RParen ∷ ws)
+  pub among-test : {m n : ℕ} {ts us vs ws : List Token} {x : Expr} {ys : List Expr} {negated : Bool}
+      → Gives (sum inner) m ts x us → IsNegation negated us (Word (codes "IN") ∷ SignToken token.LParen ∷ vs)
+      → GivesItems n vs ys (SignToken token.RParen ∷ ws)
       → Gives (predicate inner) (m + suc n) ts (e.In negated x ys) ws
   among-test h not items = behind-sum h (in-tests _ not (among-gives _ _ items))
 
@@ -423,7 +507,8 @@ module _ (inner : Level → Reader Expr) where
   unfolding sees same_key key_of is_reserved
   and-seen us = refl
 
-  between-gives : {m n : ℕ} {vs ws rs : List Token} {y z : Expr} (negated : Bool) (x : Expr) → Gives (sum inner) m vs y (Word (codes "AND") ∷ ws) → Gives (sum inner) n ws z rs
+  between-gives : {m n : ℕ} {vs ws rs : List Token} {y z : Expr} (negated : Bool) (x : Expr)
+      → Gives (sum inner) m vs y (Word (codes "AND") ∷ ws) → Gives (sum inner) n ws z rs
       → Gives (between inner negated x) (suc (m + n)) (Word (codes "BETWEEN") ∷ vs) (e.Between negated x y z) rs
   unfolding between
   between-gives {m = m} {n = n} {vs = vs} {ws = ws} negated x h l = record {
@@ -436,22 +521,28 @@ module _ (inner : Level → Reader Expr) where
         ) refl;
   }
 
-  pub between-test : {l m n : ℕ} {ts us vs ws rs : List Token} {x y z : Expr} {negated : Bool} → Gives (sum inner) l ts x us
-      → IsNegation negated us (Word (codes "BETWEEN") ∷ vs) → Gives (sum inner) m vs y (Word (codes "AND") ∷ ws) → Gives (sum inner) n ws z rs
+  pub between-test : {l m n : ℕ} {ts us vs ws rs : List Token} {x y z : Expr} {negated : Bool}
+      → Gives (sum inner) l ts x us → IsNegation negated us (Word (codes "BETWEEN") ∷ vs)
+      → Gives (sum inner) m vs y (Word (codes "AND") ∷ ws) → Gives (sum inner) n ws z rs
       → Gives (predicate inner) (l + suc (m + n)) ts (e.Between negated x y z) rs
   between-test h not one two = behind-sum h (between-tests _ not (between-gives _ _ one two))
 
 -- ---- operators of one level
 
 -- the turns have come to x with room left
-pub record Comes (level : ℕ) (item r : Reader Expr) (n : ℕ) (ts : List Token) (x : Expr) (us : List Token) : Type 0 where
-  pub run : (room left : ℕ) → room ≡ n + left → (fuel : ℕ) × (left ≤ fuel) × (r (at ts room) ≡ turns level item fuel x (at us left))
+pub record Comes (level : ℕ) (item r : Reader Expr) (n : ℕ) (ts : List Token)
+    (x : Expr) (us : List Token) : Type 0 where
+  pub run : (room left : ℕ) → room ≡ n + left
+      → (fuel : ℕ) × (left ≤ fuel) × (r (at ts room) ≡ turns level item fuel x (at us left))
 
-pub comes-first : {level : ℕ} {item : Reader Expr} {n : ℕ} {ts us : List Token} {x : Expr} → Gives item n ts x us → Comes level item (chain level item) n ts x us
+pub comes-first : {level : ℕ} {item : Reader Expr} {n : ℕ} {ts us : List Token} {x : Expr} → Gives item n ts x us
+    → Comes level item (chain level item) n ts x us
 comes-first h = record { run = λ room left i. (left, omega arith, rw (h.run room left i) refl) }
 
-pub comes-next : {level : ℕ} {item r : Reader Expr} {m n : ℕ} {ts us vs : List Token} {x y : Expr} (op : Operator) (t : Token)
-    → ((us : List Token) → joins level (key_of (t ∷ us)) ≡ Some op) → Comes level item r m ts x (t ∷ us) → Gives item n us y vs
+pub comes-next : {level : ℕ} {item r : Reader Expr} {m n : ℕ} {ts us vs : List Token}
+    {x y : Expr} (op : Operator) (t : Token)
+    → ((us : List Token) → joins level (key_of (t ∷ us)) ≡ Some op) → Comes level item r m ts x (t ∷ us)
+    → Gives item n us y vs
     → Comes level item r (suc (m + n)) ts (e.Binary op x y) vs
 unfolding turns
 comes-next {level} {item} {r} {m} {n} {ts} {us} {vs} {x} {y} op t joined h l = record {
@@ -459,14 +550,22 @@ comes-next {level} {item} {r} {m} {n} {ts} {us} {vs} {x} {y} op t joined h l = r
       let before = h.run room (suc (n + left)) (omega (arith, i)) in by room left before.0 before.1 before.2;
 }
   where
-    by : (room left fuel : ℕ) → suc (n + left) ≤ fuel → r (at ts room) ≡ turns level item fuel x (at (t ∷ us) (suc (n + left)))
+    by : (room left fuel : ℕ) → suc (n + left) ≤ fuel
+        → r (at ts room) ≡ turns level item fuel x (at (t ∷ us) (suc (n + left)))
         → (fuel : ℕ) × (left ≤ fuel) × (r (at ts room) ≡ turns level item fuel (e.Binary op x y) (at vs left))
     by room left zero few is = absurd (omega (arith, few))
-    by room left (suc fuel) few is = (fuel, omega (arith, few), is ∙ rw (joined us, spend-some us (suc (n + left)) (n + left) refl, l.run (n + left) left refl) refl)
+    by room left (suc fuel) few is = (
+      fuel,
+      omega (arith, few),
+      is
+          ∙ rw (joined us, spend-some us (suc (n + left)) (n + left) refl, l.run (n + left) left refl) refl,
+    )
 
-pub comes-ends : {level : ℕ} {item r : Reader Expr} {n : ℕ} {ts us : List Token} {x : Expr} → Comes level item r n ts x us → binds us < level → Gives r n ts x us
+pub comes-ends : {level : ℕ} {item r : Reader Expr} {n : ℕ} {ts us : List Token} {x : Expr}
+    → Comes level item r n ts x us → binds us < level → Gives r n ts x us
 unfolding turns
-comes-ends {level} {item} {r} {n} {ts} {us} {x} h end = record { run = λ room left i. let come = h.run room left i in come.2 ∙ by left come.0 }
+comes-ends {level} {item} {r} {n} {ts} {us} {x} h end =
+    record { run = λ room left i. let come = h.run room left i in come.2 ∙ by left come.0 }
   where
     by : (left fuel : ℕ) → turns level item fuel x (at us left) ≡ Some (x, at us left)
     by left zero = refl

@@ -1,5 +1,6 @@
 -- What is read is what the rules say.
-use Rattle.std.proofs.Common.{◌≡◌, ℕ, zero, suc, ◌+◌, ◌-◌, ◌==◌, Bool, true, false, not, if◌then◌else◌, List, [], ◌∷◌, ◌++◌, Option, Some, None, refl, sym, ap, ◌∙◌, subst, append_assoc, arith}
+use Rattle.std.proofs.Common.{◌≡◌, ℕ, zero, suc, ◌+◌, ◌-◌, ◌==◌, Bool, true, false, not, if◌then◌else◌, List, [], ◌∷◌}
+use Rattle.std.proofs.Common.{◌++◌, Option, Some, None, refl, sym, ap, ◌∙◌, subst, append_assoc, arith}
 use Rattle.std.specs.Prelude.{codes}
 use Rattle.std.proofs.lemmas.Bool.Decides.{Decides-eqb}
 use Rattle.std.proofs.lemmas.Option.{same_Some}
@@ -13,7 +14,8 @@ use Rattle.wh_grammar.specs.Token as token
 use Rattle.wh_grammar.specs.Token.{Token, Word, Quoted, TextToken, NumberToken, SignToken}
 use Rattle.wh_grammar.specs.Name.{IsName}
 use Rattle.wh_grammar.specs.Expression as g
-use Rattle.wh_grammar.specs.Expression.{IsWhole, IsAnd, IsNot, IsTest, AreItems, IsSum, IsProduct, IsUnary, IsPrim, IsComparison, IsNegation}
+use Rattle.wh_grammar.specs.Expression.{IsWhole, IsAnd, IsNot, IsTest, AreItems, IsSum, IsProduct, IsUnary, IsPrim}
+use Rattle.wh_grammar.specs.Expression.{IsComparison, IsNegation}
 use Rattle.wh_expr_parse.specs.Laws.{IsExprAt}
 use Rattle.wh_cursor.specs.declared.key.Key.{Key}
 use Rattle.wh_cursor.specs.declared.key.Key.TheVariants as k
@@ -23,7 +25,11 @@ use Rattle.wh_cursor.specs.Keys.{key_of, key_binds}
 use Rattle.wh_expr_parse.specs.Operators.{joins}
 use Rattle.wh_expr_parse.specs.State.{State, at, next, Reader, plainly, moved, expect, spend}
 use Rattle.wh_cursor.specs.Steps.{tail, and_then, sees, read_name}
-use Rattle.wh_expr_parse.specs.Read.{read_literal, column_of, column, rows, turns, chain, turn, parenthesized, sum_call, count_by, count_call, call_or_column, primary_by, primary, negative, unary_by, unary, product, sum, compared, null_test, items_from, items, among, between, negated_by, negated_test, test_by, predicate, not_test, negation_by, negation, conjunction, whole, level, nested, ended, read_expr}
+use Rattle.wh_expr_parse.specs.Read.{read_literal, column_of, column, rows, turns, chain, turn, parenthesized, sum_call}
+use Rattle.wh_expr_parse.specs.Read.{count_by, count_call, call_or_column, primary_by, primary, negative, unary_by}
+use Rattle.wh_expr_parse.specs.Read.{unary, product, sum, compared, null_test, items_from, items, among, between}
+use Rattle.wh_expr_parse.specs.Read.{negated_by, negated_test, test_by, predicate, not_test, negation_by, negation}
+use Rattle.wh_expr_parse.specs.Read.{conjunction, whole, level, nested, ended, read_expr}
 use Rattle.wh_cursor.proofs.Names.{name-sound}
 use Rattle.wh_cursor.proofs.KeyLemmas.{fixed, Heads, heads, heads_at, binds_key}
 use Rattle.wh_cursor.proofs.Yields.{Is, Yields, yields, nothing, follow, mapped}
@@ -32,18 +38,21 @@ use Rattle.wh_expr_parse.proofs.Outcomes.{then_expect, then_spend, if_eaten, Too
 -- ---- what takes no operator
 
 -- what is read plainly takes none of the room
-plainly-sound : {A : Type 0} {P : List Token → A → List Token → Type 0} (read : List Token → Option (A × List Token)) → ((ts : List Token) → Yields (read ts) (P ts))
-    → (s : State) → Yields (plainly read s) (λ x t. (t.room ≡ s.room) × P s.left x t.left)
+plainly-sound : {A : Type 0} {P : List Token → A → List Token → Type 0} (read : List Token → Option (A × List Token))
+    → ((ts : List Token) → Yields (read ts) (P ts)) → (s : State)
+    → Yields (plainly read s) (λ x t. (t.room ≡ s.room) × P s.left x t.left)
 plainly-sound {A = A} {P = P} read sound s = record { is = by (read s.left) (sound s.left).is }
   where
-    by : (o : Option (A × List Token)) → Is (P s.left) o → Is (λ x t. (t.room ≡ s.room) × P s.left x t.left) (moved s.room o)
+    by : (o : Option (A × List Token)) → Is (P s.left) o
+        → Is (λ x t. (t.room ≡ s.room) × P s.left x t.left) (moved s.room o)
     by None h = tt
     by (Some p) h = (refl, h)
 
 name-plain : (s : State) → Yields (plainly read_name s) (λ name t. (t.room ≡ s.room) × IsName s.left name t.left)
 name-plain = plainly-sound read_name name-sound
 
-literal_by : (d room : ℕ) (ts : List Token) → Yields (moved room (read_literal ts)) (λ x t. (t.room ≡ room) × IsPrim d 0 ts x t.left)
+literal_by : (d room : ℕ) (ts : List Token)
+    → Yields (moved room (read_literal ts)) (λ x t. (t.room ≡ room) × IsPrim d 0 ts x t.left)
 unfolding read_literal
 literal_by d room [] = nothing
 literal_by d room (Word w ∷ us) = nothing
@@ -53,14 +62,19 @@ literal_by d room (NumberToken n ∷ us) = yields _ (at us room) (refl, g.number
 literal_by d room (SignToken s ∷ us) = nothing
 
 literal-sound : (d : ℕ) (s : State) → Yields (plainly read_literal s) (Took (IsPrim d) s)
-literal-sound d s = mapped (literal_by d s.room s.left) (λ x t h. record { count = 0; spent = omega (arith, h.0); is = h.1 })
+literal-sound d s =
+    mapped (literal_by d s.room s.left) (λ x t h. record { count = 0; spent = omega (arith, h.0); is = h.1 })
 
 column-sound : (d : ℕ) (s : State) → Yields (column s) (Took (IsPrim d) s)
 unfolding column column_of
 column-sound d s = follow (name-plain s) (λ first t h.
     if_eaten k.Dot t (column_of first)
     (λ dot. follow (name-plain (next t)) (λ name u i.
-    yields _ u (record { count = 0; spent = omega (arith, h.0, i.0); is = g.column_of (subst (λ (us : List Token). IsName s.left first us) dot h.1) i.1 })))
+    yields _ u (record {
+      count = 0;
+      spent = omega (arith, h.0, i.0);
+      is = g.column_of (subst (λ (us : List Token). IsName s.left first us) dot h.1) i.1;
+    })))
     (yields _ t (record { count = 0; spent = omega (arith, h.0); is = g.column h.1 })))
 
 -- ---- what stands inside
@@ -69,11 +83,14 @@ column-sound d s = follow (name-plain s) (λ first t h.
 pub record Inside (inner : Level → Reader Expr) (d : ℕ) : Type 0 where
   pub whole : (s : State) → Yields (inner Whole s) (λ x t. (d ≡ suc (d - 1)) × Took (IsWhole (d - 1)) s x t)
   pub negation : (s : State) → Yields (inner Negation s) (λ x t. (d ≡ suc (d - 1)) × Took (IsNot (d - 1)) s x t)
-  pub rows : (s : State) → Yields (inner Rows s) (λ x t. (d ≡ suc (d - 1)) × (x ≡ e.CountRows) × (t.room ≡ s.room) × (t.left ≡ tail s.left))
+  pub rows : (s : State)
+      → Yields (inner Rows s)
+      (λ x t. (d ≡ suc (d - 1)) × (x ≡ e.CountRows) × (t.room ≡ s.room) × (t.left ≡ tail s.left))
   pub unary : (s : State) → Yields (inner Unary s) (λ x t. (d ≡ suc (d - 1)) × Took (IsUnary (d - 1)) s x t)
 
 -- a rule for one more inside, at what the tokens are
-at_front : (P : ℕ → List Token → Type 0) (d : ℕ) {ts us : List Token} → d ≡ suc (d - 1) → ts ≡ us → P (suc (d - 1)) us → P d ts
+at_front : (P : ℕ → List Token → Type 0) (d : ℕ) {ts us : List Token} → d ≡ suc (d - 1) → ts ≡ us → P (suc (d - 1)) us
+    → P d ts
 at_front P d {ts = ts} deeper is h = subst (λ (n : ℕ). P n ts) (sym deeper) (subst (P (suc (d - 1))) (sym is) h)
 
 abbrev Parens : ℕ → ℕ → List Token → Expr → List Token → Type 0
@@ -82,27 +99,40 @@ Parens d n ts x us = (d ≡ suc (d - 1)) × IsWhole (d - 1) n ts x (SignToken to
 -- ---- operators of one level
 
 turns-sound : (level : ℕ) (item : Reader Expr) (P Q : ℕ → List Token → Expr → List Token → Type 0)
-    → ((m n : ℕ) (op : Operator) (ts us : List Token) (x y : Expr) (vs : List Token) → joins level (key_of us) ≡ Some op → P m ts x us → Q n (tail us) y vs
-    → P (suc (m + n)) ts (e.Binary op x y) vs)
-    → ((s : State) → Yields (item s) (Took Q s)) → (s₀ : State) (fuel : ℕ) (x : Expr) (s : State) → Took P s₀ x s → Yields (turns level item fuel x s) (Took P s₀)
+    → ((m n : ℕ) (op : Operator) (ts us : List Token) (x y : Expr) (vs : List Token) → joins level (key_of us) ≡ Some op
+    → P m ts x us → Q n (tail us) y vs → P (suc (m + n)) ts (e.Binary op x y) vs)
+    → ((s : State) → Yields (item s) (Took Q s)) → (s₀ : State) (fuel : ℕ) (x : Expr) (s : State) → Took P s₀ x s
+    → Yields (turns level item fuel x s) (Took P s₀)
 unfolding turns
 turns-sound level item P Q joined items s₀ zero x s h = yields x s h
-turns-sound level item P Q joined items s₀ (suc fuel) x s h = by (turns-sound level item P Q joined items s₀ fuel) (joins level (key_of s.left)) refl
+turns-sound level item P Q joined items s₀ (suc fuel) x s h =
+    by (turns-sound level item P Q joined items s₀ fuel) (joins level (key_of s.left)) refl
   where
-    by : ((x : Expr) (s : State) → Took P s₀ x s → Yields (turns level item fuel x s) (Took P s₀)) → (op : Option Operator) → joins level (key_of s.left) ≡ op → Yields (turn (turns level item fuel) item x op s) (Took P s₀)
+    by : ((x : Expr) (s : State) → Took P s₀ x s → Yields (turns level item fuel x s) (Took P s₀))
+        → (op : Option Operator) → joins level (key_of s.left) ≡ op
+        → Yields (turn (turns level item fuel) item x op s) (Took P s₀)
     by more None is = yields x s h
     by more (Some op) is = then_spend (next s) _ (λ n one. follow (items (at (tail s.left) n)) (λ y t i.
         more (e.Binary op x y) t
-        (record { count = suc (h.count + i.count); spent = omega (arith, one, h.spent, i.spent); is = joined h.count i.count op s₀.left s.left x y t.left is h.is i.is })))
+        (record {
+          count = suc (h.count + i.count);
+          spent = omega (arith, one, h.spent, i.spent);
+          is = joined h.count i.count op s₀.left s.left x y t.left is h.is i.is;
+        })))
 
-chain-sound : (level : ℕ) (item : Reader Expr) (P Q : ℕ → List Token → Expr → List Token → Type 0) → ((n : ℕ) (ts : List Token) (x : Expr) (us : List Token) → Q n ts x us → P n ts x us)
-    → ((m n : ℕ) (op : Operator) (ts us : List Token) (x y : Expr) (vs : List Token) → joins level (key_of us) ≡ Some op → P m ts x us → Q n (tail us) y vs
-    → P (suc (m + n)) ts (e.Binary op x y) vs)
-    → ((s : State) → Yields (item s) (Took Q s)) → (s : State) → Yields (chain level item s) (Took P s)
+chain-sound : (level : ℕ) (item : Reader Expr) (P Q : ℕ → List Token → Expr → List Token → Type 0)
+    → ((n : ℕ) (ts : List Token) (x : Expr) (us : List Token) → Q n ts x us → P n ts x us)
+    → ((m n : ℕ) (op : Operator) (ts us : List Token) (x y : Expr) (vs : List Token) → joins level (key_of us) ≡ Some op
+    → P m ts x us → Q n (tail us) y vs → P (suc (m + n)) ts (e.Binary op x y) vs)
+    → ((s : State) → Yields (item s) (Took Q s)) → (s : State)
+    → Yields (chain level item s) (Took P s)
 chain-sound level item P Q first joined items s = follow (items s) (λ x t h.
-    turns-sound level item P Q joined items s t.room x t (record { count = h.count; spent = h.spent; is = first h.count s.left x t.left h.is }))
+    turns-sound level item P Q joined items s t.room x t
+    (record { count = h.count; spent = h.spent; is = first h.count s.left x t.left h.is }))
 
-or-joined : (P : Operator → Type 0) (us : List Token) (op : Operator) → joins 1 (key_of us) ≡ Some op → (us ≡ Word (codes "OR") ∷ tail us → P o.Or) → P op
+or-joined : (P : Operator → Type 0) (us : List Token) (op : Operator) → joins 1 (key_of us) ≡ Some op
+    → (us ≡ Word (codes "OR") ∷ tail us → P o.Or)
+    → P op
 unfolding joins
 or-joined P us op h f0 = or-by (key_of us) (heads_at (key_of us) us refl) h
   where
@@ -110,7 +140,9 @@ or-joined P us op h f0 = or-by (key_of us) (heads_at (key_of us) us refl) h
     or-by k.Or front h = subst P (same_Some _ _ h) (f0 front)
     or-by _ front h = absurd (cc)
 
-and-joined : (P : Operator → Type 0) (us : List Token) (op : Operator) → joins 2 (key_of us) ≡ Some op → (us ≡ Word (codes "AND") ∷ tail us → P o.And) → P op
+and-joined : (P : Operator → Type 0) (us : List Token) (op : Operator) → joins 2 (key_of us) ≡ Some op
+    → (us ≡ Word (codes "AND") ∷ tail us → P o.And)
+    → P op
 unfolding joins
 and-joined P us op h f0 = and-by (key_of us) (heads_at (key_of us) us refl) h
   where
@@ -118,7 +150,9 @@ and-joined P us op h f0 = and-by (key_of us) (heads_at (key_of us) us refl) h
     and-by k.And front h = subst P (same_Some _ _ h) (f0 front)
     and-by _ front h = absurd (cc)
 
-sign-joined : (P : Operator → Type 0) (us : List Token) (op : Operator) → joins 4 (key_of us) ≡ Some op → (us ≡ SignToken token.Plus ∷ tail us → P o.Add) → (us ≡ SignToken token.Minus ∷ tail us → P o.Sub) → P op
+sign-joined : (P : Operator → Type 0) (us : List Token) (op : Operator) → joins 4 (key_of us) ≡ Some op
+    → (us ≡ SignToken token.Plus ∷ tail us → P o.Add) → (us ≡ SignToken token.Minus ∷ tail us → P o.Sub)
+    → P op
 unfolding joins
 sign-joined P us op h f0 f1 = sign-by (key_of us) (heads_at (key_of us) us refl) h
   where
@@ -127,7 +161,9 @@ sign-joined P us op h f0 f1 = sign-by (key_of us) (heads_at (key_of us) us refl)
     sign-by k.Minus front h = subst P (same_Some _ _ h) (f1 front)
     sign-by _ front h = absurd (cc)
 
-star-joined : (P : Operator → Type 0) (us : List Token) (op : Operator) → joins 5 (key_of us) ≡ Some op → (us ≡ SignToken token.Star ∷ tail us → P o.Mul) → P op
+star-joined : (P : Operator → Type 0) (us : List Token) (op : Operator) → joins 5 (key_of us) ≡ Some op
+    → (us ≡ SignToken token.Star ∷ tail us → P o.Mul)
+    → P op
 unfolding joins
 star-joined P us op h f0 = star-by (key_of us) (heads_at (key_of us) us refl) h
   where
@@ -142,19 +178,26 @@ module _ (inner : Level → Reader Expr) (d : ℕ) (inside : Inside inner d) whe
   unfolding parenthesized
   parenthesized-sound s = follow (inside.whole s) (λ x t h.
       then_expect k.RParen t _ (λ end.
-      yields x (next t) (record { count = h.1.count; spent = h.1.spent; is = (h.0, subst (λ (us : List Token). IsWhole (d - 1) h.1.count s.left x us) end h.1.is) })))
+      yields x (next t) (record {
+        count = h.1.count;
+        spent = h.1.spent;
+        is = (h.0, subst (λ (us : List Token). IsWhole (d - 1) h.1.count s.left x us) end h.1.is);
+      })))
 
-  sum_call-sound : (s : State) → s.left ≡ Word (codes "SUM") ∷ tail s.left → tail s.left ≡ SignToken token.LParen ∷ tail (tail s.left)
+  sum_call-sound : (s : State) → s.left ≡ Word (codes "SUM") ∷ tail s.left
+      → tail s.left ≡ SignToken token.LParen ∷ tail (tail s.left)
       → Yields (sum_call inner (next s)) (Took (IsPrim d) s)
   unfolding sum_call
   sum_call-sound s one two = follow (parenthesized-sound (next (next s))) (λ x t h.
       yields _ t (record {
         count = h.count;
         spent = h.spent;
-        is = at_front (λ n ts. IsPrim n h.count ts (e.Sum x) t.left) d h.is.0 (one ∙ ap (λ (us : List Token). Word (codes "SUM") ∷ us) two) (g.sum h.is.1);
+        is = at_front (λ n ts. IsPrim n h.count ts (e.Sum x) t.left) d h.is.0
+            (one ∙ ap (λ (us : List Token). Word (codes "SUM") ∷ us) two) (g.sum h.is.1);
       }))
 
-  rows-sound : (s t : State) → t.room ≡ s.room → s.left ≡ Word (codes "COUNT") ∷ SignToken token.LParen ∷ t.left → t.left ≡ SignToken token.Star ∷ tail t.left
+  rows-sound : (s t : State) → t.room ≡ s.room → s.left ≡ Word (codes "COUNT") ∷ SignToken token.LParen ∷ t.left
+      → t.left ≡ SignToken token.Star ∷ tail t.left
       → Yields (count_by inner true t) (Took (IsPrim d) s)
   unfolding count_by
   rows-sound s t room front star = follow (inside.rows t) (λ x u h. then_expect k.RParen u _ (λ end.
@@ -162,8 +205,10 @@ module _ (inner : Level → Reader Expr) (d : ℕ) (inside : Inside inner d) whe
         count = 0;
         spent = omega (arith, room, h.2);
         is = at_front (λ n ts. IsPrim n 0 ts x (tail u.left)) d h.0
-            (front ∙ ap (λ (us : List Token). Word (codes "COUNT") ∷ SignToken token.LParen ∷ us) (star ∙ ap (λ (us : List Token). SignToken token.Star ∷ us) (sym h.3 ∙ end)))
-            (subst (λ (y : Expr). IsPrim (suc (d - 1)) 0 (Word (codes "COUNT") ∷ SignToken token.LParen ∷ SignToken token.Star ∷ SignToken token.RParen ∷ tail u.left) y (tail u.left)) (sym h.1) g.count_rows);
+            (front ∙ ap (λ (us : List Token). Word (codes "COUNT") ∷ SignToken token.LParen ∷ us)
+            (star ∙ ap (λ (us : List Token). SignToken token.Star ∷ us) (sym h.3 ∙ end)))
+            (subst (λ (y : Expr). IsPrim (suc (d - 1)) 0 (Word (codes "COUNT") ∷ SignToken token.LParen ∷ SignToken
+            token.Star ∷ SignToken token.RParen ∷ tail u.left) y (tail u.left)) (sym h.1) g.count_rows);
       })))
 
   counted-sound : (s t : State) → t.room ≡ s.room → s.left ≡ Word (codes "COUNT") ∷ SignToken token.LParen ∷ t.left
@@ -176,7 +221,8 @@ module _ (inner : Level → Reader Expr) (d : ℕ) (inside : Inside inner d) whe
         is = at_front (λ n ts. IsPrim n h.count ts (e.Count x) u.left) d h.is.0 front (g.count h.is.1);
       }))
 
-  count_call-sound : (s : State) → s.left ≡ Word (codes "COUNT") ∷ tail s.left → tail s.left ≡ SignToken token.LParen ∷ tail (tail s.left)
+  count_call-sound : (s : State) → s.left ≡ Word (codes "COUNT") ∷ tail s.left
+      → tail s.left ≡ SignToken token.LParen ∷ tail (tail s.left)
       → Yields (count_call inner (next s)) (Took (IsPrim d) s)
   unfolding count_call
   count_call-sound s one two = by (sees k.Star (tail (tail s.left))) refl
@@ -184,7 +230,8 @@ module _ (inner : Level → Reader Expr) (d : ℕ) (inside : Inside inner d) whe
       front : s.left ≡ Word (codes "COUNT") ∷ SignToken token.LParen ∷ tail (tail s.left)
       front = one ∙ ap (λ (us : List Token). Word (codes "COUNT") ∷ us) two
 
-      by : (r : Bool) → sees k.Star (tail (tail s.left)) ≡ r → Yields (count_by inner r (next (next s))) (Took (IsPrim d) s)
+      by : (r : Bool) → sees k.Star (tail (tail s.left)) ≡ r
+          → Yields (count_by inner r (next (next s))) (Took (IsPrim d) s)
       by true r = rows-sound s (next (next s)) refl front (heads k.Star (tail (tail s.left)) r)
       by false r = counted-sound s (next (next s)) refl front
 
@@ -193,21 +240,31 @@ module _ (inner : Level → Reader Expr) (d : ℕ) (inside : Inside inner d) whe
       → Yields (call_or_column inner call s) (Took (IsPrim d) s)
   called call s f = by (sees k.LParen (tail s.left)) (λ r. f (heads k.LParen (tail s.left) r))
     where
-      by : (r : Bool) → (r ≡ true → Yields (call (next s)) (Took (IsPrim d) s)) → Yields (if r then call (next s) else column s) (Took (IsPrim d) s)
+      by : (r : Bool) → (r ≡ true → Yields (call (next s)) (Took (IsPrim d) s))
+          → Yields (if r then call (next s) else column s) (Took (IsPrim d) s)
       by true h = h refl
       by false h = column-sound d s
 
-  constant-sound : (s : State) (x : Expr) → IsPrim d 0 s.left x (tail s.left) → Yields (Some (x, next s)) (Took (IsPrim d) s)
+  constant-sound : (s : State) (x : Expr) → IsPrim d 0 s.left x (tail s.left)
+      → Yields (Some (x, next s)) (Took (IsPrim d) s)
   constant-sound s x h = yields x (next s) (record { count = 0; spent = omega arith; is = h })
 
-  primary_by-sound : (s : State) (key : Key) → Heads (fixed key) s.left → Yields (primary_by inner key s) (Took (IsPrim d) s)
+  primary_by-sound : (s : State) (key : Key) → Heads (fixed key) s.left
+      → Yields (primary_by inner key s) (Took (IsPrim d) s)
   primary_by-sound s k.LParen h = mapped (parenthesized-sound (next s)) (λ x t i.
-      record { count = i.count; spent = i.spent; is = at_front (λ n ts. IsPrim n i.count ts x t.left) d i.is.0 h (g.parenthesized i.is.1) })
+      record {
+        count = i.count;
+        spent = i.spent;
+        is = at_front (λ n ts. IsPrim n i.count ts x t.left) d i.is.0 h (g.parenthesized i.is.1);
+      })
   primary_by-sound s k.Number h = literal-sound d s
   primary_by-sound s k.Text h = literal-sound d s
-  primary_by-sound s k.True h = constant-sound s _ (subst (λ (ts : List Token). IsPrim d 0 ts (e.Const (v.Bool true)) (tail s.left)) (sym h) g.true_word)
-  primary_by-sound s k.False h = constant-sound s _ (subst (λ (ts : List Token). IsPrim d 0 ts (e.Const (v.Bool false)) (tail s.left)) (sym h) g.false_word)
-  primary_by-sound s k.Null h = constant-sound s _ (subst (λ (ts : List Token). IsPrim d 0 ts (e.Const v.Null) (tail s.left)) (sym h) g.null_word)
+  primary_by-sound s k.True h = constant-sound s _
+      (subst (λ (ts : List Token). IsPrim d 0 ts (e.Const (v.Bool true)) (tail s.left)) (sym h) g.true_word)
+  primary_by-sound s k.False h = constant-sound s _
+      (subst (λ (ts : List Token). IsPrim d 0 ts (e.Const (v.Bool false)) (tail s.left)) (sym h) g.false_word)
+  primary_by-sound s k.Null h =
+      constant-sound s _ (subst (λ (ts : List Token). IsPrim d 0 ts (e.Const v.Null) (tail s.left)) (sym h) g.null_word)
   primary_by-sound s k.Sum h = called (sum_call inner) s (sum_call-sound s h)
   primary_by-sound s k.Count h = called (count_call inner) s (count_call-sound s h)
   primary_by-sound s k.Name h = column-sound d s
@@ -217,7 +274,8 @@ module _ (inner : Level → Reader Expr) (d : ℕ) (inside : Inside inner d) whe
   unfolding primary
   primary-sound s = primary_by-sound s (key_of s.left) (heads_at (key_of s.left) s.left refl)
 
-  negative-sound : (s : State) → s.left ≡ SignToken token.Minus ∷ tail s.left → Yields (negative inner s) (Took (IsUnary d) s)
+  negative-sound : (s : State) → s.left ≡ SignToken token.Minus ∷ tail s.left
+      → Yields (negative inner s) (Took (IsUnary d) s)
   unfolding negative
   negative-sound s minus = then_spend (next s) _ (λ n one. follow (inside.unary (at (tail s.left) n)) (λ x t h.
       yields _ t (record {
@@ -230,7 +288,8 @@ module _ (inner : Level → Reader Expr) (d : ℕ) (inside : Inside inner d) whe
   unfolding unary
   unary-sound s = by (sees k.Minus s.left) (heads k.Minus s.left)
     where
-      by : (r : Bool) → (r ≡ true → s.left ≡ SignToken token.Minus ∷ tail s.left) → Yields (unary_by inner r s) (Took (IsUnary d) s)
+      by : (r : Bool) → (r ≡ true → s.left ≡ SignToken token.Minus ∷ tail s.left)
+          → Yields (unary_by inner r s) (Took (IsUnary d) s)
       by true h = negative-sound s (h refl)
       by false h = mapped (primary-sound s) (λ x t i. record { count = i.count; spent = i.spent; is = g.one_prim i.is })
 
@@ -251,24 +310,30 @@ module _ (inner : Level → Reader Expr) (d : ℕ) (inside : Inside inner d) whe
 
   -- ---- what may follow a sum
 
-  compared-sound : (s₀ s : State) (x : Expr) (sign : token.Sign) (comparison : Comparison) → IsComparison sign comparison → Took (IsSum d) s₀ x s
-      → s.left ≡ SignToken sign ∷ tail s.left → Yields (compared inner x comparison s) (Took (IsTest d) s₀)
+  compared-sound : (s₀ s : State) (x : Expr) (sign : token.Sign) (comparison : Comparison)
+      → IsComparison sign comparison → Took (IsSum d) s₀ x s → s.left ≡ SignToken sign ∷ tail s.left
+      → Yields (compared inner x comparison s) (Took (IsTest d) s₀)
   unfolding compared
-  compared-sound s₀ s x sign comparison is h front = then_spend (next s) _ (λ n one. follow (sum-sound (at (tail s.left) n)) (λ y t i.
+  compared-sound s₀ s x sign comparison is h front =
+      then_spend (next s) _ (λ n one. follow (sum-sound (at (tail s.left) n)) (λ y t i.
       yields _ t (record {
         count = suc (h.count + i.count);
         spent = omega (arith, one, h.spent, i.spent);
         is = g.compared is (subst (λ (us : List Token). IsSum d h.count s₀.left x us) front h.is) i.is;
       })))
 
-  null_test-sound : (s₀ s : State) (x : Expr) → Took (IsSum d) s₀ x s → s.left ≡ Word (codes "IS") ∷ tail s.left → Yields (null_test inner x s) (Took (IsTest d) s₀)
+  null_test-sound : (s₀ s : State) (x : Expr) → Took (IsSum d) s₀ x s → s.left ≡ Word (codes "IS") ∷ tail s.left
+      → Yields (null_test inner x s) (Took (IsTest d) s₀)
   unfolding null_test
-  null_test-sound s₀ s x h front = if_eaten k.Not (next s) (λ negated u. and_then (expect k.Null u) (λ _ v. and_then (spend v) (λ _ w. Some (e.IsNull negated x, w))))
-      (λ is. rest true (next (next s)) refl (subst (λ (us : List Token). IsNegation true us (tail (tail s.left))) (sym is) g.negated))
+  null_test-sound s₀ s x h front = if_eaten k.Not (next s)
+      (λ negated u. and_then (expect k.Null u) (λ _ v. and_then (spend v) (λ _ w. Some (e.IsNull negated x, w))))
+      (λ is. rest true (next (next s)) refl
+      (subst (λ (us : List Token). IsNegation true us (tail (tail s.left))) (sym is) g.negated))
       (rest false (next s) refl g.plain)
     where
       rest : (negated : Bool) (t : State) → t.room ≡ s.room → IsNegation negated (tail s.left) t.left
-          → Yields (and_then (expect k.Null t) (λ _ v. and_then (spend v) (λ _ w. Some (e.IsNull negated x, w)))) (Took (IsTest d) s₀)
+          → Yields (and_then (expect k.Null t) (λ _ v. and_then (spend v) (λ _ w. Some (e.IsNull negated x, w))))
+          (Took (IsTest d) s₀)
       rest negated t room not = then_expect k.Null t _ (λ null. then_spend (next t) _ (λ n one.
           yields (e.IsNull negated x) (at (tail t.left) n) (record {
             count = suc h.count;
@@ -288,7 +353,8 @@ module _ (inner : Level → Reader Expr) (d : ℕ) (inside : Inside inner d) whe
   unfolding items_from
   items_from-sound zero found s = nothing
   items_from-sound (suc n) found s = then_spend s _ (λ m one. follow (inside.whole (at s.left m)) (λ x t h.
-      if_eaten k.Comma t (λ more. if more then items_from inner n (found ++ x ∷ []) else (λ u. Some (found ++ x ∷ [], u)))
+      if_eaten k.Comma t
+      (λ more. if more then items_from inner n (found ++ x ∷ []) else (λ u. Some (found ++ x ∷ [], u)))
       (λ comma. mapped (items_from-sound n (found ++ x ∷ []) (next t)) (λ ys u i.
       record {
         deeper = h.0;
@@ -307,25 +373,33 @@ module _ (inner : Level → Reader Expr) (d : ℕ) (inside : Inside inner d) whe
         took = record { count = suc h.1.count; spent = omega (arith, one, h.1.spent); is = g.last_item h.1.is };
       }))))
 
-  among-sound : (s₀ s : State) (x : Expr) (us : List Token) (count : ℕ) (negated : Bool) → s₀.room ≡ count + s.room → IsSum d count s₀.left x us → IsNegation negated us s.left
-      → s.left ≡ Word (codes "IN") ∷ tail s.left → Yields (among inner negated x s) (Took (IsTest d) s₀)
+  among-sound : (s₀ s : State) (x : Expr) (us : List Token) (count : ℕ) (negated : Bool) → s₀.room ≡ count + s.room
+      → IsSum d count s₀.left x us → IsNegation negated us s.left → s.left ≡ Word (codes "IN") ∷ tail s.left
+      → Yields (among inner negated x s) (Took (IsTest d) s₀)
   unfolding among items
-  among-sound s₀ s x us count negated room h not front = then_expect k.LParen (next s) _ (λ opened. then_spend (next (next s)) _ (λ n one.
+  among-sound s₀ s x us count negated room h not front =
+      then_expect k.LParen (next s) _ (λ opened. then_spend (next (next s)) _ (λ n one.
       follow (items_from-sound n [] (at (tail (tail s.left)) n)) (λ ys t i. then_expect k.RParen t _ (λ close.
       yields _ (next t) (record {
         count = suc (count + i.took.count);
         spent = omega (arith, room, one, i.took.spent);
-        is = subst (λ (c : ℕ). IsTest c (suc (count + i.took.count)) s₀.left (e.In negated x ys) (tail t.left)) (sym i.deeper) (g.among
+        is = subst (λ (c : ℕ). IsTest c (suc (count + i.took.count)) s₀.left (e.In negated x ys) (tail t.left))
+            (sym i.deeper) (g.among
             (subst (λ (c : ℕ). IsSum c count s₀.left x us) i.deeper h)
-            (subst (λ (vs : List Token). IsNegation negated us vs) (front ∙ ap (λ (vs : List Token). Word (codes "IN") ∷ vs) opened) not)
-            (subst (λ (zs : List Expr). AreItems (d - 1) i.took.count (tail (tail s.left)) zs (SignToken token.RParen ∷ tail t.left)) (sym i.is)
-            (subst (λ (vs : List Token). AreItems (d - 1) i.took.count (tail (tail s.left)) i.more vs) close i.took.is)));
+            (subst (λ (vs : List Token). IsNegation negated us vs)
+            (front ∙ ap (λ (vs : List Token). Word (codes "IN") ∷ vs) opened) not)
+            (subst (λ (zs : List Expr). AreItems (d - 1) i.took.count (tail (tail s.left)) zs
+            (SignToken token.RParen ∷ tail t.left)) (sym i.is)
+            (subst (λ (vs : List Token). AreItems (d - 1) i.took.count (tail (tail s.left)) i.more vs)
+            close i.took.is)));
       })))))
 
-  between-sound : (s₀ s : State) (x : Expr) (us : List Token) (count : ℕ) (negated : Bool) → s₀.room ≡ count + s.room → IsSum d count s₀.left x us → IsNegation negated us s.left
-      → s.left ≡ Word (codes "BETWEEN") ∷ tail s.left → Yields (between inner negated x s) (Took (IsTest d) s₀)
+  between-sound : (s₀ s : State) (x : Expr) (us : List Token) (count : ℕ) (negated : Bool) → s₀.room ≡ count + s.room
+      → IsSum d count s₀.left x us → IsNegation negated us s.left → s.left ≡ Word (codes "BETWEEN") ∷ tail s.left
+      → Yields (between inner negated x s) (Took (IsTest d) s₀)
   unfolding between
-  between-sound s₀ s x us count negated room h not front = then_spend (next s) _ (λ n one. follow (sum-sound (at (tail s.left) n)) (λ y t i.
+  between-sound s₀ s x us count negated room h not front =
+      then_spend (next s) _ (λ n one. follow (sum-sound (at (tail s.left) n)) (λ y t i.
       then_expect k.And t _ (λ and. follow (sum-sound (next t)) (λ z u j.
       yields _ u (record {
         count = suc (count + (i.count + j.count));
@@ -334,17 +408,23 @@ module _ (inner : Level → Reader Expr) (d : ℕ) (inside : Inside inner d) whe
             (subst (λ (vs : List Token). IsSum d i.count (tail s.left) y vs) and i.is) j.is;
       })))))
 
-  negated_by-sound : (s₀ s : State) (x : Expr) (key : Key) → Took (IsSum d) s₀ x s → s.left ≡ Word (codes "NOT") ∷ tail s.left → Heads (fixed key) (tail s.left)
+  negated_by-sound : (s₀ s : State) (x : Expr) (key : Key) → Took (IsSum d) s₀ x s
+      → s.left ≡ Word (codes "NOT") ∷ tail s.left → Heads (fixed key) (tail s.left)
       → Yields (negated_by inner x key (next s)) (Took (IsTest d) s₀)
-  negated_by-sound s₀ s x k.In h not front = among-sound s₀ (next s) x s.left h.count true h.spent h.is (subst (λ (us : List Token). IsNegation true us (tail s.left)) (sym not) g.negated) front
-  negated_by-sound s₀ s x k.Between h not front = between-sound s₀ (next s) x s.left h.count true h.spent h.is (subst (λ (us : List Token). IsNegation true us (tail s.left)) (sym not) g.negated) front
+  negated_by-sound s₀ s x k.In h not front = among-sound s₀ (next s) x s.left h.count true h.spent h.is
+      (subst (λ (us : List Token). IsNegation true us (tail s.left)) (sym not) g.negated) front
+  negated_by-sound s₀ s x k.Between h not front = between-sound s₀ (next s) x s.left h.count true h.spent h.is
+      (subst (λ (us : List Token). IsNegation true us (tail s.left)) (sym not) g.negated) front
   negated_by-sound s₀ s x _ h not front = nothing
 
-  negated_test-sound : (s₀ s : State) (x : Expr) → Took (IsSum d) s₀ x s → s.left ≡ Word (codes "NOT") ∷ tail s.left → Yields (negated_test inner x s) (Took (IsTest d) s₀)
+  negated_test-sound : (s₀ s : State) (x : Expr) → Took (IsSum d) s₀ x s → s.left ≡ Word (codes "NOT") ∷ tail s.left
+      → Yields (negated_test inner x s) (Took (IsTest d) s₀)
   unfolding negated_test
-  negated_test-sound s₀ s x h not = negated_by-sound s₀ s x (key_of (tail s.left)) h not (heads_at (key_of (tail s.left)) (tail s.left) refl)
+  negated_test-sound s₀ s x h not =
+      negated_by-sound s₀ s x (key_of (tail s.left)) h not (heads_at (key_of (tail s.left)) (tail s.left) refl)
 
-  test_by-sound : (s₀ s : State) (x : Expr) (key : Key) → Took (IsSum d) s₀ x s → Heads (fixed key) s.left → Yields (test_by inner x key s) (Took (IsTest d) s₀)
+  test_by-sound : (s₀ s : State) (x : Expr) (key : Key) → Took (IsSum d) s₀ x s → Heads (fixed key) s.left
+      → Yields (test_by inner x key s) (Took (IsTest d) s₀)
   test_by-sound s₀ s x k.Equal h front = compared-sound s₀ s x token.Equal _ g.equal h front
   test_by-sound s₀ s x k.Unequal h front = compared-sound s₀ s x token.Unequal _ g.unequal h front
   test_by-sound s₀ s x k.Less h front = compared-sound s₀ s x token.Less _ g.less h front
@@ -359,9 +439,11 @@ module _ (inner : Level → Reader Expr) (d : ℕ) (inside : Inside inner d) whe
 
   test-sound : (s : State) → Yields (predicate inner s) (Took (IsTest d) s)
   unfolding predicate
-  test-sound s = follow (sum-sound s) (λ x t h. test_by-sound s t x (key_of t.left) h (heads_at (key_of t.left) t.left refl))
+  test-sound s =
+      follow (sum-sound s) (λ x t h. test_by-sound s t x (key_of t.left) h (heads_at (key_of t.left) t.left refl))
 
-  not_test-sound : (s : State) → s.left ≡ Word (codes "NOT") ∷ tail s.left → Yields (not_test inner s) (Took (IsNot d) s)
+  not_test-sound : (s : State) → s.left ≡ Word (codes "NOT") ∷ tail s.left
+      → Yields (not_test inner s) (Took (IsNot d) s)
   unfolding not_test
   not_test-sound s not = then_spend (next s) _ (λ n one. follow (inside.negation (at (tail s.left) n)) (λ x t h.
       yields _ t (record {
@@ -374,7 +456,8 @@ module _ (inner : Level → Reader Expr) (d : ℕ) (inside : Inside inner d) whe
   unfolding negation
   negation-sound s = by (sees k.Not s.left) (heads k.Not s.left)
     where
-      by : (r : Bool) → (r ≡ true → s.left ≡ Word (codes "NOT") ∷ tail s.left) → Yields (negation_by inner r s) (Took (IsNot d) s)
+      by : (r : Bool) → (r ≡ true → s.left ≡ Word (codes "NOT") ∷ tail s.left)
+          → Yields (negation_by inner r s) (Took (IsNot d) s)
       by true h = not_test-sound s (h refl)
       by false h = mapped (test-sound s) (λ x t i. record { count = i.count; spent = i.spent; is = g.one_test i.is })
 
@@ -399,20 +482,25 @@ nested-sound (suc d) =
     let same : suc d - 1 ≡ d = omega arith in
     let deeper : suc d ≡ suc (suc d - 1) = omega arith in
     record {
-      whole = λ s. mapped (whole-sound (nested d) d (nested-sound d) s) (λ x t h. (deeper, subst (λ (n : ℕ). Took (IsWhole n) s x t) (sym same) h));
-      negation = λ s. mapped (negation-sound (nested d) d (nested-sound d) s) (λ x t h. (deeper, subst (λ (n : ℕ). Took (IsNot n) s x t) (sym same) h));
+      whole = λ s. mapped (whole-sound (nested d) d (nested-sound d) s)
+          (λ x t h. (deeper, subst (λ (n : ℕ). Took (IsWhole n) s x t) (sym same) h));
+      negation = λ s. mapped (negation-sound (nested d) d (nested-sound d) s)
+          (λ x t h. (deeper, subst (λ (n : ℕ). Took (IsNot n) s x t) (sym same) h));
       rows = λ s. yields e.CountRows (next s) (deeper, refl, refl, refl);
-      unary = λ s. mapped (unary-sound (nested d) d (nested-sound d) s) (λ x t h. (deeper, subst (λ (n : ℕ). Took (IsUnary n) s x t) (sym same) h));
+      unary = λ s. mapped (unary-sound (nested d) d (nested-sound d) s)
+          (λ x t h. (deeper, subst (λ (n : ℕ). Took (IsUnary n) s x t) (sym same) h));
     }
 
 -- ---- what is read is an expression
 
-ended-sound : (d : ℕ) (ts : List Token) (x : Expr) (us : List Token) (o : Option (Expr × State)) → Is (Took (IsWhole d) (at ts 1000)) o
-    → ended o ≡ Some (x, us) → IsExprAt d ts x us
+ended-sound : (d : ℕ) (ts : List Token) (x : Expr) (us : List Token) (o : Option (Expr × State))
+    → Is (Took (IsWhole d) (at ts 1000)) o → ended o ≡ Some (x, us)
+    → IsExprAt d ts x us
 ended-sound d ts x us None h k = absurd (cc)
 ended-sound d ts x us (Some p) h k = by (key_binds (key_of p.1.left) == 0) refl k
   where
-    by : (r : Bool) → (key_binds (key_of p.1.left) == 0) ≡ r → if◌then◌else◌ {A = Option (Expr × List Token)} r (Some (p.0, p.1.left)) None ≡ Some (x, us) → IsExprAt d ts x us
+    by : (r : Bool) → (key_binds (key_of p.1.left) == 0) ≡ r → if◌then◌else◌ {A = Option (Expr × List Token)} r
+        (Some (p.0, p.1.left)) None ≡ Some (x, us) → IsExprAt d ts x us
     by false e k = absurd (cc)
     by true e k =
         let same : ◌≡◌ {A = Expr × List Token} (p.0, p.1.left) (x, us) = same_Some _ _ k in
@@ -422,6 +510,8 @@ ended-sound d ts x us (Some p) h k = by (key_binds (key_of p.1.left) == 0) refl 
         } in
         subst (λ (q : Expr × List Token). IsExprAt d ts q.0 q.1) same here
 
-pub read_sound : (d : ℕ) (ts : List Token) (x : Expr) (us : List Token) → read_expr d ts ≡ Some (x, us) → IsExprAt d ts x us
+pub read_sound : (d : ℕ) (ts : List Token) (x : Expr) (us : List Token) → read_expr d ts ≡ Some (x, us)
+    → IsExprAt d ts x us
 unfolding read_expr
-read_sound d ts x us h = ended-sound d ts x us (whole (nested d) (at ts 1000)) (whole-sound (nested d) d (nested-sound d) (at ts 1000)).is h
+read_sound d ts x us h =
+    ended-sound d ts x us (whole (nested d) (at ts 1000)) (whole-sound (nested d) d (nested-sound d) (at ts 1000)).is h

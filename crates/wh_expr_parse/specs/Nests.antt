@@ -14,7 +14,8 @@ use Rattle.wh_expr_parse.specs.Read.{nested}
 pub record Nests (depth : ℕ) (pre : Global → MutBor State → ℕ → Level → Type 0)
     (post : Global → MutBor State → ℕ → Level → Result Expr ParseFault → MutBor State → Type 0) : Type 0 where
   pub callable : (alloc : Global) (old : MutBor State) (level : Level) → pre alloc old depth level
-  pub reads : (alloc : Global) (old new : MutBor State) (level : Level) (r : Result Expr ParseFault) → post alloc old depth level r new
+  pub reads : (alloc : Global) (old new : MutBor State) (level : Level) (r : Result Expr ParseFault)
+      → post alloc old depth level r new
       → Reads (nested depth level old.now) r new.now
 
 pub record ReadsOperand (operand : Reader Expr)

@@ -1,7 +1,8 @@
 -- How expressions are read from the front of tokens.
 --     read_exprs    one or more, with commas between them
 --     read_expr     an expression with at most 1,000 operators and IN items, where no token behind it goes on with it
-use Rattle.std.specs.Prelude.{ℕ, zero, suc, Bool, true, false, ◌==◌, List, [], ◌∷◌, ◌++◌, Option, Some, None, pos, if◌then◌else◌}
+use Rattle.std.specs.Prelude.{ℕ, zero, suc, Bool, true, false, ◌==◌, List, [], ◌∷◌, ◌++◌, Option, Some}
+use Rattle.std.specs.Prelude.{None, pos, if◌then◌else◌}
 use Rattle.wh_value.specs.declared.value.Value.TheVariants as v
 use Rattle.wh_value.specs.declared.comparison.Comparison.{Comparison}
 use Rattle.wh_value.specs.declared.comparison.Comparison.TheVariants as c

@@ -12,7 +12,8 @@ pub record State : Type 0 where
   pub room : ℕ
 
 abbrev pub coded_state : Coded State
-coded_state = code_by (List Token × ℕ) (coded× (coded_list coded_token) coded_ℕ) (λ s. (s.left, s.room)) (λ p. record { left = p.0; room = p.1 }) (λ _. refl)
+coded_state = code_by (List Token × ℕ) (coded× (coded_list coded_token) coded_ℕ) (λ s. (s.left, s.room))
+    (λ p. record { left = p.0; room = p.1 }) (λ _. refl)
 
 abbrev pub at : List Token → ℕ → State
 at ts room = record { left = ts; room = room }

@@ -30,7 +30,8 @@ impl<F: Fn(Global, &mut Tokens<'_>, usize, Level) -> Result<Boxed<Expr>, ParseFa
         x: Boxed<Expr>,
     ) -> Result<Boxed<Expr>, ParseFault>
         requires { Nests self.now.depth (F.pre self.now.inner) (F.post self.now.inner) }
-        ensures { Reads (spec.test_by (spec.nested self.now.depth) x (key_of tokens.old.left) tokens.old) result tokens.new }
+        ensures { Reads (spec.test_by (spec.nested self.now.depth) x (key_of tokens.old.left) tokens.old)
+            result tokens.new }
     {
         match tokens.key() {
             Key::Equal => self.compared(tokens, x, Comparison::Equal),

@@ -92,7 +92,8 @@ impl<F: Fn(Global, &mut Tokens<'_>, usize, Level) -> Result<Boxed<Expr>, ParseFa
 
     fn sum_or_column(&self, tokens: &mut Tokens<'_>) -> Result<Boxed<Expr>, ParseFault>
         requires { Nests self.now.depth (F.pre self.now.inner) (F.post self.now.inner) }
-        ensures { Reads (spec.call_or_column (spec.nested self.now.depth) (spec.sum_call (spec.nested self.now.depth)) tokens.old) result tokens.new }
+        ensures { Reads (spec.call_or_column (spec.nested self.now.depth)
+            (spec.sum_call (spec.nested self.now.depth)) tokens.old) result tokens.new }
     {
         if tokens.sees_behind(Key::LParen) {
             tokens.skip();
@@ -115,7 +116,8 @@ impl<F: Fn(Global, &mut Tokens<'_>, usize, Level) -> Result<Boxed<Expr>, ParseFa
 
     fn count_or_column(&self, tokens: &mut Tokens<'_>) -> Result<Boxed<Expr>, ParseFault>
         requires { Nests self.now.depth (F.pre self.now.inner) (F.post self.now.inner) }
-        ensures { Reads (spec.call_or_column (spec.nested self.now.depth) (spec.count_call (spec.nested self.now.depth)) tokens.old) result tokens.new }
+        ensures { Reads (spec.call_or_column (spec.nested self.now.depth)
+            (spec.count_call (spec.nested self.now.depth)) tokens.old) result tokens.new }
     {
         if tokens.sees_behind(Key::LParen) {
             tokens.skip();

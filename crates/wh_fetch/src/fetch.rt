@@ -49,7 +49,8 @@ pub trait Fetch {
     ghost stays_on: { (first then last : Self) → stays first then → stays then last → stays first last };
 
     /// What is covered stays covered.
-    ghost covers_on: { (first last : Self) (part : PartMeta) → stays first last → covers first part → covers last part };
+    ghost covers_on: { (first last : Self) (part : PartMeta) → stays first last
+        → covers first part → covers last part };
 
     /// What is covered keeps its contents.
     ghost contents_on: { (first last : Self) (part : PartMeta) → stays first last → covers first part

@@ -28,7 +28,8 @@ pub record IsFileOf (payloads : List (List ℕ)) (bytes : List ℕ) : Type 0 whe
 -- one of at most 8 bytes is written anew, with its gate at the eighth
 abbrev pub GateEndsAt : List ℕ → ℕ → Type 0
 GateEndsAt bytes end = ((length bytes ≤ 8) × (end ≡ 8))
-    ⊎ ((8 < length bytes) × ((payloads : List (List ℕ)) × IsFileOf payloads bytes × (end ≡ length (records_of payloads) + 1)))
+    ⊎ ((8 < length bytes)
+    × ((payloads : List (List ℕ)) × IsFileOf payloads bytes × (end ≡ length (records_of payloads) + 1)))
 
 pub record LacksHeader (file : List ℕ) (at : ℕ) : Type 0 where
   pub place : at ≡ 0

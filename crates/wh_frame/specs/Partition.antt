@@ -1,7 +1,8 @@
 -- Partitions: rows with their numbers.
 --     Partition                      its number, and its rows by rising row number; it never changes
 --     first_number, last_number      between which the numbers of its rows lie
---     numbered, cut                  rows with their numbers, and as partitions of 1,000 rows each and the rest as one more
+--     numbered, cut                  rows with their numbers, and as partitions of 1,000 rows
+--                                    each and the rest as one more
 --     coded_partition                so that a partition can be what contracts see of a struct
 use Rattle.std.specs.Prelude.{ℕ, zero, suc, ◌+◌, ◌/◌, List, [], ◌∷◌, length, take, drop, refl}
 use Rattle.std.specs.Coded.{Coded, code_by, coded_ℕ, coded_list, coded×}
@@ -32,7 +33,8 @@ partitions_of count = (count + 999) / 1000
 -- so many partitions, numbered from the next one on, of the first 1,000 rows, the 1,000 behind these, and so on
 abbrev pub cut_into : ℕ → ℕ → List (ℕ × Row) → List Partition
 cut_into next zero rows = []
-cut_into next (suc count) rows = record { number = next; rows = take 1000 rows } ∷ cut_into (next + 1) count (drop 1000 rows)
+cut_into next (suc count) rows =
+    record { number = next; rows = take 1000 rows } ∷ cut_into (next + 1) count (drop 1000 rows)
 
 abbrev pub cut : ℕ → List (ℕ × Row) → List Partition
 cut next rows = cut_into next (partitions_of (length rows)) rows

@@ -1,7 +1,8 @@
 -- The bytes of values and partitions. Whole numbers are big-endian, and a signed one is its two's complement.
 --     text_bytes, list_bytes     a length and the bytes; a count and the items
 --     value_bytes, row_bytes, partition_bytes
---     IsPartition                what a partition may be: 1 to 1,000 rows by rising row number, of that many values each
+--     IsPartition                what a partition may be: 1 to 1,000 rows by rising row
+--                                number, of that many values each
 use Rattle.std.specs.Prelude.{◌≡◌, ℕ, ◌+◌, ◌<◌, ◌≤◌, ◌^◌, true, false, List, [], ◌∷◌, ◌++◌, length}
 use Rattle.std.specs.List.{flat_map, AllByRecursion}
 use Rattle.std.specs.Int.{w32, w64, to_be_bytes, cast_unsigned}

@@ -1,5 +1,6 @@
 -- How deep parentheses may stand, and how much an expression may count, worked out by hand.
-use Rattle.std.proofs.Common.{◌≡◌, ℕ, zero, suc, ◌+◌, ◌<◌, ◌≤◌, Bool, true, false, if◌then◌else◌, List, [], ◌∷◌, None, refl, sym, ap, subst, arith}
+use Rattle.std.proofs.Common.{◌≡◌, ℕ, zero, suc, ◌+◌, ◌<◌, ◌≤◌, Bool, true, false, if◌then◌else◌, List, [], ◌∷◌, None}
+use Rattle.std.proofs.Common.{refl, sym, ap, subst, arith}
 use Rattle.std.specs.Prelude.{codes, bytes_eq}
 use Rattle.std.proofs.lemmas.Slice.Eq.{bytes_eq-Decides}
 use Rattle.wh_value.specs.declared.comparison.Comparison.{Comparison}
@@ -10,7 +11,8 @@ use Rattle.wh_grammar.specs.Words.{is_reserved, is_call}
 use Rattle.wh_grammar.specs.Token.{Token, Word, Sign, SignToken, LParen, RParen, Comma, Plus}
 use Rattle.wh_grammar.specs.Name.{IsName, word, quoted}
 use Rattle.wh_grammar.specs.Expression as g
-use Rattle.wh_grammar.specs.Expression.{IsComparison, IsNegation, IsWhole, IsAnd, IsNot, IsTest, AreItems, IsSum, IsProduct, IsUnary, IsPrim, IsExpr}
+use Rattle.wh_grammar.specs.Expression.{IsComparison, IsNegation, IsWhole, IsAnd, IsNot, IsTest, AreItems, IsSum}
+use Rattle.wh_grammar.specs.Expression.{IsProduct, IsUnary, IsPrim, IsExpr}
 use Rattle.wh_grammar.specs.Spelled.{most_nested}
 
 abbrev a : Expr
@@ -101,7 +103,8 @@ taken : (depth : ℕ) (us : List Token) → IsExpr depth (wrapped depth us) a us
 taken depth us = record { count = 0; few = omega arith; whole = parens depth us }
 
 refused : (depth : ℕ) (us : List Token) {x : Expr} {vs : List Token} → IsExpr depth (wrapped (suc depth) us) x vs → ⊥
-refused depth us h = let deep = subst (λ (n : ℕ). n ≤ depth) (opened-wrapped (suc depth) us) (whole-opened h.whole) in omega (arith, deep)
+refused depth us h = let deep = subst (λ (n : ℕ). n ≤ depth) (opened-wrapped (suc depth) us) (whole-opened h.whole) in
+    omega (arith, deep)
 
 -- 64 are taken in a statement, and 65 aren't
 nested_64 : IsExpr most_nested (wrapped 64 []) a []
@@ -112,7 +115,8 @@ nested_65 h = refused 64 [] h
 
 -- ---- what counts
 
--- what a token adds at least: a plus sign and a comma one each, since a comma stands between items alone, and IN two, with its first item
+-- what a token adds at least: a plus sign and a comma one each, since a comma stands between items alone,
+-- and IN two, with its first item
 abbrev weight : Token → ℕ
 weight (SignToken Plus) = 1
 weight (SignToken Comma) = 1
@@ -163,13 +167,17 @@ mutual
 
   test-weighs : {d n : ℕ} {ts us : List Token} {x : Expr} → IsTest d n ts x us → weights ts ≤ n + weights us
   test-weighs (g.one_sum h) = sum-weighs h
-  test-weighs (g.compared is l r) = let left = sum-weighs l in let right = sum-weighs r in omega (arith, comparison-weighs is, left, right)
+  test-weighs (g.compared is l r) = let left = sum-weighs l in let right = sum-weighs r in
+      omega (arith, comparison-weighs is, left, right)
   test-weighs (g.is_null h not) = let left = sum-weighs h in omega (arith, negation-weighs not, left)
-  test-weighs (g.among h not items) = let left = sum-weighs h in let right = items-weigh items in omega (arith, negation-weighs not, left, right)
+  test-weighs (g.among h not items) = let left = sum-weighs h in let right = items-weigh items in
+      omega (arith, negation-weighs not, left, right)
   test-weighs (g.between h not b c) =
-      let first = sum-weighs h in let second = sum-weighs b in let third = sum-weighs c in omega (arith, negation-weighs not, first, second, third)
+      let first = sum-weighs h in let second = sum-weighs b in let third = sum-weighs c in
+      omega (arith, negation-weighs not, first, second, third)
 
-  items-weigh : {d n : ℕ} {ts us : List Token} {xs : List Expr} → AreItems d n ts xs us → suc (weights ts) ≤ n + weights us
+  items-weigh : {d n : ℕ} {ts us : List Token} {xs : List Expr} → AreItems d n ts xs us
+      → suc (weights ts) ≤ n + weights us
   items-weigh (g.last_item h) = let one = whole-weighs h in omega (arith, one)
   items-weigh (g.item h more) = let one = whole-weighs h in let others = items-weigh more in omega (arith, one, others)
 
@@ -193,7 +201,8 @@ mutual
   prim-weighs g.false_word = omega arith
   prim-weighs g.null_word = omega arith
   prim-weighs (g.column name) = let same = name-weighs name in omega (arith, same)
-  prim-weighs (g.column_of entry name) = let before = name-weighs entry in let same = name-weighs name in omega (arith, before, same)
+  prim-weighs (g.column_of entry name) = let before = name-weighs entry in let same = name-weighs name in
+      omega (arith, before, same)
   prim-weighs (g.parenthesized h) = let inside = whole-weighs h in omega (arith, inside)
   prim-weighs (g.sum h) = let inside = whole-weighs h in omega (arith, inside)
   prim-weighs g.count_rows = omega arith
@@ -211,7 +220,8 @@ sum zero x = x
 sum (suc n) x = sum n (e.Binary o.Add x a)
 
 sums : (n m k : ℕ) {ts us : List Token} {x : Expr} → k ≡ m + n → IsSum 0 m ts x (added n us) → IsSum 0 k ts (sum n x) us
-sums zero m k {ts} {us} {x} e h = let same : k ≡ m = omega (arith, e) in subst (λ (i : ℕ). IsSum 0 i ts x us) (sym same) h
+sums zero m k {ts} {us} {x} e h = let same : k ≡ m = omega (arith, e) in
+    subst (λ (i : ℕ). IsSum 0 i ts x us) (sym same) h
 sums (suc n) m k {us = us} e h =
     sums n (suc (m + 0)) k (omega (arith, e)) (g.plus h (g.one_unary (g.one_prim (prim-a 0 (added n us)))))
 
@@ -220,7 +230,8 @@ sums_taken : (n : ℕ) (us : List Token) → n ≤ 1000 → IsExpr 0 (Word (code
 sums_taken n us few = record {
   count = n;
   few = few;
-  whole = g.one_and (g.one_not (g.one_test (g.one_sum (sums n 0 n (omega arith) (g.one_product (g.one_unary (g.one_prim (prim-a 0 (added n us)))))))));
+  whole = g.one_and (g.one_not (g.one_test
+      (g.one_sum (sums n 0 n (omega arith) (g.one_product (g.one_unary (g.one_prim (prim-a 0 (added n us)))))))));
 }
 
 -- and more aren't
@@ -229,7 +240,8 @@ added-weigh zero us = omega arith
 added-weigh (suc n) us = let more = added-weigh n us in omega (arith, more)
 
 sums_refused : (d n : ℕ) (us : List Token) {x : Expr} → 1000 < n → IsExpr d (Word (codes "A") ∷ added n us) x us → ⊥
-sums_refused d n us many h = let weighed = whole-weighs h.whole in let few = h.few in omega (arith, weighed, added-weigh n us)
+sums_refused d n us many h = let weighed = whole-weighs h.whole in let few = h.few in
+    omega (arith, weighed, added-weigh n us)
 
 operators_1000 : IsExpr 0 (Word (codes "A") ∷ added 1000 []) (sum 1000 a) []
 operators_1000 = sums_taken 1000 [] (omega arith)
@@ -264,7 +276,8 @@ items_taken : (n : ℕ) (us : List Token) → suc n ≤ 999 → IsExpr 1 (among 
 items_taken n us few = record {
   count = suc (0 + suc n);
   few = omega arith;
-  whole = g.one_and (g.one_not (g.one_test (g.among (g.one_product (g.one_unary (g.one_prim (prim-a 1 _)))) g.plain (items n (suc n) (SignToken RParen ∷ us) refl))));
+  whole = g.one_and (g.one_not (g.one_test (g.among (g.one_product (g.one_unary (g.one_prim (prim-a 1 _)))) g.plain
+      (items n (suc n) (SignToken RParen ∷ us) refl))));
 }
 
 -- and more aren't
@@ -273,7 +286,8 @@ commas-weigh zero us = omega arith
 commas-weigh (suc n) us = let more = commas-weigh n us in omega (arith, more)
 
 items_refused : (d n : ℕ) (us : List Token) {x : Expr} → 999 < suc n → IsExpr d (among (suc n) us) x us → ⊥
-items_refused d n us many h = let weighed = whole-weighs h.whole in let few = h.few in omega (arith, weighed, commas-weigh n (SignToken RParen ∷ us))
+items_refused d n us many h = let weighed = whole-weighs h.whole in let few = h.few in
+    omega (arith, weighed, commas-weigh n (SignToken RParen ∷ us))
 
 items_999 : IsExpr 1 (among 999 []) (e.In false a (copies 999)) []
 items_999 = items_taken 998 [] (omega arith)

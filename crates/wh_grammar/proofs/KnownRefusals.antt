@@ -1,5 +1,6 @@
 -- Texts that have no tokens, worked out by hand.
-use Rattle.std.proofs.Common.{◌≡◌, ◌≢◌, ℕ, ◌<◌, Bool, true, false, ◌&&◌, ◌||◌, ◌==◌, if◌then◌else◌, List, [], ◌∷◌, ◌++◌, length, get_or, drop, refl, sym, ap, subst, length-append, arith}
+use Rattle.std.proofs.Common.{◌≡◌, ◌≢◌, ℕ, ◌<◌, Bool, true, false, ◌&&◌, ◌||◌, ◌==◌, if◌then◌else◌, List, [], ◌∷◌, ◌++◌}
+use Rattle.std.proofs.Common.{length, get_or, drop, refl, sym, ap, subst, length-append, arith}
 use Rattle.std.specs.Prelude.{codes}
 use Rattle.std.specs.List.{list_all}
 use Rattle.std.proofs.lemmas.Bool.{and_parts}
@@ -18,7 +19,8 @@ passes : (test : ℕ → Bool) {x b : ℕ} {bytes rest : List ℕ} → x ∷ byt
 passes test e h = subst (λ (n : ℕ). test n ≡ true) (sym (first e)) h
 
 abbrev begins_sign : ℕ → Bool
-begins_sign b = b == 40 || b == 41 || b == 44 || b == 46 || b == 42 || b == 43 || b == 45 || b == 61 || b == 60 || b == 62
+begins_sign b = b == 40 || b == 41 || b == 44 || b == 46 || b == 42 || b == 43 || b == 45
+    || b == 61 || b == 60 || b == 62
 
 sign-first : (s : Sign) (rest : List ℕ) → begins_sign (get_or (sign_bytes s ++ rest) 0 0) ≡ true
 sign-first token.LParen rest = refl
@@ -36,8 +38,11 @@ sign-first token.Greater rest = refl
 sign-first token.AtLeast rest = refl
 sign-first token.Arrow rest = refl
 
-no-sign : (bytes : List ℕ) (s : Sign) (rest : List ℕ) → begins_sign (get_or bytes 0 0) ≡ false → bytes ≡ sign_bytes s ++ rest → ⊥
-no-sign bytes s rest none e = let some = subst (λ (l : List ℕ). begins_sign (get_or l 0 0) ≡ true) (sym e) (sign-first s rest) in cc
+no-sign : (bytes : List ℕ) (s : Sign) (rest : List ℕ) → begins_sign (get_or bytes 0 0) ≡ false
+    → bytes ≡ sign_bytes s ++ rest
+    → ⊥
+no-sign bytes s rest none e =
+    let some = subst (λ (l : List ℕ). begins_sign (get_or l 0 0) ≡ true) (sym e) (sign-first s rest) in cc
 
 no-word : {x b : ℕ} {bytes rest : List ℕ} → begins_word x ≡ false → x ∷ bytes ≡ b ∷ rest → begins_word b ≡ true → ⊥
 no-word none e h = let k = passes begins_word e h in cc
@@ -45,18 +50,24 @@ no-word none e h = let k = passes begins_word e h in cc
 no-blank : {x b : ℕ} {bytes rest : List ℕ} → is_blank x ≡ false → x ∷ bytes ≡ b ∷ rest → is_blank b ≡ true → ⊥
 no-blank none e h = let k = passes is_blank e h in cc
 
-no-number : {x : ℕ} {bytes : List ℕ} (digits rest : List ℕ) → is_digit x ≡ false → x ∷ bytes ≡ digits ++ rest → digits ≢ [] → list_all is_digit digits ≡ true → ⊥
+no-number : {x : ℕ} {bytes : List ℕ} (digits rest : List ℕ) → is_digit x ≡ false → x ∷ bytes ≡ digits ++ rest
+    → digits ≢ [] → list_all is_digit digits ≡ true → ⊥
 no-number [] rest none e some all = some refl
-no-number (d ∷ digits) rest none e some all = let k = passes is_digit e (and_parts (is_digit d) (list_all is_digit digits) all).0 in cc
+no-number (d ∷ digits) rest none e some all =
+    let k = passes is_digit e (and_parts (is_digit d) (list_all is_digit digits) all).0 in cc
 
 -- ---- `1a`: no letter stands behind a number
 
-digits-1a : (digits rest : List ℕ) → codes "1a" ≡ digits ++ rest → digits ≢ [] → list_all is_digit digits ≡ true → begins_with is_word_byte rest ≡ false → ⊥
+digits-1a : (digits rest : List ℕ) → codes "1a" ≡ digits ++ rest → digits ≢ [] → list_all is_digit digits ≡ true
+    → begins_with is_word_byte rest ≡ false
+    → ⊥
 digits-1a [] rest e some all stop = some refl
-digits-1a (d ∷ []) rest e some all stop = let open_ = subst (λ (l : List ℕ). begins_with is_word_byte l ≡ false) (sym (ap (λ (l : List ℕ). drop 1 l) e)) stop in cc
+digits-1a (d ∷ []) rest e some all stop = let open_ = subst (λ (l : List ℕ). begins_with is_word_byte l ≡ false)
+    (sym (ap (λ (l : List ℕ). drop 1 l) e)) stop in cc
 digits-1a (d ∷ f ∷ more) rest e some all stop =
     let both = and_parts (is_digit d) (is_digit f && list_all is_digit more) all in
-    let next = passes is_digit (ap (λ (l : List ℕ). drop 1 l) e) (and_parts (is_digit f) (list_all is_digit more) both.1).0 in
+    let next =
+    passes is_digit (ap (λ (l : List ℕ). drop 1 l) e) (and_parts (is_digit f) (list_all is_digit more) both.1).0 in
     cc
 
 token-1a : (t : Token) (rest : List ℕ) → IsToken (codes "1a") t rest → ⊥
@@ -88,7 +99,8 @@ some-doubled b inside = by (b == 34)
 
 quoted-none : (inside rest : List ℕ) → 34 ∷ 34 ∷ [] ≡ 34 ∷ (doubled 34 inside ++ 34 ∷ rest) → inside ≢ [] → ⊥
 quoted-none [] rest e some = some refl
-quoted-none (b ∷ inside) rest e some = omega (arith, ap length e, length-append (doubled 34 (b ∷ inside)) (34 ∷ rest), some-doubled b inside)
+quoted-none (b ∷ inside) rest e some =
+    omega (arith, ap length e, length-append (doubled 34 (b ∷ inside)) (34 ∷ rest), some-doubled b inside)
 
 token-quotes : (t : Token) (rest : List ℕ) → IsToken (34 ∷ 34 ∷ []) t rest → ⊥
 token-quotes t rest (lex.word b more e h all stop made is) = no-word refl e h
@@ -133,11 +145,16 @@ open_comment _ (lex.token k h) = token-open _ _ k
 back-plain : is_plain 92 ≡ true → ⊥
 back-plain h = cc
 
-text-back : (inside rest : List ℕ) → 39 ∷ 92 ∷ 39 ∷ [] ≡ 39 ∷ (doubled 39 inside ++ 39 ∷ rest) → list_all is_plain inside ≡ true → ⊥
+text-back : (inside rest : List ℕ) → 39 ∷ 92 ∷ 39 ∷ [] ≡ 39 ∷ (doubled 39 inside ++ 39 ∷ rest)
+    → list_all is_plain inside ≡ true
+    → ⊥
 text-back [] rest e plain = omega (arith, first (ap (λ (l : List ℕ). drop 1 l) e))
-text-back (b ∷ inside) rest e plain = by (b == 39) (and_parts (is_plain b) (list_all is_plain inside) plain).0 (ap (λ (l : List ℕ). drop 1 l) e)
+text-back (b ∷ inside) rest e plain =
+    by (b == 39) (and_parts (is_plain b) (list_all is_plain inside) plain).0 (ap (λ (l : List ℕ). drop 1 l) e)
   where
-    by : (r : Bool) → is_plain b ≡ true → 92 ∷ 39 ∷ [] ≡ ((if r then 39 ∷ 39 ∷ [] else b ∷ []) ++ doubled 39 inside) ++ 39 ∷ rest → ⊥
+    by : (r : Bool) → is_plain b ≡ true
+        → 92 ∷ 39 ∷ [] ≡ ((if r then 39 ∷ 39 ∷ [] else b ∷ []) ++ doubled 39 inside) ++ 39 ∷ rest
+        → ⊥
     by true plain e = omega (arith, first e)
     by false plain e = back-plain (passes is_plain e plain)
 

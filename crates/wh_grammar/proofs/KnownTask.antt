@@ -22,18 +22,23 @@ abbrev text : List ℕ
 text = codes "CREATE TASK A WHEN SYSTEM$STREAM_HAS_DATA('S') AS DELETE  FROM T"
 
 abbrev head : List Placed
-head = (record { token = Word (codes "CREATE"); from = 64; behind = 58 }) ∷ (record { token = Word (codes "TASK"); from = 57; behind = 53 })
-    ∷ (record { token = Word (codes "A"); from = 52; behind = 51 }) ∷ (record { token = Word (codes "WHEN"); from = 50; behind = 46 }) ∷ []
+head = (record { token = Word (codes "CREATE"); from = 64; behind = 58 })
+    ∷ (record { token = Word (codes "TASK"); from = 57; behind = 53 })
+    ∷ (record { token = Word (codes "A"); from = 52; behind = 51 })
+    ∷ (record { token = Word (codes "WHEN"); from = 50; behind = 46 }) ∷ []
 
 abbrev guard : List Placed
-guard = (record { token = Word (codes "SYSTEM$STREAM_HAS_DATA"); from = 45; behind = 23 }) ∷ (record { token = SignToken LParen; from = 23; behind = 22 })
-    ∷ (record { token = TextToken (codes "S"); from = 22; behind = 19 }) ∷ (record { token = SignToken RParen; from = 19; behind = 18 }) ∷ []
+guard = (record { token = Word (codes "SYSTEM$STREAM_HAS_DATA"); from = 45; behind = 23 })
+    ∷ (record { token = SignToken LParen; from = 23; behind = 22 })
+    ∷ (record { token = TextToken (codes "S"); from = 22; behind = 19 })
+    ∷ (record { token = SignToken RParen; from = 19; behind = 18 }) ∷ []
 
 abbrev link : Placed
 link = record { token = Word (codes "AS"); from = 17; behind = 15 }
 
 abbrev body : List Placed
-body = (record { token = Word (codes "DELETE"); from = 14; behind = 8 }) ∷ (record { token = Word (codes "FROM"); from = 6; behind = 2 })
+body = (record { token = Word (codes "DELETE"); from = 14; behind = 8 })
+    ∷ (record { token = Word (codes "FROM"); from = 6; behind = 2 })
     ∷ (record { token = Word (codes "T"); from = 1; behind = 0 }) ∷ []
 
 space : {bytes rest : List ℕ} {ts : List Placed} → bytes ≡ 32 ∷ rest → HasTokens rest ts → HasTokens bytes ts
@@ -45,12 +50,14 @@ has_tokens =
     (token (lex.word 84 (codes "ASK") refl refl refl refl (known_text (codes "TASK") refl refl) refl) (space refl
     (token (lex.word 65 (codes "") refl refl refl refl (known_text (codes "A") refl refl) refl) (space refl
     (token (lex.word 87 (codes "HEN") refl refl refl refl (known_text (codes "WHEN") refl refl) refl) (space refl
-    (token (lex.word 83 (codes "YSTEM$STREAM_HAS_DATA") refl refl refl refl (known_text (codes "SYSTEM$STREAM_HAS_DATA") refl refl) refl)
+    (token (lex.word 83 (codes "YSTEM$STREAM_HAS_DATA") refl refl refl refl
+    (known_text (codes "SYSTEM$STREAM_HAS_DATA") refl refl) refl)
     (token (lex.sign LParen refl refl refl)
     (token (lex.text (codes "S") refl (known_text (codes "S") refl refl) refl refl refl)
     (token (lex.sign RParen refl refl refl) (space refl
     (token (lex.word 65 (codes "S") refl refl refl refl (known_text (codes "AS") refl refl) refl) (space refl
-    (token (lex.word 68 (codes "ELETE") refl refl refl refl (known_text (codes "DELETE") refl refl) refl) (space refl (space refl
+    (token (lex.word 68 (codes "ELETE") refl refl refl refl (known_text (codes "DELETE") refl refl) refl)
+    (space refl (space refl
     (token (lex.word 70 (codes "ROM") refl refl refl refl (known_text (codes "FROM") refl refl) refl) (space refl
     (token (lex.word 84 (codes "") refl refl refl refl (known_text (codes "T") refl refl) refl) end))))))))))))))))))))
 
@@ -73,7 +80,8 @@ task_with_its_texts = record {
   tokens = has_tokens;
   is_statement = guarded_task head guard body link refl
       (task_head (name.word refl refl) no_more nothing follows_none (inl refl))
-      (one_cand (one_cnot (has_data (asks (word_text (lex.word 83 (codes "") refl refl refl refl (known_text (codes "S") refl refl) refl) refl)))))
+      (one_cand (one_cnot (has_data (asks
+      (word_text (lex.word 83 (codes "") refl refl refl refl (known_text (codes "S") refl refl) refl) refl)))))
       (record { is = refl; short = omega arith }) refl
       (delete (name.word refl refl) no_filter)
       (record { is = refl; short = omega arith });

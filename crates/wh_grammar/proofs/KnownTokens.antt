@@ -14,12 +14,16 @@ ascii [] h i = omega arith
 ascii (b ∷ bytes) h zero = ltb-true b 128 (and_parts (ltb b 128) (list_all (λ b. ltb b 128) bytes) h).0
 ascii (b ∷ bytes) h (suc i) = ascii bytes (and_parts (ltb b 128) (list_all (λ b. ltb b 128) bytes) h).1 i
 
-pub known_text : (bytes : List ℕ) → list_all (λ b. ltb b 128) bytes ≡ true → leb (length bytes) 65536 ≡ true → IsText bytes
-known_text bytes small short = record { utf8 = IsUtf8-from_ascii bytes (ascii bytes small); short = leb-true (length bytes) 65536 short }
+pub known_text : (bytes : List ℕ) → list_all (λ b. ltb b 128) bytes ≡ true → leb (length bytes) 65536 ≡ true
+    → IsText bytes
+known_text bytes small short =
+    record { utf8 = IsUtf8-from_ascii bytes (ascii bytes small); short = leb-true (length bytes) 65536 short }
 
 -- `a1<= 7--x`: a word, `<=`, a blank, a number, and a comment to the end
 read : HasTokens (codes "a1<= 7--x")
-    ((record { token = Word (codes "A1"); from = 9; behind = 7 }) ∷ (record { token = SignToken AtMost; from = 7; behind = 5 }) ∷ (record { token = NumberToken 7; from = 4; behind = 3 }) ∷ [])
+    ((record { token = Word (codes "A1"); from = 9; behind = 7 })
+    ∷ (record { token = SignToken AtMost; from = 7; behind = 5 })
+    ∷ (record { token = NumberToken 7; from = 4; behind = 3 }) ∷ [])
 read =
     token (word 97 (codes "1") refl refl refl refl (known_text (codes "A1") refl refl) refl)
     (token (sign AtMost refl refl refl)

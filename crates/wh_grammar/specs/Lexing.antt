@@ -2,11 +2,14 @@
 --     IsGap       a blank or a comment stands at the front of the bytes
 --     IsToken     a token does, the longest that there is
 --     HasTokens   the text is gaps and these tokens, to its end
-use Rattle.std.specs.Prelude.{◌≡◌, ◌≢◌, ℕ, ◌<◌, Bool, false, not, ◌&&◌, ◌||◌, IsTrue, List, [], ◌∷◌, ◌++◌, length, map, ◌==◌, if◌then◌else◌}
+use Rattle.std.specs.Prelude.{◌≡◌, ◌≢◌, ℕ, ◌<◌, Bool, false, not, ◌&&◌, ◌||◌, IsTrue, List, [], ◌∷◌, ◌++◌, length, map}
+use Rattle.std.specs.Prelude.{◌==◌, if◌then◌else◌}
 use Rattle.std.specs.List.{list_all, flat_map}
 use Rattle.wh_value.specs.Value.{IsText}
 use Rattle.wh_grammar.specs.Bytes.{is_blank, is_digit, begins_word, is_word_byte, upper, number_behind}
-use Rattle.wh_grammar.specs.Token.{Sign, LParen, RParen, Comma, Dot, Star, Plus, Minus, Equal, Unequal, Less, AtMost, Greater, AtLeast, Arrow, Token, Word, Quoted, TextToken, NumberToken, SignToken, Placed}
+use Rattle.wh_grammar.specs.Token.{Sign, LParen, RParen, Comma, Dot, Star, Plus, Minus, Equal, Unequal, Less}
+use Rattle.wh_grammar.specs.Token.{AtMost, Greater, AtLeast, Arrow, Token, Word, Quoted, TextToken}
+use Rattle.wh_grammar.specs.Token.{NumberToken, SignToken, Placed}
 
 -- the bytes begin with one that passes
 abbrev pub begins_with : (ℕ → Bool) → List ℕ → Bool
@@ -30,11 +33,21 @@ has_comment_end (b ∷ bytes) = b == 42 && begins_with (is_byte 47) bytes || has
 pub data IsGap (bytes rest : List ℕ) : Type 0 where
   blank : (b : ℕ) → bytes ≡ b ∷ rest → IsTrue (is_blank b) → IsGap bytes rest
   -- two minus signs, to the end of the line
-  line_comment : (inside : List ℕ) → bytes ≡ 45 ∷ 45 ∷ (inside ++ 10 ∷ rest) → IsTrue (list_all is_inline inside) → IsGap bytes rest
+  line_comment : (inside : List ℕ)
+      → bytes ≡ 45 ∷ 45 ∷ (inside ++ 10 ∷ rest)
+      → IsTrue (list_all is_inline inside)
+      → IsGap bytes rest
   -- or to the end of the text
-  last_comment : (inside : List ℕ) → bytes ≡ 45 ∷ 45 ∷ inside → rest ≡ [] → IsTrue (list_all is_inline inside) → IsGap bytes rest
+  last_comment : (inside : List ℕ)
+      → bytes ≡ 45 ∷ 45 ∷ inside
+      → rest ≡ []
+      → IsTrue (list_all is_inline inside)
+      → IsGap bytes rest
   -- a slash and a star, to the first star and slash behind them
-  comment : (inside : List ℕ) → bytes ≡ 47 ∷ 42 ∷ (inside ++ 42 ∷ 47 ∷ rest) → has_comment_end inside ≡ false → IsGap bytes rest
+  comment : (inside : List ℕ)
+      → bytes ≡ 47 ∷ 42 ∷ (inside ++ 42 ∷ 47 ∷ rest)
+      → has_comment_end inside ≡ false
+      → IsGap bytes rest
 
 -- ---- signs
 
@@ -83,18 +96,43 @@ doubled quote inside = flat_map (λ b. if b == quote then quote ∷ quote ∷ []
 
 -- a token at the front of the bytes, and what follows it; a word, a name and a text have at most 65,536 bytes each
 pub data IsToken (bytes : List ℕ) (t : Token) (rest : List ℕ) : Type 0 where
-  word : (b : ℕ) (more : List ℕ) → bytes ≡ b ∷ (more ++ rest) → IsTrue (begins_word b) → IsTrue (list_all is_word_byte more)
-      → begins_with is_word_byte rest ≡ false → IsText (map upper (b ∷ more)) → t ≡ Word (map upper (b ∷ more)) → IsToken bytes t rest
+  word : (b : ℕ) (more : List ℕ)
+      → bytes ≡ b ∷ (more ++ rest)
+      → IsTrue (begins_word b)
+      → IsTrue (list_all is_word_byte more)
+      → begins_with is_word_byte rest ≡ false
+      → IsText (map upper (b ∷ more))
+      → t ≡ Word (map upper (b ∷ more))
+      → IsToken bytes t rest
   -- at most 18 digits behind leading zeros, and no letter behind them
-  number : (digits : List ℕ) → bytes ≡ digits ++ rest → digits ≢ [] → IsTrue (list_all is_digit digits) → number_behind 0 digits < 1000000000000000000
-      → begins_with is_word_byte rest ≡ false → t ≡ NumberToken (number_behind 0 digits) → IsToken bytes t rest
+  number : (digits : List ℕ)
+      → bytes ≡ digits ++ rest
+      → digits ≢ []
+      → IsTrue (list_all is_digit digits)
+      → number_behind 0 digits < 1000000000000000000
+      → begins_with is_word_byte rest ≡ false
+      → t ≡ NumberToken (number_behind 0 digits)
+      → IsToken bytes t rest
   -- characters without a backslash
-  text : (inside : List ℕ) → bytes ≡ 39 ∷ (doubled 39 inside ++ 39 ∷ rest) → IsText inside → IsTrue (list_all is_plain inside)
+  text : (inside : List ℕ)
+      → bytes ≡ 39 ∷ (doubled 39 inside ++ 39 ∷ rest)
+      → IsText inside
+      → IsTrue (list_all is_plain inside)
       → begins_with (is_byte 39) rest ≡ false
-      → t ≡ TextToken inside → IsToken bytes t rest
-  quoted : (inside : List ℕ) → bytes ≡ 34 ∷ (doubled 34 inside ++ 34 ∷ rest) → IsText inside → inside ≢ [] → begins_with (is_byte 34) rest ≡ false
-      → t ≡ Quoted inside → IsToken bytes t rest
-  sign : (s : Sign) → bytes ≡ sign_bytes s ++ rest → begins_with (extends s) rest ≡ false → t ≡ SignToken s → IsToken bytes t rest
+      → t ≡ TextToken inside
+      → IsToken bytes t rest
+  quoted : (inside : List ℕ)
+      → bytes ≡ 34 ∷ (doubled 34 inside ++ 34 ∷ rest)
+      → IsText inside
+      → inside ≢ []
+      → begins_with (is_byte 34) rest ≡ false
+      → t ≡ Quoted inside
+      → IsToken bytes t rest
+  sign : (s : Sign)
+      → bytes ≡ sign_bytes s ++ rest
+      → begins_with (extends s) rest ≡ false
+      → t ≡ SignToken s
+      → IsToken bytes t rest
   -- `!=` is `<>`
   other_unequal : bytes ≡ 33 ∷ 61 ∷ rest → t ≡ SignToken Unequal → IsToken bytes t rest
 
@@ -102,5 +140,7 @@ pub data IsToken (bytes : List ℕ) (t : Token) (rest : List ℕ) : Type 0 where
 pub data HasTokens : List ℕ → List Placed → Type 0 where
   end : HasTokens [] []
   gap : {bytes rest : List ℕ} {ts : List Placed} → IsGap bytes rest → HasTokens rest ts → HasTokens bytes ts
-  token : {bytes rest : List ℕ} {t : Token} {ts : List Placed} → IsToken bytes t rest → HasTokens rest ts
+  token : {bytes rest : List ℕ} {t : Token} {ts : List Placed}
+      → IsToken bytes t rest
+      → HasTokens rest ts
       → HasTokens bytes (record { token = t; from = length bytes; behind = length rest } ∷ ts)

@@ -9,5 +9,8 @@ opens _ = false
 
 -- any word that isn't reserved, or a quoted name; but SUM and COUNT before a parenthesis begin a call
 pub data IsName : List Token → List ℕ → List Token → Type 0 where
-  word : {w : List ℕ} {us : List Token} → is_reserved w ≡ false → (is_call w && opens us) ≡ false → IsName (Word w ∷ us) w us
+  word : {w : List ℕ} {us : List Token}
+      → is_reserved w ≡ false
+      → (is_call w && opens us) ≡ false
+      → IsName (Word w ∷ us) w us
   quoted : {name : List ℕ} {us : List Token} → IsName (Quoted name ∷ us) name us

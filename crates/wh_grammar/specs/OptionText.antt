@@ -41,7 +41,10 @@ pub data IsUnit : List ℕ → ℕ → Type 0 where
   days : IsUnit (codes "DAYS") 86400
 
 pub data IsLagText : List ℕ → Lag → Type 0 where
-  span : {bytes unit : List ℕ} {n factor : ℕ} → IsSpan bytes unit n → IsUnit unit factor → IsLagText bytes (lag.Seconds (n * factor))
+  span : {bytes unit : List ℕ} {n factor : ℕ}
+      → IsSpan bytes unit n
+      → IsUnit unit factor
+      → IsLagText bytes (lag.Seconds (n * factor))
 
 pub data IsNameText : List ℕ → List ℕ → Type 0 where
   word_text : {bytes w : List ℕ} → IsToken bytes (Word w) [] → is_reserved w ≡ false → IsNameText bytes w

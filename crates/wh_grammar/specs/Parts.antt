@@ -1,4 +1,5 @@
--- Parts of statements: columns, options at the end, sort keys, lags, conditions and options of tasks and dynamic tables.
+-- Parts of statements: columns, options at the end, sort keys, lags, conditions and
+-- options of tasks and dynamic tables.
 use Rattle.std.specs.Prelude.{◌≡◌, ℕ, suc, ◌≤◌, Bool, true, false, List, [], ◌∷◌, Option, Some, None, codes}
 use Rattle.wh_value.specs.declared.column.ColumnType.{ColumnType}
 use Rattle.wh_value.specs.declared.column.ColumnType.TheVariants as types
@@ -30,10 +31,15 @@ pub data IsType : List ℕ → ColumnType → Type 0 where
   boolean : IsType (codes "BOOLEAN") types.Boolean
 
 pub data AreColumns : List Token → List Column → List Token → Type 0 where
-  last_column : {ts us : List Token} {name w : List ℕ} {type : ColumnType} → IsName ts name (Word w ∷ us) → IsType w type
+  last_column : {ts us : List Token} {name w : List ℕ} {type : ColumnType}
+      → IsName ts name (Word w ∷ us)
+      → IsType w type
       → AreColumns ts (record { name = name; column_type = type } ∷ []) us
-  more_columns : {ts us vs : List Token} {name w : List ℕ} {type : ColumnType} {more : List Column} → IsName ts name (Word w ∷ SignToken Comma ∷ us) → IsType w type
-      → AreColumns us more vs → AreColumns ts (record { name = name; column_type = type } ∷ more) vs
+  more_columns : {ts us vs : List Token} {name w : List ℕ} {type : ColumnType} {more : List Column}
+      → IsName ts name (Word w ∷ SignToken Comma ∷ us)
+      → IsType w type
+      → AreColumns us more vs
+      → AreColumns ts (record { name = name; column_type = type } ∷ more) vs
 
 -- [OR REPLACE]
 pub data MayReplace : List Token → Bool → List Token → Type 0 where
@@ -43,7 +49,8 @@ pub data MayReplace : List Token → Bool → List Token → Type 0 where
 -- [DATA_RETENTION_TIME_IN_DAYS = number], at the end
 pub data MayRetain : List Token → Option ℕ → Type 0 where
   no_retention : MayRetain [] None
-  retention : {n : ℕ} → MayRetain (Word (codes "DATA_RETENTION_TIME_IN_DAYS") ∷ SignToken Equal ∷ NumberToken n ∷ []) (Some n)
+  retention : {n : ℕ}
+      → MayRetain (Word (codes "DATA_RETENTION_TIME_IN_DAYS") ∷ SignToken Equal ∷ NumberToken n ∷ []) (Some n)
 
 -- [APPEND_ONLY = TRUE | APPEND_ONLY = FALSE], at the end
 pub data MayAppend : List Token → Bool → Type 0 where
@@ -64,14 +71,22 @@ pub data IsKey : List Token → Key → List Token → Type 0 where
 
 -- one key or more to the end
 pub data AreSorts : List Token → List Sort → Type 0 where
-  last_sort : {ts us : List Token} {k : Key} {d : Bool} → IsKey ts k us → IsDirection us d [] → AreSorts ts (record { key = k; descending = d } ∷ [])
-  more_sorts : {ts us vs : List Token} {k : Key} {d : Bool} {more : List Sort} → IsKey ts k us → IsDirection us d (SignToken Comma ∷ vs) → AreSorts vs more
+  last_sort : {ts us : List Token} {k : Key} {d : Bool}
+      → IsKey ts k us
+      → IsDirection us d []
+      → AreSorts ts (record { key = k; descending = d } ∷ [])
+  more_sorts : {ts us vs : List Token} {k : Key} {d : Bool} {more : List Sort}
+      → IsKey ts k us
+      → IsDirection us d (SignToken Comma ∷ vs)
+      → AreSorts vs more
       → AreSorts ts (record { key = k; descending = d } ∷ more)
 
 -- [ORDER BY key {, key}], at the end
 pub data MayHaveOrder : List Token → List Sort → Type 0 where
   no_order : MayHaveOrder [] []
-  an_order : {ts : List Token} {sorts : List Sort} → AreSorts ts sorts → MayHaveOrder (Word (codes "ORDER") ∷ Word (codes "BY") ∷ ts) sorts
+  an_order : {ts : List Token} {sorts : List Sort}
+      → AreSorts ts sorts
+      → MayHaveOrder (Word (codes "ORDER") ∷ Word (codes "BY") ∷ ts) sorts
 
 -- DOWNSTREAM | text
 pub data IsLag : List Token → Lag → List Token → Type 0 where
@@ -80,25 +95,38 @@ pub data IsLag : List Token → Lag → List Token → Type 0 where
 
 -- SYSTEM$STREAM_HAS_DATA ( text )
 pub data AsksForData : List Token → List ℕ → List Token → Type 0 where
-  asks : {us : List Token} {bytes name : List ℕ} → IsNameText bytes name
-      → AsksForData (Word (codes "SYSTEM$STREAM_HAS_DATA") ∷ SignToken LParen ∷ TextToken bytes ∷ SignToken RParen ∷ us) name us
+  asks : {us : List Token} {bytes name : List ℕ}
+      → IsNameText bytes name
+      → AsksForData (Word (codes "SYSTEM$STREAM_HAS_DATA") ∷ SignToken LParen ∷ TextToken bytes
+      ∷ SignToken RParen ∷ us) name us
 
 -- ---- conditions of tasks: cand {OR cand}, cnot {AND cnot}, NOT cnot
 
 mutual
   pub data IsCondition : ℕ → List Token → Condition → List Token → Type 0 where
     one_cand : {d : ℕ} {ts us : List Token} {x : Condition} → IsAndCondition d ts x us → IsCondition d ts x us
-    or_condition : {d : ℕ} {ts us vs : List Token} {x y : Condition} → IsCondition d ts x (Word (codes "OR") ∷ us) → IsAndCondition d us y vs → IsCondition d ts (c.Or x y) vs
+    or_condition : {d : ℕ} {ts us vs : List Token} {x y : Condition}
+        → IsCondition d ts x (Word (codes "OR") ∷ us)
+        → IsAndCondition d us y vs
+        → IsCondition d ts (c.Or x y) vs
 
   pub data IsAndCondition : ℕ → List Token → Condition → List Token → Type 0 where
     one_cnot : {d : ℕ} {ts us : List Token} {x : Condition} → IsNotCondition d ts x us → IsAndCondition d ts x us
-    and_condition : {d : ℕ} {ts us vs : List Token} {x y : Condition} → IsAndCondition d ts x (Word (codes "AND") ∷ us) → IsNotCondition d us y vs
+    and_condition : {d : ℕ} {ts us vs : List Token} {x y : Condition}
+        → IsAndCondition d ts x (Word (codes "AND") ∷ us)
+        → IsNotCondition d us y vs
         → IsAndCondition d ts (c.And x y) vs
 
   pub data IsNotCondition : ℕ → List Token → Condition → List Token → Type 0 where
-    not_condition : {d : ℕ} {ts us : List Token} {x : Condition} → IsNotCondition d ts x us → IsNotCondition (suc d) (Word (codes "NOT") ∷ ts) (c.Not x) us
-    inner_condition : {d : ℕ} {ts us : List Token} {x : Condition} → IsCondition d ts x (SignToken RParen ∷ us) → IsNotCondition (suc d) (SignToken LParen ∷ ts) x us
-    has_data : {d : ℕ} {ts us : List Token} {name : List ℕ} → AsksForData ts name us → IsNotCondition (suc d) ts (c.HasData name) us
+    not_condition : {d : ℕ} {ts us : List Token} {x : Condition}
+        → IsNotCondition d ts x us
+        → IsNotCondition (suc d) (Word (codes "NOT") ∷ ts) (c.Not x) us
+    inner_condition : {d : ℕ} {ts us : List Token} {x : Condition}
+        → IsCondition d ts x (SignToken RParen ∷ us)
+        → IsNotCondition (suc d) (SignToken LParen ∷ ts) x us
+    has_data : {d : ℕ} {ts us : List Token} {name : List ℕ}
+        → AsksForData ts name us
+        → IsNotCondition (suc d) ts (c.HasData name) us
 
 -- ---- options, in any order
 
@@ -108,9 +136,13 @@ pub data TaskOption : Type 0 where
 
 pub data AreTaskOptions : List Token → List TaskOption → List Token → Type 0 where
   no_more : {ts : List Token} → AreTaskOptions ts [] ts
-  warehouse : {ts us vs : List Token} {name : List ℕ} {more : List TaskOption} → IsName ts name us → AreTaskOptions us more vs
+  warehouse : {ts us vs : List Token} {name : List ℕ} {more : List TaskOption}
+      → IsName ts name us
+      → AreTaskOptions us more vs
       → AreTaskOptions (Word (codes "WAREHOUSE") ∷ SignToken Equal ∷ ts) (Warehouse ∷ more) vs
-  schedule : {us vs : List Token} {bytes : List ℕ} {n : ℕ} {more : List TaskOption} → IsSchedule bytes n → AreTaskOptions us more vs
+  schedule : {us vs : List Token} {bytes : List ℕ} {n : ℕ} {more : List TaskOption}
+      → IsSchedule bytes n
+      → AreTaskOptions us more vs
       → AreTaskOptions (Word (codes "SCHEDULE") ∷ SignToken Equal ∷ TextToken bytes ∷ us) (Schedule n ∷ more) vs
 
 -- each at most once: what the schedule is
@@ -138,13 +170,21 @@ pub data IsInitialize : Token → Initialize → Type 0 where
 
 pub data AreTableOptions : List Token → List TableOption → List Token → Type 0 where
   no_more_table : {ts : List Token} → AreTableOptions ts [] ts
-  target_lag : {ts us vs : List Token} {l : Lag} {more : List TableOption} → IsLag ts l us → AreTableOptions us more vs
+  target_lag : {ts us vs : List Token} {l : Lag} {more : List TableOption}
+      → IsLag ts l us
+      → AreTableOptions us more vs
       → AreTableOptions (Word (codes "TARGET_LAG") ∷ SignToken Equal ∷ ts) (TargetLag l ∷ more) vs
-  table_warehouse : {ts us vs : List Token} {name : List ℕ} {more : List TableOption} → IsName ts name us → AreTableOptions us more vs
+  table_warehouse : {ts us vs : List Token} {name : List ℕ} {more : List TableOption}
+      → IsName ts name us
+      → AreTableOptions us more vs
       → AreTableOptions (Word (codes "WAREHOUSE") ∷ SignToken Equal ∷ ts) (TableWarehouse ∷ more) vs
-  refresh_mode : {t : Token} {us vs : List Token} {m : RefreshMode} {more : List TableOption} → IsMode t m → AreTableOptions us more vs
+  refresh_mode : {t : Token} {us vs : List Token} {m : RefreshMode} {more : List TableOption}
+      → IsMode t m
+      → AreTableOptions us more vs
       → AreTableOptions (Word (codes "REFRESH_MODE") ∷ SignToken Equal ∷ t ∷ us) (Mode m ∷ more) vs
-  initialize : {t : Token} {us vs : List Token} {i : Initialize} {more : List TableOption} → IsInitialize t i → AreTableOptions us more vs
+  initialize : {t : Token} {us vs : List Token} {i : Initialize} {more : List TableOption}
+      → IsInitialize t i
+      → AreTableOptions us more vs
       → AreTableOptions (Word (codes "INITIALIZE") ∷ SignToken Equal ∷ t ∷ us) (Initialized i ∷ more) vs
 
 abbrev pub lags_in : List TableOption → List Lag

@@ -1,7 +1,8 @@
 -- The lines of a script.
 --     Line         a command's text, a session's number, or a tick with its reading if one is written
 --     lines_of     the lines of a script
-use Rattle.std.specs.Prelude.{ℕ, Bool, false, ◌&&◌, ◌||◌, List, [], ◌∷◌, ◌++◌, ◌==◌, if◌then◌else◌, length, take, drop, Option, Some, None, nat_le, nat_eq, codes, bytes_eq}
+use Rattle.std.specs.Prelude.{ℕ, Bool, false, ◌&&◌, ◌||◌, List, [], ◌∷◌, ◌++◌, ◌==◌, if◌then◌else◌, length, take, drop}
+use Rattle.std.specs.Prelude.{Option, Some, None, nat_le, nat_eq, codes, bytes_eq}
 use Rattle.std.specs.List.{list_all, starts_with}
 use Rattle.wh_grammar.specs.Bytes.{is_blank, is_digit, number_behind}
 use Rattle.wh_grammar.specs.Lexing.{begins_with, is_byte, has_comment_end}
@@ -16,7 +17,8 @@ pub data Line : Type 0 where
 -- the number of 1 to so many digits behind a word
 abbrev pub number_after : List ℕ → ℕ → List ℕ → Option ℕ
 number_after word most text =
-    if starts_with nat_eq text word && nat_le 1 (length digits) && nat_le (length digits) most && list_all is_digit digits
+    if starts_with nat_eq text word && nat_le 1 (length digits) && nat_le (length digits) most
+    && list_all is_digit digits
     then Some (number_behind 0 digits) else None
   where
     digits : List ℕ
@@ -38,7 +40,8 @@ session_or (Some session) other = SessionLine session
 unfoldable pub marked_line : List ℕ → Line
 marked_line text =
     if bytes_eq text (codes "!tick") then TickLine None
-    else tick_or (number_after (codes "!tick ") 18 text) (session_or (number_after (codes "!session ") 9 text) (command_line text))
+    else tick_or (number_after (codes "!tick ") 18 text)
+    (session_or (number_after (codes "!session ") 9 text) (command_line text))
 
 -- a CR before the end of the line is dropped
 unfoldable pub without_return : List ℕ → List ℕ
@@ -82,8 +85,8 @@ ends_command CommentSlash b = false
 
 -- ---- whole scripts
 
--- where a byte of a script stands: between commands, there but in a comment, or behind so many bytes of a marked line or
--- of a command
+-- where a byte of a script stands: between commands, there but in a comment, or behind so many bytes
+-- of a marked line or of a command
 pub data Place : Type 0 where
   Gap : Place
   GapComment : Area → Place
@@ -99,7 +102,8 @@ gap_at CommentStar = GapComment CommentStar
 gap_at Comment = GapComment Comment
 gap_at CommentSlash = GapComment CommentSlash
 
--- between commands: blanks and `;` are passed over, and comments that end; a `!` begins a line, and any other byte a command
+-- between commands: blanks and `;` are passed over, and comments that end; a `!` begins a
+-- line, and any other byte a command
 unfoldable pub place_behind : ℕ → List ℕ → Place
 place_behind b bytes =
     if is_blank b || b == 59 then Gap

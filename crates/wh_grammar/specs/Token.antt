@@ -51,7 +51,8 @@ sign_number AtLeast = 12
 sign_number Arrow = 13
 
 abbrev all_signs : List Sign
-all_signs = LParen ∷ RParen ∷ Comma ∷ Dot ∷ Star ∷ Plus ∷ Minus ∷ Equal ∷ Unequal ∷ Less ∷ AtMost ∷ Greater ∷ AtLeast ∷ Arrow ∷ []
+all_signs = LParen ∷ RParen ∷ Comma ∷ Dot ∷ Star ∷ Plus ∷ Minus ∷ Equal ∷ Unequal ∷ Less ∷ AtMost ∷ Greater
+    ∷ AtLeast ∷ Arrow ∷ []
 
 abbrev sign_at : ℕ → Sign
 sign_at n = unwrap_or (slice_get all_signs n) Arrow

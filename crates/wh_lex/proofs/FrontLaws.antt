@@ -1,13 +1,19 @@
 -- What is read at the front of a text stands there, and what stands there is read.
-use Rattle.std.proofs.Common.{◌≡◌, ◌≢◌, ℕ, suc, ◌<◌, Bool, true, false, ◌&&◌, if◌then◌else◌, List, [], ◌∷◌, ◌++◌, length, map, take, drop, Option, Some, None, option_map, refl, sym, ap, ap₂, ◌∙◌, subst, ne_eqb, ltb, ltb-true, lt-ltb, ◌==◌, eqb-true, arith, take_at, drop_at, take-append-drop, one-add}
+use Rattle.std.proofs.Common.{◌≡◌, ◌≢◌, ℕ, suc, ◌<◌, Bool, true, false, ◌&&◌, if◌then◌else◌, List, [], ◌∷◌, ◌++◌}
+use Rattle.std.proofs.Common.{length, map, take, drop, Option, Some, None, option_map, refl, sym, ap, ap₂, ◌∙◌, subst}
+use Rattle.std.proofs.Common.{ne_eqb, ltb, ltb-true, lt-ltb, ◌==◌, eqb-true, arith, take_at, drop_at}
+use Rattle.std.proofs.Common.{take-append-drop, one-add}
 use Rattle.std.specs.List.{list_all}
 use Rattle.std.proofs.lemmas.Bool.{and_parts, and_from}
 use Rattle.wh_value.specs.Value.{IsText}
 use Rattle.wh_grammar.specs.Bytes.{is_blank, is_digit, begins_word, is_word_byte, upper, number_behind}
 use Rattle.wh_grammar.specs.Token.{Token, Word, Quoted, TextToken, NumberToken}
-use Rattle.wh_grammar.specs.Lexing.{IsGap, blank, IsToken, word, number, text, quoted, sign, other_unequal, begins_with, is_byte, is_plain, doubled}
-use Rattle.wh_lex.specs.Front.{Front, gap, token, text_of, word_len, word_front, number_from, number_front, quoted_of, text_front, name_front, line_rest, comment_rest, front_behind, front_of}
-use Rattle.wh_lex.proofs.WordLemmas.{all-prefix, stops-prefix, prefix_len-front, word-not_blank, begins-word, digit-word, digit-other, digit-not_blank}
+use Rattle.wh_grammar.specs.Lexing.{IsGap, blank, IsToken, word, number, text, quoted, sign, other_unequal, begins_with}
+use Rattle.wh_grammar.specs.Lexing.{is_byte, is_plain, doubled}
+use Rattle.wh_lex.specs.Front.{Front, gap, token, text_of, word_len, word_front, number_from, number_front, quoted_of}
+use Rattle.wh_lex.specs.Front.{text_front, name_front, line_rest, comment_rest, front_behind, front_of}
+use Rattle.wh_lex.proofs.WordLemmas.{all-prefix, stops-prefix, prefix_len-front, word-not_blank, begins-word}
+use Rattle.wh_lex.proofs.WordLemmas.{digit-word, digit-other, digit-not_blank}
 use Rattle.wh_lex.proofs.GapLemmas.{begins, line-IsGap, comment-IsGap, GapIf}
 use Rattle.wh_lex.proofs.QuoteLaws.{IsQuoted, quoted-stands, quoted-read}
 use Rattle.wh_lex.proofs.TextLemmas.{of_text, text-read}
@@ -26,11 +32,12 @@ word-stands b bytes h =
     let made : List ℕ = map upper (b ∷ take n bytes) in
     let here : Stands (b ∷ bytes) (option_map (λ w. token (Word w) (drop n bytes)) (text_of made)) =
     of_text (λ o. Stands (b ∷ bytes) (option_map (λ w. token (Word w) (drop n bytes)) o)) made
-    (λ t. word b (take n bytes) (ap (λ l. b ∷ l) (sym (take-append-drop n bytes))) h (all-prefix is_word_byte bytes) (stops-prefix is_word_byte bytes) t refl) tt in
+    (λ t. word b (take n bytes) (ap (λ l. b ∷ l) (sym (take-append-drop n bytes))) h (all-prefix is_word_byte bytes)
+    (stops-prefix is_word_byte bytes) t refl) tt in
     simp (k, one-add) here
 
-number_by : (bytes digits rest : List ℕ) (r : Bool) → bytes ≡ digits ++ rest → digits ≢ [] → begins_with is_word_byte rest ≡ false
-    → (list_all is_digit digits && ltb (number_behind 0 digits) limit) ≡ r
+number_by : (bytes digits rest : List ℕ) (r : Bool) → bytes ≡ digits ++ rest → digits ≢ []
+    → begins_with is_word_byte rest ≡ false → (list_all is_digit digits && ltb (number_behind 0 digits) limit) ≡ r
     → Stands bytes (option_map (λ n. token (NumberToken n) rest) (if r then Some (number_behind 0 digits) else None))
 number_by bytes digits rest true e some stop h =
     let both = and_parts (list_all is_digit digits) (ltb (number_behind 0 digits) limit) h in
@@ -42,7 +49,8 @@ unfolding number_from
 number-stands b bytes h =
     let k = digit-word b h in
     let n = word_len bytes in
-    let here = number_by (b ∷ bytes) (b ∷ take n bytes) (drop n bytes) _ (ap (λ l. b ∷ l) (sym (take-append-drop n bytes))) (λ e. cc) (stops-prefix is_word_byte bytes) refl in
+    let here = number_by (b ∷ bytes) (b ∷ take n bytes) (drop n bytes) _
+    (ap (λ l. b ∷ l) (sym (take-append-drop n bytes))) (λ e. cc) (stops-prefix is_word_byte bytes) refl in
     simp (k, one-add) here
 
 -- ---- texts and names do
@@ -94,14 +102,17 @@ front-stands b bytes =
     by_test P (is_digit b) _ _ (number-stands b bytes) (λ _.
     by_test P (b == 39) _ _ (λ h. first 39 _ h (text_by bytes (quoted_of 39 bytes) (quoted-stands 39 bytes))) (λ _.
     by_test P (b == 34) _ _ (λ h. first 34 _ h (name_by bytes (quoted_of 34 bytes) (quoted-stands 34 bytes))) (λ _.
-    by_test P (twice 45 45 b bytes) _ _ (λ h. subst (λ (l : List ℕ). IsGap l (line_rest (drop 1 bytes))) (two_bytes 45 45 b bytes h) (line-IsGap (drop 1 bytes))) (λ other.
+    by_test P (twice 45 45 b bytes) _ _ (λ h. subst (λ (l : List ℕ). IsGap l (line_rest (drop 1 bytes)))
+    (two_bytes 45 45 b bytes h) (line-IsGap (drop 1 bytes))) (λ other.
     by_test P (twice 47 42 b bytes) _ _
-    (λ h. comment_by (b ∷ bytes) _ (subst (λ (l : List ℕ). GapIf l (comment_rest (drop 1 bytes))) (two_bytes 47 42 b bytes h) (comment-IsGap (drop 1 bytes))))
+    (λ h. comment_by (b ∷ bytes) _ (subst (λ (l : List ℕ). GapIf l (comment_rest (drop 1 bytes)))
+    (two_bytes 47 42 b bytes h) (comment-IsGap (drop 1 bytes))))
     (λ _. sign-stands b bytes other)))))))
 
 -- ---- what stands there is read
 
-word_is_read : (b : ℕ) (more rest : List ℕ) → begins_word b ≡ true → list_all is_word_byte more ≡ true → begins_with is_word_byte rest ≡ false → IsText (map upper (b ∷ more))
+word_is_read : (b : ℕ) (more rest : List ℕ) → begins_word b ≡ true → list_all is_word_byte more ≡ true
+    → begins_with is_word_byte rest ≡ false → IsText (map upper (b ∷ more))
     → front_behind b (more ++ rest) ≡ Some (token (Word (map upper (b ∷ more))) rest)
 unfolding front_behind
 word_is_read b more rest h all stop made =
@@ -116,15 +127,18 @@ digits_are_word (d ∷ digits) h =
     let both = and_parts (is_digit d) (list_all is_digit digits) h in
     and_from (is_word_byte d) (list_all is_word_byte digits) (digit-word d both.0) (digits_are_word digits both.1)
 
-number_from-digits : (digits : List ℕ) → list_all is_digit digits ≡ true → number_behind 0 digits < limit → number_from 0 digits ≡ Some (number_behind 0 digits)
+number_from-digits : (digits : List ℕ) → list_all is_digit digits ≡ true → number_behind 0 digits < limit
+    → number_from 0 digits ≡ Some (number_behind 0 digits)
 unfolding number_from
 number_from-digits digits all small = let below = lt-ltb (number_behind 0 digits) limit small in rw (all, below) refl
 
-number_front-digits : (digits rest : List ℕ) → list_all is_digit digits ≡ true → number_behind 0 digits < limit → begins_with is_word_byte rest ≡ false
+number_front-digits : (digits rest : List ℕ) → list_all is_digit digits ≡ true → number_behind 0 digits < limit
+    → begins_with is_word_byte rest ≡ false
     → number_front (digits ++ rest) ≡ Some (token (NumberToken (number_behind 0 digits)) rest)
 number_front-digits digits rest all small stop =
     let len = prefix_len-front is_word_byte digits rest (digits_are_word digits all) stop in
-    let number_at : List ℕ → List ℕ → Option Front = λ piece after. option_map (λ n. token (NumberToken n) after) (number_from 0 piece) in
+    let number_at : List ℕ → List ℕ → Option Front =
+    λ piece after. option_map (λ n. token (NumberToken n) after) (number_from 0 piece) in
     ap (λ n. number_at (take n (digits ++ rest)) (drop n (digits ++ rest))) len
     ∙ ap₂ number_at (take_at digits rest (length digits) refl) (drop_at digits rest (length digits) refl)
     ∙ ap (option_map (λ n. token (NumberToken n) rest)) (number_from-digits digits all small)
@@ -136,13 +150,16 @@ digit_is_read d bytes digit =
     let no_word = digit-other d digit in
     rw (no_blank, no_word, digit) refl
 
-number_is_read : (digits rest : List ℕ) → digits ≢ [] → list_all is_digit digits ≡ true → number_behind 0 digits < limit → begins_with is_word_byte rest ≡ false
+number_is_read : (digits rest : List ℕ) → digits ≢ [] → list_all is_digit digits ≡ true → number_behind 0 digits < limit
+    → begins_with is_word_byte rest ≡ false
     → front_of (digits ++ rest) ≡ Some (token (NumberToken (number_behind 0 digits)) rest)
 number_is_read [] rest some all small stop = absurd (some refl)
 number_is_read (d ∷ digits) rest some all small stop =
-    digit_is_read d (digits ++ rest) (and_parts (is_digit d) (list_all is_digit digits) all).0 ∙ number_front-digits (d ∷ digits) rest all small stop
+    digit_is_read d (digits ++ rest) (and_parts (is_digit d) (list_all is_digit digits) all).0
+    ∙ number_front-digits (d ∷ digits) rest all small stop
 
-text_is_read : (inside rest : List ℕ) → IsText inside → list_all is_plain inside ≡ true → begins_with (is_byte 39) rest ≡ false
+text_is_read : (inside rest : List ℕ) → IsText inside → list_all is_plain inside ≡ true
+    → begins_with (is_byte 39) rest ≡ false
     → front_of (39 ∷ (doubled 39 inside ++ 39 ∷ rest)) ≡ Some (token (TextToken inside) rest)
 unfolding front_behind
 text_is_read inside rest made plain stop = rw (quoted-read 39 inside rest stop, plain, text-read inside made) refl
@@ -154,9 +171,11 @@ some_inside (b ∷ inside) h = ne_eqb (length (b ∷ inside)) 0 (λ (e : suc (le
 name_is_read : (inside rest : List ℕ) → IsText inside → inside ≢ [] → begins_with (is_byte 34) rest ≡ false
     → front_of (34 ∷ (doubled 34 inside ++ 34 ∷ rest)) ≡ Some (token (Quoted inside) rest)
 unfolding front_behind
-name_is_read inside rest made some stop = rw (quoted-read 34 inside rest stop, some_inside inside some, text-read inside made) refl
+name_is_read inside rest made some stop =
+    rw (quoted-read 34 inside rest stop, some_inside inside some, text-read inside made) refl
 
-pub token_is_read : (bytes : List ℕ) (t : Token) (rest : List ℕ) → IsToken bytes t rest → front_of bytes ≡ Some (token t rest)
+pub token_is_read : (bytes : List ℕ) (t : Token) (rest : List ℕ) → IsToken bytes t rest
+    → front_of bytes ≡ Some (token t rest)
 token_is_read bytes t rest (word b more e h all stop made is) =
     ap front_of e ∙ word_is_read b more rest h all stop made ∙ ap (λ u. Some (token u rest)) (sym is)
 token_is_read bytes t rest (number digits e some all small stop is) =
@@ -165,5 +184,6 @@ token_is_read bytes t rest (text inside e made plain stop is) =
     ap front_of e ∙ text_is_read inside rest made plain stop ∙ ap (λ u. Some (token u rest)) (sym is)
 token_is_read bytes t rest (quoted inside e made some stop is) =
     ap front_of e ∙ name_is_read inside rest made some stop ∙ ap (λ u. Some (token u rest)) (sym is)
-token_is_read bytes t rest (sign s e stop is) = sign_is_read s bytes rest e stop ∙ ap (λ u. Some (token u rest)) (sym is)
+token_is_read bytes t rest (sign s e stop is) = sign_is_read s bytes rest e stop
+    ∙ ap (λ u. Some (token u rest)) (sym is)
 token_is_read bytes t rest (other_unequal e is) = unequal_is_read bytes rest e ∙ ap (λ u. Some (token u rest)) (sym is)

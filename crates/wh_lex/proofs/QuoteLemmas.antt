@@ -1,5 +1,6 @@
 -- Lemmas on what stands inside quotes.
-use Rattle.std.proofs.Common.{◌≡◌, ℕ, Bool, true, false, List, [], ◌∷◌, ◌++◌, Option, Some, None, refl, sym, ap, ◌∙◌, append_assoc, append-nil, eqb}
+use Rattle.std.proofs.Common.{◌≡◌, ℕ, Bool, true, false, List, [], ◌∷◌, ◌++◌, Option, Some, None, refl, sym, ap, ◌∙◌}
+use Rattle.std.proofs.Common.{append_assoc, append-nil, eqb}
 use Rattle.wh_lex.specs.Front.{inside_behind, inside_first, onto, quoted_of}
 
 -- ---- one byte after the other
@@ -13,7 +14,8 @@ pub grown-nil : (p : Option (List ℕ × List ℕ)) → grown [] p ≡ p
 grown-nil None = refl
 grown-nil (Some p) = refl
 
-grown-onto : (front : List ℕ) (b : ℕ) (p : Option (List ℕ × List ℕ)) → grown front (onto b p) ≡ grown (front ++ b ∷ []) p
+grown-onto : (front : List ℕ) (b : ℕ) (p : Option (List ℕ × List ℕ))
+    → grown front (onto b p) ≡ grown (front ++ b ∷ []) p
 grown-onto front b None = refl
 grown-onto front b (Some p) = ap (λ (l : List ℕ). Some (l, p.1)) (sym (append_assoc front (b ∷ []) p.0))
 
@@ -33,7 +35,8 @@ second_by quote b c bytes true true e f = rw (e, f) refl
 second_by quote b c bytes true false e f = rw (e, f) refl
 second_by quote b c bytes false s e f = rw e refl
 
-first_by : (quote b : ℕ) (r : Bool) → eqb b quote ≡ r → by_first quote (inside_behind quote b []) ≡ quoted_of quote (b ∷ [])
+first_by : (quote b : ℕ) (r : Bool) → eqb b quote ≡ r
+    → by_first quote (inside_behind quote b []) ≡ quoted_of quote (b ∷ [])
 unfolding quoted_of
 first_by quote b true e = rw e refl
 first_by quote b false e = rw e refl
@@ -48,15 +51,20 @@ quoted_of-first quote (b ∷ c ∷ bytes) = second_by quote b c bytes _ _ refl r
 
 pub quoted-open : (quote : ℕ) (inside rest bytes : List ℕ) → grown inside (quoted_of quote rest) ≡ quoted_of quote bytes
     → None ≡ inside_first quote rest → quoted_of quote bytes ≡ None
-quoted-open quote inside rest bytes left e = sym left ∙ ap (grown inside) (sym (quoted_of-first quote rest) ∙ ap (by_first quote) (sym e))
+quoted-open quote inside rest bytes left e = sym left
+    ∙ ap (grown inside) (sym (quoted_of-first quote rest) ∙ ap (by_first quote) (sym e))
 
-pub quoted-end : (quote : ℕ) (inside rest bytes after : List ℕ) → grown inside (quoted_of quote rest) ≡ quoted_of quote bytes
-    → Some (None, after) ≡ inside_first quote rest → quoted_of quote bytes ≡ Some (inside, after)
+pub quoted-end : (quote : ℕ) (inside rest bytes after : List ℕ)
+    → grown inside (quoted_of quote rest) ≡ quoted_of quote bytes → Some (None, after) ≡ inside_first quote rest
+    → quoted_of quote bytes ≡ Some (inside, after)
 quoted-end quote inside rest bytes after left e =
-    sym left ∙ ap (grown inside) (sym (quoted_of-first quote rest) ∙ ap (by_first quote) (sym e)) ∙ ap (λ (l : List ℕ). Some (l, after)) (append-nil inside)
+    sym left ∙ ap (grown inside) (sym (quoted_of-first quote rest) ∙ ap (by_first quote) (sym e))
+    ∙ ap (λ (l : List ℕ). Some (l, after)) (append-nil inside)
 
-pub quoted-more : (quote b : ℕ) (inside rest bytes after made : List ℕ) → grown inside (quoted_of quote rest) ≡ quoted_of quote bytes
-    → Some (Some b, after) ≡ inside_first quote rest → made ≡ inside ++ b ∷ [] → grown made (quoted_of quote after) ≡ quoted_of quote bytes
+pub quoted-more : (quote b : ℕ) (inside rest bytes after made : List ℕ)
+    → grown inside (quoted_of quote rest) ≡ quoted_of quote bytes → Some (Some b, after) ≡ inside_first quote rest
+    → made ≡ inside ++ b ∷ []
+    → grown made (quoted_of quote after) ≡ quoted_of quote bytes
 quoted-more quote b inside rest bytes after made left e more =
     ap (λ l. grown l (quoted_of quote after)) more ∙ sym (grown-onto inside b (quoted_of quote after))
     ∙ ap (grown inside) (ap (by_first quote) e ∙ quoted_of-first quote rest) ∙ left

@@ -1,8 +1,10 @@
 -- Signs: what is read as one is one, and what is one is read.
-use Rattle.std.proofs.Common.{◌≡◌, ℕ, Bool, true, false, ◌&&◌, ◌||◌, List, [], ◌∷◌, ◌++◌, Option, Some, None, refl, ap, ◌∙◌, subst, ◌==◌, eqb-true, arith}
+use Rattle.std.proofs.Common.{◌≡◌, ℕ, Bool, true, false, ◌&&◌, ◌||◌, List, [], ◌∷◌, ◌++◌, Option, Some, None, refl, ap}
+use Rattle.std.proofs.Common.{◌∙◌, subst, ◌==◌, eqb-true, arith}
 use Rattle.std.proofs.lemmas.Bool.{and_parts}
 use Rattle.std.proofs.lemmas.Bool.Decides.{nat_tests}
-use Rattle.wh_grammar.specs.Token.{Sign, LParen, RParen, Comma, Dot, Star, Plus, Minus, Equal, Unequal, Less, AtMost, Greater, AtLeast, Arrow, SignToken}
+use Rattle.wh_grammar.specs.Token.{Sign, LParen, RParen, Comma, Dot, Star, Plus, Minus, Equal, Unequal, Less, AtMost}
+use Rattle.wh_grammar.specs.Token.{Greater, AtLeast, Arrow, SignToken}
 use Rattle.wh_grammar.specs.Lexing.{IsToken, sign, other_unequal, sign_bytes, extends, begins_with, is_byte}
 use Rattle.wh_lex.proofs.Standing.{by_test, Stands, or_false}
 use Rattle.wh_lex.specs.Front.{single, double, sign_if, sign_front, front_of, front_behind, token}
@@ -24,11 +26,16 @@ two b c x y h bytes =
 
 double-IsDouble : (b c : ℕ) → IsDouble b c (double b c)
 double-IsDouble b c =
-    by_test (IsDouble b c) (b == 60 && c == 61) _ _ (λ h bytes. sign AtMost (two b c 60 61 h bytes) (none_begins bytes) refl) (λ _.
-    by_test (IsDouble b c) (b == 60 && c == 62) _ _ (λ h bytes. sign Unequal (two b c 60 62 h bytes) (none_begins bytes) refl) (λ _.
-    by_test (IsDouble b c) (b == 62 && c == 61) _ _ (λ h bytes. sign AtLeast (two b c 62 61 h bytes) (none_begins bytes) refl) (λ _.
-    by_test (IsDouble b c) (b == 61 && c == 62) _ _ (λ h bytes. sign Arrow (two b c 61 62 h bytes) (none_begins bytes) refl) (λ _.
-    by_test (IsDouble b c) (b == 33 && c == 61) _ _ (λ h bytes. other_unequal (two b c 33 61 h bytes) refl) (λ _. tt)))))
+    by_test (IsDouble b c) (b == 60 && c == 61) _ _
+    (λ h bytes. sign AtMost (two b c 60 61 h bytes) (none_begins bytes) refl) (λ _.
+    by_test (IsDouble b c) (b == 60 && c == 62) _ _
+    (λ h bytes. sign Unequal (two b c 60 62 h bytes) (none_begins bytes) refl) (λ _.
+    by_test (IsDouble b c) (b == 62 && c == 61) _ _
+    (λ h bytes. sign AtLeast (two b c 62 61 h bytes) (none_begins bytes) refl) (λ _.
+    by_test (IsDouble b c) (b == 61 && c == 62) _ _
+    (λ h bytes. sign Arrow (two b c 61 62 h bytes) (none_begins bytes) refl) (λ _.
+    by_test (IsDouble b c) (b == 33 && c == 61) _ _
+    (λ h bytes. other_unequal (two b c 33 61 h bytes) refl) (λ _. tt)))))
 
 -- ---- one byte
 
@@ -75,7 +82,8 @@ no_comment b c e h = grind (arith, nat_tests)
 
 single-Stops : (b c : ℕ) → double b c ≡ None → (b == 45 && is_byte 45 c) ≡ false → Stops c (single b)
 single-Stops b c none other =
-    let at : (x : ℕ) → (b == x) ≡ true → double x c ≡ None = λ x h. subst (λ (n : ℕ). double n c ≡ None) (eqb-true b x h) none in
+    let at : (x : ℕ) → (b == x) ≡ true → double x c ≡ None =
+    λ x h. subst (λ (n : ℕ). double n c ≡ None) (eqb-true b x h) none in
     by_test (Stops c) (b == 40) _ _ (λ _. refl) (λ _.
     by_test (Stops c) (b == 41) _ _ (λ _. refl) (λ _.
     by_test (Stops c) (b == 44) _ _ (λ _. refl) (λ _.
@@ -93,16 +101,19 @@ last_sign : (b : ℕ) (o : Option Sign) → IsSingle b o → Stands (b ∷ []) (
 last_sign b None h = tt
 last_sign b (Some s) h = h [] refl
 
-one_sign : (b c : ℕ) (bytes : List ℕ) (o : Option Sign) → IsSingle b o → Stops c o → Stands (b ∷ c ∷ bytes) (sign_if o (c ∷ bytes) None)
+one_sign : (b c : ℕ) (bytes : List ℕ) (o : Option Sign) → IsSingle b o → Stops c o
+    → Stands (b ∷ c ∷ bytes) (sign_if o (c ∷ bytes) None)
 one_sign b c bytes None h stop = tt
 one_sign b c bytes (Some s) h stop = h (c ∷ bytes) stop
 
-either_sign : (b c : ℕ) (bytes : List ℕ) (o : Option Sign) → double b c ≡ o → IsDouble b c o → (b == 45 && is_byte 45 c) ≡ false
+either_sign : (b c : ℕ) (bytes : List ℕ) (o : Option Sign) → double b c ≡ o → IsDouble b c o
+    → (b == 45 && is_byte 45 c) ≡ false
     → Stands (b ∷ c ∷ bytes) (sign_if o bytes (sign_if (single b) (c ∷ bytes) None))
 either_sign b c bytes None e h other = one_sign b c bytes (single b) (single-IsSingle b) (single-Stops b c e other)
 either_sign b c bytes (Some s) e h other = h bytes
 
-pub sign-stands : (b : ℕ) (bytes : List ℕ) → (b == 45 && begins_with (is_byte 45) bytes) ≡ false → Stands (b ∷ bytes) (sign_front b bytes)
+pub sign-stands : (b : ℕ) (bytes : List ℕ) → (b == 45 && begins_with (is_byte 45) bytes) ≡ false
+    → Stands (b ∷ bytes) (sign_front b bytes)
 unfolding sign_front
 sign-stands b [] other = last_sign b (single b) (single-IsSingle b)
 sign-stands b (c ∷ bytes) other = either_sign b c bytes (double b c) refl (double-IsDouble b c) other
@@ -139,10 +150,12 @@ sign_read Greater (c ∷ rest) h = rw h refl
 sign_read AtLeast rest h = refl
 sign_read Arrow rest h = refl
 
-pub sign_is_read : (s : Sign) (bytes rest : List ℕ) → bytes ≡ sign_bytes s ++ rest → begins_with (extends s) rest ≡ false
+pub sign_is_read : (s : Sign) (bytes rest : List ℕ) → bytes ≡ sign_bytes s ++ rest
+    → begins_with (extends s) rest ≡ false
     → front_of bytes ≡ Some (token (SignToken s) rest)
 sign_is_read s bytes rest e h = ap front_of e ∙ sign_read s rest h
 
-pub unequal_is_read : (bytes rest : List ℕ) → bytes ≡ 33 ∷ 61 ∷ rest → front_of bytes ≡ Some (token (SignToken Unequal) rest)
+pub unequal_is_read : (bytes rest : List ℕ) → bytes ≡ 33 ∷ 61 ∷ rest
+    → front_of bytes ≡ Some (token (SignToken Unequal) rest)
 unfolding front_behind sign_front
 unequal_is_read bytes rest e = ap front_of e

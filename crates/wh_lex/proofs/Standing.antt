@@ -15,7 +15,8 @@ Stands bytes None = Unit {0}
 Stands bytes (Some p) = IsRead bytes p.0 p.1
 
 -- what holds of both branches of a test holds of it
-pub by_test : {X : Type 0} (P : X → Type 0) (r : Bool) (x y : X) → (r ≡ true → P x) → (r ≡ false → P y) → P (if r then x else y)
+pub by_test : {X : Type 0} (P : X → Type 0) (r : Bool) (x y : X) → (r ≡ true → P x) → (r ≡ false → P y)
+    → P (if r then x else y)
 by_test P true x y p q = p refl
 by_test P false x y p q = q refl
 

@@ -1,5 +1,6 @@
 -- Which bytes are a text.
-use Rattle.std.proofs.Common.{◌≡◌, ℕ, Bool, true, false, ◌&&◌, if◌then◌else◌, List, length, Option, Some, None, refl, le-leb, leb-true, leb}
+use Rattle.std.proofs.Common.{◌≡◌, ℕ, Bool, true, false, ◌&&◌, if◌then◌else◌, List, length, Option, Some, None, refl}
+use Rattle.std.proofs.Common.{le-leb, leb-true, leb}
 use Rattle.std.specs.Str.{is_utf8}
 use Rattle.std.proofs.lemmas.Bool.{and_parts}
 use Rattle.std.proofs.lemmas.Str.{IsUtf8-from_is_utf8, is_utf8-from_IsUtf8}
@@ -7,7 +8,8 @@ use Rattle.wh_value.specs.Value.{IsText}
 use Rattle.wh_lex.specs.Front.{text_of}
 
 -- what holds of the outcome, where it holds of a text and of none
-pub of_text : (P : Option (List ℕ) → Type 0) (bytes : List ℕ) → (IsText bytes → P (Some bytes)) → P None → P (text_of bytes)
+pub of_text : (P : Option (List ℕ) → Type 0) (bytes : List ℕ) → (IsText bytes → P (Some bytes)) → P None
+    → P (text_of bytes)
 unfolding text_of
 of_text P bytes some none = by (is_utf8 bytes && leb (length bytes) 65536) (λ e.
     let both = and_parts (is_utf8 bytes) (leb (length bytes) 65536) e in

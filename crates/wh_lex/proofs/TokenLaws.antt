@@ -1,8 +1,10 @@
 -- The tokens of a text, from one front to the next.
-use Rattle.std.proofs.Common.{◌≡◌, ◌≢◌, ℕ, ◌<◌, List, [], ◌∷◌, ◌++◌, length, Option, Some, None, option_map, IfSome, refl, sym, ap, ◌∙◌, subst, append_assoc, append-nil, length-append, arith}
+use Rattle.std.proofs.Common.{◌≡◌, ◌≢◌, ℕ, ◌<◌, List, [], ◌∷◌, ◌++◌, length, Option, Some, None, option_map, IfSome}
+use Rattle.std.proofs.Common.{refl, sym, ap, ◌∙◌, subst, append_assoc, append-nil, length-append, arith}
 use Rattle.std.proofs.lemmas.Option.{same_Some}
 use Rattle.wh_grammar.specs.Token.{Sign, LParen, Token, Placed}
-use Rattle.wh_grammar.specs.Lexing.{IsGap, blank, line_comment, last_comment, comment, IsToken, word, number, text, quoted, sign, other_unequal, sign_bytes, doubled, HasTokens, end, gap, token}
+use Rattle.wh_grammar.specs.Lexing.{IsGap, blank, line_comment, last_comment, comment, IsToken, word, number, text}
+use Rattle.wh_grammar.specs.Lexing.{quoted, sign, other_unequal, sign_bytes, doubled, HasTokens, end, gap, token}
 use Rattle.wh_lex.specs.Front.{Front, front_of, placed_at}
 use Rattle.wh_lex.specs.declared.fault.LexFault.{LexFault}
 use Rattle.wh_lex.specs.declared.fault.LexFault.TheVariants.{SyntaxError, OutOfMemory}
@@ -28,17 +30,21 @@ data Goes (bytes : List ℕ) (vs : List Placed) : Type 0 where
 
 goes : {bytes : List ℕ} {vs : List Placed} → HasTokens bytes vs → Goes bytes vs
 goes end = at_end refl refl
-goes (gap {bytes} {rest} {ts} g h) = reads None rest (gap_is_read bytes rest g) (record { tokens = ts; has = h; is = refl })
-goes (token {bytes} {rest} {t} {ts} k h) = reads (Some t) rest (token_is_read bytes t rest k) (record { tokens = ts; has = h; is = refl })
+goes (gap {bytes} {rest} {ts} g h) =
+    reads None rest (gap_is_read bytes rest g) (record { tokens = ts; has = h; is = refl })
+goes (token {bytes} {rest} {t} {ts} k h) =
+    reads (Some t) rest (token_is_read bytes t rest k) (record { tokens = ts; has = h; is = refl })
 
 -- it is what is read
-follows_by : (bytes : List ℕ) (vs : List Placed) (t : Option Token) (rest : List ℕ) → front_of bytes ≡ Some (t, rest) → Goes bytes vs → Follows bytes vs t rest
+follows_by : (bytes : List ℕ) (vs : List Placed) (t : Option Token) (rest : List ℕ) → front_of bytes ≡ Some (t, rest)
+    → Goes bytes vs → Follows bytes vs t rest
 follows_by bytes vs t rest e (at_end none _) = absurd (let k = sym (ap front_of none) ∙ e in cc)
 follows_by bytes vs t rest e (reads u after read f) =
     let same : (t, rest) ≡ (u, after) = same_Some _ _ (sym e ∙ read) in
     subst (λ (p : Front). Follows bytes vs p.0 p.1) (sym same) f
 
-pub follows : (bytes : List ℕ) (vs : List Placed) (t : Option Token) (rest : List ℕ) → front_of bytes ≡ Some (t, rest) → HasTokens bytes vs → Follows bytes vs t rest
+pub follows : (bytes : List ℕ) (vs : List Placed) (t : Option Token) (rest : List ℕ) → front_of bytes ≡ Some (t, rest)
+    → HasTokens bytes vs → Follows bytes vs t rest
 follows bytes vs t rest e h = follows_by bytes vs t rest e (goes h)
 
 -- where nothing is read, and the text doesn't end, it has no tokens
@@ -62,7 +68,8 @@ one_list (gap {bytes} {rest} g k) us h =
     one_list k f.tokens f.has ∙ sym f.is
 one_list (token {bytes} {rest} {t} k l) us h =
     let f = follows bytes us (Some t) rest (token_is_read bytes t rest k) h in
-    ap (λ (vs : List Placed). placed_at (Some t) (length bytes) (length rest) ++ vs) (one_list l f.tokens f.has) ∙ sym f.is
+    ap (λ (vs : List Placed). placed_at (Some t) (length bytes) (length rest) ++ vs) (one_list l f.tokens f.has)
+    ∙ sym f.is
 
 pub text_fixes_tokens : (bytes : List ℕ) (ts us : List Placed) → HasTokens bytes ts → HasTokens bytes us → ts ≡ us
 text_fixes_tokens bytes ts us h k = one_list h us k
@@ -77,25 +84,33 @@ pub left-start : (whole : List ℕ) → Left [] whole whole
 left-start whole = record { on = λ us h. h; back = λ vs h. (vs, h, refl) }
 
 -- tokens before those of the rest
-pub before : (bytes : List ℕ) (t : Option Token) (rest : List ℕ) (us : List Placed) → IsRead bytes t rest → HasTokens rest us
+pub before : (bytes : List ℕ) (t : Option Token) (rest : List ℕ) (us : List Placed) → IsRead bytes t rest
+    → HasTokens rest us
     → HasTokens bytes (placed_at t (length bytes) (length rest) ++ us)
 before bytes None rest us g h = gap g h
 before bytes (Some t) rest us k h = token k h
 
-pub front_is_read : (bytes : List ℕ) (t : Option Token) (rest : List ℕ) → front_of bytes ≡ Some (t, rest) → IsRead bytes t rest
+pub front_is_read : (bytes : List ℕ) (t : Option Token) (rest : List ℕ) → front_of bytes ≡ Some (t, rest)
+    → IsRead bytes t rest
 front_is_read [] t rest e = absurd (cc)
 front_is_read (b ∷ bytes) t rest e = subst (Stands (b ∷ bytes)) e (front-stands b bytes)
 
-pub left-more : (ts us : List Placed) (rest whole : List ℕ) (t : Option Token) (after : List ℕ) → Left ts rest whole → front_of rest ≡ Some (t, after)
-    → us ≡ ts ++ placed_at t (length rest) (length after) → Left us after whole
+pub left-more : (ts us : List Placed) (rest whole : List ℕ) (t : Option Token) (after : List ℕ) → Left ts rest whole
+    → front_of rest ≡ Some (t, after) → us ≡ ts ++ placed_at t (length rest) (length after)
+    → Left us after whole
 left-more ts us rest whole t after left e more =
     let piece = placed_at t (length rest) (length after) in
     record {
-      on = λ vs h. subst (HasTokens whole) (sym (append_assoc ts piece vs) ∙ ap (λ l. l ++ vs) (sym more)) (left.on (piece ++ vs) (before rest t after vs (front_is_read rest t after e) h));
+      on = λ vs h. subst (HasTokens whole) (sym (append_assoc ts piece vs) ∙ ap (λ l. l ++ vs) (sym more))
+          (left.on (piece ++ vs) (before rest t after vs (front_is_read rest t after e) h));
       back = λ vs h.
           let b = left.back vs h in
-          let f = follows rest b.0 t after e b.1 in
-          (f.tokens, f.has, b.2 ∙ ap (λ l. ts ++ l) f.is ∙ sym (append_assoc ts piece f.tokens) ∙ ap (λ l. l ++ f.tokens) (sym more));
+          let f = follows rest b.0 t after e b.1 in (
+            f.tokens,
+            f.has,
+            b.2 ∙ ap (λ l. ts ++ l) f.is ∙ sym (append_assoc ts piece f.tokens)
+                ∙ ap (λ l. l ++ f.tokens) (sym more),
+          );
     }
 
 -- ---- each front is of some bytes
@@ -116,17 +131,22 @@ sign-long _ = omega arith
 
 token-shorter : (bytes : List ℕ) (t : Token) (rest : List ℕ) → IsToken bytes t rest → length rest < length bytes
 token-shorter bytes t rest (word b more e h all stop made is) = omega (arith, ap length e, length-append more rest)
-token-shorter bytes t rest (number digits e some all small stop is) = omega (arith, ap length e, length-append digits rest, some-long digits some)
-token-shorter bytes t rest (text inside e utf8 plain stop is) = omega (arith, ap length e, length-append (doubled 39 inside) (39 ∷ rest))
-token-shorter bytes t rest (quoted inside e utf8 some stop is) = omega (arith, ap length e, length-append (doubled 34 inside) (34 ∷ rest))
-token-shorter bytes t rest (sign s e stop is) = omega (arith, ap length e, length-append (sign_bytes s) rest, sign-long s)
+token-shorter bytes t rest (number digits e some all small stop is) =
+    omega (arith, ap length e, length-append digits rest, some-long digits some)
+token-shorter bytes t rest (text inside e utf8 plain stop is) =
+    omega (arith, ap length e, length-append (doubled 39 inside) (39 ∷ rest))
+token-shorter bytes t rest (quoted inside e utf8 some stop is) =
+    omega (arith, ap length e, length-append (doubled 34 inside) (34 ∷ rest))
+token-shorter bytes t rest (sign s e stop is) =
+    omega (arith, ap length e, length-append (sign_bytes s) rest, sign-long s)
 token-shorter bytes t rest (other_unequal e is) = omega (arith, ap length e)
 
 read-shorter : (bytes : List ℕ) (t : Option Token) (rest : List ℕ) → IsRead bytes t rest → length rest < length bytes
 read-shorter bytes None rest g = gap-shorter bytes rest g
 read-shorter bytes (Some t) rest k = token-shorter bytes t rest k
 
-pub front-shorter : (bytes : List ℕ) (t : Option Token) (rest : List ℕ) → front_of bytes ≡ Some (t, rest) → length rest < length bytes
+pub front-shorter : (bytes : List ℕ) (t : Option Token) (rest : List ℕ) → front_of bytes ≡ Some (t, rest)
+    → length rest < length bytes
 front-shorter bytes t rest e = read-shorter bytes t rest (front_is_read bytes t rest e)
 
 -- ---- numbers are of at most 18 digits
@@ -139,10 +159,12 @@ token-IsWithin bytes t rest (quoted inside e utf8 some stop is) = subst IsWithin
 token-IsWithin bytes t rest (sign s e stop is) = subst IsWithin (sym is) tt
 token-IsWithin bytes t rest (other_unequal e is) = subst IsWithin (sym is) tt
 
-pub front-IsWithin : (bytes : List ℕ) (kind : Option Kind) (rest : List ℕ) → front_of bytes ≡ Some (option_map token_of kind, rest)
+pub front-IsWithin : (bytes : List ℕ) (kind : Option Kind) (rest : List ℕ)
+    → front_of bytes ≡ Some (option_map token_of kind, rest)
     → IfSome kind (λ k. IsWithin (token_of k))
 front-IsWithin bytes None rest e = tt
-front-IsWithin bytes (Some k) rest e = token-IsWithin bytes (token_of k) rest (front_is_read bytes (Some (token_of k)) rest e)
+front-IsWithin bytes (Some k) rest e =
+    token-IsWithin bytes (token_of k) rest (front_is_read bytes (Some (token_of k)) rest e)
 
 -- ---- the end of the loop
 
@@ -155,5 +177,6 @@ pub left-end : (ts : List Placed) (rest whole : List ℕ) → Left ts rest whole
 left-end ts [] whole left none = subst (HasTokens whole) (append-nil ts) (left.on [] end)
 left-end ts (b ∷ rest) whole left none = absurd (omega arith)
 
-pub left-none : (ts : List Placed) (rest whole : List ℕ) (vs : List Placed) → Left ts rest whole → 0 < length rest → front_of rest ≡ None → HasTokens whole vs → ⊥
+pub left-none : (ts : List Placed) (rest whole : List ℕ) (vs : List Placed) → Left ts rest whole → 0 < length rest
+    → front_of rest ≡ None → HasTokens whole vs → ⊥
 left-none ts rest whole vs left long e h = let b = left.back vs h in no_tokens rest b.0 long e b.1

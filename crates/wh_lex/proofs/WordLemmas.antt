@@ -6,7 +6,8 @@ use Rattle.std.proofs.lemmas.Bool.Decides.{nat_tests}
 use Rattle.wh_grammar.specs.Bytes.{is_blank, is_digit, begins_word, is_word_byte}
 use Rattle.wh_grammar.specs.Lexing.{begins_with}
 
-all_by : (p : ℕ → Bool) (b : ℕ) (bytes : List ℕ) (r : Bool) → p b ≡ r → list_all p (take (prefix_len p bytes) bytes) ≡ true
+all_by : (p : ℕ → Bool) (b : ℕ) (bytes : List ℕ) (r : Bool) → p b ≡ r
+    → list_all p (take (prefix_len p bytes) bytes) ≡ true
     → list_all p (take (prefix_len p (b ∷ bytes)) (b ∷ bytes)) ≡ true
 all_by p b bytes true e ih = simp (e, one-add) ih
 all_by p b bytes false e ih = simp e
@@ -16,7 +17,8 @@ pub all-prefix : (p : ℕ → Bool) (bytes : List ℕ) → list_all p (take (pre
 all-prefix p [] = refl
 all-prefix p (b ∷ bytes) = all_by p b bytes (p b) refl (all-prefix p bytes)
 
-stops_by : (p : ℕ → Bool) (b : ℕ) (bytes : List ℕ) (r : Bool) → p b ≡ r → begins_with p (drop (prefix_len p bytes) bytes) ≡ false
+stops_by : (p : ℕ → Bool) (b : ℕ) (bytes : List ℕ) (r : Bool) → p b ≡ r
+    → begins_with p (drop (prefix_len p bytes) bytes) ≡ false
     → begins_with p (drop (prefix_len p (b ∷ bytes)) (b ∷ bytes)) ≡ false
 stops_by p b bytes true e ih = simp (e, one-add) ih
 stops_by p b bytes false e ih = simp e
@@ -31,7 +33,8 @@ none-prefix p [] h = refl
 none-prefix p (b ∷ rest) h = rw h refl
 
 -- a front that passes, before what doesn't, is as long as it is
-pub prefix_len-front : (p : ℕ → Bool) (bytes rest : List ℕ) → list_all p bytes ≡ true → begins_with p rest ≡ false → prefix_len p (bytes ++ rest) ≡ length bytes
+pub prefix_len-front : (p : ℕ → Bool) (bytes rest : List ℕ) → list_all p bytes ≡ true → begins_with p rest ≡ false
+    → prefix_len p (bytes ++ rest) ≡ length bytes
 prefix_len-front p [] rest all stop = none-prefix p rest stop
 prefix_len-front p (b ∷ bytes) rest all stop =
     let both = and_parts (p b) (list_all p bytes) all in

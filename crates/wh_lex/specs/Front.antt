@@ -5,12 +5,16 @@
 --     quoted_of                   what stands inside quotes, and what is behind them
 --     text_front, name_front      that as a text and as a quoted name
 --     single, double              signs of one byte and of two
---     front_of                    the token at the front, or none for a gap, and what follows it; None where neither stands there
-use Rattle.std.specs.Prelude.{ℕ, not, ◌&&◌, List, [], ◌∷◌, length, map, take, drop, Option, Some, None, option_map, nat_lt, nat_le, ◌==◌, if◌then◌else◌}
+--     front_of                    the token at the front, or none for a gap, and what follows it; None
+--                                 where neither stands there
+use Rattle.std.specs.Prelude.{ℕ, not, ◌&&◌, List, [], ◌∷◌, length, map, take, drop, Option, Some, None, option_map}
+use Rattle.std.specs.Prelude.{nat_lt, nat_le, ◌==◌, if◌then◌else◌}
 use Rattle.std.specs.List.{list_all, prefix_len}
 use Rattle.std.specs.Str.{is_utf8}
 use Rattle.wh_grammar.specs.Bytes.{is_blank, is_digit, begins_word, is_word_byte, upper, number_behind}
-use Rattle.wh_grammar.specs.Token.{Sign, LParen, RParen, Comma, Dot, Star, Plus, Minus, Equal, Unequal, Less, AtMost, Greater, AtLeast, Arrow, Token, Word, Quoted, TextToken, NumberToken, SignToken, Placed}
+use Rattle.wh_grammar.specs.Token.{Sign, LParen, RParen, Comma, Dot, Star, Plus, Minus, Equal, Unequal, Less}
+use Rattle.wh_grammar.specs.Token.{AtMost, Greater, AtLeast, Arrow, Token, Word, Quoted, TextToken}
+use Rattle.wh_grammar.specs.Token.{NumberToken, SignToken, Placed}
 use Rattle.wh_grammar.specs.Lexing.{begins_with, is_byte, is_inline, is_plain}
 
 -- a token, or none for a gap, and what follows it
@@ -50,7 +54,8 @@ abbrev pub word_len : List ℕ → ℕ
 word_len bytes = prefix_len is_word_byte bytes
 
 abbrev pub word_front : List ℕ → Option Front
-word_front bytes = option_map (λ w. token (Word w) (drop (word_len bytes) bytes)) (text_of (map upper (take (word_len bytes) bytes)))
+word_front bytes =
+    option_map (λ w. token (Word w) (drop (word_len bytes) bytes)) (text_of (map upper (take (word_len bytes) bytes)))
 
 -- the number that digits spell behind a number, where it has at most 18 digits
 unfoldable pub number_from : ℕ → List ℕ → Option ℕ
@@ -58,7 +63,8 @@ number_from n bytes = if list_all is_digit bytes && nat_lt (number_behind n byte
     then Some (number_behind n bytes) else None
 
 abbrev pub number_front : List ℕ → Option Front
-number_front bytes = option_map (λ n. token (NumberToken n) (drop (word_len bytes) bytes)) (number_from 0 (take (word_len bytes) bytes))
+number_front bytes =
+    option_map (λ n. token (NumberToken n) (drop (word_len bytes) bytes)) (number_from 0 (take (word_len bytes) bytes))
 
 -- ---- quotes
 
@@ -88,7 +94,8 @@ quoted_of quote (b ∷ c ∷ bytes) =
 
 abbrev pub text_front : Option (List ℕ × List ℕ) → Option Front
 text_front None = None
-text_front (Some p) = if list_all is_plain p.0 then option_map (λ text. token (TextToken text) p.1) (text_of p.0) else None
+text_front (Some p) =
+    if list_all is_plain p.0 then option_map (λ text. token (TextToken text) p.1) (text_of p.0) else None
 
 abbrev pub name_front : Option (List ℕ × List ℕ) → Option Front
 name_front None = None

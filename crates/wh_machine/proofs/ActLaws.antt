@@ -32,16 +32,19 @@ version_change stamp id e t = record {
 }
 
 contents_written : (e : Edits) (t : StoredTable) → IsOrderly (standing t)
-    → contents_meant (without (numbers_gone e.rows (standing t)) (standing t) ++ partitions_made t.next_partition t.next_row e (standing t))
+    → contents_meant (without (numbers_gone e.rows (standing t)) (standing t)
+    ++ partitions_made t.next_partition t.next_row e (standing t))
     ≡ contents_after t.next_partition t.next_row e (contents_meant (standing t))
 contents_written e t orderly = ap (λ (rows : Rows). record {
   rows = rows;
-  partitions = without (numbers_gone e.rows (standing t)) (standing t) ++ partitions_made t.next_partition t.next_row e (standing t);
+  partitions = without (numbers_gone e.rows (standing t)) (standing t)
+      ++ partitions_made t.next_partition t.next_row e (standing t);
 }) (edits_written t.next_partition t.next_row e (standing t) orderly)
 
 versions_written : (stamp id : ℕ) (e : Edits) (t : StoredTable) → IsOrderly (standing t)
     → map version_meant (pushed stamp (version_change stamp id e t) t).versions
-    ≡ map version_meant t.versions ++ version_at stamp (contents_after t.next_partition t.next_row e (contents_meant (standing t))) ∷ []
+    ≡ map version_meant t.versions
+    ++ version_at stamp (contents_after t.next_partition t.next_row e (contents_meant (standing t))) ∷ []
 versions_written stamp id e t orderly =
     map-append version_meant t.versions _
     ∙ ap (λ (new : Contents). map version_meant t.versions ++ version_at stamp new ∷ []) (contents_written e t orderly)
@@ -54,19 +57,22 @@ edited_from stamp e t c = record t {
   versions = t.versions ++ version_at stamp (contents_after t.next_partition t.next_row e c) ∷ [];
 }
 
-edited_is : (stamp : ℕ) (e : Edits) (t : Table) → edited_table stamp e t ≡ edited_from stamp e t (last_content nothing_held t)
+edited_is : (stamp : ℕ) (e : Edits) (t : Table)
+    → edited_table stamp e t ≡ edited_from stamp e t (last_content nothing_held t)
 unfolding edited_table
 edited_is stamp e t = refl
 
 pub edited_meant : (stamp id : ℕ) (e : Edits) (t : StoredTable) → IsOrderly (standing t)
     → table_meant (pushed stamp (version_change stamp id e t) t) ≡ edited_table stamp e (table_meant t)
 edited_meant stamp id e t orderly =
-    ap (λ (versions : List Version). record (edited_from stamp e (table_meant t) (contents_meant (standing t))) { versions = versions })
+    ap (λ (versions : List Version). record (edited_from stamp e (table_meant t)
+    (contents_meant (standing t))) { versions = versions })
     (versions_written stamp id e t orderly)
     ∙ ap (edited_from stamp e (table_meant t)) (sym (last_content_meant t))
     ∙ sym (edited_is stamp e (table_meant t))
 
-edited_object_meant : (stamp id : ℕ) (e : Edits) (o : StoredObject) (t : StoredTable) → o.kind ≡ StoredTableKind t → IsOrderly (standing t)
+edited_object_meant : (stamp id : ℕ) (e : Edits) (o : StoredObject) (t : StoredTable) → o.kind ≡ StoredTableKind t
+    → IsOrderly (standing t)
     → object_meant (pushed_object stamp (version_change stamp id e t) o) ≡ edited_object stamp e (object_meant o)
 edited_object_meant stamp id e o t is orderly =
     let same = edited_meant stamp id e t orderly in
@@ -75,7 +81,8 @@ edited_object_meant stamp id e o t is orderly =
 -- ---- acts
 
 made_meant : (stamp : ℕ) (objects : List StoredObject) (c : TableChange)
-    → map object_meant (changed stamp objects (CreatesTable c)) ≡ acted stamp (map object_meant objects) (MakesTable c.name c.columns c.retention)
+    → map object_meant (changed stamp objects (CreatesTable c))
+    ≡ acted stamp (map object_meant objects) (MakesTable c.name c.columns c.retention)
 unfolding changed
 made_meant stamp objects c = map-append object_meant objects _
 
@@ -84,12 +91,14 @@ dropped_meant : (stamp : ℕ) (objects : List StoredObject) (id : ℕ)
 unfolding changed
 dropped_meant stamp objects id = map_changed object_meant dropped dropped (λ o. refl) objects id
 
-edits_meant : (stamp id : ℕ) (e : Edits) (objects : List StoredObject) (o : StoredObject) (t : StoredTable) → at_id objects id ≡ Some o
-    → o.kind ≡ StoredTableKind t → IsOrderly (standing t)
-    → map object_meant (changed stamp objects (version_written stamp id e t)) ≡ with_id (map object_meant objects) id (edited_object stamp e (object_meant o))
+edits_meant : (stamp id : ℕ) (e : Edits) (objects : List StoredObject) (o : StoredObject) (t : StoredTable)
+    → at_id objects id ≡ Some o → o.kind ≡ StoredTableKind t → IsOrderly (standing t)
+    → map object_meant (changed stamp objects (version_written stamp id e t))
+    ≡ with_id (map object_meant objects) id (edited_object stamp e (object_meant o))
 unfolding changed
 edits_meant stamp id e objects o t there is orderly =
-    ap (λ (found : Option StoredObject). map object_meant (put_at objects id (option_map (pushed_object stamp (version_change stamp id e t)) found))) there
+    ap (λ (found : Option StoredObject). map object_meant
+    (put_at objects id (option_map (pushed_object stamp (version_change stamp id e t)) found))) there
     ∙ with_id_meant objects id (pushed_object stamp (version_change stamp id e t) o)
     ∙ ap (with_id (map object_meant objects) id) (edited_object_meant stamp id e o t is orderly)
 
@@ -104,20 +113,23 @@ OrderlyFor objects (DropsObject id) = Unit {0}
 OrderlyFor objects (EditsRows id e) = OrderlyAt (at_id objects id)
 
 pub act_meant : (stamp : ℕ) (objects : List StoredObject) (act : Act) → OrderlyFor objects act
-    → map object_meant (all_changed stamp objects (act_written stamp objects act)) ≡ acted stamp (map object_meant objects) act
+    → map object_meant (all_changed stamp objects (act_written stamp objects act))
+    ≡ acted stamp (map object_meant objects) act
 act_meant stamp objects (MakesTable name columns retention) orderly =
     made_meant stamp objects (record { id = length objects + 1; name = name; retention = retention; columns = columns })
 act_meant stamp objects (DropsObject id) orderly = dropped_meant stamp objects id
 act_meant stamp objects (EditsRows id e) orderly =
     by_found (at_id objects id) refl orderly
-    ∙ ap (λ (found : Option Object). put_at (map object_meant objects) id (option_map (edited_object stamp e) found)) (sym (at_id_meant objects id))
+    ∙ ap (λ (found : Option Object). put_at (map object_meant objects) id (option_map (edited_object stamp e) found))
+    (sym (at_id_meant objects id))
   where
     by_kind : (o : StoredObject) (k : StoredKind) → at_id objects id ≡ Some o → o.kind ≡ k → IsOrderlyKind k
         → map object_meant (all_changed stamp objects (version_written_to stamp id e (Some o)))
         ≡ with_id (map object_meant objects) id (edited_object stamp e (object_meant o))
     by_kind o (StoredTableKind t) there is orderly =
         let edited : map object_meant (changed stamp objects (version_written stamp id e t))
-        ≡ with_id (map object_meant objects) id (edited_object stamp e (object_meant o)) = edits_meant stamp id e objects o t there is orderly in
+        ≡ with_id (map object_meant objects) id (edited_object stamp e (object_meant o)) =
+        edits_meant stamp id e objects o t there is orderly in
         rw is (rw is at edited)
 
     by_found : (found : Option StoredObject) → at_id objects id ≡ found → OrderlyAt found
@@ -199,7 +211,8 @@ orderly_from s orderly id h = by_found (at_id s.objects id) refl
     by_found (Some o) there = all_at IsOrderlyObject s.objects id o orderly there
 
 pub acts_meant : (s : Stored) (stamp : ℕ) (acts : List Act) → IsOfOneStatement acts → IsOrderlyStored s
-    → map object_meant (all_changed stamp s.objects (written stamp s.objects acts)) ≡ all_acted stamp (map object_meant s.objects) acts
+    → map object_meant (all_changed stamp s.objects (written stamp s.objects acts))
+    ≡ all_acted stamp (map object_meant s.objects) acts
 acts_meant s stamp [] shape orderly = refl
 acts_meant s stamp (MakesTable n c r ∷ []) shape orderly =
     more_meant stamp s.objects (MakesTable n c r) [] tt (λ first is. refl)
@@ -218,4 +231,5 @@ acts_meant s stamp (DropsObject id ∷ MakesTable n c r ∷ act ∷ acts) shape 
 pub written_meant : (s : Stored) (stamp : ℕ) (acts : List Act) → IsOfOneStatement acts → IsOrderlyStored s
     → meant (applied s (commit_for s stamp acts)) ≡ done (stamped (meant s) stamp) acts
 written_meant s stamp acts shape orderly =
-    ap (λ (objects : List Object). record { last = stamp; committed = stamp; objects = objects }) (acts_meant s stamp acts shape orderly)
+    ap (λ (objects : List Object). record { last = stamp; committed = stamp; objects = objects })
+    (acts_meant s stamp acts shape orderly)

@@ -13,12 +13,14 @@ use Rattle.wh_machine.specs.State.{at_id, with_id, put_at, changed_at, last_of}
 
 -- ---- by ids
 
-map_get : {X Y : Type 0} (f : X → Y) (xs : List X) (place : ℕ) → slice_get (map f xs) place ≡ option_map f (slice_get xs place)
+map_get : {X Y : Type 0} (f : X → Y) (xs : List X) (place : ℕ)
+    → slice_get (map f xs) place ≡ option_map f (slice_get xs place)
 map_get f [] place = refl
 map_get f (x ∷ xs) zero = refl
 map_get f (x ∷ xs) (suc place) = map_get f xs place
 
-map_set : {X Y : Type 0} (f : X → Y) (xs : List X) (place : ℕ) (x : X) → map f (slice_set xs place x) ≡ slice_set (map f xs) place (f x)
+map_set : {X Y : Type 0} (f : X → Y) (xs : List X) (place : ℕ) (x : X)
+    → map f (slice_set xs place x) ≡ slice_set (map f xs) place (f x)
 map_set f [] place x = refl
 map_set f (y ∷ ys) zero x = refl
 map_set f (y ∷ ys) (suc place) x = ap (λ (l : List _). f y ∷ l) (map_set f ys place x)
@@ -27,11 +29,13 @@ pub map_at : {X Y : Type 0} (f : X → Y) (xs : List X) (id : ℕ) → at_id (ma
 map_at f xs zero = refl
 map_at f xs (suc place) = map_get f xs place
 
-pub map_with : {X Y : Type 0} (f : X → Y) (xs : List X) (id : ℕ) (x : X) → map f (with_id xs id x) ≡ with_id (map f xs) id (f x)
+pub map_with : {X Y : Type 0} (f : X → Y) (xs : List X) (id : ℕ) (x : X)
+    → map f (with_id xs id x) ≡ with_id (map f xs) id (f x)
 map_with f xs zero x = refl
 map_with f xs (suc place) x = map_set f xs place x
 
-pub map_put : {X Y : Type 0} (f : X → Y) (xs : List X) (id : ℕ) (found : Option X) → map f (put_at xs id found) ≡ put_at (map f xs) id (option_map f found)
+pub map_put : {X Y : Type 0} (f : X → Y) (xs : List X) (id : ℕ) (found : Option X)
+    → map f (put_at xs id found) ≡ put_at (map f xs) id (option_map f found)
 map_put f xs id None = refl
 map_put f xs id (Some x) = map_with f xs id x
 
@@ -39,7 +43,8 @@ map_put f xs id (Some x) = map_with f xs id x
 pub map_changed : {X Y : Type 0} (f : X → Y) (g : X → X) (h : Y → Y) → ((x : X) → f (g x) ≡ h (f x))
     → (xs : List X) (id : ℕ) → map f (changed_at xs id g) ≡ changed_at (map f xs) id h
 map_changed f g h same xs id =
-    map_put f xs id (option_map g (at_id xs id)) ∙ ap (put_at (map f xs) id) (through (at_id xs id) ∙ ap (option_map h) (sym (map_at f xs id)))
+    map_put f xs id (option_map g (at_id xs id))
+    ∙ ap (put_at (map f xs) id) (through (at_id xs id) ∙ ap (option_map h) (sym (map_at f xs id)))
   where
     through : (found : Option _) → option_map f (option_map g found) ≡ option_map h (option_map f found)
     through None = refl
@@ -101,4 +106,5 @@ map_fold f g h same a (x ∷ xs) = ap (λ (b : _). fold g b (map f xs)) (same a 
 
 pub map_count : {X Y : Type 0} (f : X → Y) (p : X → Bool) (q : Y → Bool) → ((x : X) → q (f x) ≡ p x)
     → (xs : List X) → count_by q (map f xs) ≡ count_by p xs
-map_count f p q same xs = map_fold f (λ a y. a + cond (q y) 1 0) (λ a x. a + cond (p x) 1 0) (λ a x. ap (λ (b : Bool). a + cond b 1 0) (same x)) 0 xs
+map_count f p q same xs = map_fold f (λ a y. a + cond (q y) 1 0) (λ a x. a + cond (p x) 1 0)
+    (λ a x. ap (λ (b : Bool). a + cond b 1 0) (same x)) 0 xs

@@ -52,7 +52,8 @@ abbrev change : Edits
 change = record { rows = insert empty 2 (Some (row 8)); added = row 9 ∷ [] }
 
 -- both versions stay; the third has a partition in the place of the one that goes, and one of the row that comes
-rewritten : (map (λ p. p.rows) (last_partitions (edited_table 4 change table_t)) ≡ ((1, row 5) ∷ (2, row 8) ∷ []) ∷ ((3, row 9) ∷ []) ∷ [])
+rewritten : (map (λ p. p.rows) (last_partitions (edited_table 4 change table_t))
+    ≡ ((1, row 5) ∷ (2, row 8) ∷ []) ∷ ((3, row 9) ∷ []) ∷ [])
     × (map (λ p. p.number) (last_partitions (edited_table 4 change table_t)) ≡ 2 ∷ 3 ∷ [])
     × (values (last_rows (edited_table 4 change table_t)) ≡ row 5 ∷ row 8 ∷ row 9 ∷ [])
     × ((edited_table 4 change table_t).next_row ≡ 4) × ((edited_table 4 change table_t).next_partition ≡ 4)

@@ -1,5 +1,6 @@
 -- Commits, worked out by hand: their bytes, which of them apply, and what they leave.
-use Rattle.std.proofs.Common.{◌≡◌, ℕ, ◌<◌, ◌≤◌, ◌⊎◌, List, [], ◌∷◌, ◌++◌, length, map, true, false, Some, None, pos, inl, inr, refl, arith}
+use Rattle.std.proofs.Common.{◌≡◌, ℕ, ◌<◌, ◌≤◌, ◌⊎◌, List, [], ◌∷◌, ◌++◌, length, map, true, false, Some, None, pos}
+use Rattle.std.proofs.Common.{inl, inr, refl, arith}
 use Rattle.std.specs.Prelude.{codes}
 use Rattle.wh_value.specs.Value.{Number}
 use Rattle.wh_value.specs.Column.{NumberType, VarcharType, BooleanType}
@@ -8,14 +9,20 @@ use Rattle.wh_frame.specs.Spelling.{partition_bytes, row_bytes, value_bytes}
 use Rattle.wh_frame.specs.File.{record_of, records_of}
 use Rattle.wh_machine.specs.State.{VersionOf, new_table, id_of, live_count}
 use Rattle.wh_machine.specs.Stored.{StoredTable, StoredTableKind, StoredObject, Stored, first_stored}
-use Rattle.wh_machine.specs.Commit.{TableApplies, VersionApplies, Leads, TableChange, VersionChange, CreatesTable, Drops, PushesVersion, Commit, changed, applied, Applies}
+use Rattle.wh_machine.specs.Commit.{TableApplies, VersionApplies, Leads, TableChange, VersionChange, CreatesTable}
+use Rattle.wh_machine.specs.Commit.{Drops, PushesVersion, Commit, changed, applied, Applies}
 use Rattle.wh_machine.specs.Spelling.{payload_of, change_bytes, table_bytes, version_bytes, column_bytes}
 
 -- ---- bytes
 
 -- T(K NUMBER), with the first id
 abbrev pub table_t : TableChange
-table_t = record { id = 1; name = codes "T"; retention = 1; columns = (record { name = codes "K"; column_type = NumberType }) ∷ [] }
+table_t = record {
+  id = 1;
+  name = codes "T";
+  retention = 1;
+  columns = (record { name = codes "K"; column_type = NumberType }) ∷ [];
+}
 
 -- a partition of one row, by its number and the row's
 abbrev pub one_row : ℕ → ℕ → Partition
@@ -23,7 +30,8 @@ one_row number row = record { number = number; rows = (row, Number (pos 1) ∷ [
 
 -- a version of T with a partition more, and others removed
 abbrev pub version_t : ℕ → ℕ → List ℕ → Partition → VersionChange
-version_t stamp next_row removed added = record { id = 1; data_timestamp = stamp; next_row = next_row; width = 1; removed = removed; added = added ∷ [] }
+version_t stamp next_row removed added =
+    record { id = 1; data_timestamp = stamp; next_row = next_row; width = 1; removed = removed; added = added ∷ [] }
 
 -- of CREATE TABLE T(K NUMBER) at stamp 1, and of INSERT INTO T VALUES (1) at stamp 2
 abbrev pub creation : Commit
@@ -34,7 +42,8 @@ insertion = record { stamp = 2; changes = PushesVersion (version_t 2 2 [] (one_r
 
 -- the file with the first
 created : records_of (payload_of creation ∷ []) ++ 0 ∷ []
-    ≡ 87 ∷ 72 ∷ 67 ∷ 79 ∷ 82 ∷ 69 ∷ 49 ∷ 1 ∷ 0 ∷ 0 ∷ 0 ∷ 0 ∷ 0 ∷ 0 ∷ 0 ∷ 33 ∷ 0 ∷ 0 ∷ 0 ∷ 0 ∷ 0 ∷ 0 ∷ 0 ∷ 1 ∷ 0 ∷ 0 ∷ 0 ∷ 1 ∷ 1 ∷ 0 ∷ 0 ∷ 0 ∷ 1 ∷ 0 ∷ 0 ∷ 0 ∷ 1 ∷ 84 ∷ 1 ∷ 0 ∷ 0 ∷ 0 ∷ 1 ∷ 0 ∷ 0 ∷ 0 ∷ 1 ∷ 75 ∷ 1 ∷ 0 ∷ []
+    ≡ 87 ∷ 72 ∷ 67 ∷ 79 ∷ 82 ∷ 69 ∷ 49 ∷ 1 ∷ 0 ∷ 0 ∷ 0 ∷ 0 ∷ 0 ∷ 0 ∷ 0 ∷ 33 ∷ 0 ∷ 0 ∷ 0 ∷ 0 ∷ 0 ∷ 0 ∷ 0 ∷ 1 ∷ 0 ∷ 0 ∷ 0
+    ∷ 1 ∷ 1 ∷ 0 ∷ 0 ∷ 0 ∷ 1 ∷ 0 ∷ 0 ∷ 0 ∷ 1 ∷ 84 ∷ 1 ∷ 0 ∷ 0 ∷ 0 ∷ 1 ∷ 0 ∷ 0 ∷ 0 ∷ 1 ∷ 75 ∷ 1 ∷ 0 ∷ []
 unfolding records_of record_of payload_of change_bytes table_bytes column_bytes
 created = refl
 
@@ -49,16 +58,19 @@ inserted : record_of (payload_of insertion) ≡
     -- the counts of removed and of added partitions
     ∷ 0 ∷ 0 ∷ 0 ∷ 0 ∷ 0 ∷ 0 ∷ 0 ∷ 1
     -- the partition's number, its count of rows, the row's number, and a number
-    ∷ 0 ∷ 0 ∷ 0 ∷ 0 ∷ 0 ∷ 0 ∷ 0 ∷ 1 ∷ 0 ∷ 0 ∷ 0 ∷ 1 ∷ 0 ∷ 0 ∷ 0 ∷ 0 ∷ 0 ∷ 0 ∷ 0 ∷ 1 ∷ 1 ∷ 0 ∷ 0 ∷ 0 ∷ 0 ∷ 0 ∷ 0 ∷ 0 ∷ 1 ∷ []
+    ∷ 0 ∷ 0 ∷ 0 ∷ 0 ∷ 0 ∷ 0 ∷ 0 ∷ 1 ∷ 0 ∷ 0 ∷ 0 ∷ 1 ∷ 0 ∷ 0 ∷ 0 ∷ 0 ∷ 0 ∷ 0 ∷ 0 ∷ 1 ∷ 1 ∷ 0 ∷ 0 ∷ 0
+    ∷ 0 ∷ 0 ∷ 0 ∷ 0 ∷ 1 ∷ []
 unfolding record_of payload_of change_bytes version_bytes partition_bytes row_bytes value_bytes
 inserted = refl
 
-lengths : (length (payload_of creation) ≡ 33) × (length (payload_of insertion) ≡ 74) × (length (record_of (payload_of insertion)) ≡ 83)
+lengths : (length (payload_of creation) ≡ 33) × (length (payload_of insertion) ≡ 74)
+    × (length (record_of (payload_of insertion)) ≡ 83)
 unfolding record_of payload_of change_bytes table_bytes column_bytes version_bytes partition_bytes row_bytes value_bytes
 lengths = (refl, refl, refl)
 
 -- the numbers of removed partitions have 8 bytes each
-removed_bytes : length (payload_of (record { stamp = 3; changes = PushesVersion (version_t 3 3 (1 ∷ []) (one_row 2 2)) ∷ [] })) ≡ 82
+removed_bytes : length
+    (payload_of (record { stamp = 3; changes = PushesVersion (version_t 3 3 (1 ∷ []) (one_row 2 2)) ∷ [] })) ≡ 82
 unfolding payload_of change_bytes version_bytes partition_bytes row_bytes value_bytes
 removed_bytes = refl
 
@@ -101,7 +113,13 @@ filed last next_row next_partition versions = record {
     name = codes "T";
     is_live = true;
     created = 1;
-    kind = StoredTableKind (record { columns = table_t.columns; retention = 1; next_row = next_row; next_partition = next_partition; versions = versions });
+    kind = StoredTableKind (record {
+      columns = table_t.columns;
+      retention = 1;
+      next_row = next_row;
+      next_partition = next_partition;
+      versions = versions;
+    });
   } ∷ [];
 }
 
@@ -146,7 +164,8 @@ both_apply = record {
 }
 
 -- at two stamps
-one_by_one : Leads first_stored (creation ∷ insertion ∷ []) (filed 2 2 2 (version 1 [] ∷ version 2 (one_row 1 1 ∷ []) ∷ []))
+one_by_one : Leads first_stored
+    (creation ∷ insertion ∷ []) (filed 2 2 2 (version 1 [] ∷ version 2 (one_row 1 1 ∷ []) ∷ []))
 unfolding changed
 one_by_one = (
   record { later = omega arith; within = omega arith; changes = (table_applies, tt) },
@@ -162,7 +181,8 @@ before = filed 1 2 2 (version 1 [] ∷ version 1 (one_row 1 1 ∷ []) ∷ [])
 abbrev change_of_row : Commit
 change_of_row = record { stamp = 2; changes = PushesVersion (version_t 2 2 (1 ∷ []) (one_row 2 1)) ∷ [] }
 
-row_changed : applied before change_of_row ≡ filed 2 2 3 (version 1 [] ∷ version 1 (one_row 1 1 ∷ []) ∷ version 2 (one_row 2 1 ∷ []) ∷ [])
+row_changed : applied before change_of_row
+    ≡ filed 2 2 3 (version 1 [] ∷ version 1 (one_row 1 1 ∷ []) ∷ version 2 (one_row 2 1 ∷ []) ∷ [])
 unfolding changed
 row_changed = refl
 
@@ -211,17 +231,21 @@ unfolding changed
 drop_applies = record { later = omega arith; within = omega arith; changes = (refl, tt) }
 
 -- it keeps its id and what it holds, and frees its name
-dropped_table : (map (λ o. o.is_live) (applied before (drop 2)).objects ≡ false ∷ []) × (map (λ o. o.kind) (applied before (drop 2)).objects ≡ map (λ o. o.kind) before.objects)
+dropped_table : (map (λ o. o.is_live) (applied before (drop 2)).objects ≡ false ∷ [])
+    × (map (λ o. o.kind) (applied before (drop 2)).objects ≡ map (λ o. o.kind) before.objects)
     × (id_of (codes "T") before.objects ≡ Some 1) × (id_of (codes "T") (applied before (drop 2)).objects ≡ None)
     × (live_count (applied before (drop 2)).objects ≡ 0)
 unfolding changed
 dropped_table = (refl, refl, refl, refl, refl)
 
 -- only once, with no version behind it, and not an id that there isn't
-dropped_once : (Applies (applied before (drop 2)) (drop 3) → ⊥) × (Applies (applied before (drop 2)) (record { stamp = 3; changes = PushesVersion (version_t 3 3 [] (one_row 2 2)) ∷ [] }) → ⊥)
-    × (Applies before (record { stamp = 2; changes = Drops 2 ∷ [] }) → ⊥) × (Applies before (record { stamp = 2; changes = Drops 0 ∷ [] }) → ⊥)
+dropped_once : (Applies (applied before (drop 2)) (drop 3) → ⊥) × (Applies (applied before (drop 2))
+    (record { stamp = 3; changes = PushesVersion (version_t 3 3 [] (one_row 2 2)) ∷ [] }) → ⊥)
+    × (Applies before (record { stamp = 2; changes = Drops 2 ∷ [] }) → ⊥)
+    × (Applies before (record { stamp = 2; changes = Drops 0 ∷ [] }) → ⊥)
 unfolding changed
-dropped_once = (λ is. absurd (cc is.changes.0), λ is. absurd (cc is.changes.0.0), λ is. is.changes.0, λ is. is.changes.0)
+dropped_once =
+    (λ is. absurd (cc is.changes.0), λ is. absurd (cc is.changes.0.0), λ is. is.changes.0, λ is. is.changes.0)
 
 -- T again, with the next id
 abbrev again : TableChange
@@ -230,7 +254,9 @@ again = record table_t { id = 2 }
 abbrev pub replacement : ℕ → Commit
 replacement stamp = record { stamp = stamp; changes = Drops 1 ∷ CreatesTable again ∷ [] }
 
-again_applies : (objects : List StoredObject) → length objects ≡ 1 → live_count objects ≡ 0 → id_of (codes "T") objects ≡ None → TableApplies objects again
+again_applies : (objects : List StoredObject) → length objects ≡ 1 → live_count objects ≡ 0
+    → id_of (codes "T") objects ≡ None
+    → TableApplies objects again
 again_applies objects one none free = record {
   next_id = omega arith;
   few = omega arith;
@@ -254,7 +280,8 @@ replacement_applies = record {
 name_taken : Applies before (record { stamp = 2; changes = CreatesTable again ∷ [] }) → ⊥
 name_taken is = absurd (cc is.changes.0.free)
 
-replaced : (map (λ o. o.is_live) (applied before (replacement 2)).objects ≡ false ∷ true ∷ []) × (id_of (codes "T") (applied before (replacement 2)).objects ≡ Some 2)
+replaced : (map (λ o. o.is_live) (applied before (replacement 2)).objects ≡ false ∷ true ∷ [])
+    × (id_of (codes "T") (applied before (replacement 2)).objects ≡ Some 2)
     × (map (λ o. o.created) (applied before (replacement 2)).objects ≡ 1 ∷ 2 ∷ [])
 unfolding changed
 replaced = (refl, refl, refl)

@@ -19,7 +19,8 @@ row k = Number (pos k) ∷ []
 
 -- a partition of two rows with those numbers, in which each row holds ten times its number
 abbrev two : ℕ → ℕ → ℕ → Partition
-two number first second = record { number = number; rows = (first, row (first * 10)) ∷ (second, row (second * 10)) ∷ [] }
+two number first second =
+    record { number = number; rows = (first, row (first * 10)) ∷ (second, row (second * 10)) ∷ [] }
 
 abbrev standing : List Partition
 standing = two 3 7 8 ∷ two 5 1 2 ∷ two 6 4 5 ∷ []
@@ -34,7 +35,8 @@ is_orderly = record {
 row_put : (rows : Rows) (k : ℕ) (row : Row) → entries (insert rows k row) ≡ put nat_cmp k row (entries rows)
 row_put rows k row = entries-insert nat_cmp_total rows k row
 
-edit_put : (edits : RowEdits) (k : ℕ) (new : Option Row) (q : ℕ) → get (insert edits k new) q ≡ cond (eq_by_cmp nat_cmp q k) (Some new) (get edits q)
+edit_put : (edits : RowEdits) (k : ℕ) (new : Option Row) (q : ℕ)
+    → get (insert edits k new) q ≡ cond (eq_by_cmp nat_cmp q k) (Some new) (get edits q)
 edit_put edits k new q = get-insert nat_cmp_total edits k new q
 
 edit_none : (q : ℕ) → get (empty {K = ℕ} {X = Option Row} {R = nat_cmp}) q ≡ None
@@ -53,7 +55,8 @@ emptied_gone : numbers_gone emptied.rows standing ≡ 3 ∷ 5 ∷ []
 emptied_gone = simp (edit_put, edit_none)
 
 -- no partition takes its place
-emptied_made : partitions_made 7 9 emptied standing ≡ two 7 7 8 ∷ record { number = 8; rows = (9, row 90) ∷ (10, row 91) ∷ [] } ∷ []
+emptied_made : partitions_made 7 9 emptied standing
+    ≡ two 7 7 8 ∷ record { number = 8; rows = (9, row 90) ∷ (10, row 91) ∷ [] } ∷ []
 unfolding partitions_made
 emptied_made = simp (edit_put, edit_none)
 
@@ -80,7 +83,8 @@ renewed_made : partitions_made 7 9 renewed standing
 unfolding partitions_made
 renewed_made = simp (edit_put, edit_none)
 
-renewed_rows : entries (rows_after 9 renewed (rows_of standing)) ≡ (1, row 11) ∷ (2, row 20) ∷ (4, row 40) ∷ (5, row 50) ∷ (7, row 70) ∷ []
+renewed_rows : entries (rows_after 9 renewed (rows_of standing))
+    ≡ (1, row 11) ∷ (2, row 20) ∷ (4, row 40) ∷ (5, row 50) ∷ (7, row 70) ∷ []
 unfolding rows_after
 renewed_rows = simp (row_put, entries-empty, edit_put, edit_none)
 
@@ -101,6 +105,7 @@ nobody_made = simp (edit_put, edit_none)
 abbrev added : Edits
 added = record { rows = empty; added = row 90 ∷ [] }
 
-added_alone : (without (numbers_gone added.rows standing) standing ≡ standing) × (partitions_made 7 9 added standing ≡ record { number = 7; rows = (9, row 90) ∷ [] } ∷ [])
+added_alone : (without (numbers_gone added.rows standing) standing ≡ standing)
+    × (partitions_made 7 9 added standing ≡ record { number = 7; rows = (9, row 90) ∷ [] } ∷ [])
 unfolding partitions_made
 added_alone = (simp edit_none, simp edit_none)

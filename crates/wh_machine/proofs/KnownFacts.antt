@@ -12,12 +12,15 @@ pub entries-empty : entries (empty {K = ℕ} {X = Row} {R = nat_cmp}) ≡ []
 entries-empty = nil_from_length _ (sym (len-entries empty) ∙ len-empty nat_cmp Row)
 
 abbrev three : List Row
-three = (Number (pos 2) ∷ Number (pos 5) ∷ []) ∷ (Number (pos 1) ∷ Null ∷ []) ∷ (Number (pos 2) ∷ Number (pos 5) ∷ []) ∷ []
+three =
+    (Number (pos 2) ∷ Number (pos 5) ∷ []) ∷ (Number (pos 1) ∷ Null ∷ []) ∷ (Number (pos 2) ∷ Number (pos 5) ∷ []) ∷ []
 
-ordered : in_order three ≡ (Number (pos 1) ∷ Null ∷ []) ∷ (Number (pos 2) ∷ Number (pos 5) ∷ []) ∷ (Number (pos 2) ∷ Number (pos 5) ∷ []) ∷ []
+ordered : in_order three ≡ (Number (pos 1) ∷ Null ∷ []) ∷ (Number (pos 2) ∷ Number (pos 5) ∷ [])
+    ∷ (Number (pos 2) ∷ Number (pos 5) ∷ []) ∷ []
 ordered = refl
 
-null_last : in_order ((Null ∷ []) ∷ (Text (codes "a") ∷ []) ∷ (Truth true ∷ []) ∷ (Number (negsuc 3) ∷ []) ∷ []) ≡ (Number (negsuc 3) ∷ []) ∷ (Truth true ∷ []) ∷ (Text (codes "a") ∷ []) ∷ (Null ∷ []) ∷ []
+null_last : in_order ((Null ∷ []) ∷ (Text (codes "a") ∷ []) ∷ (Truth true ∷ []) ∷ (Number (negsuc 3) ∷ []) ∷ [])
+    ≡ (Number (negsuc 3) ∷ []) ∷ (Truth true ∷ []) ∷ (Text (codes "a") ∷ []) ∷ (Null ∷ []) ∷ []
 null_last = refl
 
 printed : literal (Text (codes "x'y")) ≡ codes "'x''y'"

@@ -4,9 +4,11 @@
 --     table_at_none, table_at_some, table_at_meant                                tables of a file
 use Rattle.std.proofs.Common.{◌≡◌, ℕ, ◌+◌, List, [], length, map, Option, Some, None, option_map, refl, ap, ◌∙◌}
 use Rattle.std.proofs.lemmas.List.{length-map}
-use Rattle.wh_machine.specs.State.{Contents, nothing_held, at_id, with_id, id_of, is_named, live_count, last_of, content_in, last_content, last_rows, last_partitions}
+use Rattle.wh_machine.specs.State.{Contents, nothing_held, at_id, with_id, id_of, is_named, live_count, last_of}
+use Rattle.wh_machine.specs.State.{content_in, last_content, last_rows, last_partitions}
 use Rattle.wh_machine.specs.Tables.{table_at}
-use Rattle.wh_machine.specs.Stored.{StoredVersion, StoredTable, StoredKind, StoredTableKind, StoredObject, standing, rows_of, contents_meant, version_meant, table_meant, object_meant}
+use Rattle.wh_machine.specs.Stored.{StoredVersion, StoredTable, StoredKind, StoredTableKind, StoredObject, standing}
+use Rattle.wh_machine.specs.Stored.{rows_of, contents_meant, version_meant, table_meant, object_meant}
 use Rattle.wh_machine.proofs.IdLaws.{map_at, map_with, map_last, map_position, map_count}
 
 -- ---- objects
@@ -14,14 +16,16 @@ use Rattle.wh_machine.proofs.IdLaws.{map_at, map_with, map_last, map_position, m
 pub length_meant : (objects : List StoredObject) → length (map object_meant objects) ≡ length objects
 length_meant objects = length-map _ _
 
-pub at_id_meant : (objects : List StoredObject) (id : ℕ) → at_id (map object_meant objects) id ≡ option_map object_meant (at_id objects id)
+pub at_id_meant : (objects : List StoredObject) (id : ℕ)
+    → at_id (map object_meant objects) id ≡ option_map object_meant (at_id objects id)
 at_id_meant objects id = map_at object_meant objects id
 
 pub with_id_meant : (objects : List StoredObject) (id : ℕ) (o : StoredObject)
     → map object_meant (with_id objects id o) ≡ with_id (map object_meant objects) id (object_meant o)
 with_id_meant objects id o = map_with object_meant objects id o
 
-pub id_of_meant : (name : List ℕ) (objects : List StoredObject) → id_of name (map object_meant objects) ≡ id_of name objects
+pub id_of_meant : (name : List ℕ) (objects : List StoredObject)
+    → id_of name (map object_meant objects) ≡ id_of name objects
 id_of_meant name objects =
     ap (option_map (λ place. place + 1)) (map_position object_meant (is_named name) (is_named name) (λ o. refl) objects)
 
@@ -34,7 +38,8 @@ live_count_meant objects = map_count object_meant (λ o. o.is_live) (λ o. o.is_
 pub last_content_meant : (t : StoredTable) → last_content nothing_held (table_meant t) ≡ contents_meant (standing t)
 last_content_meant t = ap (content_in nothing_held) (map_last version_meant t.versions) ∙ through (last_of t.versions)
   where
-    through : (last : Option StoredVersion) → content_in nothing_held (option_map version_meant last) ≡ contents_meant (content_in [] last)
+    through : (last : Option StoredVersion)
+        → content_in nothing_held (option_map version_meant last) ≡ contents_meant (content_in [] last)
     through None = refl
     through (Some v) = refl
 
@@ -56,15 +61,19 @@ abbrev pub stored_table_at : List StoredObject → ℕ → Option StoredTable
 stored_table_at objects id = stored_table_of (at_id objects id)
 
 -- the table at an id, from what stands there
-pub table_at_none : (objects : List StoredObject) (id : ℕ) → at_id objects id ≡ None → table_at (map object_meant objects) id ≡ None
+pub table_at_none : (objects : List StoredObject) (id : ℕ) → at_id objects id ≡ None
+    → table_at (map object_meant objects) id ≡ None
 table_at_none objects id none =
-    let found : at_id (map object_meant objects) id ≡ None = at_id_meant objects id ∙ ap (option_map object_meant) none in
+    let found : at_id (map object_meant objects) id ≡ None =
+    at_id_meant objects id ∙ ap (option_map object_meant) none in
     rw found
 
-pub table_at_some : (objects : List StoredObject) (id : ℕ) (o : StoredObject) (t : StoredTable) → at_id objects id ≡ Some o → o.kind ≡ StoredTableKind t
+pub table_at_some : (objects : List StoredObject) (id : ℕ) (o : StoredObject) (t : StoredTable)
+    → at_id objects id ≡ Some o → o.kind ≡ StoredTableKind t
     → table_at (map object_meant objects) id ≡ Some (table_meant t)
 table_at_some objects id o t there is =
-    let found : at_id (map object_meant objects) id ≡ Some (object_meant o) = at_id_meant objects id ∙ ap (option_map object_meant) there in
+    let found : at_id (map object_meant objects) id ≡ Some (object_meant o) =
+    at_id_meant objects id ∙ ap (option_map object_meant) there in
     rw (found, is)
 
 pub table_at_meant : (objects : List StoredObject) (id : ℕ)

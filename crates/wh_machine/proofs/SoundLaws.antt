@@ -31,7 +31,8 @@ table_later committed stamp later t is = record {
   none_returns = is.none_returns;
 }
 
-new_sound : (columns : List Column) (retention stamp : ℕ) → IsSoundTable stamp (new_table nothing_held columns retention stamp)
+new_sound : (columns : List Column) (retention stamp : ℕ)
+    → IsSoundTable stamp (new_table nothing_held columns retention stamp)
 new_sound columns retention stamp = record {
   timely = (record { stamp = omega arith; data_timestamp = refl }, tt);
   rise = tt;
@@ -49,24 +50,30 @@ next_below : (stamp : ℕ) (e : Edits) (t : Table) → AllByRecursion (IsBelow t
 next_below stamp e t below number has = by_place (cases_lt number (t.next_row + length e.added))
   where
     -- a row that was there before is below the old next number
-    by_row : (old : Option Row) → get (last_rows t) number ≡ old → (t.next_row + length e.added ≤ number) → number < t.next_row + length e.added
-    by_row None lacks behind = absurd (cc (still_lacks t.next_row e (last_rows t) number (inr behind) lacks, has.is_there))
+    by_row : (old : Option Row) → get (last_rows t) number ≡ old → (t.next_row + length e.added ≤ number)
+        → number < t.next_row + length e.added
+    by_row None lacks behind =
+        absurd (cc (still_lacks t.next_row e (last_rows t) number (inr behind) lacks, has.is_there))
     by_row (Some row) there behind = absurd (omega (arith, last_below t.next_row t.versions below number row there))
 
-    by_place : (number < t.next_row + length e.added) ⊎ (t.next_row + length e.added ≤ number) → number < t.next_row + length e.added
+    by_place : (number < t.next_row + length e.added) ⊎ (t.next_row + length e.added ≤ number)
+        → number < t.next_row + length e.added
     by_place (inl within) = within
     by_place (inr behind) = by_row (get (last_rows t) number) refl behind
 
-edited_sound : (committed stamp : ℕ) (e : Edits) → committed < stamp → (t : Table) → IsSoundTable committed t → IsSoundTable stamp (edited_table stamp e t)
+edited_sound : (committed stamp : ℕ) (e : Edits) → committed < stamp → (t : Table) → IsSoundTable committed t
+    → IsSoundTable stamp (edited_table stamp e t)
 unfolding edited_table
 edited_sound committed stamp e later t sound =
     let v : Version = next_version stamp e t in
     let next : ℕ = t.next_row + length e.added in
     let old : IsSoundTable stamp t = table_later committed stamp (omega arith) t sound in
     let old_below : AllByRecursion (IsBelow next) t.versions =
-    all_map (IsBelow t.next_row) (IsBelow next) (λ w is number has. omega (arith, is number has)) t.versions sound.below in
+    all_map (IsBelow t.next_row) (IsBelow next) (λ w is number has. omega (arith, is number has))
+    t.versions sound.below in
     record {
-      timely = all_more (IsTimely stamp) t.versions v old.timely (record { stamp = omega arith; data_timestamp = refl });
+      timely =
+          all_more (IsTimely stamp) t.versions v old.timely (record { stamp = omega arith; data_timestamp = refl });
       rise = rise_more committed t.versions v sound.timely sound.rise later refl;
       below = all_more (IsBelow next) t.versions v old_below (next_below stamp e t sound.below);
       none_returns = none_more t.next_row t.versions v sound.below sound.none_returns
@@ -78,10 +85,13 @@ edited_sound committed stamp e later t sound =
 kind_later : (committed stamp : ℕ) → committed ≤ stamp → (k : Kind) → IsSoundKind committed k → IsSoundKind stamp k
 kind_later committed stamp later (TableKind t) sound = table_later committed stamp later t sound
 
-object_later : (committed stamp : ℕ) → committed ≤ stamp → (o : Object) → IsSoundObject committed o → IsSoundObject stamp o
-object_later committed stamp later o sound = record { created = omega (arith, sound.created); kind = kind_later committed stamp later o.kind sound.kind }
+object_later : (committed stamp : ℕ) → committed ≤ stamp → (o : Object) → IsSoundObject committed o
+    → IsSoundObject stamp o
+object_later committed stamp later o sound =
+    record { created = omega (arith, sound.created); kind = kind_later committed stamp later o.kind sound.kind }
 
-edited_kind_sound : (committed stamp : ℕ) (e : Edits) → committed < stamp → (k : Kind) → IsSoundKind committed k → IsSoundKind stamp (edited_kind stamp e k)
+edited_kind_sound : (committed stamp : ℕ) (e : Edits) → committed < stamp → (k : Kind) → IsSoundKind committed k
+    → IsSoundKind stamp (edited_kind stamp e k)
 edited_kind_sound committed stamp e later (TableKind t) sound = edited_sound committed stamp e later t sound
 
 edited_object_sound : (committed stamp : ℕ) (e : Edits) → committed < stamp → (o : Object) → IsSoundObject committed o
@@ -91,23 +101,30 @@ edited_object_sound committed stamp e later o sound = record {
   kind = edited_kind_sound committed stamp e later o.kind sound.kind;
 }
 
-dropped_sound : (committed stamp : ℕ) → committed ≤ stamp → (o : Object) → IsSoundObject committed o → IsSoundObject stamp (dropped o)
-dropped_sound committed stamp later o sound = record { created = omega (arith, sound.created); kind = kind_later committed stamp later o.kind sound.kind }
+dropped_sound : (committed stamp : ℕ) → committed ≤ stamp → (o : Object) → IsSoundObject committed o
+    → IsSoundObject stamp (dropped o)
+dropped_sound committed stamp later o sound =
+    record { created = omega (arith, sound.created); kind = kind_later committed stamp later o.kind sound.kind }
 
-new_object_sound : (name : List ℕ) (columns : List Column) (retention stamp : ℕ) → IsSoundObject stamp (new_object name stamp (TableKind (new_table nothing_held columns retention stamp)))
-new_object_sound name columns retention stamp = record { created = omega arith; kind = new_sound columns retention stamp }
+new_object_sound : (name : List ℕ) (columns : List Column) (retention stamp : ℕ)
+    → IsSoundObject stamp (new_object name stamp (TableKind (new_table nothing_held columns retention stamp)))
+new_object_sound name columns retention stamp =
+    record { created = omega arith; kind = new_sound columns retention stamp }
 
 -- an act at a stamp past the last commit
-acted_sound : (committed stamp : ℕ) → committed < stamp → (objects : List Object) → AllByRecursion (IsSoundObject committed) objects
-    → (act : Act) → AllByRecursion (IsSoundObject stamp) (acted stamp objects act)
+acted_sound : (committed stamp : ℕ) → committed < stamp → (objects : List Object)
+    → AllByRecursion (IsSoundObject committed) objects → (act : Act)
+    → AllByRecursion (IsSoundObject stamp) (acted stamp objects act)
 acted_sound committed stamp later objects sound (MakesTable name columns retention) =
-    let still = all_map (IsSoundObject committed) (IsSoundObject stamp) (object_later committed stamp (omega arith)) objects sound in
+    let still = all_map (IsSoundObject committed) (IsSoundObject stamp)
+    (object_later committed stamp (omega arith)) objects sound in
     all_more (IsSoundObject stamp) objects _ still (new_object_sound name columns retention stamp)
 acted_sound committed stamp later objects sound (DropsObject id) =
     all_changed_at (IsSoundObject committed) (IsSoundObject stamp) dropped (object_later committed stamp (omega arith))
     (dropped_sound committed stamp (omega arith)) objects id sound
 acted_sound committed stamp later objects sound (EditsRows id e) =
-    all_changed_at (IsSoundObject committed) (IsSoundObject stamp) (edited_object stamp e) (object_later committed stamp (omega arith))
+    all_changed_at (IsSoundObject committed) (IsSoundObject stamp) (edited_object stamp e)
+    (object_later committed stamp (omega arith))
     (edited_object_sound committed stamp e later) objects id sound
 
 -- ---- the acts of a statement

@@ -18,11 +18,14 @@ use Rattle.wh_machine.proofs.RowLaws.{number_tied, put_get, entries_rebuilt, row
 -- ---- rows
 
 -- another number than that of a row that is put in keeps what it had
-put_in : (rows : Rows) (k : ℕ) (row : Row) (number : ℕ) → (number ≡ k) ⊎ (get (insert rows k row) number ≡ get rows number)
+put_in : (rows : Rows) (k : ℕ) (row : Row) (number : ℕ)
+    → (number ≡ k) ⊎ (get (insert rows k row) number ≡ get rows number)
 put_in rows k row number = by_tie (eq_by_cmp nat_cmp number k) (put_get rows k row number) refl
   where
-    by_tie : (tie : Bool) → get (insert rows k row) number ≡ cond (eq_by_cmp nat_cmp number k) (Some row) (get rows number)
-        → eq_by_cmp nat_cmp number k ≡ tie → (number ≡ k) ⊎ (get (insert rows k row) number ≡ get rows number)
+    by_tie : (tie : Bool)
+        → get (insert rows k row) number ≡ cond (eq_by_cmp nat_cmp number k) (Some row) (get rows number)
+        → eq_by_cmp nat_cmp number k ≡ tie
+        → (number ≡ k) ⊎ (get (insert rows k row) number ≡ get rows number)
     by_tie true is e = inl (number_tied number k e)
     by_tie false is e = inr (rw e at is)
 
@@ -31,14 +34,16 @@ pub old_rows : (rows : Rows) (next : ℕ) (more : List Row) (number : ℕ) → (
     → get (with_entries rows (numbered next more)) number ≡ get rows number
 old_rows rows next [] number h = refl
 old_rows rows next (row ∷ more) number h =
-    ⊎_elim (λ is. absurd (apart h is)) (λ same. old_rows (insert rows next row) (next + 1) more number (further h) ∙ same)
+    ⊎_elim (λ is. absurd (apart h is))
+    (λ same. old_rows (insert rows next row) (next + 1) more number (further h) ∙ same)
     (put_in rows next row number)
   where
     apart : (number < next) ⊎ (next + suc (length more) ≤ number) → number ≡ next → ⊥
     apart (inl before) is = omega arith
     apart (inr behind) is = omega arith
 
-    further : (number < next) ⊎ (next + suc (length more) ≤ number) → (number < next + 1) ⊎ (next + 1 + length more ≤ number)
+    further : (number < next) ⊎ (next + suc (length more) ≤ number)
+        → (number < next + 1) ⊎ (next + 1 + length more ≤ number)
     further (inl before) = inl (omega arith)
     further (inr behind) = inr (omega arith)
 
@@ -47,13 +52,16 @@ pub after_get : (next : ℕ) (e : Edits) (rows : Rows) (number : ℕ) → (numbe
     → get (rows_after next e rows) number ≡ row_left (get rows number) (get e.rows number)
 unfolding rows_after
 after_get next e rows number h =
-    old_rows (with_entries empty (edited e.rows (entries rows))) next e.added number h ∙ edited_at e.rows (entries rows) number
+    old_rows (with_entries empty (edited e.rows (entries rows))) next e.added number h
+    ∙ edited_at e.rows (entries rows) number
     ∙ ap (λ (old : Rows). row_left (get old number) (get e.rows number)) (entries_rebuilt rows)
 
 -- a number that had no row has none afterwards
-pub still_lacks : (next : ℕ) (e : Edits) (rows : Rows) (number : ℕ) → (number < next) ⊎ (next + length e.added ≤ number) → get rows number ≡ None
+pub still_lacks : (next : ℕ) (e : Edits) (rows : Rows) (number : ℕ) → (number < next) ⊎ (next + length e.added ≤ number)
+    → get rows number ≡ None
     → get (rows_after next e rows) number ≡ None
-still_lacks next e rows number h lacks = after_get next e rows number h ∙ ap (λ (row : Option Row). row_left row (get e.rows number)) lacks
+still_lacks next e rows number h lacks = after_get next e rows number h
+    ∙ ap (λ (row : Option Row). row_left row (get e.rows number)) lacks
 
 -- ---- versions
 
@@ -71,7 +79,8 @@ last_lacks number (v ∷ []) h = h.0
 last_lacks number (v ∷ w ∷ vs) h = last_lacks number (w ∷ vs) h.1
 
 -- the last version's row numbers are below the next one
-pub last_below : (next : ℕ) (vs : List Version) → AllByRecursion (IsBelow next) vs → (number : ℕ) (row : Row) → get (last_held vs) number ≡ Some row
+pub last_below : (next : ℕ) (vs : List Version) → AllByRecursion (IsBelow next) vs → (number : ℕ) (row : Row)
+    → get (last_held vs) number ≡ Some row
     → number < next
 last_below next [] h number row has = absurd (cc (empty_lacks number))
 last_below next (v ∷ []) h number row has = h.0 number (record { row = row; is_there = has })

@@ -2,14 +2,16 @@
 --     Change, Commit       what is changed at a stamp
 --     Applies, applied     when a commit may stand in a file, and what the file then says
 --     Leads                commits that apply one after the other
-use Rattle.std.specs.Prelude.{◌≡◌, ℕ, ◌+◌, ◌<◌, ◌≤◌, ◌⊎◌, IsTrue, List, [], ◌∷◌, ◌++◌, length, Option, Some, None, IsNone, nat_eq}
+use Rattle.std.specs.Prelude.{◌≡◌, ℕ, ◌+◌, ◌<◌, ◌≤◌, ◌⊎◌, IsTrue, List, [], ◌∷◌, ◌++◌, length, Option, Some, None}
+use Rattle.std.specs.Prelude.{IsNone, nat_eq}
 use Rattle.std.specs.List.{AllByRecursion, list_any}
 use Rattle.wh_value.specs.Column.{Column}
 use Rattle.wh_value.specs.Fits.{row_fits}
 use Rattle.wh_value.specs.Limit.{bound}
 use Rattle.wh_value.specs.declared.limit.Limit.TheVariants as limits
 use Rattle.wh_frame.specs.Partition.{Partition, first_number, last_number}
-use Rattle.wh_machine.specs.State.{new_table, new_object, dropped, last_of, at_id, changed_at, id_of, live_count, VersionOf}
+use Rattle.wh_machine.specs.State.{new_table, new_object, dropped, last_of, at_id, changed_at}
+use Rattle.wh_machine.specs.State.{id_of, live_count, VersionOf}
 use Rattle.wh_machine.specs.Edits.{without}
 use Rattle.wh_machine.specs.Stored.{StoredTable, StoredKind, StoredTableKind, StoredObject, Stored, standing}
 
@@ -45,7 +47,11 @@ abbrev pub pushed : ℕ → VersionChange → StoredTable → StoredTable
 pushed stamp c t = record t {
   next_row = c.next_row;
   next_partition = t.next_partition + length c.added;
-  versions = t.versions ++ (record { stamp = stamp; data_timestamp = c.data_timestamp; content = without c.removed (standing t) ++ c.added }) ∷ [];
+  versions = t.versions ++ (record {
+    stamp = stamp;
+    data_timestamp = c.data_timestamp;
+    content = without c.removed (standing t) ++ c.added;
+  }) ∷ [];
 }
 
 abbrev pub pushed_kind : ℕ → VersionChange → StoredKind → StoredKind
@@ -55,7 +61,8 @@ abbrev pub pushed_object : ℕ → VersionChange → StoredObject → StoredObje
 pushed_object stamp c o = record o { kind = pushed_kind stamp c o.kind }
 
 unfoldable pub changed : ℕ → List StoredObject → Change → List StoredObject
-changed stamp objects (CreatesTable c) = objects ++ new_object c.name stamp (StoredTableKind (new_table [] c.columns c.retention stamp)) ∷ []
+changed stamp objects (CreatesTable c) =
+    objects ++ new_object c.name stamp (StoredTableKind (new_table [] c.columns c.retention stamp)) ∷ []
 changed stamp objects (Drops id) = changed_at objects id dropped
 changed stamp objects (PushesVersion c) = changed_at objects c.id (pushed_object stamp c)
 

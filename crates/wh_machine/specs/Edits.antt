@@ -6,7 +6,8 @@
 --     numbers_gone         the partitions with a row that the edits name
 --     partitions_made      those that take their places, and those of the rows that come
 --     contents_after       what a version then holds
-use Rattle.std.specs.Prelude.{ℕ, ◌+◌, Bool, not, if◌then◌else◌, List, [], ◌∷◌, ◌++◌, length, map, Option, Some, None, is_some, nat_eq, nat_lt}
+use Rattle.std.specs.Prelude.{ℕ, ◌+◌, Bool, not, if◌then◌else◌, List, [], ◌∷◌, ◌++◌, length, map, Option, Some, None}
+use Rattle.std.specs.Prelude.{is_some, nat_eq, nat_lt}
 use Rattle.std.specs.List.{filter, flat_map, list_any}
 use Rattle.std.specs.FinMap.{FinMap, empty, get, insert, entries}
 use Rattle.std.specs.Ordering.{nat_cmp}
@@ -50,7 +51,8 @@ edited edits rows = flat_map (edited_row edits) rows
 
 -- the rows that come have the next numbers
 unfoldable pub rows_after : ℕ → Edits → Rows → Rows
-rows_after next_row e rows = with_entries (with_entries empty (edited e.rows (entries rows))) (numbered next_row e.added)
+rows_after next_row e rows =
+    with_entries (with_entries empty (edited e.rows (entries rows))) (numbered next_row e.added)
 
 -- ---- edits on top of earlier ones, before either is in a version
 
@@ -88,7 +90,8 @@ numbers_gone edits standing = map (λ p. p.number) (touched edits standing)
 
 abbrev pub before_later : Partition → List Partition → List Partition
 before_later p [] = p ∷ []
-before_later p (q ∷ qs) = if nat_lt (first_number q.rows) (first_number p.rows) then q ∷ before_later p qs else p ∷ q ∷ qs
+before_later p (q ∷ qs) =
+    if nat_lt (first_number q.rows) (first_number p.rows) then q ∷ before_later p qs else p ∷ q ∷ qs
 
 -- by their rows
 abbrev pub by_rows : List Partition → List Partition

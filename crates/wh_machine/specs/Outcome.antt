@@ -9,7 +9,8 @@ use Rattle.wh_frame.specs.Partition.{Partition}
 use Rattle.wh_value.specs.Limit.{bound}
 use Rattle.wh_value.specs.declared.limit.Limit.{Limit}
 use Rattle.wh_reply.specs.Reply.{Refusal, OverLimit, Reply, Refused}
-use Rattle.wh_machine.specs.State.{State, Kind, TableKind, Object, Table, Contents, nothing_held, new_table, new_object, dropped, version_at, last_content, last_partitions, changed_at}
+use Rattle.wh_machine.specs.State.{State, Kind, TableKind, Object, Table, Contents, nothing_held, new_table, new_object}
+use Rattle.wh_machine.specs.State.{dropped, version_at, last_content, last_partitions, changed_at}
 use Rattle.wh_machine.specs.Edits.{Edits, partitions_made, contents_after}
 
 pub data Act : Type 0 where

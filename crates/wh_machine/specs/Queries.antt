@@ -15,7 +15,8 @@ use Rattle.wh_naming.specs.Findings as naming
 use Rattle.wh_naming.specs.Findings.{Findings, Failing, first_failing}
 use Rattle.wh_naming.specs.Scope.{Named, ObjectKind, TableObject}
 use Rattle.wh_naming.specs.Select.{BoundSelect, bound_select}
-use Rattle.wh_reply.specs.Reply.{Refusal, UnknownName, NameTaken, WrongKind, TypeMismatch, OverLimit, NumberOutOfRange, Listing}
+use Rattle.wh_reply.specs.Reply.{Refusal, UnknownName, NameTaken, WrongKind, TypeMismatch, OverLimit}
+use Rattle.wh_reply.specs.Reply.{NumberOutOfRange, Listing}
 use Rattle.wh_machine.specs.State.{State, Kind, TableKind, Object, Table, last_rows}
 use Rattle.wh_machine.specs.Outcome.{Outcome, Refuses, answers, refused_if, first_of, unless}
 use Rattle.wh_machine.specs.Tables.{table_at}
@@ -54,14 +55,16 @@ instance_of objects ids = map (λ id. table_bag (table_at objects id)) ids
 
 -- what is found wrong with names and types, and then the columns of queries
 abbrev pub naming_refusal : Findings → Bool → Option Refusal
-naming_refusal findings is_wide = first_of (option_map refusal_of (first_failing findings) ∷ refused_if is_wide (OverLimit limits.Output) ∷ [])
+naming_refusal findings is_wide =
+    first_of (option_map refusal_of (first_failing findings) ∷ refused_if is_wide (OverLimit limits.Output) ∷ [])
 
 abbrev pub listing_of : BoundSelect → Option Bag → Outcome
 listing_of b None = Refuses NumberOutOfRange
 listing_of b (Some rows) = answers (Listing b.names (listed b.keys rows))
 
 abbrev pub select_bound : List Object → BoundSelect → Outcome
-select_bound objects b = unless (naming_refusal b.findings b.is_wide) (listing_of b (eval b.query (instance_of objects b.sources)))
+select_bound objects b =
+    unless (naming_refusal b.findings b.is_wide) (listing_of b (eval b.query (instance_of objects b.sources)))
 
 unfoldable pub select_rows : State → written.Query → List Sort → Outcome
 select_rows s query sorts = select_bound s.objects (bound_select (names_from 1 s.objects) query sorts)

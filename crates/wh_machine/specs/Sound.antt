@@ -27,7 +27,8 @@ Rise (v ∷ w ∷ vs) = (v.stamp < w.stamp) × (v.data_timestamp ≤ w.data_time
 abbrev pub NoneReturns : List Version → Type 0
 NoneReturns [] = Unit {0}
 NoneReturns (v ∷ []) = Unit {0}
-NoneReturns (v ∷ w ∷ vs) = ((number : ℕ) → HasRow v number → LacksRow number w → AllByRecursion (LacksRow number) vs) × NoneReturns (w ∷ vs)
+NoneReturns (v ∷ w ∷ vs) = ((number : ℕ) → HasRow v number → LacksRow number w → AllByRecursion (LacksRow number) vs)
+    × NoneReturns (w ∷ vs)
 
 -- a version's two times are equal and not after the last commit
 pub record IsTimely (committed : ℕ) (v : Version) : Type 0 where

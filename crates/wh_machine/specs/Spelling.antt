@@ -21,7 +21,8 @@ unfoldable pub table_bytes : TableChange → List ℕ
 table_bytes c = to_be_bytes w32 c.id ++ text_bytes c.name ++ c.retention ∷ [] ++ list_bytes column_bytes c.columns
 
 unfoldable pub version_bytes : VersionChange → List ℕ
-version_bytes c = to_be_bytes w32 c.id ++ to_be_bytes w64 c.data_timestamp ++ to_be_bytes w64 c.next_row ++ to_be_bytes w32 c.width
+version_bytes c =
+    to_be_bytes w32 c.id ++ to_be_bytes w64 c.data_timestamp ++ to_be_bytes w64 c.next_row ++ to_be_bytes w32 c.width
     ++ list_bytes (to_be_bytes w64) c.removed ++ list_bytes partition_bytes c.added
 
 unfoldable pub change_bytes : Change → List ℕ

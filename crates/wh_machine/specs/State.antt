@@ -1,12 +1,14 @@
 -- The state of the machine.
 --     VersionOf, TableOf       a table as the list of its versions, each with its content
 --     ObjectOf                 a name, whether it lives, when it was created, and what it is
---     Contents                 what a version of the machine holds: its rows, by row number, and the partitions that they are written in
+--     Contents                 what a version of the machine holds: its rows, by row number, and the
+--                              partitions that they are written in
 --     Version, Table, Kind, Object, State     those of the machine
 --     at_rest, stamped         a state as the file keeps it, and at another stamp
 --     at_id, changed_at        an object's id is its place in order of creation, from 1
 --     id_of                    the id of the live object of a name
-use Rattle.std.specs.Prelude.{ℕ, zero, suc, ◌+◌, Bool, true, false, ◌&&◌, List, [], ◌∷◌, Option, Some, None, option_map, slice_get, slice_set, bytes_eq, count_by}
+use Rattle.std.specs.Prelude.{ℕ, zero, suc, ◌+◌, Bool, true, false, ◌&&◌, List, [], ◌∷◌, Option, Some, None, option_map}
+use Rattle.std.specs.Prelude.{slice_get, slice_set, bytes_eq, count_by}
 use Rattle.std.specs.List.{position}
 use Rattle.std.specs.Ordering.{nat_cmp}
 use Rattle.std.specs.FinMap.{FinMap, empty, insert}

@@ -6,7 +6,8 @@ use Rattle.std.specs.Prelude.{◌≡◌, ℕ, List, [], map}
 use Rattle.std.specs.List.{flat_map}
 use Rattle.std.specs.FinMap.{empty}
 use Rattle.wh_frame.specs.Partition.{Partition}
-use Rattle.wh_machine.specs.State.{VersionOf, TableOf, ObjectOf, Rows, Contents, Version, Table, Kind, TableKind, Object, State, last_content, with_entries}
+use Rattle.wh_machine.specs.State.{VersionOf, TableOf, ObjectOf, Rows, Contents, Version, Table, Kind, TableKind}
+use Rattle.wh_machine.specs.State.{Object, State, last_content, with_entries}
 
 abbrev pub StoredVersion : Type 0
 StoredVersion = VersionOf (List Partition)

@@ -1,22 +1,27 @@
 -- Tables: CREATE TABLE, also OR REPLACE, and DROP TABLE.
 --     create_table, drop_table     their outcomes
---     taken_name                   of columns' names the first that comes again, or that is kept for the columns of streams
+--     taken_name                   of columns' names the first that comes again, or that is kept
+--                                  for the columns of streams
 --     table_at                     the table of an id
-use Rattle.std.specs.Prelude.{ℕ, ◌+◌, ◌-◌, Bool, true, false, ◌||◌, if◌then◌else◌, List, [], ◌∷◌, ◌++◌, length, map, Option, Some, None, option_map, is_some, nat_eq, nat_lt, codes, bytes_eq}
+use Rattle.std.specs.Prelude.{ℕ, ◌+◌, ◌-◌, Bool, true, false, ◌||◌, if◌then◌else◌, List, [], ◌∷◌, ◌++◌, length, map}
+use Rattle.std.specs.Prelude.{Option, Some, None, option_map, is_some, nat_eq, nat_lt, codes, bytes_eq}
 use Rattle.std.specs.List.{list_any, starts_with}
 use Rattle.wh_value.specs.Column.{Column}
 use Rattle.wh_value.specs.Limit.{bound}
 use Rattle.wh_value.specs.declared.limit.Limit.TheVariants as limits
 use Rattle.wh_reply.specs.Reply.{Refusal, UnknownName, NameTaken, OverLimit, CreatedTable, DroppedTable}
 use Rattle.wh_machine.specs.State.{State, Kind, TableKind, Object, Table, at_id, id_of, live_count}
-use Rattle.wh_machine.specs.Outcome.{Act, Outcome, Refuses, MakesTable, DropsObject, commits, refused_if, refused_past, first_of, unless}
+use Rattle.wh_machine.specs.Outcome.{Act, Outcome, Refuses, MakesTable, DropsObject, commits, refused_if, refused_past}
+use Rattle.wh_machine.specs.Outcome.{first_of, unless}
 
 abbrev pub names_of : List Column → List (List ℕ)
 names_of columns = map (λ c. c.name) columns
 
 abbrev pub taken_name : List (List ℕ) → Option (List ℕ)
 taken_name [] = None
-taken_name (name ∷ names) = if starts_with nat_eq name (codes "METADATA$") || list_any (bytes_eq name) names then Some name else taken_name names
+taken_name (name ∷ names) =
+    if starts_with nat_eq name (codes "METADATA$") || list_any (bytes_eq name) names
+    then Some name else taken_name names
 
 abbrev pub is_long : List ℕ → Bool
 is_long name = nat_lt (bound limits.Name) (length name)

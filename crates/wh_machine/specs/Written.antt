@@ -38,7 +38,8 @@ act_written stamp objects (EditsRows id e) = version_written_to stamp id e (at_i
 
 abbrev pub written : ℕ → List StoredObject → List Act → List Change
 written stamp objects [] = []
-written stamp objects (act ∷ acts) = act_written stamp objects act ++ written stamp (all_changed stamp objects (act_written stamp objects act)) acts
+written stamp objects (act ∷ acts) =
+    act_written stamp objects act ++ written stamp (all_changed stamp objects (act_written stamp objects act)) acts
 
 abbrev pub commit_for : Stored → ℕ → List Act → Commit
 commit_for s stamp acts = record { stamp = stamp; changes = written stamp s.objects acts }

@@ -3,7 +3,8 @@
 --     call-listed                        a call
 --     entries-listed                     the counts of listed rows
 --     grouped-listed                     Group
-use Rattle.std.specs.Prelude.{◌≡◌, ℕ, suc, Bool, true, false, length, if◌then◌else◌, List, [], ◌∷◌, ◌++◌, map, filter, pos, ◌+ℤ◌, Option, Some, None, option_map}
+use Rattle.std.specs.Prelude.{◌≡◌, ℕ, suc, Bool, true, false, length, if◌then◌else◌, List, [], ◌∷◌, ◌++◌, map, filter}
+use Rattle.std.specs.Prelude.{pos, ◌+ℤ◌, Option, Some, None, option_map}
 use Rattle.std.proofs.Common.{arith, refl, sym, ap, ◌∙◌}
 use Rattle.std.proofs.Math.IntN.{+ℤ_assoc, +ℤ_comm}
 use Rattle.std.specs.FinMap.{entries, entries-insert, get-entries, find, put, len-entries, len-empty}
@@ -11,7 +12,10 @@ use Rattle.wh_value.specs.Value.{Value, Number, Truth, Text, Null, Row, row_cmp}
 use Rattle.wh_value.specs.Order.{row_total}
 use Rattle.wh_meaning.specs.Scalar.{Scalar, val, is_true, of_one, of_two}
 use Rattle.wh_meaning.specs.Bag.{no_rows, with_row, bag_of, times, count, plus, beside}
-use Rattle.wh_meaning.specs.Query.{Call, Sum, CountRows, Count, if_true, kept_by, values_on, image_by, filtered, projected, paired_with, joined, Total, with_number, with_argument, total_of, rows_in, count_value, sum_value, call_over, with_value, calls_over, is_row, with_key, group_row, group_rows, distinct, grouped}
+use Rattle.wh_meaning.specs.Query.{Call, Sum, CountRows, Count, if_true, kept_by, values_on, image_by, filtered}
+use Rattle.wh_meaning.specs.Query.{projected, paired_with, joined, Total, with_number, with_argument, total_of, rows_in}
+use Rattle.wh_meaning.specs.Query.{count_value, sum_value, call_over, with_value, calls_over, is_row, with_key}
+use Rattle.wh_meaning.specs.Query.{group_row, group_rows, distinct, grouped}
 use Rattle.wh_meaning.proofs.BagLaws.{fold_list, fold_bag_of, restricted-bag_of, one_row-plus}
 use Rattle.wh_meaning.proofs.Gathered.{each, gathered-each}
 
@@ -24,31 +28,38 @@ abbrev pub rows_kept : Scalar → Row → Option (List Row)
 rows_kept condition row = option_map (rows_if_true row) (val condition row)
 
 if_true-listed : (row : Row) (v : Value) → if_true row v ≡ bag_of (rows_if_true row v)
-if_true-listed row v = elim (is_true v) as (λ t. (if t then with_row row no_rows else no_rows) ≡ bag_of (if t then row ∷ [] else [])) [ true ↦ refl | false ↦ refl ]
+if_true-listed row v = elim (is_true v) as (λ t. (if t then with_row row no_rows else no_rows)
+    ≡ bag_of (if t then row ∷ [] else [])) [ true ↦ refl | false ↦ refl ]
 
 kept-listed : (condition : Scalar) (row : Row) → kept_by condition row ≡ option_map bag_of (rows_kept condition row)
 kept-listed condition row =
-    elim (val condition row) as (λ found. option_map (if_true row) found ≡ option_map bag_of (option_map (rows_if_true row) found)) [ None ↦ refl | Some v ↦ ap Some (if_true-listed row v) ]
+    elim (val condition row) as (λ found. option_map (if_true row) found ≡ option_map bag_of
+    (option_map (rows_if_true row) found)) [ None ↦ refl | Some v ↦ ap Some (if_true-listed row v) ]
 
-pub filtered-listed : (condition : Scalar) (rows : List Row) → filtered condition (bag_of rows) ≡ option_map bag_of (each (rows_kept condition) rows)
+pub filtered-listed : (condition : Scalar) (rows : List Row)
+    → filtered condition (bag_of rows) ≡ option_map bag_of (each (rows_kept condition) rows)
 filtered-listed condition rows = gathered-each (kept_by condition) (rows_kept condition) (kept-listed condition) rows
 
 abbrev pub images : List Scalar → Row → Option (List Row)
 images items row = option_map (λ image. image ∷ []) (values_on items row)
 
 images-listed : (items : List Scalar) (row : Row) → image_by items row ≡ option_map bag_of (images items row)
-images-listed items row = elim (values_on items row) as (λ found. option_map (λ image. with_row image no_rows) found ≡ option_map bag_of (option_map (λ image. image ∷ []) found)) [ None ↦ refl | Some image ↦ refl ]
+images-listed items row = elim (values_on items row) as (λ found. option_map (λ image. with_row image no_rows) found
+    ≡ option_map bag_of (option_map (λ image. image ∷ []) found)) [ None ↦ refl | Some image ↦ refl ]
 
-pub projected-listed : (items : List Scalar) (rows : List Row) → projected items (bag_of rows) ≡ option_map bag_of (each (images items) rows)
+pub projected-listed : (items : List Scalar) (rows : List Row)
+    → projected items (bag_of rows) ≡ option_map bag_of (each (images items) rows)
 projected-listed items rows = gathered-each (image_by items) (images items) (images-listed items) rows
 
 abbrev pub pairs : Scalar → List Row → Row → Option (List Row)
 pairs on right l = each (λ r. rows_kept on (l ++ r)) right
 
-pub joined-listed : (on : Scalar) (left right : List Row) → joined on (bag_of left) (bag_of right) ≡ option_map bag_of (each (pairs on right) left)
+pub joined-listed : (on : Scalar) (left right : List Row)
+    → joined on (bag_of left) (bag_of right) ≡ option_map bag_of (each (pairs on right) left)
 joined-listed on left right =
     gathered-each (paired_with on (bag_of right)) (pairs on right)
-    (λ l. gathered-each (λ r. kept_by on (l ++ r)) (λ r. rows_kept on (l ++ r)) (λ r. kept-listed on (l ++ r)) right) left
+    (λ l. gathered-each (λ r. kept_by on (l ++ r)) (λ r. rows_kept on (l ++ r)) (λ r. kept-listed on (l ++ r)) right)
+    left
 
 -- ---- calls
 
@@ -57,7 +68,8 @@ nothing_yet = record { sum = pos 0; values = 0 }
 
 number-turned : (v w : Value) (t : Total) → with_number v (with_number w t) ≡ with_number w (with_number v t)
 number-turned (Number y) (Number z) t =
-    ap (λ sum. record { sum = sum; values = suc (suc t.values) }) (sym (+ℤ_assoc y z t.sum) ∙ ap (λ both. both +ℤ t.sum) (+ℤ_comm y z) ∙ +ℤ_assoc z y t.sum)
+    ap (λ sum. record { sum = sum; values = suc (suc t.values) })
+    (sym (+ℤ_assoc y z t.sum) ∙ ap (λ both. both +ℤ t.sum) (+ℤ_comm y z) ∙ +ℤ_assoc z y t.sum)
 number-turned (Number y) (Truth b) t = refl
 number-turned (Number y) (Text b) t = refl
 number-turned (Number y) Null t = refl
@@ -71,7 +83,8 @@ number-turned (Text a) (Text b) t = refl
 number-turned (Text a) Null t = refl
 number-turned Null w t = refl
 
-argument-turned : (a b : Option Value) (t : Option Total) → with_argument a (with_argument b t) ≡ with_argument b (with_argument a t)
+argument-turned : (a b : Option Value) (t : Option Total)
+    → with_argument a (with_argument b t) ≡ with_argument b (with_argument a t)
 argument-turned None None t = refl
 argument-turned None (Some w) None = refl
 argument-turned None (Some w) (Some t) = refl
@@ -84,7 +97,8 @@ abbrev pub total_in : Scalar → List Row → Option Total
 total_in e rows = fold_list (λ row t. with_argument (val e row) t) (Some nothing_yet) rows
 
 total-listed : (e : Scalar) (rows : List Row) → total_of e (bag_of rows) ≡ total_in e rows
-total-listed e rows = fold_bag_of (λ row t. with_argument (val e row) t) (Some nothing_yet) (λ x y t. argument-turned (val e x) (val e y) t) rows
+total-listed e rows = fold_bag_of (λ row t. with_argument (val e row) t) (Some nothing_yet)
+    (λ x y t. argument-turned (val e x) (val e y) t) rows
 
 -- a call over listed rows
 abbrev pub call_in : List Row → Call → Option Value
@@ -104,7 +118,8 @@ calls_in rows (call ∷ calls) = with_value (call_in rows call) (calls_in rows c
 
 calls-listed : (rows : List Row) (calls : List Call) → calls_over (bag_of rows) calls ≡ calls_in rows calls
 calls-listed rows [] = refl
-calls-listed rows (call ∷ calls) = ap (λ first. with_value first (calls_over (bag_of rows) calls)) (call-listed rows call) ∙ ap (with_value (call_in rows call)) (calls-listed rows calls)
+calls-listed rows (call ∷ calls) = ap (λ first. with_value first (calls_over (bag_of rows) calls))
+    (call-listed rows call) ∙ ap (with_value (call_in rows call)) (calls-listed rows calls)
 
 -- ---- Group
 
@@ -131,29 +146,35 @@ group_in by calls rows key = option_map (λ values. key ++ values) (calls_in (ro
 
 abbrev pub groups_in : List Scalar → List Call → List Row → List Row → Option (List Row)
 groups_in by calls rows [] = Some []
-groups_in by calls rows (key ∷ rest) = of_two (λ group groups. Some (group ∷ groups)) (group_in by calls rows key) (groups_in by calls rows rest)
+groups_in by calls rows (key ∷ rest) =
+    of_two (λ group groups. Some (group ∷ groups)) (group_in by calls rows key) (groups_in by calls rows rest)
 
 group-listed : (by : List Scalar) (calls : List Call) (rows : List Row) (key : Row) →
     group_row by calls (bag_of rows) key ≡ option_map (λ group. with_row group no_rows) (group_in by calls rows key)
 group-listed by calls rows key =
-    ap (λ b. option_map (λ values. with_row (key ++ values) no_rows) (calls_over b calls)) (restricted-bag_of (λ row. is_row key (values_on by row)) rows)
+    ap (λ b. option_map (λ values. with_row (key ++ values) no_rows) (calls_over b calls))
+    (restricted-bag_of (λ row. is_row key (values_on by row)) rows)
     ∙ ap (option_map (λ values. with_row (key ++ values) no_rows)) (calls-listed (rows_with by key rows) calls)
-    ∙ elim (calls_in (rows_with by key rows) calls) as (λ found. option_map (λ values. with_row (key ++ values) no_rows) found ≡ option_map (λ group. with_row group no_rows) (option_map (λ values. key ++ values) found)) [
+    ∙ elim (calls_in (rows_with by key rows) calls) as (λ found. option_map (λ values. with_row (key ++ values) no_rows)
+    found ≡ option_map (λ group. with_row group no_rows) (option_map (λ values. key ++ values) found)) [
       | None ↦ refl
       | Some values ↦ refl
     ]
 
 first-beside : (a : Option Row) (rest : Option (List Row)) →
-    of_two (λ x y. Some (plus x y)) (option_map (λ group. with_row group no_rows) a) (option_map bag_of rest) ≡ option_map bag_of (of_two (λ group groups. Some (group ∷ groups)) a rest)
+    of_two (λ x y. Some (plus x y)) (option_map (λ group. with_row group no_rows) a) (option_map bag_of rest)
+    ≡ option_map bag_of (of_two (λ group groups. Some (group ∷ groups)) a rest)
 first-beside None rest = refl
 first-beside (Some a) None = refl
 first-beside (Some a) (Some rest) = ap Some (one_row-plus a (bag_of rest))
 
-groups-listed : (by : List Scalar) (calls : List Call) (rows : List Row) (keys : List Row) → group_rows by calls (bag_of rows) keys ≡ option_map bag_of (groups_in by calls rows keys)
+groups-listed : (by : List Scalar) (calls : List Call) (rows : List Row) (keys : List Row)
+    → group_rows by calls (bag_of rows) keys ≡ option_map bag_of (groups_in by calls rows keys)
 groups-listed by calls rows [] = refl
 groups-listed by calls rows (key ∷ rest) =
     ap (λ first. beside first (group_rows by calls (bag_of rows) rest)) (group-listed by calls rows key)
-    ∙ ap (beside (option_map (λ group. with_row group no_rows) (group_in by calls rows key))) (groups-listed by calls rows rest)
+    ∙ ap (beside (option_map (λ group. with_row group no_rows) (group_in by calls rows key)))
+    (groups-listed by calls rows rest)
     ∙ first-beside (group_in by calls rows key) (groups_in by calls rows rest)
 
 abbrev pub keys_in : List Scalar → List Row → List Row
@@ -167,10 +188,14 @@ distinct-listed (e ∷ es) keyed = ap (map (λ e. e.0)) (entries-listed keyed)
 abbrev pub grouped_in : List Scalar → List Call → List Row → Option (List Row)
 grouped_in by calls rows = of_one (λ keyed. groups_in by calls rows (keys_in by keyed)) (each (images by) rows)
 
-pub grouped-listed : (by : List Scalar) (calls : List Call) (rows : List Row) → grouped by calls (bag_of rows) ≡ option_map bag_of (grouped_in by calls rows)
+pub grouped-listed : (by : List Scalar) (calls : List Call) (rows : List Row)
+    → grouped by calls (bag_of rows) ≡ option_map bag_of (grouped_in by calls rows)
 grouped-listed by calls rows =
     ap (of_one (λ keyed. group_rows by calls (bag_of rows) (distinct by keyed))) (projected-listed by rows)
-    ∙ elim (each (images by) rows) as (λ found. of_one (λ keyed. group_rows by calls (bag_of rows) (distinct by keyed)) (option_map bag_of found) ≡ option_map bag_of (of_one (λ keyed. groups_in by calls rows (keys_in by keyed)) found)) [
+    ∙ elim (each (images by) rows)
+    as (λ found. of_one (λ keyed. group_rows by calls (bag_of rows) (distinct by keyed)) (option_map bag_of found)
+    ≡ option_map bag_of (of_one (λ keyed. groups_in by calls rows (keys_in by keyed)) found)) [
       | None ↦ refl
-      | Some keyed ↦ ap (group_rows by calls (bag_of rows)) (distinct-listed by keyed) ∙ groups-listed by calls rows (keys_in by keyed)
+      | Some keyed ↦ ap (group_rows by calls (bag_of rows)) (distinct-listed by keyed)
+          ∙ groups-listed by calls rows (keys_in by keyed)
     ]

@@ -1,5 +1,6 @@
 -- Bags: rows with counts.
---     Bag              a finite map from rows to counts above 0, each kept less one, so that equal counts are equal bags
+--     Bag              a finite map from rows to counts above 0, each kept less one, so that
+--                      equal counts are equal bags
 --     count            how often a row is in a bag
 --     with_row         a bag with a row once more
 --     bag_of           the bag of listed rows

@@ -1,7 +1,8 @@
 -- What a query means.
 --     Query, Call      the six operators, and the calls of a Group
 --     eval             the bag of a query over the bags of its sources; None where it is undefined
-use Rattle.std.specs.Prelude.{ℕ, zero, suc, Bool, true, false, ℤ, pos, ◌+ℤ◌, if◌then◌else◌, List, [], ◌∷◌, ◌++◌, Option, Some, None, option_map, slice_get, unwrap_or}
+use Rattle.std.specs.Prelude.{ℕ, zero, suc, Bool, true, false, ℤ, pos, ◌+ℤ◌, if◌then◌else◌, List, [], ◌∷◌, ◌++◌, Option}
+use Rattle.std.specs.Prelude.{Some, None, option_map, slice_get, unwrap_or}
 use Rattle.std.specs.FinMap.{keys}
 use Rattle.std.specs.Ordering.{is_eq}
 use Rattle.wh_value.specs.Value.{Value, Number, Truth, Text, Null, Row, row_cmp}

@@ -1,8 +1,10 @@
 -- What a changing statement stands for.
---     Change         rows for INSERT, the new row for UPDATE, and so on, as scalars over the rows that they are computed from
+--     Change         rows for INSERT, the new row for UPDATE, and so on, as scalars over the rows
+--                    that they are computed from
 --     BoundChange    a change with its target's id, its sources' ids in the order of the text, and what is found wrong
 --     bound_change   of a statement as it is written
-use Rattle.std.specs.Prelude.{ℕ, suc, Bool, true, false, not, if◌then◌else◌, List, [], ◌∷◌, map, Option, Some, None, unwrap_or, nat_eq, bytes_eq}
+use Rattle.std.specs.Prelude.{ℕ, suc, Bool, true, false, not, if◌then◌else◌, List, [], ◌∷◌, map, Option, Some, None}
+use Rattle.std.specs.Prelude.{unwrap_or, nat_eq, bytes_eq}
 use Rattle.std.specs.List.{list_any}
 use Rattle.wh_value.specs.Value.{Null, Truth}
 use Rattle.wh_value.specs.Column as table
@@ -18,10 +20,13 @@ use Rattle.wh_ast.specs.declared.dml.MergeClause.{MergeClause}
 use Rattle.wh_ast.specs.declared.dml.MergeClause.TheVariants as clauses
 use Rattle.wh_meaning.specs.Scalar.{Scalar, Const, Column}
 use Rattle.wh_meaning.specs.Query.{Query}
-use Rattle.wh_naming.specs.Findings.{Name, Findings, nothing_found, followed, unknown_object, wrong_kind_if, unknown_column, taken_if, mistyped_if}
+use Rattle.wh_naming.specs.Findings.{Name, Findings, nothing_found, followed, unknown_object, wrong_kind_if}
+use Rattle.wh_naming.specs.Findings.{unknown_column, taken_if, mistyped_if}
 use Rattle.wh_naming.specs.Scope.{Named, ObjectKind, TableObject, named, Entry, Place, column_at}
 use Rattle.wh_naming.specs.Typing.{Typed, alike}
-use Rattle.wh_naming.specs.Select.{Output, BoundQuery, BoundSource, SourcePart, QueryReading, JoinPart, source_step, core_step, join_step, query_step, bound_query, column_of, plain, condition_findings, filter_findings}
+use Rattle.wh_naming.specs.Select.{Output, BoundQuery, BoundSource, SourcePart, QueryReading, JoinPart, source_step}
+use Rattle.wh_naming.specs.Select.{core_step, join_step, query_step, bound_query, column_of, plain, condition_findings}
+use Rattle.wh_naming.specs.Select.{filter_findings}
 
 -- ---- the target
 
@@ -36,7 +41,8 @@ is_table _ = false
 
 abbrev pub target_of : Name → Option Named → Target
 target_of name None = record { id = 0; columns = []; findings = unknown_object name }
-target_of name (Some object) = record { id = object.id; columns = object.columns; findings = wrong_kind_if (not (is_table object.kind)) name }
+target_of name (Some object) =
+    record { id = object.id; columns = object.columns; findings = wrong_kind_if (not (is_table object.kind)) name }
 
 abbrev pub target_at : List Named → Name → Target
 target_at names name = target_of name (named names name)
@@ -69,7 +75,8 @@ names_again name names = list_any (λ other. bytes_eq other name) names
 abbrev pub list_findings : List table.Column → List Name → Findings
 list_findings columns [] = nothing_found
 list_findings columns (name ∷ names) =
-    followed (followed (place_findings name (place_in columns name)) (taken_if (names_again name names) name)) (list_findings columns names)
+    followed (followed (place_findings name (place_in columns name)) (taken_if (names_again name names) name))
+    (list_findings columns names)
 
 abbrev pub given_findings : List table.Column → Option (List Name) → Findings
 given_findings columns None = nothing_found
@@ -99,12 +106,14 @@ given_at place (p ∷ ps) (s ∷ ss) otherwise = if is_at place p then s else gi
 -- a new row's columns, NULL where nothing is given
 abbrev pub row_from : ℕ → List table.Column → List (Option Place) → List Scalar → List Scalar
 row_from place [] places scalars = []
-row_from place (c ∷ cs) places scalars = given_at place places scalars (Const Null) ∷ row_from (suc place) cs places scalars
+row_from place (c ∷ cs) places scalars =
+    given_at place places scalars (Const Null) ∷ row_from (suc place) cs places scalars
 
 -- a changed row's columns, as they were where nothing is given
 abbrev pub changed_from : ℕ → List table.Column → List (Option Place) → List Scalar → List Scalar
 changed_from place [] places scalars = []
-changed_from place (c ∷ cs) places scalars = given_at place places scalars (Column place) ∷ changed_from (suc place) cs places scalars
+changed_from place (c ∷ cs) places scalars =
+    given_at place places scalars (Column place) ∷ changed_from (suc place) cs places scalars
 
 -- ---- values, over the columns of entries
 
@@ -135,7 +144,8 @@ condition_of entries (Some e) = (plain entries e).scalar
 
 abbrev pub changed_row : List table.Column → List Entry → List Assignment → List Scalar
 changed_row columns entries parts =
-    changed_from 0 columns (map (λ part. place_in columns part.column) parts) (map (λ part. (plain entries part.value).scalar) parts)
+    changed_from 0 columns (map (λ part. place_in columns part.column) parts)
+    (map (λ part. (plain entries part.value).scalar) parts)
 
 abbrev pub is_set_again : Name → List Assignment → Bool
 is_set_again name parts = list_any (λ part. bytes_eq part.column name) parts
@@ -147,12 +157,14 @@ abbrev pub part_findings : List table.Column → List Entry → Assignment → L
 part_findings columns entries part parts = placed (place_in columns part.column)
   where
     placed : Option Place → Findings
-    placed place = followed (followed (place_findings part.column place) (taken_if (is_set_again part.column parts) part.column))
+    placed place =
+        followed (followed (place_findings part.column place) (taken_if (is_set_again part.column parts) part.column))
         (value_findings place (plain entries part.value))
 
 abbrev pub set_findings : List table.Column → List Entry → List Assignment → Findings
 set_findings columns entries [] = nothing_found
-set_findings columns entries (part ∷ parts) = followed (part_findings columns entries part parts) (set_findings columns entries parts)
+set_findings columns entries (part ∷ parts) =
+    followed (part_findings columns entries part parts) (set_findings columns entries parts)
 
 -- ---- the statements
 
@@ -178,7 +190,8 @@ pub record BoundChange : Type 0 where
 
 -- a change that reads its target alone
 abbrev pub change_alone : Target → Change → Findings → BoundChange
-change_alone t change findings = record { target = t.id; change = change; sources = []; findings = followed t.findings findings; is_wide = false }
+change_alone t change findings =
+    record { target = t.id; change = change; sources = []; findings = followed t.findings findings; is_wide = false }
 
 -- ---- INSERT
 
@@ -191,7 +204,8 @@ row_findings (row ∷ others) = followed row.findings (row_findings others)
 
 abbrev pub insert_values : Target → Option (List Name) → List NewRow → BoundChange
 insert_values t names found =
-    change_alone t (InsertRows (map (λ row. row.scalars) found)) (followed (given_findings t.columns names) (row_findings found))
+    change_alone t (InsertRows (map (λ row. row.scalars) found))
+    (followed (given_findings t.columns names) (row_findings found))
 
 -- the columns of a query's rows
 abbrev pub outputs_from : ℕ → List Output → List Scalar
@@ -213,7 +227,8 @@ insert_query t names q = record {
 }
 
 abbrev pub bound_rows : List Named → Target → Option (List Name) → Rows → BoundChange
-bound_rows names t listed (rows.Values found) = insert_values t listed (value_rows t.columns (given_places t.columns listed) found)
+bound_rows names t listed (rows.Values found) =
+    insert_values t listed (value_rows t.columns (given_places t.columns listed) found)
 bound_rows names t listed (rows.Query q) = insert_query t listed (bound_query q names 0)
 
 -- ---- UPDATE and DELETE
@@ -229,7 +244,8 @@ bound_delete t entries filter = change_alone t (Delete (condition_of entries fil
 -- ---- MERGE
 
 abbrev pub source_part : written.Source → SourcePart
-source_part s = written.fold-Source SourcePart QueryReading JoinPart QueryReading source_step core_step join_step query_step s
+source_part s =
+    written.fold-Source SourcePart QueryReading JoinPart QueryReading source_step core_step join_step query_step s
 
 -- a clause sees both entries, after NOT MATCHED the source alone
 abbrev pub bound_clause : List table.Column → Entry → Entry → MergeClause → BoundClause
@@ -237,7 +253,8 @@ bound_clause columns t s (clauses.Update condition parts) =
     UpdateMatched (condition_of (t ∷ s ∷ []) condition) (changed_row columns (t ∷ s ∷ []) parts)
 bound_clause columns t s (clauses.Delete condition) = DeleteMatched (condition_of (t ∷ s ∷ []) condition)
 bound_clause columns t s (clauses.Insert condition listed values) =
-    InsertUnmatched (condition_of (s ∷ []) condition) (new_row columns (given_places columns listed) (typed_all (s ∷ []) values)).scalars
+    InsertUnmatched (condition_of (s ∷ []) condition)
+    (new_row columns (given_places columns listed) (typed_all (s ∷ []) values)).scalars
 
 abbrev pub clause_findings : List table.Column → Entry → Entry → MergeClause → Findings
 clause_findings columns t s (clauses.Update condition parts) =
@@ -245,7 +262,8 @@ clause_findings columns t s (clauses.Update condition parts) =
 clause_findings columns t s (clauses.Delete condition) = filter_findings (t ∷ s ∷ []) condition
 clause_findings columns t s (clauses.Insert condition listed values) =
     followed (filter_findings (s ∷ []) condition)
-    (followed (given_findings columns listed) (new_row columns (given_places columns listed) (typed_all (s ∷ []) values)).findings)
+    (followed (given_findings columns listed)
+    (new_row columns (given_places columns listed) (typed_all (s ∷ []) values)).findings)
 
 abbrev pub all_clause_findings : List table.Column → Entry → Entry → List MergeClause → Findings
 all_clause_findings columns t s [] = nothing_found
@@ -260,7 +278,8 @@ merged_on t target source s on written_clauses = with_on (plain (target ∷ sour
       change = Merge s.query condition.scalar (map (bound_clause t.columns target source) written_clauses);
       sources = s.sources;
       findings = followed t.findings (followed (taken_if (bytes_eq target.name source.name) target.name)
-          (followed s.findings (followed (condition_findings condition) (all_clause_findings t.columns target source written_clauses))));
+          (followed s.findings
+          (followed (condition_findings condition) (all_clause_findings t.columns target source written_clauses))));
       is_wide = s.is_wide;
     }
 
@@ -268,7 +287,8 @@ abbrev pub bound_merge : Target → Name → SourcePart → List Named → Expr 
 bound_merge t name part names on written_clauses = from_source (part.reading names 0)
   where
     from_source : BoundSource → BoundChange
-    from_source s = merged_on t (target_entry name t) (record { name = part.name; columns = s.columns }) s on written_clauses
+    from_source s =
+        merged_on t (target_entry name t) (record { name = part.name; columns = s.columns }) s on written_clauses
 
 -- ---- the whole statement
 

@@ -15,7 +15,8 @@ pub record Findings : Type 0 where
   pub is_mistyped : Bool
 
 abbrev pub nothing_found : Findings
-nothing_found = record { unknown_object = None; wrong_kind = None; unknown_column = None; taken = None; is_mistyped = false }
+nothing_found =
+    record { unknown_object = None; wrong_kind = None; unknown_column = None; taken = None; is_mistyped = false }
 
 abbrev pub either : {A : Type 0} → Option A → Option A → Option A
 either None b = b

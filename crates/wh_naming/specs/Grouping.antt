@@ -1,8 +1,9 @@
 -- Items of a core with GROUP BY or with a call.
 --     is_same      whether two scalars are the same
---     regrouped    a scalar over the rows of groups: each part that equals a key is the key's column, and each call is a
---                  column behind the keys; None where a column stands elsewhere
-use Rattle.std.specs.Prelude.{ℕ, ◌+◌, ◌-◌, Bool, true, false, ◌&&◌, if◌then◌else◌, List, length, Option, Some, None, option_map, nat_eq, nat_lt}
+--     regrouped    a scalar over the rows of groups: each part that equals a key is the key's column, and each call is
+--                  a column behind the keys; None where a column stands elsewhere
+use Rattle.std.specs.Prelude.{ℕ, ◌+◌, ◌-◌, Bool, true, false, ◌&&◌, if◌then◌else◌, List, length, Option, Some, None}
+use Rattle.std.specs.Prelude.{option_map, nat_eq, nat_lt}
 use Rattle.std.specs.List.{position}
 use Rattle.std.specs.Ordering.{is_eq}
 use Rattle.wh_value.specs.Value.{value_cmp}
@@ -55,7 +56,8 @@ regrouped keys width (Neg a) = at_key keys (Neg a) (option_map Neg (regrouped ke
 regrouped keys width (Add a b) = at_key keys (Add a b) (both Add (regrouped keys width a) (regrouped keys width b))
 regrouped keys width (Sub a b) = at_key keys (Sub a b) (both Sub (regrouped keys width a) (regrouped keys width b))
 regrouped keys width (Mul a b) = at_key keys (Mul a b) (both Mul (regrouped keys width a) (regrouped keys width b))
-regrouped keys width (Compare c a b) = at_key keys (Compare c a b) (both (Compare c) (regrouped keys width a) (regrouped keys width b))
+regrouped keys width (Compare c a b) =
+    at_key keys (Compare c a b) (both (Compare c) (regrouped keys width a) (regrouped keys width b))
 regrouped keys width (And a b) = at_key keys (And a b) (both And (regrouped keys width a) (regrouped keys width b))
 regrouped keys width (Or a b) = at_key keys (Or a b) (both Or (regrouped keys width a) (regrouped keys width b))
 regrouped keys width (Not a) = at_key keys (Not a) (option_map Not (regrouped keys width a))

@@ -3,7 +3,8 @@
 --     Entry                a FROM entry: its name and its columns
 --     column_at            the place of the one column of a name among all entries, and its type
 --     columns_of_entry     the columns of the one entry of a name, with the place of the first
-use Rattle.std.specs.Prelude.{ℕ, suc, ◌+◌, Bool, true, false, if◌then◌else◌, List, [], ◌∷◌, ◌++◌, length, Option, Some, None, bytes_eq}
+use Rattle.std.specs.Prelude.{ℕ, suc, ◌+◌, Bool, true, false, if◌then◌else◌, List, [], ◌∷◌, ◌++◌, length, Option, Some}
+use Rattle.std.specs.Prelude.{None, bytes_eq}
 use Rattle.wh_value.specs.Column.{ColumnType, Column}
 use Rattle.wh_naming.specs.Findings.{Name}
 
@@ -45,7 +46,9 @@ pub record Place : Type 0 where
 -- the columns of that name, the first of which has that place
 abbrev pub places_among : Name → ℕ → List Column → List Place
 places_among name from [] = []
-places_among name from (c ∷ cs) = (if bytes_eq c.name name then record { place = from; column_type = c.column_type } ∷ [] else []) ++ places_among name (suc from) cs
+places_among name from (c ∷ cs) =
+    (if bytes_eq c.name name then record { place = from; column_type = c.column_type } ∷ [] else [])
+    ++ places_among name (suc from) cs
 
 -- whether a column that is written with that entry's name, or without one, may be the entry's
 abbrev pub may_be_of : Option Name → Entry → Bool
@@ -54,7 +57,8 @@ may_be_of (Some name) e = bytes_eq e.name name
 
 abbrev pub places_of : Option Name → Name → ℕ → List Entry → List Place
 places_of entry name from [] = []
-places_of entry name from (e ∷ es) = (if may_be_of entry e then places_among name from e.columns else []) ++ places_of entry name (from + length e.columns) es
+places_of entry name from (e ∷ es) = (if may_be_of entry e then places_among name from e.columns else [])
+    ++ places_of entry name (from + length e.columns) es
 
 abbrev pub only : {A : Type 0} → List A → Option A
 only [] = None
@@ -72,7 +76,8 @@ pub record Span : Type 0 where
 
 abbrev pub spans_of : Name → ℕ → List Entry → List Span
 spans_of name from [] = []
-spans_of name from (e ∷ es) = (if bytes_eq e.name name then record { from = from; columns = e.columns } ∷ [] else []) ++ spans_of name (from + length e.columns) es
+spans_of name from (e ∷ es) = (if bytes_eq e.name name then record { from = from; columns = e.columns } ∷ [] else [])
+    ++ spans_of name (from + length e.columns) es
 
 unfoldable pub columns_of_entry : Name → List Entry → Option Span
 columns_of_entry name entries = only (spans_of name 0 entries)

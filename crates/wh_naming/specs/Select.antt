@@ -1,9 +1,11 @@
 -- What a SELECT stands for.
---     BoundQuery     a query with its output columns, its sources' ids in the order of the text, and what is found wrong
+--     BoundQuery     a query with its output columns, its sources' ids in the order of the
+--                    text, and what is found wrong
 --     bound_query    of a query as it is written
 --     BoundSelect    with the keys of ORDER BY
 --     bound_select   of a whole SELECT
-use Rattle.std.specs.Prelude.{ℕ, zero, suc, ◌+◌, Bool, true, false, not, ◌&&◌, ◌||◌, if◌then◌else◌, List, [], ◌∷◌, ◌++◌, length, map, Option, Some, None, unwrap_or, is_some, nat_lt, bytes_eq, codes, decimal}
+use Rattle.std.specs.Prelude.{ℕ, zero, suc, ◌+◌, Bool, true, false, not, ◌&&◌, ◌||◌, if◌then◌else◌, List, [], ◌∷◌, ◌++◌}
+use Rattle.std.specs.Prelude.{length, map, Option, Some, None, unwrap_or, is_some, nat_lt, bytes_eq, codes, decimal}
 use Rattle.std.specs.List.{list_any}
 use Rattle.wh_value.specs.Value.{Null}
 use Rattle.wh_value.specs.Column as table
@@ -24,7 +26,8 @@ use Rattle.wh_meaning.specs.Scalar.{Scalar, Const, Column}
 use Rattle.wh_meaning.specs.Query as meaning
 use Rattle.wh_meaning.specs.Query.{Call, Scan, Filter, Project, Join, UnionAll, Group}
 use Rattle.wh_meaning.specs.Listing.{SortKey}
-use Rattle.wh_naming.specs.Findings.{Name, Findings, nothing_found, either, followed, unknown_object, wrong_kind_if, unknown_column, taken_if, mistyped_if}
+use Rattle.wh_naming.specs.Findings.{Name, Findings, nothing_found, either, followed, unknown_object, wrong_kind_if}
+use Rattle.wh_naming.specs.Findings.{unknown_column, taken_if, mistyped_if}
 use Rattle.wh_naming.specs.Scope.{Named, is_source, named, Entry, width, Span, only, columns_of_entry}
 use Rattle.wh_naming.specs.Typing.{Typed, Context, alike, takes, typed}
 use Rattle.wh_naming.specs.Grouping.{regrouped}
@@ -66,7 +69,8 @@ pub record JoinPart : Type 0 where
   pub on : Expr
 
 abbrev pub object_source : Name → ℕ → Option Named → BoundSource
-object_source name number None = record { query = Scan number; columns = []; sources = 0 ∷ []; findings = unknown_object name; is_wide = false }
+object_source name number None =
+    record { query = Scan number; columns = []; sources = 0 ∷ []; findings = unknown_object name; is_wide = false }
 object_source name number (Some object) = record {
   query = Scan number;
   columns = object.columns;
@@ -80,7 +84,13 @@ abbrev pub column_of : Output → table.Column
 column_of o = record { name = o.name; column_type = unwrap_or o.type_of VarcharType }
 
 abbrev pub query_source : BoundQuery → BoundSource
-query_source q = record { query = q.query; columns = map column_of q.outputs; sources = q.sources; findings = q.findings; is_wide = q.is_wide }
+query_source q = record {
+  query = q.query;
+  columns = map column_of q.outputs;
+  sources = q.sources;
+  findings = q.findings;
+  is_wide = q.is_wide;
+}
 
 -- the rows of the entries so far
 pub record Joined : Type 0 where
@@ -122,7 +132,8 @@ with_entry left j joins s = met (left.entries ++ (record { name = part_name j; c
       query = Join left.query s.query on.scalar;
       entries = entries;
       sources = left.sources ++ s.sources;
-      findings = followed left.findings (followed (followed s.findings (taken_if (comes_again (part_name j) joins) (part_name j))) (condition_findings on));
+      findings = followed left.findings (followed
+          (followed s.findings (taken_if (comes_again (part_name j) joins) (part_name j))) (condition_findings on));
       is_wide = left.is_wide || s.is_wide;
     }
 
@@ -131,7 +142,8 @@ with_entry left j joins s = met (left.entries ++ (record { name = part_name j; c
 
 abbrev pub with_joins : List Named → ℕ → Joined → List JoinPart → Joined
 with_joins names next left [] = left
-with_joins names next left (j ∷ joins) = with_joins names next (with_entry left j joins (j.source.reading names (next + length left.sources))) joins
+with_joins names next left (j ∷ joins) =
+    with_joins names next (with_entry left j joins (j.source.reading names (next + length left.sources))) joins
 
 abbrev pub from_part : List Named → ℕ → SourcePart → List JoinPart → Joined
 from_part names next part joins = with_joins names next (first_entry part joins (part.reading names next)) joins
@@ -212,7 +224,8 @@ abbrev pub shown_with : List Entry → Shown → Item → Shown
 shown_with entries shown items.Star = with_columns shown 0 (all_columns entries)
 shown_with entries shown (items.StarOf name) = with_span shown name (columns_of_entry name entries)
 shown_with entries shown (items.Expr e alias) =
-    with_item shown (output_name alias e (suc (length shown.outputs))) (typed e (item_context entries) (length shown.calls))
+    with_item shown (output_name alias e (suc (length shown.outputs)))
+    (typed e (item_context entries) (length shown.calls))
 
 abbrev pub all_shown : List Entry → Shown → List Item → Shown
 all_shown entries shown [] = shown
@@ -236,7 +249,8 @@ regrouped_all keys width scalars = map (λ s. scalar_or (regrouped keys width s)
 
 -- in a core with groups `*` is no item, and each column stands inside a call or a key
 abbrev pub group_findings : List Scalar → ℕ → Shown → Findings
-group_findings keys width shown = mistyped_if (shown.has_star || list_any (λ s. not (is_some (regrouped keys width s))) shown.scalars)
+group_findings keys width shown =
+    mistyped_if (shown.has_star || list_any (λ s. not (is_some (regrouped keys width s))) shown.scalars)
 
 abbrev pub is_too_wide : List Output → Bool
 is_too_wide outputs = nat_lt (bound limits.Output) (length outputs)
@@ -254,7 +268,8 @@ core_of j filter group shown = made (is_grouped group shown.calls) (key_scalars 
       outputs = shown.outputs;
       sources = j.sources;
       findings = followed shown.findings (followed j.findings (followed (filter_findings j.entries filter)
-          (followed (key_findings j.entries group) (if groups then group_findings keys wide shown else nothing_found))));
+          (followed (key_findings j.entries group)
+          (if groups then group_findings keys wide shown else nothing_found))));
       is_wide = j.is_wide || is_too_wide shown.outputs;
     }
 
@@ -331,7 +346,8 @@ pub record BoundKeys : Type 0 where
 
 abbrev pub with_key : BoundKeys → Bool → Name → Option ℕ → BoundKeys
 with_key k descending name None = record k { findings = followed k.findings (unknown_column name) }
-with_key k descending name (Some place) = record k { keys = k.keys ++ (record { place = place; is_descending = descending }) ∷ [] }
+with_key k descending name (Some place) =
+    record k { keys = k.keys ++ (record { place = place; is_descending = descending }) ∷ [] }
 
 abbrev pub position_in : ℕ → List Output → Option ℕ
 position_in zero outputs = None

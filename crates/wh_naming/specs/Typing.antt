@@ -2,7 +2,8 @@
 --     Typed       a scalar with its type, the calls that stand in it, and what is found wrong
 --     Context     what an expression sees: entries, and whether calls may stand there
 --     typed       of an expression as it is written; None as type is that of NULL, which fits every type
-use Rattle.std.specs.Prelude.{ℕ, ◌+◌, Bool, true, false, not, if◌then◌else◌, List, [], ◌∷◌, ◌++◌, length, Option, Some, None}
+use Rattle.std.specs.Prelude.{ℕ, ◌+◌, Bool, true, false, not, if◌then◌else◌, List, [], ◌∷◌, ◌++◌}
+use Rattle.std.specs.Prelude.{length, Option, Some, None}
 use Rattle.wh_value.specs.Value.{Value, Number, Truth, Text, Null}
 use Rattle.wh_value.specs.View.{value_of}
 use Rattle.wh_value.specs.Column.{ColumnType, NumberType, VarcharType, BooleanType}
@@ -62,7 +63,12 @@ column_typed name (Some p) = leaf (Column p.place) (Some p.column_type) nothing_
 
 -- one part, which takes a type
 abbrev pub over : (Scalar → Scalar) → ColumnType → ColumnType → Typed → Typed
-over make taken given x = record { scalar = make x.scalar; type_of = Some given; calls = x.calls; findings = followed x.findings (takes taken x) }
+over make taken given x = record {
+  scalar = make x.scalar;
+  type_of = Some given;
+  calls = x.calls;
+  findings = followed x.findings (takes taken x);
+}
 
 -- two parts, which both take a type
 abbrev pub over_both : (Scalar → Scalar → Scalar) → ColumnType → ColumnType → Typed → Typed → Typed
@@ -108,7 +114,8 @@ or_equal x tests item = record {
 -- BETWEEN: x >= low AND x <= high
 abbrev pub ranged_between : Typed → Typed → Typed → Typed
 ranged_between x low high = record {
-  scalar = And (Compare comparisons.GreaterOrEqual x.scalar low.scalar) (Compare comparisons.LessOrEqual x.scalar high.scalar);
+  scalar = And (Compare comparisons.GreaterOrEqual x.scalar low.scalar)
+      (Compare comparisons.LessOrEqual x.scalar high.scalar);
   type_of = Some BooleanType;
   calls = (x.calls ++ low.calls) ++ high.calls;
   findings = followed (followed (followed x.findings low.findings) high.findings)
@@ -119,7 +126,12 @@ ranged_between x low high = record {
 -- stand it is mistyped
 abbrev pub called : Context → ℕ → Call → Findings → Typed
 called context number call findings =
-    if context.takes_calls then record { scalar = Column (width context.entries + number); type_of = Some NumberType; calls = call ∷ []; findings = findings }
+    if context.takes_calls then record {
+      scalar = Column (width context.entries + number);
+      type_of = Some NumberType;
+      calls = call ∷ [];
+      findings = findings;
+    }
     else leaf (Const Null) (Some NumberType) (followed findings (mistyped_if true))
 
 -- ---- the expression
@@ -135,11 +147,13 @@ argument context = record context { takes_calls = false }
 -- the second and each further item of IN, behind the tests so far
 abbrev pub more_items : Typed → List Reading → Context → ℕ → Typed → Typed
 more_items x [] context calls tests = tests
-more_items x (item ∷ items) context calls tests = more_items x items context calls (or_equal x tests (item context (calls + length tests.calls)))
+more_items x (item ∷ items) context calls tests =
+    more_items x items context calls (or_equal x tests (item context (calls + length tests.calls)))
 
 abbrev pub among : Typed → List Reading → Context → ℕ → Typed
 among x [] context calls = record x { scalar = Const (Truth false); type_of = Some BooleanType }
-among x (item ∷ items) context calls = more_items x items context calls (compared_with comparisons.Equal x (item context (calls + length x.calls)))
+among x (item ∷ items) context calls =
+    more_items x items context calls (compared_with comparisons.Equal x (item context (calls + length x.calls)))
 
 abbrev pub between : Typed → Reading → Reading → Context → ℕ → Typed
 between x low high context calls = with_low (low context (calls + length x.calls))
@@ -158,7 +172,8 @@ step (Expr-F.Not x) context calls = over Not BooleanType BooleanType (x context 
 step (Expr-F.Binary operator x y) context calls = binary operator (x context calls) y context calls
 step (Expr-F.IsNull negated x) context calls = inverted_if negated (null_test (x context calls))
 step (Expr-F.In negated x items) context calls = inverted_if negated (among (x context calls) items context calls)
-step (Expr-F.Between negated x low high) context calls = inverted_if negated (between (x context calls) low high context calls)
+step (Expr-F.Between negated x low high) context calls =
+    inverted_if negated (between (x context calls) low high context calls)
 step (Expr-F.Sum x) context calls = summed (x (argument context) calls)
   where
     summed : Typed → Typed

@@ -1,12 +1,14 @@
 -- Conditions: what is read stands there, and what stands there is read.
-use Rattle.std.proofs.Common.{◌≡◌, ℕ, zero, suc, ◌<◌, ◌≤◌, Bool, true, false, not, ◌||◌, if◌then◌else◌, List, [], ◌∷◌, length, Option, Some, None, refl, sym, ap, ◌∙◌, subst, bytes_eq, arith}
+use Rattle.std.proofs.Common.{◌≡◌, ℕ, zero, suc, ◌<◌, ◌≤◌, Bool, true, false, not, ◌||◌, if◌then◌else◌, List, [], ◌∷◌}
+use Rattle.std.proofs.Common.{length, Option, Some, None, refl, sym, ap, ◌∙◌, subst, bytes_eq, arith}
 use Rattle.std.specs.Prelude.{codes}
 use Rattle.wh_ast.specs.declared.statement.Condition.{Condition}
 use Rattle.wh_ast.specs.declared.statement.Condition.TheVariants as c
 use Rattle.wh_grammar.specs.Words.{is_reserved}
 use Rattle.wh_grammar.specs.Token as token
 use Rattle.wh_grammar.specs.Token.{Token, Word, Quoted, TextToken, NumberToken, SignToken}
-use Rattle.wh_grammar.specs.Parts.{AsksForData, asks, IsCondition, one_cand, or_condition, IsAndCondition, one_cnot, and_condition, IsNotCondition, not_condition, inner_condition, has_data}
+use Rattle.wh_grammar.specs.Parts.{AsksForData, asks, IsCondition, one_cand, or_condition, IsAndCondition, one_cnot}
+use Rattle.wh_grammar.specs.Parts.{and_condition, IsNotCondition, not_condition, inner_condition, has_data}
 use Rattle.wh_cursor.specs.declared.key.Key.TheVariants as k
 use Rattle.wh_cursor.specs.Keys.{same_key, key_of}
 use Rattle.wh_cursor.specs.Steps.{tail, sees, Reader, and_then, sees_word}
@@ -16,7 +18,8 @@ use Rattle.wh_option_parse.specs.declared.levels.Level.TheVariants.{Whole, Negat
 use Rattle.wh_option_parse.specs.Follow.{ends_condition, IsConditionAt}
 use Rattle.wh_option_parse.specs.Laws as laws
 use Rattle.wh_option_parse.specs.Read as read
-use Rattle.wh_option_parse.specs.Read.{turn, turns, chain, either, both, negated, parenthesized, negation_by, negation, conjunction, whole, nested, no_operator, read_condition}
+use Rattle.wh_option_parse.specs.Read.{turn, turns, chain, either, both, negated, parenthesized, negation_by, negation}
+use Rattle.wh_option_parse.specs.Read.{conjunction, whole, nested, no_operator, read_condition}
 use Rattle.wh_cursor.proofs.Yields.{Yields, yields, nothing, follow, yielded}
 use Rattle.wh_cursor.proofs.Combine.{sees_word_some, sees_word_is, then_expect_key, rparen_reads}
 use Rattle.wh_option_parse.proofs.LagLemmas.{asked_yields, asked_given}
@@ -24,36 +27,48 @@ use Rattle.wh_option_parse.proofs.Frames.{cand-frame, cnot-frame, rest-short}
 
 -- ---- what is read stands there
 
-turns-sound : (w : List ℕ) (join : Condition → Condition → Condition) (item : Reader Condition) (P Q : List Token → Condition → List Token → Type 0)
+turns-sound : (w : List ℕ) (join : Condition → Condition → Condition) (item : Reader Condition)
+    (P Q : List Token → Condition → List Token → Type 0)
     → ((ts us : List Token) (x y : Condition) (vs : List Token) → P ts x (Word w ∷ us) → Q us y vs → P ts (join x y) vs)
-    → ((ts : List Token) → Yields (item ts) (Q ts)) → (ts₀ : List Token) (fuel : ℕ) (x : Condition) (ts : List Token) → P ts₀ x ts → Yields (turns w join item fuel x ts) (P ts₀)
+    → ((ts : List Token) → Yields (item ts) (Q ts)) → (ts₀ : List Token) (fuel : ℕ) (x : Condition) (ts : List Token)
+    → P ts₀ x ts
+    → Yields (turns w join item fuel x ts) (P ts₀)
 unfolding turns
 turns-sound w join item P Q joined items ts₀ zero x ts h = yields x ts h
-turns-sound w join item P Q joined items ts₀ (suc fuel) x ts h = by (turns-sound w join item P Q joined items ts₀ fuel) (sees_word w ts) refl
+turns-sound w join item P Q joined items ts₀ (suc fuel) x ts h =
+    by (turns-sound w join item P Q joined items ts₀ fuel) (sees_word w ts) refl
   where
-    by : ((x : Condition) (ts : List Token) → P ts₀ x ts → Yields (turns w join item fuel x ts) (P ts₀)) → (r : Bool) → sees_word w ts ≡ r
+    by : ((x : Condition) (ts : List Token) → P ts₀ x ts → Yields (turns w join item fuel x ts) (P ts₀)) → (r : Bool)
+        → sees_word w ts ≡ r
         → Yields (turn (turns w join item fuel) item join x r ts) (P ts₀)
     by more false e = yields x ts h
     by more true e = follow (items (tail ts)) (λ y vs i.
-        more (join x y) vs (joined ts₀ (tail ts) x y vs (subst (λ (us : List Token). P ts₀ x us) (sees_word_some w ts e) h) i))
+        more (join x y) vs
+        (joined ts₀ (tail ts) x y vs (subst (λ (us : List Token). P ts₀ x us) (sees_word_some w ts e) h) i))
 
-chain-sound : (w : List ℕ) (join : Condition → Condition → Condition) (item : Reader Condition) (P Q : List Token → Condition → List Token → Type 0)
+chain-sound : (w : List ℕ) (join : Condition → Condition → Condition) (item : Reader Condition)
+    (P Q : List Token → Condition → List Token → Type 0)
     → ((ts : List Token) (x : Condition) (us : List Token) → Q ts x us → P ts x us)
     → ((ts us : List Token) (x y : Condition) (vs : List Token) → P ts x (Word w ∷ us) → Q us y vs → P ts (join x y) vs)
-    → ((ts : List Token) → Yields (item ts) (Q ts)) → (ts : List Token) → Yields (chain w join item ts) (P ts)
-chain-sound w join item P Q one joined items ts = follow (items ts) (λ x us h. turns-sound w join item P Q joined items ts (length us) x us (one ts x us h))
+    → ((ts : List Token) → Yields (item ts) (Q ts)) → (ts : List Token)
+    → Yields (chain w join item ts) (P ts)
+chain-sound w join item P Q one joined items ts =
+    follow (items ts) (λ x us h. turns-sound w join item P Q joined items ts (length us) x us (one ts x us h))
 
 record Inside (inner : Level → Reader Condition) (d : ℕ) : Type 0 where
   whole : (ts : List Token) → Yields (inner Whole ts) (IsCondition d ts)
   negation : (ts : List Token) → Yields (inner Negation ts) (IsNotCondition d ts)
 
 module _ (inner : Level → Reader Condition) (d : ℕ) (inside : Inside inner d) where
-  negated-sound : (ts : List Token) → ts ≡ Word (codes "NOT") ∷ tail ts → Yields (negated inner ts) (IsNotCondition (suc d) ts)
+  negated-sound : (ts : List Token) → ts ≡ Word (codes "NOT") ∷ tail ts
+      → Yields (negated inner ts) (IsNotCondition (suc d) ts)
   unfolding negated
   negated-sound ts is = follow (inside.negation (tail ts)) (λ x us h.
-      yields (c.Not x) us (subst (λ (vs : List Token). IsNotCondition (suc d) vs (c.Not x) us) (sym is) (not_condition h)))
+      yields (c.Not x) us
+      (subst (λ (vs : List Token). IsNotCondition (suc d) vs (c.Not x) us) (sym is) (not_condition h)))
 
-  parenthesized-sound : (ts : List Token) → ts ≡ SignToken token.LParen ∷ tail ts → Yields (parenthesized inner ts) (IsNotCondition (suc d) ts)
+  parenthesized-sound : (ts : List Token) → ts ≡ SignToken token.LParen ∷ tail ts
+      → Yields (parenthesized inner ts) (IsNotCondition (suc d) ts)
   unfolding parenthesized
   parenthesized-sound ts is = follow (inside.whole (tail ts)) (λ x us h. then_expect_key k.RParen us _ (λ close.
       yields x (tail us) (subst (λ (vs : List Token). IsNotCondition (suc d) vs x (tail us)) (sym is)
@@ -65,9 +80,11 @@ module _ (inner : Level → Reader Condition) (d : ℕ) (inside : Inside inner d
 
   negation-sound : (ts : List Token) → Yields (negation inner ts) (IsNotCondition (suc d) ts)
   unfolding negation
-  negation-sound ts = by (sees_word (codes "NOT") ts) (sees k.LParen ts) (sees_word_some (codes "NOT") ts) (heads k.LParen ts)
+  negation-sound ts =
+      by (sees_word (codes "NOT") ts) (sees k.LParen ts) (sees_word_some (codes "NOT") ts) (heads k.LParen ts)
     where
-      by : (a b : Bool) → (a ≡ true → ts ≡ Word (codes "NOT") ∷ tail ts) → (b ≡ true → ts ≡ SignToken token.LParen ∷ tail ts)
+      by : (a b : Bool) → (a ≡ true → ts ≡ Word (codes "NOT") ∷ tail ts)
+          → (b ≡ true → ts ≡ SignToken token.LParen ∷ tail ts)
           → Yields (negation_by inner a b ts) (IsNotCondition (suc d) ts)
       by true b f g = negated-sound ts (f refl)
       by false true f g = parenthesized-sound ts (g refl)
@@ -75,16 +92,21 @@ module _ (inner : Level → Reader Condition) (d : ℕ) (inside : Inside inner d
 
   conjunction-sound : (ts : List Token) → Yields (conjunction inner ts) (IsAndCondition (suc d) ts)
   unfolding conjunction
-  conjunction-sound = chain-sound (codes "AND") both (negation inner) (IsAndCondition (suc d)) (IsNotCondition (suc d)) (λ ts x us. one_cnot) (λ ts us x y vs. and_condition) negation-sound
+  conjunction-sound = chain-sound (codes "AND") both (negation inner) (IsAndCondition (suc d)) (IsNotCondition (suc d))
+      (λ ts x us. one_cnot) (λ ts us x y vs. and_condition) negation-sound
 
   whole-sound : (ts : List Token) → Yields (whole inner ts) (IsCondition (suc d) ts)
   unfolding whole
-  whole-sound = chain-sound (codes "OR") either (conjunction inner) (IsCondition (suc d)) (IsAndCondition (suc d)) (λ ts x us. one_cand) (λ ts us x y vs. or_condition) conjunction-sound
+  whole-sound = chain-sound (codes "OR") either (conjunction inner) (IsCondition (suc d)) (IsAndCondition (suc d))
+      (λ ts x us. one_cand) (λ ts us x y vs. or_condition) conjunction-sound
 
 nested-sound : (d : ℕ) → Inside (nested d) d
 unfolding nested
 nested-sound zero = record { whole = λ ts. nothing; negation = λ ts. nothing }
-nested-sound (suc d) = record { whole = whole-sound (nested d) d (nested-sound d); negation = negation-sound (nested d) d (nested-sound d) }
+nested-sound (suc d) = record {
+  whole = whole-sound (nested d) d (nested-sound d);
+  negation = negation-sound (nested d) d (nested-sound d);
+}
 
 -- ---- what may follow
 
@@ -107,35 +129,47 @@ not_false false e = absurd (cc)
 
 condition_yields : (d : ℕ) (ts : List Token) → Yields (read_condition d ts) (IsConditionAt d ts)
 unfolding read_condition no_operator
-condition_yields d ts = follow ((nested-sound d).whole ts) (λ x us h. by x us h (sees_word (codes "OR") us || sees_word (codes "AND") us) refl)
+condition_yields d ts = follow ((nested-sound d).whole ts)
+    (λ x us h. by x us h (sees_word (codes "OR") us || sees_word (codes "AND") us) refl)
   where
-    by : (x : Condition) (us : List Token) → IsCondition d ts x us → (r : Bool) → (sees_word (codes "OR") us || sees_word (codes "AND") us) ≡ r
-        → Yields (and_then (if◌then◌else◌ {A = Option (Unit {0} × List Token)} r None (Some (tt, us))) (λ _ vs. Some (x, vs))) (IsConditionAt d ts)
+    by : (x : Condition) (us : List Token) → IsCondition d ts x us → (r : Bool)
+        → (sees_word (codes "OR") us || sees_word (codes "AND") us) ≡ r
+        → Yields (and_then (if◌then◌else◌ {A = Option (Unit {0} × List Token)} r None (Some (tt, us)))
+        (λ _ vs. Some (x, vs))) (IsConditionAt d ts)
     by x us h true e = nothing
-    by x us h false e = yields x us (record { condition = h; ends = not_false (ends_condition us) (sym (ends-by us) ∙ e) })
+    by x us h false e =
+        yields x us (record { condition = h; ends = not_false (ends_condition us) (sym (ends-by us) ∙ e) })
 
 -- ---- what stands there is read
 
 -- the turns have come to x
-record Comes (w : List ℕ) (join : Condition → Condition → Condition) (item r : Reader Condition) (ts : List Token) (x : Condition) (us : List Token) : Type 0 where
+record Comes (w : List ℕ) (join : Condition → Condition → Condition) (item r : Reader Condition) (ts : List Token)
+    (x : Condition) (us : List Token) : Type 0 where
   fuel : ℕ
   enough : length us ≤ fuel
   run : r ts ≡ turns w join item fuel x us
 
-comes-first : {w : List ℕ} {join : Condition → Condition → Condition} {item : Reader Condition} {ts us : List Token} {x : Condition} → item ts ≡ Some (x, us)
+comes-first : {w : List ℕ} {join : Condition → Condition → Condition} {item : Reader Condition}
+    {ts us : List Token} {x : Condition}
+    → item ts ≡ Some (x, us)
     → Comes w join item (chain w join item) ts x us
 comes-first {us = us} h = record { fuel = length us; enough = omega arith; run = rw h refl }
 
-comes-next : {w : List ℕ} {join : Condition → Condition → Condition} {item r : Reader Condition} {ts us vs : List Token} {x y : Condition}
-    → Comes w join item r ts x (Word w ∷ us) → item us ≡ Some (y, vs) → length vs ≤ length us → Comes w join item r ts (join x y) vs
+comes-next : {w : List ℕ} {join : Condition → Condition → Condition} {item r : Reader Condition}
+    {ts us vs : List Token} {x y : Condition}
+    → Comes w join item r ts x (Word w ∷ us) → item us ≡ Some (y, vs) → length vs ≤ length us
+    → Comes w join item r ts (join x y) vs
 unfolding turns
 comes-next {w} {join} {item} {r} {ts} {us} {vs} {x} {y} h l short = by h.fuel h.enough h.run
   where
-    by : (fuel : ℕ) → length (Word w ∷ us) ≤ fuel → r ts ≡ turns w join item fuel x (Word w ∷ us) → Comes w join item r ts (join x y) vs
+    by : (fuel : ℕ) → length (Word w ∷ us) ≤ fuel → r ts ≡ turns w join item fuel x (Word w ∷ us)
+        → Comes w join item r ts (join x y) vs
     by zero few is = absurd (omega (arith, few))
-    by (suc fuel) few is = record { fuel = fuel; enough = omega (arith, few, short); run = is ∙ rw (sees_word_is w us, l) refl }
+    by (suc fuel) few is =
+        record { fuel = fuel; enough = omega (arith, few, short); run = is ∙ rw (sees_word_is w us, l) refl }
 
-comes-ends : {w : List ℕ} {join : Condition → Condition → Condition} {item r : Reader Condition} {ts us : List Token} {x : Condition}
+comes-ends : {w : List ℕ} {join : Condition → Condition → Condition} {item r : Reader Condition}
+    {ts us : List Token} {x : Condition}
     → Comes w join item r ts x us → sees_word w us ≡ false → r ts ≡ Some (x, us)
 unfolding turns
 comes-ends {w} {join} {item} {r} {ts} {us} {x} h end = h.run ∙ by h.fuel
@@ -173,11 +207,13 @@ inner-negation zero ts some = absurd (omega (arith, some))
 inner-negation (suc d) ts some = refl
 
 module _ (inner : Level → Reader Condition) where
-  whole-first : {ts us : List Token} {x : Condition} → conjunction inner ts ≡ Some (x, us) → Comes (codes "OR") either (conjunction inner) (whole inner) ts x us
+  whole-first : {ts us : List Token} {x : Condition} → conjunction inner ts ≡ Some (x, us)
+      → Comes (codes "OR") either (conjunction inner) (whole inner) ts x us
   unfolding whole
   whole-first h = comes-first h
 
-  and-first : {ts us : List Token} {x : Condition} → negation inner ts ≡ Some (x, us) → Comes (codes "AND") both (negation inner) (conjunction inner) ts x us
+  and-first : {ts us : List Token} {x : Condition} → negation inner ts ≡ Some (x, us)
+      → Comes (codes "AND") both (negation inner) (conjunction inner) ts x us
   unfolding conjunction
   and-first h = comes-first h
 
@@ -201,15 +237,18 @@ module _ (inner : Level → Reader Condition) where
   unfolding sees same_key key_of is_reserved
   asks-unopened us = refl
 
-  not-gives : {ts us : List Token} {x : Condition} → inner Negation ts ≡ Some (x, us) → negation inner (Word (codes "NOT") ∷ ts) ≡ Some (c.Not x, us)
+  not-gives : {ts us : List Token} {x : Condition} → inner Negation ts ≡ Some (x, us)
+      → negation inner (Word (codes "NOT") ∷ ts) ≡ Some (c.Not x, us)
   unfolding negation negated
   not-gives {ts = ts} h = rw (not-seen ts, h) refl
 
-  inner-gives : {ts us : List Token} {x : Condition} → inner Whole ts ≡ Some (x, SignToken token.RParen ∷ us) → negation inner (SignToken token.LParen ∷ ts) ≡ Some (x, us)
+  inner-gives : {ts us : List Token} {x : Condition} → inner Whole ts ≡ Some (x, SignToken token.RParen ∷ us)
+      → negation inner (SignToken token.LParen ∷ ts) ≡ Some (x, us)
   unfolding negation parenthesized
   inner-gives {ts = ts} {us = us} h = rw (open-other ts, open-seen ts, h, rparen_reads us) refl
 
-  asks-gives : {ts us : List Token} {name : List ℕ} → AsksForData ts name us → negation inner ts ≡ Some (c.HasData name, us)
+  asks-gives : {ts us : List Token} {name : List ℕ} → AsksForData ts name us
+      → negation inner ts ≡ Some (c.HasData name, us)
   unfolding negation read.has_data
   asks-gives (asks {us} {bytes} {name} h) =
       let rest : List Token = SignToken token.LParen ∷ TextToken bytes ∷ SignToken token.RParen ∷ us in
@@ -231,23 +270,27 @@ mutual
   whole-run : {d : ℕ} {ts us : List Token} {x : Condition} → IsCondition d ts x us → sees_word (codes "AND") us ≡ false
       → Comes (codes "OR") either (conjunction (nested (before d))) (whole (nested (before d))) ts x us
   whole-run (one_cand h) end = whole-first _ (comes-ends (and-run h) end)
-  whole-run (or_condition h l) end = comes-next (whole-run h (or-other _)) (comes-ends (and-run l) end) (rest-short (cand-frame l))
+  whole-run (or_condition h l) end =
+      comes-next (whole-run h (or-other _)) (comes-ends (and-run l) end) (rest-short (cand-frame l))
 
   and-run : {d : ℕ} {ts us : List Token} {x : Condition} → IsAndCondition d ts x us
       → Comes (codes "AND") both (negation (nested (before d))) (conjunction (nested (before d))) ts x us
   and-run (one_cnot h) = and-first _ (not-run h)
   and-run (and_condition h l) = comes-next (and-run h) (not-run l) (rest-short (cnot-frame l))
 
-  not-run : {d : ℕ} {ts us : List Token} {x : Condition} → IsNotCondition d ts x us → negation (nested (before d)) ts ≡ Some (x, us)
+  not-run : {d : ℕ} {ts us : List Token} {x : Condition} → IsNotCondition d ts x us
+      → negation (nested (before d)) ts ≡ Some (x, us)
   not-run (not_condition {d} {ts} h) = not-gives (nested d) (inner-negation d ts (not-deep h) ∙ not-run h)
-  not-run (inner_condition {d} {ts} {us} h) = inner-gives (nested d) (inner-whole d ts (cond-deep h) ∙ comes-ends (whole-run h (close-and us)) (close-or us))
+  not-run (inner_condition {d} {ts} {us} h) =
+      inner-gives (nested d) (inner-whole d ts (cond-deep h) ∙ comes-ends (whole-run h (close-and us)) (close-or us))
   not-run (has_data {d} h) = asks-gives (nested d) h
 
 no_either : (a b : Bool) → (a || b) ≡ false → (a ≡ false) × (b ≡ false)
 no_either true b h = absurd (cc)
 no_either false b h = (refl, h)
 
-condition_given : (d : ℕ) (ts : List Token) (x : Condition) (us : List Token) → IsConditionAt d ts x us → read_condition d ts ≡ Some (x, us)
+condition_given : (d : ℕ) (ts : List Token) (x : Condition) (us : List Token) → IsConditionAt d ts x us
+    → read_condition d ts ≡ Some (x, us)
 unfolding read_condition no_operator
 condition_given d ts x us h =
     let none : (sees_word (codes "OR") us || sees_word (codes "AND") us) ≡ false = ends-by us ∙ ap not h.ends in

@@ -1,5 +1,7 @@
 -- A text is a stream's name where it is one token that names, and nothing else.
-use Rattle.std.proofs.Common.{◌≡◌, ℕ, ◌≤◌, ◌==◌, Bool, true, false, not, ◌&&◌, if◌then◌else◌, List, [], ◌∷◌, length, Option, Some, None, option_map, Result, Ok, Err, IfOk, refl, sym, ap, ◌∙◌, subst, eqb-true, arith, rules}
+use Rattle.std.proofs.Common.{◌≡◌, ℕ, ◌≤◌, ◌==◌, Bool, true, false, not, ◌&&◌, if◌then◌else◌, List, [], ◌∷◌, length}
+use Rattle.std.proofs.Common.{Option, Some, None, option_map, Result, Ok, Err, IfOk, refl, sym, ap, ◌∙◌, subst}
+use Rattle.std.proofs.Common.{eqb-true, arith, rules}
 use Rattle.std.specs.Prelude.{IsErrOf}
 use Rattle.std.proofs.lemmas.Bool.{and_parts}
 use Rattle.std.proofs.lemmas.Option.{same_Some}
@@ -40,10 +42,12 @@ names bytes name h = by (front_of bytes) refl h
     by (Some (Some t, [])) e h = record { by_token = t; is = stands bytes t [] e; names = h }
     by (Some (Some t, (b ∷ rest))) e h = absurd (cc)
 
-named-text : (bytes : List ℕ) (t : Token) (name : List ℕ) → IsToken bytes t [] → named_by t ≡ Some name → IsNameText bytes name
+named-text : (bytes : List ℕ) (t : Token) (name : List ℕ) → IsToken bytes t [] → named_by t ≡ Some name
+    → IsNameText bytes name
 named-text bytes (Word w) name k h = by (is_reserved w) refl h
   where
-    by : (r : Bool) → is_reserved w ≡ r → if◌then◌else◌ {A = Option (List ℕ)} r None (Some w) ≡ Some name → IsNameText bytes name
+    by : (r : Bool) → is_reserved w ≡ r → if◌then◌else◌ {A = Option (List ℕ)} r None (Some w) ≡ Some name
+        → IsNameText bytes name
     by true e h = absurd (cc)
     by false e h = subst (IsNameText bytes) (same_Some _ _ h) (word_text k e)
 named-text bytes (Quoted n) name k h = subst (IsNameText bytes) (same_Some _ _ h) (quoted_text k)
@@ -64,9 +68,11 @@ name_text-complete (quoted_text {bytes} {name} k) = name-at bytes (Quoted name) 
 
 -- ---- by the tokens of the text
 
-alone : (bytes name : List ℕ) → Names bytes name → (ts : List Placed) → HasTokens bytes ts → is_alone (length bytes) ts ≡ true
+alone : (bytes name : List ℕ) → Names bytes name → (ts : List Placed) → HasTokens bytes ts
+    → is_alone (length bytes) ts ≡ true
 alone bytes name n ts h =
-    let only : HasTokens bytes ((record { token = n.by_token; from = length bytes; behind = 0 }) ∷ []) = token n.is end in
+    let only : HasTokens bytes ((record { token = n.by_token; from = length bytes; behind = 0 }) ∷ []) =
+    token n.is end in
     let same = text_fixes_tokens bytes _ ts only h in
     subst (λ (us : List Placed). is_alone (length bytes) us ≡ true) same (search rules)
 
@@ -79,14 +85,16 @@ none_named bytes none = by (name_text_of bytes) refl
         let n = names bytes name e in
         absurd (none ((record { token = n.by_token; from = length bytes; behind = 0 }) ∷ []) (token n.is end))
 
-pub part_named : (bytes : List ℕ) (ts : List Placed) → HasTokens bytes ts → is_alone (length bytes) ts ≡ false → name_text_of bytes ≡ None
+pub part_named : (bytes : List ℕ) (ts : List Placed) → HasTokens bytes ts → is_alone (length bytes) ts ≡ false
+    → name_text_of bytes ≡ None
 part_named bytes ts h part = by (name_text_of bytes) refl
   where
     by : (o : Option (List ℕ)) → name_text_of bytes ≡ o → o ≡ None
     by None e = refl
     by (Some name) e = absurd (let whole = alone bytes name (names bytes name e) ts h in cc)
 
-from_within : {bytes : List ℕ} {ts : List Placed} → HasTokens bytes ts → (p : Placed) (us : List Placed) → ts ≡ p ∷ us → p.from ≤ length bytes
+from_within : {bytes : List ℕ} {ts : List Placed} → HasTokens bytes ts → (p : Placed) (us : List Placed) → ts ≡ p ∷ us
+    → p.from ≤ length bytes
 from_within end p us e = absurd (cc)
 from_within (gap {bytes} {rest} g h) p us e =
     let less = front-shorter bytes None rest (gap_is_read bytes rest g) in
@@ -108,7 +116,8 @@ no_length : (rest : List ℕ) → length rest ≡ 0 → rest ≡ []
 no_length [] e = refl
 no_length (b ∷ rest) e = absurd (omega (arith, e))
 
-whole-token : {bytes : List ℕ} {ts : List Placed} → HasTokens bytes ts → (p : Placed) → ts ≡ p ∷ [] → p.from ≡ length bytes → p.behind ≡ 0 → IsToken bytes p.token []
+whole-token : {bytes : List ℕ} {ts : List Placed} → HasTokens bytes ts → (p : Placed) → ts ≡ p ∷ []
+    → p.from ≡ length bytes → p.behind ≡ 0 → IsToken bytes p.token []
 unfolding first_of_all
 whole-token end p e from behind = absurd (cc)
 whole-token (gap {bytes} {rest} g h) p e from behind =
@@ -146,14 +155,19 @@ alone_named bytes (p ∷ q ∷ ts) h whole = absurd (cc)
 
 -- ---- for what reading the name returned
 
-pub name_found : (o : Option (List ℕ)) (read : Option (List ℕ × List Token)) → read ≡ option_map (λ (w : List ℕ). (w, [])) o → (r : Result (List ℕ) ParseFault) (us : List Token)
-    → Reads read r us → IfOk r (λ name. o ≡ Some name)
+pub name_found : (o : Option (List ℕ)) (read : Option (List ℕ × List Token))
+    → read ≡ option_map (λ (w : List ℕ). (w, [])) o → (r : Result (List ℕ) ParseFault) (us : List Token)
+    → Reads read r us
+    → IfOk r (λ name. o ≡ Some name)
 name_found None read e (Ok x) us h = absurd (let k = sym e ∙ h in cc)
-name_found (Some w) read e (Ok x) us h = let same : (w, []) ≡ (x, us) = same_Some _ _ (sym e ∙ h) in ap (λ (q : List ℕ × List Token). Some q.0) same
+name_found (Some w) read e (Ok x) us h = let same : (w, []) ≡ (x, us) = same_Some _ _ (sym e ∙ h) in
+    ap (λ (q : List ℕ × List Token). Some q.0) same
 name_found o read e (Err fault) us h = tt
 
-pub name_none : (o : Option (List ℕ)) (read : Option (List ℕ × List Token)) → read ≡ option_map (λ (w : List ℕ). (w, [])) o → (r : Result (List ℕ) ParseFault) (us : List Token)
-    → Reads read r us → IsErrOf r faults.SyntaxError → o ≡ None
+pub name_none : (o : Option (List ℕ)) (read : Option (List ℕ × List Token))
+    → read ≡ option_map (λ (w : List ℕ). (w, [])) o → (r : Result (List ℕ) ParseFault) (us : List Token)
+    → Reads read r us → IsErrOf r faults.SyntaxError
+    → o ≡ None
 name_none o read e (Ok x) us h failed = absurd (cc)
 name_none None read e (Err fault) us h failed = refl
 name_none (Some w) read e (Err faults.SyntaxError) us h failed = absurd (let k = sym e ∙ h in cc)

@@ -1,5 +1,6 @@
 -- Lemmas on the number that digits spell.
-use Rattle.std.proofs.Common.{◌≡◌, ℕ, zero, suc, ◌+◌, ◌-◌, ◌*◌, ◌<◌, ◌≤◌, true, List, [], ◌∷◌, length, get_or, drop, refl, ap, arith, add-one}
+use Rattle.std.proofs.Common.{◌≡◌, ℕ, zero, suc, ◌+◌, ◌-◌, ◌*◌, ◌<◌, ◌≤◌, true, List, [], ◌∷◌, length, get_or, drop}
+use Rattle.std.proofs.Common.{refl, ap, arith, add-one}
 use Rattle.std.specs.List.{list_all}
 use Rattle.std.proofs.lemmas.Bool.{and_parts}
 use Rattle.std.proofs.lemmas.Bool.Decides.{nat_tests}
@@ -32,10 +33,12 @@ pub limit_next : (n : ℕ) → limit (n + 1) ≡ 10 * limit n
 unfolding limit
 limit_next n = rw add-one refl
 
-pub digit_at : (digits : List ℕ) (i : ℕ) → i < length digits → list_all is_digit digits ≡ true → is_digit (get_or digits i 0) ≡ true
+pub digit_at : (digits : List ℕ) (i : ℕ) → i < length digits → list_all is_digit digits ≡ true
+    → is_digit (get_or digits i 0) ≡ true
 digit_at [] i below all = absurd (omega arith)
 digit_at (d ∷ digits) zero below all = (and_parts (is_digit d) (list_all is_digit digits) all).0
-digit_at (d ∷ digits) (suc i) below all = digit_at digits i (omega arith) (and_parts (is_digit d) (list_all is_digit digits) all).1
+digit_at (d ∷ digits) (suc i) below all =
+    digit_at digits i (omega arith) (and_parts (is_digit d) (list_all is_digit digits) all).1
 
 pub digit_bounds : (b : ℕ) → is_digit b ≡ true → (48 ≤ b) × (b ≤ 57)
 digit_bounds b h = (grind (arith, nat_tests), grind (arith, nat_tests))

@@ -1,5 +1,8 @@
 -- A text is a span where it is digits, blanks and letters.
-use Rattle.std.proofs.Common.{◌≡◌, ℕ, suc, ◌+◌, ◌*◌, ◌<◌, ◌≤◌, ◌==◌, Bool, true, false, ◌||◌, if◌then◌else◌, List, [], ◌∷◌, ◌++◌, length, map, take, drop, Option, Some, None, option_map, refl, sym, ap, ap₂, ◌∙◌, subst, ne_eqb, arith, bytes_eq, take_at, drop_at, take-append-drop, length-append, append_assoc, one-add}
+use Rattle.std.proofs.Common.{◌≡◌, ℕ, suc, ◌+◌, ◌*◌, ◌<◌, ◌≤◌, ◌==◌, Bool, true, false, ◌||◌, if◌then◌else◌, List, []}
+use Rattle.std.proofs.Common.{◌∷◌, ◌++◌, length, map, take, drop, Option, Some, None, option_map, refl, sym, ap, ap₂}
+use Rattle.std.proofs.Common.{◌∙◌, subst, ne_eqb, arith, bytes_eq, take_at, drop_at, take-append-drop, length-append}
+use Rattle.std.proofs.Common.{append_assoc, one-add}
 use Rattle.std.specs.Prelude.{codes, nat_lt, nat_le}
 use Rattle.std.specs.List.{list_all, prefix_len}
 use Rattle.std.proofs.lemmas.Bool.{and_parts}
@@ -36,12 +39,16 @@ prefix-le : (p : ℕ → Bool) (bytes : List ℕ) → prefix_len p bytes ≡ len
 prefix-le p [] = refl
 prefix-le p (b ∷ bytes) = by (p b) refl (prefix-le p bytes)
   where
-    by : (r : Bool) → p b ≡ r → prefix_len p bytes ≡ length (take (prefix_len p bytes) bytes) → prefix_len p (b ∷ bytes) ≡ length (take (prefix_len p (b ∷ bytes)) (b ∷ bytes))
+    by : (r : Bool) → p b ≡ r → prefix_len p bytes ≡ length (take (prefix_len p bytes) bytes)
+        → prefix_len p (b ∷ bytes) ≡ length (take (prefix_len p (b ∷ bytes)) (b ∷ bytes))
     by true e more = simp (e, one-add) (ap suc more)
     by false e more = simp e
 
-span-by : (bytes digits behind unit : List ℕ) (n : ℕ) → bytes ≡ digits ++ behind → list_all is_digit digits ≡ true → span_by digits behind ≡ Some (n, unit) → IsSpan bytes unit n
-span-by bytes digits behind unit n e all h = by (length digits == 0 || nat_lt 9 (length digits) || prefix_len is_blank behind == 0) refl h
+span-by : (bytes digits behind unit : List ℕ) (n : ℕ) → bytes ≡ digits ++ behind → list_all is_digit digits ≡ true
+    → span_by digits behind ≡ Some (n, unit)
+    → IsSpan bytes unit n
+span-by bytes digits behind unit n e all h =
+    by (length digits == 0 || nat_lt 9 (length digits) || prefix_len is_blank behind == 0) refl h
   where
     blanks : List ℕ
     blanks = take (prefix_len is_blank behind) behind
@@ -50,7 +57,9 @@ span-by bytes digits behind unit n e all h = by (length digits == 0 || nat_lt 9 
     letters = drop (prefix_len is_blank behind) behind
 
     by : (r : Bool) → (length digits == 0 || nat_lt 9 (length digits) || prefix_len is_blank behind == 0) ≡ r
-        → if◌then◌else◌ {A = Option (ℕ × List ℕ)} r None (Some (number_behind 0 digits, map upper (drop (prefix_len is_blank behind) behind))) ≡ Some (n, unit) → IsSpan bytes unit n
+        → if◌then◌else◌ {A = Option (ℕ × List ℕ)} r None
+        (Some (number_behind 0 digits, map upper (drop (prefix_len is_blank behind) behind))) ≡ Some (n, unit)
+        → IsSpan bytes unit n
     by true k h = absurd (cc)
     by false k h =
         let parts = or_three (length digits == 0) (nat_lt 9 (length digits)) (prefix_len is_blank behind == 0) k in
@@ -61,7 +70,8 @@ span-by bytes digits behind unit n e all h = by (length digits == 0 || nat_lt 9 
           digits = digits;
           blanks = blanks;
           letters = letters;
-          spelled = e ∙ ap (λ (l : List ℕ). digits ++ l) (sym (take-append-drop (prefix_len is_blank behind) behind)) ∙ sym (append_assoc digits blanks letters);
+          spelled = e ∙ ap (λ (l : List ℕ). digits ++ l) (sym (take-append-drop (prefix_len is_blank behind) behind))
+              ∙ sym (append_assoc digits blanks letters);
           some_digit = some_of (length digits) parts.0;
           few_digits = few_of (length digits) parts.1;
           are_digits = all;
@@ -87,40 +97,51 @@ begins_letter (b ∷ bytes) = nat_le 65 b
 letter-blank : (b : ℕ) → nat_le 65 (upper b) ≡ true → is_blank b ≡ false
 letter-blank b h = grind (arith, nat_tests)
 
-no-blank : (letters unit : List ℕ) → map upper letters ≡ unit → begins_letter unit ≡ true → begins_with is_blank letters ≡ false
+no-blank : (letters unit : List ℕ) → map upper letters ≡ unit → begins_letter unit ≡ true
+    → begins_with is_blank letters ≡ false
 no-blank [] unit e h = refl
 no-blank (b ∷ letters) unit e h = letter-blank b (ap begins_letter e ∙ h)
 
 blank-digit : (b : ℕ) → is_blank b ≡ true → is_digit b ≡ false
 blank-digit b h = grind (arith, nat_tests)
 
-no-digit : (blanks letters : List ℕ) → 0 < length blanks → list_all is_blank blanks ≡ true → begins_with is_digit (blanks ++ letters) ≡ false
+no-digit : (blanks letters : List ℕ) → 0 < length blanks → list_all is_blank blanks ≡ true
+    → begins_with is_digit (blanks ++ letters) ≡ false
 no-digit [] letters some all = absurd (omega (arith, some))
 no-digit (b ∷ blanks) letters some all = blank-digit b (and_parts (is_blank b) (list_all is_blank blanks) all).0
 
-span-complete : (bytes unit : List ℕ) (n : ℕ) → IsSpan bytes unit n → begins_letter unit ≡ true → span_of bytes ≡ Some (n, unit)
+span-complete : (bytes unit : List ℕ) (n : ℕ) → IsSpan bytes unit n → begins_letter unit ≡ true
+    → span_of bytes ≡ Some (n, unit)
 unfolding span_of
 span-complete bytes unit n h letter =
     let rest = h.blanks ++ h.letters in
-    let len : prefix_len is_digit (h.digits ++ rest) ≡ length h.digits = prefix_len-front is_digit h.digits rest h.are_digits (no-digit h.blanks h.letters h.some_blank h.are_blanks) in
-    let blanks : prefix_len is_blank rest ≡ length h.blanks = prefix_len-front is_blank h.blanks h.letters h.are_blanks (no-blank h.letters unit h.is_unit letter) in
+    let len : prefix_len is_digit (h.digits ++ rest) ≡ length h.digits =
+    prefix_len-front is_digit h.digits rest h.are_digits (no-digit h.blanks h.letters h.some_blank h.are_blanks) in
+    let blanks : prefix_len is_blank rest ≡ length h.blanks =
+    prefix_len-front is_blank h.blanks h.letters h.are_blanks (no-blank h.letters unit h.is_unit letter) in
     let split : List ℕ → List ℕ → Option (ℕ × List ℕ) = span_by in
-    ap (λ (l : List ℕ). split (take (prefix_len is_digit l) l) (drop (prefix_len is_digit l) l)) (h.spelled ∙ append_assoc h.digits h.blanks h.letters)
+    ap (λ (l : List ℕ). split (take (prefix_len is_digit l) l) (drop (prefix_len is_digit l) l))
+    (h.spelled ∙ append_assoc h.digits h.blanks h.letters)
     ∙ ap (λ (k : ℕ). split (take k (h.digits ++ rest)) (drop k (h.digits ++ rest))) len
     ∙ ap₂ split (take_at h.digits rest (length h.digits) refl) (drop_at h.digits rest (length h.digits) refl)
     ∙ at_parts rest blanks
   where
-    at_parts : (rest : List ℕ) → prefix_len is_blank (h.blanks ++ h.letters) ≡ length h.blanks → span_by h.digits (h.blanks ++ h.letters) ≡ Some (n, unit)
+    at_parts : (rest : List ℕ) → prefix_len is_blank (h.blanks ++ h.letters) ≡ length h.blanks
+        → span_by h.digits (h.blanks ++ h.letters) ≡ Some (n, unit)
     at_parts rest blanks =
-        let a : (length h.digits == 0) ≡ false = ne_eqb (length h.digits) 0 (λ e. let some = h.some_digit in omega (arith, e, some)) in
+        let a : (length h.digits == 0) ≡ false =
+        ne_eqb (length h.digits) 0 (λ e. let some = h.some_digit in omega (arith, e, some)) in
         let few = h.few_digits in
         let b : nat_lt 9 (length h.digits) ≡ false = grind (arith, nat_tests, few) in
-        let c : (length h.blanks == 0) ≡ false = ne_eqb (length h.blanks) 0 (λ e. let some = h.some_blank in omega (arith, e, some)) in
-        rw (blanks, a, b, c) (ap₂ (λ (m : ℕ) (l : List ℕ). Some (m, l)) (sym h.number) (ap (map upper) (drop_at h.blanks h.letters (length h.blanks) refl) ∙ h.is_unit))
+        let c : (length h.blanks == 0) ≡ false =
+        ne_eqb (length h.blanks) 0 (λ e. let some = h.some_blank in omega (arith, e, some)) in
+        rw (blanks, a, b, c) (ap₂ (λ (m : ℕ) (l : List ℕ). Some (m, l)) (sym h.number)
+        (ap (map upper) (drop_at h.blanks h.letters (length h.blanks) refl) ∙ h.is_unit))
 
 -- ---- schedules and lags
 
-either : (P : Bool → Type 0) (unit one many : List ℕ) → (unit ≡ one → P true) → (unit ≡ many → P true) → P false → P (is_either unit one many)
+either : (P : Bool → Type 0) (unit one many : List ℕ) → (unit ≡ one → P true) → (unit ≡ many → P true) → P false
+    → P (is_either unit one many)
 either P unit one many f g no_ = by (bytes_eq unit one) (bytes_eq unit many) refl refl
   where
     by : (a b : Bool) → bytes_eq unit one ≡ a → bytes_eq unit many ≡ b → P (a || b)
@@ -136,9 +157,12 @@ schedule-sound bytes n h = by (span_of bytes) refl h
     by None e h = absurd (cc)
     by (Some p) e h =
         let span = span-sound bytes p.1 p.0 e in
-        either (λ (r : Bool). if◌then◌else◌ {A = Option ℕ} r (Some p.0) None ≡ Some n → IsSchedule bytes n) p.1 (codes "MINUTE") (codes "MINUTES")
-        (λ is k. subst (IsSchedule bytes) (same_Some _ _ k) (o.minute (subst (λ (u : List ℕ). IsSpan bytes u p.0) is span)))
-        (λ is k. subst (IsSchedule bytes) (same_Some _ _ k) (o.minutes (subst (λ (u : List ℕ). IsSpan bytes u p.0) is span)))
+        either (λ (r : Bool). if◌then◌else◌ {A = Option ℕ} r (Some p.0) None ≡ Some n → IsSchedule bytes n) p.1
+        (codes "MINUTE") (codes "MINUTES")
+        (λ is k. subst (IsSchedule bytes) (same_Some _ _ k)
+        (o.minute (subst (λ (u : List ℕ). IsSpan bytes u p.0) is span)))
+        (λ is k. subst (IsSchedule bytes) (same_Some _ _ k)
+        (o.minutes (subst (λ (u : List ℕ). IsSpan bytes u p.0) is span)))
         (λ k. absurd (cc)) h
 
 pub schedule-complete : {bytes : List ℕ} {n : ℕ} → IsSchedule bytes n → schedule_of bytes ≡ Some n
@@ -146,7 +170,8 @@ unfolding schedule_of
 schedule-complete (o.minute {bytes} {n} s) = ap schedule_by (span-complete bytes (codes "MINUTE") n s refl)
 schedule-complete (o.minutes {bytes} {n} s) = ap schedule_by (span-complete bytes (codes "MINUTES") n s refl)
 
-either_of : (P : Option ℕ → Type 0) (unit one many : List ℕ) (x rest : Option ℕ) → (unit ≡ one → P x) → (unit ≡ many → P x) → P rest
+either_of : (P : Option ℕ → Type 0) (unit one many : List ℕ) (x rest : Option ℕ) → (unit ≡ one → P x)
+    → (unit ≡ many → P x) → P rest
     → P (if is_either unit one many then x else rest)
 either_of P unit one many x rest f g k = either (λ r. P (if r then x else rest)) unit one many f g k
 
@@ -168,12 +193,17 @@ said unit u f factor h is k = subst (IsUnit unit) (same_Some _ _ k) (subst (λ (
 factor-sound : (unit : List ℕ) (factor : ℕ) → factor_of unit ≡ Some factor → IsUnit unit factor
 factor-sound unit factor =
     let none : Said unit factor None = λ k. absurd (cc) in
-    either_of (Said unit factor) unit (codes "SECOND") (codes "SECONDS") (Some 1) (of_minutes unit) (said unit _ 1 factor o.second) (said unit _ 1 factor o.seconds)
-    (either_of (Said unit factor) unit (codes "MINUTE") (codes "MINUTES") (Some 60) (of_hours unit) (said unit _ 60 factor o.a_minute) (said unit _ 60 factor o.some_minutes)
-    (either_of (Said unit factor) unit (codes "HOUR") (codes "HOURS") (Some 3600) (of_days unit) (said unit _ 3600 factor o.hour) (said unit _ 3600 factor o.hours)
-    (either_of (Said unit factor) unit (codes "DAY") (codes "DAYS") (Some 86400) None (said unit _ 86400 factor o.day) (said unit _ 86400 factor o.days) none)))
+    either_of (Said unit factor) unit (codes "SECOND") (codes "SECONDS") (Some 1) (of_minutes unit)
+    (said unit _ 1 factor o.second) (said unit _ 1 factor o.seconds)
+    (either_of (Said unit factor) unit (codes "MINUTE") (codes "MINUTES") (Some 60) (of_hours unit)
+    (said unit _ 60 factor o.a_minute) (said unit _ 60 factor o.some_minutes)
+    (either_of (Said unit factor) unit (codes "HOUR") (codes "HOURS") (Some 3600) (of_days unit)
+    (said unit _ 3600 factor o.hour) (said unit _ 3600 factor o.hours)
+    (either_of (Said unit factor) unit (codes "DAY") (codes "DAYS") (Some 86400) None (said unit _ 86400 factor o.day)
+    (said unit _ 86400 factor o.days) none)))
 
-factor-complete : {unit : List ℕ} {factor : ℕ} → IsUnit unit factor → (factor_of unit ≡ Some factor) × (begins_letter unit ≡ true)
+factor-complete : {unit : List ℕ} {factor : ℕ} → IsUnit unit factor
+    → (factor_of unit ≡ Some factor) × (begins_letter unit ≡ true)
 factor-complete o.second = (refl, refl)
 factor-complete o.seconds = (refl, refl)
 factor-complete o.a_minute = (refl, refl)
@@ -187,9 +217,12 @@ pub lag_text-sound : (bytes : List ℕ) (l : Lag) → lag_of bytes ≡ Some l �
 unfolding lag_of
 lag_text-sound bytes l h = by (span_of bytes) refl h
   where
-    by_factor : (p : ℕ × List ℕ) → IsSpan bytes p.1 p.0 → (f : Option ℕ) → factor_of p.1 ≡ f → option_map (λ factor. lag.Seconds (p.0 * factor)) f ≡ Some l → IsLagText bytes l
+    by_factor : (p : ℕ × List ℕ) → IsSpan bytes p.1 p.0 → (f : Option ℕ) → factor_of p.1 ≡ f
+        → option_map (λ factor. lag.Seconds (p.0 * factor)) f ≡ Some l
+        → IsLagText bytes l
     by_factor p span None e k = absurd (cc)
-    by_factor p span (Some factor) e k = subst (IsLagText bytes) (same_Some _ _ k) (o.span span (factor-sound p.1 factor e))
+    by_factor p span (Some factor) e k =
+        subst (IsLagText bytes) (same_Some _ _ k) (o.span span (factor-sound p.1 factor e))
 
     by : (p : Option (ℕ × List ℕ)) → span_of bytes ≡ p → lag_by p ≡ Some l → IsLagText bytes l
     by None e h = absurd (cc)

@@ -8,7 +8,8 @@ use Rattle.wh_ast.specs.declared.statement.Lag.{Lag}
 use Rattle.wh_ast.specs.declared.statement.RefreshMode.{RefreshMode}
 use Rattle.wh_ast.specs.declared.statement.Initialize.{Initialize}
 use Rattle.wh_grammar.specs.Token.{Token, Word}
-use Rattle.wh_grammar.specs.Parts.{IsCondition, TaskOption, AreTaskOptions, TaskOptionsGive, TableOption, AreTableOptions, TableOptionsGive}
+use Rattle.wh_grammar.specs.Parts.{IsCondition, TaskOption, AreTaskOptions, TaskOptionsGive, TableOption}
+use Rattle.wh_grammar.specs.Parts.{AreTableOptions, TableOptionsGive}
 
 -- neither OR nor AND comes next
 abbrev pub ends_condition : List Token → Bool
@@ -23,7 +24,8 @@ ends_task_options _ = true
 -- none of TARGET_LAG, WAREHOUSE, REFRESH_MODE and INITIALIZE does
 abbrev pub ends_table_options : List Token → Bool
 ends_table_options (Word w ∷ us) =
-    not (bytes_eq w (codes "TARGET_LAG") || bytes_eq w (codes "WAREHOUSE") || bytes_eq w (codes "REFRESH_MODE") || bytes_eq w (codes "INITIALIZE"))
+    not (bytes_eq w (codes "TARGET_LAG") || bytes_eq w (codes "WAREHOUSE") || bytes_eq w (codes "REFRESH_MODE")
+    || bytes_eq w (codes "INITIALIZE"))
 ends_table_options _ = true
 
 pub record IsConditionAt (d : ℕ) (ts : List Token) (x : Condition) (us : List Token) : Type 0 where
@@ -36,7 +38,8 @@ pub record AreTaskOptionsAt (ts : List Token) (minutes : Option ℕ) (us : List 
   pub give : TaskOptionsGive options minutes
   pub ends : ends_task_options us ≡ true
 
-pub record AreTableOptionsAt (ts : List Token) (l : Lag) (m : RefreshMode) (i : Initialize) (us : List Token) : Type 0 where
+pub record AreTableOptionsAt (ts : List Token)
+    (l : Lag) (m : RefreshMode) (i : Initialize) (us : List Token) : Type 0 where
   pub options : List TableOption
   pub are : AreTableOptions ts options us
   pub give : TableOptionsGive options l m i

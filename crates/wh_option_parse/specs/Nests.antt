@@ -10,7 +10,9 @@ use Rattle.wh_option_parse.specs.declared.levels.Level.{Level}
 use Rattle.wh_option_parse.specs.Read.{nested}
 
 pub record Nests (depth : ℕ) (pre : Global → MutBor (List Token) → ℕ → Level → Type 0)
-    (post : Global → MutBor (List Token) → ℕ → Level → Result Condition ParseFault → MutBor (List Token) → Type 0) : Type 0 where
+    (post : Global → MutBor (List Token) → ℕ → Level → Result Condition ParseFault → MutBor (List Token)
+    → Type 0) : Type 0 where
   pub callable : (alloc : Global) (old : MutBor (List Token)) (level : Level) → pre alloc old depth level
-  pub reads : (alloc : Global) (old new : MutBor (List Token)) (level : Level) (r : Result Condition ParseFault) → post alloc old depth level r new
+  pub reads : (alloc : Global) (old new : MutBor (List Token)) (level : Level) (r : Result Condition ParseFault)
+      → post alloc old depth level r new
       → Reads (nested depth level old.now) r new.now

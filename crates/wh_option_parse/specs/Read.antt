@@ -4,7 +4,8 @@
 --     read_condition                        the condition of a task, to a depth
 --     read_task_options                     the options of a task, which give a schedule or none
 --     read_table_options                    the options of a dynamic table
-use Rattle.std.specs.Prelude.{ℕ, zero, suc, ◌*◌, Bool, true, false, ◌||◌, ◌==◌, nat_lt, if◌then◌else◌, List, [], ◌∷◌, length, map, take, drop, Option, Some, None, option_map, unwrap_or, codes, bytes_eq}
+use Rattle.std.specs.Prelude.{ℕ, zero, suc, ◌*◌, Bool, true, false, ◌||◌, ◌==◌, nat_lt, if◌then◌else◌, List, [], ◌∷◌}
+use Rattle.std.specs.Prelude.{length, map, take, drop, Option, Some, None, option_map, unwrap_or, codes, bytes_eq}
 use Rattle.std.specs.List.{prefix_len}
 use Rattle.wh_ast.specs.declared.statement.Lag.{Lag}
 use Rattle.wh_ast.specs.declared.statement.Lag.TheVariants as lag
@@ -19,7 +20,8 @@ use Rattle.wh_grammar.specs.Words.{is_reserved}
 use Rattle.wh_grammar.specs.Token.{Token, Word, Quoted, TextToken, NumberToken, SignToken}
 use Rattle.wh_lex.specs.Front.{front_of}
 use Rattle.wh_cursor.specs.declared.key.Key.TheVariants as k
-use Rattle.wh_cursor.specs.Steps.{sees, Reader, ◌>>=◌, ◌>>◌, pure, refuse, skip, sees_word, expect_word, expect_key, read_text, read_word, read_name, given}
+use Rattle.wh_cursor.specs.Steps.{sees, Reader, ◌>>=◌, ◌>>◌, pure, refuse, skip, sees_word, expect_word, expect_key}
+use Rattle.wh_cursor.specs.Steps.{read_text, read_word, read_name, given}
 use Rattle.wh_option_parse.specs.declared.levels.Level.{Level}
 use Rattle.wh_option_parse.specs.declared.levels.Level.TheVariants.{Whole, Negation}
 use Rattle.wh_option_parse.specs.declared.task.TaskParts.{TaskParts}
@@ -124,7 +126,8 @@ read_asked = do
 
 -- ---- conditions: operators of one level, from the left
 
-abbrev pub turn : (Condition → Reader Condition) → Reader Condition → (Condition → Condition → Condition) → Condition → Bool → Reader Condition
+abbrev pub turn : (Condition → Reader Condition) → Reader Condition → (Condition → Condition → Condition) → Condition
+    → Bool → Reader Condition
 turn more item join x false = pure x
 turn more item join x true = do
   skip
@@ -132,7 +135,8 @@ turn more item join x true = do
   more (join x y)
 
 -- the number bounds the turns
-unfoldable pub turns : List ℕ → (Condition → Condition → Condition) → Reader Condition → ℕ → Condition → Reader Condition
+unfoldable pub turns : List ℕ → (Condition → Condition → Condition) → Reader Condition → ℕ → Condition
+    → Reader Condition
 turns word join item zero x = pure x
 turns word join item (suc n) x = λ ts. turn (turns word join item n) item join x (sees_word word ts) ts
 

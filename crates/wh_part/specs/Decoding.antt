@@ -1,5 +1,6 @@
 -- Reading values, rows and partitions.
-use Rattle.std.specs.Prelude.{ℕ, zero, suc, ◌+◌, ◌<◌, ◌≤◌, Bool, true, false, ◌&&◌, List, [], ◌∷◌, length, ℤ, unsigned_abs, Option, Some, None, nat_lt, nat_le}
+use Rattle.std.specs.Prelude.{ℕ, zero, suc, ◌+◌, ◌<◌, ◌≤◌, Bool, true, false, ◌&&◌, List, [], ◌∷◌, length, ℤ}
+use Rattle.std.specs.Prelude.{unsigned_abs, Option, Some, None, nat_lt, nat_le}
 use Rattle.std.specs.Int.{w32, w64, cast_signed}
 use Rattle.wh_value.specs.Value.{Value, Number, Truth, Text, Null, Row}
 use Rattle.wh_frame.specs.Partition.{Partition}
@@ -47,7 +48,8 @@ unfoldable pub rows_at : ℕ → Reader (List (ℕ × Row))
 rows_at width bytes = where_at (rises_from 0) (list_at row_count_at (row_at width)) bytes
 
 unfoldable pub partition_at : ℕ → Reader Partition
-partition_at width bytes = as_at (λ p. record { number = p.0; rows = p.1 }) (then_at (number_at w64) (λ _. rows_at width)) bytes
+partition_at width bytes =
+    as_at (λ p. record { number = p.0; rows = p.1 }) (then_at (number_at w64) (λ _. rows_at width)) bytes
 
 -- 1 to 1,000 rows by rising row number
 abbrev pub AreRows : List (ℕ × Row) → Type 0

@@ -40,4 +40,6 @@ pub record IsMetaOf (meta : PartMeta) (p : Partition) : Type 0 where
   pub first : meta.first ≡ first_number p.rows
   pub last : meta.last ≡ last_number p.rows
   pub width : length meta.columns.items ≡ width_of p.rows
-  pub columns : (place : ℕ) (d : Bounds) → place < width_of p.rows → IsBoundsOf (slice_index_or meta.columns.items place d) (column place p.rows)
+  pub columns : (place : ℕ) (d : Bounds)
+      → place < width_of p.rows
+      → IsBoundsOf (slice_index_or meta.columns.items place d) (column place p.rows)

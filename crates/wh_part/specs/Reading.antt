@@ -2,7 +2,8 @@
 --     Gives                                          what a function of the code returned is what reading gives
 --     byte_at, number_at, bytes_at, text_at          a field at the front
 --     then_at, where_at, as_at, items_at, list_at    fields one after the other, tested, seen otherwise, and counted
-use Rattle.std.specs.Prelude.{◌≡◌, ℕ, zero, suc, Bool, ◌&&◌, List, [], ◌∷◌, length, take, drop, Option, Some, None, Result, Ok, Err, nat_lt, nat_le, if◌then◌else◌}
+use Rattle.std.specs.Prelude.{◌≡◌, ℕ, zero, suc, Bool, ◌&&◌, List, [], ◌∷◌, length, take, drop, Option, Some, None}
+use Rattle.std.specs.Prelude.{Result, Ok, Err, nat_lt, nat_le, if◌then◌else◌}
 use Rattle.std.specs.Str.{is_utf8}
 use Rattle.std.specs.Int.{Width, w32, byte_len, from_be_bytes}
 use Rattle.wh_part.specs.declared.fault.ReadError.{ReadError}
@@ -54,7 +55,8 @@ byte_at [] = None
 byte_at (b ∷ bytes) = Some (b, bytes)
 
 abbrev pub number_at : Width → Reader ℕ
-number_at w bytes = if nat_lt (length bytes) (byte_len w) then None else Some (from_be_bytes w (take (byte_len w) bytes), drop (byte_len w) bytes)
+number_at w bytes = if nat_lt (length bytes) (byte_len w) then None
+    else Some (from_be_bytes w (take (byte_len w) bytes), drop (byte_len w) bytes)
 
 abbrev pub bytes_at : ℕ → Reader (List ℕ)
 bytes_at n bytes = if nat_lt (length bytes) n then None else Some (take n bytes, drop n bytes)

@@ -1,6 +1,7 @@
 ghost use Rattle.std.specs.Prelude.{◌≡◌, map, nat_le};
 ghost use Rattle.wh_part.specs.Reading.{Gives, items_at};
-ghost use Rattle.wh_part.specs.Decoding.{whole_number_at, value_at, row_at, row_count_at, rows_at, partition_at, least_after, rises_from};
+ghost use Rattle.wh_part.specs.Decoding.{whole_number_at, value_at, row_at, row_count_at, rows_at, partition_at};
+ghost use Rattle.wh_part.specs.Decoding.{least_after, rises_from};
 ghost use Rattle.wh_part.specs.Laws.{SpellingFixesPartitions};
 ghost use Rattle.wh_part.specs.View.{numbered_of};
 ghost use Rattle.wh_value.specs.View.{value_of};

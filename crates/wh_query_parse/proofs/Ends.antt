@@ -41,7 +41,8 @@ pub data ItemEnd : List Token → Type 0 where
 
 pub query-end : (us : List Token) → ends_query us ≡ true → QueryEnd us
 query-end [] e = nothing_left
-query-end (Word w ∷ us) e = subst (λ (v : List ℕ). QueryEnd (Word v ∷ us)) (sym ((bytes_eq-Decides w (codes "ORDER")).0 e)) order
+query-end (Word w ∷ us) e =
+    subst (λ (v : List ℕ). QueryEnd (Word v ∷ us)) (sym ((bytes_eq-Decides w (codes "ORDER")).0 e)) order
 query-end (Quoted name ∷ us) e = absurd (cc)
 query-end (TextToken bytes ∷ us) e = absurd (cc)
 query-end (NumberToken n ∷ us) e = absurd (cc)

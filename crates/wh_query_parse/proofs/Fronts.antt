@@ -8,7 +8,8 @@ use Rattle.wh_ast.specs.declared.query.Item.{Item}
 use Rattle.wh_ast.specs.declared.query.Source.{Source}
 use Rattle.wh_grammar.specs.Token.{Token}
 use Rattle.wh_grammar.specs.Query as g
-use Rattle.wh_grammar.specs.Query.{IsAlias, MayHaveAlias, IsItem, AreItems, MayHaveFilter, MayHaveGroup, IsJoinWord, IsQuery, AreCores, IsCore, IsSource, AreJoins}
+use Rattle.wh_grammar.specs.Query.{IsAlias, MayHaveAlias, IsItem, AreItems, MayHaveFilter, MayHaveGroup, IsJoinWord}
+use Rattle.wh_grammar.specs.Query.{IsQuery, AreCores, IsCore, IsSource, AreJoins}
 use Rattle.wh_cursor.proofs.Combine.{name_shorter}
 use Rattle.wh_expr_parse.proofs.ExprSteps.{expr_shorter, exprs_shorter}
 

@@ -5,7 +5,8 @@ use Rattle.wh_ast.specs.declared.expr.Expr.{Expr}
 use Rattle.wh_grammar.specs.Token.{Token, Word, SignToken, Sign, Dot, Star}
 use Rattle.wh_grammar.specs.Name.{IsName, word, quoted}
 use Rattle.wh_grammar.specs.Expression as g
-use Rattle.wh_grammar.specs.Expression.{IsWhole, IsAnd, IsNot, IsTest, IsSum, IsProduct, IsUnary, IsPrim, IsComparison, IsNegation}
+use Rattle.wh_grammar.specs.Expression.{IsWhole, IsAnd, IsNot, IsTest, IsSum, IsProduct, IsUnary, IsPrim}
+use Rattle.wh_grammar.specs.Expression.{IsComparison, IsNegation}
 use Rattle.wh_cursor.specs.Steps.{tail}
 
 -- neither a star nor a dot comes first
@@ -67,7 +68,8 @@ mutual
 -- ---- `. *` behind the first token
 
 abbrev Ahead : List Token → List Token → Type 0
-Ahead ts us = (t : Token) (more : List Token) → ts ≡ t ∷ SignToken Dot ∷ SignToken Star ∷ more → us ≡ SignToken Dot ∷ SignToken Star ∷ more
+Ahead ts us = (t : Token) (more : List Token) → ts ≡ t ∷ SignToken Dot ∷ SignToken Star ∷ more
+    → us ≡ SignToken Dot ∷ SignToken Star ∷ more
 
 shut : {us vs : List Token} → Opens us → us ≡ SignToken Dot ∷ vs → ⊥
 shut o e = subst Opens e o
@@ -75,7 +77,9 @@ shut o e = subst Opens e o
 starless : {us vs : List Token} → Opens us → us ≡ SignToken Star ∷ vs → ⊥
 starless o e = subst Opens e o
 
-undotted : {s : Sign} {comparison : Comparison} {us vs : List Token} → IsComparison s comparison → SignToken s ∷ us ≡ SignToken Dot ∷ vs → ⊥
+undotted : {s : Sign} {comparison : Comparison} {us vs : List Token} → IsComparison s comparison
+    → SignToken s ∷ us ≡ SignToken Dot ∷ vs
+    → ⊥
 undotted g.equal e = cc
 undotted g.unequal e = cc
 undotted g.less e = cc
@@ -83,7 +87,9 @@ undotted g.at_most e = cc
 undotted g.greater e = cc
 undotted g.at_least e = cc
 
-behind-negation : {negated : Bool} {w : List ℕ} {us vs ws : List Token} → IsNegation negated us (Word w ∷ vs) → us ≡ SignToken Dot ∷ ws → ⊥
+behind-negation : {negated : Bool} {w : List ℕ} {us vs ws : List Token} → IsNegation negated us (Word w ∷ vs)
+    → us ≡ SignToken Dot ∷ ws
+    → ⊥
 behind-negation g.negated e = cc
 behind-negation g.plain e = cc
 
@@ -131,7 +137,8 @@ mutual
   prim-ahead g.false_word t more e = ap tail e
   prim-ahead g.null_word t more e = ap tail e
   prim-ahead (g.column name) t more e = name-ahead name t more e
-  prim-ahead (g.column_of entry name) t more e = absurd (starless (name-opens name) (ap tail (name-ahead entry t more e)))
+  prim-ahead (g.column_of entry name) t more e =
+      absurd (starless (name-opens name) (ap tail (name-ahead entry t more e)))
   prim-ahead (g.parenthesized a) t more e = absurd (shut (whole-opens a) (ap tail e))
   prim-ahead (g.sum a) t more e = absurd (let f = ap tail e in cc)
   prim-ahead g.count_rows t more e = absurd (let f = ap tail e in cc)

@@ -1,5 +1,6 @@
 -- What stands there for aliases, conditions, groups and items is read.
-use Rattle.std.proofs.Common.{◌≡◌, ℕ, ◌==◌, Bool, true, false, not, ◌&&◌, List, [], ◌∷◌, Option, Some, refl, sym, ap, ◌∙◌, subst, arith}
+use Rattle.std.proofs.Common.{◌≡◌, ℕ, ◌==◌, Bool, true, false, not, ◌&&◌, List, [], ◌∷◌, Option, Some, refl, sym, ap}
+use Rattle.std.proofs.Common.{◌∙◌, subst, arith}
 use Rattle.std.specs.Prelude.{codes}
 use Rattle.std.proofs.lemmas.Bool.{and_parts}
 use Rattle.std.proofs.lemmas.Bool.Decides.{Decides-eqb}
@@ -20,12 +21,14 @@ use Rattle.wh_cursor.proofs.KeyLemmas.{heads, unreserved}
 use Rattle.wh_cursor.proofs.Combine.{sees_word_is, expect_word_reads, name_reads}
 use Rattle.wh_cursor.proofs.ListLemmas.{GivesListed, listed-last, listed-more, listed-reads}
 use Rattle.wh_query_parse.specs.Follow.{ends_alias, ends_filter}
-use Rattle.wh_query_parse.specs.Read.{provided, read_named, some_alias, read_alias, read_filter, read_group, names_all, read_all_of, read_shown, read_item, read_items}
+use Rattle.wh_query_parse.specs.Read.{provided, read_named, some_alias, read_alias, read_filter, read_group, names_all}
+use Rattle.wh_query_parse.specs.Read.{read_all_of, read_shown, read_item, read_items}
 use Rattle.wh_query_parse.proofs.Seen.{name_binds}
 use Rattle.wh_query_parse.proofs.Openings.{Opens, name-opens, whole-opens, whole-ahead}
 use Rattle.wh_expr_parse.proofs.ExprSteps.{expr_reads, exprs_read}
 use Rattle.wh_query_parse.proofs.Fronts.{item-front}
-use Rattle.wh_query_parse.proofs.Ends.{CoreEnd, no-comma, no-group, core-binds, ItemEnd, comma, from, item-ends, item-binds, from-comma}
+use Rattle.wh_query_parse.proofs.Ends.{CoreEnd, no-comma, no-group, core-binds, ItemEnd, comma, from, item-ends}
+use Rattle.wh_query_parse.proofs.Ends.{item-binds, from-comma}
 
 pub provided-holds : (holds : List Token → Bool) (us : List Token) → holds us ≡ true → provided holds us ≡ Some (tt, us)
 unfolding provided
@@ -49,7 +52,8 @@ alias-begins (g.bare (word r c)) = rw (r) refl
 alias-begins (g.bare quoted) = refl
 alias-begins (g.with_as h) = refl
 
-pub alias-complete : {ts us : List Token} {x : Option (List ℕ)} → MayHaveAlias ts x us → ends_alias us ≡ true → read_alias ts ≡ Some (x, us)
+pub alias-complete : {ts us : List Token} {x : Option (List ℕ)} → MayHaveAlias ts x us → ends_alias us ≡ true
+    → read_alias ts ≡ Some (x, us)
 unfolding read_alias some_alias
 alias-complete g.no_alias e = rw (e) refl
 alias-complete (g.an_alias {us = us} h) e = rw (alias-begins h, named-complete h, provided-holds ends_alias us e) refl
@@ -75,7 +79,8 @@ filter-parts us e =
     let both = and_parts (binds us == 0) (not (sees_word (codes "WHERE") us)) e in
     ((Decides-eqb (binds us) 0).0 both.0, not-true (sees_word (codes "WHERE") us) both.1)
 
-pub filter-complete : {d : ℕ} {ts us : List Token} {x : Option Expr} → MayHaveFilter d ts x us → ends_filter us ≡ true → read_filter d ts ≡ Some (x, us)
+pub filter-complete : {d : ℕ} {ts us : List Token} {x : Option Expr} → MayHaveFilter d ts x us → ends_filter us ≡ true
+    → read_filter d ts ≡ Some (x, us)
 unfolding read_filter
 filter-complete (g.no_filter {ts = ts}) e = rw ((filter-parts ts e).1, provided-holds ends_filter ts e) refl
 filter-complete (g.a_filter {ts = ts} {us = us} h) e =
@@ -83,11 +88,13 @@ filter-complete (g.a_filter {ts = ts} {us = us} h) e =
 
 -- ---- groups
 
-pub group-complete : {d : ℕ} {ts us : List Token} {xs : List Expr} → MayHaveGroup d ts xs us → CoreEnd us → read_group d ts ≡ Some (xs, us)
+pub group-complete : {d : ℕ} {ts us : List Token} {xs : List Expr} → MayHaveGroup d ts xs us → CoreEnd us
+    → read_group d ts ≡ Some (xs, us)
 unfolding read_group
 group-complete g.no_group end = rw (no-group end) refl
 group-complete (g.a_group {ts = ts} h) end =
-    rw (sees_word_is (codes "GROUP") (Word (codes "BY") ∷ ts), expect_word_reads (codes "BY") ts) (exprs_read h (core-binds end) (no-comma end))
+    rw (sees_word_is (codes "GROUP") (Word (codes "BY") ∷ ts), expect_word_reads (codes "BY") ts)
+    (exprs_read h (core-binds end) (no-comma end))
 
 -- ---- items
 
@@ -109,9 +116,11 @@ no-all ts us x h e = by (names_all ts) refl
     by false f = refl
     by true f =
         let both = and_parts (sees k.Dot (tail ts)) (sees k.Star (tail (tail ts))) f in
-        let front : tail ts ≡ SignToken token.Dot ∷ SignToken token.Star ∷ tail (tail (tail ts)) = heads k.Dot (tail ts) both.0 ∙ ap (λ (l : List Token). SignToken token.Dot ∷ l) (heads k.Star (tail (tail ts)) both.1) in
+        let front : tail ts ≡ SignToken token.Dot ∷ SignToken token.Star ∷ tail (tail (tail ts)) = heads k.Dot (tail ts)
+        both.0 ∙ ap (λ (l : List Token). SignToken token.Dot ∷ l) (heads k.Star (tail (tail ts)) both.1) in
         let first = has-first ts (tail (tail ts)) (SignToken token.Dot) (heads k.Dot (tail ts) both.0) in
-        let us-is = whole-ahead h.whole first.0 (tail (tail (tail ts))) (first.1 ∙ ap (λ (l : List Token). first.0 ∷ l) front) in
+        let us-is = whole-ahead h.whole first.0 (tail (tail (tail ts)))
+        (first.1 ∙ ap (λ (l : List Token). first.0 ∷ l) front) in
         let six : 0 ≡ 6 = sym e ∙ ap (λ (l : List Token). binds l) us-is in
         absurd (omega (arith, six))
 
@@ -119,7 +128,8 @@ name-tail : {ts us : List Token} {name : List ℕ} → IsName ts name us → tai
 name-tail (word r c) = refl
 name-tail quoted = refl
 
-all-seen : (us : List Token) → (sees k.Dot (SignToken token.Dot ∷ SignToken token.Star ∷ us) && sees k.Star (SignToken token.Star ∷ us)) ≡ true
+all-seen : (us : List Token)
+    → (sees k.Dot (SignToken token.Dot ∷ SignToken token.Star ∷ us) && sees k.Star (SignToken token.Star ∷ us)) ≡ true
 unfolding sees same_key key_of
 all-seen us = refl
 
@@ -127,13 +137,16 @@ star-seen : (us : List Token) → sees k.Star (SignToken token.Star ∷ us) ≡ 
 unfolding sees same_key key_of
 star-seen us = refl
 
-names-all : (ts us : List Token) (name : List ℕ) → IsName ts name (SignToken token.Dot ∷ SignToken token.Star ∷ us) → names_all ts ≡ true
-names-all ts us name h = subst (λ (l : List Token). (sees k.Dot l && sees k.Star (tail l)) ≡ true) (sym (name-tail h)) (all-seen us)
+names-all : (ts us : List Token) (name : List ℕ) → IsName ts name (SignToken token.Dot ∷ SignToken token.Star ∷ us)
+    → names_all ts ≡ true
+names-all ts us name h =
+    subst (λ (l : List Token). (sees k.Dot l && sees k.Star (tail l)) ≡ true) (sym (name-tail h)) (all-seen us)
 
 item-complete : {d : ℕ} {ts us : List Token} {x : Item} → IsItem d ts x us → ItemEnd us → read_item d ts ≡ Some (x, us)
 unfolding read_item read_all_of read_shown
 item-complete (g.star {us = us}) end = rw (star-seen us) refl
-item-complete (g.star_of {ts = ts} {us = us} {name = name} h) end = rw (no-star ts (name-opens h), names-all ts us name h, name_reads h) refl
+item-complete (g.star_of {ts = ts} {us = us} {name = name} h) end =
+    rw (no-star ts (name-opens h), names-all ts us name h, name_reads h) refl
 item-complete (g.shown {ts = ts} {us = us} {x = x} h alias) end =
     rw (
       no-star ts (whole-opens h.whole),
@@ -142,10 +155,12 @@ item-complete (g.shown {ts = ts} {us = us} {x = x} h alias) end =
       alias-complete alias (item-ends end),
     ) refl
 
-items-listed : {d : ℕ} {ts us : List Token} {xs : List Item} → AreItems d ts xs (Word (codes "FROM") ∷ us) → GivesListed (read_item d) ts xs (Word (codes "FROM") ∷ us)
+items-listed : {d : ℕ} {ts us : List Token} {xs : List Item} → AreItems d ts xs (Word (codes "FROM") ∷ us)
+    → GivesListed (read_item d) ts xs (Word (codes "FROM") ∷ us)
 items-listed {us = us} (g.last_item h) = listed-last (item-complete h from) (item-front h) (from-comma us)
 items-listed (g.more_items h more) = listed-more (item-complete h comma) (item-front h) (items-listed more)
 
-pub items-complete : {d : ℕ} {ts us : List Token} {xs : List Item} → AreItems d ts xs (Word (codes "FROM") ∷ us) → read_items d ts ≡ Some (xs, Word (codes "FROM") ∷ us)
+pub items-complete : {d : ℕ} {ts us : List Token} {xs : List Item} → AreItems d ts xs (Word (codes "FROM") ∷ us)
+    → read_items d ts ≡ Some (xs, Word (codes "FROM") ∷ us)
 unfolding read_items
 items-complete h = listed-reads (items-listed h)

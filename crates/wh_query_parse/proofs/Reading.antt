@@ -4,7 +4,8 @@ use Rattle.std.proofs.lemmas.Option.{same_Some}
 use Rattle.wh_ast.specs.declared.query.Query.{Query}
 use Rattle.wh_grammar.specs.Token.{Token}
 use Rattle.wh_query_parse.specs.Read.{read_source, read_query}
-use Rattle.wh_query_parse.specs.Laws.{ReadsQueries, ReadsSources, ReadsAliases, ReadsFilters, TokensFixQuery, QueryIsFront, SourceIsFront}
+use Rattle.wh_query_parse.specs.Laws.{ReadsQueries, ReadsSources, ReadsAliases, ReadsFilters, TokensFixQuery}
+use Rattle.wh_query_parse.specs.Laws.{QueryIsFront, SourceIsFront}
 use Rattle.wh_cursor.proofs.Yields.{yielded}
 use Rattle.wh_query_parse.proofs.Fronts.{query_front, source_front}
 use Rattle.wh_query_parse.proofs.Soundness.{read_query-sound, read_source-sound, alias-sound, filter-sound}

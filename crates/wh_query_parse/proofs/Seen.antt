@@ -25,10 +25,14 @@ name_binds w us r = sym (binds_key (Word w ∷ us)) ∙ rw (r) (two (bytes_eq w 
 -- ---- the keys of names
 
 reserved-by : (w : List ℕ) → names_key (reserved_key w) ≡ false
-reserved-by w = by (bytes_eq w (codes "OR")) (bytes_eq w (codes "AND")) (bytes_eq w (codes "NOT")) (bytes_eq w (codes "IS")) (bytes_eq w (codes "IN"))
+reserved-by w = by (bytes_eq w (codes "OR")) (bytes_eq w (codes "AND")) (bytes_eq w (codes "NOT"))
+    (bytes_eq w (codes "IS")) (bytes_eq w (codes "IN"))
     (bytes_eq w (codes "BETWEEN")) (bytes_eq w (codes "NULL")) (bytes_eq w (codes "TRUE")) (bytes_eq w (codes "FALSE"))
   where
-    by : (a b c d e f g h i : Bool) → names_key (if a then k.Or else if b then k.And else if c then k.Not else if d then k.Is else if e then k.In else if f then k.Between else if g then k.Null else if h then k.True else if i then k.False else k.Reserved) ≡ false
+    by : (a b c d e f g h i : Bool)
+        → names_key (if a then k.Or else if b then k.And else if c then k.Not else if d then k.Is else if e then k.In
+        else if f then k.Between else if g then k.Null else if h then k.True else if i then k.False else k.Reserved)
+        ≡ false
     by true b c d e f g h i = refl
     by false true c d e f g h i = refl
     by false false true d e f g h i = refl
@@ -41,7 +45,8 @@ reserved-by w = by (bytes_eq w (codes "OR")) (bytes_eq w (codes "AND")) (bytes_e
     by false false false false false false false false false = refl
 
 word-by : (w : List ℕ) (r : Bool) → is_reserved w ≡ r
-    → names_key (if r then reserved_key w else if bytes_eq w (codes "SUM") then k.Sum else if bytes_eq w (codes "COUNT") then k.Count else k.Name) ≡ not r
+    → names_key (if r then reserved_key w else if bytes_eq w (codes "SUM") then k.Sum else if bytes_eq w (codes "COUNT")
+    then k.Count else k.Name) ≡ not r
 word-by w true e = reserved-by w
 word-by w false e = two (bytes_eq w (codes "SUM")) (bytes_eq w (codes "COUNT"))
   where
@@ -57,10 +62,12 @@ twice false true = refl
 twice false false = refl
 
 -- what the code asks
-pub asked_alias : (ts : List Token) → (if sees_word (codes "AS") ts then false else not (names_key (key_of ts))) ≡ ends_alias ts
+pub asked_alias : (ts : List Token)
+    → (if sees_word (codes "AS") ts then false else not (names_key (key_of ts))) ≡ ends_alias ts
 unfolding sees_word key_of
 asked_alias [] = refl
-asked_alias (Word w ∷ us) = ap (λ (b : Bool). if bytes_eq w (codes "AS") then false else not b) (word-by w (is_reserved w) refl) ∙ twice (is_reserved w) (bytes_eq w (codes "AS"))
+asked_alias (Word w ∷ us) = ap (λ (b : Bool). if bytes_eq w (codes "AS") then false else not b)
+    (word-by w (is_reserved w) refl) ∙ twice (is_reserved w) (bytes_eq w (codes "AS"))
 asked_alias (Quoted name ∷ us) = refl
 asked_alias (TextToken bytes ∷ us) = refl
 asked_alias (NumberToken n ∷ us) = refl

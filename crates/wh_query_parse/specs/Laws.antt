@@ -13,19 +13,24 @@ use Rattle.wh_query_parse.specs.Follow.{IsQueryAt, IsSourceAt, IsAliasAt, IsFilt
 use Rattle.wh_query_parse.specs.Read.{read_query, read_source, read_alias, read_filter}
 
 abbrev pub ReadsQueries : Type 0
-ReadsQueries = (d : ℕ) (ts : List Token) (q : Query) (us : List Token) → (read_query d ts ≡ Some (q, us)) ↔ IsQueryAt d ts q us
+ReadsQueries = (d : ℕ) (ts : List Token) (q : Query) (us : List Token)
+    → (read_query d ts ≡ Some (q, us)) ↔ IsQueryAt d ts q us
 
 abbrev pub ReadsSources : Type 0
-ReadsSources = (d : ℕ) (ts : List Token) (x : Source) (us : List Token) → (read_source d ts ≡ Some (x, us)) ↔ IsSourceAt d ts x us
+ReadsSources = (d : ℕ) (ts : List Token) (x : Source) (us : List Token)
+    → (read_source d ts ≡ Some (x, us)) ↔ IsSourceAt d ts x us
 
 abbrev pub ReadsAliases : Type 0
-ReadsAliases = (ts : List Token) (x : Option (List ℕ)) (us : List Token) → (read_alias ts ≡ Some (x, us)) ↔ IsAliasAt ts x us
+ReadsAliases = (ts : List Token) (x : Option (List ℕ)) (us : List Token)
+    → (read_alias ts ≡ Some (x, us)) ↔ IsAliasAt ts x us
 
 abbrev pub ReadsFilters : Type 0
-ReadsFilters = (d : ℕ) (ts : List Token) (x : Option Expr) (us : List Token) → (read_filter d ts ≡ Some (x, us)) ↔ IsFilterAt d ts x us
+ReadsFilters = (d : ℕ) (ts : List Token) (x : Option Expr) (us : List Token)
+    → (read_filter d ts ≡ Some (x, us)) ↔ IsFilterAt d ts x us
 
 abbrev pub TokensFixQuery : Type 0
-TokensFixQuery = (d : ℕ) (ts : List Token) (q r : Query) (us vs : List Token) → IsQueryAt d ts q us → IsQueryAt d ts r vs → (q ≡ r) × (us ≡ vs)
+TokensFixQuery = (d : ℕ) (ts : List Token) (q r : Query) (us vs : List Token) → IsQueryAt d ts q us
+    → IsQueryAt d ts r vs → (q ≡ r) × (us ≡ vs)
 
 abbrev pub QueryIsFront : Type 0
 QueryIsFront = (d : ℕ) (ts : List Token) (q : Query) (us : List Token) → IsQuery d ts q us → length us < length ts

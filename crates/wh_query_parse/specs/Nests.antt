@@ -11,5 +11,6 @@ use Rattle.wh_query_parse.specs.Read.{nested}
 pub record Nests (depth : ℕ) (pre : Global → MutBor (List Token) → ℕ → Type 0)
     (post : Global → MutBor (List Token) → ℕ → Result Query ParseFault → MutBor (List Token) → Type 0) : Type 0 where
   pub callable : (alloc : Global) (old : MutBor (List Token)) → pre alloc old depth
-  pub reads : (alloc : Global) (old new : MutBor (List Token)) (r : Result Query ParseFault) → post alloc old depth r new
+  pub reads : (alloc : Global) (old new : MutBor (List Token)) (r : Result Query ParseFault)
+      → post alloc old depth r new
       → Reads (nested depth old.now) r new.now

@@ -3,7 +3,8 @@
 --     read_filter     a condition behind WHERE, or none
 --     read_source     a name or a query in parentheses, with its alias
 --     read_query      cores with UNION ALL between them
-use Rattle.std.specs.Prelude.{ℕ, zero, suc, Bool, true, false, ◌&&◌, ◌||◌, if◌then◌else◌, List, [], ◌∷◌, ◌++◌, Option, Some, None, codes}
+use Rattle.std.specs.Prelude.{ℕ, zero, suc, Bool, true, false, ◌&&◌, ◌||◌, if◌then◌else◌, List, [], ◌∷◌, ◌++◌, Option}
+use Rattle.std.specs.Prelude.{Some, None, codes}
 use Rattle.wh_ast.specs.declared.expr.Expr.{Expr}
 use Rattle.wh_ast.specs.declared.query.Query.{Query, roll-Query}
 use Rattle.wh_ast.specs.declared.query.Core.{Core, roll-Core}
@@ -14,7 +15,8 @@ use Rattle.wh_ast.specs.declared.query.Source.{Source}
 use Rattle.wh_ast.specs.declared.query.Source.TheVariants as s
 use Rattle.wh_grammar.specs.Token.{Token}
 use Rattle.wh_cursor.specs.declared.key.Key.TheVariants as k
-use Rattle.wh_cursor.specs.Steps.{tail, sees, Reader, ◌>>=◌, ◌>>◌, pure, refuse, skip, sees_word, eat_word, eat_key, expect_word, expect_key, read_name}
+use Rattle.wh_cursor.specs.Steps.{tail, sees, Reader, ◌>>=◌, ◌>>◌, pure, refuse, skip, sees_word, eat_word, eat_key}
+use Rattle.wh_cursor.specs.Steps.{expect_word, expect_key, read_name}
 use Rattle.wh_cursor.specs.Lists.{listed}
 use Rattle.wh_expr_parse.specs.Read.{read_expr, read_exprs}
 use Rattle.wh_query_parse.specs.Follow.{ends_query, ends_alias, ends_filter}
@@ -86,7 +88,8 @@ read_shown d = do
   pure (i.Expr x alias)
 
 unfoldable pub read_item : ℕ → Reader Item
-read_item d = λ ts. if sees k.Star ts then Some (i.Star, tail ts) else if names_all ts then read_all_of ts else read_shown d ts
+read_item d =
+    λ ts. if sees k.Star ts then Some (i.Star, tail ts) else if names_all ts then read_all_of ts else read_shown d ts
 
 unfoldable pub read_items : ℕ → Reader (List Item)
 read_items d = listed (read_item d)

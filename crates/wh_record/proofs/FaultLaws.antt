@@ -35,7 +35,8 @@ not_nothing payload rest is = cc
 abbrev bytes_of : List Commit → List ℕ
 bytes_of cs = flat_map record_of (map payload_of cs)
 
-first_record : (c : Commit) (cs : List Commit) (x : List ℕ) → bytes_of (c ∷ cs) ++ x ≡ record_of (payload_of c) ++ (bytes_of cs ++ x)
+first_record : (c : Commit) (cs : List Commit) (x : List ℕ)
+    → bytes_of (c ∷ cs) ++ x ≡ record_of (payload_of c) ++ (bytes_of cs ++ x)
 first_record c cs x =
     ap (λ (l : List ℕ). l ++ x) (flat_map-cons record_of (payload_of c) (map payload_of cs))
     ∙ append_assoc (record_of (payload_of c)) (bytes_of cs) x
@@ -75,8 +76,10 @@ record Reading (old : Stored) (cs : List Commit) (bytes : List ℕ) : Type 0 whe
   leads : Leads old cs reached
   ends : Ends bytes reached
 
-further : (old : Stored) (c : Commit) (cs : List Commit) (bytes : List ℕ) → Reading old (c ∷ cs) bytes → Reading (applied old c) cs bytes
-further old c cs bytes r = record { good = r.good.1; short = r.short.1; reached = r.reached; leads = r.leads.1; ends = r.ends }
+further : (old : Stored) (c : Commit) (cs : List Commit) (bytes : List ℕ) → Reading old (c ∷ cs) bytes
+    → Reading (applied old c) cs bytes
+further old c cs bytes r =
+    record { good = r.good.1; short = r.short.1; reached = r.reached; leads = r.leads.1; ends = r.ends }
 
 no_more : (old : Stored) (c : Commit) (cs : List Commit) (x y : List ℕ)
     → Reading old [] x → Reading old (c ∷ cs) y → x ≡ bytes_of (c ∷ cs) ++ y → ⊥
@@ -92,9 +95,11 @@ one_way old [] (d ∷ ds) x y r t same = absurd (no_more old d ds x y r t same)
 one_way old (c ∷ cs) [] x y r t same = absurd (no_more old c cs y x t r (sym same))
 one_way old (c ∷ cs) (d ∷ ds) x y r t same =
     let regrouped = sym (first_record c cs x) ∙ same ∙ first_record d ds y in
-    let one = same_record (payload_of c) (payload_of d) (bytes_of cs ++ x) (bytes_of ds ++ y) r.short.0 t.short.0 regrouped in
+    let one =
+    same_record (payload_of c) (payload_of d) (bytes_of cs ++ x) (bytes_of ds ++ y) r.short.0 t.short.0 regrouped in
     let first : c ≡ d = payload_fixes_commit c d r.good.0 t.good.0 one.0 in
-    let other : Reading (applied old c) ds y = subst (λ (e : Commit). Reading (applied old e) ds y) (sym first) (further old d ds y t) in
+    let other : Reading (applied old c) ds y =
+    subst (λ (e : Commit). Reading (applied old e) ds y) (sym first) (further old d ds y t) in
     let rest = one_way (applied old c) cs ds x y (further old c cs x r) other one.1 in
     (cc, rest.1)
 
@@ -108,7 +113,8 @@ behind_header file cs x spelled = spelled ∙ append_assoc header (bytes_of cs) 
 same_behind : (file : List ℕ) (cs ds : List Commit) (x y : List ℕ) → file ≡ records_of (map payload_of cs) ++ x
     → file ≡ records_of (map payload_of ds) ++ y → bytes_of cs ++ x ≡ bytes_of ds ++ y
 same_behind file cs ds x y one other =
-    append_cancel_left header (bytes_of cs ++ x) (bytes_of ds ++ y) (sym (behind_header file cs x one) ∙ behind_header file ds y other)
+    append_cancel_left header
+    (bytes_of cs ++ x) (bytes_of ds ++ y) (sym (behind_header file cs x one) ∙ behind_header file ds y other)
 
 no_header : (file : List ℕ) (at : ℕ) (cs : List Commit) (x : List ℕ)
     → LacksHeader file at → file ≡ records_of (map payload_of cs) ++ x → ⊥
@@ -128,7 +134,8 @@ short_commits : (cs : List Commit) → AllByRecursion (λ payload. length payloa
 short_commits [] h = tt
 short_commits (c ∷ cs) h = (h.0, short_commits cs h.1)
 
-whole_reading : (file : List ℕ) (s : Stored) → (h : Holds file s) → Reading first_stored h.commits (h.file.gate ∷ h.file.tail)
+whole_reading : (file : List ℕ) (s : Stored) → (h : Holds file s)
+    → Reading first_stored h.commits (h.file.gate ∷ h.file.tail)
 whole_reading file s h = record {
   good = h.good;
   short = short_commits h.commits h.file.short;
@@ -144,7 +151,8 @@ first_fault_is_one file a b (inl f) (inr g) = absurd (no_header file a g.commits
 first_fault_is_one file a b (inr f) (inl g) = absurd (no_header file b f.commits f.rest g f.spelled)
 first_fault_is_one file a b (inr f) (inr g) =
     let same = same_behind file f.commits g.commits f.rest g.rest f.spelled g.spelled in
-    let one = one_way first_stored f.commits g.commits f.rest g.rest (fault_reading file a f) (fault_reading file b g) same in
+    let one =
+    one_way first_stored f.commits g.commits f.rest g.rest (fault_reading file a f) (fault_reading file b g) same in
     f.place ∙ ap (λ (cs : List Commit). length (records_of (map payload_of cs))) one.0 ∙ sym g.place
 
 no_hold : (file : List ℕ) (at : ℕ) (s : Stored) → IsFirstFault file at → Holds file s → ⊥
@@ -152,7 +160,8 @@ no_hold file at s (inl f) h = no_header file at h.commits (h.file.gate ∷ h.fil
 no_hold file at s (inr f) h =
     let gate = h.file.gate ∷ h.file.tail in
     let same = same_behind file f.commits h.commits f.rest gate f.spelled h.file.spelled in
-    let one = one_way first_stored f.commits h.commits f.rest gate (fault_reading file at f) (whole_reading file s h) same in
+    let one =
+    one_way first_stored f.commits h.commits f.rest gate (fault_reading file at f) (whole_reading file s h) same in
     no_gate f.rest f.reached h.file.gate h.file.tail f.faulty h.file.closed one.1
 
 no_keep : (file : List ℕ) (at : ℕ) (s : Stored) → 8 < length file → IsFirstFault file at → Keeps file s → ⊥

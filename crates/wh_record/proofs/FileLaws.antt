@@ -2,7 +2,8 @@
 --     file_fixes_payloads     its records
 --     file_fixes_stored       what it keeps
 --     file_fixes_state        the state that it stands for
-use Rattle.std.proofs.Common.{◌≡◌, ◌≢◌, ℕ, ◌^◌, ◌<◌, List, [], ◌∷◌, ◌++◌, length, map, Option, Some, refl, sym, ap, subst, ◌∙◌, append_assoc, arith, inl, inr}
+use Rattle.std.proofs.Common.{◌≡◌, ◌≢◌, ℕ, ◌^◌, ◌<◌, List, [], ◌∷◌, ◌++◌, length, map, Option, Some, refl, sym, ap}
+use Rattle.std.proofs.Common.{subst, ◌∙◌, append_assoc, arith, inl, inr}
 use Rattle.std.specs.List.{flat_map, AllByRecursion}
 use Rattle.std.specs.Int.{w64, to_be_bytes}
 use Rattle.std.proofs.lemmas.List.{append_cancel_left}
@@ -19,7 +20,8 @@ use Rattle.wh_record.proofs.CommitLaws.{payload_fixes_commit}
 
 -- ---- records
 
-reads_frame : Reads {X = ℕ × List ℕ} (λ f. to_be_bytes w64 f.0 ++ f.1) (λ f. (f.0 < 2 ^ 64) × (length f.1 ≡ f.0)) (then_at (number_at w64) bytes_at)
+reads_frame : Reads {X = ℕ × List ℕ}
+    (λ f. to_be_bytes w64 f.0 ++ f.1) (λ f. (f.0 < 2 ^ 64) × (length f.1 ≡ f.0)) (then_at (number_at w64) bytes_at)
 reads_frame = reads_then (reads_number wide64) (λ n _. reads_bytes n)
 
 -- a record's bytes fix its payload, and what is behind it
@@ -27,29 +29,36 @@ pub one_frame : (p q x y : List ℕ) → length p < 2 ^ 64 → length q < 2 ^ 64
     → (to_be_bytes w64 (length p) ++ p) ++ x ≡ (to_be_bytes w64 (length q) ++ q) ++ y → (p ≡ q) × (x ≡ y)
 one_frame p q x y hp hq same =
     let both : ◌≡◌ {A = Option ((ℕ × List ℕ) × List ℕ)} (Some ((length p, p), x)) (Some ((length q, q), y)) =
-    sym (reads_frame.again (length p, p) x (hp, refl)) ∙ ap (then_at (number_at w64) bytes_at) same ∙ reads_frame.again (length q, q) y (hq, refl) in
+    sym (reads_frame.again (length p, p) x (hp, refl)) ∙ ap (then_at (number_at w64) bytes_at) same
+    ∙ reads_frame.again (length q, q) y (hq, refl) in
     let pairs = some_is ((length p, p), x) ((length q, q), y) both in
     (ap (λ (z : (ℕ × List ℕ) × List ℕ). z.0.1) pairs, ap (λ (z : (ℕ × List ℕ) × List ℕ). z.1) pairs)
 
-record_split : (p : List ℕ) (ps : List (List ℕ)) (x : List ℕ) → flat_map record_of (p ∷ ps) ++ x ≡ 1 ∷ ((to_be_bytes w64 (length p) ++ p) ++ (flat_map record_of ps ++ x))
+record_split : (p : List ℕ) (ps : List (List ℕ)) (x : List ℕ)
+    → flat_map record_of (p ∷ ps) ++ x ≡ 1 ∷ ((to_be_bytes w64 (length p) ++ p) ++ (flat_map record_of ps ++ x))
 unfolding record_of
-record_split p ps x = ap (λ (l : List ℕ). l ++ x) (flat_map-cons record_of p ps) ∙ append_assoc (record_of p) (flat_map record_of ps) x
+record_split p ps x = ap (λ (l : List ℕ). l ++ x) (flat_map-cons record_of p ps)
+    ∙ append_assoc (record_of p) (flat_map record_of ps) x
 
 pub heads : (a b : ℕ) (x y : List ℕ) → a ∷ x ≡ b ∷ y → (a ≡ b) × (x ≡ y)
 heads a b x y e = (cc, cc)
 
-same_records : (ps qs : List (List ℕ)) (g h : ℕ) (x y : List ℕ)
-    → AllByRecursion (λ payload. length payload < 2 ^ 64) ps → AllByRecursion (λ payload. length payload < 2 ^ 64) qs → g ≢ 1 → h ≢ 1
-    → flat_map record_of ps ++ g ∷ x ≡ flat_map record_of qs ++ h ∷ y → ps ≡ qs
+same_records : (ps qs : List (List ℕ)) (g h : ℕ) (x y : List ℕ) → AllByRecursion (λ payload. length payload < 2 ^ 64) ps
+    → AllByRecursion (λ payload. length payload < 2 ^ 64) qs → g ≢ 1 → h ≢ 1
+    → flat_map record_of ps ++ g ∷ x ≡ flat_map record_of qs ++ h ∷ y
+    → ps ≡ qs
 same_records [] [] g h x y sp sq cg ch same = refl
 same_records [] (q ∷ qs) g h x y sp sq cg ch same =
-    let opened : g ∷ x ≡ 1 ∷ ((to_be_bytes w64 (length q) ++ q) ++ (flat_map record_of qs ++ h ∷ y)) = same ∙ record_split q qs (h ∷ y) in
+    let opened : g ∷ x ≡ 1 ∷ ((to_be_bytes w64 (length q) ++ q) ++ (flat_map record_of qs ++ h ∷ y)) =
+    same ∙ record_split q qs (h ∷ y) in
     absurd (cg (heads g 1 x ((to_be_bytes w64 (length q) ++ q) ++ (flat_map record_of qs ++ h ∷ y)) opened).0)
 same_records (p ∷ ps) [] g h x y sp sq cg ch same =
-    let opened : h ∷ y ≡ 1 ∷ ((to_be_bytes w64 (length p) ++ p) ++ (flat_map record_of ps ++ g ∷ x)) = sym same ∙ record_split p ps (g ∷ x) in
+    let opened : h ∷ y ≡ 1 ∷ ((to_be_bytes w64 (length p) ++ p) ++ (flat_map record_of ps ++ g ∷ x)) =
+    sym same ∙ record_split p ps (g ∷ x) in
     absurd (ch (heads h 1 y ((to_be_bytes w64 (length p) ++ p) ++ (flat_map record_of ps ++ g ∷ x)) opened).0)
 same_records (p ∷ ps) (q ∷ qs) g h x y sp sq cg ch same =
-    let behind = (heads 1 1 ((to_be_bytes w64 (length p) ++ p) ++ (flat_map record_of ps ++ g ∷ x)) ((to_be_bytes w64 (length q) ++ q) ++ (flat_map record_of qs ++ h ∷ y))
+    let behind = (heads 1 1 ((to_be_bytes w64 (length p) ++ p) ++ (flat_map record_of ps ++ g ∷ x))
+    ((to_be_bytes w64 (length q) ++ q) ++ (flat_map record_of qs ++ h ∷ y))
     (sym (record_split p ps (g ∷ x)) ∙ same ∙ record_split q qs (h ∷ y))).1 in
     let first = one_frame p q (flat_map record_of ps ++ g ∷ x) (flat_map record_of qs ++ h ∷ y) sp.0 sq.0 behind in
     let rest = same_records ps qs g h x y sp.1 sq.1 cg ch first.1 in
@@ -58,14 +67,19 @@ same_records (p ∷ ps) (q ∷ qs) g h x y sp sq cg ch same =
 pub file_fixes_payloads : FileFixesPayloads
 unfolding records_of
 file_fixes_payloads ps qs bytes f g =
-    let regrouped : header ++ (flat_map record_of ps ++ f.gate ∷ f.tail) ≡ header ++ (flat_map record_of qs ++ g.gate ∷ g.tail) =
-    sym (append_assoc header (flat_map record_of ps) (f.gate ∷ f.tail)) ∙ sym f.spelled ∙ g.spelled ∙ append_assoc header (flat_map record_of qs) (g.gate ∷ g.tail) in
+    let regrouped : header ++ (flat_map record_of ps ++ f.gate ∷ f.tail)
+    ≡ header ++ (flat_map record_of qs ++ g.gate ∷ g.tail) =
+    sym (append_assoc header (flat_map record_of ps) (f.gate ∷ f.tail)) ∙ sym f.spelled ∙ g.spelled
+    ∙ append_assoc header (flat_map record_of qs) (g.gate ∷ g.tail) in
     same_records ps qs f.gate g.gate f.tail g.tail f.short g.short f.closed g.closed
-    (append_cancel_left header (flat_map record_of ps ++ f.gate ∷ f.tail) (flat_map record_of qs ++ g.gate ∷ g.tail) regrouped)
+    (append_cancel_left header
+    (flat_map record_of ps ++ f.gate ∷ f.tail) (flat_map record_of qs ++ g.gate ∷ g.tail) regrouped)
 
 -- ---- commits and states
 
-same_commits : (cs ds : List Commit) → AllByRecursion IsCommit cs → AllByRecursion IsCommit ds → map payload_of cs ≡ map payload_of ds → cs ≡ ds
+same_commits : (cs ds : List Commit) → AllByRecursion IsCommit cs → AllByRecursion IsCommit ds
+    → map payload_of cs ≡ map payload_of ds
+    → cs ≡ ds
 same_commits [] [] gc gd same = refl
 same_commits [] (d ∷ ds) gc gd same = absurd cc
 same_commits (c ∷ cs) [] gc gd same = absurd cc
@@ -80,7 +94,8 @@ leads_to_one (c ∷ cs) old s t hs ht = leads_to_one cs (applied old c) s t hs.1
 
 pub holds_one : (bytes : List ℕ) (s t : Stored) → Holds bytes s → Holds bytes t → s ≡ t
 holds_one bytes s t h k =
-    let same = same_commits h.commits k.commits h.good k.good (file_fixes_payloads (map payload_of h.commits) (map payload_of k.commits) bytes h.file k.file) in
+    let same = same_commits h.commits k.commits h.good k.good
+    (file_fixes_payloads (map payload_of h.commits) (map payload_of k.commits) bytes h.file k.file) in
     leads_to_one k.commits first_stored s t (subst (λ (cs : List Commit). Leads first_stored cs s) same h.leads) k.leads
 
 pub file_fixes_stored : FileFixesStored

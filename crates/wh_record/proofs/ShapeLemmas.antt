@@ -7,7 +7,9 @@ use Rattle.wh_frame.specs.Spelling.{IsPartition, IsNumberedRow}
 use Rattle.wh_part.specs.Shape.{HasWideNumber, IsShaped}
 use Rattle.wh_record.specs.View.{HasRow, HasRows}
 
-numbered_rows : (width : ℕ) (rows : List (ℕ × Row)) → AllByRecursion HasWideNumber rows → AllByRecursion (HasRow width) rows → AllByRecursion (IsNumberedRow width) rows
+numbered_rows : (width : ℕ) (rows : List (ℕ × Row)) → AllByRecursion HasWideNumber rows
+    → AllByRecursion (HasRow width) rows
+    → AllByRecursion (IsNumberedRow width) rows
 numbered_rows width [] wide valued = tt
 numbered_rows width (e ∷ es) wide valued = ((wide.0, valued.0.0, valued.0.1), numbered_rows width es wide.1 valued.1)
 

@@ -12,10 +12,12 @@ four_written a b c d before one two three after p q r s =
     whole ∙ simp append_assoc
 
 -- the stamp and the changes are the commit
-pub commit_written : (c : Commit) (before one after : List ℕ)
-    → one ≡ before ++ to_be_bytes w64 c.stamp → after ≡ one ++ list_bytes change_bytes c.changes → after ≡ before ++ payload_of c
+pub commit_written : (c : Commit) (before one after : List ℕ) → one ≡ before ++ to_be_bytes w64 c.stamp
+    → after ≡ one ++ list_bytes change_bytes c.changes
+    → after ≡ before ++ payload_of c
 unfolding payload_of
-commit_written c before one after p q = two_written (to_be_bytes w64 c.stamp) (list_bytes change_bytes c.changes) before one after p q
+commit_written c before one after p q =
+    two_written (to_be_bytes w64 c.stamp) (list_bytes change_bytes c.changes) before one after p q
   where
     two_written : (a b before one after : List ℕ) → one ≡ before ++ a → after ≡ one ++ b → after ≡ before ++ (a ++ b)
     two_written a b before one after p q = q ∙ ap (λ (l : List ℕ). l ++ b) p ∙ append_assoc before a b

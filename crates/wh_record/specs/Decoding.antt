@@ -1,5 +1,6 @@
 -- Reading commits.
-use Rattle.std.specs.Prelude.{ℕ, zero, suc, ◌+◌, Bool, true, ◌&&◌, List, [], ◌∷◌, length, Option, Some, None, nat_le, ◌==◌, if◌then◌else◌}
+use Rattle.std.specs.Prelude.{ℕ, zero, suc, ◌+◌, Bool, true, ◌&&◌, List, [], ◌∷◌, length, Option, Some, None, nat_le}
+use Rattle.std.specs.Prelude.{◌==◌, if◌then◌else◌}
 use Rattle.std.specs.Int.{w32, w64}
 use Rattle.wh_value.specs.Column.{Column, ColumnType, NumberType, VarcharType, BooleanType}
 use Rattle.wh_machine.specs.Commit.{TableChange, VersionChange, Change, CreatesTable, Drops, PushesVersion, Commit}
@@ -19,7 +20,8 @@ column_at bytes = as_at (λ p. record { name = p.0; column_type = p.1 }) (then_a
 
 unfoldable pub table_at : Reader TableChange
 table_at bytes = as_at (λ p. record { id = p.0; name = p.1.0; retention = p.1.1.0; columns = p.1.1.1 })
-    (then_at (number_at w32) (λ _. then_at text_at (λ _. then_at byte_at (λ _. list_at (number_at w32) column_at)))) bytes
+    (then_at (number_at w32) (λ _. then_at text_at (λ _. then_at byte_at (λ _. list_at (number_at w32) column_at))))
+    bytes
 
 -- whether numbers rise, from a least one on
 abbrev pub numbers_rise : ℕ → List ℕ → Bool
@@ -31,7 +33,14 @@ removed_at bytes = where_at (numbers_rise 0) (list_at (number_at w32) (number_at
 
 unfoldable pub version_at : Reader VersionChange
 version_at bytes =
-    as_at (λ p. record { id = p.0; data_timestamp = p.1.0; next_row = p.1.1.0; width = p.1.1.1.0; removed = p.1.1.1.1.0; added = p.1.1.1.1.1 })
+    as_at (λ p. record {
+      id = p.0;
+      data_timestamp = p.1.0;
+      next_row = p.1.1.0;
+      width = p.1.1.1.0;
+      removed = p.1.1.1.1.0;
+      added = p.1.1.1.1.1;
+    })
     (then_at (number_at w32) (λ _. then_at (number_at w64) (λ _. then_at (number_at w64) (λ _. then_at (number_at w32)
     (λ width. then_at removed_at (λ _. list_at (number_at w32) (partition_at width))))))) bytes
 
@@ -47,7 +56,8 @@ unfoldable pub change_at : Reader Change
 change_at bytes = byte_at bytes >>= λ tag. change_behind tag.0 tag.1
 
 unfoldable pub commit_at : Reader Commit
-commit_at bytes = as_at (λ p. record { stamp = p.0; changes = p.1 }) (then_at (number_at w64) (λ _. list_at (number_at w32) change_at)) bytes
+commit_at bytes = as_at (λ p. record { stamp = p.0; changes = p.1 })
+    (then_at (number_at w64) (λ _. list_at (number_at w32) change_at)) bytes
 
 -- the commit that all of the bytes spell
 unfoldable pub commit_of_all : List ℕ → Option Commit

@@ -36,4 +36,5 @@ FirstFaultIsOne = (file : List ℕ) (a b : ℕ) → IsFirstFault file a → IsFi
 
 -- a longer file than 8 bytes that has a first fault stands for no state
 abbrev pub FaultyFileStandsForNone : Type 0
-FaultyFileStandsForNone = (file : List ℕ) (at : ℕ) (state : State) → 8 < length file → IsFirstFault file at → Stands file state → ⊥
+FaultyFileStandsForNone = (file : List ℕ) (at : ℕ) (state : State) → 8 < length file → IsFirstFault file at
+    → Stands file state → ⊥

@@ -14,7 +14,8 @@ use Rattle.wh_record.specs.declared.commit.Change.TheVariants.{CreatesTable, Dro
 use Rattle.wh_record.specs.declared.commit.Commit.{Commit}
 
 abbrev pub table_change_of : TableChange → machine.TableChange
-table_change_of c = record { id = c.id; name = c.name; retention = c.retention; columns = map column_of c.columns.items }
+table_change_of c =
+    record { id = c.id; name = c.name; retention = c.retention; columns = map column_of c.columns.items }
 
 abbrev pub version_change_of : VersionChange → machine.VersionChange
 version_change_of c = record {

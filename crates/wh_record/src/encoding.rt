@@ -2,7 +2,9 @@ ghost use Rattle.std.specs.Prelude.{◌≡◌, ◌<◌, ◌^◌, ◌∷◌, [], 
 ghost use Rattle.std.specs.List.{flat_map, AllByRecursion};
 ghost use Rattle.std.specs.Int.{w32, w64, to_be_bytes};
 ghost use Rattle.wh_frame.specs.Spelling.{list_bytes, partition_bytes, IsPartition};
-ghost use Rattle.wh_machine.specs.Spelling.{type_byte, column_bytes, table_bytes, version_bytes, change_bytes, payload_of, NumbersRiseFrom, IsColumn, IsTableChange, IsVersionChange, IsChange, IsCommit};
+ghost use Rattle.wh_machine.specs.Spelling.{type_byte, column_bytes, table_bytes, version_bytes, change_bytes};
+ghost use Rattle.wh_machine.specs.Spelling.{payload_of, NumbersRiseFrom, IsColumn, IsTableChange, IsVersionChange};
+ghost use Rattle.wh_machine.specs.Spelling.{IsChange, IsCommit};
 ghost use Rattle.wh_value.specs.View.{type_of, column_of};
 ghost use Rattle.wh_record.specs.View.{table_change_of, version_change_of, change_of, commit_of};
 

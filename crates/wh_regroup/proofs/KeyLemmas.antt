@@ -8,14 +8,17 @@ use Rattle.std.proofs.lemmas.List.{length-map}
 use Rattle.wh_meaning.specs.Scalar.{Scalar, Const, Column, Neg, Add, Sub, Mul, Compare, And, Or, Not, IsNull}
 use Rattle.wh_naming.specs.Grouping.{is_same, regrouped}
 
-prefix_len-map : {A B : Type 0} (f : A → B) (test : B → Bool) (xs : List A) → prefix_len (λ x. test (f x)) xs ≡ prefix_len test (map f xs)
+prefix_len-map : {A B : Type 0} (f : A → B) (test : B → Bool) (xs : List A)
+    → prefix_len (λ x. test (f x)) xs ≡ prefix_len test (map f xs)
 prefix_len-map f test [] = refl
 prefix_len-map f test (x ∷ xs) = ap (λ n. cond (test (f x)) (1 + n) 0) (prefix_len-map f test xs)
 
-pub position-map : {A B : Type 0} (f : A → B) (test : B → Bool) (xs : List A) → position (λ x. test (f x)) xs ≡ position test (map f xs)
+pub position-map : {A B : Type 0} (f : A → B) (test : B → Bool) (xs : List A)
+    → position (λ x. test (f x)) xs ≡ position test (map f xs)
 position-map f test xs = rw (prefix_len-map f (λ y. not (test y)) xs, ← length-map xs f) refl
 
-pub key_first : (keys : List Scalar) (width : ℕ) (part : Scalar) (place : ℕ) → position (is_same part) keys ≡ Some place →
+pub key_first : (keys : List Scalar) (width : ℕ) (part : Scalar) (place : ℕ) →
+    position (is_same part) keys ≡ Some place →
     regrouped keys width part ≡ Some (Column place)
 unfolding regrouped
 key_first keys width (Const v) place e = rw e refl

@@ -1,5 +1,6 @@
 -- How a scalar is put over the rows of groups.
---     Regroups                  what a fallible regrouping gives: the scalar that is meant, or the fault where there is none
+--     Regroups                  what a fallible regrouping gives: the scalar that is meant, or
+--                               the fault where there is none
 --     with_part, with_sides     the operator of a scalar over other parts
 use Rattle.std.specs.Prelude.{◌≡◌, Option, Some, None, Result, Ok, Err}
 use Rattle.wh_meaning.specs.Scalar as meaning

@@ -31,7 +31,8 @@ put_in m k x = entries-insert nat_cmp_total m k x
 none_in : {X : Type 0} → entries (empty {K = ℕ} {X = X} {R = nat_cmp}) ≡ []
 none_in {X} = nil_from_length _ (sym (len-entries empty) ∙ len-empty nat_cmp X)
 
-got : {X : Type 0} (m : FinMap nat_cmp X) (k : ℕ) (x : X) (q : ℕ) → get (insert m k x) q ≡ cond (eq_by_cmp nat_cmp q k) (Some x) (get m q)
+got : {X : Type 0} (m : FinMap nat_cmp X) (k : ℕ) (x : X) (q : ℕ)
+    → get (insert m k x) q ≡ cond (eq_by_cmp nat_cmp q k) (Some x) (get m q)
 got m k x q = get-insert nat_cmp_total m k x q
 
 got_none : {X : Type 0} (q : ℕ) → get (empty {K = ℕ} {X = X} {R = nat_cmp}) q ≡ None
@@ -44,7 +45,8 @@ first = record { rows = empty; added = row 30 ∷ row 40 ∷ [] }
 
 -- the added rows are seen under the numbers 3 and 4
 abbrev second : Edits
-second = record { rows = insert (insert (insert empty 3 None) 4 (Some (row 41))) 1 (Some (row 11)); added = row 50 ∷ [] }
+second =
+    record { rows = insert (insert (insert empty 3 None) 4 (Some (row 41))) 1 (Some (row 11)); added = row 50 ∷ [] }
 
 -- a row that was added and deleted takes no number
 both : later_edits 3 first second ≡ record { rows = insert empty 1 (Some (row 11)); added = row 41 ∷ row 50 ∷ [] }
@@ -54,7 +56,8 @@ both = simp (put_in, none_in, got)
 abbrev committed : Rows
 committed = insert (insert empty 1 (row 10)) 2 (row 20)
 
-seen_rows : entries (rows_after 3 (later_edits 3 first second) committed) ≡ (1, row 11) ∷ (2, row 20) ∷ (3, row 41) ∷ (4, row 50) ∷ []
+seen_rows : entries (rows_after 3 (later_edits 3 first second) committed)
+    ≡ (1, row 11) ∷ (2, row 20) ∷ (3, row 41) ∷ (4, row 50) ∷ []
 unfolding rows_after later_edits
 seen_rows = simp (put_in, none_in, got, got_none)
 

@@ -2,7 +2,8 @@
 --     whole_replies      how many replies stand whole in the bytes that were written
 --     most_events        how many events may have been carried out by then
 --     committed_after    the state that a file keeps after the first events
---     StandsWithin       an image stands for what was committed after some number of events, and is sound if the start was
+--     StandsWithin       an image stands for what was committed after some number of events,
+--                        and is sound if the start was
 use Rattle.std.specs.Prelude.{ℕ, ◌+◌, ◌-◌, ◌≤◌, min, List, [], ◌∷◌, length, take, nat_le, if◌then◌else◌}
 use Rattle.wh_machine.specs.State.{State}
 use Rattle.wh_reply.specs.Reply.{print}

@@ -17,7 +17,8 @@ writes_none (Some bytes) = ap Some (sym (append-nil bytes))
 
 -- it may not have been carried out, and nothing was written
 pub halts_before : (told : Type 0) (may_leave : List ℕ → Type 0) (s : State) (event : Event) (held : Option (List ℕ)) →
-    (told → (image : List ℕ) → may_leave image → StandsForEither s (step s event).0 image) → Halts told may_leave s event held held
+    (told → (image : List ℕ) → may_leave image → StandsForEither s (step s event).0 image)
+    → Halts told may_leave s event held held
 halts_before told may_leave s event held leaves = record {
   front = [];
   rest = print (step s event).1;
@@ -27,7 +28,8 @@ halts_before told may_leave s event held leaves = record {
 }
 
 -- it was carried out, and a front of its reply was written
-pub halts_behind : (told : Type 0) (may_leave : List ℕ → Type 0) (s new : State) (event : Event) (held held_new : Option (List ℕ)) →
+pub halts_behind : (told : Type 0) (may_leave : List ℕ → Type 0)
+    (s new : State) (event : Event) (held held_new : Option (List ℕ)) →
     new ≡ (step s event).0 → (told → (image : List ℕ) → may_leave image → Stands image (at_rest new)) →
     WritesFront (print (step s event).1) held held_new → Halts told may_leave s event held held_new
 halts_behind told may_leave s new event held held_new state leaves writes = record {

@@ -3,7 +3,8 @@
 --     within_more      behind the first events, so many more
 --     within_none      no event was carried out
 --     within_either    the first events, or one more
-use Rattle.std.proofs.Common.{◌≡◌, inl, inr, ℕ, ◌+◌, ◌≤◌, List, [], ◌∷◌, ◌++◌, length, take, refl, sym, ap, subst, ◌∙◌, append_assoc, arith, length-append}
+use Rattle.std.proofs.Common.{◌≡◌, inl, inr, ℕ, ◌+◌, ◌≤◌, List, [], ◌∷◌, ◌++◌, length, take, refl, sym, ap, subst, ◌∙◌}
+use Rattle.std.proofs.Common.{append_assoc, arith, length-append}
 use Rattle.std.proofs.Math.Seq.{take-append_seam, take-append-add}
 use Rattle.wh_machine.specs.State.{State, at_rest}
 use Rattle.wh_machine.specs.Step.{Event, step, after}
@@ -29,46 +30,59 @@ counted start es count least most image low high is = record {
 }
 
 -- the state after the first events
-pub within_front : (start : State) (es done others : List Event) (least most : ℕ) (image : List ℕ) → done ++ others ≡ es →
-    least ≤ length done → length done ≤ most → Stands image (at_rest (after start done)) → StandsWithin start es least most image
+pub within_front : (start : State) (es done others : List Event) (least most : ℕ) (image : List ℕ) →
+    done ++ others ≡ es →
+    least ≤ length done → length done ≤ most → Stands image (at_rest (after start done))
+    → StandsWithin start es least most image
 within_front start es done others least most image parts low high is =
     let first : take (length done) es ≡ done = ap (take (length done)) (sym parts) ∙ take-append_seam done others in
     counted start es (length done) least most image low high
     (subst (λ (fs : List Event). Stands image (at_rest (after start fs))) (sym first) is)
 
 -- the state that so many more events lead to
-pub within_more : (start : State) (es done others : List Event) (least most low high : ℕ) (image : List ℕ) → done ++ others ≡ es →
+pub within_more : (start : State) (es done others : List Event) (least most low high : ℕ) (image : List ℕ) →
+    done ++ others ≡ es →
     low ≤ length done + least → length done + most ≤ high → StandsWithin (after start done) others least most image →
     StandsWithin start es low high image
 within_more start es done others least most low high image parts lower higher within =
     let first : take (length done + within.count) es ≡ done ++ take within.count others =
     ap (take (length done + within.count)) (sym parts) ∙ take-append-add done others within.count in
-    let state : after start (take (length done + within.count) es) ≡ after (after start done) (take within.count others) =
+    let state : after start (take (length done + within.count) es)
+    ≡ after (after start done) (take within.count others) =
     ap (after start) first ∙ after_append start done (take within.count others) in
     counted start es (length done + within.count) low high image
     (omega (arith, within.at_least)) (omega (arith, within.at_most))
     (subst (λ (s : State). Stands image (at_rest s)) (sym state) within.stands)
 
 -- what is within narrower bounds is within wider ones
-pub within_wider : (start : State) (es : List Event) (least most low high : ℕ) → low ≤ least → most ≤ high → (image : List ℕ) →
+pub within_wider : (start : State) (es : List Event) (least most low high : ℕ) → low ≤ least →
+    most ≤ high → (image : List ℕ) →
     StandsWithin start es least most image → StandsWithin start es low high image
 within_wider start es least most low high lower higher image within =
-    counted start es within.count low high image (omega (arith, within.at_least)) (omega (arith, within.at_most)) within.stands
+    counted start es within.count low high image (omega (arith, within.at_least))
+    (omega (arith, within.at_most)) within.stands
 
 -- no event was carried out
-pub within_none : (start : State) (es : List Event) (least most : ℕ) (image : List ℕ) → least ≤ 0 → StandsForEither start start image →
+pub within_none : (start : State) (es : List Event) (least most : ℕ) (image : List ℕ) → least ≤ 0 →
+    StandsForEither start start image →
     StandsWithin start es least most image
-within_none start es least most image low (inl is) = within_front start es [] es least most image refl low (omega arith) is
-within_none start es least most image low (inr is) = within_front start es [] es least most image refl low (omega arith) is
+within_none start es least most image low (inl is) =
+    within_front start es [] es least most image refl low (omega arith) is
+within_none start es least most image low (inr is) =
+    within_front start es [] es least most image refl low (omega arith) is
 
 -- the first events, or one more
-pub within_either : (start now new : State) (es done others : List Event) (event : Event) (image : List ℕ) → done ++ event ∷ others ≡ es →
-    now ≡ after start done → new ≡ (step now event).0 → StandsForEither now new image → StandsWithin start es 0 (length (done ++ event ∷ [])) image
+pub within_either : (start now new : State) (es done others : List Event) (event : Event) (image : List ℕ) →
+    done ++ event ∷ others ≡ es →
+    now ≡ after start done → new ≡ (step now event).0 → StandsForEither now new image
+    → StandsWithin start es 0 (length (done ++ event ∷ [])) image
 within_either start now new es done others event image parts state stepped (inl is) =
-    within_front start es done (event ∷ others) 0 (length (done ++ event ∷ [])) image parts (omega arith) (omega (arith, length-append done (event ∷ [])))
+    within_front start es done (event ∷ others) 0 (length (done ++ event ∷ [])) image parts (omega arith)
+    (omega (arith, length-append done (event ∷ [])))
     (subst (λ (s : State). Stands image (at_rest s)) state is)
 within_either start now new es done others event image parts state stepped (inr is) =
     let one : new ≡ after start (done ++ event ∷ []) =
     stepped ∙ ap (λ s. (step s event).0) state ∙ sym (after_append start done (event ∷ [])) in
-    within_front start es (done ++ event ∷ []) others 0 (length (done ++ event ∷ [])) image (append_assoc done (event ∷ []) others ∙ parts) (omega arith) (omega arith)
+    within_front start es (done ++ event ∷ []) others 0 (length (done ++ event ∷ [])) image
+    (append_assoc done (event ∷ []) others ∙ parts) (omega arith) (omega arith)
     (subst (λ (s : State). Stands image (at_rest s)) one is)

@@ -1,7 +1,8 @@
 -- The status of a run, and its exit code.
 use Rattle.std.specs.Prelude.{ℕ, zero, suc, Result, Ok, Err}
 use Rattle.wh_shell.specs.declared.fault.Fault.{Fault}
-use Rattle.wh_shell.specs.declared.fault.Fault.TheVariants.{OutOfMemory, Disk, Script, Output, NotWarehouse, FileFull, ScriptTooLong}
+use Rattle.wh_shell.specs.declared.fault.Fault.TheVariants.{OutOfMemory, Disk, Script, Output}
+use Rattle.wh_shell.specs.declared.fault.Fault.TheVariants.{NotWarehouse, FileFull, ScriptTooLong}
 use Rattle.wh_shell.specs.declared.status.Status.{Status}
 use Rattle.wh_shell.specs.declared.status.Status.TheVariants.{Usage, Read, Stopped}
 

@@ -9,7 +9,8 @@ use Rattle.wh_engine.specs.Event.{command}
 -- a session's line sets the session, and a tick's number the reading
 abbrev pub events_from : ℕ → ℕ → List Line → List Event
 events_from session reading [] = []
-events_from session reading (CommandLine text ∷ lines) = command reading session text ∷ events_from session reading lines
+events_from session reading (CommandLine text ∷ lines) =
+    command reading session text ∷ events_from session reading lines
 events_from session reading (SessionLine n ∷ lines) = events_from n reading lines
 events_from session reading (TickLine None ∷ lines) = Tick reading ∷ events_from session reading lines
 events_from session reading (TickLine (Some n) ∷ lines) = Tick n ∷ events_from session n lines

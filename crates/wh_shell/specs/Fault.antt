@@ -9,7 +9,8 @@ use Rattle.wh_engine.specs.declared.fault.Halt.TheVariants as halts
 use Rattle.wh_engine.specs.declared.fault.OpenFault.{OpenFault}
 use Rattle.wh_engine.specs.declared.fault.OpenFault.TheVariants as opens
 use Rattle.wh_shell.specs.declared.fault.Fault.{Fault}
-use Rattle.wh_shell.specs.declared.fault.Fault.TheVariants.{OutOfMemory, Disk, Script, Output, NotWarehouse, FileFull, ScriptTooLong}
+use Rattle.wh_shell.specs.declared.fault.Fault.TheVariants.{OutOfMemory, Disk, Script, Output}
+use Rattle.wh_shell.specs.declared.fault.Fault.TheVariants.{NotWarehouse, FileFull, ScriptTooLong}
 
 abbrev pub fault_of_script : ScriptFault → Fault
 fault_of_script scripts.OutOfMemory = OutOfMemory
@@ -29,7 +30,8 @@ fault_of_open opens.DiskFault = Disk
 fault_of_open (opens.NotWarehouse at) = NotWarehouse at
 
 -- A fault of a device has its cause there, and the others say what their numbers are. Memory may always be wanting.
-abbrev pub HasCause : (disk script output : Type 0) → (foreign : ℕ → Type 0) → (full : ℕ → ℕ → Type 0) → (long : ℕ → Type 0) → Fault → Type 0
+abbrev pub HasCause : (disk script output : Type 0) → (foreign : ℕ → Type 0) → (full : ℕ → ℕ → Type 0)
+    → (long : ℕ → Type 0) → Fault → Type 0
 HasCause disk script output foreign full long OutOfMemory = Unit {0}
 HasCause disk script output foreign full long Disk = disk
 HasCause disk script output foreign full long Script = script

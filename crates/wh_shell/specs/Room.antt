@@ -74,7 +74,8 @@ FillsBy (Read refusals) first = first ≡ None
 FillsBy (Stopped why) first = (len need : ℕ) → why ≡ FileFull len need → first ≡ Some (len, need)
 
 -- of a run over a file that says `s`: its gate ends somewhere, and the room behind it is what the status says
-pub record Fills (limit : ℕ) (file : List ℕ) (s : Stored) (start : State) (es : List Event) (status : Status) : Type 0 where
+pub record Fills (limit : ℕ) (file : List ℕ) (s : Stored) (start : State) (es : List Event)
+    (status : Status) : Type 0 where
   pub end : ℕ
   pub gate : GateEndsAt file end
   pub fills : FillsBy status (overflow limit end s start es)

@@ -6,7 +6,8 @@
 --     IsForeign, RefusesFile     a file that stands for no state, and what it may be answered
 --     Rejects                    that it is no warehouse
 --     WasTooLong                 so many bytes were taken, and they are too many
-use Rattle.std.specs.Prelude.{◌≡◌, ◌⊎◌, ℕ, ◌+◌, ◌<◌, ◌^◌, List, [], ◌∷◌, ◌++◌, map, length, codes, Option, Some, String, string_bytes}
+use Rattle.std.specs.Prelude.{◌≡◌, ◌⊎◌, ℕ, ◌+◌, ◌<◌, ◌^◌, List, [], ◌∷◌, ◌++◌, map, length, codes, Option}
+use Rattle.std.specs.Prelude.{Some, String, string_bytes}
 use Rattle.std.specs.Global.{Global}
 use Rattle.wh_machine.specs.State.{State, at_rest}
 use Rattle.wh_machine.specs.Step.{Event, after, text, refusals}
@@ -24,7 +25,8 @@ abbrev pub IsRun : List (String Global) → Type 0
 IsRun words = map string_bytes words ≡ codes "run" ∷ []
 
 -- the file, which stands for a state, the script, whose events are those, and what was written before
-pub record IsStart (bytes left held : Option (List ℕ)) (file input before : List ℕ) (start : State) (es : List Event) : Type 0 where
+pub record IsStart (bytes left held : Option (List ℕ)) (file input before : List ℕ)
+    (start : State) (es : List Event) : Type 0 where
   pub told_file : bytes ≡ Some file
   pub told_script : left ≡ Some input
   pub told_output : held ≡ Some before
@@ -32,7 +34,8 @@ pub record IsStart (bytes left held : Option (List ℕ)) (file input before : Li
   pub events : IsScript input es
 
 -- the script was read to its end: its whole text was written, and the file stands for the state after all events
-pub record IsWhole (start : State) (es : List Event) (held : List ℕ) (count : ℕ) (held_new bytes_new left_new : Option (List ℕ)) : Type 0 where
+pub record IsWhole (start : State) (es : List Event) (held : List ℕ)
+    (count : ℕ) (held_new bytes_new left_new : Option (List ℕ)) : Type 0 where
   pub written : held_new ≡ Some (held ++ text start es)
   pub refused : count ≡ refusals start es
   pub read : left_new ≡ Some []
@@ -71,10 +74,12 @@ pub record IsForeign (file : List ℕ) : Type 0 where
 
 -- that it is no warehouse, or a fault that came first
 abbrev pub RefusesFile : Status → Type 0
-RefusesFile status = ((at : ℕ) × (status ≡ Stopped (NotWarehouse at))) ⊎ ((status ≡ Stopped OutOfMemory) ⊎ (status ≡ Stopped Disk))
+RefusesFile status = ((at : ℕ) × (status ≡ Stopped (NotWarehouse at)))
+    ⊎ ((status ≡ Stopped OutOfMemory) ⊎ (status ≡ Stopped Disk))
 
 -- the file's first fault is there, and it stays as it was, whatever a crash then does
-pub record Rejects (at : ℕ) (file : List ℕ) (bytes_new : Option (List ℕ)) (may_leave_new : List ℕ → Type 0) : Type 0 where
+pub record Rejects (at : ℕ) (file : List ℕ) (bytes_new : Option (List ℕ))
+    (may_leave_new : List ℕ → Type 0) : Type 0 where
   pub foreign : IsForeign file
   pub first_fault : IsFirstFault file at
   pub same : bytes_new ≡ Some file
@@ -83,4 +88,6 @@ pub record Rejects (at : ℕ) (file : List ℕ) (bytes_new : Option (List ℕ)) 
 -- more than 2^30 bytes were taken, and that many
 pub record WasTooLong (taken : ℕ) (left_old left_new : Option (List ℕ)) : Type 0 where
   pub long : 2 ^ 30 < taken
-  pub counted : (input : List ℕ) → left_old ≡ Some input → (rest : List ℕ) × (left_new ≡ Some rest) × (length input ≡ taken + length rest)
+  pub counted : (input : List ℕ)
+      → left_old ≡ Some input
+      → (rest : List ℕ) × (left_new ≡ Some rest) × (length input ≡ taken + length rest)

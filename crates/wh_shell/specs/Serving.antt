@@ -25,7 +25,8 @@ pub record Replies (old new : State) (event : Event) (held held_new : Option (Li
   pub refused : count ≡ refusals_of old event
 
 -- of told events and told output: the first of them was carried out
-pub record AnswersFirst (old new : State) (es : List Event) (held : List ℕ) (left_new : Option (List Event)) (held_new : Option (List ℕ)) (count : ℕ) : Type 0 where
+pub record AnswersFirst (old new : State) (es : List Event) (held : List ℕ) (left_new : Option (List Event))
+    (held_new : Option (List ℕ)) (count : ℕ) : Type 0 where
   pub event : Event
   pub rest : List Event
   pub left : left_new ≡ Some rest
@@ -35,12 +36,17 @@ pub record AnswersFirst (old new : State) (es : List Event) (held : List ℕ) (l
   pub refused : count ≡ refusals_of old event
 
 -- so where events and output are told, and at most one reply more was a refusal
-pub record Answers (old new : State) (left left_new : Option (List Event)) (held held_new : Option (List ℕ)) (count : ℕ) : Type 0 where
+pub record Answers (old new : State) (left left_new : Option (List Event)) (held held_new : Option (List ℕ))
+    (count : ℕ) : Type 0 where
   pub few : count ≤ 1
-  pub each : (es : List Event) (before : List ℕ) → left ≡ Some es → held ≡ Some before → AnswersFirst old new es before left_new held_new count
+  pub each : (es : List Event) (before : List ℕ)
+      → left ≡ Some es
+      → held ≡ Some before
+      → AnswersFirst old new es before left_new held_new count
 
 -- no event was left, and the source has nothing left
-pub record Finds (old new : State) (left left_new : Option (List Event)) (source_new held held_new : Option (List ℕ)) : Type 0 where
+pub record Finds (old new : State) (left left_new : Option (List Event))
+    (source_new held held_new : Option (List ℕ)) : Type 0 where
   pub state : new ≡ old
   pub ends : EndsEvents left left_new source_new
   pub written : held_new ≡ held
@@ -50,22 +56,28 @@ pub record Stops (old : State) (left : Option (List Event)) (held held_new : Opt
   pub each : (es : List Event) (before : List ℕ) → left ≡ Some es → held ≡ Some before → IsFront old es before held_new
 
 -- of told events and told output: all of them were carried out
-pub record ServesAll (start new : State) (es : List Event) (held : List ℕ) (count : ℕ) (held_new left_new : Option (List ℕ)) : Type 0 where
+pub record ServesAll (start new : State) (es : List Event) (held : List ℕ)
+    (count : ℕ) (held_new left_new : Option (List ℕ)) : Type 0 where
   pub state : new ≡ after start es
   pub written : held_new ≡ Some (held ++ text start es)
   pub refused : count ≡ refusals start es
   pub read : left_new ≡ Some []
 
 -- so where events and output are told
-pub record Serves (start new : State) (left : Option (List Event)) (held held_new left_new : Option (List ℕ)) (count : ℕ) : Type 0 where
-  pub each : (es : List Event) (before : List ℕ) → left ≡ Some es → held ≡ Some before → ServesAll start new es before count held_new left_new
+pub record Serves (start new : State) (left : Option (List Event)) (held held_new left_new : Option (List ℕ))
+    (count : ℕ) : Type 0 where
+  pub each : (es : List Event) (before : List ℕ)
+      → left ≡ Some es
+      → held ≡ Some before
+      → ServesAll start new es before count held_new left_new
 
 -- ---- the turns so far
 
 -- of told events and told output: the first events were carried out, and their whole text was written; over a told file
 -- a crash so far left what was committed after some of them
 pub record GoesOn {D : Type 0} (moment : D → ℕ) (left_since : D → ℕ → List ℕ → Type 0) (told : Type 0) (first last : D)
-    (start now : State) (es : List Event) (before : List ℕ) (left : Option (List Event)) (held : Option (List ℕ)) (count : ℕ) : Type 0 where
+    (start now : State) (es : List Event) (before : List ℕ) (left : Option (List Event)) (held : Option (List ℕ))
+    (count : ℕ) : Type 0 where
   pub rest : List Event
   pub left_is : left ≡ Some rest
   pub done : List Event
@@ -77,6 +89,7 @@ pub record GoesOn {D : Type 0} (moment : D → ℕ) (left_since : D → ℕ → 
 
 -- so where events and output are told
 pub record Goes {D : Type 0} (moment : D → ℕ) (left_since : D → ℕ → List ℕ → Type 0) (told : Type 0) (first last : D)
-    (start now : State) (left_start left : Option (List Event)) (held_start held : Option (List ℕ)) (count : ℕ) : Type 0 where
+    (start now : State) (left_start left : Option (List Event)) (held_start held : Option (List ℕ))
+    (count : ℕ) : Type 0 where
   pub each : (es : List Event) (before : List ℕ) → left_start ≡ Some es → held_start ≡ Some before →
       GoesOn moment left_since told first last start now es before left held count

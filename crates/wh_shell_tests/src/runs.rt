@@ -129,7 +129,8 @@ fn scripts_are_answered(rt: HostRuntime) {
               INSERT INTO T VALUES (999999999999999999), (-999999999999999999), (0000000000000000000012), (-0);
               INSERT INTO T VALUES (1000000000000000000);
               SELECT * FROM T;",
-            b"CREATED TABLE T\nINSERTED 4\nE1 SyntaxError\nK\n-999999999999999999\n0\n12\n999999999999999999\n(4 rows)\n",
+            b"CREATED TABLE T\nINSERTED 4\nE1 SyntaxError\nK\n-999999999999999999\n0\n12\n999999999999999999\n\
+              (4 rows)\n",
             1,
         ),
         (

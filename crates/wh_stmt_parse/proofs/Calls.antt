@@ -1,5 +1,5 @@
--- No query begins with `SELECT SYSTEM$STREAM_HAS_DATA (`: an expression takes the word for a column, and nothing goes on
--- with a parenthesis behind it.
+-- No query begins with `SELECT SYSTEM$STREAM_HAS_DATA (`: an expression takes the word for a column, and nothing goes
+-- on with a parenthesis behind it.
 use Rattle.std.proofs.Common.{◌≡◌, ℕ, Bool, true, false, List, [], ◌∷◌, refl, sym, ap, ◌∙◌}
 use Rattle.std.specs.Prelude.{codes, bytes_eq}
 use Rattle.std.proofs.lemmas.Bool.{and_parts}
@@ -32,7 +32,8 @@ word_in (Word w ∷ us) = w
 word_in _ = []
 
 other : {w : List ℕ} {ts : List Token} → IsCall (Word w ∷ ts) → bytes_eq w has_data ≡ false → ⊥
-other {w} {ts} c not = let same : bytes_eq w has_data ≡ true = ap (λ (us : List Token). bytes_eq (word_in us) has_data) c.is in let k = sym same ∙ not in cc
+other {w} {ts} c not = let same : bytes_eq w has_data
+    ≡ true = ap (λ (us : List Token). bytes_eq (word_in us) has_data) c.is in let k = sym same ∙ not in cc
 
 sign_no_call : {s : token.Sign} {ts : List Token} → IsCall (SignToken s ∷ ts) → ⊥
 sign_no_call c = let e = c.is in cc
@@ -43,8 +44,11 @@ name-left (word r c) = refl
 name-left quoted = refl
 
 -- what is left doesn't begin with a token but the parenthesis
-not_open : {ts : List Token} {t : Token} {us : List Token} → IsCall ts → t ∷ us ≡ tail ts → (t ≡ SignToken token.LParen → ⊥) → ⊥
-not_open {ts} {t} {us} c e never = let same : t ∷ us ≡ SignToken token.LParen ∷ tail (tail ts) = e ∙ ap tail c.is in never (first_is same)
+not_open : {ts : List Token} {t : Token} {us : List Token} → IsCall ts → t ∷ us ≡ tail ts
+    → (t ≡ SignToken token.LParen → ⊥)
+    → ⊥
+not_open {ts} {t} {us} c e never = let same : t ∷ us ≡ SignToken token.LParen ∷ tail (tail ts) = e
+    ∙ ap tail c.is in never (first_is same)
   where
     first_is : {u : Token} {vs : List Token} → t ∷ us ≡ u ∷ vs → t ≡ u
     first_is e = cc
@@ -52,17 +56,21 @@ not_open {ts} {t} {us} c e never = let same : t ∷ us ≡ SignToken token.LPare
 word_left : {ts : List Token} {w : List ℕ} {us : List Token} → IsCall ts → Word w ∷ us ≡ tail ts → ⊥
 word_left c e = not_open c e (λ h. cc)
 
-sign_left : {ts : List Token} {s : token.Sign} {us : List Token} → IsCall ts → SignToken s ∷ us ≡ tail ts → (s ≡ token.LParen → ⊥) → ⊥
+sign_left : {ts : List Token} {s : token.Sign} {us : List Token} → IsCall ts → SignToken s ∷ us ≡ tail ts
+    → (s ≡ token.LParen → ⊥) → ⊥
 sign_left c e never = not_open c e (λ h. never (same_sign h))
   where
     same_sign : {s r : token.Sign} → SignToken s ≡ SignToken r → s ≡ r
     same_sign h = cc
 
-negation_left : {ts us vs : List Token} {w : List ℕ} {negated : Bool} → IsCall ts → us ≡ tail ts → IsNegation negated us (Word w ∷ vs) → ⊥
+negation_left : {ts us vs : List Token} {w : List ℕ} {negated : Bool} → IsCall ts → us ≡ tail ts
+    → IsNegation negated us (Word w ∷ vs)
+    → ⊥
 negation_left c e g.negated = word_left c e
 negation_left c e g.plain = word_left c e
 
-compared_left : {ts us : List Token} {s : token.Sign} {comparison : _} → IsCall ts → g.IsComparison s comparison → SignToken s ∷ us ≡ tail ts → ⊥
+compared_left : {ts us : List Token} {s : token.Sign} {comparison : _} → IsCall ts → g.IsComparison s comparison
+    → SignToken s ∷ us ≡ tail ts → ⊥
 compared_left c g.equal e = sign_left c e (λ h. cc)
 compared_left c g.unequal e = sign_left c e (λ h. cc)
 compared_left c g.less e = sign_left c e (λ h. cc)
@@ -117,16 +125,20 @@ whole-left (g.or l r) c = absurd (word_left c (whole-left l c))
 
 -- ---- what stands in a query
 
-alias-left : {ts us : List Token} {name : List ℕ} → IsAlias ts name us → (rest : List Token) → ts ≡ SignToken token.LParen ∷ rest → ⊥
+alias-left : {ts us : List Token} {name : List ℕ} → IsAlias ts name us → (rest : List Token)
+    → ts ≡ SignToken token.LParen ∷ rest
+    → ⊥
 alias-left (q.bare (word r c)) rest e = cc
 alias-left (q.bare quoted) rest e = cc
 alias-left (q.with_as n) rest e = cc
 
-item-left : {d : ℕ} {ts us : List Token} {x : Item} → IsItem d ts x us → IsCall ts → us ≡ SignToken token.LParen ∷ tail (tail ts)
+item-left : {d : ℕ} {ts us : List Token} {x : Item} → IsItem d ts x us → IsCall ts
+    → us ≡ SignToken token.LParen ∷ tail (tail ts)
 item-left q.star c = absurd (sign_no_call c)
 item-left (q.star_of n) c = absurd (sign_left c (name-left n) (λ h. cc))
 item-left (q.shown x q.no_alias) c = whole-left x.whole c ∙ ap tail c.is
-item-left {ts = ts} (q.shown x (q.an_alias a)) c = absurd (alias-left a (tail (tail ts)) (whole-left x.whole c ∙ ap tail c.is))
+item-left {ts = ts} (q.shown x (q.an_alias a)) c =
+    absurd (alias-left a (tail (tail ts)) (whole-left x.whole c ∙ ap tail c.is))
 
 items-left : {d : ℕ} {ts us : List Token} {w : List ℕ} {xs : List Item} → AreItems d ts xs (Word w ∷ us) → IsCall ts → ⊥
 items-left (q.last_item x) c = let e = item-left x c in cc
@@ -149,7 +161,10 @@ query-asks {ts = ts} h = by (asks ts) refl
     by false e = refl
     by true e =
         let both = and_parts _ _ e in
-        absurd (query-calls h (record { is = sees_word_some has_data (tail ts) both.0 ∙ ap (λ (us : List Token). Word has_data ∷ us) (sees_key_some k.LParen (SignToken token.LParen) (tail (tail ts)) refl both.1) }))
+        absurd (query-calls h (record {
+          is = sees_word_some has_data (tail ts) both.0 ∙ ap (λ (us : List Token). Word
+              has_data ∷ us) (sees_key_some k.LParen (SignToken token.LParen) (tail (tail ts)) refl both.1);
+        }))
 
 -- a query begins with SELECT
 core-begins : {d : ℕ} {ts us : List Token} {x : Core} → IsCore d ts x us → ts ≡ Word (codes "SELECT") ∷ tail ts

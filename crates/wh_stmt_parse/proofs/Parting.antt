@@ -1,5 +1,6 @@
 -- Placed tokens in parts, and where the parts stand.
-use Rattle.std.proofs.Common.{◌≡◌, ℕ, suc, ◌+◌, ◌-◌, List, [], ◌∷◌, ◌++◌, Some, length, take, drop, slice_get, refl, sym, ap, ◌∙◌, arith, length-append, take_at, drop_at}
+use Rattle.std.proofs.Common.{◌≡◌, ℕ, suc, ◌+◌, ◌-◌, List, [], ◌∷◌, ◌++◌, Some, length, take, drop, slice_get, refl}
+use Rattle.std.proofs.Common.{sym, ap, ◌∙◌, arith, length-append, take_at, drop_at}
 use Rattle.wh_grammar.specs.Token.{Token, Placed}
 use Rattle.std.proofs.lemmas.Option.{same_Some}
 use Rattle.wh_grammar.specs.Spelled.{tokens_of, end_of}
@@ -23,7 +24,8 @@ first_of {t} e = ap (λ (l : List Token). first l t) e
 rest_of : {t u : Token} {ts us : List Token} → t ∷ ts ≡ u ∷ us → ts ≡ us
 rest_of e = ap (λ (l : List Token). drop 1 l) e
 
-pub parted : (placed : List Placed) (fronts backs : List Token) → tokens_of placed ≡ fronts ++ backs → Parted placed fronts backs
+pub parted : (placed : List Placed) (fronts backs : List Token) → tokens_of placed ≡ fronts ++ backs
+    → Parted placed fronts backs
 parted placed [] backs e = record { head = []; body = placed; is = refl; head_is = refl; body_is = e }
 parted [] (t ∷ fronts) backs e = absurd (cc)
 parted (p ∷ placed) (t ∷ fronts) backs e =
@@ -44,14 +46,15 @@ pub record Linked (placed : List Placed) (t : Token) (backs : List Token) : Type
   pub link_is : link.token ≡ t
   pub body_is : tokens_of body ≡ backs
 
-pub linked : (placed : List Placed) (t : Token) (backs : List Token) → tokens_of placed ≡ t ∷ backs → Linked placed t backs
+pub linked : (placed : List Placed) (t : Token) (backs : List Token) → tokens_of placed ≡ t ∷ backs
+    → Linked placed t backs
 linked [] t backs e = absurd (cc)
 linked (p ∷ placed) t backs e = record { link = p; body = placed; is = refl; link_is = first_of e; body_is = rest_of e }
 
 -- ---- the tokens between two places
 
-mid_of : (head mid tail : List Placed) (placed : List Placed) (from to : ℕ) → placed ≡ head ++ (mid ++ tail) → from ≡ length (mid ++ tail) → to ≡ length tail
-    → between placed from to ≡ mid
+mid_of : (head mid tail : List Placed) (placed : List Placed) (from to : ℕ) → placed ≡ head ++ (mid ++ tail)
+    → from ≡ length (mid ++ tail) → to ≡ length tail → between placed from to ≡ mid
 mid_of head mid tail placed from to e f t =
     let long : length placed ≡ length head + length (mid ++ tail) = ap length e ∙ length-append head (mid ++ tail) in
     let at : length placed - from ≡ length head = omega (arith, long, f) in
@@ -71,30 +74,37 @@ many ts e = ap length (sym e) ∙ counted ts
     counted (t ∷ ts) = omega (arith, counted ts)
 
 -- where so many tokens are left before the part, and so many behind it
-pub between_is : (head mid tail : List Placed) {placed : List Placed} {us vs : List Token} → placed ≡ head ++ (mid ++ tail) → tokens_of (mid ++ tail) ≡ us → tokens_of tail ≡ vs
+pub between_is : (head mid tail : List Placed) {placed : List Placed} {us vs : List Token}
+    → placed ≡ head ++ (mid ++ tail) → tokens_of (mid ++ tail) ≡ us → tokens_of tail ≡ vs
     → between placed (length us) (length vs) ≡ mid
-between_is head mid tail {placed} {us} {vs} e f t = mid_of head mid tail placed (length us) (length vs) e (many (mid ++ tail) f) (many tail t)
+between_is head mid tail {placed} {us} {vs} e f t =
+    mid_of head mid tail placed (length us) (length vs) e (many (mid ++ tail) f) (many tail t)
 
 pub nothing_behind : (l : List Placed) → l ++ [] ≡ l
 nothing_behind [] = refl
 nothing_behind (t ∷ l) = ap (λ (l : List Placed). t ∷ l) (nothing_behind l)
 
 -- to the end
-pub last_is : (head body : List Placed) {placed : List Placed} {us : List Token} → placed ≡ head ++ body → tokens_of body ≡ us → between placed (length us) 0 ≡ body
+pub last_is : (head body : List Placed) {placed : List Placed} {us : List Token} → placed ≡ head ++ body
+    → tokens_of body ≡ us
+    → between placed (length us) 0 ≡ body
 last_is head body {placed} {us} e f =
-    mid_of head body [] placed (length us) 0 (e ∙ ap (λ (l : List Placed). head ++ l) (sym (nothing_behind body))) (many body f ∙ ap length (sym (nothing_behind body))) refl
+    mid_of head body [] placed (length us) 0 (e ∙ ap (λ (l : List Placed). head ++ l) (sym (nothing_behind body)))
+    (many body f ∙ ap length (sym (nothing_behind body))) refl
 
 pub tokens-append : (head body : List Placed) → tokens_of (head ++ body) ≡ tokens_of head ++ tokens_of body
 tokens-append [] body = refl
 tokens-append (t ∷ head) body = ap (λ (l : List Token). t.token ∷ l) (tokens-append head body)
 
 -- where the last of some tokens ends
-pub end_at : (t : Placed) (more : List Placed) (u : Placed) → Some u ≡ slice_get more (length more - 1) → u.behind ≡ end_of t more
+pub end_at : (t : Placed) (more : List Placed) (u : Placed) → Some u ≡ slice_get more (length more - 1)
+    → u.behind ≡ end_of t more
 end_at t [] u e = absurd (cc)
 end_at t (v ∷ []) u e = ap (λ (p : Placed). p.behind) (same_Some _ _ e)
 end_at t (v ∷ w ∷ more) u e = end_at v (w ∷ more) u (e ∙ last_later v w more)
   where
-    last_later : (v w : Placed) (more : List Placed) → slice_get (v ∷ w ∷ more) (length (v ∷ w ∷ more) - 1) ≡ slice_get (w ∷ more) (length (w ∷ more) - 1)
+    last_later : (v w : Placed) (more : List Placed)
+        → slice_get (v ∷ w ∷ more) (length (v ∷ w ∷ more) - 1) ≡ slice_get (w ∷ more) (length (w ∷ more) - 1)
     last_later v w more =
         let place : length (v ∷ w ∷ more) - 1 ≡ suc (length (w ∷ more) - 1) = omega arith in
         ap (λ (n : ℕ). slice_get (v ∷ w ∷ more) n) place

@@ -1,5 +1,6 @@
 -- What is a part of a statement is read as it.
-use Rattle.std.proofs.Common.{◌≡◌, ℕ, ◌<◌, ◌≤◌, Bool, true, false, if◌then◌else◌, List, [], ◌∷◌, Option, Some, length, refl, arith}
+use Rattle.std.proofs.Common.{◌≡◌, ℕ, ◌<◌, ◌≤◌, Bool, true, false, if◌then◌else◌, List, [], ◌∷◌, Option}
+use Rattle.std.proofs.Common.{Some, length, refl, arith}
 use Rattle.std.specs.Prelude.{codes, bytes_eq}
 use denote.Enum.Bare.{sameb}
 use Rattle.wh_value.specs.declared.column.ColumnType.{ColumnType}
@@ -17,10 +18,13 @@ use Rattle.wh_cursor.specs.declared.key.Key.TheVariants as k
 use Rattle.wh_cursor.specs.contracts.key.Key.{the_type}
 use Rattle.wh_cursor.specs.Keys.{same_key, key_of}
 use Rattle.wh_cursor.specs.Steps.{sees, sees_word}
-use Rattle.wh_cursor.proofs.Combine.{sees_word_is, expect_word_reads, equal_reads, read_word_reads, read_number_reads, name_reads, name_shorter, other_word, end_no_word, sign_no_word}
+use Rattle.wh_cursor.proofs.Combine.{sees_word_is, expect_word_reads, equal_reads, read_word_reads, read_number_reads}
+use Rattle.wh_cursor.proofs.Combine.{name_reads, name_shorter, other_word, end_no_word, sign_no_word}
 use Rattle.wh_dml_parse.specs.Follow.{ends_names}
 use Rattle.wh_dml_parse.specs.Laws as dml_laws
-use Rattle.wh_stmt_parse.specs.Parts.{type_of, read_type, read_column, read_columns, read_retention, read_truth, read_append, read_key, read_direction, read_sort, read_sorts, read_order, read_after}
+use Rattle.wh_stmt_parse.specs.Parts.{type_of, read_type, read_column, read_columns, read_retention}
+use Rattle.wh_stmt_parse.specs.Parts.{read_truth, read_append, read_key, read_direction, read_sort}
+use Rattle.wh_stmt_parse.specs.Parts.{read_sorts, read_order, read_after}
 use Rattle.wh_cursor.proofs.ListLemmas.{GivesListed, listed-last, listed-more, listed-reads}
 
 -- ---- columns
@@ -41,11 +45,15 @@ column-reads : {ts us : List Token} {name w : List ℕ} {t : ColumnType} → IsN
 unfolding read_column read_type
 column-reads {us = us} {w = w} n t = rw (name_reads n, read_word_reads w us, type-reads t) refl
 
-columns-give : {ts us : List Token} {cs : List Column} → AreColumns ts cs us → sees k.Comma us ≡ false → GivesListed read_column ts cs us
-columns-give (g.last_column n t) end = let less = name_shorter n in listed-last (column-reads n t) (omega (arith, less)) end
-columns-give (g.more_columns n t more) end = let less = name_shorter n in listed-more (column-reads n t) (omega (arith, less)) (columns-give more end)
+columns-give : {ts us : List Token} {cs : List Column} → AreColumns ts cs us → sees k.Comma us ≡ false
+    → GivesListed read_column ts cs us
+columns-give (g.last_column n t) end = let less = name_shorter n in
+    listed-last (column-reads n t) (omega (arith, less)) end
+columns-give (g.more_columns n t more) end = let less = name_shorter n in
+    listed-more (column-reads n t) (omega (arith, less)) (columns-give more end)
 
-pub columns-reads : {ts us : List Token} {cs : List Column} → AreColumns ts cs us → sees k.Comma us ≡ false → read_columns ts ≡ Some (cs, us)
+pub columns-reads : {ts us : List Token} {cs : List Column} → AreColumns ts cs us → sees k.Comma us ≡ false
+    → read_columns ts ≡ Some (cs, us)
 unfolding read_columns
 columns-reads h end = listed-reads (columns-give h end)
 
@@ -55,7 +63,11 @@ pub retention-reads : {ts : List Token} {r : Option ℕ} → MayRetain ts r → 
 unfolding read_retention
 retention-reads g.no_retention = rw (end_no_word (codes "DATA_RETENTION_TIME_IN_DAYS")) refl
 retention-reads (g.retention {n = n}) =
-    rw (sees_word_is (codes "DATA_RETENTION_TIME_IN_DAYS") (SignToken token.Equal ∷ NumberToken n ∷ []), equal_reads (NumberToken n ∷ []), read_number_reads n []) refl
+    rw (
+      sees_word_is (codes "DATA_RETENTION_TIME_IN_DAYS") (SignToken token.Equal ∷ NumberToken n ∷ []),
+      equal_reads (NumberToken n ∷ []),
+      read_number_reads n [],
+    ) refl
 
 true-reads : (us : List Token) → read_truth (Word (codes "TRUE") ∷ us) ≡ Some (true, us)
 unfolding read_truth
@@ -69,9 +81,17 @@ pub append-reads : {ts : List Token} {b : Bool} → MayAppend ts b → read_appe
 unfolding read_append
 append-reads g.no_append = rw (end_no_word (codes "APPEND_ONLY")) refl
 append-reads g.append_true =
-    rw (sees_word_is (codes "APPEND_ONLY") (SignToken token.Equal ∷ Word (codes "TRUE") ∷ []), equal_reads (Word (codes "TRUE") ∷ []), true-reads []) refl
+    rw (
+      sees_word_is (codes "APPEND_ONLY") (SignToken token.Equal ∷ Word (codes "TRUE") ∷ []),
+      equal_reads (Word (codes "TRUE") ∷ []),
+      true-reads [],
+    ) refl
 append-reads g.append_false =
-    rw (sees_word_is (codes "APPEND_ONLY") (SignToken token.Equal ∷ Word (codes "FALSE") ∷ []), equal_reads (Word (codes "FALSE") ∷ []), false-reads []) refl
+    rw (
+      sees_word_is (codes "APPEND_ONLY") (SignToken token.Equal ∷ Word (codes "FALSE") ∷ []),
+      equal_reads (Word (codes "FALSE") ∷ []),
+      false-reads [],
+    ) refl
 
 -- ---- sort keys
 
@@ -119,15 +139,21 @@ none_at_end : NoDirection []
 none_at_end = record { ascending = end_no_word (codes "ASC"); descending = end_no_word (codes "DESC") }
 
 none_at_comma : (us : List Token) → NoDirection (SignToken token.Comma ∷ us)
-none_at_comma us = record { ascending = sign_no_word (codes "ASC") token.Comma us; descending = sign_no_word (codes "DESC") token.Comma us }
+none_at_comma us = record {
+  ascending = sign_no_word (codes "ASC") token.Comma us;
+  descending = sign_no_word (codes "DESC") token.Comma us;
+}
 
-direction-reads : {ts us : List Token} {d : Bool} → IsDirection ts d us → NoDirection us → read_direction ts ≡ Some (d, us)
+direction-reads : {ts us : List Token} {d : Bool} → IsDirection ts d us → NoDirection us
+    → read_direction ts ≡ Some (d, us)
 unfolding read_direction
 direction-reads g.no_direction none = rw (none.descending, none.ascending) refl
-direction-reads (g.ascending {ts = ts}) none = rw (other_word (codes "DESC") (codes "ASC") ts refl, sees_word_is (codes "ASC") ts) refl
+direction-reads (g.ascending {ts = ts}) none =
+    rw (other_word (codes "DESC") (codes "ASC") ts refl, sees_word_is (codes "ASC") ts) refl
 direction-reads (g.descending {ts = ts}) none = rw (sees_word_is (codes "DESC") ts) refl
 
-sort-reads : {ts us vs : List Token} {x : sort_key.Key} {d : Bool} → IsKey ts x us → IsDirection us d vs → NoDirection vs
+sort-reads : {ts us vs : List Token} {x : sort_key.Key} {d : Bool} → IsKey ts x us → IsDirection us d vs
+    → NoDirection vs
     → read_sort ts ≡ Some (record { key = x; descending = d }, vs)
 unfolding read_sort
 sort-reads key direction none = rw (key-reads key, direction-reads direction none) refl
@@ -153,12 +179,13 @@ sorts-reads h = listed-reads (sorts-give h)
 pub order-reads : {ts : List Token} {sorts : List Sort} → MayHaveOrder ts sorts → read_order ts ≡ Some (sorts, [])
 unfolding read_order
 order-reads g.no_order = rw (end_no_word (codes "ORDER")) refl
-order-reads (g.an_order {ts = ts} h) = rw (sees_word_is (codes "ORDER") (Word (codes "BY") ∷ ts), expect_word_reads (codes "BY") ts, sorts-reads h) refl
+order-reads (g.an_order {ts = ts} h) =
+    rw (sees_word_is (codes "ORDER") (Word (codes "BY") ∷ ts), expect_word_reads (codes "BY") ts, sorts-reads h) refl
 
 -- ---- tasks
 
-pub after-reads : dml_laws.ReadsNames → {ts us : List Token} {names : List (List ℕ)} → MayFollow ts names us → ends_names us ≡ true → sees_word (codes "AFTER") us ≡ false
-    → read_after ts ≡ Some (names, us)
+pub after-reads : dml_laws.ReadsNames → {ts us : List Token} {names : List (List ℕ)} → MayFollow ts names us
+    → ends_names us ≡ true → sees_word (codes "AFTER") us ≡ false → read_after ts ≡ Some (names, us)
 unfolding read_after
 after-reads names_read follows_none ends none = rw none refl
 after-reads names_read (follows {ts = ts} {us = us} {names = names} h) ends none =

@@ -1,5 +1,6 @@
 -- What is read as a part of a statement is one.
-use Rattle.std.proofs.Common.{◌≡◌, ℕ, Bool, true, false, if◌then◌else◌, List, [], ◌∷◌, Option, Some, None, refl, sym, subst}
+use Rattle.std.proofs.Common.{◌≡◌, ℕ, Bool, true, false, if◌then◌else◌, List, [], ◌∷◌, Option}
+use Rattle.std.proofs.Common.{Some, None, refl, sym, subst}
 use Rattle.std.specs.Prelude.{codes, bytes_eq}
 use Rattle.std.proofs.lemmas.Option.{same_Some}
 use Rattle.std.proofs.lemmas.Slice.Eq.{bytes_eq-Decides}
@@ -16,10 +17,13 @@ use Rattle.wh_grammar.specs.Spelled.{MayFollow, follows_none, follows}
 use Rattle.wh_cursor.specs.declared.key.Key.TheVariants as k
 use Rattle.wh_cursor.specs.Steps.{tail, sees}
 use Rattle.wh_cursor.proofs.Yields.{Yields, yields, follow, mapped, yields_law}
-use Rattle.wh_cursor.proofs.Combine.{if_eaten_word, then_expect_word, then_expect_key, word-yields, number-yields, name-yields}
+use Rattle.wh_cursor.proofs.Combine.{if_eaten_word, then_expect_word, then_expect_key, word-yields}
+use Rattle.wh_cursor.proofs.Combine.{number-yields, name-yields}
 use Rattle.wh_dml_parse.specs.Follow.{AreNamesAt}
 use Rattle.wh_dml_parse.specs.Laws as dml_laws
-use Rattle.wh_stmt_parse.specs.Parts.{type_of, read_type, read_column, read_columns, retention_by, read_retention, truth_by, read_truth, append_by, read_append, key_by, read_key, direction_by, read_direction, read_sort, read_sorts, order_by, read_order, after_by, read_after}
+use Rattle.wh_stmt_parse.specs.Parts.{type_of, read_type, read_column, read_columns, retention_by, read_retention}
+use Rattle.wh_stmt_parse.specs.Parts.{truth_by, read_truth, append_by, read_append, key_by, read_key, direction_by}
+use Rattle.wh_stmt_parse.specs.Parts.{read_direction, read_sort, read_sorts, order_by, read_order, after_by, read_after}
 use Rattle.wh_cursor.proofs.Combine.{given-yields}
 use Rattle.wh_cursor.proofs.ListLemmas.{listed-sound}
 use Rattle.wh_stmt_parse.proofs.Carrying.{stand, then_is}
@@ -29,8 +33,9 @@ use Rattle.wh_stmt_parse.proofs.Carrying.{stand, then_is}
 named : {w c : List ℕ} {s t : ColumnType} → IsType c s → w ≡ c → Some s ≡ Some t → IsType w t
 named {w} {c} {s} {t} h e i = subst (λ (v : List ℕ). IsType v t) (sym e) (subst (IsType c) (same_Some _ _ i) h)
 
-by_word : (w c : List ℕ) {x y : Option ColumnType} {t : ColumnType} → (w ≡ c → x ≡ Some t → IsType w t) → (y ≡ Some t → IsType w t)
-    → (if bytes_eq w c then x else y) ≡ Some t → IsType w t
+by_word : (w c : List ℕ) {x y : Option ColumnType} {t : ColumnType} → (w ≡ c → x ≡ Some t → IsType w t)
+    → (y ≡ Some t → IsType w t) → (if bytes_eq w c then x else y) ≡ Some t
+    → IsType w t
 by_word w c {x} {y} {t} f g h = by (bytes_eq w c) (λ r. (bytes_eq-Decides w c).0 r) h
   where
     by : (r : Bool) → (r ≡ true → w ≡ c) → (if r then x else y) ≡ Some t → IsType w t
@@ -59,11 +64,13 @@ IsColumn ts c us = (w : List ℕ) × IsName ts c.name (Word w ∷ us) × IsType 
 column-sound : (ts : List Token) → Yields (read_column ts) (λ c us. IsColumn ts c us)
 unfolding read_column
 column-sound ts = follow (name-yields ts) (λ name us h. follow (type-sound us) (λ t vs i.
-    yields (record { name = name; column_type = t }) vs (i.0, subst (λ (us : List Token). IsName ts name us) i.1 h, i.2)))
+    yields (record { name = name; column_type = t }) vs
+    (i.0, subst (λ (us : List Token). IsName ts name us) i.1 h, i.2)))
 
 pub columns-sound : (ts : List Token) → Yields (read_columns ts) (λ cs us. AreColumns ts cs us)
 unfolding read_columns
-columns-sound = listed-sound read_column IsColumn AreColumns column-sound (λ ts us c h end. g.last_column h.1 h.2) (λ ts us vs c cs h l. g.more_columns h.1 h.2 l)
+columns-sound = listed-sound read_column IsColumn AreColumns column-sound (λ ts us c h end. g.last_column h.1 h.2)
+    (λ ts us vs c cs h l. g.more_columns h.1 h.2 l)
 
 -- ---- options at the end
 
@@ -71,7 +78,8 @@ pub retention-sound : (ts : List Token) → Yields (read_retention ts) (λ r us.
 unfolding read_retention
 retention-sound ts = if_eaten_word (codes "DATA_RETENTION_TIME_IN_DAYS") ts retention_by
     (λ w. then_expect_key k.Equal (tail ts) _ (λ e. follow (number-yields (tail (tail ts))) (λ n us h.
-    yields (Some n) us (λ end. stand (λ (ts : List Token). MayRetain ts (Some n)) (then_is w (then_is e (then_is h end))) g.retention))))
+    yields (Some n) us (λ end. stand (λ (ts : List Token). MayRetain ts (Some n))
+    (then_is w (then_is e (then_is h end))) g.retention))))
     (λ _. yields None ts (λ end. stand (λ (ts : List Token). MayRetain ts None) end g.no_retention))
 
 abbrev truth_word : Bool → List ℕ
@@ -102,7 +110,8 @@ unfolding read_key
 key-sound ts = by (sees k.Number ts)
   where
     by : (b : Bool) → Yields (key_by b ts) (λ x us. IsKey ts x us)
-    by true = follow (number-yields ts) (λ n us h. yields (key.Position n) us (stand (λ (ts : List Token). IsKey ts (key.Position n) us) h g.key_position))
+    by true = follow (number-yields ts) (λ n us h. yields (key.Position n) us
+        (stand (λ (ts : List Token). IsKey ts (key.Position n) us) h g.key_position))
     by false = follow (name-yields ts) (λ name us h. yields (key.Name name) us (g.key_name h))
 
 direction-sound : (ts : List Token) → Yields (read_direction ts) (λ d us. IsDirection ts d us)
@@ -118,7 +127,8 @@ IsSort ts s vs = (us : List Token) × IsKey ts s.key us × IsDirection us s.desc
 
 sort-sound : (ts : List Token) → Yields (read_sort ts) (λ s us. IsSort ts s us)
 unfolding read_sort
-sort-sound ts = follow (key-sound ts) (λ key us h. follow (direction-sound us) (λ d vs i. yields (record { key = key; descending = d }) vs (us, h, i)))
+sort-sound ts = follow (key-sound ts)
+    (λ key us h. follow (direction-sound us) (λ d vs i. yields (record { key = key; descending = d }) vs (us, h, i)))
 
 abbrev AreSortsTo : List Token → List Sort → List Token → Type 0
 AreSortsTo ts sorts us = us ≡ [] → AreSorts ts sorts
@@ -141,6 +151,7 @@ order-sound ts = if_eaten_word (codes "ORDER") ts order_by
 pub after-sound : dml_laws.ReadsNames → (ts : List Token) → Yields (read_after ts) (λ names us. MayFollow ts names us)
 unfolding read_after
 after-sound names_read ts = if_eaten_word (codes "AFTER") ts after_by
-    (λ w. mapped (yields_law {Q = λ names us. AreNamesAt (tail ts) names us} (λ names us h. (names_read (tail ts) names us).0 h))
+    (λ w. mapped
+    (yields_law {Q = λ names us. AreNamesAt (tail ts) names us} (λ names us h. (names_read (tail ts) names us).0 h))
     (λ names us h. stand (λ (ts : List Token). MayFollow ts names us) w (follows h.names)))
     (λ _. yields [] ts follows_none)

@@ -15,15 +15,19 @@ use Rattle.wh_grammar.specs.Query.{IsQuery}
 use Rattle.wh_grammar.specs.Changing as changing
 use Rattle.wh_grammar.specs.Changing.{IsDml}
 use Rattle.wh_grammar.specs.Parts as parts
-use Rattle.wh_grammar.specs.Parts.{IsLag, AreColumns, AsksForData, asks, MayReplace, no_replace, or_replace, MayRetain, MayAppend, MayHaveOrder}
+use Rattle.wh_grammar.specs.Parts.{IsLag, AreColumns, AsksForData, asks, MayReplace, no_replace, or_replace, MayRetain}
+use Rattle.wh_grammar.specs.Parts.{MayAppend, MayHaveOrder}
 use Rattle.wh_grammar.specs.Spelled as g
 use Rattle.wh_grammar.specs.Spelled.{IsPlain, MayEnd, most_nested}
 use Rattle.wh_cursor.specs.declared.key.Key.TheVariants as k
 use Rattle.wh_cursor.specs.Keys.{same_key, key_of}
 use Rattle.wh_cursor.specs.Steps.{tail, sees, sees_word}
-use Rattle.wh_cursor.proofs.Combine.{sees_word_is, expect_word_reads, equal_reads, lparen_reads, rparen_reads, name_reads, other_word, end_no_word, sees_key_is}
+use Rattle.wh_cursor.proofs.Combine.{sees_word_is, expect_word_reads, equal_reads, lparen_reads, rparen_reads}
+use Rattle.wh_cursor.proofs.Combine.{name_reads, other_word, end_no_word, sees_key_is}
 use Rattle.wh_query_parse.specs.Follow.{ends_query}
-use Rattle.wh_stmt_parse.specs.Plain.{read_has_data, read_rows, read_select, read_change, read_table, read_replacement, read_stream, read_alter_task, read_set_lag, read_alter_table, read_alter, read_execute, read_drop, read_begin, read_start, read_ending}
+use Rattle.wh_stmt_parse.specs.Plain.{read_has_data, read_rows, read_select, read_change, read_table, read_replacement}
+use Rattle.wh_stmt_parse.specs.Plain.{read_stream, read_alter_task, read_set_lag, read_alter_table, read_alter}
+use Rattle.wh_stmt_parse.specs.Plain.{read_execute, read_drop, read_begin, read_start, read_ending}
 use Rattle.wh_stmt_parse.specs.Read.{verb_of, object_of, read_create, read_words}
 use Rattle.wh_stmt_parse.proofs.Calls.{query-asks, query-begins}
 use Rattle.wh_stmt_parse.proofs.PartsComplete.{columns-reads, retention-reads, append-reads, order-reads}
@@ -35,23 +39,31 @@ order-ends : {us : List Token} {sorts : List Sort} → MayHaveOrder us sorts →
 order-ends parts.no_order = refl
 order-ends (parts.an_order h) = refl
 
-rows-read : Readers → {ts us : List Token} {q : Query} {sorts : List Sort} → IsQuery most_nested ts q us → MayHaveOrder us sorts → read_rows ts ≡ Some (st.Select q sorts, [])
+rows-read : Readers → {ts us : List Token} {q : Query} {sorts : List Sort} → IsQuery most_nested ts q us
+    → MayHaveOrder us sorts
+    → read_rows ts ≡ Some (st.Select q sorts, [])
 unfolding read_rows
-rows-read r {ts} {us} {q} h order = rw ((r.queries most_nested ts q us).1 (record { query = h; ends = order-ends order }), order-reads order) refl
+rows-read r {ts} {us} {q} h order =
+    rw ((r.queries most_nested ts q us).1 (record { query = h; ends = order-ends order }), order-reads order) refl
 
-select-read : Readers → {ts us : List Token} {q : Query} {sorts : List Sort} → IsQuery most_nested ts q us → MayHaveOrder us sorts → read_select ts ≡ Some (st.Select q sorts, [])
+select-read : Readers → {ts us : List Token} {q : Query} {sorts : List Sort} → IsQuery most_nested ts q us
+    → MayHaveOrder us sorts
+    → read_select ts ≡ Some (st.Select q sorts, [])
 unfolding read_select
 select-read r h order = rw (query-asks h) (rows-read r h order)
 
-has_data-read : Readers → {ts : List Token} {name : List ℕ} → AsksForData ts name [] → read_has_data (Word (codes "SELECT") ∷ ts) ≡ Some (st.HasData name, [])
+has_data-read : Readers → {ts : List Token} {name : List ℕ} → AsksForData ts name []
+    → read_has_data (Word (codes "SELECT") ∷ ts) ≡ Some (st.HasData name, [])
 unfolding read_has_data
 has_data-read r {ts} {name} h = rw ((r.asked ts name []).1 h) refl
 
-asked-read : Readers → {ts : List Token} {name : List ℕ} → AsksForData ts name [] → read_select (Word (codes "SELECT") ∷ ts) ≡ Some (st.HasData name, [])
+asked-read : Readers → {ts : List Token} {name : List ℕ} → AsksForData ts name []
+    → read_select (Word (codes "SELECT") ∷ ts) ≡ Some (st.HasData name, [])
 unfolding read_select
 asked-read r {ts} {name} (asks {us = us} {bytes = bytes} h) =
     rw (
-      sees_word_is (codes "SYSTEM$STREAM_HAS_DATA") (SignToken token.LParen ∷ token.TextToken bytes ∷ SignToken token.RParen ∷ us),
+      sees_word_is (codes "SYSTEM$STREAM_HAS_DATA")
+          (SignToken token.LParen ∷ token.TextToken bytes ∷ SignToken token.RParen ∷ us),
       sees_key_is k.LParen (SignToken token.LParen) (token.TextToken bytes ∷ SignToken token.RParen ∷ us) refl,
     ) (has_data-read r (asks h))
 
@@ -65,68 +77,101 @@ no_comma : (us : List Token) → sees k.Comma (SignToken token.RParen ∷ us) �
 unfolding sees same_key key_of
 no_comma us = refl
 
-table-read : (replace : Bool) {us vs ws : List Token} {name : List ℕ} {columns : List Column} {retention : Option ℕ} → IsName us name (SignToken token.LParen ∷ vs)
-    → AreColumns vs columns (SignToken token.RParen ∷ ws) → MayRetain ws retention
-    → read_table replace us ≡ Some (st.CreateTable (record { replace = replace; name = name; columns = columns; retention = retention }), [])
+table-read : (replace : Bool) {us vs ws : List Token} {name : List ℕ} {columns : List Column} {retention : Option ℕ}
+    → IsName us name (SignToken token.LParen ∷ vs) → AreColumns vs columns (SignToken token.RParen ∷ ws)
+    → MayRetain ws retention
+    → read_table replace us
+    ≡ Some (st.CreateTable (record { replace = replace; name = name; columns = columns; retention = retention }), [])
 unfolding read_table
-table-read replace {vs = vs} {ws = ws} n cs r = rw (name_reads n, lparen_reads vs, columns-reads cs (no_comma ws), rparen_reads ws, retention-reads r) refl
+table-read replace {vs = vs} {ws = ws} n cs r =
+    rw (name_reads n, lparen_reads vs, columns-reads cs (no_comma ws), rparen_reads ws, retention-reads r) refl
 
-replacement-read : {us vs ws : List Token} {name : List ℕ} {columns : List Column} {retention : Option ℕ} → IsName us name (SignToken token.LParen ∷ vs)
-    → AreColumns vs columns (SignToken token.RParen ∷ ws) → MayRetain ws retention
-    → read_replacement (Word (codes "REPLACE") ∷ Word (codes "TABLE") ∷ us) ≡ Some (st.CreateTable (record { replace = true; name = name; columns = columns; retention = retention }), [])
+replacement-read : {us vs ws : List Token} {name : List ℕ} {columns : List Column} {retention : Option ℕ}
+    → IsName us name (SignToken token.LParen ∷ vs) → AreColumns vs columns (SignToken token.RParen ∷ ws)
+    → MayRetain ws retention
+    → read_replacement (Word (codes "REPLACE") ∷ Word (codes "TABLE") ∷ us)
+    ≡ Some (st.CreateTable (record { replace = true; name = name; columns = columns; retention = retention }), [])
 unfolding read_replacement
-replacement-read {us = us} n cs r = rw (expect_word_reads (codes "REPLACE") (Word (codes "TABLE") ∷ us), expect_word_reads (codes "TABLE") us) (table-read true n cs r)
+replacement-read {us = us} n cs r = rw (
+  expect_word_reads (codes "REPLACE") (Word (codes "TABLE") ∷ us),
+  expect_word_reads (codes "TABLE") us,
+) (table-read true n cs r)
 
-stream-read : {ts us vs : List Token} {name table : List ℕ} {append_only : Bool} → IsName ts name (Word (codes "ON") ∷ Word (codes "TABLE") ∷ us) → IsName us table vs
-    → MayAppend vs append_only → read_stream ts ≡ Some (st.CreateStream name table append_only, [])
+stream-read : {ts us vs : List Token} {name table : List ℕ} {append_only : Bool}
+    → IsName ts name (Word (codes "ON") ∷ Word (codes "TABLE") ∷ us) → IsName us table vs → MayAppend vs append_only
+    → read_stream ts ≡ Some (st.CreateStream name table append_only, [])
 unfolding read_stream
-stream-read {us = us} n t a = rw (name_reads n, expect_word_reads (codes "ON") (Word (codes "TABLE") ∷ us), expect_word_reads (codes "TABLE") us, name_reads t, append-reads a) refl
+stream-read {us = us} n t a = rw (
+  name_reads n,
+  expect_word_reads (codes "ON") (Word (codes "TABLE") ∷ us),
+  expect_word_reads (codes "TABLE") us,
+  name_reads t,
+  append-reads a,
+) refl
 
 -- behind CREATE
-created-table : (text : List ℕ) (placed : List Placed) (us : List Token) → read_create text placed (Word (codes "TABLE") ∷ us) ≡ read_table false us
+created-table : (text : List ℕ) (placed : List Placed) (us : List Token)
+    → read_create text placed (Word (codes "TABLE") ∷ us) ≡ read_table false us
 unfolding read_create object_of sees_word
 created-table text placed us = refl
 
-created-replacement : (text : List ℕ) (placed : List Placed) (us : List Token) → read_create text placed (Word (codes "OR") ∷ us) ≡ read_replacement us
+created-replacement : (text : List ℕ) (placed : List Placed) (us : List Token)
+    → read_create text placed (Word (codes "OR") ∷ us) ≡ read_replacement us
 unfolding read_create object_of sees_word
 created-replacement text placed us = refl
 
-created-stream : (text : List ℕ) (placed : List Placed) (us : List Token) → read_create text placed (Word (codes "STREAM") ∷ us) ≡ read_stream us
+created-stream : (text : List ℕ) (placed : List Placed) (us : List Token)
+    → read_create text placed (Word (codes "STREAM") ∷ us) ≡ read_stream us
 unfolding read_create object_of sees_word
 created-stream text placed us = refl
 
-create-read : (text : List ℕ) (placed : List Placed) {ts us vs ws : List Token} {replace : Bool} {name : List ℕ} {columns : List Column} {retention : Option ℕ}
-    → MayReplace ts replace (Word (codes "TABLE") ∷ us) → IsName us name (SignToken token.LParen ∷ vs) → AreColumns vs columns (SignToken token.RParen ∷ ws) → MayRetain ws retention
-    → read_create text placed ts ≡ Some (st.CreateTable (record { replace = replace; name = name; columns = columns; retention = retention }), [])
+create-read : (text : List ℕ) (placed : List Placed) {ts us vs ws : List Token} {replace : Bool} {name : List ℕ}
+    {columns : List Column} {retention : Option ℕ}
+    → MayReplace ts replace (Word (codes "TABLE") ∷ us) → IsName us name (SignToken token.LParen ∷ vs)
+    → AreColumns vs columns (SignToken token.RParen ∷ ws) → MayRetain ws retention
+    → read_create text placed ts
+    ≡ Some (st.CreateTable (record { replace = replace; name = name; columns = columns; retention = retention }), [])
 create-read text placed {us = us} no_replace n cs r = created-table text placed us ∙ table-read false n cs r
-create-read text placed {us = us} or_replace n cs r = created-replacement text placed (Word (codes "REPLACE") ∷ Word (codes "TABLE") ∷ us) ∙ replacement-read n cs r
+create-read text placed {us = us} or_replace n cs r =
+    created-replacement text placed (Word (codes "REPLACE") ∷ Word (codes "TABLE") ∷ us) ∙ replacement-read n cs r
 
 -- ---- ALTER, EXECUTE, DROP
 
-task-resumed : {ts : List Token} {name : List ℕ} → IsName ts name (Word (codes "RESUME") ∷ []) → read_alter_task ts ≡ Some (st.ResumeTask name, [])
+task-resumed : {ts : List Token} {name : List ℕ} → IsName ts name (Word (codes "RESUME") ∷ [])
+    → read_alter_task ts ≡ Some (st.ResumeTask name, [])
 unfolding read_alter_task
 task-resumed n = rw (name_reads n, sees_word_is (codes "RESUME") []) refl
 
-task-suspended : {ts : List Token} {name : List ℕ} → IsName ts name (Word (codes "SUSPEND") ∷ []) → read_alter_task ts ≡ Some (st.SuspendTask name, [])
+task-suspended : {ts : List Token} {name : List ℕ} → IsName ts name (Word (codes "SUSPEND") ∷ [])
+    → read_alter_task ts ≡ Some (st.SuspendTask name, [])
 unfolding read_alter_task
-task-suspended n = rw (name_reads n, other_word (codes "RESUME") (codes "SUSPEND") [] refl, expect_word_reads (codes "SUSPEND") []) refl
+task-suspended n = rw
+    (name_reads n, other_word (codes "RESUME") (codes "SUSPEND") [] refl, expect_word_reads (codes "SUSPEND") []) refl
 
 altered-task : (ts : List Token) → read_alter (Word (codes "TASK") ∷ ts) ≡ read_alter_task ts
 unfolding read_alter
 altered-task ts = rw (sees_word_is (codes "TASK") ts) refl
 
-altered-table : (ts : List Token) → read_alter (Word (codes "DYNAMIC") ∷ ts) ≡ read_alter_table (Word (codes "DYNAMIC") ∷ ts)
+altered-table : (ts : List Token)
+    → read_alter (Word (codes "DYNAMIC") ∷ ts) ≡ read_alter_table (Word (codes "DYNAMIC") ∷ ts)
 unfolding read_alter
 altered-table ts = rw (other_word (codes "TASK") (codes "DYNAMIC") ts refl) refl
 
 abbrev at_table : List Token → List Token
 at_table ts = Word (codes "DYNAMIC") ∷ Word (codes "TABLE") ∷ ts
 
-table-resumed : {ts : List Token} {name : List ℕ} → IsName ts name (Word (codes "RESUME") ∷ []) → read_alter_table (at_table ts) ≡ Some (st.ResumeDynamicTable name, [])
+table-resumed : {ts : List Token} {name : List ℕ} → IsName ts name (Word (codes "RESUME") ∷ [])
+    → read_alter_table (at_table ts) ≡ Some (st.ResumeDynamicTable name, [])
 unfolding read_alter_table
-table-resumed {ts} n = rw (expect_word_reads (codes "DYNAMIC") (Word (codes "TABLE") ∷ ts), expect_word_reads (codes "TABLE") ts, name_reads n, sees_word_is (codes "RESUME") []) refl
+table-resumed {ts} n = rw (
+  expect_word_reads (codes "DYNAMIC") (Word (codes "TABLE") ∷ ts),
+  expect_word_reads (codes "TABLE") ts,
+  name_reads n,
+  sees_word_is (codes "RESUME") [],
+) refl
 
-table-suspended : {ts : List Token} {name : List ℕ} → IsName ts name (Word (codes "SUSPEND") ∷ []) → read_alter_table (at_table ts) ≡ Some (st.SuspendDynamicTable name, [])
+table-suspended : {ts : List Token} {name : List ℕ} → IsName ts name (Word (codes "SUSPEND") ∷ [])
+    → read_alter_table (at_table ts) ≡ Some (st.SuspendDynamicTable name, [])
 unfolding read_alter_table
 table-suspended {ts} n = rw (
   expect_word_reads (codes "DYNAMIC") (Word (codes "TABLE") ∷ ts),
@@ -136,7 +181,8 @@ table-suspended {ts} n = rw (
   sees_word_is (codes "SUSPEND") [],
 ) refl
 
-table-refreshed : {ts : List Token} {name : List ℕ} → IsName ts name (Word (codes "REFRESH") ∷ []) → read_alter_table (at_table ts) ≡ Some (st.RefreshDynamicTable name, [])
+table-refreshed : {ts : List Token} {name : List ℕ} → IsName ts name (Word (codes "REFRESH") ∷ [])
+    → read_alter_table (at_table ts) ≡ Some (st.RefreshDynamicTable name, [])
 unfolding read_alter_table
 table-refreshed {ts} n = rw (
   expect_word_reads (codes "DYNAMIC") (Word (codes "TABLE") ∷ ts),
@@ -147,7 +193,9 @@ table-refreshed {ts} n = rw (
   sees_word_is (codes "REFRESH") [],
 ) refl
 
-lag-set : Readers → {us : List Token} {l : Lag} (name : List ℕ) → IsLag us l [] → read_set_lag name (Word (codes "SET") ∷ Word (codes "TARGET_LAG") ∷ SignToken token.Equal ∷ us) ≡ Some (st.SetTargetLag name l, [])
+lag-set : Readers → {us : List Token} {l : Lag} (name : List ℕ) → IsLag us l []
+    → read_set_lag name (Word (codes "SET") ∷ Word (codes "TARGET_LAG") ∷ SignToken token.Equal ∷ us)
+    ≡ Some (st.SetTargetLag name l, [])
 unfolding read_set_lag
 lag-set r {us} {l} name h = rw (
   expect_word_reads (codes "SET") (Word (codes "TARGET_LAG") ∷ SignToken token.Equal ∷ us),
@@ -156,7 +204,8 @@ lag-set r {us} {l} name h = rw (
   (r.lags us l []).1 h,
 ) refl
 
-table-set : Readers → {ts us : List Token} {name : List ℕ} {l : Lag} → IsName ts name (Word (codes "SET") ∷ Word (codes "TARGET_LAG") ∷ SignToken token.Equal ∷ us) → IsLag us l []
+table-set : Readers → {ts us : List Token} {name : List ℕ} {l : Lag}
+    → IsName ts name (Word (codes "SET") ∷ Word (codes "TARGET_LAG") ∷ SignToken token.Equal ∷ us) → IsLag us l []
     → read_alter_table (at_table ts) ≡ Some (st.SetTargetLag name l, [])
 unfolding read_alter_table
 table-set r {ts} {us} {name} n h =
@@ -170,23 +219,34 @@ table-set r {ts} {us} {name} n h =
       other_word (codes "REFRESH") (codes "SET") rest refl,
     ) (lag-set r name h)
 
-execute-read : {ts : List Token} {name : List ℕ} → IsName ts name [] → read_execute (Word (codes "TASK") ∷ ts) ≡ Some (st.ExecuteTask name, [])
+execute-read : {ts : List Token} {name : List ℕ} → IsName ts name []
+    → read_execute (Word (codes "TASK") ∷ ts) ≡ Some (st.ExecuteTask name, [])
 unfolding read_execute
 execute-read {ts} n = rw (expect_word_reads (codes "TASK") ts, name_reads n) refl
 
-dropped-table : {ts : List Token} {name : List ℕ} → IsName ts name [] → read_drop (Word (codes "TABLE") ∷ ts) ≡ Some (st.DropTable name, [])
+dropped-table : {ts : List Token} {name : List ℕ} → IsName ts name []
+    → read_drop (Word (codes "TABLE") ∷ ts) ≡ Some (st.DropTable name, [])
 unfolding read_drop
 dropped-table {ts} n = rw (sees_word_is (codes "TABLE") ts, name_reads n) refl
 
-dropped-stream : {ts : List Token} {name : List ℕ} → IsName ts name [] → read_drop (Word (codes "STREAM") ∷ ts) ≡ Some (st.DropStream name, [])
+dropped-stream : {ts : List Token} {name : List ℕ} → IsName ts name []
+    → read_drop (Word (codes "STREAM") ∷ ts) ≡ Some (st.DropStream name, [])
 unfolding read_drop
-dropped-stream {ts} n = rw (other_word (codes "TABLE") (codes "STREAM") ts refl, sees_word_is (codes "STREAM") ts, name_reads n) refl
+dropped-stream {ts} n =
+    rw (other_word (codes "TABLE") (codes "STREAM") ts refl, sees_word_is (codes "STREAM") ts, name_reads n) refl
 
-dropped-task : {ts : List Token} {name : List ℕ} → IsName ts name [] → read_drop (Word (codes "TASK") ∷ ts) ≡ Some (st.DropTask name, [])
+dropped-task : {ts : List Token} {name : List ℕ} → IsName ts name []
+    → read_drop (Word (codes "TASK") ∷ ts) ≡ Some (st.DropTask name, [])
 unfolding read_drop
-dropped-task {ts} n = rw (other_word (codes "TABLE") (codes "TASK") ts refl, other_word (codes "STREAM") (codes "TASK") ts refl, sees_word_is (codes "TASK") ts, name_reads n) refl
+dropped-task {ts} n = rw (
+  other_word (codes "TABLE") (codes "TASK") ts refl,
+  other_word (codes "STREAM") (codes "TASK") ts refl,
+  sees_word_is (codes "TASK") ts,
+  name_reads n,
+) refl
 
-dropped-dynamic_table : {ts : List Token} {name : List ℕ} → IsName ts name [] → read_drop (at_table ts) ≡ Some (st.DropDynamicTable name, [])
+dropped-dynamic_table : {ts : List Token} {name : List ℕ} → IsName ts name []
+    → read_drop (at_table ts) ≡ Some (st.DropDynamicTable name, [])
 unfolding read_drop
 dropped-dynamic_table {ts} n =
     let rest : List Token = Word (codes "TABLE") ∷ ts in
@@ -225,7 +285,8 @@ ending-read made g.with = rw (sees_word_is (codes "WORK") []) refl
 -- ---- by the first word
 
 module _ (text : List ℕ) (placed : List Placed) where
-  at-select : (ts : List Token) → read_words text placed (Word (codes "SELECT") ∷ ts) ≡ read_select (Word (codes "SELECT") ∷ ts)
+  at-select : (ts : List Token)
+      → read_words text placed (Word (codes "SELECT") ∷ ts) ≡ read_select (Word (codes "SELECT") ∷ ts)
   unfolding read_words verb_of sees_word
   at-select ts = refl
 
@@ -270,18 +331,25 @@ module _ (text : List ℕ) (placed : List Placed) where
 
   pub plain-read : Readers → {ts : List Token} {s : Statement} → IsPlain ts s → read_words text placed ts ≡ Some (s, [])
   plain-read r (g.select {ts = ts} {q = q} {sorts = sorts} h order) =
-      ap (read_words text placed) (query-begins h) ∙ at-select (tail ts) ∙ ap read_select (sym (query-begins h)) ∙ select-read r h order
+      ap (read_words text placed) (query-begins h) ∙ at-select (tail ts) ∙ ap read_select (sym (query-begins h))
+      ∙ select-read r h order
   plain-read r (g.has_data {ts = ts} h) = at-select ts ∙ asked-read r h
   plain-read r (g.dml h) = at-change h ∙ change-read r h
-  plain-read r (g.create_table {ts = ts} replaces n cs retained) = at-create ts ∙ create-read text placed replaces n cs retained
-  plain-read r (g.create_stream {ts = ts} n t a) = at-create (Word (codes "STREAM") ∷ ts) ∙ created-stream text placed ts ∙ stream-read n t a
+  plain-read r (g.create_table {ts = ts} replaces n cs retained) =
+      at-create ts ∙ create-read text placed replaces n cs retained
+  plain-read r (g.create_stream {ts = ts} n t a) =
+      at-create (Word (codes "STREAM") ∷ ts) ∙ created-stream text placed ts ∙ stream-read n t a
   plain-read r (g.resume_task {ts = ts} n) = at-alter (Word (codes "TASK") ∷ ts) ∙ altered-task ts ∙ task-resumed n
   plain-read r (g.suspend_task {ts = ts} n) = at-alter (Word (codes "TASK") ∷ ts) ∙ altered-task ts ∙ task-suspended n
   plain-read r (g.execute_task {ts = ts} n) = at-execute (Word (codes "TASK") ∷ ts) ∙ execute-read n
-  plain-read r (g.resume_table {ts = ts} n) = at-alter (at_table ts) ∙ altered-table (Word (codes "TABLE") ∷ ts) ∙ table-resumed n
-  plain-read r (g.suspend_table {ts = ts} n) = at-alter (at_table ts) ∙ altered-table (Word (codes "TABLE") ∷ ts) ∙ table-suspended n
-  plain-read r (g.refresh_table {ts = ts} n) = at-alter (at_table ts) ∙ altered-table (Word (codes "TABLE") ∷ ts) ∙ table-refreshed n
-  plain-read r (g.set_lag {ts = ts} n l) = at-alter (at_table ts) ∙ altered-table (Word (codes "TABLE") ∷ ts) ∙ table-set r n l
+  plain-read r (g.resume_table {ts = ts} n) = at-alter (at_table ts)
+      ∙ altered-table (Word (codes "TABLE") ∷ ts) ∙ table-resumed n
+  plain-read r (g.suspend_table {ts = ts} n) = at-alter (at_table ts)
+      ∙ altered-table (Word (codes "TABLE") ∷ ts) ∙ table-suspended n
+  plain-read r (g.refresh_table {ts = ts} n) = at-alter (at_table ts)
+      ∙ altered-table (Word (codes "TABLE") ∷ ts) ∙ table-refreshed n
+  plain-read r (g.set_lag {ts = ts} n l) = at-alter (at_table ts)
+      ∙ altered-table (Word (codes "TABLE") ∷ ts) ∙ table-set r n l
   plain-read r (g.drop_table {ts = ts} n) = at-drop (Word (codes "TABLE") ∷ ts) ∙ dropped-table n
   plain-read r (g.drop_stream {ts = ts} n) = at-drop (Word (codes "STREAM") ∷ ts) ∙ dropped-stream n
   plain-read r (g.drop_task {ts = ts} n) = at-drop (Word (codes "TASK") ∷ ts) ∙ dropped-task n

@@ -66,7 +66,14 @@ module _ (text : List ℕ) (placed : List Placed) where
     from ← here
     body ← read_dml most_nested
     kept ← piece from 0
-    pure (st.CreateTask (record { name = head.name; minutes = head.minutes; after = head.after; when = when; body = body; body_text = kept }))
+    pure (st.CreateTask (record {
+      name = head.name;
+      minutes = head.minutes;
+      after = head.after;
+      when = when;
+      body = body;
+      body_text = kept;
+    }))
 
   -- behind CREATE DYNAMIC
   unfoldable pub read_dynamic_table : Reader Statement
@@ -78,4 +85,11 @@ module _ (text : List ℕ) (placed : List Placed) where
     from ← here
     query ← read_query most_nested
     kept ← piece from 0
-    pure (st.CreateDynamicTable (record { name = name; lag = options.0; mode = options.1.0; initialize = options.1.1; query = query; query_text = kept }))
+    pure (st.CreateDynamicTable (record {
+      name = name;
+      lag = options.0;
+      mode = options.1.0;
+      initialize = options.1.1;
+      query = query;
+      query_text = kept;
+    }))

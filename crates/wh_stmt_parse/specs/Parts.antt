@@ -11,7 +11,8 @@ use Rattle.wh_ast.specs.declared.query.Sort.{Sort}
 use Rattle.wh_ast.specs.declared.query.Key as sort_key
 use Rattle.wh_ast.specs.declared.query.Key.TheVariants as key
 use Rattle.wh_cursor.specs.declared.key.Key.TheVariants as k
-use Rattle.wh_cursor.specs.Steps.{read_name, sees, Reader, ◌>>=◌, ◌>>◌, pure, eat_word, eat_key, expect_word, expect_key, read_word, read_number, given}
+use Rattle.wh_cursor.specs.Steps.{read_name, sees, Reader, ◌>>=◌, ◌>>◌, pure, eat_word, eat_key, expect_word}
+use Rattle.wh_cursor.specs.Steps.{expect_key, read_word, read_number, given}
 use Rattle.wh_cursor.specs.Lists.{listed}
 use Rattle.wh_dml_parse.specs.Read.{read_names}
 

@@ -5,7 +5,8 @@ use Rattle.wh_ast.specs.declared.statement.Statement.TheVariants as st
 use Rattle.wh_grammar.specs.Token.{Token}
 use Rattle.wh_grammar.specs.Spelled.{most_nested}
 use Rattle.wh_cursor.specs.declared.key.Key.TheVariants as k
-use Rattle.wh_cursor.specs.Steps.{read_name, sees, tail, Reader, ◌>>=◌, ◌>>◌, pure, sees_word, eat_word, expect_word, expect_key, skip}
+use Rattle.wh_cursor.specs.Steps.{read_name, sees, tail, Reader, ◌>>=◌, ◌>>◌, pure, sees_word, eat_word, expect_word}
+use Rattle.wh_cursor.specs.Steps.{expect_key, skip}
 use Rattle.wh_query_parse.specs.Read.{read_query}
 use Rattle.wh_option_parse.specs.Read.{read_lag, read_asked}
 use Rattle.wh_dml_parse.specs.Read.{read_dml}

@@ -1,5 +1,6 @@
 -- What stands in a table is orderly.
-use Rattle.std.proofs.Common.{◌≡◌, ℕ, ◌+◌, ◌≤◌, ◌^◌, Bool, true, false, cond, List, [], ◌∷◌, length, map, filter, IsTrue, sym, subst, arith}
+use Rattle.std.proofs.Common.{◌≡◌, ℕ, ◌+◌, ◌≤◌, ◌^◌, Bool, true, false, cond, List, [], ◌∷◌, length, map, filter}
+use Rattle.std.proofs.Common.{IsTrue, sym, subst, arith}
 use Rattle.std.proofs.lemmas.Bool.{and_parts, eqb-true}
 use Rattle.std.specs.Prelude.{nat_eq}
 use Rattle.wh_frame.specs.Partition.{Partition}
@@ -18,7 +19,8 @@ use Rattle.wh_table.proofs.Pushed.{last_apart}
 use Rattle.wh_table.proofs.Rising.{last_rising, all_rising}
 
 -- the numbers of those that stand rise, as all numbers do
-numbers_rise : (low next : ℕ) (kept : List Kept) → low ≤ next → next + length kept ≤ 2 ^ 64 → IsTrue (numbered_from next (partitions_in kept))
+numbers_rise : (low next : ℕ) (kept : List Kept) → low ≤ next → next + length kept ≤ 2 ^ 64
+    → IsTrue (numbered_from next (partitions_in kept))
     → NumbersRiseFrom low (map (λ p. p.number) (partitions_in (filter is_standing kept)))
 numbers_rise low next [] under few numbers = tt
 numbers_rise low next (k ∷ kept) under few numbers =
@@ -27,9 +29,11 @@ numbers_rise low next (k ∷ kept) under few numbers =
     pick (is_standing k) here (numbers_rise low (next + 1) kept (omega arith) (omega arith) parts.1)
     (numbers_rise (k.partition.number + 1) (next + 1) kept (omega arith) (omega arith) parts.1)
   where
-    pick : (s : Bool) → k.partition.number ≡ next → NumbersRiseFrom low (map (λ p. p.number) (partitions_in (filter is_standing kept)))
+    pick : (s : Bool) → k.partition.number ≡ next
+        → NumbersRiseFrom low (map (λ p. p.number) (partitions_in (filter is_standing kept)))
         → NumbersRiseFrom (k.partition.number + 1) (map (λ p. p.number) (partitions_in (filter is_standing kept)))
-        → NumbersRiseFrom low (map (λ p. p.number) (partitions_in (cond s (k ∷ filter is_standing kept) (filter is_standing kept))))
+        → NumbersRiseFrom low
+        (map (λ p. p.number) (partitions_in (cond s (k ∷ filter is_standing kept) (filter is_standing kept))))
     pick true here passed taken = (omega arith, omega arith, taken)
     pick false here passed taken = passed
 

@@ -1,5 +1,6 @@
 -- A version more, or less, of a table.
-use Rattle.std.proofs.Common.{◌≡◌, ℕ, true, List, [], ◌∷◌, ◌++◌, length, map, take, Some, IsTrue, refl, ap, ◌∙◌, arith, length-append}
+use Rattle.std.proofs.Common.{◌≡◌, ℕ, true, List, [], ◌∷◌, ◌++◌, length, map, take, Some, IsTrue, refl, ap}
+use Rattle.std.proofs.Common.{◌∙◌, arith, length-append}
 use Rattle.std.proofs.lemmas.List.{take-append-le, take_all}
 use Rattle.std.specs.List.{list_all}
 use Rattle.std.proofs.lemmas.Bool.{and_parts}
@@ -38,7 +39,8 @@ last_apart (v ∷ w ∷ vs) apart = last_apart (w ∷ vs) (and_parts (is_apart v
 
 -- ---- what the last version means
 
-pub last_meant : (vs : List StoredVersion) → (content_in nothing_held (last_of (map version_meant vs))).rows ≡ rows_of (standing_in vs)
+pub last_meant : (vs : List StoredVersion)
+    → (content_in nothing_held (last_of (map version_meant vs))).rows ≡ rows_of (standing_in vs)
 last_meant [] = refl
 last_meant (v ∷ []) = refl
 last_meant (v ∷ w ∷ vs) = last_meant (w ∷ vs)

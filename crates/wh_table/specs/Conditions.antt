@@ -1,7 +1,8 @@
 -- When a new version applies, as tests.
 --     version_applies      whether it applies to its table
 --     rises_above          whether the row numbers of each partition lie above a bound and above those before it
-use Rattle.std.specs.Prelude.{ℕ, ◌+◌, max, Bool, true, ◌&&◌, ◌==◌, List, [], ◌∷◌, length, nat_lt, nat_le, nat_eq, Option, Some, None}
+use Rattle.std.specs.Prelude.{ℕ, ◌+◌, max, Bool, true, ◌&&◌, ◌==◌, List, [], ◌∷◌, length, nat_lt, nat_le, nat_eq}
+use Rattle.std.specs.Prelude.{Option, Some, None}
 use Rattle.std.specs.List.{list_all, list_any}
 use Rattle.wh_value.specs.Value.{Row}
 use Rattle.wh_value.specs.Column.{Column}
@@ -35,7 +36,8 @@ rises_above bound (p ∷ ps) = nat_lt bound (first_number p.rows) && rises_above
 
 abbrev pub is_formed : StoredTable → VersionChange → Bool
 is_formed t c =
-    does_not_fall (last_of t.versions) c.data_timestamp && ((c.width == length t.columns) && (nat_le c.next_row (bound limits.RowNumber)
+    does_not_fall (last_of t.versions) c.data_timestamp
+    && ((c.width == length t.columns) && (nat_le c.next_row (bound limits.RowNumber)
     && nat_le (t.next_partition + length c.added) (bound limits.PartitionNumber)))
 
 abbrev pub partitions_apply : StoredTable → VersionChange → Bool

@@ -1,5 +1,7 @@
 -- The bytes ahead, behind a read.
-use Rattle.std.proofs.Common.{◌≡◌, ℕ, zero, suc, ◌+◌, ◌-◌, ◌<◌, ◌≤◌, true, List, [], ◌∷◌, ◌++◌, length, take, drop, Option, Some, None, option_map, ltb, MatchBool, refl, sym, ap, ◌∙◌, arith, lt-ltb, length-append, length-take}
+use Rattle.std.proofs.Common.{◌≡◌, ℕ, zero, suc, ◌+◌, ◌-◌, ◌<◌, ◌≤◌, true, List, [], ◌∷◌, ◌++◌, length, take, drop}
+use Rattle.std.proofs.Common.{Option, Some, None, option_map, ltb, MatchBool, refl, sym, ap, ◌∙◌, arith, lt-ltb}
+use Rattle.std.proofs.Common.{length-append, length-take}
 use Rattle.wh_text.specs.Turn.{ahead_and}
 use Rattle.wh_text.specs.Ahead.{AheadState, Fills, AtEnd, total}
 
@@ -24,15 +26,17 @@ read_some : (old : AheadState) (taken n : ℕ) (items read : List ℕ) (left_old
     → left_old ≡ option_map (λ rest. take n read ++ rest) left_new
     → Fills old (behind_read taken n items) left_old left_new
 read_some old taken n items read left_old left_new none count same within some given =
-    let counted : length (take (n - 0) (drop 0 items)) ≡ n = omega (arith, length-take (n - 0) (drop 0 items), ap length same) in
+    let counted : length (take (n - 0) (drop 0 items)) ≡ n =
+    omega (arith, length-take (n - 0) (drop 0 items), ap length same) in
     record {
       some = omega (arith, counted);
       same = same_bytes n items read left_old left_new same given ∙ ap (λ bytes. ahead_and bytes left_old) (sym none);
       unused = omega (arith, counted, ap length none, count);
     }
 
-ends_there : (left : Option (List ℕ)) → ((bytes : List ℕ) → left ≡ Some bytes → bytes ≡ []) → (ahead : List ℕ) → ahead ≡ []
-    → (script : List ℕ) → ahead_and ahead left ≡ Some script → script ≡ []
+ends_there : (left : Option (List ℕ)) → ((bytes : List ℕ) → left ≡ Some bytes → bytes ≡ []) → (ahead : List ℕ)
+    → ahead ≡ [] → (script : List ℕ) → ahead_and ahead left ≡ Some script
+    → script ≡ []
 ends_there None end ahead none script is = absurd (cc)
 ends_there (Some bytes) end ahead none script is =
     let here : bytes ≡ [] = end bytes refl in
@@ -45,7 +49,8 @@ read_none : (old : AheadState) (taken n : ℕ) (items read : List ℕ) (left_old
     → ((bytes : List ℕ) → left_old ≡ Some bytes → bytes ≡ [])
     → AtEnd old (behind_read taken n items) left_old left_new
 read_none old taken n items read left_old left_new none count same within nothing given end =
-    let counted : length (take (n - 0) (drop 0 items)) ≡ n = omega (arith, length-take (n - 0) (drop 0 items), ap length same) in
+    let counted : length (take (n - 0) (drop 0 items)) ≡ n =
+    omega (arith, length-take (n - 0) (drop 0 items), ap length same) in
     record {
       none = ends_there left_old end old.bytes none;
       same = same_bytes n items read left_old left_new same given ∙ ap (λ bytes. ahead_and bytes left_old) (sym none);
@@ -57,7 +62,8 @@ pub read_behind : (old : AheadState) (taken n : ℕ) (items read : List ℕ) (le
     → old.bytes ≡ [] → old.taken ≡ taken → items ≡ read → n ≤ length read
     → left_old ≡ option_map (λ rest. take n read ++ rest) left_new
     → (n ≡ 0 → (bytes : List ℕ) → left_old ≡ Some bytes → bytes ≡ [])
-    → MatchBool (ltb 0 n) (Fills old (behind_read taken n items) left_old left_new) (AtEnd old (behind_read taken n items) left_old left_new)
+    → MatchBool (ltb 0 n) (Fills old (behind_read taken n items) left_old left_new)
+    (AtEnd old (behind_read taken n items) left_old left_new)
 read_behind old taken zero items read left_old left_new none count same within given end =
     read_none old taken zero items read left_old left_new none count same within refl given (end refl)
 read_behind old taken (suc n) items read left_old left_new none count same within given end =
@@ -65,8 +71,9 @@ read_behind old taken (suc n) items read left_old left_new none count same withi
     rw some (read_some old taken (suc n) items read left_old left_new none count same within (omega arith) given)
 
 -- what the source lost was counted
-pub read_counts : (old : AheadState) (taken n : ℕ) (items read : List ℕ) (left_old left_new : Option (List ℕ)) → old.taken ≡ taken → n ≤ length read
-    → left_old ≡ option_map (λ rest. take n read ++ rest) left_new → total (behind_read taken n items) left_new ≡ total old left_old
+pub read_counts : (old : AheadState) (taken n : ℕ) (items read : List ℕ) (left_old left_new : Option (List ℕ))
+    → old.taken ≡ taken → n ≤ length read → left_old ≡ option_map (λ rest. take n read ++ rest) left_new
+    → total (behind_read taken n items) left_new ≡ total old left_old
 read_counts old taken n items read left_old None count within given = rw given refl
 read_counts old taken n items read left_old (Some rest) count within given =
     let sizes : length rest + (taken + n) ≡ length (take n read ++ rest) + old.taken
@@ -74,6 +81,7 @@ read_counts old taken n items read left_old (Some rest) count within given =
     rw given (ap Some sizes)
 
 -- the first of the bytes ahead is the first that is still to be read
-pub first_ahead : (b : ℕ) (bytes : List ℕ) (left : Option (List ℕ)) → ahead_and (b ∷ bytes) left ≡ option_map (λ rest. b ∷ rest) (ahead_and bytes left)
+pub first_ahead : (b : ℕ) (bytes : List ℕ) (left : Option (List ℕ))
+    → ahead_and (b ∷ bytes) left ≡ option_map (λ rest. b ∷ rest) (ahead_and bytes left)
 first_ahead b bytes None = refl
 first_ahead b bytes (Some rest) = refl

@@ -1,5 +1,6 @@
 -- An area behind one byte, by the definition of a script and by an `Area`.
-use Rattle.std.proofs.Common.{◌≡◌, ℕ, Bool, true, false, ◌||◌, ◌==◌, List, ◌∷◌, if◌then◌else◌, refl, sym, ap, ◌∙◌, eq-eqb, eqb-true, arith}
+use Rattle.std.proofs.Common.{◌≡◌, ℕ, Bool, true, false, ◌||◌, ◌==◌, List, ◌∷◌, if◌then◌else◌, refl, sym, ap, ◌∙◌}
+use Rattle.std.proofs.Common.{eq-eqb, eqb-true, arith}
 use Rattle.wh_grammar.specs.Script as scripts
 use Rattle.wh_grammar.specs.Script.{area_behind, ends_command}
 use Rattle.wh_text.specs.Area.{area_of, behind_plain, behind_comment, behind, ends}
@@ -33,7 +34,8 @@ plain_cases b bytes false false false eq em es = rw (eq, em, es) refl
 pub plain_step : (b : ℕ) (bytes : List ℕ) → area_behind scripts.Plain b bytes ≡ area_of (behind_plain b) bytes
 plain_step b bytes = plain_cases b bytes (b == 39 || b == 34) (b == 45) (b == 47) refl refl refl
 
-comment_cases : (b : ℕ) (bytes : List ℕ) (v : Bool) → (b == 42) ≡ v → area_behind scripts.Comment b bytes ≡ area_of (behind_comment b) bytes
+comment_cases : (b : ℕ) (bytes : List ℕ) (v : Bool) → (b == 42) ≡ v
+    → area_behind scripts.Comment b bytes ≡ area_of (behind_comment b) bytes
 unfolding area_behind
 comment_cases b bytes true e = rw e refl
 comment_cases b bytes false e = rw e refl
@@ -41,7 +43,8 @@ comment_cases b bytes false e = rw e refl
 pub comment_step : (b : ℕ) (bytes : List ℕ) → area_behind scripts.Comment b bytes ≡ area_of (behind_comment b) bytes
 comment_step b bytes = comment_cases b bytes (b == 42) refl
 
-minus_cases : (b : ℕ) (bytes : List ℕ) (v : Bool) → (b == 45) ≡ v → area_behind (area_of Minus (b ∷ bytes)) b bytes ≡ area_of (behind Minus b) bytes
+minus_cases : (b : ℕ) (bytes : List ℕ) (v : Bool) → (b == 45) ≡ v
+    → area_behind (area_of Minus (b ∷ bytes)) b bytes ≡ area_of (behind Minus b) bytes
 unfolding area_behind
 minus_cases b bytes true e = rw (eqb-true b 45 e) refl
 minus_cases b bytes false e =
@@ -49,12 +52,14 @@ minus_cases b bytes false e =
     ∙ plain_step b bytes
     ∙ ap (λ area. area_of area bytes) (sym (otherwise (b == 45) LineComment (behind_plain b) e))
 
-slash_cases : (b : ℕ) (bytes : List ℕ) (v : Bool) → (b == 42) ≡ v → area_behind (area_of Slash (b ∷ bytes)) b bytes ≡ area_of (behind Slash b) bytes
+slash_cases : (b : ℕ) (bytes : List ℕ) (v : Bool) → (b == 42) ≡ v
+    → area_behind (area_of Slash (b ∷ bytes)) b bytes ≡ area_of (behind Slash b) bytes
 unfolding area_behind
 slash_cases b bytes true e = rw (eqb-true b 42 e) refl
 slash_cases b bytes false e = rw (swapped 42 b false e, e) (plain_step b bytes)
 
-star_cases : (b : ℕ) (bytes : List ℕ) (v : Bool) → (b == 47) ≡ v → area_behind (area_of Star (b ∷ bytes)) b bytes ≡ area_of (behind Star b) bytes
+star_cases : (b : ℕ) (bytes : List ℕ) (v : Bool) → (b == 47) ≡ v
+    → area_behind (area_of Star (b ∷ bytes)) b bytes ≡ area_of (behind Star b) bytes
 unfolding area_behind
 star_cases b bytes true e = rw (eqb-true b 47 e) refl
 star_cases b bytes false e = rw (swapped 47 b false e, e) (comment_step b bytes)
@@ -65,13 +70,15 @@ unfolding area_behind
 between_cases quote b bytes true e = rw e refl
 between_cases quote b bytes false e = rw e refl
 
-line_cases : (b : ℕ) (bytes : List ℕ) (v : Bool) → (b == 10) ≡ v → area_behind scripts.LineComment b bytes ≡ area_of (behind LineComment b) bytes
+line_cases : (b : ℕ) (bytes : List ℕ) (v : Bool) → (b == 10) ≡ v
+    → area_behind scripts.LineComment b bytes ≡ area_of (behind LineComment b) bytes
 unfolding area_behind
 line_cases b bytes true e = rw e refl
 line_cases b bytes false e = rw e refl
 
 -- the byte behind stands where the code says
-pub area_step : (area : Area) (b : ℕ) (bytes : List ℕ) → area_behind (area_of area (b ∷ bytes)) b bytes ≡ area_of (behind area b) bytes
+pub area_step : (area : Area) (b : ℕ) (bytes : List ℕ)
+    → area_behind (area_of area (b ∷ bytes)) b bytes ≡ area_of (behind area b) bytes
 area_step Plain b bytes = plain_step b bytes
 area_step Minus b bytes = minus_cases b bytes (b == 45) refl
 area_step Slash b bytes = slash_cases b bytes (b == 42) refl
@@ -80,11 +87,13 @@ area_step LineComment b bytes = line_cases b bytes (b == 10) refl
 area_step Comment b bytes = comment_step b bytes
 area_step Star b bytes = star_cases b bytes (b == 47) refl
 
-minus_ends : (b : ℕ) (bytes : List ℕ) (v : Bool) → (b == 45) ≡ v → ends_command (area_of Minus (b ∷ bytes)) b ≡ (b == 59)
+minus_ends : (b : ℕ) (bytes : List ℕ) (v : Bool) → (b == 45) ≡ v
+    → ends_command (area_of Minus (b ∷ bytes)) b ≡ (b == 59)
 minus_ends b bytes true e = rw (eqb-true b 45 e) refl
 minus_ends b bytes false e = rw (swapped 45 b false e) refl
 
-slash_ends : (b : ℕ) (bytes : List ℕ) (v : Bool) → (b == 42) ≡ v → ends_command (area_of Slash (b ∷ bytes)) b ≡ (b == 59)
+slash_ends : (b : ℕ) (bytes : List ℕ) (v : Bool) → (b == 42) ≡ v
+    → ends_command (area_of Slash (b ∷ bytes)) b ≡ (b == 59)
 slash_ends b bytes true e = rw (eqb-true b 42 e) refl
 slash_ends b bytes false e = rw (swapped 42 b false e) refl
 

@@ -1,5 +1,7 @@
 -- Marked lines: of a long one only its front matters, and the CR at its end.
-use Rattle.std.proofs.Common.{◌≡◌, ℕ, zero, suc, ◌+◌, ◌<◌, ◌≤◌, Bool, true, false, ◌&&◌, ◌==◌, List, [], ◌∷◌, ◌++◌, get_or, length, take, drop, None, nat_le, nat_eq, codes, refl, sym, ap, ◌∙◌, arith, eq-eqb, length-append, length-drop}
+use Rattle.std.proofs.Common.{◌≡◌, ℕ, zero, suc, ◌+◌, ◌<◌, ◌≤◌, Bool, true, false, ◌&&◌, ◌==◌, List, [], ◌∷◌, ◌++◌}
+use Rattle.std.proofs.Common.{get_or, length, take, drop, None, nat_le, nat_eq, codes, refl, sym, ap, ◌∙◌, arith}
+use Rattle.std.proofs.Common.{eq-eqb, length-append, length-drop}
 use Rattle.std.proofs.lemmas.List.{take-append-le}
 use Rattle.std.proofs.lemmas.Bool.Decides.{nat_tests}
 use Rattle.std.proofs.lemmas.Slice.Eq.{bytes_eq-Decides}
@@ -21,10 +23,12 @@ le_false : (a b : ℕ) → b < a → nat_le a b ≡ false
 le_false a b above = grind (arith, nat_tests)
 
 -- no number of so few digits
-long_number : (word : List ℕ) (most : ℕ) (text : List ℕ) → length word + most < length text → number_after word most text ≡ None
+long_number : (word : List ℕ) (most : ℕ) (text : List ℕ) → length word + most < length text
+    → number_after word most text ≡ None
 long_number word most text long =
     let digits = drop (length word) text in
-    let above : nat_le (length digits) most ≡ false = le_false (length digits) most (omega (arith, length-drop (length word) text)) in
+    let above : nat_le (length digits) most ≡ false =
+    le_false (length digits) most (omega (arith, length-drop (length word) text)) in
     rw (above, none_by (starts_with nat_eq text word) (nat_le 1 (length digits)) (list_all is_digit digits)) refl
 
 -- a long line is a command
@@ -61,27 +65,32 @@ marked_front text more long =
     long_line (text ++ more) longer ∙ ap CommandLine front ∙ sym (long_line text (omega arith))
 
 -- nor at the end of a line
-pub returned_front : (text more : List ℕ) → 65538 ≤ length text → marked_line (without_return (text ++ more)) ≡ marked_line (without_return text)
+pub returned_front : (text more : List ℕ) → 65538 ≤ length text
+    → marked_line (without_return (text ++ more)) ≡ marked_line (without_return text)
 returned_front text more long =
     let whole = text ++ more in
     let whole_length : 65538 ≤ length whole = omega (arith, length-append text more) in
     let longer : 65537 ≤ length (without_return whole) = omega (arith, return_length whole) in
     let long_enough : 65537 ≤ length (without_return text) = omega (arith, return_length text) in
     let front : take 65537 (without_return whole) ≡ take 65537 (without_return text) =
-    return_front whole 65537 (omega arith) ∙ take-append-le 65537 text more (omega arith) ∙ sym (return_front text 65537 (omega arith)) in
+    return_front whole 65537 (omega arith) ∙ take-append-le 65537 text more (omega arith)
+    ∙ sym (return_front text 65537 (omega arith)) in
     long_line (without_return whole) longer ∙ ap CommandLine front ∙ sym (long_line (without_return text) long_enough)
 
 -- the CR at the end, if there is one
-pub return_dropped : (text : List ℕ) (n : ℕ) → length text ≡ suc n → get_or text n 0 ≡ 13 → without_return text ≡ take n text
+pub return_dropped : (text : List ℕ) (n : ℕ) → length text ≡ suc n → get_or text n 0 ≡ 13
+    → without_return text ≡ take n text
 unfolding without_return
 return_dropped [] n counted last = absurd (omega arith)
 return_dropped (b ∷ []) zero counted last = rw (eq-eqb b 13 last) refl
 return_dropped (b ∷ []) (suc n) counted last = absurd (omega arith)
 return_dropped (b ∷ c ∷ bytes) zero counted last = absurd (omega arith)
-return_dropped (b ∷ c ∷ bytes) (suc n) counted last = ap (λ xs. b ∷ xs) (return_dropped (c ∷ bytes) n (omega arith) last)
+return_dropped (b ∷ c ∷ bytes) (suc n) counted last =
+    ap (λ xs. b ∷ xs) (return_dropped (c ∷ bytes) n (omega arith) last)
 
 -- nothing else is dropped
-pub return_kept : (text : List ℕ) (n : ℕ) → length text ≡ suc n → (get_or text n 0 == 13) ≡ false → without_return text ≡ text
+pub return_kept : (text : List ℕ) (n : ℕ) → length text ≡ suc n → (get_or text n 0 == 13) ≡ false
+    → without_return text ≡ text
 unfolding without_return
 return_kept [] n counted other = absurd (omega arith)
 return_kept (b ∷ []) zero counted other = rw other refl

@@ -22,7 +22,8 @@ pub record Fills (old new : AheadState) (left_old left_new : Option (List ℕ)) 
   pub same : ahead_and new.bytes left_new ≡ ahead_and old.bytes left_old
   pub unused : consumed new ≡ consumed old
 
-pub record Uses (old new : AheadState) (left_old : Option (List ℕ)) (byte : ℕ) (left_new : Option (List ℕ)) : Type 0 where
+pub record Uses (old new : AheadState) (left_old : Option (List ℕ))
+    (byte : ℕ) (left_new : Option (List ℕ)) : Type 0 where
   pub first : ahead_and old.bytes left_old ≡ option_map (λ rest. byte ∷ rest) (ahead_and new.bytes left_new)
   pub used : consumed new ≡ consumed old + 1
 

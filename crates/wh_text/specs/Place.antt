@@ -5,7 +5,8 @@
 --     kept        the text with one byte more
 --     most        how many bytes the text has at most
 --     begun       1 where a line has begun
-use Rattle.std.specs.Prelude.{ℕ, Bool, false, ◌&&◌, ◌||◌, List, [], ◌∷◌, ◌++◌, length, drop, Option, Some, None, nat_lt, ◌==◌, if◌then◌else◌}
+use Rattle.std.specs.Prelude.{ℕ, Bool, false, ◌&&◌, ◌||◌, List, [], ◌∷◌, ◌++◌, length, drop, Option, Some, None, nat_lt}
+use Rattle.std.specs.Prelude.{◌==◌, if◌then◌else◌}
 use Rattle.wh_grammar.specs.Bytes.{is_blank}
 use Rattle.wh_grammar.specs.Lexing.{begins_with, is_byte, has_comment_end}
 use Rattle.wh_grammar.specs.Script as scripts

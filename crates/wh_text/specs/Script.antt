@@ -20,4 +20,6 @@ abbrev pub fault_of : Script → Option ScriptFault
 fault_of s = s.fault
 
 pub record Counts (old new : Script) (left_old left_new : Option (List ℕ)) : Type 0 where
-  pub each : (left : List ℕ) → left_old ≡ Some left → (rest : List ℕ) × (left_new ≡ Some rest) × (length left + taken_of old ≡ length rest + taken_of new)
+  pub each : (left : List ℕ)
+      → left_old ≡ Some left
+      → (rest : List ℕ) × (left_new ≡ Some rest) × (length left + taken_of old ≡ length rest + taken_of new)

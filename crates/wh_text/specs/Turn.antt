@@ -11,7 +11,9 @@ abbrev pub ahead_and : List ℕ → Option (List ℕ) → Option (List ℕ)
 ahead_and ahead left = option_map (λ rest. ahead ++ rest) left
 
 pub record Gives (old : Option (List ℕ)) (line : Line) (new : Option (List ℕ)) : Type 0 where
-  pub each : (script : List ℕ) → old ≡ Some script → (rest : List ℕ) × (new ≡ Some rest) × (lines_of script ≡ line ∷ lines_of rest)
+  pub each : (script : List ℕ)
+      → old ≡ Some script
+      → (rest : List ℕ) × (new ≡ Some rest) × (lines_of script ≡ line ∷ lines_of rest)
 
 pub record Ends (old new : Option (List ℕ)) : Type 0 where
   pub each : (script : List ℕ) → old ≡ Some script → (new ≡ Some []) × (lines_of script ≡ [])

@@ -8,7 +8,8 @@ use Rattle.std.specs.declared.cmp.Ordering.TheVariants.{Less, Equal, Greater}
 use Rattle.std.specs.Ordering.{nat_cmp, int_cmp, bool_cmp, ordering_then, then_cmp, on}
 use Rattle.std.specs.Cmp.{IsTotalOrder, nat_cmp_total, int_cmp_total, bool_cmp_total, then_total, on_total}
 use Rattle.std.specs.Cmp.Lexicographic.{slice_cmp, lists_total, nat_list_cmp_total}
-use Rattle.std.specs.FinMap.{IsAntisymmetric, int_cmp-IsAntisymmetric, nat_cmp-IsAntisymmetric, slice_cmp-IsAntisymmetric}
+use Rattle.std.specs.FinMap.{IsAntisymmetric, int_cmp-IsAntisymmetric, nat_cmp-IsAntisymmetric}
+use Rattle.std.specs.FinMap.{slice_cmp-IsAntisymmetric}
 use Rattle.wh_value.specs.Value.{Value, Number, Truth, Text, Null, value_cmp, row_cmp}
 
 abbrev kind_of : Value → ℕ
@@ -37,7 +38,8 @@ bytes_of Null = []
 
 -- by kind, and then by what each kind has
 abbrev by_parts : Value → Value → Ordering
-by_parts = then_cmp (on kind_of nat_cmp) (then_cmp (on number_of int_cmp) (then_cmp (on truth_of bool_cmp) (on bytes_of (slice_cmp nat_cmp))))
+by_parts = then_cmp (on kind_of nat_cmp)
+    (then_cmp (on number_of int_cmp) (then_cmp (on truth_of bool_cmp) (on bytes_of (slice_cmp nat_cmp))))
 
 then-Equal : (r : Ordering) → ordering_then r Equal ≡ r
 then-Equal Less = refl

@@ -1,10 +1,12 @@
 -- Values, rows and their order.
 --     Value           NULL, a whole number, a truth value, or a text by its UTF-8 bytes
---     value_cmp       numbers by size, FALSE before TRUE, texts by bytes, and NULL last; between the kinds in this order
+--     value_cmp       numbers by size, FALSE before TRUE, texts by bytes, and NULL last;
+--                     between the kinds in this order
 --     Row, row_cmp    values from left to right, and their order
 --     IsValue         what a table may hold: 18 digits at most, and texts of UTF-8 up to 65,536 bytes
 --     literal         how a value is printed
-use Rattle.std.specs.Prelude.{◌≡◌, ℕ, ◌<◌, ◌≤◌, Bool, true, false, List, [], ◌∷◌, ◌++◌, ℤ, ◌⊎◌, ◌==◌, if◌then◌else◌, unsigned_abs, length, codes, IsUtf8, refl, Option, Some, None}
+use Rattle.std.specs.Prelude.{◌≡◌, ℕ, ◌<◌, ◌≤◌, Bool, true, false, List, [], ◌∷◌, ◌++◌, ℤ, ◌⊎◌, ◌==◌, if◌then◌else◌}
+use Rattle.std.specs.Prelude.{unsigned_abs, length, codes, IsUtf8, refl, Option, Some, None}
 use Rattle.std.specs.List.{flat_map, AllByRecursion}
 use Rattle.std.specs.declared.cmp.Ordering.{Ordering}
 use Rattle.std.specs.declared.cmp.Ordering.TheVariants.{Less, Equal, Greater}
@@ -99,4 +101,5 @@ whole_parts Null = refl
 
 -- so that a value can be what contracts see of a struct
 abbrev pub coded_value : Coded Value
-coded_value = code_by (Option (ℤ ⊎ (Bool ⊎ List ℕ))) (coded_option (coded⊎ coded_ℤ (coded⊎ coded_bool (coded_list coded_ℕ)))) parts whole whole_parts
+coded_value = code_by (Option (ℤ ⊎ (Bool ⊎ List ℕ)))
+    (coded_option (coded⊎ coded_ℤ (coded⊎ coded_bool (coded_list coded_ℕ)))) parts whole whole_parts

@@ -1,5 +1,6 @@
 -- Whether a partition of a number stands.
-use Rattle.std.proofs.Common.{◌≡◌, ℕ, zero, suc, ◌+◌, ◌<◌, ◌≤◌, ◌⊎◌, inl, inr, cond, Bool, true, false, List, [], ◌∷◌, length, filter, get_or, IsTrue, refl, sym, ap, ◌∙◌, arith}
+use Rattle.std.proofs.Common.{◌≡◌, ℕ, zero, suc, ◌+◌, ◌<◌, ◌≤◌, ◌⊎◌, inl, inr, cond, Bool, true, false, List, [], ◌∷◌}
+use Rattle.std.proofs.Common.{length, filter, get_or, IsTrue, refl, sym, ap, ◌∙◌, arith}
 use Rattle.std.proofs.lemmas.Bool.{and_parts, eqb-true, eq-eqb, ne_eqb}
 use Rattle.std.specs.Prelude.{◌||◌, nat_eq}
 use Rattle.std.specs.List.{list_any}
@@ -12,38 +13,49 @@ has_number number p = nat_eq number p.number
 
 -- one of another number makes no difference
 passed_over : (number : ℕ) (k : Kept) (kept : List Kept) → (number ≡ k.partition.number → ⊥) → (s : Bool)
-    → list_any (has_number number) (partitions_in (cond s (k ∷ kept) kept)) ≡ list_any (has_number number) (partitions_in kept)
-passed_over number k kept other true = ap (λ b. b || list_any (has_number number) (partitions_in kept)) (ne_eqb number k.partition.number other)
+    → list_any (has_number number) (partitions_in (cond s (k ∷ kept) kept))
+    ≡ list_any (has_number number) (partitions_in kept)
+passed_over number k kept other true =
+    ap (λ b. b || list_any (has_number number) (partitions_in kept)) (ne_eqb number k.partition.number other)
 passed_over number k kept other false = refl
 
-pub none_there : (number next : ℕ) (kept : List Kept) → IsTrue (numbered_from next (partitions_in kept)) → (number < next) ⊎ (next + length kept ≤ number)
+pub none_there : (number next : ℕ) (kept : List Kept) → IsTrue (numbered_from next (partitions_in kept))
+    → (number < next) ⊎ (next + length kept ≤ number)
     → list_any (has_number number) (partitions_in (filter is_standing kept)) ≡ false
 none_there number next [] numbers off = refl
 none_there number next (k ∷ kept) numbers off =
     let parts = and_parts (nat_eq k.partition.number next) (numbered_from (next + 1) (partitions_in kept)) numbers in
     let here : k.partition.number ≡ next = eqb-true k.partition.number next parts.0 in
-    passed_over number k (filter is_standing kept) (other here off) (is_standing k) ∙ none_there number (next + 1) kept parts.1 (further off)
+    passed_over number k (filter is_standing kept) (other here off) (is_standing k)
+    ∙ none_there number (next + 1) kept parts.1 (further off)
   where
-    further : (number < next) ⊎ (next + length (k ∷ kept) ≤ number) → (number < next + 1) ⊎ (next + 1 + length kept ≤ number)
+    further : (number < next) ⊎ (next + length (k ∷ kept) ≤ number)
+        → (number < next + 1) ⊎ (next + 1 + length kept ≤ number)
     further (inl below) = inl (omega arith)
     further (inr above) = inr (omega arith)
 
-    other : k.partition.number ≡ next → (number < next) ⊎ (next + length (k ∷ kept) ≤ number) → number ≡ k.partition.number → ⊥
+    other : k.partition.number ≡ next → (number < next) ⊎ (next + length (k ∷ kept) ≤ number)
+        → number ≡ k.partition.number
+        → ⊥
     other here (inl below) e = omega arith
     other here (inr above) e = omega arith
 
-found_first : (number : ℕ) (k : Kept) (kept : List Kept) → number ≡ k.partition.number → list_any (has_number number) (partitions_in kept) ≡ false → (s : Bool)
+found_first : (number : ℕ) (k : Kept) (kept : List Kept) → number ≡ k.partition.number
+    → list_any (has_number number) (partitions_in kept) ≡ false → (s : Bool)
     → list_any (has_number number) (partitions_in (cond s (k ∷ kept) kept)) ≡ s
-found_first number k kept is none true = ap (λ b. b || list_any (has_number number) (partitions_in kept)) (eq-eqb number k.partition.number is)
+found_first number k kept is none true =
+    ap (λ b. b || list_any (has_number number) (partitions_in kept)) (eq-eqb number k.partition.number is)
 found_first number k kept is none false = none
 
-pub one_there : (next i : ℕ) (kept : List Kept) (k : Kept) → IsTrue (numbered_from next (partitions_in kept)) → i < length kept → k ≡ get_or kept i k
+pub one_there : (next i : ℕ) (kept : List Kept) (k : Kept) → IsTrue (numbered_from next (partitions_in kept))
+    → i < length kept → k ≡ get_or kept i k
     → list_any (has_number (next + i)) (partitions_in (filter is_standing kept)) ≡ is_standing k
 one_there next i [] k numbers within is = absurd (omega arith)
 one_there next zero (x ∷ kept) k numbers within is =
     let parts = and_parts (nat_eq x.partition.number next) (numbered_from (next + 1) (partitions_in kept)) numbers in
     let here : x.partition.number ≡ next = eqb-true x.partition.number next parts.0 in
-    found_first (next + 0) x (filter is_standing kept) (omega arith) (none_there (next + 0) (next + 1) kept parts.1 (inl (omega arith))) (is_standing x) ∙ ap is_standing (sym is)
+    found_first (next + 0) x (filter is_standing kept) (omega arith)
+    (none_there (next + 0) (next + 1) kept parts.1 (inl (omega arith))) (is_standing x) ∙ ap is_standing (sym is)
 one_there next (suc i) (x ∷ kept) k numbers within is =
     let parts = and_parts (nat_eq x.partition.number next) (numbered_from (next + 1) (partitions_in kept)) numbers in
     let here : x.partition.number ≡ next = eqb-true x.partition.number next parts.0 in

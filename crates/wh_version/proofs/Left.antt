@@ -3,7 +3,8 @@
 --     made_one, made_none             a partition of rows, and of no row
 --     made_more                       one more in front of others
 --     left_on, left_none, left_all    from the first partition to the last one
-use Rattle.std.proofs.Common.{◌≡◌, ℕ, ◌+◌, ◌-◌, ◌<◌, ◌≤◌, List, [], ◌∷◌, ◌++◌, length, map, take, get_or, refl, sym, ap, ◌∙◌, append_assoc, append-nil, length-append, Option, Some, None, arith}
+use Rattle.std.proofs.Common.{◌≡◌, ℕ, ◌+◌, ◌-◌, ◌<◌, ◌≤◌, List, [], ◌∷◌, ◌++◌, length, map, take, get_or, refl, sym, ap}
+use Rattle.std.proofs.Common.{◌∙◌, append_assoc, append-nil, length-append, Option, Some, None, arith}
 use Rattle.std.proofs.lemmas.List.{take_all}
 use Rattle.std.specs.FinMap.{get}
 use denote.Ref.{Bor}
@@ -17,7 +18,8 @@ pub length_edited : (edits : RowEdits) (rows : List (ℕ × Row)) → length (ed
 length_edited edits [] = omega arith
 length_edited edits (e ∷ es) = one (get edits e.0) (length_edited edits es)
   where
-    one : (o : Option (Option Row)) → length (edited edits es) ≤ length es → length (row_as e o ++ edited edits es) ≤ length (e ∷ es)
+    one : (o : Option (Option Row)) → length (edited edits es) ≤ length es
+        → length (row_as e o ++ edited edits es) ≤ length (e ∷ es)
     one None rest = omega arith
     one (Some None) rest = omega arith
     one (Some (Some row)) rest = omega arith
@@ -26,11 +28,13 @@ rises_lower : (least most : ℕ) (rows : List (ℕ × Row)) → least ≤ most �
 rises_lower least most [] below rises = tt
 rises_lower least most (e ∷ es) below rises = let here = rises.0 in (omega arith, rises.1)
 
-pub rises_edited : (edits : RowEdits) (least : ℕ) (rows : List (ℕ × Row)) → RisesFrom least rows → RisesFrom least (edited edits rows)
+pub rises_edited : (edits : RowEdits) (least : ℕ) (rows : List (ℕ × Row)) → RisesFrom least rows
+    → RisesFrom least (edited edits rows)
 rises_edited edits least [] rises = tt
 rises_edited edits least (e ∷ es) rises = one (get edits e.0) (rises_edited edits (e.0 + 1) es rises.1)
   where
-    one : (o : Option (Option Row)) → RisesFrom (e.0 + 1) (edited edits es) → RisesFrom least (row_as e o ++ edited edits es)
+    one : (o : Option (Option Row)) → RisesFrom (e.0 + 1) (edited edits es)
+        → RisesFrom least (row_as e o ++ edited edits es)
     one None rest = (rises.0, rest)
     one (Some None) rest = let here = rises.0 in rises_lower least (e.0 + 1) (edited edits es) (omega arith) rest
     one (Some (Some row)) rest = (rises.0, rest)
@@ -54,8 +58,10 @@ made_more next (e ∷ es) lists = refl
 abbrev pub lefts : RowEdits → List Partition → List (List (ℕ × Row))
 lefts edits ps = map (λ p. edited edits p.rows) ps
 
-module _ (edits : RowEdits) (next : ℕ) (sorted : List (Bor Partition)) (count done : ℕ) (size : count ≡ length sorted) where
-  pub left_on : (x : Bor Partition) (before after all : List Partition) → done < count → x ≡ get_or sorted (count - 1 - done) x
+module _ (edits : RowEdits) (next : ℕ) (sorted : List (Bor Partition))
+    (count done : ℕ) (size : count ≡ length sorted) where
+  pub left_on : (x : Bor Partition) (before after all : List Partition) → done < count
+      → x ≡ get_or sorted (count - 1 - done) x
       → after ≡ before ++ made_of (next + length before) (edited edits x.now.rows ∷ [])
       → before ++ made_of (next + length before) (lefts edits (turned (take (count - done) sorted))) ≡ all
       → after ++ made_of (next + length after) (lefts edits (turned (take (count - (done + 1)) sorted))) ≡ all
@@ -65,8 +71,10 @@ module _ (edits : RowEdits) (next : ℕ) (sorted : List (Bor Partition)) (count 
       let fewer : count - (done + 1) ≡ count - done - 1 = omega arith in
       let place : count - 1 - done ≡ count - done - 1 = omega arith in
       let here : x ≡ get_or sorted (count - done - 1) x = is ∙ ap (λ n. get_or sorted n x) place in
-      let first : turned (take (count - done) sorted) ≡ x.now ∷ turned (take (count - done - 1) sorted) = turned-take sorted (count - done) x (omega arith) (omega arith) here in
-      let long : next + length after ≡ next + length before + length one = omega (arith, ap length more, length-append before one) in
+      let first : turned (take (count - done) sorted) ≡ x.now ∷ turned (take (count - done - 1) sorted) =
+      turned-take sorted (count - done) x (omega arith) (omega arith) here in
+      let long : next + length after ≡ next + length before + length one =
+      omega (arith, ap length more, length-append before one) in
       ap (λ n. after ++ made_of (next + length after) (lefts edits (turned (take n sorted)))) fewer
       ∙ ap (λ n. after ++ made_of n rest) long
       ∙ ap (λ l. l ++ made_of (next + length before + length one) rest) more
@@ -75,13 +83,18 @@ module _ (edits : RowEdits) (next : ℕ) (sorted : List (Bor Partition)) (count 
       ∙ ap (λ ps. before ++ made_of (next + length before) (lefts edits ps)) (sym first)
       ∙ so_far
 
-  pub left_none : (all : List Partition) → all ≡ made_of next (lefts edits (turned sorted)) → made_of (next + 0) (lefts edits (turned (take (count - 0) sorted))) ≡ all
+  pub left_none : (all : List Partition) → all ≡ made_of next (lefts edits (turned sorted))
+      → made_of (next + 0) (lefts edits (turned (take (count - 0) sorted))) ≡ all
   left_none all is =
       let whole : take (count - 0) sorted ≡ sorted = take_all (count - 0) sorted (omega arith) in
       let first : next + 0 ≡ next = omega arith in
-      ap (λ n. made_of n (lefts edits (turned (take (count - 0) sorted)))) first ∙ ap (λ ps. made_of next (lefts edits (turned ps))) whole ∙ sym is
+      ap (λ n. made_of n (lefts edits (turned (take (count - 0) sorted)))) first
+      ∙ ap (λ ps. made_of next (lefts edits (turned ps))) whole ∙ sym is
 
-  pub left_all : (before all : List Partition) → count ≤ done → before ++ made_of (next + length before) (lefts edits (turned (take (count - done) sorted))) ≡ all → before ≡ all
+  pub left_all : (before all : List Partition) → count ≤ done
+      → before ++ made_of (next + length before) (lefts edits (turned (take (count - done) sorted))) ≡ all
+      → before ≡ all
   left_all before all end so_far =
       let none : count - done ≡ 0 = omega arith in
-      sym (append-nil before) ∙ ap (λ n. before ++ made_of (next + length before) (lefts edits (turned (take n sorted)))) (sym none) ∙ so_far
+      sym (append-nil before) ∙ ap
+      (λ n. before ++ made_of (next + length before) (lefts edits (turned (take n sorted)))) (sym none) ∙ so_far

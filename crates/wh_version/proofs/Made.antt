@@ -3,7 +3,8 @@
 --     made_fits      whether the number behind them is within its limit
 --     made_for       as the machine says it
 --     made_numbered  their numbers rise by one from the next on
-use Rattle.std.proofs.Common.{◌≡◌, ℕ, zero, suc, ◌+◌, ◌<◌, ◌≤◌, true, false, List, [], ◌∷◌, ◌++◌, length, drop, refl, sym, ap, subst, ◌∙◌, length-append, arith}
+use Rattle.std.proofs.Common.{◌≡◌, ℕ, zero, suc, ◌+◌, ◌<◌, ◌≤◌, true, false, List, [], ◌∷◌, ◌++◌, length, drop, refl}
+use Rattle.std.proofs.Common.{sym, ap, subst, ◌∙◌, length-append, arith}
 use Rattle.std.proofs.lemmas.Bool.{le-leb, lt-leb}
 use Rattle.std.specs.Prelude.{nat_le}
 use Rattle.wh_value.specs.Value.{Row}
@@ -18,7 +19,8 @@ module _ (next next_row limit : ℕ) (added : List Row) (left : List Partition) 
       let more = length-append left (cut (next + length left) (numbered next_row added)) in
       sym (lt-leb (next + length (with_added next next_row added left)) limit (omega arith))
 
-  module _ (made first more : List Partition) (behind : ℕ) (first_is : first ≡ left) (behind_is : behind ≡ next + length first)
+  module _ (made first more : List Partition)
+      (behind : ℕ) (first_is : first ≡ left) (behind_is : behind ≡ next + length first)
       (more_is : more ≡ cut behind (numbered next_row added)) (made_is : made ≡ first ++ more) where
     pub made_all : made ≡ with_added next next_row added left
     made_all =
@@ -26,18 +28,22 @@ module _ (next next_row limit : ℕ) (added : List Row) (left : List Partition) 
         ∙ ap (λ l. first ++ l) (more_is ∙ ap (λ n. cut n (numbered next_row added)) behind_is)
         ∙ ap (λ l. l ++ cut (next + length l) (numbered next_row added)) first_is
 
-    pub made_fits : next + length made ≤ limit → true ≡ nat_le (next + length (with_added next next_row added left)) limit
+    pub made_fits : next + length made ≤ limit
+        → true ≡ nat_le (next + length (with_added next next_row added left)) limit
     made_fits within =
         let size = ap length made_all in
         sym (le-leb (next + length (with_added next next_row added left)) limit (omega arith))
 
-    pub made_past : limit < next + length made → false ≡ nat_le (next + length (with_added next next_row added left)) limit
+    pub made_past : limit < next + length made
+        → false ≡ nat_le (next + length (with_added next next_row added left)) limit
     made_past past =
         let size = ap length made_all in
         sym (lt-leb (next + length (with_added next next_row added left)) limit (omega arith))
 
-pub made_for : (n next next_row : ℕ) (e : Edits) (found standing : List Partition) → n ≡ next → found ≡ touched e.rows standing
-    → with_added n next_row e.added (made_of n (lefts e.rows (by_rows found))) ≡ partitions_made next next_row e standing
+pub made_for : (n next next_row : ℕ) (e : Edits) (found standing : List Partition) → n ≡ next
+    → found ≡ touched e.rows standing
+    → with_added n next_row e.added (made_of n (lefts e.rows (by_rows found)))
+    ≡ partitions_made next next_row e standing
 unfolding partitions_made
 made_for n next next_row e found standing n_is found_is =
     λ i. with_added (n_is i) next_row e.added (made_of (n_is i) (lefts e.rows (by_rows (found_is i))))
@@ -53,16 +59,19 @@ numbered_cut : (next count : ℕ) (rows : List (ℕ × Row)) → NumberedFrom ne
 numbered_cut next zero rows = tt
 numbered_cut next (suc count) rows = (refl, numbered_cut (next + 1) count (drop 1000 rows))
 
-numbered_both : (next : ℕ) (ps qs : List Partition) → NumberedFrom next ps → NumberedFrom (next + length ps) qs → NumberedFrom next (ps ++ qs)
+numbered_both : (next : ℕ) (ps qs : List Partition) → NumberedFrom next ps → NumberedFrom (next + length ps) qs
+    → NumberedFrom next (ps ++ qs)
 numbered_both next [] qs left right = let P : ℕ → Type 0 = λ n. NumberedFrom n qs in subst P (omega arith) right
 numbered_both next (p ∷ ps) qs left right =
     let P : ℕ → Type 0 = λ n. NumberedFrom n qs in
     (left.0, numbered_both (next + 1) ps qs left.1 (subst P (omega arith) right))
 
-pub made_numbered : (next next_row : ℕ) (e : Edits) (standing : List Partition) → NumberedFrom next (partitions_made next next_row e standing)
+pub made_numbered : (next next_row : ℕ) (e : Edits) (standing : List Partition)
+    → NumberedFrom next (partitions_made next next_row e standing)
 unfolding partitions_made
 made_numbered next next_row e standing =
     let left : List Partition = partitions_left next e.rows standing in
     let added : List (ℕ × Row) = numbered next_row e.added in
     numbered_both next left (cut (next + length left) added)
-    (numbered_left next (lefts e.rows (by_rows (touched e.rows standing)))) (numbered_cut (next + length left) (partitions_of (length added)) added)
+    (numbered_left next (lefts e.rows (by_rows (touched e.rows standing))))
+    (numbered_cut (next + length left) (partitions_of (length added)) added)

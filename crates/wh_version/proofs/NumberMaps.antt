@@ -11,7 +11,8 @@ use Rattle.std.proofs.lemmas.Cmp.{ranked}
 use Rattle.std.specs.Cmp.{eq_by_cmp_equiv, nat_cmp_total}
 use Rattle.std.specs.BTreeMap.{is_at}
 use Rattle.std.specs.Map.{lookup}
-use Rattle.std.specs.FinMap.{get, insert, from_entries, find, same_map, get-from_entries, get-insert, nat_cmp-IsAntisymmetric}
+use Rattle.std.specs.FinMap.{get, insert, from_entries, find, same_map, get-from_entries, get-insert}
+use Rattle.std.specs.FinMap.{nat_cmp-IsAntisymmetric}
 
 module _ {X : Type 0} where
   find-lookup : (q : ℕ) (es : List (ℕ × X)) → find nat_cmp q es ≡ lookup (is_at (nat_cmp q)) es

@@ -1,13 +1,16 @@
 -- Partitions that are gone from a place on.
-use Rattle.std.proofs.Common.{◌≡◌, ℕ, zero, suc, ◌+◌, ◌<◌, ◌≤◌, ◌⊎◌, inl, inr, cond, Bool, true, false, List, [], ◌∷◌, length, map, filter, take, set, get_or, IsTrue, refl, sym, ap, ◌∙◌, arith}
-use Rattle.std.proofs.lemmas.Bool.{and_parts, and_from, and_right, or_cases, or_left, or_right, cases_lt, eqb-true, eq-eqb, ne_eqb, le-ltb, lt-ltb, leb-true, le-leb}
+use Rattle.std.proofs.Common.{◌≡◌, ℕ, zero, suc, ◌+◌, ◌<◌, ◌≤◌, ◌⊎◌, inl, inr, cond, Bool, true, false, List, [], ◌∷◌}
+use Rattle.std.proofs.Common.{length, map, filter, take, set, get_or, IsTrue, refl, sym, ap, ◌∙◌, arith}
+use Rattle.std.proofs.lemmas.Bool.{and_parts, and_from, and_right, or_cases, or_left, or_right, cases_lt, eqb-true}
+use Rattle.std.proofs.lemmas.Bool.{eq-eqb, ne_eqb, le-ltb, lt-ltb, leb-true, le-leb}
 use Rattle.std.proofs.lemmas.List.{take-map, length-map}
 use Rattle.std.specs.List.{list_all}
 use Rattle.std.specs.Prelude.{nat_lt, nat_le, nat_eq, min, not, ◌&&◌, ◌||◌}
 use Rattle.wh_frame.specs.Partition.{Partition}
 use Rattle.wh_machine.specs.Edits.{without, is_among}
 use Rattle.wh_version.specs.declared.kept.Kept.{Kept}
-use Rattle.wh_version.specs.Kept.{stands_at, standing_at, partitions_in, numbered_from, part_one, parted, is_gone_by, is_standing}
+use Rattle.wh_version.specs.Kept.{stands_at, standing_at, partitions_in, numbered_from, part_one}
+use Rattle.wh_version.specs.Kept.{parted, is_gone_by, is_standing}
 
 -- ---- the numbers stay
 
@@ -18,13 +21,17 @@ part_number place number k = pick (nat_eq k.partition.number number)
     pick true = refl
     pick false = refl
 
-pub one_partitions : (place number : ℕ) (kept : List Kept) → partitions_in (map (part_one place number) kept) ≡ partitions_in kept
+pub one_partitions : (place number : ℕ) (kept : List Kept)
+    → partitions_in (map (part_one place number) kept) ≡ partitions_in kept
 one_partitions place number [] = refl
-one_partitions place number (k ∷ kept) = let rest = one_partitions place number kept in λ i. part_number place number k i ∷ rest i
+one_partitions place number (k ∷ kept) = let rest = one_partitions place number kept in
+    λ i. part_number place number k i ∷ rest i
 
-pub parted_partitions : (place : ℕ) (numbers : List ℕ) (kept : List Kept) → partitions_in (parted place numbers kept) ≡ partitions_in kept
+pub parted_partitions : (place : ℕ) (numbers : List ℕ) (kept : List Kept)
+    → partitions_in (parted place numbers kept) ≡ partitions_in kept
 parted_partitions place [] kept = refl
-parted_partitions place (n ∷ numbers) kept = parted_partitions place numbers (map (part_one place n) kept) ∙ one_partitions place n kept
+parted_partitions place (n ∷ numbers) kept = parted_partitions place numbers (map (part_one place n) kept)
+    ∙ one_partitions place n kept
 
 -- ---- one number, by its place in the list
 
@@ -32,12 +39,17 @@ abbrev gone_from : ℕ → Kept → Kept
 gone_from place k = record k { until = min k.until place }
 
 other_number : (place number : ℕ) (k : Kept) → (k.partition.number ≡ number → ⊥) → part_one place number k ≡ k
-other_number place number k other = ap (λ b. cond b (record k { until = min k.until place }) k) (ne_eqb k.partition.number number other)
+other_number place number k other =
+    ap (λ b. cond b (record k { until = min k.until place }) k) (ne_eqb k.partition.number number other)
 
-that_number : (place number : ℕ) (k : Kept) → k.partition.number ≡ number → part_one place number k ≡ record k { until = min k.until place }
-that_number place number k is = ap (λ b. cond b (record k { until = min k.until place }) k) (eq-eqb k.partition.number number is)
+that_number : (place number : ℕ) (k : Kept) → k.partition.number ≡ number
+    → part_one place number k ≡ record k { until = min k.until place }
+that_number place number k is =
+    ap (λ b. cond b (record k { until = min k.until place }) k) (eq-eqb k.partition.number number is)
 
-pub not_there : (place next number : ℕ) (kept : List Kept) → IsTrue (numbered_from next (partitions_in kept)) → (number < next) ⊎ (next + length kept ≤ number) → map (part_one place number) kept ≡ kept
+pub not_there : (place next number : ℕ) (kept : List Kept) → IsTrue (numbered_from next (partitions_in kept))
+    → (number < next) ⊎ (next + length kept ≤ number)
+    → map (part_one place number) kept ≡ kept
 not_there place next number [] numbers off = refl
 not_there place next number (k ∷ kept) numbers off =
     let here : k.partition.number ≡ next = eqb-true k.partition.number next (and_parts _ _ numbers).0 in
@@ -45,22 +57,27 @@ not_there place next number (k ∷ kept) numbers off =
     let same = other_number place number k (apart here off) in
     λ i. same i ∷ rest i
   where
-    further : (number < next) ⊎ (next + length (k ∷ kept) ≤ number) → (number < next + 1) ⊎ (next + 1 + length kept ≤ number)
+    further : (number < next) ⊎ (next + length (k ∷ kept) ≤ number)
+        → (number < next + 1) ⊎ (next + 1 + length kept ≤ number)
     further (inl below) = inl (omega arith)
     further (inr above) = inr (omega arith)
 
-    apart : k.partition.number ≡ next → (number < next) ⊎ (next + length (k ∷ kept) ≤ number) → k.partition.number ≡ number → ⊥
+    apart : k.partition.number ≡ next → (number < next) ⊎ (next + length (k ∷ kept) ≤ number)
+        → k.partition.number ≡ number
+        → ⊥
     apart here (inl below) e = omega arith
     apart here (inr above) e = omega arith
 
-pub there : (place next i : ℕ) (kept : List Kept) (k : Kept) → IsTrue (numbered_from next (partitions_in kept)) → i < length kept → k ≡ get_or kept i k
+pub there : (place next i : ℕ) (kept : List Kept) (k : Kept) → IsTrue (numbered_from next (partitions_in kept))
+    → i < length kept → k ≡ get_or kept i k
     → set kept i (record k { until = min k.until place }) ≡ map (part_one place (next + i)) kept
 there place next i [] k numbers within is = absurd (omega arith)
 there place next zero (x ∷ kept) k numbers within is =
     let here : x.partition.number ≡ next = eqb-true x.partition.number next (and_parts _ _ numbers).0 in
     let one = that_number place (next + 0) x (omega arith) in
     let rest = not_there place (next + 1) (next + 0) kept (and_parts _ _ numbers).1 (inl (omega arith)) in
-    let here_one : record k { until = min k.until place } ≡ part_one place (next + 0) x = ap (gone_from place) is ∙ sym one in
+    let here_one : record k { until = min k.until place } ≡ part_one place (next + 0) x =
+    ap (gone_from place) is ∙ sym one in
     λ j. here_one j ∷ sym rest j
 there place next (suc i) (x ∷ kept) k numbers within is =
     let here : x.partition.number ≡ next = eqb-true x.partition.number next (and_parts _ _ numbers).0 in
@@ -78,7 +95,8 @@ still_before early place until before = by_cases (cases_lt early until)
     by_cases (inl under) = lt-ltb early (min until place) (omega arith) ∙ sym (lt-ltb early until under)
     by_cases (inr over) = le-ltb early (min until place) (omega arith) ∙ sym (le-ltb early until over)
 
-stands_before : (early place number : ℕ) (k : Kept) → early < place → stands_at early (part_one place number k) ≡ stands_at early k
+stands_before : (early place number : ℕ) (k : Kept) → early < place
+    → stands_at early (part_one place number k) ≡ stands_at early k
 stands_before early place number k before = pick (nat_eq k.partition.number number)
   where
     pick : (b : Bool) → stands_at early (cond b (record k { until = min k.until place }) k) ≡ stands_at early k
@@ -86,11 +104,13 @@ stands_before early place number k before = pick (nat_eq k.partition.number numb
     pick false = refl
 
 -- what is shown of a list with one more in front
-shown : (s : Bool) (k : Kept) (kept : List Kept) → partitions_in (cond s (k ∷ kept) kept) ≡ cond s (k.partition ∷ partitions_in kept) (partitions_in kept)
+shown : (s : Bool) (k : Kept) (kept : List Kept)
+    → partitions_in (cond s (k ∷ kept) kept) ≡ cond s (k.partition ∷ partitions_in kept) (partitions_in kept)
 shown true k kept = refl
 shown false k kept = refl
 
-one_before : (early place number : ℕ) (kept : List Kept) → early < place → standing_at early (map (part_one place number) kept) ≡ standing_at early kept
+one_before : (early place number : ℕ) (kept : List Kept) → early < place
+    → standing_at early (map (part_one place number) kept) ≡ standing_at early kept
 one_before early place number [] before = refl
 one_before early place number (k ∷ kept) before =
     let rest = one_before early place number kept before in
@@ -113,19 +133,23 @@ and_true : (b : Bool) → b ≡ (b && true)
 and_true true = refl
 and_true false = refl
 
-stands_there : (place number : ℕ) (k : Kept) → stands_at place (part_one place number k) ≡ (stands_at place k && not (is_among k.partition.number (number ∷ [])))
+stands_there : (place number : ℕ) (k : Kept)
+    → stands_at place (part_one place number k) ≡ (stands_at place k && not (is_among k.partition.number (number ∷ [])))
 stands_there place number k = pick (nat_eq k.partition.number number)
   where
-    pick : (b : Bool) → stands_at place (cond b (record k { until = min k.until place }) k) ≡ (stands_at place k && not (b || false))
+    pick : (b : Bool)
+        → stands_at place (cond b (record k { until = min k.until place }) k) ≡ (stands_at place k && not (b || false))
     pick true = le-ltb place (min k.until place) (omega arith) ∙ sym (and_right (stands_at place k) false refl)
     pick false = and_true (stands_at place k)
 
 filtered : (test : Partition → Bool) (s : Bool) (k : Kept) (kept : List Kept)
-    → filter test (partitions_in (cond s (k ∷ kept) kept)) ≡ cond (s && test k.partition) (k.partition ∷ filter test (partitions_in kept)) (filter test (partitions_in kept))
+    → filter test (partitions_in (cond s (k ∷ kept) kept))
+    ≡ cond (s && test k.partition) (k.partition ∷ filter test (partitions_in kept)) (filter test (partitions_in kept))
 filtered test true k kept = refl
 filtered test false k kept = refl
 
-one_there : (place number : ℕ) (kept : List Kept) → standing_at place (map (part_one place number) kept) ≡ without (number ∷ []) (standing_at place kept)
+one_there : (place number : ℕ) (kept : List Kept)
+    → standing_at place (map (part_one place number) kept) ≡ without (number ∷ []) (standing_at place kept)
 one_there place number [] = refl
 one_there place number (k ∷ kept) =
     let rest = one_there place number kept in
@@ -150,17 +174,20 @@ filter_more f g h p ps both = pick (f p) refl
     pick true is = ap (λ b. cond b (p ∷ filter g ps) (filter g ps)) (ap (λ b. b && g p) (sym is) ∙ both)
     pick false is = ap (λ b. cond b (p ∷ filter g ps) (filter g ps)) (ap (λ b. b && g p) (sym is) ∙ both)
 
-filter_twice : (f g h : Partition → Bool) → ((p : Partition) → (f p && g p) ≡ h p) → (ps : List Partition) → filter g (filter f ps) ≡ filter h ps
+filter_twice : (f g h : Partition → Bool) → ((p : Partition) → (f p && g p) ≡ h p) → (ps : List Partition)
+    → filter g (filter f ps) ≡ filter h ps
 filter_twice f g h both [] = refl
 filter_twice f g h both (p ∷ ps) =
     filter_more f g h p (filter f ps) (both p) ∙ ap (λ l. cond (h p) (p ∷ l) l) (filter_twice f g h both ps)
 
-pub parted_there : (place : ℕ) (numbers : List ℕ) (kept : List Kept) → standing_at place (parted place numbers kept) ≡ without numbers (standing_at place kept)
+pub parted_there : (place : ℕ) (numbers : List ℕ) (kept : List Kept)
+    → standing_at place (parted place numbers kept) ≡ without numbers (standing_at place kept)
 parted_there place [] kept = sym (filter_all (standing_at place kept))
 parted_there place (n ∷ numbers) kept =
     parted_there place numbers (map (part_one place n) kept)
     ∙ ap (without numbers) (one_there place n kept)
-    ∙ filter_twice (λ p. not (is_among p.number (n ∷ []))) (λ p. not (is_among p.number numbers)) (λ p. not (is_among p.number (n ∷ numbers)))
+    ∙ filter_twice (λ p. not (is_among p.number (n ∷ []))) (λ p. not (is_among p.number numbers))
+    (λ p. not (is_among p.number (n ∷ numbers)))
     (λ p. not_both (nat_eq p.number n) (is_among p.number numbers)) (standing_at place kept)
 
 -- ---- what holds of each
@@ -170,31 +197,39 @@ later : (last : ℕ) (k : Kept) → is_gone_by last k ≡ true → is_gone_by (l
 later last k gone = by_cases (or_cases _ _ gone)
   where
     by_cases : (nat_le k.until last ≡ true) ⊎ (is_standing k ≡ true) → is_gone_by (last + 1) k ≡ true
-    by_cases (inl early) = let here : k.until ≤ last = leb-true k.until last early in or_left _ _ (le-leb k.until (last + 1) (omega arith))
+    by_cases (inl early) = let here : k.until ≤ last = leb-true k.until last early in
+        or_left _ _ (le-leb k.until (last + 1) (omega arith))
     by_cases (inr still) = or_right _ _ still
 
-pub all_later : (last : ℕ) (kept : List Kept) → IsTrue (list_all (is_gone_by last) kept) → IsTrue (list_all (is_gone_by (last + 1)) kept)
+pub all_later : (last : ℕ) (kept : List Kept) → IsTrue (list_all (is_gone_by last) kept)
+    → IsTrue (list_all (is_gone_by (last + 1)) kept)
 all_later last [] gone = refl
-all_later last (k ∷ kept) gone = let each = and_parts _ _ gone in and_from _ _ (later last k each.0) (all_later last kept each.1)
+all_later last (k ∷ kept) gone = let each = and_parts _ _ gone in
+    and_from _ _ (later last k each.0) (all_later last kept each.1)
 
 -- parting again changes nothing of it
-one_still_gone : (last number : ℕ) (k : Kept) → is_gone_by last k ≡ true → is_gone_by last (part_one last number k) ≡ true
+one_still_gone : (last number : ℕ) (k : Kept) → is_gone_by last k ≡ true
+    → is_gone_by last (part_one last number k) ≡ true
 one_still_gone last number k gone = pick (nat_eq k.partition.number number)
   where
     pick : (b : Bool) → is_gone_by last (cond b (record k { until = min k.until last }) k) ≡ true
     pick true = or_left _ _ (le-leb (min k.until last) last (omega arith))
     pick false = gone
 
-all_still_gone : (last number : ℕ) (kept : List Kept) → IsTrue (list_all (is_gone_by last) kept) → IsTrue (list_all (is_gone_by last) (map (part_one last number) kept))
+all_still_gone : (last number : ℕ) (kept : List Kept) → IsTrue (list_all (is_gone_by last) kept)
+    → IsTrue (list_all (is_gone_by last) (map (part_one last number) kept))
 all_still_gone last number [] gone = refl
 all_still_gone last number (k ∷ kept) gone =
     let each = and_parts _ _ gone in
     and_from _ _ (one_still_gone last number k each.0) (all_still_gone last number kept each.1)
 
-pub parted_gone : (last : ℕ) (numbers : List ℕ) (kept : List Kept) → IsTrue (list_all (is_gone_by last) kept) → IsTrue (list_all (is_gone_by last) (parted last numbers kept))
+pub parted_gone : (last : ℕ) (numbers : List ℕ) (kept : List Kept) → IsTrue (list_all (is_gone_by last) kept)
+    → IsTrue (list_all (is_gone_by last) (parted last numbers kept))
 parted_gone last [] kept gone = gone
-parted_gone last (n ∷ numbers) kept gone = parted_gone last numbers (map (part_one last n) kept) (all_still_gone last n kept gone)
+parted_gone last (n ∷ numbers) kept gone =
+    parted_gone last numbers (map (part_one last n) kept) (all_still_gone last n kept gone)
 
 pub length-parted : (place : ℕ) (numbers : List ℕ) (kept : List Kept) → length (parted place numbers kept) ≡ length kept
 length-parted place [] kept = refl
-length-parted place (n ∷ numbers) kept = length-parted place numbers (map (part_one place n) kept) ∙ length-map kept (part_one place n)
+length-parted place (n ∷ numbers) kept = length-parted place numbers (map (part_one place n) kept)
+    ∙ length-map kept (part_one place n)

@@ -1,5 +1,6 @@
 -- A version more, over plain lists.
-use Rattle.std.proofs.Common.{◌≡◌, ℕ, ◌+◌, ◌<◌, ◌≤◌, cond, Bool, true, false, List, [], ◌∷◌, ◌++◌, length, map, filter, take, IsTrue, refl, subst, ap, ◌∙◌, arith}
+use Rattle.std.proofs.Common.{◌≡◌, ℕ, ◌+◌, ◌<◌, ◌≤◌, cond, Bool, true, false, List, [], ◌∷◌, ◌++◌, length, map, filter}
+use Rattle.std.proofs.Common.{take, IsTrue, refl, subst, ap, ◌∙◌, arith}
 use Rattle.std.proofs.lemmas.Bool.{and_parts, and_from, or_right, eqb-true, eq-eqb, leb-true, le-leb, lt-ltb}
 use Rattle.std.proofs.lemmas.List.{take-append-le, take_all, length-map}
 use Rattle.std.specs.Prelude.{nat_lt, nat_le}
@@ -9,7 +10,8 @@ use Rattle.wh_machine.specs.Commit.{NumberedFrom}
 use Rattle.wh_machine.specs.Edits.{without}
 use Rattle.wh_version.specs.declared.kept.Kept.{Kept}
 use Rattle.wh_version.specs.declared.mark.VersionMark.{VersionMark}
-use Rattle.wh_version.specs.Kept.{stands_at, standing_at, partitions_in, numbered_from, count_to, is_gone_by, fresh, parted, version_by, versions_by}
+use Rattle.wh_version.specs.Kept.{stands_at, standing_at, partitions_in, numbered_from, count_to, is_gone_by, fresh}
+use Rattle.wh_version.specs.Kept.{parted, version_by, versions_by}
 use Rattle.wh_version.proofs.Parted.{parted_before, parted_there, parted_partitions, length-parted}
 
 -- ---- lists
@@ -18,7 +20,8 @@ pub map_append : {X Y : Type 0} (f : X → Y) (xs ys : List X) → map f (xs ++ 
 map_append f [] ys = refl
 map_append f (x ∷ xs) ys = ap (λ l. f x ∷ l) (map_append f xs ys)
 
-standing_append : (place : ℕ) (xs ys : List Kept) → standing_at place (xs ++ ys) ≡ standing_at place xs ++ standing_at place ys
+standing_append : (place : ℕ) (xs ys : List Kept)
+    → standing_at place (xs ++ ys) ≡ standing_at place xs ++ standing_at place ys
 standing_append place [] ys = refl
 standing_append place (x ∷ xs) ys = pick (stands_at place x) (standing_append place xs ys)
   where
@@ -33,7 +36,9 @@ fresh_stand place [] within = refl
 fresh_stand place (p ∷ ps) within =
     let stands : nat_lt place 18446744073709551615 ≡ true = lt-ltb place 18446744073709551615 within in
     let rest = fresh_stand place ps within in
-    ap (λ b. partitions_in (cond b (fresh p ∷ filter (stands_at place) (map fresh ps)) (filter (stands_at place) (map fresh ps)))) stands ∙ ap (λ l. p ∷ l) rest
+    ap (λ b. partitions_in
+    (cond b (fresh p ∷ filter (stands_at place) (map fresh ps)) (filter (stands_at place) (map fresh ps)))) stands
+    ∙ ap (λ l. p ∷ l) rest
 
 pub fresh_partitions : (ps : List Partition) → partitions_in (map fresh ps) ≡ ps
 fresh_partitions [] = refl
@@ -41,7 +46,8 @@ fresh_partitions (p ∷ ps) = ap (λ l. p ∷ l) (fresh_partitions ps)
 
 -- ---- the versions before
 
-pub count_within : (least : ℕ) (marks : List VersionMark) (total : ℕ) → IsTrue (count_to least marks total) → least ≤ total
+pub count_within : (least : ℕ) (marks : List VersionMark) (total : ℕ) → IsTrue (count_to least marks total)
+    → least ≤ total
 count_within least [] total counts = let here : least ≡ total = eqb-true least total counts in omega arith
 count_within least (m ∷ marks) total counts =
     let parts = and_parts _ _ counts in
@@ -49,40 +55,51 @@ count_within least (m ∷ marks) total counts =
     let rest = count_within m.partitions marks total parts.1 in
     omega arith
 
-versions_before : (last : ℕ) (numbers : List ℕ) (kept more : List Kept) (place least : ℕ) (marks : List VersionMark) → place + length marks ≤ last
-    → IsTrue (count_to least marks (length kept)) → versions_by (parted last numbers kept ++ more) place marks ≡ versions_by kept place marks
+versions_before : (last : ℕ) (numbers : List ℕ) (kept more : List Kept) (place least : ℕ) (marks : List VersionMark)
+    → place + length marks ≤ last → IsTrue (count_to least marks (length kept))
+    → versions_by (parted last numbers kept ++ more) place marks ≡ versions_by kept place marks
 versions_before last numbers kept more place least [] within counts = refl
 versions_before last numbers kept more place least (m ∷ marks) within counts =
     let parts = and_parts (nat_le least m.partitions) (count_to m.partitions marks (length kept)) counts in
     let few = count_within m.partitions marks (length kept) parts.1 in
     let size = length-parted last numbers kept in
-    let front : take m.partitions (parted last numbers kept ++ more) ≡ take m.partitions (parted last numbers kept) = take-append-le m.partitions (parted last numbers kept) more (omega arith) in
+    let front : take m.partitions (parted last numbers kept ++ more) ≡ take m.partitions (parted last numbers kept) =
+    take-append-le m.partitions (parted last numbers kept) more (omega arith) in
     let content = ap (standing_at place) front ∙ parted_before place last m.partitions numbers kept (omega arith) in
     let rest = versions_before last numbers kept more (place + 1) m.partitions marks (omega arith) parts.1 in
     λ i. record { stamp = m.stamp; data_timestamp = m.data_timestamp; content = content i } ∷ rest i
 
 versions_more : (kept : List Kept) (place : ℕ) (marks : List VersionMark) (m : VersionMark)
-    → versions_by kept place (marks ++ m ∷ []) ≡ versions_by kept place marks ++ version_by kept (place + length marks) m ∷ []
+    → versions_by kept place (marks ++ m ∷ []) ≡ versions_by kept place marks
+    ++ version_by kept (place + length marks) m ∷ []
 versions_more kept place [] m = ap (λ n. version_by kept n m ∷ []) (omega arith)
 versions_more kept place (n ∷ marks) m =
     ap (λ l. version_by kept place n ∷ l)
-    (versions_more kept (place + 1) marks m ∙ ap (λ k. versions_by kept (place + 1) marks ++ version_by kept k m ∷ []) (omega arith))
+    (versions_more kept (place + 1) marks m
+    ∙ ap (λ k. versions_by kept (place + 1) marks ++ version_by kept k m ∷ []) (omega arith))
 
 -- ---- the version that is pushed
 
-pub content_pushed : (last : ℕ) (numbers : List ℕ) (kept : List Kept) (added : List Partition) (count : ℕ) → last < 18446744073709551615
-    → count ≡ length (parted last numbers kept ++ map fresh added)
-    → standing_at last (take count (parted last numbers kept ++ map fresh added)) ≡ without numbers (standing_at last kept) ++ added
+pub content_pushed : (last : ℕ) (numbers : List ℕ) (kept : List Kept) (added : List Partition) (count : ℕ)
+    → last < 18446744073709551615 → count ≡ length (parted last numbers kept ++ map fresh added)
+    → standing_at last (take count (parted last numbers kept ++ map fresh added))
+    ≡ without numbers (standing_at last kept) ++ added
 content_pushed last numbers kept added count within all =
     ap (standing_at last) (take_all count (parted last numbers kept ++ map fresh added) (omega arith))
     ∙ standing_append last (parted last numbers kept) (map fresh added)
     ∙ (λ i. parted_there last numbers kept i ++ fresh_stand last added within i)
 
 -- marks that stand at the places before the last, and one at the last
-pub versions_pushed : (last : ℕ) (numbers : List ℕ) (kept : List Kept) (added : List Partition) (marks : List VersionMark) (m : VersionMark)
-    → last < 18446744073709551615 → length marks ≡ last → IsTrue (count_to 0 marks (length kept)) → m.partitions ≡ length (parted last numbers kept ++ map fresh added)
+pub versions_pushed : (last : ℕ) (numbers : List ℕ) (kept : List Kept) (added : List Partition)
+    (marks : List VersionMark) (m : VersionMark)
+    → last < 18446744073709551615 → length marks ≡ last → IsTrue (count_to 0 marks (length kept))
+    → m.partitions ≡ length (parted last numbers kept ++ map fresh added)
     → versions_by (parted last numbers kept ++ map fresh added) 0 (marks ++ m ∷ [])
-    ≡ versions_by kept 0 marks ++ (record { stamp = m.stamp; data_timestamp = m.data_timestamp; content = without numbers (standing_at last kept) ++ added }) ∷ []
+    ≡ versions_by kept 0 marks ++ (record {
+      stamp = m.stamp;
+      data_timestamp = m.data_timestamp;
+      content = without numbers (standing_at last kept) ++ added;
+    }) ∷ []
 versions_pushed last numbers kept added marks m within places counts all =
     let whole : List Kept = parted last numbers kept ++ map fresh added in
     let content = content_pushed last numbers kept added m.partitions within all in
@@ -94,26 +111,32 @@ versions_pushed last numbers kept added marks m within places counts all =
 
 -- ---- what always holds, after a push
 
-numbered_more : (next : ℕ) (ps qs : List Partition) → IsTrue (numbered_from next ps) → NumberedFrom (next + length ps) qs → IsTrue (numbered_from next (ps ++ qs))
+numbered_more : (next : ℕ) (ps qs : List Partition) → IsTrue (numbered_from next ps)
+    → NumberedFrom (next + length ps) qs
+    → IsTrue (numbered_from next (ps ++ qs))
 numbered_more next [] [] numbers more = refl
 numbered_more next [] (q ∷ qs) numbers more =
     let P : ℕ → Type 0 = λ n. NumberedFrom n qs in
-    and_from _ _ (eq-eqb q.number next (more.0 ∙ omega arith)) (numbered_more (next + 1) [] qs refl (subst P (omega arith) more.1))
+    and_from _ _ (eq-eqb q.number next (more.0 ∙ omega arith))
+    (numbered_more (next + 1) [] qs refl (subst P (omega arith) more.1))
 numbered_more next (p ∷ ps) qs numbers more =
     let parts = and_parts _ _ numbers in
     let P : ℕ → Type 0 = λ n. NumberedFrom n qs in
     and_from _ _ parts.0 (numbered_more (next + 1) ps qs parts.1 (subst P (omega arith) more))
 
-pub still_numbered : (last : ℕ) (numbers : List ℕ) (kept : List Kept) (added : List Partition) → IsTrue (numbered_from 1 (partitions_in kept)) → NumberedFrom (length kept + 1) added
+pub still_numbered : (last : ℕ) (numbers : List ℕ) (kept : List Kept) (added : List Partition)
+    → IsTrue (numbered_from 1 (partitions_in kept)) → NumberedFrom (length kept + 1) added
     → IsTrue (numbered_from 1 (partitions_in (parted last numbers kept ++ map fresh added)))
 still_numbered last numbers kept added numbered more =
     let same : partitions_in (parted last numbers kept ++ map fresh added) ≡ partitions_in kept ++ added =
-    map_append (λ k. k.partition) (parted last numbers kept) (map fresh added) ∙ (λ i. parted_partitions last numbers kept i ++ fresh_partitions added i) in
+    map_append (λ k. k.partition) (parted last numbers kept) (map fresh added)
+    ∙ (λ i. parted_partitions last numbers kept i ++ fresh_partitions added i) in
     let count = length-map kept (λ k. k.partition) in
     let P : ℕ → Type 0 = λ n. NumberedFrom n added in
     ap (numbered_from 1) same ∙ numbered_more 1 (partitions_in kept) added numbered (subst P (omega arith) more)
 
-pub still_count : (least : ℕ) (marks : List VersionMark) (m : VersionMark) (total : ℕ) → IsTrue (count_to least marks total) → total ≤ m.partitions
+pub still_count : (least : ℕ) (marks : List VersionMark) (m : VersionMark) (total : ℕ)
+    → IsTrue (count_to least marks total) → total ≤ m.partitions
     → IsTrue (count_to least (marks ++ m ∷ []) m.partitions)
 still_count least [] m total counts more =
     let here : least ≡ total = eqb-true least total counts in
@@ -126,9 +149,12 @@ fresh_gone : (last : ℕ) (ps : List Partition) → IsTrue (list_all (is_gone_by
 fresh_gone last [] = refl
 fresh_gone last (p ∷ ps) = and_from _ _ (or_right _ _ refl) (fresh_gone last ps)
 
-pub all_append : (test : Kept → Bool) (xs ys : List Kept) → IsTrue (list_all test xs) → IsTrue (list_all test ys) → IsTrue (list_all test (xs ++ ys))
+pub all_append : (test : Kept → Bool) (xs ys : List Kept) → IsTrue (list_all test xs) → IsTrue (list_all test ys)
+    → IsTrue (list_all test (xs ++ ys))
 all_append test [] ys left right = right
-all_append test (x ∷ xs) ys left right = let parts = and_parts _ _ left in and_from _ _ parts.0 (all_append test xs ys parts.1 right)
+all_append test (x ∷ xs) ys left right = let parts = and_parts _ _ left in
+    and_from _ _ parts.0 (all_append test xs ys parts.1 right)
 
-pub still_gone : (last : ℕ) (kept : List Kept) (added : List Partition) → IsTrue (list_all (is_gone_by last) kept) → IsTrue (list_all (is_gone_by last) (kept ++ map fresh added))
+pub still_gone : (last : ℕ) (kept : List Kept) (added : List Partition) → IsTrue (list_all (is_gone_by last) kept)
+    → IsTrue (list_all (is_gone_by last) (kept ++ map fresh added))
 still_gone last kept added gone = all_append (is_gone_by last) kept (map fresh added) gone (fresh_gone last added)

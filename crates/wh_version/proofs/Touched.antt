@@ -3,7 +3,8 @@
 --     each_touched       one that is kept, and those behind it
 --     first_last         the numbers of rows lie between the first and the last
 --     apart_untouched    edits that lie apart from them touch none
-use Rattle.std.proofs.Common.{◌≡◌, ℕ, ◌+◌, ◌≤◌, cond, Bool, true, false, List, [], ◌∷◌, ◌++◌, map, filter, None, is_some, refl, ap, ◌∙◌, arith}
+use Rattle.std.proofs.Common.{◌≡◌, ℕ, ◌+◌, ◌≤◌, cond, Bool, true, false, List, [], ◌∷◌, ◌++◌, map, filter, None}
+use Rattle.std.proofs.Common.{is_some, refl, ap, ◌∙◌, arith}
 use Rattle.std.specs.Prelude.{◌||◌}
 use Rattle.std.specs.List.{list_any}
 use Rattle.std.specs.FinMap.{get}
@@ -14,7 +15,8 @@ use Rattle.wh_machine.specs.Edits.{RowEdits, is_touched, touched}
 use Rattle.wh_version.specs.declared.kept.Kept.{Kept}
 use Rattle.wh_version.specs.Kept.{is_standing, partitions_in}
 
-pub any-map : {X Y : Type 0} (f : X → Y) (test : Y → Bool) (xs : List X) → list_any (λ x. test (f x)) xs ≡ list_any test (map f xs)
+pub any-map : {X Y : Type 0} (f : X → Y) (test : Y → Bool) (xs : List X)
+    → list_any (λ x. test (f x)) xs ≡ list_any test (map f xs)
 any-map f test [] = refl
 any-map f test (x ∷ xs) = ap (λ b. test (f x) || b) (any-map f test xs)
 
@@ -22,10 +24,13 @@ any-map f test (x ∷ xs) = ap (λ b. test (f x) || b) (any-map f test xs)
 abbrev pub touched_of : RowEdits → List Kept → List Partition
 touched_of edits kept = touched edits (partitions_in (filter is_standing kept))
 
-pub each_touched : (edits : RowEdits) (k : Kept) (ks : List Kept) → touched_of edits (k ∷ ks) ≡ touched_of edits (k ∷ []) ++ touched_of edits ks
+pub each_touched : (edits : RowEdits) (k : Kept) (ks : List Kept)
+    → touched_of edits (k ∷ ks) ≡ touched_of edits (k ∷ []) ++ touched_of edits ks
 each_touched edits k ks = pick (is_standing k)
   where
-    by_touch : (t : Bool) → cond t (k.partition ∷ touched_of edits ks) (touched_of edits ks) ≡ cond t (k.partition ∷ []) [] ++ touched_of edits ks
+    by_touch : (t : Bool)
+        → cond t (k.partition ∷ touched_of edits ks) (touched_of edits ks)
+        ≡ cond t (k.partition ∷ []) [] ++ touched_of edits ks
     by_touch true = refl
     by_touch false = refl
 
@@ -34,7 +39,8 @@ each_touched edits k ks = pick (is_standing k)
     pick true = by_touch (is_touched edits k.partition)
     pick false = refl
 
-pub stands_touched : (edits : RowEdits) (k : Kept) → is_standing k ≡ true → is_touched edits k.partition ≡ true → touched_of edits (k ∷ []) ≡ k.partition ∷ []
+pub stands_touched : (edits : RowEdits) (k : Kept) → is_standing k ≡ true → is_touched edits k.partition ≡ true
+    → touched_of edits (k ∷ []) ≡ k.partition ∷ []
 stands_touched edits k stands is =
     ap (λ s. touched edits (partitions_in (cond s (k ∷ []) []))) stands ∙ ap (λ t. cond t (k.partition ∷ []) []) is
 
@@ -64,7 +70,8 @@ first_last (e ∷ es) rises = last_above e.0 e es (omega arith, rises.1)
 abbrev pub AreApart : RowEdits → ℕ → ℕ → Type 0
 AreApart edits first last = (number : ℕ) → first ≤ number → number ≤ last → get edits number ≡ None
 
-none_from : (edits : RowEdits) (first least : ℕ) (rows : List (ℕ × Row)) → first ≤ least → RisesFrom least rows → AreApart edits first (last_number rows)
+none_from : (edits : RowEdits) (first least : ℕ) (rows : List (ℕ × Row)) → first ≤ least → RisesFrom least rows
+    → AreApart edits first (last_number rows)
     → list_any (λ e. is_some (get edits e.0)) rows ≡ false
 none_from edits first least [] below rises apart = refl
 none_from edits first least (e ∷ []) below rises apart =
@@ -76,9 +83,12 @@ none_from edits first least (e ∷ f ∷ es) below rises apart =
     ap (λ o. is_some o || list_any (λ e. is_some (get edits e.0)) (f ∷ es)) (apart e.0 (omega arith) (omega arith))
     ∙ none_from edits first (e.0 + 1) (f ∷ es) (omega arith) rises.1 apart
 
-pub apart_untouched : (edits : RowEdits) (p : Partition) → RisesFrom 0 p.rows → AreApart edits (first_number p.rows) (last_number p.rows) → is_touched edits p ≡ false
+pub apart_untouched : (edits : RowEdits) (p : Partition) → RisesFrom 0 p.rows
+    → AreApart edits (first_number p.rows) (last_number p.rows)
+    → is_touched edits p ≡ false
 apart_untouched edits p = of_rows p.rows
   where
-    of_rows : (rows : List (ℕ × Row)) → RisesFrom 0 rows → AreApart edits (first_number rows) (last_number rows) → list_any (λ e. is_some (get edits e.0)) rows ≡ false
+    of_rows : (rows : List (ℕ × Row)) → RisesFrom 0 rows → AreApart edits (first_number rows) (last_number rows)
+        → list_any (λ e. is_some (get edits e.0)) rows ≡ false
     of_rows [] rises apart = refl
     of_rows (e ∷ es) rises apart = none_from edits e.0 e.0 (e ∷ es) (omega arith) (omega arith, rises.1) apart

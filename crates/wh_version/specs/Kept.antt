@@ -2,7 +2,8 @@
 --     standing_at      those that stand in the version at a place
 --     versions_by      the versions of marks
 --     numbered_from, count_to, is_gone_by     what always holds of a table's marks and partitions
-use Rattle.std.specs.Prelude.{ℕ, ◌+◌, Bool, true, ◌&&◌, ◌||◌, List, [], ◌∷◌, map, filter, take, nat_lt, nat_le, nat_eq, min, if◌then◌else◌}
+use Rattle.std.specs.Prelude.{ℕ, ◌+◌, Bool, true, ◌&&◌, ◌||◌, List, [], ◌∷◌, map, filter, take, nat_lt, nat_le, nat_eq}
+use Rattle.std.specs.Prelude.{min, if◌then◌else◌}
 use Rattle.wh_frame.specs.Partition.{Partition}
 use Rattle.wh_machine.specs.Stored.{StoredVersion}
 use Rattle.wh_version.specs.declared.kept.Kept.{Kept}

@@ -1,5 +1,6 @@
 -- What one more event makes of the images.
-use Rattle.std.proofs.Common.{◌≡◌, ◌⊎◌, inl, inr, ℕ, suc, ◌+◌, ◌-◌, ◌≤◌, List, ◌∷◌, ◌++◌, length, take, drop, sym, ◌∙◌, ap, subst, arith, length-append, length-drop}
+use Rattle.std.proofs.Common.{◌≡◌, ◌⊎◌, inl, inr, ℕ, suc, ◌+◌, ◌-◌, ◌≤◌, List, ◌∷◌, ◌++◌, length, take, drop, sym, ◌∙◌}
+use Rattle.std.proofs.Common.{ap, subst, arith, length-append, length-drop}
 use Rattle.std.proofs.lemmas.Bool.{cases_eq}
 use Rattle.std.proofs.lemmas.List.{append_assoc, length-take-le, take_at, drop_at}
 use Rattle.wh_world.specs.Bytes.{written, Torn}
@@ -50,7 +51,13 @@ written_torn at old piece within =
     let rest = drop (at + n) old in
     let front : length (take at old) ≡ at = length-take-le at old within in
     let size : length (written old at piece) ≡ at + n + (length old - (at + n)) =
-    omega (arith, front, length-append (take at old) (piece ++ rest), length-append piece rest, length-drop (at + n) old) in
+    omega (
+      arith,
+      front,
+      length-append (take at old) (piece ++ rest),
+      length-append piece rest,
+      length-drop (at + n) old,
+    ) in
     record {
       before = take_at (take at old) (piece ++ rest) at front;
       behind = ap (λ (l : List ℕ). drop (at + n) l) (sym (append_assoc (take at old) piece rest))

@@ -10,7 +10,8 @@ written old at piece = take at old ++ (piece ++ drop (at + length piece) old)
 abbrev pub part_at : ℕ → ℕ → List ℕ → List ℕ
 part_at at n bytes = take n (drop at bytes)
 
--- after a write of n bytes that a crash or a fault cuts short: any bytes in the range and past the old end, and the same elsewhere
+-- after a write of n bytes that a crash or a fault cuts short: any bytes in the range and past the
+-- old end, and the same elsewhere
 pub record Torn (at n : ℕ) (old new : List ℕ) : Type 0 where
   pub before : take at new ≡ take at old
   pub behind : drop (at + n) new ≡ drop (at + n) old

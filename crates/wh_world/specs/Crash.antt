@@ -16,5 +16,8 @@ Only bytes images = (image : List ℕ) → images image → image ≡ bytes
 -- Time goes on: a crash since a moment might have left what it might have left before, or what it may leave now.
 pub record Elapses (before now : ℕ) (past since : ℕ → List ℕ → Type 0) (may_leave : List ℕ → Type 0) : Type 0 where
   pub later : before ≤ now
-  pub nothing_else : (moment : ℕ) (image : List ℕ) → moment ≤ before → since moment image → past moment image ⊎ may_leave image
+  pub nothing_else : (moment : ℕ) (image : List ℕ)
+      → moment ≤ before
+      → since moment image
+      → past moment image ⊎ may_leave image
   pub keeps : (moment : ℕ) (image : List ℕ) → moment ≤ before → past moment image → since moment image

@@ -1,6 +1,7 @@
 -- Which image of a disk in memory a pick gives: the writes since the last sync are there up to a cut, and behind it
 -- stands a fill.
-use Rattle.std.specs.Prelude.{ℕ, ◌+◌, ◌-◌, ◌/◌, ◌%◌, ◌==◌, nat_lt, min, if◌then◌else◌, List, [], ◌∷◌, ◌++◌, length, take, replicate, Option, Some, None}
+use Rattle.std.specs.Prelude.{ℕ, ◌+◌, ◌-◌, ◌/◌, ◌%◌, ◌==◌, nat_lt, min, if◌then◌else◌, List, [], ◌∷◌, ◌++◌, length}
+use Rattle.std.specs.Prelude.{take, replicate, Option, Some, None}
 use Rattle.wh_world.specs.Bytes.{written, part_at}
 use Rattle.wh_world.specs.Events.{Event, wrote, tore, synced, content}
 use Rattle.wh_world.specs.MemDisk.{DiskState}

@@ -1,4 +1,5 @@
-ghost use Rattle.std.specs.Prelude.{◌≡◌, ◌+◌, ◌≤◌, ◌^◌, max, List, ℕ, Option, Some, length, option_map, IfOk, OnOk, OnErr};
+ghost use Rattle.std.specs.Prelude.{◌≡◌, ◌+◌, ◌≤◌, ◌^◌, max, List, ℕ, Option, Some, length};
+ghost use Rattle.std.specs.Prelude.{option_map, IfOk, OnOk, OnErr};
 ghost use Rattle.wh_world.specs.Told.{Told, Rose};
 ghost use Rattle.wh_world.specs.Bytes.{written, part_at, Torn};
 ghost use Rattle.wh_world.specs.Crash.{Follows, NoOthers, Only, Elapses};
@@ -31,9 +32,11 @@ pub trait Disk {
     /// The number of bytes.
     fn len(&mut self) -> Result<u64, Failed>
         ensures size { IfOk result (λ n. n ≡ size self.old) }
-        ensures same { (bytes self.new ≡ bytes self.old) × (size self.new ≡ size self.old) × (reads self.new ≡ reads self.old) }
+        ensures same { (bytes self.new ≡ bytes self.old) × (size self.new ≡ size self.old)
+            × (reads self.new ≡ reads self.old) }
         ensures crash { NoOthers (may_leave self.old) (may_leave self.new) }
-        ensures time { Elapses (moment self.old) (moment self.new) (left_since self.old) (left_since self.new) (may_leave self.new) }
+        ensures time { Elapses (moment self.old) (moment self.new) (left_since self.old) (left_since self.new)
+            (may_leave self.new) }
         ensures later { faults self.old ≤ faults self.new }
         ensures no_fault { OnOk result (faults self.new ≡ faults self.old) }
         ensures failed { OnErr result (Rose (faults self.old) (faults self.new)) };
@@ -45,12 +48,14 @@ pub trait Disk {
     /// Fills `buf` from a place on.
     fn read(&mut self, at: u64, buf: &mut [u8]) -> Result<(), Failed>
         requires { at + length buf.old ≤ size self.old }
-        ensures content { OnOk result ((b : List ℕ) → bytes self.old ≡ Some b → buf.new ≡ part_at at (length buf.new) b) }
+        ensures content { OnOk result
+            ((b : List ℕ) → bytes self.old ≡ Some b → buf.new ≡ part_at at (length buf.new) b) }
         ensures same { (bytes self.new ≡ bytes self.old) × (size self.new ≡ size self.old) }
         ensures reads { (reads self.old ≤ reads self.new) × (reads self.new ≤ reads self.old + 1) }
         ensures counted { Rose (reads self.old) (reads self.new) }
         ensures crash { NoOthers (may_leave self.old) (may_leave self.new) }
-        ensures time { Elapses (moment self.old) (moment self.new) (left_since self.old) (left_since self.new) (may_leave self.new) }
+        ensures time { Elapses (moment self.old) (moment self.new) (left_since self.old) (left_since self.new)
+            (may_leave self.new) }
         ensures later { faults self.old ≤ faults self.new }
         ensures no_fault { OnOk result (faults self.new ≡ faults self.old) }
         ensures failed { OnErr result (Rose (faults self.old) (faults self.new)) };
@@ -62,10 +67,12 @@ pub trait Disk {
         ensures written { OnOk result (bytes self.new ≡ option_map (λ old. written old at piece.now) (bytes self.old)) }
         ensures torn { OnErr result (Told (Torn at (length piece.now)) (bytes self.old) (bytes self.new)) }
         ensures size { OnOk result (size self.new ≡ max (size self.old) (at + length piece.now)) }
-        ensures size_err { OnErr result ((size self.old ≤ size self.new) × (size self.new ≤ max (size self.old) (at + length piece.now))) }
+        ensures size_err { OnErr result
+            ((size self.old ≤ size self.new) × (size self.new ≤ max (size self.old) (at + length piece.now))) }
         ensures reads { reads self.new ≡ reads self.old }
         ensures crash { Follows (Torn at (length piece.now)) (may_leave self.old) (may_leave self.new) }
-        ensures time { Elapses (moment self.old) (moment self.new) (left_since self.old) (left_since self.new) (may_leave self.new) }
+        ensures time { Elapses (moment self.old) (moment self.new) (left_since self.old) (left_since self.new)
+            (may_leave self.new) }
         ensures later { faults self.old ≤ faults self.new }
         ensures no_fault { OnOk result (faults self.new ≡ faults self.old) }
         ensures failed { OnErr result (Rose (faults self.old) (faults self.new)) };
@@ -73,9 +80,11 @@ pub trait Disk {
     /// Brings all that was written onto the disk: from Ok on a crash leaves what a read gives.
     fn sync(&mut self) -> Result<(), Failed>
         ensures durable { OnOk result ((b : List ℕ) → bytes self.old ≡ Some b → Only b (may_leave self.new)) }
-        ensures same { (bytes self.new ≡ bytes self.old) × (size self.new ≡ size self.old) × (reads self.new ≡ reads self.old) }
+        ensures same { (bytes self.new ≡ bytes self.old) × (size self.new ≡ size self.old)
+            × (reads self.new ≡ reads self.old) }
         ensures crash { NoOthers (may_leave self.old) (may_leave self.new) }
-        ensures time { Elapses (moment self.old) (moment self.new) (left_since self.old) (left_since self.new) (may_leave self.new) }
+        ensures time { Elapses (moment self.old) (moment self.new) (left_since self.old) (left_since self.new)
+            (may_leave self.new) }
         ensures later { faults self.old ≤ faults self.new }
         ensures no_fault { OnOk result (faults self.new ≡ faults self.old) }
         ensures failed { OnErr result (Rose (faults self.old) (faults self.new)) };
@@ -87,7 +96,8 @@ pub trait Disk {
     ghost shown: { (disk : Self) (b : List ℕ) → bytes disk ≡ Some b → may_leave disk b };
 
     /// This moment is one of those since an earlier one.
-    ghost counts_now: { (disk : Self) (t : ℕ) (image : List ℕ) → t ≤ moment disk → may_leave disk image → left_since disk t image };
+    ghost counts_now: { (disk : Self) (t : ℕ) (image : List ℕ) → t ≤ moment disk → may_leave disk image
+        → left_since disk t image };
 
     /// Since this moment there is no other.
     ghost only_now: { (disk : Self) (image : List ℕ) → left_since disk (moment disk) image → may_leave disk image };

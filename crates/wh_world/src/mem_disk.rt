@@ -1,4 +1,5 @@
-ghost use Rattle.std.specs.Prelude.{◌≡◌, ◌↔◌, ◌⊎◌, ◌+◌, ◌-◌, ◌<◌, ◌≤◌, ◌^◌, [], ◌∷◌, min, max, ℕ, List, Option, Some, length, option_map, vec_len, vec_capacity, IsErr, IsTrue, IfOk, OnOk, OnErr};
+ghost use Rattle.std.specs.Prelude.{◌≡◌, ◌↔◌, ◌⊎◌, ◌+◌, ◌-◌, ◌<◌, ◌≤◌, ◌^◌, [], ◌∷◌, min, max, ℕ, List, Option, Some};
+ghost use Rattle.std.specs.Prelude.{length, option_map, vec_len, vec_capacity, IsErr, IsTrue, IfOk, OnOk, OnErr};
 ghost use Rattle.wh_world.specs.Bytes.{written, part_at, Torn};
 ghost use Rattle.wh_world.specs.Calls.{next, is_due};
 ghost use Rattle.wh_world.specs.Crash.{Follows, NoOthers, Only};
@@ -6,7 +7,8 @@ ghost use Rattle.wh_world.specs.Cut.{picked};
 ghost use Rattle.wh_world.specs.Events.{wrote, tore, synced, content, WasImage};
 ghost use Rattle.wh_world.specs.Images.{is_shown, counts_now, only_now, some_same};
 ghost use Rattle.std.proofs.Common.{subst};
-ghost use Rattle.wh_world.specs.MemDisk.{content_of, synced_of, images_of, fresh, Exceeds, done, refused, read_once, logged, torn, GoesOn};
+ghost use Rattle.wh_world.specs.MemDisk.{content_of, synced_of, images_of, fresh, Exceeds, done, refused, read_once};
+ghost use Rattle.wh_world.specs.MemDisk.{logged, torn, GoesOn};
 
 use crate::calls::Calls;
 use crate::imaging::{Tear, image_of};

@@ -15,7 +15,8 @@ pub trait Sink {
     fn write(&mut self, piece: &[u8]) -> Result<usize, Failed>
         requires { 0 < length piece.now }
         ensures count { IfOk result (λ n. (0 < n) × (n ≤ length piece.now)) }
-        ensures taken { IfOk result (λ n. held self.new ≡ option_map (λ held. held ++ take n piece.now) (held self.old)) }
+        ensures taken { IfOk result
+            (λ n. held self.new ≡ option_map (λ held. held ++ take n piece.now) (held self.old)) }
         ensures kept { OnErr result (held self.new ≡ held self.old) }
         ensures later { faults self.old ≤ faults self.new }
         ensures no_fault { OnOk result (faults self.new ≡ faults self.old) }

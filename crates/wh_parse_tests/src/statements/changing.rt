@@ -36,7 +36,8 @@ fn changes_of_rows_are_read(rt: HostRuntime) -> Result<(), Fail> {
             "merge T from U on (T.A = U.A) | update B:=U.B",
         ),
         (
-            "MERGE INTO t AS x USING (SELECT * FROM u) y ON x.a = y.a WHEN MATCHED AND y.b THEN DELETE WHEN NOT MATCHED THEN INSERT VALUES (1, 2)",
+            "MERGE INTO t AS x USING (SELECT * FROM u) y ON x.a = y.a WHEN MATCHED AND y.b THEN DELETE \
+             WHEN NOT MATCHED THEN INSERT VALUES (1, 2)",
             "merge T:X from ([* from U]):Y on (X.A = Y.A) | delete if Y.B | insert row 1 2",
         ),
         (

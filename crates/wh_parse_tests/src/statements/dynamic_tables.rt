@@ -47,11 +47,13 @@ fn dynamic_tables_are_created(rt: HostRuntime) -> Result<(), Fail> {
             "dynamic table D 0 auto now [* from T] <SELECT * FROM t>",
         ),
         (
-            "CREATE DYNAMIC TABLE d TARGET_LAG = DOWNSTREAM WAREHOUSE = w REFRESH_MODE = AUTO INITIALIZE = ON_CREATE AS SELECT * FROM t",
+            "CREATE DYNAMIC TABLE d TARGET_LAG = DOWNSTREAM WAREHOUSE = w REFRESH_MODE = AUTO INITIALIZE = ON_CREATE \
+             AS SELECT * FROM t",
             "dynamic table D downstream auto now [* from T] <SELECT * FROM t>",
         ),
         (
-            "CREATE DYNAMIC TABLE d INITIALIZE = ON_SCHEDULE REFRESH_MODE = FULL WAREHOUSE = w TARGET_LAG = DOWNSTREAM AS SELECT * FROM t",
+            "CREATE DYNAMIC TABLE d INITIALIZE = ON_SCHEDULE REFRESH_MODE = FULL \
+             WAREHOUSE = w TARGET_LAG = DOWNSTREAM AS SELECT * FROM t",
             "dynamic table D downstream full later [* from T] <SELECT * FROM t>",
         ),
         (
@@ -71,8 +73,10 @@ fn dynamic_tables_are_created(rt: HostRuntime) -> Result<(), Fail> {
             "none",
         ),
         (
-            "CREATE DYNAMIC TABLE d TARGET_LAG = DOWNSTREAM AS /*1*/ SELECT a AS\n  x, COUNT(*) n FROM t GROUP BY a /*2*/",
-            "dynamic table D downstream auto now [A:X (count *):N from T by A] <SELECT a AS\n  x, COUNT(*) n FROM t GROUP BY a>",
+            "CREATE DYNAMIC TABLE d TARGET_LAG = DOWNSTREAM AS /*1*/ SELECT a AS\n  x, COUNT(*) n FROM t \
+             GROUP BY a /*2*/",
+            "dynamic table D downstream auto now [A:X (count *):N from T by A] <SELECT a AS\n  x, COUNT(*) n FROM t \
+             GROUP BY a>",
         ),
         (
             "CREATE DYNAMIC TABLE d TARGET_LAG = DOWNSTREAM AS SELECT a FROM t UNION ALL SELECT 'ü' FROM u--",
@@ -97,7 +101,8 @@ fn other_dynamic_tables_are_none(rt: HostRuntime) -> Result<(), Fail> {
         "CREATE DYNAMIC TABLE d TARGET_LAG = DOWNSTREAM TARGET_LAG = DOWNSTREAM AS SELECT * FROM t",
         "CREATE DYNAMIC TABLE d TARGET_LAG = DOWNSTREAM WAREHOUSE = w WAREHOUSE = w AS SELECT * FROM t",
         "CREATE DYNAMIC TABLE d TARGET_LAG = DOWNSTREAM REFRESH_MODE = AUTO REFRESH_MODE = AUTO AS SELECT * FROM t",
-        "CREATE DYNAMIC TABLE d TARGET_LAG = DOWNSTREAM INITIALIZE = ON_CREATE INITIALIZE = ON_CREATE AS SELECT * FROM t",
+        "CREATE DYNAMIC TABLE d TARGET_LAG = DOWNSTREAM INITIALIZE = ON_CREATE INITIALIZE = ON_CREATE \
+         AS SELECT * FROM t",
         "CREATE DYNAMIC TABLE d TARGET_LAG = 'DOWNSTREAM' AS SELECT * FROM t",
         "CREATE DYNAMIC TABLE d TARGET_LAG = '1 WEEK' AS SELECT * FROM t",
         "CREATE DYNAMIC TABLE d TARGET_LAG = '1' AS SELECT * FROM t",

@@ -80,7 +80,8 @@ fn tasks_are_created(rt: HostRuntime) -> Result<(), Fail> {
         ),
         (
             "CREATE TASK k AS MERGE INTO t USING s ON t.a = s.a WHEN MATCHED THEN DELETE",
-            "task K do merge T from S on (T.A = S.A) | delete <MERGE INTO t USING s ON t.a = s.a WHEN MATCHED THEN DELETE>",
+            "task K do merge T from S on (T.A = S.A) | delete <MERGE INTO t USING s ON t.a = s.a \
+             WHEN MATCHED THEN DELETE>",
         ),
         (
             "CREATE TASK k WHEN SYSTEM$STREAM_HAS_DATA('s') AS DELETE FROM t",
@@ -99,12 +100,16 @@ fn tasks_are_created(rt: HostRuntime) -> Result<(), Fail> {
             "task K when (not S) <NOT SYSTEM$STREAM_HAS_DATA('s')> do delete T <DELETE FROM t>",
         ),
         (
-            "CREATE TASK k WHEN SYSTEM$STREAM_HAS_DATA('a') OR SYSTEM$STREAM_HAS_DATA('b') AND SYSTEM$STREAM_HAS_DATA('c') AS DELETE FROM t",
-            "task K when (A or (B and C)) <SYSTEM$STREAM_HAS_DATA('a') OR SYSTEM$STREAM_HAS_DATA('b') AND SYSTEM$STREAM_HAS_DATA('c')> do delete T <DELETE FROM t>",
+            "CREATE TASK k WHEN SYSTEM$STREAM_HAS_DATA('a') OR SYSTEM$STREAM_HAS_DATA('b') \
+             AND SYSTEM$STREAM_HAS_DATA('c') AS DELETE FROM t",
+            "task K when (A or (B and C)) <SYSTEM$STREAM_HAS_DATA('a') OR SYSTEM$STREAM_HAS_DATA('b') \
+             AND SYSTEM$STREAM_HAS_DATA('c')> do delete T <DELETE FROM t>",
         ),
         (
-            "CREATE TASK k WHEN (SYSTEM$STREAM_HAS_DATA('a') OR SYSTEM$STREAM_HAS_DATA('b')) AND NOT SYSTEM$STREAM_HAS_DATA('c') AS DELETE FROM t",
-            "task K when ((A or B) and (not C)) <(SYSTEM$STREAM_HAS_DATA('a') OR SYSTEM$STREAM_HAS_DATA('b')) AND NOT SYSTEM$STREAM_HAS_DATA('c')> do delete T <DELETE FROM t>",
+            "CREATE TASK k WHEN (SYSTEM$STREAM_HAS_DATA('a') OR SYSTEM$STREAM_HAS_DATA('b')) \
+             AND NOT SYSTEM$STREAM_HAS_DATA('c') AS DELETE FROM t",
+            "task K when ((A or B) and (not C)) <(SYSTEM$STREAM_HAS_DATA('a') OR SYSTEM$STREAM_HAS_DATA('b')) \
+             AND NOT SYSTEM$STREAM_HAS_DATA('c')> do delete T <DELETE FROM t>",
         ),
         (
             "CREATE TASK k SCHEDULE = '3 MINUTES' WHEN SYSTEM$STREAM_HAS_DATA('s')/* w */AS DELETE FROM t",

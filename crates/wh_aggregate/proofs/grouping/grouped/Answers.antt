@@ -10,7 +10,8 @@ use Rattle.wh_aggregate.proofs.LoopLemmas.{given_undefined, groups_given, whole_
 use Rattle.wh_aggregate.proofs.grouping.grouped.Goals as goal
 
 pub returns-then-is_empty : goal.returns-then-is_empty
-returns-then-is_empty c = whole_given c.args.by.now (calls_of c.args.calls.now) (rows_in c.args.rows.now) c.over_all.result (grind (arith, nat_tests)) c.over_all.ensures
+returns-then-is_empty c = whole_given c.args.by.now (calls_of c.args.calls.now)
+    (rows_in c.args.rows.now) c.over_all.result (grind (arith, nat_tests)) c.over_all.ensures
 
 pub returns-in_err-groups_of : goal.returns-in_err-groups_of
 returns-in_err-groups_of c =
@@ -18,8 +19,11 @@ returns-in_err-groups_of c =
     let calls = calls_of c.args.calls.now in
     let rows = rows_in c.args.rows.now in
     let fault = c.in_err-groups_of.field-0.0 in
-    passed_on c.from_residual.result fault (λ r. GivesRows r (grouped (scalars_of by) calls (bag_of rows))) c.from_residual.ensures.1
-    (fault_of_rows fault _ (still fault _ _ (given_undefined by calls rows (grind (arith, nat_tests))) c.in_err-groups_of.ensures))
+    passed_on c.from_residual.result fault (λ r. GivesRows r (grouped (scalars_of by) calls (bag_of rows)))
+    c.from_residual.ensures.1
+    (fault_of_rows fault _
+    (still fault _ _ (given_undefined by calls rows (grind (arith, nat_tests))) c.in_err-groups_of.ensures))
 
 pub returns : goal.returns
-returns c = groups_given c.args.by.now (calls_of c.args.calls.now) (rows_in c.args.rows.now) c.in_ok-groups_of.field-0 c.list.result (grind (arith, nat_tests)) c.in_ok-groups_of.ensures c.list.ensures
+returns c = groups_given c.args.by.now (calls_of c.args.calls.now) (rows_in c.args.rows.now) c.in_ok-groups_of.field-0
+    c.list.result (grind (arith, nat_tests)) c.in_ok-groups_of.ensures c.list.ensures

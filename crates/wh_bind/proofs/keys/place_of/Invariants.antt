@@ -6,4 +6,5 @@ use Rattle.wh_bind.proofs.OutputLemmas.{listed}
 use Rattle.wh_bind.proofs.keys.place_of.Given as goal
 
 abbrev pub invariant-loop-place : goal.invariant-loop-place
-invariant-loop-place l = only (listed l.found ++ positions_of l.name l.place (outputs_of (drop l.place l.outputs))) ≡ only (positions_of l.name 0 (outputs_of l.outputs))
+invariant-loop-place l = only (listed l.found ++ positions_of l.name l.place (outputs_of (drop l.place l.outputs)))
+    ≡ only (positions_of l.name 0 (outputs_of l.outputs))

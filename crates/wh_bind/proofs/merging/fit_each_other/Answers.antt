@@ -8,4 +8,5 @@ pub returns-then-outputs-others : goal.returns-then-outputs-others
 returns-then-outputs-others c =
     let outputs = c.args.outputs.now in
     let others = c.args.others.now in
-    sym (not_as_many (outputs_of outputs) (outputs_of others) (λ e. c.if-outputs-others.true (sym (length-map outputs output_of) ∙ e ∙ length-map others output_of)))
+    sym (not_as_many (outputs_of outputs) (outputs_of others)
+    (λ e. c.if-outputs-others.true (sym (length-map outputs output_of) ∙ e ∙ length-map others output_of)))

@@ -10,5 +10,8 @@ loop-place-preserved c =
     let outputs = c.args.outputs.now in
     let others = c.args.others.now in
     let i = c.loop-place.place in
-    ap (λ made. outputs_of made ++ naming.merged (outputs_of (drop (i + 1) outputs)) (outputs_of (drop (i + 1) others))) c.in_ok-push.ensures.items
-    ∙ merged_more c.loop-place.merged.items c.in_ok-merged_with.field-0 outputs others i c.index-outputs-place.result (option_copied c.at.result) _ c.loop-place-test.true c.index-outputs-place.is c.at.ensures c.in_ok-merged_with.ensures c.loop-place.invariant
+    ap (λ made. outputs_of made ++ naming.merged (outputs_of (drop (i + 1) outputs)) (outputs_of (drop (i + 1) others)))
+    c.in_ok-push.ensures.items
+    ∙ merged_more c.loop-place.merged.items c.in_ok-merged_with.field-0 outputs others i c.index-outputs-place.result
+    (option_copied c.at.result) _ c.loop-place-test.true c.index-outputs-place.is c.at.ensures
+    c.in_ok-merged_with.ensures c.loop-place.invariant

@@ -4,4 +4,5 @@ use Rattle.wh_expr_bind.specs.View.{named_of}
 use Rattle.wh_bind.proofs.sources.find.Given as goal
 
 abbrev pub invariant-loop-object : goal.invariant-loop-object
-invariant-loop-object l = named (map named_of (drop l.object-index l.names)) l.name ≡ named (map named_of l.names) l.name
+invariant-loop-object l =
+    named (map named_of (drop l.object-index l.names)) l.name ≡ named (map named_of l.names) l.name

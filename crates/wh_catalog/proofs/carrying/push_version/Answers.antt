@@ -15,7 +15,8 @@ use Rattle.wh_catalog.proofs.Names.{keeps_life}
 use Rattle.wh_catalog.proofs.Objects.{changed_twice, changed_back, at_objects}
 use Rattle.wh_catalog.proofs.carrying.push_version.Goals as goal
 
-same_fault : (fault : StageFault) → IsErrOf {T = Step} (Err fault) NotApplicable → IsErrOf {T = ℕ} (Err fault) NotApplicable
+same_fault : (fault : StageFault) → IsErrOf {T = Step} (Err fault) NotApplicable
+    → IsErrOf {T = ℕ} (Err fault) NotApplicable
 same_fault fault why = let e : fault ≡ NotApplicable = cc in ap {B = Result ℕ StageFault} Err e
 
 pub returns-in-Ok-clause-applies : goal.returns-in-Ok-clause-applies
@@ -25,7 +26,8 @@ returns-in-Ok-clause-applies c =
     let old = c.index_mut-object.result.now in
     let sized = objects.ok.0 in
     let some : 0 < id = omega arith in
-    let here : at_id objects.items id ≡ Some old = at_place objects.items id old some (omega (arith, c.len.ensures)) ∙ ap Some (sym c.index_mut-object.ensures.value) in
+    let here : at_id objects.items id ≡ Some old = at_place objects.items id old some (omega (arith, c.len.ensures))
+    ∙ ap Some (sym c.index_mut-object.ensures.value) in
     let there = at_objects objects.items id ∙ ap (λ o. option_map object_in (option_map kept_object o)) here in
     let P : Option StoredObject → Type 0 = λ o. FitsObject o (version_change_of c.args.change) in
     subst P (sym there) c.in-Ok.ensures.applies
@@ -37,8 +39,10 @@ returns-in-Ok-clause-changed c =
     let old = c.index_mut-object.result.now in
     let sized = objects.ok.0 in
     let some : 0 < id = omega arith in
-    let here : at_id objects.items id ≡ Some old = at_place objects.items id old some (omega (arith, c.len.ensures)) ∙ ap Some (sym c.index_mut-object.ensures.value) in
-    changed_twice object_in kept_object (pushed_object c.args.stamp (version_change_of c.args.change)) objects.items id old c.push.new.self some here c.in-Ok.ensures.pushed
+    let here : at_id objects.items id ≡ Some old = at_place objects.items id old some (omega (arith, c.len.ensures))
+    ∙ ap Some (sym c.index_mut-object.ensures.value) in
+    changed_twice object_in kept_object (pushed_object c.args.stamp (version_change_of c.args.change)) objects.items id
+    old c.push.new.self some here c.in-Ok.ensures.pushed
 
 pub returns-in-Ok-clause-back : goal.returns-in-Ok-clause-back
 returns-in-Ok-clause-back c =
@@ -47,7 +51,8 @@ returns-in-Ok-clause-back c =
     let old = c.index_mut-object.result.now in
     let sized = objects.ok.0 in
     let some : 0 < id = omega arith in
-    changed_back kept_object (object_taken_back c.in-Ok.next_row) objects.items id old c.push.new.self some (omega (arith, c.len.ensures)) c.index_mut-object.ensures.value c.in-Ok.ensures.back
+    changed_back kept_object (object_taken_back c.in-Ok.next_row) objects.items id old c.push.new.self some
+    (omega (arith, c.len.ensures)) c.index_mut-object.ensures.value c.in-Ok.ensures.back
 
 pub returns-in-Err-clause-not_applicable : goal.returns-in-Err-clause-not_applicable
 returns-in-Err-clause-not_applicable c = λ why fits.
@@ -56,7 +61,8 @@ returns-in-Err-clause-not_applicable c = λ why fits.
     let old = c.index_mut-object.result.now in
     let sized = objects.ok.0 in
     let some : 0 < id = omega arith in
-    let here : at_id objects.items id ≡ Some old = at_place objects.items id old some (omega (arith, c.len.ensures)) ∙ ap Some (sym c.index_mut-object.ensures.value) in
+    let here : at_id objects.items id ≡ Some old = at_place objects.items id old some (omega (arith, c.len.ensures))
+    ∙ ap Some (sym c.index_mut-object.ensures.value) in
     let there = at_objects objects.items id ∙ ap (λ o. option_map object_in (option_map kept_object o)) here in
     let P : Option StoredObject → Type 0 = λ o. FitsObject o (version_change_of c.args.change) in
     c.in-Err.ensures.not_applicable (same_fault c.in-Err.fault why) (subst P there fits)
@@ -67,16 +73,19 @@ returns-in-Err-clause-same c =
     let id = c.args.change.id in
     let old = c.index_mut-object.result.now in
     let sized = objects.ok.0 in
-    map_set_same kept_object objects.items (id - 1) old c.push.new.self (omega (arith, c.len.ensures)) c.index_mut-object.ensures.value c.in-Err.ensures.same
+    map_set_same kept_object objects.items (id - 1) old c.push.new.self
+    (omega (arith, c.len.ensures)) c.index_mut-object.ensures.value c.in-Err.ensures.same
 
 pub returns-in-Ok-clause-names : goal.returns-in-Ok-clause-names
 returns-in-Ok-clause-names c =
     let objects = c.args.objects.now in
     let sized = objects.ok.0 in
-    keeps_life objects.items (c.args.change.id - 1) c.index_mut-object.result.now c.push.new.self (omega (arith, c.len.ensures)) c.index_mut-object.ensures.value c.push.ensures.name c.push.ensures.live
+    keeps_life objects.items (c.args.change.id - 1) c.index_mut-object.result.now c.push.new.self
+    (omega (arith, c.len.ensures)) c.index_mut-object.ensures.value c.push.ensures.name c.push.ensures.live
 
 pub returns-in-Err-clause-names : goal.returns-in-Err-clause-names
 returns-in-Err-clause-names c =
     let objects = c.args.objects.now in
     let sized = objects.ok.0 in
-    keeps_life objects.items (c.args.change.id - 1) c.index_mut-object.result.now c.push.new.self (omega (arith, c.len.ensures)) c.index_mut-object.ensures.value c.push.ensures.name c.push.ensures.live
+    keeps_life objects.items (c.args.change.id - 1) c.index_mut-object.result.now c.push.new.self
+    (omega (arith, c.len.ensures)) c.index_mut-object.ensures.value c.push.ensures.name c.push.ensures.live

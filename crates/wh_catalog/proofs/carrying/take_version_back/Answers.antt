@@ -14,11 +14,15 @@ returns-clause-back c =
     let old = c.index_mut-object.result.now in
     let sized = objects.ok.0 in
     let some : 0 < id = omega arith in
-    let here : at_id objects.items id ≡ Some old = at_place objects.items id old some (omega (arith, c.len.ensures)) ∙ ap Some (sym c.index_mut-object.ensures.value) in
-    changed_by kept_object (object_taken_back c.args.pushed.next_row) objects.items id old c.take_back.new.self some here c.take_back.ensures.back
+    let here : at_id objects.items id ≡ Some old = at_place objects.items id old some (omega (arith, c.len.ensures))
+    ∙ ap Some (sym c.index_mut-object.ensures.value) in
+    changed_by kept_object (object_taken_back c.args.pushed.next_row) objects.items id old c.take_back.new.self some
+    here c.take_back.ensures.back
 
 pub returns-clause-names : goal.returns-clause-names
 returns-clause-names c =
     let objects = c.args.objects.now in
     let sized = objects.ok.0 in
-    keeps_life objects.items (c.args.pushed.id - 1) c.index_mut-object.result.now c.take_back.new.self (omega (arith, c.len.ensures)) c.index_mut-object.ensures.value c.take_back.ensures.name c.take_back.ensures.live
+    keeps_life objects.items (c.args.pushed.id - 1) c.index_mut-object.result.now c.take_back.new.self
+    (omega (arith, c.len.ensures)) c.index_mut-object.ensures.value c.take_back.ensures.name
+    c.take_back.ensures.live

@@ -17,7 +17,8 @@ returns-then-not-object-clause-not_applicable c = λ _ lives.
     let old = c.index_mut-object.result.now in
     let sized = objects.ok.0 in
     let some : 0 < id = omega arith in
-    let here : at_id objects.items id ≡ Some old = at_place objects.items id old some (omega (arith, c.len.ensures)) ∙ ap Some (sym c.index_mut-object.ensures.value) in
+    let here : at_id objects.items id ≡ Some old = at_place objects.items id old some (omega (arith, c.len.ensures))
+    ∙ ap Some (sym c.index_mut-object.ensures.value) in
     let there = at_objects objects.items id ∙ ap (λ o. option_map object_in (option_map kept_object o)) here in
     let live : old.is_live ≡ true = subst IsLiveObject there lives in
     absurd (false≢true (sym c.if-not-object.true ∙ live))
@@ -29,7 +30,8 @@ returns-clause-applies c =
     let old = c.index_mut-object.result.now in
     let sized = objects.ok.0 in
     let some : 0 < id = omega arith in
-    let here : at_id objects.items id ≡ Some old = at_place objects.items id old some (omega (arith, c.len.ensures)) ∙ ap Some (sym c.index_mut-object.ensures.value) in
+    let here : at_id objects.items id ≡ Some old = at_place objects.items id old some (omega (arith, c.len.ensures))
+    ∙ ap Some (sym c.index_mut-object.ensures.value) in
     let there = at_objects objects.items id ∙ ap (λ o. option_map object_in (option_map kept_object o)) here in
     subst IsLiveObject (sym there) c.if-not-object.false
 
@@ -40,7 +42,8 @@ returns-clause-changed c =
     let old = c.index_mut-object.result.now in
     let sized = objects.ok.0 in
     let some : 0 < id = omega arith in
-    let here : at_id objects.items id ≡ Some old = at_place objects.items id old some (omega (arith, c.len.ensures)) ∙ ap Some (sym c.index_mut-object.ensures.value) in
+    let here : at_id objects.items id ≡ Some old = at_place objects.items id old some (omega (arith, c.len.ensures))
+    ∙ ap Some (sym c.index_mut-object.ensures.value) in
     changed_twice object_in kept_object dropped objects.items id old (record old { is_live = false }) some here refl
 
 pub returns-clause-back : goal.returns-clause-back
@@ -50,7 +53,8 @@ returns-clause-back c =
     let old = c.index_mut-object.result.now in
     let sized = objects.ok.0 in
     let some : 0 < id = omega arith in
-    revived objects.items id old some (omega (arith, c.len.ensures)) c.index_mut-object.ensures.value c.if-not-object.false c.requires.live c.requires.last
+    revived objects.items id old some (omega (arith, c.len.ensures)) c.index_mut-object.ensures.value
+    c.if-not-object.false c.requires.live c.requires.last
 
 pub returns-clause-names : goal.returns-clause-names
 returns-clause-names c =
@@ -58,4 +62,5 @@ returns-clause-names c =
     let id = c.args.id in
     let old = c.index_mut-object.result.now in
     let sized = objects.ok.0 in
-    keeps_names objects.items (id - 1) old (record old { is_live = false }) (omega (arith, c.len.ensures)) c.index_mut-object.ensures.value refl (λ last live. absurd (false≢true live))
+    keeps_names objects.items (id - 1) old (record old { is_live = false })
+    (omega (arith, c.len.ensures)) c.index_mut-object.ensures.value refl (λ last live. absurd (false≢true live))

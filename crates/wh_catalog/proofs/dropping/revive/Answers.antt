@@ -15,7 +15,8 @@ returns-clause-back c =
     let old = c.index_mut-object.result.now in
     let sized = objects.ok.0 in
     let some : 0 < id = omega arith in
-    let here : at_id objects.items id ≡ Some old = at_place objects.items id old some (omega (arith, c.len.ensures)) ∙ ap Some (sym c.index_mut-object.ensures.value) in
+    let here : at_id objects.items id ≡ Some old = at_place objects.items id old some (omega (arith, c.len.ensures))
+    ∙ ap Some (sym c.index_mut-object.ensures.value) in
     changed_by kept_object alive objects.items id old (record old { is_live = true }) some here refl
 
 pub returns-clause-names : goal.returns-clause-names
@@ -28,4 +29,5 @@ returns-clause-names c =
     let here : id - 1 < length objects.items = omega (arith, c.len.ensures) in
     let is = c.index_mut-object.ensures.value in
     keeps_names objects.items (id - 1) old (record old { is_live = true }) here is refl
-    (λ last live. last_place_by (names_of objects.items) id old.name (named_at objects.items id old some here is) c.requires)
+    (λ last live. last_place_by (names_of objects.items) id old.name
+    (named_at objects.items id old some here is) c.requires)

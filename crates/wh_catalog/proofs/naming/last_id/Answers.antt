@@ -10,8 +10,10 @@ returns-then-eq c =
     let rest = last_place name (names_of (take (at.left - 1) c.args.objects.now)) in
     sym (ap (option_map (λ place. place + 1)) (
     sym at.invariant.seen
-    ∙ without_last c.args.objects.now name at.left c.index-objects-left.result (omega arith) at.invariant.bounded c.index-objects-left.is
-    ∙ ap (λ (b : Bool). cond b (Some (at.left - 1)) rest) (ap (λ n. bytes_eq n name) (sym c.as_bytes.ensures.value) ∙ sym c.eq.ensures ∙ c.if-eq.true)
+    ∙ without_last c.args.objects.now name at.left c.index-objects-left.result
+    (omega arith) at.invariant.bounded c.index-objects-left.is
+    ∙ ap (λ (b : Bool). cond b (Some (at.left - 1)) rest)
+    (ap (λ n. bytes_eq n name) (sym c.as_bytes.ensures.value) ∙ sym c.eq.ensures ∙ c.if-eq.true)
     ))
 
 pub loop-left-preserved : goal.loop-left-preserved
@@ -23,7 +25,9 @@ loop-left-preserved c =
       bounded = omega arith;
       seen = sym (
           sym at.invariant.seen
-          ∙ without_last c.args.objects.now name at.left c.index-objects-left.result (omega arith) at.invariant.bounded c.index-objects-left.is
-          ∙ ap (λ (b : Bool). cond b (Some (at.left - 1)) rest) (ap (λ n. bytes_eq n name) (sym c.as_bytes.ensures.value) ∙ sym c.eq.ensures ∙ c.if-eq.false)
+          ∙ without_last c.args.objects.now name at.left c.index-objects-left.result
+          (omega arith) at.invariant.bounded c.index-objects-left.is
+          ∙ ap (λ (b : Bool). cond b (Some (at.left - 1)) rest)
+          (ap (λ n. bytes_eq n name) (sym c.as_bytes.ensures.value) ∙ sym c.eq.ensures ∙ c.if-eq.false)
           );
     }

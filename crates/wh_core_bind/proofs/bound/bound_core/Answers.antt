@@ -10,8 +10,11 @@ pub returns : goal.returns
 unfolding joined_in
 returns c =
     let items = c.args.items.now in
-    let entries : c.deref.result.now ≡ c.args.joined.entries.items = c.deref.ensures.value ∙ ap (λ (j : Joined). j.entries.items) (c.get.ensures ∙ c.in_ok-joined.ensures) in
-    let shown : shown_in c.in_ok-shown.shown ≡ all_shown (entries_of c.args.joined.entries.items) nothing_shown items = ap shown_in c.in_ok-shown.ensures ∙ c.in_ok-all_shown.ensures ∙ ap (λ (es : List Entry). all_shown (entries_of es) nothing_shown items) entries in
+    let entries : c.deref.result.now ≡ c.args.joined.entries.items =
+    c.deref.ensures.value ∙ ap (λ (j : Joined). j.entries.items) (c.get.ensures ∙ c.in_ok-joined.ensures) in
+    let shown : shown_in c.in_ok-shown.shown ≡ all_shown (entries_of c.args.joined.entries.items) nothing_shown items =
+    ap shown_in c.in_ok-shown.ensures ∙ c.in_ok-all_shown.ensures
+    ∙ ap (λ (es : List Entry). all_shown (entries_of es) nothing_shown items) entries in
     subst (λ (m : BoundQuery). IfOk c.core_of.result (λ q. query_in q ≡ m))
     (λ i. core_of (joined_in (c.in_ok-joined.ensures i)) c.args.filter.now c.args.group.now (shown i))
     c.core_of.ensures

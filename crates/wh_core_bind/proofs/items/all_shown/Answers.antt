@@ -9,4 +9,5 @@ loop-item-preserved c =
     let entries = entries_of c.args.entries.now in
     c.in_ok-show.ensures
     ∙ ap (λ (s : Shown). shown_with entries s c.item-item.result) c.loop-item.invariant
-    ∙ sym (shown_turn entries nothing_shown c.args.items.now c.loop-item.item-index c.item-item.result c.loop-item-test.true c.item-item.is)
+    ∙ sym (shown_turn entries nothing_shown c.args.items.now c.loop-item.item-index c.item-item.result
+    c.loop-item-test.true c.item-item.is)

@@ -11,8 +11,11 @@ pub returns : goal.returns
 returns c =
     let outputs = length-map c.args.shown.now.outputs.items output_of in
     let calls = length-map c.args.shown.now.calls.items call_of in
-    let position : c.in-Some.position ≡ suc (length (outputs_of c.args.shown.now.outputs.items)) = omega (arith, outputs, c.in-Some.ensures, c.len.ensures) in
-    let behind : c.len-2.result ≡ length (calls_of c.args.shown.now.calls.items) = omega (arith, calls, c.len-2.ensures) in
+    let position : c.in-Some.position ≡ suc (length (outputs_of c.args.shown.now.outputs.items)) =
+    omega (arith, outputs, c.in-Some.ensures, c.len.ensures) in
+    let behind : c.len-2.result ≡ length (calls_of c.args.shown.now.calls.items) =
+    omega (arith, calls, c.len-2.ensures) in
     subst (λ (m : Shown). OnOk c.add_item.result (shown_in c.add_item.new.shown ≡ m))
-    (item_same (shown_in c.args.shown.now) c.args.alias.now c.args.x.now (entries_of c.args.entries.now) _ _ _ _ c.in_ok-name.ensures c.in_ok-x.ensures position behind)
+    (item_same (shown_in c.args.shown.now) c.args.alias.now c.args.x.now
+    (entries_of c.args.entries.now) _ _ _ _ c.in_ok-name.ensures c.in_ok-x.ensures position behind)
     c.add_item.ensures

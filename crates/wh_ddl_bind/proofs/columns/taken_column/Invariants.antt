@@ -4,4 +4,5 @@ use Rattle.wh_ddl_naming.specs.Tables.{column_names, taken_column}
 use Rattle.wh_ddl_bind.proofs.columns.taken_column.Given as goal
 
 abbrev pub invariant-loop-place : goal.invariant-loop-place
-invariant-loop-place l = taken_column (column_names (map column_of (drop l.place l.columns))) ≡ taken_column (column_names (map column_of l.columns))
+invariant-loop-place l = taken_column (column_names (map column_of (drop l.place l.columns)))
+    ≡ taken_column (column_names (map column_of l.columns))

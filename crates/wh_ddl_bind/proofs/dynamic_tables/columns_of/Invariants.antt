@@ -5,4 +5,5 @@ use Rattle.wh_core_bind.specs.View.{outputs_of}
 use Rattle.wh_ddl_bind.proofs.dynamic_tables.columns_of.Given as goal
 
 abbrev pub invariant-loop-output : goal.invariant-loop-output
-invariant-loop-output l = map column_of l.columns.items ≡ map naming.column_of (outputs_of (take l.output-index l.outputs))
+invariant-loop-output l =
+    map column_of l.columns.items ≡ map naming.column_of (outputs_of (take l.output-index l.outputs))

@@ -4,4 +4,5 @@ use Rattle.wh_ddl_bind.specs.View.{root_in}
 use Rattle.wh_ddl_bind.proofs.names.root_of.Given as goal
 
 abbrev pub invariant-loop-listed : goal.invariant-loop-listed
-invariant-loop-listed l = root_of (map root_in (drop l.listed-index l.roots)) l.task ≡ root_of (map root_in l.roots) l.task
+invariant-loop-listed l =
+    root_of (map root_in (drop l.listed-index l.roots)) l.task ≡ root_of (map root_in l.roots) l.task

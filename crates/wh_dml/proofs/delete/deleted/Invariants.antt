@@ -9,4 +9,5 @@ use Rattle.wh_dml.proofs.delete.deleted.Given as goal
 abbrev pub invariant-loop-partition : goal.invariant-loop-partition
 invariant-loop-partition l =
     meaning.turned (meaning.deleted (scalar_of l.condition)) (targets_of l.target)
-    ≡ option_map (before (effect_of l.effect)) (meaning.turned (meaning.deleted (scalar_of l.condition)) (targets_of (drop l.partition-index l.target)))
+    ≡ option_map (before (effect_of l.effect))
+    (meaning.turned (meaning.deleted (scalar_of l.condition)) (targets_of (drop l.partition-index l.target)))

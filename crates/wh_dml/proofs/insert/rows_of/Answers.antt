@@ -8,5 +8,6 @@ pub returns : goal.returns
 returns c =
     let added = c.loop-parts.added.items in
     c.loop-parts.invariant
-    ∙ ap (λ xs. option_map (λ rest. added ++ rest) (rows_of (bound.rows_of xs))) (drop_all c.loop-parts.parts-index c.args.rows.now c.loop-parts-test.false)
+    ∙ ap (λ xs. option_map (λ rest. added ++ rest) (rows_of (bound.rows_of xs)))
+    (drop_all c.loop-parts.parts-index c.args.rows.now c.loop-parts-test.false)
     ∙ ap Some (append-nil added)

@@ -8,5 +8,6 @@ pub returns : goal.returns
 returns c =
     let added = c.loop-old.added.items in
     c.loop-old.invariant
-    ∙ ap (λ xs. option_map (λ rest. added ++ rest) (rows_over (scalars_of c.args.parts.now) xs)) (drop_all c.loop-old.old-index c.args.source.now c.loop-old-test.false)
+    ∙ ap (λ xs. option_map (λ rest. added ++ rest) (rows_over (scalars_of c.args.parts.now) xs))
+    (drop_all c.loop-old.old-index c.args.source.now c.loop-old-test.false)
     ∙ ap Some (append-nil added)

@@ -10,5 +10,7 @@ use Rattle.wh_dml.proofs.update.update.Given as goal
 
 abbrev pub invariant-loop-entry : goal.invariant-loop-entry
 invariant-loop-entry l =
-    option_map (before (effect_of l.initial.effect)) (meaning.turned (meaning.updated (scalar_of l.condition) (scalars_of l.parts)) (kept_rows (map numbered_of l.rows)))
-    ≡ option_map (before (effect_of l.effect)) (meaning.turned (meaning.updated (scalar_of l.condition) (scalars_of l.parts)) (kept_rows (map numbered_of (drop l.entry-index l.rows))))
+    option_map (before (effect_of l.initial.effect)) (meaning.turned
+    (meaning.updated (scalar_of l.condition) (scalars_of l.parts)) (kept_rows (map numbered_of l.rows)))
+    ≡ option_map (before (effect_of l.effect)) (meaning.turned (meaning.updated (scalar_of l.condition)
+    (scalars_of l.parts)) (kept_rows (map numbered_of (drop l.entry-index l.rows))))

@@ -10,10 +10,13 @@ use Rattle.wh_dml.proofs.update.updated.Goals as goal
 pub loop-partition-preserved : goal.loop-partition-preserved
 loop-partition-preserved c =
     c.loop-partition.invariant
-    ∙ partition_done (meaning.updated (scalar_of c.args.condition.now) (scalars_of c.args.parts.now)) c.args.target.now c.loop-partition.partition-index c.partition-item.result (map numbered_of c.rows.result.now)
-    (effect_of c.loop-partition.effect) (effect_of c.update.new.effect) c.loop-partition-test.true c.partition-item.is c.rows.ensures.rows c.in_ok-update.ensures
+    ∙ partition_done (meaning.updated (scalar_of c.args.condition.now) (scalars_of c.args.parts.now)) c.args.target.now
+    c.loop-partition.partition-index c.partition-item.result (map numbered_of c.rows.result.now)
+    (effect_of c.loop-partition.effect) (effect_of c.update.new.effect) c.loop-partition-test.true c.partition-item.is
+    c.rows.ensures.rows c.in_ok-update.ensures
 
 pub returns : goal.returns
 returns c =
     c.loop-partition.invariant
-    ∙ all_done (meaning.updated (scalar_of c.args.condition.now) (scalars_of c.args.parts.now)) c.args.target.now c.loop-partition.partition-index (effect_of c.loop-partition.effect) c.loop-partition-test.false
+    ∙ all_done (meaning.updated (scalar_of c.args.condition.now) (scalars_of c.args.parts.now)) c.args.target.now
+    c.loop-partition.partition-index (effect_of c.loop-partition.effect) c.loop-partition-test.false

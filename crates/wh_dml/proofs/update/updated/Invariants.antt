@@ -10,4 +10,5 @@ use Rattle.wh_dml.proofs.update.updated.Given as goal
 abbrev pub invariant-loop-partition : goal.invariant-loop-partition
 invariant-loop-partition l =
     meaning.turned (meaning.updated (scalar_of l.condition) (scalars_of l.parts)) (targets_of l.target)
-    ≡ option_map (before (effect_of l.effect)) (meaning.turned (meaning.updated (scalar_of l.condition) (scalars_of l.parts)) (targets_of (drop l.partition-index l.target)))
+    ≡ option_map (before (effect_of l.effect)) (meaning.turned
+    (meaning.updated (scalar_of l.condition) (scalars_of l.parts)) (targets_of (drop l.partition-index l.target)))

@@ -22,10 +22,13 @@ loop-index-preserved c =
     let set = c.in_ok-set.ensures in
     let all = c.in_ok-all.ensures in
     record {
-      places = all.places ∙ (λ k. before.places k ++ set.place k ∷ []) ∙ sym (map_turn (λ (p : Assignment). place_in columns p.column) parts i part here c.index-parts-index.is);
-      scalars = all.scalars ∙ (λ k. before.scalars k ++ set.scalar k ∷ []) ∙ sym (map_turn (λ (p : Assignment). (plain entries p.value).scalar) parts i part here c.index-parts-index.is);
+      places = all.places ∙ (λ k. before.places k ++ set.place k ∷ [])
+          ∙ sym (map_turn (λ (p : Assignment). place_in columns p.column) parts i part here c.index-parts-index.is);
+      scalars = all.scalars ∙ (λ k. before.scalars k ++ set.scalar k ∷ []) ∙ sym
+          (map_turn (λ (p : Assignment). (plain entries p.value).scalar) parts i part here c.index-parts-index.is);
       findings = ap (λ (f : Findings). followed f (set_findings columns entries (drop (i + 1) parts))) all.findings
-          ∙ set_turn columns entries parts c.parts_behind.result.now i part (findings_of c.loop-index.all.findings) (findings_of c.in_ok-set.set.findings) here c.index-parts-index.is c.parts_behind.ensures set.findings
+          ∙ set_turn columns entries parts c.parts_behind.result.now i part (findings_of c.loop-index.all.findings)
+          (findings_of c.in_ok-set.set.findings) here c.index-parts-index.is c.parts_behind.ensures set.findings
           ∙ before.findings;
     }
 
@@ -40,5 +43,6 @@ returns c =
     record {
       places = done.places ∙ ap (map (λ (p : Assignment). place_in columns p.column)) all;
       scalars = done.scalars ∙ ap (map (λ (p : Assignment). (plain entries p.value).scalar)) all;
-      findings = sym (set_end columns entries parts i (findings_of c.loop-index.all.findings) c.loop-index-test.false) ∙ done.findings;
+      findings = sym (set_end columns entries parts i (findings_of c.loop-index.all.findings) c.loop-index-test.false)
+          ∙ done.findings;
     }

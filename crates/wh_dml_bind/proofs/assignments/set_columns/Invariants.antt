@@ -10,8 +10,11 @@ use Rattle.wh_dml_bind.proofs.assignments.set_columns.Given as goal
 
 abbrev pub invariant-loop-index : goal.invariant-loop-index
 invariant-loop-index l = record {
-  places : places_of l.all.places.items ≡ map (λ part. place_in (map column_of l.columns) part.column) (take l.index l.parts);
-  scalars : scalars_of l.all.scalars.items ≡ map (λ part. (plain (entries_of l.entries) part.value).scalar) (take l.index l.parts);
-  findings : followed (findings_of l.all.findings) (set_findings (map column_of l.columns) (entries_of l.entries) (drop l.index l.parts))
+  places : places_of l.all.places.items
+      ≡ map (λ part. place_in (map column_of l.columns) part.column) (take l.index l.parts);
+  scalars : scalars_of l.all.scalars.items
+      ≡ map (λ part. (plain (entries_of l.entries) part.value).scalar) (take l.index l.parts);
+  findings : followed (findings_of l.all.findings)
+      (set_findings (map column_of l.columns) (entries_of l.entries) (drop l.index l.parts))
       ≡ set_findings (map column_of l.columns) (entries_of l.entries) l.parts;
 }

@@ -21,6 +21,8 @@ loop-clause-preserved c =
     let one = c.in_ok-one.ensures in
     let bound = c.in_ok-bound.ensures in
     record {
-      clauses = bound.clauses ∙ (λ k. before.clauses k ++ one.clause k ∷ []) ∙ sym (map_turn (bound_clause columns target source) clauses i clause here c.clause-item.is);
-      findings = bound.findings ∙ (λ k. followed (before.findings k) (one.findings k)) ∙ sym (found_turn columns target source clauses i clause here c.clause-item.is);
+      clauses = bound.clauses ∙ (λ k. before.clauses k ++ one.clause k ∷ [])
+          ∙ sym (map_turn (bound_clause columns target source) clauses i clause here c.clause-item.is);
+      findings = bound.findings ∙ (λ k. followed (before.findings k) (one.findings k))
+          ∙ sym (found_turn columns target source clauses i clause here c.clause-item.is);
     }

@@ -18,9 +18,12 @@ returns c =
     let s = source_in c.in_ok-rows.rows in
     let on = c.args.on.now in
     let clauses = c.args.clauses.now in
-    let made : merge_in t s c.in_ok-parts.parts ≡ merged_on t (target_entry name t) (source_entry source s) s on clauses =
-    subst (λ (x : BoundSource). merge_in t x c.in_ok-parts.parts ≡ merged_on t (target_entry name t) (source_entry source x) x on clauses)
+    let made : merge_in t s c.in_ok-parts.parts
+    ≡ merged_on t (target_entry name t) (source_entry source s) s on clauses =
+    subst (λ (x : BoundSource). merge_in t x c.in_ok-parts.parts
+    ≡ merged_on t (target_entry name t) (source_entry source x) x on clauses)
     (λ i. source_in (c.get.ensures i)) c.in_ok-parts.ensures in
     subst (λ (m : BoundChange). IfOk c.merged.result (λ x. checked_in x ≡ m))
-    (made ∙ merge_read t name source (naming.source_part c.args.source.now) (map named_of c.args.names.now) s on clauses c.in_ok-rows.ensures c.source_name-source.ensures)
+    (made ∙ merge_read t name source (naming.source_part c.args.source.now)
+    (map named_of c.args.names.now) s on clauses c.in_ok-rows.ensures c.source_name-source.ensures)
     c.merged.ensures

@@ -5,5 +5,6 @@ use Rattle.wh_dml_bind.proofs.places.all_places.Goals as goal
 
 pub loop-place-preserved : goal.loop-place-preserved
 loop-place-preserved c =
-    let turn = places_turn c.args.columns.now c.loop-place.place c.index-columns-place.result c.loop-place-test.true c.index-columns-place.is in
+    let turn = places_turn c.args.columns.now c.loop-place.place c.index-columns-place.result c.loop-place-test.true
+    c.index-columns-place.is in
     grind (arith, common_steps)

@@ -9,4 +9,5 @@ pub returns-then-places-types : goal.returns-then-places-types
 returns-then-places-types c =
     let places = c.args.places.now in
     let types = c.args.types.now in
-    sym (not_as_many (places_of places) (map type_of_option types) (λ e. c.if-places-types.true (sym (length-map places (option_map place_of)) ∙ e ∙ length-map types type_of_option)))
+    sym (not_as_many (places_of places) (map type_of_option types) (λ e. c.if-places-types.true
+    (sym (length-map places (option_map place_of)) ∙ e ∙ length-map types type_of_option)))

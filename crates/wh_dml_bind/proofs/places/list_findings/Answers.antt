@@ -14,11 +14,14 @@ loop-place-preserved c =
     let name = c.index-names-place.result in
     let again : c.comes_again-is_again.result ≡ names_again name (drop (i + 1) names) =
     c.comes_again-is_again.ensures ∙ ap (λ (xs : List Name). names_again name xs) c.names_behind.ensures in
-    let found : findings_of c.in_ok-found.found ≡ followed (place_findings name (place_in columns name)) (taken_if (names_again name (drop (i + 1) names)) name) =
+    let found : findings_of c.in_ok-found.found ≡ followed (place_findings name (place_in columns name))
+    (taken_if (names_again name (drop (i + 1) names)) name) =
     c.in_ok-found.ensures ∙ (λ k. followed (place_findings name (c.place_in.ensures k)) (taken_if (again k) name)) in
     ap (λ (f : Findings). followed f (list_findings columns (drop (i + 1) names))) c.followed-findings.ensures
-    ∙ names_turn columns names i name (findings_of c.loop-place.findings) (findings_of c.in_ok-found.found) c.loop-place-test.true c.index-names-place.is found
+    ∙ names_turn columns names i name (findings_of c.loop-place.findings)
+    (findings_of c.in_ok-found.found) c.loop-place-test.true c.index-names-place.is found
     ∙ c.loop-place.invariant
 
 pub returns : goal.returns
-returns c = sym (names_end (map column_of c.args.columns.now) c.args.names.now c.loop-place.place (findings_of c.loop-place.findings) c.loop-place-test.false) ∙ c.loop-place.invariant
+returns c = sym (names_end (map column_of c.args.columns.now) c.args.names.now c.loop-place.place
+    (findings_of c.loop-place.findings) c.loop-place-test.false) ∙ c.loop-place.invariant

@@ -6,5 +6,6 @@ use Rattle.wh_expr_bind.specs.View.{findings_of}
 use Rattle.wh_dml_bind.proofs.places.list_findings.Given as goal
 
 abbrev pub invariant-loop-place : goal.invariant-loop-place
-invariant-loop-place l = followed (findings_of l.findings) (list_findings (map column_of l.columns) (drop l.place l.names))
+invariant-loop-place l =
+    followed (findings_of l.findings) (list_findings (map column_of l.columns) (drop l.place l.names))
     ≡ list_findings (map column_of l.columns) l.names

@@ -8,5 +8,6 @@ use Rattle.wh_dml_bind.proofs.PlaceLemmas.{listed}
 use Rattle.wh_dml_bind.proofs.places.place_in.Given as goal
 
 abbrev pub invariant-loop-place : goal.invariant-loop-place
-invariant-loop-place l = only (listed (option_map place_of l.found) ++ places_among l.name l.place (map column_of (drop l.place l.columns)))
+invariant-loop-place l =
+    only (listed (option_map place_of l.found) ++ places_among l.name l.place (map column_of (drop l.place l.columns)))
     ≡ place_in (map column_of l.columns) l.name

@@ -5,4 +5,5 @@ use Rattle.wh_dml_bind.specs.Steps.{given}
 use Rattle.wh_dml_bind.proofs.rows.given.Given as goal
 
 abbrev pub invariant-loop-index : goal.invariant-loop-index
-invariant-loop-index l = given l.place (places_of (drop l.index l.places)) (scalars_of (drop l.index l.scalars)) ≡ given l.place (places_of l.places) (scalars_of l.scalars)
+invariant-loop-index l = given l.place (places_of (drop l.index l.places)) (scalars_of (drop l.index l.scalars))
+    ≡ given l.place (places_of l.places) (scalars_of l.scalars)

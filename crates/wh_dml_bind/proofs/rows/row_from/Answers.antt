@@ -7,5 +7,6 @@ use Rattle.wh_dml_bind.proofs.rows.row_from.Goals as goal
 
 pub loop-place-preserved : goal.loop-place-preserved
 loop-place-preserved c =
-    let turn = row_turn c.args.columns.now (places_of c.args.places.now) (scalars_of c.args.scalars.now) c.loop-place.place c.loop-place-test.true in
+    let turn = row_turn c.args.columns.now (places_of c.args.places.now)
+    (scalars_of c.args.scalars.now) c.loop-place.place c.loop-place-test.true in
     grind (arith, common_steps)

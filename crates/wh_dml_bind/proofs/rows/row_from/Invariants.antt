@@ -6,4 +6,5 @@ use Rattle.wh_dml_bind.specs.View.{places_of}
 use Rattle.wh_dml_bind.proofs.rows.row_from.Given as goal
 
 abbrev pub invariant-loop-place : goal.invariant-loop-place
-invariant-loop-place l = scalars_of l.row.items ≡ row_from 0 (map column_of (take l.place l.columns)) (places_of l.places) (scalars_of l.scalars)
+invariant-loop-place l = scalars_of l.row.items
+    ≡ row_from 0 (map column_of (take l.place l.columns)) (places_of l.places) (scalars_of l.scalars)

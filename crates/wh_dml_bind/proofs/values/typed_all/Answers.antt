@@ -16,7 +16,10 @@ loop-value-preserved c =
     let x = c.in_ok-x.ensures in
     let all = c.in_ok-all.ensures in
     record {
-      scalars = all.scalars ∙ (λ k. before.scalars k ++ (x k).scalar ∷ []) ∙ sym (values_turn (λ (t : Typed). t.scalar) entries values i value here c.value-item.is);
-      types = all.types ∙ (λ k. before.types k ++ (x k).type_of ∷ []) ∙ sym (values_turn (λ (t : Typed). t.type_of) entries values i value here c.value-item.is);
-      findings = all.findings ∙ (λ k. followed (before.findings k) (x k).findings) ∙ sym (all_turn entries values i value here c.value-item.is);
+      scalars = all.scalars ∙ (λ k. before.scalars k ++ (x k).scalar ∷ [])
+          ∙ sym (values_turn (λ (t : Typed). t.scalar) entries values i value here c.value-item.is);
+      types = all.types ∙ (λ k. before.types k ++ (x k).type_of ∷ [])
+          ∙ sym (values_turn (λ (t : Typed). t.type_of) entries values i value here c.value-item.is);
+      findings = all.findings ∙ (λ k. followed (before.findings k) (x k).findings)
+          ∙ sym (all_turn entries values i value here c.value-item.is);
     }

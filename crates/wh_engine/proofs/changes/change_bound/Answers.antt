@@ -26,13 +26,16 @@ pub returns-in_default : goal.returns-in_default
 returns-in_default c = λ meant is.
     let catalog = c.args.catalog.now in
     let objects = (state_of catalog).objects in
-    let missing : table_at objects c.args.bound.now.target ≡ None = table_missing catalog c.args.bound.now.target (sym c.in_default.ensures) in
+    let missing : table_at objects c.args.bound.now.target ≡ None =
+    table_missing catalog c.args.bound.now.target (sym c.in_default.ensures) in
     declines (stored_of catalog) c.args.stamp _ _ TypeMismatch refl
-    (no_table objects meant is.nothing_found (sym is.is_wide ∙ c.if-bound.false) (ap (table_at objects) (sym is.target) ∙ missing))
+    (no_table objects meant is.nothing_found
+    (sym is.is_wide ∙ c.if-bound.false) (ap (table_at objects) (sym is.target) ∙ missing))
 
 pub returns-in-Ok : goal.returns-in-Ok
 returns-in-Ok c =
-    decides_settled c.edit.result c.args.catalog.now c.args.stamp c.args.bound.now (table_of c.in-Some.table.now) (effect_of c.in-Ok.effect) c.if-bound.false
+    decides_settled c.edit.result c.args.catalog.now c.args.stamp c.args.bound.now (table_of c.in-Some.table.now)
+    (effect_of c.in-Ok.effect) c.if-bound.false
     (sym c.in-Some.ensures) c.in-Ok.ensures c.edit.ensures
 
 pub returns-in-Err-NumberOutOfRange : goal.returns-in-Err-NumberOutOfRange
@@ -41,11 +44,14 @@ returns-in-Err-NumberOutOfRange c = λ meant is.
     let b = c.args.bound.now in
     let objects = (state_of catalog).objects in
     let t = table_of c.in-Some.table.now in
-    let comes : effect (change_of b.change) (rows_seen (table_meant t)) (instance_of objects b.sources.items) ≡ Undefined =
-    subst (λ (f : EffectFault). Gives (Err f) (effect (change_of b.change) (rows_seen (table_meant t)) (instance_of objects b.sources.items)))
+    let comes : effect (change_of b.change) (rows_seen (table_meant t))
+    (instance_of objects b.sources.items) ≡ Undefined =
+    subst (λ (f : EffectFault). Gives (Err f)
+    (effect (change_of b.change) (rows_seen (table_meant t)) (instance_of objects b.sources.items)))
     c.in-Err-NumberOutOfRange.field-0-is c.in-Err-NumberOutOfRange.ensures in
     declines (stored_of catalog) c.args.stamp _ _ NumberOutOfRange refl
-    (outcome_is objects b meant (table_meant t) Undefined is c.if-bound.false (table_there catalog b.target t (sym c.in-Some.ensures)) comes)
+    (outcome_is objects b meant (table_meant t) Undefined is c.if-bound.false
+    (table_there catalog b.target t (sym c.in-Some.ensures)) comes)
 
 pub returns-in-Err-AmbiguousMerge : goal.returns-in-Err-AmbiguousMerge
 returns-in-Err-AmbiguousMerge c = λ meant is.
@@ -54,8 +60,12 @@ returns-in-Err-AmbiguousMerge c = λ meant is.
     let objects = (state_of catalog).objects in
     let t = table_of c.in-Some.table.now in
     let row = c.in-Err-AmbiguousMerge.row in
-    let comes : effect (change_of b.change) (rows_seen (table_meant t)) (instance_of objects b.sources.items) ≡ Ambiguous row =
-    subst (λ (f : EffectFault). Gives (Err f) (effect (change_of b.change) (rows_seen (table_meant t)) (instance_of objects b.sources.items)))
+    let comes : effect (change_of b.change) (rows_seen (table_meant t)) (instance_of objects b.sources.items)
+    ≡ Ambiguous row =
+    subst (λ (f : EffectFault). Gives (Err f)
+    (effect (change_of b.change) (rows_seen (table_meant t)) (instance_of objects b.sources.items)))
     c.in-Err-AmbiguousMerge.field-0-is c.in-Err-AmbiguousMerge.ensures in
-    declines (stored_of catalog) c.args.stamp _ _ (AmbiguousMerge row) (ap (λ r. Declines (AmbiguousMerge r)) c.in-Err-AmbiguousMerge.row-is)
-    (outcome_is objects b meant (table_meant t) (Ambiguous row) is c.if-bound.false (table_there catalog b.target t (sym c.in-Some.ensures)) comes)
+    declines (stored_of catalog) c.args.stamp _ _ (AmbiguousMerge row)
+    (ap (λ r. Declines (AmbiguousMerge r)) c.in-Err-AmbiguousMerge.row-is)
+    (outcome_is objects b meant (table_meant t) (Ambiguous row) is c.if-bound.false
+    (table_there catalog b.target t (sym c.in-Some.ensures)) comes)

@@ -1,4 +1,5 @@
-use Rattle.std.proofs.Common.{◌≡◌, ℕ, ◌+◌, [], ◌∷◌, length, map, Some, None, is_some, true, false, option_map, refl, ap, sym, ◌∙◌}
+use Rattle.std.proofs.Common.{◌≡◌, ℕ, ◌+◌, [], ◌∷◌, length, map, Some, None, is_some, true, false}
+use Rattle.std.proofs.Common.{option_map, refl, ap, sym, ◌∙◌}
 use Rattle.std.specs.Prelude.{nat_le}
 use Rattle.wh_value.specs.Limit.{bound}
 use Rattle.wh_value.specs.declared.limit.Limit.TheVariants as limits
@@ -25,17 +26,20 @@ returns-in-Some c = λ s there.
     let t = table_of c.args.table.now in
     let e = effect_of c.args.effect in
     let past : refused_past limits.RowNumber (t.next_row + length e.added) ≡ Some (refusal_view c.in-Some.why) =
-    (λ i. refused_past limits.RowNumber (sym c.next_row.ensures.number i + sym c.counts_of-counts.ensures.inserted i)) ∙ sym c.refused_past.ensures
+    (λ i. refused_past limits.RowNumber (sym c.next_row.ensures.number i + sym c.counts_of-counts.ensures.inserted i))
+    ∙ sym c.refused_past.ensures
     ∙ ap (option_map refusal_view) c.in-Some.is in
     declines s c.args.stamp _ _ (refusal_view c.in-Some.why) refl
-    (rows_past c.args.bound.now.target (changes.change_of c.args.bound.now.change) t e (refusal_view c.in-Some.why) past)
+    (rows_past c.args.bound.now.target (changes.change_of c.args.bound.now.change) t e
+    (refusal_view c.in-Some.why) past)
 
 pub rewritten-requires : goal.rewritten-requires
 rewritten-requires c =
     let t = table_of c.args.table.now in
     let e = effect_of c.args.effect in
     within t e
-    ((λ i. refused_past limits.RowNumber (sym c.next_row.ensures.number i + sym c.counts_of-counts.ensures.inserted i)) ∙ sym c.refused_past.ensures
+    ((λ i. refused_past limits.RowNumber (sym c.next_row.ensures.number i + sym c.counts_of-counts.ensures.inserted i))
+    ∙ sym c.refused_past.ensures
     ∙ ap (option_map refusal_view) c.in_default.is)
 
 pub returns-in_default-2 : goal.returns-in_default-2
@@ -43,9 +47,11 @@ returns-in_default-2 c = λ s there.
     let t = table_of c.args.table.now in
     let e = effect_of c.args.effect in
     let none : refused_past limits.RowNumber (t.next_row + length e.added) ≡ None =
-    (λ i. refused_past limits.RowNumber (sym c.next_row.ensures.number i + sym c.counts_of-counts.ensures.inserted i)) ∙ sym c.refused_past.ensures
+    (λ i. refused_past limits.RowNumber (sym c.next_row.ensures.number i + sym c.counts_of-counts.ensures.inserted i))
+    ∙ sym c.refused_past.ensures
     ∙ ap (option_map refusal_view) c.in_default.is in
-    let over : nat_le (made_count e t) (bound limits.PartitionNumber) ≡ false = sym c.in_ok-rewritten.ensures.fits ∙ ap is_some c.in_default-2.is in
+    let over : nat_le (made_count e t) (bound limits.PartitionNumber) ≡ false =
+    sym c.in_ok-rewritten.ensures.fits ∙ ap is_some c.in_default-2.is in
     declines s c.args.stamp _ _ (OverLimit limits.PartitionNumber) refl
     (partitions_past c.args.bound.now.target (changes.change_of c.args.bound.now.change) t e none over)
 
@@ -56,11 +62,14 @@ returns-then-not-is_some_counted c = λ s there.
     let change = changes.change_of c.args.bound.now.change in
     let counts = c.counts_of-counts.ensures in
     let none : refused_past limits.RowNumber (t.next_row + length e.added) ≡ None =
-    (λ i. refused_past limits.RowNumber (sym c.next_row.ensures.number i + sym counts.inserted i)) ∙ sym c.refused_past.ensures
+    (λ i. refused_past limits.RowNumber (sym c.next_row.ensures.number i + sym counts.inserted i))
+    ∙ sym c.refused_past.ensures
     ∙ ap (option_map refusal_view) c.in_default.is in
-    let fits : nat_le (made_count e t) (bound limits.PartitionNumber) ≡ true = sym c.in_ok-rewritten.ensures.fits ∙ ap is_some c.in-Some-2.is in
+    let fits : nat_le (made_count e t) (bound limits.PartitionNumber) ≡ true =
+    sym c.in_ok-rewritten.ensures.fits ∙ ap is_some c.in-Some-2.is in
     replies s c.args.stamp _ _ (reply_to change e) (ap (λ r. Goes r None) (c.reply_to.ensures e counts))
-    (uncounted c.args.bound.now.target change t e none fits (sym (c.is_some_counted.ensures e counts) ∙ c.if-not-is_some_counted.true))
+    (uncounted c.args.bound.now.target change t e none fits
+    (sym (c.is_some_counted.ensures e counts) ∙ c.if-not-is_some_counted.true))
 
 pub returns : goal.returns
 returns c = λ s there.
@@ -70,13 +79,16 @@ returns c = λ s there.
     let change = changes.change_of c.args.bound.now.change in
     let counts = c.counts_of-counts.ensures in
     let none : refused_past limits.RowNumber (t.next_row + length e.added) ≡ None =
-    (λ i. refused_past limits.RowNumber (sym c.next_row.ensures.number i + sym counts.inserted i)) ∙ sym c.refused_past.ensures
+    (λ i. refused_past limits.RowNumber (sym c.next_row.ensures.number i + sym counts.inserted i))
+    ∙ sym c.refused_past.ensures
     ∙ ap (option_map refusal_view) c.in_default.is in
-    let fits : nat_le (made_count e t) (bound limits.PartitionNumber) ≡ true = sym c.in_ok-rewritten.ensures.fits ∙ ap is_some c.in-Some-2.is in
+    let fits : nat_le (made_count e t) (bound limits.PartitionNumber) ≡ true =
+    sym c.in_ok-rewritten.ensures.fits ∙ ap is_some c.in-Some-2.is in
     let written : Change = version_written c.args.stamp id (edits_of e) t in
     let made : IsRewritten c.in-Some-2.rewritten e t = rw c.in-Some-2.is at c.in_ok-rewritten.ensures.rewritten in
     let version : change_of c.version-change.result ≡ written =
-    c.version-change.ensures ∙ version_is c.args.stamp id e t _ _ _ _ (ap (λ (n : ℕ). t.next_row + n) counts.inserted) refl made.removed made.added in
+    c.version-change.ensures ∙ version_is c.args.stamp id e t _ _ _ _
+    (ap (λ (n : ℕ). t.next_row + n) counts.inserted) refl made.removed made.added in
     let items : map change_of c.in_ok-changes.changes.items ≡ written ∷ [] =
     ap (map change_of) c.in_ok-changes.ensures.items ∙ ap (λ (one : Change). one ∷ []) version in
     commits s c.args.stamp _ _ (reply_to change e) (EditsRows id (edits_of e) ∷ []) (written ∷ [])

@@ -19,4 +19,5 @@ returns-in-Command c =
 pub returns-in-Tick : goal.returns-in-Tick
 returns-in-Tick c =
     let s = stamped (state_of c.args.catalog.now) c.args.stamp in
-    replies (stored_of c.args.catalog.now) c.args.stamp _ _ Idle refl (ap (λ (e : Event). outcome_of s (event_of e)) c.in-Tick.is)
+    replies (stored_of c.args.catalog.now) c.args.stamp _ _ Idle refl
+    (ap (λ (e : Event). outcome_of s (event_of e)) c.in-Tick.is)

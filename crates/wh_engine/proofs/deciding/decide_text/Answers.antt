@@ -21,7 +21,9 @@ returns-in-Ok c =
     let s = stamped (state_of c.args.catalog.now) c.args.stamp in
     let within : length c.args.text.now ≤ 65536 = omega (arith, c.bound.ensures) in
     decides_as (stored_of c.args.catalog.now) c.args.stamp c.decide_tree-decision.result _ _
-    (ap (commanded s c.args.session) (sym (short_request c.args.text.now (Some c.in-Ok.statement) within c.in-Ok.ensures.reads))) c.decide_tree-decision.ensures
+    (ap (commanded s c.args.session)
+    (sym (short_request c.args.text.now (Some c.in-Ok.statement) within c.in-Ok.ensures.reads)))
+    c.decide_tree-decision.ensures
 
 pub returns-in-Err-SyntaxError : goal.returns-in-Err-SyntaxError
 returns-in-Err-SyntaxError c =
@@ -29,4 +31,5 @@ returns-in-Err-SyntaxError c =
     let within : length c.args.text.now ≤ 65536 = omega (arith, c.bound.ensures) in
     let none : read_statement c.args.text.now ≡ None = search rules in
     declines (stored_of c.args.catalog.now) c.args.stamp _ _ SyntaxError refl
-    (ap (commanded s c.args.session) (short_request c.args.text.now None within none) ∙ command_unreadable s c.args.session)
+    (ap (commanded s c.args.session) (short_request c.args.text.now None within none)
+    ∙ command_unreadable s c.args.session)

@@ -17,14 +17,18 @@ returns-then-not-is_session c =
 pub returns-in-Some : goal.returns-in-Some
 returns-in-Some c =
     let s = stamped (state_of c.args.catalog.now) c.args.stamp in
-    let form : Some (built_view c.in-Some.built) ≡ form_of c.args.statement.now = sym (ap (option_map built_view) c.in-Some.is) ∙ c.in_ok-built.ensures in
+    let form : Some (built_view c.in-Some.built) ≡ form_of c.args.statement.now =
+    sym (ap (option_map built_view) c.in-Some.is) ∙ c.in_ok-built.ensures in
     decides_as (stored_of c.args.catalog.now) c.args.stamp c.decide_built.result _ _
-    (ap (carried_out s) form ∙ sym (command_carried s c.args.session c.args.statement.now (sym c.is_session.ensures ∙ c.if-not-is_session.false)))
+    (ap (carried_out s) form ∙ sym
+    (command_carried s c.args.session c.args.statement.now (sym c.is_session.ensures ∙ c.if-not-is_session.false)))
     c.decide_built.ensures
 
 pub returns-in-None : goal.returns-in-None
 returns-in-None c =
     let s = stamped (state_of c.args.catalog.now) c.args.stamp in
-    let form : form_of c.args.statement.now ≡ None = sym c.in_ok-built.ensures ∙ ap (option_map built_view) c.in-None.is in
+    let form : form_of c.args.statement.now ≡ None =
+    sym c.in_ok-built.ensures ∙ ap (option_map built_view) c.in-None.is in
     declines (stored_of c.args.catalog.now) c.args.stamp _ _ Unsupported refl
-    (command_carried s c.args.session c.args.statement.now (sym c.is_session.ensures ∙ c.if-not-is_session.false) ∙ ap (carried_out s) form ∙ carried_none s)
+    (command_carried s c.args.session c.args.statement.now (sym c.is_session.ensures ∙ c.if-not-is_session.false)
+    ∙ ap (carried_out s) form ∙ carried_none s)

@@ -11,4 +11,5 @@ returns-else-is_long c =
     let t = c.args.table.now in
     let first : is_long t.name ≡ false = sym c.is_long.ensures ∙ c.if-is_long.false in
     let some = rw c.deref.ensures.value at c.some_is_long.ensures in
-    some ∙ any_names is_long t.columns.items ∙ ap (λ (b : Bool). b || list_any is_long (names_of (map column_of t.columns.items))) (sym first)
+    some ∙ any_names is_long t.columns.items
+    ∙ ap (λ (b : Bool). b || list_any is_long (names_of (map column_of t.columns.items))) (sym first)

@@ -10,8 +10,10 @@ returns-then-is_taken c =
     let cs = c.args.columns.now in
     let i = c.loop-place.place in
     let item = c.index-columns-place.result in
-    let rest : take (length cs - (i + 1)) (drop (i + 1) cs) ≡ drop (i + 1) cs = take_all _ _ (omega (arith, length-drop (i + 1) cs)) in
-    let test = ap (λ (x : Column). is_taken x.name (drop (i + 1) cs)) c.index-columns-place.is ∙ ap (is_taken (get_or cs i item).name) (sym rest)
+    let rest : take (length cs - (i + 1)) (drop (i + 1) cs) ≡ drop (i + 1) cs =
+    take_all _ _ (omega (arith, length-drop (i + 1) cs)) in
+    let test = ap (λ (x : Column). is_taken x.name (drop (i + 1) cs)) c.index-columns-place.is
+    ∙ ap (is_taken (get_or cs i item).name) (sym rest)
     ∙ sym c.is_taken.ensures ∙ c.if-is_taken.true in
     ap Some (c.in_ok-copy.ensures ∙ ap (λ (x : Column). x.name) (sym c.index-columns-place.is))
     ∙ sym (taken_here cs i item (omega arith) c.index-columns-place.is test) ∙ c.loop-place.invariant
@@ -21,7 +23,9 @@ loop-place-preserved c =
     let cs = c.args.columns.now in
     let i = c.loop-place.place in
     let item = c.index-columns-place.result in
-    let rest : take (length cs - (i + 1)) (drop (i + 1) cs) ≡ drop (i + 1) cs = take_all _ _ (omega (arith, length-drop (i + 1) cs)) in
-    let test = ap (λ (x : Column). is_taken x.name (drop (i + 1) cs)) c.index-columns-place.is ∙ ap (is_taken (get_or cs i item).name) (sym rest)
+    let rest : take (length cs - (i + 1)) (drop (i + 1) cs) ≡ drop (i + 1) cs =
+    take_all _ _ (omega (arith, length-drop (i + 1) cs)) in
+    let test = ap (λ (x : Column). is_taken x.name (drop (i + 1) cs)) c.index-columns-place.is
+    ∙ ap (is_taken (get_or cs i item).name) (sym rest)
     ∙ sym c.is_taken.ensures ∙ c.if-is_taken.false in
     sym (taken_later cs i item (omega arith) c.index-columns-place.is test) ∙ c.loop-place.invariant

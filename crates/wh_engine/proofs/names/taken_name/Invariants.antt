@@ -4,4 +4,5 @@ use Rattle.wh_machine.specs.Tables.{names_of, taken_name}
 use Rattle.wh_engine.proofs.names.taken_name.Given as goal
 
 abbrev pub invariant-loop-place : goal.invariant-loop-place
-invariant-loop-place l = taken_name (names_of (map column_of (drop l.place l.columns))) ≡ taken_name (names_of (map column_of l.columns))
+invariant-loop-place l =
+    taken_name (names_of (map column_of (drop l.place l.columns))) ≡ taken_name (names_of (map column_of l.columns))

@@ -7,7 +7,8 @@ use Rattle.wh_engine.proofs.objects.named_objects.Goals as goal
 
 pub loop-place-preserved : goal.loop-place-preserved
 loop-place-preserved c =
-    more_named c.objects-objects.result.now c.loop-place.place c.index-objects-place.result _ _ _ (omega arith) c.index-objects-place.is c.in_ok-add_live.ensures c.loop-place.invariant
+    more_named c.objects-objects.result.now c.loop-place.place c.index-objects-place.result _ _ _
+    (omega arith) c.index-objects-place.is c.in_ok-add_live.ensures c.loop-place.invariant
 
 pub returns : goal.returns
 returns c =

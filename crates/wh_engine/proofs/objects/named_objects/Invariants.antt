@@ -6,4 +6,5 @@ use Rattle.wh_engine.proofs.objects.named_objects.Given as goal
 
 abbrev pub invariant-loop-place : goal.invariant-loop-place
 invariant-loop-place l =
-    map named_of l.names.items ++ names_from (l.place + 1) (seen (drop l.place l.objects)) ≡ names_from 1 (seen l.objects)
+    map named_of l.names.items ++ names_from (l.place + 1) (seen (drop l.place l.objects))
+    ≡ names_from 1 (seen l.objects)

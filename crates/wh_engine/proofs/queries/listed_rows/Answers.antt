@@ -16,9 +16,12 @@ returns-in-Ok c =
     let b = c.args.bound.now in
     let objects = (state_of c.args.catalog.now).objects in
     let sources : evaluation.instance_of c.deref-2.result.now ≡ instance_of objects b.sources.items =
-    ap evaluation.instance_of c.deref-2.ensures.value ∙ c.in_ok-sources.ensures ∙ ap (instance_of objects) c.deref.ensures.value in
-    let found : eval (query_of b.query) (evaluation.instance_of c.deref-2.result.now) ≡ Some (bag_of (rows_in c.in-Ok.tuples.items)) = c.in-Ok.ensures in
-    ap Some (c.in_ok-listed-in-Ok.ensures ∙ ap (λ keys. listed (keys_of keys) (bag_of (rows_in c.in-Ok.tuples.items))) c.deref-in-Ok.ensures.value)
+    ap evaluation.instance_of c.deref-2.ensures.value ∙ c.in_ok-sources.ensures
+    ∙ ap (instance_of objects) c.deref.ensures.value in
+    let found : eval (query_of b.query) (evaluation.instance_of c.deref-2.result.now)
+    ≡ Some (bag_of (rows_in c.in-Ok.tuples.items)) = c.in-Ok.ensures in
+    ap Some (c.in_ok-listed-in-Ok.ensures
+    ∙ ap (λ keys. listed (keys_of keys) (bag_of (rows_in c.in-Ok.tuples.items))) c.deref-in-Ok.ensures.value)
     ∙ ap (option_map (listed (keys_of b.keys.items))) (sym found ∙ ap (eval (query_of b.query)) sources)
 
 pub returns-in-Err-NumberOutOfRange : goal.returns-in-Err-NumberOutOfRange
@@ -26,8 +29,10 @@ returns-in-Err-NumberOutOfRange c =
     let b = c.args.bound.now in
     let objects = (state_of c.args.catalog.now).objects in
     let sources : evaluation.instance_of c.deref-2.result.now ≡ instance_of objects b.sources.items =
-    ap evaluation.instance_of c.deref-2.ensures.value ∙ c.in_ok-sources.ensures ∙ ap (instance_of objects) c.deref.ensures.value in
+    ap evaluation.instance_of c.deref-2.ensures.value ∙ c.in_ok-sources.ensures
+    ∙ ap (instance_of objects) c.deref.ensures.value in
     let none : eval (query_of b.query) (evaluation.instance_of c.deref-2.result.now) ≡ None =
-    subst (λ (f : EvalFault). evaluation.Evaluates (Err f) (eval (query_of b.query) (evaluation.instance_of c.deref-2.result.now)))
+    subst (λ (f : EvalFault). evaluation.Evaluates (Err f)
+    (eval (query_of b.query) (evaluation.instance_of c.deref-2.result.now)))
     c.in-Err-NumberOutOfRange.field-0-is c.in-Err-NumberOutOfRange.ensures in
     ap (option_map (listed (keys_of b.keys.items))) (sym none ∙ ap (eval (query_of b.query)) sources)

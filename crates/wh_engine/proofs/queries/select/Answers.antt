@@ -17,8 +17,10 @@ use Rattle.wh_engine.proofs.queries.select.Goals as goal
 pub returns-in-Ok : goal.returns-in-Ok
 returns-in-Ok c =
     let names : List Named = map named_of c.deref.result.now in
-    let named : names ≡ names_from 1 (state_of c.args.catalog.now).objects = ap (map named_of) c.deref.ensures.value ∙ c.in_ok-names.ensures in
-    decides_bound c.select_bound-decision.result c.args.catalog.now c.args.stamp c.args.query.now c.args.sorts.now names c.in-Ok.bound named
+    let named : names ≡ names_from 1 (state_of c.args.catalog.now).objects =
+    ap (map named_of) c.deref.ensures.value ∙ c.in_ok-names.ensures in
+    decides_bound c.select_bound-decision.result c.args.catalog.now c.args.stamp c.args.query.now c.args.sorts.now
+    names c.in-Ok.bound named
     c.in-Ok.ensures c.select_bound-decision.ensures
 
 pub returns-in-Err-Failing : goal.returns-in-Err-Failing
@@ -31,5 +33,7 @@ returns-in-Err-Failing c =
     subst (λ (f : BindFault). Binds (Err f) meant) c.in-Err-Failing.field-0-is c.in-Err-Failing.ensures in
     let why : refusal_view c.refusal.result ≡ refusal_of (failing_of c.in-Err-Failing.failing) =
     c.refusal.ensures ∙ ap (λ f. refusal_of (failing_of f)) c.in-Err-Failing.failing-is in
-    declines (stored_of c.args.catalog.now) c.args.stamp (Refuse c.refusal.result) _ (refusal_of (failing_of c.in-Err-Failing.failing)) (ap Declines why)
-    (sym (select_is s c.args.stamp c.args.query.now c.args.sorts.now names named) ∙ is_failing s.objects meant (failing_of c.in-Err-Failing.failing) found)
+    declines (stored_of c.args.catalog.now) c.args.stamp (Refuse c.refusal.result) _
+    (refusal_of (failing_of c.in-Err-Failing.failing)) (ap Declines why)
+    (sym (select_is s c.args.stamp c.args.query.now c.args.sorts.now names named)
+    ∙ is_failing s.objects meant (failing_of c.in-Err-Failing.failing) found)

@@ -27,7 +27,8 @@ returns c = λ stamp meant is.
     let objects = (state_of c.args.catalog.now).objects in
     let rows = c.in-Some.rows.items in
     let names : c.in_ok-names.names.items ≡ meant.names = c.in_ok-names.ensures ∙ c.deref.ensures.value ∙ is.names in
-    replies (stored_of c.args.catalog.now) stamp (Do (shown.Listing c.in_ok-names.names c.in-Some.rows) None) _ (Listing meant.names rows)
+    replies (stored_of c.args.catalog.now) stamp (Do (shown.Listing c.in_ok-names.names c.in-Some.rows) None) _
+    (Listing meant.names rows)
     (ap (λ (n : List (List ℕ)). Goes (Listing n rows) None) names)
     (is_shown objects meant rows is.nothing_found (sym is.is_wide ∙ c.if-bound.false)
     (ap rows_found (sym c.in-Some.is) ∙ c.in_ok-rows.ensures ∙ rows_meant objects c.args.bound.now meant is))

@@ -10,8 +10,9 @@ use Rattle.wh_engine.proofs.replay.replay.Given as goal
 
 abbrev pub invariant-loop-at : goal.invariant-loop-at
 invariant-loop-at g l = record {
-  replayed : (payloads : List (List ℕ)) (file rest : List ℕ) → g.D.Disk.bytes l.initial.disk ≡ Some file → file ≡ records_of payloads ++ rest
-      → Lists payloads l.journal → Replays first_stored (take l.at payloads) (stored_of l.catalog);
+  replayed : (payloads : List (List ℕ)) (file rest : List ℕ) → g.D.Disk.bytes l.initial.disk ≡ Some file
+      → file ≡ records_of payloads ++ rest → Lists payloads l.journal
+      → Replays first_stored (take l.at payloads) (stored_of l.catalog);
   means : Means (stored_of l.catalog) (state_of l.catalog);
   bytes : g.D.Disk.bytes l.disk ≡ g.D.Disk.bytes l.initial.disk;
   size : g.D.Disk.size l.disk ≡ g.D.Disk.size l.initial.disk;

@@ -10,8 +10,11 @@ use Rattle.wh_engine.proofs.sources.source.Goals as goal
 pub returns-in-Some : goal.returns-in-Some
 returns-in-Some c =
     subst (λ (bag : Bag). IfOk c.rows.result (λ rows. bag_of (rows_at rows.items) ≡ bag))
-    (ap table_bag (sym (table_there c.args.catalog.now c.args.id (table_of c.in-Some.table.now) (sym c.in-Some.ensures)))) c.rows.ensures
+    (ap table_bag
+    (sym (table_there c.args.catalog.now c.args.id (table_of c.in-Some.table.now) (sym c.in-Some.ensures))))
+    c.rows.ensures
 
 pub returns-in-None : goal.returns-in-None
 returns-in-None c =
-    ap (λ rows. bag_of (rows_at rows)) c.new.ensures.items ∙ ap table_bag (sym (table_missing c.args.catalog.now c.args.id (sym c.in-None.ensures)))
+    ap (λ rows. bag_of (rows_at rows)) c.new.ensures.items
+    ∙ ap table_bag (sym (table_missing c.args.catalog.now c.args.id (sym c.in-None.ensures)))

@@ -1,4 +1,5 @@
-use Rattle.std.proofs.Common.{◌≡◌, ℕ, ◌+◌, [], ◌∷◌, ◌++◌, length, Some, None, option_map, is_some, refl, ap, sym, ◌∙◌, arith, rules}
+use Rattle.std.proofs.Common.{◌≡◌, ℕ, ◌+◌, [], ◌∷◌, ◌++◌, length, Some, None, option_map, is_some, refl}
+use Rattle.std.proofs.Common.{ap, sym, ◌∙◌, arith, rules}
 use Rattle.wh_reply.specs.Reply.{CreatedTable}
 use Rattle.wh_reply.specs.View.{refusal_view}
 use Rattle.wh_machine.specs.Outcome.{MakesTable}
@@ -30,15 +31,22 @@ overflow_add-id c =
     let t = c.args.table in
     let s = state_of c.args.catalog.now in
     let none : c.in_ok-why.field-0 ≡ None = search rules in
-    let passed : table_refusal s t.replace t.name (columns_of t) t.retention ≡ None = sym c.in_ok-why.ensures ∙ ap (option_map refusal_view) none in
-    omega (arith, (within_limits s t.replace t.name (columns_of t) t.retention passed).0, c.object_count.ensures.count, count_is c.args.catalog.now)
+    let passed : table_refusal s t.replace t.name (columns_of t) t.retention ≡ None =
+    sym c.in_ok-why.ensures ∙ ap (option_map refusal_view) none in
+    omega (
+      arith,
+      (within_limits s t.replace t.name (columns_of t) t.retention passed).0,
+      c.object_count.ensures.count,
+      count_is c.args.catalog.now,
+    )
 
 pub creation-requires : goal.creation-requires
 creation-requires c =
     let t = c.args.table in
     let s = state_of c.args.catalog.now in
     let none : c.in_ok-why.field-0 ≡ None = search rules in
-    let passed : table_refusal s t.replace t.name (columns_of t) t.retention ≡ None = sym c.in_ok-why.ensures ∙ ap (option_map refusal_view) none in
+    let passed : table_refusal s t.replace t.name (columns_of t) t.retention ≡ None =
+    sym c.in_ok-why.ensures ∙ ap (option_map refusal_view) none in
     (within_limits s t.replace t.name (columns_of t) t.retention passed).1
 
 pub returns : goal.returns
@@ -47,12 +55,16 @@ returns c =
     let stored = stored_of c.args.catalog.now in
     let s = state_of c.args.catalog.now in
     let none : c.in_ok-why.field-0 ≡ None = search rules in
-    let passed : table_refusal s t.replace t.name (columns_of t) t.retention ≡ None = sym c.in_ok-why.ensures ∙ ap (option_map refusal_view) none in
-    let made : ℕ → TableChange = λ id. record { id = id; name = t.name; retention = t.retention; columns = columns_of t } in
+    let passed : table_refusal s t.replace t.name (columns_of t) t.retention ≡ None =
+    sym c.in_ok-why.ensures ∙ ap (option_map refusal_view) none in
+    let made : ℕ → TableChange =
+    λ id. record { id = id; name = t.name; retention = t.retention; columns = columns_of t } in
     let replaced = replaced_id s t.replace t.name in
     let items : changes_of c.in_ok-changes.changes ≡ made_behind replaced (made (length stored.objects + 1)) =
-    c.in_ok-changes.ensures ∙ (λ i. made_behind (c.replaced_id-replaced.ensures i) (made (c.object_count.ensures.count i + 1))) in
-    commits stored c.args.stamp _ _ (CreatedTable t.name) (drops replaced ++ MakesTable t.name (columns_of t) t.retention ∷ [])
+    c.in_ok-changes.ensures
+    ∙ (λ i. made_behind (c.replaced_id-replaced.ensures i) (made (c.object_count.ensures.count i + 1))) in
+    commits stored c.args.stamp _ _ (CreatedTable t.name)
+    (drops replaced ++ MakesTable t.name (columns_of t) t.retention ∷ [])
     (made_behind replaced (made (length stored.objects + 1)))
     (λ i. Goes (CreatedTable (c.in_ok-copy.ensures i)) (Some (items i)))
     (is_created s c.args.stamp t.replace t.name (columns_of t) t.retention passed)

@@ -16,8 +16,10 @@ returns-in_default c =
     let catalog = c.args.catalog.now in
     let name = c.args.name.now in
     let none : id_of name (state_of catalog).objects ≡ None =
-    found_is catalog name ∙ ap (λ (n : List ℕ). id_of n (stored_of catalog).objects) (sym c.as_bytes.ensures.value) ∙ sym c.find.ensures ∙ c.in_default.is in
-    declines (stored_of catalog) c.args.stamp _ _ (UnknownName name) (ap (λ n. Declines (UnknownName n)) c.in_ok-copy.ensures)
+    found_is catalog name ∙ ap (λ (n : List ℕ). id_of n (stored_of catalog).objects) (sym c.as_bytes.ensures.value)
+    ∙ sym c.find.ensures ∙ c.in_default.is in
+    declines (stored_of catalog) c.args.stamp _ _ (UnknownName name)
+    (ap (λ n. Declines (UnknownName n)) c.in_ok-copy.ensures)
     (none_dropped (state_of catalog) c.args.stamp name none)
 
 pub returns : goal.returns
@@ -26,8 +28,10 @@ returns c =
     let name = c.args.name.now in
     let id = c.in-Some.id in
     let some : id_of name (state_of catalog).objects ≡ Some id =
-    found_is catalog name ∙ ap (λ (n : List ℕ). id_of n (stored_of catalog).objects) (sym c.as_bytes.ensures.value) ∙ sym c.find.ensures ∙ c.in-Some.is in
-    let items : map change_of c.in_ok-vec.field-0.items ≡ Drops id ∷ [] = ap (map change_of) c.in_ok-vec.ensures.items in
+    found_is catalog name ∙ ap (λ (n : List ℕ). id_of n (stored_of catalog).objects) (sym c.as_bytes.ensures.value)
+    ∙ sym c.find.ensures ∙ c.in-Some.is in
+    let items : map change_of c.in_ok-vec.field-0.items ≡ Drops id ∷ [] =
+    ap (map change_of) c.in_ok-vec.ensures.items in
     commits (stored_of catalog) c.args.stamp _ _ (DroppedTable name) (DropsObject id ∷ []) (Drops id ∷ [])
     (λ i. Goes (DroppedTable (c.in_ok-copy-2.ensures i)) (Some (items i)))
     (is_dropped (state_of catalog) c.args.stamp name id some) refl

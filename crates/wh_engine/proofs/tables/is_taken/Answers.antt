@@ -9,5 +9,6 @@ pub returns : goal.returns
 returns c =
     let catalog = c.args.catalog.now in
     let t = c.args.table.now in
-    c.is_some.ensures ∙ ap is_some (c.find.ensures ∙ ap (λ (n : List ℕ). id_of n (stored_of catalog).objects) c.as_bytes.ensures.value ∙ sym (found_is catalog t.name))
+    c.is_some.ensures ∙ ap is_some (c.find.ensures ∙ ap (λ (n : List ℕ). id_of n (stored_of catalog).objects)
+    c.as_bytes.ensures.value ∙ sym (found_is catalog t.name))
     ∙ ap (λ (b : Bool). is_name_taken (state_of catalog) b t.name) (sym c.if-table.false)

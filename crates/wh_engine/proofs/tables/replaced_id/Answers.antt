@@ -9,5 +9,6 @@ pub returns-then-table : goal.returns-then-table
 returns-then-table c =
     let catalog = c.args.catalog.now in
     let t = c.args.table.now in
-    c.find.ensures ∙ ap (λ (n : List ℕ). id_of n (stored_of catalog).objects) c.as_bytes.ensures.value ∙ sym (found_is catalog t.name)
+    c.find.ensures ∙ ap (λ (n : List ℕ). id_of n (stored_of catalog).objects) c.as_bytes.ensures.value
+    ∙ sym (found_is catalog t.name)
     ∙ ap (λ (b : Bool). replaced_id (state_of catalog) b t.name) (sym c.if-table.true)

@@ -11,7 +11,8 @@ loop-row-init c = record {
 }
 
 pub loop-row-preserved : goal.loop-row-preserved
-loop-row-preserved c = so_far_more c.loop-row.invariant c.in-Some.ensures.steps.0 c.in-Some.ensures.steps.1 c.in_ok-keep.ensures
+loop-row-preserved c =
+    so_far_more c.loop-row.invariant c.in-Some.ensures.steps.0 c.in-Some.ensures.steps.1 c.in_ok-keep.ensures
 
 pub returns-in_err-keep : goal.returns-in_err-keep
 returns-in_err-keep c =

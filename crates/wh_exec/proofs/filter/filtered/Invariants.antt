@@ -6,4 +6,5 @@ use Rattle.wh_exec.proofs.filter.filtered.Given as goal
 
 abbrev pub invariant-loop-row : goal.invariant-loop-row
 invariant-loop-row l =
-    AddedSoFar (kept_by (scalar_of l.condition)) l.fn.rows.items l.yielded (into_iter_items l.row-iterator) (into_iter_len l.row-iterator) l.kept.items
+    AddedSoFar (kept_by (scalar_of l.condition)) l.fn.rows.items l.yielded (into_iter_items l.row-iterator)
+    (into_iter_len l.row-iterator) l.kept.items

@@ -4,4 +4,5 @@ use Rattle.wh_exec.specs.Columns.{are_columns}
 use Rattle.wh_exec.proofs.project.are_columns.Given as goal
 
 abbrev pub invariant-loop-place : goal.invariant-loop-place
-invariant-loop-place l = are_columns 0 (map scalar_of l.items) ≡ are_columns l.place (map scalar_of (drop l.place l.items))
+invariant-loop-place l =
+    are_columns 0 (map scalar_of l.items) ≡ are_columns l.place (map scalar_of (drop l.place l.items))

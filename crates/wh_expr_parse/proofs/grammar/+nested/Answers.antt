@@ -5,7 +5,8 @@ use Rattle.wh_expr_parse.proofs.grammar.+nested.Goals as goal
 
 pub returns-then-depth-eq0 : goal.returns-then-depth-eq0
 unfolding nested
-returns-then-depth-eq0 t c = let none : c.args.depth ≡ 0 = omega arith in ap (λ n. nested n c.args.level c.args.tokens.now) none
+returns-then-depth-eq0 t c = let none : c.args.depth ≡ 0 = omega arith in
+    ap (λ n. nested n c.args.level c.args.tokens.now) none
 
 pub returns : goal.returns
 unfolding nested

@@ -14,16 +14,19 @@ overflow_mul-number c =
 pub overflow_add-number : goal.overflow_add-number
 overflow_add-number c =
     let few = limit_few c.loop-byte.byte-index (omega (arith, c.loop-byte-test.true, c.requires.few)) in
-    let digit = digit_bounds (get_or c.args.digits.now c.loop-byte.byte-index 0) (digit_at c.args.digits.now c.loop-byte.byte-index c.loop-byte-test.true c.requires.digits) in
+    let digit = digit_bounds (get_or c.args.digits.now c.loop-byte.byte-index 0)
+    (digit_at c.args.digits.now c.loop-byte.byte-index c.loop-byte-test.true c.requires.digits) in
     omega (arith, few, c.loop-byte.invariant.small, c.from.ensures, digit.0, digit.1)
 
 pub loop-byte-preserved : goal.loop-byte-preserved
 loop-byte-preserved c =
-    let digit = digit_bounds (get_or c.args.digits.now c.loop-byte.byte-index 0) (digit_at c.args.digits.now c.loop-byte.byte-index c.loop-byte-test.true c.requires.digits) in
+    let digit = digit_bounds (get_or c.args.digits.now c.loop-byte.byte-index 0)
+    (digit_at c.args.digits.now c.loop-byte.byte-index c.loop-byte-test.true c.requires.digits) in
     let next = limit_next c.loop-byte.byte-index in
     record {
       small = omega (arith, next, c.loop-byte.invariant.small, c.from.ensures, digit.0, digit.1);
-      same = number_more c.args.digits.now c.loop-byte.number (c.loop-byte.number * 10 + c.from.result) c.loop-byte.byte-index c.loop-byte-test.true (omega (arith, c.from.ensures))
+      same = number_more c.args.digits.now c.loop-byte.number (c.loop-byte.number * 10 + c.from.result)
+          c.loop-byte.byte-index c.loop-byte-test.true (omega (arith, c.from.ensures))
           ∙ c.loop-byte.invariant.same;
     }
 

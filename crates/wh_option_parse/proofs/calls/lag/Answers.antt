@@ -7,9 +7,11 @@ use Rattle.wh_option_parse.proofs.calls.lag.Goals as goal
 pub returns-clause-found : goal.returns-clause-found
 returns-clause-found c =
     let ts = c.args.words.now in
-    found (IsLag ts) (read_lag ts) (λ x us. (lags_read ts x us).0) c.read_lag.result c.read_lag.new.words c.read_lag.ensures.reads
+    found (IsLag ts) (read_lag ts) (λ x us. (lags_read ts x us).0) c.read_lag.result c.read_lag.new.words
+    c.read_lag.ensures.reads
 
 pub returns-clause-none : goal.returns-clause-none
 returns-clause-none c =
     let ts = c.args.words.now in
-    none (IsLag ts) (read_lag ts) (λ x us. (lags_read ts x us).1) c.read_lag.result c.read_lag.new.words c.read_lag.ensures.reads
+    none (IsLag ts) (read_lag ts) (λ x us. (lags_read ts x us).1) c.read_lag.result c.read_lag.new.words
+    c.read_lag.ensures.reads

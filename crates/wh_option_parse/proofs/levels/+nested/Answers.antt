@@ -5,7 +5,8 @@ use Rattle.wh_option_parse.proofs.levels.+nested.Goals as goal
 
 pub returns-then-depth-eq0 : goal.returns-then-depth-eq0
 unfolding nested
-returns-then-depth-eq0 t c = let none : c.args.depth ≡ 0 = omega arith in ap (λ n. nested n c.args.level c.args.words.now) none
+returns-then-depth-eq0 t c = let none : c.args.depth ≡ 0 = omega arith in
+    ap (λ n. nested n c.args.level c.args.words.now) none
 
 pub returns : goal.returns
 unfolding nested

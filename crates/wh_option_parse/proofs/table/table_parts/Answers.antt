@@ -7,23 +7,27 @@ use Rattle.wh_option_parse.proofs.table.table_parts.Goals as goal
 pub returns-in_err-more : goal.returns-in_err-more
 unfolding options_from
 returns-in_err-more c =
-    let e = one_more (λ n. options_from table_option n c.loop-turn.parts c.loop-turn.words) 5 c.loop-turn._turn c.loop-turn-test.true c.loop-turn.invariant in
+    let e = one_more (λ n. options_from table_option n c.loop-turn.parts c.loop-turn.words) 5 c.loop-turn._turn
+    c.loop-turn-test.true c.loop-turn.invariant in
     first_of (search rules, grind (arith, common_steps))
 
 pub returns-in_default : goal.returns-in_default
 unfolding options_from
 returns-in_default c =
-    let e = one_more (λ n. options_from table_option n c.loop-turn.parts c.loop-turn.words) 5 c.loop-turn._turn c.loop-turn-test.true c.loop-turn.invariant in
+    let e = one_more (λ n. options_from table_option n c.loop-turn.parts c.loop-turn.words) 5 c.loop-turn._turn
+    c.loop-turn-test.true c.loop-turn.invariant in
     first_of (search rules, grind (arith, common_steps))
 
 pub loop-turn-preserved : goal.loop-turn-preserved
 unfolding options_from
 loop-turn-preserved c =
-    let e = one_more (λ n. options_from table_option n c.loop-turn.parts c.loop-turn.words) 5 c.loop-turn._turn c.loop-turn-test.true c.loop-turn.invariant in
+    let e = one_more (λ n. options_from table_option n c.loop-turn.parts c.loop-turn.words) 5 c.loop-turn._turn
+    c.loop-turn-test.true c.loop-turn.invariant in
     first_of (search rules, grind (arith, common_steps))
 
 pub returns : goal.returns
 unfolding options_from
 returns c =
-    let e = no_more (λ n. options_from table_option n c.loop-turn.parts c.loop-turn.words) 5 c.loop-turn._turn c.loop-turn-test.false c.loop-turn.invariant in
+    let e = no_more (λ n. options_from table_option n c.loop-turn.parts c.loop-turn.words) 5 c.loop-turn._turn
+    c.loop-turn-test.false c.loop-turn.invariant in
     first_of (search rules, grind (arith, common_steps))

@@ -1,4 +1,5 @@
-use Rattle.std.proofs.Common.{◌≡◌, ℕ, ◌+◌, List, ◌∷◌, [], ◌++◌, Option, length, map, min, take, drop, sym, ap, subst, ◌∙◌, arith}
+use Rattle.std.proofs.Common.{◌≡◌, ℕ, ◌+◌, List, ◌∷◌, [], ◌++◌, Option, length, map, min, take, drop}
+use Rattle.std.proofs.Common.{sym, ap, subst, ◌∙◌, arith}
 use Rattle.std.specs.Option.{option_to_list}
 use Rattle.std.proofs.lemmas.List.{map-append, length-take, length-map}
 use Rattle.wh_value.specs.Value.{Row}
@@ -16,11 +17,13 @@ loop-done-preserved c =
     let done = c.loop-done.done in
     let row = c.unwrap-row.result in
     let popped : drop done all ≡ row ∷ c.pop_front.new.self.items =
-    sym c.loop-done.invariant.left ∙ c.pop_front.ensures.items ∙ ap (λ (o : Option Row). option_to_list o ++ c.pop_front.new.self.items) c.unwrap-row.ensures in
+    sym c.loop-done.invariant.left ∙ c.pop_front.ensures.items
+    ∙ ap (λ (o : Option Row). option_to_list o ++ c.pop_front.new.self.items) c.unwrap-row.ensures in
     let pop = numbered_pop first done all c.pop_front.new.self.items row popped in
     let entry : NumberedRow = record { number = first + done; row = row } in
     record {
-      numbered = ap (map numbered_of) c.in_ok-push.ensures.items ∙ map-append numbered_of c.loop-done.rows.items (entry ∷ [])
+      numbered = ap (map numbered_of) c.in_ok-push.ensures.items
+          ∙ map-append numbered_of c.loop-done.rows.items (entry ∷ [])
           ∙ ap (λ (l : List (ℕ × Row)). l ++ (first + done, row) ∷ []) c.loop-done.invariant.numbered ∙ sym pop.0;
       left = pop.1;
     }
@@ -47,4 +50,5 @@ returns-clause-few c =
 
 pub returns-clause-rising : goal.returns-clause-rising
 returns-clause-rising c =
-    subst (RisesFrom 0) (sym c.loop-done.invariant.numbered) (numbered_rises c.args.first (take c.loop-done.done c.args.rest.now.items))
+    subst (RisesFrom 0) (sym c.loop-done.invariant.numbered)
+    (numbered_rises c.args.first (take c.loop-done.done c.args.rest.now.items))

@@ -12,7 +12,9 @@ loop-place-preserved c =
     let pushed = c.in_ok-push.ensures.items in
     record {
       width = ap length pushed ∙ length-append columns (b ∷ []) ∙ omega arith;
-      columns = λ k d within. subst (λ (all : List Bounds). IsBoundsOf (get_or all k d) (column k (map numbered_of c.args.rows.now))) (sym pushed)
-          (one_column_more (λ (i : ℕ) (x : Bounds). IsBoundsOf x (column i (map numbered_of c.args.rows.now))) columns b c.loop-place.place
+      columns = λ k d within. subst
+          (λ (all : List Bounds). IsBoundsOf (get_or all k d) (column k (map numbered_of c.args.rows.now))) (sym pushed)
+          (one_column_more (λ (i : ℕ) (x : Bounds). IsBoundsOf x (column i (map numbered_of c.args.rows.now)))
+          columns b c.loop-place.place
           c.loop-place.invariant.width c.loop-place.invariant.columns c.in_ok-bounds_at.ensures k d within);
     }

@@ -7,5 +7,6 @@ use Rattle.wh_part.proofs.meta.bounds_of.Given as goal
 abbrev pub invariant-loop-place : goal.invariant-loop-place
 invariant-loop-place l = record {
   width : length l.columns.items ≡ l.place;
-  columns : (k : ℕ) (d : Bounds) → k < l.place → IsBoundsOf (get_or l.columns.items k d) (column k (map numbered_of l.rows));
+  columns : (k : ℕ) (d : Bounds) → k < l.place
+      → IsBoundsOf (get_or l.columns.items k d) (column k (map numbered_of l.rows));
 }

@@ -14,7 +14,8 @@ pub loop-row-preserved : goal.loop-row-preserved
 loop-row-preserved c =
     let values = column c.args.place (map numbered_of c.args.rows.now) in
     let within : c.loop-row.row < length values = omega (arith, length_column c.args.place c.args.rows.now) in
-    let next = best_on value_ranks_back values c.loop-row.row c.loop-row.greatest (value_of c.value_at-in-loop-row.result.now) (value_of c.value_at.result.now)
+    let next = best_on value_ranks_back values c.loop-row.row c.loop-row.greatest
+    (value_of c.value_at-in-loop-row.result.now) (value_of c.value_at.result.now)
     c.loop-row.invariant within c.value_at-in-loop-row.ensures c.value_at.ensures in
     elim c.if-precedes.branch [
       | then-precedes w ↦ rw w.greatest-is (next.0 (sym c.precedes.ensures ∙ w.if-precedes.true))

@@ -14,7 +14,8 @@ pub loop-row-preserved : goal.loop-row-preserved
 loop-row-preserved c =
     let values = column c.args.place (map numbered_of c.args.rows.now) in
     let within : c.loop-row.row < length values = omega (arith, length_column c.args.place c.args.rows.now) in
-    let next = best_on value_ranks values c.loop-row.row c.loop-row.least (value_of c.value_at.result.now) (value_of c.value_at-in-loop-row.result.now)
+    let next = best_on value_ranks values c.loop-row.row c.loop-row.least (value_of c.value_at.result.now)
+    (value_of c.value_at-in-loop-row.result.now)
     c.loop-row.invariant within c.value_at.ensures c.value_at-in-loop-row.ensures in
     elim c.if-precedes.branch [
       | then-precedes w ↦ rw w.least-is (next.0 (sym c.precedes.ensures ∙ w.if-precedes.true))

@@ -7,4 +7,5 @@ use Rattle.wh_part.specs.View.{numbered_of}
 use Rattle.wh_part.proofs.meta.least_at.Given as goal
 
 abbrev pub invariant-loop-row : goal.invariant-loop-row
-invariant-loop-row l = IsFirstBest (λ x y. is_lt (value_cmp x y)) (column l.place (map numbered_of l.rows)) l.row l.least
+invariant-loop-row l =
+    IsFirstBest (λ x y. is_lt (value_cmp x y)) (column l.place (map numbered_of l.rows)) l.row l.least

@@ -8,4 +8,5 @@ pub returns-then-sees_word : goal.returns-then-sees_word
 returns-then-sees_word c = as_alias c.args.words.now (sym c.sees_word.ensures ∙ c.if-sees_word.true)
 
 pub returns : goal.returns
-returns c = ap not (c.is_named.ensures ∙ ap names_key c.key.ensures) ∙ named_alias c.args.words.now (sym c.sees_word.ensures ∙ c.if-sees_word.false)
+returns c = ap not (c.is_named.ensures ∙ ap names_key c.key.ensures)
+    ∙ named_alias c.args.words.now (sym c.sees_word.ensures ∙ c.if-sees_word.false)

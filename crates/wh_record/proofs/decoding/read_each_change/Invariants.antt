@@ -7,4 +7,5 @@ use Rattle.wh_record.proofs.decoding.read_each_change.Given as goal
 
 -- the changes so far, and those that are still read, are those of all the bytes
 abbrev pub invariant-loop : goal.invariant-loop
-invariant-loop l = with_front (map change_of l.changes.items) (items_at change_at (l.count - l.counter) l.rest) ≡ items_at change_at l.count l.bytes
+invariant-loop l = with_front (map change_of l.changes.items) (items_at change_at (l.count - l.counter) l.rest)
+    ≡ items_at change_at l.count l.bytes

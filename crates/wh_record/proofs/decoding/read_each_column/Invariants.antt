@@ -7,4 +7,5 @@ use Rattle.wh_record.proofs.decoding.read_each_column.Given as goal
 
 -- the columns so far, and those that are still read, are those of all the bytes
 abbrev pub invariant-loop : goal.invariant-loop
-invariant-loop l = with_front (map column_of l.columns.items) (items_at column_at (l.count - l.counter) l.rest) ≡ items_at column_at l.count l.bytes
+invariant-loop l = with_front (map column_of l.columns.items) (items_at column_at (l.count - l.counter) l.rest)
+    ≡ items_at column_at l.count l.bytes

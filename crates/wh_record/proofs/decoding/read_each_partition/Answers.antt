@@ -7,11 +7,17 @@ use Rattle.wh_record.proofs.decoding.read_each_partition.Goals as goal
 pub returns-in_err-partition : goal.returns-in_err-partition
 returns-in_err-partition c =
     let p = err_from_is_err_and c.from_residual.result c.from_residual.ensures.1 in
-    rw (p.1, p.2) (ends (partition_at c.args.width) c.in_err-partition.field-0.0 c.loop.partitions.items c.args.count c.loop.counter c.loop.rest.now (items_at (partition_at c.args.width) c.args.count c.args.bytes.now) c.loop-test.true c.in_err-partition.ensures c.loop.invariant)
+    rw (p.1, p.2) (ends (partition_at c.args.width) c.in_err-partition.field-0.0 c.loop.partitions.items c.args.count
+    c.loop.counter c.loop.rest.now (items_at (partition_at c.args.width) c.args.count c.args.bytes.now)
+    c.loop-test.true c.in_err-partition.ensures c.loop.invariant)
 
 pub loop-preserved : goal.loop-preserved
 loop-preserved c =
-    rw (c.in_ok-push.ensures.items) (goes_on (partition_at c.args.width) c.loop.partitions.items c.args.count c.loop.counter c.loop.rest.now c.in_ok-partition.partition c.in_ok-partition.after.now (items_at (partition_at c.args.width) c.args.count c.args.bytes.now) c.loop-test.true c.in_ok-partition.ensures c.loop.invariant)
+    rw (c.in_ok-push.ensures.items) (goes_on (partition_at c.args.width) c.loop.partitions.items
+    c.args.count c.loop.counter c.loop.rest.now c.in_ok-partition.partition c.in_ok-partition.after.now
+    (items_at (partition_at c.args.width) c.args.count c.args.bytes.now) c.loop-test.true
+    c.in_ok-partition.ensures c.loop.invariant)
 
 pub returns : goal.returns
-returns c = is_done (partition_at c.args.width) c.loop.partitions.items c.args.count c.loop.counter c.loop.rest.now (items_at (partition_at c.args.width) c.args.count c.args.bytes.now) c.loop-test.false c.loop.invariant
+returns c = is_done (partition_at c.args.width) c.loop.partitions.items c.args.count c.loop.counter c.loop.rest.now
+    (items_at (partition_at c.args.width) c.args.count c.args.bytes.now) c.loop-test.false c.loop.invariant

@@ -6,4 +6,5 @@ use Rattle.wh_record.proofs.decoding.read_each_partition.Given as goal
 
 -- the partitions so far, and those that are still read, are those of all the bytes
 abbrev pub invariant-loop : goal.invariant-loop
-invariant-loop l = with_front l.partitions.items (items_at (partition_at l.width) (l.count - l.counter) l.rest) ≡ items_at (partition_at l.width) l.count l.bytes
+invariant-loop l = with_front l.partitions.items (items_at (partition_at l.width) (l.count - l.counter) l.rest)
+    ≡ items_at (partition_at l.width) l.count l.bytes

@@ -5,7 +5,8 @@ use Rattle.wh_record.specs.View.{commit_of}
 use Rattle.wh_record.proofs.encoding.write_commit.Goals as goal
 
 pub returns-clause-written : goal.returns-clause-written
-returns-clause-written c = commit_written (commit_of c.args.commit.now) c.args.out.now c.write_u64.new.out c.write_changes.new.out
+returns-clause-written c =
+    commit_written (commit_of c.args.commit.now) c.args.out.now c.write_u64.new.out c.write_changes.new.out
     c.in_ok-write_u64.ensures.ok (rw (← c.deref.ensures.value) c.in_ok-write_changes.ensures.written)
 
 pub returns-clause-spelled : goal.returns-clause-spelled

@@ -16,15 +16,21 @@ returns-clause-at_exit g c = λ file input before written start es is only held_
 
 pub returns-then-not-is_run-clause-any_moment : goal.returns-then-not-is_run-clause-any_moment
 returns-then-not-is_run-clause-any_moment g c = λ file input before written start es is only held_is.
-    (unopened_survives g.D.Disk.moment g.D.Disk.left_since g.D.Disk.may_leave g.met.D.Disk.counts_now c.args.disk c.args.disk
-    (g.D.Disk.bytes c.args.disk) (g.S.Source.left c.args.script.now) (g.K.Sink.held c.args.out.now) (g.K.Sink.held c.args.out.now)
-    file input before written start es is (not_opened g.D.Disk.moment g.D.Disk.left_since g.D.Disk.may_leave g.met.D.Disk.only_now c.args.disk file only) refl held_is).any_moment
+    (unopened_survives g.D.Disk.moment g.D.Disk.left_since g.D.Disk.may_leave g.met.D.Disk.counts_now
+    c.args.disk c.args.disk
+    (g.D.Disk.bytes c.args.disk) (g.S.Source.left c.args.script.now) (g.K.Sink.held c.args.out.now)
+    (g.K.Sink.held c.args.out.now)
+    file input before written start es is (not_opened g.D.Disk.moment g.D.Disk.left_since g.D.Disk.may_leave
+    g.met.D.Disk.only_now c.args.disk file only) refl held_is).any_moment
 
 pub returns-then-not-is_run-clause-at_exit : goal.returns-then-not-is_run-clause-at_exit
 returns-then-not-is_run-clause-at_exit g c = λ file input before written start es is only held_is.
-    (unopened_survives g.D.Disk.moment g.D.Disk.left_since g.D.Disk.may_leave g.met.D.Disk.counts_now c.args.disk c.args.disk
-    (g.D.Disk.bytes c.args.disk) (g.S.Source.left c.args.script.now) (g.K.Sink.held c.args.out.now) (g.K.Sink.held c.args.out.now)
-    file input before written start es is (not_opened g.D.Disk.moment g.D.Disk.left_since g.D.Disk.may_leave g.met.D.Disk.only_now c.args.disk file only) refl held_is).at_exit
+    (unopened_survives g.D.Disk.moment g.D.Disk.left_since g.D.Disk.may_leave g.met.D.Disk.counts_now
+    c.args.disk c.args.disk
+    (g.D.Disk.bytes c.args.disk) (g.S.Source.left c.args.script.now) (g.K.Sink.held c.args.out.now)
+    (g.K.Sink.held c.args.out.now)
+    file input before written start es is (not_opened g.D.Disk.moment g.D.Disk.left_since g.D.Disk.may_leave
+    g.met.D.Disk.only_now c.args.disk file only) refl held_is).at_exit
 
 pub returns-then-not-is_run-clause-file_full : goal.returns-then-not-is_run-clause-file_full
 returns-then-not-is_run-clause-file_full g c = λ file input s start es told told_left keeps means script.

@@ -24,10 +24,12 @@ returns-in_err-reply-clause-halts g c =
     let new = c.carry_out.new.self in
     let s = state_of old.catalog in
     let event = event_of c.args.event.now in
-    let halts : Halts (IsTold old) (g.D.Disk.may_leave new.disk) s event (g.K.Sink.held c.args.out.now) (g.K.Sink.held c.args.out.now) =
+    let halts : Halts (IsTold old) (g.D.Disk.may_leave new.disk) s event (g.K.Sink.held c.args.out.now)
+    (g.K.Sink.held c.args.out.now) =
     halts_before (IsTold old) (g.D.Disk.may_leave new.disk) s event (g.K.Sink.held c.args.out.now)
     (λ told. leaves_now g.D.Disk.moment g.D.Disk.left_since g.D.Disk.may_leave g.met.D.Disk.counts_now old.disk new.disk
-    (StandsForEither s (step s event).0) (leaves_open old new (step s event).0 c.requires told c.carry_out.ensures.any_moment)) in
+    (StandsForEither s (step s event).0)
+    (leaves_open old new (step s event).0 c.requires told c.carry_out.ensures.any_moment)) in
     search rules
 
 pub returns-in_err-reply-clause-causes : goal.returns-in_err-reply-clause-causes
@@ -36,7 +38,8 @@ returns-in_err-reply-clause-causes g c =
     let new = c.carry_out.new.self in
     let event = event_of c.args.event.now in
     let written = Rose (g.K.Sink.faults c.args.out.now) (g.K.Sink.faults c.args.out.now) in
-    passed_on (HasCause (Rose (g.D.Disk.faults old.disk) (g.D.Disk.faults new.disk)) ⊥ written never (LacksRoom (limit_of old.journal) event (reach_of old)) never)
+    passed_on (HasCause (Rose (g.D.Disk.faults old.disk) (g.D.Disk.faults new.disk)) ⊥ written never
+    (LacksRoom (limit_of old.journal) event (reach_of old)) never)
     c.from_residual.result (fault_of_halt c.in_err-reply.field-0.0) c.from_residual.ensures.1
     (halt_cause old new event written c.in_err-reply.field-0.0 c.requires.healthy c.in_err-reply.ensures.halted)
 
@@ -47,10 +50,12 @@ returns-in_err-print_reply-clause-halts g c =
     let new = c.carry_out.new.self in
     let s = state_of old.catalog in
     let event = event_of c.args.event.now in
-    let halts : Halts (IsTold old) (g.D.Disk.may_leave new.disk) s event (g.K.Sink.held c.args.out.now) (g.K.Sink.held c.args.out.now) =
+    let halts : Halts (IsTold old) (g.D.Disk.may_leave new.disk) s event (g.K.Sink.held c.args.out.now)
+    (g.K.Sink.held c.args.out.now) =
     halts_before (IsTold old) (g.D.Disk.may_leave new.disk) s event (g.K.Sink.held c.args.out.now)
     (λ told. leaves_now g.D.Disk.moment g.D.Disk.left_since g.D.Disk.may_leave g.met.D.Disk.counts_now old.disk new.disk
-    (StandsForEither s (step s event).0) (leaves_open old new (step s event).0 c.requires told c.carry_out.ensures.any_moment)) in
+    (StandsForEither s (step s event).0)
+    (leaves_open old new (step s event).0 c.requires told c.carry_out.ensures.any_moment)) in
     search rules
 
 -- the reply was printed, and a front of it written
@@ -60,14 +65,16 @@ returns-in_err-write_all-clause-halts g c =
     let new = c.carry_out.new.self in
     let s = state_of old.catalog in
     let event = event_of c.args.event.now in
-    let writes : WritesFront (print (step s event).1) (g.K.Sink.held c.args.out.now) (g.K.Sink.held c.write_all.new.out) = search rules in
+    let writes : WritesFront (print (step s event).1) (g.K.Sink.held c.args.out.now)
+    (g.K.Sink.held c.write_all.new.out) = search rules in
     let stays = c.in_ok-reply.ensures.answered.carried in
     let ready : IsOpen new = record {
       filed = stays.filed c.requires.filed;
       settled = stays.durable c.requires.settled;
       healthy = stays.still_healthy;
     } in
-    let halts : Halts (IsTold old) (g.D.Disk.may_leave new.disk) s event (g.K.Sink.held c.args.out.now) (g.K.Sink.held c.write_all.new.out) =
+    let halts : Halts (IsTold old) (g.D.Disk.may_leave new.disk) s event (g.K.Sink.held c.args.out.now)
+    (g.K.Sink.held c.write_all.new.out) =
     halts_behind (IsTold old) (g.D.Disk.may_leave new.disk) s (state_of new.catalog) event
     (g.K.Sink.held c.args.out.now) (g.K.Sink.held c.write_all.new.out) stays.stepped
     (λ told. open_stands g.met.D.Disk.only_now g.met.D.Disk.counts_now new ready (stays.told ∙ told)) writes in

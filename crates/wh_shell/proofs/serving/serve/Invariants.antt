@@ -12,7 +12,8 @@ use Rattle.wh_shell.proofs.serving.serve.Given as goal
 
 abbrev pub invariant-turns : goal.invariant-turns
 invariant-turns g l = record {
-  goes : Goes g.D.Disk.moment g.D.Disk.left_since (IsTrue (is_some (g.D.Disk.bytes l.fn.warehouse.disk))) l.fn.warehouse.disk l.warehouse.disk
+  goes : Goes g.D.Disk.moment g.D.Disk.left_since (IsTrue (is_some (g.D.Disk.bytes l.fn.warehouse.disk)))
+      l.fn.warehouse.disk l.warehouse.disk
       (state_of l.fn.warehouse.catalog) (state_of l.warehouse.catalog) (option_map events (g.S.Source.left l.fn.script))
       (unread l.reader (g.S.Source.left l.script)) (g.K.Sink.held l.fn.out) (g.K.Sink.held l.out) l.refused;
   few : l.refused ≤ consumed_of l.reader.script;

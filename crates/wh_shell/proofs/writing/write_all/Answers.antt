@@ -6,7 +6,8 @@ use Rattle.wh_shell.proofs.writing.write_all.Goals as goal
 pub pieces-preserved : goal.pieces-preserved
 pieces-preserved g c = record {
   within = omega (arith, c.in_ok-taken.ensures.count, length-take {A = ℕ}, length-drop {A = ℕ});
-  written = writes_more c.args.piece.now c.pieces.at c.in_ok-taken.taken (g.K.Sink.held c.args.out.now) (g.K.Sink.held c.pieces.out)
+  written = writes_more c.args.piece.now c.pieces.at c.in_ok-taken.taken (g.K.Sink.held c.args.out.now)
+      (g.K.Sink.held c.pieces.out)
       (g.K.Sink.held c.write.new.self) c.pieces.invariant.written c.in_ok-taken.ensures.taken;
   later = omega arith;
 }

@@ -13,7 +13,8 @@ returns-then-not-is_free c =
     let p = c.index-added-place.result in
     let step = compared standing c.args.added.now c.loop-place.place p (omega arith) c.index-added-place.is in
     let stops = sym c.is_free.ensures ∙ c.if-not-is_free.true in
-    sym (sym c.loop-place.invariant ∙ step ∙ ap (λ b. b && all_apart (turned standing (take (c.loop-place.place + 1) c.args.added.now)) (drop (c.loop-place.place + 1) c.args.added.now)) stops)
+    sym (sym c.loop-place.invariant ∙ step ∙ ap (λ b. b && all_apart (turned standing
+    (take (c.loop-place.place + 1) c.args.added.now)) (drop (c.loop-place.place + 1) c.args.added.now)) stops)
 
 pub loop-place-preserved : goal.loop-place-preserved
 loop-place-preserved c =
@@ -21,5 +22,6 @@ loop-place-preserved c =
     let p = c.index-added-place.result in
     let step = compared standing c.args.added.now c.loop-place.place p (omega arith) c.index-added-place.is in
     let goes_on = sym c.is_free.ensures ∙ c.if-not-is_free.false in
-    sym (step ∙ ap (λ b. b && all_apart (turned standing (take (c.loop-place.place + 1) c.args.added.now)) (drop (c.loop-place.place + 1) c.args.added.now)) goes_on)
+    sym (step ∙ ap (λ b. b && all_apart (turned standing (take (c.loop-place.place + 1) c.args.added.now))
+    (drop (c.loop-place.place + 1) c.args.added.now)) goes_on)
     ∙ c.loop-place.invariant

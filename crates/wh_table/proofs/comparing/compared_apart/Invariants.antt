@@ -6,5 +6,7 @@ use Rattle.wh_table.proofs.Apart.{turned}
 use Rattle.wh_table.proofs.comparing.compared_apart.Given as goal
 
 abbrev pub invariant-loop-place : goal.invariant-loop-place
-invariant-loop-place l = all_apart (turned (without l.removed (partitions_in (filter is_standing l.kept))) (take l.place l.added)) (drop l.place l.added)
+invariant-loop-place l =
+    all_apart (turned (without l.removed (partitions_in (filter is_standing l.kept))) (take l.place l.added))
+    (drop l.place l.added)
     ≡ all_apart (without l.removed (partitions_in (filter is_standing l.kept))) l.added

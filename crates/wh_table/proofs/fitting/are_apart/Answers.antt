@@ -17,4 +17,5 @@ returns-then-rise_above c =
     c.if-rise_above.true ∙ sym (rising_apart (without removed standing) c.args.added.now c.args.highest below rises)
 
 pub returns-else-rise_above : goal.returns-else-rise_above
-returns-else-rise_above c = c.compared_apart.ensures ∙ ap (λ ps. all_apart (without c.args.removed.now ps) c.args.added.now) c.kept.ensures
+returns-else-rise_above c = c.compared_apart.ensures
+    ∙ ap (λ ps. all_apart (without c.args.removed.now ps) c.args.added.now) c.kept.ensures

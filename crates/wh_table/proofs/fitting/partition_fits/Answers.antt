@@ -9,4 +9,5 @@ use Rattle.wh_table.proofs.fitting.partition_fits.Goals as goal
 pub returns : goal.returns
 returns c =
     let test = entry_fits (map column_of c.args.columns.now) c.args.next_row in
-    c.entries_fit.ensures ∙ sym (list_all-map test numbered_of c.rows.result.now) ∙ ap (list_all test) c.rows.ensures.rows
+    c.entries_fit.ensures ∙ sym (list_all-map test numbered_of c.rows.result.now)
+    ∙ ap (list_all test) c.rows.ensures.rows

@@ -3,4 +3,5 @@ use Rattle.wh_table.specs.Conditions.{rises_above}
 use Rattle.wh_table.proofs.fitting.rise_above.Given as goal
 
 abbrev pub invariant-loop-partition : goal.invariant-loop-partition
-invariant-loop-partition l = rises_above l.highest (drop l.partition-index l.partitions) ≡ rises_above l.bound l.partitions
+invariant-loop-partition l =
+    rises_above l.highest (drop l.partition-index l.partitions) ≡ rises_above l.bound l.partitions

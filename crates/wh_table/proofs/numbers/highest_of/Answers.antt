@@ -13,12 +13,14 @@ loop-partition-preserved c =
     let ps = c.args.partitions.now in
     let i = c.loop-partition.partition-index in
     let item = c.partition-item.result in
-    let more = ap highest_number (take_more ps i item (omega arith)) ∙ highest_number-append (take i ps) (get_or ps i item ∷ []) in
+    let more = ap highest_number (take_more ps i item (omega arith))
+    ∙ highest_number-append (take i ps) (get_or ps i item ∷ []) in
     let here = ap (λ p. last_number p.rows) c.partition-item.is in
     let before = c.loop-partition.invariant.highest in
     let front = take_more ps i item (omega arith) ∙ ap (λ p. take i ps ++ p ∷ []) (sym c.partition-item.is) in
     let P : List Partition → Type 0 = λ qs. IsTrue (list_all rows_rise qs) in
     record {
       highest = omega (arith, c.max-so_far.ensures, c.last_rising.ensures.last);
-      rising = subst P (sym front) (each_append rows_rise (take i ps) (item ∷ []) c.loop-partition.invariant.rising (and_from _ _ c.last_rising.ensures.rising refl));
+      rising = subst P (sym front) (each_append rows_rise (take i ps) (item ∷ []) c.loop-partition.invariant.rising
+          (and_from _ _ c.last_rising.ensures.rising refl));
     }

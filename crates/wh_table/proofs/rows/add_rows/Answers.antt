@@ -9,4 +9,5 @@ returns-clause-added c =
     let items = c.rows-entry-items.result.now in
     c.loop-entry.invariant
     ∙ ap (λ l. rows_at c.args.rows.now.items ++ l)
-    (ap (map (λ e. e.row)) (take_all c.loop-entry.entry-index items (omega arith)) ∙ sym (numbered_rows items) ∙ ap rows_only c.rows-entry-items.ensures.rows)
+    (ap (map (λ e. e.row)) (take_all c.loop-entry.entry-index items (omega arith)) ∙ sym (numbered_rows items)
+    ∙ ap rows_only c.rows-entry-items.ensures.rows)

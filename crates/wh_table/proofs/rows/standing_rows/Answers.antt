@@ -22,13 +22,15 @@ loop-one-preserved c =
           ∙ ap (λ rows. rows ++ rows_only (all_rows one)) c.loop-one.invariant.0
           ∙ sym (rows_of_more front one)
           ∙ ap (λ ps. rows_only (all_rows ps)) (sym more),
-      subst P (sym more) (each_more (λ p. RisesFrom 0 p.rows) front one c.loop-one.invariant.1 c.in_ok-add_standing.ensures.rising),
+      subst P (sym more)
+          (each_more (λ p. RisesFrom 0 p.rows) front one c.loop-one.invariant.1 c.in_ok-add_standing.ensures.rising),
     )
 
 pub returns : goal.returns
 returns c =
     let whole = take_all c.loop-one.one-index c.args.kept.now c.loop-one-test.false in
-    let P : List Kept → Type 0 = λ ks. AllByRecursion (λ p. RisesFrom 0 p.rows) (partitions_in (filter is_standing ks)) in
+    let P : List Kept → Type 0 =
+    λ ks. AllByRecursion (λ p. RisesFrom 0 p.rows) (partitions_in (filter is_standing ks)) in
     record {
       rows = c.loop-one.invariant.0 ∙ ap (λ ks. rows_only (all_rows (partitions_in (filter is_standing ks)))) whole;
       rising = subst P whole c.loop-one.invariant.1;

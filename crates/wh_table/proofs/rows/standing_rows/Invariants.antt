@@ -6,5 +6,6 @@ use Rattle.wh_table.specs.Rows.{rows_at, rows_only, all_rows}
 use Rattle.wh_table.proofs.rows.standing_rows.Given as goal
 
 abbrev pub invariant-loop-one : goal.invariant-loop-one
-invariant-loop-one l = (rows_at l.rows.items ≡ rows_only (all_rows (partitions_in (filter is_standing (take l.one-index l.kept)))))
+invariant-loop-one l =
+    (rows_at l.rows.items ≡ rows_only (all_rows (partitions_in (filter is_standing (take l.one-index l.kept)))))
     × AllByRecursion (λ p. RisesFrom 0 p.rows) (partitions_in (filter is_standing (take l.one-index l.kept)))

@@ -7,7 +7,8 @@ use Rattle.wh_text.proofs.lines.read_line.Given as goal
 
 abbrev pub invariant-bytes : goal.invariant-bytes
 invariant-bytes g l = record {
-  same : option_map lines_of (ahead_and l.initial.ahead.bytes (g.S.Source.left l.initial.source)) ≡ option_map (lines_at l.place l.text) (ahead_and l.ahead.bytes (g.S.Source.left l.source));
+  same : option_map lines_of (ahead_and l.initial.ahead.bytes (g.S.Source.left l.initial.source))
+      ≡ option_map (lines_at l.place l.text) (ahead_and l.ahead.bytes (g.S.Source.left l.source));
   used : begun l.place + consumed l.initial.ahead ≤ consumed l.ahead;
   counts : total l.ahead (g.S.Source.left l.source) ≡ total l.initial.ahead (g.S.Source.left l.initial.source);
   short : l.ahead.taken ≤ 2 ^ 30;

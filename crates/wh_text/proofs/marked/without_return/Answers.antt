@@ -4,7 +4,8 @@ use Rattle.std.proofs.lemmas.Grind.{common_steps}
 use Rattle.wh_grammar.specs.Script.{without_return}
 use Rattle.wh_text.proofs.MarkedLaws.{return_dropped, return_kept, return_none}
 use Rattle.wh_text.proofs.marked.without_return.Goals as goal
-use Rattle.wh_text.proofs.marked.without_return.Goals.{else-count-gt0-via-then-count-gt0+else-line-count-eq13, else-count-gt0-via-else-count-gt0}
+use Rattle.wh_text.proofs.marked.without_return.Goals.{else-count-gt0-via-then-count-gt0+else-line-count-eq13}
+use Rattle.wh_text.proofs.marked.without_return.Goals.{else-count-gt0-via-else-count-gt0}
 
 empty_kept : (line : List ℕ) → length line ≡ 0 → line ≡ without_return line
 empty_kept [] none = sym return_none

@@ -28,4 +28,5 @@ same_order Null Null = refl
 
 pub returns : goal.returns
 returns c =
-    rw (← c.a.view_is, ← c.b.view_is) (c.cmp.ensures ∙ slice_cmp-map value_of cmp-value.it value_cmp same_order c.a.inside.values.items c.b.inside.values.items)
+    rw (← c.a.view_is, ← c.b.view_is) (c.cmp.ensures
+    ∙ slice_cmp-map value_of cmp-value.it value_cmp same_order c.a.inside.values.items c.b.inside.values.items)

@@ -20,4 +20,5 @@ returns c =
     let rows = c.args.rows.now in
     let at = c.loop-entry in
     all_on (λ e. edited_row edits (numbered_of e)) (λ es. edited edits (map numbered_of es)) refl
-    rows at.entry-index (map numbered_of at.left.items) (edited edits (map numbered_of rows)) c.loop-entry-test.false at.invariant
+    rows at.entry-index (map numbered_of at.left.items)
+    (edited edits (map numbered_of rows)) c.loop-entry-test.false at.invariant

@@ -4,4 +4,5 @@ use Rattle.wh_part.specs.View.{numbered_of}
 use Rattle.wh_version.proofs.editing.edited.Given as goal
 
 abbrev pub invariant-loop-entry : goal.invariant-loop-entry
-invariant-loop-entry l = map numbered_of l.left.items ++ edited l.edits (map numbered_of (drop l.entry-index l.rows)) ≡ edited l.edits (map numbered_of l.rows)
+invariant-loop-entry l = map numbered_of l.left.items ++ edited l.edits (map numbered_of (drop l.entry-index l.rows))
+    ≡ edited l.edits (map numbered_of l.rows)

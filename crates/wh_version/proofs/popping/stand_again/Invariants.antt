@@ -3,4 +3,5 @@ use Rattle.wh_version.specs.Kept.{stands_again}
 use Rattle.wh_version.proofs.popping.stand_again.Given as goal
 
 abbrev pub invariant-loop-one : goal.invariant-loop-one
-invariant-loop-one l = l.kept ≡ map (stands_again l.place) (take l.one-index l.initial.kept) ++ drop l.one-index l.initial.kept
+invariant-loop-one l =
+    l.kept ≡ map (stands_again l.place) (take l.one-index l.initial.kept) ++ drop l.one-index l.initial.kept

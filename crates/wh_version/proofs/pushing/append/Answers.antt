@@ -1,4 +1,5 @@
-use Rattle.std.proofs.Common.{◌≡◌, ◌∙◌, ap, sym, ◌∷◌, [], ◌++◌, map, length, List, refl, append_assoc, append-nil, arith}
+use Rattle.std.proofs.Common.{◌≡◌, ◌∙◌, ap, sym, ◌∷◌, [], ◌++◌, map, length, List, refl}
+use Rattle.std.proofs.Common.{append_assoc, append-nil, arith}
 use Rattle.std.specs.Vec.Iter.{into_iter_items}
 use Rattle.wh_frame.specs.Partition.{Partition}
 use Rattle.wh_version.specs.Kept.{fresh}
@@ -11,7 +12,8 @@ nothing_left (p ∷ ps) none = absurd (omega arith)
 pub push_reserved-requires : goal.push_reserved-requires
 push_reserved-requires c =
     let at = c.loop-partition in
-    let steps : into_iter_items at.partition-iterator ≡ c.in-Some.partition ∷ into_iter_items c.next.new.self = c.in-Some.ensures.steps.0 in
+    let steps : into_iter_items at.partition-iterator ≡ c.in-Some.partition ∷ into_iter_items c.next.new.self =
+    c.in-Some.ensures.steps.0 in
     let room = at.invariant.2 in
     let count = ap length steps in
     omega arith

@@ -5,6 +5,7 @@ use Rattle.wh_version.specs.Kept.{fresh}
 use Rattle.wh_version.proofs.pushing.append.Given as goal
 
 abbrev pub invariant-loop-partition : goal.invariant-loop-partition
-invariant-loop-partition l = (l.kept.items ++ map fresh (into_iter_items l.partition-iterator) ≡ l.initial.kept.items ++ map fresh (into_iter_items l.initial.partition-iterator))
+invariant-loop-partition l = (l.kept.items ++ map fresh (into_iter_items l.partition-iterator)
+    ≡ l.initial.kept.items ++ map fresh (into_iter_items l.initial.partition-iterator))
     × (into_iter_len l.partition-iterator ≡ length (into_iter_items l.partition-iterator))
     × (vec_len l.kept + length (into_iter_items l.partition-iterator) ≤ vec_capacity l.kept)

@@ -15,7 +15,8 @@ loop-number-preserved c =
     let at = c.loop-number in
     let removed = c.args.removed.now in
     let number = get_or removed at.number-index 0 in
-    let left : drop at.number-index removed ≡ number ∷ drop (at.number-index + 1) removed = drop_more removed at.number-index 0 (omega arith) in
+    let left : drop at.number-index removed ≡ number ∷ drop (at.number-index + 1) removed =
+    drop_more removed at.number-index 0 (omega arith) in
     let before = at.invariant in
     let step = c.part_one.ensures in (
       ap (parted c.args.place (drop (at.number-index + 1) removed)) step.parted

@@ -20,10 +20,14 @@ returns c =
     let made_sized = made.ok.0 in
     let left : List Partition = made_of next (lefts rows (by_rows (partitions_at c.args.touched.now))) in
     let first_is : first ≡ left =
-    c.in_ok-made.ensures ∙ ap (λ ps. made_of next (lefts rows ps)) (ap turned c.deref.ensures.value ∙ c.in_ok-sorted.ensures) in
+    c.in_ok-made.ensures
+    ∙ ap (λ ps. made_of next (lefts rows ps)) (ap turned c.deref.ensures.value ∙ c.in_ok-sorted.ensures) in
     let behind_is : next + c.len.result ≡ next + length first = omega (arith, c.len.ensures) in
-    let within : next + length made.items ≤ 4611686018427387904 = omega (arith, c.if-next-len.false, c.len-2.ensures, c.bound-limit.ensures) in
+    let within : next + length made.items ≤ 4611686018427387904 =
+    omega (arith, c.if-next-len.false, c.len-2.ensures, c.bound-limit.ensures) in
     record {
-      fits = made_fits next next_row 4611686018427387904 added left made.items first more _ first_is behind_is c.in_ok-more.ensures.parts c.in_ok-append.ensures.items within;
-      made = made_all next next_row 4611686018427387904 added left made.items first more _ first_is behind_is c.in_ok-more.ensures.parts c.in_ok-append.ensures.items;
+      fits = made_fits next next_row 4611686018427387904 added left made.items first more _ first_is behind_is
+          c.in_ok-more.ensures.parts c.in_ok-append.ensures.items within;
+      made = made_all next next_row 4611686018427387904 added left made.items first more _ first_is behind_is
+          c.in_ok-more.ensures.parts c.in_ok-append.ensures.items;
     }

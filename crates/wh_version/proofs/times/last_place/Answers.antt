@@ -8,4 +8,5 @@ returns-then-is_up_to c =
     let later = c.args.later.now in
     let test = is_up_to c.args.time c.args.limit in
     let place = length later - c.loop-done.done in
-    sym (found_behind test c.args.first later place _ (omega arith) (omega arith) (sym c.is_up_to.ensures ∙ c.if-is_up_to.true) c.loop-done.invariant)
+    sym (found_behind test c.args.first later place _ (omega arith) (omega arith)
+    (sym c.is_up_to.ensures ∙ c.if-is_up_to.true) c.loop-done.invariant)

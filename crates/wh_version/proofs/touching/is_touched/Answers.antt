@@ -17,7 +17,8 @@ pub returns-then-not-has_between : goal.returns-then-not-has_between
 returns-then-not-has_between c =
     let apart = c.if-not-has_between.ensures in
     sym (apart_untouched c.args.edits.now c.args.partition.now c.rows-rows.ensures.rising (λ number above below.
-    apart number (subst (λ n. n ≤ number) (sym c.first.ensures) above) (subst (λ n. number ≤ n) (sym c.last.ensures) below)))
+    apart number (subst (λ n. n ≤ number) (sym c.first.ensures) above)
+    (subst (λ n. number ≤ n) (sym c.last.ensures) below)))
 
 pub returns : goal.returns
 returns c =

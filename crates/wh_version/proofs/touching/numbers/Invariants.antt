@@ -3,4 +3,5 @@ use Rattle.wh_version.specs.Edits.{partitions_at}
 use Rattle.wh_version.proofs.touching.numbers.Given as goal
 
 abbrev pub invariant-loop-partition : goal.invariant-loop-partition
-invariant-loop-partition l = l.numbers.items ++ map (λ p. p.number) (partitions_at (drop l.partition-index l.partitions)) ≡ map (λ p. p.number) (partitions_at l.partitions)
+invariant-loop-partition l = l.numbers.items ++ map (λ p. p.number)
+    (partitions_at (drop l.partition-index l.partitions)) ≡ map (λ p. p.number) (partitions_at l.partitions)

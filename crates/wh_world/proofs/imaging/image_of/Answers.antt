@@ -1,4 +1,5 @@
-use Rattle.std.proofs.Common.{rules, ◌≡◌, ◌∙◌, ℕ, ◌+◌, ◌≤◌, cond, Bool, true, false, [], ◌∷◌, List, take, drop, count_by, get_or, refl, sym, ap, arith, length-take-le}
+use Rattle.std.proofs.Common.{rules, ◌≡◌, ◌∙◌, ℕ, ◌+◌, ◌≤◌, cond, Bool, true, false, [], ◌∷◌, List, take, drop}
+use Rattle.std.proofs.Common.{count_by, get_or, refl, sym, ap, arith, length-take-le}
 use Rattle.std.proofs.lemmas.List.{drop_all}
 use mir.Val.{bool_byte}
 use Rattle.wh_world.specs.Events.{content}

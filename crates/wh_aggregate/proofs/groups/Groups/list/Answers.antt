@@ -16,11 +16,15 @@ pub returns-in_err-row : goal.returns-in_err-row
 returns-in_err-row c =
     let calls = calls_of c.args.calls.now in
     let at = c.loop-key in
-    let all : entries c.args.self ≡ c.into_iter-key-iterator.result = ap entries (sym c.self.view_is) ∙ entries_in_order c.self.inside.map.entries c.len.ensures.ordered ∙ sym c.into_iter-key-iterator.ensures.into_iter_gives.0 in
+    let all : entries c.args.self ≡ c.into_iter-key-iterator.result =
+    ap entries (sym c.self.view_is) ∙ entries_in_order c.self.inside.map.entries c.len.ensures.ordered
+    ∙ sym c.into_iter-key-iterator.ensures.into_iter_gives.0 in
     let e : Row × List Total = (c.in-Some.key, c.in-Some.tallies) in
     let left : at.key-iterator ≡ e ∷ c.next.new.self = c.in-Some.ensures.steps in
-    passed_on c.from_residual-in_err-row.result c.in_err-row.field-0.0 (λ r. GivesListed r (listed calls (entries c.args.self))) c.from_residual-in_err-row.ensures.1
-    (still c.in_err-row.field-0.0 _ _ (λ none. ap (listed calls) all ∙ at.invariant ∙ ap (λ es. option_map (λ r. at.rows.items ++ r) (listed calls es)) left ∙ listed_none calls at.rows.items e c.next.new.self none)
+    passed_on c.from_residual-in_err-row.result c.in_err-row.field-0.0
+    (λ r. GivesListed r (listed calls (entries c.args.self))) c.from_residual-in_err-row.ensures.1
+    (still c.in_err-row.field-0.0 _ _ (λ none. ap (listed calls) all ∙ at.invariant ∙ ap (λ es. option_map
+    (λ r. at.rows.items ++ r) (listed calls es)) left ∙ listed_none calls at.rows.items e c.next.new.self none)
     c.in_err-row.ensures)
 
 pub loop-key-preserved : goal.loop-key-preserved
@@ -39,7 +43,9 @@ pub returns : goal.returns
 returns c =
     let calls = calls_of c.args.calls.now in
     let at = c.loop-key in
-    let all : entries c.args.self ≡ c.into_iter-key-iterator.result = ap entries (sym c.self.view_is) ∙ entries_in_order c.self.inside.map.entries c.len.ensures.ordered ∙ sym c.into_iter-key-iterator.ensures.into_iter_gives.0 in
+    let all : entries c.args.self ≡ c.into_iter-key-iterator.result =
+    ap entries (sym c.self.view_is) ∙ entries_in_order c.self.inside.map.entries c.len.ensures.ordered
+    ∙ sym c.into_iter-key-iterator.ensures.into_iter_gives.0 in
     ap (listed calls) all
     ∙ at.invariant
     ∙ ap (λ es. option_map (λ r. at.rows.items ++ r) (listed calls es)) c.in-None.ensures.steps.0

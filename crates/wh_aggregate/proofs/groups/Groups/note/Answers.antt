@@ -21,7 +21,8 @@ returns-in-Some c =
     let new = c.add_row.new.self in
     let found : Some c.in-Some.tallies.now ≡ lookup (is_at (row_cmp key)) m.entries = c.in-Some.ensures.value in
     let written = (c.get_mut.follows.holds new).3 (subst IsSome found refl) in
-    row_left calls c.args.row.now key m.entries (c.get_mut.follows.lender new).entries c.args.self.now (sym c.self.view_is) c.in-Some.tallies.now new
+    row_left calls c.args.row.now key m.entries (c.get_mut.follows.lender new).entries c.args.self.now
+    (sym c.self.view_is) c.in-Some.tallies.now new
     (ap (λ o. unwrap_or o (begun calls)) found) written.0 c.add_row.result c.add_row.ensures
 
 pub returns-in_err-add_row : goal.returns-in_err-add_row
@@ -31,8 +32,11 @@ returns-in_err-add_row c =
     let m = c.self.inside.map in
     let begins = c.in_ok-tallies.ensures in
     let absent : lookup (is_at (row_cmp key)) m.entries ≡ None = grind (arith, common_steps) in
-    passed_on c.from_residual-in_err-add_row.result c.in_err-add_row.field-0.0 (λ r. Leaves r (from_entries c.get_mut.follows.lender-at-none.entries) (noted calls c.args.row.now key c.args.self.now)) c.from_residual-in_err-add_row.ensures.1
-    (still c.in_err-add_row.field-0.0 _ _ (not_noted calls c.args.row.now key m.entries m.entries c.args.self.now (sym c.self.view_is) c.in_ok-tallies.tallies c.in_ok-tallies.tallies
+    passed_on c.from_residual-in_err-add_row.result c.in_err-add_row.field-0.0
+    (λ r. Leaves r (from_entries c.get_mut.follows.lender-at-none.entries)
+    (noted calls c.args.row.now key c.args.self.now)) c.from_residual-in_err-add_row.ensures.1
+    (still c.in_err-add_row.field-0.0 _ _ (not_noted calls c.args.row.now key m.entries m.entries c.args.self.now
+    (sym c.self.view_is) c.in_ok-tallies.tallies c.in_ok-tallies.tallies
     (begins ∙ ap (λ o. unwrap_or o (begun calls)) (sym absent)))
     c.in_err-add_row.ensures)
 
@@ -44,6 +48,9 @@ returns c =
     let new = c.add_row-2.new.self in
     let absent : lookup (is_at (row_cmp key)) m.entries ≡ None = grind (arith, common_steps) in
     let same = c.get_mut.follows.holds-at-none in
-    row_noted calls c.args.row.now key m.entries c.insert.new.self.entries c.args.self.now (sym c.self.view_is) c.in_ok-tallies.tallies new
+    row_noted calls c.args.row.now key m.entries c.insert.new.self.entries c.args.self.now
+    (sym c.self.view_is) c.in_ok-tallies.tallies new
     (c.in_ok-tallies.ensures ∙ ap (λ o. unwrap_or o (begun calls)) (sym absent))
-    (λ q. c.in-Ok.ensures.updates.0 q ∙ ap (λ t. cond (is_eq (row_cmp key q)) (Some new) (lookup (is_at (row_cmp q)) t.entries)) same) c.in_ok-add_row.ensures
+    (λ q. c.in-Ok.ensures.updates.0 q
+    ∙ ap (λ t. cond (is_eq (row_cmp key q)) (Some new) (lookup (is_at (row_cmp q)) t.entries)) same)
+    c.in_ok-add_row.ensures

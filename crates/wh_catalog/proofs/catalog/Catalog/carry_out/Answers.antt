@@ -11,11 +11,15 @@ use Rattle.wh_catalog.proofs.catalog.Catalog.carry_out.Goals as goal
 pub returns-in-PushesVersion-clause-changed : goal.returns-in-PushesVersion-clause-changed
 unfolding changed kept_of
 returns-in-PushesVersion-clause-changed c =
-    let P : Change → Type 0 = λ change. OnOk c.push_version.result (map object_in (map kept_object c.push_version.new.objects.items) ≡ changed c.args.stamp (objects_of c.args.self.now) (change_of change)) in
+    let P : Change → Type 0 =
+    λ change. OnOk c.push_version.result (map object_in (map kept_object c.push_version.new.objects.items)
+    ≡ changed c.args.stamp (objects_of c.args.self.now) (change_of change)) in
     subst P (sym c.in-PushesVersion.is) c.push_version.ensures.changed
 
 pub returns-in-Drops-clause-changed : goal.returns-in-Drops-clause-changed
 unfolding changed kept_of
 returns-in-Drops-clause-changed c =
-    let P : Change → Type 0 = λ change. OnOk c.drop_object.result (map object_in (map kept_object c.drop_object.new.objects.items) ≡ changed c.args.stamp (objects_of c.args.self.now) (change_of change)) in
+    let P : Change → Type 0 =
+    λ change. OnOk c.drop_object.result (map object_in (map kept_object c.drop_object.new.objects.items)
+    ≡ changed c.args.stamp (objects_of c.args.self.now) (change_of change)) in
     subst P (sym c.in-Drops.is) c.drop_object.ensures.changed

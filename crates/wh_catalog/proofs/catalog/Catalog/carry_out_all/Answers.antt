@@ -19,14 +19,18 @@ loop-change-preserved c =
     let was = at.invariant.count in
     let gone = c.in-Some.ensures.steps.1 in
     let short = ap length steps in
-    let after : objects_of c.carry_out.new.self ≡ changed stamp (objects_of at.self) (change_of change) = c.in-Ok.ensures.changed in
+    let after : objects_of c.carry_out.new.self ≡ changed stamp (objects_of at.self) (change_of change) =
+    c.in-Ok.ensures.changed in
     let P : List Change → Type 0 = λ cs. AllApply stamp (objects_of at.self) (map change_of cs) in
     let Q : List StoredObject → Type 0 = λ os. AllApply stamp os (map change_of rest) in
     record {
       apply = λ more. at.invariant.apply (subst P (sym steps) (c.in-Ok.ensures.applies, subst Q after more));
-      applied = λ all. let here : P (change ∷ rest) = subst P steps (at.invariant.applied all) in subst Q (sym after) here.1;
-      changed = ap (λ os. all_changed stamp os (map change_of rest)) after ∙ ap (λ cs. all_changed stamp (objects_of at.self) (map change_of cs)) (sym steps) ∙ at.invariant.changed;
-      back = ap (λ ss. undone ss (kept_of c.carry_out.new.self)) (c.push_reserved.ensures.items ∙ ap (λ ss. ss ++ c.in-Ok.step ∷ []) c.reserve.ensures.items)
+      applied =
+          λ all. let here : P (change ∷ rest) = subst P steps (at.invariant.applied all) in subst Q (sym after) here.1;
+      changed = ap (λ os. all_changed stamp os (map change_of rest)) after
+          ∙ ap (λ cs. all_changed stamp (objects_of at.self) (map change_of cs)) (sym steps) ∙ at.invariant.changed;
+      back = ap (λ ss. undone ss (kept_of c.carry_out.new.self))
+          (c.push_reserved.ensures.items ∙ ap (λ ss. ss ++ c.in-Ok.step ∷ []) c.reserve.ensures.items)
           ∙ undone_more at.steps.items c.in-Ok.step (kept_of c.carry_out.new.self)
           ∙ ap (undone at.steps.items) c.in-Ok.ensures.back
           ∙ at.invariant.back;

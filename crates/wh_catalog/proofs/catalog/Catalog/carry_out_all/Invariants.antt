@@ -8,9 +8,12 @@ use Rattle.wh_catalog.proofs.catalog.Catalog.carry_out_all.Given as goal
 
 abbrev pub invariant-loop-change : goal.invariant-loop-change
 invariant-loop-change l = record {
-  apply : AllApply l.stamp (objects_of l.self) (map change_of (into_iter_items l.change-iterator)) → AllApply l.stamp (objects_of l.initial.self) (map change_of (into_iter_items l.initial.change-iterator));
-  applied : AllApply l.stamp (objects_of l.initial.self) (map change_of (into_iter_items l.initial.change-iterator)) → AllApply l.stamp (objects_of l.self) (map change_of (into_iter_items l.change-iterator));
-  changed : all_changed l.stamp (objects_of l.self) (map change_of (into_iter_items l.change-iterator)) ≡ all_changed l.stamp (objects_of l.initial.self) (map change_of (into_iter_items l.initial.change-iterator));
+  apply : AllApply l.stamp (objects_of l.self) (map change_of (into_iter_items l.change-iterator))
+      → AllApply l.stamp (objects_of l.initial.self) (map change_of (into_iter_items l.initial.change-iterator));
+  applied : AllApply l.stamp (objects_of l.initial.self) (map change_of (into_iter_items l.initial.change-iterator))
+      → AllApply l.stamp (objects_of l.self) (map change_of (into_iter_items l.change-iterator));
+  changed : all_changed l.stamp (objects_of l.self) (map change_of (into_iter_items l.change-iterator))
+      ≡ all_changed l.stamp (objects_of l.initial.self) (map change_of (into_iter_items l.initial.change-iterator));
   back : undone l.steps.items (kept_of l.self) ≡ kept_of l.initial.self;
   count : into_iter_len l.change-iterator ≡ length (into_iter_items l.change-iterator);
   last : l.self.last ≡ l.initial.self.last;

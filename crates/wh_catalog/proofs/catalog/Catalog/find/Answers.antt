@@ -9,7 +9,8 @@ use Rattle.wh_catalog.proofs.Names.{id_within}
 use Rattle.wh_catalog.proofs.LiveNames.{found_none, found_at}
 use Rattle.wh_catalog.proofs.catalog.Catalog.find.Goals as goal
 
-within : (c : Catalog) (name : List ℕ) (id : ℕ) → last_id name (names_of c.objects.items) ≡ Some id → (1 ≤ id) × (id - 1 < length c.objects.items)
+within : (c : Catalog) (name : List ℕ) (id : ℕ) → last_id name (names_of c.objects.items) ≡ Some id
+    → (1 ≤ id) × (id - 1 < length c.objects.items)
 within c name id some =
     let there = id_within name (names_of c.objects.items) id some in
     let count = length-map c.objects.items (λ (o : StoredObject). o.name) in
@@ -20,19 +21,22 @@ unfolding stored_of kept_of
 returns-in_err-id c =
     let self = c.args.self.now in
     let name = c.args.name.now in
-    c.from_residual.ensures ∙ sym (found_none name self.objects.items self.unique (sym (self.named name) ∙ sym c.get.ensures.value ∙ ap option_copied c.in_err-id.was))
+    c.from_residual.ensures ∙ sym (found_none name self.objects.items self.unique
+    (sym (self.named name) ∙ sym c.get.ensures.value ∙ ap option_copied c.in_err-id.was))
 
 pub overflow_sub-id : goal.overflow_sub-id
 overflow_sub-id c =
     let self = c.args.self.now in
     let name = c.args.name.now in
-    (within self name c.in_ok-id.field-0.now (sym (self.named name) ∙ sym c.get.ensures.value ∙ ap option_copied c.in_ok-id.was)).0
+    (within self name c.in_ok-id.field-0.now
+    (sym (self.named name) ∙ sym c.get.ensures.value ∙ ap option_copied c.in_ok-id.was)).0
 
 pub index-object-requires : goal.index-object-requires
 index-object-requires c =
     let self = c.args.self.now in
     let name = c.args.name.now in
-    let there = within self name c.in_ok-id.field-0.now (sym (self.named name) ∙ sym c.get.ensures.value ∙ ap option_copied c.in_ok-id.was) in
+    let there = within self name c.in_ok-id.field-0.now
+    (sym (self.named name) ∙ sym c.get.ensures.value ∙ ap option_copied c.in_ok-id.was) in
     let sized = self.objects.ok.0 in
     omega arith
 
@@ -42,6 +46,8 @@ returns c =
     let self = c.args.self.now in
     let name = c.args.name.now in
     let id = c.in_ok-id.field-0.now in
-    let some : last_id name (names_of self.objects.items) ≡ Some id = sym (self.named name) ∙ sym c.get.ensures.value ∙ ap option_copied c.in_ok-id.was in
+    let some : last_id name (names_of self.objects.items) ≡ Some id =
+    sym (self.named name) ∙ sym c.get.ensures.value ∙ ap option_copied c.in_ok-id.was in
     let there = within self name id some in
-    c.then_some.ensures ∙ sym (found_at name self.objects.items self.unique id c.index-object.result.now some there.1 there.0 c.index-object.ensures)
+    c.then_some.ensures ∙ sym (found_at name self.objects.items self.unique id c.index-object.result.now some there.1
+    there.0 c.index-object.ensures)

@@ -13,8 +13,10 @@ returns-in-Some c =
     let sized = objects.ok.0 in
     let some : 0 < id = omega arith in
     let here : id - 1 < length objects.items = omega (arith, c.len.ensures) in
-    sym (is_last_by (names_of objects.items) id o.name (named_at objects.items id o some here c.index-object.ensures) c.in-Some.last.now
-    (sym (self.named o.name) ∙ sym (ap (id_at self.names) c.as_bytes.ensures.value) ∙ sym c.get.ensures.value ∙ ap option_copied c.in-Some.is))
+    sym (is_last_by (names_of objects.items) id o.name
+    (named_at objects.items id o some here c.index-object.ensures) c.in-Some.last.now
+    (sym (self.named o.name) ∙ sym (ap (id_at self.names) c.as_bytes.ensures.value) ∙ sym c.get.ensures.value
+    ∙ ap option_copied c.in-Some.is))
 
 pub returns-in-None : goal.returns-in-None
 returns-in-None c =
@@ -26,4 +28,5 @@ returns-in-None c =
     let some : 0 < id = omega arith in
     let here : id - 1 < length objects.items = omega (arith, c.len.ensures) in
     sym (not_last (names_of objects.items) id o.name (named_at objects.items id o some here c.index-object.ensures)
-    (sym (self.named o.name) ∙ sym (ap (id_at self.names) c.as_bytes.ensures.value) ∙ sym c.get.ensures.value ∙ ap option_copied c.in-None.is))
+    (sym (self.named o.name) ∙ sym (ap (id_at self.names) c.as_bytes.ensures.value) ∙ sym c.get.ensures.value
+    ∙ ap option_copied c.in-None.is))

@@ -12,5 +12,6 @@ returns c =
     let o = c.index-object.result.now in
     let sized = c.args.self.now.objects.ok.0 in
     let some : 0 < c.args.id = omega arith in
-    let here : at_id objects c.args.id ≡ Some o = at_place objects c.args.id o some (omega (arith, c.len.ensures)) ∙ ap Some (sym c.index-object.ensures) in
+    let here : at_id objects c.args.id ≡ Some o = at_place objects c.args.id o some (omega (arith, c.len.ensures))
+    ∙ ap Some (sym c.index-object.ensures) in
     sym (table_there objects c.args.id o c.table.result.now here c.table.ensures)

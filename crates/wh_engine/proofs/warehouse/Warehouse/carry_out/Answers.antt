@@ -27,23 +27,34 @@ returns-then-bound-stamp-clause-answered g c =
     let e = event_of c.args.event.now in
     let none : c.failed.result ≡ None = search rules in
     let past : bound limits.Stamp ≤ stamp_of (state_of w.catalog) (reading_of e) =
-    omega (arith, c.max-stamp.ensures, c.reading.ensures, c.last.ensures.last, c.bound.ensures, c.if-bound-stamp.true) in
+    omega (
+      arith,
+      c.max-stamp.ensures,
+      c.reading.ensures,
+      c.last.ensures.last,
+      c.bound.ensures,
+      c.if-bound-stamp.true,
+    ) in
     let h = unstamped (stored_of w.catalog) (state_of w.catalog) e past in
     record {
       replied = sym (ap (λ (p : State × Reply). p.1) h.1);
-      carried = carries_nothing w w _ _ h.0 refl refl refl (sym (ap (λ (p : State × Reply). p.0) h.1)) (sym c.failed.ensures ∙ none);
+      carried = carries_nothing w w _ _ h.0 refl refl refl (sym (ap (λ (p : State × Reply). p.0) h.1))
+          (sym c.failed.ensures ∙ none);
     }
 
 pub returns-then-bound-stamp-clause-any_moment : goal.returns-then-bound-stamp-clause-any_moment
-returns-then-bound-stamp-clause-any_moment g c = leaves_still g.met.D.Disk.only_now c.args.self.now c.args.self.now _ refl
+returns-then-bound-stamp-clause-any_moment g c =
+    leaves_still g.met.D.Disk.only_now c.args.self.now c.args.self.now _ refl
 
 pub returns-in_err-decision-clause-halted : goal.returns-in_err-decision-clause-halted
 returns-in_err-decision-clause-halted g c =
     let none : c.failed.result ≡ None = search rules in
-    starved c.from_residual.result c.args.self.now _ _ c.from_residual.ensures.1 (sym c.failed.ensures ∙ none) (unchanged c.args.self.now) refl
+    starved c.from_residual.result c.args.self.now _ _ c.from_residual.ensures.1
+    (sym c.failed.ensures ∙ none) (unchanged c.args.self.now) refl
 
 pub returns-in_err-decision-clause-any_moment : goal.returns-in_err-decision-clause-any_moment
-returns-in_err-decision-clause-any_moment g c = leaves_still g.met.D.Disk.only_now c.args.self.now c.args.self.now _ refl
+returns-in_err-decision-clause-any_moment g c =
+    leaves_still g.met.D.Disk.only_now c.args.self.now c.args.self.now _ refl
 
 pub settle-requires : goal.settle-requires
 settle-requires g c =
@@ -58,31 +69,40 @@ pub returns-in_err-settle-clause-halted : goal.returns-in_err-settle-clause-halt
 returns-in_err-settle-clause-halted g c =
     let w = c.args.self.now in
     let e = event_of c.args.event.now in
-    let h = turns w.catalog e c.reading.result c.last.result c.bound.result c.max-stamp.result c.in_ok-decision.decision _ _ c.last.ensures.orderly c.reading.ensures c.last.ensures.last
-    c.bound.ensures c.max-stamp.ensures c.if-bound-stamp.false c.in_ok-decision.ensures c.into_parts-reply.ensures.changes c.into_parts-reply.ensures.reply in
-    passed_on c.from_residual-in_err-settle.result c.in_err-settle.field-0.0 (λ halt. Halted w c.settle.new.self (made_in w e) halt)
+    let h = turns w.catalog e c.reading.result c.last.result c.bound.result c.max-stamp.result c.in_ok-decision.decision
+    _ _ c.last.ensures.orderly c.reading.ensures c.last.ensures.last
+    c.bound.ensures c.max-stamp.ensures c.if-bound-stamp.false c.in_ok-decision.ensures
+    c.into_parts-reply.ensures.changes c.into_parts-reply.ensures.reply in
+    passed_on c.from_residual-in_err-settle.result c.in_err-settle.field-0.0
+    (λ halt. Halted w c.settle.new.self (made_in w e) halt)
     c.from_residual-in_err-settle.ensures.1 (rw h.commit c.in_err-settle.ensures.halted)
 
 pub returns-in_err-settle-clause-any_moment : goal.returns-in_err-settle-clause-any_moment
 returns-in_err-settle-clause-any_moment g c =
     let w = c.args.self.now in
     let e = event_of c.args.event.now in
-    let h = turns w.catalog e c.reading.result c.last.result c.bound.result c.max-stamp.result c.in_ok-decision.decision _ _ c.last.ensures.orderly c.reading.ensures c.last.ensures.last
-    c.bound.ensures c.max-stamp.ensures c.if-bound-stamp.false c.in_ok-decision.ensures c.into_parts-reply.ensures.changes c.into_parts-reply.ensures.reply in
+    let h = turns w.catalog e c.reading.result c.last.result c.bound.result c.max-stamp.result c.in_ok-decision.decision
+    _ _ c.last.ensures.orderly c.reading.ensures c.last.ensures.last
+    c.bound.ensures c.max-stamp.ensures c.if-bound-stamp.false c.in_ok-decision.ensures
+    c.into_parts-reply.ensures.changes c.into_parts-reply.ensures.reply in
     rw h.leaves c.settle.ensures.any_moment
 
 pub returns-clause-answered : goal.returns-clause-answered
 returns-clause-answered g c =
     let w = c.args.self.now in
     let e = event_of c.args.event.now in
-    let h = turns w.catalog e c.reading.result c.last.result c.bound.result c.max-stamp.result c.in_ok-decision.decision _ _ c.last.ensures.orderly c.reading.ensures c.last.ensures.last
-    c.bound.ensures c.max-stamp.ensures c.if-bound-stamp.false c.in_ok-decision.ensures c.into_parts-reply.ensures.changes c.into_parts-reply.ensures.reply in
+    let h = turns w.catalog e c.reading.result c.last.result c.bound.result c.max-stamp.result c.in_ok-decision.decision
+    _ _ c.last.ensures.orderly c.reading.ensures c.last.ensures.last
+    c.bound.ensures c.max-stamp.ensures c.if-bound-stamp.false c.in_ok-decision.ensures
+    c.into_parts-reply.ensures.changes c.into_parts-reply.ensures.reply in
     record { replied = h.replied; carried = rw (h.commit, h.leaves) c.in_ok-settle.ensures.answered }
 
 pub returns-clause-any_moment : goal.returns-clause-any_moment
 returns-clause-any_moment g c =
     let w = c.args.self.now in
     let e = event_of c.args.event.now in
-    let h = turns w.catalog e c.reading.result c.last.result c.bound.result c.max-stamp.result c.in_ok-decision.decision _ _ c.last.ensures.orderly c.reading.ensures c.last.ensures.last
-    c.bound.ensures c.max-stamp.ensures c.if-bound-stamp.false c.in_ok-decision.ensures c.into_parts-reply.ensures.changes c.into_parts-reply.ensures.reply in
+    let h = turns w.catalog e c.reading.result c.last.result c.bound.result c.max-stamp.result c.in_ok-decision.decision
+    _ _ c.last.ensures.orderly c.reading.ensures c.last.ensures.last
+    c.bound.ensures c.max-stamp.ensures c.if-bound-stamp.false c.in_ok-decision.ensures
+    c.into_parts-reply.ensures.changes c.into_parts-reply.ensures.reply in
     rw h.leaves c.settle.ensures.any_moment

@@ -13,14 +13,16 @@ use Rattle.wh_engine.proofs.warehouse.Warehouse.commit.Goals as goal
 -- up to the append the disk isn't touched
 pub returns-in_err-framed-clause-halted : goal.returns-in_err-framed-clause-halted
 returns-in_err-framed-clause-halted g c =
-    starved c.from_residual.result c.args.self.now _ _ c.from_residual.ensures.1 c.requires.healthy (unchanged c.args.self.now) refl
+    starved c.from_residual.result c.args.self.now _ _ c.from_residual.ensures.1 c.requires.healthy
+    (unchanged c.args.self.now) refl
 
 pub returns-in_err-framed-clause-any_moment : goal.returns-in_err-framed-clause-any_moment
 returns-in_err-framed-clause-any_moment g c = leaves_still g.met.D.Disk.only_now c.args.self.now _ _ refl
 
 pub returns-in_err-reserve-clause-halted : goal.returns-in_err-reserve-clause-halted
 returns-in_err-reserve-clause-halted g c =
-    starved c.from_residual-in_err-reserve.result c.args.self.now _ _ c.from_residual-in_err-reserve.ensures.1 c.requires.healthy
+    starved c.from_residual-in_err-reserve.result c.args.self.now _ _
+    c.from_residual-in_err-reserve.ensures.1 c.requires.healthy
     (record { disk = refl; journal = c.reserve.ensures.same; stored = refl }) refl
 
 pub returns-in_err-reserve-clause-any_moment : goal.returns-in_err-reserve-clause-any_moment
@@ -28,8 +30,10 @@ returns-in_err-reserve-clause-any_moment g c = leaves_still g.met.D.Disk.only_no
 
 pub returns-in_err-undo-clause-halted : goal.returns-in_err-undo-clause-halted
 returns-in_err-undo-clause-halted g c =
-    starved c.from_residual-in_err-undo.result c.args.self.now _ _ c.from_residual-in_err-undo.ensures.1 c.requires.healthy
-    (record { disk = refl; journal = c.reserve.ensures.same; stored = c.in_err-undo.ensures.same }) c.in_err-undo.ensures.same_state
+    starved c.from_residual-in_err-undo.result c.args.self.now _ _
+    c.from_residual-in_err-undo.ensures.1 c.requires.healthy
+    (record { disk = refl; journal = c.reserve.ensures.same; stored = c.in_err-undo.ensures.same })
+    c.in_err-undo.ensures.same_state
 
 pub returns-in_err-undo-clause-any_moment : goal.returns-in_err-undo-clause-any_moment
 returns-in_err-undo-clause-any_moment g c = leaves_still g.met.D.Disk.only_now c.args.self.now _ _ refl
@@ -37,7 +41,8 @@ returns-in_err-undo-clause-any_moment g c = leaves_still g.met.D.Disk.only_now c
 -- the append leaves the commits with the new one or without
 pub returns-in-Ok-clause-any_moment : goal.returns-in-Ok-clause-any_moment
 returns-in-Ok-clause-any_moment g c =
-    leaves_commit c.args.self.now _ c.reserve.new.self (commit_of c.args.commit) c.in_ok-framed.framed c.reserve.ensures.same c.in_ok-framed.ensures.payload
+    leaves_commit c.args.self.now _ c.reserve.new.self
+    (commit_of c.args.commit) c.in_ok-framed.framed c.reserve.ensures.same c.in_ok-framed.ensures.payload
     c.in_ok-undo.ensures.applies c.in_ok-framed.ensures.spelled c.in-Ok.ensures.any_moment
 
 pub returns-in-Ok-clause-answered : goal.returns-in-Ok-clause-answered
@@ -47,21 +52,26 @@ returns-in-Ok-clause-answered g c =
     let staged = c.in_ok-undo.ensures in
     let same = c.reserve.ensures.same in
     let spelled = c.in_ok-framed.ensures.payload in
-    let calls : Calls old.journal c.reserve.new.self commit c.in_ok-framed.framed = record { same = same; healthy = c.requires.healthy; spelled = spelled } in
+    let calls : Calls old.journal c.reserve.new.self commit c.in_ok-framed.framed =
+    record { same = same; healthy = c.requires.healthy; spelled = spelled } in
     let bytes = g.D.Disk.bytes in
     let adds : Appends (bytes old.disk) (bytes c.append.new.disk) old.journal c.append.new.self c.in_ok-framed.framed =
-    λ payloads file told is lists. c.in-Ok.ensures.appended payloads file told is (lists_same payloads old.journal c.reserve.new.self same lists) in
+    λ payloads file told is lists. c.in-Ok.ensures.appended payloads file told is
+    (lists_same payloads old.journal c.reserve.new.self same lists) in
     record {
       stepped = state_reached old.catalog c.stage.new.self commit staged.applied staged.last;
       stored = staged.applied;
-      filed = filed_append (bytes old.disk) (bytes c.append.new.disk) old.journal c.append.new.self old.catalog c.stage.new.self commit c.in-Ok.ensures.told
-          (subst (Appends (bytes old.disk) (bytes c.append.new.disk) old.journal c.append.new.self) spelled adds) staged.applies staged.applied
+      filed = filed_append (bytes old.disk) (bytes c.append.new.disk) old.journal c.append.new.self old.catalog
+          c.stage.new.self commit c.in-Ok.ensures.told
+          (subst (Appends (bytes old.disk) (bytes c.append.new.disk) old.journal c.append.new.self) spelled adds)
+          staged.applies staged.applied
           c.in_ok-framed.ensures.spelled;
       told = c.in-Ok.ensures.told;
       durable = λ settled. record { each = c.in-Ok.ensures.durable };
       kept = λ e. absurd cc;
       room = has_room (limit_of old.journal) (end_of old.journal) commit
-          (λ beyond. let full = is_full c.append.result old.journal c.reserve.new.self commit c.in_ok-framed.framed calls c.append.ensures.file_full beyond in absurd cc);
+          (λ beyond. let full = is_full c.append.result old.journal c.reserve.new.self commit c.in_ok-framed.framed
+          calls c.append.ensures.file_full beyond in absurd cc);
       grows = omega (arith, c.in-Ok.ensures.added.end, same.end, ap need_of spelled);
       healthy = c.requires.healthy;
       still_healthy = c.in-Ok.ensures.healthy;
@@ -70,7 +80,8 @@ returns-in-Ok-clause-answered g c =
 
 pub returns-clause-any_moment : goal.returns-clause-any_moment
 returns-clause-any_moment g c =
-    leaves_commit c.args.self.now _ c.reserve.new.self (commit_of c.args.commit) c.in_ok-framed.framed c.reserve.ensures.same c.in_ok-framed.ensures.payload
+    leaves_commit c.args.self.now _ c.reserve.new.self
+    (commit_of c.args.commit) c.in_ok-framed.framed c.reserve.ensures.same c.in_ok-framed.ensures.payload
     c.in_ok-undo.ensures.applies c.in_ok-framed.ensures.spelled c.in-Err.ensures.any_moment
 
 -- what was staged is undone
@@ -85,12 +96,21 @@ returns-clause-halted g c =
     let undoes = c.in_ok-undo.ensures.undoes in
     let stored = c.undo.ensures.stored old.catalog undoes in
     let says = c.append.ensures in
-    let calls : Calls old.journal j commit payload = record { same = same; healthy = c.requires.healthy; spelled = c.in_ok-framed.ensures.payload } in
-    let fails : Fails c.append.result j payload (g.D.Disk.faults old.disk) (g.D.Disk.faults c.append.new.disk) (failed_of c.append.new.self) =
-    record { needs_reopen = says.needs_reopen; file_full = says.file_full; disk_fault = says.disk_fault; failed = says.failed } in
+    let calls : Calls old.journal j commit payload =
+    record { same = same; healthy = c.requires.healthy; spelled = c.in_ok-framed.ensures.payload } in
+    let fails : Fails c.append.result j payload (g.D.Disk.faults old.disk) (g.D.Disk.faults c.append.new.disk)
+    (failed_of c.append.new.self) =
+    record {
+      needs_reopen = says.needs_reopen;
+      file_full = says.file_full;
+      disk_fault = says.disk_fault;
+      failed = says.failed;
+    } in
     subst (Halted old _ (Some commit)) (sym c.from.ensures)
     (append_halts c.append.result fault old _ j commit payload c.in-Err.is calls fails
     (λ other. not_by_disk (IsUntouched old _) fault other
-    (λ len need is. let u = says.nothing_written len need (c.in-Err.is ∙ ap Err is) in untouched u.0 (subst (IsSame old.journal) (sym u.1) same) stored)
-    (λ faults is. let u = says.untouched faults (c.in-Err.is ∙ ap Err is) in untouched u.0 (subst (IsSame old.journal) (sym u.1) same) stored))
+    (λ len need is. let u = says.nothing_written len need (c.in-Err.is ∙ ap Err is) in
+    untouched u.0 (subst (IsSame old.journal) (sym u.1) same) stored)
+    (λ faults is. let u = says.untouched faults (c.in-Err.is ∙ ap Err is) in
+    untouched u.0 (subst (IsSame old.journal) (sym u.1) same) stored))
     (c.undo.ensures.state old.catalog undoes) says.later)

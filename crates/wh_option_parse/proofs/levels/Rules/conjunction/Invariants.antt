@@ -4,4 +4,5 @@ use Rattle.wh_option_parse.specs.Read.{nested, conjunction, negation, turns, bot
 use Rattle.wh_option_parse.proofs.levels.Rules.conjunction.Given as goal
 
 abbrev pub invariant-loop-turn : goal.invariant-loop-turn
-invariant-loop-turn g l = conjunction (nested l.self.depth) l.fn.words ≡ turns (codes "AND") both (negation (nested l.self.depth)) (l._turn-end - l._turn) l.left l.words
+invariant-loop-turn g l = conjunction (nested l.self.depth) l.fn.words
+    ≡ turns (codes "AND") both (negation (nested l.self.depth)) (l._turn-end - l._turn) l.left l.words

@@ -18,6 +18,7 @@ returns-clause-says c =
       first = c.first.ensures;
       last = c.last.ensures;
       width = c.in_ok-columns.ensures.width ∙ width;
-      columns = λ place d within. subst (λ (all : List (ℕ × Row)). IsBoundsOf (get_or c.in_ok-columns.columns.items place d) (column place all)) same
+      columns = λ place d within. subst
+          (λ (all : List (ℕ × Row)). IsBoundsOf (get_or c.in_ok-columns.columns.items place d) (column place all)) same
           (c.in_ok-columns.ensures.columns place d (subst (λ (n : ℕ). place < n) (sym width) within));
     }

@@ -38,21 +38,32 @@ invariant_of-self-2 c =
     let removed = c.args.change.removed.items in
     let added = c.args.change.added.items in
     let ps : List Partition = standing_in versions in
-    let v : StoredVersion = record { stamp = c.args.stamp; data_timestamp = c.args.change.data_timestamp; content = without removed ps ++ added } in
-    let now : versions_of c.push.new.self ≡ versions ++ v ∷ [] = c.in_ok-push.ensures.versions ∙ ap (λ l. pushed_with versions c.args.stamp c.args.change.data_timestamp l added) c.deref-2.ensures.value in
+    let v : StoredVersion = record {
+      stamp = c.args.stamp;
+      data_timestamp = c.args.change.data_timestamp;
+      content = without removed ps ++ added;
+    } in
+    let now : versions_of c.push.new.self ≡ versions ++ v ∷ [] = c.in_ok-push.ensures.versions
+    ∙ ap (λ l. pushed_with versions c.args.stamp c.args.change.data_timestamp l added) c.deref-2.ensures.value in
     let P : List StoredVersion → Type 0 = λ vs. IsTrue (list_all is_apart vs) in
-    let last : standing_in (versions ++ v ∷ []) ≡ without removed ps ++ added = ap (content_in []) (last_of-push versions v) in
+    let last : standing_in (versions ++ v ∷ []) ≡ without removed ps ++ added =
+    ap (content_in []) (last_of-push versions v) in
     let size = ap highest_number (ap standing_in now ∙ last) ∙ highest_number-append (without removed ps) added in
     let fewer = highest_filter (λ p. not (is_among p.number removed)) ps in
     let before = t.highest_row in
-    let added_rising : IsTrue (list_all rows_rise added) = subst (λ qs. IsTrue (list_all rows_rise qs)) c.deref.ensures.value c.highest_of-highest.ensures.rising in
-    let new_rising = each_append rows_rise (without removed ps) added (each_filter rows_rise (λ p. not (is_among p.number removed)) ps (last_rising versions t.rising)) added_rising in
+    let added_rising : IsTrue (list_all rows_rise added) =
+    subst (λ qs. IsTrue (list_all rows_rise qs)) c.deref.ensures.value c.highest_of-highest.ensures.rising in
+    let new_rising = each_append rows_rise (without removed ps) added (each_filter rows_rise
+    (λ p. not (is_among p.number removed)) ps (last_rising versions t.rising)) added_rising in
     record {
       few_columns = t.few_columns;
       row_numbers = c.requires.next_row;
-      highest_row = omega (arith, size, fewer, before, c.highest_of-highest.ensures.highest, ap highest_number c.deref.ensures.value);
-      apart = subst P (sym now) (each_append is_apart versions (v ∷ []) t.apart (and_from _ _ (changed_apart removed ps added (last_apart versions t.apart) c.requires.apart) refl));
-      rising = subst (λ vs. IsTrue (list_all is_rising vs)) (sym now) (each_append is_rising versions (v ∷ []) t.rising (and_from _ _ new_rising refl));
+      highest_row = omega
+          (arith, size, fewer, before, c.highest_of-highest.ensures.highest, ap highest_number c.deref.ensures.value);
+      apart = subst P (sym now) (each_append is_apart versions (v ∷ []) t.apart
+          (and_from _ _ (changed_apart removed ps added (last_apart versions t.apart) c.requires.apart) refl));
+      rising = subst (λ vs. IsTrue (list_all is_rising vs)) (sym now)
+          (each_append is_rising versions (v ∷ []) t.rising (and_from _ _ new_rising refl));
     }
 
 pub returns-clause-pushed : goal.returns-clause-pushed
@@ -62,8 +73,10 @@ returns-clause-pushed c =
     let versions = versions_of t.history in
     let removed = c.args.change.removed.items in
     let added = c.args.change.added.items in
-    let now : versions_of c.push.new.self ≡ pushed_with versions c.args.stamp c.args.change.data_timestamp removed added =
-    c.in_ok-push.ensures.versions ∙ ap (λ l. pushed_with versions c.args.stamp c.args.change.data_timestamp l added) c.deref-2.ensures.value in
+    let now : versions_of c.push.new.self
+    ≡ pushed_with versions c.args.stamp c.args.change.data_timestamp removed added =
+    c.in_ok-push.ensures.versions
+    ∙ ap (λ l. pushed_with versions c.args.stamp c.args.change.data_timestamp l added) c.deref-2.ensures.value in
     let next : next_in (nexts_of c.push.new.self) ≡ next_in (nexts_of t.history) + length added =
     ap next_in c.in_ok-push.ensures.nexts ∙ next_in-push (nexts_of t.history) _ in
     λ i. record {

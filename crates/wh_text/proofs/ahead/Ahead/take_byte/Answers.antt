@@ -9,6 +9,7 @@ returns-clause-turn g c =
     let filled = rw some at c.in_ok-fill.ensures.some in
     let left = g.S.Source.left c.fill.new.source in
     record {
-      first = sym filled.same ∙ ap (λ bytes. ahead_and bytes left) c.pop.ensures.bytes ∙ first_ahead c.pop.result c.pop.new.self.bytes left;
+      first = sym filled.same ∙ ap (λ bytes. ahead_and bytes left) c.pop.ensures.bytes
+          ∙ first_ahead c.pop.result c.pop.new.self.bytes left;
       used = omega (arith, c.pop.ensures.one, filled.unused);
     }

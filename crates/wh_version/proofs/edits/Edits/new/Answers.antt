@@ -10,5 +10,6 @@ returns c =
     let removed = c.args.removed.now in
     let changed = map kept_of c.args.changed.items in
     let rows : c.change.new.rows ≡ with_changed (with_removed empty removed) changed =
-    c.in_ok-change.ensures ∙ ap (λ r. with_changed r changed) (c.in_ok-remove.ensures ∙ ap (λ r. with_removed r removed) c.new-rows.ensures) in
+    c.in_ok-change.ensures ∙ ap (λ r. with_changed r changed)
+    (c.in_ok-remove.ensures ∙ ap (λ r. with_removed r removed) c.new-rows.ensures) in
     λ i. record { rows = rows i; added = c.args.added.items }

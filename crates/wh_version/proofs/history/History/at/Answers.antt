@@ -11,4 +11,5 @@ unfolding versions_of
 returns c =
     let h = c.args.self.now in
     c.last_up_to.ensures
-    ∙ sym (last_by_marks (λ v. nat_le v.data_timestamp c.args.timestamp) (is_up_to Data c.args.timestamp) h.kept.items (h.first ∷ h.later.items) h.first (λ place m. refl))
+    ∙ sym (last_by_marks (λ v. nat_le v.data_timestamp c.args.timestamp) (is_up_to Data c.args.timestamp) h.kept.items
+    (h.first ∷ h.later.items) h.first (λ place m. refl))

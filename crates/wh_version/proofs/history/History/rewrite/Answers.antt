@@ -13,8 +13,10 @@ returns-in_default-clause-fits c =
     let next = c.next_partition-next.ensures.number in
     let found : partitions_at c.deref-2.result.now ≡ touched e.rows (standing_in (versions_of h)) =
     ap partitions_at c.deref-2.ensures.value ∙ c.in_ok-touched.ensures ∙ ap (touched e.rows) c.kept.ensures in
-    let made = made_for c.next_partition-next.result (next_in (nexts_of h)) c.args.next_row e _ (standing_in (versions_of h)) next found in
-    sym (ap is_some c.in_default.is) ∙ c.in_ok-added.ensures.fits ∙ (λ i. nat_le (next i + length (made i)) 4611686018427387904)
+    let made = made_for c.next_partition-next.result (next_in (nexts_of h)) c.args.next_row e _
+    (standing_in (versions_of h)) next found in
+    sym (ap is_some c.in_default.is) ∙ c.in_ok-added.ensures.fits
+    ∙ (λ i. nat_le (next i + length (made i)) 4611686018427387904)
 
 pub returns-clause-fits : goal.returns-clause-fits
 returns-clause-fits c =
@@ -23,8 +25,10 @@ returns-clause-fits c =
     let next = c.next_partition-next.ensures.number in
     let found : partitions_at c.deref-2.result.now ≡ touched e.rows (standing_in (versions_of h)) =
     ap partitions_at c.deref-2.ensures.value ∙ c.in_ok-touched.ensures ∙ ap (touched e.rows) c.kept.ensures in
-    let made = made_for c.next_partition-next.result (next_in (nexts_of h)) c.args.next_row e _ (standing_in (versions_of h)) next found in
-    sym (ap is_some c.in-Some.is) ∙ c.in_ok-added.ensures.fits ∙ (λ i. nat_le (next i + length (made i)) 4611686018427387904)
+    let made = made_for c.next_partition-next.result (next_in (nexts_of h)) c.args.next_row e _
+    (standing_in (versions_of h)) next found in
+    sym (ap is_some c.in-Some.is) ∙ c.in_ok-added.ensures.fits
+    ∙ (λ i. nat_le (next i + length (made i)) 4611686018427387904)
 
 pub returns-clause-added : goal.returns-clause-added
 returns-clause-added c =
@@ -33,4 +37,5 @@ returns-clause-added c =
     let found : partitions_at c.deref-2.result.now ≡ touched e.rows (standing_in (versions_of h)) =
     ap partitions_at c.deref-2.ensures.value ∙ c.in_ok-touched.ensures ∙ ap (touched e.rows) c.kept.ensures in
     (rw c.in-Some.is at c.in_ok-added.ensures.made)
-    ∙ made_for c.next_partition-next.result (next_in (nexts_of h)) c.args.next_row e _ (standing_in (versions_of h)) c.next_partition-next.ensures.number found
+    ∙ made_for c.next_partition-next.result (next_in (nexts_of h)) c.args.next_row e _
+    (standing_in (versions_of h)) c.next_partition-next.ensures.number found

@@ -6,7 +6,8 @@ use Rattle.wh_version.specs.History.{versions_of}
 use Rattle.wh_version.proofs.Last.{standing_still}
 use Rattle.wh_version.proofs.Found.{none_there, one_there}
 use Rattle.wh_version.proofs.history.History.stands.Goals as goal
-use Rattle.wh_version.proofs.history.History.stands.Goals.{then-number-eq0-via-then-number-eq0, then-number-eq0-via-else-number-eq0+then-len-number}
+use Rattle.wh_version.proofs.history.History.stands.Goals.{then-number-eq0-via-then-number-eq0}
+use Rattle.wh_version.proofs.history.History.stands.Goals.{then-number-eq0-via-else-number-eq0+then-len-number}
 
 pub returns-then-number-eq0 : goal.returns-then-number-eq0
 unfolding versions_of
@@ -15,10 +16,13 @@ returns-then-number-eq0 c =
     let number = c.args.number in
     let sized = h.kept.ok.0 in
     let sized_later = h.later.ok.0 in
-    let standing = ap (list_any (λ p. nat_eq number p.number)) (standing_still h.kept.items h.first h.later.items (omega arith) h.marks h.gone) in
-    let none : list_any (λ p. nat_eq number p.number) (partitions_in (filter is_standing h.kept.items)) ≡ false = elim c.then-number-eq0.branch [
+    let standing = ap (list_any (λ p. nat_eq number p.number))
+    (standing_still h.kept.items h.first h.later.items (omega arith) h.marks h.gone) in
+    let none : list_any (λ p. nat_eq number p.number) (partitions_in (filter is_standing h.kept.items)) ≡ false =
+    elim c.then-number-eq0.branch [
       | then-number-eq0-via-then-number-eq0 w ↦ none_there number 1 h.kept.items h.numbers (inl (omega arith))
-      | then-number-eq0-via-else-number-eq0+then-len-number w ↦ none_there number 1 h.kept.items h.numbers (inr (omega (arith, w.len.ensures)))
+      | then-number-eq0-via-else-number-eq0+then-len-number w ↦
+          none_there number 1 h.kept.items h.numbers (inr (omega (arith, w.len.ensures)))
     ] in
     sym (standing ∙ none)
 
@@ -29,8 +33,10 @@ returns c =
     let number = c.args.number in
     let sized = h.kept.ok.0 in
     let sized_later = h.later.ok.0 in
-    let standing = ap (list_any (λ p. nat_eq number p.number)) (standing_still h.kept.items h.first h.later.items (omega arith) h.marks h.gone) in
+    let standing = ap (list_any (λ p. nat_eq number p.number))
+    (standing_still h.kept.items h.first h.later.items (omega arith) h.marks h.gone) in
     let k = c.index-one.result.now in
     let there = one_there 1 (number - 1) h.kept.items k h.numbers (omega (arith, c.len.ensures)) c.index-one.ensures in
     let same : 1 + (number - 1) ≡ number = omega arith in
-    sym (standing ∙ ap (λ n. list_any (λ p. nat_eq n p.number) (partitions_in (filter is_standing h.kept.items))) (sym same) ∙ there ∙ sym c.stands.ensures)
+    sym (standing ∙ ap (λ n. list_any (λ p. nat_eq n p.number) (partitions_in (filter is_standing h.kept.items)))
+    (sym same) ∙ there ∙ sym c.stands.ensures)

@@ -13,8 +13,10 @@ pub returns : goal.returns
 returns c =
     none_found c.is_some.result c.next.result c.is_some.ensures (λ none number above below.
     let ended = rw none at c.next.ensures.steps in
-    let from : is_gt (nat_cmp c.new.result.start number) ≡ false = not_greater _ _ (subst (λ n. n ≤ number) (sym c.new.ensures.start) above) in
-    let to : is_gt (nat_cmp number c.new.result.end) ≡ false = not_greater _ _ (subst (λ n. number ≤ n) (sym c.new.ensures.end) below) in
+    let from : is_gt (nat_cmp c.new.result.start number) ≡ false =
+    not_greater _ _ (subst (λ n. n ≤ number) (sym c.new.ensures.start) above) in
+    let to : is_gt (nat_cmp number c.new.result.end) ≡ false =
+    not_greater _ _ (subst (λ n. number ≤ n) (sym c.new.ensures.end) below) in
     ap (λ m. get m number) (sym c.self.view_is)
     ∙ gotten c.self.inside.map.entries number
     ∙ (c.range.ensures.in_range c.new.ensures.exhausted).5 ended.0 number (from, to))

@@ -14,6 +14,7 @@ invariant_of-self c =
 pub returns : goal.returns
 returns c =
     let log : c.push.new.self.items ≡ c.self.inside.log.items ++ Synced ∷ [] = search rules in
-    let past : events [] c.push.new.self.items c.self.inside.pieces.items ≡ synced ∷ events [] c.self.inside.log.items c.self.inside.pieces.items =
+    let past : events [] c.push.new.self.items c.self.inside.pieces.items
+    ≡ synced ∷ events [] c.self.inside.log.items c.self.inside.pieces.items =
     rw log (events_synced [] c.self.inside.log.items c.self.inside.pieces.items) in
     rw (← c.self.view_is, past) refl

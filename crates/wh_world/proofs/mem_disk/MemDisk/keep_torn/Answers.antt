@@ -14,6 +14,7 @@ invariant_of-self c =
 pub returns : goal.returns
 returns c =
     let log : c.push.new.self.items ≡ c.self.inside.log.items ++ Tore c.args.at c.args.size ∷ [] = search rules in
-    let past : events [] c.push.new.self.items c.self.inside.pieces.items ≡ tore c.args.at c.args.size ∷ events [] c.self.inside.log.items c.self.inside.pieces.items =
+    let past : events [] c.push.new.self.items c.self.inside.pieces.items
+    ≡ tore c.args.at c.args.size ∷ events [] c.self.inside.log.items c.self.inside.pieces.items =
     rw log (events_tore [] c.self.inside.log.items c.self.inside.pieces.items c.args.at c.args.size) in
     rw (← c.self.view_is, past) refl

@@ -13,4 +13,5 @@ returns-clause-crash c =
 
 pub returns-clause-time : goal.returns-clause-time
 returns-clause-time c =
-    goes_on c.args.self.now c.keep_write.new.self (wrote c.args.at c.args.piece.now) (length c.args.piece.now) (search rules)
+    goes_on c.args.self.now c.keep_write.new.self (wrote c.args.at c.args.piece.now)
+    (length c.args.piece.now) (search rules)
