@@ -88,8 +88,6 @@ SELECT SYSTEM$STREAM_HAS_DATA('S');
 CREATE TASK A AS DELETE FROM U;
 -- dynamic tables neither
 CREATE DYNAMIC TABLE D TARGET_LAG = DOWNSTREAM AS SELECT K FROM U;
--- nor transactions
-BEGIN;
 -- in a session too many this isn't looked at
 !session 65
 COMMIT;

@@ -13,7 +13,8 @@ use Rattle.wh_catalog.specs.Catalog.{stored_of}
 use Rattle.wh_engine.specs.Warehouse.{Filed, IsSettled, machine_of, made_in, led_to}
 use Rattle.wh_engine.specs.declared.warehouse.Warehouse.{Warehouse}
 
-pub record CarriesOut {D : Type 0} {seen : Ghosts D} (old new : Warehouse D seen) (commit : Option Commit) (machine : Machine) : Type 0 where
+pub record CarriesOut {D : Type 0} {seen : Ghosts D} (old new : Warehouse D seen) (commit : Option Commit)
+    (machine : Machine) : Type 0 where
   pub stepped : machine_of new ≡ machine
   pub stored : stored_of new.catalog ≡ kept_after (stored_of old.catalog) commit
   -- the file goes with the state, and what was all on the disk still is
@@ -31,6 +32,7 @@ pub record CarriesOut {D : Type 0} {seen : Ghosts D} (old new : Warehouse D seen
   pub still_healthy : failed_of new.journal ≡ None
   pub no_fault : seen.faults new.disk ≡ seen.faults old.disk
 
-pub record Answered {D : Type 0} {seen : Ghosts D} (old new : Warehouse D seen) (event : Event) (reply : Reply) : Type 0 where
+pub record Answered {D : Type 0} {seen : Ghosts D} (old new : Warehouse D seen)
+    (event : Event) (reply : Reply) : Type 0 where
   pub replied : reply ≡ (step (machine_of old) event).1
   pub carried : CarriesOut old new (made_in old event) (led_to old event)

@@ -33,7 +33,7 @@ changes_of changes = map change_of changes.items
 -- ---- what becomes of the sessions, and of the file
 
 abbrev pub transaction_or_new : Option Transaction → ℕ → Transaction
-transaction_or_new open stamp = unwrap_or open (begun stamp)
+transaction_or_new found stamp = unwrap_or found (begun stamp)
 
 abbrev pub sessions_after : ℕ → Sessions → Settlement → Sessions
 sessions_after stamp sessions settlements.Answers = sessions
@@ -62,7 +62,8 @@ planned s stamp (Refuses why) = Declines why
 planned s stamp (Does reply sessions acts) = Goes reply sessions (option_map (written stamp s.objects) acts)
 
 -- a decision comes to that outcome, where those transactions are open
-pub record Decides (s : Stored) (sessions : Sessions) (stamp : ℕ) (decision : Decision) (outcome : Outcome) : Type 0 where
+pub record Decides
+    (s : Stored) (sessions : Sessions) (stamp : ℕ) (decision : Decision) (outcome : Outcome) : Type 0 where
   pub same : plan_of stamp sessions decision ≡ planned s stamp outcome
 
 abbrev pub commit_at : ℕ → Option (List machine.Change) → Option machine.Commit

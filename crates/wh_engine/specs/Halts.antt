@@ -11,7 +11,8 @@ use Rattle.wh_engine.specs.declared.fault.Halt.TheVariants.{DiskFault, FileFull,
 use Rattle.wh_engine.specs.declared.warehouse.Warehouse.{Warehouse}
 
 -- the commit is the one that was to be added, if there was one
-pub record Halted {D : Type 0} {seen : Ghosts D} (old new : Warehouse D seen) (commit : Option Commit) (halt : Halt) : Type 0 where
+pub record Halted {D : Type 0} {seen : Ghosts D} (old new : Warehouse D seen) (commit : Option Commit)
+    (halt : Halt) : Type 0 where
   pub state : machine_of new ≡ machine_of old
   -- an earlier failure, exactly
   pub needs_reopen : (faults : ℕ) → (halt ≡ NeedsReopen faults) ↔ (failed_of old.journal ≡ Some faults)

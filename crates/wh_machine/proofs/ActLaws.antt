@@ -3,14 +3,19 @@
 --     act_meant                   one act, over a table whose partitions are orderly
 --     IsOfOneStatement            the acts that a statement may come to
 --     acts_meant, written_meant   these, and their commit
-use Rattle.std.proofs.Common.{◌≡◌, ℕ, suc, ◌+◌, ◌<◌, ◌≤◌, List, [], ◌∷◌, ◌++◌, length, map, Option, Some, None, option_map}
+use Rattle.std.proofs.Common.{◌≡◌, ℕ, suc, ◌+◌, ◌<◌, ◌≤◌, List, [], ◌∷◌, ◌++◌, length, map}
+use Rattle.std.proofs.Common.{Option, Some, None, option_map}
 use Rattle.std.proofs.Common.{refl, sym, ap, subst, ◌∙◌, arith}
 use Rattle.std.proofs.lemmas.List.{map-append}
-use Rattle.wh_machine.specs.State.{Rows, Contents, nothing_held, Version, Table, Object, at_id, with_id, put_at, dropped, last_content, version_at, stamped}
+use Rattle.wh_machine.specs.State.{Rows, Contents, nothing_held, Version, Table, Object, at_id, with_id, put_at}
+use Rattle.wh_machine.specs.State.{dropped, last_content, version_at, stamped}
 use Rattle.wh_machine.specs.Edits.{Edits, numbers_gone, partitions_made, without, contents_after}
-use Rattle.wh_machine.specs.Outcome.{Act, MakesTable, DropsObject, EditsRows, edited_table, edited_object, acted, all_acted, done}
-use Rattle.wh_machine.specs.Stored.{StoredTable, StoredKind, StoredTableKind, StoredObject, Stored, standing, contents_meant, version_meant, table_meant, object_meant, meant}
-use Rattle.wh_machine.specs.Commit.{Change, TableChange, VersionChange, CreatesTable, Drops, pushed, pushed_object, changed, all_changed, applied}
+use Rattle.wh_machine.specs.Outcome.{Act, MakesTable, DropsObject, EditsRows, edited_table, edited_object, acted}
+use Rattle.wh_machine.specs.Outcome.{all_acted, done}
+use Rattle.wh_machine.specs.Stored.{StoredTable, StoredKind, StoredTableKind, StoredObject, Stored, standing}
+use Rattle.wh_machine.specs.Stored.{contents_meant, version_meant, table_meant, object_meant, meant}
+use Rattle.wh_machine.specs.Commit.{Change, TableChange, VersionChange, CreatesTable, Drops, pushed, pushed_object}
+use Rattle.wh_machine.specs.Commit.{changed, all_changed, applied}
 use Rattle.wh_machine.specs.Orderly.{IsOrderly, IsOrderlyKind, IsOrderlyObject, IsOrderlyStored}
 use Rattle.wh_machine.specs.Written.{version_written, version_written_to, act_written, written, commit_for}
 use Rattle.wh_machine.proofs.AllLaws.{all_at}
@@ -164,7 +169,8 @@ all_changed_append stamp objects (c ∷ cs) ds = all_changed_append stamp (chang
 -- an act, and then others
 more_meant : (stamp : ℕ) (objects : List StoredObject) (act : Act) (acts : List Act) → OrderlyFor objects act
     → ((first : List StoredObject) → first ≡ all_changed stamp objects (act_written stamp objects act)
-    → map object_meant (all_changed stamp first (written stamp first acts)) ≡ all_acted stamp (map object_meant first) acts)
+    → map object_meant (all_changed stamp first (written stamp first acts))
+    ≡ all_acted stamp (map object_meant first) acts)
     → map object_meant (all_changed stamp objects (written stamp objects (act ∷ acts)))
     ≡ all_acted stamp (map object_meant objects) (act ∷ acts)
 more_meant stamp objects act acts orderly rest =
@@ -193,14 +199,16 @@ OrderlyFrom least objects = (id : ℕ) → least ≤ id → OrderlyAt (at_id obj
 
 edits_all_meant : (stamp least : ℕ) (objects : List StoredObject) (acts : List Act) → AreEditsFrom least acts
     → OrderlyFrom least objects
-    → map object_meant (all_changed stamp objects (written stamp objects acts)) ≡ all_acted stamp (map object_meant objects) acts
+    → map object_meant (all_changed stamp objects (written stamp objects acts))
+    ≡ all_acted stamp (map object_meant objects) acts
 edits_all_meant stamp least objects [] rising orderly = refl
 edits_all_meant stamp least objects (MakesTable name columns retention ∷ acts) rising orderly = absurd rising
 edits_all_meant stamp least objects (DropsObject id ∷ acts) rising orderly = absurd rising
 edits_all_meant stamp least objects (EditsRows id e ∷ acts) rising orderly =
     more_meant stamp objects (EditsRows id e) acts (orderly id rising.0) (λ first is.
     edits_all_meant stamp (suc id) first acts rising.1 (λ later h.
-    subst OrderlyAt (sym (ap (λ (l : List StoredObject). at_id l later) is ∙ edit_leaves stamp id e objects later (omega arith)))
+    subst OrderlyAt
+    (sym (ap (λ (l : List StoredObject). at_id l later) is ∙ edit_leaves stamp id e objects later (omega arith)))
     (orderly later (omega (arith, rising.0)))))
 
 orderly_from : (s : Stored) → IsOrderlyStored s → OrderlyFrom 0 s.objects
@@ -216,7 +224,8 @@ pub acts_meant : (s : Stored) (stamp : ℕ) (acts : List Act) → IsOfOneStateme
 acts_meant s stamp [] shape orderly = refl
 acts_meant s stamp (MakesTable n c r ∷ []) shape orderly =
     more_meant stamp s.objects (MakesTable n c r) [] tt (λ first is. refl)
-acts_meant s stamp (DropsObject id ∷ []) shape orderly = more_meant stamp s.objects (DropsObject id) [] tt (λ first is. refl)
+acts_meant s stamp (DropsObject id ∷ []) shape orderly =
+    more_meant stamp s.objects (DropsObject id) [] tt (λ first is. refl)
 acts_meant s stamp (DropsObject id ∷ MakesTable name columns retention ∷ []) shape orderly =
     more_meant stamp s.objects (DropsObject id) (MakesTable name columns retention ∷ []) tt
     (λ first is. more_meant stamp first (MakesTable name columns retention) [] tt (λ second at. refl))

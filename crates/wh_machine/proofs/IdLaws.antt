@@ -59,12 +59,14 @@ get_other (y ∷ ys) zero (suc later) x h = refl
 get_other (y ∷ ys) (suc place) zero x h = absurd (omega arith)
 get_other (y ∷ ys) (suc place) (suc later) x h = get_other ys place later x (omega arith)
 
-with_other : {X : Type 0} (xs : List X) (id later : ℕ) (x : X) → id < later → at_id (with_id xs id x) later ≡ at_id xs later
+with_other : {X : Type 0} (xs : List X) (id later : ℕ) (x : X) → id < later
+    → at_id (with_id xs id x) later ≡ at_id xs later
 with_other xs zero later x h = refl
 with_other xs (suc place) zero x h = absurd (omega arith)
 with_other xs (suc place) (suc later) x h = get_other xs place later x (omega arith)
 
-pub at_other : {X : Type 0} (f : X → X) (xs : List X) (id later : ℕ) → id < later → at_id (changed_at xs id f) later ≡ at_id xs later
+pub at_other : {X : Type 0} (f : X → X) (xs : List X) (id later : ℕ) → id < later
+    → at_id (changed_at xs id f) later ≡ at_id xs later
 at_other f xs id later h = by_found (at_id xs id)
   where
     by_found : (found : Option _) → at_id (put_at xs id (option_map f found)) later ≡ at_id xs later

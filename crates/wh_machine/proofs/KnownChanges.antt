@@ -9,7 +9,8 @@ use Rattle.std.specs.Ordering.{nat_cmp, eq_by_cmp}
 use Rattle.std.specs.Cmp.{nat_cmp_total}
 use Rattle.wh_value.specs.Value.{Number, Row}
 use Rattle.wh_value.specs.Column.{NumberType}
-use Rattle.wh_machine.specs.State.{Rows, Contents, Table, TableKind, State, Version, nothing_held, version_at, last_rows, last_partitions}
+use Rattle.wh_machine.specs.State.{Rows, Contents, Table, TableKind, State, Version, nothing_held, version_at}
+use Rattle.wh_machine.specs.State.{last_rows, last_partitions}
 use Rattle.wh_machine.specs.Edits.{RowEdits, Edits, rows_after, partitions_made}
 use Rattle.wh_machine.specs.Outcome.{edited_table}
 use Rattle.wh_machine.proofs.KnownFacts.{entries-empty}
@@ -33,12 +34,17 @@ table_t = record {
 }
 
 abbrev pub filled : State
-filled = record { last = 3; committed = 2; objects = record { name = codes "T"; is_live = true; created = 1; kind = TableKind table_t } ∷ [] }
+filled = record {
+  last = 3;
+  committed = 2;
+  objects = record { name = codes "T"; is_live = true; created = 1; kind = TableKind table_t } ∷ [];
+}
 
 pub row_put : (rows : Rows) (k : ℕ) (row : Row) → entries (insert rows k row) ≡ put nat_cmp k row (entries rows)
 row_put rows k row = entries-insert nat_cmp_total rows k row
 
-pub edit_put : (edits : RowEdits) (k : ℕ) (new : Option Row) (q : ℕ) → get (insert edits k new) q ≡ cond (eq_by_cmp nat_cmp q k) (Some new) (get edits q)
+pub edit_put : (edits : RowEdits) (k : ℕ) (new : Option Row) (q : ℕ)
+    → get (insert edits k new) q ≡ cond (eq_by_cmp nat_cmp q k) (Some new) (get edits q)
 edit_put edits k new q = get-insert nat_cmp_total edits k new q
 
 pub edit_none : (q : ℕ) → get (empty {K = ℕ} {X = Option Row} {R = nat_cmp}) q ≡ None

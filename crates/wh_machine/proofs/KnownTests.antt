@@ -13,7 +13,8 @@ use Rattle.wh_naming.specs.Findings.{nothing_found, mistyped_if, first_failing}
 use Rattle.wh_naming.specs.Changes.{InsertRows, Update, Delete, Merge}
 use Rattle.wh_effect.specs.Effect as effects
 use Rattle.wh_effect.specs.Effect.{Effect}
-use Rattle.wh_reply.specs.Reply.{NameTaken, TypeMismatch, OverLimit, NumberOutOfRange, AmbiguousMerge, Inserted, Updated, Deleted, Merged, refusal_text}
+use Rattle.wh_reply.specs.Reply.{NameTaken, TypeMismatch, OverLimit, NumberOutOfRange, AmbiguousMerge, Inserted}
+use Rattle.wh_reply.specs.Reply.{Updated, Deleted, Merged, refusal_text}
 use Rattle.wh_machine.specs.State.{State, Table, TableKind, Object, first_state, nothing_held, new_table, id_of}
 use Rattle.wh_machine.specs.Edits.{edits_of, partitions_made}
 use Rattle.wh_machine.specs.Outcome.{Refuses, EditsRows, answers, commits}
@@ -133,7 +134,8 @@ given_as : (given 1 (InsertRows []) effects.Undefined ≡ Fails NumberOutOfRange
 given_as = (refl, refl, refl)
 
 -- one that is past a limit, one in which no row counts, and one that makes a commit
-settled_as : (settled_effect 1 (InsertRows []) (adding one) (Some (next_at 4611686018427387904 1)) ≡ Refuses (OverLimit limits.RowNumber))
+settled_as : (settled_effect 1 (InsertRows []) (adding one) (Some (next_at 4611686018427387904 1))
+    ≡ Refuses (OverLimit limits.RowNumber))
     × (settled_effect 1 (InsertRows []) (adding []) (Some (next_at 1 1)) ≡ answers (Inserted 0))
     × (settled_effect 7 (InsertRows []) (adding one) (Some (next_at 1 1))
     ≡ commits (Inserted 1) (EditsRows 7 (record { rows = empty; added = one }) ∷ []))

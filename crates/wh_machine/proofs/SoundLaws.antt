@@ -9,9 +9,11 @@ use Rattle.std.specs.FinMap.{get}
 use Rattle.std.proofs.lemmas.Bool.{cases_lt}
 use Rattle.wh_value.specs.Value.{Row}
 use Rattle.wh_value.specs.Column.{Column}
-use Rattle.wh_machine.specs.State.{Version, Table, Kind, TableKind, Object, State, nothing_held, new_table, new_object, dropped, version_at, last_rows, first_state, at_rest, at_id, put_at}
+use Rattle.wh_machine.specs.State.{Version, Table, Kind, TableKind, Object, State, nothing_held, new_table, new_object}
+use Rattle.wh_machine.specs.State.{dropped, version_at, last_rows, first_state, at_rest, at_id, put_at}
 use Rattle.wh_machine.specs.Edits.{Edits}
-use Rattle.wh_machine.specs.Outcome.{Act, MakesTable, DropsObject, EditsRows, next_contents, edited_table, edited_kind, edited_object, acted, all_acted, done}
+use Rattle.wh_machine.specs.Outcome.{Act, MakesTable, DropsObject, EditsRows, next_contents, edited_table, edited_kind}
+use Rattle.wh_machine.specs.Outcome.{edited_object, acted, all_acted, done}
 use Rattle.wh_machine.specs.Sound.{IsTimely, IsBelow, IsSoundTable, IsSoundKind, IsSoundObject, Sound}
 use Rattle.wh_machine.proofs.AllLaws.{all_map, all_more, all_at, all_with, all_changed_at}
 use Rattle.wh_machine.proofs.IdLaws.{at_other}
@@ -137,7 +139,8 @@ SoundAt committed (Some o) = IsSoundObject committed o
 abbrev SoundFrom : ℕ → ℕ → List Object → Type 0
 SoundFrom committed least objects = (id : ℕ) → least ≤ id → SoundAt committed (at_id objects id)
 
-sound_from : (committed : ℕ) (objects : List Object) → AllByRecursion (IsSoundObject committed) objects → SoundFrom committed 0 objects
+sound_from : (committed : ℕ) (objects : List Object) → AllByRecursion (IsSoundObject committed) objects
+    → SoundFrom committed 0 objects
 sound_from committed objects sound id h = by_found (at_id objects id) refl
   where
     by_found : (found : Option Object) → at_id objects id ≡ found → SoundAt committed found
@@ -153,10 +156,11 @@ edit_sound committed stamp id e later objects sound here = by_found (at_id objec
         → AllByRecursion (IsSoundObject stamp) (put_at objects id (option_map (edited_object stamp e) found))
     by_found None here = sound
     by_found (Some o) here =
-        all_with (IsSoundObject stamp) objects id (edited_object stamp e o) sound (edited_object_sound committed stamp e later o here)
+        all_with (IsSoundObject stamp) objects id (edited_object stamp e o) sound
+        (edited_object_sound committed stamp e later o here)
 
-edits_sound : (committed stamp least : ℕ) → committed < stamp → (objects : List Object) (acts : List Act) → AreEditsFrom least acts
-    → AllByRecursion (IsSoundObject stamp) objects → SoundFrom committed least objects
+edits_sound : (committed stamp least : ℕ) → committed < stamp → (objects : List Object) (acts : List Act)
+    → AreEditsFrom least acts → AllByRecursion (IsSoundObject stamp) objects → SoundFrom committed least objects
     → AllByRecursion (IsSoundObject stamp) (all_acted stamp objects acts)
 edits_sound committed stamp least later objects [] rising sound before = sound
 edits_sound committed stamp least later objects (MakesTable n c r ∷ acts) rising sound before = absurd rising
@@ -167,8 +171,9 @@ edits_sound committed stamp least later objects (EditsRows id e ∷ acts) rising
     (λ other h. subst (SoundAt committed) (sym (at_other (edited_object stamp e) objects id other (omega arith)))
     (before other (omega (arith, rising.0))))
 
-acts_sound : (committed stamp : ℕ) → committed < stamp → (objects : List Object) → AllByRecursion (IsSoundObject committed) objects
-    → (acts : List Act) → IsOfOneStatement acts → AllByRecursion (IsSoundObject stamp) (all_acted stamp objects acts)
+acts_sound : (committed stamp : ℕ) → committed < stamp → (objects : List Object)
+    → AllByRecursion (IsSoundObject committed) objects → (acts : List Act) → IsOfOneStatement acts
+    → AllByRecursion (IsSoundObject stamp) (all_acted stamp objects acts)
 acts_sound committed stamp later objects sound [] shape =
     all_map (IsSoundObject committed) (IsSoundObject stamp) (object_later committed stamp (omega arith)) objects sound
 acts_sound committed stamp later objects sound (MakesTable n c r ∷ []) shape =
@@ -198,6 +203,7 @@ pub sound_rest : (s : State) → Sound s → Sound (at_rest s)
 sound_rest s sound = record { ordered = omega arith; objects = sound.objects }
 
 -- a commit of the acts of a statement at a stamp past the last commit
-pub sound_done : (s : State) → s.committed < s.last → Sound s → (acts : List Act) → IsOfOneStatement acts → Sound (done s acts)
+pub sound_done : (s : State) → s.committed < s.last → Sound s → (acts : List Act) → IsOfOneStatement acts
+    → Sound (done s acts)
 sound_done s later sound acts shape =
     record { ordered = omega arith; objects = acts_sound s.committed s.last later s.objects sound.objects acts shape }

@@ -7,12 +7,14 @@ use Rattle.std.specs.FinMap.{entries}
 use Rattle.wh_value.specs.Value.{Row}
 use Rattle.wh_value.specs.declared.limit.Limit.TheVariants as limits
 use Rattle.wh_naming.specs.Changes.{BoundChange, Change, InsertRows, InsertQuery, Update, Delete, Merge}
-use Rattle.wh_reply.specs.Reply.{Refusal, Reply, TypeMismatch, NumberOutOfRange, AmbiguousMerge, Inserted, Updated, Deleted, Merged}
+use Rattle.wh_reply.specs.Reply.{Refusal, Reply, TypeMismatch, NumberOutOfRange, AmbiguousMerge, Inserted, Updated}
+use Rattle.wh_reply.specs.Reply.{Deleted, Merged}
 use Rattle.wh_effect.specs.Effect as effects
 use Rattle.wh_effect.specs.Effect.{Kept, Effect, effect}
 use Rattle.wh_machine.specs.State.{Object, Table, last_rows}
 use Rattle.wh_machine.specs.Edits.{edits_of}
-use Rattle.wh_machine.specs.Outcome.{Outcome, Refuses, EditsRows, answers, commits, refused_past, first_of, unless, table_partitions_made}
+use Rattle.wh_machine.specs.Outcome.{Outcome, Refuses, EditsRows, answers, commits, refused_past, first_of, unless}
+use Rattle.wh_machine.specs.Outcome.{table_partitions_made}
 use Rattle.wh_machine.specs.Queries.{instance_of}
 
 -- the first number that would pass its limit

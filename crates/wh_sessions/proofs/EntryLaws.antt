@@ -19,11 +19,13 @@ rise_weaker : (least more : ℕ) (es : List (ℕ × Staged)) → least ≤ more 
 rise_weaker least more [] h rising = tt
 rise_weaker least more (e ∷ es) h rising = (omega (arith, rising.0), rising.1)
 
-rise_filter : (test : ℕ × Staged → Bool) (least : ℕ) (es : List (ℕ × Staged)) → RiseFrom least es → RiseFrom least (filter test es)
+rise_filter : (test : ℕ × Staged → Bool) (least : ℕ) (es : List (ℕ × Staged)) → RiseFrom least es
+    → RiseFrom least (filter test es)
 rise_filter test least [] rising = tt
 rise_filter test least (e ∷ es) rising = by_test (test e) (rise_filter test (suc e.0) es rising.1)
   where
-    by_test : (b : Bool) → RiseFrom (suc e.0) (filter test es) → RiseFrom least (cond b (e ∷ filter test es) (filter test es))
+    by_test : (b : Bool) → RiseFrom (suc e.0) (filter test es)
+        → RiseFrom least (cond b (e ∷ filter test es) (filter test es))
     by_test true rest = (rising.0, rest)
     by_test false rest = rise_weaker least (suc e.0) (filter test es) (omega (arith, rising.0)) rest
 
@@ -47,8 +49,10 @@ sorted_rise least [] sorted first = tt
 sorted_rise least (e ∷ []) sorted first = (first e [] refl, tt)
 sorted_rise least (e ∷ f ∷ es) sorted first =
     let parts = both_hold (below_all nat_cmp e.0 (f ∷ es)) (is_sorted nat_cmp (f ∷ es)) sorted in
-    let next = both_hold (is_lt (nat_cmp e.0 f.0)) (below_all nat_cmp e.0 es) parts.0 in
-    (first e (f ∷ es) refl, sorted_rise (suc e.0) (f ∷ es) parts.1 (λ g others is. grind (arith, less_is e.0 f.0 next.0)))
+    let next = both_hold (is_lt (nat_cmp e.0 f.0)) (below_all nat_cmp e.0 es) parts.0 in (
+      first e (f ∷ es) refl,
+      sorted_rise (suc e.0) (f ∷ es) parts.1 (λ g others is. grind (arith, less_is e.0 f.0 next.0)),
+    )
 
 pub entries_rise : (t : Transaction) → RiseFrom 0 (touched t)
 entries_rise t =

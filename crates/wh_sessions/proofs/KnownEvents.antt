@@ -51,7 +51,8 @@ abbrev column : List ℕ → types_of.ColumnType → columns.Column
 column name type = record { name = name; column_type = type }
 
 abbrev creation : Bool → List ℕ → List columns.Column → Option ℕ → tree.Statement
-creation replace name columns retention = st.CreateTable (record { replace = replace; name = name; columns = columns; retention = retention })
+creation replace name columns retention =
+    st.CreateTable (record { replace = replace; name = name; columns = columns; retention = retention })
 
 abbrev pub insertion_into : List ℕ → List (List Expr) → Dml
 insertion_into table found = dml.Insert table None (rows.Values found)
@@ -75,18 +76,25 @@ replacing_t = creation true (codes "T") (column (codes "K") types.Number ∷ [])
 abbrev pub drop_t : tree.Statement
 drop_t = st.DropTable (codes "T")
 
-forms : (form_of table_t ≡ Some (CreateTable false (codes "T") (record { name = codes "K"; column_type = NumberType } ∷ []) 1))
-    × (form_of (creation true (codes "T") [] (Some 7)) ≡ Some (CreateTable true (codes "T") [] 7)) × (form_of drop_t ≡ Some (DropTable (codes "T")))
-    × (form_of (insertion (codes "T") []) ≡ Some (ChangeRows (insertion_into (codes "T") []))) × (form_of st.Begin ≡ Some Begin)
+forms : (form_of table_t
+    ≡ Some (CreateTable false (codes "T") (record { name = codes "K"; column_type = NumberType } ∷ []) 1))
+    × (form_of (creation true (codes "T") [] (Some 7)) ≡ Some (CreateTable true (codes "T") [] 7))
+    × (form_of drop_t ≡ Some (DropTable (codes "T")))
+    × (form_of (insertion (codes "T") []) ≡ Some (ChangeRows (insertion_into (codes "T") [])))
+    × (form_of st.Begin ≡ Some Begin)
 forms = (refl, refl, refl, refl, refl)
 
 -- what a literal stands for, wherever it stands
-pub literal_typed : (c : values_of.Value) (context : Context) (calls : ℕ) → typed (roll-Expr (Expr-F.Const c)) context calls ≡ typing.step (Expr-F.Const c) context calls
-literal_typed c context calls = ap (λ (r : Reading). r context calls) (fold-roll-Expr Reading typing.step (Expr-F.Const c))
+pub literal_typed : (c : values_of.Value) (context : Context) (calls : ℕ)
+    → typed (roll-Expr (Expr-F.Const c)) context calls ≡ typing.step (Expr-F.Const c) context calls
+literal_typed c context calls =
+    ap (λ (r : Reading). r context calls) (fold-roll-Expr Reading typing.step (Expr-F.Const c))
 
 -- the first name that comes again, and one that is kept for streams
-taken : (taken_name (codes "A" ∷ codes "B" ∷ codes "B" ∷ codes "A" ∷ []) ≡ Some (codes "A")) × (taken_name (codes "K" ∷ codes "METADATA$A" ∷ codes "K" ∷ []) ≡ Some (codes "K"))
-    × (taken_name (codes "A" ∷ codes "METADATA$A" ∷ []) ≡ Some (codes "METADATA$A")) × (taken_name (codes "metadata$k" ∷ codes "K" ∷ []) ≡ None)
+taken : (taken_name (codes "A" ∷ codes "B" ∷ codes "B" ∷ codes "A" ∷ []) ≡ Some (codes "A"))
+    × (taken_name (codes "K" ∷ codes "METADATA$A" ∷ codes "K" ∷ []) ≡ Some (codes "K"))
+    × (taken_name (codes "A" ∷ codes "METADATA$A" ∷ []) ≡ Some (codes "METADATA$A"))
+    × (taken_name (codes "metadata$k" ∷ codes "K" ∷ []) ≡ None)
 taken = (refl, refl, refl, refl)
 
 -- ---- events and their replies
@@ -95,35 +103,52 @@ taken = (refl, refl, refl, refl)
 refused : text first (asked table_t ∷ asked table_t
     ∷ asked (insertion (codes "T") ((number 1 ∷ number 2 ∷ []) ∷ [])) ∷ [])
     ≡ codes "CREATED TABLE T\nE7 NameTaken T\nE9 TypeMismatch\n"
-unfolding step commanded carried_out defines create_table drop_table table_refusal changes_rows changed seen bound_change first_failing typing.step print digits
+unfolding step commanded carried_out defines create_table drop_table table_refusal changes_rows changed seen
+    bound_change first_failing typing.step print digits
 refused = simp literal_typed
 
 unknown : text first (asked (insertion (codes "U") ((number 1 ∷ []) ∷ [])) ∷ asked (st.DropTable (codes "U"))
     ∷ asked (st.DropStream (codes "S")) ∷ Command 0 65 Unreadable ∷ Command 0 65 TooLong ∷ Tick 5 ∷ [])
     ≡ codes "E6 UnknownName U\nE6 UnknownName U\nE0 Unsupported\nE1 SyntaxError\nE13 Limit STATEMENT 65536\nIDLE\n"
-unfolding step commanded carried_out defines create_table drop_table table_refusal changes_rows changed seen bound_change first_failing typing.step print digits
+unfolding step commanded carried_out defines create_table drop_table table_refusal changes_rows changed seen
+    bound_change first_failing typing.step print digits
 unknown = refl
 
--- a dropped name is unknown, and free for a new table; OR REPLACE takes the place of a table, or of none
-dropped : text first (asked table_t ∷ asked drop_t ∷ asked (insertion (codes "T") ((number 1 ∷ []) ∷ [])) ∷ asked drop_t ∷ asked table_t ∷ asked replacing_t ∷ asked drop_t ∷ asked replacing_t ∷ [])
-    ≡ codes "CREATED TABLE T\nDROPPED TABLE T\nE6 UnknownName T\nE6 UnknownName T\nCREATED TABLE T\nCREATED TABLE T\nDROPPED TABLE T\nCREATED TABLE T\n"
-unfolding step commanded carried_out defines create_table drop_table table_refusal changes_rows changed seen bound_change first_failing typing.step print digits
+-- a dropped name is unknown, and free for a new table
+dropped : text first (asked table_t ∷ asked drop_t ∷ asked (insertion (codes "T") ((number 1 ∷ []) ∷ [])) ∷ asked drop_t
+    ∷ asked table_t ∷ [])
+    ≡ codes "CREATED TABLE T\nDROPPED TABLE T\nE6 UnknownName T\nE6 UnknownName T\nCREATED TABLE T\n"
+unfolding step commanded carried_out defines create_table drop_table table_refusal changes_rows changed seen
+    bound_change first_failing typing.step print digits
 dropped = refl
+
+-- OR REPLACE takes the place of a table, or of none
+replaced : text first (asked table_t ∷ asked replacing_t ∷ asked drop_t ∷ asked replacing_t ∷ [])
+    ≡ codes "CREATED TABLE T\nCREATED TABLE T\nDROPPED TABLE T\nCREATED TABLE T\n"
+unfolding step commanded carried_out defines create_table drop_table table_refusal print digits
+replaced = refl
 
 -- rows of values
 inserted : text first (asked table_t ∷ asked (insertion (codes "T") ((number 1 ∷ []) ∷ (number 7 ∷ []) ∷ [])) ∷ [])
     ≡ codes "CREATED TABLE T\nINSERTED 2\n"
-unfolding step commanded carried_out defines create_table drop_table table_refusal changes_rows changed seen bound_change first_failing typing.step effect values_on val edits_refusal edited_table partitions_made edits_of print digits
+unfolding step commanded carried_out defines create_table drop_table table_refusal changes_rows
+    changed seen bound_change first_failing typing.step effect values_on val edits_refusal edited_table
+    partitions_made edits_of print digits
 inserted = simp literal_typed
 
 -- nothing goes where the condition holds on no row
-none_go : text first (asked table_t ∷ asked (st.Dml (dml.Delete (codes "T") None)) ∷ asked (st.Dml (dml.Update (codes "T") [] None)) ∷ asked (st.Dml (dml.Delete (codes "T") (Some (number 1)))) ∷ asked (st.Dml (dml.Delete (codes "U") None)) ∷ [])
+none_go : text first
+    (asked table_t ∷ asked (st.Dml (dml.Delete (codes "T") None)) ∷ asked (st.Dml (dml.Update (codes "T") [] None))
+    ∷ asked (st.Dml (dml.Delete (codes "T") (Some (number 1)))) ∷ asked (st.Dml (dml.Delete (codes "U") None)) ∷ [])
     ≡ codes "CREATED TABLE T\nDELETED 0\nUPDATED 0\nE9 TypeMismatch\nE6 UnknownName U\n"
-unfolding step commanded carried_out defines create_table drop_table table_refusal changes_rows changed seen bound_change first_failing typing.step effect values_on val edits_refusal edited_table partitions_made edits_of print digits
+unfolding step commanded carried_out defines create_table drop_table table_refusal changes_rows
+    changed seen bound_change first_failing typing.step effect values_on val edits_refusal edited_table
+    partitions_made edits_of print digits
 none_go = simp (literal_typed, entries-empty)
 
 -- a session that there isn't is tested behind the grammar
-session : ((step first (Command 0 65 (Asked st.Begin))).1 ≡ Refused (NoSuchSession 65)) × ((step first (Command 0 0 (Asked st.Begin))).1 ≡ Refused (NoSuchSession 0))
+session : ((step first (Command 0 65 (Asked st.Begin))).1 ≡ Refused (NoSuchSession 65))
+    × ((step first (Command 0 0 (Asked st.Begin))).1 ≡ Refused (NoSuchSession 0))
     × ((step first (Command 0 64 (Asked st.Begin))).1 ≡ Begun 1)
 unfolding step commanded carried_out begin
 session = (refl, refl, refl)
@@ -136,7 +161,8 @@ unfolding step commanded print digits
 last_stamp = (refl, refl, refl)
 
 -- a stamp is the reading, or the one behind the last
-stamps : ((step first (Tick 0)).0.state.last ≡ 1) × ((step (step first (Tick 7)).0 (Tick 5)).0.state.last ≡ 8) × ((step first (Tick 9)).0.state.committed ≡ 0)
+stamps : ((step first (Tick 0)).0.state.last ≡ 1) × ((step (step first (Tick 7)).0 (Tick 5)).0.state.last ≡ 8)
+    × ((step first (Tick 9)).0.state.committed ≡ 0)
 unfolding step
 stamps = (refl, refl, refl)
 
@@ -156,10 +182,12 @@ text_one = roll-Expr (Expr-F.Const (v.Text (codes "1")))
 -- it takes one value for each column, of its type or NULL
 rows_fit : (changes_rows created 1 (insertion_of ((null ∷ []) ∷ (number 1 ∷ []) ∷ []))
     ≡ Does (Inserted 2) no_sessions (Some (EditsRows 1 (record {
-        rows = empty;
-        added = (Null ∷ []) ∷ (Number (pos 1) ∷ []) ∷ [];
+      rows = empty;
+      added = (Null ∷ []) ∷ (Number (pos 1) ∷ []) ∷ [];
     }) ∷ [])))
-    × (changes_rows created 1 (insertion_of ((null ∷ null ∷ []) ∷ [])) ≡ Refuses TypeMismatch) × (changes_rows created 1 (insertion_of ([] ∷ [])) ≡ Refuses TypeMismatch)
+    × (changes_rows created 1 (insertion_of ((null ∷ null ∷ []) ∷ [])) ≡ Refuses TypeMismatch)
+    × (changes_rows created 1 (insertion_of ([] ∷ [])) ≡ Refuses TypeMismatch)
     × (changes_rows created 1 (insertion_of ((null ∷ []) ∷ (text_one ∷ []) ∷ [])) ≡ Refuses TypeMismatch)
-unfolding step commanded carried_out defines create_table table_refusal changes_rows changed seen bound_change first_failing typing.step effect values_on val edits_refusal partitions_made edits_of
+unfolding step commanded carried_out defines create_table table_refusal changes_rows changed seen bound_change
+    first_failing typing.step effect values_on val edits_refusal partitions_made edits_of
 rows_fit = (simp literal_typed, simp literal_typed, refl, simp literal_typed)

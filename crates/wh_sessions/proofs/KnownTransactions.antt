@@ -4,7 +4,8 @@
 --     of_two             a transaction that touched table 2 and holds table 5 untouched
 use Rattle.std.proofs.Common.{◌≡◌, ℕ, true, false, List, [], ◌∷◌, Option, Some, None, cond, pos, refl, sym, ◌∙◌}
 use Rattle.std.proofs.lemmas.List.{nil_from_length}
-use Rattle.std.specs.FinMap.{FinMap, empty, get, insert, entries, get-empty, get-insert, entries-insert, len-entries, len-empty}
+use Rattle.std.specs.FinMap.{FinMap, empty, get, insert, entries, get-empty, get-insert}
+use Rattle.std.specs.FinMap.{entries-insert, len-entries, len-empty}
 use Rattle.std.specs.FinMap.Entries.{put}
 use Rattle.std.specs.Ordering.{nat_cmp, eq_by_cmp}
 use Rattle.std.specs.Cmp.{nat_cmp_total}
@@ -91,13 +92,15 @@ a_statement_is_staged = simp (put_in, none_in, got_none)
 abbrev rows_at : List Object → ℕ → Option (List (ℕ × Row))
 rows_at objects id = option_map (λ t. entries (last_rows t)) (table_at objects id)
 
-its_rows_are_seen : rows_at (seen (record { last = 9; committed = 5; objects = table_with 3 ∷ [] }) (Some after_one)).objects 1
+its_rows_are_seen : rows_at
+    (seen (record { last = 9; committed = 5; objects = table_with 3 ∷ [] }) (Some after_one)).objects 1
     ≡ Some ((1, row 11) ∷ (2, row 20) ∷ (3, row 30) ∷ [])
 unfolding seen edited_table rows_after
 its_rows_are_seen = simp (put_in, none_in, got, got_none)
 
 -- one row more than there are numbers
-a_commit_past_the_last_row_number : commit_refusal (table_with (bound limits.RowNumber) ∷ []) after_one ≡ Some (OverLimit limits.RowNumber)
+a_commit_past_the_last_row_number : commit_refusal (table_with (bound limits.RowNumber) ∷ []) after_one
+    ≡ Some (OverLimit limits.RowNumber)
 unfolding past_limit
 a_commit_past_the_last_row_number = simp (put_in, none_in)
 

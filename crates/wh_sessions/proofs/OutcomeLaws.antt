@@ -15,19 +15,23 @@ use Rattle.wh_meaning.specs.Listing.{listed}
 use Rattle.wh_naming.specs.Changes.{Change, InsertRows, InsertQuery, Update, Delete, Merge}
 use Rattle.wh_naming.specs.Select.{BoundSelect, bound_select}
 use Rattle.wh_effect.specs.Effect.{Effect}
-use Rattle.wh_reply.specs.Reply.{Refusal, Reply, Unsupported, SyntaxError, NoSuchSession, UnknownName, TypeMismatch, OverLimit}
-use Rattle.wh_reply.specs.Reply.{NumberOutOfRange, NoTransaction, CreatedTable, DroppedTable, Begun, Committed, CommittedNothing}
+use Rattle.wh_reply.specs.Reply.{Refusal, Reply, Unsupported, SyntaxError, NoSuchSession}
+use Rattle.wh_reply.specs.Reply.{UnknownName, TypeMismatch, OverLimit}
+use Rattle.wh_reply.specs.Reply.{NumberOutOfRange, NoTransaction, CreatedTable, DroppedTable, Begun, Committed}
+use Rattle.wh_reply.specs.Reply.{CommittedNothing}
 use Rattle.wh_reply.specs.Reply.{RolledBack, Listing, Idle, is_refusal}
 use Rattle.wh_machine.specs.State.{State, Object, Table, id_of}
 use Rattle.wh_machine.specs.Edits.{edits_of}
-use Rattle.wh_machine.specs.Statement.{Statement, Begin, Commit, Rollback, CreateTable, DropTable, ChangeRows, Select, form_of}
+use Rattle.wh_machine.specs.Statement.{Statement, Begin, Commit, Rollback, CreateTable, DropTable}
+use Rattle.wh_machine.specs.Statement.{ChangeRows, Select, form_of}
 use Rattle.wh_machine.specs.Outcome as tables
 use Rattle.wh_machine.specs.Outcome.{Act, MakesTable, DropsObject, EditsRows}
 use Rattle.wh_machine.specs.Tables.{table_refusal, table_at, replaced_id, drops, create_table, drop_of, drop_table}
 use Rattle.wh_machine.specs.Queries.{names_from, instance_of, naming_refusal, listing_of, select_bound, select_rows}
 use Rattle.wh_machine.specs.Changes.{Changed, Fails, Gives, edits_refusal, counted, reply_to, settled_effect}
 use Rattle.wh_machine.proofs.ActLaws.{AreEditsFrom, IsOfOneStatement}
-use Rattle.wh_sessions.specs.Transaction.{Staged, Transaction, seen, edit_act, touched, acts_in, acts_of, commit_refusal}
+use Rattle.wh_sessions.specs.Transaction.{Staged, Transaction, seen, edit_act, touched, acts_in, acts_of}
+use Rattle.wh_sessions.specs.Transaction.{commit_refusal}
 use Rattle.wh_sessions.specs.Sessions.{Sessions, transaction_in}
 use Rattle.wh_sessions.specs.Outcome.{Machine, Outcome, Refuses, Does, alone, unless, last_test}
 use Rattle.wh_sessions.specs.Statements.{begin, committed, commit_of, commit, rollback_of, rollback, defines, changed}
@@ -39,14 +43,16 @@ use Rattle.wh_sessions.proofs.EntryLaws.{RiseFrom, entries_rise}
 pub record HoldsOfEach (P : Outcome → Type 0) : Type 0 where
   pub refusal : (why : Refusal) → P (Refuses why)
   pub answer : (reply : Reply) (sessions : Sessions) → is_refusal reply ≡ false → P (Does reply sessions None)
-  pub commit : (reply : Reply) (sessions : Sessions) (acts : List Act) → is_refusal reply ≡ false → IsOfOneStatement acts
+  pub commit : (reply : Reply) (sessions : Sessions) (acts : List Act) → is_refusal reply ≡ false
+      → IsOfOneStatement acts
       → P (Does reply sessions (Some acts))
 
 tested : (P : Outcome → Type 0) → HoldsOfEach P → (found : Option Refusal) (o : Outcome) → P o → P (unless found o)
 tested P each (Some why) o holds = each.refusal why
 tested P each None o holds = holds
 
-tested_last : (P : Outcome → Type 0) → HoldsOfEach P → (found : Option Refusal) (o : Outcome) → P o → P (last_test found o)
+tested_last : (P : Outcome → Type 0) → HoldsOfEach P → (found : Option Refusal) (o : Outcome) → P o
+    → P (last_test found o)
 tested_last P each found (Refuses why) holds = holds
 tested_last P each found (Does reply sessions acts) holds = tested P each found (Does reply sessions acts) holds
 
@@ -62,7 +68,8 @@ passed : (P : Outcome → Type 0) → HoldsOfEach P → (sessions : Sessions) (f
 passed P each sessions (Some why) o holds = each.refusal why
 passed P each sessions None o holds = holds
 
-created : (P : Outcome → Type 0) → HoldsOfEach P → (sessions : Sessions) (name : List ℕ) (columns : List Column) (retention : ℕ)
+created : (P : Outcome → Type 0) → HoldsOfEach P
+    → (sessions : Sessions) (name : List ℕ) (columns : List Column) (retention : ℕ)
     (replaced : Option ℕ)
     → P (Does (CreatedTable name) sessions (Some (drops replaced ++ MakesTable name columns retention ∷ [])))
 created P each sessions name columns retention None =
@@ -70,7 +77,8 @@ created P each sessions name columns retention None =
 created P each sessions name columns retention (Some id) =
     each.commit (CreatedTable name) sessions (DropsObject id ∷ MakesTable name columns retention ∷ []) refl tt
 
-outcome_of_creation : (P : Outcome → Type 0) → HoldsOfEach P → (sessions : Sessions) (s : State) (replace : Bool) (name : List ℕ)
+outcome_of_creation : (P : Outcome → Type 0) → HoldsOfEach P
+    → (sessions : Sessions) (s : State) (replace : Bool) (name : List ℕ)
     (columns : List Column) (retention : ℕ) → P (alone sessions (create_table s replace name columns retention))
 unfolding create_table
 outcome_of_creation P each sessions s replace name columns retention =
@@ -87,8 +95,9 @@ outcome_of_drop : (P : Outcome → Type 0) → HoldsOfEach P → (sessions : Ses
 unfolding drop_table
 outcome_of_drop P each sessions s name = dropped P each sessions name (id_of name s.objects)
 
-outcome_of_definition : (P : Outcome → Type 0) → HoldsOfEach P → (m : Machine) (session : ℕ) (old : Option ℕ) (o : tables.Outcome)
-    → P (alone m.sessions o) → P (defines m session old o)
+outcome_of_definition : (P : Outcome → Type 0) → HoldsOfEach P
+    → (m : Machine) (session : ℕ) (old : Option ℕ) (o : tables.Outcome) → P (alone m.sessions o)
+    → P (defines m session old o)
 unfolding defines
 outcome_of_definition P each m session old o holds = tested P each _ _ (tested_last P each _ _ holds)
 
@@ -101,7 +110,8 @@ no_refusal (Update condition parts) e = refl
 no_refusal (Delete condition) e = refl
 no_refusal (Merge source on clauses) e = refl
 
-counted_holds : (P : Outcome → Type 0) → HoldsOfEach P → (sessions : Sessions) (id : ℕ) (change : Change) (e : Effect) (b : Bool)
+counted_holds : (P : Outcome → Type 0) → HoldsOfEach P
+    → (sessions : Sessions) (id : ℕ) (change : Change) (e : Effect) (b : Bool)
     → P (alone sessions (cond b (tables.commits (reply_to change e) (EditsRows id (edits_of e) ∷ []))
     (tables.answers (reply_to change e))))
 counted_holds P each sessions id change e true =
@@ -114,7 +124,8 @@ settled_holds P each sessions id change e None = each.refusal TypeMismatch
 settled_holds P each sessions id change e (Some t) =
     passed P each sessions (edits_refusal t e) _ (counted_holds P each sessions id change e (nat_lt 0 (counted e)))
 
-changed_holds : (P : Outcome → Type 0) → HoldsOfEach P → (m : Machine) (session : ℕ) (t : Option Transaction) (c : Changed)
+changed_holds : (P : Outcome → Type 0) → HoldsOfEach P
+    → (m : Machine) (session : ℕ) (t : Option Transaction) (c : Changed)
     → P (changes_in m session t c)
 changed_holds P each m session t (Fails why) = each.refusal why
 changed_holds P each m session None (Gives id change e) =
@@ -152,7 +163,8 @@ outcome_of_begin : (P : Outcome → Type 0) → HoldsOfEach P → (m : Machine) 
 unfolding begin
 outcome_of_begin P each m session = tested P each _ _ (each.answer (Begun m.state.last) _ refl)
 
-edits_of_rising : (least : ℕ) (found : List (ℕ × Staged)) → RiseFrom least found → AreEditsFrom least (map edit_act found)
+edits_of_rising : (least : ℕ) (found : List (ℕ × Staged)) → RiseFrom least found
+    → AreEditsFrom least (map edit_act found)
 edits_of_rising least [] rising = tt
 edits_of_rising least (entry ∷ others) rising = (rising.0, edits_of_rising (suc entry.0) others rising.1)
 
@@ -160,7 +172,8 @@ committed_holds : (P : Outcome → Type 0) → HoldsOfEach P → (m : Machine) (
     → RiseFrom 0 found → P (committed m session (acts_in found))
 committed_holds P each m session [] rising = each.answer CommittedNothing _ refl
 committed_holds P each m session (entry ∷ others) rising =
-    each.commit (Committed m.state.last) _ (map edit_act (entry ∷ others)) refl (edits_of_rising (suc entry.0) others rising.1)
+    each.commit (Committed m.state.last) _ (map edit_act (entry ∷ others)) refl
+    (edits_of_rising (suc entry.0) others rising.1)
 
 commit_holds : (P : Outcome → Type 0) → HoldsOfEach P → (m : Machine) (session : ℕ) (t : Option Transaction)
     → P (commit_of m session t)
@@ -184,7 +197,8 @@ outcome_of_rollback P each m session = rollback_holds P each m session (transact
 
 -- ---- all of them
 
-pub outcome_of_statement : (P : Outcome → Type 0) → HoldsOfEach P → (m : Machine) (session : ℕ) (statement : Option Statement)
+pub outcome_of_statement : (P : Outcome → Type 0) → HoldsOfEach P
+    → (m : Machine) (session : ℕ) (statement : Option Statement)
     → P (carried_out m session statement)
 unfolding carried_out selects
 outcome_of_statement P each m session None = each.refusal Unsupported
@@ -192,7 +206,8 @@ outcome_of_statement P each m session (Some Begin) = outcome_of_begin P each m s
 outcome_of_statement P each m session (Some Commit) = outcome_of_commit P each m session
 outcome_of_statement P each m session (Some Rollback) = outcome_of_rollback P each m session
 outcome_of_statement P each m session (Some (CreateTable replace name columns retention)) =
-    outcome_of_definition P each m session _ _ (outcome_of_creation P each m.sessions m.state replace name columns retention)
+    outcome_of_definition P each m session _ _
+    (outcome_of_creation P each m.sessions m.state replace name columns retention)
 outcome_of_statement P each m session (Some (DropTable name)) =
     outcome_of_definition P each m session _ _ (outcome_of_drop P each m.sessions m.state name)
 outcome_of_statement P each m session (Some (ChangeRows statement)) = outcome_of_change P each m session statement
@@ -205,7 +220,8 @@ unfolding commanded
 outcome_of_command P each m session TooLong = each.refusal (OverLimit limits.Statement)
 outcome_of_command P each m session Unreadable = each.refusal SyntaxError
 outcome_of_command P each m session (Asked tree) =
-    either P (is_session session) _ _ (outcome_of_statement P each m session (form_of tree)) (each.refusal (NoSuchSession session))
+    either P (is_session session) _ _ (outcome_of_statement P each m session (form_of tree))
+    (each.refusal (NoSuchSession session))
 
 pub outcome_of_event : (P : Outcome → Type 0) → HoldsOfEach P → (m : Machine) (e : Event) → P (outcome_of m e)
 outcome_of_event P each m (Command reading session request) = outcome_of_command P each m session request

@@ -9,7 +9,8 @@ use Rattle.std.proofs.Common.{List, [], ◌∷◌, ◌++◌, length, refl, sym, 
 use Rattle.std.specs.Prelude.{codes, decimal}
 use Rattle.std.specs.List.{flat_map}
 use Rattle.std.proofs.lemmas.Bool.{le-leb, lt-leb}
-use Rattle.wh_reply.specs.Reply.{Reply, CreatedTable, DroppedTable, Inserted, Updated, Deleted, Merged, Begun, Committed, CommittedNothing, RolledBack, Listing, Idle, Refused}
+use Rattle.wh_reply.specs.Reply.{Reply, CreatedTable, DroppedTable, Inserted, Updated, Deleted, Merged, Begun}
+use Rattle.wh_reply.specs.Reply.{Committed, CommittedNothing, RolledBack, Listing, Idle, Refused}
 use Rattle.wh_reply.specs.Reply.{line, parted, row_line, refusal_text, print}
 use Rattle.wh_sessions.specs.Outcome.{Machine}
 use Rattle.wh_sessions.specs.Step.{Event, step, after, text, refusals}
@@ -30,7 +31,8 @@ print_some (Inserted count) = line_some (codes "INSERTED " ++ decimal count)
 print_some (Updated count) = line_some (codes "UPDATED " ++ decimal count)
 print_some (Deleted count) = line_some (codes "DELETED " ++ decimal count)
 print_some (Merged inserted updated deleted) =
-    line_some (codes "MERGED " ++ decimal inserted ++ codes " INSERTED " ++ decimal updated ++ codes " UPDATED " ++ decimal deleted ++ codes " DELETED")
+    line_some (codes "MERGED " ++ decimal inserted ++ codes " INSERTED " ++ decimal updated ++ codes " UPDATED "
+    ++ decimal deleted ++ codes " DELETED")
 print_some (Begun number) = line_some (codes "BEGUN " ++ decimal number)
 print_some (Committed stamp) = line_some (codes "COMMITTED " ++ decimal stamp)
 print_some CommittedNothing = line_some (codes "COMMITTED NOTHING")
@@ -56,7 +58,8 @@ text_append m (e ∷ es) fs =
     ∙ sym (append_assoc (print (step m e).1) (text (step m e).0 es) (text (after m (e ∷ es)) fs))
 
 -- how many are refused of events, and then of more
-pub refusals_append : (m : Machine) (es fs : List Event) → refusals m (es ++ fs) ≡ refusals m es + refusals (after m es) fs
+pub refusals_append : (m : Machine) (es fs : List Event)
+    → refusals m (es ++ fs) ≡ refusals m es + refusals (after m es) fs
 refusals_append m [] fs = omega arith
 refusals_append m (e ∷ es) fs = omega (arith, refusals_append (step m e).0 es fs)
 

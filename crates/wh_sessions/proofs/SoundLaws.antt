@@ -24,7 +24,8 @@ sound_step m e sound = by_stamp (has_stamp m e) refl
   where
     by_stamp : (has : Bool) → has_stamp m e ≡ has → Sound (step m e).0.state
     by_stamp true is =
-        let still : Sound (ready m e).state = record { ordered = omega (arith, sound.ordered); objects = sound.objects } in
+        let still : Sound (ready m e).state =
+        record { ordered = omega (arith, sound.ordered); objects = sound.objects } in
         rw (step_at m e is) (outcome_of_event (SettlesSound (ready m e))
         (settles_sound (ready m e) (omega (arith, sound.ordered)) still) (ready m e) e)
     by_stamp false is = rw (stamp_refused m e is) sound

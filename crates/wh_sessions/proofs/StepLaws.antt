@@ -5,7 +5,8 @@
 --     step_meant, rest_meant                with the event's commit it means the one after
 --     unmade                                an event without a commit
 --     refused_acts, refusals_change_nothing     a refused one
-use Rattle.std.proofs.Common.{◌≡◌, ℕ, ◌≤◌, Bool, true, false, List, Option, Some, None, option_map, refl, sym, ap, subst, ◌∙◌}
+use Rattle.std.proofs.Common.{◌≡◌, ℕ, ◌≤◌, Bool, true, false, List, Option, Some, None, option_map}
+use Rattle.std.proofs.Common.{refl, sym, ap, subst, ◌∙◌}
 use Rattle.std.proofs.Common.{arith}
 use Rattle.std.specs.Prelude.{IsTrue}
 use Rattle.wh_value.specs.declared.limit.Limit.TheVariants as limits
@@ -48,7 +49,8 @@ unfolding acts_of
 acts_at m e has = rw has
 
 -- the event's stamp is the last one then
-pub stamp_passes : (m : Machine) (e : Event) → has_stamp m e ≡ true → (step m e).0.state.last ≡ stamp_of m.state (reading_of e)
+pub stamp_passes : (m : Machine) (e : Event) → has_stamp m e ≡ true
+    → (step m e).0.state.last ≡ stamp_of m.state (reading_of e)
 stamp_passes m e has =
     ap (λ (p : Machine × Reply). p.0.state.last) (step_at m e has) ∙ settled_last (ready m e) (decided m e)
 
@@ -73,9 +75,12 @@ pub committed_kept : (m : Machine) (e : Event) → m.state.committed ≤ m.state
 committed_kept m e before = by_stamp (has_stamp m e) refl
   where
     by_stamp : (has : Bool) → has_stamp m e ≡ has → (step m e).0.state.committed ≤ (step m e).0.state.last
-    by_stamp true is = omega (arith, stamp_passes m e is,
-        ap (λ (p : Machine × Reply). p.0.state.committed) (step_at m e is),
-        settled_committed (ready m e) (decided m e) (omega arith))
+    by_stamp true is = omega (
+      arith,
+      stamp_passes m e is,
+      ap (λ (p : Machine × Reply). p.0.state.committed) (step_at m e is),
+      settled_committed (ready m e) (decided m e) (omega arith),
+    )
     by_stamp false is = rw (stamp_refused m e is) before
 
 -- ---- what a file means
@@ -104,9 +109,11 @@ each_of_one = record {
 }
 
 -- so for what an event does
-pub decided_meant : (s : Stored) (m : Machine) (e : Event) → IsOrderlyStored s → m.state ≡ record (meant s) { last = m.state.last }
+pub decided_meant : (s : Stored) (m : Machine) (e : Event) → IsOrderlyStored s
+    → m.state ≡ record (meant s) { last = m.state.last }
     → (settled (ready m e) (decided m e)).0.state
-    ≡ record (meant (kept_after s (option_map (commit_for s (stamp_of m.state (reading_of e))) (acts_in (decided m e))))) {
+    ≡ record (meant
+    (kept_after s (option_map (commit_for s (stamp_of m.state (reading_of e))) (acts_in (decided m e))))) {
       last = stamp_of m.state (reading_of e);
     }
 decided_meant s m e orderly is =
@@ -114,7 +121,8 @@ decided_meant s m e orderly is =
     (outcome_of_event HasActsOfOne each_of_one (ready m e) e) is
 
 -- the event's commit leaves a file that means the state after it but for its last stamp
-pub step_meant : (s : Stored) (m : Machine) (e : Event) → IsOrderlyStored s → m.state ≡ record (meant s) { last = m.state.last }
+pub step_meant : (s : Stored) (m : Machine) (e : Event) → IsOrderlyStored s
+    → m.state ≡ record (meant s) { last = m.state.last }
     → (step m e).0.state ≡ record (meant (kept_after s (made s m e))) { last = (step m e).0.state.last }
 step_meant s m e orderly is = by_stamp (has_stamp m e) refl
   where
@@ -134,7 +142,8 @@ step_meant s m e orderly is = by_stamp (has_stamp m e) refl
         (sym (ap (λ (p : Machine × Reply). p.0.state.last) (stamp_refused m e none)))
 
 -- as the file keeps it, it is what the file means
-pub rest_meant : (s : Stored) (m : Machine) (e : Event) → IsOrderlyStored s → m.state ≡ record (meant s) { last = m.state.last }
+pub rest_meant : (s : Stored) (m : Machine) (e : Event) → IsOrderlyStored s
+    → m.state ≡ record (meant s) { last = m.state.last }
     → rest_of (step m e).0 ≡ meant (kept_after s (made s m e))
 rest_meant s m e orderly is = ap at_rest (step_meant s m e orderly is)
 
@@ -149,7 +158,8 @@ pub unmade : (m : Machine) (e : Event) → acts_of m e ≡ None
     → (step m e).0.state ≡ record (m.state) { last = (step m e).0.state.last }
 unmade m e none = by_stamp (has_stamp m e) refl
   where
-    by_stamp : (has : Bool) → has_stamp m e ≡ has → (step m e).0.state ≡ record (m.state) { last = (step m e).0.state.last }
+    by_stamp : (has : Bool) → has_stamp m e ≡ has
+        → (step m e).0.state ≡ record (m.state) { last = (step m e).0.state.last }
     by_stamp true is =
         ap (λ (p : Machine × Reply). p.0.state) (step_at m e is)
         ∙ settled_unmade (ready m e) (decided m e) (sym (acts_at m e is) ∙ none)

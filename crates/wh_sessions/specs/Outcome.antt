@@ -1,7 +1,8 @@
 -- The machine with its sessions, and what an event does to it.
 --     Machine            the committed state, and the open transactions
 --     opened, rest_of    the machine of a file's state, and what a file keeps of a machine
---     Outcome            a refusal; or a reply, with the sessions that it leaves, and the acts of its commit where it makes one
+--     Outcome            a refusal; or a reply, with the sessions that it leaves, and the acts of
+--                        its commit where it makes one
 --     alone              of a statement that leaves the sessions as they are
 --     settled            the machine and the reply that an outcome comes to
 use Rattle.std.specs.Prelude.{List, Option, Some, None}

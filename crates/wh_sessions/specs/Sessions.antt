@@ -3,7 +3,8 @@
 --     transaction_in, number_in       that of a session, and its number
 --     holder, locked_by               the number of the transaction that holds an object, and of one of another session
 --     with_begun, with_ended          a transaction that begins or ends; its holds go with it
-use Rattle.std.specs.Prelude.{ℕ, List, [], ◌∷◌, Option, Some, None, option_map, is_some, cond, replicate, slice_get, slice_set, unwrap_or}
+use Rattle.std.specs.Prelude.{ℕ, List, [], ◌∷◌, Option, Some, None, option_map, is_some, cond, replicate, slice_get}
+use Rattle.std.specs.Prelude.{slice_set, unwrap_or}
 use Rattle.std.specs.FinMap.{get}
 use Rattle.wh_sessions.specs.Transaction.{Transaction, begun}
 

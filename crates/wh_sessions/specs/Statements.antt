@@ -1,7 +1,8 @@
 -- The statements of a session, at the last stamp of the machine.
 --     begin, commit, rollback        transactions that begin and end
 --     defines                        CREATE and DROP, which stand outside of transactions
---     changes_rows                   INSERT, UPDATE, DELETE and MERGE: staged in a transaction, or a commit of their own
+--     changes_rows                   INSERT, UPDATE, DELETE and MERGE: staged in a
+--                                    transaction, or a commit of their own
 --     selects                        SELECT, of what its transaction sees
 use Rattle.std.specs.Prelude.{ℕ, List, [], ◌∷◌, Option, Some, None, option_map}
 use Rattle.wh_ast.specs.declared.dml.Dml.{Dml}

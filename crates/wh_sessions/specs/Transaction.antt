@@ -101,7 +101,8 @@ partition_past objects entry =
 
 abbrev pub first_past : (ℕ × Staged → Bool) → Limit → List (ℕ × Staged) → Option (ℕ × Limit)
 first_past is_past which [] = None
-first_past is_past which (entry ∷ others) = if is_past entry then Some (entry.0, which) else first_past is_past which others
+first_past is_past which (entry ∷ others) =
+    if is_past entry then Some (entry.0, which) else first_past is_past which others
 
 abbrev pub or_else : Option (ℕ × Limit) → Option (ℕ × Limit) → Option (ℕ × Limit)
 or_else None other = other

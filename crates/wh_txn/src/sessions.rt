@@ -44,12 +44,10 @@ impl Sessions {
     /// A session's transaction begins at a stamp.
     pub fn begin(&mut self, session: u64, stamp: u64)
         ensures { sessions_of self.new ≡ machine.with_begun (sessions_of self.old) session stamp }
-    {
-    }
+    {}
 
     /// A session's transaction ends, and its holds with it.
     pub fn rollback(&mut self, session: u64)
         ensures { sessions_of self.new ≡ machine.with_ended (sessions_of self.old) session }
-    {
-    }
+    {}
 }
