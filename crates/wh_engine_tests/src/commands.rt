@@ -78,8 +78,6 @@ fn numbers_have_a_minus_sign_and_18_digits(rt: HostRuntime) {
 #[test]
 fn other_statements_are_not_carried_out(rt: HostRuntime) {
     const CASES: &[(&str, &str)] = &[
-        ("BEGIN", "E0 Unsupported\n"),
-        ("COMMIT", "E0 Unsupported\n"),
         ("CREATE STREAM S ON TABLE N", "E0 Unsupported\n"),
         ("CREATE TASK A AS DELETE FROM N", "E0 Unsupported\n"),
         ("DROP DYNAMIC TABLE N", "E0 Unsupported\n"),
@@ -177,8 +175,8 @@ fn limits_of_a_table_are_tested_in_order(rt: HostRuntime) {
 fn sessions_are_tested_behind_the_text(rt: HostRuntime) {
     const CASES: &[(u64, &str, &str)] = &[
         (0, "BEGIN", "E2 NoSuchSession 0\n"),
-        (1, "BEGIN", "E0 Unsupported\n"),
-        (64, "BEGIN", "E0 Unsupported\n"),
+        (1, "BEGIN", "BEGUN 2\n"),
+        (64, "BEGIN", "BEGUN 3\n"),
         (65, "BEGIN", "E2 NoSuchSession 65\n"),
         (65, "FROM", "E1 SyntaxError\n"),
     ];
@@ -208,7 +206,7 @@ fn assert_long(
 fn a_text_has_65536_bytes_at_most(rt: HostRuntime) {
     let alloc = rt.alloc();
     let mut warehouse = warehouse_of(&rt, alloc, b"");
-    assert_long(&rt, alloc, &mut warehouse, 1, 65536, "E0 Unsupported\n");
+    assert_long(&rt, alloc, &mut warehouse, 1, 65536, "BEGUN 1\n");
     let wanted = "E13 Limit STATEMENT 65536\n";
     assert_long(&rt, alloc, &mut warehouse, 65, 65537, wanted);
 }

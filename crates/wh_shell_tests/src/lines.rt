@@ -99,7 +99,7 @@ fn a_stamp_is_behind_the_ticks_before_it(rt: HostRuntime) {
         ),
         (
             "a refusal between",
-            b"!tick 5\nBEGIN;CREATE TABLE T(K NUMBER);",
+            b"!tick 5\nROLLBACK;CREATE TABLE T(K NUMBER);",
             7,
         ),
     ];
@@ -120,7 +120,7 @@ const PIECES: &[(&[u8], &[u8])] = &[
     (b"!session 1\r\n", b""),
     (b"/* ; */SELECT * FROM T;", b"K\n12\n(1 rows)\n"),
     (b"SELECT ';' FROM;", b"E1 SyntaxError\n"),
-    (b"ROLLBACK", b"E0 Unsupported\n"),
+    (b"ROLLBACK", b"E5 NoTransaction\n"),
 ];
 
 /// Whether behind what was written before stands nothing, that text is none, or the piece's reply.

@@ -120,7 +120,7 @@ fn scripts_are_answered(rt: HostRuntime) {
             "refusals",
             b"CREATE TABLE T(K NUMBER); CREATE TABLE T(K NUMBER); INSERT INTO T VALUES (1, 2);
               INSERT INTO U VALUES (1); COMMIT;",
-            b"CREATED TABLE T\nE7 NameTaken T\nE9 TypeMismatch\nE6 UnknownName U\nE0 Unsupported\n",
+            b"CREATED TABLE T\nE7 NameTaken T\nE9 TypeMismatch\nE6 UnknownName U\nE5 NoTransaction\n",
             4,
         ),
         (
