@@ -1,6 +1,5 @@
-ghost use Rattle.std.specs.Prelude.{◌≡◌, ◌+◌, ◌<◌, ◌≤◌, map, length, take, drop, IfOk, OnOk};
+ghost use Rattle.std.specs.Prelude.{◌≡◌, ◌+◌, ◌<◌, ◌≤◌, ◌^◌, map, length, take, drop, IfOk, OnOk};
 ghost use Rattle.std.specs.List.{flat_map};
-ghost use Rattle.wh_value.specs.Limit.{bound};
 ghost use Rattle.wh_frame.specs.Partition as machine;
 ghost use Rattle.wh_frame.specs.Partition.{numbered, partitions_of};
 ghost use Rattle.wh_frame.specs.Spelling.{RisesFrom};
@@ -9,7 +8,7 @@ ghost use Rattle.wh_part.specs.View.{numbered_of};
 use crate::{NumberedRow, Partition};
 use std::alloc::{AllocError, Global};
 use std::collections::VecDeque;
-use wh_value::{Limit, Row};
+use wh_value::Row;
 
 /// Rows as partitions of 1,000 rows each, and the rest as one more. The rows are numbered from
 /// `first` on, and the partitions from `number` on.
@@ -19,8 +18,8 @@ pub fn cut(
     first: u64,
     number: u64,
 ) -> Result<Vec<Partition>, AllocError>
-    requires rows { first + length rows.items ≤ bound Limit.RowNumber }
-    requires number { number ≤ bound Limit.PartitionNumber }
+    requires rows { first + length rows.items < 2 ^ 64 }
+    requires number { number + length rows.items < 2 ^ 64 }
     ensures rows { IfOk result (λ parts. flat_map (λ p. p.rows) parts.items
         ≡ numbered first rows.items) }
     ensures count { IfOk result (λ parts. length parts.items ≡ partitions_of (length rows.items)) }
@@ -47,7 +46,7 @@ fn next_rows(
     rest: &mut VecDeque<Row>,
     first: u64,
 ) -> Result<Vec<NumberedRow>, AllocError>
-    requires { first + length rest.old.items ≤ bound Limit.RowNumber }
+    requires { first + length rest.old.items < 2 ^ 64 }
     ensures some { 0 < length rest.old.items → IfOk result (λ rows. 0 < length rows.items) }
     ensures few { IfOk result (λ rows. length rows.items ≤ 1000) }
     ensures rising { IfOk result (λ rows. RisesFrom 0 (map numbered_of rows.items)) }

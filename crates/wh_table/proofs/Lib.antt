@@ -8,3 +8,4 @@ pub mod OrderlyTables
 pub mod Chain
 pub mod Entries
 pub mod Standing
+pub mod Edited

@@ -1,13 +1,14 @@
--- Those that stand among more and more partitions.
+-- Those that stand, and those that stand and stay, among more and more partitions.
 use Rattle.std.proofs.Common.{◌≡◌, ℕ, ◌+◌, ◌<◌, cond, Bool, true, false, List, [], ◌∷◌, ◌++◌, length, filter, take}
 use Rattle.std.proofs.Common.{get_or, refl, sym, ap, ◌∙◌, append_assoc}
+use Rattle.std.specs.Prelude.{not, ◌&&◌}
 use Rattle.std.specs.List.{AllByRecursion}
 use Rattle.std.proofs.lemmas.List.{take_more}
 use Rattle.wh_frame.specs.Partition.{Partition}
+use Rattle.wh_machine.specs.Edits.{without, is_among}
 use Rattle.wh_version.specs.declared.kept.Kept.{Kept}
 use Rattle.wh_version.specs.Kept.{is_standing, partitions_in}
-use Rattle.wh_table.specs.Rows.{rows_only, all_rows}
-use Rattle.wh_table.proofs.TableBag.{rows_more}
+use Rattle.wh_table.specs.Rows.{all_rows}
 
 standing_append : (xs ys : List Kept)
     → partitions_in (filter is_standing (xs ++ ys))
@@ -31,13 +32,36 @@ standing_more kept i k within is =
     (take_more kept i k within ∙ ap (λ x. take i kept ++ x ∷ []) (sym is))
     ∙ standing_append (take i kept) (k ∷ [])
 
+-- of those that are kept, the ones that stand and aren't among the removed
+abbrev pub staying : List ℕ → List Kept → List Partition
+staying removed kept = without removed (partitions_in (filter is_standing kept))
+
+pub staying_one : (removed : List ℕ) (k : Kept)
+    → staying removed (k ∷ []) ≡ cond (is_standing k && not (is_among k.partition.number removed)) (k.partition ∷ []) []
+staying_one removed k = pick (is_standing k)
+  where
+    pick : (s : Bool) → without removed (partitions_in (cond s (k ∷ []) []))
+        ≡ cond (s && not (is_among k.partition.number removed)) (k.partition ∷ []) []
+    pick true = refl
+    pick false = refl
+
+pub staying_more : (removed : List ℕ) (k : Kept) (ks : List Kept)
+    → staying removed (k ∷ ks) ≡ staying removed (k ∷ []) ++ staying removed ks
+staying_more removed k ks = pick (is_standing k)
+  where
+    inner : (b : Bool) → cond b (k.partition ∷ staying removed ks) (staying removed ks)
+        ≡ cond b (k.partition ∷ []) [] ++ staying removed ks
+    inner true = refl
+    inner false = refl
+
+    pick : (s : Bool) → without removed (partitions_in (cond s (k ∷ filter is_standing ks) (filter is_standing ks)))
+        ≡ without removed (partitions_in (cond s (k ∷ []) [])) ++ staying removed ks
+    pick true = inner (not (is_among k.partition.number removed))
+    pick false = refl
+
 pub all_more : (ps qs : List Partition) → all_rows (ps ++ qs) ≡ all_rows ps ++ all_rows qs
 all_more [] qs = refl
 all_more (p ∷ ps) qs = ap (λ l. p.rows ++ l) (all_more ps qs) ∙ sym (append_assoc p.rows (all_rows ps) (all_rows qs))
-
-pub rows_of_more : (ps qs : List Partition)
-    → rows_only (all_rows (ps ++ qs)) ≡ rows_only (all_rows ps) ++ rows_only (all_rows qs)
-rows_of_more ps qs = ap rows_only (all_more ps qs) ∙ rows_more (all_rows ps) (all_rows qs)
 
 pub each_more : (P : Partition → Type 0) (ps qs : List Partition) → AllByRecursion P ps → AllByRecursion P qs
     → AllByRecursion P (ps ++ qs)

@@ -4,3 +4,4 @@ pub mod Chain
 pub mod Conditions
 pub mod Kept
 pub mod Table
+pub mod Edited

@@ -44,11 +44,12 @@ fn is_gone_or_apart(partition: &Partition, one: &Kept, removed: &[u64]) -> bool
         || are_apart partition.now one.now.partition)) }
 {
     !one.stands()
-        || is_among(one.partition().number(), removed)
         || is_apart(partition, one.partition())
+        || is_among(one.partition().number(), removed)
 }
 
-fn is_among(number: u64, numbers: &[u64]) -> bool
+/// Whether it is one of the numbers.
+pub(crate) fn is_among(number: u64, numbers: &[u64]) -> bool
     ensures { result ≡ is_among number numbers.now }
 {
     numbers.contains(&number)

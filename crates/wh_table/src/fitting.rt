@@ -110,9 +110,14 @@ fn entry_fits(columns: &[Column], next_row: u64, entry: &NumberedRow) -> bool
     row_fits(columns, &entry.row) && entry.number < next_row
 }
 
-// Whether each partition that is added is apart from those that stand and stay, none of whose row
-// numbers is above the highest, and from those before it.
-fn are_apart(highest: u64, history: &History, removed: &[u64], added: &[Partition]) -> bool
+/// Whether each partition that is added is apart from those that stand and stay, none of whose row
+/// numbers is above the highest, and from those before it.
+pub(crate) fn are_apart(
+    highest: u64,
+    history: &History,
+    removed: &[u64],
+    added: &[Partition],
+) -> bool
     requires { highest_number (standing_in (versions_of history.now)) ≤ highest }
     ensures { result
         ≡ all_apart (without removed.now (standing_in (versions_of history.now))) added.now }

@@ -3,6 +3,7 @@
 
 mod by_number;
 mod comparing;
+mod editing;
 mod fault;
 mod fitting;
 mod numbers;
@@ -11,5 +12,6 @@ mod rewriting;
 mod rows;
 mod table;
 
+pub use editing::EditedTable;
 pub use fault::StageFault;
 pub use table::StoredTable;

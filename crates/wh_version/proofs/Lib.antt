@@ -9,4 +9,5 @@ pub mod Touched
 pub mod ByRows
 pub mod Left
 pub mod Made
+pub mod Amended
 pub mod LastUpTo

@@ -1,44 +1,22 @@
 -- Partitions that are made in place of others, and of rows that are added.
 --     made_all       both, one behind the other
---     made_fits      whether the number behind them is within its limit
 --     made_for       as the machine says it
 --     made_numbered  their numbers rise by one from the next on
-use Rattle.std.proofs.Common.{◌≡◌, ℕ, zero, suc, ◌+◌, ◌<◌, ◌≤◌, true, false, List, [], ◌∷◌, ◌++◌, length, drop, refl}
-use Rattle.std.proofs.Common.{sym, ap, subst, ◌∙◌, length-append, arith}
-use Rattle.std.proofs.lemmas.Bool.{le-leb, lt-leb}
-use Rattle.std.specs.Prelude.{nat_le}
+use Rattle.std.proofs.Common.{◌≡◌, ℕ, zero, suc, ◌+◌, List, [], ◌∷◌, ◌++◌, length, drop, refl, ap, subst, ◌∙◌, arith}
 use Rattle.wh_value.specs.Value.{Row}
 use Rattle.wh_frame.specs.Partition.{Partition, numbered, partitions_of, cut, cut_into}
 use Rattle.wh_machine.specs.Edits.{Edits, touched, by_rows, made_of, partitions_left, with_added, partitions_made}
 use Rattle.wh_machine.specs.Commit.{NumberedFrom}
 use Rattle.wh_version.proofs.Left.{lefts}
 
-module _ (next next_row limit : ℕ) (added : List Row) (left : List Partition) where
-  pub too_many : limit < next + length left → false ≡ nat_le (next + length (with_added next next_row added left)) limit
-  too_many past =
-      let more = length-append left (cut (next + length left) (numbered next_row added)) in
-      sym (lt-leb (next + length (with_added next next_row added left)) limit (omega arith))
-
-  module _ (made first more : List Partition)
-      (behind : ℕ) (first_is : first ≡ left) (behind_is : behind ≡ next + length first)
-      (more_is : more ≡ cut behind (numbered next_row added)) (made_is : made ≡ first ++ more) where
-    pub made_all : made ≡ with_added next next_row added left
-    made_all =
-        made_is
-        ∙ ap (λ l. first ++ l) (more_is ∙ ap (λ n. cut n (numbered next_row added)) behind_is)
-        ∙ ap (λ l. l ++ cut (next + length l) (numbered next_row added)) first_is
-
-    pub made_fits : next + length made ≤ limit
-        → true ≡ nat_le (next + length (with_added next next_row added left)) limit
-    made_fits within =
-        let size = ap length made_all in
-        sym (le-leb (next + length (with_added next next_row added left)) limit (omega arith))
-
-    pub made_past : limit < next + length made
-        → false ≡ nat_le (next + length (with_added next next_row added left)) limit
-    made_past past =
-        let size = ap length made_all in
-        sym (lt-leb (next + length (with_added next next_row added left)) limit (omega arith))
+module _ (next next_row : ℕ) (added : List Row) (left made first more : List Partition) (behind : ℕ)
+    (first_is : first ≡ left) (behind_is : behind ≡ next + length first)
+    (more_is : more ≡ cut behind (numbered next_row added)) (made_is : made ≡ first ++ more) where
+  pub made_all : made ≡ with_added next next_row added left
+  made_all =
+      made_is
+      ∙ ap (λ l. first ++ l) (more_is ∙ ap (λ n. cut n (numbered next_row added)) behind_is)
+      ∙ ap (λ l. l ++ cut (next + length l) (numbered next_row added)) first_is
 
 pub made_for : (n next next_row : ℕ) (e : Edits) (found standing : List Partition) → n ≡ next
     → found ≡ touched e.rows standing

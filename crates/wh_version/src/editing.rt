@@ -14,7 +14,7 @@ pub(crate) fn left(
     sorted: &[&Partition],
     next: u64,
 ) -> Result<Vec<Partition>, AllocError>
-    requires { next ≤ 2 ^ 62 }
+    requires { next ≤ 2 ^ 63 }
     ensures { IfOk result (λ left. left.items ≡ made_of next
         (map (λ p. edited edits.now p.rows) (reverse (partitions_at sorted.now)))) }
 {
@@ -33,7 +33,7 @@ fn add_left(
     partition: &Partition,
     next: u64,
 ) -> Result<(), AllocError>
-    requires { next ≤ 2 ^ 62 }
+    requires { next ≤ 2 ^ 63 }
     ensures { OnOk result (left.new.items ≡ left.old.items
         ++ made_of (next + length left.old.items) (edited edits.now partition.now.rows ∷ [])) }
 {

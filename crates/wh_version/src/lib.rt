@@ -1,6 +1,7 @@
 //! The versions of a table by copy on write: partitions that stand once, whichever versions have them.
 #![tactic(auto, unfolding(crate::specs::History::versions_of, crate::specs::History::nexts_of))]
 
+mod amending;
 mod editing;
 mod edits;
 mod history;

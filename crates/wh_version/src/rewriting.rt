@@ -1,7 +1,6 @@
-ghost use Rattle.std.specs.Prelude.{◌≡◌, ◌+◌, ◌≤◌, ◌^◌, length, map, nat_le, is_some, IfOk, IfSome};
-ghost use Rattle.wh_value.specs.Limit.{bound};
+ghost use Rattle.std.specs.Prelude.{◌≡◌, ◌≤◌, ◌^◌, map, IfOk};
 ghost use Rattle.wh_machine.specs.Edits.{by_rows, edited, made_of, with_added};
-ghost use Rattle.wh_version.specs.Edits.{edits_in, partitions_at};
+ghost use Rattle.wh_version.specs.Edits.{partitions_at};
 
 use crate::editing::left;
 use crate::sorting::by_rows;
@@ -25,6 +24,25 @@ impl History {
     ghost use Rattle.wh_version.specs.Edits.{edits_in};
     ghost use Rattle.wh_version.specs.History.{versions_of, nexts_of, standing_in, next_in};
 
+    /// What edits make of the last version, by the cutting rule, whatever numbers come out.
+    pub fn edited(
+        &self,
+        alloc: Global,
+        edits: Edits,
+        next_row: u64,
+    ) -> Result<Rewritten, AllocError>
+        ensures removed { IfOk result (λ r. r.removed.items
+            ≡ numbers_gone (edits_in edits).rows (standing_in (versions_of self.now))) }
+        ensures added { IfOk result (λ r. r.added.items
+            ≡ partitions_made (next_in (nexts_of self.now)) next_row (edits_in edits)
+            (standing_in (versions_of self.now))) }
+    {
+        let touched = touched(alloc, &edits.rows, self.kept())?;
+        let removed = numbers(alloc, &touched)?;
+        let added = made(alloc, edits, &touched, self.next_partition(), next_row)?;
+        Ok(Rewritten { removed, added })
+    }
+
     /// What edits make of the last version, by the cutting rule. None exactly where the next
     /// partition number would pass its limit.
     pub fn rewrite(
@@ -44,13 +62,12 @@ impl History {
             ≡ partitions_made (next_in (nexts_of self.now)) next_row (edits_in edits)
             (standing_in (versions_of self.now)))) }
     {
-        let touched = touched(alloc, &edits.rows, self.kept())?;
-        let removed = numbers(alloc, &touched)?;
-        let next = self.next_partition();
-        let Some(added) = made(alloc, edits, &touched, next, next_row)? else {
+        let rewritten = self.edited(alloc, edits, next_row)?;
+        let behind = self.next_partition() + rewritten.added.len() as u64;
+        if behind > Limit::PartitionNumber.bound() {
             return Ok(None);
-        };
-        Ok(Some(Rewritten { removed, added }))
+        }
+        Ok(Some(rewritten))
     }
 }
 
@@ -61,31 +78,21 @@ fn made(
     touched: &[&Partition],
     next: u64,
     next_row: u64,
-) -> Result<Option<Vec<Partition>>, AllocError>
-    requires rows { next_row + length (edits_in edits).added ≤ bound Limit.RowNumber }
-    ensures fits { IfOk result (λ found. is_some found ≡ nat_le (next + length
-        (with_added next next_row edits.added.items (made_of next
-        (map (λ p. edited edits.rows p.rows) (by_rows (partitions_at touched.now))))))
-        (bound Limit.PartitionNumber)) }
-    ensures made { IfOk result (λ found. IfSome found (λ made. made.items
-        ≡ with_added next next_row edits.added.items (made_of next
-        (map (λ p. edited edits.rows p.rows) (by_rows (partitions_at touched.now)))))) }
+) -> Result<Vec<Partition>, AllocError>
+    requires { next ≤ 2 ^ 63 }
+    ensures { IfOk result (λ made. made.items ≡ with_added next next_row edits.added.items (made_of next
+        (map (λ p. edited edits.rows p.rows) (by_rows (partitions_at touched.now))))) }
 {
-    let limit = Limit::PartitionNumber.bound();
-    if next > limit {
-        return Ok(None);
-    }
     let Edits { rows, added } = edits;
     let sorted = by_rows(alloc, touched)?;
     let mut made = left(alloc, &rows, &sorted, next)?;
     let behind = next + made.len() as u64;
-    if behind > limit {
-        return Ok(None);
+    let count = added.len() as u64;
+    // So many rows can't be numbered, and no memory has them.
+    if count > u64::MAX - next_row || count > u64::MAX - behind {
+        return Err(AllocError);
     }
     let mut more = cut(alloc, added, next_row, behind)?;
     made.append(&mut more)?;
-    if next + made.len() as u64 > limit {
-        return Ok(None);
-    }
-    Ok(Some(made))
+    Ok(made)
 }

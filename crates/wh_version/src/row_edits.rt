@@ -23,10 +23,10 @@ impl Model for RowEdits {
 }
 
 impl RowEdits {
-    ghost use Rattle.std.specs.Prelude.{◌≡◌, ℕ, ◌≤◌, None, is_some, OnOk};
-    ghost use Rattle.std.specs.Bool.{OnFalse};
-    ghost use Rattle.std.specs.FinMap.{empty, get, insert};
-    ghost use Rattle.wh_machine.specs.Edits.{edited_row};
+    ghost use Rattle.std.specs.Prelude.{◌≡◌, ℕ, ◌≤◌, None, is_some, OnOk, IfOk};
+    ghost use Rattle.std.specs.Bool.{OnTrue, OnFalse};
+    ghost use Rattle.std.specs.FinMap.{empty, get, insert, entries};
+    ghost use Rattle.wh_machine.specs.Edits.{edited_row, with_later};
     ghost use Rattle.wh_version.specs.Edits.{row_left};
 
     /// Each row stays. Takes no memory.
@@ -38,6 +38,17 @@ impl RowEdits {
         }
     }
 
+    /// Equal edits, with memory of their own.
+    pub(crate) fn copy(&self, alloc: Global) -> Result<RowEdits, AllocError>
+        ensures { IfOk result (λ copy. copy ≡ self.now) }
+    {
+        let mut copy = RowEdits::new(alloc);
+        for (number, row) in &self.map {
+            copy.put(*number, copied(alloc, row)?)?;
+        }
+        Ok(copy)
+    }
+
     /// The row of that number becomes another, or goes.
     pub(crate) fn put(&mut self, number: u64, row: Option<Row>) -> Result<(), AllocError>
         ensures { OnOk result (self.new ≡ insert self.old number row) }
@@ -46,6 +57,26 @@ impl RowEdits {
             return Err(AllocError);
         };
         Ok(())
+    }
+
+    /// Later edits on top, of rows whose numbers are below the next one.
+    pub(crate) fn put_later(&mut self, next_row: u64, later: RowEdits) -> Result<(), AllocError>
+        ensures { OnOk result (self.new ≡ with_later next_row self.old (entries later)) }
+    {
+        let RowEdits { map } = later;
+        for (number, row) in map {
+            if number < next_row {
+                self.put(number, row)?;
+            }
+        }
+        Ok(())
+    }
+
+    /// Whether each row stays.
+    pub(crate) fn is_empty(&self) -> bool
+        ensures { OnTrue result (self.now ≡ empty) }
+    {
+        self.map.is_empty()
     }
 
     /// Whether the row of that number becomes another, be it an equal one, or goes.
@@ -73,5 +104,16 @@ impl RowEdits {
             Some(None) => None,
             Some(Some(new)) => Some(new),
         }
+    }
+}
+
+ghost use Rattle.std.specs.Prelude.{◌≡◌, IfOk};
+
+fn copied(alloc: Global, row: &Option<Row>) -> Result<Option<Row>, AllocError>
+    ensures { IfOk result (λ copy. copy ≡ row.now) }
+{
+    match row {
+        None => Ok(None),
+        Some(row) => Ok(Some(row.copy(alloc)?)),
     }
 }

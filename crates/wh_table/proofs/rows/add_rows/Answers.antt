@@ -4,8 +4,8 @@ use Rattle.wh_table.specs.Rows.{rows_at, rows_only}
 use Rattle.wh_table.proofs.NumberedRows.{numbered_rows}
 use Rattle.wh_table.proofs.rows.add_rows.Goals as goal
 
-pub returns-clause-added : goal.returns-clause-added
-returns-clause-added c =
+pub returns : goal.returns
+returns c =
     let items = c.rows-entry-items.result.now in
     c.loop-entry.invariant
     ∙ ap (λ l. rows_at c.args.rows.now.items ++ l)

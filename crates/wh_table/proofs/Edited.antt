@@ -1,0 +1,44 @@
+-- A table with edits that are in no version yet.
+--     edited_rows      the rows of the partitions that stay and of those that are made are the rows after the edits
+--     edited_apart     these partitions are apart
+use Rattle.std.proofs.Common.{◌≡◌, ℕ, ◌∷◌, [], ◌++◌, ap, sym, ◌∙◌}
+use Rattle.wh_machine.specs.State.{last_of, content_in, last_rows}
+use Rattle.wh_machine.specs.Commit.{AllApart, pushed}
+use Rattle.wh_machine.specs.Edits.{Edits, without}
+use Rattle.wh_machine.specs.Outcome.{edited_table}
+use Rattle.wh_machine.specs.Stored.{StoredVersion, standing, rows_of, table_meant}
+use Rattle.wh_machine.proofs.ActLaws.{version_change, edited_meant}
+use Rattle.wh_machine.proofs.MeaningLaws.{last_rows_meant}
+use Rattle.wh_version.specs.History.{versions_of}
+use Rattle.wh_table.specs.declared.editing.EditedTable.{EditedTable}
+use Rattle.wh_table.specs.declared.table.StoredTable.{StoredTable}
+use Rattle.wh_table.specs.Edited.{IsEdited}
+use Rattle.wh_table.specs.Table.{kept_table, table_of}
+use Rattle.wh_table.proofs.Apart.{Decides-all_apart, changed_apart}
+use Rattle.wh_table.proofs.OrderlyTables.{orderly_table}
+use Rattle.wh_table.proofs.Pushed.{last_apart, last_of-push}
+
+module _ (t : StoredTable) (edited : EditedTable) (e : Edits) (is : IsEdited edited e (table_of t)) where
+  pub edited_rows : (stamp : ℕ) → rows_of (without edited.removed.items (standing (table_of t)) ++ edited.added.items)
+      ≡ last_rows (edited_table stamp e (table_meant (table_of t)))
+  edited_rows stamp =
+      let new : StoredVersion = record {
+        stamp = stamp;
+        data_timestamp = stamp;
+        content = without edited.removed.items (standing (table_of t)) ++ edited.added.items;
+      } in
+      ap (λ last. rows_of (content_in [] last)) (sym (last_of-push (table_of t).versions new))
+      ∙ (λ i. rows_of (content_in [] (last_of ((table_of t).versions ++ (record {
+        stamp = stamp;
+        data_timestamp = stamp;
+        content = without (is.removed i) (standing (table_of t)) ++ is.added i;
+      }) ∷ []))))
+      ∙ sym (last_rows_meant (pushed stamp (version_change stamp 0 e (table_of t)) (table_of t)))
+      ∙ ap last_rows (edited_meant stamp 0 e (table_of t) (orderly_table t))
+
+  pub edited_apart : AllApart [] (without edited.removed.items (standing (table_of t)) ++ edited.added.items)
+  unfolding kept_table
+  edited_apart =
+      (Decides-all_apart [] (without edited.removed.items (standing (table_of t)) ++ edited.added.items)).0
+      (changed_apart edited.removed.items (standing (table_of t)) edited.added.items
+      (last_apart (versions_of t.history) t.apart) is.apart)
