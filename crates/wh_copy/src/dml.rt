@@ -2,7 +2,7 @@
 ghost use Rattle.std.specs.Prelude.{◌≡◌, IfOk};
 
 use crate::expr::{copy_expr, copy_exprs, copy_optional_expr};
-use crate::parts::{copy_optional_text, copy_optional_texts};
+use crate::parts::{beside, copy_optional_text, copy_optional_texts};
 use crate::query::{copy_query, copy_source};
 use sqlite_items::Items;
 use std::alloc::{AllocError, Global};
@@ -13,27 +13,29 @@ pub fn copy_dml(alloc: Global, dml: &Dml) -> Result<Dml, AllocError>
     ensures { IfOk result (λ copy. copy ≡ dml.now) }
 {
     match dml {
-        Dml::Insert(table, columns, rows) => Ok(Dml::Insert(
-            table.copy(alloc)?,
-            copy_optional_texts(alloc, columns)?,
-            copy_rows(alloc, rows)?,
-        )),
-        Dml::Update(table, assignments, filter) => Ok(Dml::Update(
-            table.copy(alloc)?,
-            copy_assignments(alloc, assignments.as_slice())?,
-            copy_optional_expr(alloc, filter)?,
-        )),
-        Dml::Delete(table, filter) => Ok(Dml::Delete(
-            table.copy(alloc)?,
-            copy_optional_expr(alloc, filter)?,
-        )),
-        Dml::Merge(target, alias, source, on, clauses) => Ok(Dml::Merge(
-            target.copy(alloc)?,
-            copy_optional_text(alloc, alias)?,
-            copy_source(alloc, source)?,
-            copy_expr(alloc, on)?,
-            copy_clauses(alloc, clauses.as_slice())?,
-        )),
+        Dml::Insert(table, columns, rows) => {
+            let names = beside(table.copy(alloc)?, copy_optional_texts(alloc, columns))?;
+            let ((table, columns), rows) = beside(names, copy_rows(alloc, rows))?;
+            Ok(Dml::Insert(table, columns, rows))
+        }
+        Dml::Update(table, assignments, filter) => {
+            let assignments = copy_assignments(alloc, assignments.as_slice());
+            let parts = beside(table.copy(alloc)?, assignments)?;
+            let ((table, assignments), filter) = beside(parts, copy_optional_expr(alloc, filter))?;
+            Ok(Dml::Update(table, assignments, filter))
+        }
+        Dml::Delete(table, filter) => {
+            let (table, filter) = beside(table.copy(alloc)?, copy_optional_expr(alloc, filter))?;
+            Ok(Dml::Delete(table, filter))
+        }
+        Dml::Merge(target, alias, source, on, clauses) => {
+            let names = beside(target.copy(alloc)?, copy_optional_text(alloc, alias))?;
+            let parts = beside(names, copy_clauses(alloc, clauses.as_slice()))?;
+            let parts = beside(parts, copy_expr(alloc, on))?;
+            let (((names, clauses), on), source) = beside(parts, copy_source(alloc, source))?;
+            let (target, alias) = names;
+            Ok(Dml::Merge(target, alias, source, on, clauses))
+        }
     }
 }
 
@@ -64,10 +66,9 @@ pub(crate) fn copy_assignment(
 ) -> Result<Assignment, AllocError>
     ensures { IfOk result (λ copy. copy ≡ assignment.now) }
 {
-    Ok(Assignment {
-        column: assignment.column.copy(alloc)?,
-        value: copy_expr(alloc, &assignment.value)?,
-    })
+    let column = assignment.column.copy(alloc)?;
+    let (column, value) = beside(column, copy_expr(alloc, &assignment.value))?;
+    Ok(Assignment { column, value })
 }
 
 fn copy_assignments(
@@ -88,18 +89,22 @@ pub(crate) fn copy_clause(alloc: Global, clause: &MergeClause) -> Result<MergeCl
     ensures { IfOk result (λ copy. copy ≡ clause.now) }
 {
     match clause {
-        MergeClause::Update(condition, assignments) => Ok(MergeClause::Update(
-            copy_optional_expr(alloc, condition)?,
-            copy_assignments(alloc, assignments.as_slice())?,
-        )),
-        MergeClause::Delete(condition) => Ok(MergeClause::Delete(copy_optional_expr(
-            alloc, condition,
-        )?)),
-        MergeClause::Insert(condition, columns, values) => Ok(MergeClause::Insert(
-            copy_optional_expr(alloc, condition)?,
-            copy_optional_texts(alloc, columns)?,
-            copy_exprs(alloc, values.as_slice())?,
-        )),
+        MergeClause::Update(condition, assignments) => {
+            let assignments = copy_assignments(alloc, assignments.as_slice())?;
+            let parts = beside(assignments, copy_optional_expr(alloc, condition))?;
+            let (assignments, condition) = parts;
+            Ok(MergeClause::Update(condition, assignments))
+        }
+        MergeClause::Delete(condition) => {
+            Ok(MergeClause::Delete(copy_optional_expr(alloc, condition)?))
+        }
+        MergeClause::Insert(condition, columns, values) => {
+            let columns = copy_optional_texts(alloc, columns)?;
+            let lists = beside(columns, copy_exprs(alloc, values.as_slice()))?;
+            let (lists, condition) = beside(lists, copy_optional_expr(alloc, condition))?;
+            let (columns, values) = lists;
+            Ok(MergeClause::Insert(condition, columns, values))
+        }
     }
 }
 

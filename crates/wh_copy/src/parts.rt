@@ -1,9 +1,23 @@
 //! Copies of values, names and columns.
-ghost use Rattle.std.specs.Prelude.{◌≡◌, IfOk};
+ghost use Rattle.std.specs.Prelude.{◌≡◌, Ok, IfOk};
 
 use sqlite_items::Items;
 use std::alloc::{AllocError, Global};
 use wh_value::{Column, Text, Value};
+
+// The first with what came of the second; if that is a fault, the first is let go.
+pub(crate) fn beside<A: Drop, B>(
+    first: A,
+    second: Result<B, AllocError>,
+) -> Result<(A, B), AllocError>
+    ensures first { IfOk result (λ both. both.0 ≡ first) }
+    ensures second { IfOk result (λ both. second ≡ Ok both.1) }
+{
+    match second {
+        Ok(second) => Ok((first, second)),
+        Err(fault) => Err(fault),
+    }
+}
 
 pub(crate) fn copy_value(alloc: Global, value: &Value) -> Result<Value, AllocError>
     ensures { IfOk result (λ copy. copy ≡ value.now) }

@@ -2,7 +2,7 @@
 ghost use Rattle.std.specs.Prelude.{◌≡◌, IfOk};
 
 use crate::expr::{copy_expr, copy_exprs, copy_optional_expr};
-use crate::parts::copy_optional_text;
+use crate::parts::{beside, copy_optional_text};
 use sqlite_items::{Boxed, Items};
 use std::alloc::{AllocError, Global};
 use wh_ast::{Core, Item, Join, Key, Query, Sort, Source};
@@ -15,6 +15,13 @@ pub fn copy_query(alloc: Global, query: &Query) -> Result<Query, AllocError>
     Ok(Query {
         cores: copy_cores(alloc, query.cores.as_slice())?,
     })
+}
+
+#[cycle(copy)]
+fn copy_boxed(alloc: Global, query: &Boxed<Query>) -> Result<Boxed<Query>, AllocError>
+    ensures { IfOk result (λ copy. copy ≡ query.now) }
+{
+    Boxed::new(alloc, copy_query(alloc, query.get())?)
 }
 
 #[cycle(copy)]
@@ -33,12 +40,18 @@ fn copy_cores(alloc: Global, cores: &[Core]) -> Result<Items<Core>, AllocError>
 pub(crate) fn copy_core(alloc: Global, core: &Core) -> Result<Core, AllocError>
     ensures { IfOk result (λ copy. copy ≡ core.now) }
 {
+    let items = copy_items(alloc, core.items.as_slice())?;
+    let (items, joins) = beside(items, copy_joins(alloc, core.joins.as_slice()))?;
+    let (lists, group) = beside((items, joins), copy_exprs(alloc, core.group.as_slice()))?;
+    let (lists, filter) = beside((lists, group), copy_optional_expr(alloc, &core.filter))?;
+    let (parts, from) = beside((lists, filter), copy_source(alloc, &core.from))?;
+    let (((items, joins), group), filter) = parts;
     Ok(Core {
-        items: copy_items(alloc, core.items.as_slice())?,
-        from: copy_source(alloc, &core.from)?,
-        joins: copy_joins(alloc, core.joins.as_slice())?,
-        filter: copy_optional_expr(alloc, &core.filter)?,
-        group: copy_exprs(alloc, core.group.as_slice())?,
+        items,
+        from,
+        joins,
+        filter,
+        group,
     })
 }
 
@@ -49,10 +62,10 @@ pub(crate) fn copy_item(alloc: Global, item: &Item) -> Result<Item, AllocError>
     match item {
         Item::Star => Ok(Item::Star),
         Item::StarOf(entry) => Ok(Item::StarOf(entry.copy(alloc)?)),
-        Item::Expr(expr, alias) => Ok(Item::Expr(
-            copy_expr(alloc, expr)?,
-            copy_optional_text(alloc, alias)?,
-        )),
+        Item::Expr(expr, alias) => {
+            let (alias, expr) = beside(copy_optional_text(alloc, alias)?, copy_expr(alloc, expr))?;
+            Ok(Item::Expr(expr, alias))
+        }
     }
 }
 
@@ -72,14 +85,14 @@ pub(crate) fn copy_source(alloc: Global, source: &Source) -> Result<Source, Allo
     ensures { IfOk result (λ copy. copy ≡ source.now) }
 {
     match source {
-        Source::Named(name, alias) => Ok(Source::Named(
-            name.copy(alloc)?,
-            copy_optional_text(alloc, alias)?,
-        )),
-        Source::Subquery(query, alias) => Ok(Source::Subquery(
-            Boxed::new(alloc, copy_query(alloc, query.get())?)?,
-            alias.copy(alloc)?,
-        )),
+        Source::Named(name, alias) => {
+            let (name, alias) = beside(name.copy(alloc)?, copy_optional_text(alloc, alias))?;
+            Ok(Source::Named(name, alias))
+        }
+        Source::Subquery(query, alias) => {
+            let (alias, query) = beside(alias.copy(alloc)?, copy_boxed(alloc, query))?;
+            Ok(Source::Subquery(query, alias))
+        }
     }
 }
 
@@ -88,10 +101,11 @@ pub(crate) fn copy_source(alloc: Global, source: &Source) -> Result<Source, Allo
 pub(crate) fn copy_join(alloc: Global, join: &Join) -> Result<Join, AllocError>
     ensures { IfOk result (λ copy. copy ≡ join.now) }
 {
-    Ok(Join {
-        source: copy_source(alloc, &join.source)?,
-        on: copy_expr(alloc, &join.on)?,
-    })
+    let (on, source) = beside(
+        copy_expr(alloc, &join.on)?,
+        copy_source(alloc, &join.source),
+    )?;
+    Ok(Join { source, on })
 }
 
 #[cycle(copy)]

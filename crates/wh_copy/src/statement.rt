@@ -2,7 +2,7 @@
 ghost use Rattle.std.specs.Prelude.{◌≡◌, IfOk};
 
 use crate::dml::copy_dml;
-use crate::parts::{copy_columns, copy_texts};
+use crate::parts::{beside, copy_columns, copy_texts};
 use crate::query::{copy_query, copy_sorts};
 use sqlite_items::Boxed;
 use std::alloc::{AllocError, Global};
@@ -13,20 +13,20 @@ pub fn copy_statement(alloc: Global, statement: &Statement) -> Result<Statement,
     ensures { IfOk result (λ copy. copy ≡ statement.now) }
 {
     match statement {
-        Statement::Select(query, sorts) => Ok(Statement::Select(
-            copy_query(alloc, query)?,
-            copy_sorts(alloc, sorts.as_slice())?,
-        )),
+        Statement::Select(query, sorts) => {
+            let sorts = copy_sorts(alloc, sorts.as_slice())?;
+            let (sorts, query) = beside(sorts, copy_query(alloc, query))?;
+            Ok(Statement::Select(query, sorts))
+        }
         Statement::HasData(name) => Ok(Statement::HasData(name.copy(alloc)?)),
         Statement::Dml(dml) => Ok(Statement::Dml(copy_dml(alloc, dml)?)),
         Statement::CreateTable(table) => Ok(Statement::CreateTable(copy_create_table(
             alloc, table,
         )?)),
-        Statement::CreateStream(name, table, append_only) => Ok(Statement::CreateStream(
-            name.copy(alloc)?,
-            table.copy(alloc)?,
-            *append_only,
-        )),
+        Statement::CreateStream(name, table, append_only) => {
+            let (name, table) = beside(name.copy(alloc)?, table.copy(alloc))?;
+            Ok(Statement::CreateStream(name, table, *append_only))
+        }
         Statement::CreateTask(task) => Ok(Statement::CreateTask(copy_create_task(alloc, task)?)),
         Statement::ResumeTask(name) => Ok(Statement::ResumeTask(name.copy(alloc)?)),
         Statement::SuspendTask(name) => Ok(Statement::SuspendTask(name.copy(alloc)?)),
@@ -61,10 +61,12 @@ pub(crate) fn copy_create_table(
 ) -> Result<CreateTable, AllocError>
     ensures { IfOk result (λ copy. copy ≡ table.now) }
 {
+    let name = table.name.copy(alloc)?;
+    let (name, columns) = beside(name, copy_columns(alloc, table.columns.as_slice()))?;
     Ok(CreateTable {
         replace: table.replace,
-        name: table.name.copy(alloc)?,
-        columns: copy_columns(alloc, table.columns.as_slice())?,
+        name,
+        columns,
         retention: table.retention,
     })
 }
@@ -73,13 +75,18 @@ pub(crate) fn copy_create_table(
 pub(crate) fn copy_create_task(alloc: Global, task: &CreateTask) -> Result<CreateTask, AllocError>
     ensures { IfOk result (λ copy. copy ≡ task.now) }
 {
+    let texts = beside(task.name.copy(alloc)?, task.body_text.copy(alloc))?;
+    let texts = beside(texts, copy_texts(alloc, task.after.as_slice()))?;
+    let (texts, when) = beside(texts, copy_optional_when(alloc, &task.when))?;
+    let ((texts, when), body) = beside((texts, when), copy_dml(alloc, &task.body))?;
+    let ((name, body_text), after) = texts;
     Ok(CreateTask {
-        name: task.name.copy(alloc)?,
+        name,
         minutes: task.minutes,
-        after: copy_texts(alloc, task.after.as_slice())?,
-        when: copy_optional_when(alloc, &task.when)?,
-        body: copy_dml(alloc, &task.body)?,
-        body_text: task.body_text.copy(alloc)?,
+        after,
+        when,
+        body,
+        body_text,
     })
 }
 
@@ -96,31 +103,35 @@ fn copy_optional_when(alloc: Global, when: &Option<When>) -> Result<Option<When>
 pub(crate) fn copy_when(alloc: Global, when: &When) -> Result<When, AllocError>
     ensures { IfOk result (λ copy. copy ≡ when.now) }
 {
-    Ok(When {
-        condition: copy_condition(alloc, &when.condition)?,
-        text: when.text.copy(alloc)?,
-    })
+    let text = when.text.copy(alloc)?;
+    let (text, condition) = beside(text, copy_condition(alloc, &when.condition))?;
+    Ok(When { condition, text })
 }
 
 /// An equal condition, with memory of its own.
+#[cycle(copy)]
 pub fn copy_condition(alloc: Global, condition: &Condition) -> Result<Condition, AllocError>
     ensures { IfOk result (λ copy. copy ≡ condition.now) }
 {
     match condition {
-        Condition::Or(x, y) => Ok(Condition::Or(
-            Boxed::new(alloc, copy_condition(alloc, x.get())?)?,
-            Boxed::new(alloc, copy_condition(alloc, y.get())?)?,
-        )),
-        Condition::And(x, y) => Ok(Condition::And(
-            Boxed::new(alloc, copy_condition(alloc, x.get())?)?,
-            Boxed::new(alloc, copy_condition(alloc, y.get())?)?,
-        )),
-        Condition::Not(x) => Ok(Condition::Not(Boxed::new(
-            alloc,
-            copy_condition(alloc, x.get())?,
-        )?)),
+        Condition::Or(x, y) => {
+            let (x, y) = beside(copy_boxed(alloc, x)?, copy_boxed(alloc, y))?;
+            Ok(Condition::Or(x, y))
+        }
+        Condition::And(x, y) => {
+            let (x, y) = beside(copy_boxed(alloc, x)?, copy_boxed(alloc, y))?;
+            Ok(Condition::And(x, y))
+        }
+        Condition::Not(x) => Ok(Condition::Not(copy_boxed(alloc, x)?)),
         Condition::HasData(name) => Ok(Condition::HasData(name.copy(alloc)?)),
     }
+}
+
+#[cycle(copy)]
+fn copy_boxed(alloc: Global, condition: &Boxed<Condition>) -> Result<Boxed<Condition>, AllocError>
+    ensures { IfOk result (λ copy. copy ≡ condition.now) }
+{
+    Boxed::new(alloc, copy_condition(alloc, condition.get())?)
 }
 
 // An equal statement, with memory of its own.
@@ -130,12 +141,14 @@ pub(crate) fn copy_create_dynamic_table(
 ) -> Result<CreateDynamicTable, AllocError>
     ensures { IfOk result (λ copy. copy ≡ table.now) }
 {
+    let texts = beside(table.name.copy(alloc)?, table.query_text.copy(alloc))?;
+    let ((name, query_text), query) = beside(texts, copy_query(alloc, &table.query))?;
     Ok(CreateDynamicTable {
-        name: table.name.copy(alloc)?,
+        name,
         lag: table.lag,
         mode: table.mode,
         initialize: table.initialize,
-        query: copy_query(alloc, &table.query)?,
-        query_text: table.query_text.copy(alloc)?,
+        query,
+        query_text,
     })
 }
