@@ -1,7 +1,7 @@
 //! Copies of expressions.
 ghost use Rattle.std.specs.Prelude.{◌≡◌, IfOk};
 
-use crate::parts::{beside, copy_optional_text, copy_value};
+use crate::parts::{Part, beside, copy_two, copy_value};
 use sqlite_items::{Boxed, Items};
 use std::alloc::{AllocError, Global};
 use wh_ast::Expr;
@@ -14,7 +14,7 @@ pub fn copy_expr(alloc: Global, expr: &Expr) -> Result<Expr, AllocError>
     match expr {
         Expr::Const(value) => Ok(Expr::Const(copy_value(alloc, value)?)),
         Expr::Column(entry, name) => {
-            let (entry, name) = beside(copy_optional_text(alloc, entry)?, name.copy(alloc))?;
+            let (entry, name) = copy_two(alloc, entry, name)?;
             Ok(Expr::Column(entry, name))
         }
         Expr::Neg(x) => Ok(Expr::Neg(copy_boxed(alloc, x)?)),
@@ -58,14 +58,8 @@ pub(crate) fn copy_exprs(alloc: Global, items: &[Expr]) -> Result<Items<Expr>, A
     Ok(copies)
 }
 
-pub(crate) fn copy_optional_expr(
-    alloc: Global,
-    expr: &Option<Expr>,
-) -> Result<Option<Expr>, AllocError>
-    ensures { IfOk result (λ copy. copy ≡ expr.now) }
-{
-    match expr {
-        Some(expr) => Ok(Some(copy_expr(alloc, expr)?)),
-        None => Ok(None),
+impl Part for Expr {
+    fn copied(&self, alloc: Global) -> Result<Expr, AllocError> {
+        copy_expr(alloc, self)
     }
 }
