@@ -1,9 +1,11 @@
 //! Copies of statements that change rows.
 ghost use Rattle.std.specs.Prelude.{◌≡◌, IfOk};
 
-use crate::parts::{Part, beside, copy_three, copy_two};
+use crate::parts::{Part, copy_three, copy_two};
+use sqlite_items::Items;
 use std::alloc::{AllocError, Global};
-use wh_ast::{Assignment, Dml, MergeClause, Rows};
+use wh_ast::{Assignment, Dml, Expr, MergeClause, Rows, Source};
+use wh_value::Text;
 
 /// An equal statement, with memory of its own.
 pub fn copy_dml(alloc: Global, dml: &Dml) -> Result<Dml, AllocError>
@@ -28,13 +30,26 @@ impl Part for Dml {
                 Ok(Dml::Delete(table, filter))
             }
             Dml::Merge(target, alias, source, on, clauses) => {
-                let names = copy_two(alloc, target, alias)?;
-                let (names, parts) = beside(names, copy_three(alloc, source, on, clauses))?;
-                let ((target, alias), (source, on, clauses)) = (names, parts);
-                Ok(Dml::Merge(target, alias, source, on, clauses))
+                copy_merge(alloc, target, alias, source, on, clauses)
             }
         }
     }
+}
+
+fn copy_merge(
+    alloc: Global,
+    target: &Text,
+    alias: &Option<Text>,
+    source: &Source,
+    on: &Expr,
+    clauses: &Items<MergeClause>,
+) -> Result<Dml, AllocError>
+    ensures { IfOk result (λ copy. copy
+        ≡ Dml.Merge target.now alias.now source.now on.now clauses.now) }
+{
+    let (target, alias) = copy_two(alloc, target, alias)?;
+    let (source, on, clauses) = copy_three(alloc, source, on, clauses)?;
+    Ok(Dml::Merge(target, alias, source, on, clauses))
 }
 
 impl Part for Rows {
