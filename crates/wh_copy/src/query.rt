@@ -12,20 +12,12 @@ use wh_ast::{Core, Item, Join, Key, Query, Sort, Source};
 pub fn copy_query(alloc: Global, query: &Query) -> Result<Query, AllocError>
     ensures { IfOk result (λ copy. copy ≡ query.now) }
 {
-    Ok(Query {
-        cores: copy_cores(alloc, query.cores.as_slice())?,
-    })
-}
-
-#[cycle(copy)]
-fn copy_cores(alloc: Global, cores: &[Core]) -> Result<Items<Core>, AllocError>
-    ensures { IfOk result (λ copies. copies ≡ cores.now) }
-{
     let mut copies = Items::new(alloc);
+    let cores = query.cores.as_slice();
     for core in cores {
         copies.push(copy_core(alloc, core)?)?;
     }
-    Ok(copies)
+    Ok(Query { cores: copies })
 }
 
 // An equal core, with memory of its own.
@@ -57,17 +49,11 @@ fn copy_source(alloc: Global, source: &Source) -> Result<Source, AllocError>
             Ok(Source::Named(name, alias))
         }
         Source::Subquery(query, alias) => {
-            let (alias, query) = beside(alias.copy(alloc)?, copy_boxed(alloc, query))?;
+            let query = Boxed::new(alloc, copy_query(alloc, query.get())?)?;
+            let (query, alias) = beside(query, alias.copy(alloc))?;
             Ok(Source::Subquery(query, alias))
         }
     }
-}
-
-#[cycle(copy)]
-fn copy_boxed(alloc: Global, query: &Boxed<Query>) -> Result<Boxed<Query>, AllocError>
-    ensures { IfOk result (λ copy. copy ≡ query.now) }
-{
-    Boxed::new(alloc, copy_query(alloc, query.get())?)
 }
 
 // An equal join, with memory of its own.
