@@ -1,114 +1,85 @@
 //! Copies of statements that change rows.
 ghost use Rattle.std.specs.Prelude.{◌≡◌, IfOk};
 
-use crate::expr::{copy_expr, copy_exprs, copy_optional_expr};
-use crate::parts::{copy_optional_text, copy_optional_texts};
-use crate::query::{copy_query, copy_source};
+use crate::parts::{Part, copy_three, copy_two};
 use sqlite_items::Items;
 use std::alloc::{AllocError, Global};
-use wh_ast::{Assignment, Dml, Expr, MergeClause, Rows};
+use wh_ast::{Assignment, Dml, Expr, MergeClause, Rows, Source};
+use wh_value::Text;
 
 /// An equal statement, with memory of its own.
 pub fn copy_dml(alloc: Global, dml: &Dml) -> Result<Dml, AllocError>
     ensures { IfOk result (λ copy. copy ≡ dml.now) }
 {
-    match dml {
-        Dml::Insert(table, columns, rows) => Ok(Dml::Insert(
-            table.copy(alloc)?,
-            copy_optional_texts(alloc, columns)?,
-            copy_rows(alloc, rows)?,
-        )),
-        Dml::Update(table, assignments, filter) => Ok(Dml::Update(
-            table.copy(alloc)?,
-            copy_assignments(alloc, assignments.as_slice())?,
-            copy_optional_expr(alloc, filter)?,
-        )),
-        Dml::Delete(table, filter) => Ok(Dml::Delete(
-            table.copy(alloc)?,
-            copy_optional_expr(alloc, filter)?,
-        )),
-        Dml::Merge(target, alias, source, on, clauses) => Ok(Dml::Merge(
-            target.copy(alloc)?,
-            copy_optional_text(alloc, alias)?,
-            copy_source(alloc, source)?,
-            copy_expr(alloc, on)?,
-            copy_clauses(alloc, clauses.as_slice())?,
-        )),
+    dml.copied(alloc)
+}
+
+impl Part for Dml {
+    fn copied(&self, alloc: Global) -> Result<Dml, AllocError> {
+        match self {
+            Dml::Insert(table, columns, rows) => {
+                let (table, columns, rows) = copy_three(alloc, table, columns, rows)?;
+                Ok(Dml::Insert(table, columns, rows))
+            }
+            Dml::Update(table, assignments, filter) => {
+                let (table, assignments, filter) = copy_three(alloc, table, assignments, filter)?;
+                Ok(Dml::Update(table, assignments, filter))
+            }
+            Dml::Delete(table, filter) => {
+                let (table, filter) = copy_two(alloc, table, filter)?;
+                Ok(Dml::Delete(table, filter))
+            }
+            Dml::Merge(target, alias, source, on, clauses) => {
+                copy_merge(alloc, target, alias, source, on, clauses)
+            }
+        }
     }
 }
 
-// Equal rows, with memory of their own.
-pub(crate) fn copy_rows(alloc: Global, rows: &Rows) -> Result<Rows, AllocError>
-    ensures { IfOk result (λ copy. copy ≡ rows.now) }
-{
-    match rows {
-        Rows::Values(rows) => Ok(Rows::Values(copy_values(alloc, rows.as_slice())?)),
-        Rows::Query(query) => Ok(Rows::Query(copy_query(alloc, query)?)),
-    }
-}
-
-fn copy_values(alloc: Global, rows: &[Items<Expr>]) -> Result<Items<Items<Expr>>, AllocError>
-    ensures { IfOk result (λ copies. copies ≡ rows.now) }
-{
-    let mut copies = Items::new(alloc);
-    for row in rows {
-        copies.push(copy_exprs(alloc, row.as_slice())?)?;
-    }
-    Ok(copies)
-}
-
-// An equal assignment, with memory of its own.
-pub(crate) fn copy_assignment(
+fn copy_merge(
     alloc: Global,
-    assignment: &Assignment,
-) -> Result<Assignment, AllocError>
-    ensures { IfOk result (λ copy. copy ≡ assignment.now) }
+    target: &Text,
+    alias: &Option<Text>,
+    source: &Source,
+    on: &Expr,
+    clauses: &Items<MergeClause>,
+) -> Result<Dml, AllocError>
+    ensures { IfOk result (λ copy. copy
+        ≡ Dml.Merge target.now alias.now source.now on.now clauses.now) }
 {
-    Ok(Assignment {
-        column: assignment.column.copy(alloc)?,
-        value: copy_expr(alloc, &assignment.value)?,
-    })
+    let (target, alias) = copy_two(alloc, target, alias)?;
+    let (source, on, clauses) = copy_three(alloc, source, on, clauses)?;
+    Ok(Dml::Merge(target, alias, source, on, clauses))
 }
 
-fn copy_assignments(
-    alloc: Global,
-    assignments: &[Assignment],
-) -> Result<Items<Assignment>, AllocError>
-    ensures { IfOk result (λ copies. copies ≡ assignments.now) }
-{
-    let mut copies = Items::new(alloc);
-    for assignment in assignments {
-        copies.push(copy_assignment(alloc, assignment)?)?;
-    }
-    Ok(copies)
-}
-
-// An equal clause, with memory of its own.
-pub(crate) fn copy_clause(alloc: Global, clause: &MergeClause) -> Result<MergeClause, AllocError>
-    ensures { IfOk result (λ copy. copy ≡ clause.now) }
-{
-    match clause {
-        MergeClause::Update(condition, assignments) => Ok(MergeClause::Update(
-            copy_optional_expr(alloc, condition)?,
-            copy_assignments(alloc, assignments.as_slice())?,
-        )),
-        MergeClause::Delete(condition) => Ok(MergeClause::Delete(copy_optional_expr(
-            alloc, condition,
-        )?)),
-        MergeClause::Insert(condition, columns, values) => Ok(MergeClause::Insert(
-            copy_optional_expr(alloc, condition)?,
-            copy_optional_texts(alloc, columns)?,
-            copy_exprs(alloc, values.as_slice())?,
-        )),
+impl Part for Rows {
+    fn copied(&self, alloc: Global) -> Result<Rows, AllocError> {
+        match self {
+            Rows::Values(rows) => Ok(Rows::Values(rows.copied(alloc)?)),
+            Rows::Query(query) => Ok(Rows::Query(query.copied(alloc)?)),
+        }
     }
 }
 
-fn copy_clauses(alloc: Global, clauses: &[MergeClause]) -> Result<Items<MergeClause>, AllocError>
-    ensures { IfOk result (λ copies. copies ≡ clauses.now) }
-{
-    let mut copies = Items::new(alloc);
-    for clause in clauses {
-        copies.push(copy_clause(alloc, clause)?)?;
+impl Part for Assignment {
+    fn copied(&self, alloc: Global) -> Result<Assignment, AllocError> {
+        let (column, value) = copy_two(alloc, &self.column, &self.value)?;
+        Ok(Assignment { column, value })
     }
-    Ok(copies)
+}
+
+impl Part for MergeClause {
+    fn copied(&self, alloc: Global) -> Result<MergeClause, AllocError> {
+        match self {
+            MergeClause::Update(condition, assignments) => {
+                let (condition, assignments) = copy_two(alloc, condition, assignments)?;
+                Ok(MergeClause::Update(condition, assignments))
+            }
+            MergeClause::Delete(condition) => Ok(MergeClause::Delete(condition.copied(alloc)?)),
+            MergeClause::Insert(condition, columns, values) => {
+                let (condition, columns, values) = copy_three(alloc, condition, columns, values)?;
+                Ok(MergeClause::Insert(condition, columns, values))
+            }
+        }
+    }
 }

@@ -1,7 +1,7 @@
 //! Copies of expressions.
 ghost use Rattle.std.specs.Prelude.{◌≡◌, IfOk};
 
-use crate::parts::{copy_optional_text, copy_value};
+use crate::parts::{Part, beside, copy_two, copy_value};
 use sqlite_items::{Boxed, Items};
 use std::alloc::{AllocError, Global};
 use wh_ast::Expr;
@@ -13,36 +13,37 @@ pub fn copy_expr(alloc: Global, expr: &Expr) -> Result<Expr, AllocError>
 {
     match expr {
         Expr::Const(value) => Ok(Expr::Const(copy_value(alloc, value)?)),
-        Expr::Column(entry, name) => Ok(Expr::Column(
-            copy_optional_text(alloc, entry)?,
-            name.copy(alloc)?,
-        )),
-        Expr::Neg(x) => Ok(Expr::Neg(Boxed::new(alloc, copy_expr(alloc, x.get())?)?)),
-        Expr::Not(x) => Ok(Expr::Not(Boxed::new(alloc, copy_expr(alloc, x.get())?)?)),
-        Expr::Binary(operator, x, y) => Ok(Expr::Binary(
-            *operator,
-            Boxed::new(alloc, copy_expr(alloc, x.get())?)?,
-            Boxed::new(alloc, copy_expr(alloc, y.get())?)?,
-        )),
-        Expr::IsNull(negated, x) => Ok(Expr::IsNull(
-            *negated,
-            Boxed::new(alloc, copy_expr(alloc, x.get())?)?,
-        )),
-        Expr::In(negated, x, items) => Ok(Expr::In(
-            *negated,
-            Boxed::new(alloc, copy_expr(alloc, x.get())?)?,
-            copy_exprs(alloc, items.as_slice())?,
-        )),
-        Expr::Between(negated, x, least, greatest) => Ok(Expr::Between(
-            *negated,
-            Boxed::new(alloc, copy_expr(alloc, x.get())?)?,
-            Boxed::new(alloc, copy_expr(alloc, least.get())?)?,
-            Boxed::new(alloc, copy_expr(alloc, greatest.get())?)?,
-        )),
-        Expr::Sum(x) => Ok(Expr::Sum(Boxed::new(alloc, copy_expr(alloc, x.get())?)?)),
+        Expr::Column(entry, name) => {
+            let (entry, name) = copy_two(alloc, entry, name)?;
+            Ok(Expr::Column(entry, name))
+        }
+        Expr::Neg(x) => Ok(Expr::Neg(copy_boxed(alloc, x)?)),
+        Expr::Not(x) => Ok(Expr::Not(copy_boxed(alloc, x)?)),
+        Expr::Binary(operator, x, y) => {
+            let (x, y) = beside(copy_boxed(alloc, x)?, copy_boxed(alloc, y))?;
+            Ok(Expr::Binary(*operator, x, y))
+        }
+        Expr::IsNull(negated, x) => Ok(Expr::IsNull(*negated, copy_boxed(alloc, x)?)),
+        Expr::In(negated, x, items) => {
+            let (x, items) = beside(copy_boxed(alloc, x)?, copy_exprs(alloc, items.as_slice()))?;
+            Ok(Expr::In(*negated, x, items))
+        }
+        Expr::Between(negated, x, least, greatest) => {
+            let (least, greatest) = beside(copy_boxed(alloc, least)?, copy_boxed(alloc, greatest))?;
+            let ((least, greatest), x) = beside((least, greatest), copy_boxed(alloc, x))?;
+            Ok(Expr::Between(*negated, x, least, greatest))
+        }
+        Expr::Sum(x) => Ok(Expr::Sum(copy_boxed(alloc, x)?)),
         Expr::CountRows => Ok(Expr::CountRows),
-        Expr::Count(x) => Ok(Expr::Count(Boxed::new(alloc, copy_expr(alloc, x.get())?)?)),
+        Expr::Count(x) => Ok(Expr::Count(copy_boxed(alloc, x)?)),
     }
+}
+
+#[cycle(copy)]
+fn copy_boxed(alloc: Global, expr: &Boxed<Expr>) -> Result<Boxed<Expr>, AllocError>
+    ensures { IfOk result (λ copy. copy ≡ expr.now) }
+{
+    Boxed::new(alloc, copy_expr(alloc, expr.get())?)
 }
 
 /// Equal expressions, in their order.
@@ -57,14 +58,8 @@ pub(crate) fn copy_exprs(alloc: Global, items: &[Expr]) -> Result<Items<Expr>, A
     Ok(copies)
 }
 
-pub(crate) fn copy_optional_expr(
-    alloc: Global,
-    expr: &Option<Expr>,
-) -> Result<Option<Expr>, AllocError>
-    ensures { IfOk result (λ copy. copy ≡ expr.now) }
-{
-    match expr {
-        Some(expr) => Ok(Some(copy_expr(alloc, expr)?)),
-        None => Ok(None),
+impl Part for Expr {
+    fn copied(&self, alloc: Global) -> Result<Expr, AllocError> {
+        copy_expr(alloc, self)
     }
 }

@@ -1,8 +1,8 @@
 //! Copies of queries.
 ghost use Rattle.std.specs.Prelude.{◌≡◌, IfOk};
 
-use crate::expr::{copy_expr, copy_exprs, copy_optional_expr};
-use crate::parts::copy_optional_text;
+use crate::expr::copy_expr;
+use crate::parts::{Part, beside, copy_three, copy_two};
 use sqlite_items::{Boxed, Items};
 use std::alloc::{AllocError, Global};
 use wh_ast::{Core, Item, Join, Key, Query, Sort, Source};
@@ -12,86 +12,58 @@ use wh_ast::{Core, Item, Join, Key, Query, Sort, Source};
 pub fn copy_query(alloc: Global, query: &Query) -> Result<Query, AllocError>
     ensures { IfOk result (λ copy. copy ≡ query.now) }
 {
-    Ok(Query {
-        cores: copy_cores(alloc, query.cores.as_slice())?,
-    })
-}
-
-#[cycle(copy)]
-fn copy_cores(alloc: Global, cores: &[Core]) -> Result<Items<Core>, AllocError>
-    ensures { IfOk result (λ copies. copies ≡ cores.now) }
-{
     let mut copies = Items::new(alloc);
+    let cores = query.cores.as_slice();
     for core in cores {
         copies.push(copy_core(alloc, core)?)?;
     }
-    Ok(copies)
+    Ok(Query { cores: copies })
 }
 
 // An equal core, with memory of its own.
 #[cycle(copy)]
-pub(crate) fn copy_core(alloc: Global, core: &Core) -> Result<Core, AllocError>
+fn copy_core(alloc: Global, core: &Core) -> Result<Core, AllocError>
     ensures { IfOk result (λ copy. copy ≡ core.now) }
 {
+    let parts = copy_three(alloc, &core.items, &core.filter, &core.group)?;
+    let (parts, joins) = beside(parts, copy_joins(alloc, core.joins.as_slice()))?;
+    let ((parts, joins), from) = beside((parts, joins), copy_source(alloc, &core.from))?;
+    let (items, filter, group) = parts;
     Ok(Core {
-        items: copy_items(alloc, core.items.as_slice())?,
-        from: copy_source(alloc, &core.from)?,
-        joins: copy_joins(alloc, core.joins.as_slice())?,
-        filter: copy_optional_expr(alloc, &core.filter)?,
-        group: copy_exprs(alloc, core.group.as_slice())?,
+        items,
+        from,
+        joins,
+        filter,
+        group,
     })
-}
-
-// An equal item, with memory of its own.
-pub(crate) fn copy_item(alloc: Global, item: &Item) -> Result<Item, AllocError>
-    ensures { IfOk result (λ copy. copy ≡ item.now) }
-{
-    match item {
-        Item::Star => Ok(Item::Star),
-        Item::StarOf(entry) => Ok(Item::StarOf(entry.copy(alloc)?)),
-        Item::Expr(expr, alias) => Ok(Item::Expr(
-            copy_expr(alloc, expr)?,
-            copy_optional_text(alloc, alias)?,
-        )),
-    }
-}
-
-fn copy_items(alloc: Global, items: &[Item]) -> Result<Items<Item>, AllocError>
-    ensures { IfOk result (λ copies. copies ≡ items.now) }
-{
-    let mut copies = Items::new(alloc);
-    for item in items {
-        copies.push(copy_item(alloc, item)?)?;
-    }
-    Ok(copies)
 }
 
 // An equal source, with memory of its own.
 #[cycle(copy)]
-pub(crate) fn copy_source(alloc: Global, source: &Source) -> Result<Source, AllocError>
+fn copy_source(alloc: Global, source: &Source) -> Result<Source, AllocError>
     ensures { IfOk result (λ copy. copy ≡ source.now) }
 {
     match source {
-        Source::Named(name, alias) => Ok(Source::Named(
-            name.copy(alloc)?,
-            copy_optional_text(alloc, alias)?,
-        )),
-        Source::Subquery(query, alias) => Ok(Source::Subquery(
-            Boxed::new(alloc, copy_query(alloc, query.get())?)?,
-            alias.copy(alloc)?,
-        )),
+        Source::Named(name, alias) => {
+            let (name, alias) = copy_two(alloc, name, alias)?;
+            Ok(Source::Named(name, alias))
+        }
+        Source::Subquery(query, alias) => {
+            let query = Boxed::new(alloc, copy_query(alloc, query.get())?)?;
+            let (query, alias) = beside(query, alias.copy(alloc))?;
+            Ok(Source::Subquery(query, alias))
+        }
     }
 }
 
 // An equal join, with memory of its own.
 #[cycle(copy)]
-pub(crate) fn copy_join(alloc: Global, join: &Join) -> Result<Join, AllocError>
+fn copy_join(alloc: Global, join: &Join) -> Result<Join, AllocError>
     ensures { IfOk result (λ copy. copy ≡ join.now) }
 {
-    Ok(Join {
-        source: copy_source(alloc, &join.source)?,
-        on: copy_expr(alloc, &join.on)?,
-    })
+    let on = copy_expr(alloc, &join.on)?;
+    let (on, source) = beside(on, copy_source(alloc, &join.source))?;
+    Ok(Join { source, on })
 }
 
 #[cycle(copy)]
@@ -105,32 +77,46 @@ fn copy_joins(alloc: Global, joins: &[Join]) -> Result<Items<Join>, AllocError>
     Ok(copies)
 }
 
+impl Part for Query {
+    fn copied(&self, alloc: Global) -> Result<Query, AllocError> {
+        copy_query(alloc, self)
+    }
+}
+
+impl Part for Source {
+    fn copied(&self, alloc: Global) -> Result<Source, AllocError> {
+        copy_source(alloc, self)
+    }
+}
+
+impl Part for Item {
+    fn copied(&self, alloc: Global) -> Result<Item, AllocError> {
+        match self {
+            Item::Star => Ok(Item::Star),
+            Item::StarOf(entry) => Ok(Item::StarOf(entry.copy(alloc)?)),
+            Item::Expr(expr, alias) => {
+                let (expr, alias) = copy_two(alloc, expr, alias)?;
+                Ok(Item::Expr(expr, alias))
+            }
+        }
+    }
+}
+
+impl Part for Sort {
+    fn copied(&self, alloc: Global) -> Result<Sort, AllocError> {
+        Ok(Sort {
+            key: copy_key(alloc, &self.key)?,
+            descending: self.descending,
+        })
+    }
+}
+
 // An equal key, with memory of its own.
-pub(crate) fn copy_key(alloc: Global, key: &Key) -> Result<Key, AllocError>
+fn copy_key(alloc: Global, key: &Key) -> Result<Key, AllocError>
     ensures { IfOk result (λ copy. copy ≡ key.now) }
 {
     match key {
         Key::Name(name) => Ok(Key::Name(name.copy(alloc)?)),
         Key::Position(position) => Ok(Key::Position(*position)),
     }
-}
-
-// An equal key with the same direction, with memory of its own.
-pub(crate) fn copy_sort(alloc: Global, sort: &Sort) -> Result<Sort, AllocError>
-    ensures { IfOk result (λ copy. copy ≡ sort.now) }
-{
-    Ok(Sort {
-        key: copy_key(alloc, &sort.key)?,
-        descending: sort.descending,
-    })
-}
-
-pub(crate) fn copy_sorts(alloc: Global, sorts: &[Sort]) -> Result<Items<Sort>, AllocError>
-    ensures { IfOk result (λ copies. copies ≡ sorts.now) }
-{
-    let mut copies = Items::new(alloc);
-    for sort in sorts {
-        copies.push(copy_sort(alloc, sort)?)?;
-    }
-    Ok(copies)
 }

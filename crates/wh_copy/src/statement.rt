@@ -2,8 +2,7 @@
 ghost use Rattle.std.specs.Prelude.{◌≡◌, IfOk};
 
 use crate::dml::copy_dml;
-use crate::parts::{copy_columns, copy_texts};
-use crate::query::{copy_query, copy_sorts};
+use crate::parts::{Part, beside, copy_three, copy_two};
 use sqlite_items::Boxed;
 use std::alloc::{AllocError, Global};
 use wh_ast::{Condition, CreateDynamicTable, CreateTable, CreateTask, Statement, When};
@@ -13,27 +12,22 @@ pub fn copy_statement(alloc: Global, statement: &Statement) -> Result<Statement,
     ensures { IfOk result (λ copy. copy ≡ statement.now) }
 {
     match statement {
-        Statement::Select(query, sorts) => Ok(Statement::Select(
-            copy_query(alloc, query)?,
-            copy_sorts(alloc, sorts.as_slice())?,
-        )),
+        Statement::Select(query, sorts) => {
+            let (query, sorts) = copy_two(alloc, query, sorts)?;
+            Ok(Statement::Select(query, sorts))
+        }
         Statement::HasData(name) => Ok(Statement::HasData(name.copy(alloc)?)),
         Statement::Dml(dml) => Ok(Statement::Dml(copy_dml(alloc, dml)?)),
-        Statement::CreateTable(table) => Ok(Statement::CreateTable(copy_create_table(
-            alloc, table,
-        )?)),
-        Statement::CreateStream(name, table, append_only) => Ok(Statement::CreateStream(
-            name.copy(alloc)?,
-            table.copy(alloc)?,
-            *append_only,
-        )),
-        Statement::CreateTask(task) => Ok(Statement::CreateTask(copy_create_task(alloc, task)?)),
+        Statement::CreateTable(table) => copy_create_table(alloc, table),
+        Statement::CreateStream(name, table, append_only) => {
+            let (name, table) = copy_two(alloc, name, table)?;
+            Ok(Statement::CreateStream(name, table, *append_only))
+        }
+        Statement::CreateTask(task) => copy_create_task(alloc, task),
         Statement::ResumeTask(name) => Ok(Statement::ResumeTask(name.copy(alloc)?)),
         Statement::SuspendTask(name) => Ok(Statement::SuspendTask(name.copy(alloc)?)),
         Statement::ExecuteTask(name) => Ok(Statement::ExecuteTask(name.copy(alloc)?)),
-        Statement::CreateDynamicTable(table) => Ok(Statement::CreateDynamicTable(
-            copy_create_dynamic_table(alloc, table)?,
-        )),
+        Statement::CreateDynamicTable(table) => copy_create_dynamic_table(alloc, table),
         Statement::ResumeDynamicTable(name) => Ok(Statement::ResumeDynamicTable(name.copy(alloc)?)),
         Statement::SuspendDynamicTable(name) => Ok(Statement::SuspendDynamicTable(name.copy(
             alloc,
@@ -54,88 +48,87 @@ pub fn copy_statement(alloc: Global, statement: &Statement) -> Result<Statement,
     }
 }
 
-// An equal statement, with memory of its own.
-pub(crate) fn copy_create_table(
-    alloc: Global,
-    table: &CreateTable,
-) -> Result<CreateTable, AllocError>
-    ensures { IfOk result (λ copy. copy ≡ table.now) }
+fn copy_create_table(alloc: Global, table: &CreateTable) -> Result<Statement, AllocError>
+    ensures { IfOk result (λ copy. copy ≡ Statement.CreateTable table.now) }
 {
-    Ok(CreateTable {
+    let (name, columns) = copy_two(alloc, &table.name, &table.columns)?;
+    Ok(Statement::CreateTable(CreateTable {
         replace: table.replace,
-        name: table.name.copy(alloc)?,
-        columns: copy_columns(alloc, table.columns.as_slice())?,
+        name,
+        columns,
         retention: table.retention,
-    })
+    }))
 }
 
-// An equal statement, with memory of its own.
-pub(crate) fn copy_create_task(alloc: Global, task: &CreateTask) -> Result<CreateTask, AllocError>
-    ensures { IfOk result (λ copy. copy ≡ task.now) }
+fn copy_create_task(alloc: Global, task: &CreateTask) -> Result<Statement, AllocError>
+    ensures { IfOk result (λ copy. copy ≡ Statement.CreateTask task.now) }
 {
-    Ok(CreateTask {
-        name: task.name.copy(alloc)?,
+    let texts = copy_three(alloc, &task.name, &task.after, &task.body_text)?;
+    let (texts, parts) = beside(texts, copy_two(alloc, &task.when, &task.body))?;
+    let ((name, after, body_text), (when, body)) = (texts, parts);
+    Ok(Statement::CreateTask(CreateTask {
+        name,
         minutes: task.minutes,
-        after: copy_texts(alloc, task.after.as_slice())?,
-        when: copy_optional_when(alloc, &task.when)?,
-        body: copy_dml(alloc, &task.body)?,
-        body_text: task.body_text.copy(alloc)?,
-    })
+        after,
+        when,
+        body,
+        body_text,
+    }))
 }
 
-fn copy_optional_when(alloc: Global, when: &Option<When>) -> Result<Option<When>, AllocError>
-    ensures { IfOk result (λ copy. copy ≡ when.now) }
+fn copy_create_dynamic_table(
+    alloc: Global,
+    table: &CreateDynamicTable,
+) -> Result<Statement, AllocError>
+    ensures { IfOk result (λ copy. copy ≡ Statement.CreateDynamicTable table.now) }
 {
-    match when {
-        Some(when) => Ok(Some(copy_when(alloc, when)?)),
-        None => Ok(None),
+    let parts = copy_three(alloc, &table.name, &table.query, &table.query_text)?;
+    let (name, query, query_text) = parts;
+    Ok(Statement::CreateDynamicTable(CreateDynamicTable {
+        name,
+        lag: table.lag,
+        mode: table.mode,
+        initialize: table.initialize,
+        query,
+        query_text,
+    }))
+}
+
+impl Part for When {
+    fn copied(&self, alloc: Global) -> Result<When, AllocError> {
+        let (condition, text) = copy_two(alloc, &self.condition, &self.text)?;
+        Ok(When { condition, text })
     }
 }
 
-// An equal condition with an equal text, with memory of their own.
-pub(crate) fn copy_when(alloc: Global, when: &When) -> Result<When, AllocError>
-    ensures { IfOk result (λ copy. copy ≡ when.now) }
-{
-    Ok(When {
-        condition: copy_condition(alloc, &when.condition)?,
-        text: when.text.copy(alloc)?,
-    })
+impl Part for Condition {
+    fn copied(&self, alloc: Global) -> Result<Condition, AllocError> {
+        copy_condition(alloc, self)
+    }
 }
 
 /// An equal condition, with memory of its own.
+#[cycle(copy)]
 pub fn copy_condition(alloc: Global, condition: &Condition) -> Result<Condition, AllocError>
     ensures { IfOk result (λ copy. copy ≡ condition.now) }
 {
     match condition {
-        Condition::Or(x, y) => Ok(Condition::Or(
-            Boxed::new(alloc, copy_condition(alloc, x.get())?)?,
-            Boxed::new(alloc, copy_condition(alloc, y.get())?)?,
-        )),
-        Condition::And(x, y) => Ok(Condition::And(
-            Boxed::new(alloc, copy_condition(alloc, x.get())?)?,
-            Boxed::new(alloc, copy_condition(alloc, y.get())?)?,
-        )),
-        Condition::Not(x) => Ok(Condition::Not(Boxed::new(
-            alloc,
-            copy_condition(alloc, x.get())?,
-        )?)),
+        Condition::Or(x, y) => {
+            let (x, y) = beside(copy_boxed(alloc, x)?, copy_boxed(alloc, y))?;
+            Ok(Condition::Or(x, y))
+        }
+        Condition::And(x, y) => {
+            let (x, y) = beside(copy_boxed(alloc, x)?, copy_boxed(alloc, y))?;
+            Ok(Condition::And(x, y))
+        }
+        Condition::Not(x) => Ok(Condition::Not(copy_boxed(alloc, x)?)),
         Condition::HasData(name) => Ok(Condition::HasData(name.copy(alloc)?)),
     }
 }
 
-// An equal statement, with memory of its own.
-pub(crate) fn copy_create_dynamic_table(
-    alloc: Global,
-    table: &CreateDynamicTable,
-) -> Result<CreateDynamicTable, AllocError>
-    ensures { IfOk result (λ copy. copy ≡ table.now) }
+#[cycle(copy)]
+fn copy_boxed(alloc: Global, condition: &Boxed<Condition>) -> Result<Boxed<Condition>, AllocError>
+    ensures { IfOk result (λ copy. copy ≡ condition.now) }
 {
-    Ok(CreateDynamicTable {
-        name: table.name.copy(alloc)?,
-        lag: table.lag,
-        mode: table.mode,
-        initialize: table.initialize,
-        query: copy_query(alloc, &table.query)?,
-        query_text: table.query_text.copy(alloc)?,
-    })
+    Boxed::new(alloc, copy_condition(alloc, condition.get())?)
 }
