@@ -1,0 +1,4 @@
+pub mod SlotLemmas
+pub mod TableLemmas
+pub mod SeenLemmas
+pub mod RecordLemmas

@@ -1,9 +1,11 @@
 -- What the transactions of the code stand for.
 --     transaction_of     a transaction of the machine
 --     sessions_of        those of the sessions
-use Rattle.std.specs.Prelude.{ℕ, List, map, Option, option_map}
-use Rattle.std.specs.FinMap.{FinMap, from_entries}
+--     with_edits         a transaction with later edits of a table
+use Rattle.std.specs.Prelude.{ℕ, Bool, ◌||◌, List, map, option_map}
+use Rattle.std.specs.FinMap.{FinMap, from_entries, get, insert}
 use Rattle.std.specs.Ordering.{nat_cmp}
+use Rattle.wh_machine.specs.Edits.{Edits, later_edits}
 use Rattle.wh_version.specs.Edits.{edits_in}
 use Rattle.wh_sessions.specs.Transaction as machine
 use Rattle.wh_sessions.specs.Sessions as machine_sessions
@@ -25,3 +27,15 @@ transaction_of t = record { number = t.number; tables = tables_of t.tables.entri
 
 unfoldable pub sessions_of : Sessions → machine_sessions.Sessions
 sessions_of s = map (option_map transaction_of) s.slots.items
+
+-- ---- edits on top of those that are staged
+
+abbrev pub amended : ℕ → Edits → Bool → machine.Staged → machine.Staged
+amended next_row later touches s = record {
+  edits = later_edits next_row s.edits later;
+  is_touched = s.is_touched || touches;
+}
+
+abbrev pub with_edits : ℕ → Edits → Bool → ℕ → machine.Transaction → machine.Transaction
+with_edits next_row later touches id t =
+    record t { tables = insert t.tables id (amended next_row later touches (machine.staged_in (get t.tables id))) }

@@ -1,7 +1,10 @@
+use crate::transaction::{Staged, Transaction};
 use crate::{RecordFault, Sessions};
-use std::alloc::Global;
-use wh_catalog::Catalog;
-use wh_record::Commit;
+use std::alloc::{AllocError, Global};
+use wh_catalog::{Catalog, StoredTable};
+use wh_record::{Change, Commit, VersionChange};
+use wh_value::Limit;
+use wh_version::Rewritten;
 
 impl Sessions {
     ghost use Rattle.std.specs.Prelude.{◌≡◌, ℕ, Some, None, Err, option_map, IfOk};
@@ -34,6 +37,193 @@ impl Sessions {
             → (t : machine.Transaction) → transaction_in (sessions_of self.now) session ≡ Some t
             → machine.past_limit (state_of catalog.now).objects t ≡ Some (id, which) }
     {
-        Err(RecordFault::OutOfMemory)
+        let Some(transaction) = self.transaction(session) else {
+            return Ok(None);
+        };
+        commit(alloc, catalog, stamp, transaction)
     }
+}
+
+ghost use Rattle.std.specs.Prelude.{◌≡◌, ◌+◌, ◌++◌, ◌≤◌, ℕ, Some, None, Err, true, false, length, map};
+ghost use Rattle.std.specs.Prelude.{option_map, IfOk, OnOk};
+ghost use Rattle.wh_value.specs.Limit.{bound};
+ghost use Rattle.wh_value.specs.declared.limit.Limit.{Limit};
+ghost use Rattle.wh_value.specs.declared.limit.Limit.TheVariants as limits;
+ghost use Rattle.wh_record.specs.View.{change_of, commit_of};
+ghost use Rattle.wh_machine.specs.Commit.{PushesVersion};
+ghost use Rattle.wh_machine.specs.Tables.{table_at};
+ghost use Rattle.wh_machine.specs.Written.{commit_for};
+ghost use Rattle.wh_version.specs.Edits.{edits_in};
+ghost use Rattle.wh_table.specs.Table.{table_of};
+ghost use Rattle.wh_catalog.specs.Catalog.{stored_of, state_of};
+ghost use Rattle.wh_sessions.specs.Transaction as machine;
+ghost use Rattle.wh_txn.specs.View.{transaction_of};
+ghost use Rattle.wh_txn.specs.Recording.{touched_at, touched_in, versions_for, version_for};
+ghost use Rattle.wh_txn.specs.declared.fault.RecordFault.TheVariants as faults;
+
+fn commit(
+    alloc: Global,
+    catalog: &Catalog,
+    stamp: u64,
+    transaction: &Transaction,
+) -> Result<Option<Commit>, RecordFault>
+    ensures made { IfOk result (λ found. option_map commit_of found
+        ≡ option_map (commit_for (stored_of catalog.now) stamp)
+        (machine.acts_of (transaction_of transaction.now))) }
+    ensures within { IfOk result (λ found.
+        machine.past_limit (state_of catalog.now).objects (transaction_of transaction.now) ≡ None) }
+    ensures limit { (id : ℕ) (which : Limit) → result ≡ Err (faults.Limit id which)
+        → machine.past_limit (state_of catalog.now).objects (transaction_of transaction.now)
+        ≡ Some (id, which) }
+{
+    let touched = touched(alloc, transaction)?;
+    if let Some(id) = row_past(catalog, &touched) {
+        return Err(RecordFault::Limit {
+            id,
+            which: Limit::RowNumber,
+        });
+    }
+    let changes = versions(alloc, catalog, stamp, &touched)?;
+    if touched.is_empty() {
+        return Ok(None);
+    }
+    Ok(Some(Commit { stamp, changes }))
+}
+
+/// A table that a transaction touched, and what is staged for it.
+#[derive(Clone, Copy, Debug)]
+struct TouchedTable<'a> {
+    id: u32,
+    staged: &'a Staged,
+}
+
+// The tables that a transaction touched, by rising ids.
+fn touched<'a>(
+    alloc: Global,
+    transaction: &'a Transaction,
+) -> Result<Vec<TouchedTable<'a>>, AllocError>
+    ensures { IfOk result (λ touched. touched_at touched.items
+        ≡ machine.touched (transaction_of transaction.now)) }
+{
+    let mut touched = Vec::new(alloc);
+    for (id, staged) in &transaction.tables {
+        if staged.is_touched {
+            touched.push(TouchedTable { id: *id, staged })?;
+        }
+    }
+    Ok(touched)
+}
+
+// The first of these tables whose next row number would pass its limit.
+fn row_past(catalog: &Catalog, touched: &[TouchedTable<'_>]) -> Option<u32>
+    ensures { option_map (λ id. (id, limits.RowNumber)) result
+        ≡ machine.first_past (machine.row_past (state_of catalog.now).objects) limits.RowNumber
+        (touched_at touched.now) }
+{
+    for one in touched {
+        if is_row_past(catalog, one) {
+            return Some(one.id);
+        }
+    }
+    None
+}
+
+fn is_row_past(catalog: &Catalog, one: &TouchedTable<'_>) -> bool
+    ensures { result ≡ machine.row_past (state_of catalog.now).objects (touched_in one.now) }
+{
+    next_row(catalog, one.id) + one.staged.edits.added().len() as u64 > Limit::RowNumber.bound()
+}
+
+// The number that the next row of a table has.
+fn next_row(catalog: &Catalog, id: u32) -> u64
+    ensures number { result ≡ machine.next_row_of (table_at (state_of catalog.now).objects id) }
+    ensures bounded { result ≤ bound limits.RowNumber }
+{
+    match catalog.table(id) {
+        Some(table) => table.next_row(),
+        None => 1,
+    }
+}
+
+// A version for each of these tables.
+fn versions(
+    alloc: Global,
+    catalog: &Catalog,
+    stamp: u64,
+    touched: &[TouchedTable<'_>],
+) -> Result<Vec<Change>, RecordFault>
+    requires { machine.first_past (machine.row_past (state_of catalog.now).objects)
+        limits.RowNumber (touched_at touched.now) ≡ None }
+    ensures made { IfOk result (λ changes. map change_of changes.items
+        ≡ versions_for stamp (stored_of catalog.now).objects (touched_at touched.now)) }
+    ensures within { IfOk result (λ changes.
+        machine.first_past (machine.partition_past (state_of catalog.now).objects)
+        limits.PartitionNumber (touched_at touched.now) ≡ None) }
+    ensures limit { (id : ℕ) (which : Limit) → result ≡ Err (faults.Limit id which)
+        → machine.first_past (machine.partition_past (state_of catalog.now).objects)
+        limits.PartitionNumber (touched_at touched.now) ≡ Some (id, which) }
+{
+    let mut changes = Vec::new(alloc);
+    for one in touched {
+        add_version(&mut changes, alloc, catalog, stamp, one)?;
+    }
+    Ok(changes)
+}
+
+// Adds a version of a table, where the catalog has it.
+fn add_version(
+    changes: &mut Vec<Change>,
+    alloc: Global,
+    catalog: &Catalog,
+    stamp: u64,
+    one: &TouchedTable<'_>,
+) -> Result<(), RecordFault>
+    requires { machine.row_past (state_of catalog.now).objects (touched_in one.now) ≡ false }
+    ensures made { OnOk result (map change_of changes.new.items ≡ map change_of changes.old.items
+        ++ version_for stamp (stored_of catalog.now).objects (touched_in one.now)) }
+    ensures within { OnOk result (machine.partition_past (state_of catalog.now).objects
+        (touched_in one.now) ≡ false) }
+    ensures limit { (id : ℕ) (which : Limit) → result ≡ Err (faults.Limit id which)
+        → (id ≡ one.now.id) × (which ≡ limits.PartitionNumber)
+        × (machine.partition_past (state_of catalog.now).objects (touched_in one.now) ≡ true) }
+{
+    let Some(table) = catalog.table(one.id) else {
+        return Ok(());
+    };
+    let edits = one.staged.edits.copy(alloc)?;
+    let more = edits.added().len() as u64;
+    let Some(rewritten) = table.rewrite(alloc, edits)? else {
+        return Err(RecordFault::Limit {
+            id: one.id,
+            which: Limit::PartitionNumber,
+        });
+    };
+    let change = version(stamp, one.id, more, table, rewritten);
+    let Ok(()) = changes.push(change) else {
+        return Err(RecordFault::OutOfMemory);
+    };
+    Ok(())
+}
+
+// A version of the table with these partitions in the place of others, and so many rows more.
+fn version(stamp: u64, id: u32, more: u64, table: &StoredTable, rewritten: Rewritten) -> Change
+    requires { (table_of table.now).next_row + more ≤ bound limits.RowNumber }
+    ensures { change_of result ≡ PushesVersion (record {
+      id = id;
+      data_timestamp = stamp;
+      next_row = (table_of table.now).next_row + more;
+      width = length (table_of table.now).columns;
+      removed = rewritten.removed.items;
+      added = rewritten.added.items;
+    }) }
+{
+    let Rewritten { removed, added } = rewritten;
+    Change::PushesVersion(VersionChange {
+        id,
+        data_timestamp: stamp,
+        next_row: table.next_row() + more,
+        width: table.columns().len() as u32,
+        removed,
+        added,
+    })
 }

@@ -1,7 +1,9 @@
 use crate::Sessions;
+use crate::transaction::Staged;
 use std::alloc::{AllocError, Global};
 use wh_catalog::{Catalog, StoredTable};
 use wh_part::Partition;
+use wh_table::EditedTable;
 use wh_value::Row;
 
 /// A table as a statement sees it.
@@ -11,17 +13,19 @@ pub enum TableSeen<'a> {
     Missing,
     /// Its last version.
     Committed(&'a StoredTable),
+    /// Its last version, with the edits of the session's transaction on it.
+    Edited(&'a StoredTable, EditedTable),
 }
 
 impl Sessions {
-    ghost use Rattle.std.specs.Prelude.{◌≡◌, ℕ, IfOk};
+    ghost use Rattle.std.specs.Prelude.{◌≡◌, ℕ, option_map, IfOk};
     ghost use Rattle.wh_machine.specs.State.{stamped};
     ghost use Rattle.wh_machine.specs.Tables.{table_at};
     ghost use Rattle.wh_catalog.specs.Catalog.{state_of};
     ghost use Rattle.wh_sessions.specs.Transaction.{seen};
     ghost use Rattle.wh_sessions.specs.Sessions.{transaction_in};
-    ghost use Rattle.wh_txn.specs.View.{sessions_of};
-    ghost use Rattle.wh_txn.specs.Seen.{Shows};
+    ghost use Rattle.wh_txn.specs.View.{staged_of, sessions_of};
+    ghost use Rattle.wh_txn.specs.Seen.{Shows, own};
 
     /// What a statement of a session sees of the table of an id: its last version, with the edits of
     /// the session's own transaction on it.
@@ -36,7 +40,24 @@ impl Sessions {
             (seen (stamped (state_of catalog.now) stamp) (transaction_in (sessions_of self.now) session)).objects
             id)) }
     {
-        Err(AllocError)
+        let Some(table) = catalog.table(id) else {
+            return Ok(TableSeen::Missing);
+        };
+        let Some(staged) = self.staged(session, id) else {
+            return Ok(TableSeen::Committed(table));
+        };
+        let edits = staged.edits.copy(alloc)?;
+        let edited = table.edited(alloc, edits)?;
+        Ok(TableSeen::Edited(table, edited))
+    }
+
+    // What a session's transaction has staged for the table of an id.
+    fn staged(&self, session: u64, id: u32) -> Option<&Staged>
+        ensures { option_map (λ s. staged_of s.now) result
+            ≡ own (transaction_in (sessions_of self.now) session) id }
+    {
+        let transaction = self.transaction(session)?;
+        transaction.staged(id)
     }
 }
 
@@ -54,7 +75,11 @@ impl TableSeen<'_> {
         ensures { IfOk result (λ rows. (found : Option Table) → Shows self.now found
             → bag_of (rows_at rows.items) ≡ table_bag found) }
     {
-        Err(AllocError)
+        match self {
+            TableSeen::Missing => Ok(Vec::new(alloc)),
+            TableSeen::Committed(table) => table.rows(alloc),
+            TableSeen::Edited(table, edited) => table.rows_with(alloc, edited),
+        }
     }
 
     /// Its partitions, by their rows: the row numbers rise from each to the next.
@@ -62,6 +87,10 @@ impl TableSeen<'_> {
         ensures { IfOk result (λ found. (t : Table) → Shows self.now (Some t)
             → all_rows (partitions_at found.items) ≡ entries (last_rows t)) }
     {
-        Err(AllocError)
+        match self {
+            TableSeen::Missing => Ok(Vec::new(alloc)),
+            TableSeen::Committed(table) => table.by_rows(alloc),
+            TableSeen::Edited(table, edited) => table.by_rows_with(alloc, edited),
+        }
     }
 }

@@ -1,6 +1,8 @@
 use crate::Sessions;
+use crate::transaction::Transaction;
 use std::alloc::{AllocError, Global};
 use wh_dml::Effect;
+use wh_version::Edits;
 
 impl Sessions {
     ghost use Rattle.std.specs.Prelude.{◌≡◌, Some, OnOk, OnErr};
@@ -26,6 +28,60 @@ impl Sessions {
             (machine.staged t id next_row (effect_of effect))) }
         ensures err { OnErr result (sessions_of self.new ≡ sessions_of self.old) }
     {
-        Err(AllocError)
+        match self.slots.get_mut(session as usize) {
+            Some(slot) => {
+                stage(slot, alloc, id, next_row, effect)?;
+                Ok(())
+            }
+            None => Ok(()),
+        }
     }
+}
+
+ghost use Rattle.std.specs.Prelude.{◌≡◌, ◌<◌, Some, option_map, nat_lt, IfOk, OnOk, OnErr};
+ghost use Rattle.wh_dml.specs.View.{effect_of};
+ghost use Rattle.wh_machine.specs.Edits.{edits_of};
+ghost use Rattle.wh_machine.specs.Changes.{counted};
+ghost use Rattle.wh_sessions.specs.Transaction as machine;
+ghost use Rattle.wh_version.specs.Edits.{edits_in};
+ghost use Rattle.wh_txn.specs.View.{transaction_of};
+
+fn stage(
+    slot: &mut Option<Transaction>,
+    alloc: Global,
+    id: u32,
+    next_row: u64,
+    effect: Effect,
+) -> Result<(), AllocError>
+    ensures ok { OnOk result ((t : machine.Transaction)
+        → option_map transaction_of slot.old ≡ Some t
+        → option_map transaction_of slot.new ≡ Some (machine.staged t id next_row (effect_of effect))) }
+    ensures err { OnErr result (option_map transaction_of slot.new ≡ option_map transaction_of slot.old) }
+{
+    let touches = is_some_counted(&effect);
+    let later = edits(alloc, effect)?;
+    match slot {
+        Some(transaction) => {
+            transaction.stage(alloc, id, next_row, later, touches)?;
+            Ok(())
+        }
+        None => Ok(()),
+    }
+}
+
+fn is_some_counted(effect: &Effect) -> bool
+    ensures { result ≡ nat_lt 0 (counted (effect_of effect.now)) }
+{
+    !effect.added.is_empty() || !effect.changed.is_empty() || !effect.removed.is_empty()
+}
+
+fn edits(alloc: Global, effect: Effect) -> Result<Edits, AllocError>
+    ensures { IfOk result (λ edits. edits_in edits ≡ edits_of (effect_of effect)) }
+{
+    let Effect {
+        removed,
+        changed,
+        added,
+    } = effect;
+    Edits::new(alloc, &removed, changed, added)
 }

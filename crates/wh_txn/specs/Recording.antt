@@ -1,0 +1,24 @@
+-- The versions that a commit has.
+--     touched_in, touched_at      a table that was touched, and several
+--     version_for, versions_for   the change that its edits are written as over the committed objects; those of several
+use Rattle.std.specs.Prelude.{ℕ, List, map}
+use Rattle.std.specs.List.{flat_map}
+use Rattle.wh_machine.specs.State.{at_id}
+use Rattle.wh_machine.specs.Stored.{StoredObject}
+use Rattle.wh_machine.specs.Commit.{Change}
+use Rattle.wh_machine.specs.Written.{version_written_to}
+use Rattle.wh_sessions.specs.Transaction as machine
+use Rattle.wh_txn.specs.declared.recording.TouchedTable.{TouchedTable}
+use Rattle.wh_txn.specs.View.{staged_of}
+
+abbrev pub touched_in : TouchedTable → ℕ × machine.Staged
+touched_in t = (t.id, staged_of t.staged.now)
+
+abbrev pub touched_at : List TouchedTable → List (ℕ × machine.Staged)
+touched_at touched = map touched_in touched
+
+abbrev pub version_for : ℕ → List StoredObject → ℕ × machine.Staged → List Change
+version_for stamp objects entry = version_written_to stamp entry.0 entry.1.edits (at_id objects entry.0)
+
+abbrev pub versions_for : ℕ → List StoredObject → List (ℕ × machine.Staged) → List Change
+versions_for stamp objects entries = flat_map (version_for stamp objects) entries
