@@ -1,6 +1,6 @@
 mod replies;
 
-use std::alloc::{AllocError, Global};
+use std::alloc::Global;
 use std::process::Abort;
 use wh_text::*;
 use wh_value::Bytes;
@@ -59,98 +59,101 @@ type RunCase = (&'static str, usize, &'static [u8], usize, &'static [u8]);
 /// Whether six turns over a source give these lines, each with a `|` behind it: a command's text,
 /// `S` and a session, `T` and a reading. `!` where a turn fails, with the bytes of a script that is
 /// too long.
-fn gives<S: Source>(alloc: Global, mut script: Script, source: &mut S, want: &[u8]) -> bool {
-    let mut all = Bytes::new(alloc);
-    let added = add_lines(&mut script, source, &mut all);
-    added.is_ok() && all.as_slice() == want
-}
-
-fn add_lines<S: Source>(
-    script: &mut Script,
+fn gives<S: Source>(
+    rt: &impl Abort,
+    alloc: Global,
+    mut script: Script,
     source: &mut S,
-    all: &mut Bytes,
-) -> Result<(), AllocError> {
+    want: &[u8],
+) -> bool {
+    let mut all = Bytes::new(alloc);
+    add_lines(rt, &mut script, source, &mut all);
+    all.as_slice() == want
+}
+
+fn add_lines<S: Source>(rt: &impl Abort, script: &mut Script, source: &mut S, all: &mut Bytes) {
     for _ in 0..6 {
-        add_turn(script.next(source), all)?;
+        add_turn(rt, script.next(source), all);
     }
-    Ok(())
 }
 
-fn add_turn(turn: Result<Option<Line>, ScriptFault>, all: &mut Bytes) -> Result<(), AllocError> {
+fn add_turn(rt: &impl Abort, turn: Result<Option<Line>, ScriptFault>, all: &mut Bytes) {
     match turn {
-        Ok(Some(line)) => add_line(&line, all),
-        Ok(None) => Ok(()),
-        Err(ScriptFault::TooLong { taken }) => add_marked(b'!', Some(taken), all),
-        Err(_) => all.push(b'!'),
+        Ok(Some(line)) => add_line(rt, &line, all),
+        Ok(None) => {}
+        Err(ScriptFault::TooLong { taken }) => add_marked(rt, b'!', Some(taken), all),
+        Err(_) => all.push(b'!').expect(rt, "memory"),
     }
 }
 
-fn add_line(line: &Line, all: &mut Bytes) -> Result<(), AllocError> {
+fn add_line(rt: &impl Abort, line: &Line, all: &mut Bytes) {
     match line {
-        Line::Command(text) => all.extend(text.as_slice())?,
-        Line::Session(session) => add_marked(b'S', Some(*session), all)?,
-        Line::Tick(reading) => add_marked(b'T', *reading, all)?,
+        Line::Command(text) => all.extend(text.as_slice()).expect(rt, "memory"),
+        Line::Session(session) => add_marked(rt, b'S', Some(*session), all),
+        Line::Tick(reading) => add_marked(rt, b'T', *reading, all),
     }
-    all.push(b'|')
+    all.push(b'|').expect(rt, "memory");
 }
 
-fn add_marked(mark: u8, number: Option<u64>, all: &mut Bytes) -> Result<(), AllocError> {
-    all.push(mark)?;
-    match number {
-        Some(number) => all.extend_decimal(number),
-        None => Ok(()),
+fn add_marked(rt: &impl Abort, mark: u8, number: Option<u64>, all: &mut Bytes) {
+    all.push(mark).expect(rt, "memory");
+    if let Some(number) = number {
+        all.extend_decimal(number).expect(rt, "memory");
     }
 }
 
 /// Whether a script comes to its lines. The reads of these numbers fail.
-fn comes_to(alloc: Global, script: Vec<u8>, failing: Vec<u64>, want: &[u8]) -> bool {
+fn comes_to(
+    rt: &impl Abort,
+    alloc: Global,
+    script: Vec<u8>,
+    failing: Vec<u64>,
+    want: &[u8],
+) -> bool {
     let mut source = MemSource::new(script, failing);
-    gives(alloc, Script::new(alloc), &mut source, want)
+    gives(rt, alloc, Script::new(alloc), &mut source, want)
 }
 
-fn comes_to_by_bytes(alloc: Global, script: &[u8], want: &[u8]) -> bool {
+fn comes_to_by_bytes(rt: &impl Abort, alloc: Global, script: &[u8], want: &[u8]) -> bool {
     let mut source = OneByOne {
         bytes: script,
         taken: 0,
     };
-    gives(alloc, Script::new(alloc), &mut source, want)
+    gives(rt, alloc, Script::new(alloc), &mut source, want)
 }
 
-fn text_comes_to(alloc: Global, script: &[u8], want: &[u8]) -> Result<bool, AllocError> {
-    let script = script.to_vec(alloc)?;
-    Ok(comes_to(alloc, script, Vec::new(alloc), want))
+fn text_comes_to(rt: &impl Abort, alloc: Global, script: &[u8], want: &[u8]) -> bool {
+    let script = script.to_vec(alloc).expect(rt, "memory");
+    comes_to(rt, alloc, script, Vec::new(alloc), want)
 }
 
 /// Each script comes to its lines, also byte by byte.
 fn check(rt: &impl Abort, alloc: Global, cases: &[Case]) {
     for (name, script, want) in cases {
-        let same = comes_to_by_bytes(alloc, script, want);
-        assert!(rt;
-            same && text_comes_to(alloc, script, want) == Ok(true),
-            "{name}"
-        );
+        let same = comes_to_by_bytes(rt, alloc, script, want);
+        assert!(rt; same && text_comes_to(rt, alloc, script, want), "{name}");
     }
 }
 
 /// The byte so many times, and what follows.
-fn run(alloc: Global, byte: u8, count: usize, behind: &[u8]) -> Result<Vec<u8>, AllocError> {
+fn run(rt: &impl Abort, alloc: Global, byte: u8, count: usize, behind: &[u8]) -> Vec<u8> {
     let mut bytes = Vec::new(alloc);
-    bytes.resize(count, byte)?;
-    bytes.extend_from_slice(behind)?;
-    Ok(bytes)
+    bytes.resize(count, byte).expect(rt, "memory");
+    bytes.extend_from_slice(behind).expect(rt, "memory");
+    bytes
 }
 
-fn run_comes_to(alloc: Global, byte: u8, case: &RunCase) -> Result<bool, AllocError> {
+fn run_comes_to(rt: &impl Abort, alloc: Global, byte: u8, case: &RunCase) -> bool {
     let (_, count, behind, kept, last) = case;
-    let script = run(alloc, byte, *count, behind)?;
-    let want = run(alloc, byte, *kept, last)?;
-    Ok(comes_to(alloc, script, Vec::new(alloc), want.as_slice()))
+    let script = run(rt, alloc, byte, *count, behind);
+    let want = run(rt, alloc, byte, *kept, last);
+    comes_to(rt, alloc, script, Vec::new(alloc), want.as_slice())
 }
 
 fn check_runs(rt: &impl Abort, alloc: Global, byte: u8, cases: &[RunCase]) {
     for case in cases {
         let name = case.0;
-        assert!(rt; run_comes_to(alloc, byte, case) == Ok(true), "{name}");
+        assert!(rt; run_comes_to(rt, alloc, byte, case), "{name}");
     }
 }
 
@@ -295,26 +298,23 @@ fn a_failed_read_stays(rt: HostRuntime) {
         ("the last read", &[3], b"a|b|!!!!"),
     ];
     for (name, failing, want) in &CASES {
-        assert!(rt;
-            apart_comes_to(rt.alloc(), failing, want) == Ok(true),
-            "{name}"
-        );
+        assert!(rt; apart_comes_to(&rt, rt.alloc(), failing, want), "{name}");
     }
 }
 
 /// Whether three commands, of which the second ends behind a read, come to these lines.
-fn apart_comes_to(alloc: Global, failing: &[u64], want: &[u8]) -> Result<bool, AllocError> {
-    let script = commands_apart(alloc)?;
-    let failing = failing.to_vec(alloc)?;
-    Ok(comes_to(alloc, script, failing, want))
+fn apart_comes_to(rt: &impl Abort, alloc: Global, failing: &[u64], want: &[u8]) -> bool {
+    let script = commands_apart(rt, alloc);
+    let failing = failing.to_vec(alloc).expect(rt, "memory");
+    comes_to(rt, alloc, script, failing, want)
 }
 
-fn commands_apart(alloc: Global) -> Result<Vec<u8>, AllocError> {
+fn commands_apart(rt: &impl Abort, alloc: Global) -> Vec<u8> {
     let mut script = Vec::new(alloc);
-    script.extend_from_slice(b"a;")?;
-    script.resize(65540, b' ')?;
-    script.extend_from_slice(b"b;c")?;
-    Ok(script)
+    script.extend_from_slice(b"a;").expect(rt, "memory");
+    script.resize(65540, b' ').expect(rt, "memory");
+    script.extend_from_slice(b"b;c").expect(rt, "memory");
+    script
 }
 
 // All but three of the 2^30 bytes were taken before.
@@ -334,11 +334,11 @@ fn a_script_may_have_two_to_the_30_bytes(rt: HostRuntime) {
         ),
     ];
     for (name, left, want) in &CASES {
-        assert!(rt; rest_comes_to(rt.alloc(), *left, want), "{name}");
+        assert!(rt; rest_comes_to(&rt, rt.alloc(), *left, want), "{name}");
     }
 }
 
-fn rest_comes_to(alloc: Global, left: u64, want: &[u8]) -> bool {
+fn rest_comes_to(rt: &impl Abort, alloc: Global, left: u64, want: &[u8]) -> bool {
     let script = Script::after(alloc, 1073741821);
-    gives(alloc, script, &mut Endless { left }, want)
+    gives(rt, alloc, script, &mut Endless { left }, want)
 }

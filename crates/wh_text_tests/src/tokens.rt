@@ -57,38 +57,49 @@ fn shown(rt: &impl Abort, alloc: Global, text: &[u8]) -> Bytes {
     out
 }
 
-#[test]
-fn signs_are_as_long_as_they_can_be(rt: HostRuntime) {
-    let alloc = rt.alloc();
-    let cases: [(&[u8], &[u8]); 18] = [
-        (b"(),.*+-", b"( ) , . * + - "),
-        (b"=", b"= "),
-        (b"<", b"< "),
-        (b">", b"> "),
-        (b"<>", b"<> "),
-        (b"!=", b"<> "),
-        (b"<=", b"<= "),
-        (b">=", b">= "),
-        (b"=>", b"=> "),
-        (b"<=>", b"<= > "),
-        (b"=>=", b"=> = "),
-        (b"==>", b"= => "),
-        (b"<<>>", b"< <> > "),
-        (b"> =", b"> = "),
-        (b"a<-1", b"A < - 1 "),
-        (b"- -", b"- - "),
-        (b"a.b", b"A . B "),
-        (b"!!=", b"refused"),
-    ];
-    for (text, want) in cases {
-        assert_eq!(rt; shown(&rt, alloc, text).as_slice(), want);
+/// A name, a text and its tokens.
+type Case = (&'static str, &'static [u8], &'static [u8]);
+
+/// The text has these tokens.
+fn assert_shown(rt: &impl Abort, alloc: Global, name: &str, text: &[u8], want: &[u8]) {
+    let found = shown(rt, alloc, text);
+    assert_eq!(rt; found.as_slice(), want, "{name}");
+}
+
+fn check(rt: &impl Abort, alloc: Global, cases: &[Case]) {
+    for (name, text, want) in cases {
+        assert_shown(rt, alloc, name, text, want);
     }
 }
 
 #[test]
+fn signs_are_as_long_as_they_can_be(rt: HostRuntime) {
+    const CASES: &[Case] = &[
+        ("of one byte", b"(),.*+-", b"( ) , . * + - "),
+        ("equal", b"=", b"= "),
+        ("less", b"<", b"< "),
+        ("greater", b">", b"> "),
+        ("unequal", b"<>", b"<> "),
+        ("unequal by a mark", b"!=", b"<> "),
+        ("at most", b"<=", b"<= "),
+        ("at least", b">=", b">= "),
+        ("an arrow", b"=>", b"=> "),
+        ("at most first", b"<=>", b"<= > "),
+        ("the arrow first", b"=>=", b"=> = "),
+        ("no sign of two", b"==>", b"= => "),
+        ("unequal in the middle", b"<<>>", b"< <> > "),
+        ("a blank between", b"> =", b"> = "),
+        ("a minus sign", b"a<-1", b"A < - 1 "),
+        ("two minus signs", b"- -", b"- - "),
+        ("a point", b"a.b", b"A . B "),
+        ("a mark alone", b"!!=", b"refused"),
+    ];
+    check(&rt, rt.alloc(), CASES);
+}
+
+#[test]
 fn gaps_part_tokens(rt: HostRuntime) {
-    let alloc = rt.alloc();
-    let cases: [(&str, &[u8], &[u8]); 19] = [
+    const CASES: &[Case] = &[
         ("nothing", b"", b""),
         ("each blank", b" a\tb\rc\nd ", b"A B C D "),
         ("a vertical tab", b"a\x0bb", b"refused"),
@@ -109,15 +120,12 @@ fn gaps_part_tokens(rt: HostRuntime) {
         ("the star counts once", b"/*/", b"refused"),
         ("a slash", b"a/b", b"refused"),
     ];
-    for (name, text, want) in cases {
-        assert_eq!(rt; shown(&rt, alloc, text).as_slice(), want, "{name}");
-    }
+    check(&rt, rt.alloc(), CASES);
 }
 
 #[test]
 fn words_and_numbers_are_read(rt: HostRuntime) {
-    let alloc = rt.alloc();
-    let cases: [(&str, &[u8], &[u8]); 17] = [
+    const CASES: &[Case] = &[
         ("in upper case", b"seLect _a9z", b"SELECT _A9Z "),
         (
             "with a dollar sign",
@@ -144,15 +152,12 @@ fn words_and_numbers_are_read(rt: HostRuntime) {
         ("a byte above ASCII", b"\xc3\xa4", b"refused"),
         ("in a word", b"a\xc3\xa4", b"refused"),
     ];
-    for (name, text, want) in cases {
-        assert_eq!(rt; shown(&rt, alloc, text).as_slice(), want, "{name}");
-    }
+    check(&rt, rt.alloc(), CASES);
 }
 
 #[test]
 fn quotes_are_doubled_inside(rt: HostRuntime) {
-    let alloc = rt.alloc();
-    let cases: [(&str, &[u8], &[u8]); 20] = [
+    const CASES: &[Case] = &[
         ("a text", b"'a b'", b"T[a b] "),
         ("an empty text", b"''", b"T[] "),
         ("a quote in a text", b"'x''y'", b"T[x'y] "),
@@ -174,58 +179,79 @@ fn quotes_are_doubled_inside(rt: HostRuntime) {
         ("no end of a name", b"\"a", b"refused"),
         ("no UTF-8 in a name", b"\"\xff\"", b"refused"),
     ];
-    for (name, text, want) in cases {
-        assert_eq!(rt; shown(&rt, alloc, text).as_slice(), want, "{name}");
-    }
+    check(&rt, rt.alloc(), CASES);
+}
+
+/// A byte between words is refused.
+fn assert_refused(rt: &impl Abort, alloc: Global, byte: u8) {
+    let mut text = Bytes::from_slice(alloc, b"a ").expect(rt, "memory");
+    text.push(byte).expect(rt, "memory");
+    text.extend(b" b").expect(rt, "memory");
+    let found = shown(rt, alloc, text.as_slice());
+    assert_eq!(rt; found.as_slice(), b"refused".as_slice(), "{byte}");
 }
 
 #[test]
 fn other_bytes_begin_nothing(rt: HostRuntime) {
-    let alloc = rt.alloc();
-    for byte in [
-        b'#', b':', b'!', b';', b'$', b'/', b'\\', b'[', b'`', 0, 0x7f, 0xff,
-    ] {
-        let mut text = Bytes::from_slice(alloc, b"a ").expect(&rt, "memory");
-        text.push(byte).expect(&rt, "memory");
-        text.extend(b" b").expect(&rt, "memory");
-        assert_eq!(rt;
-            shown(&rt, alloc, text.as_slice()).as_slice(),
-            b"refused".as_slice(),
-            "{byte}"
-        );
+    const BYTES: &[u8] = b"#:!;$/\\[`\0\x7f\xff";
+    for byte in BYTES {
+        assert_refused(&rt, rt.alloc(), *byte);
     }
+}
+
+fn show_place(rt: &impl Abort, token: &Token, out: &mut Bytes) {
+    out.extend_decimal(token.from()).expect(rt, "memory");
+    out.extend(b" to ").expect(rt, "memory");
+    out.extend_decimal(token.behind()).expect(rt, "memory");
+    out.extend(b", ").expect(rt, "memory");
+}
+
+/// The places of a text's tokens.
+fn places(rt: &impl Abort, alloc: Global, text: &[u8]) -> Bytes {
+    let found = tokens(alloc, text).expect(rt, "tokens");
+    let mut out = Bytes::new(alloc);
+    for token in &found {
+        show_place(rt, token, &mut out);
+    }
+    out
 }
 
 #[test]
 fn tokens_have_places(rt: HostRuntime) {
-    let alloc = rt.alloc();
-    let found = tokens(alloc, b" ab /**/<='''' 12--").expect(&rt, "memory");
-    let want = [(18, 16), (11, 9), (9, 5), (4, 2)];
-    assert_eq!(rt; found.len(), want.len());
-    for (token, place) in found.iter().zip(&want) {
-        assert_eq!(rt; (token.from(), token.behind()), *place);
+    let found = places(&rt, rt.alloc(), b" ab /**/<='''' 12--");
+    let want = b"18 to 16, 11 to 9, 9 to 5, 4 to 2, ".as_slice();
+    assert_eq!(rt; found.as_slice(), want);
+}
+
+fn repeated(rt: &impl Abort, alloc: Global, byte: u8, times: usize) -> Bytes {
+    let mut text = Bytes::new(alloc);
+    for _ in 0..times {
+        text.push(byte).expect(rt, "memory");
     }
+    text
+}
+
+/// How many tokens a text has.
+fn count(alloc: Global, text: &[u8]) -> Result<usize, LexFault> {
+    Ok(tokens(alloc, text)?.len())
+}
+
+/// A text of so many of one byte has so many tokens.
+fn assert_count(
+    rt: &impl Abort,
+    alloc: Global,
+    byte: u8,
+    times: usize,
+    want: Result<usize, LexFault>,
+) {
+    let text = repeated(rt, alloc, byte, times);
+    assert_eq!(rt; count(alloc, text.as_slice()), want, "{times} of {byte}");
 }
 
 #[test]
 fn long_texts_are_read(rt: HostRuntime) {
     let alloc = rt.alloc();
-    let mut signs = Bytes::new(alloc);
-    let mut word = Bytes::new(alloc);
-    for _ in 0..65536 {
-        signs.push(b'<').expect(&rt, "memory");
-        word.push(b'a').expect(&rt, "memory");
-    }
-    assert_eq!(rt;
-        tokens(alloc, word.as_slice()).expect(&rt, "memory").len(),
-        1
-    );
-    word.push(b'a').expect(&rt, "memory");
-    let longer = tokens(alloc, word.as_slice());
-    assert!(rt; matches!(longer, Err(LexFault::SyntaxError)));
-    signs.push(b'<').expect(&rt, "memory");
-    assert_eq!(rt;
-        tokens(alloc, signs.as_slice()).expect(&rt, "memory").len(),
-        65537
-    );
+    assert_count(&rt, alloc, b'a', 65536, Ok(1));
+    assert_count(&rt, alloc, b'a', 65537, Err(LexFault::SyntaxError));
+    assert_count(&rt, alloc, b'<', 65537, Ok(65537));
 }

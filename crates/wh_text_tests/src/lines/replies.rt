@@ -1,4 +1,4 @@
-use std::alloc::{AllocError, Global};
+use std::alloc::Global;
 use std::process::Abort;
 use wh_reply::{Refusal, Reply};
 use wh_text::print_reply;
@@ -6,14 +6,14 @@ use wh_value::{Bytes, Limit, Row, Text, Value};
 
 /// The reply is printed so, behind what stands there.
 fn check(rt: &impl Abort, alloc: Global, reply: Reply, want: &[u8]) {
-    let lines = printed(alloc, &reply).expect(rt, "memory");
+    let lines = printed(rt, alloc, &reply);
     assert!(rt; lines.as_slice().get(1..) == Some(want), "{reply:?}");
 }
 
-fn printed(alloc: Global, reply: &Reply) -> Result<Bytes, AllocError> {
-    let mut out = Bytes::from_slice(alloc, b"#")?;
-    print_reply(alloc, reply, &mut out)?;
-    Ok(out)
+fn printed(rt: &impl Abort, alloc: Global, reply: &Reply) -> Bytes {
+    let mut out = Bytes::from_slice(alloc, b"#").expect(rt, "memory");
+    print_reply(alloc, reply, &mut out).expect(rt, "memory");
+    out
 }
 
 fn text(rt: &impl Abort, alloc: Global, text: &[u8]) -> Text {
