@@ -115,6 +115,21 @@ fn a_refusal_is_printed_by_its_number(rt: HostRuntime) {
 }
 
 #[test]
+fn a_transaction_is_told_by_its_number(rt: HostRuntime) {
+    let alloc = rt.alloc();
+    check(&rt, alloc, Reply::Begun(7), b"BEGUN 7\n");
+    check(&rt, alloc, Reply::Committed(12), b"COMMITTED 12\n");
+    check(&rt, alloc, Reply::CommittedNothing, b"COMMITTED NOTHING\n");
+    check(&rt, alloc, Reply::RolledBack, b"ROLLED BACK\n");
+    let ddl = Refusal::DdlInTransaction(7);
+    check_refusal(&rt, alloc, ddl, b"E3 DdlInTransaction 7\n");
+    let open = Refusal::TransactionOpen(8);
+    check_refusal(&rt, alloc, open, b"E4 TransactionOpen 8\n");
+    check_refusal(&rt, alloc, Refusal::NoTransaction, b"E5 NoTransaction\n");
+    check_refusal(&rt, alloc, Refusal::Locked(9), b"E18 Locked 9\n");
+}
+
+#[test]
 fn a_refusal_is_printed_with_its_name_or_row(rt: HostRuntime) {
     let alloc = rt.alloc();
     let unknown = Refusal::UnknownName(text(&rt, alloc, b"T"));
