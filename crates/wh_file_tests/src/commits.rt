@@ -119,51 +119,68 @@ fn there_and_back(commit: &Commit, alloc: Global, payload: &[u8]) -> bool {
     }
 }
 
+fn assert_written(rt: &impl Abort, alloc: Global, name: &str, commit: &Commit, payload: &[u8]) {
+    assert!(rt; there_and_back(commit, alloc, payload), "{name}");
+}
+
+/// A commit of that one change is written as this payload.
+fn assert_one(
+    rt: &impl Abort,
+    alloc: Global,
+    name: &str,
+    stamp: u64,
+    change: Change,
+    payload: &[u8],
+) {
+    assert_written(rt, alloc, name, &one(rt, alloc, stamp, change), payload);
+}
+
 #[test]
 fn commits_are_written_and_read_byte_by_byte(rt: HostRuntime) {
+    let alloc = rt.alloc();
+    let create = created(&rt, alloc);
+    assert_one(&rt, alloc, "a new table", 1, create, &CREATE);
+    let dropped = Change::Drops(258);
+    assert_one(&rt, alloc, "an object that is dropped", 4, dropped, &DROP);
+    let insert = inserted(&rt, alloc, 2);
+    assert_one(&rt, alloc, "a new version", 2, insert, &INSERT);
+    let remove = removed(&rt, alloc, 5, &[1, 3]);
+    assert_one(&rt, alloc, "partitions that go", 5, remove, &REMOVE);
+}
+
+#[test]
+fn commits_have_any_number_of_changes(rt: HostRuntime) {
     let alloc = rt.alloc();
     let nothing = Commit {
         stamp: 3,
         changes: Vec::new(alloc),
     };
-    assert!(rt; there_and_back(&nothing, alloc, &NOTHING), "no change");
-    let create = one(&rt, alloc, 1, created(&rt, alloc));
-    assert!(rt; there_and_back(&create, alloc, &CREATE), "a new table");
-    let drop = one(&rt, alloc, 4, Change::Drops(258));
-    assert!(rt;
-        there_and_back(&drop, alloc, &DROP),
-        "an object that is dropped"
-    );
-    let insert = one(&rt, alloc, 2, inserted(&rt, alloc, 2));
-    assert!(rt; there_and_back(&insert, alloc, &INSERT), "a new version");
+    assert_written(&rt, alloc, "no change", &nothing, &NOTHING);
     let both = two(&rt, alloc, 1, created(&rt, alloc), inserted(&rt, alloc, 1));
-    assert!(rt;
-        there_and_back(&both, alloc, &BOTH),
-        "a new table and its first version"
+    assert_written(
+        &rt,
+        alloc,
+        "a new table and its first version",
+        &both,
+        &BOTH,
     );
-    let remove = one(&rt, alloc, 5, removed(&rt, alloc, 5, &[1, 3]));
-    assert!(rt;
-        there_and_back(&remove, alloc, &REMOVE),
-        "partitions that go"
-    );
+}
+
+/// Whether a commit of that one change is written.
+fn is_written(rt: &impl Abort, alloc: Global, stamp: u64, change: Change) -> bool {
+    one(rt, alloc, stamp, change).encode(alloc).is_ok()
 }
 
 #[test]
 fn what_is_no_commit_is_not_written(rt: HostRuntime) {
     let alloc = rt.alloc();
     let least = inserted_number(&rt, alloc, 2, -999_999_999_999_999_999);
-    assert!(rt;
-        one(&rt, alloc, 2, least).encode(alloc).is_ok(),
-        "a number of 18 digits"
-    );
+    assert!(rt; is_written(&rt, alloc, 2, least), "a number of 18 digits");
     let long = inserted_number(&rt, alloc, 2, 1_000_000_000_000_000_000);
-    assert!(rt;
-        one(&rt, alloc, 2, long).encode(alloc).is_err(),
-        "a number of 19 digits"
-    );
+    assert!(rt; !is_written(&rt, alloc, 2, long), "a number of 19 digits");
     let falling = removed(&rt, alloc, 5, &[3, 1]);
     assert!(rt;
-        one(&rt, alloc, 5, falling).encode(alloc).is_err(),
+        !is_written(&rt, alloc, 5, falling),
         "removed numbers that fall"
     );
 }
@@ -180,7 +197,7 @@ fn has_a_prefix(alloc: Global, payload: &[u8]) -> bool {
 
 #[test]
 fn no_prefix_is_a_commit(rt: HostRuntime) {
-    let cases: [(&str, &[u8]); 6] = [
+    const CASES: &[(&str, &[u8])] = &[
         ("no change", &NOTHING),
         ("a new table", &CREATE),
         ("an object that is dropped", &DROP),
@@ -188,7 +205,7 @@ fn no_prefix_is_a_commit(rt: HostRuntime) {
         ("a new table and its first version", &BOTH),
         ("partitions that go", &REMOVE),
     ];
-    for (name, payload) in cases {
+    for (name, payload) in CASES {
         assert!(rt; !has_a_prefix(rt.alloc(), payload), "{name}");
     }
 }
@@ -204,10 +221,17 @@ fn with_byte(rt: &impl Abort, alloc: Global, bytes: &[u8], place: usize, byte: u
     changed
 }
 
+/// Of a payload with another byte at a place, no commit is read.
+fn assert_unread(rt: &impl Abort, alloc: Global, name: &str, bytes: &[u8], at: (usize, u8)) {
+    let (place, byte) = at;
+    let changed = with_byte(rt, alloc, bytes, place, byte);
+    let none = Commit::decode(alloc, &changed).is_none();
+    assert!(rt; none, "{name}");
+}
+
 #[test]
 fn what_is_no_commit_is_not_read(rt: HostRuntime) {
-    let alloc = rt.alloc();
-    let cases: [(&str, &[u8], usize, u8); 16] = [
+    const CASES: &[(&str, &[u8], usize, u8)] = &[
         ("fewer changes than there are", &BOTH, 11, 1),
         ("more changes than there are", &CREATE, 11, 2),
         ("four billion changes", &NOTHING, 8, 255),
@@ -225,8 +249,7 @@ fn what_is_no_commit_is_not_read(rt: HostRuntime) {
         ("four billion removed numbers", &REMOVE, 37, 255),
         ("more partitions than there are", &REMOVE, 60, 1),
     ];
-    for (name, bytes, place, byte) in cases {
-        let changed = with_byte(&rt, alloc, bytes, place, byte);
-        assert!(rt; Commit::decode(alloc, &changed).is_none(), "{name}");
+    for (name, bytes, place, byte) in CASES {
+        assert_unread(&rt, rt.alloc(), name, bytes, (*place, *byte));
     }
 }

@@ -7,156 +7,124 @@ use std::alloc::Global;
 use std::process::Abort;
 use wh_world::*;
 
-#[test]
-fn a_record_has_its_length_and_a_closed_gate(rt: HostRuntime) {
-    let none: [u8; 0] = [];
-    let cases = [
-        (
-            "empty",
-            none.as_slice(),
-            [0, 0, 0, 0, 0, 0, 0, 0, 0].as_slice(),
-        ),
-        (
-            "two bytes",
-            [7, 8].as_slice(),
-            [0, 0, 0, 0, 0, 0, 0, 2, 7, 8, 0].as_slice(),
-        ),
-    ];
-    for (name, payload, want) in cases {
-        let framed = Framed::of(rt.alloc(), payload).expect(&rt, "memory");
-        assert_eq!(rt; framed.as_slice(), want, "{name}");
-    }
+fn assert_framed(rt: &impl Abort, alloc: Global, name: &str, payload: &[u8], want: &[u8]) {
+    let framed = Framed::of(alloc, payload).expect(rt, "memory");
+    assert_eq!(rt; framed.as_slice(), want, "{name}");
 }
 
-// Each call asks for two bytes. Its number of bytes stands before what the buffer then holds; 9 is
-// a call that failed.
+#[test]
+fn a_record_has_its_length_and_a_closed_gate(rt: HostRuntime) {
+    let alloc = rt.alloc();
+    assert_framed(&rt, alloc, "empty", &[], &[0, 0, 0, 0, 0, 0, 0, 0, 0]);
+    let two = &[0, 0, 0, 0, 0, 0, 0, 2, 7, 8, 0];
+    assert_framed(&rt, alloc, "two bytes", &[7, 8], two);
+}
+
+fn source_of(rt: &impl Abort, alloc: Global, bytes: &[u8], failing: &[u64]) -> MemSource {
+    let bytes = bytes.to_vec(alloc).expect(rt, "memory");
+    let failing = failing.to_vec(alloc).expect(rt, "memory");
+    MemSource::new(bytes, failing)
+}
+
+// Each of four calls asks for two bytes. Its number of bytes stands before what the buffer then
+// holds; 9 is a call that failed.
+fn reads(rt: &impl Abort, alloc: Global, source: &mut MemSource) -> Vec<u8> {
+    let mut got = Vec::new(alloc);
+    let mut buf = [0u8; 2];
+    for _ in 0..4 {
+        got.push(source.read(&mut buf).map_or(9, |n| n as u8))
+            .expect(rt, "memory");
+        got.extend_from_slice(&buf).expect(rt, "memory");
+    }
+    got
+}
+
+fn assert_reads(rt: &impl Abort, alloc: Global, name: &str, failing: &[u64], want: &[u8]) {
+    let mut source = source_of(rt, alloc, &[1, 2, 3, 4, 5], failing);
+    let got = reads(rt, alloc, &mut source);
+    assert_eq!(rt; got.as_slice(), want, "{name}");
+}
+
 #[test]
 fn a_source_gives_its_bytes_in_order(rt: HostRuntime) {
-    let alloc = rt.alloc();
-    let none: [u64; 0] = [];
-    let cases = [
-        (
-            "no failure",
-            none.as_slice(),
-            [2, 1, 2, 2, 3, 4, 1, 5, 4, 0, 5, 4].as_slice(),
-        ),
+    const CASES: &[(&str, &[u64], &[u8])] = &[
+        ("no failure", &[], &[2, 1, 2, 2, 3, 4, 1, 5, 4, 0, 5, 4]),
         (
             "the first call",
-            [1].as_slice(),
-            [9, 0, 0, 2, 1, 2, 2, 3, 4, 1, 5, 4].as_slice(),
+            &[1],
+            &[9, 0, 0, 2, 1, 2, 2, 3, 4, 1, 5, 4],
         ),
         (
             "the third call",
-            [3].as_slice(),
-            [2, 1, 2, 2, 3, 4, 9, 3, 4, 1, 5, 4].as_slice(),
+            &[3],
+            &[2, 1, 2, 2, 3, 4, 9, 3, 4, 1, 5, 4],
         ),
         (
             "two calls, unsorted",
-            [4, 2].as_slice(),
-            [2, 1, 2, 9, 1, 2, 2, 3, 4, 9, 3, 4].as_slice(),
+            &[4, 2],
+            &[2, 1, 2, 9, 1, 2, 2, 3, 4, 9, 3, 4],
         ),
     ];
-    for (name, failing, want) in cases {
-        let mut source = MemSource::new(
-            [1, 2, 3, 4, 5].to_vec(alloc).expect(&rt, "memory"),
-            failing.to_vec(alloc).expect(&rt, "memory"),
-        );
-        let mut got = Vec::new(alloc);
-        let mut buf = [0u8; 2];
-        for _ in 0..4 {
-            got.push(source.read(&mut buf).map_or(9, |n| n as u8))
-                .expect(&rt, "memory");
-            got.extend_from_slice(&buf).expect(&rt, "memory");
-        }
-        assert_eq!(rt; got.as_slice(), want, "{name}");
+    for (name, failing, want) in CASES {
+        assert_reads(&rt, rt.alloc(), name, failing, want);
     }
 }
 
-// The pieces are of two bytes, of three and of one.
+fn sink_of(rt: &impl Abort, alloc: Global, room: u64, failing: &[u64]) -> MemSink {
+    let failing = failing.to_vec(alloc).expect(rt, "memory");
+    MemSink::new(alloc, room, failing).expect(rt, "memory")
+}
+
+// What the writes of two bytes, of three and of one give; 9 where one fails.
+fn counts(sink: &mut MemSink) -> [usize; 3] {
+    let first = sink.write(&[1, 2]).unwrap_or(9);
+    let second = sink.write(&[3, 4, 5]).unwrap_or(9);
+    let third = sink.write(&[6]).unwrap_or(9);
+    [first, second, third]
+}
+
+// Its name, its room, the calls that fail, what the writes give, and what the sink then holds.
+type SinkCase = (&'static str, u64, &'static [u64], [usize; 3], &'static [u8]);
+
+fn assert_writes(rt: &impl Abort, alloc: Global, case: &SinkCase) {
+    let (name, room, failing, wanted, held) = *case;
+    let mut sink = sink_of(rt, alloc, room, failing);
+    assert_eq!(rt; counts(&mut sink), wanted, "{name}");
+    assert_eq!(rt; sink.held(), held, "{name}");
+}
+
 #[test]
 fn a_sink_takes_what_fits(rt: HostRuntime) {
-    let alloc = rt.alloc();
-    let none: [u64; 0] = [];
-    let cases = [
-        (
-            "room for all",
-            6,
-            none.as_slice(),
-            [2, 3, 1].as_slice(),
-            [1, 2, 3, 4, 5, 6].as_slice(),
-        ),
-        (
-            "more room",
-            9,
-            none.as_slice(),
-            [2, 3, 1].as_slice(),
-            [1, 2, 3, 4, 5, 6].as_slice(),
-        ),
-        (
-            "part of a piece",
-            4,
-            none.as_slice(),
-            [2, 2, 9].as_slice(),
-            [1, 2, 3, 4].as_slice(),
-        ),
-        (
-            "no room",
-            0,
-            none.as_slice(),
-            [9, 9, 9].as_slice(),
-            [].as_slice(),
-        ),
-        (
-            "the first call fails",
-            9,
-            [1].as_slice(),
-            [9, 3, 1].as_slice(),
-            [3, 4, 5, 6].as_slice(),
-        ),
-        (
-            "the second call fails",
-            9,
-            [2].as_slice(),
-            [2, 9, 1].as_slice(),
-            [1, 2, 6].as_slice(),
-        ),
-        (
-            "the last call fails",
-            9,
-            [3].as_slice(),
-            [2, 3, 9].as_slice(),
-            [1, 2, 3, 4, 5].as_slice(),
-        ),
+    const CASES: &[SinkCase] = &[
+        ("room for all", 6, &[], [2, 3, 1], &[1, 2, 3, 4, 5, 6]),
+        ("more room", 9, &[], [2, 3, 1], &[1, 2, 3, 4, 5, 6]),
+        ("part of a piece", 4, &[], [2, 2, 9], &[1, 2, 3, 4]),
+        ("no room", 0, &[], [9, 9, 9], &[]),
+        ("the first call fails", 9, &[1], [9, 3, 1], &[3, 4, 5, 6]),
+        ("the second call fails", 9, &[2], [2, 9, 1], &[1, 2, 6]),
+        ("the last call fails", 9, &[3], [2, 3, 9], &[1, 2, 3, 4, 5]),
     ];
-    for (name, room, failing, counts, held) in cases {
-        let mut sink = MemSink::new(
-            alloc,
-            room,
-            failing.to_vec(alloc).expect(&rt, "memory"),
-        ).expect(&rt, "memory");
-        let mut got = Vec::new(alloc);
-        got.push(sink.write(&[1, 2]).unwrap_or(9))
-            .expect(&rt, "memory");
-        got.push(sink.write(&[3, 4, 5]).unwrap_or(9))
-            .expect(&rt, "memory");
-        got.push(sink.write(&[6]).unwrap_or(9))
-            .expect(&rt, "memory");
-        assert_eq!(rt; got.as_slice(), counts, "{name}");
-        assert_eq!(rt; sink.held(), held, "{name}");
+    for case in CASES {
+        assert_writes(&rt, rt.alloc(), case);
     }
+}
+
+fn assert_reading(rt: &impl Abort, clock: &mut SetClock, name: &str, want: u64) {
+    assert_eq!(rt; clock.now(), want, "{name}");
 }
 
 #[test]
 fn a_clock_stays_at_its_last_reading(rt: HostRuntime) {
-    let mut clock = SetClock::new([5, 7, 6].to_vec(rt.alloc()).expect(&rt, "memory"));
-    for (name, want) in [
+    const CASES: &[(&str, u64)] = &[
         ("first", 5),
         ("second", 7),
         ("last", 6),
         ("again", 6),
         ("and again", 6),
-    ] {
-        assert_eq!(rt; clock.now(), want, "{name}");
+    ];
+    let mut clock = SetClock::new([5, 7, 6].to_vec(rt.alloc()).expect(&rt, "memory"));
+    for (name, want) in CASES {
+        assert_reading(&rt, &mut clock, name, *want);
     }
 }
 
@@ -377,22 +345,40 @@ fn a_disk_takes_writes_within_its_bounds(rt: HostRuntime) {
     }
 }
 
-fn check(rt: &impl Abort, alloc: Global, case: &Case) {
+fn disk_of(
+    rt: &impl Abort,
+    alloc: Global,
+    bytes: &[u8],
+    room: u64,
+    calls: u64,
+    failing: &[u64],
+) -> MemDisk {
+    let bytes = bytes.to_vec(alloc).expect(rt, "memory");
+    let failing = failing.to_vec(alloc).expect(rt, "memory");
+    MemDisk::new(alloc, bytes, room, calls, failing).expect(rt, "memory")
+}
+
+// A step, by its number from 1, succeeds or fails as it is to.
+fn assert_step(rt: &impl Abort, disk: &mut MemDisk, case: &Case, number: u64, step: Step) {
     let name = case.name;
-    let bytes = [10, 20, 30, 40].to_vec(alloc).expect(rt, "memory");
-    let failing = case.failing.to_vec(alloc).expect(rt, "memory");
-    let mut disk = MemDisk::new(alloc, bytes, case.room, case.calls, failing).expect(rt, "memory");
-    for (i, step) in case.steps.iter().enumerate() {
-        let number = i as u64 + 1;
-        let succeeds = !case.failed.contains(&number);
-        assert_eq!(rt;
-            run(rt, &mut disk, *step),
-            succeeds,
-            "{name}, step {number}"
-        );
-    }
+    let succeeds = !case.failed.contains(&number);
+    let found = run(rt, disk, step);
+    assert_eq!(rt; found, succeeds, "{name}, step {number}");
+}
+
+fn assert_left(rt: &impl Abort, disk: &MemDisk, case: &Case) {
+    let name = case.name;
     assert_eq!(rt; disk.bytes(), case.bytes, "{name}");
     assert_eq!(rt; disk.fault_count(), case.failed.len() as u64, "{name}");
+}
+
+fn check(rt: &impl Abort, alloc: Global, case: &Case) {
+    let bytes = &[10, 20, 30, 40];
+    let mut disk = disk_of(rt, alloc, bytes, case.room, case.calls, case.failing);
+    for (i, step) in case.steps.iter().enumerate() {
+        assert_step(rt, &mut disk, case, i as u64 + 1, *step);
+    }
+    assert_left(rt, &disk, case);
 }
 
 // Through the bounds a caller knows what a new form holds, from which it reads and writes.

@@ -23,26 +23,31 @@ fn one_row(rt: &impl Abort, alloc: Global) -> Partition {
     Partition::make(1, rows)
 }
 
+fn row_of(rt: &impl Abort, alloc: Global, first: Value, second: Value, third: Value) -> Row {
+    let mut row = Row::new(alloc);
+    row.push(first).expect(rt, "memory");
+    row.push(second).expect(rt, "memory");
+    row.push(third).expect(rt, "memory");
+    row
+}
+
 fn all_kinds(rt: &impl Abort, alloc: Global) -> Partition {
-    let mut first = Row::new(alloc);
-    first.push(Value::Null).expect(rt, "memory");
-    first.push(Value::Number(-1)).expect(rt, "memory");
-    first.push(Value::Bool(false)).expect(rt, "memory");
-    let mut second = Row::new(alloc);
-    second.push(Value::Bool(true)).expect(rt, "memory");
-    second
-        .push(Value::Text(Text::of(alloc, "hi").expect(rt, "memory")))
-        .expect(rt, "memory");
-    second.push(Value::Null).expect(rt, "memory");
+    let hi = Value::Text(Text::of(alloc, "hi").expect(rt, "memory"));
     let mut rows = Vec::new(alloc);
     rows.push(NumberedRow {
         number: 2,
-        row: first,
+        row: row_of(
+            rt,
+            alloc,
+            Value::Null,
+            Value::Number(-1),
+            Value::Bool(false),
+        ),
     })
     .expect(rt, "memory");
     rows.push(NumberedRow {
         number: 258,
-        row: second,
+        row: row_of(rt, alloc, Value::Bool(true), hi, Value::Null),
     })
     .expect(rt, "memory");
     Partition::make(7, rows)
@@ -63,29 +68,30 @@ fn there_and_back(alloc: Global, partition: Partition, width: u32, bytes: &[u8])
     }
 }
 
-#[test]
-fn partitions_are_written_and_read_byte_by_byte(rt: HostRuntime) {
-    let alloc = rt.alloc();
-    assert!(rt;
-        there_and_back(alloc, one_row(&rt, alloc), 1, &ONE_ROW),
-        "one row"
-    );
-    assert!(rt;
-        there_and_back(alloc, all_kinds(&rt, alloc), 3, &ALL_KINDS),
-        "all kinds of value"
-    );
-    let partition = all_kinds(&rt, alloc);
+fn assert_numbers(rt: &impl Abort, partition: &Partition) {
     assert_eq!(rt; partition.number(), 7);
     assert_eq!(rt; (partition.first(), partition.last()), (2, 258));
 }
 
 #[test]
+fn partitions_are_written_and_read_byte_by_byte(rt: HostRuntime) {
+    let alloc = rt.alloc();
+    let one = there_and_back(alloc, one_row(&rt, alloc), 1, &ONE_ROW);
+    assert!(rt; one, "one row");
+    let all = there_and_back(alloc, all_kinds(&rt, alloc), 3, &ALL_KINDS);
+    assert!(rt; all, "all kinds of value");
+    assert_numbers(&rt, &all_kinds(&rt, alloc));
+}
+
+fn is_partition(alloc: Global, bytes: &[u8], width: u32) -> bool {
+    Partition::decode(alloc, bytes, width).is_some()
+}
+
+#[test]
 fn no_prefix_is_a_partition(rt: HostRuntime) {
     for len in 0..ALL_KINDS.len() {
-        assert!(rt;
-            Partition::decode(rt.alloc(), &ALL_KINDS[..len], 3).is_none(),
-            "{len} bytes"
-        );
+        let found = is_partition(rt.alloc(), &ALL_KINDS[..len], 3);
+        assert!(rt; !found, "{len} bytes");
     }
 }
 
@@ -98,10 +104,16 @@ fn with_byte(rt: &impl Abort, alloc: Global, bytes: &[u8], place: usize, byte: u
     changed
 }
 
+/// With another byte at a place, no partition of that width is read.
+fn assert_unread(rt: &impl Abort, alloc: Global, name: &str, at: (usize, u8), width: u32) {
+    let (place, byte) = at;
+    let bytes = with_byte(rt, alloc, &ALL_KINDS, place, byte);
+    assert!(rt; !is_partition(alloc, &bytes, width), "{name}");
+}
+
 #[test]
 fn what_is_no_partition_is_not_read(rt: HostRuntime) {
-    let alloc = rt.alloc();
-    let cases = [
+    const CASES: &[(&str, usize, u8, u32)] = &[
         ("no row", 11, 0, 3),
         ("more rows than 1,000", 10, 4, 3),
         ("a width of 4", 0, 0, 4),
@@ -111,64 +123,87 @@ fn what_is_no_partition_is_not_read(rt: HostRuntime) {
         ("a text that isn't UTF-8", 45, 255, 3),
         ("a text that passes the end", 44, 4, 3),
     ];
-    for (name, place, byte, width) in cases {
-        let bytes = with_byte(&rt, alloc, &ALL_KINDS, place, byte);
-        assert!(rt; Partition::decode(alloc, &bytes, width).is_none(), "{name}");
+    for (name, place, byte, width) in CASES {
+        assert_unread(&rt, rt.alloc(), name, (*place, *byte), *width);
     }
 }
 
-/// A partition of that many rows without values.
-fn bare(rt: &impl Abort, alloc: Global, count: u32) -> Option<Partition> {
+/// The bytes of a partition of that many rows without values.
+fn bare_bytes(rt: &impl Abort, alloc: Global, count: u32) -> Bytes {
     let mut bytes = Bytes::new(alloc);
     write_u64(&mut bytes, 1).expect(rt, "memory");
     write_u32(&mut bytes, count).expect(rt, "memory");
     for number in 0..count {
         write_u64(&mut bytes, u64::from(number)).expect(rt, "memory");
     }
+    bytes
+}
+
+/// How many rows the partition of that many rows without values has, and the number of its last one.
+fn bare(rt: &impl Abort, alloc: Global, count: u32) -> Option<(usize, u64)> {
+    let bytes = bare_bytes(rt, alloc, count);
     match Partition::decode(alloc, bytes.as_slice(), 0) {
-        Some(found) => Some(found.expect(rt, "memory").0),
+        Some(found) => {
+            let (partition, _) = found.expect(rt, "memory");
+            Some((partition.rows().len(), partition.last()))
+        }
         None => None,
     }
 }
 
 #[test]
 fn a_thousand_rows_are_a_partition(rt: HostRuntime) {
-    let found = bare(&rt, rt.alloc(), 1000).expect(&rt, "1,000 rows are a partition");
-    assert_eq!(rt; found.rows().len(), 1000);
-    assert_eq!(rt; found.last(), 999);
-    assert!(rt; bare(&rt, rt.alloc(), 1001).is_none(), "1,001 rows");
+    let found = bare(&rt, rt.alloc(), 1000);
+    assert_eq!(rt; found, Some((1000, 999)), "1,000 rows");
+    let found = bare(&rt, rt.alloc(), 1001);
+    assert_eq!(rt; found, None, "1,001 rows");
 }
 
-/// That many rows without values, cut: each partition's number, and those of its first and last row.
-fn cut_rows(rt: &impl Abort, alloc: Global, count: u32) -> Vec<(u64, u64, u64)> {
+fn bare_rows(rt: &impl Abort, alloc: Global, count: u32) -> Vec<Row> {
     let mut rows = Vec::new(alloc);
     for _ in 0..count {
         rows.push(Row::new(alloc)).expect(rt, "memory");
     }
-    if rows.len() > 5000 {
-        return Vec::new(alloc);
-    }
-    let mut found = Vec::new(alloc);
-    for partition in &cut(alloc, rows, 5, 7).expect(rt, "memory") {
-        found
+    rows
+}
+
+/// Each partition's number, and those of its first and last row.
+fn spans(rt: &impl Abort, alloc: Global, partitions: &[Partition]) -> Vec<(u64, u64, u64)> {
+    let mut spans = Vec::new(alloc);
+    for partition in partitions {
+        spans
             .push((partition.number(), partition.first(), partition.last()))
             .expect(rt, "memory");
     }
-    found
+    spans
+}
+
+/// That many rows without values, cut.
+fn cut_rows(rt: &impl Abort, alloc: Global, count: u32) -> Vec<(u64, u64, u64)> {
+    let rows = bare_rows(rt, alloc, count);
+    if rows.len() > 5000 {
+        return Vec::new(alloc);
+    }
+    let partitions = cut(alloc, rows, 5, 7).expect(rt, "memory");
+    spans(rt, alloc, &partitions)
+}
+
+fn assert_cut(rt: &impl Abort, alloc: Global, count: u32, want: &[(u64, u64, u64)]) {
+    let found = cut_rows(rt, alloc, count);
+    assert_eq!(rt; found.as_slice(), want, "{count} rows");
 }
 
 #[test]
 fn rows_are_cut_at_each_thousand(rt: HostRuntime) {
-    let cases = [
-        (0, [].as_slice()),
+    const CASES: &[(u32, &[(u64, u64, u64)])] = &[
+        (0, &[]),
         (1, &[(7, 5, 5)]),
         (1000, &[(7, 5, 1004)]),
         (1001, &[(7, 5, 1004), (8, 1005, 1005)]),
         (2000, &[(7, 5, 1004), (8, 1005, 2004)]),
     ];
-    for (count, want) in cases {
-        let found = cut_rows(&rt, rt.alloc(), count);
-        assert_eq!(rt; found.as_slice(), want, "{count} rows");
+    for (count, want) in CASES {
+        assert_cut(&rt, rt.alloc(), *count, want);
     }
 }
 
@@ -194,17 +229,19 @@ fn print_bounds(rt: &impl Abort, columns: &[Bounds], out: &mut Bytes) {
     }
 }
 
+fn assert_places(rt: &impl Abort, meta: &PartMeta) {
+    assert_eq!(rt; (meta.id.object, meta.id.number), (3, 7));
+    assert_eq!(rt; (meta.at, meta.length), (100, 48));
+    assert_eq!(rt; (meta.rows, meta.first, meta.last), (2, 2, 258));
+}
+
 #[test]
 fn bounds_follow_the_value_order(rt: HostRuntime) {
     let alloc = rt.alloc();
     let meta = meta_of(&rt, alloc, &ALL_KINDS, 3).expect(&rt, "a partition");
-    assert_eq!(rt; (meta.id.object, meta.id.number), (3, 7));
-    assert_eq!(rt; (meta.at, meta.length), (100, 48));
-    assert_eq!(rt; (meta.rows, meta.first, meta.last), (2, 2, 258));
+    assert_places(&rt, &meta);
     let mut printed = Bytes::new(alloc);
     print_bounds(&rt, &meta.columns, &mut printed);
-    assert_eq!(rt;
-        printed.as_slice(),
-        b"TRUE..NULL -1..'hi' FALSE..NULL ".as_slice()
-    );
+    let want = b"TRUE..NULL -1..'hi' FALSE..NULL ".as_slice();
+    assert_eq!(rt; printed.as_slice(), want);
 }

@@ -39,6 +39,11 @@ fn creation(
     commit(rt, alloc, stamp, change)
 }
 
+// A new table of one column.
+fn new_table(rt: &impl Abort, alloc: Global, stamp: u64, id: u32, name: &[u8]) -> Commit {
+    creation(rt, alloc, stamp, id, name, 1, 1, ColumnType::Number)
+}
+
 fn commit(rt: &impl Abort, alloc: Global, stamp: u64, change: Change) -> Commit {
     let mut changes = Vec::new(alloc);
     changes.push(change).expect(rt, "memory");
@@ -124,19 +129,59 @@ fn is_refused(catalog: &mut Catalog, commit: Commit) -> bool {
     }
 }
 
+fn assert_refused(rt: &impl Abort, catalog: &mut Catalog, commit: Commit, case: &str) {
+    assert!(rt; is_refused(catalog, commit), "{case}");
+}
+
+// The object that is found by a name.
+fn assert_found(rt: &impl Abort, catalog: &Catalog, name: &[u8], id: Option<u32>, case: &str) {
+    assert_eq!(rt; catalog.find(name), id, "{case}");
+}
+
+// How many objects there are, and how many of them live.
+fn assert_counts(rt: &impl Abort, catalog: &Catalog, objects: u64, live: u64) {
+    assert_eq!(rt;
+        (catalog.object_count(), catalog.live_count()),
+        (objects, live)
+    );
+}
+
 fn pass_on(catalog: &mut Catalog) {
     if catalog.last() < 20 {
         catalog.pass(20);
     }
 }
 
+fn are_rows_of(rt: &impl Abort, alloc: Global, found: &[&Row], numbers: &[i64]) -> bool {
+    let mut same = found.len() == numbers.len();
+    for (found, number) in found.iter().zip(numbers) {
+        same = same && **found == row(rt, alloc, Value::Number(*number));
+    }
+    same
+}
+
 // Whether the table of an id holds these numbers, in its one column.
 fn holds(rt: &impl Abort, alloc: Global, catalog: &Catalog, id: u32, numbers: &[i64]) -> bool {
     let table = catalog.table(id).expect(rt, "no table");
     let found = table.rows(alloc).expect(rt, "memory");
+    are_rows_of(rt, alloc, &found, numbers)
+}
+
+fn assert_holds(
+    rt: &impl Abort,
+    alloc: Global,
+    catalog: &Catalog,
+    id: u32,
+    numbers: &[i64],
+    case: &str,
+) {
+    assert!(rt; holds(rt, alloc, catalog, id, numbers), "{case}");
+}
+
+fn begin_with(found: &[&Partition], numbers: &[u64]) -> bool {
     let mut same = found.len() == numbers.len();
     for (found, number) in found.iter().zip(numbers) {
-        same = same && **found == row(rt, alloc, Value::Number(*number));
+        same = same && found.first() == *number;
     }
     same
 }
@@ -145,11 +190,7 @@ fn holds(rt: &impl Abort, alloc: Global, catalog: &Catalog, id: u32, numbers: &[
 fn is_by_rows(rt: &impl Abort, alloc: Global, catalog: &Catalog, id: u32, numbers: &[u64]) -> bool {
     let table = catalog.table(id).expect(rt, "no table");
     let found = table.by_rows(alloc).expect(rt, "memory");
-    let mut same = found.len() == numbers.len();
-    for (found, number) in found.iter().zip(numbers) {
-        same = same && found.first() == *number;
-    }
-    same
+    begin_with(&found, numbers)
 }
 
 // Whether these partitions of the table of an id go where the row of that number goes.
@@ -184,218 +225,216 @@ fn one_table(rt: &impl Abort, alloc: Global) -> Catalog {
     catalog
 }
 
+// Its last row has a lower number than one that stood, and the first partition goes.
+fn push_rows(rt: &impl Abort, alloc: Global, catalog: &mut Catalog) -> Undo {
+    let added = partitions(rt, alloc, &[(2, 6, 5), (3, 9, 11), (4, 2, 3)]);
+    let pushed = version(rt, alloc, 15, 1, 13, 10, &[1], added);
+    carry_out(rt, catalog, pushed)
+}
+
+fn assert_pushed(rt: &impl Abort, alloc: Global, catalog: &Catalog) {
+    assert_holds(rt, alloc, catalog, 1, &[5, 11, 3], "the new version");
+    let by_rows = is_by_rows(rt, alloc, catalog, 1, &[2, 6, 9]);
+    assert!(rt; by_rows, "by their rows");
+    let given_up = gives_up(rt, alloc, catalog, 1, 9, &[3]);
+    assert!(rt; given_up, "a row that goes");
+    assert_eq!(rt; catalog.last(), 20);
+}
+
+fn assert_undone(rt: &impl Abort, alloc: Global, catalog: &Catalog) {
+    assert_holds(rt, alloc, catalog, 1, &[7], "the version before");
+    assert_eq!(rt; catalog.last(), 12);
+    assert_found(rt, catalog, b"t", Some(1), "the table");
+    assert_found(rt, catalog, b"v", None, "another name");
+    assert_counts(rt, catalog, 1, 1);
+}
+
 #[test]
 fn a_version_is_held_and_undone(rt: HostRuntime) {
     let alloc = rt.alloc();
     let mut catalog = one_table(&rt, alloc);
-    // The last row has a lower number than one that stood, and the first partition goes.
-    let added = partitions(&rt, alloc, &[(2, 6, 5), (3, 9, 11), (4, 2, 3)]);
-    let pushed = version(&rt, alloc, 15, 1, 13, 10, &[1], added);
-    let undo = carry_out(&rt, &mut catalog, pushed);
+    let undo = push_rows(&rt, alloc, &mut catalog);
     pass_on(&mut catalog);
-    assert!(rt;
-        holds(&rt, alloc, &catalog, 1, &[5, 11, 3]),
-        "the new version"
-    );
-    assert!(rt;
-        is_by_rows(&rt, alloc, &catalog, 1, &[2, 6, 9]),
-        "by their rows"
-    );
-    assert!(rt;
-        gives_up(&rt, alloc, &catalog, 1, 9, &[3]),
-        "a row that goes"
-    );
-    assert_eq!(rt; catalog.last(), 20);
+    assert_pushed(&rt, alloc, &catalog);
     catalog.undo(undo);
-    assert!(rt; holds(&rt, alloc, &catalog, 1, &[7]), "the version before");
-    assert_eq!(rt; catalog.last(), 12);
-    assert_eq!(rt; catalog.find(b"t"), Some(1));
-    assert_eq!(rt; catalog.find(b"v"), None);
+    assert_undone(&rt, alloc, &catalog);
+}
+
+// No change passes the stamp alone.
+fn assert_passed(rt: &impl Abort, alloc: Global, catalog: &mut Catalog) {
+    let nothing = Commit {
+        stamp: 13,
+        changes: Vec::new(alloc),
+    };
+    carry_out(rt, catalog, nothing);
+    assert_eq!(rt; catalog.last(), 13);
+}
+
+// The second change doesn't apply to what the first leaves.
+fn assert_half_refused(rt: &impl Abort, alloc: Global, catalog: &mut Catalog) {
+    let first = new_table(rt, alloc, 14, 2, b"u");
+    let second = new_table(rt, alloc, 14, 2, b"v");
+    assert_refused(rt, catalog, both(rt, first, second), "one id twice");
+    assert_eq!(rt; catalog.last(), 13);
     assert_eq!(rt; catalog.object_count(), 1);
-    assert_eq!(rt; catalog.live_count(), 1);
+}
+
+// A table and its first version.
+fn filled(rt: &impl Abort, alloc: Global) -> Commit {
+    let first = new_table(rt, alloc, 14, 2, b"u");
+    let added = partitions(rt, alloc, &[(1, 1, 4)]);
+    let second = version(rt, alloc, 14, 2, 14, 2, &[], added);
+    both(rt, first, second)
+}
+
+fn assert_filled(rt: &impl Abort, alloc: Global, catalog: &mut Catalog) {
+    let undo = carry_out(rt, catalog, filled(rt, alloc));
+    assert_holds(rt, alloc, catalog, 2, &[4], "the table");
+    catalog.undo(undo);
+    assert_eq!(rt; catalog.object_count(), 1);
 }
 
 #[test]
 fn a_commit_is_carried_out_whole_or_not_at_all(rt: HostRuntime) {
     let alloc = rt.alloc();
     let mut catalog = one_table(&rt, alloc);
-    // No change passes the stamp alone.
-    let nothing = Commit {
-        stamp: 13,
-        changes: Vec::new(alloc),
-    };
-    carry_out(&rt, &mut catalog, nothing);
-    assert_eq!(rt; catalog.last(), 13);
-    // The second change doesn't apply to what the first leaves.
-    let first = creation(&rt, alloc, 14, 2, b"u", 1, 1, ColumnType::Number);
-    let second = creation(&rt, alloc, 14, 2, b"v", 1, 1, ColumnType::Number);
-    let wrong = both(&rt, first, second);
-    assert!(rt; is_refused(&mut catalog, wrong), "one id twice");
-    assert_eq!(rt; catalog.last(), 13);
-    assert_eq!(rt; catalog.object_count(), 1);
-    // A table and its first version.
-    let first = creation(&rt, alloc, 14, 2, b"u", 1, 1, ColumnType::Number);
-    let added = partitions(&rt, alloc, &[(1, 1, 4)]);
-    let second = version(&rt, alloc, 14, 2, 14, 2, &[], added);
-    let filled = both(&rt, first, second);
-    let undo = carry_out(&rt, &mut catalog, filled);
-    assert!(rt; holds(&rt, alloc, &catalog, 2, &[4]), "the table");
-    catalog.undo(undo);
-    assert_eq!(rt; catalog.object_count(), 1);
+    assert_passed(&rt, alloc, &mut catalog);
+    assert_half_refused(&rt, alloc, &mut catalog);
+    assert_filled(&rt, alloc, &mut catalog);
 }
 
 fn drop_of(rt: &impl Abort, alloc: Global, stamp: u64, id: u32) -> Commit {
     commit(rt, alloc, stamp, Change::Drops(id))
 }
 
+// As OR REPLACE has it: the drop and the creation are one commit.
+fn replacement(rt: &impl Abort, alloc: Global) -> Commit {
+    let gone = drop_of(rt, alloc, 13, 1);
+    let other = new_table(rt, alloc, 13, 2, b"t");
+    both(rt, gone, other)
+}
+
+// Of a table that was dropped.
+fn late_version(rt: &impl Abort, alloc: Global) -> Commit {
+    let added = partitions(rt, alloc, &[(2, 6, 1)]);
+    version(rt, alloc, 14, 1, 14, 7, &[], added)
+}
+
+fn assert_replaced(rt: &impl Abort, alloc: Global, catalog: &mut Catalog) {
+    const WRONG: &[(&str, u32)] = &[("no id", 0), ("a dropped table", 1), ("no such object", 3)];
+    assert_found(rt, catalog, b"t", Some(2), "the new table");
+    assert_counts(rt, catalog, 2, 1);
+    for (case, id) in WRONG {
+        assert_refused(rt, catalog, drop_of(rt, alloc, 14, *id), case);
+    }
+    let late = late_version(rt, alloc);
+    assert_refused(rt, catalog, late, "a version of a dropped table");
+}
+
 #[test]
 fn a_dropped_table_gives_its_name_away_and_lives_again(rt: HostRuntime) {
     let alloc = rt.alloc();
     let mut catalog = one_table(&rt, alloc);
-    let gone = drop_of(&rt, alloc, 13, 1);
-    let other = creation(&rt, alloc, 13, 2, b"t", 1, 1, ColumnType::Number);
-    let replaced = both(&rt, gone, other);
-    let undo = carry_out(&rt, &mut catalog, replaced);
-    assert_eq!(rt; catalog.find(b"t"), Some(2));
-    assert_eq!(rt; catalog.object_count(), 2);
-    assert_eq!(rt; catalog.live_count(), 1);
-    for (case, id) in [("no id", 0), ("a dropped table", 1), ("no such object", 3)] {
-        let wrong = drop_of(&rt, alloc, 14, id);
-        assert!(rt; is_refused(&mut catalog, wrong), "{case}");
-    }
-    let late = version(
-        &rt,
-        alloc,
-        14,
-        1,
-        14,
-        7,
-        &[],
-        partitions(&rt, alloc, &[(2, 6, 1)]),
-    );
-    assert!(rt;
-        is_refused(&mut catalog, late),
-        "a version of a dropped table"
-    );
+    let undo = carry_out(&rt, &mut catalog, replacement(&rt, alloc));
+    assert_replaced(&rt, alloc, &mut catalog);
     catalog.undo(undo);
-    assert_eq!(rt; catalog.find(b"t"), Some(1));
-    assert_eq!(rt; catalog.object_count(), 1);
-    assert_eq!(rt; catalog.live_count(), 1);
-    assert!(rt; holds(&rt, alloc, &catalog, 1, &[7]), "its rows");
+    assert_found(&rt, &catalog, b"t", Some(1), "the first again");
+    assert_counts(&rt, &catalog, 1, 1);
+    assert_holds(&rt, alloc, &catalog, 1, &[7], "its rows");
+}
+
+// The table is dropped, and its name made again.
+fn assert_made_again(rt: &impl Abort, alloc: Global, catalog: &mut Catalog) {
+    let dropping = carry_out(rt, catalog, drop_of(rt, alloc, 13, 1));
+    assert_found(rt, catalog, b"t", None, "dropped");
+    let making = carry_out(rt, catalog, new_table(rt, alloc, 14, 2, b"t"));
+    assert_found(rt, catalog, b"t", Some(2), "made again");
+    catalog.undo(making);
+    assert_found(rt, catalog, b"t", None, "still dropped");
+    catalog.undo(dropping);
+    assert_found(rt, catalog, b"t", Some(1), "alive again");
+}
+
+// A commit gives a name to a new object. It is then undone.
+fn assert_new_name(
+    rt: &impl Abort,
+    catalog: &mut Catalog,
+    commit: Commit,
+    name: &[u8],
+    before: Option<u32>,
+    case: &str,
+) {
+    let adding = carry_out(rt, catalog, commit);
+    assert_found(rt, catalog, name, Some(2), case);
+    catalog.undo(adding);
+    assert_found(rt, catalog, name, before, case);
 }
 
 #[test]
 fn a_name_is_found_while_its_last_object_lives(rt: HostRuntime) {
     let alloc = rt.alloc();
     let mut catalog = one_table(&rt, alloc);
-    let gone = drop_of(&rt, alloc, 13, 1);
-    let dropping = carry_out(&rt, &mut catalog, gone);
-    assert_eq!(rt; catalog.find(b"t"), None, "dropped");
-    let other = creation(&rt, alloc, 14, 2, b"t", 1, 1, ColumnType::Number);
-    let making = carry_out(&rt, &mut catalog, other);
-    assert_eq!(rt; catalog.find(b"t"), Some(2), "made again");
-    catalog.undo(making);
-    assert_eq!(rt; catalog.find(b"t"), None, "still dropped");
-    catalog.undo(dropping);
-    assert_eq!(rt; catalog.find(b"t"), Some(1), "alive again");
-    let new = creation(&rt, alloc, 13, 2, b"u", 1, 1, ColumnType::Number);
-    let adding = carry_out(&rt, &mut catalog, new);
-    assert_eq!(rt; catalog.find(b"u"), Some(2), "a new name");
-    catalog.undo(adding);
-    assert_eq!(rt; catalog.find(b"u"), None, "never made");
-    // OR REPLACE: the drop and the creation are one commit.
-    let gone = drop_of(&rt, alloc, 13, 1);
-    let other = creation(&rt, alloc, 13, 2, b"t", 1, 1, ColumnType::Number);
-    let replacing = carry_out(&rt, &mut catalog, both(&rt, gone, other));
-    assert_eq!(rt; catalog.find(b"t"), Some(2), "replaced");
-    catalog.undo(replacing);
-    assert_eq!(rt; catalog.find(b"t"), Some(1), "the first again");
+    assert_made_again(&rt, alloc, &mut catalog);
+    let new = new_table(&rt, alloc, 13, 2, b"u");
+    assert_new_name(&rt, &mut catalog, new, b"u", None, "a new name");
+    let replaced = replacement(&rt, alloc);
+    assert_new_name(&rt, &mut catalog, replaced, b"t", Some(1), "replaced");
+}
+
+const LONG: [u8; 256] = [b'n'; 256];
+
+// What is wrong with a new table, its stamp, its id, its name, its days of retention, and how many
+// columns it has.
+type TableCase = (&'static str, u64, u32, &'static [u8], u8, usize);
+
+fn assert_table_refused(rt: &impl Abort, alloc: Global, catalog: &mut Catalog, case: &TableCase) {
+    let (case, stamp, id, name, retention, count) = *case;
+    let wrong = creation(
+        rt,
+        alloc,
+        stamp,
+        id,
+        name,
+        retention,
+        count,
+        ColumnType::Number,
+    );
+    assert_refused(rt, catalog, wrong, case);
 }
 
 #[test]
 fn tables_that_do_not_apply_are_refused(rt: HostRuntime) {
+    const CASES: &[TableCase] = &[
+        ("the last stamp", 12, 2, b"u", 1, 1),
+        ("a stamp at the limit", 1 << 62, 2, b"u", 1, 1),
+        ("an id that is taken", 13, 1, b"u", 1, 1),
+        ("an id further on", 13, 3, b"u", 1, 1),
+        ("a name that is taken", 13, 2, b"t", 1, 1),
+        ("no name", 13, 2, b"", 1, 1),
+        ("a name too long", 13, 2, &LONG, 1, 1),
+        ("91 days of retention", 13, 2, b"u", 91, 1),
+        ("no column", 13, 2, b"u", 1, 0),
+        ("65 columns", 13, 2, b"u", 1, 65),
+    ];
     let alloc = rt.alloc();
     let mut catalog = one_table(&rt, alloc);
-    let long = [b'n'; 256];
-    let cases = [
-        ("the last stamp", 12, 2, &b"u"[..], 1, 1),
-        ("a stamp at the limit", 1 << 62, 2, &b"u"[..], 1, 1),
-        ("an id that is taken", 13, 1, &b"u"[..], 1, 1),
-        ("an id further on", 13, 3, &b"u"[..], 1, 1),
-        ("a name that is taken", 13, 2, &b"t"[..], 1, 1),
-        ("no name", 13, 2, &b""[..], 1, 1),
-        ("a name too long", 13, 2, &long[..], 1, 1),
-        ("91 days of retention", 13, 2, &b"u"[..], 91, 1),
-        ("no column", 13, 2, &b"u"[..], 1, 0),
-        ("65 columns", 13, 2, &b"u"[..], 1, 65),
-    ];
-    for (case, stamp, id, name, retention, count) in cases {
-        let wrong = creation(
-            &rt,
-            alloc,
-            stamp,
-            id,
-            name,
-            retention,
-            count,
-            ColumnType::Number,
-        );
-        assert!(rt; is_refused(&mut catalog, wrong), "{case}");
+    for case in CASES {
+        assert_table_refused(&rt, alloc, &mut catalog, case);
     }
     // As long a name, as many columns and as many days as may be.
-    let most = creation(&rt, alloc, 13, 2, &long[1..], 90, 64, ColumnType::Varchar);
+    let most = creation(&rt, alloc, 13, 2, &LONG[1..], 90, 64, ColumnType::Varchar);
     carry_out(&rt, &mut catalog, most);
 }
 
-#[test]
-fn versions_that_do_not_apply_are_refused(rt: HostRuntime) {
-    let alloc = rt.alloc();
-    let mut catalog = one_table(&rt, alloc);
-    let limit = 1 << 62;
-    let next = &[(2, 6, 1)][..];
-    // The id, the data timestamp, the next row, what goes, and what comes.
-    let cases = [
-        ("no id", 0, 12, 7, &[][..], next),
-        ("no such table", 2, 12, 7, &[][..], next),
-        ("data of an older version", 1, 11, 7, &[][..], next),
-        ("a next row past the limit", 1, 12, limit + 1, &[][..], next),
-        ("a row at the next one", 1, 12, 6, &[][..], next),
-        ("a partition that never stood", 1, 12, 7, &[2][..], next),
-        (
-            "a partition that stands",
-            1,
-            12,
-            7,
-            &[][..],
-            &[(1, 6, 1)][..],
-        ),
-        (
-            "a partition further on",
-            1,
-            12,
-            7,
-            &[][..],
-            &[(3, 6, 1)][..],
-        ),
-        ("a row that stands", 1, 12, 7, &[][..], &[(2, 5, 1)][..]),
-        (
-            "a row twice",
-            1,
-            12,
-            7,
-            &[][..],
-            &[(2, 6, 1), (3, 6, 1)][..],
-        ),
-    ];
-    for (case, id, timestamp, next_row, removed, rows) in cases {
-        let wrong = version_of_rows(&rt, alloc, id, timestamp, next_row, removed, rows);
-        assert!(rt; is_refused(&mut catalog, wrong), "{case}");
-    }
-    // The number of a row that goes may come again.
-    let again = version_of_rows(&rt, alloc, 1, 12, limit, &[1], &[(2, 5, 8)]);
-    carry_out(&rt, &mut catalog, again);
-    assert!(rt; holds(&rt, alloc, &catalog, 1, &[8]), "the row that came");
-}
+const LIMIT: u64 = 1 << 62;
+
+// The partitions of a version: their numbers, their rows' and the rows' values.
+type Added = &'static [(u64, u64, i64)];
+
+const NEXT: Added = &[(2, 6, 1)];
+
+// What is wrong with a version, its id, its data timestamp, its next row, what goes, and what comes.
+type VersionCase = (&'static str, u32, u64, u64, &'static [u64], Added);
 
 fn version_of_rows(
     rt: &impl Abort,
@@ -408,4 +447,40 @@ fn version_of_rows(
 ) -> Commit {
     let added = partitions(rt, alloc, rows);
     version(rt, alloc, 13, id, timestamp, next_row, removed, added)
+}
+
+fn assert_version_refused(
+    rt: &impl Abort,
+    alloc: Global,
+    catalog: &mut Catalog,
+    case: &VersionCase,
+) {
+    let (case, id, timestamp, next_row, removed, rows) = *case;
+    let wrong = version_of_rows(rt, alloc, id, timestamp, next_row, removed, rows);
+    assert_refused(rt, catalog, wrong, case);
+}
+
+#[test]
+fn versions_that_do_not_apply_are_refused(rt: HostRuntime) {
+    const CASES: &[VersionCase] = &[
+        ("no id", 0, 12, 7, &[], NEXT),
+        ("no such table", 2, 12, 7, &[], NEXT),
+        ("data of an older version", 1, 11, 7, &[], NEXT),
+        ("a next row past the limit", 1, 12, LIMIT + 1, &[], NEXT),
+        ("a row at the next one", 1, 12, 6, &[], NEXT),
+        ("a partition that never stood", 1, 12, 7, &[2], NEXT),
+        ("a partition that stands", 1, 12, 7, &[], &[(1, 6, 1)]),
+        ("a partition further on", 1, 12, 7, &[], &[(3, 6, 1)]),
+        ("a row that stands", 1, 12, 7, &[], &[(2, 5, 1)]),
+        ("a row twice", 1, 12, 7, &[], &[(2, 6, 1), (3, 6, 1)]),
+    ];
+    let alloc = rt.alloc();
+    let mut catalog = one_table(&rt, alloc);
+    for case in CASES {
+        assert_version_refused(&rt, alloc, &mut catalog, case);
+    }
+    // The number of a row that goes may come again.
+    let again = version_of_rows(&rt, alloc, 1, 12, LIMIT, &[1], &[(2, 5, 8)]);
+    carry_out(&rt, &mut catalog, again);
+    assert_holds(&rt, alloc, &catalog, 1, &[8], "the row that came");
 }

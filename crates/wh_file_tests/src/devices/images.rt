@@ -1,4 +1,4 @@
-use super::{Step, run};
+use super::{Step, disk_of, run};
 use std::alloc::Global;
 use std::process::Abort;
 use wh_world::MemDisk;
@@ -131,32 +131,37 @@ const CASES: [Case; 8] = [
     },
 ];
 
+// A pick gives these bytes.
+fn assert_image(
+    rt: &impl Abort,
+    alloc: Global,
+    disk: &MemDisk,
+    pick: u64,
+    want: &[u8],
+    name: &str,
+) {
+    let image = disk.image(alloc, pick).expect(rt, "memory");
+    assert_eq!(rt; image.as_slice(), want, "{name}, pick {pick}");
+}
+
+fn assert_torn(rt: &impl Abort, alloc: Global, disk: &MemDisk, case: &Case) {
+    for (cut, fill, want) in case.images {
+        assert_image(rt, alloc, disk, pick_of(*cut, *fill), want, case.name);
+    }
+}
+
+// The first pick gives the synced bytes, the second the shown, and others a torn write.
+fn check(rt: &impl Abort, alloc: Global, case: &Case) {
+    let disk = disk_after(rt, alloc, case.failing, case.steps);
+    assert_image(rt, alloc, &disk, 0, case.synced, case.name);
+    assert_image(rt, alloc, &disk, 1, case.shown, case.name);
+    assert_torn(rt, alloc, &disk, case);
+}
+
 #[test]
 fn a_pick_gives_the_synced_bytes_or_the_shown_or_a_torn_write(rt: HostRuntime) {
-    let alloc = rt.alloc();
     for case in &CASES {
-        let name = case.name;
-        let disk = disk_after(&rt, alloc, case.failing, case.steps);
-        assert_eq!(rt;
-            disk.image(alloc, 0).expect(&rt, "memory").as_slice(),
-            case.synced,
-            "{name}, synced"
-        );
-        assert_eq!(rt;
-            disk.image(alloc, 1).expect(&rt, "memory").as_slice(),
-            case.shown,
-            "{name}, shown"
-        );
-        for (cut, fill, want) in case.images {
-            let image = disk
-                .image(alloc, pick_of(*cut, *fill))
-                .expect(&rt, "memory");
-            assert_eq!(rt;
-                image.as_slice(),
-                *want,
-                "{name}, cut {cut} and fill {fill}"
-            );
-        }
+        check(&rt, rt.alloc(), case);
     }
 }
 
@@ -165,25 +170,18 @@ fn the_picks_give_each_value_of_one_byte(rt: HostRuntime) {
     let alloc = rt.alloc();
     let disk = disk_after(&rt, alloc, &[], &[Step::Write(1, &[5])]);
     for value in 0..=255u8 {
-        let image = disk
-            .image(alloc, pick_of(0, u64::from(value)))
-            .expect(&rt, "memory");
-        assert_eq!(rt; image.as_slice(), [10, value, 30, 40].as_slice());
+        let pick = pick_of(0, u64::from(value));
+        assert_image(&rt, alloc, &disk, pick, &[10, value, 30, 40], "a value");
     }
 }
 
 #[test]
 fn after_a_sync_all_picks_give_the_same(rt: HostRuntime) {
+    const STEPS: &[Step] = &[Step::Write(0, &[9]), Step::Write(3, &[1, 2]), Step::Sync];
     let alloc = rt.alloc();
-    let steps = [Step::Write(0, &[9]), Step::Write(3, &[1, 2]), Step::Sync];
-    let disk = disk_after(&rt, alloc, &[1], &steps);
-    for pick in 0..1000 {
-        let image = disk.image(alloc, pick).expect(&rt, "memory");
-        assert_eq!(rt;
-            image.as_slice(),
-            [10, 20, 30, 1, 2].as_slice(),
-            "pick {pick}"
-        );
+    let disk = disk_after(&rt, alloc, &[1], STEPS);
+    for pick in 0..1000u64 {
+        assert_image(&rt, alloc, &disk, pick, &[10, 20, 30, 1, 2], "synced");
     }
 }
 
@@ -194,15 +192,7 @@ fn pick_of(cut: u64, fill: u64) -> u64 {
 }
 
 fn disk_after(rt: &impl Abort, alloc: Global, failing: &[u64], steps: &[Step]) -> MemDisk {
-    let bytes = [10, 20, 30, 40].to_vec(alloc).expect(rt, "memory");
-    let mut disk = MemDisk::new(
-        alloc,
-        bytes,
-        10,
-        10,
-        failing.to_vec(alloc).expect(rt, "memory"),
-    )
-    .expect(rt, "memory");
+    let mut disk = disk_of(rt, alloc, &[10, 20, 30, 40], 10, 10, failing);
     for step in steps {
         let _ = run(rt, &mut disk, *step);
     }

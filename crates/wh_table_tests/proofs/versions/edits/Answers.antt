@@ -4,4 +4,4 @@ use Rattle.wh_table_tests.proofs.versions.edits.Goals as goal
 
 pub returns : goal.returns
 unfolding edits_of
-returns c = ap (λ e. length e.added) c.in_ok-edits.ensures ∙ c.in_ok-added.ensures
+returns g c = ap (λ e. length e.added) (rw c.expect-edits.ensures at c.new.ensures) ∙ c.rows-added.ensures
