@@ -6,7 +6,8 @@ ghost use Rattle.std.specs.Prelude.{◌≡◌, ◌↔◌, ◌⊎◌, [], ◌∷�
 ghost use Rattle.std.specs.Prelude.{IfSome, OnOk, OnErr, IsSome};
 ghost use Rattle.std.specs.Global.{Global};
 ghost use Rattle.wh_machine.specs.State.{State};
-ghost use Rattle.wh_machine.specs.Step.{Event};
+ghost use Rattle.wh_sessions.specs.Outcome.{opened};
+ghost use Rattle.wh_sessions.specs.Step.{Event};
 ghost use Rattle.wh_shell.specs.Run.{IsRun, IsStart, IsRunOf};
 ghost use Rattle.bokzarn.specs.Ending.{status_of};
 
@@ -69,7 +70,7 @@ where
     let Some((path, words)) = words.split_first() else {
         return Ending::With(Status::Usage);
     };
-    let opened = FileDisk::open(rt, path.as_str());
+    let opening = FileDisk::open(rt, path.as_str());
     let mut script = InSource::new(rt.reader());
     let mut out = OutSink::new(io::writer(rt));
     let mut clock = SystemClock::new(rt);
@@ -77,7 +78,7 @@ where
         rt,
         rt.alloc(),
         words,
-        opened,
+        opening,
         &mut script,
         &mut out,
         &mut clock,
@@ -90,23 +91,23 @@ fn run_over<S: Source, K: Sink, D: Disk, C: Clock>(
     rt: &(impl Threads + Sync),
     alloc: Global,
     words: &[String],
-    opened: Result<D, OpenError>,
+    opening: Result<D, OpenError>,
     script: &mut S,
     out: &mut K,
     clock: &mut C,
 ) -> (Ending, Option<D>)
-    ensures unopened { OnErr opened (status_of result.0 ≡ Status.Stopped Fault.Disk) }
-    ensures locked { opened ≡ Err OpenError.Locked → result.0 ≡ Ending.Locked }
+    ensures unopened { OnErr opening (status_of result.0 ≡ Status.Stopped Fault.Disk) }
+    ensures locked { opening ≡ Err OpenError.Locked → result.0 ≡ Ending.Locked }
     // Else the status is that of the run.
-    ensures usage { OnOk opened ((status_of result.0 ≡ Status.Usage) ↔ (IsRun words.now → ⊥)) }
-    ensures runs { IfOk opened (λ before. IfSome result.1 (λ after.
+    ensures usage { OnOk opening ((status_of result.0 ≡ Status.Usage) ↔ (IsRun words.now → ⊥)) }
+    ensures runs { IfOk opening (λ before. IfSome result.1 (λ after.
         (file input held : List ℕ) (start : State) (es : List Event) →
         IsStart (D.bytes before) (S.left script.old) (K.held out.old) file input held start es →
-        IsRunOf start es held (status_of result.0) (K.held out.new) (D.bytes after)
+        IsRunOf (opened start) es held (status_of result.0) (K.held out.new) (D.bytes after)
         (S.left script.new))) }
-    ensures handed_back { OnOk opened (IsSome result.1) }
+    ensures handed_back { OnOk opening (IsSome result.1) }
 {
-    let disk = match opened {
+    let disk = match opening {
         Ok(disk) => disk,
         Err(OpenError::Locked) => return (Ending::Locked, None),
         Err(OpenError::System(_)) => return (Ending::Unopened, None),

@@ -5,7 +5,7 @@
 --     answer_cause, turn_cause     of a turn whose event is known; of all turns
 use Rattle.std.proofs.Common.{◌≡◌, ℕ, ◌<◌, ◌≤◌, ◌^◌, List, Option, Some, None, refl, sym, ◌∙◌, subst, arith}
 use Rattle.std.specs.Prelude.{Result, Ok, Err, IfErr, IsErrAnd}
-use Rattle.wh_machine.specs.Step.{Event}
+use Rattle.wh_sessions.specs.Step.{Event}
 use Rattle.wh_world.specs.Told.{Rose}
 use Rattle.wh_world.specs.declared.disk.Disk.{Ghosts}
 use Rattle.wh_text.specs.Script.{taken_of, Counts}
@@ -28,9 +28,8 @@ use Rattle.wh_shell.specs.declared.fault.Fault.TheVariants.{NotWarehouse, FileFu
 use Rattle.wh_shell.proofs.CountLemmas.{was_too_long}
 use Rattle.wh_shell.proofs.RoomLemmas.{lacks_room, full_more}
 
-pub passed_on : {A : Type 0} (P : Fault → Type 0) (result : Result A Fault) (fault : Fault)
-    → IsErrAnd result (λ e. e ≡ fault) → P fault
-    → IfErr result P
+pub passed_on : {A : Type 0} (P : Fault → Type 0) (result : Result A Fault) (fault : Fault) →
+    IsErrAnd result (λ e. e ≡ fault) → P fault → IfErr result P
 passed_on P (Ok a) fault is holds = tt
 passed_on P (Err e) fault is holds = subst P (sym is) holds
 
@@ -60,8 +59,8 @@ pub more_causes : {disk script output disk_more script_more output_more : Type 0
     {full full_more : ℕ → ℕ → Type 0} {long long_more : ℕ → Type 0} →
     (disk → disk_more) → (script → script_more) → (output → output_more) → ((at : ℕ) → foreign at → foreign_more at) →
     ((len need : ℕ) → full len need → full_more len need) → ((taken : ℕ) → long taken → long_more taken) →
-    (why : Fault) → HasCause disk script output foreign full long why
-    → HasCause disk_more script_more output_more foreign_more full_more long_more why
+    (why : Fault) → HasCause disk script output foreign full long why →
+    HasCause disk_more script_more output_more foreign_more full_more long_more why
 more_causes disk script output foreign full long OutOfMemory cause = tt
 more_causes disk script output foreign full long Disk cause = disk cause
 more_causes disk script output foreign full long ScriptFails cause = script cause
@@ -77,8 +76,8 @@ pub answer_cause : (limit : ℕ) (event : Event) (old : Reach) (left left_new : 
     HasCause disk script output never (IsFull limit old left) long why
 answer_cause limit event old left left_new disk script output long why gives cause =
     more_causes (λ x. x) (λ none. absurd none) (λ x. x) (λ at none. none)
-    (λ len need lacks. lacks_room limit event old left left_new len need gives lacks)
-    (λ taken none. absurd none) why cause
+    (λ len need lacks. lacks_room limit event old left left_new len need gives lacks) (λ taken none. absurd none)
+    why cause
 
 -- a count that rose since later has risen since earlier
 pub rose_since : (first mid last : ℕ) → first ≤ mid → Rose mid last → Rose first last
@@ -96,8 +95,8 @@ pub turn_cause : (limit limit_now : ℕ) (start now : Reach) (left_start left : 
     HasCause (Rose disk disk_new) (Rose script script_new) (Rose output output_new) never
     (IsFull limit start left_start) (λ taken. WasTooLong taken source source_new) why
 turn_cause limit limit_now start now left_start left source source_new first last disk disk_mid disk_new script
-    script_mid script_new output output_mid output_new why
-    same disk_later script_later output_later room none counts cause =
+    script_mid script_new output output_mid output_new why same disk_later
+    script_later output_later room none counts cause =
     more_causes (rose_since disk disk_mid disk_new disk_later) (rose_since script script_mid script_new script_later)
     (rose_since output output_mid output_new output_later)
     (λ at none. none) (λ len need full. full_more limit limit_now start now left_start left len need same room full)

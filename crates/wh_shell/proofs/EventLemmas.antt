@@ -3,9 +3,9 @@
 --     told_events      of a told script
 use Rattle.std.proofs.Common.{◌≡◌, ℕ, List, [], ◌∷◌, Option, Some, None, refl, sym, ap, ◌∙◌, subst, option_map}
 use Rattle.wh_grammar.specs.Spelled.{Request, Asks}
-use Rattle.wh_machine.specs.Step.{Event, Command, Tick}
 use Rattle.wh_grammar.specs.Script.{Line, CommandLine, SessionLine, TickLine, lines_of}
-use Rattle.wh_machine.specs.Script.{HasEvents, ends, sets_session, ticks, ticks_at, commands, IsScript}
+use Rattle.wh_sessions.specs.Step.{Event, Command, Tick}
+use Rattle.wh_sessions.specs.Script.{HasEvents, ends, sets_session, ticks, ticks_at, commands, IsScript}
 use Rattle.wh_stmt_parse.specs.Request.{request_of}
 use Rattle.wh_stmt_parse.specs.Laws.{ReadsRequests}
 use Rattle.wh_stmt_parse.proofs.Reading.{requests_read}
@@ -25,8 +25,8 @@ one_list reads (commands {session} {reading} {text} {request} {lines} asks h) =
     ∙ ap (λ r. Command reading session r ∷ events_from session reading lines) (sym ((reads text request).1 asks))
 
 -- and they have these
-has_them : ReadsRequests → (session reading : ℕ) (lines : List Line)
-    → HasEvents session reading lines (events_from session reading lines)
+has_them : ReadsRequests → (session reading : ℕ) (lines : List Line) →
+    HasEvents session reading lines (events_from session reading lines)
 has_them reads session reading [] = ends
 has_them reads session reading (CommandLine text ∷ lines) =
     commands ((reads text (request_of text)).0 refl) (has_them reads session reading lines)
@@ -41,6 +41,6 @@ fixes_events script es = (
 )
 
 -- of a told script
-pub told_events : (script : List ℕ) (es : List Event) (left : Option (List ℕ)) → left ≡ Some script → IsScript script es
-    → option_map events left ≡ Some es
+pub told_events : (script : List ℕ) (es : List Event) (left : Option (List ℕ)) → left ≡ Some script →
+    IsScript script es → option_map events left ≡ Some es
 told_events script es left told is = ap (option_map events) told ∙ ap Some (sym ((fixes_events script es).0 is))

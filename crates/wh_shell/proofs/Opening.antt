@@ -1,5 +1,6 @@
 -- What a run begins with.
 --     some_gate                           a file's gate ends somewhere
+--     machine_is, machine_opened          the machine that is opened is that of the file's state
 --     not_opened                          what a crash leaves where nothing is opened
 --     run_survives, unopened_survives     what a crash leaves of a run
 use Rattle.std.proofs.Common.{◌≡◌, inl, inr, ℕ, ◌+◌, ◌≤◌, List, [], ◌++◌, length, map, refl, sym, ap, subst, ◌∙◌}
@@ -7,14 +8,17 @@ use Rattle.std.proofs.Common.{append-nil, arith, Option, Some}
 use Rattle.std.proofs.lemmas.List.{append_cancel_left}
 use Rattle.wh_frame.specs.File.{records_of, GateEndsAt}
 use Rattle.wh_machine.specs.State.{State, at_rest}
-use Rattle.wh_machine.specs.Stored.{Stored}
-use Rattle.wh_machine.specs.Step.{Event}
+use Rattle.wh_machine.specs.Stored.{Stored, Means}
 use Rattle.wh_machine.specs.Spelling.{payload_of}
 use Rattle.wh_machine.specs.File.{Keeps, Stands}
-use Rattle.wh_machine.specs.Stop.{most_events, StandsWithin}
+use Rattle.wh_sessions.specs.Sessions.{Sessions, no_sessions}
+use Rattle.wh_sessions.specs.Outcome.{Machine, opened}
+use Rattle.wh_sessions.specs.Step.{Event}
+use Rattle.wh_sessions.specs.Stop.{most_events, StandsWithin}
 use Rattle.wh_world.specs.Crash.{Only}
 use Rattle.wh_journal.specs.Crash.{LeavesOnly, IsKeptOrShort}
 use Rattle.wh_journal.proofs.CrashLemmas.{both, weaker, started}
+use Rattle.wh_record.proofs.FileLaws.{file_fixes_state}
 use Rattle.wh_engine.specs.Leaves.{StandsForEither}
 use Rattle.wh_shell.specs.Crash.{Survives, SurvivesWith, EndsSafely}
 use Rattle.wh_shell.specs.Run.{IsStart}
@@ -42,30 +46,44 @@ kept file image s (inr short) (inl few) = inl (short.1, few.1)
 kept file image s (inr short) (inr long) = absurd (omega (arith, short.0, long.0))
 
 -- what an opening may leave stands for the same state
-kept_stands : (file : List ℕ) (s : State) → Stands file s → (image : List ℕ) → IsKeptOrShort file image
-    → StandsForEither s s image
+kept_stands : (file : List ℕ) (s : State) → Stands file s → (image : List ℕ) → IsKeptOrShort file image →
+    StandsForEither s s image
 kept_stands file s stands image is =
     inl (stands.0, kept file image stands.0 is stands.1, stands_rest file s stands ∙ stands.2)
+
+-- ---- the machine
+
+-- without open transactions it is that of its state
+pub machine_is : (m : Machine) (start : State) → m.state ≡ start → m.sessions ≡ no_sessions → m ≡ opened start
+machine_is m start state none =
+    ap {B = Machine} (λ (ts : Sessions). record { state = m.state; sessions = ts }) none ∙ ap opened state
+
+-- and of the state that the file stands for
+pub machine_opened : (file : List ℕ) (s : Stored) (start : State) (m : Machine) → Stands file start → Keeps file s →
+    Means s m.state → m.sessions ≡ no_sessions → opened start ≡ m
+machine_opened file s start m stands keeps means none =
+    let state : start ≡ m.state = file_fixes_state file start m.state stands (s, keeps, means) in
+    sym (machine_is m start (sym state) none)
 
 -- ---- what a crash leaves
 
 module _ {D : Type 0} (moment : D → ℕ) (left_since : D → ℕ → List ℕ → Type 0) (may_leave : D → List ℕ → Type 0) where
   -- nothing is opened
-  pub not_opened : (only_now : (disk : D) (image : List ℕ) → left_since disk (moment disk) image → may_leave disk image)
-      →
-      (disk : D) (file : List ℕ) → Only file (may_leave disk)
-      → LeavesOnly moment left_since disk disk (IsKeptOrShort file)
+  pub not_opened : (only_now : (disk : D) (image : List ℕ) → left_since disk (moment disk) image →
+      may_leave disk image) →
+      (disk : D) (file : List ℕ) → Only file (may_leave disk) →
+      LeavesOnly moment left_since disk disk (IsKeptOrShort file)
   not_opened only_now disk file only =
       weaker moment left_since disk disk (may_leave disk) (IsKeptOrShort file) (λ image left. inl (only image left))
       (started moment left_since may_leave only_now disk)
 
-  opened_survives : (first mid last : D) (s : State) (es : List Event) (n : ℕ) →
-      LeavesOnly moment left_since first mid (StandsForEither s s) →
-      Survives moment left_since may_leave mid last s es n → Survives moment left_since may_leave first last s es n
-  opened_survives first mid last s es n run survives = record {
-    any_moment = both moment left_since first mid last (StandsWithin s es 0 (most_events s es n))
-        (weaker moment left_since first mid (StandsForEither s s) (StandsWithin s es 0 (most_events s es n))
-        (λ image is. within_none s es 0 (most_events s es n) image (omega arith) is) run)
+  opened_survives : (first mid last : D) (m : Machine) (es : List Event) (n : ℕ) →
+      LeavesOnly moment left_since first mid (StandsForEither m.state m.state) →
+      Survives moment left_since may_leave mid last m es n → Survives moment left_since may_leave first last m es n
+  opened_survives first mid last m es n run survives = record {
+    any_moment = both moment left_since first mid last (StandsWithin m es 0 (most_events m es n))
+        (weaker moment left_since first mid (StandsForEither m.state m.state) (StandsWithin m es 0 (most_events m es n))
+        (λ image is. within_none m es 0 (most_events m es n) image (omega arith) is) run)
         survives.any_moment;
     at_exit = survives.at_exit;
   }
@@ -73,37 +91,39 @@ module _ {D : Type 0} (moment : D → ℕ) (left_since : D → ℕ → List ℕ 
   -- a run behind an opening
   pub run_survives : (told : Type 0) (first mid last : D) (bytes left : Option (List ℕ))
       (told_events : Option (List Event)) (held held_new : Option (List ℕ))
-      (file input before written : List ℕ) (start opened : State) (es : List Event) →
-      IsStart bytes left held file input before start es → told_events ≡ Some es → start ≡ opened → told →
+      (file input before written : List ℕ) (start : State) (now : Machine) (es : List Event) →
+      IsStart bytes left held file input before start es → told_events ≡ Some es → opened start ≡ now → told →
       LeavesOnly moment left_since first mid (IsKeptOrShort file) →
-      EndsSafely moment left_since may_leave told mid last opened told_events held held_new →
-      held_new ≡ Some (before ++ written) → Survives moment left_since may_leave first last start es (length written)
-  run_survives told first mid last bytes left told_events held held_new file input before written start opened es is
+      EndsSafely moment left_since may_leave told mid last now told_events held held_new →
+      held_new ≡ Some (before ++ written) →
+      Survives moment left_since may_leave first last (opened start) es (length written)
+  run_survives told first mid last bytes left told_events held held_new file input before written start now es is
       events_are same known run ends held_is =
-      let all : SurvivesWith moment left_since may_leave mid last opened es before held_new =
+      let all : SurvivesWith moment left_since may_leave mid last now es before held_new =
       ends.each known es before events_are is.told_output in
       let appended : before ++ all.written ≡ before ++ written = cc (all.held_is, held_is) in
       let written_is : all.written ≡ written = append_cancel_left before all.written written appended in
-      let behind : Survives moment left_since may_leave mid last start es (length all.written) =
-      subst (λ (s : State). Survives moment left_since may_leave mid last s es (length all.written))
-      (sym same) all.survives in
-      opened_survives first mid last start es (length written)
+      let behind : Survives moment left_since may_leave mid last (opened start) es (length all.written) =
+      subst (λ (m : Machine). Survives moment left_since may_leave mid last m es (length all.written)) (sym same)
+      all.survives in
+      opened_survives first mid last (opened start) es (length written)
       (weaker moment left_since first mid (IsKeptOrShort file) (StandsForEither start start)
       (kept_stands file start is.stands) run)
-      (subst (λ (l : List ℕ). Survives moment left_since may_leave mid last start es (length l)) written_is behind)
+      (subst (λ (l : List ℕ). Survives moment left_since may_leave mid last (opened start) es (length l)) written_is
+      behind)
 
   -- a run that opened nothing
   pub unopened_survives : (counts_now : (disk : D) (t : ℕ) (image : List ℕ) → t ≤ moment disk → may_leave disk image →
       left_since disk t image) →
-      (old new : D) (bytes left held held_new : Option (List ℕ)) (file input before written : List ℕ)
-      (start : State) (es : List Event) →
+      (old new : D) (bytes left held held_new : Option (List ℕ)) (file input before written : List ℕ) (start : State)
+      (es : List Event) →
       IsStart bytes left held file input before start es → LeavesOnly moment left_since old new (IsKeptOrShort file) →
-      held_new ≡ held → held_new ≡ Some (before ++ written)
-      → Survives moment left_since may_leave old new start es (length written)
+      held_new ≡ held → held_new ≡ Some (before ++ written) →
+      Survives moment left_since may_leave old new (opened start) es (length written)
   unopened_survives counts_now old new bytes left held held_new file input before written start es is run same held_is =
       let appended : before ++ [] ≡ before ++ written = append-nil before ∙ cc (same, held_is, is.told_output) in
       let none : [] ≡ written = append_cancel_left before [] written appended in
-      subst (λ (l : List ℕ). Survives moment left_since may_leave old new start es (length l)) none
-      (none_survives moment left_since may_leave counts_now old new start es
+      subst (λ (l : List ℕ). Survives moment left_since may_leave old new (opened start) es (length l)) none
+      (none_survives moment left_since may_leave counts_now old new (opened start) es
       (weaker moment left_since old new (IsKeptOrShort file) (StandsForEither start start)
       (kept_stands file start is.stands) run))

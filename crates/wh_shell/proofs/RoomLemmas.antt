@@ -6,8 +6,8 @@ use Rattle.std.proofs.Common.{◌≡◌, ℕ, ◌+◌, ◌<◌, List, [], ◌∷
 use Rattle.std.specs.Prelude.{IsTrue, true}
 use Rattle.std.proofs.lemmas.Bool.Decides.{nat_tests}
 use Rattle.wh_machine.specs.Commit.{Commit}
-use Rattle.wh_machine.specs.Step.{Event}
 use Rattle.wh_machine.specs.Written.{is_beyond, added_length}
+use Rattle.wh_sessions.specs.Step.{Event}
 use Rattle.wh_shell.specs.Reading.{GivesEvent, EndsEvents}
 use Rattle.wh_shell.specs.Room.{Reach, made_at, first_beyond, HasRoom, LacksRoom, KeepsRoom, HasRoomForAll, IsFull}
 
@@ -28,8 +28,8 @@ answers_room limit event old new left left_new gives room = record {
 }
 
 -- a commit that is too long passes the limit
-past_limit : (limit end : ℕ) (commit : Option Commit) → is_beyond limit end commit ≡ true
-    → limit < end + added_length commit
+past_limit : (limit end : ℕ) (commit : Option Commit) → is_beyond limit end commit ≡ true →
+    limit < end + added_length commit
 past_limit limit end None beyond = cc
 past_limit limit end (Some c) beyond = grind (arith, nat_tests)
 
@@ -67,15 +67,15 @@ ends_room limit now left left_new source_new ends = record {
 }
 
 -- no turn yet
-pub room_same : (limit : ℕ) (now : Reach) (left left_new : Option (List Event)) → left_new ≡ left
-    → KeepsRoom limit now now left left_new
+pub room_same : (limit : ℕ) (now : Reach) (left left_new : Option (List Event)) → left_new ≡ left →
+    KeepsRoom limit now now left left_new
 room_same limit now left left_new same = record { each = λ es told. (es, same ∙ told, refl) }
 
 -- one turn behind others
 pub room_then : (limit limit_now : ℕ) (start now new : Reach) (left_start left left_new : Option (List Event)) →
     limit_now ≡ limit →
-    KeepsRoom limit start now left_start left → KeepsRoom limit_now now new left left_new
-    → KeepsRoom limit start new left_start left_new
+    KeepsRoom limit start now left_start left → KeepsRoom limit_now now new left left_new →
+    KeepsRoom limit start new left_start left_new
 room_then limit limit_now start now new left_start left left_new same one two = record {
   each = λ es told.
       let first = one.each es told in
@@ -92,8 +92,8 @@ room_then limit limit_now start now new left_start left left_new same one two = 
 -- where no event is left, there was room for all
 pub all_room : (limit limit_now : ℕ) (start now new : Reach) (left_start left left_new : Option (List Event))
     (source_new : Option (List ℕ)) →
-    KeepsRoom limit start now left_start left → EndsEvents left left_new source_new
-    → HasRoomForAll limit start left_start
+    KeepsRoom limit start now left_start left → EndsEvents left left_new source_new →
+    HasRoomForAll limit start left_start
 all_room limit limit_now start now new left_start left left_new source_new room ends = record {
   each = λ es told.
       let so_far = room.each es told in
@@ -103,8 +103,8 @@ all_room limit limit_now start now new left_start left left_new source_new room 
 -- a turn that stopped names the first commit that there is no room for
 pub full_more : (limit limit_now : ℕ) (start now : Reach) (left_start left : Option (List Event)) (len need : ℕ) →
     limit_now ≡ limit →
-    KeepsRoom limit start now left_start left → IsFull limit_now now left len need
-    → IsFull limit start left_start len need
+    KeepsRoom limit start now left_start left → IsFull limit_now now left len need →
+    IsFull limit start left_start len need
 full_more limit limit_now start now left_start left len need same room full = record {
   past = omega (arith, full.past, same);
   first = λ es told.

@@ -7,7 +7,7 @@
 --     FailsBy           why no event could be read
 use Rattle.std.specs.Prelude.{◌≡◌, ◌<◌, ◌^◌, ℕ, List, [], ◌∷◌, Option, Some, None, option_map}
 use Rattle.wh_grammar.specs.Script.{Line, lines_of}
-use Rattle.wh_machine.specs.Step as machine
+use Rattle.wh_sessions.specs.Step as machine
 use Rattle.wh_text.specs.Turn.{ahead_and}
 use Rattle.wh_text.specs.Script.{ahead_of, taken_of}
 use Rattle.wh_text.specs.declared.script.Script.{Script}
@@ -19,14 +19,14 @@ use Rattle.wh_shell.specs.Events.{events_from}
 use Rattle.wh_shell.specs.declared.reader.Reader.{Reader}
 
 abbrev pub unread : Reader → Option (List ℕ) → Option (List machine.Event)
-unread reader left = option_map (λ bytes. events_from reader.session reader.reading (lines_of bytes))
+unread reader left =
+    option_map (λ bytes. events_from reader.session reader.reading (lines_of bytes))
     (ahead_and (ahead_of reader.script) left)
 
-pub record GivesEvent (old : Option (List machine.Event))
-    (event : machine.Event) (new : Option (List machine.Event)) : Type 0 where
-  pub each : (es : List machine.Event)
-      → old ≡ Some es
-      → (rest : List machine.Event) × (new ≡ Some rest) × (es ≡ event ∷ rest)
+pub record GivesEvent (old : Option (List machine.Event)) (event : machine.Event)
+    (new : Option (List machine.Event)) : Type 0 where
+  pub each : (es : List machine.Event) → old ≡ Some es →
+      (rest : List machine.Event) × (new ≡ Some rest) × (es ≡ event ∷ rest)
 
 pub record EndsEvents (old new : Option (List machine.Event)) (left_new : Option (List ℕ)) : Type 0 where
   pub each : (es : List machine.Event) → old ≡ Some es → (new ≡ Some []) × (left_new ≡ Some []) × (es ≡ [])
@@ -39,8 +39,8 @@ abbrev pub Turns : ℕ → ℕ → Line → Option Event → ℕ → ℕ → Typ
 Turns session reading line None session_new reading_new =
     (lines : List Line) → events_from session reading (line ∷ lines) ≡ events_from session_new reading_new lines
 Turns session reading line (Some event) session_new reading_new =
-    (lines : List Line)
-    → events_from session reading (line ∷ lines) ≡ event_of event ∷ events_from session_new reading_new lines
+    (lines : List Line) →
+    events_from session reading (line ∷ lines) ≡ event_of event ∷ events_from session_new reading_new lines
 
 -- the source failed, or more than 2^30 bytes were taken, and that many
 abbrev pub FailsBy : Type 0 → Script → ScriptFault → Type 0

@@ -1,18 +1,20 @@
 -- Whether the file has room for what is committed.
---     Reach                  where a file's gate ends, what it says, and the state
+--     Reach                  where a file's gate ends, what it says, and the machine
 --     HasRoom, LacksRoom     for the commit of one event
 --     KeepsRoom              what there is no room for stays the same from one turn to the next
 --     IsFull, FillsBy        the first commit of a run that there is no room for
 use Rattle.std.specs.Prelude.{◌≡◌, ℕ, ◌+◌, ◌<◌, false, IsTrue, List, Option, Some, None}
 use Rattle.wh_frame.specs.File.{GateEndsAt}
-use Rattle.wh_machine.specs.State.{State}
 use Rattle.wh_machine.specs.Stored.{Stored}
 use Rattle.wh_machine.specs.Commit.{Commit}
-use Rattle.wh_machine.specs.Step.{Event, step}
-use Rattle.wh_machine.specs.Written.{made, kept_after, is_beyond, added_length, overflow}
+use Rattle.wh_machine.specs.Written.{kept_after, is_beyond, added_length}
+use Rattle.wh_sessions.specs.Outcome.{Machine}
+use Rattle.wh_sessions.specs.Step.{Event, step}
+use Rattle.wh_sessions.specs.Made.{made, overflow}
 use Rattle.wh_world.specs.declared.disk.Disk.{Ghosts}
 use Rattle.wh_journal.specs.Journal.{end_of, limit_of}
-use Rattle.wh_catalog.specs.Catalog.{stored_of, state_of}
+use Rattle.wh_catalog.specs.Catalog.{stored_of}
+use Rattle.wh_engine.specs.Warehouse.{machine_of}
 use Rattle.wh_engine.specs.declared.warehouse.Warehouse.{Warehouse}
 use Rattle.wh_shell.specs.declared.fault.Fault.{Fault}
 use Rattle.wh_shell.specs.declared.fault.Fault.TheVariants.{FileFull}
@@ -22,25 +24,25 @@ use Rattle.wh_shell.specs.declared.status.Status.TheVariants.{Usage, Read, Stopp
 pub record Reach : Type 0 where
   pub end : ℕ
   pub stored : Stored
-  pub state : State
+  pub machine : Machine
 
 abbrev pub reach_of : {D : Type 0} {disk : Ghosts D} → Warehouse D disk → Reach
-reach_of w = record { end = end_of w.journal; stored = stored_of w.catalog; state = state_of w.catalog }
+reach_of w = record { end = end_of w.journal; stored = stored_of w.catalog; machine = machine_of w }
 
 abbrev pub made_at : Reach → Event → Option Commit
-made_at r e = made r.stored r.state e
+made_at r e = made r.stored r.machine e
 
 -- behind one more event
 abbrev pub reach_after : Reach → Event → Reach
 reach_after r e = record {
   end = r.end + added_length (made_at r e);
   stored = kept_after r.stored (made_at r e);
-  state = (step r.state e).0;
+  machine = (step r.machine e).0;
 }
 
 -- where the first commit of some events begins that a file of so many bytes has no room for, and what it needs
 abbrev pub first_beyond : ℕ → Reach → List Event → Option (ℕ × ℕ)
-first_beyond limit r es = overflow limit r.end r.stored r.state es
+first_beyond limit r es = overflow limit r.end r.stored r.machine es
 
 -- there was room for an event's commit
 pub record HasRoom (limit : ℕ) (event : Event) (old new : Reach) : Type 0 where
@@ -74,7 +76,7 @@ FillsBy (Read refusals) first = first ≡ None
 FillsBy (Stopped why) first = (len need : ℕ) → why ≡ FileFull len need → first ≡ Some (len, need)
 
 -- of a run over a file that says `s`: its gate ends somewhere, and the room behind it is what the status says
-pub record Fills (limit : ℕ) (file : List ℕ) (s : Stored) (start : State) (es : List Event)
+pub record Fills (limit : ℕ) (file : List ℕ) (s : Stored) (start : Machine) (es : List Event)
     (status : Status) : Type 0 where
   pub end : ℕ
   pub gate : GateEndsAt file end

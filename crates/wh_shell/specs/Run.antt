@@ -6,14 +6,15 @@
 --     IsForeign, RefusesFile     a file that stands for no state, and what it may be answered
 --     Rejects                    that it is no warehouse
 --     WasTooLong                 so many bytes were taken, and they are too many
-use Rattle.std.specs.Prelude.{◌≡◌, ◌⊎◌, ℕ, ◌+◌, ◌<◌, ◌^◌, List, [], ◌∷◌, ◌++◌, map, length, codes, Option}
-use Rattle.std.specs.Prelude.{Some, String, string_bytes}
+use Rattle.std.specs.Prelude.{◌≡◌, ◌⊎◌, ℕ, ◌+◌, ◌<◌, ◌^◌, List, [], ◌∷◌, ◌++◌, map, length, codes, Option, Some, String}
+use Rattle.std.specs.Prelude.{string_bytes}
 use Rattle.std.specs.Global.{Global}
-use Rattle.wh_machine.specs.State.{State, at_rest}
-use Rattle.wh_machine.specs.Step.{Event, after, text, refusals}
-use Rattle.wh_machine.specs.Script.{IsScript}
+use Rattle.wh_machine.specs.State.{State}
 use Rattle.wh_machine.specs.File.{Stands}
 use Rattle.wh_machine.specs.Fault.{IsFirstFault}
+use Rattle.wh_sessions.specs.Outcome.{Machine, rest_of}
+use Rattle.wh_sessions.specs.Step.{Event, after, text, refusals}
+use Rattle.wh_sessions.specs.Script.{IsScript}
 use Rattle.wh_world.specs.Crash.{Only}
 use Rattle.wh_shell.specs.declared.fault.Fault.{Fault}
 use Rattle.wh_shell.specs.declared.fault.Fault.TheVariants.{OutOfMemory, Disk, NotWarehouse}
@@ -25,32 +26,34 @@ abbrev pub IsRun : List (String Global) → Type 0
 IsRun words = map string_bytes words ≡ codes "run" ∷ []
 
 -- the file, which stands for a state, the script, whose events are those, and what was written before
-pub record IsStart (bytes left held : Option (List ℕ)) (file input before : List ℕ)
-    (start : State) (es : List Event) : Type 0 where
+pub record IsStart (bytes left held : Option (List ℕ)) (file input before : List ℕ) (start : State)
+    (es : List Event) : Type 0 where
   pub told_file : bytes ≡ Some file
   pub told_script : left ≡ Some input
   pub told_output : held ≡ Some before
   pub stands : Stands file start
   pub events : IsScript input es
 
--- the script was read to its end: its whole text was written, and the file stands for the state after all events
-pub record IsWhole (start : State) (es : List Event) (held : List ℕ)
-    (count : ℕ) (held_new bytes_new left_new : Option (List ℕ)) : Type 0 where
+-- the script was read to its end: its whole text was written, and the file stands for what is committed after all
+-- events
+pub record IsWhole (start : Machine) (es : List Event) (held : List ℕ) (count : ℕ)
+    (held_new bytes_new left_new : Option (List ℕ)) : Type 0 where
   pub written : held_new ≡ Some (held ++ text start es)
   pub refused : count ≡ refusals start es
   pub read : left_new ≡ Some []
   pub file : List ℕ
   pub told : bytes_new ≡ Some file
-  pub stands : Stands file (at_rest (after start es))
+  pub stands : Stands file (rest_of (after start es))
 
 -- a front of the text was written
-pub record IsFront (start : State) (es : List Event) (held : List ℕ) (held_new : Option (List ℕ)) : Type 0 where
+pub record IsFront (start : Machine) (es : List Event) (held : List ℕ) (held_new : Option (List ℕ)) : Type 0 where
   pub front : List ℕ
   pub rest : List ℕ
   pub parts : front ++ rest ≡ text start es
   pub written : held_new ≡ Some (held ++ front)
 
-abbrev pub IsRunOf : State → List Event → List ℕ → Status → Option (List ℕ) → Option (List ℕ) → Option (List ℕ) → Type 0
+abbrev pub IsRunOf : Machine → List Event → List ℕ → Status → Option (List ℕ) → Option (List ℕ) → Option (List ℕ) →
+    Type 0
 IsRunOf start es held Usage held_new bytes_new left_new = held_new ≡ Some held
 IsRunOf start es held (Read count) held_new bytes_new left_new = IsWhole start es held count held_new bytes_new left_new
 IsRunOf start es held (Stopped why) held_new bytes_new left_new = IsFront start es held held_new
@@ -74,8 +77,8 @@ pub record IsForeign (file : List ℕ) : Type 0 where
 
 -- that it is no warehouse, or a fault that came first
 abbrev pub RefusesFile : Status → Type 0
-RefusesFile status = ((at : ℕ) × (status ≡ Stopped (NotWarehouse at)))
-    ⊎ ((status ≡ Stopped OutOfMemory) ⊎ (status ≡ Stopped Disk))
+RefusesFile status =
+    ((at : ℕ) × (status ≡ Stopped (NotWarehouse at))) ⊎ ((status ≡ Stopped OutOfMemory) ⊎ (status ≡ Stopped Disk))
 
 -- the file's first fault is there, and it stays as it was, whatever a crash then does
 pub record Rejects (at : ℕ) (file : List ℕ) (bytes_new : Option (List ℕ))
@@ -88,6 +91,5 @@ pub record Rejects (at : ℕ) (file : List ℕ) (bytes_new : Option (List ℕ))
 -- more than 2^30 bytes were taken, and that many
 pub record WasTooLong (taken : ℕ) (left_old left_new : Option (List ℕ)) : Type 0 where
   pub long : 2 ^ 30 < taken
-  pub counted : (input : List ℕ)
-      → left_old ≡ Some input
-      → (rest : List ℕ) × (left_new ≡ Some rest) × (length input ≡ taken + length rest)
+  pub counted : (input : List ℕ) → left_old ≡ Some input →
+      (rest : List ℕ) × (left_new ≡ Some rest) × (length input ≡ taken + length rest)

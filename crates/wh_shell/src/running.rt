@@ -4,15 +4,15 @@ ghost use Rattle.wh_world.specs.Told.{Rose};
 ghost use Rattle.wh_world.specs.Crash.{Only};
 ghost use Rattle.wh_machine.specs.State.{State};
 ghost use Rattle.wh_machine.specs.Stored.{Stored, Means};
-ghost use Rattle.wh_machine.specs.Step.{Event as MachineEvent};
-ghost use Rattle.wh_machine.specs.Script.{IsScript};
 ghost use Rattle.wh_machine.specs.File.{Keeps};
-ghost use Rattle.wh_machine.specs.Stop.{whole_replies, most_events, StandsWithin};
+ghost use Rattle.wh_sessions.specs.Outcome.{opened};
+ghost use Rattle.wh_sessions.specs.Step.{Event as MachineEvent};
+ghost use Rattle.wh_sessions.specs.Script.{IsScript};
+ghost use Rattle.wh_sessions.specs.Stop.{whole_replies, most_events, StandsWithin};
 ghost use Rattle.wh_journal.specs.Journal.{limit_of};
 ghost use Rattle.wh_journal.specs.Crash.{LeavesOnly};
-ghost use Rattle.wh_catalog.specs.Catalog.{state_of};
 ghost use Rattle.wh_shell.specs.Events.{events};
-ghost use Rattle.wh_engine.specs.Warehouse.{IsSettled};
+ghost use Rattle.wh_engine.specs.Warehouse.{IsSettled, machine_of};
 ghost use Rattle.wh_shell.specs.Crash.{Survives, EndsSafely};
 ghost use Rattle.wh_shell.specs.Fault.{HasCause, never};
 ghost use Rattle.wh_shell.specs.Open.{IsOpen, IsTold};
@@ -42,11 +42,12 @@ pub fn run<S: Source, K: Sink, D: Disk, C: Clock>(
     clock: &mut C,
 ) -> (Status, D)
     // The replies are the machine's, for every script: over a file that stands for a state, what
-    // was written is the text of all its events, or a front of it, and the file stands for the
-    // state after them.
+    // was written is the text of all its events, or a front of it, and the file stands for what is
+    // committed after them. No transaction is open at the start.
     ensures runs { (file input held : List ℕ) (start : State) (es : List MachineEvent) →
         IsStart (D.bytes disk) (S.left script.old) (K.held out.old) file input held start es →
-        IsRunOf start es held result.0 (K.held out.new) (D.bytes result.1) (S.left script.new) }
+        IsRunOf (opened start) es held result.0
+        (K.held out.new) (D.bytes result.1) (S.left script.new) }
 
     // Each file that a crash since the start may have left stands for what was committed after
     // some of the events, at most one more than were answered in full.
@@ -54,15 +55,16 @@ pub fn run<S: Source, K: Sink, D: Disk, C: Clock>(
         (es : List MachineEvent) →
         IsStart (D.bytes disk) (S.left script.old) (K.held out.old) file input before start es →
         Only file (D.may_leave disk) → K.held out.new ≡ Some (before ++ written) →
-        LeavesOnly D.moment D.left_since disk result.1 (StandsWithin start es
-        0 (most_events start es (length written))) }
+        LeavesOnly D.moment D.left_since disk result.1 (StandsWithin (opened start) es
+        0 (most_events (opened start) es (length written))) }
     // What a crash then leaves has all that were answered in full.
     ensures at_exit { (file input before written : List ℕ) (start : State)
         (es : List MachineEvent) →
         IsStart (D.bytes disk) (S.left script.old) (K.held out.old) file input before start es →
         Only file (D.may_leave disk) → K.held out.new ≡ Some (before ++ written) →
-        (image : List ℕ) → D.may_leave result.1 image → StandsWithin start es
-        (whole_replies start es (length written)) (most_events start es (length written)) image }
+        (image : List ℕ) → D.may_leave result.1 image → StandsWithin (opened start) es
+        (whole_replies (opened start) es (length written))
+        (most_events (opened start) es (length written)) image }
     // Where the script was read to its end, the file is all on the disk.
     ensures durable { Through result.0 (IsSettled (D.bytes result.1) (D.may_leave result.1)) }
 
@@ -88,7 +90,7 @@ pub fn run<S: Source, K: Sink, D: Disk, C: Clock>(
     ensures file_full { (file input : List ℕ) (s : Stored) (start : State)
         (es : List MachineEvent) → D.bytes disk ≡ Some file → S.left script.old ≡ Some input →
         Keeps file s → Means s start → IsScript input es →
-        Fills (2 ^ 40) file s start es result.0 }
+        Fills (2 ^ 40) file s (opened start) es result.0 }
     ensures past_limit { (len need : ℕ) → result.0 ≡ Status.Stopped (Fault.FileFull len need) →
         2 ^ 40 < len + need }
     // A script is too long exactly where more than 2^30 of its bytes were taken.
@@ -118,12 +120,14 @@ pub fn run_within<S: Source, K: Sink, D: Disk>(
     requires most { limit ≤ 2 ^ 40 }
     ensures runs { (file input held : List ℕ) (start : State) (es : List MachineEvent) →
         IsStart (D.bytes disk) (S.left script.old) (K.held out.old) file input held start es →
-        IsRunOf start es held result.0 (K.held out.new) (D.bytes result.1) (S.left script.new) }
+        IsRunOf (opened start) es held result.0
+        (K.held out.new) (D.bytes result.1) (S.left script.new) }
     ensures survives { (file input before written : List ℕ) (start : State)
         (es : List MachineEvent) →
         IsStart (D.bytes disk) (S.left script.old) (K.held out.old) file input before start es →
         Only file (D.may_leave disk) → K.held out.new ≡ Some (before ++ written) →
-        Survives D.moment D.left_since D.may_leave disk result.1 start es (length written) }
+        Survives D.moment D.left_since D.may_leave disk result.1
+        (opened start) es (length written) }
     ensures durable { Through result.0 (IsSettled (D.bytes result.1) (D.may_leave result.1)) }
     ensures causes { EndsBy (HasCause (Rose (D.faults disk) (D.faults result.1))
         (Rose (S.faults script.old) (S.faults script.new))
@@ -136,7 +140,8 @@ pub fn run_within<S: Source, K: Sink, D: Disk>(
         RefusesFile result.0 }
     ensures file_full { (file input : List ℕ) (s : Stored) (start : State)
         (es : List MachineEvent) → D.bytes disk ≡ Some file → S.left script.old ≡ Some input →
-        Keeps file s → Means s start → IsScript input es → Fills limit file s start es result.0 }
+        Keeps file s → Means s start → IsScript input es →
+        Fills limit file s (opened start) es result.0 }
     ensures long { (input rest : List ℕ) → S.left script.old ≡ Some input →
         S.left script.new ≡ Some rest → 2 ^ 30 + length rest < length input →
         result.0 ≡ Status.Stopped (Fault.ScriptTooLong (length input - length rest)) }
@@ -158,10 +163,10 @@ fn serve_and_close<S: Source, K: Sink, D: Disk>(
     requires { IsOpen warehouse }
     ensures runs { IsTold warehouse → (es : List MachineEvent) (held : List ℕ) →
         option_map events (S.left script.old) ≡ Some es → K.held out.old ≡ Some held →
-        IsRunOf (state_of warehouse.catalog) es held result.0
+        IsRunOf (machine_of warehouse) es held result.0
         (K.held out.new) (D.bytes result.1) (S.left script.new) }
     ensures safe { EndsSafely D.moment D.left_since D.may_leave (IsTold warehouse)
-        warehouse.disk result.1 (state_of warehouse.catalog)
+        warehouse.disk result.1 (machine_of warehouse)
         (option_map events (S.left script.old)) (K.held out.old) (K.held out.new) }
     ensures durable { Through result.0 (IsSettled (D.bytes result.1) (D.may_leave result.1)) }
     ensures causes { EndsBy (HasCause (Rose (D.faults warehouse.disk) (D.faults result.1))

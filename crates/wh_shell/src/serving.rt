@@ -6,9 +6,8 @@ ghost use Rattle.wh_reply.specs.View.{reply_view};
 ghost use Rattle.wh_world.specs.Told.{Rose};
 ghost use Rattle.wh_text.specs.Script.{taken_of, consumed_of, fault_of, Counts};
 ghost use Rattle.wh_journal.specs.Journal.{limit_of};
-ghost use Rattle.wh_catalog.specs.Catalog.{state_of};
 ghost use Rattle.wh_engine.specs.Event.{event_of};
-ghost use Rattle.wh_engine.specs.Warehouse.{led_to};
+ghost use Rattle.wh_engine.specs.Warehouse.{machine_of, led_to};
 ghost use Rattle.wh_engine.specs.Leaves.{Leaves};
 ghost use Rattle.wh_shell.specs.Events.{events};
 ghost use Rattle.wh_shell.specs.Fault.{HasCause, never};
@@ -42,7 +41,7 @@ pub(crate) fn serve<S: Source, K: Sink, D: Disk>(
 ) -> Result<u64, Fault>
     requires ready { IsOpen warehouse.old }
     ensures served { IfOk result (λ refused. Serves
-        (state_of warehouse.old.catalog) (state_of warehouse.new.catalog)
+        (machine_of warehouse.old) (machine_of warehouse.new)
         (option_map events (S.left script.old))
         (K.held out.old) (K.held out.new) (S.left script.new) refused) }
     ensures ready { OnOk result (StaysOpen warehouse.old warehouse.new) }
@@ -50,7 +49,7 @@ pub(crate) fn serve<S: Source, K: Sink, D: Disk>(
         (reach_of warehouse.old) (option_map events (S.left script.old))) }
 
     // Where it is stopped, a front of the text was written.
-    ensures stopped { OnErr result (Stops (state_of warehouse.old.catalog)
+    ensures stopped { OnErr result (Stops (machine_of warehouse.old)
         (option_map events (S.left script.old)) (K.held out.old) (K.held out.new)) }
     ensures causes { IfErr result (HasCause
         (Rose (D.faults warehouse.old.disk) (D.faults warehouse.new.disk))
@@ -62,7 +61,7 @@ pub(crate) fn serve<S: Source, K: Sink, D: Disk>(
 
     // What a crash leaves, and a script of too many bytes, over any outcome.
     ensures safe { EndsSafely D.moment D.left_since D.may_leave (IsTold warehouse.old)
-        warehouse.old.disk warehouse.new.disk (state_of warehouse.old.catalog)
+        warehouse.old.disk warehouse.new.disk (machine_of warehouse.old)
         (option_map events (S.left script.old)) (K.held out.old) (K.held out.new) }
     ensures long { (input rest : List ℕ) → S.left script.old ≡ Some input →
         S.left script.new ≡ Some rest → 2 ^ 30 + length rest < length input →
@@ -93,10 +92,10 @@ fn turn<S: Source, K: Sink, D: Disk>(
     requires ready { IsOpen warehouse.old }
     requires goes { fault_of reader.old.script ≡ None }
     ensures went { IfOk result (λ found. MatchOption found
-        (Finds (state_of warehouse.old.catalog) (state_of warehouse.new.catalog)
+        (Finds (machine_of warehouse.old) (machine_of warehouse.new)
         (unread reader.old (S.left script.old)) (unread reader.new (S.left script.new))
         (S.left script.new) (K.held out.old) (K.held out.new))
-        (Answers (state_of warehouse.old.catalog) (state_of warehouse.new.catalog)
+        (Answers (machine_of warehouse.old) (machine_of warehouse.new)
         (unread reader.old (S.left script.old)) (unread reader.new (S.left script.new))
         (K.held out.old) (K.held out.new))) }
     ensures ready { OnOk result (StaysOpen warehouse.old warehouse.new) }
@@ -107,14 +106,14 @@ fn turn<S: Source, K: Sink, D: Disk>(
         (reach_of warehouse.old) (reach_of warehouse.new)
         (unread reader.old (S.left script.old)) (unread reader.new (S.left script.new))) }
     ensures any_moment { OnOk result
-        (Leaves warehouse.old warehouse.new (state_of warehouse.new.catalog)) }
+        (Leaves warehouse.old warehouse.new (machine_of warehouse.new).state) }
 
     // Where it is stopped.
-    ensures stopped { OnErr result (Stops (state_of warehouse.old.catalog)
+    ensures stopped { OnErr result (Stops (machine_of warehouse.old)
         (unread reader.old (S.left script.old)) (K.held out.old) (K.held out.new)) }
     ensures safe { OnErr result (EndsSafely D.moment D.left_since D.may_leave
         (IsTold warehouse.old) warehouse.old.disk warehouse.new.disk
-        (state_of warehouse.old.catalog) (unread reader.old (S.left script.old))
+        (machine_of warehouse.old) (unread reader.old (S.left script.old))
         (K.held out.old) (K.held out.new)) }
     ensures causes { IfErr result (HasCause
         (Rose (D.faults warehouse.old.disk) (D.faults warehouse.new.disk))
@@ -152,7 +151,7 @@ fn answer<K: Sink, D: Disk>(
 ) -> Result<u64, Fault>
     requires { IsOpen warehouse.old }
     ensures carried { IfOk result (Replies
-        (state_of warehouse.old.catalog) (state_of warehouse.new.catalog)
+        (machine_of warehouse.old) (machine_of warehouse.new)
         (event_of event.now) (K.held out.old) (K.held out.new)) }
     ensures ready { OnOk result (StaysOpen warehouse.old warehouse.new) }
     ensures room { OnOk result (HasRoom (limit_of warehouse.old.journal) (event_of event.now)
@@ -160,7 +159,7 @@ fn answer<K: Sink, D: Disk>(
 
     // Where it is stopped.
     ensures halts { OnErr result (Halts (IsTold warehouse.old) (D.may_leave warehouse.new.disk)
-        (state_of warehouse.old.catalog) (event_of event.now)
+        (machine_of warehouse.old) (event_of event.now)
         (K.held out.old) (K.held out.new)) }
     ensures causes { IfErr result (HasCause
         (Rose (D.faults warehouse.old.disk) (D.faults warehouse.new.disk)) ⊥
@@ -170,7 +169,7 @@ fn answer<K: Sink, D: Disk>(
 
     // Over any outcome.
     ensures any_moment { Leaves warehouse.old warehouse.new
-        (led_to warehouse.old (event_of event.now)) }
+        (led_to warehouse.old (event_of event.now)).state }
     ensures disk_later { D.faults warehouse.old.disk ≤ D.faults warehouse.new.disk }
     ensures out_later { K.faults out.old ≤ K.faults out.new }
 {

@@ -1,14 +1,14 @@
 use Rattle.std.proofs.Common.{◌≡◌, ◌∙◌, ◌<◌, ◌+◌, ℕ, List, ap, sym, subst, refl, option_map, arith, Some}
 use Rattle.std.specs.Prelude.{is_some}
-use Rattle.wh_machine.specs.State.{State}
-use Rattle.wh_machine.specs.Stored.{Stored, meant}
-use Rattle.wh_machine.specs.Written.{overflow}
+use Rattle.wh_machine.specs.Stored.{meant}
+use Rattle.wh_sessions.specs.Outcome.{Machine, opened}
+use Rattle.wh_sessions.specs.Made.{overflow}
 use Rattle.wh_world.specs.Told.{Rose}
-use Rattle.wh_record.proofs.FileLaws.{file_fixes_state, file_fixes_stored}
+use Rattle.wh_record.proofs.FileLaws.{file_fixes_stored}
 use Rattle.wh_record.proofs.FaultLaws.{faulty_file_stands_for_none}
 use Rattle.wh_journal.specs.Journal.{end_of, limit_of}
 use Rattle.wh_catalog.specs.Catalog.{stored_of, state_of}
-use Rattle.wh_engine.specs.Warehouse.{IsSettled}
+use Rattle.wh_engine.specs.Warehouse.{IsSettled, machine_of}
 use Rattle.wh_shell.specs.Events.{events}
 use Rattle.wh_shell.specs.Fault.{fault_of_open, HasCause, never}
 use Rattle.wh_shell.specs.Open.{IsTold}
@@ -18,38 +18,38 @@ use Rattle.wh_shell.specs.declared.status.Status.{Status}
 use Rattle.wh_shell.specs.declared.status.Status.TheVariants.{Stopped}
 use Rattle.wh_shell.proofs.EventLemmas.{told_events}
 use Rattle.wh_shell.proofs.CauseLemmas.{more_causes, rose_since}
-use Rattle.wh_shell.proofs.Opening.{some_gate, run_survives, unopened_survives}
+use Rattle.wh_shell.proofs.Opening.{some_gate, machine_is, machine_opened, run_survives, unopened_survives}
 use Rattle.wh_shell.proofs.Ending.{ends_by, unopened_run, unopened_fills, unopened_refuses, unopened_cause}
 use Rattle.wh_shell.proofs.running.run_within.Goals as goal
 
 -- ---- the file was opened
 
--- the state that the file stands for is the one that was opened
+-- the machine of the state that the file stands for is the one that was opened
 pub returns-in-Ok-clause-runs : goal.returns-in-Ok-clause-runs
 returns-in-Ok-clause-runs g c = λ file input held start es is.
     let w = c.in-Ok.warehouse in
-    let opened : start ≡ state_of w.catalog =
-    file_fixes_state file start (state_of w.catalog) is.stands
-    (stored_of w.catalog, c.in-Ok.ensures.opened file is.told_file, c.in-Ok.ensures.means) in
-    subst (λ (s : State). IsRunOf s es held c.serve_and_close.result.0 (g.K.Sink.held c.serve_and_close.new.out)
-    (g.D.Disk.bytes c.serve_and_close.result.1) (g.S.Source.left c.serve_and_close.new.script)) (sym opened)
+    let same : opened start ≡ machine_of w =
+    machine_opened file (stored_of w.catalog) start (machine_of w) is.stands (c.in-Ok.ensures.opened file is.told_file)
+    c.in-Ok.ensures.means c.in-Ok.ensures.sessions in
+    subst (λ (m : Machine). IsRunOf m es held c.serve_and_close.result.0 (g.K.Sink.held c.serve_and_close.new.out)
+    (g.D.Disk.bytes c.serve_and_close.result.1) (g.S.Source.left c.serve_and_close.new.script)) (sym same)
     (c.serve_and_close.ensures.runs (c.in-Ok.ensures.told ∙ ap is_some is.told_file) es held
     (told_events input es (g.S.Source.left c.args.script.now) is.told_script is.events) is.told_output)
 
 pub returns-in-Ok-clause-survives : goal.returns-in-Ok-clause-survives
 returns-in-Ok-clause-survives g c = λ file input before written start es is only held_is.
     let w = c.in-Ok.warehouse in
-    let opened : start ≡ state_of w.catalog =
-    file_fixes_state file start (state_of w.catalog) is.stands
-    (stored_of w.catalog, c.in-Ok.ensures.opened file is.told_file, c.in-Ok.ensures.means) in
+    let same : opened start ≡ machine_of w =
+    machine_opened file (stored_of w.catalog) start (machine_of w) is.stands (c.in-Ok.ensures.opened file is.told_file)
+    c.in-Ok.ensures.means c.in-Ok.ensures.sessions in
     run_survives g.D.Disk.moment g.D.Disk.left_since g.D.Disk.may_leave (IsTold w)
     c.args.disk w.disk c.serve_and_close.result.1
     (g.D.Disk.bytes c.args.disk) (g.S.Source.left c.args.script.now)
     (option_map events (g.S.Source.left c.args.script.now))
     (g.K.Sink.held c.args.out.now) (g.K.Sink.held c.serve_and_close.new.out)
-    file input before written start (state_of w.catalog) es is
+    file input before written start (machine_of w) es is
     (told_events input es (g.S.Source.left c.args.script.now) is.told_script is.events)
-    opened (c.in-Ok.ensures.told ∙ ap is_some is.told_file) (c.in-Ok.ensures.any_moment file is.told_file only)
+    same (c.in-Ok.ensures.told ∙ ap is_some is.told_file) (c.in-Ok.ensures.any_moment file is.told_file only)
     c.serve_and_close.ensures.safe held_is
 
 pub returns-in-Ok-clause-causes : goal.returns-in-Ok-clause-causes
@@ -67,8 +67,8 @@ returns-in-Ok-clause-causes g c =
     (HasCause (Rose (g.D.Disk.faults w.disk) (g.D.Disk.faults new)) script output never
     (IsFull (limit_of w.journal) (reach_of w) (option_map events left)) long)
     (HasCause (Rose (g.D.Disk.faults c.args.disk) (g.D.Disk.faults new)) script output
-    (λ at. (c.serve_and_close.new.script ≡ c.args.script.now)
-    × (c.serve_and_close.new.out ≡ c.args.out.now) × ((file : List ℕ) →
+    (λ at. (c.serve_and_close.new.script ≡ c.args.script.now) × (c.serve_and_close.new.out ≡ c.args.out.now)
+    × ((file : List ℕ) →
     g.D.Disk.bytes c.args.disk ≡ Some file → Rejects at file (g.D.Disk.bytes new) (g.D.Disk.may_leave new)))
     (λ len need. c.args.limit < len + need) long)
     c.serve_and_close.result.0
@@ -88,10 +88,11 @@ returns-in-Ok-clause-file_full g c = λ file input s start es told told_left kee
     let w = c.in-Ok.warehouse in
     let stored : stored_of w.catalog ≡ s =
     file_fixes_stored file (stored_of w.catalog) s (c.in-Ok.ensures.opened file told) keeps in
-    let state : state_of w.catalog ≡ start = c.in-Ok.ensures.means ∙ ap meant stored ∙ sym means in
+    let machine : machine_of w ≡ opened start =
+    machine_is (machine_of w) start (c.in-Ok.ensures.means ∙ ap meant stored ∙ sym means) c.in-Ok.ensures.sessions in
     let limit = c.in-Ok.ensures.limit in
-    let room : overflow (limit_of w.journal) (end_of w.journal) (stored_of w.catalog) (state_of w.catalog) es
-    ≡ overflow c.args.limit (end_of w.journal) s start es = cc in
+    let room : overflow (limit_of w.journal) (end_of w.journal) (stored_of w.catalog) (machine_of w) es
+    ≡ overflow c.args.limit (end_of w.journal) s (opened start) es = cc in
     record {
       end = end_of w.journal;
       gate = c.in-Ok.ensures.ends file told;
@@ -104,14 +105,14 @@ returns-in-Ok-clause-file_full g c = λ file input s start es told told_left kee
 
 pub returns-in-Err-clause-runs : goal.returns-in-Err-clause-runs
 returns-in-Err-clause-runs g c = λ file input held start es is.
-    subst (λ (s : Status). IsRunOf start es held s (g.K.Sink.held c.args.out.now) (g.D.Disk.bytes c.in-Err.disk)
-    (g.S.Source.left c.args.script.now))
-    (sym c.of.ensures) (unopened_run start es held (g.K.Sink.held c.args.out.now) is.told_output)
+    subst (λ (s : Status). IsRunOf (opened start) es held s (g.K.Sink.held c.args.out.now)
+    (g.D.Disk.bytes c.in-Err.disk) (g.S.Source.left c.args.script.now))
+    (sym c.of.ensures) (unopened_run (opened start) es held (g.K.Sink.held c.args.out.now) is.told_output)
 
 pub returns-in-Err-clause-survives : goal.returns-in-Err-clause-survives
 returns-in-Err-clause-survives g c = λ file input before written start es is only held_is.
-    unopened_survives g.D.Disk.moment g.D.Disk.left_since g.D.Disk.may_leave g.met.D.Disk.counts_now
-    c.args.disk c.in-Err.disk
+    unopened_survives g.D.Disk.moment g.D.Disk.left_since g.D.Disk.may_leave g.met.D.Disk.counts_now c.args.disk
+    c.in-Err.disk
     (g.D.Disk.bytes c.args.disk) (g.S.Source.left c.args.script.now) (g.K.Sink.held c.args.out.now)
     (g.K.Sink.held c.args.out.now)
     file input before written start es is (c.in-Err.ensures.any_moment_err file is.told_file only) refl held_is
@@ -130,8 +131,8 @@ returns-in-Err-clause-causes g c =
     let output = Rose (g.K.Sink.faults c.args.out.now) (g.K.Sink.faults c.args.out.now) in
     let foreign =
     λ (at : ℕ). (c.args.script.now ≡ c.args.script.now) × (c.args.out.now ≡ c.args.out.now) × ((file : List ℕ) →
-    g.D.Disk.bytes c.args.disk ≡ Some file
-    → Rejects at file (g.D.Disk.bytes c.in-Err.disk) (g.D.Disk.may_leave c.in-Err.disk)) in
+    g.D.Disk.bytes c.args.disk ≡ Some file →
+    Rejects at file (g.D.Disk.bytes c.in-Err.disk) (g.D.Disk.may_leave c.in-Err.disk)) in
     let full = λ (len need : ℕ). c.args.limit < len + need in
     let long =
     λ (taken : ℕ). WasTooLong taken (g.S.Source.left c.args.script.now) (g.S.Source.left c.args.script.now) in
@@ -158,10 +159,11 @@ returns-in-Err-clause-foreign g c = λ file told foreign.
 pub returns-in-Err-clause-file_full : goal.returns-in-Err-clause-file_full
 returns-in-Err-clause-file_full g c = λ file input s start es told told_left keeps means script.
     let gate = some_gate file s keeps in
-    let need = overflow c.args.limit gate.0 s start es in
+    let need = overflow c.args.limit gate.0 s (opened start) es in
     record {
       end = gate.0;
       gate = gate.1;
-      fills = subst (λ (s : Status). FillsBy s need) (sym c.of.ensures)
+      fills =
+          subst (λ (s : Status). FillsBy s need) (sym c.of.ensures)
           (unopened_fills c.from.result c.in-Err.fault need c.from.ensures);
     }

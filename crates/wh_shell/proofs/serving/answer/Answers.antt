@@ -1,10 +1,10 @@
-use Rattle.std.proofs.Common.{◌∙◌, ap, rules}
+use Rattle.std.proofs.Common.{◌∙◌, rules}
 use Rattle.wh_reply.specs.Reply.{print}
-use Rattle.wh_machine.specs.Step.{step}
+use Rattle.wh_sessions.specs.Step.{step}
 use Rattle.wh_world.specs.Told.{Rose}
 use Rattle.wh_journal.specs.Journal.{limit_of}
-use Rattle.wh_catalog.specs.Catalog.{state_of}
 use Rattle.wh_engine.specs.Event.{event_of}
+use Rattle.wh_engine.specs.Warehouse.{machine_of}
 use Rattle.wh_engine.specs.Leaves.{StandsForEither}
 use Rattle.wh_shell.specs.Open.{IsOpen, IsTold}
 use Rattle.wh_shell.specs.Crash.{Halts}
@@ -22,14 +22,14 @@ pub returns-in_err-reply-clause-halts : goal.returns-in_err-reply-clause-halts
 returns-in_err-reply-clause-halts g c =
     let old = c.args.warehouse.now in
     let new = c.carry_out.new.self in
-    let s = state_of old.catalog in
+    let m = machine_of old in
     let event = event_of c.args.event.now in
-    let halts : Halts (IsTold old) (g.D.Disk.may_leave new.disk) s event (g.K.Sink.held c.args.out.now)
+    let halts : Halts (IsTold old) (g.D.Disk.may_leave new.disk) m event (g.K.Sink.held c.args.out.now)
     (g.K.Sink.held c.args.out.now) =
-    halts_before (IsTold old) (g.D.Disk.may_leave new.disk) s event (g.K.Sink.held c.args.out.now)
+    halts_before (IsTold old) (g.D.Disk.may_leave new.disk) m event (g.K.Sink.held c.args.out.now)
     (λ told. leaves_now g.D.Disk.moment g.D.Disk.left_since g.D.Disk.may_leave g.met.D.Disk.counts_now old.disk new.disk
-    (StandsForEither s (step s event).0)
-    (leaves_open old new (step s event).0 c.requires told c.carry_out.ensures.any_moment)) in
+    (StandsForEither m.state (step m event).0.state)
+    (leaves_open old new (step m event).0.state c.requires told c.carry_out.ensures.any_moment)) in
     search rules
 
 pub returns-in_err-reply-clause-causes : goal.returns-in_err-reply-clause-causes
@@ -48,14 +48,14 @@ pub returns-in_err-print_reply-clause-halts : goal.returns-in_err-print_reply-cl
 returns-in_err-print_reply-clause-halts g c =
     let old = c.args.warehouse.now in
     let new = c.carry_out.new.self in
-    let s = state_of old.catalog in
+    let m = machine_of old in
     let event = event_of c.args.event.now in
-    let halts : Halts (IsTold old) (g.D.Disk.may_leave new.disk) s event (g.K.Sink.held c.args.out.now)
+    let halts : Halts (IsTold old) (g.D.Disk.may_leave new.disk) m event (g.K.Sink.held c.args.out.now)
     (g.K.Sink.held c.args.out.now) =
-    halts_before (IsTold old) (g.D.Disk.may_leave new.disk) s event (g.K.Sink.held c.args.out.now)
+    halts_before (IsTold old) (g.D.Disk.may_leave new.disk) m event (g.K.Sink.held c.args.out.now)
     (λ told. leaves_now g.D.Disk.moment g.D.Disk.left_since g.D.Disk.may_leave g.met.D.Disk.counts_now old.disk new.disk
-    (StandsForEither s (step s event).0)
-    (leaves_open old new (step s event).0 c.requires told c.carry_out.ensures.any_moment)) in
+    (StandsForEither m.state (step m event).0.state)
+    (leaves_open old new (step m event).0.state c.requires told c.carry_out.ensures.any_moment)) in
     search rules
 
 -- the reply was printed, and a front of it written
@@ -63,9 +63,9 @@ pub returns-in_err-write_all-clause-halts : goal.returns-in_err-write_all-clause
 returns-in_err-write_all-clause-halts g c =
     let old = c.args.warehouse.now in
     let new = c.carry_out.new.self in
-    let s = state_of old.catalog in
+    let m = machine_of old in
     let event = event_of c.args.event.now in
-    let writes : WritesFront (print (step s event).1) (g.K.Sink.held c.args.out.now)
+    let writes : WritesFront (print (step m event).1) (g.K.Sink.held c.args.out.now)
     (g.K.Sink.held c.write_all.new.out) = search rules in
     let stays = c.in_ok-reply.ensures.answered.carried in
     let ready : IsOpen new = record {
@@ -73,9 +73,9 @@ returns-in_err-write_all-clause-halts g c =
       settled = stays.durable c.requires.settled;
       healthy = stays.still_healthy;
     } in
-    let halts : Halts (IsTold old) (g.D.Disk.may_leave new.disk) s event (g.K.Sink.held c.args.out.now)
+    let halts : Halts (IsTold old) (g.D.Disk.may_leave new.disk) m event (g.K.Sink.held c.args.out.now)
     (g.K.Sink.held c.write_all.new.out) =
-    halts_behind (IsTold old) (g.D.Disk.may_leave new.disk) s (state_of new.catalog) event
+    halts_behind (IsTold old) (g.D.Disk.may_leave new.disk) m (machine_of new) event
     (g.K.Sink.held c.args.out.now) (g.K.Sink.held c.write_all.new.out) stays.stepped
     (λ told. open_stands g.met.D.Disk.only_now g.met.D.Disk.counts_now new ready (stays.told ∙ told)) writes in
     search rules

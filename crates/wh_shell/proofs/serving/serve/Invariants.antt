@@ -2,7 +2,7 @@ use Rattle.std.proofs.Common.{◌≡◌, ◌≤◌, ◌-◌, ◌^◌, None}
 use Rattle.std.specs.Prelude.{is_some, IsTrue, option_map}
 use Rattle.wh_journal.specs.Journal.{limit_of}
 use Rattle.wh_text.specs.Script.{consumed_of, fault_of, Counts}
-use Rattle.wh_catalog.specs.Catalog.{state_of}
+use Rattle.wh_engine.specs.Warehouse.{machine_of}
 use Rattle.wh_shell.specs.Events.{events}
 use Rattle.wh_shell.specs.Open.{StaysOpen}
 use Rattle.wh_shell.specs.Reading.{unread}
@@ -14,7 +14,7 @@ abbrev pub invariant-turns : goal.invariant-turns
 invariant-turns g l = record {
   goes : Goes g.D.Disk.moment g.D.Disk.left_since (IsTrue (is_some (g.D.Disk.bytes l.fn.warehouse.disk)))
       l.fn.warehouse.disk l.warehouse.disk
-      (state_of l.fn.warehouse.catalog) (state_of l.warehouse.catalog) (option_map events (g.S.Source.left l.fn.script))
+      (machine_of l.fn.warehouse) (machine_of l.warehouse) (option_map events (g.S.Source.left l.fn.script))
       (unread l.reader (g.S.Source.left l.script)) (g.K.Sink.held l.fn.out) (g.K.Sink.held l.out) l.refused;
   few : l.refused ≤ consumed_of l.reader.script;
   fault : fault_of l.reader.script ≡ None;
