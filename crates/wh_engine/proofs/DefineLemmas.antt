@@ -3,18 +3,18 @@
 --     none_past            a table that passes all tests passes its own
 --     refused_open         the session's transaction is open
 --     none_dropped, held_fast, is_dropped     DROP TABLE outside of a transaction
-use Rattle.std.proofs.Common.{◌≡◌, ℕ, List, [], ◌∷◌, ◌++◌, Option, Some, None, option_map, Bool, refl, ap, sym, ◌∙◌}
+use Rattle.std.proofs.Common.{◌≡◌, ℕ, List, [], ◌∷◌, ◌++◌, Option, Some, None, option_map, Bool, refl, ap, ◌∙◌}
 use Rattle.wh_value.specs.Column.{Column}
 use Rattle.wh_reply.specs.Reply.{Refusal, Reply, DdlInTransaction, Locked, UnknownName, CreatedTable, DroppedTable}
 use Rattle.wh_machine.specs.State.{State, id_of, stamped}
 use Rattle.wh_machine.specs.Outcome as tables
 use Rattle.wh_machine.specs.Outcome.{Act, MakesTable, DropsObject, first_of}
 use Rattle.wh_machine.specs.Tables.{table_refusal, replaced_id, drops, create_table, drop_of, drop_table}
-use Rattle.wh_sessions.specs.Sessions.{Sessions, number_in, holder}
-use Rattle.wh_sessions.specs.Outcome.{Machine, Outcome, Refuses, Does, alone, unless, last_test}
+use Rattle.wh_sessions.specs.Sessions.{Sessions, number_in}
+use Rattle.wh_sessions.specs.Outcome.{Machine, Refuses, Does, alone, unless, last_test}
 use Rattle.wh_sessions.specs.Statements.{holder_of, defines}
 use Rattle.wh_engine.specs.Decision.{machine_at}
-use Rattle.wh_engine.proofs.TableLemmas.{creates, replaced_stamped, create_is}
+use Rattle.wh_engine.proofs.TableLemmas.{replaced_stamped, create_is}
 
 -- ---- CREATE TABLE
 

@@ -3,7 +3,7 @@
 --     answers, commits                a reply alone, and one with a commit
 --     begins, stages, ends            what becomes of a transaction
 --     first_three, first_seven        the first refusal of tests
-use Rattle.std.proofs.Common.{◌≡◌, ℕ, List, [], ◌∷◌, Option, Some, None, option_map, is_some, true, refl, sym, ap, ◌∙◌}
+use Rattle.std.proofs.Common.{◌≡◌, ℕ, List, [], ◌∷◌, Option, Some, None, option_map, is_some, refl, sym, ap, ◌∙◌}
 use Rattle.std.specs.Prelude.{IsTrue, Vec}
 use Rattle.std.specs.declared.alloc.Global.{Global}
 use Rattle.std.specs.Option.{option_or}
@@ -16,7 +16,6 @@ use Rattle.wh_dml.specs.declared.target.Effect.{Effect}
 use Rattle.wh_record.specs.declared.commit.Change as records
 use Rattle.wh_machine.specs.Outcome.{Act, first_of}
 use Rattle.wh_machine.specs.Stored.{Stored}
-use Rattle.wh_machine.specs.Commit.{Change}
 use Rattle.wh_machine.specs.Written.{written}
 use Rattle.wh_sessions.specs.Transaction.{Transaction, staged}
 use Rattle.wh_sessions.specs.Sessions.{Sessions, transaction_in, with_transaction, with_begun, with_ended}

@@ -8,7 +8,7 @@ use Rattle.std.proofs.lemmas.Bool.{lt-ltb, le-ltb}
 use Rattle.wh_value.specs.Limit.{bound}
 use Rattle.wh_value.specs.declared.limit.Limit.TheVariants as limits
 use Rattle.wh_reply.specs.Reply.{Reply, Refused, OverLimit}
-use Rattle.wh_machine.specs.State.{State, stamped}
+use Rattle.wh_machine.specs.State.{stamped}
 use Rattle.wh_machine.specs.Stored.{Stored, meant}
 use Rattle.wh_machine.specs.Commit.{Change}
 use Rattle.wh_machine.specs.Orderly.{IsOrderlyStored}

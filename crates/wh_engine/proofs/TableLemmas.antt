@@ -12,10 +12,10 @@ use Rattle.wh_value.specs.Column.{Column}
 use Rattle.wh_value.specs.Limit.{bound}
 use Rattle.wh_value.specs.declared.limit.Limit.{Limit}
 use Rattle.wh_value.specs.declared.limit.Limit.TheVariants as limits
-use Rattle.wh_reply.specs.Reply.{Refusal, NameTaken, OverLimit, UnknownName, CreatedTable, DroppedTable}
+use Rattle.wh_reply.specs.Reply.{Refusal, NameTaken, OverLimit, CreatedTable}
 use Rattle.wh_machine.specs.State.{State, dropped, id_of, live_count, stamped}
-use Rattle.wh_machine.specs.Outcome.{Outcome, Refuses, MakesTable, DropsObject, commits, refused_if, refused_past, first_of, unless}
-use Rattle.wh_machine.specs.Tables.{names_of, taken_name, is_long, one_if, replaced_id, is_name_taken, table_refusal, drops, create_table, drop_of, drop_table}
+use Rattle.wh_machine.specs.Outcome.{Outcome, MakesTable, commits, refused_if, refused_past, first_of, unless}
+use Rattle.wh_machine.specs.Tables.{names_of, taken_name, is_long, one_if, replaced_id, is_name_taken, table_refusal, drops, create_table}
 use Rattle.wh_machine.specs.Stored.{StoredObject}
 use Rattle.wh_machine.specs.Commit.{CreatesTable, Drops, changed}
 use Rattle.wh_machine.specs.Written.{written}

@@ -4,7 +4,7 @@
 --     commit_closed, commit_past             COMMIT that is refused
 --     commits_changes, commits_nothing       and one that is carried out, by the commit that is written
 --     rollback_closed, rollback_open         ROLLBACK
-use Rattle.std.proofs.Common.{◌≡◌, ℕ, List, Option, Some, None, option_map, is_some, true, false, refl, ap, sym, ◌∙◌}
+use Rattle.std.proofs.Common.{◌≡◌, ℕ, List, Option, Some, None, option_map, is_some, true, false, refl, ap, ◌∙◌}
 use Rattle.std.specs.Prelude.{IsTrue}
 use Rattle.wh_value.specs.declared.limit.Limit.{Limit}
 use Rattle.wh_reply.specs.Reply.{OverLimit, TransactionOpen, NoTransaction, Begun, Committed, CommittedNothing, RolledBack}

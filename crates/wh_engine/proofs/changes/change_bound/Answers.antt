@@ -10,7 +10,7 @@ use Rattle.wh_machine.specs.Queries.{instance_of}
 use Rattle.wh_machine.specs.Changes.{rows_seen}
 use Rattle.wh_machine.specs.Stored.{table_meant}
 use Rattle.wh_sessions.specs.Sessions.{transaction_in, locked_by}
-use Rattle.wh_catalog.specs.Catalog.{stored_of, state_of}
+use Rattle.wh_catalog.specs.Catalog.{stored_of}
 use Rattle.wh_table.specs.Table.{table_of}
 use Rattle.wh_txn.specs.View.{sessions_of}
 use Rattle.wh_engine.specs.Sight.{machine_in, objects_seen}

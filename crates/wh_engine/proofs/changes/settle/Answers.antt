@@ -1,4 +1,4 @@
-use Rattle.std.proofs.Common.{◌≡◌, ℕ, None, refl, ap, sym, subst, ◌∙◌}
+use Rattle.std.proofs.Common.{ℕ, None, ap, sym, subst, ◌∙◌}
 use Rattle.wh_bound_change.specs.View as changes
 use Rattle.wh_dml.specs.View.{effect_of}
 use Rattle.wh_machine.specs.Changes.{reply_to}

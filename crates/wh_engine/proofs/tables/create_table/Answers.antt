@@ -1,5 +1,5 @@
-use Rattle.std.proofs.Common.{◌≡◌, ℕ, ◌+◌, [], ◌∷◌, ◌++◌, length, Option, Some, None, option_map, is_some, refl, ap, sym, ◌∙◌, arith, rules}
-use Rattle.wh_reply.specs.Reply.{Refusal, CreatedTable, DdlInTransaction, Locked}
+use Rattle.std.proofs.Common.{◌≡◌, ℕ, ◌+◌, [], ◌∷◌, ◌++◌, length, Option, Some, None, option_map, refl, ap, sym, ◌∙◌, arith, rules}
+use Rattle.wh_reply.specs.Reply.{CreatedTable, DdlInTransaction, Locked}
 use Rattle.wh_reply.specs.View.{refusal_view}
 use Rattle.wh_machine.specs.Outcome.{MakesTable, first_of}
 use Rattle.wh_machine.specs.Tables.{table_refusal, replaced_id, drops}
