@@ -15,10 +15,9 @@ use Rattle.wh_journal.specs.Journal.{IsSame, end_of, limit_of, failed_of, need_o
 use Rattle.wh_journal.specs.declared.journal.Journal.{Journal}
 use Rattle.wh_journal.specs.declared.fault.AppendFault.{AppendFault}
 use Rattle.wh_journal.specs.declared.fault.AppendFault.TheVariants as appends
-use Rattle.wh_catalog.specs.Catalog.{state_of}
 use Rattle.wh_engine.specs.declared.warehouse.Warehouse.{Warehouse}
 use Rattle.wh_engine.specs.Fault.{halt_of}
-use Rattle.wh_engine.specs.Warehouse.{IsUntouched}
+use Rattle.wh_engine.specs.Warehouse.{IsUntouched, machine_of}
 use Rattle.wh_engine.specs.Halts.{Halted}
 use Rattle.wh_engine.proofs.CarryLemmas.{lacks_room, is_lacking}
 
@@ -50,12 +49,9 @@ is_full r old j c payload calls full beyond =
     (full (end_of j) (need_of payload)).1
     (calls.same.failed ∙ calls.healthy, omega (arith, calls.same.limit, calls.same.end), refl, refl)
 
-pub append_halts : {D T : Type 0} {seen : Ghosts D} (r : Result T AppendFault)
-    (fault : AppendFault) (old new : Warehouse D seen) (j : Journal) (c : Commit) (payload : List ℕ)
-    → r ≡ Err fault → Calls old.journal j c payload
-    → Fails r j payload (seen.faults old.disk) (seen.faults new.disk) (failed_of new.journal)
-    → ((fault ≡ appends.DiskFault → ⊥) → IsUntouched old new) → state_of new.catalog ≡ state_of old.catalog
-    → seen.faults old.disk ≤ seen.faults new.disk
+pub append_halts : {D T : Type 0} {seen : Ghosts D} (r : Result T AppendFault) (fault : AppendFault) (old new : Warehouse D seen) (j : Journal) (c : Commit) (payload : List ℕ)
+    → r ≡ Err fault → Calls old.journal j c payload → Fails r j payload (seen.faults old.disk) (seen.faults new.disk) (failed_of new.journal)
+    → ((fault ≡ appends.DiskFault → ⊥) → IsUntouched old new) → machine_of new ≡ machine_of old → seen.faults old.disk ≤ seen.faults new.disk
     → Halted old new (Some c) (halt_of fault)
 append_halts r appends.DiskFault old new j c payload is calls fails same state later = record {
   state = state;

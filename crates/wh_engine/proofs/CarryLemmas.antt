@@ -6,8 +6,7 @@
 use Rattle.std.proofs.Common.{◌≡◌, ℕ, ◌+◌, ◌<◌, Option, Some, None, is_some, false, inl, inr, sym, ap, ◌∙◌, arith}
 use Rattle.std.specs.Prelude.{IsTrue}
 use Rattle.std.proofs.lemmas.Bool.{cases_lt, lt-ltb, le-ltb, ltb-true}
-use Rattle.wh_machine.specs.State.{State}
-use Rattle.wh_machine.specs.Step.{stamped}
+use Rattle.wh_machine.specs.State.{State, stamped}
 use Rattle.wh_machine.specs.Stored.{Stored, meant}
 use Rattle.wh_machine.specs.Commit.{Commit, applied}
 use Rattle.wh_machine.specs.Written.{is_beyond, record_length}
@@ -16,19 +15,18 @@ use Rattle.wh_journal.specs.Journal.{end_of, failed_of}
 use Rattle.wh_catalog.specs.Catalog.{stored_of, state_of}
 use Rattle.wh_catalog.specs.declared.catalog.Catalog.{Catalog}
 use Rattle.wh_engine.specs.declared.warehouse.Warehouse.{Warehouse}
-use Rattle.wh_engine.specs.Warehouse.{state_with}
+use Rattle.wh_sessions.specs.Outcome.{Machine}
+use Rattle.wh_engine.specs.Warehouse.{machine_of, state_with}
 use Rattle.wh_engine.specs.Answers.{CarriesOut}
 use Rattle.wh_engine.proofs.CatalogLemmas.{state_is}
 use Rattle.wh_engine.proofs.FileLemmas.{filed_same}
 
 -- ---- no commit
 
-pub carries_nothing : {D : Type 0} {seen : Ghosts D} (old new : Warehouse D seen)
-    (commit : Option Commit) (state : State)
-    → commit ≡ None → new.disk ≡ old.disk → new.journal ≡ old.journal → stored_of new.catalog ≡ stored_of old.catalog
-    → state_of new.catalog ≡ state → failed_of old.journal ≡ None
-    → CarriesOut old new commit state
-carries_nothing {D} {seen} old new commit state none disk journal stored is healthy = record {
+pub carries_nothing : {D : Type 0} {seen : Ghosts D} (old new : Warehouse D seen) (commit : Option Commit) (machine : Machine) → commit ≡ None
+    → new.disk ≡ old.disk → new.journal ≡ old.journal → stored_of new.catalog ≡ stored_of old.catalog → machine_of new ≡ machine
+    → failed_of old.journal ≡ None → CarriesOut old new commit machine
+carries_nothing {D} {seen} old new commit machine none disk journal stored is healthy = record {
   stepped = is;
   stored = rw none stored;
   filed =

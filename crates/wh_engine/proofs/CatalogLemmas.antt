@@ -5,14 +5,13 @@
 --     written_edits                         the change that edits of it are written as
 --     means_by                              a commit is carried out
 use Rattle.std.proofs.Common.{◌≡◌, ℕ, List, [], ◌∷◌, ◌++◌, length, map, Option, Some, None, refl, sym, ap, ◌∙◌}
-use Rattle.wh_machine.specs.State.{State, Object, at_id, id_of, live_count, at_rest}
+use Rattle.wh_machine.specs.State.{State, Object, at_id, id_of, live_count, at_rest, stamped}
 use Rattle.wh_machine.specs.Edits.{Edits}
 use Rattle.wh_machine.specs.Outcome.{EditsRows}
 use Rattle.wh_machine.specs.Tables.{table_at}
 use Rattle.wh_machine.specs.Stored.{Stored, StoredTable, StoredKind, StoredTableKind, StoredObject, table_meant}
 use Rattle.wh_machine.specs.Stored.{object_meant, meant}
 use Rattle.wh_machine.specs.Commit.{Change, Commit, applied}
-use Rattle.wh_machine.specs.Step.{stamped}
 use Rattle.wh_machine.specs.Written.{version_written, version_written_to, written}
 use Rattle.wh_machine.proofs.MeaningLaws.{length_meant, id_of_meant, live_count_meant, table_at_none, table_at_some}
 use Rattle.wh_catalog.specs.Catalog.{stored_of, state_of, stored_table_at}

@@ -15,7 +15,7 @@ use Rattle.wh_value.specs.declared.limit.Limit.TheVariants as limits
 use Rattle.wh_frame.specs.Partition.{Partition}
 use Rattle.wh_reply.specs.Reply.{Refusal, OverLimit}
 use Rattle.wh_naming.specs.Changes.{Change}
-use Rattle.wh_effect.specs.Effect.{Effect, Does}
+use Rattle.wh_effect.specs.Effect.{Effect}
 use Rattle.wh_machine.specs.Edits.{edits_of, numbers_gone, partitions_made}
 use Rattle.wh_machine.specs.Outcome.{Refuses, EditsRows, answers, commits, refused_if, refused_past, first_of, unless}
 use Rattle.wh_machine.specs.Outcome.{table_partitions_made}
@@ -38,10 +38,8 @@ unfolding edits_refusal
 tested e t = ap (λ (n : ℕ). first_of (refused_past limits.RowNumber (t.next_row + length e.added)
     ∷ refused_past limits.PartitionNumber n ∷ [])) (sym (count_meant e t))
 
-settled_by : (id : ℕ) (change : Change) (t : StoredTable) (e : Effect) (a b : Option Refusal)
-    → refused_past limits.RowNumber (t.next_row + length e.added) ≡ a
-    → refused_past limits.PartitionNumber (made_count e t) ≡ b
-    → settled_effect id change (table_meant t) (Does e) ≡ unless (first_of (a ∷ b ∷ [])) (carried_over id change e)
+settled_by : (id : ℕ) (change : Change) (t : StoredTable) (e : Effect) (a b : Option Refusal) → refused_past limits.RowNumber (t.next_row + length e.added) ≡ a
+    → refused_past limits.PartitionNumber (made_count e t) ≡ b → settled_effect id change e (Some (table_meant t)) ≡ unless (first_of (a ∷ b ∷ [])) (carried_over id change e)
 settled_by id change t e a b at_a at_b =
     ap (λ (found : Option Refusal). unless found (carried_over id change e))
     (sym (tested e t) ∙ (λ i. first_of (at_a i ∷ at_b i ∷ [])))
@@ -59,35 +57,28 @@ not_past limit count fits = elim (cases_lt (bound limit) count) [
   | inr within ↦ ap (λ (b : Bool). refused_if b (OverLimit limit)) (le-ltb _ _ within)
 ]
 
-pub rows_past : (id : ℕ) (change : Change) (t : StoredTable) (e : Effect) (why : Refusal)
-    → refused_past limits.RowNumber (t.next_row + length e.added) ≡ Some why
-    → settled_effect id change (table_meant t) (Does e) ≡ Refuses why
+pub rows_past : (id : ℕ) (change : Change) (t : StoredTable) (e : Effect) (why : Refusal) → refused_past limits.RowNumber (t.next_row + length e.added) ≡ Some why
+    → settled_effect id change e (Some (table_meant t)) ≡ Refuses why
 rows_past id change t e why is = settled_by id change t e (Some why) _ is refl
 
-pub partitions_past : (id : ℕ) (change : Change) (t : StoredTable) (e : Effect)
-    → refused_past limits.RowNumber (t.next_row + length e.added) ≡ None
-    → nat_le (made_count e t) (bound limits.PartitionNumber) ≡ false
-    → settled_effect id change (table_meant t) (Does e) ≡ Refuses (OverLimit limits.PartitionNumber)
-partitions_past id change t e none over = settled_by id change t e None (Some (OverLimit limits.PartitionNumber)) none
-    (past limits.PartitionNumber (made_count e t) over)
+pub partitions_past : (id : ℕ) (change : Change) (t : StoredTable) (e : Effect) → refused_past limits.RowNumber (t.next_row + length e.added) ≡ None
+    → nat_le (made_count e t) (bound limits.PartitionNumber) ≡ false → settled_effect id change e (Some (table_meant t)) ≡ Refuses (OverLimit limits.PartitionNumber)
+partitions_past id change t e none over = settled_by id change t e None (Some (OverLimit limits.PartitionNumber)) none (past limits.PartitionNumber (made_count e t) over)
 
-edits_pass : (id : ℕ) (change : Change) (t : StoredTable) (e : Effect)
-    → refused_past limits.RowNumber (t.next_row + length e.added) ≡ None
-    → nat_le (made_count e t) (bound limits.PartitionNumber) ≡ true
-    → settled_effect id change (table_meant t) (Does e) ≡ carried_over id change e
-edits_pass id change t e none fits =
-    settled_by id change t e None None none (not_past limits.PartitionNumber (made_count e t) fits)
+edits_pass : (id : ℕ) (change : Change) (t : StoredTable) (e : Effect) → refused_past limits.RowNumber (t.next_row + length e.added) ≡ None
+    → nat_le (made_count e t) (bound limits.PartitionNumber) ≡ true → settled_effect id change e (Some (table_meant t)) ≡ carried_over id change e
+edits_pass id change t e none fits = settled_by id change t e None None none (not_past limits.PartitionNumber (made_count e t) fits)
 
 pub uncounted : (id : ℕ) (change : Change) (t : StoredTable) (e : Effect)
     → refused_past limits.RowNumber (t.next_row + length e.added) ≡ None
     → nat_le (made_count e t) (bound limits.PartitionNumber) ≡ true → nat_lt 0 (counted e) ≡ false
-    → settled_effect id change (table_meant t) (Does e) ≡ answers (reply_to change e)
+    → settled_effect id change e (Some (table_meant t)) ≡ answers (reply_to change e)
 uncounted id change t e none fits nothing = edits_pass id change t e none fits ∙ rw nothing
 
 pub is_counted : (id : ℕ) (change : Change) (t : StoredTable) (e : Effect)
     → refused_past limits.RowNumber (t.next_row + length e.added) ≡ None
     → nat_le (made_count e t) (bound limits.PartitionNumber) ≡ true → nat_lt 0 (counted e) ≡ true
-    → settled_effect id change (table_meant t) (Does e) ≡ commits (reply_to change e) (EditsRows id (edits_of e) ∷ [])
+    → settled_effect id change e (Some (table_meant t)) ≡ commits (reply_to change e) (EditsRows id (edits_of e) ∷ [])
 is_counted id change t e none fits some = edits_pass id change t e none fits ∙ rw some
 
 pub version_is : (stamp id : ℕ) (e : Effect) (t : StoredTable) (next_row width : ℕ) (removed : List ℕ)

@@ -8,22 +8,22 @@ use Rattle.std.specs.Result.{IfErr, IsErrOf, IsErrAnd}
 use Rattle.wh_machine.specs.Commit.{Commit}
 use Rattle.wh_world.specs.declared.disk.Disk.{Ghosts}
 use Rattle.wh_journal.specs.Journal.{IsSame, failed_of}
-use Rattle.wh_catalog.specs.Catalog.{stored_of, state_of}
+use Rattle.wh_catalog.specs.Catalog.{stored_of}
+use Rattle.wh_txn.specs.View.{sessions_of}
 use Rattle.wh_engine.specs.declared.fault.OpenFault.{OpenFault}
 use Rattle.wh_engine.specs.declared.fault.Halt.{Halt}
 use Rattle.wh_engine.specs.declared.fault.Halt.TheVariants.{OutOfMemory, NeedsReopen}
 use Rattle.wh_engine.specs.declared.warehouse.Warehouse.{Warehouse}
-use Rattle.wh_engine.specs.Warehouse.{IsUntouched}
+use Rattle.wh_engine.specs.Warehouse.{IsUntouched, machine_of}
 use Rattle.wh_engine.specs.Halts.{Halted}
 use Rattle.wh_engine.proofs.FileLemmas.{same_journal}
 
 pub unchanged : {D : Type 0} {seen : Ghosts D} (w : Warehouse D seen) → IsUntouched w w
-unchanged w = record { disk = refl; journal = same_journal w.journal; stored = refl }
+unchanged w = record { disk = refl; journal = same_journal w.journal; stored = refl; sessions = refl }
 
-pub untouched : {D : Type 0} {seen : Ghosts D} {old new : Warehouse D seen} → new.disk ≡ old.disk
-    → IsSame old.journal new.journal → stored_of new.catalog ≡ stored_of old.catalog
-    → IsUntouched old new
-untouched disk journal stored = record { disk = disk; journal = journal; stored = stored }
+pub untouched : {D : Type 0} {seen : Ghosts D} {old new : Warehouse D seen} → new.disk ≡ old.disk → IsSame old.journal new.journal
+    → stored_of new.catalog ≡ stored_of old.catalog → sessions_of new.sessions ≡ sessions_of old.sessions → IsUntouched old new
+untouched disk journal stored sessions = record { disk = disk; journal = journal; stored = stored; sessions = sessions }
 
 pub reopens : {D : Type 0} {seen : Ghosts D} (w : Warehouse D seen) (commit : Option Commit) (faults : ℕ)
     → failed_of w.journal ≡ Some faults
@@ -39,9 +39,8 @@ reopens w commit faults failed = record {
   later = omega arith;
 }
 
-pub starves : {D : Type 0} {seen : Ghosts D} (old new : Warehouse D seen) (commit : Option Commit)
-    → failed_of old.journal ≡ None → IsUntouched old new → state_of new.catalog ≡ state_of old.catalog
-    → Halted old new commit OutOfMemory
+pub starves : {D : Type 0} {seen : Ghosts D} (old new : Warehouse D seen) (commit : Option Commit) → failed_of old.journal ≡ None → IsUntouched old new
+    → machine_of new ≡ machine_of old → Halted old new commit OutOfMemory
 starves {D} {seen} old new commit healthy same state = record {
   state = state;
   needs_reopen = λ n. (λ e. absurd cc, λ e. absurd cc);
@@ -54,10 +53,8 @@ starves {D} {seen} old new commit healthy same state = record {
 }
 
 -- want of memory that is passed on
-pub starved : {D T : Type 0} {seen : Ghosts D} (r : Result T Halt) (old new : Warehouse D seen) (commit : Option Commit)
-    → IsErrAnd r (λ halt. halt ≡ OutOfMemory) → failed_of old.journal ≡ None → IsUntouched old new
-    → state_of new.catalog ≡ state_of old.catalog
-    → IfErr r (λ halt. Halted old new commit halt)
+pub starved : {D T : Type 0} {seen : Ghosts D} (r : Result T Halt) (old new : Warehouse D seen) (commit : Option Commit) → IsErrAnd r (λ halt. halt ≡ OutOfMemory)
+    → failed_of old.journal ≡ None → IsUntouched old new → machine_of new ≡ machine_of old → IfErr r (λ halt. Halted old new commit halt)
 starved (Ok x) old new commit gives healthy same state = tt
 starved (Err h) old new commit gives healthy same state =
     subst (Halted old new commit) (sym gives) (starves old new commit healthy same state)

@@ -9,6 +9,10 @@ mod PlanLemmas
 mod StepLemmas
 mod OutcomeLemmas
 mod TableLemmas
+mod DefineLemmas
+mod TransactionLemmas
+mod SeenLemmas
+mod SourceLemmas
 mod ChangeLemmas
 mod EditLemmas
 mod TargetLemmas

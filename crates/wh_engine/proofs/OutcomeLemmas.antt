@@ -1,34 +1,85 @@
 -- Outcomes, and the decisions that are them.
---     declines, replies, commits      a refusal, a reply alone, and a reply with a commit
---     first_seven                     the first refusal of tests
-use Rattle.std.proofs.Common.{◌≡◌, ℕ, List, [], ◌∷◌, Option, Some, None, option_map, refl, sym, ap, ◌∙◌}
+--     declines                        a refusal
+--     answers, commits                a reply alone, and one with a commit
+--     begins, stages, ends            what becomes of a transaction
+--     first_three, first_seven        the first refusal of tests
+use Rattle.std.proofs.Common.{◌≡◌, ℕ, List, [], ◌∷◌, Option, Some, None, option_map, is_some, refl, sym, ap, ◌∙◌}
+use Rattle.std.specs.Prelude.{IsTrue, Vec}
+use Rattle.std.specs.declared.alloc.Global.{Global}
 use Rattle.std.specs.Option.{option_or}
 use Rattle.wh_reply.specs.Reply.{Refusal, Reply}
-use Rattle.wh_machine.specs.Outcome.{Act, Outcome, Refuses, Does, first_of}
+use Rattle.wh_reply.specs.declared.reply.Refusal as code
+use Rattle.wh_reply.specs.declared.reply.Reply as code_reply
+use Rattle.wh_reply.specs.View.{refusal_view, reply_view}
+use Rattle.wh_dml.specs.View.{effect_of}
+use Rattle.wh_dml.specs.declared.target.Effect.{Effect}
+use Rattle.wh_record.specs.declared.commit.Change as records
+use Rattle.wh_machine.specs.Outcome.{Act, first_of}
 use Rattle.wh_machine.specs.Stored.{Stored}
-use Rattle.wh_machine.specs.Commit.{Change}
 use Rattle.wh_machine.specs.Written.{written}
-use Rattle.wh_engine.specs.declared.decision.Decision.{Decision}
-use Rattle.wh_engine.specs.Decision.{Declines, Goes, plan_of, planned, Decides}
+use Rattle.wh_sessions.specs.Transaction.{Transaction, staged}
+use Rattle.wh_sessions.specs.Sessions.{Sessions, transaction_in, with_transaction, with_begun, with_ended}
+use Rattle.wh_sessions.specs.Outcome.{Outcome, Refuses, Does}
+use Rattle.wh_engine.specs.declared.decision.Decision.TheVariants.{Refuse, Do}
+use Rattle.wh_engine.specs.declared.decision.Settlement.TheVariants.{Answers, Commits, Begins, Stages, Ends}
+use Rattle.wh_engine.specs.Decision.{Goes, Declines, changes_of, transaction_or_new, planned, Decides}
 
 -- ---- decisions
 
-pub declines : (s : Stored) (stamp : ℕ) (d : Decision) (o : Outcome) (why : Refusal) → plan_of d ≡ Declines why
-    → o ≡ Refuses why → Decides s stamp d o
-declines s stamp d o why is same = record { same = is ∙ ap (planned s stamp) (sym same) }
+pub declines : (s : Stored) (sessions : Sessions) (stamp : ℕ) (why : code.Refusal) (o : Outcome) (meant : Refusal) → refusal_view why ≡ meant
+    → o ≡ Refuses meant → Decides s sessions stamp (Refuse why) o
+declines s sessions stamp why o meant is same = record { same = ap Declines is ∙ ap (planned s stamp) (sym same); staged = tt }
 
-pub replies : (s : Stored) (stamp : ℕ) (d : Decision) (o : Outcome) (reply : Reply) → plan_of d ≡ Goes reply None
-    → o ≡ Does reply None → Decides s stamp d o
-replies s stamp d o reply is same = record { same = is ∙ ap (planned s stamp) (sym same) }
+pub answers : (s : Stored) (sessions : Sessions) (stamp : ℕ) (told : code_reply.Reply) (o : Outcome) (reply : Reply) → reply_view told ≡ reply
+    → o ≡ Does reply sessions None → Decides s sessions stamp (Do told Answers) o
+answers s sessions stamp told o reply is same =
+    record { same = ap (λ (r : Reply). Goes r sessions None) is ∙ ap (planned s stamp) (sym same); staged = tt }
 
-pub commits : (s : Stored) (stamp : ℕ) (d : Decision) (o : Outcome) (reply : Reply) (acts : List Act)
-    (changes : List Change)
-    → plan_of d ≡ Goes reply (Some changes) → o ≡ Does reply (Some acts) → changes ≡ written stamp s.objects acts
-    → Decides s stamp d o
-commits s stamp d o reply acts changes is same say =
-    record { same = is ∙ ap (λ (cs : List Change). Goes reply (Some cs)) say ∙ ap (planned s stamp) (sym same) }
+pub commits : (s : Stored) (sessions : Sessions) (stamp : ℕ) (told : code_reply.Reply) (changes : Vec records.Change Global) (o : Outcome)
+    (reply : Reply) (acts : List Act) → reply_view told ≡ reply → changes_of changes ≡ written stamp s.objects acts
+    → o ≡ Does reply sessions (Some acts) → Decides s sessions stamp (Do told (Commits changes)) o
+commits s sessions stamp told changes o reply acts is say same = record {
+  same = (λ i. Goes (is i) sessions (Some (say i))) ∙ ap (planned s stamp) (sym same);
+  staged = tt;
+}
+
+pub begins : (s : Stored) (sessions : Sessions) (stamp session : ℕ) (told : code_reply.Reply) (o : Outcome) (reply : Reply) → reply_view told ≡ reply
+    → o ≡ Does reply (with_begun sessions session stamp) None → Decides s sessions stamp (Do told (Begins session)) o
+begins s sessions stamp session told o reply is same = record {
+  same = ap (λ (r : Reply). Goes r (with_begun sessions session stamp) None) is ∙ ap (planned s stamp) (sym same);
+  staged = tt;
+}
+
+pub stages : (s : Stored) (sessions : Sessions) (stamp session id next_row : ℕ) (effect : Effect) (t : Transaction) (told : code_reply.Reply)
+    (o : Outcome) (reply : Reply) → transaction_in sessions session ≡ Some t → reply_view told ≡ reply
+    → o ≡ Does reply (with_transaction sessions session (staged t id next_row (effect_of effect))) None
+    → Decides s sessions stamp (Do told (Stages session id next_row effect)) o
+stages s sessions stamp session id next_row effect t told o reply held is same = record {
+  same = (λ i. Goes (is i) (with_transaction sessions session
+      (staged (transaction_or_new (held i) stamp) id next_row (effect_of effect))) None) ∙ ap (planned s stamp) (sym same);
+  staged = is_open;
+}
+  where
+    is_open : IsTrue (is_some (transaction_in sessions session))
+    is_open = ap is_some held
+
+pub ends : (s : Stored) (sessions : Sessions) (stamp session : ℕ) (told : code_reply.Reply) (changes : Option (Vec records.Change Global))
+    (o : Outcome) (reply : Reply) (acts : Option (List Act)) → reply_view told ≡ reply
+    → option_map changes_of changes ≡ option_map (written stamp s.objects) acts
+    → o ≡ Does reply (with_ended sessions session) acts → Decides s sessions stamp (Do told (Ends session changes)) o
+ends s sessions stamp session told changes o reply acts is say same = record {
+  same = (λ i. Goes (is i) (with_ended sessions session) (say i)) ∙ ap (planned s stamp) (sym same);
+  staged = tt;
+}
 
 -- ---- tests
+
+pub first_three : {R : Type 0} (f : R → Refusal) (a b c : Option R)
+    → option_map f (option_or (option_or a b) c) ≡ first_of (option_map f a ∷ option_map f b ∷ option_map f c ∷ [])
+first_three f (Some x) b c = refl
+first_three f None (Some x) c = refl
+first_three f None None (Some x) = refl
+first_three f None None None = refl
 
 pub first_seven : {R : Type 0} (f : R → Refusal) (a b c d e g h : Option R)
     → option_map f (option_or (option_or (option_or (option_or (option_or (option_or a b) c) d) e) g) h)

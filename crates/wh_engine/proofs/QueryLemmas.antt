@@ -1,20 +1,22 @@
 -- SELECT: its outcome, from what is found wrong with it and from its rows.
 --     select_is          over the names of the live objects
---     decides_bound      what is decided on a bound query is decided on the query
+--     comes_bound        what is decided on a bound query is decided on the query
 --     is_failing         refused by the first failing test
 --     is_too_wide        nothing is found wrong, but it is too wide
 --     is_shown           neither, so its rows are shown
 --     is_undefined       neither, but a number is out of range
+--     rows_listed        its rows, by the tables that are read
 --     rows_meant         the rows of a bound query are those of the one that is meant
-use Rattle.std.proofs.Common.{◌≡◌, ℕ, true, false, List, [], ◌∷◌, Option, Some, None, option_map, Result, Ok, Err, ap}
-use Rattle.std.proofs.Common.{sym, subst, ◌∙◌}
+use Rattle.std.proofs.Common.{◌≡◌, ℕ, true, false, List, [], ◌∷◌, Option, Some, None, option_map, Result, Ok, Err, ap, sym, subst, ◌∙◌}
+use Rattle.std.specs.Prelude.{Vec, map}
+use Rattle.std.specs.declared.alloc.Global.{Global}
 use Rattle.std.specs.Result.{IfOk}
 use Rattle.wh_value.specs.Value.{Row}
 use Rattle.wh_value.specs.declared.limit.Limit.TheVariants as limits
 use Rattle.wh_ast.specs.declared.query.Query as written
 use Rattle.wh_ast.specs.declared.query.Sort.{Sort}
 use Rattle.wh_meaning.specs.Bag.{Bag}
-use Rattle.wh_meaning.specs.Query.{eval}
+use Rattle.wh_meaning.specs.Query.{Instance, eval}
 use Rattle.wh_meaning.specs.Listing.{listed}
 use Rattle.wh_naming.specs.Findings.{Failing, first_failing}
 use Rattle.wh_naming.specs.Scope.{Named}
@@ -24,32 +26,43 @@ use Rattle.wh_listing.specs.View.{keys_of}
 use Rattle.wh_bind.specs.declared.select.BoundSelect as code
 use Rattle.wh_bind.specs.Binds.{IsBound}
 use Rattle.wh_reply.specs.Reply.{OverLimit, NumberOutOfRange, Listing}
-use Rattle.wh_machine.specs.State.{State, Object}
+use Rattle.wh_machine.specs.State.{Object, Table}
+use Rattle.wh_machine.specs.Tables.{table_at}
 use Rattle.wh_machine.specs.Outcome.{Outcome, Refuses, answers, refused_if, first_of, unless}
-use Rattle.wh_machine.specs.Queries.{names_from, instance_of, refusal_of, listing_of, select_bound, select_rows}
-use Rattle.wh_machine.specs.Step.{stamped}
-use Rattle.wh_catalog.specs.Catalog.{stored_of, state_of}
-use Rattle.wh_catalog.specs.declared.catalog.Catalog.{Catalog}
+use Rattle.wh_machine.specs.Queries.{names_from, table_bag, instance_of, refusal_of, listing_of, select_bound, select_rows}
+use Rattle.wh_sessions.specs.Transaction.{seen}
+use Rattle.wh_sessions.specs.Sessions.{transaction_in}
+use Rattle.wh_sessions.specs.Outcome as sessions
+use Rattle.wh_sessions.specs.Outcome.{Machine, alone}
+use Rattle.wh_sessions.specs.Statements.{selects}
 use Rattle.wh_engine.specs.declared.decision.Decision.{Decision}
-use Rattle.wh_engine.specs.Decision.{Decides}
+use Rattle.wh_engine.specs.declared.sight.Sight.{Sight}
+use Rattle.wh_txn.specs.declared.seeing.TableSeen.{TableSeen}
+use Rattle.wh_engine.specs.Rows.{rows_found}
+use Rattle.wh_engine.specs.Sources.{AllShow}
+use Rattle.wh_engine.specs.Sight.{machine_in, objects_seen, Comes}
+use Rattle.wh_engine.proofs.SeenLemmas.{names_seen}
+use Rattle.wh_engine.proofs.SourceLemmas.{bags_of}
 
-pub select_is : (s : State) (stamp : ℕ) (query : written.Query) (sorts : List Sort) (names : List Named)
-    → names ≡ names_from 1 s.objects
-    → select_bound s.objects (bound_select names query sorts) ≡ select_rows (stamped s stamp) query sorts
-unfolding select_rows
-select_is s stamp query sorts names is =
-    ap (λ (ns : List Named). select_bound s.objects (bound_select ns query sorts)) is
+pub select_is : (m : Machine) (session : ℕ) (query : written.Query) (sorts : List Sort) (names : List Named)
+    → names ≡ names_from 1 m.state.objects
+    → alone m.sessions (select_bound (seen m.state (transaction_in m.sessions session)).objects (bound_select names query sorts))
+    ≡ selects m session query sorts
+unfolding selects select_rows
+select_is m session query sorts names is =
+    ap (λ (ns : List Named). alone m.sessions
+    (select_bound (seen m.state (transaction_in m.sessions session)).objects (bound_select ns query sorts)))
+    (is ∙ sym (names_seen m.state (transaction_in m.sessions session)))
 
-pub decides_bound : {E : Type 0} (r : Result Decision E)
-    (c : Catalog) (stamp : ℕ) (query : written.Query) (sorts : List Sort) (names : List Named) (b : code.BoundSelect)
-    → names ≡ names_from 1 (state_of c).objects → IsBound b (bound_select names query sorts)
-    → IfOk r (λ d. (at : ℕ) (meant : BoundSelect) → IsBound b meant
-    → Decides (stored_of c) at d (select_bound (state_of c).objects meant))
-    → IfOk r (λ d. Decides (stored_of c) stamp d (select_rows (stamped (state_of c) stamp) query sorts))
-decides_bound (Ok d) c stamp query sorts names b named is h =
-    subst (λ (o : Outcome). Decides (stored_of c) stamp d o) (select_is (state_of c) stamp query sorts names named)
-    (h stamp (bound_select names query sorts) is)
-decides_bound (Err e) c stamp query sorts names b named is h = tt
+pub comes_bound : {E : Type 0} (sight : Sight) (r : Result Decision E) (query : written.Query) (sorts : List Sort) (names : List Named)
+    (b : code.BoundSelect) → names ≡ names_from 1 (machine_in sight).state.objects → IsBound b (bound_select names query sorts)
+    → IfOk r (λ d. (meant : BoundSelect) → IsBound b meant
+    → Comes sight d (alone (machine_in sight).sessions (select_bound (objects_seen sight) meant)))
+    → IfOk r (λ d. Comes sight d (selects (machine_in sight) sight.session query sorts))
+comes_bound sight (Ok d) query sorts names b named is h =
+    subst (λ (o : sessions.Outcome). Comes sight d o) (select_is (machine_in sight) sight.session query sorts names named)
+    (h (bound_select names query sorts) is)
+comes_bound sight (Err e) query sorts names b named is h = tt
 
 pub is_failing : (objects : List Object) (b : BoundSelect) (failing : Failing) → first_failing b.findings ≡ Some failing
     → select_bound objects b ≡ Refuses (refusal_of failing)
@@ -96,3 +109,16 @@ pub is_undefined : (objects : List Object) (b : BoundSelect) → first_failing b
     → select_bound objects b ≡ Refuses NumberOutOfRange
 is_undefined objects b none narrow is =
     listed_or_not objects b none narrow ∙ shown_as b None (eval b.query (instance_of objects b.sources)) is
+
+-- by the tables that are read
+pub rows_listed : {E : Type 0} (r : Result (Option (Vec Row Global)) E) (b : code.BoundSelect) (objects : List Object) (seen : List TableSeen)
+    (ids : List ℕ) → ids ≡ b.sources.items → AllShow seen (map (λ id. table_at objects id) ids)
+    → IfOk r (λ found. (meant : List (Option Table)) → AllShow seen meant → rows_found found
+    ≡ option_map (listed (keys_of b.keys.items)) (eval (query_of b.query) (map table_bag meant)))
+    → IfOk r (λ found. rows_found found
+    ≡ option_map (listed (keys_of b.keys.items)) (eval (query_of b.query) (instance_of objects b.sources.items)))
+rows_listed (Ok found) b objects seen ids is shown h =
+    h (map (λ id. table_at objects id) ids) shown
+    ∙ ap (λ (i : Instance). option_map (listed (keys_of b.keys.items)) (eval (query_of b.query) i))
+    (bags_of objects ids ∙ ap (instance_of objects) is)
+rows_listed (Err e) b objects seen ids is shown h = tt

@@ -1,12 +1,10 @@
--- CREATE TABLE and DROP TABLE: their tests, and their outcomes.
+-- CREATE TABLE: its tests, and its outcome.
 --     refusal_by               the first test that fails, from each
 --     refusal_stamped          whatever the last stamp is
---     is_refused, is_created   the outcome
+--     create_is                the outcome of CREATE TABLE
 --     within_limits            what a table that passes all tests keeps
 --     creation_written         what is written for it
---     none_dropped, is_dropped     DROP TABLE
-use Rattle.std.proofs.Common.{◌≡◌, ℕ, ◌+◌, ◌-◌, ◌≤◌, List, [], ◌∷◌, ◌++◌, length, Option, Some, None, option_map}
-use Rattle.std.proofs.Common.{is_some, Bool, true, false, cond, inl, inr, refl, ap, sym, ◌∙◌, arith}
+use Rattle.std.proofs.Common.{◌≡◌, ℕ, ◌+◌, ◌-◌, ◌≤◌, List, [], ◌∷◌, ◌++◌, length, Option, Some, None, option_map, is_some, Bool, true, false, cond, inl, inr, refl, ap, sym, ◌∙◌, arith}
 use Rattle.std.specs.Prelude.{nat_lt, not, ◌&&◌}
 use Rattle.std.specs.List.{list_any}
 use Rattle.std.proofs.lemmas.Bool.{cases_lt, lt-ltb}
@@ -14,16 +12,13 @@ use Rattle.wh_value.specs.Column.{Column}
 use Rattle.wh_value.specs.Limit.{bound}
 use Rattle.wh_value.specs.declared.limit.Limit.{Limit}
 use Rattle.wh_value.specs.declared.limit.Limit.TheVariants as limits
-use Rattle.wh_reply.specs.Reply.{Refusal, NameTaken, OverLimit, UnknownName, CreatedTable, DroppedTable}
-use Rattle.wh_machine.specs.State.{State, dropped, id_of, live_count}
-use Rattle.wh_machine.specs.Outcome.{Outcome, Refuses, MakesTable, DropsObject, commits, refused_if, refused_past}
-use Rattle.wh_machine.specs.Outcome.{first_of, unless}
-use Rattle.wh_machine.specs.Tables.{names_of, taken_name, is_long, one_if, replaced_id, is_name_taken, table_refusal}
-use Rattle.wh_machine.specs.Tables.{drops, create_table, drop_of, drop_table}
+use Rattle.wh_reply.specs.Reply.{Refusal, NameTaken, OverLimit, CreatedTable}
+use Rattle.wh_machine.specs.State.{State, dropped, id_of, live_count, stamped}
+use Rattle.wh_machine.specs.Outcome.{Outcome, MakesTable, commits, refused_if, refused_past, first_of, unless}
+use Rattle.wh_machine.specs.Tables.{names_of, taken_name, is_long, one_if, replaced_id, is_name_taken, table_refusal, drops, create_table}
 use Rattle.wh_machine.specs.Stored.{StoredObject}
 use Rattle.wh_machine.specs.Commit.{CreatesTable, Drops, changed}
 use Rattle.wh_machine.specs.Written.{written}
-use Rattle.wh_machine.specs.Step.{stamped}
 use Rattle.wh_engine.proofs.ListLemmas.{length_changed_at}
 use Rattle.wh_engine.specs.Tables.{made_behind}
 
@@ -51,12 +46,11 @@ more_objects live None = omega arith
 more_objects live (Some id) = omega arith
 
 -- the outcome of one that passes the tests
-abbrev creates : State → Bool → List ℕ → List Column → ℕ → Outcome
+abbrev pub creates : State → Bool → List ℕ → List Column → ℕ → Outcome
 creates s replace name columns retention =
     commits (CreatedTable name) (drops (replaced_id s replace name) ++ MakesTable name columns retention ∷ [])
 
-replaced_stamped : (s : State) (stamp : ℕ) (replace : Bool) (name : List ℕ)
-    → replaced_id (stamped s stamp) replace name ≡ replaced_id s replace name
+pub replaced_stamped : (s : State) (stamp : ℕ) (replace : Bool) (name : List ℕ) → replaced_id (stamped s stamp) replace name ≡ replaced_id s replace name
 replaced_stamped s stamp true name = refl
 replaced_stamped s stamp false name = refl
 
@@ -78,24 +72,15 @@ refusal_stamped s stamp replace name columns retention = λ i. first_of (
     ∷ refused_past limits.Retention retention
     ∷ [])
 
-pub is_refused : (s : State) (stamp : ℕ) (replace : Bool) (name : List ℕ) (columns : List Column)
-    (retention : ℕ) (why : Refusal)
-    → table_refusal s replace name columns retention ≡ Some why
-    → create_table (stamped s stamp) replace name columns retention ≡ Refuses why
+pub create_is : (s : State) (stamp : ℕ) (replace : Bool) (name : List ℕ) (columns : List Column) (retention : ℕ)
+    → create_table (stamped s stamp) replace name columns retention
+    ≡ unless (table_refusal s replace name columns retention) (creates s replace name columns retention)
 unfolding create_table
-is_refused s stamp replace name columns retention why is =
+create_is s stamp replace name columns retention =
     ap (λ (found : Option Refusal). unless found (creates (stamped s stamp) replace name columns retention))
-    (refusal_stamped s stamp replace name columns retention ∙ is)
-
-pub is_created : (s : State) (stamp : ℕ) (replace : Bool) (name : List ℕ) (columns : List Column) (retention : ℕ)
-    → table_refusal s replace name columns retention ≡ None
-    → create_table (stamped s stamp) replace name columns retention ≡ creates s replace name columns retention
-unfolding create_table
-is_created s stamp replace name columns retention none =
-    ap (λ (found : Option Refusal). unless found (creates (stamped s stamp) replace name columns retention))
-    (refusal_stamped s stamp replace name columns retention ∙ none)
-    ∙ ap (λ (found : Option ℕ). commits (CreatedTable name) (drops found ++ MakesTable name columns retention ∷ []))
-    (replaced_stamped s stamp replace name)
+    (refusal_stamped s stamp replace name columns retention)
+    ∙ ap (λ (found : Option ℕ). unless (table_refusal s replace name columns retention)
+    (commits (CreatedTable name) (drops found ++ MakesTable name columns retention ∷ []))) (replaced_stamped s stamp replace name)
 
 -- ---- a table that passes them
 
@@ -146,18 +131,4 @@ pub creation_written : (stamp : ℕ) (objects : List StoredObject) (replaced : O
     ≡ written stamp objects (drops replaced ++ MakesTable name columns retention ∷ [])
 creation_written stamp objects None name columns retention = refl
 creation_written stamp objects (Some id) name columns retention =
-    ap (λ (n : ℕ). Drops id
-    ∷ CreatesTable (record { id = n + 1; name = name; retention = retention; columns = columns }) ∷ [])
-    (sym (after_drop stamp id objects))
-
--- ---- DROP TABLE
-
-pub none_dropped : (s : State) (stamp : ℕ) (name : List ℕ) → id_of name s.objects ≡ None
-    → drop_table (stamped s stamp) name ≡ Refuses (UnknownName name)
-unfolding drop_table
-none_dropped s stamp name none = ap (drop_of name) none
-
-pub is_dropped : (s : State) (stamp : ℕ) (name : List ℕ) (id : ℕ) → id_of name s.objects ≡ Some id
-    → drop_table (stamped s stamp) name ≡ commits (DroppedTable name) (DropsObject id ∷ [])
-unfolding drop_table
-is_dropped s stamp name id some = ap (drop_of name) some
+    ap (λ (n : ℕ). Drops id ∷ CreatesTable (record { id = n + 1; name = name; retention = retention; columns = columns }) ∷ []) (sym (after_drop stamp id objects))

@@ -9,7 +9,7 @@ use Rattle.wh_effect.specs.Effect.{Effect}
 use Rattle.wh_machine.specs.Edits.{edits_of, numbers_gone, partitions_made}
 use Rattle.wh_machine.specs.Stored.{StoredTable, standing}
 use Rattle.wh_version.specs.declared.rewriting.Rewritten.{Rewritten}
-use Rattle.wh_engine.specs.declared.changes.Counts.{Counts}
+use Rattle.wh_engine.specs.declared.versions.Counts.{Counts}
 
 pub record IsCountOf (c : Counts) (e : Effect) : Type 0 where
   pub inserted : c.inserted ≡ length e.added

@@ -2,9 +2,11 @@
 --     Plan             a refusal, or a reply with the sessions that it leaves and what a commit changes
 --     plan_of          of a decision, over the open transactions and a stamp
 --     planned          of an outcome, where the changes say what its acts do
+--     answer_of, settlement_of     the reply of a decision, and what is carried out
+--     StagesInOpen     what is staged is staged in an open transaction
 --     Decides          a decision comes to that outcome
 --     commit_at        the commit of changes, where there are any
-use Rattle.std.specs.Prelude.{◌≡◌, ℕ, List, map, Option, Some, None, option_map, unwrap_or, Vec}
+use Rattle.std.specs.Prelude.{◌≡◌, ℕ, List, map, Option, Some, None, option_map, unwrap_or, is_some, IsTrue, Vec}
 use Rattle.std.specs.declared.alloc.Global.{Global}
 use Rattle.wh_reply.specs.Reply.{Refusal, Reply, Refused}
 use Rattle.wh_reply.specs.View.{refusal_view, reply_view}
@@ -56,6 +58,19 @@ plan_of stamp sessions (decisions.Refuse why) = Declines (refusal_view why)
 plan_of stamp sessions (decisions.Do reply settlement) =
     Goes (reply_view reply) (sessions_after stamp sessions settlement) (changes_in settlement)
 
+-- a refusal lets the stamp pass, and nothing else
+abbrev pub answer_of : Decision → Reply
+answer_of (decisions.Refuse why) = Refused (refusal_view why)
+answer_of (decisions.Do reply settlement) = reply_view reply
+
+abbrev pub settlement_of : Decision → Settlement
+settlement_of (decisions.Refuse why) = settlements.Answers
+settlement_of (decisions.Do reply settlement) = settlement
+
+abbrev pub StagesInOpen : Sessions → Settlement → Type 0
+StagesInOpen sessions (settlements.Stages session id next_row effect) = IsTrue (is_some (transaction_in sessions session))
+StagesInOpen sessions _ = Unit {0}
+
 -- over what a file says, at a stamp
 abbrev pub planned : Stored → ℕ → Outcome → Plan
 planned s stamp (Refuses why) = Declines why
@@ -65,6 +80,7 @@ planned s stamp (Does reply sessions acts) = Goes reply sessions (option_map (wr
 pub record Decides
     (s : Stored) (sessions : Sessions) (stamp : ℕ) (decision : Decision) (outcome : Outcome) : Type 0 where
   pub same : plan_of stamp sessions decision ≡ planned s stamp outcome
+  pub staged : StagesInOpen sessions (settlement_of decision)
 
 abbrev pub commit_at : ℕ → Option (List machine.Change) → Option machine.Commit
 commit_at stamp changes = option_map (λ cs. record { stamp = stamp; changes = cs }) changes

@@ -9,6 +9,7 @@ pub mod Leaves
 pub mod Built
 pub mod Tables
 pub mod Rows
+pub mod Sources
 pub mod Changes
 pub mod Names
 pub mod Objects

@@ -4,6 +4,9 @@ use wh_value::{Column, Text};
 /// A statement of a form that is carried out so far.
 #[derive(Debug, Drop)]
 pub(crate) enum Built<'a> {
+    Begin,
+    Commit,
+    Rollback,
     CreateTable(NewTable),
     DropTable(&'a Text),
     /// INSERT, UPDATE, DELETE or MERGE, as it is written.

@@ -1,5 +1,7 @@
 use crate::deciding::decide;
+use crate::decision::{Decision, Settlement};
 use crate::{Event, Halt, Warehouse};
+use std::alloc::AllocError;
 use std::thread::Threads;
 use wh_record::{Change, Commit};
 use wh_reply::{Refusal, Reply};
@@ -13,22 +15,26 @@ impl<D: Disk> Warehouse<D> {
     ghost use Rattle.wh_reply.specs.View.{reply_view};
     ghost use Rattle.wh_record.specs.View.{commit_of};
     ghost use Rattle.wh_journal.specs.Journal.{limit_of, failed_of};
-    ghost use Rattle.wh_catalog.specs.Catalog.{stored_of};
+    ghost use Rattle.wh_machine.specs.State.{stamped};
+    ghost use Rattle.wh_sessions.specs.Step.{outcome_of};
+    ghost use Rattle.wh_catalog.specs.Catalog.{stored_of, state_of};
+    ghost use Rattle.wh_txn.specs.View.{sessions_of};
     ghost use Rattle.wh_engine.specs.Event.{event_of};
-    ghost use Rattle.wh_engine.specs.Decision.{changes_of, commit_at};
+    ghost use Rattle.wh_engine.specs.Decision.{changes_of, commit_at, changes_in, sessions_after, machine_at, Decides, StagesInOpen};
     ghost use Rattle.wh_engine.specs.Warehouse.{made_in, led_to, state_with};
     ghost use Rattle.wh_engine.specs.Answers.{Answered, CarriesOut};
     ghost use Rattle.wh_engine.specs.Halts.{Halted};
     ghost use Rattle.wh_engine.specs.Leaves.{Leaves};
 
-    /// Carries out one event, and gives its reply. A halt leaves the state as it was; after a fault
-    /// of a write or a sync the file has to be opened again.
+    /// Carries out one event, and gives its reply. A halt leaves the state and the open transactions
+    /// as they were; after a fault of a write or a sync the file has to be opened again.
     pub fn carry_out(&mut self, _rt: &(impl Threads + Sync), event: &Event) -> Result<Reply, Halt>
         ensures answered { IfOk result (λ reply.
             Answered self.old self.new (event_of event.now) (reply_view reply)) }
         ensures halted { IfErr result (λ halt.
             Halted self.old self.new (made_in self.old (event_of event.now)) halt) }
-        ensures any_moment { Leaves self.old self.new (led_to self.old (event_of event.now)) }
+        ensures any_moment { Leaves self.old self.new
+            (led_to self.old (event_of event.now)).state }
         ensures limit { limit_of self.new.journal ≡ limit_of self.old.journal }
     {
         if let Some(faults) = self.journal.failed() {
@@ -38,21 +44,76 @@ impl<D: Disk> Warehouse<D> {
         if Limit::Stamp.bound() <= stamp {
             return Ok(Reply::Refused(Refusal::OverLimit(Limit::Stamp)));
         }
-        let decision = decide(self.alloc, &self.catalog, stamp, event)?;
-        let (reply, changes) = decision.into_parts();
-        self.settle(stamp, changes)?;
+        let decision = self.decide(stamp, event)?;
+        let (reply, settlement) = decision.into_parts();
+        self.settle(stamp, settlement)?;
         Ok(reply)
     }
 
+    // What an event comes to at a stamp.
+    fn decide(&self, stamp: u64, event: &Event) -> Result<Decision, AllocError>
+        ensures { IfOk result (λ decision. Decides (stored_of self.now.catalog)
+            (sessions_of self.now.sessions) stamp decision (outcome_of
+            (machine_at (stamped (state_of self.now.catalog) stamp) (sessions_of self.now.sessions))
+            (event_of event.now))) }
+    {
+        decide(self.alloc, &self.catalog, &self.sessions, stamp, event)
+    }
+
+    // Brings file, catalog and transactions to what was decided at a stamp. A transaction ends once
+    // its commit is in the file.
+    fn settle(&mut self, stamp: u64, settlement: Settlement) -> Result<(), Halt>
+        requires healthy { failed_of self.old.journal ≡ None }
+        requires later { (stored_of self.old.catalog).last ≤ stamp }
+        requires within { stamp < bound limits.Stamp }
+        requires staged { StagesInOpen (sessions_of self.old.sessions) settlement }
+        ensures answered { OnOk result (CarriesOut self.old self.new
+            (commit_at stamp (changes_in settlement))
+            (machine_at (state_with (stored_of self.old.catalog) stamp
+            (commit_at stamp (changes_in settlement)))
+            (sessions_after stamp (sessions_of self.old.sessions) settlement))) }
+        ensures halted { IfErr result (λ halt. Halted self.old self.new
+            (commit_at stamp (changes_in settlement)) halt) }
+        ensures any_moment { Leaves self.old self.new (state_with (stored_of self.old.catalog)
+            stamp (commit_at stamp (changes_in settlement))) }
+        ensures limit { limit_of self.new.journal ≡ limit_of self.old.journal }
+    {
+        match settlement {
+            Settlement::Answers => self.record(stamp, None),
+            Settlement::Commits(changes) => self.record(stamp, Some(changes)),
+            Settlement::Begins(session) => {
+                self.catalog.pass(stamp);
+                self.sessions.begin(session, stamp);
+                Ok(())
+            }
+            Settlement::Stages {
+                session,
+                id,
+                next_row,
+                effect,
+            } => {
+                self.sessions
+                    .stage(self.alloc, session, id, next_row, effect)?;
+                self.catalog.pass(stamp);
+                Ok(())
+            }
+            Settlement::Ends { session, changes } => {
+                self.record(stamp, changes)?;
+                self.sessions.rollback(session);
+                Ok(())
+            }
+        }
+    }
+
     // Adds a commit of these changes, or passes the stamp where there is none.
-    fn settle(&mut self, stamp: u64, changes: Option<Vec<Change>>) -> Result<(), Halt>
+    fn record(&mut self, stamp: u64, changes: Option<Vec<Change>>) -> Result<(), Halt>
         requires healthy { failed_of self.old.journal ≡ None }
         requires later { (stored_of self.old.catalog).last ≤ stamp }
         requires within { stamp < bound limits.Stamp }
         ensures answered { OnOk result (CarriesOut self.old self.new
             (commit_at stamp (option_map changes_of changes))
-            (state_with (stored_of self.old.catalog) stamp
-            (commit_at stamp (option_map changes_of changes)))) }
+            (machine_at (state_with (stored_of self.old.catalog) stamp
+            (commit_at stamp (option_map changes_of changes))) (sessions_of self.old.sessions))) }
         ensures halted { IfErr result (λ halt. Halted self.old self.new
             (commit_at stamp (option_map changes_of changes)) halt) }
         ensures any_moment { Leaves self.old self.new (state_with (stored_of self.old.catalog)
@@ -72,7 +133,8 @@ impl<D: Disk> Warehouse<D> {
     fn commit(&mut self, commit: Commit) -> Result<(), Halt>
         requires healthy { failed_of self.old.journal ≡ None }
         ensures answered { OnOk result (CarriesOut self.old self.new (Some (commit_of commit))
-            (state_with (stored_of self.old.catalog) commit.stamp (Some (commit_of commit)))) }
+            (machine_at (state_with (stored_of self.old.catalog) commit.stamp
+            (Some (commit_of commit))) (sessions_of self.old.sessions))) }
         ensures halted { IfErr result (λ halt.
             Halted self.old self.new (Some (commit_of commit)) halt) }
         ensures any_moment { Leaves self.old self.new

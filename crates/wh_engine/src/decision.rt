@@ -13,6 +13,23 @@ pub(crate) enum Decision {
     },
 }
 
+impl Decision {
+    ghost use Rattle.std.specs.Prelude.{◌≡◌};
+    ghost use Rattle.wh_reply.specs.View.{reply_view};
+    ghost use Rattle.wh_engine.specs.Decision.{answer_of, settlement_of};
+
+    // The reply, and what has to be done for it: of a refusal nothing.
+    pub(crate) fn into_parts(self) -> (Reply, Settlement)
+        ensures reply { reply_view result.0 ≡ answer_of self }
+        ensures settlement { result.1 ≡ settlement_of self }
+    {
+        match self {
+            Decision::Refuse(why) => (Reply::Refused(why), Settlement::Answers),
+            Decision::Do { reply, settlement } => (reply, settlement),
+        }
+    }
+}
+
 /// What becomes of the file and of the open transactions.
 #[derive(Debug, Drop)]
 pub(crate) enum Settlement {

@@ -1,5 +1,5 @@
 ghost use Rattle.std.specs.Prelude.{◌≡◌};
-ghost use Rattle.wh_machine.specs.Step.{reading_of};
+ghost use Rattle.wh_sessions.specs.Step.{reading_of};
 ghost use Rattle.wh_engine.specs.Event.{event_of};
 
 use wh_value::Bytes;

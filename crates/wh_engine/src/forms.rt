@@ -17,6 +17,9 @@ pub(crate) fn form(alloc: Global, statement: &Statement) -> Result<Option<Built<
         ≡ machine.form_of statement.now) }
 {
     match statement {
+        Statement::Begin => Ok(Some(Built::Begin)),
+        Statement::Commit => Ok(Some(Built::Commit)),
+        Statement::Rollback => Ok(Some(Built::Rollback)),
         Statement::Select(query, sorts) => Ok(Some(Built::Select(query, sorts.as_slice()))),
         Statement::Dml(dml) => Ok(Some(Built::ChangeRows(dml))),
         Statement::CreateTable(table) => Ok(Some(Built::CreateTable(new_table(alloc, table)?))),

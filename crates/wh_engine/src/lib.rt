@@ -1,5 +1,5 @@
-//! The warehouse: a file, and the machine's state that it stands for. One event is the
-//! machine's step.
+//! The warehouse: a file, the machine's state that it stands for, and the open transactions. One
+//! event is the machine's step.
 #![tactic(auto)]
 
 mod built;
@@ -7,6 +7,7 @@ mod carrying;
 mod changes;
 mod deciding;
 mod decision;
+mod effects;
 mod event;
 mod fault;
 mod forms;
@@ -17,8 +18,11 @@ mod objects;
 mod open;
 mod queries;
 mod replay;
+mod sight;
 mod sources;
 mod tables;
+mod transactions;
+mod versions;
 mod warehouse;
 
 pub use event::Event;

@@ -4,6 +4,7 @@ use std::alloc::Global;
 use std::thread::Threads;
 use wh_catalog::Catalog;
 use wh_journal::Journal;
+use wh_txn::Sessions;
 use wh_world::Disk;
 
 impl<D: Disk> Warehouse<D> {
@@ -17,6 +18,8 @@ impl<D: Disk> Warehouse<D> {
     ghost use Rattle.wh_journal.specs.Crash.{LeavesOnly, IsKeptOrShort};
     ghost use Rattle.wh_journal.specs.Journal.{end_of, limit_of, failed_of};
     ghost use Rattle.wh_catalog.specs.Catalog.{stored_of, state_of};
+    ghost use Rattle.wh_sessions.specs.Sessions.{no_sessions};
+    ghost use Rattle.wh_txn.specs.View.{sessions_of};
     ghost use Rattle.wh_engine.specs.Warehouse.{Filed, IsSettled};
 
     /// The warehouse of a file of at most `limit` bytes. A file of at most 8 bytes is written anew.
@@ -33,10 +36,11 @@ impl<D: Disk> Warehouse<D> {
         requires some { 8 ≤ limit }
         requires most { limit ≤ 2 ^ 40 }
 
-        // What the file says, and the state that is meant.
+        // What the file says, and the state that is meant; no transaction is open.
         ensures opened { IfOk result (λ w. (file : List ℕ) → D.bytes disk ≡ Some file →
             Keeps file (stored_of w.catalog)) }
         ensures means { IfOk result (λ w. Means (stored_of w.catalog) (state_of w.catalog)) }
+        ensures sessions { IfOk result (λ w. sessions_of w.sessions ≡ no_sessions) }
         ensures filed { IfOk result (λ w. Filed (D.bytes w.disk) w.journal w.catalog) }
         ensures told { IfOk result (λ w. is_some (D.bytes w.disk) ≡ is_some (D.bytes disk)) }
 
@@ -73,12 +77,16 @@ impl<D: Disk> Warehouse<D> {
     {
         let mut disk = disk;
         match read(alloc, &mut disk, limit) {
-            Ok((journal, catalog)) => Ok(Warehouse {
-                alloc,
-                disk,
-                journal,
-                catalog,
-            }),
+            Ok((journal, catalog)) => match Sessions::new(alloc) {
+                Ok(sessions) => Ok(Warehouse {
+                    alloc,
+                    disk,
+                    journal,
+                    catalog,
+                    sessions,
+                }),
+                Err(_) => Err((OpenFault::OutOfMemory, disk)),
+            },
             Err(fault) => Err((fault, disk)),
         }
     }

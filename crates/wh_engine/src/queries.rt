@@ -1,4 +1,4 @@
-ghost use Rattle.std.specs.Prelude.{◌≡◌, ℕ, option_map, IfOk};
+ghost use Rattle.std.specs.Prelude.{◌≡◌, List, Option, map, option_map, IfOk};
 ghost use Rattle.wh_reply.specs.View.{refusal_view};
 ghost use Rattle.wh_meaning.specs.Query.{eval};
 ghost use Rattle.wh_meaning.specs.Listing.{listed};
@@ -9,42 +9,45 @@ ghost use Rattle.wh_exec.specs.Evaluation.{Evaluates};
 ghost use Rattle.wh_expr_bind.specs.View.{failing_of};
 ghost use Rattle.wh_bind.specs.Binds.{IsBound};
 ghost use Rattle.wh_listing.specs.View.{keys_of};
-ghost use Rattle.wh_machine.specs.Step.{stamped};
 ghost use Rattle.wh_machine.specs.Queries as machine;
-ghost use Rattle.wh_catalog.specs.Catalog.{stored_of, state_of};
-ghost use Rattle.wh_engine.specs.Decision.{Decides};
+ghost use Rattle.wh_machine.specs.State.{Table};
+ghost use Rattle.wh_sessions.specs.Outcome.{alone};
+ghost use Rattle.wh_sessions.specs.Statements.{selects};
+ghost use Rattle.wh_txn.specs.View.{sessions_of};
 ghost use Rattle.wh_engine.specs.Rows.{rows_found};
+ghost use Rattle.wh_engine.specs.Sight.{machine_in, objects_seen, Comes};
+ghost use Rattle.wh_engine.specs.Sources.{AllShow};
 
-use crate::decision::Decision;
+use crate::decision::{Decision, Settlement};
 use crate::objects::named_objects;
-use crate::sources::sources;
+use crate::sight::Sight;
+use crate::sources::{rows_of, tables_seen};
 use std::alloc::{AllocError, Global};
 use wh_algebra::{Physical, Tuple};
 use wh_ast::{Query, Sort};
 use wh_bind::{BindFault, BoundSelect, bind_select};
-use wh_catalog::Catalog;
 use wh_exec::evaluate;
 use wh_expr_bind::Failing;
 use wh_listing::listed;
 use wh_reply::{Refusal, Reply};
 use wh_scalar::EvalFault;
+use wh_txn::TableSeen;
 use wh_value::{Limit, Row, Text};
 
-// What SELECT comes to. It makes no commit.
+// What SELECT comes to, over what the session sees. It makes no commit.
 pub(crate) fn select(
     alloc: Global,
-    catalog: &Catalog,
-    stamp: u64,
+    sight: &Sight<'_>,
     query: &Query,
     sorts: &[Sort],
 ) -> Result<Decision, AllocError>
-    ensures { IfOk result (λ decision. Decides (stored_of catalog.now) stamp decision
-        (machine.select_rows (stamped (state_of catalog.now) stamp) query.now sorts.now)) }
+    ensures { IfOk result (λ decision. Comes sight.now decision
+        (selects (machine_in sight.now) sight.now.session query.now sorts.now)) }
 {
-    let names = named_objects(alloc, catalog)?;
+    let names = named_objects(alloc, sight.catalog)?;
     match bind_select(alloc, &names, query, sorts) {
         Ok(bound) => {
-            let decision = select_bound(alloc, catalog, &bound);
+            let decision = select_bound(alloc, sight, &bound);
             drop(bound);
             decision
         }
@@ -53,40 +56,57 @@ pub(crate) fn select(
     }
 }
 
-// What a SELECT comes to that nothing is found wrong with, at any stamp.
+// What a SELECT comes to that nothing is found wrong with.
 fn select_bound(
     alloc: Global,
-    catalog: &Catalog,
+    sight: &Sight<'_>,
     bound: &BoundSelect,
 ) -> Result<Decision, AllocError>
-    ensures { IfOk result (λ decision. (stamp : ℕ) (meant : naming.BoundSelect)
-        → IsBound bound.now meant → Decides (stored_of catalog.now) stamp decision
-        (machine.select_bound (state_of catalog.now).objects meant)) }
+    ensures { IfOk result (λ decision. (meant : naming.BoundSelect)
+        → IsBound bound.now meant → Comes sight.now decision
+        (alone (sessions_of sight.now.sessions.now)
+        (machine.select_bound (objects_seen sight.now) meant))) }
 {
     if bound.is_wide {
         return Ok(Decision::Refuse(Refusal::OverLimit(Limit::Output)));
     }
-    let Some(rows) = listed_rows(alloc, catalog, bound)? else {
+    let Some(rows) = listed_rows(alloc, sight, bound)? else {
         return Ok(Decision::Refuse(Refusal::NumberOutOfRange));
     };
     let names = copies(alloc, &bound.names)?;
     Ok(Decision::Do {
         reply: Reply::Listing { names, rows },
-        changes: None,
+        settlement: Settlement::Answers,
     })
 }
 
 // Its rows in order, or None where they are undefined.
 fn listed_rows(
     alloc: Global,
-    catalog: &Catalog,
+    sight: &Sight<'_>,
     bound: &BoundSelect,
 ) -> Result<Option<Vec<Row>>, AllocError>
     ensures { IfOk result (λ found. rows_found found
         ≡ option_map (listed (keys_of bound.now.keys.items)) (eval (query_of bound.now.query)
-        (machine.instance_of (state_of catalog.now).objects bound.now.sources.items))) }
+        (machine.instance_of (objects_seen sight.now) bound.now.sources.items))) }
 {
-    let sources = sources(alloc, catalog, &bound.sources)?;
+    let tables = tables_seen(alloc, sight, &bound.sources)?;
+    let rows = rows_over(alloc, bound, &tables);
+    drop(tables);
+    rows
+}
+
+// Its rows over these tables.
+fn rows_over(
+    alloc: Global,
+    bound: &BoundSelect,
+    tables: &[TableSeen<'_>],
+) -> Result<Option<Vec<Row>>, AllocError>
+    ensures { IfOk result (λ found. (meant : List (Option Table)) → AllShow tables.now meant
+        → rows_found found ≡ option_map (listed (keys_of bound.now.keys.items))
+        (eval (query_of bound.now.query) (map machine.table_bag meant))) }
+{
+    let sources = rows_of(alloc, tables)?;
     match planned_rows(alloc, &bound.query, &sources) {
         Ok(tuples) => Ok(Some(listed(alloc, &bound.keys, tuples)?)),
         Err(EvalFault::NumberOutOfRange) => Ok(None),

@@ -1,21 +1,28 @@
-ghost use Rattle.std.specs.Prelude.{◌≡◌, ◌≤◌, cond, option_map, is_some, IfOk};
+ghost use Rattle.std.specs.Prelude.{◌≡◌, ◌≤◌, ◌∷◌, [], cond, option_map, is_some, IfOk};
 ghost use Rattle.wh_value.specs.Limit.{bound};
 ghost use Rattle.wh_value.specs.declared.limit.Limit.TheVariants as limits;
-ghost use Rattle.wh_reply.specs.Reply.{NameTaken};
+ghost use Rattle.wh_reply.specs.Reply.{NameTaken, DdlInTransaction, Locked};
 ghost use Rattle.wh_reply.specs.View.{refusal_view};
+ghost use Rattle.wh_machine.specs.State.{id_of};
 ghost use Rattle.wh_machine.specs.Commit.{CreatesTable};
-ghost use Rattle.wh_machine.specs.Step.{stamped};
+ghost use Rattle.wh_machine.specs.Outcome.{first_of};
 ghost use Rattle.wh_machine.specs.Tables as machine;
+ghost use Rattle.wh_sessions.specs.Sessions.{number_in};
+ghost use Rattle.wh_sessions.specs.Statements.{defines, holder_of};
 ghost use Rattle.wh_record.specs.View.{change_of};
-ghost use Rattle.wh_catalog.specs.Catalog.{stored_of, state_of};
+ghost use Rattle.wh_catalog.specs.Catalog.{state_of};
+ghost use Rattle.wh_txn.specs.View.{sessions_of};
 ghost use Rattle.wh_engine.specs.Built.{columns_of};
-ghost use Rattle.wh_engine.specs.Decision.{Decides, changes_of};
+ghost use Rattle.wh_engine.specs.Decision.{changes_of};
+ghost use Rattle.wh_engine.specs.Sight.{machine_in, Comes};
 ghost use Rattle.wh_engine.specs.Tables.{made_behind};
 
 use crate::built::NewTable;
-use crate::decision::Decision;
+use crate::decision::{Decision, Settlement};
 use crate::limits::{refused_if, refused_past};
 use crate::names::{has_long_name, taken_name};
+use crate::sight::Sight;
+use crate::transactions::{refused_as_held, refused_in_transaction};
 use std::alloc::{AllocError, Global};
 use wh_catalog::Catalog;
 use wh_record::{Change, TableChange};
@@ -26,25 +33,51 @@ use wh_value::{Limit, Text};
 // in the same commit.
 pub(crate) fn create_table(
     alloc: Global,
-    catalog: &Catalog,
-    stamp: u64,
+    sight: &Sight<'_>,
     table: NewTable,
 ) -> Result<Decision, AllocError>
-    ensures { IfOk result (λ decision. Decides (stored_of catalog.now) stamp decision
-        (machine.create_table (stamped (state_of catalog.now) stamp)
-        table.replace table.name (columns_of table) table.retention)) }
+    ensures { IfOk result (λ decision. Comes sight.now decision
+        (defines (machine_in sight.now) sight.now.session
+        (machine.replaced_id (machine_in sight.now).state table.replace table.name)
+        (machine.create_table (machine_in sight.now).state
+        table.replace table.name (columns_of table) table.retention))) }
 {
-    let replaced = replaced_id(catalog, &table);
-    if let Some(why) = table_refusal(alloc, catalog, &table, replaced.is_some())? {
+    let replaced = replaced_id(sight.catalog, &table);
+    if let Some(why) = creation_refusal(alloc, sight, &table, replaced)? {
         return Ok(Decision::Refuse(why));
     }
-    let id = catalog.object_count() as u32 + 1;
+    let id = sight.catalog.object_count() as u32 + 1;
     let reply = Reply::CreatedTable(table.name.copy(alloc)?);
     let changes = creation(alloc, replaced, id, table)?;
     Ok(Decision::Do {
         reply,
-        changes: Some(changes),
+        settlement: Settlement::Commits(changes),
     })
+}
+
+// The first test that the statement fails: that of a transaction first, and that of holds last.
+fn creation_refusal(
+    alloc: Global,
+    sight: &Sight<'_>,
+    table: &NewTable,
+    replaced: Option<u32>,
+) -> Result<Option<Refusal>, AllocError>
+    requires { replaced ≡ machine.replaced_id (state_of sight.now.catalog.now)
+        table.now.replace table.now.name }
+    ensures { IfOk result (λ found. option_map refusal_view found ≡ first_of (
+        option_map DdlInTransaction
+        (number_in (sessions_of sight.now.sessions.now) sight.now.session)
+        ∷ machine.table_refusal (state_of sight.now.catalog.now) table.now.replace table.now.name
+        (columns_of table.now) table.now.retention
+        ∷ option_map Locked (holder_of (sessions_of sight.now.sessions.now) replaced)
+        ∷ [])) }
+{
+    let wrong = table_refusal(alloc, sight.catalog, table, replaced.is_some())?;
+    Ok(
+        refused_in_transaction(sight)
+            .or(wrong)
+            .or(refused_as_held(sight, replaced)),
+    )
 }
 
 // The live object whose place the table takes.
@@ -164,19 +197,26 @@ fn taken_column(alloc: Global, table: &NewTable) -> Result<Option<Refusal>, Allo
 // What DROP TABLE comes to.
 pub(crate) fn drop_table(
     alloc: Global,
-    catalog: &Catalog,
-    stamp: u64,
+    sight: &Sight<'_>,
     name: &Text,
 ) -> Result<Decision, AllocError>
-    ensures { IfOk result (λ decision. Decides (stored_of catalog.now) stamp decision
-        (machine.drop_table (stamped (state_of catalog.now) stamp) name.now)) }
+    ensures { IfOk result (λ decision. Comes sight.now decision
+        (defines (machine_in sight.now) sight.now.session
+        (id_of name.now (machine_in sight.now).state.objects)
+        (machine.drop_table (machine_in sight.now).state name.now))) }
 {
-    let Some(id) = catalog.find(name.as_bytes()) else {
+    if let Some(why) = refused_in_transaction(sight) {
+        return Ok(Decision::Refuse(why));
+    }
+    let Some(id) = sight.catalog.find(name.as_bytes()) else {
         return Ok(Decision::Refuse(Refusal::UnknownName(name.copy(alloc)?)));
     };
+    if let Some(why) = refused_as_held(sight, Some(id)) {
+        return Ok(Decision::Refuse(why));
+    }
     let reply = Reply::DroppedTable(name.copy(alloc)?);
     Ok(Decision::Do {
         reply,
-        changes: Some(vec![in alloc; Change::Drops(id)]?),
+        settlement: Settlement::Commits(vec![in alloc; Change::Drops(id)]?),
     })
 }

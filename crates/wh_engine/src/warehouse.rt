@@ -4,15 +4,17 @@ ghost use Rattle.wh_journal.specs.Journal.{end_of};
 use std::alloc::Global;
 use wh_catalog::Catalog;
 use wh_journal::Journal;
+use wh_txn::Sessions;
 use wh_world::Disk;
 
-/// A file, and the state that it stands for.
+/// A file, the state that it stands for, and the open transactions.
 #[derive(Drop)]
 pub struct Warehouse<D: Disk> {
     pub(crate) alloc: Global,
     pub(crate) disk: D,
     pub(crate) journal: Journal,
     pub(crate) catalog: Catalog,
+    pub(crate) sessions: Sessions,
     ghost reach: { end_of journal ≤ D.size disk },
 }
 

@@ -8,32 +8,32 @@ use Rattle.wh_dml_bind.specs.Binds.{Binds}
 use Rattle.wh_reply.specs.View.{refusal_view}
 use Rattle.wh_machine.specs.Queries.{names_from, refusal_of}
 use Rattle.wh_catalog.specs.Catalog.{stored_of, state_of}
-use Rattle.wh_engine.specs.declared.decision.Decision.TheVariants.{Refuse}
-use Rattle.wh_engine.specs.Decision.{Declines}
+use Rattle.wh_txn.specs.View.{sessions_of}
+use Rattle.wh_engine.specs.Sight.{machine_in, objects_seen}
 use Rattle.wh_engine.proofs.OutcomeLemmas.{declines}
-use Rattle.wh_engine.proofs.ChangeLemmas.{change_is, is_failing, decides_change}
+use Rattle.wh_engine.proofs.ChangeLemmas.{change_is, is_failing, comes_change}
 use Rattle.wh_engine.proofs.changes.change_rows.Goals as goal
 
 pub returns-in-Ok : goal.returns-in-Ok
 returns-in-Ok c =
+    let sight = c.args.sight.now in
     let names : List Named = map named_of c.deref.result.now in
-    let named : names ≡ names_from 1 (state_of c.args.catalog.now).objects =
-    ap (map named_of) c.deref.ensures.value ∙ c.in_ok-names.ensures in
-    decides_change c.change_bound-decision.result c.args.catalog.now c.args.stamp c.args.statement.now
-    names c.in-Ok.bound named
+    let named : names ≡ names_from 1 (state_of sight.catalog.now).objects = ap (map named_of) c.deref.ensures.value ∙ c.in_ok-names.ensures in
+    comes_change sight c.change_bound-decision.result c.args.statement.now names c.in-Ok.bound named
     c.in-Ok.ensures c.change_bound-decision.ensures
 
 pub returns-in-Err-Failing : goal.returns-in-Err-Failing
 returns-in-Err-Failing c =
-    let s = state_of c.args.catalog.now in
+    let sight = c.args.sight.now in
+    let m = machine_in sight in
     let names : List Named = map named_of c.deref.result.now in
-    let named : names ≡ names_from 1 s.objects = ap (map named_of) c.deref.ensures.value ∙ c.in_ok-names.ensures in
+    let named : names ≡ names_from 1 (state_of sight.catalog.now).objects = ap (map named_of) c.deref.ensures.value ∙ c.in_ok-names.ensures in
     let meant = bound_change names c.args.statement.now in
     let found : first_failing meant.findings ≡ Some (failing_of c.in-Err-Failing.failing) =
     subst (λ (f : BindFault). Binds (Err f) meant) c.in-Err-Failing.field-0-is c.in-Err-Failing.ensures in
     let why : refusal_view c.refusal.result ≡ refusal_of (failing_of c.in-Err-Failing.failing) =
     c.refusal.ensures ∙ ap (λ f. refusal_of (failing_of f)) c.in-Err-Failing.failing-is in
-    declines (stored_of c.args.catalog.now) c.args.stamp (Refuse c.refusal.result) _
-    (refusal_of (failing_of c.in-Err-Failing.failing)) (ap Declines why)
-    (sym (change_is s c.args.stamp c.args.statement.now names named)
-    ∙ is_failing s.objects meant (failing_of c.in-Err-Failing.failing) found)
+    declines (stored_of sight.catalog.now) (sessions_of sight.sessions.now) sight.stamp c.refusal.result _
+    (refusal_of (failing_of c.in-Err-Failing.failing)) why
+    (sym (change_is m sight.session c.args.statement.now names named)
+    ∙ is_failing m sight.session (objects_seen sight) meant (failing_of c.in-Err-Failing.failing) found)

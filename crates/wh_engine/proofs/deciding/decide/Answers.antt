@@ -1,23 +1,29 @@
-use Rattle.std.proofs.Common.{ℕ, List, refl, ap, sym, ◌∙◌}
+use Rattle.std.proofs.Common.{ℕ, List, refl, ap, sym, subst, ◌∙◌}
+use Rattle.std.specs.Result.{IfOk}
 use Rattle.wh_reply.specs.Reply.{Idle}
-use Rattle.wh_machine.specs.Step.{stamped, commanded, outcome_of}
+use Rattle.wh_machine.specs.State.{stamped}
+use Rattle.wh_sessions.specs.Outcome.{Outcome}
+use Rattle.wh_sessions.specs.Step.{commanded, outcome_of}
 use Rattle.wh_stmt_parse.specs.Request.{request_of}
 use Rattle.wh_catalog.specs.Catalog.{stored_of, state_of}
+use Rattle.wh_txn.specs.View.{sessions_of}
 use Rattle.wh_engine.specs.declared.event.Event.{Event}
 use Rattle.wh_engine.specs.Event.{event_of}
-use Rattle.wh_engine.proofs.OutcomeLemmas.{replies}
-use Rattle.wh_engine.proofs.StepLemmas.{decides_as}
+use Rattle.wh_engine.specs.Decision.{Decides, machine_at}
+use Rattle.wh_engine.proofs.OutcomeLemmas.{answers}
 use Rattle.wh_engine.proofs.deciding.decide.Goals as goal
 
 pub returns-in-Command : goal.returns-in-Command
 returns-in-Command c =
-    let s = stamped (state_of c.args.catalog.now) c.args.stamp in
-    decides_as (stored_of c.args.catalog.now) c.args.stamp c.decide_text.result _ _
-    (ap (λ (t : List ℕ). commanded s c.in-Command.session (request_of t)) c.as_slice.ensures
-    ∙ ap (λ (e : Event). outcome_of s (event_of e)) (sym c.in-Command.is)) c.decide_text.ensures
+    let catalog = c.args.catalog.now in
+    let sessions = sessions_of c.args.sessions.now in
+    let m = machine_at (stamped (state_of catalog) c.args.stamp) sessions in
+    subst (λ (o : Outcome). IfOk c.decide_text.result (λ d. Decides (stored_of catalog) sessions c.args.stamp d o))
+    (ap (λ (t : List ℕ). commanded m c.in-Command.session (request_of t)) c.as_slice.ensures
+    ∙ ap (λ (e : Event). outcome_of m (event_of e)) (sym c.in-Command.is)) c.decide_text.ensures
 
 pub returns-in-Tick : goal.returns-in-Tick
 returns-in-Tick c =
-    let s = stamped (state_of c.args.catalog.now) c.args.stamp in
-    replies (stored_of c.args.catalog.now) c.args.stamp _ _ Idle refl
-    (ap (λ (e : Event). outcome_of s (event_of e)) c.in-Tick.is)
+    let sessions = sessions_of c.args.sessions.now in
+    let m = machine_at (stamped (state_of c.args.catalog.now) c.args.stamp) sessions in
+    answers (stored_of c.args.catalog.now) sessions c.args.stamp _ _ Idle refl (ap (λ (e : Event). outcome_of m (event_of e)) c.in-Tick.is)

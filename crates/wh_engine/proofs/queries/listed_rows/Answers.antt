@@ -1,38 +1,8 @@
-use Rattle.std.proofs.Common.{◌≡◌, Some, None, Err, option_map, ap, sym, subst, ◌∙◌}
-use Rattle.wh_meaning.specs.Bag.{bag_of}
-use Rattle.wh_meaning.specs.Query.{eval}
-use Rattle.wh_meaning.specs.Listing.{listed}
-use Rattle.wh_scalar.specs.declared.fault.EvalFault.{EvalFault}
-use Rattle.wh_algebra.specs.View.{query_of}
-use Rattle.wh_algebra.specs.Tuple.{rows_in}
-use Rattle.wh_listing.specs.View.{keys_of}
-use Rattle.wh_exec.specs.Evaluation as evaluation
-use Rattle.wh_machine.specs.Queries.{instance_of}
-use Rattle.wh_catalog.specs.Catalog.{state_of}
+use Rattle.wh_engine.specs.Sight.{objects_seen}
+use Rattle.wh_engine.proofs.QueryLemmas.{rows_listed}
 use Rattle.wh_engine.proofs.queries.listed_rows.Goals as goal
 
-pub returns-in-Ok : goal.returns-in-Ok
-returns-in-Ok c =
-    let b = c.args.bound.now in
-    let objects = (state_of c.args.catalog.now).objects in
-    let sources : evaluation.instance_of c.deref-2.result.now ≡ instance_of objects b.sources.items =
-    ap evaluation.instance_of c.deref-2.ensures.value ∙ c.in_ok-sources.ensures
-    ∙ ap (instance_of objects) c.deref.ensures.value in
-    let found : eval (query_of b.query) (evaluation.instance_of c.deref-2.result.now)
-    ≡ Some (bag_of (rows_in c.in-Ok.tuples.items)) = c.in-Ok.ensures in
-    ap Some (c.in_ok-listed-in-Ok.ensures
-    ∙ ap (λ keys. listed (keys_of keys) (bag_of (rows_in c.in-Ok.tuples.items))) c.deref-in-Ok.ensures.value)
-    ∙ ap (option_map (listed (keys_of b.keys.items))) (sym found ∙ ap (eval (query_of b.query)) sources)
-
-pub returns-in-Err-NumberOutOfRange : goal.returns-in-Err-NumberOutOfRange
-returns-in-Err-NumberOutOfRange c =
-    let b = c.args.bound.now in
-    let objects = (state_of c.args.catalog.now).objects in
-    let sources : evaluation.instance_of c.deref-2.result.now ≡ instance_of objects b.sources.items =
-    ap evaluation.instance_of c.deref-2.ensures.value ∙ c.in_ok-sources.ensures
-    ∙ ap (instance_of objects) c.deref.ensures.value in
-    let none : eval (query_of b.query) (evaluation.instance_of c.deref-2.result.now) ≡ None =
-    subst (λ (f : EvalFault). evaluation.Evaluates (Err f)
-    (eval (query_of b.query) (evaluation.instance_of c.deref-2.result.now)))
-    c.in-Err-NumberOutOfRange.field-0-is c.in-Err-NumberOutOfRange.ensures in
-    ap (option_map (listed (keys_of b.keys.items))) (sym none ∙ ap (eval (query_of b.query)) sources)
+pub returns : goal.returns
+returns c =
+    rows_listed c.rows_over-rows.result c.args.bound.now (objects_seen c.args.sight.now) c.deref-2.result.now c.deref.result.now
+    c.deref.ensures.value (rw c.deref-2.ensures.value c.in_ok-tables.ensures) c.rows_over-rows.ensures

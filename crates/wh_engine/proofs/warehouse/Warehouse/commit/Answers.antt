@@ -1,6 +1,9 @@
 use Rattle.std.proofs.Common.{Some, Err, refl, ap, sym, subst, ◌∙◌, arith}
 use Rattle.wh_record.specs.View.{commit_of}
 use Rattle.wh_journal.specs.Journal.{IsSame, end_of, limit_of, failed_of, need_of}
+use Rattle.wh_machine.specs.State.{State}
+use Rattle.wh_txn.specs.View.{sessions_of}
+use Rattle.wh_engine.specs.Decision.{machine_at}
 use Rattle.wh_engine.specs.Warehouse.{IsUntouched}
 use Rattle.wh_engine.specs.Halts.{Halted}
 use Rattle.wh_engine.proofs.FileLemmas.{Appends, filed_append, lists_same}
@@ -21,19 +24,17 @@ returns-in_err-framed-clause-any_moment g c = leaves_still g.met.D.Disk.only_now
 
 pub returns-in_err-reserve-clause-halted : goal.returns-in_err-reserve-clause-halted
 returns-in_err-reserve-clause-halted g c =
-    starved c.from_residual-in_err-reserve.result c.args.self.now _ _
-    c.from_residual-in_err-reserve.ensures.1 c.requires.healthy
-    (record { disk = refl; journal = c.reserve.ensures.same; stored = refl }) refl
+    starved c.from_residual-in_err-reserve.result c.args.self.now _ _ c.from_residual-in_err-reserve.ensures.1 c.requires.healthy
+    (record { disk = refl; journal = c.reserve.ensures.same; stored = refl; sessions = refl }) refl
 
 pub returns-in_err-reserve-clause-any_moment : goal.returns-in_err-reserve-clause-any_moment
 returns-in_err-reserve-clause-any_moment g c = leaves_still g.met.D.Disk.only_now c.args.self.now _ _ refl
 
 pub returns-in_err-undo-clause-halted : goal.returns-in_err-undo-clause-halted
 returns-in_err-undo-clause-halted g c =
-    starved c.from_residual-in_err-undo.result c.args.self.now _ _
-    c.from_residual-in_err-undo.ensures.1 c.requires.healthy
-    (record { disk = refl; journal = c.reserve.ensures.same; stored = c.in_err-undo.ensures.same })
-    c.in_err-undo.ensures.same_state
+    starved c.from_residual-in_err-undo.result c.args.self.now _ _ c.from_residual-in_err-undo.ensures.1 c.requires.healthy
+    (record { disk = refl; journal = c.reserve.ensures.same; stored = c.in_err-undo.ensures.same; sessions = refl })
+    (ap (λ (s : State). machine_at s (sessions_of c.args.self.now.sessions)) c.in_err-undo.ensures.same_state)
 
 pub returns-in_err-undo-clause-any_moment : goal.returns-in_err-undo-clause-any_moment
 returns-in_err-undo-clause-any_moment g c = leaves_still g.met.D.Disk.only_now c.args.self.now _ _ refl
@@ -59,7 +60,8 @@ returns-in-Ok-clause-answered g c =
     λ payloads file told is lists. c.in-Ok.ensures.appended payloads file told is
     (lists_same payloads old.journal c.reserve.new.self same lists) in
     record {
-      stepped = state_reached old.catalog c.stage.new.self commit staged.applied staged.last;
+      stepped = ap (λ (s : State). machine_at s (sessions_of old.sessions))
+          (state_reached old.catalog c.stage.new.self commit staged.applied staged.last);
       stored = staged.applied;
       filed = filed_append (bytes old.disk) (bytes c.append.new.disk) old.journal c.append.new.self old.catalog
           c.stage.new.self commit c.in-Ok.ensures.told
@@ -109,8 +111,6 @@ returns-clause-halted g c =
     subst (Halted old _ (Some commit)) (sym c.from.ensures)
     (append_halts c.append.result fault old _ j commit payload c.in-Err.is calls fails
     (λ other. not_by_disk (IsUntouched old _) fault other
-    (λ len need is. let u = says.nothing_written len need (c.in-Err.is ∙ ap Err is) in
-    untouched u.0 (subst (IsSame old.journal) (sym u.1) same) stored)
-    (λ faults is. let u = says.untouched faults (c.in-Err.is ∙ ap Err is) in
-    untouched u.0 (subst (IsSame old.journal) (sym u.1) same) stored))
-    (c.undo.ensures.state old.catalog undoes) says.later)
+    (λ len need is. let u = says.nothing_written len need (c.in-Err.is ∙ ap Err is) in untouched u.0 (subst (IsSame old.journal) (sym u.1) same) stored refl)
+    (λ faults is. let u = says.untouched faults (c.in-Err.is ∙ ap Err is) in untouched u.0 (subst (IsSame old.journal) (sym u.1) same) stored refl))
+    (ap (λ (s : State). machine_at s (sessions_of old.sessions)) (c.undo.ensures.state old.catalog undoes)) says.later)

@@ -1,29 +1,44 @@
-use Rattle.std.proofs.Common.{◌≡◌, None, option_map, refl}
-use Rattle.wh_engine.specs.Decision.{changes_of, commit_at}
+use Rattle.std.proofs.Common.{◌≡◌, Option, None, refl, sym, ap, ◌∙◌}
+use Rattle.wh_dml.specs.View.{effect_of}
+use Rattle.wh_sessions.specs.Transaction as transactions
+use Rattle.wh_sessions.specs.Transaction.{Transaction}
+use Rattle.wh_sessions.specs.Sessions.{transaction_in, with_transaction}
+use Rattle.wh_txn.specs.View.{sessions_of}
+use Rattle.wh_engine.specs.Decision.{commit_at, changes_in, sessions_after, transaction_or_new, machine_at}
 use Rattle.wh_engine.proofs.StopLemmas.{leaves_still}
 use Rattle.wh_engine.proofs.CarryLemmas.{carries_nothing, state_passed}
+use Rattle.wh_engine.proofs.TransactionLemmas.{is_there}
 use Rattle.wh_engine.proofs.warehouse.Warehouse.settle.Goals as goal
 
--- a stamp that passes doesn't touch the disk
-pub returns-in-None-clause-answered : goal.returns-in-None-clause-answered
-returns-in-None-clause-answered g c =
+pub returns-in-Begins-clause-answered : goal.returns-in-Begins-clause-answered
+returns-in-Begins-clause-answered g c =
     let old = c.args.self.now in
-    let none : commit_at c.args.stamp (option_map changes_of c.args.changes) ≡ None = rw c.in-None.is refl in
+    let none : commit_at c.args.stamp (changes_in c.args.settlement) ≡ None = rw c.in-Begins.is refl in
+    let sessions = c.begin.ensures ∙ ap (sessions_after c.args.stamp (sessions_of old.sessions)) (sym c.in-Begins.is) in
     carries_nothing old _ _ _ none refl refl c.pass.ensures.stored
-    (state_passed old.catalog c.pass.new.self c.args.stamp _ none c.pass.ensures.state)
+    (λ i. machine_at (state_passed old.catalog c.pass.new.self c.args.stamp _ none c.pass.ensures.state i) (sessions i)) c.requires.healthy
+
+pub returns-in-Begins-clause-any_moment : goal.returns-in-Begins-clause-any_moment
+returns-in-Begins-clause-any_moment g c = leaves_still g.met.D.Disk.only_now c.args.self.now _ _ refl
+
+pub returns-in_err-stage-in-Stages-clause-any_moment : goal.returns-in_err-stage-in-Stages-clause-any_moment
+returns-in_err-stage-in-Stages-clause-any_moment g c = leaves_still g.met.D.Disk.only_now c.args.self.now _ _ refl
+
+pub returns-in_ok-stage-in-Stages-clause-answered : goal.returns-in_ok-stage-in-Stages-clause-answered
+returns-in_ok-stage-in-Stages-clause-answered g c =
+    let old = c.args.self.now in
+    let before = sessions_of old.sessions in
+    let staged = c.in-Stages in
+    let none : commit_at c.args.stamp (changes_in c.args.settlement) ≡ None = rw staged.is refl in
+    let t = is_there (transaction_in before staged.session) (rw staged.is at c.requires.staged) in
+    let sessions =
+    c.in_ok-stage-in-Stages.ensures.ok t.0 t.1
+    ∙ ap (λ (found : Option Transaction). with_transaction before staged.session
+    (transactions.staged (transaction_or_new found c.args.stamp) staged.id staged.next_row (effect_of staged.effect))) (sym t.1)
+    ∙ ap (sessions_after c.args.stamp before) (sym staged.is) in
+    carries_nothing old _ _ _ none refl refl c.pass-in-Stages.ensures.stored
+    (λ i. machine_at (state_passed old.catalog c.pass-in-Stages.new.self c.args.stamp _ none c.pass-in-Stages.ensures.state i) (sessions i))
     c.requires.healthy
 
-pub returns-in-None-clause-any_moment : goal.returns-in-None-clause-any_moment
-returns-in-None-clause-any_moment g c = leaves_still g.met.D.Disk.only_now c.args.self.now _ _ refl
-
-pub returns-in-Some-clause-answered : goal.returns-in-Some-clause-answered
-returns-in-Some-clause-answered g c = rw c.in-Some.is c.commit.ensures.answered
-
-pub returns-in-Some-clause-halted : goal.returns-in-Some-clause-halted
-returns-in-Some-clause-halted g c = rw c.in-Some.is c.commit.ensures.halted
-
-pub returns-in-Some-clause-any_moment : goal.returns-in-Some-clause-any_moment
-returns-in-Some-clause-any_moment g c = rw c.in-Some.is c.commit.ensures.any_moment
-
-pub commit-requires : goal.commit-requires
-commit-requires g c = record { healthy = c.requires.healthy }
+pub returns-in_ok-stage-in-Stages-clause-any_moment : goal.returns-in_ok-stage-in-Stages-clause-any_moment
+returns-in_ok-stage-in-Stages-clause-any_moment g c = leaves_still g.met.D.Disk.only_now c.args.self.now _ _ refl

@@ -1,7 +1,7 @@
 use Rattle.std.proofs.Common.{length, ap, ◌∙◌, arith}
 use Rattle.wh_machine.specs.Edits.{Edits}
 use Rattle.wh_engine.proofs.EditLemmas.{added_is}
-use Rattle.wh_engine.proofs.changes.rewritten.Goals as goal
+use Rattle.wh_engine.proofs.versions.rewritten.Goals as goal
 
 pub rewrite-requires : goal.rewrite-requires
 rewrite-requires c =
