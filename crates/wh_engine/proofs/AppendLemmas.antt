@@ -49,9 +49,12 @@ is_full r old j c payload calls full beyond =
     (full (end_of j) (need_of payload)).1
     (calls.same.failed ∙ calls.healthy, omega (arith, calls.same.limit, calls.same.end), refl, refl)
 
-pub append_halts : {D T : Type 0} {seen : Ghosts D} (r : Result T AppendFault) (fault : AppendFault) (old new : Warehouse D seen) (j : Journal) (c : Commit) (payload : List ℕ)
-    → r ≡ Err fault → Calls old.journal j c payload → Fails r j payload (seen.faults old.disk) (seen.faults new.disk) (failed_of new.journal)
-    → ((fault ≡ appends.DiskFault → ⊥) → IsUntouched old new) → machine_of new ≡ machine_of old → seen.faults old.disk ≤ seen.faults new.disk
+pub append_halts : {D T : Type 0} {seen : Ghosts D} (r : Result T AppendFault)
+    (fault : AppendFault) (old new : Warehouse D seen) (j : Journal) (c : Commit) (payload : List ℕ)
+    → r ≡ Err fault → Calls old.journal j c payload
+    → Fails r j payload (seen.faults old.disk) (seen.faults new.disk) (failed_of new.journal)
+    → ((fault ≡ appends.DiskFault → ⊥) → IsUntouched old new) → machine_of new ≡ machine_of old
+    → seen.faults old.disk ≤ seen.faults new.disk
     → Halted old new (Some c) (halt_of fault)
 append_halts r appends.DiskFault old new j c payload is calls fails same state later = record {
   state = state;

@@ -23,9 +23,11 @@ use Rattle.wh_engine.proofs.FileLemmas.{filed_same}
 
 -- ---- no commit
 
-pub carries_nothing : {D : Type 0} {seen : Ghosts D} (old new : Warehouse D seen) (commit : Option Commit) (machine : Machine) → commit ≡ None
-    → new.disk ≡ old.disk → new.journal ≡ old.journal → stored_of new.catalog ≡ stored_of old.catalog → machine_of new ≡ machine
-    → failed_of old.journal ≡ None → CarriesOut old new commit machine
+pub carries_nothing : {D : Type 0} {seen : Ghosts D} (old new : Warehouse D seen)
+    (commit : Option Commit) (machine : Machine)
+    → commit ≡ None → new.disk ≡ old.disk → new.journal ≡ old.journal → stored_of new.catalog ≡ stored_of old.catalog
+    → machine_of new ≡ machine → failed_of old.journal ≡ None
+    → CarriesOut old new commit machine
 carries_nothing {D} {seen} old new commit machine none disk journal stored is healthy = record {
   stepped = is;
   stored = rw none stored;

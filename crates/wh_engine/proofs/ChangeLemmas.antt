@@ -8,7 +8,8 @@
 --     is_staged, is_settled     an effect in a transaction, and outside of one
 --     comes_effect, comes_settled     what is decided on it is decided on the change
 --     unseen               an INSERT looks at no row of its target
-use Rattle.std.proofs.Common.{◌≡◌, ℕ, true, false, List, [], ◌∷◌, Option, Some, None, option_map, Result, Ok, Err, refl, ap, sym, subst, ◌∙◌}
+use Rattle.std.proofs.Common.{◌≡◌, ℕ, true, false, List, [], ◌∷◌, Option, Some, None, option_map, Result, Ok, Err, refl}
+use Rattle.std.proofs.Common.{ap, sym, subst, ◌∙◌}
 use Rattle.std.specs.Result.{IfOk}
 use Rattle.wh_value.specs.declared.limit.Limit.TheVariants as limits
 use Rattle.wh_ast.specs.declared.dml.Dml.{Dml}
@@ -42,16 +43,20 @@ use Rattle.wh_engine.proofs.CatalogLemmas.{table_there}
 
 -- what a bound change comes to in a session
 abbrev pub comes_to : Machine → ℕ → List Object → BoundChange → Outcome
-comes_to m session objects b = changes_in m session (transaction_in m.sessions session) (bound_changed m session objects b)
+comes_to m session objects b =
+    changes_in m session (transaction_in m.sessions session) (bound_changed m session objects b)
 
-pub change_is : (m : Machine) (session : ℕ) (statement : Dml) (names : List Named) → names ≡ names_from 1 m.state.objects
+pub change_is : (m : Machine) (session : ℕ) (statement : Dml) (names : List Named)
+    → names ≡ names_from 1 m.state.objects
     → comes_to m session (seen m.state (transaction_in m.sessions session)).objects (bound_change names statement)
     ≡ changes_rows m session statement
 unfolding changes_rows changed
 change_is m session statement names is =
-    ap (λ (ns : List Named). comes_to m session (seen m.state (transaction_in m.sessions session)).objects (bound_change ns statement)) is
+    ap (λ (ns : List Named). comes_to m session (seen m.state (transaction_in m.sessions session)).objects
+    (bound_change ns statement)) is
 
-pub comes_change : {E : Type 0} (sight : Sight) (r : Result Decision E) (statement : Dml) (names : List Named) (b : code.BoundChange)
+pub comes_change : {E : Type 0} (sight : Sight) (r : Result Decision E) (statement : Dml) (names : List Named)
+    (b : code.BoundChange)
     → names ≡ names_from 1 (machine_in sight).state.objects → IsBound b (bound_change names statement)
     → IfOk r (λ d. (meant : BoundChange) → IsBound b meant
     → Comes sight d (comes_to (machine_in sight) sight.session (objects_seen sight) meant))
@@ -63,17 +68,20 @@ comes_change sight (Err e) statement names b named is h = tt
 
 -- ---- tests
 
-refused_by : (m : Machine) (session : ℕ) (objects : List Object) (b : BoundChange) (why : Refusal) → change_refusal m session b ≡ Some why
+refused_by : (m : Machine) (session : ℕ) (objects : List Object) (b : BoundChange) (why : Refusal)
+    → change_refusal m session b ≡ Some why
     → comes_to m session objects b ≡ Refuses why
 refused_by m session objects b why is =
     ap (λ (found : Option Refusal). changes_in m session (transaction_in m.sessions session)
     (fails_or found (given_on objects b (table_at objects b.target)))) is
 
 -- of naming, and then of holds
-tested : (m : Machine) (session : ℕ) (b : BoundChange) (failing : Option Failing) (locked : Option ℕ) → first_failing b.findings ≡ failing
+tested : (m : Machine) (session : ℕ) (b : BoundChange) (failing : Option Failing) (locked : Option ℕ)
+    → first_failing b.findings ≡ failing
     → locked_by m.sessions session b.target ≡ locked
     → change_refusal m session b
-    ≡ first_of (first_of (option_map refusal_of failing ∷ refused_if b.is_wide (OverLimit limits.Output) ∷ []) ∷ option_map Locked locked ∷ [])
+    ≡ first_of (first_of (option_map refusal_of failing ∷ refused_if b.is_wide (OverLimit limits.Output) ∷ [])
+    ∷ option_map Locked locked ∷ [])
 tested m session b failing locked at_failing at_locked =
     λ i. first_of (first_of (option_map refusal_of (at_failing i) ∷ refused_if b.is_wide (OverLimit limits.Output) ∷ [])
     ∷ option_map Locked (at_locked i) ∷ [])
@@ -83,16 +91,18 @@ pub is_failing : (m : Machine) (session : ℕ) (objects : List Object) (b : Boun
 is_failing m session objects b failing is =
     refused_by m session objects b (refusal_of failing) (tested m session b (Some failing) _ is refl)
 
-pub is_too_wide : (m : Machine) (session : ℕ) (objects : List Object) (b : BoundChange) → first_failing b.findings ≡ None
-    → b.is_wide ≡ true → comes_to m session objects b ≡ Refuses (OverLimit limits.Output)
+pub is_too_wide : (m : Machine) (session : ℕ) (objects : List Object) (b : BoundChange)
+    → first_failing b.findings ≡ None → b.is_wide ≡ true
+    → comes_to m session objects b ≡ Refuses (OverLimit limits.Output)
 is_too_wide m session objects b none wide =
     refused_by m session objects b (OverLimit limits.Output)
     (λ i. first_of (first_of (option_map refusal_of (none i) ∷ refused_if (wide i) (OverLimit limits.Output) ∷ [])
     ∷ option_map Locked (locked_by m.sessions session b.target) ∷ []))
 
 -- nothing is found wrong with it
-tested_narrow : (m : Machine) (session : ℕ) (b : BoundChange) (locked : Option ℕ) → first_failing b.findings ≡ None → b.is_wide ≡ false
-    → locked_by m.sessions session b.target ≡ locked → change_refusal m session b ≡ option_map Locked locked
+tested_narrow : (m : Machine) (session : ℕ) (b : BoundChange) (locked : Option ℕ) → first_failing b.findings ≡ None
+    → b.is_wide ≡ false → locked_by m.sessions session b.target ≡ locked
+    → change_refusal m session b ≡ option_map Locked locked
 tested_narrow m session b None none narrow is =
     λ i. first_of (first_of (option_map refusal_of (none i) ∷ refused_if (narrow i) (OverLimit limits.Output) ∷ [])
     ∷ option_map Locked (is i) ∷ [])
@@ -100,13 +110,15 @@ tested_narrow m session b (Some number) none narrow is =
     λ i. first_of (first_of (option_map refusal_of (none i) ∷ refused_if (narrow i) (OverLimit limits.Output) ∷ [])
     ∷ option_map Locked (is i) ∷ [])
 
-pub is_held : (m : Machine) (session : ℕ) (objects : List Object) (b : BoundChange) (number : ℕ) → first_failing b.findings ≡ None
-    → b.is_wide ≡ false → locked_by m.sessions session b.target ≡ Some number → comes_to m session objects b ≡ Refuses (Locked number)
+pub is_held : (m : Machine) (session : ℕ) (objects : List Object) (b : BoundChange) (number : ℕ)
+    → first_failing b.findings ≡ None → b.is_wide ≡ false → locked_by m.sessions session b.target ≡ Some number
+    → comes_to m session objects b ≡ Refuses (Locked number)
 is_held m session objects b number none narrow is =
     refused_by m session objects b (Locked number) (tested_narrow m session b (Some number) none narrow is)
 
 -- nor is its target another's
-free : (m : Machine) (session : ℕ) (objects : List Object) (b : BoundChange) → first_failing b.findings ≡ None → b.is_wide ≡ false
+free : (m : Machine) (session : ℕ) (objects : List Object) (b : BoundChange)
+    → first_failing b.findings ≡ None → b.is_wide ≡ false
     → locked_by m.sessions session b.target ≡ None
     → comes_to m session objects b
     ≡ changes_in m session (transaction_in m.sessions session) (given_on objects b (table_at objects b.target))
@@ -114,28 +126,34 @@ free m session objects b none narrow is =
     ap (λ (found : Option Refusal). changes_in m session (transaction_in m.sessions session)
     (fails_or found (given_on objects b (table_at objects b.target)))) (tested_narrow m session b None none narrow is)
 
-pub no_table : (m : Machine) (session : ℕ) (objects : List Object) (b : BoundChange) → first_failing b.findings ≡ None → b.is_wide ≡ false
-    → locked_by m.sessions session b.target ≡ None → table_at objects b.target ≡ None
+pub no_table : (m : Machine) (session : ℕ) (objects : List Object) (b : BoundChange) → first_failing b.findings ≡ None
+    → b.is_wide ≡ false → locked_by m.sessions session b.target ≡ None → table_at objects b.target ≡ None
     → comes_to m session objects b ≡ Refuses TypeMismatch
 no_table m session objects b none narrow is missing =
     free m session objects b none narrow is
-    ∙ ap (λ (found : Option Table). changes_in m session (transaction_in m.sessions session) (given_on objects b found)) missing
+    ∙ ap (λ (found : Option Table). changes_in m session (transaction_in m.sessions session) (given_on objects b found))
+    missing
 
 -- ---- effects
 
 -- what the bound change of the code says, on its table
-pub outcome_is : (m : Machine) (session : ℕ) (objects : List Object) (b : code.BoundChange) (meant : BoundChange) (t : Table)
+pub outcome_is : (m : Machine) (session : ℕ) (objects : List Object)
+    (b : code.BoundChange) (meant : BoundChange) (t : Table)
     (o : effects.Outcome) → IsBound b meant → b.is_wide ≡ false → locked_by m.sessions session b.target ≡ None
-    → table_at objects b.target ≡ Some t → effect (change_of b.change) (rows_seen t) (instance_of objects b.sources.items) ≡ o
+    → table_at objects b.target ≡ Some t
+    → effect (change_of b.change) (rows_seen t) (instance_of objects b.sources.items) ≡ o
     → comes_to m session objects meant
     ≡ changes_in m session (transaction_in m.sessions session) (given b.target (change_of b.change) o)
 outcome_is m session objects b meant t o is narrow unheld there comes =
-    free m session objects meant is.nothing_found (sym is.is_wide ∙ narrow) (ap (locked_by m.sessions session) (sym is.target) ∙ unheld)
-    ∙ ap (λ (found : Option Table). changes_in m session (transaction_in m.sessions session) (given_on objects meant found))
+    free m session objects meant is.nothing_found
+    (sym is.is_wide ∙ narrow) (ap (locked_by m.sessions session) (sym is.target) ∙ unheld)
+    ∙ ap (λ (found : Option Table). changes_in m session (transaction_in m.sessions session)
+    (given_on objects meant found))
     (ap (table_at objects) (sym is.target) ∙ there)
     ∙ (λ i. changes_in m session (transaction_in m.sessions session) (given (sym is.target i) (sym is.change i)
     (effect (sym is.change i) (rows_seen t) (instance_of objects (sym is.sources i)))))
-    ∙ ap (λ (found : effects.Outcome). changes_in m session (transaction_in m.sessions session) (given b.target (change_of b.change) found))
+    ∙ ap (λ (found : effects.Outcome). changes_in m session (transaction_in m.sessions session)
+    (given b.target (change_of b.change) found))
     comes
 
 pub is_staged : (m : Machine) (session id : ℕ) (change : Change) (e : Effect) (t : Transaction) (u : Table)
@@ -147,7 +165,8 @@ is_staged m session id change e t u held there =
     ∙ ap (λ (found : Option Table). Does (reply_to change e)
     (with_transaction m.sessions session (staged t id (next_row_of found) e)) None) there
 
-pub is_settled : (m : Machine) (session id : ℕ) (change : Change) (e : Effect) (u : Table) → transaction_in m.sessions session ≡ None
+pub is_settled : (m : Machine) (session id : ℕ) (change : Change) (e : Effect) (u : Table)
+    → transaction_in m.sessions session ≡ None
     → table_at m.state.objects id ≡ Some u
     → changes_in m session (transaction_in m.sessions session) (Gives id change e)
     ≡ alone m.sessions (settled_effect id change e (Some u))
@@ -156,8 +175,10 @@ is_settled m session id change e u closed there =
     ∙ ap (λ (found : Option Table). alone m.sessions (settled_effect id change e found)) there
 
 -- what is decided on its effect is decided on the change
-pub comes_effect : {E : Type 0} (sight : Sight) (r : Result Decision E) (b : code.BoundChange) (t : Table) (e : Effect) → b.is_wide ≡ false
-    → locked_by (machine_in sight).sessions sight.session b.target ≡ None → table_at (objects_seen sight) b.target ≡ Some t
+pub comes_effect : {E : Type 0} (sight : Sight) (r : Result Decision E) (b : code.BoundChange) (t : Table) (e : Effect)
+    → b.is_wide ≡ false
+    → locked_by (machine_in sight).sessions sight.session b.target ≡ None
+    → table_at (objects_seen sight) b.target ≡ Some t
     → effect (change_of b.change) (rows_seen t) (instance_of (objects_seen sight) b.sources.items) ≡ effects.Does e
     → IfOk r (λ d. Comes sight d (changes_in (machine_in sight) sight.session
     (transaction_in (machine_in sight).sessions sight.session) (Gives b.target (change_of b.change) e)))
@@ -165,11 +186,13 @@ pub comes_effect : {E : Type 0} (sight : Sight) (r : Result Decision E) (b : cod
     → Comes sight d (comes_to (machine_in sight) sight.session (objects_seen sight) meant))
 comes_effect sight (Ok d) b t e narrow unheld there comes h = λ meant is.
     subst (λ (o : Outcome). Comes sight d o)
-    (sym (outcome_is (machine_in sight) sight.session (objects_seen sight) b meant t (effects.Does e) is narrow unheld there comes)) h
+    (sym (outcome_is (machine_in sight) sight.session (objects_seen sight) b meant t
+    (effects.Does e) is narrow unheld there comes)) h
 comes_effect sight (Err f) b t e narrow unheld there comes h = tt
 
 -- and what is decided on it outside of a transaction
-pub comes_settled : {E : Type 0} (sight : Sight) (r : Result Decision E) (id : ℕ) (change : Change) (e : Effect) (t : StoredTable)
+pub comes_settled : {E : Type 0} (sight : Sight) (r : Result Decision E)
+    (id : ℕ) (change : Change) (e : Effect) (t : StoredTable)
     → transaction_in (machine_in sight).sessions sight.session ≡ None
     → stored_table_at (stored_of sight.catalog.now).objects id ≡ Some t
     → IfOk r (λ d. (s : Stored) (sessions : Sessions) → stored_table_at s.objects id ≡ Some t
@@ -178,7 +201,8 @@ pub comes_settled : {E : Type 0} (sight : Sight) (r : Result Decision E) (id : �
     (transaction_in (machine_in sight).sessions sight.session) (Gives id change e)))
 comes_settled sight (Ok d) id change e t closed there h =
     subst (λ (o : Outcome). Comes sight d o)
-    (sym (is_settled (machine_in sight) sight.session id change e (table_meant t) closed (table_there sight.catalog.now id t there)))
+    (sym (is_settled (machine_in sight) sight.session id change e (table_meant t) closed
+    (table_there sight.catalog.now id t there)))
     (h (stored_of sight.catalog.now) (machine_in sight).sessions there)
 comes_settled sight (Err f) id change e t closed there h = tt
 

@@ -26,23 +26,28 @@ tests_around sessions None (Some why) last reply acts = refl
 tests_around sessions None None (Some why) reply acts = refl
 tests_around sessions None None None reply acts = refl
 
-pub defines_table : (s : State) (stamp : ℕ) (sessions : Sessions) (session : ℕ) (replace : Bool) (name : List ℕ) (columns : List Column)
+pub defines_table : (s : State) (stamp : ℕ) (sessions : Sessions) (session : ℕ) (replace : Bool) (name : List ℕ)
+    (columns : List Column)
     (retention : ℕ) (found : Option Refusal)
-    → first_of (option_map DdlInTransaction (number_in sessions session) ∷ table_refusal s replace name columns retention
+    → first_of
+    (option_map DdlInTransaction (number_in sessions session) ∷ table_refusal s replace name columns retention
     ∷ option_map Locked (holder_of sessions (replaced_id s replace name)) ∷ []) ≡ found
     → defines (machine_at (stamped s stamp) sessions) session (replaced_id (stamped s stamp) replace name)
     (create_table (stamped s stamp) replace name columns retention)
-    ≡ unless found (Does (CreatedTable name) sessions (Some (drops (replaced_id s replace name) ++ MakesTable name columns retention ∷ [])))
+    ≡ unless found (Does (CreatedTable name) sessions
+    (Some (drops (replaced_id s replace name) ++ MakesTable name columns retention ∷ [])))
 unfolding defines
 defines_table s stamp sessions session replace name columns retention found is =
     (λ i. unless (option_map DdlInTransaction (number_in sessions session))
     (last_test (option_map Locked (holder_of sessions (replaced_stamped s stamp replace name i)))
     (alone sessions (create_is s stamp replace name columns retention i))))
-    ∙ tests_around sessions (option_map DdlInTransaction (number_in sessions session)) (table_refusal s replace name columns retention)
+    ∙ tests_around sessions (option_map DdlInTransaction (number_in sessions session))
+    (table_refusal s replace name columns retention)
     (option_map Locked (holder_of sessions (replaced_id s replace name))) (CreatedTable name)
     (drops (replaced_id s replace name) ++ MakesTable name columns retention ∷ [])
     ∙ ap (λ (why : Option Refusal). unless why
-    (Does (CreatedTable name) sessions (Some (drops (replaced_id s replace name) ++ MakesTable name columns retention ∷ [])))) is
+    (Does (CreatedTable name) sessions
+    (Some (drops (replaced_id s replace name) ++ MakesTable name columns retention ∷ [])))) is
 
 pub none_past : (first wrong last : Option Refusal) → first_of (first ∷ wrong ∷ last ∷ []) ≡ None → wrong ≡ None
 none_past None None last is = refl
@@ -55,7 +60,8 @@ pub refused_open : (m : Machine) (session : ℕ) (old : Option ℕ) (o : tables.
     → option_map DdlInTransaction (number_in m.sessions session) ≡ Some why → defines m session old o ≡ Refuses why
 unfolding defines
 refused_open m session old o why is =
-    ap (λ (found : Option Refusal). unless found (last_test (option_map Locked (holder_of m.sessions old)) (alone m.sessions o))) is
+    ap (λ (found : Option Refusal). unless found
+    (last_test (option_map Locked (holder_of m.sessions old)) (alone m.sessions o))) is
 
 -- ---- DROP TABLE
 
@@ -65,7 +71,8 @@ drop_by : (s : State) (stamp : ℕ) (sessions : Sessions) (session : ℕ) (name 
     ≡ last_test (option_map Locked (holder_of sessions found)) (alone sessions (drop_of name found))
 unfolding defines drop_table
 drop_by s stamp sessions session name found none is =
-    λ i. unless (none i) (last_test (option_map Locked (holder_of sessions (is i))) (alone sessions (drop_of name (is i))))
+    λ i. unless (none i)
+    (last_test (option_map Locked (holder_of sessions (is i))) (alone sessions (drop_of name (is i))))
 
 pub none_dropped : (s : State) (stamp : ℕ) (sessions : Sessions) (session : ℕ) (name : List ℕ)
     → option_map DdlInTransaction (number_in sessions session) ≡ None → id_of name s.objects ≡ None
@@ -73,7 +80,8 @@ pub none_dropped : (s : State) (stamp : ℕ) (sessions : Sessions) (session : �
     ≡ Refuses (UnknownName name)
 none_dropped s stamp sessions session name none is = drop_by s stamp sessions session name None none is
 
-held_or_dropped : (s : State) (stamp : ℕ) (sessions : Sessions) (session : ℕ) (name : List ℕ) (id : ℕ) (found : Option Refusal)
+held_or_dropped : (s : State) (stamp : ℕ) (sessions : Sessions) (session : ℕ) (name : List ℕ)
+    (id : ℕ) (found : Option Refusal)
     → option_map DdlInTransaction (number_in sessions session) ≡ None → id_of name s.objects ≡ Some id
     → option_map Locked (holder_of sessions (Some id)) ≡ found
     → defines (machine_at (stamped s stamp) sessions) session (id_of name s.objects) (drop_table (stamped s stamp) name)
@@ -85,12 +93,15 @@ held_or_dropped s stamp sessions session name id found none is held =
 pub held_fast : (s : State) (stamp : ℕ) (sessions : Sessions) (session : ℕ) (name : List ℕ) (id : ℕ) (why : Refusal)
     → option_map DdlInTransaction (number_in sessions session) ≡ None → id_of name s.objects ≡ Some id
     → option_map Locked (holder_of sessions (Some id)) ≡ Some why
-    → defines (machine_at (stamped s stamp) sessions) session (id_of name s.objects) (drop_table (stamped s stamp) name) ≡ Refuses why
-held_fast s stamp sessions session name id why none is held = held_or_dropped s stamp sessions session name id (Some why) none is held
+    → defines (machine_at (stamped s stamp) sessions) session (id_of name s.objects)
+    (drop_table (stamped s stamp) name) ≡ Refuses why
+held_fast s stamp sessions session name id why none is held =
+    held_or_dropped s stamp sessions session name id (Some why) none is held
 
 pub is_dropped : (s : State) (stamp : ℕ) (sessions : Sessions) (session : ℕ) (name : List ℕ) (id : ℕ)
     → option_map DdlInTransaction (number_in sessions session) ≡ None → id_of name s.objects ≡ Some id
     → option_map Locked (holder_of sessions (Some id)) ≡ None
     → defines (machine_at (stamped s stamp) sessions) session (id_of name s.objects) (drop_table (stamped s stamp) name)
     ≡ Does (DroppedTable name) sessions (Some (DropsObject id ∷ []))
-is_dropped s stamp sessions session name id none is free = held_or_dropped s stamp sessions session name id None none is free
+is_dropped s stamp sessions session name id none is free =
+    held_or_dropped s stamp sessions session name id None none is free

@@ -38,8 +38,10 @@ unfolding edits_refusal
 tested e t = ap (λ (n : ℕ). first_of (refused_past limits.RowNumber (t.next_row + length e.added)
     ∷ refused_past limits.PartitionNumber n ∷ [])) (sym (count_meant e t))
 
-settled_by : (id : ℕ) (change : Change) (t : StoredTable) (e : Effect) (a b : Option Refusal) → refused_past limits.RowNumber (t.next_row + length e.added) ≡ a
-    → refused_past limits.PartitionNumber (made_count e t) ≡ b → settled_effect id change e (Some (table_meant t)) ≡ unless (first_of (a ∷ b ∷ [])) (carried_over id change e)
+settled_by : (id : ℕ) (change : Change) (t : StoredTable) (e : Effect) (a b : Option Refusal)
+    → refused_past limits.RowNumber (t.next_row + length e.added) ≡ a
+    → refused_past limits.PartitionNumber (made_count e t) ≡ b
+    → settled_effect id change e (Some (table_meant t)) ≡ unless (first_of (a ∷ b ∷ [])) (carried_over id change e)
 settled_by id change t e a b at_a at_b =
     ap (λ (found : Option Refusal). unless found (carried_over id change e))
     (sym (tested e t) ∙ (λ i. first_of (at_a i ∷ at_b i ∷ [])))
@@ -57,17 +59,24 @@ not_past limit count fits = elim (cases_lt (bound limit) count) [
   | inr within ↦ ap (λ (b : Bool). refused_if b (OverLimit limit)) (le-ltb _ _ within)
 ]
 
-pub rows_past : (id : ℕ) (change : Change) (t : StoredTable) (e : Effect) (why : Refusal) → refused_past limits.RowNumber (t.next_row + length e.added) ≡ Some why
+pub rows_past : (id : ℕ) (change : Change) (t : StoredTable) (e : Effect) (why : Refusal)
+    → refused_past limits.RowNumber (t.next_row + length e.added) ≡ Some why
     → settled_effect id change e (Some (table_meant t)) ≡ Refuses why
 rows_past id change t e why is = settled_by id change t e (Some why) _ is refl
 
-pub partitions_past : (id : ℕ) (change : Change) (t : StoredTable) (e : Effect) → refused_past limits.RowNumber (t.next_row + length e.added) ≡ None
-    → nat_le (made_count e t) (bound limits.PartitionNumber) ≡ false → settled_effect id change e (Some (table_meant t)) ≡ Refuses (OverLimit limits.PartitionNumber)
-partitions_past id change t e none over = settled_by id change t e None (Some (OverLimit limits.PartitionNumber)) none (past limits.PartitionNumber (made_count e t) over)
+pub partitions_past : (id : ℕ) (change : Change) (t : StoredTable) (e : Effect)
+    → refused_past limits.RowNumber (t.next_row + length e.added) ≡ None
+    → nat_le (made_count e t) (bound limits.PartitionNumber) ≡ false
+    → settled_effect id change e (Some (table_meant t)) ≡ Refuses (OverLimit limits.PartitionNumber)
+partitions_past id change t e none over = settled_by id change t e None (Some (OverLimit limits.PartitionNumber)) none
+    (past limits.PartitionNumber (made_count e t) over)
 
-edits_pass : (id : ℕ) (change : Change) (t : StoredTable) (e : Effect) → refused_past limits.RowNumber (t.next_row + length e.added) ≡ None
-    → nat_le (made_count e t) (bound limits.PartitionNumber) ≡ true → settled_effect id change e (Some (table_meant t)) ≡ carried_over id change e
-edits_pass id change t e none fits = settled_by id change t e None None none (not_past limits.PartitionNumber (made_count e t) fits)
+edits_pass : (id : ℕ) (change : Change) (t : StoredTable) (e : Effect)
+    → refused_past limits.RowNumber (t.next_row + length e.added) ≡ None
+    → nat_le (made_count e t) (bound limits.PartitionNumber) ≡ true
+    → settled_effect id change e (Some (table_meant t)) ≡ carried_over id change e
+edits_pass id change t e none fits =
+    settled_by id change t e None None none (not_past limits.PartitionNumber (made_count e t) fits)
 
 pub uncounted : (id : ℕ) (change : Change) (t : StoredTable) (e : Effect)
     → refused_past limits.RowNumber (t.next_row + length e.added) ≡ None

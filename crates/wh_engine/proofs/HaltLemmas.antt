@@ -21,8 +21,10 @@ use Rattle.wh_engine.proofs.FileLemmas.{same_journal}
 pub unchanged : {D : Type 0} {seen : Ghosts D} (w : Warehouse D seen) → IsUntouched w w
 unchanged w = record { disk = refl; journal = same_journal w.journal; stored = refl; sessions = refl }
 
-pub untouched : {D : Type 0} {seen : Ghosts D} {old new : Warehouse D seen} → new.disk ≡ old.disk → IsSame old.journal new.journal
-    → stored_of new.catalog ≡ stored_of old.catalog → sessions_of new.sessions ≡ sessions_of old.sessions → IsUntouched old new
+pub untouched : {D : Type 0} {seen : Ghosts D} {old new : Warehouse D seen} → new.disk ≡ old.disk
+    → IsSame old.journal new.journal → stored_of new.catalog ≡ stored_of old.catalog
+    → sessions_of new.sessions ≡ sessions_of old.sessions
+    → IsUntouched old new
 untouched disk journal stored sessions = record { disk = disk; journal = journal; stored = stored; sessions = sessions }
 
 pub reopens : {D : Type 0} {seen : Ghosts D} (w : Warehouse D seen) (commit : Option Commit) (faults : ℕ)
@@ -39,8 +41,9 @@ reopens w commit faults failed = record {
   later = omega arith;
 }
 
-pub starves : {D : Type 0} {seen : Ghosts D} (old new : Warehouse D seen) (commit : Option Commit) → failed_of old.journal ≡ None → IsUntouched old new
-    → machine_of new ≡ machine_of old → Halted old new commit OutOfMemory
+pub starves : {D : Type 0} {seen : Ghosts D} (old new : Warehouse D seen) (commit : Option Commit)
+    → failed_of old.journal ≡ None → IsUntouched old new → machine_of new ≡ machine_of old
+    → Halted old new commit OutOfMemory
 starves {D} {seen} old new commit healthy same state = record {
   state = state;
   needs_reopen = λ n. (λ e. absurd cc, λ e. absurd cc);
@@ -53,8 +56,10 @@ starves {D} {seen} old new commit healthy same state = record {
 }
 
 -- want of memory that is passed on
-pub starved : {D T : Type 0} {seen : Ghosts D} (r : Result T Halt) (old new : Warehouse D seen) (commit : Option Commit) → IsErrAnd r (λ halt. halt ≡ OutOfMemory)
-    → failed_of old.journal ≡ None → IsUntouched old new → machine_of new ≡ machine_of old → IfErr r (λ halt. Halted old new commit halt)
+pub starved : {D T : Type 0} {seen : Ghosts D} (r : Result T Halt) (old new : Warehouse D seen) (commit : Option Commit)
+    → IsErrAnd r (λ halt. halt ≡ OutOfMemory) → failed_of old.journal ≡ None → IsUntouched old new
+    → machine_of new ≡ machine_of old
+    → IfErr r (λ halt. Halted old new commit halt)
 starved (Ok x) old new commit gives healthy same state = tt
 starved (Err h) old new commit gives healthy same state =
     subst (Halted old new commit) (sym gives) (starves old new commit healthy same state)

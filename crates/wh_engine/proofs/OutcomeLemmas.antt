@@ -26,16 +26,20 @@ use Rattle.wh_engine.specs.Decision.{Goes, Declines, changes_of, transaction_or_
 
 -- ---- decisions
 
-pub declines : (s : Stored) (sessions : Sessions) (stamp : ℕ) (why : code.Refusal) (o : Outcome) (meant : Refusal) → refusal_view why ≡ meant
-    → o ≡ Refuses meant → Decides s sessions stamp (Refuse why) o
-declines s sessions stamp why o meant is same = record { same = ap Declines is ∙ ap (planned s stamp) (sym same); staged = tt }
+pub declines : (s : Stored) (sessions : Sessions) (stamp : ℕ) (why : code.Refusal) (o : Outcome) (meant : Refusal)
+    → refusal_view why ≡ meant → o ≡ Refuses meant
+    → Decides s sessions stamp (Refuse why) o
+declines s sessions stamp why o meant is same =
+    record { same = ap Declines is ∙ ap (planned s stamp) (sym same); staged = tt }
 
-pub answers : (s : Stored) (sessions : Sessions) (stamp : ℕ) (told : code_reply.Reply) (o : Outcome) (reply : Reply) → reply_view told ≡ reply
-    → o ≡ Does reply sessions None → Decides s sessions stamp (Do told Answers) o
+pub answers : (s : Stored) (sessions : Sessions) (stamp : ℕ) (told : code_reply.Reply) (o : Outcome) (reply : Reply)
+    → reply_view told ≡ reply → o ≡ Does reply sessions None
+    → Decides s sessions stamp (Do told Answers) o
 answers s sessions stamp told o reply is same =
     record { same = ap (λ (r : Reply). Goes r sessions None) is ∙ ap (planned s stamp) (sym same); staged = tt }
 
-pub commits : (s : Stored) (sessions : Sessions) (stamp : ℕ) (told : code_reply.Reply) (changes : Vec records.Change Global) (o : Outcome)
+pub commits : (s : Stored) (sessions : Sessions) (stamp : ℕ) (told : code_reply.Reply)
+    (changes : Vec records.Change Global) (o : Outcome)
     (reply : Reply) (acts : List Act) → reply_view told ≡ reply → changes_of changes ≡ written stamp s.objects acts
     → o ≡ Does reply sessions (Some acts) → Decides s sessions stamp (Do told (Commits changes)) o
 commits s sessions stamp told changes o reply acts is say same = record {
@@ -43,27 +47,32 @@ commits s sessions stamp told changes o reply acts is say same = record {
   staged = tt;
 }
 
-pub begins : (s : Stored) (sessions : Sessions) (stamp session : ℕ) (told : code_reply.Reply) (o : Outcome) (reply : Reply) → reply_view told ≡ reply
-    → o ≡ Does reply (with_begun sessions session stamp) None → Decides s sessions stamp (Do told (Begins session)) o
+pub begins : (s : Stored) (sessions : Sessions) (stamp session : ℕ) (told : code_reply.Reply)
+    (o : Outcome) (reply : Reply)
+    → reply_view told ≡ reply → o ≡ Does reply (with_begun sessions session stamp) None
+    → Decides s sessions stamp (Do told (Begins session)) o
 begins s sessions stamp session told o reply is same = record {
   same = ap (λ (r : Reply). Goes r (with_begun sessions session stamp) None) is ∙ ap (planned s stamp) (sym same);
   staged = tt;
 }
 
-pub stages : (s : Stored) (sessions : Sessions) (stamp session id next_row : ℕ) (effect : Effect) (t : Transaction) (told : code_reply.Reply)
+pub stages : (s : Stored) (sessions : Sessions) (stamp session id next_row : ℕ) (effect : Effect) (t : Transaction)
+    (told : code_reply.Reply)
     (o : Outcome) (reply : Reply) → transaction_in sessions session ≡ Some t → reply_view told ≡ reply
     → o ≡ Does reply (with_transaction sessions session (staged t id next_row (effect_of effect))) None
     → Decides s sessions stamp (Do told (Stages session id next_row effect)) o
 stages s sessions stamp session id next_row effect t told o reply held is same = record {
   same = (λ i. Goes (is i) (with_transaction sessions session
-      (staged (transaction_or_new (held i) stamp) id next_row (effect_of effect))) None) ∙ ap (planned s stamp) (sym same);
+      (staged (transaction_or_new (held i) stamp) id next_row (effect_of effect))) None)
+      ∙ ap (planned s stamp) (sym same);
   staged = is_open;
 }
   where
     is_open : IsTrue (is_some (transaction_in sessions session))
     is_open = ap is_some held
 
-pub ends : (s : Stored) (sessions : Sessions) (stamp session : ℕ) (told : code_reply.Reply) (changes : Option (Vec records.Change Global))
+pub ends : (s : Stored) (sessions : Sessions) (stamp session : ℕ) (told : code_reply.Reply)
+    (changes : Option (Vec records.Change Global))
     (o : Outcome) (reply : Reply) (acts : Option (List Act)) → reply_view told ≡ reply
     → option_map changes_of changes ≡ option_map (written stamp s.objects) acts
     → o ≡ Does reply (with_ended sessions session) acts → Decides s sessions stamp (Do told (Ends session changes)) o

@@ -53,7 +53,8 @@ sessions_told : (stamp : ℕ) (sessions : Sessions) (d : Decision)
 sessions_told stamp sessions (decisions.Refuse why) = refl
 sessions_told stamp sessions (decisions.Do reply settlement) = refl
 
-changes_are : (stamp : ℕ) (sessions : Sessions) (d : Decision) → changes_in (settlement_of d) ≡ changes_told (plan_of stamp sessions d)
+changes_are : (stamp : ℕ) (sessions : Sessions) (d : Decision)
+    → changes_in (settlement_of d) ≡ changes_told (plan_of stamp sessions d)
 changes_are stamp sessions (decisions.Refuse why) = refl
 changes_are stamp sessions (decisions.Do reply settlement) = refl
 
@@ -65,7 +66,8 @@ commit_of_acts s stamp (Refuses why) = refl
 commit_of_acts s stamp (Does reply sessions None) = refl
 commit_of_acts s stamp (Does reply sessions (Some acts)) = refl
 
-reply_of_outcome : (s : Stored) (m : Machine) (stamp : ℕ) (o : Outcome) → (settled (at_stamp m stamp) o).1 ≡ reply_in (planned s stamp o)
+reply_of_outcome : (s : Stored) (m : Machine) (stamp : ℕ) (o : Outcome)
+    → (settled (at_stamp m stamp) o).1 ≡ reply_in (planned s stamp o)
 reply_of_outcome s m stamp (Refuses why) = refl
 reply_of_outcome s m stamp (Does reply sessions None) = refl
 reply_of_outcome s m stamp (Does reply sessions (Some acts)) = refl
@@ -78,14 +80,18 @@ sessions_of_outcome s m stamp (Does reply sessions (Some acts)) = refl
 
 -- ---- at an event's stamp
 
-pub record Comes (s : Stored) (m : Machine) (e : Event) (stamp : ℕ) (settlement : Settlement) (reply : Reply) : Type 0 where
+pub record Comes
+    (s : Stored) (m : Machine) (e : Event) (stamp : ℕ) (settlement : Settlement) (reply : Reply) : Type 0 where
   pub commit : made s m e ≡ commit_at stamp (changes_in settlement)
   pub leaves : (step m e).0
-      ≡ machine_at (state_with s stamp (commit_at stamp (changes_in settlement))) (sessions_after stamp m.sessions settlement)
+      ≡ machine_at (state_with s stamp (commit_at stamp (changes_in settlement)))
+      (sessions_after stamp m.sessions settlement)
   pub replied : reply ≡ (step m e).1
 
-comes : (s : Stored) (m : Machine) (e : Event) (d : Decision) → IsOrderlyStored s → m.state ≡ record (meant s) { last = m.state.last }
-    → has_stamp m e ≡ true → plan_of (stamp_of m.state (reading_of e)) m.sessions d ≡ planned s (stamp_of m.state (reading_of e)) (decided m e)
+comes : (s : Stored) (m : Machine) (e : Event) (d : Decision) → IsOrderlyStored s
+    → m.state ≡ record (meant s) { last = m.state.last }
+    → has_stamp m e ≡ true → plan_of (stamp_of m.state (reading_of e)) m.sessions d
+    ≡ planned s (stamp_of m.state (reading_of e)) (decided m e)
     → Comes s m e (stamp_of m.state (reading_of e)) (settlement_of d) (answer_of d)
 comes s m e d orderly is has plan =
     let stamp : ℕ = stamp_of m.state (reading_of e) in
@@ -104,7 +110,8 @@ comes s m e d orderly is has plan =
     }
 
 -- so for a catalog and open transactions, where the stamp is the code's
-pub turns : (c : Catalog) (sessions : Sessions) (e : Event) (reading last most stamp : ℕ) (d : Decision) (settlement : Settlement) (reply : Reply)
+pub turns : (c : Catalog) (sessions : Sessions) (e : Event) (reading last most stamp : ℕ) (d : Decision)
+    (settlement : Settlement) (reply : Reply)
     → IsOrderlyStored (stored_of c) → reading ≡ reading_of e → last ≡ (state_of c).last → most ≡ bound limits.Stamp
     → stamp ≡ max reading (last + 1) → stamp < most
     → Decides (stored_of c) sessions stamp d (outcome_of (machine_at (stamped (state_of c) stamp) sessions) e)
@@ -115,8 +122,10 @@ turns c sessions e reading last most stamp d settlement reply orderly read was l
     let m : Machine = machine_at (state_of c) sessions in
     let is : stamp ≡ stamp_of (state_of c) (reading_of e) = omega (arith, read, was, at) in
     let has : has_stamp m e ≡ true = lt-ltb _ _ (omega (arith, is, limit, within)) in
-    let plan : plan_of (stamp_of (state_of c) (reading_of e)) sessions d ≡ planned s (stamp_of (state_of c) (reading_of e)) (decided m e) =
-    subst (λ (n : ℕ). plan_of n sessions d ≡ planned s n (outcome_of (machine_at (stamped (state_of c) n) sessions) e)) is h.same in
+    let plan : plan_of (stamp_of (state_of c) (reading_of e)) sessions d
+    ≡ planned s (stamp_of (state_of c) (reading_of e)) (decided m e) =
+    subst (λ (n : ℕ). plan_of n sessions d ≡ planned s n (outcome_of (machine_at (stamped (state_of c) n) sessions) e))
+    is h.same in
     subst (λ (n : ℕ). Comes s m e n settlement reply) (sym is)
     (subst (λ (done : Settlement). Comes s m e (stamp_of (state_of c) (reading_of e)) done reply) (sym carried)
     (subst (λ (r : Reply). Comes s m e (stamp_of (state_of c) (reading_of e)) (settlement_of d) r) (sym told)

@@ -7,7 +7,8 @@
 --     is_undefined       neither, but a number is out of range
 --     rows_listed        its rows, by the tables that are read
 --     rows_meant         the rows of a bound query are those of the one that is meant
-use Rattle.std.proofs.Common.{◌≡◌, ℕ, true, false, List, [], ◌∷◌, Option, Some, None, option_map, Result, Ok, Err, ap, sym, subst, ◌∙◌}
+use Rattle.std.proofs.Common.{◌≡◌, ℕ, true, false, List, [], ◌∷◌, Option, Some, None, option_map, Result, Ok, Err, ap}
+use Rattle.std.proofs.Common.{sym, subst, ◌∙◌}
 use Rattle.std.specs.Prelude.{Vec, map}
 use Rattle.std.specs.declared.alloc.Global.{Global}
 use Rattle.std.specs.Result.{IfOk}
@@ -29,7 +30,8 @@ use Rattle.wh_reply.specs.Reply.{OverLimit, NumberOutOfRange, Listing}
 use Rattle.wh_machine.specs.State.{Object, Table}
 use Rattle.wh_machine.specs.Tables.{table_at}
 use Rattle.wh_machine.specs.Outcome.{Outcome, Refuses, answers, refused_if, first_of, unless}
-use Rattle.wh_machine.specs.Queries.{names_from, table_bag, instance_of, refusal_of, listing_of, select_bound, select_rows}
+use Rattle.wh_machine.specs.Queries.{names_from, table_bag, instance_of, refusal_of, listing_of}
+use Rattle.wh_machine.specs.Queries.{select_bound, select_rows}
 use Rattle.wh_sessions.specs.Transaction.{seen}
 use Rattle.wh_sessions.specs.Sessions.{transaction_in}
 use Rattle.wh_sessions.specs.Outcome as sessions
@@ -46,7 +48,8 @@ use Rattle.wh_engine.proofs.SourceLemmas.{bags_of}
 
 pub select_is : (m : Machine) (session : ℕ) (query : written.Query) (sorts : List Sort) (names : List Named)
     → names ≡ names_from 1 m.state.objects
-    → alone m.sessions (select_bound (seen m.state (transaction_in m.sessions session)).objects (bound_select names query sorts))
+    → alone m.sessions
+    (select_bound (seen m.state (transaction_in m.sessions session)).objects (bound_select names query sorts))
     ≡ selects m session query sorts
 unfolding selects select_rows
 select_is m session query sorts names is =
@@ -54,13 +57,16 @@ select_is m session query sorts names is =
     (select_bound (seen m.state (transaction_in m.sessions session)).objects (bound_select ns query sorts)))
     (is ∙ sym (names_seen m.state (transaction_in m.sessions session)))
 
-pub comes_bound : {E : Type 0} (sight : Sight) (r : Result Decision E) (query : written.Query) (sorts : List Sort) (names : List Named)
-    (b : code.BoundSelect) → names ≡ names_from 1 (machine_in sight).state.objects → IsBound b (bound_select names query sorts)
+pub comes_bound : {E : Type 0} (sight : Sight) (r : Result Decision E)
+    (query : written.Query) (sorts : List Sort) (names : List Named)
+    (b : code.BoundSelect) → names ≡ names_from 1 (machine_in sight).state.objects
+    → IsBound b (bound_select names query sorts)
     → IfOk r (λ d. (meant : BoundSelect) → IsBound b meant
     → Comes sight d (alone (machine_in sight).sessions (select_bound (objects_seen sight) meant)))
     → IfOk r (λ d. Comes sight d (selects (machine_in sight) sight.session query sorts))
 comes_bound sight (Ok d) query sorts names b named is h =
-    subst (λ (o : sessions.Outcome). Comes sight d o) (select_is (machine_in sight) sight.session query sorts names named)
+    subst (λ (o : sessions.Outcome). Comes sight d o)
+    (select_is (machine_in sight) sight.session query sorts names named)
     (h (bound_select names query sorts) is)
 comes_bound sight (Err e) query sorts names b named is h = tt
 
@@ -111,7 +117,8 @@ is_undefined objects b none narrow is =
     listed_or_not objects b none narrow ∙ shown_as b None (eval b.query (instance_of objects b.sources)) is
 
 -- by the tables that are read
-pub rows_listed : {E : Type 0} (r : Result (Option (Vec Row Global)) E) (b : code.BoundSelect) (objects : List Object) (seen : List TableSeen)
+pub rows_listed : {E : Type 0} (r : Result (Option (Vec Row Global)) E) (b : code.BoundSelect) (objects : List Object)
+    (seen : List TableSeen)
     (ids : List ℕ) → ids ≡ b.sources.items → AllShow seen (map (λ id. table_at objects id) ids)
     → IfOk r (λ found. (meant : List (Option Table)) → AllShow seen meant → rows_found found
     ≡ option_map (listed (keys_of b.keys.items)) (eval (query_of b.query) (map table_bag meant)))

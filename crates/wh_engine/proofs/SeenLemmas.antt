@@ -1,7 +1,8 @@
 -- The objects as a session sees them.
 --     names_seen                   their names, ids, kinds and columns are those of the committed ones
 --     seen_there, seen_missing     the table of an id, where there is one
-use Rattle.std.proofs.Common.{◌≡◌, ℕ, zero, suc, List, [], ◌∷◌, ◌++◌, Option, Some, None, option_map, slice_get, refl, ap, ◌∙◌}
+use Rattle.std.proofs.Common.{◌≡◌, ℕ, zero, suc, List, [], ◌∷◌, ◌++◌, Option, Some, None, option_map}
+use Rattle.std.proofs.Common.{slice_get, refl, ap, ◌∙◌}
 use Rattle.std.specs.Prelude.{if◌then◌else◌}
 use Rattle.std.specs.FinMap.{FinMap, get}
 use Rattle.std.specs.Ordering.{nat_cmp}
@@ -21,10 +22,16 @@ same_columns stamp e (TableKind t) = refl
 same_kind : (stamp : ℕ) (e : Edits) (k : Kind) → object_kind (edited_kind stamp e k) ≡ object_kind k
 same_kind stamp e (TableKind t) = refl
 
-one_named : (stamp id : ℕ) (own : Option Staged) (o : Object) → named_object id (with_own stamp own o) ≡ named_object id o
+one_named : (stamp id : ℕ) (own : Option Staged) (o : Object)
+    → named_object id (with_own stamp own o) ≡ named_object id o
 one_named stamp id None o = refl
 one_named stamp id (Some s) o =
-    λ i. record { name = o.name; id = id; kind = same_kind stamp s.edits o.kind i; columns = same_columns stamp s.edits o.kind i }
+    λ i. record {
+      name = o.name;
+      id = id;
+      kind = same_kind stamp s.edits o.kind i;
+      columns = same_columns stamp s.edits o.kind i;
+    }
 
 one_lives : (stamp : ℕ) (own : Option Staged) (o : Object) → (with_own stamp own o).is_live ≡ o.is_live
 one_lives stamp None o = refl
@@ -87,20 +94,24 @@ none_there objects id is = by_object (at_id objects id) refl
         let found = rw there at is in
         absurd cc
 
-pub seen_missing : (s : State) (t : Option Transaction) (id : ℕ) → table_at s.objects id ≡ None → table_at (seen s t).objects id ≡ None
+pub seen_missing : (s : State) (t : Option Transaction) (id : ℕ) → table_at s.objects id ≡ None
+    → table_at (seen s t).objects id ≡ None
 seen_missing s t id is =
     let h = seen_at s t id in
-    let none : at_id (seen s t).objects id ≡ None = h.is ∙ ap (option_map (with_own h.stamp h.own)) (none_there s.objects id is) in
+    let none : at_id (seen s t).objects id ≡ None =
+    h.is ∙ ap (option_map (with_own h.stamp h.own)) (none_there s.objects id is) in
     rw none
 
 pub seen_there : (s : State) (t : Option Transaction) (id : ℕ) (u : Table) → table_at s.objects id ≡ Some u
     → (v : Table) × (table_at (seen s t).objects id ≡ Some v)
 seen_there s t id u is = by_object (at_id s.objects id) refl
   where
-    by_object : (found : Option Object) → at_id s.objects id ≡ found → (v : Table) × (table_at (seen s t).objects id ≡ Some v)
+    by_object : (found : Option Object) → at_id s.objects id ≡ found
+        → (v : Table) × (table_at (seen s t).objects id ≡ Some v)
     by_object None none = let found = rw none at is in absurd cc
     by_object (Some o) there =
         let h = seen_at s t id in
-        let now : at_id (seen s t).objects id ≡ Some (with_own h.stamp h.own o) = h.is ∙ ap (option_map (with_own h.stamp h.own)) there in
+        let now : at_id (seen s t).objects id ≡ Some (with_own h.stamp h.own o) =
+        h.is ∙ ap (option_map (with_own h.stamp h.own)) there in
         let v = table_of_object (with_own h.stamp h.own o) in
         (v.0, rw now v.1)

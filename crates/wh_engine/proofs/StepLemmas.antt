@@ -25,8 +25,8 @@ use Rattle.wh_engine.specs.Sight.{Comes}
 abbrev Tree : Type 0
 Tree = tree.Statement
 
-pub comes_as : {E : Type 0} (sight : Sight) (r : Result Decision E) (o p : Outcome) → o ≡ p → IfOk r (λ d. Comes sight d o)
-    → IfOk r (λ d. Comes sight d p)
+pub comes_as : {E : Type 0} (sight : Sight) (r : Result Decision E) (o p : Outcome) → o ≡ p
+    → IfOk r (λ d. Comes sight d o) → IfOk r (λ d. Comes sight d p)
 comes_as sight r o p is comes = subst (λ (x : Outcome). IfOk r (λ d. Comes sight d x)) is comes
 
 -- ---- commands
@@ -67,14 +67,16 @@ pub carried_rollback : (m : Machine) (session : ℕ) → rollback m session ≡ 
 unfolding carried_out
 carried_rollback m session = refl
 
-pub carried_create : (m : Machine) (session : ℕ) (replace : Bool) (name : List ℕ) (columns : List Column) (retention : ℕ)
+pub carried_create : (m : Machine) (session : ℕ) (replace : Bool) (name : List ℕ)
+    (columns : List Column) (retention : ℕ)
     → defines m session (replaced_id m.state replace name) (create_table m.state replace name columns retention)
     ≡ carried_out m session (Some (CreateTable replace name columns retention))
 unfolding carried_out
 carried_create m session replace name columns retention = refl
 
 pub carried_drop : (m : Machine) (session : ℕ) (name : List ℕ)
-    → defines m session (id_of name m.state.objects) (drop_table m.state name) ≡ carried_out m session (Some (DropTable name))
+    → defines m session (id_of name m.state.objects) (drop_table m.state name)
+    ≡ carried_out m session (Some (DropTable name))
 unfolding carried_out
 carried_drop m session name = refl
 

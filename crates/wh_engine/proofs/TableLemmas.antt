@@ -4,7 +4,8 @@
 --     create_is                the outcome of CREATE TABLE
 --     within_limits            what a table that passes all tests keeps
 --     creation_written         what is written for it
-use Rattle.std.proofs.Common.{◌≡◌, ℕ, ◌+◌, ◌-◌, ◌≤◌, List, [], ◌∷◌, ◌++◌, length, Option, Some, None, option_map, is_some, Bool, true, false, cond, inl, inr, refl, ap, sym, ◌∙◌, arith}
+use Rattle.std.proofs.Common.{◌≡◌, ℕ, ◌+◌, ◌-◌, ◌≤◌, List, [], ◌∷◌, ◌++◌, length, Option, Some, None, option_map}
+use Rattle.std.proofs.Common.{is_some, Bool, true, false, cond, inl, inr, refl, ap, sym, ◌∙◌, arith}
 use Rattle.std.specs.Prelude.{nat_lt, not, ◌&&◌}
 use Rattle.std.specs.List.{list_any}
 use Rattle.std.proofs.lemmas.Bool.{cases_lt, lt-ltb}
@@ -15,7 +16,8 @@ use Rattle.wh_value.specs.declared.limit.Limit.TheVariants as limits
 use Rattle.wh_reply.specs.Reply.{Refusal, NameTaken, OverLimit, CreatedTable}
 use Rattle.wh_machine.specs.State.{State, dropped, id_of, live_count, stamped}
 use Rattle.wh_machine.specs.Outcome.{Outcome, MakesTable, commits, refused_if, refused_past, first_of, unless}
-use Rattle.wh_machine.specs.Tables.{names_of, taken_name, is_long, one_if, replaced_id, is_name_taken, table_refusal, drops, create_table}
+use Rattle.wh_machine.specs.Tables.{names_of, taken_name, is_long, one_if, replaced_id, is_name_taken, table_refusal}
+use Rattle.wh_machine.specs.Tables.{drops, create_table}
 use Rattle.wh_machine.specs.Stored.{StoredObject}
 use Rattle.wh_machine.specs.Commit.{CreatesTable, Drops, changed}
 use Rattle.wh_machine.specs.Written.{written}
@@ -50,7 +52,8 @@ abbrev pub creates : State → Bool → List ℕ → List Column → ℕ → Out
 creates s replace name columns retention =
     commits (CreatedTable name) (drops (replaced_id s replace name) ++ MakesTable name columns retention ∷ [])
 
-pub replaced_stamped : (s : State) (stamp : ℕ) (replace : Bool) (name : List ℕ) → replaced_id (stamped s stamp) replace name ≡ replaced_id s replace name
+pub replaced_stamped : (s : State) (stamp : ℕ) (replace : Bool) (name : List ℕ)
+    → replaced_id (stamped s stamp) replace name ≡ replaced_id s replace name
 replaced_stamped s stamp true name = refl
 replaced_stamped s stamp false name = refl
 
@@ -80,7 +83,8 @@ create_is s stamp replace name columns retention =
     ap (λ (found : Option Refusal). unless found (creates (stamped s stamp) replace name columns retention))
     (refusal_stamped s stamp replace name columns retention)
     ∙ ap (λ (found : Option ℕ). unless (table_refusal s replace name columns retention)
-    (commits (CreatedTable name) (drops found ++ MakesTable name columns retention ∷ []))) (replaced_stamped s stamp replace name)
+    (commits (CreatedTable name) (drops found ++ MakesTable name columns retention ∷ [])))
+    (replaced_stamped s stamp replace name)
 
 -- ---- a table that passes them
 
@@ -131,4 +135,6 @@ pub creation_written : (stamp : ℕ) (objects : List StoredObject) (replaced : O
     ≡ written stamp objects (drops replaced ++ MakesTable name columns retention ∷ [])
 creation_written stamp objects None name columns retention = refl
 creation_written stamp objects (Some id) name columns retention =
-    ap (λ (n : ℕ). Drops id ∷ CreatesTable (record { id = n + 1; name = name; retention = retention; columns = columns }) ∷ []) (sym (after_drop stamp id objects))
+    ap (λ (n : ℕ). Drops id
+    ∷ CreatesTable (record { id = n + 1; name = name; retention = retention; columns = columns }) ∷ [])
+    (sym (after_drop stamp id objects))

@@ -68,7 +68,8 @@ settlement_of (decisions.Refuse why) = settlements.Answers
 settlement_of (decisions.Do reply settlement) = settlement
 
 abbrev pub StagesInOpen : Sessions → Settlement → Type 0
-StagesInOpen sessions (settlements.Stages session id next_row effect) = IsTrue (is_some (transaction_in sessions session))
+StagesInOpen sessions (settlements.Stages session id next_row effect) =
+    IsTrue (is_some (transaction_in sessions session))
 StagesInOpen sessions _ = Unit {0}
 
 -- over what a file says, at a stamp

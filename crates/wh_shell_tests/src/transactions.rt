@@ -103,7 +103,10 @@ fn assert_stop(rt: &(impl Abort + Threads + Sync), alloc: Global, call: u64) {
     let told = commits_told(left.out.held());
     // The synced bytes, what a read gives, and what is torn within the first bytes.
     for pick in 0..100u64 {
-        assert!(rt; pick_holds(rt, alloc, &left.disk, pick, told), "call {call}, pick {pick}");
+        assert!(rt;
+            pick_holds(rt, alloc, &left.disk, pick, told),
+            "call {call}, pick {pick}"
+        );
     }
 }
 
@@ -123,8 +126,7 @@ fn a_stop_in_transactions_leaves_the_commits_that_were_told(rt: HostRuntime) {
 fn a_script_that_ends_in_a_transaction_leaves_what_was_committed(rt: HostRuntime) {
     const SECOND: &[u8] = b"SELECT * FROM T; COMMIT; !session 2
 UPDATE T SET K = K + 1; SELECT * FROM U;";
-    const REPLIES: &[u8] =
-        b"K\n2\n(1 rows)\nE5 NoTransaction\nUPDATED 1\nK\n11\n20\n(2 rows)\n";
+    const REPLIES: &[u8] = b"K\n2\n(1 rows)\nE5 NoTransaction\nUPDATED 1\nK\n11\n20\n(2 rows)\n";
     let alloc = rt.alloc();
     let first = carried_out(&rt, alloc, b"", SCRIPT);
     let second = carried_out(&rt, alloc, first.disk.bytes(), SECOND);

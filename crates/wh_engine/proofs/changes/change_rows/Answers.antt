@@ -18,7 +18,8 @@ pub returns-in-Ok : goal.returns-in-Ok
 returns-in-Ok c =
     let sight = c.args.sight.now in
     let names : List Named = map named_of c.deref.result.now in
-    let named : names ≡ names_from 1 (state_of sight.catalog.now).objects = ap (map named_of) c.deref.ensures.value ∙ c.in_ok-names.ensures in
+    let named : names ≡ names_from 1 (state_of sight.catalog.now).objects =
+    ap (map named_of) c.deref.ensures.value ∙ c.in_ok-names.ensures in
     comes_change sight c.change_bound-decision.result c.args.statement.now names c.in-Ok.bound named
     c.in-Ok.ensures c.change_bound-decision.ensures
 
@@ -27,7 +28,8 @@ returns-in-Err-Failing c =
     let sight = c.args.sight.now in
     let m = machine_in sight in
     let names : List Named = map named_of c.deref.result.now in
-    let named : names ≡ names_from 1 (state_of sight.catalog.now).objects = ap (map named_of) c.deref.ensures.value ∙ c.in_ok-names.ensures in
+    let named : names ≡ names_from 1 (state_of sight.catalog.now).objects =
+    ap (map named_of) c.deref.ensures.value ∙ c.in_ok-names.ensures in
     let meant = bound_change names c.args.statement.now in
     let found : first_failing meant.findings ≡ Some (failing_of c.in-Err-Failing.failing) =
     subst (λ (f : BindFault). Binds (Err f) meant) c.in-Err-Failing.field-0-is c.in-Err-Failing.ensures in

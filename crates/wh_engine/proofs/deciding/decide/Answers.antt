@@ -26,4 +26,5 @@ pub returns-in-Tick : goal.returns-in-Tick
 returns-in-Tick c =
     let sessions = sessions_of c.args.sessions.now in
     let m = machine_at (stamped (state_of c.args.catalog.now) c.args.stamp) sessions in
-    answers (stored_of c.args.catalog.now) sessions c.args.stamp _ _ Idle refl (ap (λ (e : Event). outcome_of m (event_of e)) c.in-Tick.is)
+    answers (stored_of c.args.catalog.now) sessions c.args.stamp _ _ Idle refl
+    (ap (λ (e : Event). outcome_of m (event_of e)) c.in-Tick.is)

@@ -16,7 +16,8 @@ returns-then-bound-text c =
     let sight = c.args.sight.now in
     let m = machine_in sight in
     let long : 65536 < length c.args.text.now = omega (arith, c.bound.ensures) in
-    declines (stored_of sight.catalog.now) (sessions_of sight.sessions.now) sight.stamp _ _ (OverLimit limits.Statement) refl
+    declines (stored_of sight.catalog.now) (sessions_of sight.sessions.now) sight.stamp _ _
+    (OverLimit limits.Statement) refl
     (ap (commanded m sight.session) (long_request c.args.text.now long) ∙ command_long m sight.session)
 
 pub returns-in-Ok : goal.returns-in-Ok
@@ -25,7 +26,8 @@ returns-in-Ok c =
     let m = machine_in sight in
     let within : length c.args.text.now ≤ 65536 = omega (arith, c.bound.ensures) in
     comes_as sight c.decide_tree-decision.result _ _
-    (ap (commanded m sight.session) (sym (short_request c.args.text.now (Some c.in-Ok.statement) within c.in-Ok.ensures.reads)))
+    (ap (commanded m sight.session)
+    (sym (short_request c.args.text.now (Some c.in-Ok.statement) within c.in-Ok.ensures.reads)))
     c.decide_tree-decision.ensures
 
 pub returns-in-Err-SyntaxError : goal.returns-in-Err-SyntaxError
@@ -35,4 +37,5 @@ returns-in-Err-SyntaxError c =
     let within : length c.args.text.now ≤ 65536 = omega (arith, c.bound.ensures) in
     let none : read_statement c.args.text.now ≡ None = search rules in
     declines (stored_of sight.catalog.now) (sessions_of sight.sessions.now) sight.stamp _ _ SyntaxError refl
-    (ap (commanded m sight.session) (short_request c.args.text.now None within none) ∙ command_unreadable m sight.session)
+    (ap (commanded m sight.session) (short_request c.args.text.now None within none)
+    ∙ command_unreadable m sight.session)

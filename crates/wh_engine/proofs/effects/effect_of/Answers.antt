@@ -12,5 +12,6 @@ pub returns-then-is_insert : goal.returns-then-is_insert
 returns-then-is_insert c = λ t there.
     let change = change_of c.args.bound.now.change in
     subst (λ (o : effects.Outcome). Gives c.effect.result o)
-    (unseen change (rows_seen t) (evaluation.instance_of c.args.sources.now) (sym c.is_insert.ensures ∙ c.if-is_insert.true))
+    (unseen change (rows_seen t) (evaluation.instance_of c.args.sources.now)
+    (sym c.is_insert.ensures ∙ c.if-is_insert.true))
     c.effect.ensures

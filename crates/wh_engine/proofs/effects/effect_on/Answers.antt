@@ -14,6 +14,8 @@ pub returns : goal.returns
 returns c = λ t there.
     let objects = objects_seen c.args.sight.now in
     let ids = c.deref.result.now in
-    subst (λ (i : Instance). Gives c.effect_over-effect.result (effect (change_of c.args.bound.now.change) (rows_seen t) i))
+    subst (λ (i : Instance). Gives c.effect_over-effect.result
+    (effect (change_of c.args.bound.now.change) (rows_seen t) i))
     (bags_of objects ids ∙ ap (instance_of objects) c.deref.ensures.value)
-    (c.effect_over-effect.ensures t (map (λ id. table_at objects id) ids) there (rw c.deref-2.ensures.value c.in_ok-tables.ensures))
+    (c.effect_over-effect.ensures t (map (λ id. table_at objects id) ids) there
+    (rw c.deref-2.ensures.value c.in_ok-tables.ensures))

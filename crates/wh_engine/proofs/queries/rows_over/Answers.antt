@@ -15,8 +15,10 @@ returns-in-Ok c = λ meant shown.
     let b = c.args.bound.now in
     let sources : evaluation.instance_of c.deref.result.now ≡ map table_bag meant =
     ap evaluation.instance_of c.deref.ensures.value ∙ c.in_ok-sources.ensures meant shown in
-    let found : eval (query_of b.query) (evaluation.instance_of c.deref.result.now) ≡ Some (bag_of (rows_in c.in-Ok.tuples.items)) = c.in-Ok.ensures in
-    ap Some (c.in_ok-listed-in-Ok.ensures ∙ ap (λ keys. listed (keys_of keys) (bag_of (rows_in c.in-Ok.tuples.items))) c.deref-in-Ok.ensures.value)
+    let found : eval (query_of b.query) (evaluation.instance_of c.deref.result.now)
+    ≡ Some (bag_of (rows_in c.in-Ok.tuples.items)) = c.in-Ok.ensures in
+    ap Some (c.in_ok-listed-in-Ok.ensures
+    ∙ ap (λ keys. listed (keys_of keys) (bag_of (rows_in c.in-Ok.tuples.items))) c.deref-in-Ok.ensures.value)
     ∙ ap (option_map (listed (keys_of b.keys.items))) (sym found ∙ ap (eval (query_of b.query)) sources)
 
 pub returns-in-Err-NumberOutOfRange : goal.returns-in-Err-NumberOutOfRange
@@ -25,6 +27,7 @@ returns-in-Err-NumberOutOfRange c = λ meant shown.
     let sources : evaluation.instance_of c.deref.result.now ≡ map table_bag meant =
     ap evaluation.instance_of c.deref.ensures.value ∙ c.in_ok-sources.ensures meant shown in
     let none : eval (query_of b.query) (evaluation.instance_of c.deref.result.now) ≡ None =
-    subst (λ (f : EvalFault). evaluation.Evaluates (Err f) (eval (query_of b.query) (evaluation.instance_of c.deref.result.now)))
+    subst (λ (f : EvalFault). evaluation.Evaluates (Err f)
+    (eval (query_of b.query) (evaluation.instance_of c.deref.result.now)))
     c.in-Err-NumberOutOfRange.field-0-is c.in-Err-NumberOutOfRange.ensures in
     ap (option_map (listed (keys_of b.keys.items))) (sym none ∙ ap (eval (query_of b.query)) sources)

@@ -37,7 +37,8 @@ returns c = λ meant is.
     let objects = objects_seen sight in
     let rows = c.in-Some.rows.items in
     let names : c.in_ok-names.names.items ≡ meant.names = c.in_ok-names.ensures ∙ c.deref.ensures.value ∙ is.names in
-    answers (stored_of sight.catalog.now) sessions sight.stamp (shown.Listing c.in_ok-names.names c.in-Some.rows) _ (Listing meant.names rows)
+    answers (stored_of sight.catalog.now) sessions sight.stamp (shown.Listing c.in_ok-names.names c.in-Some.rows) _
+    (Listing meant.names rows)
     (ap (λ (n : List (List ℕ)). Listing n rows) names)
     (ap (λ (o : tables.Outcome). alone sessions o)
     (is_shown objects meant rows is.nothing_found (sym is.is_wide ∙ c.if-bound.false)

@@ -1,4 +1,5 @@
-use Rattle.std.proofs.Common.{◌≡◌, ℕ, ◌+◌, [], ◌∷◌, ◌++◌, length, Option, Some, None, option_map, refl, ap, sym, ◌∙◌, arith, rules}
+use Rattle.std.proofs.Common.{◌≡◌, ℕ, ◌+◌, [], ◌∷◌, ◌++◌, length, Option, Some, None, option_map, refl}
+use Rattle.std.proofs.Common.{ap, sym, ◌∙◌, arith, rules}
 use Rattle.wh_reply.specs.Reply.{CreatedTable, DdlInTransaction, Locked}
 use Rattle.wh_reply.specs.View.{refusal_view}
 use Rattle.wh_machine.specs.Outcome.{MakesTable, first_of}
@@ -25,13 +26,15 @@ returns-in-Some c =
     let sessions = sessions_of sight.sessions.now in
     let found : first_of (option_map DdlInTransaction (number_in sessions sight.session)
     ∷ table_refusal s t.replace t.name (columns_of t) t.retention
-    ∷ option_map Locked (holder_of sessions (replaced_id s t.replace t.name)) ∷ []) ≡ Some (refusal_view c.in-Some.why) =
+    ∷ option_map Locked (holder_of sessions (replaced_id s t.replace t.name)) ∷ [])
+    ≡ Some (refusal_view c.in-Some.why) =
     ap (λ (old : Option ℕ). first_of (option_map DdlInTransaction (number_in sessions sight.session)
     ∷ table_refusal s t.replace t.name (columns_of t) t.retention ∷ option_map Locked (holder_of sessions old) ∷ []))
     (sym c.replaced_id-replaced.ensures)
     ∙ sym c.in_ok-why.ensures ∙ ap (option_map refusal_view) c.in-Some.is in
     declines (stored_of sight.catalog.now) sessions sight.stamp _ _ (refusal_view c.in-Some.why) refl
-    (defines_table s sight.stamp sessions sight.session t.replace t.name (columns_of t) t.retention (Some (refusal_view c.in-Some.why)) found)
+    (defines_table s sight.stamp sessions sight.session t.replace t.name (columns_of t) t.retention
+    (Some (refusal_view c.in-Some.why)) found)
 
 pub overflow_add-id : goal.overflow_add-id
 overflow_add-id c =
@@ -68,15 +71,19 @@ returns c =
     let none : c.in_ok-why.field-0 ≡ None = search rules in
     let replaced = replaced_id s t.replace t.name in
     let passed : first_of (option_map DdlInTransaction (number_in sessions sight.session)
-    ∷ table_refusal s t.replace t.name (columns_of t) t.retention ∷ option_map Locked (holder_of sessions replaced) ∷ []) ≡ None =
+    ∷ table_refusal s t.replace t.name (columns_of t) t.retention
+    ∷ option_map Locked (holder_of sessions replaced) ∷ []) ≡ None =
     ap (λ (old : Option ℕ). first_of (option_map DdlInTransaction (number_in sessions sight.session)
     ∷ table_refusal s t.replace t.name (columns_of t) t.retention ∷ option_map Locked (holder_of sessions old) ∷ []))
     (sym c.replaced_id-replaced.ensures)
     ∙ sym c.in_ok-why.ensures ∙ ap (option_map refusal_view) none in
-    let made : ℕ → TableChange = λ id. record { id = id; name = t.name; retention = t.retention; columns = columns_of t } in
+    let made : ℕ → TableChange =
+    λ id. record { id = id; name = t.name; retention = t.retention; columns = columns_of t } in
     let items : changes_of c.in_ok-changes.changes ≡ made_behind replaced (made (length stored.objects + 1)) =
-    c.in_ok-changes.ensures ∙ (λ i. made_behind (c.replaced_id-replaced.ensures i) (made (c.object_count.ensures.count i + 1))) in
-    commits stored sessions sight.stamp _ _ _ (CreatedTable t.name) (drops replaced ++ MakesTable t.name (columns_of t) t.retention ∷ [])
+    c.in_ok-changes.ensures
+    ∙ (λ i. made_behind (c.replaced_id-replaced.ensures i) (made (c.object_count.ensures.count i + 1))) in
+    commits stored sessions sight.stamp _ _ _ (CreatedTable t.name)
+    (drops replaced ++ MakesTable t.name (columns_of t) t.retention ∷ [])
     (ap CreatedTable c.in_ok-copy.ensures)
     (items ∙ creation_written sight.stamp stored.objects replaced t.name (columns_of t) t.retention)
     (defines_table s sight.stamp sessions sight.session t.replace t.name (columns_of t) t.retention None passed)

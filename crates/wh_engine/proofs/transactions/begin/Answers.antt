@@ -11,11 +11,13 @@ pub returns-in-Some : goal.returns-in-Some
 returns-in-Some c =
     let sight = c.args.sight.now in
     let number = c.in-Some.number in
-    declines (stored_of sight.catalog.now) (sessions_of sight.sessions.now) sight.stamp _ _ (TransactionOpen number) refl
+    declines (stored_of sight.catalog.now) (sessions_of sight.sessions.now) sight.stamp _ _
+    (TransactionOpen number) refl
     (begin_open (machine_in sight) sight.session number (sym c.number.ensures ∙ c.in-Some.is))
 
 pub returns-in-None : goal.returns-in-None
 returns-in-None c =
     let sight = c.args.sight.now in
-    begins (stored_of sight.catalog.now) (sessions_of sight.sessions.now) sight.stamp sight.session _ _ (Begun sight.stamp) refl
+    begins (stored_of sight.catalog.now) (sessions_of sight.sessions.now) sight.stamp sight.session _ _
+    (Begun sight.stamp) refl
     (begin_new (machine_in sight) sight.session (sym c.number.ensures ∙ c.in-None.is))

@@ -7,7 +7,8 @@ use Rattle.wh_sessions.specs.Sessions.{transaction_in}
 use Rattle.wh_txn.specs.View.{sessions_of}
 use Rattle.wh_engine.specs.Sight.{machine_in}
 use Rattle.wh_engine.proofs.OutcomeLemmas.{declines}
-use Rattle.wh_engine.proofs.TransactionLemmas.{is_closed, is_open, commit_closed, commit_past, commits_changes, commits_nothing}
+use Rattle.wh_engine.proofs.TransactionLemmas.{is_closed, is_open, commit_closed, commit_past, commits_changes}
+use Rattle.wh_engine.proofs.TransactionLemmas.{commits_nothing}
 use Rattle.wh_engine.proofs.transactions.commit.Goals as goal
 
 pub returns-then-is_none : goal.returns-then-is_none
@@ -16,7 +17,8 @@ returns-then-is_none c =
     let sessions = sessions_of sight.sessions.now in
     declines (stored_of sight.catalog.now) sessions sight.stamp _ _ NoTransaction refl
     (commit_closed (machine_in sight) sight.session
-    (is_closed (transaction_in sessions sight.session) c.number.result c.number.ensures (c.is_none.ensures ∙ ap not c.if-is_none.true)))
+    (is_closed (transaction_in sessions sight.session) c.number.result c.number.ensures
+    (c.is_none.ensures ∙ ap not c.if-is_none.true)))
 
 pub returns-in-Ok-Some : goal.returns-in-Ok-Some
 returns-in-Ok-Some c =
@@ -44,4 +46,5 @@ returns-in-Err-Limit c =
     (c.is_none.ensures ∙ ap not c.if-is_none.false) in
     declines (stored_of sight.catalog.now) sessions sight.stamp _ _ (OverLimit c.in-Err-Limit.which) refl
     (commit_past (machine_in sight) sight.session t.0 c.in-Err-Limit.field-0-0 c.in-Err-Limit.which t.1
-    (c.commit_record.ensures.limit c.in-Err-Limit.field-0-0 c.in-Err-Limit.which (c.in-Err-Limit.is ∙ ap Err c.in-Err-Limit.field-0-is) t.0 t.1))
+    (c.commit_record.ensures.limit c.in-Err-Limit.field-0-0 c.in-Err-Limit.which
+    (c.in-Err-Limit.is ∙ ap Err c.in-Err-Limit.field-0-is) t.0 t.1))

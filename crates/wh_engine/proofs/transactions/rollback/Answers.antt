@@ -12,7 +12,8 @@ pub returns-in-Some : goal.returns-in-Some
 returns-in-Some c =
     let sight = c.args.sight.now in
     let sessions = sessions_of sight.sessions.now in
-    let t = is_open (transaction_in sessions sight.session) c.number.result c.number.ensures (ap is_some c.in-Some.is) in
+    let t =
+    is_open (transaction_in sessions sight.session) c.number.result c.number.ensures (ap is_some c.in-Some.is) in
     ends (stored_of sight.catalog.now) sessions sight.stamp sight.session _ None _ RolledBack None refl refl
     (rollback_open (machine_in sight) sight.session t.0 t.1)
 

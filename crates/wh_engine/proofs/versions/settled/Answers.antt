@@ -32,7 +32,8 @@ returns-in-Some c = λ s sessions there.
     ∙ ap (option_map refusal_view) c.in-Some.is in
     declines s sessions c.args.stamp _ _ (refusal_view c.in-Some.why) refl
     (ap (λ (o : tables.Outcome). alone sessions o)
-    (rows_past c.args.bound.now.target (changes.change_of c.args.bound.now.change) t e (refusal_view c.in-Some.why) past))
+    (rows_past c.args.bound.now.target (changes.change_of c.args.bound.now.change) t e
+    (refusal_view c.in-Some.why) past))
 
 pub rewritten-requires : goal.rewritten-requires
 rewritten-requires c =
@@ -51,7 +52,8 @@ returns-in_default-2 c = λ s sessions there.
     (λ i. refused_past limits.RowNumber (sym c.next_row.ensures.number i + sym c.counts_of-counts.ensures.inserted i))
     ∙ sym c.refused_past.ensures
     ∙ ap (option_map refusal_view) c.in_default.is in
-    let over : nat_le (made_count e t) (bound limits.PartitionNumber) ≡ false = sym c.in_ok-rewritten.ensures.fits ∙ ap is_some c.in_default-2.is in
+    let over : nat_le (made_count e t) (bound limits.PartitionNumber) ≡ false =
+    sym c.in_ok-rewritten.ensures.fits ∙ ap is_some c.in_default-2.is in
     declines s sessions c.args.stamp _ _ (OverLimit limits.PartitionNumber) refl
     (ap (λ (o : tables.Outcome). alone sessions o)
     (partitions_past c.args.bound.now.target (changes.change_of c.args.bound.now.change) t e none over))
@@ -66,10 +68,12 @@ returns-then-not-is_some_counted c = λ s sessions there.
     (λ i. refused_past limits.RowNumber (sym c.next_row.ensures.number i + sym counts.inserted i))
     ∙ sym c.refused_past.ensures
     ∙ ap (option_map refusal_view) c.in_default.is in
-    let fits : nat_le (made_count e t) (bound limits.PartitionNumber) ≡ true = sym c.in_ok-rewritten.ensures.fits ∙ ap is_some c.in-Some-2.is in
+    let fits : nat_le (made_count e t) (bound limits.PartitionNumber) ≡ true =
+    sym c.in_ok-rewritten.ensures.fits ∙ ap is_some c.in-Some-2.is in
     answers s sessions c.args.stamp _ _ (reply_to change e) (c.reply_to.ensures e counts)
     (ap (λ (o : tables.Outcome). alone sessions o)
-    (uncounted c.args.bound.now.target change t e none fits (sym (c.is_some_counted.ensures e counts) ∙ c.if-not-is_some_counted.true)))
+    (uncounted c.args.bound.now.target change t e none fits
+    (sym (c.is_some_counted.ensures e counts) ∙ c.if-not-is_some_counted.true)))
 
 pub returns : goal.returns
 returns c = λ s sessions there.
@@ -91,7 +95,8 @@ returns c = λ s sessions there.
     (ap (λ (n : ℕ). t.next_row + n) counts.inserted) refl made.removed made.added in
     let items : map change_of c.in_ok-changes.changes.items ≡ written ∷ [] =
     ap (map change_of) c.in_ok-changes.ensures.items ∙ ap (λ (one : Change). one ∷ []) version in
-    commits s sessions c.args.stamp _ _ _ (reply_to change e) (EditsRows id (edits_of e) ∷ []) (c.reply_to-2.ensures e counts)
+    commits s sessions c.args.stamp _ _ _ (reply_to change e)
+    (EditsRows id (edits_of e) ∷ []) (c.reply_to-2.ensures e counts)
     (items ∙ sym (written_edits c.args.stamp s.objects id (edits_of e) t there))
     (ap (λ (o : tables.Outcome). alone sessions o)
     (is_counted id change t e none fits (sym (c.is_some_counted.ensures e counts) ∙ c.if-not-is_some_counted.false)))

@@ -11,4 +11,5 @@ push-requires g c =
     let h = c.args.history.now in
     let next = next_in (nexts_of h) in
     let P : List Partition → Type 0 = NumberedFrom next in
-    subst P (sym (rw c.in-Some.is at (rw c.expect.ensures at c.rewrite.ensures.added))) (made_numbered next c.args.next_row (edits_in c.args.edits) (standing_in (versions_of h)))
+    subst P (sym (rw c.in-Some.is at (rw c.expect.ensures at c.rewrite.ensures.added)))
+    (made_numbered next c.args.next_row (edits_in c.args.edits) (standing_in (versions_of h)))

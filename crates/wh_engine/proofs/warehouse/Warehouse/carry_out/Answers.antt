@@ -29,11 +29,19 @@ returns-then-bound-stamp-clause-answered g c =
     let e = event_of c.args.event.now in
     let none : c.failed.result ≡ None = search rules in
     let past : bound limits.Stamp ≤ stamp_of (state_of w.catalog) (reading_of e) =
-    omega (arith, c.max-stamp.ensures, c.reading.ensures, c.last.ensures.last, c.bound.ensures, c.if-bound-stamp.true) in
+    omega (
+      arith,
+      c.max-stamp.ensures,
+      c.reading.ensures,
+      c.last.ensures.last,
+      c.bound.ensures,
+      c.if-bound-stamp.true,
+    ) in
     let h = unstamped (stored_of w.catalog) (machine_of w) e past in
     record {
       replied = sym (ap (λ (p : Machine × Reply). p.1) h.1);
-      carried = carries_nothing w w _ _ h.0 refl refl refl (sym (ap (λ (p : Machine × Reply). p.0) h.1)) (sym c.failed.ensures ∙ none);
+      carried = carries_nothing w w _ _ h.0 refl refl refl (sym (ap (λ (p : Machine × Reply). p.0) h.1))
+          (sym c.failed.ensures ∙ none);
     }
 
 pub returns-then-bound-stamp-clause-any_moment : goal.returns-then-bound-stamp-clause-any_moment
@@ -57,25 +65,31 @@ settle-requires g c =
       healthy = sym c.failed.ensures ∙ none;
       later = omega (arith, c.max-stamp.ensures, c.last.ensures.committed);
       within = omega (arith, c.bound.ensures, c.if-bound-stamp.false);
-      staged = subst (StagesInOpen (sessions_of c.args.self.now.sessions)) (sym c.into_parts-reply.ensures.settlement) c.in_ok-decision.ensures.staged;
+      staged = subst (StagesInOpen (sessions_of c.args.self.now.sessions))
+          (sym c.into_parts-reply.ensures.settlement) c.in_ok-decision.ensures.staged;
     }
 
 pub returns-in_err-settle-clause-halted : goal.returns-in_err-settle-clause-halted
 returns-in_err-settle-clause-halted g c =
     let w = c.args.self.now in
     let e = event_of c.args.event.now in
-    let h = turns w.catalog (sessions_of w.sessions) e c.reading.result c.last.result c.bound.result c.max-stamp.result c.in_ok-decision.decision _ _
-    c.last.ensures.orderly c.reading.ensures c.last.ensures.last c.bound.ensures c.max-stamp.ensures c.if-bound-stamp.false c.in_ok-decision.ensures
+    let h = turns w.catalog (sessions_of w.sessions) e c.reading.result c.last.result c.bound.result c.max-stamp.result
+    c.in_ok-decision.decision _ _
+    c.last.ensures.orderly c.reading.ensures c.last.ensures.last c.bound.ensures c.max-stamp.ensures
+    c.if-bound-stamp.false c.in_ok-decision.ensures
     c.into_parts-reply.ensures.settlement c.into_parts-reply.ensures.reply in
-    passed_on c.from_residual-in_err-settle.result c.in_err-settle.field-0.0 (λ halt. Halted w c.settle.new.self (made_in w e) halt)
+    passed_on c.from_residual-in_err-settle.result c.in_err-settle.field-0.0
+    (λ halt. Halted w c.settle.new.self (made_in w e) halt)
     c.from_residual-in_err-settle.ensures.1 (rw h.commit c.in_err-settle.ensures.halted)
 
 pub returns-in_err-settle-clause-any_moment : goal.returns-in_err-settle-clause-any_moment
 returns-in_err-settle-clause-any_moment g c =
     let w = c.args.self.now in
     let e = event_of c.args.event.now in
-    let h = turns w.catalog (sessions_of w.sessions) e c.reading.result c.last.result c.bound.result c.max-stamp.result c.in_ok-decision.decision _ _
-    c.last.ensures.orderly c.reading.ensures c.last.ensures.last c.bound.ensures c.max-stamp.ensures c.if-bound-stamp.false c.in_ok-decision.ensures
+    let h = turns w.catalog (sessions_of w.sessions) e c.reading.result c.last.result c.bound.result c.max-stamp.result
+    c.in_ok-decision.decision _ _
+    c.last.ensures.orderly c.reading.ensures c.last.ensures.last c.bound.ensures c.max-stamp.ensures
+    c.if-bound-stamp.false c.in_ok-decision.ensures
     c.into_parts-reply.ensures.settlement c.into_parts-reply.ensures.reply in
     rw (ap (λ (m : Machine). m.state) h.leaves) c.settle.ensures.any_moment
 
@@ -83,8 +97,10 @@ pub returns-clause-answered : goal.returns-clause-answered
 returns-clause-answered g c =
     let w = c.args.self.now in
     let e = event_of c.args.event.now in
-    let h = turns w.catalog (sessions_of w.sessions) e c.reading.result c.last.result c.bound.result c.max-stamp.result c.in_ok-decision.decision _ _
-    c.last.ensures.orderly c.reading.ensures c.last.ensures.last c.bound.ensures c.max-stamp.ensures c.if-bound-stamp.false c.in_ok-decision.ensures
+    let h = turns w.catalog (sessions_of w.sessions) e c.reading.result c.last.result c.bound.result c.max-stamp.result
+    c.in_ok-decision.decision _ _
+    c.last.ensures.orderly c.reading.ensures c.last.ensures.last c.bound.ensures c.max-stamp.ensures
+    c.if-bound-stamp.false c.in_ok-decision.ensures
     c.into_parts-reply.ensures.settlement c.into_parts-reply.ensures.reply in
     record { replied = h.replied; carried = rw (h.commit, h.leaves) c.in_ok-settle.ensures.answered }
 
@@ -92,7 +108,9 @@ pub returns-clause-any_moment : goal.returns-clause-any_moment
 returns-clause-any_moment g c =
     let w = c.args.self.now in
     let e = event_of c.args.event.now in
-    let h = turns w.catalog (sessions_of w.sessions) e c.reading.result c.last.result c.bound.result c.max-stamp.result c.in_ok-decision.decision _ _
-    c.last.ensures.orderly c.reading.ensures c.last.ensures.last c.bound.ensures c.max-stamp.ensures c.if-bound-stamp.false c.in_ok-decision.ensures
+    let h = turns w.catalog (sessions_of w.sessions) e c.reading.result c.last.result c.bound.result c.max-stamp.result
+    c.in_ok-decision.decision _ _
+    c.last.ensures.orderly c.reading.ensures c.last.ensures.last c.bound.ensures c.max-stamp.ensures
+    c.if-bound-stamp.false c.in_ok-decision.ensures
     c.into_parts-reply.ensures.settlement c.into_parts-reply.ensures.reply in
     rw (ap (λ (m : Machine). m.state) h.leaves) c.settle.ensures.any_moment

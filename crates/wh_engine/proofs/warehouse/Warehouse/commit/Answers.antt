@@ -24,7 +24,8 @@ returns-in_err-framed-clause-any_moment g c = leaves_still g.met.D.Disk.only_now
 
 pub returns-in_err-reserve-clause-halted : goal.returns-in_err-reserve-clause-halted
 returns-in_err-reserve-clause-halted g c =
-    starved c.from_residual-in_err-reserve.result c.args.self.now _ _ c.from_residual-in_err-reserve.ensures.1 c.requires.healthy
+    starved c.from_residual-in_err-reserve.result c.args.self.now _ _
+    c.from_residual-in_err-reserve.ensures.1 c.requires.healthy
     (record { disk = refl; journal = c.reserve.ensures.same; stored = refl; sessions = refl }) refl
 
 pub returns-in_err-reserve-clause-any_moment : goal.returns-in_err-reserve-clause-any_moment
@@ -32,7 +33,8 @@ returns-in_err-reserve-clause-any_moment g c = leaves_still g.met.D.Disk.only_no
 
 pub returns-in_err-undo-clause-halted : goal.returns-in_err-undo-clause-halted
 returns-in_err-undo-clause-halted g c =
-    starved c.from_residual-in_err-undo.result c.args.self.now _ _ c.from_residual-in_err-undo.ensures.1 c.requires.healthy
+    starved c.from_residual-in_err-undo.result c.args.self.now _ _
+    c.from_residual-in_err-undo.ensures.1 c.requires.healthy
     (record { disk = refl; journal = c.reserve.ensures.same; stored = c.in_err-undo.ensures.same; sessions = refl })
     (ap (λ (s : State). machine_at s (sessions_of c.args.self.now.sessions)) c.in_err-undo.ensures.same_state)
 
@@ -111,6 +113,8 @@ returns-clause-halted g c =
     subst (Halted old _ (Some commit)) (sym c.from.ensures)
     (append_halts c.append.result fault old _ j commit payload c.in-Err.is calls fails
     (λ other. not_by_disk (IsUntouched old _) fault other
-    (λ len need is. let u = says.nothing_written len need (c.in-Err.is ∙ ap Err is) in untouched u.0 (subst (IsSame old.journal) (sym u.1) same) stored refl)
-    (λ faults is. let u = says.untouched faults (c.in-Err.is ∙ ap Err is) in untouched u.0 (subst (IsSame old.journal) (sym u.1) same) stored refl))
+    (λ len need is. let u = says.nothing_written len need (c.in-Err.is ∙ ap Err is) in
+    untouched u.0 (subst (IsSame old.journal) (sym u.1) same) stored refl)
+    (λ faults is. let u = says.untouched faults (c.in-Err.is ∙ ap Err is) in
+    untouched u.0 (subst (IsSame old.journal) (sym u.1) same) stored refl))
     (ap (λ (s : State). machine_at s (sessions_of old.sessions)) (c.undo.ensures.state old.catalog undoes)) says.later)

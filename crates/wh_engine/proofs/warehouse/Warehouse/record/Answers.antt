@@ -11,7 +11,8 @@ pub returns-in-None-clause-answered : goal.returns-in-None-clause-answered
 returns-in-None-clause-answered g c =
     let old = c.args.self.now in
     let none : commit_at c.args.stamp (option_map changes_of c.args.changes) ≡ None = rw c.in-None.is refl in
-    carries_nothing old _ _ _ none refl refl c.pass.ensures.stored (ap (λ (s : State). machine_at s (sessions_of old.sessions))
+    carries_nothing old _ _ _ none refl refl c.pass.ensures.stored
+    (ap (λ (s : State). machine_at s (sessions_of old.sessions))
     (state_passed old.catalog c.pass.new.self c.args.stamp _ none c.pass.ensures.state))
     c.requires.healthy
 

@@ -16,7 +16,8 @@ returns-in-Begins-clause-answered g c =
     let none : commit_at c.args.stamp (changes_in c.args.settlement) ≡ None = rw c.in-Begins.is refl in
     let sessions = c.begin.ensures ∙ ap (sessions_after c.args.stamp (sessions_of old.sessions)) (sym c.in-Begins.is) in
     carries_nothing old _ _ _ none refl refl c.pass.ensures.stored
-    (λ i. machine_at (state_passed old.catalog c.pass.new.self c.args.stamp _ none c.pass.ensures.state i) (sessions i)) c.requires.healthy
+    (λ i. machine_at (state_passed old.catalog c.pass.new.self c.args.stamp _ none c.pass.ensures.state i) (sessions i))
+    c.requires.healthy
 
 pub returns-in-Begins-clause-any_moment : goal.returns-in-Begins-clause-any_moment
 returns-in-Begins-clause-any_moment g c = leaves_still g.met.D.Disk.only_now c.args.self.now _ _ refl
@@ -34,10 +35,12 @@ returns-in_ok-stage-in-Stages-clause-answered g c =
     let sessions =
     c.in_ok-stage-in-Stages.ensures.ok t.0 t.1
     ∙ ap (λ (found : Option Transaction). with_transaction before staged.session
-    (transactions.staged (transaction_or_new found c.args.stamp) staged.id staged.next_row (effect_of staged.effect))) (sym t.1)
+    (transactions.staged (transaction_or_new found c.args.stamp) staged.id staged.next_row (effect_of staged.effect)))
+    (sym t.1)
     ∙ ap (sessions_after c.args.stamp before) (sym staged.is) in
     carries_nothing old _ _ _ none refl refl c.pass-in-Stages.ensures.stored
-    (λ i. machine_at (state_passed old.catalog c.pass-in-Stages.new.self c.args.stamp _ none c.pass-in-Stages.ensures.state i) (sessions i))
+    (λ i. machine_at (state_passed old.catalog c.pass-in-Stages.new.self c.args.stamp _ none
+    c.pass-in-Stages.ensures.state i) (sessions i))
     c.requires.healthy
 
 pub returns-in_ok-stage-in-Stages-clause-any_moment : goal.returns-in_ok-stage-in-Stages-clause-any_moment
