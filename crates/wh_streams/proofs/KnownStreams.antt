@@ -1,0 +1,105 @@
+-- Streams worked out by hand, over a table of the versions that stamps 2 to 6 left.
+use Rattle.std.proofs.Common.{◌≡◌, ℕ, true, false, [], ◌∷◌, Some, None, cond, pos, refl, sym, ◌∙◌}
+use Rattle.std.proofs.lemmas.List.{nil_from_length}
+use Rattle.std.specs.Prelude.{codes}
+use Rattle.std.specs.Fmt.{digits}
+use Rattle.std.specs.FinMap.{empty, get, insert, entries, get-empty, get-insert, entries-insert, len-entries}
+use Rattle.std.specs.FinMap.{len-empty}
+use Rattle.std.specs.FinMap.Entries.{put}
+use Rattle.std.specs.Ordering.{nat_cmp, eq_by_cmp}
+use Rattle.std.specs.Cmp.{nat_cmp_total}
+use Rattle.wh_value.specs.Value.{Number, Truth, Text, Row}
+use Rattle.wh_machine.specs.State.{Rows, Table, version_at}
+use Rattle.wh_streams.specs.Net.{deleted, inserted, net, appended}
+use Rattle.wh_streams.specs.Stream.{Stream, Standard, AppendOnly, shown, shown_row, is_stale, offset_after}
+
+abbrev row : ℕ → Row
+row k = Number (pos k) ∷ []
+
+put_in : (m : Rows) (k : ℕ) (x : Row) → entries (insert m k x) ≡ put nat_cmp k x (entries m)
+put_in m k x = entries-insert nat_cmp_total m k x
+
+none_in : entries (empty {K = ℕ} {X = Row} {R = nat_cmp}) ≡ []
+none_in = nil_from_length _ (sym (len-entries empty) ∙ len-empty nat_cmp Row)
+
+got : (m : Rows) (k : ℕ) (x : Row) (q : ℕ) → get (insert m k x) q ≡ cond (eq_by_cmp nat_cmp q k) (Some x) (get m q)
+got m k x q = get-insert nat_cmp_total m k x q
+
+got_none : (q : ℕ) → get (empty {K = ℕ} {X = Row} {R = nat_cmp}) q ≡ None
+got_none q = get-empty nat_cmp q
+
+ruleset steps = (put_in, none_in, got, got_none)
+
+-- rows 1 to 3; then row 1 is changed, row 2 goes and row 4 comes
+abbrev before : Rows
+before = insert (insert (insert empty 1 (row 10)) 2 (row 20)) 3 (row 30)
+
+abbrev behind : Rows
+behind = insert (insert (insert empty 1 (row 11)) 3 (row 30)) 4 (row 40)
+
+changes : net before behind ≡ deleted 1 true (row 10) ∷ inserted 1 true (row 11) ∷ deleted 2 false (row 20)
+    ∷ inserted 4 false (row 40) ∷ []
+unfolding net
+changes = simp steps
+
+no_changes : net behind behind ≡ []
+unfolding net
+no_changes = simp steps
+
+-- a table of one row, then another beside it that is changed, then the first one alone
+abbrev table : Table
+table = record {
+  columns = [];
+  retention = 1;
+  next_row = 3;
+  next_partition = 1;
+  versions = version_at 2 (record { rows = insert empty 1 (row 10); partitions = [] })
+      ∷ version_at 3 (record { rows = insert (insert empty 1 (row 10)) 2 (row 20); partitions = [] })
+      ∷ version_at 4 (record { rows = insert (insert empty 1 (row 10)) 2 (row 21); partitions = [] })
+      ∷ version_at 6 (record { rows = insert empty 1 (row 10); partitions = [] })
+      ∷ [];
+}
+
+abbrev standard : ℕ → Stream
+standard offset = record { source = 7; kind = Standard; offset = offset }
+
+abbrev append_only : ℕ → Stream
+append_only offset = record { source = 7; kind = AppendOnly; offset = offset }
+
+-- a row that came and changed behind the offset came as it is now
+an_inserted_row : shown table (standard 2) 5 ≡ inserted 2 false (row 21) ∷ []
+unfolding shown net
+an_inserted_row = simp steps
+
+-- and one that came and went is not shown
+a_row_that_came_and_went : shown table (standard 2) 6 ≡ []
+unfolding shown net
+a_row_that_came_and_went = simp steps
+
+-- but by a stream of appended rows, as it came
+an_appended_row : shown table (append_only 2) 6 ≡ inserted 2 false (row 20) ∷ []
+unfolding shown appended
+an_appended_row = simp steps
+
+-- the range begins behind the offset
+behind_the_offset : shown table (append_only 3) 6 ≡ []
+unfolding shown appended
+behind_the_offset = simp steps
+
+nothing_before_the_offset : shown table (standard 5) 5 ≡ []
+unfolding shown
+nothing_before_the_offset = refl
+
+-- the source's columns, the action, whether it is part of an update, and the row's id
+three_columns : shown_row 7 (deleted 12 true (row 5))
+    ≡ Number (pos 5) ∷ Text (codes "DELETE") ∷ Truth true ∷ Text (codes "7:12") ∷ []
+unfolding digits
+three_columns = refl
+
+-- 14 days behind the offset it is read, and a millisecond later not
+staleness : (is_stale table (standard 5) 1209600005 ≡ false) × (is_stale table (standard 5) 1209600006 ≡ true)
+staleness = (refl, refl)
+
+-- an offset doesn't go back
+offsets : (offset_after (standard 5) 9 ≡ 9) × (offset_after (standard 5) 3 ≡ 5)
+offsets = (refl, refl)
