@@ -78,12 +78,12 @@ DROP TABLE U, V;
 DROP TABLE IF EXISTS U;
 -- OR REPLACE makes tables alone
 CREATE OR REPLACE STREAM S ON TABLE U;
--- streams aren't carried out yet
-CREATE STREAM S ON TABLE U;
--- nor dropped
-DROP STREAM S;
--- nor asked for data
-SELECT SYSTEM$STREAM_HAS_DATA('S');
+-- streams of appended rows aren't carried out yet
+CREATE STREAM S ON TABLE U APPEND_ONLY = TRUE;
+-- nor is a task resumed
+ALTER TASK A RESUME;
+-- nor a dynamic table refreshed
+ALTER DYNAMIC TABLE D REFRESH;
 -- tasks aren't carried out yet
 CREATE TASK A AS DELETE FROM U;
 -- dynamic tables neither

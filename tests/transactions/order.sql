@@ -10,7 +10,7 @@ BEGIN;
 -- one is open
 BEGIN;
 -- a statement that is read and not carried out, before a transaction is looked at
-CREATE STREAM S ON TABLE T;
+CREATE TASK A AS DELETE FROM T;
 -- no object is made in a transaction
 CREATE TABLE N(K NUMBER);
 -- before its name is looked at

@@ -1,5 +1,6 @@
--- The test says whether a new table applies.
-use Rattle.std.proofs.Common.{◌≡◌, ℕ, ◌+◌, ◌<◌, ◌≤◌, Bool, true, false, List, length, Option, refl}
+-- The tests say whether a new object applies.
+use Rattle.std.proofs.Common.{◌≡◌, ℕ, ◌+◌, ◌<◌, ◌≤◌, Bool, true, false, List, length}
+use Rattle.std.proofs.Common.{Option, Some, None, refl}
 use Rattle.std.specs.Bool.{Decides}
 use Rattle.std.specs.Prelude.{not, is_some, IsNone}
 use Rattle.std.specs.List.{AllByRecursion}
@@ -9,9 +10,10 @@ use Rattle.wh_value.specs.Column.{Column}
 use Rattle.wh_value.specs.Limit.{bound}
 use Rattle.wh_value.specs.declared.limit.Limit.TheVariants as limits
 use Rattle.wh_machine.specs.State.{id_of, live_count}
-use Rattle.wh_machine.specs.Stored.{StoredObject}
-use Rattle.wh_machine.specs.Commit.{TableChange, IsStoredName, TableApplies}
-use Rattle.wh_catalog.specs.Conditions.{is_stored_name, is_stored_column, are_stored_columns, table_applies}
+use Rattle.wh_machine.specs.Stored.{StoredKind, StoredTableKind, StoredStreamKind, StoredObject}
+use Rattle.wh_machine.specs.Commit.{TableChange, IsStoredName, IsNewObject, TableApplies, IsTableKind, IsLiveTable}
+use Rattle.wh_catalog.specs.Conditions.{is_stored_name, is_stored_column, are_stored_columns, is_new_object}
+use Rattle.wh_catalog.specs.Conditions.{table_applies, is_table_kind, is_live_table}
 use Rattle.wh_table.proofs.Apart.{Decides-list_all}
 use Rattle.wh_table.proofs.Conditions.{Decides-leb}
 
@@ -33,22 +35,35 @@ Decides-columns columns =
     (Decides-and _ _ (Decides-leb (length columns) (bound limits.Columns))
     (Decides-list_all is_stored_column _ (λ column. Decides-name column.name) columns))
 
+pub Decides-new_object : (objects : List StoredObject) (id : ℕ) (name : List ℕ)
+    → Decides (is_new_object objects id name) (IsNewObject objects id name)
+Decides-new_object objects id name =
+    Decides-like (is_new_object objects id name)
+    (λ h. record { next_id = h.0; few = h.1.0; free = h.1.1.0; name = h.1.1.1 })
+    (λ a. (a.next_id, (a.few, (a.free, a.name))))
+    (Decides-and _ _ (Decides-eqb id (length objects + 1))
+    (Decides-and _ _ (Decides-ltb (live_count objects) (bound limits.Objects))
+    (Decides-and _ _ (Decides-none (id_of name objects)) (Decides-name name))))
+
+Decides-table_kind : (k : StoredKind) → Decides (is_table_kind k) (IsTableKind k)
+Decides-table_kind (StoredTableKind t) = (λ _. tt, λ _. refl)
+Decides-table_kind (StoredStreamKind s) = (λ is. cc, λ never. absurd never)
+
+pub Decides-live_table : (o : Option StoredObject) → Decides (is_live_table o) (IsLiveTable o)
+Decides-live_table None = (λ is. cc, λ never. absurd never)
+Decides-live_table (Some o) = Decides-and _ _ (λ is. is, λ is. is) (Decides-table_kind o.kind)
+
 pub Decides-table_applies : (objects : List StoredObject) (c : TableChange)
     → Decides (table_applies objects c) (TableApplies objects c)
 Decides-table_applies objects c =
     Decides-like (table_applies objects c)
     (λ h. record {
-      next_id = h.0;
-      few = h.1.0;
-      free = h.1.1.0;
-      name = h.1.1.1.0;
-      some_column = h.1.1.1.1.1.0;
-      few_columns = h.1.1.1.1.1.1.0;
-      column_names = h.1.1.1.1.1.1.1;
-      retention = h.1.1.1.1.0;
+      object = h.0;
+      some_column = h.1.1.0;
+      few_columns = h.1.1.1.0;
+      column_names = h.1.1.1.1;
+      retention = h.1.0;
     })
-    (λ a. (a.next_id, (a.few, (a.free, (a.name, (a.retention, (a.some_column, (a.few_columns, a.column_names))))))))
-    (Decides-and _ _ (Decides-eqb c.id (length objects + 1))
-    (Decides-and _ _ (Decides-ltb (live_count objects) (bound limits.Objects))
-    (Decides-and _ _ (Decides-none (id_of c.name objects)) (Decides-and _ _ (Decides-name c.name)
-    (Decides-and _ _ (Decides-leb c.retention (bound limits.Retention)) (Decides-columns c.columns))))))
+    (λ a. (a.object, (a.retention, (a.some_column, (a.few_columns, a.column_names)))))
+    (Decides-and _ _ (Decides-new_object objects c.id c.name)
+    (Decides-and _ _ (Decides-leb c.retention (bound limits.Retention)) (Decides-columns c.columns)))

@@ -1,14 +1,12 @@
 -- Objects of the code and what the file says of them.
 use Rattle.std.proofs.lemmas.List.{map-set}
 use Rattle.std.proofs.Common.{◌≡◌, ℕ, zero, suc, ◌-◌, ◌<◌, length, set, get_or, slice_get, arith, List, [], ◌∷◌, ◌++◌}
-use Rattle.std.proofs.Common.{refl, map, Some, None, option_map, ap, ◌∙◌, sym}
+use Rattle.std.proofs.Common.{refl, map, Some, option_map, Ok, Err, ap, ◌∙◌, sym}
+use Rattle.std.specs.Prelude.{Result, OnOk}
 use Rattle.wh_machine.specs.State.{at_id, with_id, put_at, changed_at}
 use Rattle.wh_catalog.specs.declared.object.StoredObject.{StoredObject}
-use Rattle.wh_table.specs.declared.table.StoredTable.{StoredTable}
-use Rattle.wh_table.specs.Table.{kept_table, table_of}
-use Rattle.wh_catalog.specs.Kept.{KeptTableKind, kind_in, object_in, KeptObject}
-use Rattle.wh_catalog.specs.Object.{kept_kind, kept_object}
-use Rattle.wh_catalog.specs.Catalog.{stored_table_at, table_in_kind, table_in_object}
+use Rattle.wh_catalog.specs.Kept.{object_in, KeptObject}
+use Rattle.wh_catalog.specs.Object.{kept_object}
 use Rattle.wh_catalog.specs.declared.undo.Step.{Step}
 use Rattle.wh_catalog.specs.Undo.{step_undone, undone}
 use Rattle.wh_catalog.proofs.Places.{at_id-map}
@@ -19,18 +17,10 @@ pub at_objects : (objects : List StoredObject) (id : ℕ)
 at_objects objects id = at_id-map object_in (map kept_object objects) id
     ∙ ap (option_map object_in) (at_id-map kept_object objects id)
 
-pub table_there : (objects : List StoredObject) (id : ℕ) (o : StoredObject) (t : StoredTable)
-    → at_id objects id ≡ Some o → kept_kind o.kind ≡ KeptTableKind (kept_table t)
-    → stored_table_at (map object_in (map kept_object objects)) id ≡ Some (table_of t)
-table_there objects id o t is kind =
-    let there : at_id (map object_in (map kept_object objects)) id ≡ Some (object_in (kept_object o)) =
-    at_objects objects id ∙ ap (λ f. option_map object_in (option_map kept_object f)) is in
-    ap table_in_object there ∙ ap (λ k. table_in_kind (kind_in k)) kind
-
-pub no_table : (objects : List StoredObject) (id : ℕ) → at_id objects id ≡ None
-    → stored_table_at (map object_in (map kept_object objects)) id ≡ None
-no_table objects id is =
-    ap table_in_object (at_objects objects id ∙ ap (λ f. option_map object_in (option_map kept_object f)) is)
+-- what holds at all holds where a call succeeds
+pub on_ok : {T E : Type 0} {P : Type 0} (result : Result T E) → P → OnOk result P
+on_ok (Ok value) holds = holds
+on_ok (Err fault) holds = tt
 
 pub map_more : {X Y : Type 0} (f : X → Y) (xs : List X) (x : X) → map f (xs ++ x ∷ []) ≡ map f xs ++ f x ∷ []
 map_more f [] x = refl

@@ -4,13 +4,14 @@ use Rattle.std.specs.List.{AllByRecursion}
 use Rattle.wh_machine.specs.Orderly.{IsOrderlyKind, IsOrderlyObject}
 use Rattle.wh_table.proofs.OrderlyTables.{orderly_table}
 use Rattle.wh_catalog.specs.declared.object.StoredKind.{StoredKind}
-use Rattle.wh_catalog.specs.declared.object.StoredKind.TheVariants.{Table}
+use Rattle.wh_catalog.specs.declared.object.StoredKind.TheVariants.{Table, Stream}
 use Rattle.wh_catalog.specs.declared.object.StoredObject.{StoredObject}
 use Rattle.wh_catalog.specs.Kept.{kind_in, object_in}
 use Rattle.wh_catalog.specs.Object.{kept_kind, kept_object}
 
 orderly_kind : (k : StoredKind) → IsOrderlyKind (kind_in (kept_kind k))
 orderly_kind (Table t) = orderly_table t
+orderly_kind (Stream s) = tt
 
 pub orderly_objects : (os : List StoredObject) → AllByRecursion IsOrderlyObject (map object_in (map kept_object os))
 orderly_objects [] = tt

@@ -1,11 +1,15 @@
--- When a new table applies, as a test.
-use Rattle.std.specs.Prelude.{ℕ, ◌+◌, Bool, not, ◌&&◌, ◌==◌, List, length, is_some, nat_lt, nat_le}
+-- When a new object applies, as tests.
+--     is_new_object       whether an id and a name are those of a new object
+--     table_applies       whether a new table applies
+--     is_live_table       whether an object is a table that lives, as the source of a new stream is
+use Rattle.std.specs.Prelude.{ℕ, ◌+◌, Bool, not, true, false, ◌&&◌, ◌==◌, List, length}
+use Rattle.std.specs.Prelude.{Option, Some, None, is_some, nat_lt, nat_le}
 use Rattle.std.specs.List.{list_all}
 use Rattle.wh_value.specs.Column.{Column}
 use Rattle.wh_value.specs.Limit.{bound}
 use Rattle.wh_value.specs.declared.limit.Limit.TheVariants as limits
 use Rattle.wh_machine.specs.State.{id_of, live_count}
-use Rattle.wh_machine.specs.Stored.{StoredObject}
+use Rattle.wh_machine.specs.Stored.{StoredKind, StoredTableKind, StoredStreamKind, StoredObject}
 use Rattle.wh_machine.specs.Commit.{TableChange}
 
 abbrev pub is_stored_name : List ℕ → Bool
@@ -18,8 +22,21 @@ abbrev pub are_stored_columns : List Column → Bool
 are_stored_columns columns = nat_lt 0 (length columns)
     && (nat_le (length columns) (bound limits.Columns) && list_all is_stored_column columns)
 
+abbrev pub is_new_object : List StoredObject → ℕ → List ℕ → Bool
+is_new_object objects id name =
+    (id == length objects + 1)
+    && (nat_lt (live_count objects) (bound limits.Objects)
+    && (not (is_some (id_of name objects)) && is_stored_name name))
+
 abbrev pub table_applies : List StoredObject → TableChange → Bool
 table_applies objects c =
-    (c.id == length objects + 1)
-    && (nat_lt (live_count objects) (bound limits.Objects) && (not (is_some (id_of c.name objects))
-    && (is_stored_name c.name && (nat_le c.retention (bound limits.Retention) && are_stored_columns c.columns))))
+    is_new_object objects c.id c.name
+    && (nat_le c.retention (bound limits.Retention) && are_stored_columns c.columns)
+
+abbrev pub is_table_kind : StoredKind → Bool
+is_table_kind (StoredTableKind t) = true
+is_table_kind (StoredStreamKind s) = false
+
+abbrev pub is_live_table : Option StoredObject → Bool
+is_live_table None = false
+is_live_table (Some o) = o.is_live && is_table_kind o.kind

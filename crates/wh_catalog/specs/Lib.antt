@@ -1,5 +1,6 @@
 pub mod Conditions
 pub mod Kept
+pub mod Stream
 pub mod Object
 pub mod Names
 pub mod Catalog

@@ -6,16 +6,17 @@ use Rattle.wh_machine.specs.State.{changed_at}
 use Rattle.wh_version.specs.Lists.{but_last}
 use Rattle.wh_catalog.specs.declared.catalog.Catalog.{Catalog}
 use Rattle.wh_catalog.specs.declared.undo.Step.{Step}
-use Rattle.wh_catalog.specs.declared.undo.Step.TheVariants.{MadeObject, DroppedObject, PushedVersion}
+use Rattle.wh_catalog.specs.declared.undo.Step.TheVariants.{MadeObject, DroppedObject, PushedVersion, SetOffset}
 use Rattle.wh_catalog.specs.declared.undo.Undo.{Undo}
 use Rattle.wh_catalog.specs.Kept.{KeptObject}
-use Rattle.wh_catalog.specs.Back.{object_taken_back, lives_again}
+use Rattle.wh_catalog.specs.Back.{object_taken_back, object_put_back, lives_again}
 use Rattle.wh_catalog.specs.Catalog.{kept_of}
 
 abbrev pub step_undone : Step → List KeptObject → List KeptObject
 step_undone MadeObject objects = but_last objects
 step_undone (DroppedObject id) objects = lives_again id objects
 step_undone (PushedVersion p) objects = changed_at objects p.id (object_taken_back p.next_row)
+step_undone (SetOffset id offset) objects = changed_at objects id (object_put_back offset)
 
 -- the last step is undone first
 abbrev pub undone : List Step → List KeptObject → List KeptObject

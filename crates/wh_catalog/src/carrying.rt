@@ -1,3 +1,4 @@
+use crate::consuming::{put_offset_back, set_offset};
 use crate::dropping::{drop_object, revive};
 use crate::naming::{change_id, give_id, last_id};
 use crate::undo::{Pushed, Step};
@@ -6,10 +7,12 @@ use wh_record::{Change, TableChange, VersionChange};
 use wh_value::Limit;
 
 impl Catalog {
-    ghost use Rattle.std.specs.Prelude.{◌≡◌, OnOk, OnErr, IfOk, IsErrOf};
-    ghost use Rattle.wh_machine.specs.Commit.{ChangeApplies, TableApplies, changed, CreatesTable};
+    ghost use Rattle.std.specs.Prelude.{◌≡◌, ◌++◌, ◌∷◌, [], OnOk, OnErr, IfOk, IsErrOf};
+    ghost use Rattle.wh_machine.specs.Commit.{ChangeApplies, IsNewObject, TableApplies, changed, CreatesTable};
     ghost use Rattle.wh_record.specs.View.{change_of, table_change_of};
     ghost use Rattle.wh_version.specs.Lists.{but_last};
+    ghost use Rattle.wh_catalog.specs.Kept.{object_in};
+    ghost use Rattle.wh_catalog.specs.Object.{kept_object};
     ghost use Rattle.wh_catalog.specs.Catalog.{objects_of, kept_of};
     ghost use Rattle.wh_catalog.specs.Undo.{step_undone};
 
@@ -29,6 +32,8 @@ impl Catalog {
             Change::CreatesTable(change) => self.create_table(change, stamp),
             Change::Drops(id) => drop_object(&mut self.objects, id),
             Change::PushesVersion(change) => push_version(&mut self.objects, change, stamp),
+            Change::CreatesStream(change) => self.create_stream(change, stamp),
+            Change::SetsOffset { id, offset } => set_offset(&mut self.objects, id, offset),
         }
     }
 
@@ -46,17 +51,27 @@ impl Catalog {
         if !self.table_applies(&change) {
             return Err(StageFault::NotApplicable);
         }
+        let id = change.id;
+        let object = StoredObject::table_of_change(self.alloc, change, stamp);
+        self.add_object(id, object)
+    }
+
+    /// Adds an object, whose id and name are those of a new one.
+    pub(crate) fn add_object(&mut self, id: u32, object: StoredObject) -> Result<Step, StageFault>
+        requires { IsNewObject (objects_of self.old) id object.name }
+        ensures changed { OnOk result (objects_of self.new
+            ≡ objects_of self.old ++ object_in (kept_object object) ∷ []) }
+        ensures back { IfOk result (λ step. step_undone step (kept_of self.new) ≡ kept_of self.old) }
+        ensures memory { IsErrOf result StageFault.NotApplicable → ⊥ }
+        ensures same { OnErr result (kept_of self.new ≡ kept_of self.old) }
+        ensures last { self.new.last ≡ self.old.last }
+        ensures committed { self.new.committed ≡ self.old.committed }
+    {
         if self.objects.reserve(1).is_err() {
             return Err(StageFault::OutOfMemory);
         }
-        match give_id(
-            &mut self.names,
-            self.alloc,
-            change.name.as_bytes(),
-            change.id,
-        ) {
+        match give_id(&mut self.names, self.alloc, object.name.as_bytes(), id) {
             Ok(()) => {
-                let object = StoredObject::table_of_change(self.alloc, change, stamp);
                 self.objects.push_reserved(object);
                 Ok(Step::MadeObject)
             }
@@ -79,6 +94,7 @@ impl Catalog {
                 }
             }
             Step::PushedVersion(pushed) => take_version_back(&mut self.objects, pushed),
+            Step::SetOffset { id, offset } => put_offset_back(&mut self.objects, id, offset),
         }
     }
 

@@ -3,7 +3,7 @@ ghost use Rattle.wh_value.specs.Limit.{bound};
 ghost use Rattle.wh_value.specs.declared.limit.Limit.TheVariants as limits;
 ghost use Rattle.wh_catalog.specs.Names.{names_of, last_id, AreLast, AreLast-prop, id_at};
 
-use crate::StoredObject;
+use crate::{StoredObject, StoredStream};
 use indexmap::IndexMap;
 use std::alloc::Global;
 use wh_table::StoredTable;
@@ -36,7 +36,9 @@ impl Catalog {
     ghost use Rattle.wh_table.specs.Table.{table_of};
     ghost use Rattle.wh_catalog.specs.Object.{kept_object};
     ghost use Rattle.wh_catalog.specs.Names.{names_of, is_last};
-    ghost use Rattle.wh_catalog.specs.Catalog.{stored_of, state_of, stored_table_at};
+    ghost use Rattle.wh_catalog.specs.Catalog.{stored_of, state_of, stored_table_at, stored_stream_at};
+    ghost use Rattle.wh_catalog.specs.Stream.{stream_of};
+    ghost use Rattle.wh_machine.specs.State.{at_id};
 
     /// No object, and no stamp. Takes no memory.
     pub fn new(alloc: Global) -> Catalog
@@ -122,16 +124,34 @@ impl Catalog {
         self.objects.iter().filter(|object| object.is_live).count() as u64
     }
 
-    /// The table of an id.
-    pub fn table(&self, id: u32) -> Option<&StoredTable>
-        ensures { option_map (λ t. table_of t.now) result
-            ≡ stored_table_at (stored_of self.now).objects id }
+    /// The object of an id.
+    pub fn object(&self, id: u32) -> Option<&StoredObject>
+        ensures { option_map (λ o. object_in (kept_object o.now)) result
+            ≡ at_id (stored_of self.now).objects id }
     {
         let place = id as usize;
         if place == 0 || self.objects.len() < place {
             return None;
         }
         let object = &self.objects[place - 1];
-        Some(object.table())
+        Some(object)
+    }
+
+    /// The table of an id. None where the object is no table.
+    pub fn table(&self, id: u32) -> Option<&StoredTable>
+        ensures { option_map (λ t. table_of t.now) result
+            ≡ stored_table_at (stored_of self.now).objects id }
+    {
+        let object = self.object(id)?;
+        object.table()
+    }
+
+    /// The stream of an id. None where the object is no stream.
+    pub fn stream(&self, id: u32) -> Option<&StoredStream>
+        ensures { option_map (λ s. stream_of s.now) result
+            ≡ stored_stream_at (stored_of self.now).objects id }
+    {
+        let object = self.object(id)?;
+        object.stream()
     }
 }

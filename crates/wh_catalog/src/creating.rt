@@ -7,19 +7,26 @@ use wh_value::{Column, Limit, Text};
 impl Catalog {
     ghost use Rattle.std.specs.Prelude.{◌≡◌};
     ghost use Rattle.wh_record.specs.View.{table_change_of};
-    ghost use Rattle.wh_catalog.specs.Conditions.{table_applies};
+    ghost use Rattle.wh_catalog.specs.Conditions.{is_new_object, table_applies};
     ghost use Rattle.wh_catalog.specs.Catalog.{objects_of};
 
     /// Whether a new table applies.
     pub(crate) fn table_applies(&self, change: &TableChange) -> bool
         ensures { result ≡ table_applies (objects_of self.now) (table_change_of change.now) }
     {
-        change.id as u64 == self.object_count() + 1
-            && self.live_count() < Limit::Objects.bound()
-            && self.find(change.name.as_bytes()).is_none()
-            && is_stored_name(&change.name)
+        self.is_new_object(change.id, &change.name)
             && change.retention as u64 <= Limit::Retention.bound()
             && are_stored_columns(&change.columns)
+    }
+
+    /// Whether an id and a name are those of a new object.
+    pub(crate) fn is_new_object(&self, id: u32, name: &Text) -> bool
+        ensures { result ≡ is_new_object (objects_of self.now) id name.now }
+    {
+        id as u64 == self.object_count() + 1
+            && self.live_count() < Limit::Objects.bound()
+            && self.find(name.as_bytes()).is_none()
+            && is_stored_name(name)
     }
 }
 

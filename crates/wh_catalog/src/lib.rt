@@ -3,15 +3,19 @@
 
 mod carrying;
 mod catalog;
+mod consuming;
 mod creating;
 mod dropping;
 mod naming;
 mod object;
 mod pushing;
 mod stage;
+mod stream;
+mod streaming;
 mod undo;
 
 pub use catalog::Catalog;
 pub use object::{StoredKind, StoredObject};
+pub use stream::StoredStream;
 pub use undo::Undo;
 pub use wh_table::{StageFault, StoredTable};

@@ -1,3 +1,4 @@
+use crate::StoredStream;
 use wh_table::StoredTable;
 use wh_value::Text;
 
@@ -14,12 +15,15 @@ pub struct StoredObject {
 #[derive(Debug, Drop)]
 pub enum StoredKind {
     Table(StoredTable),
+    Stream(StoredStream),
 }
 
 impl StoredObject {
-    ghost use Rattle.std.specs.Prelude.{◌≡◌};
-    ghost use Rattle.wh_catalog.specs.Kept.{KeptTableKind};
-    ghost use Rattle.wh_table.specs.Table.{kept_table};
+    ghost use Rattle.std.specs.Prelude.{◌≡◌, option_map};
+    ghost use Rattle.wh_table.specs.Table.{table_of};
+    ghost use Rattle.wh_catalog.specs.Kept.{kind_in};
+    ghost use Rattle.wh_catalog.specs.Stream.{stream_of};
+    ghost use Rattle.wh_catalog.specs.Catalog.{table_in_kind, stream_in_kind};
     ghost use Rattle.wh_catalog.specs.Object.{kept_kind, kept_object};
 
     /// The name that it has, or had.
@@ -41,11 +45,21 @@ impl StoredObject {
         &self.kind
     }
 
-    pub(crate) fn table(&self) -> &StoredTable
-        ensures { kept_kind self.now.kind ≡ KeptTableKind (kept_table result.now) }
+    pub(crate) fn table(&self) -> Option<&StoredTable>
+        ensures { option_map (λ t. table_of t.now) result ≡ table_in_kind (kind_in (kept_kind self.now.kind)) }
     {
         match &self.kind {
-            StoredKind::Table(table) => table,
+            StoredKind::Table(table) => Some(table),
+            StoredKind::Stream(_) => None,
+        }
+    }
+
+    pub(crate) fn stream(&self) -> Option<&StoredStream>
+        ensures { option_map (λ s. stream_of s.now) result ≡ stream_in_kind (kind_in (kept_kind self.now.kind)) }
+    {
+        match &self.kind {
+            StoredKind::Table(_) => None,
+            StoredKind::Stream(stream) => Some(stream),
         }
     }
 }

@@ -1,4 +1,4 @@
-//! Versions of an object, which is a table.
+//! Versions of an object that is a table.
 use crate::{StageFault, StoredKind, StoredObject};
 use wh_record::VersionChange;
 
@@ -36,6 +36,7 @@ impl StoredObject {
                 table.push(change, stamp)?;
                 Ok(next_row)
             }
+            StoredKind::Stream(_) => Err(StageFault::NotApplicable),
         }
     }
 
@@ -48,6 +49,7 @@ impl StoredObject {
     {
         match &mut self.kind {
             StoredKind::Table(table) => table.take_back(next_row),
+            StoredKind::Stream(_) => {}
         }
     }
 }

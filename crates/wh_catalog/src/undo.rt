@@ -17,6 +17,8 @@ pub(crate) enum Step {
     /// By its id.
     DroppedObject(u32),
     PushedVersion(Pushed),
+    /// That of a stream, by its id; the offset is that of before.
+    SetOffset { id: u32, offset: u64 },
 }
 
 /// What leads back from a commit that was staged.

@@ -1,20 +1,25 @@
 -- A catalog's state, and what its commits say.
 --     state_is, rest_of, objects_are        the state, but for its last stamp and at rest; its objects
 --     found_is, count_is, live_is           objects by names, and how many there are
+--     object_there, kind_there              the object at an id, and its kind
 --     table_there, table_missing            the table at an id
---     written_edits                         the change that edits of it are written as
+--     stream_there                          the stream at an id
+--     one_written                           the change that edits of it are written as
 --     means_by                              a commit is carried out
-use Rattle.std.proofs.Common.{◌≡◌, ℕ, List, [], ◌∷◌, ◌++◌, length, map, Option, Some, None, refl, sym, ap, ◌∙◌}
-use Rattle.wh_machine.specs.State.{State, Object, at_id, id_of, live_count, at_rest, stamped}
+use Rattle.std.proofs.Common.{◌≡◌, ℕ, List, [], ◌∷◌, length, map, Option, Some, None, option_map, Bool, false}
+use Rattle.std.proofs.Common.{refl, sym, ap, ◌∙◌}
+use Rattle.wh_machine.specs.State.{State, Kind, Object, at_id, id_of, live_count, at_rest, stamped}
 use Rattle.wh_machine.specs.Edits.{Edits}
-use Rattle.wh_machine.specs.Outcome.{EditsRows}
-use Rattle.wh_machine.specs.Tables.{table_at}
-use Rattle.wh_machine.specs.Stored.{Stored, StoredTable, StoredKind, StoredTableKind, StoredObject, table_meant}
-use Rattle.wh_machine.specs.Stored.{object_meant, meant}
-use Rattle.wh_machine.specs.Commit.{Change, Commit, applied}
-use Rattle.wh_machine.specs.Written.{version_written, version_written_to, written}
-use Rattle.wh_machine.proofs.MeaningLaws.{length_meant, id_of_meant, live_count_meant, table_at_none, table_at_some}
-use Rattle.wh_catalog.specs.Catalog.{stored_of, state_of, stored_table_at}
+use Rattle.wh_machine.specs.Objects.{table_at, stream_at, is_kind_at}
+use Rattle.wh_machine.specs.Stored.{Stored, StoredTable, StoredKind, StoredTableKind, StoredStreamKind, StoredObject}
+use Rattle.wh_machine.specs.Stored.{table_meant, object_meant, meant}
+use Rattle.wh_machine.specs.Commit.{Commit, applied}
+use Rattle.wh_machine.specs.Written.{version_written, version_written_to}
+use Rattle.wh_machine.proofs.MeaningLaws as meaning
+use Rattle.wh_machine.proofs.MeaningLaws.{length_meant, at_id_meant, id_of_meant, live_count_meant, table_at_meant}
+use Rattle.wh_machine.proofs.MeaningLaws.{stream_at_meant}
+use Rattle.wh_catalog.specs.Catalog.{stored_of, state_of, stored_table_at, stored_stream_at, table_in_object}
+use Rattle.wh_catalog.specs.Catalog.{stream_in_object}
 use Rattle.wh_catalog.specs.declared.catalog.Catalog.{Catalog}
 use Rattle.wh_engine.proofs.ListLemmas.{some_is}
 
@@ -40,6 +45,27 @@ count_is c = ap length (objects_are c) ∙ length_meant (stored_of c).objects
 pub live_is : (c : Catalog) → live_count (state_of c).objects ≡ live_count (stored_of c).objects
 live_is c = ap live_count (objects_are c) ∙ live_count_meant (stored_of c).objects
 
+pub object_there : (c : Catalog) (id : ℕ)
+    → at_id (state_of c).objects id ≡ option_map object_meant (at_id (stored_of c).objects id)
+object_there c id =
+    ap (λ (objects : List Object). at_id objects id) (objects_are c) ∙ at_id_meant (stored_of c).objects id
+
+-- whether a place takes the kind of the object that there is
+abbrev pub is_kind_of : (Kind → Bool) → Option Object → Bool
+is_kind_of takes None = false
+is_kind_of takes (Some o) = takes o.kind
+
+kind_at : (takes : Kind → Bool) (objects : List Object) (id : ℕ) (found : Option Object) → at_id objects id ≡ found
+    → is_kind_at takes objects id ≡ is_kind_of takes found
+kind_at takes objects id None is = rw is refl
+kind_at takes objects id (Some o) is = rw is refl
+
+pub kind_there : (takes : Kind → Bool) (c : Catalog) (id : ℕ) (found : Option StoredObject)
+    → found ≡ at_id (stored_of c).objects id
+    → is_kind_of takes (option_map object_meant found) ≡ is_kind_at takes (state_of c).objects id
+kind_there takes c id found is =
+    sym (kind_at takes (state_of c).objects id _ (object_there c id ∙ ap (option_map object_meant) (sym is)))
+
 -- ---- tables
 
 -- the object that a table's id is that of
@@ -57,45 +83,69 @@ has_table objects id t is = by_object (at_id objects id) refl
         let found = rw (there, kind) at is in
         let same : u ≡ t = some_is u t found in
         record { object = o; there = there; kind = kind ∙ ap StoredTableKind same }
+    by_kind o (StoredStreamKind s) there kind = let found = rw (there, kind) at is in absurd cc
 
     by_object : (found : Option StoredObject) → at_id objects id ≡ found → HasTable objects id t
     by_object None none = let found = rw none at is in absurd cc
     by_object (Some o) there = by_kind o o.kind there refl
 
-has_none : (objects : List StoredObject) (id : ℕ) → stored_table_at objects id ≡ None → at_id objects id ≡ None
-has_none objects id is = by_object (at_id objects id) refl
+same_table : (objects : List StoredObject) (id : ℕ) → meaning.stored_table_at objects id ≡ stored_table_at objects id
+same_table objects id = by_object (at_id objects id)
   where
-    by_kind : (o : StoredObject) (k : StoredKind) → at_id objects id ≡ Some o → o.kind ≡ k → at_id objects id ≡ None
-    by_kind o (StoredTableKind u) there kind = let found = rw (there, kind) at is in absurd cc
+    by_kind : (o : StoredObject) (k : StoredKind) → o.kind ≡ k
+        → meaning.stored_table_of (Some o) ≡ table_in_object (Some o)
+    by_kind o (StoredTableKind u) kind = rw kind refl
+    by_kind o (StoredStreamKind s) kind = rw kind refl
 
-    by_object : (found : Option StoredObject) → at_id objects id ≡ found → at_id objects id ≡ None
-    by_object None none = none
-    by_object (Some o) there = by_kind o o.kind there refl
+    by_object : (found : Option StoredObject) → meaning.stored_table_of found ≡ table_in_object found
+    by_object None = refl
+    by_object (Some o) = by_kind o o.kind refl
+
+pub table_is : (c : Catalog) (id : ℕ)
+    → table_at (state_of c).objects id ≡ option_map table_meant (stored_table_at (stored_of c).objects id)
+table_is c id =
+    ap (λ (objects : List Object). table_at objects id) (objects_are c) ∙ table_at_meant (stored_of c).objects id
+    ∙ ap (option_map table_meant) (same_table (stored_of c).objects id)
 
 pub table_there : (c : Catalog) (id : ℕ) (t : StoredTable) → stored_table_at (stored_of c).objects id ≡ Some t
     → table_at (state_of c).objects id ≡ Some (table_meant t)
-table_there c id t is =
-    let h = has_table (stored_of c).objects id t is in
-    ap (λ (objects : List Object). table_at objects id) (objects_are c)
-    ∙ table_at_some (stored_of c).objects id h.object t h.there h.kind
+table_there c id t is = table_is c id ∙ ap (option_map table_meant) is
 
 pub table_missing : (c : Catalog) (id : ℕ) → stored_table_at (stored_of c).objects id ≡ None
     → table_at (state_of c).objects id ≡ None
-table_missing c id is =
-    ap (λ (objects : List Object). table_at objects id) (objects_are c)
-    ∙ table_at_none (stored_of c).objects id (has_none (stored_of c).objects id is)
+table_missing c id is = table_is c id ∙ ap (option_map table_meant) is
 
 kind_written : (stamp id : ℕ) (e : Edits) (o : StoredObject) (t : StoredTable) → o.kind ≡ StoredTableKind t
     → version_written_to stamp id e (Some o) ≡ version_written stamp id e t ∷ []
 kind_written stamp id e o t kind = rw kind
 
-pub written_edits : (stamp : ℕ) (objects : List StoredObject) (id : ℕ) (e : Edits) (t : StoredTable)
+pub one_written : (stamp : ℕ) (objects : List StoredObject) (id : ℕ) (e : Edits) (t : StoredTable)
     → stored_table_at objects id ≡ Some t
-    → written stamp objects (EditsRows id e ∷ []) ≡ version_written stamp id e t ∷ []
-written_edits stamp objects id e t is =
+    → version_written_to stamp id e (at_id objects id) ≡ version_written stamp id e t ∷ []
+one_written stamp objects id e t is =
     let h = has_table objects id t is in
-    ap (λ (found : Option StoredObject). version_written_to stamp id e found ++ []) h.there
-    ∙ ap (λ (cs : List Change). cs ++ []) (kind_written stamp id e h.object t h.kind)
+    ap (version_written_to stamp id e) h.there ∙ kind_written stamp id e h.object t h.kind
+
+-- ---- streams
+
+same_stream : (objects : List StoredObject) (id : ℕ)
+    → meaning.stored_stream_at objects id ≡ stored_stream_at objects id
+same_stream objects id = by_object (at_id objects id)
+  where
+    by_kind : (o : StoredObject) (k : StoredKind) → o.kind ≡ k
+        → meaning.stored_stream_of (Some o) ≡ stream_in_object (Some o)
+    by_kind o (StoredTableKind t) kind = rw kind refl
+    by_kind o (StoredStreamKind s) kind = rw kind refl
+
+    by_object : (found : Option StoredObject) → meaning.stored_stream_of found ≡ stream_in_object found
+    by_object None = refl
+    by_object (Some o) = by_kind o o.kind refl
+
+pub stream_there : (c : Catalog) (id : ℕ)
+    → stream_at (state_of c).objects id ≡ stored_stream_at (stored_of c).objects id
+stream_there c id =
+    ap (λ (objects : List Object). stream_at objects id) (objects_are c) ∙ stream_at_meant (stored_of c).objects id
+    ∙ same_stream (stored_of c).objects id
 
 -- ---- a commit
 

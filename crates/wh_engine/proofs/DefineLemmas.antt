@@ -1,61 +1,103 @@
--- CREATE TABLE and DROP TABLE of a session: their outcomes, by all tests.
---     defines_table        CREATE TABLE
---     none_past            a table that passes all tests passes its own
---     refused_open         the session's transaction is open
---     none_dropped, held_fast, is_dropped     DROP TABLE outside of a transaction
-use Rattle.std.proofs.Common.{◌≡◌, ℕ, List, [], ◌∷◌, ◌++◌, Option, Some, None, option_map, Bool, refl, ap, ◌∙◌}
-use Rattle.wh_value.specs.Column.{Column}
-use Rattle.wh_reply.specs.Reply.{Refusal, Reply, DdlInTransaction, Locked, UnknownName, CreatedTable, DroppedTable}
-use Rattle.wh_machine.specs.State.{State, id_of, stamped}
+-- CREATE and DROP of a session: their outcomes, by all tests.
+--     first_two, first_four        the first refusal of tests
+--     counts_flat, counts_none     tests with those of counts among them
+--     not_past                     a count that isn't refused
+--     none_past                    a statement that passes all tests passes its own
+--     defines_by                   a statement by its first failing test
+--     refused_open                 the session's transaction is open
+--     drops_as                     what is written for an object that goes
+use Rattle.std.proofs.Common.{◌≡◌, ℕ, ◌≤◌, List, [], ◌∷◌, Option, Some, None, option_map, true, inl, inr}
+use Rattle.std.proofs.Common.{refl, sym, ap, ◌∙◌}
+use Rattle.std.specs.Prelude.{nat_lt}
+use Rattle.std.specs.Option.{option_or}
+use Rattle.std.proofs.lemmas.Bool.{cases_lt, lt-ltb}
+use Rattle.wh_value.specs.Limit.{bound}
+use Rattle.wh_value.specs.declared.limit.Limit.{Limit}
+use Rattle.wh_reply.specs.Reply.{Refusal, Reply, DdlInTransaction, Locked}
 use Rattle.wh_machine.specs.Outcome as tables
-use Rattle.wh_machine.specs.Outcome.{Act, MakesTable, DropsObject, first_of}
-use Rattle.wh_machine.specs.Tables.{table_refusal, replaced_id, drops, create_table, drop_of, drop_table}
-use Rattle.wh_sessions.specs.Sessions.{Sessions, number_in}
-use Rattle.wh_sessions.specs.Outcome.{Machine, Refuses, Does, alone, unless, last_test}
+use Rattle.wh_machine.specs.Outcome.{Act, first_of, refused_past}
+use Rattle.wh_machine.specs.Objects.{drops}
+use Rattle.wh_machine.specs.Stored.{StoredObject}
+use Rattle.wh_machine.specs.Written.{written}
+use Rattle.wh_sessions.specs.Sessions.{number_in}
+use Rattle.wh_sessions.specs.Outcome.{Machine, Refuses, Does, unless, alone, last_test}
 use Rattle.wh_sessions.specs.Statements.{holder_of, defines}
-use Rattle.wh_engine.specs.Decision.{machine_at}
-use Rattle.wh_engine.proofs.TableLemmas.{replaced_stamped, create_is}
+use Rattle.wh_engine.specs.Definitions.{drops_written}
 
--- ---- CREATE TABLE
+-- ---- tests
 
-tests_around : (sessions : Sessions) (first wrong last : Option Refusal) (reply : Reply) (acts : List Act)
-    → unless first (last_test last (alone sessions (tables.unless wrong (tables.commits reply acts))))
-    ≡ unless (first_of (first ∷ wrong ∷ last ∷ [])) (Does reply sessions (Some acts))
-tests_around sessions (Some why) wrong last reply acts = refl
-tests_around sessions None (Some why) last reply acts = refl
-tests_around sessions None None (Some why) reply acts = refl
-tests_around sessions None None None reply acts = refl
+pub first_two : {R : Type 0} (f : R → Refusal) (a b : Option R)
+    → option_map f (option_or a b) ≡ first_of (option_map f a ∷ option_map f b ∷ [])
+first_two f (Some x) b = refl
+first_two f None (Some x) = refl
+first_two f None None = refl
 
-pub defines_table : (s : State) (stamp : ℕ) (sessions : Sessions) (session : ℕ) (replace : Bool) (name : List ℕ)
-    (columns : List Column)
-    (retention : ℕ) (found : Option Refusal)
-    → first_of
-    (option_map DdlInTransaction (number_in sessions session) ∷ table_refusal s replace name columns retention
-    ∷ option_map Locked (holder_of sessions (replaced_id s replace name)) ∷ []) ≡ found
-    → defines (machine_at (stamped s stamp) sessions) session (replaced_id (stamped s stamp) replace name)
-    (create_table (stamped s stamp) replace name columns retention)
-    ≡ unless found (Does (CreatedTable name) sessions
-    (Some (drops (replaced_id s replace name) ++ MakesTable name columns retention ∷ [])))
-unfolding defines
-defines_table s stamp sessions session replace name columns retention found is =
-    (λ i. unless (option_map DdlInTransaction (number_in sessions session))
-    (last_test (option_map Locked (holder_of sessions (replaced_stamped s stamp replace name i)))
-    (alone sessions (create_is s stamp replace name columns retention i))))
-    ∙ tests_around sessions (option_map DdlInTransaction (number_in sessions session))
-    (table_refusal s replace name columns retention)
-    (option_map Locked (holder_of sessions (replaced_id s replace name))) (CreatedTable name)
-    (drops (replaced_id s replace name) ++ MakesTable name columns retention ∷ [])
-    ∙ ap (λ (why : Option Refusal). unless why
-    (Does (CreatedTable name) sessions
-    (Some (drops (replaced_id s replace name) ++ MakesTable name columns retention ∷ [])))) is
+pub first_four : {R : Type 0} (f : R → Refusal) (a b c d : Option R)
+    → option_map f (option_or (option_or (option_or a b) c) d)
+    ≡ first_of (option_map f a ∷ option_map f b ∷ option_map f c ∷ option_map f d ∷ [])
+first_four f (Some x) b c d = refl
+first_four f None (Some x) c d = refl
+first_four f None None (Some x) d = refl
+first_four f None None None (Some x) = refl
+first_four f None None None None = refl
+
+pub counts_flat : (a b c p q : Option Refusal) (rest : List (Option Refusal))
+    → first_of (a ∷ b ∷ c ∷ first_of (p ∷ q ∷ []) ∷ rest) ≡ first_of (a ∷ b ∷ c ∷ p ∷ q ∷ rest)
+counts_flat None None None None None rest = refl
+counts_flat None None None None (Some why) rest = refl
+counts_flat None None None (Some why) q rest = refl
+counts_flat None None (Some why) p q rest = refl
+counts_flat None (Some why) c p q rest = refl
+counts_flat (Some why) b c p q rest = refl
+
+pub counts_none : (a b c p q : Option Refusal) (rest : List (Option Refusal))
+    → first_of (a ∷ b ∷ c ∷ p ∷ q ∷ rest) ≡ None → (p ≡ None) × (first_of rest ≡ None)
+counts_none None None None None None rest is = (refl, is)
+counts_none None None None None (Some why) rest is = absurd cc
+counts_none None None None (Some why) q rest is = absurd cc
+counts_none None None (Some why) p q rest is = absurd cc
+counts_none None (Some why) c p q rest is = absurd cc
+counts_none (Some why) b c p q rest is = absurd cc
+
+pub not_past : (limit : Limit) (count : ℕ) → refused_past limit count ≡ None → count ≤ bound limit
+not_past limit count none = elim (cases_lt (bound limit) count) [
+  | inl past ↦
+      let test : nat_lt (bound limit) count ≡ true = lt-ltb _ _ past in
+      let found = rw test at none in
+      absurd cc
+  | inr within ↦ within
+]
 
 pub none_past : (first wrong last : Option Refusal) → first_of (first ∷ wrong ∷ last ∷ []) ≡ None → wrong ≡ None
 none_past None None last is = refl
 none_past None (Some why) last is = absurd cc
 none_past (Some why) wrong last is = absurd cc
 
--- ---- a test before all others
+-- ---- a statement, by all its tests
 
+tests_around : (m : Machine) (first wrong last : Option Refusal) (reply : Reply) (acts : List Act)
+    → unless first (last_test last (alone m.sessions (tables.unless wrong (tables.commits reply acts))))
+    ≡ unless (first_of (first ∷ wrong ∷ last ∷ [])) (Does reply m.sessions (Some acts))
+tests_around m (Some why) wrong last reply acts = refl
+tests_around m None (Some why) last reply acts = refl
+tests_around m None None (Some why) reply acts = refl
+tests_around m None None None reply acts = refl
+
+pub defines_by : (m : Machine) (session : ℕ) (old : Option ℕ) (wrong : Option Refusal) (reply : Reply) (acts : List Act)
+    (given : Option ℕ) (tested found : Option Refusal) → old ≡ given → tested ≡ wrong
+    → found ≡ first_of (option_map DdlInTransaction (number_in m.sessions session) ∷ tested
+    ∷ option_map Locked (holder_of m.sessions given) ∷ [])
+    → defines m session old (tables.unless wrong (tables.commits reply acts))
+    ≡ unless found (Does reply m.sessions (Some acts))
+unfolding defines
+defines_by m session old wrong reply acts given tested found same test is =
+    tests_around m (option_map DdlInTransaction (number_in m.sessions session)) wrong
+    (option_map Locked (holder_of m.sessions old)) reply acts
+    ∙ (λ i. unless (first_of (option_map DdlInTransaction (number_in m.sessions session) ∷ sym test i
+    ∷ option_map Locked (holder_of m.sessions (same i)) ∷ [])) (Does reply m.sessions (Some acts)))
+    ∙ ap (λ (why : Option Refusal). unless why (Does reply m.sessions (Some acts))) (sym is)
+
+-- a test before all others
 pub refused_open : (m : Machine) (session : ℕ) (old : Option ℕ) (o : tables.Outcome) (why : Refusal)
     → option_map DdlInTransaction (number_in m.sessions session) ≡ Some why → defines m session old o ≡ Refuses why
 unfolding defines
@@ -63,45 +105,9 @@ refused_open m session old o why is =
     ap (λ (found : Option Refusal). unless found
     (last_test (option_map Locked (holder_of m.sessions old)) (alone m.sessions o))) is
 
--- ---- DROP TABLE
+-- ---- what is written for an object that goes
 
-drop_by : (s : State) (stamp : ℕ) (sessions : Sessions) (session : ℕ) (name : List ℕ) (found : Option ℕ)
-    → option_map DdlInTransaction (number_in sessions session) ≡ None → id_of name s.objects ≡ found
-    → defines (machine_at (stamped s stamp) sessions) session (id_of name s.objects) (drop_table (stamped s stamp) name)
-    ≡ last_test (option_map Locked (holder_of sessions found)) (alone sessions (drop_of name found))
-unfolding defines drop_table
-drop_by s stamp sessions session name found none is =
-    λ i. unless (none i)
-    (last_test (option_map Locked (holder_of sessions (is i))) (alone sessions (drop_of name (is i))))
-
-pub none_dropped : (s : State) (stamp : ℕ) (sessions : Sessions) (session : ℕ) (name : List ℕ)
-    → option_map DdlInTransaction (number_in sessions session) ≡ None → id_of name s.objects ≡ None
-    → defines (machine_at (stamped s stamp) sessions) session (id_of name s.objects) (drop_table (stamped s stamp) name)
-    ≡ Refuses (UnknownName name)
-none_dropped s stamp sessions session name none is = drop_by s stamp sessions session name None none is
-
-held_or_dropped : (s : State) (stamp : ℕ) (sessions : Sessions) (session : ℕ) (name : List ℕ)
-    (id : ℕ) (found : Option Refusal)
-    → option_map DdlInTransaction (number_in sessions session) ≡ None → id_of name s.objects ≡ Some id
-    → option_map Locked (holder_of sessions (Some id)) ≡ found
-    → defines (machine_at (stamped s stamp) sessions) session (id_of name s.objects) (drop_table (stamped s stamp) name)
-    ≡ unless found (Does (DroppedTable name) sessions (Some (DropsObject id ∷ [])))
-held_or_dropped s stamp sessions session name id found none is held =
-    drop_by s stamp sessions session name (Some id) none is
-    ∙ ap (λ (why : Option Refusal). unless why (Does (DroppedTable name) sessions (Some (DropsObject id ∷ [])))) held
-
-pub held_fast : (s : State) (stamp : ℕ) (sessions : Sessions) (session : ℕ) (name : List ℕ) (id : ℕ) (why : Refusal)
-    → option_map DdlInTransaction (number_in sessions session) ≡ None → id_of name s.objects ≡ Some id
-    → option_map Locked (holder_of sessions (Some id)) ≡ Some why
-    → defines (machine_at (stamped s stamp) sessions) session (id_of name s.objects)
-    (drop_table (stamped s stamp) name) ≡ Refuses why
-held_fast s stamp sessions session name id why none is held =
-    held_or_dropped s stamp sessions session name id (Some why) none is held
-
-pub is_dropped : (s : State) (stamp : ℕ) (sessions : Sessions) (session : ℕ) (name : List ℕ) (id : ℕ)
-    → option_map DdlInTransaction (number_in sessions session) ≡ None → id_of name s.objects ≡ Some id
-    → option_map Locked (holder_of sessions (Some id)) ≡ None
-    → defines (machine_at (stamped s stamp) sessions) session (id_of name s.objects) (drop_table (stamped s stamp) name)
-    ≡ Does (DroppedTable name) sessions (Some (DropsObject id ∷ []))
-is_dropped s stamp sessions session name id none is free =
-    held_or_dropped s stamp sessions session name id None none is free
+pub drops_as : (stamp : ℕ) (objects : List StoredObject) (old : Option ℕ)
+    → drops_written old ≡ written stamp objects (drops old)
+drops_as stamp objects None = refl
+drops_as stamp objects (Some id) = refl

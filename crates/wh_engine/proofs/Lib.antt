@@ -10,9 +10,11 @@ mod StepLemmas
 mod OutcomeLemmas
 mod TableLemmas
 mod DefineLemmas
+mod StreamLemmas
 mod TransactionLemmas
 mod SeenLemmas
 mod SourceLemmas
+mod ReadingLemmas
 mod ChangeLemmas
 mod EditLemmas
 mod TargetLemmas

@@ -1,6 +1,7 @@
 -- Outcomes, and the decisions that are them.
 --     declines                        a refusal
 --     answers, commits                a reply alone, and one with a commit
+--     commits_all, commits_none       so from what is written for acts, if there are some
 --     begins, stages, ends            what becomes of a transaction
 --     first_three, first_seven        the first refusal of tests
 use Rattle.std.proofs.Common.{◌≡◌, ℕ, List, [], ◌∷◌, Option, Some, None, option_map, is_some, refl, sym, ap, ◌∙◌}
@@ -47,6 +48,25 @@ commits s sessions stamp told changes o reply acts is say same = record {
   staged = tt;
 }
 
+pub commits_all : (s : Stored) (sessions : Sessions) (stamp : ℕ) (told : code_reply.Reply)
+    (changes : Vec records.Change Global) (o : Outcome)
+    (reply : Reply) (acts : Option (List Act)) → reply_view told ≡ reply
+    → Some (changes_of changes) ≡ option_map (written stamp s.objects) acts
+    → o ≡ Does reply sessions acts → Decides s sessions stamp (Do told (Commits changes)) o
+commits_all s sessions stamp told changes o reply acts is say same = record {
+  same = (λ i. Goes (is i) sessions (say i)) ∙ ap (planned s stamp) (sym same);
+  staged = tt;
+}
+
+pub commits_none : (s : Stored) (sessions : Sessions) (stamp : ℕ) (told : code_reply.Reply) (o : Outcome)
+    (reply : Reply) (acts : Option (List Act)) → reply_view told ≡ reply
+    → None ≡ option_map (written stamp s.objects) acts
+    → o ≡ Does reply sessions acts → Decides s sessions stamp (Do told Answers) o
+commits_none s sessions stamp told o reply acts is say same = record {
+  same = (λ i. Goes (is i) sessions (say i)) ∙ ap (planned s stamp) (sym same);
+  staged = tt;
+}
+
 pub begins : (s : Stored) (sessions : Sessions) (stamp session : ℕ) (told : code_reply.Reply)
     (o : Outcome) (reply : Reply)
     → reply_view told ≡ reply → o ≡ Does reply (with_begun sessions session stamp) None
@@ -56,14 +76,14 @@ begins s sessions stamp session told o reply is same = record {
   staged = tt;
 }
 
-pub stages : (s : Stored) (sessions : Sessions) (stamp session id next_row : ℕ) (effect : Effect) (t : Transaction)
-    (told : code_reply.Reply)
+pub stages : (s : Stored) (sessions : Sessions) (stamp session id : ℕ) (streams : Vec ℕ Global) (next_row : ℕ)
+    (effect : Effect) (t : Transaction) (told : code_reply.Reply)
     (o : Outcome) (reply : Reply) → transaction_in sessions session ≡ Some t → reply_view told ≡ reply
-    → o ≡ Does reply (with_transaction sessions session (staged t id next_row (effect_of effect))) None
-    → Decides s sessions stamp (Do told (Stages session id next_row effect)) o
-stages s sessions stamp session id next_row effect t told o reply held is same = record {
+    → o ≡ Does reply (with_transaction sessions session (staged t id streams.items next_row (effect_of effect))) None
+    → Decides s sessions stamp (Do told (Stages session id streams next_row effect)) o
+stages s sessions stamp session id streams next_row effect t told o reply held is same = record {
   same = (λ i. Goes (is i) (with_transaction sessions session
-      (staged (transaction_or_new (held i) stamp) id next_row (effect_of effect))) None)
+      (staged (transaction_or_new (held i) stamp) id streams.items next_row (effect_of effect))) None)
       ∙ ap (planned s stamp) (sym same);
   staged = is_open;
 }

@@ -1,7 +1,7 @@
 -- The outcome of an event, case by case.
 --     comes_as                      the same decision on an outcome that is said otherwise
 --     command_long .. command_carried     a command
---     carried_none .. carried_select      a statement
+--     carried_none .. carried_has_data    a statement
 use Rattle.std.proofs.Common.{◌≡◌, ℕ, Bool, List, Some, None, Result, true, false, refl, subst}
 use Rattle.std.specs.Result.{IfOk}
 use Rattle.wh_value.specs.Column.{Column}
@@ -13,11 +13,14 @@ use Rattle.wh_ast.specs.declared.query.Sort.{Sort}
 use Rattle.wh_grammar.specs.Spelled.{TooLong, Unreadable, Asked}
 use Rattle.wh_reply.specs.Reply.{OverLimit, SyntaxError, NoSuchSession, Unsupported}
 use Rattle.wh_machine.specs.State.{id_of}
-use Rattle.wh_machine.specs.Statement.{Begin, Commit, Rollback, CreateTable, DropTable, ChangeRows, Select, form_of}
+use Rattle.wh_machine.specs.Statement.{Begin, Commit, Rollback, CreateTable, DropTable, CreateStream, DropStream}
+use Rattle.wh_machine.specs.Statement.{ChangeRows, Select, HasData, form_of}
 use Rattle.wh_machine.specs.Tables.{create_table, drop_table, replaced_id}
+use Rattle.wh_machine.specs.Streams.{create_stream, drop_stream}
 use Rattle.wh_sessions.specs.Outcome.{Machine, Outcome, Refuses}
+use Rattle.wh_sessions.specs.Reading.{has_data}
 use Rattle.wh_sessions.specs.Statements.{begin, commit, rollback, defines, changes_rows, selects}
-use Rattle.wh_sessions.specs.Step.{is_session, commanded, carried_out}
+use Rattle.wh_sessions.specs.Step.{is_session, creates_stream, commanded, carried_out}
 use Rattle.wh_engine.specs.declared.decision.Decision.{Decision}
 use Rattle.wh_engine.specs.declared.sight.Sight.{Sight}
 use Rattle.wh_engine.specs.Sight.{Comes}
@@ -80,6 +83,18 @@ pub carried_drop : (m : Machine) (session : ℕ) (name : List ℕ)
 unfolding carried_out
 carried_drop m session name = refl
 
+pub carried_create_stream : (m : Machine) (session : ℕ) (name source : List ℕ) (is_append_only : Bool)
+    → creates_stream m session name source is_append_only
+    ≡ carried_out m session (Some (CreateStream name source is_append_only))
+unfolding carried_out
+carried_create_stream m session name source is_append_only = refl
+
+pub carried_drop_stream : (m : Machine) (session : ℕ) (name : List ℕ)
+    → defines m session (id_of name m.state.objects) (drop_stream m.state name)
+    ≡ carried_out m session (Some (DropStream name))
+unfolding carried_out
+carried_drop_stream m session name = refl
+
 pub carried_change : (m : Machine) (session : ℕ) (statement : Dml)
     → changes_rows m session statement ≡ carried_out m session (Some (ChangeRows statement))
 unfolding carried_out
@@ -89,3 +104,8 @@ pub carried_select : (m : Machine) (session : ℕ) (query : Query) (sorts : List
     → selects m session query sorts ≡ carried_out m session (Some (Select query sorts))
 unfolding carried_out
 carried_select m session query sorts = refl
+
+pub carried_has_data : (m : Machine) (session : ℕ) (stream : List ℕ)
+    → has_data m session stream ≡ carried_out m session (Some (HasData stream))
+unfolding carried_out
+carried_has_data m session stream = refl

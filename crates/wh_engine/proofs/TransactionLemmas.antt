@@ -71,27 +71,27 @@ unfolding commit
 commit_past m session t id which held past =
     ap (commit_of m session) held
     ∙ ap (λ (found : Option (ℕ × Limit)). unless (option_map (λ f. OverLimit f.1) found)
-    (committed m session (acts_of t))) past
+    (committed m session (acts_of m.state.objects t))) past
 
 commit_within : (m : Machine) (session : ℕ) (t : Transaction) (acts : Option (List Act))
-    → transaction_in m.sessions session ≡ Some t → past_limit m.state.objects t ≡ None → acts_of t ≡ acts
+    → transaction_in m.sessions session ≡ Some t → past_limit m.state.objects t ≡ None → acts_of m.state.objects t ≡ acts
     → commit m session ≡ committed m session acts
 unfolding commit
 commit_within m session t acts held within is =
     ap (commit_of m session) held
     ∙ ap (λ (found : Option (ℕ × Limit)). unless (option_map (λ f. OverLimit f.1) found)
-    (committed m session (acts_of t))) within
+    (committed m session (acts_of m.state.objects t))) within
     ∙ ap (committed m session) is
 
 -- what is written is the commit's changes
 pub commits_changes : (s : Stored) (m : Machine) (session : ℕ) (t : Transaction) (c : code.Commit)
     → transaction_in m.sessions session ≡ Some t → past_limit m.state.objects t ≡ None
-    → Some (records.commit_of c) ≡ option_map (commit_for s m.state.last) (acts_of t)
+    → Some (records.commit_of c) ≡ option_map (commit_for s m.state.last) (acts_of m.state.objects t)
     → Decides s m.sessions m.state.last
     (Do (told.Committed m.state.last) (Ends session (Some c.changes))) (commit m session)
-commits_changes s m session t c held within is = by_acts (acts_of t) refl
+commits_changes s m session t c held within is = by_acts (acts_of m.state.objects t) refl
   where
-    by_acts : (acts : Option (List Act)) → acts_of t ≡ acts
+    by_acts : (acts : Option (List Act)) → acts_of m.state.objects t ≡ acts
         → Decides s m.sessions m.state.last
         (Do (told.Committed m.state.last) (Ends session (Some c.changes))) (commit m session)
     by_acts None none = let found = rw none at is in absurd cc
@@ -105,11 +105,11 @@ commits_changes s m session t c held within is = by_acts (acts_of t) refl
 
 pub commits_nothing : (s : Stored) (m : Machine) (session : ℕ) (t : Transaction)
     → transaction_in m.sessions session ≡ Some t → past_limit m.state.objects t ≡ None
-    → None ≡ option_map (commit_for s m.state.last) (acts_of t)
+    → None ≡ option_map (commit_for s m.state.last) (acts_of m.state.objects t)
     → Decides s m.sessions m.state.last (Do told.CommittedNothing (Ends session None)) (commit m session)
-commits_nothing s m session t held within is = by_acts (acts_of t) refl
+commits_nothing s m session t held within is = by_acts (acts_of m.state.objects t) refl
   where
-    by_acts : (acts : Option (List Act)) → acts_of t ≡ acts
+    by_acts : (acts : Option (List Act)) → acts_of m.state.objects t ≡ acts
         → Decides s m.sessions m.state.last (Do told.CommittedNothing (Ends session None)) (commit m session)
     by_acts None none =
         ends s m.sessions m.state.last session told.CommittedNothing None

@@ -41,16 +41,17 @@ abbrev pub sessions_after : ℕ → Sessions → Settlement → Sessions
 sessions_after stamp sessions settlements.Answers = sessions
 sessions_after stamp sessions (settlements.Commits changes) = sessions
 sessions_after stamp sessions (settlements.Begins session) = with_begun sessions session stamp
-sessions_after stamp sessions (settlements.Stages session id next_row effect) =
+sessions_after stamp sessions (settlements.Stages session id streams next_row effect) =
     with_transaction sessions session
-    (staged (transaction_or_new (transaction_in sessions session) stamp) id next_row (effect_of effect))
+    (staged (transaction_or_new (transaction_in sessions session) stamp) id streams.items next_row
+    (effect_of effect))
 sessions_after stamp sessions (settlements.Ends session changes) = with_ended sessions session
 
 abbrev pub changes_in : Settlement → Option (List machine.Change)
 changes_in settlements.Answers = None
 changes_in (settlements.Commits changes) = Some (changes_of changes)
 changes_in (settlements.Begins session) = None
-changes_in (settlements.Stages session id next_row effect) = None
+changes_in (settlements.Stages session id streams next_row effect) = None
 changes_in (settlements.Ends session changes) = option_map changes_of changes
 
 abbrev pub plan_of : ℕ → Sessions → Decision → Plan
@@ -68,7 +69,7 @@ settlement_of (decisions.Refuse why) = settlements.Answers
 settlement_of (decisions.Do reply settlement) = settlement
 
 abbrev pub StagesInOpen : Sessions → Settlement → Type 0
-StagesInOpen sessions (settlements.Stages session id next_row effect) =
+StagesInOpen sessions (settlements.Stages session id streams next_row effect) =
     IsTrue (is_some (transaction_in sessions session))
 StagesInOpen sessions _ = Unit {0}
 

@@ -1,10 +1,41 @@
 -- Laws of the machine.
-use Rattle.std.specs.Prelude.{◌≡◌, IsTrue}
+use Rattle.std.specs.Prelude.{◌≡◌, ℕ, max, IsTrue, true, false, List, Some}
 use Rattle.wh_reply.specs.Reply.{is_refusal}
-use Rattle.wh_sessions.specs.Outcome.{Machine}
-use Rattle.wh_sessions.specs.Step.{Event, at_stamp, step}
+use Rattle.wh_machine.specs.State.{Table, Stream, with_offset}
+use Rattle.wh_machine.specs.Objects.{table_at, stream_at}
+use Rattle.wh_streams.specs.Stream.{rows_at}
+use Rattle.wh_sessions.specs.Transaction.{Transaction, start_of}
+use Rattle.wh_sessions.specs.Sessions.{transaction_in}
+use Rattle.wh_sessions.specs.Outcome.{Machine, settled}
+use Rattle.wh_sessions.specs.Reading.{rows_read}
+use Rattle.wh_sessions.specs.Statements.{commit}
+use Rattle.wh_sessions.specs.Step.{Event, at_stamp, step, after}
+use Rattle.wh_sessions.specs.Sound.{SoundMachine}
+use Rattle.wh_sessions.specs.Consuming.{batches, all_patched, rows_consumed, reads, AreApart, IsHeldAlong}
 
 -- a refused event changes nothing but the last stamp, and no transaction
 abbrev pub RefusalsChangeNothing : Type 0
 RefusalsChangeNothing = (m : Machine) (e : Event) → IsTrue (is_refusal (step m e).1)
     → (step m e).0 ≡ at_stamp m (step m e).0.state.last
+
+-- a standard stream on a table, over any events: patching the version at its first offset with what the commits
+-- consumed of it, in order, gives the version at its last offset
+abbrev pub BatchesLead : Type 0
+BatchesLead = (id : ℕ) (m : Machine) (es : List Event) → SoundMachine m → (s : Stream) (t : Table)
+    → stream_at m.state.objects id ≡ Some s → s.is_append_only ≡ false → table_at m.state.objects s.source ≡ Some t
+    → all_patched (rows_at t s.offset) (batches id m es)
+    ≡ rows_consumed (after m es).state.objects (stream_at (after m es).state.objects id)
+
+-- as long as a transaction holds a standard stream, each of its statements reads the same of it
+abbrev pub ReadsTheSame : Type 0
+ReadsTheSame = (session id : ℕ) (m : Machine) (es : List Event) → SoundMachine m → AreApart m.sessions
+    → IsHeldAlong session id m es → (s : Stream) (t : Table) → stream_at m.state.objects id ≡ Some s
+    → s.is_append_only ≡ false → table_at m.state.objects s.source ≡ Some t
+    → rows_read (after m es) session id ≡ rows_read m session id
+
+-- the COMMIT of a transaction that read a stream moves it to the transaction's start, up to which it was read
+abbrev pub CommitsMoveToTheStart : Type 0
+CommitsMoveToTheStart = (m : Machine) (session id : ℕ) (t : Transaction) (s : Stream)
+    → transaction_in m.sessions session ≡ Some t → stream_at m.state.objects id ≡ Some s
+    → reads m.sessions session id ≡ true → is_refusal (settled m (commit m session)).1 ≡ false
+    → stream_at (settled m (commit m session)).0.state.objects id ≡ Some (with_offset (max s.offset (start_of t)) s)

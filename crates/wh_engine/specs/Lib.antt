@@ -7,6 +7,8 @@ pub mod Answers
 pub mod Halts
 pub mod Leaves
 pub mod Built
+pub mod Kinds
+pub mod Definitions
 pub mod Tables
 pub mod Rows
 pub mod Sources

@@ -6,8 +6,7 @@ use Rattle.std.specs.Prelude.{List}
 use Rattle.wh_machine.specs.State.{Object, stamped}
 use Rattle.wh_catalog.specs.Catalog.{stored_of, state_of}
 use Rattle.wh_txn.specs.View.{sessions_of}
-use Rattle.wh_sessions.specs.Transaction.{seen}
-use Rattle.wh_sessions.specs.Sessions.{transaction_in}
+use Rattle.wh_sessions.specs.Reading as reading
 use Rattle.wh_sessions.specs.Outcome.{Machine, Outcome}
 use Rattle.wh_engine.specs.declared.decision.Decision.{Decision}
 use Rattle.wh_engine.specs.declared.sight.Sight.{Sight}
@@ -17,8 +16,7 @@ abbrev pub machine_in : Sight → Machine
 machine_in sight = machine_at (stamped (state_of sight.catalog.now) sight.stamp) (sessions_of sight.sessions.now)
 
 abbrev pub objects_seen : Sight → List Object
-objects_seen sight =
-    (seen (machine_in sight).state (transaction_in (machine_in sight).sessions sight.session)).objects
+objects_seen sight = reading.objects_seen (machine_in sight) sight.session
 
 abbrev pub Comes : Sight → Decision → Outcome → Type 0
 Comes sight decision outcome =

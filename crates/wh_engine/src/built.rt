@@ -9,10 +9,14 @@ pub(crate) enum Built<'a> {
     Rollback,
     CreateTable(NewTable),
     DropTable(&'a Text),
+    CreateStream(NewStream<'a>),
+    DropStream(&'a Text),
     /// INSERT, UPDATE, DELETE or MERGE, as it is written.
     ChangeRows(&'a Dml),
     /// A query and its ORDER BY, as they are written.
     Select(&'a Query, &'a [Sort]),
+    /// Whether the stream of that name has rows to show.
+    HasData(&'a Text),
 }
 
 #[derive(Debug, Drop)]
@@ -23,4 +27,12 @@ pub(crate) struct NewTable {
     pub(crate) columns: Vec<Column>,
     /// In days.
     pub(crate) retention: u64,
+}
+
+#[derive(Clone, Copy, Debug)]
+pub(crate) struct NewStream<'a> {
+    pub(crate) name: &'a Text,
+    /// The name of its table.
+    pub(crate) source: &'a Text,
+    pub(crate) is_append_only: bool,
 }

@@ -90,11 +90,12 @@ impl<D: Disk> Warehouse<D> {
             Settlement::Stages {
                 session,
                 id,
+                streams,
                 next_row,
                 effect,
             } => {
                 self.sessions
-                    .stage(self.alloc, session, id, next_row, effect)?;
+                    .stage(self.alloc, session, id, &streams, next_row, effect)?;
                 self.catalog.pass(stamp);
                 Ok(())
             }

@@ -17,6 +17,7 @@ use crate::decision::{Decision, Settlement};
 use crate::forms::form;
 use crate::queries::select;
 use crate::sight::Sight;
+use crate::streams::{create_stream, drop_stream, has_data};
 use crate::tables::{create_table, drop_table};
 use crate::transactions::{begin, commit, rollback};
 use std::alloc::{AllocError, Global};
@@ -120,7 +121,10 @@ fn decide_built(
         Built::Rollback => Ok(rollback(sight)),
         Built::CreateTable(table) => create_table(alloc, sight, table),
         Built::DropTable(name) => drop_table(alloc, sight, name),
+        Built::CreateStream(stream) => create_stream(alloc, sight, stream),
+        Built::DropStream(name) => drop_stream(alloc, sight, name),
         Built::ChangeRows(change) => change_rows(alloc, sight, change),
         Built::Select(query, sorts) => select(alloc, sight, query, sorts),
+        Built::HasData(stream) => has_data(alloc, sight, stream),
     }
 }

@@ -39,10 +39,12 @@ pub(crate) enum Settlement {
     Commits(Vec<Change>),
     /// The session's transaction begins.
     Begins(u64),
-    /// The effect on a table is staged in the session's open transaction.
+    /// The effect on a table is staged in the session's open transaction, by a statement that reads
+    /// these streams.
     Stages {
         session: u64,
         id: u32,
+        streams: Vec<u32>,
         next_row: u64,
         effect: Effect,
     },

@@ -1,19 +1,20 @@
-ghost use Rattle.std.specs.Prelude.{◌≡◌, List, Option, Some, map, IfOk};
+ghost use Rattle.std.specs.Prelude.{◌≡◌, Some, IfOk};
+ghost use Rattle.wh_meaning.specs.Query.{Instance};
 ghost use Rattle.wh_effect.specs.Effect.{effect};
 ghost use Rattle.wh_bound_change.specs.View as changes;
 ghost use Rattle.wh_dml.specs.View.{targets_of, Gives};
 ghost use Rattle.wh_exec.specs.Evaluation as evaluation;
 ghost use Rattle.wh_machine.specs.State.{Table};
-ghost use Rattle.wh_machine.specs.Tables.{table_at};
-ghost use Rattle.wh_machine.specs.Queries.{instance_of, table_bag};
+ghost use Rattle.wh_machine.specs.Objects.{table_at};
 ghost use Rattle.wh_machine.specs.Changes as machine;
+ghost use Rattle.wh_sessions.specs.Reading.{instance_read};
 ghost use Rattle.wh_txn.specs.Seen.{Shows};
 ghost use Rattle.wh_engine.specs.Changes.{is_insert};
-ghost use Rattle.wh_engine.specs.Sight.{objects_seen};
-ghost use Rattle.wh_engine.specs.Sources.{AllShow};
+ghost use Rattle.wh_engine.specs.Sight.{machine_in, objects_seen};
+ghost use Rattle.wh_engine.specs.Sources.{AreSeenAs};
 
 use crate::sight::Sight;
-use crate::sources::{rows_of, tables_seen};
+use crate::sources::{SourceSeen, rows_of, sources_seen};
 use std::alloc::{AllocError, Global};
 use wh_bound_change::{BoundChange, Change};
 use wh_dml::{Effect, EffectFault, effect};
@@ -29,27 +30,26 @@ pub(crate) fn effect_on(
 ) -> Result<Effect, EffectFault>
     ensures { (t : Table) → table_at (objects_seen sight.now) bound.now.target ≡ Some t
         → Gives result (effect (changes.change_of bound.now.change) (machine.rows_seen t)
-        (instance_of (objects_seen sight.now) bound.now.sources.items)) }
+        (instance_read (machine_in sight.now) sight.now.session bound.now.sources.items)) }
 {
-    let tables = tables_seen(alloc, sight, &bound.sources)?;
-    let effect = effect_over(alloc, sight, bound, &tables);
-    drop(tables);
+    let sources = sources_seen(alloc, sight, &bound.sources)?;
+    let effect = effect_over(alloc, sight, bound, &sources);
+    drop(sources);
     effect
 }
 
-// So over the tables that it reads.
+// So over the sources that it reads.
 fn effect_over(
     alloc: Global,
     sight: &Sight<'_>,
     bound: &BoundChange,
-    tables: &[TableSeen<'_>],
+    seen: &[SourceSeen<'_>],
 ) -> Result<Effect, EffectFault>
-    ensures { (t : Table) (meant : List (Option Table))
-        → table_at (objects_seen sight.now) bound.now.target ≡ Some t → AllShow tables.now meant
-        → Gives result (effect (changes.change_of bound.now.change) (machine.rows_seen t)
-        (map table_bag meant)) }
+    ensures { (t : Table) (read : Instance)
+        → table_at (objects_seen sight.now) bound.now.target ≡ Some t → AreSeenAs seen.now read
+        → Gives result (effect (changes.change_of bound.now.change) (machine.rows_seen t) read) }
 {
-    let sources = rows_of(alloc, tables)?;
+    let sources = rows_of(alloc, seen)?;
     effect_of(alloc, sight, bound, &sources)
 }
 

@@ -3,7 +3,7 @@ ghost use Rattle.wh_value.specs.View.{column_of};
 ghost use Rattle.wh_machine.specs.Statement as machine;
 ghost use Rattle.wh_engine.specs.Built.{built_view, new_table_view};
 
-use crate::built::{Built, NewTable};
+use crate::built::{Built, NewStream, NewTable};
 use std::alloc::{AllocError, Global};
 use wh_ast::{CreateTable, Statement};
 use wh_value::Column;
@@ -24,6 +24,15 @@ pub(crate) fn form(alloc: Global, statement: &Statement) -> Result<Option<Built<
         Statement::Dml(dml) => Ok(Some(Built::ChangeRows(dml))),
         Statement::CreateTable(table) => Ok(Some(Built::CreateTable(new_table(alloc, table)?))),
         Statement::DropTable(name) => Ok(Some(Built::DropTable(name))),
+        Statement::CreateStream(name, source, is_append_only) => {
+            Ok(Some(Built::CreateStream(NewStream {
+                name,
+                source,
+                is_append_only: *is_append_only,
+            })))
+        }
+        Statement::DropStream(name) => Ok(Some(Built::DropStream(name))),
+        Statement::HasData(stream) => Ok(Some(Built::HasData(stream))),
         _ => Ok(None),
     }
 }

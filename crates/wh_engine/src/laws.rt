@@ -1,6 +1,25 @@
-ghost use Rattle.wh_engine.specs.Laws.{RefusalsChangeNothing};
+ghost use Rattle.wh_engine.specs.Laws.{RefusalsChangeNothing, BatchesLead, ReadsTheSame};
+ghost use Rattle.wh_engine.specs.Laws.{CommitsMoveToTheStart};
 
 /// A refused command changes nothing but the last stamp, and no transaction.
 pub fn refusals_change_nothing()
     ensures { RefusalsChangeNothing }
+{}
+
+/// Of a standard stream nothing is lost, and nothing comes twice: patching the version at its first
+/// offset with what the commits consumed of it, in order, gives the version at its last offset.
+pub fn nothing_lost_nothing_twice()
+    ensures { BatchesLead }
+{}
+
+/// As long as a transaction holds a standard stream, each of its statements reads the same of it,
+/// whatever others commit.
+pub fn held_streams_are_read_again()
+    ensures { ReadsTheSame }
+{}
+
+/// The COMMIT of a transaction that read a stream moves it to the transaction's start, up to which it
+/// was read, and never back.
+pub fn commits_move_to_the_start()
+    ensures { CommitsMoveToTheStart }
 {}

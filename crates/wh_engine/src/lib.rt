@@ -7,19 +7,23 @@ mod carrying;
 mod changes;
 mod deciding;
 mod decision;
+mod definitions;
 mod effects;
 mod event;
 mod fault;
 mod forms;
+mod kinds;
 mod laws;
 mod limits;
 mod names;
 mod objects;
 mod open;
 mod queries;
+mod reading;
 mod replay;
 mod sight;
 mod sources;
+mod streams;
 mod tables;
 mod transactions;
 mod versions;
@@ -27,5 +31,8 @@ mod warehouse;
 
 pub use event::Event;
 pub use fault::{Halt, OpenFault};
-pub use laws::refusals_change_nothing;
+pub use laws::{
+    commits_move_to_the_start, held_streams_are_read_again, nothing_lost_nothing_twice,
+    refusals_change_nothing,
+};
 pub use warehouse::Warehouse;

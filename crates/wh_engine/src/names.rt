@@ -1,6 +1,7 @@
 ghost use Rattle.std.specs.Prelude.{◌≡◌, ◌∷◌, map, codes, nat_eq, bytes_eq, IfOk};
 ghost use Rattle.std.specs.List.{list_any, starts_with};
 ghost use Rattle.wh_value.specs.View.{column_of};
+ghost use Rattle.wh_machine.specs.Objects.{is_long};
 ghost use Rattle.wh_machine.specs.Tables as machine;
 ghost use Rattle.wh_machine.specs.Tables.{names_of};
 ghost use Rattle.wh_engine.specs.Built.{columns_of};
@@ -54,20 +55,20 @@ fn has_name(column: &Column, name: &Text) -> bool
 
 // Whether the name of a new table or that of one of its columns is beyond the limit.
 pub(crate) fn has_long_name(table: &NewTable) -> bool
-    ensures { result ≡ list_any machine.is_long
+    ensures { result ≡ list_any is_long
         (table.now.name ∷ names_of (columns_of table.now)) }
 {
     is_long(&table.name) || some_is_long(&table.columns)
 }
 
 fn some_is_long(columns: &[Column]) -> bool
-    ensures { result ≡ list_any (λ column. machine.is_long (column_of column).name) columns.now }
+    ensures { result ≡ list_any (λ column. is_long (column_of column).name) columns.now }
 {
     columns.iter().any(|column| is_long(&column.name))
 }
 
-fn is_long(name: &Text) -> bool
-    ensures { result ≡ machine.is_long name.now }
+pub(crate) fn is_long(name: &Text) -> bool
+    ensures { result ≡ is_long name.now }
 {
     Limit::Name.bound() < name.as_bytes().len() as u64
 }

@@ -2,6 +2,7 @@ ghost use Rattle.std.specs.Prelude.{◌≡◌, ◌++◌, map, IfOk, OnOk};
 ghost use Rattle.wh_value.specs.View.{column_of};
 ghost use Rattle.wh_expr_bind.specs.View as view;
 ghost use Rattle.wh_expr_bind.specs.View.{named_of};
+ghost use Rattle.wh_machine.specs.State as state;
 ghost use Rattle.wh_machine.specs.Stored.{kind_meant};
 ghost use Rattle.wh_machine.specs.Queries as machine;
 ghost use Rattle.wh_catalog.specs.Kept.{kind_in};
@@ -59,14 +60,16 @@ fn kind_of(kind: &StoredKind) -> ObjectKind
 {
     match kind {
         StoredKind::Table(_) => ObjectKind::Table,
+        StoredKind::Stream(_) => ObjectKind::Stream,
     }
 }
 
 fn columns_in(kind: &StoredKind) -> &[Column]
     ensures { map column_of result.now
-        ≡ machine.columns_in (kind_meant (kind_in (kept_kind kind.now))) }
+        ≡ state.columns_in (kind_meant (kind_in (kept_kind kind.now))) }
 {
     match kind {
         StoredKind::Table(table) => table.columns(),
+        StoredKind::Stream(stream) => stream.columns(),
     }
 }

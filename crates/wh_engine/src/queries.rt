@@ -1,6 +1,6 @@
-ghost use Rattle.std.specs.Prelude.{◌≡◌, List, Option, map, option_map, IfOk};
+ghost use Rattle.std.specs.Prelude.{◌≡◌, option_map, IfOk};
 ghost use Rattle.wh_reply.specs.View.{refusal_view};
-ghost use Rattle.wh_meaning.specs.Query.{eval};
+ghost use Rattle.wh_meaning.specs.Query.{Instance, eval};
 ghost use Rattle.wh_meaning.specs.Listing.{listed};
 ghost use Rattle.wh_naming.specs.Select as naming;
 ghost use Rattle.wh_algebra.specs.View.{query_of};
@@ -9,19 +9,21 @@ ghost use Rattle.wh_exec.specs.Evaluation.{Evaluates};
 ghost use Rattle.wh_expr_bind.specs.View.{failing_of};
 ghost use Rattle.wh_bind.specs.Binds.{IsBound};
 ghost use Rattle.wh_listing.specs.View.{keys_of};
-ghost use Rattle.wh_machine.specs.Queries as machine;
-ghost use Rattle.wh_machine.specs.State.{Table};
+ghost use Rattle.wh_machine.specs.Queries as findings;
 ghost use Rattle.wh_sessions.specs.Outcome.{alone};
+ghost use Rattle.wh_sessions.specs.Reading.{instance_read};
+ghost use Rattle.wh_sessions.specs.Statements as machine;
 ghost use Rattle.wh_sessions.specs.Statements.{selects};
 ghost use Rattle.wh_txn.specs.View.{sessions_of};
 ghost use Rattle.wh_engine.specs.Rows.{rows_found};
-ghost use Rattle.wh_engine.specs.Sight.{machine_in, objects_seen, Comes};
-ghost use Rattle.wh_engine.specs.Sources.{AllShow};
+ghost use Rattle.wh_engine.specs.Sight.{machine_in, Comes};
+ghost use Rattle.wh_engine.specs.Sources.{AreSeenAs};
 
 use crate::decision::{Decision, Settlement};
 use crate::objects::named_objects;
+use crate::reading::reading_refusal;
 use crate::sight::Sight;
-use crate::sources::{rows_of, tables_seen};
+use crate::sources::{SourceSeen, rows_of, sources_seen};
 use std::alloc::{AllocError, Global};
 use wh_algebra::{Physical, Tuple};
 use wh_ast::{Query, Sort};
@@ -31,7 +33,6 @@ use wh_expr_bind::Failing;
 use wh_listing::listed;
 use wh_reply::{Refusal, Reply};
 use wh_scalar::EvalFault;
-use wh_txn::TableSeen;
 use wh_value::{Limit, Row, Text};
 
 // What SELECT comes to, over what the session sees. It makes no commit.
@@ -65,10 +66,13 @@ fn select_bound(
     ensures { IfOk result (λ decision. (meant : naming.BoundSelect)
         → IsBound bound.now meant → Comes sight.now decision
         (alone (sessions_of sight.now.sessions.now)
-        (machine.select_bound (objects_seen sight.now) meant))) }
+        (machine.select_bound (machine_in sight.now) sight.now.session meant))) }
 {
     if bound.is_wide {
         return Ok(Decision::Refuse(Refusal::OverLimit(Limit::Output)));
+    }
+    if let Some(why) = reading_refusal(alloc, sight, &bound.sources)? {
+        return Ok(Decision::Refuse(why));
     }
     let Some(rows) = listed_rows(alloc, sight, bound)? else {
         return Ok(Decision::Refuse(Refusal::NumberOutOfRange));
@@ -88,25 +92,25 @@ fn listed_rows(
 ) -> Result<Option<Vec<Row>>, AllocError>
     ensures { IfOk result (λ found. rows_found found
         ≡ option_map (listed (keys_of bound.now.keys.items)) (eval (query_of bound.now.query)
-        (machine.instance_of (objects_seen sight.now) bound.now.sources.items))) }
+        (instance_read (machine_in sight.now) sight.now.session bound.now.sources.items))) }
 {
-    let tables = tables_seen(alloc, sight, &bound.sources)?;
-    let rows = rows_over(alloc, bound, &tables);
-    drop(tables);
+    let sources = sources_seen(alloc, sight, &bound.sources)?;
+    let rows = rows_over(alloc, bound, &sources);
+    drop(sources);
     rows
 }
 
-// Its rows over these tables.
+// Its rows over these sources.
 fn rows_over(
     alloc: Global,
     bound: &BoundSelect,
-    tables: &[TableSeen<'_>],
+    seen: &[SourceSeen<'_>],
 ) -> Result<Option<Vec<Row>>, AllocError>
-    ensures { IfOk result (λ found. (meant : List (Option Table)) → AllShow tables.now meant
+    ensures { IfOk result (λ found. (read : Instance) → AreSeenAs seen.now read
         → rows_found found ≡ option_map (listed (keys_of bound.now.keys.items))
-        (eval (query_of bound.now.query) (map machine.table_bag meant))) }
+        (eval (query_of bound.now.query) read)) }
 {
-    let sources = rows_of(alloc, tables)?;
+    let sources = rows_of(alloc, seen)?;
     match planned_rows(alloc, &bound.query, &sources) {
         Ok(tuples) => Ok(Some(listed(alloc, &bound.keys, tuples)?)),
         Err(EvalFault::NumberOutOfRange) => Ok(None),
@@ -137,7 +141,7 @@ fn copies(alloc: Global, names: &[Text]) -> Result<Vec<Text>, AllocError>
 }
 
 pub(crate) fn refusal(failing: Failing) -> Refusal
-    ensures { refusal_view result ≡ machine.refusal_of (failing_of failing) }
+    ensures { refusal_view result ≡ findings.refusal_of (failing_of failing) }
 {
     match failing {
         Failing::UnknownName(name) => Refusal::UnknownName(name),

@@ -37,6 +37,24 @@ const REMOVE: [u8; 61] = [
     0, 2, 0, 0, 0, 1, 0, 0, 0, 2, 0, 0, 0, 0, 0, 0, 0, 1, 0, 0, 0, 0, 0, 0, 0, 3, 0, 0, 0, 0,
 ];
 
+/// Stream S, of id 2, on table 1, consumed up to stamp 4, is new at stamp 5.
+const STANDARD: [u8; 35] = [
+    0, 0, 0, 0, 0, 0, 0, 5, 0, 0, 0, 1, 3, 0, 0, 0, 2, 0, 0, 0, 1, 0x53, 0, 0, 0, 1, 1, 0, 0, 0, 0,
+    0, 0, 0, 4,
+];
+
+/// The append-only stream AS, of id 259, on table 258, is new at stamp 6; its offset has eight
+/// bytes that differ.
+const APPEND_ONLY: [u8; 36] = [
+    0, 0, 0, 0, 0, 0, 0, 6, 0, 0, 0, 1, 3, 0, 0, 1, 3, 0, 0, 0, 2, 0x41, 0x53, 0, 0, 1, 2, 2, 1, 2,
+    3, 4, 5, 6, 7, 8,
+];
+
+/// Stream 2 is consumed up to stamp 258 at stamp 7.
+const OFFSET: [u8; 25] = [
+    0, 0, 0, 0, 0, 0, 0, 7, 0, 0, 0, 1, 11, 0, 0, 0, 2, 0, 0, 0, 0, 0, 0, 1, 2,
+];
+
 fn created(rt: &impl Abort, alloc: Global) -> Change {
     let mut columns = Vec::new(alloc);
     columns
@@ -83,6 +101,26 @@ fn removed(rt: &impl Abort, alloc: Global, stamp: u64, numbers: &[u64]) -> Chang
         width: 1,
         removed: Vec::from_slice(alloc, numbers).expect(rt, "memory"),
         added: Vec::new(alloc),
+    })
+}
+
+fn standard(rt: &impl Abort, alloc: Global) -> Change {
+    Change::CreatesStream(StreamChange {
+        id: 2,
+        name: Text::of(alloc, "S").expect(rt, "memory"),
+        source: 1,
+        is_append_only: false,
+        offset: 4,
+    })
+}
+
+fn append_only(rt: &impl Abort, alloc: Global) -> Change {
+    Change::CreatesStream(StreamChange {
+        id: 259,
+        name: Text::of(alloc, "AS").expect(rt, "memory"),
+        source: 258,
+        is_append_only: true,
+        offset: 0x0102_0304_0506_0708,
     })
 }
 
@@ -146,6 +184,12 @@ fn commits_are_written_and_read_byte_by_byte(rt: HostRuntime) {
     assert_one(&rt, alloc, "a new version", 2, insert, &INSERT);
     let remove = removed(&rt, alloc, 5, &[1, 3]);
     assert_one(&rt, alloc, "partitions that go", 5, remove, &REMOVE);
+    let stream = standard(&rt, alloc);
+    assert_one(&rt, alloc, "a new stream", 5, stream, &STANDARD);
+    let stream = append_only(&rt, alloc);
+    assert_one(&rt, alloc, "an append-only stream", 6, stream, &APPEND_ONLY);
+    let moved = Change::SetsOffset { id: 2, offset: 258 };
+    assert_one(&rt, alloc, "an offset", 7, moved, &OFFSET);
 }
 
 #[test]
@@ -204,6 +248,9 @@ fn no_prefix_is_a_commit(rt: HostRuntime) {
         ("a new version", &INSERT),
         ("a new table and its first version", &BOTH),
         ("partitions that go", &REMOVE),
+        ("a new stream", &STANDARD),
+        ("an append-only stream", &APPEND_ONLY),
+        ("an offset", &OFFSET),
     ];
     for (name, payload) in CASES {
         assert!(rt; !has_a_prefix(rt.alloc(), payload), "{name}");
@@ -236,7 +283,14 @@ fn what_is_no_commit_is_not_read(rt: HostRuntime) {
         ("more changes than there are", &CREATE, 11, 2),
         ("four billion changes", &NOTHING, 8, 255),
         ("a tag of 0", &CREATE, 12, 0),
-        ("a tag of 3", &DROP, 12, 3),
+        ("a tag of 4", &DROP, 12, 4),
+        ("a drop with a stream's tag", &DROP, 12, 3),
+        ("a kind byte of 0", &STANDARD, 26, 0),
+        ("a kind byte of 3", &APPEND_ONLY, 27, 3),
+        ("a byte behind a stream", &STANDARD, 35, 0),
+        ("a stream's name that isn't UTF-8", &STANDARD, 21, 255),
+        ("an offset with a drop's tag", &OFFSET, 12, 2),
+        ("a byte behind an offset", &OFFSET, 25, 0),
         ("a byte behind a drop", &DROP, 17, 0),
         ("a name that passes the end", &CREATE, 20, 20),
         ("a name that isn't UTF-8", &CREATE, 31, 255),

@@ -6,22 +6,26 @@
 use Rattle.std.proofs.Common.{◌≡◌, ℕ, suc, ◌+◌, ◌<◌, ◌≤◌, List, [], ◌∷◌, ◌++◌, length, map}
 use Rattle.std.proofs.Common.{Option, Some, None, option_map}
 use Rattle.std.proofs.Common.{refl, sym, ap, subst, ◌∙◌, arith}
+use Rattle.std.specs.List.{AllByRecursion}
 use Rattle.std.proofs.lemmas.List.{map-append}
 use Rattle.wh_machine.specs.State.{Rows, Contents, nothing_held, Version, Table, Object, at_id, with_id, put_at}
-use Rattle.wh_machine.specs.State.{dropped, last_content, version_at, stamped}
+use Rattle.wh_machine.specs.State.{StreamKind, dropped, last_of, content_in, last_content, version_at, stamped}
+use Rattle.wh_machine.specs.State.{new_object, new_stream}
 use Rattle.wh_machine.specs.Edits.{Edits, numbers_gone, partitions_made, without, contents_after}
-use Rattle.wh_machine.specs.Outcome.{Act, MakesTable, DropsObject, EditsRows, edited_table, edited_object, acted}
-use Rattle.wh_machine.specs.Outcome.{all_acted, done}
-use Rattle.wh_machine.specs.Stored.{StoredTable, StoredKind, StoredTableKind, StoredObject, Stored, standing}
+use Rattle.wh_machine.specs.Outcome.{Act, MakesTable, DropsObject, EditsRows, MakesStream, MovesOffset, edited_table}
+use Rattle.wh_machine.specs.Outcome.{edited_object, moved_object, acted, all_acted, done}
+use Rattle.wh_machine.specs.Stored.{StoredVersion, StoredTable, StoredKind, StoredTableKind, StoredStreamKind}
+use Rattle.wh_machine.specs.Stored.{StoredObject, Stored, standing}
 use Rattle.wh_machine.specs.Stored.{contents_meant, version_meant, table_meant, object_meant, meant}
-use Rattle.wh_machine.specs.Commit.{Change, TableChange, VersionChange, CreatesTable, Drops, pushed, pushed_object}
-use Rattle.wh_machine.specs.Commit.{changed, all_changed, applied}
-use Rattle.wh_machine.specs.Orderly.{IsOrderly, IsOrderlyKind, IsOrderlyObject, IsOrderlyStored}
+use Rattle.wh_machine.specs.Commit.{Change, TableChange, VersionChange, StreamChange, CreatesTable, Drops, CreatesStream}
+use Rattle.wh_machine.specs.Commit.{SetsOffset, pushed, pushed_object, offset_set, changed, all_changed, applied}
+use Rattle.wh_machine.specs.Orderly.{IsOrderly, IsOrderlyVersion, IsOrderlyTable, IsOrderlyKind, IsOrderlyObject}
+use Rattle.wh_machine.specs.Orderly.{IsOrderlyStored}
 use Rattle.wh_machine.specs.Written.{version_written, version_written_to, act_written, written, commit_for}
 use Rattle.wh_machine.proofs.AllLaws.{all_at}
-use Rattle.wh_machine.proofs.IdLaws.{map_changed, at_other}
+use Rattle.wh_machine.proofs.IdLaws.{map_changed, at_other, with_same}
 use Rattle.wh_machine.proofs.EditLaws.{edits_written}
-use Rattle.wh_machine.proofs.MeaningLaws.{at_id_meant, with_id_meant, last_content_meant}
+use Rattle.wh_machine.proofs.MeaningLaws.{at_id_meant, with_id_meant, last_content_meant, columns_meant}
 
 -- ---- a table's next version
 
@@ -91,6 +95,26 @@ made_meant : (stamp : ℕ) (objects : List StoredObject) (c : TableChange)
 unfolding changed
 made_meant stamp objects c = map-append object_meant objects _
 
+stream_meant : (stamp : ℕ) (objects : List StoredObject) (c : StreamChange) → c.offset ≡ stamp
+    → map object_meant (changed stamp objects (CreatesStream c))
+    ≡ acted stamp (map object_meant objects) (MakesStream c.name c.source c.is_append_only)
+unfolding changed
+stream_meant stamp objects c is =
+    let columns = columns_meant objects c.source in
+    map-append object_meant objects _ ∙ rw (is, columns) refl
+
+offset_meant : (stamp : ℕ) (objects : List StoredObject) (id offset : ℕ)
+    → map object_meant (changed stamp objects (SetsOffset id offset))
+    ≡ acted stamp (map object_meant objects) (MovesOffset id offset)
+unfolding changed
+offset_meant stamp objects id offset =
+    map_changed object_meant (offset_set offset) (moved_object offset) (λ o. by_kind o o.kind) objects id
+  where
+    by_kind : (o : StoredObject) (k : StoredKind) → object_meant (offset_set offset (record o { kind = k }))
+        ≡ moved_object offset (object_meant (record o { kind = k }))
+    by_kind o (StoredTableKind t) = refl
+    by_kind o (StoredStreamKind s) = refl
+
 dropped_meant : (stamp : ℕ) (objects : List StoredObject) (id : ℕ)
     → map object_meant (changed stamp objects (Drops id)) ≡ acted stamp (map object_meant objects) (DropsObject id)
 unfolding changed
@@ -116,6 +140,18 @@ abbrev pub OrderlyFor : List StoredObject → Act → Type 0
 OrderlyFor objects (MakesTable name columns retention) = Unit {0}
 OrderlyFor objects (DropsObject id) = Unit {0}
 OrderlyFor objects (EditsRows id e) = OrderlyAt (at_id objects id)
+OrderlyFor objects (MakesStream name source is_append_only) = Unit {0}
+OrderlyFor objects (MovesOffset id offset) = Unit {0}
+
+-- what stands is orderly
+pub orderly_standing : (t : StoredTable) → IsOrderlyTable t → IsOrderly (standing t)
+orderly_standing t orderly = of_last t.versions orderly
+  where
+    of_last : (versions : List StoredVersion) → AllByRecursion IsOrderlyVersion versions
+        → IsOrderly (content_in [] (last_of versions))
+    of_last [] all = record { numbers = tt; rows = tt; apart = tt }
+    of_last (v ∷ []) all = all.0
+    of_last (v ∷ w ∷ vs) all = of_last (w ∷ vs) all.1
 
 pub act_meant : (stamp : ℕ) (objects : List StoredObject) (act : Act) → OrderlyFor objects act
     → map object_meant (all_changed stamp objects (act_written stamp objects act))
@@ -123,6 +159,14 @@ pub act_meant : (stamp : ℕ) (objects : List StoredObject) (act : Act) → Orde
 act_meant stamp objects (MakesTable name columns retention) orderly =
     made_meant stamp objects (record { id = length objects + 1; name = name; retention = retention; columns = columns })
 act_meant stamp objects (DropsObject id) orderly = dropped_meant stamp objects id
+act_meant stamp objects (MakesStream name source is_append_only) orderly = stream_meant stamp objects (record {
+  id = length objects + 1;
+  name = name;
+  source = source;
+  is_append_only = is_append_only;
+  offset = stamp;
+}) refl
+act_meant stamp objects (MovesOffset id offset) orderly = offset_meant stamp objects id offset
 act_meant stamp objects (EditsRows id e) orderly =
     by_found (at_id objects id) refl orderly
     ∙ ap (λ (found : Option Object). put_at (map object_meant objects) id (option_map (edited_object stamp e) found))
@@ -134,8 +178,11 @@ act_meant stamp objects (EditsRows id e) orderly =
     by_kind o (StoredTableKind t) there is orderly =
         let edited : map object_meant (changed stamp objects (version_written stamp id e t))
         ≡ with_id (map object_meant objects) id (edited_object stamp e (object_meant o)) =
-        edits_meant stamp id e objects o t there is orderly in
+        edits_meant stamp id e objects o t there is (orderly_standing t orderly) in
         rw is (rw is at edited)
+    by_kind o (StoredStreamKind s) there is orderly =
+        rw is (sym (with_same (map object_meant objects) id (object_meant o)
+        (at_id_meant objects id ∙ ap (option_map object_meant) there)) ∙ ap (with_id (map object_meant objects) id) (rw is refl))
 
     by_found : (found : Option StoredObject) → at_id objects id ≡ found → OrderlyAt found
         → map object_meant (all_changed stamp objects (version_written_to stamp id e found))
@@ -145,20 +192,28 @@ act_meant stamp objects (EditsRows id e) orderly =
 
 -- ---- the acts of a statement
 
--- edits of tables by rising ids, from that id on
+-- offsets that move
+abbrev pub AreMoves : List Act → Type 0
+AreMoves [] = Unit {0}
+AreMoves (MovesOffset id offset ∷ acts) = AreMoves acts
+AreMoves _ = ⊥
+
+-- edits of tables by rising ids, from that id on, and then offsets that move
 abbrev pub AreEditsFrom : ℕ → List Act → Type 0
 AreEditsFrom least [] = Unit {0}
-AreEditsFrom least (MakesTable name columns retention ∷ acts) = ⊥
-AreEditsFrom least (DropsObject id ∷ acts) = ⊥
 AreEditsFrom least (EditsRows id e ∷ acts) = (least ≤ id) × AreEditsFrom (suc id) acts
+AreEditsFrom least (MovesOffset id offset ∷ acts) = AreMoves acts
+AreEditsFrom least _ = ⊥
 
--- none, one, a drop with a new table, or edits of several tables
+-- none, one, a drop with a new table, or edits of several tables with offsets that move
 abbrev pub IsOfOneStatement : List Act → Type 0
 IsOfOneStatement [] = Unit {0}
 IsOfOneStatement (MakesTable name columns retention ∷ []) = Unit {0}
+IsOfOneStatement (MakesStream name source is_append_only ∷ []) = Unit {0}
 IsOfOneStatement (DropsObject id ∷ []) = Unit {0}
 IsOfOneStatement (DropsObject id ∷ MakesTable name columns retention ∷ []) = Unit {0}
 IsOfOneStatement (EditsRows id e ∷ acts) = AreEditsFrom (suc id) acts
+IsOfOneStatement (MovesOffset id offset ∷ acts) = AreMoves acts
 IsOfOneStatement _ = ⊥
 
 pub all_changed_append : (stamp : ℕ) (objects : List StoredObject) (cs ds : List Change)
@@ -188,6 +243,7 @@ edit_leaves stamp id e objects later h = by_found (at_id objects id)
         → at_id (all_changed stamp objects (version_written_to stamp id e (Some (record o { kind = k })))) later
         ≡ at_id objects later
     by_kind o (StoredTableKind t) = at_other (pushed_object stamp (version_change stamp id e t)) objects id later h
+    by_kind o (StoredStreamKind s) = refl
 
     by_found : (found : Option StoredObject)
         → at_id (all_changed stamp objects (version_written_to stamp id e found)) later ≡ at_id objects later
@@ -197,6 +253,17 @@ edit_leaves stamp id e objects later h = by_found (at_id objects id)
 abbrev pub OrderlyFrom : ℕ → List StoredObject → Type 0
 OrderlyFrom least objects = (id : ℕ) → least ≤ id → OrderlyAt (at_id objects id)
 
+moves_meant : (stamp : ℕ) (objects : List StoredObject) (acts : List Act) → AreMoves acts
+    → map object_meant (all_changed stamp objects (written stamp objects acts))
+    ≡ all_acted stamp (map object_meant objects) acts
+moves_meant stamp objects [] moves = refl
+moves_meant stamp objects (MakesTable name columns retention ∷ acts) moves = absurd moves
+moves_meant stamp objects (DropsObject id ∷ acts) moves = absurd moves
+moves_meant stamp objects (EditsRows id e ∷ acts) moves = absurd moves
+moves_meant stamp objects (MakesStream name source is_append_only ∷ acts) moves = absurd moves
+moves_meant stamp objects (MovesOffset id offset ∷ acts) moves =
+    more_meant stamp objects (MovesOffset id offset) acts tt (λ first is. moves_meant stamp first acts moves)
+
 edits_all_meant : (stamp least : ℕ) (objects : List StoredObject) (acts : List Act) → AreEditsFrom least acts
     → OrderlyFrom least objects
     → map object_meant (all_changed stamp objects (written stamp objects acts))
@@ -204,6 +271,9 @@ edits_all_meant : (stamp least : ℕ) (objects : List StoredObject) (acts : List
 edits_all_meant stamp least objects [] rising orderly = refl
 edits_all_meant stamp least objects (MakesTable name columns retention ∷ acts) rising orderly = absurd rising
 edits_all_meant stamp least objects (DropsObject id ∷ acts) rising orderly = absurd rising
+edits_all_meant stamp least objects (MakesStream name source a ∷ acts) rising orderly = absurd rising
+edits_all_meant stamp least objects (MovesOffset id offset ∷ acts) rising orderly =
+    moves_meant stamp objects (MovesOffset id offset ∷ acts) rising
 edits_all_meant stamp least objects (EditsRows id e ∷ acts) rising orderly =
     more_meant stamp objects (EditsRows id e) acts (orderly id rising.0) (λ first is.
     edits_all_meant stamp (suc id) first acts rising.1 (λ later h.
@@ -224,6 +294,10 @@ pub acts_meant : (s : Stored) (stamp : ℕ) (acts : List Act) → IsOfOneStateme
 acts_meant s stamp [] shape orderly = refl
 acts_meant s stamp (MakesTable n c r ∷ []) shape orderly =
     more_meant stamp s.objects (MakesTable n c r) [] tt (λ first is. refl)
+acts_meant s stamp (MakesStream name source a ∷ []) shape orderly =
+    more_meant stamp s.objects (MakesStream name source a) [] tt (λ first is. refl)
+acts_meant s stamp (MovesOffset id offset ∷ acts) shape orderly =
+    moves_meant stamp s.objects (MovesOffset id offset ∷ acts) shape
 acts_meant s stamp (DropsObject id ∷ []) shape orderly =
     more_meant stamp s.objects (DropsObject id) [] tt (λ first is. refl)
 acts_meant s stamp (DropsObject id ∷ MakesTable name columns retention ∷ []) shape orderly =
@@ -232,8 +306,11 @@ acts_meant s stamp (DropsObject id ∷ MakesTable name columns retention ∷ [])
 acts_meant s stamp (EditsRows id e ∷ acts) shape orderly =
     edits_all_meant stamp 0 s.objects (EditsRows id e ∷ acts) (omega arith, shape) (orderly_from s orderly)
 acts_meant s stamp (MakesTable n c r ∷ act ∷ acts) shape orderly = absurd shape
+acts_meant s stamp (MakesStream n o a ∷ act ∷ acts) shape orderly = absurd shape
 acts_meant s stamp (DropsObject id ∷ DropsObject other ∷ acts) shape orderly = absurd shape
 acts_meant s stamp (DropsObject id ∷ EditsRows other e ∷ acts) shape orderly = absurd shape
+acts_meant s stamp (DropsObject id ∷ MakesStream n o a ∷ acts) shape orderly = absurd shape
+acts_meant s stamp (DropsObject id ∷ MovesOffset other offset ∷ acts) shape orderly = absurd shape
 acts_meant s stamp (DropsObject id ∷ MakesTable n c r ∷ act ∷ acts) shape orderly = absurd shape
 
 -- over an orderly file, what is written for the acts of a statement means what they do

@@ -1,7 +1,7 @@
 -- Lists by ids and names, where each element is looked at through a function.
 --     map_at, map_with, map_put         what stands at an id, and another value there
 --     map_changed                       what stands there is changed
---     at_other                          what stands at an id behind it stays
+--     at_other, with_same               what stands at an id behind it stays, and what is put in its own place
 --     map_last, last_more               the last element
 --     map_position, map_count           the first that passes a test, and how many pass
 use Rattle.std.proofs.Common.{◌≡◌, ℕ, zero, suc, ◌+◌, ◌<◌, Bool, cond, List, [], ◌∷◌, ◌++◌, map}
@@ -49,6 +49,16 @@ map_changed f g h same xs id =
     through : (found : Option _) → option_map f (option_map g found) ≡ option_map h (option_map f found)
     through None = refl
     through (Some x) = ap Some (same x)
+
+-- what stands there, in its own place
+set_same : {X : Type 0} (xs : List X) (place : ℕ) (x : X) → slice_get xs place ≡ Some x → slice_set xs place x ≡ xs
+set_same [] place x there = refl
+set_same (y ∷ ys) zero x there = let same : y ≡ x = cc in ap (λ (z : _). z ∷ ys) (sym same)
+set_same (y ∷ ys) (suc place) x there = ap (λ (l : List _). y ∷ l) (set_same ys place x there)
+
+pub with_same : {X : Type 0} (xs : List X) (id : ℕ) (x : X) → at_id xs id ≡ Some x → with_id xs id x ≡ xs
+with_same xs zero x there = refl
+with_same xs (suc place) x there = set_same xs place x there
 
 -- what stands at a later place
 get_other : {X : Type 0} (xs : List X) (place later : ℕ) (x : X) → place < later

@@ -129,10 +129,7 @@ both_applied = refl
 
 table_applies : TableApplies [] table_t
 table_applies = record {
-  next_id = refl;
-  few = omega arith;
-  free = refl;
-  name = (omega arith, omega arith);
+  object = record { next_id = refl; few = omega arith; free = refl; name = (omega arith, omega arith) };
   some_column = omega arith;
   few_columns = omega arith;
   column_names = ((omega arith, omega arith), tt);
@@ -258,10 +255,7 @@ again_applies : (objects : List StoredObject) → length objects ≡ 1 → live_
     → id_of (codes "T") objects ≡ None
     → TableApplies objects again
 again_applies objects one none free = record {
-  next_id = omega arith;
-  few = omega arith;
-  free = rw free refl;
-  name = (omega arith, omega arith);
+  object = record { next_id = omega arith; few = omega arith; free = rw free refl; name = (omega arith, omega arith) };
   some_column = omega arith;
   few_columns = omega arith;
   column_names = ((omega arith, omega arith), tt);
@@ -278,7 +272,7 @@ replacement_applies = record {
 }
 
 name_taken : Applies before (record { stamp = 2; changes = CreatesTable again ∷ [] }) → ⊥
-name_taken is = absurd (cc is.changes.0.free)
+name_taken is = absurd (cc is.changes.0.object.free)
 
 replaced : (map (λ o. o.is_live) (applied before (replacement 2)).objects ≡ false ∷ true ∷ [])
     × (id_of (codes "T") (applied before (replacement 2)).objects ≡ Some 2)

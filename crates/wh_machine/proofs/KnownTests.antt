@@ -17,7 +17,7 @@ use Rattle.wh_reply.specs.Reply.{NameTaken, TypeMismatch, OverLimit, NumberOutOf
 use Rattle.wh_reply.specs.Reply.{Updated, Deleted, Merged, refusal_text}
 use Rattle.wh_machine.specs.State.{State, Table, TableKind, Object, first_state, nothing_held, new_table, id_of}
 use Rattle.wh_machine.specs.Edits.{edits_of, partitions_made}
-use Rattle.wh_machine.specs.Outcome.{Refuses, EditsRows, answers, commits}
+use Rattle.wh_machine.specs.Outcome.{Refuses, EditsRows, MovesOffset, answers, commits}
 use Rattle.wh_machine.specs.Tables.{table_refusal}
 use Rattle.wh_machine.specs.Queries.{naming_refusal}
 use Rattle.wh_machine.specs.Changes.{Fails, Gives, given, edits_refusal, reply_to, settled_effect}
@@ -128,19 +128,22 @@ unfolding edits_refusal partitions_made edits_of
 numbers_tested = (refl, refl, refl, refl)
 
 -- undefined and ambiguous changes, and one that does something
-given_as : (given 1 (InsertRows []) effects.Undefined ≡ Fails NumberOutOfRange)
-    × (given 1 (InsertRows []) (effects.Ambiguous (Null ∷ [])) ≡ Fails (AmbiguousMerge (Null ∷ [])))
-    × (given 1 (InsertRows []) (effects.Does (adding [])) ≡ Gives 1 (InsertRows []) (adding []))
+given_as : (given 1 [] (InsertRows []) effects.Undefined ≡ Fails NumberOutOfRange)
+    × (given 1 [] (InsertRows []) (effects.Ambiguous (Null ∷ [])) ≡ Fails (AmbiguousMerge (Null ∷ [])))
+    × (given 1 (2 ∷ []) (InsertRows []) (effects.Does (adding [])) ≡ Gives 1 (2 ∷ []) (InsertRows []) (adding []))
 given_as = (refl, refl, refl)
 
--- one that is past a limit, one in which no row counts, and one that makes a commit
-settled_as : (settled_effect 1 (InsertRows []) (adding one) (Some (next_at 4611686018427387904 1))
+-- one that is past a limit, one in which no row counts, two that make a commit, and one whose stream is read already
+settled_as : (settled_effect 1 [] [] (InsertRows []) (adding one) (Some (next_at 4611686018427387904 1))
     ≡ Refuses (OverLimit limits.RowNumber))
-    × (settled_effect 1 (InsertRows []) (adding []) (Some (next_at 1 1)) ≡ answers (Inserted 0))
-    × (settled_effect 7 (InsertRows []) (adding one) (Some (next_at 1 1))
+    × (settled_effect 1 [] [] (InsertRows []) (adding []) (Some (next_at 1 1)) ≡ answers (Inserted 0))
+    × (settled_effect 7 [] [] (InsertRows []) (adding one) (Some (next_at 1 1))
     ≡ commits (Inserted 1) (EditsRows 7 (record { rows = empty; added = one }) ∷ []))
+    × (settled_effect 7 (2 ∷ []) (MovesOffset 2 5 ∷ []) (InsertRows []) (adding one) (Some (next_at 1 1))
+    ≡ commits (Inserted 1) (EditsRows 7 (record { rows = empty; added = one }) ∷ MovesOffset 2 5 ∷ []))
+    × (settled_effect 7 (2 ∷ []) [] (InsertRows []) (adding []) (Some (next_at 1 1)) ≡ commits (Inserted 0) [])
 unfolding edits_refusal partitions_made edits_of
-settled_as = (refl, refl, refl)
+settled_as = (refl, refl, refl, refl, refl)
 
 -- two rows go, one is changed and one comes
 abbrev of_all : Effect

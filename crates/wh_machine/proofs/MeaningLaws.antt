@@ -1,14 +1,17 @@
 -- What a file says, and the state that it means.
 --     length_meant, at_id_meant, with_id_meant, id_of_meant, live_count_meant     objects of a file, by ids and names
 --     last_content_meant, last_rows_meant, last_partitions_meant                  what a table's last version holds
+--     columns_meant                                                               the columns of an object
 --     table_at_none, table_at_some, table_at_meant                                tables of a file
+--     stream_at_meant                                                             streams of a file
 use Rattle.std.proofs.Common.{◌≡◌, ℕ, ◌+◌, List, [], length, map, Option, Some, None, option_map, refl, ap, ◌∙◌}
 use Rattle.std.proofs.lemmas.List.{length-map}
-use Rattle.wh_machine.specs.State.{Contents, nothing_held, at_id, with_id, id_of, is_named, live_count, last_of}
-use Rattle.wh_machine.specs.State.{content_in, last_content, last_rows, last_partitions}
-use Rattle.wh_machine.specs.Tables.{table_at}
-use Rattle.wh_machine.specs.Stored.{StoredVersion, StoredTable, StoredKind, StoredTableKind, StoredObject, standing}
-use Rattle.wh_machine.specs.Stored.{rows_of, contents_meant, version_meant, table_meant, object_meant}
+use Rattle.wh_machine.specs.State.{Contents, Stream, Object, nothing_held, at_id, with_id, id_of, is_named, live_count}
+use Rattle.wh_machine.specs.State.{last_of, content_in, last_content, last_rows, last_partitions, columns_at}
+use Rattle.wh_machine.specs.Objects.{table_at, stream_at}
+use Rattle.wh_machine.specs.Stored.{StoredVersion, StoredTable, StoredKind, StoredTableKind, StoredStreamKind}
+use Rattle.wh_machine.specs.Stored.{StoredObject, standing, stored_columns_in, stored_columns_at, rows_of}
+use Rattle.wh_machine.specs.Stored.{contents_meant, version_meant, table_meant, object_meant}
 use Rattle.wh_machine.proofs.IdLaws.{map_at, map_with, map_last, map_position, map_count}
 
 -- ---- objects
@@ -52,6 +55,7 @@ last_partitions_meant t = ap (λ (c : Contents). c.partitions) (last_content_mea
 -- the stored table of an id, if there is one
 abbrev pub stored_table_in : StoredKind → Option StoredTable
 stored_table_in (StoredTableKind t) = Some t
+stored_table_in (StoredStreamKind s) = None
 
 abbrev pub stored_table_of : Option StoredObject → Option StoredTable
 stored_table_of None = None
@@ -83,8 +87,68 @@ table_at_meant objects id = by_found (at_id objects id) refl
     by_kind : (o : StoredObject) (k : StoredKind) → at_id objects id ≡ Some o → o.kind ≡ k
         → table_at (map object_meant objects) id ≡ option_map table_meant (stored_table_in k)
     by_kind o (StoredTableKind t) there is = table_at_some objects id o t there is
+    by_kind o (StoredStreamKind s) there is =
+        let found : at_id (map object_meant objects) id ≡ Some (object_meant o) =
+        at_id_meant objects id ∙ ap (option_map object_meant) there in
+        rw (found, is) refl
 
     by_found : (found : Option StoredObject) → at_id objects id ≡ found
         → table_at (map object_meant objects) id ≡ option_map table_meant (stored_table_of found)
     by_found None none = table_at_none objects id none
     by_found (Some o) there = by_kind o o.kind there refl
+
+-- ---- streams
+
+-- the stored stream of an id, if there is one
+abbrev pub stored_stream_in : StoredKind → Option Stream
+stored_stream_in (StoredTableKind t) = None
+stored_stream_in (StoredStreamKind s) = Some s
+
+abbrev pub stored_stream_of : Option StoredObject → Option Stream
+stored_stream_of None = None
+stored_stream_of (Some o) = stored_stream_in o.kind
+
+abbrev pub stored_stream_at : List StoredObject → ℕ → Option Stream
+stored_stream_at objects id = stored_stream_of (at_id objects id)
+
+pub stream_at_meant : (objects : List StoredObject) (id : ℕ)
+    → stream_at (map object_meant objects) id ≡ stored_stream_at objects id
+stream_at_meant objects id = by_found (at_id objects id) refl
+  where
+    there_meant : (o : StoredObject) → at_id objects id ≡ Some o
+        → at_id (map object_meant objects) id ≡ Some (object_meant o)
+    there_meant o there = at_id_meant objects id ∙ ap (option_map object_meant) there
+
+    by_kind : (o : StoredObject) (k : StoredKind) → at_id objects id ≡ Some o → o.kind ≡ k
+        → stream_at (map object_meant objects) id ≡ stored_stream_in k
+    by_kind o (StoredTableKind t) there is = let found = there_meant o there in rw (found, is) refl
+    by_kind o (StoredStreamKind s) there is = let found = there_meant o there in rw (found, is) refl
+
+    by_found : (found : Option StoredObject) → at_id objects id ≡ found
+        → stream_at (map object_meant objects) id ≡ stored_stream_of found
+    by_found None none =
+        let found : at_id (map object_meant objects) id ≡ None =
+        at_id_meant objects id ∙ ap (option_map object_meant) none in
+        rw found refl
+    by_found (Some o) there = by_kind o o.kind there refl
+
+pub columns_meant : (objects : List StoredObject) (id : ℕ)
+    → columns_at (map object_meant objects) id ≡ stored_columns_at objects id
+columns_meant objects id = by_found (at_id objects id) refl
+  where
+    there_meant : (o : StoredObject) → at_id objects id ≡ Some o
+        → at_id (map object_meant objects) id ≡ Some (object_meant o)
+    there_meant o there = at_id_meant objects id ∙ ap (option_map object_meant) there
+
+    by_kind : (o : StoredObject) (k : StoredKind) → at_id objects id ≡ Some o → o.kind ≡ k
+        → columns_at (map object_meant objects) id ≡ stored_columns_in k
+    by_kind o (StoredTableKind t) there is = let found = there_meant o there in rw (found, is) refl
+    by_kind o (StoredStreamKind s) there is = let found = there_meant o there in rw (found, is) refl
+
+    by_found : (found : Option StoredObject) → at_id objects id ≡ found
+        → columns_at (map object_meant objects) id ≡ stored_columns_at objects id
+    by_found None none =
+        let found : at_id (map object_meant objects) id ≡ None =
+        at_id_meant objects id ∙ ap (option_map object_meant) none in
+        rw (found, none) refl
+    by_found (Some o) there = rw there (by_kind o o.kind there refl)

@@ -14,17 +14,20 @@ use Rattle.wh_frame.specs.Partition.{Partition}
 use Rattle.wh_frame.specs.Spelling.{IsPartition}
 use Rattle.wh_machine.specs.State.{new_table, new_object, dropped, content_in, at_id, put_at}
 use Rattle.wh_machine.specs.Edits.{is_among, without}
-use Rattle.wh_machine.specs.Stored.{StoredTable, StoredKind, StoredTableKind, StoredObject}
+use Rattle.wh_machine.specs.Stored.{StoredTable, StoredKind, StoredTableKind, StoredStreamKind, StoredObject}
 use Rattle.wh_machine.specs.Stored.{Stored, first_stored, standing}
-use Rattle.wh_machine.specs.Commit.{VersionChange, Change, CreatesTable, Drops, PushesVersion, Commit, pushed}
-use Rattle.wh_machine.specs.Commit.{pushed_object, changed, all_changed, applied, AreApart, AllApart, NumberedFrom}
+use Rattle.wh_machine.specs.Commit.{VersionChange, Change, CreatesTable, Drops, PushesVersion, CreatesStream, SetsOffset}
+use Rattle.wh_machine.specs.Commit.{Commit, pushed, pushed_object, offset_set, offset_set_kind, changed, all_changed}
+use Rattle.wh_machine.specs.Commit.{applied, AreApart, AllApart, NumberedFrom}
 use Rattle.wh_machine.specs.Commit.{VersionApplies, FitsObject, ChangeApplies, AllApply, Applies, Leads}
 use Rattle.wh_machine.specs.Spelling.{NumbersRiseFrom, IsVersionChange, IsChange, IsCommit}
-use Rattle.wh_machine.specs.Orderly.{HasRisingRows, IsOrderly, IsOrderlyKind, IsOrderlyObject, IsOrderlyStored}
+use Rattle.wh_machine.specs.Orderly.{HasRisingRows, IsOrderly, IsOrderlyVersion, IsOrderlyTable, IsOrderlyKind}
+use Rattle.wh_machine.specs.Orderly.{IsOrderlyObject, IsOrderlyStored}
 use Rattle.wh_machine.specs.File.{Keeps}
 use Rattle.wh_machine.proofs.AllLaws.{all_map, all_filter, all_append, all_more, all_at, all_with, all_changed_at}
 use Rattle.wh_machine.proofs.IdLaws.{last_more}
 use Rattle.wh_machine.proofs.EditLaws.{rise_filter}
+use Rattle.wh_machine.proofs.ActLaws.{orderly_standing}
 
 -- ---- partitions that are apart
 
@@ -102,11 +105,12 @@ all_numbers next (p ∷ ps) h = (h.0, all_numbers next ps h.1)
 -- ---- tables
 
 pub record KeptTable (t : StoredTable) : Type 0 where
-  pub orderly : IsOrderly (standing t)
+  pub orderly : IsOrderlyTable t
   pub below : AllByRecursion (λ p. p.number < t.next_partition) (standing t)
 
 abbrev pub KeptKind : StoredKind → Type 0
 KeptKind (StoredTableKind t) = KeptTable t
+KeptKind (StoredStreamKind s) = Unit {0}
 
 abbrev pub KeptObject : StoredObject → Type 0
 KeptObject o = KeptKind o.kind
@@ -124,19 +128,20 @@ standing_pushed stamp c t = ap (content_in []) (last_more t.versions _)
 pub orderly_pushed : (stamp : ℕ) (c : VersionChange) (t : StoredTable) → IsVersionChange c → VersionApplies t c
     → KeptTable t → KeptTable (pushed stamp c t)
 orderly_pushed stamp c t good applies kept =
+    let stood : IsOrderly (standing t) = orderly_standing t kept.orderly in
     let stays : Partition → Bool = λ (p : Partition). not (is_among p.number c.removed) in
     let old : List Partition = without c.removed (standing t) in
     let rise_old : NumbersRiseFrom 0 (map (λ p. p.number) old) =
-    rise_filter stays 0 (standing t) kept.orderly.numbers in
+    rise_filter stays 0 (standing t) stood.numbers in
     let below_old : AllByRecursion (λ p. p.number < t.next_partition) old =
     all_filter (λ p. p.number < t.next_partition) stays (standing t) kept.below in
     let rise : NumbersRiseFrom 0 (map (λ p. p.number) old ++ map (λ p. p.number) c.added) =
     rise_append 0 t.next_partition _ _ (omega arith) rise_old (all_numbers t.next_partition old below_old)
     (numbered_rise t.next_partition c.width c.added applies.numbers good.added) in
-    let apart_old : AllApart [] old = apart_filter stays [] [] (λ p h. h) (standing t) kept.orderly.apart in
+    let apart_old : AllApart [] old = apart_filter stays [] [] (λ p h. h) (standing t) stood.apart in
     let orderly : IsOrderly (old ++ c.added) = record {
       numbers = subst (NumbersRiseFrom 0) (sym (map-append (λ (p : Partition). p.number) old c.added)) rise;
-      rows = all_append HasRisingRows old c.added (all_filter HasRisingRows stays (standing t) kept.orderly.rows)
+      rows = all_append HasRisingRows old c.added (all_filter HasRisingRows stays (standing t) stood.rows)
           (all_map (IsPartition c.width) HasRisingRows (λ p is. is.rising) c.added good.added);
       apart = apart_append [] old c.added apart_old
           (apart_weaker old (old ++ []) (λ p h. all_append (AreApart p) old [] h tt) c.added applies.apart);
@@ -147,13 +152,13 @@ orderly_pushed stamp c t good applies kept =
     (λ p h. omega arith) old below_old)
     (numbered_below t.next_partition c.added applies.numbers) in
     record {
-      orderly = subst IsOrderly (sym (standing_pushed stamp c t)) orderly;
+      orderly = all_more IsOrderlyVersion t.versions _ kept.orderly orderly;
       below = subst (AllByRecursion (λ p. p.number < t.next_partition + length c.added))
           (sym (standing_pushed stamp c t)) below;
     }
 
 new_kept : (columns : List Column) (retention stamp : ℕ) → KeptTable (new_table [] columns retention stamp)
-new_kept columns retention stamp = record { orderly = record { numbers = tt; rows = tt; apart = tt }; below = tt }
+new_kept columns retention stamp = record { orderly = (record { numbers = tt; rows = tt; apart = tt }, tt); below = tt }
 
 -- ---- changes
 
@@ -161,6 +166,14 @@ pushed_kept : (stamp : ℕ) (c : VersionChange) (o : StoredObject) (k : StoredKi
     → KeptKind k → FitsObject (Some (record o { kind = k })) c
     → KeptObject (pushed_object stamp c (record o { kind = k }))
 pushed_kept stamp c o (StoredTableKind t) good is kept fits = orderly_pushed stamp c t good fits.1 kept
+pushed_kept stamp c o (StoredStreamKind s) good is kept fits = absurd fits.1
+
+offset_kept : (offset : ℕ) (o : StoredObject) → KeptObject o → KeptObject (offset_set offset o)
+offset_kept offset o kept = by_kind o.kind kept
+  where
+    by_kind : (k : StoredKind) → KeptKind k → KeptKind (offset_set_kind offset k)
+    by_kind (StoredTableKind t) kept = kept
+    by_kind (StoredStreamKind s) kept = tt
 
 pub orderly_changed : (stamp : ℕ) (objects : List StoredObject) (c : Change) → IsChange c → ChangeApplies objects c
     → KeptObjects objects
@@ -169,6 +182,9 @@ unfolding changed
 orderly_changed stamp objects (CreatesTable c) good applies kept =
     all_more KeptObject objects (new_object c.name stamp (StoredTableKind (new_table [] c.columns c.retention stamp)))
     kept (new_kept c.columns c.retention stamp)
+orderly_changed stamp objects (CreatesStream c) good applies kept = all_more KeptObject objects _ kept tt
+orderly_changed stamp objects (SetsOffset id offset) good applies kept =
+    all_changed_at KeptObject KeptObject (offset_set offset) (λ o h. h) (offset_kept offset) objects id kept
 orderly_changed stamp objects (Drops id) good applies kept =
     all_changed_at KeptObject KeptObject dropped (λ o h. h) (λ o h. h) objects id kept
 orderly_changed stamp objects (PushesVersion c) good applies kept = by_found (at_id objects c.id) refl applies
@@ -202,6 +218,7 @@ kept_leads s (c ∷ cs) new good leads kept =
 
 orderly_object : (o : StoredObject) (k : StoredKind) → KeptKind k → IsOrderlyKind k
 orderly_object o (StoredTableKind t) kept = kept.orderly
+orderly_object o (StoredStreamKind s) kept = tt
 
 pub orderly_stored : (s : Stored) → KeptStored s → IsOrderlyStored s
 orderly_stored s kept = all_map KeptObject IsOrderlyObject (λ o h. orderly_object o o.kind h) s.objects kept

@@ -1,6 +1,7 @@
 -- What is sound stays so.
 --     sound_first                  the first state is sound
 --     sound_rest                   so is a sound state as the file keeps it
+--     IsWithin, AreWithin          offsets that move aren't after a stamp
 --     sound_done                   a commit of the acts of a statement at a later stamp
 use Rattle.std.proofs.Common.{◌≡◌, ℕ, suc, ◌+◌, ◌<◌, ◌≤◌, ◌⊎◌, inl, inr, List, [], ◌∷◌, length}
 use Rattle.std.proofs.Common.{Option, Some, None, option_map, refl, sym, subst, arith}
@@ -9,15 +10,17 @@ use Rattle.std.specs.FinMap.{get}
 use Rattle.std.proofs.lemmas.Bool.{cases_lt}
 use Rattle.wh_value.specs.Value.{Row}
 use Rattle.wh_value.specs.Column.{Column}
-use Rattle.wh_machine.specs.State.{Version, Table, Kind, TableKind, Object, State, nothing_held, new_table, new_object}
+use Rattle.wh_machine.specs.State.{Version, Table, Stream, Kind, TableKind, StreamKind, Object, State, nothing_held}
+use Rattle.wh_machine.specs.State.{new_table, new_object, new_stream}
 use Rattle.wh_machine.specs.State.{dropped, version_at, last_rows, first_state, at_rest, at_id, put_at}
 use Rattle.wh_machine.specs.Edits.{Edits}
-use Rattle.wh_machine.specs.Outcome.{Act, MakesTable, DropsObject, EditsRows, next_contents, edited_table, edited_kind}
-use Rattle.wh_machine.specs.Outcome.{edited_object, acted, all_acted, done}
+use Rattle.wh_machine.specs.Outcome.{Act, MakesTable, DropsObject, EditsRows, MakesStream, MovesOffset, next_contents}
+use Rattle.wh_machine.specs.Outcome.{edited_table, edited_kind, edited_object, moved_kind, moved_object, acted}
+use Rattle.wh_machine.specs.Outcome.{all_acted, done}
 use Rattle.wh_machine.specs.Sound.{IsTimely, IsBelow, IsSoundTable, IsSoundKind, IsSoundObject, Sound}
 use Rattle.wh_machine.proofs.AllLaws.{all_map, all_more, all_at, all_with, all_changed_at}
 use Rattle.wh_machine.proofs.IdLaws.{at_other}
-use Rattle.wh_machine.proofs.ActLaws.{AreEditsFrom, IsOfOneStatement}
+use Rattle.wh_machine.proofs.ActLaws.{AreMoves, AreEditsFrom, IsOfOneStatement}
 use Rattle.wh_machine.proofs.VersionLaws.{still_lacks, empty_lacks, last_below, rise_more, none_more}
 
 -- ---- tables
@@ -86,6 +89,7 @@ edited_sound committed stamp e later t sound =
 
 kind_later : (committed stamp : ℕ) → committed ≤ stamp → (k : Kind) → IsSoundKind committed k → IsSoundKind stamp k
 kind_later committed stamp later (TableKind t) sound = table_later committed stamp later t sound
+kind_later committed stamp later (StreamKind s) sound = omega (arith, sound)
 
 object_later : (committed stamp : ℕ) → committed ≤ stamp → (o : Object) → IsSoundObject committed o
     → IsSoundObject stamp o
@@ -95,6 +99,7 @@ object_later committed stamp later o sound =
 edited_kind_sound : (committed stamp : ℕ) (e : Edits) → committed < stamp → (k : Kind) → IsSoundKind committed k
     → IsSoundKind stamp (edited_kind stamp e k)
 edited_kind_sound committed stamp e later (TableKind t) sound = edited_sound committed stamp e later t sound
+edited_kind_sound committed stamp e later (StreamKind s) sound = omega (arith, sound)
 
 edited_object_sound : (committed stamp : ℕ) (e : Edits) → committed < stamp → (o : Object) → IsSoundObject committed o
     → IsSoundObject stamp (edited_object stamp e o)
@@ -113,21 +118,52 @@ new_object_sound : (name : List ℕ) (columns : List Column) (retention stamp : 
 new_object_sound name columns retention stamp =
     record { created = omega arith; kind = new_sound columns retention stamp }
 
+-- a stream's offset, which isn't after the stamp
+moved_object_sound : (stamp offset : ℕ) → offset ≤ stamp → (o : Object) → IsSoundObject stamp o
+    → IsSoundObject stamp (moved_object offset o)
+moved_object_sound stamp offset h o sound = record { created = sound.created; kind = by_kind o.kind sound.kind }
+  where
+    by_kind : (k : Kind) → IsSoundKind stamp k → IsSoundKind stamp (moved_kind offset k)
+    by_kind (TableKind t) sound = sound
+    by_kind (StreamKind s) sound = h
+
+-- an offset that moves isn't after the stamp
+abbrev pub IsWithin : ℕ → Act → Type 0
+IsWithin stamp (MakesTable name columns retention) = Unit {0}
+IsWithin stamp (DropsObject id) = Unit {0}
+IsWithin stamp (EditsRows id e) = Unit {0}
+IsWithin stamp (MakesStream name source is_append_only) = Unit {0}
+IsWithin stamp (MovesOffset id offset) = offset ≤ stamp
+
+abbrev pub AreWithin : ℕ → List Act → Type 0
+AreWithin stamp acts = AllByRecursion (IsWithin stamp) acts
+
 -- an act at a stamp past the last commit
 acted_sound : (committed stamp : ℕ) → committed < stamp → (objects : List Object)
-    → AllByRecursion (IsSoundObject committed) objects → (act : Act)
+    → AllByRecursion (IsSoundObject committed) objects → (act : Act) → IsWithin stamp act
     → AllByRecursion (IsSoundObject stamp) (acted stamp objects act)
-acted_sound committed stamp later objects sound (MakesTable name columns retention) =
-    let still = all_map (IsSoundObject committed) (IsSoundObject stamp)
-    (object_later committed stamp (omega arith)) objects sound in
-    all_more (IsSoundObject stamp) objects _ still (new_object_sound name columns retention stamp)
-acted_sound committed stamp later objects sound (DropsObject id) =
-    all_changed_at (IsSoundObject committed) (IsSoundObject stamp) dropped (object_later committed stamp (omega arith))
-    (dropped_sound committed stamp (omega arith)) objects id sound
-acted_sound committed stamp later objects sound (EditsRows id e) =
-    all_changed_at (IsSoundObject committed) (IsSoundObject stamp) (edited_object stamp e)
-    (object_later committed stamp (omega arith))
-    (edited_object_sound committed stamp e later) objects id sound
+acted_sound committed stamp later objects sound act within = by_act act within
+  where
+    still : AllByRecursion (IsSoundObject stamp) objects
+    still = all_map (IsSoundObject committed) (IsSoundObject stamp) (object_later committed stamp (omega (arith, later)))
+        objects sound
+
+    by_act : (act : Act) → IsWithin stamp act → AllByRecursion (IsSoundObject stamp) (acted stamp objects act)
+    by_act (MakesTable name columns retention) within =
+        all_more (IsSoundObject stamp) objects _ still (new_object_sound name columns retention stamp)
+    by_act (MakesStream name source is_append_only) within =
+        all_more (IsSoundObject stamp) objects _ still (record { created = omega arith; kind = omega arith })
+    by_act (DropsObject id) within =
+        all_changed_at (IsSoundObject committed) (IsSoundObject stamp) dropped
+        (object_later committed stamp (omega (arith, later)))
+        (dropped_sound committed stamp (omega (arith, later))) objects id sound
+    by_act (EditsRows id e) within =
+        all_changed_at (IsSoundObject committed) (IsSoundObject stamp) (edited_object stamp e)
+        (object_later committed stamp (omega (arith, later)))
+        (edited_object_sound committed stamp e later) objects id sound
+    by_act (MovesOffset id offset) within =
+        all_changed_at (IsSoundObject stamp) (IsSoundObject stamp) (moved_object offset) (λ o h. h)
+        (moved_object_sound stamp offset within) objects id still
 
 -- ---- the acts of a statement
 
@@ -159,38 +195,61 @@ edit_sound committed stamp id e later objects sound here = by_found (at_id objec
         all_with (IsSoundObject stamp) objects id (edited_object stamp e o) sound
         (edited_object_sound committed stamp e later o here)
 
+moves_sound : (stamp : ℕ) (objects : List Object) (acts : List Act) → AreMoves acts → AreWithin stamp acts
+    → AllByRecursion (IsSoundObject stamp) objects → AllByRecursion (IsSoundObject stamp) (all_acted stamp objects acts)
+moves_sound stamp objects [] moves within sound = sound
+moves_sound stamp objects (MakesTable n c r ∷ acts) moves within sound = absurd moves
+moves_sound stamp objects (DropsObject id ∷ acts) moves within sound = absurd moves
+moves_sound stamp objects (EditsRows id e ∷ acts) moves within sound = absurd moves
+moves_sound stamp objects (MakesStream n o a ∷ acts) moves within sound = absurd moves
+moves_sound stamp objects (MovesOffset id offset ∷ acts) moves within sound =
+    moves_sound stamp (acted stamp objects (MovesOffset id offset)) acts moves within.1
+    (all_changed_at (IsSoundObject stamp) (IsSoundObject stamp) (moved_object offset) (λ o h. h)
+    (moved_object_sound stamp offset within.0) objects id sound)
+
 edits_sound : (committed stamp least : ℕ) → committed < stamp → (objects : List Object) (acts : List Act)
-    → AreEditsFrom least acts → AllByRecursion (IsSoundObject stamp) objects → SoundFrom committed least objects
+    → AreEditsFrom least acts → AreWithin stamp acts → AllByRecursion (IsSoundObject stamp) objects → SoundFrom committed least objects
     → AllByRecursion (IsSoundObject stamp) (all_acted stamp objects acts)
-edits_sound committed stamp least later objects [] rising sound before = sound
-edits_sound committed stamp least later objects (MakesTable n c r ∷ acts) rising sound before = absurd rising
-edits_sound committed stamp least later objects (DropsObject id ∷ acts) rising sound before = absurd rising
-edits_sound committed stamp least later objects (EditsRows id e ∷ acts) rising sound before =
-    edits_sound committed stamp (suc id) later (acted stamp objects (EditsRows id e)) acts rising.1
+edits_sound committed stamp least later objects [] rising within sound before = sound
+edits_sound committed stamp least later objects (MakesTable n c r ∷ acts) rising within sound before = absurd rising
+edits_sound committed stamp least later objects (DropsObject id ∷ acts) rising within sound before = absurd rising
+edits_sound committed stamp least later objects (MakesStream n o a ∷ acts) rising within sound before = absurd rising
+edits_sound committed stamp least later objects (MovesOffset id offset ∷ acts) rising within sound before =
+    moves_sound stamp objects (MovesOffset id offset ∷ acts) rising within sound
+edits_sound committed stamp least later objects (EditsRows id e ∷ acts) rising within sound before =
+    edits_sound committed stamp (suc id) later (acted stamp objects (EditsRows id e)) acts rising.1 within.1
     (edit_sound committed stamp id e later objects sound (before id rising.0))
     (λ other h. subst (SoundAt committed) (sym (at_other (edited_object stamp e) objects id other (omega arith)))
     (before other (omega (arith, rising.0))))
 
 acts_sound : (committed stamp : ℕ) → committed < stamp → (objects : List Object)
-    → AllByRecursion (IsSoundObject committed) objects → (acts : List Act) → IsOfOneStatement acts
+    → AllByRecursion (IsSoundObject committed) objects → (acts : List Act) → IsOfOneStatement acts → AreWithin stamp acts
     → AllByRecursion (IsSoundObject stamp) (all_acted stamp objects acts)
-acts_sound committed stamp later objects sound [] shape =
+acts_sound committed stamp later objects sound [] shape within =
     all_map (IsSoundObject committed) (IsSoundObject stamp) (object_later committed stamp (omega arith)) objects sound
-acts_sound committed stamp later objects sound (MakesTable n c r ∷ []) shape =
-    acted_sound committed stamp later objects sound (MakesTable n c r)
-acts_sound committed stamp later objects sound (DropsObject id ∷ []) shape =
-    acted_sound committed stamp later objects sound (DropsObject id)
-acts_sound committed stamp later objects sound (DropsObject id ∷ MakesTable n c r ∷ []) shape =
+acts_sound committed stamp later objects sound (MakesTable n c r ∷ []) shape within =
+    acted_sound committed stamp later objects sound (MakesTable n c r) tt
+acts_sound committed stamp later objects sound (MakesStream n o a ∷ []) shape within =
+    acted_sound committed stamp later objects sound (MakesStream n o a) tt
+acts_sound committed stamp later objects sound (MovesOffset id offset ∷ acts) shape within =
+    moves_sound stamp objects (MovesOffset id offset ∷ acts) shape within
+    (all_map (IsSoundObject committed) (IsSoundObject stamp) (object_later committed stamp (omega arith)) objects sound)
+acts_sound committed stamp later objects sound (DropsObject id ∷ []) shape within =
+    acted_sound committed stamp later objects sound (DropsObject id) tt
+acts_sound committed stamp later objects sound (DropsObject id ∷ MakesTable n c r ∷ []) shape within =
     all_more (IsSoundObject stamp) (acted stamp objects (DropsObject id)) _
-    (acted_sound committed stamp later objects sound (DropsObject id)) (new_object_sound n c r stamp)
-acts_sound committed stamp later objects sound (EditsRows id e ∷ acts) shape =
-    edits_sound committed stamp 0 later objects (EditsRows id e ∷ acts) (omega arith, shape)
+    (acted_sound committed stamp later objects sound (DropsObject id) tt) (new_object_sound n c r stamp)
+acts_sound committed stamp later objects sound (EditsRows id e ∷ acts) shape within =
+    edits_sound committed stamp 0 later objects (EditsRows id e ∷ acts) (omega arith, shape) within
     (all_map (IsSoundObject committed) (IsSoundObject stamp) (object_later committed stamp (omega arith)) objects sound)
     (sound_from committed objects sound)
-acts_sound committed stamp later objects sound (MakesTable n c r ∷ act ∷ acts) shape = absurd shape
-acts_sound committed stamp later objects sound (DropsObject id ∷ DropsObject other ∷ acts) shape = absurd shape
-acts_sound committed stamp later objects sound (DropsObject id ∷ EditsRows other e ∷ acts) shape = absurd shape
-acts_sound committed stamp later objects sound (DropsObject id ∷ MakesTable n c r ∷ act ∷ acts) shape = absurd shape
+acts_sound committed stamp later objects sound (MakesTable n c r ∷ act ∷ acts) shape within = absurd shape
+acts_sound committed stamp later objects sound (MakesStream n o a ∷ act ∷ acts) shape within = absurd shape
+acts_sound committed stamp later objects sound (DropsObject id ∷ DropsObject other ∷ acts) shape within = absurd shape
+acts_sound committed stamp later objects sound (DropsObject id ∷ EditsRows other e ∷ acts) shape within = absurd shape
+acts_sound committed stamp later objects sound (DropsObject id ∷ MakesStream n o a ∷ acts) shape within = absurd shape
+acts_sound committed stamp later objects sound (DropsObject id ∷ MovesOffset other offset ∷ acts) shape within = absurd shape
+acts_sound committed stamp later objects sound (DropsObject id ∷ MakesTable n c r ∷ act ∷ acts) shape within = absurd shape
 
 -- ---- states
 
@@ -204,6 +263,7 @@ sound_rest s sound = record { ordered = omega arith; objects = sound.objects }
 
 -- a commit of the acts of a statement at a stamp past the last commit
 pub sound_done : (s : State) → s.committed < s.last → Sound s → (acts : List Act) → IsOfOneStatement acts
+    → AreWithin s.last acts
     → Sound (done s acts)
-sound_done s later sound acts shape =
-    record { ordered = omega arith; objects = acts_sound s.committed s.last later s.objects sound.objects acts shape }
+sound_done s later sound acts shape within =
+    record { ordered = omega arith; objects = acts_sound s.committed s.last later s.objects sound.objects acts shape within }

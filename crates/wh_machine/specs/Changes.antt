@@ -1,7 +1,8 @@
 -- Changing statements: INSERT, UPDATE, DELETE and MERGE.
 --     rows_seen          the rows of a table by rising number
 --     Changed            what a change comes to before its numbers are tested: a refusal, or its effect on a table
---     settled_effect     an effect as a commit of its own: a new version of the target where a row counts
+--     settled_effect     an effect as a commit of its own: a new version of the target where a row counts, and the
+--                        offsets of the streams that it reads
 use Rattle.std.specs.Prelude.{ℕ, ◌+◌, if◌then◌else◌, List, [], ◌∷◌, length, map, Option, Some, None, nat_lt}
 use Rattle.std.specs.FinMap.{entries}
 use Rattle.wh_value.specs.Value.{Row}
@@ -9,13 +10,14 @@ use Rattle.wh_value.specs.declared.limit.Limit.TheVariants as limits
 use Rattle.wh_naming.specs.Changes.{BoundChange, Change, InsertRows, InsertQuery, Update, Delete, Merge}
 use Rattle.wh_reply.specs.Reply.{Refusal, Reply, TypeMismatch, NumberOutOfRange, AmbiguousMerge, Inserted, Updated}
 use Rattle.wh_reply.specs.Reply.{Deleted, Merged}
+use Rattle.wh_meaning.specs.Query.{Instance}
 use Rattle.wh_effect.specs.Effect as effects
 use Rattle.wh_effect.specs.Effect.{Kept, Effect, effect}
-use Rattle.wh_machine.specs.State.{Object, Table, last_rows}
+use Rattle.wh_machine.specs.State.{Table, last_rows}
 use Rattle.wh_machine.specs.Edits.{edits_of}
-use Rattle.wh_machine.specs.Outcome.{Outcome, Refuses, EditsRows, answers, commits, refused_past, first_of, unless}
+use Rattle.wh_machine.specs.Outcome.{Act, Outcome, Refuses, Does, EditsRows, refused_past, first_of, unless}
 use Rattle.wh_machine.specs.Outcome.{table_partitions_made}
-use Rattle.wh_machine.specs.Queries.{instance_of}
+use Rattle.wh_machine.specs.Streams.{acts_of_commit}
 
 -- the first number that would pass its limit
 unfoldable pub edits_refusal : Table → Effect → Option Refusal
@@ -45,17 +47,17 @@ reply_to (Merge source on clauses) e = Merged (length e.added) (length e.changed
 
 pub data Changed : Type 0 where
   Fails : Refusal → Changed
-  Gives : (id : ℕ) → Change → Effect → Changed
+  Gives : (id : ℕ) → (streams : List ℕ) → Change → Effect → Changed
 
-abbrev pub given : ℕ → Change → effects.Outcome → Changed
-given id change effects.Undefined = Fails NumberOutOfRange
-given id change (effects.Ambiguous row) = Fails (AmbiguousMerge row)
-given id change (effects.Does e) = Gives id change e
+abbrev pub given : ℕ → List ℕ → Change → effects.Outcome → Changed
+given id streams change effects.Undefined = Fails NumberOutOfRange
+given id streams change (effects.Ambiguous row) = Fails (AmbiguousMerge row)
+given id streams change (effects.Does e) = Gives id streams change e
 
--- a target that nothing is found wrong with is a table
-abbrev pub given_on : List Object → BoundChange → Option Table → Changed
-given_on objects b None = Fails TypeMismatch
-given_on objects b (Some t) = given b.target b.change (effect b.change (rows_seen t) (instance_of objects b.sources))
+-- a target that nothing is found wrong with is a table; the streams and the rows are those that the change reads
+abbrev pub given_on : List ℕ → Instance → BoundChange → Option Table → Changed
+given_on streams read b None = Fails TypeMismatch
+given_on streams read b (Some t) = given b.target streams b.change (effect b.change (rows_seen t) read)
 
 abbrev pub fails_or : Option Refusal → Changed → Changed
 fails_or (Some why) changed = Fails why
@@ -63,12 +65,16 @@ fails_or None changed = changed
 
 -- ---- the commit of a change by itself
 
--- none where no row counts
-abbrev pub carried_over : ℕ → Change → Effect → Outcome
-carried_over id change e =
-    if nat_lt 0 (counted e) then commits (reply_to change e) (EditsRows id (edits_of e) ∷ [])
-    else answers (reply_to change e)
+abbrev pub edit_acts : ℕ → Effect → List Act
+edit_acts id e = if nat_lt 0 (counted e) then EditsRows id (edits_of e) ∷ [] else []
 
-abbrev pub settled_effect : ℕ → Change → Effect → Option Table → Outcome
-settled_effect id change e None = Refuses TypeMismatch
-settled_effect id change e (Some t) = unless (edits_refusal t e) (carried_over id change e)
+-- none where no row counts and no stream is read
+abbrev pub carried_over : ℕ → List ℕ → List Act → Change → Effect → Outcome
+carried_over id streams moves change e =
+    Does (reply_to change e) (acts_of_commit streams moves (edit_acts id e))
+
+-- with the acts by which the offsets of its streams move
+abbrev pub settled_effect : ℕ → List ℕ → List Act → Change → Effect → Option Table → Outcome
+settled_effect id streams moves change e None = Refuses TypeMismatch
+settled_effect id streams moves change e (Some t) =
+    unless (edits_refusal t e) (carried_over id streams moves change e)

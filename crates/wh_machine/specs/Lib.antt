@@ -3,7 +3,9 @@ pub mod State
 pub mod Edits
 pub mod Statement
 pub mod Outcome
+pub mod Objects
 pub mod Tables
+pub mod Streams
 pub mod Queries
 pub mod Changes
 pub mod Stored

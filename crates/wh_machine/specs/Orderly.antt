@@ -1,11 +1,12 @@
 -- What holds of the partitions that stand in the tables of a file that runs leave.
 --     IsOrderly           partitions with rising numbers, each with rows by rising number, apart from one another
---     IsOrderlyStored     so in the last version of each table
+--     IsOrderlyTable, IsOrderlyStored     so in each version of a table, and of each table
 use Rattle.std.specs.Prelude.{List, [], map}
 use Rattle.std.specs.List.{AllByRecursion}
 use Rattle.wh_frame.specs.Partition.{Partition}
 use Rattle.wh_frame.specs.Spelling.{RisesFrom}
-use Rattle.wh_machine.specs.Stored.{StoredKind, StoredTableKind, StoredObject, Stored, standing}
+use Rattle.wh_machine.specs.Stored.{StoredVersion, StoredTable, StoredKind, StoredTableKind, StoredStreamKind}
+use Rattle.wh_machine.specs.Stored.{StoredObject, Stored}
 use Rattle.wh_machine.specs.Commit.{AllApart}
 use Rattle.wh_machine.specs.Spelling.{NumbersRiseFrom}
 
@@ -17,8 +18,15 @@ pub record IsOrderly (partitions : List Partition) : Type 0 where
   pub rows : AllByRecursion HasRisingRows partitions
   pub apart : AllApart [] partitions
 
+abbrev pub IsOrderlyVersion : StoredVersion → Type 0
+IsOrderlyVersion v = IsOrderly v.content
+
+abbrev pub IsOrderlyTable : StoredTable → Type 0
+IsOrderlyTable t = AllByRecursion IsOrderlyVersion t.versions
+
 abbrev pub IsOrderlyKind : StoredKind → Type 0
-IsOrderlyKind (StoredTableKind t) = IsOrderly (standing t)
+IsOrderlyKind (StoredTableKind t) = IsOrderlyTable t
+IsOrderlyKind (StoredStreamKind s) = Unit {0}
 
 abbrev pub IsOrderlyObject : StoredObject → Type 0
 IsOrderlyObject o = IsOrderlyKind o.kind

@@ -9,8 +9,9 @@ use Rattle.wh_frame.specs.Partition.{Partition}
 use Rattle.wh_value.specs.Limit.{bound}
 use Rattle.wh_value.specs.declared.limit.Limit.{Limit}
 use Rattle.wh_reply.specs.Reply.{Refusal, OverLimit, Reply, Refused}
-use Rattle.wh_machine.specs.State.{State, Kind, TableKind, Object, Table, Contents, nothing_held, new_table, new_object}
-use Rattle.wh_machine.specs.State.{dropped, version_at, last_content, last_partitions, changed_at}
+use Rattle.wh_machine.specs.State.{State, Kind, TableKind, StreamKind, Object, Table, Contents, nothing_held}
+use Rattle.wh_machine.specs.State.{new_table, new_object, new_stream, with_offset, dropped, version_at, columns_at}
+use Rattle.wh_machine.specs.State.{last_content, last_partitions, changed_at}
 use Rattle.wh_machine.specs.Edits.{Edits, partitions_made, contents_after}
 
 pub data Act : Type 0 where
@@ -20,6 +21,10 @@ pub data Act : Type 0 where
   DropsObject : (id : ℕ) → Act
   -- a new version of the table of that id
   EditsRows : (id : ℕ) → Edits → Act
+  -- a new stream on the table of an id, with the next id; it shows what comes behind its commit
+  MakesStream : (name : List ℕ) → (source : ℕ) → (is_append_only : Bool) → Act
+  -- the stream of that id was read up to a stamp
+  MovesOffset : (id offset : ℕ) → Act
 
 pub data Outcome : Type 0 where
   Refuses : Refusal → Outcome
@@ -70,15 +75,26 @@ edited_table stamp e t = record t {
 
 abbrev pub edited_kind : ℕ → Edits → Kind → Kind
 edited_kind stamp e (TableKind t) = TableKind (edited_table stamp e t)
+edited_kind stamp e (StreamKind s) = StreamKind s
 
 abbrev pub edited_object : ℕ → Edits → Object → Object
 edited_object stamp e o = record o { kind = edited_kind stamp e o.kind }
+
+abbrev pub moved_kind : ℕ → Kind → Kind
+moved_kind offset (TableKind t) = TableKind t
+moved_kind offset (StreamKind s) = StreamKind (with_offset offset s)
+
+abbrev pub moved_object : ℕ → Object → Object
+moved_object offset o = record o { kind = moved_kind offset o.kind }
 
 abbrev pub acted : ℕ → List Object → Act → List Object
 acted stamp objects (MakesTable name columns retention) =
     objects ++ new_object name stamp (TableKind (new_table nothing_held columns retention stamp)) ∷ []
 acted stamp objects (DropsObject id) = changed_at objects id dropped
 acted stamp objects (EditsRows id e) = changed_at objects id (edited_object stamp e)
+acted stamp objects (MakesStream name source is_append_only) = objects ++ new_object name stamp
+    (StreamKind (new_stream source is_append_only stamp (columns_at objects source))) ∷ []
+acted stamp objects (MovesOffset id offset) = changed_at objects id (moved_object offset)
 
 abbrev pub all_acted : ℕ → List Object → List Act → List Object
 all_acted stamp objects [] = objects

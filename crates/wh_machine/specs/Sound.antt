@@ -7,7 +7,7 @@ use Rattle.std.specs.Prelude.{◌≡◌, ℕ, ◌<◌, ◌≤◌, List, [], ◌�
 use Rattle.std.specs.List.{AllByRecursion}
 use Rattle.std.specs.FinMap.{get}
 use Rattle.wh_value.specs.Value.{Row}
-use Rattle.wh_machine.specs.State.{Version, Table, Kind, TableKind, Object, State}
+use Rattle.wh_machine.specs.State.{Version, Table, Kind, TableKind, StreamKind, Object, State}
 use Rattle.wh_machine.specs.File.{Stands}
 
 pub record HasRow (v : Version) (number : ℕ) : Type 0 where
@@ -45,8 +45,10 @@ pub record IsSoundTable (committed : ℕ) (t : Table) : Type 0 where
   pub below : AllByRecursion (IsBelow t.next_row) t.versions
   pub none_returns : NoneReturns t.versions
 
+-- a stream's offset isn't after the last commit
 abbrev pub IsSoundKind : ℕ → Kind → Type 0
 IsSoundKind committed (TableKind t) = IsSoundTable committed t
+IsSoundKind committed (StreamKind s) = s.offset ≤ committed
 
 -- it wasn't created after the last commit
 pub record IsSoundObject (committed : ℕ) (o : Object) : Type 0 where

@@ -3,17 +3,19 @@
 --     ObjectOf                 a name, whether it lives, when it was created, and what it is
 --     Contents                 what a version of the machine holds: its rows, by row number, and the
 --                              partitions that they are written in
+--     Stream                   the changes of a table behind an offset
 --     Version, Table, Kind, Object, State     those of the machine
 --     at_rest, stamped         a state as the file keeps it, and at another stamp
 --     at_id, changed_at        an object's id is its place in order of creation, from 1
 --     id_of                    the id of the live object of a name
+--     columns_in, columns_at   the columns of an object
 use Rattle.std.specs.Prelude.{ℕ, zero, suc, ◌+◌, Bool, true, false, ◌&&◌, List, [], ◌∷◌, Option, Some, None, option_map}
-use Rattle.std.specs.Prelude.{slice_get, slice_set, bytes_eq, count_by}
+use Rattle.std.specs.Prelude.{◌++◌, slice_get, slice_set, bytes_eq, count_by, codes}
 use Rattle.std.specs.List.{position}
 use Rattle.std.specs.Ordering.{nat_cmp}
 use Rattle.std.specs.FinMap.{FinMap, empty, insert}
 use Rattle.wh_value.specs.Value.{Row}
-use Rattle.wh_value.specs.Column.{Column}
+use Rattle.wh_value.specs.Column.{Column, VarcharType, BooleanType}
 use Rattle.wh_frame.specs.Partition.{Partition}
 
 -- ---- tables and objects, whatever a version holds
@@ -102,6 +104,35 @@ id_of name objects = option_map (λ place. place + 1) (position (is_named name) 
 abbrev pub live_count : {Kind : Type 0} → List (ObjectOf Kind) → ℕ
 live_count objects = count_by (λ o. o.is_live) objects
 
+-- ---- streams
+
+-- a column of the name that changes of rows are told by
+abbrev pub metadata_columns : List Column
+metadata_columns = record { name = codes "METADATA$ACTION"; column_type = VarcharType }
+    ∷ record { name = codes "METADATA$ISUPDATE"; column_type = BooleanType }
+    ∷ record { name = codes "METADATA$ROW_ID"; column_type = VarcharType }
+    ∷ []
+
+-- on the table of an id; its offset is the stamp behind which it shows changes, and its columns are those
+-- of its table with three more
+pub record Stream : Type 0 where
+  pub source : ℕ
+  pub is_append_only : Bool
+  pub offset : ℕ
+  pub columns : List Column
+
+-- as it is created on a table with these columns
+abbrev pub new_stream : ℕ → Bool → ℕ → List Column → Stream
+new_stream source is_append_only offset columns = record {
+  source = source;
+  is_append_only = is_append_only;
+  offset = offset;
+  columns = columns ++ metadata_columns;
+}
+
+abbrev pub with_offset : ℕ → Stream → Stream
+with_offset offset s = record s { offset = offset }
+
 -- ---- the machine's
 
 -- rows by row number
@@ -124,9 +155,22 @@ Table = TableOf Contents
 
 pub data Kind : Type 0 where
   TableKind : Table → Kind
+  StreamKind : Stream → Kind
 
 abbrev pub Object : Type 0
 Object = ObjectOf Kind
+
+abbrev pub columns_in : Kind → List Column
+columns_in (TableKind t) = t.columns
+columns_in (StreamKind s) = s.columns
+
+-- none where there is no such object
+abbrev pub columns_at : List Object → ℕ → List Column
+columns_at objects id = in_object (at_id objects id)
+  where
+    in_object : Option Object → List Column
+    in_object None = []
+    in_object (Some o) = columns_in o.kind
 
 -- the greatest stamp so far, that of the last commit, and the objects in order of creation
 pub record State : Type 0 where

@@ -2,12 +2,13 @@
 --     StoredTable, StoredKind, Stored     objects as records say them: a version holds its partitions
 --     rows_of                             the rows of partitions
 --     meant, Means                        the state that is meant
-use Rattle.std.specs.Prelude.{◌≡◌, ℕ, List, [], map}
+use Rattle.std.specs.Prelude.{◌≡◌, ℕ, List, [], map, Option, Some, None}
 use Rattle.std.specs.List.{flat_map}
 use Rattle.std.specs.FinMap.{empty}
+use Rattle.wh_value.specs.Column.{Column}
 use Rattle.wh_frame.specs.Partition.{Partition}
-use Rattle.wh_machine.specs.State.{VersionOf, TableOf, ObjectOf, Rows, Contents, Version, Table, Kind, TableKind}
-use Rattle.wh_machine.specs.State.{Object, State, last_content, with_entries}
+use Rattle.wh_machine.specs.State.{VersionOf, TableOf, ObjectOf, Rows, Contents, Version, Table, Stream, Kind}
+use Rattle.wh_machine.specs.State.{TableKind, StreamKind, Object, State, last_content, with_entries, at_id}
 
 abbrev pub StoredVersion : Type 0
 StoredVersion = VersionOf (List Partition)
@@ -17,6 +18,7 @@ StoredTable = TableOf (List Partition)
 
 pub data StoredKind : Type 0 where
   StoredTableKind : StoredTable → StoredKind
+  StoredStreamKind : Stream → StoredKind
 
 abbrev pub StoredObject : Type 0
 StoredObject = ObjectOf StoredKind
@@ -28,6 +30,18 @@ pub record Stored : Type 0 where
 
 abbrev pub first_stored : Stored
 first_stored = record { last = 0; objects = [] }
+
+abbrev pub stored_columns_in : StoredKind → List Column
+stored_columns_in (StoredTableKind t) = t.columns
+stored_columns_in (StoredStreamKind s) = s.columns
+
+-- none where there is no such object
+abbrev pub stored_columns_at : List StoredObject → ℕ → List Column
+stored_columns_at objects id = in_object (at_id objects id)
+  where
+    in_object : Option StoredObject → List Column
+    in_object None = []
+    in_object (Some o) = stored_columns_in o.kind
 
 -- those that stand in a table's last version
 abbrev pub standing : StoredTable → List Partition
@@ -54,6 +68,7 @@ table_meant t = record {
 
 abbrev pub kind_meant : StoredKind → Kind
 kind_meant (StoredTableKind t) = TableKind (table_meant t)
+kind_meant (StoredStreamKind s) = StreamKind s
 
 abbrev pub object_meant : StoredObject → Object
 object_meant o = record { name = o.name; is_live = o.is_live; created = o.created; kind = kind_meant o.kind }

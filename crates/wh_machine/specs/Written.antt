@@ -6,9 +6,11 @@
 use Rattle.std.specs.Prelude.{ℕ, ◌+◌, Bool, false, List, [], ◌∷◌, ◌++◌, length, Option, Some, None, nat_lt}
 use Rattle.wh_machine.specs.State.{at_id}
 use Rattle.wh_machine.specs.Edits.{Edits, numbers_gone, partitions_made}
-use Rattle.wh_machine.specs.Outcome.{Act, MakesTable, DropsObject, EditsRows}
-use Rattle.wh_machine.specs.Stored.{StoredTable, StoredKind, StoredTableKind, StoredObject, Stored, standing}
-use Rattle.wh_machine.specs.Commit.{Change, CreatesTable, Drops, PushesVersion, Commit, all_changed, applied}
+use Rattle.wh_machine.specs.Outcome.{Act, MakesTable, DropsObject, EditsRows, MakesStream, MovesOffset}
+use Rattle.wh_machine.specs.Stored.{StoredTable, StoredKind, StoredTableKind, StoredStreamKind, StoredObject, Stored}
+use Rattle.wh_machine.specs.Stored.{standing}
+use Rattle.wh_machine.specs.Commit.{Change, CreatesTable, Drops, PushesVersion, CreatesStream, SetsOffset, Commit}
+use Rattle.wh_machine.specs.Commit.{all_changed, applied}
 use Rattle.wh_machine.specs.Spelling.{payload_of}
 
 -- ---- acts as changes
@@ -29,12 +31,21 @@ version_written_to stamp id e (Some o) = to_kind o.kind
   where
     to_kind : StoredKind → List Change
     to_kind (StoredTableKind t) = version_written stamp id e t ∷ []
+    to_kind (StoredStreamKind s) = []
 
 abbrev pub act_written : ℕ → List StoredObject → Act → List Change
 act_written stamp objects (MakesTable name columns retention) =
     CreatesTable (record { id = length objects + 1; name = name; retention = retention; columns = columns }) ∷ []
 act_written stamp objects (DropsObject id) = Drops id ∷ []
 act_written stamp objects (EditsRows id e) = version_written_to stamp id e (at_id objects id)
+act_written stamp objects (MakesStream name source is_append_only) = CreatesStream (record {
+  id = length objects + 1;
+  name = name;
+  source = source;
+  is_append_only = is_append_only;
+  offset = stamp;
+}) ∷ []
+act_written stamp objects (MovesOffset id offset) = SetsOffset id offset ∷ []
 
 abbrev pub written : ℕ → List StoredObject → List Act → List Change
 written stamp objects [] = []

@@ -1,22 +1,25 @@
 -- What is read of commits is spelled so, and what is spelled so is read.
---     reads_table, reads_version, reads_commit     the two laws of each
-use Rattle.std.proofs.Common.{◌≡◌, ℕ, zero, suc, ◌+◌, ◌^◌, ◌<◌, ◌⊎◌, Bool, true, false, cond, eqb, leb, List, [], ◌∷◌}
-use Rattle.std.proofs.Common.{◌++◌, length, Option, Some, None, refl, sym, ap, subst, ◌∙◌, append_assoc, inl, inr}
+--     reads_table, reads_version, reads_stream, reads_offset     the two laws of each
+--     reads_commit                                               and of a commit
+use Rattle.std.proofs.Common.{◌≡◌, ℕ, zero, suc, ◌+◌, ◌^◌, ◌<◌, Bool, true, false, cond, eqb, leb, List, [], ◌∷◌}
+use Rattle.std.proofs.Common.{◌++◌, length, Option, Some, None, refl, sym, ap, subst, ◌∙◌, append_assoc}
 use Rattle.std.specs.List.{AllByRecursion}
 use Rattle.std.specs.Int.{w32, w64, to_be_bytes}
 use Rattle.std.proofs.lemmas.List.{append-nil, nil_from_length}
 use Rattle.std.proofs.lemmas.Bool.{eqb-true, leb-true, le-leb}
 use Rattle.wh_value.specs.Column.{ColumnType, NumberType, VarcharType, BooleanType}
 use Rattle.wh_frame.specs.Spelling.{text_bytes, list_bytes, partition_bytes}
-use Rattle.wh_machine.specs.Commit.{TableChange, VersionChange, Change, CreatesTable, Drops, PushesVersion, Commit}
-use Rattle.wh_machine.specs.Spelling.{type_byte, column_bytes, table_bytes, version_bytes, change_bytes, payload_of}
-use Rattle.wh_machine.specs.Spelling.{NumbersRiseFrom, IsColumn, IsTableChange, IsVersionChange, IsChange, IsCommit}
-use Rattle.wh_part.specs.Reading.{◌>>=◌, as_at, number_at}
+use Rattle.wh_machine.specs.Commit.{TableChange, VersionChange, StreamChange, Change, CreatesTable, Drops}
+use Rattle.wh_machine.specs.Commit.{PushesVersion, CreatesStream, SetsOffset, Commit}
+use Rattle.wh_machine.specs.Spelling.{type_byte, column_bytes, table_bytes, version_bytes, stream_kind_byte}
+use Rattle.wh_machine.specs.Spelling.{stream_bytes, offset_bytes, change_bytes, payload_of, NumbersRiseFrom, IsColumn}
+use Rattle.wh_machine.specs.Spelling.{IsTableChange, IsVersionChange, IsStreamChange, IsChange, IsCommit}
+use Rattle.wh_part.specs.Reading.{Reader, ◌>>=◌, as_at, number_at}
 use Rattle.wh_part.proofs.ReaderLaws.{AreBytes, Reads, bind_some, and_parts, some_is, reads_then, reads_where, reads_as}
 use Rattle.wh_part.proofs.ReaderLaws.{reads_same, reads_list, wide32, wide64, reads_number, reads_byte, reads_text}
 use Rattle.wh_part.proofs.PartitionLaws.{reads_partition}
 use Rattle.wh_record.specs.Decoding.{type_at, column_at, table_at, numbers_rise, removed_at, version_at, change_behind}
-use Rattle.wh_record.specs.Decoding.{change_at, commit_at, commit_of_all}
+use Rattle.wh_record.specs.Decoding.{stream_kind_at, stream_at, offset_at, change_at, commit_at, commit_of_all}
 use Rattle.wh_record.specs.Laws.{PayloadFixesCommit}
 
 -- ---- columns
@@ -154,53 +157,133 @@ reads_version =
     reads_then (reads_number wide32) (λ width _. reads_then reads_removed
     (λ removed _. reads_list (reads_number wide32) (reads_partition width))))))))
 
+-- ---- new streams and offsets
+
+kind_takes : (bytes : List ℕ) (b : Bool) (rest : List ℕ) → AreBytes bytes → stream_kind_at bytes ≡ Some (b, rest)
+    → (bytes ≡ stream_kind_byte b ∷ [] ++ rest) × Unit {0}
+unfolding stream_kind_at
+kind_takes [] b rest fits e = absurd cc
+kind_takes (zero ∷ bytes) b rest fits e = absurd cc
+kind_takes (suc zero ∷ bytes) b rest fits e =
+    subst (λ (z : Bool × List ℕ). (1 ∷ bytes ≡ stream_kind_byte z.0 ∷ [] ++ z.1) × Unit {0})
+    (some_is (false, bytes) (b, rest) e) (refl, tt)
+kind_takes (suc (suc zero) ∷ bytes) b rest fits e =
+    subst (λ (z : Bool × List ℕ). (2 ∷ bytes ≡ stream_kind_byte z.0 ∷ [] ++ z.1) × Unit {0})
+    (some_is (true, bytes) (b, rest) e) (refl, tt)
+kind_takes (suc (suc (suc kind)) ∷ bytes) b rest fits e = absurd cc
+
+kind_again : (b : Bool) (rest : List ℕ) → Unit {0} → stream_kind_at (stream_kind_byte b ∷ [] ++ rest) ≡ Some (b, rest)
+unfolding stream_kind_at
+kind_again false rest good = refl
+kind_again true rest good = refl
+
+reads_kind : Reads (λ b. stream_kind_byte b ∷ []) (λ b. Unit {0}) stream_kind_at
+reads_kind = record { takes = kind_takes; again = kind_again }
+
+pub reads_stream : Reads stream_bytes IsStreamChange stream_at
+unfolding stream_at stream_bytes
+reads_stream =
+    reads_same stream_bytes IsStreamChange stream_at (λ bytes. refl) (λ c. refl) (λ c good. good) (λ c good. good)
+    (reads_as stream_bytes IsStreamChange
+    (λ p. record { id = p.0; name = p.1.0; source = p.1.1.0; is_append_only = p.1.1.1.0; offset = p.1.1.1.1 })
+    (λ c. (c.id, (c.name, (c.source, (c.is_append_only, c.offset)))))
+    (λ p good. (
+      four_grouped (to_be_bytes w32 p.0) (text_bytes p.1.0) (to_be_bytes w32 p.1.1.0)
+          (stream_kind_byte p.1.1.1.0 ∷ to_be_bytes w64 p.1.1.1.1),
+      record { id = good.0; name = good.1.0; source = good.1.1.0; offset = good.1.1.1.1 },
+    ))
+    (λ c good. (
+      four_grouped (to_be_bytes w32 c.id) (text_bytes c.name) (to_be_bytes w32 c.source)
+          (stream_kind_byte c.is_append_only ∷ to_be_bytes w64 c.offset),
+      (good.id, (good.name, (good.source, (tt, good.offset)))),
+      refl,
+    ))
+    (reads_then (reads_number wide32) (λ id _. reads_then reads_text (λ name _. reads_then (reads_number wide32)
+    (λ source _. reads_then reads_kind (λ kind _. reads_number wide64))))))
+
+pub reads_offset : Reads (λ p. offset_bytes p.0 p.1) (λ p. (p.0 < 2 ^ 32) × (p.1 < 2 ^ 64)) offset_at
+unfolding offset_at offset_bytes
+reads_offset = reads_then (reads_number wide32) (λ id _. reads_number wide64)
+
 -- ---- changes
 
-chosen : {X : Type 0} (b : Bool) (x y : Option X) (z : Option X) → cond b x y ≡ z
-    → ((b ≡ true) × (x ≡ z)) ⊎ ((b ≡ false) × (y ≡ z))
-chosen true x y z e = inl (refl, e)
-chosen false x y z e = inr (refl, e)
+-- the branch that was taken
+branch : {X P : Type 0} (b : Bool) (x y z : Option X) → cond b x y ≡ z → (b ≡ true → x ≡ z → P) → (y ≡ z → P) → P
+branch true x y z e here there = here refl e
+branch false x y z e here there = there e
+
+-- a change behind its tag, n
+tagged_takes : {X : Type 0} {s : X → List ℕ} {g : X → Type 0} {reader : Reader X} → Reads s g reader
+    → (f : X → Change) (n : ℕ) → ((x : X) → g x → (n ∷ s x ≡ change_bytes (f x)) × IsChange (f x))
+    → (tag : ℕ) (bytes : List ℕ) (c : Change) (rest : List ℕ) → AreBytes bytes
+    → eqb tag n ≡ true → as_at f reader bytes ≡ Some (c, rest) → (tag ∷ bytes ≡ change_bytes c ++ rest) × IsChange c
+tagged_takes {X} {s} {g} {reader} r f n spelled tag bytes c rest fits is e =
+    let a = bind_some (reader bytes) (λ x. Some (f x.0, x.1)) (c, rest) e in
+    let one = r.takes bytes a.0.0 a.0.1 fits a.1 in
+    let said = spelled a.0.0 one.1 in
+    let whole : tag ∷ bytes ≡ change_bytes (f a.0.0) ++ a.0.1 =
+    rw (eqb-true tag n is) (ap (λ (l : List ℕ). n ∷ l) one.0 ∙ ap (λ (l : List ℕ). l ++ a.0.1) said.0) in
+    subst (λ (z : Change × List ℕ). (tag ∷ bytes ≡ change_bytes z.0 ++ z.1) × IsChange z.0)
+    (some_is (f a.0.0, a.0.1) (c, rest) a.2) (whole, said.1)
+
+-- ---- what the tests of a tag that are left say
+
+abbrev offset_behind : ℕ → Reader Change
+offset_behind tag bytes = cond (eqb tag 11) (as_at (λ p. SetsOffset p.0 p.1) offset_at bytes) None
+
+abbrev version_behind : ℕ → Reader Change
+version_behind tag bytes = cond (eqb tag 10) (as_at PushesVersion version_at bytes) (offset_behind tag bytes)
+
+abbrev stream_behind : ℕ → Reader Change
+stream_behind tag bytes = cond (eqb tag 3) (as_at CreatesStream stream_at bytes) (version_behind tag bytes)
+
+abbrev drop_behind : ℕ → Reader Change
+drop_behind tag bytes = cond (eqb tag 2) (as_at Drops (number_at w32) bytes) (stream_behind tag bytes)
+
+offset_takes : (tag : ℕ) (bytes : List ℕ) (c : Change) (rest : List ℕ) → AreBytes bytes
+    → offset_behind tag bytes ≡ Some (c, rest)
+    → (tag ∷ bytes ≡ change_bytes c ++ rest) × IsChange c
+unfolding change_bytes
+offset_takes tag bytes c rest fits e =
+    branch (eqb tag 11) (as_at (λ p. SetsOffset p.0 p.1) offset_at bytes) None (Some (c, rest)) e
+    (tagged_takes reads_offset (λ p. SetsOffset p.0 p.1) 11 (λ p good. (refl, good)) tag bytes c rest fits)
+    (λ none. absurd cc)
 
 version_takes : (tag : ℕ) (bytes : List ℕ) (c : Change) (rest : List ℕ) → AreBytes bytes
-    → cond (eqb tag 10) (as_at PushesVersion version_at bytes) None ≡ Some (c, rest)
+    → version_behind tag bytes ≡ Some (c, rest)
     → (tag ∷ bytes ≡ change_bytes c ++ rest) × IsChange c
 unfolding change_bytes
 version_takes tag bytes c rest fits e =
-    elim (chosen (eqb tag 10) (as_at PushesVersion version_at bytes) None (Some (c, rest)) e) [
-      | inl is ↦ (
-          let a = bind_some (version_at bytes) (λ x. Some (PushesVersion x.0, x.1)) (c, rest) is.1 in
-          let one = reads_version.takes bytes a.0.0 a.0.1 fits a.1 in
-          subst (λ (z : Change × List ℕ). (tag ∷ bytes ≡ change_bytes z.0 ++ z.1) × IsChange z.0)
-          (some_is (PushesVersion a.0.0, a.0.1) (c, rest) a.2)
-          (rw (eqb-true tag 10 is.0) (ap (λ (l : List ℕ). 10 ∷ l) one.0), one.1))
-      | inr none ↦ absurd cc
-    ]
+    branch (eqb tag 10) (as_at PushesVersion version_at bytes) (offset_behind tag bytes) (Some (c, rest)) e
+    (tagged_takes reads_version PushesVersion 10 (λ v good. (refl, good)) tag bytes c rest fits)
+    (offset_takes tag bytes c rest fits)
+
+stream_takes : (tag : ℕ) (bytes : List ℕ) (c : Change) (rest : List ℕ) → AreBytes bytes
+    → stream_behind tag bytes ≡ Some (c, rest)
+    → (tag ∷ bytes ≡ change_bytes c ++ rest) × IsChange c
+unfolding change_bytes
+stream_takes tag bytes c rest fits e =
+    branch (eqb tag 3) (as_at CreatesStream stream_at bytes) (version_behind tag bytes) (Some (c, rest)) e
+    (tagged_takes reads_stream CreatesStream 3 (λ s good. (refl, good)) tag bytes c rest fits)
+    (version_takes tag bytes c rest fits)
+
+drop_takes : (tag : ℕ) (bytes : List ℕ) (c : Change) (rest : List ℕ) → AreBytes bytes
+    → drop_behind tag bytes ≡ Some (c, rest)
+    → (tag ∷ bytes ≡ change_bytes c ++ rest) × IsChange c
+unfolding change_bytes
+drop_takes tag bytes c rest fits e =
+    branch (eqb tag 2) (as_at Drops (number_at w32) bytes) (stream_behind tag bytes) (Some (c, rest)) e
+    (tagged_takes (reads_number wide32) Drops 2 (λ id good. (refl, good)) tag bytes c rest fits)
+    (stream_takes tag bytes c rest fits)
 
 behind_takes : (tag : ℕ) (bytes : List ℕ) (c : Change) (rest : List ℕ) → AreBytes bytes
     → change_behind tag bytes ≡ Some (c, rest)
     → (tag ∷ bytes ≡ change_bytes c ++ rest) × IsChange c
 unfolding change_bytes
 behind_takes tag bytes c rest fits e =
-    elim (chosen (eqb tag 1) (as_at CreatesTable table_at bytes) (cond (eqb tag 2) (as_at Drops (number_at w32) bytes)
-    (cond (eqb tag 10) (as_at PushesVersion version_at bytes) None)) (Some (c, rest)) e) [
-      | inl is ↦ (
-          let a = bind_some (table_at bytes) (λ x. Some (CreatesTable x.0, x.1)) (c, rest) is.1 in
-          let one = reads_table.takes bytes a.0.0 a.0.1 fits a.1 in
-          subst (λ (z : Change × List ℕ). (tag ∷ bytes ≡ change_bytes z.0 ++ z.1) × IsChange z.0)
-          (some_is (CreatesTable a.0.0, a.0.1) (c, rest) a.2)
-          (rw (eqb-true tag 1 is.0) (ap (λ (l : List ℕ). 1 ∷ l) one.0), one.1))
-      | inr other ↦
-          elim (chosen (eqb tag 2) (as_at Drops (number_at w32) bytes)
-          (cond (eqb tag 10) (as_at PushesVersion version_at bytes) None) (Some (c, rest)) other.1) [
-            | inl is ↦ (
-                let a = bind_some (number_at w32 bytes) (λ x. Some (Drops x.0, x.1)) (c, rest) is.1 in
-                let one = (reads_number wide32).takes bytes a.0.0 a.0.1 fits a.1 in
-                subst (λ (z : Change × List ℕ). (tag ∷ bytes ≡ change_bytes z.0 ++ z.1) × IsChange z.0)
-                (some_is (Drops a.0.0, a.0.1) (c, rest) a.2)
-                (rw (eqb-true tag 2 is.0) (ap (λ (l : List ℕ). 2 ∷ l) one.0), one.1))
-            | inr third ↦ version_takes tag bytes c rest fits third.1
-          ]
-    ]
+    branch (eqb tag 1) (as_at CreatesTable table_at bytes) (drop_behind tag bytes) (Some (c, rest)) e
+    (tagged_takes reads_table CreatesTable 1 (λ t good. (refl, good)) tag bytes c rest fits)
+    (drop_takes tag bytes c rest fits)
 
 change_takes : (bytes : List ℕ) (c : Change) (rest : List ℕ) → AreBytes bytes → change_at bytes ≡ Some (c, rest)
     → (bytes ≡ change_bytes c ++ rest) × IsChange c
@@ -217,6 +300,12 @@ change_again (Drops id) rest good =
 change_again (PushesVersion c) rest good =
     ap (λ (o : Option (VersionChange × List ℕ)). o >>= λ x. Some (PushesVersion x.0, x.1))
     (reads_version.again c rest good)
+change_again (CreatesStream c) rest good =
+    ap (λ (o : Option (StreamChange × List ℕ)). o >>= λ x. Some (CreatesStream x.0, x.1))
+    (reads_stream.again c rest good)
+change_again (SetsOffset id offset) rest good =
+    ap (λ (o : Option ((ℕ × ℕ) × List ℕ)). o >>= λ x. Some (SetsOffset x.0.0 x.0.1, x.1))
+    (reads_offset.again (id, offset) rest good)
 
 pub reads_change : Reads change_bytes IsChange change_at
 reads_change = record { takes = change_takes; again = change_again }

@@ -1,9 +1,10 @@
 -- Reading commits.
-use Rattle.std.specs.Prelude.{ℕ, zero, suc, ◌+◌, Bool, true, ◌&&◌, List, [], ◌∷◌, length, Option, Some, None, nat_le}
-use Rattle.std.specs.Prelude.{◌==◌, if◌then◌else◌}
+use Rattle.std.specs.Prelude.{ℕ, zero, suc, ◌+◌, Bool, true, false, ◌&&◌, List, [], ◌∷◌, length, Option, Some, None}
+use Rattle.std.specs.Prelude.{nat_le, ◌==◌, if◌then◌else◌}
 use Rattle.std.specs.Int.{w32, w64}
 use Rattle.wh_value.specs.Column.{Column, ColumnType, NumberType, VarcharType, BooleanType}
-use Rattle.wh_machine.specs.Commit.{TableChange, VersionChange, Change, CreatesTable, Drops, PushesVersion, Commit}
+use Rattle.wh_machine.specs.Commit.{TableChange, VersionChange, StreamChange, Change, CreatesTable, Drops}
+use Rattle.wh_machine.specs.Commit.{PushesVersion, CreatesStream, SetsOffset, Commit}
 use Rattle.wh_part.specs.Reading.{Reader, ◌>>=◌, then_at, where_at, as_at, list_at, byte_at, number_at, text_at}
 use Rattle.wh_part.specs.Decoding.{partition_at}
 
@@ -44,12 +45,32 @@ version_at bytes =
     (then_at (number_at w32) (λ _. then_at (number_at w64) (λ _. then_at (number_at w64) (λ _. then_at (number_at w32)
     (λ width. then_at removed_at (λ _. list_at (number_at w32) (partition_at width))))))) bytes
 
+-- whether a stream is append-only
+unfoldable pub stream_kind_at : Reader Bool
+stream_kind_at [] = None
+stream_kind_at (zero ∷ bytes) = None
+stream_kind_at (suc zero ∷ bytes) = Some (false, bytes)
+stream_kind_at (suc (suc zero) ∷ bytes) = Some (true, bytes)
+stream_kind_at (suc (suc (suc kind)) ∷ bytes) = None
+
+unfoldable pub stream_at : Reader StreamChange
+stream_at bytes =
+    as_at (λ p. record { id = p.0; name = p.1.0; source = p.1.1.0; is_append_only = p.1.1.1.0; offset = p.1.1.1.1 })
+    (then_at (number_at w32) (λ _. then_at text_at (λ _. then_at (number_at w32) (λ _. then_at stream_kind_at
+    (λ _. number_at w64))))) bytes
+
+-- the id of a stream, and its offset
+unfoldable pub offset_at : Reader (ℕ × ℕ)
+offset_at bytes = then_at (number_at w32) (λ _. number_at w64) bytes
+
 -- what a tag announces
 abbrev pub change_behind : ℕ → Reader Change
 change_behind tag bytes =
     if tag == 1 then as_at CreatesTable table_at bytes
     else if tag == 2 then as_at Drops (number_at w32) bytes
+    else if tag == 3 then as_at CreatesStream stream_at bytes
     else if tag == 10 then as_at PushesVersion version_at bytes
+    else if tag == 11 then as_at (λ p. SetsOffset p.0 p.1) offset_at bytes
     else None
 
 unfoldable pub change_at : Reader Change

@@ -9,8 +9,10 @@ use Rattle.wh_frame.specs.Partition.{Partition}
 use Rattle.wh_machine.specs.Commit as machine
 use Rattle.wh_record.specs.declared.commit.TableChange.{TableChange}
 use Rattle.wh_record.specs.declared.commit.VersionChange.{VersionChange}
+use Rattle.wh_record.specs.declared.commit.StreamChange.{StreamChange}
 use Rattle.wh_record.specs.declared.commit.Change.{Change}
 use Rattle.wh_record.specs.declared.commit.Change.TheVariants.{CreatesTable, Drops, PushesVersion}
+use Rattle.wh_record.specs.declared.commit.Change.TheVariants.{CreatesStream, SetsOffset}
 use Rattle.wh_record.specs.declared.commit.Commit.{Commit}
 
 abbrev pub table_change_of : TableChange → machine.TableChange
@@ -27,10 +29,21 @@ version_change_of c = record {
   added = c.added.items;
 }
 
+abbrev pub stream_change_of : StreamChange → machine.StreamChange
+stream_change_of c = record {
+  id = c.id;
+  name = c.name;
+  source = c.source;
+  is_append_only = c.is_append_only;
+  offset = c.offset;
+}
+
 abbrev pub change_of : Change → machine.Change
 change_of (CreatesTable c) = machine.CreatesTable (table_change_of c)
 change_of (Drops id) = machine.Drops id
 change_of (PushesVersion c) = machine.PushesVersion (version_change_of c)
+change_of (CreatesStream c) = machine.CreatesStream (stream_change_of c)
+change_of (SetsOffset id offset) = machine.SetsOffset id offset
 
 abbrev pub commit_of : Commit → machine.Commit
 commit_of c = record { stamp = c.stamp; changes = map change_of c.changes.items }

@@ -3,15 +3,15 @@ ghost use Rattle.std.specs.Int.{w32, w64};
 ghost use Rattle.wh_value.specs.View.{type_of, column_of};
 ghost use Rattle.wh_part.specs.Reading.{Gives, items_at, list_at, number_at};
 ghost use Rattle.wh_part.specs.Decoding.{partition_at};
-ghost use Rattle.wh_record.specs.Decoding.{type_at, column_at, table_at, removed_at, version_at, change_behind};
-ghost use Rattle.wh_record.specs.Decoding.{change_at, commit_at, commit_of_all};
+ghost use Rattle.wh_record.specs.Decoding.{type_at, column_at, table_at, removed_at, version_at, stream_kind_at};
+ghost use Rattle.wh_record.specs.Decoding.{stream_at, offset_at, change_behind, change_at, commit_at, commit_of_all};
 ghost use Rattle.wh_record.specs.Laws.{PayloadFixesCommit, FileFixesPayloads, FileFixesStored, FileFixesState};
 ghost use Rattle.wh_record.specs.Laws.{FirstFaultIsOne, FaultyFileStandsForNone};
-ghost use Rattle.wh_record.specs.View.{table_change_of, version_change_of, change_of, commit_of};
+ghost use Rattle.wh_record.specs.View.{table_change_of, version_change_of, stream_change_of, change_of, commit_of};
 
-use crate::commit::{DROP_TAG, TABLE_TAG, VERSION_TAG};
+use crate::commit::{DROP_TAG, OFFSET_TAG, STREAM_TAG, TABLE_TAG, VERSION_TAG};
 use crate::format::rise;
-use crate::{Change, Commit, TableChange, VersionChange};
+use crate::{Change, Commit, StreamChange, TableChange, VersionChange};
 use std::alloc::{AllocError, Global};
 use wh_part::{Partition, ReadError, read_byte, read_text, read_u32, read_u64};
 use wh_value::{Column, ColumnType};
@@ -158,6 +158,47 @@ fn read_version(alloc: Global, bytes: &[u8]) -> Result<(VersionChange, &[u8]), R
     Ok((version, rest))
 }
 
+/// Whether a stream is append-only.
+#[tactic(auto, unfolding(crate::specs::Decoding::stream_kind_at))]
+fn read_stream_kind(bytes: &[u8]) -> Result<(bool, &[u8]), ReadError>
+    ensures { Gives (λ x. (x.0, x.1.now)) result (stream_kind_at bytes.now) }
+{
+    match bytes {
+        [1, rest @ ..] => Ok((false, rest)),
+        [2, rest @ ..] => Ok((true, rest)),
+        _ => Err(ReadError::Malformed),
+    }
+}
+
+#[tactic(auto, unfolding(crate::specs::Decoding::stream_at))]
+fn read_stream(alloc: Global, bytes: &[u8]) -> Result<(StreamChange, &[u8]), ReadError>
+    ensures { Gives (λ x. (stream_change_of x.0, x.1.now)) result (stream_at bytes.now) }
+{
+    let (id, rest) = read_u32(bytes)?;
+    let (name, rest) = read_text(alloc, rest)?;
+    let (source, rest) = read_u32(rest)?;
+    let (is_append_only, rest) = read_stream_kind(rest)?;
+    let (offset, rest) = read_u64(rest)?;
+    let stream = StreamChange {
+        id,
+        name,
+        source,
+        is_append_only,
+        offset,
+    };
+    Ok((stream, rest))
+}
+
+/// The id of a stream, and its offset.
+#[tactic(auto, unfolding(crate::specs::Decoding::offset_at))]
+fn read_offset(bytes: &[u8]) -> Result<((u32, u64), &[u8]), ReadError>
+    ensures { Gives (λ x. ((x.0.0, x.0.1), x.1.now)) result (offset_at bytes.now) }
+{
+    let (id, rest) = read_u32(bytes)?;
+    let (offset, rest) = read_u64(rest)?;
+    Ok(((id, offset), rest))
+}
+
 fn read_change_behind(alloc: Global, tag: u8, bytes: &[u8]) -> Result<(Change, &[u8]), ReadError>
     ensures { Gives (λ x. (change_of x.0, x.1.now)) result (change_behind tag bytes.now) }
 {
@@ -169,9 +210,17 @@ fn read_change_behind(alloc: Global, tag: u8, bytes: &[u8]) -> Result<(Change, &
         let (id, rest) = read_u32(bytes)?;
         return Ok((Change::Drops(id), rest));
     }
+    if tag == STREAM_TAG {
+        let (stream, rest) = read_stream(alloc, bytes)?;
+        return Ok((Change::CreatesStream(stream), rest));
+    }
     if tag == VERSION_TAG {
         let (version, rest) = read_version(alloc, bytes)?;
         return Ok((Change::PushesVersion(version), rest));
+    }
+    if tag == OFFSET_TAG {
+        let ((id, offset), rest) = read_offset(bytes)?;
+        return Ok((Change::SetsOffset { id, offset }, rest));
     }
     Err(ReadError::Malformed)
 }

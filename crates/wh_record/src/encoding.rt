@@ -2,15 +2,16 @@ ghost use Rattle.std.specs.Prelude.{◌≡◌, ◌<◌, ◌^◌, ◌∷◌, [], 
 ghost use Rattle.std.specs.List.{flat_map, AllByRecursion};
 ghost use Rattle.std.specs.Int.{w32, w64, to_be_bytes};
 ghost use Rattle.wh_frame.specs.Spelling.{list_bytes, partition_bytes, IsPartition};
-ghost use Rattle.wh_machine.specs.Spelling.{type_byte, column_bytes, table_bytes, version_bytes, change_bytes};
-ghost use Rattle.wh_machine.specs.Spelling.{payload_of, NumbersRiseFrom, IsColumn, IsTableChange, IsVersionChange};
-ghost use Rattle.wh_machine.specs.Spelling.{IsChange, IsCommit};
+ghost use Rattle.wh_machine.specs.Spelling.{type_byte, column_bytes, table_bytes, version_bytes, stream_kind_byte};
+ghost use Rattle.wh_machine.specs.Spelling.{stream_bytes, offset_bytes, change_bytes, payload_of, NumbersRiseFrom};
+ghost use Rattle.wh_machine.specs.Spelling.{IsColumn, IsTableChange, IsVersionChange, IsStreamChange, IsChange};
+ghost use Rattle.wh_machine.specs.Spelling.{IsCommit};
 ghost use Rattle.wh_value.specs.View.{type_of, column_of};
-ghost use Rattle.wh_record.specs.View.{table_change_of, version_change_of, change_of, commit_of};
+ghost use Rattle.wh_record.specs.View.{table_change_of, version_change_of, stream_change_of, change_of, commit_of};
 
-use crate::commit::{DROP_TAG, TABLE_TAG, VERSION_TAG};
+use crate::commit::{DROP_TAG, OFFSET_TAG, STREAM_TAG, TABLE_TAG, VERSION_TAG};
 use crate::format::{has_rows, rise};
-use crate::{Change, Commit, TableChange, VersionChange};
+use crate::{Change, Commit, StreamChange, TableChange, VersionChange};
 use std::alloc::{AllocError, Global};
 use wh_part::{Partition, write_text, write_u32, write_u64};
 use wh_value::{Bytes, Column, ColumnType};
@@ -161,6 +162,33 @@ fn write_version(out: &mut Bytes, version: &VersionChange) -> Result<(), AllocEr
     Ok(())
 }
 
+fn byte_of_kind(is_append_only: bool) -> u8
+    ensures { result ≡ stream_kind_byte is_append_only }
+{
+    if is_append_only { 2 } else { 1 }
+}
+
+#[tactic(auto, unfolding(wh_machine::specs::Spelling::stream_bytes))]
+fn write_stream(out: &mut Bytes, stream: &StreamChange) -> Result<(), AllocError>
+    ensures written { OnOk result (out.new ≡ out.old ++ stream_bytes (stream_change_of stream.now)) }
+    ensures spelled { OnOk result (IsStreamChange (stream_change_of stream.now)) }
+{
+    write_u32(out, stream.id)?;
+    write_text(out, &stream.name)?;
+    write_u32(out, stream.source)?;
+    out.push(byte_of_kind(stream.is_append_only))?;
+    write_u64(out, stream.offset)
+}
+
+fn write_offset(out: &mut Bytes, id: u32, offset: u64) -> Result<(), AllocError>
+    ensures written { OnOk result (out.new ≡ out.old ++ offset_bytes id offset) }
+    ensures fits { OnOk result ((id < 2 ^ 32) × (offset < 2 ^ 64)) }
+{
+    write_u32(out, id)?;
+    write_u64(out, offset)?;
+    Ok(())
+}
+
 #[tactic(auto, unfolding(wh_machine::specs::Spelling::change_bytes))]
 fn write_change(out: &mut Bytes, change: &Change) -> Result<(), AllocError>
     ensures written { OnOk result (out.new ≡ out.old ++ change_bytes (change_of change.now)) }
@@ -178,6 +206,14 @@ fn write_change(out: &mut Bytes, change: &Change) -> Result<(), AllocError>
         Change::PushesVersion(version) => {
             out.push(VERSION_TAG)?;
             write_version(out, version)
+        }
+        Change::CreatesStream(stream) => {
+            out.push(STREAM_TAG)?;
+            write_stream(out, stream)
+        }
+        Change::SetsOffset { id, offset } => {
+            out.push(OFFSET_TAG)?;
+            write_offset(out, *id, *offset)
         }
     }
 }

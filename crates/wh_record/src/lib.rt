@@ -6,5 +6,5 @@ mod decoding;
 mod encoding;
 mod format;
 
-pub use commit::{Change, Commit, TableChange, VersionChange};
+pub use commit::{Change, Commit, StreamChange, TableChange, VersionChange};
 pub use decoding::{spelling_fixes_commits, spelling_fixes_faults};

@@ -21,6 +21,10 @@ pub data Refusal : Type 0 where
   WrongKind : (name : List ℕ) → Refusal
   TypeMismatch : Refusal
   OverLimit : Limit → Refusal
+  -- a stream whose source was dropped or replaced
+  SourceGone : (name : List ℕ) → Refusal
+  -- a stream's offset, and the last stamp at which it could be read
+  StaleStream : (offset last_read : ℕ) → Refusal
   -- the number of another session's transaction
   Locked : (number : ℕ) → Refusal
   NumberOutOfRange : Refusal
@@ -30,6 +34,10 @@ pub data Refusal : Type 0 where
 pub data Reply : Type 0 where
   CreatedTable : (name : List ℕ) → Reply
   DroppedTable : (name : List ℕ) → Reply
+  CreatedStream : (name : List ℕ) → Reply
+  DroppedStream : (name : List ℕ) → Reply
+  -- whether a stream has rows to show
+  HasData : Bool → Reply
   Inserted : (count : ℕ) → Reply
   Updated : (count : ℕ) → Reply
   Deleted : (count : ℕ) → Reply
@@ -45,6 +53,9 @@ pub data Reply : Type 0 where
 abbrev pub is_refusal : Reply → Bool
 is_refusal (CreatedTable name) = false
 is_refusal (DroppedTable name) = false
+is_refusal (CreatedStream name) = false
+is_refusal (DroppedStream name) = false
+is_refusal (HasData has) = false
 is_refusal (Inserted count) = false
 is_refusal (Updated count) = false
 is_refusal (Deleted count) = false
@@ -94,13 +105,23 @@ refusal_text (NameTaken name) = codes "E7 NameTaken " ++ name
 refusal_text (WrongKind name) = codes "E8 WrongKind " ++ name
 refusal_text TypeMismatch = codes "E9 TypeMismatch"
 refusal_text (OverLimit limit) = codes "E13 Limit " ++ limit_word limit ++ codes " " ++ decimal (bound limit)
+refusal_text (SourceGone name) = codes "E15 SourceGone " ++ name
+refusal_text (StaleStream offset last_read) =
+    codes "E16 StaleStream " ++ decimal offset ++ codes " " ++ decimal last_read
 refusal_text (Locked number) = codes "E18 Locked " ++ decimal number
 refusal_text NumberOutOfRange = codes "E19 NumberOutOfRange"
 refusal_text (AmbiguousMerge row) = codes "E20 AmbiguousMerge " ++ values_text row
 
+abbrev pub truth_text : Bool → List ℕ
+truth_text true = codes "TRUE"
+truth_text false = codes "FALSE"
+
 unfoldable pub print : Reply → List ℕ
 print (CreatedTable name) = line (codes "CREATED TABLE " ++ name)
 print (DroppedTable name) = line (codes "DROPPED TABLE " ++ name)
+print (CreatedStream name) = line (codes "CREATED STREAM " ++ name)
+print (DroppedStream name) = line (codes "DROPPED STREAM " ++ name)
+print (HasData has) = line (truth_text has)
 print (Inserted count) = line (codes "INSERTED " ++ decimal count)
 print (Updated count) = line (codes "UPDATED " ++ decimal count)
 print (Deleted count) = line (codes "DELETED " ++ decimal count)

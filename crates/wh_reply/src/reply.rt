@@ -25,6 +25,14 @@ pub enum Refusal {
     TypeMismatch,
     /// A count would pass a limit.
     OverLimit(Limit),
+    /// The source of the stream of that name was dropped or replaced.
+    SourceGone(Text),
+    /// The stream's offset lies too far back.
+    StaleStream {
+        offset: u64,
+        /// The last stamp at which it could be read.
+        last_read: u64,
+    },
     /// The transaction of that number, of another session, holds what would be changed.
     Locked(u64),
     /// A number of an evaluation has more than 18 digits.
@@ -40,6 +48,12 @@ pub enum Reply {
     CreatedTable(Text),
     /// The table's name.
     DroppedTable(Text),
+    /// The stream's name.
+    CreatedStream(Text),
+    /// The stream's name.
+    DroppedStream(Text),
+    /// Whether the stream has rows to show.
+    HasData(bool),
     /// The number of inserted rows.
     Inserted(u64),
     /// The number of rows that an UPDATE selected.

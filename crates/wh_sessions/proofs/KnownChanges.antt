@@ -25,6 +25,7 @@ use Rattle.wh_machine.proofs.KnownChanges.{row, filled, row_put, edit_put, edit_
 use Rattle.wh_sessions.specs.Transaction.{seen}
 use Rattle.wh_sessions.specs.Sessions.{no_sessions}
 use Rattle.wh_sessions.specs.Outcome.{Outcome, Refuses, Does, opened}
+use Rattle.wh_sessions.specs.Reading.{reading_refusal}
 use Rattle.wh_sessions.specs.Statements.{changed, changes_rows}
 
 -- in a session without a transaction
@@ -55,7 +56,8 @@ deleted : (outcome (delete (Some (is_k 7)))
     ≡ commits (Deleted 1) (EditsRows 1 (record { rows = insert empty 2 None; added = [] }) ∷ []))
     × (outcome (delete None)
     ≡ commits (Deleted 2) (EditsRows 1 (record { rows = insert (insert empty 1 None) 2 None; added = [] }) ∷ []))
-unfolding changes_rows changed seen bound_change first_failing column_at typing.step effect values_on val edits_refusal
+unfolding changes_rows changed seen reading_refusal bound_change first_failing column_at typing.step effect
+    values_on val edits_refusal
     partitions_made edits_of
 deleted = (simp steps, simp steps)
 
@@ -64,19 +66,22 @@ updated : (outcome (update (plus (column (codes "K")) (number 1)) (Some (is_k 7)
     ≡ commits (Updated 1) (EditsRows 1 (record { rows = insert empty 2 (Some (row 8)); added = [] }) ∷ []))
     × (outcome (update (number 5) None) ≡ commits (Updated 2)
     (EditsRows 1 (record { rows = insert (insert empty 1 (Some (row 5))) 2 (Some (row 5)); added = [] }) ∷ []))
-unfolding changes_rows changed seen bound_change first_failing column_at typing.step effect values_on val edits_refusal
+unfolding changes_rows changed seen reading_refusal bound_change first_failing column_at typing.step effect
+    values_on val edits_refusal
     partitions_made edits_of
 updated = (simp steps, simp steps)
 
 added : outcome (dml.Insert (codes "T") None (rows.Values ((number 5 ∷ []) ∷ [])))
     ≡ commits (Inserted 1) (EditsRows 1 (record { rows = empty; added = row 5 ∷ [] }) ∷ [])
-unfolding changes_rows changed seen bound_change first_failing column_at typing.step effect values_on val edits_refusal
+unfolding changes_rows changed seen reading_refusal bound_change first_failing column_at typing.step effect
+    values_on val edits_refusal
     partitions_made edits_of
 added = simp steps
 
 none_counts : (outcome (delete (Some (is_k 6))) ≡ answers (Deleted 0))
     × (outcome (update (number 9) (Some (is_k 6))) ≡ answers (Updated 0))
-unfolding changes_rows changed seen bound_change first_failing column_at typing.step effect values_on val edits_refusal
+unfolding changes_rows changed seen reading_refusal bound_change first_failing column_at typing.step effect
+    values_on val edits_refusal
     partitions_made edits_of
 none_counts = (simp steps, simp steps)
 
@@ -84,6 +89,7 @@ none_counts = (simp steps, simp steps)
 no_value : (outcome (delete (Some (equal (column (codes "K")) null))) ≡ answers (Deleted 0))
     × (outcome (delete (Some (equal (plus (column (codes "K")) (number 999999999999999994)) (number 0))))
     ≡ Refuses NumberOutOfRange)
-unfolding changes_rows changed seen bound_change first_failing column_at typing.step effect values_on val edits_refusal
+unfolding changes_rows changed seen reading_refusal bound_change first_failing column_at typing.step effect
+    values_on val edits_refusal
     partitions_made edits_of
 no_value = (simp steps, simp steps)

@@ -34,11 +34,13 @@ use Rattle.wh_machine.specs.Edits.{edits_of, partitions_made}
 use Rattle.wh_machine.specs.Statement.{Begin, CreateTable, DropTable, ChangeRows, form_of}
 use Rattle.wh_machine.specs.Outcome.{EditsRows, edited_table}
 use Rattle.wh_machine.specs.Tables.{table_refusal, taken_name, create_table, drop_table}
+use Rattle.wh_machine.specs.Streams.{drop_stream}
 use Rattle.wh_machine.specs.Changes.{edits_refusal}
 use Rattle.wh_machine.proofs.KnownFacts.{entries-empty}
 use Rattle.wh_sessions.specs.Transaction.{seen}
 use Rattle.wh_sessions.specs.Sessions.{no_sessions}
 use Rattle.wh_sessions.specs.Outcome.{Machine, Refuses, Does, opened}
+use Rattle.wh_sessions.specs.Reading.{reading_refusal}
 use Rattle.wh_sessions.specs.Statements.{begin, defines, changed, changes_rows}
 use Rattle.wh_sessions.specs.Step.{Event, Command, Tick, step, commanded, carried_out, text}
 
@@ -104,14 +106,14 @@ refused : text first (asked table_t ∷ asked table_t
     ∷ asked (insertion (codes "T") ((number 1 ∷ number 2 ∷ []) ∷ [])) ∷ [])
     ≡ codes "CREATED TABLE T\nE7 NameTaken T\nE9 TypeMismatch\n"
 unfolding step commanded carried_out defines create_table drop_table table_refusal changes_rows changed seen
-    bound_change first_failing typing.step print digits
+    reading_refusal bound_change first_failing typing.step print digits
 refused = simp literal_typed
 
 unknown : text first (asked (insertion (codes "U") ((number 1 ∷ []) ∷ [])) ∷ asked (st.DropTable (codes "U"))
     ∷ asked (st.DropStream (codes "S")) ∷ Command 0 65 Unreadable ∷ Command 0 65 TooLong ∷ Tick 5 ∷ [])
-    ≡ codes "E6 UnknownName U\nE6 UnknownName U\nE0 Unsupported\nE1 SyntaxError\nE13 Limit STATEMENT 65536\nIDLE\n"
-unfolding step commanded carried_out defines create_table drop_table table_refusal changes_rows changed seen
-    bound_change first_failing typing.step print digits
+    ≡ codes "E6 UnknownName U\nE6 UnknownName U\nE6 UnknownName S\nE1 SyntaxError\nE13 Limit STATEMENT 65536\nIDLE\n"
+unfolding step commanded carried_out defines create_table drop_table drop_stream table_refusal changes_rows changed seen
+    reading_refusal bound_change first_failing typing.step print digits
 unknown = refl
 
 -- a dropped name is unknown, and free for a new table
@@ -119,7 +121,7 @@ dropped : text first (asked table_t ∷ asked drop_t ∷ asked (insertion (codes
     ∷ asked table_t ∷ [])
     ≡ codes "CREATED TABLE T\nDROPPED TABLE T\nE6 UnknownName T\nE6 UnknownName T\nCREATED TABLE T\n"
 unfolding step commanded carried_out defines create_table drop_table table_refusal changes_rows changed seen
-    bound_change first_failing typing.step print digits
+    reading_refusal bound_change first_failing typing.step print digits
 dropped = refl
 
 -- OR REPLACE takes the place of a table, or of none
@@ -132,7 +134,7 @@ replaced = refl
 inserted : text first (asked table_t ∷ asked (insertion (codes "T") ((number 1 ∷ []) ∷ (number 7 ∷ []) ∷ [])) ∷ [])
     ≡ codes "CREATED TABLE T\nINSERTED 2\n"
 unfolding step commanded carried_out defines create_table drop_table table_refusal changes_rows
-    changed seen bound_change first_failing typing.step effect values_on val edits_refusal edited_table
+    changed seen reading_refusal bound_change first_failing typing.step effect values_on val edits_refusal edited_table
     partitions_made edits_of print digits
 inserted = simp literal_typed
 
@@ -142,7 +144,7 @@ none_go : text first
     ∷ asked (st.Dml (dml.Delete (codes "T") (Some (number 1)))) ∷ asked (st.Dml (dml.Delete (codes "U") None)) ∷ [])
     ≡ codes "CREATED TABLE T\nDELETED 0\nUPDATED 0\nE9 TypeMismatch\nE6 UnknownName U\n"
 unfolding step commanded carried_out defines create_table drop_table table_refusal changes_rows
-    changed seen bound_change first_failing typing.step effect values_on val edits_refusal edited_table
+    changed seen reading_refusal bound_change first_failing typing.step effect values_on val edits_refusal edited_table
     partitions_made edits_of print digits
 none_go = simp (literal_typed, entries-empty)
 
@@ -188,6 +190,7 @@ rows_fit : (changes_rows created 1 (insertion_of ((null ∷ []) ∷ (number 1 �
     × (changes_rows created 1 (insertion_of ((null ∷ null ∷ []) ∷ [])) ≡ Refuses TypeMismatch)
     × (changes_rows created 1 (insertion_of ([] ∷ [])) ≡ Refuses TypeMismatch)
     × (changes_rows created 1 (insertion_of ((null ∷ []) ∷ (text_one ∷ []) ∷ [])) ≡ Refuses TypeMismatch)
-unfolding step commanded carried_out defines create_table table_refusal changes_rows changed seen bound_change
+unfolding step commanded carried_out defines create_table table_refusal changes_rows changed seen reading_refusal
+    bound_change
     first_failing typing.step effect values_on val edits_refusal partitions_made edits_of
 rows_fit = (simp literal_typed, simp literal_typed, refl, simp literal_typed)

@@ -20,6 +20,7 @@ use Rattle.wh_machine.specs.Written.{kept_after}
 use Rattle.wh_machine.proofs.KnownCommits as commits
 use Rattle.wh_sessions.specs.Transaction.{seen}
 use Rattle.wh_sessions.specs.Outcome.{Machine}
+use Rattle.wh_sessions.specs.Reading.{reading_refusal}
 use Rattle.wh_sessions.specs.Statements as statements
 use Rattle.wh_sessions.specs.Statements.{defines, changes_rows}
 use Rattle.wh_sessions.specs.Step.{Event, step, acts_of, commanded, carried_out}
@@ -43,7 +44,7 @@ made_table = refl
 
 made_row : made filed created (asked (insertion (codes "T") ((number 1 ∷ []) ∷ []))) ≡ Some commits.insertion
 unfolding acts_of step commanded carried_out defines create_table table_refusal changes_rows statements.changed
-    seen bound_change first_failing typing.step effect values_on val edits_refusal edits_of edited_table
+    seen reading_refusal bound_change first_failing typing.step effect values_on val edits_refusal edits_of edited_table
     partitions_made changed
 made_row = simp literal_typed
 
@@ -58,7 +59,7 @@ made_drop = (refl, refl, refl)
 made_none : (made filed created (asked table_t) ≡ None)
     × (made filed created (asked (insertion (codes "T") ((number 1 ∷ number 2 ∷ []) ∷ []))) ≡ None)
 unfolding acts_of step commanded carried_out defines create_table table_refusal changes_rows statements.changed
-    seen bound_change first_failing typing.step effect values_on val edits_refusal edits_of edited_table
+    seen reading_refusal bound_change first_failing typing.step effect values_on val edits_refusal edits_of edited_table
     partitions_made changed
 made_none = (refl, simp literal_typed)
 
@@ -67,7 +68,8 @@ no_room : (overflow 132 8 first_stored first table_and_row ≡ Some (50, 83))
     × (overflow 133 8 first_stored first table_and_row ≡ None)
     × (overflow 49 8 first_stored first table_and_row ≡ Some (8, 42))
 unfolding acts_of step commanded carried_out defines create_table table_refusal changes_rows statements.changed seen
-    bound_change first_failing typing.step effect values_on val edits_refusal edits_of edited_table partitions_made
+    reading_refusal bound_change first_failing typing.step effect values_on val edits_refusal edits_of edited_table
+    partitions_made
     changed payload_of change_bytes table_bytes column_bytes version_bytes partition_bytes row_bytes value_bytes
 no_room = (simp literal_typed, simp literal_typed, refl)
 

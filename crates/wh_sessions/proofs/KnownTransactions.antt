@@ -16,7 +16,7 @@ use Rattle.wh_value.specs.declared.limit.Limit.TheVariants as limits
 use Rattle.wh_reply.specs.Reply.{OverLimit}
 use Rattle.wh_effect.specs.Effect.{Effect}
 use Rattle.wh_machine.specs.State.{Rows, Object, TableKind, new_object, version_at, last_rows}
-use Rattle.wh_machine.specs.Tables.{table_at}
+use Rattle.wh_machine.specs.Objects.{table_at}
 use Rattle.wh_machine.specs.Edits.{Edits, no_edits, later_edits, edits_of, rows_after}
 use Rattle.wh_machine.specs.Outcome.{EditsRows, edited_table}
 use Rattle.wh_sessions.specs.Transaction.{Staged, Transaction, begun, seen, staged, acts_of, past_limit, commit_refusal}
@@ -83,9 +83,10 @@ after_one = record {
     edits = record { rows = insert empty 1 (Some (row 11)); added = row 30 ∷ [] };
     is_touched = true;
   });
+  streams = [];
 }
 
-a_statement_is_staged : staged (begun 7) 1 3 effect_of_one ≡ after_one
+a_statement_is_staged : staged (begun 7) 1 [] 3 effect_of_one ≡ after_one
 unfolding staged later_edits edits_of
 a_statement_is_staged = simp (put_in, none_in, got_none)
 
@@ -113,13 +114,13 @@ abbrev held_alone : Staged
 held_alone = record { edits = no_edits; is_touched = false }
 
 abbrev of_two : Transaction
-of_two = record { number = 7; tables = insert (insert empty 5 held_alone) 2 (staged_as first) }
+of_two = record { number = 7; tables = insert (insert empty 5 held_alone) 2 (staged_as first); streams = [] }
 
-a_table_that_is_held_alone_gets_no_version : acts_of of_two ≡ Some (EditsRows 2 first ∷ [])
+a_table_that_is_held_alone_gets_no_version : acts_of [] of_two ≡ Some (EditsRows 2 first ∷ [])
 unfolding acts_of
 a_table_that_is_held_alone_gets_no_version = simp (put_in, none_in)
 
-holds_alone_make_no_commit : acts_of (record { number = 7; tables = insert empty 5 held_alone }) ≡ None
+holds_alone_make_no_commit : acts_of [] (record { number = 7; tables = insert empty 5 held_alone; streams = [] }) ≡ None
 unfolding acts_of
 holds_alone_make_no_commit = simp (put_in, none_in)
 

@@ -3,7 +3,13 @@ pub mod OutcomeLaws
 pub mod StepLaws
 pub mod ReplyLaws
 pub mod SoundLaws
+pub mod ConsumingLaws
+pub mod MoveLaws
+pub mod ReadLaws
+pub mod HoldLaws
+pub mod HeldLaws
 pub mod KnownTransactions
 pub mod KnownEvents
 pub mod KnownChanges
 pub mod KnownStops
+pub mod KnownStreams

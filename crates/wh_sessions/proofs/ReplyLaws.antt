@@ -9,9 +9,10 @@ use Rattle.std.proofs.Common.{List, [], ◌∷◌, ◌++◌, length, refl, sym, 
 use Rattle.std.specs.Prelude.{codes, decimal}
 use Rattle.std.specs.List.{flat_map}
 use Rattle.std.proofs.lemmas.Bool.{le-leb, lt-leb}
-use Rattle.wh_reply.specs.Reply.{Reply, CreatedTable, DroppedTable, Inserted, Updated, Deleted, Merged, Begun}
-use Rattle.wh_reply.specs.Reply.{Committed, CommittedNothing, RolledBack, Listing, Idle, Refused}
-use Rattle.wh_reply.specs.Reply.{line, parted, row_line, refusal_text, print}
+use Rattle.wh_reply.specs.Reply.{Reply, CreatedTable, DroppedTable, CreatedStream, DroppedStream, HasData, Inserted}
+use Rattle.wh_reply.specs.Reply.{Updated, Deleted, Merged, Begun, Committed, CommittedNothing, RolledBack, Listing}
+use Rattle.wh_reply.specs.Reply.{Idle}
+use Rattle.wh_reply.specs.Reply.{Refused, line, parted, row_line, refusal_text, truth_text, print}
 use Rattle.wh_sessions.specs.Outcome.{Machine}
 use Rattle.wh_sessions.specs.Step.{Event, step, after, text, refusals}
 use Rattle.wh_sessions.specs.Stop.{whole_replies}
@@ -27,6 +28,9 @@ pub print_some : (r : Reply) → 0 < length (print r)
 unfolding print
 print_some (CreatedTable name) = line_some (codes "CREATED TABLE " ++ name)
 print_some (DroppedTable name) = line_some (codes "DROPPED TABLE " ++ name)
+print_some (CreatedStream name) = line_some (codes "CREATED STREAM " ++ name)
+print_some (DroppedStream name) = line_some (codes "DROPPED STREAM " ++ name)
+print_some (HasData has) = line_some (truth_text has)
 print_some (Inserted count) = line_some (codes "INSERTED " ++ decimal count)
 print_some (Updated count) = line_some (codes "UPDATED " ++ decimal count)
 print_some (Deleted count) = line_some (codes "DELETED " ++ decimal count)

@@ -101,11 +101,11 @@ settled_meant s m stamp (Does reply sessions (Some acts)) orderly one is =
     ap (λ (t : State). done (stamped t stamp) acts) is
     ∙ ap (λ (t : State). stamped t stamp) (sym (written_meant s stamp acts one orderly))
 
-each_of_one : HoldsOfEach HasActsOfOne
-each_of_one = record {
+each_of_one : (m : Machine) → HoldsOfEach m HasActsOfOne
+each_of_one m = record {
   refusal = λ why. tt;
-  answer = λ reply sessions accepted. tt;
-  commit = λ reply sessions acts accepted shape. shape;
+  answer = λ reply sessions accepted keeps. tt;
+  commit = λ reply sessions acts accepted keeps shape on spares. shape;
 }
 
 -- so for what an event does
@@ -118,7 +118,7 @@ pub decided_meant : (s : Stored) (m : Machine) (e : Event) → IsOrderlyStored s
     }
 decided_meant s m e orderly is =
     settled_meant s m (stamp_of m.state (reading_of e)) (decided m e) orderly
-    (outcome_of_event HasActsOfOne each_of_one (ready m e) e) is
+    (outcome_of_event (ready m e) HasActsOfOne (each_of_one (ready m e)) e) is
 
 -- the event's commit leaves a file that means the state after it but for its last stamp
 pub step_meant : (s : Stored) (m : Machine) (e : Event) → IsOrderlyStored s
@@ -174,17 +174,17 @@ unmade m e none = by_stamp (has_stamp m e) refl
 abbrev SparesRefused : Machine → Outcome → Type 0
 SparesRefused m o = IsTrue (is_refusal (settled m o).1) → (acts_in o ≡ None) × ((settled m o).0 ≡ m)
 
-spares : (m : Machine) → HoldsOfEach (SparesRefused m)
+spares : (m : Machine) → HoldsOfEach m (SparesRefused m)
 spares m = record {
   refusal = λ why refused. (refl, refl);
-  answer = λ reply sessions accepted refused. absurd cc;
-  commit = λ reply sessions acts accepted shape refused. absurd cc;
+  answer = λ reply sessions accepted keeps refused. absurd cc;
+  commit = λ reply sessions acts accepted keeps shape on spares refused. absurd cc;
 }
 
 refused_spares : (m : Machine) (e : Event) → has_stamp m e ≡ true → IsTrue (is_refusal (step m e).1)
     → (acts_in (decided m e) ≡ None) × ((settled (ready m e) (decided m e)).0 ≡ ready m e)
 refused_spares m e has refused =
-    outcome_of_event (SparesRefused (ready m e)) (spares (ready m e)) (ready m e) e
+    outcome_of_event (ready m e) (SparesRefused (ready m e)) (spares (ready m e)) e
     (subst (λ (p : Machine × Reply). IsTrue (is_refusal p.1)) (step_at m e has) refused)
 
 pub refused_acts : (m : Machine) (e : Event) → IsTrue (is_refusal (step m e).1) → acts_of m e ≡ None

@@ -1,8 +1,11 @@
 pub mod Transaction
 pub mod Sessions
 pub mod Outcome
+pub mod Reading
 pub mod Statements
 pub mod Step
 pub mod Script
 pub mod Made
+pub mod Sound
+pub mod Consuming
 pub mod Stop

@@ -2,9 +2,11 @@
 --     Sessions                        the open transaction of each session, by its number
 --     transaction_in, number_in       that of a session, and its number
 --     holder, locked_by               the number of the transaction that holds an object, and of one of another session
+--     first_locked                    of one of another session that holds the first of some objects
 --     with_begun, with_ended          a transaction that begins or ends; its holds go with it
-use Rattle.std.specs.Prelude.{ℕ, List, [], ◌∷◌, Option, Some, None, option_map, is_some, cond, replicate, slice_get}
-use Rattle.std.specs.Prelude.{slice_set, unwrap_or}
+use Rattle.std.specs.Prelude.{ℕ, Bool, ◌||◌, List, [], ◌∷◌, Option, Some, None, option_map, is_some, cond, replicate}
+use Rattle.std.specs.Prelude.{slice_get, slice_set, unwrap_or, nat_eq}
+use Rattle.std.specs.List.{list_any}
 use Rattle.std.specs.FinMap.{get}
 use Rattle.wh_sessions.specs.Transaction.{Transaction, begun}
 
@@ -25,9 +27,12 @@ number_in sessions session = option_map (λ t. t.number) (transaction_in session
 
 -- ---- holds
 
+abbrev pub is_held : Transaction → ℕ → Bool
+is_held t id = is_some (get t.tables id) || list_any (nat_eq id) t.streams
+
 abbrev pub held_by : ℕ → Option Transaction → Option ℕ
 held_by id None = None
-held_by id (Some t) = cond (is_some (get t.tables id)) (Some t.number) None
+held_by id (Some t) = cond (is_held t id) (Some t.number) None
 
 abbrev pub or_later : Option ℕ → Option ℕ → Option ℕ
 or_later None later = later
@@ -52,3 +57,8 @@ with_ended sessions session = slice_set sessions session None
 -- the number of another session's transaction that holds it
 abbrev pub locked_by : Sessions → ℕ → ℕ → Option ℕ
 locked_by sessions session id = holder (with_ended sessions session) id
+
+-- that holds the first of some objects that one holds
+abbrev pub first_locked : Sessions → ℕ → List ℕ → Option ℕ
+first_locked sessions session [] = None
+first_locked sessions session (id ∷ ids) = or_later (locked_by sessions session id) (first_locked sessions session ids)

@@ -8,19 +8,22 @@ use Rattle.std.specs.Prelude.{ℕ, List, [], ◌∷◌, Option, Some, None, opti
 use Rattle.wh_ast.specs.declared.dml.Dml.{Dml}
 use Rattle.wh_ast.specs.declared.query.Query as written
 use Rattle.wh_ast.specs.declared.query.Sort.{Sort}
+use Rattle.wh_meaning.specs.Query.{eval}
 use Rattle.wh_naming.specs.Changes.{BoundChange, bound_change}
+use Rattle.wh_naming.specs.Select.{BoundSelect, bound_select}
 use Rattle.wh_reply.specs.Reply.{Refusal, DdlInTransaction, TransactionOpen, NoTransaction, Locked}
 use Rattle.wh_reply.specs.Reply.{Begun, Committed, CommittedNothing, RolledBack}
-use Rattle.wh_machine.specs.State.{Object}
 use Rattle.wh_machine.specs.Outcome as tables
 use Rattle.wh_machine.specs.Outcome.{Act, first_of}
-use Rattle.wh_machine.specs.Tables.{table_at}
-use Rattle.wh_machine.specs.Queries.{names_from, naming_refusal, select_rows}
+use Rattle.wh_machine.specs.Objects.{table_at}
+use Rattle.wh_machine.specs.Streams.{streams_among, with_streams, offset_moves}
+use Rattle.wh_machine.specs.Queries.{names_from, naming_refusal, listing_of}
 use Rattle.wh_machine.specs.Changes.{Changed, Fails, Gives, given_on, fails_or, reply_to, settled_effect}
-use Rattle.wh_sessions.specs.Transaction.{Transaction, seen, staged, acts_of, commit_refusal, next_row_of}
-use Rattle.wh_sessions.specs.Sessions.{Sessions, transaction_in, number_in, holder, locked_by}
+use Rattle.wh_sessions.specs.Transaction.{Transaction, staged, acts_of, commit_refusal, next_row_of}
+use Rattle.wh_sessions.specs.Sessions.{Sessions, transaction_in, number_in, holder, first_locked}
 use Rattle.wh_sessions.specs.Sessions.{with_transaction, with_begun, with_ended}
 use Rattle.wh_sessions.specs.Outcome.{Machine, Outcome, Refuses, Does, alone, unless, last_test}
+use Rattle.wh_sessions.specs.Reading.{objects_seen, start_in, instance_read, reading_refusal}
 
 -- ---- BEGIN, COMMIT, ROLLBACK
 
@@ -34,7 +37,8 @@ committed m session (Some acts) = Does (Committed m.state.last) (with_ended m.se
 
 abbrev pub commit_of : Machine → ℕ → Option Transaction → Outcome
 commit_of m session None = Refuses NoTransaction
-commit_of m session (Some t) = unless (commit_refusal m.state.objects t) (committed m session (acts_of t))
+commit_of m session (Some t) =
+    unless (commit_refusal m.state.objects t) (committed m session (acts_of m.state.objects t))
 
 -- a commit that is refused leaves its transaction open
 unfoldable pub commit : Machine → ℕ → Outcome
@@ -60,28 +64,35 @@ defines m session old outcome = unless (option_map DdlInTransaction (number_in m
 
 -- ---- INSERT, UPDATE, DELETE, MERGE
 
+-- the streams that a change reads
+abbrev pub streams_read : Machine → BoundChange → List ℕ
+streams_read m b = streams_among m.state.objects b.sources
+
+-- names and types first, then that its streams can be read, and that no other transaction holds its target or one of
+-- its streams
 abbrev pub change_refusal : Machine → ℕ → BoundChange → Option Refusal
 change_refusal m session b = first_of (
     naming_refusal b.findings b.is_wide
-    ∷ option_map Locked (locked_by m.sessions session b.target)
+    ∷ reading_refusal m.state.objects m.state.last b.sources
+    ∷ option_map Locked (first_locked m.sessions session (b.target ∷ streams_read m b))
     ∷ [])
 
--- names and types first, then that no other transaction holds the target, and then its evaluation on what is seen
-abbrev pub bound_changed : Machine → ℕ → List Object → BoundChange → Changed
-bound_changed m session objects b =
-    fails_or (change_refusal m session b) (given_on objects b (table_at objects b.target))
+-- and then its evaluation on what is seen
+abbrev pub bound_changed : Machine → ℕ → BoundChange → Changed
+bound_changed m session b = fails_or (change_refusal m session b)
+    (given_on (streams_read m b) (instance_read m session b.sources) b (table_at (objects_seen m session) b.target))
 
 unfoldable pub changed : Machine → ℕ → Dml → Changed
-changed m session statement = bound_changed m session
-    (seen m.state (transaction_in m.sessions session)).objects (bound_change (names_from 1 m.state.objects) statement)
+changed m session statement = bound_changed m session (bound_change (names_from 1 m.state.objects) statement)
 
 -- in a transaction it is staged, and its numbers are tested by COMMIT; outside it is a transaction of its own
 abbrev pub changes_in : Machine → ℕ → Option Transaction → Changed → Outcome
 changes_in m session t (Fails why) = Refuses why
-changes_in m session None (Gives id change e) =
-    alone m.sessions (settled_effect id change e (table_at m.state.objects id))
-changes_in m session (Some t) (Gives id change e) = Does (reply_to change e)
-    (with_transaction m.sessions session (staged t id (next_row_of (table_at m.state.objects id)) e)) None
+changes_in m session None (Gives id streams change e) = alone m.sessions (settled_effect id streams
+    (offset_moves m.state.objects (start_in m session) (with_streams streams [])) change e
+    (table_at m.state.objects id))
+changes_in m session (Some t) (Gives id streams change e) = Does (reply_to change e)
+    (with_transaction m.sessions session (staged t id streams (next_row_of (table_at m.state.objects id)) e)) None
 
 unfoldable pub changes_rows : Machine → ℕ → Dml → Outcome
 changes_rows m session statement =
@@ -89,6 +100,16 @@ changes_rows m session statement =
 
 -- ---- SELECT
 
+abbrev pub select_refusal : Machine → BoundSelect → Option Refusal
+select_refusal m b = first_of (
+    naming_refusal b.findings b.is_wide
+    ∷ reading_refusal m.state.objects m.state.last b.sources
+    ∷ [])
+
+abbrev pub select_bound : Machine → ℕ → BoundSelect → tables.Outcome
+select_bound m session b = tables.unless (select_refusal m b)
+    (listing_of b (eval b.query (instance_read m session b.sources)))
+
 unfoldable pub selects : Machine → ℕ → written.Query → List Sort → Outcome
 selects m session query sorts =
-    alone m.sessions (select_rows (seen m.state (transaction_in m.sessions session)) query sorts)
+    alone m.sessions (select_bound m session (bound_select (names_from 1 m.state.objects) query sorts))

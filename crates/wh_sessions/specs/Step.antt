@@ -4,7 +4,7 @@
 --     step                      the machine after an event, and its reply
 --     acts_of                   the acts of the commit that an event makes, where it makes one
 --     after, text, refusals     the machine after events, the text of their replies, and how many are refusals
-use Rattle.std.specs.Prelude.{ℕ, ◌+◌, max, Bool, ◌&&◌, List, [], ◌∷◌, ◌++◌, Option, Some, None, nat_le, nat_lt}
+use Rattle.std.specs.Prelude.{ℕ, ◌+◌, max, Bool, true, false, ◌&&◌, List, [], ◌∷◌, ◌++◌, Option, Some, None, nat_le, nat_lt}
 use Rattle.std.specs.Prelude.{if◌then◌else◌}
 use Rattle.wh_value.specs.Limit.{bound}
 use Rattle.wh_value.specs.declared.limit.Limit.TheVariants as limits
@@ -12,11 +12,13 @@ use Rattle.wh_grammar.specs.Spelled.{Request, TooLong, Unreadable, Asked}
 use Rattle.wh_reply.specs.Reply.{Reply, Idle, Refused, Unsupported, SyntaxError, NoSuchSession, OverLimit}
 use Rattle.wh_reply.specs.Reply.{is_refusal, print}
 use Rattle.wh_machine.specs.State.{State, stamped, id_of}
-use Rattle.wh_machine.specs.Statement.{Statement, Begin, Commit, Rollback, CreateTable, DropTable, ChangeRows, Select}
-use Rattle.wh_machine.specs.Statement.{form_of}
+use Rattle.wh_machine.specs.Statement.{Statement, Begin, Commit, Rollback, CreateTable, DropTable, CreateStream}
+use Rattle.wh_machine.specs.Statement.{DropStream, ChangeRows, Select, HasData, form_of}
 use Rattle.wh_machine.specs.Outcome.{Act}
 use Rattle.wh_machine.specs.Tables.{create_table, drop_table, replaced_id}
+use Rattle.wh_machine.specs.Streams.{create_stream, drop_stream}
 use Rattle.wh_sessions.specs.Outcome.{Machine, Outcome, Refuses, Does, settled, acts_in}
+use Rattle.wh_sessions.specs.Reading.{has_data}
 use Rattle.wh_sessions.specs.Statements.{begin, commit, rollback, defines, changes_rows, selects}
 
 pub data Event : Type 0 where
@@ -29,6 +31,11 @@ reading_of (Tick reading) = reading
 
 -- ---- what an event does: the state has the event's stamp as its last one
 
+-- a stream of appended rows isn't made yet
+abbrev pub creates_stream : Machine → ℕ → List ℕ → List ℕ → Bool → Outcome
+creates_stream m session name table true = Refuses Unsupported
+creates_stream m session name table false = defines m session None (create_stream m.state name table false)
+
 unfoldable pub carried_out : Machine → ℕ → Option Statement → Outcome
 carried_out m session None = Refuses Unsupported
 carried_out m session (Some Begin) = begin m session
@@ -37,8 +44,13 @@ carried_out m session (Some Rollback) = rollback m session
 carried_out m session (Some (CreateTable replace name columns retention)) =
     defines m session (replaced_id m.state replace name) (create_table m.state replace name columns retention)
 carried_out m session (Some (DropTable name)) = defines m session (id_of name m.state.objects) (drop_table m.state name)
+carried_out m session (Some (CreateStream name table is_append_only)) =
+    creates_stream m session name table is_append_only
+carried_out m session (Some (DropStream name)) =
+    defines m session (id_of name m.state.objects) (drop_stream m.state name)
 carried_out m session (Some (ChangeRows statement)) = changes_rows m session statement
 carried_out m session (Some (Select query sorts)) = selects m session query sorts
+carried_out m session (Some (HasData stream)) = has_data m session stream
 
 -- there are sessions 1 to 64
 abbrev pub is_session : ℕ → Bool

@@ -9,8 +9,9 @@ use Rattle.wh_machine.specs.State.{State}
 use Rattle.wh_reply.specs.Reply.{print}
 use Rattle.wh_sessions.specs.Step.{Event, step, after}
 use Rattle.wh_machine.specs.File.{Stands}
-use Rattle.wh_machine.specs.Sound.{Sound, IsSoundFile}
+use Rattle.wh_machine.specs.Sound.{IsSoundFile}
 use Rattle.wh_sessions.specs.Outcome.{Machine, rest_of}
+use Rattle.wh_sessions.specs.Sound.{SoundMachine}
 
 -- of the replies to these events, in so many bytes at the front of their text
 abbrev pub whole_replies : Machine → List Event → ℕ → ℕ
@@ -32,4 +33,4 @@ pub record StandsWithin (start : Machine) (es : List Event) (least most : ℕ) (
   pub at_least : least ≤ count
   pub at_most : count ≤ most
   pub stands : Stands image (committed_after start es count)
-  pub sound : Sound start.state → IsSoundFile image
+  pub sound : SoundMachine start → IsSoundFile image

@@ -1,9 +1,10 @@
 -- A transaction: what a session has changed and not committed.
---     Staged, Transaction     the edits of a table that is held; a number, and the tables that are held, by their ids
+--     Staged, Transaction     the edits of a table that is held; a number, the tables that are held, by their ids, and
+--                             the streams that were read
 --     begun, start_of         a new transaction, and the stamp that its streams are read up to
 --     seen                    the state as a transaction sees it
 --     staged                  a transaction with an effect more
---     acts_of                 the acts of its commit, or None where it touched no table
+--     acts_of                 the acts of its commit, or None where it touched no table and read no stream
 --     past_limit, commit_refusal     the first number that its commit would bring past its limit
 use Rattle.std.specs.Prelude.{ℕ, suc, ◌+◌, ◌-◌, Bool, false, ◌||◌, if◌then◌else◌, List, [], ◌∷◌, length, map}
 use Rattle.std.specs.Prelude.{Option, Some, None, option_map, nat_lt}
@@ -18,7 +19,8 @@ use Rattle.wh_effect.specs.Effect.{Effect}
 use Rattle.wh_machine.specs.State.{State, Object, Table}
 use Rattle.wh_machine.specs.Edits.{Edits, no_edits, edits_of, later_edits}
 use Rattle.wh_machine.specs.Outcome.{Act, EditsRows, edited_object, table_partitions_made}
-use Rattle.wh_machine.specs.Tables.{table_at}
+use Rattle.wh_machine.specs.Objects.{table_at}
+use Rattle.wh_machine.specs.Streams.{with_streams, offset_moves, acts_of_commit}
 use Rattle.wh_machine.specs.Changes.{counted}
 
 -- it is touched where a statement inserted, changed or deleted a row of it
@@ -29,13 +31,20 @@ pub record Staged : Type 0 where
 pub record Transaction : Type 0 where
   pub number : ℕ
   pub tables : FinMap nat_cmp Staged
+  -- by rising ids
+  pub streams : List ℕ
 
 abbrev pub begun : ℕ → Transaction
-begun stamp = record { number = stamp; tables = empty }
+begun stamp = record { number = stamp; tables = empty; streams = [] }
 
 -- no commit lies between a transaction's start and its number
 abbrev pub start_of : Transaction → ℕ
 start_of t = t.number - 1
+
+-- a statement by itself is a transaction of its own
+abbrev pub start_at : ℕ → Option Transaction → ℕ
+start_at stamp None = start_of (begun stamp)
+start_at stamp (Some t) = start_of t
 
 -- ---- what a transaction sees: the committed objects, those that it holds with its own edits on them
 
@@ -51,7 +60,7 @@ unfoldable pub seen : State → Option Transaction → State
 seen s None = s
 seen s (Some t) = record s { objects = seen_from s.last 1 t.tables s.objects }
 
--- ---- a statement more, which holds its target whatever it does to it
+-- ---- a statement more, which holds its target and the streams that it reads, whatever it does
 
 abbrev pub staged_in : Option Staged → Staged
 staged_in None = record { edits = no_edits; is_touched = false }
@@ -68,8 +77,11 @@ with_effect next_row e s = record {
 }
 
 -- rows that are added are numbered behind those of the committed table
-unfoldable pub staged : Transaction → ℕ → ℕ → Effect → Transaction
-staged t id next_row e = record t { tables = insert t.tables id (with_effect next_row e (staged_in (get t.tables id))) }
+unfoldable pub staged : Transaction → ℕ → List ℕ → ℕ → Effect → Transaction
+staged t id streams next_row e = record t {
+  tables = insert t.tables id (with_effect next_row e (staged_in (get t.tables id)));
+  streams = with_streams streams t.streams;
+}
 
 -- ---- its commit
 
@@ -79,13 +91,11 @@ edit_act entry = EditsRows entry.0 entry.1.edits
 abbrev pub touched : Transaction → List (ℕ × Staged)
 touched t = filter (λ entry. entry.1.is_touched) (entries t.tables)
 
-abbrev pub acts_in : List (ℕ × Staged) → Option (List Act)
-acts_in [] = None
-acts_in (entry ∷ others) = Some (map edit_act (entry ∷ others))
-
--- a version for each table that was touched, by rising ids
-unfoldable pub acts_of : Transaction → Option (List Act)
-acts_of t = acts_in (touched t)
+-- over the committed objects: a version for each table that was touched, and then the offset of each stream that was
+-- read, both by rising ids
+unfoldable pub acts_of : List Object → Transaction → Option (List Act)
+acts_of objects t =
+    acts_of_commit t.streams (offset_moves objects (start_of t) t.streams) (map edit_act (touched t))
 
 abbrev pub row_past : List Object → ℕ × Staged → Bool
 row_past objects entry =

@@ -27,7 +27,7 @@ counted start es count least most image low high is = record {
   stands = is;
   -- an image stands for one state alone
   sound = λ sound state stands. subst Sound (file_fixes_state image (committed_after start es count) state is stands)
-      (sound_rest (after start (take count es)).state (sound_after start (take count es) sound));
+      (sound_rest (after start (take count es)).state (sound_after start (take count es) sound).state);
 }
 
 -- what was committed after the first events

@@ -9,9 +9,11 @@ use Rattle.std.specs.FinMap.Entries.{put}
 use Rattle.std.specs.Ordering.{nat_cmp, eq_by_cmp}
 use Rattle.std.specs.Cmp.{nat_cmp_total}
 use Rattle.wh_value.specs.Value.{Number, Truth, Text, Row}
-use Rattle.wh_machine.specs.State.{Rows, Table, version_at}
+use Rattle.wh_machine.specs.State.{Rows, Table, Stream, version_at}
+use Rattle.wh_machine.specs.Outcome.{MovesOffset}
+use Rattle.wh_machine.specs.Streams.{with_streams, offset_move, acts_of_commit}
 use Rattle.wh_streams.specs.Net.{deleted, inserted, net, appended}
-use Rattle.wh_streams.specs.Stream.{Stream, Standard, AppendOnly, shown, shown_row, is_stale, offset_after}
+use Rattle.wh_streams.specs.Stream.{shown, shown_row, is_stale}
 
 abbrev row : ℕ → Row
 row k = Number (pos k) ∷ []
@@ -61,10 +63,10 @@ table = record {
 }
 
 abbrev standard : ℕ → Stream
-standard offset = record { source = 7; kind = Standard; offset = offset }
+standard offset = record { source = 7; is_append_only = false; offset = offset; columns = [] }
 
 abbrev append_only : ℕ → Stream
-append_only offset = record { source = 7; kind = AppendOnly; offset = offset }
+append_only offset = record { source = 7; is_append_only = true; offset = offset; columns = [] }
 
 -- a row that came and changed behind the offset came as it is now
 an_inserted_row : shown table (standard 2) 5 ≡ inserted 2 false (row 21) ∷ []
@@ -100,6 +102,15 @@ three_columns = refl
 staleness : (is_stale table (standard 5) 1209600005 ≡ false) × (is_stale table (standard 5) 1209600006 ≡ true)
 staleness = (refl, refl)
 
--- an offset doesn't go back
-offsets : (offset_after (standard 5) 9 ≡ 9) × (offset_after (standard 5) 3 ≡ 5)
-offsets = (refl, refl)
+-- in the commit that consumes it an offset moves up to the start, and never back
+offsets : (offset_move 9 3 (Some (standard 5)) ≡ MovesOffset 3 9 ∷ []) × (offset_move 5 3 (Some (standard 5)) ≡ [])
+    × (offset_move 3 3 (Some (standard 5)) ≡ [])
+offsets = (refl, refl, refl)
+
+-- each stream once, by rising ids
+read_once : with_streams (7 ∷ 3 ∷ 7 ∷ 5 ∷ []) (4 ∷ 5 ∷ []) ≡ 3 ∷ 4 ∷ 5 ∷ 7 ∷ []
+read_once = refl
+
+-- a commit of a stream that is read alone has no change where its offset stays, and is a commit
+commits : (acts_of_commit [] [] [] ≡ None) × (acts_of_commit (3 ∷ []) [] [] ≡ Some [])
+commits = (refl, refl)

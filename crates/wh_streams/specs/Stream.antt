@@ -1,25 +1,16 @@
 -- A stream on a table: the changes behind its offset.
---     Stream             its source by the object's id, its kind, and its offset, which is a stamp
---     rows_at            the rows of a table at a time
---     shown              what a stream shows up to a stamp
---     shown_row          a record as a row, with the three columns that streams have more
---     is_stale           an offset that lies too far back
---     offset_after       the offset behind a commit that consumes the stream
-use Rattle.std.specs.Prelude.{ℕ, ◌+◌, ◌*◌, max, Bool, if◌then◌else◌, List, [], ◌∷◌, ◌++◌, map}
-use Rattle.std.specs.Prelude.{codes, decimal, nat_le, nat_lt}
+--     rows_at              the rows of a table at a time
+--     shown                what a stream shows up to a stamp
+--     shown_row            a record as a row, with the three columns that streams have more
+--     rows_shown           the rows of a stream among objects
+--     last_read, is_stale  the last stamp at which a stream is read, and an offset that lies too far back
+use Rattle.std.specs.Prelude.{ℕ, ◌+◌, ◌*◌, max, Bool, true, false, if◌then◌else◌, List, [], ◌∷◌, ◌++◌, map, Option}
+use Rattle.std.specs.Prelude.{Some, None, codes, decimal, nat_le, nat_lt}
 use Rattle.std.specs.List.{filter}
 use Rattle.wh_value.specs.Value.{Truth, Text, Row}
-use Rattle.wh_machine.specs.State.{Rows, Table, nothing_held, content_in, last_of}
+use Rattle.wh_machine.specs.State.{Rows, Table, Stream, Object, nothing_held, content_in, last_of}
+use Rattle.wh_machine.specs.Objects.{table_at}
 use Rattle.wh_streams.specs.Net.{Action, Delete, Insert, Record, net, appended}
-
-pub data Kind : Type 0 where
-  Standard : Kind
-  AppendOnly : Kind
-
-pub record Stream : Type 0 where
-  pub source : ℕ
-  pub kind : Kind
-  pub offset : ℕ
 
 -- ---- what it shows
 
@@ -27,13 +18,13 @@ pub record Stream : Type 0 where
 abbrev pub rows_at : Table → ℕ → Rows
 rows_at t time = (content_in nothing_held (last_of (filter (λ v. nat_le v.data_timestamp time) t.versions))).rows
 
-abbrev pub records_between : Kind → Table → ℕ → ℕ → List Record
-records_between Standard t from to = net (rows_at t from) (rows_at t to)
-records_between AppendOnly t from to = appended t.versions from to
+abbrev pub records_between : Bool → Table → ℕ → ℕ → List Record
+records_between false t from to = net (rows_at t from) (rows_at t to)
+records_between true t from to = appended t.versions from to
 
 -- nothing where the offset isn't before the stamp
 unfoldable pub shown : Table → Stream → ℕ → List Record
-shown t s to = if nat_le to s.offset then [] else records_between s.kind t s.offset to
+shown t s to = if nat_le to s.offset then [] else records_between s.is_append_only t s.offset to
 
 -- ---- its rows: those of the source with three columns behind
 
@@ -49,8 +40,12 @@ abbrev pub shown_row : ℕ → Record → Row
 shown_row source r =
     r.row ++ Text (action_text r.action) ∷ Truth r.is_update ∷ Text (row_id_text source r.number) ∷ []
 
-abbrev pub rows_shown : Table → Stream → ℕ → List Row
-rows_shown t s to = map (shown_row s.source) (shown t s to)
+abbrev pub rows_on : Option Table → Stream → ℕ → List Row
+rows_on None s to = []
+rows_on (Some t) s to = map (shown_row s.source) (shown t s to)
+
+abbrev pub rows_shown : List Object → Stream → ℕ → List Row
+rows_shown objects s to = rows_on (table_at objects s.source) s to
 
 -- ---- how far back it may lie
 
@@ -63,8 +58,3 @@ last_read t s = s.offset + max t.retention 14 * milliseconds_of_a_day
 
 abbrev pub is_stale : Table → Stream → ℕ → Bool
 is_stale t s stamp = nat_lt (last_read t s) stamp
-
--- ---- consumption, in a transaction that reads up to its start
-
-abbrev pub offset_after : Stream → ℕ → ℕ
-offset_after s start = max s.offset start

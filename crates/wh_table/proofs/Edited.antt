@@ -7,7 +7,7 @@ use Rattle.wh_machine.specs.Commit.{AllApart, pushed}
 use Rattle.wh_machine.specs.Edits.{Edits, without}
 use Rattle.wh_machine.specs.Outcome.{edited_table}
 use Rattle.wh_machine.specs.Stored.{StoredVersion, standing, rows_of, table_meant}
-use Rattle.wh_machine.proofs.ActLaws.{version_change, edited_meant}
+use Rattle.wh_machine.proofs.ActLaws.{version_change, edited_meant, orderly_standing}
 use Rattle.wh_machine.proofs.MeaningLaws.{last_rows_meant}
 use Rattle.wh_version.specs.History.{versions_of}
 use Rattle.wh_table.specs.declared.editing.EditedTable.{EditedTable}
@@ -34,7 +34,7 @@ module _ (t : StoredTable) (edited : EditedTable) (e : Edits) (is : IsEdited edi
         content = without (is.removed i) (standing (table_of t)) ++ is.added i;
       }) ∷ []))))
       ∙ sym (last_rows_meant (pushed stamp (version_change stamp 0 e (table_of t)) (table_of t)))
-      ∙ ap last_rows (edited_meant stamp 0 e (table_of t) (orderly_table t))
+      ∙ ap last_rows (edited_meant stamp 0 e (table_of t) (orderly_standing (table_of t) (orderly_table t)))
 
   pub edited_apart : AllApart [] (without edited.removed.items (standing (table_of t)) ++ edited.added.items)
   unfolding kept_table

@@ -6,6 +6,7 @@ pub mod Pushed
 pub mod Rising
 pub mod OrderlyTables
 pub mod Chain
+pub mod ChangedRows
 pub mod Entries
 pub mod Standing
 pub mod Edited

@@ -1,57 +1,84 @@
--- What stands in a table is orderly.
-use Rattle.std.proofs.Common.{◌≡◌, ℕ, ◌+◌, ◌≤◌, ◌^◌, Bool, true, false, cond, List, [], ◌∷◌, length, map, filter}
-use Rattle.std.proofs.Common.{IsTrue, sym, subst, arith}
-use Rattle.std.proofs.lemmas.Bool.{and_parts, eqb-true}
+-- What stands in each version of a table is orderly.
+use Rattle.std.proofs.Common.{◌≡◌, ℕ, zero, suc, ◌+◌, ◌≤◌, ◌^◌, Bool, true, false, cond, List, []}
+use Rattle.std.proofs.Common.{◌∷◌, length, map, filter, take, IsTrue, refl, arith}
+use Rattle.std.proofs.lemmas.Bool.{and_parts, and_from, eqb-true}
 use Rattle.std.specs.Prelude.{nat_eq}
-use Rattle.wh_frame.specs.Partition.{Partition}
+use Rattle.std.specs.List.{AllByRecursion, list_all}
 use Rattle.wh_machine.specs.Spelling.{NumbersRiseFrom}
-use Rattle.wh_machine.specs.Stored.{standing}
-use Rattle.wh_machine.specs.Orderly.{IsOrderly}
-use Rattle.wh_version.specs.declared.history.History.{History}
+use Rattle.wh_machine.specs.Orderly.{IsOrderly, IsOrderlyVersion, IsOrderlyTable}
 use Rattle.wh_version.specs.declared.kept.Kept.{Kept}
-use Rattle.wh_version.specs.Kept.{partitions_in, is_standing, numbered_from}
-use Rattle.wh_version.specs.History.{versions_of, standing_in}
-use Rattle.wh_version.proofs.Last.{standing_still}
+use Rattle.wh_version.specs.declared.mark.VersionMark.{VersionMark}
+use Rattle.wh_version.specs.Kept.{partitions_in, numbered_from, stands_at, version_by, versions_by}
+use Rattle.wh_version.specs.History.{versions_of, marks_of}
+use Rattle.wh_table.specs.Apart.{is_apart, is_rising}
 use Rattle.wh_table.specs.declared.table.StoredTable.{StoredTable}
 use Rattle.wh_table.specs.Table.{kept_table, table_of}
 use Rattle.wh_table.proofs.Apart.{Decides-all_apart}
-use Rattle.wh_table.proofs.Pushed.{last_apart}
-use Rattle.wh_table.proofs.Rising.{last_rising, all_rising}
+use Rattle.wh_table.proofs.Rising.{all_rising}
 
--- the numbers of those that stand rise, as all numbers do
-numbers_rise : (low next : ℕ) (kept : List Kept) → low ≤ next → next + length kept ≤ 2 ^ 64
-    → IsTrue (numbered_from next (partitions_in kept))
-    → NumbersRiseFrom low (map (λ p. p.number) (partitions_in (filter is_standing kept)))
-numbers_rise low next [] under few numbers = tt
-numbers_rise low next (k ∷ kept) under few numbers =
+-- the numbers of some of them rise, as all numbers do
+numbers_rise : (keep : Kept → Bool) (low next : ℕ) (kept : List Kept) → low ≤ next
+    → next + length kept ≤ 2 ^ 64 → IsTrue (numbered_from next (partitions_in kept))
+    → NumbersRiseFrom low (map (λ p. p.number) (partitions_in (filter keep kept)))
+numbers_rise keep low next [] under few numbers = tt
+numbers_rise keep low next (k ∷ kept) under few numbers =
     let parts = and_parts (nat_eq k.partition.number next) (numbered_from (next + 1) (partitions_in kept)) numbers in
     let here : k.partition.number ≡ next = eqb-true k.partition.number next parts.0 in
-    pick (is_standing k) here (numbers_rise low (next + 1) kept (omega arith) (omega arith) parts.1)
-    (numbers_rise (k.partition.number + 1) (next + 1) kept (omega arith) (omega arith) parts.1)
+    pick (keep k) here (numbers_rise keep low (next + 1) kept (omega arith) (omega arith) parts.1)
+    (numbers_rise keep (k.partition.number + 1) (next + 1) kept (omega arith) (omega arith) parts.1)
   where
     pick : (s : Bool) → k.partition.number ≡ next
-        → NumbersRiseFrom low (map (λ p. p.number) (partitions_in (filter is_standing kept)))
-        → NumbersRiseFrom (k.partition.number + 1) (map (λ p. p.number) (partitions_in (filter is_standing kept)))
+        → NumbersRiseFrom low (map (λ p. p.number) (partitions_in (filter keep kept)))
+        → NumbersRiseFrom (k.partition.number + 1) (map (λ p. p.number) (partitions_in (filter keep kept)))
         → NumbersRiseFrom low
-        (map (λ p. p.number) (partitions_in (cond s (k ∷ filter is_standing kept) (filter is_standing kept))))
+        (map (λ p. p.number) (partitions_in (cond s (k ∷ filter keep kept) (filter keep kept))))
     pick true here passed taken = (omega arith, omega arith, taken)
     pick false here passed taken = passed
 
-history_numbers : (h : History) → NumbersRiseFrom 0 (map (λ p. p.number) (standing_in (versions_of h)))
-unfolding versions_of
-history_numbers h =
-    let sized = h.later.ok.0 in
-    let many = h.kept.ok.0 in
-    let still = standing_still h.kept.items h.first h.later.items (omega arith) h.marks h.gone in
-    let P : List Partition → Type 0 = λ ps. NumbersRiseFrom 0 (map (λ p. p.number) ps) in
-    subst P (sym still) (numbers_rise 0 1 h.kept.items (omega arith) (omega arith) h.numbers)
+-- ---- the first ones of all
 
-pub orderly_table : (t : StoredTable) → IsOrderly (standing (table_of t))
-unfolding kept_table
+front_numbered : (count next : ℕ) (kept : List Kept) → IsTrue (numbered_from next (partitions_in kept))
+    → IsTrue (numbered_from next (partitions_in (take count kept)))
+front_numbered zero next kept numbers = refl
+front_numbered (suc count) next [] numbers = refl
+front_numbered (suc count) next (k ∷ kept) numbers =
+    let parts = and_parts (nat_eq k.partition.number next) (numbered_from (next + 1) (partitions_in kept)) numbers in
+    and_from _ _ parts.0 (front_numbered count (next + 1) kept parts.1)
+
+front_few : (count : ℕ) (kept : List Kept) → length (take count kept) ≤ length kept
+front_few zero kept = omega arith
+front_few (suc count) [] = omega arith
+front_few (suc count) (k ∷ kept) = let rest = front_few count kept in omega arith
+
+version_numbers : (kept : List Kept) (place : ℕ) (mark : VersionMark) → 1 + length kept ≤ 2 ^ 64
+    → IsTrue (numbered_from 1 (partitions_in kept))
+    → NumbersRiseFrom 0 (map (λ p. p.number) (version_by kept place mark).content)
+version_numbers kept place mark few numbers =
+    let fewer = front_few mark.partitions kept in
+    numbers_rise (stands_at place) 0 1 (take mark.partitions kept) (omega arith) (omega arith)
+    (front_numbered mark.partitions 1 kept numbers)
+
+-- ---- each version
+
+orderly_versions : (kept : List Kept) (place : ℕ) (marks : List VersionMark) → 1 + length kept ≤ 2 ^ 64
+    → IsTrue (numbered_from 1 (partitions_in kept)) → IsTrue (list_all is_apart (versions_by kept place marks))
+    → IsTrue (list_all is_rising (versions_by kept place marks))
+    → AllByRecursion IsOrderlyVersion (versions_by kept place marks)
+orderly_versions kept place [] few numbers apart rising = tt
+orderly_versions kept place (mark ∷ marks) few numbers apart rising =
+    let content = (version_by kept place mark).content in
+    let each_apart = and_parts _ _ apart in
+    let each_rising = and_parts _ _ rising in
+    let here : IsOrderly content = record {
+      numbers = version_numbers kept place mark few numbers;
+      rows = all_rising content each_rising.0;
+      apart = (Decides-all_apart [] content).0 each_apart.0;
+    } in
+    (here, orderly_versions kept (place + 1) marks few numbers each_apart.1 each_rising.1)
+
+pub orderly_table : (t : StoredTable) → IsOrderlyTable (table_of t)
+unfolding kept_table versions_of
 orderly_table t =
-    let versions = versions_of t.history in
-    record {
-      numbers = history_numbers t.history;
-      rows = all_rising (standing_in versions) (last_rising versions t.rising);
-      apart = (Decides-all_apart [] (standing_in versions)).0 (last_apart versions t.apart);
-    }
+    let h = t.history in
+    let many = h.kept.ok.0 in
+    orderly_versions h.kept.items 0 (marks_of h) (omega arith) h.numbers t.apart t.rising

@@ -1,6 +1,7 @@
 pub mod Apart
 pub mod Rows
 pub mod Chain
+pub mod Changes
 pub mod Conditions
 pub mod Kept
 pub mod Table

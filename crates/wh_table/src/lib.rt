@@ -2,6 +2,7 @@
 #![tactic(auto, unfolding(crate::specs::Table::kept_table))]
 
 mod by_number;
+mod changes;
 mod comparing;
 mod editing;
 mod fault;

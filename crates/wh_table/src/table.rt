@@ -56,6 +56,13 @@ impl StoredTable {
         self.columns.as_slice()
     }
 
+    /// How many days its changes are kept.
+    pub fn retention(&self) -> u8
+        ensures { result ≡ (table_of self.now).retention }
+    {
+        self.retention
+    }
+
     pub fn next_row(&self) -> u64
         ensures number { result ≡ (table_of self.now).next_row }
         ensures bounded { result ≤ bound limits.RowNumber }

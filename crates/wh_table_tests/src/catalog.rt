@@ -6,7 +6,7 @@ use wh_record::{Change, Commit, TableChange, VersionChange};
 use wh_value::{Column, ColumnType, Row, Text, Value};
 use wh_version::Edits;
 
-fn text(rt: &impl Abort, alloc: Global, bytes: &[u8]) -> Text {
+pub(crate) fn text(rt: &impl Abort, alloc: Global, bytes: &[u8]) -> Text {
     let made = Text::from_bytes(alloc, bytes).expect(rt, "no text");
     made.expect(rt, "memory")
 }
@@ -40,11 +40,17 @@ fn creation(
 }
 
 // A new table of one column.
-fn new_table(rt: &impl Abort, alloc: Global, stamp: u64, id: u32, name: &[u8]) -> Commit {
+pub(crate) fn new_table(
+    rt: &impl Abort,
+    alloc: Global,
+    stamp: u64,
+    id: u32,
+    name: &[u8],
+) -> Commit {
     creation(rt, alloc, stamp, id, name, 1, 1, ColumnType::Number)
 }
 
-fn commit(rt: &impl Abort, alloc: Global, stamp: u64, change: Change) -> Commit {
+pub(crate) fn commit(rt: &impl Abort, alloc: Global, stamp: u64, change: Change) -> Commit {
     let mut changes = Vec::new(alloc);
     changes.push(change).expect(rt, "memory");
     Commit { stamp, changes }
@@ -118,7 +124,7 @@ fn both(rt: &impl Abort, first: Commit, second: Commit) -> Commit {
     }
 }
 
-fn carry_out(rt: &impl Abort, catalog: &mut Catalog, commit: Commit) -> Undo {
+pub(crate) fn carry_out(rt: &impl Abort, catalog: &mut Catalog, commit: Commit) -> Undo {
     catalog.stage(commit).expect(rt, "a commit that applies")
 }
 
@@ -129,12 +135,18 @@ fn is_refused(catalog: &mut Catalog, commit: Commit) -> bool {
     }
 }
 
-fn assert_refused(rt: &impl Abort, catalog: &mut Catalog, commit: Commit, case: &str) {
+pub(crate) fn assert_refused(rt: &impl Abort, catalog: &mut Catalog, commit: Commit, case: &str) {
     assert!(rt; is_refused(catalog, commit), "{case}");
 }
 
 // The object that is found by a name.
-fn assert_found(rt: &impl Abort, catalog: &Catalog, name: &[u8], id: Option<u32>, case: &str) {
+pub(crate) fn assert_found(
+    rt: &impl Abort,
+    catalog: &Catalog,
+    name: &[u8],
+    id: Option<u32>,
+    case: &str,
+) {
     assert_eq!(rt; catalog.find(name), id, "{case}");
 }
 
@@ -215,7 +227,7 @@ fn gives_up(
 }
 
 // A table `t` with a row of number 5 in its first partition, at the stamp 12.
-fn one_table(rt: &impl Abort, alloc: Global) -> Catalog {
+pub(crate) fn one_table(rt: &impl Abort, alloc: Global) -> Catalog {
     let mut catalog = Catalog::new(alloc);
     let created = creation(rt, alloc, 10, 1, b"t", 1, 1, ColumnType::Number);
     carry_out(rt, &mut catalog, created);
@@ -303,7 +315,7 @@ fn a_commit_is_carried_out_whole_or_not_at_all(rt: HostRuntime) {
     assert_filled(&rt, alloc, &mut catalog);
 }
 
-fn drop_of(rt: &impl Abort, alloc: Global, stamp: u64, id: u32) -> Commit {
+pub(crate) fn drop_of(rt: &impl Abort, alloc: Global, stamp: u64, id: u32) -> Commit {
     commit(rt, alloc, stamp, Change::Drops(id))
 }
 

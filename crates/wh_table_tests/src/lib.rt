@@ -4,4 +4,6 @@
 #[cfg(test)]
 mod catalog;
 #[cfg(test)]
+mod streams;
+#[cfg(test)]
 mod versions;

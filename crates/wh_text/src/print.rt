@@ -4,7 +4,7 @@ ghost use Rattle.wh_value.specs.Limit.{bound};
 ghost use Rattle.wh_value.specs.Value.{literal};
 ghost use Rattle.wh_value.specs.View.{value_of};
 ghost use Rattle.wh_reply.specs.Reply.{print, line, parted, values_text, row_line, limit_word};
-ghost use Rattle.wh_reply.specs.Reply.{refusal_text};
+ghost use Rattle.wh_reply.specs.Reply.{refusal_text, truth_text};
 ghost use Rattle.wh_reply.specs.View.{reply_view, refusal_view};
 
 use std::alloc::{AllocError, Global};
@@ -30,6 +30,9 @@ fn put_reply(reply: &Reply, out: &mut Bytes) -> Result<(), AllocError>
     match reply {
         Reply::CreatedTable(name) => put_name_line(b"CREATED TABLE ", name, out),
         Reply::DroppedTable(name) => put_name_line(b"DROPPED TABLE ", name, out),
+        Reply::CreatedStream(name) => put_name_line(b"CREATED STREAM ", name, out),
+        Reply::DroppedStream(name) => put_name_line(b"DROPPED STREAM ", name, out),
+        Reply::HasData(has) => put_truth_line(*has, out),
         Reply::Inserted(count) => put_count_line(b"INSERTED ", *count, out),
         Reply::Updated(count) => put_count_line(b"UPDATED ", *count, out),
         Reply::Deleted(count) => put_count_line(b"DELETED ", *count, out),
@@ -76,6 +79,16 @@ fn put_number(front: &[u8], number: u64, out: &mut Bytes) -> Result<(), AllocErr
     out.extend_decimal(number)
 }
 
+fn put_truth_line(truth: bool, out: &mut Bytes) -> Result<(), AllocError>
+    ensures { OnOk result (out.new ≡ out.old ++ line (truth_text truth)) }
+{
+    if truth {
+        out.extend(b"TRUE\n")
+    } else {
+        out.extend(b"FALSE\n")
+    }
+}
+
 fn put_merged(inserted: u64, updated: u64, deleted: u64, out: &mut Bytes) -> Result<(), AllocError>
     ensures { OnOk result (out.new ≡ out.old ++ line (codes "MERGED " ++ decimal inserted
         ++ codes " INSERTED " ++ decimal updated ++ codes " UPDATED " ++ decimal deleted
@@ -109,10 +122,20 @@ fn put_refusal(refusal: &Refusal, out: &mut Bytes) -> Result<(), AllocError>
         Refusal::WrongKind(name) => put_name(b"E8 WrongKind ", name, out),
         Refusal::TypeMismatch => out.extend(b"E9 TypeMismatch"),
         Refusal::OverLimit(limit) => put_limit(*limit, out),
+        Refusal::SourceGone(name) => put_name(b"E15 SourceGone ", name, out),
+        Refusal::StaleStream { offset, last_read } => put_stale(*offset, *last_read, out),
         Refusal::Locked(number) => put_number(b"E18 Locked ", *number, out),
         Refusal::NumberOutOfRange => out.extend(b"E19 NumberOutOfRange"),
         Refusal::AmbiguousMerge(row) => put_named_row(b"E20 AmbiguousMerge ", row, out),
     }
+}
+
+fn put_stale(offset: u64, last_read: u64, out: &mut Bytes) -> Result<(), AllocError>
+    ensures { OnOk result (out.new ≡ out.old ++ (codes "E16 StaleStream " ++ decimal offset
+        ++ codes " " ++ decimal last_read)) }
+{
+    put_number(b"E16 StaleStream ", offset, out)?;
+    put_number(b" ", last_read, out)
 }
 
 fn put_named_row(front: &[u8], row: &Row, out: &mut Bytes) -> Result<(), AllocError>

@@ -2,3 +2,4 @@ pub mod SlotLemmas
 pub mod TableLemmas
 pub mod SeenLemmas
 pub mod RecordLemmas
+pub mod CommitLemmas

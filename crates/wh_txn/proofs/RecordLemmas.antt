@@ -1,9 +1,8 @@
--- The commit of a transaction.
+-- The versions that a transaction's edits are written as, and the numbers in them.
 --     no_version, one_version        the version that is written for a table
 --     missing_within, rows_within, partitions_within, partitions_past     whether its numbers pass their limits
 --     row_first, partition_first     the first limit that is passed
---     none_touched, some_touched     the commit where no table was touched, and where some were
-use Rattle.std.proofs.Common.{◌≡◌, ℕ, suc, ◌+◌, ◌<◌, ◌≤◌, true, false, List, [], ◌∷◌, ◌++◌, length, map}
+use Rattle.std.proofs.Common.{◌≡◌, ℕ, ◌+◌, ◌≤◌, true, false, List, [], ◌∷◌, length}
 use Rattle.std.proofs.Common.{Option, Some, None, option_map, refl, sym, ap, ◌∙◌, arith}
 use Rattle.std.specs.Prelude.{nat_le, nat_lt}
 use Rattle.std.proofs.lemmas.Bool.Decides.{nat_tests}
@@ -12,20 +11,17 @@ use Rattle.wh_value.specs.declared.limit.Limit.{Limit}
 use Rattle.wh_value.specs.declared.limit.Limit.TheVariants as limits
 use Rattle.wh_machine.specs.State.{Object, Table, at_id}
 use Rattle.wh_machine.specs.Edits.{Edits, partitions_made}
-use Rattle.wh_machine.specs.Stored.{Stored, StoredTable, StoredKind, StoredTableKind, StoredObject}
+use Rattle.wh_machine.specs.Stored.{StoredTable, StoredKind, StoredTableKind, StoredStreamKind, StoredObject}
 use Rattle.wh_machine.specs.Stored.{standing, table_meant}
-use Rattle.wh_machine.specs.Commit.{Change, all_changed}
-use Rattle.wh_machine.specs.Written.{version_written, version_written_to, act_written, written, commit_for}
-use Rattle.wh_machine.specs.Outcome.{EditsRows}
-use Rattle.wh_machine.proofs.ActLaws.{edit_leaves}
+use Rattle.wh_machine.specs.Commit.{Change}
+use Rattle.wh_machine.specs.Written.{version_written, version_written_to}
 use Rattle.wh_machine.proofs.MeaningLaws.{last_partitions_meant}
 use Rattle.wh_catalog.specs.Catalog.{stored_of, state_of, stored_table_at, table_in_object}
 use Rattle.wh_catalog.specs.declared.catalog.Catalog.{Catalog}
-use Rattle.wh_sessions.specs.Transaction.{Staged, Transaction, touched, acts_in, acts_of, edit_act}
+use Rattle.wh_sessions.specs.Transaction.{Staged, Transaction, touched}
 use Rattle.wh_sessions.specs.Transaction.{first_past, row_past, partition_past, past_limit, or_else}
 use Rattle.wh_sessions.specs.Transaction.{next_row_of, next_partition_of}
-use Rattle.wh_sessions.proofs.EntryLaws.{RiseFrom, entries_rise}
-use Rattle.wh_txn.specs.Recording.{version_for, versions_for}
+use Rattle.wh_txn.specs.Recording.{version_for}
 use Rattle.wh_txn.proofs.SeenLemmas.{catalog_table}
 
 -- ---- one version
@@ -42,6 +38,7 @@ written_to stamp id e (Some o) = by_kind o.kind refl
     by_kind : (k : StoredKind) → o.kind ≡ k
         → version_written_to stamp id e (Some o) ≡ written_for stamp id e (table_in_object (Some o))
     by_kind (StoredTableKind t) is = rw is
+    by_kind (StoredStreamKind k) is = rw is
 
 pub no_version : (stamp : ℕ) (objects : List StoredObject) (id : ℕ) (s : Staged) → stored_table_at objects id ≡ None
     → version_for stamp objects (id, s) ≡ []
@@ -98,43 +95,6 @@ module _ (c : Catalog) (id : ℕ) (s : Staged) where
     pub partitions_past : false ≡ nat_le behind (bound limits.PartitionNumber)
         → partition_past (state_of c).objects (id, s) ≡ true
     partitions_past past = partition_is ∙ fits_past behind (bound limits.PartitionNumber) past
-
--- ---- several, by rising ids: none of them changes what a later one is written over
-
-written_apart : (stamp least : ℕ) (objects now : List StoredObject) (es : List (ℕ × Staged)) → RiseFrom least es
-    → ((id : ℕ) → least ≤ id → at_id now id ≡ at_id objects id)
-    → written stamp now (map edit_act es) ≡ versions_for stamp objects es
-written_apart stamp least objects now [] rising same = refl
-written_apart stamp least objects now (e ∷ es) rising same =
-    let next : List StoredObject = all_changed stamp now (act_written stamp now (EditsRows e.0 e.1.edits)) in
-    let here : act_written stamp now (EditsRows e.0 e.1.edits) ≡ version_for stamp objects e =
-    ap (version_written_to stamp e.0 e.1.edits) (same e.0 rising.0) in
-    let others : written stamp next (map edit_act es) ≡ versions_for stamp objects es =
-    written_apart stamp (suc e.0) objects next es rising.1 (λ later behind.
-    edit_leaves stamp e.0 e.1.edits now later (omega (arith, behind)) ∙ same later (omega (arith, behind, rising.0))) in
-    (λ i. here i ++ others i)
-
-pub no_length : {X : Type 0} (xs : List X) → length xs ≡ 0 → xs ≡ []
-no_length [] none = refl
-no_length (x ∷ xs) none = absurd (omega arith)
-
-pub none_touched : (s : Stored) (stamp : ℕ) (t : Transaction) → touched t ≡ []
-    → None ≡ option_map (commit_for s stamp) (acts_of t)
-unfolding acts_of
-none_touched s stamp t none = sym (ap (λ es. option_map (commit_for s stamp) (acts_in es)) none)
-
-pub some_touched : (s : Stored) (stamp : ℕ) (t : Transaction) (changes : List Change) → 0 < length (touched t)
-    → changes ≡ versions_for stamp s.objects (touched t)
-    → Some (record { stamp = stamp; changes = changes }) ≡ option_map (commit_for s stamp) (acts_of t)
-unfolding acts_of
-some_touched s stamp t changes some made = by_touched (touched t) (entries_rise t) some made
-  where
-    by_touched : (es : List (ℕ × Staged)) → RiseFrom 0 es → 0 < length es → changes ≡ versions_for stamp s.objects es
-        → Some (record { stamp = stamp; changes = changes }) ≡ option_map (commit_for s stamp) (acts_in es)
-    by_touched [] rising some made = absurd (omega arith)
-    by_touched (e ∷ es) rising some made =
-        ap (λ cs. Some (record { stamp = stamp; changes = cs }))
-        (made ∙ sym (written_apart stamp 0 s.objects s.objects (e ∷ es) rising (λ id behind. refl)))
 
 -- ---- limits
 

@@ -1,23 +1,25 @@
 -- What a transaction sees of a table.
 --     own_table        a table with a transaction's own edits
---     catalog_table    the table of an id in the catalog
+--     catalog_table, catalog_stream     the table or the stream of an id in the catalog
 --     seen_in, seen_as     the table of an id that it sees, from the catalog's
 use Rattle.std.proofs.Common.{◌≡◌, ℕ, zero, suc, ◌+◌, List, [], ◌∷◌, map, Option, Some, None, option_map}
 use Rattle.std.proofs.Common.{refl, ap, ◌∙◌, arith}
 use Rattle.std.specs.Prelude.{slice_get}
 use Rattle.std.specs.Ordering.{nat_cmp}
 use Rattle.std.specs.FinMap.{FinMap, get}
-use Rattle.wh_machine.specs.State.{Kind, TableKind, Object, Table, at_id, stamped}
+use Rattle.wh_machine.specs.State.{Kind, TableKind, StreamKind, Object, Table, Stream, at_id, stamped}
 use Rattle.wh_machine.specs.Outcome.{edited_table}
-use Rattle.wh_machine.specs.Tables.{as_table, table_at}
-use Rattle.wh_machine.specs.Stored.{StoredTable, StoredKind, StoredTableKind, StoredObject, table_meant, object_meant}
+use Rattle.wh_machine.specs.Objects.{as_table, table_at, stream_at}
+use Rattle.wh_machine.specs.Stored.{StoredTable, StoredKind, StoredTableKind, StoredStreamKind, StoredObject, table_meant, object_meant}
 use Rattle.wh_machine.proofs.MeaningLaws.{table_at_meant, stored_table_in, stored_table_of}
+use Rattle.wh_machine.proofs.MeaningLaws.{stream_at_meant, stored_stream_in, stored_stream_of}
 use Rattle.wh_catalog.specs.Catalog.{stored_of, state_of, stored_table_at, table_in_kind, table_in_object}
+use Rattle.wh_catalog.specs.Catalog.{stored_stream_at, stream_in_kind, stream_in_object}
 use Rattle.wh_catalog.specs.declared.catalog.Catalog.{Catalog}
 use Rattle.wh_sessions.specs.Transaction.{Staged, Transaction, with_own, seen_from, seen}
 use Rattle.wh_txn.specs.Seen.{own}
 
--- ---- the table of an id in the catalog
+-- ---- the table and the stream of an id in the catalog
 
 same_table : (found : Option StoredObject) → stored_table_of found ≡ table_in_object found
 same_table None = refl
@@ -25,6 +27,7 @@ same_table (Some o) = by_kind o.kind
   where
     by_kind : (k : StoredKind) → stored_table_in k ≡ table_in_kind k
     by_kind (StoredTableKind t) = refl
+    by_kind (StoredStreamKind s) = refl
 
 objects_are : (c : Catalog) → (state_of c).objects ≡ map object_meant (stored_of c).objects
 unfolding state_of
@@ -36,6 +39,21 @@ catalog_table c id =
     ap (λ (objects : List Object). table_at objects id) (objects_are c)
     ∙ table_at_meant (stored_of c).objects id
     ∙ ap (option_map table_meant) (same_table (at_id (stored_of c).objects id))
+
+same_stream : (found : Option StoredObject) → stored_stream_of found ≡ stream_in_object found
+same_stream None = refl
+same_stream (Some o) = by_kind o.kind
+  where
+    by_kind : (k : StoredKind) → stored_stream_in k ≡ stream_in_kind k
+    by_kind (StoredTableKind t) = refl
+    by_kind (StoredStreamKind s) = refl
+
+pub catalog_stream : (c : Catalog) (id : ℕ)
+    → stream_at (state_of c).objects id ≡ stored_stream_at (stored_of c).objects id
+catalog_stream c id =
+    ap (λ (objects : List Object). stream_at objects id) (objects_are c)
+    ∙ stream_at_meant (stored_of c).objects id
+    ∙ same_stream (at_id (stored_of c).objects id)
 
 -- ---- with a transaction's own edits
 
@@ -72,6 +90,8 @@ table_seen stamp tables objects id = by_found (at_id objects id) refl
         → as_table (with_own stamp s o) ≡ option_map (own_table stamp s) (as_table o)
     by_kind o None (TableKind t) is = rw is
     by_kind o (Some s) (TableKind t) is = rw is
+    by_kind o None (StreamKind k) is = rw is
+    by_kind o (Some s) (StreamKind k) is = rw is
 
     by_found : (found : Option Object) → at_id objects id ≡ found
         → table_at (seen_from stamp 1 tables objects) id

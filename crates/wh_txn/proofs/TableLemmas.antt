@@ -20,7 +20,7 @@ use Rattle.wh_machine.specs.Edits.{Edits, edits_of}
 use Rattle.wh_machine.specs.Changes.{counted}
 use Rattle.wh_sessions.specs.Transaction as machine
 use Rattle.wh_txn.specs.declared.transaction.Staged.{Staged}
-use Rattle.wh_txn.specs.View.{staged_of, entry_of, tables_of, amended, with_edits}
+use Rattle.wh_txn.specs.View.{staged_of, entry_of, tables_of, amended, with_edits, with_reads}
 
 through : (b : Bool) (s : Staged) (found : Option Staged)
     → option_map staged_of (cond b (Some s) found) ≡ cond b (Some (staged_of s)) (option_map staged_of found)
@@ -125,8 +125,9 @@ held_again t old new id next_row later touches before s is there ends has =
     ap (λ (m : FinMap nat_cmp machine.Staged). record t { tables = m })
     (with_one old new id s has ∙ (λ i. insert (sym is i) id (staged i)))
 
-pub staged_is : (t : machine.Transaction) (id next_row : ℕ) (later : Edits) (touches : Bool) (e : Effect)
-    → later ≡ edits_of e → touches ≡ nat_lt 0 (counted e)
-    → with_edits next_row later touches id t ≡ machine.staged t id next_row e
+pub staged_is : (t : machine.Transaction) (id : ℕ) (streams : List ℕ) (next_row : ℕ) (later : Edits) (touches : Bool)
+    (e : Effect) → later ≡ edits_of e → touches ≡ nat_lt 0 (counted e)
+    → with_reads streams (with_edits next_row later touches id t) ≡ machine.staged t id streams next_row e
 unfolding machine.staged
-staged_is t id next_row later touches e is counts = (λ i. with_edits next_row (is i) (counts i) id t)
+staged_is t id streams next_row later touches e is counts =
+    (λ i. with_reads streams (with_edits next_row (is i) (counts i) id t))

@@ -2,10 +2,12 @@
 --     transaction_of     a transaction of the machine
 --     sessions_of        those of the sessions
 --     with_edits         a transaction with later edits of a table
+--     with_reads         a transaction that reads some streams more
 use Rattle.std.specs.Prelude.{ℕ, Bool, ◌||◌, List, map, option_map}
 use Rattle.std.specs.FinMap.{FinMap, from_entries, get, insert}
 use Rattle.std.specs.Ordering.{nat_cmp}
 use Rattle.wh_machine.specs.Edits.{Edits, later_edits}
+use Rattle.wh_machine.specs.Streams.{with_streams}
 use Rattle.wh_version.specs.Edits.{edits_in}
 use Rattle.wh_sessions.specs.Transaction as machine
 use Rattle.wh_sessions.specs.Sessions as machine_sessions
@@ -23,7 +25,11 @@ abbrev pub tables_of : List (ℕ × Staged) → FinMap nat_cmp machine.Staged
 tables_of entries = from_entries (map entry_of entries)
 
 abbrev pub transaction_of : Transaction → machine.Transaction
-transaction_of t = record { number = t.number; tables = tables_of t.tables.entries }
+transaction_of t = record {
+  number = t.number;
+  tables = tables_of t.tables.entries;
+  streams = t.streams.items;
+}
 
 unfoldable pub sessions_of : Sessions → machine_sessions.Sessions
 sessions_of s = map (option_map transaction_of) s.slots.items
@@ -39,3 +45,6 @@ amended next_row later touches s = record {
 abbrev pub with_edits : ℕ → Edits → Bool → ℕ → machine.Transaction → machine.Transaction
 with_edits next_row later touches id t =
     record t { tables = insert t.tables id (amended next_row later touches (machine.staged_in (get t.tables id))) }
+
+abbrev pub with_reads : List ℕ → machine.Transaction → machine.Transaction
+with_reads streams t = record t { streams = with_streams streams t.streams }

@@ -2,6 +2,8 @@
 #![tactic(auto, unfolding(crate::specs::View::sessions_of))]
 
 mod fault;
+mod ids;
+mod offsets;
 mod recording;
 mod seeing;
 mod sessions;
@@ -9,5 +11,7 @@ mod staging;
 mod transaction;
 
 pub use fault::RecordFault;
+pub use offsets::offset_changes;
+pub use recording::version;
 pub use seeing::TableSeen;
 pub use sessions::Sessions;

@@ -1,3 +1,4 @@
+use crate::offsets::add_offsets;
 use crate::transaction::{Staged, Transaction};
 use crate::{RecordFault, Sessions};
 use std::alloc::{AllocError, Global};
@@ -7,7 +8,7 @@ use wh_value::Limit;
 use wh_version::Rewritten;
 
 impl Sessions {
-    ghost use Rattle.std.specs.Prelude.{◌≡◌, ℕ, Some, None, Err, option_map, IfOk};
+    ghost use Rattle.std.specs.Prelude.{◌≡◌, ℕ, Some, None, Ok, Err, option_map, IfOk};
     ghost use Rattle.wh_value.specs.declared.limit.Limit.{Limit};
     ghost use Rattle.wh_record.specs.View.{commit_of};
     ghost use Rattle.wh_machine.specs.Written.{commit_for};
@@ -18,7 +19,9 @@ impl Sessions {
     ghost use Rattle.wh_txn.specs.declared.fault.RecordFault.TheVariants as faults;
 
     /// The commit of a session's open transaction at a stamp: a version for each table that it
-    /// touched. None exactly where it touched no table.
+    /// touched, and then the offset of each stream that it read, where it is below the
+    /// transaction's start. None exactly where it touched no table and read no stream, or where no
+    /// transaction is open.
     pub fn commit_record(
         &self,
         alloc: Global,
@@ -29,7 +32,9 @@ impl Sessions {
         ensures made { IfOk result (λ found. (t : machine.Transaction)
             → transaction_in (sessions_of self.now) session ≡ Some t
             → option_map commit_of found
-            ≡ option_map (commit_for (stored_of catalog.now) stamp) (machine.acts_of t)) }
+            ≡ option_map (commit_for (stored_of catalog.now) stamp)
+            (machine.acts_of (state_of catalog.now).objects t)) }
+        ensures closed { transaction_in (sessions_of self.now) session ≡ None → result ≡ Ok None }
         ensures within { IfOk result (λ found. (t : machine.Transaction)
             → transaction_in (sessions_of self.now) session ≡ Some t
             → machine.past_limit (state_of catalog.now).objects t ≡ None) }
@@ -44,14 +49,14 @@ impl Sessions {
     }
 }
 
-ghost use Rattle.std.specs.Prelude.{◌≡◌, ◌+◌, ◌++◌, ◌≤◌, ℕ, Some, None, Err, true, false, length, map};
+ghost use Rattle.std.specs.Prelude.{◌≡◌, ◌+◌, ◌++◌, ◌≤◌, ℕ, Some, None, Err, true, false, nat_eq, length, map};
 ghost use Rattle.std.specs.Prelude.{option_map, IfOk, OnOk};
 ghost use Rattle.wh_value.specs.Limit.{bound};
 ghost use Rattle.wh_value.specs.declared.limit.Limit.{Limit};
 ghost use Rattle.wh_value.specs.declared.limit.Limit.TheVariants as limits;
 ghost use Rattle.wh_record.specs.View.{change_of, commit_of};
 ghost use Rattle.wh_machine.specs.Commit.{PushesVersion};
-ghost use Rattle.wh_machine.specs.Tables.{table_at};
+ghost use Rattle.wh_machine.specs.Objects.{table_at};
 ghost use Rattle.wh_machine.specs.Written.{commit_for};
 ghost use Rattle.wh_version.specs.Edits.{edits_in};
 ghost use Rattle.wh_table.specs.Table.{table_of};
@@ -69,7 +74,7 @@ fn commit(
 ) -> Result<Option<Commit>, RecordFault>
     ensures made { IfOk result (λ found. option_map commit_of found
         ≡ option_map (commit_for (stored_of catalog.now) stamp)
-        (machine.acts_of (transaction_of transaction.now))) }
+        (machine.acts_of (state_of catalog.now).objects (transaction_of transaction.now))) }
     ensures within { IfOk result (λ found.
         machine.past_limit (state_of catalog.now).objects (transaction_of transaction.now) ≡ None) }
     ensures limit { (id : ℕ) (which : Limit) → result ≡ Err (faults.Limit id which)
@@ -83,11 +88,24 @@ fn commit(
             which: Limit::RowNumber,
         });
     }
-    let changes = versions(alloc, catalog, stamp, &touched)?;
-    if touched.is_empty() {
+    let mut changes = versions(alloc, catalog, stamp, &touched)?;
+    if is_idle(&touched, &transaction.streams) {
         return Ok(None);
     }
+    add_offsets(
+        &mut changes,
+        catalog,
+        transaction.start(),
+        &transaction.streams,
+    )?;
     Ok(Some(Commit { stamp, changes }))
+}
+
+// Whether a transaction touched none of the tables and read none of the streams.
+fn is_idle(touched: &[TouchedTable<'_>], streams: &[u32]) -> bool
+    ensures { result ≡ nat_eq (length touched.now + length streams.now) 0 }
+{
+    touched.is_empty() && streams.is_empty()
 }
 
 /// A table that a transaction touched, and what is staged for it.
@@ -205,8 +223,8 @@ fn add_version(
     Ok(())
 }
 
-// A version of the table with these partitions in the place of others, and so many rows more.
-fn version(stamp: u64, id: u32, more: u64, table: &StoredTable, rewritten: Rewritten) -> Change
+/// A version of the table with these partitions in the place of others, and so many rows more.
+pub fn version(stamp: u64, id: u32, more: u64, table: &StoredTable, rewritten: Rewritten) -> Change
     requires { (table_of table.now).next_row + more ≤ bound limits.RowNumber }
     ensures { change_of result ≡ PushesVersion (record {
       id = id;

@@ -20,7 +20,7 @@ pub enum TableSeen<'a> {
 impl Sessions {
     ghost use Rattle.std.specs.Prelude.{◌≡◌, ℕ, option_map, IfOk};
     ghost use Rattle.wh_machine.specs.State.{stamped};
-    ghost use Rattle.wh_machine.specs.Tables.{table_at};
+    ghost use Rattle.wh_machine.specs.Objects.{table_at};
     ghost use Rattle.wh_catalog.specs.Catalog.{state_of};
     ghost use Rattle.wh_sessions.specs.Transaction.{seen};
     ghost use Rattle.wh_sessions.specs.Sessions.{transaction_in};

@@ -1,3 +1,4 @@
+use crate::ids::{is_among, with_ids};
 use std::alloc::{AllocError, Global};
 use std::collections::BTreeMap;
 use wh_version::Edits;
@@ -33,11 +34,13 @@ impl Staged {
     }
 }
 
-/// A transaction, with the tables that it holds by their ids.
+/// A transaction, with the tables that it holds by their ids, and the streams that it reads.
 #[derive(Debug, Drop)]
 pub(crate) struct Transaction {
     pub(crate) number: u64,
     pub(crate) tables: BTreeMap<u32, Staged>,
+    /// By rising ids, each once.
+    pub(crate) streams: Vec<u32>,
 }
 
 impl Transaction {
@@ -45,7 +48,8 @@ impl Transaction {
     ghost use Rattle.std.specs.FinMap.{get};
     ghost use Rattle.wh_version.specs.Edits.{edits_in};
     ghost use Rattle.wh_sessions.specs.Transaction as machine;
-    ghost use Rattle.wh_txn.specs.View.{staged_of, transaction_of, with_edits};
+    ghost use Rattle.wh_sessions.specs.Sessions.{is_held};
+    ghost use Rattle.wh_txn.specs.View.{staged_of, transaction_of, with_edits, with_reads};
 
     /// A new transaction. Takes no memory.
     pub(crate) fn begun(alloc: Global, stamp: u64) -> Transaction
@@ -54,14 +58,22 @@ impl Transaction {
         Transaction {
             number: stamp,
             tables: BTreeMap::new(alloc),
+            streams: Vec::new(alloc),
         }
     }
 
-    /// Whether it holds the object of an id.
-    pub(crate) fn holds(&self, id: u32) -> bool
-        ensures { result ≡ is_some (get (transaction_of self.now).tables id) }
+    /// The stamp that its streams are read up to.
+    pub(crate) fn start(&self) -> u64
+        ensures { result ≡ machine.start_of (transaction_of self.now) }
     {
-        self.tables.contains_key(&id)
+        self.number.saturating_sub(1)
+    }
+
+    /// Whether it holds the object of an id, a table or a stream.
+    pub(crate) fn holds(&self, id: u32) -> bool
+        ensures { result ≡ is_held (transaction_of self.now) id }
+    {
+        self.tables.contains_key(&id) || is_among(id, &self.streams)
     }
 
     /// What it has staged for the table of an id.
@@ -71,9 +83,29 @@ impl Transaction {
         self.tables.get(&id)
     }
 
-    /// Later edits of a table on top of those that are staged; it holds the table from then on. For
-    /// want of memory all stays as it was.
+    /// Later edits of a table on top of those that are staged, by a statement that reads some
+    /// streams; it holds the table and these from then on. For want of memory all stays as it was.
     pub(crate) fn stage(
+        &mut self,
+        alloc: Global,
+        id: u32,
+        streams: &[u32],
+        next_row: u64,
+        later: Edits,
+        touches: bool,
+    ) -> Result<(), AllocError>
+        ensures ok { OnOk result (transaction_of self.new
+            ≡ with_reads streams.now (with_edits next_row (edits_in later) touches id (transaction_of self.old))) }
+        ensures err { OnErr result (transaction_of self.new ≡ transaction_of self.old) }
+    {
+        let streams = with_ids(alloc, &self.streams, streams)?;
+        self.edit(alloc, id, next_row, later, touches)?;
+        self.streams = streams;
+        Ok(())
+    }
+
+    // Later edits of a table on top of those that are staged.
+    fn edit(
         &mut self,
         alloc: Global,
         id: u32,

@@ -11,3 +11,5 @@ pub mod Left
 pub mod Made
 pub mod Amended
 pub mod LastUpTo
+pub mod TurnoverLaws
+pub mod ArrivalLaws

@@ -1,5 +1,6 @@
 -- Partitions that stand once, and the marks of versions.
 --     standing_at      those that stand in the version at a place
+--     gone_between     those that stand in one, and are gone from a later one
 --     versions_by      the versions of marks
 --     numbered_from, count_to, is_gone_by     what always holds of a table's marks and partitions
 use Rattle.std.specs.Prelude.{ℕ, ◌+◌, Bool, true, ◌&&◌, ◌||◌, List, [], ◌∷◌, map, filter, take, nat_lt, nat_le, nat_eq}
@@ -17,6 +18,12 @@ partitions_in kept = map (λ k. k.partition) kept
 
 abbrev pub standing_at : ℕ → List Kept → List Partition
 standing_at place kept = partitions_in (filter (stands_at place) kept)
+
+abbrev pub is_gone_between : ℕ → ℕ → Kept → Bool
+is_gone_between old new k = nat_lt old k.until && nat_le k.until new
+
+abbrev pub gone_between : ℕ → ℕ → List Kept → List Partition
+gone_between old new kept = partitions_in (filter (is_gone_between old new) kept)
 
 -- ---- what a version more changes
 

@@ -4,3 +4,5 @@ pub mod Times
 pub mod History
 pub mod Version
 pub mod Edits
+pub mod Turnover
+pub mod Arrivals

@@ -2,6 +2,7 @@
 #![tactic(auto, unfolding(crate::specs::History::versions_of, crate::specs::History::nexts_of))]
 
 mod amending;
+mod arrivals;
 mod editing;
 mod edits;
 mod history;
@@ -14,11 +15,14 @@ mod row_edits;
 mod sorting;
 mod times;
 mod touching;
+mod turnover;
 mod version;
 
+pub use arrivals::Arrivals;
 pub use edits::Edits;
 pub use history::History;
 pub use kept::Kept;
 pub use mark::VersionMark;
 pub use rewriting::Rewritten;
+pub use turnover::Turnover;
 pub use version::Version;

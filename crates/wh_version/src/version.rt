@@ -100,7 +100,8 @@ fn standing_at(place: usize, kept: &[Kept], alloc: Global) -> Result<Vec<&Partit
     Ok(found)
 }
 
-fn add_standing<'a>(
+/// Adds a partition, if it stands at a place.
+pub(crate) fn add_standing<'a>(
     found: &mut Vec<&'a Partition>,
     place: usize,
     one: &'a Kept,

@@ -9,7 +9,7 @@ use Rattle.wh_reply.specs.View.{refusal_view}
 use Rattle.wh_machine.specs.Queries.{names_from, refusal_of}
 use Rattle.wh_catalog.specs.Catalog.{stored_of, state_of}
 use Rattle.wh_txn.specs.View.{sessions_of}
-use Rattle.wh_engine.specs.Sight.{machine_in, objects_seen}
+use Rattle.wh_engine.specs.Sight.{machine_in}
 use Rattle.wh_engine.proofs.OutcomeLemmas.{declines}
 use Rattle.wh_engine.proofs.ChangeLemmas.{change_is, is_failing, comes_change}
 use Rattle.wh_engine.proofs.changes.change_rows.Goals as goal
@@ -38,4 +38,4 @@ returns-in-Err-Failing c =
     declines (stored_of sight.catalog.now) (sessions_of sight.sessions.now) sight.stamp c.refusal.result _
     (refusal_of (failing_of c.in-Err-Failing.failing)) why
     (sym (change_is m sight.session c.args.statement.now names named)
-    ∙ is_failing m sight.session (objects_seen sight) meant (failing_of c.in-Err-Failing.failing) found)
+    ∙ is_failing m sight.session meant (failing_of c.in-Err-Failing.failing) found)

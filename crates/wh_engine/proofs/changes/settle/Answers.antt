@@ -27,9 +27,9 @@ returns-then-is_some c =
     (sym c.is_some.ensures ∙ c.if-is_some.true) in
     subst (λ (o : Outcome). Comes sight c.staged.result o)
     (ap (λ (n : ℕ). Does (reply_to change e)
-    (with_transaction sessions sight.session (transactions.staged t.0 id n e)) None)
+    (with_transaction sessions sight.session (transactions.staged t.0 id c.args.streams.items n e)) None)
     c.next_row.ensures.number
-    ∙ sym (is_staged (machine_in sight) sight.session id change e t.0 (table_meant table) t.1
+    ∙ sym (is_staged (machine_in sight) sight.session id c.args.streams.items change e t.0 (table_meant table) t.1
     (table_there sight.catalog.now id table c.requires)))
     (c.staged.ensures (stored_of sight.catalog.now) sessions sight.stamp t.0 t.1)
 
@@ -37,8 +37,8 @@ pub returns : goal.returns
 returns c =
     let sight = c.args.sight.now in
     let id = c.args.bound.now.target in
-    comes_settled sight c.settled.result id (changes.change_of c.args.bound.now.change) (effect_of c.args.effect)
+    comes_settled sight c.settled.result id c.args.streams.items (changes.change_of c.args.bound.now.change) (effect_of c.args.effect)
     (table_of c.args.table.now)
     (is_closed (transaction_in (sessions_of sight.sessions.now) sight.session) c.number.result c.number.ensures
     (sym c.is_some.ensures ∙ c.if-is_some.false))
-    c.requires c.settled.ensures
+    c.requires (rw (sym c.deref.ensures.value) c.settled.ensures)

@@ -2,7 +2,8 @@ use Rattle.std.proofs.Common.{◌≡◌, Bool, false, map, sym, ap, ◌∙◌}
 use Rattle.std.specs.Prelude.{◌||◌}
 use Rattle.std.specs.List.{list_any}
 use Rattle.wh_value.specs.View.{column_of}
-use Rattle.wh_machine.specs.Tables.{names_of, is_long}
+use Rattle.wh_machine.specs.Objects.{is_long}
+use Rattle.wh_machine.specs.Tables.{names_of}
 use Rattle.wh_engine.proofs.NameLemmas.{any_names}
 use Rattle.wh_engine.proofs.names.has_long_name.Goals as goal
 

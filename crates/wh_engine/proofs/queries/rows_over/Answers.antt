@@ -1,4 +1,4 @@
-use Rattle.std.proofs.Common.{◌≡◌, Some, None, Err, map, option_map, ap, sym, subst, ◌∙◌}
+use Rattle.std.proofs.Common.{◌≡◌, Some, None, Err, option_map, ap, sym, subst, ◌∙◌}
 use Rattle.wh_meaning.specs.Bag.{bag_of}
 use Rattle.wh_meaning.specs.Query.{eval}
 use Rattle.wh_meaning.specs.Listing.{listed}
@@ -7,14 +7,13 @@ use Rattle.wh_algebra.specs.View.{query_of}
 use Rattle.wh_algebra.specs.Tuple.{rows_in}
 use Rattle.wh_listing.specs.View.{keys_of}
 use Rattle.wh_exec.specs.Evaluation as evaluation
-use Rattle.wh_machine.specs.Queries.{table_bag}
 use Rattle.wh_engine.proofs.queries.rows_over.Goals as goal
 
 pub returns-in-Ok : goal.returns-in-Ok
-returns-in-Ok c = λ meant shown.
+returns-in-Ok c = λ read shown.
     let b = c.args.bound.now in
-    let sources : evaluation.instance_of c.deref.result.now ≡ map table_bag meant =
-    ap evaluation.instance_of c.deref.ensures.value ∙ c.in_ok-sources.ensures meant shown in
+    let sources : evaluation.instance_of c.deref.result.now ≡ read =
+    ap evaluation.instance_of c.deref.ensures.value ∙ c.in_ok-sources.ensures read shown in
     let found : eval (query_of b.query) (evaluation.instance_of c.deref.result.now)
     ≡ Some (bag_of (rows_in c.in-Ok.tuples.items)) = c.in-Ok.ensures in
     ap Some (c.in_ok-listed-in-Ok.ensures
@@ -22,10 +21,10 @@ returns-in-Ok c = λ meant shown.
     ∙ ap (option_map (listed (keys_of b.keys.items))) (sym found ∙ ap (eval (query_of b.query)) sources)
 
 pub returns-in-Err-NumberOutOfRange : goal.returns-in-Err-NumberOutOfRange
-returns-in-Err-NumberOutOfRange c = λ meant shown.
+returns-in-Err-NumberOutOfRange c = λ read shown.
     let b = c.args.bound.now in
-    let sources : evaluation.instance_of c.deref.result.now ≡ map table_bag meant =
-    ap evaluation.instance_of c.deref.ensures.value ∙ c.in_ok-sources.ensures meant shown in
+    let sources : evaluation.instance_of c.deref.result.now ≡ read =
+    ap evaluation.instance_of c.deref.ensures.value ∙ c.in_ok-sources.ensures read shown in
     let none : eval (query_of b.query) (evaluation.instance_of c.deref.result.now) ≡ None =
     subst (λ (f : EvalFault). evaluation.Evaluates (Err f)
     (eval (query_of b.query) (evaluation.instance_of c.deref.result.now)))

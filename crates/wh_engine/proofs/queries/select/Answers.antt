@@ -11,7 +11,7 @@ use Rattle.wh_sessions.specs.Outcome.{alone}
 use Rattle.wh_machine.specs.Outcome as tables
 use Rattle.wh_catalog.specs.Catalog.{stored_of, state_of}
 use Rattle.wh_txn.specs.View.{sessions_of}
-use Rattle.wh_engine.specs.Sight.{machine_in, objects_seen}
+use Rattle.wh_engine.specs.Sight.{machine_in}
 use Rattle.wh_engine.proofs.OutcomeLemmas.{declines}
 use Rattle.wh_engine.proofs.QueryLemmas.{select_is, is_failing, comes_bound}
 use Rattle.wh_engine.proofs.queries.select.Goals as goal
@@ -41,4 +41,4 @@ returns-in-Err-Failing c =
     (refusal_of (failing_of c.in-Err-Failing.failing)) why
     (sym (select_is (machine_in sight) sight.session c.args.query.now c.args.sorts.now names named)
     ∙ ap (λ (o : tables.Outcome). alone sessions o)
-    (is_failing (objects_seen sight) meant (failing_of c.in-Err-Failing.failing) found))
+    (is_failing (machine_in sight) sight.session meant (failing_of c.in-Err-Failing.failing) found))

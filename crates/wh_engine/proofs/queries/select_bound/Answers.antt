@@ -1,15 +1,17 @@
-use Rattle.std.proofs.Common.{◌≡◌, ℕ, List, refl, ap, sym, ◌∙◌}
+use Rattle.std.proofs.Common.{◌≡◌, ℕ, List, None, option_map, refl, ap, sym, ◌∙◌}
 use Rattle.wh_value.specs.declared.limit.Limit.TheVariants as limits
 use Rattle.wh_reply.specs.Reply.{OverLimit, NumberOutOfRange, Listing}
+use Rattle.wh_reply.specs.View.{refusal_view}
 use Rattle.wh_reply.specs.declared.reply.Reply.TheVariants as shown
 use Rattle.wh_machine.specs.Outcome as tables
 use Rattle.wh_sessions.specs.Outcome.{alone}
+use Rattle.wh_sessions.specs.Reading.{reading_refusal}
 use Rattle.wh_catalog.specs.Catalog.{stored_of}
 use Rattle.wh_txn.specs.View.{sessions_of}
 use Rattle.wh_engine.specs.Rows.{rows_found}
-use Rattle.wh_engine.specs.Sight.{objects_seen}
+use Rattle.wh_engine.specs.Sight.{machine_in}
 use Rattle.wh_engine.proofs.OutcomeLemmas.{declines, answers}
-use Rattle.wh_engine.proofs.QueryLemmas.{is_too_wide, is_shown, is_undefined, rows_meant}
+use Rattle.wh_engine.proofs.QueryLemmas.{is_too_wide, is_unread, is_shown, is_undefined, rows_meant}
 use Rattle.wh_engine.proofs.queries.select_bound.Goals as goal
 
 pub returns-then-bound : goal.returns-then-bound
@@ -18,28 +20,49 @@ returns-then-bound c = λ meant is.
     let sessions = sessions_of sight.sessions.now in
     declines (stored_of sight.catalog.now) sessions sight.stamp _ _ (OverLimit limits.Output) refl
     (ap (λ (o : tables.Outcome). alone sessions o)
-    (is_too_wide (objects_seen sight) meant is.nothing_found (sym is.is_wide ∙ c.if-bound.true)))
+    (is_too_wide (machine_in sight) sight.session meant is.nothing_found (sym is.is_wide ∙ c.if-bound.true)))
 
-pub returns-in_default : goal.returns-in_default
-returns-in_default c = λ meant is.
+pub returns-in-Some : goal.returns-in-Some
+returns-in-Some c = λ meant is.
     let sight = c.args.sight.now in
     let sessions = sessions_of sight.sessions.now in
-    let objects = objects_seen sight in
+    let m = machine_in sight in
+    let why = refusal_view c.in-Some.why in
+    declines (stored_of sight.catalog.now) sessions sight.stamp _ _ why refl
+    (ap (λ (o : tables.Outcome). alone sessions o)
+    (is_unread m sight.session meant why is.nothing_found (sym is.is_wide ∙ c.if-bound.false)
+    (ap (reading_refusal m.state.objects m.state.last) (sym (c.deref.ensures.value ∙ is.sources))
+    ∙ sym c.in_ok-why.ensures ∙ ap (option_map refusal_view) c.in-Some.is)))
+
+pub returns-in_default-2 : goal.returns-in_default-2
+returns-in_default-2 c = λ meant is.
+    let sight = c.args.sight.now in
+    let sessions = sessions_of sight.sessions.now in
+    let m = machine_in sight in
+    let read : reading_refusal m.state.objects m.state.last meant.sources ≡ None =
+    ap (reading_refusal m.state.objects m.state.last) (sym (c.deref.ensures.value ∙ is.sources))
+    ∙ sym c.in_ok-why.ensures ∙ ap (option_map refusal_view) c.in_default.is in
     declines (stored_of sight.catalog.now) sessions sight.stamp _ _ NumberOutOfRange refl
     (ap (λ (o : tables.Outcome). alone sessions o)
-    (is_undefined objects meant is.nothing_found (sym is.is_wide ∙ c.if-bound.false)
-    (ap rows_found (sym c.in_default.is) ∙ c.in_ok-rows.ensures ∙ rows_meant objects c.args.bound.now meant is)))
+    (is_undefined m sight.session meant is.nothing_found (sym is.is_wide ∙ c.if-bound.false) read
+    (ap rows_found (sym c.in_default-2.is) ∙ c.in_ok-rows.ensures
+    ∙ rows_meant m sight.session c.args.bound.now meant is)))
 
 pub returns : goal.returns
 returns c = λ meant is.
     let sight = c.args.sight.now in
     let sessions = sessions_of sight.sessions.now in
-    let objects = objects_seen sight in
-    let rows = c.in-Some.rows.items in
-    let names : c.in_ok-names.names.items ≡ meant.names = c.in_ok-names.ensures ∙ c.deref.ensures.value ∙ is.names in
-    answers (stored_of sight.catalog.now) sessions sight.stamp (shown.Listing c.in_ok-names.names c.in-Some.rows) _
+    let m = machine_in sight in
+    let read : reading_refusal m.state.objects m.state.last meant.sources ≡ None =
+    ap (reading_refusal m.state.objects m.state.last) (sym (c.deref.ensures.value ∙ is.sources))
+    ∙ sym c.in_ok-why.ensures ∙ ap (option_map refusal_view) c.in_default.is in
+    let rows = c.in-Some-2.rows.items in
+    let names : c.in_ok-names.names.items ≡ meant.names =
+    c.in_ok-names.ensures ∙ c.deref-2.ensures.value ∙ is.names in
+    answers (stored_of sight.catalog.now) sessions sight.stamp (shown.Listing c.in_ok-names.names c.in-Some-2.rows) _
     (Listing meant.names rows)
     (ap (λ (n : List (List ℕ)). Listing n rows) names)
     (ap (λ (o : tables.Outcome). alone sessions o)
-    (is_shown objects meant rows is.nothing_found (sym is.is_wide ∙ c.if-bound.false)
-    (ap rows_found (sym c.in-Some.is) ∙ c.in_ok-rows.ensures ∙ rows_meant objects c.args.bound.now meant is)))
+    (is_shown m sight.session meant rows is.nothing_found (sym is.is_wide ∙ c.if-bound.false) read
+    (ap rows_found (sym c.in-Some-2.is) ∙ c.in_ok-rows.ensures
+    ∙ rows_meant m sight.session c.args.bound.now meant is)))

@@ -2,5 +2,4 @@ use Rattle.wh_engine.proofs.SourceLemmas.{instance_by}
 use Rattle.wh_engine.proofs.sources.rows_of.Goals as goal
 
 pub returns : goal.returns
-returns c =
-    λ tables shown. instance_by c.args.seen.now c.in_ok-sources.sources.items tables c.in_ok-sources.ensures shown
+returns c = λ read seen. instance_by c.args.seen.now c.in_ok-sources.sources.items read c.in_ok-sources.ensures seen

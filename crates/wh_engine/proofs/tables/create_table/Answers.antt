@@ -1,9 +1,10 @@
-use Rattle.std.proofs.Common.{◌≡◌, ℕ, ◌+◌, [], ◌∷◌, ◌++◌, length, Option, Some, None, option_map, refl}
-use Rattle.std.proofs.Common.{ap, sym, ◌∙◌, arith, rules}
+use Rattle.std.proofs.Common.{◌≡◌, ℕ, ◌+◌, [], ◌∷◌, ◌++◌, length, Some, None, option_map, refl}
+use Rattle.std.proofs.Common.{ap, sym, ◌∙◌, arith}
 use Rattle.wh_reply.specs.Reply.{CreatedTable, DdlInTransaction, Locked}
 use Rattle.wh_reply.specs.View.{refusal_view}
-use Rattle.wh_machine.specs.Outcome.{MakesTable, first_of}
-use Rattle.wh_machine.specs.Tables.{table_refusal, replaced_id, drops}
+use Rattle.wh_machine.specs.Objects.{drops}
+use Rattle.wh_machine.specs.Outcome.{MakesTable}
+use Rattle.wh_machine.specs.Tables.{table_refusal, replaced_id}
 use Rattle.wh_machine.specs.Commit.{TableChange}
 use Rattle.wh_sessions.specs.Sessions.{number_in}
 use Rattle.wh_sessions.specs.Statements.{holder_of}
@@ -14,39 +15,34 @@ use Rattle.wh_engine.specs.Tables.{made_behind}
 use Rattle.wh_engine.specs.Decision.{changes_of}
 use Rattle.wh_engine.proofs.CatalogLemmas.{count_is}
 use Rattle.wh_engine.proofs.OutcomeLemmas.{declines, commits}
-use Rattle.wh_engine.proofs.TableLemmas.{within_limits, creation_written}
-use Rattle.wh_engine.proofs.DefineLemmas.{defines_table, none_past}
+use Rattle.wh_engine.proofs.DefineLemmas.{none_past}
+use Rattle.wh_engine.proofs.TableLemmas.{defines_table, within_limits, creation_written}
 use Rattle.wh_engine.proofs.tables.create_table.Goals as goal
 
 pub returns-in-Some : goal.returns-in-Some
 returns-in-Some c =
     let sight = c.args.sight.now in
     let t = c.args.table in
-    let s = state_of sight.catalog.now in
-    let sessions = sessions_of sight.sessions.now in
-    let found : first_of (option_map DdlInTransaction (number_in sessions sight.session)
-    ∷ table_refusal s t.replace t.name (columns_of t) t.retention
-    ∷ option_map Locked (holder_of sessions (replaced_id s t.replace t.name)) ∷ [])
-    ≡ Some (refusal_view c.in-Some.why) =
-    ap (λ (old : Option ℕ). first_of (option_map DdlInTransaction (number_in sessions sight.session)
-    ∷ table_refusal s t.replace t.name (columns_of t) t.retention ∷ option_map Locked (holder_of sessions old) ∷ []))
-    (sym c.replaced_id-replaced.ensures)
-    ∙ sym c.in_ok-why.ensures ∙ ap (option_map refusal_view) c.in-Some.is in
-    declines (stored_of sight.catalog.now) sessions sight.stamp _ _ (refusal_view c.in-Some.why) refl
-    (defines_table s sight.stamp sessions sight.session t.replace t.name (columns_of t) t.retention
-    (Some (refusal_view c.in-Some.why)) found)
+    let why = refusal_view c.in-Some.why in
+    declines (stored_of sight.catalog.now) (sessions_of sight.sessions.now) sight.stamp _ _ why refl
+    (defines_table (state_of sight.catalog.now) sight.stamp (sessions_of sight.sessions.now) sight.session
+    t.replace t.name (columns_of t) t.retention c.replaced_id-replaced.result _ (Some why)
+    (sym c.replaced_id-replaced.ensures) c.in_ok-wrong.ensures
+    (sym (ap (option_map refusal_view) c.in-Some.is) ∙ c.definition_refusal.ensures))
 
 pub overflow_add-id : goal.overflow_add-id
 overflow_add-id c =
     let sight = c.args.sight.now in
     let t = c.args.table in
-    let s = state_of sight.catalog.now in
-    let none : c.in_ok-why.field-0 ≡ None = search rules in
-    let passed = none_past _ (table_refusal s t.replace t.name (columns_of t) t.retention) _
-    (sym c.in_ok-why.ensures ∙ ap (option_map refusal_view) none) in
+    let passed : table_refusal (state_of sight.catalog.now) t.replace t.name (columns_of t) t.retention ≡ None =
+    sym c.in_ok-wrong.ensures ∙ none_past
+    (option_map DdlInTransaction (number_in (sessions_of sight.sessions.now) sight.session))
+    (option_map refusal_view c.in_ok-wrong.wrong)
+    (option_map Locked (holder_of (sessions_of sight.sessions.now) c.replaced_id-replaced.result))
+    (sym c.definition_refusal.ensures ∙ ap (option_map refusal_view) c.in_default.is) in
     omega (
       arith,
-      (within_limits s t.replace t.name (columns_of t) t.retention passed).0,
+      (within_limits (state_of sight.catalog.now) t.replace t.name (columns_of t) t.retention passed).0,
       c.object_count.ensures.count,
       count_is sight.catalog.now,
     )
@@ -55,11 +51,13 @@ pub creation-requires : goal.creation-requires
 creation-requires c =
     let sight = c.args.sight.now in
     let t = c.args.table in
-    let s = state_of sight.catalog.now in
-    let none : c.in_ok-why.field-0 ≡ None = search rules in
-    let passed = none_past _ (table_refusal s t.replace t.name (columns_of t) t.retention) _
-    (sym c.in_ok-why.ensures ∙ ap (option_map refusal_view) none) in
-    (within_limits s t.replace t.name (columns_of t) t.retention passed).1
+    let passed : table_refusal (state_of sight.catalog.now) t.replace t.name (columns_of t) t.retention ≡ None =
+    sym c.in_ok-wrong.ensures ∙ none_past
+    (option_map DdlInTransaction (number_in (sessions_of sight.sessions.now) sight.session))
+    (option_map refusal_view c.in_ok-wrong.wrong)
+    (option_map Locked (holder_of (sessions_of sight.sessions.now) c.replaced_id-replaced.result))
+    (sym c.definition_refusal.ensures ∙ ap (option_map refusal_view) c.in_default.is) in
+    (within_limits (state_of sight.catalog.now) t.replace t.name (columns_of t) t.retention passed).1
 
 pub returns : goal.returns
 returns c =
@@ -68,15 +66,7 @@ returns c =
     let stored = stored_of sight.catalog.now in
     let s = state_of sight.catalog.now in
     let sessions = sessions_of sight.sessions.now in
-    let none : c.in_ok-why.field-0 ≡ None = search rules in
     let replaced = replaced_id s t.replace t.name in
-    let passed : first_of (option_map DdlInTransaction (number_in sessions sight.session)
-    ∷ table_refusal s t.replace t.name (columns_of t) t.retention
-    ∷ option_map Locked (holder_of sessions replaced) ∷ []) ≡ None =
-    ap (λ (old : Option ℕ). first_of (option_map DdlInTransaction (number_in sessions sight.session)
-    ∷ table_refusal s t.replace t.name (columns_of t) t.retention ∷ option_map Locked (holder_of sessions old) ∷ []))
-    (sym c.replaced_id-replaced.ensures)
-    ∙ sym c.in_ok-why.ensures ∙ ap (option_map refusal_view) none in
     let made : ℕ → TableChange =
     λ id. record { id = id; name = t.name; retention = t.retention; columns = columns_of t } in
     let items : changes_of c.in_ok-changes.changes ≡ made_behind replaced (made (length stored.objects + 1)) =
@@ -86,4 +76,7 @@ returns c =
     (drops replaced ++ MakesTable t.name (columns_of t) t.retention ∷ [])
     (ap CreatedTable c.in_ok-copy.ensures)
     (items ∙ creation_written sight.stamp stored.objects replaced t.name (columns_of t) t.retention)
-    (defines_table s sight.stamp sessions sight.session t.replace t.name (columns_of t) t.retention None passed)
+    (defines_table s sight.stamp sessions sight.session
+    t.replace t.name (columns_of t) t.retention c.replaced_id-replaced.result _ None
+    (sym c.replaced_id-replaced.ensures) c.in_ok-wrong.ensures
+    (sym (ap (option_map refusal_view) c.in_default.is) ∙ c.definition_refusal.ensures))

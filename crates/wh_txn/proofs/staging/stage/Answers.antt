@@ -13,6 +13,7 @@ returns-in_ok-stage-in-Some-clause-ok c = λ t opened.
     ap (option_map transaction_of) (sym c.in-Some.is) ∙ opened in
     let is : transaction_of c.in-Some.transaction ≡ t = cc in
     ap Some (c.in_ok-stage-in-Some.ensures.ok
-    ∙ staged_is (transaction_of c.in-Some.transaction) c.args.id c.args.next_row (edits_in c.in_ok-later.later)
-    c.is_some_counted-touches.result e c.in_ok-later.ensures c.is_some_counted-touches.ensures
-    ∙ ap (λ (one : machine.Transaction). machine.staged one c.args.id c.args.next_row e) is)
+    ∙ staged_is (transaction_of c.in-Some.transaction) c.args.id c.args.streams.now c.args.next_row
+    (edits_in c.in_ok-later.later) c.is_some_counted-touches.result e c.in_ok-later.ensures
+    c.is_some_counted-touches.ensures
+    ∙ ap (λ (one : machine.Transaction). machine.staged one c.args.id c.args.streams.now c.args.next_row e) is)

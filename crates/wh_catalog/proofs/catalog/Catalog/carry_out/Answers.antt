@@ -23,3 +23,11 @@ returns-in-Drops-clause-changed c =
     λ change. OnOk c.drop_object.result (map object_in (map kept_object c.drop_object.new.objects.items)
     ≡ changed c.args.stamp (objects_of c.args.self.now) (change_of change)) in
     subst P (sym c.in-Drops.is) c.drop_object.ensures.changed
+
+pub returns-in-SetsOffset-clause-changed : goal.returns-in-SetsOffset-clause-changed
+unfolding changed kept_of
+returns-in-SetsOffset-clause-changed c =
+    let P : Change → Type 0 =
+    λ change. OnOk c.set_offset.result (map object_in (map kept_object c.set_offset.new.objects.items)
+    ≡ changed c.args.stamp (objects_of c.args.self.now) (change_of change)) in
+    subst P (sym c.in-SetsOffset.is) c.set_offset.ensures.changed

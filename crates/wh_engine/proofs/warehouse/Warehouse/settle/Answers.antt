@@ -1,4 +1,4 @@
-use Rattle.std.proofs.Common.{◌≡◌, Option, None, refl, sym, ap, ◌∙◌}
+use Rattle.std.proofs.Common.{◌≡◌, ℕ, List, Option, None, refl, sym, ap, ◌∙◌}
 use Rattle.wh_dml.specs.View.{effect_of}
 use Rattle.wh_sessions.specs.Transaction as transactions
 use Rattle.wh_sessions.specs.Transaction.{Transaction}
@@ -34,8 +34,12 @@ returns-in_ok-stage-in-Stages-clause-answered g c =
     let t = is_there (transaction_in before staged.session) (rw staged.is at c.requires.staged) in
     let sessions =
     c.in_ok-stage-in-Stages.ensures.ok t.0 t.1
+    ∙ ap (λ (streams : List ℕ). with_transaction before staged.session
+    (transactions.staged t.0 staged.id streams staged.next_row (effect_of staged.effect)))
+    c.deref.ensures.value
     ∙ ap (λ (found : Option Transaction). with_transaction before staged.session
-    (transactions.staged (transaction_or_new found c.args.stamp) staged.id staged.next_row (effect_of staged.effect)))
+    (transactions.staged (transaction_or_new found c.args.stamp) staged.id staged.streams.items staged.next_row
+    (effect_of staged.effect)))
     (sym t.1)
     ∙ ap (sessions_after c.args.stamp before) (sym staged.is) in
     carries_nothing old _ _ _ none refl refl c.pass-in-Stages.ensures.stored

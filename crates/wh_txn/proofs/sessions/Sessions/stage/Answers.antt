@@ -23,3 +23,20 @@ returns-in_ok-stage-in-Some-clause-ok c = λ t opened.
     with_slot slots.items c.args.session c.stage.new.slot
     ∙ ap (slice_set (map (option_map transaction_of) slots.items) c.args.session)
     (c.in_ok-stage-in-Some.ensures.ok t (sym here ∙ opened))
+
+pub returns-in_err-stage-in-Some-clause-closed : goal.returns-in_err-stage-in-Some-clause-closed
+unfolding sessions_of
+returns-in_err-stage-in-Some-clause-closed c = λ none.
+    let slots = c.args.self.now.slots in
+    let within : c.args.session < length slots.items = omega (arith, c.in-Some.ensures.variant.0 refl, slots.ok.0) in
+    slot_same slots.items c.args.session c.in-Some.slot.now within c.in-Some.ensures.value c.stage.new.slot
+    c.in_err-stage-in-Some.ensures.err
+
+pub returns-in_ok-stage-in-Some-clause-closed : goal.returns-in_ok-stage-in-Some-clause-closed
+unfolding sessions_of
+returns-in_ok-stage-in-Some-clause-closed c = λ none.
+    let slots = c.args.self.now.slots in
+    let within : c.args.session < length slots.items = omega (arith, c.in-Some.ensures.variant.0 refl, slots.ok.0) in
+    let here = slot_in slots.items c.args.session c.in-Some.slot.now within c.in-Some.ensures.value in
+    slot_same slots.items c.args.session c.in-Some.slot.now within c.in-Some.ensures.value c.stage.new.slot
+    (c.in_ok-stage-in-Some.ensures.closed (sym here ∙ none))

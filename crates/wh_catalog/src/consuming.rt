@@ -1,0 +1,109 @@
+//! Offsets of streams.
+ghost use Rattle.std.specs.Prelude.{◌≡◌, map, length, count_by, OnOk, OnErr, IfOk, IsErrOf};
+ghost use Rattle.wh_machine.specs.State.{at_id, changed_at};
+ghost use Rattle.wh_machine.specs.Commit.{OffsetApplies, offset_set};
+ghost use Rattle.wh_catalog.specs.Kept.{object_in};
+ghost use Rattle.wh_catalog.specs.Object.{kept_object};
+ghost use Rattle.wh_catalog.specs.Names.{KeepsNames};
+ghost use Rattle.wh_catalog.specs.Back.{object_put_back};
+ghost use Rattle.wh_catalog.specs.Undo.{step_undone};
+
+use crate::undo::Step;
+use crate::{StageFault, StoredKind, StoredObject};
+
+/// Sets the offset of the stream of an id.
+pub(crate) fn set_offset(
+    objects: &mut Vec<StoredObject>,
+    id: u32,
+    offset: u64,
+) -> Result<Step, StageFault>
+    ensures applies { OnOk result (OffsetApplies
+        (at_id (map object_in (map kept_object objects.old.items)) id) offset) }
+    ensures changed { OnOk result (map object_in (map kept_object objects.new.items)
+        ≡ changed_at (map object_in (map kept_object objects.old.items)) id (offset_set offset)) }
+    ensures back { IfOk result (λ step. step_undone step (map kept_object objects.new.items)
+        ≡ map kept_object objects.old.items) }
+    ensures not_applicable { IsErrOf result StageFault.NotApplicable
+        → OffsetApplies (at_id (map object_in (map kept_object objects.old.items)) id) offset → ⊥ }
+    ensures same { OnErr result (map kept_object objects.new.items
+        ≡ map kept_object objects.old.items) }
+    ensures count { length objects.new.items ≡ length objects.old.items }
+    ensures live { count_by (λ o. o.is_live) objects.new.items
+        ≡ count_by (λ o. o.is_live) objects.old.items }
+    ensures names { KeepsNames objects.old.items objects.new.items }
+{
+    let place = id as usize;
+    if place == 0 || objects.len() < place {
+        return Err(StageFault::NotApplicable);
+    }
+    let object = &mut objects[place - 1];
+    match object.set_offset(offset) {
+        Ok(before) => Ok(Step::SetOffset { id, offset: before }),
+        Err(fault) => Err(fault),
+    }
+}
+
+/// Puts the offset of before back.
+pub(crate) fn put_offset_back(objects: &mut Vec<StoredObject>, id: u32, offset: u64)
+    ensures back { map kept_object objects.new.items
+        ≡ changed_at (map kept_object objects.old.items) id (object_put_back offset) }
+    ensures count { length objects.new.items ≡ length objects.old.items }
+    ensures live { count_by (λ o. o.is_live) objects.new.items
+        ≡ count_by (λ o. o.is_live) objects.old.items }
+    ensures names { KeepsNames objects.old.items objects.new.items }
+{
+    let place = id as usize;
+    if place == 0 || objects.len() < place {
+        return;
+    }
+    let object = &mut objects[place - 1];
+    object.put_offset_back(offset);
+}
+
+impl StoredObject {
+    ghost use Rattle.std.specs.Prelude.{◌≡◌, Some, OnOk, OnErr, IfOk, IsErrOf};
+    ghost use Rattle.wh_machine.specs.Commit.{OffsetApplies, offset_set};
+    ghost use Rattle.wh_catalog.specs.Kept.{object_in};
+    ghost use Rattle.wh_catalog.specs.Object.{kept_object};
+    ghost use Rattle.wh_catalog.specs.Back.{object_put_back};
+
+    // Sets the offset of a stream that lives, if it doesn't fall. The result is the offset of before.
+    fn set_offset(&mut self, offset: u64) -> Result<u64, StageFault>
+        ensures applies { OnOk result (OffsetApplies (Some (object_in (kept_object self.old))) offset) }
+        ensures set { OnOk result (object_in (kept_object self.new)
+            ≡ offset_set offset (object_in (kept_object self.old))) }
+        ensures back { IfOk result (λ before. object_put_back before (kept_object self.new)
+            ≡ kept_object self.old) }
+        ensures not_applicable { IsErrOf result StageFault.NotApplicable
+            → OffsetApplies (Some (object_in (kept_object self.old))) offset → ⊥ }
+        ensures same { OnErr result (kept_object self.new ≡ kept_object self.old) }
+        ensures live { self.new.is_live ≡ self.old.is_live }
+        ensures name { self.new.name ≡ self.old.name }
+    {
+        if !self.is_live {
+            return Err(StageFault::NotApplicable);
+        }
+        match &mut self.kind {
+            StoredKind::Stream(stream) => {
+                let before = stream.offset;
+                if offset < before {
+                    return Err(StageFault::NotApplicable);
+                }
+                stream.offset = offset;
+                Ok(before)
+            }
+            StoredKind::Table(_) => Err(StageFault::NotApplicable),
+        }
+    }
+
+    fn put_offset_back(&mut self, offset: u64)
+        ensures back { kept_object self.new ≡ object_put_back offset (kept_object self.old) }
+        ensures live { self.new.is_live ≡ self.old.is_live }
+        ensures name { self.new.name ≡ self.old.name }
+    {
+        match &mut self.kind {
+            StoredKind::Stream(stream) => stream.offset = offset,
+            StoredKind::Table(_) => {}
+        }
+    }
+}

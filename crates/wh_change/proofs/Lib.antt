@@ -1,0 +1,4 @@
+pub mod RisingRows
+pub mod Entries
+pub mod NetParts
+pub mod Versions

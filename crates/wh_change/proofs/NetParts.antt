@@ -1,0 +1,148 @@
+-- Net changes by rows that went and came.
+--     net_by_entries     as two passes over their entries
+--     net_shown          where they are all that changed, they are the changes of all rows
+use Rattle.std.proofs.Common.{◌≡◌, ℕ, ◌⊎◌, inl, inr, cond, Bool, true}
+use Rattle.std.proofs.Common.{false, List, [], ◌∷◌, ◌++◌, map, Option, Some, None}
+use Rattle.std.proofs.Common.{refl, sym, ap, ◌∙◌}
+use Rattle.std.specs.Prelude.{is_some}
+use Rattle.std.specs.List.{flat_map, AllByRecursion}
+use Rattle.std.specs.Ordering.{nat_cmp, eq_by_cmp}
+use Rattle.std.proofs.lemmas.Cmp.{eq_by_cmp_equiv}
+use Rattle.std.specs.FinMap.{get, entries, get-entries}
+use Rattle.std.specs.FinMap.Entries.{find, where_key}
+use Rattle.wh_value.specs.Value.{Row, row_cmp}
+use Rattle.wh_value.specs.Order.{row_total}
+use Rattle.wh_machine.specs.State.{Rows}
+use Rattle.wh_streams.specs.Net.{Record, Delete, Insert, change_at, arrival_at, numbers_in, net}
+use Rattle.wh_table.specs.Changes.{IsShown}
+use Rattle.wh_change.specs.Rows.{changes_by, arrivals_by}
+use Rattle.wh_change.proofs.Entries.{each_found, kept_entries}
+
+abbrev numbers_of : List (ℕ × Row) → List ℕ
+numbers_of es = map (λ e. e.0) es
+
+-- ---- passes over entries
+
+changes_on : (old new : Rows) (es : List (ℕ × Row)) → AllByRecursion (λ e. get old e.0 ≡ Some e.1) es
+    → flat_map (λ n. change_at n (get old n) (get new n)) (numbers_of es) ≡ changes_by (entries new) es
+changes_on old new [] each = refl
+changes_on old new (e ∷ es) each =
+    λ i. change_at e.0 (each.0 i) (get-entries new e.0 i) ++ changes_on old new es each.1 i
+
+arrivals_on : (old new : Rows) (es : List (ℕ × Row)) → AllByRecursion (λ e. get new e.0 ≡ Some e.1) es
+    → flat_map (λ n. arrival_at n (get old n) (get new n)) (numbers_of es) ≡ arrivals_by (entries old) es
+arrivals_on old new [] each = refl
+arrivals_on old new (e ∷ es) each =
+    λ i. arrival_at e.0 (get-entries old e.0 i) (each.0 i) ++ arrivals_on old new es each.1 i
+
+pub net_by_entries : (old new : Rows)
+    → net old new ≡ changes_by (entries new) (entries old) ++ arrivals_by (entries old) (entries new)
+unfolding net
+net_by_entries old new =
+    λ i. changes_on old new (entries old) (each_found old) i ++ arrivals_on old new (entries new) (each_found new) i
+
+-- ---- numbers that add nothing
+
+kept_numbers : (records : ℕ → List Record) (test : ℕ → Bool) (es : List (ℕ × Row))
+    → ((n : ℕ) → test n ≡ false → records n ≡ [])
+    → flat_map records (numbers_of (where_key nat_cmp test es)) ≡ flat_map records (numbers_of es)
+kept_numbers records test [] none = refl
+kept_numbers records test (e ∷ es) none = by_test (test e.0) refl (kept_numbers records test es none)
+  where
+    by_test : (b : Bool) → test e.0 ≡ b
+        → flat_map records (numbers_of (where_key nat_cmp test es)) ≡ flat_map records (numbers_of es)
+        → flat_map records (numbers_of (cond b (e ∷ where_key nat_cmp test es) (where_key nat_cmp test es)))
+        ≡ records e.0 ++ flat_map records (numbers_of es)
+    by_test true is rest = ap (λ l. records e.0 ++ l) rest
+    by_test false is rest = rest ∙ ap (λ l. l ++ flat_map records (numbers_of es)) (sym (none e.0 is))
+
+change_same : (n : ℕ) (row : Option Row) → change_at n row row ≡ []
+change_same n None = refl
+change_same n (Some row) =
+    ap (λ (b : Bool). cond b [] (record {
+      number = n;
+      action = Delete;
+      is_update = true;
+      row = row;
+    } ∷ record {
+      number = n;
+      action = Insert;
+      is_update = true;
+      row = row;
+    } ∷ [])) ((eq_by_cmp_equiv row_total).refl row)
+
+arrival_same : (n : ℕ) (row : Option Row) → arrival_at n row row ≡ []
+arrival_same n None = refl
+arrival_same n (Some row) = refl
+
+change_none : (n : ℕ) (found new : Option Row) → is_some found ≡ false → change_at n found new ≡ []
+change_none n None new none = refl
+change_none n (Some row) new none = absurd cc
+
+arrival_none : (n : ℕ) (old found : Option Row) → is_some found ≡ false → arrival_at n old found ≡ []
+arrival_none n old None none = refl
+arrival_none n old (Some row) none = absurd cc
+
+module _ (old new gone arrived : Rows)
+    (each : (n : ℕ) → IsShown (get old n) (get new n) (get gone n) (get arrived n)) where
+  change_shown : (n : ℕ) → change_at n (get old n) (get new n) ≡ change_at n (get gone n) (get arrived n)
+  change_shown n = by_either (each n)
+    where
+      by_either : IsShown (get old n) (get new n) (get gone n) (get arrived n)
+          → change_at n (get old n) (get new n) ≡ change_at n (get gone n) (get arrived n)
+      by_either (inl is) = λ i. change_at n (sym is.0 i) (sym is.1 i)
+      by_either (inr is) =
+          ap (λ row. change_at n row (get new n)) is.0 ∙ change_same n (get new n)
+          ∙ (λ i. change_at n (sym is.1 i) (get arrived n))
+
+  arrival_shown : (n : ℕ) → arrival_at n (get old n) (get new n) ≡ arrival_at n (get gone n) (get arrived n)
+  arrival_shown n = by_either (each n)
+    where
+      by_either : IsShown (get old n) (get new n) (get gone n) (get arrived n)
+          → arrival_at n (get old n) (get new n) ≡ arrival_at n (get gone n) (get arrived n)
+      by_either (inl is) = λ i. arrival_at n (sym is.0 i) (sym is.1 i)
+      by_either (inr is) =
+          ap (λ row. arrival_at n row (get new n)) is.0 ∙ arrival_same n (get new n)
+          ∙ (λ i. arrival_at n (get gone n) (sym is.2 i))
+
+  gone_either : (n : ℕ) → (get gone n ≡ get old n) ⊎ (get gone n ≡ None)
+  gone_either n = by_either (each n)
+    where
+      by_either : IsShown (get old n) (get new n) (get gone n) (get arrived n)
+          → (get gone n ≡ get old n) ⊎ (get gone n ≡ None)
+      by_either (inl is) = inl is.0
+      by_either (inr is) = inr is.1
+
+  arrived_either : (n : ℕ) → (get arrived n ≡ get new n) ⊎ (get arrived n ≡ None)
+  arrived_either n = by_either (each n)
+    where
+      by_either : IsShown (get old n) (get new n) (get gone n) (get arrived n)
+          → (get arrived n ≡ get new n) ⊎ (get arrived n ≡ None)
+      by_either (inl is) = inl is.1
+      by_either (inr is) = inr is.2
+
+  pub net_shown : net gone arrived ≡ net old new
+  unfolding net
+  net_shown = λ i. changes i ++ arrivals i
+    where
+      change_of : ℕ → List Record
+      change_of n = change_at n (get gone n) (get arrived n)
+
+      arrival_of : ℕ → List Record
+      arrival_of n = arrival_at n (get gone n) (get arrived n)
+
+      changes : flat_map change_of (numbers_in gone)
+          ≡ flat_map (λ n. change_at n (get old n) (get new n)) (numbers_in old)
+      changes =
+          ap (λ es. flat_map change_of (numbers_of es)) (sym (kept_entries old gone gone_either))
+          ∙ kept_numbers change_of (λ n. is_some (get gone n)) (entries old)
+          (λ n none. change_none n (get gone n) (get arrived n) none)
+          ∙ (λ i. flat_map (λ n. sym (change_shown n) i) (numbers_of (entries old)))
+
+      arrivals : flat_map arrival_of (numbers_in arrived)
+          ≡ flat_map (λ n. arrival_at n (get old n) (get new n)) (numbers_in new)
+      arrivals =
+          ap (λ es. flat_map arrival_of (numbers_of es)) (sym (kept_entries new arrived arrived_either))
+          ∙ kept_numbers arrival_of (λ n. is_some (get arrived n)) (entries new)
+          (λ n none. arrival_none n (get gone n) (get arrived n) none)
+          ∙ (λ i. flat_map (λ n. sym (arrival_shown n) i) (numbers_of (entries new)))

@@ -1,0 +1,32 @@
+-- Rows with their numbers, and the records of two lists of them.
+--     row_in         the row that a reference points to, if there is one
+--     entries_at     the rows that references point to, with their numbers
+--     changes_by     what became of rows, by those that there are now
+--     arrivals_by    the rows that there are now, by those that were there
+--     IsPlaceOf      the place of the first number that isn't below
+use Rattle.std.specs.Prelude.{ℕ, ◌<◌, ◌≤◌, List, map, Option, Some, None, length, slice_index_or as get_or}
+use Rattle.std.specs.List.{flat_map}
+use Rattle.std.specs.FinMap.Entries.{find}
+use Rattle.std.specs.Ordering.{nat_cmp}
+use denote.Ref.{Bor}
+use Rattle.wh_value.specs.Value.{Row}
+use Rattle.wh_part.specs.declared.partition.NumberedRow.{NumberedRow}
+use Rattle.wh_part.specs.View.{numbered_of}
+use Rattle.wh_streams.specs.Net.{Record, change_at, arrival_at}
+
+abbrev pub row_in : Option (Bor Row) → Option Row
+row_in None = None
+row_in (Some row) = Some row.now
+
+abbrev pub entries_at : List (Bor NumberedRow) → List (ℕ × Row)
+entries_at rows = map (λ row. numbered_of row.now) rows
+
+abbrev pub changes_by : List (ℕ × Row) → List (ℕ × Row) → List Record
+changes_by new old = flat_map (λ e. change_at e.0 (Some e.1) (find nat_cmp e.0 new)) old
+
+abbrev pub arrivals_by : List (ℕ × Row) → List (ℕ × Row) → List Record
+arrivals_by old new = flat_map (λ e. arrival_at e.0 (find nat_cmp e.0 old) (Some e.1)) new
+
+pub record IsPlaceOf (number : ℕ) (rows : List (Bor NumberedRow)) (place : ℕ) : Type 0 where
+  pub front : (i : ℕ) (d : Bor NumberedRow) → i < place → (get_or rows i d).now.number < number
+  pub behind : (d : Bor NumberedRow) → place < length rows → number ≤ (get_or rows place d).now.number

@@ -1,0 +1,13 @@
+//! The changes of a table's rows between two times, by row number: those that a stream shows.
+#![tactic(auto, unfolding(wh_table::specs::Table::kept_table))]
+
+mod appending;
+mod net;
+mod record;
+mod rows;
+#[cfg(test)]
+mod tests;
+
+pub use appending::appends;
+pub use net::net_changes;
+pub use record::{Action, Record};

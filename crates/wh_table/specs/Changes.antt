@@ -1,0 +1,17 @@
+-- What the rows that went and came between two versions say of all rows.
+--     IsShown        a number's row then and now is that which went and came, or it is the same and neither
+--     AreChanges     so at each number; they stand by rising number
+use Rattle.std.specs.Prelude.{◌≡◌, ℕ, ◌⊎◌, List, Option, None}
+use Rattle.std.specs.FinMap.{get, entries}
+use Rattle.wh_value.specs.Value.{Row}
+use Rattle.wh_machine.specs.State.{Rows}
+
+abbrev pub IsShown : Option Row → Option Row → Option Row → Option Row → Type 0
+IsShown old new went came = ((went ≡ old) × (came ≡ new)) ⊎ ((old ≡ new) × (went ≡ None) × (came ≡ None))
+
+pub record AreChanges (went came : List (ℕ × Row)) (old new : Rows) : Type 0 where
+  pub gone : Rows
+  pub arrived : Rows
+  pub by_went : went ≡ entries gone
+  pub by_came : came ≡ entries arrived
+  pub each : (number : ℕ) → IsShown (get old number) (get new number) (get gone number) (get arrived number)

@@ -1,0 +1,30 @@
+use crate::StoredTable;
+use crate::by_number::by_rows;
+use std::alloc::{AllocError, Global};
+use wh_version::Turnover;
+
+impl StoredTable {
+    ghost use Rattle.std.specs.Prelude.{◌≡◌, ◌≤◌, [], IfOk};
+    ghost use Rattle.wh_machine.specs.State.{content_in};
+    ghost use Rattle.wh_machine.specs.Stored.{rows_of};
+    ghost use Rattle.wh_version.specs.Times.{data_at};
+    ghost use Rattle.wh_table.specs.Changes.{AreChanges};
+    ghost use Rattle.wh_table.specs.Rows.{all_rows, partitions_at};
+    ghost use Rattle.wh_table.specs.Table.{table_of};
+
+    /// What went and came from the last version whose data timestamp is at most `from` to the last
+    /// one whose data timestamp is at most `to`, by their rows each. Where no version is old enough,
+    /// nothing stands.
+    pub fn turnover(&self, alloc: Global, from: u64, to: u64) -> Result<Turnover<'_>, AllocError>
+        requires { from ≤ to }
+        ensures { IfOk result (λ found. AreChanges
+            (all_rows (partitions_at found.went.items)) (all_rows (partitions_at found.came.items))
+            (rows_of (content_in [] (data_at from (table_of self.now).versions)))
+            (rows_of (content_in [] (data_at to (table_of self.now).versions)))) }
+    {
+        let turnover = self.history.turnover(alloc, from, to)?;
+        let went = by_rows(&turnover.went, alloc)?;
+        let came = by_rows(&turnover.came, alloc)?;
+        Ok(Turnover { went, came })
+    }
+}

@@ -1,0 +1,90 @@
+-- What came with each version, by the marks.
+--     count_versions     there are as many versions as marks
+--     before_grows       each mark counts the partitions that there were before
+--     arrived            what came with a version
+use Rattle.std.proofs.Common.{◌≡◌, ℕ, zero, suc, ◌+◌, ◌-◌, ◌<◌, ◌≤◌}
+use Rattle.std.proofs.Common.{List, [], ◌∷◌, ◌++◌, length, take, drop, get_or, Some}
+use Rattle.std.proofs.Common.{IsTrue, refl, sym, ap, ◌∙◌, arith}
+use Rattle.wh_frame.specs.Partition.{Partition}
+use Rattle.wh_machine.specs.State.{last_of, content_in}
+use Rattle.wh_machine.specs.Stored.{StoredVersion}
+use Rattle.wh_version.specs.declared.kept.Kept.{Kept}
+use Rattle.wh_version.specs.declared.mark.VersionMark.{VersionMark}
+use Rattle.wh_version.specs.Kept.{standing_at, gone_between, version_by, versions_by, count_to}
+use Rattle.wh_version.specs.Arrivals.{IsArrival, partitions_before}
+use Rattle.wh_version.specs.History.{standing_in}
+use Rattle.wh_version.specs.Turnover.{IsTurnover}
+use Rattle.wh_version.proofs.TurnoverLaws.{counts_rise, turned_over}
+
+pub count_versions : (kept : List Kept) (first : ℕ) (marks : List VersionMark)
+    → length (versions_by kept first marks) ≡ length marks
+count_versions kept first [] = refl
+count_versions kept first (m ∷ marks) = ap suc (count_versions kept (first + 1) marks)
+
+version_there : (kept : List Kept) (first : ℕ) (marks : List VersionMark) (place : ℕ) (d : VersionMark)
+    → place < length marks
+    → drop place (versions_by kept first marks)
+    ≡ version_by kept (first + place) (get_or marks place d) ∷ drop (suc place) (versions_by kept first marks)
+version_there kept first [] place d within = absurd (omega arith)
+version_there kept first (m ∷ marks) zero d within =
+    let same : first ≡ first + zero = omega arith in
+    ap (λ n. version_by kept n m ∷ versions_by kept (first + 1) marks) same
+version_there kept first (m ∷ marks) (suc place) d within =
+    let same : first + 1 + place ≡ first + suc place = omega arith in
+    version_there kept (first + 1) marks place d (omega arith)
+    ∙ ap (λ n. version_by kept n (get_or marks place d) ∷ drop (suc place) (versions_by kept (first + 1) marks)) same
+
+last_behind : {X : Type 0} (x y : X) (ys : List X) → last_of ys ≡ Some x → last_of (y ∷ ys) ≡ Some x
+last_behind x y [] is = cc
+last_behind x y (z ∷ ys) is = is
+
+last_before : (kept : List Kept) (first : ℕ) (marks : List VersionMark) (place : ℕ) (d : VersionMark)
+    → place < length marks
+    → last_of (take (suc place) (versions_by kept first marks))
+    ≡ Some (version_by kept (first + place) (get_or marks place d))
+last_before kept first [] place d within = absurd (omega arith)
+last_before kept first (m ∷ marks) zero d within =
+    let same : first ≡ first + zero = omega arith in
+    ap (λ n. Some (version_by kept n m)) same
+last_before kept first (m ∷ marks) (suc place) d within =
+    let same : first + 1 + place ≡ first + suc place = omega arith in
+    last_behind _ (version_by kept first m) (take (suc place) (versions_by kept (first + 1) marks))
+    (last_before kept (first + 1) marks place d (omega arith))
+    ∙ ap (λ n. Some (version_by kept n (get_or marks place d))) same
+
+pub before_grows : (marks : List VersionMark) (total place : ℕ) (d : VersionMark) → IsTrue (count_to 0 marks total)
+    → place < length marks
+    → partitions_before marks d place ≤ (get_or marks place d).partitions
+before_grows marks total zero d counts within = omega arith
+before_grows marks total (suc place) d counts within =
+    counts_rise 0 marks total place (suc place) d counts (omega arith) within
+
+stood : (kept : List Kept) (marks : List VersionMark) (d : VersionMark) (place : ℕ) → place < length marks
+    → standing_in (take place (versions_by kept 0 marks))
+    ≡ standing_at (place - 1) (take (partitions_before marks d place) kept)
+stood kept marks d zero within = refl
+stood kept marks d (suc place) within =
+    let same : 0 + place ≡ suc place - 1 = omega arith in
+    ap (content_in []) (last_before kept 0 marks place d (omega arith))
+    ∙ ap (λ n. standing_at n (take (get_or marks place d).partitions kept)) same
+
+pub arrived : (kept : List Kept) (marks : List VersionMark) (d : VersionMark) (place : ℕ) (came : List Partition)
+    → place < length marks
+    → standing_at place (take (partitions_before marks d place) kept) ++ came
+    ≡ standing_at place (take (get_or marks place d).partitions kept)
+    → IsArrival (get_or marks place d).stamp came (take place (versions_by kept 0 marks))
+    (drop place (versions_by kept 0 marks))
+arrived kept marks d place came within is_came =
+    let before : ℕ = partitions_before marks d place in
+    let went : List Partition = gone_between (place - 1) place (take before kept) in
+    record {
+      version = version_by kept (0 + place) (get_or marks place d);
+      rest = drop (suc place) (versions_by kept 0 marks);
+      first = version_there kept 0 marks place d within;
+      stamp = refl;
+      went = went;
+      turnover = turned_over kept (record { place = place - 1; partitions = before })
+          (record { place = place; partitions = (get_or marks place d).partitions }) went came _ _ (omega arith) refl
+          is_came (stood kept marks d place within)
+          (ap (λ n. standing_at n (take (get_or marks place d).partitions kept)) (omega arith));
+    }

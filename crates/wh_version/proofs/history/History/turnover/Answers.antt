@@ -1,0 +1,49 @@
+use Rattle.std.proofs.Common.{◌≡◌, ◌≤◌, List, ◌++◌, ◌∙◌, ap, sym, length, take, subst, arith}
+use Rattle.std.proofs.lemmas.List.{length-take}
+use Rattle.wh_frame.specs.Partition.{Partition}
+use Rattle.wh_version.specs.declared.kept.Kept.{Kept}
+use Rattle.wh_version.specs.Kept.{standing_at, gone_between}
+use Rattle.wh_version.specs.Edits.{partitions_at}
+use Rattle.wh_version.specs.History.{versions_of}
+use Rattle.wh_version.proofs.TurnoverLaws.{reach_grows, reach_stands, turned_over}
+use Rattle.wh_version.proofs.history.History.turnover.Goals as goal
+
+pub slice_bounds-gone_between-end : goal.slice_bounds-gone_between-end
+slice_bounds-gone_between-end c =
+    let h = c.args.self.now in
+    let grows = reach_grows h.first h.later.items (length h.kept.items) c.args.from c.args.to c.reach-old.result
+    c.reach-new.result c.requires h.marks c.reach-old.ensures c.reach-new.ensures in
+    let count = grows.count in
+    let within = grows.within in
+    let front = length-take c.reach-old.result.partitions c.deref.result.now in
+    omega (arith, count, within, front, ap length c.deref.ensures.value)
+
+pub standing_behind-requires-clause-order : goal.standing_behind-requires-clause-order
+standing_behind-requires-clause-order c =
+    let h = c.args.self.now in
+    (reach_grows h.first h.later.items (length h.kept.items) c.args.from c.args.to c.reach-old.result
+    c.reach-new.result c.requires h.marks c.reach-old.ensures c.reach-new.ensures).count
+
+pub standing_behind-requires-clause-within : goal.standing_behind-requires-clause-within
+standing_behind-requires-clause-within c =
+    let h = c.args.self.now in
+    let within = (reach_grows h.first h.later.items (length h.kept.items) c.args.from c.args.to c.reach-old.result
+    c.reach-new.result c.requires h.marks c.reach-old.ensures c.reach-new.ensures).within in
+    omega (arith, within, ap length c.deref-2.ensures.value)
+
+pub returns : goal.returns
+unfolding versions_of
+returns c =
+    let h = c.args.self.now in
+    let kept : List Kept = h.kept.items in
+    let old = c.reach-old.result in
+    let new = c.reach-new.result in
+    let grows = reach_grows h.first h.later.items (length kept) c.args.from c.args.to old new c.requires h.marks
+    c.reach-old.ensures c.reach-new.ensures in
+    turned_over kept old new (partitions_at c.in_ok-went.went.items) (partitions_at c.in_ok-came.came.items) _ _
+    grows.place
+    (c.in_ok-went.ensures ∙ ap (λ ks. gone_between old.place new.place (take old.partitions ks)) c.deref.ensures.value)
+    (subst (λ (ks : List Kept). standing_at new.place (take old.partitions ks) ++ partitions_at c.in_ok-came.came.items
+    ≡ standing_at new.place (take new.partitions ks)) c.deref-2.ensures.value c.in_ok-came.ensures)
+    (reach_stands kept h.first h.later.items c.args.from old c.reach-old.ensures)
+    (reach_stands kept h.first h.later.items c.args.to new c.reach-new.ensures)

@@ -1,0 +1,119 @@
+ghost use Rattle.std.specs.Prelude.{◌≡◌, ◌≤◌, ◌++◌, ◌∷◌, [], length, take, OnOk, IfOk};
+ghost use Rattle.wh_version.specs.Kept.{standing_at, gone_between};
+ghost use Rattle.wh_version.specs.Edits.{partitions_at};
+
+use crate::mark::mark_at;
+use crate::times::{Time, last_place};
+use crate::version::add_standing;
+use crate::{History, Kept};
+use std::alloc::{AllocError, Global};
+use wh_part::Partition;
+
+/// The partitions that an earlier version has and a later one hasn't, and those that the later one
+/// has and the earlier one hasn't, by rising number each.
+#[derive(Debug, Drop)]
+pub struct Turnover<'a> {
+    pub went: Vec<&'a Partition>,
+    pub came: Vec<&'a Partition>,
+}
+
+/// The place of a version, and how many partitions there were by then; 0 and 0 for none.
+#[derive(Clone, Copy, Debug)]
+pub(crate) struct Reach {
+    pub(crate) place: usize,
+    pub(crate) partitions: usize,
+}
+
+impl History {
+    ghost use Rattle.std.specs.Prelude.{◌≡◌, ◌≤◌, [], IfOk};
+    ghost use Rattle.wh_machine.specs.State.{content_in};
+    ghost use Rattle.wh_version.specs.declared.times.Time.TheVariants.{Data};
+    ghost use Rattle.wh_version.specs.Edits.{partitions_at};
+    ghost use Rattle.wh_version.specs.History.{versions_of, marks_of};
+    ghost use Rattle.wh_version.specs.Times.{data_at, is_up_to, last_place};
+    ghost use Rattle.wh_version.specs.Turnover.{IsTurnover, reach_at};
+
+    /// What went and came from the last version whose data timestamp is at most `from` to the last
+    /// one whose data timestamp is at most `to`. Where no version is old enough, nothing stands.
+    pub fn turnover(&self, alloc: Global, from: u64, to: u64) -> Result<Turnover<'_>, AllocError>
+        requires { from ≤ to }
+        ensures { IfOk result (λ found. IsTurnover
+            (partitions_at found.went.items) (partitions_at found.came.items)
+            (content_in [] (data_at from (versions_of self.now)))
+            (content_in [] (data_at to (versions_of self.now)))) }
+    {
+        let old = self.reach(from);
+        let new = self.reach(to);
+        let went = gone_between(&self.kept[..old.partitions], old.place, new.place, alloc)?;
+        let came = standing_behind(&self.kept, old.partitions, new, alloc)?;
+        Ok(Turnover { went, came })
+    }
+
+    fn reach(&self, timestamp: u64) -> Reach
+        ensures { result ≡ reach_at (marks_of self.now) self.now.first
+            (last_place (is_up_to Data timestamp) (marks_of self.now)) }
+    {
+        let Some(place) = last_place(self.first, &self.later, Time::Data, timestamp) else {
+            return Reach {
+                place: 0,
+                partitions: 0,
+            };
+        };
+        let mark = mark_at(self.first, &self.later, place);
+        Reach {
+            place,
+            partitions: mark.partitions,
+        }
+    }
+}
+
+// The partitions that stand at a place and are gone by another.
+fn gone_between(
+    kept: &[Kept],
+    old: usize,
+    new: usize,
+    alloc: Global,
+) -> Result<Vec<&Partition>, AllocError>
+    ensures { IfOk result (λ found. partitions_at found.items ≡ gone_between old new kept.now) }
+{
+    let mut found = Vec::new(alloc);
+    for one in kept {
+        add_gone(&mut found, old, new, one)?;
+    }
+    Ok(found)
+}
+
+fn add_gone<'a>(
+    found: &mut Vec<&'a Partition>,
+    old: usize,
+    new: usize,
+    one: &'a Kept,
+) -> Result<(), AllocError>
+    ensures { OnOk result (partitions_at found.new.items
+        ≡ partitions_at found.old.items ++ gone_between old new (one.now ∷ [])) }
+{
+    if old < one.until && one.until <= new {
+        found.push(one.partition())?;
+    }
+    Ok(())
+}
+
+/// The partitions behind so many, up to a version's reach, that stand in it.
+pub(crate) fn standing_behind<'a>(
+    kept: &'a [Kept],
+    seen: usize,
+    reach: Reach,
+    alloc: Global,
+) -> Result<Vec<&'a Partition>, AllocError>
+    requires order { seen ≤ reach.partitions }
+    requires within { reach.partitions ≤ length kept.now }
+    ensures { IfOk result (λ found. standing_at reach.place (take seen kept.now)
+        ++ partitions_at found.items
+        ≡ standing_at reach.place (take reach.partitions kept.now)) }
+{
+    let mut found = Vec::new(alloc);
+    for index in seen..reach.partitions {
+        add_standing(&mut found, reach.place, &kept[index])?;
+    }
+    Ok(found)
+}

@@ -1,0 +1,9 @@
+CREATE TABLE T(K NUMBER, V NUMBER);
+INSERT INTO T VALUES (1, 10);
+CREATE STREAM S ON TABLE T;
+UPDATE T SET V = 11;
+-- both sides of a change
+SELECT * FROM S;
+UPDATE T SET V = 10;
+-- and none where it was undone
+SELECT * FROM S;
