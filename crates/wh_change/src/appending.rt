@@ -1,14 +1,21 @@
-ghost use Rattle.std.specs.Prelude.{◌≡◌, IfOk};
+//! The rows that first stand in the versions of a range.
+ghost use Rattle.std.specs.Prelude.{◌≡◌, ◌++◌, map, OnOk, IfOk};
 ghost use Rattle.wh_machine.specs.Stored.{table_meant};
+ghost use Rattle.wh_part.specs.View.{numbered_of};
 ghost use Rattle.wh_streams.specs.Net.{appended};
+ghost use Rattle.wh_table.specs.Rows.{all_rows, partitions_at};
 ghost use Rattle.wh_table.specs.Table.{table_of};
 ghost use Rattle.wh_change.specs.Record.{records_of};
+ghost use Rattle.wh_change.specs.Seen.{appeared};
 
 use crate::Record;
+use crate::seen::Seen;
 use std::alloc::{AllocError, Global};
+use wh_part::{NumberedRow, Partition};
 use wh_table::StoredTable;
 
-/// The rows that first stand in versions behind a stamp and up to another, as they first stood.
+/// The rows that first stand in versions behind a stamp and up to another, as they first stood,
+/// version by version. Of a version only the rows of those partitions are looked at that came with it.
 pub fn appends<'a>(
     alloc: Global,
     table: &'a StoredTable,
@@ -18,5 +25,59 @@ pub fn appends<'a>(
     ensures { IfOk result (λ records. records_of records.items
         ≡ appended (table_meant (table_of table.now)).versions from to) }
 {
-    Err(AllocError)
+    let mut records = Vec::new(alloc);
+    let mut seen = Seen::none(alloc);
+    for place in 0..table.version_count() {
+        let arrivals = table.arrivals(alloc, place)?;
+        if from < arrivals.stamp && arrivals.stamp <= to {
+            add_unseen(&mut records, &seen, &arrivals.came)?;
+        }
+        see(&mut seen, &arrivals.came)?;
+    }
+    Ok(records)
+}
+
+// Partitions one after the other, as they came.
+fn see<'a>(seen: &mut Seen<'a>, came: &[&'a Partition]) -> Result<(), AllocError>
+    ensures { OnOk result (partitions_at seen.new.partitions.items
+        ≡ partitions_at seen.old.partitions.items ++ partitions_at came.now) }
+{
+    for partition in came {
+        seen.add(partition)?;
+    }
+    Ok(())
+}
+
+// The rows of partitions whose numbers weren't seen before.
+fn add_unseen<'a>(
+    records: &mut Vec<Record<'a>>,
+    seen: &Seen<'a>,
+    came: &[&'a Partition],
+) -> Result<(), AllocError>
+    ensures { OnOk result (records_of records.new.items ≡ records_of records.old.items
+        ++ appeared (partitions_at seen.now.partitions.items) (all_rows (partitions_at came.now))) }
+{
+    for partition in came {
+        add_rows(records, seen, partition.rows())?;
+    }
+    Ok(())
+}
+
+fn add_rows<'a>(
+    records: &mut Vec<Record<'a>>,
+    seen: &Seen<'a>,
+    rows: &'a [NumberedRow],
+) -> Result<(), AllocError>
+    ensures { OnOk result (records_of records.new.items ≡ records_of records.old.items
+        ++ appeared (partitions_at seen.now.partitions.items) (map numbered_of rows.now)) }
+{
+    // Rows of one partition mostly come from one that stood before.
+    let mut near = 0;
+    for row in rows {
+        match seen.place_of(row.number, near) {
+            Some(place) => near = place,
+            None => records.push(Record::inserted(row.number, false, &row.row))?,
+        }
+    }
+    Ok(())
 }

@@ -5,6 +5,7 @@ mod appending;
 mod net;
 mod record;
 mod rows;
+mod seen;
 #[cfg(test)]
 mod tests;
 

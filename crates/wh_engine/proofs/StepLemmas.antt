@@ -20,7 +20,7 @@ use Rattle.wh_machine.specs.Streams.{create_stream, drop_stream}
 use Rattle.wh_sessions.specs.Outcome.{Machine, Outcome, Refuses}
 use Rattle.wh_sessions.specs.Reading.{has_data}
 use Rattle.wh_sessions.specs.Statements.{begin, commit, rollback, defines, changes_rows, selects}
-use Rattle.wh_sessions.specs.Step.{is_session, creates_stream, commanded, carried_out}
+use Rattle.wh_sessions.specs.Step.{is_session, commanded, carried_out}
 use Rattle.wh_engine.specs.declared.decision.Decision.{Decision}
 use Rattle.wh_engine.specs.declared.sight.Sight.{Sight}
 use Rattle.wh_engine.specs.Sight.{Comes}
@@ -84,7 +84,7 @@ unfolding carried_out
 carried_drop m session name = refl
 
 pub carried_create_stream : (m : Machine) (session : ℕ) (name source : List ℕ) (is_append_only : Bool)
-    → creates_stream m session name source is_append_only
+    → defines m session None (create_stream m.state name source is_append_only)
     ≡ carried_out m session (Some (CreateStream name source is_append_only))
 unfolding carried_out
 carried_create_stream m session name source is_append_only = refl

@@ -5,7 +5,6 @@ ghost use Rattle.wh_machine.specs.Commit.{CreatesStream};
 ghost use Rattle.wh_machine.specs.Streams as machine;
 ghost use Rattle.wh_sessions.specs.Reading as reading;
 ghost use Rattle.wh_sessions.specs.Statements.{defines};
-ghost use Rattle.wh_sessions.specs.Step.{creates_stream};
 ghost use Rattle.wh_record.specs.View.{change_of};
 ghost use Rattle.wh_catalog.specs.Catalog.{state_of};
 ghost use Rattle.wh_engine.specs.Sight.{machine_in, Comes};
@@ -25,24 +24,8 @@ use wh_record::{Change, StreamChange};
 use wh_reply::{Refusal, Reply};
 use wh_value::{Limit, Text};
 
-// What CREATE STREAM comes to. A stream of appended rows isn't made yet.
-pub(crate) fn create_stream(
-    alloc: Global,
-    sight: &Sight<'_>,
-    stream: NewStream<'_>,
-) -> Result<Decision, AllocError>
-    ensures { IfOk result (λ decision. Comes sight.now decision
-        (creates_stream (machine_in sight.now) sight.now.session
-        stream.entry.name.now stream.entry.source.now stream.entry.is_append_only)) }
-{
-    if stream.is_append_only {
-        return Ok(Decision::Refuse(Refusal::Unsupported));
-    }
-    define_stream(alloc, sight, stream)
-}
-
 // A new stream, the last of the catalog. It shows what comes behind its commit.
-fn define_stream(
+pub(crate) fn create_stream(
     alloc: Global,
     sight: &Sight<'_>,
     stream: NewStream<'_>,

@@ -596,9 +596,8 @@ outcome_of_statement m P each session (Some (CreateTable replace name columns re
     outcome_of_definition m P each session _ _ (outcome_of_creation m P each replace name columns retention)
 outcome_of_statement m P each session (Some (DropTable name)) =
     outcome_of_definition m P each session _ _ (outcome_of_drop m P each name)
-outcome_of_statement m P each session (Some (CreateStream name source true)) = each.refusal Unsupported
-outcome_of_statement m P each session (Some (CreateStream name source false)) =
-    outcome_of_definition m P each session _ _ (outcome_of_stream m P each name source false)
+outcome_of_statement m P each session (Some (CreateStream name source is_append_only)) =
+    outcome_of_definition m P each session _ _ (outcome_of_stream m P each name source is_append_only)
 outcome_of_statement m P each session (Some (DropStream name)) =
     outcome_of_definition m P each session _ _ (outcome_of_stream_drop m P each name)
 outcome_of_statement m P each session (Some (ChangeRows statement)) = outcome_of_change m P each session statement

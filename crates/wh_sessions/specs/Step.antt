@@ -31,11 +31,6 @@ reading_of (Tick reading) = reading
 
 -- ---- what an event does: the state has the event's stamp as its last one
 
--- a stream of appended rows isn't made yet
-abbrev pub creates_stream : Machine → ℕ → List ℕ → List ℕ → Bool → Outcome
-creates_stream m session name table true = Refuses Unsupported
-creates_stream m session name table false = defines m session None (create_stream m.state name table false)
-
 unfoldable pub carried_out : Machine → ℕ → Option Statement → Outcome
 carried_out m session None = Refuses Unsupported
 carried_out m session (Some Begin) = begin m session
@@ -45,7 +40,7 @@ carried_out m session (Some (CreateTable replace name columns retention)) =
     defines m session (replaced_id m.state replace name) (create_table m.state replace name columns retention)
 carried_out m session (Some (DropTable name)) = defines m session (id_of name m.state.objects) (drop_table m.state name)
 carried_out m session (Some (CreateStream name table is_append_only)) =
-    creates_stream m session name table is_append_only
+    defines m session None (create_stream m.state name table is_append_only)
 carried_out m session (Some (DropStream name)) =
     defines m session (id_of name m.state.objects) (drop_stream m.state name)
 carried_out m session (Some (ChangeRows statement)) = changes_rows m session statement

@@ -1,14 +1,14 @@
 use crate::StoredTable;
 use crate::by_number::by_rows;
 use std::alloc::{AllocError, Global};
-use wh_version::Turnover;
+use wh_version::{Arrivals, Turnover};
 
 impl StoredTable {
-    ghost use Rattle.std.specs.Prelude.{◌≡◌, ◌≤◌, [], IfOk};
+    ghost use Rattle.std.specs.Prelude.{◌≡◌, ◌<◌, ◌≤◌, [], length, take, drop, IfOk};
     ghost use Rattle.wh_machine.specs.State.{content_in};
     ghost use Rattle.wh_machine.specs.Stored.{rows_of};
     ghost use Rattle.wh_version.specs.Times.{data_at};
-    ghost use Rattle.wh_table.specs.Changes.{AreChanges};
+    ghost use Rattle.wh_table.specs.Changes.{AreChanges, AreArrivals};
     ghost use Rattle.wh_table.specs.Rows.{all_rows, partitions_at};
     ghost use Rattle.wh_table.specs.Table.{table_of};
 
@@ -26,5 +26,26 @@ impl StoredTable {
         let went = by_rows(&turnover.went, alloc)?;
         let came = by_rows(&turnover.came, alloc)?;
         Ok(Turnover { went, came })
+    }
+
+    /// How many versions there are.
+    pub fn version_count(&self) -> usize
+        ensures { result ≡ length (table_of self.now).versions }
+    {
+        self.history.count()
+    }
+
+    /// What came with the version at a place, from the first one on, by its rows.
+    pub fn arrivals(&self, alloc: Global, place: usize) -> Result<Arrivals<'_>, AllocError>
+        requires { place < length (table_of self.now).versions }
+        ensures { IfOk result (λ found. AreArrivals found.stamp (all_rows (partitions_at found.came.items))
+            (take place (table_of self.now).versions) (drop place (table_of self.now).versions)) }
+    {
+        let arrivals = self.history.arrivals(alloc, place)?;
+        let came = by_rows(&arrivals.came, alloc)?;
+        Ok(Arrivals {
+            stamp: arrivals.stamp,
+            came,
+        })
     }
 }
