@@ -78,9 +78,7 @@ DROP TABLE U, V;
 DROP TABLE IF EXISTS U;
 -- OR REPLACE makes tables alone
 CREATE OR REPLACE STREAM S ON TABLE U;
--- streams of appended rows aren't carried out yet
-CREATE STREAM S ON TABLE U APPEND_ONLY = TRUE;
--- nor is a task resumed
+-- a task isn't resumed yet
 ALTER TASK A RESUME;
 -- nor a dynamic table refreshed
 ALTER DYNAMIC TABLE D REFRESH;

@@ -65,5 +65,5 @@ DROP STREAM Q;
 CREATE STREAM Q ON TABLE T;
 -- for one that shows what is new
 SELECT K FROM Q;
--- a stream of appended rows isn't made yet
+-- of appended rows too
 CREATE STREAM P ON TABLE T APPEND_ONLY = TRUE;

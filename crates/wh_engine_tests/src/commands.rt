@@ -78,10 +78,6 @@ fn numbers_have_a_minus_sign_and_18_digits(rt: HostRuntime) {
 #[test]
 fn other_statements_are_not_carried_out(rt: HostRuntime) {
     const CASES: &[(&str, &str)] = &[
-        (
-            "CREATE STREAM S ON TABLE N APPEND_ONLY = TRUE",
-            "E0 Unsupported\n",
-        ),
         ("CREATE TASK A AS DELETE FROM N", "E0 Unsupported\n"),
         ("DROP DYNAMIC TABLE N", "E0 Unsupported\n"),
     ];

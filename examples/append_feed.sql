@@ -1,0 +1,26 @@
+-- Every order that comes in is moved on to a log once, as it came in, whatever becomes of it.
+CREATE TABLE ORDERS(ID NUMBER, ITEM VARCHAR, STATUS VARCHAR);
+CREATE TABLE LOG(ID NUMBER, ITEM VARCHAR);
+CREATE STREAM NEW_ORDERS ON TABLE ORDERS APPEND_ONLY = TRUE;
+INSERT INTO ORDERS VALUES (1, 'bolt', 'open'), (2, 'nut', 'open');
+UPDATE ORDERS SET STATUS = 'sent' WHERE ID = 1;
+
+-- As they came in: a later change isn't shown.
+SELECT * FROM NEW_ORDERS;
+INSERT INTO LOG SELECT ID, ITEM FROM NEW_ORDERS;
+
+-- One that is sent, one that goes, and one that comes and goes again.
+UPDATE ORDERS SET STATUS = 'sent' WHERE ID = 2;
+DELETE FROM ORDERS WHERE ID = 1;
+INSERT INTO ORDERS VALUES (3, 'screw', 'open');
+DELETE FROM ORDERS WHERE ID = 3;
+
+-- A batch that is rolled back moves nothing.
+BEGIN;
+INSERT INTO LOG SELECT ID, ITEM FROM NEW_ORDERS;
+ROLLBACK;
+SELECT SYSTEM$STREAM_HAS_DATA('NEW_ORDERS');
+INSERT INTO LOG SELECT ID, ITEM FROM NEW_ORDERS;
+SELECT SYSTEM$STREAM_HAS_DATA('NEW_ORDERS');
+SELECT * FROM LOG;
+SELECT * FROM ORDERS;
