@@ -27,7 +27,8 @@ pub fn appends<'a>(
 {
     let mut records = Vec::new(alloc);
     let mut seen = Seen::none(alloc);
-    for place in 0..table.version_count() {
+    let count = table.version_count();
+    for place in 0..count {
         let arrivals = table.arrivals(alloc, place)?;
         if from < arrivals.stamp && arrivals.stamp <= to {
             add_unseen(&mut records, &seen, &arrivals.came)?;
