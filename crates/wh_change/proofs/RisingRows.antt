@@ -1,11 +1,12 @@
 -- Rows with rising numbers, and the row of a number among them.
 --     tied, less_untied, more_untied     what tests of numbers say
---     below_none, above_none             no row has a number in front of them, or behind them
+--     before_none, behind_none           no row has a number in front of them, or behind them
 --     rows_rise                          numbers do not fall from place to place
---     found, none_found                  the row of a number, and where there is none
+--     found, none_found, found_or_not    the row of a number, and where there is none
 use Rattle.std.proofs.Common.{◌≡◌, ℕ, zero, suc, ◌+◌, ◌<◌, ◌≤◌, cond, Bool, true, false, List, [], ◌∷◌, length, get_or, map}
-use Rattle.std.proofs.Common.{Option, Some, None, refl, sym, ap, ◌∙◌, arith, Less, Equal, Greater}
-use Rattle.std.proofs.Common.{nat_lt}
+use Rattle.std.proofs.Common.{Some, None, refl, sym, ap, ◌∙◌, arith, Less, Equal, Greater}
+use Rattle.std.proofs.Common.{is_some, nat_eq, nat_lt}
+use Rattle.std.proofs.lemmas.Bool.Decides.{nat_tests}
 use Rattle.std.proofs.lemmas.Bool.{ltb-true, ltb-false}
 use Rattle.std.proofs.lemmas.List.{get_or_default}
 use Rattle.std.specs.Cmp.{nat_cmp_is}
@@ -133,3 +134,20 @@ module _ {X : Type 0} (entry_of : X → ℕ × Row) where
       → find nat_cmp number (map entry_of rows) ≡ None
   none_there number rows place row up there within is differs = none_found number rows place up there
       (λ d _ same. differs (ap (λ x. (entry_of x).0) (is ∙ get_or_default rows place row d within) ∙ same))
+
+  -- whether the row at the place has the number
+  pub found_or_not : (number : ℕ) (rows : List X) (place : ℕ) (row : X) → RisesFrom 0 (map entry_of rows)
+      → IsPlaceOf entry_of number rows place → place < length rows → row ≡ get_or rows place row
+      → nat_eq (entry_of row).0 number ≡ is_some (find nat_cmp number (map entry_of rows))
+  found_or_not number rows place row up there within is = by_test (nat_eq (entry_of row).0 number) refl
+    where
+      by_test : (b : Bool) → nat_eq (entry_of row).0 number ≡ b
+          → b ≡ is_some (find nat_cmp number (map entry_of rows))
+      by_test true same =
+          let here : (entry_of row).0 ≡ number = grind (arith, nat_tests) in
+          sym (ap (λ n. is_some (find nat_cmp n (map entry_of rows))) (sym here)
+          ∙ ap is_some (found 0 rows place row up within is))
+      by_test false other = sym (ap is_some (none_there number rows place row up there within is differs))
+        where
+          differs : (entry_of row).0 ≡ number → ⊥
+          differs same = grind (arith, nat_tests)

@@ -2,11 +2,12 @@
 --     placed_any                the first element that passes a test, and whether one does
 --     bound_last, bound_more    bounds of row numbers
 --     found_rows, seen_more     a number among the rows of partitions
-use Rattle.std.proofs.Common.{◌≡◌, ℕ, ◌+◌, ◌<◌, max, cond, Bool, true, false, List, [], ◌∷◌, ◌++◌, Option, Some, None}
-use Rattle.std.proofs.Common.{refl, sym, ap, ◌∙◌, arith}
+use Rattle.std.proofs.Common.{◌≡◌, ℕ, suc, ◌+◌, max, cond, Bool, true, false, List, [], ◌∷◌, ◌++◌, Some, None}
+use Rattle.std.proofs.Common.{length, nat_lt, refl, ap, ◌∙◌, arith}
+use Rattle.std.proofs.lemmas.Bool.Decides.{nat_tests}
 use Rattle.std.proofs.lemmas.List.Folds.{list_any-append}
-use Rattle.std.specs.Prelude.{◌||◌, is_some}
-use Rattle.std.specs.List.{list_any, position_from}
+use Rattle.std.specs.Prelude.{◌||◌, not, is_some}
+use Rattle.std.specs.List.{list_any, position, position_or_len}
 use Rattle.std.specs.Ordering.{nat_cmp, eq_by_cmp}
 use Rattle.std.specs.FinMap.Entries.{find}
 use Rattle.wh_value.specs.Value.{Row}
@@ -16,15 +17,31 @@ use Rattle.wh_table.specs.Rows.{all_rows}
 use Rattle.wh_change.specs.Seen.{has_number, is_seen, IsBound}
 use Rattle.wh_change.proofs.RisingRows.{behind_none}
 
-pub placed_any : {K : Type 0} (test : K → Bool) (i : ℕ) (xs : List K)
-    → is_some (position_from test i xs) ≡ list_any test xs
-placed_any test i [] = refl
-placed_any test i (x ∷ xs) = by_test (test x) (placed_any test (i + 1) xs)
+next_lower : (a b : ℕ) → nat_lt (suc a) (suc b) ≡ nat_lt a b
+next_lower a b = by_test (nat_lt a b) refl
   where
-    by_test : (b : Bool) → is_some (position_from test (i + 1) xs) ≡ list_any test xs
-        → is_some (cond b (Some i) (position_from test (i + 1) xs)) ≡ (b || list_any test xs)
-    by_test true rest = refl
-    by_test false rest = rest
+    by_test : (t : Bool) → nat_lt a b ≡ t → nat_lt (suc a) (suc b) ≡ t
+    by_test true is = grind (arith, nat_tests)
+    by_test false is = grind (arith, nat_tests)
+
+within_any : {K : Type 0} (test : K → Bool) (xs : List K)
+    → nat_lt (position_or_len test xs) (length xs) ≡ list_any test xs
+within_any test [] = refl
+within_any test (x ∷ xs) = by_test (test x) (within_any test xs)
+  where
+    by_test : (b : Bool) → nat_lt (position_or_len test xs) (length xs) ≡ list_any test xs
+        → nat_lt (cond (not b) (1 + position_or_len test xs) 0) (suc (length xs)) ≡ (b || list_any test xs)
+    by_test true rest = grind (arith, nat_tests)
+    by_test false rest =
+        let more : 1 + position_or_len test xs ≡ suc (position_or_len test xs) = omega arith in
+        ap (λ n. nat_lt n (suc (length xs))) more ∙ next_lower (position_or_len test xs) (length xs) ∙ rest
+
+pub placed_any : {K : Type 0} (test : K → Bool) (xs : List K) → is_some (position test xs) ≡ list_any test xs
+placed_any test xs = whether (nat_lt (position_or_len test xs) (length xs)) ∙ within_any test xs
+  where
+    whether : (b : Bool) → is_some (cond b (Some (position_or_len test xs)) None) ≡ b
+    whether true = refl
+    whether false = refl
 
 -- ---- bounds
 

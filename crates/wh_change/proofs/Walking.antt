@@ -1,8 +1,8 @@
 -- A walk over versions with the partitions that came so far.
 --     Walked        what is known in front of a version: the records so far, and which numbers were seen
 --     walk_begins, walked_on, walk_ends
-use Rattle.std.proofs.Common.{◌≡◌, ℕ, zero, suc, ◌+◌, ◌⊎◌, inl, inr, cond, Bool, true, false, List, [], ◌∷◌, ◌++◌}
-use Rattle.std.proofs.Common.{map, take, drop, filter, Option, Some, None, refl, sym, ap, subst, ◌∙◌, append_assoc}
+use Rattle.std.proofs.Common.{◌≡◌, ℕ, zero, suc, inl, inr, cond, Bool, true, false, List, [], ◌∷◌, ◌++◌}
+use Rattle.std.proofs.Common.{map, take, drop, filter, Option, Some, None, refl, sym, ap, ◌∙◌, append_assoc}
 use Rattle.std.proofs.lemmas.List.{append-nil}
 use Rattle.std.specs.Prelude.{◌||◌, not, is_some, if◌then◌else◌}
 use Rattle.std.specs.Cmp.{nat_cmp_total}
@@ -37,13 +37,16 @@ next_taken zero (y ∷ xs) x rest is = cc
 next_taken (suc n) [] x rest is = absurd cc
 next_taken (suc n) (y ∷ xs) x rest is = ap (λ l. y ∷ l) (next_taken n xs x rest is)
 
+not_both : {X : Type 0} → false ≡ true → X
+not_both is = absurd cc
+
 -- ---- one version more
 
-HasAll : List Rows → List Partition → Type 0
+abbrev pub HasAll : List Rows → List Partition → Type 0
 HasAll earlier seen = (n : ℕ) → is_in_one n earlier ≡ is_seen n seen
 
 -- what one of the rows has, one of the others has
-AreIn : Rows → List Rows → Type 0
+abbrev pub AreIn : Rows → List Rows → Type 0
 AreIn rows earlier = (n : ℕ) → is_some (get rows n) ≡ true → is_in_one n earlier ≡ true
 
 abbrev is_new : List Rows → ℕ → Bool
@@ -60,7 +63,7 @@ module _ (earlier : List Rows) (old new gone arrived : Rows)
       none_new None true sure = refl
       none_new None false sure = refl
       none_new (Some row) true sure = refl
-      none_new (Some row) false sure = absurd (cc)
+      none_new (Some row) false sure = not_both (sure refl)
 
       by_either : IsShown (get old n) (get new n) (get gone n) (get arrived n)
           → cond (is_new earlier n) (get new n) None ≡ cond (is_new earlier n) (get arrived n) None
@@ -86,7 +89,6 @@ module _ (earlier : List Rows) (old new gone arrived : Rows)
 
   pub same_more : (seen came : List Partition) → HasAll earlier seen → all_rows came ≡ entries arrived
       → HasAll (new ∷ earlier) (seen ++ came)
-  unfolding HasAll
   same_more seen came same is n =
       by_either (each n) ∙ ap (λ b. is_seen n seen || b) (sym in_came) ∙ sym (seen_more n seen came)
     where
@@ -102,7 +104,7 @@ module _ (earlier : List Rows) (old new gone arrived : Rows)
 
       known : (a b : Bool) → (a ≡ true → b ≡ true) → (a || b) ≡ (b || false)
       known true true sure = refl
-      known true false sure = absurd (cc)
+      known true false sure = not_both (sure refl)
       known false true sure = refl
       known false false sure = refl
 
@@ -126,10 +128,6 @@ pub record Walked (from to : ℕ) (vs : List StoredVersion) (place : ℕ) (recor
 pub walk_begins : (from to : ℕ) (vs : List StoredVersion) (seen : List Partition) → seen ≡ []
     → Walked from to vs 0 [] seen
 unfolding appended
-
-unfolding HasAll
-
-unfolding AreIn
 walk_begins from to vs seen none = record {
   earlier = [];
   so_far = refl;
@@ -153,7 +151,6 @@ walk_ends from to vs place records seen walked none =
 
 same_records : (earlier : List Rows) (seen : List Partition) → HasAll earlier seen → (es : List (ℕ × Row))
     → map (λ (e : ℕ × Row). inserted e.0 false e.1) (filter (λ e. is_new earlier e.0) es) ≡ appeared seen es
-unfolding HasAll
 same_records earlier seen same es =
     λ i. map (λ (e : ℕ × Row). inserted e.0 false e.1) (filter (λ (e : ℕ × Row). not (same e.0 i)) es)
 
@@ -163,7 +160,6 @@ pub walked_on : (from to stamp : ℕ) (vs : List StoredVersion) (place : ℕ) (r
     → Walked from to vs place records seen → AreArrivals stamp (all_rows came) (take place vs) (drop place vs)
     → now ≡ records ++ (if is_between from to stamp then appeared seen (all_rows came) else [])
     → Walked from to vs (suc place) now (seen ++ came)
-unfolding AreIn
 walked_on from to stamp vs place records now seen came walked arrival is_now = record {
   earlier = rows ∷ walked.earlier;
   so_far = ap (λ l. now ++ appended_from (rows ∷ walked.earlier) from to (map version_meant l))

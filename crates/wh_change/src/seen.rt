@@ -52,7 +52,7 @@ impl<'a> Seen<'a> {
     }
 }
 
-ghost use Rattle.std.specs.Prelude.{◌≡◌, ◌≤◌, true, length, map, get_or, is_some};
+ghost use Rattle.std.specs.Prelude.{◌≡◌, [], ◌∷◌, true, map, is_some};
 ghost use Rattle.std.specs.Ordering.{nat_cmp};
 ghost use Rattle.std.specs.FinMap.Entries.{find};
 ghost use Rattle.std.specs.List.{position};
@@ -77,7 +77,7 @@ fn has_at(partitions: &[&Partition], place: usize, number: u64) -> bool
 }
 
 fn first_with(partitions: &[&Partition], number: u64) -> Option<usize>
-    ensures { result ≡ position (has_number number) (partitions_at partitions.now) }
+    ensures { result ≡ position (λ p. has_number number p.now) partitions.now }
 {
     partitions
         .iter()
