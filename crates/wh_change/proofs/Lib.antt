@@ -2,3 +2,5 @@ pub mod RisingRows
 pub mod Entries
 pub mod NetParts
 pub mod Versions
+pub mod SeenRows
+pub mod Walking

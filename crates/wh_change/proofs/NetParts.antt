@@ -6,11 +6,11 @@ use Rattle.std.proofs.Common.{false, List, [], ◌∷◌, ◌++◌, map, Option,
 use Rattle.std.proofs.Common.{refl, sym, ap, ◌∙◌}
 use Rattle.std.specs.Prelude.{is_some}
 use Rattle.std.specs.List.{flat_map, AllByRecursion}
-use Rattle.std.specs.Ordering.{nat_cmp, eq_by_cmp}
+use Rattle.std.specs.Ordering.{nat_cmp}
 use Rattle.std.proofs.lemmas.Cmp.{eq_by_cmp_equiv}
 use Rattle.std.specs.FinMap.{get, entries, get-entries}
-use Rattle.std.specs.FinMap.Entries.{find, where_key}
-use Rattle.wh_value.specs.Value.{Row, row_cmp}
+use Rattle.std.specs.FinMap.Entries.{where_key}
+use Rattle.wh_value.specs.Value.{Row}
 use Rattle.wh_value.specs.Order.{row_total}
 use Rattle.wh_machine.specs.State.{Rows}
 use Rattle.wh_streams.specs.Net.{Record, Delete, Insert, change_at, arrival_at, numbers_in, net}

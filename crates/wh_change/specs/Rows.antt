@@ -1,6 +1,7 @@
 -- Rows with their numbers, and the records of two lists of them.
 --     row_in         the row that a reference points to, if there is one
---     entries_at     the rows that references point to, with their numbers
+--     entry_at       the row that a reference points to, with its number
+--     entries_at     those of several
 --     changes_by     what became of rows, by those that there are now
 --     arrivals_by    the rows that there are now, by those that were there
 --     IsPlaceOf      the place of the first number that isn't below
@@ -18,8 +19,11 @@ abbrev pub row_in : Option (Bor Row) → Option Row
 row_in None = None
 row_in (Some row) = Some row.now
 
+abbrev pub entry_at : Bor NumberedRow → ℕ × Row
+entry_at row = numbered_of row.now
+
 abbrev pub entries_at : List (Bor NumberedRow) → List (ℕ × Row)
-entries_at rows = map (λ row. numbered_of row.now) rows
+entries_at rows = map entry_at rows
 
 abbrev pub changes_by : List (ℕ × Row) → List (ℕ × Row) → List Record
 changes_by new old = flat_map (λ e. change_at e.0 (Some e.1) (find nat_cmp e.0 new)) old
@@ -27,6 +31,6 @@ changes_by new old = flat_map (λ e. change_at e.0 (Some e.1) (find nat_cmp e.0 
 abbrev pub arrivals_by : List (ℕ × Row) → List (ℕ × Row) → List Record
 arrivals_by old new = flat_map (λ e. arrival_at e.0 (find nat_cmp e.0 old) (Some e.1)) new
 
-pub record IsPlaceOf (number : ℕ) (rows : List (Bor NumberedRow)) (place : ℕ) : Type 0 where
-  pub front : (i : ℕ) (d : Bor NumberedRow) → i < place → (get_or rows i d).now.number < number
-  pub behind : (d : Bor NumberedRow) → place < length rows → number ≤ (get_or rows place d).now.number
+pub record IsPlaceOf {X : Type 0} (entry_of : X → ℕ × Row) (number : ℕ) (rows : List X) (place : ℕ) : Type 0 where
+  pub front : (i : ℕ) (d : X) → i < place → (entry_of (get_or rows i d)).0 < number
+  pub behind : (d : X) → place < length rows → number ≤ (entry_of (get_or rows place d)).0

@@ -1,8 +1,8 @@
 //! The rows that first stand in the versions of a range.
-ghost use Rattle.std.specs.Prelude.{◌≡◌, ◌++◌, map, OnOk, IfOk};
+ghost use Rattle.std.specs.Prelude.{◌≡◌, [], ◌++◌, map, OnOk, IfOk, if◌then◌else◌};
 ghost use Rattle.wh_machine.specs.Stored.{table_meant};
 ghost use Rattle.wh_part.specs.View.{numbered_of};
-ghost use Rattle.wh_streams.specs.Net.{appended};
+ghost use Rattle.wh_streams.specs.Net.{appended, is_between};
 ghost use Rattle.wh_table.specs.Rows.{all_rows, partitions_at};
 ghost use Rattle.wh_table.specs.Table.{table_of};
 ghost use Rattle.wh_change.specs.Record.{records_of};
@@ -13,6 +13,7 @@ use crate::seen::Seen;
 use std::alloc::{AllocError, Global};
 use wh_part::{NumberedRow, Partition};
 use wh_table::StoredTable;
+use wh_version::Arrivals;
 
 /// The rows that first stand in versions behind a stamp and up to another, as they first stood,
 /// version by version. Of a version only the rows of those partitions are looked at that came with it.
@@ -27,14 +28,31 @@ pub fn appends<'a>(
 {
     let mut records = Vec::new(alloc);
     let mut seen = Seen::none(alloc);
-    for place in 0..table.version_count() {
+    let count = table.version_count();
+    for place in 0..count {
         let arrivals = table.arrivals(alloc, place)?;
-        if from < arrivals.stamp && arrivals.stamp <= to {
-            add_unseen(&mut records, &seen, &arrivals.came)?;
-        }
+        add_appended(&mut records, &seen, &arrivals, from, to)?;
         see(&mut seen, &arrivals.came)?;
     }
     Ok(records)
+}
+
+// What came with a version, where its stamp is behind the range's first and up to its last.
+fn add_appended<'a>(
+    records: &mut Vec<Record<'a>>,
+    seen: &Seen<'a>,
+    arrivals: &Arrivals<'a>,
+    from: u64,
+    to: u64,
+) -> Result<(), AllocError>
+    ensures { OnOk result (records_of records.new.items ≡ records_of records.old.items
+        ++ (if is_between from to arrivals.now.stamp then appeared (partitions_at seen.now.partitions.items)
+        (all_rows (partitions_at arrivals.now.came.items)) else [])) }
+{
+    if arrivals.stamp <= from || to < arrivals.stamp {
+        return Ok(());
+    }
+    add_unseen(records, seen, &arrivals.came)
 }
 
 // Partitions one after the other, as they came.

@@ -4,7 +4,7 @@ ghost use Rattle.std.specs.FinMap.Entries.{find};
 ghost use Rattle.std.specs.Ordering.{nat_cmp};
 ghost use Rattle.wh_frame.specs.Spelling.{RisesFrom};
 ghost use Rattle.wh_table.specs.Rows.{all_rows, partitions_at};
-ghost use Rattle.wh_change.specs.Rows.{row_in, entries_at, IsPlaceOf};
+ghost use Rattle.wh_change.specs.Rows.{row_in, entry_at, entries_at, IsPlaceOf};
 
 use std::alloc::{AllocError, Global};
 use wh_part::{NumberedRow, Partition};
@@ -54,7 +54,7 @@ pub(crate) fn row_at<'a>(rows: &[&'a NumberedRow], number: u64) -> Option<&'a Ro
 // The first place whose number isn't below it.
 fn place_of(rows: &[&NumberedRow], number: u64) -> usize
     requires { RisesFrom 0 (entries_at rows.now) }
-    ensures { IsPlaceOf number rows.now result }
+    ensures { IsPlaceOf entry_at number rows.now result }
 {
     rows.partition_point(|row| row.number < number)
 }

@@ -1,20 +1,17 @@
 //! The partitions that came with versions so far, by the numbers of their rows.
-ghost use Rattle.std.specs.Prelude.{◌≡◌, ◌<◌, ◌≤◌, length, is_some};
-ghost use Rattle.std.specs.Prelude.{slice_index_or as get_or};
-ghost use Rattle.wh_table.specs.Apart.{highest_number};
 ghost use Rattle.wh_table.specs.Rows.{partitions_at};
-ghost use Rattle.wh_change.specs.Seen.{has_number, is_seen};
+ghost use Rattle.wh_change.specs.Seen.{IsBound};
 
 use std::alloc::{AllocError, Global};
-use wh_part::Partition;
+use wh_part::{NumberedRow, Partition};
 
 /// Partitions in the order in which they came.
 #[derive(Debug, Drop)]
 pub(crate) struct Seen<'a> {
-    partitions: Vec<&'a Partition>,
+    pub(crate) partitions: Vec<&'a Partition>,
     /// No row of them has a number above it.
     highest: u64,
-    ghost bounded: { highest_number (partitions_at partitions.items) ≤ highest },
+    ghost bounded: { IsBound highest (partitions_at partitions.items) },
 }
 
 impl<'a> Seen<'a> {
@@ -36,12 +33,12 @@ impl<'a> Seen<'a> {
             ≡ partitions_at self.old.partitions.items ++ partition.now ∷ []) }
     {
         self.partitions.push(partition)?;
-        self.highest = self.highest.max(partition.last());
+        self.highest = self.highest.max(bound_of(partition));
         Ok(())
     }
 
     /// The place of a partition with a row of that number, if there is one. It is sought at a place
-    /// first, and then from the last one back.
+    /// first, and then from the first one on.
     pub(crate) fn place_of(&self, number: u64, near: usize) -> Option<usize>
         ensures { is_some result ≡ is_seen number (partitions_at self.now.partitions.items) }
     {
@@ -51,8 +48,25 @@ impl<'a> Seen<'a> {
         if has_at(&self.partitions, near, number) {
             return Some(near);
         }
-        last_with(&self.partitions, number)
+        first_with(&self.partitions, number)
     }
+}
+
+ghost use Rattle.std.specs.Prelude.{◌≡◌, [], ◌∷◌, true, map, is_some};
+ghost use Rattle.std.specs.Ordering.{nat_cmp};
+ghost use Rattle.std.specs.FinMap.Entries.{find};
+ghost use Rattle.std.specs.List.{position};
+ghost use Rattle.wh_frame.specs.Spelling.{RisesFrom};
+ghost use Rattle.wh_part.specs.View.{numbered_of};
+ghost use Rattle.wh_change.specs.Rows.{IsPlaceOf};
+ghost use Rattle.wh_change.specs.Seen.{has_number, is_seen};
+
+// Its last number.
+fn bound_of(partition: &Partition) -> u64
+    ensures { IsBound result (partition.now ∷ []) }
+{
+    let rows = partition.rows();
+    rows[rows.len() - 1].number
 }
 
 // Whether the partition at a place has a row of that number. No place has none.
@@ -62,27 +76,36 @@ fn has_at(partitions: &[&Partition], place: usize, number: u64) -> bool
     place < partitions.len() && has_number(partitions[place], number)
 }
 
-// The last of partitions that has a row of that number.
-fn last_with(partitions: &[&Partition], number: u64) -> Option<usize>
-    ensures { is_some result ≡ is_seen number (partitions_at partitions.now) }
+fn first_with(partitions: &[&Partition], number: u64) -> Option<usize>
+    ensures { result ≡ position (λ p. has_number number p.now) partitions.now }
 {
-    let count = partitions.len();
-    for done in 0..count {
-        let place = count - 1 - done;
-        if has_number(partitions[place], number) {
-            return Some(place);
-        }
-    }
-    None
+    partitions
+        .iter()
+        .position(|partition| has_number(partition, number))
 }
 
 fn has_number(partition: &Partition, number: u64) -> bool
     ensures { result ≡ has_number number partition.now }
 {
+    let rows = partition.rows();
     if number < partition.first() || partition.last() < number {
         return false;
     }
-    let rows = partition.rows();
-    let place = rows.partition_point(|row| row.number < number);
+    has_row(rows, number)
+}
+
+fn has_row(rows: &[NumberedRow], number: u64) -> bool
+    requires { RisesFrom 0 (map numbered_of rows.now) }
+    ensures { result ≡ is_some (find nat_cmp number (map numbered_of rows.now)) }
+{
+    let place = place_in(rows, number);
     place < rows.len() && rows[place].number == number
+}
+
+// The first place whose number isn't below it.
+fn place_in(rows: &[NumberedRow], number: u64) -> usize
+    requires { RisesFrom 0 (map numbered_of rows.now) }
+    ensures { IsPlaceOf numbered_of number rows.now result }
+{
+    rows.partition_point(|row| row.number < number)
 }

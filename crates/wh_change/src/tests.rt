@@ -1,6 +1,6 @@
 ghost use Rattle.std.specs.Prelude.{◌≤◌};
 
-use crate::{Action, Record, net_changes};
+use crate::{Action, Record, appends, net_changes};
 use std::alloc::Global;
 use std::process::Abort;
 use wh_part::{NumberedRow, Partition};
@@ -58,7 +58,8 @@ fn empty_table(rt: &impl Abort, alloc: Global) -> StoredTable {
     StoredTable::new(alloc, columns, 1, 2)
 }
 
-// Rows 1 to 3; then row 1 is changed, row 2 goes and row 4 comes; then row 1 is as it was.
+// Rows 1 to 3; then row 1 is changed, row 2 goes and row 4 comes; then row 1 is as it was; and row 2
+// stands again, as no run leaves it.
 fn filled_table(rt: &impl Abort, alloc: Global) -> StoredTable {
     let mut table = empty_table(rt, alloc);
     push(rt, alloc, &mut table, 3, &[], &[(1, 1, 10), (2, 2, 20)]);
@@ -66,6 +67,7 @@ fn filled_table(rt: &impl Abort, alloc: Global) -> StoredTable {
     push(rt, alloc, &mut table, 5, &[1, 2], &[(4, 1, 11)]);
     push(rt, alloc, &mut table, 6, &[], &[(5, 4, 40)]);
     push(rt, alloc, &mut table, 7, &[4], &[(6, 1, 10)]);
+    push(rt, alloc, &mut table, 8, &[], &[(7, 2, 21), (8, 5, 50)]);
     table
 }
 
@@ -126,4 +128,31 @@ fn a_row_number_nets_to_one_change(rt: HostRuntime) {
     assert_net(&rt, alloc, &table, 2, 6, &all);
     assert_net(&rt, alloc, &table, 1, 6, &all);
     assert_net(&rt, alloc, &table, 6, 6, &[]);
+}
+
+fn assert_appended(
+    rt: &impl Abort,
+    alloc: Global,
+    table: &StoredTable,
+    from: u64,
+    to: u64,
+    want: &[(u64, Action, bool, i64)],
+) {
+    let records = appends(alloc, table, from, to).expect(rt, "memory");
+    assert!(rt; are_as(&records, want), "{from} to {to}");
+}
+
+#[test]
+fn a_row_number_is_appended_once(rt: HostRuntime) {
+    let alloc = rt.alloc();
+    let table = filled_table(&rt, alloc);
+    let insert = Action::Insert;
+    let first = [(1, insert, false, 10), (2, insert, false, 20)];
+    let behind = [(3, insert, false, 30), (4, insert, false, 40)];
+    assert_appended(&rt, alloc, &table, 0, 3, &first);
+    assert_appended(&rt, alloc, &table, 3, 7, &behind);
+    assert_appended(&rt, alloc, &table, 4, 5, &[]);
+    assert_appended(&rt, alloc, &table, 6, 7, &[]);
+    assert_appended(&rt, alloc, &table, 7, 8, &[(5, insert, false, 50)]);
+    assert_appended(&rt, alloc, &table, 3, 3, &[]);
 }

@@ -10,3 +10,4 @@ pub mod ChangedRows
 pub mod Entries
 pub mod Standing
 pub mod Edited
+mod ArrivedRows

@@ -1,7 +1,5 @@
-use Rattle.std.proofs.Common.{◌≡◌, List, [], ◌++◌, ◌∙◌, ap, sym, subst}
+use Rattle.std.proofs.Common.{◌≡◌, [], ◌++◌, ◌∙◌, ap, sym, subst}
 use Rattle.std.specs.FinMap.{entries}
-use Rattle.wh_value.specs.Value.{Row}
-use Rattle.wh_frame.specs.Partition.{Partition}
 use Rattle.wh_frame.specs.Spelling.{RisesFrom}
 use Rattle.wh_machine.specs.State.{Rows, content_in}
 use Rattle.wh_machine.specs.Stored.{rows_of}
