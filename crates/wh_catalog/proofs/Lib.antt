@@ -1,5 +1,5 @@
 pub mod Places
-pub mod Objects
+pub mod Steps
 pub mod Conditions
 pub mod Dropped
 pub mod OrderlyObjects

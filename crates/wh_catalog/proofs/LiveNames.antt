@@ -2,30 +2,31 @@
 --     found_none, found_at     the last object of a name is the one that lives, if any does
 --     last_more                with one more object, of a name that no live one has
 use Rattle.std.proofs.Common.{◌≡◌, ℕ, zero, suc, ◌+◌, ◌-◌, ◌<◌, Bool, true, false, cond, ◌&&◌, not, List, [], ◌∷◌, ◌++◌}
-use Rattle.std.proofs.Common.{length, map, get_or, Option, Some, None, option_map, bytes_eq, nat_lt, refl, sym, ap}
+use Rattle.std.proofs.Common.{length, get_or, Option, Some, None, option_map, bytes_eq, nat_lt, refl, sym, ap}
 use Rattle.std.proofs.Common.{subst, ◌∙◌, arith}
 use Rattle.std.specs.Bool.{then_some}
 use Rattle.std.specs.Prelude.{IsNone}
 use Rattle.std.specs.List.{position, prefix_len}
 use Rattle.std.specs.Cmp.Lexicographic.{bytes_decides, nat_list_eq_equiv}
 use Rattle.std.proofs.lemmas.Bool.{lt-ltb}
+use Rattle.std.proofs.lemmas.List.{map-append}
 use Rattle.std.proofs.lemmas.Bool.Decides.{nat_tests}
 use Rattle.wh_machine.specs.State.{id_of, is_named}
+use Rattle.wh_machine.proofs.IdLaws.{map_position}
 use Rattle.wh_catalog.specs.declared.object.StoredObject.{StoredObject}
 use Rattle.wh_catalog.specs.Kept.{object_in}
-use Rattle.wh_catalog.specs.Object.{kept_object}
+use Rattle.wh_catalog.specs.Object.{kept_object, kept_objects, stored_objects}
 use Rattle.wh_catalog.specs.Names.{or_first, last_place, last_id, names_of, AreLast}
 use Rattle.wh_catalog.proofs.Names.{more_names, place_of_id}
-use Rattle.wh_catalog.proofs.Objects.{map_more}
-use Rattle.wh_catalog.proofs.Places.{position-map}
 
 abbrev pub has_name : List ℕ → StoredObject → Bool
 has_name name o = o.is_live && bytes_eq o.name name
 
 same_id : (name : List ℕ) (os : List StoredObject)
-    → id_of name (map object_in (map kept_object os)) ≡ option_map (λ place. place + 1) (position (has_name name) os)
-same_id name os = ap (option_map (λ place. place + 1)) (position-map (is_named name) object_in (map kept_object os)
-    ∙ position-map (λ k. is_named name (object_in k)) kept_object os)
+    → id_of name (stored_objects os) ≡ option_map (λ place. place + 1) (position (has_name name) os)
+same_id name os = ap (option_map (λ place. place + 1))
+    (map_position object_in (λ k. is_named name (object_in k)) (is_named name) (λ k. refl) (kept_objects os)
+    ∙ map_position kept_object (has_name name) (λ k. is_named name (object_in k)) (λ o. refl) os)
 
 -- ---- the first place
 
@@ -113,22 +114,22 @@ living_at (p ∷ os) (suc place) o here is =
     by true = refl
     by false = refl
 
+no_place : (r : Option ℕ) → option_map (λ place. place + 1) r ≡ None → r ≡ None
+no_place None e = refl
+no_place (Some place) e = cc
+
 module _ (name : List ℕ) (os : List StoredObject) (last : AreLast os) where
-  found_id : id_of name (map object_in (map kept_object os))
+  found_id : id_of name (stored_objects os)
       ≡ option_map (λ place. place + 1) (living os (last_place name (names_of os)))
   found_id = same_id name os ∙ ap (option_map (λ place. place + 1)) (found name os last)
 
-  pub found_none : last_id name (names_of os) ≡ None → id_of name (map object_in (map kept_object os)) ≡ None
+  pub found_none : last_id name (names_of os) ≡ None → id_of name (stored_objects os) ≡ None
   found_none none =
-      found_id ∙ ap (λ r. option_map (λ place. place + 1) (living os r)) (by (last_place name (names_of os)) none)
-    where
-      by : (r : Option ℕ) → option_map (λ place. place + 1) r ≡ None → r ≡ None
-      by None e = refl
-      by (Some place) e = cc
+      found_id ∙ ap (λ r. option_map (λ place. place + 1) (living os r)) (no_place (last_place name (names_of os)) none)
 
   pub found_at : (id : ℕ) (o : StoredObject) → last_id name (names_of os) ≡ Some id → id - 1 < length os → 0 < id
       → o ≡ get_or os (id - 1) o
-      → id_of name (map object_in (map kept_object os)) ≡ then_some o.is_live id
+      → id_of name (stored_objects os) ≡ then_some o.is_live id
   found_at id o some here first is =
       found_id
       ∙ ap (λ r. option_map (λ place. place + 1) (living os r)) (place_of_id (last_place name (names_of os)) id some)
@@ -150,7 +151,8 @@ more (p ∷ os) o last free =
       λ live.
           let other : bytes_eq o.name p.name ≡ false =
           nat_list_eq_equiv.symm o.name p.name ∙ ap (λ l. l && bytes_eq p.name o.name) (sym live) ∙ none.0 in
-          ap (last_place p.name) (map_more (λ (q : StoredObject). q.name) os o) ∙ more_names p.name (names_of os) o.name
+          ap (last_place p.name) (map-append (λ (q : StoredObject). q.name) os (o ∷ []))
+          ∙ more_names p.name (names_of os) o.name
           ∙ ap (λ b. cond b (Some (length (names_of os))) (last_place p.name (names_of os))) other ∙ last.0 live,
       more os o last.1 none.1,
     )
@@ -160,11 +162,7 @@ none_of None none = refl
 none_of (Some x) none = cc
 
 pub last_more : (os : List StoredObject) (o : StoredObject) → AreLast os
-    → IsNone (id_of o.name (map object_in (map kept_object os)))
+    → IsNone (id_of o.name (stored_objects os))
     → AreLast (os ++ o ∷ [])
-last_more os o last free = more os o last (by (position (has_name o.name) os)
-    (sym (same_id o.name os) ∙ none_of (id_of o.name (map object_in (map kept_object os))) free))
-  where
-    by : (r : Option ℕ) → option_map (λ place. place + 1) r ≡ None → r ≡ None
-    by None e = refl
-    by (Some place) e = cc
+last_more os o last free = more os o last (no_place (position (has_name o.name) os)
+    (sym (same_id o.name os) ∙ none_of (id_of o.name (stored_objects os)) free))

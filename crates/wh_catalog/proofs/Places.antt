@@ -1,66 +1,73 @@
--- Where a list has what.
-use Rattle.std.proofs.Common.{◌≡◌, ℕ, zero, suc, ◌+◌, ◌-◌, ◌<◌, ◌≤◌, Bool, List, [], ◌∷◌, map, length, Some, None}
-use Rattle.std.proofs.Common.{slice_get, refl, ap, ◌∙◌, arith, cond, option_map, get_or, set}
-use Rattle.std.specs.List.{position, prefix_len}
-use Rattle.std.specs.Prelude.{not}
-use Rattle.std.proofs.lemmas.List.{length-map}
-use Rattle.wh_machine.specs.State.{at_id}
+-- An object at its place, and another one put there: all else is the same.
+--     at_place, stands          the object of an id, and what the file says of it
+--     changed, kept_changed     what is put there is what was there, changed
+--     same_kept                 what is put there stands for the same
+--     put_back                  a change that leads back to what was there
+use Rattle.std.proofs.Common.{◌≡◌, ℕ, zero, suc, List, [], ◌∷◌, map, length, set, get_or, Some, option_map}
+use Rattle.std.proofs.Common.{refl, sym, ap, ◌∙◌, arith}
+use Rattle.std.proofs.Math.Seq.{map-set_same}
+use Rattle.std.proofs.lemmas.List.{map-set, length-set, set-get_or, get_or-set_same}
+use Rattle.std.proofs.lemmas.Option.{slice_get_read}
+use Rattle.wh_machine.specs.State.{at_id, with_id, put_at, changed_at}
+use Rattle.wh_machine.specs.Stored as machine
+use Rattle.wh_machine.proofs.IdLaws.{map_at}
+use Rattle.wh_catalog.specs.declared.object.StoredObject.{StoredObject}
+use Rattle.wh_catalog.specs.Kept.{KeptObject, object_in}
+use Rattle.wh_catalog.specs.Object.{kept_object, kept_objects, stored_objects, IsPlaceOf}
 
-prefix_len-map : {A B : Type 0} (p : B → Bool) (f : A → B) (xs : List A)
-    → prefix_len p (map f xs) ≡ prefix_len (λ x. p (f x)) xs
-prefix_len-map p f [] = refl
-prefix_len-map p f (x ∷ xs) = ap (λ n. cond (p (f x)) (1 + n) 0) (prefix_len-map p f xs)
+-- ---- lists
 
--- the first image that passes stands where the first element whose image passes does
-pub position-map : {A B : Type 0} (p : B → Bool) (f : A → B) (xs : List A)
-    → position p (map f xs) ≡ position (λ x. p (f x)) xs
-position-map p f xs = rw (prefix_len-map (λ x. not (p x)) f xs, length-map) refl
+put : {A : Type 0} (xs : List A) (id place : ℕ) (old new : A) (g : A → A) → id ≡ suc place → at_id xs id ≡ Some old
+    → new ≡ g old → set xs place new ≡ changed_at xs id g
+put xs id place old new g before found same =
+    ap (set xs place) same
+    ∙ ap (λ n. with_id xs n (g old)) (sym before)
+    ∙ ap (λ o. put_at xs id (option_map g o)) (sym found)
 
--- an image is that of the element at its place
-pub slice_get-map : {A B : Type 0} (f : A → B) (xs : List A) (i : ℕ)
-    → slice_get (map f xs) i ≡ option_map f (slice_get xs i)
-slice_get-map f [] i = refl
-slice_get-map f (x ∷ xs) zero = refl
-slice_get-map f (x ∷ xs) (suc i) = slice_get-map f xs i
+set_twice : {A : Type 0} (xs : List A) (i : ℕ) (x y : A) → set (set xs i x) i y ≡ set xs i y
+set_twice [] i x y = refl
+set_twice (z ∷ xs) zero x y = refl
+set_twice (z ∷ xs) (suc i) x y = ap (λ l. z ∷ l) (set_twice xs i x y)
 
-pub at_id-map : {A B : Type 0} (f : A → B) (xs : List A) (id : ℕ) → at_id (map f xs) id ≡ option_map f (at_id xs id)
-at_id-map f xs zero = refl
-at_id-map f xs (suc place) = slice_get-map f xs place
+-- ---- objects
 
--- an element by its place
-pub slice_get-get_or : {A : Type 0} (xs : List A) (i : ℕ) (d : A) → i < length xs
-    → slice_get xs i ≡ Some (get_or xs i d)
-slice_get-get_or [] i d within = absurd (omega arith)
-slice_get-get_or (x ∷ xs) zero d within = refl
-slice_get-get_or (x ∷ xs) (suc i) d within = slice_get-get_or xs i d (omega arith)
+module _ {xs : List StoredObject} {id place : ℕ} {old : StoredObject} (at : IsPlaceOf id xs place)
+    (is : old ≡ get_or xs place old) where
+  pub at_place : at_id xs id ≡ Some old
+  at_place = ap (at_id xs) at.before ∙ slice_get_read xs (length xs) place old refl at.within is
 
--- an element is replaced by one with the same image
-pub map_set_same : {A B : Type 0} (f : A → B) (xs : List A) (i : ℕ) (old new : A) → i < length xs
-    → old ≡ get_or xs i old → f new ≡ f old → map f (set xs i new) ≡ map f xs
-map_set_same f [] i old new within is same = absurd (omega arith)
-map_set_same f (x ∷ xs) zero old new within is same = ap (λ y. y ∷ map f xs) (same ∙ ap f is)
-map_set_same f (x ∷ xs) (suc i) old new within is same =
-    ap (λ l. f x ∷ l) (map_set_same f xs i old new (omega arith) is same)
+  kept : at_id (kept_objects xs) id ≡ Some (kept_object old)
+  kept = map_at kept_object xs id ∙ ap (option_map kept_object) at_place
 
--- ---- by ids
+  pub stands : at_id (stored_objects xs) id ≡ Some (object_in (kept_object old))
+  stands = map_at object_in (kept_objects xs) id ∙ ap (option_map object_in) kept
 
--- the element at a place has the id behind it
-pub at_place : {A : Type 0} (xs : List A) (id : ℕ) (d : A) → 0 < id → id - 1 < length xs
-    → at_id xs id ≡ Some (get_or xs (id - 1) d)
-at_place xs zero d some here = absurd (omega arith)
-at_place xs (suc place) d some here =
-    let same : place ≡ suc place - 1 = omega arith in
-    slice_get-get_or xs place d (omega arith) ∙ ap (λ n. Some (get_or xs n d)) same
+  module _ (new : StoredObject) where
+    pub changed : (g : machine.StoredObject → machine.StoredObject)
+        → object_in (kept_object new) ≡ g (object_in (kept_object old))
+        → stored_objects (set xs place new) ≡ changed_at (stored_objects xs) id g
+    changed g same =
+        ap (map object_in) (map-set kept_object xs place new)
+        ∙ map-set object_in (kept_objects xs) place (kept_object new)
+        ∙ put (stored_objects xs) id place (object_in (kept_object old)) (object_in (kept_object new)) g at.before
+        stands same
 
-slice_get-beyond : {A : Type 0} (xs : List A) (i : ℕ) → length xs ≤ i → slice_get xs i ≡ None
-slice_get-beyond [] i beyond = refl
-slice_get-beyond (x ∷ xs) zero beyond = absurd (omega arith)
-slice_get-beyond (x ∷ xs) (suc i) beyond = slice_get-beyond xs i (omega arith)
+    pub kept_changed : (g : KeptObject → KeptObject) → kept_object new ≡ g (kept_object old)
+        → kept_objects (set xs place new) ≡ changed_at (kept_objects xs) id g
+    kept_changed g same =
+        map-set kept_object xs place new
+        ∙ put (kept_objects xs) id place (kept_object old) (kept_object new) g at.before kept same
 
--- no element has an id that there isn't
-pub at_none : {A : Type 0} (xs : List A) → at_id xs 0 ≡ None
-at_none xs = refl
+    pub same_kept : kept_object new ≡ kept_object old → kept_objects (set xs place new) ≡ kept_objects xs
+    same_kept same = map-set_same kept_object xs place new old (same ∙ ap kept_object is)
 
-pub at_beyond : {A : Type 0} (xs : List A) (id : ℕ) → length xs < id → at_id xs id ≡ None
-at_beyond xs zero beyond = absurd (omega arith)
-at_beyond xs (suc place) beyond = slice_get-beyond xs place (omega arith)
+module _ {xs : List StoredObject} {id place : ℕ} {old : StoredObject} (at : IsPlaceOf id xs place)
+    (is : old ≡ get_or xs place old) (new : StoredObject) where
+  still : IsPlaceOf id (set xs place new) place
+  still = record { before = at.before; within = omega (arith, at.within, length-set xs place new) }
+
+  pub put_back : (g : KeptObject → KeptObject) → g (kept_object new) ≡ kept_object old
+      → changed_at (kept_objects (set xs place new)) id g ≡ kept_objects xs
+  put_back g back =
+      sym (kept_changed still (sym (get_or-set_same xs place new new at.within)) old g (sym back))
+      ∙ ap kept_objects (set_twice xs place new old ∙ ap (set xs place) is ∙ set-get_or xs place old)

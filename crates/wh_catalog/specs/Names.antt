@@ -5,7 +5,7 @@
 --     KeepsNames              a change that leaves the names, and lets none live before the last one of its name
 --     id_at                   the id that an index has for a name
 use Rattle.std.specs.Prelude.{◌≡◌, ℕ, suc, ◌+◌, Bool, true, false, cond, nat_eq, bytes_eq}
-use Rattle.std.specs.Prelude.{List, [], ◌∷◌, map, Option, Some, None, option_map}
+use Rattle.std.specs.Prelude.{List, [], ◌∷◌, map, length, Option, Some, None, option_map}
 use Rattle.std.specs.Option.{option_eq, option_map_or}
 use Rattle.std.specs.Coded.{Coded-set, coded_option, coded_ℕ, ×_prop, →_prop, Unit-prop}
 use Rattle.std.specs.declared.vec.Vec.{Vec}
@@ -41,6 +41,7 @@ AreLast-prop (o ∷ os) =
     ×_prop (→_prop (Coded-set (coded_option coded_ℕ) (last_place o.name (names_of os)) None)) (AreLast-prop os)
 
 pub record KeepsNames (old new : List StoredObject) : Type 0 where
+  pub count : length new ≡ length old
   pub names : names_of new ≡ names_of old
   pub last : AreLast old → AreLast new
 

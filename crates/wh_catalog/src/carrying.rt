@@ -1,15 +1,16 @@
 use crate::consuming::{put_offset_back, set_offset};
 use crate::dropping::{drop_object, revive};
 use crate::naming::{change_id, give_id, last_id};
+use crate::object::place_of;
 use crate::undo::{Pushed, Step};
 use crate::{Catalog, StageFault, StoredObject};
-use wh_record::{Change, TableChange, VersionChange};
+use wh_record::{Change, VersionChange};
 use wh_value::Limit;
 
 impl Catalog {
     ghost use Rattle.std.specs.Prelude.{◌≡◌, ◌++◌, ◌∷◌, [], OnOk, OnErr, IfOk, IsErrOf};
-    ghost use Rattle.wh_machine.specs.Commit.{ChangeApplies, IsNewObject, TableApplies, changed, CreatesTable};
-    ghost use Rattle.wh_record.specs.View.{change_of, table_change_of};
+    ghost use Rattle.wh_machine.specs.Commit.{ChangeApplies, IsNewObject, changed};
+    ghost use Rattle.wh_record.specs.View.{change_of};
     ghost use Rattle.wh_version.specs.Lists.{but_last};
     ghost use Rattle.wh_catalog.specs.Kept.{object_in};
     ghost use Rattle.wh_catalog.specs.Object.{kept_object};
@@ -29,35 +30,24 @@ impl Catalog {
         ensures committed { self.new.committed ≡ self.old.committed }
     {
         match change {
-            Change::CreatesTable(change) => self.create_table(change, stamp),
+            Change::CreatesTable(change) => {
+                let id = change.id;
+                let table = self.new_table(change, stamp)?;
+                self.add_object(id, table)
+            }
             Change::Drops(id) => drop_object(&mut self.objects, id),
             Change::PushesVersion(change) => push_version(&mut self.objects, change, stamp),
-            Change::CreatesStream(change) => self.create_stream(change, stamp),
+            Change::CreatesStream(change) => {
+                let id = change.id;
+                let stream = self.new_stream(change, stamp)?;
+                self.add_object(id, stream)
+            }
             Change::SetsOffset { id, offset } => set_offset(&mut self.objects, id, offset),
         }
     }
 
-    fn create_table(&mut self, change: TableChange, stamp: u64) -> Result<Step, StageFault>
-        ensures applies { OnOk result (TableApplies (objects_of self.old) (table_change_of change)) }
-        ensures changed { OnOk result (objects_of self.new
-            ≡ changed stamp (objects_of self.old) (CreatesTable (table_change_of change))) }
-        ensures back { IfOk result (λ step. step_undone step (kept_of self.new) ≡ kept_of self.old) }
-        ensures not_applicable { IsErrOf result StageFault.NotApplicable
-            → TableApplies (objects_of self.old) (table_change_of change) → ⊥ }
-        ensures same { OnErr result (kept_of self.new ≡ kept_of self.old) }
-        ensures last { self.new.last ≡ self.old.last }
-        ensures committed { self.new.committed ≡ self.old.committed }
-    {
-        if !self.table_applies(&change) {
-            return Err(StageFault::NotApplicable);
-        }
-        let id = change.id;
-        let object = StoredObject::table_of_change(self.alloc, change, stamp);
-        self.add_object(id, object)
-    }
-
-    /// Adds an object, whose id and name are those of a new one.
-    pub(crate) fn add_object(&mut self, id: u32, object: StoredObject) -> Result<Step, StageFault>
+    // Adds an object, whose id and name are those of a new one.
+    fn add_object(&mut self, id: u32, object: StoredObject) -> Result<Step, StageFault>
         requires { IsNewObject (objects_of self.old) id object.name }
         ensures changed { OnOk result (objects_of self.new
             ≡ objects_of self.old ++ object_in (kept_object object) ∷ []) }
@@ -112,12 +102,11 @@ impl Catalog {
     }
 }
 
-ghost use Rattle.std.specs.Prelude.{◌≡◌, map, length, count_by, OnOk, OnErr, IfOk, IsErrOf};
+ghost use Rattle.std.specs.Prelude.{◌≡◌, count_by, OnOk, OnErr, IfOk, IsErrOf};
 ghost use Rattle.wh_machine.specs.State.{at_id, changed_at};
 ghost use Rattle.wh_machine.specs.Commit.{FitsObject, pushed_object};
 ghost use Rattle.wh_record.specs.View.{version_change_of};
-ghost use Rattle.wh_catalog.specs.Kept.{object_in};
-ghost use Rattle.wh_catalog.specs.Object.{kept_object};
+ghost use Rattle.wh_catalog.specs.Object.{kept_objects, stored_objects};
 ghost use Rattle.wh_catalog.specs.Names.{KeepsNames};
 ghost use Rattle.wh_catalog.specs.Back.{object_taken_back};
 ghost use Rattle.wh_catalog.specs.Undo.{step_undone};
@@ -129,29 +118,27 @@ fn push_version(
     stamp: u64,
 ) -> Result<Step, StageFault>
     ensures applies { OnOk result (FitsObject
-        (at_id (map object_in (map kept_object objects.old.items)) change.id)
+        (at_id (stored_objects objects.old.items) change.id)
         (version_change_of change)) }
-    ensures changed { OnOk result (map object_in (map kept_object objects.new.items)
-        ≡ changed_at (map object_in (map kept_object objects.old.items)) change.id
+    ensures changed { OnOk result (stored_objects objects.new.items
+        ≡ changed_at (stored_objects objects.old.items) change.id
         (pushed_object stamp (version_change_of change))) }
-    ensures back { IfOk result (λ step. step_undone step (map kept_object objects.new.items)
-        ≡ map kept_object objects.old.items) }
+    ensures back { IfOk result (λ step. step_undone step (kept_objects objects.new.items)
+        ≡ kept_objects objects.old.items) }
     ensures not_applicable { IsErrOf result StageFault.NotApplicable
-        → FitsObject (at_id (map object_in (map kept_object objects.old.items)) change.id)
+        → FitsObject (at_id (stored_objects objects.old.items) change.id)
         (version_change_of change) → ⊥ }
-    ensures same { OnErr result (map kept_object objects.new.items
-        ≡ map kept_object objects.old.items) }
-    ensures count { length objects.new.items ≡ length objects.old.items }
+    ensures same { OnErr result (kept_objects objects.new.items
+        ≡ kept_objects objects.old.items) }
     ensures live { count_by (λ o. o.is_live) objects.new.items
         ≡ count_by (λ o. o.is_live) objects.old.items }
     ensures names { KeepsNames objects.old.items objects.new.items }
 {
     let id = change.id;
-    let place = id as usize;
-    if place == 0 || objects.len() < place {
+    let Some(place) = place_of(objects, id) else {
         return Err(StageFault::NotApplicable);
-    }
-    let object = &mut objects[place - 1];
+    };
+    let object = &mut objects[place];
     match object.push(change, stamp) {
         Ok(next_row) => Ok(Step::PushedVersion(Pushed { id, next_row })),
         Err(fault) => Err(fault),
@@ -159,17 +146,15 @@ fn push_version(
 }
 
 fn take_version_back(objects: &mut Vec<StoredObject>, pushed: Pushed)
-    ensures back { map kept_object objects.new.items
-        ≡ changed_at (map kept_object objects.old.items) pushed.id (object_taken_back pushed.next_row) }
-    ensures count { length objects.new.items ≡ length objects.old.items }
+    ensures back { kept_objects objects.new.items
+        ≡ changed_at (kept_objects objects.old.items) pushed.id (object_taken_back pushed.next_row) }
     ensures live { count_by (λ o. o.is_live) objects.new.items
         ≡ count_by (λ o. o.is_live) objects.old.items }
     ensures names { KeepsNames objects.old.items objects.new.items }
 {
-    let place = pushed.id as usize;
-    if place == 0 || objects.len() < place {
+    let Some(place) = place_of(objects, pushed.id) else {
         return;
-    }
-    let object = &mut objects[place - 1];
+    };
+    let object = &mut objects[place];
     object.take_back(pushed.next_row);
 }

@@ -3,6 +3,7 @@ ghost use Rattle.wh_value.specs.Limit.{bound};
 ghost use Rattle.wh_value.specs.declared.limit.Limit.TheVariants as limits;
 ghost use Rattle.wh_catalog.specs.Names.{names_of, last_id, AreLast, AreLast-prop, id_at};
 
+use crate::object::place_of;
 use crate::{StoredObject, StoredStream};
 use indexmap::IndexMap;
 use std::alloc::Global;
@@ -35,7 +36,7 @@ impl Catalog {
     ghost use Rattle.wh_catalog.specs.Kept.{object_in};
     ghost use Rattle.wh_table.specs.Table.{table_of};
     ghost use Rattle.wh_catalog.specs.Object.{kept_object};
-    ghost use Rattle.wh_catalog.specs.Names.{names_of, is_last};
+    ghost use Rattle.wh_catalog.specs.Names.{names_of, is_last, last_id};
     ghost use Rattle.wh_catalog.specs.Catalog.{stored_of, state_of, stored_table_at, stored_stream_at};
     ghost use Rattle.wh_catalog.specs.Stream.{stream_of};
     ghost use Rattle.wh_machine.specs.State.{at_id};
@@ -79,7 +80,7 @@ impl Catalog {
         ensures { result ≡ id_of name.now (stored_of self.now).objects }
     {
         // Of the objects of a name only the last one can live.
-        let id = *self.names.get(name)?;
+        let id = self.last_of_name(name)?;
         let object = &self.objects[id as usize - 1];
         object.is_live.then_some(id)
     }
@@ -88,15 +89,18 @@ impl Catalog {
     pub(crate) fn is_last(&self, id: u32) -> bool
         ensures { result ≡ is_last id (names_of self.now.objects.items) }
     {
-        let place = id as usize;
-        if place == 0 || self.objects.len() < place {
+        let Some(place) = place_of(&self.objects, id) else {
             return false;
-        }
-        let object = &self.objects[place - 1];
-        match self.names.get(object.name.as_bytes()) {
-            Some(last) => *last == id,
-            None => false,
-        }
+        };
+        let object = &self.objects[place];
+        self.last_of_name(object.name.as_bytes()) == Some(id)
+    }
+
+    // The id of the last object of that name, whether that one lives or not.
+    fn last_of_name(&self, name: &[u8]) -> Option<u32>
+        ensures { result ≡ last_id name.now (names_of self.now.objects.items) }
+    {
+        self.names.get(name).copied()
     }
 
     /// The objects, each at the place before its id.
@@ -129,11 +133,8 @@ impl Catalog {
         ensures { option_map (λ o. object_in (kept_object o.now)) result
             ≡ at_id (stored_of self.now).objects id }
     {
-        let place = id as usize;
-        if place == 0 || self.objects.len() < place {
-            return None;
-        }
-        let object = &self.objects[place - 1];
+        let place = place_of(&self.objects, id)?;
+        let object = &self.objects[place];
         Some(object)
     }
 

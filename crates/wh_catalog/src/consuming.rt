@@ -1,13 +1,13 @@
 //! Offsets of streams.
-ghost use Rattle.std.specs.Prelude.{◌≡◌, map, length, count_by, OnOk, OnErr, IfOk, IsErrOf};
+ghost use Rattle.std.specs.Prelude.{◌≡◌, count_by, OnOk, OnErr, IfOk, IsErrOf};
 ghost use Rattle.wh_machine.specs.State.{at_id, changed_at};
 ghost use Rattle.wh_machine.specs.Commit.{OffsetApplies, offset_set};
-ghost use Rattle.wh_catalog.specs.Kept.{object_in};
-ghost use Rattle.wh_catalog.specs.Object.{kept_object};
+ghost use Rattle.wh_catalog.specs.Object.{kept_objects, stored_objects};
 ghost use Rattle.wh_catalog.specs.Names.{KeepsNames};
 ghost use Rattle.wh_catalog.specs.Back.{object_put_back};
 ghost use Rattle.wh_catalog.specs.Undo.{step_undone};
 
+use crate::object::place_of;
 use crate::undo::Step;
 use crate::{StageFault, StoredKind, StoredObject};
 
@@ -18,25 +18,23 @@ pub(crate) fn set_offset(
     offset: u64,
 ) -> Result<Step, StageFault>
     ensures applies { OnOk result (OffsetApplies
-        (at_id (map object_in (map kept_object objects.old.items)) id) offset) }
-    ensures changed { OnOk result (map object_in (map kept_object objects.new.items)
-        ≡ changed_at (map object_in (map kept_object objects.old.items)) id (offset_set offset)) }
-    ensures back { IfOk result (λ step. step_undone step (map kept_object objects.new.items)
-        ≡ map kept_object objects.old.items) }
+        (at_id (stored_objects objects.old.items) id) offset) }
+    ensures changed { OnOk result (stored_objects objects.new.items
+        ≡ changed_at (stored_objects objects.old.items) id (offset_set offset)) }
+    ensures back { IfOk result (λ step. step_undone step (kept_objects objects.new.items)
+        ≡ kept_objects objects.old.items) }
     ensures not_applicable { IsErrOf result StageFault.NotApplicable
-        → OffsetApplies (at_id (map object_in (map kept_object objects.old.items)) id) offset → ⊥ }
-    ensures same { OnErr result (map kept_object objects.new.items
-        ≡ map kept_object objects.old.items) }
-    ensures count { length objects.new.items ≡ length objects.old.items }
+        → OffsetApplies (at_id (stored_objects objects.old.items) id) offset → ⊥ }
+    ensures same { OnErr result (kept_objects objects.new.items
+        ≡ kept_objects objects.old.items) }
     ensures live { count_by (λ o. o.is_live) objects.new.items
         ≡ count_by (λ o. o.is_live) objects.old.items }
     ensures names { KeepsNames objects.old.items objects.new.items }
 {
-    let place = id as usize;
-    if place == 0 || objects.len() < place {
+    let Some(place) = place_of(objects, id) else {
         return Err(StageFault::NotApplicable);
-    }
-    let object = &mut objects[place - 1];
+    };
+    let object = &mut objects[place];
     match object.set_offset(offset) {
         Ok(before) => Ok(Step::SetOffset { id, offset: before }),
         Err(fault) => Err(fault),
@@ -45,18 +43,16 @@ pub(crate) fn set_offset(
 
 /// Puts the offset of before back.
 pub(crate) fn put_offset_back(objects: &mut Vec<StoredObject>, id: u32, offset: u64)
-    ensures back { map kept_object objects.new.items
-        ≡ changed_at (map kept_object objects.old.items) id (object_put_back offset) }
-    ensures count { length objects.new.items ≡ length objects.old.items }
+    ensures back { kept_objects objects.new.items
+        ≡ changed_at (kept_objects objects.old.items) id (object_put_back offset) }
     ensures live { count_by (λ o. o.is_live) objects.new.items
         ≡ count_by (λ o. o.is_live) objects.old.items }
     ensures names { KeepsNames objects.old.items objects.new.items }
 {
-    let place = id as usize;
-    if place == 0 || objects.len() < place {
+    let Some(place) = place_of(objects, id) else {
         return;
-    }
-    let object = &mut objects[place - 1];
+    };
+    let object = &mut objects[place];
     object.put_offset_back(offset);
 }
 

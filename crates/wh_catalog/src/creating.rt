@@ -1,17 +1,44 @@
-use crate::{Catalog, StoredKind, StoredObject};
-use std::alloc::Global;
+use crate::{Catalog, StageFault, StoredKind, StoredObject};
 use wh_record::TableChange;
 use wh_table::StoredTable;
 use wh_value::{Column, Limit, Text};
 
 impl Catalog {
-    ghost use Rattle.std.specs.Prelude.{◌≡◌};
+    ghost use Rattle.std.specs.Prelude.{◌≡◌, ◌++◌, ◌∷◌, [], OnOk, IfOk, IsErrOf};
+    ghost use Rattle.wh_machine.specs.Commit.{TableApplies, changed, CreatesTable};
     ghost use Rattle.wh_record.specs.View.{table_change_of};
     ghost use Rattle.wh_catalog.specs.Conditions.{is_new_object, table_applies};
+    ghost use Rattle.wh_catalog.specs.Kept.{object_in};
+    ghost use Rattle.wh_catalog.specs.Object.{kept_object};
     ghost use Rattle.wh_catalog.specs.Catalog.{objects_of};
 
-    /// Whether a new table applies.
-    pub(crate) fn table_applies(&self, change: &TableChange) -> bool
+    /// The table of a change, with one version without rows, if it applies. Takes no memory.
+    pub(crate) fn new_table(
+        &self,
+        change: TableChange,
+        stamp: u64,
+    ) -> Result<StoredObject, StageFault>
+        ensures applies { OnOk result (TableApplies (objects_of self.now) (table_change_of change)) }
+        ensures made { IfOk result (λ made. objects_of self.now ++ object_in (kept_object made) ∷ []
+            ≡ changed stamp (objects_of self.now) (CreatesTable (table_change_of change))) }
+        ensures named { IfOk result (λ made. made.name ≡ change.name) }
+        ensures not_applicable { IsErrOf result StageFault.NotApplicable
+            → TableApplies (objects_of self.now) (table_change_of change) → ⊥ }
+    {
+        if !self.table_applies(&change) {
+            return Err(StageFault::NotApplicable);
+        }
+        let table = StoredTable::new(self.alloc, change.columns, change.retention, stamp);
+        Ok(StoredObject {
+            name: change.name,
+            is_live: true,
+            created: stamp,
+            kind: StoredKind::Table(table),
+        })
+    }
+
+    // Whether a new table applies.
+    fn table_applies(&self, change: &TableChange) -> bool
         ensures { result ≡ table_applies (objects_of self.now) (table_change_of change.now) }
     {
         self.is_new_object(change.id, &change.name)
@@ -27,33 +54,6 @@ impl Catalog {
             && self.live_count() < Limit::Objects.bound()
             && self.find(name.as_bytes()).is_none()
             && is_stored_name(name)
-    }
-}
-
-impl StoredObject {
-    ghost use Rattle.std.specs.Prelude.{◌≡◌, ◌≤◌, [], true, map, length};
-    ghost use Rattle.wh_value.specs.View.{column_of};
-    ghost use Rattle.wh_value.specs.Limit.{bound};
-    ghost use Rattle.wh_value.specs.declared.limit.Limit.TheVariants as limits;
-    ghost use Rattle.wh_machine.specs.State.{new_table, new_object};
-    ghost use Rattle.wh_machine.specs.Stored.{StoredTableKind};
-    ghost use Rattle.wh_catalog.specs.Kept.{object_in};
-    ghost use Rattle.wh_catalog.specs.Object.{kept_object};
-
-    /// The table of a change, with one version without rows. Takes no memory.
-    pub(crate) fn table_of_change(alloc: Global, change: TableChange, stamp: u64) -> StoredObject
-        requires { length change.columns.items ≤ bound limits.Columns }
-        ensures table { object_in (kept_object result) ≡ new_object change.name stamp
-            (StoredTableKind (new_table [] (map column_of change.columns.items) change.retention stamp)) }
-        ensures live { result.is_live ≡ true }
-    {
-        let table = StoredTable::new(alloc, change.columns, change.retention, stamp);
-        StoredObject {
-            name: change.name,
-            is_live: true,
-            created: stamp,
-            kind: StoredKind::Table(table),
-        }
     }
 }
 

@@ -1,15 +1,15 @@
 //! Objects that are dropped, and that live again.
-ghost use Rattle.std.specs.Prelude.{◌≡◌, ◌≤◌, ◌+◌, true, map, length, count_by, OnOk, OnErr, IfOk, IsErrOf};
+ghost use Rattle.std.specs.Prelude.{◌≡◌, ◌≤◌, ◌+◌, true, count_by, OnOk, OnErr, IfOk, IsErrOf};
 ghost use Rattle.wh_value.specs.Limit.{bound};
 ghost use Rattle.wh_value.specs.declared.limit.Limit.TheVariants as limits;
 ghost use Rattle.wh_machine.specs.State.{at_id, changed_at, dropped};
 ghost use Rattle.wh_machine.specs.Commit.{IsLiveObject};
-ghost use Rattle.wh_catalog.specs.Kept.{object_in};
-ghost use Rattle.wh_catalog.specs.Object.{kept_object};
+ghost use Rattle.wh_catalog.specs.Object.{kept_objects, stored_objects};
 ghost use Rattle.wh_catalog.specs.Names.{names_of, is_last, AreLast, KeepsNames};
 ghost use Rattle.wh_catalog.specs.Back.{alive};
 ghost use Rattle.wh_catalog.specs.Undo.{step_undone};
 
+use crate::object::place_of;
 use crate::undo::Step;
 use crate::{StageFault, StoredObject};
 
@@ -18,25 +18,23 @@ pub(crate) fn drop_object(objects: &mut Vec<StoredObject>, id: u32) -> Result<St
     requires live { count_by (λ o. o.is_live) objects.old.items ≤ bound limits.Objects }
     requires last { AreLast objects.old.items }
     ensures applies { OnOk result (IsLiveObject
-        (at_id (map object_in (map kept_object objects.old.items)) id)) }
-    ensures changed { OnOk result (map object_in (map kept_object objects.new.items)
-        ≡ changed_at (map object_in (map kept_object objects.old.items)) id dropped) }
-    ensures back { IfOk result (λ step. step_undone step (map kept_object objects.new.items)
-        ≡ map kept_object objects.old.items) }
+        (at_id (stored_objects objects.old.items) id)) }
+    ensures changed { OnOk result (stored_objects objects.new.items
+        ≡ changed_at (stored_objects objects.old.items) id dropped) }
+    ensures back { IfOk result (λ step. step_undone step (kept_objects objects.new.items)
+        ≡ kept_objects objects.old.items) }
     ensures not_applicable { IsErrOf result StageFault.NotApplicable
-        → IsLiveObject (at_id (map object_in (map kept_object objects.old.items)) id) → ⊥ }
-    ensures same { OnErr result (map kept_object objects.new.items
-        ≡ map kept_object objects.old.items) }
-    ensures count { length objects.new.items ≡ length objects.old.items }
+        → IsLiveObject (at_id (stored_objects objects.old.items) id) → ⊥ }
+    ensures same { OnErr result (kept_objects objects.new.items
+        ≡ kept_objects objects.old.items) }
     ensures live { count_by (λ o. o.is_live) objects.new.items
         ≤ count_by (λ o. o.is_live) objects.old.items }
     ensures names { KeepsNames objects.old.items objects.new.items }
 {
-    let place = id as usize;
-    if place == 0 || objects.len() < place {
+    let Some(place) = place_of(objects, id) else {
         return Err(StageFault::NotApplicable);
-    }
-    let object = &mut objects[place - 1];
+    };
+    let object = &mut objects[place];
     if !object.is_live {
         return Err(StageFault::NotApplicable);
     }
@@ -47,17 +45,15 @@ pub(crate) fn drop_object(objects: &mut Vec<StoredObject>, id: u32) -> Result<St
 /// The object of an id, the last one of its name, lives again.
 pub(crate) fn revive(objects: &mut Vec<StoredObject>, id: u32)
     requires { is_last id (names_of objects.old.items) ≡ true }
-    ensures back { map kept_object objects.new.items
-        ≡ changed_at (map kept_object objects.old.items) id alive }
-    ensures count { length objects.new.items ≡ length objects.old.items }
+    ensures back { kept_objects objects.new.items
+        ≡ changed_at (kept_objects objects.old.items) id alive }
     ensures live { count_by (λ o. o.is_live) objects.new.items
         ≤ count_by (λ o. o.is_live) objects.old.items + 1 }
     ensures names { KeepsNames objects.old.items objects.new.items }
 {
-    let place = id as usize;
-    if place == 0 || objects.len() < place {
+    let Some(place) = place_of(objects, id) else {
         return;
-    }
-    let object = &mut objects[place - 1];
+    };
+    let object = &mut objects[place];
     object.is_live = true;
 }

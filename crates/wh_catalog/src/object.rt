@@ -63,3 +63,18 @@ impl StoredObject {
         }
     }
 }
+
+ghost use Rattle.std.specs.Prelude.{◌≡◌, ◌<◌, ◌⊎◌, length, IfSome, IfNone};
+ghost use Rattle.wh_catalog.specs.Object.{IsPlaceOf};
+
+/// Where the object of an id stands, if there is one.
+pub(crate) fn place_of(objects: &Vec<StoredObject>, id: u32) -> Option<usize>
+    ensures found { IfSome result (IsPlaceOf id objects.now.items) }
+    ensures none { IfNone result ((id ≡ 0) ⊎ (length objects.now.items < id)) }
+{
+    let place = id as usize;
+    if place == 0 || objects.len() < place {
+        return None;
+    }
+    Some(place - 1)
+}

@@ -1,36 +1,33 @@
 //! New streams.
-use crate::undo::Step;
 use crate::{Catalog, StageFault, StoredKind, StoredObject, StoredStream, StoredTable};
 use std::alloc::{AllocError, Global};
 use wh_record::StreamChange;
 use wh_value::{Column, ColumnType, Text};
 
 impl Catalog {
-    ghost use Rattle.std.specs.Prelude.{◌≡◌, is_some, OnOk, OnErr, IfOk, IfSome, IsErrOf};
+    ghost use Rattle.std.specs.Prelude.{◌≡◌, ◌++◌, ◌∷◌, [], is_some, OnOk, IfOk, IfSome, IsErrOf};
     ghost use Rattle.wh_machine.specs.State.{at_id};
     ghost use Rattle.wh_machine.specs.Stored.{stored_columns_at};
     ghost use Rattle.wh_machine.specs.Commit.{StreamApplies, changed, CreatesStream};
     ghost use Rattle.wh_record.specs.View.{stream_change_of};
     ghost use Rattle.wh_table.specs.Table.{table_of};
     ghost use Rattle.wh_catalog.specs.Conditions.{is_live_table};
-    ghost use Rattle.wh_catalog.specs.Catalog.{objects_of, kept_of};
-    ghost use Rattle.wh_catalog.specs.Undo.{step_undone};
+    ghost use Rattle.wh_catalog.specs.Kept.{object_in};
+    ghost use Rattle.wh_catalog.specs.Object.{kept_object};
+    ghost use Rattle.wh_catalog.specs.Catalog.{objects_of};
 
-    /// Makes a stream, if its table lives.
-    pub(crate) fn create_stream(
-        &mut self,
+    /// The stream of a change, if it applies.
+    pub(crate) fn new_stream(
+        &self,
         change: StreamChange,
         stamp: u64,
-    ) -> Result<Step, StageFault>
-        ensures applies { OnOk result (StreamApplies (objects_of self.old) (stream_change_of change)) }
-        ensures changed { OnOk result (objects_of self.new
-            ≡ changed stamp (objects_of self.old) (CreatesStream (stream_change_of change))) }
-        ensures back { IfOk result (λ step. step_undone step (kept_of self.new) ≡ kept_of self.old) }
+    ) -> Result<StoredObject, StageFault>
+        ensures applies { OnOk result (StreamApplies (objects_of self.now) (stream_change_of change)) }
+        ensures made { IfOk result (λ made. objects_of self.now ++ object_in (kept_object made) ∷ []
+            ≡ changed stamp (objects_of self.now) (CreatesStream (stream_change_of change))) }
+        ensures named { IfOk result (λ made. made.name ≡ change.name) }
         ensures not_applicable { IsErrOf result StageFault.NotApplicable
-            → StreamApplies (objects_of self.old) (stream_change_of change) → ⊥ }
-        ensures same { OnErr result (kept_of self.new ≡ kept_of self.old) }
-        ensures last { self.new.last ≡ self.old.last }
-        ensures committed { self.new.committed ≡ self.old.committed }
+            → StreamApplies (objects_of self.now) (stream_change_of change) → ⊥ }
     {
         if !self.is_new_object(change.id, &change.name) {
             return Err(StageFault::NotApplicable);
@@ -41,9 +38,18 @@ impl Catalog {
         let Ok(columns) = with_metadata(self.alloc, table.columns()) else {
             return Err(StageFault::OutOfMemory);
         };
-        let id = change.id;
-        let object = StoredObject::stream_of_change(change, columns, stamp);
-        self.add_object(id, object)
+        let stream = StoredStream {
+            source: change.source,
+            is_append_only: change.is_append_only,
+            offset: change.offset,
+            columns,
+        };
+        Ok(StoredObject {
+            name: change.name,
+            is_live: true,
+            created: stamp,
+            kind: StoredKind::Stream(stream),
+        })
     }
 
     // The table of an id, if it lives.
@@ -57,45 +63,6 @@ impl Catalog {
             return None;
         }
         object.table()
-    }
-}
-
-impl StoredObject {
-    ghost use Rattle.std.specs.Prelude.{◌≡◌, ◌≤◌, ◌+◌, true, map, length};
-    ghost use Rattle.wh_value.specs.View.{column_of};
-    ghost use Rattle.wh_value.specs.Limit.{bound};
-    ghost use Rattle.wh_value.specs.declared.limit.Limit.TheVariants as limits;
-    ghost use Rattle.wh_machine.specs.State.{new_object};
-    ghost use Rattle.wh_machine.specs.Stored.{StoredStreamKind};
-    ghost use Rattle.wh_catalog.specs.Kept.{object_in};
-    ghost use Rattle.wh_catalog.specs.Object.{kept_object};
-
-    /// The stream of a change, with these columns. Takes no memory.
-    pub(crate) fn stream_of_change(
-        change: StreamChange,
-        columns: Vec<Column>,
-        stamp: u64,
-    ) -> StoredObject
-        requires { length columns.items ≤ bound limits.Columns + 3 }
-        ensures { object_in (kept_object result) ≡ new_object change.name stamp (StoredStreamKind (record {
-          source = change.source;
-          is_append_only = change.is_append_only;
-          offset = change.offset;
-          columns = map column_of columns.items;
-        })) }
-    {
-        let stream = StoredStream {
-            source: change.source,
-            is_append_only: change.is_append_only,
-            offset: change.offset,
-            columns,
-        };
-        StoredObject {
-            name: change.name,
-            is_live: true,
-            created: stamp,
-            kind: StoredKind::Stream(stream),
-        }
     }
 }
 

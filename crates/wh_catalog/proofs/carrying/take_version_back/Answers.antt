@@ -1,28 +1,14 @@
-use Rattle.std.proofs.Common.{◌≡◌, ◌<◌, ◌-◌, ◌∙◌, ap, sym, Some, arith}
-use Rattle.wh_machine.specs.State.{at_id}
 use Rattle.wh_catalog.specs.Back.{object_taken_back}
-use Rattle.wh_catalog.specs.Object.{kept_object}
-use Rattle.wh_catalog.proofs.Places.{at_place}
 use Rattle.wh_catalog.proofs.Names.{keeps_life}
-use Rattle.wh_catalog.proofs.Objects.{changed_by}
+use Rattle.wh_catalog.proofs.Places.{kept_changed}
 use Rattle.wh_catalog.proofs.carrying.take_version_back.Goals as goal
 
 pub returns-clause-back : goal.returns-clause-back
 returns-clause-back c =
-    let objects = c.args.objects.now in
-    let id = c.args.pushed.id in
-    let old = c.index_mut-object.result.now in
-    let sized = objects.ok.0 in
-    let some : 0 < id = omega arith in
-    let here : at_id objects.items id ≡ Some old = at_place objects.items id old some (omega (arith, c.len.ensures))
-    ∙ ap Some (sym c.index_mut-object.ensures.value) in
-    changed_by kept_object (object_taken_back c.args.pushed.next_row) objects.items id old c.take_back.new.self some
-    here c.take_back.ensures.back
+    kept_changed c.in-Some.ensures.found c.index_mut-object.ensures.value
+    c.take_back.new.self (object_taken_back c.args.pushed.next_row) c.take_back.ensures.back
 
 pub returns-clause-names : goal.returns-clause-names
 returns-clause-names c =
-    let objects = c.args.objects.now in
-    let sized = objects.ok.0 in
-    keeps_life objects.items (c.args.pushed.id - 1) c.index_mut-object.result.now c.take_back.new.self
-    (omega (arith, c.len.ensures)) c.index_mut-object.ensures.value c.take_back.ensures.name
-    c.take_back.ensures.live
+    keeps_life c.in-Some.ensures.found c.index_mut-object.ensures.value
+    c.take_back.new.self c.take_back.ensures.name c.take_back.ensures.live

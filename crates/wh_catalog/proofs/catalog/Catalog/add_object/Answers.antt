@@ -3,7 +3,7 @@ use Rattle.std.proofs.Common.{length, ◌≤◌, Some, cond, bytes_eq, arith}
 use Rattle.std.specs.Prelude.{count_by}
 use Rattle.wh_value.specs.Limit.{bound}
 use Rattle.wh_value.specs.declared.limit.Limit.TheVariants as limits
-use Rattle.std.proofs.lemmas.List.{length-map}
+use Rattle.std.proofs.lemmas.List.{length-map, map-append}
 use Rattle.wh_catalog.specs.declared.object.StoredObject.{StoredObject}
 use Rattle.wh_catalog.specs.Names.{last_id, names_of, AreLast, id_at}
 use Rattle.wh_catalog.specs.Kept.{object_in}
@@ -12,7 +12,6 @@ use Rattle.wh_catalog.specs.Catalog.{kept_of}
 use Rattle.wh_catalog.proofs.Dropped.{one_more}
 use Rattle.wh_catalog.proofs.Index.{indexed_more}
 use Rattle.wh_catalog.proofs.LiveNames.{last_more}
-use Rattle.wh_catalog.proofs.Objects.{map_more}
 use Rattle.wh_catalog.proofs.catalog.Catalog.add_object.Goals as goal
 
 pub returns-in-Ok-clause-changed : goal.returns-in-Ok-clause-changed
@@ -22,8 +21,8 @@ returns-in-Ok-clause-changed c =
     let object = c.args.object in
     ap (λ l. map object_in (map kept_object l))
     (c.push_reserved.ensures.items ∙ ap (λ l. l ++ object ∷ []) c.reserve.ensures.items)
-    ∙ ap (map object_in) (map_more kept_object before object)
-    ∙ map_more object_in (map kept_object before) (kept_object object)
+    ∙ ap (map object_in) (map-append kept_object before (object ∷ []))
+    ∙ map-append object_in (map kept_object before) (kept_object object ∷ [])
 
 pub invariant_of-self-in-Ok-clause-named : goal.invariant_of-self-in-Ok-clause-named
 unfolding kept_of
@@ -33,7 +32,7 @@ invariant_of-self-in-Ok-clause-named c =
     let object = c.args.object in
     let names : names_of c.push_reserved.new.self.items ≡ names_of before ++ object.name ∷ [] =
     ap names_of (c.push_reserved.ensures.items ∙ ap (λ l. l ++ object ∷ []) c.reserve.ensures.items)
-    ∙ map_more (λ (o : StoredObject). o.name) before object in
+    ∙ map-append (λ (o : StoredObject). o.name) before (object ∷ []) in
     let id : c.args.id ≡ length (names_of before) + 1 =
     omega (
       arith,

@@ -6,7 +6,7 @@ use Rattle.wh_record.specs.declared.commit.Change.{Change}
 use Rattle.wh_record.specs.View.{change_of}
 use Rattle.wh_catalog.specs.Catalog.{kept_of, objects_of}
 use Rattle.wh_catalog.specs.Undo.{undone}
-use Rattle.wh_catalog.proofs.Objects.{undone_more}
+use Rattle.wh_catalog.proofs.Steps.{undone_more}
 use Rattle.wh_catalog.proofs.catalog.Catalog.carry_out_all.Goals as goal
 
 pub loop-change-preserved : goal.loop-change-preserved

@@ -1,5 +1,4 @@
-use Rattle.std.proofs.Common.{◌≡◌, ℕ, ◌-◌, ◌<◌, ◌≤◌, List, length, Some, sym, ap, ◌∙◌, arith}
-use Rattle.std.specs.Option.{option_copied}
+use Rattle.std.proofs.Common.{◌≡◌, ℕ, ◌-◌, ◌<◌, ◌≤◌, List, length, Some, sym, ◌∙◌, arith}
 use Rattle.std.proofs.lemmas.List.{length-map}
 use Rattle.wh_catalog.specs.declared.catalog.Catalog.{Catalog}
 use Rattle.wh_catalog.specs.declared.object.StoredObject.{StoredObject}
@@ -20,23 +19,17 @@ pub returns-in_err-id : goal.returns-in_err-id
 unfolding stored_of kept_of
 returns-in_err-id c =
     let self = c.args.self.now in
-    let name = c.args.name.now in
-    c.from_residual.ensures ∙ sym (found_none name self.objects.items self.unique
-    (sym (self.named name) ∙ sym c.get.ensures.value ∙ ap option_copied c.in_err-id.was))
+    c.from_residual.ensures
+    ∙ sym (found_none c.args.name.now self.objects.items self.unique (sym c.last_of_name.ensures ∙ c.in_err-id.was))
 
 pub overflow_sub-id : goal.overflow_sub-id
 overflow_sub-id c =
-    let self = c.args.self.now in
-    let name = c.args.name.now in
-    (within self name c.in_ok-id.field-0.now
-    (sym (self.named name) ∙ sym c.get.ensures.value ∙ ap option_copied c.in_ok-id.was)).0
+    (within c.args.self.now c.args.name.now c.in_ok-id.id (sym c.last_of_name.ensures ∙ c.in_ok-id.was)).0
 
 pub index-object-requires : goal.index-object-requires
 index-object-requires c =
     let self = c.args.self.now in
-    let name = c.args.name.now in
-    let there = within self name c.in_ok-id.field-0.now
-    (sym (self.named name) ∙ sym c.get.ensures.value ∙ ap option_copied c.in_ok-id.was) in
+    let there = within self c.args.name.now c.in_ok-id.id (sym c.last_of_name.ensures ∙ c.in_ok-id.was) in
     let sized = self.objects.ok.0 in
     omega arith
 
@@ -45,9 +38,8 @@ unfolding stored_of kept_of
 returns c =
     let self = c.args.self.now in
     let name = c.args.name.now in
-    let id = c.in_ok-id.field-0.now in
-    let some : last_id name (names_of self.objects.items) ≡ Some id =
-    sym (self.named name) ∙ sym c.get.ensures.value ∙ ap option_copied c.in_ok-id.was in
+    let id = c.in_ok-id.id in
+    let some : last_id name (names_of self.objects.items) ≡ Some id = sym c.last_of_name.ensures ∙ c.in_ok-id.was in
     let there = within self name id some in
     c.then_some.ensures ∙ sym (found_at name self.objects.items self.unique id c.index-object.result.now some there.1
     there.0 c.index-object.ensures)

@@ -1,7 +1,7 @@
 use Rattle.std.proofs.Common.{◌≡◌, ◌++◌, ◌∷◌, [], ◌∙◌, ap, sym}
 use Rattle.wh_catalog.specs.Catalog.{kept_of}
 use Rattle.wh_catalog.specs.Undo.{undone}
-use Rattle.wh_catalog.proofs.Objects.{undone_more}
+use Rattle.wh_catalog.proofs.Steps.{undone_more}
 use Rattle.wh_catalog.proofs.catalog.Catalog.take_back_all.Goals as goal
 
 pub loop-step-preserved : goal.loop-step-preserved

@@ -1,9 +1,9 @@
 use Rattle.std.proofs.Common.{◌≡◌, List, [], ◌∷◌, ◌++◌, is_some, cond, bytes_eq, ap, subst, ◌∙◌}
+use Rattle.std.proofs.lemmas.List.{map-append}
 use Rattle.wh_catalog.specs.declared.object.StoredObject.{StoredObject}
 use Rattle.wh_catalog.specs.Names.{last_id, names_of, AreLast, id_at}
 use Rattle.wh_catalog.proofs.Index.{own_id, indexed_fewer}
 use Rattle.wh_catalog.proofs.Names.{last_fewer}
-use Rattle.wh_catalog.proofs.Objects.{map_more}
 use Rattle.wh_catalog.proofs.catalog.Catalog.take_object_back.Goals as goal
 
 pub change_id-requires : goal.change_id-requires
@@ -12,7 +12,7 @@ change_id-requires c =
     let left = c.pop.new.self.items in
     let object = c.in-Some.object in
     let names : names_of self.objects.items ≡ names_of left ++ object.name ∷ [] =
-    ap names_of c.in-Some.ensures.items ∙ map_more (λ (o : StoredObject). o.name) left object in
+    ap names_of c.in-Some.ensures.items ∙ map-append (λ (o : StoredObject). o.name) left (object ∷ []) in
     ap is_some (ap (id_at self.names) c.as_bytes-name.ensures.value ∙ self.named object.name
     ∙ ap (last_id object.name) names ∙ own_id object.name (names_of left))
 
@@ -23,7 +23,7 @@ invariant_of-self-clause-named c =
     let object = c.in-Some.object in
     let bytes = c.as_bytes-name.ensures.value in
     let names : names_of self.objects.items ≡ names_of left ++ object.name ∷ [] =
-    ap names_of c.in-Some.ensures.items ∙ map_more (λ (o : StoredObject). o.name) left object in
+    ap names_of c.in-Some.ensures.items ∙ map-append (λ (o : StoredObject). o.name) left (object ∷ []) in
     indexed_fewer self.names c.change_id.new.names object.name (names_of left)
     (λ other. self.named other ∙ ap (last_id other) names)
     (λ other. c.change_id.ensures other
