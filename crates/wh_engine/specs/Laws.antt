@@ -1,5 +1,5 @@
 -- Laws of the machine.
-use Rattle.std.specs.Prelude.{◌≡◌, ℕ, max, IsTrue, true, false, List, Some, None, map}
+use Rattle.std.specs.Prelude.{◌≡◌, ℕ, max, IsTrue, true, false, List, [], Some, None, map}
 use Rattle.wh_ast.specs.declared.dml.Dml.{Dml}
 use Rattle.wh_meaning.specs.Bag.{bag_of}
 use Rattle.wh_reply.specs.Reply.{is_refusal}
@@ -14,7 +14,7 @@ use Rattle.wh_sessions.specs.Statements.{commit}
 use Rattle.wh_sessions.specs.Step.{Event, stamp_of, at_stamp, step, after}
 use Rattle.wh_sessions.specs.Sound.{SoundMachine}
 use Rattle.wh_sessions.specs.Consuming.{consumed, batches, all_patched, rows_consumed, reads, AreApart, IsHeldAlong}
-use Rattle.wh_sessions.specs.Consuming.{committing, changing, change_reads}
+use Rattle.wh_sessions.specs.Consuming.{committing, changing, change_reads, consumes}
 
 -- a refused event changes nothing but the last stamp, and no transaction
 abbrev pub RefusalsChangeNothing : Type 0
@@ -69,3 +69,8 @@ ChangesConsumeWhatTheyRead = (reading session id : ℕ) (change : Dml) (m : Mach
     → change_reads m change id ≡ true → is_refusal (step m (changing reading session change)).1 ≡ false
     → bag_of (map (shown_row s.source) (consumed id m (changing reading session change)))
     ≡ rows_read (at_stamp m (stamp_of m.state reading)) session id
+
+-- nothing is consumed of a stream but by an accepted COMMIT of a transaction that holds it, and by an accepted change
+-- outside of a transaction that reads it
+abbrev pub NothingElseConsumes : Type 0
+NothingElseConsumes = (id : ℕ) (m : Machine) (e : Event) → consumes id m e ≡ false → consumed id m e ≡ []

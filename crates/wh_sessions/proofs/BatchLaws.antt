@@ -1,6 +1,7 @@
 -- A batch is what was read: what an event consumes of a stream, as rows, is what statements read of it.
 --     commit_batch      a COMMIT consumes what its transaction reads of a standard stream, wherever it held it
 --     change_holds      a change inside of a transaction holds the streams that it reads, and they are read again
+--     changed_read      whether the streams that a change comes to are those of its statement
 --     change_batch      a change outside of a transaction consumes what it reads itself
 use Rattle.std.proofs.Common.{◌≡◌, ℕ, zero, suc, Bool, true, false, List, [], ◌∷◌, map, Option, Some, None}
 use Rattle.std.proofs.Common.{refl, sym, ap, subst, ◌∙◌}
@@ -156,39 +157,39 @@ commit_batch reading session id stamp m es sound apart held s t at standard tabl
 
 -- ---- changes of rows
 
--- that the stream of an id is among those that a change reads
-abbrev IsReadIn : ℕ → Changed → Type 0
-IsReadIn id (Fails why) = Unit {0}
-IsReadIn id (Gives target streams change e) = list_any (nat_eq id) streams ≡ true
+-- whether the stream of an id is among those that a change reads
+abbrev pub IsReadIn : Bool → ℕ → Changed → Type 0
+IsReadIn is id (Fails why) = Unit {0}
+IsReadIn is id (Gives target streams change e) = list_any (nat_eq id) streams ≡ is
 
-bound_read : (m : Machine) (session id : ℕ) (b : BoundChange) → list_any (nat_eq id) (streams_read m b) ≡ true
-    → IsReadIn id (bound_changed m session b)
-bound_read m session id b among = by_refusal (change_refusal m session b)
+bound_read : (is : Bool) (m : Machine) (session id : ℕ) (b : BoundChange)
+    → list_any (nat_eq id) (streams_read m b) ≡ is → IsReadIn is id (bound_changed m session b)
+bound_read is m session id b among = by_refusal (change_refusal m session b)
   where
-    by_effect : (o : effects.Outcome) → IsReadIn id (given b.target (streams_read m b) b.change o)
+    by_effect : (o : effects.Outcome) → IsReadIn is id (given b.target (streams_read m b) b.change o)
     by_effect effects.Undefined = tt
     by_effect (effects.Ambiguous row) = tt
     by_effect (effects.Does e) = among
 
     by_table : (found : Option Table)
-        → IsReadIn id (given_on (streams_read m b) (instance_read m session b.sources) b found)
+        → IsReadIn is id (given_on (streams_read m b) (instance_read m session b.sources) b found)
     by_table None = tt
     by_table (Some t) = by_effect _
 
-    by_refusal : (found : Option Refusal) → IsReadIn id (fails_or found
+    by_refusal : (found : Option Refusal) → IsReadIn is id (fails_or found
         (given_on (streams_read m b) (instance_read m session b.sources) b
         (table_at (objects_seen m session) b.target)))
     by_refusal (Some why) = tt
     by_refusal None = by_table (table_at (objects_seen m session) b.target)
 
-changed_read : (m : Machine) (session id : ℕ) (statement : Dml) → change_reads m statement id ≡ true
-    → IsReadIn id (changed m session statement)
+pub changed_read : (is : Bool) (m : Machine) (session id : ℕ) (statement : Dml) → change_reads m statement id ≡ is
+    → IsReadIn is id (changed m session statement)
 unfolding changed
-changed_read m session id statement among =
-    bound_read m session id (bound_change (names_from 1 m.state.objects) statement) among
+changed_read is m session id statement among =
+    bound_read is m session id (bound_change (names_from 1 m.state.objects) statement) among
 
 -- outside of a transaction
-alone_moves : (m : Machine) (session id : ℕ) (s : Stream) (c : Changed) → IsReadIn id c
+alone_moves : (m : Machine) (session id : ℕ) (s : Stream) (c : Changed) → IsReadIn true id c
     → stream_at m.state.objects id ≡ Some s
     → is_refusal (settled m (changes_in m session None c)).1 ≡ false
     → stream_at (settled m (changes_in m session None c)).0.state.objects id ≡ Some (read_to (start_in m session) s)
@@ -213,7 +214,7 @@ change_batch reading session id statement m s none at among accepted =
     none in
     let moved : stream_at (step m e).0.state.objects id ≡ Some (read_to (start_in now session) s) =
     ap (λ (p : Machine × Reply). stream_at p.0.state.objects id) ends
-    ∙ alone_moves now session id s (changed now session statement) (changed_read now session id statement among) at
+    ∙ alone_moves now session id s (changed now session statement) (changed_read true now session id statement among) at
     (sym (ap (λ (p : Machine × Reply). is_refusal p.1) ends) ∙ accepted) in
     ap bag_of (consumed_rows m e id (start_in now session) s at moved) ∙ sym (read_by now session id s at)
 
@@ -233,7 +234,7 @@ abbrev HoldsWhatWasRead : ℕ → ℕ → Machine → Machine → Type 0
 HoldsWhatWasRead session id before behind =
     (reads behind.sessions session id ≡ true) × (rows_read behind session id ≡ rows_read before session id)
 
-within_holds : (m : Machine) (session id : ℕ) (t : Transaction) (s : Stream) (c : Changed) → IsReadIn id c
+within_holds : (m : Machine) (session id : ℕ) (t : Transaction) (s : Stream) (c : Changed) → IsReadIn true id c
     → transaction_in m.sessions session ≡ Some t → stream_at m.state.objects id ≡ Some s
     → is_refusal (settled m (changes_in m session (Some t) c)).1 ≡ false
     → HoldsWhatWasRead session id m (settled m (changes_in m session (Some t) c)).0
@@ -268,5 +269,5 @@ change_holds reading session id statement m t s open_there at among accepted =
     ∙ ap (λ (found : Option Transaction). settled now (changes_in now session found (changed now session statement)))
     open_there in
     subst (λ (p : Machine × Reply). HoldsWhatWasRead session id now p.0) (sym ends)
-    (within_holds now session id t s (changed now session statement) (changed_read now session id statement among)
+    (within_holds now session id t s (changed now session statement) (changed_read true now session id statement among)
     open_there at (sym (ap (λ (p : Machine × Reply). is_refusal p.1) ends) ∙ accepted))

@@ -9,6 +9,7 @@ pub mod ReadLaws
 pub mod HoldLaws
 pub mod HeldLaws
 pub mod BatchLaws
+pub mod OtherwiseLaws
 pub mod KnownTransactions
 pub mod KnownEvents
 pub mod KnownChanges

@@ -8,16 +8,19 @@
 --     IsHeldAlong           a session holds a stream all along a run
 --     committing, changing  a command that asks for COMMIT, and one for a change of rows
 --     change_reads          a change of rows reads a stream
+--     consumes              an event is an accepted one of those that consume a stream
 --     all_patched           rows with batches of changes made, one after the other
 use Rattle.std.specs.Prelude.{◌≡◌, ℕ, ◌-◌, ◌<◌, ◌≤◌, max, Bool, true, false, List, [], ◌∷◌, Option, Some, None}
-use Rattle.std.specs.Prelude.{nat_eq}
+use Rattle.std.specs.Prelude.{nat_eq, not, ◌&&◌, is_some}
 use Rattle.std.specs.List.{list_any}
 use Rattle.std.specs.FinMap.{empty}
 use Rattle.wh_ast.specs.declared.dml.Dml.{Dml}
 use Rattle.wh_ast.specs.declared.statement.Statement.TheVariants as st
 use Rattle.wh_grammar.specs.Spelled.{Asked}
 use Rattle.wh_naming.specs.Changes.{bound_change}
+use Rattle.wh_reply.specs.Reply.{is_refusal}
 use Rattle.wh_machine.specs.State.{Rows, Kind, TableKind, StreamKind, Object, Table, Stream}
+use Rattle.wh_machine.specs.Statement.{Statement, Commit, ChangeRows, form_of}
 use Rattle.wh_machine.specs.Objects.{table_at, stream_at}
 use Rattle.wh_machine.specs.Queries.{names_from}
 use Rattle.wh_streams.specs.Net.{Record, patch}
@@ -116,7 +119,22 @@ committing reading session = Command reading session (Asked st.Commit)
 abbrev pub changing : ℕ → ℕ → Dml → Event
 changing reading session statement = Command reading session (Asked (st.Dml statement))
 
--- a change that reads the stream of an id
+-- whether a change reads the stream of an id
 abbrev pub change_reads : Machine → Dml → ℕ → Bool
 change_reads m statement id =
     list_any (nat_eq id) (streams_read m (bound_change (names_from 1 m.state.objects) statement))
+
+-- the COMMIT of a transaction that holds it, and a change outside of a transaction that reads it
+abbrev pub statement_consumes : ℕ → Machine → ℕ → Option Statement → Bool
+statement_consumes id m session (Some Commit) = reads m.sessions session id
+statement_consumes id m session (Some (ChangeRows change)) =
+    not (is_some (transaction_in m.sessions session)) && change_reads m change id
+statement_consumes id m session other = false
+
+abbrev pub event_consumes : ℕ → Machine → Event → Bool
+event_consumes id m (Command reading session (Asked written)) = statement_consumes id m session (form_of written)
+event_consumes id m e = false
+
+-- where it isn't refused
+abbrev pub consumes : ℕ → Machine → Event → Bool
+consumes id m e = not (is_refusal (step m e).1) && event_consumes id m e
