@@ -1,17 +1,20 @@
 -- Laws of the machine.
-use Rattle.std.specs.Prelude.{◌≡◌, ℕ, max, IsTrue, true, false, List, Some}
+use Rattle.std.specs.Prelude.{◌≡◌, ℕ, max, IsTrue, true, false, List, [], Some, None, map}
+use Rattle.wh_ast.specs.declared.dml.Dml.{Dml}
+use Rattle.wh_meaning.specs.Bag.{bag_of}
 use Rattle.wh_reply.specs.Reply.{is_refusal}
 use Rattle.wh_machine.specs.State.{Table, Stream, with_offset}
 use Rattle.wh_machine.specs.Objects.{table_at, stream_at}
-use Rattle.wh_streams.specs.Stream.{rows_at}
+use Rattle.wh_streams.specs.Stream.{rows_at, shown_row}
 use Rattle.wh_sessions.specs.Transaction.{Transaction, start_of}
 use Rattle.wh_sessions.specs.Sessions.{transaction_in}
 use Rattle.wh_sessions.specs.Outcome.{Machine, settled}
 use Rattle.wh_sessions.specs.Reading.{rows_read}
 use Rattle.wh_sessions.specs.Statements.{commit}
-use Rattle.wh_sessions.specs.Step.{Event, at_stamp, step, after}
+use Rattle.wh_sessions.specs.Step.{Event, stamp_of, at_stamp, step, after}
 use Rattle.wh_sessions.specs.Sound.{SoundMachine}
-use Rattle.wh_sessions.specs.Consuming.{batches, all_patched, rows_consumed, reads, AreApart, IsHeldAlong}
+use Rattle.wh_sessions.specs.Consuming.{consumed, batches, all_patched, rows_consumed, reads, AreApart, IsHeldAlong}
+use Rattle.wh_sessions.specs.Consuming.{committing, changing, change_reads, consumes}
 
 -- a refused event changes nothing but the last stamp, and no transaction
 abbrev pub RefusalsChangeNothing : Type 0
@@ -39,3 +42,35 @@ CommitsMoveToTheStart = (m : Machine) (session id : ℕ) (t : Transaction) (s : 
     → transaction_in m.sessions session ≡ Some t → stream_at m.state.objects id ≡ Some s
     → reads m.sessions session id ≡ true → is_refusal (settled m (commit m session)).1 ≡ false
     → stream_at (settled m (commit m session)).0.state.objects id ≡ Some (with_offset (max s.offset (start_of t)) s)
+
+-- what the COMMIT of a transaction consumes of a standard stream is, as rows, what its statements read of it at any
+-- moment since the transaction held it, whatever their stamps
+abbrev pub CommitsConsumeWhatWasRead : Type 0
+CommitsConsumeWhatWasRead = (reading session id stamp : ℕ) (m : Machine) (es : List Event) → SoundMachine m
+    → AreApart m.sessions → IsHeldAlong session id m es → (s : Stream) (t : Table)
+    → stream_at m.state.objects id ≡ Some s → s.is_append_only ≡ false → table_at m.state.objects s.source ≡ Some t
+    → is_refusal (step (after m es) (committing reading session)).1 ≡ false
+    → bag_of (map (shown_row s.source) (consumed id (after m es) (committing reading session)))
+    ≡ rows_read (at_stamp m stamp) session id
+
+-- a change in a transaction holds each stream that it reads, and what it read of it is read of it again
+abbrev pub ChangesHoldWhatTheyRead : Type 0
+ChangesHoldWhatTheyRead = (reading session id : ℕ) (change : Dml) (m : Machine) (t : Transaction) (s : Stream)
+    → transaction_in m.sessions session ≡ Some t → stream_at m.state.objects id ≡ Some s
+    → change_reads m change id ≡ true → is_refusal (step m (changing reading session change)).1 ≡ false
+    → (reads (step m (changing reading session change)).0.sessions session id ≡ true)
+    × (rows_read (step m (changing reading session change)).0 session id
+    ≡ rows_read (at_stamp m (stamp_of m.state reading)) session id)
+
+-- what a change outside of a transaction consumes of a stream that it reads is, as rows, what it reads of it
+abbrev pub ChangesConsumeWhatTheyRead : Type 0
+ChangesConsumeWhatTheyRead = (reading session id : ℕ) (change : Dml) (m : Machine) (s : Stream)
+    → transaction_in m.sessions session ≡ None → stream_at m.state.objects id ≡ Some s
+    → change_reads m change id ≡ true → is_refusal (step m (changing reading session change)).1 ≡ false
+    → bag_of (map (shown_row s.source) (consumed id m (changing reading session change)))
+    ≡ rows_read (at_stamp m (stamp_of m.state reading)) session id
+
+-- nothing is consumed of a stream but by an accepted COMMIT of a transaction that holds it, and by an accepted change
+-- outside of a transaction that reads it
+abbrev pub NothingElseConsumes : Type 0
+NothingElseConsumes = (id : ℕ) (m : Machine) (e : Event) → consumes id m e ≡ false → consumed id m e ≡ []

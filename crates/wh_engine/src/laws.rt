@@ -1,5 +1,7 @@
 ghost use Rattle.wh_engine.specs.Laws.{RefusalsChangeNothing, BatchesLead, ReadsTheSame};
-ghost use Rattle.wh_engine.specs.Laws.{CommitsMoveToTheStart};
+ghost use Rattle.wh_engine.specs.Laws.{CommitsMoveToTheStart, CommitsConsumeWhatWasRead};
+ghost use Rattle.wh_engine.specs.Laws.{ChangesHoldWhatTheyRead, ChangesConsumeWhatTheyRead};
+ghost use Rattle.wh_engine.specs.Laws.{NothingElseConsumes};
 
 /// A refused command changes nothing but the last stamp, and no transaction.
 pub fn refusals_change_nothing()
@@ -22,4 +24,14 @@ pub fn held_streams_are_read_again()
 /// was read, and never back.
 pub fn commits_move_to_the_start()
     ensures { CommitsMoveToTheStart }
+{}
+
+/// A batch is what was read. What a COMMIT consumes of a standard stream is, row by row, what the
+/// statements of its transaction read of it, from the first change on that read it and so held it;
+/// a change outside of a transaction consumes what it reads itself; nothing else consumes any of it.
+pub fn batches_are_what_was_read()
+    ensures commits { CommitsConsumeWhatWasRead }
+    ensures holds { ChangesHoldWhatTheyRead }
+    ensures changes { ChangesConsumeWhatTheyRead }
+    ensures others { NothingElseConsumes }
 {}

@@ -32,7 +32,7 @@ mod warehouse;
 pub use event::Event;
 pub use fault::{Halt, OpenFault};
 pub use laws::{
-    commits_move_to_the_start, held_streams_are_read_again, nothing_lost_nothing_twice,
-    refusals_change_nothing,
+    batches_are_what_was_read, commits_move_to_the_start, held_streams_are_read_again,
+    nothing_lost_nothing_twice, refusals_change_nothing,
 };
 pub use warehouse::Warehouse;

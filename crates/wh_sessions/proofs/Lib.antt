@@ -8,6 +8,8 @@ pub mod MoveLaws
 pub mod ReadLaws
 pub mod HoldLaws
 pub mod HeldLaws
+pub mod BatchLaws
+pub mod OtherwiseLaws
 pub mod KnownTransactions
 pub mod KnownEvents
 pub mod KnownChanges

@@ -6,19 +6,30 @@
 --     consumed, batches     what events consumed of a stream, from its offset before to the one behind
 --     AreApart              no two sessions hold one stream
 --     IsHeldAlong           a session holds a stream all along a run
+--     committing, changing  a command that asks for COMMIT, and one for a change of rows
+--     change_reads          a change of rows reads a stream
+--     consumes              an event is an accepted one of those that consume a stream
 --     all_patched           rows with batches of changes made, one after the other
 use Rattle.std.specs.Prelude.{◌≡◌, ℕ, ◌-◌, ◌<◌, ◌≤◌, max, Bool, true, false, List, [], ◌∷◌, Option, Some, None}
-use Rattle.std.specs.Prelude.{nat_eq}
+use Rattle.std.specs.Prelude.{nat_eq, not, ◌&&◌, is_some}
 use Rattle.std.specs.List.{list_any}
 use Rattle.std.specs.FinMap.{empty}
+use Rattle.wh_ast.specs.declared.dml.Dml.{Dml}
+use Rattle.wh_ast.specs.declared.statement.Statement.TheVariants as st
+use Rattle.wh_grammar.specs.Spelled.{Asked}
+use Rattle.wh_naming.specs.Changes.{bound_change}
+use Rattle.wh_reply.specs.Reply.{is_refusal}
 use Rattle.wh_machine.specs.State.{Rows, Kind, TableKind, StreamKind, Object, Table, Stream}
+use Rattle.wh_machine.specs.Statement.{Statement, Commit, ChangeRows, form_of}
 use Rattle.wh_machine.specs.Objects.{table_at, stream_at}
+use Rattle.wh_machine.specs.Queries.{names_from}
 use Rattle.wh_streams.specs.Net.{Record, patch}
 use Rattle.wh_streams.specs.Stream.{rows_at, shown}
 use Rattle.wh_sessions.specs.Transaction.{Transaction}
 use Rattle.wh_sessions.specs.Sessions.{Sessions, transaction_in}
 use Rattle.wh_sessions.specs.Outcome.{Machine}
-use Rattle.wh_sessions.specs.Step.{Event, step}
+use Rattle.wh_sessions.specs.Statements.{streams_read}
+use Rattle.wh_sessions.specs.Step.{Event, Command, step}
 
 abbrev pub Extends : {X : Type 0} → (X → X → Type 0) → List X → List X → Type 0
 Extends R [] ys = Unit {0}
@@ -98,3 +109,32 @@ AreApart sessions =
 abbrev pub IsHeldAlong : ℕ → ℕ → Machine → List Event → Type 0
 IsHeldAlong session id m [] = reads m.sessions session id ≡ true
 IsHeldAlong session id m (e ∷ es) = (reads m.sessions session id ≡ true) × IsHeldAlong session id (step m e).0 es
+
+-- ---- commands that consume
+
+-- of a session at a clock reading
+abbrev pub committing : ℕ → ℕ → Event
+committing reading session = Command reading session (Asked st.Commit)
+
+abbrev pub changing : ℕ → ℕ → Dml → Event
+changing reading session statement = Command reading session (Asked (st.Dml statement))
+
+-- whether a change reads the stream of an id
+abbrev pub change_reads : Machine → Dml → ℕ → Bool
+change_reads m statement id =
+    list_any (nat_eq id) (streams_read m (bound_change (names_from 1 m.state.objects) statement))
+
+-- the COMMIT of a transaction that holds it, and a change outside of a transaction that reads it
+abbrev pub statement_consumes : ℕ → Machine → ℕ → Option Statement → Bool
+statement_consumes id m session (Some Commit) = reads m.sessions session id
+statement_consumes id m session (Some (ChangeRows change)) =
+    not (is_some (transaction_in m.sessions session)) && change_reads m change id
+statement_consumes id m session other = false
+
+abbrev pub event_consumes : ℕ → Machine → Event → Bool
+event_consumes id m (Command reading session (Asked written)) = statement_consumes id m session (form_of written)
+event_consumes id m e = false
+
+-- where it isn't refused
+abbrev pub consumes : ℕ → Machine → Event → Bool
+consumes id m e = not (is_refusal (step m e).1) && event_consumes id m e
