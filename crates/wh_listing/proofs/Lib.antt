@@ -1,3 +1,5 @@
+pub mod Abbreviated
+pub mod Codes
 pub mod Keys
 pub mod Ordered
 pub mod OrderBy

@@ -1,1 +1,2 @@
+pub mod Abbreviation
 pub mod View
