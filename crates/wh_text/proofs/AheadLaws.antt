@@ -2,6 +2,7 @@
 use Rattle.std.proofs.Common.{◌≡◌, ℕ, zero, suc, ◌+◌, ◌-◌, ◌<◌, ◌≤◌, true, List, [], ◌∷◌, ◌++◌, length, take, drop}
 use Rattle.std.proofs.Common.{Option, Some, None, option_map, ltb, MatchBool, refl, sym, ap, ◌∙◌, arith, lt-ltb}
 use Rattle.std.proofs.Common.{length-append, length-take}
+use Rattle.std.proofs.lemmas.List.{drop-drop, drop-take}
 use Rattle.wh_text.specs.Turn.{ahead_and}
 use Rattle.wh_text.specs.Ahead.{AheadState, Fills, AtEnd, total}
 
@@ -85,3 +86,15 @@ pub first_ahead : (b : ℕ) (bytes : List ℕ) (left : Option (List ℕ))
     → ahead_and (b ∷ bytes) left ≡ option_map (λ rest. b ∷ rest) (ahead_and bytes left)
 first_ahead b bytes None = refl
 first_ahead b bytes (Some rest) = refl
+
+-- so many of the bytes ahead are used
+pub used_ahead : (items bytes : List ℕ) (from to count : ℕ) → bytes ≡ take (to - from) (drop from items)
+    → count ≤ length bytes
+    → take (to - (from + count)) (drop (from + count) items) ≡ drop count bytes
+used_ahead items bytes from to count same within =
+    let some : count ≤ to - from = omega (arith, within, ap length same, length-take (to - from) (drop from items)) in
+    let split : to - from ≡ count + (to - (from + count)) = omega (arith, some) in
+    ap (λ xs. take (to - (from + count)) xs) (sym (drop-drop count from items))
+    ∙ sym (drop-take count (to - (from + count)) (drop from items))
+    ∙ ap (λ n. drop count (take n (drop from items))) (sym split)
+    ∙ ap (λ xs. drop count xs) (sym same)

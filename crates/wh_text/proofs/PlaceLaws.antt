@@ -1,12 +1,15 @@
 -- One byte of a script, by the places of its definition and by a `Place`.
 use Rattle.std.proofs.Common.{◌≡◌, ℕ, ◌≤◌, Bool, true, false, ◌==◌, List, [], ◌∷◌, ◌++◌, length, drop, Option, Some}
 use Rattle.std.proofs.Common.{None, nat_lt, if◌then◌else◌, refl, sym, ap, ◌∙◌, eqb-true, ltb-false, append_assoc}
-use Rattle.std.proofs.lemmas.List.{take-append-le, take_all}
+use Rattle.std.proofs.Common.{append-nil}
+use Rattle.std.specs.List.{list_all}
+use Rattle.std.proofs.lemmas.Bool.{and_parts}
+use Rattle.std.proofs.lemmas.List.{take-append-le}
 use Rattle.wh_grammar.specs.Lexing.{begins_with, is_byte, has_comment_end}
 use Rattle.wh_grammar.specs.Script as scripts
 use Rattle.wh_grammar.specs.Script.{Line, CommandLine, lines_from, place_behind, area_behind, gap_at, ends_command}
 use Rattle.wh_grammar.specs.Script.{command_line, marked_line, without_return}
-use Rattle.wh_text.specs.Area.{area_of, behind_plain, behind_comment, behind, ends}
+use Rattle.wh_text.specs.Area.{area_of, behind_plain, behind_comment, behind, ends, is_plain}
 use Rattle.wh_text.specs.Place.{closes, lines_at, line_at, last_line_at, is_gap, behind_gap, behind_command}
 use Rattle.wh_text.specs.Place.{behind_opening, next, with_byte, kept}
 use Rattle.wh_text.specs.declared.area.Area.{Area}
@@ -265,6 +268,37 @@ at_end Marked text = refl
 at_end (Opening area) text = opening_ends area text
 at_end (Command area) text = refl
 
--- a text that isn't too long is handed on whole
-pub whole_text : (text : List ℕ) → length text ≤ 65537 → CommandLine text ≡ command_line text
-whole_text text short = ap CommandLine (sym (take_all 65537 text short))
+-- ---- plain bytes
+
+plain_cases : (text : List ℕ) (b : ℕ) (bytes : List ℕ) (q d m s e : Bool) → (b == 39) ≡ q → (b == 34) ≡ d
+    → (b == 45) ≡ m → (b == 47) ≡ s → (b == 59) ≡ e → is_plain b ≡ true
+    → lines_from (scripts.InCommand scripts.Plain text) (b ∷ bytes)
+    ≡ lines_from (scripts.InCommand scripts.Plain (text ++ b ∷ [])) bytes
+unfolding lines_from area_behind
+plain_cases text b bytes true d m s e eq ed em es ee plain =
+    let other : is_plain b ≡ false = rw eq refl in absurd (cc)
+plain_cases text b bytes false true m s e eq ed em es ee plain =
+    let other : is_plain b ≡ false = rw (eq, ed) refl in absurd (cc)
+plain_cases text b bytes false false true s e eq ed em es ee plain =
+    let other : is_plain b ≡ false = rw (eq, ed, em) refl in absurd (cc)
+plain_cases text b bytes false false false true e eq ed em es ee plain =
+    let other : is_plain b ≡ false = rw (eq, ed, em, es) refl in absurd (cc)
+plain_cases text b bytes false false false false true eq ed em es ee plain =
+    let other : is_plain b ≡ false = rw (eq, ed, em, es, ee) refl in absurd (cc)
+plain_cases text b bytes false false false false false eq ed em es ee plain = rw (eq, ed, em, es, ee) refl
+
+plain_byte : (text : List ℕ) (b : ℕ) (bytes : List ℕ) → is_plain b ≡ true
+    → lines_from (scripts.InCommand scripts.Plain text) (b ∷ bytes)
+    ≡ lines_from (scripts.InCommand scripts.Plain (text ++ b ∷ [])) bytes
+plain_byte text b bytes plain =
+    plain_cases text b bytes (b == 39) (b == 34) (b == 45) (b == 47) (b == 59) refl refl refl refl refl plain
+
+-- a command goes on over plain bytes
+pub plain_run : (run text rest : List ℕ) → list_all is_plain run ≡ true
+    → lines_at (Command areas.Plain) (text ++ run) rest ≡ lines_at (Command areas.Plain) text (run ++ rest)
+plain_run [] text rest all = ap (λ t. lines_at (Command areas.Plain) t rest) (append-nil text)
+plain_run (b ∷ run) text rest all =
+    let both = and_parts (is_plain b) (list_all is_plain run) all in
+    ap (λ t. lines_at (Command areas.Plain) t rest) (sym (append_assoc text (b ∷ []) run))
+    ∙ plain_run run (text ++ b ∷ []) rest both.1
+    ∙ sym (plain_byte text b (run ++ rest) both.0)

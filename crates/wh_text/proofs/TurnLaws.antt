@@ -1,10 +1,10 @@
 -- One turn over bytes that may be untold: from the script at its start to the place and the text so far.
-use Rattle.std.proofs.Common.{◌≡◌, ℕ, ◌≤◌, Bool, true, false, ◌==◌, List, [], ◌∷◌, length, Option, Some, None}
+use Rattle.std.proofs.Common.{◌≡◌, ℕ, ◌≤◌, Bool, true, false, ◌==◌, List, [], ◌∷◌, length, ◌++◌, Option, Some, None}
 use Rattle.std.proofs.Common.{option_map, nat_lt, MatchOption, refl, sym, ap, ◌∙◌, arith, ltb-true, length-append}
 use Rattle.wh_grammar.specs.Script.{Line, lines_from, lines_of}
 use Rattle.wh_text.specs.View.{line_view}
 use Rattle.wh_text.specs.declared.line.Line as code
-use Rattle.wh_text.specs.Turn.{Gives, Ends}
+use Rattle.wh_text.specs.Turn.{ahead_and, Gives, Ends}
 use Rattle.wh_text.specs.Place.{lines_at, line_at, last_line_at, next, with_byte, kept, most, begun}
 use Rattle.wh_text.specs.declared.place.Place.{Place}
 use Rattle.wh_text.specs.declared.place.Place.TheVariants.{Gap, GapComment, Marked, Opening, Command}
@@ -19,6 +19,14 @@ goes_on place after text b start mid None moved same first = same ∙ ap (λ m. 
 goes_on place after text b start mid (Some bytes) moved same first =
     same ∙ ap (λ m. option_map (lines_at place text) m) first
     ∙ ap Some (one_step place text b bytes ∙ ap (λ o. goes o (line_at place text) (kept place text b) bytes) moved)
+
+-- a run of bytes leaves the place
+pub runs_on : (place : Place) (text after old new : List ℕ) (start left : Option (List ℕ))
+    → ((rest : List ℕ) → lines_at place after (new ++ rest) ≡ lines_at place text (old ++ rest))
+    → option_map lines_of start ≡ option_map (lines_at place text) (ahead_and old left)
+    → option_map lines_of start ≡ option_map (lines_at place after) (ahead_and new left)
+runs_on place text after old new start None run same = same
+runs_on place text after old new start (Some rest) run same = same ∙ ap Some (sym (run rest))
 
 gives_by : (line : Line) (start rest : Option (List ℕ))
     → option_map lines_of start ≡ option_map (λ bytes. line ∷ lines_of bytes) rest

@@ -2,7 +2,8 @@
 --     area_of     the area in which the first of the bytes stands
 --     behind      the next area
 --     ends        whether a byte ends the command
-use Rattle.std.specs.Prelude.{ℕ, Bool, false, ◌||◌, List, ◌==◌, if◌then◌else◌}
+--     is_plain    whether a byte outside quotes and comments leaves the next one there, and ends nothing
+use Rattle.std.specs.Prelude.{ℕ, Bool, false, not, ◌||◌, List, ◌==◌, if◌then◌else◌}
 use Rattle.wh_grammar.specs.Lexing.{begins_with, is_byte}
 use Rattle.wh_grammar.specs.Script as scripts
 use Rattle.wh_text.specs.declared.area.Area.{Area}
@@ -44,3 +45,6 @@ ends (Between quote) b = false
 ends LineComment b = false
 ends Comment b = false
 ends Star b = false
+
+abbrev pub is_plain : ℕ → Bool
+is_plain b = not (b == 39 || b == 34 || b == 45 || b == 47 || b == 59)

@@ -39,7 +39,7 @@ impl Model for Ahead {
 }
 
 impl Ahead {
-    ghost use Rattle.std.specs.Prelude.{◌≡◌, ◌<◌, ◌≤◌, ◌+◌, ◌^◌, [], ◌∷◌, length, Some, option_map};
+    ghost use Rattle.std.specs.Prelude.{◌≡◌, ◌<◌, ◌≤◌, ◌+◌, ◌^◌, [], ◌∷◌, length, drop, Some, option_map};
     ghost use Rattle.std.specs.Prelude.{IfOk, OnOk, IfErr, IsErrOf, MatchOption, MatchBool, false};
     ghost use Rattle.wh_world.specs.Told.{Rose};
     ghost use Rattle.wh_text.specs.Ahead.{consumed, Uses, AtEnd, Fills, total};
@@ -89,6 +89,22 @@ impl Ahead {
         let byte = self.buffer[self.at];
         self.at += 1;
         byte
+    }
+
+    /// The bytes that are ahead.
+    pub(crate) fn bytes(&self) -> &[u8]
+        ensures { result.now ≡ self.now.bytes }
+    {
+        &self.buffer[self.at..self.end]
+    }
+
+    /// Takes so many of the first bytes away.
+    pub(crate) fn skip(&mut self, count: usize)
+        requires { count ≤ length self.old.bytes }
+        ensures bytes { self.new.bytes ≡ drop count self.old.bytes }
+        ensures taken { self.new.taken ≡ self.old.taken }
+    {
+        self.at += count;
     }
 
     /// Takes bytes from the source where none are ahead, and tells whether there are some now: none

@@ -69,3 +69,10 @@ impl Area {
         }
     }
 }
+
+/// Whether a byte outside quotes and comments leaves the next one there, and ends nothing.
+pub(crate) fn is_plain(byte: u8) -> bool
+    ensures { result ≡ spec.is_plain byte }
+{
+    !matches!(byte, b'\'' | b'"' | b'-' | b'/' | b';')
+}

@@ -1,24 +1,28 @@
-ghost use Rattle.std.specs.Prelude.{◌≡◌, ◌<◌, ◌≤◌, ◌+◌, ◌^◌, [], ◌∷◌, length, Some, IfOk, OnOk};
-ghost use Rattle.std.specs.Prelude.{IfSome, IfErr, IsErrOf, MatchOption};
+ghost use Rattle.std.specs.Prelude.{◌≡◌, ◌<◌, ◌≤◌, ◌+◌, ◌++◌, ◌^◌, ℕ, List, [], ◌∷◌, length, take, Some, true};
+ghost use Rattle.std.specs.Prelude.{IfOk, OnOk, IfSome, IfErr, IsErrOf, MatchOption};
+ghost use Rattle.std.specs.List.{list_all};
 ghost use Rattle.wh_world.specs.Told.{Rose};
 ghost use Rattle.wh_text.specs.Ahead.{consumed, total};
 ghost use Rattle.wh_text.specs.Fault.{FaultFits};
-ghost use Rattle.wh_text.specs.Place.{line_at, last_line_at, begun, most};
+ghost use Rattle.wh_text.specs.Area.{is_plain};
+ghost use Rattle.wh_text.specs.Place.{lines_at, line_at, last_line_at, begun, most};
 ghost use Rattle.wh_text.specs.Turn.{ahead_and, Gives, Ends, IsReadable};
 ghost use Rattle.wh_text.specs.View.{line_view};
 
 use crate::ahead::Ahead;
-use crate::marked::{marked_line, without_return};
-use crate::place::Place;
+use crate::area::{Area, is_plain};
+use crate::marked::{command_line, marked_line, without_return};
+use crate::place::{COMMAND_BYTES, Place};
 use crate::{Line, ScriptFault};
 use std::alloc::Global;
 use wh_value::Bytes;
 use wh_world::Source;
 
-/// The first line of what is still to be read.
+/// The first line of what is still to be read. `text` is where its bytes are gathered.
 pub(crate) fn read_line<S: Source>(
     alloc: Global,
     ahead: &mut Ahead,
+    text: &mut Bytes,
     source: &mut S,
 ) -> Result<Option<Line>, ScriptFault>
     requires { ahead.old.taken ≤ 2 ^ 30 }
@@ -38,7 +42,7 @@ pub(crate) fn read_line<S: Source>(
     ensures read { IsErrOf result ScriptFault.Read →
         Rose (S.faults source.old) (S.faults source.new) }
 {
-    let mut text = Bytes::new(alloc);
+    text.clear();
     let mut place = Place::Gap;
     'bytes: loop {
         let Some(byte) = ahead.take_byte(source)? else {
@@ -49,34 +53,81 @@ pub(crate) fn read_line<S: Source>(
             let line = ended_line(alloc, place, text)?;
             return Ok(Some(line));
         };
-        place.keep(byte, &mut text)?;
+        place.keep(byte, text)?;
         place = after;
+        take_run(place, ahead, text)?;
     }
 }
 
+/// Takes the plain bytes that are ahead, where they are a command's: they leave the place as it is.
+fn take_run(place: Place, ahead: &mut Ahead, text: &mut Bytes) -> Result<(), ScriptFault>
+    requires { length text.old ≤ most place }
+    ensures same { OnOk result ((rest : List ℕ) → lines_at place text.new (ahead.new.bytes ++ rest)
+        ≡ lines_at place text.old (ahead.old.bytes ++ rest)) }
+    ensures fits { OnOk result (length text.new ≤ most place) }
+    ensures used { consumed ahead.old ≤ consumed ahead.new }
+    ensures taken { ahead.new.taken ≡ ahead.old.taken }
+    ensures fault { IfErr result (λ fault. fault ≡ ScriptFault.OutOfMemory) }
+{
+    match place {
+        Place::Command(Area::Plain) => take_plain(ahead, text),
+        _ => Ok(()),
+    }
+}
+
+fn take_plain(ahead: &mut Ahead, text: &mut Bytes) -> Result<(), ScriptFault>
+    requires { length text.old ≤ 65537 }
+    ensures same { OnOk result ((rest : List ℕ) → lines_at (Place.Command Area.Plain)
+        text.new (ahead.new.bytes ++ rest)
+        ≡ lines_at (Place.Command Area.Plain) text.old (ahead.old.bytes ++ rest)) }
+    ensures fits { OnOk result (length text.new ≤ 65537) }
+    ensures used { consumed ahead.old ≤ consumed ahead.new }
+    ensures taken { ahead.new.taken ≡ ahead.old.taken }
+    ensures fault { IfErr result (λ fault. fault ≡ ScriptFault.OutOfMemory) }
+{
+    let room = COMMAND_BYTES - text.len();
+    let bytes = ahead.bytes();
+    let count = plain_len(bytes, room);
+    let Ok(()) = text.extend(&bytes[..count]) else {
+        return Err(ScriptFault::OutOfMemory);
+    };
+    ahead.skip(count);
+    Ok(())
+}
+
+/// How many bytes at the front are plain, or so many where there are more.
+fn plain_len(bytes: &[u8], most: usize) -> usize
+    ensures plain { list_all is_plain (take result bytes.now) ≡ true }
+    ensures within { result ≤ length bytes.now }
+    ensures most { result ≤ most }
+{
+    for (i, byte) in bytes.iter().enumerate() {
+        if i == most || !is_plain(*byte) {
+            return i;
+        }
+    }
+    bytes.len()
+}
+
 /// The line that ends at a place.
-#[tactic(auto, using(crate::proofs::PlaceLaws::whole_text))]
-fn ended_line(alloc: Global, place: Place, text: Bytes) -> Result<Line, ScriptFault>
-    requires { length text ≤ most place }
-    ensures line { IfOk result (λ line. line_view line ≡ line_at place text) }
+fn ended_line(alloc: Global, place: Place, text: &Bytes) -> Result<Line, ScriptFault>
+    ensures line { IfOk result (λ line. line_view line ≡ line_at place text.now) }
     ensures reading { IfOk result IsReadable }
     ensures fault { IfErr result (λ fault. fault ≡ ScriptFault.OutOfMemory) }
 {
     match place {
         Place::Marked => marked_line(alloc, without_return(text.as_slice())),
         Place::Gap | Place::GapComment | Place::Opening(_) | Place::Command(_) => {
-            Ok(Line::Command(text))
+            command_line(alloc, text.as_slice())
         }
     }
 }
 
 /// The line that the end of the script ends, if one does.
-#[tactic(auto, using(crate::proofs::PlaceLaws::whole_text))]
-fn last_line(alloc: Global, place: Place, text: Bytes) -> Result<Option<Line>, ScriptFault>
-    requires { length text ≤ most place }
+fn last_line(alloc: Global, place: Place, text: &Bytes) -> Result<Option<Line>, ScriptFault>
     ensures line { IfOk result (λ found. MatchOption found
-        (last_line_at place text ≡ [])
-        (λ line. (last_line_at place text ≡ line_view line ∷ []) × (begun place ≡ 1))) }
+        (last_line_at place text.now ≡ [])
+        (λ line. (last_line_at place text.now ≡ line_view line ∷ []) × (begun place ≡ 1))) }
     ensures reading { IfOk result (λ found. IfSome found IsReadable) }
     ensures fault { IfErr result (λ fault. fault ≡ ScriptFault.OutOfMemory) }
 {
@@ -86,6 +137,9 @@ fn last_line(alloc: Global, place: Place, text: Bytes) -> Result<Option<Line>, S
             let line = marked_line(alloc, text.as_slice())?;
             Ok(Some(line))
         }
-        Place::Opening(_) | Place::Command(_) => Ok(Some(Line::Command(text))),
+        Place::Opening(_) | Place::Command(_) => {
+            let line = command_line(alloc, text.as_slice())?;
+            Ok(Some(line))
+        }
     }
 }

@@ -31,7 +31,7 @@ pub(crate) fn marked_line(alloc: Global, text: &[u8]) -> Result<Line, ScriptFaul
 }
 
 /// A command, of a longer text its first 65,537 bytes.
-fn command_line(alloc: Global, text: &[u8]) -> Result<Line, ScriptFault>
+pub(crate) fn command_line(alloc: Global, text: &[u8]) -> Result<Line, ScriptFault>
     ensures line { IfOk result (λ line. line_view line ≡ scripts.command_line text.now) }
     ensures reading { IfOk result IsReadable }
     ensures fault { IfErr result (λ fault. fault ≡ ScriptFault.OutOfMemory) }

@@ -18,9 +18,25 @@ pub fn print_reply(alloc: Global, reply: &Reply, out: &mut Bytes) -> Result<(), 
     ensures ok { OnOk result (out.new ≡ out.old ++ print (reply_view reply.now)) }
     ensures err { OnErr result (out.new ≡ out.old) }
 {
+    if out.len() == 0 {
+        return print_alone(reply, out);
+    }
     let mut lines = Bytes::new(alloc);
     put_reply(reply, &mut lines)?;
     out.extend(lines.as_slice())
+}
+
+// Where nothing is there yet, no text of its own is needed.
+fn print_alone(reply: &Reply, out: &mut Bytes) -> Result<(), AllocError>
+    requires { out.old ≡ [] }
+    ensures ok { OnOk result (out.new ≡ print (reply_view reply.now)) }
+    ensures err { OnErr result (out.new ≡ []) }
+{
+    let put = put_reply(reply, out);
+    if put.is_err() {
+        out.clear();
+    }
+    put
 }
 
 #[tactic(auto, unfolding(wh_reply::specs::Reply::print))]

@@ -4,6 +4,7 @@ use crate::ahead::{Ahead, MAX_BYTES};
 use crate::lines::read_line;
 use crate::{Line, ScriptFault};
 use std::alloc::Global;
+use wh_value::Bytes;
 use wh_world::Source;
 
 /// A script, of which some bytes are taken ahead. From its first fault on each turn has that fault.
@@ -11,6 +12,8 @@ use wh_world::Source;
 pub struct Script {
     alloc: Global,
     ahead: Ahead,
+    // where the bytes of a line are gathered; it keeps its memory
+    text: Bytes,
     fault: Option<ScriptFault>,
     ghost fits: { FaultFits fault ahead.taken } by { FaultFits-prop fault ahead.taken },
 }
@@ -45,6 +48,7 @@ impl Script {
         Script {
             alloc,
             ahead: Ahead::after(alloc, taken),
+            text: Bytes::new(alloc),
             fault: None,
         }
     }
@@ -82,7 +86,7 @@ impl Script {
         if let Some(fault) = self.fault {
             return Err(fault);
         }
-        match read_line(self.alloc, &mut self.ahead, source) {
+        match read_line(self.alloc, &mut self.ahead, &mut self.text, source) {
             Ok(found) => Ok(found),
             Err(fault) => {
                 self.fault = Some(fault);
