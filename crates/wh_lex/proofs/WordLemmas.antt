@@ -1,9 +1,10 @@
 -- Lemmas on the bytes of words.
 use Rattle.std.proofs.Common.{◌≡◌, ℕ, Bool, true, false, List, [], ◌∷◌, ◌++◌, length, take, drop, refl, arith, one-add}
+use Rattle.std.proofs.Common.{◌==◌, map, eqb-true}
 use Rattle.std.specs.List.{list_all, prefix_len}
 use Rattle.std.proofs.lemmas.Bool.{and_parts}
 use Rattle.std.proofs.lemmas.Bool.Decides.{nat_tests}
-use Rattle.wh_grammar.specs.Bytes.{is_blank, is_digit, begins_word, is_word_byte}
+use Rattle.wh_grammar.specs.Bytes.{is_blank, is_digit, begins_word, is_word_byte, upper}
 use Rattle.wh_grammar.specs.Lexing.{begins_with}
 
 all_by : (p : ℕ → Bool) (b : ℕ) (bytes : List ℕ) (r : Bool) → p b ≡ r
@@ -56,3 +57,10 @@ digit-not_blank b h = grind (arith, nat_tests)
 
 pub digit-other : (b : ℕ) → is_digit b ≡ true → begins_word b ≡ false
 digit-other b h = grind (arith, nat_tests)
+
+-- a word in upper case stays as it is
+pub upper_kept : (word : List ℕ) → list_all (λ byte. upper byte == byte) word ≡ true → map upper word ≡ word
+upper_kept [] all = refl
+upper_kept (b ∷ word) all =
+    let both = and_parts (upper b == b) (list_all (λ byte. upper byte == byte) word) all in
+    rw (upper_kept word both.1, eqb-true (upper b) b both.0) refl

@@ -12,6 +12,9 @@ use crate::front::front_of;
 use crate::{Kind, LexFault, Token};
 use std::alloc::Global;
 
+// A short statement has no more tokens than that, and its list never grows.
+const USUAL_TOKENS: usize = 16;
+
 /// The tokens of a text, or a syntax error where it has none.
 pub fn tokens(alloc: Global, text: &[u8]) -> Result<Vec<Token>, LexFault>
     ensures found { IfOk result (λ ts. HasTokens text.now ts.items) }
@@ -19,7 +22,7 @@ pub fn tokens(alloc: Global, text: &[u8]) -> Result<Vec<Token>, LexFault>
         → (ts : List Placed) → HasTokens text.now ts → ⊥ }
     ensures reads { Gives (λ ts. ts.items) result (read_tokens text.now) }
 {
-    let mut made = Vec::new(alloc);
+    let mut made = Vec::with_capacity(alloc, USUAL_TOKENS)?;
     let mut rest = text;
     'fronts: loop {
         if rest.is_empty() {

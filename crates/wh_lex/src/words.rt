@@ -1,4 +1,5 @@
-ghost use Rattle.std.specs.Prelude.{◌≡◌, ◌≤◌, map, length};
+ghost use Rattle.std.specs.Prelude.{◌≡◌, ◌≤◌, ◌==◌, map, length};
+ghost use Rattle.std.specs.List.{list_all};
 ghost use Rattle.wh_grammar.specs.Bytes as byte_class;
 ghost use Rattle.wh_lex.specs.Front as spec;
 ghost use Rattle.wh_lex.specs.View.{front_view};
@@ -43,8 +44,18 @@ pub fn word(alloc: Global, text: &[u8]) -> Result<Front<'_>, LexFault>
 fn upper_case(alloc: Global, word: &[u8]) -> Result<Text, LexFault>
     ensures { Gives (λ made. made) result (spec.text_of (map byte_class.upper word.now)) }
 {
+    if is_upper(word) {
+        return made_text(alloc, word);
+    }
     let letters: Vec<u8> = word.iter().map(|byte| upper(*byte)).collect(alloc)?;
     made_text(alloc, &letters)
+}
+
+/// Whether each byte is as upper case has it.
+fn is_upper(word: &[u8]) -> bool
+    ensures { result ≡ list_all (λ byte. byte_class.upper byte == byte) word.now }
+{
+    word.iter().all(|byte| upper(*byte) == *byte)
 }
 
 /// The number at the front, and what follows it.

@@ -20,8 +20,8 @@ pub returns-in_err-front-clause-reads : goal.returns-in_err-front-clause-reads
 returns-in_err-front-clause-reads c =
     let long : 0 < length c.fronts.rest.now = search rules in
     let left = c.fronts.invariant in
-    gives_err (λ ts. ts.items) c.from_residual.result c.in_err-front.field-0.0
-    (read_tokens c.args.text.now) c.from_residual.ensures.0 c.from_residual.ensures.1
+    gives_err (λ ts. ts.items) c.from_residual-in_err-front.result c.in_err-front.field-0.0
+    (read_tokens c.args.text.now) c.from_residual-in_err-front.ensures.0 c.from_residual-in_err-front.ensures.1
     (λ failed. none_read c.args.text.now (λ ts has.
     left-none c.fronts.made.items c.fronts.rest.now c.args.text.now ts left long
     (not_read _ c.in_err-front.field-0.0 failed c.in_err-front.ensures) has))
@@ -29,7 +29,7 @@ returns-in_err-front-clause-reads c =
 pub returns-in_err-front-clause-none : goal.returns-in_err-front-clause-none
 returns-in_err-front-clause-none c failed vs has =
     let long : 0 < length c.fronts.rest.now = search rules in
-    let same = rw failed at c.from_residual.ensures.1 in
+    let same = rw failed at c.from_residual-in_err-front.ensures.1 in
     left-none c.fronts.made.items c.fronts.rest.now c.args.text.now vs c.fronts.invariant long
     (not_read _ c.in_err-front.field-0.0 same c.in_err-front.ensures) has
 
