@@ -1,2 +1,1 @@
-pub mod Abbreviation
 pub mod View

@@ -1,8 +1,6 @@
 //! Rows in the order that a query asks for.
 #![tactic(auto)]
 
-mod abbreviation;
-mod entry;
 mod key;
 mod listing;
 
