@@ -86,7 +86,7 @@ pub(crate) fn answer(
     warehouse.carry_out(rt, &event)
 }
 
-fn printed(rt: &impl Abort, alloc: Global, reply: &Reply) -> Bytes {
+fn printed(rt: &impl Abort, alloc: Global, reply: Reply) -> Bytes {
     let mut lines = Bytes::new(alloc);
     print_reply(alloc, reply, &mut lines).expect(rt, "memory");
     lines
@@ -101,7 +101,7 @@ pub(crate) fn lines(
     text: &[u8],
 ) -> Bytes {
     let reply = answer(rt, alloc, warehouse, session, text).expect(rt, "a reply");
-    printed(rt, alloc, &reply)
+    printed(rt, alloc, reply)
 }
 
 /// Carries out a session's command, whose reply has these lines.

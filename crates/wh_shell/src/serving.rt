@@ -175,9 +175,10 @@ fn answer<K: Sink, D: Disk>(
 {
     let reply = warehouse.carry_out(rt, event)?;
     lines.clear();
-    print_reply(alloc, &reply, lines)?;
+    let refusals = refusals_in(&reply);
+    print_reply(alloc, reply, lines)?;
     write_all(out, lines.as_slice())?;
-    Ok(refusals_in(&reply))
+    Ok(refusals)
 }
 
 // 1 for a refusal.

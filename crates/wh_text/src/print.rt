@@ -14,8 +14,8 @@ use wh_value::{Bytes, Limit, Row, Text, Value, print_literal};
 const LF: u8 = b'\n';
 
 /// Adds the lines of a reply, each with its LF, or nothing where memory runs out.
-pub fn print_reply(alloc: Global, reply: &Reply, out: &mut Bytes) -> Result<(), AllocError>
-    ensures ok { OnOk result (out.new ≡ out.old ++ print (reply_view reply.now)) }
+pub fn print_reply(alloc: Global, reply: Reply, out: &mut Bytes) -> Result<(), AllocError>
+    ensures ok { OnOk result (out.new ≡ out.old ++ print (reply_view reply)) }
     ensures err { OnErr result (out.new ≡ out.old) }
 {
     if out.len() == 0 {
@@ -27,9 +27,9 @@ pub fn print_reply(alloc: Global, reply: &Reply, out: &mut Bytes) -> Result<(), 
 }
 
 // Where nothing is there yet, no text of its own is needed.
-fn print_alone(reply: &Reply, out: &mut Bytes) -> Result<(), AllocError>
+fn print_alone(reply: Reply, out: &mut Bytes) -> Result<(), AllocError>
     requires { out.old ≡ [] }
-    ensures ok { OnOk result (out.new ≡ print (reply_view reply.now)) }
+    ensures ok { OnOk result (out.new ≡ print (reply_view reply)) }
     ensures err { OnErr result (out.new ≡ []) }
 {
     let put = put_reply(reply, out);
@@ -40,30 +40,30 @@ fn print_alone(reply: &Reply, out: &mut Bytes) -> Result<(), AllocError>
 }
 
 #[tactic(auto, unfolding(wh_reply::specs::Reply::print))]
-fn put_reply(reply: &Reply, out: &mut Bytes) -> Result<(), AllocError>
-    ensures { OnOk result (out.new ≡ out.old ++ print (reply_view reply.now)) }
+fn put_reply(reply: Reply, out: &mut Bytes) -> Result<(), AllocError>
+    ensures { OnOk result (out.new ≡ out.old ++ print (reply_view reply)) }
 {
     match reply {
-        Reply::CreatedTable(name) => put_name_line(b"CREATED TABLE ", name, out),
-        Reply::DroppedTable(name) => put_name_line(b"DROPPED TABLE ", name, out),
-        Reply::CreatedStream(name) => put_name_line(b"CREATED STREAM ", name, out),
-        Reply::DroppedStream(name) => put_name_line(b"DROPPED STREAM ", name, out),
-        Reply::HasData(has) => put_truth_line(*has, out),
-        Reply::Inserted(count) => put_count_line(b"INSERTED ", *count, out),
-        Reply::Updated(count) => put_count_line(b"UPDATED ", *count, out),
-        Reply::Deleted(count) => put_count_line(b"DELETED ", *count, out),
+        Reply::CreatedTable(name) => put_name_line(b"CREATED TABLE ", &name, out),
+        Reply::DroppedTable(name) => put_name_line(b"DROPPED TABLE ", &name, out),
+        Reply::CreatedStream(name) => put_name_line(b"CREATED STREAM ", &name, out),
+        Reply::DroppedStream(name) => put_name_line(b"DROPPED STREAM ", &name, out),
+        Reply::HasData(has) => put_truth_line(has, out),
+        Reply::Inserted(count) => put_count_line(b"INSERTED ", count, out),
+        Reply::Updated(count) => put_count_line(b"UPDATED ", count, out),
+        Reply::Deleted(count) => put_count_line(b"DELETED ", count, out),
         Reply::Merged {
             inserted,
             updated,
             deleted,
-        } => put_merged(*inserted, *updated, *deleted, out),
-        Reply::Begun(number) => put_count_line(b"BEGUN ", *number, out),
-        Reply::Committed(stamp) => put_count_line(b"COMMITTED ", *stamp, out),
+        } => put_merged(inserted, updated, deleted, out),
+        Reply::Begun(number) => put_count_line(b"BEGUN ", number, out),
+        Reply::Committed(stamp) => put_count_line(b"COMMITTED ", stamp, out),
         Reply::CommittedNothing => out.extend(b"COMMITTED NOTHING\n"),
         Reply::RolledBack => out.extend(b"ROLLED BACK\n"),
-        Reply::Listing { names, rows } => put_listing(names, rows, out),
+        Reply::Listing { names, rows } => put_listing(&names, rows, out),
         Reply::Idle => out.extend(b"IDLE\n"),
-        Reply::Refused(refusal) => put_refused(refusal, out),
+        Reply::Refused(refusal) => put_refused(&refusal, out),
     }
 }
 
@@ -188,14 +188,15 @@ fn put_limit_word(limit: Limit, out: &mut Bytes) -> Result<(), AllocError>
     }
 }
 
-fn put_listing(names: &[Text], rows: &[Row], out: &mut Bytes) -> Result<(), AllocError>
+fn put_listing(names: &[Text], rows: Vec<Row>, out: &mut Bytes) -> Result<(), AllocError>
     ensures { OnOk result (out.new ≡ out.old ++
-        (line (parted names.now) ++ flat_map row_line rows.now
-        ++ line (codes "(" ++ decimal (length rows.now) ++ codes " rows)"))) }
+        (line (parted names.now) ++ flat_map row_line rows.items
+        ++ line (codes "(" ++ decimal (length rows.items) ++ codes " rows)"))) }
 {
+    let count = rows.len() as u64;
     put_header(names, out)?;
     put_rows(rows, out)?;
-    put_count(rows.len() as u64, out)
+    put_count(count, out)
 }
 
 fn put_header(names: &[Text], out: &mut Bytes) -> Result<(), AllocError>
@@ -227,11 +228,12 @@ fn put_other_names(names: &[Text], out: &mut Bytes) -> Result<(), AllocError>
     Ok(())
 }
 
-fn put_rows(rows: &[Row], out: &mut Bytes) -> Result<(), AllocError>
-    ensures { OnOk result (out.new ≡ out.old ++ flat_map row_line rows.now) }
+// A row goes behind its line, while it is near.
+fn put_rows(rows: Vec<Row>, out: &mut Bytes) -> Result<(), AllocError>
+    ensures { OnOk result (out.new ≡ out.old ++ flat_map row_line rows.items) }
 {
     for row in rows {
-        put_row(row, out)?;
+        put_row(&row, out)?;
     }
     Ok(())
 }

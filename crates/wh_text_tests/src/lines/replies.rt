@@ -6,11 +6,11 @@ use wh_value::{Bytes, Limit, Row, Text, Value};
 
 /// The reply is printed so, behind what stands there.
 fn check(rt: &impl Abort, alloc: Global, reply: Reply, want: &[u8]) {
-    let lines = printed(rt, alloc, &reply);
-    assert!(rt; lines.as_slice().get(1..) == Some(want), "{reply:?}");
+    let lines = printed(rt, alloc, reply);
+    assert_eq!(rt; lines.as_slice().get(1..), Some(want));
 }
 
-fn printed(rt: &impl Abort, alloc: Global, reply: &Reply) -> Bytes {
+fn printed(rt: &impl Abort, alloc: Global, reply: Reply) -> Bytes {
     let mut out = Bytes::from_slice(alloc, b"#").expect(rt, "memory");
     print_reply(alloc, reply, &mut out).expect(rt, "memory");
     out
