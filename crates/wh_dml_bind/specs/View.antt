@@ -24,7 +24,7 @@ abbrev pub places_of : List (Option Place) → List (Option scope.Place)
 places_of ps = map (option_map place_of) ps
 
 abbrev pub target_in : Target → naming.Target
-target_in t = record { id = t.id; columns = map column_of t.columns.items; findings = findings_of t.findings }
+target_in t = record { id = t.id; columns = map column_of t.columns.now; findings = findings_of t.findings }
 
 abbrev pub row_in : NewRow → naming.NewRow
 row_in r = record { scalars = scalars_of r.scalars.items; findings = findings_of r.findings }

@@ -26,12 +26,12 @@ use wh_value::{Column, ColumnType, Text};
 pub(crate) fn insert(
     alloc: Global,
     names: &[Named<'_>],
-    target: Target,
+    target: Target<'_>,
     listed: &Option<Items<Text>>,
     rows: &Rows,
 ) -> Result<Boxed<Checked>, AllocError>
     ensures { IfOk result (λ c. checked_in c ≡ naming.bound_rows (map named_of names.now)
-        (target_in target) listed.now rows.now) }
+        (target_in target.entry) listed.now rows.now) }
 {
     match rows {
         Rows::Values(found) => insert_values(alloc, target, listed, found.as_slice()),
@@ -44,16 +44,16 @@ pub(crate) fn insert(
 
 fn insert_values(
     alloc: Global,
-    target: Target,
+    target: Target<'_>,
     listed: &Option<Items<Text>>,
     found: &[Items<Expr>],
 ) -> Result<Boxed<Checked>, AllocError>
-    ensures { IfOk result (λ c. checked_in c ≡ naming.insert_values (target_in target) listed.now
-        (naming.value_rows (target_in target).columns
-        (naming.given_places (target_in target).columns listed.now) found.now)) }
+    ensures { IfOk result (λ c. checked_in c ≡ naming.insert_values (target_in target.entry) listed.now
+        (naming.value_rows (target_in target.entry).columns
+        (naming.given_places (target_in target.entry).columns listed.now) found.now)) }
 {
-    let given = given_columns(alloc, &target.columns, listed)?;
-    let rows = value_rows(alloc, &target.columns, &given.places, found)?;
+    let given = given_columns(alloc, target.columns, listed)?;
+    let rows = value_rows(alloc, target.columns, &given.places, found)?;
     let findings = given.findings.followed(rows.findings);
     change_alone(alloc, target, Change::InsertRows(rows.rows), findings)
 }
@@ -61,14 +61,14 @@ fn insert_values(
 #[tactic(auto, unfolding(crate::specs::View::checked_in, wh_core_bind::specs::View::query_in))]
 fn insert_query(
     alloc: Global,
-    target: Target,
+    target: Target<'_>,
     listed: &Option<Items<Text>>,
     query: Boxed<BoundQuery>,
 ) -> Result<Boxed<Checked>, AllocError>
     ensures { IfOk result (λ c. checked_in c
-        ≡ naming.insert_query (target_in target) listed.now (query_in query)) }
+        ≡ naming.insert_query (target_in target.entry) listed.now (query_in query)) }
 {
-    let row = query_row(alloc, &target.columns, listed, &query.get().outputs)?;
+    let row = query_row(alloc, target.columns, listed, &query.get().outputs)?;
     let query = query.into_inner();
     let in_query = query.findings.followed(Findings::mistyped_if(!row.fits));
     let findings = target.findings.followed(row.findings.followed(in_query));

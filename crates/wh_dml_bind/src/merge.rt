@@ -28,13 +28,13 @@ use wh_value::Text;
 pub(crate) fn merge(
     alloc: Global,
     names: &[Named<'_>],
-    target: Target,
+    target: Target<'_>,
     name: &Text,
     source: &Source,
     on: &Expr,
     clauses: &[MergeClause],
 ) -> Result<Boxed<Checked>, AllocError>
-    ensures { IfOk result (λ c. checked_in c ≡ naming.bound_merge (target_in target) name.now
+    ensures { IfOk result (λ c. checked_in c ≡ naming.bound_merge (target_in target.entry) name.now
         (naming.source_part source.now) (map named_of names.now) on.now clauses.now) }
 {
     let rows = bind_source(alloc, names, 0, source)?;
@@ -55,7 +55,7 @@ pub(crate) struct MergeParts {
 fn merge_parts(
     alloc: Global,
     name: &Text,
-    target: &Target,
+    target: &Target<'_>,
     source_name: &Text,
     source: &BoundSource,
     on: &Expr,
@@ -88,7 +88,7 @@ fn taken_findings(alloc: Global, name: &Text, source: &Text) -> Result<Findings,
 fn both_entries(
     alloc: Global,
     name: &Text,
-    target: &Target,
+    target: &Target<'_>,
     source_name: &Text,
     source: &BoundSource,
 ) -> Result<Vec<Entry>, AllocError>
@@ -108,7 +108,7 @@ ghost use Rattle.wh_dml_bind.specs.Steps.{first_of, second_of};
 
 fn parts_over(
     alloc: Global,
-    target: &Target,
+    target: &Target<'_>,
     both: &[Entry],
     on: &Expr,
     clauses: &[MergeClause],
@@ -126,7 +126,7 @@ fn parts_over(
         (first_of (entries_of both.now)) (second_of (entries_of both.now)) clauses.now)) }
     ensures taken { IfOk result (λ p. findings_of p.taken ≡ findings_of taken) }
 {
-    let clauses = bound_clauses(alloc, &target.columns, both, clauses)?;
+    let clauses = bound_clauses(alloc, target.columns, both, clauses)?;
     let on = condition(alloc, both, on)?;
     Ok(MergeParts {
         on: on.scalar,
@@ -139,12 +139,12 @@ fn parts_over(
 #[tactic(auto, unfolding(crate::specs::View::checked_in, wh_bind::specs::View::source_in))]
 fn merged(
     alloc: Global,
-    target: Target,
+    target: Target<'_>,
     source: Boxed<BoundSource>,
     parts: MergeParts,
 ) -> Result<Boxed<Checked>, AllocError>
     ensures { IfOk result (λ c. checked_in c
-        ≡ merge_in (target_in target) (source_in source) parts) }
+        ≡ merge_in (target_in target.entry) (source_in source) parts) }
 {
     let source = source.into_inner();
     let behind = parts

@@ -16,31 +16,31 @@ use wh_value::{Column, Text};
 
 /// The table that a statement changes, and what is found wrong with its name.
 #[derive(Drop)]
-pub(crate) struct Target {
+pub(crate) struct Target<'a> {
     pub id: u32,
-    pub columns: Vec<Column>,
+    pub columns: &'a [Column],
     pub findings: Findings,
 }
 
 /// What a name stands for as a target.
-pub(crate) fn target_at(
+pub(crate) fn target_at<'a>(
     alloc: Global,
-    names: &[Named<'_>],
+    names: &[Named<'a>],
     name: &Text,
-) -> Result<Target, AllocError>
+) -> Result<Target<'a>, AllocError>
     ensures { IfOk result (λ t. target_in t
         ≡ naming.target_at (map named_of names.now) name.now) }
 {
     let Some(object) = find(names, name) else {
         return Ok(Target {
             id: 0,
-            columns: Vec::new(alloc),
+            columns: &[],
             findings: Findings::unknown_object(name.copy(alloc)?),
         });
     };
     Ok(Target {
         id: object.id,
-        columns: copied_columns(alloc, object.columns)?,
+        columns: object.columns,
         findings: kind_findings(alloc, object.kind, name)?,
     })
 }
@@ -62,13 +62,13 @@ fn kind_findings(alloc: Global, kind: ObjectKind, name: &Text) -> Result<Finding
 pub(crate) fn target_entries(
     alloc: Global,
     name: &Text,
-    target: &Target,
+    target: &Target<'_>,
 ) -> Result<Vec<Entry>, AllocError>
     ensures { IfOk result (λ es. entries_of es.items
         ≡ naming.target_entry name.now (target_in target.now) ∷ []) }
 {
     let name = name.copy(alloc)?;
-    let columns = copied_columns(alloc, &target.columns)?;
+    let columns = copied_columns(alloc, target.columns)?;
     Ok(vec![in alloc; Entry { name, columns }]?)
 }
 
@@ -76,12 +76,12 @@ pub(crate) fn target_entries(
 #[tactic(auto, unfolding(crate::specs::View::checked_in))]
 pub(crate) fn change_alone(
     alloc: Global,
-    target: Target,
+    target: Target<'_>,
     change: Change,
     findings: Findings,
 ) -> Result<Boxed<Checked>, AllocError>
     ensures { IfOk result (λ c. checked_in c
-        ≡ naming.change_alone (target_in target) (change_of change) (findings_of findings)) }
+        ≡ naming.change_alone (target_in target.entry) (change_of change) (findings_of findings)) }
 {
     let bound = BoundChange {
         target: target.id,

@@ -16,15 +16,15 @@ use wh_expr_bind::Entry;
 /// UPDATE of the rows on which its condition is TRUE.
 pub(crate) fn update(
     alloc: Global,
-    target: Target,
+    target: Target<'_>,
     entries: &[Entry],
     parts: &[Assignment],
     filter: &Option<Expr>,
 ) -> Result<Boxed<Checked>, AllocError>
-    ensures { IfOk result (λ c. checked_in c ≡ naming.bound_update (target_in target)
+    ensures { IfOk result (λ c. checked_in c ≡ naming.bound_update (target_in target.entry)
         (entries_of entries.now) parts.now filter.now) }
 {
-    let row = changed_row(alloc, &target.columns, entries, parts)?;
+    let row = changed_row(alloc, target.columns, entries, parts)?;
     let filter = condition_of(alloc, entries, filter)?;
     let findings = row.findings.followed(filter.findings);
     change_alone(
@@ -38,11 +38,11 @@ pub(crate) fn update(
 /// DELETE of the rows on which its condition is TRUE.
 pub(crate) fn delete(
     alloc: Global,
-    target: Target,
+    target: Target<'_>,
     entries: &[Entry],
     filter: &Option<Expr>,
 ) -> Result<Boxed<Checked>, AllocError>
-    ensures { IfOk result (λ c. checked_in c ≡ naming.bound_delete (target_in target)
+    ensures { IfOk result (λ c. checked_in c ≡ naming.bound_delete (target_in target.entry)
         (entries_of entries.now) filter.now) }
 {
     let filter = condition_of(alloc, entries, filter)?;
