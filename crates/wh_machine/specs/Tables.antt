@@ -40,7 +40,8 @@ table_refusal s replace name columns retention = first_of (
     refused_if (is_name_taken s replace name) (NameTaken name)
     ∷ refused_if (is_other_kind is_table s.objects (replaced_id s replace name)) (WrongKind name)
     ∷ option_map NameTaken (taken_name (names_of columns))
-    ∷ count_refusals s (one_if (replaced_id s replace name)) ++ refused_if (list_any is_long (name ∷ names_of columns)) (OverLimit limits.Name)
+    ∷ count_refusals s (one_if (replaced_id s replace name))
+    ++ refused_if (list_any is_long (name ∷ names_of columns)) (OverLimit limits.Name)
     ∷ refused_past limits.Columns (length columns)
     ∷ refused_past limits.Retention retention
     ∷ [])

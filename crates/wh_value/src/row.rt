@@ -71,7 +71,7 @@ impl Row {
         self.values.len()
     }
 
-    /// An equal row, with memory of its own.
+    /// An equal row. Its texts share their bytes.
     pub fn copy(&self, alloc: Global) -> Result<Row, AllocError>
         ensures { IfOk result (λ copy. copy ≡ self.now) }
     {

@@ -6,12 +6,13 @@ ghost use Rattle.std.specs.Ordering.{nat_cmp};
 use std::alloc::{AllocError, Global};
 use std::cmp::Ordering;
 use std::marker::Model;
+use std::sync::Arc;
 
 /// UTF-8 of at most 65,536 bytes, the longest that a statement can hold. Contracts see the bytes.
-/// It takes one word where it stands, so that a value takes two.
+/// It takes one word where it stands, so that a value takes two, and its copies share the bytes.
 #[derive(Debug, Drop)]
 pub struct Text {
-    inner: Box<String>,
+    inner: Arc<String>,
 }
 
 impl Model for Text {
@@ -25,7 +26,7 @@ impl Model for Text {
 }
 
 impl Text {
-    ghost use Rattle.std.specs.Prelude.{◌≡◌, ◌≤◌, length, IfOk, IfSome, IfNone};
+    ghost use Rattle.std.specs.Prelude.{◌≡◌, ◌≤◌, length, string_bytes, IfOk, IfSome, IfNone};
     ghost use Rattle.wh_value.specs.Value.{IsText};
 
     /// The longest text, in bytes.
@@ -51,7 +52,15 @@ impl Text {
         ensures { IfOk result (λ made. made ≡ text.now) }
     {
         let owned = String::from_str(alloc, text)?;
-        let inner = Box::new(alloc, owned)?;
+        Text::from_string(alloc, owned)
+    }
+
+    /// A string of at most 65,536 bytes, as it stands.
+    pub fn from_string(alloc: Global, owned: String) -> Result<Text, AllocError>
+        requires { length (string_bytes owned) ≤ 65536 }
+        ensures { IfOk result (λ made. made ≡ string_bytes owned) }
+    {
+        let inner = Arc::new(alloc, owned)?;
         Ok(Text { inner })
     }
 
@@ -62,11 +71,12 @@ impl Text {
         self.inner.as_str().as_bytes()
     }
 
-    /// An equal text, with memory of its own.
-    pub fn copy(&self, alloc: Global) -> Result<Text, AllocError>
+    /// An equal text, which shares the bytes. Fails only past 2^63 owners of them.
+    pub fn copy(&self, _alloc: Global) -> Result<Text, AllocError>
         ensures { IfOk result (λ copy. copy ≡ self.now) }
     {
-        Text::of(alloc, self.inner.as_str())
+        let inner = Arc::try_clone(&self.inner)?;
+        Ok(Text { inner })
     }
 }
 

@@ -15,7 +15,7 @@ impl Value {
     ghost use Rattle.std.specs.Prelude.{◌≡◌, IfOk};
     ghost use Rattle.wh_value.specs.View.{value_of};
 
-    /// An equal value, with memory of its own.
+    /// An equal value. A text shares its bytes.
     pub fn copy(&self, alloc: Global) -> Result<Value, AllocError>
         ensures { IfOk result (λ copy. value_of copy ≡ value_of self.now) }
     {
