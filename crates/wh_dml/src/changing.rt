@@ -11,6 +11,7 @@ use crate::{Effect, EffectFault};
 use std::alloc::Global;
 use wh_bound_change::Change;
 use wh_part::Partition;
+use wh_scalar::Condition;
 use wh_value::Row;
 
 /// What a change does to the rows of its target's partitions, in their order, over the rows of its
@@ -35,8 +36,14 @@ pub fn effect(
             let added = rows_over(alloc, parts, &source)?;
             Ok(Effect::adding(alloc, added))
         }
-        Change::Update(condition, parts) => Ok(updated(alloc, condition, parts, target)?),
-        Change::Delete(condition) => Ok(deleted(alloc, condition, target)?),
+        Change::Update(condition, parts) => {
+            let condition = Condition::new(condition);
+            Ok(updated(alloc, &condition, parts, target)?)
+        }
+        Change::Delete(condition) => {
+            let condition = Condition::new(condition);
+            Ok(deleted(alloc, &condition, target)?)
+        }
         Change::Merge(query, on, clauses) => {
             let source = rows_in_order(alloc, query, sources)?;
             merged(alloc, on, clauses, target, &source)

@@ -9,12 +9,12 @@ ghost use Rattle.wh_scalar.specs.View.{scalar_of};
 use crate::Effect;
 use std::alloc::Global;
 use wh_part::{NumberedRow, Partition};
-use wh_scalar::{EvalFault, Scalar};
+use wh_scalar::{Condition, EvalFault};
 
 #[tactic(auto, using(crate::proofs::EffectLaws::partition_fails))]
 pub(crate) fn deleted(
     alloc: Global,
-    condition: &Scalar,
+    condition: &Condition<'_>,
     target: &[&Partition],
 ) -> Result<Effect, EvalFault>
     ensures { Shows effect_of result
@@ -30,7 +30,7 @@ pub(crate) fn deleted(
 // Adds what becomes of these rows.
 fn delete(
     alloc: Global,
-    condition: &Scalar,
+    condition: &Condition<'_>,
     rows: &[NumberedRow],
     effect: &mut Effect,
 ) -> Result<(), EvalFault>
@@ -45,7 +45,7 @@ fn delete(
 
 fn delete_row(
     alloc: Global,
-    condition: &Scalar,
+    condition: &Condition<'_>,
     entry: &NumberedRow,
     effect: &mut Effect,
 ) -> Result<(), EvalFault>

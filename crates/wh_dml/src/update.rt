@@ -11,12 +11,12 @@ use crate::Effect;
 use std::alloc::Global;
 use wh_aggregate::values_on;
 use wh_part::{NumberedRow, Partition};
-use wh_scalar::{EvalFault, Scalar};
+use wh_scalar::{Condition, EvalFault, Scalar};
 
 #[tactic(auto, using(crate::proofs::EffectLaws::partition_fails))]
 pub(crate) fn updated(
     alloc: Global,
-    condition: &Scalar,
+    condition: &Condition<'_>,
     parts: &[Scalar],
     target: &[&Partition],
 ) -> Result<Effect, EvalFault>
@@ -33,7 +33,7 @@ pub(crate) fn updated(
 // Adds what becomes of these rows.
 fn update(
     alloc: Global,
-    condition: &Scalar,
+    condition: &Condition<'_>,
     parts: &[Scalar],
     rows: &[NumberedRow],
     effect: &mut Effect,
@@ -50,7 +50,7 @@ fn update(
 
 fn update_row(
     alloc: Global,
-    condition: &Scalar,
+    condition: &Condition<'_>,
     parts: &[Scalar],
     entry: &NumberedRow,
     effect: &mut Effect,

@@ -9,11 +9,11 @@ ghost use Rattle.wh_exec.specs.Evaluation.{Evaluates, Adds};
 use crate::tuples::put;
 use std::alloc::Global;
 use wh_algebra::Tuple;
-use wh_scalar::{EvalFault, Scalar};
+use wh_scalar::{Condition, EvalFault};
 
 pub(crate) fn filtered<'a>(
     alloc: Global,
-    condition: &Scalar,
+    condition: &Condition<'_>,
     rows: Vec<Tuple<'a>>,
 ) -> Result<Vec<Tuple<'a>>, EvalFault>
     ensures { Evaluates result
@@ -29,7 +29,7 @@ pub(crate) fn filtered<'a>(
 // Adds the row where the condition is TRUE on it.
 fn keep<'a>(
     alloc: Global,
-    condition: &Scalar,
+    condition: &Condition<'_>,
     row: Tuple<'a>,
     kept: &mut Vec<Tuple<'a>>,
 ) -> Result<(), EvalFault>

@@ -22,7 +22,7 @@ fn at_hand<'a>(scalar: &'a Scalar, row: &'a Row) -> Option<&'a Value>
 }
 
 /// The value of a column that the row has.
-fn column_at_hand(row: &Row, place: u32) -> Option<&Value>
+pub(crate) fn column_at_hand(row: &Row, place: u32) -> Option<&Value>
     ensures { IfSome result (λ value.
         unwrap_or (slice_get row.now place) Null ≡ value_of value.now) }
 {

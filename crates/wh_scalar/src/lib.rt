@@ -3,6 +3,7 @@
 
 mod arithmetic;
 mod at_hand;
+mod condition;
 mod copying;
 mod eval;
 mod fault;
@@ -10,5 +11,6 @@ mod holds;
 mod scalar;
 mod truth;
 
+pub use condition::Condition;
 pub use fault::EvalFault;
 pub use scalar::Scalar;
