@@ -1,3 +1,2 @@
 pub mod InOrder
-pub mod Orders
 pub mod FitLemmas

@@ -19,4 +19,4 @@ pub use limit::Limit;
 pub use literal::print_literal;
 pub use row::{Row, cmp_rows, sort_rows};
 pub use text::Text;
-pub use value::Value;
+pub use value::{Value, cmp_values};

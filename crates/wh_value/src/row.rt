@@ -1,11 +1,12 @@
-ghost use Rattle.std.specs.Prelude.{◌≡◌, OnOk, OnErr, refl};
+ghost use Rattle.std.specs.Prelude.{◌≡◌, map, OnOk, OnErr, refl};
 ghost use Rattle.std.specs.Cmp.{partial_equiv_from_equiv, eq_by_cmp_equiv, po};
 ghost use Rattle.std.specs.Ordering.{eq_by_cmp, as_partial_cmp};
 ghost use Rattle.wh_value.specs.Value.{row_cmp};
 ghost use Rattle.wh_value.specs.Value.{in_order};
 ghost use Rattle.wh_value.specs.Order.{row_total};
+ghost use Rattle.wh_value.specs.View.{value_of};
 
-use crate::Value;
+use crate::{Value, cmp_values};
 use std::alloc::{AllocError, Global};
 use std::cmp::Ordering;
 use std::marker::Model;
@@ -87,7 +88,22 @@ impl Row {
 pub fn cmp_rows(a: &Row, b: &Row) -> Ordering
     ensures { result ≡ row_cmp a.now b.now }
 {
-    a.values.cmp(&b.values)
+    cmp_from(&a.values, &b.values)
+}
+
+#[cycle(cmp_from)]
+fn cmp_from(a: &[Value], b: &[Value]) -> Ordering
+    ensures { result ≡ row_cmp (map value_of a.now) (map value_of b.now) }
+{
+    match (a, b) {
+        ([], []) => Ordering::Equal,
+        ([], _) => Ordering::Less,
+        ([_, _behind @ ..], []) => Ordering::Greater,
+        ([x, a @ ..], [y, b @ ..]) => match cmp_values(x, y) {
+            Ordering::Equal => cmp_from(a, b),
+            order => order,
+        },
+    }
 }
 
 /// Puts rows in the row order. For want of memory they stay as they are.
