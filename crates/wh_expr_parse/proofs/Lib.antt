@@ -7,3 +7,4 @@ pub mod ItemSteps
 pub mod Fronts
 pub mod Found
 pub mod ExprSteps
+pub mod AloneSteps

@@ -7,6 +7,7 @@ ghost use Rattle.wh_expr_parse.specs.Laws as laws;
 ghost use Rattle.wh_expr_parse.specs.Read.{read_expr, read_exprs};
 
 use crate::grammar::whole;
+use crate::literal::{literal_at, stands_alone};
 use crate::tokens::Tokens;
 use sqlite_items::Items;
 use std::alloc::Global;
@@ -16,8 +17,23 @@ use wh_cursor::{ParseFault, Words, binds, listed};
 /// How many operators and IN items an expression may have.
 const ROOM: usize = 1000;
 
-#[tactic(auto, unfolding(crate::specs::Read::read_expr))]
+#[tactic(auto, using(crate::proofs::AloneSteps::alone_reads))]
 fn whole_expr(alloc: Global, words: &mut Words<'_>, depth: usize) -> Result<Expr, ParseFault>
+    ensures reads { Reads (read_expr depth words.old) result words.new }
+    ensures kept { OnErr result (words.new ≡ words.old) }
+{
+    // The values of an INSERT are mostly these: they needn't go through the levels of operators.
+    if stands_alone(words.rest()) {
+        let literal = literal_at(alloc, words.rest())?;
+        words.skip();
+        return Ok(literal);
+    }
+    leveled_expr(alloc, words, depth)
+}
+
+/// Through all the levels of operators.
+#[tactic(auto, unfolding(crate::specs::Read::read_expr))]
+fn leveled_expr(alloc: Global, words: &mut Words<'_>, depth: usize) -> Result<Expr, ParseFault>
     ensures reads { Reads (read_expr depth words.old) result words.new }
     ensures kept { OnErr result (words.new ≡ words.old) }
 {

@@ -120,7 +120,7 @@ impl<'a> Tokens<'a> {
     pub fn literal(&mut self, alloc: Global) -> Result<Boxed<Expr>, ParseFault>
         ensures { Reads (spec.plainly read_literal self.old) result self.new }
     {
-        let literal = literal_at(alloc, self.words.rest())?;
+        let literal = Boxed::new(alloc, literal_at(alloc, self.words.rest())?)?;
         self.skip();
         Ok(literal)
     }

@@ -5,6 +5,7 @@ mod changes;
 mod reading;
 mod rows;
 mod staleness;
+mod texts;
 
 pub use reading::{has_data, is_gone, show, stale};
 pub use staleness::Stale;

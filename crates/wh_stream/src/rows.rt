@@ -1,12 +1,13 @@
 //! Records as rows: the source's values, and three behind them.
 ghost use Rattle.std.specs.Prelude.{◌≡◌, ◌++◌, ◌∷◌, [], map, IfOk};
 ghost use Rattle.wh_value.specs.Value as machine;
-ghost use Rattle.wh_streams.specs.Stream.{action_text, row_id_text, shown_row};
-ghost use Rattle.wh_change.specs.Record.{action_of, record_of, records_of};
+ghost use Rattle.wh_streams.specs.Stream.{shown_row};
+ghost use Rattle.wh_change.specs.Record.{record_of, records_of};
 
+use crate::texts::{ActionTexts, RowIds};
 use std::alloc::{AllocError, Global};
-use wh_change::{Action, Record};
-use wh_value::{Row, Text, Value};
+use wh_change::Record;
+use wh_value::{Row, Value};
 
 /// How many values stand behind the source's.
 const METADATA_COUNT: usize = 3;
@@ -19,20 +20,27 @@ pub(crate) fn shown_rows(
 ) -> Result<Vec<Row>, AllocError>
     ensures { IfOk result (λ rows. rows.items ≡ map (shown_row source) (records_of records.now)) }
 {
+    let actions = ActionTexts::new(alloc)?;
+    let ids = RowIds::new(alloc, source)?;
     let mut rows = Vec::with_capacity(alloc, records.len())?;
     for record in records {
-        rows.push(shown_row(alloc, source, record)?)?;
+        rows.push(shown_row(alloc, &actions, &ids, record)?)?;
     }
     Ok(rows)
 }
 
-fn shown_row(alloc: Global, source: u32, change: &Record<'_>) -> Result<Row, AllocError>
-    ensures { IfOk result (λ row. row ≡ shown_row source (record_of change.now)) }
+fn shown_row(
+    alloc: Global,
+    actions: &ActionTexts,
+    ids: &RowIds,
+    change: &Record<'_>,
+) -> Result<Row, AllocError>
+    ensures { IfOk result (λ row. row ≡ shown_row ids.now.source (record_of change.now)) }
 {
     let mut row = copy_with_room(alloc, change.row)?;
-    row.push(Value::Text(action(alloc, change.action)?))?;
+    row.push(Value::Text(actions.of(alloc, change.action)?))?;
     row.push(Value::Bool(change.is_update))?;
-    row.push(Value::Text(row_id(alloc, source, change.number)?))?;
+    row.push(Value::Text(ids.of(alloc, change.number)?))?;
     Ok(row)
 }
 
@@ -46,21 +54,4 @@ fn copy_with_room(alloc: Global, row: &Row) -> Result<Row, AllocError>
         copy.push(value.copy(alloc)?)?;
     }
     Ok(copy)
-}
-
-fn action(alloc: Global, action: Action) -> Result<Text, AllocError>
-    ensures { IfOk result (λ text. text ≡ action_text (action_of action)) }
-{
-    match action {
-        Action::Delete => Text::of(alloc, "DELETE"),
-        Action::Insert => Text::of(alloc, "INSERT"),
-    }
-}
-
-// The source's id and the row's number.
-fn row_id(alloc: Global, source: u32, number: u64) -> Result<Text, AllocError>
-    ensures { IfOk result (λ text. text ≡ row_id_text source number) }
-{
-    let digits = format!(in alloc; "{source}:{number}")?;
-    Text::of(alloc, digits.as_str())
 }
