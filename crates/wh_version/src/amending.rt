@@ -42,9 +42,8 @@ impl Edits {
         }
         let mut left = added_left(alloc, next_row, &rows, &self.added)?;
         left.append(&mut added)?;
-        let mut amended = self.rows.copy(alloc)?;
-        amended.put_later(next_row, rows)?;
-        self.rows = amended;
+        let staged = self.rows.copy(alloc)?;
+        self.rows = staged.with_later(alloc, next_row, rows)?;
         self.added = left;
         Ok(())
     }

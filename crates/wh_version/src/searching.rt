@@ -1,0 +1,31 @@
+//! Places in lists of edits that rise by number.
+ghost use Rattle.std.specs.Prelude.{◌≡◌, ◌<◌, ◌≤◌, true, take, drop, length};
+ghost use Rattle.std.specs.Bool.{OnTrue, OnFalse};
+ghost use Rattle.std.specs.FinMap.{is_sorted};
+ghost use Rattle.std.specs.Ordering.{nat_cmp};
+ghost use Rattle.wh_version.specs.RowEdits.{entries_in, below, not_below};
+
+use crate::row_edit::RowEdit;
+
+/// Whether the numbers rise strictly.
+pub(crate) fn rises(list: &[RowEdit]) -> bool
+    ensures rising { OnTrue result (is_sorted nat_cmp (entries_in list.now) ≡ true) }
+    ensures several { OnFalse result (1 < length list.now) }
+{
+    for place in 1..list.len() {
+        if list[place].number <= list[place - 1].number {
+            return false;
+        }
+    }
+    true
+}
+
+/// The place of the first edit whose number isn't below that one.
+pub(crate) fn place_of(list: &[RowEdit], number: u64) -> usize
+    requires { is_sorted nat_cmp (entries_in list.now) ≡ true }
+    ensures within { result ≤ length list.now }
+    ensures front { entries_in (take result list.now) ≡ below number (entries_in list.now) }
+    ensures behind { entries_in (drop result list.now) ≡ not_below number (entries_in list.now) }
+{
+    list.partition_point(|edit| edit.number < number)
+}
