@@ -4,6 +4,7 @@
 --     numbers_rise           numbers do not fall from place to place
 --     both_halves            the halves of a list
 --     front_at, behind_at    edits below a number, and the others
+--     front_there, behind_there    the same at the place of the first number that isn't below
 --     behind_one, behind_all    the first of the others, and where there is none
 use Rattle.std.proofs.Common.{◌≡◌, ℕ, zero, suc, ◌+◌, ◌-◌, ◌<◌, ◌≤◌, cond, Bool, true, false, T, List, [], ◌∷◌, ◌++◌, length, get_or}
 use Rattle.std.proofs.Common.{take, drop, refl, sym, ap, ◌∙◌, arith, nat_lt}
@@ -12,9 +13,9 @@ use Rattle.std.specs.Ordering.{nat_cmp}
 use Rattle.std.specs.List.Sorted.{IsNonDecreasingBy}
 use Rattle.std.specs.FinMap.{is_sorted}
 use Rattle.std.specs.FinMap.Entries.{below_all}
-use Rattle.std.proofs.lemmas.Bool.{ltb-true, ltb-false}
+use Rattle.std.proofs.lemmas.Bool.{ltb-true, ltb-false, lt-ltb, le-ltb}
 use Rattle.wh_version.specs.declared.row_edit.RowEdit.{RowEdit}
-use Rattle.wh_version.specs.RowEdits.{entry_of, entries_in, below, not_below}
+use Rattle.wh_version.specs.RowEdits.{entry_of, entries_in, below, not_below, IsPlaceOf}
 use Rattle.wh_version.proofs.RisingEdits.{holds, is_true, parts, together, is_below, tests_below, above_all}
 use Rattle.wh_version.proofs.RisingEdits.{head_below, rest_rises}
 
@@ -100,6 +101,28 @@ module _ (number : ℕ) where
       behind_at list place (omega arith) (λ i d below. low (suc i) d (omega arith)) (λ d below. high d (omega arith)) in
       rest ∙ ap (λ (b : Bool). cond b (not_below number (entries_in list)) ((e.number, e.row) ∷ entries_in list))
       (sym (low 0 e (omega arith)))
+
+  low_at : (list : List RowEdit) (place : ℕ) → is_sorted nat_cmp (entries_in list) ≡ true → IsPlaceOf number list place
+      → (i : ℕ) (d : RowEdit) → i < place → nat_lt (get_or list i d).number number ≡ true
+  low_at list place rises there = λ i d below.
+      let size = there.within in
+      let order = numbers_rise list rises i (place - 1) d (omega arith) (omega arith) in
+      let last = there.front d (omega arith) in
+      lt-ltb _ _ (omega arith)
+
+  high_at : (list : List RowEdit) (place : ℕ) → IsPlaceOf number list place
+      → (d : RowEdit) → place < length list → nat_lt (get_or list place d).number number ≡ false
+  high_at list place there = λ d within. le-ltb _ _ (there.behind d within)
+
+  pub front_there : (list : List RowEdit) (place : ℕ) → is_sorted nat_cmp (entries_in list) ≡ true
+      → IsPlaceOf number list place → entries_in (take place list) ≡ below number (entries_in list)
+  front_there list place rises there =
+      front_at list place there.within (low_at list place rises there) (high_at list place there)
+
+  pub behind_there : (list : List RowEdit) (place : ℕ) → is_sorted nat_cmp (entries_in list) ≡ true
+      → IsPlaceOf number list place → entries_in (drop place list) ≡ not_below number (entries_in list)
+  behind_there list place rises there =
+      behind_at list place there.within (low_at list place rises there) (high_at list place there)
 
   -- where a search ends, by the list that a reference points to
   pub behind_one : (list seen : List RowEdit) (place : ℕ) (edit : RowEdit) → seen ≡ list

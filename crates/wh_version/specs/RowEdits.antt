@@ -1,12 +1,14 @@
 -- Edits of rows as lists, by their numbers.
 --     entry_of, entries_in    an edit, and a list of them, as the machine's entries
 --     row_in                  what becomes of the row of an edit that a reference points to
+--     IsPlaceOf               the place of the first number that isn't below
 --     removal_of, change_of   a row that goes, and one that becomes another
 --     put_all                 a map with entries put in one after the other
 --     puts                    the same of a list by rising number
 --     below, not_below        entries in front of the first whose number isn't below, and from there on
 --     other_than              without the first entry, where it has that number
-use Rattle.std.specs.Prelude.{ℕ, List, [], ◌∷◌, map, if◌then◌else◌, nat_eq, nat_lt, Option, Some, None}
+use Rattle.std.specs.Prelude.{ℕ, ◌-◌, ◌<◌, ◌≤◌, List, [], ◌∷◌, length, map, if◌then◌else◌, nat_eq, nat_lt}
+use Rattle.std.specs.Prelude.{Option, Some, None, slice_index_or as get_or}
 use Rattle.std.specs.FinMap.{FinMap, insert, put}
 use Rattle.std.specs.Ordering.{nat_cmp}
 use denote.Ref.{Bor}
@@ -23,6 +25,18 @@ entries_in list = map entry_of list
 abbrev pub row_in : Option (Bor RowEdit) → Option (Option Row)
 row_in None = None
 row_in (Some edit) = Some edit.now.row
+
+-- the last one in front of the place is below the number; the one at the place isn't
+abbrev pub IsBelowIn : ℕ → List RowEdit → ℕ → Type 0
+IsBelowIn number list place = (d : RowEdit) → 0 < place → (get_or list (place - 1) d).number < number
+
+abbrev pub IsBehindIn : ℕ → List RowEdit → ℕ → Type 0
+IsBehindIn number list place = (d : RowEdit) → place < length list → number ≤ (get_or list place d).number
+
+pub record IsPlaceOf (number : ℕ) (list : List RowEdit) (place : ℕ) : Type 0 where
+  pub within : place ≤ length list
+  pub front : IsBelowIn number list place
+  pub behind : IsBehindIn number list place
 
 abbrev pub removal_of : ℕ → ℕ × Option Row
 removal_of number = (number, None)

@@ -1,6 +1,6 @@
 use crate::merging::merged;
 use crate::row_edit::RowEdit;
-use crate::searching::{place_of, rises};
+use crate::searching::{place_near, place_of, rises};
 use std::alloc::{AllocError, Global};
 use std::marker::Model;
 use wh_value::Row;
@@ -109,10 +109,11 @@ impl RowEdits {
     }
 
     /// Whether the row of that number becomes another, be it an equal one, or goes.
-    pub(crate) fn has(&self, number: u64) -> bool
+    /// Looks at the guess first, and leaves there what to guess for the next number.
+    pub(crate) fn has(&self, number: u64, guess: &mut usize) -> bool
         ensures { result ≡ is_some (get self.now number) }
     {
-        self.edit_of(number).is_some()
+        self.edit_of(number, guess).is_some()
     }
 
     /// Whether some row from the first of these numbers to the last becomes another or goes.
@@ -124,21 +125,27 @@ impl RowEdits {
         place < self.list.len() && self.list[place].number <= last
     }
 
-    /// What becomes of a row.
-    pub(crate) fn edited_row<'a>(&'a self, number: u64, row: &'a Row) -> Option<&'a Row>
+    /// What becomes of a row. Looks at the guess first, as `has` does.
+    pub(crate) fn edited_row<'a>(
+        &'a self,
+        number: u64,
+        row: &'a Row,
+        guess: &mut usize,
+    ) -> Option<&'a Row>
         ensures { row_left number result ≡ edited_row self.now (number, row.now) }
     {
-        let Some(edit) = self.edit_of(number) else {
+        let Some(edit) = self.edit_of(number, guess) else {
             return Some(row);
         };
         edit.row.as_ref()
     }
 
     // The edit of the row of that number, if there is one.
-    fn edit_of(&self, number: u64) -> Option<&RowEdit>
+    fn edit_of<'a>(&'a self, number: u64, guess: &mut usize) -> Option<&'a RowEdit>
         ensures { row_in result ≡ get self.now number }
     {
-        let place = place_of(&self.list, number);
+        let place = place_near(&self.list, *guess, number);
+        *guess = place;
         if self.list.len() <= place {
             return None;
         }
@@ -146,6 +153,7 @@ impl RowEdits {
         if found.number != number {
             return None;
         }
+        *guess = place + 1;
         Some(found)
     }
 }
