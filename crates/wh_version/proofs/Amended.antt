@@ -5,7 +5,7 @@ use Rattle.std.specs.Ordering.{nat_cmp}
 use Rattle.wh_value.specs.Value.{Row}
 use Rattle.wh_frame.specs.Partition.{numbered}
 use Rattle.wh_machine.specs.Edits.{Edits, row_as, edited, with_later, added_left, later_edits}
-use Rattle.wh_version.proofs.NumberMaps.{no_entries}
+use Rattle.wh_version.proofs.EditMaps.{no_entries}
 
 all_left : (next : ℕ) (rows : List Row) → added_left next empty rows ≡ rows
 all_left next [] = refl

@@ -4,16 +4,14 @@
 --     arrived            what came with a version
 use Rattle.std.proofs.Common.{◌≡◌, ℕ, zero, suc, ◌+◌, ◌-◌, ◌<◌, ◌≤◌}
 use Rattle.std.proofs.Common.{List, [], ◌∷◌, ◌++◌, length, take, drop, get_or, Some}
-use Rattle.std.proofs.Common.{IsTrue, refl, sym, ap, ◌∙◌, arith}
+use Rattle.std.proofs.Common.{IsTrue, refl, ap, ◌∙◌, arith}
 use Rattle.wh_frame.specs.Partition.{Partition}
 use Rattle.wh_machine.specs.State.{last_of, content_in}
-use Rattle.wh_machine.specs.Stored.{StoredVersion}
 use Rattle.wh_version.specs.declared.kept.Kept.{Kept}
 use Rattle.wh_version.specs.declared.mark.VersionMark.{VersionMark}
 use Rattle.wh_version.specs.Kept.{standing_at, gone_between, version_by, versions_by, count_to}
 use Rattle.wh_version.specs.Arrivals.{IsArrival, partitions_before}
 use Rattle.wh_version.specs.History.{standing_in}
-use Rattle.wh_version.specs.Turnover.{IsTurnover}
 use Rattle.wh_version.proofs.TurnoverLaws.{counts_rise, turned_over}
 
 pub count_versions : (kept : List Kept) (first : ℕ) (marks : List VersionMark)

@@ -3,7 +3,10 @@ pub mod Parted
 pub mod Pushed
 pub mod Popped
 pub mod Found
-pub mod NumberMaps
+pub mod RisingEdits
+pub mod Puts
+pub mod EditMaps
+pub mod Places
 pub mod Steps
 pub mod Touched
 pub mod ByRows

@@ -1,9 +1,10 @@
 -- A loop that appends what it makes of each element.
 --     one_on      one element further
 --     all_on      at the end
-use Rattle.std.proofs.Common.{◌≡◌, ℕ, ◌+◌, ◌<◌, ◌≤◌, List, [], ◌∷◌, ◌++◌, length, drop, get_or, sym, ap, ◌∙◌}
+--     pushed      one more at the end
+use Rattle.std.proofs.Common.{◌≡◌, ℕ, ◌+◌, ◌<◌, ◌≤◌, List, [], ◌∷◌, ◌++◌, length, map, drop, get_or, sym, ap, ◌∙◌}
 use Rattle.std.proofs.Common.{append_assoc, append-nil}
-use Rattle.std.proofs.lemmas.List.{drop_more, drop_all}
+use Rattle.std.proofs.lemmas.List.{drop_more, drop_all, map_push}
 
 module _ {X Y : Type 0} (one : X → List Y) (made : List X → List Y) where
   pub one_on : ((x : X) (xs : List X) → made (x ∷ xs) ≡ one x ++ made xs)
@@ -22,3 +23,8 @@ module _ {X Y : Type 0} (one : X → List Y) (made : List X → List Y) where
       → before ++ made (drop i xs) ≡ all → before ≡ all
   all_on none xs i before all done so_far =
       sym (append-nil before) ∙ ap (λ l. before ++ l) (sym none ∙ ap made (sym (drop_all i xs done))) ∙ so_far
+
+-- what is made of one more at the end, in front of others
+pub pushed : {X Y : Type 0} (f : X → Y) (xs : List X) (x : X) (ys : List Y)
+    → map f (xs ++ x ∷ []) ++ ys ≡ map f xs ++ f x ∷ ys
+pushed f xs x ys = ap (λ l. l ++ ys) (map_push f xs x) ∙ append_assoc (map f xs) (f x ∷ []) ys

@@ -1,7 +1,6 @@
 -- Partitions that edits touch.
 --     any-map            a test of what elements stand for
 --     each_touched       one that is kept, and those behind it
---     first_last         the numbers of rows lie between the first and the last
 --     apart_untouched    edits that lie apart from them touch none
 use Rattle.std.proofs.Common.{◌≡◌, ℕ, ◌+◌, ◌≤◌, cond, Bool, true, false, List, [], ◌∷◌, ◌++◌, map, filter, None}
 use Rattle.std.proofs.Common.{is_some, refl, ap, ◌∙◌, arith}
@@ -62,10 +61,6 @@ last_above least e (f ∷ es) rises =
     let here = rises.0 in
     let rest = last_above (e.0 + 1) f es rises.1 in
     omega arith
-
-pub first_last : (rows : List (ℕ × Row)) → RisesFrom 0 rows → first_number rows ≤ last_number rows
-first_last [] rises = omega arith
-first_last (e ∷ es) rises = last_above e.0 e es (omega arith, rises.1)
 
 abbrev pub AreApart : RowEdits → ℕ → ℕ → Type 0
 AreApart edits first last = (number : ℕ) → first ≤ number → number ≤ last → get edits number ≡ None

@@ -2,26 +2,25 @@
 --     reach_stands     what stands by a version's reach
 --     reach_grows      a later version's reach is no shorter
 --     turned_over      what went and came between two reaches
-use Rattle.std.proofs.Common.{◌≡◌, ℕ, zero, suc, ◌+◌, ◌<◌, ◌≤◌, inl, inr, cond, Bool, true, false, List, [], ◌∷◌}
-use Rattle.std.proofs.Common.{◌++◌, length, filter, take, map, get_or, option_map, Option, Some, None, IsTrue}
+use Rattle.std.proofs.Common.{◌≡◌, ℕ, zero, suc, ◌+◌, ◌<◌, ◌≤◌, inl, inr, Bool, true, false, List, [], ◌∷◌}
+use Rattle.std.proofs.Common.{◌++◌, length, filter, take, get_or, option_map, Option, Some, None, IsTrue}
 use Rattle.std.proofs.Common.{refl, sym, ap, subst, ◌∙◌, append_assoc, arith}
 use Rattle.std.proofs.lemmas.Bool.{and_parts, leb-true, le-leb}
 use Rattle.std.proofs.lemmas.Bool.Decides.{nat_tests}
 use Rattle.std.proofs.lemmas.List.{map-append, take_more}
 use Rattle.std.proofs.lemmas.List.Elements.{filter-append}
-use Rattle.std.specs.Prelude.{nat_lt, nat_le, ◌&&◌}
+use Rattle.std.specs.Prelude.{nat_lt, nat_le}
 use Rattle.wh_frame.specs.Partition.{Partition}
 use Rattle.wh_machine.specs.State.{content_in}
 use Rattle.wh_version.specs.declared.kept.Kept.{Kept}
 use Rattle.wh_version.specs.declared.mark.VersionMark.{VersionMark}
 use Rattle.wh_version.specs.declared.turnover.Reach.{Reach}
 use Rattle.wh_version.specs.declared.times.Time.TheVariants.{Data}
-use Rattle.wh_version.specs.Kept.{stands_at, standing_at, gone_between, is_gone_between, partitions_in, versions_by}
+use Rattle.wh_version.specs.Kept.{stands_at, standing_at, gone_between, partitions_in, versions_by}
 use Rattle.wh_version.specs.Kept.{count_to}
 use Rattle.wh_version.specs.Times.{data_at, is_up_to, last_place, one_further}
 use Rattle.wh_version.specs.Turnover.{IsMixed, IsTurnover, reach_at}
 use Rattle.wh_version.proofs.LastUpTo.{last_by_marks, mark_within, place_within}
-use Rattle.wh_version.proofs.Pushed.{count_within}
 
 pub reach_stands : (kept : List Kept) (m : VersionMark) (marks : List VersionMark) (timestamp : ℕ) (r : Reach)
     → r ≡ reach_at (m ∷ marks) m (last_place (is_up_to Data timestamp) (m ∷ marks))

@@ -4,5 +4,6 @@ pub mod Times
 pub mod History
 pub mod Version
 pub mod Edits
+pub mod RowEdits
 pub mod Turnover
 pub mod Arrivals

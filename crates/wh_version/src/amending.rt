@@ -42,9 +42,8 @@ impl Edits {
         }
         let mut left = added_left(alloc, next_row, &rows, &self.added)?;
         left.append(&mut added)?;
-        let mut amended = self.rows.copy(alloc)?;
-        amended.put_later(next_row, rows)?;
-        self.rows = amended;
+        let staged = self.rows.copy(alloc)?;
+        self.rows = staged.with_later(alloc, next_row, rows)?;
         self.added = left;
         Ok(())
     }
@@ -73,12 +72,13 @@ fn added_left(
     ensures { IfOk result (λ left. left.items ≡ added_left next_row edits.now added.now) }
 {
     let mut left = Vec::new(alloc);
+    let mut guess = 0;
     for place in 0..added.len() {
         // So many rows can't be numbered, and no memory has them.
         let Some(number) = next_row.checked_add(place as u64) else {
             return Err(AllocError);
         };
-        add_edited(alloc, &mut left, edits, number, &added[place])?;
+        add_edited(alloc, &mut left, edits, number, &added[place], &mut guess)?;
     }
     Ok(left)
 }
@@ -89,11 +89,12 @@ fn add_edited(
     edits: &RowEdits,
     number: u64,
     row: &Row,
+    guess: &mut usize,
 ) -> Result<(), AllocError>
     ensures { OnOk result (left.new.items ≡ left.old.items
         ++ map (λ entry. entry.1) (edited_row edits.now (number, row.now))) }
 {
-    if let Some(row) = edits.edited_row(number, row) {
+    if let Some(row) = edits.edited_row(number, row, guess) {
         left.push(row.copy(alloc)?)?;
     }
     Ok(())

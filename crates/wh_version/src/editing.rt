@@ -56,8 +56,9 @@ fn edited(
         map numbered_of left.items ≡ edited edits.now (map numbered_of rows.now)) }
 {
     let mut left = Vec::with_capacity(alloc, rows.len())?;
+    let mut guess = 0;
     for entry in rows {
-        add_edited(alloc, &mut left, edits, entry)?;
+        add_edited(alloc, &mut left, edits, entry, &mut guess)?;
     }
     Ok(left)
 }
@@ -67,12 +68,13 @@ fn add_edited(
     left: &mut Vec<NumberedRow>,
     edits: &RowEdits,
     entry: &NumberedRow,
+    guess: &mut usize,
 ) -> Result<(), AllocError>
     ensures { OnOk result (map numbered_of left.new.items ≡ map numbered_of left.old.items
         ++ edited_row edits.now (numbered_of entry.now)) }
 {
     let number = entry.number;
-    let Some(row) = edits.edited_row(number, &entry.row) else {
+    let Some(row) = edits.edited_row(number, &entry.row, guess) else {
         return Ok(());
     };
     let row = row.copy(alloc)?;

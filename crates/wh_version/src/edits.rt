@@ -1,7 +1,7 @@
-ghost use Rattle.std.specs.Prelude.{◌≡◌, map, OnOk};
-ghost use Rattle.wh_machine.specs.Edits.{with_removed, with_changed};
-ghost use Rattle.wh_version.specs.Edits.{kept_of};
+ghost use Rattle.std.specs.Prelude.{◌≡◌, ◌++◌, map, OnOk};
+ghost use Rattle.wh_version.specs.RowEdits.{entries_in, removal_of, change_of};
 
+use crate::row_edit::RowEdit;
 use crate::row_edits::RowEdits;
 use std::alloc::{AllocError, Global};
 use wh_part::NumberedRow;
@@ -33,9 +33,10 @@ impl Edits {
           added = added.items;
         })) }
     {
-        let mut rows = RowEdits::new(alloc);
-        remove(&mut rows, removed)?;
-        change(&mut rows, changed)?;
+        let mut list = Vec::with_capacity(alloc, removed.len())?;
+        remove(&mut list, removed)?;
+        change(&mut list, changed)?;
+        let rows = RowEdits::of(alloc, list)?;
         Ok(Edits { rows, added })
     }
 
@@ -47,20 +48,29 @@ impl Edits {
     }
 }
 
-fn remove(rows: &mut RowEdits, removed: &[u64]) -> Result<(), AllocError>
-    ensures { OnOk result (rows.new ≡ with_removed rows.old removed.now) }
+fn remove(list: &mut Vec<RowEdit>, removed: &[u64]) -> Result<(), AllocError>
+    ensures { OnOk result (entries_in list.new.items
+        ≡ entries_in list.old.items ++ map removal_of removed.now) }
 {
     for number in removed {
-        rows.put(*number, None)?;
+        list.push(RowEdit {
+            number: *number,
+            row: None,
+        })?;
     }
     Ok(())
 }
 
-fn change(rows: &mut RowEdits, changed: Vec<NumberedRow>) -> Result<(), AllocError>
-    ensures { OnOk result (rows.new ≡ with_changed rows.old (map kept_of changed.items)) }
+fn change(list: &mut Vec<RowEdit>, changed: Vec<NumberedRow>) -> Result<(), AllocError>
+    ensures { OnOk result (entries_in list.new.items
+        ≡ entries_in list.old.items ++ map change_of changed.items) }
 {
+    list.reserve(changed.len())?;
     for NumberedRow { number, row } in changed {
-        rows.put(number, Some(row))?;
+        list.push(RowEdit {
+            number,
+            row: Some(row),
+        })?;
     }
     Ok(())
 }

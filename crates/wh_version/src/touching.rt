@@ -54,7 +54,13 @@ fn is_touched(edits: &RowEdits, partition: &Partition) -> bool
 fn names_one(edits: &RowEdits, rows: &[NumberedRow]) -> bool
     ensures { result ≡ list_any (λ e. is_some (get edits.now e.number)) rows.now }
 {
-    rows.iter().any(|entry| edits.has(entry.number))
+    let mut guess = 0;
+    for entry in rows {
+        if edits.has(entry.number, &mut guess) {
+            return true;
+        }
+    }
+    false
 }
 
 /// Their numbers.

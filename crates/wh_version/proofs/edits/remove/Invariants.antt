@@ -1,6 +1,7 @@
-use Rattle.std.proofs.Common.{◌≡◌, drop}
-use Rattle.wh_machine.specs.Edits.{with_removed}
+use Rattle.std.proofs.Common.{◌≡◌, ◌++◌, map, take}
+use Rattle.wh_version.specs.RowEdits.{entries_in, removal_of}
 use Rattle.wh_version.proofs.edits.remove.Given as goal
 
 abbrev pub invariant-loop-number : goal.invariant-loop-number
-invariant-loop-number l = with_removed l.rows (drop l.number-index l.removed) ≡ with_removed l.initial.rows l.removed
+invariant-loop-number l = entries_in l.list.items
+    ≡ entries_in l.initial.list.items ++ map removal_of (take l.number-index l.removed)

@@ -1,17 +1,10 @@
-use Rattle.std.proofs.Common.{◌≤◌, ◌∙◌, ap, sym, subst, is_some, ℕ, arith}
+use Rattle.std.proofs.Common.{◌≤◌, ◌∙◌, ap, sym, subst, is_some, ℕ}
 use Rattle.std.specs.List.{list_any}
 use Rattle.std.specs.FinMap.{get}
 use Rattle.wh_value.specs.Value.{Row}
-use Rattle.wh_frame.specs.Partition.{first_number, last_number}
 use Rattle.wh_part.specs.View.{numbered_of}
-use Rattle.wh_version.proofs.Touched.{any-map, first_last, apart_untouched}
+use Rattle.wh_version.proofs.Touched.{any-map, apart_untouched}
 use Rattle.wh_version.proofs.touching.is_touched.Goals as goal
-
-pub has_between-requires : goal.has_between-requires
-has_between-requires c =
-    let rows = c.args.partition.now.rows in
-    let fits : first_number rows ≤ last_number rows = first_last rows c.rows-rows.ensures.rising in
-    omega (arith, c.first.ensures, c.last.ensures)
 
 pub returns-then-not-has_between : goal.returns-then-not-has_between
 returns-then-not-has_between c =

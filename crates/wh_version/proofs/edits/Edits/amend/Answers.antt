@@ -17,8 +17,8 @@ returns-clause-ok c =
     let next = c.args.next_row in
     let old = c.args.self.now in
     let later = c.args.later in
-    let rows : c.put_later.new.self ≡ with_later next old.rows (entries later.rows) =
-    c.in_ok-put_later.ensures ∙ ap (λ m. with_later next m (entries later.rows)) c.in_ok-amended.ensures in
+    let rows : c.in_ok-self.field-0 ≡ with_later next old.rows (entries later.rows) =
+    c.in_ok-self.ensures ∙ ap (λ m. with_later next m (entries later.rows)) c.in_ok-staged.ensures in
     let added : c.append-2.new.self.items ≡ added_left next later.rows old.added.items ++ later.added.items =
     c.in_ok-append-2.ensures.items
     ∙ ap (λ l. l ++ later.added.items) (c.in_ok-left.ensures ∙ ap (added_left next later.rows) c.deref.ensures.value) in

@@ -1,6 +1,5 @@
-use Rattle.std.proofs.Common.{◌≡◌, ◌<◌, ◌≤◌, ℕ, suc, List, ◌∷◌, ◌++◌}
+use Rattle.std.proofs.Common.{◌≡◌, ◌<◌, ℕ, ◌∷◌, ◌++◌}
 use Rattle.std.proofs.Common.{◌∙◌, ap, sym, subst, length, take, drop, get_or, arith}
-use Rattle.wh_version.specs.declared.kept.Kept.{Kept}
 use Rattle.wh_version.specs.declared.mark.VersionMark.{VersionMark}
 use Rattle.wh_version.specs.declared.history.History.{History}
 use Rattle.wh_version.specs.Arrivals.{IsArrival, partitions_before}

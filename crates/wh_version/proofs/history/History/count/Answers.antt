@@ -1,4 +1,4 @@
-use Rattle.std.proofs.Common.{◌∷◌, length, arith}
+use Rattle.std.proofs.Common.{◌∷◌, arith}
 use Rattle.wh_version.specs.History.{versions_of}
 use Rattle.wh_version.proofs.ArrivalLaws.{count_versions}
 use Rattle.wh_version.proofs.history.History.count.Goals as goal

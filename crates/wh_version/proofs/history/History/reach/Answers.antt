@@ -1,7 +1,6 @@
 use Rattle.std.proofs.Common.{◌∷◌, ◌∙◌, ap, sym}
 use Rattle.wh_version.specs.declared.times.Time.TheVariants.{Data}
 use Rattle.wh_version.specs.Times.{is_up_to, last_place}
-use Rattle.wh_version.specs.Turnover.{reach_at}
 use Rattle.wh_version.proofs.LastUpTo.{place_within}
 use Rattle.wh_version.proofs.history.History.reach.Goals as goal
 

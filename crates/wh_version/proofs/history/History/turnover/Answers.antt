@@ -1,6 +1,5 @@
-use Rattle.std.proofs.Common.{◌≡◌, ◌≤◌, List, ◌++◌, ◌∙◌, ap, sym, length, take, subst, arith}
+use Rattle.std.proofs.Common.{◌≡◌, List, ◌++◌, ◌∙◌, ap, length, take, subst, arith}
 use Rattle.std.proofs.lemmas.List.{length-take}
-use Rattle.wh_frame.specs.Partition.{Partition}
 use Rattle.wh_version.specs.declared.kept.Kept.{Kept}
 use Rattle.wh_version.specs.Kept.{standing_at, gone_between}
 use Rattle.wh_version.specs.Edits.{partitions_at}

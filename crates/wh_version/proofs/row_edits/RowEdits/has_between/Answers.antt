@@ -1,22 +1,34 @@
-use Rattle.std.proofs.Common.{◌≡◌, ◌≤◌, ◌∙◌, ap, sym, subst, refl, Bool, false, is_some, Option, None, Some}
-use Rattle.std.specs.Bool.{OnFalse}
+use Rattle.std.proofs.Common.{◌∙◌, ap, sym, arith}
 use Rattle.std.specs.FinMap.{get}
-use Rattle.std.specs.Ordering.{is_gt, nat_cmp}
-use Rattle.wh_version.proofs.NumberMaps.{gotten, not_greater}
+use Rattle.wh_version.specs.RowEdits.{entry_of, entries_in}
+use Rattle.wh_version.proofs.RisingEdits.{when_above, when_past, none_between, none_behind}
+use Rattle.wh_version.proofs.EditMaps.{gotten}
+use Rattle.wh_version.proofs.Places.{behind_one, behind_all}
 use Rattle.wh_version.proofs.row_edits.RowEdits.has_between.Goals as goal
 
-none_found : {X P : Type 0} (b : Bool) (o : Option X) → b ≡ is_some o → (o ≡ None → P) → OnFalse b P
-none_found {P = P} b None is gives = subst (λ v. OnFalse v P) (sym is) (gives refl)
-none_found {P = P} b (Some x) is gives = subst (λ v. OnFalse v P) (sym is) tt
+pub returns-then-place-len : goal.returns-then-place-len
+returns-then-place-len c =
+    let list = c.self.inside.list.items in
+    let first = c.args.first in
+    let place = c.place_of-place.result in
+    let edit = c.index.result.now in
+    let sized = c.self.inside.list.ok.0 in
+    let behind = behind_one first list c.deref.result.now place edit c.deref.ensures.value
+    c.place_of-place.ensures.behind (omega arith) c.index.ensures in
+    when_above edit.number c.args.last (λ high number above under.
+    sym (ap (λ m. get m number) c.self.view_is)
+    ∙ gotten (entries_in list) number c.self.invariant
+    ∙ none_between first c.args.last (entries_in list) (entry_of edit) _ c.self.invariant behind high number above under)
 
-pub returns : goal.returns
-returns c =
-    none_found c.is_some.result c.next.result c.is_some.ensures (λ none number above below.
-    let ended = rw none at c.next.ensures.steps in
-    let from : is_gt (nat_cmp c.new.result.start number) ≡ false =
-    not_greater _ _ (subst (λ n. n ≤ number) (sym c.new.ensures.start) above) in
-    let to : is_gt (nat_cmp number c.new.result.end) ≡ false =
-    not_greater _ _ (subst (λ n. number ≤ n) (sym c.new.ensures.end) below) in
-    ap (λ m. get m number) (sym c.self.view_is)
-    ∙ gotten c.self.inside.map.entries number
-    ∙ (c.range.ensures.in_range c.new.ensures.exhausted).5 ended.0 number (from, to))
+pub returns-else-place-len : goal.returns-else-place-len
+returns-else-place-len c =
+    let list = c.self.inside.list.items in
+    let first = c.args.first in
+    let place = c.place_of-place.result in
+    let sized = c.self.inside.list.ok.0 in
+    let none = behind_all first list c.deref.result.now place c.deref.ensures.value
+    c.place_of-place.ensures.behind (omega arith) in
+    when_past place c.len.result (λ past number above under.
+    sym (ap (λ m. get m number) c.self.view_is)
+    ∙ gotten (entries_in list) number c.self.invariant
+    ∙ none_behind first (entries_in list) none number above)

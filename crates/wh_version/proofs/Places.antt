@@ -1,0 +1,157 @@
+-- Places in lists of edits that rise by number.
+--     Adjacent, adjacent_more    numbers up to a place are below the next ones
+--     adjacent_rise          so they rise
+--     numbers_rise           numbers do not fall from place to place
+--     both_halves            the halves of a list
+--     front_at, behind_at    edits below a number, and the others
+--     front_there, behind_there    the same at the place of the first number that isn't below
+--     behind_one, behind_all    the first of the others, and where there is none
+use Rattle.std.proofs.Common.{◌≡◌, ℕ, zero, suc, ◌+◌, ◌-◌, ◌<◌, ◌≤◌, cond, Bool, true, false, T, List, [], ◌∷◌, ◌++◌, length, get_or}
+use Rattle.std.proofs.Common.{take, drop, refl, sym, ap, ◌∙◌, arith, nat_lt}
+use Rattle.std.proofs.lemmas.List.{get_or_default, drop_more, drop_all, map-append, take-append-drop}
+use Rattle.std.specs.Ordering.{nat_cmp}
+use Rattle.std.specs.List.Sorted.{IsNonDecreasingBy}
+use Rattle.std.specs.FinMap.{is_sorted}
+use Rattle.std.specs.FinMap.Entries.{below_all}
+use Rattle.std.proofs.lemmas.Bool.{ltb-true, ltb-false, lt-ltb, le-ltb}
+use Rattle.wh_version.specs.declared.row_edit.RowEdit.{RowEdit}
+use Rattle.wh_version.specs.RowEdits.{entry_of, entries_in, below, not_below, IsPlaceOf}
+use Rattle.wh_version.proofs.RisingEdits.{holds, is_true, parts, together, is_below, tests_below, above_all}
+use Rattle.wh_version.proofs.RisingEdits.{head_below, rest_rises}
+
+abbrev pub Adjacent : List RowEdit → ℕ → Type 0
+Adjacent list count = (k : ℕ) (d : RowEdit) → suc k < count
+    → (get_or list k d).number < (get_or list (suc k) d).number
+
+pub adjacent_more : (list : List RowEdit) (place : ℕ) (x y : RowEdit) → 1 ≤ place → place < length list
+    → x ≡ get_or list (place - 1) x → y ≡ get_or list place y → x.number < y.number
+    → Adjacent list place → Adjacent list (place + 1)
+adjacent_more list place x y some within here next up so_far = λ k d below. by_test k d below (nat_lt (suc k) place) refl
+  where
+    by_test : (k : ℕ) (d : RowEdit) → suc k < place + 1 → (b : Bool) → nat_lt (suc k) place ≡ b
+        → (get_or list k d).number < (get_or list (suc k) d).number
+    by_test k d below true is = so_far k d (ltb-true (suc k) place is)
+    by_test k d below false is =
+        let above : place ≤ suc k = ltb-false (suc k) place is in
+        let first : place - 1 ≡ k = omega arith in
+        let second : place ≡ suc k = omega arith in
+        let low : x ≡ get_or list k d =
+        here ∙ get_or_default list (place - 1) x d (omega arith) ∙ ap (λ i. get_or list i d) first in
+        let high : y ≡ get_or list (suc k) d =
+        next ∙ get_or_default list place y d within ∙ ap (λ i. get_or list i d) second in
+        let low_number : x.number ≡ (get_or list k d).number = ap (λ e. e.number) low in
+        let high_number : y.number ≡ (get_or list (suc k) d).number = ap (λ e. e.number) high in
+        omega arith
+
+pub adjacent_rise : (list : List RowEdit) → Adjacent list (length list) → is_sorted nat_cmp (entries_in list) ≡ true
+adjacent_rise [] each = refl
+adjacent_rise (e ∷ []) each = refl
+adjacent_rise (e ∷ f ∷ list) each =
+    let up : is_sorted nat_cmp (entries_in (f ∷ list)) ≡ true =
+    adjacent_rise (f ∷ list) (λ k d within. each (suc k) d (omega arith)) in
+    let low : e.number < f.number = each 0 e (omega arith) in
+    let rest : T (below_all nat_cmp e.number (entries_in list)) =
+    above_all e.number f.number (entries_in list) (omega arith) (head_below (f.number, f.row) (entries_in list) up) in
+    is_true _ (together _ _ (together _ _ (tests_below e.number f.number low) rest) (holds up))
+
+number_above : (least : ℕ) (list : List RowEdit) (i : ℕ) (d : RowEdit)
+    → T (below_all nat_cmp least (entries_in list)) → i < length list → least < (get_or list i d).number
+number_above least [] i d above within = absurd (omega arith)
+number_above least (e ∷ list) zero d above within = is_below least e.number (parts _ _ above).0
+number_above least (e ∷ list) (suc i) d above within = number_above least list i d (parts _ _ above).1 (omega arith)
+
+pub numbers_rise : (list : List RowEdit) → is_sorted nat_cmp (entries_in list) ≡ true
+    → IsNonDecreasingBy (λ e. e.number) list
+numbers_rise [] up i j d order within = absurd (omega arith)
+numbers_rise (e ∷ list) up zero zero d order within = omega arith
+numbers_rise (e ∷ list) up zero (suc j) d order within =
+    let here = number_above e.number list j d (head_below (e.number, e.row) (entries_in list) up) (omega arith) in
+    omega arith
+numbers_rise (e ∷ list) up (suc i) zero d order within = absurd (omega arith)
+numbers_rise (e ∷ list) up (suc i) (suc j) d order within =
+    numbers_rise list (rest_rises (e.number, e.row) (entries_in list) up) i j d (omega arith) (omega arith)
+
+module _ (number : ℕ) where
+  pub front_at : (list : List RowEdit) (place : ℕ) → place ≤ length list
+      → ((i : ℕ) (d : RowEdit) → i < place → nat_lt (get_or list i d).number number ≡ true)
+      → ((d : RowEdit) → place < length list → nat_lt (get_or list place d).number number ≡ false)
+      → entries_in (take place list) ≡ below number (entries_in list)
+  front_at [] zero within low high = refl
+  front_at [] (suc place) within low high = absurd (omega arith)
+  front_at (e ∷ list) zero within low high =
+      ap (λ (b : Bool). cond b ((e.number, e.row) ∷ below number (entries_in list)) []) (sym (high e (omega arith)))
+  front_at (e ∷ list) (suc place) within low high =
+      let rest : entries_in (take place list) ≡ below number (entries_in list) =
+      front_at list place (omega arith) (λ i d below. low (suc i) d (omega arith)) (λ d below. high d (omega arith)) in
+      ap ((e.number, e.row) ∷◌) rest
+      ∙ ap (λ (b : Bool). cond b ((e.number, e.row) ∷ below number (entries_in list)) [])
+      (sym (low 0 e (omega arith)))
+
+  pub behind_at : (list : List RowEdit) (place : ℕ) → place ≤ length list
+      → ((i : ℕ) (d : RowEdit) → i < place → nat_lt (get_or list i d).number number ≡ true)
+      → ((d : RowEdit) → place < length list → nat_lt (get_or list place d).number number ≡ false)
+      → entries_in (drop place list) ≡ not_below number (entries_in list)
+  behind_at [] zero within low high = refl
+  behind_at [] (suc place) within low high = absurd (omega arith)
+  behind_at (e ∷ list) zero within low high =
+      ap (λ (b : Bool). cond b (not_below number (entries_in list)) ((e.number, e.row) ∷ entries_in list))
+      (sym (high e (omega arith)))
+  behind_at (e ∷ list) (suc place) within low high =
+      let rest : entries_in (drop place list) ≡ not_below number (entries_in list) =
+      behind_at list place (omega arith) (λ i d below. low (suc i) d (omega arith)) (λ d below. high d (omega arith)) in
+      rest ∙ ap (λ (b : Bool). cond b (not_below number (entries_in list)) ((e.number, e.row) ∷ entries_in list))
+      (sym (low 0 e (omega arith)))
+
+  low_at : (list : List RowEdit) (place : ℕ) → is_sorted nat_cmp (entries_in list) ≡ true → IsPlaceOf number list place
+      → (i : ℕ) (d : RowEdit) → i < place → nat_lt (get_or list i d).number number ≡ true
+  low_at list place rises there = λ i d below.
+      let size = there.within in
+      let order = numbers_rise list rises i (place - 1) d (omega arith) (omega arith) in
+      let last = there.front d (omega arith) in
+      lt-ltb _ _ (omega arith)
+
+  high_at : (list : List RowEdit) (place : ℕ) → IsPlaceOf number list place
+      → (d : RowEdit) → place < length list → nat_lt (get_or list place d).number number ≡ false
+  high_at list place there = λ d within. le-ltb _ _ (there.behind d within)
+
+  pub front_there : (list : List RowEdit) (place : ℕ) → is_sorted nat_cmp (entries_in list) ≡ true
+      → IsPlaceOf number list place → entries_in (take place list) ≡ below number (entries_in list)
+  front_there list place rises there =
+      front_at list place there.within (low_at list place rises there) (high_at list place there)
+
+  pub behind_there : (list : List RowEdit) (place : ℕ) → is_sorted nat_cmp (entries_in list) ≡ true
+      → IsPlaceOf number list place → entries_in (drop place list) ≡ not_below number (entries_in list)
+  behind_there list place rises there =
+      behind_at list place there.within (low_at list place rises there) (high_at list place there)
+
+  -- where a search ends, by the list that a reference points to
+  pub behind_one : (list seen : List RowEdit) (place : ℕ) (edit : RowEdit) → seen ≡ list
+      → entries_in (drop place seen) ≡ not_below number (entries_in seen) → place < length list
+      → edit ≡ get_or list place edit
+      → not_below number (entries_in list) ≡ entry_of edit ∷ entries_in (drop (place + 1) list)
+  behind_one list seen place edit same behind within is =
+      sym (ap (λ l. not_below number (entries_in l)) same)
+      ∙ sym behind
+      ∙ ap (λ l. entries_in (drop place l)) same
+      ∙ ap entries_in (drop_more list place edit within ∙ ap (λ e. e ∷ drop (place + 1) list) (sym is))
+
+  pub behind_all : (list seen : List RowEdit) (place : ℕ) → seen ≡ list
+      → entries_in (drop place seen) ≡ not_below number (entries_in seen) → length list ≤ place
+      → not_below number (entries_in list) ≡ []
+  behind_all list seen place same behind past =
+      sym (ap (λ l. not_below number (entries_in l)) same)
+      ∙ sym behind
+      ∙ ap (λ l. entries_in (drop place l)) same
+      ∙ ap entries_in (drop_all place list past)
+
+  pub front_of : (list seen : List RowEdit) (place : ℕ) (cut : List RowEdit) → seen ≡ list
+      → entries_in (take place seen) ≡ below number (entries_in seen) → cut ≡ take place list
+      → entries_in cut ≡ below number (entries_in list)
+  front_of list seen place cut same front is =
+      ap entries_in (is ∙ ap (take place) (sym same)) ∙ front ∙ ap (λ l. below number (entries_in l)) same
+
+pub both_halves : (half : ℕ) (list front behind : List RowEdit) → front ≡ take half list → behind ≡ drop half list
+    → entries_in front ++ entries_in behind ≡ entries_in list
+both_halves half list front behind first second =
+    sym (map-append entry_of front behind)
+    ∙ ap entries_in ((λ i. first i ++ second i) ∙ take-append-drop half list)
