@@ -8,7 +8,7 @@ ghost use Rattle.wh_dml_bind.specs.View.{target_in, checked_in};
 
 use crate::checked::Checked;
 use crate::places::{fit_places, given_columns};
-use crate::rows::row_from;
+use crate::rows::new_row_from;
 use crate::target::{Target, change_alone};
 use crate::values::value_rows;
 use sqlite_items::{Boxed, Items};
@@ -110,7 +110,7 @@ fn query_row(
     let outputs = output_scalars(alloc, outputs)?;
     let given = given_columns(alloc, columns, listed)?;
     let fits = fit_places(&given.places, &types);
-    let scalars = row_from(alloc, columns, &given.places, &outputs)?;
+    let scalars = new_row_from(alloc, columns, &given.places, outputs)?;
     Ok(QueryRow {
         scalars,
         findings: given.findings,
