@@ -5,7 +5,8 @@
 --     first_of, second_of    the entries that a clause of MERGE sees
 --     source_entry           the source of MERGE as an entry
 --     merge_of               a MERGE of its parts
-use Rattle.std.specs.Prelude.{ℕ, suc, Bool, true, false, ◌&&◌, if◌then◌else◌, List, [], ◌∷◌, Option, Some, None, slice_get}
+use Rattle.std.specs.Prelude.{ℕ, suc, Bool, true, false, ◌&&◌, if◌then◌else◌, List, [], ◌∷◌, slice_get}
+use Rattle.std.specs.Prelude.{Option, Some, None}
 use Rattle.wh_value.specs.Column.{ColumnType}
 use Rattle.wh_meaning.specs.Scalar.{Scalar}
 use Rattle.wh_naming.specs.Findings.{Name, Findings, followed}

@@ -1,19 +1,19 @@
-ghost use Rattle.std.specs.Prelude.{◌≡◌, ◌∷◌, ◌++◌, [], map, IfOk};
+ghost use Rattle.std.specs.Prelude.{◌≡◌, map, IfOk};
 ghost use Rattle.wh_value.specs.View.{column_of};
-ghost use Rattle.wh_scalar.specs.View.{scalar_of};
 ghost use Rattle.wh_algebra.specs.View.{scalars_of};
 ghost use Rattle.wh_naming.specs.Findings as wrong;
 ghost use Rattle.wh_naming.specs.Changes as naming;
-ghost use Rattle.wh_expr_bind.specs.View.{entries_of, type_of_option, findings_of};
+ghost use Rattle.wh_expr_bind.specs.View.{entries_of, findings_of};
 ghost use Rattle.wh_bound_change.specs.View.{rows_of};
 ghost use Rattle.wh_dml_bind.specs.View.{places_of, row_in};
 
+use crate::findings::{add_findings, mistyped_unless};
 use crate::places::{fits_at, given_columns};
 use crate::rows::new_row_from;
 use sqlite_items::Items;
 use std::alloc::{AllocError, Global};
 use wh_ast::Expr;
-use wh_expr_bind::{Entry, Findings, Place, Typed, typed};
+use wh_expr_bind::{Entry, Findings, Place, typed};
 use wh_scalar::Scalar;
 use wh_value::{Column, Text};
 
@@ -44,7 +44,7 @@ fn typed_all(
     for index in 0..values.len() {
         let x = typed(alloc, &values[index], entries, false, 0)?;
         fits &= fits_at(places, index, x.type_of);
-        findings = findings.followed(x.findings);
+        add_findings(&mut findings, x.findings);
         scalars.push(x.scalar)?;
     }
     Ok(Values {
@@ -72,9 +72,7 @@ pub(crate) fn new_row(
         (places_of places.now) (naming.typed_all (entries_of entries.now) values.now)) }
 {
     let values = typed_all(alloc, places, entries, values)?;
-    let findings = values
-        .findings
-        .followed(Findings::mistyped_if(!values.fits));
+    let findings = mistyped_unless(values.fits, values.findings);
     let scalars = new_row_from(alloc, columns, places, values.scalars)?;
     Ok(NewRow { scalars, findings })
 }
@@ -127,7 +125,7 @@ pub(crate) fn value_rows(
     let mut findings = Findings::nothing();
     for values in found {
         let row = new_row(alloc, columns, places, &[], values.as_slice())?;
-        findings = findings.followed(row.findings);
+        add_findings(&mut findings, row.findings);
         rows.push(row.scalars)?;
     }
     Ok(NewRows { rows, findings })

@@ -1,5 +1,5 @@
-use Rattle.std.proofs.Common.{◌∙◌, sym, ap, [], ◌∷◌, ◌++◌, Bool, false, map, drop, length, option_map, ◌+◌, if◌then◌else◌}
-use Rattle.std.specs.Prelude.{◌&&◌}
+use Rattle.std.proofs.Common.{◌∙◌, sym, ap, [], ◌∷◌, ◌++◌, Bool, false, map, drop, length, option_map, ◌+◌}
+use Rattle.std.specs.Prelude.{◌&&◌, if◌then◌else◌}
 use Rattle.std.proofs.lemmas.List.{map-append, length-map}
 use Rattle.wh_scalar.specs.View.{scalar_of}
 use Rattle.wh_algebra.specs.View.{scalars_of}
@@ -32,7 +32,7 @@ loop-index-preserved c =
           ∙ sym (ap (λ (b : Bool). if c.loop-index.fits && b then fit_places (drop (i + 1) places)
           (map (λ (t : Typed). t.type_of) (typed_all entries (drop (i + 1) values))) else false)
           (c.fits_at-fits.ensures ∙ λ k. fits_at places i (x k).type_of));
-      findings = c.followed-findings.ensures ∙ (λ k. followed (before.findings k) (x k).findings)
+      findings = c.add_findings.ensures ∙ (λ k. followed (before.findings k) (x k).findings)
           ∙ sym (all_turn entries values i value here is);
     }
 
