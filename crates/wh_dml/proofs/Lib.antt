@@ -1,4 +1,5 @@
 pub mod OptionLaws
+pub mod ColumnLaws
 pub mod EffectLaws
 pub mod SettledLaws
 pub mod ClauseLaws

@@ -33,7 +33,7 @@ pub fn effect(
         }
         Change::InsertQuery(query, parts) => {
             let source = rows_in_order(alloc, query, sources)?;
-            let added = rows_over(alloc, parts, &source)?;
+            let added = rows_over(alloc, parts, source)?;
             Ok(Effect::adding(alloc, added))
         }
         Change::Update(condition, parts) => {

@@ -7,6 +7,7 @@ ghost use Rattle.wh_exec.specs.Evaluation.{instance_of};
 ghost use Rattle.wh_meaning.specs.Query.{eval};
 
 use crate::Effect;
+use crate::columns::are_all_columns;
 use std::alloc::{AllocError, Global};
 use wh_aggregate::values_on;
 use wh_algebra::{Physical, Query};
@@ -28,12 +29,22 @@ pub(crate) fn rows_of(alloc: Global, rows: &[Vec<Scalar>]) -> Result<Vec<Row>, E
     Ok(added)
 }
 
-/// A row for each source row, in their order.
+/// A row for each source row, in their order. Where the parts are the columns of each source row, the
+/// rows are moved.
 pub(crate) fn rows_over(
     alloc: Global,
     parts: &[Scalar],
-    source: &[Row],
+    source: Vec<Row>,
 ) -> Result<Vec<Row>, EvalFault>
+    ensures { GivesListed result (meaning.rows_over (scalars_of parts.now) source.items) }
+{
+    if are_all_columns(parts, &source) {
+        return Ok(source);
+    }
+    new_rows_over(alloc, parts, &source)
+}
+
+fn new_rows_over(alloc: Global, parts: &[Scalar], source: &[Row]) -> Result<Vec<Row>, EvalFault>
     ensures { GivesListed result (meaning.rows_over (scalars_of parts.now) source.now) }
 {
     let mut added = Vec::with_capacity(alloc, source.len())?;

@@ -4,6 +4,7 @@
 
 mod changing;
 mod clauses;
+mod columns;
 mod delete;
 mod fault;
 mod insert;

@@ -2,7 +2,11 @@
 use Rattle.std.proofs.Common.{◌≡◌, ◌∙◌, ◌<◌, sym, ap, refl, ℕ, zero, suc, ◌+◌, Bool, true, false, if◌then◌else◌}
 use Rattle.std.proofs.Common.{List, [], ◌∷◌, ◌++◌, map, length, drop, take, get_or, Option, Some, None}
 use Rattle.std.proofs.Common.{option_map, add-one, arith}
-use Rattle.std.specs.Prelude.{unwrap_or, slice_get}
+use Rattle.std.specs.Prelude.{◌&&◌, unwrap_or, slice_get}
+use Rattle.std.proofs.Math.Seq.{drop-cons}
+use Rattle.std.proofs.lemmas.Bool.Decides.{nat_tests}
+use Rattle.std.proofs.lemmas.List.{drop_all, length-map}
+use Rattle.wh_value.specs.Column as table
 use Rattle.wh_value.specs.Value.{Null}
 use Rattle.wh_value.specs.View.{column_of}
 use Rattle.wh_value.specs.declared.column.Column as stored
@@ -16,7 +20,7 @@ use Rattle.wh_naming.specs.Changes.{is_at, given_at, row_from, changed_from}
 use Rattle.wh_expr_bind.specs.View.{place_of}
 use Rattle.wh_expr_bind.specs.declared.columns.Place.{Place}
 use Rattle.wh_dml_bind.specs.View.{places_of}
-use Rattle.wh_dml_bind.specs.Steps.{given}
+use Rattle.wh_dml_bind.specs.Steps.{given, are_in_order}
 
 if_unwrapped : (b : Bool) (s otherwise : meaning.Scalar) (rest : Option meaning.Scalar)
     → (if b then s else unwrap_or rest otherwise) ≡ unwrap_or (if b then Some s else rest) otherwise
@@ -119,3 +123,47 @@ given_passed place i ps ss d l passed =
     ∙ ap (λ (b : Bool). if b then option_map scalar_of (slice_get ss i)
     else given place (places_of (drop (suc i) ps)) (scalars_of (drop (suc i) ss))) passed
     ∙ ap (λ (k : ℕ). given place (places_of (drop k ps)) (scalars_of (drop k ss))) (sym (add-one i))
+
+-- ---- all columns, given in their order
+
+both : (a b : Bool) → a && b ≡ true → (a ≡ true) × (b ≡ true)
+both true true is = (refl, refl)
+both true false is = absurd cc
+both false b is = absurd cc
+
+elsewhere : (place k : ℕ) (p : Option scope.Place) → is_at place p ≡ true → place < k → is_at k p ≡ false
+elsewhere place k None is l = absurd cc
+elsewhere place k (Some p) is l = grind (arith, nat_tests)
+
+given_in_order : (from i k : ℕ) (ps : List (Option scope.Place)) (ss : List meaning.Scalar) (d : meaning.Scalar)
+    → are_in_order from ps ≡ true → length ps ≡ length ss → i < length ss → k ≡ from + i
+    → given_at k ps ss d ≡ get_or ss i d
+given_in_order from i k ps [] d order same l e = absurd (omega arith)
+given_in_order from i k [] (s ∷ ss) d order same l e = absurd (omega (arith, same))
+given_in_order from zero k (p ∷ ps) (s ∷ ss) d order same l e =
+    let h = both (is_at from p) (are_in_order (suc from) ps) order in
+    let here : k ≡ from = omega (arith, e) in
+    ap (λ (b : Bool). if b then s else given_at k ps ss d) (ap (λ (n : ℕ). is_at n p) here ∙ h.0)
+given_in_order from (suc i) k (p ∷ ps) (s ∷ ss) d order same l e =
+    let h = both (is_at from p) (are_in_order (suc from) ps) order in
+    ap (λ (b : Bool). if b then s else given_at k ps ss d) (elsewhere from k p h.0 (omega (arith, e)))
+    ∙ given_in_order (suc from) i k ps ss d h.1 (omega (arith, same)) (omega arith) (omega (arith, e))
+
+row_in_order : (from : ℕ) (cs : List table.Column) (ps : List (Option scope.Place)) (ss : List meaning.Scalar)
+    → are_in_order 0 ps ≡ true → length ps ≡ length ss → from + length cs ≡ length ss
+    → row_from from cs ps ss ≡ drop from ss
+row_in_order from [] ps ss order same e = sym (drop_all from ss (omega (arith, e)))
+row_in_order from (c ∷ cs) ps ss order same e =
+    let within : from < length ss = omega (arith, e) in
+    let here = given_in_order 0 from from ps ss (Const Null) order same within (omega arith) in
+    let others = row_in_order (suc from) cs ps ss order same (omega (arith, e)) in
+    (λ i. here i ∷ others i) ∙ sym (drop-cons ss from (Const Null) within)
+
+-- a value for each column, in the columns' order, is the row
+pub row_whole : (cs : List stored.Column) (ps : List (Option Place)) (ss : List Scalar)
+    → are_in_order 0 (places_of ps) ≡ true → length ps ≡ length ss → length ss ≡ length cs
+    → scalars_of ss ≡ row_from 0 (map column_of cs) (places_of ps) (scalars_of ss)
+row_whole cs ps ss order places columns =
+    sym (row_in_order 0 (map column_of cs) (places_of ps) (scalars_of ss) order
+    (omega (arith, places, length-map ps (option_map place_of), length-map ss scalar_of))
+    (omega (arith, columns, length-map cs column_of, length-map ss scalar_of)))

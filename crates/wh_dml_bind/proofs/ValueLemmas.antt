@@ -1,6 +1,10 @@
 -- Values, rows of values and parts of SET, one after another.
 use Rattle.std.proofs.Common.{◌≡◌, ◌∙◌, ◌<◌, ◌≤◌, sym, ap, refl, ℕ, zero, suc, ◌+◌, List, [], ◌∷◌, ◌++◌, map, length}
-use Rattle.std.proofs.Common.{drop, take, get_or, Option, add-one, arith}
+use Rattle.std.proofs.Common.{drop, take, get_or, Option, None, add-one, arith, Bool, true, false, if◌then◌else◌}
+use Rattle.std.specs.Prelude.{◌&&◌}
+use Rattle.std.proofs.Math.Seq.{drop-cons}
+use Rattle.std.proofs.lemmas.Bool.Decides.{nat_tests}
+use Rattle.std.proofs.Math.Dec.{leb}
 use Rattle.std.proofs.lemmas.List.{map_more, map-append, drop_all}
 use Rattle.wh_value.specs.Column as table
 use Rattle.wh_ast.specs.declared.expr.Expr.{Expr}
@@ -11,7 +15,8 @@ use Rattle.wh_naming.specs.Scope.{Entry, Place}
 use Rattle.wh_naming.specs.Typing.{Typed}
 use Rattle.wh_naming.specs.Select.{plain}
 use Rattle.wh_naming.specs.Changes.{NewRow, typed_all, all_findings, value_rows, new_row, row_findings, part_findings}
-use Rattle.wh_naming.specs.Changes.{set_findings, outputs_from}
+use Rattle.wh_naming.specs.Changes.{set_findings, outputs_from, fit_places}
+use Rattle.wh_dml_bind.specs.Steps.{fits_at}
 use Rattle.wh_core_bind.specs.View.{outputs_of}
 use Rattle.wh_core_bind.specs.declared.output.Output as made
 use Rattle.wh_core_bind.proofs.FindingLaws.{followed_assoc, followed_nothing}
@@ -37,6 +42,67 @@ pub all_turn : (entries : List Entry) (es : List Expr) (i : ℕ) (e : Expr) → 
 all_turn entries es i e l is =
     let more = map_more (plain entries) es i e l in
     rw (more, ← is) (all_more (typed_all entries (take i es)) (plain entries e))
+
+-- ---- whether values fit their places
+
+fit_first : (ps : List (Option Place)) (i : ℕ) (t : Option table.ColumnType) (ts : List (Option table.ColumnType))
+    → fit_places (drop i ps) (t ∷ ts) ≡ (if fits_at ps i t then fit_places (drop (suc i) ps) ts else false)
+fit_first [] zero t ts = refl
+fit_first [] (suc i) t ts = refl
+fit_first (p ∷ ps) zero t ts = refl
+fit_first (p ∷ ps) (suc i) t ts = fit_first ps i t ts
+
+if_both : (a b x : Bool) → (if a then if b then x else false else false) ≡ (if a && b then x else false)
+if_both true b x = refl
+if_both false b x = refl
+
+abbrev fit_from : List (Option Place) → List Entry → List Expr → ℕ → Bool
+fit_from ps entries es i = fit_places (drop i ps) (map (λ (t : Typed). t.type_of) (typed_all entries (drop i es)))
+
+-- one value more
+pub fits_turn : (ps : List (Option Place)) (entries : List Entry) (es : List Expr) (i : ℕ) (e : Expr) (so_far : Bool)
+    → i < length es → e ≡ get_or es i e
+    → (if so_far then fit_from ps entries es i else false)
+    ≡ (if so_far && fits_at ps i (plain entries e).type_of then fit_from ps entries es (i + 1) else false)
+fits_turn ps entries es i e so_far l is =
+    let type_of = (plain entries e).type_of in
+    let rest = map (λ (t : Typed). t.type_of) (typed_all entries (drop (i + 1) es)) in
+    let step : fit_from ps entries es i ≡ (if fits_at ps i type_of then fit_from ps entries es (i + 1) else false) =
+    ap (λ (xs : List Expr). fit_places (drop i ps) (map (λ (t : Typed). t.type_of) (typed_all entries xs)))
+    (drop_here es i e l is)
+    ∙ fit_first ps i type_of rest
+    ∙ ap (λ (n : ℕ). if fits_at ps i type_of then fit_places (drop n ps) rest else false) (sym (add-one i)) in
+    ap (λ (b : Bool). if so_far then b else false) step
+    ∙ if_both so_far (fits_at ps i type_of) (fit_from ps entries es (i + 1))
+
+no_place : (ps : List (Option Place)) (i : ℕ) → length ps ≤ i → fit_places (drop i ps) [] ≡ true
+no_place ps i le = ap (λ (xs : List (Option Place)). fit_places xs []) (drop_all i ps le)
+
+some_place : (ps : List (Option Place)) (i : ℕ) → i < length ps → fit_places (drop i ps) [] ≡ false
+some_place ps i l = ap (λ (xs : List (Option Place)). fit_places xs []) (drop-cons ps i None l)
+
+none_fits : (ps : List (Option Place)) (i : ℕ) → fit_places (drop i ps) [] ≡ leb (length ps) i
+none_fits ps i = by_test (leb (length ps) i) refl
+  where
+    by_test : (b : Bool) → leb (length ps) i ≡ b → fit_places (drop i ps) [] ≡ leb (length ps) i
+    by_test true is = no_place ps i (grind (arith, nat_tests)) ∙ sym is
+    by_test false is = some_place ps i (grind (arith, nat_tests)) ∙ sym is
+
+if_and : (a b : Bool) → (if a then b else false) ≡ a && b
+if_and true b = refl
+if_and false b = refl
+
+-- no value is left
+pub fits_all : (ps : List (Option Place)) (entries : List Entry) (es : List Expr) (i count : ℕ) (so_far : Bool)
+    → length es ≤ i → i ≤ length es → length ps ≡ count
+    → (if so_far then fit_from ps entries es i else false) ≡ so_far && leb count (length es)
+fits_all ps entries es i count so_far le ge same =
+    let end : i ≡ length es = omega (arith, le, ge) in
+    let rest : fit_from ps entries es i ≡ leb count (length es) =
+    ap (λ (xs : List Expr). fit_places (drop i ps) (map (λ (t : Typed). t.type_of) (typed_all entries xs)))
+    (drop_all i es le)
+    ∙ none_fits ps i ∙ λ k. leb (same k) (end k) in
+    ap (λ (b : Bool). if so_far then b else false) rest ∙ if_and so_far (leb count (length es))
 
 -- ---- rows of values
 

@@ -8,6 +8,7 @@ ghost use Rattle.wh_naming.specs.Changes as naming;
 ghost use Rattle.wh_expr_bind.specs.View.{entries_of, place_of, findings_of};
 ghost use Rattle.wh_dml_bind.specs.View.{places_of};
 
+use crate::findings::mistyped_unless;
 use crate::places::{name_findings, place_in, place_type};
 use crate::rows::changed_from;
 use std::alloc::{AllocError, Global};
@@ -129,7 +130,7 @@ fn set_column(
     let column = name_findings(alloc, &part.column, place, is_again)?;
     let x = typed(alloc, &part.value, entries, false, 0)?;
     let fits = alike(place_type(place), x.type_of);
-    let value = x.findings.followed(Findings::mistyped_if(!fits));
+    let value = mistyped_unless(fits, x.findings);
     Ok(SetColumn {
         place,
         scalar: x.scalar,

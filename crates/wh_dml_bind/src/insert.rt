@@ -7,8 +7,9 @@ ghost use Rattle.wh_core_bind.specs.View.{query_in, output_of, outputs_of};
 ghost use Rattle.wh_dml_bind.specs.View.{target_in, checked_in};
 
 use crate::checked::Checked;
+use crate::findings::mistyped_unless;
 use crate::places::{fit_places, given_columns};
-use crate::rows::row_from;
+use crate::rows::new_row_from;
 use crate::target::{Target, change_alone};
 use crate::values::value_rows;
 use sqlite_items::{Boxed, Items};
@@ -70,7 +71,7 @@ fn insert_query(
 {
     let row = query_row(alloc, target.columns, listed, &query.get().outputs)?;
     let query = query.into_inner();
-    let in_query = query.findings.followed(Findings::mistyped_if(!row.fits));
+    let in_query = mistyped_unless(row.fits, query.findings);
     let findings = target.findings.followed(row.findings.followed(in_query));
     let bound = BoundChange {
         target: target.id,
@@ -110,7 +111,7 @@ fn query_row(
     let outputs = output_scalars(alloc, outputs)?;
     let given = given_columns(alloc, columns, listed)?;
     let fits = fit_places(&given.places, &types);
-    let scalars = row_from(alloc, columns, &given.places, &outputs)?;
+    let scalars = new_row_from(alloc, columns, &given.places, outputs)?;
     Ok(QueryRow {
         scalars,
         findings: given.findings,

@@ -7,6 +7,7 @@ mod binding;
 mod checked;
 mod clauses;
 mod filters;
+mod findings;
 mod insert;
 mod merge;
 mod places;

@@ -3,8 +3,9 @@ ghost use Rattle.wh_value.specs.View.{column_of};
 ghost use Rattle.wh_naming.specs.Changes as naming;
 ghost use Rattle.wh_expr_bind.specs.View.{place_of, type_of_option, findings_of};
 ghost use Rattle.wh_dml_bind.specs.View.{places_of};
+ghost use Rattle.wh_dml_bind.specs.Steps.{fits_at};
 
-use sqlite_items::Items;
+use sqlite_items::{Items, at};
 use std::alloc::{AllocError, Global};
 use wh_expr_bind::{Findings, Place, alike};
 use wh_value::{Column, ColumnType, Text};
@@ -177,6 +178,16 @@ pub(crate) fn fit_places(places: &[Option<Place>], types: &[Option<ColumnType>])
         }
     }
     true
+}
+
+/// Whether a value of that type fits the place at an index among the places, if there is one.
+pub(crate) fn fits_at(places: &[Option<Place>], index: usize, type_of: Option<ColumnType>) -> bool
+    ensures { result ≡ fits_at (places_of places.now) index (type_of_option type_of) }
+{
+    match at(places, index) {
+        Some(place) => alike(place_type(*place), type_of),
+        None => false,
+    }
 }
 
 /// The type of the column at a place.

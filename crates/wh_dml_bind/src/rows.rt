@@ -1,4 +1,4 @@
-ghost use Rattle.std.specs.Prelude.{◌≡◌, map, option_map, unwrap_or, IfOk};
+ghost use Rattle.std.specs.Prelude.{◌≡◌, true, length, map, option_map, unwrap_or, IfOk};
 ghost use Rattle.std.specs.Option.{option_copied};
 ghost use Rattle.wh_value.specs.Value as values;
 ghost use Rattle.wh_value.specs.View.{column_of};
@@ -8,7 +8,7 @@ ghost use Rattle.wh_algebra.specs.View.{scalars_of};
 ghost use Rattle.wh_naming.specs.Changes as naming;
 ghost use Rattle.wh_expr_bind.specs.View.{place_of};
 ghost use Rattle.wh_dml_bind.specs.View.{places_of};
-ghost use Rattle.wh_dml_bind.specs.Steps.{given};
+ghost use Rattle.wh_dml_bind.specs.Steps.{given, are_in_order};
 
 use sqlite_items::at;
 use std::alloc::{AllocError, Global};
@@ -17,8 +17,40 @@ use wh_expr_bind::Place;
 use wh_scalar::Scalar;
 use wh_value::{Column, Value};
 
-/// A new row's columns, NULL where nothing is given.
-pub(crate) fn row_from(
+/// A new row's columns, NULL where nothing is given. Where all of them are given, in their order, the
+/// scalars are moved.
+pub(crate) fn new_row_from(
+    alloc: Global,
+    columns: &[Column],
+    places: &[Option<Place>],
+    scalars: Vec<Scalar>,
+) -> Result<Vec<Scalar>, AllocError>
+    ensures { IfOk result (λ row. scalars_of row.items ≡ naming.row_from 0
+        (map column_of columns.now) (places_of places.now) (scalars_of scalars.items)) }
+{
+    if scalars.len() == columns.len() && are_all_in_order(places, scalars.len()) {
+        return Ok(scalars);
+    }
+    row_from(alloc, columns, places, &scalars)
+}
+
+// Whether that many columns are given, each at its own place.
+fn are_all_in_order(places: &[Option<Place>], count: usize) -> bool
+    ensures in_order { result ≡ true → are_in_order 0 (places_of places.now) ≡ true }
+    ensures count { result ≡ true → length places.now ≡ count }
+{
+    if places.len() != count {
+        return false;
+    }
+    for index in 0..places.len() {
+        if !is_at(index, places[index]) {
+            return false;
+        }
+    }
+    true
+}
+
+fn row_from(
     alloc: Global,
     columns: &[Column],
     places: &[Option<Place>],

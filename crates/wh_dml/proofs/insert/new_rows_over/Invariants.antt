@@ -2,7 +2,7 @@ use Rattle.std.proofs.Common.{◌≡◌, ◌++◌, drop}
 use Rattle.std.specs.Option.{option_map}
 use Rattle.wh_algebra.specs.View.{scalars_of}
 use Rattle.wh_effect.specs.Effect.{rows_over}
-use Rattle.wh_dml.proofs.insert.rows_over.Given as goal
+use Rattle.wh_dml.proofs.insert.new_rows_over.Given as goal
 
 abbrev pub invariant-loop-old : goal.invariant-loop-old
 invariant-loop-old l =

@@ -2,7 +2,7 @@ use Rattle.std.proofs.Common.{◌∙◌, ◌++◌, ap, append-nil, Some, option_
 use Rattle.std.proofs.lemmas.List.{drop_all}
 use Rattle.wh_algebra.specs.View.{scalars_of}
 use Rattle.wh_effect.specs.Effect.{rows_over}
-use Rattle.wh_dml.proofs.insert.rows_over.Goals as goal
+use Rattle.wh_dml.proofs.insert.new_rows_over.Goals as goal
 
 pub returns : goal.returns
 returns c =
