@@ -3,9 +3,8 @@ ghost use Rattle.std.specs.Prelude.{◌≡◌, true, length, nat_eq, Some};
 ghost use Rattle.std.specs.List.{list_all};
 ghost use Rattle.wh_algebra.specs.View.{scalars_of};
 ghost use Rattle.wh_effect.specs.Effect.{rows_over};
-ghost use Rattle.wh_exec.specs.Columns as columns;
-ghost use Rattle.wh_scalar.specs.View.{scalar_of};
 
+use wh_exec::are_columns;
 use wh_scalar::Scalar;
 use wh_value::Row;
 
@@ -14,26 +13,6 @@ pub(crate) fn are_all_columns(parts: &[Scalar], rows: &[Row]) -> bool
     ensures { result ≡ true → rows_over (scalars_of parts.now) rows.now ≡ Some rows.now }
 {
     are_columns(parts) && have_width(rows, parts.len())
-}
-
-fn are_columns(parts: &[Scalar]) -> bool
-    ensures { result ≡ columns.are_columns 0 (scalars_of parts.now) }
-{
-    for place in 0..parts.len() {
-        if !is_column(&parts[place], place) {
-            return false;
-        }
-    }
-    true
-}
-
-fn is_column(part: &Scalar, place: usize) -> bool
-    ensures { result ≡ columns.is_column (scalar_of part.now) place }
-{
-    match part {
-        Scalar::Column(column) => *column as usize == place,
-        _ => false,
-    }
 }
 
 // Whether each row has that many columns.

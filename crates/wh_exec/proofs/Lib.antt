@@ -1,7 +1,7 @@
 mod Turns
 pub mod Added
 pub mod Asked
-mod Columns
+pub mod ColumnLaws
 mod Told
 mod Referred
 mod Sizes

@@ -2,6 +2,7 @@
 #![tactic(auto)]
 
 mod collecting;
+mod columns;
 mod evaluation;
 mod fault;
 mod filter;
@@ -16,6 +17,7 @@ mod scan;
 mod tuples;
 mod union;
 
+pub use columns::are_columns;
 pub use evaluation::evaluate;
 pub use fault::ExecFault;
 pub use instance::{Given, Instance};
