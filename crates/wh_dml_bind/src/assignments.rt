@@ -1,4 +1,4 @@
-ghost use Rattle.std.specs.Prelude.{◌≡◌, ◌<◌, ◌+◌, ◌∷◌, ◌++◌, [], map, length, drop, option_map, IfOk};
+ghost use Rattle.std.specs.Prelude.{◌≡◌, ◌<◌, ◌+◌, ◌∷◌, ◌++◌, [], map, length, drop, option_map, IfOk, OnOk};
 ghost use Rattle.wh_value.specs.View.{column_of};
 ghost use Rattle.wh_scalar.specs.View.{scalar_of};
 ghost use Rattle.wh_algebra.specs.View.{scalars_of};
@@ -8,7 +8,7 @@ ghost use Rattle.wh_naming.specs.Changes as naming;
 ghost use Rattle.wh_expr_bind.specs.View.{entries_of, place_of, findings_of};
 ghost use Rattle.wh_dml_bind.specs.View.{places_of};
 
-use crate::findings::mistyped_unless;
+use crate::findings::{add_findings, mistyped_unless};
 use crate::places::{name_findings, place_in, place_type};
 use crate::rows::changed_from;
 use std::alloc::{AllocError, Global};
@@ -53,20 +53,19 @@ struct SetColumns {
 }
 
 impl SetColumns {
-    // One column more.
-    fn with(self, set: SetColumn) -> Result<SetColumns, AllocError>
-        ensures places { IfOk result (λ s. places_of s.places.items
-            ≡ places_of self.places.items ++ option_map place_of set.place ∷ []) }
-        ensures scalars { IfOk result (λ s. scalars_of s.scalars.items
-            ≡ scalars_of self.scalars.items ++ scalar_of set.scalar ∷ []) }
-        ensures findings { IfOk result (λ s. findings_of s.findings
-            ≡ wrong.followed (findings_of self.findings) (findings_of set.findings)) }
+    // Adds a column.
+    fn add(&mut self, set: SetColumn) -> Result<(), AllocError>
+        ensures places { OnOk result (places_of self.new.places.items
+            ≡ places_of self.old.places.items ++ option_map place_of set.place ∷ []) }
+        ensures scalars { OnOk result (scalars_of self.new.scalars.items
+            ≡ scalars_of self.old.scalars.items ++ scalar_of set.scalar ∷ []) }
+        ensures findings { OnOk result (findings_of self.new.findings
+            ≡ wrong.followed (findings_of self.old.findings) (findings_of set.findings)) }
     {
-        let mut columns = self;
-        columns.findings = columns.findings.followed(set.findings);
-        columns.scalars.push(set.scalar)?;
-        columns.places.push(set.place)?;
-        Ok(columns)
+        add_findings(&mut self.findings, set.findings);
+        self.scalars.push(set.scalar)?;
+        self.places.push(set.place)?;
+        Ok(())
     }
 }
 
@@ -91,7 +90,7 @@ fn set_columns(
     for index in 0..parts.len() {
         let part = &parts[index];
         let set = set_column(alloc, columns, entries, part, parts_behind(parts, index))?;
-        all = all.with(set)?;
+        all.add(set)?;
     }
     Ok(all)
 }

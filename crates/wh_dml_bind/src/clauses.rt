@@ -1,4 +1,4 @@
-ghost use Rattle.std.specs.Prelude.{◌≡◌, ◌∷◌, ◌++◌, [], map, length, IfOk};
+ghost use Rattle.std.specs.Prelude.{◌≡◌, ◌∷◌, ◌++◌, [], map, length, IfOk, OnOk};
 ghost use Rattle.wh_value.specs.View.{column_of};
 ghost use Rattle.wh_naming.specs.Findings as wrong;
 ghost use Rattle.wh_naming.specs.Select as select;
@@ -9,6 +9,7 @@ ghost use Rattle.wh_dml_bind.specs.Steps.{first_of, second_of};
 
 use crate::assignments::changed_row;
 use crate::filters::condition_of;
+use crate::findings::add_findings;
 use crate::values::listed_row;
 use sqlite_items::Items;
 use std::alloc::{AllocError, Global};
@@ -25,17 +26,16 @@ pub(crate) struct Clauses {
 }
 
 impl Clauses {
-    // One clause more.
-    fn with(self, one: Clause) -> Result<Clauses, AllocError>
-        ensures clauses { IfOk result (λ c. clauses_of c.clauses.items
-            ≡ clauses_of self.clauses.items ++ clause_of one.clause ∷ []) }
-        ensures findings { IfOk result (λ c. findings_of c.findings
-            ≡ wrong.followed (findings_of self.findings) (findings_of one.findings)) }
+    // Adds a clause.
+    fn add(&mut self, one: Clause) -> Result<(), AllocError>
+        ensures clauses { OnOk result (clauses_of self.new.clauses.items
+            ≡ clauses_of self.old.clauses.items ++ clause_of one.clause ∷ []) }
+        ensures findings { OnOk result (findings_of self.new.findings
+            ≡ wrong.followed (findings_of self.old.findings) (findings_of one.findings)) }
     {
-        let mut clauses = self;
-        clauses.findings = clauses.findings.followed(one.findings);
-        clauses.clauses.push(one.clause)?;
-        Ok(clauses)
+        add_findings(&mut self.findings, one.findings);
+        self.clauses.push(one.clause)?;
+        Ok(())
     }
 }
 
@@ -60,7 +60,7 @@ pub(crate) fn bound_clauses(
     };
     for clause in clauses {
         let one = bound_clause(alloc, columns, both, clause)?;
-        bound = bound.with(one)?;
+        bound.add(one)?;
     }
     Ok(bound)
 }

@@ -20,7 +20,7 @@ loop-index-preserved c =
     let here = c.loop-index-test.true in
     let before = c.loop-index.invariant in
     let set = c.in_ok-set.ensures in
-    let all = c.in_ok-all.ensures in
+    let all = c.in_ok-add.ensures in
     record {
       places = all.places ∙ (λ k. before.places k ++ set.place k ∷ [])
           ∙ sym (map_turn (λ (p : Assignment). place_in columns p.column) parts i part here c.index-parts-index.is);

@@ -19,7 +19,7 @@ loop-clause-preserved c =
     let here = c.loop-clause-test.true in
     let before = c.loop-clause.invariant in
     let one = c.in_ok-one.ensures in
-    let bound = c.in_ok-bound.ensures in
+    let bound = c.in_ok-add.ensures in
     record {
       clauses = bound.clauses ∙ (λ k. before.clauses k ++ one.clause k ∷ [])
           ∙ sym (map_turn (bound_clause columns target source) clauses i clause here c.clause-item.is);
