@@ -18,7 +18,8 @@ use wh_expr_bind::{Entry, Findings, Place, Typed, typed};
 use wh_scalar::Scalar;
 use wh_value::{Column, Text};
 
-/// Values, whether they are one for each place, of its column's type, and what is found wrong in them.
+/// Values, whether they are one for each place, each of its column's type, and what is found wrong
+/// in them.
 #[derive(Drop)]
 struct Values {
     scalars: Vec<Scalar>,
