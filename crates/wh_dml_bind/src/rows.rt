@@ -17,8 +17,8 @@ use wh_expr_bind::Place;
 use wh_scalar::Scalar;
 use wh_value::{Column, Value};
 
-/// A new row's columns, NULL where nothing is given. Where all of them are given, in their order, the
-/// scalars are moved.
+/// A new row's columns, NULL where nothing is given. Where all of them are given in their order,
+/// the scalars are moved.
 pub(crate) fn new_row_from(
     alloc: Global,
     columns: &[Column],

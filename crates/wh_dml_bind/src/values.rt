@@ -1,4 +1,5 @@
-ghost use Rattle.std.specs.Prelude.{◌≡◌, map, IfOk};
+ghost use Rattle.std.specs.Prelude.{◌≡◌, ◌∷◌, ◌++◌, ◌&&◌, [], map, IfOk, OnOk};
+ghost use Rattle.wh_scalar.specs.View.{scalar_of};
 ghost use Rattle.wh_value.specs.View.{column_of};
 ghost use Rattle.wh_algebra.specs.View.{scalars_of};
 ghost use Rattle.wh_naming.specs.Findings as wrong;
@@ -13,16 +14,33 @@ use crate::rows::new_row_from;
 use sqlite_items::Items;
 use std::alloc::{AllocError, Global};
 use wh_ast::Expr;
-use wh_expr_bind::{Entry, Findings, Place, typed};
+use wh_expr_bind::{Entry, Findings, Place, Typed, typed};
 use wh_scalar::Scalar;
 use wh_value::{Column, Text};
 
-/// Values, whether they are one for each place, of its column's type, and what is found wrong in them.
+/// Values, whether they are one for each place, each of its column's type, and what is found wrong
+/// in them.
 #[derive(Drop)]
 struct Values {
     scalars: Vec<Scalar>,
     fits: bool,
     findings: Findings,
+}
+
+impl Values {
+    // Adds a value.
+    fn add(&mut self, fits: bool, x: Typed) -> Result<(), AllocError>
+        ensures scalars { OnOk result (scalars_of self.new.scalars.items
+            ≡ scalars_of self.old.scalars.items ++ scalar_of x.scalar ∷ []) }
+        ensures fits { OnOk result (self.new.fits ≡ (self.old.fits && fits)) }
+        ensures findings { OnOk result (findings_of self.new.findings
+            ≡ wrong.followed (findings_of self.old.findings) (findings_of x.findings)) }
+    {
+        self.fits &= fits;
+        add_findings(&mut self.findings, x.findings);
+        self.scalars.push(x.scalar)?;
+        Ok(())
+    }
 }
 
 fn typed_all(
@@ -38,20 +56,17 @@ fn typed_all(
     ensures findings { IfOk result (λ v. findings_of v.findings
         ≡ naming.all_findings (naming.typed_all (entries_of entries.now) values.now)) }
 {
-    let mut scalars = Vec::with_capacity(alloc, values.len())?;
-    let mut fits = true;
-    let mut findings = Findings::nothing();
+    let mut all = Values {
+        scalars: Vec::with_capacity(alloc, values.len())?,
+        fits: true,
+        findings: Findings::nothing(),
+    };
     for index in 0..values.len() {
         let x = typed(alloc, &values[index], entries, false, 0)?;
-        fits &= fits_at(places, index, x.type_of);
-        add_findings(&mut findings, x.findings);
-        scalars.push(x.scalar)?;
+        all.add(fits_at(places, index, x.type_of), x)?;
     }
-    Ok(Values {
-        scalars,
-        fits: fits & (places.len() <= values.len()),
-        findings,
-    })
+    all.fits &= places.len() <= values.len();
+    Ok(all)
 }
 
 /// A row of values with a scalar for each column of the target, and what is found wrong in it.
@@ -110,6 +125,20 @@ pub(crate) struct NewRows {
     pub findings: Findings,
 }
 
+impl NewRows {
+    // Adds a row.
+    fn add(&mut self, row: NewRow) -> Result<(), AllocError>
+        ensures rows { OnOk result (rows_of self.new.rows.items
+            ≡ rows_of self.old.rows.items ++ scalars_of row.scalars.items ∷ []) }
+        ensures findings { OnOk result (findings_of self.new.findings
+            ≡ wrong.followed (findings_of self.old.findings) (findings_of row.findings)) }
+    {
+        add_findings(&mut self.findings, row.findings);
+        self.rows.push(row.scalars)?;
+        Ok(())
+    }
+}
+
 pub(crate) fn value_rows(
     alloc: Global,
     columns: &[Column],
@@ -121,12 +150,13 @@ pub(crate) fn value_rows(
     ensures findings { IfOk result (λ r. findings_of r.findings ≡ naming.row_findings
         (naming.value_rows (map column_of columns.now) (places_of places.now) found.now)) }
 {
-    let mut rows = Vec::with_capacity(alloc, found.len())?;
-    let mut findings = Findings::nothing();
+    let mut rows = NewRows {
+        rows: Vec::with_capacity(alloc, found.len())?,
+        findings: Findings::nothing(),
+    };
     for values in found {
         let row = new_row(alloc, columns, places, &[], values.as_slice())?;
-        add_findings(&mut findings, row.findings);
-        rows.push(row.scalars)?;
+        rows.add(row)?;
     }
-    Ok(NewRows { rows, findings })
+    Ok(rows)
 }

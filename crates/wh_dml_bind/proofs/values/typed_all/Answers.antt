@@ -1,8 +1,6 @@
 use Rattle.std.proofs.Common.{◌∙◌, sym, ap, [], ◌∷◌, ◌++◌, Bool, false, map, drop, length, option_map, ◌+◌}
 use Rattle.std.specs.Prelude.{◌&&◌, if◌then◌else◌}
-use Rattle.std.proofs.lemmas.List.{map-append, length-map}
-use Rattle.wh_scalar.specs.View.{scalar_of}
-use Rattle.wh_algebra.specs.View.{scalars_of}
+use Rattle.std.proofs.lemmas.List.{length-map}
 use Rattle.wh_naming.specs.Findings.{followed}
 use Rattle.wh_naming.specs.Typing.{Typed}
 use Rattle.wh_naming.specs.Changes.{typed_all, fit_places}
@@ -23,16 +21,16 @@ loop-index-preserved c =
     let is = c.index-values-index.is in
     let before = c.loop-index.invariant in
     let x = c.in_ok-x.ensures in
+    let all = c.in_ok-add.ensures in
     record {
-      scalars = ap scalars_of c.in_ok-push.ensures.items
-          ∙ map-append scalar_of c.loop-index.scalars.items (c.in_ok-x.x.scalar ∷ [])
-          ∙ (λ k. before.scalars k ++ (x k).scalar ∷ [])
+      scalars = all.scalars ∙ (λ k. before.scalars k ++ (x k).scalar ∷ [])
           ∙ sym (values_turn (λ (t : Typed). t.scalar) entries values i value here is);
-      fits = before.fits ∙ fits_turn places entries values i value c.loop-index.fits here is
-          ∙ sym (ap (λ (b : Bool). if c.loop-index.fits && b then fit_places (drop (i + 1) places)
+      fits = before.fits ∙ fits_turn places entries values i value c.loop-index.all.fits here is
+          ∙ sym (ap (λ (b : Bool). if b then fit_places (drop (i + 1) places)
           (map (λ (t : Typed). t.type_of) (typed_all entries (drop (i + 1) values))) else false)
-          (c.fits_at-fits.ensures ∙ λ k. fits_at places i (x k).type_of));
-      findings = c.add_findings.ensures ∙ (λ k. followed (before.findings k) (x k).findings)
+          (all.fits ∙ ap (λ (b : Bool). c.loop-index.all.fits && b)
+          (c.fits_at.ensures ∙ λ k. fits_at places i (x k).type_of)));
+      findings = all.findings ∙ (λ k. followed (before.findings k) (x k).findings)
           ∙ sym (all_turn entries values i value here is);
     }
 
@@ -41,5 +39,5 @@ returns-clause-fits c =
     let places = c.args.places.now in
     sym (c.loop-index.invariant.fits
     ∙ fits_all (places_of places) (entries_of c.args.entries.now) c.args.values.now c.loop-index.index (length places)
-    c.loop-index.fits c.loop-index-test.false c.loop-index.auto.index-end
+    c.loop-index.all.fits c.loop-index-test.false c.loop-index.auto.index-end
     (length-map places (option_map place_of)))

@@ -8,10 +8,10 @@ use Rattle.wh_dml_bind.proofs.values.typed_all.Given as goal
 
 abbrev pub invariant-loop-index : goal.invariant-loop-index
 invariant-loop-index l = record {
-  scalars : scalars_of l.scalars.items
+  scalars : scalars_of l.all.scalars.items
       ≡ map (λ x. x.scalar) (typed_all (entries_of l.entries) (take l.index l.values));
   fits : fit_places (places_of l.places) (map (λ x. x.type_of) (typed_all (entries_of l.entries) l.values))
-      ≡ (if l.fits then fit_places (drop l.index (places_of l.places))
+      ≡ (if l.all.fits then fit_places (drop l.index (places_of l.places))
       (map (λ x. x.type_of) (typed_all (entries_of l.entries) (drop l.index l.values))) else false);
-  findings : findings_of l.findings ≡ all_findings (typed_all (entries_of l.entries) (take l.index l.values));
+  findings : findings_of l.all.findings ≡ all_findings (typed_all (entries_of l.entries) (take l.index l.values));
 }

@@ -8,8 +8,8 @@ use Rattle.wh_dml_bind.proofs.values.value_rows.Given as goal
 
 abbrev pub invariant-loop-values : goal.invariant-loop-values
 invariant-loop-values l = record {
-  rows : rows_of l.rows.items ≡ map (λ row. row.scalars)
+  rows : rows_of l.rows.rows.items ≡ map (λ row. row.scalars)
       (value_rows (map column_of l.columns) (places_of l.places) (take l.values-index l.found));
-  findings : findings_of l.findings
+  findings : findings_of l.rows.findings
       ≡ row_findings (value_rows (map column_of l.columns) (places_of l.places) (take l.values-index l.found));
 }
