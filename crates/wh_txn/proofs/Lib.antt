@@ -3,3 +3,4 @@ pub mod TableLemmas
 pub mod SeenLemmas
 pub mod RecordLemmas
 pub mod CommitLemmas
+mod NumberMaps

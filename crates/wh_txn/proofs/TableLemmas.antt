@@ -14,7 +14,7 @@ use Rattle.std.specs.BTreeMap.{is_at}
 use Rattle.std.specs.Map.{lookup, set_value, keys_of}
 use Rattle.std.specs.List.Sorted.{IsStrictlySortedBy}
 use Rattle.std.specs.FinMap.{FinMap, get, insert, entries, from_entries}
-use Rattle.wh_version.proofs.NumberMaps.{gotten, map_after, entries_in_order}
+use Rattle.wh_txn.proofs.NumberMaps.{gotten, map_after, entries_in_order}
 use Rattle.wh_effect.specs.Effect.{Effect}
 use Rattle.wh_machine.specs.Edits.{Edits, edits_of}
 use Rattle.wh_machine.specs.Changes.{counted}
