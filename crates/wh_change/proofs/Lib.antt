@@ -4,3 +4,4 @@ pub mod NetParts
 pub mod Versions
 pub mod SeenRows
 pub mod Walking
+pub mod Behind

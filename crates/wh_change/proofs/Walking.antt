@@ -1,6 +1,6 @@
 -- A walk over versions with the partitions that came so far.
 --     Walked        what is known in front of a version: the records so far, and which numbers were seen
---     walk_begins, walked_on, walk_ends
+--     walk_begins, walked_past, walked_on, walk_ends
 use Rattle.std.proofs.Common.{◌≡◌, ℕ, zero, suc, inl, inr, cond, Bool, true, false, List, [], ◌∷◌, ◌++◌}
 use Rattle.std.proofs.Common.{map, take, drop, filter, Option, Some, None, refl, sym, ap, ◌∙◌, append_assoc}
 use Rattle.std.proofs.lemmas.List.{append-nil}
@@ -149,6 +149,34 @@ walk_ends from to vs place records seen walked none =
     sym (append-nil records)
     ∙ ap (λ l. records ++ appended_from walked.earlier from to (map version_meant l)) (sym none) ∙ walked.so_far
 
+-- with the next version, whose new rows are told, and what was seen with it
+pub walked_past : (from to : ℕ) (vs : List StoredVersion) (place : ℕ) (records now : List Record)
+    (seen more : List Partition) (walked : Walked from to vs place records seen)
+    (version : StoredVersion) (rest : List StoredVersion) → drop place vs ≡ version ∷ rest
+    → HasAll (rows_of version.content ∷ walked.earlier) more
+    → now ≡ records ++ (if is_between from to version.stamp
+    then map (λ (e : ℕ × Row). inserted e.0 false e.1) (first_here walked.earlier (rows_of version.content)) else [])
+    → Walked from to vs (suc place) now more
+walked_past from to vs place records now seen more walked version rest first same is_now = record {
+  earlier = rows ∷ walked.earlier;
+  so_far = ap (λ l. now ++ appended_from (rows ∷ walked.earlier) from to (map version_meant l))
+      (next_dropped place vs version rest first) ∙ ap (λ l. l ++ later) is_now ∙ append_assoc records _ later
+      ∙ ap (λ l. records ++ appended_from walked.earlier from to (map version_meant l)) (sym first)
+      ∙ walked.so_far;
+  same = same;
+  last = λ n there. ap (λ b. b || is_in_one n walked.earlier) (sym (ap (λ ps. is_some (get (rows_of ps) n)) stands) ∙ there);
+}
+  where
+    rows : Rows
+    rows = rows_of version.content
+
+    later : List Record
+    later = appended_from (rows ∷ walked.earlier) from to (map version_meant rest)
+
+    stands : standing_in (take (suc place) vs) ≡ version.content
+    stands = ap standing_in (next_taken place vs version rest first)
+        ∙ ap (content_in []) (last_of-push (take place vs) version)
+
 same_records : (earlier : List Rows) (seen : List Partition) → HasAll earlier seen → (es : List (ℕ × Row))
     → map (λ (e : ℕ × Row). inserted e.0 false e.1) (filter (λ e. is_new earlier e.0) es) ≡ appeared seen es
 same_records earlier seen same es =
@@ -160,17 +188,11 @@ pub walked_on : (from to stamp : ℕ) (vs : List StoredVersion) (place : ℕ) (r
     → Walked from to vs place records seen → AreArrivals stamp (all_rows came) (take place vs) (drop place vs)
     → now ≡ records ++ (if is_between from to stamp then appeared seen (all_rows came) else [])
     → Walked from to vs (suc place) now (seen ++ came)
-walked_on from to stamp vs place records now seen came walked arrival is_now = record {
-  earlier = rows ∷ walked.earlier;
-  so_far = ap (λ l. now ++ appended_from (rows ∷ walked.earlier) from to (map version_meant l))
-      (next_dropped place vs arrival.version arrival.rest arrival.first) ∙ ap (λ l. l ++ later) is_now
-      ∙ append_assoc records _ later ∙ ap (λ l. records ++ (l ++ later)) (sym added)
-      ∙ ap (λ l. records ++ appended_from walked.earlier from to (map version_meant l)) (sym arrival.first)
-      ∙ walked.so_far;
-  same = same_more walked.earlier old rows changes.gone changes.arrived changes.each walked.last seen came walked.same
-      changes.by_came;
-  last = λ n there. ap (λ b. b || is_in_one n walked.earlier) (sym (ap (λ ps. is_some (get (rows_of ps) n)) stands) ∙ there);
-}
+walked_on from to stamp vs place records now seen came walked arrival is_now =
+    walked_past from to vs place records now seen (seen ++ came) walked arrival.version arrival.rest arrival.first
+    (same_more walked.earlier old rows changes.gone changes.arrived changes.each walked.last seen came walked.same
+    changes.by_came)
+    (is_now ∙ ap (λ l. records ++ l) (sym added))
   where
     rows : Rows
     rows = rows_of arrival.version.content
@@ -180,13 +202,6 @@ walked_on from to stamp vs place records now seen came walked arrival is_now = r
 
     changes : AreChanges arrival.went (all_rows came) old rows
     changes = arrival.changes
-
-    later : List Record
-    later = appended_from (rows ∷ walked.earlier) from to (map version_meant arrival.rest)
-
-    stands : standing_in (take (suc place) vs) ≡ arrival.version.content
-    stands = ap standing_in (next_taken place vs arrival.version arrival.rest arrival.first)
-        ∙ ap (content_in []) (last_of-push (take place vs) arrival.version)
 
     new_records : map (λ (e : ℕ × Row). inserted e.0 false e.1) (first_here walked.earlier rows)
         ≡ appeared seen (all_rows came)

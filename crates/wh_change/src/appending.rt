@@ -16,7 +16,8 @@ use wh_table::StoredTable;
 use wh_version::Arrivals;
 
 /// The rows that first stand in versions behind a stamp and up to another, as they first stood,
-/// version by version. Of a version only the rows of those partitions are looked at that came with it.
+/// version by version. Of a version only the rows of those partitions are looked at that came with it, and
+/// of the versions in front of the range none.
 pub fn appends<'a>(
     alloc: Global,
     table: &'a StoredTable,
@@ -26,10 +27,11 @@ pub fn appends<'a>(
     ensures { IfOk result (λ records. records_of records.items
         ≡ appended (table_meant (table_of table.now)).versions from to) }
 {
+    let front = table.front(alloc, from)?;
     let mut records = Vec::new(alloc);
-    let mut seen = Seen::none(alloc);
+    let mut seen = Seen::of(front.came);
     let count = table.version_count();
-    for place in 0..count {
+    for place in front.count..count {
         let arrivals = table.arrivals(alloc, place)?;
         add_appended(&mut records, &seen, &arrivals, from, to)?;
         see(&mut seen, &arrivals.came)?;

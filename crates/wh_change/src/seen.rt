@@ -2,7 +2,7 @@
 ghost use Rattle.wh_table.specs.Rows.{partitions_at};
 ghost use Rattle.wh_change.specs.Seen.{IsBound};
 
-use std::alloc::{AllocError, Global};
+use std::alloc::AllocError;
 use wh_part::{NumberedRow, Partition};
 
 /// Partitions in the order in which they came.
@@ -19,12 +19,13 @@ impl<'a> Seen<'a> {
     ghost use Rattle.wh_table.specs.Rows.{partitions_at};
     ghost use Rattle.wh_change.specs.Seen.{is_seen};
 
-    pub(crate) fn none(alloc: Global) -> Seen<'a>
-        ensures { partitions_at result.partitions.items ≡ [] }
+    pub(crate) fn of(partitions: Vec<&'a Partition>) -> Seen<'a>
+        ensures { result.partitions.items ≡ partitions.entry.items }
     {
+        let highest = highest_of(&partitions);
         Seen {
-            partitions: Vec::new(alloc),
-            highest: 0,
+            partitions,
+            highest,
         }
     }
 
@@ -60,6 +61,17 @@ ghost use Rattle.wh_frame.specs.Spelling.{RisesFrom};
 ghost use Rattle.wh_part.specs.View.{numbered_of};
 ghost use Rattle.wh_change.specs.Rows.{IsPlaceOf};
 ghost use Rattle.wh_change.specs.Seen.{has_number, is_seen};
+
+// The highest of their last numbers.
+fn highest_of(partitions: &[&Partition]) -> u64
+    ensures { IsBound result (partitions_at partitions.now) }
+{
+    let mut highest = 0;
+    for partition in partitions {
+        highest = highest.max(bound_of(partition));
+    }
+    highest
+}
 
 // Its last number.
 fn bound_of(partition: &Partition) -> u64

@@ -1,4 +1,5 @@
 -- The rows of partitions that went and came are what changed between two versions' rows.
+--     held, get_rows              the row that stands at a number
 --     mixed_each, mixed_apart     what holds of mixed partitions holds of each of the two lists
 --     found_rising, found_apart   what always holds of a table's versions holds of the one that is found
 --     are_changes                 the rows of those that went and came
@@ -31,7 +32,7 @@ use Rattle.wh_table.proofs.Rising.{all_rising, last_rising, each_filter}
 
 -- ---- the row that stands at a number
 
-abbrev held : ℕ → List (ℕ × Row) → Option Row → Option Row
+abbrev pub held : ℕ → List (ℕ × Row) → Option Row → Option Row
 held n [] found = found
 held n (e ∷ es) found = held n es (cond (eq_by_cmp nat_cmp n e.0) (Some e.1) found)
 
@@ -39,7 +40,7 @@ get_held : (m : Rows) (es : List (ℕ × Row)) (n : ℕ) → get (with_entries m
 get_held m [] n = refl
 get_held m (e ∷ es) n = get_held (insert m e.0 e.1) es n ∙ ap (held n es) (put_get m e.0 e.1 n)
 
-get_rows : (ps : List Partition) (n : ℕ) → get (rows_of ps) n ≡ held n (all_rows ps) None
+pub get_rows : (ps : List Partition) (n : ℕ) → get (rows_of ps) n ≡ held n (all_rows ps) None
 get_rows ps n = get_held empty (all_rows ps) n ∙ ap (held n (all_rows ps)) (get-empty nat_cmp n)
 
 held_append : (n : ℕ) (es fs : List (ℕ × Row)) (found : Option Row)

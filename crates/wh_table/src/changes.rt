@@ -1,12 +1,13 @@
 use crate::StoredTable;
 use crate::by_number::by_rows;
 use std::alloc::{AllocError, Global};
-use wh_version::{Arrivals, Turnover};
+use wh_version::{Arrivals, Front, Turnover};
 
 impl StoredTable {
     ghost use Rattle.std.specs.Prelude.{◌≡◌, ◌<◌, ◌≤◌, [], length, take, drop, IfOk};
     ghost use Rattle.wh_machine.specs.State.{content_in};
     ghost use Rattle.wh_machine.specs.Stored.{rows_of};
+    ghost use Rattle.wh_version.specs.Arrivals.{IsFront};
     ghost use Rattle.wh_version.specs.Times.{data_at};
     ghost use Rattle.wh_table.specs.Changes.{AreChanges, AreArrivals};
     ghost use Rattle.wh_table.specs.Rows.{all_rows, partitions_at};
@@ -47,5 +48,13 @@ impl StoredTable {
             stamp: arrivals.stamp,
             came,
         })
+    }
+
+    /// The versions at the front that were pushed by a stamp, and what came with them.
+    pub fn front(&self, alloc: Global, stamp: u64) -> Result<Front<'_>, AllocError>
+        ensures { IfOk result (λ front. IsFront stamp front.count
+            (partitions_at front.came.items) (table_of self.now).versions) }
+    {
+        self.history.front(alloc, stamp)
     }
 }

@@ -1,23 +1,36 @@
 -- What came with each version, by the marks.
 --     count_versions     there are as many versions as marks
+--     within_marks       a version's place is one among the marks
 --     before_grows       each mark counts the partitions that there were before
 --     arrived            what came with a version
+--     FrontUpTo          what is known of the versions at the front, up to a place
+--     front_begins, front_longer, front_ends, front_whole
 use Rattle.std.proofs.Common.{◌≡◌, ℕ, zero, suc, ◌+◌, ◌-◌, ◌<◌, ◌≤◌}
 use Rattle.std.proofs.Common.{List, [], ◌∷◌, ◌++◌, length, take, drop, get_or, Some}
-use Rattle.std.proofs.Common.{IsTrue, refl, ap, ◌∙◌, arith}
+use Rattle.std.proofs.Common.{Bool, false, IsTrue, refl, sym, ap, subst, ◌∙◌, arith}
+use Rattle.std.proofs.lemmas.Bool.{le-leb}
+use Rattle.std.proofs.lemmas.Bool.Decides.{nat_tests}
+use Rattle.std.proofs.lemmas.List.{drop_all}
+use Rattle.std.specs.Prelude.{nat_le, if◌then◌else◌}
 use Rattle.wh_frame.specs.Partition.{Partition}
 use Rattle.wh_machine.specs.State.{last_of, content_in}
+use Rattle.wh_machine.specs.Stored.{StoredVersion}
+use Rattle.wh_version.specs.declared.history.History.{History}
 use Rattle.wh_version.specs.declared.kept.Kept.{Kept}
 use Rattle.wh_version.specs.declared.mark.VersionMark.{VersionMark}
 use Rattle.wh_version.specs.Kept.{standing_at, gone_between, version_by, versions_by, count_to}
-use Rattle.wh_version.specs.Arrivals.{IsArrival, partitions_before}
-use Rattle.wh_version.specs.History.{standing_in}
-use Rattle.wh_version.proofs.TurnoverLaws.{counts_rise, turned_over}
+use Rattle.wh_version.specs.Arrivals.{IsArrival, HaveArrived, IsFront, count_by, partitions_before}
+use Rattle.wh_version.specs.History.{versions_of, marks_of, standing_in}
+use Rattle.wh_version.proofs.TurnoverLaws.{counts_rise, standing_between, turned_over}
 
 pub count_versions : (kept : List Kept) (first : ℕ) (marks : List VersionMark)
     → length (versions_by kept first marks) ≡ length marks
 count_versions kept first [] = refl
 count_versions kept first (m ∷ marks) = ap suc (count_versions kept (first + 1) marks)
+
+pub within_marks : (h : History) (place : ℕ) → place < length (versions_of h) → place < length (marks_of h)
+unfolding versions_of
+within_marks h place within = subst (λ n. place < n) (count_versions h.kept.items 0 (marks_of h)) within
 
 version_there : (kept : List Kept) (first : ℕ) (marks : List VersionMark) (place : ℕ) (d : VersionMark)
     → place < length marks
@@ -86,3 +99,80 @@ arrived kept marks d place came within is_came =
           is_came (stood kept marks d place within)
           (ap (λ n. standing_at n (take (get_or marks place d).partitions kept)) (omega arith));
     }
+
+-- ---- the versions at the front
+
+pub record FrontUpTo (stamp : ℕ) (kept : List Kept) (marks : List VersionMark) (d : VersionMark) (place before : ℕ)
+    (came : List Partition) : Type 0 where
+  pub counted : place + count_by stamp (drop place (versions_by kept 0 marks)) ≡ count_by stamp (versions_by kept 0 marks)
+  pub before_is : before ≡ partitions_before marks d place
+  pub arrived : HaveArrived place came (versions_by kept 0 marks)
+
+pub front_begins : (stamp : ℕ) (kept : List Kept) (marks : List VersionMark) (d : VersionMark) (came : List Partition)
+    → came ≡ [] → FrontUpTo stamp kept marks d 0 0 came
+front_begins stamp kept marks d came none = record {
+  counted = omega arith;
+  before_is = refl;
+  arrived = none;
+}
+
+pub front_longer : (stamp : ℕ) (kept : List Kept) (marks : List VersionMark) (d : VersionMark) (place before : ℕ)
+    (came next : List Partition) → place < length marks → before ≤ (get_or marks place d).partitions
+    → (get_or marks place d).stamp ≤ stamp
+    → next ≡ standing_at place (take ((get_or marks place d).partitions - before) (drop before kept))
+    → FrontUpTo stamp kept marks d place before came
+    → FrontUpTo stamp kept marks d (suc place) (get_or marks place d).partitions (came ++ next)
+front_longer stamp kept marks d place before came next within grows early is_next known = record {
+  counted = one_more ∙ known.counted;
+  before_is = refl;
+  arrived = (came, next, (get_or marks place d).stamp, refl, known.arrived, arrived kept marks d place next within joined);
+}
+  where
+    versions : List StoredVersion
+    versions = versions_by kept 0 marks
+
+    joined : standing_at place (take (partitions_before marks d place) kept) ++ next
+        ≡ standing_at place (take (get_or marks place d).partitions kept)
+    joined = (λ i. standing_at place (take (sym known.before_is i) kept) ++ is_next i)
+        ∙ standing_between kept place before (get_or marks place d).partitions grows
+
+    counted_on : (vs : List StoredVersion) (v : StoredVersion) (rest : List StoredVersion) → vs ≡ v ∷ rest
+        → v.stamp ≤ stamp → count_by stamp vs ≡ suc (count_by stamp rest)
+    counted_on vs v rest is low = ap (count_by stamp) is
+        ∙ ap (λ (b : Bool). if b then suc (count_by stamp rest) else 0) (le-leb v.stamp stamp low)
+
+    one_more : suc place + count_by stamp (drop (suc place) versions) ≡ place + count_by stamp (drop place versions)
+    one_more = omega (
+      arith,
+      counted_on (drop place versions) (version_by kept (0 + place) (get_or marks place d))
+          (drop (suc place) versions) (version_there kept 0 marks place d within) early,
+    )
+
+-- at a version that is later
+pub front_ends : (stamp : ℕ) (kept : List Kept) (marks : List VersionMark) (d : VersionMark) (place before : ℕ)
+    (came : List Partition) → place < length marks → stamp < (get_or marks place d).stamp
+    → FrontUpTo stamp kept marks d place before came → IsFront stamp place came (versions_by kept 0 marks)
+front_ends stamp kept marks d place before came within late known = record {
+  counted = omega (arith, known.counted, none);
+  arrived = known.arrived;
+}
+  where
+    none : count_by stamp (drop place (versions_by kept 0 marks)) ≡ 0
+    none = ap (count_by stamp) (version_there kept 0 marks place d within)
+        ∙ ap (λ (b : Bool). if b then suc (count_by stamp (drop (suc place) (versions_by kept 0 marks))) else 0) later
+      where
+        later : nat_le (get_or marks place d).stamp stamp ≡ false
+        later = grind (arith, nat_tests)
+
+-- behind the last version
+pub front_whole : (stamp : ℕ) (kept : List Kept) (marks : List VersionMark) (d : VersionMark) (place before : ℕ)
+    (came : List Partition) → length marks ≤ place → place ≤ length marks
+    → FrontUpTo stamp kept marks d place before came → IsFront stamp place came (versions_by kept 0 marks)
+front_whole stamp kept marks d place before came behind within known = record {
+  counted = omega (arith, known.counted, none);
+  arrived = known.arrived;
+}
+  where
+    none : count_by stamp (drop place (versions_by kept 0 marks)) ≡ 0
+    none = ap (count_by stamp) (drop_all place (versions_by kept 0 marks)
+        (omega (arith, count_versions kept 0 marks)))

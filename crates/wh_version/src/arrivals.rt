@@ -1,6 +1,5 @@
 use crate::History;
-use crate::mark::mark_at;
-use crate::turnover::{Reach, standing_behind};
+use crate::turnover::{Reach, add_standing_behind, standing_behind};
 use std::alloc::{AllocError, Global};
 use wh_part::Partition;
 
@@ -11,9 +10,17 @@ pub struct Arrivals<'a> {
     pub came: Vec<&'a Partition>,
 }
 
+/// How many versions at the front of a table's were pushed by a stamp, and the partitions that came
+/// with them, version by version.
+#[derive(Debug, Drop)]
+pub struct Front<'a> {
+    pub count: usize,
+    pub came: Vec<&'a Partition>,
+}
+
 impl History {
     ghost use Rattle.std.specs.Prelude.{◌≡◌, ◌<◌, ◌∷◌, zero, suc, length, take, drop, slice_index_or as get_or, IfOk};
-    ghost use Rattle.wh_version.specs.Arrivals.{IsArrival, partitions_before};
+    ghost use Rattle.wh_version.specs.Arrivals.{IsArrival, IsFront, partitions_before};
     ghost use Rattle.wh_version.specs.Edits.{partitions_at};
     ghost use Rattle.wh_version.specs.History.{versions_of, marks_of};
 
@@ -30,7 +37,7 @@ impl History {
         ensures { IfOk result (λ found. IsArrival found.stamp (partitions_at found.came.items)
             (take place (versions_of self.now)) (drop place (versions_of self.now))) }
     {
-        let mark = mark_at(self.first, &self.later, place);
+        let mark = self.mark(place);
         let reach = Reach {
             place,
             partitions: mark.partitions,
@@ -42,6 +49,29 @@ impl History {
         })
     }
 
+    /// The versions at the front that were pushed by a stamp, and what came with them.
+    pub fn front(&self, alloc: Global, stamp: u64) -> Result<Front<'_>, AllocError>
+        ensures { IfOk result (λ front. IsFront stamp front.count
+            (partitions_at front.came.items) (versions_of self.now)) }
+    {
+        let mut came = Vec::new(alloc);
+        let mut before = 0;
+        let count = self.count();
+        for place in 0..count {
+            let mark = self.mark(place);
+            if stamp < mark.stamp {
+                return Ok(Front { count: place, came });
+            }
+            let reach = Reach {
+                place,
+                partitions: mark.partitions,
+            };
+            add_standing_behind(&mut came, &self.kept, before, reach)?;
+            before = mark.partitions;
+        }
+        Ok(Front { count, came })
+    }
+
     // How many partitions there were before the version at a place.
     fn partitions_before(&self, place: usize) -> usize
         requires { place < length (marks_of self.now) }
@@ -50,6 +80,6 @@ impl History {
         if place == 0 {
             return 0;
         }
-        mark_at(self.first, &self.later, place - 1).partitions
+        self.mark(place - 1).partitions
     }
 }

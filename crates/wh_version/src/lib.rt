@@ -21,7 +21,7 @@ mod touching;
 mod turnover;
 mod version;
 
-pub use arrivals::Arrivals;
+pub use arrivals::{Arrivals, Front};
 pub use edits::Edits;
 pub use history::History;
 pub use kept::Kept;

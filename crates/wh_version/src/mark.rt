@@ -1,5 +1,7 @@
 ghost use Rattle.std.specs.Prelude.{◌≡◌, ◌<◌, ◌∷◌, length, slice_index_or as get_or};
 
+use crate::History;
+
 /// A version of a table: when it was pushed, whose data it shows, and how many partitions there
 /// were by then.
 #[derive(Clone, Copy, Debug, PartialEq, Eq)]
@@ -20,13 +22,17 @@ pub(crate) fn last_mark(first: VersionMark, later: &[VersionMark]) -> VersionMar
     later[count - 1]
 }
 
-/// The mark at a place.
-pub(crate) fn mark_at(first: VersionMark, later: &[VersionMark], place: usize) -> VersionMark
-    requires { place < length (first ∷ later.now) }
-    ensures { result ≡ get_or (first ∷ later.now) place first }
-{
-    if place == 0 {
-        return first;
+impl History {
+    ghost use Rattle.wh_version.specs.History.{marks_of};
+
+    /// The mark of the version at a place.
+    pub(crate) fn mark(&self, place: usize) -> VersionMark
+        requires { place < length (marks_of self.now) }
+        ensures { result ≡ get_or (marks_of self.now) place self.now.first }
+    {
+        if place == 0 {
+            return self.first;
+        }
+        self.later[place - 1]
     }
-    later[place - 1]
 }

@@ -1,4 +1,3 @@
-use crate::mark::mark_at;
 use crate::times::{Time, last_place};
 use crate::{History, Kept};
 use std::alloc::{AllocError, Global};
@@ -62,7 +61,7 @@ impl History {
         ensures { version_in result ≡ version_by self.now.kept.items place
             (get_or (marks_of self.now) place self.now.first) }
     {
-        let mark = mark_at(self.first, &self.later, place);
+        let mark = self.mark(place);
         Version {
             stamp: mark.stamp,
             data_timestamp: mark.data_timestamp,
@@ -94,14 +93,26 @@ fn standing_at(place: usize, kept: &[Kept], alloc: Global) -> Result<Vec<&Partit
     ensures { IfOk result (λ found. partitions_at found.items ≡ standing_at place kept.now) }
 {
     let mut found = Vec::new(alloc);
-    for one in kept {
-        add_standing(&mut found, place, one)?;
-    }
+    add_all_standing(&mut found, place, kept)?;
     Ok(found)
 }
 
-/// Adds a partition, if it stands at a place.
-pub(crate) fn add_standing<'a>(
+/// Adds the partitions that stand in the version at a place.
+pub(crate) fn add_all_standing<'a>(
+    found: &mut Vec<&'a Partition>,
+    place: usize,
+    kept: &'a [Kept],
+) -> Result<(), AllocError>
+    ensures { OnOk result (partitions_at found.new.items
+        ≡ partitions_at found.old.items ++ standing_at place kept.now) }
+{
+    for one in kept {
+        add_standing(found, place, one)?;
+    }
+    Ok(())
+}
+
+fn add_standing<'a>(
     found: &mut Vec<&'a Partition>,
     place: usize,
     one: &'a Kept,

@@ -1,16 +1,26 @@
-use Rattle.std.proofs.Common.{◌≡◌, suc, ◌+◌, ◌++◌, ◌∙◌, ap, sym, subst, arith}
+use Rattle.std.proofs.Common.{◌≡◌, suc, ◌+◌, ◌≤◌, List, [], ◌++◌, ◌∙◌, ap, sym, subst, arith}
 use Rattle.std.proofs.lemmas.List.{drop_all}
+use Rattle.wh_frame.specs.Partition.{Partition}
+use Rattle.wh_streams.specs.Net.{Record}
+use Rattle.wh_version.specs.Arrivals.{count_by}
 use Rattle.wh_table.specs.Rows.{partitions_at}
 use Rattle.wh_table.specs.Table.{table_of}
 use Rattle.wh_change.specs.Record.{records_of}
-use Rattle.wh_change.proofs.Walking.{Walked, walk_begins, walked_on, walk_ends}
+use Rattle.wh_change.proofs.Walking.{Walked, walked_on, walk_ends}
+use Rattle.wh_change.proofs.Behind.{front_walked}
 use Rattle.wh_change.proofs.appending.appends.Goals as goal
 
 pub loop-place-init : goal.loop-place-init
 loop-place-init c =
-    subst (λ records. Walked c.args.from c.args.to (table_of c.args.table.now).versions 0 records
-    (partitions_at c.none-seen.result.partitions.items)) (sym (ap records_of c.new-records.ensures.items))
-    (walk_begins c.args.from c.args.to (table_of c.args.table.now).versions _ c.none-seen.ensures)
+    let versions = (table_of c.args.table.now).versions in
+    let front = c.in_ok-front.front in
+    let is_front = c.in_ok-front.ensures in
+    let few : front.count ≤ count_by c.args.from versions = omega (arith, is_front.counted) in
+    let Begun : List Record → List Partition → Type 0 = Walked c.args.from c.args.to versions front.count in
+    subst (λ records. Begun records (partitions_at c.of-seen.result.partitions.items))
+    (sym (ap records_of c.new-records.ensures.items))
+    (subst (Begun []) (sym (ap partitions_at c.of-seen.ensures))
+    (front_walked c.args.from c.args.to front.count versions (partitions_at front.came.items) is_front.arrived few))
 
 pub loop-place-preserved : goal.loop-place-preserved
 loop-place-preserved c =

@@ -5,7 +5,7 @@ use denote.Ref.{Bor}
 use Rattle.wh_frame.specs.Partition.{Partition}
 use Rattle.wh_machine.specs.Commit.{AllApart}
 use Rattle.wh_machine.specs.Orderly.{HasRisingRows}
-use Rattle.wh_machine.specs.Stored.{StoredVersion, rows_of}
+use Rattle.wh_machine.specs.Stored.{rows_of}
 use Rattle.wh_version.specs.History.{versions_of}
 use Rattle.wh_table.specs.Rows.{all_rows, partitions_at}
 use Rattle.wh_table.specs.Table.{kept_table}

@@ -1,4 +1,4 @@
-use Rattle.std.proofs.Common.{◌≡◌, List, [], ◌++◌, ap, sym, subst}
+use Rattle.std.proofs.Common.{◌≡◌, List, [], ap, sym, subst}
 use Rattle.std.specs.List.{AllByRecursion}
 use Rattle.std.specs.FinMap.{entries}
 use denote.Ref.{Bor}

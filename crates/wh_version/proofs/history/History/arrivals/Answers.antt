@@ -1,42 +1,33 @@
-use Rattle.std.proofs.Common.{◌≡◌, ◌<◌, ℕ, ◌∷◌, ◌++◌}
+use Rattle.std.proofs.Common.{◌≡◌, ◌++◌}
 use Rattle.std.proofs.Common.{◌∙◌, ap, sym, subst, length, take, drop, get_or, arith}
 use Rattle.wh_version.specs.declared.mark.VersionMark.{VersionMark}
-use Rattle.wh_version.specs.declared.history.History.{History}
 use Rattle.wh_version.specs.Arrivals.{IsArrival, partitions_before}
 use Rattle.wh_version.specs.Edits.{partitions_at}
 use Rattle.wh_version.specs.History.{versions_of, marks_of}
 use Rattle.wh_version.specs.Kept.{standing_at}
-use Rattle.wh_version.proofs.ArrivalLaws.{count_versions, before_grows, arrived}
+use Rattle.wh_version.proofs.ArrivalLaws.{within_marks, before_grows, arrived}
 use Rattle.wh_version.proofs.LastUpTo.{mark_within}
 use Rattle.wh_version.proofs.history.History.arrivals.Goals as goal
 
-marked : (h : History) (place : ℕ) → place < length (versions_of h) → place < length (marks_of h)
-unfolding versions_of
-marked h place within = subst (λ n. place < n) (count_versions h.kept.items 0 (marks_of h)) within
-
-pub mark_at-mark-requires : goal.mark_at-mark-requires
-mark_at-mark-requires c =
-    let within = marked c.args.self.now c.args.place c.requires in
-    omega (arith, within, ap length c.deref.ensures.value)
+pub mark-mark-requires : goal.mark-mark-requires
+mark-mark-requires c = within_marks c.args.self.now c.args.place c.requires
 
 pub partitions_before-requires : goal.partitions_before-requires
-partitions_before-requires c = marked c.args.self.now c.args.place c.requires
+partitions_before-requires c = within_marks c.args.self.now c.args.place c.requires
 
 pub standing_behind-requires-clause-order : goal.standing_behind-requires-clause-order
 standing_behind-requires-clause-order c =
     let h = c.args.self.now in
     let grows = before_grows (marks_of h) (length h.kept.items) c.args.place h.first h.marks
-    (marked h c.args.place c.requires) in
-    let mark = c.mark_at-mark.ensures ∙ ap (λ ms. get_or (h.first ∷ ms) c.args.place h.first) c.deref.ensures.value in
-    omega (arith, grows, c.partitions_before.ensures, ap (λ (m : VersionMark). m.partitions) mark)
+    (within_marks h c.args.place c.requires) in
+    omega (arith, grows, c.partitions_before.ensures, ap (λ (m : VersionMark). m.partitions) c.mark-mark.ensures)
 
 pub standing_behind-requires-clause-within : goal.standing_behind-requires-clause-within
 standing_behind-requires-clause-within c =
     let h = c.args.self.now in
     let few = mark_within 0 (marks_of h) (length h.kept.items) c.args.place h.first h.marks
-    (marked h c.args.place c.requires) in
-    let mark = c.mark_at-mark.ensures ∙ ap (λ ms. get_or (h.first ∷ ms) c.args.place h.first) c.deref.ensures.value in
-    omega (arith, few, ap (λ (m : VersionMark). m.partitions) mark, ap length c.deref-2.ensures.value)
+    (within_marks h c.args.place c.requires) in
+    omega (arith, few, ap (λ (m : VersionMark). m.partitions) c.mark-mark.ensures, ap length c.deref.ensures.value)
 
 pub returns : goal.returns
 unfolding versions_of
@@ -44,12 +35,11 @@ returns c =
     let h = c.args.self.now in
     let place = c.args.place in
     let came = partitions_at c.in_ok-came.came.items in
-    let mark : c.mark_at-mark.result ≡ get_or (marks_of h) place h.first =
-    c.mark_at-mark.ensures ∙ ap (λ ms. get_or (h.first ∷ ms) place h.first) c.deref.ensures.value in
+    let mark = c.mark-mark.ensures in
     let behind : standing_at place (take (partitions_before (marks_of h) h.first place) h.kept.items) ++ came
     ≡ standing_at place (take (get_or (marks_of h) place h.first).partitions h.kept.items) =
-    (λ i. standing_at place (take (sym c.partitions_before.ensures i) (sym c.deref-2.ensures.value i)) ++ came)
+    (λ i. standing_at place (take (sym c.partitions_before.ensures i) (sym c.deref.ensures.value i)) ++ came)
     ∙ c.in_ok-came.ensures
-    ∙ (λ i. standing_at place (take (mark i).partitions (c.deref-2.ensures.value i))) in
+    ∙ (λ i. standing_at place (take (mark i).partitions (c.deref.ensures.value i))) in
     subst (λ (m : VersionMark). IsArrival m.stamp came (take place (versions_of h)) (drop place (versions_of h)))
-    (sym mark) (arrived h.kept.items (marks_of h) h.first place came (marked h place c.requires) behind)
+    (sym mark) (arrived h.kept.items (marks_of h) h.first place came (within_marks h place c.requires) behind)
