@@ -4,13 +4,14 @@
 --     before_grows       each mark counts the partitions that there were before
 --     arrived            what came with a version
 --     FrontUpTo          what is known of the versions at the front, up to a place
+--     Grown, grown_none, grown_on
 --     front_begins, front_longer, front_ends, front_whole
 use Rattle.std.proofs.Common.{◌≡◌, ℕ, zero, suc, ◌+◌, ◌-◌, ◌<◌, ◌≤◌}
 use Rattle.std.proofs.Common.{List, [], ◌∷◌, ◌++◌, length, take, drop, get_or, Some}
-use Rattle.std.proofs.Common.{Bool, false, IsTrue, refl, sym, ap, subst, ◌∙◌, arith}
+use Rattle.std.proofs.Common.{Bool, false, IsTrue, refl, sym, ap, subst, ◌∙◌, append_assoc, arith}
 use Rattle.std.proofs.lemmas.Bool.{le-leb}
 use Rattle.std.proofs.lemmas.Bool.Decides.{nat_tests}
-use Rattle.std.proofs.lemmas.List.{drop_all}
+use Rattle.std.proofs.lemmas.List.{append-nil, drop_all}
 use Rattle.std.specs.Prelude.{nat_le, if◌then◌else◌}
 use Rattle.wh_frame.specs.Partition.{Partition}
 use Rattle.wh_machine.specs.State.{last_of, content_in}
@@ -21,7 +22,7 @@ use Rattle.wh_version.specs.declared.mark.VersionMark.{VersionMark}
 use Rattle.wh_version.specs.Kept.{standing_at, gone_between, version_by, versions_by, count_to}
 use Rattle.wh_version.specs.Arrivals.{IsArrival, HaveArrived, IsFront, count_by, partitions_before}
 use Rattle.wh_version.specs.History.{versions_of, marks_of, standing_in}
-use Rattle.wh_version.proofs.TurnoverLaws.{counts_rise, standing_between, turned_over}
+use Rattle.wh_version.proofs.TurnoverLaws.{counts_rise, standing_on, turned_over}
 
 pub count_versions : (kept : List Kept) (first : ℕ) (marks : List VersionMark)
     → length (versions_by kept first marks) ≡ length marks
@@ -116,25 +117,50 @@ front_begins stamp kept marks d came none = record {
   arrived = none;
 }
 
+-- what came with a version, of its partitions up to an index
+pub record Grown (kept : List Kept) (place before index : ℕ) (old now : List Partition) : Type 0 where
+  pub next : List Partition
+  pub more : now ≡ old ++ next
+  pub joined : standing_at place (take before kept) ++ next ≡ standing_at place (take index kept)
+
+pub grown_none : (kept : List Kept) (place before : ℕ) (old : List Partition) → Grown kept place before before old old
+grown_none kept place before old = record {
+  next = [];
+  more = sym (append-nil old);
+  joined = append-nil (standing_at place (take before kept));
+}
+
+pub grown_on : (kept : List Kept) (place before index : ℕ) (k : Kept) (old now after : List Partition)
+    → index < length kept → k ≡ get_or kept index k → after ≡ now ++ standing_at place (k ∷ [])
+    → Grown kept place before index old now → Grown kept place before (index + 1) old after
+grown_on kept place before index k old now after within is after_is grown = record {
+  next = grown.next ++ standing_at place (k ∷ []);
+  more = after_is ∙ ap (λ l. l ++ standing_at place (k ∷ [])) grown.more
+      ∙ append_assoc old grown.next (standing_at place (k ∷ []));
+  joined = standing_on kept place index k grown.next _ (standing_at place (take before kept)) within is refl grown.joined;
+}
+
 pub front_longer : (stamp : ℕ) (kept : List Kept) (marks : List VersionMark) (d : VersionMark) (place before : ℕ)
-    (came next : List Partition) → place < length marks → before ≤ (get_or marks place d).partitions
-    → (get_or marks place d).stamp ≤ stamp
-    → next ≡ standing_at place (take ((get_or marks place d).partitions - before) (drop before kept))
+    (came now : List Partition) → place < length marks → (get_or marks place d).stamp ≤ stamp
+    → Grown kept place before (get_or marks place d).partitions came now
     → FrontUpTo stamp kept marks d place before came
-    → FrontUpTo stamp kept marks d (suc place) (get_or marks place d).partitions (came ++ next)
-front_longer stamp kept marks d place before came next within grows early is_next known = record {
+    → FrontUpTo stamp kept marks d (suc place) (get_or marks place d).partitions now
+front_longer stamp kept marks d place before came now within early grown known = record {
   counted = one_more ∙ known.counted;
   before_is = refl;
-  arrived = (came, next, (get_or marks place d).stamp, refl, known.arrived, arrived kept marks d place next within joined);
+  arrived = (
+    came,
+    grown.next,
+    (get_or marks place d).stamp,
+    grown.more,
+    known.arrived,
+    arrived kept marks d place grown.next within
+        (ap (λ n. standing_at place (take n kept) ++ grown.next) (sym known.before_is) ∙ grown.joined),
+  );
 }
   where
     versions : List StoredVersion
     versions = versions_by kept 0 marks
-
-    joined : standing_at place (take (partitions_before marks d place) kept) ++ next
-        ≡ standing_at place (take (get_or marks place d).partitions kept)
-    joined = (λ i. standing_at place (take (sym known.before_is i) kept) ++ is_next i)
-        ∙ standing_between kept place before (get_or marks place d).partitions grows
 
     counted_on : (vs : List StoredVersion) (v : StoredVersion) (rest : List StoredVersion) → vs ≡ v ∷ rest
         → v.stamp ≤ stamp → count_by stamp vs ≡ suc (count_by stamp rest)

@@ -1,14 +1,14 @@
 -- What went and came between two versions, by their marks.
 --     reach_stands     what stands by a version's reach
 --     reach_grows      a later version's reach is no shorter
---     standing_between what stands of a front, and from there to a longer one
+--     standing_on      what stands by a reach of one partition more
 --     turned_over      what went and came between two reaches
-use Rattle.std.proofs.Common.{◌≡◌, ℕ, zero, suc, ◌-◌, ◌<◌, ◌≤◌, inl, inr, Bool, true, false, List, [], ◌∷◌}
-use Rattle.std.proofs.Common.{◌++◌, length, filter, take, drop, get_or, option_map, Option, Some, None, IsTrue}
-use Rattle.std.proofs.Common.{refl, sym, ap, subst, ◌∙◌, arith}
+use Rattle.std.proofs.Common.{◌≡◌, ℕ, zero, suc, ◌+◌, ◌<◌, ◌≤◌, inl, inr, Bool, true, false, List, [], ◌∷◌}
+use Rattle.std.proofs.Common.{◌++◌, length, filter, take, get_or, option_map, Option, Some, None, IsTrue}
+use Rattle.std.proofs.Common.{refl, sym, ap, subst, ◌∙◌, append_assoc, arith}
 use Rattle.std.proofs.lemmas.Bool.{and_parts, leb-true, le-leb}
 use Rattle.std.proofs.lemmas.Bool.Decides.{nat_tests}
-use Rattle.std.proofs.lemmas.List.{map-append}
+use Rattle.std.proofs.lemmas.List.{map-append, take_more}
 use Rattle.std.proofs.lemmas.List.Elements.{filter-append}
 use Rattle.std.specs.Prelude.{nat_lt, nat_le}
 use Rattle.wh_frame.specs.Partition.{Partition}
@@ -155,27 +155,16 @@ standing_more place xs ys =
     ap partitions_in (filter-append (stands_at place) xs ys)
     ∙ map-append (λ k. k.partition) (filter (stands_at place) xs) (filter (stands_at place) ys)
 
--- those of a front, and those from there to a longer one
-pub standing_between : (kept : List Kept) (place few many : ℕ) → few ≤ many
-    → standing_at place (take few kept) ++ standing_at place (take (many - few) (drop few kept))
-    ≡ standing_at place (take many kept)
-standing_between kept place few many order =
-    sym (standing_more place (take few kept) (take (many - few) (drop few kept)))
-    ∙ ap (standing_at place) (take_between kept few many order)
-  where
-    none_taken : (n : ℕ) → take {A = Kept} n [] ≡ []
-    none_taken zero = refl
-    none_taken (suc n) = refl
-
-    take_between : (ks : List Kept) (few many : ℕ) → few ≤ many
-        → take few ks ++ take (many - few) (drop few ks) ≡ take many ks
-    take_between ks zero many order = let same : many - 0 ≡ many = omega arith in ap (λ n. take n ks) same
-    take_between [] (suc few) zero order = absurd (omega arith)
-    take_between [] (suc few) (suc many) order = none_taken (suc many - suc few)
-    take_between (k ∷ ks) (suc few) zero order = absurd (omega arith)
-    take_between (k ∷ ks) (suc few) (suc many) order =
-        let same : suc many - suc few ≡ many - few = omega arith in
-        ap (λ l. k ∷ l) (ap (λ n. take few ks ++ take n (drop few ks)) same ∙ take_between ks few many (omega arith))
+-- one partition more
+pub standing_on : (kept : List Kept) (place i : ℕ) (k : Kept) (before after : List Partition) (front : List Partition)
+    → i < length kept → k ≡ get_or kept i k → after ≡ before ++ standing_at place (k ∷ [])
+    → front ++ before ≡ standing_at place (take i kept)
+    → front ++ after ≡ standing_at place (take (i + 1) kept)
+standing_on kept place i k before after front within is more so_far =
+    let rest : List Partition = standing_at place (k ∷ []) in
+    ap (λ l. front ++ l) more ∙ sym (append_assoc front before rest) ∙ ap (λ l. l ++ rest) so_far
+    ∙ sym (ap (standing_at place) (take_more kept i k within ∙ ap (λ x. take i kept ++ x ∷ []) (sym is))
+    ∙ standing_more place (take i kept) (k ∷ []))
 
 pub turned_over : (kept : List Kept) (old new : Reach) (went came before behind : List Partition)
     → old.place ≤ new.place

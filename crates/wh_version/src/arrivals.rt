@@ -1,5 +1,5 @@
-use crate::History;
-use crate::turnover::{Reach, add_standing_behind, standing_behind};
+use crate::turnover::{Reach, standing_behind};
+use crate::{History, Kept};
 use std::alloc::{AllocError, Global};
 use wh_part::Partition;
 
@@ -54,7 +54,7 @@ impl History {
         ensures { IfOk result (λ front. IsFront stamp front.count
             (partitions_at front.came.items) (versions_of self.now)) }
     {
-        let mut came = Vec::new(alloc);
+        let mut came = Vec::with_capacity(alloc, self.kept.len())?;
         let mut before = 0;
         let count = self.count();
         for place in 0..count {
@@ -62,11 +62,9 @@ impl History {
             if stamp < mark.stamp {
                 return Ok(Front { count: place, came });
             }
-            let reach = Reach {
-                place,
-                partitions: mark.partitions,
-            };
-            add_standing_behind(&mut came, &self.kept, before, reach)?;
+            for index in before..mark.partitions {
+                put_standing(&mut came, place, &self.kept[index]);
+            }
             before = mark.partitions;
         }
         Ok(Front { count, came })
@@ -81,5 +79,22 @@ impl History {
             return 0;
         }
         self.mark(place - 1).partitions
+    }
+}
+
+ghost use Rattle.std.specs.Prelude.{◌≡◌, ◌+◌, ◌<◌, ◌≤◌, ◌∷◌, [], ◌++◌, vec_len, vec_capacity};
+ghost use Rattle.wh_version.specs.Edits.{partitions_at};
+ghost use Rattle.wh_version.specs.Kept.{standing_at};
+
+// Adds a partition, if it stands at a place. There is memory for it.
+fn put_standing<'a>(found: &mut Vec<&'a Partition>, place: usize, one: &'a Kept)
+    requires { vec_len found.old < vec_capacity found.old }
+    ensures items { partitions_at found.new.items
+        ≡ partitions_at found.old.items ++ standing_at place (one.now ∷ []) }
+    ensures length { vec_len found.new ≤ vec_len found.old + 1 }
+    ensures capacity { vec_capacity found.new ≡ vec_capacity found.old }
+{
+    if place < one.until {
+        found.push_reserved(one.partition());
     }
 }

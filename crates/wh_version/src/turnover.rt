@@ -1,9 +1,9 @@
-ghost use Rattle.std.specs.Prelude.{◌≡◌, ◌≤◌, ◌-◌, ◌++◌, ◌∷◌, [], length, take, drop, OnOk, IfOk};
+ghost use Rattle.std.specs.Prelude.{◌≡◌, ◌≤◌, ◌++◌, ◌∷◌, [], length, take, OnOk, IfOk};
 ghost use Rattle.wh_version.specs.Kept.{standing_at, gone_between};
 ghost use Rattle.wh_version.specs.Edits.{partitions_at};
 
 use crate::times::{Time, last_place};
-use crate::version::add_all_standing;
+use crate::version::add_standing;
 use crate::{History, Kept};
 use std::alloc::{AllocError, Global};
 use wh_part::Partition;
@@ -111,21 +111,8 @@ pub(crate) fn standing_behind<'a>(
         ≡ standing_at reach.place (take reach.partitions kept.now)) }
 {
     let mut found = Vec::new(alloc);
-    add_standing_behind(&mut found, kept, seen, reach)?;
+    for index in seen..reach.partitions {
+        add_standing(&mut found, reach.place, &kept[index])?;
+    }
     Ok(found)
-}
-
-/// Adds the partitions behind so many, up to a version's reach, that stand in it.
-pub(crate) fn add_standing_behind<'a>(
-    found: &mut Vec<&'a Partition>,
-    kept: &'a [Kept],
-    seen: usize,
-    reach: Reach,
-) -> Result<(), AllocError>
-    requires order { seen ≤ reach.partitions }
-    requires within { reach.partitions ≤ length kept.now }
-    ensures { OnOk result (partitions_at found.new.items ≡ partitions_at found.old.items
-        ++ standing_at reach.place (take (reach.partitions - seen) (drop seen kept.now))) }
-{
-    add_all_standing(found, reach.place, &kept[seen..reach.partitions])
 }

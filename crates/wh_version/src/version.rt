@@ -93,26 +93,14 @@ fn standing_at(place: usize, kept: &[Kept], alloc: Global) -> Result<Vec<&Partit
     ensures { IfOk result (λ found. partitions_at found.items ≡ standing_at place kept.now) }
 {
     let mut found = Vec::new(alloc);
-    add_all_standing(&mut found, place, kept)?;
+    for one in kept {
+        add_standing(&mut found, place, one)?;
+    }
     Ok(found)
 }
 
-/// Adds the partitions that stand in the version at a place.
-pub(crate) fn add_all_standing<'a>(
-    found: &mut Vec<&'a Partition>,
-    place: usize,
-    kept: &'a [Kept],
-) -> Result<(), AllocError>
-    ensures { OnOk result (partitions_at found.new.items
-        ≡ partitions_at found.old.items ++ standing_at place kept.now) }
-{
-    for one in kept {
-        add_standing(found, place, one)?;
-    }
-    Ok(())
-}
-
-fn add_standing<'a>(
+/// Adds a partition, if it stands at a place.
+pub(crate) fn add_standing<'a>(
     found: &mut Vec<&'a Partition>,
     place: usize,
     one: &'a Kept,

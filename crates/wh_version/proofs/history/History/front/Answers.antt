@@ -1,14 +1,11 @@
-use Rattle.std.proofs.Common.{◌≡◌, ℕ, suc, ◌+◌, ◌-◌, ◌<◌, ◌≤◌, List, ◌++◌, ◌∙◌}
-use Rattle.std.proofs.Common.{ap, refl, sym, subst, length, take, drop, get_or, arith}
-use Rattle.wh_frame.specs.Partition.{Partition}
+use Rattle.std.proofs.Common.{◌≡◌, ℕ, suc, ◌+◌, ◌<◌, ◌≤◌}
+use Rattle.std.proofs.Common.{ap, sym, subst, length, get_or, arith}
 use Rattle.wh_version.specs.declared.history.History.{History}
-use Rattle.wh_version.specs.declared.kept.Kept.{Kept}
 use Rattle.wh_version.specs.declared.mark.VersionMark.{VersionMark}
-use Rattle.wh_version.specs.Kept.{standing_at}
-use Rattle.wh_version.specs.Arrivals.{partitions_before}
 use Rattle.wh_version.specs.Edits.{partitions_at}
 use Rattle.wh_version.specs.History.{versions_of, marks_of}
-use Rattle.wh_version.proofs.ArrivalLaws.{FrontUpTo, within_marks, before_grows, front_longer, front_ends}
+use Rattle.wh_version.proofs.ArrivalLaws.{FrontUpTo, Grown, within_marks, before_grows}
+use Rattle.wh_version.proofs.ArrivalLaws.{grown_on, front_longer, front_ends}
 use Rattle.wh_version.proofs.LastUpTo.{mark_within}
 use Rattle.wh_version.proofs.history.History.front.Goals as goal
 
@@ -23,50 +20,75 @@ returns-then-stamp-mark c =
     let at = c.loop-place in
     let within = within_marks h at.place (omega (arith, c.loop-place-test.true, c.count-count.ensures)) in
     front_ends c.args.stamp h.kept.items (marks_of h) h.first at.place at.before (partitions_at at.came.items) within
-    (subst (λ (m : VersionMark). c.args.stamp < m.stamp) c.mark-mark.ensures c.if-stamp-mark.true) at.invariant
+    (subst (λ (m : VersionMark). c.args.stamp < m.stamp) c.mark-mark.ensures c.if-stamp-mark.true) at.invariant.0
 
--- a version more comes with no fewer partitions
-grows : (h : History) (place before : ℕ) (m : VersionMark) → place < length (versions_of h)
-    → before ≡ partitions_before (marks_of h) h.first place → m ≡ get_or (marks_of h) place h.first
-    → before ≤ m.partitions
-grows h place before m within is_before is_mark =
+-- a version's mark counts no more partitions than there are
+few : (h : History) (place : ℕ) (m : VersionMark) → place < length (versions_of h)
+    → m ≡ get_or (marks_of h) place h.first → m.partitions ≤ length h.kept.items
+few h place m within is_mark =
+    subst (λ (m : VersionMark). m.partitions ≤ length h.kept.items) (sym is_mark)
+    (mark_within 0 (marks_of h) (length h.kept.items) place h.first h.marks (within_marks h place within))
+
+pub index-requires : goal.index-requires
+index-requires c =
     omega (
       arith,
-      before_grows (marks_of h) (length h.kept.items) place h.first h.marks (within_marks h place within),
-      is_before,
-      ap (λ (m : VersionMark). m.partitions) is_mark,
+      c.loop-index-test.true,
+      few c.args.self.now c.loop-place.place c.mark-mark.result
+          (omega (arith, c.loop-place-test.true, c.count-count.ensures)) c.mark-mark.ensures,
     )
 
-pub add_standing_behind-requires-clause-order : goal.add_standing_behind-requires-clause-order
-add_standing_behind-requires-clause-order c =
-    grows c.args.self.now c.loop-place.place c.loop-place.before c.mark-mark.result
-    (omega (arith, c.loop-place-test.true, c.count-count.ensures)) c.loop-place.invariant.before_is c.mark-mark.ensures
+pub put_standing-requires : goal.put_standing-requires
+put_standing-requires c =
+    omega (
+      arith,
+      c.loop-index-test.true,
+      few c.args.self.now c.loop-place.place c.mark-mark.result
+          (omega (arith, c.loop-place-test.true, c.count-count.ensures)) c.mark-mark.ensures,
+      c.loop-index.invariant.1,
+      c.loop-index.invariant.2,
+    )
 
-pub add_standing_behind-requires-clause-within : goal.add_standing_behind-requires-clause-within
-add_standing_behind-requires-clause-within c =
-    let h = c.args.self.now in
-    let within = within_marks h c.loop-place.place (omega (arith, c.loop-place-test.true, c.count-count.ensures)) in
-    let few = mark_within 0 (marks_of h) (length h.kept.items) c.loop-place.place h.first h.marks within in
-    omega (arith, few, ap (λ (m : VersionMark). m.partitions) c.mark-mark.ensures, ap length c.deref.ensures.value)
+pub loop-index-preserved : goal.loop-index-preserved
+loop-index-preserved c =
+    let kept = c.args.self.now.kept.items in
+    let at = c.loop-index in (
+      grown_on kept c.loop-place.place c.loop-place.before at.index c.index.result.now
+          (partitions_at c.loop-place.came.items) (partitions_at at.came.items)
+          (partitions_at c.put_standing.new.found.items)
+          (omega (
+            arith,
+            c.loop-index-test.true,
+            few c.args.self.now c.loop-place.place c.mark-mark.result
+                (omega (arith, c.loop-place-test.true, c.count-count.ensures)) c.mark-mark.ensures,
+          ))
+          c.index.ensures c.put_standing.ensures.items at.invariant.0,
+      omega (arith, c.put_standing.ensures.length, at.invariant.1),
+      omega (arith, c.put_standing.ensures.capacity, at.invariant.2),
+    )
 
 pub loop-place-preserved : goal.loop-place-preserved
 loop-place-preserved c =
     let h = c.args.self.now in
     let at = c.loop-place in
     let within : at.place < length (versions_of h) = omega (arith, c.loop-place-test.true, c.count-count.ensures) in
+    let marked = within_marks h at.place within in
+    let grows = before_grows (marks_of h) (length h.kept.items) at.place h.first h.marks marked in
     let mark = get_or (marks_of h) at.place h.first in
-    let now = partitions_at c.add_standing_behind.new.found.items in
-    let next : VersionMark → List Kept → List Partition =
-    λ m kept. standing_at at.place (take (m.partitions - at.before) (drop at.before kept)) in
-    let came : now ≡ partitions_at at.came.items ++ next mark h.kept.items = c.in_ok-add_standing_behind.ensures
-    ∙ (λ i. partitions_at at.came.items ++ next (c.mark-mark.ensures i) (c.deref.ensures.value i)) in
+    let is_mark = c.mark-mark.ensures in
+    let partitions = ap (λ (m : VersionMark). m.partitions) is_mark in
+    let last : c.loop-index.index ≡ mark.partitions =
+    omega (arith, c.loop-index-test.false, c.loop-index.auto.index-end, grows, at.invariant.0.before_is, partitions) in
+    let now = partitions_at c.loop-index.came.items in
     let longer = front_longer c.args.stamp h.kept.items (marks_of h) h.first at.place at.before
-    (partitions_at at.came.items) (next mark h.kept.items) (within_marks h at.place within)
-    (grows h at.place at.before mark within at.invariant.before_is refl)
-    (subst (λ (m : VersionMark). m.stamp ≤ c.args.stamp) c.mark-mark.ensures c.if-stamp-mark.false) refl at.invariant in
-    let Longer : ℕ → VersionMark → List Partition → Type 0 =
-    λ place m ps. FrontUpTo c.args.stamp h.kept.items (marks_of h) h.first place m.partitions ps in
-    let more : suc at.place ≡ at.place + 1 = omega arith in
-    subst (λ place. Longer place c.mark-mark.result now) more
-    (subst (λ m. Longer (suc at.place) m now) (sym c.mark-mark.ensures)
-    (subst (Longer (suc at.place) mark) (sym came) longer))
+    (partitions_at at.came.items) now marked
+    (subst (λ (m : VersionMark). m.stamp ≤ c.args.stamp) is_mark c.if-stamp-mark.false)
+    (subst (λ index. Grown h.kept.items at.place at.before index (partitions_at at.came.items) now) last
+    c.loop-index.invariant.0) at.invariant.0 in
+    let Longer : ℕ → VersionMark → Type 0 =
+    λ place m. FrontUpTo c.args.stamp h.kept.items (marks_of h) h.first place m.partitions now in
+    let more : suc at.place ≡ at.place + 1 = omega arith in (
+      subst (λ place. Longer place c.mark-mark.result) more (subst (Longer (suc at.place)) (sym is_mark) longer),
+      omega (arith, c.loop-index.invariant.1, last, partitions),
+      c.loop-index.invariant.2,
+    )

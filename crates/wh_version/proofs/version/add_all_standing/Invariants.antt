@@ -1,9 +1,0 @@
-use Rattle.std.proofs.Common.{◌≡◌, ◌++◌, take}
-use Rattle.wh_version.specs.Kept.{standing_at}
-use Rattle.wh_version.specs.Edits.{partitions_at}
-use Rattle.wh_version.proofs.version.add_all_standing.Given as goal
-
-abbrev pub invariant-loop-one : goal.invariant-loop-one
-invariant-loop-one l =
-    partitions_at l.found.items
-    ≡ partitions_at l.initial.found.items ++ standing_at l.place (take l.one-index l.kept)
