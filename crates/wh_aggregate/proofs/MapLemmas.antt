@@ -8,9 +8,10 @@ use Rattle.std.specs.BTreeMap.{is_at}
 use Rattle.std.specs.Map.{lookup}
 use Rattle.std.specs.FinMap.{insert, from_entries}
 use Rattle.wh_value.specs.Value.{Row, row_cmp}
+use Rattle.wh_value.specs.Order.{row_total, row-IsAntisymmetric}
 use Rattle.wh_meaning.specs.Query as meaning
 use Rattle.wh_meaning.specs.Query.{Total}
-use Rattle.wh_meaning.proofs.RowMaps.{gotten, map_after}
+use Rattle.wh_meaning.proofs.KeyMaps.{gotten, map_after}
 use Rattle.wh_scalar.specs.declared.fault.EvalFault.{EvalFault}
 use Rattle.wh_aggregate.specs.Given.{Leaves}
 use Rattle.wh_aggregate.specs.Tally.{begun, tallied}
@@ -24,13 +25,13 @@ module _ (calls : List meaning.Call) (row key : Row) (m n : List (Row × List To
   noted_as =
       ap (noted calls row key) groups_is
       ∙ ap (λ ts. option_map (insert (from_entries m) key) (tallied calls row ts))
-      (ap (λ o. unwrap_or o (begun calls)) (gotten m key) ∙ sym old_is)
+      (ap (λ o. unwrap_or o (begun calls)) (gotten row_total m key) ∙ sym old_is)
 
   module _ (has : (q : Row)
       → lookup (is_at (row_cmp q)) n ≡ cond (is_eq (row_cmp key q)) (Some new) (lookup (is_at (row_cmp q)) m)) where
     pub row_noted : tallied calls row old ≡ Some new → noted calls row key groups ≡ Some (from_entries n)
     row_noted is = noted_as ∙ ap (option_map (insert (from_entries m) key)) is
-        ∙ ap Some (sym (map_after m n key new has))
+        ∙ ap Some (sym (map_after row_total row-IsAntisymmetric m n key new has))
 
     pub row_left : {B : Type 0} (r : Result B EvalFault) → Leaves r new (tallied calls row old)
         → Leaves r (from_entries n) (noted calls row key groups)

@@ -13,10 +13,10 @@ use Rattle.std.specs.BTreeMap.{is_at}
 use Rattle.std.specs.Map.{lookup}
 use Rattle.std.specs.FinMap.{insert, entries, from_entries, find, get-entries, len-entries, empty_of_len}
 use Rattle.wh_value.specs.Value.{Row, row_cmp}
-use Rattle.wh_value.specs.Order.{row_total}
+use Rattle.wh_value.specs.Order.{row_total, row-IsAntisymmetric}
 use Rattle.wh_meaning.specs.Bag.{Bag, no_rows, times, count, with_row, again}
 use Rattle.wh_meaning.proofs.BagLaws.{bag_of_same, cond-same, count-no_rows, count-insert, count-again, tied_rows}
-use Rattle.wh_meaning.proofs.RowMaps.{gotten, map_after}
+use Rattle.wh_meaning.proofs.KeyMaps.{gotten, map_after}
 use Rattle.wh_bag.specs.Walk.{entered}
 
 pub tied : (row : Row) → eq_by_cmp row_cmp row row ≡ true
@@ -31,7 +31,7 @@ abbrev pub IsWritten : List (Row × ℕ) → List (Row × ℕ) → Row → ℕ �
 IsWritten m n row v = (q : Row) → found_at n q ≡ cond (is_eq (row_cmp row q)) (Some v) (found_at m q)
 
 pub counted : (m : List (Row × ℕ)) (b : Bag) → from_entries m ≡ b → (q : Row) → times (found_at m q) ≡ count b q
-counted m b is q = ap times (sym (gotten m q)) ∙ ap (λ x. count x q) is
+counted m b is q = ap times (sym (gotten row_total m q)) ∙ ap (λ x. count x q) is
 
 no_row : (m : List (Row × ℕ)) → from_entries m ≡ no_rows → length m ≡ 0
 no_row [] e = refl
@@ -52,7 +52,7 @@ emptied m b is = (λ e. sym is ∙ no_entry m e, λ e. no_row m (is ∙ e))
 
 module _ (m n : List (Row × ℕ)) (row : Row) (b : Bag) (is : from_entries m ≡ b) where
   inserted : (v : ℕ) → IsWritten m n row v → from_entries n ≡ insert b row v
-  inserted v written = map_after m n row v written ∙ ap (λ x. insert x row v) is
+  inserted v written = map_after row_total row-IsAntisymmetric m n row v written ∙ ap (λ x. insert x row v) is
 
   pub entered_after : (v many : ℕ) → suc v ≡ many → IsWritten m n row v → from_entries n ≡ entered row many b
   entered_after v many some written = inserted v written ∙ ap (λ k. entered row k b) some

@@ -3,4 +3,3 @@ pub mod TableLemmas
 pub mod SeenLemmas
 pub mod RecordLemmas
 pub mod CommitLemmas
-mod NumberMaps

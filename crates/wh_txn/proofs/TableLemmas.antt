@@ -13,8 +13,9 @@ use Rattle.std.specs.Ordering.{is_eq, nat_cmp}
 use Rattle.std.specs.BTreeMap.{is_at}
 use Rattle.std.specs.Map.{lookup, set_value, keys_of}
 use Rattle.std.specs.List.Sorted.{IsStrictlySortedBy}
-use Rattle.std.specs.FinMap.{FinMap, get, insert, entries, from_entries}
-use Rattle.wh_txn.proofs.NumberMaps.{gotten, map_after, entries_in_order}
+use Rattle.std.specs.Cmp.{nat_cmp_total}
+use Rattle.std.specs.FinMap.{FinMap, get, insert, entries, from_entries, nat_cmp-IsAntisymmetric}
+use Rattle.wh_meaning.proofs.KeyMaps.{gotten, map_after, entries_in_order}
 use Rattle.wh_effect.specs.Effect.{Effect}
 use Rattle.wh_machine.specs.Edits.{Edits, edits_of}
 use Rattle.wh_machine.specs.Changes.{counted}
@@ -35,7 +36,7 @@ looked_up test (e ∷ es) =
 
 pub held : (es : List (ℕ × Staged)) (id : ℕ)
     → get (tables_of es) id ≡ option_map staged_of (lookup (is_at (nat_cmp id)) es)
-held es id = gotten (map entry_of es) id ∙ looked_up (is_at (nat_cmp id)) es
+held es id = gotten nat_cmp_total (map entry_of es) id ∙ looked_up (is_at (nat_cmp id)) es
 
 pub is_held : (es : List (ℕ × Staged)) (id : ℕ)
     → is_some (lookup (is_at (nat_cmp id)) es) ≡ is_some (get (tables_of es) id)
@@ -61,7 +62,8 @@ on_err (Err e) p = p
 pub with_one : (old new : List (ℕ × Staged)) (id : ℕ) (s : Staged)
     → ((q : ℕ) → lookup (is_at (nat_cmp q)) new ≡ cond (is_eq (nat_cmp id q)) (Some s) (lookup (is_at (nat_cmp q)) old))
     → tables_of new ≡ insert (tables_of old) id (staged_of s)
-with_one old new id s has = map_after (map entry_of old) (map entry_of new) id (staged_of s) (λ q.
+with_one old new id s has = map_after nat_cmp_total nat_cmp-IsAntisymmetric (map entry_of old) (map entry_of new)
+    id (staged_of s) (λ q.
     looked_up (is_at (nat_cmp q)) new
     ∙ ap (option_map staged_of) (has q)
     ∙ through (is_eq (nat_cmp id q)) s (lookup (is_at (nat_cmp q)) old)
@@ -95,7 +97,7 @@ keys_same (e ∷ es) = ap (e.0 ∷◌) (keys_same es)
 pub held_entries : (es : List (ℕ × Staged)) → IsStrictlySortedBy nat_cmp (keys_of es)
     → entries (tables_of es) ≡ map entry_of es
 held_entries es sorted =
-    entries_in_order (map entry_of es) (subst (IsStrictlySortedBy nat_cmp) (sym (keys_same es)) sorted)
+    entries_in_order nat_cmp_total (map entry_of es) (subst (IsStrictlySortedBy nat_cmp) (sym (keys_same es)) sorted)
 
 -- ---- later edits of a table
 

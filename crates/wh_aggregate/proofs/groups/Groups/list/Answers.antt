@@ -3,13 +3,14 @@ use Rattle.std.proofs.lemmas.Grind.{common_steps}
 use Rattle.std.specs.Option.{option_map}
 use Rattle.std.specs.FinMap.{entries}
 use Rattle.wh_value.specs.Value.{Row}
+use Rattle.wh_value.specs.Order.{row_total}
 use Rattle.wh_meaning.specs.Query.{Total}
 use Rattle.wh_algebra.specs.View.{calls_of}
 use Rattle.wh_aggregate.specs.Given.{GivesListed}
 use Rattle.wh_aggregate.specs.Groups.{listed}
 use Rattle.wh_aggregate.proofs.FaultLemmas.{still, passed_on}
 use Rattle.wh_aggregate.proofs.LoopLemmas.{listed_more, listed_none}
-use Rattle.wh_meaning.proofs.RowMaps.{entries_in_order}
+use Rattle.wh_meaning.proofs.KeyMaps.{entries_in_order}
 use Rattle.wh_aggregate.proofs.groups.Groups.list.Goals as goal
 
 pub returns-in_err-row : goal.returns-in_err-row
@@ -17,7 +18,7 @@ returns-in_err-row c =
     let calls = calls_of c.args.calls.now in
     let at = c.loop-key in
     let all : entries c.args.self ≡ c.into_iter-key-iterator.result =
-    ap entries (sym c.self.view_is) ∙ entries_in_order c.self.inside.map.entries c.len.ensures.ordered
+    ap entries (sym c.self.view_is) ∙ entries_in_order row_total c.self.inside.map.entries c.len.ensures.ordered
     ∙ sym c.into_iter-key-iterator.ensures.into_iter_gives.0 in
     let e : Row × List Total = (c.in-Some.key, c.in-Some.tallies) in
     let left : at.key-iterator ≡ e ∷ c.next.new.self = c.in-Some.ensures.steps in
@@ -44,7 +45,7 @@ returns c =
     let calls = calls_of c.args.calls.now in
     let at = c.loop-key in
     let all : entries c.args.self ≡ c.into_iter-key-iterator.result =
-    ap entries (sym c.self.view_is) ∙ entries_in_order c.self.inside.map.entries c.len.ensures.ordered
+    ap entries (sym c.self.view_is) ∙ entries_in_order row_total c.self.inside.map.entries c.len.ensures.ordered
     ∙ sym c.into_iter-key-iterator.ensures.into_iter_gives.0 in
     ap (listed calls) all
     ∙ at.invariant
