@@ -46,7 +46,8 @@ version_seen : (n : ℕ) (ps : List Partition) → is_some (get (rows_of ps) n) 
 version_seen n ps = ap is_some (get_rows ps n) ∙ held_or n (all_rows ps) None ∙ found_rows n ps
 
 -- what stays stood
-stayed_seen : (n : ℕ) (stay went ps : List Partition) → IsMixed stay went ps → is_seen n stay ≡ true → is_seen n ps ≡ true
+stayed_seen : (n : ℕ) (stay went ps : List Partition) → IsMixed stay went ps → is_seen n stay ≡ true
+    → is_seen n ps ≡ true
 stayed_seen n stay went [] mixed there = sym (ap (is_seen n) mixed.0) ∙ there
 stayed_seen n stay went (p ∷ ps) (inl mixed) there =
     by_here (has_number n p) (λ later. stayed_seen n mixed.0 went ps mixed.2 later)

@@ -112,7 +112,8 @@ module _ (earlier : List Rows) (old new gone arrived : Rows)
           → (is_some (get new n) || is_in_one n earlier) ≡ (is_seen n seen || is_some (get arrived n))
       by_either (inl is) = turned (is_some (get new n)) (is_in_one n earlier)
           ∙ (λ i. same n i || is_some (sym is.1 i))
-      by_either (inr is) = known (is_some (get new n)) (is_in_one n earlier) (λ there. within n (ap is_some is.0 ∙ there))
+      by_either (inr is) =
+          known (is_some (get new n)) (is_in_one n earlier) (λ there. within n (ap is_some is.0 ∙ there))
           ∙ (λ i. same n i || is_some (sym is.2 i))
 
 -- ---- the walk
@@ -164,7 +165,8 @@ walked_past from to vs place records now seen more walked version rest first sam
       ∙ ap (λ l. records ++ appended_from walked.earlier from to (map version_meant l)) (sym first)
       ∙ walked.so_far;
   same = same;
-  last = λ n there. ap (λ b. b || is_in_one n walked.earlier) (sym (ap (λ ps. is_some (get (rows_of ps) n)) stands) ∙ there);
+  last = λ n there. ap (λ b. b || is_in_one n walked.earlier)
+      (sym (ap (λ ps. is_some (get (rows_of ps) n)) stands) ∙ there);
 }
   where
     rows : Rows

@@ -16,8 +16,8 @@ use wh_table::StoredTable;
 use wh_version::Arrivals;
 
 /// The rows that first stand in versions behind a stamp and up to another, as they first stood,
-/// version by version. Of a version only the rows of those partitions are looked at that came with it, and
-/// of the versions in front of the range none.
+/// version by version. Of a version only the rows of those partitions are looked at that came with it,
+/// and of the versions in front of the range none.
 pub fn appends<'a>(
     alloc: Global,
     table: &'a StoredTable,

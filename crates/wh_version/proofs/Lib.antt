@@ -16,3 +16,4 @@ pub mod Amended
 pub mod LastUpTo
 pub mod TurnoverLaws
 pub mod ArrivalLaws
+pub mod FrontLaws

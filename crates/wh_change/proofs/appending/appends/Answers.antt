@@ -1,4 +1,4 @@
-use Rattle.std.proofs.Common.{◌≡◌, suc, ◌+◌, ◌≤◌, List, [], ◌++◌, ◌∙◌, ap, sym, subst, arith}
+use Rattle.std.proofs.Common.{◌≡◌, ℕ, suc, ◌+◌, ◌≤◌, List, [], ◌++◌, ◌∙◌, ap, sym, subst, arith}
 use Rattle.std.proofs.lemmas.List.{drop_all}
 use Rattle.wh_frame.specs.Partition.{Partition}
 use Rattle.wh_streams.specs.Net.{Record}
@@ -30,9 +30,10 @@ loop-place-preserved c =
     let came = partitions_at arrivals.came.items in
     let versions = (table_of c.args.table.now).versions in
     let records = records_of c.add_appended.new.records.items in
+    let On : ℕ → List Partition → Type 0 = λ place ps. Walked c.args.from c.args.to versions place records ps in
     let more : suc at.place ≡ at.place + 1 = omega arith in
-    subst (λ place. Walked c.args.from c.args.to versions place records (partitions_at c.see.new.seen.partitions.items)) more
-    (subst (Walked c.args.from c.args.to versions (suc at.place) records)
+    subst (λ place. On place (partitions_at c.see.new.seen.partitions.items)) more
+    (subst (On (suc at.place))
     (sym (c.in_ok-see.ensures ∙ ap (λ ps. seen ++ partitions_at ps) c.deref.ensures.value))
     (walked_on c.args.from c.args.to arrivals.stamp versions at.place
     (records_of at.records.items) records seen came at.invariant c.in_ok-arrivals.ensures c.in_ok-add_appended.ensures))

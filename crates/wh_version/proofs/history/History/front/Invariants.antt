@@ -2,7 +2,7 @@ use Rattle.std.proofs.Common.{◌≤◌, length}
 use Rattle.std.specs.Prelude.{vec_capacity}
 use Rattle.wh_version.specs.Edits.{partitions_at}
 use Rattle.wh_version.specs.History.{marks_of}
-use Rattle.wh_version.proofs.ArrivalLaws.{FrontUpTo, Grown}
+use Rattle.wh_version.proofs.FrontLaws.{FrontUpTo, Grown}
 use Rattle.wh_version.proofs.history.History.front.Given as goal
 
 abbrev pub invariant-loop-place : goal.invariant-loop-place
