@@ -8,6 +8,7 @@ pub mod MeaningLaws
 pub mod ActLaws
 pub mod OrderlyLaws
 pub mod SoundLaws
+pub mod KnownMaps
 pub mod KnownFacts
 pub mod KnownTests
 pub mod KnownCommits

@@ -157,7 +157,8 @@ both_or true false false = refl
 both_or false b g = refl
 
 -- the one behind leaves what the one before has left, or the same
-twice : (a b g : Bool) (new found : Option Row) → cond (b && g) new (cond (a && g) new found) ≡ cond ((a || b) && g) new found
+twice : (a b g : Bool) (new found : Option Row)
+    → cond (b && g) new (cond (a && g) new found) ≡ cond ((a || b) && g) new found
 twice true true true new found = refl
 twice true true false new found = refl
 twice true false true new found = refl
