@@ -1,6 +1,7 @@
 pub mod AllLaws
 pub mod IdLaws
 pub mod CutLaws
+pub mod RisingEntries
 pub mod RowLaws
 pub mod EditLaws
 pub mod VersionLaws
