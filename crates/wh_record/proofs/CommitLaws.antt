@@ -33,13 +33,13 @@ byte_taken {X} byte_of found x bytes rest e =
     (some_is (found, bytes) (x, rest) e) (refl, tt)
 
 -- a record of what is read one after the other
-reads_record : {X Y : Type 0} {s : X → List ℕ} {g : X → Type 0} {reader : Reader X} (t : Y → List ℕ) (h : Y → Type 0)
-    (other : Reader Y) (f : X → Y) (back : Y → X)
+reads_record : {X Y : Type 0} {s : X → List ℕ} {g : X → Type 0} {reader : Reader X} {f : X → Y} (t : Y → List ℕ)
+    (h : Y → Type 0) (other : Reader Y) (back : Y → X)
     → ((bytes : List ℕ) → other bytes ≡ as_at f reader bytes) → ((y : Y) → f (back y) ≡ y)
     → ((x : X) → s x ≡ t (f x)) → ((x : X) → g x → h (f x)) → ((y : Y) → h y → g (back y))
     → Reads s g reader
     → Reads t h other
-reads_record t h other f back alike same spelled there again r =
+reads_record {f = f} t h other back alike same spelled there again r =
     reads_same t h other alike (λ y. refl) (λ y good. good) (λ y good. good)
     (reads_as t h f back (λ x good. (spelled x, there x good))
     (λ y good. (spelled (back y) ∙ ap t (same y), again y good, same y)) r)
@@ -68,7 +68,7 @@ reads_type = record { takes = type_takes; again = type_again }
 pub reads_column : Reads column_bytes IsColumn column_at
 unfolding column_at column_bytes
 reads_column =
-    reads_record column_bytes IsColumn column_at (λ p. record { name = p.0; column_type = p.1 })
+    reads_record column_bytes IsColumn column_at
     (λ c. (c.name, c.column_type)) (λ bytes. refl) (λ c. refl) (λ p. refl) (λ p good. good.0) (λ c good. (good, tt))
     (reads_then reads_text (λ name _. reads_type))
 
@@ -81,7 +81,6 @@ pub reads_table : Reads table_bytes IsTableChange table_at
 unfolding table_at table_bytes
 reads_table =
     reads_record table_bytes IsTableChange table_at
-    (λ p. record { id = p.0; name = p.1.0; retention = p.1.1.0; columns = p.1.1.1 })
     (λ c. (c.id, (c.name, (c.retention, c.columns)))) (λ bytes. refl) (λ c. refl)
     (λ p. four_grouped (to_be_bytes w32 p.0) (text_bytes p.1.0) (p.1.1.0 ∷ []) (list_bytes column_bytes p.1.1.1))
     (λ p good.
@@ -124,14 +123,6 @@ pub reads_version : Reads version_bytes IsVersionChange version_at
 unfolding version_at version_bytes
 reads_version =
     reads_record version_bytes IsVersionChange version_at
-    (λ p. record {
-      id = p.0;
-      data_timestamp = p.1.0;
-      next_row = p.1.1.0;
-      width = p.1.1.1.0;
-      removed = p.1.1.1.1.0;
-      added = p.1.1.1.1.1;
-    })
     (λ c. (c.id, (c.data_timestamp, (c.next_row, (c.width, (c.removed, c.added)))))) (λ bytes. refl) (λ c. refl)
     (λ p. six_grouped (to_be_bytes w32 p.0) (to_be_bytes w64 p.1.0) (to_be_bytes w64 p.1.1.0)
     (to_be_bytes w32 p.1.1.1.0) (list_bytes (to_be_bytes w64) p.1.1.1.1.0) (list_bytes partition_bytes p.1.1.1.1.1))
@@ -180,7 +171,6 @@ pub reads_stream : Reads stream_bytes IsStreamChange stream_at
 unfolding stream_at stream_bytes
 reads_stream =
     reads_record stream_bytes IsStreamChange stream_at
-    (λ p. record { id = p.0; name = p.1.0; source = p.1.1.0; is_append_only = p.1.1.1.0; offset = p.1.1.1.1 })
     (λ c. (c.id, (c.name, (c.source, (c.is_append_only, c.offset))))) (λ bytes. refl) (λ c. refl)
     (λ p. four_grouped (to_be_bytes w32 p.0) (text_bytes p.1.0) (to_be_bytes w32 p.1.1.0)
     (stream_kind_byte p.1.1.1.0 ∷ to_be_bytes w64 p.1.1.1.1))
@@ -253,7 +243,7 @@ reads_change = record { takes = change_takes; again = change_again }
 pub reads_commit : Reads payload_of IsCommit commit_at
 unfolding commit_at payload_of
 reads_commit =
-    reads_record payload_of IsCommit commit_at (λ p. record { stamp = p.0; changes = p.1 }) (λ c. (c.stamp, c.changes))
+    reads_record payload_of IsCommit commit_at (λ c. (c.stamp, c.changes))
     (λ bytes. refl) (λ c. refl) (λ p. refl)
     (λ p good. record { stamp = good.0; few = good.1.0; changes = good.1.1 })
     (λ c good. (good.stamp, (good.few, good.changes)))
