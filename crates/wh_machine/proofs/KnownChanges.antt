@@ -1,19 +1,16 @@
 -- A table T of two rows, 5 with the number 1 and 7 with the number 2, and edits of it, worked out by hand.
 --     table_t, filled      the table, and a state with it
 --     rewritten            the table after a commit, with the partition that takes the place of the old one
-use Rattle.std.proofs.Common.{◌≡◌, ℕ, [], ◌∷◌, map, cond, Option, Some, None, true, pos, refl}
+use Rattle.std.proofs.Common.{◌≡◌, ℕ, [], ◌∷◌, map, Some, true, pos, refl}
 use Rattle.std.specs.Prelude.{codes}
-use Rattle.std.specs.FinMap.{empty, get, insert, entries, values, entries-insert, get-insert, get-empty}
-use Rattle.std.specs.FinMap.Entries.{put}
-use Rattle.std.specs.Ordering.{nat_cmp, eq_by_cmp}
-use Rattle.std.specs.Cmp.{nat_cmp_total}
+use Rattle.std.specs.FinMap.{empty, insert, values}
 use Rattle.wh_value.specs.Value.{Number, Row}
 use Rattle.wh_value.specs.Column.{NumberType}
-use Rattle.wh_machine.specs.State.{Rows, Contents, Table, TableKind, State, Version, nothing_held, version_at}
+use Rattle.wh_machine.specs.State.{Contents, Table, TableKind, State, Version, nothing_held, version_at}
 use Rattle.wh_machine.specs.State.{last_rows, last_partitions}
-use Rattle.wh_machine.specs.Edits.{RowEdits, Edits, rows_after, partitions_made}
+use Rattle.wh_machine.specs.Edits.{Edits, rows_after, partitions_made}
 use Rattle.wh_machine.specs.Outcome.{edited_table}
-use Rattle.wh_machine.proofs.KnownFacts.{entries-empty}
+use Rattle.wh_machine.proofs.KnownMaps.{map_steps}
 
 abbrev pub row : ℕ → Row
 row k = Number (pos k) ∷ []
@@ -40,18 +37,6 @@ filled = record {
   objects = record { name = codes "T"; is_live = true; created = 1; kind = TableKind table_t } ∷ [];
 }
 
-pub row_put : (rows : Rows) (k : ℕ) (row : Row) → entries (insert rows k row) ≡ put nat_cmp k row (entries rows)
-row_put rows k row = entries-insert nat_cmp_total rows k row
-
-pub edit_put : (edits : RowEdits) (k : ℕ) (new : Option Row) (q : ℕ)
-    → get (insert edits k new) q ≡ cond (eq_by_cmp nat_cmp q k) (Some new) (get edits q)
-edit_put edits k new q = get-insert nat_cmp_total edits k new q
-
-pub edit_none : (q : ℕ) → get (empty {K = ℕ} {X = Option Row} {R = nat_cmp}) q ≡ None
-edit_none q = get-empty nat_cmp q
-
-ruleset steps = (row_put, entries-empty, edit_put, edit_none)
-
 -- ---- the table after a commit
 
 abbrev change : Edits
@@ -65,4 +50,4 @@ rewritten : (map (λ p. p.rows) (last_partitions (edited_table 4 change table_t)
     × ((edited_table 4 change table_t).next_row ≡ 4) × ((edited_table 4 change table_t).next_partition ≡ 4)
     × (map (λ (version : Version). version.stamp) (edited_table 4 change table_t).versions ≡ 1 ∷ 2 ∷ 4 ∷ [])
 unfolding edited_table partitions_made rows_after
-rewritten = (simp steps, simp steps, simp steps, refl, simp steps, refl)
+rewritten = (simp map_steps, simp map_steps, simp map_steps, refl, simp map_steps, refl)

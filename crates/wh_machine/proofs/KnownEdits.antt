@@ -1,18 +1,14 @@
 -- Edits of a table of three partitions, worked out by hand.
 --     standing                       number 3 with the rows 7 and 8, number 5 with 1 and 2, number 6 with 4 and 5
 --     emptied, renewed               edits that leave nothing of a partition, and some that leave all rows
-use Rattle.std.proofs.Common.{◌≡◌, ℕ, ◌*◌, inl, inr, List, [], ◌∷◌, Option, Some, None, cond, pos, refl, arith}
-use Rattle.std.specs.FinMap.{empty, get, insert, entries, get-empty, get-insert, entries-insert}
-use Rattle.std.specs.FinMap.Entries.{put}
-use Rattle.std.specs.Ordering.{nat_cmp, eq_by_cmp}
-use Rattle.std.specs.Cmp.{nat_cmp_total}
+use Rattle.std.proofs.Common.{◌≡◌, ℕ, ◌*◌, inl, inr, List, [], ◌∷◌, Some, None, pos, refl, arith}
+use Rattle.std.specs.FinMap.{empty, insert, entries}
 use Rattle.wh_value.specs.Value.{Number, Row}
 use Rattle.wh_frame.specs.Partition.{Partition}
-use Rattle.wh_machine.specs.State.{Rows}
-use Rattle.wh_machine.specs.Edits.{RowEdits, Edits, numbers_gone, partitions_made, by_rows, without, rows_after}
+use Rattle.wh_machine.specs.Edits.{Edits, numbers_gone, partitions_made, by_rows, without, rows_after}
 use Rattle.wh_machine.specs.Stored.{rows_of}
 use Rattle.wh_machine.specs.Orderly.{IsOrderly}
-use Rattle.wh_machine.proofs.KnownFacts.{entries-empty}
+use Rattle.wh_machine.proofs.KnownMaps.{map_steps}
 
 abbrev row : ℕ → Row
 row k = Number (pos k) ∷ []
@@ -32,16 +28,6 @@ is_orderly = record {
   apart = (tt, ((inl (omega arith), tt), ((inr (omega arith), (inl (omega arith), tt)), tt)));
 }
 
-row_put : (rows : Rows) (k : ℕ) (row : Row) → entries (insert rows k row) ≡ put nat_cmp k row (entries rows)
-row_put rows k row = entries-insert nat_cmp_total rows k row
-
-edit_put : (edits : RowEdits) (k : ℕ) (new : Option Row) (q : ℕ)
-    → get (insert edits k new) q ≡ cond (eq_by_cmp nat_cmp q k) (Some new) (get edits q)
-edit_put edits k new q = get-insert nat_cmp_total edits k new q
-
-edit_none : (q : ℕ) → get (empty {K = ℕ} {X = Option Row} {R = nat_cmp}) q ≡ None
-edit_none q = get-empty nat_cmp q
-
 rows_in_order : by_rows standing ≡ two 5 1 2 ∷ two 6 4 5 ∷ two 3 7 8 ∷ []
 rows_in_order = refl
 
@@ -52,21 +38,21 @@ abbrev emptied : Edits
 emptied = record { rows = insert (insert (insert empty 8 (Some (row 80))) 1 None) 2 None; added = row 90 ∷ row 91 ∷ [] }
 
 emptied_gone : numbers_gone emptied.rows standing ≡ 3 ∷ 5 ∷ []
-emptied_gone = simp (edit_put, edit_none)
+emptied_gone = simp map_steps
 
 -- no partition takes its place
 emptied_made : partitions_made 7 9 emptied standing
     ≡ two 7 7 8 ∷ record { number = 8; rows = (9, row 90) ∷ (10, row 91) ∷ [] } ∷ []
 unfolding partitions_made
-emptied_made = simp (edit_put, edit_none)
+emptied_made = simp map_steps
 
 emptied_left : without (numbers_gone emptied.rows standing) standing ≡ two 6 4 5 ∷ []
-emptied_left = simp (edit_put, edit_none)
+emptied_left = simp map_steps
 
 emptied_rows : entries (rows_after 9 emptied (rows_of standing))
     ≡ (4, row 40) ∷ (5, row 50) ∷ (7, row 70) ∷ (8, row 80) ∷ (9, row 90) ∷ (10, row 91) ∷ []
 unfolding rows_after
-emptied_rows = simp (row_put, entries-empty, edit_put, edit_none)
+emptied_rows = simp map_steps
 
 -- ---- partitions that take the places of others
 
@@ -75,18 +61,18 @@ abbrev renewed : Edits
 renewed = record { rows = insert (insert empty 8 None) 1 (Some (row 11)); added = [] }
 
 renewed_gone : numbers_gone renewed.rows standing ≡ 3 ∷ 5 ∷ []
-renewed_gone = simp (edit_put, edit_none)
+renewed_gone = simp map_steps
 
 -- by the order of the rows: that of number 5 comes before that of number 3
 renewed_made : partitions_made 7 9 renewed standing
     ≡ record { number = 7; rows = (1, row 11) ∷ (2, row 20) ∷ [] } ∷ record { number = 8; rows = (7, row 70) ∷ [] } ∷ []
 unfolding partitions_made
-renewed_made = simp (edit_put, edit_none)
+renewed_made = simp map_steps
 
 renewed_rows : entries (rows_after 9 renewed (rows_of standing))
     ≡ (1, row 11) ∷ (2, row 20) ∷ (4, row 40) ∷ (5, row 50) ∷ (7, row 70) ∷ []
 unfolding rows_after
-renewed_rows = simp (row_put, entries-empty, edit_put, edit_none)
+renewed_rows = simp map_steps
 
 -- ---- other edits
 
@@ -95,11 +81,11 @@ abbrev nobody : Edits
 nobody = record { rows = insert (insert empty 3 (Some (row 30))) 6 None; added = [] }
 
 nobody_gone : numbers_gone nobody.rows standing ≡ []
-nobody_gone = simp (edit_put, edit_none)
+nobody_gone = simp map_steps
 
 nobody_made : partitions_made 7 9 nobody standing ≡ []
 unfolding partitions_made
-nobody_made = simp (edit_put, edit_none)
+nobody_made = simp map_steps
 
 -- rows that come alone leave all partitions
 abbrev added : Edits
@@ -108,4 +94,4 @@ added = record { rows = empty; added = row 90 ∷ [] }
 added_alone : (without (numbers_gone added.rows standing) standing ≡ standing)
     × (partitions_made 7 9 added standing ≡ record { number = 7; rows = (9, row 90) ∷ [] } ∷ [])
 unfolding partitions_made
-added_alone = (simp edit_none, simp edit_none)
+added_alone = (simp map_steps, simp map_steps)

@@ -1,15 +1,11 @@
 -- Known values of the definitions on rows and values, worked out by hand: a wrong rule doesn't check.
-use Rattle.std.proofs.Common.{◌≡◌, ℕ, List, [], ◌∷◌, true, pos, negsuc, refl, sym, ◌∙◌, nat_cmp}
-use Rattle.std.proofs.lemmas.List.{nil_from_length}
+use Rattle.std.proofs.Common.{◌≡◌, List, [], ◌∷◌, true, pos, negsuc, refl}
 use Rattle.std.specs.Prelude.{codes}
-use Rattle.std.specs.FinMap.{entries, entries-insert, empty, values, len-entries, len-empty}
-use Rattle.std.specs.Cmp.{nat_cmp_total}
+use Rattle.std.specs.FinMap.{empty, values}
 use Rattle.wh_value.specs.Value.{Number, Truth, Text, Null, Row, in_order, literal}
 use Rattle.wh_frame.specs.Partition.{numbered, partitions_of}
 use Rattle.wh_machine.specs.State.{with_entries}
-
-pub entries-empty : entries (empty {K = ℕ} {X = Row} {R = nat_cmp}) ≡ []
-entries-empty = nil_from_length _ (sym (len-entries empty) ∙ len-empty nat_cmp Row)
+use Rattle.wh_machine.proofs.KnownMaps.{map_steps}
 
 abbrev three : List Row
 three =
@@ -28,7 +24,7 @@ printed = refl
 
 -- three rows of a version, by row number
 kept : values (with_entries empty (numbered 1 three)) ≡ three
-kept = rw (entries-insert nat_cmp_total, entries-insert nat_cmp_total, entries-insert nat_cmp_total, entries-empty) refl
+kept = simp map_steps
 
 -- 1,000 rows fill one partition, and one more begins another
 filled : (partitions_of 0 ≡ 0) × (partitions_of 1 ≡ 1) × (partitions_of 1000 ≡ 1) × (partitions_of 1001 ≡ 2)

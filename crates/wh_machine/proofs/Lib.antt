@@ -1,6 +1,7 @@
 pub mod AllLaws
 pub mod IdLaws
 pub mod CutLaws
+pub mod RisingEntries
 pub mod RowLaws
 pub mod EditLaws
 pub mod VersionLaws
@@ -8,6 +9,7 @@ pub mod MeaningLaws
 pub mod ActLaws
 pub mod OrderlyLaws
 pub mod SoundLaws
+pub mod KnownMaps
 pub mod KnownFacts
 pub mod KnownTests
 pub mod KnownCommits

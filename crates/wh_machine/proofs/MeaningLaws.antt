@@ -2,16 +2,17 @@
 --     length_meant, at_id_meant, with_id_meant, id_of_meant, live_count_meant     objects of a file, by ids and names
 --     last_content_meant, last_rows_meant, last_partitions_meant                  what a table's last version holds
 --     columns_meant                                                               the columns of an object
---     table_at_none, table_at_some, table_at_meant                                tables of a file
+--     table_at_meant                                                              tables of a file
 --     stream_at_meant                                                             streams of a file
 use Rattle.std.proofs.Common.{◌≡◌, ℕ, ◌+◌, List, [], length, map, Option, Some, None, option_map, refl, ap, ◌∙◌}
 use Rattle.std.proofs.lemmas.List.{length-map}
-use Rattle.wh_machine.specs.State.{Contents, Stream, Object, nothing_held, at_id, with_id, id_of, is_named, live_count}
+use Rattle.wh_machine.specs.State.{Contents, Table, Stream, Kind, TableKind, StreamKind, Object, nothing_held}
+use Rattle.wh_machine.specs.State.{columns_in, at_id, with_id, id_of, is_named, live_count}
 use Rattle.wh_machine.specs.State.{last_of, content_in, last_content, last_rows, last_partitions, columns_at}
 use Rattle.wh_machine.specs.Objects.{table_at, stream_at}
 use Rattle.wh_machine.specs.Stored.{StoredVersion, StoredTable, StoredKind, StoredTableKind, StoredStreamKind}
 use Rattle.wh_machine.specs.Stored.{StoredObject, standing, stored_columns_in, stored_columns_at, rows_of}
-use Rattle.wh_machine.specs.Stored.{contents_meant, version_meant, table_meant, object_meant}
+use Rattle.wh_machine.specs.Stored.{contents_meant, version_meant, table_meant, kind_meant, object_meant}
 use Rattle.wh_machine.proofs.IdLaws.{map_at, map_with, map_last, map_position, map_count}
 
 -- ---- objects
@@ -34,6 +35,23 @@ id_of_meant name objects =
 
 pub live_count_meant : (objects : List StoredObject) → live_count (map object_meant objects) ≡ live_count objects
 live_count_meant objects = map_count object_meant (λ o. o.is_live) (λ o. o.is_live) (λ o. refl) objects
+
+-- what is said of the object of an id, if there is one
+abbrev found_as : {O X : Type 0} → X → (O → X) → Option O → X
+found_as none of None = none
+found_as none of (Some o) = of o
+
+-- by its kind
+found_meant : {X : Type 0} (none : X) (of : Kind → X) (stored : Option StoredObject → X) → none ≡ stored None
+    → ((o : StoredObject) → of (kind_meant o.kind) ≡ stored (Some o)) → (objects : List StoredObject) (id : ℕ)
+    → found_as none (λ (o : Object). of o.kind) (at_id (map object_meant objects) id) ≡ stored (at_id objects id)
+found_meant none of stored of_none of_some objects id =
+    ap (found_as none (λ (o : Object). of o.kind)) (at_id_meant objects id) ∙ through (at_id objects id)
+  where
+    through : (found : Option StoredObject)
+        → found_as none (λ (o : Object). of o.kind) (option_map object_meant found) ≡ stored found
+    through None = of_none
+    through (Some o) = of_some o
 
 -- ---- tables
 
@@ -64,38 +82,19 @@ stored_table_of (Some o) = stored_table_in o.kind
 abbrev pub stored_table_at : List StoredObject → ℕ → Option StoredTable
 stored_table_at objects id = stored_table_of (at_id objects id)
 
--- the table at an id, from what stands there
-pub table_at_none : (objects : List StoredObject) (id : ℕ) → at_id objects id ≡ None
-    → table_at (map object_meant objects) id ≡ None
-table_at_none objects id none =
-    let found : at_id (map object_meant objects) id ≡ None =
-    at_id_meant objects id ∙ ap (option_map object_meant) none in
-    rw found
-
-pub table_at_some : (objects : List StoredObject) (id : ℕ) (o : StoredObject) (t : StoredTable)
-    → at_id objects id ≡ Some o → o.kind ≡ StoredTableKind t
-    → table_at (map object_meant objects) id ≡ Some (table_meant t)
-table_at_some objects id o t there is =
-    let found : at_id (map object_meant objects) id ≡ Some (object_meant o) =
-    at_id_meant objects id ∙ ap (option_map object_meant) there in
-    rw (found, is)
+abbrev table_in : Kind → Option Table
+table_in (TableKind t) = Some t
+table_in (StreamKind s) = None
 
 pub table_at_meant : (objects : List StoredObject) (id : ℕ)
     → table_at (map object_meant objects) id ≡ option_map table_meant (stored_table_at objects id)
-table_at_meant objects id = by_found (at_id objects id) refl
+table_at_meant objects id =
+    found_meant None table_in (λ found. option_map table_meant (stored_table_of found)) refl (λ o. by_kind o.kind)
+    objects id
   where
-    by_kind : (o : StoredObject) (k : StoredKind) → at_id objects id ≡ Some o → o.kind ≡ k
-        → table_at (map object_meant objects) id ≡ option_map table_meant (stored_table_in k)
-    by_kind o (StoredTableKind t) there is = table_at_some objects id o t there is
-    by_kind o (StoredStreamKind s) there is =
-        let found : at_id (map object_meant objects) id ≡ Some (object_meant o) =
-        at_id_meant objects id ∙ ap (option_map object_meant) there in
-        rw (found, is) refl
-
-    by_found : (found : Option StoredObject) → at_id objects id ≡ found
-        → table_at (map object_meant objects) id ≡ option_map table_meant (stored_table_of found)
-    by_found None none = table_at_none objects id none
-    by_found (Some o) there = by_kind o o.kind there refl
+    by_kind : (k : StoredKind) → table_in (kind_meant k) ≡ option_map table_meant (stored_table_in k)
+    by_kind (StoredTableKind t) = refl
+    by_kind (StoredStreamKind s) = refl
 
 -- ---- streams
 
@@ -111,44 +110,25 @@ stored_stream_of (Some o) = stored_stream_in o.kind
 abbrev pub stored_stream_at : List StoredObject → ℕ → Option Stream
 stored_stream_at objects id = stored_stream_of (at_id objects id)
 
+abbrev stream_in : Kind → Option Stream
+stream_in (TableKind t) = None
+stream_in (StreamKind s) = Some s
+
 pub stream_at_meant : (objects : List StoredObject) (id : ℕ)
     → stream_at (map object_meant objects) id ≡ stored_stream_at objects id
-stream_at_meant objects id = by_found (at_id objects id) refl
+stream_at_meant objects id = found_meant None stream_in stored_stream_of refl (λ o. by_kind o.kind) objects id
   where
-    there_meant : (o : StoredObject) → at_id objects id ≡ Some o
-        → at_id (map object_meant objects) id ≡ Some (object_meant o)
-    there_meant o there = at_id_meant objects id ∙ ap (option_map object_meant) there
+    by_kind : (k : StoredKind) → stream_in (kind_meant k) ≡ stored_stream_in k
+    by_kind (StoredTableKind t) = refl
+    by_kind (StoredStreamKind s) = refl
 
-    by_kind : (o : StoredObject) (k : StoredKind) → at_id objects id ≡ Some o → o.kind ≡ k
-        → stream_at (map object_meant objects) id ≡ stored_stream_in k
-    by_kind o (StoredTableKind t) there is = let found = there_meant o there in rw (found, is) refl
-    by_kind o (StoredStreamKind s) there is = let found = there_meant o there in rw (found, is) refl
-
-    by_found : (found : Option StoredObject) → at_id objects id ≡ found
-        → stream_at (map object_meant objects) id ≡ stored_stream_of found
-    by_found None none =
-        let found : at_id (map object_meant objects) id ≡ None =
-        at_id_meant objects id ∙ ap (option_map object_meant) none in
-        rw found refl
-    by_found (Some o) there = by_kind o o.kind there refl
+-- ---- columns
 
 pub columns_meant : (objects : List StoredObject) (id : ℕ)
     → columns_at (map object_meant objects) id ≡ stored_columns_at objects id
-columns_meant objects id = by_found (at_id objects id) refl
+columns_meant objects id =
+    found_meant [] columns_in (found_as [] (λ o. stored_columns_in o.kind)) refl (λ o. by_kind o.kind) objects id
   where
-    there_meant : (o : StoredObject) → at_id objects id ≡ Some o
-        → at_id (map object_meant objects) id ≡ Some (object_meant o)
-    there_meant o there = at_id_meant objects id ∙ ap (option_map object_meant) there
-
-    by_kind : (o : StoredObject) (k : StoredKind) → at_id objects id ≡ Some o → o.kind ≡ k
-        → columns_at (map object_meant objects) id ≡ stored_columns_in k
-    by_kind o (StoredTableKind t) there is = let found = there_meant o there in rw (found, is) refl
-    by_kind o (StoredStreamKind s) there is = let found = there_meant o there in rw (found, is) refl
-
-    by_found : (found : Option StoredObject) → at_id objects id ≡ found
-        → columns_at (map object_meant objects) id ≡ stored_columns_at objects id
-    by_found None none =
-        let found : at_id (map object_meant objects) id ≡ None =
-        at_id_meant objects id ∙ ap (option_map object_meant) none in
-        rw (found, none) refl
-    by_found (Some o) there = rw there (by_kind o o.kind there refl)
+    by_kind : (k : StoredKind) → columns_in (kind_meant k) ≡ stored_columns_in k
+    by_kind (StoredTableKind t) = refl
+    by_kind (StoredStreamKind s) = refl

@@ -5,8 +5,7 @@
 --     entries_rebuilt                       rows are those of their entries
 --     row_left, edited_at, edited_same      what stands at a number after edits
 use Rattle.std.proofs.Common.{◌≡◌, ℕ, Bool, true, false, cond, List, [], ◌∷◌, ◌++◌, Option, Some, None, refl, sym, ap}
-use Rattle.std.proofs.Common.{◌∙◌, arith, T, nat_lt, ◌==◌, Less, Equal, Greater}
-use Rattle.std.specs.Prelude.{◌&&◌}
+use Rattle.std.proofs.Common.{◌∙◌, arith, T}
 use Rattle.std.specs.List.{AllByRecursion}
 use Rattle.std.specs.FinMap.{empty, get, insert, entries, from_entries, entries_sorted, get-entries, get-empty}
 use Rattle.std.specs.FinMap.{get-insert, get-from_entries, same_map, nat_cmp-IsAntisymmetric}
@@ -17,6 +16,7 @@ use Rattle.std.proofs.lemmas.Bool.Decides.{nat_tests}
 use Rattle.wh_value.specs.Value.{Row}
 use Rattle.wh_machine.specs.State.{Rows, with_entries}
 use Rattle.wh_machine.specs.Edits.{RowEdits, row_as, edited}
+use Rattle.wh_machine.proofs.RisingEntries.{both_hold, less_is}
 
 -- ---- tests of numbers
 
@@ -69,23 +69,12 @@ entries_swapped rows (e ∷ xs) ys lack =
 
 -- ---- entries of rows
 
-both_hold : (a b : Bool) → T (a && b) → T a × T b
-both_hold true b h = (tt, h)
-both_hold false b h = absurd h
-
-less_apart : (x y : ℕ) → T (is_lt (nat_cmp x y)) → x ≡ y → ⊥
-less_apart x y h e = by_less (nat_lt x y) (x == y) h refl
-  where
-    by_less : (less same : Bool) → T (is_lt (cond less Less (cond same Equal Greater))) → nat_lt x y ≡ less → ⊥
-    by_less true same h is = absurd (grind (arith, nat_tests))
-    by_less false true h is = absurd h
-    by_less false false h is = absurd h
-
 below_lacks : (k : ℕ) (es : List (ℕ × Row)) → T (below_all nat_cmp k es) → LacksNumber k es
 below_lacks k [] h = tt
 below_lacks k (e ∷ es) h =
     let parts = both_hold (is_lt (nat_cmp k e.0)) (below_all nat_cmp k es) h in
-    (less_apart k e.0 parts.0, below_lacks k es parts.1)
+    let less = less_is k e.0 parts.0 in
+    (λ same. omega (arith, less, same), below_lacks k es parts.1)
 
 sorted_entries : (es : List (ℕ × Row)) → T (is_sorted nat_cmp es) → with_entries empty es ≡ from_entries es
 sorted_entries [] h = refl

@@ -9,18 +9,40 @@ use Rattle.std.proofs.lemmas.List.{append-nil, nil_from_length}
 use Rattle.std.proofs.lemmas.Bool.{eqb-true, leb-true, le-leb}
 use Rattle.wh_value.specs.Column.{ColumnType, NumberType, VarcharType, BooleanType}
 use Rattle.wh_frame.specs.Spelling.{text_bytes, list_bytes, partition_bytes}
-use Rattle.wh_machine.specs.Commit.{TableChange, VersionChange, StreamChange, Change, CreatesTable, Drops}
+use Rattle.wh_machine.specs.Commit.{Change, CreatesTable, Drops}
 use Rattle.wh_machine.specs.Commit.{PushesVersion, CreatesStream, SetsOffset, Commit}
 use Rattle.wh_machine.specs.Spelling.{type_byte, column_bytes, table_bytes, version_bytes, stream_kind_byte}
 use Rattle.wh_machine.specs.Spelling.{stream_bytes, offset_bytes, change_bytes, payload_of, NumbersRiseFrom, IsColumn}
 use Rattle.wh_machine.specs.Spelling.{IsTableChange, IsVersionChange, IsStreamChange, IsChange, IsCommit}
-use Rattle.wh_part.specs.Reading.{Reader, ◌>>=◌, as_at, number_at}
+use Rattle.wh_part.specs.Reading.{Reader, ◌>>=◌, as_at}
 use Rattle.wh_part.proofs.ReaderLaws.{AreBytes, Reads, bind_some, and_parts, some_is, reads_then, reads_where, reads_as}
 use Rattle.wh_part.proofs.ReaderLaws.{reads_same, reads_list, wide32, wide64, reads_number, reads_byte, reads_text}
 use Rattle.wh_part.proofs.PartitionLaws.{reads_partition}
 use Rattle.wh_record.specs.Decoding.{type_at, column_at, table_at, numbers_rise, removed_at, version_at, change_behind}
 use Rattle.wh_record.specs.Decoding.{stream_kind_at, stream_at, offset_at, change_at, commit_at, commit_of_all}
 use Rattle.wh_record.specs.Laws.{PayloadFixesCommit}
+
+-- ---- readers of a byte, and of a record
+
+-- what a byte stands for is spelled by that byte
+byte_taken : {X : Type 0} (byte_of : X → ℕ) (found x : X) (bytes rest : List ℕ)
+    → ◌≡◌ {A = Option (X × List ℕ)} (Some (found, bytes)) (Some (x, rest))
+    → (byte_of found ∷ bytes ≡ byte_of x ∷ [] ++ rest) × Unit {0}
+byte_taken {X} byte_of found x bytes rest e =
+    subst (λ (z : X × List ℕ). (byte_of found ∷ bytes ≡ byte_of z.0 ∷ [] ++ z.1) × Unit {0})
+    (some_is (found, bytes) (x, rest) e) (refl, tt)
+
+-- a record of what is read one after the other
+reads_record : {X Y : Type 0} {s : X → List ℕ} {g : X → Type 0} {reader : Reader X} {f : X → Y} (t : Y → List ℕ)
+    (h : Y → Type 0) (other : Reader Y) (back : Y → X)
+    → ((bytes : List ℕ) → other bytes ≡ as_at f reader bytes) → ((y : Y) → f (back y) ≡ y)
+    → ((x : X) → s x ≡ t (f x)) → ((x : X) → g x → h (f x)) → ((y : Y) → h y → g (back y))
+    → Reads s g reader
+    → Reads t h other
+reads_record {f = f} t h other back alike same spelled there again r =
+    reads_same t h other alike (λ y. refl) (λ y good. good) (λ y good. good)
+    (reads_as t h f back (λ x good. (spelled x, there x good))
+    (λ y good. (spelled (back y) ∙ ap t (same y), again y good, same y)) r)
 
 -- ---- columns
 
@@ -29,15 +51,9 @@ type_takes : (bytes : List ℕ) (t : ColumnType) (rest : List ℕ) → AreBytes 
 unfolding type_at
 type_takes [] t rest fits e = absurd cc
 type_takes (zero ∷ bytes) t rest fits e = absurd cc
-type_takes (suc zero ∷ bytes) t rest fits e =
-    subst (λ (z : ColumnType × List ℕ). (1 ∷ bytes ≡ type_byte z.0 ∷ [] ++ z.1) × Unit {0})
-    (some_is (NumberType, bytes) (t, rest) e) (refl, tt)
-type_takes (suc (suc zero) ∷ bytes) t rest fits e =
-    subst (λ (z : ColumnType × List ℕ). (2 ∷ bytes ≡ type_byte z.0 ∷ [] ++ z.1) × Unit {0})
-    (some_is (VarcharType, bytes) (t, rest) e) (refl, tt)
-type_takes (suc (suc (suc zero)) ∷ bytes) t rest fits e =
-    subst (λ (z : ColumnType × List ℕ). (3 ∷ bytes ≡ type_byte z.0 ∷ [] ++ z.1) × Unit {0})
-    (some_is (BooleanType, bytes) (t, rest) e) (refl, tt)
+type_takes (suc zero ∷ bytes) t rest fits e = byte_taken type_byte NumberType t bytes rest e
+type_takes (suc (suc zero) ∷ bytes) t rest fits e = byte_taken type_byte VarcharType t bytes rest e
+type_takes (suc (suc (suc zero)) ∷ bytes) t rest fits e = byte_taken type_byte BooleanType t bytes rest e
 type_takes (suc (suc (suc (suc tag))) ∷ bytes) t rest fits e = absurd cc
 
 type_again : (t : ColumnType) (rest : List ℕ) → Unit {0} → type_at (type_byte t ∷ [] ++ rest) ≡ Some (t, rest)
@@ -52,10 +68,9 @@ reads_type = record { takes = type_takes; again = type_again }
 pub reads_column : Reads column_bytes IsColumn column_at
 unfolding column_at column_bytes
 reads_column =
-    reads_same column_bytes IsColumn column_at (λ bytes. refl) (λ c. refl) (λ c good. good) (λ c good. good)
-    (reads_as column_bytes IsColumn (λ p. record { name = p.0; column_type = p.1 }) (λ c. (c.name, c.column_type))
-    (λ p good. (refl, good.0)) (λ c good. (refl, (good, tt), refl))
-    (reads_then reads_text (λ name _. reads_type)))
+    reads_record column_bytes IsColumn column_at
+    (λ c. (c.name, c.column_type)) (λ bytes. refl) (λ c. refl) (λ p. refl) (λ p good. good.0) (λ c good. (good, tt))
+    (reads_then reads_text (λ name _. reads_type))
 
 -- ---- new tables
 
@@ -65,21 +80,14 @@ four_grouped a b c d = simp append_assoc
 pub reads_table : Reads table_bytes IsTableChange table_at
 unfolding table_at table_bytes
 reads_table =
-    reads_same table_bytes IsTableChange table_at (λ bytes. refl) (λ c. refl) (λ c good. good) (λ c good. good)
-    (reads_as table_bytes IsTableChange
-    (λ p. record { id = p.0; name = p.1.0; retention = p.1.1.0; columns = p.1.1.1 })
-    (λ c. (c.id, (c.name, (c.retention, c.columns))))
-    (λ p good. (
-      four_grouped (to_be_bytes w32 p.0) (text_bytes p.1.0) (p.1.1.0 ∷ []) (list_bytes column_bytes p.1.1.1),
-      record { id = good.0; name = good.1.0; retention = good.1.1.0; few = good.1.1.1.0; columns = good.1.1.1.1 },
-    ))
-    (λ c good. (
-      four_grouped (to_be_bytes w32 c.id) (text_bytes c.name) (c.retention ∷ []) (list_bytes column_bytes c.columns),
-      (good.id, (good.name, (good.retention, (good.few, good.columns)))),
-      refl,
-    ))
+    reads_record table_bytes IsTableChange table_at
+    (λ c. (c.id, (c.name, (c.retention, c.columns)))) (λ bytes. refl) (λ c. refl)
+    (λ p. four_grouped (to_be_bytes w32 p.0) (text_bytes p.1.0) (p.1.1.0 ∷ []) (list_bytes column_bytes p.1.1.1))
+    (λ p good.
+    record { id = good.0; name = good.1.0; retention = good.1.1.0; few = good.1.1.1.0; columns = good.1.1.1.1 })
+    (λ c good. (good.id, (good.name, (good.retention, (good.few, good.columns)))))
     (reads_then (reads_number wide32) (λ id _. reads_then reads_text
-    (λ name _. reads_then reads_byte (λ retention _. reads_list (reads_number wide32) reads_column)))))
+    (λ name _. reads_then reads_byte (λ retention _. reads_list (reads_number wide32) reads_column))))
 
 -- ---- new versions
 
@@ -114,48 +122,31 @@ six_grouped a b c d e f = simp append_assoc
 pub reads_version : Reads version_bytes IsVersionChange version_at
 unfolding version_at version_bytes
 reads_version =
-    reads_same version_bytes IsVersionChange version_at (λ bytes. refl) (λ c. refl) (λ c good. good) (λ c good. good)
-    (reads_as version_bytes IsVersionChange
-    (λ p. record {
-      id = p.0;
-      data_timestamp = p.1.0;
-      next_row = p.1.1.0;
-      width = p.1.1.1.0;
-      removed = p.1.1.1.1.0;
-      added = p.1.1.1.1.1;
+    reads_record version_bytes IsVersionChange version_at
+    (λ c. (c.id, (c.data_timestamp, (c.next_row, (c.width, (c.removed, c.added)))))) (λ bytes. refl) (λ c. refl)
+    (λ p. six_grouped (to_be_bytes w32 p.0) (to_be_bytes w64 p.1.0) (to_be_bytes w64 p.1.1.0)
+    (to_be_bytes w32 p.1.1.1.0) (list_bytes (to_be_bytes w64) p.1.1.1.1.0) (list_bytes partition_bytes p.1.1.1.1.1))
+    (λ p good. record {
+      id = good.0;
+      data_timestamp = good.1.0;
+      next_row = good.1.1.0;
+      width = good.1.1.1.0;
+      few_removed = good.1.1.1.1.0.0;
+      removed = good.1.1.1.1.0.1;
+      few = good.1.1.1.1.1.0;
+      added = good.1.1.1.1.1.1;
     })
-    (λ c. (c.id, (c.data_timestamp, (c.next_row, (c.width, (c.removed, c.added))))))
-    (λ p good. (
-      six_grouped (to_be_bytes w32 p.0) (to_be_bytes w64 p.1.0) (to_be_bytes w64 p.1.1.0) (to_be_bytes w32 p.1.1.1.0)
-          (list_bytes (to_be_bytes w64) p.1.1.1.1.0) (list_bytes partition_bytes p.1.1.1.1.1),
-      record {
-        id = good.0;
-        data_timestamp = good.1.0;
-        next_row = good.1.1.0;
-        width = good.1.1.1.0;
-        few_removed = good.1.1.1.1.0.0;
-        removed = good.1.1.1.1.0.1;
-        few = good.1.1.1.1.1.0;
-        added = good.1.1.1.1.1.1;
-      },
-    ))
     (λ c good. (
-      six_grouped (to_be_bytes w32 c.id) (to_be_bytes w64 c.data_timestamp) (to_be_bytes w64 c.next_row)
-          (to_be_bytes w32 c.width)
-          (list_bytes (to_be_bytes w64) c.removed) (list_bytes partition_bytes c.added),
+      good.id,
       (
-        good.id,
-        (
-          good.data_timestamp,
-          (good.next_row, (good.width, ((good.few_removed, good.removed), (good.few, good.added)))),
-        ),
+        good.data_timestamp,
+        (good.next_row, (good.width, ((good.few_removed, good.removed), (good.few, good.added)))),
       ),
-      refl,
     ))
     (reads_then (reads_number wide32)
     (λ id _. reads_then (reads_number wide64) (λ timestamp _. reads_then (reads_number wide64) (λ row _.
     reads_then (reads_number wide32) (λ width _. reads_then reads_removed
-    (λ removed _. reads_list (reads_number wide32) (reads_partition width))))))))
+    (λ removed _. reads_list (reads_number wide32) (reads_partition width)))))))
 
 -- ---- new streams and offsets
 
@@ -164,12 +155,8 @@ kind_takes : (bytes : List ℕ) (b : Bool) (rest : List ℕ) → AreBytes bytes 
 unfolding stream_kind_at
 kind_takes [] b rest fits e = absurd cc
 kind_takes (zero ∷ bytes) b rest fits e = absurd cc
-kind_takes (suc zero ∷ bytes) b rest fits e =
-    subst (λ (z : Bool × List ℕ). (1 ∷ bytes ≡ stream_kind_byte z.0 ∷ [] ++ z.1) × Unit {0})
-    (some_is (false, bytes) (b, rest) e) (refl, tt)
-kind_takes (suc (suc zero) ∷ bytes) b rest fits e =
-    subst (λ (z : Bool × List ℕ). (2 ∷ bytes ≡ stream_kind_byte z.0 ∷ [] ++ z.1) × Unit {0})
-    (some_is (true, bytes) (b, rest) e) (refl, tt)
+kind_takes (suc zero ∷ bytes) b rest fits e = byte_taken stream_kind_byte false b bytes rest e
+kind_takes (suc (suc zero) ∷ bytes) b rest fits e = byte_taken stream_kind_byte true b bytes rest e
 kind_takes (suc (suc (suc kind)) ∷ bytes) b rest fits e = absurd cc
 
 kind_again : (b : Bool) (rest : List ℕ) → Unit {0} → stream_kind_at (stream_kind_byte b ∷ [] ++ rest) ≡ Some (b, rest)
@@ -183,23 +170,14 @@ reads_kind = record { takes = kind_takes; again = kind_again }
 pub reads_stream : Reads stream_bytes IsStreamChange stream_at
 unfolding stream_at stream_bytes
 reads_stream =
-    reads_same stream_bytes IsStreamChange stream_at (λ bytes. refl) (λ c. refl) (λ c good. good) (λ c good. good)
-    (reads_as stream_bytes IsStreamChange
-    (λ p. record { id = p.0; name = p.1.0; source = p.1.1.0; is_append_only = p.1.1.1.0; offset = p.1.1.1.1 })
-    (λ c. (c.id, (c.name, (c.source, (c.is_append_only, c.offset)))))
-    (λ p good. (
-      four_grouped (to_be_bytes w32 p.0) (text_bytes p.1.0) (to_be_bytes w32 p.1.1.0)
-          (stream_kind_byte p.1.1.1.0 ∷ to_be_bytes w64 p.1.1.1.1),
-      record { id = good.0; name = good.1.0; source = good.1.1.0; offset = good.1.1.1.1 },
-    ))
-    (λ c good. (
-      four_grouped (to_be_bytes w32 c.id) (text_bytes c.name) (to_be_bytes w32 c.source)
-          (stream_kind_byte c.is_append_only ∷ to_be_bytes w64 c.offset),
-      (good.id, (good.name, (good.source, (tt, good.offset)))),
-      refl,
-    ))
+    reads_record stream_bytes IsStreamChange stream_at
+    (λ c. (c.id, (c.name, (c.source, (c.is_append_only, c.offset))))) (λ bytes. refl) (λ c. refl)
+    (λ p. four_grouped (to_be_bytes w32 p.0) (text_bytes p.1.0) (to_be_bytes w32 p.1.1.0)
+    (stream_kind_byte p.1.1.1.0 ∷ to_be_bytes w64 p.1.1.1.1))
+    (λ p good. record { id = good.0; name = good.1.0; source = good.1.1.0; offset = good.1.1.1.1 })
+    (λ c good. (good.id, (good.name, (good.source, (tt, good.offset)))))
     (reads_then (reads_number wide32) (λ id _. reads_then reads_text (λ name _. reads_then (reads_number wide32)
-    (λ source _. reads_then reads_kind (λ kind _. reads_number wide64))))))
+    (λ source _. reads_then reads_kind (λ kind _. reads_number wide64)))))
 
 pub reads_offset : Reads (λ p. offset_bytes p.0 p.1) (λ p. (p.0 < 2 ^ 32) × (p.1 < 2 ^ 64)) offset_at
 unfolding offset_at offset_bytes
@@ -207,105 +185,55 @@ reads_offset = reads_then (reads_number wide32) (λ id _. reads_number wide64)
 
 -- ---- changes
 
--- the branch that was taken
-branch : {X P : Type 0} (b : Bool) (x y z : Option X) → cond b x y ≡ z → (b ≡ true → x ≡ z → P) → (y ≡ z → P) → P
-branch true x y z e here there = here refl e
-branch false x y z e here there = there e
+-- a tag and what is behind it, as a change
+module _ (tag : ℕ) (bytes : List ℕ) (fits : AreBytes bytes) (c : Change) (rest : List ℕ) where
+  abbrev IsTaken : Type 0
+  IsTaken = (tag ∷ bytes ≡ change_bytes c ++ rest) × IsChange c
 
--- a change behind its tag, n
-tagged_takes : {X : Type 0} {s : X → List ℕ} {g : X → Type 0} {reader : Reader X} → Reads s g reader
-    → (f : X → Change) (n : ℕ) → ((x : X) → g x → (n ∷ s x ≡ change_bytes (f x)) × IsChange (f x))
-    → (tag : ℕ) (bytes : List ℕ) (c : Change) (rest : List ℕ) → AreBytes bytes
-    → eqb tag n ≡ true → as_at f reader bytes ≡ Some (c, rest) → (tag ∷ bytes ≡ change_bytes c ++ rest) × IsChange c
-tagged_takes {X} {s} {g} {reader} r f n spelled tag bytes c rest fits is e =
-    let a = bind_some (reader bytes) (λ x. Some (f x.0, x.1)) (c, rest) e in
-    let one = r.takes bytes a.0.0 a.0.1 fits a.1 in
-    let said = spelled a.0.0 one.1 in
-    let whole : tag ∷ bytes ≡ change_bytes (f a.0.0) ++ a.0.1 =
-    rw (eqb-true tag n is) (ap (λ (l : List ℕ). n ∷ l) one.0 ∙ ap (λ (l : List ℕ). l ++ a.0.1) said.0) in
-    subst (λ (z : Change × List ℕ). (tag ∷ bytes ≡ change_bytes z.0 ++ z.1) × IsChange z.0)
-    (some_is (f a.0.0, a.0.1) (c, rest) a.2) (whole, said.1)
+  -- where the tag is n, and where the others read it
+  tagged_takes : {X : Type 0} {s : X → List ℕ} {g : X → Type 0} {reader : Reader X} (others : Option (Change × List ℕ))
+      → Reads s g reader → (f : X → Change) (n : ℕ)
+      → ((x : X) → g x → (n ∷ s x ≡ change_bytes (f x)) × IsChange (f x)) → (others ≡ Some (c, rest) → IsTaken)
+      → cond (eqb tag n) (as_at f reader bytes) others ≡ Some (c, rest) → IsTaken
+  tagged_takes {X} {s} {g} {reader} others r f n spelled there = by_tag (eqb tag n) refl
+    where
+      by_tag : (b : Bool) → eqb tag n ≡ b → cond b (as_at f reader bytes) others ≡ Some (c, rest) → IsTaken
+      by_tag false is e = there e
+      by_tag true is e =
+          let a = bind_some (reader bytes) (λ x. Some (f x.0, x.1)) (c, rest) e in
+          let one = r.takes bytes a.0.0 a.0.1 fits a.1 in
+          let said = spelled a.0.0 one.1 in
+          let whole : tag ∷ bytes ≡ change_bytes (f a.0.0) ++ a.0.1 =
+          rw (eqb-true tag n is) (ap (λ (l : List ℕ). n ∷ l) one.0 ∙ ap (λ (l : List ℕ). l ++ a.0.1) said.0) in
+          subst (λ (z : Change × List ℕ). (tag ∷ bytes ≡ change_bytes z.0 ++ z.1) × IsChange z.0)
+          (some_is (f a.0.0, a.0.1) (c, rest) a.2) (whole, said.1)
 
--- ---- what the tests of a tag that are left say
-
-abbrev offset_behind : ℕ → Reader Change
-offset_behind tag bytes = cond (eqb tag 11) (as_at (λ p. SetsOffset p.0 p.1) offset_at bytes) None
-
-abbrev version_behind : ℕ → Reader Change
-version_behind tag bytes = cond (eqb tag 10) (as_at PushesVersion version_at bytes) (offset_behind tag bytes)
-
-abbrev stream_behind : ℕ → Reader Change
-stream_behind tag bytes = cond (eqb tag 3) (as_at CreatesStream stream_at bytes) (version_behind tag bytes)
-
-abbrev drop_behind : ℕ → Reader Change
-drop_behind tag bytes = cond (eqb tag 2) (as_at Drops (number_at w32) bytes) (stream_behind tag bytes)
-
-offset_takes : (tag : ℕ) (bytes : List ℕ) (c : Change) (rest : List ℕ) → AreBytes bytes
-    → offset_behind tag bytes ≡ Some (c, rest)
-    → (tag ∷ bytes ≡ change_bytes c ++ rest) × IsChange c
-unfolding change_bytes
-offset_takes tag bytes c rest fits e =
-    branch (eqb tag 11) (as_at (λ p. SetsOffset p.0 p.1) offset_at bytes) None (Some (c, rest)) e
-    (tagged_takes reads_offset (λ p. SetsOffset p.0 p.1) 11 (λ p good. (refl, good)) tag bytes c rest fits)
-    (λ none. absurd cc)
-
-version_takes : (tag : ℕ) (bytes : List ℕ) (c : Change) (rest : List ℕ) → AreBytes bytes
-    → version_behind tag bytes ≡ Some (c, rest)
-    → (tag ∷ bytes ≡ change_bytes c ++ rest) × IsChange c
-unfolding change_bytes
-version_takes tag bytes c rest fits e =
-    branch (eqb tag 10) (as_at PushesVersion version_at bytes) (offset_behind tag bytes) (Some (c, rest)) e
-    (tagged_takes reads_version PushesVersion 10 (λ v good. (refl, good)) tag bytes c rest fits)
-    (offset_takes tag bytes c rest fits)
-
-stream_takes : (tag : ℕ) (bytes : List ℕ) (c : Change) (rest : List ℕ) → AreBytes bytes
-    → stream_behind tag bytes ≡ Some (c, rest)
-    → (tag ∷ bytes ≡ change_bytes c ++ rest) × IsChange c
-unfolding change_bytes
-stream_takes tag bytes c rest fits e =
-    branch (eqb tag 3) (as_at CreatesStream stream_at bytes) (version_behind tag bytes) (Some (c, rest)) e
-    (tagged_takes reads_stream CreatesStream 3 (λ s good. (refl, good)) tag bytes c rest fits)
-    (version_takes tag bytes c rest fits)
-
-drop_takes : (tag : ℕ) (bytes : List ℕ) (c : Change) (rest : List ℕ) → AreBytes bytes
-    → drop_behind tag bytes ≡ Some (c, rest)
-    → (tag ∷ bytes ≡ change_bytes c ++ rest) × IsChange c
-unfolding change_bytes
-drop_takes tag bytes c rest fits e =
-    branch (eqb tag 2) (as_at Drops (number_at w32) bytes) (stream_behind tag bytes) (Some (c, rest)) e
-    (tagged_takes (reads_number wide32) Drops 2 (λ id good. (refl, good)) tag bytes c rest fits)
-    (stream_takes tag bytes c rest fits)
-
-behind_takes : (tag : ℕ) (bytes : List ℕ) (c : Change) (rest : List ℕ) → AreBytes bytes
-    → change_behind tag bytes ≡ Some (c, rest)
-    → (tag ∷ bytes ≡ change_bytes c ++ rest) × IsChange c
-unfolding change_bytes
-behind_takes tag bytes c rest fits e =
-    branch (eqb tag 1) (as_at CreatesTable table_at bytes) (drop_behind tag bytes) (Some (c, rest)) e
-    (tagged_takes reads_table CreatesTable 1 (λ t good. (refl, good)) tag bytes c rest fits)
-    (drop_takes tag bytes c rest fits)
+  behind_takes : change_behind tag bytes ≡ Some (c, rest) → IsTaken
+  unfolding change_bytes
+  behind_takes =
+      tagged_takes _ reads_table CreatesTable 1 (λ t good. (refl, good))
+      (tagged_takes _ (reads_number wide32) Drops 2 (λ id good. (refl, good))
+      (tagged_takes _ reads_stream CreatesStream 3 (λ s good. (refl, good))
+      (tagged_takes _ reads_version PushesVersion 10 (λ v good. (refl, good))
+      (tagged_takes None reads_offset (λ p. SetsOffset p.0 p.1) 11 (λ p good. (refl, good)) (λ none. absurd cc)))))
 
 change_takes : (bytes : List ℕ) (c : Change) (rest : List ℕ) → AreBytes bytes → change_at bytes ≡ Some (c, rest)
     → (bytes ≡ change_bytes c ++ rest) × IsChange c
 unfolding change_at
 change_takes [] c rest fits e = absurd cc
-change_takes (tag ∷ bytes) c rest fits e = behind_takes tag bytes c rest (λ i. fits (suc i)) e
+change_takes (tag ∷ bytes) c rest fits e = behind_takes tag bytes (λ i. fits (suc i)) c rest e
+
+abbrev said : {X : Type 0} → (X → Change) → Option (X × List ℕ) → Option (Change × List ℕ)
+said f read = read >>= λ x. Some (f x.0, x.1)
 
 change_again : (c : Change) (rest : List ℕ) → IsChange c → change_at (change_bytes c ++ rest) ≡ Some (c, rest)
 unfolding change_at change_bytes
-change_again (CreatesTable c) rest good =
-    ap (λ (o : Option (TableChange × List ℕ)). o >>= λ x. Some (CreatesTable x.0, x.1)) (reads_table.again c rest good)
-change_again (Drops id) rest good =
-    ap (λ (o : Option (ℕ × List ℕ)). o >>= λ x. Some (Drops x.0, x.1)) ((reads_number wide32).again id rest good)
-change_again (PushesVersion c) rest good =
-    ap (λ (o : Option (VersionChange × List ℕ)). o >>= λ x. Some (PushesVersion x.0, x.1))
-    (reads_version.again c rest good)
-change_again (CreatesStream c) rest good =
-    ap (λ (o : Option (StreamChange × List ℕ)). o >>= λ x. Some (CreatesStream x.0, x.1))
-    (reads_stream.again c rest good)
+change_again (CreatesTable c) rest good = ap (said CreatesTable) (reads_table.again c rest good)
+change_again (Drops id) rest good = ap (said Drops) ((reads_number wide32).again id rest good)
+change_again (PushesVersion c) rest good = ap (said PushesVersion) (reads_version.again c rest good)
+change_again (CreatesStream c) rest good = ap (said CreatesStream) (reads_stream.again c rest good)
 change_again (SetsOffset id offset) rest good =
-    ap (λ (o : Option ((ℕ × ℕ) × List ℕ)). o >>= λ x. Some (SetsOffset x.0.0 x.0.1, x.1))
-    (reads_offset.again (id, offset) rest good)
+    ap (said (λ (p : ℕ × ℕ). SetsOffset p.0 p.1)) (reads_offset.again (id, offset) rest good)
 
 pub reads_change : Reads change_bytes IsChange change_at
 reads_change = record { takes = change_takes; again = change_again }
@@ -315,11 +243,11 @@ reads_change = record { takes = change_takes; again = change_again }
 pub reads_commit : Reads payload_of IsCommit commit_at
 unfolding commit_at payload_of
 reads_commit =
-    reads_same payload_of IsCommit commit_at (λ bytes. refl) (λ c. refl) (λ c good. good) (λ c good. good)
-    (reads_as payload_of IsCommit (λ p. record { stamp = p.0; changes = p.1 }) (λ c. (c.stamp, c.changes))
-    (λ p good. (refl, record { stamp = good.0; few = good.1.0; changes = good.1.1 }))
-    (λ c good. (refl, (good.stamp, (good.few, good.changes)), refl))
-    (reads_then (reads_number wide64) (λ stamp _. reads_list (reads_number wide32) reads_change)))
+    reads_record payload_of IsCommit commit_at (λ c. (c.stamp, c.changes))
+    (λ bytes. refl) (λ c. refl) (λ p. refl)
+    (λ p good. record { stamp = good.0; few = good.1.0; changes = good.1.1 })
+    (λ c good. (good.stamp, (good.few, good.changes)))
+    (reads_then (reads_number wide64) (λ stamp _. reads_list (reads_number wide32) reads_change))
 
 -- ---- what a reading of all the bytes says
 

@@ -182,45 +182,33 @@ table_found : (objects : List Object) (id : ℕ) (o : Object) (t : Table) → at
     → o.kind ≡ TableKind t → table_at objects id ≡ Some t
 table_found objects id o t there is = rw (there, is) refl
 
+stands : (objects : List Object) (id : ℕ) (is : Kind → Type 0) → (at_id objects id ≡ None → ⊥)
+    → ((o : Object) → at_id objects id ≡ Some o → is o.kind) → Standing objects id is
+stands objects id is some kind = by_found (at_id objects id) refl
+  where
+    by_found : (found : Option Object) → at_id objects id ≡ found → Standing objects id is
+    by_found None missing = absurd (some missing)
+    by_found (Some o) there = record { object = o; there = there; kind = kind o there }
+
 stream_stands : (objects : List Object) (id : ℕ) (s : Stream) → stream_at objects id ≡ Some s
     → Standing objects id (IsStream s)
-stream_stands objects id s at = by_found (at_id objects id) refl
+stream_stands objects id s at =
+    stands objects id (IsStream s) (λ missing. let none : stream_at objects id ≡ None = rw missing refl in absurd cc)
+    (λ o there. by_kind o there o.kind refl)
   where
-    by_kind : (o : Object) (k : Kind) → at_id objects id ≡ Some o → o.kind ≡ k → Standing objects id (IsStream s)
-    by_kind o (TableKind t) there is =
-        let none : stream_at objects id ≡ None = rw (there, is) refl in
-        absurd cc
-    by_kind o (StreamKind r) there is = record {
-      object = o;
-      there = there;
-      kind = is ∙ ap StreamKind (some_same r s (sym (stream_found objects id o r there is) ∙ at));
-    }
-
-    by_found : (found : Option Object) → at_id objects id ≡ found → Standing objects id (IsStream s)
-    by_found None missing =
-        let none : stream_at objects id ≡ None = rw missing refl in
-        absurd cc
-    by_found (Some o) there = by_kind o o.kind there refl
+    by_kind : (o : Object) → at_id objects id ≡ Some o → (k : Kind) → o.kind ≡ k → IsStream s k
+    by_kind o there (TableKind t) is = let none : stream_at objects id ≡ None = rw (there, is) refl in absurd cc
+    by_kind o there (StreamKind r) is = ap StreamKind (some_same r s (sym (stream_found objects id o r there is) ∙ at))
 
 table_stands : (objects : List Object) (id : ℕ) (t : Table) → table_at objects id ≡ Some t
     → Standing objects id (IsTable t)
-table_stands objects id t at = by_found (at_id objects id) refl
+table_stands objects id t at =
+    stands objects id (IsTable t) (λ missing. let none : table_at objects id ≡ None = rw missing refl in absurd cc)
+    (λ o there. by_kind o there o.kind refl)
   where
-    by_kind : (o : Object) (k : Kind) → at_id objects id ≡ Some o → o.kind ≡ k → Standing objects id (IsTable t)
-    by_kind o (StreamKind r) there is =
-        let none : table_at objects id ≡ None = rw (there, is) refl in
-        absurd cc
-    by_kind o (TableKind u) there is = record {
-      object = o;
-      there = there;
-      kind = is ∙ ap TableKind (some_same u t (sym (table_found objects id o u there is) ∙ at));
-    }
-
-    by_found : (found : Option Object) → at_id objects id ≡ found → Standing objects id (IsTable t)
-    by_found None missing =
-        let none : table_at objects id ≡ None = rw missing refl in
-        absurd cc
-    by_found (Some o) there = by_kind o o.kind there refl
+    by_kind : (o : Object) → at_id objects id ≡ Some o → (k : Kind) → o.kind ≡ k → IsTable t k
+    by_kind o there (StreamKind r) is = let none : table_at objects id ≡ None = rw (there, is) refl in absurd cc
+    by_kind o there (TableKind u) is = ap TableKind (some_same u t (sym (table_found objects id o u there is) ∙ at))
 
 -- and later on
 record Later (R : Object → Object → Type 0) (objects : List Object) (id : ℕ) (old : Object) : Type 0 where

@@ -20,8 +20,8 @@ use Rattle.wh_reply.specs.Reply.{Reply, NumberOutOfRange, Inserted, Updated, Del
 use Rattle.wh_machine.specs.Edits.{edits_of, partitions_made}
 use Rattle.wh_machine.specs.Outcome.{Act, EditsRows}
 use Rattle.wh_machine.specs.Changes.{edits_refusal}
-use Rattle.wh_machine.proofs.KnownFacts.{entries-empty}
-use Rattle.wh_machine.proofs.KnownChanges.{row, filled, row_put, edit_put, edit_none}
+use Rattle.wh_machine.proofs.KnownMaps.{map_steps}
+use Rattle.wh_machine.proofs.KnownChanges.{row, filled}
 use Rattle.wh_sessions.specs.Transaction.{seen}
 use Rattle.wh_sessions.specs.Sessions.{no_sessions}
 use Rattle.wh_sessions.specs.Outcome.{Outcome, Refuses, Does, opened}
@@ -38,7 +38,7 @@ answers reply = Does reply no_sessions None
 abbrev commits : Reply → List Act → Outcome
 commits reply acts = Does reply no_sessions (Some acts)
 
-ruleset steps = (layers, condition_of, row_put, entries-empty, edit_put, edit_none)
+ruleset steps = (layers, condition_of, map_steps)
 
 -- K = k
 abbrev is_k : ℕ → Expr

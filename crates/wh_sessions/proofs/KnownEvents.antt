@@ -36,7 +36,7 @@ use Rattle.wh_machine.specs.Outcome.{EditsRows, edited_table}
 use Rattle.wh_machine.specs.Tables.{table_refusal, taken_name, create_table, drop_table}
 use Rattle.wh_machine.specs.Streams.{drop_stream}
 use Rattle.wh_machine.specs.Changes.{edits_refusal}
-use Rattle.wh_machine.proofs.KnownFacts.{entries-empty}
+use Rattle.wh_machine.proofs.KnownMaps.{no_entries}
 use Rattle.wh_sessions.specs.Transaction.{seen}
 use Rattle.wh_sessions.specs.Sessions.{no_sessions}
 use Rattle.wh_sessions.specs.Outcome.{Machine, Refuses, Does, opened}
@@ -146,7 +146,7 @@ none_go : text first
 unfolding step commanded carried_out defines create_table drop_table table_refusal changes_rows
     changed seen reading_refusal bound_change first_failing typing.step effect values_on val edits_refusal edited_table
     partitions_made edits_of print digits
-none_go = simp (literal_typed, entries-empty)
+none_go = simp (literal_typed, no_entries)
 
 -- a session that there isn't is tested behind the grammar
 session : ((step first (Command 0 65 (Asked st.Begin))).1 ≡ Refused (NoSuchSession 65))

@@ -1,17 +1,11 @@
 -- Statements that read a stream, worked out by hand: T has the row 7 since stamp 4, S shows what T got behind
 -- stamp 2, and C is empty.
-use Rattle.std.proofs.Common.{◌≡◌, ap, ◌∙◌, ℕ, true, false, List, [], ◌∷◌, ◌++◌, Some, None, cond, pos}
-use Rattle.std.proofs.Common.{refl, sym}
-use Rattle.std.proofs.lemmas.List.{nil_from_length}
+use Rattle.std.proofs.Common.{◌≡◌, ap, ◌∙◌, ℕ, true, false, List, [], ◌∷◌, ◌++◌, Some, None, pos}
+use Rattle.std.proofs.Common.{refl}
 use Rattle.std.specs.Prelude.{codes}
 use Rattle.std.specs.Fmt.{digits}
-use Rattle.std.specs.FinMap.{FinMap, empty, get, insert, entries, get-empty, get-insert, entries-insert, len-entries}
-use Rattle.std.specs.FinMap.{len-empty}
-use Rattle.std.specs.FinMap.Entries.{put}
-use Rattle.std.specs.Ordering.{nat_cmp, eq_by_cmp}
-use Rattle.std.specs.Cmp.{nat_cmp_total}
-use Rattle.wh_value.specs.Value.{Number, Row, row_cmp}
-use Rattle.wh_value.specs.Order.{row_total}
+use Rattle.std.specs.FinMap.{empty, insert}
+use Rattle.wh_value.specs.Value.{Number, Row}
 use Rattle.wh_value.specs.Column.{NumberType}
 use Rattle.wh_ast.specs.declared.dml.Dml.{Dml}
 use Rattle.wh_ast.specs.declared.dml.Dml.TheVariants as dml
@@ -37,6 +31,7 @@ use Rattle.wh_machine.specs.Tables.{table_refusal, create_table, drop_table}
 use Rattle.wh_machine.specs.Streams.{stream_refusal, create_stream, drop_stream}
 use Rattle.wh_machine.specs.Queries.{names_from}
 use Rattle.wh_machine.specs.Changes.{edits_refusal}
+use Rattle.wh_machine.proofs.KnownMaps.{map_steps}
 use Rattle.wh_streams.specs.Net.{net}
 use Rattle.wh_streams.specs.Stream.{shown}
 use Rattle.wh_sessions.specs.Transaction.{Transaction, begun, seen, staged, acts_of, past_limit}
@@ -80,29 +75,7 @@ objects = new_object (codes "T") 1 (TableKind table_t) ∷ new_object (codes "S"
 abbrev machine : Sessions → Machine
 machine sessions = record { state = record { last = 6; committed = 4; objects = objects }; sessions = sessions }
 
-put_in : {X : Type 0} (m : FinMap nat_cmp X) (k : ℕ) (x : X) → entries (insert m k x) ≡ put nat_cmp k x (entries m)
-put_in m k x = entries-insert nat_cmp_total m k x
-
-none_in : {X : Type 0} → entries (empty {K = ℕ} {X = X} {R = nat_cmp}) ≡ []
-none_in {X} = nil_from_length _ (sym (len-entries empty) ∙ len-empty nat_cmp X)
-
-got : {X : Type 0} (m : FinMap nat_cmp X) (k : ℕ) (x : X) (q : ℕ)
-    → get (insert m k x) q ≡ cond (eq_by_cmp nat_cmp q k) (Some x) (get m q)
-got m k x q = get-insert nat_cmp_total m k x q
-
-got_none : {X : Type 0} (q : ℕ) → get (empty {K = ℕ} {X = X} {R = nat_cmp}) q ≡ None
-got_none q = get-empty nat_cmp q
-
-counts_put : (bag : FinMap row_cmp ℕ) (row : Row) (n : ℕ) → entries (insert bag row n) ≡ put row_cmp row n (entries bag)
-counts_put bag row n = entries-insert row_total bag row n
-
-no_count : entries (empty {K = Row} {X = ℕ} {R = row_cmp}) ≡ []
-no_count = nil_from_length _ (sym (len-entries empty) ∙ len-empty row_cmp ℕ)
-
-count_got : (row : Row) → get (empty {K = Row} {X = ℕ} {R = row_cmp}) row ≡ None
-count_got row = get-empty row_cmp row
-
-ruleset steps = (layers, put_in, none_in, got, got_none, counts_put, no_count, count_got)
+ruleset steps = (layers, map_steps)
 
 -- SELECT K FROM S
 abbrev from_s : WrittenQuery
@@ -168,7 +141,7 @@ a_stream_is_held = insert_read (machine in_transaction) 1 _ (simp steps)
 its_commit_moves_the_offset : commit (machine (with_transaction no_sessions 1 holding)) 1
     ≡ Does (Committed 6) no_sessions (Some (EditsRows 3 one_row ∷ MovesOffset 2 4 ∷ []))
 unfolding commit acts_of past_limit partitions_made
-its_commit_moves_the_offset = simp (put_in, none_in)
+its_commit_moves_the_offset = simp map_steps
 
 others_are_locked_out : changes_rows (machine (with_transaction no_sessions 1 holding)) 2 from_s_to_c
     ≡ Refuses (Locked 5)

@@ -2,13 +2,8 @@
 --     first, second      the edits of a statement that adds two rows; and of one that changes row 1 and the second
 --                        added row, deletes the first added row and adds another
 --     of_two             a transaction that touched table 2 and holds table 5 untouched
-use Rattle.std.proofs.Common.{◌≡◌, ℕ, true, false, List, [], ◌∷◌, Option, Some, None, cond, pos, refl, sym, ◌∙◌}
-use Rattle.std.proofs.lemmas.List.{nil_from_length}
-use Rattle.std.specs.FinMap.{FinMap, empty, get, insert, entries, get-empty, get-insert}
-use Rattle.std.specs.FinMap.{entries-insert, len-entries, len-empty}
-use Rattle.std.specs.FinMap.Entries.{put}
-use Rattle.std.specs.Ordering.{nat_cmp, eq_by_cmp}
-use Rattle.std.specs.Cmp.{nat_cmp_total}
+use Rattle.std.proofs.Common.{◌≡◌, ℕ, true, false, List, [], ◌∷◌, Option, Some, None, pos, refl}
+use Rattle.std.specs.FinMap.{empty, insert, entries}
 use Rattle.wh_value.specs.Value.{Number, Row}
 use Rattle.std.specs.Option.{option_map}
 use Rattle.wh_value.specs.Limit.{bound}
@@ -19,25 +14,13 @@ use Rattle.wh_machine.specs.State.{Rows, Object, TableKind, new_object, version_
 use Rattle.wh_machine.specs.Objects.{table_at}
 use Rattle.wh_machine.specs.Edits.{Edits, no_edits, later_edits, edits_of, rows_after}
 use Rattle.wh_machine.specs.Outcome.{EditsRows, edited_table}
+use Rattle.wh_machine.proofs.KnownMaps.{map_steps}
 use Rattle.wh_sessions.specs.Transaction.{Staged, Transaction, begun, seen, staged, acts_of, past_limit, commit_refusal}
 use Rattle.wh_sessions.specs.Sessions.{Sessions, no_sessions, number_in, holder, locked_by}
 use Rattle.wh_sessions.specs.Sessions.{with_begun, with_ended, with_transaction}
 
 abbrev row : ℕ → Row
 row k = Number (pos k) ∷ []
-
-put_in : {X : Type 0} (m : FinMap nat_cmp X) (k : ℕ) (x : X) → entries (insert m k x) ≡ put nat_cmp k x (entries m)
-put_in m k x = entries-insert nat_cmp_total m k x
-
-none_in : {X : Type 0} → entries (empty {K = ℕ} {X = X} {R = nat_cmp}) ≡ []
-none_in {X} = nil_from_length _ (sym (len-entries empty) ∙ len-empty nat_cmp X)
-
-got : {X : Type 0} (m : FinMap nat_cmp X) (k : ℕ) (x : X) (q : ℕ)
-    → get (insert m k x) q ≡ cond (eq_by_cmp nat_cmp q k) (Some x) (get m q)
-got m k x q = get-insert nat_cmp_total m k x q
-
-got_none : {X : Type 0} (q : ℕ) → get (empty {K = ℕ} {X = X} {R = nat_cmp}) q ≡ None
-got_none q = get-empty nat_cmp q
 
 -- ---- edits on top of earlier ones
 
@@ -52,7 +35,7 @@ second =
 -- a row that was added and deleted takes no number
 both : later_edits 3 first second ≡ record { rows = insert empty 1 (Some (row 11)); added = row 41 ∷ row 50 ∷ [] }
 unfolding later_edits
-both = simp (put_in, none_in, got)
+both = simp map_steps
 
 abbrev committed : Rows
 committed = insert (insert empty 1 (row 10)) 2 (row 20)
@@ -60,7 +43,7 @@ committed = insert (insert empty 1 (row 10)) 2 (row 20)
 seen_rows : entries (rows_after 3 (later_edits 3 first second) committed)
     ≡ (1, row 11) ∷ (2, row 20) ∷ (3, row 41) ∷ (4, row 50) ∷ []
 unfolding rows_after later_edits
-seen_rows = simp (put_in, none_in, got, got_none)
+seen_rows = simp map_steps
 
 -- ---- a statement in a transaction, and what it then sees
 
@@ -88,7 +71,7 @@ after_one = record {
 
 a_statement_is_staged : staged (begun 7) 1 [] 3 effect_of_one ≡ after_one
 unfolding staged later_edits edits_of
-a_statement_is_staged = simp (put_in, none_in, got_none)
+a_statement_is_staged = simp map_steps
 
 abbrev rows_at : List Object → ℕ → Option (List (ℕ × Row))
 rows_at objects id = option_map (λ t. entries (last_rows t)) (table_at objects id)
@@ -97,13 +80,13 @@ its_rows_are_seen : rows_at
     (seen (record { last = 9; committed = 5; objects = table_with 3 ∷ [] }) (Some after_one)).objects 1
     ≡ Some ((1, row 11) ∷ (2, row 20) ∷ (3, row 30) ∷ [])
 unfolding seen edited_table rows_after
-its_rows_are_seen = simp (put_in, none_in, got, got_none)
+its_rows_are_seen = simp map_steps
 
 -- one row more than there are numbers
 a_commit_past_the_last_row_number : commit_refusal (table_with (bound limits.RowNumber) ∷ []) after_one
     ≡ Some (OverLimit limits.RowNumber)
 unfolding past_limit
-a_commit_past_the_last_row_number = simp (put_in, none_in)
+a_commit_past_the_last_row_number = simp map_steps
 
 -- ---- what a commit has
 
@@ -118,11 +101,11 @@ of_two = record { number = 7; tables = insert (insert empty 5 held_alone) 2 (sta
 
 a_table_that_is_held_alone_gets_no_version : acts_of [] of_two ≡ Some (EditsRows 2 first ∷ [])
 unfolding acts_of
-a_table_that_is_held_alone_gets_no_version = simp (put_in, none_in)
+a_table_that_is_held_alone_gets_no_version = simp map_steps
 
 holds_alone_make_no_commit : acts_of [] (record { number = 7; tables = insert empty 5 held_alone; streams = [] }) ≡ None
 unfolding acts_of
-holds_alone_make_no_commit = simp (put_in, none_in)
+holds_alone_make_no_commit = simp map_steps
 
 -- ---- holds: session 1 has `of_two`, and session 3 a transaction that holds nothing
 
@@ -130,13 +113,13 @@ abbrev opened : Sessions
 opened = with_begun (with_transaction no_sessions 1 of_two) 3 9
 
 a_held_table_is_locked_for_others : locked_by opened 3 5 ≡ Some 7
-a_held_table_is_locked_for_others = simp got
+a_held_table_is_locked_for_others = simp map_steps
 
 and_not_for_its_own_session : locked_by opened 1 5 ≡ None
-and_not_for_its_own_session = simp got_none
+and_not_for_its_own_session = simp map_steps
 
 a_table_that_nobody_holds : holder opened 4 ≡ None
-a_table_that_nobody_holds = simp (got, got_none)
+a_table_that_nobody_holds = simp map_steps
 
 an_ended_transaction_has_no_number : number_in (with_ended opened 1) 1 ≡ None
 an_ended_transaction_has_no_number = refl

@@ -1,36 +1,18 @@
 -- Streams worked out by hand, over a table of the versions that stamps 2 to 6 left.
-use Rattle.std.proofs.Common.{◌≡◌, ℕ, true, false, [], ◌∷◌, Some, None, cond, pos, refl, sym, ◌∙◌}
-use Rattle.std.proofs.lemmas.List.{nil_from_length}
+use Rattle.std.proofs.Common.{◌≡◌, ℕ, true, false, [], ◌∷◌, Some, None, pos, refl}
 use Rattle.std.specs.Prelude.{codes}
 use Rattle.std.specs.Fmt.{digits}
-use Rattle.std.specs.FinMap.{empty, get, insert, entries, get-empty, get-insert, entries-insert, len-entries}
-use Rattle.std.specs.FinMap.{len-empty}
-use Rattle.std.specs.FinMap.Entries.{put}
-use Rattle.std.specs.Ordering.{nat_cmp, eq_by_cmp}
-use Rattle.std.specs.Cmp.{nat_cmp_total}
+use Rattle.std.specs.FinMap.{empty, insert}
 use Rattle.wh_value.specs.Value.{Number, Truth, Text, Row}
 use Rattle.wh_machine.specs.State.{Rows, Table, Stream, version_at}
 use Rattle.wh_machine.specs.Outcome.{MovesOffset}
 use Rattle.wh_machine.specs.Streams.{with_streams, offset_move, acts_of_commit}
+use Rattle.wh_machine.proofs.KnownMaps.{map_steps}
 use Rattle.wh_streams.specs.Net.{deleted, inserted, net, appended}
 use Rattle.wh_streams.specs.Stream.{shown, shown_row, is_stale}
 
 abbrev row : ℕ → Row
 row k = Number (pos k) ∷ []
-
-put_in : (m : Rows) (k : ℕ) (x : Row) → entries (insert m k x) ≡ put nat_cmp k x (entries m)
-put_in m k x = entries-insert nat_cmp_total m k x
-
-none_in : entries (empty {K = ℕ} {X = Row} {R = nat_cmp}) ≡ []
-none_in = nil_from_length _ (sym (len-entries empty) ∙ len-empty nat_cmp Row)
-
-got : (m : Rows) (k : ℕ) (x : Row) (q : ℕ) → get (insert m k x) q ≡ cond (eq_by_cmp nat_cmp q k) (Some x) (get m q)
-got m k x q = get-insert nat_cmp_total m k x q
-
-got_none : (q : ℕ) → get (empty {K = ℕ} {X = Row} {R = nat_cmp}) q ≡ None
-got_none q = get-empty nat_cmp q
-
-ruleset steps = (put_in, none_in, got, got_none)
 
 -- rows 1 to 3; then row 1 is changed, row 2 goes and row 4 comes
 abbrev before : Rows
@@ -42,11 +24,11 @@ behind = insert (insert (insert empty 1 (row 11)) 3 (row 30)) 4 (row 40)
 changes : net before behind ≡ deleted 1 true (row 10) ∷ inserted 1 true (row 11) ∷ deleted 2 false (row 20)
     ∷ inserted 4 false (row 40) ∷ []
 unfolding net
-changes = simp steps
+changes = simp map_steps
 
 no_changes : net behind behind ≡ []
 unfolding net
-no_changes = simp steps
+no_changes = simp map_steps
 
 -- a table of one row, then another beside it that is changed, then the first one alone
 abbrev table : Table
@@ -71,22 +53,22 @@ append_only offset = record { source = 7; is_append_only = true; offset = offset
 -- a row that came and changed behind the offset came as it is now
 an_inserted_row : shown table (standard 2) 5 ≡ inserted 2 false (row 21) ∷ []
 unfolding shown net
-an_inserted_row = simp steps
+an_inserted_row = simp map_steps
 
 -- and one that came and went is not shown
 a_row_that_came_and_went : shown table (standard 2) 6 ≡ []
 unfolding shown net
-a_row_that_came_and_went = simp steps
+a_row_that_came_and_went = simp map_steps
 
 -- but by a stream of appended rows, as it came
 an_appended_row : shown table (append_only 2) 6 ≡ inserted 2 false (row 20) ∷ []
 unfolding shown appended
-an_appended_row = simp steps
+an_appended_row = simp map_steps
 
 -- the range begins behind the offset
 behind_the_offset : shown table (append_only 3) 6 ≡ []
 unfolding shown appended
-behind_the_offset = simp steps
+behind_the_offset = simp map_steps
 
 nothing_before_the_offset : shown table (standard 5) 5 ≡ []
 unfolding shown

@@ -14,8 +14,8 @@ use Rattle.wh_value.specs.Value.{Row, row_cmp}
 use Rattle.wh_value.specs.Order.{row-IsAntisymmetric}
 use Rattle.wh_machine.specs.State.{Rows}
 use Rattle.wh_machine.proofs.RowLaws.{number_tied}
-use Rattle.wh_streams.specs.Net.{Action, Delete, Insert, Record, change_at, arrival_at, numbers_in, net, patch}
-use Rattle.wh_streams.specs.Net.{taken_out, put_back, without_deleted, with_inserted}
+use Rattle.wh_streams.specs.Net.{Action, Delete, Insert, Record, deleted, inserted, change_at, arrival_at, numbers_in}
+use Rattle.wh_streams.specs.Net.{net, patch, taken_out, put_back, without_deleted, with_inserted}
 
 -- ---- records one after the other
 
@@ -95,93 +95,57 @@ arrives old None = false
 arrives None (Some new) = true
 arrives (Some old) (Some new) = false
 
-change_deletes : (q n : ℕ) (same : Bool) → is_at q n ≡ same → (old new : Option Row)
-    → list_any (deletes q) (change_at n old new) ≡ (same && goes old new)
-change_deletes q n true is None new = refl
-change_deletes q n true is (Some old) None = rw is refl
-change_deletes q n true is (Some old) (Some new) = by_rows (eq_by_cmp row_cmp old new)
+and_false : (b : Bool) → false ≡ (b && false)
+and_false true = refl
+and_false false = refl
+
+and_true : (b : Bool) → b ≡ (b && true)
+and_true true = refl
+and_true false = refl
+
+or_nothing : (b : Bool) → (b || false) ≡ (b && true)
+or_nothing true = refl
+or_nothing false = refl
+
+change_deletes : (q n : ℕ) (old new : Option Row)
+    → list_any (deletes q) (change_at n old new) ≡ (is_at q n && goes old new)
+change_deletes q n None new = and_false (is_at q n)
+change_deletes q n (Some old) None = or_nothing (is_at q n)
+change_deletes q n (Some old) (Some new) = by_rows (eq_by_cmp row_cmp old new)
   where
-    by_rows : (b : Bool) → list_any (deletes q) (cond b [] (record {
-      number = n;
-      action = Delete;
-      is_update = true;
-      row = old;
-    } ∷ record {
-      number = n;
-      action = Insert;
-      is_update = true;
-      row = new;
-    } ∷ [])) ≡ not b
-    by_rows true = refl
-    by_rows false = rw is refl
-change_deletes q n false is None new = refl
-change_deletes q n false is (Some old) None = rw is refl
-change_deletes q n false is (Some old) (Some new) = by_rows (eq_by_cmp row_cmp old new)
-  where
-    by_rows : (b : Bool) → list_any (deletes q) (cond b [] (record {
-      number = n;
-      action = Delete;
-      is_update = true;
-      row = old;
-    } ∷ record {
-      number = n;
-      action = Insert;
-      is_update = true;
-      row = new;
-    } ∷ [])) ≡ false
-    by_rows true = refl
-    by_rows false = rw is refl
+    by_rows : (b : Bool) → list_any (deletes q) (cond b [] (deleted n true old ∷ inserted n true new ∷ []))
+        ≡ (is_at q n && not b)
+    by_rows true = and_false (is_at q n)
+    by_rows false = or_nothing (is_at q n)
 
 arrival_deletes : (q n : ℕ) (old new : Option Row) → list_any (deletes q) (arrival_at n old new) ≡ false
 arrival_deletes q n old None = refl
 arrival_deletes q n None (Some new) = refl
 arrival_deletes q n (Some old) (Some new) = refl
 
-change_stands : (q n : ℕ) (same : Bool) → is_at q n ≡ same → (old new found : Option Row)
-    → stands q (change_at n old new) found ≡ cond (same && changes old new) new found
-change_stands q n true is None new found = refl
-change_stands q n true is (Some old) None found = refl
-change_stands q n true is (Some old) (Some new) found = by_rows (eq_by_cmp row_cmp old new)
-  where
-    by_rows : (b : Bool) → stands q (cond b [] (record {
-      number = n;
-      action = Delete;
-      is_update = true;
-      row = old;
-    } ∷ record {
-      number = n;
-      action = Insert;
-      is_update = true;
-      row = new;
-    } ∷ [])) found ≡ cond (not b) (Some new) found
-    by_rows true = refl
-    by_rows false = rw is refl
-change_stands q n false is None new found = refl
-change_stands q n false is (Some old) None found = refl
-change_stands q n false is (Some old) (Some new) found = by_rows (eq_by_cmp row_cmp old new)
-  where
-    by_rows : (b : Bool) → stands q (cond b [] (record {
-      number = n;
-      action = Delete;
-      is_update = true;
-      row = old;
-    } ∷ record {
-      number = n;
-      action = Insert;
-      is_update = true;
-      row = new;
-    } ∷ [])) found ≡ found
-    by_rows true = refl
-    by_rows false = rw is refl
+-- where nothing is left, and where a row is
+none_left : (b : Bool) (new found : Option Row) → found ≡ cond (b && false) new found
+none_left b new found = ap (λ (c : Bool). cond c new found) (and_false b)
 
-arrival_stands : (q n : ℕ) (same : Bool) → is_at q n ≡ same → (old new found : Option Row)
-    → stands q (arrival_at n old new) found ≡ cond (same && arrives old new) new found
-arrival_stands q n true is old None found = refl
-arrival_stands q n true is None (Some new) found = rw is refl
-arrival_stands q n true is (Some old) (Some new) found = refl
-arrival_stands q n false is old None found = refl
-arrival_stands q n false is None (Some new) found = rw is refl
-arrival_stands q n false is (Some old) (Some new) found = refl
+one_left : (b : Bool) (new found : Option Row) → cond b new found ≡ cond (b && true) new found
+one_left b new found = ap (λ (c : Bool). cond c new found) (and_true b)
+
+change_stands : (q n : ℕ) (old new found : Option Row)
+    → stands q (change_at n old new) found ≡ cond (is_at q n && changes old new) new found
+change_stands q n None new found = none_left (is_at q n) new found
+change_stands q n (Some old) None found = none_left (is_at q n) None found
+change_stands q n (Some old) (Some new) found = by_rows (eq_by_cmp row_cmp old new)
+  where
+    by_rows : (b : Bool) → stands q (cond b [] (deleted n true old ∷ inserted n true new ∷ [])) found
+        ≡ cond (is_at q n && not b) (Some new) found
+    by_rows true = none_left (is_at q n) (Some new) found
+    by_rows false = one_left (is_at q n) (Some new) found
+
+arrival_stands : (q n : ℕ) (old new found : Option Row)
+    → stands q (arrival_at n old new) found ≡ cond (is_at q n && arrives old new) new found
+arrival_stands q n old None found = none_left (is_at q n) None found
+arrival_stands q n None (Some new) found = one_left (is_at q n) (Some new) found
+arrival_stands q n (Some old) (Some new) found = none_left (is_at q n) (Some new) found
 
 -- ---- the records of many
 
@@ -193,7 +157,8 @@ both_or true false false = refl
 both_or false b g = refl
 
 -- the one behind leaves what the one before has left, or the same
-twice : (a b g : Bool) (new found : Option Row) → cond (b && g) new (cond (a && g) new found) ≡ cond ((a || b) && g) new found
+twice : (a b g : Bool) (new found : Option Row)
+    → cond (b && g) new (cond (a && g) new found) ≡ cond ((a || b) && g) new found
 twice true true true new found = refl
 twice true true false new found = refl
 twice true false true new found = refl
@@ -204,6 +169,14 @@ twice false b g new found = refl
 abbrev among : ℕ → List ℕ → Bool
 among q ns = list_any (is_at q) ns
 
+-- what says nothing of other numbers is the same at the two
+at_same : {X : Type 0} (q n : ℕ) (f : Bool → ℕ → X) → f false n ≡ f false q → f (is_at q n) n ≡ f (is_at q n) q
+at_same q n f otherwise = by_number (is_at q n) refl
+  where
+    by_number : (same : Bool) → is_at q n ≡ same → f same n ≡ f same q
+    by_number true is = ap (f true) (sym (number_tied q n is))
+    by_number false is = otherwise
+
 module _ (old new : Rows) where
   abbrev change_of : ℕ → List Record
   change_of n = change_at n (get old n) (get new n)
@@ -212,13 +185,8 @@ module _ (old new : Rows) where
   arrival_of n = arrival_at n (get old n) (get new n)
 
   one_deletes : (q n : ℕ) → list_any (deletes q) (change_of n) ≡ (is_at q n && goes (get old q) (get new q))
-  one_deletes q n = by_number (is_at q n) refl
-    where
-      by_number : (same : Bool) → is_at q n ≡ same
-          → list_any (deletes q) (change_of n) ≡ (same && goes (get old q) (get new q))
-      by_number true is = change_deletes q n true is (get old n) (get new n)
-          ∙ ap (λ (k : ℕ). goes (get old k) (get new k)) (sym (number_tied q n is))
-      by_number false is = change_deletes q n false is (get old n) (get new n)
+  one_deletes q n = change_deletes q n (get old n) (get new n)
+      ∙ at_same q n (λ (b : Bool) (k : ℕ). b && goes (get old k) (get new k)) refl
 
   all_delete : (q : ℕ) (ns : List ℕ)
       → list_any (deletes q) (flat_map change_of ns) ≡ (among q ns && goes (get old q) (get new q))
@@ -236,43 +204,31 @@ module _ (old new : Rows) where
       ∙ ap (λ (b : Bool). b || list_any (deletes q) (flat_map arrival_of ns))
       (arrival_deletes q n (get old n) (get new n)) ∙ none_delete q ns
 
-  one_changes : (q n : ℕ) (found : Option Row)
-      → stands q (change_of n) found ≡ cond (is_at q n && changes (get old q) (get new q)) (get new q) found
-  one_changes q n found = by_number (is_at q n) refl
-    where
-      by_number : (same : Bool) → is_at q n ≡ same
-          → stands q (change_of n) found ≡ cond (same && changes (get old q) (get new q)) (get new q) found
-      by_number true is = change_stands q n true is (get old n) (get new n) found
-          ∙ ap (λ (k : ℕ). cond (changes (get old k) (get new k)) (get new k) found) (sym (number_tied q n is))
-      by_number false is = change_stands q n false is (get old n) (get new n) found
+  -- of records that leave the new row at their number where a test says so
+  module _ (records_of : ℕ → List Record) (test : Option Row → Option Row → Bool)
+      (left : (q n : ℕ) (found : Option Row)
+      → stands q (records_of n) found ≡ cond (is_at q n && test (get old n) (get new n)) (get new n) found) where
+    one_stands : (q n : ℕ) (found : Option Row)
+        → stands q (records_of n) found ≡ cond (is_at q n && test (get old q) (get new q)) (get new q) found
+    one_stands q n found = left q n found
+        ∙ at_same q n (λ (b : Bool) (k : ℕ). cond (b && test (get old k) (get new k)) (get new k) found) refl
+
+    all_stand : (q : ℕ) (ns : List ℕ) (found : Option Row)
+        → stands q (flat_map records_of ns) found ≡ cond (among q ns && test (get old q) (get new q)) (get new q) found
+    all_stand q [] found = refl
+    all_stand q (n ∷ ns) found =
+        stands_append q (records_of n) (flat_map records_of ns) found
+        ∙ ap (stands q (flat_map records_of ns)) (one_stands q n found)
+        ∙ all_stand q ns (cond (is_at q n && test (get old q) (get new q)) (get new q) found)
+        ∙ twice (is_at q n) (among q ns) (test (get old q) (get new q)) (get new q) found
 
   all_change : (q : ℕ) (ns : List ℕ) (found : Option Row)
       → stands q (flat_map change_of ns) found ≡ cond (among q ns && changes (get old q) (get new q)) (get new q) found
-  all_change q [] found = refl
-  all_change q (n ∷ ns) found =
-      stands_append q (change_of n) (flat_map change_of ns) found
-      ∙ ap (stands q (flat_map change_of ns)) (one_changes q n found)
-      ∙ all_change q ns (cond (is_at q n && changes (get old q) (get new q)) (get new q) found)
-      ∙ twice (is_at q n) (among q ns) (changes (get old q) (get new q)) (get new q) found
-
-  one_arrives : (q n : ℕ) (found : Option Row)
-      → stands q (arrival_of n) found ≡ cond (is_at q n && arrives (get old q) (get new q)) (get new q) found
-  one_arrives q n found = by_number (is_at q n) refl
-    where
-      by_number : (same : Bool) → is_at q n ≡ same
-          → stands q (arrival_of n) found ≡ cond (same && arrives (get old q) (get new q)) (get new q) found
-      by_number true is = arrival_stands q n true is (get old n) (get new n) found
-          ∙ ap (λ (k : ℕ). cond (arrives (get old k) (get new k)) (get new k) found) (sym (number_tied q n is))
-      by_number false is = arrival_stands q n false is (get old n) (get new n) found
+  all_change = all_stand change_of changes (λ q n found. change_stands q n (get old n) (get new n) found)
 
   all_arrive : (q : ℕ) (ns : List ℕ) (found : Option Row)
       → stands q (flat_map arrival_of ns) found ≡ cond (among q ns && arrives (get old q) (get new q)) (get new q) found
-  all_arrive q [] found = refl
-  all_arrive q (n ∷ ns) found =
-      stands_append q (arrival_of n) (flat_map arrival_of ns) found
-      ∙ ap (stands q (flat_map arrival_of ns)) (one_arrives q n found)
-      ∙ all_arrive q ns (cond (is_at q n && arrives (get old q) (get new q)) (get new q) found)
-      ∙ twice (is_at q n) (among q ns) (arrives (get old q) (get new q)) (get new q) found
+  all_arrive = all_stand arrival_of arrives (λ q n found. arrival_stands q n (get old n) (get new n) found)
 
 -- ---- at each number
 
