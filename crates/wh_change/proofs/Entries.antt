@@ -2,49 +2,25 @@
 --     entries_rise     their numbers rise
 --     each_found       each is found by its number
 --     kept_entries     of rows, those that stand in a part of them
-use Rattle.std.proofs.Common.{◌≡◌, ℕ, ◌+◌, ◌<◌, ◌≤◌, ◌⊎◌, inl, inr, cond}
-use Rattle.std.proofs.Common.{Bool, true, false, List, [], ◌∷◌, Option, Some, None}
-use Rattle.std.proofs.Common.{T, refl, sym, ap, ◌∙◌, arith, nat_lt, ◌==◌, Less, Equal, Greater}
-use Rattle.std.proofs.lemmas.Bool.Decides.{nat_tests}
-use Rattle.std.specs.Prelude.{◌&&◌, is_some}
+use Rattle.std.proofs.Common.{◌≡◌, ℕ, ◌+◌, ◌≤◌, ◌⊎◌, inl, inr, cond}
+use Rattle.std.proofs.Common.{Bool, List, [], ◌∷◌, Option, Some, None}
+use Rattle.std.proofs.Common.{refl, sym, ap, ◌∙◌, arith}
+use Rattle.std.specs.Prelude.{is_some}
 use Rattle.std.specs.List.{AllByRecursion}
 use Rattle.std.specs.Cmp.{nat_cmp_total}
-use Rattle.std.specs.Ordering.{nat_cmp, is_lt}
+use Rattle.std.specs.Ordering.{nat_cmp}
 use Rattle.std.specs.FinMap.{get, entries, entries_sorted, get-entries, nat_cmp-IsAntisymmetric}
-use Rattle.std.specs.FinMap.Entries.{find, is_sorted, below_all, where_key, is_sorted-where_key, find-where_key}
+use Rattle.std.specs.FinMap.Entries.{find, where_key, is_sorted-where_key, find-where_key}
 use Rattle.std.specs.FinMap.Entries.{same_entries}
 use Rattle.wh_value.specs.Value.{Row}
 use Rattle.wh_frame.specs.Spelling.{RisesFrom}
 use Rattle.wh_machine.specs.State.{Rows}
 use Rattle.wh_machine.proofs.AllLaws.{all_map, all_both}
+use Rattle.wh_machine.proofs.RisingEntries.{map_rises}
 use Rattle.wh_change.proofs.RisingRows.{tied, more_untied}
 
-both_hold : (a b : Bool) → T (a && b) → T a × T b
-both_hold true b h = (tt, h)
-both_hold false b h = absurd h
-
-less_is : (x y : ℕ) → T (is_lt (nat_cmp x y)) → x < y
-less_is x y h = by_less (nat_lt x y) (x == y) h refl
-  where
-    by_less : (less same : Bool) → T (is_lt (cond less Less (cond same Equal Greater))) → nat_lt x y ≡ less → x < y
-    by_less true same h is = grind (arith, nat_tests)
-    by_less false true h is = absurd h
-    by_less false false h is = absurd h
-
-sorted_rise : (least : ℕ) (es : List (ℕ × Row)) → T (is_sorted nat_cmp es)
-    → ((e : ℕ × Row) (others : List (ℕ × Row)) → es ≡ e ∷ others → least ≤ e.0)
-    → RisesFrom least es
-sorted_rise least [] sorted first = tt
-sorted_rise least (e ∷ []) sorted first = (first e [] refl, tt)
-sorted_rise least (e ∷ f ∷ es) sorted first =
-    let parts = both_hold (below_all nat_cmp e.0 (f ∷ es)) (is_sorted nat_cmp (f ∷ es)) sorted in
-    let next = both_hold (is_lt (nat_cmp e.0 f.0)) (below_all nat_cmp e.0 es) parts.0 in (
-      first e (f ∷ es) refl,
-      sorted_rise (e.0 + 1) (f ∷ es) parts.1 (λ g others is. grind (arith, less_is e.0 f.0 next.0)),
-    )
-
 pub entries_rise : (rows : Rows) → RisesFrom 0 (entries rows)
-entries_rise rows = sorted_rise 0 (entries rows) (entries_sorted rows) (λ e others is. omega arith)
+entries_rise rows = map_rises RisesFrom (λ least. tt) (λ least e es from rest. (from, rest)) rows
 
 all_from : (least : ℕ) (es : List (ℕ × Row)) → RisesFrom least es → AllByRecursion (λ e. least ≤ e.0) es
 all_from least [] up = tt
