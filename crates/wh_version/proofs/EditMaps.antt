@@ -14,6 +14,7 @@ use Rattle.std.proofs.Common.{◌≡◌, ℕ, ◌<◌, ◌≤◌, cond, Bool, tr
 use Rattle.std.proofs.Common.{Option, Some, None, refl, sym, ap, ◌∙◌, arith}
 use Rattle.std.proofs.lemmas.Bool.{ltb-false}
 use Rattle.std.proofs.lemmas.Bool.Decides.{nat_tests}
+use Rattle.std.proofs.lemmas.List.{nil_from_length}
 use Rattle.std.specs.Ordering.{nat_cmp, eq_by_cmp, is_lt}
 use Rattle.std.specs.Cmp.{nat_cmp_total}
 use Rattle.std.specs.FinMap.{FinMap, empty, get, insert, entries, same_map, same_entries_map, is_sorted}
@@ -30,13 +31,9 @@ use Rattle.wh_version.specs.RowEdits.{entries_in, put_all, puts, below, removal_
 use Rattle.wh_version.proofs.Puts.{puts_alone}
 use Rattle.wh_version.proofs.RisingEdits.{holds, is_true, parts, is_below, head_below, rest_rises}
 
-no_length : {A : Type 0} (es : List A) → length es ≡ 0 → es ≡ []
-no_length [] e = refl
-no_length (x ∷ es) e = absurd (omega arith)
-
 module _ {X : Type 0} where
   pub no_entries : entries (empty {K = ℕ} {X = X} {R = nat_cmp}) ≡ []
-  no_entries = no_length (entries empty) (sym (len-entries empty) ∙ len-empty nat_cmp X)
+  no_entries = nil_from_length (entries empty) (sym (len-entries empty) ∙ len-empty nat_cmp X)
 
   pub listed : (es : List (ℕ × X)) → is_sorted nat_cmp es ≡ true → entries (from_sorted {R = nat_cmp} es) ≡ es
   listed es rises = entries-from_sorted nat_cmp es (holds rises)
@@ -121,7 +118,7 @@ pub none_when : (list : List RowEdit) (count : ℕ) (b : Bool) (edits : RowEdits
     → b ≡ nat_eq count 0 → from_sorted {R = nat_cmp} (entries_in list) ≡ edits → OnTrue b (edits ≡ empty)
 none_when list count true edits size is view =
     let none : length list ≡ 0 = grind (arith, nat_tests) in
-    sym view ∙ ap (λ l. from_sorted (entries_in l)) (no_length list none) ∙ none_listed
+    sym view ∙ ap (λ l. from_sorted (entries_in l)) (nil_from_length list none) ∙ none_listed
 none_when list count false edits size is view = tt
 
 later_above : (next : ℕ) (edits : RowEdits) (least : ℕ) (es : List (ℕ × Option Row)) → next ≤ least

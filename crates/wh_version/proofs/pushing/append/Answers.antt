@@ -1,13 +1,9 @@
-use Rattle.std.proofs.Common.{◌≡◌, ◌∙◌, ap, sym, ◌∷◌, [], ◌++◌, map, length, List, refl}
+use Rattle.std.proofs.Common.{◌≡◌, ◌∙◌, ap, sym, ◌∷◌, [], ◌++◌, map, length}
 use Rattle.std.proofs.Common.{append_assoc, append-nil, arith}
+use Rattle.std.proofs.lemmas.List.{nil_from_length}
 use Rattle.std.specs.Vec.Iter.{into_iter_items}
-use Rattle.wh_frame.specs.Partition.{Partition}
 use Rattle.wh_version.specs.Kept.{fresh}
 use Rattle.wh_version.proofs.pushing.append.Goals as goal
-
-nothing_left : (ps : List Partition) → length ps ≡ 0 → ps ≡ []
-nothing_left [] none = refl
-nothing_left (p ∷ ps) none = absurd (omega arith)
 
 pub push_reserved-requires : goal.push_reserved-requires
 push_reserved-requires c =
@@ -40,7 +36,7 @@ pub returns : goal.returns
 returns c =
     let at = c.loop-partition in
     let none = c.in-None.ensures.steps in
-    let empty : into_iter_items at.partition-iterator ≡ [] = nothing_left _ (sym at.invariant.1 ∙ none.0) in
+    let empty : into_iter_items at.partition-iterator ≡ [] = nil_from_length _ (sym at.invariant.1 ∙ none.0) in
     sym (append-nil at.kept.items)
     ∙ ap (λ ps. at.kept.items ++ map fresh ps) (sym empty)
     ∙ at.invariant.0
