@@ -41,9 +41,9 @@ module _ {X : Type 0} where
   pub none_listed : from_sorted {R = nat_cmp} [] ≡ empty {X = X}
   none_listed = same_entries_map _ _ (listed [] refl ∙ sym no_entries)
 
-  pub gotten : (es : List (ℕ × X)) (q : ℕ) → is_sorted nat_cmp es ≡ true
-      → get (from_sorted {R = nat_cmp} es) q ≡ find nat_cmp q es
-  gotten es q rises = get-from_sorted nat_cmp es q (holds rises)
+  pub gotten : (es : List (ℕ × X)) (m : FinMap nat_cmp X) (q : ℕ) → is_sorted nat_cmp es ≡ true
+      → from_sorted {R = nat_cmp} es ≡ m → get m q ≡ find nat_cmp q es
+  gotten es m q rises is = ap (λ m. get m q) (sym is) ∙ get-from_sorted nat_cmp es q (holds rises)
 
   pub entries_put_all : (m : FinMap nat_cmp X) (es : List (ℕ × X)) → entries (put_all m es) ≡ puts (entries m) es
   entries_put_all m [] = refl
