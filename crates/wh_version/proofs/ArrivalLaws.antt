@@ -105,7 +105,8 @@ arrived kept marks d place came within is_came =
 
 pub record FrontUpTo (stamp : ℕ) (kept : List Kept) (marks : List VersionMark) (d : VersionMark) (place before : ℕ)
     (came : List Partition) : Type 0 where
-  pub counted : place + count_by stamp (drop place (versions_by kept 0 marks)) ≡ count_by stamp (versions_by kept 0 marks)
+  pub counted : place + count_by stamp (drop place (versions_by kept 0 marks))
+      ≡ count_by stamp (versions_by kept 0 marks)
   pub before_is : before ≡ partitions_before marks d place
   pub arrived : HaveArrived place came (versions_by kept 0 marks)
 
@@ -137,7 +138,8 @@ grown_on kept place before index k old now after within is after_is grown = reco
   next = grown.next ++ standing_at place (k ∷ []);
   more = after_is ∙ ap (λ l. l ++ standing_at place (k ∷ [])) grown.more
       ∙ append_assoc old grown.next (standing_at place (k ∷ []));
-  joined = standing_on kept place index k grown.next _ (standing_at place (take before kept)) within is refl grown.joined;
+  joined = standing_on kept place index k grown.next _ (standing_at place (take before kept)) within is refl
+      grown.joined;
 }
 
 pub front_longer : (stamp : ℕ) (kept : List Kept) (marks : List VersionMark) (d : VersionMark) (place before : ℕ)

@@ -10,16 +10,16 @@
 --     put_halves         both halves of a list, each in a map of its own
 --     put_below          later edits, of rows whose numbers are below the next one
 --     put_in_turn        rows that go and then rows that change
-use Rattle.std.proofs.Common.{◌≡◌, ℕ, ◌<◌, ◌≤◌, cond, Bool, true, false, T, List, [], ◌∷◌, ◌++◌, map, length, nat_eq, nat_lt}
-use Rattle.std.proofs.Common.{Option, Some, None, refl, sym, ap, ◌∙◌, arith}
+use Rattle.std.proofs.Common.{◌≡◌, ℕ, ◌<◌, ◌≤◌, cond, Bool, true, false, T, List, [], ◌∷◌, ◌++◌, map, length}
+use Rattle.std.proofs.Common.{nat_eq, nat_lt, Option, Some, None, refl, sym, ap, ◌∙◌, arith}
 use Rattle.std.proofs.lemmas.Bool.{ltb-false}
 use Rattle.std.proofs.lemmas.Bool.Decides.{nat_tests}
 use Rattle.std.proofs.lemmas.List.{nil_from_length}
 use Rattle.std.specs.Ordering.{nat_cmp, eq_by_cmp, is_lt}
 use Rattle.std.specs.Cmp.{nat_cmp_total}
 use Rattle.std.specs.FinMap.{FinMap, empty, get, insert, entries, same_map, same_entries_map, is_sorted}
-use Rattle.std.specs.FinMap.{nat_cmp-IsAntisymmetric, get-insert, get-empty, entries-insert, entries_sorted, len-entries}
-use Rattle.std.specs.FinMap.{len-empty, from_sorted, entries-from_sorted, get-from_sorted, find}
+use Rattle.std.specs.FinMap.{nat_cmp-IsAntisymmetric, get-insert, get-empty, entries-insert, entries_sorted}
+use Rattle.std.specs.FinMap.{len-entries, len-empty, from_sorted, entries-from_sorted, get-from_sorted, find}
 use Rattle.std.specs.FinMap.Entries.{below_all}
 use Rattle.wh_value.specs.Value.{Row}
 use Rattle.wh_part.specs.declared.partition.NumberedRow.{NumberedRow}
@@ -65,7 +65,8 @@ module _ {X : Type 0} where
   over None old = old
   over (Some new) old = Some new
 
-  over_insert : (b : Bool) (v : X) (new old : Option X) → cond b (Some v) (over new old) ≡ over (cond b (Some v) new) old
+  over_insert : (b : Bool) (v : X) (new old : Option X)
+      → cond b (Some v) (over new old) ≡ over (cond b (Some v) new) old
   unfolding over
   over_insert true v new old = refl
   over_insert false v new old = refl

@@ -6,8 +6,8 @@
 --     IsCutAt                edits below a number in front of a place, and the others from it on
 --     cut_at, cut_there      by tests of each number, and at the place of the first number that isn't below
 --     behind_one, behind_all    the first of the others, and where there is none
-use Rattle.std.proofs.Common.{◌≡◌, ℕ, zero, suc, ◌+◌, ◌-◌, ◌<◌, ◌≤◌, cond, Bool, true, false, T, List, [], ◌∷◌, ◌++◌, length, get_or}
-use Rattle.std.proofs.Common.{take, drop, refl, sym, ap, subst, ◌∙◌, arith, nat_lt}
+use Rattle.std.proofs.Common.{◌≡◌, ℕ, zero, suc, ◌+◌, ◌-◌, ◌<◌, ◌≤◌, cond, Bool, true, false, T, List, [], ◌∷◌, ◌++◌}
+use Rattle.std.proofs.Common.{length, get_or, take, drop, refl, sym, ap, subst, ◌∙◌, arith, nat_lt}
 use Rattle.std.proofs.lemmas.List.{get_or_default, drop_more, drop_all, map-append, take-append-drop}
 use Rattle.std.specs.Ordering.{nat_cmp}
 use Rattle.std.specs.List.Sorted.{IsNonDecreasingBy}
@@ -26,7 +26,8 @@ Adjacent list count = (k : ℕ) (d : RowEdit) → suc k < count
 pub adjacent_more : (list : List RowEdit) (place : ℕ) (x y : RowEdit) → 1 ≤ place → place < length list
     → x ≡ get_or list (place - 1) x → y ≡ get_or list place y → x.number < y.number
     → Adjacent list place → Adjacent list (place + 1)
-adjacent_more list place x y some within here next up so_far = λ k d below. by_test k d below (nat_lt (suc k) place) refl
+adjacent_more list place x y some within here next up so_far =
+    λ k d below. by_test k d below (nat_lt (suc k) place) refl
   where
     by_test : (k : ℕ) (d : RowEdit) → suc k < place + 1 → (b : Bool) → nat_lt (suc k) place ≡ b
         → (get_or list k d).number < (get_or list (suc k) d).number

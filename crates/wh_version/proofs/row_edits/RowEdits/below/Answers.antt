@@ -16,7 +16,9 @@ module _ (c : After-truncate) where
       ∙ ap (λ l. below number (entries_in l)) c.deref.ensures.value
 
   rises : is_sorted nat_cmp (entries_in c.truncate.new.self.items) ≡ true
-  rises = ap (is_sorted nat_cmp) front ∙ below_rises c.args.number (entries_in c.self.inside.list.items) c.self.invariant
+  rises =
+      ap (is_sorted nat_cmp) front
+      ∙ below_rises c.args.number (entries_in c.self.inside.list.items) c.self.invariant
 
 pub invariant_of-result : goal.invariant_of-result
 invariant_of-result c = rises (goal.at.invariant_of-result c).After-truncate
