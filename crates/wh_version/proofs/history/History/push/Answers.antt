@@ -1,7 +1,7 @@
 use Rattle.std.proofs.Common.{◌≡◌, ℕ, ◌+◌, ◌<◌, ◌∙◌, ◌∷◌, [], ◌++◌, ap, sym, subst, List, length, map, IsTrue}
 use Rattle.std.proofs.Common.{arith, length-append}
 use Rattle.std.specs.List.{list_all}
-use Rattle.std.proofs.lemmas.List.{length-map}
+use Rattle.std.proofs.lemmas.List.{length-map, map_push}
 use Rattle.wh_machine.specs.Commit.{NumberedFrom}
 use Rattle.wh_machine.specs.Edits.{without}
 use Rattle.wh_version.specs.declared.kept.Kept.{Kept}
@@ -11,7 +11,7 @@ use Rattle.wh_version.specs.Kept.{standing_at, versions_by}
 use Rattle.wh_version.specs.History.{versions_of, nexts_of, marks_of, standing_in, next_in}
 use Rattle.wh_version.proofs.Last.{next_last, counts_all, standing_still, standing_last}
 use Rattle.wh_version.proofs.Parted.{all_later, parted_gone, length-parted}
-use Rattle.wh_version.proofs.Pushed.{versions_pushed, still_numbered, still_count, still_gone, map_append}
+use Rattle.wh_version.proofs.Pushed.{versions_pushed, still_numbered, still_count, still_gone}
 use Rattle.wh_version.proofs.history.History.push.Goals.{After-push_reserved}
 use Rattle.wh_version.proofs.history.History.push.Goals as goal
 
@@ -110,5 +110,5 @@ returns-clause-nexts c =
     let at = (goal.at.returns-clause-nexts c).After-push_reserved in
     let old = marks_of c.args.self.now in
     ap (map (λ mark. mark.partitions + 1)) (marks at)
-    ∙ map_append (λ mark. mark.partitions + 1) old (mark at ∷ [])
+    ∙ map_push (λ mark. mark.partitions + 1) old (mark at)
     ∙ ap (λ n. map (λ m. m.partitions + 1) old ++ n ∷ []) (omega (arith, total at, size at, next at))
