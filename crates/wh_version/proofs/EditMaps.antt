@@ -10,15 +10,16 @@
 --     put_halves         both halves of a list, each in a map of its own
 --     put_below          later edits, of rows whose numbers are below the next one
 --     put_in_turn        rows that go and then rows that change
-use Rattle.std.proofs.Common.{◌≡◌, ℕ, ◌<◌, ◌≤◌, cond, Bool, true, false, T, List, [], ◌∷◌, ◌++◌, map, length, nat_eq, nat_lt}
-use Rattle.std.proofs.Common.{Option, Some, None, refl, sym, ap, ◌∙◌, arith}
+use Rattle.std.proofs.Common.{◌≡◌, ℕ, ◌<◌, ◌≤◌, cond, Bool, true, false, T, List, [], ◌∷◌, ◌++◌, map, length}
+use Rattle.std.proofs.Common.{nat_eq, nat_lt, Option, Some, None, refl, sym, ap, ◌∙◌, arith}
 use Rattle.std.proofs.lemmas.Bool.{ltb-false}
 use Rattle.std.proofs.lemmas.Bool.Decides.{nat_tests}
+use Rattle.std.proofs.lemmas.List.{nil_from_length}
 use Rattle.std.specs.Ordering.{nat_cmp, eq_by_cmp, is_lt}
 use Rattle.std.specs.Cmp.{nat_cmp_total}
 use Rattle.std.specs.FinMap.{FinMap, empty, get, insert, entries, same_map, same_entries_map, is_sorted}
-use Rattle.std.specs.FinMap.{nat_cmp-IsAntisymmetric, get-insert, get-empty, entries-insert, entries_sorted, len-entries}
-use Rattle.std.specs.FinMap.{len-empty, from_sorted, entries-from_sorted, get-from_sorted, find}
+use Rattle.std.specs.FinMap.{nat_cmp-IsAntisymmetric, get-insert, get-empty, entries-insert, entries_sorted}
+use Rattle.std.specs.FinMap.{len-entries, len-empty, from_sorted, entries-from_sorted, get-from_sorted, find}
 use Rattle.std.specs.FinMap.Entries.{below_all}
 use Rattle.wh_value.specs.Value.{Row}
 use Rattle.wh_part.specs.declared.partition.NumberedRow.{NumberedRow}
@@ -30,13 +31,9 @@ use Rattle.wh_version.specs.RowEdits.{entries_in, put_all, puts, below, removal_
 use Rattle.wh_version.proofs.Puts.{puts_alone}
 use Rattle.wh_version.proofs.RisingEdits.{holds, is_true, parts, is_below, head_below, rest_rises}
 
-no_length : {A : Type 0} (es : List A) → length es ≡ 0 → es ≡ []
-no_length [] e = refl
-no_length (x ∷ es) e = absurd (omega arith)
-
 module _ {X : Type 0} where
   pub no_entries : entries (empty {K = ℕ} {X = X} {R = nat_cmp}) ≡ []
-  no_entries = no_length (entries empty) (sym (len-entries empty) ∙ len-empty nat_cmp X)
+  no_entries = nil_from_length (entries empty) (sym (len-entries empty) ∙ len-empty nat_cmp X)
 
   pub listed : (es : List (ℕ × X)) → is_sorted nat_cmp es ≡ true → entries (from_sorted {R = nat_cmp} es) ≡ es
   listed es rises = entries-from_sorted nat_cmp es (holds rises)
@@ -44,9 +41,9 @@ module _ {X : Type 0} where
   pub none_listed : from_sorted {R = nat_cmp} [] ≡ empty {X = X}
   none_listed = same_entries_map _ _ (listed [] refl ∙ sym no_entries)
 
-  pub gotten : (es : List (ℕ × X)) (q : ℕ) → is_sorted nat_cmp es ≡ true
-      → get (from_sorted {R = nat_cmp} es) q ≡ find nat_cmp q es
-  gotten es q rises = get-from_sorted nat_cmp es q (holds rises)
+  pub gotten : (es : List (ℕ × X)) (m : FinMap nat_cmp X) (q : ℕ) → is_sorted nat_cmp es ≡ true
+      → from_sorted {R = nat_cmp} es ≡ m → get m q ≡ find nat_cmp q es
+  gotten es m q rises is = ap (λ m. get m q) (sym is) ∙ get-from_sorted nat_cmp es q (holds rises)
 
   pub entries_put_all : (m : FinMap nat_cmp X) (es : List (ℕ × X)) → entries (put_all m es) ≡ puts (entries m) es
   entries_put_all m [] = refl
@@ -68,7 +65,8 @@ module _ {X : Type 0} where
   over None old = old
   over (Some new) old = Some new
 
-  over_insert : (b : Bool) (v : X) (new old : Option X) → cond b (Some v) (over new old) ≡ over (cond b (Some v) new) old
+  over_insert : (b : Bool) (v : X) (new old : Option X)
+      → cond b (Some v) (over new old) ≡ over (cond b (Some v) new) old
   unfolding over
   over_insert true v new old = refl
   over_insert false v new old = refl
@@ -121,7 +119,7 @@ pub none_when : (list : List RowEdit) (count : ℕ) (b : Bool) (edits : RowEdits
     → b ≡ nat_eq count 0 → from_sorted {R = nat_cmp} (entries_in list) ≡ edits → OnTrue b (edits ≡ empty)
 none_when list count true edits size is view =
     let none : length list ≡ 0 = grind (arith, nat_tests) in
-    sym view ∙ ap (λ l. from_sorted (entries_in l)) (no_length list none) ∙ none_listed
+    sym view ∙ ap (λ l. from_sorted (entries_in l)) (nil_from_length list none) ∙ none_listed
 none_when list count false edits size is view = tt
 
 later_above : (next : ℕ) (edits : RowEdits) (least : ℕ) (es : List (ℕ × Option Row)) → next ≤ least

@@ -109,15 +109,16 @@ shown : (s : Bool) (k : Kept) (kept : List Kept)
 shown true k kept = refl
 shown false k kept = refl
 
-one_before : (early place number : ℕ) (kept : List Kept) → early < place
-    → standing_at early (map (part_one place number) kept) ≡ standing_at early kept
-one_before early place number [] before = refl
-one_before early place number (k ∷ kept) before =
-    let rest = one_before early place number kept before in
-    let parted : List Kept = map (part_one place number) kept in
-    shown (stands_at early (part_one place number k)) (part_one place number k) (filter (stands_at early) parted)
-    ∙ (λ i. cond (stands_before early place number k before i) (part_number place number k i ∷ rest i) (rest i))
-    ∙ sym (shown (stands_at early k) k (filter (stands_at early) kept))
+-- the same stand, where each stands as before and is of the same partition
+pub same_standing : (place : ℕ) (f : Kept → Kept) → ((k : Kept) → stands_at place (f k) ≡ stands_at place k)
+    → ((k : Kept) → (f k).partition ≡ k.partition) → (kept : List Kept)
+    → standing_at place (map f kept) ≡ standing_at place kept
+same_standing place f stands same [] = refl
+same_standing place f stands same (k ∷ kept) =
+    let rest = same_standing place f stands same kept in
+    shown (stands_at place (f k)) (f k) (filter (stands_at place) (map f kept))
+    ∙ (λ i. cond (stands k i) (same k i ∷ rest i) (rest i))
+    ∙ sym (shown (stands_at place k) k (filter (stands_at place) kept))
 
 pub parted_before : (early place count : ℕ) (numbers : List ℕ) (kept : List Kept) → early < place
     → standing_at early (take count (parted place numbers kept)) ≡ standing_at early (take count kept)
@@ -125,7 +126,8 @@ parted_before early place count [] kept before = refl
 parted_before early place count (n ∷ numbers) kept before =
     parted_before early place count numbers (map (part_one place n) kept) before
     ∙ ap (standing_at early) (take-map (part_one place n) count kept)
-    ∙ one_before early place n (take count kept) before
+    ∙ same_standing early (part_one place n) (λ k. stands_before early place n k before) (part_number place n)
+    (take count kept)
 
 -- ---- which stand at the place itself
 

@@ -3,11 +3,11 @@
 --     adjacent_rise          so they rise
 --     numbers_rise           numbers do not fall from place to place
 --     both_halves            the halves of a list
---     front_at, behind_at    edits below a number, and the others
---     front_there, behind_there    the same at the place of the first number that isn't below
+--     IsCutAt                edits below a number in front of a place, and the others from it on
+--     cut_at, cut_there      by tests of each number, and at the place of the first number that isn't below
 --     behind_one, behind_all    the first of the others, and where there is none
-use Rattle.std.proofs.Common.{◌≡◌, ℕ, zero, suc, ◌+◌, ◌-◌, ◌<◌, ◌≤◌, cond, Bool, true, false, T, List, [], ◌∷◌, ◌++◌, length, get_or}
-use Rattle.std.proofs.Common.{take, drop, refl, sym, ap, ◌∙◌, arith, nat_lt}
+use Rattle.std.proofs.Common.{◌≡◌, ℕ, zero, suc, ◌+◌, ◌-◌, ◌<◌, ◌≤◌, cond, Bool, true, false, T, List, [], ◌∷◌, ◌++◌}
+use Rattle.std.proofs.Common.{length, get_or, take, drop, refl, sym, ap, subst, ◌∙◌, arith, nat_lt}
 use Rattle.std.proofs.lemmas.List.{get_or_default, drop_more, drop_all, map-append, take-append-drop}
 use Rattle.std.specs.Ordering.{nat_cmp}
 use Rattle.std.specs.List.Sorted.{IsNonDecreasingBy}
@@ -26,7 +26,8 @@ Adjacent list count = (k : ℕ) (d : RowEdit) → suc k < count
 pub adjacent_more : (list : List RowEdit) (place : ℕ) (x y : RowEdit) → 1 ≤ place → place < length list
     → x ≡ get_or list (place - 1) x → y ≡ get_or list place y → x.number < y.number
     → Adjacent list place → Adjacent list (place + 1)
-adjacent_more list place x y some within here next up so_far = λ k d below. by_test k d below (nat_lt (suc k) place) refl
+adjacent_more list place x y some within here next up so_far =
+    λ k d below. by_test k d below (nat_lt (suc k) place) refl
   where
     by_test : (k : ℕ) (d : RowEdit) → suc k < place + 1 → (b : Bool) → nat_lt (suc k) place ≡ b
         → (get_or list k d).number < (get_or list (suc k) d).number
@@ -71,84 +72,66 @@ numbers_rise (e ∷ list) up (suc i) zero d order within = absurd (omega arith)
 numbers_rise (e ∷ list) up (suc i) (suc j) d order within =
     numbers_rise list (rest_rises (e.number, e.row) (entries_in list) up) i j d (omega arith) (omega arith)
 
+-- the edits in front of the place are those below the number, and those from it on are the others
+pub record IsCutAt (number : ℕ) (list : List RowEdit) (place : ℕ) : Type 0 where
+  pub front : entries_in (take place list) ≡ below number (entries_in list)
+  pub behind : entries_in (drop place list) ≡ not_below number (entries_in list)
+
 module _ (number : ℕ) where
-  pub front_at : (list : List RowEdit) (place : ℕ) → place ≤ length list
+  pub cut_at : (list : List RowEdit) (place : ℕ) → place ≤ length list
       → ((i : ℕ) (d : RowEdit) → i < place → nat_lt (get_or list i d).number number ≡ true)
       → ((d : RowEdit) → place < length list → nat_lt (get_or list place d).number number ≡ false)
-      → entries_in (take place list) ≡ below number (entries_in list)
-  front_at [] zero within low high = refl
-  front_at [] (suc place) within low high = absurd (omega arith)
-  front_at (e ∷ list) zero within low high =
-      ap (λ (b : Bool). cond b ((e.number, e.row) ∷ below number (entries_in list)) []) (sym (high e (omega arith)))
-  front_at (e ∷ list) (suc place) within low high =
-      let rest : entries_in (take place list) ≡ below number (entries_in list) =
-      front_at list place (omega arith) (λ i d below. low (suc i) d (omega arith)) (λ d below. high d (omega arith)) in
-      ap ((e.number, e.row) ∷◌) rest
-      ∙ ap (λ (b : Bool). cond b ((e.number, e.row) ∷ below number (entries_in list)) [])
-      (sym (low 0 e (omega arith)))
+      → IsCutAt number list place
+  cut_at [] zero within low high = record { front = refl; behind = refl }
+  cut_at [] (suc place) within low high = absurd (omega arith)
+  cut_at (e ∷ list) zero within low high =
+      let here = sym (high e (omega arith)) in
+      record {
+        front = ap (λ (b : Bool). cond b (entry_of e ∷ below number (entries_in list)) []) here;
+        behind = ap (λ (b : Bool). cond b (not_below number (entries_in list)) (entries_in (e ∷ list))) here;
+      }
+  cut_at (e ∷ list) (suc place) within low high =
+      let here = sym (low 0 e (omega arith)) in
+      let rest = cut_at list place (omega arith)
+      (λ i d below. low (suc i) d (omega arith)) (λ d below. high d (omega arith)) in
+      record {
+        front = ap ((entry_of e) ∷◌) rest.front
+            ∙ ap (λ (b : Bool). cond b (entry_of e ∷ below number (entries_in list)) []) here;
+        behind = rest.behind
+            ∙ ap (λ (b : Bool). cond b (not_below number (entries_in list)) (entries_in (e ∷ list))) here;
+      }
 
-  pub behind_at : (list : List RowEdit) (place : ℕ) → place ≤ length list
-      → ((i : ℕ) (d : RowEdit) → i < place → nat_lt (get_or list i d).number number ≡ true)
-      → ((d : RowEdit) → place < length list → nat_lt (get_or list place d).number number ≡ false)
-      → entries_in (drop place list) ≡ not_below number (entries_in list)
-  behind_at [] zero within low high = refl
-  behind_at [] (suc place) within low high = absurd (omega arith)
-  behind_at (e ∷ list) zero within low high =
-      ap (λ (b : Bool). cond b (not_below number (entries_in list)) ((e.number, e.row) ∷ entries_in list))
-      (sym (high e (omega arith)))
-  behind_at (e ∷ list) (suc place) within low high =
-      let rest : entries_in (drop place list) ≡ not_below number (entries_in list) =
-      behind_at list place (omega arith) (λ i d below. low (suc i) d (omega arith)) (λ d below. high d (omega arith)) in
-      rest ∙ ap (λ (b : Bool). cond b (not_below number (entries_in list)) ((e.number, e.row) ∷ entries_in list))
-      (sym (low 0 e (omega arith)))
-
-  low_at : (list : List RowEdit) (place : ℕ) → is_sorted nat_cmp (entries_in list) ≡ true → IsPlaceOf number list place
-      → (i : ℕ) (d : RowEdit) → i < place → nat_lt (get_or list i d).number number ≡ true
-  low_at list place rises there = λ i d below.
-      let size = there.within in
-      let order = numbers_rise list rises i (place - 1) d (omega arith) (omega arith) in
-      let last = there.front d (omega arith) in
-      lt-ltb _ _ (omega arith)
-
-  high_at : (list : List RowEdit) (place : ℕ) → IsPlaceOf number list place
-      → (d : RowEdit) → place < length list → nat_lt (get_or list place d).number number ≡ false
-  high_at list place there = λ d within. le-ltb _ _ (there.behind d within)
-
-  pub front_there : (list : List RowEdit) (place : ℕ) → is_sorted nat_cmp (entries_in list) ≡ true
-      → IsPlaceOf number list place → entries_in (take place list) ≡ below number (entries_in list)
-  front_there list place rises there =
-      front_at list place there.within (low_at list place rises there) (high_at list place there)
-
-  pub behind_there : (list : List RowEdit) (place : ℕ) → is_sorted nat_cmp (entries_in list) ≡ true
-      → IsPlaceOf number list place → entries_in (drop place list) ≡ not_below number (entries_in list)
-  behind_there list place rises there =
-      behind_at list place there.within (low_at list place rises there) (high_at list place there)
+  pub cut_there : (list : List RowEdit) (place : ℕ) → is_sorted nat_cmp (entries_in list) ≡ true
+      → IsPlaceOf number list place → IsCutAt number list place
+  cut_there list place rises there = cut_at list place there.within low (λ d within. le-ltb _ _ (there.behind d within))
+    where
+      low : (i : ℕ) (d : RowEdit) → i < place → nat_lt (get_or list i d).number number ≡ true
+      low i d below =
+          let size = there.within in
+          let order = numbers_rise list rises i (place - 1) d (omega arith) (omega arith) in
+          let last = there.front d (omega arith) in
+          lt-ltb _ _ (omega arith)
 
   -- where a search ends, by the list that a reference points to
+  behind_in : (list seen : List RowEdit) (place : ℕ) → seen ≡ list
+      → entries_in (drop place seen) ≡ not_below number (entries_in seen)
+      → not_below number (entries_in list) ≡ entries_in (drop place list)
+  behind_in list seen place same behind =
+      sym (subst (λ l. entries_in (drop place l) ≡ not_below number (entries_in l)) same behind)
+
   pub behind_one : (list seen : List RowEdit) (place : ℕ) (edit : RowEdit) → seen ≡ list
       → entries_in (drop place seen) ≡ not_below number (entries_in seen) → place < length list
       → edit ≡ get_or list place edit
       → not_below number (entries_in list) ≡ entry_of edit ∷ entries_in (drop (place + 1) list)
   behind_one list seen place edit same behind within is =
-      sym (ap (λ l. not_below number (entries_in l)) same)
-      ∙ sym behind
-      ∙ ap (λ l. entries_in (drop place l)) same
+      behind_in list seen place same behind
       ∙ ap entries_in (drop_more list place edit within ∙ ap (λ e. e ∷ drop (place + 1) list) (sym is))
 
   pub behind_all : (list seen : List RowEdit) (place : ℕ) → seen ≡ list
       → entries_in (drop place seen) ≡ not_below number (entries_in seen) → length list ≤ place
       → not_below number (entries_in list) ≡ []
   behind_all list seen place same behind past =
-      sym (ap (λ l. not_below number (entries_in l)) same)
-      ∙ sym behind
-      ∙ ap (λ l. entries_in (drop place l)) same
-      ∙ ap entries_in (drop_all place list past)
-
-  pub front_of : (list seen : List RowEdit) (place : ℕ) (cut : List RowEdit) → seen ≡ list
-      → entries_in (take place seen) ≡ below number (entries_in seen) → cut ≡ take place list
-      → entries_in cut ≡ below number (entries_in list)
-  front_of list seen place cut same front is =
-      ap entries_in (is ∙ ap (take place) (sym same)) ∙ front ∙ ap (λ l. below number (entries_in l)) same
+      behind_in list seen place same behind ∙ ap entries_in (drop_all place list past)
 
 pub both_halves : (half : ℕ) (list front behind : List RowEdit) → front ≡ take half list → behind ≡ drop half list
     → entries_in front ++ entries_in behind ≡ entries_in list

@@ -1,6 +1,6 @@
 -- A version less, over plain lists.
 use Rattle.std.proofs.Common.{◌≡◌, ℕ, zero, suc, ◌+◌, ◌-◌, ◌<◌, ◌≤◌, ◌⊎◌, inl, inr, cond, Bool, true, false}
-use Rattle.std.proofs.Common.{List, [], ◌∷◌, ◌++◌, length, map, filter, take, drop, set, get_or, IsTrue, refl}
+use Rattle.std.proofs.Common.{List, [], ◌∷◌, ◌++◌, length, map, take, drop, set, get_or, IsTrue, refl}
 use Rattle.std.proofs.Common.{sym, subst, ap, ◌∙◌, arith}
 use Rattle.std.proofs.lemmas.Bool.{and_parts, and_from, or_cases, or_left, or_right, eqb-true, eqb-false, eq-eqb}
 use Rattle.std.proofs.lemmas.Bool.{leb-true, le-leb, lt-ltb}
@@ -14,6 +14,7 @@ use Rattle.wh_version.specs.Kept.{stands_at, standing_at, partitions_in, numbere
 use Rattle.wh_version.specs.Kept.{is_standing, stands_again, version_by, versions_by}
 use Rattle.wh_version.specs.Lists.{shortened}
 use Rattle.wh_version.proofs.Last.{get_or_any}
+use Rattle.wh_version.proofs.Parted.{same_standing}
 use Rattle.wh_version.proofs.Pushed.{count_within}
 
 -- one more of a list is changed in place
@@ -48,21 +49,6 @@ again_stands early place k before within = pick (nat_eq k.until place) refl
         lt-ltb early 18446744073709551615 (omega arith) ∙ sym (lt-ltb early k.until (omega arith))
     pick false is = refl
 
-shown : (s : Bool) (k : Kept) (kept : List Kept)
-    → partitions_in (cond s (k ∷ kept) kept) ≡ cond s (k.partition ∷ partitions_in kept) (partitions_in kept)
-shown true k kept = refl
-shown false k kept = refl
-
-again_before : (early place : ℕ) (kept : List Kept) → early < place → place < 18446744073709551615
-    → standing_at early (map (stands_again place) kept) ≡ standing_at early kept
-again_before early place [] before within = refl
-again_before early place (k ∷ kept) before within =
-    let rest = again_before early place kept before within in
-    let after : List Kept = map (stands_again place) kept in
-    shown (stands_at early (stands_again place k)) (stands_again place k) (filter (stands_at early) after)
-    ∙ (λ i. cond (again_stands early place k before within i) (again_partition place k i ∷ rest i) (rest i))
-    ∙ sym (shown (stands_at early k) k (filter (stands_at early) kept))
-
 -- ---- the versions that are left
 
 take_less : {X : Type 0} (n m : ℕ) (xs : List X) → n ≤ m → take n (take m xs) ≡ take n xs
@@ -80,7 +66,8 @@ versions_left last count kept place least (m ∷ marks) within places counts =
     let few = count_within m.partitions marks count parts.1 in
     let content = ap (standing_at place) (take-map (stands_again last) m.partitions (take count kept)
     ∙ ap (map (stands_again last)) (take_less m.partitions count kept few))
-    ∙ again_before place last (take m.partitions kept) (omega arith) within in
+    ∙ same_standing place (stands_again last) (λ k. again_stands place last k (omega arith) within)
+    (again_partition last) (take m.partitions kept) in
     let rest = versions_left last count kept (place + 1) m.partitions marks within (omega arith) parts.1 in
     λ i. record { stamp = m.stamp; data_timestamp = m.data_timestamp; content = content i } ∷ rest i
 

@@ -1,8 +1,10 @@
 -- A version more, over plain lists.
-use Rattle.std.proofs.Common.{◌≡◌, ℕ, ◌+◌, ◌<◌, ◌≤◌, cond, Bool, true, false, List, [], ◌∷◌, ◌++◌, length, map, filter}
+use Rattle.std.proofs.Common.{◌≡◌, ℕ, ◌+◌, ◌<◌, ◌≤◌, cond, true, List, [], ◌∷◌, ◌++◌, length, map, filter}
 use Rattle.std.proofs.Common.{take, IsTrue, refl, subst, ap, ◌∙◌, arith}
 use Rattle.std.proofs.lemmas.Bool.{and_parts, and_from, or_right, eqb-true, eq-eqb, leb-true, le-leb, lt-ltb}
-use Rattle.std.proofs.lemmas.List.{take-append-le, take_all, length-map}
+use Rattle.std.proofs.lemmas.List.{take-append-le, take_all, length-map, map-append}
+use Rattle.std.proofs.lemmas.List.Elements.{filter-append}
+use Rattle.std.proofs.lemmas.List.Folds.{list_all-append}
 use Rattle.std.specs.Prelude.{nat_lt, nat_le}
 use Rattle.std.specs.List.{list_all}
 use Rattle.wh_frame.specs.Partition.{Partition}
@@ -16,20 +18,10 @@ use Rattle.wh_version.proofs.Parted.{parted_before, parted_there, parted_partiti
 
 -- ---- lists
 
-pub map_append : {X Y : Type 0} (f : X → Y) (xs ys : List X) → map f (xs ++ ys) ≡ map f xs ++ map f ys
-map_append f [] ys = refl
-map_append f (x ∷ xs) ys = ap (λ l. f x ∷ l) (map_append f xs ys)
-
 standing_append : (place : ℕ) (xs ys : List Kept)
     → standing_at place (xs ++ ys) ≡ standing_at place xs ++ standing_at place ys
-standing_append place [] ys = refl
-standing_append place (x ∷ xs) ys = pick (stands_at place x) (standing_append place xs ys)
-  where
-    pick : (s : Bool) → standing_at place (xs ++ ys) ≡ standing_at place xs ++ standing_at place ys
-        → partitions_in (cond s (x ∷ filter (stands_at place) (xs ++ ys)) (filter (stands_at place) (xs ++ ys)))
-        ≡ partitions_in (cond s (x ∷ filter (stands_at place) xs) (filter (stands_at place) xs)) ++ standing_at place ys
-    pick true rest = ap (λ l. x.partition ∷ l) rest
-    pick false rest = rest
+standing_append place xs ys =
+    ap partitions_in (filter-append (stands_at place) xs ys) ∙ map-append (λ k. k.partition) _ _
 
 fresh_stand : (place : ℕ) (ps : List Partition) → place < 18446744073709551615 → standing_at place (map fresh ps) ≡ ps
 fresh_stand place [] within = refl
@@ -129,7 +121,7 @@ pub still_numbered : (last : ℕ) (numbers : List ℕ) (kept : List Kept) (added
     → IsTrue (numbered_from 1 (partitions_in (parted last numbers kept ++ map fresh added)))
 still_numbered last numbers kept added numbered more =
     let same : partitions_in (parted last numbers kept ++ map fresh added) ≡ partitions_in kept ++ added =
-    map_append (λ k. k.partition) (parted last numbers kept) (map fresh added)
+    map-append (λ k. k.partition) (parted last numbers kept) (map fresh added)
     ∙ (λ i. parted_partitions last numbers kept i ++ fresh_partitions added i) in
     let count = length-map kept (λ k. k.partition) in
     let P : ℕ → Type 0 = λ n. NumberedFrom n added in
@@ -149,12 +141,7 @@ fresh_gone : (last : ℕ) (ps : List Partition) → IsTrue (list_all (is_gone_by
 fresh_gone last [] = refl
 fresh_gone last (p ∷ ps) = and_from _ _ (or_right _ _ refl) (fresh_gone last ps)
 
-pub all_append : (test : Kept → Bool) (xs ys : List Kept) → IsTrue (list_all test xs) → IsTrue (list_all test ys)
-    → IsTrue (list_all test (xs ++ ys))
-all_append test [] ys left right = right
-all_append test (x ∷ xs) ys left right = let parts = and_parts _ _ left in
-    and_from _ _ parts.0 (all_append test xs ys parts.1 right)
-
 pub still_gone : (last : ℕ) (kept : List Kept) (added : List Partition) → IsTrue (list_all (is_gone_by last) kept)
     → IsTrue (list_all (is_gone_by last) (kept ++ map fresh added))
-still_gone last kept added gone = all_append (is_gone_by last) kept (map fresh added) gone (fresh_gone last added)
+still_gone last kept added gone =
+    list_all-append (is_gone_by last) kept (map fresh added) ∙ and_from _ _ gone (fresh_gone last added)
