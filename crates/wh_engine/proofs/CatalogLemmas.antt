@@ -18,8 +18,8 @@ use Rattle.wh_machine.specs.Written.{version_written, version_written_to}
 use Rattle.wh_machine.proofs.MeaningLaws as meaning
 use Rattle.wh_machine.proofs.MeaningLaws.{length_meant, at_id_meant, id_of_meant, live_count_meant, table_at_meant}
 use Rattle.wh_machine.proofs.MeaningLaws.{stream_at_meant}
-use Rattle.wh_catalog.specs.Catalog.{stored_of, state_of, stored_table_at, stored_stream_at, table_in_object}
-use Rattle.wh_catalog.specs.Catalog.{stream_in_object}
+use Rattle.wh_catalog.specs.Catalog.{stored_of, state_of, stored_table_at, stored_stream_at}
+use Rattle.wh_catalog.specs.Catalog.{table_in_kind, table_in_object, stream_in_kind, stream_in_object}
 use Rattle.wh_catalog.specs.declared.catalog.Catalog.{Catalog}
 use Rattle.wh_engine.proofs.ListLemmas.{some_is}
 
@@ -89,17 +89,19 @@ has_table objects id t is = by_object (at_id objects id) refl
     by_object None none = let found = rw none at is in absurd cc
     by_object (Some o) there = by_kind o o.kind there refl
 
-same_table : (objects : List StoredObject) (id : ℕ) → meaning.stored_table_at objects id ≡ stored_table_at objects id
-same_table objects id = by_object (at_id objects id)
-  where
-    by_kind : (o : StoredObject) (k : StoredKind) → o.kind ≡ k
-        → meaning.stored_table_of (Some o) ≡ table_in_object (Some o)
-    by_kind o (StoredTableKind u) kind = rw kind refl
-    by_kind o (StoredStreamKind s) kind = rw kind refl
+-- what is found in an object by its kind is the same, where it is so in each kind
+same_found : {A : Type 0} (f g : Option StoredObject → Option A) → f None ≡ g None
+    → ((o : StoredObject) → f (Some o) ≡ g (Some o)) → (found : Option StoredObject) → f found ≡ g found
+same_found f g none some None = none
+same_found f g none some (Some o) = some o
 
-    by_object : (found : Option StoredObject) → meaning.stored_table_of found ≡ table_in_object found
-    by_object None = refl
-    by_object (Some o) = by_kind o o.kind refl
+same_table : (objects : List StoredObject) (id : ℕ) → meaning.stored_table_at objects id ≡ stored_table_at objects id
+same_table objects id =
+    same_found meaning.stored_table_of table_in_object refl (λ o. by_kind o.kind) (at_id objects id)
+  where
+    by_kind : (k : StoredKind) → meaning.stored_table_in k ≡ table_in_kind k
+    by_kind (StoredTableKind t) = refl
+    by_kind (StoredStreamKind s) = refl
 
 pub table_is : (c : Catalog) (id : ℕ)
     → table_at (state_of c).objects id ≡ option_map table_meant (stored_table_at (stored_of c).objects id)
@@ -130,16 +132,12 @@ one_written stamp objects id e t is =
 
 same_stream : (objects : List StoredObject) (id : ℕ)
     → meaning.stored_stream_at objects id ≡ stored_stream_at objects id
-same_stream objects id = by_object (at_id objects id)
+same_stream objects id =
+    same_found meaning.stored_stream_of stream_in_object refl (λ o. by_kind o.kind) (at_id objects id)
   where
-    by_kind : (o : StoredObject) (k : StoredKind) → o.kind ≡ k
-        → meaning.stored_stream_of (Some o) ≡ stream_in_object (Some o)
-    by_kind o (StoredTableKind t) kind = rw kind refl
-    by_kind o (StoredStreamKind s) kind = rw kind refl
-
-    by_object : (found : Option StoredObject) → meaning.stored_stream_of found ≡ stream_in_object found
-    by_object None = refl
-    by_object (Some o) = by_kind o o.kind refl
+    by_kind : (k : StoredKind) → meaning.stored_stream_in k ≡ stream_in_kind k
+    by_kind (StoredTableKind t) = refl
+    by_kind (StoredStreamKind s) = refl
 
 pub stream_there : (c : Catalog) (id : ℕ)
     → stream_at (state_of c).objects id ≡ stored_stream_at (stored_of c).objects id
