@@ -1,6 +1,6 @@
 -- A catalog's state, and what its commits say.
 --     state_is, rest_of, objects_are        the state, but for its last stamp and at rest; its objects
---     found_is, count_is, live_is           objects by names, and how many there are
+--     found_by, count_is, live_is           objects by names, and how many there are
 --     object_there, kind_there              the object at an id, and its kind
 --     table_there, table_missing            the table at an id
 --     stream_there                          the stream at an id
@@ -36,8 +36,13 @@ objects_are c = ap (λ (s : State). s.objects) (state_is c)
 
 -- ---- objects
 
-pub found_is : (c : Catalog) (name : List ℕ) → id_of name (state_of c).objects ≡ id_of name (stored_of c).objects
-found_is c name = ap (id_of name) (objects_are c) ∙ id_of_meant name (stored_of c).objects
+-- what a look-up by a name's bytes found
+pub found_by : (c : Catalog) (name bytes : List ℕ) (found : Option ℕ) → bytes ≡ name
+    → found ≡ id_of bytes (stored_of c).objects
+    → id_of name (state_of c).objects ≡ found
+found_by c name bytes found same is =
+    ap (id_of name) (objects_are c) ∙ id_of_meant name (stored_of c).objects
+    ∙ ap (λ (n : List ℕ). id_of n (stored_of c).objects) (sym same) ∙ sym is
 
 pub count_is : (c : Catalog) → length (state_of c).objects ≡ length (stored_of c).objects
 count_is c = ap length (objects_are c) ∙ length_meant (stored_of c).objects

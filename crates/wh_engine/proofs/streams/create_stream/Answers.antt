@@ -1,4 +1,4 @@
-use Rattle.std.proofs.Common.{◌≡◌, ℕ, ◌+◌, List, [], ◌∷◌, length, map, Some, None, option_map, refl, ap, sym}
+use Rattle.std.proofs.Common.{◌≡◌, ℕ, ◌+◌, [], ◌∷◌, length, map, Some, None, option_map, refl, ap, sym}
 use Rattle.std.proofs.Common.{◌∙◌, arith}
 use Rattle.wh_reply.specs.Reply.{UnknownName, CreatedStream}
 use Rattle.wh_reply.specs.View.{refusal_view}
@@ -11,7 +11,7 @@ use Rattle.wh_catalog.specs.Catalog.{stored_of, state_of}
 use Rattle.wh_txn.specs.View.{sessions_of}
 use Rattle.wh_engine.specs.Decision.{changes_of}
 use Rattle.wh_engine.specs.Sight.{machine_in}
-use Rattle.wh_engine.proofs.CatalogLemmas.{found_is, count_is}
+use Rattle.wh_engine.proofs.CatalogLemmas.{found_by, count_is}
 use Rattle.wh_engine.proofs.OutcomeLemmas.{declines, commits}
 use Rattle.wh_engine.proofs.DefineLemmas.{refused_open}
 use Rattle.wh_engine.proofs.StreamLemmas.{none_made, not_made, is_made, within_limits, stream_written}
@@ -31,9 +31,7 @@ returns-in_default-find c =
     let catalog = sight.catalog.now in
     let stream = c.args.stream in
     let none : id_of stream.source.now (state_of catalog).objects ≡ None =
-    found_is catalog stream.source.now
-    ∙ ap (λ (n : List ℕ). id_of n (stored_of catalog).objects) (sym c.as_bytes.ensures.value) ∙ sym c.find.ensures
-    ∙ c.in_default-find.is in
+    found_by catalog stream.source.now _ _ c.as_bytes.ensures.value c.find.ensures ∙ c.in_default-find.is in
     declines (stored_of catalog) (sessions_of sight.sessions.now) sight.stamp _ _ (UnknownName stream.source.now)
     (ap UnknownName c.in_ok-copy.ensures)
     (none_made (state_of catalog) sight.stamp (sessions_of sight.sessions.now) sight.session stream.name.now
@@ -43,9 +41,7 @@ returns-in_default-find c =
 pub stream_refusal-requires : goal.stream_refusal-requires
 stream_refusal-requires c =
     let catalog = c.args.sight.now.catalog.now in
-    found_is catalog c.args.stream.source.now
-    ∙ ap (λ (n : List ℕ). id_of n (stored_of catalog).objects) (sym c.as_bytes.ensures.value) ∙ sym c.find.ensures
-    ∙ c.in-Some-find.is
+    found_by catalog c.args.stream.source.now _ _ c.as_bytes.ensures.value c.find.ensures ∙ c.in-Some-find.is
 
 pub returns-in-Some-2 : goal.returns-in-Some-2
 returns-in-Some-2 c =
@@ -79,9 +75,7 @@ returns c =
     let stored = stored_of catalog in
     let source = c.in-Some-find.source in
     let there : id_of stream.source.now (state_of catalog).objects ≡ Some source =
-    found_is catalog stream.source.now
-    ∙ ap (λ (n : List ℕ). id_of n stored.objects) (sym c.as_bytes.ensures.value) ∙ sym c.find.ensures
-    ∙ c.in-Some-find.is in
+    found_by catalog stream.source.now _ _ c.as_bytes.ensures.value c.find.ensures ∙ c.in-Some-find.is in
     let made : ℕ → StreamChange = λ id. record {
       id = id;
       name = stream.name.now;

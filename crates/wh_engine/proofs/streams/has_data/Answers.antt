@@ -1,4 +1,4 @@
-use Rattle.std.proofs.Common.{◌≡◌, ℕ, List, Some, None, option_map, refl, ap, sym, ◌∙◌}
+use Rattle.std.proofs.Common.{◌≡◌, ℕ, Some, None, option_map, refl, ap, sym, ◌∙◌}
 use Rattle.wh_reply.specs.Reply.{UnknownName, WrongKind, HasData}
 use Rattle.wh_reply.specs.View.{refusal_view}
 use Rattle.wh_machine.specs.State.{id_of}
@@ -8,7 +8,7 @@ use Rattle.wh_sessions.specs.Reading.{has_rows}
 use Rattle.wh_streams.specs.Stream.{rows_shown}
 use Rattle.wh_txn.specs.View.{sessions_of}
 use Rattle.wh_engine.specs.Sight.{machine_in}
-use Rattle.wh_engine.proofs.CatalogLemmas.{found_is, stream_there}
+use Rattle.wh_engine.proofs.CatalogLemmas.{found_by, stream_there}
 use Rattle.wh_engine.proofs.OutcomeLemmas.{declines, answers}
 use Rattle.wh_engine.proofs.StreamLemmas.{none_asked, other_asked, asked_refused, asked_told}
 use Rattle.wh_engine.proofs.streams.has_data.Goals as goal
@@ -19,9 +19,7 @@ returns-in_default c =
     let catalog = sight.catalog.now in
     let name = c.args.name.now in
     let none : id_of name (state_of catalog).objects ≡ None =
-    found_is catalog name
-    ∙ ap (λ (n : List ℕ). id_of n (stored_of catalog).objects) (sym c.as_bytes.ensures.value) ∙ sym c.find.ensures
-    ∙ c.in_default.is in
+    found_by catalog name _ _ c.as_bytes.ensures.value c.find.ensures ∙ c.in_default.is in
     declines (stored_of catalog) (sessions_of sight.sessions.now) sight.stamp _ _ (UnknownName name)
     (ap UnknownName c.in_ok-copy.ensures) (none_asked (machine_in sight) sight.session name none)
 
@@ -32,9 +30,7 @@ returns-in_default-stream c =
     let name = c.args.name.now in
     let id = c.in-Some.id in
     let there : id_of name (state_of catalog).objects ≡ Some id =
-    found_is catalog name
-    ∙ ap (λ (n : List ℕ). id_of n (stored_of catalog).objects) (sym c.as_bytes.ensures.value) ∙ sym c.find.ensures
-    ∙ c.in-Some.is in
+    found_by catalog name _ _ c.as_bytes.ensures.value c.find.ensures ∙ c.in-Some.is in
     declines (stored_of catalog) (sessions_of sight.sessions.now) sight.stamp _ _ (WrongKind name)
     (ap WrongKind c.in_ok-copy-2.ensures)
     (other_asked (machine_in sight) sight.session name id there
@@ -49,9 +45,7 @@ returns-in-Some-2 c =
     let id = c.in-Some.id in
     let why = refusal_view c.in-Some-2.why in
     let there : id_of name (state_of catalog).objects ≡ Some id =
-    found_is catalog name
-    ∙ ap (λ (n : List ℕ). id_of n (stored_of catalog).objects) (sym c.as_bytes.ensures.value) ∙ sym c.find.ensures
-    ∙ c.in-Some.is in
+    found_by catalog name _ _ c.as_bytes.ensures.value c.find.ensures ∙ c.in-Some.is in
     declines (stored_of catalog) (sessions_of sight.sessions.now) sight.stamp _ _ why refl
     (asked_refused (machine_in sight) sight.session name id _ why there
     (stream_there catalog id ∙ sym c.stream.ensures
@@ -66,9 +60,7 @@ returns c =
     let id = c.in-Some.id in
     let s = stream_of c.in-Some-stream.stream.now in
     let there : id_of name (state_of catalog).objects ≡ Some id =
-    found_is catalog name
-    ∙ ap (λ (n : List ℕ). id_of n (stored_of catalog).objects) (sym c.as_bytes.ensures.value) ∙ sym c.find.ensures
-    ∙ c.in-Some.is in
+    found_by catalog name _ _ c.as_bytes.ensures.value c.find.ensures ∙ c.in-Some.is in
     answers (stored_of catalog) (sessions_of sight.sessions.now) sight.stamp _ _ _
     (ap HasData (c.in_ok-has_rows.ensures
     ∙ ap (λ (start : ℕ). has_rows (rows_shown (state_of catalog).objects s start)) c.start.ensures))
