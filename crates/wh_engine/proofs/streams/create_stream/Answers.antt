@@ -15,7 +15,15 @@ use Rattle.wh_engine.proofs.CatalogLemmas.{found_by, count_is}
 use Rattle.wh_engine.proofs.OutcomeLemmas.{declines, commits}
 use Rattle.wh_engine.proofs.DefineLemmas.{refused_open}
 use Rattle.wh_engine.proofs.StreamLemmas.{none_made, not_made, is_made, within_limits, stream_written}
+use Rattle.wh_engine.proofs.streams.create_stream.Goals.{In-Some-find}
 use Rattle.wh_engine.proofs.streams.create_stream.Goals as goal
+
+-- the source is there
+there : (c : In-Some-find)
+    → id_of c.args.stream.source.now (state_of c.args.sight.now.catalog.now).objects ≡ Some c.in-Some-find.source
+there c =
+    found_by c.args.sight.now.catalog.now c.args.stream.source.now _ _ c.as_bytes.ensures.value c.find.ensures
+    ∙ c.in-Some-find.is
 
 pub returns-in-Some : goal.returns-in-Some
 returns-in-Some c =
@@ -39,9 +47,7 @@ returns-in_default-find c =
     (sym c.refused_in_transaction.ensures ∙ ap (option_map refusal_view) c.in_default.is) none)
 
 pub stream_refusal-requires : goal.stream_refusal-requires
-stream_refusal-requires c =
-    let catalog = c.args.sight.now.catalog.now in
-    found_by catalog c.args.stream.source.now _ _ c.as_bytes.ensures.value c.find.ensures ∙ c.in-Some-find.is
+stream_refusal-requires c = there (goal.at.stream_refusal-requires c).In-Some-find
 
 pub returns-in-Some-2 : goal.returns-in-Some-2
 returns-in-Some-2 c =
@@ -74,8 +80,6 @@ returns c =
     let stream = c.args.stream in
     let stored = stored_of catalog in
     let source = c.in-Some-find.source in
-    let there : id_of stream.source.now (state_of catalog).objects ≡ Some source =
-    found_by catalog stream.source.now _ _ c.as_bytes.ensures.value c.find.ensures ∙ c.in-Some-find.is in
     let made : ℕ → StreamChange = λ id. record {
       id = id;
       name = stream.name.now;
@@ -93,4 +97,5 @@ returns c =
     (is_made (state_of catalog) sight.stamp (sessions_of sight.sessions.now) sight.session stream.name.now
     stream.source.now stream.is_append_only source
     (sym c.refused_in_transaction.ensures ∙ ap (option_map refusal_view) c.in_default.is)
-    (sym c.in_ok-why.ensures ∙ ap (option_map refusal_view) c.in_default-2.is) there)
+    (sym c.in_ok-why.ensures ∙ ap (option_map refusal_view) c.in_default-2.is)
+    (there (goal.at.returns c).In-Some-find))
