@@ -28,8 +28,8 @@ pub returns-in-Ok : goal.returns-in-Ok
 returns-in-Ok c =
     let sight = c.args.sight.now in
     let at = (goal.at.returns-in-Ok c).After-deref in
-    comes_bound sight c.select_bound-decision.result c.args.query.now c.args.sorts.now (names at) c.in-Ok.bound (named at)
-    c.in-Ok.ensures c.select_bound-decision.ensures
+    comes_bound sight c.select_bound-decision.result c.args.query.now c.args.sorts.now (names at) c.in-Ok.bound
+    (named at) c.in-Ok.ensures c.select_bound-decision.ensures
 
 pub returns-in-Err-Failing : goal.returns-in-Err-Failing
 returns-in-Err-Failing c =

@@ -89,7 +89,8 @@ returns c =
     } in
     let items : changes_of c.in_ok-vec.field-0 ≡ CreatesStream (made (length stored.objects + 1)) ∷ [] =
     ap (map change_of) c.in_ok-vec.ensures.items
-    ∙ (λ i. (c.in_ok-made.ensures ∙ ap (λ (n : ℕ). CreatesStream (made (n + 1))) c.object_count.ensures.count) i ∷ []) in
+    ∙ (λ i. (c.in_ok-made.ensures
+    ∙ ap (λ (n : ℕ). CreatesStream (made (n + 1))) c.object_count.ensures.count) i ∷ []) in
     commits stored (sessions_of sight.sessions.now) sight.stamp _ _ _ (CreatedStream stream.name.now)
     (MakesStream stream.name.now source stream.is_append_only ∷ [])
     (ap CreatedStream c.in_ok-copy-2.ensures)
