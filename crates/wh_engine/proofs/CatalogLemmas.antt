@@ -1,6 +1,6 @@
 -- A catalog's state, and what its commits say.
 --     state_is, rest_of, objects_are        the state, but for its last stamp and at rest; its objects
---     found_is, count_is, live_is           objects by names, and how many there are
+--     found_by, count_is, live_is           objects by names, and how many there are
 --     object_there, kind_there              the object at an id, and its kind
 --     table_there, table_missing            the table at an id
 --     stream_there                          the stream at an id
@@ -18,8 +18,8 @@ use Rattle.wh_machine.specs.Written.{version_written, version_written_to}
 use Rattle.wh_machine.proofs.MeaningLaws as meaning
 use Rattle.wh_machine.proofs.MeaningLaws.{length_meant, at_id_meant, id_of_meant, live_count_meant, table_at_meant}
 use Rattle.wh_machine.proofs.MeaningLaws.{stream_at_meant}
-use Rattle.wh_catalog.specs.Catalog.{stored_of, state_of, stored_table_at, stored_stream_at, table_in_object}
-use Rattle.wh_catalog.specs.Catalog.{stream_in_object}
+use Rattle.wh_catalog.specs.Catalog.{stored_of, state_of, stored_table_at, stored_stream_at}
+use Rattle.wh_catalog.specs.Catalog.{table_in_kind, table_in_object, stream_in_kind, stream_in_object}
 use Rattle.wh_catalog.specs.declared.catalog.Catalog.{Catalog}
 use Rattle.wh_engine.proofs.ListLemmas.{some_is}
 
@@ -36,8 +36,13 @@ objects_are c = ap (λ (s : State). s.objects) (state_is c)
 
 -- ---- objects
 
-pub found_is : (c : Catalog) (name : List ℕ) → id_of name (state_of c).objects ≡ id_of name (stored_of c).objects
-found_is c name = ap (id_of name) (objects_are c) ∙ id_of_meant name (stored_of c).objects
+-- what a look-up by a name's bytes found
+pub found_by : (c : Catalog) (name bytes : List ℕ) (found : Option ℕ) → bytes ≡ name
+    → found ≡ id_of bytes (stored_of c).objects
+    → id_of name (state_of c).objects ≡ found
+found_by c name bytes found same is =
+    ap (id_of name) (objects_are c) ∙ id_of_meant name (stored_of c).objects
+    ∙ ap (λ (n : List ℕ). id_of n (stored_of c).objects) (sym same) ∙ sym is
 
 pub count_is : (c : Catalog) → length (state_of c).objects ≡ length (stored_of c).objects
 count_is c = ap length (objects_are c) ∙ length_meant (stored_of c).objects
@@ -89,17 +94,19 @@ has_table objects id t is = by_object (at_id objects id) refl
     by_object None none = let found = rw none at is in absurd cc
     by_object (Some o) there = by_kind o o.kind there refl
 
-same_table : (objects : List StoredObject) (id : ℕ) → meaning.stored_table_at objects id ≡ stored_table_at objects id
-same_table objects id = by_object (at_id objects id)
-  where
-    by_kind : (o : StoredObject) (k : StoredKind) → o.kind ≡ k
-        → meaning.stored_table_of (Some o) ≡ table_in_object (Some o)
-    by_kind o (StoredTableKind u) kind = rw kind refl
-    by_kind o (StoredStreamKind s) kind = rw kind refl
+-- what is found in an object by its kind is the same, where it is so in each kind
+same_found : {A : Type 0} (f g : Option StoredObject → Option A) → f None ≡ g None
+    → ((o : StoredObject) → f (Some o) ≡ g (Some o)) → (found : Option StoredObject) → f found ≡ g found
+same_found f g none some None = none
+same_found f g none some (Some o) = some o
 
-    by_object : (found : Option StoredObject) → meaning.stored_table_of found ≡ table_in_object found
-    by_object None = refl
-    by_object (Some o) = by_kind o o.kind refl
+same_table : (objects : List StoredObject) (id : ℕ) → meaning.stored_table_at objects id ≡ stored_table_at objects id
+same_table objects id =
+    same_found meaning.stored_table_of table_in_object refl (λ o. by_kind o.kind) (at_id objects id)
+  where
+    by_kind : (k : StoredKind) → meaning.stored_table_in k ≡ table_in_kind k
+    by_kind (StoredTableKind t) = refl
+    by_kind (StoredStreamKind s) = refl
 
 pub table_is : (c : Catalog) (id : ℕ)
     → table_at (state_of c).objects id ≡ option_map table_meant (stored_table_at (stored_of c).objects id)
@@ -130,16 +137,12 @@ one_written stamp objects id e t is =
 
 same_stream : (objects : List StoredObject) (id : ℕ)
     → meaning.stored_stream_at objects id ≡ stored_stream_at objects id
-same_stream objects id = by_object (at_id objects id)
+same_stream objects id =
+    same_found meaning.stored_stream_of stream_in_object refl (λ o. by_kind o.kind) (at_id objects id)
   where
-    by_kind : (o : StoredObject) (k : StoredKind) → o.kind ≡ k
-        → meaning.stored_stream_of (Some o) ≡ stream_in_object (Some o)
-    by_kind o (StoredTableKind t) kind = rw kind refl
-    by_kind o (StoredStreamKind s) kind = rw kind refl
-
-    by_object : (found : Option StoredObject) → meaning.stored_stream_of found ≡ stream_in_object found
-    by_object None = refl
-    by_object (Some o) = by_kind o o.kind refl
+    by_kind : (k : StoredKind) → meaning.stored_stream_in k ≡ stream_in_kind k
+    by_kind (StoredTableKind t) = refl
+    by_kind (StoredStreamKind s) = refl
 
 pub stream_there : (c : Catalog) (id : ℕ)
     → stream_at (state_of c).objects id ≡ stored_stream_at (stored_of c).objects id

@@ -4,25 +4,32 @@
 --     not_past                     a count that isn't refused
 --     none_past                    a statement that passes all tests passes its own
 --     defines_by                   a statement by its first failing test
+--     drops_named                  DROP, by what it comes to for an object of a kind
 --     refused_open                 the session's transaction is open
 --     drops_as                     what is written for an object that goes
-use Rattle.std.proofs.Common.{◌≡◌, ℕ, ◌≤◌, List, [], ◌∷◌, Option, Some, None, option_map, true, inl, inr}
+use Rattle.std.proofs.Common.{◌≡◌, ℕ, ◌≤◌, List, [], ◌∷◌, Option, Some, None, option_map, Bool, true, Result, inl, inr}
 use Rattle.std.proofs.Common.{refl, sym, ap, ◌∙◌}
 use Rattle.std.specs.Prelude.{nat_lt}
 use Rattle.std.specs.Option.{option_or}
+use Rattle.std.specs.Result.{IfOk}
 use Rattle.std.proofs.lemmas.Bool.{cases_lt, lt-ltb}
 use Rattle.wh_value.specs.Limit.{bound}
 use Rattle.wh_value.specs.declared.limit.Limit.{Limit}
 use Rattle.wh_reply.specs.Reply.{Refusal, Reply, DdlInTransaction, Locked}
+use Rattle.wh_machine.specs.State.{Kind, id_of}
 use Rattle.wh_machine.specs.Outcome as tables
 use Rattle.wh_machine.specs.Outcome.{Act, first_of, refused_past}
 use Rattle.wh_machine.specs.Objects.{drops}
 use Rattle.wh_machine.specs.Stored.{StoredObject}
 use Rattle.wh_machine.specs.Written.{written}
 use Rattle.wh_sessions.specs.Sessions.{number_in}
-use Rattle.wh_sessions.specs.Outcome.{Machine, Refuses, Does, unless, alone, last_test}
+use Rattle.wh_sessions.specs.Outcome.{Machine, Outcome, Refuses, Does, unless, alone, last_test}
 use Rattle.wh_sessions.specs.Statements.{holder_of, defines}
-use Rattle.wh_engine.specs.Definitions.{drops_written}
+use Rattle.wh_engine.specs.declared.decision.Decision.{Decision}
+use Rattle.wh_engine.specs.declared.sight.Sight.{Sight}
+use Rattle.wh_engine.specs.Sight.{machine_in, Comes}
+use Rattle.wh_engine.specs.Definitions.{drops_written, dropped_named}
+use Rattle.wh_engine.proofs.StepLemmas.{comes_as}
 
 -- ---- tests
 
@@ -96,6 +103,22 @@ defines_by m session old wrong reply acts given tested found same test is =
     ∙ (λ i. unless (first_of (option_map DdlInTransaction (number_in m.sessions session) ∷ sym test i
     ∷ option_map Locked (holder_of m.sessions (same i)) ∷ [])) (Does reply m.sessions (Some acts)))
     ∙ ap (λ (why : Option Refusal). unless why (Does reply m.sessions (Some acts))) (sym is)
+
+-- DROP of an object of a kind, whose reply has a copy of the name
+abbrev defines_named : Sight → List ℕ → tables.Outcome → Outcome
+defines_named sight name o =
+    let m = machine_in sight in
+    defines m sight.session (id_of name m.state.objects) o
+
+pub drops_named : {E : Type 0} (sight : Sight) (r : Result Decision E) (takes : Kind → Bool) (says : List ℕ → Reply)
+    (name copied : List ℕ) (o : tables.Outcome) → copied ≡ name
+    → dropped_named takes name (says name) (machine_in sight).state.objects ≡ o
+    → IfOk r (λ d. Comes sight d
+    (defines_named sight name (dropped_named takes name (says copied) (machine_in sight).state.objects)))
+    → IfOk r (λ d. Comes sight d (defines_named sight name o))
+drops_named sight r takes says name copied o same is =
+    comes_as sight r _ _ (ap (defines_named sight name)
+    (ap (λ (n : List ℕ). dropped_named takes name (says n) (machine_in sight).state.objects) same ∙ is))
 
 -- a test before all others
 pub refused_open : (m : Machine) (session : ℕ) (old : Option ℕ) (o : tables.Outcome) (why : Refusal)

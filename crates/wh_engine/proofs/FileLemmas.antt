@@ -2,7 +2,7 @@
 --     keeps, stands                      what a file of commits says, and stands for
 --     filed_same, filed_append           nothing was added, or one commit
 use Rattle.std.proofs.Common.{◌≡◌, ℕ, suc, ◌+◌, ◌≤◌, List, [], ◌∷◌, ◌++◌, length, map, Option, Some, None, is_some}
-use Rattle.std.proofs.Common.{false, refl, sym, ◌∙◌, subst, ap, arith, inl, inr, length-append}
+use Rattle.std.proofs.Common.{refl, sym, ◌∙◌, subst, ap, arith, inl, inr, length-append}
 use Rattle.std.specs.List.{AllByRecursion}
 use Rattle.std.proofs.lemmas.Bool.{cases_lt}
 use Rattle.std.proofs.lemmas.List.{map-append}
@@ -17,7 +17,7 @@ use Rattle.wh_journal.specs.declared.journal.Journal.{Journal}
 use Rattle.wh_catalog.specs.Catalog.{stored_of, state_of}
 use Rattle.wh_catalog.specs.declared.catalog.Catalog.{Catalog}
 use Rattle.wh_engine.specs.Warehouse.{IsFileOfCommits, Filed}
-use Rattle.wh_engine.proofs.ListLemmas.{all_more, leads_then, some_is}
+use Rattle.wh_engine.proofs.ListLemmas.{all_more, leads_then, some_is, none_told}
 use Rattle.wh_engine.proofs.CatalogLemmas.{rest_of}
 
 long_records : (p : List ℕ) (ps : List (List ℕ)) → 8 ≤ length (records_of (p ∷ ps))
@@ -112,10 +112,6 @@ pub filed_append : (old new : Option (List ℕ)) (j k : Journal) (c d : Catalog)
     → Filed new k d
 filed_append None new j k c d commit told appends applies is good h =
     record { each = λ now e. absurd (none_told new now told e) }
-  where
-    none_told : (o : Option (List ℕ)) (now : List ℕ) → is_some o ≡ false → o ≡ Some now → ⊥
-    none_told None now e f = cc
-    none_told (Some x) now e f = cc
 filed_append (Some file) new j k c d commit told appends applies is good h =
     record {
       each = λ now e. file_append file now j k c d commit (subst (λ (o : Option (List ℕ)). Appends

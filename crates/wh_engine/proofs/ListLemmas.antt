@@ -1,9 +1,10 @@
--- Lists that grow at their end.
+-- Lists that grow at their end, and what may be there.
+--     some_is, none_told                 what an option is told to be
 --     all_more, all_front, all_back      what holds of each
 --     leads_then                         one more commit
 --     length_changed_at                  a list with one element changed is as long
 use Rattle.std.proofs.Common.{◌≡◌, ℕ, zero, suc, List, [], ◌∷◌, ◌++◌, length, Option, Some, None}
-use Rattle.std.proofs.Common.{option_map, refl, sym, subst, ap}
+use Rattle.std.proofs.Common.{option_map, is_some, false, refl, sym, subst, ap}
 use Rattle.std.specs.Prelude.{slice_set}
 use Rattle.std.specs.List.{AllByRecursion}
 use Rattle.wh_machine.specs.State.{at_id, with_id, put_at, changed_at}
@@ -12,6 +13,10 @@ use Rattle.wh_machine.specs.Commit.{Commit, Applies, applied, Leads}
 
 pub some_is : {A : Type 0} (x y : A) → ◌≡◌ {A = Option A} (Some x) (Some y) → x ≡ y
 some_is x y e = cc
+
+pub none_told : {A : Type 0} (found : Option A) (x : A) → is_some found ≡ false → found ≡ Some x → ⊥
+none_told None x none is = cc
+none_told (Some y) x none is = cc
 
 pub all_more : {X : Type 0} (P : X → Type 0) (xs : List X) (x : X) → AllByRecursion P xs → P x
     → AllByRecursion P (xs ++ x ∷ [])

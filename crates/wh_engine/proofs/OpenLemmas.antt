@@ -3,7 +3,7 @@
 --     fault_first, stray_first     one that breaks off, and one with a record that strays
 --     left_by_opening              what a crash leaves behind the journal's recovery
 use Rattle.std.proofs.Common.{◌≡◌, ℕ, ◌<◌, ◌≤◌, ◌^◌, ◌⊎◌, List, [], ◌∷◌, ◌++◌, length, map, Option, Some, None, is_some}
-use Rattle.std.proofs.Common.{false, refl, sym, ◌∙◌, subst, ap, arith, inl, inr, append_assoc}
+use Rattle.std.proofs.Common.{refl, sym, ◌∙◌, subst, ap, arith, inl, inr, append_assoc}
 use Rattle.std.specs.Prelude.{MatchOption}
 use Rattle.std.specs.List.{AllByRecursion, flat_map}
 use Rattle.std.proofs.lemmas.Bool.{cases_lt}
@@ -24,7 +24,7 @@ use Rattle.wh_catalog.specs.declared.catalog.Catalog.{Catalog}
 use Rattle.wh_engine.specs.Warehouse.{IsFileOfCommits, Filed}
 use Rattle.wh_engine.specs.Replay.{Replays, StraysAt}
 use Rattle.wh_engine.proofs.FileLemmas.{keeps}
-use Rattle.wh_engine.proofs.ListLemmas.{all_front, all_back, some_is}
+use Rattle.wh_engine.proofs.ListLemmas.{all_front, all_back, some_is, none_told}
 
 -- what the journal's recovery says of a short file, and of a longer one
 abbrev pub Begun : Option (List ℕ) → Option (List ℕ) → Journal → Option ℕ → Type 0
@@ -123,10 +123,6 @@ filed_told old mid j fault c none begun read led file now told is = elim (cases_
 pub filed : (old mid : Option (List ℕ)) (j : Journal) (fault : Option ℕ) (c : Catalog) → is_some mid ≡ is_some old
     → fault ≡ None → Begun old mid j fault → Read old mid j fault → Led mid j (stored_of c) → Filed mid j c
 filed None mid j fault c told none begun read led = record { each = λ now e. absurd (none_told mid now told e) }
-  where
-    none_told : (o : Option (List ℕ)) (now : List ℕ) → is_some o ≡ false → o ≡ Some now → ⊥
-    none_told None now e f = cc
-    none_told (Some x) now e f = cc
 filed (Some file) mid j fault c told none begun read led =
     record { each = λ now e. filed_told (Some file) mid j fault c none begun read led file now refl e }
 

@@ -1,8 +1,11 @@
-use Rattle.std.proofs.Common.{◌≡◌, ℕ, List, None, option_map, refl, ap, sym, ◌∙◌}
+use Rattle.std.proofs.Common.{◌≡◌, ℕ, List, Option, option_map, refl, ap, sym, ◌∙◌}
 use Rattle.wh_value.specs.declared.limit.Limit.TheVariants as limits
 use Rattle.wh_reply.specs.Reply.{OverLimit, NumberOutOfRange, Listing}
 use Rattle.wh_reply.specs.View.{refusal_view}
+use Rattle.wh_reply.specs.declared.reply.Refusal.{Refusal}
 use Rattle.wh_reply.specs.declared.reply.Reply.TheVariants as shown
+use Rattle.wh_naming.specs.Select.{BoundSelect}
+use Rattle.wh_bind.specs.Binds.{IsBound}
 use Rattle.wh_machine.specs.Outcome as tables
 use Rattle.wh_sessions.specs.Outcome.{alone}
 use Rattle.wh_sessions.specs.Reading.{reading_refusal}
@@ -12,7 +15,18 @@ use Rattle.wh_engine.specs.Rows.{rows_found}
 use Rattle.wh_engine.specs.Sight.{machine_in}
 use Rattle.wh_engine.proofs.OutcomeLemmas.{declines, answers}
 use Rattle.wh_engine.proofs.QueryLemmas.{is_too_wide, is_unread, is_shown, is_undefined, rows_meant}
+use Rattle.wh_engine.proofs.queries.select_bound.Goals.{In_ok-why}
 use Rattle.wh_engine.proofs.queries.select_bound.Goals as goal
+
+-- what the test of the sources finds
+tested : (c : In_ok-why) (meant : BoundSelect) → IsBound c.args.bound.now meant → (found : Option Refusal)
+    → c.in_ok-why.field-0 ≡ found
+    → reading_refusal (machine_in c.args.sight.now).state.objects (machine_in c.args.sight.now).state.last meant.sources
+    ≡ option_map refusal_view found
+tested c meant is found at =
+    let m = machine_in c.args.sight.now in
+    ap (reading_refusal m.state.objects m.state.last) (sym (c.deref.ensures.value ∙ is.sources))
+    ∙ sym c.in_ok-why.ensures ∙ ap (option_map refusal_view) at
 
 pub returns-then-bound : goal.returns-then-bound
 returns-then-bound c = λ meant is.
@@ -31,17 +45,14 @@ returns-in-Some c = λ meant is.
     declines (stored_of sight.catalog.now) sessions sight.stamp _ _ why refl
     (ap (λ (o : tables.Outcome). alone sessions o)
     (is_unread m sight.session meant why is.nothing_found (sym is.is_wide ∙ c.if-bound.false)
-    (ap (reading_refusal m.state.objects m.state.last) (sym (c.deref.ensures.value ∙ is.sources))
-    ∙ sym c.in_ok-why.ensures ∙ ap (option_map refusal_view) c.in-Some.is)))
+    (tested (goal.at.returns-in-Some c).In_ok-why meant is _ c.in-Some.is)))
 
 pub returns-in_default-2 : goal.returns-in_default-2
 returns-in_default-2 c = λ meant is.
     let sight = c.args.sight.now in
     let sessions = sessions_of sight.sessions.now in
     let m = machine_in sight in
-    let read : reading_refusal m.state.objects m.state.last meant.sources ≡ None =
-    ap (reading_refusal m.state.objects m.state.last) (sym (c.deref.ensures.value ∙ is.sources))
-    ∙ sym c.in_ok-why.ensures ∙ ap (option_map refusal_view) c.in_default.is in
+    let read = tested (goal.at.returns-in_default-2 c).In_ok-why meant is _ c.in_default.is in
     declines (stored_of sight.catalog.now) sessions sight.stamp _ _ NumberOutOfRange refl
     (ap (λ (o : tables.Outcome). alone sessions o)
     (is_undefined m sight.session meant is.nothing_found (sym is.is_wide ∙ c.if-bound.false) read
@@ -53,9 +64,7 @@ returns c = λ meant is.
     let sight = c.args.sight.now in
     let sessions = sessions_of sight.sessions.now in
     let m = machine_in sight in
-    let read : reading_refusal m.state.objects m.state.last meant.sources ≡ None =
-    ap (reading_refusal m.state.objects m.state.last) (sym (c.deref.ensures.value ∙ is.sources))
-    ∙ sym c.in_ok-why.ensures ∙ ap (option_map refusal_view) c.in_default.is in
+    let read = tested (goal.at.returns c).In_ok-why meant is _ c.in_default.is in
     let rows = c.in-Some-2.rows.items in
     let names : c.in_ok-names.names.items ≡ meant.names =
     c.in_ok-names.ensures ∙ c.deref-2.ensures.value ∙ is.names in

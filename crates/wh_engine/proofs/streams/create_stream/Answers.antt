@@ -1,4 +1,4 @@
-use Rattle.std.proofs.Common.{◌≡◌, ℕ, ◌+◌, List, [], ◌∷◌, length, map, Some, None, option_map, refl, ap, sym}
+use Rattle.std.proofs.Common.{◌≡◌, ℕ, ◌+◌, [], ◌∷◌, length, map, Some, None, option_map, refl, ap, sym}
 use Rattle.std.proofs.Common.{◌∙◌, arith}
 use Rattle.wh_reply.specs.Reply.{UnknownName, CreatedStream}
 use Rattle.wh_reply.specs.View.{refusal_view}
@@ -11,11 +11,19 @@ use Rattle.wh_catalog.specs.Catalog.{stored_of, state_of}
 use Rattle.wh_txn.specs.View.{sessions_of}
 use Rattle.wh_engine.specs.Decision.{changes_of}
 use Rattle.wh_engine.specs.Sight.{machine_in}
-use Rattle.wh_engine.proofs.CatalogLemmas.{found_is, count_is}
+use Rattle.wh_engine.proofs.CatalogLemmas.{found_by, count_is}
 use Rattle.wh_engine.proofs.OutcomeLemmas.{declines, commits}
 use Rattle.wh_engine.proofs.DefineLemmas.{refused_open}
 use Rattle.wh_engine.proofs.StreamLemmas.{none_made, not_made, is_made, within_limits, stream_written}
+use Rattle.wh_engine.proofs.streams.create_stream.Goals.{In-Some-find}
 use Rattle.wh_engine.proofs.streams.create_stream.Goals as goal
+
+-- the source is there
+there : (c : In-Some-find)
+    → id_of c.args.stream.source.now (state_of c.args.sight.now.catalog.now).objects ≡ Some c.in-Some-find.source
+there c =
+    found_by c.args.sight.now.catalog.now c.args.stream.source.now _ _ c.as_bytes.ensures.value c.find.ensures
+    ∙ c.in-Some-find.is
 
 pub returns-in-Some : goal.returns-in-Some
 returns-in-Some c =
@@ -31,9 +39,7 @@ returns-in_default-find c =
     let catalog = sight.catalog.now in
     let stream = c.args.stream in
     let none : id_of stream.source.now (state_of catalog).objects ≡ None =
-    found_is catalog stream.source.now
-    ∙ ap (λ (n : List ℕ). id_of n (stored_of catalog).objects) (sym c.as_bytes.ensures.value) ∙ sym c.find.ensures
-    ∙ c.in_default-find.is in
+    found_by catalog stream.source.now _ _ c.as_bytes.ensures.value c.find.ensures ∙ c.in_default-find.is in
     declines (stored_of catalog) (sessions_of sight.sessions.now) sight.stamp _ _ (UnknownName stream.source.now)
     (ap UnknownName c.in_ok-copy.ensures)
     (none_made (state_of catalog) sight.stamp (sessions_of sight.sessions.now) sight.session stream.name.now
@@ -41,11 +47,7 @@ returns-in_default-find c =
     (sym c.refused_in_transaction.ensures ∙ ap (option_map refusal_view) c.in_default.is) none)
 
 pub stream_refusal-requires : goal.stream_refusal-requires
-stream_refusal-requires c =
-    let catalog = c.args.sight.now.catalog.now in
-    found_is catalog c.args.stream.source.now
-    ∙ ap (λ (n : List ℕ). id_of n (stored_of catalog).objects) (sym c.as_bytes.ensures.value) ∙ sym c.find.ensures
-    ∙ c.in-Some-find.is
+stream_refusal-requires c = there (goal.at.stream_refusal-requires c).In-Some-find
 
 pub returns-in-Some-2 : goal.returns-in-Some-2
 returns-in-Some-2 c =
@@ -78,10 +80,6 @@ returns c =
     let stream = c.args.stream in
     let stored = stored_of catalog in
     let source = c.in-Some-find.source in
-    let there : id_of stream.source.now (state_of catalog).objects ≡ Some source =
-    found_is catalog stream.source.now
-    ∙ ap (λ (n : List ℕ). id_of n stored.objects) (sym c.as_bytes.ensures.value) ∙ sym c.find.ensures
-    ∙ c.in-Some-find.is in
     let made : ℕ → StreamChange = λ id. record {
       id = id;
       name = stream.name.now;
@@ -91,7 +89,8 @@ returns c =
     } in
     let items : changes_of c.in_ok-vec.field-0 ≡ CreatesStream (made (length stored.objects + 1)) ∷ [] =
     ap (map change_of) c.in_ok-vec.ensures.items
-    ∙ (λ i. (c.in_ok-made.ensures ∙ ap (λ (n : ℕ). CreatesStream (made (n + 1))) c.object_count.ensures.count) i ∷ []) in
+    ∙ (λ i. (c.in_ok-made.ensures
+    ∙ ap (λ (n : ℕ). CreatesStream (made (n + 1))) c.object_count.ensures.count) i ∷ []) in
     commits stored (sessions_of sight.sessions.now) sight.stamp _ _ _ (CreatedStream stream.name.now)
     (MakesStream stream.name.now source stream.is_append_only ∷ [])
     (ap CreatedStream c.in_ok-copy-2.ensures)
@@ -99,4 +98,5 @@ returns c =
     (is_made (state_of catalog) sight.stamp (sessions_of sight.sessions.now) sight.session stream.name.now
     stream.source.now stream.is_append_only source
     (sym c.refused_in_transaction.ensures ∙ ap (option_map refusal_view) c.in_default.is)
-    (sym c.in_ok-why.ensures ∙ ap (option_map refusal_view) c.in_default-2.is) there)
+    (sym c.in_ok-why.ensures ∙ ap (option_map refusal_view) c.in_default-2.is)
+    (there (goal.at.returns c).In-Some-find))

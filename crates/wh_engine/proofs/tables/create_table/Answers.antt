@@ -1,5 +1,7 @@
-use Rattle.std.proofs.Common.{◌≡◌, ℕ, ◌+◌, [], ◌∷◌, ◌++◌, length, Some, None, option_map, refl}
+use Rattle.std.proofs.Common.{◌≡◌, ℕ, ◌+◌, ◌≤◌, [], ◌∷◌, ◌++◌, length, Some, None, option_map, refl}
 use Rattle.std.proofs.Common.{ap, sym, ◌∙◌, arith}
+use Rattle.wh_value.specs.Limit.{bound}
+use Rattle.wh_value.specs.declared.limit.Limit.TheVariants as limits
 use Rattle.wh_reply.specs.Reply.{CreatedTable, DdlInTransaction, Locked}
 use Rattle.wh_reply.specs.View.{refusal_view}
 use Rattle.wh_machine.specs.Objects.{drops}
@@ -17,6 +19,7 @@ use Rattle.wh_engine.proofs.CatalogLemmas.{count_is}
 use Rattle.wh_engine.proofs.OutcomeLemmas.{declines, commits}
 use Rattle.wh_engine.proofs.DefineLemmas.{none_past}
 use Rattle.wh_engine.proofs.TableLemmas.{defines_table, within_limits, creation_written}
+use Rattle.wh_engine.proofs.tables.create_table.Goals.{In_default}
 use Rattle.wh_engine.proofs.tables.create_table.Goals as goal
 
 pub returns-in-Some : goal.returns-in-Some
@@ -30,34 +33,28 @@ returns-in-Some c =
     (sym c.replaced_id-replaced.ensures) c.in_ok-wrong.ensures
     (sym (ap (option_map refusal_view) c.in-Some.is) ∙ c.definition_refusal.ensures))
 
+-- what a table that isn't refused keeps
+within : (c : In_default)
+    → (length (state_of c.args.sight.now.catalog.now).objects + 1 ≤ bound limits.ObjectIds)
+    × (c.args.table.retention ≤ bound limits.Retention)
+within c =
+    let sight = c.args.sight.now in
+    let t = c.args.table in
+    let passed : table_refusal (state_of sight.catalog.now) t.replace t.name (columns_of t) t.retention ≡ None =
+    sym c.in_ok-wrong.ensures ∙ none_past
+    (option_map DdlInTransaction (number_in (sessions_of sight.sessions.now) sight.session))
+    (option_map refusal_view c.in_ok-wrong.wrong)
+    (option_map Locked (holder_of (sessions_of sight.sessions.now) c.replaced_id-replaced.result))
+    (sym c.definition_refusal.ensures ∙ ap (option_map refusal_view) c.in_default.is) in
+    within_limits (state_of sight.catalog.now) t.replace t.name (columns_of t) t.retention passed
+
 pub overflow_add-id : goal.overflow_add-id
 overflow_add-id c =
-    let sight = c.args.sight.now in
-    let t = c.args.table in
-    let passed : table_refusal (state_of sight.catalog.now) t.replace t.name (columns_of t) t.retention ≡ None =
-    sym c.in_ok-wrong.ensures ∙ none_past
-    (option_map DdlInTransaction (number_in (sessions_of sight.sessions.now) sight.session))
-    (option_map refusal_view c.in_ok-wrong.wrong)
-    (option_map Locked (holder_of (sessions_of sight.sessions.now) c.replaced_id-replaced.result))
-    (sym c.definition_refusal.ensures ∙ ap (option_map refusal_view) c.in_default.is) in
-    omega (
-      arith,
-      (within_limits (state_of sight.catalog.now) t.replace t.name (columns_of t) t.retention passed).0,
-      c.object_count.ensures.count,
-      count_is sight.catalog.now,
-    )
+    let kept = within (goal.at.overflow_add-id c).In_default in
+    omega (arith, kept.0, c.object_count.ensures.count, count_is c.args.sight.now.catalog.now)
 
 pub creation-requires : goal.creation-requires
-creation-requires c =
-    let sight = c.args.sight.now in
-    let t = c.args.table in
-    let passed : table_refusal (state_of sight.catalog.now) t.replace t.name (columns_of t) t.retention ≡ None =
-    sym c.in_ok-wrong.ensures ∙ none_past
-    (option_map DdlInTransaction (number_in (sessions_of sight.sessions.now) sight.session))
-    (option_map refusal_view c.in_ok-wrong.wrong)
-    (option_map Locked (holder_of (sessions_of sight.sessions.now) c.replaced_id-replaced.result))
-    (sym c.definition_refusal.ensures ∙ ap (option_map refusal_view) c.in_default.is) in
-    (within_limits (state_of sight.catalog.now) t.replace t.name (columns_of t) t.retention passed).1
+creation-requires c = (within (goal.at.creation-requires c).In_default).1
 
 pub returns : goal.returns
 returns c =

@@ -1,7 +1,9 @@
-use Rattle.std.proofs.Common.{◌≡◌, ◌∙◌, ◌<◌, ◌+◌, ℕ, List, ap, sym, subst, refl, option_map, arith, Some}
+use Rattle.std.proofs.Common.{◌≡◌, ◌∙◌, ◌<◌, ◌+◌, ℕ, List, ap, sym, subst, refl, Option, option_map, arith, Some}
 use Rattle.std.specs.Prelude.{is_some}
+use Rattle.wh_machine.specs.State.{State}
 use Rattle.wh_machine.specs.Stored.{meant}
 use Rattle.wh_sessions.specs.Outcome.{Machine, opened}
+use Rattle.wh_sessions.specs.Step.{Event}
 use Rattle.wh_sessions.specs.Made.{overflow}
 use Rattle.wh_world.specs.Told.{Rose}
 use Rattle.wh_record.proofs.FileLaws.{file_fixes_stored}
@@ -10,27 +12,35 @@ use Rattle.wh_journal.specs.Journal.{end_of, limit_of}
 use Rattle.wh_catalog.specs.Catalog.{stored_of, state_of}
 use Rattle.wh_engine.specs.Warehouse.{IsSettled, machine_of}
 use Rattle.wh_shell.specs.Events.{events}
-use Rattle.wh_shell.specs.Fault.{fault_of_open, HasCause, never}
+use Rattle.wh_shell.specs.Fault.{HasCause, never}
 use Rattle.wh_shell.specs.Open.{IsTold}
 use Rattle.wh_shell.specs.Room.{reach_of, FillsBy, IsFull}
-use Rattle.wh_shell.specs.Run.{IsRunOf, Rejects, WasTooLong, EndsBy, RefusesFile, Through}
+use Rattle.wh_shell.specs.Run.{IsStart, IsRunOf, Rejects, WasTooLong, EndsBy, RefusesFile, Through}
 use Rattle.wh_shell.specs.declared.status.Status.{Status}
 use Rattle.wh_shell.specs.declared.status.Status.TheVariants.{Stopped}
 use Rattle.wh_shell.proofs.EventLemmas.{told_events}
 use Rattle.wh_shell.proofs.CauseLemmas.{more_causes, rose_since}
 use Rattle.wh_shell.proofs.Opening.{some_gate, machine_is, machine_opened, run_survives, unopened_survives}
 use Rattle.wh_shell.proofs.Ending.{ends_by, unopened_run, unopened_fills, unopened_refuses, unopened_cause}
+use Rattle.wh_shell.proofs.running.run_within.Given.{Over}
+use Rattle.wh_shell.proofs.running.run_within.Goals.{In-Ok}
 use Rattle.wh_shell.proofs.running.run_within.Goals as goal
 
 -- ---- the file was opened
 
 -- the machine of the state that the file stands for is the one that was opened
+same : (g : Over) (c : In-Ok g) {left held : Option (List ℕ)} {file input before : List ℕ} {start : State}
+    {es : List Event} → IsStart (g.D.Disk.bytes c.args.disk) left held file input before start es
+    → opened start ≡ machine_of c.in-Ok.warehouse
+same g c {file = file} {start = start} is =
+    let w = c.in-Ok.warehouse in
+    machine_opened file (stored_of w.catalog) start (machine_of w) is.stands (c.in-Ok.ensures.opened file is.told_file)
+    c.in-Ok.ensures.means c.in-Ok.ensures.sessions
+
 pub returns-in-Ok-clause-runs : goal.returns-in-Ok-clause-runs
 returns-in-Ok-clause-runs g c = λ file input held start es is.
     let w = c.in-Ok.warehouse in
-    let same : opened start ≡ machine_of w =
-    machine_opened file (stored_of w.catalog) start (machine_of w) is.stands (c.in-Ok.ensures.opened file is.told_file)
-    c.in-Ok.ensures.means c.in-Ok.ensures.sessions in
+    let same = same g (goal.at.returns-in-Ok-clause-runs g c).In-Ok is in
     subst (λ (m : Machine). IsRunOf m es held c.serve_and_close.result.0 (g.K.Sink.held c.serve_and_close.new.out)
     (g.D.Disk.bytes c.serve_and_close.result.1) (g.S.Source.left c.serve_and_close.new.script)) (sym same)
     (c.serve_and_close.ensures.runs (c.in-Ok.ensures.told ∙ ap is_some is.told_file) es held
@@ -39,9 +49,7 @@ returns-in-Ok-clause-runs g c = λ file input held start es is.
 pub returns-in-Ok-clause-survives : goal.returns-in-Ok-clause-survives
 returns-in-Ok-clause-survives g c = λ file input before written start es is only held_is.
     let w = c.in-Ok.warehouse in
-    let same : opened start ≡ machine_of w =
-    machine_opened file (stored_of w.catalog) start (machine_of w) is.stands (c.in-Ok.ensures.opened file is.told_file)
-    c.in-Ok.ensures.means c.in-Ok.ensures.sessions in
+    let same = same g (goal.at.returns-in-Ok-clause-survives g c).In-Ok is in
     run_survives g.D.Disk.moment g.D.Disk.left_since g.D.Disk.may_leave (IsTold w)
     c.args.disk w.disk c.serve_and_close.result.1
     (g.D.Disk.bytes c.args.disk) (g.S.Source.left c.args.script.now)

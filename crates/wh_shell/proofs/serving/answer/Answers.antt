@@ -15,21 +15,29 @@ use Rattle.wh_shell.proofs.CauseLemmas.{passed_on, halt_cause}
 use Rattle.wh_shell.proofs.Survival.{leaves_now}
 use Rattle.wh_shell.proofs.Safety.{leaves_open, open_stands}
 use Rattle.wh_shell.proofs.Halting.{halts_before, halts_behind}
+use Rattle.wh_shell.proofs.serving.answer.Given.{Over}
+use Rattle.wh_shell.proofs.serving.answer.Goals.{After-carry_out}
 use Rattle.wh_shell.proofs.serving.answer.Goals as goal
+
+module _ (g : Over) (c : After-carry_out g) where
+  -- nothing of the reply is written yet
+  halts : Halts (IsTold c.args.warehouse.now) (g.D.Disk.may_leave c.carry_out.new.self.disk)
+      (machine_of c.args.warehouse.now) (event_of c.args.event.now) (g.K.Sink.held c.args.out.now)
+      (g.K.Sink.held c.args.out.now)
+  halts =
+      let old = c.args.warehouse.now in
+      let new = c.carry_out.new.self in
+      let m = machine_of old in
+      let event = event_of c.args.event.now in
+      halts_before (IsTold old) (g.D.Disk.may_leave new.disk) m event (g.K.Sink.held c.args.out.now)
+      (λ told. leaves_now g.D.Disk.moment g.D.Disk.left_since g.D.Disk.may_leave g.met.D.Disk.counts_now old.disk
+      new.disk (StandsForEither m.state (step m event).0.state)
+      (leaves_open old new (step m event).0.state c.requires told c.carry_out.ensures.any_moment))
 
 -- the engine halted
 pub returns-in_err-reply-clause-halts : goal.returns-in_err-reply-clause-halts
 returns-in_err-reply-clause-halts g c =
-    let old = c.args.warehouse.now in
-    let new = c.carry_out.new.self in
-    let m = machine_of old in
-    let event = event_of c.args.event.now in
-    let halts : Halts (IsTold old) (g.D.Disk.may_leave new.disk) m event (g.K.Sink.held c.args.out.now)
-    (g.K.Sink.held c.args.out.now) =
-    halts_before (IsTold old) (g.D.Disk.may_leave new.disk) m event (g.K.Sink.held c.args.out.now)
-    (λ told. leaves_now g.D.Disk.moment g.D.Disk.left_since g.D.Disk.may_leave g.met.D.Disk.counts_now old.disk new.disk
-    (StandsForEither m.state (step m event).0.state)
-    (leaves_open old new (step m event).0.state c.requires told c.carry_out.ensures.any_moment)) in
+    let halts = halts g (goal.at.returns-in_err-reply-clause-halts g c).After-carry_out in
     search rules
 
 pub returns-in_err-reply-clause-causes : goal.returns-in_err-reply-clause-causes
@@ -46,16 +54,7 @@ returns-in_err-reply-clause-causes g c =
 -- no memory for the text of the reply
 pub returns-in_err-print_reply-clause-halts : goal.returns-in_err-print_reply-clause-halts
 returns-in_err-print_reply-clause-halts g c =
-    let old = c.args.warehouse.now in
-    let new = c.carry_out.new.self in
-    let m = machine_of old in
-    let event = event_of c.args.event.now in
-    let halts : Halts (IsTold old) (g.D.Disk.may_leave new.disk) m event (g.K.Sink.held c.args.out.now)
-    (g.K.Sink.held c.args.out.now) =
-    halts_before (IsTold old) (g.D.Disk.may_leave new.disk) m event (g.K.Sink.held c.args.out.now)
-    (λ told. leaves_now g.D.Disk.moment g.D.Disk.left_since g.D.Disk.may_leave g.met.D.Disk.counts_now old.disk new.disk
-    (StandsForEither m.state (step m event).0.state)
-    (leaves_open old new (step m event).0.state c.requires told c.carry_out.ensures.any_moment)) in
+    let halts = halts g (goal.at.returns-in_err-print_reply-clause-halts g c).After-carry_out in
     search rules
 
 -- the reply was printed, and a front of it written

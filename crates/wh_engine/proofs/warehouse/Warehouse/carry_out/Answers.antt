@@ -2,18 +2,22 @@ use Rattle.std.proofs.Common.{◌≡◌, ◌≤◌, None, refl, sym, ap, subst, 
 use Rattle.wh_value.specs.Limit.{bound}
 use Rattle.wh_value.specs.declared.limit.Limit.TheVariants as limits
 use Rattle.wh_reply.specs.Reply.{Reply}
+use Rattle.wh_reply.specs.View.{reply_view}
 use Rattle.wh_sessions.specs.Outcome.{Machine}
 use Rattle.wh_sessions.specs.Step.{reading_of, stamp_of}
 use Rattle.wh_catalog.specs.Catalog.{stored_of, state_of}
 use Rattle.wh_engine.specs.Event.{event_of}
 use Rattle.wh_txn.specs.View.{sessions_of}
 use Rattle.wh_engine.specs.Decision.{StagesInOpen}
-use Rattle.wh_engine.specs.Warehouse.{machine_of, made_in}
+use Rattle.wh_engine.specs.Warehouse.{machine_of, made_in, led_to}
 use Rattle.wh_engine.specs.Halts.{Halted}
+use Rattle.wh_engine.specs.Leaves.{Leaves}
 use Rattle.wh_engine.proofs.StopLemmas.{leaves_still}
 use Rattle.wh_engine.proofs.HaltLemmas.{unchanged, reopens, starved, passed_on}
 use Rattle.wh_engine.proofs.CarryLemmas.{carries_nothing}
-use Rattle.wh_engine.proofs.PlanLemmas.{turns, unstamped}
+use Rattle.wh_engine.proofs.PlanLemmas.{Comes, turns, unstamped}
+use Rattle.wh_engine.proofs.warehouse.Warehouse.carry_out.Given.{Over}
+use Rattle.wh_engine.proofs.warehouse.Warehouse.carry_out.Goals.{After-settle}
 use Rattle.wh_engine.proofs.warehouse.Warehouse.carry_out.Goals as goal
 
 pub returns-in-Some-clause-halted : goal.returns-in-Some-clause-halted
@@ -69,48 +73,38 @@ settle-requires g c =
           (sym c.into_parts-reply.ensures.settlement) c.in_ok-decision.ensures.staged;
     }
 
+-- ---- what was decided is carried out
+
+module _ (g : Over) (c : After-settle g) where
+  decided : Comes (stored_of c.args.self.now.catalog) (machine_of c.args.self.now) (event_of c.args.event.now)
+      c.max-stamp.result c.into_parts-reply.result.1 (reply_view c.into_parts-reply.result.0)
+  decided =
+      let w = c.args.self.now in
+      turns w.catalog (sessions_of w.sessions) (event_of c.args.event.now)
+      c.reading.result c.last.result c.bound.result c.max-stamp.result c.in_ok-decision.decision _ _
+      c.last.ensures.orderly c.reading.ensures c.last.ensures.last c.bound.ensures c.max-stamp.ensures
+      c.if-bound-stamp.false c.in_ok-decision.ensures
+      c.into_parts-reply.ensures.settlement c.into_parts-reply.ensures.reply
+
+  any_moment : Leaves c.args.self.now c.settle.new.self (led_to c.args.self.now (event_of c.args.event.now)).state
+  any_moment = rw (ap (λ (m : Machine). m.state) decided.leaves) c.settle.ensures.any_moment
+
 pub returns-in_err-settle-clause-halted : goal.returns-in_err-settle-clause-halted
 returns-in_err-settle-clause-halted g c =
     let w = c.args.self.now in
-    let e = event_of c.args.event.now in
-    let h = turns w.catalog (sessions_of w.sessions) e c.reading.result c.last.result c.bound.result c.max-stamp.result
-    c.in_ok-decision.decision _ _
-    c.last.ensures.orderly c.reading.ensures c.last.ensures.last c.bound.ensures c.max-stamp.ensures
-    c.if-bound-stamp.false c.in_ok-decision.ensures
-    c.into_parts-reply.ensures.settlement c.into_parts-reply.ensures.reply in
+    let h = decided g (goal.at.returns-in_err-settle-clause-halted g c).After-settle in
     passed_on c.from_residual-in_err-settle.result c.in_err-settle.field-0.0
-    (λ halt. Halted w c.settle.new.self (made_in w e) halt)
+    (λ halt. Halted w c.settle.new.self (made_in w (event_of c.args.event.now)) halt)
     c.from_residual-in_err-settle.ensures.1 (rw h.commit c.in_err-settle.ensures.halted)
 
 pub returns-in_err-settle-clause-any_moment : goal.returns-in_err-settle-clause-any_moment
 returns-in_err-settle-clause-any_moment g c =
-    let w = c.args.self.now in
-    let e = event_of c.args.event.now in
-    let h = turns w.catalog (sessions_of w.sessions) e c.reading.result c.last.result c.bound.result c.max-stamp.result
-    c.in_ok-decision.decision _ _
-    c.last.ensures.orderly c.reading.ensures c.last.ensures.last c.bound.ensures c.max-stamp.ensures
-    c.if-bound-stamp.false c.in_ok-decision.ensures
-    c.into_parts-reply.ensures.settlement c.into_parts-reply.ensures.reply in
-    rw (ap (λ (m : Machine). m.state) h.leaves) c.settle.ensures.any_moment
+    any_moment g (goal.at.returns-in_err-settle-clause-any_moment g c).After-settle
 
 pub returns-clause-answered : goal.returns-clause-answered
 returns-clause-answered g c =
-    let w = c.args.self.now in
-    let e = event_of c.args.event.now in
-    let h = turns w.catalog (sessions_of w.sessions) e c.reading.result c.last.result c.bound.result c.max-stamp.result
-    c.in_ok-decision.decision _ _
-    c.last.ensures.orderly c.reading.ensures c.last.ensures.last c.bound.ensures c.max-stamp.ensures
-    c.if-bound-stamp.false c.in_ok-decision.ensures
-    c.into_parts-reply.ensures.settlement c.into_parts-reply.ensures.reply in
+    let h = decided g (goal.at.returns-clause-answered g c).After-settle in
     record { replied = h.replied; carried = rw (h.commit, h.leaves) c.in_ok-settle.ensures.answered }
 
 pub returns-clause-any_moment : goal.returns-clause-any_moment
-returns-clause-any_moment g c =
-    let w = c.args.self.now in
-    let e = event_of c.args.event.now in
-    let h = turns w.catalog (sessions_of w.sessions) e c.reading.result c.last.result c.bound.result c.max-stamp.result
-    c.in_ok-decision.decision _ _
-    c.last.ensures.orderly c.reading.ensures c.last.ensures.last c.bound.ensures c.max-stamp.ensures
-    c.if-bound-stamp.false c.in_ok-decision.ensures
-    c.into_parts-reply.ensures.settlement c.into_parts-reply.ensures.reply in
-    rw (ap (λ (m : Machine). m.state) h.leaves) c.settle.ensures.any_moment
+returns-clause-any_moment g c = any_moment g (goal.at.returns-clause-any_moment g c).After-settle
