@@ -17,7 +17,7 @@ use Rattle.wh_frame.specs.Spelling.{RisesFrom}
 use Rattle.wh_machine.specs.State.{Rows}
 use Rattle.wh_machine.proofs.AllLaws.{all_map, all_both}
 use Rattle.wh_machine.proofs.RisingEntries.{map_rises}
-use Rattle.wh_change.proofs.RisingRows.{tied, more_untied}
+use Rattle.wh_version.proofs.RisingEdits.{tied, more_untied}
 
 pub entries_rise : (rows : Rows) → RisesFrom 0 (entries rows)
 entries_rise rows = map_rises RisesFrom (λ least. tt) (λ least e es from rest. (from, rest)) rows

@@ -1,32 +1,22 @@
 -- Rows with rising numbers, and the row of a number among them.
---     tied, less_untied, more_untied     what tests of numbers say
 --     before_none, behind_none           no row has a number in front of them, or behind them
 --     rows_rise                          numbers do not fall from place to place
 --     found, none_found, found_or_not    the row of a number, and where there is none
 use Rattle.std.proofs.Common.{◌≡◌, ℕ, zero, suc, ◌+◌, ◌<◌, ◌≤◌, cond, Bool, true, false, List, [], ◌∷◌, length, get_or, map}
-use Rattle.std.proofs.Common.{Some, None, refl, sym, ap, ◌∙◌, arith, Less, Equal, Greater}
+use Rattle.std.proofs.Common.{Some, None, refl, sym, ap, ◌∙◌, arith}
 use Rattle.std.proofs.Common.{is_some, nat_eq, nat_lt}
 use Rattle.std.proofs.lemmas.Bool.Decides.{nat_tests}
 use Rattle.std.proofs.lemmas.Bool.{ltb-true, ltb-false}
 use Rattle.std.proofs.lemmas.List.{get_or_default}
-use Rattle.std.specs.Cmp.{nat_cmp_is}
-use Rattle.std.specs.Ordering.{nat_cmp, eq_by_cmp, is_eq}
+use Rattle.std.specs.Ordering.{nat_cmp, eq_by_cmp}
 use Rattle.std.specs.List.Sorted.{IsNonDecreasingBy}
 use Rattle.std.specs.FinMap.Entries.{find}
 use Rattle.wh_value.specs.Value.{Row}
 use Rattle.wh_frame.specs.Partition.{first_number, last_number}
 use Rattle.wh_frame.specs.Spelling.{RisesFrom}
+use Rattle.wh_version.proofs.RisingEdits.{tied, less_untied, more_untied}
 use Rattle.wh_table.proofs.TableBag.{head_last, tail_last}
 use Rattle.wh_change.specs.Rows.{IsPlaceOf}
-
-pub tied : (a b : ℕ) → a ≡ b → eq_by_cmp nat_cmp a b ≡ true
-tied a b same = ap is_eq (sym (nat_cmp_is a b Equal same))
-
-pub less_untied : (a b : ℕ) → a < b → eq_by_cmp nat_cmp a b ≡ false
-less_untied a b below = ap is_eq (sym (nat_cmp_is a b Less below))
-
-pub more_untied : (a b : ℕ) → b < a → eq_by_cmp nat_cmp a b ≡ false
-more_untied a b above = ap is_eq (sym (nat_cmp_is a b Greater above))
 
 other_first : (number : ℕ) (e : ℕ × Row) (es : List (ℕ × Row)) → eq_by_cmp nat_cmp number e.0 ≡ false
     → find nat_cmp number es ≡ None
