@@ -9,9 +9,9 @@ use Rattle.std.proofs.lemmas.Bool.Decides.{Decides-and, Decides-eqb, Decides-ltb
 use Rattle.wh_value.specs.Column.{Column}
 use Rattle.wh_value.specs.Limit.{bound}
 use Rattle.wh_value.specs.declared.limit.Limit.TheVariants as limits
-use Rattle.wh_machine.specs.State.{id_of, live_count}
-use Rattle.wh_machine.specs.Stored.{StoredKind, StoredTableKind, StoredStreamKind, StoredObject}
-use Rattle.wh_machine.specs.Commit.{TableChange, IsStoredName, IsNewObject, TableApplies, IsTableKind, IsLiveTable}
+use Rattle.wh_state.specs.State.{id_of, live_count}
+use Rattle.wh_state.specs.Stored.{StoredKind, StoredTableKind, StoredStreamKind, StoredObject}
+use Rattle.wh_state.specs.Commit.{TableChange, IsStoredName, IsNewObject, TableApplies, IsTableKind, IsLiveTable}
 use Rattle.wh_catalog.specs.Conditions.{is_stored_name, is_stored_column, are_stored_columns, is_new_object}
 use Rattle.wh_catalog.specs.Conditions.{table_applies, is_table_kind, is_live_table}
 use Rattle.wh_table.proofs.Apart.{Decides-list_all}

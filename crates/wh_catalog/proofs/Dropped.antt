@@ -6,10 +6,10 @@ use Rattle.std.proofs.lemmas.List.Sums.{sum_by-append, sum_by-cons, sum_by-set}
 use Rattle.std.specs.List.{count_by}
 use Rattle.wh_value.specs.Limit.{bound}
 use Rattle.wh_value.specs.declared.limit.Limit.TheVariants as limits
-use Rattle.wh_machine.specs.State.{live_count, changed_at}
+use Rattle.wh_state.specs.State.{live_count, changed_at}
 use Rattle.wh_catalog.specs.declared.object.StoredObject.{StoredObject}
-use Rattle.wh_machine.specs.Stored as machine
-use Rattle.wh_machine.proofs.IdLaws.{map_count}
+use Rattle.wh_state.specs.Stored as machine
+use Rattle.wh_state.proofs.IdLaws.{map_count}
 use Rattle.wh_catalog.specs.Kept.{KeptObject, object_in}
 use Rattle.wh_catalog.specs.Object.{kept_object, kept_objects, stored_objects, IsPlaceOf}
 use Rattle.wh_catalog.specs.Back.{alive, lives_again}

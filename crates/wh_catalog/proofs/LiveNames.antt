@@ -11,8 +11,8 @@ use Rattle.std.specs.Cmp.Lexicographic.{bytes_decides, nat_list_eq_equiv}
 use Rattle.std.proofs.lemmas.Bool.{lt-ltb}
 use Rattle.std.proofs.lemmas.List.{map-append}
 use Rattle.std.proofs.lemmas.Bool.Decides.{nat_tests}
-use Rattle.wh_machine.specs.State.{id_of, is_named}
-use Rattle.wh_machine.proofs.IdLaws.{map_position}
+use Rattle.wh_state.specs.State.{id_of, is_named}
+use Rattle.wh_state.proofs.IdLaws.{map_position}
 use Rattle.wh_catalog.specs.declared.object.StoredObject.{StoredObject}
 use Rattle.wh_catalog.specs.Kept.{object_in}
 use Rattle.wh_catalog.specs.Object.{kept_object, kept_objects, stored_objects}

@@ -13,8 +13,8 @@ use Rattle.std.specs.Cmp.Lexicographic.{nat_list_eq_equiv}
 use Rattle.std.proofs.Math.Seq.{take-suc, map-set_same}
 use Rattle.std.proofs.lemmas.Bool.{eqb-true}
 use Rattle.std.proofs.lemmas.List.{length-map, length-set, length-take-le, map-append}
-use Rattle.wh_machine.specs.State.{at_id}
-use Rattle.wh_machine.proofs.IdLaws.{map_at}
+use Rattle.wh_state.specs.State.{at_id}
+use Rattle.wh_state.proofs.IdLaws.{map_at}
 use Rattle.wh_catalog.specs.declared.object.StoredObject.{StoredObject}
 use Rattle.wh_catalog.specs.Names.{or_first, last_place, last_id, is_last, names_of, AreLast, KeepsNames}
 use Rattle.wh_catalog.specs.Object.{IsPlaceOf}

@@ -1,7 +1,7 @@
 -- What stands in the tables of a catalog is orderly.
 use Rattle.std.proofs.Common.{List, [], ◌∷◌}
 use Rattle.std.specs.List.{AllByRecursion}
-use Rattle.wh_machine.specs.Orderly.{IsOrderlyKind, IsOrderlyObject}
+use Rattle.wh_state.specs.Orderly.{IsOrderlyKind, IsOrderlyObject}
 use Rattle.wh_table.proofs.OrderlyTables.{orderly_table}
 use Rattle.wh_catalog.specs.declared.object.StoredKind.{StoredKind}
 use Rattle.wh_catalog.specs.declared.object.StoredKind.TheVariants.{Table, Stream}

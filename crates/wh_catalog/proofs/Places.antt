@@ -8,9 +8,9 @@ use Rattle.std.proofs.Common.{refl, sym, ap, ◌∙◌, arith}
 use Rattle.std.proofs.Math.Seq.{map-set_same}
 use Rattle.std.proofs.lemmas.List.{map-set, length-set, set-get_or, get_or-set_same}
 use Rattle.std.proofs.lemmas.Option.{slice_get_read}
-use Rattle.wh_machine.specs.State.{at_id, with_id, put_at, changed_at}
-use Rattle.wh_machine.specs.Stored as machine
-use Rattle.wh_machine.proofs.IdLaws.{map_at}
+use Rattle.wh_state.specs.State.{at_id, with_id, put_at, changed_at}
+use Rattle.wh_state.specs.Stored as machine
+use Rattle.wh_state.proofs.IdLaws.{map_at}
 use Rattle.wh_catalog.specs.declared.object.StoredObject.{StoredObject}
 use Rattle.wh_catalog.specs.Kept.{KeptObject, object_in}
 use Rattle.wh_catalog.specs.Object.{kept_object, kept_objects, stored_objects, IsPlaceOf}

@@ -3,7 +3,7 @@
 use Rattle.std.specs.Prelude.{ℕ, true, ◌&&◌, List, map, nat_lt, if◌then◌else◌}
 use Rattle.wh_value.specs.Limit.{bound}
 use Rattle.wh_value.specs.declared.limit.Limit.TheVariants as limits
-use Rattle.wh_machine.specs.State.{with_offset, changed_at, live_count}
+use Rattle.wh_state.specs.State.{with_offset, changed_at, live_count}
 use Rattle.wh_table.specs.Kept.{taken_back}
 use Rattle.wh_catalog.specs.Kept.{KeptKind, KeptTableKind, KeptStreamKind, KeptObject}
 use Rattle.wh_catalog.specs.Names.{is_last}

@@ -4,8 +4,8 @@
 --     stored_table_at     the table of an id
 --     stored_stream_at    the stream of an id
 use Rattle.std.specs.Prelude.{ℕ, List, map, Option, Some, None}
-use Rattle.wh_machine.specs.State.{State, Stream, at_id}
-use Rattle.wh_machine.specs.Stored as machine
+use Rattle.wh_state.specs.State.{State, Stream, at_id}
+use Rattle.wh_state.specs.Stored as machine
 use Rattle.wh_catalog.specs.declared.catalog.Catalog.{Catalog}
 use Rattle.wh_catalog.specs.Kept.{KeptObject, object_in}
 use Rattle.wh_catalog.specs.Object.{kept_object}

@@ -8,9 +8,9 @@ use Rattle.std.specs.List.{list_all}
 use Rattle.wh_value.specs.Column.{Column}
 use Rattle.wh_value.specs.Limit.{bound}
 use Rattle.wh_value.specs.declared.limit.Limit.TheVariants as limits
-use Rattle.wh_machine.specs.State.{id_of, live_count}
-use Rattle.wh_machine.specs.Stored.{StoredKind, StoredTableKind, StoredStreamKind, StoredObject}
-use Rattle.wh_machine.specs.Commit.{TableChange}
+use Rattle.wh_state.specs.State.{id_of, live_count}
+use Rattle.wh_state.specs.Stored.{StoredKind, StoredTableKind, StoredStreamKind, StoredObject}
+use Rattle.wh_state.specs.Commit.{TableChange}
 
 abbrev pub is_stored_name : List ℕ → Bool
 is_stored_name name = nat_lt 0 (length name) && nat_le (length name) (bound limits.Name)

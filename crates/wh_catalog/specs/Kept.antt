@@ -1,8 +1,8 @@
 -- Objects with what it takes to take a table's version back.
 --     KeptKind, KeptObject      what an object is, and the object
 --     kind_in, object_in        what the file says of it
-use Rattle.wh_machine.specs.State.{ObjectOf, Stream}
-use Rattle.wh_machine.specs.Stored.{StoredKind, StoredTableKind, StoredStreamKind, StoredObject}
+use Rattle.wh_state.specs.State.{ObjectOf, Stream}
+use Rattle.wh_state.specs.Stored.{StoredKind, StoredTableKind, StoredStreamKind, StoredObject}
 use Rattle.wh_table.specs.Kept.{KeptTable, table_in}
 
 pub data KeptKind : Type 0 where

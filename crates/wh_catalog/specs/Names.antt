@@ -10,7 +10,7 @@ use Rattle.std.specs.Option.{option_eq, option_map_or}
 use Rattle.std.specs.Coded.{Coded-set, coded_option, coded_ℕ, ×_prop, →_prop, Unit-prop}
 use Rattle.std.specs.declared.vec.Vec.{Vec}
 use Rattle.indexmap.specs.IndexMap.{IndexMap, get_by}
-use Rattle.wh_machine.specs.State.{at_id}
+use Rattle.wh_state.specs.State.{at_id}
 use Rattle.wh_catalog.specs.declared.object.StoredObject.{StoredObject}
 
 -- the place in a list with one more before it; with none, that one's if it is meant

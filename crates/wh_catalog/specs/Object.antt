@@ -3,7 +3,7 @@
 --     stored_objects                what the file says of them
 --     IsPlaceOf                     where the object of an id stands
 use Rattle.std.specs.Prelude.{◌≡◌, ℕ, suc, ◌<◌, List, map, length}
-use Rattle.wh_machine.specs.Stored as machine
+use Rattle.wh_state.specs.Stored as machine
 use Rattle.wh_table.specs.Table.{kept_table}
 use Rattle.wh_catalog.specs.declared.object.StoredKind.{StoredKind}
 use Rattle.wh_catalog.specs.declared.object.StoredKind.TheVariants.{Table, Stream}

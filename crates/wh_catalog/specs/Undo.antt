@@ -2,7 +2,7 @@
 --     undone     the objects before steps that were taken one after the other
 --     Undoes     leads back from a catalog to what it was
 use Rattle.std.specs.Prelude.{◌≡◌, List, [], ◌∷◌}
-use Rattle.wh_machine.specs.State.{changed_at}
+use Rattle.wh_state.specs.State.{changed_at}
 use Rattle.wh_version.specs.Lists.{but_last}
 use Rattle.wh_catalog.specs.declared.catalog.Catalog.{Catalog}
 use Rattle.wh_catalog.specs.declared.undo.Step.{Step}

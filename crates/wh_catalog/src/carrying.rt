@@ -9,7 +9,7 @@ use wh_value::Limit;
 
 impl Catalog {
     ghost use Rattle.std.specs.Prelude.{◌≡◌, ◌++◌, ◌∷◌, [], OnOk, OnErr, IfOk, IsErrOf};
-    ghost use Rattle.wh_machine.specs.Commit.{ChangeApplies, IsNewObject, changed};
+    ghost use Rattle.wh_state.specs.Commit.{ChangeApplies, IsNewObject, changed};
     ghost use Rattle.wh_record.specs.View.{change_of};
     ghost use Rattle.wh_version.specs.Lists.{but_last};
     ghost use Rattle.wh_catalog.specs.Kept.{object_in};
@@ -103,8 +103,8 @@ impl Catalog {
 }
 
 ghost use Rattle.std.specs.Prelude.{◌≡◌, count_by, OnOk, OnErr, IfOk, IsErrOf};
-ghost use Rattle.wh_machine.specs.State.{at_id, changed_at};
-ghost use Rattle.wh_machine.specs.Commit.{FitsObject, pushed_object};
+ghost use Rattle.wh_state.specs.State.{at_id, changed_at};
+ghost use Rattle.wh_state.specs.Commit.{FitsObject, pushed_object};
 ghost use Rattle.wh_record.specs.View.{version_change_of};
 ghost use Rattle.wh_catalog.specs.Object.{kept_objects, stored_objects};
 ghost use Rattle.wh_catalog.specs.Names.{KeepsNames};

@@ -30,16 +30,16 @@ impl Catalog {
     ghost use Rattle.std.specs.Prelude.{◌≡◌, ◌<◌, ◌≤◌, length, map, option_map};
     ghost use Rattle.wh_value.specs.Limit.{bound};
     ghost use Rattle.wh_value.specs.declared.limit.Limit.TheVariants as limits;
-    ghost use Rattle.wh_machine.specs.State.{first_state, id_of, live_count};
-    ghost use Rattle.wh_machine.specs.Stored.{first_stored};
-    ghost use Rattle.wh_machine.specs.Orderly.{IsOrderlyStored};
+    ghost use Rattle.wh_state.specs.State.{first_state, id_of, live_count};
+    ghost use Rattle.wh_state.specs.Stored.{first_stored};
+    ghost use Rattle.wh_state.specs.Orderly.{IsOrderlyStored};
     ghost use Rattle.wh_catalog.specs.Kept.{object_in};
     ghost use Rattle.wh_table.specs.Table.{table_of};
     ghost use Rattle.wh_catalog.specs.Object.{kept_object};
     ghost use Rattle.wh_catalog.specs.Names.{names_of, is_last, last_id};
     ghost use Rattle.wh_catalog.specs.Catalog.{stored_of, state_of, stored_table_at, stored_stream_at};
     ghost use Rattle.wh_catalog.specs.Stream.{stream_of};
-    ghost use Rattle.wh_machine.specs.State.{at_id};
+    ghost use Rattle.wh_state.specs.State.{at_id};
 
     /// No object, and no stamp. Takes no memory.
     pub fn new(alloc: Global) -> Catalog

@@ -1,7 +1,7 @@
 //! Offsets of streams.
 ghost use Rattle.std.specs.Prelude.{◌≡◌, count_by, OnOk, OnErr, IfOk, IsErrOf};
-ghost use Rattle.wh_machine.specs.State.{at_id, changed_at};
-ghost use Rattle.wh_machine.specs.Commit.{OffsetApplies, offset_set};
+ghost use Rattle.wh_state.specs.State.{at_id, changed_at};
+ghost use Rattle.wh_state.specs.Commit.{OffsetApplies, offset_set};
 ghost use Rattle.wh_catalog.specs.Object.{kept_objects, stored_objects};
 ghost use Rattle.wh_catalog.specs.Names.{KeepsNames};
 ghost use Rattle.wh_catalog.specs.Back.{object_put_back};
@@ -58,7 +58,7 @@ pub(crate) fn put_offset_back(objects: &mut Vec<StoredObject>, id: u32, offset: 
 
 impl StoredObject {
     ghost use Rattle.std.specs.Prelude.{◌≡◌, Some, OnOk, OnErr, IfOk, IsErrOf};
-    ghost use Rattle.wh_machine.specs.Commit.{OffsetApplies, offset_set};
+    ghost use Rattle.wh_state.specs.Commit.{OffsetApplies, offset_set};
     ghost use Rattle.wh_catalog.specs.Kept.{object_in};
     ghost use Rattle.wh_catalog.specs.Object.{kept_object};
     ghost use Rattle.wh_catalog.specs.Back.{object_put_back};

@@ -5,7 +5,7 @@ use wh_value::{Column, Limit, Text};
 
 impl Catalog {
     ghost use Rattle.std.specs.Prelude.{◌≡◌, ◌++◌, ◌∷◌, [], OnOk, IfOk, IsErrOf};
-    ghost use Rattle.wh_machine.specs.Commit.{TableApplies, changed, CreatesTable};
+    ghost use Rattle.wh_state.specs.Commit.{TableApplies, changed, CreatesTable};
     ghost use Rattle.wh_record.specs.View.{table_change_of};
     ghost use Rattle.wh_catalog.specs.Conditions.{is_new_object, table_applies};
     ghost use Rattle.wh_catalog.specs.Kept.{object_in};

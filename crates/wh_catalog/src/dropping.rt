@@ -2,8 +2,8 @@
 ghost use Rattle.std.specs.Prelude.{◌≡◌, ◌≤◌, ◌+◌, true, count_by, OnOk, OnErr, IfOk, IsErrOf};
 ghost use Rattle.wh_value.specs.Limit.{bound};
 ghost use Rattle.wh_value.specs.declared.limit.Limit.TheVariants as limits;
-ghost use Rattle.wh_machine.specs.State.{at_id, changed_at, dropped};
-ghost use Rattle.wh_machine.specs.Commit.{IsLiveObject};
+ghost use Rattle.wh_state.specs.State.{at_id, changed_at, dropped};
+ghost use Rattle.wh_state.specs.Commit.{IsLiveObject};
 ghost use Rattle.wh_catalog.specs.Object.{kept_objects, stored_objects};
 ghost use Rattle.wh_catalog.specs.Names.{names_of, is_last, AreLast, KeepsNames};
 ghost use Rattle.wh_catalog.specs.Back.{alive};

@@ -1,5 +1,5 @@
 //! The catalog: objects in order of creation, and the commits that change them.
-#![tactic(auto, unfolding(wh_table::specs::Table::kept_table, crate::specs::Catalog::kept_of, crate::specs::Catalog::stored_of, crate::specs::Catalog::state_of, wh_machine::specs::Commit::changed))]
+#![tactic(auto, unfolding(wh_table::specs::Table::kept_table, crate::specs::Catalog::kept_of, crate::specs::Catalog::stored_of, crate::specs::Catalog::state_of, wh_state::specs::Commit::changed))]
 
 mod carrying;
 mod catalog;

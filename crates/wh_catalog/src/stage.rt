@@ -5,7 +5,7 @@ use wh_value::Limit;
 
 impl Catalog {
     ghost use Rattle.std.specs.Prelude.{◌≡◌, [], map, OnOk, IfOk, OnErr, IsErrOf};
-    ghost use Rattle.wh_machine.specs.Commit.{Applies, applied, AllApply, all_changed};
+    ghost use Rattle.wh_state.specs.Commit.{Applies, applied, AllApply, all_changed};
     ghost use Rattle.wh_record.specs.View.{commit_of, change_of};
     ghost use Rattle.wh_catalog.specs.Catalog.{stored_of, state_of, objects_of, kept_of};
     ghost use Rattle.wh_catalog.specs.Undo.{undone, Undoes};

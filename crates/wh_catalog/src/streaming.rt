@@ -6,9 +6,9 @@ use wh_value::{Column, ColumnType, Text};
 
 impl Catalog {
     ghost use Rattle.std.specs.Prelude.{◌≡◌, ◌++◌, ◌∷◌, [], is_some, OnOk, IfOk, IfSome, IsErrOf};
-    ghost use Rattle.wh_machine.specs.State.{at_id};
-    ghost use Rattle.wh_machine.specs.Stored.{stored_columns_at};
-    ghost use Rattle.wh_machine.specs.Commit.{StreamApplies, changed, CreatesStream};
+    ghost use Rattle.wh_state.specs.State.{at_id};
+    ghost use Rattle.wh_state.specs.Stored.{stored_columns_at};
+    ghost use Rattle.wh_state.specs.Commit.{StreamApplies, changed, CreatesStream};
     ghost use Rattle.wh_record.specs.View.{stream_change_of};
     ghost use Rattle.wh_table.specs.Table.{table_of};
     ghost use Rattle.wh_catalog.specs.Conditions.{is_live_table};
@@ -68,7 +68,7 @@ impl Catalog {
 
 ghost use Rattle.std.specs.Prelude.{◌≡◌, ◌++◌, ◌≤◌, map, length, IfOk};
 ghost use Rattle.wh_value.specs.View.{column_of, type_of};
-ghost use Rattle.wh_machine.specs.State.{metadata_columns};
+ghost use Rattle.wh_state.specs.State.{metadata_columns};
 
 // Equal columns, and behind them those by which changes of rows are told.
 fn with_metadata(alloc: Global, columns: &[Column]) -> Result<Vec<Column>, AllocError>

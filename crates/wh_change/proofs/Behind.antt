@@ -10,8 +10,8 @@ use Rattle.std.specs.FinMap.{get}
 use Rattle.std.specs.FinMap.Entries.{find}
 use Rattle.wh_value.specs.Value.{Row}
 use Rattle.wh_frame.specs.Partition.{Partition}
-use Rattle.wh_machine.specs.Stored.{StoredVersion, rows_of}
-use Rattle.wh_streams.specs.Net.{is_between, first_here, inserted}
+use Rattle.wh_state.specs.Stored.{StoredVersion, rows_of}
+use Rattle.wh_net.specs.Net.{is_between, first_here, inserted}
 use Rattle.wh_version.specs.Arrivals.{IsArrival, HaveArrived, count_by}
 use Rattle.wh_version.specs.History.{standing_in}
 use Rattle.wh_version.specs.Turnover.{IsMixed, IsTurnover}

@@ -14,9 +14,9 @@ use Rattle.std.specs.FinMap.Entries.{find, where_key, is_sorted-where_key, find-
 use Rattle.std.specs.FinMap.Entries.{same_entries}
 use Rattle.wh_value.specs.Value.{Row}
 use Rattle.wh_frame.specs.Spelling.{RisesFrom}
-use Rattle.wh_machine.specs.State.{Rows}
-use Rattle.wh_machine.proofs.AllLaws.{all_map, all_both}
-use Rattle.wh_machine.proofs.RisingEntries.{map_rises}
+use Rattle.wh_state.specs.State.{Rows}
+use Rattle.wh_state.proofs.AllLaws.{all_map, all_both}
+use Rattle.wh_state.proofs.RisingEntries.{map_rises}
 use Rattle.wh_version.proofs.RisingEdits.{tied, more_untied}
 
 pub entries_rise : (rows : Rows) → RisesFrom 0 (entries rows)

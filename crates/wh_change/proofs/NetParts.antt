@@ -12,8 +12,8 @@ use Rattle.std.specs.FinMap.{get, entries, get-entries}
 use Rattle.std.specs.FinMap.Entries.{where_key}
 use Rattle.wh_value.specs.Value.{Row}
 use Rattle.wh_value.specs.Order.{row_total}
-use Rattle.wh_machine.specs.State.{Rows}
-use Rattle.wh_streams.specs.Net.{Record, Delete, Insert, change_at, arrival_at, numbers_in, net}
+use Rattle.wh_state.specs.State.{Rows}
+use Rattle.wh_net.specs.Net.{RowChange, Delete, Insert, change_at, arrival_at, numbers_in, net}
 use Rattle.wh_table.specs.Changes.{IsShown}
 use Rattle.wh_change.specs.Rows.{changes_by, arrivals_by}
 use Rattle.wh_change.proofs.Entries.{each_found, kept_entries}
@@ -43,7 +43,7 @@ net_by_entries old new =
 
 -- ---- numbers that add nothing
 
-kept_numbers : (records : ℕ → List Record) (test : ℕ → Bool) (es : List (ℕ × Row))
+kept_numbers : (records : ℕ → List RowChange) (test : ℕ → Bool) (es : List (ℕ × Row))
     → ((n : ℕ) → test n ≡ false → records n ≡ [])
     → flat_map records (numbers_of (where_key nat_cmp test es)) ≡ flat_map records (numbers_of es)
 kept_numbers records test [] none = refl
@@ -125,10 +125,10 @@ module _ (old new gone arrived : Rows)
   unfolding net
   net_shown = λ i. changes i ++ arrivals i
     where
-      change_of : ℕ → List Record
+      change_of : ℕ → List RowChange
       change_of n = change_at n (get gone n) (get arrived n)
 
-      arrival_of : ℕ → List Record
+      arrival_of : ℕ → List RowChange
       arrival_of n = arrival_at n (get gone n) (get arrived n)
 
       changes : flat_map change_of (numbers_in gone)

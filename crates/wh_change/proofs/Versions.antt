@@ -1,9 +1,9 @@
 -- The rows of a table at a time, by the partitions of the version that is found.
 use Rattle.std.proofs.Common.{◌≡◌, ℕ, Bool, true, false, cond, List, [], ◌∷◌, map, filter, refl, ap, ◌∙◌}
 use Rattle.std.specs.Prelude.{nat_le}
-use Rattle.wh_machine.specs.State.{Version, content_in, last_of, nothing_held}
-use Rattle.wh_machine.specs.Stored.{StoredVersion, StoredTable, version_meant, table_meant, rows_of}
-use Rattle.wh_streams.specs.Stream.{rows_at}
+use Rattle.wh_state.specs.State.{Version, content_in, last_of, nothing_held}
+use Rattle.wh_state.specs.Stored.{StoredVersion, StoredTable, version_meant, table_meant, rows_of}
+use Rattle.wh_net.specs.Stream.{rows_at}
 use Rattle.wh_version.specs.Times.{data_at}
 use Rattle.wh_table.proofs.Pushed.{last_meant}
 

@@ -11,9 +11,9 @@ use Rattle.std.specs.FinMap.{get, entries, entries_sorted, get-entries, get-empt
 use Rattle.std.specs.FinMap.Entries.{find, where_key, is_sorted-where_key, find-where_key, same_entries}
 use Rattle.wh_value.specs.Value.{Row}
 use Rattle.wh_frame.specs.Partition.{Partition}
-use Rattle.wh_machine.specs.State.{Rows, content_in}
-use Rattle.wh_machine.specs.Stored.{StoredVersion, version_meant, rows_of}
-use Rattle.wh_streams.specs.Net.{Record, inserted, is_in_one, first_here, is_between, appended_from, appended}
+use Rattle.wh_state.specs.State.{Rows, content_in}
+use Rattle.wh_state.specs.Stored.{StoredVersion, version_meant, rows_of}
+use Rattle.wh_net.specs.Net.{RowChange, inserted, is_in_one, first_here, is_between, appended_from, appended}
 use Rattle.wh_version.specs.History.{standing_in}
 use Rattle.wh_table.specs.Changes.{IsShown, AreChanges, AreArrivals}
 use Rattle.wh_table.specs.Rows.{all_rows}
@@ -118,7 +118,7 @@ module _ (earlier : List Rows) (old new gone arrived : Rows)
 
 -- ---- the walk
 
-pub record Walked (from to : ℕ) (vs : List StoredVersion) (place : ℕ) (records : List Record)
+pub record Walked (from to : ℕ) (vs : List StoredVersion) (place : ℕ) (records : List RowChange)
     (seen : List Partition) : Type 0 where
   pub earlier : List Rows
   pub so_far : records ++ appended_from earlier from to (map version_meant (drop place vs))
@@ -143,7 +143,7 @@ walk_begins from to vs seen none = record {
         not_some None none there = absurd cc
         not_some (Some row) none there = absurd cc
 
-pub walk_ends : (from to : ℕ) (vs : List StoredVersion) (place : ℕ) (records : List Record) (seen : List Partition)
+pub walk_ends : (from to : ℕ) (vs : List StoredVersion) (place : ℕ) (records : List RowChange) (seen : List Partition)
     → Walked from to vs place records seen → drop place vs ≡ []
     → records ≡ appended (map version_meant vs) from to
 walk_ends from to vs place records seen walked none =
@@ -151,7 +151,7 @@ walk_ends from to vs place records seen walked none =
     ∙ ap (λ l. records ++ appended_from walked.earlier from to (map version_meant l)) (sym none) ∙ walked.so_far
 
 -- with the next version, whose new rows are told, and what was seen with it
-pub walked_past : (from to : ℕ) (vs : List StoredVersion) (place : ℕ) (records now : List Record)
+pub walked_past : (from to : ℕ) (vs : List StoredVersion) (place : ℕ) (records now : List RowChange)
     (seen more : List Partition) (walked : Walked from to vs place records seen)
     (version : StoredVersion) (rest : List StoredVersion) → drop place vs ≡ version ∷ rest
     → HasAll (rows_of version.content ∷ walked.earlier) more
@@ -172,7 +172,7 @@ walked_past from to vs place records now seen more walked version rest first sam
     rows : Rows
     rows = rows_of version.content
 
-    later : List Record
+    later : List RowChange
     later = appended_from (rows ∷ walked.earlier) from to (map version_meant rest)
 
     stands : standing_in (take (suc place) vs) ≡ version.content
@@ -185,7 +185,7 @@ same_records earlier seen same es =
     λ i. map (λ (e : ℕ × Row). inserted e.0 false e.1) (filter (λ (e : ℕ × Row). not (same e.0 i)) es)
 
 -- with what came with the next version
-pub walked_on : (from to stamp : ℕ) (vs : List StoredVersion) (place : ℕ) (records now : List Record)
+pub walked_on : (from to stamp : ℕ) (vs : List StoredVersion) (place : ℕ) (records now : List RowChange)
     (seen came : List Partition)
     → Walked from to vs place records seen → AreArrivals stamp (all_rows came) (take place vs) (drop place vs)
     → now ≡ records ++ (if is_between from to stamp then appeared seen (all_rows came) else [])

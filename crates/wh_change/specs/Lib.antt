@@ -1,3 +1,3 @@
-pub mod Record
+pub mod RowChange
 pub mod Rows
 pub mod Seen

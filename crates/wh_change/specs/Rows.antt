@@ -13,7 +13,7 @@ use denote.Ref.{Bor}
 use Rattle.wh_value.specs.Value.{Row}
 use Rattle.wh_part.specs.declared.partition.NumberedRow.{NumberedRow}
 use Rattle.wh_part.specs.View.{numbered_of}
-use Rattle.wh_streams.specs.Net.{Record, change_at, arrival_at}
+use Rattle.wh_net.specs.Net.{RowChange, change_at, arrival_at}
 
 abbrev pub row_in : Option (Bor Row) → Option Row
 row_in None = None
@@ -25,10 +25,10 @@ entry_at row = numbered_of row.now
 abbrev pub entries_at : List (Bor NumberedRow) → List (ℕ × Row)
 entries_at rows = map entry_at rows
 
-abbrev pub changes_by : List (ℕ × Row) → List (ℕ × Row) → List Record
+abbrev pub changes_by : List (ℕ × Row) → List (ℕ × Row) → List RowChange
 changes_by new old = flat_map (λ e. change_at e.0 (Some e.1) (find nat_cmp e.0 new)) old
 
-abbrev pub arrivals_by : List (ℕ × Row) → List (ℕ × Row) → List Record
+abbrev pub arrivals_by : List (ℕ × Row) → List (ℕ × Row) → List RowChange
 arrivals_by old new = flat_map (λ e. arrival_at e.0 (find nat_cmp e.0 old) (Some e.1)) new
 
 pub record IsPlaceOf {X : Type 0} (entry_of : X → ℕ × Row) (number : ℕ) (rows : List X) (place : ℕ) : Type 0 where

@@ -9,7 +9,7 @@ use Rattle.std.specs.FinMap.Entries.{find}
 use Rattle.std.specs.Ordering.{nat_cmp}
 use Rattle.wh_value.specs.Value.{Row}
 use Rattle.wh_frame.specs.Partition.{Partition}
-use Rattle.wh_streams.specs.Net.{Record, inserted}
+use Rattle.wh_net.specs.Net.{RowChange, inserted}
 
 abbrev pub has_number : ℕ → Partition → Bool
 has_number number p = is_some (find nat_cmp number p.rows)
@@ -20,5 +20,5 @@ is_seen number partitions = list_any (has_number number) partitions
 abbrev pub IsBound : ℕ → List Partition → Type 0
 IsBound bound partitions = (number : ℕ) → bound < number → is_seen number partitions ≡ false
 
-abbrev pub appeared : List Partition → List (ℕ × Row) → List Record
+abbrev pub appeared : List Partition → List (ℕ × Row) → List RowChange
 appeared partitions rows = map (λ e. inserted e.0 false e.1) (filter (λ e. not (is_seen e.0 partitions)) rows)

@@ -1,14 +1,14 @@
 //! The rows that first stand in the versions of a range.
 ghost use Rattle.std.specs.Prelude.{◌≡◌, [], ◌++◌, map, OnOk, IfOk, if◌then◌else◌};
-ghost use Rattle.wh_machine.specs.Stored.{table_meant};
+ghost use Rattle.wh_state.specs.Stored.{table_meant};
 ghost use Rattle.wh_part.specs.View.{numbered_of};
-ghost use Rattle.wh_streams.specs.Net.{appended, is_between};
+ghost use Rattle.wh_net.specs.Net.{appended, is_between};
 ghost use Rattle.wh_table.specs.Rows.{all_rows, partitions_at};
 ghost use Rattle.wh_table.specs.Table.{table_of};
-ghost use Rattle.wh_change.specs.Record.{records_of};
+ghost use Rattle.wh_change.specs.RowChange.{row_changes_of};
 ghost use Rattle.wh_change.specs.Seen.{appeared};
 
-use crate::Record;
+use crate::RowChange;
 use crate::seen::Seen;
 use std::alloc::{AllocError, Global};
 use wh_part::{NumberedRow, Partition};
@@ -23,8 +23,8 @@ pub fn appends<'a>(
     table: &'a StoredTable,
     from: u64,
     to: u64,
-) -> Result<Vec<Record<'a>>, AllocError>
-    ensures { IfOk result (λ records. records_of records.items
+) -> Result<Vec<RowChange<'a>>, AllocError>
+    ensures { IfOk result (λ records. row_changes_of records.items
         ≡ appended (table_meant (table_of table.now)).versions from to) }
 {
     let front = table.front(alloc, from)?;
@@ -41,13 +41,13 @@ pub fn appends<'a>(
 
 // What came with a version, where its stamp is behind the range's first and up to its last.
 fn add_appended<'a>(
-    records: &mut Vec<Record<'a>>,
+    records: &mut Vec<RowChange<'a>>,
     seen: &Seen<'a>,
     arrivals: &Arrivals<'a>,
     from: u64,
     to: u64,
 ) -> Result<(), AllocError>
-    ensures { OnOk result (records_of records.new.items ≡ records_of records.old.items
+    ensures { OnOk result (row_changes_of records.new.items ≡ row_changes_of records.old.items
         ++ (if is_between from to arrivals.now.stamp then appeared (partitions_at seen.now.partitions.items)
         (all_rows (partitions_at arrivals.now.came.items)) else [])) }
 {
@@ -70,11 +70,11 @@ fn see<'a>(seen: &mut Seen<'a>, came: &[&'a Partition]) -> Result<(), AllocError
 
 // The rows of partitions whose numbers weren't seen before.
 fn add_unseen<'a>(
-    records: &mut Vec<Record<'a>>,
+    records: &mut Vec<RowChange<'a>>,
     seen: &Seen<'a>,
     came: &[&'a Partition],
 ) -> Result<(), AllocError>
-    ensures { OnOk result (records_of records.new.items ≡ records_of records.old.items
+    ensures { OnOk result (row_changes_of records.new.items ≡ row_changes_of records.old.items
         ++ appeared (partitions_at seen.now.partitions.items) (all_rows (partitions_at came.now))) }
 {
     for partition in came {
@@ -84,11 +84,11 @@ fn add_unseen<'a>(
 }
 
 fn add_rows<'a>(
-    records: &mut Vec<Record<'a>>,
+    records: &mut Vec<RowChange<'a>>,
     seen: &Seen<'a>,
     rows: &'a [NumberedRow],
 ) -> Result<(), AllocError>
-    ensures { OnOk result (records_of records.new.items ≡ records_of records.old.items
+    ensures { OnOk result (row_changes_of records.new.items ≡ row_changes_of records.old.items
         ++ appeared (partitions_at seen.now.partitions.items) (map numbered_of rows.now)) }
 {
     // Rows of one partition mostly come from one that stood before.
@@ -96,7 +96,7 @@ fn add_rows<'a>(
     for row in rows {
         match seen.place_of(row.number, near) {
             Some(place) => near = place,
-            None => records.push(Record::inserted(row.number, false, &row.row))?,
+            None => records.push(RowChange::inserted(row.number, false, &row.row))?,
         }
     }
     Ok(())

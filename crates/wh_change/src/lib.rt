@@ -3,7 +3,7 @@
 
 mod appending;
 mod net;
-mod record;
+mod row_change;
 mod rows;
 mod seen;
 #[cfg(test)]
@@ -11,4 +11,4 @@ mod tests;
 
 pub use appending::appends;
 pub use net::net_changes;
-pub use record::{Action, Record};
+pub use row_change::{RowAction, RowChange};

@@ -1,13 +1,13 @@
 ghost use Rattle.std.specs.Prelude.{◌≡◌, ◌≤◌, ◌++◌, OnOk, IfOk, Some};
 ghost use Rattle.wh_frame.specs.Spelling.{RisesFrom};
-ghost use Rattle.wh_machine.specs.Stored.{table_meant};
-ghost use Rattle.wh_streams.specs.Net.{net, change_at, arrival_at};
-ghost use Rattle.wh_streams.specs.Stream.{rows_at};
+ghost use Rattle.wh_state.specs.Stored.{table_meant};
+ghost use Rattle.wh_net.specs.Net.{net, change_at, arrival_at};
+ghost use Rattle.wh_net.specs.Stream.{rows_at};
 ghost use Rattle.wh_table.specs.Table.{table_of};
-ghost use Rattle.wh_change.specs.Record.{records_of};
+ghost use Rattle.wh_change.specs.RowChange.{row_changes_of};
 ghost use Rattle.wh_change.specs.Rows.{row_in, entries_at, changes_by, arrivals_by};
 
-use crate::Record;
+use crate::RowChange;
 use crate::rows::{row_at, rows_in};
 use std::alloc::{AllocError, Global};
 use wh_part::NumberedRow;
@@ -21,9 +21,9 @@ pub fn net_changes<'a>(
     table: &'a StoredTable,
     from: u64,
     to: u64,
-) -> Result<Vec<Record<'a>>, AllocError>
+) -> Result<Vec<RowChange<'a>>, AllocError>
     requires { from ≤ to }
-    ensures { IfOk result (λ records. records_of records.items
+    ensures { IfOk result (λ records. row_changes_of records.items
         ≡ net (rows_at (table_meant (table_of table.now)) from)
         (rows_at (table_meant (table_of table.now)) to)) }
 {
@@ -39,10 +39,10 @@ fn net_by<'a>(
     went: &[&'a NumberedRow],
     came: &[&'a NumberedRow],
     alloc: Global,
-) -> Result<Vec<Record<'a>>, AllocError>
+) -> Result<Vec<RowChange<'a>>, AllocError>
     requires went { RisesFrom 0 (entries_at went.now) }
     requires came { RisesFrom 0 (entries_at came.now) }
-    ensures { IfOk result (λ records. records_of records.items
+    ensures { IfOk result (λ records. row_changes_of records.items
         ≡ changes_by (entries_at came.now) (entries_at went.now)
         ++ arrivals_by (entries_at went.now) (entries_at came.now)) }
 {
@@ -54,12 +54,12 @@ fn net_by<'a>(
 
 // Of the rows that were there.
 fn add_changes<'a>(
-    records: &mut Vec<Record<'a>>,
+    records: &mut Vec<RowChange<'a>>,
     old: &[&'a NumberedRow],
     new: &[&'a NumberedRow],
 ) -> Result<(), AllocError>
     requires { RisesFrom 0 (entries_at new.now) }
-    ensures { OnOk result (records_of records.new.items ≡ records_of records.old.items
+    ensures { OnOk result (row_changes_of records.new.items ≡ row_changes_of records.old.items
         ++ changes_by (entries_at new.now) (entries_at old.now)) }
 {
     for row in old {
@@ -69,33 +69,33 @@ fn add_changes<'a>(
 }
 
 fn add_change<'a>(
-    records: &mut Vec<Record<'a>>,
+    records: &mut Vec<RowChange<'a>>,
     old: &'a NumberedRow,
     new: Option<&'a Row>,
 ) -> Result<(), AllocError>
-    ensures { OnOk result (records_of records.new.items ≡ records_of records.old.items
+    ensures { OnOk result (row_changes_of records.new.items ≡ row_changes_of records.old.items
         ++ change_at old.now.number (Some old.now.row) (row_in new.entry)) }
 {
     let Some(row) = new else {
-        records.push(Record::deleted(old.number, false, &old.row))?;
+        records.push(RowChange::deleted(old.number, false, &old.row))?;
         return Ok(());
     };
     if old.row == *row {
         return Ok(());
     }
-    records.push(Record::deleted(old.number, true, &old.row))?;
-    records.push(Record::inserted(old.number, true, row))?;
+    records.push(RowChange::deleted(old.number, true, &old.row))?;
+    records.push(RowChange::inserted(old.number, true, row))?;
     Ok(())
 }
 
 // Of the rows that are there now.
 fn add_arrivals<'a>(
-    records: &mut Vec<Record<'a>>,
+    records: &mut Vec<RowChange<'a>>,
     old: &[&'a NumberedRow],
     new: &[&'a NumberedRow],
 ) -> Result<(), AllocError>
     requires { RisesFrom 0 (entries_at old.now) }
-    ensures { OnOk result (records_of records.new.items ≡ records_of records.old.items
+    ensures { OnOk result (row_changes_of records.new.items ≡ row_changes_of records.old.items
         ++ arrivals_by (entries_at old.now) (entries_at new.now)) }
 {
     for row in new {
@@ -105,15 +105,15 @@ fn add_arrivals<'a>(
 }
 
 fn add_arrival<'a>(
-    records: &mut Vec<Record<'a>>,
+    records: &mut Vec<RowChange<'a>>,
     old: Option<&'a Row>,
     new: &'a NumberedRow,
 ) -> Result<(), AllocError>
-    ensures { OnOk result (records_of records.new.items ≡ records_of records.old.items
+    ensures { OnOk result (row_changes_of records.new.items ≡ row_changes_of records.old.items
         ++ arrival_at new.now.number (row_in old.entry) (Some new.now.row)) }
 {
     if old.is_none() {
-        records.push(Record::inserted(new.number, false, &new.row))?;
+        records.push(RowChange::inserted(new.number, false, &new.row))?;
     }
     Ok(())
 }

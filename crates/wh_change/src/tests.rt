@@ -1,6 +1,6 @@
 ghost use Rattle.std.specs.Prelude.{◌≤◌};
 
-use crate::{Action, Record, appends, net_changes};
+use crate::{RowAction, RowChange, appends, net_changes};
 use std::alloc::Global;
 use std::process::Abort;
 use wh_part::{NumberedRow, Partition};
@@ -71,7 +71,7 @@ fn filled_table(rt: &impl Abort, alloc: Global) -> StoredTable {
     table
 }
 
-fn is_as(record: &Record, want: &(u64, Action, bool, i64)) -> bool {
+fn is_as(record: &RowChange, want: &(u64, RowAction, bool, i64)) -> bool {
     let (number, action, is_update, value) = *want;
     record.number == number
         && record.action == action
@@ -79,7 +79,7 @@ fn is_as(record: &Record, want: &(u64, Action, bool, i64)) -> bool {
         && record.row.values() == [Value::Number(value)].as_slice()
 }
 
-fn are_as(records: &[Record], want: &[(u64, Action, bool, i64)]) -> bool {
+fn are_as(records: &[RowChange], want: &[(u64, RowAction, bool, i64)]) -> bool {
     if records.len() != want.len() {
         return false;
     }
@@ -97,7 +97,7 @@ fn assert_net(
     table: &StoredTable,
     from: u64,
     to: u64,
-    want: &[(u64, Action, bool, i64)],
+    want: &[(u64, RowAction, bool, i64)],
 )
     requires { from ≤ to }
 {
@@ -109,8 +109,8 @@ fn assert_net(
 fn a_row_number_nets_to_one_change(rt: HostRuntime) {
     let alloc = rt.alloc();
     let table = filled_table(&rt, alloc);
-    let insert = Action::Insert;
-    let delete = Action::Delete;
+    let insert = RowAction::Insert;
+    let delete = RowAction::Delete;
     let updated = [
         (1, delete, true, 10),
         (1, insert, true, 11),
@@ -136,7 +136,7 @@ fn assert_appended(
     table: &StoredTable,
     from: u64,
     to: u64,
-    want: &[(u64, Action, bool, i64)],
+    want: &[(u64, RowAction, bool, i64)],
 ) {
     let records = appends(alloc, table, from, to).expect(rt, "memory");
     assert!(rt; are_as(&records, want), "{from} to {to}");
@@ -146,7 +146,7 @@ fn assert_appended(
 fn a_row_number_is_appended_once(rt: HostRuntime) {
     let alloc = rt.alloc();
     let table = filled_table(&rt, alloc);
-    let insert = Action::Insert;
+    let insert = RowAction::Insert;
     let first = [(1, insert, false, 10), (2, insert, false, 20)];
     let behind = [(3, insert, false, 30), (4, insert, false, 40)];
     assert_appended(&rt, alloc, &table, 0, 3, &first);

@@ -12,9 +12,9 @@ use denote.Ref.{Bor}
 use Rattle.wh_frame.specs.Partition.{Partition}
 use Rattle.wh_value.specs.Value.{Row}
 use Rattle.wh_meaning.specs.Scalar.{of_two}
-use Rattle.wh_effect.specs.Effect.{Kept, Effect, no_effect, Turn, Stays, Goes, Becomes, with_turn, turned}
+use Rattle.wh_effect.specs.Effect.{Effect, no_effect, Turn, Stays, Goes, Becomes, with_turn, turned}
 use Rattle.wh_dml.specs.Steps.{before, done_by}
-use Rattle.wh_dml.specs.View.{kept_rows, targets_of}
+use Rattle.wh_dml.specs.View.{targets_of}
 
 pub before_assoc : (a b c : Effect) → before (before a b) c ≡ before a (before b c)
 before_assoc a b c =
@@ -27,28 +27,28 @@ before_assoc a b c =
 pub before_none : (a : Effect) → before a no_effect ≡ a
 before_none a = rw (append-nil a.removed, append-nil a.changed, append-nil a.added) refl
 
-pub turn_done : (kept : Kept) (turn : Turn) (e : Effect)
-    → with_turn kept (Some turn) (Some e) ≡ Some (before (done_by kept.number turn) e)
+pub turn_done : (kept : ℕ × Row) (turn : Turn) (e : Effect)
+    → with_turn kept (Some turn) (Some e) ≡ Some (before (done_by kept.0 turn) e)
 turn_done kept Stays e = refl
 turn_done kept Goes e = refl
 turn_done kept (Becomes row) e = refl
 
 -- what is done so far, with one turn, and the rest
-pub one_turn : (kept : Kept) (turn : Option Turn) (rest : Option Effect) (old new : Effect)
-    → option_map (λ more. before old more) (option_map (done_by kept.number) turn) ≡ Some new
+pub one_turn : (kept : ℕ × Row) (turn : Option Turn) (rest : Option Effect) (old new : Effect)
+    → option_map (λ more. before old more) (option_map (done_by kept.0) turn) ≡ Some new
     → option_map (before old) (with_turn kept turn rest) ≡ option_map (before new) rest
 one_turn kept None rest old new is = absurd cc
 one_turn kept (Some turn) None old new is = refl
 one_turn kept (Some turn) (Some e) old new is =
-    let same : before old (done_by kept.number turn) ≡ new = cc in
+    let same : before old (done_by kept.0 turn) ≡ new = cc in
     ap (option_map (before old)) (turn_done kept turn e)
-    ∙ ap Some (sym (before_assoc old (done_by kept.number turn) e))
+    ∙ ap Some (sym (before_assoc old (done_by kept.0 turn) e))
     ∙ ap (λ done. Some (before done e)) same
 
 abbrev pub both : Option Effect → Option Effect → Option Effect
 both some others = of_two (λ a b. Some (before a b)) some others
 
-row_both : (kept : Kept) (turn : Option Turn) (some others : Option Effect)
+row_both : (kept : ℕ × Row) (turn : Option Turn) (some others : Option Effect)
     → with_turn kept turn (both some others) ≡ both (with_turn kept turn some) others
 row_both kept None some others = refl
 row_both kept (Some turn) None others = refl
@@ -63,12 +63,12 @@ none_both : (others : Option Effect) → others ≡ both (Some no_effect) others
 none_both None = refl
 none_both (Some b) = refl
 
-pub turned_append : (turn : Row → Option Turn) (some others : List Kept)
+pub turned_append : (turn : Row → Option Turn) (some others : List (ℕ × Row))
     → turned turn (some ++ others) ≡ both (turned turn some) (turned turn others)
 turned_append turn [] others = none_both (turned turn others)
 turned_append turn (kept ∷ rest) others =
-    ap (with_turn kept (turn kept.row)) (turned_append turn rest others)
-    ∙ row_both kept (turn kept.row) (turned turn rest) (turned turn others)
+    ap (with_turn kept (turn kept.1)) (turned_append turn rest others)
+    ∙ row_both kept (turn kept.1) (turned turn rest) (turned turn others)
 
 added_both : (some others : Option Effect) (old new : Effect)
     → option_map (λ more. before old more) some ≡ Some new
@@ -80,7 +80,7 @@ added_both (Some a) (Some b) old new is =
     ap Some (sym (before_assoc old a b)) ∙ ap (λ done. Some (before done b)) same
 
 -- what is done so far, with the turns of some rows, and the rest
-pub more_turns : (turn : Row → Option Turn) (some others : List Kept) (old new : Effect)
+pub more_turns : (turn : Row → Option Turn) (some others : List (ℕ × Row)) (old new : Effect)
     → option_map (λ more. before old more) (turned turn some) ≡ Some new
     → option_map (before old) (turned turn (some ++ others)) ≡ option_map (before new) (turned turn others)
 more_turns turn some others old new is =
@@ -90,21 +90,21 @@ more_turns turn some others old new is =
 -- the rows of the next partition, and those of the others
 pub next_partition : (target : List (Bor Partition)) (i : ℕ) (p : Bor Partition) (rows : List (ℕ × Row))
     → i < length target → p ≡ get_or target i p → rows ≡ p.now.rows
-    → targets_of (drop i target) ≡ kept_rows rows ++ targets_of (drop (i + 1) target)
+    → targets_of (drop i target) ≡ rows ++ targets_of (drop (i + 1) target)
 next_partition target i p rows within is same =
     ap targets_of (drop_more target i p within ∙ ap (λ q. q ∷ drop (i + 1) target) (sym is))
-    ∙ ap (λ r. kept_rows r ++ targets_of (drop (i + 1) target)) (sym same)
+    ∙ ap (λ r. r ++ targets_of (drop (i + 1) target)) (sym same)
 
 -- what is done so far, with the turns of the next partition's rows, and the rest
 pub partition_done : (turn : Row → Option Turn) (target : List (Bor Partition)) (i : ℕ) (p : Bor Partition)
     (rows : List (ℕ × Row)) (old new : Effect)
     → i < length target → p ≡ get_or target i p → rows ≡ p.now.rows
-    → option_map (λ more. before old more) (turned turn (kept_rows rows)) ≡ Some new
+    → option_map (λ more. before old more) (turned turn rows) ≡ Some new
     → option_map (before old) (turned turn (targets_of (drop i target)))
     ≡ option_map (before new) (turned turn (targets_of (drop (i + 1) target)))
 partition_done turn target i p rows old new within is same done =
     ap (λ ts. option_map (before old) (turned turn ts)) (next_partition target i p rows within is same)
-    ∙ more_turns turn (kept_rows rows) (targets_of (drop (i + 1) target)) old new done
+    ∙ more_turns turn rows (targets_of (drop (i + 1) target)) old new done
 
 -- behind the last partition nothing is left to do
 pub all_done : (turn : Row → Option Turn) (target : List (Bor Partition)) (i : ℕ) (e : Effect) → length target ≤ i
@@ -119,9 +119,9 @@ fails_both (Some a) others none = absurd cc
 -- where a row of the next partition has no turn, there is no effect
 pub partition_fails : (turn : Row → Option Turn) (target : List (Bor Partition)) (i : ℕ) (p : Bor Partition)
     (rows : List (ℕ × Row))
-    → i < length target → p ≡ get_or target i p → rows ≡ p.now.rows → turned turn (kept_rows rows) ≡ None
+    → i < length target → p ≡ get_or target i p → rows ≡ p.now.rows → turned turn rows ≡ None
     → turned turn (targets_of (drop i target)) ≡ None
 partition_fails turn target i p rows within is same none =
     ap (turned turn) (next_partition target i p rows within is same)
-    ∙ turned_append turn (kept_rows rows) (targets_of (drop (i + 1) target))
-    ∙ fails_both (turned turn (kept_rows rows)) (turned turn (targets_of (drop (i + 1) target))) none
+    ∙ turned_append turn rows (targets_of (drop (i + 1) target))
+    ∙ fails_both (turned turn rows) (turned turn (targets_of (drop (i + 1) target))) none

@@ -13,7 +13,7 @@ use Rattle.wh_value.specs.Value.{Value, Row}
 use Rattle.wh_meaning.specs.Scalar.{Scalar, val, is_true, holds, of_one, of_two}
 use Rattle.wh_meaning.specs.Query.{values_on}
 use Rattle.wh_naming.specs.Changes.{BoundClause, UpdateMatched, DeleteMatched, InsertUnmatched}
-use Rattle.wh_effect.specs.Effect.{Kept, Effect, Outcome, Does, no_effect, unless_several, Turn, Stays, Goes, Becomes}
+use Rattle.wh_effect.specs.Effect.{Effect, Outcome, Does, no_effect, unless_several, Turn, Stays, Goes, Becomes}
 use Rattle.wh_effect.specs.Effect.{condition_of, inserted_by}
 use Rattle.wh_bound_change.specs.View.{clause_of}
 use Rattle.wh_bound_change.specs.declared.change.BoundClause as code
@@ -24,7 +24,7 @@ before a b = record { removed = a.removed ++ b.removed; changed = a.changed ++ b
 abbrev pub done_by : ℕ → Turn → Effect
 done_by number Stays = no_effect
 done_by number Goes = record no_effect { removed = number ∷ [] }
-done_by number (Becomes row) = record no_effect { changed = (record { number = number; row = row }) ∷ [] }
+done_by number (Becomes row) = record no_effect { changed = (number, row) ∷ [] }
 
 -- ---- the clauses of MERGE
 
@@ -80,9 +80,9 @@ marked on t (s ∷ ss) (f ∷ fs) = (f || holds on (t ++ s)) ∷ marked on t ss 
 
 -- ---- all rows of the target
 
-abbrev pub marks : Scalar → List Kept → List Row → List Bool → List Bool
+abbrev pub marks : Scalar → List (ℕ × Row) → List Row → List Bool → List Bool
 marks on [] source flags = flags
-marks on (kept ∷ rest) source flags = marks on rest source (marked on kept.row source flags)
+marks on (kept ∷ rest) source flags = marks on rest source (marked on kept.1 source flags)
 
 -- the first row of several turns, and the effect of rows that have one
 pub record Settled : Type 0 where
@@ -95,15 +95,15 @@ nothing = record { ambiguous = None; effect = no_effect }
 abbrev pub after : Settled → Settled → Settled
 after a b = record { ambiguous = first_of a.ambiguous b.ambiguous; effect = before a.effect b.effect }
 
-abbrev pub settled_by : Kept → List Turn → Settled
+abbrev pub settled_by : ℕ × Row → List Turn → Settled
 settled_by kept [] = nothing
-settled_by kept (turn ∷ []) = record nothing { effect = done_by kept.number turn }
-settled_by kept (turn ∷ another ∷ others) = record nothing { ambiguous = Some kept.row }
+settled_by kept (turn ∷ []) = record nothing { effect = done_by kept.0 turn }
+settled_by kept (turn ∷ another ∷ others) = record nothing { ambiguous = Some kept.1 }
 
-abbrev pub settled : (Row → Option (List Turn)) → List Kept → Option Settled
+abbrev pub settled : (Row → Option (List Turn)) → List (ℕ × Row) → Option Settled
 settled turns [] = Some nothing
 settled turns (kept ∷ rest) =
-    of_two (λ found others. Some (after (settled_by kept found) others)) (turns kept.row) (settled turns rest)
+    of_two (λ found others. Some (after (settled_by kept found) others)) (turns kept.1) (settled turns rest)
 
 abbrev pub outcome : Settled → List Row → Outcome
 outcome s added = unless_several s.ambiguous (Does (record s.effect { added = added }))

@@ -1,6 +1,6 @@
 -- What the types of the code stand for, and what the effect of a change is.
---     kept_rows, targets_of   rows of the target by their numbers, of one partition and of several
---     changed_of, effect_of   a changed row, and an effect
+--     targets_of              rows of the target by their numbers
+--     effect_of               an effect
 --     turn_of, turns_of       what becomes of a row
 --     settled_of              what the rows of a target come to in MERGE
 --     fault_of                the fault of an evaluation
@@ -10,7 +10,7 @@ use Rattle.std.specs.List.{flat_map}
 use denote.Ref.{Bor}
 use Rattle.wh_value.specs.Value.{Row}
 use Rattle.wh_frame.specs.Partition.{Partition}
-use Rattle.wh_part.specs.declared.partition.NumberedRow.{NumberedRow}
+use Rattle.wh_part.specs.View.{numbered_of}
 use Rattle.wh_scalar.specs.declared.fault.EvalFault.{EvalFault}
 use Rattle.wh_scalar.specs.declared.fault.EvalFault.TheVariants as faults
 use Rattle.wh_effect.specs.Effect as meaning
@@ -23,20 +23,11 @@ use Rattle.wh_dml.specs.declared.settled.Settled.{Settled}
 use Rattle.wh_dml.specs.declared.fault.EffectFault.{EffectFault}
 use Rattle.wh_dml.specs.declared.fault.EffectFault.TheVariants.{OutOfMemory, NumberOutOfRange, AmbiguousMerge}
 
-abbrev pub kept_of : ℕ × Row → meaning.Kept
-kept_of entry = record { number = entry.0; row = entry.1 }
-
-abbrev pub kept_rows : List (ℕ × Row) → List meaning.Kept
-kept_rows rows = map kept_of rows
-
-abbrev pub targets_of : List (Bor Partition) → List meaning.Kept
-targets_of target = flat_map (λ p. kept_rows p.now.rows) target
-
-abbrev pub changed_of : NumberedRow → meaning.Kept
-changed_of e = record { number = e.number; row = e.row }
+abbrev pub targets_of : List (Bor Partition) → List (ℕ × Row)
+targets_of target = flat_map (λ p. p.now.rows) target
 
 abbrev pub effect_of : Effect → meaning.Effect
-effect_of e = record { removed = e.removed.items; changed = map changed_of e.changed.items; added = e.added.items }
+effect_of e = record { removed = e.removed.items; changed = map numbered_of e.changed.items; added = e.added.items }
 
 abbrev pub turn_of : Turn → meaning.Turn
 turn_of Stays = meaning.Stays

@@ -1,7 +1,7 @@
 //! DELETE: the rows on which the condition is TRUE go.
 ghost use Rattle.std.specs.Prelude.{map};
 ghost use Rattle.wh_dml.specs.Given.{AddsTurn, AddsTurns, Shows};
-ghost use Rattle.wh_dml.specs.View.{effect_of, kept_rows, targets_of};
+ghost use Rattle.wh_dml.specs.View.{effect_of, targets_of};
 ghost use Rattle.wh_effect.specs.Effect as meaning;
 ghost use Rattle.wh_part.specs.View.{numbered_of};
 ghost use Rattle.wh_scalar.specs.View.{scalar_of};
@@ -35,7 +35,7 @@ fn delete(
     effect: &mut Effect,
 ) -> Result<(), EvalFault>
     ensures { AddsTurns result (effect_of effect.old) (effect_of effect.new) (meaning.turned
-        (meaning.deleted (scalar_of condition.now)) (kept_rows (map numbered_of rows.now))) }
+        (meaning.deleted (scalar_of condition.now)) (map numbered_of rows.now)) }
 {
     for entry in rows {
         delete_row(alloc, condition, entry, effect)?;

@@ -15,7 +15,7 @@ pub(crate) struct Settled {
 impl Settled {
     ghost use Rattle.std.specs.Prelude.{◌≡◌, Some, OnOk};
     ghost use Rattle.wh_dml.specs.Steps.{after, nothing, outcome, settled_by};
-    ghost use Rattle.wh_dml.specs.View.{kept_of, settled_of, turns_of, Gives};
+    ghost use Rattle.wh_dml.specs.View.{settled_of, turns_of, Gives};
     ghost use Rattle.wh_part.specs.View.{numbered_of};
 
     pub(crate) fn new(alloc: Global) -> Settled
@@ -35,7 +35,7 @@ impl Settled {
         turns: Vec<Turn>,
     ) -> Result<(), AllocError>
         ensures { OnOk result (settled_of self.new
-            ≡ after (settled_of self.old) (settled_by (kept_of (numbered_of entry.now)) (turns_of turns.items))) }
+            ≡ after (settled_of self.old) (settled_by (numbered_of entry.now) (turns_of turns.items))) }
     {
         let mut turns = turns;
         if turns.len() > 1 {

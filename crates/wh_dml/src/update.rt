@@ -2,7 +2,7 @@
 ghost use Rattle.std.specs.Prelude.{map};
 ghost use Rattle.wh_algebra.specs.View.{scalars_of};
 ghost use Rattle.wh_dml.specs.Given.{AddsTurn, AddsTurns, Shows};
-ghost use Rattle.wh_dml.specs.View.{effect_of, kept_rows, targets_of};
+ghost use Rattle.wh_dml.specs.View.{effect_of, targets_of};
 ghost use Rattle.wh_effect.specs.Effect as meaning;
 ghost use Rattle.wh_part.specs.View.{numbered_of};
 ghost use Rattle.wh_scalar.specs.View.{scalar_of};
@@ -40,7 +40,7 @@ fn update(
 ) -> Result<(), EvalFault>
     ensures { AddsTurns result (effect_of effect.old) (effect_of effect.new) (meaning.turned
         (meaning.updated (scalar_of condition.now) (scalars_of parts.now))
-        (kept_rows (map numbered_of rows.now))) }
+        (map numbered_of rows.now)) }
 {
     for entry in rows {
         update_row(alloc, condition, parts, entry, effect)?;

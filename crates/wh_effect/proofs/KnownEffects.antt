@@ -6,7 +6,7 @@ use Rattle.wh_meaning.specs.Scalar.{Scalar, Const, Column, Add, Compare, val}
 use Rattle.wh_meaning.specs.Query.{values_on}
 use Rattle.wh_naming.specs.Changes.{BoundClause, UpdateMatched, DeleteMatched, InsertUnmatched}
 use Rattle.wh_naming.specs.Changes.{InsertRows, Update, Delete}
-use Rattle.wh_effect.specs.Effect.{Kept, Outcome, Undefined, Ambiguous, Does, effect, merged, inserts_over}
+use Rattle.wh_effect.specs.Effect.{Outcome, Undefined, Ambiguous, Does, effect, merged, inserts_over}
 
 abbrev n : ℕ → Value
 n k = Number (pos k)
@@ -14,11 +14,8 @@ n k = Number (pos k)
 abbrev pair : ℕ → ℕ → Row
 pair a b = n a ∷ n b ∷ []
 
-abbrev kept : ℕ → Row → Kept
-kept number row = record { number = number; row = row }
-
-abbrev target : List Kept
-target = kept 1 (pair 1 10) ∷ kept 2 (pair 2 20) ∷ []
+abbrev target : List (ℕ × Row)
+target = (1, pair 1 10) ∷ (2, pair 2 20) ∷ []
 
 abbrev equal : Scalar → Scalar → Scalar
 equal a b = Compare comparisons.Equal a b
@@ -27,18 +24,18 @@ equal a b = Compare comparisons.Equal a b
 abbrev near_the_limit : Scalar
 near_the_limit = Const (n 999999999999999985)
 
-abbrev does : List ℕ → List Kept → List Row → Outcome
+abbrev does : List ℕ → List (ℕ × Row) → List Row → Outcome
 does removed changed added = Does (record { removed = removed; changed = changed; added = added })
 
 -- UPDATE: SET parts read the old row
 update_swaps_columns : effect (Update (equal (Column 0) (Const (n 2))) (Column 1 ∷ Column 0 ∷ [])) target []
-    ≡ does [] (kept 2 (pair 20 2) ∷ []) []
+    ≡ does [] ((2, pair 20 2) ∷ []) []
 unfolding effect values_on val
 update_swaps_columns = refl
 
 -- an equal new row is a changed row
 update_to_an_equal_row : effect (Update (equal (Column 0) (Const (n 1))) (Column 0 ∷ Column 1 ∷ [])) target []
-    ≡ does [] (kept 1 (pair 1 10) ∷ []) []
+    ≡ does [] ((1, pair 1 10) ∷ []) []
 unfolding effect values_on val
 update_to_an_equal_row = refl
 
@@ -59,7 +56,7 @@ undefined_on_one_row = refl
 -- a part is computed on the rows that are selected alone
 parts_of_selected_rows : effect
     (Update (equal (Column 0) (Const (n 1))) (Column 0 ∷ Add (Column 1) near_the_limit ∷ [])) target []
-    ≡ does [] (kept 1 (pair 1 999999999999999995) ∷ []) []
+    ≡ does [] ((1, pair 1 999999999999999995) ∷ []) []
 unfolding effect values_on val
 parts_of_selected_rows = refl
 
@@ -82,7 +79,7 @@ abbrev upsert : List BoundClause
 upsert = UpdateMatched yes (Column 0 ∷ Column 3 ∷ []) ∷ InsertUnmatched yes (Column 0 ∷ Column 1 ∷ []) ∷ []
 
 upsert_changes_and_adds : merged on upsert target (Some (pair 1 11 ∷ pair 3 30 ∷ []))
-    ≡ does [] (kept 1 (pair 1 11) ∷ []) (pair 3 30 ∷ [])
+    ≡ does [] ((1, pair 1 11) ∷ []) (pair 3 30 ∷ [])
 unfolding values_on val
 upsert_changes_and_adds = refl
 
@@ -108,7 +105,7 @@ choosy = DeleteMatched (equal (Column 3) (Const (n 0))) ∷ UpdateMatched (equal
     (Column 0 ∷ Column 3 ∷ []) ∷ InsertUnmatched yes (Column 0 ∷ Column 1 ∷ []) ∷ []
 
 first_clause_that_holds : merged on choosy target (Some (pair 1 0 ∷ pair 2 7 ∷ pair 2 8 ∷ []))
-    ≡ does (1 ∷ []) (kept 2 (pair 2 7) ∷ []) []
+    ≡ does (1 ∷ []) ((2, pair 2 7) ∷ []) []
 unfolding values_on val
 first_clause_that_holds = refl
 
@@ -150,7 +147,7 @@ first_ambiguous_row = refl
 
 -- a MATCHED condition is not evaluated on a pair on which ON isn't TRUE: 20 would pass 18 digits, 10 doesn't
 matched_conditions_on_matched_pairs : merged on (DeleteMatched (equal (Add (Column 1) near_the_limit) (Const (n 0)))
-    ∷ []) (kept 1 (pair 1 10) ∷ kept 2 (pair 2 20) ∷ []) (Some (pair 1 7 ∷ [])) ≡ does [] [] []
+    ∷ []) ((1, pair 1 10) ∷ (2, pair 2 20) ∷ []) (Some (pair 1 7 ∷ [])) ≡ does [] [] []
 unfolding values_on val
 matched_conditions_on_matched_pairs = refl
 

@@ -1,5 +1,5 @@
 -- What a changing statement does to the rows of its target.
---     Kept, Effect     a row by its number; the rows that go, those that are changed, and
+--     Effect           the rows that go, by their numbers, those that are changed, and
 --                      those that are added, in order
 --     Outcome          undefined, or ambiguous with a row of the target, or an effect
 --     effect           of a change over the target's rows, by rising number, and the bags of its sources
@@ -14,13 +14,9 @@ use Rattle.wh_meaning.specs.Listing.{listed}
 use Rattle.wh_naming.specs.Changes.{BoundClause, UpdateMatched, DeleteMatched, InsertUnmatched, Change, InsertRows}
 use Rattle.wh_naming.specs.Changes.{InsertQuery, Update, Delete, Merge}
 
-pub record Kept : Type 0 where
-  pub number : ℕ
-  pub row : Row
-
 pub record Effect : Type 0 where
   pub removed : List ℕ
-  pub changed : List Kept
+  pub changed : List (ℕ × Row)
   pub added : List Row
 
 pub data Outcome : Type 0 where
@@ -50,18 +46,18 @@ abbrev pub turn_where : Option Value → Option Turn → Option Turn
 turn_where None turn = None
 turn_where (Some v) turn = if is_true v then turn else Some Stays
 
-abbrev pub with_turn : Kept → Option Turn → Option Effect → Option Effect
-with_turn kept None rest = None
-with_turn kept (Some turn) None = None
-with_turn kept (Some Stays) (Some e) = Some e
-with_turn kept (Some Goes) (Some e) = Some (record e { removed = kept.number ∷ e.removed })
-with_turn kept (Some (Becomes row)) (Some e) =
-    Some (record e { changed = (record { number = kept.number; row = row }) ∷ e.changed })
+abbrev pub with_turn : ℕ × Row → Option Turn → Option Effect → Option Effect
+with_turn entry None rest = None
+with_turn entry (Some turn) None = None
+with_turn entry (Some Stays) (Some e) = Some e
+with_turn entry (Some Goes) (Some e) = Some (record e { removed = entry.0 ∷ e.removed })
+with_turn entry (Some (Becomes row)) (Some e) =
+    Some (record e { changed = (entry.0, row) ∷ e.changed })
 
 -- each row's turn, where all are defined
-abbrev pub turned : (Row → Option Turn) → List Kept → Option Effect
+abbrev pub turned : (Row → Option Turn) → List (ℕ × Row) → Option Effect
 turned turn [] = Some no_effect
-turned turn (kept ∷ rest) = with_turn kept (turn kept.row) (turned turn rest)
+turned turn (entry ∷ rest) = with_turn entry (turn entry.1) (turned turn rest)
 
 abbrev pub updated : Scalar → List Scalar → Row → Option Turn
 updated condition parts row = turn_where (val condition row) (becomes (values_on parts row))
@@ -144,8 +140,8 @@ is_selecting clauses pair = is_some (selected clauses pair)
 abbrev pub selecting : Scalar → List BoundClause → List Row → Row → List Row
 selecting on clauses source t = filter (is_selecting clauses) (pairs_of on source t)
 
-abbrev pub target_rows : List Kept → List Row
-target_rows target = map (λ kept. kept.row) target
+abbrev pub target_rows : List (ℕ × Row) → List Row
+target_rows target = map (λ entry. entry.1) target
 
 abbrev pub is_alone : Scalar → List Row → Row → Bool
 is_alone on target s = not (list_any (λ t. holds on (t ++ s)) target)
@@ -211,7 +207,7 @@ unless_several None outcome = outcome
 unless_several (Some row) outcome = Ambiguous row
 
 -- undefined comes before ambiguous
-abbrev pub merged_by : Scalar → List BoundClause → List BoundClause → List Kept → List Row → Outcome
+abbrev pub merged_by : Scalar → List BoundClause → List BoundClause → List (ℕ × Row) → List Row → Outcome
 merged_by on matching others target source =
     if is_merge_defined on matching others (target_rows target) source
     then unless_several (first_several (selecting on matching source) (target_rows target))
@@ -219,14 +215,14 @@ merged_by on matching others target source =
     (turned (λ t. merged_turn matching (selecting on matching source t)) target)))
     else Undefined
 
-abbrev pub merged : Scalar → List BoundClause → List Kept → Option (List Row) → Outcome
+abbrev pub merged : Scalar → List BoundClause → List (ℕ × Row) → Option (List Row) → Outcome
 merged on clauses target None = Undefined
 merged on clauses target (Some source) =
     merged_by on (matched_clauses clauses) (unmatched_clauses clauses) target source
 
 -- ---- the change
 
-unfoldable pub effect : Change → List Kept → Instance → Outcome
+unfoldable pub effect : Change → List (ℕ × Row) → Instance → Outcome
 effect (InsertRows rows) target instance = adds (rows_of rows)
 effect (InsertQuery query parts) target instance = inserts_over parts (rows_in_order (eval query instance))
 effect (Update condition parts) target instance = defined (turned (updated condition parts) target)

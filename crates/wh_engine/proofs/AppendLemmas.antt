@@ -6,9 +6,9 @@
 use Rattle.std.proofs.Common.{◌≡◌, ℕ, ◌+◌, ◌<◌, ◌≤◌, List, Option, Some, None, Result, Err, refl, sym, ap, ◌∙◌, arith}
 use Rattle.std.specs.Prelude.{IsTrue, ◌↔◌}
 use Rattle.std.specs.Result.{IsErrOf}
-use Rattle.wh_machine.specs.Commit.{Commit}
-use Rattle.wh_machine.specs.Spelling.{payload_of}
-use Rattle.wh_machine.specs.Written.{is_beyond, record_length}
+use Rattle.wh_state.specs.Commit.{Commit}
+use Rattle.wh_state.specs.Spelling.{payload_of}
+use Rattle.wh_state.specs.Written.{is_beyond, record_length}
 use Rattle.wh_world.specs.Told.{Rose}
 use Rattle.wh_world.specs.declared.disk.Disk.{Ghosts}
 use Rattle.wh_journal.specs.Journal.{IsSame, end_of, limit_of, failed_of, need_of}

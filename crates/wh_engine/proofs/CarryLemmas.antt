@@ -6,19 +6,19 @@
 use Rattle.std.proofs.Common.{◌≡◌, ℕ, ◌+◌, ◌<◌, Option, Some, None, is_some, false, inl, inr, sym, ap, ◌∙◌, arith}
 use Rattle.std.specs.Prelude.{IsTrue}
 use Rattle.std.proofs.lemmas.Bool.{cases_lt, lt-ltb, le-ltb, ltb-true}
-use Rattle.wh_machine.specs.State.{State, stamped}
-use Rattle.wh_machine.specs.Stored.{Stored, meant}
-use Rattle.wh_machine.specs.Commit.{Commit, applied}
-use Rattle.wh_machine.specs.Written.{is_beyond, record_length}
+use Rattle.wh_state.specs.State.{State, stamped}
+use Rattle.wh_state.specs.Stored.{Stored, meant}
+use Rattle.wh_state.specs.Commit.{Commit, applied}
+use Rattle.wh_state.specs.Written.{is_beyond, record_length}
 use Rattle.wh_world.specs.declared.disk.Disk.{Ghosts}
 use Rattle.wh_journal.specs.Journal.{end_of, failed_of}
 use Rattle.wh_catalog.specs.Catalog.{stored_of, state_of}
 use Rattle.wh_catalog.specs.declared.catalog.Catalog.{Catalog}
 use Rattle.wh_engine.specs.declared.warehouse.Warehouse.{Warehouse}
-use Rattle.wh_sessions.specs.Outcome.{Machine}
+use Rattle.wh_machine.specs.Outcome.{Machine}
 use Rattle.wh_engine.specs.Warehouse.{machine_of, state_with}
 use Rattle.wh_engine.specs.Answers.{CarriesOut}
-use Rattle.wh_engine.proofs.CatalogLemmas.{state_is}
+use Rattle.wh_decide.proofs.CatalogLemmas.{state_is}
 use Rattle.wh_engine.proofs.FileLemmas.{filed_same}
 
 -- ---- no commit

@@ -7,18 +7,18 @@ use Rattle.std.specs.List.{AllByRecursion}
 use Rattle.std.proofs.lemmas.Bool.{cases_lt}
 use Rattle.std.proofs.lemmas.List.{map-append}
 use Rattle.wh_frame.specs.File.{IsFileOf, record_of, records_of}
-use Rattle.wh_machine.specs.State.{at_rest}
-use Rattle.wh_machine.specs.Stored.{Stored, first_stored, meant}
-use Rattle.wh_machine.specs.Commit.{Commit, Applies, applied, Leads}
-use Rattle.wh_machine.specs.Spelling.{payload_of, IsCommit}
-use Rattle.wh_machine.specs.File.{Keeps, Stands}
+use Rattle.wh_state.specs.State.{at_rest}
+use Rattle.wh_state.specs.Stored.{Stored, first_stored, meant}
+use Rattle.wh_state.specs.Commit.{Commit, Applies, applied, Leads}
+use Rattle.wh_state.specs.Spelling.{payload_of, IsCommit}
+use Rattle.wh_state.specs.File.{Keeps, Stands}
 use Rattle.wh_journal.specs.Journal.{Lists, IsSame}
 use Rattle.wh_journal.specs.declared.journal.Journal.{Journal}
 use Rattle.wh_catalog.specs.Catalog.{stored_of, state_of}
 use Rattle.wh_catalog.specs.declared.catalog.Catalog.{Catalog}
 use Rattle.wh_engine.specs.Warehouse.{IsFileOfCommits, Filed}
-use Rattle.wh_engine.proofs.ListLemmas.{all_more, leads_then, some_is, none_told}
-use Rattle.wh_engine.proofs.CatalogLemmas.{rest_of}
+use Rattle.wh_decide.proofs.ListLemmas.{all_more, leads_then, some_is, none_told}
+use Rattle.wh_decide.proofs.CatalogLemmas.{rest_of}
 
 long_records : (p : List ℕ) (ps : List (List ℕ)) → 8 ≤ length (records_of (p ∷ ps))
 unfolding records_of record_of

@@ -5,7 +5,7 @@
 --     same_fault         a fault that is passed on as it is
 use Rattle.std.proofs.Common.{◌≡◌, ℕ, Option, Some, None, Result, Ok, Err, refl, sym, ap, subst, ◌∙◌, arith}
 use Rattle.std.specs.Result.{IfErr, IsErrOf, IsErrAnd}
-use Rattle.wh_machine.specs.Commit.{Commit}
+use Rattle.wh_state.specs.Commit.{Commit}
 use Rattle.wh_world.specs.declared.disk.Disk.{Ghosts}
 use Rattle.wh_journal.specs.Journal.{IsSame, failed_of}
 use Rattle.wh_catalog.specs.Catalog.{stored_of}

@@ -9,12 +9,12 @@ use Rattle.std.specs.List.{AllByRecursion, flat_map}
 use Rattle.std.proofs.lemmas.Bool.{cases_lt}
 use Rattle.std.proofs.lemmas.List.Concat.{flat_map-append}
 use Rattle.wh_world.specs.Crash.{Only}
-use Rattle.wh_machine.specs.Stored.{Stored, first_stored}
-use Rattle.wh_machine.specs.Commit.{Commit, Leads}
-use Rattle.wh_machine.specs.Spelling.{payload_of}
+use Rattle.wh_state.specs.Stored.{Stored, first_stored}
+use Rattle.wh_state.specs.Commit.{Commit, Leads}
+use Rattle.wh_state.specs.Spelling.{payload_of}
 use Rattle.wh_frame.specs.File.{IsFileOf, IsCut, GateEndsAt, header, record_of, records_of}
-use Rattle.wh_machine.specs.File.{Keeps}
-use Rattle.wh_machine.specs.Fault.{IsFaulty, BreaksOff, IsFirstFault}
+use Rattle.wh_state.specs.File.{Keeps}
+use Rattle.wh_state.specs.Fault.{IsFaulty, BreaksOff, IsFirstFault}
 use Rattle.wh_journal.specs.Crash.{IsKeptOrShort}
 use Rattle.wh_journal.specs.Fault.{AllShort, ListsUpTo}
 use Rattle.wh_journal.specs.Journal.{Lists, end_of, count_of}
@@ -24,7 +24,7 @@ use Rattle.wh_catalog.specs.declared.catalog.Catalog.{Catalog}
 use Rattle.wh_engine.specs.Warehouse.{IsFileOfCommits, Filed}
 use Rattle.wh_engine.specs.Replay.{Replays, StraysAt}
 use Rattle.wh_engine.proofs.FileLemmas.{keeps}
-use Rattle.wh_engine.proofs.ListLemmas.{all_front, all_back, some_is, none_told}
+use Rattle.wh_decide.proofs.ListLemmas.{all_front, all_back, some_is, none_told}
 
 -- what the journal's recovery says of a short file, and of a longer one
 abbrev pub Begun : Option (List ℕ) → Option (List ℕ) → Journal → Option ℕ → Type 0

@@ -6,15 +6,15 @@ use Rattle.std.proofs.Common.{Ok, Err, refl, sym, ◌∙◌, subst, ap, arith}
 use Rattle.std.specs.Result.{OnOk}
 use Rattle.std.proofs.lemmas.List.{map-append, take_all, take_more, drop_more, take-append-drop}
 use Rattle.std.proofs.lemmas.Option.{slice_get_within, get_or_from_slice_get}
-use Rattle.wh_machine.specs.Stored.{Stored, first_stored}
-use Rattle.wh_machine.specs.Commit.{Leads}
-use Rattle.wh_machine.specs.Spelling.{payload_of, IsCommit}
+use Rattle.wh_state.specs.Stored.{Stored, first_stored}
+use Rattle.wh_state.specs.Commit.{Leads}
+use Rattle.wh_state.specs.Spelling.{payload_of, IsCommit}
 use Rattle.wh_frame.specs.File.{records_of}
 use Rattle.wh_journal.specs.Places.{places_from}
 use Rattle.wh_journal.specs.Journal.{Lists, count_of}
 use Rattle.wh_journal.specs.declared.journal.Journal.{Journal}
 use Rattle.wh_engine.specs.Replay.{Replays, StraysAt, Carries, CarriesNone}
-use Rattle.wh_engine.proofs.ListLemmas.{all_more, leads_then}
+use Rattle.wh_decide.proofs.ListLemmas.{all_more, leads_then}
 
 pub replays_none : (first : Stored) → Replays first [] first
 replays_none first = record { commits = []; good = tt; spelled = refl; leads = refl }

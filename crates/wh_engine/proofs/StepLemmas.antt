@@ -12,18 +12,19 @@ use Rattle.wh_ast.specs.declared.query.Query.{Query}
 use Rattle.wh_ast.specs.declared.query.Sort.{Sort}
 use Rattle.wh_grammar.specs.Spelled.{TooLong, Unreadable, Asked}
 use Rattle.wh_reply.specs.Reply.{OverLimit, SyntaxError, NoSuchSession, Unsupported}
-use Rattle.wh_machine.specs.State.{id_of}
+use Rattle.wh_state.specs.State.{id_of}
 use Rattle.wh_machine.specs.Statement.{Begin, Commit, Rollback, CreateTable, DropTable, CreateStream, DropStream}
 use Rattle.wh_machine.specs.Statement.{ChangeRows, Select, HasData, form_of}
 use Rattle.wh_machine.specs.Tables.{create_table, drop_table, replaced_id}
 use Rattle.wh_machine.specs.Streams.{create_stream, drop_stream}
-use Rattle.wh_sessions.specs.Outcome.{Machine, Outcome, Refuses}
-use Rattle.wh_sessions.specs.Reading.{has_data}
-use Rattle.wh_sessions.specs.Statements.{begin, commit, rollback, defines, changes_rows, selects}
-use Rattle.wh_sessions.specs.Step.{is_session, commanded, carried_out}
-use Rattle.wh_engine.specs.declared.decision.Decision.{Decision}
-use Rattle.wh_engine.specs.declared.sight.Sight.{Sight}
-use Rattle.wh_engine.specs.Sight.{Comes}
+use Rattle.wh_machine.specs.Outcome.{Machine, Outcome, Refuses}
+use Rattle.wh_machine.specs.Reading.{has_data}
+use Rattle.wh_machine.specs.Statements.{begin, commit, rollback, changes_rows, selects}
+use Rattle.wh_machine.specs.Definitions.{defines}
+use Rattle.wh_machine.specs.Step.{is_session, commanded, carried_out}
+use Rattle.wh_decide.specs.declared.decision.Decision.{Decision}
+use Rattle.wh_decide.specs.declared.sight.Sight.{Sight}
+use Rattle.wh_decide.specs.Sight.{Comes}
 
 abbrev Tree : Type 0
 Tree = tree.Statement

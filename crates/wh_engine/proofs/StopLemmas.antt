@@ -4,11 +4,11 @@
 use Rattle.std.proofs.Common.{inl, inr, ⊎_elim, ℕ, List, [], ◌∷◌, ◌++◌, ◌≡◌, map, Some, refl, sym, subst}
 use Rattle.std.proofs.lemmas.List.{map-append}
 use Rattle.wh_frame.specs.File.{IsFileOf}
-use Rattle.wh_machine.specs.State.{State, at_rest}
-use Rattle.wh_machine.specs.Stored.{first_stored, meant}
-use Rattle.wh_machine.specs.Commit.{Commit, Applies, applied}
-use Rattle.wh_machine.specs.Spelling.{payload_of, IsCommit}
-use Rattle.wh_machine.specs.File.{Stands}
+use Rattle.wh_state.specs.State.{State, at_rest}
+use Rattle.wh_state.specs.Stored.{first_stored, meant}
+use Rattle.wh_state.specs.Commit.{Commit, Applies, applied}
+use Rattle.wh_state.specs.Spelling.{payload_of, IsCommit}
+use Rattle.wh_state.specs.File.{Stands}
 use Rattle.wh_world.specs.Crash.{Only}
 use Rattle.wh_journal.specs.Crash.{LeavesOnly}
 use Rattle.wh_journal.specs.Torn.{HasWithOrWithout}
@@ -21,8 +21,8 @@ use Rattle.wh_engine.specs.Warehouse.{IsFileOfCommits, state_with}
 use Rattle.wh_world.specs.declared.disk.Disk.{Ghosts}
 use Rattle.wh_engine.specs.declared.warehouse.Warehouse.{Warehouse}
 use Rattle.wh_engine.specs.Leaves.{StandsForEither, Leaves}
-use Rattle.wh_engine.proofs.ListLemmas.{all_more, leads_then}
-use Rattle.wh_engine.proofs.CatalogLemmas.{rest_of}
+use Rattle.wh_decide.proofs.ListLemmas.{all_more, leads_then}
+use Rattle.wh_decide.proofs.CatalogLemmas.{rest_of}
 use Rattle.wh_engine.proofs.FileLemmas.{stands, stands_for, lists_same}
 
 -- a file of the commits so far stands for the state before the call

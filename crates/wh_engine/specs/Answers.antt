@@ -2,10 +2,10 @@
 --     CarriesOut     a commit is added, where there is one, and the machine is that
 --     Answered       an event is carried out, and that is its reply
 use Rattle.std.specs.Prelude.{◌≡◌, ◌+◌, Option, None, is_some, false}
-use Rattle.wh_machine.specs.Commit.{Commit}
-use Rattle.wh_machine.specs.Written.{kept_after, added_length, is_beyond}
-use Rattle.wh_sessions.specs.Outcome.{Machine}
-use Rattle.wh_sessions.specs.Step.{Event, step}
+use Rattle.wh_state.specs.Commit.{Commit}
+use Rattle.wh_state.specs.Written.{kept_after, added_length, is_beyond}
+use Rattle.wh_machine.specs.Outcome.{Machine}
+use Rattle.wh_machine.specs.Step.{Event, step}
 use Rattle.wh_reply.specs.Reply.{Reply}
 use Rattle.wh_world.specs.declared.disk.Disk.{Ghosts}
 use Rattle.wh_journal.specs.Journal.{end_of, limit_of, failed_of}

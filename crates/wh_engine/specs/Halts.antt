@@ -1,7 +1,7 @@
 -- What a call that halts leaves of a warehouse, and why it halts.
 use Rattle.std.specs.Prelude.{◌≡◌, ◌↔◌, ◌≤◌, ℕ, Option, Some, IsTrue}
-use Rattle.wh_machine.specs.Commit.{Commit}
-use Rattle.wh_machine.specs.Written.{added_length, is_beyond}
+use Rattle.wh_state.specs.Commit.{Commit}
+use Rattle.wh_state.specs.Written.{added_length, is_beyond}
 use Rattle.wh_world.specs.Told.{Rose}
 use Rattle.wh_world.specs.declared.disk.Disk.{Ghosts}
 use Rattle.wh_journal.specs.Journal.{end_of, limit_of, failed_of}

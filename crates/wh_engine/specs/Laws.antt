@@ -3,18 +3,18 @@ use Rattle.std.specs.Prelude.{◌≡◌, ℕ, max, IsTrue, true, false, List, []
 use Rattle.wh_ast.specs.declared.dml.Dml.{Dml}
 use Rattle.wh_meaning.specs.Bag.{bag_of}
 use Rattle.wh_reply.specs.Reply.{is_refusal}
-use Rattle.wh_machine.specs.State.{Table, Stream, with_offset}
-use Rattle.wh_machine.specs.Objects.{table_at, stream_at}
-use Rattle.wh_streams.specs.Stream.{rows_at, shown_row}
-use Rattle.wh_sessions.specs.Transaction.{Transaction, start_of}
-use Rattle.wh_sessions.specs.Sessions.{transaction_in}
-use Rattle.wh_sessions.specs.Outcome.{Machine, settled}
-use Rattle.wh_sessions.specs.Reading.{rows_read}
-use Rattle.wh_sessions.specs.Statements.{commit}
-use Rattle.wh_sessions.specs.Step.{Event, stamp_of, at_stamp, step, after}
-use Rattle.wh_sessions.specs.Sound.{SoundMachine}
-use Rattle.wh_sessions.specs.Consuming.{consumed, batches, all_patched, rows_consumed, reads, AreApart, IsHeldAlong}
-use Rattle.wh_sessions.specs.Consuming.{committing, changing, change_reads, consumes}
+use Rattle.wh_state.specs.State.{Table, Stream, with_offset}
+use Rattle.wh_state.specs.Objects.{table_at, stream_at}
+use Rattle.wh_net.specs.Stream.{rows_at, shown_row}
+use Rattle.wh_machine.specs.Transaction.{Transaction, start_of}
+use Rattle.wh_machine.specs.Sessions.{transaction_in}
+use Rattle.wh_machine.specs.Outcome.{Machine, settled}
+use Rattle.wh_machine.specs.Reading.{rows_read}
+use Rattle.wh_machine.specs.Statements.{commit}
+use Rattle.wh_machine.specs.Step.{Event, stamp_of, at_stamp, step, after}
+use Rattle.wh_machine.specs.Sound.{SoundMachine}
+use Rattle.wh_machine.specs.Consuming.{consumed, batches, all_patched, rows_consumed, reads, AreApart, IsHeldAlong}
+use Rattle.wh_machine.specs.Consuming.{committing, changing, change_reads, consumes}
 
 -- a refused event changes nothing but the last stamp, and no transaction
 abbrev pub RefusalsChangeNothing : Type 0

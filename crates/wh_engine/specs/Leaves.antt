@@ -2,8 +2,8 @@
 --     StandsForEither     a file that stands for the one state or the other, at rest
 --     Leaves              so over a file that is all on the disk, whatever the call answers
 use Rattle.std.specs.Prelude.{◌≡◌, ◌⊎◌, ℕ, List, Some}
-use Rattle.wh_machine.specs.State.{State, at_rest}
-use Rattle.wh_machine.specs.File.{Stands}
+use Rattle.wh_state.specs.State.{State, at_rest}
+use Rattle.wh_state.specs.File.{Stands}
 use Rattle.wh_world.specs.Crash.{Only}
 use Rattle.wh_world.specs.declared.disk.Disk.{Ghosts}
 use Rattle.wh_journal.specs.Crash.{LeavesOnly}

@@ -6,9 +6,9 @@
 use Rattle.std.specs.Prelude.{◌≡◌, ℕ, List, ◌∷◌, ◌++◌, length, map}
 use Rattle.std.specs.List.{AllByRecursion}
 use Rattle.wh_frame.specs.File.{records_of}
-use Rattle.wh_machine.specs.Stored.{Stored, first_stored}
-use Rattle.wh_machine.specs.Commit.{Commit, Applies, applied, Leads}
-use Rattle.wh_machine.specs.Spelling.{payload_of, IsCommit}
+use Rattle.wh_state.specs.Stored.{Stored, first_stored}
+use Rattle.wh_state.specs.Commit.{Commit, Applies, applied, Leads}
+use Rattle.wh_state.specs.Spelling.{payload_of, IsCommit}
 
 pub record Replays (from : Stored) (payloads : List (List ℕ)) (to : Stored) : Type 0 where
   pub commits : List Commit

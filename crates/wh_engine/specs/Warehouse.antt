@@ -9,14 +9,14 @@
 use Rattle.std.specs.Prelude.{◌≡◌, ℕ, List, map, Option, Some}
 use Rattle.std.specs.List.{AllByRecursion}
 use Rattle.wh_frame.specs.File.{IsFileOf}
-use Rattle.wh_machine.specs.State.{State, stamped}
-use Rattle.wh_machine.specs.Stored.{Stored, first_stored, meant}
-use Rattle.wh_machine.specs.Commit.{Commit, Leads}
-use Rattle.wh_machine.specs.Spelling.{payload_of, IsCommit}
-use Rattle.wh_machine.specs.Written.{kept_after}
-use Rattle.wh_sessions.specs.Outcome.{Machine}
-use Rattle.wh_sessions.specs.Step.{Event, step}
-use Rattle.wh_sessions.specs.Made.{made}
+use Rattle.wh_state.specs.State.{State, stamped}
+use Rattle.wh_state.specs.Stored.{Stored, first_stored, meant}
+use Rattle.wh_state.specs.Commit.{Commit, Leads}
+use Rattle.wh_state.specs.Spelling.{payload_of, IsCommit}
+use Rattle.wh_state.specs.Written.{kept_after}
+use Rattle.wh_machine.specs.Outcome.{Machine}
+use Rattle.wh_machine.specs.Step.{Event, step}
+use Rattle.wh_machine.specs.Made.{made}
 use Rattle.wh_world.specs.Crash.{Only}
 use Rattle.wh_world.specs.declared.disk.Disk.{Ghosts}
 use Rattle.wh_journal.specs.Journal as journals

@@ -15,13 +15,13 @@ impl<D: Disk> Warehouse<D> {
     ghost use Rattle.wh_reply.specs.View.{reply_view};
     ghost use Rattle.wh_record.specs.View.{commit_of};
     ghost use Rattle.wh_journal.specs.Journal.{limit_of, failed_of};
-    ghost use Rattle.wh_machine.specs.State.{stamped};
-    ghost use Rattle.wh_sessions.specs.Step.{outcome_of};
+    ghost use Rattle.wh_state.specs.State.{stamped};
+    ghost use Rattle.wh_machine.specs.Step.{outcome_of};
     ghost use Rattle.wh_catalog.specs.Catalog.{stored_of, state_of};
     ghost use Rattle.wh_txn.specs.View.{sessions_of};
-    ghost use Rattle.wh_engine.specs.Event.{event_of};
-    ghost use Rattle.wh_engine.specs.Decision.{changes_of, commit_at, changes_in, sessions_after};
-    ghost use Rattle.wh_engine.specs.Decision.{machine_at, Decides, StagesInOpen};
+    ghost use Rattle.wh_decide.specs.Event.{event_of};
+    ghost use Rattle.wh_decide.specs.Decision.{changes_of, commit_at, changes_in, sessions_after};
+    ghost use Rattle.wh_decide.specs.Decision.{machine_at, Decides, StagesInOpen};
     ghost use Rattle.wh_engine.specs.Warehouse.{made_in, led_to, state_with};
     ghost use Rattle.wh_engine.specs.Answers.{Answered, CarriesOut};
     ghost use Rattle.wh_engine.specs.Halts.{Halted};

@@ -10,15 +10,15 @@ use wh_world::Disk;
 impl<D: Disk> Warehouse<D> {
     ghost use Rattle.std.specs.Prelude.{◌≡◌, ◌<◌, ◌≤◌, ◌^◌, ℕ, List, Some, None, length, is_some, IfOk, IfErr};
     ghost use Rattle.wh_frame.specs.File.{GateEndsAt};
-    ghost use Rattle.wh_machine.specs.Stored.{Means};
-    ghost use Rattle.wh_machine.specs.File.{Keeps};
-    ghost use Rattle.wh_machine.specs.Fault.{IsFirstFault};
+    ghost use Rattle.wh_state.specs.Stored.{Means};
+    ghost use Rattle.wh_state.specs.File.{Keeps};
+    ghost use Rattle.wh_state.specs.Fault.{IsFirstFault};
     ghost use Rattle.wh_world.specs.Told.{Rose};
     ghost use Rattle.wh_world.specs.Crash.{Only};
     ghost use Rattle.wh_journal.specs.Crash.{LeavesOnly, IsKeptOrShort};
     ghost use Rattle.wh_journal.specs.Journal.{end_of, limit_of, failed_of};
     ghost use Rattle.wh_catalog.specs.Catalog.{stored_of, state_of};
-    ghost use Rattle.wh_sessions.specs.Sessions.{no_sessions};
+    ghost use Rattle.wh_machine.specs.Sessions.{no_sessions};
     ghost use Rattle.wh_txn.specs.View.{sessions_of};
     ghost use Rattle.wh_engine.specs.Warehouse.{Filed, IsSettled};
 
@@ -94,9 +94,9 @@ impl<D: Disk> Warehouse<D> {
 
 ghost use Rattle.std.specs.Prelude.{◌≡◌, ◌<◌, ◌≤◌, ◌^◌, ℕ, List, Some, None, length, is_some, IfOk, OnOk, IsErrOf};
 ghost use Rattle.wh_frame.specs.File.{GateEndsAt};
-ghost use Rattle.wh_machine.specs.Stored.{Means};
-ghost use Rattle.wh_machine.specs.File.{Keeps};
-ghost use Rattle.wh_machine.specs.Fault.{IsFirstFault};
+ghost use Rattle.wh_state.specs.Stored.{Means};
+ghost use Rattle.wh_state.specs.File.{Keeps};
+ghost use Rattle.wh_state.specs.Fault.{IsFirstFault};
 ghost use Rattle.wh_world.specs.Told.{Rose};
 ghost use Rattle.wh_world.specs.Crash.{Only};
 ghost use Rattle.wh_journal.specs.Crash.{LeavesOnly, IsKeptOrShort};

@@ -3,7 +3,7 @@ ghost use Rattle.std.specs.Prelude.{slice_get, IfOk, OnOk, IsErrOf};
 ghost use Rattle.wh_world.specs.Told.{Rose};
 ghost use Rattle.wh_world.specs.Crash.{NoOthers};
 ghost use Rattle.wh_frame.specs.File.{records_of};
-ghost use Rattle.wh_machine.specs.Stored.{first_stored, Means};
+ghost use Rattle.wh_state.specs.Stored.{first_stored, Means};
 ghost use Rattle.wh_journal.specs.Journal.{Lists, end_of, count_of};
 ghost use Rattle.wh_journal.specs.Crash.{LeavesOnly};
 ghost use Rattle.wh_catalog.specs.Catalog.{stored_of, state_of};

@@ -20,8 +20,8 @@ pub struct Warehouse<D: Disk> {
 
 impl<D: Disk> Warehouse<D> {
     ghost use Rattle.std.specs.Prelude.{◌≡◌, ℕ, List, Some};
-    ghost use Rattle.wh_machine.specs.State.{at_rest};
-    ghost use Rattle.wh_machine.specs.File.{Stands};
+    ghost use Rattle.wh_state.specs.State.{at_rest};
+    ghost use Rattle.wh_state.specs.File.{Stands};
     ghost use Rattle.wh_catalog.specs.Catalog.{state_of};
     ghost use Rattle.wh_engine.specs.Warehouse.{Filed};
 

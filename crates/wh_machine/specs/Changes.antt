@@ -1,37 +1,26 @@
 -- Changing statements: INSERT, UPDATE, DELETE and MERGE.
+--     edits_of           an effect as edits of rows
 --     rows_seen          the rows of a table by rising number
 --     Changed            what a change comes to before its numbers are tested: a refusal, or its effect on a table
---     settled_effect     an effect as a commit of its own: a new version of the target where a row counts, and the
---                        offsets of the streams that it reads
-use Rattle.std.specs.Prelude.{ℕ, ◌+◌, if◌then◌else◌, List, [], ◌∷◌, length, map, Option, Some, None, nat_lt}
+use Rattle.std.specs.Prelude.{ℕ, ◌+◌, List, length, Option, Some, None}
 use Rattle.std.specs.FinMap.{entries}
 use Rattle.wh_value.specs.Value.{Row}
-use Rattle.wh_value.specs.declared.limit.Limit.TheVariants as limits
 use Rattle.wh_naming.specs.Changes.{BoundChange, Change, InsertRows, InsertQuery, Update, Delete, Merge}
 use Rattle.wh_reply.specs.Reply.{Refusal, Reply, TypeMismatch, NumberOutOfRange, AmbiguousMerge, Inserted, Updated}
 use Rattle.wh_reply.specs.Reply.{Deleted, Merged}
 use Rattle.wh_meaning.specs.Query.{Instance}
 use Rattle.wh_effect.specs.Effect as effects
-use Rattle.wh_effect.specs.Effect.{Kept, Effect, effect}
-use Rattle.wh_machine.specs.State.{Table, last_rows}
-use Rattle.wh_machine.specs.Edits.{edits_of}
-use Rattle.wh_machine.specs.Outcome.{Act, Outcome, Refuses, Does, EditsRows, refused_past, first_of, unless}
-use Rattle.wh_machine.specs.Outcome.{table_partitions_made}
-use Rattle.wh_machine.specs.Streams.{acts_of_commit}
+use Rattle.wh_effect.specs.Effect.{Effect, effect}
+use Rattle.wh_state.specs.State.{Table, last_rows}
+use Rattle.wh_state.specs.Edits.{Edits, edits_from}
 
--- the first number that would pass its limit
-unfoldable pub edits_refusal : Table → Effect → Option Refusal
-edits_refusal t e = first_of (
-    refused_past limits.RowNumber (t.next_row + length e.added)
-    ∷ refused_past limits.PartitionNumber (t.next_partition + length (table_partitions_made (edits_of e) t))
-    ∷ [])
+-- an effect as edits
+abbrev pub edits_of : Effect → Edits
+edits_of e = edits_from e.removed e.changed e.added
 
 -- the rows of a table by rising number
-abbrev pub numbered_row : ℕ × Row → Kept
-numbered_row entry = record { number = entry.0; row = entry.1 }
-
-abbrev pub rows_seen : Table → List Kept
-rows_seen t = map numbered_row (entries (last_rows t))
+abbrev pub rows_seen : Table → List (ℕ × Row)
+rows_seen t = entries (last_rows t)
 
 abbrev pub counted : Effect → ℕ
 counted e = length e.added + length e.changed + length e.removed
@@ -62,19 +51,3 @@ given_on streams read b (Some t) = given b.target streams b.change (effect b.cha
 abbrev pub fails_or : Option Refusal → Changed → Changed
 fails_or (Some why) changed = Fails why
 fails_or None changed = changed
-
--- ---- the commit of a change by itself
-
-abbrev pub edit_acts : ℕ → Effect → List Act
-edit_acts id e = if nat_lt 0 (counted e) then EditsRows id (edits_of e) ∷ [] else []
-
--- none where no row counts and no stream is read
-abbrev pub carried_over : ℕ → List ℕ → List Act → Change → Effect → Outcome
-carried_over id streams moves change e =
-    Does (reply_to change e) (acts_of_commit streams moves (edit_acts id e))
-
--- with the acts by which the offsets of its streams move
-abbrev pub settled_effect : ℕ → List ℕ → List Act → Change → Effect → Option Table → Outcome
-settled_effect id streams moves change e None = Refuses TypeMismatch
-settled_effect id streams moves change e (Some t) =
-    unless (edits_refusal t e) (carried_over id streams moves change e)

@@ -1,115 +1,57 @@
--- What a statement or a tick does.
---     Act          a change of the state, in the machine's terms
---     Outcome      a refusal; or a reply, with the acts of its commit where it makes one
---     settled      the state and the reply that an outcome comes to
---     first_of     the first refusal of tests in their order
-use Rattle.std.specs.Prelude.{ℕ, ◌+◌, Bool, true, false, List, [], ◌∷◌, ◌++◌, length, Option, Some, None, nat_lt}
-use Rattle.wh_value.specs.Column.{Column}
-use Rattle.wh_frame.specs.Partition.{Partition}
-use Rattle.wh_value.specs.Limit.{bound}
-use Rattle.wh_value.specs.declared.limit.Limit.{Limit}
-use Rattle.wh_reply.specs.Reply.{Refusal, OverLimit, Reply, Refused}
-use Rattle.wh_machine.specs.State.{State, Kind, TableKind, StreamKind, Object, Table, Contents, nothing_held}
-use Rattle.wh_machine.specs.State.{new_table, new_object, new_stream, with_offset, dropped, version_at, columns_at}
-use Rattle.wh_machine.specs.State.{last_content, last_partitions, changed_at}
-use Rattle.wh_machine.specs.Edits.{Edits, partitions_made, contents_after}
+-- The machine with its sessions, and what a statement or a tick does to it.
+--     Machine                the committed state, and the open transactions
+--     opened, rest_of        the machine of a file's state, and what a file keeps of a machine
+--     Outcome                a refusal; or a reply, with the sessions that it leaves, and the acts of
+--                            its commit where it makes one
+--     answers, commits       a reply that leaves the sessions as they are
+--     unless, last_test      an outcome behind a test, and before one
+--     settled                the machine and the reply that an outcome comes to
+use Rattle.std.specs.Prelude.{List, Option, Some, None}
+use Rattle.wh_reply.specs.Reply.{Refusal, Reply, Refused}
+use Rattle.wh_state.specs.State.{State, at_rest}
+use Rattle.wh_state.specs.Act.{Act, done}
+use Rattle.wh_machine.specs.Sessions.{Sessions, no_sessions}
 
-pub data Act : Type 0 where
-  -- a new table, with the next id
-  MakesTable : (name : List ℕ) → (columns : List Column) → (retention : ℕ) → Act
-  -- the object of that id is dropped
-  DropsObject : (id : ℕ) → Act
-  -- a new version of the table of that id
-  EditsRows : (id : ℕ) → Edits → Act
-  -- a new stream on the table of an id, with the next id; it shows what comes behind its commit
-  MakesStream : (name : List ℕ) → (source : ℕ) → (is_append_only : Bool) → Act
-  -- the stream of that id was read up to a stamp
-  MovesOffset : (id offset : ℕ) → Act
+pub record Machine : Type 0 where
+  pub state : State
+  pub sessions : Sessions
+
+-- as a file that stands for that state is opened
+abbrev pub opened : State → Machine
+opened s = record { state = s; sessions = no_sessions }
+
+-- what a file keeps of it: no open transaction, and the last stamp is that of the last commit
+abbrev pub rest_of : Machine → State
+rest_of m = at_rest m.state
 
 pub data Outcome : Type 0 where
   Refuses : Refusal → Outcome
-  Does : Reply → Option (List Act) → Outcome
+  Does : Reply → Sessions → Option (List Act) → Outcome
 
--- no commit
-abbrev pub answers : Reply → Outcome
-answers reply = Does reply None
+abbrev pub answers : Machine → Reply → Outcome
+answers m reply = Does reply m.sessions None
 
-abbrev pub commits : Reply → List Act → Outcome
-commits reply acts = Does reply (Some acts)
-
--- ---- tests, in their order
-
-abbrev pub refused_if : Bool → Refusal → Option Refusal
-refused_if true why = Some why
-refused_if false why = None
-
--- a count that is beyond a limit
-abbrev pub refused_past : Limit → ℕ → Option Refusal
-refused_past limit count = refused_if (nat_lt (bound limit) count) (OverLimit limit)
-
-abbrev pub first_of : List (Option Refusal) → Option Refusal
-first_of [] = None
-first_of (Some why ∷ others) = Some why
-first_of (None ∷ others) = first_of others
+abbrev pub commits : Machine → Reply → List Act → Outcome
+commits m reply acts = Does reply m.sessions (Some acts)
 
 abbrev pub unless : Option Refusal → Outcome → Outcome
 unless (Some why) outcome = Refuses why
 unless None outcome = outcome
 
--- ---- what an act does at a stamp
+-- a test behind all others of a statement
+abbrev pub last_test : Option Refusal → Outcome → Outcome
+last_test why (Refuses other) = Refuses other
+last_test why (Does reply sessions acts) = unless why (Does reply sessions acts)
 
--- the partitions that edits make of a table's last version
-abbrev pub table_partitions_made : Edits → Table → List Partition
-table_partitions_made e t = partitions_made t.next_partition t.next_row e (last_partitions t)
+abbrev pub state_after : State → Option (List Act) → State
+state_after s None = s
+state_after s (Some acts) = done s acts
 
-abbrev pub next_contents : Edits → Table → Contents
-next_contents e t = contents_after t.next_partition t.next_row e (last_content nothing_held t)
-
--- a table with its next version
-unfoldable pub edited_table : ℕ → Edits → Table → Table
-edited_table stamp e t = record t {
-  next_row = t.next_row + length e.added;
-  next_partition = t.next_partition + length (table_partitions_made e t);
-  versions = t.versions ++ version_at stamp (next_contents e t) ∷ [];
-}
-
-abbrev pub edited_kind : ℕ → Edits → Kind → Kind
-edited_kind stamp e (TableKind t) = TableKind (edited_table stamp e t)
-edited_kind stamp e (StreamKind s) = StreamKind s
-
-abbrev pub edited_object : ℕ → Edits → Object → Object
-edited_object stamp e o = record o { kind = edited_kind stamp e o.kind }
-
-abbrev pub moved_kind : ℕ → Kind → Kind
-moved_kind offset (TableKind t) = TableKind t
-moved_kind offset (StreamKind s) = StreamKind (with_offset offset s)
-
-abbrev pub moved_object : ℕ → Object → Object
-moved_object offset o = record o { kind = moved_kind offset o.kind }
-
-abbrev pub acted : ℕ → List Object → Act → List Object
-acted stamp objects (MakesTable name columns retention) =
-    objects ++ new_object name stamp (TableKind (new_table nothing_held columns retention stamp)) ∷ []
-acted stamp objects (DropsObject id) = changed_at objects id dropped
-acted stamp objects (EditsRows id e) = changed_at objects id (edited_object stamp e)
-acted stamp objects (MakesStream name source is_append_only) = objects ++ new_object name stamp
-    (StreamKind (new_stream source is_append_only stamp (columns_at objects source))) ∷ []
-acted stamp objects (MovesOffset id offset) = changed_at objects id (moved_object offset)
-
-abbrev pub all_acted : ℕ → List Object → List Act → List Object
-all_acted stamp objects [] = objects
-all_acted stamp objects (act ∷ acts) = all_acted stamp (acted stamp objects act) acts
-
--- a commit of acts at the state's last stamp
-abbrev pub done : State → List Act → State
-done s acts = record s { committed = s.last; objects = all_acted s.last s.objects acts }
-
-abbrev pub settled : State → Outcome → State × Reply
-settled s (Refuses why) = (s, Refused why)
-settled s (Does reply None) = (s, reply)
-settled s (Does reply (Some acts)) = (done s acts, reply)
+abbrev pub settled : Machine → Outcome → Machine × Reply
+settled m (Refuses why) = (m, Refused why)
+settled m (Does reply sessions acts) = (record { state = state_after m.state acts; sessions = sessions }, reply)
 
 -- the acts of the commit that an outcome makes
 abbrev pub acts_in : Outcome → Option (List Act)
 acts_in (Refuses why) = None
-acts_in (Does reply acts) = acts
+acts_in (Does reply sessions acts) = acts

@@ -1,3 +1,3 @@
-//! What the warehouse means: values, tables, the machine that answers events, and what a file stands for.
-//! All of it is in `specs/` and `proofs/`.
+//! The machine that answers events: sessions and their transactions, what each statement does, and
+//! what a stop leaves. All of it is in `specs/` and `proofs/`.
 #![tactic(auto)]

@@ -9,11 +9,11 @@ use Rattle.std.proofs.lemmas.List.{append-nil, nil_from_length}
 use Rattle.std.proofs.lemmas.Bool.{eqb-true, leb-true, le-leb}
 use Rattle.wh_value.specs.Column.{ColumnType, NumberType, VarcharType, BooleanType}
 use Rattle.wh_frame.specs.Spelling.{text_bytes, list_bytes, partition_bytes}
-use Rattle.wh_machine.specs.Commit.{Change, CreatesTable, Drops}
-use Rattle.wh_machine.specs.Commit.{PushesVersion, CreatesStream, SetsOffset, Commit}
-use Rattle.wh_machine.specs.Spelling.{type_byte, column_bytes, table_bytes, version_bytes, stream_kind_byte}
-use Rattle.wh_machine.specs.Spelling.{stream_bytes, offset_bytes, change_bytes, payload_of, NumbersRiseFrom, IsColumn}
-use Rattle.wh_machine.specs.Spelling.{IsTableChange, IsVersionChange, IsStreamChange, IsChange, IsCommit}
+use Rattle.wh_state.specs.Commit.{Change, CreatesTable, Drops}
+use Rattle.wh_state.specs.Commit.{PushesVersion, CreatesStream, SetsOffset, Commit}
+use Rattle.wh_state.specs.Spelling.{type_byte, column_bytes, table_bytes, version_bytes, stream_kind_byte}
+use Rattle.wh_state.specs.Spelling.{stream_bytes, offset_bytes, change_bytes, payload_of, NumbersRiseFrom, IsColumn}
+use Rattle.wh_state.specs.Spelling.{IsTableChange, IsVersionChange, IsStreamChange, IsChange, IsCommit}
 use Rattle.wh_part.specs.Reading.{Reader, ◌>>=◌, as_at}
 use Rattle.wh_part.proofs.ReaderLaws.{AreBytes, Reads, bind_some, and_parts, some_is, reads_then, reads_where, reads_as}
 use Rattle.wh_part.proofs.ReaderLaws.{reads_same, reads_list, wide32, wide64, reads_number, reads_byte, reads_text}

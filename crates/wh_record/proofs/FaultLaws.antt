@@ -7,11 +7,11 @@ use Rattle.std.specs.List.{flat_map, AllByRecursion}
 use Rattle.std.proofs.lemmas.List.{append_cancel_left}
 use Rattle.std.proofs.lemmas.List.Concat.{flat_map-cons}
 use Rattle.wh_frame.specs.File.{header, record_of, records_of, LacksHeader}
-use Rattle.wh_machine.specs.Stored.{Stored, first_stored}
-use Rattle.wh_machine.specs.Commit.{Commit, Applies, applied, Leads}
-use Rattle.wh_machine.specs.Spelling.{payload_of, IsCommit}
-use Rattle.wh_machine.specs.File.{Holds, Keeps}
-use Rattle.wh_machine.specs.Fault.{IsFaulty, BreaksOff, IsFirstFault}
+use Rattle.wh_state.specs.Stored.{Stored, first_stored}
+use Rattle.wh_state.specs.Commit.{Commit, Applies, applied, Leads}
+use Rattle.wh_state.specs.Spelling.{payload_of, IsCommit}
+use Rattle.wh_state.specs.File.{Holds, Keeps}
+use Rattle.wh_state.specs.Fault.{IsFaulty, BreaksOff, IsFirstFault}
 use Rattle.wh_record.specs.Laws.{FirstFaultIsOne, FaultyFileStandsForNone}
 use Rattle.wh_record.proofs.CommitLaws.{payload_fixes_commit}
 use Rattle.wh_record.proofs.FileLaws.{one_frame, heads}

@@ -9,10 +9,10 @@ use Rattle.std.specs.Int.{w64, to_be_bytes}
 use Rattle.std.proofs.lemmas.List.{append_cancel_left}
 use Rattle.std.proofs.lemmas.List.Concat.{flat_map-cons}
 use Rattle.wh_frame.specs.File.{header, record_of, records_of}
-use Rattle.wh_machine.specs.Stored.{Stored, first_stored, meant}
-use Rattle.wh_machine.specs.Commit.{Commit, Leads, applied}
-use Rattle.wh_machine.specs.Spelling.{payload_of, IsCommit}
-use Rattle.wh_machine.specs.File.{Holds}
+use Rattle.wh_state.specs.Stored.{Stored, first_stored, meant}
+use Rattle.wh_state.specs.Commit.{Commit, Leads, applied}
+use Rattle.wh_state.specs.Spelling.{payload_of, IsCommit}
+use Rattle.wh_state.specs.File.{Holds}
 use Rattle.wh_part.specs.Reading.{then_at, number_at, bytes_at}
 use Rattle.wh_part.proofs.ReaderLaws.{Reads, some_is, reads_then, wide64, reads_number, reads_bytes}
 use Rattle.wh_record.specs.Laws.{FileFixesPayloads, FileFixesStored, FileFixesState}

@@ -2,8 +2,8 @@
 use Rattle.std.proofs.Common.{◌≡◌, ℕ, List, ◌++◌, ◌∙◌, ap, append_assoc}
 use Rattle.std.specs.Int.{w32, w64, to_be_bytes}
 use Rattle.wh_frame.specs.Spelling.{list_bytes}
-use Rattle.wh_machine.specs.Commit.{Commit}
-use Rattle.wh_machine.specs.Spelling.{payload_of, change_bytes, offset_bytes}
+use Rattle.wh_state.specs.Commit.{Commit}
+use Rattle.wh_state.specs.Spelling.{payload_of, change_bytes, offset_bytes}
 
 pub four_written : (a b c d before one two three after : List ℕ)
     → one ≡ before ++ a → two ≡ one ++ b → three ≡ two ++ c → after ≡ three ++ d → after ≡ before ++ (a ++ b ++ c ++ d)

@@ -3,8 +3,8 @@ use Rattle.std.specs.Prelude.{ℕ, zero, suc, ◌+◌, Bool, true, false, ◌&&�
 use Rattle.std.specs.Prelude.{nat_le, ◌==◌, if◌then◌else◌}
 use Rattle.std.specs.Int.{w32, w64}
 use Rattle.wh_value.specs.Column.{Column, ColumnType, NumberType, VarcharType, BooleanType}
-use Rattle.wh_machine.specs.Commit.{TableChange, VersionChange, StreamChange, Change, CreatesTable, Drops}
-use Rattle.wh_machine.specs.Commit.{PushesVersion, CreatesStream, SetsOffset, Commit}
+use Rattle.wh_state.specs.Commit.{TableChange, VersionChange, StreamChange, Change, CreatesTable, Drops}
+use Rattle.wh_state.specs.Commit.{PushesVersion, CreatesStream, SetsOffset, Commit}
 use Rattle.wh_part.specs.Reading.{Reader, ◌>>=◌, then_at, where_at, as_at, list_at, byte_at, number_at, text_at}
 use Rattle.wh_part.specs.Decoding.{partition_at}
 

@@ -7,12 +7,12 @@
 --     FaultyFileStandsForNone     a file has a first fault, or stands for a state, but not both
 use Rattle.std.specs.Prelude.{◌≡◌, ℕ, ◌<◌, List, length}
 use Rattle.wh_frame.specs.File.{IsFileOf}
-use Rattle.wh_machine.specs.State.{State}
-use Rattle.wh_machine.specs.Stored.{Stored}
-use Rattle.wh_machine.specs.Commit.{Commit}
-use Rattle.wh_machine.specs.Spelling.{payload_of, IsCommit}
-use Rattle.wh_machine.specs.File.{Keeps, Stands}
-use Rattle.wh_machine.specs.Fault.{IsFirstFault}
+use Rattle.wh_state.specs.State.{State}
+use Rattle.wh_state.specs.Stored.{Stored}
+use Rattle.wh_state.specs.Commit.{Commit}
+use Rattle.wh_state.specs.Spelling.{payload_of, IsCommit}
+use Rattle.wh_state.specs.File.{Keeps, Stands}
+use Rattle.wh_state.specs.Fault.{IsFirstFault}
 
 -- no two commits have one payload
 abbrev pub PayloadFixesCommit : Type 0

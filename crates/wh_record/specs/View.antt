@@ -6,7 +6,7 @@ use Rattle.std.specs.List.{AllByRecursion}
 use Rattle.wh_value.specs.Value.{Row, IsRow}
 use Rattle.wh_value.specs.View.{column_of}
 use Rattle.wh_frame.specs.Partition.{Partition}
-use Rattle.wh_machine.specs.Commit as machine
+use Rattle.wh_state.specs.Commit as machine
 use Rattle.wh_record.specs.declared.commit.TableChange.{TableChange}
 use Rattle.wh_record.specs.declared.commit.VersionChange.{VersionChange}
 use Rattle.wh_record.specs.declared.commit.StreamChange.{StreamChange}

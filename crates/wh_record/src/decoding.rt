@@ -283,8 +283,8 @@ fn read_all(alloc: Global, bytes: &[u8]) -> Result<Commit, ReadError>
 
 impl Commit {
     ghost use Rattle.std.specs.Prelude.{◌≡◌, IfSome, IfNone, IfOk};
-    ghost use Rattle.wh_machine.specs.Commit as machine;
-    ghost use Rattle.wh_machine.specs.Spelling.{payload_of, IsCommit};
+    ghost use Rattle.wh_state.specs.Commit as machine;
+    ghost use Rattle.wh_state.specs.Spelling.{payload_of, IsCommit};
     ghost use Rattle.wh_record.specs.View.{commit_of};
 
     /// The commit of a record's payload. None exactly where the bytes are no commit.

@@ -2,10 +2,10 @@ ghost use Rattle.std.specs.Prelude.{◌≡◌, ◌<◌, ◌^◌, ◌∷◌, [], 
 ghost use Rattle.std.specs.List.{flat_map, AllByRecursion};
 ghost use Rattle.std.specs.Int.{w32, w64, to_be_bytes};
 ghost use Rattle.wh_frame.specs.Spelling.{list_bytes, partition_bytes, IsPartition};
-ghost use Rattle.wh_machine.specs.Spelling.{type_byte, column_bytes, table_bytes, version_bytes, stream_kind_byte};
-ghost use Rattle.wh_machine.specs.Spelling.{stream_bytes, offset_bytes, change_bytes, payload_of, NumbersRiseFrom};
-ghost use Rattle.wh_machine.specs.Spelling.{IsColumn, IsTableChange, IsVersionChange, IsStreamChange, IsChange};
-ghost use Rattle.wh_machine.specs.Spelling.{IsCommit};
+ghost use Rattle.wh_state.specs.Spelling.{type_byte, column_bytes, table_bytes, version_bytes, stream_kind_byte};
+ghost use Rattle.wh_state.specs.Spelling.{stream_bytes, offset_bytes, change_bytes, payload_of, NumbersRiseFrom};
+ghost use Rattle.wh_state.specs.Spelling.{IsColumn, IsTableChange, IsVersionChange, IsStreamChange, IsChange};
+ghost use Rattle.wh_state.specs.Spelling.{IsCommit};
 ghost use Rattle.wh_value.specs.View.{type_of, column_of};
 ghost use Rattle.wh_record.specs.View.{table_change_of, version_change_of, stream_change_of, change_of, commit_of};
 
@@ -38,7 +38,7 @@ fn write_count(out: &mut Bytes, count: usize) -> Result<(), AllocError>
     write_u32(out, count as u32)
 }
 
-#[tactic(auto, unfolding(wh_machine::specs::Spelling::column_bytes))]
+#[tactic(auto, unfolding(wh_state::specs::Spelling::column_bytes))]
 fn write_column(out: &mut Bytes, column: &Column) -> Result<(), AllocError>
     ensures written { OnOk result (out.new ≡ out.old ++ column_bytes (column_of column.now)) }
     ensures spelled { OnOk result (IsColumn (column_of column.now)) }
@@ -69,7 +69,7 @@ fn write_each_column(out: &mut Bytes, columns: &[Column]) -> Result<(), AllocErr
     Ok(())
 }
 
-#[tactic(auto, unfolding(wh_machine::specs::Spelling::table_bytes))]
+#[tactic(auto, unfolding(wh_state::specs::Spelling::table_bytes))]
 fn write_table(out: &mut Bytes, table: &TableChange) -> Result<(), AllocError>
     ensures written { OnOk result (out.new ≡ out.old ++ table_bytes (table_change_of table.now)) }
     ensures spelled { OnOk result (IsTableChange (table_change_of table.now)) }
@@ -150,7 +150,7 @@ fn write_version_head(out: &mut Bytes, version: &VersionChange) -> Result<(), Al
     Ok(())
 }
 
-#[tactic(auto, unfolding(wh_machine::specs::Spelling::version_bytes))]
+#[tactic(auto, unfolding(wh_state::specs::Spelling::version_bytes))]
 fn write_version(out: &mut Bytes, version: &VersionChange) -> Result<(), AllocError>
     ensures written { OnOk result (out.new
         ≡ out.old ++ version_bytes (version_change_of version.now)) }
@@ -168,7 +168,7 @@ fn byte_of_kind(is_append_only: bool) -> u8
     if is_append_only { 2 } else { 1 }
 }
 
-#[tactic(auto, unfolding(wh_machine::specs::Spelling::stream_bytes))]
+#[tactic(auto, unfolding(wh_state::specs::Spelling::stream_bytes))]
 fn write_stream(out: &mut Bytes, stream: &StreamChange) -> Result<(), AllocError>
     ensures written { OnOk result (out.new ≡ out.old ++ stream_bytes (stream_change_of stream.now)) }
     ensures spelled { OnOk result (IsStreamChange (stream_change_of stream.now)) }
@@ -189,7 +189,7 @@ fn write_offset(out: &mut Bytes, id: u32, offset: u64) -> Result<(), AllocError>
     Ok(())
 }
 
-#[tactic(auto, unfolding(wh_machine::specs::Spelling::change_bytes))]
+#[tactic(auto, unfolding(wh_state::specs::Spelling::change_bytes))]
 fn write_change(out: &mut Bytes, change: &Change) -> Result<(), AllocError>
     ensures written { OnOk result (out.new ≡ out.old ++ change_bytes (change_of change.now)) }
     ensures spelled { OnOk result (IsChange (change_of change.now)) }
@@ -240,7 +240,7 @@ fn write_each_change(out: &mut Bytes, changes: &[Change]) -> Result<(), AllocErr
     Ok(())
 }
 
-#[tactic(auto, unfolding(wh_machine::specs::Spelling::payload_of))]
+#[tactic(auto, unfolding(wh_state::specs::Spelling::payload_of))]
 fn write_commit(out: &mut Bytes, commit: &Commit) -> Result<(), AllocError>
     ensures written { OnOk result (out.new ≡ out.old ++ payload_of (commit_of commit.now)) }
     ensures spelled { OnOk result (IsCommit (commit_of commit.now)) }
@@ -252,7 +252,7 @@ fn write_commit(out: &mut Bytes, commit: &Commit) -> Result<(), AllocError>
 
 impl Commit {
     ghost use Rattle.std.specs.Prelude.{◌≡◌, IfOk, OnOk};
-    ghost use Rattle.wh_machine.specs.Spelling.{payload_of, IsCommit};
+    ghost use Rattle.wh_state.specs.Spelling.{payload_of, IsCommit};
     ghost use Rattle.wh_record.specs.View.{commit_of};
 
     /// The record of the commit. `AllocError` is also the answer where a list's count doesn't fit

@@ -5,7 +5,7 @@
 --     answer_cause, turn_cause     of a turn whose event is known; of all turns
 use Rattle.std.proofs.Common.{◌≡◌, ℕ, ◌<◌, ◌≤◌, ◌^◌, List, Option, Some, None, refl, sym, ◌∙◌, subst, arith}
 use Rattle.std.specs.Prelude.{Result, Ok, Err, IfErr, IsErrAnd}
-use Rattle.wh_sessions.specs.Step.{Event}
+use Rattle.wh_machine.specs.Step.{Event}
 use Rattle.wh_world.specs.Told.{Rose}
 use Rattle.wh_world.specs.declared.disk.Disk.{Ghosts}
 use Rattle.wh_text.specs.Script.{taken_of, Counts}

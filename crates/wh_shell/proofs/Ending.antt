@@ -5,9 +5,9 @@
 use Rattle.std.proofs.Common.{◌≡◌, ℕ, ◌<◌, List, [], length, inl, inr, refl, sym, ap, ◌∙◌, subst, append-nil, Option}
 use Rattle.std.proofs.Common.{Some}
 use Rattle.std.specs.Prelude.{Result, Ok, Err, IfOk, OnOk, IfErr, OnErr}
-use Rattle.wh_machine.specs.File.{Stands}
-use Rattle.wh_sessions.specs.Outcome.{Machine, rest_of}
-use Rattle.wh_sessions.specs.Step.{Event, text}
+use Rattle.wh_state.specs.File.{Stands}
+use Rattle.wh_machine.specs.Outcome.{Machine, rest_of}
+use Rattle.wh_machine.specs.Step.{Event, text}
 use Rattle.wh_world.specs.declared.disk.Disk.{Ghosts}
 use Rattle.wh_engine.specs.Warehouse.{machine_of}
 use Rattle.wh_engine.specs.declared.warehouse.Warehouse.{Warehouse}

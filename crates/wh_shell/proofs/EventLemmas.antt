@@ -4,8 +4,8 @@
 use Rattle.std.proofs.Common.{◌≡◌, ℕ, List, [], ◌∷◌, Option, Some, None, refl, sym, ap, ◌∙◌, subst, option_map}
 use Rattle.wh_grammar.specs.Spelled.{Request, Asks}
 use Rattle.wh_grammar.specs.Script.{Line, CommandLine, SessionLine, TickLine, lines_of}
-use Rattle.wh_sessions.specs.Step.{Event, Command, Tick}
-use Rattle.wh_sessions.specs.Script.{HasEvents, ends, sets_session, ticks, ticks_at, commands, IsScript}
+use Rattle.wh_machine.specs.Step.{Event, Command, Tick}
+use Rattle.wh_machine.specs.Script.{HasEvents, ends, sets_session, ticks, ticks_at, commands, IsScript}
 use Rattle.wh_stmt_parse.specs.Request.{request_of}
 use Rattle.wh_stmt_parse.specs.Laws.{ReadsRequests}
 use Rattle.wh_stmt_parse.proofs.Reading.{requests_read}

@@ -3,9 +3,9 @@
 --     halts_behind     it was carried out, and a front of its reply was written
 use Rattle.std.proofs.Common.{◌≡◌, ⊎_elim, inl, inr, ℕ, List, [], refl, sym, ap, subst, append-nil, Option, Some, None}
 use Rattle.wh_reply.specs.Reply.{print}
-use Rattle.wh_machine.specs.File.{Stands}
-use Rattle.wh_sessions.specs.Outcome.{Machine, rest_of}
-use Rattle.wh_sessions.specs.Step.{Event, step}
+use Rattle.wh_state.specs.File.{Stands}
+use Rattle.wh_machine.specs.Outcome.{Machine, rest_of}
+use Rattle.wh_machine.specs.Step.{Event, step}
 use Rattle.wh_engine.specs.Leaves.{StandsForEither}
 use Rattle.wh_shell.specs.Writing.{Writes, WritesFront}
 use Rattle.wh_shell.specs.Crash.{Halts}

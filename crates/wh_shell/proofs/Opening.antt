@@ -7,14 +7,14 @@ use Rattle.std.proofs.Common.{◌≡◌, inl, inr, ℕ, ◌+◌, ◌≤◌, List
 use Rattle.std.proofs.Common.{append-nil, arith, Option, Some}
 use Rattle.std.proofs.lemmas.List.{append_cancel_left}
 use Rattle.wh_frame.specs.File.{records_of, GateEndsAt}
-use Rattle.wh_machine.specs.State.{State, at_rest}
-use Rattle.wh_machine.specs.Stored.{Stored, Means}
-use Rattle.wh_machine.specs.Spelling.{payload_of}
-use Rattle.wh_machine.specs.File.{Keeps, Stands}
-use Rattle.wh_sessions.specs.Sessions.{Sessions, no_sessions}
-use Rattle.wh_sessions.specs.Outcome.{Machine, opened}
-use Rattle.wh_sessions.specs.Step.{Event}
-use Rattle.wh_sessions.specs.Stop.{most_events, StandsWithin}
+use Rattle.wh_state.specs.State.{State, at_rest}
+use Rattle.wh_state.specs.Stored.{Stored, Means}
+use Rattle.wh_state.specs.Spelling.{payload_of}
+use Rattle.wh_state.specs.File.{Keeps, Stands}
+use Rattle.wh_machine.specs.Sessions.{Sessions, no_sessions}
+use Rattle.wh_machine.specs.Outcome.{Machine, opened}
+use Rattle.wh_machine.specs.Step.{Event}
+use Rattle.wh_machine.specs.Stop.{most_events, StandsWithin}
 use Rattle.wh_world.specs.Crash.{Only}
 use Rattle.wh_journal.specs.Crash.{LeavesOnly, IsKeptOrShort}
 use Rattle.wh_journal.proofs.CrashLemmas.{both, weaker, started}

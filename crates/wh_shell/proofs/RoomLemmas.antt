@@ -5,9 +5,9 @@
 use Rattle.std.proofs.Common.{◌≡◌, ℕ, ◌+◌, ◌<◌, List, [], ◌∷◌, Option, Some, None, refl, sym, ap, ◌∙◌, arith, rules}
 use Rattle.std.specs.Prelude.{IsTrue, true}
 use Rattle.std.proofs.lemmas.Bool.Decides.{nat_tests}
-use Rattle.wh_machine.specs.Commit.{Commit}
-use Rattle.wh_machine.specs.Written.{is_beyond, added_length}
-use Rattle.wh_sessions.specs.Step.{Event}
+use Rattle.wh_state.specs.Commit.{Commit}
+use Rattle.wh_state.specs.Written.{is_beyond, added_length}
+use Rattle.wh_machine.specs.Step.{Event}
 use Rattle.wh_shell.specs.Reading.{GivesEvent, EndsEvents}
 use Rattle.wh_shell.specs.Room.{Reach, made_at, first_beyond, HasRoom, LacksRoom, KeepsRoom, HasRoomForAll, IsFull}
 

@@ -7,10 +7,10 @@
 use Rattle.std.proofs.Common.{◌≡◌, ⊎_elim, inl, ℕ, ◌≤◌, List, [], ◌++◌, length, refl, sym, ap, subst, ◌∙◌, append_assoc}
 use Rattle.std.proofs.Common.{append-nil, length-append, Option, Some, None}
 use Rattle.std.specs.Prelude.{option_map, is_some, IsTrue}
-use Rattle.wh_machine.specs.State.{State}
-use Rattle.wh_machine.specs.File.{Stands}
-use Rattle.wh_sessions.specs.Outcome.{Machine, rest_of}
-use Rattle.wh_sessions.specs.Step.{Event, step, text}
+use Rattle.wh_state.specs.State.{State}
+use Rattle.wh_state.specs.File.{Stands}
+use Rattle.wh_machine.specs.Outcome.{Machine, rest_of}
+use Rattle.wh_machine.specs.Step.{Event, step, text}
 use Rattle.wh_world.specs.declared.disk.Disk.{Ghosts}
 use Rattle.wh_journal.specs.Crash.{LeavesOnly}
 use Rattle.wh_journal.proofs.CrashLemmas.{weaker, started}

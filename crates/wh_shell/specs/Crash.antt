@@ -5,10 +5,10 @@
 --     Halts            one command that wasn't answered in full
 use Rattle.std.specs.Prelude.{◌≡◌, ◌⊎◌, ℕ, List, [], ◌++◌, length, Option, Some}
 use Rattle.wh_reply.specs.Reply.{print}
-use Rattle.wh_machine.specs.File.{Stands}
-use Rattle.wh_sessions.specs.Outcome.{Machine, rest_of}
-use Rattle.wh_sessions.specs.Step.{Event, step}
-use Rattle.wh_sessions.specs.Stop.{whole_replies, most_events, StandsWithin}
+use Rattle.wh_state.specs.File.{Stands}
+use Rattle.wh_machine.specs.Outcome.{Machine, rest_of}
+use Rattle.wh_machine.specs.Step.{Event, step}
+use Rattle.wh_machine.specs.Stop.{whole_replies, most_events, StandsWithin}
 use Rattle.wh_journal.specs.Crash.{LeavesOnly}
 use Rattle.wh_shell.specs.Writing.{Writes}
 

@@ -3,8 +3,8 @@
 --     events          those of a script
 use Rattle.std.specs.Prelude.{ℕ, List, [], ◌∷◌, Option, Some, None}
 use Rattle.wh_grammar.specs.Script.{Line, CommandLine, SessionLine, TickLine, lines_of}
-use Rattle.wh_sessions.specs.Step.{Event, Tick}
-use Rattle.wh_engine.specs.Event.{command}
+use Rattle.wh_machine.specs.Step.{Event, Tick}
+use Rattle.wh_decide.specs.Event.{command}
 
 -- a session's line sets the session, and a tick's number the reading
 abbrev pub events_from : ℕ → ℕ → List Line → List Event

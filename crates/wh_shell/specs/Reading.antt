@@ -7,14 +7,14 @@
 --     FailsBy           why no event could be read
 use Rattle.std.specs.Prelude.{◌≡◌, ◌<◌, ◌^◌, ℕ, List, [], ◌∷◌, Option, Some, None, option_map}
 use Rattle.wh_grammar.specs.Script.{Line, lines_of}
-use Rattle.wh_sessions.specs.Step as machine
+use Rattle.wh_machine.specs.Step as machine
 use Rattle.wh_text.specs.Turn.{ahead_and}
 use Rattle.wh_text.specs.Script.{ahead_of, taken_of}
 use Rattle.wh_text.specs.declared.script.Script.{Script}
 use Rattle.wh_text.specs.declared.fault.ScriptFault.{ScriptFault}
 use Rattle.wh_text.specs.declared.fault.ScriptFault.TheVariants.{OutOfMemory, Read, TooLong}
-use Rattle.wh_engine.specs.Event.{event_of}
-use Rattle.wh_engine.specs.declared.event.Event.{Event}
+use Rattle.wh_decide.specs.Event.{event_of}
+use Rattle.wh_decide.specs.declared.event.Event.{Event}
 use Rattle.wh_shell.specs.Events.{events_from}
 use Rattle.wh_shell.specs.declared.reader.Reader.{Reader}
 

@@ -5,12 +5,12 @@
 --     IsFull, FillsBy        the first commit of a run that there is no room for
 use Rattle.std.specs.Prelude.{◌≡◌, ℕ, ◌+◌, ◌<◌, false, IsTrue, List, Option, Some, None}
 use Rattle.wh_frame.specs.File.{GateEndsAt}
-use Rattle.wh_machine.specs.Stored.{Stored}
-use Rattle.wh_machine.specs.Commit.{Commit}
-use Rattle.wh_machine.specs.Written.{kept_after, is_beyond, added_length}
-use Rattle.wh_sessions.specs.Outcome.{Machine}
-use Rattle.wh_sessions.specs.Step.{Event, step}
-use Rattle.wh_sessions.specs.Made.{made, overflow}
+use Rattle.wh_state.specs.Stored.{Stored}
+use Rattle.wh_state.specs.Commit.{Commit}
+use Rattle.wh_state.specs.Written.{kept_after, is_beyond, added_length}
+use Rattle.wh_machine.specs.Outcome.{Machine}
+use Rattle.wh_machine.specs.Step.{Event, step}
+use Rattle.wh_machine.specs.Made.{made, overflow}
 use Rattle.wh_world.specs.declared.disk.Disk.{Ghosts}
 use Rattle.wh_journal.specs.Journal.{end_of, limit_of}
 use Rattle.wh_catalog.specs.Catalog.{stored_of}

@@ -9,12 +9,12 @@
 use Rattle.std.specs.Prelude.{◌≡◌, ◌⊎◌, ℕ, ◌+◌, ◌<◌, ◌^◌, List, [], ◌∷◌, ◌++◌, map, length, codes, Option, Some, String}
 use Rattle.std.specs.Prelude.{string_bytes}
 use Rattle.std.specs.Global.{Global}
-use Rattle.wh_machine.specs.State.{State}
-use Rattle.wh_machine.specs.File.{Stands}
-use Rattle.wh_machine.specs.Fault.{IsFirstFault}
-use Rattle.wh_sessions.specs.Outcome.{Machine, rest_of}
-use Rattle.wh_sessions.specs.Step.{Event, after, text, refusals}
-use Rattle.wh_sessions.specs.Script.{IsScript}
+use Rattle.wh_state.specs.State.{State}
+use Rattle.wh_state.specs.File.{Stands}
+use Rattle.wh_state.specs.Fault.{IsFirstFault}
+use Rattle.wh_machine.specs.Outcome.{Machine, rest_of}
+use Rattle.wh_machine.specs.Step.{Event, after, text, refusals}
+use Rattle.wh_machine.specs.Script.{IsScript}
 use Rattle.wh_world.specs.Crash.{Only}
 use Rattle.wh_shell.specs.declared.fault.Fault.{Fault}
 use Rattle.wh_shell.specs.declared.fault.Fault.TheVariants.{OutOfMemory, Disk, NotWarehouse}

@@ -6,9 +6,9 @@
 --     Goes               what the turns so far did
 use Rattle.std.specs.Prelude.{◌≡◌, ℕ, ◌≤◌, List, [], ◌∷◌, ◌++◌, length, Option, Some, if◌then◌else◌}
 use Rattle.wh_reply.specs.Reply.{is_refusal, print}
-use Rattle.wh_sessions.specs.Outcome.{Machine}
-use Rattle.wh_sessions.specs.Step.{Event, step, after, text, refusals}
-use Rattle.wh_sessions.specs.Stop.{StandsWithin}
+use Rattle.wh_machine.specs.Outcome.{Machine}
+use Rattle.wh_machine.specs.Step.{Event, step, after, text, refusals}
+use Rattle.wh_machine.specs.Stop.{StandsWithin}
 use Rattle.wh_journal.specs.Crash.{LeavesOnly}
 use Rattle.wh_shell.specs.Reading.{EndsEvents}
 use Rattle.wh_shell.specs.Run.{IsFront}

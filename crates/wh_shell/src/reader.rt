@@ -21,7 +21,7 @@ impl Reader {
     ghost use Rattle.wh_text.specs.View.{line_view};
     ghost use Rattle.wh_text.specs.Turn.{ahead_and};
     ghost use Rattle.wh_text.specs.Script.{ahead_of, taken_of, consumed_of, fault_of, Counts};
-    ghost use Rattle.wh_engine.specs.Event.{event_of};
+    ghost use Rattle.wh_decide.specs.Event.{event_of};
     ghost use Rattle.wh_shell.specs.Events.{events};
     ghost use Rattle.wh_shell.specs.Reading.{unread, GivesEvent, EndsEvents, Turns, FailsBy};
 

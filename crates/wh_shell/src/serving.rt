@@ -6,7 +6,7 @@ ghost use Rattle.wh_reply.specs.View.{reply_view};
 ghost use Rattle.wh_world.specs.Told.{Rose};
 ghost use Rattle.wh_text.specs.Script.{taken_of, consumed_of, fault_of, Counts};
 ghost use Rattle.wh_journal.specs.Journal.{limit_of};
-ghost use Rattle.wh_engine.specs.Event.{event_of};
+ghost use Rattle.wh_decide.specs.Event.{event_of};
 ghost use Rattle.wh_engine.specs.Warehouse.{machine_of, led_to};
 ghost use Rattle.wh_engine.specs.Leaves.{Leaves};
 ghost use Rattle.wh_shell.specs.Events.{events};

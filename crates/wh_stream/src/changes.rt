@@ -1,16 +1,16 @@
 //! The changes that a stream shows, as its source's table keeps them.
 ghost use Rattle.std.specs.Prelude.{◌≡◌, IfOk};
-ghost use Rattle.wh_machine.specs.Stored.{table_meant};
-ghost use Rattle.wh_streams.specs.Stream.{shown};
+ghost use Rattle.wh_state.specs.Stored.{table_meant};
+ghost use Rattle.wh_net.specs.Stream.{shown};
 ghost use Rattle.wh_table.specs.Table.{table_of};
 ghost use Rattle.wh_catalog.specs.Catalog.{state_of};
 ghost use Rattle.wh_catalog.specs.Stream.{stream_of};
-ghost use Rattle.wh_change.specs.Record.{records_of};
+ghost use Rattle.wh_change.specs.RowChange.{row_changes_of};
 ghost use Rattle.wh_stream.specs.Shown.{records_shown};
 
 use std::alloc::{AllocError, Global};
 use wh_catalog::{Catalog, StoredStream};
-use wh_change::{Record, appends, net_changes};
+use wh_change::{RowChange, appends, net_changes};
 use wh_table::StoredTable;
 
 /// The changes behind the stream's offset, up to the start.
@@ -19,8 +19,8 @@ pub(crate) fn changes<'a>(
     catalog: &'a Catalog,
     stream: &StoredStream,
     start: u64,
-) -> Result<Vec<Record<'a>>, AllocError>
-    ensures { IfOk result (λ records. records_of records.items
+) -> Result<Vec<RowChange<'a>>, AllocError>
+    ensures { IfOk result (λ records. row_changes_of records.items
         ≡ records_shown (state_of catalog.now).objects (stream_of stream.now) start) }
 {
     match catalog.table(stream.source()) {
@@ -29,14 +29,14 @@ pub(crate) fn changes<'a>(
     }
 }
 
-#[tactic(auto, unfolding(wh_streams::specs::Stream::shown))]
+#[tactic(auto, unfolding(wh_net::specs::Stream::shown))]
 fn changes_of<'a>(
     alloc: Global,
     table: &'a StoredTable,
     stream: &StoredStream,
     start: u64,
-) -> Result<Vec<Record<'a>>, AllocError>
-    ensures { IfOk result (λ records. records_of records.items
+) -> Result<Vec<RowChange<'a>>, AllocError>
+    ensures { IfOk result (λ records. row_changes_of records.items
         ≡ shown (table_meant (table_of table.now)) (stream_of stream.now) start) }
 {
     let offset = stream.offset();

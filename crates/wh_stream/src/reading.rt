@@ -1,8 +1,6 @@
 //! What a statement that reads a stream is told.
 ghost use Rattle.std.specs.Prelude.{◌≡◌, option_map, IfOk};
-ghost use Rattle.wh_reply.specs.Reply.{StaleStream};
-ghost use Rattle.wh_streams.specs.Stream.{rows_shown};
-ghost use Rattle.wh_sessions.specs.Reading.{has_rows, is_gone, stale_refusal};
+ghost use Rattle.wh_net.specs.Stream.{rows_shown, has_rows, is_gone, stale_at};
 ghost use Rattle.wh_catalog.specs.Catalog.{state_of};
 ghost use Rattle.wh_catalog.specs.Stream.{stream_of};
 
@@ -52,7 +50,7 @@ pub fn is_gone(catalog: &Catalog, id: u32) -> bool
     }
 }
 
-ghost use Rattle.wh_machine.specs.Objects.{is_live_at};
+ghost use Rattle.wh_state.specs.Objects.{is_live_at};
 
 fn is_live(catalog: &Catalog, id: u32) -> bool
     ensures { result ≡ is_live_at (state_of catalog.now).objects id }
@@ -65,8 +63,8 @@ fn is_live(catalog: &Catalog, id: u32) -> bool
 
 /// The stream of an id, where its offset lies too far back to be read at a stamp.
 pub fn stale(catalog: &Catalog, id: u32, stamp: u64) -> Option<Stale>
-    ensures { option_map (λ stale. StaleStream stale.offset stale.until) result
-        ≡ stale_refusal (state_of catalog.now).objects stamp id }
+    ensures { option_map (λ stale. (stale.offset, stale.until)) result
+        ≡ stale_at (state_of catalog.now).objects stamp id }
 {
     let stream = catalog.stream(id)?;
     let table = catalog.table(stream.source())?;

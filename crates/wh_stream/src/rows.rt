@@ -1,12 +1,12 @@
 //! Records as rows: the source's values, and three behind them.
 ghost use Rattle.std.specs.Prelude.{◌≡◌, ◌++◌, ◌∷◌, [], map, IfOk};
 ghost use Rattle.wh_value.specs.Value as machine;
-ghost use Rattle.wh_streams.specs.Stream.{shown_row};
-ghost use Rattle.wh_change.specs.Record.{record_of, records_of};
+ghost use Rattle.wh_net.specs.Stream.{shown_row};
+ghost use Rattle.wh_change.specs.RowChange.{row_change_of, row_changes_of};
 
 use crate::texts::{ActionTexts, RowIds};
 use std::alloc::{AllocError, Global};
-use wh_change::Record;
+use wh_change::RowChange;
 use wh_value::{Row, Value};
 
 /// How many values stand behind the source's.
@@ -16,9 +16,9 @@ const METADATA_COUNT: usize = 3;
 pub(crate) fn shown_rows(
     alloc: Global,
     source: u32,
-    records: &[Record<'_>],
+    records: &[RowChange<'_>],
 ) -> Result<Vec<Row>, AllocError>
-    ensures { IfOk result (λ rows. rows.items ≡ map (shown_row source) (records_of records.now)) }
+    ensures { IfOk result (λ rows. rows.items ≡ map (shown_row source) (row_changes_of records.now)) }
 {
     let actions = ActionTexts::new(alloc)?;
     let ids = RowIds::new(alloc, source)?;
@@ -33,9 +33,9 @@ fn shown_row(
     alloc: Global,
     actions: &ActionTexts,
     ids: &RowIds,
-    change: &Record<'_>,
+    change: &RowChange<'_>,
 ) -> Result<Row, AllocError>
-    ensures { IfOk result (λ row. row ≡ shown_row ids.now.source (record_of change.now)) }
+    ensures { IfOk result (λ row. row ≡ shown_row ids.now.source (row_change_of change.now)) }
 {
     let mut row = copy_with_room(alloc, change.row)?;
     row.push(Value::Text(actions.of(alloc, change.action)?))?;

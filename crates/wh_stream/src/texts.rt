@@ -1,12 +1,12 @@
 //! The texts behind a row's values. What the rows of a read have in common is made once.
 ghost use Rattle.std.specs.Prelude.{◌≡◌, ◌≤◌, ◌++◌, length, codes, decimal, string_bytes, IfOk};
-ghost use Rattle.wh_streams.specs.Net.{Delete, Insert};
-ghost use Rattle.wh_streams.specs.Stream.{action_text, row_id_text};
-ghost use Rattle.wh_change.specs.Record.{action_of};
+ghost use Rattle.wh_net.specs.Net.{Delete, Insert};
+ghost use Rattle.wh_net.specs.Stream.{action_text, row_id_text};
+ghost use Rattle.wh_change.specs.RowChange.{action_of};
 
 use itoa::Buffer;
 use std::alloc::{AllocError, Global};
-use wh_change::Action;
+use wh_change::RowAction;
 use wh_value::Text;
 
 /// The texts of both actions.
@@ -26,12 +26,12 @@ impl ActionTexts {
     }
 
     /// A copy of an action's text.
-    pub(crate) fn of(&self, alloc: Global, action: Action) -> Result<Text, AllocError>
+    pub(crate) fn of(&self, alloc: Global, action: RowAction) -> Result<Text, AllocError>
         ensures { IfOk result (λ text. text ≡ action_text (action_of action)) }
     {
         match action {
-            Action::Delete => self.delete.copy(alloc),
-            Action::Insert => self.insert.copy(alloc),
+            RowAction::Delete => self.delete.copy(alloc),
+            RowAction::Insert => self.insert.copy(alloc),
         }
     }
 }

@@ -8,8 +8,8 @@ use Rattle.std.specs.Prelude.{◌&&◌, ◌||◌, not}
 use Rattle.std.specs.List.{AllByRecursion, list_all}
 use Rattle.std.proofs.lemmas.Bool.Decides.{Decides-and, Decides-or, Decides-ltb}
 use Rattle.wh_frame.specs.Partition.{Partition, first_number, last_number}
-use Rattle.wh_machine.specs.Commit.{AreApart, AllApart}
-use Rattle.wh_machine.specs.Edits.{without, is_among}
+use Rattle.wh_state.specs.Commit.{AreApart, AllApart}
+use Rattle.wh_state.specs.Edits.{without, is_among}
 use Rattle.wh_version.specs.declared.kept.Kept.{Kept}
 use Rattle.wh_version.specs.Kept.{is_standing, partitions_in}
 use Rattle.wh_table.specs.Apart.{are_apart, all_apart, highest_number}

@@ -7,9 +7,9 @@ use Rattle.std.specs.List.{list_all, AllByRecursion}
 use Rattle.std.specs.FinMap.{entries}
 use Rattle.wh_value.specs.Value.{Row}
 use Rattle.wh_frame.specs.Partition.{Partition}
-use Rattle.wh_machine.specs.Commit.{AllApart}
-use Rattle.wh_machine.specs.Orderly.{HasRisingRows}
-use Rattle.wh_machine.specs.Stored.{StoredVersion, rows_of}
+use Rattle.wh_state.specs.Commit.{AllApart}
+use Rattle.wh_state.specs.Orderly.{HasRisingRows}
+use Rattle.wh_state.specs.Stored.{StoredVersion, rows_of}
 use Rattle.wh_version.specs.Arrivals.{IsArrival}
 use Rattle.wh_version.specs.History.{standing_in}
 use Rattle.wh_table.specs.Apart.{is_apart, is_rising}

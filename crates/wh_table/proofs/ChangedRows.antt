@@ -12,12 +12,12 @@ use Rattle.std.specs.FinMap.{get, insert, empty, entries, get-empty}
 use Rattle.wh_value.specs.Value.{Row}
 use Rattle.wh_frame.specs.Partition.{Partition, first_number, last_number}
 use Rattle.wh_frame.specs.Spelling.{RisesFrom}
-use Rattle.wh_machine.specs.State.{Rows, with_entries, content_in}
-use Rattle.wh_machine.specs.Stored.{StoredVersion, rows_of}
-use Rattle.wh_machine.specs.Commit.{AreApart, AllApart}
-use Rattle.wh_machine.specs.Orderly.{HasRisingRows}
-use Rattle.wh_machine.proofs.AllLaws.{all_map, all_both}
-use Rattle.wh_machine.proofs.RowLaws.{number_tied, put_get}
+use Rattle.wh_state.specs.State.{Rows, with_entries, content_in}
+use Rattle.wh_state.specs.Stored.{StoredVersion, rows_of}
+use Rattle.wh_state.specs.Commit.{AreApart, AllApart}
+use Rattle.wh_state.specs.Orderly.{HasRisingRows}
+use Rattle.wh_state.proofs.AllLaws.{all_map, all_both}
+use Rattle.wh_state.proofs.RowLaws.{number_tied, put_get}
 use Rattle.wh_version.specs.History.{standing_in}
 use Rattle.wh_version.specs.Times.{data_at}
 use Rattle.wh_version.specs.Turnover.{IsMixed, IsTurnover}

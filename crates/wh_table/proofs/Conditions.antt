@@ -10,10 +10,10 @@ use Rattle.wh_value.specs.Fits.{row_fits}
 use Rattle.wh_value.specs.Limit.{bound}
 use Rattle.wh_value.specs.declared.limit.Limit.TheVariants as limits
 use Rattle.wh_frame.specs.Partition.{Partition}
-use Rattle.wh_machine.specs.State.{last_of}
-use Rattle.wh_machine.specs.Stored.{StoredVersion, StoredTable, standing}
-use Rattle.wh_machine.specs.Commit.{VersionChange, NumberedFrom, RowsFit, Stands, DoesNotFall, AllApart, VersionApplies}
-use Rattle.wh_machine.specs.Edits.{without}
+use Rattle.wh_state.specs.State.{last_of}
+use Rattle.wh_state.specs.Stored.{StoredVersion, StoredTable, standing}
+use Rattle.wh_state.specs.Commit.{VersionChange, NumberedFrom, RowsFit, Stands, DoesNotFall, AllApart, VersionApplies}
+use Rattle.wh_state.specs.Edits.{without}
 use Rattle.wh_version.specs.Kept.{numbered_from}
 use Rattle.wh_table.specs.Conditions.{entry_fits, partition_fits, does_not_fall, is_standing_number, is_formed}
 use Rattle.wh_table.specs.Conditions.{partitions_apply, version_applies}

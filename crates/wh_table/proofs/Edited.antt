@@ -2,13 +2,13 @@
 --     edited_rows      the rows of the partitions that stay and of those that are made are the rows after the edits
 --     edited_apart     these partitions are apart
 use Rattle.std.proofs.Common.{◌≡◌, ℕ, ◌∷◌, [], ◌++◌, ap, sym, ◌∙◌}
-use Rattle.wh_machine.specs.State.{last_of, content_in, last_rows}
-use Rattle.wh_machine.specs.Commit.{AllApart, pushed}
-use Rattle.wh_machine.specs.Edits.{Edits, without}
-use Rattle.wh_machine.specs.Outcome.{edited_table}
-use Rattle.wh_machine.specs.Stored.{StoredVersion, standing, rows_of, table_meant}
-use Rattle.wh_machine.proofs.ActLaws.{version_change, edited_meant, orderly_standing}
-use Rattle.wh_machine.proofs.MeaningLaws.{last_rows_meant}
+use Rattle.wh_state.specs.State.{last_of, content_in, last_rows}
+use Rattle.wh_state.specs.Commit.{AllApart, pushed}
+use Rattle.wh_state.specs.Edits.{Edits, without}
+use Rattle.wh_state.specs.Act.{edited_table}
+use Rattle.wh_state.specs.Stored.{StoredVersion, standing, rows_of, table_meant}
+use Rattle.wh_state.proofs.ActLaws.{version_change, edited_meant, orderly_standing}
+use Rattle.wh_state.proofs.MeaningLaws.{last_rows_meant}
 use Rattle.wh_version.specs.History.{versions_of}
 use Rattle.wh_table.specs.declared.editing.EditedTable.{EditedTable}
 use Rattle.wh_table.specs.declared.table.StoredTable.{StoredTable}

@@ -4,8 +4,8 @@ use Rattle.std.proofs.Common.{◌∷◌, length, map, filter, take, IsTrue, refl
 use Rattle.std.proofs.lemmas.Bool.{and_parts, and_from, eqb-true}
 use Rattle.std.specs.Prelude.{nat_eq}
 use Rattle.std.specs.List.{AllByRecursion, list_all}
-use Rattle.wh_machine.specs.Spelling.{NumbersRiseFrom}
-use Rattle.wh_machine.specs.Orderly.{IsOrderly, IsOrderlyVersion, IsOrderlyTable}
+use Rattle.wh_state.specs.Spelling.{NumbersRiseFrom}
+use Rattle.wh_state.specs.Orderly.{IsOrderly, IsOrderlyVersion, IsOrderlyTable}
 use Rattle.wh_version.specs.declared.kept.Kept.{Kept}
 use Rattle.wh_version.specs.declared.mark.VersionMark.{VersionMark}
 use Rattle.wh_version.specs.Kept.{partitions_in, numbered_from, stands_at, version_by, versions_by}

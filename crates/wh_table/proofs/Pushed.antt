@@ -4,8 +4,8 @@ use Rattle.std.proofs.Common.{◌∙◌, arith, length-append}
 use Rattle.std.proofs.lemmas.List.{take-append-le, take_all}
 use Rattle.std.specs.List.{list_all}
 use Rattle.std.proofs.lemmas.Bool.{and_parts}
-use Rattle.wh_machine.specs.State.{last_of, content_in, nothing_held}
-use Rattle.wh_machine.specs.Stored.{StoredVersion, version_meant, rows_of}
+use Rattle.wh_state.specs.State.{last_of, content_in, nothing_held}
+use Rattle.wh_state.specs.Stored.{StoredVersion, version_meant, rows_of}
 use Rattle.wh_version.specs.Lists.{shortened, but_last}
 use Rattle.wh_version.specs.History.{standing_in, next_in}
 use Rattle.wh_table.specs.Apart.{all_apart, is_apart}

@@ -6,8 +6,8 @@ use Rattle.std.specs.List.{list_all, AllByRecursion}
 use Rattle.wh_value.specs.Value.{Row}
 use Rattle.wh_frame.specs.Partition.{Partition}
 use Rattle.wh_frame.specs.Spelling.{RisesFrom}
-use Rattle.wh_machine.specs.Stored.{StoredVersion}
-use Rattle.wh_machine.specs.Orderly.{HasRisingRows}
+use Rattle.wh_state.specs.Stored.{StoredVersion}
+use Rattle.wh_state.specs.Orderly.{HasRisingRows}
 use Rattle.wh_part.specs.Decoding.{rises_from}
 use Rattle.wh_part.proofs.PartitionLaws.{rising_is}
 use Rattle.wh_version.specs.Lists.{shortened}

@@ -5,7 +5,7 @@ use Rattle.std.specs.Prelude.{not, ◌&&◌}
 use Rattle.std.specs.List.{AllByRecursion}
 use Rattle.std.proofs.lemmas.List.{take_more}
 use Rattle.wh_frame.specs.Partition.{Partition}
-use Rattle.wh_machine.specs.Edits.{without, is_among}
+use Rattle.wh_state.specs.Edits.{without, is_among}
 use Rattle.wh_version.specs.declared.kept.Kept.{Kept}
 use Rattle.wh_version.specs.Kept.{is_standing, partitions_in}
 use Rattle.wh_table.specs.Rows.{all_rows}

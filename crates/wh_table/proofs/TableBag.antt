@@ -13,9 +13,9 @@ use Rattle.wh_value.specs.Value.{Row}
 use Rattle.wh_meaning.specs.Bag.{with_row, bag_of}
 use Rattle.wh_frame.specs.Partition.{Partition, first_number, last_number}
 use Rattle.wh_frame.specs.Spelling.{RisesFrom}
-use Rattle.wh_machine.specs.State.{Rows, with_entries}
-use Rattle.wh_machine.specs.Stored.{rows_of}
-use Rattle.wh_machine.specs.Commit.{AreApart, AllApart}
+use Rattle.wh_state.specs.State.{Rows, with_entries}
+use Rattle.wh_state.specs.Stored.{rows_of}
+use Rattle.wh_state.specs.Commit.{AreApart, AllApart}
 use Rattle.wh_table.specs.Rows.{rows_only, all_rows}
 use Rattle.wh_meaning.proofs.BagLaws.{with_row-with_row}
 

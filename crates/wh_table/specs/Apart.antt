@@ -5,7 +5,7 @@
 use Rattle.std.specs.Prelude.{ℕ, max, Bool, true, ◌&&◌, ◌||◌, List, [], ◌∷◌, nat_lt}
 use Rattle.std.specs.List.{list_all}
 use Rattle.wh_frame.specs.Partition.{Partition, first_number, last_number}
-use Rattle.wh_machine.specs.Stored.{StoredVersion}
+use Rattle.wh_state.specs.Stored.{StoredVersion}
 use Rattle.wh_part.specs.Decoding.{rises_from}
 
 abbrev pub are_apart : Partition → Partition → Bool

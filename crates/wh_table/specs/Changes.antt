@@ -5,8 +5,8 @@
 use Rattle.std.specs.Prelude.{◌≡◌, ℕ, ◌⊎◌, List, ◌∷◌, Option, None}
 use Rattle.std.specs.FinMap.{get, entries}
 use Rattle.wh_value.specs.Value.{Row}
-use Rattle.wh_machine.specs.State.{Rows}
-use Rattle.wh_machine.specs.Stored.{StoredVersion, rows_of}
+use Rattle.wh_state.specs.State.{Rows}
+use Rattle.wh_state.specs.Stored.{StoredVersion, rows_of}
 use Rattle.wh_version.specs.History.{standing_in}
 
 abbrev pub IsShown : Option Row → Option Row → Option Row → Option Row → Type 0

@@ -1,8 +1,8 @@
 -- What edits that are in no version yet make of a table.
 use Rattle.std.specs.Prelude.{◌≡◌}
-use Rattle.wh_machine.specs.Commit.{AllApart}
-use Rattle.wh_machine.specs.Edits.{Edits, numbers_gone, partitions_made, without}
-use Rattle.wh_machine.specs.Stored.{StoredTable, standing}
+use Rattle.wh_state.specs.Commit.{AllApart}
+use Rattle.wh_state.specs.Edits.{Edits, numbers_gone, partitions_made, without}
+use Rattle.wh_state.specs.Stored.{StoredTable, standing}
 use Rattle.wh_table.specs.declared.editing.EditedTable.{EditedTable}
 
 -- by the cutting rule; what is made is apart from what stays

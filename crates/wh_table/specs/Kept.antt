@@ -4,7 +4,7 @@
 --     taken_back     the table without its last version
 use Rattle.std.specs.Prelude.{ℕ, List}
 use Rattle.wh_value.specs.Column.{Column}
-use Rattle.wh_machine.specs.Stored.{StoredVersion, StoredTable}
+use Rattle.wh_state.specs.Stored.{StoredVersion, StoredTable}
 use Rattle.wh_version.specs.Lists.{shortened}
 use Rattle.wh_version.specs.History.{next_in}
 

@@ -1,7 +1,7 @@
 -- What a `StoredTable` stands for.
 use Rattle.std.specs.Prelude.{map}
 use Rattle.wh_value.specs.View.{column_of}
-use Rattle.wh_machine.specs.Stored as machine
+use Rattle.wh_state.specs.Stored as machine
 use Rattle.wh_version.specs.History.{versions_of, nexts_of}
 use Rattle.wh_table.specs.declared.table.StoredTable.{StoredTable}
 use Rattle.wh_table.specs.Kept.{KeptTable, table_in}

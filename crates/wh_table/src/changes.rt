@@ -5,8 +5,8 @@ use wh_version::{Arrivals, Front, Turnover};
 
 impl StoredTable {
     ghost use Rattle.std.specs.Prelude.{◌≡◌, ◌<◌, ◌≤◌, [], length, take, drop, IfOk};
-    ghost use Rattle.wh_machine.specs.State.{content_in};
-    ghost use Rattle.wh_machine.specs.Stored.{rows_of};
+    ghost use Rattle.wh_state.specs.State.{content_in};
+    ghost use Rattle.wh_state.specs.Stored.{rows_of};
     ghost use Rattle.wh_version.specs.Arrivals.{IsFront};
     ghost use Rattle.wh_version.specs.Times.{data_at};
     ghost use Rattle.wh_table.specs.Changes.{AreChanges, AreArrivals};

@@ -1,7 +1,7 @@
 //! Partitions compared with each other.
 ghost use Rattle.std.specs.Prelude.{◌≡◌, ◌&&◌, ◌||◌, not, filter};
 ghost use Rattle.std.specs.List.{list_all};
-ghost use Rattle.wh_machine.specs.Edits.{without, is_among};
+ghost use Rattle.wh_state.specs.Edits.{without, is_among};
 ghost use Rattle.wh_version.specs.Kept.{is_standing, partitions_in};
 ghost use Rattle.wh_table.specs.Apart.{are_apart, all_apart};
 

@@ -19,10 +19,10 @@ impl StoredTable {
     ghost use Rattle.std.specs.Prelude.{◌≡◌, ℕ, IfOk};
     ghost use Rattle.std.specs.FinMap.{entries, values};
     ghost use Rattle.wh_meaning.specs.Bag.{bag_of};
-    ghost use Rattle.wh_machine.specs.State.{last_rows};
-    ghost use Rattle.wh_machine.specs.Edits as machine;
-    ghost use Rattle.wh_machine.specs.Outcome.{edited_table};
-    ghost use Rattle.wh_machine.specs.Stored.{table_meant};
+    ghost use Rattle.wh_state.specs.State.{last_rows};
+    ghost use Rattle.wh_state.specs.Edits as machine;
+    ghost use Rattle.wh_state.specs.Act.{edited_table};
+    ghost use Rattle.wh_state.specs.Stored.{table_meant};
     ghost use Rattle.wh_version.specs.Edits.{edits_in};
     ghost use Rattle.wh_table.specs.Edited.{IsEdited};
     ghost use Rattle.wh_table.specs.Rows.{rows_at, all_rows, partitions_at};
@@ -74,8 +74,8 @@ impl StoredTable {
 
 ghost use Rattle.std.specs.Prelude.{◌≡◌, ◌&&◌, not, ◌++◌, ◌∷◌, [], filter, OnOk, IfOk};
 ghost use Rattle.std.specs.List.{AllByRecursion};
-ghost use Rattle.wh_machine.specs.Edits.{without, is_among};
-ghost use Rattle.wh_machine.specs.Orderly.{HasRisingRows};
+ghost use Rattle.wh_state.specs.Edits.{without, is_among};
+ghost use Rattle.wh_state.specs.Orderly.{HasRisingRows};
 ghost use Rattle.wh_version.specs.Kept.{is_standing, partitions_in};
 ghost use Rattle.wh_table.specs.Rows.{partitions_at};
 

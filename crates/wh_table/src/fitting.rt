@@ -46,7 +46,7 @@ ghost use Rattle.wh_value.specs.View.{column_of};
 ghost use Rattle.wh_part.specs.View.{numbered_of};
 ghost use Rattle.wh_version.specs.Kept.{numbered_from};
 ghost use Rattle.wh_version.specs.History.{versions_of, standing_in};
-ghost use Rattle.wh_machine.specs.Edits.{without};
+ghost use Rattle.wh_state.specs.Edits.{without};
 ghost use Rattle.wh_table.specs.Apart.{all_apart, highest_number};
 ghost use Rattle.wh_table.specs.Conditions.{is_standing_number, entry_fits, partition_fits, rises_above};
 

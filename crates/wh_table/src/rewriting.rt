@@ -6,8 +6,8 @@ impl StoredTable {
     ghost use Rattle.std.specs.Prelude.{◌≡◌, ◌+◌, ◌≤◌, length, nat_le, is_some, IfOk, IfSome};
     ghost use Rattle.wh_value.specs.Limit.{bound};
     ghost use Rattle.wh_value.specs.declared.limit.Limit.TheVariants as limits;
-    ghost use Rattle.wh_machine.specs.Stored.{standing};
-    ghost use Rattle.wh_machine.specs.Edits.{numbers_gone, partitions_made};
+    ghost use Rattle.wh_state.specs.Stored.{standing};
+    ghost use Rattle.wh_state.specs.Edits.{numbers_gone, partitions_made};
     ghost use Rattle.wh_version.specs.Edits.{edits_in};
     ghost use Rattle.wh_table.specs.Table.{table_of};
 

@@ -7,8 +7,8 @@ impl StoredTable {
     ghost use Rattle.std.specs.Prelude.{◌≡◌, IfOk};
     ghost use Rattle.std.specs.FinMap.{values};
     ghost use Rattle.wh_meaning.specs.Bag.{bag_of};
-    ghost use Rattle.wh_machine.specs.State.{last_rows};
-    ghost use Rattle.wh_machine.specs.Stored.{table_meant};
+    ghost use Rattle.wh_state.specs.State.{last_rows};
+    ghost use Rattle.wh_state.specs.Stored.{table_meant};
     ghost use Rattle.wh_table.specs.Rows.{rows_at};
     ghost use Rattle.wh_table.specs.Table.{table_of};
 

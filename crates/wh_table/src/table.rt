@@ -30,7 +30,7 @@ impl StoredTable {
     ghost use Rattle.wh_value.specs.View.{column_of};
     ghost use Rattle.wh_value.specs.Limit.{bound};
     ghost use Rattle.wh_value.specs.declared.limit.Limit.TheVariants as limits;
-    ghost use Rattle.wh_machine.specs.State.{new_table};
+    ghost use Rattle.wh_state.specs.State.{new_table};
     ghost use Rattle.wh_version.specs.Times.{data_at, visible_at};
     ghost use Rattle.wh_version.specs.Version.{version_in};
     ghost use Rattle.wh_table.specs.Table.{table_of};

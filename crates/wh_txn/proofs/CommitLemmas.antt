@@ -4,16 +4,16 @@
 use Rattle.std.proofs.Common.{◌≡◌, ℕ, suc, ◌+◌, ◌<◌, ◌≤◌, Bool, true, false, cond, List, [], ◌∷◌, ◌++◌, length, map}
 use Rattle.std.proofs.Common.{Option, Some, None, option_map, refl, sym, ap, ◌∙◌, append_assoc, arith}
 use Rattle.std.specs.Prelude.{nat_lt}
-use Rattle.wh_machine.specs.State.{Object, Stream, at_id}
-use Rattle.wh_machine.specs.Stored.{Stored, StoredObject}
-use Rattle.wh_machine.specs.Commit.{Change, SetsOffset, Commit, changed, all_changed}
-use Rattle.wh_machine.specs.Objects.{stream_at}
-use Rattle.wh_machine.specs.Outcome.{Act, MakesTable, DropsObject, EditsRows, MakesStream, MovesOffset}
-use Rattle.wh_machine.specs.Streams.{offset_move, offset_moves, acts_of_commit}
-use Rattle.wh_machine.specs.Written.{version_written_to, act_written, written, commit_for}
-use Rattle.wh_machine.proofs.ActLaws.{AreMoves, edit_leaves}
-use Rattle.wh_sessions.specs.Transaction.{Staged, Transaction, start_of, touched, acts_of, edit_act}
-use Rattle.wh_sessions.proofs.EntryLaws.{RiseFrom, entries_rise}
+use Rattle.wh_state.specs.State.{Object, Stream, at_id}
+use Rattle.wh_state.specs.Stored.{Stored, StoredObject}
+use Rattle.wh_state.specs.Commit.{Change, SetsOffset, Commit, changed, all_changed}
+use Rattle.wh_state.specs.Objects.{stream_at}
+use Rattle.wh_state.specs.Act.{Act, MakesTable, DropsObject, EditsRows, MakesStream, MovesOffset}
+use Rattle.wh_machine.specs.Offsets.{offset_move, offset_moves, acts_of_commit}
+use Rattle.wh_state.specs.Written.{version_written_to, act_written, written, commit_for}
+use Rattle.wh_state.proofs.ActLaws.{AreMoves, edit_leaves}
+use Rattle.wh_machine.specs.Transaction.{Staged, Transaction, start_of, touched, acts_of, edit_act}
+use Rattle.wh_machine.proofs.EntryLaws.{RiseFrom, entries_rise}
 use Rattle.wh_txn.specs.Recording.{version_for, versions_for, offset_written, offsets_written}
 
 -- ---- moves of offsets

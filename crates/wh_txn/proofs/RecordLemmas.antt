@@ -9,18 +9,18 @@ use Rattle.std.proofs.lemmas.Bool.Decides.{nat_tests}
 use Rattle.wh_value.specs.Limit.{bound}
 use Rattle.wh_value.specs.declared.limit.Limit.{Limit}
 use Rattle.wh_value.specs.declared.limit.Limit.TheVariants as limits
-use Rattle.wh_machine.specs.State.{Object, Table, at_id}
-use Rattle.wh_machine.specs.Edits.{Edits, partitions_made}
-use Rattle.wh_machine.specs.Stored.{StoredTable, StoredKind, StoredTableKind, StoredStreamKind, StoredObject}
-use Rattle.wh_machine.specs.Stored.{standing, table_meant}
-use Rattle.wh_machine.specs.Commit.{Change}
-use Rattle.wh_machine.specs.Written.{version_written, version_written_to}
-use Rattle.wh_machine.proofs.MeaningLaws.{last_partitions_meant}
+use Rattle.wh_state.specs.State.{Object, Table, at_id}
+use Rattle.wh_state.specs.Edits.{Edits, partitions_made}
+use Rattle.wh_state.specs.Stored.{StoredTable, StoredKind, StoredTableKind, StoredStreamKind, StoredObject}
+use Rattle.wh_state.specs.Stored.{standing, table_meant}
+use Rattle.wh_state.specs.Commit.{Change}
+use Rattle.wh_state.specs.Written.{version_written, version_written_to}
+use Rattle.wh_state.proofs.MeaningLaws.{last_partitions_meant}
 use Rattle.wh_catalog.specs.Catalog.{stored_of, state_of, stored_table_at, table_in_object}
 use Rattle.wh_catalog.specs.declared.catalog.Catalog.{Catalog}
-use Rattle.wh_sessions.specs.Transaction.{Staged, Transaction, touched}
-use Rattle.wh_sessions.specs.Transaction.{first_past, row_past, partition_past, past_limit, or_else}
-use Rattle.wh_sessions.specs.Transaction.{next_row_of, next_partition_of}
+use Rattle.wh_machine.specs.Transaction.{Staged, Transaction, touched}
+use Rattle.wh_machine.specs.Transaction.{first_past, row_past, partition_past, past_limit, or_else}
+use Rattle.wh_machine.specs.Transaction.{next_row_of, next_partition_of}
 use Rattle.wh_txn.specs.Recording.{version_for}
 use Rattle.wh_txn.proofs.SeenLemmas.{catalog_table}
 

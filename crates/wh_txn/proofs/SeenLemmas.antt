@@ -7,16 +7,16 @@ use Rattle.std.proofs.Common.{refl, ap, ◌∙◌, arith}
 use Rattle.std.specs.Prelude.{slice_get}
 use Rattle.std.specs.Ordering.{nat_cmp}
 use Rattle.std.specs.FinMap.{FinMap, get}
-use Rattle.wh_machine.specs.State.{Kind, TableKind, StreamKind, Object, Table, Stream, at_id, stamped}
-use Rattle.wh_machine.specs.Outcome.{edited_table}
-use Rattle.wh_machine.specs.Objects.{as_table, table_at, stream_at}
-use Rattle.wh_machine.specs.Stored.{StoredTable, StoredKind, StoredTableKind, StoredStreamKind, StoredObject, table_meant, object_meant}
-use Rattle.wh_machine.proofs.MeaningLaws.{table_at_meant, stored_table_in, stored_table_of}
-use Rattle.wh_machine.proofs.MeaningLaws.{stream_at_meant, stored_stream_in, stored_stream_of}
+use Rattle.wh_state.specs.State.{Kind, TableKind, StreamKind, Object, Table, Stream, at_id, stamped}
+use Rattle.wh_state.specs.Act.{edited_table}
+use Rattle.wh_state.specs.Objects.{as_table, table_at, stream_at}
+use Rattle.wh_state.specs.Stored.{StoredTable, StoredKind, StoredTableKind, StoredStreamKind, StoredObject, table_meant, object_meant}
+use Rattle.wh_state.proofs.MeaningLaws.{table_at_meant, stored_table_in, stored_table_of}
+use Rattle.wh_state.proofs.MeaningLaws.{stream_at_meant, stored_stream_in, stored_stream_of}
 use Rattle.wh_catalog.specs.Catalog.{stored_of, state_of, stored_table_at, table_in_kind, table_in_object}
 use Rattle.wh_catalog.specs.Catalog.{stored_stream_at, stream_in_kind, stream_in_object}
 use Rattle.wh_catalog.specs.declared.catalog.Catalog.{Catalog}
-use Rattle.wh_sessions.specs.Transaction.{Staged, Transaction, with_own, seen_from, seen}
+use Rattle.wh_machine.specs.Transaction.{Staged, Transaction, with_own, seen_from, seen}
 use Rattle.wh_txn.specs.Seen.{own}
 
 -- ---- the table and the stream of an id in the catalog

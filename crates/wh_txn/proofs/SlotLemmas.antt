@@ -7,8 +7,8 @@ use Rattle.std.specs.Prelude.{slice_get, slice_set, slice_index_or, unwrap_or}
 use Rattle.std.proofs.lemmas.List.{length-map, take-map, drop-map}
 use Rattle.std.proofs.lemmas.Option.{slice_get-get_or}
 use Rattle.std.proofs.Math.Seq.{map-set_same}
-use Rattle.wh_machine.proofs.IdLaws.{map_at, map_with}
-use Rattle.wh_sessions.specs.Sessions.{Sessions, held_by, or_later, holder, locked_by}
+use Rattle.wh_state.proofs.IdLaws.{map_at, map_with}
+use Rattle.wh_machine.specs.Sessions.{Sessions, held_by, or_later, holder, locked_by}
 use Rattle.wh_txn.specs.declared.transaction.Transaction as code
 use Rattle.wh_txn.specs.View.{transaction_of}
 

@@ -17,9 +17,10 @@ use Rattle.std.specs.Cmp.{nat_cmp_total}
 use Rattle.std.specs.FinMap.{FinMap, get, insert, entries, from_entries, nat_cmp-IsAntisymmetric}
 use Rattle.wh_meaning.proofs.KeyMaps.{gotten, map_after, entries_in_order}
 use Rattle.wh_effect.specs.Effect.{Effect}
-use Rattle.wh_machine.specs.Edits.{Edits, edits_of}
+use Rattle.wh_state.specs.Edits.{Edits}
+use Rattle.wh_machine.specs.Changes.{edits_of}
 use Rattle.wh_machine.specs.Changes.{counted}
-use Rattle.wh_sessions.specs.Transaction as machine
+use Rattle.wh_machine.specs.Transaction as machine
 use Rattle.wh_txn.specs.declared.transaction.Staged.{Staged}
 use Rattle.wh_txn.specs.View.{staged_of, entry_of, tables_of, amended, with_edits, with_reads}
 

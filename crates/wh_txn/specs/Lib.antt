@@ -1,3 +1,4 @@
 pub mod View
 pub mod Seen
 pub mod Recording
+pub mod Lone

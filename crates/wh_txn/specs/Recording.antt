@@ -4,12 +4,12 @@
 --     offsets_written             the changes that moves of offsets are written as, whatever the objects are
 use Rattle.std.specs.Prelude.{ℕ, List, [], ◌∷◌, map}
 use Rattle.std.specs.List.{flat_map}
-use Rattle.wh_machine.specs.State.{at_id}
-use Rattle.wh_machine.specs.Stored.{StoredObject}
-use Rattle.wh_machine.specs.Outcome.{Act, MovesOffset}
-use Rattle.wh_machine.specs.Commit.{Change, SetsOffset}
-use Rattle.wh_machine.specs.Written.{version_written_to}
-use Rattle.wh_sessions.specs.Transaction as machine
+use Rattle.wh_state.specs.State.{at_id}
+use Rattle.wh_state.specs.Stored.{StoredObject}
+use Rattle.wh_state.specs.Act.{Act, MovesOffset}
+use Rattle.wh_state.specs.Commit.{Change, SetsOffset}
+use Rattle.wh_state.specs.Written.{version_written_to}
+use Rattle.wh_machine.specs.Transaction as machine
 use Rattle.wh_txn.specs.declared.recording.TouchedTable.{TouchedTable}
 use Rattle.wh_txn.specs.View.{staged_of}
 

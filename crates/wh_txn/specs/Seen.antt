@@ -3,11 +3,11 @@
 --     Shows     the table of the machine that it is
 use Rattle.std.specs.Prelude.{◌≡◌, ℕ, Option, Some, None}
 use Rattle.std.specs.FinMap.{get}
-use Rattle.wh_machine.specs.State.{Table}
-use Rattle.wh_machine.specs.Edits.{Edits}
-use Rattle.wh_machine.specs.Outcome.{edited_table}
-use Rattle.wh_machine.specs.Stored.{StoredTable, table_meant}
-use Rattle.wh_sessions.specs.Transaction.{Staged, Transaction}
+use Rattle.wh_state.specs.State.{Table}
+use Rattle.wh_state.specs.Edits.{Edits}
+use Rattle.wh_state.specs.Act.{edited_table}
+use Rattle.wh_state.specs.Stored.{StoredTable, table_meant}
+use Rattle.wh_machine.specs.Transaction.{Staged, Transaction}
 use Rattle.wh_table.specs.Edited.{IsEdited}
 use Rattle.wh_table.specs.Table.{table_of}
 use Rattle.wh_table.specs.declared.editing.EditedTable.{EditedTable}

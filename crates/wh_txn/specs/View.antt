@@ -6,11 +6,11 @@
 use Rattle.std.specs.Prelude.{ℕ, Bool, ◌||◌, List, map, option_map}
 use Rattle.std.specs.FinMap.{FinMap, from_entries, get, insert}
 use Rattle.std.specs.Ordering.{nat_cmp}
-use Rattle.wh_machine.specs.Edits.{Edits, later_edits}
-use Rattle.wh_machine.specs.Streams.{with_streams}
+use Rattle.wh_state.specs.Edits.{Edits, later_edits}
+use Rattle.wh_machine.specs.Offsets.{with_streams}
 use Rattle.wh_version.specs.Edits.{edits_in}
-use Rattle.wh_sessions.specs.Transaction as machine
-use Rattle.wh_sessions.specs.Sessions as machine_sessions
+use Rattle.wh_machine.specs.Transaction as machine
+use Rattle.wh_machine.specs.Sessions as machine_sessions
 use Rattle.wh_txn.specs.declared.transaction.Staged.{Staged}
 use Rattle.wh_txn.specs.declared.transaction.Transaction.{Transaction}
 use Rattle.wh_txn.specs.declared.sessions.Sessions.{Sessions}

@@ -3,6 +3,7 @@
 
 mod fault;
 mod ids;
+mod lone;
 mod offsets;
 mod recording;
 mod seeing;
@@ -11,7 +12,6 @@ mod staging;
 mod transaction;
 
 pub use fault::RecordFault;
-pub use offsets::offset_changes;
-pub use recording::version;
+pub use lone::lone_commit;
 pub use seeing::TableSeen;
 pub use sessions::Sessions;

@@ -1,9 +1,9 @@
 //! The offsets of streams in the commit that consumes them.
 ghost use Rattle.std.specs.Prelude.{◌≡◌, ◌++◌, [], ◌∷◌, cond, map, IfOk, OnOk};
 ghost use Rattle.wh_record.specs.View.{change_of};
-ghost use Rattle.wh_machine.specs.Objects.{stream_at};
-ghost use Rattle.wh_machine.specs.Outcome.{MovesOffset};
-ghost use Rattle.wh_machine.specs.Streams.{with_streams, offset_move, offset_moves};
+ghost use Rattle.wh_state.specs.Objects.{stream_at};
+ghost use Rattle.wh_state.specs.Act.{MovesOffset};
+ghost use Rattle.wh_machine.specs.Offsets.{with_streams, offset_move, offset_moves};
 ghost use Rattle.wh_catalog.specs.Catalog.{state_of};
 ghost use Rattle.wh_txn.specs.Recording.{offsets_written};
 

@@ -19,11 +19,11 @@ pub enum TableSeen<'a> {
 
 impl Sessions {
     ghost use Rattle.std.specs.Prelude.{◌≡◌, ℕ, option_map, IfOk};
-    ghost use Rattle.wh_machine.specs.State.{stamped};
-    ghost use Rattle.wh_machine.specs.Objects.{table_at};
+    ghost use Rattle.wh_state.specs.State.{stamped};
+    ghost use Rattle.wh_state.specs.Objects.{table_at};
     ghost use Rattle.wh_catalog.specs.Catalog.{state_of};
-    ghost use Rattle.wh_sessions.specs.Transaction.{seen};
-    ghost use Rattle.wh_sessions.specs.Sessions.{transaction_in};
+    ghost use Rattle.wh_machine.specs.Transaction.{seen};
+    ghost use Rattle.wh_machine.specs.Sessions.{transaction_in};
     ghost use Rattle.wh_txn.specs.View.{staged_of, sessions_of};
     ghost use Rattle.wh_txn.specs.Seen.{Shows, own};
 
@@ -65,7 +65,7 @@ impl TableSeen<'_> {
     ghost use Rattle.std.specs.Prelude.{◌≡◌, Option, Some, IfOk};
     ghost use Rattle.std.specs.FinMap.{entries};
     ghost use Rattle.wh_meaning.specs.Bag.{bag_of};
-    ghost use Rattle.wh_machine.specs.State.{Table, last_rows};
+    ghost use Rattle.wh_state.specs.State.{Table, last_rows};
     ghost use Rattle.wh_machine.specs.Queries.{table_bag};
     ghost use Rattle.wh_table.specs.Rows.{rows_at, all_rows, partitions_at};
     ghost use Rattle.wh_txn.specs.Seen.{Shows};

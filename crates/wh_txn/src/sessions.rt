@@ -14,7 +14,7 @@ pub struct Sessions {
 
 impl Sessions {
     ghost use Rattle.std.specs.Prelude.{◌≡◌, option_map, IfOk};
-    ghost use Rattle.wh_sessions.specs.Sessions as machine;
+    ghost use Rattle.wh_machine.specs.Sessions as machine;
     ghost use Rattle.wh_txn.specs.View.{sessions_of, transaction_of};
 
     /// No transaction is open.
@@ -88,7 +88,7 @@ impl Sessions {
 }
 
 ghost use Rattle.std.specs.Prelude.{◌≡◌, None, map, option_map, replicate, IfOk};
-ghost use Rattle.wh_sessions.specs.Sessions as machine;
+ghost use Rattle.wh_machine.specs.Sessions as machine;
 ghost use Rattle.wh_txn.specs.View.{transaction_of};
 
 // A place for each session, with no transaction.

@@ -7,8 +7,8 @@ use wh_version::Edits;
 impl Sessions {
     ghost use Rattle.std.specs.Prelude.{◌≡◌, Some, None, OnOk, OnErr};
     ghost use Rattle.wh_dml.specs.View.{effect_of};
-    ghost use Rattle.wh_sessions.specs.Transaction as machine;
-    ghost use Rattle.wh_sessions.specs.Sessions.{transaction_in, with_transaction};
+    ghost use Rattle.wh_machine.specs.Transaction as machine;
+    ghost use Rattle.wh_machine.specs.Sessions.{transaction_in, with_transaction};
     ghost use Rattle.wh_txn.specs.View.{sessions_of};
 
     /// An effect on a table is added to a session's open transaction, which holds the table and the
@@ -44,9 +44,9 @@ impl Sessions {
 
 ghost use Rattle.std.specs.Prelude.{◌≡◌, ◌<◌, Some, None, option_map, nat_lt, IfOk, OnOk, OnErr};
 ghost use Rattle.wh_dml.specs.View.{effect_of};
-ghost use Rattle.wh_machine.specs.Edits.{edits_of};
+ghost use Rattle.wh_machine.specs.Changes.{edits_of};
 ghost use Rattle.wh_machine.specs.Changes.{counted};
-ghost use Rattle.wh_sessions.specs.Transaction as machine;
+ghost use Rattle.wh_machine.specs.Transaction as machine;
 ghost use Rattle.wh_version.specs.Edits.{edits_in};
 ghost use Rattle.wh_txn.specs.View.{transaction_of};
 

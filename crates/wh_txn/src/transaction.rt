@@ -47,8 +47,8 @@ impl Transaction {
     ghost use Rattle.std.specs.Prelude.{◌≡◌, is_some, option_map, OnOk, OnErr};
     ghost use Rattle.std.specs.FinMap.{get};
     ghost use Rattle.wh_version.specs.Edits.{edits_in};
-    ghost use Rattle.wh_sessions.specs.Transaction as machine;
-    ghost use Rattle.wh_sessions.specs.Sessions.{is_held};
+    ghost use Rattle.wh_machine.specs.Transaction as machine;
+    ghost use Rattle.wh_machine.specs.Sessions.{is_held};
     ghost use Rattle.wh_txn.specs.View.{staged_of, transaction_of, with_edits, with_reads};
 
     /// A new transaction. Takes no memory.

@@ -4,7 +4,7 @@ use Rattle.std.specs.FinMap.{empty, entries, get-empty}
 use Rattle.std.specs.Ordering.{nat_cmp}
 use Rattle.wh_value.specs.Value.{Row}
 use Rattle.wh_frame.specs.Partition.{numbered}
-use Rattle.wh_machine.specs.Edits.{Edits, row_as, edited, with_later, added_left, later_edits}
+use Rattle.wh_state.specs.Edits.{Edits, row_as, edited, with_later, added_left, later_edits}
 use Rattle.wh_version.proofs.EditMaps.{no_entries}
 
 all_left : (next : ℕ) (rows : List Row) → added_left next empty rows ≡ rows

@@ -8,7 +8,7 @@ use Rattle.std.proofs.Common.{◌≡◌, ℕ, zero, suc, ◌+◌, ◌-◌, ◌<�
 use Rattle.std.proofs.Common.{List, [], ◌∷◌, ◌++◌, length, take, drop, get_or, Some}
 use Rattle.std.proofs.Common.{IsTrue, refl, ap, subst, ◌∙◌, arith}
 use Rattle.wh_frame.specs.Partition.{Partition}
-use Rattle.wh_machine.specs.State.{last_of, content_in}
+use Rattle.wh_state.specs.State.{last_of, content_in}
 use Rattle.wh_version.specs.declared.history.History.{History}
 use Rattle.wh_version.specs.declared.kept.Kept.{Kept}
 use Rattle.wh_version.specs.declared.mark.VersionMark.{VersionMark}

@@ -22,11 +22,11 @@ use Rattle.std.specs.FinMap.{nat_cmp-IsAntisymmetric, get-insert, get-empty, ent
 use Rattle.std.specs.FinMap.{len-entries, len-empty, from_sorted, entries-from_sorted, get-from_sorted, find}
 use Rattle.std.specs.FinMap.Entries.{below_all}
 use Rattle.wh_value.specs.Value.{Row}
+use Rattle.wh_part.specs.View.{numbered_of}
 use Rattle.wh_part.specs.declared.partition.NumberedRow.{NumberedRow}
-use Rattle.wh_machine.specs.Edits.{RowEdits, with_removed, with_changed, with_later}
+use Rattle.wh_state.specs.Edits.{RowEdits, with_removed, with_changed, with_later}
 use Rattle.std.specs.Bool.{OnTrue}
 use Rattle.wh_version.specs.declared.row_edit.RowEdit.{RowEdit}
-use Rattle.wh_version.specs.Edits.{kept_of}
 use Rattle.wh_version.specs.RowEdits.{entries_in, put_all, puts, below, removal_of, change_of}
 use Rattle.wh_version.proofs.Puts.{puts_alone}
 use Rattle.wh_version.proofs.RisingEdits.{holds, is_true, parts, is_below, head_below, rest_rises}
@@ -145,12 +145,12 @@ put_below next edits (e ∷ es) rises =
     by_test rest false is = sym (later_above next edits e.0 es (ltb-false e.0 next is) (head_below e es rises))
 
 changed_in_turn : (edits : RowEdits) (changed : List NumberedRow)
-    → put_all edits (map change_of changed) ≡ with_changed edits (map kept_of changed)
+    → put_all edits (map change_of changed) ≡ with_changed edits (map numbered_of changed)
 changed_in_turn edits [] = refl
 changed_in_turn edits (e ∷ es) = changed_in_turn (insert edits e.number (Some e.row)) es
 
 pub put_in_turn : (edits : RowEdits) (removed : List ℕ) (changed : List NumberedRow)
     → put_all edits (map removal_of removed ++ map change_of changed)
-    ≡ with_changed (with_removed edits removed) (map kept_of changed)
+    ≡ with_changed (with_removed edits removed) (map numbered_of changed)
 put_in_turn edits [] changed = changed_in_turn edits changed
 put_in_turn edits (number ∷ numbers) changed = put_in_turn (insert edits number None) numbers changed

@@ -10,7 +10,7 @@ use Rattle.std.proofs.lemmas.Bool.Decides.{nat_tests}
 use Rattle.std.proofs.lemmas.List.{append-nil, drop_all}
 use Rattle.std.specs.Prelude.{nat_le, if◌then◌else◌}
 use Rattle.wh_frame.specs.Partition.{Partition}
-use Rattle.wh_machine.specs.Stored.{StoredVersion}
+use Rattle.wh_state.specs.Stored.{StoredVersion}
 use Rattle.wh_version.specs.declared.kept.Kept.{Kept}
 use Rattle.wh_version.specs.declared.mark.VersionMark.{VersionMark}
 use Rattle.wh_version.specs.Kept.{standing_at, versions_by}

@@ -5,7 +5,7 @@ use Rattle.std.proofs.lemmas.Bool.{and_parts, or_cases, leb-true, eqb-true, ne_e
 use Rattle.std.proofs.lemmas.List.{take_all}
 use Rattle.std.specs.Prelude.{nat_lt, nat_le, nat_eq, ◌||◌}
 use Rattle.std.specs.List.{list_all}
-use Rattle.wh_machine.specs.State.{last_of, content_in}
+use Rattle.wh_state.specs.State.{last_of, content_in}
 use Rattle.wh_version.specs.declared.kept.Kept.{Kept}
 use Rattle.wh_version.specs.declared.mark.VersionMark.{VersionMark}
 use Rattle.wh_version.specs.Kept.{stands_at, standing_at, version_by, versions_by, partitions_in}

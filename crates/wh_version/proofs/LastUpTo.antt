@@ -2,8 +2,8 @@
 use Rattle.std.proofs.Common.{◌≡◌, ℕ, zero, suc, ◌+◌, ◌-◌, ◌<◌, ◌≤◌, cond, Bool, true, false, List, [], ◌∷◌, length}
 use Rattle.std.proofs.Common.{filter, drop, get_or, option_map, Option, Some, None, IsTrue, refl, ap, ◌∙◌, arith}
 use Rattle.std.proofs.lemmas.Bool.{and_parts}
-use Rattle.wh_machine.specs.State.{last_of}
-use Rattle.wh_machine.specs.Stored.{StoredVersion}
+use Rattle.wh_state.specs.State.{last_of}
+use Rattle.wh_state.specs.Stored.{StoredVersion}
 use Rattle.wh_version.specs.declared.kept.Kept.{Kept}
 use Rattle.wh_version.specs.declared.mark.VersionMark.{VersionMark}
 use Rattle.wh_version.specs.Kept.{version_by, versions_by, count_to}

@@ -11,7 +11,7 @@ use denote.Ref.{Bor}
 use Rattle.wh_value.specs.Value.{Row}
 use Rattle.wh_frame.specs.Partition.{Partition}
 use Rattle.wh_frame.specs.Spelling.{RisesFrom}
-use Rattle.wh_machine.specs.Edits.{RowEdits, row_as, edited, made_of}
+use Rattle.wh_state.specs.Edits.{RowEdits, row_as, edited, made_of}
 use Rattle.wh_version.proofs.ByRows.{turned, turned-take}
 
 pub length_edited : (edits : RowEdits) (rows : List (ℕ × Row)) → length (edited edits rows) ≤ length rows

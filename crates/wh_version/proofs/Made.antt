@@ -5,8 +5,8 @@
 use Rattle.std.proofs.Common.{◌≡◌, ℕ, zero, suc, ◌+◌, List, [], ◌∷◌, ◌++◌, length, drop, refl, ap, subst, ◌∙◌, arith}
 use Rattle.wh_value.specs.Value.{Row}
 use Rattle.wh_frame.specs.Partition.{Partition, numbered, partitions_of, cut, cut_into}
-use Rattle.wh_machine.specs.Edits.{Edits, touched, by_rows, made_of, partitions_left, with_added, partitions_made}
-use Rattle.wh_machine.specs.Commit.{NumberedFrom}
+use Rattle.wh_state.specs.Edits.{Edits, touched, by_rows, made_of, partitions_left, with_added, partitions_made}
+use Rattle.wh_state.specs.Commit.{NumberedFrom}
 use Rattle.wh_version.proofs.Left.{lefts}
 
 module _ (next next_row : ℕ) (added : List Row) (left made first more : List Partition) (behind : ℕ)

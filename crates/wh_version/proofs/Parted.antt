@@ -7,7 +7,7 @@ use Rattle.std.proofs.lemmas.List.{take-map, length-map}
 use Rattle.std.specs.List.{list_all}
 use Rattle.std.specs.Prelude.{nat_lt, nat_le, nat_eq, min, not, ◌&&◌, ◌||◌}
 use Rattle.wh_frame.specs.Partition.{Partition}
-use Rattle.wh_machine.specs.Edits.{without, is_among}
+use Rattle.wh_state.specs.Edits.{without, is_among}
 use Rattle.wh_version.specs.declared.kept.Kept.{Kept}
 use Rattle.wh_version.specs.Kept.{stands_at, standing_at, partitions_in, numbered_from, part_one}
 use Rattle.wh_version.specs.Kept.{parted, is_gone_by, is_standing}

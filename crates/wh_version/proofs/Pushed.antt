@@ -8,8 +8,8 @@ use Rattle.std.proofs.lemmas.List.Folds.{list_all-append}
 use Rattle.std.specs.Prelude.{nat_lt, nat_le}
 use Rattle.std.specs.List.{list_all}
 use Rattle.wh_frame.specs.Partition.{Partition}
-use Rattle.wh_machine.specs.Commit.{NumberedFrom}
-use Rattle.wh_machine.specs.Edits.{without}
+use Rattle.wh_state.specs.Commit.{NumberedFrom}
+use Rattle.wh_state.specs.Edits.{without}
 use Rattle.wh_version.specs.declared.kept.Kept.{Kept}
 use Rattle.wh_version.specs.declared.mark.VersionMark.{VersionMark}
 use Rattle.wh_version.specs.Kept.{stands_at, standing_at, partitions_in, numbered_from, count_to, is_gone_by, fresh}

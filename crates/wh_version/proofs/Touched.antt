@@ -10,7 +10,7 @@ use Rattle.std.specs.FinMap.{get}
 use Rattle.wh_value.specs.Value.{Row}
 use Rattle.wh_frame.specs.Partition.{Partition, first_number, last_number}
 use Rattle.wh_frame.specs.Spelling.{RisesFrom}
-use Rattle.wh_machine.specs.Edits.{RowEdits, is_touched, touched}
+use Rattle.wh_state.specs.Edits.{RowEdits, is_touched, touched}
 use Rattle.wh_version.specs.declared.kept.Kept.{Kept}
 use Rattle.wh_version.specs.Kept.{is_standing, partitions_in}
 

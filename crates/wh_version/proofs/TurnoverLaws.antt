@@ -12,7 +12,7 @@ use Rattle.std.proofs.lemmas.List.{map-append, take_more}
 use Rattle.std.proofs.lemmas.List.Elements.{filter-append}
 use Rattle.std.specs.Prelude.{nat_lt, nat_le}
 use Rattle.wh_frame.specs.Partition.{Partition}
-use Rattle.wh_machine.specs.State.{content_in}
+use Rattle.wh_state.specs.State.{content_in}
 use Rattle.wh_version.specs.declared.kept.Kept.{Kept}
 use Rattle.wh_version.specs.declared.mark.VersionMark.{VersionMark}
 use Rattle.wh_version.specs.declared.turnover.Reach.{Reach}

@@ -6,7 +6,7 @@
 use Rattle.std.specs.Prelude.{◌≡◌, ℕ, zero, suc, List, [], ◌∷◌, ◌++◌, take, drop, slice_index_or as get_or}
 use Rattle.std.specs.Prelude.{nat_le, if◌then◌else◌}
 use Rattle.wh_frame.specs.Partition.{Partition}
-use Rattle.wh_machine.specs.Stored.{StoredVersion}
+use Rattle.wh_state.specs.Stored.{StoredVersion}
 use Rattle.wh_version.specs.declared.mark.VersionMark.{VersionMark}
 use Rattle.wh_version.specs.History.{standing_in}
 use Rattle.wh_version.specs.Turnover.{IsTurnover}

@@ -1,5 +1,4 @@
 -- What `Edits` stands for, and what references point to.
---     kept_of           a row by its number
 --     edits_in          the edits of the machine
 --     row_left          the row that a reference points to, if there is one, by its number
 --     partitions_at     the partitions that references point to
@@ -7,13 +6,8 @@ use Rattle.std.specs.Prelude.{ℕ, List, [], ◌∷◌, map, Option, Some, None}
 use denote.Ref.{Bor}
 use Rattle.wh_value.specs.Value.{Row}
 use Rattle.wh_frame.specs.Partition.{Partition}
-use Rattle.wh_effect.specs.Effect.{Kept}
-use Rattle.wh_machine.specs.Edits as machine
-use Rattle.wh_part.specs.declared.partition.NumberedRow.{NumberedRow}
+use Rattle.wh_state.specs.Edits as machine
 use Rattle.wh_version.specs.declared.edits.Edits.{Edits}
-
-abbrev pub kept_of : NumberedRow → Kept
-kept_of e = record { number = e.number; row = e.row }
 
 abbrev pub edits_in : Edits → machine.Edits
 edits_in e = record { rows = e.rows; added = e.added.items }

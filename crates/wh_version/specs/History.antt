@@ -5,9 +5,9 @@
 --     pushed_with      a version more, of the last one's partitions without some and with others
 use Rattle.std.specs.Prelude.{ℕ, ◌+◌, List, [], ◌∷◌, ◌++◌, map}
 use Rattle.wh_frame.specs.Partition.{Partition}
-use Rattle.wh_machine.specs.State.{content_in, last_of}
-use Rattle.wh_machine.specs.Stored.{StoredVersion}
-use Rattle.wh_machine.specs.Edits.{without}
+use Rattle.wh_state.specs.State.{content_in, last_of}
+use Rattle.wh_state.specs.Stored.{StoredVersion}
+use Rattle.wh_state.specs.Edits.{without}
 use Rattle.wh_version.specs.declared.mark.VersionMark.{VersionMark}
 use Rattle.wh_version.specs.declared.history.History.{History}
 use Rattle.wh_version.specs.Kept.{versions_by}

@@ -2,8 +2,8 @@
 --     data_at, visible_at     the last version whose data timestamp, or stamp, is at most that
 --     last_place              the last place at which a test is true
 use Rattle.std.specs.Prelude.{ℕ, zero, suc, Bool, true, false, List, [], ◌∷◌, filter, nat_le, Option, Some, None}
-use Rattle.wh_machine.specs.State.{last_of}
-use Rattle.wh_machine.specs.Stored.{StoredVersion}
+use Rattle.wh_state.specs.State.{last_of}
+use Rattle.wh_state.specs.Stored.{StoredVersion}
 use Rattle.wh_version.specs.declared.mark.VersionMark.{VersionMark}
 use Rattle.wh_version.specs.declared.times.Time.{Time}
 use Rattle.wh_version.specs.declared.times.Time.TheVariants.{Stamp, Data}

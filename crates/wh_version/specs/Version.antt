@@ -1,5 +1,5 @@
 -- What a `Version` stands for.
-use Rattle.wh_machine.specs.Stored.{StoredVersion}
+use Rattle.wh_state.specs.Stored.{StoredVersion}
 use Rattle.wh_version.specs.declared.version.Version.{Version}
 use Rattle.wh_version.specs.Kept.{standing_at}
 

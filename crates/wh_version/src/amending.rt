@@ -5,7 +5,7 @@ use wh_value::Row;
 
 impl Edits {
     ghost use Rattle.std.specs.Prelude.{◌≡◌, IfOk, OnOk, OnErr};
-    ghost use Rattle.wh_machine.specs.Edits.{no_edits, later_edits};
+    ghost use Rattle.wh_state.specs.Edits.{no_edits, later_edits};
     ghost use Rattle.wh_version.specs.Edits.{edits_in};
 
     /// No edits. Takes no memory.
@@ -50,7 +50,7 @@ impl Edits {
 }
 
 ghost use Rattle.std.specs.Prelude.{◌≡◌, ◌+◌, ◌++◌, map, IfOk, OnOk};
-ghost use Rattle.wh_machine.specs.Edits.{edited_row, added_left};
+ghost use Rattle.wh_state.specs.Edits.{edited_row, added_left};
 
 fn copied(alloc: Global, rows: &[Row]) -> Result<Vec<Row>, AllocError>
     ensures { IfOk result (λ copies. copies.items ≡ rows.now) }

@@ -1,5 +1,5 @@
 ghost use Rattle.std.specs.Prelude.{◌≡◌, ◌+◌, ◌≤◌, ◌^◌, ◌++◌, ◌∷◌, [], map, length, reverse, OnOk, IfOk};
-ghost use Rattle.wh_machine.specs.Edits.{edited, edited_row, made_of};
+ghost use Rattle.wh_state.specs.Edits.{edited, edited_row, made_of};
 ghost use Rattle.wh_part.specs.View.{numbered_of};
 ghost use Rattle.wh_version.specs.Edits.{partitions_at};
 

@@ -16,8 +16,9 @@ pub struct Edits {
 
 impl Edits {
     ghost use Rattle.std.specs.Prelude.{◌≡◌, map, IfOk};
-    ghost use Rattle.wh_machine.specs.Edits.{edits_of};
-    ghost use Rattle.wh_version.specs.Edits.{kept_of, edits_in};
+    ghost use Rattle.wh_state.specs.Edits.{edits_from};
+    ghost use Rattle.wh_part.specs.View.{numbered_of};
+    ghost use Rattle.wh_version.specs.Edits.{edits_in};
 
     /// Rows that go, by their numbers, rows that become others, and rows that come. Where a number
     /// is named twice, the last one counts.
@@ -27,11 +28,8 @@ impl Edits {
         changed: Vec<NumberedRow>,
         added: Vec<Row>,
     ) -> Result<Edits, AllocError>
-        ensures { IfOk result (λ e. edits_in e ≡ edits_of (record {
-          removed = removed.now;
-          changed = map kept_of changed.items;
-          added = added.items;
-        })) }
+        ensures { IfOk result (λ e. edits_in e
+            ≡ edits_from removed.now (map numbered_of changed.items) added.items) }
     {
         let mut list = Vec::with_capacity(alloc, removed.len())?;
         remove(&mut list, removed)?;

@@ -23,7 +23,7 @@ pub struct History {
 impl History {
     ghost use Rattle.std.specs.Prelude.{◌≡◌, ◌≤◌, ◌^◌, [], ◌∷◌, Some, filter, option_map, nat_eq};
     ghost use Rattle.std.specs.List.{list_any};
-    ghost use Rattle.wh_machine.specs.State.{version_at, last_of};
+    ghost use Rattle.wh_state.specs.State.{version_at, last_of};
     ghost use Rattle.wh_version.specs.Kept.{is_standing, partitions_in};
     ghost use Rattle.wh_version.specs.History.{versions_of, nexts_of, standing_in, next_in};
 

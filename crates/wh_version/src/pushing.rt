@@ -7,7 +7,7 @@ use wh_part::Partition;
 
 impl History {
     ghost use Rattle.std.specs.Prelude.{◌≡◌, ◌+◌, [], ◌∷◌, ◌++◌, length, OnOk, OnErr};
-    ghost use Rattle.wh_machine.specs.Commit.{NumberedFrom};
+    ghost use Rattle.wh_state.specs.Commit.{NumberedFrom};
     ghost use Rattle.wh_version.specs.History.{versions_of, nexts_of, next_in, pushed_with};
 
     /// Adds a version: the last one's partitions without those of the removed numbers, and then the

@@ -1,5 +1,5 @@
 ghost use Rattle.std.specs.Prelude.{◌≡◌, ◌≤◌, ◌^◌, map, IfOk};
-ghost use Rattle.wh_machine.specs.Edits.{by_rows, edited, made_of, with_added};
+ghost use Rattle.wh_state.specs.Edits.{by_rows, edited, made_of, with_added};
 ghost use Rattle.wh_version.specs.Edits.{partitions_at};
 
 use crate::editing::left;
@@ -20,7 +20,7 @@ pub struct Rewritten {
 impl History {
     ghost use Rattle.std.specs.Prelude.{◌≡◌, ◌+◌, ◌≤◌, length, nat_le, is_some, IfOk, IfSome};
     ghost use Rattle.wh_value.specs.Limit.{bound};
-    ghost use Rattle.wh_machine.specs.Edits.{numbers_gone, partitions_made};
+    ghost use Rattle.wh_state.specs.Edits.{numbers_gone, partitions_made};
     ghost use Rattle.wh_version.specs.Edits.{edits_in};
     ghost use Rattle.wh_version.specs.History.{versions_of, nexts_of, standing_in, next_in};
 

@@ -18,7 +18,7 @@ impl Model for RowEdits {
     ghost use Rattle.std.specs.Coded.{coded_list, coded_option, coded_ℕ};
     ghost use Rattle.std.specs.Ordering.{nat_cmp};
     ghost use Rattle.wh_value.specs.Value.{coded_value};
-    ghost use Rattle.wh_machine.specs.Edits as machine;
+    ghost use Rattle.wh_state.specs.Edits as machine;
     ghost use Rattle.wh_version.specs.RowEdits.{entries_in};
 
     ghost Value = { machine.RowEdits };
@@ -34,7 +34,7 @@ impl RowEdits {
     ghost use Rattle.std.specs.Prelude.{◌≡◌, ℕ, ◌≤◌, None, is_some, IfOk};
     ghost use Rattle.std.specs.Bool.{OnTrue, OnFalse};
     ghost use Rattle.std.specs.FinMap.{empty, get, entries};
-    ghost use Rattle.wh_machine.specs.Edits.{edited_row, with_later};
+    ghost use Rattle.wh_state.specs.Edits.{edited_row, with_later};
     ghost use Rattle.wh_version.specs.Edits.{row_left};
     ghost use Rattle.wh_version.specs.RowEdits.{put_all, entries_in, row_in, below};
 

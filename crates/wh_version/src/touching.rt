@@ -1,7 +1,7 @@
 ghost use Rattle.std.specs.Prelude.{◌≡◌, ◌++◌, ◌∷◌, [], map, filter, is_some, OnOk, IfOk};
 ghost use Rattle.std.specs.List.{list_any};
 ghost use Rattle.std.specs.FinMap.{get};
-ghost use Rattle.wh_machine.specs.Edits.{is_touched, touched};
+ghost use Rattle.wh_state.specs.Edits.{is_touched, touched};
 ghost use Rattle.wh_version.specs.Kept.{is_standing, partitions_in};
 ghost use Rattle.wh_version.specs.Edits.{partitions_at};
 

@@ -25,7 +25,7 @@ pub(crate) struct Reach {
 
 impl History {
     ghost use Rattle.std.specs.Prelude.{◌≡◌, ◌≤◌, [], IfOk};
-    ghost use Rattle.wh_machine.specs.State.{content_in};
+    ghost use Rattle.wh_state.specs.State.{content_in};
     ghost use Rattle.wh_version.specs.declared.times.Time.TheVariants.{Data};
     ghost use Rattle.wh_version.specs.Edits.{partitions_at};
     ghost use Rattle.wh_version.specs.History.{versions_of, marks_of};

@@ -1,7 +1,7 @@
 use Rattle.std.proofs.Common.{sym, subst, Option}
 use Rattle.wh_table.specs.declared.fault.StageFault.TheVariants.{NotApplicable}
-use Rattle.wh_machine.specs.Stored.{StoredObject}
-use Rattle.wh_machine.specs.Commit.{FitsObject, pushed_object}
+use Rattle.wh_state.specs.Stored.{StoredObject}
+use Rattle.wh_state.specs.Commit.{FitsObject, pushed_object}
 use Rattle.wh_record.specs.View.{version_change_of}
 use Rattle.wh_catalog.specs.Back.{object_taken_back}
 use Rattle.wh_catalog.proofs.Names.{keeps_life}

@@ -1,7 +1,7 @@
 use Rattle.std.proofs.Common.{◌≡◌, true, refl, ◌∙◌, sym, subst}
 use Rattle.std.proofs.lemmas.Bool.{false≢true}
-use Rattle.wh_machine.specs.State.{dropped}
-use Rattle.wh_machine.specs.Commit.{IsLiveObject}
+use Rattle.wh_state.specs.State.{dropped}
+use Rattle.wh_state.specs.Commit.{IsLiveObject}
 use Rattle.wh_catalog.proofs.Dropped.{without_life, revived}
 use Rattle.wh_catalog.proofs.Names.{keeps_names}
 use Rattle.wh_catalog.proofs.Places.{stands, changed}

@@ -1,9 +1,9 @@
 use Rattle.std.proofs.Common.{◌≡◌, [], ◌++◌, ◌∙◌, ap, sym, subst}
 use Rattle.std.specs.FinMap.{entries}
 use Rattle.wh_frame.specs.Spelling.{RisesFrom}
-use Rattle.wh_machine.specs.State.{Rows, content_in}
-use Rattle.wh_machine.specs.Stored.{rows_of}
-use Rattle.wh_streams.specs.Net.{net}
+use Rattle.wh_state.specs.State.{Rows, content_in}
+use Rattle.wh_state.specs.Stored.{rows_of}
+use Rattle.wh_net.specs.Net.{net}
 use Rattle.wh_version.specs.Times.{data_at}
 use Rattle.wh_table.specs.Rows.{all_rows, partitions_at}
 use Rattle.wh_table.specs.Table.{table_of}

@@ -3,13 +3,13 @@ use Rattle.std.specs.Option.{option_map}
 use Rattle.wh_scalar.specs.View.{scalar_of}
 use Rattle.wh_part.specs.View.{numbered_of}
 use Rattle.wh_effect.specs.Effect as meaning
-use Rattle.wh_dml.specs.View.{effect_of, kept_rows}
+use Rattle.wh_dml.specs.View.{effect_of}
 use Rattle.wh_dml.specs.Steps.{before}
 use Rattle.wh_dml.proofs.delete.delete.Given as goal
 
 abbrev pub invariant-loop-entry : goal.invariant-loop-entry
 invariant-loop-entry l =
     option_map (before (effect_of l.initial.effect))
-    (meaning.turned (meaning.deleted (scalar_of l.condition)) (kept_rows (map numbered_of l.rows)))
+    (meaning.turned (meaning.deleted (scalar_of l.condition)) (map numbered_of l.rows))
     ≡ option_map (before (effect_of l.effect)) (meaning.turned (meaning.deleted (scalar_of l.condition))
-    (kept_rows (map numbered_of (drop l.entry-index l.rows))))
+    (map numbered_of (drop l.entry-index l.rows)))

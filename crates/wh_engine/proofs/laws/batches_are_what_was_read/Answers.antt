@@ -1,5 +1,5 @@
-use Rattle.wh_sessions.proofs.BatchLaws as laws
-use Rattle.wh_sessions.proofs.OtherwiseLaws.{nothing_consumed}
+use Rattle.wh_machine.proofs.BatchLaws as laws
+use Rattle.wh_machine.proofs.OtherwiseLaws.{nothing_consumed}
 use Rattle.wh_engine.proofs.laws.batches_are_what_was_read.Goals as goal
 
 pub returns : goal.returns

@@ -1,4 +1,4 @@
-use Rattle.wh_sessions.proofs.ReadLaws as laws
+use Rattle.wh_machine.proofs.ReadLaws as laws
 use Rattle.wh_engine.proofs.laws.commits_move_to_the_start.Goals as goal
 
 pub returns : goal.returns

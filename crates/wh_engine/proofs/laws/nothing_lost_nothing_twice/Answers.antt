@@ -1,4 +1,4 @@
-use Rattle.wh_sessions.proofs.ConsumingLaws as laws
+use Rattle.wh_machine.proofs.ConsumingLaws as laws
 use Rattle.wh_engine.proofs.laws.nothing_lost_nothing_twice.Goals as goal
 
 pub returns : goal.returns

@@ -1,4 +1,4 @@
-use Rattle.wh_sessions.proofs.StepLaws as laws
+use Rattle.wh_machine.proofs.StepLaws as laws
 use Rattle.wh_engine.proofs.laws.refusals_change_nothing.Goals as goal
 
 pub returns : goal.returns

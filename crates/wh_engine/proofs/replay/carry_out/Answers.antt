@@ -1,6 +1,6 @@
 use Rattle.wh_record.specs.View.{commit_of}
 use Rattle.wh_catalog.specs.Catalog.{stored_of}
-use Rattle.wh_engine.proofs.CatalogLemmas.{means_by}
+use Rattle.wh_decide.proofs.CatalogLemmas.{means_by}
 use Rattle.wh_engine.proofs.replay.carry_out.Goals as goal
 
 -- with the commit's stamp as the last one

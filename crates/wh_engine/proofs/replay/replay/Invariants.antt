@@ -1,7 +1,7 @@
 use Rattle.std.proofs.Common.{◌≡◌, ◌++◌, ℕ, List, Some, take}
 use Rattle.wh_world.specs.Crash.{NoOthers}
 use Rattle.wh_frame.specs.File.{records_of}
-use Rattle.wh_machine.specs.Stored.{first_stored, Means}
+use Rattle.wh_state.specs.Stored.{first_stored, Means}
 use Rattle.wh_journal.specs.Crash.{LeavesOnly}
 use Rattle.wh_journal.specs.Journal.{Lists}
 use Rattle.wh_catalog.specs.Catalog.{stored_of, state_of}

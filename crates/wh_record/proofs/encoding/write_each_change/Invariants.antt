@@ -1,6 +1,6 @@
 use Rattle.std.proofs.Common.{◌≡◌, ◌++◌, take, map}
 use Rattle.std.specs.List.{flat_map, AllByRecursion}
-use Rattle.wh_machine.specs.Spelling.{change_bytes, IsChange}
+use Rattle.wh_state.specs.Spelling.{change_bytes, IsChange}
 use Rattle.wh_record.specs.View.{change_of}
 use Rattle.wh_record.proofs.encoding.write_each_change.Given as goal
 

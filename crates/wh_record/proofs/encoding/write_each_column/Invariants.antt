@@ -1,6 +1,6 @@
 use Rattle.std.proofs.Common.{◌≡◌, ◌++◌, take, map}
 use Rattle.std.specs.List.{flat_map, AllByRecursion}
-use Rattle.wh_machine.specs.Spelling.{column_bytes, IsColumn}
+use Rattle.wh_state.specs.Spelling.{column_bytes, IsColumn}
 use Rattle.wh_value.specs.View.{column_of}
 use Rattle.wh_record.proofs.encoding.write_each_column.Given as goal
 

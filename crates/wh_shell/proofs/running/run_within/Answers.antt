@@ -1,10 +1,10 @@
 use Rattle.std.proofs.Common.{◌≡◌, ◌∙◌, ◌<◌, ◌+◌, ℕ, List, ap, sym, subst, refl, Option, option_map, arith, Some}
 use Rattle.std.specs.Prelude.{is_some}
-use Rattle.wh_machine.specs.State.{State}
-use Rattle.wh_machine.specs.Stored.{meant}
-use Rattle.wh_sessions.specs.Outcome.{Machine, opened}
-use Rattle.wh_sessions.specs.Step.{Event}
-use Rattle.wh_sessions.specs.Made.{overflow}
+use Rattle.wh_state.specs.State.{State}
+use Rattle.wh_state.specs.Stored.{meant}
+use Rattle.wh_machine.specs.Outcome.{Machine, opened}
+use Rattle.wh_machine.specs.Step.{Event}
+use Rattle.wh_machine.specs.Made.{overflow}
 use Rattle.wh_world.specs.Told.{Rose}
 use Rattle.wh_record.proofs.FileLaws.{file_fixes_stored}
 use Rattle.wh_record.proofs.FaultLaws.{faulty_file_stands_for_none}

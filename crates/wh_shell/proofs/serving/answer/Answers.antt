@@ -1,9 +1,9 @@
 use Rattle.std.proofs.Common.{◌∙◌, rules}
 use Rattle.wh_reply.specs.Reply.{print}
-use Rattle.wh_sessions.specs.Step.{step}
+use Rattle.wh_machine.specs.Step.{step}
 use Rattle.wh_world.specs.Told.{Rose}
 use Rattle.wh_journal.specs.Journal.{limit_of}
-use Rattle.wh_engine.specs.Event.{event_of}
+use Rattle.wh_decide.specs.Event.{event_of}
 use Rattle.wh_engine.specs.Warehouse.{machine_of}
 use Rattle.wh_engine.specs.Leaves.{StandsForEither}
 use Rattle.wh_shell.specs.Open.{IsOpen, IsTold}

@@ -1,6 +1,6 @@
 use Rattle.std.proofs.Common.{refl, rules}
-use Rattle.wh_sessions.specs.Step.{step}
-use Rattle.wh_engine.specs.Event.{event_of}
+use Rattle.wh_machine.specs.Step.{step}
+use Rattle.wh_decide.specs.Event.{event_of}
 use Rattle.wh_engine.specs.Warehouse.{machine_of}
 use Rattle.wh_shell.specs.Open.{IsTold}
 use Rattle.wh_shell.specs.Reading.{unread}

@@ -1,7 +1,7 @@
 use Rattle.std.proofs.Common.{List, ◌+◌, ◌∙◌, sym, ap, take, drop, filter, arith}
 use Rattle.std.specs.Prelude.{◌&&◌}
 use Rattle.wh_frame.specs.Partition.{Partition}
-use Rattle.wh_machine.specs.Edits.{without}
+use Rattle.wh_state.specs.Edits.{without}
 use Rattle.wh_version.specs.Kept.{is_standing, partitions_in}
 use Rattle.wh_table.specs.Apart.{all_apart}
 use Rattle.wh_table.proofs.Apart.{turned, compared}

@@ -1,5 +1,5 @@
 use Rattle.std.proofs.Common.{◌≡◌, drop, take, filter}
-use Rattle.wh_machine.specs.Edits.{without}
+use Rattle.wh_state.specs.Edits.{without}
 use Rattle.wh_version.specs.Kept.{is_standing, partitions_in}
 use Rattle.wh_table.specs.Apart.{all_apart}
 use Rattle.wh_table.proofs.Apart.{turned}

@@ -1,7 +1,7 @@
 use Rattle.std.proofs.Common.{◌∷◌, [], ◌++◌, sym, subst, refl, List}
 use Rattle.std.specs.List.{AllByRecursion}
 use Rattle.wh_frame.specs.Partition.{Partition}
-use Rattle.wh_machine.specs.Orderly.{HasRisingRows}
+use Rattle.wh_state.specs.Orderly.{HasRisingRows}
 use Rattle.wh_version.proofs.Steps.{one_on, all_on}
 use Rattle.wh_table.specs.Rows.{partitions_at}
 use Rattle.wh_table.proofs.Standing.{each_more}

@@ -1,6 +1,6 @@
 use Rattle.std.proofs.Common.{◌∷◌, [], ◌++◌, ap, sym, subst, refl}
 use Rattle.std.specs.List.{AllByRecursion}
-use Rattle.wh_machine.specs.Orderly.{HasRisingRows}
+use Rattle.wh_state.specs.Orderly.{HasRisingRows}
 use Rattle.wh_version.proofs.Steps.{one_on, all_on}
 use Rattle.wh_table.specs.Rows.{partitions_at}
 use Rattle.wh_table.proofs.Standing.{staying, staying_more, each_more}

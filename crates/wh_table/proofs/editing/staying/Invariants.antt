@@ -1,6 +1,6 @@
 use Rattle.std.proofs.Common.{◌≡◌, ◌++◌, drop}
 use Rattle.std.specs.List.{AllByRecursion}
-use Rattle.wh_machine.specs.Orderly.{HasRisingRows}
+use Rattle.wh_state.specs.Orderly.{HasRisingRows}
 use Rattle.wh_table.specs.Rows.{partitions_at}
 use Rattle.wh_table.proofs.Standing.{staying}
 use Rattle.wh_table.proofs.editing.staying.Given as goal

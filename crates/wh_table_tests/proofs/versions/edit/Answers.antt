@@ -1,6 +1,6 @@
 use Rattle.std.proofs.Common.{sym, subst, List}
 use Rattle.wh_frame.specs.Partition.{Partition}
-use Rattle.wh_machine.specs.Commit.{NumberedFrom}
+use Rattle.wh_state.specs.Commit.{NumberedFrom}
 use Rattle.wh_version.specs.Edits.{edits_in}
 use Rattle.wh_version.specs.History.{versions_of, nexts_of, standing_in, next_in}
 use Rattle.wh_version.proofs.Made.{made_numbered}

@@ -1,5 +1,5 @@
 use Rattle.std.proofs.Common.{length, ap, ◌∙◌}
-use Rattle.wh_machine.specs.Edits.{edits_of}
+use Rattle.wh_machine.specs.Changes.{edits_of}
 use Rattle.wh_table_tests.proofs.versions.edits.Goals as goal
 
 pub returns : goal.returns

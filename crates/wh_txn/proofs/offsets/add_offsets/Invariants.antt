@@ -1,6 +1,6 @@
 use Rattle.std.proofs.Common.{◌≡◌, ◌++◌, drop, map}
 use Rattle.wh_record.specs.View.{change_of}
-use Rattle.wh_machine.specs.Streams.{offset_moves}
+use Rattle.wh_machine.specs.Offsets.{offset_moves}
 use Rattle.wh_catalog.specs.Catalog.{state_of}
 use Rattle.wh_txn.specs.Recording.{offsets_written}
 use Rattle.wh_txn.proofs.offsets.add_offsets.Given as goal

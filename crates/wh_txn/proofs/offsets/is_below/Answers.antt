@@ -1,7 +1,7 @@
 use Rattle.std.proofs.Common.{ℕ, [], ◌∷◌, cond, sym, ap, ◌∙◌}
 use Rattle.std.specs.Prelude.{List, nat_lt}
-use Rattle.wh_machine.specs.Outcome.{Act, MovesOffset}
-use Rattle.wh_machine.specs.Streams.{offset_move}
+use Rattle.wh_state.specs.Act.{Act, MovesOffset}
+use Rattle.wh_machine.specs.Offsets.{offset_move}
 use Rattle.wh_txn.proofs.SeenLemmas.{catalog_stream}
 use Rattle.wh_txn.proofs.offsets.is_below.Goals as goal
 

@@ -2,8 +2,8 @@ use Rattle.std.proofs.Common.{◌+◌, ◌≤◌, length, is_some, ap, sym, ◌�
 use Rattle.std.specs.Prelude.{nat_le}
 use Rattle.wh_value.specs.Limit.{bound}
 use Rattle.wh_value.specs.declared.limit.Limit.TheVariants as limits
-use Rattle.wh_machine.specs.Edits.{Edits, partitions_made}
-use Rattle.wh_machine.specs.Stored.{standing}
+use Rattle.wh_state.specs.Edits.{Edits, partitions_made}
+use Rattle.wh_state.specs.Stored.{standing}
 use Rattle.wh_table.specs.Table.{table_of}
 use Rattle.wh_txn.specs.View.{staged_of}
 use Rattle.wh_txn.proofs.RecordLemmas.{missing_within, rows_within, partitions_within, partitions_past}

@@ -3,9 +3,9 @@ use Rattle.std.proofs.lemmas.List.{length-map}
 use Rattle.std.proofs.lemmas.Bool.Decides.{nat_tests}
 use Rattle.wh_value.specs.declared.limit.Limit.TheVariants as limits
 use Rattle.wh_record.specs.View.{change_of}
-use Rattle.wh_machine.specs.Streams.{offset_moves}
+use Rattle.wh_machine.specs.Offsets.{offset_moves}
 use Rattle.wh_catalog.specs.Catalog.{stored_of, state_of}
-use Rattle.wh_sessions.specs.Transaction.{touched, first_past, row_past, partition_past}
+use Rattle.wh_machine.specs.Transaction.{touched, first_past, row_past, partition_past}
 use Rattle.wh_txn.specs.declared.fault.RecordFault.{RecordFault}
 use Rattle.wh_txn.specs.View.{transaction_of}
 use Rattle.wh_txn.specs.Recording.{touched_in, touched_at, versions_for, offsets_written}

@@ -1,6 +1,6 @@
 use Rattle.std.proofs.Common.{option_map, sym, ap, ◌∙◌}
-use Rattle.wh_machine.specs.Stored.{table_meant}
-use Rattle.wh_sessions.specs.Transaction.{next_row_of}
+use Rattle.wh_state.specs.Stored.{table_meant}
+use Rattle.wh_machine.specs.Transaction.{next_row_of}
 use Rattle.wh_txn.proofs.SeenLemmas.{catalog_table}
 use Rattle.wh_txn.proofs.recording.next_row.Goals as goal
 

@@ -1,7 +1,7 @@
 use Rattle.std.proofs.Common.{◌≡◌, drop}
 use Rattle.wh_value.specs.declared.limit.Limit.TheVariants as limits
 use Rattle.wh_catalog.specs.Catalog.{state_of}
-use Rattle.wh_sessions.specs.Transaction.{first_past, row_past}
+use Rattle.wh_machine.specs.Transaction.{first_past, row_past}
 use Rattle.wh_txn.specs.Recording.{touched_at}
 use Rattle.wh_txn.proofs.recording.row_past.Given as goal
 

@@ -2,7 +2,7 @@ use Rattle.std.proofs.Common.{◌≡◌, ◌++◌, map, drop, None}
 use Rattle.wh_value.specs.declared.limit.Limit.TheVariants as limits
 use Rattle.wh_record.specs.View.{change_of}
 use Rattle.wh_catalog.specs.Catalog.{stored_of, state_of}
-use Rattle.wh_sessions.specs.Transaction.{first_past, row_past, partition_past}
+use Rattle.wh_machine.specs.Transaction.{first_past, row_past, partition_past}
 use Rattle.wh_txn.specs.Recording.{touched_at, versions_for}
 use Rattle.wh_txn.proofs.recording.versions.Given as goal
 

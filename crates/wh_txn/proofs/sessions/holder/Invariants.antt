@@ -1,5 +1,5 @@
 use Rattle.std.proofs.Common.{◌≡◌, map, drop, option_map}
-use Rattle.wh_sessions.specs.Sessions as machine
+use Rattle.wh_machine.specs.Sessions as machine
 use Rattle.wh_txn.specs.View.{transaction_of}
 use Rattle.wh_txn.proofs.sessions.holder.Given as goal
 

@@ -1,6 +1,6 @@
 use Rattle.std.proofs.Common.{◌≡◌, Some, option_map, sym, ap, ◌∙◌}
 use Rattle.wh_dml.specs.View.{effect_of}
-use Rattle.wh_sessions.specs.Transaction as machine
+use Rattle.wh_machine.specs.Transaction as machine
 use Rattle.wh_version.specs.Edits.{edits_in}
 use Rattle.wh_txn.specs.View.{transaction_of}
 use Rattle.wh_txn.proofs.TableLemmas.{staged_is}

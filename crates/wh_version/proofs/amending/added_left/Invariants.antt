@@ -1,5 +1,5 @@
 use Rattle.std.proofs.Common.{◌≡◌, ◌+◌, ◌++◌, drop}
-use Rattle.wh_machine.specs.Edits.{added_left}
+use Rattle.wh_state.specs.Edits.{added_left}
 use Rattle.wh_version.proofs.amending.added_left.Given as goal
 
 abbrev pub invariant-loop-place : goal.invariant-loop-place

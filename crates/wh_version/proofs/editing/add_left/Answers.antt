@@ -4,7 +4,7 @@ use Rattle.std.proofs.lemmas.Bool.{eqb-false}
 use Rattle.wh_value.specs.Value.{Row}
 use Rattle.wh_frame.specs.Spelling.{RisesFrom}
 use Rattle.wh_part.specs.View.{numbered_of}
-use Rattle.wh_machine.specs.Edits.{edited, made_of}
+use Rattle.wh_state.specs.Edits.{edited, made_of}
 use Rattle.wh_version.proofs.Left.{length_edited, rises_edited, made_one}
 use Rattle.wh_version.proofs.editing.add_left.Goals as goal
 

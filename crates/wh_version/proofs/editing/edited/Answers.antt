@@ -1,5 +1,5 @@
 use Rattle.std.proofs.Common.{map, refl}
-use Rattle.wh_machine.specs.Edits.{edited, edited_row}
+use Rattle.wh_state.specs.Edits.{edited, edited_row}
 use Rattle.wh_part.specs.View.{numbered_of}
 use Rattle.wh_version.proofs.Steps.{one_on, all_on}
 use Rattle.wh_version.proofs.editing.edited.Goals as goal

@@ -1,5 +1,5 @@
 use Rattle.std.proofs.Common.{◌≡◌, ◌++◌, map, drop}
-use Rattle.wh_machine.specs.Edits.{edited}
+use Rattle.wh_state.specs.Edits.{edited}
 use Rattle.wh_part.specs.View.{numbered_of}
 use Rattle.wh_version.proofs.editing.edited.Given as goal
 

@@ -1,5 +1,5 @@
 use Rattle.std.proofs.Common.{◌+◌, ◌-◌, ◌++◌, ◌∙◌, ap, refl, length, take}
-use Rattle.wh_machine.specs.Edits.{made_of}
+use Rattle.wh_state.specs.Edits.{made_of}
 use Rattle.wh_version.proofs.ByRows.{turned}
 use Rattle.wh_version.proofs.Left.{lefts, left_on, left_none, left_all}
 use Rattle.wh_version.proofs.editing.left.Goals as goal

@@ -1,5 +1,5 @@
 use Rattle.std.proofs.Common.{◌≡◌, ◌+◌, ◌-◌, ◌++◌, length, take}
-use Rattle.wh_machine.specs.Edits.{made_of}
+use Rattle.wh_state.specs.Edits.{made_of}
 use Rattle.wh_version.proofs.ByRows.{turned}
 use Rattle.wh_version.proofs.Left.{lefts}
 use Rattle.wh_version.proofs.editing.left.Given as goal

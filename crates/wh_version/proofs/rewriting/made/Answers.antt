@@ -1,6 +1,6 @@
 use Rattle.std.proofs.Common.{◌≡◌, ◌+◌, ◌∙◌, ap, List, length, arith}
 use Rattle.wh_frame.specs.Partition.{Partition}
-use Rattle.wh_machine.specs.Edits.{by_rows, made_of}
+use Rattle.wh_state.specs.Edits.{by_rows, made_of}
 use Rattle.wh_version.specs.Edits.{partitions_at}
 use Rattle.wh_version.proofs.ByRows.{turned}
 use Rattle.wh_version.proofs.Left.{lefts}

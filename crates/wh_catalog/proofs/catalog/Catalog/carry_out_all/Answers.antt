@@ -1,7 +1,7 @@
 use Rattle.std.proofs.Common.{◌≡◌, ◌∷◌, [], ◌++◌, ◌∙◌, ap, sym, subst, map, length, List, arith}
 use Rattle.std.specs.Vec.Iter.{into_iter_items}
-use Rattle.wh_machine.specs.Stored.{StoredObject}
-use Rattle.wh_machine.specs.Commit.{AllApply, all_changed, changed}
+use Rattle.wh_state.specs.Stored.{StoredObject}
+use Rattle.wh_state.specs.Commit.{AllApply, all_changed, changed}
 use Rattle.wh_record.specs.declared.commit.Change.{Change}
 use Rattle.wh_record.specs.View.{change_of}
 use Rattle.wh_catalog.specs.Catalog.{kept_of, objects_of}

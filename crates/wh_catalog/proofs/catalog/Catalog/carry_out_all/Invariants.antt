@@ -1,6 +1,6 @@
 use Rattle.std.proofs.Common.{◌≡◌, map, length}
 use Rattle.std.specs.Vec.Iter.{into_iter_items, into_iter_len}
-use Rattle.wh_machine.specs.Commit.{AllApply, all_changed}
+use Rattle.wh_state.specs.Commit.{AllApply, all_changed}
 use Rattle.wh_record.specs.View.{change_of}
 use Rattle.wh_catalog.specs.Catalog.{kept_of, objects_of}
 use Rattle.wh_catalog.specs.Undo.{undone}

@@ -1,7 +1,7 @@
 use Rattle.std.proofs.Common.{◌∙◌, ap, ◌++◌, ◌∷◌, []}
-use Rattle.wh_machine.specs.State.{new_object, metadata_columns}
-use Rattle.wh_machine.specs.Stored.{StoredStreamKind}
-use Rattle.wh_machine.specs.Commit.{changed}
+use Rattle.wh_state.specs.State.{new_object, metadata_columns}
+use Rattle.wh_state.specs.Stored.{StoredStreamKind}
+use Rattle.wh_state.specs.Commit.{changed}
 use Rattle.wh_catalog.specs.Catalog.{objects_of}
 use Rattle.wh_catalog.proofs.catalog.Catalog.new_stream.Goals as goal
 

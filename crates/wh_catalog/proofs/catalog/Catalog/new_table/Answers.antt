@@ -1,7 +1,7 @@
 use Rattle.std.proofs.Common.{◌∙◌, ap, sym, ◌++◌, ◌∷◌, []}
-use Rattle.wh_machine.specs.State.{new_object}
-use Rattle.wh_machine.specs.Stored.{StoredTableKind}
-use Rattle.wh_machine.specs.Commit.{changed}
+use Rattle.wh_state.specs.State.{new_object}
+use Rattle.wh_state.specs.Stored.{StoredTableKind}
+use Rattle.wh_state.specs.Commit.{changed}
 use Rattle.wh_record.specs.View.{table_change_of}
 use Rattle.wh_table.specs.Table.{kept_table}
 use Rattle.wh_catalog.specs.Catalog.{objects_of}

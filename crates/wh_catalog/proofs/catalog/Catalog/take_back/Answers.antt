@@ -1,7 +1,7 @@
 use Rattle.std.proofs.Common.{◌<◌, ◌≤◌, ◌∙◌, ap, sym, arith}
 use Rattle.wh_value.specs.Limit.{bound}
 use Rattle.wh_value.specs.declared.limit.Limit.TheVariants as limits
-use Rattle.wh_machine.specs.State.{live_count}
+use Rattle.wh_state.specs.State.{live_count}
 use Rattle.wh_catalog.specs.Object.{kept_objects, stored_objects}
 use Rattle.wh_catalog.specs.Catalog.{kept_of, stored_of}
 use Rattle.wh_catalog.specs.Undo.{step_undone}

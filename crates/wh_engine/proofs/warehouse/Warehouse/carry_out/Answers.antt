@@ -3,12 +3,12 @@ use Rattle.wh_value.specs.Limit.{bound}
 use Rattle.wh_value.specs.declared.limit.Limit.TheVariants as limits
 use Rattle.wh_reply.specs.Reply.{Reply}
 use Rattle.wh_reply.specs.View.{reply_view}
-use Rattle.wh_sessions.specs.Outcome.{Machine}
-use Rattle.wh_sessions.specs.Step.{reading_of, stamp_of}
+use Rattle.wh_machine.specs.Outcome.{Machine}
+use Rattle.wh_machine.specs.Step.{reading_of, stamp_of}
 use Rattle.wh_catalog.specs.Catalog.{stored_of, state_of}
-use Rattle.wh_engine.specs.Event.{event_of}
+use Rattle.wh_decide.specs.Event.{event_of}
 use Rattle.wh_txn.specs.View.{sessions_of}
-use Rattle.wh_engine.specs.Decision.{StagesInOpen}
+use Rattle.wh_decide.specs.Decision.{StagesInOpen}
 use Rattle.wh_engine.specs.Warehouse.{machine_of, made_in, led_to}
 use Rattle.wh_engine.specs.Halts.{Halted}
 use Rattle.wh_engine.specs.Leaves.{Leaves}

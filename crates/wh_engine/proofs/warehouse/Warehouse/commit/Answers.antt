@@ -1,9 +1,9 @@
 use Rattle.std.proofs.Common.{Some, Err, refl, ap, sym, subst, ◌∙◌, arith}
 use Rattle.wh_record.specs.View.{commit_of}
 use Rattle.wh_journal.specs.Journal.{IsSame, end_of, limit_of, failed_of, need_of}
-use Rattle.wh_machine.specs.State.{State}
+use Rattle.wh_state.specs.State.{State}
 use Rattle.wh_txn.specs.View.{sessions_of}
-use Rattle.wh_engine.specs.Decision.{machine_at}
+use Rattle.wh_decide.specs.Decision.{machine_at}
 use Rattle.wh_engine.specs.Warehouse.{IsUntouched}
 use Rattle.wh_engine.specs.Halts.{Halted}
 use Rattle.wh_engine.proofs.FileLemmas.{Appends, filed_append, lists_same}

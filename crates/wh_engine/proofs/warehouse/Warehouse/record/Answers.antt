@@ -1,7 +1,7 @@
 use Rattle.std.proofs.Common.{◌≡◌, None, option_map, refl, ap}
-use Rattle.wh_machine.specs.State.{State}
+use Rattle.wh_state.specs.State.{State}
 use Rattle.wh_txn.specs.View.{sessions_of}
-use Rattle.wh_engine.specs.Decision.{changes_of, commit_at, machine_at}
+use Rattle.wh_decide.specs.Decision.{changes_of, commit_at, machine_at}
 use Rattle.wh_engine.proofs.StopLemmas.{leaves_still}
 use Rattle.wh_engine.proofs.CarryLemmas.{carries_nothing, state_passed}
 use Rattle.wh_engine.proofs.warehouse.Warehouse.record.Goals as goal

@@ -1,10 +1,10 @@
 use Rattle.std.proofs.Common.{◌≡◌, ℕ, List, Option, None, refl, sym, ap, ◌∙◌}
 use Rattle.wh_dml.specs.View.{effect_of}
-use Rattle.wh_sessions.specs.Transaction as transactions
-use Rattle.wh_sessions.specs.Transaction.{Transaction}
-use Rattle.wh_sessions.specs.Sessions.{transaction_in, with_transaction}
+use Rattle.wh_machine.specs.Transaction as transactions
+use Rattle.wh_machine.specs.Transaction.{Transaction}
+use Rattle.wh_machine.specs.Sessions.{transaction_in, with_transaction}
 use Rattle.wh_txn.specs.View.{sessions_of}
-use Rattle.wh_engine.specs.Decision.{commit_at, changes_in, sessions_after, transaction_or_new, machine_at}
+use Rattle.wh_decide.specs.Decision.{commit_at, changes_in, sessions_after, transaction_or_new, machine_at}
 use Rattle.wh_engine.proofs.StopLemmas.{leaves_still}
 use Rattle.wh_engine.proofs.CarryLemmas.{carries_nothing, state_passed}
 use Rattle.wh_engine.proofs.TransactionLemmas.{is_there}

@@ -4,9 +4,9 @@ use Rattle.std.proofs.lemmas.Bool.{and_from}
 use Rattle.std.specs.Prelude.{not}
 use Rattle.wh_frame.specs.Partition.{Partition}
 use Rattle.wh_value.specs.View.{column_of}
-use Rattle.wh_machine.specs.State.{content_in}
-use Rattle.wh_machine.specs.Stored.{StoredVersion}
-use Rattle.wh_machine.specs.Edits.{without, is_among}
+use Rattle.wh_state.specs.State.{content_in}
+use Rattle.wh_state.specs.Stored.{StoredVersion}
+use Rattle.wh_state.specs.Edits.{without, is_among}
 use Rattle.wh_version.specs.Lists.{shortened}
 use Rattle.wh_version.specs.History.{versions_of, nexts_of, standing_in, next_in, pushed_with}
 use Rattle.wh_table.specs.Table.{kept_table}

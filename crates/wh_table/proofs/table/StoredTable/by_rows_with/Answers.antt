@@ -1,9 +1,9 @@
 use Rattle.std.proofs.Common.{◌≡◌, [], ◌++◌, ◌∙◌, sym, ap, subst, List}
 use Rattle.std.specs.FinMap.{entries}
 use Rattle.wh_frame.specs.Partition.{Partition}
-use Rattle.wh_machine.specs.Commit.{AllApart}
-use Rattle.wh_machine.specs.Edits.{without}
-use Rattle.wh_machine.specs.Stored.{rows_of}
+use Rattle.wh_state.specs.Commit.{AllApart}
+use Rattle.wh_state.specs.Edits.{without}
+use Rattle.wh_state.specs.Stored.{rows_of}
 use Rattle.wh_version.specs.History.{versions_of, standing_in}
 use Rattle.wh_table.specs.Rows.{partitions_at}
 use Rattle.wh_table.specs.Table.{kept_table}

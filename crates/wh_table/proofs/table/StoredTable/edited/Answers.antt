@@ -1,6 +1,6 @@
 use Rattle.std.proofs.Common.{◌∙◌, sym, List}
 use Rattle.wh_frame.specs.Partition.{Partition}
-use Rattle.wh_machine.specs.Edits.{without}
+use Rattle.wh_state.specs.Edits.{without}
 use Rattle.wh_version.specs.History.{versions_of, standing_in}
 use Rattle.wh_table.specs.Apart.{all_apart}
 use Rattle.wh_table.specs.Table.{kept_table}

@@ -2,7 +2,7 @@ use Rattle.std.proofs.Common.{◌∙◌, sym, ap, List, []}
 use Rattle.std.specs.FinMap.{values}
 use Rattle.wh_meaning.specs.Bag.{bag_of}
 use Rattle.wh_frame.specs.Partition.{Partition}
-use Rattle.wh_machine.specs.State.{content_in}
+use Rattle.wh_state.specs.State.{content_in}
 use Rattle.wh_version.specs.History.{versions_of, standing_in}
 use Rattle.wh_table.specs.Table.{kept_table}
 use Rattle.wh_table.specs.Rows.{rows_only, all_rows, partitions_at}

@@ -3,8 +3,8 @@ use Rattle.std.specs.List.{AllByRecursion}
 use Rattle.std.specs.FinMap.{values}
 use Rattle.wh_meaning.specs.Bag.{bag_of}
 use Rattle.wh_frame.specs.Partition.{Partition}
-use Rattle.wh_machine.specs.Edits.{without}
-use Rattle.wh_machine.specs.Orderly.{HasRisingRows}
+use Rattle.wh_state.specs.Edits.{without}
+use Rattle.wh_state.specs.Orderly.{HasRisingRows}
 use Rattle.wh_version.specs.History.{versions_of, standing_in}
 use Rattle.wh_table.specs.Rows.{rows_only, all_rows, partitions_at}
 use Rattle.wh_table.specs.Table.{kept_table}

@@ -1,6 +1,6 @@
 use Rattle.std.proofs.Common.{sym, subst, List, IsTrue}
 use Rattle.std.specs.List.{list_all}
-use Rattle.wh_machine.specs.Stored.{StoredVersion}
+use Rattle.wh_state.specs.Stored.{StoredVersion}
 use Rattle.wh_version.specs.History.{versions_of}
 use Rattle.wh_table.specs.Apart.{is_apart, is_rising}
 use Rattle.wh_table.proofs.Rising.{each_shortened}

@@ -3,10 +3,10 @@ use Rattle.std.specs.List.{AllByRecursion}
 use Rattle.std.specs.FinMap.{entries}
 use denote.Ref.{Bor}
 use Rattle.wh_frame.specs.Partition.{Partition}
-use Rattle.wh_machine.specs.State.{content_in}
-use Rattle.wh_machine.specs.Commit.{AllApart}
-use Rattle.wh_machine.specs.Orderly.{HasRisingRows}
-use Rattle.wh_machine.specs.Stored.{StoredVersion, rows_of}
+use Rattle.wh_state.specs.State.{content_in}
+use Rattle.wh_state.specs.Commit.{AllApart}
+use Rattle.wh_state.specs.Orderly.{HasRisingRows}
+use Rattle.wh_state.specs.Stored.{StoredVersion, rows_of}
 use Rattle.wh_version.specs.History.{versions_of}
 use Rattle.wh_version.specs.Times.{data_at}
 use Rattle.wh_table.specs.Rows.{all_rows, partitions_at}

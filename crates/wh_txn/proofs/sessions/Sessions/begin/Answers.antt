@@ -1,5 +1,5 @@
 use Rattle.std.proofs.Common.{Some, ap, ◌∙◌}
-use Rattle.wh_sessions.specs.Sessions.{with_transaction}
+use Rattle.wh_machine.specs.Sessions.{with_transaction}
 use Rattle.wh_txn.specs.View.{sessions_of}
 use Rattle.wh_txn.proofs.SlotLemmas.{with_slot}
 use Rattle.wh_txn.proofs.sessions.Sessions.begin.Goals as goal

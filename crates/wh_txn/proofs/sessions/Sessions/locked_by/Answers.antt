@@ -1,6 +1,6 @@
 use Rattle.std.proofs.Common.{◌≡◌, ◌+◌, ◌-◌, ◌<◌, length, map, take, drop, option_map, sym, ap, ◌∙◌, arith}
 use Rattle.std.proofs.lemmas.List.{take_rest}
-use Rattle.wh_sessions.specs.Sessions.{holder}
+use Rattle.wh_machine.specs.Sessions.{holder}
 use Rattle.wh_txn.specs.View.{transaction_of, sessions_of}
 use Rattle.wh_txn.proofs.SlotLemmas.{held_first, held_later}
 use Rattle.wh_txn.proofs.sessions.Sessions.locked_by.Goals as goal

@@ -1,9 +1,9 @@
 use Rattle.std.proofs.Common.{Option, Some, None, option_map, sym, ap, subst, ◌∙◌}
-use Rattle.wh_machine.specs.Edits.{Edits}
-use Rattle.wh_machine.specs.Stored.{StoredTable, table_meant}
+use Rattle.wh_state.specs.Edits.{Edits}
+use Rattle.wh_state.specs.Stored.{StoredTable, table_meant}
 use Rattle.wh_table.specs.Edited.{IsEdited}
 use Rattle.wh_table.specs.Table.{table_of}
-use Rattle.wh_sessions.specs.Sessions.{transaction_in}
+use Rattle.wh_machine.specs.Sessions.{transaction_in}
 use Rattle.wh_txn.specs.View.{staged_of, sessions_of}
 use Rattle.wh_txn.specs.Seen.{own}
 use Rattle.wh_txn.proofs.SeenLemmas.{own_table, seen_in, seen_as}

@@ -2,7 +2,7 @@ use Rattle.std.proofs.Common.{option_map, refl, sym, ap, ◌∙◌}
 use Rattle.std.specs.FinMap.{FinMap, get}
 use Rattle.std.specs.Ordering.{nat_cmp}
 use Rattle.wh_version.specs.Edits.{edits_in}
-use Rattle.wh_sessions.specs.Transaction as machine
+use Rattle.wh_machine.specs.Transaction as machine
 use Rattle.wh_txn.specs.View.{staged_of, tables_of, transaction_of}
 use Rattle.wh_txn.proofs.TableLemmas.{held, with_same, held_again, some_there, on_err}
 use Rattle.wh_txn.proofs.transaction.Transaction.edit.Goals as goal

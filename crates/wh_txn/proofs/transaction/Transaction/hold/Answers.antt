@@ -1,7 +1,7 @@
 use Rattle.std.proofs.Common.{◌≡◌, None, false, refl, ap}
-use Rattle.wh_machine.specs.Edits.{Edits}
+use Rattle.wh_state.specs.Edits.{Edits}
 use Rattle.wh_version.specs.Edits.{edits_in}
-use Rattle.wh_sessions.specs.Transaction as machine
+use Rattle.wh_machine.specs.Transaction as machine
 use Rattle.wh_txn.specs.declared.transaction.Staged.{Staged}
 use Rattle.wh_txn.specs.View.{staged_of, transaction_of}
 use Rattle.wh_txn.proofs.TableLemmas.{held_anew}

@@ -1,6 +1,6 @@
 use Rattle.std.proofs.Common.{ap, ◌∙◌}
-use Rattle.wh_machine.specs.Streams.{with_streams}
-use Rattle.wh_sessions.specs.Transaction as machine
+use Rattle.wh_machine.specs.Offsets.{with_streams}
+use Rattle.wh_machine.specs.Transaction as machine
 use Rattle.wh_version.specs.Edits.{edits_in}
 use Rattle.wh_txn.specs.View.{transaction_of, with_edits}
 use Rattle.wh_txn.proofs.transaction.Transaction.stage.Goals as goal

@@ -1,6 +1,6 @@
 use Rattle.std.proofs.Common.{◌≡◌, ◌++◌, ◌∙◌, ap}
 use Rattle.std.specs.FinMap.{empty, entries}
-use Rattle.wh_machine.specs.Edits.{with_later, added_left, later_edits}
+use Rattle.wh_state.specs.Edits.{with_later, added_left, later_edits}
 use Rattle.wh_version.specs.Edits.{edits_in}
 use Rattle.wh_version.proofs.Amended.{none_later}
 use Rattle.wh_version.proofs.edits.Edits.amend.Goals as goal

@@ -1,5 +1,5 @@
 use Rattle.std.proofs.Common.{◌≡◌, ◌∙◌, ap}
-use Rattle.wh_machine.specs.Edits.{touched}
+use Rattle.wh_state.specs.Edits.{touched}
 use Rattle.wh_version.specs.Edits.{edits_in, partitions_at}
 use Rattle.wh_version.specs.History.{versions_of, nexts_of, standing_in, next_in}
 use Rattle.wh_version.proofs.Made.{made_for}

@@ -2,8 +2,8 @@ use Rattle.std.proofs.Common.{◌≡◌, ℕ, ◌+◌, ◌<◌, ◌∙◌, ◌�
 use Rattle.std.proofs.Common.{arith, length-append}
 use Rattle.std.specs.List.{list_all}
 use Rattle.std.proofs.lemmas.List.{length-map, map_push}
-use Rattle.wh_machine.specs.Commit.{NumberedFrom}
-use Rattle.wh_machine.specs.Edits.{without}
+use Rattle.wh_state.specs.Commit.{NumberedFrom}
+use Rattle.wh_state.specs.Edits.{without}
 use Rattle.wh_version.specs.declared.kept.Kept.{Kept}
 use Rattle.wh_version.specs.declared.mark.VersionMark.{VersionMark}
 use Rattle.wh_version.specs.Kept.{partitions_in, numbered_from, count_to, is_gone_by, parted, fresh}

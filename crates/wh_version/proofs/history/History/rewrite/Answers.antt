@@ -1,6 +1,6 @@
 use Rattle.std.proofs.Common.{ℕ, ◌+◌, ◌<◌, ◌≤◌, ap, sym, length, arith}
 use Rattle.std.proofs.lemmas.Bool.{le-leb, lt-leb}
-use Rattle.wh_machine.specs.Edits.{partitions_made}
+use Rattle.wh_state.specs.Edits.{partitions_made}
 use Rattle.wh_version.specs.Edits.{edits_in}
 use Rattle.wh_version.specs.History.{versions_of, nexts_of, standing_in, next_in}
 use Rattle.wh_version.proofs.history.History.rewrite.Goals as goal

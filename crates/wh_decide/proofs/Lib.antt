@@ -1,0 +1,16 @@
+pub mod ListLemmas
+pub mod CatalogLemmas
+mod OutcomeLemmas
+mod TableLemmas
+mod DefineLemmas
+mod StreamLemmas
+mod TransactionLemmas
+mod SeenLemmas
+mod SourceLemmas
+mod ReadingLemmas
+mod ChangeLemmas
+mod EditLemmas
+mod TargetLemmas
+mod QueryLemmas
+mod ObjectLemmas
+mod RequestLemmas

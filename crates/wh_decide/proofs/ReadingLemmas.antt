@@ -1,0 +1,102 @@
+-- Streams that can't be read.
+--     start_open, start_alone      the stamp that streams are read up to
+--     least_of, least_alone, least_then     the least id of those whose source is gone
+--     is_gone_first, none_gone     the first test that fails
+--     name_there, name_missing     the name of the object at an id
+--     is_stream_at                 whether a stream stands at an id
+use Rattle.std.proofs.Common.{◌≡◌, ℕ, ◌-◌, List, [], ◌∷◌, map, Option, Some, None, option_map, is_some, refl, sym, ap}
+use Rattle.std.proofs.Common.{◌∙◌}
+use Rattle.std.specs.List.{filter}
+use Rattle.wh_reply.specs.Reply.{SourceGone}
+use Rattle.wh_state.specs.State.{Kind, TableKind, StreamKind, Object, at_id}
+use Rattle.wh_state.specs.Stored.{object_meant}
+use Rattle.wh_machine.specs.Tests.{first_of}
+use Rattle.wh_state.specs.Objects.{name_at, is_kind_at, is_stream, stream_at}
+use Rattle.wh_machine.specs.Transaction.{Transaction, start_at}
+use Rattle.wh_machine.specs.Reading.{is_gone, least_from, least, stale_refusal, reading_refusal}
+use Rattle.wh_catalog.specs.Catalog.{stored_of, state_of, stored_stream_at}
+use Rattle.wh_catalog.specs.Kept.{object_in}
+use Rattle.wh_catalog.specs.Object.{kept_object}
+use Rattle.wh_catalog.specs.declared.catalog.Catalog.{Catalog}
+use Rattle.wh_catalog.specs.declared.object.StoredObject.{StoredObject}
+use Rattle.wh_decide.specs.Sources.{lower}
+use Rattle.wh_decide.proofs.CatalogLemmas.{object_there, stream_there}
+use Rattle.wh_decide.proofs.ListLemmas.{some_is}
+
+pub start_open : (stamp : ℕ) (found : Option Transaction) (number : ℕ)
+    → Some number ≡ option_map (λ (t : Transaction). t.number) found → number - 1 ≡ start_at stamp found
+start_open stamp None number is = absurd cc
+start_open stamp (Some t) number is =
+    ap (λ (n : ℕ). n - 1) (some_is number t.number is)
+
+pub start_alone : (stamp : ℕ) (found : Option Transaction)
+    → None ≡ option_map (λ (t : Transaction). t.number) found → stamp - 1 ≡ start_at stamp found
+start_alone stamp None is = refl
+start_alone stamp (Some t) is = absurd cc
+
+-- ---- sources that are gone
+
+-- the least of some ids, where one is found before them
+abbrev pub least_of : Option ℕ → List ℕ → Option ℕ
+least_of None ids = least ids
+least_of (Some id) ids = Some (least_from id ids)
+
+pub least_alone : (found : Option ℕ) → least_of found [] ≡ found
+least_alone None = refl
+least_alone (Some id) = refl
+
+pub least_then : (found : Option ℕ) (id : ℕ) (ids : List ℕ)
+    → least_of (Some (lower found id)) ids ≡ least_of found (id ∷ ids)
+least_then None id ids = refl
+least_then (Some other) id ids = refl
+
+pub is_gone_first : (objects : List Object) (stamp : ℕ) (ids : List ℕ) (id : ℕ)
+    → least (filter (is_gone objects) ids) ≡ Some id
+    → reading_refusal objects stamp ids ≡ Some (SourceGone (name_at objects id))
+unfolding reading_refusal
+is_gone_first objects stamp ids id is =
+    ap (λ (found : Option ℕ). first_of (option_map (λ (n : ℕ). SourceGone (name_at objects n)) found
+    ∷ map (stale_refusal objects stamp) ids)) is
+
+pub none_gone : (objects : List Object) (stamp : ℕ) (ids : List ℕ)
+    → least (filter (is_gone objects) ids) ≡ None
+    → reading_refusal objects stamp ids ≡ first_of (map (stale_refusal objects stamp) ids)
+unfolding reading_refusal
+none_gone objects stamp ids is =
+    ap (λ (found : Option ℕ). first_of (option_map (λ (n : ℕ). SourceGone (name_at objects n)) found
+    ∷ map (stale_refusal objects stamp) ids)) is
+
+-- ---- names
+
+pub name_there : (c : Catalog) (id : ℕ) (o : StoredObject)
+    → Some (object_in (kept_object o)) ≡ at_id (stored_of c).objects id
+    → (kept_object o).name ≡ name_at (state_of c).objects id
+name_there c id o is =
+    let found : at_id (state_of c).objects id ≡ Some (object_meant (object_in (kept_object o))) =
+    object_there c id ∙ ap (option_map object_meant) (sym is) in
+    rw found refl
+
+pub name_missing : (c : Catalog) (id : ℕ) → None ≡ at_id (stored_of c).objects id
+    → [] ≡ name_at (state_of c).objects id
+name_missing c id is =
+    let found : at_id (state_of c).objects id ≡ None = object_there c id ∙ ap (option_map object_meant) (sym is) in
+    rw found refl
+
+-- ---- streams
+
+pub is_stream_at : (c : Catalog) (id : ℕ)
+    → is_some (stored_stream_at (stored_of c).objects id) ≡ is_kind_at is_stream (state_of c).objects id
+is_stream_at c id = ap is_some (sym (stream_there c id)) ∙ by_object (at_id (state_of c).objects id) refl
+  where
+    objects : List Object
+    objects = (state_of c).objects
+
+    by_kind : (o : Object) (k : Kind) → at_id objects id ≡ Some o → o.kind ≡ k
+        → is_some (stream_at objects id) ≡ is_kind_at is_stream objects id
+    by_kind o (TableKind t) there kind = rw (there, kind) refl
+    by_kind o (StreamKind s) there kind = rw (there, kind) refl
+
+    by_object : (found : Option Object) → at_id objects id ≡ found
+        → is_some (stream_at objects id) ≡ is_kind_at is_stream objects id
+    by_object None none = rw none refl
+    by_object (Some o) there = by_kind o o.kind there refl

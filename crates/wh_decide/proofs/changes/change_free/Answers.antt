@@ -1,0 +1,80 @@
+use Rattle.std.proofs.Common.{◌≡◌, Some, None, Err, refl, ap, sym, subst}
+use Rattle.wh_effect.specs.Effect.{Outcome, effect, Undefined, Ambiguous}
+use Rattle.wh_bound_change.specs.View.{change_of}
+use Rattle.wh_dml.specs.View.{effect_of, Gives}
+use Rattle.wh_dml.specs.declared.fault.EffectFault.{EffectFault}
+use Rattle.wh_reply.specs.Reply.{TypeMismatch, NumberOutOfRange, AmbiguousMerge}
+use Rattle.wh_state.specs.State.{Table}
+use Rattle.wh_state.specs.Objects.{table_at}
+use Rattle.wh_machine.specs.Changes.{rows_seen}
+use Rattle.wh_state.specs.Stored.{table_meant}
+use Rattle.wh_machine.specs.Sessions.{transaction_in}
+use Rattle.wh_machine.specs.Reading.{instance_read}
+use Rattle.wh_catalog.specs.Catalog.{stored_of}
+use Rattle.wh_table.specs.Table.{table_of}
+use Rattle.wh_txn.specs.View.{sessions_of}
+use Rattle.wh_decide.specs.Sight.{machine_in, objects_seen}
+use Rattle.wh_decide.proofs.CatalogLemmas.{table_there, table_missing}
+use Rattle.wh_decide.proofs.OutcomeLemmas.{declines}
+use Rattle.wh_decide.proofs.SeenLemmas.{seen_there, seen_missing}
+use Rattle.wh_decide.proofs.ChangeLemmas.{no_table, fails_as, comes_effect}
+use Rattle.wh_decide.proofs.changes.change_free.Goals.{In-Some}
+use Rattle.wh_decide.proofs.changes.change_free.Goals as goal
+
+-- the target's table, as the session sees it
+target : (c : In-Some) → (t : Table) × (table_at (objects_seen c.args.sight.now) c.args.bound.now.target ≡ Some t)
+target c =
+    let sight = c.args.sight.now in
+    let m = machine_in sight in
+    let id = c.args.bound.now.target in
+    let table = table_of c.in-Some.table.now in
+    seen_there m.state (transaction_in m.sessions sight.session) id (table_meant table)
+    (table_there sight.catalog.now id table (sym c.in-Some.ensures))
+
+-- what a fault says of the effect that is meant
+gives : (meant : Outcome) {fault kind : EffectFault} → fault ≡ kind → Gives (Err fault) meant → Gives (Err kind) meant
+gives meant is = subst (λ (f : EffectFault). Gives (Err f) meant) is
+
+pub returns-in_default : goal.returns-in_default
+returns-in_default c = λ meant is.
+    let sight = c.args.sight.now in
+    let m = machine_in sight in
+    let b = c.args.bound.now in
+    let missing : table_at (objects_seen sight) b.target ≡ None =
+    seen_missing m.state (transaction_in m.sessions sight.session) b.target
+    (table_missing sight.catalog.now b.target (sym c.in_default.ensures)) in
+    declines (stored_of sight.catalog.now) (sessions_of sight.sessions.now) sight.stamp _ _ TypeMismatch refl
+    (no_table m sight.session c.args.streams.items b meant is missing)
+
+pub returns-in-Ok : goal.returns-in-Ok
+returns-in-Ok c =
+    let sight = c.args.sight.now in
+    let v = target (goal.at.returns-in-Ok c).In-Some in
+    comes_effect sight c.settle.result c.args.bound.now c.args.streams.items v.0 (effect_of c.in-Ok.effect)
+    v.1 (c.in-Ok.ensures v.0 v.1) c.settle.ensures
+
+pub returns-in-Err-NumberOutOfRange : goal.returns-in-Err-NumberOutOfRange
+returns-in-Err-NumberOutOfRange c = λ meant is.
+    let sight = c.args.sight.now in
+    let m = machine_in sight in
+    let b = c.args.bound.now in
+    let v = target (goal.at.returns-in-Err-NumberOutOfRange c).In-Some in
+    let comes : effect (change_of b.change) (rows_seen v.0)
+    (instance_read m sight.session b.sources.items) ≡ Undefined =
+    gives _ c.in-Err-NumberOutOfRange.field-0-is (c.in-Err-NumberOutOfRange.ensures v.0 v.1) in
+    declines (stored_of sight.catalog.now) (sessions_of sight.sessions.now) sight.stamp _ _ NumberOutOfRange refl
+    (fails_as m sight.session c.args.streams.items b meant v.0 Undefined NumberOutOfRange is v.1 comes refl)
+
+pub returns-in-Err-AmbiguousMerge : goal.returns-in-Err-AmbiguousMerge
+returns-in-Err-AmbiguousMerge c = λ meant is.
+    let sight = c.args.sight.now in
+    let m = machine_in sight in
+    let b = c.args.bound.now in
+    let row = c.in-Err-AmbiguousMerge.row in
+    let v = target (goal.at.returns-in-Err-AmbiguousMerge c).In-Some in
+    let comes : effect (change_of b.change) (rows_seen v.0)
+    (instance_read m sight.session b.sources.items) ≡ Ambiguous row =
+    gives _ c.in-Err-AmbiguousMerge.field-0-is (c.in-Err-AmbiguousMerge.ensures v.0 v.1) in
+    declines (stored_of sight.catalog.now) (sessions_of sight.sessions.now) sight.stamp _ _ (AmbiguousMerge row)
+    (ap AmbiguousMerge c.in-Err-AmbiguousMerge.row-is)
+    (fails_as m sight.session c.args.streams.items b meant v.0 (Ambiguous row) (AmbiguousMerge row) is v.1 comes refl)

@@ -1,0 +1,108 @@
+ghost use Rattle.std.specs.Prelude.{◌≡◌, option_map, IfOk};
+ghost use Rattle.wh_meaning.specs.Query.{Instance, eval};
+ghost use Rattle.wh_meaning.specs.Listing.{listed};
+ghost use Rattle.wh_algebra.specs.View.{query_of};
+ghost use Rattle.wh_exec.specs.Evaluation as evaluation;
+ghost use Rattle.wh_exec.specs.Evaluation.{Evaluates};
+ghost use Rattle.wh_listing.specs.View.{keys_of};
+ghost use Rattle.wh_machine.specs.Reading.{instance_read};
+ghost use Rattle.wh_machine.specs.Statements.{selects};
+ghost use Rattle.wh_ddl_bind.specs.View.{select_of};
+ghost use Rattle.wh_decide.specs.Rows.{rows_found};
+ghost use Rattle.wh_decide.specs.Sight.{machine_in, Comes};
+ghost use Rattle.wh_decide.specs.Sources.{AreSeenAs};
+
+use crate::decision::{Decision, Settlement};
+use crate::reading::reading_refusal;
+use crate::sight::Sight;
+use crate::sources::{SourceSeen, rows_of, sources_seen};
+use std::alloc::{AllocError, Global};
+use wh_algebra::{Physical, Tuple};
+use wh_bind::BoundSelect;
+use wh_exec::evaluate;
+use wh_listing::listed;
+use wh_reply::{Refusal, Reply};
+use wh_scalar::EvalFault;
+use wh_value::{Limit, Row, Text};
+
+// What a SELECT comes to that nothing is found wrong with, over what the session sees. It makes no
+// commit.
+pub(crate) fn select(
+    alloc: Global,
+    sight: &Sight<'_>,
+    bound: &BoundSelect,
+) -> Result<Decision, AllocError>
+    ensures { IfOk result (λ decision. Comes sight.now decision
+        (selects (machine_in sight.now) sight.now.session (select_of bound.now))) }
+{
+    if bound.is_wide {
+        return Ok(Decision::Refuse(Refusal::OverLimit(Limit::Output)));
+    }
+    if let Some(why) = reading_refusal(alloc, sight, &bound.sources)? {
+        return Ok(Decision::Refuse(why));
+    }
+    let Some(rows) = listed_rows(alloc, sight, bound)? else {
+        return Ok(Decision::Refuse(Refusal::NumberOutOfRange));
+    };
+    let names = copies(alloc, &bound.names)?;
+    Ok(Decision::Do {
+        reply: Reply::Listing { names, rows },
+        settlement: Settlement::Answers,
+    })
+}
+
+// Its rows in order, or None where they are undefined.
+fn listed_rows(
+    alloc: Global,
+    sight: &Sight<'_>,
+    bound: &BoundSelect,
+) -> Result<Option<Vec<Row>>, AllocError>
+    ensures { IfOk result (λ found. rows_found found
+        ≡ option_map (listed (keys_of bound.now.keys.items)) (eval (query_of bound.now.query)
+        (instance_read (machine_in sight.now) sight.now.session bound.now.sources.items))) }
+{
+    let sources = sources_seen(alloc, sight, &bound.sources)?;
+    let rows = rows_over(alloc, bound, &sources);
+    drop(sources);
+    rows
+}
+
+// Its rows over these sources.
+fn rows_over(
+    alloc: Global,
+    bound: &BoundSelect,
+    seen: &[SourceSeen<'_>],
+) -> Result<Option<Vec<Row>>, AllocError>
+    ensures { IfOk result (λ found. (read : Instance) → AreSeenAs seen.now read
+        → rows_found found ≡ option_map (listed (keys_of bound.now.keys.items))
+        (eval (query_of bound.now.query) read)) }
+{
+    let sources = rows_of(alloc, seen)?;
+    match planned_rows(alloc, &bound.query, &sources) {
+        Ok(tuples) => Ok(Some(listed(alloc, &bound.keys, tuples)?)),
+        Err(EvalFault::NumberOutOfRange) => Ok(None),
+        Err(EvalFault::OutOfMemory) => Err(AllocError),
+    }
+}
+
+// The rows of a query by the plan that carries it out as it is written.
+fn planned_rows<'a>(
+    alloc: Global,
+    query: &wh_algebra::Query,
+    sources: &[Vec<&'a Row>],
+) -> Result<Vec<Tuple<'a>>, EvalFault>
+    ensures { Evaluates result (eval (query_of query.now) (evaluation.instance_of sources.now)) }
+{
+    let plan = Physical::plain(alloc, query)?;
+    evaluate(alloc, plan.get(), sources)
+}
+
+fn copies(alloc: Global, names: &[Text]) -> Result<Vec<Text>, AllocError>
+    ensures { IfOk result (λ copies. copies.items ≡ names.now) }
+{
+    let mut copies = Vec::new(alloc);
+    for name in names {
+        copies.push(name.copy(alloc)?)?;
+    }
+    Ok(copies)
+}

@@ -1,0 +1,139 @@
+ghost use Rattle.std.specs.Prelude.{◌≡◌, ◌∷◌, map, option_map, IfOk};
+ghost use Rattle.std.specs.List.{filter};
+ghost use Rattle.wh_reply.specs.View.{refusal_view};
+ghost use Rattle.wh_net.specs.Stream.{is_gone};
+ghost use Rattle.wh_state.specs.Objects as objects;
+ghost use Rattle.wh_state.specs.Objects.{name_at};
+ghost use Rattle.wh_machine.specs.Tests.{first_of};
+ghost use Rattle.wh_machine.specs.Offsets as streams;
+ghost use Rattle.wh_machine.specs.Reading as machine;
+ghost use Rattle.wh_machine.specs.Sessions as holds;
+ghost use Rattle.wh_catalog.specs.Catalog.{state_of};
+ghost use Rattle.wh_txn.specs.View.{sessions_of};
+ghost use Rattle.wh_decide.specs.Sources.{lower};
+
+use crate::sight::Sight;
+use std::alloc::{AllocError, Global};
+use wh_catalog::Catalog;
+use wh_reply::Refusal;
+use wh_stream::{Stale, is_gone, stale};
+use wh_value::Text;
+
+// Where one of these sources can't be read: every stream's source has to be there, and then no stream
+// may lie too far back, in the order of the text.
+pub(crate) fn reading_refusal(
+    alloc: Global,
+    sight: &Sight<'_>,
+    ids: &[u32],
+) -> Result<Option<Refusal>, AllocError>
+    ensures { IfOk result (λ found. option_map refusal_view found ≡ machine.reading_refusal
+        (state_of sight.now.catalog.now).objects sight.now.stamp ids.now) }
+{
+    if let Some(id) = least_gone(sight.catalog, ids) {
+        let name = name_of(alloc, sight.catalog, id)?;
+        return Ok(Some(Refusal::SourceGone(name)));
+    }
+    Ok(first_stale(sight.catalog, ids, sight.stamp))
+}
+
+// The least id of a stream among them whose source is gone.
+fn least_gone(catalog: &Catalog, ids: &[u32]) -> Option<u32>
+    ensures { result ≡ machine.least (filter (is_gone (state_of catalog.now).objects) ids.now) }
+{
+    let mut least = None;
+    for id in ids {
+        if is_gone(catalog, *id) {
+            least = Some(lower(least, *id));
+        }
+    }
+    least
+}
+
+fn lower(least: Option<u32>, id: u32) -> u32
+    ensures { result ≡ lower least id }
+{
+    match least {
+        Some(other) => other.min(id),
+        None => id,
+    }
+}
+
+pub(crate) fn name_of(alloc: Global, catalog: &Catalog, id: u32) -> Result<Text, AllocError>
+    ensures { IfOk result (λ name. name ≡ name_at (state_of catalog.now).objects id) }
+{
+    match catalog.object(id) {
+        Some(object) => {
+            let copy = object.name().copy(alloc)?;
+            Ok(copy)
+        }
+        None => {
+            let empty = Text::of(alloc, "")?;
+            Ok(empty)
+        }
+    }
+}
+
+// Where the first of them lies too far back that does.
+fn first_stale(catalog: &Catalog, ids: &[u32], stamp: u64) -> Option<Refusal>
+    ensures { option_map refusal_view result
+        ≡ first_of (map (machine.stale_refusal (state_of catalog.now).objects stamp) ids.now) }
+{
+    for id in ids {
+        if let Some(Stale { offset, until }) = stale(catalog, *id, stamp) {
+            let last_read = until;
+            return Some(Refusal::StaleStream { offset, last_read });
+        }
+    }
+    None
+}
+
+// Those of them that are streams, in the order of the text.
+pub(crate) fn streams_among(
+    alloc: Global,
+    catalog: &Catalog,
+    ids: &[u32],
+) -> Result<Vec<u32>, AllocError>
+    ensures { IfOk result (λ found. found.items
+        ≡ streams.streams_among (state_of catalog.now).objects ids.now) }
+{
+    let mut found = Vec::new(alloc);
+    for id in ids {
+        if is_stream(catalog, *id) {
+            found.push(*id)?;
+        }
+    }
+    Ok(found)
+}
+
+fn is_stream(catalog: &Catalog, id: u32) -> bool
+    ensures { result ≡ objects.is_kind_at objects.is_stream (state_of catalog.now).objects id }
+{
+    match catalog.stream(id) {
+        Some(_) => true,
+        None => false,
+    }
+}
+
+// The number of another session's transaction that holds the target of a statement, or else the first
+// of its streams that one holds.
+pub(crate) fn first_locked(sight: &Sight<'_>, target: u32, streams: &[u32]) -> Option<u64>
+    ensures { result ≡ holds.first_locked (sessions_of sight.now.sessions.now) sight.now.session
+        (target ∷ streams.now) }
+{
+    if let Some(number) = sight.sessions.locked_by(sight.session, target) {
+        return Some(number);
+    }
+    first_among(sight, streams)
+}
+
+fn first_among(sight: &Sight<'_>, ids: &[u32]) -> Option<u64>
+    ensures { result ≡ holds.first_locked (sessions_of sight.now.sessions.now) sight.now.session
+        ids.now }
+{
+    for id in ids {
+        if let Some(number) = sight.sessions.locked_by(sight.session, *id) {
+            return Some(number);
+        }
+    }
+    None
+}

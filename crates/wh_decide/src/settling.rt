@@ -1,0 +1,119 @@
+ghost use Rattle.std.specs.Prelude.{◌≡◌, ℕ, Some, None, length, IfOk};
+ghost use Rattle.wh_reply.specs.View.{reply_view};
+ghost use Rattle.wh_effect.specs.Effect as effects;
+ghost use Rattle.wh_bound_change.specs.View as changes;
+ghost use Rattle.wh_dml.specs.View.{effect_of};
+ghost use Rattle.wh_state.specs.Stored.{Stored};
+ghost use Rattle.wh_machine.specs.Changes as replies;
+ghost use Rattle.wh_machine.specs.Transaction as transactions;
+ghost use Rattle.wh_machine.specs.Transaction.{Transaction, begun, staged_in_state};
+ghost use Rattle.wh_machine.specs.Sessions.{Sessions, transaction_in, with_transaction};
+ghost use Rattle.wh_machine.specs.Outcome.{Does};
+ghost use Rattle.wh_machine.specs.Statements as machine;
+ghost use Rattle.wh_decide.specs.Decision.{Decides};
+ghost use Rattle.wh_decide.specs.Sight.{machine_in, Comes};
+ghost use Rattle.wh_decide.specs.Changes.{IsCountOf};
+
+use crate::decision::{Decision, Settlement};
+use crate::sight::Sight;
+use std::alloc::{AllocError, Global};
+use wh_bound_change::{BoundChange, Change};
+use wh_dml::Effect;
+use wh_reply::{Refusal, Reply};
+use wh_txn::{RecordFault, lone_commit};
+
+// What an effect on the target comes to outside of a transaction, by a statement that reads these
+// streams: a transaction by itself.
+pub(crate) fn alone(
+    alloc: Global,
+    sight: &Sight<'_>,
+    bound: &BoundChange,
+    streams: &[u32],
+    effect: Effect,
+) -> Result<Decision, AllocError>
+    ensures { IfOk result (λ decision. Comes sight.now decision (machine.alone (machine_in sight.now)
+        (replies.reply_to (changes.change_of bound.now.change) (effect_of effect))
+        (staged_in_state (machine_in sight.now).state (begun sight.now.stamp) bound.now.target
+        streams.now (effect_of effect)))) }
+{
+    let counts = counts_of(&effect);
+    let id = bound.target;
+    match lone_commit(alloc, sight.catalog, sight.stamp, id, streams, effect) {
+        Ok(Some(commit)) => Ok(Decision::Do {
+            reply: reply_to(&bound.change, counts),
+            settlement: Settlement::Commits(commit),
+        }),
+        Ok(None) => Ok(Decision::Do {
+            reply: reply_to(&bound.change, counts),
+            settlement: Settlement::Answers,
+        }),
+        Err(RecordFault::Limit { which, .. }) => Ok(Decision::Refuse(Refusal::OverLimit(which))),
+        Err(RecordFault::OutOfMemory) => Err(AllocError),
+    }
+}
+
+// What it comes to in the session's open transaction, which holds the target and the streams that are
+// read from then on.
+pub(crate) fn staged(
+    session: u64,
+    bound: &BoundChange,
+    streams: Vec<u32>,
+    next_row: u64,
+    effect: Effect,
+) -> Decision
+    ensures { (s : Stored) (sessions : Sessions) (stamp : ℕ) (t : Transaction)
+        → transaction_in sessions session ≡ Some t → Decides s sessions stamp result
+        (Does (replies.reply_to (changes.change_of bound.now.change) (effect_of effect))
+        (with_transaction sessions session
+        (transactions.staged t bound.now.target streams.items next_row (effect_of effect))) None) }
+{
+    Decision::Do {
+        reply: reply_to(&bound.change, counts_of(&effect)),
+        settlement: Settlement::Stages {
+            session,
+            id: bound.target,
+            streams,
+            next_row,
+            effect,
+        },
+    }
+}
+
+// How many rows an effect adds, changes and removes.
+#[derive(Clone, Copy, Debug)]
+pub(crate) struct Counts {
+    inserted: u64,
+    updated: u64,
+    deleted: u64,
+}
+
+fn counts_of(effect: &Effect) -> Counts
+    ensures { IsCountOf result (effect_of effect.now) }
+{
+    Counts {
+        inserted: effect.added.len() as u64,
+        updated: effect.changed.len() as u64,
+        deleted: effect.removed.len() as u64,
+    }
+}
+
+fn reply_to(change: &Change, counts: Counts) -> Reply
+    ensures { (e : effects.Effect) → IsCountOf counts e
+        → reply_view result ≡ replies.reply_to (changes.change_of change.now) e }
+{
+    let Counts {
+        inserted,
+        updated,
+        deleted,
+    } = counts;
+    match change {
+        Change::InsertRows(_) | Change::InsertQuery(_, _) => Reply::Inserted(inserted),
+        Change::Update(_, _) => Reply::Updated(updated),
+        Change::Delete(_) => Reply::Deleted(deleted),
+        Change::Merge(_, _, _) => Reply::Merged {
+            inserted,
+            updated,
+            deleted,
+        },
+    }
+}

@@ -1,0 +1,101 @@
+ghost use Rattle.std.specs.Prelude.{◌≡◌, map, IfOk};
+ghost use Rattle.wh_meaning.specs.Bag.{Bag, bag_of};
+ghost use Rattle.wh_meaning.specs.Query.{Instance};
+ghost use Rattle.wh_exec.specs.Evaluation as evaluation;
+ghost use Rattle.wh_machine.specs.Reading as machine;
+ghost use Rattle.wh_decide.specs.Sight.{machine_in};
+ghost use Rattle.wh_decide.specs.Sources.{IsSeenAs, AreSeenAs, AreRowsOf};
+
+use crate::sight::Sight;
+use std::alloc::{AllocError, Global};
+use wh_stream::show;
+use wh_txn::TableSeen;
+use wh_value::Row;
+
+/// A source as a statement sees it.
+#[derive(Debug, Drop)]
+pub(crate) enum SourceSeen<'a> {
+    Table(TableSeen<'a>),
+    /// The rows that a stream shows.
+    Stream(Vec<Row>),
+}
+
+// What the session sees of the sources of these ids, each as often as it stands.
+pub(crate) fn sources_seen<'a>(
+    alloc: Global,
+    sight: &Sight<'a>,
+    ids: &[u32],
+) -> Result<Vec<SourceSeen<'a>>, AllocError>
+    ensures { IfOk result (λ seen. AreSeenAs seen.items
+        (machine.instance_read (machine_in sight.now) sight.now.session ids.now)) }
+{
+    let mut seen = Vec::new(alloc);
+    for id in ids {
+        seen.push(source_seen(alloc, sight, *id)?)?;
+    }
+    Ok(seen)
+}
+
+fn source_seen<'a>(alloc: Global, sight: &Sight<'a>, id: u32) -> Result<SourceSeen<'a>, AllocError>
+    ensures { IfOk result (λ seen. IsSeenAs seen
+        (machine.rows_read (machine_in sight.now) sight.now.session id)) }
+{
+    if let Some(stream) = sight.catalog.stream(id) {
+        let rows = show(alloc, sight.catalog, stream, sight.start())?;
+        return Ok(SourceSeen::Stream(rows));
+    }
+    let table = sight
+        .sessions
+        .seen(alloc, sight.catalog, sight.session, id)?;
+    Ok(SourceSeen::Table(table))
+}
+
+// The rows of each of them.
+pub(crate) fn rows_of<'a>(
+    alloc: Global,
+    seen: &'a [SourceSeen<'_>],
+) -> Result<Vec<Vec<&'a Row>>, AllocError>
+    ensures { IfOk result (λ sources. (read : Instance) → AreSeenAs seen.now read
+        → evaluation.instance_of sources.items ≡ read) }
+{
+    let sources = each_rows(alloc, seen)?;
+    Ok(sources)
+}
+
+fn each_rows<'a>(alloc: Global, seen: &'a [SourceSeen<'_>]) -> Result<Vec<Vec<&'a Row>>, AllocError>
+    ensures { IfOk result (λ sources. AreRowsOf seen.now sources.items) }
+{
+    let mut sources = Vec::new(alloc);
+    for source in seen {
+        sources.push(source.rows(alloc)?)?;
+    }
+    Ok(sources)
+}
+
+impl SourceSeen<'_> {
+    ghost use Rattle.std.specs.Prelude.{◌≡◌, IfOk};
+    ghost use Rattle.wh_meaning.specs.Bag.{Bag, bag_of};
+    ghost use Rattle.wh_exec.specs.Evaluation.{rows_at};
+    ghost use Rattle.wh_decide.specs.Sources.{IsSeenAs};
+
+    /// Its rows, each as often as it stands.
+    fn rows(&self, alloc: Global) -> Result<Vec<&Row>, AllocError>
+        ensures { IfOk result (λ rows. (bag : Bag) → IsSeenAs self.now bag
+            → bag_of (rows_at rows.items) ≡ bag) }
+    {
+        match self {
+            SourceSeen::Table(table) => table.rows(alloc),
+            SourceSeen::Stream(rows) => each_of(alloc, rows),
+        }
+    }
+}
+
+fn each_of(alloc: Global, rows: &[Row]) -> Result<Vec<&Row>, AllocError>
+    ensures { IfOk result (λ each. evaluation.rows_at each.items ≡ rows.now) }
+{
+    let mut each = Vec::new(alloc);
+    for row in rows {
+        each.push(row)?;
+    }
+    Ok(each)
+}

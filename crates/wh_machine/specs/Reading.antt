@@ -1,0 +1,74 @@
+-- What the statements of a session read.
+--     objects_seen        the objects as the session's transaction sees them
+--     start_in            the stamp that its streams are read up to
+--     rows_read           the rows of an object; instance_read, those of the sources of a statement
+--     reading_refusal     the first test that reading sources fails
+--     has_data            SYSTEM$STREAM_HAS_DATA
+use Rattle.std.specs.Prelude.{ℕ, false, min, List, [], ◌∷◌, map, Option, Some, None, option_map}
+use Rattle.std.specs.List.{filter}
+use Rattle.wh_meaning.specs.Bag.{Bag, no_rows, bag_of}
+use Rattle.wh_meaning.specs.Query.{Instance}
+use Rattle.wh_reply.specs.Reply.{Refusal, SourceGone, StaleStream, HasData}
+use Rattle.wh_state.specs.State.{Kind, TableKind, StreamKind, Object, Stream, at_id}
+use Rattle.wh_state.specs.Objects.{table_at, stream_at, name_at}
+use Rattle.wh_net.specs.Stream.{rows_shown, has_rows, is_gone, stale_at}
+use Rattle.wh_machine.specs.Tests.{first_of}
+use Rattle.wh_machine.specs.Transaction.{seen, start_at}
+use Rattle.wh_machine.specs.Sessions.{transaction_in}
+use Rattle.wh_machine.specs.Outcome.{Machine, Outcome, answers, unless}
+use Rattle.wh_machine.specs.Queries.{table_bag}
+
+abbrev pub objects_seen : Machine → ℕ → List Object
+objects_seen m session = (seen m.state (transaction_in m.sessions session)).objects
+
+abbrev pub start_in : Machine → ℕ → ℕ
+start_in m session = start_at m.state.last (transaction_in m.sessions session)
+
+-- ---- rows: of a table with the transaction's own edits, of a stream by its committed offset and versions
+
+abbrev pub kind_rows : List Object → List Object → ℕ → ℕ → Kind → Bag
+kind_rows committed seen start id (TableKind t) = table_bag (table_at seen id)
+kind_rows committed seen start id (StreamKind s) = bag_of (rows_shown committed s start)
+
+abbrev pub object_rows : List Object → List Object → ℕ → ℕ → Option Object → Bag
+object_rows committed seen start id None = no_rows
+object_rows committed seen start id (Some o) = kind_rows committed seen start id o.kind
+
+abbrev pub rows_read : Machine → ℕ → ℕ → Bag
+rows_read m session id =
+    object_rows m.state.objects (objects_seen m session) (start_in m session) id (at_id m.state.objects id)
+
+abbrev pub instance_read : Machine → ℕ → List ℕ → Instance
+instance_read m session ids = map (rows_read m session) ids
+
+-- ---- streams that can't be read
+
+abbrev pub least_from : ℕ → List ℕ → ℕ
+least_from id [] = id
+least_from id (other ∷ others) = least_from (min id other) others
+
+abbrev pub least : List ℕ → Option ℕ
+least [] = None
+least (id ∷ ids) = Some (least_from id ids)
+
+-- of all that are read, the stream of the least id whose source was dropped or replaced
+abbrev pub gone_refusal : List Object → List ℕ → Option Refusal
+gone_refusal objects ids = option_map (λ id. SourceGone (name_at objects id)) (least (filter (is_gone objects) ids))
+
+abbrev pub stale_refusal : List Object → ℕ → ℕ → Option Refusal
+stale_refusal objects stamp id = option_map (λ stale. StaleStream stale.0 stale.1) (stale_at objects stamp id)
+
+-- that every source is there first, and then that no stream lies too far back, in the order of the text
+unfoldable pub reading_refusal : List Object → ℕ → List ℕ → Option Refusal
+reading_refusal objects stamp ids = first_of (gone_refusal objects ids ∷ map (stale_refusal objects stamp) ids)
+
+-- ---- SYSTEM$STREAM_HAS_DATA
+
+abbrev pub asked : Machine → ℕ → ℕ → Option Stream → Outcome
+asked m session id None = answers m (HasData false)
+asked m session id (Some s) = unless (reading_refusal m.state.objects m.state.last (id ∷ []))
+    (answers m (HasData (has_rows (rows_shown m.state.objects s (start_in m session)))))
+
+-- it reads as a query would, and moves nothing
+unfoldable pub has_data : Machine → ℕ → Option Refusal → ℕ → Outcome
+has_data m session wrong id = unless wrong (asked m session id (stream_at m.state.objects id))

@@ -1,3 +1,0 @@
-//! Sessions and their transactions, as definitions that no code shares. All of it is in `specs/` and
-//! `proofs/`.
-#![tactic(auto)]

@@ -1,0 +1,321 @@
+-- What is written for acts means what they do.
+--     edited_meant                a table's next version
+--     act_meant                   one act, over a table whose partitions are orderly
+--     IsOfOneStatement            the acts that a statement may come to
+--     acts_meant, written_meant   these, and their commit
+use Rattle.std.proofs.Common.{◌≡◌, ℕ, suc, ◌+◌, ◌<◌, ◌≤◌, List, [], ◌∷◌, ◌++◌, length, map}
+use Rattle.std.proofs.Common.{Option, Some, None, option_map}
+use Rattle.std.proofs.Common.{refl, sym, ap, subst, ◌∙◌, arith}
+use Rattle.std.specs.List.{AllByRecursion}
+use Rattle.std.proofs.lemmas.List.{map-append}
+use Rattle.wh_state.specs.State.{Rows, Contents, nothing_held, Version, Table, Object, at_id, with_id, put_at}
+use Rattle.wh_state.specs.State.{StreamKind, dropped, last_of, content_in, last_content, version_at, stamped}
+use Rattle.wh_state.specs.State.{new_object, new_stream}
+use Rattle.wh_state.specs.Edits.{Edits, numbers_gone, partitions_made, without, contents_after}
+use Rattle.wh_state.specs.Act.{Act, MakesTable, DropsObject, EditsRows, MakesStream, MovesOffset, edited_table}
+use Rattle.wh_state.specs.Act.{edited_object, moved_object, acted, all_acted, done}
+use Rattle.wh_state.specs.Stored.{StoredVersion, StoredTable, StoredKind, StoredTableKind, StoredStreamKind}
+use Rattle.wh_state.specs.Stored.{StoredObject, Stored, standing}
+use Rattle.wh_state.specs.Stored.{contents_meant, version_meant, table_meant, object_meant, meant}
+use Rattle.wh_state.specs.Commit.{Change, TableChange, VersionChange, StreamChange, CreatesTable, Drops, CreatesStream}
+use Rattle.wh_state.specs.Commit.{SetsOffset, pushed, pushed_object, offset_set, changed, all_changed, applied}
+use Rattle.wh_state.specs.Orderly.{IsOrderly, IsOrderlyVersion, IsOrderlyTable, IsOrderlyKind, IsOrderlyObject}
+use Rattle.wh_state.specs.Orderly.{IsOrderlyStored}
+use Rattle.wh_state.specs.Written.{version_written, version_written_to, act_written, written, commit_for}
+use Rattle.wh_state.proofs.AllLaws.{all_at}
+use Rattle.wh_state.proofs.IdLaws.{map_changed, at_other, with_same}
+use Rattle.wh_state.proofs.EditLaws.{edits_written}
+use Rattle.wh_state.proofs.MeaningLaws.{at_id_meant, with_id_meant, last_content_meant, columns_meant}
+
+-- ---- a table's next version
+
+-- the change that edits of a table are written as
+abbrev pub version_change : ℕ → ℕ → Edits → StoredTable → VersionChange
+version_change stamp id e t = record {
+  id = id;
+  data_timestamp = stamp;
+  next_row = t.next_row + length e.added;
+  width = length t.columns;
+  removed = numbers_gone e.rows (standing t);
+  added = partitions_made t.next_partition t.next_row e (standing t);
+}
+
+contents_written : (e : Edits) (t : StoredTable) → IsOrderly (standing t)
+    → contents_meant (without (numbers_gone e.rows (standing t)) (standing t)
+    ++ partitions_made t.next_partition t.next_row e (standing t))
+    ≡ contents_after t.next_partition t.next_row e (contents_meant (standing t))
+contents_written e t orderly = ap (λ (rows : Rows). record {
+  rows = rows;
+  partitions = without (numbers_gone e.rows (standing t)) (standing t)
+      ++ partitions_made t.next_partition t.next_row e (standing t);
+}) (edits_written t.next_partition t.next_row e (standing t) orderly)
+
+versions_written : (stamp id : ℕ) (e : Edits) (t : StoredTable) → IsOrderly (standing t)
+    → map version_meant (pushed stamp (version_change stamp id e t) t).versions
+    ≡ map version_meant t.versions
+    ++ version_at stamp (contents_after t.next_partition t.next_row e (contents_meant (standing t))) ∷ []
+versions_written stamp id e t orderly =
+    map-append version_meant t.versions _
+    ∙ ap (λ (new : Contents). map version_meant t.versions ++ version_at stamp new ∷ []) (contents_written e t orderly)
+
+-- a table with its next version, from what its last one holds
+abbrev edited_from : ℕ → Edits → Table → Contents → Table
+edited_from stamp e t c = record t {
+  next_row = t.next_row + length e.added;
+  next_partition = t.next_partition + length (partitions_made t.next_partition t.next_row e c.partitions);
+  versions = t.versions ++ version_at stamp (contents_after t.next_partition t.next_row e c) ∷ [];
+}
+
+edited_is : (stamp : ℕ) (e : Edits) (t : Table)
+    → edited_table stamp e t ≡ edited_from stamp e t (last_content nothing_held t)
+unfolding edited_table
+edited_is stamp e t = refl
+
+pub edited_meant : (stamp id : ℕ) (e : Edits) (t : StoredTable) → IsOrderly (standing t)
+    → table_meant (pushed stamp (version_change stamp id e t) t) ≡ edited_table stamp e (table_meant t)
+edited_meant stamp id e t orderly =
+    ap (λ (versions : List Version). record (edited_from stamp e (table_meant t)
+    (contents_meant (standing t))) { versions = versions })
+    (versions_written stamp id e t orderly)
+    ∙ ap (edited_from stamp e (table_meant t)) (sym (last_content_meant t))
+    ∙ sym (edited_is stamp e (table_meant t))
+
+edited_object_meant : (stamp id : ℕ) (e : Edits) (o : StoredObject) (t : StoredTable) → o.kind ≡ StoredTableKind t
+    → IsOrderly (standing t)
+    → object_meant (pushed_object stamp (version_change stamp id e t) o) ≡ edited_object stamp e (object_meant o)
+edited_object_meant stamp id e o t is orderly =
+    let same = edited_meant stamp id e t orderly in
+    rw (is, same)
+
+-- ---- acts
+
+made_meant : (stamp : ℕ) (objects : List StoredObject) (c : TableChange)
+    → map object_meant (changed stamp objects (CreatesTable c))
+    ≡ acted stamp (map object_meant objects) (MakesTable c.name c.columns c.retention)
+unfolding changed
+made_meant stamp objects c = map-append object_meant objects _
+
+stream_meant : (stamp : ℕ) (objects : List StoredObject) (c : StreamChange) → c.offset ≡ stamp
+    → map object_meant (changed stamp objects (CreatesStream c))
+    ≡ acted stamp (map object_meant objects) (MakesStream c.name c.source c.is_append_only)
+unfolding changed
+stream_meant stamp objects c is =
+    let columns = columns_meant objects c.source in
+    map-append object_meant objects _ ∙ rw (is, columns) refl
+
+offset_meant : (stamp : ℕ) (objects : List StoredObject) (id offset : ℕ)
+    → map object_meant (changed stamp objects (SetsOffset id offset))
+    ≡ acted stamp (map object_meant objects) (MovesOffset id offset)
+unfolding changed
+offset_meant stamp objects id offset =
+    map_changed object_meant (offset_set offset) (moved_object offset) (λ o. by_kind o o.kind) objects id
+  where
+    by_kind : (o : StoredObject) (k : StoredKind) → object_meant (offset_set offset (record o { kind = k }))
+        ≡ moved_object offset (object_meant (record o { kind = k }))
+    by_kind o (StoredTableKind t) = refl
+    by_kind o (StoredStreamKind s) = refl
+
+dropped_meant : (stamp : ℕ) (objects : List StoredObject) (id : ℕ)
+    → map object_meant (changed stamp objects (Drops id)) ≡ acted stamp (map object_meant objects) (DropsObject id)
+unfolding changed
+dropped_meant stamp objects id = map_changed object_meant dropped dropped (λ o. refl) objects id
+
+edits_meant : (stamp id : ℕ) (e : Edits) (objects : List StoredObject) (o : StoredObject) (t : StoredTable)
+    → at_id objects id ≡ Some o → o.kind ≡ StoredTableKind t → IsOrderly (standing t)
+    → map object_meant (changed stamp objects (version_written stamp id e t))
+    ≡ with_id (map object_meant objects) id (edited_object stamp e (object_meant o))
+unfolding changed
+edits_meant stamp id e objects o t there is orderly =
+    ap (λ (found : Option StoredObject). map object_meant
+    (put_at objects id (option_map (pushed_object stamp (version_change stamp id e t)) found))) there
+    ∙ with_id_meant objects id (pushed_object stamp (version_change stamp id e t) o)
+    ∙ ap (with_id (map object_meant objects) id) (edited_object_meant stamp id e o t is orderly)
+
+-- what is edited is orderly
+abbrev pub OrderlyAt : Option StoredObject → Type 0
+OrderlyAt None = Unit {0}
+OrderlyAt (Some o) = IsOrderlyObject o
+
+abbrev pub OrderlyFor : List StoredObject → Act → Type 0
+OrderlyFor objects (MakesTable name columns retention) = Unit {0}
+OrderlyFor objects (DropsObject id) = Unit {0}
+OrderlyFor objects (EditsRows id e) = OrderlyAt (at_id objects id)
+OrderlyFor objects (MakesStream name source is_append_only) = Unit {0}
+OrderlyFor objects (MovesOffset id offset) = Unit {0}
+
+-- what stands is orderly
+pub orderly_standing : (t : StoredTable) → IsOrderlyTable t → IsOrderly (standing t)
+orderly_standing t orderly = of_last t.versions orderly
+  where
+    of_last : (versions : List StoredVersion) → AllByRecursion IsOrderlyVersion versions
+        → IsOrderly (content_in [] (last_of versions))
+    of_last [] all = record { numbers = tt; rows = tt; apart = tt }
+    of_last (v ∷ []) all = all.0
+    of_last (v ∷ w ∷ vs) all = of_last (w ∷ vs) all.1
+
+pub act_meant : (stamp : ℕ) (objects : List StoredObject) (act : Act) → OrderlyFor objects act
+    → map object_meant (all_changed stamp objects (act_written stamp objects act))
+    ≡ acted stamp (map object_meant objects) act
+act_meant stamp objects (MakesTable name columns retention) orderly =
+    made_meant stamp objects (record { id = length objects + 1; name = name; retention = retention; columns = columns })
+act_meant stamp objects (DropsObject id) orderly = dropped_meant stamp objects id
+act_meant stamp objects (MakesStream name source is_append_only) orderly = stream_meant stamp objects (record {
+  id = length objects + 1;
+  name = name;
+  source = source;
+  is_append_only = is_append_only;
+  offset = stamp;
+}) refl
+act_meant stamp objects (MovesOffset id offset) orderly = offset_meant stamp objects id offset
+act_meant stamp objects (EditsRows id e) orderly =
+    by_found (at_id objects id) refl orderly
+    ∙ ap (λ (found : Option Object). put_at (map object_meant objects) id (option_map (edited_object stamp e) found))
+    (sym (at_id_meant objects id))
+  where
+    by_kind : (o : StoredObject) (k : StoredKind) → at_id objects id ≡ Some o → o.kind ≡ k → IsOrderlyKind k
+        → map object_meant (all_changed stamp objects (version_written_to stamp id e (Some o)))
+        ≡ with_id (map object_meant objects) id (edited_object stamp e (object_meant o))
+    by_kind o (StoredTableKind t) there is orderly =
+        let edited : map object_meant (changed stamp objects (version_written stamp id e t))
+        ≡ with_id (map object_meant objects) id (edited_object stamp e (object_meant o)) =
+        edits_meant stamp id e objects o t there is (orderly_standing t orderly) in
+        rw is (rw is at edited)
+    by_kind o (StoredStreamKind s) there is orderly =
+        rw is (sym (with_same (map object_meant objects) id (object_meant o)
+        (at_id_meant objects id ∙ ap (option_map object_meant) there)) ∙ ap (with_id (map object_meant objects) id) (rw is refl))
+
+    by_found : (found : Option StoredObject) → at_id objects id ≡ found → OrderlyAt found
+        → map object_meant (all_changed stamp objects (version_written_to stamp id e found))
+        ≡ put_at (map object_meant objects) id (option_map (edited_object stamp e) (option_map object_meant found))
+    by_found None none orderly = refl
+    by_found (Some o) there orderly = by_kind o o.kind there refl orderly
+
+-- ---- the acts of a statement
+
+-- offsets that move
+abbrev pub AreMoves : List Act → Type 0
+AreMoves [] = Unit {0}
+AreMoves (MovesOffset id offset ∷ acts) = AreMoves acts
+AreMoves _ = ⊥
+
+-- edits of tables by rising ids, from that id on, and then offsets that move
+abbrev pub AreEditsFrom : ℕ → List Act → Type 0
+AreEditsFrom least [] = Unit {0}
+AreEditsFrom least (EditsRows id e ∷ acts) = (least ≤ id) × AreEditsFrom (suc id) acts
+AreEditsFrom least (MovesOffset id offset ∷ acts) = AreMoves acts
+AreEditsFrom least _ = ⊥
+
+-- none, one, a drop with a new table, or edits of several tables with offsets that move
+abbrev pub IsOfOneStatement : List Act → Type 0
+IsOfOneStatement [] = Unit {0}
+IsOfOneStatement (MakesTable name columns retention ∷ []) = Unit {0}
+IsOfOneStatement (MakesStream name source is_append_only ∷ []) = Unit {0}
+IsOfOneStatement (DropsObject id ∷ []) = Unit {0}
+IsOfOneStatement (DropsObject id ∷ MakesTable name columns retention ∷ []) = Unit {0}
+IsOfOneStatement (EditsRows id e ∷ acts) = AreEditsFrom (suc id) acts
+IsOfOneStatement (MovesOffset id offset ∷ acts) = AreMoves acts
+IsOfOneStatement _ = ⊥
+
+pub all_changed_append : (stamp : ℕ) (objects : List StoredObject) (cs ds : List Change)
+    → all_changed stamp objects (cs ++ ds) ≡ all_changed stamp (all_changed stamp objects cs) ds
+all_changed_append stamp objects [] ds = refl
+all_changed_append stamp objects (c ∷ cs) ds = all_changed_append stamp (changed stamp objects c) cs ds
+
+-- an act, and then others
+more_meant : (stamp : ℕ) (objects : List StoredObject) (act : Act) (acts : List Act) → OrderlyFor objects act
+    → ((first : List StoredObject) → first ≡ all_changed stamp objects (act_written stamp objects act)
+    → map object_meant (all_changed stamp first (written stamp first acts))
+    ≡ all_acted stamp (map object_meant first) acts)
+    → map object_meant (all_changed stamp objects (written stamp objects (act ∷ acts)))
+    ≡ all_acted stamp (map object_meant objects) (act ∷ acts)
+more_meant stamp objects act acts orderly rest =
+    let first : List StoredObject = all_changed stamp objects (act_written stamp objects act) in
+    ap (map object_meant) (all_changed_append stamp objects (act_written stamp objects act) (written stamp first acts))
+    ∙ rest first refl ∙ ap (λ (l : List Object). all_acted stamp l acts) (act_meant stamp objects act orderly)
+
+-- what is written for the edits of a table leaves what stands behind it
+pub edit_leaves : (stamp id : ℕ) (e : Edits) (objects : List StoredObject) (later : ℕ) → id < later
+    → at_id (all_changed stamp objects (act_written stamp objects (EditsRows id e))) later ≡ at_id objects later
+unfolding changed
+edit_leaves stamp id e objects later h = by_found (at_id objects id)
+  where
+    by_kind : (o : StoredObject) (k : StoredKind)
+        → at_id (all_changed stamp objects (version_written_to stamp id e (Some (record o { kind = k })))) later
+        ≡ at_id objects later
+    by_kind o (StoredTableKind t) = at_other (pushed_object stamp (version_change stamp id e t)) objects id later h
+    by_kind o (StoredStreamKind s) = refl
+
+    by_found : (found : Option StoredObject)
+        → at_id (all_changed stamp objects (version_written_to stamp id e found)) later ≡ at_id objects later
+    by_found None = refl
+    by_found (Some o) = by_kind o o.kind
+
+abbrev pub OrderlyFrom : ℕ → List StoredObject → Type 0
+OrderlyFrom least objects = (id : ℕ) → least ≤ id → OrderlyAt (at_id objects id)
+
+moves_meant : (stamp : ℕ) (objects : List StoredObject) (acts : List Act) → AreMoves acts
+    → map object_meant (all_changed stamp objects (written stamp objects acts))
+    ≡ all_acted stamp (map object_meant objects) acts
+moves_meant stamp objects [] moves = refl
+moves_meant stamp objects (MakesTable name columns retention ∷ acts) moves = absurd moves
+moves_meant stamp objects (DropsObject id ∷ acts) moves = absurd moves
+moves_meant stamp objects (EditsRows id e ∷ acts) moves = absurd moves
+moves_meant stamp objects (MakesStream name source is_append_only ∷ acts) moves = absurd moves
+moves_meant stamp objects (MovesOffset id offset ∷ acts) moves =
+    more_meant stamp objects (MovesOffset id offset) acts tt (λ first is. moves_meant stamp first acts moves)
+
+edits_all_meant : (stamp least : ℕ) (objects : List StoredObject) (acts : List Act) → AreEditsFrom least acts
+    → OrderlyFrom least objects
+    → map object_meant (all_changed stamp objects (written stamp objects acts))
+    ≡ all_acted stamp (map object_meant objects) acts
+edits_all_meant stamp least objects [] rising orderly = refl
+edits_all_meant stamp least objects (MakesTable name columns retention ∷ acts) rising orderly = absurd rising
+edits_all_meant stamp least objects (DropsObject id ∷ acts) rising orderly = absurd rising
+edits_all_meant stamp least objects (MakesStream name source a ∷ acts) rising orderly = absurd rising
+edits_all_meant stamp least objects (MovesOffset id offset ∷ acts) rising orderly =
+    moves_meant stamp objects (MovesOffset id offset ∷ acts) rising
+edits_all_meant stamp least objects (EditsRows id e ∷ acts) rising orderly =
+    more_meant stamp objects (EditsRows id e) acts (orderly id rising.0) (λ first is.
+    edits_all_meant stamp (suc id) first acts rising.1 (λ later h.
+    subst OrderlyAt
+    (sym (ap (λ (l : List StoredObject). at_id l later) is ∙ edit_leaves stamp id e objects later (omega arith)))
+    (orderly later (omega (arith, rising.0)))))
+
+orderly_from : (s : Stored) → IsOrderlyStored s → OrderlyFrom 0 s.objects
+orderly_from s orderly id h = by_found (at_id s.objects id) refl
+  where
+    by_found : (found : Option StoredObject) → at_id s.objects id ≡ found → OrderlyAt found
+    by_found None none = tt
+    by_found (Some o) there = all_at IsOrderlyObject s.objects id o orderly there
+
+pub acts_meant : (s : Stored) (stamp : ℕ) (acts : List Act) → IsOfOneStatement acts → IsOrderlyStored s
+    → map object_meant (all_changed stamp s.objects (written stamp s.objects acts))
+    ≡ all_acted stamp (map object_meant s.objects) acts
+acts_meant s stamp [] shape orderly = refl
+acts_meant s stamp (MakesTable n c r ∷ []) shape orderly =
+    more_meant stamp s.objects (MakesTable n c r) [] tt (λ first is. refl)
+acts_meant s stamp (MakesStream name source a ∷ []) shape orderly =
+    more_meant stamp s.objects (MakesStream name source a) [] tt (λ first is. refl)
+acts_meant s stamp (MovesOffset id offset ∷ acts) shape orderly =
+    moves_meant stamp s.objects (MovesOffset id offset ∷ acts) shape
+acts_meant s stamp (DropsObject id ∷ []) shape orderly =
+    more_meant stamp s.objects (DropsObject id) [] tt (λ first is. refl)
+acts_meant s stamp (DropsObject id ∷ MakesTable name columns retention ∷ []) shape orderly =
+    more_meant stamp s.objects (DropsObject id) (MakesTable name columns retention ∷ []) tt
+    (λ first is. more_meant stamp first (MakesTable name columns retention) [] tt (λ second at. refl))
+acts_meant s stamp (EditsRows id e ∷ acts) shape orderly =
+    edits_all_meant stamp 0 s.objects (EditsRows id e ∷ acts) (omega arith, shape) (orderly_from s orderly)
+acts_meant s stamp (MakesTable n c r ∷ act ∷ acts) shape orderly = absurd shape
+acts_meant s stamp (MakesStream n o a ∷ act ∷ acts) shape orderly = absurd shape
+acts_meant s stamp (DropsObject id ∷ DropsObject other ∷ acts) shape orderly = absurd shape
+acts_meant s stamp (DropsObject id ∷ EditsRows other e ∷ acts) shape orderly = absurd shape
+acts_meant s stamp (DropsObject id ∷ MakesStream n o a ∷ acts) shape orderly = absurd shape
+acts_meant s stamp (DropsObject id ∷ MovesOffset other offset ∷ acts) shape orderly = absurd shape
+acts_meant s stamp (DropsObject id ∷ MakesTable n c r ∷ act ∷ acts) shape orderly = absurd shape
+
+-- over an orderly file, what is written for the acts of a statement means what they do
+pub written_meant : (s : Stored) (stamp : ℕ) (acts : List Act) → IsOfOneStatement acts → IsOrderlyStored s
+    → meant (applied s (commit_for s stamp acts)) ≡ done (stamped (meant s) stamp) acts
+written_meant s stamp acts shape orderly =
+    ap (λ (objects : List Object). record { last = stamp; committed = stamp; objects = objects })
+    (acts_meant s stamp acts shape orderly)

@@ -1,0 +1,16 @@
+pub mod AllLaws
+pub mod IdLaws
+pub mod CutLaws
+pub mod RisingEntries
+pub mod RowLaws
+pub mod EditLaws
+pub mod VersionLaws
+pub mod MeaningLaws
+pub mod ActLaws
+pub mod OrderlyLaws
+pub mod SoundLaws
+pub mod KnownMaps
+pub mod KnownFacts
+pub mod KnownCommits
+pub mod KnownEdits
+pub mod KnownChanges

@@ -1,0 +1,269 @@
+-- What is sound stays so.
+--     sound_first                  the first state is sound
+--     sound_rest                   so is a sound state as the file keeps it
+--     IsWithin, AreWithin          offsets that move aren't after a stamp
+--     sound_done                   a commit of the acts of a statement at a later stamp
+use Rattle.std.proofs.Common.{◌≡◌, ℕ, suc, ◌+◌, ◌<◌, ◌≤◌, ◌⊎◌, inl, inr, List, [], ◌∷◌, length}
+use Rattle.std.proofs.Common.{Option, Some, None, option_map, refl, sym, subst, arith}
+use Rattle.std.specs.List.{AllByRecursion}
+use Rattle.std.specs.FinMap.{get}
+use Rattle.std.proofs.lemmas.Bool.{cases_lt}
+use Rattle.wh_value.specs.Value.{Row}
+use Rattle.wh_value.specs.Column.{Column}
+use Rattle.wh_state.specs.State.{Version, Table, Stream, Kind, TableKind, StreamKind, Object, State, nothing_held}
+use Rattle.wh_state.specs.State.{new_table, new_object, new_stream}
+use Rattle.wh_state.specs.State.{dropped, version_at, last_rows, first_state, at_rest, at_id, put_at}
+use Rattle.wh_state.specs.Edits.{Edits}
+use Rattle.wh_state.specs.Act.{Act, MakesTable, DropsObject, EditsRows, MakesStream, MovesOffset, next_contents}
+use Rattle.wh_state.specs.Act.{edited_table, edited_kind, edited_object, moved_kind, moved_object, acted}
+use Rattle.wh_state.specs.Act.{all_acted, done}
+use Rattle.wh_state.specs.Sound.{IsTimely, IsBelow, IsSoundTable, IsSoundKind, IsSoundObject, Sound}
+use Rattle.wh_state.proofs.AllLaws.{all_map, all_more, all_at, all_with, all_changed_at}
+use Rattle.wh_state.proofs.IdLaws.{at_other}
+use Rattle.wh_state.proofs.ActLaws.{AreMoves, AreEditsFrom, IsOfOneStatement}
+use Rattle.wh_state.proofs.VersionLaws.{still_lacks, empty_lacks, last_below, rise_more, none_more}
+
+-- ---- tables
+
+timely_later : (committed stamp : ℕ) → committed ≤ stamp → (v : Version) → IsTimely committed v → IsTimely stamp v
+timely_later committed stamp later v is = record { stamp = omega (arith, is.stamp); data_timestamp = is.data_timestamp }
+
+table_later : (committed stamp : ℕ) → committed ≤ stamp → (t : Table) → IsSoundTable committed t → IsSoundTable stamp t
+table_later committed stamp later t is = record {
+  timely = all_map (IsTimely committed) (IsTimely stamp) (timely_later committed stamp later) t.versions is.timely;
+  rise = is.rise;
+  below = is.below;
+  none_returns = is.none_returns;
+}
+
+new_sound : (columns : List Column) (retention stamp : ℕ)
+    → IsSoundTable stamp (new_table nothing_held columns retention stamp)
+new_sound columns retention stamp = record {
+  timely = (record { stamp = omega arith; data_timestamp = refl }, tt);
+  rise = tt;
+  below = (λ number has. absurd (cc (empty_lacks number, has.is_there)), tt);
+  none_returns = tt;
+}
+
+-- a table's next version
+abbrev next_version : ℕ → Edits → Table → Version
+next_version stamp e t = version_at stamp (next_contents e t)
+
+-- no number of the next version is too great
+next_below : (stamp : ℕ) (e : Edits) (t : Table) → AllByRecursion (IsBelow t.next_row) t.versions
+    → IsBelow (t.next_row + length e.added) (next_version stamp e t)
+next_below stamp e t below number has = by_place (cases_lt number (t.next_row + length e.added))
+  where
+    -- a row that was there before is below the old next number
+    by_row : (old : Option Row) → get (last_rows t) number ≡ old → (t.next_row + length e.added ≤ number)
+        → number < t.next_row + length e.added
+    by_row None lacks behind =
+        absurd (cc (still_lacks t.next_row e (last_rows t) number (inr behind) lacks, has.is_there))
+    by_row (Some row) there behind = absurd (omega (arith, last_below t.next_row t.versions below number row there))
+
+    by_place : (number < t.next_row + length e.added) ⊎ (t.next_row + length e.added ≤ number)
+        → number < t.next_row + length e.added
+    by_place (inl within) = within
+    by_place (inr behind) = by_row (get (last_rows t) number) refl behind
+
+edited_sound : (committed stamp : ℕ) (e : Edits) → committed < stamp → (t : Table) → IsSoundTable committed t
+    → IsSoundTable stamp (edited_table stamp e t)
+unfolding edited_table
+edited_sound committed stamp e later t sound =
+    let v : Version = next_version stamp e t in
+    let next : ℕ = t.next_row + length e.added in
+    let old : IsSoundTable stamp t = table_later committed stamp (omega arith) t sound in
+    let old_below : AllByRecursion (IsBelow next) t.versions =
+    all_map (IsBelow t.next_row) (IsBelow next) (λ w is number has. omega (arith, is number has))
+    t.versions sound.below in
+    record {
+      timely =
+          all_more (IsTimely stamp) t.versions v old.timely (record { stamp = omega arith; data_timestamp = refl });
+      rise = rise_more committed t.versions v sound.timely sound.rise later refl;
+      below = all_more (IsBelow next) t.versions v old_below (next_below stamp e t sound.below);
+      none_returns = none_more t.next_row t.versions v sound.below sound.none_returns
+          (λ number before lacks. still_lacks t.next_row e (last_rows t) number (inl before) lacks);
+    }
+
+-- ---- objects
+
+kind_later : (committed stamp : ℕ) → committed ≤ stamp → (k : Kind) → IsSoundKind committed k → IsSoundKind stamp k
+kind_later committed stamp later (TableKind t) sound = table_later committed stamp later t sound
+kind_later committed stamp later (StreamKind s) sound = omega (arith, sound)
+
+object_later : (committed stamp : ℕ) → committed ≤ stamp → (o : Object) → IsSoundObject committed o
+    → IsSoundObject stamp o
+object_later committed stamp later o sound =
+    record { created = omega (arith, sound.created); kind = kind_later committed stamp later o.kind sound.kind }
+
+edited_kind_sound : (committed stamp : ℕ) (e : Edits) → committed < stamp → (k : Kind) → IsSoundKind committed k
+    → IsSoundKind stamp (edited_kind stamp e k)
+edited_kind_sound committed stamp e later (TableKind t) sound = edited_sound committed stamp e later t sound
+edited_kind_sound committed stamp e later (StreamKind s) sound = omega (arith, sound)
+
+edited_object_sound : (committed stamp : ℕ) (e : Edits) → committed < stamp → (o : Object) → IsSoundObject committed o
+    → IsSoundObject stamp (edited_object stamp e o)
+edited_object_sound committed stamp e later o sound = record {
+  created = omega (arith, sound.created);
+  kind = edited_kind_sound committed stamp e later o.kind sound.kind;
+}
+
+dropped_sound : (committed stamp : ℕ) → committed ≤ stamp → (o : Object) → IsSoundObject committed o
+    → IsSoundObject stamp (dropped o)
+dropped_sound committed stamp later o sound =
+    record { created = omega (arith, sound.created); kind = kind_later committed stamp later o.kind sound.kind }
+
+new_object_sound : (name : List ℕ) (columns : List Column) (retention stamp : ℕ)
+    → IsSoundObject stamp (new_object name stamp (TableKind (new_table nothing_held columns retention stamp)))
+new_object_sound name columns retention stamp =
+    record { created = omega arith; kind = new_sound columns retention stamp }
+
+-- a stream's offset, which isn't after the stamp
+moved_object_sound : (stamp offset : ℕ) → offset ≤ stamp → (o : Object) → IsSoundObject stamp o
+    → IsSoundObject stamp (moved_object offset o)
+moved_object_sound stamp offset h o sound = record { created = sound.created; kind = by_kind o.kind sound.kind }
+  where
+    by_kind : (k : Kind) → IsSoundKind stamp k → IsSoundKind stamp (moved_kind offset k)
+    by_kind (TableKind t) sound = sound
+    by_kind (StreamKind s) sound = h
+
+-- an offset that moves isn't after the stamp
+abbrev pub IsWithin : ℕ → Act → Type 0
+IsWithin stamp (MakesTable name columns retention) = Unit {0}
+IsWithin stamp (DropsObject id) = Unit {0}
+IsWithin stamp (EditsRows id e) = Unit {0}
+IsWithin stamp (MakesStream name source is_append_only) = Unit {0}
+IsWithin stamp (MovesOffset id offset) = offset ≤ stamp
+
+abbrev pub AreWithin : ℕ → List Act → Type 0
+AreWithin stamp acts = AllByRecursion (IsWithin stamp) acts
+
+-- an act at a stamp past the last commit
+acted_sound : (committed stamp : ℕ) → committed < stamp → (objects : List Object)
+    → AllByRecursion (IsSoundObject committed) objects → (act : Act) → IsWithin stamp act
+    → AllByRecursion (IsSoundObject stamp) (acted stamp objects act)
+acted_sound committed stamp later objects sound act within = by_act act within
+  where
+    still : AllByRecursion (IsSoundObject stamp) objects
+    still = all_map (IsSoundObject committed) (IsSoundObject stamp) (object_later committed stamp (omega (arith, later)))
+        objects sound
+
+    by_act : (act : Act) → IsWithin stamp act → AllByRecursion (IsSoundObject stamp) (acted stamp objects act)
+    by_act (MakesTable name columns retention) within =
+        all_more (IsSoundObject stamp) objects _ still (new_object_sound name columns retention stamp)
+    by_act (MakesStream name source is_append_only) within =
+        all_more (IsSoundObject stamp) objects _ still (record { created = omega arith; kind = omega arith })
+    by_act (DropsObject id) within =
+        all_changed_at (IsSoundObject committed) (IsSoundObject stamp) dropped
+        (object_later committed stamp (omega (arith, later)))
+        (dropped_sound committed stamp (omega (arith, later))) objects id sound
+    by_act (EditsRows id e) within =
+        all_changed_at (IsSoundObject committed) (IsSoundObject stamp) (edited_object stamp e)
+        (object_later committed stamp (omega (arith, later)))
+        (edited_object_sound committed stamp e later) objects id sound
+    by_act (MovesOffset id offset) within =
+        all_changed_at (IsSoundObject stamp) (IsSoundObject stamp) (moved_object offset) (λ o h. h)
+        (moved_object_sound stamp offset within) objects id still
+
+-- ---- the acts of a statement
+
+-- what stands at an id was sound before
+abbrev SoundAt : ℕ → Option Object → Type 0
+SoundAt committed None = Unit {0}
+SoundAt committed (Some o) = IsSoundObject committed o
+
+abbrev SoundFrom : ℕ → ℕ → List Object → Type 0
+SoundFrom committed least objects = (id : ℕ) → least ≤ id → SoundAt committed (at_id objects id)
+
+sound_from : (committed : ℕ) (objects : List Object) → AllByRecursion (IsSoundObject committed) objects
+    → SoundFrom committed 0 objects
+sound_from committed objects sound id h = by_found (at_id objects id) refl
+  where
+    by_found : (found : Option Object) → at_id objects id ≡ found → SoundAt committed found
+    by_found None none = tt
+    by_found (Some o) there = all_at (IsSoundObject committed) objects id o sound there
+
+edit_sound : (committed stamp id : ℕ) (e : Edits) → committed < stamp → (objects : List Object)
+    → AllByRecursion (IsSoundObject stamp) objects → SoundAt committed (at_id objects id)
+    → AllByRecursion (IsSoundObject stamp) (acted stamp objects (EditsRows id e))
+edit_sound committed stamp id e later objects sound here = by_found (at_id objects id) here
+  where
+    by_found : (found : Option Object) → SoundAt committed found
+        → AllByRecursion (IsSoundObject stamp) (put_at objects id (option_map (edited_object stamp e) found))
+    by_found None here = sound
+    by_found (Some o) here =
+        all_with (IsSoundObject stamp) objects id (edited_object stamp e o) sound
+        (edited_object_sound committed stamp e later o here)
+
+moves_sound : (stamp : ℕ) (objects : List Object) (acts : List Act) → AreMoves acts → AreWithin stamp acts
+    → AllByRecursion (IsSoundObject stamp) objects → AllByRecursion (IsSoundObject stamp) (all_acted stamp objects acts)
+moves_sound stamp objects [] moves within sound = sound
+moves_sound stamp objects (MakesTable n c r ∷ acts) moves within sound = absurd moves
+moves_sound stamp objects (DropsObject id ∷ acts) moves within sound = absurd moves
+moves_sound stamp objects (EditsRows id e ∷ acts) moves within sound = absurd moves
+moves_sound stamp objects (MakesStream n o a ∷ acts) moves within sound = absurd moves
+moves_sound stamp objects (MovesOffset id offset ∷ acts) moves within sound =
+    moves_sound stamp (acted stamp objects (MovesOffset id offset)) acts moves within.1
+    (all_changed_at (IsSoundObject stamp) (IsSoundObject stamp) (moved_object offset) (λ o h. h)
+    (moved_object_sound stamp offset within.0) objects id sound)
+
+edits_sound : (committed stamp least : ℕ) → committed < stamp → (objects : List Object) (acts : List Act)
+    → AreEditsFrom least acts → AreWithin stamp acts → AllByRecursion (IsSoundObject stamp) objects → SoundFrom committed least objects
+    → AllByRecursion (IsSoundObject stamp) (all_acted stamp objects acts)
+edits_sound committed stamp least later objects [] rising within sound before = sound
+edits_sound committed stamp least later objects (MakesTable n c r ∷ acts) rising within sound before = absurd rising
+edits_sound committed stamp least later objects (DropsObject id ∷ acts) rising within sound before = absurd rising
+edits_sound committed stamp least later objects (MakesStream n o a ∷ acts) rising within sound before = absurd rising
+edits_sound committed stamp least later objects (MovesOffset id offset ∷ acts) rising within sound before =
+    moves_sound stamp objects (MovesOffset id offset ∷ acts) rising within sound
+edits_sound committed stamp least later objects (EditsRows id e ∷ acts) rising within sound before =
+    edits_sound committed stamp (suc id) later (acted stamp objects (EditsRows id e)) acts rising.1 within.1
+    (edit_sound committed stamp id e later objects sound (before id rising.0))
+    (λ other h. subst (SoundAt committed) (sym (at_other (edited_object stamp e) objects id other (omega arith)))
+    (before other (omega (arith, rising.0))))
+
+acts_sound : (committed stamp : ℕ) → committed < stamp → (objects : List Object)
+    → AllByRecursion (IsSoundObject committed) objects → (acts : List Act) → IsOfOneStatement acts → AreWithin stamp acts
+    → AllByRecursion (IsSoundObject stamp) (all_acted stamp objects acts)
+acts_sound committed stamp later objects sound [] shape within =
+    all_map (IsSoundObject committed) (IsSoundObject stamp) (object_later committed stamp (omega arith)) objects sound
+acts_sound committed stamp later objects sound (MakesTable n c r ∷ []) shape within =
+    acted_sound committed stamp later objects sound (MakesTable n c r) tt
+acts_sound committed stamp later objects sound (MakesStream n o a ∷ []) shape within =
+    acted_sound committed stamp later objects sound (MakesStream n o a) tt
+acts_sound committed stamp later objects sound (MovesOffset id offset ∷ acts) shape within =
+    moves_sound stamp objects (MovesOffset id offset ∷ acts) shape within
+    (all_map (IsSoundObject committed) (IsSoundObject stamp) (object_later committed stamp (omega arith)) objects sound)
+acts_sound committed stamp later objects sound (DropsObject id ∷ []) shape within =
+    acted_sound committed stamp later objects sound (DropsObject id) tt
+acts_sound committed stamp later objects sound (DropsObject id ∷ MakesTable n c r ∷ []) shape within =
+    all_more (IsSoundObject stamp) (acted stamp objects (DropsObject id)) _
+    (acted_sound committed stamp later objects sound (DropsObject id) tt) (new_object_sound n c r stamp)
+acts_sound committed stamp later objects sound (EditsRows id e ∷ acts) shape within =
+    edits_sound committed stamp 0 later objects (EditsRows id e ∷ acts) (omega arith, shape) within
+    (all_map (IsSoundObject committed) (IsSoundObject stamp) (object_later committed stamp (omega arith)) objects sound)
+    (sound_from committed objects sound)
+acts_sound committed stamp later objects sound (MakesTable n c r ∷ act ∷ acts) shape within = absurd shape
+acts_sound committed stamp later objects sound (MakesStream n o a ∷ act ∷ acts) shape within = absurd shape
+acts_sound committed stamp later objects sound (DropsObject id ∷ DropsObject other ∷ acts) shape within = absurd shape
+acts_sound committed stamp later objects sound (DropsObject id ∷ EditsRows other e ∷ acts) shape within = absurd shape
+acts_sound committed stamp later objects sound (DropsObject id ∷ MakesStream n o a ∷ acts) shape within = absurd shape
+acts_sound committed stamp later objects sound (DropsObject id ∷ MovesOffset other offset ∷ acts) shape within = absurd shape
+acts_sound committed stamp later objects sound (DropsObject id ∷ MakesTable n c r ∷ act ∷ acts) shape within = absurd shape
+
+-- ---- states
+
+-- no object, no stamp
+pub sound_first : Sound first_state
+sound_first = record { ordered = omega arith; objects = tt }
+
+-- a state as the file keeps it
+pub sound_rest : (s : State) → Sound s → Sound (at_rest s)
+sound_rest s sound = record { ordered = omega arith; objects = sound.objects }
+
+-- a commit of the acts of a statement at a stamp past the last commit
+pub sound_done : (s : State) → s.committed < s.last → Sound s → (acts : List Act) → IsOfOneStatement acts
+    → AreWithin s.last acts
+    → Sound (done s acts)
+sound_done s later sound acts shape within =
+    record { ordered = omega arith; objects = acts_sound s.committed s.last later s.objects sound.objects acts shape within }

@@ -1,0 +1,71 @@
+-- What commits change, in the machine's terms.
+--     Act          a change of the state
+--     acted        what an act does to the objects at a stamp; all_acted, what several do
+--     done         the state after a commit of acts
+use Rattle.std.specs.Prelude.{ℕ, ◌+◌, Bool, List, [], ◌∷◌, ◌++◌, length}
+use Rattle.wh_value.specs.Column.{Column}
+use Rattle.wh_frame.specs.Partition.{Partition}
+use Rattle.wh_state.specs.State.{State, Kind, TableKind, StreamKind, Object, Table, Contents, nothing_held}
+use Rattle.wh_state.specs.State.{new_table, new_object, new_stream, with_offset, dropped, version_at, columns_at}
+use Rattle.wh_state.specs.State.{last_content, last_partitions, changed_at}
+use Rattle.wh_state.specs.Edits.{Edits, partitions_made, contents_after}
+
+pub data Act : Type 0 where
+  -- a new table, with the next id
+  MakesTable : (name : List ℕ) → (columns : List Column) → (retention : ℕ) → Act
+  -- the object of that id is dropped
+  DropsObject : (id : ℕ) → Act
+  -- a new version of the table of that id
+  EditsRows : (id : ℕ) → Edits → Act
+  -- a new stream on the table of an id, with the next id; it shows what comes behind its commit
+  MakesStream : (name : List ℕ) → (source : ℕ) → (is_append_only : Bool) → Act
+  -- the stream of that id was read up to a stamp
+  MovesOffset : (id offset : ℕ) → Act
+
+-- ---- what an act does at a stamp
+
+-- the partitions that edits make of a table's last version
+abbrev pub table_partitions_made : Edits → Table → List Partition
+table_partitions_made e t = partitions_made t.next_partition t.next_row e (last_partitions t)
+
+abbrev pub next_contents : Edits → Table → Contents
+next_contents e t = contents_after t.next_partition t.next_row e (last_content nothing_held t)
+
+-- a table with its next version
+unfoldable pub edited_table : ℕ → Edits → Table → Table
+edited_table stamp e t = record t {
+  next_row = t.next_row + length e.added;
+  next_partition = t.next_partition + length (table_partitions_made e t);
+  versions = t.versions ++ version_at stamp (next_contents e t) ∷ [];
+}
+
+abbrev pub edited_kind : ℕ → Edits → Kind → Kind
+edited_kind stamp e (TableKind t) = TableKind (edited_table stamp e t)
+edited_kind stamp e (StreamKind s) = StreamKind s
+
+abbrev pub edited_object : ℕ → Edits → Object → Object
+edited_object stamp e o = record o { kind = edited_kind stamp e o.kind }
+
+abbrev pub moved_kind : ℕ → Kind → Kind
+moved_kind offset (TableKind t) = TableKind t
+moved_kind offset (StreamKind s) = StreamKind (with_offset offset s)
+
+abbrev pub moved_object : ℕ → Object → Object
+moved_object offset o = record o { kind = moved_kind offset o.kind }
+
+abbrev pub acted : ℕ → List Object → Act → List Object
+acted stamp objects (MakesTable name columns retention) =
+    objects ++ new_object name stamp (TableKind (new_table nothing_held columns retention stamp)) ∷ []
+acted stamp objects (DropsObject id) = changed_at objects id dropped
+acted stamp objects (EditsRows id e) = changed_at objects id (edited_object stamp e)
+acted stamp objects (MakesStream name source is_append_only) = objects ++ new_object name stamp
+    (StreamKind (new_stream source is_append_only stamp (columns_at objects source))) ∷ []
+acted stamp objects (MovesOffset id offset) = changed_at objects id (moved_object offset)
+
+abbrev pub all_acted : ℕ → List Object → List Act → List Object
+all_acted stamp objects [] = objects
+all_acted stamp objects (act ∷ acts) = all_acted stamp (acted stamp objects act) acts
+
+-- a commit of acts at the state's last stamp
+abbrev pub done : State → List Act → State
+done s acts = record s { committed = s.last; objects = all_acted s.last s.objects acts }

@@ -1,0 +1,208 @@
+-- Commits, and what they do to what a file says.
+--     Change, Commit       what is changed at a stamp
+--     Applies, applied     when a commit may stand in a file, and what the file then says
+--     Leads                commits that apply one after the other
+use Rattle.std.specs.Prelude.{◌≡◌, ℕ, ◌+◌, ◌<◌, ◌≤◌, ◌⊎◌, Bool, IsTrue, List, [], ◌∷◌, ◌++◌, length, Option, Some, None}
+use Rattle.std.specs.Prelude.{IsNone, nat_eq}
+use Rattle.std.specs.List.{AllByRecursion, list_any}
+use Rattle.wh_value.specs.Column.{Column}
+use Rattle.wh_value.specs.Fits.{row_fits}
+use Rattle.wh_value.specs.Limit.{bound}
+use Rattle.wh_value.specs.declared.limit.Limit.TheVariants as limits
+use Rattle.wh_frame.specs.Partition.{Partition, first_number, last_number}
+use Rattle.wh_state.specs.State.{Stream, new_table, new_object, new_stream, with_offset, dropped, last_of}
+use Rattle.wh_state.specs.State.{at_id, changed_at}
+use Rattle.wh_state.specs.State.{id_of, live_count, VersionOf}
+use Rattle.wh_state.specs.Edits.{without}
+use Rattle.wh_state.specs.Stored.{StoredTable, StoredKind, StoredTableKind, StoredStreamKind, StoredObject, Stored}
+use Rattle.wh_state.specs.Stored.{standing, stored_columns_at}
+
+-- a new table
+pub record TableChange : Type 0 where
+  pub id : ℕ
+  pub name : List ℕ
+  pub retention : ℕ
+  pub columns : List Column
+
+-- a new version of a table: partitions of the last one by their numbers that go, and those that come
+pub record VersionChange : Type 0 where
+  pub id : ℕ
+  pub data_timestamp : ℕ
+  pub next_row : ℕ
+  pub width : ℕ
+  pub removed : List ℕ
+  pub added : List Partition
+
+-- a new stream on the table of an id
+pub record StreamChange : Type 0 where
+  pub id : ℕ
+  pub name : List ℕ
+  pub source : ℕ
+  pub is_append_only : Bool
+  pub offset : ℕ
+
+pub data Change : Type 0 where
+  CreatesTable : TableChange → Change
+  -- by its id
+  Drops : (id : ℕ) → Change
+  PushesVersion : VersionChange → Change
+  CreatesStream : StreamChange → Change
+  SetsOffset : (id offset : ℕ) → Change
+
+pub record Commit : Type 0 where
+  pub stamp : ℕ
+  pub changes : List Change
+
+-- ---- what a change leaves
+
+abbrev pub pushed : ℕ → VersionChange → StoredTable → StoredTable
+pushed stamp c t = record t {
+  next_row = c.next_row;
+  next_partition = t.next_partition + length c.added;
+  versions = t.versions ++ (record {
+    stamp = stamp;
+    data_timestamp = c.data_timestamp;
+    content = without c.removed (standing t) ++ c.added;
+  }) ∷ [];
+}
+
+abbrev pub pushed_kind : ℕ → VersionChange → StoredKind → StoredKind
+pushed_kind stamp c (StoredTableKind t) = StoredTableKind (pushed stamp c t)
+pushed_kind stamp c (StoredStreamKind s) = StoredStreamKind s
+
+abbrev pub pushed_object : ℕ → VersionChange → StoredObject → StoredObject
+pushed_object stamp c o = record o { kind = pushed_kind stamp c o.kind }
+
+abbrev pub offset_set_kind : ℕ → StoredKind → StoredKind
+offset_set_kind offset (StoredTableKind t) = StoredTableKind t
+offset_set_kind offset (StoredStreamKind s) = StoredStreamKind (with_offset offset s)
+
+abbrev pub offset_set : ℕ → StoredObject → StoredObject
+offset_set offset o = record o { kind = offset_set_kind offset o.kind }
+
+unfoldable pub changed : ℕ → List StoredObject → Change → List StoredObject
+changed stamp objects (CreatesTable c) =
+    objects ++ new_object c.name stamp (StoredTableKind (new_table [] c.columns c.retention stamp)) ∷ []
+changed stamp objects (Drops id) = changed_at objects id dropped
+changed stamp objects (PushesVersion c) = changed_at objects c.id (pushed_object stamp c)
+changed stamp objects (CreatesStream c) = objects ++ new_object c.name stamp
+    (StoredStreamKind (new_stream c.source c.is_append_only c.offset (stored_columns_at objects c.source))) ∷ []
+changed stamp objects (SetsOffset id offset) = changed_at objects id (offset_set offset)
+
+abbrev pub all_changed : ℕ → List StoredObject → List Change → List StoredObject
+all_changed stamp objects [] = objects
+all_changed stamp objects (c ∷ cs) = all_changed stamp (changed stamp objects c) cs
+
+-- the stamp is the commit's, whatever it changes
+abbrev pub applied : Stored → Commit → Stored
+applied s c = record { last = c.stamp; objects = all_changed c.stamp s.objects c.changes }
+
+-- ---- when a change applies
+
+abbrev pub IsStoredName : List ℕ → Type 0
+IsStoredName name = (0 < length name) × (length name ≤ bound limits.Name)
+
+-- the next id, and a name that is free
+pub record IsNewObject (objects : List StoredObject) (id : ℕ) (given : List ℕ) : Type 0 where
+  pub next_id : id ≡ length objects + 1
+  pub few : live_count objects < bound limits.Objects
+  pub free : IsNone (id_of given objects)
+  pub name : IsStoredName given
+
+pub record TableApplies (objects : List StoredObject) (c : TableChange) : Type 0 where
+  pub object : IsNewObject objects c.id c.name
+  pub some_column : 0 < length c.columns
+  pub few_columns : length c.columns ≤ bound limits.Columns
+  pub column_names : AllByRecursion (λ column. IsStoredName column.name) c.columns
+  pub retention : c.retention ≤ bound limits.Retention
+
+abbrev pub AreApart : Partition → Partition → Type 0
+AreApart p q = (last_number p.rows < first_number q.rows) ⊎ (last_number q.rows < first_number p.rows)
+
+-- each is apart from those before it and from each later one
+abbrev pub AllApart : List Partition → List Partition → Type 0
+AllApart before [] = Unit {0}
+AllApart before (p ∷ ps) = AllByRecursion (AreApart p) before × AllApart (p ∷ before) ps
+
+-- the numbers rise by one from the next on
+abbrev pub NumberedFrom : ℕ → List Partition → Type 0
+NumberedFrom next [] = Unit {0}
+NumberedFrom next (p ∷ ps) = (p.number ≡ next) × NumberedFrom (next + 1) ps
+
+-- a value of each column's type in each row, and row numbers below the next one
+abbrev pub RowsFit : List Column → ℕ → Partition → Type 0
+RowsFit columns next p = AllByRecursion (λ e. IsTrue (row_fits columns e.1) × (e.0 < next)) p.rows
+
+-- one of these partitions has that number
+abbrev pub Stands : List Partition → ℕ → Type 0
+Stands partitions number = IsTrue (list_any (λ p. nat_eq number p.number) partitions)
+
+abbrev pub DoesNotFall : Option (VersionOf (List Partition)) → ℕ → Type 0
+DoesNotFall None timestamp = Unit {0}
+DoesNotFall (Some v) timestamp = v.data_timestamp ≤ timestamp
+
+pub record VersionApplies (t : StoredTable) (c : VersionChange) : Type 0 where
+  pub timestamp : DoesNotFall (last_of t.versions) c.data_timestamp
+  pub width : c.width ≡ length t.columns
+  pub next_row : c.next_row ≤ bound limits.RowNumber
+  pub next_partition : t.next_partition + length c.added ≤ bound limits.PartitionNumber
+  pub removed : AllByRecursion (Stands (standing t)) c.removed
+  pub numbers : NumberedFrom t.next_partition c.added
+  pub rows : AllByRecursion (RowsFit t.columns c.next_row) c.added
+  pub apart : AllApart (without c.removed (standing t)) c.added
+
+abbrev pub FitsKind : StoredKind → VersionChange → Type 0
+FitsKind (StoredTableKind t) c = VersionApplies t c
+FitsKind (StoredStreamKind s) c = ⊥
+
+abbrev pub FitsObject : Option StoredObject → VersionChange → Type 0
+FitsObject None c = ⊥
+FitsObject (Some o) c = IsTrue o.is_live × FitsKind o.kind c
+
+abbrev pub IsLiveObject : Option StoredObject → Type 0
+IsLiveObject None = ⊥
+IsLiveObject (Some o) = IsTrue o.is_live
+
+-- a live table
+abbrev pub IsTableKind : StoredKind → Type 0
+IsTableKind (StoredTableKind t) = Unit {0}
+IsTableKind (StoredStreamKind s) = ⊥
+
+abbrev pub IsLiveTable : Option StoredObject → Type 0
+IsLiveTable None = ⊥
+IsLiveTable (Some o) = IsTrue o.is_live × IsTableKind o.kind
+
+pub record StreamApplies (objects : List StoredObject) (c : StreamChange) : Type 0 where
+  pub object : IsNewObject objects c.id c.name
+  pub source : IsLiveTable (at_id objects c.source)
+
+-- an offset doesn't fall
+abbrev pub TakesOffset : StoredKind → ℕ → Type 0
+TakesOffset (StoredTableKind t) offset = ⊥
+TakesOffset (StoredStreamKind s) offset = s.offset ≤ offset
+
+abbrev pub OffsetApplies : Option StoredObject → ℕ → Type 0
+OffsetApplies None offset = ⊥
+OffsetApplies (Some o) offset = IsTrue o.is_live × TakesOffset o.kind offset
+
+abbrev pub ChangeApplies : List StoredObject → Change → Type 0
+ChangeApplies objects (CreatesTable c) = TableApplies objects c
+ChangeApplies objects (Drops id) = IsLiveObject (at_id objects id)
+ChangeApplies objects (PushesVersion c) = FitsObject (at_id objects c.id) c
+ChangeApplies objects (CreatesStream c) = StreamApplies objects c
+ChangeApplies objects (SetsOffset id offset) = OffsetApplies (at_id objects id) offset
+
+-- each change applies to what those before it leave
+abbrev pub AllApply : ℕ → List StoredObject → List Change → Type 0
+AllApply stamp objects [] = Unit {0}
+AllApply stamp objects (c ∷ cs) = ChangeApplies objects c × AllApply stamp (changed stamp objects c) cs
+
+pub record Applies (s : Stored) (c : Commit) : Type 0 where
+  pub later : s.last < c.stamp
+  pub within : c.stamp < bound limits.Stamp
+  pub changes : AllApply c.stamp s.objects c.changes
+
+-- the commits apply one after the other, and leave that
+abbrev pub Leads : Stored → List Commit → Stored → Type 0
+Leads old [] new = old ≡ new
+Leads old (c ∷ cs) new = Applies old c × Leads (applied old c) cs new

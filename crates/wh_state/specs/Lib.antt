@@ -1,0 +1,13 @@
+pub use Rattle.wh_value.specs.Value
+pub mod State
+pub mod Objects
+pub mod Edits
+pub mod Act
+pub mod Stored
+pub mod Commit
+pub mod Spelling
+pub mod Written
+pub mod File
+pub mod Orderly
+pub mod Fault
+pub mod Sound

@@ -1,0 +1,76 @@
+-- The commit that is written for acts.
+--     written        the changes that say what acts do
+--     commit_for     the commit of acts at a stamp
+--     kept_after     what the file says behind a commit, where there is one
+--     is_beyond      whether a file has no room for it
+use Rattle.std.specs.Prelude.{ℕ, ◌+◌, Bool, false, List, [], ◌∷◌, ◌++◌, length, Option, Some, None, nat_lt}
+use Rattle.wh_state.specs.State.{at_id}
+use Rattle.wh_state.specs.Edits.{Edits, numbers_gone, partitions_made}
+use Rattle.wh_state.specs.Act.{Act, MakesTable, DropsObject, EditsRows, MakesStream, MovesOffset}
+use Rattle.wh_state.specs.Stored.{StoredTable, StoredKind, StoredTableKind, StoredStreamKind, StoredObject, Stored}
+use Rattle.wh_state.specs.Stored.{standing}
+use Rattle.wh_state.specs.Commit.{Change, CreatesTable, Drops, PushesVersion, CreatesStream, SetsOffset, Commit}
+use Rattle.wh_state.specs.Commit.{all_changed, applied}
+use Rattle.wh_state.specs.Spelling.{payload_of}
+
+-- ---- acts as changes
+
+abbrev pub version_written : ℕ → ℕ → Edits → StoredTable → Change
+version_written stamp id e t = PushesVersion (record {
+  id = id;
+  data_timestamp = stamp;
+  next_row = t.next_row + length e.added;
+  width = length t.columns;
+  removed = numbers_gone e.rows (standing t);
+  added = partitions_made t.next_partition t.next_row e (standing t);
+})
+
+abbrev pub version_written_to : ℕ → ℕ → Edits → Option StoredObject → List Change
+version_written_to stamp id e None = []
+version_written_to stamp id e (Some o) = to_kind o.kind
+  where
+    to_kind : StoredKind → List Change
+    to_kind (StoredTableKind t) = version_written stamp id e t ∷ []
+    to_kind (StoredStreamKind s) = []
+
+abbrev pub act_written : ℕ → List StoredObject → Act → List Change
+act_written stamp objects (MakesTable name columns retention) =
+    CreatesTable (record { id = length objects + 1; name = name; retention = retention; columns = columns }) ∷ []
+act_written stamp objects (DropsObject id) = Drops id ∷ []
+act_written stamp objects (EditsRows id e) = version_written_to stamp id e (at_id objects id)
+act_written stamp objects (MakesStream name source is_append_only) = CreatesStream (record {
+  id = length objects + 1;
+  name = name;
+  source = source;
+  is_append_only = is_append_only;
+  offset = stamp;
+}) ∷ []
+act_written stamp objects (MovesOffset id offset) = SetsOffset id offset ∷ []
+
+abbrev pub written : ℕ → List StoredObject → List Act → List Change
+written stamp objects [] = []
+written stamp objects (act ∷ acts) =
+    act_written stamp objects act ++ written stamp (all_changed stamp objects (act_written stamp objects act)) acts
+
+abbrev pub commit_for : Stored → ℕ → List Act → Commit
+commit_for s stamp acts = record { stamp = stamp; changes = written stamp s.objects acts }
+
+-- what the file says afterwards
+abbrev pub kept_after : Stored → Option Commit → Stored
+kept_after s None = s
+kept_after s (Some c) = applied s c
+
+-- ---- the room that commits need
+
+-- a gate, the length, and the payload
+abbrev pub record_length : Commit → ℕ
+record_length c = 9 + length (payload_of c)
+
+abbrev pub added_length : Option Commit → ℕ
+added_length None = 0
+added_length (Some c) = record_length c
+
+-- whether a file of at most `most` bytes has no room for it behind a gate that ends at `end`
+abbrev pub is_beyond : ℕ → ℕ → Option Commit → Bool
+is_beyond most end None = false
+is_beyond most end (Some c) = nat_lt most (end + record_length c)
