@@ -7,7 +7,7 @@
 --     AreApart              no two sessions hold one stream
 --     IsHeldAlong           a session holds a stream all along a run
 --     committing, changing  a command that asks for COMMIT, and one for a change of rows
---     change_reads          a change of rows reads a stream
+--     change_in             a change of rows over the live objects; change_reads, that it reads a stream
 --     consumes              an event is an accepted one of those that consume a stream
 --     all_patched           rows with batches of changes made, one after the other
 use Rattle.std.specs.Prelude.{◌≡◌, ℕ, ◌-◌, ◌<◌, ◌≤◌, max, Bool, true, false, List, [], ◌∷◌, Option, Some, None}
@@ -18,7 +18,7 @@ use Rattle.wh_ast.specs.declared.dml.Dml.{Dml}
 use Rattle.wh_ast.specs.declared.statement.Statement as tree
 use Rattle.wh_ast.specs.declared.statement.Statement.TheVariants as st
 use Rattle.wh_grammar.specs.Spelled.{Asked}
-use Rattle.wh_naming.specs.Changes.{bound_change}
+use Rattle.wh_naming.specs.Changes.{BoundChange, bound_change}
 use Rattle.wh_reply.specs.Reply.{is_refusal}
 use Rattle.wh_state.specs.State.{Rows, Kind, TableKind, StreamKind, Object, Table, Stream}
 use Rattle.wh_state.specs.Objects.{table_at, stream_at}
@@ -119,10 +119,12 @@ committing reading session = Command reading session (Asked st.Commit)
 abbrev pub changing : ℕ → ℕ → Dml → Event
 changing reading session statement = Command reading session (Asked (st.Dml statement))
 
+abbrev pub change_in : Machine → Dml → BoundChange
+change_in m statement = bound_change (names_from 1 m.state.objects) statement
+
 -- whether a change reads the stream of an id
 abbrev pub change_reads : Machine → Dml → ℕ → Bool
-change_reads m statement id =
-    list_any (nat_eq id) (streams_read m (bound_change (names_from 1 m.state.objects) statement))
+change_reads m statement id = list_any (nat_eq id) (streams_read m (change_in m statement))
 
 -- the COMMIT of a transaction that holds it, and a change outside of a transaction that reads it
 abbrev pub statement_consumes : ℕ → Machine → ℕ → tree.Statement → Bool

@@ -1,5 +1,6 @@
 -- The statements of a session, at the last stamp of the machine.
 --     begin, commit, rollback        transactions that begin and end
+--     recorded                       a transaction that commits
 --     changes_rows                   INSERT, UPDATE, DELETE and MERGE: staged in a
 --                                    transaction, or one of their own
 --     selects                        SELECT, of what its transaction sees
@@ -21,7 +22,7 @@ use Rattle.wh_machine.specs.Names.{names_in, refusal_of, naming_refusal}
 use Rattle.wh_machine.specs.Offsets.{streams_among}
 use Rattle.wh_machine.specs.Changes.{Changed, Fails, Gives, given_on, fails_or, reply_to}
 use Rattle.wh_machine.specs.Transaction.{Transaction, begun, staged_in_state, acts_of, commit_refusal}
-use Rattle.wh_machine.specs.Sessions.{transaction_in, number_in, first_locked, with_transaction, with_begun, with_ended}
+use Rattle.wh_machine.specs.Sessions.{Sessions, transaction_in, number_in, first_locked, with_transaction, with_begun, with_ended}
 use Rattle.wh_machine.specs.Outcome.{Machine, Outcome, Refuses, Does, unless}
 use Rattle.wh_machine.specs.Queries.{listing_of}
 use Rattle.wh_machine.specs.Reading.{objects_seen, instance_read, reading_refusal, has_data}
@@ -35,14 +36,19 @@ unfoldable pub begin : Machine → ℕ → Outcome
 begin m session = unless (option_map TransactionOpen (number_in m.sessions session))
     (Does (Begun m.state.last) (with_begun m.sessions session m.state.last) None)
 
-abbrev pub committed : Machine → ℕ → Option (List Act) → Outcome
-committed m session None = Does CommittedNothing (with_ended m.sessions session) None
-committed m session (Some acts) = Does (Committed m.state.last) (with_ended m.sessions session) (Some acts)
+-- a transaction that commits: it is refused where a table would pass a limit
+abbrev pub recorded : Machine → Reply → Sessions → Transaction → Outcome
+recorded m reply sessions t =
+    unless (commit_refusal m.state.objects t) (Does reply sessions (acts_of m.state.objects t))
+
+abbrev pub commit_reply : ℕ → Option (List Act) → Reply
+commit_reply stamp None = CommittedNothing
+commit_reply stamp (Some acts) = Committed stamp
 
 abbrev pub commit_of : Machine → ℕ → Option Transaction → Outcome
 commit_of m session None = Refuses NoTransaction
 commit_of m session (Some t) =
-    unless (commit_refusal m.state.objects t) (committed m session (acts_of m.state.objects t))
+    recorded m (commit_reply m.state.last (acts_of m.state.objects t)) (with_ended m.sessions session) t
 
 -- a commit that is refused leaves its transaction open
 unfoldable pub commit : Machine → ℕ → Outcome
@@ -75,15 +81,11 @@ abbrev pub bound_changed : Machine → ℕ → BoundChange → Changed
 bound_changed m session b = fails_or (change_refusal m session b)
     (given_on (streams_read m b) (instance_read m session b.sources) b (table_at (objects_seen m session) b.target))
 
--- a transaction by itself, that begins, makes one change and commits
-abbrev pub alone : Machine → Reply → Transaction → Outcome
-alone m reply t = unless (commit_refusal m.state.objects t) (Does reply m.sessions (acts_of m.state.objects t))
-
--- in a transaction a change is staged, and its numbers are tested by COMMIT; outside it is one of its own
+-- in a transaction a change is staged, and its numbers are tested by COMMIT; outside it is a transaction of its own
 abbrev pub changes_in : Machine → ℕ → Option Transaction → Changed → Outcome
 changes_in m session t (Fails why) = Refuses why
 changes_in m session None (Gives id streams change e) =
-    alone m (reply_to change e) (staged_in_state m.state (begun m.state.last) id streams e)
+    recorded m (reply_to change e) m.sessions (staged_in_state m.state (begun m.state.last) id streams e)
 changes_in m session (Some t) (Gives id streams change e) = Does (reply_to change e)
     (with_transaction m.sessions session (staged_in_state m.state t id streams e)) None
 

@@ -1,0 +1,360 @@
+-- Of what a stream shows nothing is lost and nothing comes twice.
+--     later_step                  an event leaves versions as they were, and moves offsets on
+--     table_after, versions_stay  a run leaves versions at times that have passed as they were
+--     shown_leads                 what a stream shows leads from its offset's version to that at a stamp
+--     batches_lead                batches that were consumed lead from the first offset's version to the last one's
+use Rattle.std.proofs.Common.{◌≡◌, ℕ, zero, suc, ◌-◌, ◌<◌, ◌≤◌, max, Bool, true, false, cond, List, [], ◌∷◌, ◌++◌}
+use Rattle.std.proofs.Common.{Option, Some, None, option_map, refl, sym, ap, subst, ◌∙◌, arith}
+use Rattle.std.specs.Prelude.{nat_le, slice_get, slice_set}
+use Rattle.std.specs.List.{filter}
+use Rattle.std.proofs.lemmas.Bool.{lt-leb}
+use Rattle.std.proofs.lemmas.Bool.Decides.{nat_tests}
+use Rattle.wh_state.specs.State.{Rows, Version, Table, Stream, Kind, TableKind, StreamKind, Object, State}
+use Rattle.wh_state.specs.State.{nothing_held}
+use Rattle.wh_state.specs.State.{dropped, content_in, last_of, at_id, put_at, changed_at}
+use Rattle.wh_state.specs.Edits.{Edits}
+use Rattle.wh_state.specs.Act.{Act, MakesTable, DropsObject, EditsRows, MakesStream, MovesOffset}
+use Rattle.wh_state.specs.Act.{edited_table, edited_kind, edited_object, moved_kind, moved_object, acted}
+use Rattle.wh_state.specs.Act.{all_acted}
+use Rattle.wh_state.specs.Objects.{table_at, stream_at}
+use Rattle.wh_state.specs.Sound.{IsSoundKind, IsSoundObject}
+use Rattle.wh_state.proofs.AllLaws.{all_at}
+use Rattle.wh_net.specs.Net.{patch}
+use Rattle.wh_net.specs.Stream.{rows_at, records_between, shown}
+use Rattle.wh_net.proofs.NetLaws.{patched}
+use Rattle.wh_machine.specs.Outcome.{Machine, Outcome, settled}
+use Rattle.wh_machine.specs.Sound.{SoundMachine}
+use Rattle.wh_machine.specs.Consuming.{Extends, IsLaterStream, IsLaterKind, IsLater, AreLater, rows_then, shown_of}
+use Rattle.wh_machine.specs.Consuming.{shown_to, consumed, batches, all_patched, rows_consumed}
+use Rattle.wh_machine.specs.Step.{Event, reading_of, stamp_of, has_stamp, step, after}
+use Rattle.wh_machine.proofs.OutcomeLaws.{AllMoveOn, HoldsOfEach, outcome_of_event}
+use Rattle.wh_machine.proofs.StepLaws.{ready, step_at, stamp_refused, last_grows}
+use Rattle.wh_machine.proofs.SoundLaws.{sound_ready, sound_step}
+
+-- ---- lists that grow
+
+more_extends : {X : Type 0} (R : X → X → Type 0) (xs ys : List X) (y : X) → Extends R xs ys
+    → Extends R xs (ys ++ y ∷ [])
+more_extends R [] ys y is = tt
+more_extends R (x ∷ xs) [] y is = absurd is
+more_extends R (x ∷ xs) (z ∷ zs) y is = (is.0, more_extends R xs zs y is.1)
+
+same_extends : {X : Type 0} (R : X → X → Type 0) → ((x : X) → R x x) → (xs : List X) → Extends R xs xs
+same_extends R same [] = tt
+same_extends R same (x ∷ xs) = (same x, same_extends R same xs)
+
+some_same : {X : Type 0} (a b : X) → Some a ≡ Some b → a ≡ b
+some_same a b same = cc
+
+-- what changes at a place is still related to what stood there first
+set_extends : {X : Type 0} (R : X → X → Type 0) (f : X → X) (xs ys : List X) (place : ℕ) (y : X)
+    → slice_get ys place ≡ Some y
+    → ((x : X) → slice_get xs place ≡ Some x → R x y → R x (f y))
+    → Extends R xs ys → Extends R xs (slice_set ys place (f y))
+set_extends R f [] ys place y there so is = tt
+set_extends R f (x ∷ xs) [] place y there so is = absurd is
+set_extends R f (x ∷ xs) (z ∷ zs) zero y there so is =
+    (so x refl (subst (R x) (some_same z y there) is.0), is.1)
+set_extends R f (x ∷ xs) (z ∷ zs) (suc place) y there so is =
+    (is.0, set_extends R f xs zs place y there so is.1)
+
+changed_extends : {X : Type 0} (R : X → X → Type 0) (f : X → X) (xs ys : List X) (id : ℕ)
+    → ((x y : X) → at_id xs id ≡ Some x → R x y → R x (f y))
+    → Extends R xs ys → Extends R xs (changed_at ys id f)
+changed_extends R f xs ys zero so is = is
+changed_extends R f xs ys (suc place) so is = by_found (slice_get ys place) refl
+  where
+    by_found : (found : Option _) → slice_get ys place ≡ found
+        → Extends R xs (put_at ys (suc place) (option_map f found))
+    by_found None there = is
+    by_found (Some y) there = set_extends R f xs ys place y there (λ x at. so x y at) is
+
+-- ---- objects
+
+same_later : (stamp : ℕ) (o : Object) → IsLater stamp o o
+same_later stamp o = by_kind o.kind
+  where
+    by_kind : (k : Kind) → IsLaterKind stamp k k
+    by_kind (TableKind t) = λ time before. refl
+    by_kind (StreamKind s) = record { source = refl; mode = refl; not_before = omega arith; not_behind = omega arith }
+
+-- a version that the test leaves out
+filter_more : (test : Version → Bool) (vs : List Version) (v : Version) → test v ≡ false
+    → filter test (vs ++ v ∷ []) ≡ filter test vs
+filter_more test [] v out = rw out
+filter_more test (w ∷ vs) v out = ap (λ rest. cond (test w) (w ∷ rest) rest) (filter_more test vs v out)
+
+edited_later : (stamp : ℕ) (e : Edits) (t : Table) (time : ℕ) → time < stamp
+    → rows_at (edited_table stamp e t) time ≡ rows_at t time
+unfolding edited_table
+edited_later stamp e t time before =
+    ap (λ (vs : List Version). (content_in nothing_held (last_of vs)).rows)
+    (filter_more (λ v. nat_le v.data_timestamp time) t.versions _ (lt-leb _ _ before))
+
+edited_is_later : (stamp : ℕ) (e : Edits) (old new : Kind) → IsLaterKind stamp old new
+    → IsLaterKind stamp old (edited_kind stamp e new)
+edited_is_later stamp e (TableKind t) (TableKind u) later =
+    λ time before. edited_later stamp e u time before ∙ later time before
+edited_is_later stamp e (TableKind t) (StreamKind r) later = absurd later
+edited_is_later stamp e (StreamKind s) (TableKind u) later = absurd later
+edited_is_later stamp e (StreamKind s) (StreamKind r) later = later
+
+moved_is_later : (stamp offset : ℕ) (old new : Kind) → offset ≤ stamp - 1
+    → ((s : Stream) → old ≡ StreamKind s → s.offset ≤ offset)
+    → IsLaterKind stamp old new → IsLaterKind stamp old (moved_kind offset new)
+moved_is_later stamp offset (TableKind t) (TableKind u) within on later = later
+moved_is_later stamp offset (TableKind t) (StreamKind r) within on later = absurd later
+moved_is_later stamp offset (StreamKind s) (TableKind u) within on later = absurd later
+moved_is_later stamp offset (StreamKind s) (StreamKind r) within on later =
+    record { source = later.source; mode = later.mode; not_before = on s refl; not_behind = omega (arith, within) }
+
+stream_found : (objects : List Object) (id : ℕ) (o : Object) (s : Stream) → at_id objects id ≡ Some o
+    → o.kind ≡ StreamKind s → stream_at objects id ≡ Some s
+stream_found objects id o s there is = rw (there, is) refl
+
+acts_later : (s : State) (objects : List Object) (acts : List Act) → AllMoveOn s acts
+    → AreLater s.last s.objects objects
+    → AreLater s.last s.objects (all_acted s.last objects acts)
+acts_later s objects [] on later = later
+acts_later s objects (MakesTable name columns retention ∷ acts) on later =
+    acts_later s (acted s.last objects (MakesTable name columns retention)) acts on.1
+    (more_extends (IsLater s.last) s.objects objects _ later)
+acts_later s objects (MakesStream name source is_append_only ∷ acts) on later =
+    acts_later s (acted s.last objects (MakesStream name source is_append_only)) acts on.1
+    (more_extends (IsLater s.last) s.objects objects _ later)
+acts_later s objects (DropsObject id ∷ acts) on later =
+    acts_later s (acted s.last objects (DropsObject id)) acts on.1
+    (changed_extends (IsLater s.last) dropped s.objects objects id (λ old new at is. is) later)
+acts_later s objects (EditsRows id e ∷ acts) on later =
+    acts_later s (acted s.last objects (EditsRows id e)) acts on.1
+    (changed_extends (IsLater s.last) (edited_object s.last e) s.objects objects id
+    (λ old new at is. edited_is_later s.last e old.kind new.kind is) later)
+acts_later s objects (MovesOffset id offset ∷ acts) on later =
+    acts_later s (acted s.last objects (MovesOffset id offset)) acts on.1
+    (changed_extends (IsLater s.last) (moved_object offset) s.objects objects id
+    (λ old new at is. moved_is_later s.last offset old.kind new.kind on.0.0
+    (λ r kind. on.0.1 r (stream_found s.objects id old r at kind)) is) later)
+
+-- ---- events
+
+abbrev SettlesLater : Machine → Outcome → Type 0
+SettlesLater m o = AreLater m.state.last m.state.objects (settled m o).0.state.objects
+
+settles_later : (m : Machine) → SoundMachine m → HoldsOfEach m (SettlesLater m)
+settles_later m sound = record {
+  refusal = λ why. same_extends (IsLater m.state.last) (same_later m.state.last) m.state.objects;
+  answer = λ reply sessions accepted keeps.
+      same_extends (IsLater m.state.last) (same_later m.state.last) m.state.objects;
+  commit = λ reply sessions acts accepted keeps shape on spares.
+      acts_later m.state m.state.objects acts (on sound.begun)
+      (same_extends (IsLater m.state.last) (same_later m.state.last) m.state.objects);
+}
+
+-- an event
+pub later_step : (m : Machine) (e : Event) → SoundMachine m
+    → AreLater (stamp_of m.state (reading_of e)) m.state.objects (step m e).0.state.objects
+later_step m e sound = by_stamp (has_stamp m e) refl
+  where
+    by_stamp : (has : Bool) → has_stamp m e ≡ has
+        → AreLater (stamp_of m.state (reading_of e)) m.state.objects (step m e).0.state.objects
+    by_stamp true is =
+        rw (step_at m e is) (outcome_of_event (ready m e) (SettlesLater (ready m e))
+        (settles_later (ready m e) (sound_ready m e sound)) e)
+    by_stamp false is =
+        rw (stamp_refused m e is)
+        (same_extends (IsLater (stamp_of m.state (reading_of e))) (same_later (stamp_of m.state (reading_of e)))
+        m.state.objects)
+
+-- ---- what stands at an id
+
+record Standing (objects : List Object) (id : ℕ) (is : Kind → Type 0) : Type 0 where
+  object : Object
+  there : at_id objects id ≡ Some object
+  kind : is object.kind
+
+abbrev IsStream : Stream → Kind → Type 0
+IsStream s k = k ≡ StreamKind s
+
+abbrev IsTable : Table → Kind → Type 0
+IsTable t k = k ≡ TableKind t
+
+table_found : (objects : List Object) (id : ℕ) (o : Object) (t : Table) → at_id objects id ≡ Some o
+    → o.kind ≡ TableKind t → table_at objects id ≡ Some t
+table_found objects id o t there is = rw (there, is) refl
+
+stands : (objects : List Object) (id : ℕ) (is : Kind → Type 0) → (at_id objects id ≡ None → ⊥)
+    → ((o : Object) → at_id objects id ≡ Some o → is o.kind) → Standing objects id is
+stands objects id is some kind = by_found (at_id objects id) refl
+  where
+    by_found : (found : Option Object) → at_id objects id ≡ found → Standing objects id is
+    by_found None missing = absurd (some missing)
+    by_found (Some o) there = record { object = o; there = there; kind = kind o there }
+
+stream_stands : (objects : List Object) (id : ℕ) (s : Stream) → stream_at objects id ≡ Some s
+    → Standing objects id (IsStream s)
+stream_stands objects id s at =
+    stands objects id (IsStream s) (λ missing. let none : stream_at objects id ≡ None = rw missing refl in absurd cc)
+    (λ o there. by_kind o there o.kind refl)
+  where
+    by_kind : (o : Object) → at_id objects id ≡ Some o → (k : Kind) → o.kind ≡ k → IsStream s k
+    by_kind o there (TableKind t) is = let none : stream_at objects id ≡ None = rw (there, is) refl in absurd cc
+    by_kind o there (StreamKind r) is = ap StreamKind (some_same r s (sym (stream_found objects id o r there is) ∙ at))
+
+table_stands : (objects : List Object) (id : ℕ) (t : Table) → table_at objects id ≡ Some t
+    → Standing objects id (IsTable t)
+table_stands objects id t at =
+    stands objects id (IsTable t) (λ missing. let none : table_at objects id ≡ None = rw missing refl in absurd cc)
+    (λ o there. by_kind o there o.kind refl)
+  where
+    by_kind : (o : Object) → at_id objects id ≡ Some o → (k : Kind) → o.kind ≡ k → IsTable t k
+    by_kind o there (StreamKind r) is = let none : table_at objects id ≡ None = rw (there, is) refl in absurd cc
+    by_kind o there (TableKind u) is = ap TableKind (some_same u t (sym (table_found objects id o u there is) ∙ at))
+
+-- and later on
+record Later (R : Object → Object → Type 0) (objects : List Object) (id : ℕ) (old : Object) : Type 0 where
+  object : Object
+  there : at_id objects id ≡ Some object
+  is : R old object
+
+get_later : (R : Object → Object → Type 0) (xs ys : List Object) (place : ℕ) (x : Object) → Extends R xs ys
+    → slice_get xs place ≡ Some x → Later R ys (suc place) x
+get_later R [] ys place x is there = absurd cc
+get_later R (o ∷ os) [] place x is there = absurd is
+get_later R (o ∷ os) (p ∷ ps) zero x is there =
+    record { object = p; there = refl; is = subst (λ old. R old p) (some_same o x there) is.0 }
+get_later R (o ∷ os) (p ∷ ps) (suc place) x is there =
+    let rest = get_later R os ps place x is.1 there in
+    record { object = rest.object; there = rest.there; is = rest.is }
+
+at_later : (R : Object → Object → Type 0) (xs ys : List Object) (id : ℕ) (x : Object) → Extends R xs ys
+    → at_id xs id ≡ Some x → Later R ys id x
+at_later R xs ys zero x is there = absurd cc
+at_later R xs ys (suc place) x is there = get_later R xs ys place x is there
+
+record LaterStream (stamp : ℕ) (objects : List Object) (id : ℕ) (old : Stream) : Type 0 where
+  stream : Stream
+  there : stream_at objects id ≡ Some stream
+  later : IsLaterStream stamp old stream
+
+stream_later : (stamp : ℕ) (xs ys : List Object) (id : ℕ) (s : Stream) → AreLater stamp xs ys
+    → stream_at xs id ≡ Some s → LaterStream stamp ys id s
+stream_later stamp xs ys id s later at =
+    let before = stream_stands xs id s at in
+    let now = at_later (IsLater stamp) xs ys id before.object later before.there in
+    by_kind now.object now.there now.object.kind refl
+    (subst (λ (k : Kind). IsLaterKind stamp k now.object.kind) before.kind now.is)
+  where
+    by_kind : (o : Object) → at_id ys id ≡ Some o → (k : Kind) → o.kind ≡ k → IsLaterKind stamp (StreamKind s) k
+        → LaterStream stamp ys id s
+    by_kind o there (TableKind t) is kept = absurd kept
+    by_kind o there (StreamKind r) is kept =
+        record { stream = r; there = stream_found ys id o r there is; later = kept }
+
+pub record LaterTable (stamp : ℕ) (objects : List Object) (id : ℕ) (old : Table) : Type 0 where
+  pub table : Table
+  pub there : table_at objects id ≡ Some table
+  pub kept : (time : ℕ) → time < stamp → rows_at table time ≡ rows_at old time
+
+table_later : (stamp : ℕ) (xs ys : List Object) (id : ℕ) (t : Table) → AreLater stamp xs ys
+    → table_at xs id ≡ Some t → LaterTable stamp ys id t
+table_later stamp xs ys id t later at =
+    let before = table_stands xs id t at in
+    let now = at_later (IsLater stamp) xs ys id before.object later before.there in
+    by_kind now.object now.there now.object.kind refl
+    (subst (λ (k : Kind). IsLaterKind stamp k now.object.kind) before.kind now.is)
+  where
+    by_kind : (o : Object) → at_id ys id ≡ Some o → (k : Kind) → o.kind ≡ k → IsLaterKind stamp (TableKind t) k
+        → LaterTable stamp ys id t
+    by_kind o there (StreamKind r) is kept = absurd kept
+    by_kind o there (TableKind u) is kept =
+        record { table = u; there = table_found ys id o u there is; kept = kept }
+
+-- ---- runs of events
+
+table_rows : (objects : List Object) (id time : ℕ) (t : Table) → table_at objects id ≡ Some t
+    → rows_then objects id time ≡ rows_at t time
+table_rows objects id time t at = rw at refl
+
+pub table_after : (id : ℕ) (m : Machine) (es : List Event) → SoundMachine m → (t : Table)
+    → table_at m.state.objects id ≡ Some t → LaterTable (suc m.state.last) (after m es).state.objects id t
+table_after id m [] sound t at = record { table = t; there = at; kept = λ time before. refl }
+table_after id m (e ∷ es) sound t at =
+    let stamp : ℕ = stamp_of m.state (reading_of e) in
+    let now = table_later stamp m.state.objects (step m e).0.state.objects id t (later_step m e sound) at in
+    let last = table_after id (step m e).0 es (sound_step m e sound) now.table now.there in
+    record {
+      table = last.table;
+      there = last.there;
+      kept = λ time before. last.kept time (omega (arith, last_grows m e, before))
+          ∙ now.kept time (omega (arith, before));
+    }
+
+-- a version at a time that has passed stays
+pub versions_stay : (id time : ℕ) (m : Machine) (es : List Event) → SoundMachine m → (t : Table)
+    → table_at m.state.objects id ≡ Some t → time ≤ m.state.last
+    → rows_then (after m es).state.objects id time ≡ rows_at t time
+versions_stay id time m es sound t at passed =
+    let now = table_after id m es sound t at in
+    table_rows (after m es).state.objects id time now.table now.there ∙ now.kept time (omega (arith, passed))
+
+nothing_patched : (rows : Rows) → patch rows [] ≡ rows
+unfolding patch
+nothing_patched rows = refl
+
+greater_first : (to offset : ℕ) → nat_le to offset ≡ true → offset ≡ max offset to
+greater_first to offset is = grind (arith, nat_tests)
+
+greater_last : (to offset : ℕ) → nat_le to offset ≡ false → to ≡ max offset to
+greater_last to offset is = grind (arith, nat_tests)
+
+-- what a standard stream shows up to a stamp, made on the rows at its offset, gives the rows at that stamp
+pub shown_leads : (t : Table) (s : Stream) (to : ℕ) → s.is_append_only ≡ false
+    → patch (rows_at t s.offset) (shown t s to) ≡ rows_at t (max s.offset to)
+unfolding shown
+shown_leads t s to standard = by_test (nat_le to s.offset) refl
+  where
+    by_test : (b : Bool) → nat_le to s.offset ≡ b
+        → patch (rows_at t s.offset) (cond b [] (records_between s.is_append_only t s.offset to))
+        ≡ rows_at t (max s.offset to)
+    by_test true is = nothing_patched (rows_at t s.offset) ∙ ap (rows_at t) (greater_first to s.offset is)
+    by_test false is =
+        ap (λ (mode : Bool). patch (rows_at t s.offset) (records_between mode t s.offset to)) standard
+        ∙ patched (rows_at t s.offset) (rows_at t to) ∙ ap (rows_at t) (greater_last to s.offset is)
+
+-- the offset isn't behind the last stamp
+pub offset_passed : (m : Machine) → SoundMachine m → (id : ℕ) (s : Stream) → stream_at m.state.objects id ≡ Some s
+    → s.offset ≤ m.state.last
+offset_passed m sound id s at =
+    let here = stream_stands m.state.objects id s at in
+    let is : IsSoundObject m.state.committed here.object =
+    all_at (IsSoundObject m.state.committed) m.state.objects id here.object sound.state.objects here.there in
+    let within : IsSoundKind m.state.committed (StreamKind s) =
+    subst (IsSoundKind m.state.committed) here.kind is.kind in
+    omega (arith, within, sound.state.ordered)
+
+-- the batches in which a standard stream was consumed, made one after the other on the rows of its source at its
+-- offset, give those at the offset that it has at last: nothing is lost, and nothing comes twice
+pub batches_lead : (id : ℕ) (m : Machine) (es : List Event) → SoundMachine m → (s : Stream) (t : Table)
+    → stream_at m.state.objects id ≡ Some s → s.is_append_only ≡ false → table_at m.state.objects s.source ≡ Some t
+    → all_patched (rows_at t s.offset) (batches id m es)
+    ≡ rows_consumed (after m es).state.objects (stream_at (after m es).state.objects id)
+batches_lead id m [] sound s t at standard tabled =
+    sym (ap (rows_consumed m.state.objects) at ∙ table_rows m.state.objects s.source s.offset t tabled)
+batches_lead id m (e ∷ es) sound s t at standard tabled =
+    let stamp : ℕ = stamp_of m.state (reading_of e) in
+    let next : List Object = (step m e).0.state.objects in
+    let now = stream_later stamp m.state.objects next id s (later_step m e sound) at in
+    let source = table_later stamp m.state.objects next s.source t (later_step m e sound) tabled in
+    let r : Stream = now.stream in
+    let batch : consumed id m e ≡ shown t s r.offset =
+    ap (λ (found : Option Stream). shown_to m.state.objects found (stream_at next id)) at
+    ∙ ap (shown_to m.state.objects (Some s)) now.there
+    ∙ ap (λ (found : Option Table). shown_of found s r.offset) tabled in
+    let greater : max s.offset r.offset ≡ r.offset = omega (arith, now.later.not_before) in
+    let before : r.offset < stamp = omega (arith, now.later.not_behind, offset_passed m sound id s at) in
+    let leads : patch (rows_at t s.offset) (consumed id m e) ≡ rows_at source.table r.offset =
+    ap (patch (rows_at t s.offset)) batch ∙ shown_leads t s r.offset standard ∙ ap (rows_at t) greater
+    ∙ sym (source.kept r.offset before) in
+    ap (λ (rows : Rows). all_patched rows (batches id (step m e).0 es)) leads
+    ∙ batches_lead id (step m e).0 es (sound_step m e sound) r source.table now.there (now.later.mode ∙ standard)
+    (subst (λ (source_id : ℕ). table_at next source_id ≡ Some source.table) (sym now.later.source) source.there)

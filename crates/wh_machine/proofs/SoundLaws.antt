@@ -1,0 +1,74 @@
+-- What is sound stays so.
+--     sound_opened                 the machine of a file's sound state is sound
+--     sound_step, sound_after      an event, and a run of them
+use Rattle.std.proofs.Common.{◌≡◌, ℕ, suc, zero, ◌<◌, ◌≤◌, Bool, true, false, List, [], ◌∷◌, Option, Some, None, refl}
+use Rattle.std.proofs.Common.{arith}
+use Rattle.std.specs.Prelude.{replicate}
+use Rattle.wh_state.specs.State.{State}
+use Rattle.wh_state.specs.Act.{Act, MakesTable, DropsObject, EditsRows, MakesStream, MovesOffset}
+use Rattle.wh_state.specs.Sound.{Sound}
+use Rattle.wh_state.proofs.AllLaws.{all_map}
+use Rattle.wh_state.proofs.SoundLaws.{IsWithin, sound_done}
+use Rattle.wh_machine.specs.Transaction.{Transaction}
+use Rattle.wh_machine.specs.Outcome.{Machine, Outcome, opened, settled}
+use Rattle.wh_machine.specs.Sound.{IsBegun, AreBegun, SoundMachine}
+use Rattle.wh_machine.specs.Step.{Event, has_stamp, step, after}
+use Rattle.wh_machine.proofs.OutcomeLaws.{MovesOn, HoldsOfEach, outcome_of_event}
+use Rattle.wh_machine.proofs.StepLaws.{ready, step_at, stamp_refused}
+
+none_begun : (last count : ℕ) → AreBegun last (replicate count None)
+none_begun last zero = tt
+none_begun last (suc count) = (tt, none_begun last count)
+
+-- no transaction is open there
+pub sound_opened : (s : State) → Sound s → SoundMachine (opened s)
+sound_opened s sound = record { state = sound; begun = none_begun s.last 65 }
+
+-- what moves on stays within the last stamp
+within : (s : State) (act : Act) → MovesOn s act → IsWithin s.last act
+within s (MakesTable name columns retention) on = tt
+within s (DropsObject id) on = tt
+within s (EditsRows id e) on = tt
+within s (MakesStream name source is_append_only) on = tt
+within s (MovesOffset id offset) on = omega (arith, on.0)
+
+abbrev SettlesSound : Machine → Outcome → Type 0
+SettlesSound m o = SoundMachine (settled m o).0
+
+settles_sound : (m : Machine) → m.state.committed < m.state.last → SoundMachine m → HoldsOfEach m (SettlesSound m)
+settles_sound m later sound = record {
+  refusal = λ why. sound;
+  answer = λ reply sessions accepted keeps. record { state = sound.state; begun = keeps.begun sound.begun };
+  commit = λ reply sessions acts accepted keeps shape on spares. record {
+    state = sound_done m.state later sound.state acts shape
+        (all_map (MovesOn m.state) (IsWithin m.state.last) (within m.state) acts (on sound.begun));
+    begun = keeps.begun sound.begun;
+  };
+}
+
+begun_later : (last later : ℕ) → last ≤ later → (found : Option Transaction) → IsBegun last found → IsBegun later found
+begun_later last later h None begun = tt
+begun_later last later h (Some t) begun = omega (arith, begun)
+
+-- so it is at the stamp of an event
+pub sound_ready : (m : Machine) (e : Event) → SoundMachine m → SoundMachine (ready m e)
+sound_ready m e sound = record {
+  state = record { ordered = omega (arith, sound.state.ordered); objects = sound.state.objects };
+  begun = all_map (IsBegun m.state.last) (IsBegun (ready m e).state.last)
+      (begun_later m.state.last (ready m e).state.last (omega arith)) m.sessions sound.begun;
+}
+
+-- an event
+pub sound_step : (m : Machine) (e : Event) → SoundMachine m → SoundMachine (step m e).0
+sound_step m e sound = by_stamp (has_stamp m e) refl
+  where
+    by_stamp : (has : Bool) → has_stamp m e ≡ has → SoundMachine (step m e).0
+    by_stamp true is =
+        rw (step_at m e is) (outcome_of_event (ready m e) (SettlesSound (ready m e))
+        (settles_sound (ready m e) (omega (arith, sound.state.ordered)) (sound_ready m e sound)) e)
+    by_stamp false is = rw (stamp_refused m e is) sound
+
+-- a run of events
+pub sound_after : (m : Machine) (es : List Event) → SoundMachine m → SoundMachine (after m es)
+sound_after m [] sound = sound
+sound_after m (e ∷ es) sound = sound_after (step m e).0 es (sound_step m e sound)

@@ -1,0 +1,208 @@
+-- What an event leaves.
+--     stamp_passes, stamp_refused           the last stamp, and an event that there is none for
+--     last_grows, committed_kept            the stamps of a machine
+--     settled_meant, decided_meant          an outcome over an orderly file that means the state before
+--     step_meant, rest_meant                with the event's commit it means the one after
+--     unmade                                an event without a commit
+--     refused_acts, refusals_change_nothing     a refused one
+use Rattle.std.proofs.Common.{◌≡◌, ℕ, ◌≤◌, Bool, true, false, List, Option, Some, None, option_map}
+use Rattle.std.proofs.Common.{refl, sym, ap, subst, ◌∙◌}
+use Rattle.std.proofs.Common.{arith}
+use Rattle.std.specs.Prelude.{IsTrue}
+use Rattle.wh_value.specs.declared.limit.Limit.TheVariants as limits
+use Rattle.wh_reply.specs.Reply.{Reply, Refused, OverLimit, is_refusal}
+use Rattle.wh_state.specs.State.{State, at_rest, stamped}
+use Rattle.wh_state.specs.Act.{Act, done}
+use Rattle.wh_state.specs.Stored.{Stored, meant}
+use Rattle.wh_state.specs.Written.{commit_for, kept_after}
+use Rattle.wh_state.specs.Orderly.{IsOrderlyStored}
+use Rattle.wh_state.proofs.ActLaws.{IsOfOneStatement, written_meant}
+use Rattle.wh_machine.specs.Outcome.{Machine, Outcome, Refuses, Does, settled, acts_in, rest_of}
+use Rattle.wh_machine.specs.Step.{Event, reading_of, stamp_of, at_stamp, has_stamp, decided, step, acts_of}
+use Rattle.wh_machine.specs.Made.{made}
+use Rattle.wh_machine.proofs.OutcomeLaws.{HoldsOfEach, outcome_of_event}
+
+-- ---- stamps
+
+settled_last : (m : Machine) (o : Outcome) → (settled m o).0.state.last ≡ m.state.last
+settled_last m (Refuses why) = refl
+settled_last m (Does reply sessions None) = refl
+settled_last m (Does reply sessions (Some acts)) = refl
+
+settled_committed : (m : Machine) (o : Outcome) → m.state.committed ≤ m.state.last
+    → (settled m o).0.state.committed ≤ m.state.last
+settled_committed m (Refuses why) h = h
+settled_committed m (Does reply sessions None) h = h
+settled_committed m (Does reply sessions (Some acts)) h = omega arith
+
+-- the machine at the stamp of an event
+abbrev pub ready : Machine → Event → Machine
+ready m e = at_stamp m (stamp_of m.state (reading_of e))
+
+-- an event with a stamp is settled at it
+pub step_at : (m : Machine) (e : Event) → has_stamp m e ≡ true → step m e ≡ settled (ready m e) (decided m e)
+unfolding step
+step_at m e has = rw has
+
+pub acts_at : (m : Machine) (e : Event) → has_stamp m e ≡ true → acts_of m e ≡ acts_in (decided m e)
+unfolding acts_of
+acts_at m e has = rw has
+
+-- the event's stamp is the last one then
+pub stamp_passes : (m : Machine) (e : Event) → has_stamp m e ≡ true
+    → (step m e).0.state.last ≡ stamp_of m.state (reading_of e)
+stamp_passes m e has =
+    ap (λ (p : Machine × Reply). p.0.state.last) (step_at m e has) ∙ settled_last (ready m e) (decided m e)
+
+-- without one it is refused, and all stays
+pub stamp_refused : (m : Machine) (e : Event) → has_stamp m e ≡ false → step m e ≡ (m, Refused (OverLimit limits.Stamp))
+unfolding step
+stamp_refused m e none = rw none
+
+pub no_acts : (m : Machine) (e : Event) → has_stamp m e ≡ false → acts_of m e ≡ None
+unfolding acts_of
+no_acts m e none = rw none
+
+pub last_grows : (m : Machine) (e : Event) → m.state.last ≤ (step m e).0.state.last
+last_grows m e = by_stamp (has_stamp m e) refl
+  where
+    by_stamp : (has : Bool) → has_stamp m e ≡ has → m.state.last ≤ (step m e).0.state.last
+    by_stamp true is = omega (arith, stamp_passes m e is)
+    by_stamp false is = omega (arith, ap (λ (p : Machine × Reply). p.0.state.last) (stamp_refused m e is))
+
+pub committed_kept : (m : Machine) (e : Event) → m.state.committed ≤ m.state.last
+    → (step m e).0.state.committed ≤ (step m e).0.state.last
+committed_kept m e before = by_stamp (has_stamp m e) refl
+  where
+    by_stamp : (has : Bool) → has_stamp m e ≡ has → (step m e).0.state.committed ≤ (step m e).0.state.last
+    by_stamp true is = omega (
+      arith,
+      stamp_passes m e is,
+      ap (λ (p : Machine × Reply). p.0.state.committed) (step_at m e is),
+      settled_committed (ready m e) (decided m e) (omega arith),
+    )
+    by_stamp false is = rw (stamp_refused m e is) before
+
+-- ---- what a file means
+
+abbrev pub HasActsOfOne : Outcome → Type 0
+HasActsOfOne (Refuses why) = Unit {0}
+HasActsOfOne (Does reply sessions None) = Unit {0}
+HasActsOfOne (Does reply sessions (Some acts)) = IsOfOneStatement acts
+
+-- what an outcome comes to, over an orderly file that means the state but for its last stamp
+pub settled_meant : (s : Stored) (m : Machine) (stamp : ℕ) (o : Outcome) → IsOrderlyStored s → HasActsOfOne o
+    → m.state ≡ record (meant s) { last = m.state.last }
+    → (settled (at_stamp m stamp) o).0.state
+    ≡ record (meant (kept_after s (option_map (commit_for s stamp) (acts_in o)))) { last = stamp }
+settled_meant s m stamp (Refuses why) orderly one is = ap (λ (t : State). stamped t stamp) is
+settled_meant s m stamp (Does reply sessions None) orderly one is = ap (λ (t : State). stamped t stamp) is
+settled_meant s m stamp (Does reply sessions (Some acts)) orderly one is =
+    ap (λ (t : State). done (stamped t stamp) acts) is
+    ∙ ap (λ (t : State). stamped t stamp) (sym (written_meant s stamp acts one orderly))
+
+each_of_one : (m : Machine) → HoldsOfEach m HasActsOfOne
+each_of_one m = record {
+  refusal = λ why. tt;
+  answer = λ reply sessions accepted keeps. tt;
+  commit = λ reply sessions acts accepted keeps shape on spares. shape;
+}
+
+-- so for what an event does
+pub decided_meant : (s : Stored) (m : Machine) (e : Event) → IsOrderlyStored s
+    → m.state ≡ record (meant s) { last = m.state.last }
+    → (settled (ready m e) (decided m e)).0.state
+    ≡ record (meant
+    (kept_after s (option_map (commit_for s (stamp_of m.state (reading_of e))) (acts_in (decided m e))))) {
+      last = stamp_of m.state (reading_of e);
+    }
+decided_meant s m e orderly is =
+    settled_meant s m (stamp_of m.state (reading_of e)) (decided m e) orderly
+    (outcome_of_event (ready m e) HasActsOfOne (each_of_one (ready m e)) e) is
+
+-- the event's commit leaves a file that means the state after it but for its last stamp
+pub step_meant : (s : Stored) (m : Machine) (e : Event) → IsOrderlyStored s
+    → m.state ≡ record (meant s) { last = m.state.last }
+    → (step m e).0.state ≡ record (meant (kept_after s (made s m e))) { last = (step m e).0.state.last }
+step_meant s m e orderly is = by_stamp (has_stamp m e) refl
+  where
+    by_stamp : (has : Bool) → has_stamp m e ≡ has
+        → (step m e).0.state ≡ record (meant (kept_after s (made s m e))) { last = (step m e).0.state.last }
+    by_stamp true has =
+        let stamp : ℕ = stamp_of m.state (reading_of e) in
+        ap (λ (p : Machine × Reply). p.0.state) (step_at m e has) ∙ decided_meant s m e orderly is
+        ∙ ap (λ (acts : Option (List Act)). stamped (meant (kept_after s (option_map (commit_for s stamp) acts))) stamp)
+        (sym (acts_at m e has))
+        ∙ ap (λ (n : ℕ). stamped (meant (kept_after s (made s m e))) n) (sym (stamp_passes m e has))
+    by_stamp false none =
+        ap (λ (p : Machine × Reply). p.0.state) (stamp_refused m e none) ∙ is
+        ∙ ap (λ (acts : Option (List Act)). stamped (meant (kept_after s
+        (option_map (commit_for s (stamp_of m.state (reading_of e))) acts))) m.state.last) (sym (no_acts m e none))
+        ∙ ap (λ (n : ℕ). stamped (meant (kept_after s (made s m e))) n)
+        (sym (ap (λ (p : Machine × Reply). p.0.state.last) (stamp_refused m e none)))
+
+-- as the file keeps it, it is what the file means
+pub rest_meant : (s : Stored) (m : Machine) (e : Event) → IsOrderlyStored s
+    → m.state ≡ record (meant s) { last = m.state.last }
+    → rest_of (step m e).0 ≡ meant (kept_after s (made s m e))
+rest_meant s m e orderly is = ap at_rest (step_meant s m e orderly is)
+
+-- ---- events without a commit
+
+settled_unmade : (m : Machine) (o : Outcome) → acts_in o ≡ None → (settled m o).0.state ≡ m.state
+settled_unmade m (Refuses why) none = refl
+settled_unmade m (Does reply sessions None) none = refl
+settled_unmade m (Does reply sessions (Some acts)) none = absurd cc
+
+pub unmade : (m : Machine) (e : Event) → acts_of m e ≡ None
+    → (step m e).0.state ≡ record (m.state) { last = (step m e).0.state.last }
+unmade m e none = by_stamp (has_stamp m e) refl
+  where
+    by_stamp : (has : Bool) → has_stamp m e ≡ has
+        → (step m e).0.state ≡ record (m.state) { last = (step m e).0.state.last }
+    by_stamp true is =
+        ap (λ (p : Machine × Reply). p.0.state) (step_at m e is)
+        ∙ settled_unmade (ready m e) (decided m e) (sym (acts_at m e is) ∙ none)
+        ∙ ap (stamped m.state) (sym (stamp_passes m e is))
+    by_stamp false is =
+        ap (λ (p : Machine × Reply). p.0.state) (stamp_refused m e is)
+        ∙ ap (stamped m.state) (sym (ap (λ (p : Machine × Reply). p.0.state.last) (stamp_refused m e is)))
+
+-- ---- refused events
+
+-- where the reply is a refusal, nothing but the stamp passes
+abbrev SparesRefused : Machine → Outcome → Type 0
+SparesRefused m o = IsTrue (is_refusal (settled m o).1) → (acts_in o ≡ None) × ((settled m o).0 ≡ m)
+
+spares : (m : Machine) → HoldsOfEach m (SparesRefused m)
+spares m = record {
+  refusal = λ why refused. (refl, refl);
+  answer = λ reply sessions accepted keeps refused. absurd cc;
+  commit = λ reply sessions acts accepted keeps shape on spares refused. absurd cc;
+}
+
+refused_spares : (m : Machine) (e : Event) → has_stamp m e ≡ true → IsTrue (is_refusal (step m e).1)
+    → (acts_in (decided m e) ≡ None) × ((settled (ready m e) (decided m e)).0 ≡ ready m e)
+refused_spares m e has refused =
+    outcome_of_event (ready m e) (SparesRefused (ready m e)) (spares (ready m e)) e
+    (subst (λ (p : Machine × Reply). IsTrue (is_refusal p.1)) (step_at m e has) refused)
+
+pub refused_acts : (m : Machine) (e : Event) → IsTrue (is_refusal (step m e).1) → acts_of m e ≡ None
+refused_acts m e refused = by_stamp (has_stamp m e) refl
+  where
+    by_stamp : (has : Bool) → has_stamp m e ≡ has → acts_of m e ≡ None
+    by_stamp true is = acts_at m e is ∙ (refused_spares m e is refused).0
+    by_stamp false is = no_acts m e is
+
+-- a refused event changes nothing but the last stamp
+pub refusals_change_nothing : (m : Machine) (e : Event) → IsTrue (is_refusal (step m e).1)
+    → (step m e).0 ≡ at_stamp m (step m e).0.state.last
+refusals_change_nothing m e refused = by_stamp (has_stamp m e) refl
+  where
+    by_stamp : (has : Bool) → has_stamp m e ≡ has → (step m e).0 ≡ at_stamp m (step m e).0.state.last
+    by_stamp true is =
+        ap (λ (p : Machine × Reply). p.0) (step_at m e is) ∙ (refused_spares m e is refused).1
+        ∙ ap (at_stamp m) (sym (stamp_passes m e is))
+    by_stamp false is =
+        ap (λ (p : Machine × Reply). p.0) (stamp_refused m e is)
+        ∙ ap (at_stamp m) (sym (ap (λ (p : Machine × Reply). p.0.state.last) (stamp_refused m e is)))
