@@ -30,21 +30,23 @@ use Rattle.wh_naming.specs.Changes.{bound_change}
 use Rattle.wh_effect.specs.Effect.{effect}
 use Rattle.wh_reply.specs.Reply.{Refused, NoSuchSession, TypeMismatch, OverLimit, Inserted, Begun, print}
 use Rattle.wh_state.specs.State.{first_state}
-use Rattle.wh_state.specs.Edits.{partitions_made}
-use Rattle.wh_machine.specs.Changes.{edits_of}
-use Rattle.wh_machine.specs.Statement.{Begin, CreateTable, DropTable, ChangeRows, form_of}
+use Rattle.wh_state.specs.Edits.{edits_from, later_edits, partitions_made}
 use Rattle.wh_state.specs.Act.{EditsRows, edited_table}
-use Rattle.wh_machine.specs.Tables.{table_refusal, taken_name, create_table, drop_table}
+use Rattle.wh_machine.specs.Tables.{table_refusal, retention_of, create_table, drop_table}
+use Rattle.wh_machine.specs.Names.{names_in}
+use Rattle.wh_ddl_naming.specs.Tables.{bound_table, taken_column}
+use Rattle.wh_ddl_naming.specs.Statements as ddl
 use Rattle.wh_machine.specs.Streams.{drop_stream}
-use Rattle.wh_machine.specs.Changes.{edits_refusal}
-use Rattle.wh_state.proofs.KnownMaps.{no_entries}
-use Rattle.wh_machine.specs.Transaction.{seen}
+use Rattle.wh_state.proofs.KnownMaps.{map_steps}
+use Rattle.wh_machine.specs.Transaction as transactions
+use Rattle.wh_machine.specs.Transaction.{seen, staged, past_limit}
 use Rattle.wh_machine.specs.Sessions.{no_sessions}
-use Rattle.wh_machine.specs.Outcome.{Machine, Refuses, Does, opened}
+use Rattle.wh_machine.specs.Outcome.{Machine, Outcome, Refuses, Does, opened}
 use Rattle.wh_machine.specs.Reading.{reading_refusal}
-use Rattle.wh_machine.specs.Statements.{begin, changed, changes_rows}
+use Rattle.wh_machine.specs.Statements.{begin, changes_rows, carried_out}
+use Rattle.wh_machine.specs.Consuming.{change_in}
 use Rattle.wh_machine.specs.Definitions.{defines}
-use Rattle.wh_machine.specs.Step.{Event, Command, Tick, step, commanded, carried_out, text}
+use Rattle.wh_machine.specs.Step.{Event, Command, Tick, step, commanded, text}
 
 abbrev pub first : Machine
 first = opened first_state
@@ -80,13 +82,12 @@ replacing_t = creation true (codes "T") (column (codes "K") types.Number ∷ [])
 abbrev pub drop_t : tree.Statement
 drop_t = st.DropTable (codes "T")
 
-forms : (form_of table_t
-    ≡ Some (CreateTable false (codes "T") (record { name = codes "K"; column_type = NumberType } ∷ []) 1))
-    × (form_of (creation true (codes "T") [] (Some 7)) ≡ Some (CreateTable true (codes "T") [] 7))
-    × (form_of drop_t ≡ Some (DropTable (codes "T")))
-    × (form_of (insertion (codes "T") []) ≡ Some (ChangeRows (insertion_into (codes "T") [])))
-    × (form_of st.Begin ≡ Some Begin)
-forms = (refl, refl, refl, refl, refl)
+-- one day where none is written
+retentions : (retention_of (bound_table (names_in []) (record {
+      replace = false; name = codes "T"; columns = []; retention = None })).value ≡ 1)
+    × (retention_of (bound_table (names_in []) (record {
+      replace = true; name = codes "T"; columns = []; retention = Some 7 })).value ≡ 7)
+retentions = (refl, refl)
 
 -- what a literal stands for, wherever it stands
 pub literal_typed : (c : values_of.Value) (context : Context) (calls : ℕ)
@@ -95,10 +96,10 @@ literal_typed c context calls =
     ap (λ (r : Reading). r context calls) (fold-roll-Expr Reading typing.step (Expr-F.Const c))
 
 -- the first name that comes again, and one that is kept for streams
-taken : (taken_name (codes "A" ∷ codes "B" ∷ codes "B" ∷ codes "A" ∷ []) ≡ Some (codes "A"))
-    × (taken_name (codes "K" ∷ codes "METADATA$A" ∷ codes "K" ∷ []) ≡ Some (codes "K"))
-    × (taken_name (codes "A" ∷ codes "METADATA$A" ∷ []) ≡ Some (codes "METADATA$A"))
-    × (taken_name (codes "metadata$k" ∷ codes "K" ∷ []) ≡ None)
+taken : (taken_column (codes "A" ∷ codes "B" ∷ codes "B" ∷ codes "A" ∷ []) ≡ Some (codes "A"))
+    × (taken_column (codes "K" ∷ codes "METADATA$A" ∷ codes "K" ∷ []) ≡ Some (codes "K"))
+    × (taken_column (codes "A" ∷ codes "METADATA$A" ∷ []) ≡ Some (codes "METADATA$A"))
+    × (taken_column (codes "metadata$k" ∷ codes "K" ∷ []) ≡ None)
 taken = (refl, refl, refl, refl)
 
 -- ---- events and their replies
@@ -107,54 +108,54 @@ taken = (refl, refl, refl, refl)
 refused : text first (asked table_t ∷ asked table_t
     ∷ asked (insertion (codes "T") ((number 1 ∷ number 2 ∷ []) ∷ [])) ∷ [])
     ≡ codes "CREATED TABLE T\nE7 NameTaken T\nE9 TypeMismatch\n"
-unfolding step commanded carried_out defines create_table drop_table table_refusal changes_rows changed seen
-    reading_refusal bound_change first_failing typing.step print digits
-refused = simp literal_typed
+unfolding step commanded ddl.bound first_failing carried_out defines create_table drop_table table_refusal changes_rows transactions.acts_of past_limit staged later_edits seen
+    reading_refusal bound_change typing.step print digits
+refused = simp (literal_typed, map_steps)
 
 unknown : text first (asked (insertion (codes "U") ((number 1 ∷ []) ∷ [])) ∷ asked (st.DropTable (codes "U"))
     ∷ asked (st.DropStream (codes "S")) ∷ Command 0 65 Unreadable ∷ Command 0 65 TooLong ∷ Tick 5 ∷ [])
     ≡ codes "E6 UnknownName U\nE6 UnknownName U\nE6 UnknownName S\nE1 SyntaxError\nE13 Limit STATEMENT 65536\nIDLE\n"
-unfolding step commanded carried_out defines create_table drop_table drop_stream table_refusal changes_rows changed seen
-    reading_refusal bound_change first_failing typing.step print digits
+unfolding step commanded ddl.bound first_failing carried_out defines create_table drop_table drop_stream table_refusal changes_rows transactions.acts_of past_limit staged later_edits seen
+    reading_refusal bound_change typing.step print digits
 unknown = refl
 
 -- a dropped name is unknown, and free for a new table
 dropped : text first (asked table_t ∷ asked drop_t ∷ asked (insertion (codes "T") ((number 1 ∷ []) ∷ [])) ∷ asked drop_t
     ∷ asked table_t ∷ [])
     ≡ codes "CREATED TABLE T\nDROPPED TABLE T\nE6 UnknownName T\nE6 UnknownName T\nCREATED TABLE T\n"
-unfolding step commanded carried_out defines create_table drop_table table_refusal changes_rows changed seen
-    reading_refusal bound_change first_failing typing.step print digits
+unfolding step commanded ddl.bound first_failing carried_out defines create_table drop_table table_refusal changes_rows transactions.acts_of past_limit staged later_edits seen
+    reading_refusal bound_change typing.step print digits
 dropped = refl
 
 -- OR REPLACE takes the place of a table, or of none
 replaced : text first (asked table_t ∷ asked replacing_t ∷ asked drop_t ∷ asked replacing_t ∷ [])
     ≡ codes "CREATED TABLE T\nCREATED TABLE T\nDROPPED TABLE T\nCREATED TABLE T\n"
-unfolding step commanded carried_out defines create_table drop_table table_refusal print digits
+unfolding step commanded ddl.bound first_failing carried_out defines create_table drop_table table_refusal print digits
 replaced = refl
 
 -- rows of values
 inserted : text first (asked table_t ∷ asked (insertion (codes "T") ((number 1 ∷ []) ∷ (number 7 ∷ []) ∷ [])) ∷ [])
     ≡ codes "CREATED TABLE T\nINSERTED 2\n"
-unfolding step commanded carried_out defines create_table drop_table table_refusal changes_rows
-    changed seen reading_refusal bound_change first_failing typing.step effect values_on val edits_refusal edited_table
-    partitions_made edits_of print digits
-inserted = simp literal_typed
+unfolding step commanded ddl.bound first_failing carried_out defines create_table drop_table table_refusal changes_rows
+    transactions.acts_of past_limit staged later_edits seen reading_refusal bound_change typing.step effect values_on val edited_table
+    partitions_made edits_from print digits
+inserted = simp (literal_typed, map_steps)
 
 -- nothing goes where the condition holds on no row
 none_go : text first
     (asked table_t ∷ asked (st.Dml (dml.Delete (codes "T") None)) ∷ asked (st.Dml (dml.Update (codes "T") [] None))
     ∷ asked (st.Dml (dml.Delete (codes "T") (Some (number 1)))) ∷ asked (st.Dml (dml.Delete (codes "U") None)) ∷ [])
     ≡ codes "CREATED TABLE T\nDELETED 0\nUPDATED 0\nE9 TypeMismatch\nE6 UnknownName U\n"
-unfolding step commanded carried_out defines create_table drop_table table_refusal changes_rows
-    changed seen reading_refusal bound_change first_failing typing.step effect values_on val edits_refusal edited_table
-    partitions_made edits_of print digits
-none_go = simp (literal_typed, no_entries)
+unfolding step commanded ddl.bound first_failing carried_out defines create_table drop_table table_refusal changes_rows
+    transactions.acts_of past_limit staged later_edits seen reading_refusal bound_change typing.step effect values_on val edited_table
+    partitions_made edits_from print digits
+none_go = simp (literal_typed, map_steps)
 
 -- a session that there isn't is tested behind the grammar
 session : ((step first (Command 0 65 (Asked st.Begin))).1 ≡ Refused (NoSuchSession 65))
     × ((step first (Command 0 0 (Asked st.Begin))).1 ≡ Refused (NoSuchSession 0))
     × ((step first (Command 0 64 (Asked st.Begin))).1 ≡ Begun 1)
-unfolding step commanded carried_out begin
+unfolding step commanded ddl.bound carried_out begin
 session = (refl, refl, refl)
 
 -- a stamp of 62 bits or more is refused before all else, and doesn't pass; the one before passes
@@ -183,16 +184,19 @@ null = roll-Expr (Expr-F.Const v.Null)
 abbrev text_one : Expr
 text_one = roll-Expr (Expr-F.Const (v.Text (codes "1")))
 
+abbrev changed : Dml → Outcome
+changed statement = changes_rows created 1 (change_in created statement)
+
 -- it takes one value for each column, of its type or NULL
-rows_fit : (changes_rows created 1 (insertion_of ((null ∷ []) ∷ (number 1 ∷ []) ∷ []))
+rows_fit : (changed (insertion_of ((null ∷ []) ∷ (number 1 ∷ []) ∷ []))
     ≡ Does (Inserted 2) no_sessions (Some (EditsRows 1 (record {
       rows = empty;
       added = (Null ∷ []) ∷ (Number (pos 1) ∷ []) ∷ [];
     }) ∷ [])))
-    × (changes_rows created 1 (insertion_of ((null ∷ null ∷ []) ∷ [])) ≡ Refuses TypeMismatch)
-    × (changes_rows created 1 (insertion_of ([] ∷ [])) ≡ Refuses TypeMismatch)
-    × (changes_rows created 1 (insertion_of ((null ∷ []) ∷ (text_one ∷ []) ∷ [])) ≡ Refuses TypeMismatch)
-unfolding step commanded carried_out defines create_table table_refusal changes_rows changed seen reading_refusal
+    × (changed (insertion_of ((null ∷ null ∷ []) ∷ [])) ≡ Refuses TypeMismatch)
+    × (changed (insertion_of ([] ∷ [])) ≡ Refuses TypeMismatch)
+    × (changed (insertion_of ((null ∷ []) ∷ (text_one ∷ []) ∷ [])) ≡ Refuses TypeMismatch)
+unfolding step commanded ddl.bound first_failing carried_out defines create_table table_refusal changes_rows transactions.acts_of past_limit staged later_edits seen reading_refusal
     bound_change
-    first_failing typing.step effect values_on val edits_refusal partitions_made edits_of
-rows_fit = (simp literal_typed, simp literal_typed, refl, simp literal_typed)
+    typing.step effect values_on val partitions_made edits_from
+rows_fit = (simp (literal_typed, map_steps), simp (literal_typed, map_steps), refl, simp (literal_typed, map_steps))

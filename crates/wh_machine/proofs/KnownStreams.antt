@@ -25,25 +25,24 @@ use Rattle.wh_effect.specs.Effect.{effect}
 use Rattle.wh_reply.specs.Reply.{SourceGone, StaleStream, Locked, HasData, Inserted, Committed, Listing, print}
 use Rattle.wh_state.specs.State.{Table, Stream, Object, TableKind, StreamKind, new_object, dropped}
 use Rattle.wh_state.specs.State.{nothing_held, version_at, new_stream}
-use Rattle.wh_state.specs.Edits.{Edits, later_edits, partitions_made}
-use Rattle.wh_machine.specs.Changes.{edits_of}
+use Rattle.wh_state.specs.Edits.{Edits, edits_from, later_edits, partitions_made}
 use Rattle.wh_state.specs.Act.{EditsRows, MovesOffset}
 use Rattle.wh_machine.specs.Tables.{table_refusal, create_table, drop_table}
 use Rattle.wh_machine.specs.Streams.{stream_refusal, create_stream, drop_stream}
 use Rattle.wh_machine.specs.Names.{names_from}
-use Rattle.wh_machine.specs.Changes.{edits_refusal}
 use Rattle.wh_state.proofs.KnownMaps.{map_steps}
 use Rattle.wh_net.specs.Net.{net}
 use Rattle.wh_net.specs.Stream.{shown}
 use Rattle.wh_machine.specs.Transaction.{Transaction, begun, seen, staged, acts_of, past_limit}
 use Rattle.wh_machine.specs.Sessions.{Sessions, no_sessions, with_transaction, transaction_in}
-use Rattle.wh_machine.specs.Outcome.{Machine, Outcome, Refuses, Does, alone}
+use Rattle.wh_machine.specs.Outcome.{Machine, Outcome, Refuses, Does}
 use Rattle.wh_machine.specs.Reading.{reading_refusal, has_data}
-use Rattle.wh_machine.specs.Statements.{commit, bound_changed, changed, changes_in, changes_rows}
+use Rattle.wh_machine.specs.Statements.{commit, bound_changed, changes_in, changes_rows, selects, carried_out}
 use Rattle.wh_machine.specs.Definitions.{defines}
-use Rattle.wh_machine.specs.Statements.{select_bound}
-use Rattle.wh_machine.specs.Statements.{selects}
-use Rattle.wh_machine.specs.Step.{step, commanded, carried_out, text}
+use Rattle.wh_machine.specs.Consuming.{change_in}
+use Rattle.wh_ddl_naming.specs.Statements as ddl
+use Rattle.wh_machine.specs.Offsets.{with_streams, offset_move, acts_of_commit}
+use Rattle.wh_machine.specs.Step.{step, commanded, text}
 use Rattle.wh_machine.proofs.KnownEvents.{first, table_t as event_t, asked}
 
 abbrev row : ℕ → Row
@@ -84,16 +83,15 @@ abbrev from_s : WrittenQuery
 from_s = select (only (column k)) (object name_s)
 
 select_read : (m : Machine) (o : Outcome)
-    → alone m.sessions (select_bound m 1 (ordered (from_s.reading (names_from 1 m.state.objects) 0) [])) ≡ o
-    → selects m 1 from_s.tree [] ≡ o
-unfolding selects bound_select
+    → selects m 1 (ordered (from_s.reading (names_from 1 m.state.objects) 0) []) ≡ o
+    → selects m 1 (bound_select (names_from 1 m.state.objects) from_s.tree []) ≡ o
+unfolding bound_select
 select_read m o is =
-    ap (λ (r : QueryReading). alone m.sessions (select_bound m 1 (ordered (r (names_from 1 m.state.objects) 0) [])))
-    from_s.is ∙ is
+    ap (λ (r : QueryReading). selects m 1 (ordered (r (names_from 1 m.state.objects) 0) [])) from_s.is ∙ is
 
-a_query_moves_nothing : selects (machine no_sessions) 1 from_s.tree []
+a_query_moves_nothing : selects (machine no_sessions) 1 (bound_select (names_from 1 objects) from_s.tree [])
     ≡ Does (Listing (k ∷ []) (row 7 ∷ [])) no_sessions None
-unfolding seen reading_refusal shown net digits first_failing source_step core_step query_step typing.step column_at
+unfolding selects seen reading_refusal shown net digits first_failing source_step core_step query_step typing.step column_at
     eval listed fold_bag val values_on
 a_query_moves_nothing = select_read (machine no_sessions) _ (simp steps)
 
@@ -105,21 +103,26 @@ insert_read : (m : Machine) (session : ℕ) (o : Outcome)
     → changes_in m session (transaction_in m.sessions session) (bound_changed m session
     (insert_query (target_at (names_from 1 m.state.objects) (codes "C")) None
     (from_s.reading (names_from 1 m.state.objects) 0))) ≡ o
-    → changes_rows m session from_s_to_c ≡ o
-unfolding changes_rows changed bound_change
+    → changes_rows m session (change_in m from_s_to_c) ≡ o
+unfolding changes_rows bound_change
 insert_read m session o is =
     ap (λ (r : QueryReading). changes_in m session (transaction_in m.sessions session) (bound_changed m session
     (insert_query (target_at (names_from 1 m.state.objects) (codes "C")) None (r (names_from 1 m.state.objects) 0))))
     from_s.is ∙ is
 
+-- as a session's change
+abbrev moved_on : Machine → ℕ → Outcome
+moved_on m session = changes_rows m session (change_in m from_s_to_c)
+
 abbrev one_row : Edits
 one_row = record { rows = empty; added = row 7 ∷ [] }
 
 -- its start is the stamp before its own
-a_change_moves_the_offset_at_once : changes_rows (machine no_sessions) 1 from_s_to_c
+a_change_moves_the_offset_at_once : moved_on (machine no_sessions) 1
     ≡ Does (Inserted 1) no_sessions (Some (EditsRows 3 one_row ∷ MovesOffset 2 5 ∷ []))
 unfolding seen reading_refusal shown net digits first_failing source_step core_step query_step typing.step column_at
-    eval listed fold_bag val values_on effect edits_refusal edits_of partitions_made
+    eval listed fold_bag val values_on effect staged later_edits acts_of past_limit edits_from
+    partitions_made
 a_change_moves_the_offset_at_once = insert_read (machine no_sessions) 1 _ (simp steps)
 
 -- ---- in a transaction of the number 5
@@ -134,10 +137,10 @@ holding = record {
   streams = 2 ∷ [];
 }
 
-a_stream_is_held : changes_rows (machine in_transaction) 1 from_s_to_c
+a_stream_is_held : moved_on (machine in_transaction) 1
     ≡ Does (Inserted 1) (with_transaction no_sessions 1 holding) None
 unfolding seen reading_refusal shown net digits first_failing source_step core_step query_step typing.step column_at
-    eval listed fold_bag val values_on effect staged later_edits edits_of
+    eval listed fold_bag val values_on effect staged later_edits edits_from
 a_stream_is_held = insert_read (machine in_transaction) 1 _ (simp steps)
 
 its_commit_moves_the_offset : commit (machine (with_transaction no_sessions 1 holding)) 1
@@ -145,7 +148,7 @@ its_commit_moves_the_offset : commit (machine (with_transaction no_sessions 1 ho
 unfolding commit acts_of past_limit partitions_made
 its_commit_moves_the_offset = simp map_steps
 
-others_are_locked_out : changes_rows (machine (with_transaction no_sessions 1 holding)) 2 from_s_to_c
+others_are_locked_out : moved_on (machine (with_transaction no_sessions 1 holding)) 2
     ≡ Refuses (Locked 5)
 unfolding reading_refusal first_failing source_step core_step query_step typing.step column_at
 others_are_locked_out = insert_read (machine (with_transaction no_sessions 1 holding)) 2 _ (simp steps)
@@ -174,10 +177,25 @@ kinds_are_told_apart : text first (asked event_t ∷ asked (st.CreateStream (cod
     ∷ asked (st.DropStream (codes "T")) ∷ asked (st.DropStream (codes "S")) ∷ asked (st.HasData (codes "S")) ∷ [])
     ≡ codes "CREATED TABLE T\nCREATED STREAM S\nFALSE\nE8 WrongKind T\nE8 WrongKind S\n"
     ++ codes "E8 WrongKind T\nDROPPED STREAM S\nE6 UnknownName S\n"
-unfolding step commanded carried_out defines create_table table_refusal create_stream stream_refusal drop_table
+unfolding step commanded ddl.bound first_failing carried_out defines create_table table_refusal create_stream stream_refusal drop_table
     drop_stream has_data reading_refusal shown print digits
 kinds_are_told_apart = refl
 
-it_has_rows : has_data (machine no_sessions) 1 (codes "S") ≡ Does (HasData true) no_sessions None
+it_has_rows : has_data (machine no_sessions) 1 None 2 ≡ Does (HasData true) no_sessions None
 unfolding has_data reading_refusal shown net digits
 it_has_rows = simp steps
+
+-- ---- offsets
+
+-- in the commit that consumes it an offset moves up to the start, and never back
+offsets : (offset_move 9 3 (Some (new_stream 1 false 5 [])) ≡ MovesOffset 3 9 ∷ []) × (offset_move 5 3 (Some (new_stream 1 false 5 [])) ≡ [])
+    × (offset_move 3 3 (Some (new_stream 1 false 5 [])) ≡ [])
+offsets = (refl, refl, refl)
+
+-- each stream once, by rising ids
+read_once : with_streams (7 ∷ 3 ∷ 7 ∷ 5 ∷ []) (4 ∷ 5 ∷ []) ≡ 3 ∷ 4 ∷ 5 ∷ 7 ∷ []
+read_once = refl
+
+-- a commit of a stream that is read alone has no change where its offset stays, and is a commit
+commits : (acts_of_commit [] [] [] ≡ None) × (acts_of_commit (3 ∷ []) [] [] ≡ Some [])
+commits = (refl, refl)

@@ -12,8 +12,7 @@ use Rattle.wh_reply.specs.Reply.{OverLimit}
 use Rattle.wh_effect.specs.Effect.{Effect}
 use Rattle.wh_state.specs.State.{Rows, Object, TableKind, new_object, version_at, last_rows}
 use Rattle.wh_state.specs.Objects.{table_at}
-use Rattle.wh_state.specs.Edits.{Edits, no_edits, later_edits, rows_after}
-use Rattle.wh_machine.specs.Changes.{edits_of}
+use Rattle.wh_state.specs.Edits.{Edits, no_edits, edits_from, later_edits, rows_after}
 use Rattle.wh_state.specs.Act.{EditsRows, edited_table}
 use Rattle.wh_state.proofs.KnownMaps.{map_steps}
 use Rattle.wh_machine.specs.Transaction.{Staged, Transaction, begun, seen, staged, acts_of, past_limit, commit_refusal}
@@ -58,7 +57,7 @@ table_with next_row = new_object [] 5 (TableKind (record {
 }))
 
 abbrev effect_of_one : Effect
-effect_of_one = record { removed = []; changed = record { number = 1; row = row 11 } ∷ []; added = row 30 ∷ [] }
+effect_of_one = record { removed = []; changed = (1, row 11) ∷ []; added = row 30 ∷ [] }
 
 abbrev after_one : Transaction
 after_one = record {
@@ -71,7 +70,7 @@ after_one = record {
 }
 
 a_statement_is_staged : staged (begun 7) 1 [] 3 effect_of_one ≡ after_one
-unfolding staged later_edits edits_of
+unfolding staged later_edits edits_from
 a_statement_is_staged = simp map_steps
 
 abbrev rows_at : List Object → ℕ → Option (List (ℕ × Row))
