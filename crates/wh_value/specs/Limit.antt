@@ -1,5 +1,7 @@
 -- The limits of the language.
---     bound     the number that a limit's count doesn't pass
+--     bound               the number that a limit's count doesn't pass
+--     last_session        there are sessions from 1 up to it
+--     days_of_changes     for which a table's changes are kept at least
 use Rattle.std.specs.Prelude.{ℕ}
 use Rattle.wh_value.specs.declared.limit.Limit.{Limit}
 use Rattle.wh_value.specs.declared.limit.Limit.TheVariants as limits
@@ -16,3 +18,9 @@ bound limits.Name = 255
 bound limits.Columns = 64
 bound limits.Output = 256
 bound limits.Retention = 90
+
+abbrev pub last_session : ℕ
+last_session = 64
+
+abbrev pub days_of_changes : ℕ
+days_of_changes = 14

@@ -15,7 +15,7 @@ pub use bytes::Bytes;
 pub use column::{Column, ColumnType};
 pub use comparison::Comparison;
 pub use fits::row_fits;
-pub use limit::Limit;
+pub use limit::{DAYS_OF_CHANGES, Limit, SESSIONS};
 pub use literal::print_literal;
 pub use row::{Row, cmp_rows, sort_rows};
 pub use text::Text;

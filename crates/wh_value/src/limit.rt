@@ -1,6 +1,12 @@
 ghost use Rattle.std.specs.Prelude.{◌≡◌};
 ghost use Rattle.wh_value.specs.Limit.{bound};
 
+/// There are sessions 1 to 64.
+pub const SESSIONS: u64 = 64;
+
+/// The changes of a table are kept for so many days at least, whatever its retention.
+pub const DAYS_OF_CHANGES: u8 = 14;
+
 /// A limit of the language. The limits and what they count stand in docs/replies.md.
 #[derive(Clone, Copy, Debug, PartialEq, Eq)]
 pub enum Limit {
