@@ -6,7 +6,7 @@ ghost use Rattle.std.specs.Prelude.{◌≡◌, ◌↔◌, ◌⊎◌, [], ◌∷�
 ghost use Rattle.std.specs.Prelude.{IfSome, OnOk, OnErr, IsSome};
 ghost use Rattle.std.specs.Global.{Global};
 ghost use Rattle.wh_state.specs.State.{State};
-ghost use Rattle.wh_machine.specs.Outcome.{opened};
+ghost use Rattle.wh_machine.specs.Lone.{opened};
 ghost use Rattle.wh_machine.specs.Step.{Event};
 ghost use Rattle.wh_shell.specs.Run.{IsRun, IsStart, IsRunOf};
 ghost use Rattle.bokzarn.specs.Ending.{status_of};

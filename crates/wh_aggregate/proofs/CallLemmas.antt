@@ -2,42 +2,15 @@
 --     answers-bag_of     the answers of calls over a bag of rows are those of the rows' totals
 use Rattle.std.specs.Prelude.{◌≡◌, suc, List, [], ◌∷◌, ℤ, pos, ◌+ℤ◌, Option, Some, None}
 use Rattle.std.proofs.Common.{refl, sym, ap, ◌∙◌, arith}
-use Rattle.std.proofs.lemmas.Int.{ints}
 use Rattle.wh_value.specs.Value.{Value, Number, Truth, Text, Null, Row}
 use Rattle.wh_meaning.specs.Scalar.{Scalar, val, of_one, of_two}
 use Rattle.wh_meaning.specs.Bag.{bag_of}
 use Rattle.wh_meaning.specs.Query.{Call, Sum, CountRows, Count, Total, with_number, with_argument, with_value}
 use Rattle.wh_meaning.specs.Query.{sum_value, count_value, call_over, calls_over, total_of}
 use Rattle.wh_meaning.proofs.BagLaws.{fold_list, fold_bag_of}
+use Rattle.wh_meaning.proofs.Listed.{argument-turned}
 use Rattle.wh_aggregate.specs.Tally.{argument_of, nothing, before, tallied, answer, answers}
 use Rattle.wh_aggregate.specs.Groups.{totals_from}
-
-sums-turned : (x y s : ℤ) → x +ℤ (y +ℤ s) ≡ y +ℤ (x +ℤ s)
-sums-turned x y s = omega (arith, ints)
-
-numbers-turned : (a b : Value) (t : Total) → with_number a (with_number b t) ≡ with_number b (with_number a t)
-numbers-turned Null b t = refl
-numbers-turned (Number x) Null t = refl
-numbers-turned (Number x) (Number y) t =
-    ap (λ s. let r : Total = record { sum = s; values = suc (suc t.values) } in r) (sums-turned x y t.sum)
-numbers-turned (Number x) (Truth b) t = refl
-numbers-turned (Number x) (Text b) t = refl
-numbers-turned (Truth a) Null t = refl
-numbers-turned (Truth a) (Number y) t = refl
-numbers-turned (Truth a) (Truth b) t = refl
-numbers-turned (Truth a) (Text b) t = refl
-numbers-turned (Text a) Null t = refl
-numbers-turned (Text a) (Number y) t = refl
-numbers-turned (Text a) (Truth b) t = refl
-numbers-turned (Text a) (Text b) t = refl
-
-arguments-turned : (a b : Option Value) (t : Option Total)
-    → with_argument a (with_argument b t) ≡ with_argument b (with_argument a t)
-arguments-turned None None t = refl
-arguments-turned None (Some b) t = refl
-arguments-turned (Some a) None t = refl
-arguments-turned (Some a) (Some b) None = refl
-arguments-turned (Some a) (Some b) (Some t) = ap Some (numbers-turned a b t)
 
 -- what one call adds up over rows
 abbrev total_from : Call → List Row → Option Total
@@ -45,7 +18,7 @@ total_from call rows = fold_list (λ row t. with_argument (argument_of call row)
 
 total_of-bag_of : (e : Scalar) (rows : List Row) → total_of e (bag_of rows) ≡ total_from (Sum e) rows
 total_of-bag_of e rows = fold_bag_of (λ row t. with_argument (val e row) t) (Some nothing)
-    (λ x y t. arguments-turned (val e x) (val e y) t) rows
+    (λ x y t. argument-turned (val e x) (val e y) t) rows
 
 rows_counted : (rows : List Row)
     → total_from CountRows rows ≡ Some (record { sum = pos 0; values = fold_list (λ row n. suc n) 0 rows })

@@ -6,6 +6,7 @@ use Rattle.std.specs.Prelude.{◌≡◌, ℕ, Bool, true, false, cond, ◌||◌,
 use Rattle.std.specs.Prelude.{Some, None, option_map, is_some, unwrap_or}
 use Rattle.std.proofs.Common.{refl, sym, ap, ◌∙◌, inl, inr}
 use Rattle.std.specs.List.{AllByRecursion, list_any}
+use Rattle.std.proofs.lemmas.Bool.{or_left, or_right}
 use Rattle.std.specs.Ordering.{is_eq, eq_by_cmp}
 use Rattle.std.specs.FinMap.{empty, insert, get, keys, entries, get-empty, get-insert, contains_key, contains_key-keys}
 use Rattle.wh_value.specs.Value.{Row, row_cmp}
@@ -15,19 +16,16 @@ use Rattle.wh_meaning.specs.Bag.{Bag, no_rows, one_row, with_row, count, bag_of,
 use Rattle.wh_meaning.specs.Query.{Call, Total, values_on, image_by, projected, calls_over, is_row, with_key, grouped}
 use Rattle.wh_meaning.specs.Query as meaning
 use Rattle.wh_meaning.proofs.BagLaws.{tied_rows, one_row-plus, restricted-bag_of}
+use Rattle.wh_meaning.proofs.Gathered.{gathered-no_rows, gathered-with_row}
+use Rattle.wh_meaning.proofs.Listed.{rows_with}
 use Rattle.wh_aggregate.specs.Tally.{begun, tallied, answers}
 use Rattle.wh_aggregate.specs.Groups.{Groups, totals_from, totals_at, noted, groups_from, group_row, row_before, listed}
 use Rattle.wh_aggregate.specs.Groups.{alone, whole_from}
 use Rattle.wh_aggregate.proofs.CallLemmas.{answers-bag_of, nothing_beside}
-use Rattle.wh_aggregate.proofs.KeyLemmas.{gathered-no_rows, gathered-with_row, keys-insert}
-use Rattle.wh_aggregate.proofs.KeyLemmas.{keys-empty, tied, entries_found}
+use Rattle.wh_aggregate.proofs.KeyLemmas.{keys-insert, keys-empty, tied, entries_found}
 
 abbrev has_key : List Scalar → Row → Row → Bool
 has_key by key row = is_row key (values_on by row)
-
--- the rows that have a key
-abbrev own : List Scalar → Row → List Row → List Row
-own by key rows = filter (has_key by key) rows
 
 -- ---- what a step that ends tells of its parts
 
@@ -78,14 +76,14 @@ module _ (calls : List Call) (row : Row) (key : Row) (before : Groups) (totals :
 
 own_totals : (by : List Scalar) (calls : List Call) (rows : List Row) (groups : Groups)
     → groups_from by calls rows ≡ Some groups → (q : Row)
-    → totals_from calls (own by q rows) ≡ Some (totals_at calls groups q)
+    → totals_from calls (rows_with by q rows) ≡ Some (totals_at calls groups q)
 own_totals by calls [] groups e q =
     let is : empty ≡ groups = cc in
     ap (λ o. Some (unwrap_or o (begun calls))) (sym (get-empty row_cmp q) ∙ ap (λ m. get m q) is)
 own_totals by calls (row ∷ rows) groups e q =
     let s = step_of calls row (values_on by row) (groups_from by calls rows) groups e in
-    ap (λ k. totals_from calls (cond (is_row q k) (row ∷ own by q rows) (own by q rows))) s.key_is
-    ∙ totals_step calls row s.key s.before s.totals s.totals_is q (own by q rows) (is_eq (row_cmp q s.key)) refl
+    ap (λ k. totals_from calls (cond (is_row q k) (row ∷ rows_with by q rows) (rows_with by q rows))) s.key_is
+    ∙ totals_step calls row s.key s.before s.totals s.totals_is q (rows_with by q rows) (is_eq (row_cmp q s.key)) refl
     (own_totals by calls rows s.before s.before_is q)
     ∙ ap (λ o. Some (unwrap_or o (begun calls)))
     (sym (ap (λ m. get m q) s.groups_is ∙ get-insert row_total s.before s.key s.totals q))
@@ -156,9 +154,9 @@ keyed_has by q (row ∷ rows) keyed e =
 -- ---- where the walk ends
 
 calls_of_key : (by : List Scalar) (calls : List Call) (rows : List Row) (key : Row)
-    → calls_over (with_key by key (bag_of rows)) calls ≡ of_one (answers calls) (totals_from calls (own by key rows))
+    → calls_over (with_key by key (bag_of rows)) calls ≡ of_one (answers calls) (totals_from calls (rows_with by key rows))
 calls_of_key by calls rows key =
-    ap (λ b. calls_over b calls) (restricted-bag_of (has_key by key) rows) ∙ answers-bag_of calls (own by key rows)
+    ap (λ b. calls_over b calls) (restricted-bag_of (has_key by key) rows) ∙ answers-bag_of calls (rows_with by key rows)
 
 group_before : (key : Row) (a : Option Row) (rest : Option (List Row)) →
     beside (option_map (λ values. one_row (key ++ values)) a) (option_map bag_of rest)
@@ -205,19 +203,11 @@ grouped-listed e es calls rows groups is =
 record KeyWithout (by : List Scalar) (calls : List Call) (rows : List Row) : Type 0 where
   key : Row
   stands : list_any (has_key by key) rows ≡ true
-  without : totals_from calls (own by key rows) ≡ None
+  without : totals_from calls (rows_with by key rows) ≡ None
 
 -- no key of some row, or no totals at a key that a row has
 abbrev Undefined : List Scalar → List Call → List Row → Type 0
 Undefined by calls rows = (projected by (bag_of rows) ≡ None) ⊎ KeyWithout by calls rows
-
-or_true : (a b : Bool) → b ≡ true → (a || b) ≡ true
-or_true true b e = refl
-or_true false b e = e
-
-true_or : (a b : Bool) → a ≡ true → (a || b) ≡ true
-true_or true b e = refl
-true_or false b e = cc
 
 none_before : (calls : List Call) (row : Row) (rows : List Row) (b : Bool) → totals_from calls rows ≡ None
     → totals_from calls (cond b (row ∷ rows) rows) ≡ None
@@ -240,16 +230,16 @@ undefined_step by calls row rows (Some key) k_is None g_is earlier e =
           inl (projected-more by row rows ∙ ap (beside (image_by by row)) none ∙ nothing_beside _ (image_by by row))
       | inr w ↦ inr (record {
         key = w.key;
-        stands = or_true (has_key by w.key row) _ w.stands;
-        without = none_before calls row (own by w.key rows) (has_key by w.key row) w.without;
+        stands = or_right (has_key by w.key row) _ w.stands;
+        without = none_before calls row (rows_with by w.key rows) (has_key by w.key row) w.without;
       })
     ]
 undefined_step by calls row rows (Some key) k_is (Some groups) g_is earlier e =
     let has : has_key by key row ≡ true = ap (is_row key) k_is ∙ tied key in
     inr (record {
       key = key;
-      stands = true_or (has_key by key row) _ has;
-      without = ap (λ b. totals_from calls (cond b (row ∷ own by key rows) (own by key rows))) has
+      stands = or_left (has_key by key row) _ has;
+      without = ap (λ b. totals_from calls (cond b (row ∷ rows_with by key rows) (rows_with by key rows))) has
           ∙ ap (of_one (tallied calls row)) (own_totals by calls rows groups g_is key)
           ∙ mapped_none (insert groups key) (tallied calls row (totals_at calls groups key)) e;
     })
@@ -306,7 +296,7 @@ keyed_anyway (row ∷ rows) =
           ∙ one_more [] (values_on [] row) (projected [] (bag_of rows)) rest.0 refl rest.1,
     )
 
-all_own : (rows : List Row) → own [] [] rows ≡ rows
+all_own : (rows : List Row) → rows_with [] [] rows ≡ rows
 unfolding values_on
 all_own [] = refl
 all_own (row ∷ rows) = ap (λ rest. row ∷ rest) (all_own rows)

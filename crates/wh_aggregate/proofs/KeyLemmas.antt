@@ -1,10 +1,10 @@
 -- The keys of groups, and those of the bag of keys.
---     gathered-with_row     what the rows of a bag give, of a row more
 --     keys-insert           the keys of a map with a key more are those of any map with the same keys
 --     entries_found         each entry of a map is what the map has at its key
 use Rattle.std.specs.Prelude.{◌≡◌, Bool, true, false, cond, T, ◌&&◌, List, [], ◌∷◌, map, length, Option, Some, None}
 use Rattle.std.proofs.Common.{refl, sym, ap, ◌∙◌, arith}
 use Rattle.std.specs.List.{AllByRecursion}
+use Rattle.std.proofs.lemmas.List.{nil_from_length}
 use Rattle.std.specs.declared.cmp.Ordering.{Ordering}
 use Rattle.std.specs.declared.cmp.Ordering.TheVariants.{Less, Equal, Greater}
 use Rattle.std.specs.Ordering.{is_eq, is_lt, ordering_reverse}
@@ -14,28 +14,7 @@ use Rattle.std.specs.Cmp.{tied_itself}
 use Rattle.std.specs.FinMap.Entries.{below_all, by_order}
 use Rattle.wh_value.specs.Value.{Row, row_cmp}
 use Rattle.wh_value.specs.Order.{row_total}
-use Rattle.wh_meaning.specs.Bag.{Bag, no_rows, with_row, plus, beside, gathered}
-use Rattle.wh_meaning.proofs.BagLaws.{fold-with_row, fold-no_rows, plus-assoc, plus-comm}
-
--- ---- what rows give together
-
-plus-turned : (a b c : Bag) → plus a (plus b c) ≡ plus b (plus a c)
-plus-turned a b c = sym (plus-assoc a b c) ∙ ap (λ ab. plus ab c) (plus-comm a b) ∙ plus-assoc b a c
-
-beside-turned : (a b c : Option Bag) → beside a (beside b c) ≡ beside b (beside a c)
-beside-turned None None c = refl
-beside-turned None (Some b) c = refl
-beside-turned (Some a) None c = refl
-beside-turned (Some a) (Some b) None = refl
-beside-turned (Some a) (Some b) (Some c) = ap Some (plus-turned a b c)
-
-pub gathered-no_rows : (f : Row → Option Bag) → gathered f no_rows ≡ Some no_rows
-gathered-no_rows f = fold-no_rows (λ row found. beside (f row) found) (Some no_rows)
-
-pub gathered-with_row : (f : Row → Option Bag) (row : Row) (b : Bag)
-    → gathered f (with_row row b) ≡ beside (f row) (gathered f b)
-gathered-with_row f row b = fold-with_row (λ row found. beside (f row) found) (Some no_rows)
-    (λ x y found. beside-turned (f x) (f y) found) row b
+use Rattle.wh_value.proofs.TestLaws.{both_hold}
 
 -- ---- a key more
 
@@ -59,13 +38,9 @@ module _ {X : Type 0} where
   keys-insert_put : (m : FinMap row_cmp X) (key : Row) (v : X) → keys (insert m key v) ≡ put_key key (keys m)
   keys-insert_put m key v = ap (λ es. map (λ e. e.0) es) (entries-insert row_total m key v) ∙ keys-put key v (entries m)
 
-  no_length : (es : List (Row × X)) → length es ≡ 0 → es ≡ []
-  no_length [] e = refl
-  no_length (x ∷ es) e = absurd (omega arith)
-
 keys-empty_none : (X : Type 0) → keys (empty {X = X} {R = row_cmp}) ≡ []
 keys-empty_none X =
-    ap (λ es. map (λ e. e.0) es) (no_length (entries empty) (sym (len-entries empty) ∙ len-empty row_cmp X))
+    ap (λ es. map (λ e. e.0) es) (nil_from_length (entries empty) (sym (len-entries empty) ∙ len-empty row_cmp X))
 
 module _ {X Y : Type 0} where
   pub keys-insert : (m : FinMap row_cmp X) (n : FinMap row_cmp Y) (key : Row) (v : X) (w : Y) → keys m ≡ keys n
@@ -80,14 +55,6 @@ keys-empty X Y = keys-empty_none X ∙ sym (keys-empty_none Y)
 pub tied : (key : Row) → is_eq (row_cmp key key) ≡ true
 tied key = ap is_eq (tied_itself row_total key)
 
-first : (a b : Bool) → T (a && b) → T a
-first true b h = tt
-first false b h = h
-
-second : (a b : Bool) → T (a && b) → T b
-second true b h = h
-second false b h = absurd h
-
 apart : (r : Ordering) → T (is_lt r) → is_eq (ordering_reverse r) ≡ false
 apart Less h = refl
 apart Equal h = absurd h
@@ -100,14 +67,14 @@ module _ {X : Type 0} where
   found_later e rest [] h all = tt
   found_later e rest (f ∷ es) h all =
       let later : is_eq (row_cmp f.0 e.0) ≡ false =
-      ap is_eq (row_total.antisymm f.0 e.0) ∙ apart (row_cmp e.0 f.0) (first _ _ h) in
-      (ap (λ b. cond b (Some e.1) (find row_cmp f.0 rest)) later ∙ all.0, found_later e rest es (second _ _ h) all.1)
+      ap is_eq (row_total.antisymm f.0 e.0) ∙ apart (row_cmp e.0 f.0) (both_hold _ _ h).0 in
+      (ap (λ b. cond b (Some e.1) (find row_cmp f.0 rest)) later ∙ all.0, found_later e rest es (both_hold _ _ h).1 all.1)
 
   all_found : (es : List (Row × X)) → T (is_sorted row_cmp es) → AllByRecursion (λ e. find row_cmp e.0 es ≡ Some e.1) es
   all_found [] h = tt
   all_found (e ∷ es) h = (
     ap (λ b. cond b (Some e.1) (find row_cmp e.0 es)) (tied e.0),
-    found_later e es es (first _ _ h) (all_found es (second _ _ h)),
+    found_later e es es (both_hold _ _ h).0 (all_found es (both_hold _ _ h).1),
   )
 
   all_gotten : (m : FinMap row_cmp X) (es : List (Row × X))

@@ -3,6 +3,7 @@ use Rattle.std.proofs.Common.{◌≡◌, ◌∙◌, ◌<◌, ◌≤◌, sym, ap,
 use Rattle.std.proofs.Common.{Option, Some, None, Result, Ok, Err, IfOk, add-one, drop-cons}
 use Rattle.std.proofs.lemmas.List.{drop_all}
 use Rattle.std.specs.declared.alloc.AllocError.{AllocError}
+use Rattle.wh_value.proofs.ListLaws.{drop_here}
 use Rattle.wh_ast.specs.declared.expr.Expr.{Expr}
 use Rattle.wh_ast.specs.declared.query.Item.{Item}
 use Rattle.wh_ast.specs.declared.query.Core.{Core, out-Core, fold_out-Core}
@@ -68,10 +69,6 @@ one_join names next left j js = refl
 pub no_join : (names : List Named) (next : ℕ) (left : Joined) → joined_on names next left [] ≡ left
 unfolding joined_on
 no_join names next left = refl
-
-drop_here : {A : Type 0} (xs : List A) (i : ℕ) (x : A) → i < length xs → x ≡ get_or xs i x
-    → drop i xs ≡ x ∷ drop (i + 1) xs
-drop_here xs i x lt is = rw (add-one, drop-cons xs i x lt) (ap (λ y. y ∷ drop (suc i) xs) (sym is))
 
 pub cores_step : (names : List Named) (next : ℕ) (so_far : Option BoundQuery) (cs : List Core)
     (i : ℕ) (c : Core) (core both : BoundQuery)

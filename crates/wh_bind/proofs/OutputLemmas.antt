@@ -2,6 +2,7 @@
 use Rattle.std.proofs.Common.{◌≡◌, ◌∙◌, ◌<◌, sym, ap, refl, ℕ, zero, suc, ◌+◌, Bool, true, false, ◌&&◌, List, [], ◌∷◌}
 use Rattle.std.proofs.Common.{◌++◌, append_assoc, length, drop, get_or, Option, Some, None, option_map, add-one, arith}
 use Rattle.std.specs.Prelude.{slice_get}
+use Rattle.std.proofs.Math.Bool.{and-false}
 use Rattle.std.proofs.lemmas.List.{map-append}
 use Rattle.wh_naming.specs.Select as naming
 use Rattle.wh_core_bind.specs.declared.output.Output.{Output}
@@ -16,11 +17,7 @@ pub not_as_many : (os ps : List naming.Output) → (length os ≡ length ps → 
 not_as_many [] [] apart = absurd (apart refl)
 not_as_many [] (p ∷ ps) apart = refl
 not_as_many (o ∷ os) [] apart = refl
-not_as_many (o ∷ os) (p ∷ ps) apart = rw (not_as_many os ps (λ e. apart (ap suc e))) (and_false _)
-  where
-    and_false : (b : Bool) → b && false ≡ false
-    and_false true = refl
-    and_false false = refl
+not_as_many (o ∷ os) (p ∷ ps) apart = rw (not_as_many os ps (λ e. apart (ap suc e))) (and-false _)
 
 merged_nothing : (os : List naming.Output) → naming.merged os [] ≡ os
 merged_nothing [] = refl

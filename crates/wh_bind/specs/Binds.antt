@@ -4,7 +4,7 @@
 use Rattle.std.specs.Prelude.{◌≡◌, Some, None, Result, Ok, Err}
 use Rattle.wh_algebra.specs.View.{query_of}
 use Rattle.wh_listing.specs.View.{keys_of}
-use Rattle.wh_expr_bind.specs.View.{failing_of}
+use Rattle.wh_naming.specs.View.{failing_of}
 use Rattle.wh_naming.specs.Findings.{first_failing}
 use Rattle.wh_naming.specs.Select as naming
 use Rattle.wh_bind.specs.declared.fault.BindFault.{BindFault}

@@ -1,5 +1,5 @@
 ghost use Rattle.std.specs.Prelude.{◌≡◌, None, map, IfOk};
-ghost use Rattle.wh_expr_bind.specs.View.{named_of};
+ghost use Rattle.wh_naming.specs.View.{named_of};
 ghost use Rattle.wh_bind.specs.Steps.{gathered, joined_on};
 ghost use Rattle.wh_core_bind.specs.View.{joined_in, query_in};
 ghost use Rattle.wh_bind.specs.View.{source_in, source_part, join_part, core_reading, query_reading};
@@ -12,7 +12,7 @@ use sqlite_items::Boxed;
 use std::alloc::{AllocError, Global};
 use wh_ast::{Core, Join, Query, Source};
 use wh_core_bind::{BoundQuery, Joined};
-use wh_expr_bind::Named;
+use wh_naming::Named;
 
 /// A query as it is written, whose sources have the numbers from `next` on.
 #[cycle(bind)]

@@ -1,5 +1,5 @@
 use std::alloc::AllocError;
-use wh_expr_bind::Failing;
+use wh_naming::Failing;
 
 /// Why a statement isn't bound.
 #[derive(Debug, Drop)]

@@ -1,6 +1,6 @@
 ghost use Rattle.std.specs.Prelude.{◌≡◌, map, IfOk};
 ghost use Rattle.wh_naming.specs.Select as naming;
-ghost use Rattle.wh_expr_bind.specs.View.{named_of};
+ghost use Rattle.wh_naming.specs.View.{named_of};
 ghost use Rattle.wh_core_bind.specs.View.{outputs_of};
 ghost use Rattle.wh_bind.specs.Binds.{Binds};
 
@@ -11,7 +11,7 @@ use std::alloc::{AllocError, Global};
 use wh_algebra::Query;
 use wh_ast::Sort;
 use wh_core_bind::Output;
-use wh_expr_bind::Named;
+use wh_naming::Named;
 use wh_listing::SortKey;
 use wh_value::Text;
 

@@ -1,6 +1,6 @@
 ghost use Rattle.std.specs.Prelude.{◌≡◌, ◌∷◌, [], map, option_map, not, IfOk};
 ghost use Rattle.wh_value.specs.View.{column_of};
-ghost use Rattle.wh_expr_bind.specs.View.{named_of, kind_of};
+ghost use Rattle.wh_naming.specs.View.{named_of, kind_of};
 ghost use Rattle.wh_naming.specs.Scope as scope;
 ghost use Rattle.wh_naming.specs.Select as naming;
 ghost use Rattle.wh_bind.specs.Steps.{as_source};
@@ -12,7 +12,8 @@ use sqlite_items::Boxed;
 use std::alloc::{AllocError, Global};
 use wh_algebra::Query;
 use wh_core_bind::BoundQuery;
-use wh_expr_bind::{Findings, Named, ObjectKind};
+use wh_expr_bind::Findings;
+use wh_naming::{Named, ObjectKind};
 use wh_value::{Column, Text};
 
 /// A FROM entry with its rows.

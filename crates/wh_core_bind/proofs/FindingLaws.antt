@@ -1,6 +1,6 @@
 -- What is found in parts of a text, put together.
 use Rattle.std.proofs.Common.{◌≡◌, Bool, true, false, Option, Some, None, refl, ◌||◌}
-use Rattle.std.proofs.Math.Bool.{or_assoc}
+use Rattle.std.proofs.Math.Bool.{or_assoc, or-false}
 use Rattle.wh_naming.specs.Findings.{Findings, either, followed, nothing_found}
 
 either_assoc : {A : Type 0} (a b c : Option A) → either (either a b) c ≡ either a (either b c)
@@ -10,10 +10,6 @@ either_assoc (Some x) b c = refl
 either_none : {A : Type 0} (a : Option A) → either a None ≡ a
 either_none None = refl
 either_none (Some x) = refl
-
-pub or_false : (a : Bool) → (a || false) ≡ a
-or_false true = refl
-or_false false = refl
 
 pub followed_assoc : (a b c : Findings) → followed (followed a b) c ≡ followed a (followed b c)
 followed_assoc a b c i = record {
@@ -30,5 +26,5 @@ followed_nothing a i = record {
   wrong_kind = either_none a.wrong_kind i;
   unknown_column = either_none a.unknown_column i;
   taken = either_none a.taken i;
-  is_mistyped = or_false a.is_mistyped i;
+  is_mistyped = or-false a.is_mistyped i;
 }

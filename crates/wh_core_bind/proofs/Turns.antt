@@ -21,7 +21,8 @@ use Rattle.wh_naming.specs.Select.{Shown, output_of, places_from, all_columns, s
 use Rattle.wh_naming.specs.Select.{key_scalars, key_findings, regrouped_all, scalar_or}
 use Rattle.wh_expr_bind.specs.View.{entry_of, entries_of}
 use Rattle.wh_expr_bind.specs.declared.entries.Entry as made
-use Rattle.wh_core_bind.proofs.FindingLaws.{followed_assoc, followed_nothing, or_false}
+use Rattle.std.proofs.Math.Bool.{or-false}
+use Rattle.wh_core_bind.proofs.FindingLaws.{followed_assoc, followed_nothing}
 
 pub outputs_turn : (cs : List stored.Column) (i : ℕ) (c : stored.Column) → i < length cs → c ≡ get_or cs i c
     → map output_of (map column_of (take (i + 1) cs))
@@ -103,4 +104,4 @@ pub outside_turn : (keys : List Scalar) (wide : ℕ) (es : List code.Scalar) (i 
 outside_turn keys wide es i e l is =
     let more = map_more scalar_of es i e l in
     rw (more, ← is, list_any-append) (ap (λ (b : Bool). list_any (λ s. not (is_some (regrouped keys wide s)))
-    (scalars_of (take i es)) || b) (or_false (not (is_some (regrouped keys wide (scalar_of e))))))
+    (scalars_of (take i es)) || b) (or-false (not (is_some (regrouped keys wide (scalar_of e))))))

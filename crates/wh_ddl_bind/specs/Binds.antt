@@ -4,7 +4,7 @@
 --     Binds       that, or the first failing test
 use Rattle.std.specs.Prelude.{◌≡◌, Option, Some, None, Result, Ok, Err}
 use Rattle.wh_naming.specs.Findings as wrong
-use Rattle.wh_expr_bind.specs.View.{failing_of}
+use Rattle.wh_naming.specs.View.{failing_of}
 use Rattle.wh_bind.specs.declared.fault.BindFault.{BindFault}
 use Rattle.wh_bind.specs.declared.fault.BindFault.TheVariants.{Failing, OutOfMemory}
 use Rattle.wh_ddl_naming.specs.Meant.{Meant, first_failing}

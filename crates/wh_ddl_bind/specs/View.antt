@@ -13,7 +13,8 @@ use Rattle.wh_naming.specs.Findings as wrong
 use Rattle.wh_naming.specs.Findings.{nothing_found}
 use Rattle.wh_naming.specs.Select as selects
 use Rattle.wh_naming.specs.Changes as changes
-use Rattle.wh_expr_bind.specs.View.{named_of, findings_of}
+use Rattle.wh_naming.specs.View.{named_of}
+use Rattle.wh_expr_bind.specs.View.{findings_of}
 use Rattle.wh_bind.specs.declared.select.BoundSelect.{BoundSelect}
 use Rattle.wh_bound_change.specs.View as dml
 use Rattle.wh_bound_change.specs.declared.change.BoundChange.{BoundChange}

@@ -16,7 +16,8 @@ use std::alloc::{AllocError, Global};
 use wh_ast::{CreateDynamicTable, Lag};
 use wh_bind::{BindFault, bind_query};
 use wh_core_bind::{BoundQuery, Output};
-use wh_expr_bind::{Findings, Named, ObjectKind};
+use wh_expr_bind::Findings;
+use wh_naming::{Named, ObjectKind};
 use wh_value::{Column, ColumnType, Text};
 
 /// ALTER DYNAMIC TABLE .. RESUME.
@@ -97,7 +98,7 @@ pub(crate) fn create_dynamic_table(
 }
 
 ghost use Rattle.std.specs.Prelude.{map};
-ghost use Rattle.wh_expr_bind.specs.View.{named_of, kind_of};
+ghost use Rattle.wh_naming.specs.View.{named_of, kind_of};
 
 // The objects as a dynamic table's query sees them.
 fn inside<'a>(alloc: Global, objects: &[Named<'a>]) -> Result<Vec<Named<'a>>, AllocError>

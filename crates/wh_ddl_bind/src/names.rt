@@ -2,7 +2,7 @@ ghost use Rattle.std.specs.Prelude.{◌≡◌, map};
 ghost use Rattle.wh_ddl_naming.specs.Objects as naming;
 ghost use Rattle.wh_ddl_bind.specs.View.{root_in};
 
-use wh_expr_bind::Named;
+use wh_naming::Named;
 
 /// The root of a task's graph, by their ids.
 #[derive(Clone, Copy, Debug)]

@@ -1,5 +1,5 @@
 ghost use Rattle.std.specs.Prelude.{◌≡◌, IfOk};
-ghost use Rattle.wh_expr_bind.specs.View.{kind_of};
+ghost use Rattle.wh_naming.specs.View.{kind_of};
 ghost use Rattle.wh_ddl_naming.specs.Meant.{first_failing};
 ghost use Rattle.wh_ddl_naming.specs.Objects as naming;
 ghost use Rattle.wh_ddl_bind.specs.View.{names_of, found_in};
@@ -9,7 +9,8 @@ use crate::Names;
 use crate::tested::tested;
 use std::alloc::{AllocError, Global};
 use wh_bind::{BindFault, find};
-use wh_expr_bind::{Findings, ObjectKind};
+use wh_expr_bind::Findings;
+use wh_naming::ObjectKind;
 use wh_value::Text;
 
 /// The id of the object of a kind that a statement names.

@@ -12,7 +12,7 @@ use crate::{Bound, Names, NewStream};
 use sqlite_items::Boxed;
 use std::alloc::Global;
 use wh_bind::BindFault;
-use wh_expr_bind::ObjectKind;
+use wh_naming::ObjectKind;
 use wh_value::Text;
 
 /// SYSTEM$STREAM_HAS_DATA.

@@ -15,7 +15,8 @@ use sqlite_items::Boxed;
 use std::alloc::{AllocError, Global};
 use wh_ast::CreateTable;
 use wh_bind::{BindFault, copied_columns, find};
-use wh_expr_bind::{Findings, Named, ObjectKind};
+use wh_expr_bind::Findings;
+use wh_naming::{Named, ObjectKind};
 use wh_value::Text;
 
 /// DROP TABLE.
@@ -84,7 +85,8 @@ fn replacing(
 }
 
 ghost use Rattle.std.specs.Prelude.{option_map};
-ghost use Rattle.wh_expr_bind.specs.View.{named_of, findings_of};
+ghost use Rattle.wh_naming.specs.View.{named_of};
+ghost use Rattle.wh_expr_bind.specs.View.{findings_of};
 
 // OR REPLACE takes the place of a table, or of nothing.
 fn replace_findings(

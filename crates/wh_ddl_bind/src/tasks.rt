@@ -16,7 +16,8 @@ use std::alloc::{AllocError, Global};
 use wh_ast::{CreateTask, Dml, When};
 use wh_bind::{BindFault, find};
 use wh_copy::{copy_condition, copy_dml};
-use wh_expr_bind::{Findings, Named, ObjectKind};
+use wh_expr_bind::Findings;
+use wh_naming::{Named, ObjectKind};
 use wh_value::Text;
 
 /// ALTER TASK .. RESUME.
@@ -74,7 +75,7 @@ fn first_root(names: &Names<'_>, after: &[Text]) -> u32
 }
 
 ghost use Rattle.std.specs.Prelude.{option_map};
-ghost use Rattle.wh_expr_bind.specs.View.{named_of};
+ghost use Rattle.wh_naming.specs.View.{named_of};
 
 fn root_at(names: &Names<'_>, object: Option<Named<'_>>) -> u32
     ensures { result ≡ naming.root_at (names_of names.now) (option_map named_of object.entry) }
@@ -135,7 +136,7 @@ fn is_task_of(names: &Names<'_>, root: u32, object: Named<'_>) -> bool
     is_task(object.kind) && root_of(names.roots, object.id) == root
 }
 
-ghost use Rattle.wh_expr_bind.specs.View.{kind_of};
+ghost use Rattle.wh_naming.specs.View.{kind_of};
 
 fn is_task(kind: ObjectKind) -> bool
     ensures { result ≡ objects.is_same_kind (kind_of kind) TaskObject }

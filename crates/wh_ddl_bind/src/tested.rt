@@ -3,7 +3,8 @@ ghost use Rattle.wh_ddl_naming.specs.Meant.{first_failing_of};
 ghost use Rattle.wh_ddl_bind.specs.Binds.{Answers};
 
 use wh_bind::BindFault;
-use wh_expr_bind::{Failing, Findings};
+use wh_expr_bind::Findings;
+use wh_naming::Failing;
 use wh_value::Text;
 
 /// The first failing test, if one fails, of a statement that makes an object of a taken name, or none.
@@ -17,7 +18,7 @@ pub(crate) fn tested(taken_object: Option<Text>, findings: Findings) -> Result<(
 }
 
 ghost use Rattle.std.specs.Prelude.{option_map};
-ghost use Rattle.wh_expr_bind.specs.View.{failing_of};
+ghost use Rattle.wh_naming.specs.View.{failing_of};
 
 fn passed(failing: Option<Failing>) -> Result<(), BindFault>
     ensures { Answers result (option_map failing_of failing) }

@@ -1,8 +1,8 @@
 ghost use Rattle.std.specs.Prelude.{◌≡◌, ◌++◌, map, IfOk, OnOk};
 ghost use Rattle.wh_reply.specs.View.{refusal_view};
 ghost use Rattle.wh_value.specs.View.{column_of};
-ghost use Rattle.wh_expr_bind.specs.View as view;
-ghost use Rattle.wh_expr_bind.specs.View.{named_of};
+ghost use Rattle.wh_naming.specs.View as view;
+ghost use Rattle.wh_naming.specs.View.{named_of};
 ghost use Rattle.wh_state.specs.State as state;
 ghost use Rattle.wh_state.specs.Stored.{kind_meant};
 ghost use Rattle.wh_machine.specs.Names as machine;
@@ -13,7 +13,7 @@ ghost use Rattle.wh_decide.specs.Names.{object_of, live_name};
 
 use std::alloc::{AllocError, Global};
 use wh_catalog::{Catalog, StoredKind, StoredObject};
-use wh_expr_bind::{Failing, Named, ObjectKind};
+use wh_naming::{Failing, Named, ObjectKind};
 use wh_reply::Refusal;
 use wh_value::Column;
 

@@ -1,8 +1,9 @@
 -- Places of columns, one after another.
 use Rattle.std.proofs.Common.{◌≡◌, ◌∙◌, ◌<◌, ◌≤◌, sym, ap, refl, ℕ, zero, suc, ◌+◌, Bool, true, false, if◌then◌else◌}
 use Rattle.std.proofs.Common.{List, [], ◌∷◌, ◌++◌, append-nil, map, length, drop, take, get_or, Option, Some, None}
-use Rattle.std.proofs.Common.{add-one, drop-cons, arith}
+use Rattle.std.proofs.Common.{add-one, arith}
 use Rattle.std.proofs.lemmas.List.{drop_all, map_more}
+use Rattle.wh_value.proofs.ListLaws.{drop_here}
 use Rattle.wh_value.specs.Column as table
 use Rattle.wh_value.specs.View.{type_of, column_of}
 use Rattle.wh_value.specs.declared.column.Column as stored
@@ -35,10 +36,6 @@ pub places_turn : (cs : List stored.Column) (i : ℕ) (c : stored.Column) → i 
     → places_from 0 (map column_of (take (i + 1) cs)) ≡ places_from 0 (map column_of (take i cs))
     ++ Some (record { place = i; column_type = type_of c.column_type }) ∷ []
 places_turn cs i c l is = rw add-one (places_take 0 i i cs c l is (omega arith))
-
-pub drop_here : {A : Type 0} (xs : List A) (i : ℕ) (x : A) → i < length xs → x ≡ get_or xs i x
-    → drop i xs ≡ x ∷ drop (i + 1) xs
-drop_here xs i x l is = rw (add-one, drop-cons xs i x l) (ap (λ y. y ∷ drop (suc i) xs) (sym is))
 
 pub map_turn : {A B : Type 0} (f : A → B) (xs : List A) (i : ℕ) (x : A) → i < length xs → x ≡ get_or xs i x
     → map f (take (i + 1) xs) ≡ map f (take i xs) ++ f x ∷ []

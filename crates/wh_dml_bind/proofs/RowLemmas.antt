@@ -2,8 +2,9 @@
 use Rattle.std.proofs.Common.{◌≡◌, ◌∙◌, ◌<◌, sym, ap, refl, ℕ, zero, suc, ◌+◌, Bool, true, false, if◌then◌else◌}
 use Rattle.std.proofs.Common.{List, [], ◌∷◌, ◌++◌, map, length, drop, take, get_or, Option, Some, None}
 use Rattle.std.proofs.Common.{option_map, add-one, arith}
-use Rattle.std.specs.Prelude.{◌&&◌, unwrap_or, slice_get}
+use Rattle.std.specs.Prelude.{unwrap_or, slice_get}
 use Rattle.std.proofs.Math.Seq.{drop-cons}
+use Rattle.std.proofs.lemmas.Bool.{and_parts}
 use Rattle.std.proofs.lemmas.Bool.Decides.{nat_tests}
 use Rattle.std.proofs.lemmas.List.{drop_all, length-map}
 use Rattle.wh_value.specs.Column as table
@@ -126,11 +127,6 @@ given_passed place i ps ss d l passed =
 
 -- ---- all columns, given in their order
 
-both : (a b : Bool) → a && b ≡ true → (a ≡ true) × (b ≡ true)
-both true true is = (refl, refl)
-both true false is = absurd cc
-both false b is = absurd cc
-
 elsewhere : (place k : ℕ) (p : Option scope.Place) → is_at place p ≡ true → place < k → is_at k p ≡ false
 elsewhere place k None is l = absurd cc
 elsewhere place k (Some p) is l = grind (arith, nat_tests)
@@ -141,11 +137,11 @@ given_in_order : (from i k : ℕ) (ps : List (Option scope.Place)) (ss : List me
 given_in_order from i k ps [] d order same l e = absurd (omega arith)
 given_in_order from i k [] (s ∷ ss) d order same l e = absurd (omega (arith, same))
 given_in_order from zero k (p ∷ ps) (s ∷ ss) d order same l e =
-    let h = both (is_at from p) (are_in_order (suc from) ps) order in
+    let h = and_parts (is_at from p) (are_in_order (suc from) ps) order in
     let here : k ≡ from = omega (arith, e) in
     ap (λ (b : Bool). if b then s else given_at k ps ss d) (ap (λ (n : ℕ). is_at n p) here ∙ h.0)
 given_in_order from (suc i) k (p ∷ ps) (s ∷ ss) d order same l e =
-    let h = both (is_at from p) (are_in_order (suc from) ps) order in
+    let h = and_parts (is_at from p) (are_in_order (suc from) ps) order in
     ap (λ (b : Bool). if b then s else given_at k ps ss d) (elsewhere from k p h.0 (omega (arith, e)))
     ∙ given_in_order (suc from) i k ps ss d h.1 (omega (arith, same)) (omega arith) (omega (arith, e))
 

@@ -20,7 +20,7 @@ use Rattle.wh_dml_bind.specs.Steps.{fits_at}
 use Rattle.wh_core_bind.specs.View.{outputs_of}
 use Rattle.wh_core_bind.specs.declared.output.Output as made
 use Rattle.wh_core_bind.proofs.FindingLaws.{followed_assoc, followed_nothing}
-use Rattle.wh_dml_bind.proofs.PlaceLemmas.{drop_here}
+use Rattle.wh_value.proofs.ListLaws.{drop_here}
 
 -- ---- values
 

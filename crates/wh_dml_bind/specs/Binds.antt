@@ -2,7 +2,7 @@
 --     IsBound     a bound change is the one that is meant, and nothing is found wrong with it
 --     Binds       that, or the first failing test
 use Rattle.std.specs.Prelude.{◌≡◌, Some, None, Result, Ok, Err}
-use Rattle.wh_expr_bind.specs.View.{failing_of}
+use Rattle.wh_naming.specs.View.{failing_of}
 use Rattle.wh_naming.specs.Findings.{first_failing}
 use Rattle.wh_naming.specs.Changes as naming
 use Rattle.wh_bind.specs.declared.fault.BindFault.{BindFault}

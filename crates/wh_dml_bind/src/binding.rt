@@ -1,5 +1,5 @@
 ghost use Rattle.std.specs.Prelude.{◌≡◌, map};
-ghost use Rattle.wh_expr_bind.specs.View.{named_of};
+ghost use Rattle.wh_naming.specs.View.{named_of};
 ghost use Rattle.wh_naming.specs.Changes as naming;
 ghost use Rattle.wh_dml_bind.specs.Binds.{Binds};
 
@@ -13,7 +13,7 @@ use std::alloc::{AllocError, Global};
 use wh_ast::{Assignment, Dml, Expr};
 use wh_bind::BindFault;
 use wh_bound_change::BoundChange;
-use wh_expr_bind::Named;
+use wh_naming::Named;
 use wh_value::Text;
 
 /// What a changing statement stands for over the objects that it may name.

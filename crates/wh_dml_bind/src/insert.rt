@@ -2,7 +2,8 @@ ghost use Rattle.std.specs.Prelude.{◌≡◌, map, IfOk};
 ghost use Rattle.wh_value.specs.View.{column_of};
 ghost use Rattle.wh_algebra.specs.View.{scalars_of};
 ghost use Rattle.wh_naming.specs.Changes as naming;
-ghost use Rattle.wh_expr_bind.specs.View.{named_of, type_of_option, findings_of};
+ghost use Rattle.wh_naming.specs.View.{named_of};
+ghost use Rattle.wh_expr_bind.specs.View.{type_of_option, findings_of};
 ghost use Rattle.wh_core_bind.specs.View.{query_in, output_of, outputs_of};
 ghost use Rattle.wh_dml_bind.specs.View.{target_in, checked_in};
 
@@ -18,7 +19,8 @@ use wh_ast::{Expr, Rows};
 use wh_bind::bind_query;
 use wh_bound_change::{BoundChange, Change};
 use wh_core_bind::{BoundQuery, Output, column_scalar};
-use wh_expr_bind::{Findings, Named};
+use wh_expr_bind::Findings;
+use wh_naming::Named;
 use wh_scalar::Scalar;
 use wh_value::{Column, ColumnType, Text};
 

@@ -2,7 +2,8 @@ ghost use Rattle.std.specs.Prelude.{◌≡◌, ◌∷◌, [], map, not, IfOk};
 ghost use Rattle.wh_value.specs.View.{column_of};
 ghost use Rattle.wh_naming.specs.Findings as wrong;
 ghost use Rattle.wh_naming.specs.Changes as naming;
-ghost use Rattle.wh_expr_bind.specs.View.{named_of, kind_of, entries_of, findings_of};
+ghost use Rattle.wh_naming.specs.View.{named_of, kind_of};
+ghost use Rattle.wh_expr_bind.specs.View.{entries_of, findings_of};
 ghost use Rattle.wh_bound_change.specs.View.{change_of};
 ghost use Rattle.wh_dml_bind.specs.View.{target_in, checked_in};
 
@@ -11,7 +12,8 @@ use sqlite_items::Boxed;
 use std::alloc::{AllocError, Global};
 use wh_bind::{copied_columns, find};
 use wh_bound_change::{BoundChange, Change};
-use wh_expr_bind::{Entry, Findings, Named, ObjectKind};
+use wh_expr_bind::{Entry, Findings};
+use wh_naming::{Named, ObjectKind};
 use wh_value::{Column, Text};
 
 /// The table that a statement changes, and what is found wrong with its name.

@@ -5,3 +5,4 @@ pub mod ColumnLaws
 mod Told
 mod Referred
 mod Sizes
+mod UnionLaws

@@ -21,4 +21,4 @@ pub use columns::are_columns;
 pub use evaluation::evaluate;
 pub use fault::ExecFault;
 pub use instance::{Given, Instance};
-pub use running::{run, run_one};
+pub use running::bag_of_plan;

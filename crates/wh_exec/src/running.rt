@@ -13,18 +13,15 @@ use crate::loading::{Loaded, load};
 use crate::referring::references;
 use crate::{ExecFault, Instance, evaluate};
 use std::alloc::Global;
-use std::thread::Threads;
 use wh_algebra::Physical;
 use wh_bag::Bag;
 use wh_fetch::Fetch;
 use wh_scalar::EvalFault;
 
 /// The bag of a plan over the rows of its sources, whose partitions are fetched. A source that isn't
-/// there has no rows. Every number of workers gives the same answer; so far one does all the work.
-pub fn run<F: Fetch>(
+/// there has no rows.
+pub fn bag_of_plan<F: Fetch>(
     alloc: Global,
-    _rt: &(impl Threads + Sync),
-    _workers: u32,
     plan: &Physical,
     instance: &Instance,
     fetch: &mut F,
@@ -43,31 +40,12 @@ pub fn run<F: Fetch>(
     ensures later { F.faults fetch.old ≤ F.faults fetch.new }
     ensures read { result ≡ Err Read → Rose (F.faults fetch.old) (F.faults fetch.new) }
 {
-    run_one(alloc, plan, instance, fetch)
-}
-
-/// `run` on one worker.
-pub fn run_one<F: Fetch>(
-    alloc: Global,
-    plan: &Physical,
-    instance: &Instance,
-    fetch: &mut F,
-) -> Result<Bag, ExecFault>
-    requires { AreCovered (F.covers fetch.old) instance.now.sources.items }
-    ensures bag { (sources : meaning.Instance)
-        → instance_told (F.contents fetch.old) instance.now.sources.items ≡ Some sources
-        → Runs result (eval (plan_of plan.now) sources) }
-    ensures asked { AsksFor result (ids_of instance.now.sources.items)
-        (F.asked fetch.old) (F.asked fetch.new) }
-    ensures stays { F.stays fetch.old fetch.new }
-    ensures later { F.faults fetch.old ≤ F.faults fetch.new }
-    ensures read { result ≡ Err Read → Rose (F.faults fetch.old) (F.faults fetch.new) }
-{
     let loaded = load(alloc, &instance.sources, fetch)?;
-    run_loaded(alloc, plan, &loaded)
+    bag_over(alloc, plan, &loaded)
 }
 
-fn run_loaded(alloc: Global, plan: &Physical, loaded: &[Loaded<'_>]) -> Result<Bag, ExecFault>
+// The bag of the plan over rows at hand.
+fn bag_over(alloc: Global, plan: &Physical, loaded: &[Loaded<'_>]) -> Result<Bag, ExecFault>
     ensures bag { Runs result (eval (plan_of plan.now) (bags_loaded loaded.now)) }
     ensures no_read { result ≡ Err Read → ⊥ }
 {

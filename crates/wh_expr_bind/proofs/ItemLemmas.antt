@@ -2,6 +2,7 @@
 use Rattle.std.proofs.Common.{◌≡◌, ◌∙◌, ap, sym, refl, arith, ℕ, suc, ◌+◌, ◌<◌, ◌≤◌}
 use Rattle.std.proofs.Common.{List, [], ◌∷◌, length, drop, get_or, map, add-one, drop-cons}
 use Rattle.std.proofs.lemmas.List.{drop_all}
+use Rattle.wh_value.proofs.ListLaws.{drop_here}
 use Rattle.wh_ast.specs.declared.expr.Expr.{Expr}
 use Rattle.wh_naming.specs.Typing.{Typed, Context, Reading, more_items, or_equal}
 use Rattle.wh_expr_bind.specs.Forms.{alone}
@@ -12,10 +13,6 @@ pub more_alone : (x : Typed) (items : List Reading) (context : Context) (calls :
 more_alone x [] context calls tests = refl
 more_alone x (item ∷ items) context calls tests =
     more_alone x items context calls (or_equal x tests (item context (calls + length tests.calls)))
-
-drop_here : {A : Type 0} (xs : List A) (i : ℕ) (x : A) → i < length xs → x ≡ get_or xs i x
-    → drop i xs ≡ x ∷ drop (i + 1) xs
-drop_here xs i x lt is = rw (add-one, drop-cons xs i x lt) (ap (λ y. y ∷ drop (suc i) xs) (sym is))
 
 -- one item more
 pub items_step : (x : Typed) (read : Expr → Reading) (es : List Expr) (i : ℕ) (e : Expr) (context : Context)

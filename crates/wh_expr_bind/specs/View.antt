@@ -1,6 +1,5 @@
 -- What the types of the code stand for.
---     findings_of, failing_of       what is found wrong, and the first failing test
---     kind_of, named_of             the kind of an object, and an object that a statement may name
+--     findings_of                   what is found wrong
 --     entry_of, entries_of          a FROM entry, and all of them
 --     place_of, span_of             a column's place, and columns with the place of the first
 --     type_of_option                a type, or that of NULL
@@ -13,15 +12,11 @@ use Rattle.wh_value.specs.View.{type_of, column_of}
 use Rattle.wh_value.specs.declared.column.ColumnType.{ColumnType}
 use Rattle.wh_scalar.specs.View.{scalar_of}
 use Rattle.wh_algebra.specs.View.{calls_of}
+pub use Rattle.wh_naming.specs.View.{failing_of, kind_of, named_of}
 use Rattle.wh_naming.specs.Findings as wrong
 use Rattle.wh_naming.specs.Scope as scope
 use Rattle.wh_naming.specs.Typing as typing
 use Rattle.wh_expr_bind.specs.declared.findings.Findings.{Findings}
-use Rattle.wh_expr_bind.specs.declared.findings.Failing.{Failing}
-use Rattle.wh_expr_bind.specs.declared.findings.Failing.TheVariants.{UnknownName, WrongKind, NameTaken, TypeMismatch}
-use Rattle.wh_expr_bind.specs.declared.object.ObjectKind.{ObjectKind}
-use Rattle.wh_expr_bind.specs.declared.object.ObjectKind.TheVariants.{Table, Stream, Task, DynamicTable}
-use Rattle.wh_expr_bind.specs.declared.object.Named.{Named}
 use Rattle.wh_expr_bind.specs.declared.columns.Place.{Place}
 use Rattle.wh_expr_bind.specs.declared.entries.Entry.{Entry}
 use Rattle.wh_expr_bind.specs.declared.entries.Span.{Span}
@@ -35,21 +30,6 @@ findings_of f = record {
   taken = f.taken;
   is_mistyped = f.is_mistyped;
 }
-
-abbrev pub failing_of : Failing → wrong.Failing
-failing_of (UnknownName name) = wrong.UnknownName name
-failing_of (WrongKind name) = wrong.WrongKind name
-failing_of (NameTaken name) = wrong.NameTaken name
-failing_of TypeMismatch = wrong.TypeMismatch
-
-abbrev pub kind_of : ObjectKind → scope.ObjectKind
-kind_of Table = scope.TableObject
-kind_of Stream = scope.StreamObject
-kind_of Task = scope.TaskObject
-kind_of DynamicTable = scope.DynamicTableObject
-
-abbrev pub named_of : Named → scope.Named
-named_of n = record { name = n.name.now; id = n.id; kind = kind_of n.kind; columns = map column_of n.columns.now }
 
 abbrev pub entry_of : Entry → scope.Entry
 entry_of e = record { name = e.name; columns = map column_of e.columns.items }

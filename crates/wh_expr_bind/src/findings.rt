@@ -1,7 +1,9 @@
 ghost use Rattle.std.specs.Prelude.{◌≡◌, true, option_map};
 ghost use Rattle.wh_naming.specs.Findings as naming;
-ghost use Rattle.wh_expr_bind.specs.View.{findings_of, failing_of};
+ghost use Rattle.wh_naming.specs.View.{failing_of};
+ghost use Rattle.wh_expr_bind.specs.View.{findings_of};
 
+use wh_naming::Failing;
 use wh_value::Text;
 
 /// What is found wrong: for each test the first name in the text that fails it, and whether anything
@@ -13,15 +15,6 @@ pub struct Findings {
     pub unknown_column: Option<Text>,
     pub taken: Option<Text>,
     pub is_mistyped: bool,
-}
-
-/// The first failing test, each over the whole statement before the next one.
-#[derive(Debug, Drop)]
-pub enum Failing {
-    UnknownName(Text),
-    WrongKind(Text),
-    NameTaken(Text),
-    TypeMismatch,
 }
 
 impl Findings {

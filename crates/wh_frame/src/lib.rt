@@ -1,3 +1,3 @@
 //! The bytes of a file, as definitions: its header, its records, and the partitions in them.
-//! All of it is in `specs/`.
+//! All of it is in `specs/` and `proofs/`.
 #![tactic(auto)]

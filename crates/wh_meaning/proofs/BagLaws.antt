@@ -9,6 +9,7 @@
 use Rattle.std.specs.Prelude.{◌≡◌, ℕ, length, filter, zero, suc, ◌+◌, ◌++◌, Bool, true, false, cond, T, ◌&&◌, List, []}
 use Rattle.std.specs.Prelude.{◌∷◌, Option, Some, None}
 use Rattle.std.proofs.Common.{arith, refl, sym, ap, subst, ◌∙◌}
+use Rattle.std.proofs.lemmas.List.{nil_from_length}
 use Rattle.std.specs.declared.cmp.Ordering.{Ordering}
 use Rattle.std.specs.declared.cmp.Ordering.TheVariants.{Less, Equal, Greater}
 use Rattle.std.specs.Ordering.{is_eq, is_lt, eq_by_cmp}
@@ -17,6 +18,7 @@ use Rattle.std.specs.FinMap.{get-empty, get-insert, get-retain_keys, same_map, f
 use Rattle.std.specs.FinMap.Entries.{below_all, by_order}
 use Rattle.wh_value.specs.Value.{Row, row_cmp}
 use Rattle.wh_value.specs.Order.{row_total, row-IsAntisymmetric}
+use Rattle.wh_value.proofs.TestLaws.{both_hold, together, is-Equal}
 use Rattle.wh_meaning.specs.Bag.{Bag, no_rows, times, count, with_row, bag_of, again, over_entries, fold_bag, one_row}
 use Rattle.wh_meaning.specs.Bag.{plus, restricted}
 
@@ -26,34 +28,22 @@ fold_list op z (row ∷ rows) = op row (fold_list op z rows)
 
 -- ---- entries in order
 
-pub first : (a b : Bool) → T (a && b) → T a
-first true b h = tt
-first false b h = h
-
-pub second : (a b : Bool) → T (a && b) → T b
-second true b h = h
-second false b h = absurd h
-
 is-Less : (o : Ordering) → T (is_lt o) → o ≡ Less
 is-Less Less h = refl
 is-Less Equal h = absurd h
 is-Less Greater h = absurd h
 
-both : (a b : Bool) → T a → T b → T (a && b)
-both true b h k = k
-both false b h k = absurd h
-
 below_less : (x y : Row) (es : List (Row × ℕ)) → row_cmp x y ≡ Less → T (below_all row_cmp y es)
     → T (below_all row_cmp x es)
 below_less x y [] p h = tt
 below_less x y (e ∷ es) p h =
-    both _ _ (subst (λ r. T (is_lt r)) (sym (row_total.trans x y e.0 p (is-Less _ (first _ _ h)))) tt)
-    (below_less x y es p (second _ _ h))
+    together _ _ (subst (λ r. T (is_lt r)) (sym (row_total.trans x y e.0 p (is-Less _ (both_hold _ _ h).0))) tt)
+    (below_less x y es p (both_hold _ _ h).1)
 
 pub find_below : (q : Row) (es : List (Row × ℕ)) → T (below_all row_cmp q es) → find row_cmp q es ≡ None
 find_below q [] h = refl
-find_below q (e ∷ es) h = ap (λ r. cond (is_eq r) (Some e.1) (find row_cmp q es)) (is-Less _ (first _ _ h))
-    ∙ find_below q es (second _ _ h)
+find_below q (e ∷ es) h = ap (λ r. cond (is_eq r) (Some e.1) (find row_cmp q es)) (is-Less _ (both_hold _ _ h).0)
+    ∙ find_below q es (both_hold _ _ h).1
 
 pub again-past : {A : Type 0} (f g : A → A) → ((x : A) → f (g x) ≡ g (f x)) → (n : ℕ) (x : A)
     → again n f (g x) ≡ g (again n f x)
@@ -71,9 +61,9 @@ module _ {A : Type 0} (op : Row → A → A) (z : A) (free : (x y : Row) (a : A)
       (e ∷ put row_cmp row (times (cond (is_eq r) (Some e.1) (find row_cmp row es))) es))
       ≡ op row (over_entries op z (e ∷ es))) [
         | Less ↦ λ p. ap (λ (found : Option ℕ). again (suc (times found)) (op row) (over_entries op z (e ∷ es)))
-            (find_below row es (below_less row e.0 es p (first _ _ h)))
+            (find_below row es (below_less row e.0 es p (both_hold _ _ h).0))
         | Equal ↦ λ p. ap (λ k. op k (over_entries op z (e ∷ es))) (sym (row-IsAntisymmetric row e.0 p))
-        | Greater ↦ λ p. ap (again (suc e.1) (op e.0)) (over-put row es (second _ _ h))
+        | Greater ↦ λ p. ap (again (suc e.1) (op e.0)) (over-put row es (both_hold _ _ h).1)
             ∙ again-past (op e.0) (op row) (free e.0 row) (suc e.1) (over_entries op z es)
       ] refl
 
@@ -84,14 +74,10 @@ module _ {A : Type 0} (op : Row → A → A) (z : A) (free : (x y : Row) (a : A)
       ∙ ap (λ found. put row_cmp row (times found) (entries b)) (get-entries b row))
       ∙ over-put row (entries b) (entries_sorted b)
 
-no-length : (es : List (Row × ℕ)) → length es ≡ 0 → es ≡ []
-no-length [] e = refl
-no-length (x ∷ es) e = absurd (omega arith)
-
 pub fold-no_rows : {A : Type 0} (op : Row → A → A) (z : A) → fold_bag op z no_rows ≡ z
 unfolding fold_bag
 fold-no_rows op z =
-    ap (over_entries op z) (no-length (entries no_rows) (sym (len-entries no_rows) ∙ len-empty row_cmp ℕ))
+    ap (over_entries op z) (nil_from_length (entries no_rows) (sym (len-entries no_rows) ∙ len-empty row_cmp ℕ))
 
 pub fold_bag_of : {A : Type 0} (op : Row → A → A) (z : A) → ((x y : Row) (a : A) → op x (op y a) ≡ op y (op x a))
     → (rows : List Row)
@@ -121,11 +107,6 @@ times-cond false n found = refl
 pub cond-same : (t : Bool) (a b c : ℕ) → (t ≡ true → a ≡ b) → cond t a c ≡ cond t b c
 cond-same true a b c e = e refl
 cond-same false a b c e = refl
-
-is-Equal : (r : Ordering) → is_eq r ≡ true → r ≡ Equal
-is-Equal Less e = cc
-is-Equal Equal e = refl
-is-Equal Greater e = cc
 
 pub tied_rows : (q row : Row) → eq_by_cmp row_cmp q row ≡ true → q ≡ row
 tied_rows q row t = row-IsAntisymmetric q row (is-Equal _ t)
@@ -171,12 +152,12 @@ count-over : (b : Bag) (q : Row) (es : List (Row × ℕ)) → T (is_sorted row_c
 count-over b q [] h = omega arith
 count-over b q (e ∷ es) h =
     count-again e.0 (suc e.1) (over_entries with_row b es) q
-    ∙ ap (λ n. cond (eq_by_cmp row_cmp q e.0) (suc e.1 + n) n) (count-over b q es (second _ _ h))
+    ∙ ap (λ n. cond (eq_by_cmp row_cmp q e.0) (suc e.1 + n) n) (count-over b q es (both_hold _ _ h).1)
     ∙ elim (eq_by_cmp row_cmp q e.0)
     as (λ t. eq_by_cmp row_cmp q e.0 ≡ t → cond t (suc e.1 + (times (find row_cmp q es) + count b q))
     (times (find row_cmp q es) + count b q) ≡ times (cond t (Some e.1) (find row_cmp q es)) + count b q) [
       | true ↦ λ t. let none : find row_cmp q es
-          ≡ None = find_below q es (subst (λ k. T (below_all row_cmp k es)) (sym (tied_rows q e.0 t)) (first _ _ h)) in
+          ≡ None = find_below q es (subst (λ k. T (below_all row_cmp k es)) (sym (tied_rows q e.0 t)) (both_hold _ _ h).0) in
           ap (λ found. suc e.1 + (times found + count b q)) none ∙ omega arith
       | false ↦ λ t. refl
     ] refl

@@ -1,11 +1,13 @@
 -- What operators give over bags of listed rows, as listed rows, so that known values can be worked out.
 --     filtered-listed, joined-listed     Filter and Join
+--     argument-turned                    the order in which two rows are added to a total is free
 --     call-listed                        a call
 --     entries-listed                     the counts of listed rows
 --     grouped-listed                     Group
 use Rattle.std.specs.Prelude.{◌≡◌, ℕ, suc, Bool, true, false, length, if◌then◌else◌, List, [], ◌∷◌, ◌++◌, map, filter}
 use Rattle.std.specs.Prelude.{pos, ◌+ℤ◌, Option, Some, None, option_map}
 use Rattle.std.proofs.Common.{arith, refl, sym, ap, ◌∙◌}
+use Rattle.std.proofs.lemmas.List.{nil_from_length}
 use Rattle.std.proofs.Math.IntN.{+ℤ_assoc, +ℤ_comm}
 use Rattle.std.specs.FinMap.{entries, entries-insert, get-entries, find, put, len-entries, len-empty}
 use Rattle.wh_value.specs.Value.{Value, Number, Truth, Text, Null, Row, row_cmp}
@@ -83,7 +85,7 @@ number-turned (Text a) (Text b) t = refl
 number-turned (Text a) Null t = refl
 number-turned Null w t = refl
 
-argument-turned : (a b : Option Value) (t : Option Total)
+pub argument-turned : (a b : Option Value) (t : Option Total)
     → with_argument a (with_argument b t) ≡ with_argument b (with_argument a t)
 argument-turned None None t = refl
 argument-turned None (Some w) None = refl
@@ -127,12 +129,8 @@ abbrev pub counts_in : List Row → List (Row × ℕ)
 counts_in [] = []
 counts_in (row ∷ rows) = put row_cmp row (times (find row_cmp row (counts_in rows))) (counts_in rows)
 
-no-counts : (es : List (Row × ℕ)) → length es ≡ 0 → es ≡ []
-no-counts [] e = refl
-no-counts (x ∷ es) e = absurd (omega arith)
-
 pub entries-listed : (rows : List Row) → entries (bag_of rows) ≡ counts_in rows
-entries-listed [] = no-counts (entries no_rows) (sym (len-entries no_rows) ∙ len-empty row_cmp ℕ)
+entries-listed [] = nil_from_length (entries no_rows) (sym (len-entries no_rows) ∙ len-empty row_cmp ℕ)
 entries-listed (row ∷ rows) =
     entries-insert row_total (bag_of rows) row (count (bag_of rows) row)
     ∙ ap (λ found. put row_cmp row (times found) (entries (bag_of rows))) (get-entries (bag_of rows) row)

@@ -4,3 +4,4 @@ pub mod Typing
 pub mod Grouping
 pub mod Select
 pub mod Changes
+pub mod View

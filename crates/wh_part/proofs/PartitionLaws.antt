@@ -6,7 +6,8 @@ use Rattle.std.proofs.Common.{length, take, ℤ, pos, negsuc, Option, Some, None
 use Rattle.std.specs.Prelude.{unsigned_abs}
 use Rattle.std.specs.List.{AllByRecursion}
 use Rattle.std.specs.Int.{w32, w64, to_be_bytes, cast_unsigned, cast_signed}
-use Rattle.std.proofs.lemmas.Bool.{ltb-true, lt-ltb, leb-true, le-leb}
+use Rattle.std.proofs.lemmas.Bool.{and_parts, ltb-true, lt-ltb, leb-true, le-leb}
+use Rattle.std.proofs.lemmas.Option.{same_Some}
 use Rattle.std.proofs.lemmas.List.{take_at, length-append}
 use Rattle.std.proofs.lemmas.Int.{of_z-to_z, to_z-of_z, fits_signed_from_abs}
 use Rattle.wh_value.specs.Value.{Value, Number, Truth, Text, Null, Row, IsValue}
@@ -17,7 +18,7 @@ use Rattle.wh_part.specs.Reading.{◌>>=◌, number_at, text_at}
 use Rattle.wh_part.specs.Decoding.{is_short, whole_number_at, value_at, row_at, is_row_count, rises_from, row_count_at}
 use Rattle.wh_part.specs.Decoding.{rows_at, partition_at, AreRows}
 use Rattle.wh_part.specs.Laws.{SpellingFixesPartitions}
-use Rattle.wh_part.proofs.ReaderLaws.{AreBytes, AreBytes-behind, Reads, bind_some, and_parts, some_is, reads_then}
+use Rattle.wh_part.proofs.ReaderLaws.{AreBytes, AreBytes-behind, Reads, bind_some, reads_then}
 use Rattle.wh_part.proofs.ReaderLaws.{reads_where, reads_as, reads_same, reads_items, reads_list, wide32, wide64}
 use Rattle.wh_part.proofs.ReaderLaws.{reads_number, reads_text}
 
@@ -55,24 +56,24 @@ unfolding value_at value_bytes
 value_takes [] v rest fits e = absurd cc
 value_takes (zero ∷ bytes) v rest fits e =
     subst (λ (z : Value × List ℕ). (0 ∷ bytes ≡ value_bytes z.0 ++ z.1) × IsValue z.0)
-    (some_is (Null, bytes) (v, rest) e) (refl, tt)
+    (same_Some (Null, bytes) (v, rest) e) (refl, tt)
 value_takes (suc zero ∷ bytes) v rest fits e =
     let a = bind_some (whole_number_at bytes) (λ x. Some (Number x.0, x.1)) (v, rest) e in
     let one = reads_whole_number.takes bytes a.0.0 a.0.1 (λ i. fits (suc i)) a.1 in
     subst (λ (z : Value × List ℕ). (1 ∷ bytes ≡ value_bytes z.0 ++ z.1) × IsValue z.0)
-    (some_is (Number a.0.0, a.0.1) (v, rest) a.2)
+    (same_Some (Number a.0.0, a.0.1) (v, rest) a.2)
     (ap (λ (l : List ℕ). 1 ∷ l) one.0, one.1)
 value_takes (suc (suc zero) ∷ bytes) v rest fits e =
     subst (λ (z : Value × List ℕ). (2 ∷ bytes ≡ value_bytes z.0 ++ z.1) × IsValue z.0)
-    (some_is (Truth false, bytes) (v, rest) e) (refl, tt)
+    (same_Some (Truth false, bytes) (v, rest) e) (refl, tt)
 value_takes (suc (suc (suc zero)) ∷ bytes) v rest fits e =
     subst (λ (z : Value × List ℕ). (3 ∷ bytes ≡ value_bytes z.0 ++ z.1) × IsValue z.0)
-    (some_is (Truth true, bytes) (v, rest) e) (refl, tt)
+    (same_Some (Truth true, bytes) (v, rest) e) (refl, tt)
 value_takes (suc (suc (suc (suc zero))) ∷ bytes) v rest fits e =
     let a = bind_some (text_at bytes) (λ x. Some (Text x.0, x.1)) (v, rest) e in
     let one = reads_text.takes bytes a.0.0 a.0.1 (λ i. fits (suc i)) a.1 in
     subst (λ (z : Value × List ℕ). (4 ∷ bytes ≡ value_bytes z.0 ++ z.1) × IsValue z.0)
-    (some_is (Text a.0.0, a.0.1) (v, rest) a.2)
+    (same_Some (Text a.0.0, a.0.1) (v, rest) a.2)
     (ap (λ (l : List ℕ). 4 ∷ l) one.0, one.1)
 value_takes (suc (suc (suc (suc (suc tag)))) ∷ bytes) v rest fits e = absurd cc
 
@@ -112,7 +113,7 @@ rising_is least (r ∷ rows) e =
     let both = and_parts (leb least r.0) (rises_from (r.0 + 1) rows) e in
     (leb-true least r.0 both.0, rising_is (r.0 + 1) rows both.1)
 
-is_rising : (least : ℕ) (rows : List (ℕ × Row)) → RisesFrom least rows → rises_from least rows ≡ true
+pub is_rising : (least : ℕ) (rows : List (ℕ × Row)) → RisesFrom least rows → rises_from least rows ≡ true
 is_rising least [] h = refl
 is_rising least (r ∷ rows) h = rw (le-leb least r.0 h.0) (is_rising (r.0 + 1) rows h.1)
 
@@ -145,7 +146,7 @@ pub fixes_partitions : SpellingFixesPartitions
 fixes_partitions width p q x y hp hq same =
     let both : ◌≡◌ {A = Option (Partition × List ℕ)} (Some (p, x)) (Some (q, y)) =
     sym ((reads_partition width).again p x hp) ∙ ap (partition_at width) same ∙ (reads_partition width).again q y hq in
-    let pairs = some_is (p, x) (q, y) both in
+    let pairs = same_Some (p, x) (q, y) both in
     (ap (λ (z : Partition × List ℕ). z.0) pairs, ap (λ (z : Partition × List ℕ). z.1) pairs)
 
 -- ---- what a reading says
@@ -194,7 +195,7 @@ pub is_again : (width : ℕ) (bytes : List ℕ) (q : Partition) (behind : List �
 is_again width bytes q behind e p rest good spelled =
     let both : ◌≡◌ {A = Option (Partition × List ℕ)} (Some (q, behind)) (Some (p, rest)) =
     sym e ∙ ap (partition_at width) spelled ∙ (reads_partition width).again p rest good in
-    let pairs = some_is (q, behind) (p, rest) both in
+    let pairs = same_Some (q, behind) (p, rest) both in
     let same : length behind ≡ length rest = ap (λ (z : Partition × List ℕ). length z.1) pairs in (
       ap (λ (z : Partition × List ℕ). z.0) pairs,
       omega (arith, ap length spelled, length-append (partition_bytes p) rest),

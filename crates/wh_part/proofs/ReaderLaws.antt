@@ -7,7 +7,8 @@ use Rattle.std.proofs.Common.{◌∷◌, ◌++◌, length, get_or, take, drop, O
 use Rattle.std.proofs.Common.{append_assoc, arith, inl, inr}
 use Rattle.std.specs.List.{flat_map, AllByRecursion}
 use Rattle.std.specs.Int.{Width, w32, w64, byte_len, from_be_bytes, to_be_bytes}
-use Rattle.std.proofs.lemmas.Bool.{cases_lt, ltb-false, le-ltb, le-leb, leb-true}
+use Rattle.std.proofs.lemmas.Option.{same_Some}
+use Rattle.std.proofs.lemmas.Bool.{and_parts, cases_lt, ltb-false, le-ltb, le-leb, leb-true}
 use Rattle.std.proofs.lemmas.Str.{IsUtf8-from_is_utf8, is_utf8-from_IsUtf8}
 use Rattle.std.specs.Str.{is_utf8}
 use Rattle.wh_value.specs.Value.{IsText}
@@ -52,20 +53,13 @@ pub bind_some : {A B : Type 0} (o : Option A) (f : A → Option B) (y : B) → (
 bind_some None f y e = absurd cc
 bind_some (Some x) f y e = (x, refl, e)
 
-cond_same : {A : Type 0} (b : Bool) (x y : A) → cond b (Some x) None ≡ Some y → (b ≡ true) × (x ≡ y)
+pub cond_same : {A : Type 0} (b : Bool) (x y : A) → cond b (Some x) None ≡ Some y → (b ≡ true) × (x ≡ y)
 cond_same true x y e = (refl, cc)
 cond_same false x y e = absurd cc
 
 cond_other : {A : Type 0} (b : Bool) (x y : A) → cond b None (Some x) ≡ Some y → (b ≡ false) × (x ≡ y)
 cond_other true x y e = absurd cc
 cond_other false x y e = (refl, cc)
-
-pub and_parts : (a b : Bool) → a && b ≡ true → (a ≡ true) × (b ≡ true)
-and_parts true b e = (refl, e)
-and_parts false b e = absurd cc
-
-pub some_is : {A : Type 0} (x y : A) → ◌≡◌ {A = Option A} (Some x) (Some y) → x ≡ y
-some_is x y e = cc
 
 -- ---- readers from readers
 
@@ -82,7 +76,7 @@ reads_then {X} {Y} {s} {g} {first} {t} {h} {second} r q = record {
       let whole : bytes ≡ (s a.0.0 ++ t a.0.0 b.0.0) ++ b.0.1 =
       one.0 ∙ ap (λ (l : List ℕ). s a.0.0 ++ l) two.0 ∙ sym (append_assoc (s a.0.0) (t a.0.0 b.0.0) b.0.1) in
       subst (λ (z : (X × Y) × List ℕ). (bytes ≡ (s z.0.0 ++ t z.0.0 z.0.1) ++ z.1) × (g z.0.0 × h z.0.0 z.0.1))
-      (some_is ((a.0.0, b.0.0), b.0.1) (p, rest) b.2) (whole, (one.1, two.1));
+      (same_Some ((a.0.0, b.0.0), b.0.1) (p, rest) b.2) (whole, (one.1, two.1));
   again = λ p rest good.
       ap (then_at first second) (append_assoc (s p.0) (t p.0 p.1) rest)
       ∙ ap (λ (o : Option (X × List ℕ)). o >>= λ x. second x.0 x.1 >>= λ y. Some ((x.0, y.0), y.1))
@@ -114,7 +108,7 @@ reads_as {X} {Y} {s} {g} {reader} t h f back there again r = record {
       let a = bind_some (reader bytes) (λ x. Some (f x.0, x.1)) (y, rest) e in
       let one = r.takes bytes a.0.0 a.0.1 fits a.1 in
       let other = there a.0.0 one.1 in
-      subst (λ (z : Y × List ℕ). (bytes ≡ t z.0 ++ z.1) × h z.0) (some_is (f a.0.0, a.0.1) (y, rest) a.2)
+      subst (λ (z : Y × List ℕ). (bytes ≡ t z.0 ++ z.1) × h z.0) (same_Some (f a.0.0, a.0.1) (y, rest) a.2)
       (one.0 ∙ ap (λ (l : List ℕ). l ++ a.0.1) other.0, other.1);
   again = λ y rest good.
       let b = again y good in
@@ -144,7 +138,7 @@ items_take : {X : Type 0} {s : X → List ℕ} {g : X → Type 0} {reader : Read
 unfolding items_at
 items_take {X} {s} {g} {reader} r zero bytes xs rest fits e =
     subst (λ (z : List X × List ℕ). (bytes ≡ flat_map s z.0 ++ z.1) × ((length z.0 ≡ 0) × AllByRecursion g z.0))
-    (some_is ([], bytes) (xs, rest) e) (refl, (refl, tt))
+    (same_Some ([], bytes) (xs, rest) e) (refl, (refl, tt))
 items_take {X} {s} {g} {reader} r (suc n) bytes xs rest fits e =
     let a = bind_some (reader bytes) (λ x. items_at reader n x.1 >>= λ xs. Some (x.0 ∷ xs.0, xs.1)) (xs, rest) e in
     let b = bind_some (items_at reader n a.0.1) (λ xs. Some (a.0.0 ∷ xs.0, xs.1)) (xs, rest) a.2 in
@@ -154,7 +148,7 @@ items_take {X} {s} {g} {reader} r (suc n) bytes xs rest fits e =
     one.0 ∙ ap (λ (l : List ℕ). s a.0.0 ++ l) two.0 ∙ sym (append_assoc (s a.0.0) (flat_map s b.0.0) b.0.1)
     ∙ ap (λ (l : List ℕ). l ++ b.0.1) (sym (flat_map-cons s a.0.0 b.0.0)) in
     subst (λ (z : List X × List ℕ). (bytes ≡ flat_map s z.0 ++ z.1) × ((length z.0 ≡ suc n) × AllByRecursion g z.0))
-    (some_is (a.0.0 ∷ b.0.0, b.0.1) (xs, rest) b.2)
+    (same_Some (a.0.0 ∷ b.0.0, b.0.1) (xs, rest) b.2)
     (whole, (ap suc two.1.0, (one.1, two.1.1)))
 
 items_again : {X : Type 0} {s : X → List ℕ} {g : X → Type 0} {reader : Reader X} → Reads s g reader
@@ -247,7 +241,7 @@ reads_byte = record { takes = byte_takes; again = λ b rest good. refl }
         → (bytes ≡ b ∷ [] ++ rest) × (b < 256)
     byte_takes [] b rest fits e = absurd cc
     byte_takes (a ∷ bytes) b rest fits e =
-        subst (λ (z : ℕ × List ℕ). (a ∷ bytes ≡ z.0 ∷ [] ++ z.1) × (z.0 < 256)) (some_is (a, bytes) (b, rest) e)
+        subst (λ (z : ℕ × List ℕ). (a ∷ bytes ≡ z.0 ∷ [] ++ z.1) × (z.0 < 256)) (same_Some (a, bytes) (b, rest) e)
         (refl, fits 0)
 
 pub reads_bytes : (n : ℕ) → Reads (λ bytes. bytes) (λ bytes. length bytes ≡ n) (bytes_at n)

@@ -5,10 +5,9 @@ use sqlite_items::{Boxed, Items};
 use std::alloc::{AllocError, Global};
 use std::process::Abort;
 use std::sync::Arc;
-use std::thread::Threads;
 use wh_algebra::{Call, Physical};
 use wh_bag::Bag;
-use wh_exec::{ExecFault, Given, Instance, run, run_one};
+use wh_exec::{ExecFault, Given, Instance, bag_of_plan};
 use wh_part::{NumberedRow, PartId, PartMeta, Partition};
 use wh_scalar::Scalar;
 use wh_value::{Comparison, Row, Value};
@@ -148,7 +147,7 @@ fn count_of(
     fetch: &mut Shelf,
     row: &Row,
 ) -> Option<u64> {
-    match run_one(alloc, plan, instance, fetch) {
+    match bag_of_plan(alloc, plan, instance, fetch) {
         Ok(bag) => Some(bag.count(row)),
         Err(_) => None,
     }
@@ -166,32 +165,9 @@ fn the_six_operators_run_over_partitions_and_a_bag(rt: HostRuntime) {
     assert_eq!(rt; fetch.asked(), ids().as_slice());
 }
 
-fn count_by_two(
-    rt: &(impl Threads + Sync),
-    alloc: Global,
-    instance: &Instance,
-    fetch: &mut Shelf,
-    row: &Row,
-) -> Option<u64> {
-    match run(alloc, rt, 2, &Physical::scan(1), instance, fetch) {
-        Ok(bag) => Some(bag.count(row)),
-        Err(_) => None,
-    }
-}
-
-#[test]
-fn two_workers_give_the_rows_too(rt: HostRuntime) {
-    let alloc = rt.alloc();
-    let row = row_of(&rt, alloc, &[2]);
-    let instance = instance(&rt, alloc);
-    let mut fetch = numbers(&rt, alloc, 0);
-    let found = count_by_two(&rt, alloc, &instance, &mut fetch, &row);
-    assert_eq!(rt; found, Some(3));
-}
-
 // What a scan of source 0 fails with, if it does.
 fn fault_of(alloc: Global, instance: &Instance, fetch: &mut Shelf) -> Option<ExecFault> {
-    match run_one(alloc, &Physical::scan(0), instance, fetch) {
+    match bag_of_plan(alloc, &Physical::scan(0), instance, fetch) {
         Ok(_) => None,
         Err(fault) => Some(fault),
     }

@@ -6,7 +6,8 @@ use Rattle.std.proofs.Common.{◌++◌, length, Option, Some, None, refl, sym, a
 use Rattle.std.specs.List.{AllByRecursion}
 use Rattle.std.specs.Int.{w32, w64, to_be_bytes}
 use Rattle.std.proofs.lemmas.List.{append-nil, nil_from_length}
-use Rattle.std.proofs.lemmas.Bool.{eqb-true, leb-true, le-leb}
+use Rattle.std.proofs.lemmas.Bool.{and_parts, eqb-true, leb-true, le-leb}
+use Rattle.std.proofs.lemmas.Option.{same_Some}
 use Rattle.wh_value.specs.Column.{ColumnType, NumberType, VarcharType, BooleanType}
 use Rattle.wh_frame.specs.Spelling.{text_bytes, list_bytes, partition_bytes}
 use Rattle.wh_state.specs.Commit.{Change, CreatesTable, Drops}
@@ -15,7 +16,7 @@ use Rattle.wh_state.specs.Spelling.{type_byte, column_bytes, table_bytes, versio
 use Rattle.wh_state.specs.Spelling.{stream_bytes, offset_bytes, change_bytes, payload_of, NumbersRiseFrom, IsColumn}
 use Rattle.wh_state.specs.Spelling.{IsTableChange, IsVersionChange, IsStreamChange, IsChange, IsCommit}
 use Rattle.wh_part.specs.Reading.{Reader, ◌>>=◌, as_at}
-use Rattle.wh_part.proofs.ReaderLaws.{AreBytes, Reads, bind_some, and_parts, some_is, reads_then, reads_where, reads_as}
+use Rattle.wh_part.proofs.ReaderLaws.{AreBytes, Reads, bind_some, cond_same, reads_then, reads_where, reads_as}
 use Rattle.wh_part.proofs.ReaderLaws.{reads_same, reads_list, wide32, wide64, reads_number, reads_byte, reads_text}
 use Rattle.wh_part.proofs.PartitionLaws.{reads_partition}
 use Rattle.wh_record.specs.Decoding.{type_at, column_at, table_at, numbers_rise, removed_at, version_at, change_behind}
@@ -30,7 +31,7 @@ byte_taken : {X : Type 0} (byte_of : X → ℕ) (found x : X) (bytes rest : List
     → (byte_of found ∷ bytes ≡ byte_of x ∷ [] ++ rest) × Unit {0}
 byte_taken {X} byte_of found x bytes rest e =
     subst (λ (z : X × List ℕ). (byte_of found ∷ bytes ≡ byte_of z.0 ∷ [] ++ z.1) × Unit {0})
-    (some_is (found, bytes) (x, rest) e) (refl, tt)
+    (same_Some (found, bytes) (x, rest) e) (refl, tt)
 
 -- a record of what is read one after the other
 reads_record : {X Y : Type 0} {s : X → List ℕ} {g : X → Type 0} {reader : Reader X} {f : X → Y} (t : Y → List ℕ)
@@ -206,7 +207,7 @@ module _ (tag : ℕ) (bytes : List ℕ) (fits : AreBytes bytes) (c : Change) (re
           let whole : tag ∷ bytes ≡ change_bytes (f a.0.0) ++ a.0.1 =
           rw (eqb-true tag n is) (ap (λ (l : List ℕ). n ∷ l) one.0 ∙ ap (λ (l : List ℕ). l ++ a.0.1) said.0) in
           subst (λ (z : Change × List ℕ). (tag ∷ bytes ≡ change_bytes z.0 ++ z.1) × IsChange z.0)
-          (some_is (f a.0.0, a.0.1) (c, rest) a.2) (whole, said.1)
+          (same_Some (f a.0.0, a.0.1) (c, rest) a.2) (whole, said.1)
 
   behind_takes : change_behind tag bytes ≡ Some (c, rest) → IsTaken
   unfolding change_bytes
@@ -251,16 +252,12 @@ reads_commit =
 
 -- ---- what a reading of all the bytes says
 
-ended : {A : Type 0} (b : Bool) (x y : A) → cond b (Some x) None ≡ Some y → (b ≡ true) × (x ≡ y)
-ended true x y e = (refl, some_is x y e)
-ended false x y e = absurd cc
-
 pub is_found : (bytes : List ℕ) (c : Commit) → AreBytes bytes → commit_of_all bytes ≡ Some c
     → IsCommit c × (bytes ≡ payload_of c)
 unfolding commit_of_all
 is_found bytes c fits e =
     let a = bind_some (commit_at bytes) (λ x. cond (eqb (length x.1) 0) (Some x.0) None) c e in
-    let g = ended (eqb (length a.0.1) 0) a.0.0 c a.2 in
+    let g = cond_same (eqb (length a.0.1) 0) a.0.0 c a.2 in
     let taken = reads_commit.takes bytes a.0.0 a.0.1 fits a.1 in
     let nothing : a.0.1 ≡ [] = nil_from_length a.0.1 (eqb-true _ _ g.0) in
     let whole : bytes ≡ payload_of a.0.0 = taken.0 ∙ ap (λ (l : List ℕ). payload_of a.0.0 ++ l) nothing
@@ -281,7 +278,7 @@ is_none bytes none c good spelled =
 
 pub is_again : (bytes : List ℕ) (d : Commit) → commit_of_all bytes ≡ Some d → (c : Commit) → IsCommit c
     → bytes ≡ payload_of c → d ≡ c
-is_again bytes d e c good spelled = some_is d c (sym e ∙ ap commit_of_all spelled ∙ all_again c good)
+is_again bytes d e c good spelled = same_Some d c (sym e ∙ ap commit_of_all spelled ∙ all_again c good)
 
 pub payload_fixes_commit : PayloadFixesCommit
-payload_fixes_commit c d hc hd same = some_is c d (sym (all_again c hc) ∙ ap commit_of_all same ∙ all_again d hd)
+payload_fixes_commit c d hc hd same = same_Some c d (sym (all_again c hc) ∙ ap commit_of_all same ∙ all_again d hd)

@@ -7,6 +7,7 @@ use Rattle.std.specs.List.{flat_map, AllByRecursion}
 use Rattle.std.proofs.lemmas.List.{append_cancel_left}
 use Rattle.std.proofs.lemmas.List.Concat.{flat_map-cons}
 use Rattle.wh_frame.specs.File.{header, record_of, records_of, LacksHeader}
+use Rattle.wh_frame.proofs.RecordLaws.{same_record, gate_of}
 use Rattle.wh_state.specs.Stored.{Stored, first_stored}
 use Rattle.wh_state.specs.Commit.{Commit, Applies, applied, Leads}
 use Rattle.wh_state.specs.Spelling.{payload_of, IsCommit}
@@ -14,20 +15,10 @@ use Rattle.wh_state.specs.File.{Holds, Keeps}
 use Rattle.wh_state.specs.Fault.{IsFaulty, BreaksOff, IsFirstFault}
 use Rattle.wh_record.specs.Laws.{FirstFaultIsOne, FaultyFileStandsForNone}
 use Rattle.wh_record.proofs.CommitLaws.{payload_fixes_commit}
-use Rattle.wh_record.proofs.FileLaws.{one_frame, heads}
 
 -- ---- one record
 
 -- a record fixes its payload, and what is behind it
-same_record : (p q x y : List ℕ) → length p < 2 ^ 64 → length q < 2 ^ 64
-    → record_of p ++ x ≡ record_of q ++ y → (p ≡ q) × (x ≡ y)
-unfolding record_of
-same_record p q x y hp hq same = one_frame p q x y hp hq (heads 1 1 _ _ same).1
-
-gate_of : (payload rest : List ℕ) (gate : ℕ) (tail : List ℕ) → gate ∷ tail ≡ record_of payload ++ rest → gate ≡ 1
-unfolding record_of
-gate_of payload rest gate tail is = cc
-
 not_nothing : (payload rest : List ℕ) → [] ≡ record_of payload ++ rest → ⊥
 unfolding record_of
 not_nothing payload rest is = cc

@@ -5,43 +5,23 @@
 use Rattle.std.proofs.Common.{◌≡◌, ◌≢◌, ℕ, ◌^◌, ◌<◌, List, [], ◌∷◌, ◌++◌, length, map, Option, Some, refl, sym, ap}
 use Rattle.std.proofs.Common.{subst, ◌∙◌, append_assoc, arith, inl, inr}
 use Rattle.std.specs.List.{flat_map, AllByRecursion}
-use Rattle.std.specs.Int.{w64, to_be_bytes}
 use Rattle.std.proofs.lemmas.List.{append_cancel_left}
 use Rattle.std.proofs.lemmas.List.Concat.{flat_map-cons}
 use Rattle.wh_frame.specs.File.{header, record_of, records_of}
+use Rattle.wh_frame.proofs.RecordLaws.{same_record, gate_of}
 use Rattle.wh_state.specs.Stored.{Stored, first_stored, meant}
 use Rattle.wh_state.specs.Commit.{Commit, Leads, applied}
 use Rattle.wh_state.specs.Spelling.{payload_of, IsCommit}
 use Rattle.wh_state.specs.File.{Holds}
-use Rattle.wh_part.specs.Reading.{then_at, number_at, bytes_at}
-use Rattle.wh_part.proofs.ReaderLaws.{Reads, some_is, reads_then, wide64, reads_number, reads_bytes}
 use Rattle.wh_record.specs.Laws.{FileFixesPayloads, FileFixesStored, FileFixesState}
 use Rattle.wh_record.proofs.CommitLaws.{payload_fixes_commit}
 
 -- ---- records
 
-reads_frame : Reads {X = ℕ × List ℕ}
-    (λ f. to_be_bytes w64 f.0 ++ f.1) (λ f. (f.0 < 2 ^ 64) × (length f.1 ≡ f.0)) (then_at (number_at w64) bytes_at)
-reads_frame = reads_then (reads_number wide64) (λ n _. reads_bytes n)
-
--- a record's bytes fix its payload, and what is behind it
-pub one_frame : (p q x y : List ℕ) → length p < 2 ^ 64 → length q < 2 ^ 64
-    → (to_be_bytes w64 (length p) ++ p) ++ x ≡ (to_be_bytes w64 (length q) ++ q) ++ y → (p ≡ q) × (x ≡ y)
-one_frame p q x y hp hq same =
-    let both : ◌≡◌ {A = Option ((ℕ × List ℕ) × List ℕ)} (Some ((length p, p), x)) (Some ((length q, q), y)) =
-    sym (reads_frame.again (length p, p) x (hp, refl)) ∙ ap (then_at (number_at w64) bytes_at) same
-    ∙ reads_frame.again (length q, q) y (hq, refl) in
-    let pairs = some_is ((length p, p), x) ((length q, q), y) both in
-    (ap (λ (z : (ℕ × List ℕ) × List ℕ). z.0.1) pairs, ap (λ (z : (ℕ × List ℕ) × List ℕ). z.1) pairs)
-
 record_split : (p : List ℕ) (ps : List (List ℕ)) (x : List ℕ)
-    → flat_map record_of (p ∷ ps) ++ x ≡ 1 ∷ ((to_be_bytes w64 (length p) ++ p) ++ (flat_map record_of ps ++ x))
-unfolding record_of
+    → flat_map record_of (p ∷ ps) ++ x ≡ record_of p ++ (flat_map record_of ps ++ x)
 record_split p ps x = ap (λ (l : List ℕ). l ++ x) (flat_map-cons record_of p ps)
     ∙ append_assoc (record_of p) (flat_map record_of ps) x
-
-pub heads : (a b : ℕ) (x y : List ℕ) → a ∷ x ≡ b ∷ y → (a ≡ b) × (x ≡ y)
-heads a b x y e = (cc, cc)
 
 same_records : (ps qs : List (List ℕ)) (g h : ℕ) (x y : List ℕ) → AllByRecursion (λ payload. length payload < 2 ^ 64) ps
     → AllByRecursion (λ payload. length payload < 2 ^ 64) qs → g ≢ 1 → h ≢ 1
@@ -49,18 +29,12 @@ same_records : (ps qs : List (List ℕ)) (g h : ℕ) (x y : List ℕ) → AllByR
     → ps ≡ qs
 same_records [] [] g h x y sp sq cg ch same = refl
 same_records [] (q ∷ qs) g h x y sp sq cg ch same =
-    let opened : g ∷ x ≡ 1 ∷ ((to_be_bytes w64 (length q) ++ q) ++ (flat_map record_of qs ++ h ∷ y)) =
-    same ∙ record_split q qs (h ∷ y) in
-    absurd (cg (heads g 1 x ((to_be_bytes w64 (length q) ++ q) ++ (flat_map record_of qs ++ h ∷ y)) opened).0)
+    absurd (cg (gate_of q (flat_map record_of qs ++ h ∷ y) g x (same ∙ record_split q qs (h ∷ y))))
 same_records (p ∷ ps) [] g h x y sp sq cg ch same =
-    let opened : h ∷ y ≡ 1 ∷ ((to_be_bytes w64 (length p) ++ p) ++ (flat_map record_of ps ++ g ∷ x)) =
-    sym same ∙ record_split p ps (g ∷ x) in
-    absurd (ch (heads h 1 y ((to_be_bytes w64 (length p) ++ p) ++ (flat_map record_of ps ++ g ∷ x)) opened).0)
+    absurd (ch (gate_of p (flat_map record_of ps ++ g ∷ x) h y (sym same ∙ record_split p ps (g ∷ x))))
 same_records (p ∷ ps) (q ∷ qs) g h x y sp sq cg ch same =
-    let behind = (heads 1 1 ((to_be_bytes w64 (length p) ++ p) ++ (flat_map record_of ps ++ g ∷ x))
-    ((to_be_bytes w64 (length q) ++ q) ++ (flat_map record_of qs ++ h ∷ y))
-    (sym (record_split p ps (g ∷ x)) ∙ same ∙ record_split q qs (h ∷ y))).1 in
-    let first = one_frame p q (flat_map record_of ps ++ g ∷ x) (flat_map record_of qs ++ h ∷ y) sp.0 sq.0 behind in
+    let first = same_record p q (flat_map record_of ps ++ g ∷ x) (flat_map record_of qs ++ h ∷ y) sp.0 sq.0
+    (sym (record_split p ps (g ∷ x)) ∙ same ∙ record_split q qs (h ∷ y)) in
     let rest = same_records ps qs g h x y sp.1 sq.1 cg ch first.1 in
     cc
 

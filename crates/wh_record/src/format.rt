@@ -1,5 +1,4 @@
-ghost use Rattle.std.specs.Prelude.{◌≡◌, map, nat_le};
-ghost use Rattle.std.specs.Bool.{OnTrue};
+ghost use Rattle.std.specs.Prelude.{◌≡◌, ◌↔◌, map, nat_le, IsTrue};
 ghost use Rattle.std.specs.List.{AllByRecursion};
 ghost use Rattle.wh_value.specs.Value.{IsText, IsValue};
 ghost use Rattle.wh_value.specs.View.{value_of};
@@ -40,14 +39,14 @@ pub(crate) fn rise(numbers: &[u64]) -> bool
 
 /// Always: a text is within the format by its type.
 fn is_text(text: &Text) -> bool
-    ensures { OnTrue result (IsText text.now) }
+    ensures { IsTrue result ↔ IsText text.now }
 {
     text.as_bytes().len() <= Text::MAX_BYTES
 }
 
 /// Whether a number has at most 18 digits.
 fn is_value(value: &Value) -> bool
-    ensures { OnTrue result (IsValue (value_of value.now)) }
+    ensures { IsTrue result ↔ IsValue (value_of value.now) }
 {
     match value {
         Value::Number(number) => number.unsigned_abs() < NUMBER_LIMIT,
@@ -57,7 +56,7 @@ fn is_value(value: &Value) -> bool
 }
 
 fn are_values(values: &[Value]) -> bool
-    ensures { OnTrue result (AllByRecursion IsValue (map value_of values.now)) }
+    ensures { IsTrue result ↔ AllByRecursion IsValue (map value_of values.now) }
 {
     for value in values {
         if !is_value(value) {
@@ -68,13 +67,13 @@ fn are_values(values: &[Value]) -> bool
 }
 
 fn has_row(width: u32, numbered: &NumberedRow) -> bool
-    ensures { OnTrue result (HasRow width (numbered_of numbered.now)) }
+    ensures { IsTrue result ↔ HasRow width (numbered_of numbered.now) }
 {
     numbered.row.len() == width as usize && are_values(numbered.row.values())
 }
 
 fn are_rows(width: u32, rows: &[NumberedRow]) -> bool
-    ensures { OnTrue result (AllByRecursion (HasRow width) (map numbered_of rows.now)) }
+    ensures { IsTrue result ↔ AllByRecursion (HasRow width) (map numbered_of rows.now) }
 {
     for numbered in rows {
         if !has_row(width, numbered) {
@@ -86,7 +85,7 @@ fn are_rows(width: u32, rows: &[NumberedRow]) -> bool
 
 /// Whether each row has the width's number of values, all within the format.
 pub(crate) fn has_rows(width: u32, partition: &Partition) -> bool
-    ensures { OnTrue result (HasRows width partition.now) }
+    ensures { IsTrue result ↔ HasRows width partition.now }
 {
     are_rows(width, partition.rows())
 }

@@ -5,27 +5,15 @@ use Rattle.std.specs.declared.cmp.Ordering.TheVariants.{Less, Equal, Greater}
 use Rattle.std.specs.Ordering.{is_eq, ordering_reverse}
 use Rattle.std.specs.Cmp.Derive.{both_true}
 use Rattle.std.proofs.Common.{ap, subst}
-use Rattle.std.proofs.lemmas.Bool.{eqb-true, eq-eqb}
+use Rattle.std.proofs.lemmas.Bool.{and_parts, eqb-true, eq-eqb}
 use Rattle.wh_value.specs.Value.{value_cmp}
 use Rattle.wh_value.specs.Order.{value_total, value-IsAntisymmetric}
+use Rattle.wh_value.proofs.TestLaws.{is-Equal}
 use Rattle.wh_value.specs.declared.comparison.Comparison.{Comparison}
 use Rattle.wh_value.specs.declared.comparison.Comparison.TheVariants as comparisons
 use Rattle.wh_meaning.specs.Scalar.{Scalar, Const, Column, Neg, Add, Sub, Mul, Compare, And, Or, Not, IsNull}
 use Rattle.wh_naming.specs.Grouping.{is_same, same_comparison}
 use Rattle.wh_regroup.specs.Laws.{SameScalarsAreEqual}
-
-first : (a b : Bool) → (a && b) ≡ true → a ≡ true
-first true b e = refl
-first false b e = cc
-
-second : (a b : Bool) → (a && b) ≡ true → b ≡ true
-second true b e = e
-second false b e = cc
-
-is-Equal : (r : Ordering) → is_eq r ≡ true → r ≡ Equal
-is-Equal Less e = cc
-is-Equal Equal e = refl
-is-Equal Greater e = cc
 
 same_comparisons : (o p : Comparison) → same_comparison o p ≡ true → o ≡ p
 same_comparisons comparisons.Equal comparisons.Equal e = refl
@@ -61,14 +49,14 @@ unfolding is_same
 same_are_equal (Const v) (Const w) e = ap Const (value-IsAntisymmetric v w (is-Equal _ e))
 same_are_equal (Column p) (Column q) e = ap Column (eqb-true p q e)
 same_are_equal (Neg a) (Neg b) e = ap Neg (same_are_equal a b e)
-same_are_equal (Add a b) (Add c d) e = two Add (same_are_equal a c (first _ _ e)) (same_are_equal b d (second _ _ e))
-same_are_equal (Sub a b) (Sub c d) e = two Sub (same_are_equal a c (first _ _ e)) (same_are_equal b d (second _ _ e))
-same_are_equal (Mul a b) (Mul c d) e = two Mul (same_are_equal a c (first _ _ e)) (same_are_equal b d (second _ _ e))
+same_are_equal (Add a b) (Add c d) e = two Add (same_are_equal a c (and_parts _ _ e).0) (same_are_equal b d (and_parts _ _ e).1)
+same_are_equal (Sub a b) (Sub c d) e = two Sub (same_are_equal a c (and_parts _ _ e).0) (same_are_equal b d (and_parts _ _ e).1)
+same_are_equal (Mul a b) (Mul c d) e = two Mul (same_are_equal a c (and_parts _ _ e).0) (same_are_equal b d (and_parts _ _ e).1)
 same_are_equal (Compare o a b) (Compare p c d) e =
-    three (same_comparisons o p (first _ _ e)) (same_are_equal a c (first _ _ (second _ _ e)))
-    (same_are_equal b d (second _ _ (second _ _ e)))
-same_are_equal (And a b) (And c d) e = two And (same_are_equal a c (first _ _ e)) (same_are_equal b d (second _ _ e))
-same_are_equal (Or a b) (Or c d) e = two Or (same_are_equal a c (first _ _ e)) (same_are_equal b d (second _ _ e))
+    three (same_comparisons o p (and_parts _ _ e).0) (same_are_equal a c (and_parts _ _ (and_parts _ _ e).1).0)
+    (same_are_equal b d (and_parts _ _ (and_parts _ _ e).1).1)
+same_are_equal (And a b) (And c d) e = two And (same_are_equal a c (and_parts _ _ e).0) (same_are_equal b d (and_parts _ _ e).1)
+same_are_equal (Or a b) (Or c d) e = two Or (same_are_equal a c (and_parts _ _ e).0) (same_are_equal b d (and_parts _ _ e).1)
 same_are_equal (Not a) (Not b) e = ap Not (same_are_equal a b e)
 same_are_equal (IsNull a) (IsNull b) e = ap IsNull (same_are_equal a b e)
 same_are_equal _ _ e = cc

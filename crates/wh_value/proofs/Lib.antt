@@ -1,2 +1,4 @@
+pub mod ListLaws
+pub mod TestLaws
 pub mod InOrder
 pub mod FitLemmas

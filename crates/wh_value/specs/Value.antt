@@ -3,6 +3,7 @@
 --     value_cmp       numbers by size, FALSE before TRUE, texts by bytes, and NULL last;
 --                     between the kinds in this order
 --     Row, row_cmp    values from left to right, and their order
+--     ordered_by      the elements of a list in an order; in_order, rows in the row order
 --     IsValue         what a table may hold: 18 digits at most, and texts of UTF-8 up to 65,536 bytes
 --     literal         how a value is printed
 use Rattle.std.specs.Prelude.{◌≡◌, ℕ, ◌<◌, ◌≤◌, Bool, true, false, List, [], ◌∷◌, ◌++◌, ℤ, ◌⊎◌, ◌==◌, if◌then◌else◌}
@@ -46,14 +47,17 @@ Row = List Value
 abbrev pub row_cmp : Row → Row → Ordering
 row_cmp = slice_cmp value_cmp
 
--- rows in the row order: each goes before the first that isn't less
-abbrev pub placed : Row → List Row → List Row
-placed row [] = row ∷ []
-placed row (x ∷ xs) = if is_gt (row_cmp row x) then x ∷ placed row xs else row ∷ x ∷ xs
+-- elements in an order: each goes before the first that isn't less
+abbrev pub placed_by : {X : Type 0} → (X → X → Ordering) → X → List X → List X
+placed_by cmp x [] = x ∷ []
+placed_by cmp x (y ∷ ys) = if is_gt (cmp x y) then y ∷ placed_by cmp x ys else x ∷ y ∷ ys
+
+abbrev pub ordered_by : {X : Type 0} → (X → X → Ordering) → List X → List X
+ordered_by cmp [] = []
+ordered_by cmp (x ∷ xs) = placed_by cmp x (ordered_by cmp xs)
 
 abbrev pub in_order : List Row → List Row
-in_order [] = []
-in_order (row ∷ rows) = placed row (in_order rows)
+in_order rows = ordered_by row_cmp rows
 
 -- a text that a value or a name may be
 pub record IsText (bytes : List ℕ) : Type 0 where

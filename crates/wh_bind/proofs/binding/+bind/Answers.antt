@@ -1,5 +1,5 @@
 use Rattle.std.proofs.Common.{◌∙◌, ap, sym, map, drop, option_map}
-use Rattle.wh_expr_bind.specs.View.{named_of}
+use Rattle.wh_naming.specs.View.{named_of}
 use Rattle.wh_bind.specs.Steps.{gathered}
 use Rattle.wh_core_bind.specs.View.{query_in, joined_in}
 use Rattle.wh_bind.specs.View.{source_in, core_reading, query_reading}

@@ -1,5 +1,5 @@
 use Rattle.std.proofs.Common.{◌≡◌, None, map, drop, option_map}
-use Rattle.wh_expr_bind.specs.View.{named_of}
+use Rattle.wh_naming.specs.View.{named_of}
 use Rattle.wh_bind.specs.Steps.{gathered, joined_on}
 use Rattle.wh_core_bind.specs.View.{joined_in, query_in}
 use Rattle.wh_bind.specs.View.{join_part, core_reading}

@@ -1,6 +1,6 @@
 use Rattle.std.proofs.Common.{◌≡◌, map, drop}
 use Rattle.wh_naming.specs.Scope.{named}
-use Rattle.wh_expr_bind.specs.View.{named_of}
+use Rattle.wh_naming.specs.View.{named_of}
 use Rattle.wh_bind.proofs.sources.find.Given as goal
 
 abbrev pub invariant-loop-object : goal.invariant-loop-object

@@ -1,5 +1,5 @@
 use Rattle.std.proofs.Common.{◌≡◌, map, take}
-use Rattle.wh_expr_bind.specs.View.{named_of}
+use Rattle.wh_naming.specs.View.{named_of}
 use Rattle.wh_ddl_naming.specs.DynamicTables.{inside}
 use Rattle.wh_ddl_bind.proofs.dynamic_tables.inside.Given as goal
 

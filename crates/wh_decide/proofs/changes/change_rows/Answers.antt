@@ -2,7 +2,7 @@ use Rattle.std.proofs.Common.{◌≡◌, List, Some, Err, map, ap, sym, subst, �
 use Rattle.wh_naming.specs.Findings.{first_failing}
 use Rattle.wh_naming.specs.Scope.{Named}
 use Rattle.wh_naming.specs.Changes.{bound_change}
-use Rattle.wh_expr_bind.specs.View.{named_of, failing_of}
+use Rattle.wh_naming.specs.View.{named_of, failing_of}
 use Rattle.wh_bind.specs.declared.fault.BindFault.{BindFault}
 use Rattle.wh_dml_bind.specs.Binds.{Binds}
 use Rattle.wh_reply.specs.View.{refusal_view}

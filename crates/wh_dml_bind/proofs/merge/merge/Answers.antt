@@ -2,7 +2,7 @@ use Rattle.std.proofs.Common.{◌≡◌, ◌∙◌, subst, map, IfOk}
 use Rattle.wh_naming.specs.Select.{BoundSource}
 use Rattle.wh_naming.specs.Changes as naming
 use Rattle.wh_naming.specs.Changes.{BoundChange, target_entry, merged_on}
-use Rattle.wh_expr_bind.specs.View.{named_of}
+use Rattle.wh_naming.specs.View.{named_of}
 use Rattle.wh_bind.specs.View.{source_in, source_part}
 use Rattle.wh_dml_bind.specs.Steps.{source_entry}
 use Rattle.wh_dml_bind.specs.View.{target_in, merge_in, checked_in}
