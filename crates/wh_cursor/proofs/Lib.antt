@@ -4,6 +4,7 @@ pub mod KeyLemmas
 pub mod Yields
 pub mod Combine
 pub mod ListLemmas
+pub mod ChainLemmas
 pub mod Names
 pub mod Fronts
 pub mod Found

@@ -1,6 +1,7 @@
 //! A cursor over tokens, with the steps that the rules of all parsers are made of.
 #![tactic(auto)]
 
+mod chains;
 mod fault;
 mod key;
 mod lists;
@@ -9,6 +10,7 @@ mod reserved;
 mod steps;
 mod words;
 
+pub use chains::joined;
 pub use fault::ParseFault;
 pub use key::{Key, binds};
 pub use lists::listed;

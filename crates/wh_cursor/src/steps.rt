@@ -1,6 +1,6 @@
 //! The steps that rules of statements are made of.
 
-ghost use Rattle.std.specs.Prelude.{◌≡◌, if◌then◌else◌};
+ghost use Rattle.std.specs.Prelude.{◌≡◌, if◌then◌else◌, OnErr};
 ghost use Rattle.wh_grammar.specs.Spelled.{tokens_of};
 ghost use Rattle.wh_cursor.specs.Gives.{Reads};
 ghost use Rattle.wh_cursor.specs.Steps.{tail, sees};
@@ -37,7 +37,8 @@ impl<'a> Words<'a> {
     /// Takes it, and nothing else.
     #[tactic(auto, unfolding(crate::specs::Steps::expect_key))]
     pub fn expect(&mut self, key: Key) -> Result<(), ParseFault>
-        ensures { Reads (spec.expect_key key self.old) result self.new }
+        ensures reads { Reads (spec.expect_key key self.old) result self.new }
+        ensures kept { OnErr result (self.new ≡ self.old) }
     {
         if self.sees(key) {
             self.skip();
@@ -69,7 +70,8 @@ impl<'a> Words<'a> {
     /// Takes it, and nothing else.
     #[tactic(auto, unfolding(crate::specs::Steps::expect_word))]
     pub fn expect_word(&mut self, word: &[u8]) -> Result<(), ParseFault>
-        ensures { Reads (spec.expect_word word.now self.old) result self.new }
+        ensures reads { Reads (spec.expect_word word.now self.old) result self.new }
+        ensures kept { OnErr result (self.new ≡ self.old) }
     {
         if self.sees_word(word) {
             self.skip();
@@ -81,7 +83,8 @@ impl<'a> Words<'a> {
 
     /// Takes a word, in upper case.
     pub fn word(&mut self, alloc: Global) -> Result<Text, ParseFault>
-        ensures { Reads (spec.read_word self.old) result self.new }
+        ensures reads { Reads (spec.read_word self.old) result self.new }
+        ensures kept { OnErr result (self.new ≡ self.old) }
     {
         let word = word_at(alloc, self.rest())?;
         self.skip();
@@ -90,7 +93,8 @@ impl<'a> Words<'a> {
 
     /// Takes a text.
     pub fn text(&mut self, alloc: Global) -> Result<Text, ParseFault>
-        ensures { Reads (spec.read_text self.old) result self.new }
+        ensures reads { Reads (spec.read_text self.old) result self.new }
+        ensures kept { OnErr result (self.new ≡ self.old) }
     {
         let text = text_at(alloc, self.rest())?;
         self.skip();
@@ -99,7 +103,8 @@ impl<'a> Words<'a> {
 
     /// Takes a number, of at most 18 digits.
     pub fn number(&mut self) -> Result<u64, ParseFault>
-        ensures { Reads (spec.read_number self.old) result self.new }
+        ensures reads { Reads (spec.read_number self.old) result self.new }
+        ensures kept { OnErr result (self.new ≡ self.old) }
     {
         let number = number_at(self.rest())?;
         self.skip();

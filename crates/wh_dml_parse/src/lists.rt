@@ -24,10 +24,7 @@ pub fn name_list(alloc: Global, words: &mut Words<'_>) -> Result<Items<Text>, Pa
     ensures reads { Reads (spec.read_names words.old) result words.new }
     ensures kept { OnErr result (words.new ≡ words.old) }
 {
-    let mut ahead = Words::new(words.rest());
-    let names = listed(alloc, &mut ahead, 0, &one_name)?;
-    *words = ahead;
-    Ok(names)
+    listed(alloc, words, 0, &one_name)
 }
 
 /// Rows, each in its parentheses.

@@ -2,7 +2,6 @@ pub mod Outcomes
 pub mod Soundness
 pub mod RuleSteps
 pub mod Completeness
-pub mod ChainSteps
 pub mod ItemSteps
 pub mod Fronts
 pub mod Found

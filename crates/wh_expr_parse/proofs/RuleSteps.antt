@@ -26,10 +26,12 @@ use Rattle.wh_cursor.specs.Keys.{key_of, key_binds, same_key}
 use Rattle.wh_expr_parse.specs.Operators.{joins}
 use Rattle.wh_expr_parse.specs.State.{State, at, next, Reader, expect, spend}
 use Rattle.wh_cursor.specs.Steps.{tail, sees}
-use Rattle.wh_expr_parse.specs.Read.{read_literal, column_of, column, turns, chain, parenthesized, sum_call, count_by}
+use Rattle.wh_expr_parse.specs.Read.{read_literal, column_of, column, read_operator, links, chain, parenthesized}
+use Rattle.wh_expr_parse.specs.Read.{sum_call, count_by}
 use Rattle.wh_expr_parse.specs.Read.{count_call, primary, negative, unary, product, sum, compared, null_test}
 use Rattle.wh_expr_parse.specs.Read.{items_from, items, among, between, negated_test, test_by, predicate, not_test}
 use Rattle.wh_expr_parse.specs.Read.{negation, conjunction, whole}
+use Rattle.wh_cursor.proofs.ChainLemmas as chains
 use Rattle.wh_cursor.proofs.Names.{name-complete}
 use Rattle.wh_cursor.proofs.KeyLemmas.{binds_key, heads}
 
@@ -412,34 +414,38 @@ module _ (inner : Level → Reader Expr) where
   behind-sum {n = n} h l =
       record { run = λ room left i. rw (h.run room (n + left) (omega (arith, i))) (l.run (n + left) left refl) }
 
+  -- at IN and BETWEEN, with or without NOT before it
+  negation-tests : {w : List ℕ} (t : Bool → Expr → Reader Expr) {us vs ws : List Token}
+      {n : ℕ} {y : Expr} {negated : Bool} (x : Expr)
+      → (Gives (t true x) n (Word w ∷ vs) y ws
+      → Gives (negated_test inner x) n (Word (codes "NOT") ∷ Word w ∷ vs) y ws)
+      → (Gives (t false x) n (Word w ∷ vs) y ws → Gives (test_by inner x (key_of (Word w ∷ vs))) n (Word w ∷ vs) y ws)
+      → IsNegation negated us (Word w ∷ vs) → Gives (t negated x) n (Word w ∷ vs) y ws
+      → Gives (test_by inner x (key_of us)) n us y ws
+  unfolding key_of is_reserved
+  negation-tests {w} t {vs = vs} {ws} {n} {y} x behind front not h = by not refl h
+    where
+      by : {us rs : List Token} {negated : Bool} → IsNegation negated us rs → rs ≡ Word w ∷ vs
+          → Gives (t negated x) n (Word w ∷ vs) y ws
+          → Gives (test_by inner x (key_of us)) n us y ws
+      by (g.negated {us}) same h =
+          subst (λ (rs : List Token). Gives (negated_test inner x) n (Word (codes "NOT") ∷ rs) y ws)
+          (sym same) (behind h)
+      by (g.plain {us}) same h =
+          subst (λ (rs : List Token). Gives (test_by inner x (key_of rs)) n rs y ws) (sym same) (front h)
+
   in-tests : {us vs ws : List Token} {n : ℕ} {y : Expr} {negated : Bool} (x : Expr)
       → IsNegation negated us (Word (codes "IN") ∷ vs) → Gives (among inner negated x) n (Word (codes "IN") ∷ vs) y ws
       → Gives (test_by inner x (key_of us)) n us y ws
   unfolding key_of is_reserved
-  in-tests {vs = vs} {ws = ws} {n = n} {y = y} x not h = by not refl h
-    where
-      by : {us rs : List Token} {negated : Bool} → IsNegation negated us rs → rs ≡ Word (codes "IN") ∷ vs
-          → Gives (among inner negated x) n (Word (codes "IN") ∷ vs) y ws
-          → Gives (test_by inner x (key_of us)) n us y ws
-      by (g.negated {us}) same h =
-          subst (λ (rs : List Token). Gives (negated_test inner x) n (Word (codes "NOT") ∷ rs) y ws)
-          (sym same) (in-behind x h)
-      by (g.plain {us}) same h = subst (λ (rs : List Token). Gives (test_by inner x (key_of rs)) n rs y ws) (sym same) h
+  in-tests x not h = negation-tests (among inner) x (in-behind x) (λ h. h) not h
 
   between-tests : {us vs ws : List Token} {n : ℕ} {y : Expr} {negated : Bool} (x : Expr)
       → IsNegation negated us (Word (codes "BETWEEN") ∷ vs)
       → Gives (between inner negated x) n (Word (codes "BETWEEN") ∷ vs) y ws
       → Gives (test_by inner x (key_of us)) n us y ws
   unfolding key_of is_reserved
-  between-tests {vs = vs} {ws = ws} {n = n} {y = y} x not h = by not refl h
-    where
-      by : {us rs : List Token} {negated : Bool} → IsNegation negated us rs → rs ≡ Word (codes "BETWEEN") ∷ vs
-          → Gives (between inner negated x) n (Word (codes "BETWEEN") ∷ vs) y ws
-          → Gives (test_by inner x (key_of us)) n us y ws
-      by (g.negated {us}) same h =
-          subst (λ (rs : List Token). Gives (negated_test inner x) n (Word (codes "NOT") ∷ rs) y ws)
-          (sym same) (between-behind x h)
-      by (g.plain {us}) same h = subst (λ (rs : List Token). Gives (test_by inner x (key_of rs)) n rs y ws) (sym same) h
+  between-tests x not h = negation-tests (between inner) x (between-behind x) (λ h. h) not h
 
   -- items behind those so far
   pub record GivesItems (n : ℕ) (ts : List Token) (xs : List Expr) (us : List Token) : Type 0 where
@@ -533,40 +539,36 @@ module _ (inner : Level → Reader Expr) where
 pub record Comes (level : ℕ) (item r : Reader Expr) (n : ℕ) (ts : List Token)
     (x : Expr) (us : List Token) : Type 0 where
   pub run : (room left : ℕ) → room ≡ n + left
-      → (fuel : ℕ) × (left ≤ fuel) × (r (at ts room) ≡ turns level item fuel x (at us left))
+      → chains.Comes (links level item) (r (at ts room)) left x (at us left)
 
 pub comes-first : {level : ℕ} {item : Reader Expr} {n : ℕ} {ts us : List Token} {x : Expr} → Gives item n ts x us
     → Comes level item (chain level item) n ts x us
-comes-first h = record { run = λ room left i. (left, omega arith, rw (h.run room left i) refl) }
+comes-first {level} {item} h =
+    record { run = λ room left i. chains.comes-first (links level item) (λ s. s.room) (h.run room left i) }
+
+operator-reads : (level room : ℕ) (op : Operator) (t : Token) (us : List Token)
+    → joins level (key_of (t ∷ us)) ≡ Some op
+    → read_operator level (at (t ∷ us) (suc room)) ≡ Some (Some op, at us room)
+unfolding read_operator
+operator-reads level room op t us joined = rw (joined, spend-some us (suc room) room refl) refl
 
 pub comes-next : {level : ℕ} {item r : Reader Expr} {m n : ℕ} {ts us vs : List Token}
     {x y : Expr} (op : Operator) (t : Token)
     → ((us : List Token) → joins level (key_of (t ∷ us)) ≡ Some op) → Comes level item r m ts x (t ∷ us)
     → Gives item n us y vs
     → Comes level item r (suc (m + n)) ts (e.Binary op x y) vs
-unfolding turns
-comes-next {level} {item} {r} {m} {n} {ts} {us} {vs} {x} {y} op t joined h l = record {
+comes-next {level} {m = m} {n} {us = us} op t joined h l = record {
   run = λ room left i.
-      let before = h.run room (suc (n + left)) (omega (arith, i)) in by room left before.0 before.1 before.2;
+      chains.comes-next (h.run room (suc (n + left)) (omega (arith, i)))
+      (operator-reads level (n + left) op t us (joined us)) (l.run (n + left) left refl) (omega arith);
 }
-  where
-    by : (room left fuel : ℕ) → suc (n + left) ≤ fuel
-        → r (at ts room) ≡ turns level item fuel x (at (t ∷ us) (suc (n + left)))
-        → (fuel : ℕ) × (left ≤ fuel) × (r (at ts room) ≡ turns level item fuel (e.Binary op x y) (at vs left))
-    by room left zero few is = absurd (omega (arith, few))
-    by room left (suc fuel) few is = (
-      fuel,
-      omega (arith, few),
-      is
-          ∙ rw (joined us, spend-some us (suc (n + left)) (n + left) refl, l.run (n + left) left refl) refl,
-    )
+
+operator-none : (level left : ℕ) (us : List Token) → binds us < level
+    → read_operator level (at us left) ≡ Some (None, at us left)
+unfolding read_operator
+operator-none level left us end = rw (joins-none level us end) refl
 
 pub comes-ends : {level : ℕ} {item r : Reader Expr} {n : ℕ} {ts us : List Token} {x : Expr}
     → Comes level item r n ts x us → binds us < level → Gives r n ts x us
-unfolding turns
-comes-ends {level} {item} {r} {n} {ts} {us} {x} h end =
-    record { run = λ room left i. let come = h.run room left i in come.2 ∙ by left come.0 }
-  where
-    by : (left fuel : ℕ) → turns level item fuel x (at us left) ≡ Some (x, at us left)
-    by left zero = refl
-    by left (suc fuel) = rw (joins-none level us end) refl
+comes-ends {level} {us = us} h end =
+    record { run = λ room left i. chains.comes-ends (h.run room left i) (operator-none level left us end) }

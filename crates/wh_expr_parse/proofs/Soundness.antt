@@ -25,13 +25,16 @@ use Rattle.wh_cursor.specs.Keys.{key_of, key_binds}
 use Rattle.wh_expr_parse.specs.Operators.{joins}
 use Rattle.wh_expr_parse.specs.State.{State, at, next, Reader, plainly, moved, expect, spend}
 use Rattle.wh_cursor.specs.Steps.{tail, and_then, sees, read_name}
-use Rattle.wh_expr_parse.specs.Read.{read_literal, column_of, column, rows, turns, chain, turn, parenthesized, sum_call}
+use Rattle.wh_expr_parse.specs.Read.{read_literal, column_of, column, rows, operator_by, read_operator, links, chain}
+use Rattle.wh_expr_parse.specs.Read.{parenthesized, sum_call}
 use Rattle.wh_expr_parse.specs.Read.{count_by, count_call, call_or_column, primary_by, primary, negative, unary_by}
 use Rattle.wh_expr_parse.specs.Read.{unary, product, sum, compared, null_test, items_from, items, among, between}
 use Rattle.wh_expr_parse.specs.Read.{negated_by, negated_test, test_by, predicate, not_test, negation_by, negation}
 use Rattle.wh_expr_parse.specs.Read.{conjunction, whole, level, nested, ended, read_expr}
 use Rattle.wh_cursor.proofs.Names.{name-sound}
 use Rattle.wh_cursor.proofs.KeyLemmas.{fixed, Heads, heads, heads_at, binds_key}
+use Rattle.wh_cursor.proofs.ChainLemmas as chains
+use Rattle.wh_cursor.proofs.ChainLemmas.{Joins}
 use Rattle.wh_cursor.proofs.Yields.{Is, Yields, yields, nothing, follow, mapped}
 use Rattle.wh_expr_parse.proofs.Outcomes.{then_expect, then_spend, if_eaten, Took}
 
@@ -98,23 +101,19 @@ Parens d n ts x us = (d ≡ suc (d - 1)) × IsWhole (d - 1) n ts x (SignToken to
 
 -- ---- operators of one level
 
-turns-sound : (level : ℕ) (item : Reader Expr) (P Q : ℕ → List Token → Expr → List Token → Type 0)
+level-turn : (level : ℕ) (item : Reader Expr) (P Q : ℕ → List Token → Expr → List Token → Type 0)
     → ((m n : ℕ) (op : Operator) (ts us : List Token) (x y : Expr) (vs : List Token) → joins level (key_of us) ≡ Some op
     → P m ts x us → Q n (tail us) y vs → P (suc (m + n)) ts (e.Binary op x y) vs)
-    → ((s : State) → Yields (item s) (Took Q s)) → (s₀ : State) (fuel : ℕ) (x : Expr) (s : State) → Took P s₀ x s
-    → Yields (turns level item fuel x s) (Took P s₀)
-unfolding turns
-turns-sound level item P Q joined items s₀ zero x s h = yields x s h
-turns-sound level item P Q joined items s₀ (suc fuel) x s h =
-    by (turns-sound level item P Q joined items s₀ fuel) (joins level (key_of s.left)) refl
+    → ((s : State) → Yields (item s) (Took Q s)) → (s₀ : State) (x : Expr) (s : State) → Took P s₀ x s
+    → Yields (read_operator level s) (Joins (links level item) (Took P s₀) x)
+unfolding read_operator
+level-turn level item P Q joined items s₀ x s h = by (joins level (key_of s.left)) refl
   where
-    by : ((x : Expr) (s : State) → Took P s₀ x s → Yields (turns level item fuel x s) (Took P s₀))
-        → (op : Option Operator) → joins level (key_of s.left) ≡ op
-        → Yields (turn (turns level item fuel) item x op s) (Took P s₀)
-    by more None is = yields x s h
-    by more (Some op) is = then_spend (next s) _ (λ n one. follow (items (at (tail s.left) n)) (λ y t i.
-        more (e.Binary op x y) t
-        (record {
+    by : (op : Option Operator) → joins level (key_of s.left) ≡ op
+        → Yields (operator_by op s) (Joins (links level item) (Took P s₀) x)
+    by None is = yields None s h
+    by (Some op) is = then_spend (next s) _ (λ n one.
+        yields (Some op) (at (tail s.left) n) (mapped (items (at (tail s.left) n)) (λ y t i. record {
           count = suc (h.count + i.count);
           spent = omega (arith, one, h.spent, i.spent);
           is = joined h.count i.count op s₀.left s.left x y t.left is h.is i.is;
@@ -126,9 +125,9 @@ chain-sound : (level : ℕ) (item : Reader Expr) (P Q : ℕ → List Token → E
     → P m ts x us → Q n (tail us) y vs → P (suc (m + n)) ts (e.Binary op x y) vs)
     → ((s : State) → Yields (item s) (Took Q s)) → (s : State)
     → Yields (chain level item s) (Took P s)
-chain-sound level item P Q first joined items s = follow (items s) (λ x t h.
-    turns-sound level item P Q joined items s t.room x t
-    (record { count = h.count; spent = h.spent; is = first h.count s.left x t.left h.is }))
+chain-sound level item P Q first joined items s =
+    chains.chain-sound (links level item) (Took P s) (level-turn level item P Q joined items s) (λ t. t.room) s
+    (mapped (items s) (λ x t h. record { count = h.count; spent = h.spent; is = first h.count s.left x t.left h.is }))
 
 or-joined : (P : Operator → Type 0) (us : List Token) (op : Operator) → joins 1 (key_of us) ≡ Some op
     → (us ≡ Word (codes "OR") ∷ tail us → P o.Or)

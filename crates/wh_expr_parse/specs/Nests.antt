@@ -1,6 +1,4 @@
--- What a function value reads.
---     Nests           what stands inside, to a depth
---     ReadsOperand    an operand of a level's operators
+-- A function value that reads what stands inside an expression, to a depth.
 use Rattle.std.specs.Prelude.{ℕ, Result}
 use Rattle.std.specs.declared.alloc.Global.{Global}
 use denote.Ref.{MutBor}
@@ -8,7 +6,7 @@ use Rattle.wh_ast.specs.declared.expr.Expr.{Expr}
 use Rattle.wh_cursor.specs.declared.fault.ParseFault.{ParseFault}
 use Rattle.wh_expr_parse.specs.declared.grammar.Level.{Level}
 use Rattle.wh_cursor.specs.Gives.{Reads}
-use Rattle.wh_expr_parse.specs.State.{State, Reader}
+use Rattle.wh_expr_parse.specs.State.{State}
 use Rattle.wh_expr_parse.specs.Read.{nested}
 
 pub record Nests (depth : ℕ) (pre : Global → MutBor State → ℕ → Level → Type 0)
@@ -17,7 +15,3 @@ pub record Nests (depth : ℕ) (pre : Global → MutBor State → ℕ → Level 
   pub reads : (alloc : Global) (old new : MutBor State) (level : Level) (r : Result Expr ParseFault)
       → post alloc old depth level r new
       → Reads (nested depth level old.now) r new.now
-
-pub record ReadsOperand (operand : Reader Expr)
-    (post : MutBor State → Result Expr ParseFault → MutBor State → Type 0) : Type 0 where
-  pub reads : (old new : MutBor State) (r : Result Expr ParseFault) → post old r new → Reads (operand old.now) r new.now

@@ -18,6 +18,8 @@ use Rattle.wh_expr_parse.specs.declared.grammar.Level.TheVariants.{Whole, Negati
 use Rattle.wh_cursor.specs.Keys.{key_of, key_binds}
 use Rattle.wh_expr_parse.specs.Operators.{joins}
 use Rattle.wh_expr_parse.specs.State.{State, at, Reader, peek, skip, eat, expect, spend, plainly}
+use Rattle.wh_cursor.specs.Chains as chains
+use Rattle.wh_cursor.specs.Chains.{Links}
 use Rattle.wh_cursor.specs.Lists.{listed}
 use Rattle.wh_cursor.specs.Steps.{tail, ◌>>=◌, ◌>>◌, pure, refuse, sees, read_name}
 
@@ -50,23 +52,23 @@ rows = skip >> pure e.CountRows
 
 -- ---- operators of one level, from the left
 
-abbrev pub turn : (Expr → Reader Expr) → Reader Expr → Expr → Option Operator → Reader Expr
-turn more item x None = pure x
-turn more item x (Some op) = do
+abbrev pub operator_by : Option Operator → Reader (Option Operator)
+operator_by None = pure None
+operator_by (Some op) = do
   skip
   spend
-  y ← item
-  more (e.Binary op x y)
+  pure (Some op)
 
--- the number bounds the turns, and each turn spends one
-unfoldable pub turns : ℕ → Reader Expr → ℕ → Expr → Reader Expr
-turns level item zero x = pure x
-turns level item (suc n) x = λ s. turn (turns level item n) item x (joins level (key_of s.left)) s
+-- the operator of a level, if it comes next
+unfoldable pub read_operator : ℕ → Reader (Option Operator)
+read_operator level = λ s. operator_by (joins level (key_of s.left)) s
 
+abbrev pub links : ℕ → Reader Expr → Links State Expr Operator
+links level item = record { operator = read_operator level; operand = item; make = λ op x y. e.Binary op x y }
+
+-- each turn spends one
 abbrev pub chain : ℕ → Reader Expr → Reader Expr
-chain level item = do
-  x ← item
-  λ s. turns level item s.room x s
+chain level item = chains.chain (links level item) (λ s. s.room)
 
 -- ---- the levels, over what stands inside parentheses, NOT and minus signs
 

@@ -1,17 +1,18 @@
 //! The levels of operators, the loosest first.
 
 ghost use Rattle.std.specs.Prelude.{◌≡◌, [], true, false};
+ghost use Rattle.wh_cursor.specs.Chains.{ReadsBy};
 ghost use Rattle.wh_cursor.specs.Gives.{Reads};
 ghost use Rattle.wh_expr_parse.specs.Read as spec;
-ghost use Rattle.wh_expr_parse.specs.Nests.{Nests, ReadsOperand};
+ghost use Rattle.wh_expr_parse.specs.Nests.{Nests};
 
 use crate::grammar::{Grammar, Level};
-use crate::operators::joins;
+use crate::operators::read_operator;
 use crate::tokens::Tokens;
 use sqlite_items::Boxed;
 use std::alloc::Global;
 use wh_ast::Expr;
-use wh_cursor::{Key, ParseFault};
+use wh_cursor::{Key, ParseFault, joined};
 
 impl<F: Fn(Global, &mut Tokens<'_>, usize, Level) -> Result<Boxed<Expr>, ParseFault>> Grammar<F> {
     /// Operands with a level's operators between them, grouped to the left.
@@ -22,22 +23,22 @@ impl<F: Fn(Global, &mut Tokens<'_>, usize, Level) -> Result<Boxed<Expr>, ParseFa
         operand: &G,
     ) -> Result<Boxed<Expr>, ParseFault>
         requires callable { G.IsAlwaysCallable operand.now }
-        requires reads { ReadsOperand (spec.operand (spec.nested self.now.depth) level)
+        requires reads { ReadsBy (spec.operand (spec.nested self.now.depth) level)
             (G.post operand.now) }
         ensures { Reads (spec.chain level (spec.operand (spec.nested self.now.depth) level)
             tokens.old) result tokens.new }
     {
-        let mut left = operand(tokens)?;
-        for _turn in 0..tokens.room() {
-            let Some(operator) = joins(level, tokens.key()) else {
-                return Ok(left);
-            };
-            tokens.skip();
-            tokens.spend()?;
-            let right = operand(tokens)?;
-            left = Boxed::new(self.alloc, Expr::Binary(operator, left, right))?;
-        }
-        Ok(left)
+        let first = operand(tokens)?;
+        let most = tokens.room();
+        joined(
+            self.alloc,
+            tokens,
+            first,
+            most,
+            &|tokens| read_operator(level, tokens),
+            operand,
+            &|operator, x, y| Expr::Binary(operator, x, y),
+        )
     }
 
     /// Operands of OR.

@@ -1,8 +1,11 @@
 ghost use Rattle.std.specs.Prelude.{◌≡◌};
+ghost use Rattle.wh_cursor.specs.Gives.{Reads};
 ghost use Rattle.wh_expr_parse.specs.Operators as spec;
+ghost use Rattle.wh_expr_parse.specs.Read as read;
 
+use crate::tokens::Tokens;
 use wh_ast::Operator;
-use wh_cursor::{Key, binds};
+use wh_cursor::{Key, ParseFault, binds};
 
 fn operator(key: Key) -> Option<Operator>
     ensures { result ≡ spec.operator key }
@@ -19,7 +22,7 @@ fn operator(key: Key) -> Option<Operator>
 
 /// The operator of a level.
 #[tactic(auto, unfolding(crate::specs::Operators::joins))]
-pub fn joins(level: u8, key: Key) -> Option<Operator>
+fn joins(level: u8, key: Key) -> Option<Operator>
     ensures { result ≡ spec.joins level key }
 {
     if binds(key) == level {
@@ -27,4 +30,17 @@ pub fn joins(level: u8, key: Key) -> Option<Operator>
     } else {
         None
     }
+}
+
+/// Takes the operator of a level, if it comes next. It counts.
+#[tactic(auto, unfolding(crate::specs::Read::read_operator))]
+pub fn read_operator(level: u8, tokens: &mut Tokens<'_>) -> Result<Option<Operator>, ParseFault>
+    ensures { Reads (read.read_operator level tokens.old) result tokens.new }
+{
+    let Some(operator) = joins(level, tokens.key()) else {
+        return Ok(None);
+    };
+    tokens.skip();
+    tokens.spend()?;
+    Ok(Some(operator))
 }

@@ -64,10 +64,7 @@ pub fn exprs(alloc: Global, words: &mut Words<'_>, depth: usize) -> Result<Items
     ensures reads { Reads (read_exprs depth words.old) result words.new }
     ensures kept { OnErr result (words.new ≡ words.old) }
 {
-    let mut ahead = Words::new(words.rest());
-    let found = listed(alloc, &mut ahead, depth, &whole_expr)?;
-    *words = ahead;
-    Ok(found)
+    listed(alloc, words, depth, &whole_expr)
 }
 
 /// No tokens begin with two expressions, and an expression is a front of them. What `read_expr`

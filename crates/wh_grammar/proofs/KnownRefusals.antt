@@ -71,12 +71,12 @@ digits-1a (d ∷ f ∷ more) rest e some all stop =
     cc
 
 token-1a : (t : Token) (rest : List ℕ) → IsToken (codes "1a") t rest → ⊥
-token-1a t rest (lex.word b more e h all stop made is) = no-word refl e h
-token-1a t rest (lex.number digits e some all small stop is) = digits-1a digits rest e some all stop
-token-1a t rest (lex.text inside e made plain stop is) = omega (arith, first e)
-token-1a t rest (lex.quoted inside e made some stop is) = omega (arith, first e)
-token-1a t rest (lex.sign s e stop is) = no-sign (codes "1a") s rest refl e
-token-1a t rest (lex.other_unequal e is) = omega (arith, first e)
+token-1a t rest (lex.bare (lex.word b more e h all stop made is)) = no-word refl e h
+token-1a t rest (lex.bare (lex.number digits e some all small stop is)) = digits-1a digits rest e some all stop
+token-1a t rest (lex.enclosed (lex.text inside e made plain stop is)) = omega (arith, first e)
+token-1a t rest (lex.enclosed (lex.quoted inside e made some stop is)) = omega (arith, first e)
+token-1a t rest (lex.signed (lex.sign s e stop is)) = no-sign (codes "1a") s rest refl e
+token-1a t rest (lex.signed (lex.other_unequal e is)) = omega (arith, first e)
 
 gap-1a : (rest : List ℕ) → IsGap (codes "1a") rest → ⊥
 gap-1a rest (lex.blank b e h) = no-blank refl e h
@@ -103,12 +103,12 @@ quoted-none (b ∷ inside) rest e some =
     omega (arith, ap length e, length-append (doubled 34 (b ∷ inside)) (34 ∷ rest), some-doubled b inside)
 
 token-quotes : (t : Token) (rest : List ℕ) → IsToken (34 ∷ 34 ∷ []) t rest → ⊥
-token-quotes t rest (lex.word b more e h all stop made is) = no-word refl e h
-token-quotes t rest (lex.number digits e some all small stop is) = no-number digits rest refl e some all
-token-quotes t rest (lex.text inside e made plain stop is) = omega (arith, first e)
-token-quotes t rest (lex.quoted inside e made some stop is) = quoted-none inside rest e some
-token-quotes t rest (lex.sign s e stop is) = no-sign (34 ∷ 34 ∷ []) s rest refl e
-token-quotes t rest (lex.other_unequal e is) = omega (arith, first e)
+token-quotes t rest (lex.bare (lex.word b more e h all stop made is)) = no-word refl e h
+token-quotes t rest (lex.bare (lex.number digits e some all small stop is)) = no-number digits rest refl e some all
+token-quotes t rest (lex.enclosed (lex.text inside e made plain stop is)) = omega (arith, first e)
+token-quotes t rest (lex.enclosed (lex.quoted inside e made some stop is)) = quoted-none inside rest e some
+token-quotes t rest (lex.signed (lex.sign s e stop is)) = no-sign (34 ∷ 34 ∷ []) s rest refl e
+token-quotes t rest (lex.signed (lex.other_unequal e is)) = omega (arith, first e)
 
 gap-quotes : (rest : List ℕ) → IsGap (34 ∷ 34 ∷ []) rest → ⊥
 gap-quotes rest (lex.blank b e h) = no-blank refl e h
@@ -123,12 +123,12 @@ empty_name _ (lex.token k h) = token-quotes _ _ k
 -- ---- `/*/`: the star that opens a comment doesn't close it
 
 token-open : (t : Token) (rest : List ℕ) → IsToken (codes "/*/") t rest → ⊥
-token-open t rest (lex.word b more e h all stop made is) = no-word refl e h
-token-open t rest (lex.number digits e some all small stop is) = no-number digits rest refl e some all
-token-open t rest (lex.text inside e made plain stop is) = omega (arith, first e)
-token-open t rest (lex.quoted inside e made some stop is) = omega (arith, first e)
-token-open t rest (lex.sign s e stop is) = no-sign (codes "/*/") s rest refl e
-token-open t rest (lex.other_unequal e is) = omega (arith, first e)
+token-open t rest (lex.bare (lex.word b more e h all stop made is)) = no-word refl e h
+token-open t rest (lex.bare (lex.number digits e some all small stop is)) = no-number digits rest refl e some all
+token-open t rest (lex.enclosed (lex.text inside e made plain stop is)) = omega (arith, first e)
+token-open t rest (lex.enclosed (lex.quoted inside e made some stop is)) = omega (arith, first e)
+token-open t rest (lex.signed (lex.sign s e stop is)) = no-sign (codes "/*/") s rest refl e
+token-open t rest (lex.signed (lex.other_unequal e is)) = omega (arith, first e)
 
 gap-open : (rest : List ℕ) → IsGap (codes "/*/") rest → ⊥
 gap-open rest (lex.blank b e h) = no-blank refl e h
@@ -159,12 +159,12 @@ text-back (b ∷ inside) rest e plain =
     by false plain e = back-plain (passes is_plain e plain)
 
 token-back : (t : Token) (rest : List ℕ) → IsToken (39 ∷ 92 ∷ 39 ∷ []) t rest → ⊥
-token-back t rest (lex.word b more e h all stop made is) = no-word refl e h
-token-back t rest (lex.number digits e some all small stop is) = no-number digits rest refl e some all
-token-back t rest (lex.text inside e made plain stop is) = text-back inside rest e plain
-token-back t rest (lex.quoted inside e made some stop is) = omega (arith, first e)
-token-back t rest (lex.sign s e stop is) = no-sign (39 ∷ 92 ∷ 39 ∷ []) s rest refl e
-token-back t rest (lex.other_unequal e is) = omega (arith, first e)
+token-back t rest (lex.bare (lex.word b more e h all stop made is)) = no-word refl e h
+token-back t rest (lex.bare (lex.number digits e some all small stop is)) = no-number digits rest refl e some all
+token-back t rest (lex.enclosed (lex.text inside e made plain stop is)) = text-back inside rest e plain
+token-back t rest (lex.enclosed (lex.quoted inside e made some stop is)) = omega (arith, first e)
+token-back t rest (lex.signed (lex.sign s e stop is)) = no-sign (39 ∷ 92 ∷ 39 ∷ []) s rest refl e
+token-back t rest (lex.signed (lex.other_unequal e is)) = omega (arith, first e)
 
 gap-back : (rest : List ℕ) → IsGap (39 ∷ 92 ∷ 39 ∷ []) rest → ⊥
 gap-back rest (lex.blank b e h) = no-blank refl e h

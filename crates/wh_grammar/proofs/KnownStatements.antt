@@ -14,7 +14,7 @@ use Rattle.wh_grammar.specs.Name.{IsName, word}
 use Rattle.wh_grammar.specs.Expression.{IsWhole, one_and, or, one_not, one_test, not, one_sum, compared, equal}
 use Rattle.wh_grammar.specs.Expression.{one_product, plus, one_unary, times, one_prim, negative, number, column}
 use Rattle.wh_grammar.specs.Parts.{no_replace, last_column, more_columns, int, varchar, no_retention}
-use Rattle.wh_grammar.specs.Spelled.{IsPlain, create_table, begin_work}
+use Rattle.wh_grammar.specs.Spelled.{IsPlain, of_table, create_table, of_transaction, begin_work}
 
 abbrev name : List ℕ → Expr
 name bytes = e.Column None bytes
@@ -54,7 +54,8 @@ table : IsPlain (Word (codes "CREATE") ∷ Word (codes "TABLE") ∷ Word (codes 
           ∷ (record { name = codes "A"; column_type = types.Varchar }) ∷ [];
       retention = None;
     }))
-table = create_table no_replace (is_a _) (more_columns (is_b _) int (last_column (is_a _) varchar)) no_retention
+table = of_table (create_table no_replace (is_a _) (more_columns (is_b _) int (last_column (is_a _) varchar))
+    no_retention)
 
 begun : IsPlain (Word (codes "BEGIN") ∷ Word (codes "WORK") ∷ []) st.Begin
-begun = begin_work
+begun = of_transaction begin_work

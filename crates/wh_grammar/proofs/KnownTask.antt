@@ -14,7 +14,7 @@ use Rattle.wh_grammar.specs.Query.{no_filter}
 use Rattle.wh_grammar.specs.Changing.{delete}
 use Rattle.wh_grammar.specs.OptionText.{word_text}
 use Rattle.wh_grammar.specs.Parts.{asks, one_cand, one_cnot, has_data, no_more, nothing}
-use Rattle.wh_grammar.specs.Spelled.{follows_none, task_head, guarded_task, Spells}
+use Rattle.wh_grammar.specs.Spelled.{follows_none, task_head, create_task, guarded_task, Spells}
 use Rattle.wh_grammar.proofs.KnownTokens.{known_text}
 
 -- two blanks stand inside the statement that the task runs
@@ -46,20 +46,27 @@ space e more = gap (lex.blank 32 e refl) more
 
 has_tokens : HasTokens text (head ++ (guard ++ link ∷ body))
 has_tokens =
-    token (lex.word 67 (codes "REATE") refl refl refl refl (known_text (codes "CREATE") refl refl) refl) (space refl
-    (token (lex.word 84 (codes "ASK") refl refl refl refl (known_text (codes "TASK") refl refl) refl) (space refl
-    (token (lex.word 65 (codes "") refl refl refl refl (known_text (codes "A") refl refl) refl) (space refl
-    (token (lex.word 87 (codes "HEN") refl refl refl refl (known_text (codes "WHEN") refl refl) refl) (space refl
-    (token (lex.word 83 (codes "YSTEM$STREAM_HAS_DATA") refl refl refl refl
-    (known_text (codes "SYSTEM$STREAM_HAS_DATA") refl refl) refl)
-    (token (lex.sign LParen refl refl refl)
-    (token (lex.text (codes "S") refl (known_text (codes "S") refl refl) refl refl refl)
-    (token (lex.sign RParen refl refl refl) (space refl
-    (token (lex.word 65 (codes "S") refl refl refl refl (known_text (codes "AS") refl refl) refl) (space refl
-    (token (lex.word 68 (codes "ELETE") refl refl refl refl (known_text (codes "DELETE") refl refl) refl)
+    token (lex.bare (lex.word 67 (codes "REATE") refl refl refl refl (known_text (codes "CREATE") refl refl) refl))
+    (space refl
+    (token (lex.bare (lex.word 84 (codes "ASK") refl refl refl refl (known_text (codes "TASK") refl refl) refl))
+    (space refl
+    (token (lex.bare (lex.word 65 (codes "") refl refl refl refl (known_text (codes "A") refl refl) refl))
+    (space refl
+    (token (lex.bare (lex.word 87 (codes "HEN") refl refl refl refl (known_text (codes "WHEN") refl refl) refl))
+    (space refl
+    (token (lex.bare (lex.word 83 (codes "YSTEM$STREAM_HAS_DATA") refl refl refl refl
+    (known_text (codes "SYSTEM$STREAM_HAS_DATA") refl refl) refl))
+    (token (lex.signed (lex.sign LParen refl refl refl))
+    (token (lex.enclosed (lex.text (codes "S") refl (known_text (codes "S") refl refl) refl refl refl))
+    (token (lex.signed (lex.sign RParen refl refl refl)) (space refl
+    (token (lex.bare (lex.word 65 (codes "S") refl refl refl refl (known_text (codes "AS") refl refl) refl))
+    (space refl
+    (token (lex.bare (lex.word 68 (codes "ELETE") refl refl refl refl (known_text (codes "DELETE") refl refl) refl))
     (space refl (space refl
-    (token (lex.word 70 (codes "ROM") refl refl refl refl (known_text (codes "FROM") refl refl) refl) (space refl
-    (token (lex.word 84 (codes "") refl refl refl refl (known_text (codes "T") refl refl) refl) end))))))))))))))))))))
+    (token (lex.bare (lex.word 70 (codes "ROM") refl refl refl refl (known_text (codes "FROM") refl refl) refl))
+    (space refl
+    (token (lex.bare (lex.word 84 (codes "") refl refl refl refl (known_text (codes "T") refl refl) refl))
+    end))))))))))))))))))))
 
 -- each kept text is what stands from its first token to its last, the blanks inside with it and those around it not
 task : Statement
@@ -78,11 +85,12 @@ task_with_its_texts = record {
   utf8 = (known_text text refl refl).utf8;
   placed = head ++ (guard ++ link ∷ body);
   tokens = has_tokens;
-  is_statement = guarded_task head guard body link refl
+  is_statement = create_task (guarded_task head guard body link refl
       (task_head (name.word refl refl) no_more nothing follows_none (inl refl))
       (one_cand (one_cnot (has_data (asks
-      (word_text (lex.word 83 (codes "") refl refl refl refl (known_text (codes "S") refl refl) refl) refl)))))
+      (word_text (lex.bare (lex.word 83 (codes "") refl refl refl refl (known_text (codes "S") refl refl) refl))
+      refl)))))
       (record { is = refl; short = omega arith }) refl
       (delete (name.word refl refl) no_filter)
-      (record { is = refl; short = omega arith });
+      (record { is = refl; short = omega arith }));
 }

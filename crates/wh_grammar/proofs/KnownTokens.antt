@@ -7,7 +7,7 @@ use Rattle.std.proofs.lemmas.Bool.{and_parts}
 use Rattle.std.proofs.lemmas.Str.{IsUtf8-from_ascii}
 use Rattle.wh_value.specs.Value.{IsText}
 use Rattle.wh_grammar.specs.Token.{Word, NumberToken, SignToken, AtMost}
-use Rattle.wh_grammar.specs.Lexing.{blank, last_comment, word, number, sign, HasTokens, end, gap, token}
+use Rattle.wh_grammar.specs.Lexing.{blank, last_comment, bare, word, number, signed, sign, HasTokens, end, gap, token}
 
 ascii : (bytes : List ℕ) → list_all (λ b. ltb b 128) bytes ≡ true → IsAscii bytes
 ascii [] h i = omega arith
@@ -25,8 +25,8 @@ read : HasTokens (codes "a1<= 7--x")
     ∷ (record { token = SignToken AtMost; from = 7; behind = 5 })
     ∷ (record { token = NumberToken 7; from = 4; behind = 3 }) ∷ [])
 read =
-    token (word 97 (codes "1") refl refl refl refl (known_text (codes "A1") refl refl) refl)
-    (token (sign AtMost refl refl refl)
+    token (bare (word 97 (codes "1") refl refl refl refl (known_text (codes "A1") refl refl) refl))
+    (token (signed (sign AtMost refl refl refl))
     (gap (blank 32 refl refl)
-    (token (number (codes "7") refl (λ e. cc) refl (omega arith) refl refl)
+    (token (bare (number (codes "7") refl (λ e. cc) refl (omega arith) refl refl))
     (gap (last_comment (codes "x") refl refl refl) end))))

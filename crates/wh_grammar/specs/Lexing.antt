@@ -94,8 +94,8 @@ is_plain b = not (b == 92)
 abbrev pub doubled : ℕ → List ℕ → List ℕ
 doubled quote inside = flat_map (λ b. if b == quote then quote ∷ quote ∷ [] else b ∷ []) inside
 
--- a token at the front of the bytes, and what follows it; a word, a name and a text have at most 65,536 bytes each
-pub data IsToken (bytes : List ℕ) (t : Token) (rest : List ℕ) : Type 0 where
+-- a word or a number at the front of the bytes, and what follows it; a word has at most 65,536 bytes
+pub data IsBare (bytes : List ℕ) (t : Token) (rest : List ℕ) : Type 0 where
   word : (b : ℕ) (more : List ℕ)
       → bytes ≡ b ∷ (more ++ rest)
       → IsTrue (begins_word b)
@@ -103,7 +103,7 @@ pub data IsToken (bytes : List ℕ) (t : Token) (rest : List ℕ) : Type 0 where
       → begins_with is_word_byte rest ≡ false
       → IsText (map upper (b ∷ more))
       → t ≡ Word (map upper (b ∷ more))
-      → IsToken bytes t rest
+      → IsBare bytes t rest
   -- at most 18 digits behind leading zeros, and no letter behind them
   number : (digits : List ℕ)
       → bytes ≡ digits ++ rest
@@ -112,7 +112,10 @@ pub data IsToken (bytes : List ℕ) (t : Token) (rest : List ℕ) : Type 0 where
       → number_behind 0 digits < 1000000000000000000
       → begins_with is_word_byte rest ≡ false
       → t ≡ NumberToken (number_behind 0 digits)
-      → IsToken bytes t rest
+      → IsBare bytes t rest
+
+-- a text or a name between quotes, of at most 65,536 bytes
+pub data IsEnclosed (bytes : List ℕ) (t : Token) (rest : List ℕ) : Type 0 where
   -- characters without a backslash
   text : (inside : List ℕ)
       → bytes ≡ 39 ∷ (doubled 39 inside ++ 39 ∷ rest)
@@ -120,21 +123,30 @@ pub data IsToken (bytes : List ℕ) (t : Token) (rest : List ℕ) : Type 0 where
       → IsTrue (list_all is_plain inside)
       → begins_with (is_byte 39) rest ≡ false
       → t ≡ TextToken inside
-      → IsToken bytes t rest
+      → IsEnclosed bytes t rest
   quoted : (inside : List ℕ)
       → bytes ≡ 34 ∷ (doubled 34 inside ++ 34 ∷ rest)
       → IsText inside
       → inside ≢ []
       → begins_with (is_byte 34) rest ≡ false
       → t ≡ Quoted inside
-      → IsToken bytes t rest
+      → IsEnclosed bytes t rest
+
+-- a sign that nothing behind it makes longer
+pub data IsSign (bytes : List ℕ) (t : Token) (rest : List ℕ) : Type 0 where
   sign : (s : Sign)
       → bytes ≡ sign_bytes s ++ rest
       → begins_with (extends s) rest ≡ false
       → t ≡ SignToken s
-      → IsToken bytes t rest
+      → IsSign bytes t rest
   -- `!=` is `<>`
-  other_unequal : bytes ≡ 33 ∷ 61 ∷ rest → t ≡ SignToken Unequal → IsToken bytes t rest
+  other_unequal : bytes ≡ 33 ∷ 61 ∷ rest → t ≡ SignToken Unequal → IsSign bytes t rest
+
+-- a token at the front of the bytes, and what follows it
+pub data IsToken (bytes : List ℕ) (t : Token) (rest : List ℕ) : Type 0 where
+  bare : IsBare bytes t rest → IsToken bytes t rest
+  enclosed : IsEnclosed bytes t rest → IsToken bytes t rest
+  signed : IsSign bytes t rest → IsToken bytes t rest
 
 -- gaps and tokens, one after the other to the end of the bytes
 pub data HasTokens : List ℕ → List Placed → Type 0 where

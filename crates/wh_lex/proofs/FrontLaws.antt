@@ -9,7 +9,7 @@ use Rattle.wh_value.specs.Value.{IsText}
 use Rattle.wh_grammar.specs.Bytes.{is_blank, is_digit, begins_word, is_word_byte, upper, number_behind}
 use Rattle.wh_grammar.specs.Token.{Token, Word, Quoted, TextToken, NumberToken}
 use Rattle.wh_grammar.specs.Lexing.{IsGap, blank, IsToken, word, number, text, quoted, sign, other_unequal, begins_with}
-use Rattle.wh_grammar.specs.Lexing.{is_byte, is_plain, doubled}
+use Rattle.wh_grammar.specs.Lexing.{bare, enclosed, signed, is_byte, is_plain, doubled}
 use Rattle.wh_lex.specs.Front.{Front, gap, token, text_of, word_len, word_front, number_from, number_front, quoted_of}
 use Rattle.wh_lex.specs.Front.{text_front, name_front, line_rest, comment_rest, front_behind, front_of}
 use Rattle.wh_lex.proofs.WordLemmas.{all-prefix, stops-prefix, prefix_len-front, word-not_blank, begins-word}
@@ -32,8 +32,8 @@ word-stands b bytes h =
     let made : List ℕ = map upper (b ∷ take n bytes) in
     let here : Stands (b ∷ bytes) (option_map (λ w. token (Word w) (drop n bytes)) (text_of made)) =
     of_text (λ o. Stands (b ∷ bytes) (option_map (λ w. token (Word w) (drop n bytes)) o)) made
-    (λ t. word b (take n bytes) (ap (λ l. b ∷ l) (sym (take-append-drop n bytes))) h (all-prefix is_word_byte bytes)
-    (stops-prefix is_word_byte bytes) t refl) tt in
+    (λ t. bare (word b (take n bytes) (ap (λ l. b ∷ l) (sym (take-append-drop n bytes))) h
+    (all-prefix is_word_byte bytes) (stops-prefix is_word_byte bytes) t refl)) tt in
     simp (k, one-add) here
 
 number_by : (bytes digits rest : List ℕ) (r : Bool) → bytes ≡ digits ++ rest → digits ≢ []
@@ -41,7 +41,7 @@ number_by : (bytes digits rest : List ℕ) (r : Bool) → bytes ≡ digits ++ re
     → Stands bytes (option_map (λ n. token (NumberToken n) rest) (if r then Some (number_behind 0 digits) else None))
 number_by bytes digits rest true e some stop h =
     let both = and_parts (list_all is_digit digits) (ltb (number_behind 0 digits) limit) h in
-    number digits e some both.0 (ltb-true (number_behind 0 digits) limit both.1) stop refl
+    bare (number digits e some both.0 (ltb-true (number_behind 0 digits) limit both.1) stop refl)
 number_by bytes digits rest false e some stop h = tt
 
 number-stands : (b : ℕ) (bytes : List ℕ) → is_digit b ≡ true → Stands (b ∷ bytes) (number_front (b ∷ bytes))
@@ -60,7 +60,7 @@ text_by bytes None h = tt
 text_by bytes (Some p) h =
     by_test (Stands (39 ∷ bytes)) (list_all is_plain p.0) _ _
     (λ plain. of_text (λ o. Stands (39 ∷ bytes) (option_map (λ t. token (TextToken t) p.1) o)) p.0
-    (λ made. text p.0 (ap (λ l. 39 ∷ l) h.0) made plain h.1 refl) tt)
+    (λ made. enclosed (text p.0 (ap (λ l. 39 ∷ l) h.0) made plain h.1 refl)) tt)
     (λ _. tt)
 
 not_empty : (bytes : List ℕ) → (length bytes == 0) ≡ false → bytes ≢ []
@@ -72,7 +72,7 @@ name_by bytes None h = tt
 name_by bytes (Some p) h =
     by_test (Stands (34 ∷ bytes)) (length p.0 == 0) _ _ (λ _. tt)
     (λ some. of_text (λ o. Stands (34 ∷ bytes) (option_map (λ t. token (Quoted t) p.1) o)) p.0
-    (λ made. quoted p.0 (ap (λ l. 34 ∷ l) h.0) made (not_empty p.0 some) h.1 refl) tt)
+    (λ made. enclosed (quoted p.0 (ap (λ l. 34 ∷ l) h.0) made (not_empty p.0 some) h.1 refl)) tt)
 
 -- ---- gaps do
 
@@ -176,14 +176,15 @@ name_is_read inside rest made some stop =
 
 pub token_is_read : (bytes : List ℕ) (t : Token) (rest : List ℕ) → IsToken bytes t rest
     → front_of bytes ≡ Some (token t rest)
-token_is_read bytes t rest (word b more e h all stop made is) =
+token_is_read bytes t rest (bare (word b more e h all stop made is)) =
     ap front_of e ∙ word_is_read b more rest h all stop made ∙ ap (λ u. Some (token u rest)) (sym is)
-token_is_read bytes t rest (number digits e some all small stop is) =
+token_is_read bytes t rest (bare (number digits e some all small stop is)) =
     ap front_of e ∙ number_is_read digits rest some all small stop ∙ ap (λ u. Some (token u rest)) (sym is)
-token_is_read bytes t rest (text inside e made plain stop is) =
+token_is_read bytes t rest (enclosed (text inside e made plain stop is)) =
     ap front_of e ∙ text_is_read inside rest made plain stop ∙ ap (λ u. Some (token u rest)) (sym is)
-token_is_read bytes t rest (quoted inside e made some stop is) =
+token_is_read bytes t rest (enclosed (quoted inside e made some stop is)) =
     ap front_of e ∙ name_is_read inside rest made some stop ∙ ap (λ u. Some (token u rest)) (sym is)
-token_is_read bytes t rest (sign s e stop is) = sign_is_read s bytes rest e stop
+token_is_read bytes t rest (signed (sign s e stop is)) = sign_is_read s bytes rest e stop
     ∙ ap (λ u. Some (token u rest)) (sym is)
-token_is_read bytes t rest (other_unequal e is) = unequal_is_read bytes rest e ∙ ap (λ u. Some (token u rest)) (sym is)
+token_is_read bytes t rest (signed (other_unequal e is)) =
+    unequal_is_read bytes rest e ∙ ap (λ u. Some (token u rest)) (sym is)

@@ -5,7 +5,7 @@ use Rattle.std.proofs.lemmas.Bool.{and_parts}
 use Rattle.std.proofs.lemmas.Bool.Decides.{nat_tests}
 use Rattle.wh_grammar.specs.Token.{Sign, LParen, RParen, Comma, Dot, Star, Plus, Minus, Equal, Unequal, Less, AtMost}
 use Rattle.wh_grammar.specs.Token.{Greater, AtLeast, Arrow, SignToken}
-use Rattle.wh_grammar.specs.Lexing.{IsToken, sign, other_unequal, sign_bytes, extends, begins_with, is_byte}
+use Rattle.wh_grammar.specs.Lexing.{IsToken, signed, sign, other_unequal, sign_bytes, extends, begins_with, is_byte}
 use Rattle.wh_lex.proofs.Standing.{by_test, Stands, or_false}
 use Rattle.wh_lex.specs.Front.{single, double, sign_if, sign_front, front_of, front_behind, token}
 
@@ -27,15 +27,15 @@ two b c x y h bytes =
 double-IsDouble : (b c : ℕ) → IsDouble b c (double b c)
 double-IsDouble b c =
     by_test (IsDouble b c) (b == 60 && c == 61) _ _
-    (λ h bytes. sign AtMost (two b c 60 61 h bytes) (none_begins bytes) refl) (λ _.
+    (λ h bytes. signed (sign AtMost (two b c 60 61 h bytes) (none_begins bytes) refl)) (λ _.
     by_test (IsDouble b c) (b == 60 && c == 62) _ _
-    (λ h bytes. sign Unequal (two b c 60 62 h bytes) (none_begins bytes) refl) (λ _.
+    (λ h bytes. signed (sign Unequal (two b c 60 62 h bytes) (none_begins bytes) refl)) (λ _.
     by_test (IsDouble b c) (b == 62 && c == 61) _ _
-    (λ h bytes. sign AtLeast (two b c 62 61 h bytes) (none_begins bytes) refl) (λ _.
+    (λ h bytes. signed (sign AtLeast (two b c 62 61 h bytes) (none_begins bytes) refl)) (λ _.
     by_test (IsDouble b c) (b == 61 && c == 62) _ _
-    (λ h bytes. sign Arrow (two b c 61 62 h bytes) (none_begins bytes) refl) (λ _.
+    (λ h bytes. signed (sign Arrow (two b c 61 62 h bytes) (none_begins bytes) refl)) (λ _.
     by_test (IsDouble b c) (b == 33 && c == 61) _ _
-    (λ h bytes. other_unequal (two b c 33 61 h bytes) refl) (λ _. tt)))))
+    (λ h bytes. signed (other_unequal (two b c 33 61 h bytes) refl)) (λ _. tt)))))
 
 -- ---- one byte
 
@@ -48,16 +48,17 @@ one b x h bytes = ap (λ n. n ∷ bytes) (eqb-true b x h)
 
 single-IsSingle : (b : ℕ) → IsSingle b (single b)
 single-IsSingle b =
-    by_test (IsSingle b) (b == 40) _ _ (λ h bytes stop. sign LParen (one b 40 h bytes) stop refl) (λ _.
-    by_test (IsSingle b) (b == 41) _ _ (λ h bytes stop. sign RParen (one b 41 h bytes) stop refl) (λ _.
-    by_test (IsSingle b) (b == 44) _ _ (λ h bytes stop. sign Comma (one b 44 h bytes) stop refl) (λ _.
-    by_test (IsSingle b) (b == 46) _ _ (λ h bytes stop. sign Dot (one b 46 h bytes) stop refl) (λ _.
-    by_test (IsSingle b) (b == 42) _ _ (λ h bytes stop. sign Star (one b 42 h bytes) stop refl) (λ _.
-    by_test (IsSingle b) (b == 43) _ _ (λ h bytes stop. sign Plus (one b 43 h bytes) stop refl) (λ _.
-    by_test (IsSingle b) (b == 45) _ _ (λ h bytes stop. sign Minus (one b 45 h bytes) stop refl) (λ _.
-    by_test (IsSingle b) (b == 61) _ _ (λ h bytes stop. sign Equal (one b 61 h bytes) stop refl) (λ _.
-    by_test (IsSingle b) (b == 60) _ _ (λ h bytes stop. sign Less (one b 60 h bytes) stop refl) (λ _.
-    by_test (IsSingle b) (b == 62) _ _ (λ h bytes stop. sign Greater (one b 62 h bytes) stop refl) (λ _. tt))))))))))
+    by_test (IsSingle b) (b == 40) _ _ (λ h bytes stop. signed (sign LParen (one b 40 h bytes) stop refl)) (λ _.
+    by_test (IsSingle b) (b == 41) _ _ (λ h bytes stop. signed (sign RParen (one b 41 h bytes) stop refl)) (λ _.
+    by_test (IsSingle b) (b == 44) _ _ (λ h bytes stop. signed (sign Comma (one b 44 h bytes) stop refl)) (λ _.
+    by_test (IsSingle b) (b == 46) _ _ (λ h bytes stop. signed (sign Dot (one b 46 h bytes) stop refl)) (λ _.
+    by_test (IsSingle b) (b == 42) _ _ (λ h bytes stop. signed (sign Star (one b 42 h bytes) stop refl)) (λ _.
+    by_test (IsSingle b) (b == 43) _ _ (λ h bytes stop. signed (sign Plus (one b 43 h bytes) stop refl)) (λ _.
+    by_test (IsSingle b) (b == 45) _ _ (λ h bytes stop. signed (sign Minus (one b 45 h bytes) stop refl)) (λ _.
+    by_test (IsSingle b) (b == 61) _ _ (λ h bytes stop. signed (sign Equal (one b 61 h bytes) stop refl)) (λ _.
+    by_test (IsSingle b) (b == 60) _ _ (λ h bytes stop. signed (sign Less (one b 60 h bytes) stop refl)) (λ _.
+    by_test (IsSingle b) (b == 62) _ _ (λ h bytes stop. signed (sign Greater (one b 62 h bytes) stop refl))
+    (λ _. tt))))))))))
 
 -- a sign of one byte, where two bytes are none and no comment
 abbrev Stops : ℕ → Option Sign → Type 0

@@ -4,7 +4,8 @@ use Rattle.std.proofs.Common.{refl, sym, ap, ◌∙◌, subst, append_assoc, app
 use Rattle.std.proofs.lemmas.Option.{same_Some}
 use Rattle.wh_grammar.specs.Token.{Sign, LParen, Token, Placed}
 use Rattle.wh_grammar.specs.Lexing.{IsGap, blank, line_comment, last_comment, comment, IsToken, word, number, text}
-use Rattle.wh_grammar.specs.Lexing.{quoted, sign, other_unequal, sign_bytes, doubled, HasTokens, end, gap, token}
+use Rattle.wh_grammar.specs.Lexing.{quoted, sign, other_unequal, bare, enclosed, signed, sign_bytes, doubled, HasTokens}
+use Rattle.wh_grammar.specs.Lexing.{end, gap, token}
 use Rattle.wh_lex.specs.Front.{Front, front_of, placed_at}
 use Rattle.wh_lex.specs.declared.fault.LexFault.{LexFault}
 use Rattle.wh_lex.specs.declared.fault.LexFault.TheVariants.{SyntaxError, OutOfMemory}
@@ -130,16 +131,17 @@ sign-long LParen = omega arith
 sign-long _ = omega arith
 
 token-shorter : (bytes : List ℕ) (t : Token) (rest : List ℕ) → IsToken bytes t rest → length rest < length bytes
-token-shorter bytes t rest (word b more e h all stop made is) = omega (arith, ap length e, length-append more rest)
-token-shorter bytes t rest (number digits e some all small stop is) =
+token-shorter bytes t rest (bare (word b more e h all stop made is)) =
+    omega (arith, ap length e, length-append more rest)
+token-shorter bytes t rest (bare (number digits e some all small stop is)) =
     omega (arith, ap length e, length-append digits rest, some-long digits some)
-token-shorter bytes t rest (text inside e utf8 plain stop is) =
+token-shorter bytes t rest (enclosed (text inside e utf8 plain stop is)) =
     omega (arith, ap length e, length-append (doubled 39 inside) (39 ∷ rest))
-token-shorter bytes t rest (quoted inside e utf8 some stop is) =
+token-shorter bytes t rest (enclosed (quoted inside e utf8 some stop is)) =
     omega (arith, ap length e, length-append (doubled 34 inside) (34 ∷ rest))
-token-shorter bytes t rest (sign s e stop is) =
+token-shorter bytes t rest (signed (sign s e stop is)) =
     omega (arith, ap length e, length-append (sign_bytes s) rest, sign-long s)
-token-shorter bytes t rest (other_unequal e is) = omega (arith, ap length e)
+token-shorter bytes t rest (signed (other_unequal e is)) = omega (arith, ap length e)
 
 read-shorter : (bytes : List ℕ) (t : Option Token) (rest : List ℕ) → IsRead bytes t rest → length rest < length bytes
 read-shorter bytes None rest g = gap-shorter bytes rest g
@@ -152,12 +154,12 @@ front-shorter bytes t rest e = read-shorter bytes t rest (front_is_read bytes t 
 -- ---- numbers are of at most 18 digits
 
 token-IsWithin : (bytes : List ℕ) (t : Token) (rest : List ℕ) → IsToken bytes t rest → IsWithin t
-token-IsWithin bytes t rest (word b more e h all stop made is) = subst IsWithin (sym is) tt
-token-IsWithin bytes t rest (number digits e some all small stop is) = subst IsWithin (sym is) small
-token-IsWithin bytes t rest (text inside e utf8 plain stop is) = subst IsWithin (sym is) tt
-token-IsWithin bytes t rest (quoted inside e utf8 some stop is) = subst IsWithin (sym is) tt
-token-IsWithin bytes t rest (sign s e stop is) = subst IsWithin (sym is) tt
-token-IsWithin bytes t rest (other_unequal e is) = subst IsWithin (sym is) tt
+token-IsWithin bytes t rest (bare (word b more e h all stop made is)) = subst IsWithin (sym is) tt
+token-IsWithin bytes t rest (bare (number digits e some all small stop is)) = subst IsWithin (sym is) small
+token-IsWithin bytes t rest (enclosed (text inside e utf8 plain stop is)) = subst IsWithin (sym is) tt
+token-IsWithin bytes t rest (enclosed (quoted inside e utf8 some stop is)) = subst IsWithin (sym is) tt
+token-IsWithin bytes t rest (signed (sign s e stop is)) = subst IsWithin (sym is) tt
+token-IsWithin bytes t rest (signed (other_unequal e is)) = subst IsWithin (sym is) tt
 
 pub front-IsWithin : (bytes : List ℕ) (kind : Option Kind) (rest : List ℕ)
     → front_of bytes ≡ Some (option_map token_of kind, rest)

@@ -13,47 +13,48 @@ use Rattle.wh_cursor.specs.declared.key.Key.TheVariants as k
 use Rattle.wh_cursor.specs.Keys.{same_key, key_of}
 use Rattle.wh_cursor.specs.Steps.{tail, sees, Reader, and_then, sees_word}
 use Rattle.wh_cursor.proofs.KeyLemmas.{heads}
+use Rattle.wh_option_parse.specs.declared.levels.Connective.{Connective}
+use Rattle.wh_option_parse.specs.declared.levels.Connective.TheVariants.{Or, And}
 use Rattle.wh_option_parse.specs.declared.levels.Level.{Level}
 use Rattle.wh_option_parse.specs.declared.levels.Level.TheVariants.{Whole, Negation}
 use Rattle.wh_option_parse.specs.Follow.{ends_condition, IsConditionAt}
 use Rattle.wh_option_parse.specs.Laws as laws
 use Rattle.wh_option_parse.specs.Read as read
-use Rattle.wh_option_parse.specs.Read.{turn, turns, chain, either, both, negated, parenthesized, negation_by, negation}
-use Rattle.wh_option_parse.specs.Read.{conjunction, whole, nested, no_operator, read_condition}
-use Rattle.wh_cursor.proofs.Yields.{Yields, yields, nothing, follow, yielded}
+use Rattle.wh_option_parse.specs.Read.{word_of, connected, read_connective, links, chain, negated, parenthesized}
+use Rattle.wh_option_parse.specs.Read.{negation_by, negation, conjunction, whole, nested, no_operator, read_condition}
+use Rattle.wh_cursor.proofs.ChainLemmas as chains
+use Rattle.wh_cursor.proofs.ChainLemmas.{Joins}
+use Rattle.wh_cursor.proofs.Yields.{Yields, yields, nothing, follow, mapped, yielded}
 use Rattle.wh_cursor.proofs.Combine.{sees_word_some, sees_word_is, then_expect_key, rparen_reads}
 use Rattle.wh_option_parse.proofs.LagLemmas.{asked_yields, asked_given}
 use Rattle.wh_option_parse.proofs.Frames.{cand-frame, cnot-frame, rest-short}
 
 -- ---- what is read stands there
 
-turns-sound : (w : List ℕ) (join : Condition → Condition → Condition) (item : Reader Condition)
-    (P Q : List Token → Condition → List Token → Type 0)
-    → ((ts us : List Token) (x y : Condition) (vs : List Token) → P ts x (Word w ∷ us) → Q us y vs → P ts (join x y) vs)
-    → ((ts : List Token) → Yields (item ts) (Q ts)) → (ts₀ : List Token) (fuel : ℕ) (x : Condition) (ts : List Token)
-    → P ts₀ x ts
-    → Yields (turns w join item fuel x ts) (P ts₀)
-unfolding turns
-turns-sound w join item P Q joined items ts₀ zero x ts h = yields x ts h
-turns-sound w join item P Q joined items ts₀ (suc fuel) x ts h =
-    by (turns-sound w join item P Q joined items ts₀ fuel) (sees_word w ts) refl
+connective-turn : (k : Connective) (item : Reader Condition) (P Q : List Token → Condition → List Token → Type 0)
+    → ((ts us : List Token) (x y : Condition) (vs : List Token) → P ts x (Word (word_of k) ∷ us) → Q us y vs
+    → P ts (connected k x y) vs)
+    → ((ts : List Token) → Yields (item ts) (Q ts)) → (ts₀ : List Token) (x : Condition) (ts : List Token) → P ts₀ x ts
+    → Yields (read_connective k ts) (Joins (links k item) (P ts₀) x)
+unfolding read_connective
+connective-turn k item P Q joined items ts₀ x ts h = by (sees_word (word_of k) ts) refl
   where
-    by : ((x : Condition) (ts : List Token) → P ts₀ x ts → Yields (turns w join item fuel x ts) (P ts₀)) → (r : Bool)
-        → sees_word w ts ≡ r
-        → Yields (turn (turns w join item fuel) item join x r ts) (P ts₀)
-    by more false e = yields x ts h
-    by more true e = follow (items (tail ts)) (λ y vs i.
-        more (join x y) vs
-        (joined ts₀ (tail ts) x y vs (subst (λ (us : List Token). P ts₀ x us) (sees_word_some w ts e) h) i))
+    by : (r : Bool) → sees_word (word_of k) ts ≡ r
+        → Yields (Some (if◌then◌else◌ {A = Option Connective} r (Some k) None, if r then tail ts else ts))
+        (Joins (links k item) (P ts₀) x)
+    by false e = yields None ts h
+    by true e = yields (Some k) (tail ts) (mapped (items (tail ts)) (λ y vs i.
+        joined ts₀ (tail ts) x y vs (subst (λ (us : List Token). P ts₀ x us) (sees_word_some (word_of k) ts e) h) i))
 
-chain-sound : (w : List ℕ) (join : Condition → Condition → Condition) (item : Reader Condition)
-    (P Q : List Token → Condition → List Token → Type 0)
+chain-sound : (k : Connective) (item : Reader Condition) (P Q : List Token → Condition → List Token → Type 0)
     → ((ts : List Token) (x : Condition) (us : List Token) → Q ts x us → P ts x us)
-    → ((ts us : List Token) (x y : Condition) (vs : List Token) → P ts x (Word w ∷ us) → Q us y vs → P ts (join x y) vs)
+    → ((ts us : List Token) (x y : Condition) (vs : List Token) → P ts x (Word (word_of k) ∷ us) → Q us y vs
+    → P ts (connected k x y) vs)
     → ((ts : List Token) → Yields (item ts) (Q ts)) → (ts : List Token)
-    → Yields (chain w join item ts) (P ts)
-chain-sound w join item P Q one joined items ts =
-    follow (items ts) (λ x us h. turns-sound w join item P Q joined items ts (length us) x us (one ts x us h))
+    → Yields (chain k item ts) (P ts)
+chain-sound k item P Q one joined items ts =
+    chains.chain-sound (links k item) (P ts) (connective-turn k item P Q joined items ts) length ts
+    (mapped (items ts) (one ts))
 
 record Inside (inner : Level → Reader Condition) (d : ℕ) : Type 0 where
   whole : (ts : List Token) → Yields (inner Whole ts) (IsCondition d ts)
@@ -92,12 +93,12 @@ module _ (inner : Level → Reader Condition) (d : ℕ) (inside : Inside inner d
 
   conjunction-sound : (ts : List Token) → Yields (conjunction inner ts) (IsAndCondition (suc d) ts)
   unfolding conjunction
-  conjunction-sound = chain-sound (codes "AND") both (negation inner) (IsAndCondition (suc d)) (IsNotCondition (suc d))
+  conjunction-sound = chain-sound And (negation inner) (IsAndCondition (suc d)) (IsNotCondition (suc d))
       (λ ts x us. one_cnot) (λ ts us x y vs. and_condition) negation-sound
 
   whole-sound : (ts : List Token) → Yields (whole inner ts) (IsCondition (suc d) ts)
   unfolding whole
-  whole-sound = chain-sound (codes "OR") either (conjunction inner) (IsCondition (suc d)) (IsAndCondition (suc d))
+  whole-sound = chain-sound Or (conjunction inner) (IsCondition (suc d)) (IsAndCondition (suc d))
       (λ ts x us. one_cand) (λ ts us x y vs. or_condition) conjunction-sound
 
 nested-sound : (d : ℕ) → Inside (nested d) d
@@ -143,40 +144,28 @@ condition_yields d ts = follow ((nested-sound d).whole ts)
 -- ---- what stands there is read
 
 -- the turns have come to x
-record Comes (w : List ℕ) (join : Condition → Condition → Condition) (item r : Reader Condition) (ts : List Token)
+record Comes (k : Connective) (item r : Reader Condition) (ts : List Token)
     (x : Condition) (us : List Token) : Type 0 where
-  fuel : ℕ
-  enough : length us ≤ fuel
-  run : r ts ≡ turns w join item fuel x us
+  run : chains.Comes (links k item) (r ts) (length us) x us
 
-comes-first : {w : List ℕ} {join : Condition → Condition → Condition} {item : Reader Condition}
-    {ts us : List Token} {x : Condition}
-    → item ts ≡ Some (x, us)
-    → Comes w join item (chain w join item) ts x us
-comes-first {us = us} h = record { fuel = length us; enough = omega arith; run = rw h refl }
+connective-reads : (k : Connective) (us : List Token) → read_connective k (Word (word_of k) ∷ us) ≡ Some (Some k, us)
+unfolding read_connective
+connective-reads k us = rw (sees_word_is (word_of k) us) refl
 
-comes-next : {w : List ℕ} {join : Condition → Condition → Condition} {item r : Reader Condition}
-    {ts us vs : List Token} {x y : Condition}
-    → Comes w join item r ts x (Word w ∷ us) → item us ≡ Some (y, vs) → length vs ≤ length us
-    → Comes w join item r ts (join x y) vs
-unfolding turns
-comes-next {w} {join} {item} {r} {ts} {us} {vs} {x} {y} h l short = by h.fuel h.enough h.run
-  where
-    by : (fuel : ℕ) → length (Word w ∷ us) ≤ fuel → r ts ≡ turns w join item fuel x (Word w ∷ us)
-        → Comes w join item r ts (join x y) vs
-    by zero few is = absurd (omega (arith, few))
-    by (suc fuel) few is =
-        record { fuel = fuel; enough = omega (arith, few, short); run = is ∙ rw (sees_word_is w us, l) refl }
+none-reads : (k : Connective) (us : List Token) → sees_word (word_of k) us ≡ false
+    → read_connective k us ≡ Some (None, us)
+unfolding read_connective
+none-reads k us end = rw end refl
 
-comes-ends : {w : List ℕ} {join : Condition → Condition → Condition} {item r : Reader Condition}
-    {ts us : List Token} {x : Condition}
-    → Comes w join item r ts x us → sees_word w us ≡ false → r ts ≡ Some (x, us)
-unfolding turns
-comes-ends {w} {join} {item} {r} {ts} {us} {x} h end = h.run ∙ by h.fuel
-  where
-    by : (fuel : ℕ) → turns w join item fuel x us ≡ Some (x, us)
-    by zero = refl
-    by (suc fuel) = rw end refl
+comes-next : (k : Connective) {item r : Reader Condition} {ts us vs : List Token} {x y : Condition}
+    → Comes k item r ts x (Word (word_of k) ∷ us) → item us ≡ Some (y, vs) → length vs ≤ length us
+    → Comes k item r ts (connected k x y) vs
+comes-next k {us = us} h l short =
+    record { run = chains.comes-next h.run (connective-reads k us) l (omega (arith, short)) }
+
+comes-ends : (k : Connective) {item r : Reader Condition} {ts us : List Token} {x : Condition}
+    → Comes k item r ts x us → sees_word (word_of k) us ≡ false → r ts ≡ Some (x, us)
+comes-ends k {us = us} h end = chains.comes-ends h.run (none-reads k us end)
 
 abbrev before : ℕ → ℕ
 before zero = zero
@@ -208,14 +197,14 @@ inner-negation (suc d) ts some = refl
 
 module _ (inner : Level → Reader Condition) where
   whole-first : {ts us : List Token} {x : Condition} → conjunction inner ts ≡ Some (x, us)
-      → Comes (codes "OR") either (conjunction inner) (whole inner) ts x us
+      → Comes Or (conjunction inner) (whole inner) ts x us
   unfolding whole
-  whole-first h = comes-first h
+  whole-first h = record { run = chains.comes-first (links Or (conjunction inner)) length h }
 
   and-first : {ts us : List Token} {x : Condition} → negation inner ts ≡ Some (x, us)
-      → Comes (codes "AND") both (negation inner) (conjunction inner) ts x us
+      → Comes And (negation inner) (conjunction inner) ts x us
   unfolding conjunction
-  and-first h = comes-first h
+  and-first h = record { run = chains.comes-first (links And (negation inner)) length h }
 
   not-seen : (us : List Token) → sees_word (codes "NOT") (Word (codes "NOT") ∷ us) ≡ true
   unfolding sees_word
@@ -268,21 +257,21 @@ close-and us = refl
 
 mutual
   whole-run : {d : ℕ} {ts us : List Token} {x : Condition} → IsCondition d ts x us → sees_word (codes "AND") us ≡ false
-      → Comes (codes "OR") either (conjunction (nested (before d))) (whole (nested (before d))) ts x us
-  whole-run (one_cand h) end = whole-first _ (comes-ends (and-run h) end)
+      → Comes Or (conjunction (nested (before d))) (whole (nested (before d))) ts x us
+  whole-run (one_cand h) end = whole-first _ (comes-ends And (and-run h) end)
   whole-run (or_condition h l) end =
-      comes-next (whole-run h (or-other _)) (comes-ends (and-run l) end) (rest-short (cand-frame l))
+      comes-next Or (whole-run h (or-other _)) (comes-ends And (and-run l) end) (rest-short (cand-frame l))
 
   and-run : {d : ℕ} {ts us : List Token} {x : Condition} → IsAndCondition d ts x us
-      → Comes (codes "AND") both (negation (nested (before d))) (conjunction (nested (before d))) ts x us
+      → Comes And (negation (nested (before d))) (conjunction (nested (before d))) ts x us
   and-run (one_cnot h) = and-first _ (not-run h)
-  and-run (and_condition h l) = comes-next (and-run h) (not-run l) (rest-short (cnot-frame l))
+  and-run (and_condition h l) = comes-next And (and-run h) (not-run l) (rest-short (cnot-frame l))
 
   not-run : {d : ℕ} {ts us : List Token} {x : Condition} → IsNotCondition d ts x us
       → negation (nested (before d)) ts ≡ Some (x, us)
   not-run (not_condition {d} {ts} h) = not-gives (nested d) (inner-negation d ts (not-deep h) ∙ not-run h)
   not-run (inner_condition {d} {ts} {us} h) =
-      inner-gives (nested d) (inner-whole d ts (cond-deep h) ∙ comes-ends (whole-run h (close-and us)) (close-or us))
+      inner-gives (nested d) (inner-whole d ts (cond-deep h) ∙ comes-ends Or (whole-run h (close-and us)) (close-or us))
   not-run (has_data {d} h) = asks-gives (nested d) h
 
 no_either : (a b : Bool) → (a || b) ≡ false → (a ≡ false) × (b ≡ false)
@@ -295,7 +284,7 @@ unfolding read_condition no_operator
 condition_given d ts x us h =
     let none : (sees_word (codes "OR") us || sees_word (codes "AND") us) ≡ false = ends-by us ∙ ap not h.ends in
     let apart = no_either (sees_word (codes "OR") us) (sees_word (codes "AND") us) none in
-    let read = inner-whole d ts (cond-deep h.condition) ∙ comes-ends (whole-run h.condition apart.1) apart.0 in
+    let read = inner-whole d ts (cond-deep h.condition) ∙ comes-ends Or (whole-run h.condition apart.1) apart.0 in
     rw (read, none) refl
 
 pub conditions_read : laws.ReadsConditions

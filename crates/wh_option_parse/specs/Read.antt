@@ -20,8 +20,12 @@ use Rattle.wh_grammar.specs.Words.{is_reserved}
 use Rattle.wh_grammar.specs.Token.{Token, Word, Quoted, TextToken, NumberToken, SignToken}
 use Rattle.wh_lex.specs.Front.{front_of}
 use Rattle.wh_cursor.specs.declared.key.Key.TheVariants as k
-use Rattle.wh_cursor.specs.Steps.{sees, Reader, ◌>>=◌, ◌>>◌, pure, refuse, skip, sees_word, expect_word, expect_key}
-use Rattle.wh_cursor.specs.Steps.{read_text, read_word, read_name, given}
+use Rattle.wh_cursor.specs.Chains as chains
+use Rattle.wh_cursor.specs.Chains.{Links}
+use Rattle.wh_cursor.specs.Steps.{sees, Reader, ◌>>=◌, ◌>>◌, pure, refuse, skip, sees_word, eat_word, expect_word}
+use Rattle.wh_cursor.specs.Steps.{expect_key, read_text, read_word, read_name, given}
+use Rattle.wh_option_parse.specs.declared.levels.Connective.{Connective}
+use Rattle.wh_option_parse.specs.declared.levels.Connective.TheVariants.{Or, And}
 use Rattle.wh_option_parse.specs.declared.levels.Level.{Level}
 use Rattle.wh_option_parse.specs.declared.levels.Level.TheVariants.{Whole, Negation}
 use Rattle.wh_option_parse.specs.declared.task.TaskParts.{TaskParts}
@@ -126,30 +130,25 @@ read_asked = do
 
 -- ---- conditions: operators of one level, from the left
 
-abbrev pub turn : (Condition → Reader Condition) → Reader Condition → (Condition → Condition → Condition) → Condition
-    → Bool → Reader Condition
-turn more item join x false = pure x
-turn more item join x true = do
-  skip
-  y ← item
-  more (join x y)
+abbrev pub word_of : Connective → List ℕ
+word_of Or = codes "OR"
+word_of And = codes "AND"
 
--- the number bounds the turns
-unfoldable pub turns : List ℕ → (Condition → Condition → Condition) → Reader Condition → ℕ → Condition
-    → Reader Condition
-turns word join item zero x = pure x
-turns word join item (suc n) x = λ ts. turn (turns word join item n) item join x (sees_word word ts) ts
+-- a connective, if it comes next
+unfoldable pub read_connective : Connective → Reader (Option Connective)
+read_connective connective = do
+  found ← eat_word (word_of connective)
+  pure (if found then Some connective else None)
 
-abbrev pub chain : List ℕ → (Condition → Condition → Condition) → Reader Condition → Reader Condition
-chain word join item = do
-  x ← item
-  λ ts. turns word join item (length ts) x ts
+abbrev pub connected : Connective → Condition → Condition → Condition
+connected Or x y = c.Or x y
+connected And x y = c.And x y
 
-abbrev pub either : Condition → Condition → Condition
-either x y = c.Or x y
+abbrev pub links : Connective → Reader Condition → Links (List Token) Condition Connective
+links connective item = record { operator = read_connective connective; operand = item; make = connected }
 
-abbrev pub both : Condition → Condition → Condition
-both x y = c.And x y
+abbrev pub chain : Connective → Reader Condition → Reader Condition
+chain connective item = chains.chain (links connective item) length
 
 module _ (inner : Level → Reader Condition) where
   unfoldable pub negated : Reader Condition
@@ -180,10 +179,15 @@ module _ (inner : Level → Reader Condition) where
   negation = λ ts. negation_by (sees_word (codes "NOT") ts) (sees k.LParen ts) ts
 
   unfoldable pub conjunction : Reader Condition
-  conjunction = chain (codes "AND") both negation
+  conjunction = chain And negation
 
   unfoldable pub whole : Reader Condition
-  whole = chain (codes "OR") either conjunction
+  whole = chain Or conjunction
+
+  -- what a connective stands between
+  abbrev pub operand : Connective → Reader Condition
+  operand Or = conjunction
+  operand And = negation
 
 abbrev pub level : (Level → Reader Condition) → Level → Reader Condition
 level inner Whole = whole inner

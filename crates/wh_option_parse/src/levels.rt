@@ -1,6 +1,7 @@
 //! Conditions of tasks. The rules take the reader of what stands inside as a parameter, so that
 //! each is proved by itself.
 ghost use Rattle.std.specs.Prelude.{◌≡◌, length, OnErr};
+ghost use Rattle.wh_cursor.specs.Chains.{ReadsBy};
 ghost use Rattle.wh_cursor.specs.Gives.{Reads};
 ghost use Rattle.wh_option_parse.specs.Nests.{Nests};
 ghost use Rattle.wh_option_parse.specs.Read as spec;
@@ -9,7 +10,7 @@ use crate::lags::read_asked;
 use sqlite_items::Boxed;
 use std::alloc::Global;
 use wh_ast::Condition;
-use wh_cursor::{Key, ParseFault, Words};
+use wh_cursor::{Key, ParseFault, Words, joined};
 
 /// What may stand inside a condition.
 #[derive(Clone, Copy)]
@@ -26,6 +27,37 @@ pub struct Rules<F> {
     /// How many parentheses and NOTs may still stand inside one another.
     pub depth: usize,
     pub inner: F,
+}
+
+/// What joins two conditions.
+#[derive(Clone, Copy)]
+enum Connective {
+    Or,
+    And,
+}
+
+/// Takes the connective, if it comes next.
+#[tactic(auto, unfolding(crate::specs::Read::read_connective))]
+fn read_connective(
+    connective: Connective,
+    words: &mut Words<'_>,
+) -> Result<Option<Connective>, ParseFault>
+    ensures { Reads (spec.read_connective connective words.old) result words.new }
+{
+    let found = match connective {
+        Connective::Or => words.eat_word(b"OR"),
+        Connective::And => words.eat_word(b"AND"),
+    };
+    Ok(if found { Some(connective) } else { None })
+}
+
+fn connected(connective: Connective, x: Boxed<Condition>, y: Boxed<Condition>) -> Condition
+    ensures { result ≡ spec.connected connective x y }
+{
+    match connective {
+        Connective::Or => Condition::Or(x, y),
+        Connective::And => Condition::And(x, y),
+    }
 }
 
 fn left_count(words: &Words<'_>) -> usize
@@ -52,38 +84,48 @@ impl<F: Fn(Global, &mut Words<'_>, usize, Level) -> Result<Boxed<Condition>, Par
         }
     }
 
+    /// Operands with a connective between them, grouped to the left.
+    fn chain<G: Fn(&mut Words<'_>) -> Result<Boxed<Condition>, ParseFault>>(
+        &self,
+        words: &mut Words<'_>,
+        connective: Connective,
+        operand: &G,
+    ) -> Result<Boxed<Condition>, ParseFault>
+        requires callable { G.IsAlwaysCallable operand.now }
+        requires reads { ReadsBy (spec.operand (spec.nested self.now.depth) connective)
+            (G.post operand.now) }
+        ensures { Reads (spec.chain connective (spec.operand (spec.nested self.now.depth) connective)
+            words.old) result words.new }
+    {
+        let first = operand(words)?;
+        let most = left_count(words);
+        joined(
+            self.alloc,
+            words,
+            first,
+            most,
+            &|words| read_connective(connective, words),
+            operand,
+            &connected,
+        )
+    }
+
     /// Operands of OR.
+    #[tactic(auto, unfolding(crate::specs::Read::whole))]
     fn whole(&self, words: &mut Words<'_>) -> Result<Boxed<Condition>, ParseFault>
         requires { Nests self.now.depth (F.pre self.now.inner) (F.post self.now.inner) }
         ensures { Reads (spec.whole (spec.nested self.now.depth) words.old) result words.new }
     {
-        let mut left = self.conjunction(words)?;
-        for _turn in 0..left_count(words) {
-            if !words.sees_word(b"OR") {
-                return Ok(left);
-            }
-            words.skip();
-            let right = self.conjunction(words)?;
-            left = Boxed::new(self.alloc, Condition::Or(left, right))?;
-        }
-        Ok(left)
+        self.chain(words, Connective::Or, &|words| self.conjunction(words))
     }
 
     /// Operands of AND.
+    #[tactic(auto, unfolding(crate::specs::Read::conjunction))]
     fn conjunction(&self, words: &mut Words<'_>) -> Result<Boxed<Condition>, ParseFault>
         requires { Nests self.now.depth (F.pre self.now.inner) (F.post self.now.inner) }
         ensures { Reads (spec.conjunction (spec.nested self.now.depth) words.old) result words.new }
     {
-        let mut left = self.negation(words)?;
-        for _turn in 0..left_count(words) {
-            if !words.sees_word(b"AND") {
-                return Ok(left);
-            }
-            words.skip();
-            let right = self.negation(words)?;
-            left = Boxed::new(self.alloc, Condition::And(left, right))?;
-        }
-        Ok(left)
+        self.chain(words, Connective::And, &|words| self.negation(words))
     }
 
     #[tactic(auto, unfolding(crate::specs::Read::negation))]

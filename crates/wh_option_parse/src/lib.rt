@@ -3,6 +3,7 @@
 
 mod bytes;
 mod calls;
+mod gathering;
 mod lags;
 mod levels;
 mod names;

@@ -4,6 +4,7 @@ ghost use Rattle.wh_cursor.specs.Gives.{Reads};
 ghost use Rattle.wh_option_parse.specs.Read as spec;
 ghost use Rattle.wh_option_parse.specs.View.{seen};
 
+use crate::gathering::options;
 use crate::lags::read_lag;
 use std::alloc::Global;
 use wh_ast::{Initialize, Lag, RefreshMode};
@@ -189,19 +190,13 @@ fn table_parts(alloc: Global, words: &mut Words<'_>) -> Result<TableParts, Parse
     ensures { Reads (spec.options_from spec.table_option 5 spec.no_table_parts words.old) result
         words.new }
 {
-    let mut parts = TableParts {
+    let first = TableParts {
         lag: None,
         warehouse: false,
         mode: None,
         initialize: None,
     };
-    for _turn in 0..TURNS {
-        let Some(more) = table_option(alloc, words, parts)? else {
-            return Ok(parts);
-        };
-        parts = more;
-    }
-    Err(ParseFault::SyntaxError)
+    options(alloc, words, first, TURNS, &table_option)
 }
 
 /// The options of a dynamic table, in any order. The lag must be there.

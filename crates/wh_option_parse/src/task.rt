@@ -3,6 +3,7 @@ ghost use Rattle.std.specs.Prelude.{◌≡◌, OnErr};
 ghost use Rattle.wh_cursor.specs.Gives.{Reads};
 ghost use Rattle.wh_option_parse.specs.Read as spec;
 
+use crate::gathering::options;
 use crate::lags::read_schedule;
 use std::alloc::Global;
 use wh_cursor::{Key, ParseFault, Words, name};
@@ -81,17 +82,11 @@ fn task_parts(alloc: Global, words: &mut Words<'_>) -> Result<TaskParts, ParseFa
     ensures { Reads (spec.options_from spec.task_option 3 spec.no_task_parts words.old) result
         words.new }
 {
-    let mut parts = TaskParts {
+    let first = TaskParts {
         warehouse: false,
         minutes: None,
     };
-    for _turn in 0..TURNS {
-        let Some(more) = task_option(alloc, words, parts)? else {
-            return Ok(parts);
-        };
-        parts = more;
-    }
-    Err(ParseFault::SyntaxError)
+    options(alloc, words, first, TURNS, &task_option)
 }
 
 /// The options of a task, in any order: its schedule, if it has one.

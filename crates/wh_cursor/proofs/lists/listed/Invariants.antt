@@ -1,9 +1,4 @@
-use Rattle.std.proofs.Common.{◌≡◌, ◌-◌}
-use Rattle.wh_cursor.specs.declared.key.Key.TheVariants as k
-use Rattle.wh_cursor.specs.Steps.{eat_key}
-use Rattle.wh_cursor.specs.Lists.{listed, some_from}
 use Rattle.wh_cursor.proofs.lists.listed.Given as goal
 
-abbrev pub invariant-loop-turn : goal.invariant-loop-turn
-invariant-loop-turn g l =
-    listed g.reader l.fn.words ≡ some_from g.reader (eat_key k.Comma) (l._turn-end - l._turn) l.found l.words
+abbrev pub ghost-items : goal.ghost-items
+ghost-items g a = g.reader

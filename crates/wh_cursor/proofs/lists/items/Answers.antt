@@ -5,7 +5,7 @@ use Rattle.wh_cursor.specs.Steps.{eat_key}
 use Rattle.wh_cursor.specs.Lists.{some_from}
 use Rattle.wh_cursor.proofs.Turns.{one_more, no_more}
 use Rattle.wh_cursor.proofs.ListLemmas.{one_turn}
-use Rattle.wh_cursor.proofs.lists.listed.Goals as goal
+use Rattle.wh_cursor.proofs.lists.items.Goals as goal
 
 pub returns-in_err-item : goal.returns-in_err-item
 unfolding some_from
