@@ -1,16 +1,28 @@
--- What the program writes on standard error at its end.
-use Rattle.std.specs.Prelude.{ℕ, List, [], ◌∷◌, ◌++◌, codes, decimal}
+-- How the program ends, and what it writes on standard error then.
+--     EndsUnread    its words can't be read
+--     EndsBy        by the words behind a path, and by what the opening of the file gave
+--     EndsAs        by its words, of which the first is the path that is opened
+use Rattle.std.specs.Prelude.{◌≡◌, ◌≢◌, ◌↔◌, ℕ, List, [], ◌∷◌, ◌++◌, drop, codes, decimal, Result, Ok, Err, String, string_bytes}
+use Rattle.std.specs.Global.{Global}
+use Rattle.std.specs.Vec.Iter.{into_iter_items}
+use Rattle.std.specs.declared.vec.IntoIter.{IntoIter}
+use Rattle.std.specs.IoError.{error_kind}
+use Rattle.std.specs.declared.io.Error.{Error}
+use Rattle.std.specs.declared.io.ErrorKind.TheVariants.{OutOfMemory}
 use Rattle.wh_shell.specs.Code.{code_of}
+use Rattle.wh_shell.specs.Run.{IsRun}
 use Rattle.wh_shell.specs.declared.status.Status.{Status}
 use Rattle.wh_shell.specs.declared.status.Status.TheVariants.{Usage, Stopped}
-use Rattle.wh_shell.specs.declared.fault.Fault.TheVariants.{Disk}
+use Rattle.wh_shell.specs.declared.fault.Fault.TheVariants as faults
+use Rattle.wh_system.specs.declared.OpenError.{OpenError}
+use Rattle.wh_system.specs.declared.OpenError.TheVariants as openings
 use Rattle.bokzarn.specs.declared.ending.Ending.{Ending}
 use Rattle.bokzarn.specs.declared.ending.Ending.TheVariants.{With, Unopened, Locked}
 
 abbrev pub status_of : Ending → Status
 status_of (With status) = status
-status_of Unopened = Stopped Disk
-status_of Locked = Stopped Disk
+status_of Unopened = Stopped faults.Disk
+status_of Locked = Stopped faults.Disk
 
 -- the line that says why, where the status doesn't
 abbrev pub note_of : Ending → List ℕ
@@ -22,3 +34,34 @@ note_of Locked = codes "bokzarn: another run has the file open\n"
 -- the note, and the line of the status
 abbrev pub report_of : Ending → List ℕ
 report_of ending = note_of ending ++ (codes "status " ++ (decimal (code_of (status_of ending)) ++ 10 ∷ []))
+
+-- there is no memory for them, or one is no text
+pub record EndsUnread (error : Error) (ending : Ending) : Type 0 where
+  pub memory : error_kind error ≡ OutOfMemory → ending ≡ With (Stopped faults.OutOfMemory)
+  pub no_text : error_kind error ≢ OutOfMemory → ending ≡ With Usage
+
+-- the words behind the name
+abbrev pub words_in : IntoIter (String Global) Global → List (String Global)
+words_in arguments = drop 1 (into_iter_items arguments)
+
+-- with a status, that of usage exactly for other words than `run`
+pub record EndsWith (words : List (String Global)) (ending : Ending) : Type 0 where
+  pub status : Status
+  pub is : ending ≡ With status
+  pub usage : (status ≡ Usage) ↔ (IsRun words → ⊥)
+
+abbrev pub EndsBy : {D : Type 0} → List (String Global) → Result D OpenError → Ending → Type 0
+EndsBy words (Err openings.Locked) ending = ending ≡ Locked
+EndsBy words (Err (openings.System error)) ending = ending ≡ Unopened
+EndsBy words (Ok disk) ending = EndsWith words ending
+
+-- the path of that file was opened, and the words behind it were run
+pub record Opens {D : Type 0} (gives : List ℕ → Result D OpenError → Type 0) (path : List ℕ)
+    (words : List (String Global)) (ending : Ending) : Type 0 where
+  pub opening : Result D OpenError
+  pub given : gives path opening
+  pub ends : EndsBy words opening ending
+
+abbrev pub EndsAs : {D : Type 0} → (List ℕ → Result D OpenError → Type 0) → List (String Global) → Ending → Type 0
+EndsAs gives [] ending = ending ≡ With Usage
+EndsAs gives (path ∷ words) ending = Opens gives (string_bytes path) words ending

@@ -2,19 +2,18 @@
 //! standard output.
 #![tactic(auto)]
 
-ghost use Rattle.std.specs.Prelude.{◌≡◌, ◌↔◌, ◌⊎◌, [], ◌∷◌, ℕ, List, Err, Some, String, IfOk, IfErr};
-ghost use Rattle.std.specs.Prelude.{IfSome, OnOk, OnErr, IsSome};
-ghost use Rattle.std.specs.Global.{Global};
+ghost use Rattle.std.specs.Prelude.{◌≡◌, ℕ, List, String, IfOk, IfErr, IfSome, OnOk, IsSome, ◌⊎◌};
+ghost use Rattle.std.specs.Fn.{FnOnceReturnsAt};
 ghost use Rattle.wh_state.specs.State.{State};
-ghost use Rattle.wh_machine.specs.Lone.{opened};
+ghost use Rattle.wh_machine.specs.Outcome.{opened};
 ghost use Rattle.wh_machine.specs.Step.{Event};
-ghost use Rattle.wh_shell.specs.Run.{IsRun, IsStart, IsRunOf};
-ghost use Rattle.bokzarn.specs.Ending.{status_of};
+ghost use Rattle.wh_shell.specs.Run.{IsStart, IsRunOf};
+ghost use Rattle.bokzarn.specs.Ending.{status_of, EndsUnread, EndsBy, EndsAs, words_in};
 
 mod ending;
 
 use crate::ending::{Ending, report};
-use std::alloc::Global;
+use std::alloc::{AllocError, Global};
 use std::env::Env;
 use std::fs::{File, Files};
 use std::io::{ErrorKind, Input};
@@ -29,48 +28,74 @@ fn main(rt: HostRuntime) -> ExitCode {
     report(&mut rt.stderr(), &ending_of(&rt)).0
 }
 
-// How the program ends by its words.
+// How the program ends.
 fn ending_of<R>(rt: &R) -> Ending
 where
     R: Env + Files<File = File> + Input + Print + time::Clock + AllocGlobal + Threads + Sync,
 {
-    match words(rt) {
-        Ok(words) => carry_out(rt, &words),
-        Err(status) => Ending::With(status),
+    ending_by(rt, env::args(rt), |path| FileDisk::open(rt, path))
+}
+
+// How the program ends by its arguments, the first of which is its own name.
+fn ending_by<R, D: Disk + Drop, F: FnOnce(&str) -> Result<D, OpenError>>(
+    rt: &R,
+    arguments: io::Result<env::Args>,
+    opener: F,
+) -> Ending
+where
+    R: Input + Print + time::Clock + AllocGlobal + Threads + Sync,
+    requires { F.IsAlwaysCallable opener }
+    ensures unread { IfErr arguments (λ error. EndsUnread error result) }
+    ensures ending { IfOk arguments (λ all. result ≡ Ending.With (Status.Stopped Fault.OutOfMemory)
+        ⊎ EndsAs (FnOnceReturnsAt F.FnOnce opener) (words_in all) result) }
+{
+    match arguments {
+        Ok(arguments) => match words_of(rt.alloc(), arguments) {
+            Ok(words) => carry_out(rt, &words, opener),
+            Err(_) => Ending::With(Status::Stopped(Fault::OutOfMemory)),
+        },
+        Err(error) => unread(error),
+    }
+}
+
+// The words can't be read: there is no memory for them, or one is no text.
+fn unread(error: io::Error) -> Ending
+    ensures { EndsUnread error result }
+{
+    if error.kind() == ErrorKind::OutOfMemory {
+        Ending::With(Status::Stopped(Fault::OutOfMemory))
+    } else {
+        Ending::With(Status::Usage)
     }
 }
 
 // The words behind the program's name.
-fn words<R: Env + AllocGlobal>(rt: &R) -> Result<Vec<String>, Status>
-    ensures causes { IfErr result (λ status.
-        (status ≡ Status.Stopped Fault.OutOfMemory) ⊎ (status ≡ Status.Usage)) }
+fn words_of(alloc: Global, mut arguments: env::Args) -> Result<Vec<String>, AllocError>
+    ensures { IfOk result (λ words. words.items ≡ words_in arguments) }
 {
-    let arguments = match env::args(rt) {
-        Ok(arguments) => arguments,
-        Err(error) if error.kind() == ErrorKind::OutOfMemory => return Err(Status::Stopped(
-            Fault::OutOfMemory,
-        )),
-        // A word is no text.
-        Err(_) => return Err(Status::Usage),
-    };
-    arguments
-        .skip(1)
-        .collect::<Vec<String>>(rt.alloc())
-        .map_err(|_| Status::Stopped(Fault::OutOfMemory))
+    let _name = arguments.next();
+    let mut words = Vec::new(alloc);
+    for word in arguments {
+        words.push(word)?;
+    }
+    Ok(words)
 }
 
-// The file of the first word is opened, or created, before the words behind it are read.
-fn carry_out<R>(rt: &R, words: &[String]) -> Ending
+// The file of the first word is opened before the words behind it are read.
+fn carry_out<R, D: Disk + Drop, F: FnOnce(&str) -> Result<D, OpenError>>(
+    rt: &R,
+    words: &[String],
+    opener: F,
+) -> Ending
 where
-    R: Files<File = File> + Input + Print + time::Clock + AllocGlobal + Threads + Sync,
-    ensures no_path { words.now ≡ [] → result ≡ Ending.With Status.Usage }
-    ensures usage { (path : String Global) (rest : List (String Global)) → words.now ≡ path ∷ rest →
-        status_of result ≡ Status.Usage → IsRun rest → ⊥ }
+    R: Input + Print + time::Clock + AllocGlobal + Threads + Sync,
+    requires { F.IsAlwaysCallable opener }
+    ensures { EndsAs (FnOnceReturnsAt F.FnOnce opener) words.now result }
 {
     let Some((path, words)) = words.split_first() else {
         return Ending::With(Status::Usage);
     };
-    let opening = FileDisk::open(rt, path.as_str());
+    let opening = opener(path.as_str());
     let mut script = InSource::new(rt.reader());
     let mut out = OutSink::new(io::writer(rt));
     let mut clock = SystemClock::new(rt);
@@ -96,10 +121,7 @@ fn run_over<S: Source, K: Sink, D: Disk, C: Clock>(
     out: &mut K,
     clock: &mut C,
 ) -> (Ending, Option<D>)
-    ensures unopened { OnErr opening (status_of result.0 ≡ Status.Stopped Fault.Disk) }
-    ensures locked { opening ≡ Err OpenError.Locked → result.0 ≡ Ending.Locked }
-    // Else the status is that of the run.
-    ensures usage { OnOk opening ((status_of result.0 ≡ Status.Usage) ↔ (IsRun words.now → ⊥)) }
+    ensures ending { EndsBy words.now opening result.0 }
     ensures runs { IfOk opening (λ before. IfSome result.1 (λ after.
         (file input held : List ℕ) (start : State) (es : List Event) →
         IsStart (D.bytes before) (S.left script.old) (K.held out.old) file input held start es →

@@ -1,8 +1,10 @@
-ghost use Rattle.std.specs.Prelude.{◌≡◌, ◌≤◌, None, IfOk};
+ghost use Rattle.std.specs.Prelude.{◌≡◌, ◌↔◌, ◌≤◌, None, IfOk, IsTrue, IsFalse, MatchResult};
+ghost use Rattle.std.specs.Fs.{metadata_len};
 ghost use Rattle.wh_world.specs.Told.{Rose};
 ghost use Rattle.wh_system.specs.Untold.{untold};
+ghost use Rattle.wh_system.specs.Opening.{IsOpening, error_of_lock};
 
-use std::fs::{File, Files, OpenOptions, TryLockError};
+use std::fs::{File, Files, Metadata, OpenOptions, TryLockError};
 use std::io;
 use std::os::unix::fs::FileExt;
 use wh_world::{Disk, Failed};
@@ -17,12 +19,18 @@ pub enum OpenError {
 }
 
 impl From<io::Error> for OpenError {
+    ghost use Rattle.wh_system.specs.declared.file_disk.OpenError.TheVariants.{System};
+
+    ghost from_gives = { λ e given. given ≡ System e };
+
     fn from(error: io::Error) -> OpenError {
         OpenError::System(error)
     }
 }
 
 impl From<TryLockError> for OpenError {
+    ghost from_gives = { λ e given. given ≡ error_of_lock e };
+
     fn from(error: TryLockError) -> OpenError {
         match error {
             TryLockError::WouldBlock => OpenError::Locked,
@@ -55,22 +63,27 @@ impl FileDisk {
             .write(true)
             .create(true)
             .open(rt, path)?;
-        file.try_lock()?;
-        let size = file.metadata()?.len();
+        let lock = file.try_lock();
+        let metadata = file.metadata();
+        FileDisk::opened(file, lock, metadata)
+    }
+
+    // What an opening gives, by what the system gave of the file's lock and of its length.
+    fn opened(
+        file: File,
+        lock: Result<(), TryLockError>,
+        metadata: io::Result<Metadata>,
+    ) -> Result<FileDisk, OpenError>
+        ensures { IsOpening file lock metadata result }
+    {
+        lock?;
+        let size = metadata?.len();
         Ok(FileDisk {
             file,
             size,
             reads: 0,
             faults: 0,
         })
-    }
-
-    // Whether the file's length is the one that was left.
-    fn is_as_left(&self) -> bool {
-        match self.file.metadata() {
-            Ok(metadata) => metadata.len() == self.size,
-            Err(_) => false,
-        }
     }
 
     fn fail(&mut self) -> Failed
@@ -124,7 +137,9 @@ impl Disk for FileDisk {
     }
 
     fn write_at(&mut self, at: u64, piece: &[u8]) -> Result<(), Failed> {
-        if !self.is_as_left() || self.file.write_all_at(piece, at).is_err() {
+        if !has_length(self.file.metadata(), self.size)
+            || self.file.write_all_at(piece, at).is_err()
+        {
             return Err(self.fail());
         }
         self.size = self.size.max(at + piece.len() as u64);
@@ -137,5 +152,16 @@ impl Disk for FileDisk {
             return Err(self.fail());
         }
         Ok(())
+    }
+}
+
+// Whether the file's length is that one.
+fn has_length(metadata: io::Result<Metadata>, size: u64) -> bool
+    ensures { MatchResult metadata
+        (λ told. IsTrue result ↔ (metadata_len told ≡ size)) (λ error. IsFalse result) }
+{
+    match metadata {
+        Ok(told) => told.len() == size,
+        Err(_) => false,
     }
 }

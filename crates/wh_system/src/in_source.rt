@@ -1,12 +1,10 @@
-ghost use Rattle.std.specs.Prelude.{◌≡◌, ◌<◌, ◌≤◌, ℕ, None, IfOk, IfSome, OnOk, OnErr, MatchOption, length, take};
-ghost use Rattle.std.specs.Io.KnownBytes.{Keeps, Consumes, ReadConsumes, IsAtEnd};
+ghost use Rattle.std.specs.Prelude.{◌≡◌, ◌<◌, ◌≤◌, ℕ, None, IfOk, OnOk, OnErr, length};
+ghost use Rattle.std.specs.Io.KnownBytes.{ReadConsumes};
 ghost use Rattle.wh_world.specs.Told.{Rose};
 
-use std::io::{ErrorKind, Read};
+use crate::tries::{TRIES, read_outcome};
+use std::io::Read;
 use wh_world::{Failed, Source};
-
-// How often a read is tried.
-const TRIES: u32 = 1000;
 
 /// A script that comes from a reader, as standard input. Its bytes aren't told, but what it takes is, as far as the
 /// reader tells it.
@@ -42,28 +40,25 @@ impl<R: Read + Drop> Source for InSource<R> {
         ensures no_fault { OnOk result (self.new.faults ≡ self.old.faults) }
         ensures failed { OnErr result (Rose self.old.faults self.new.faults) }
     {
-        let Some(count) = read_some(&mut self.reader, buf) else {
+        let outcome = read_some(&mut self.reader, buf);
+        if outcome.is_err() {
             self.faults = self.faults.saturating_add(1);
-            return Err(Failed);
-        };
-        Ok(count)
+        }
+        outcome
     }
 }
 
-// Reads some bytes, and tries again where a signal cut in.
-fn read_some<R: Read>(reader: &mut R, buf: &mut [u8]) -> Option<usize>
+// Reads some bytes, or none at the end. It gives up where the reader fails and no signal was the cause, or where a
+// signal cut into each of the tries.
+fn read_some<R: Read>(reader: &mut R, buf: &mut [u8]) -> Result<usize, Failed>
     requires { 0 < length buf.old }
-    ensures count { IfSome result (λ count. count ≤ length buf.new) }
-    ensures taken { MatchOption result (Keeps (R.remaining reader.old) (R.remaining reader.new))
-        (λ count. Consumes (R.remaining reader.old) (R.remaining reader.new) (take count buf.new)
-        × (count ≡ 0 → IsAtEnd (R.remaining reader.new))) }
+    ensures count { IfOk result (λ count. count ≤ length buf.new) }
+    ensures taken { ReadConsumes (R.remaining reader.old) (R.remaining reader.new) result buf.new }
 {
     for _ in 0..TRIES {
-        match reader.read(buf) {
-            Ok(count) => return Some(count),
-            Err(error) if error.kind() == ErrorKind::Interrupted => {}
-            Err(_) => return None,
+        if let Some(outcome) = read_outcome(reader.read(buf)) {
+            return outcome;
         }
     }
-    None
+    Err(Failed)
 }

@@ -5,6 +5,7 @@ mod file_disk;
 mod in_source;
 mod out_sink;
 mod system_clock;
+mod tries;
 
 pub use file_disk::{FileDisk, OpenError};
 pub use in_source::InSource;

@@ -1,12 +1,10 @@
-ghost use Rattle.std.specs.Prelude.{◌≡◌, ◌<◌, ◌≤◌, ℕ, None, IfOk, IfSome, OnOk, OnErr, MatchOption, length, take};
-ghost use Rattle.std.specs.Io.KnownBytes.{Keeps, Appends, WriteAppends};
+ghost use Rattle.std.specs.Prelude.{◌≡◌, ◌<◌, ◌≤◌, ℕ, None, IfOk, OnOk, OnErr, length};
+ghost use Rattle.std.specs.Io.KnownBytes.{WriteAppends};
 ghost use Rattle.wh_world.specs.Told.{Rose};
 
-use std::io::{ErrorKind, Write};
+use crate::tries::{TRIES, write_outcome};
+use std::io::Write;
 use wh_world::{Failed, Sink};
-
-// How often a write is tried.
-const TRIES: u32 = 1000;
 
 /// Replies that go to a writer, as standard output, each piece at once. The bytes aren't told, but what the writer
 /// takes is, as far as it tells it.
@@ -42,27 +40,24 @@ impl<W: Write + Drop> Sink for OutSink<W> {
         ensures no_fault { OnOk result (self.new.faults ≡ self.old.faults) }
         ensures failed { OnErr result (Rose self.old.faults self.new.faults) }
     {
-        let Some(count) = write_some(&mut self.writer, piece) else {
+        let outcome = write_some(&mut self.writer, piece);
+        if outcome.is_err() {
             self.faults = self.faults.saturating_add(1);
-            return Err(Failed);
-        };
-        Ok(count)
+        }
+        outcome
     }
 }
 
-// Writes at least one byte, and tries again where a signal cut in.
-fn write_some<W: Write>(writer: &mut W, piece: &[u8]) -> Option<usize>
-    ensures count { IfSome result (λ count. (0 < count) × (count ≤ length piece.now)) }
-    ensures taken { MatchOption result (Keeps (W.contents writer.old) (W.contents writer.new))
-        (λ count. Appends (W.contents writer.old) (W.contents writer.new) (take count piece.now)) }
+// Writes at least one byte. It gives up where the writer takes none, where it fails and no signal was the cause, or
+// where a signal cut into each of the tries.
+fn write_some<W: Write>(writer: &mut W, piece: &[u8]) -> Result<usize, Failed>
+    ensures count { IfOk result (λ count. (0 < count) × (count ≤ length piece.now)) }
+    ensures taken { WriteAppends (W.contents writer.old) (W.contents writer.new) result piece.now }
 {
     for _ in 0..TRIES {
-        match writer.write(piece) {
-            Ok(0) => return None,
-            Ok(count) => return Some(count),
-            Err(error) if error.kind() == ErrorKind::Interrupted => {}
-            Err(_) => return None,
+        if let Some(outcome) = write_outcome(writer.write(piece)) {
+            return outcome;
         }
     }
-    None
+    Err(Failed)
 }

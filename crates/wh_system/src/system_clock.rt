@@ -1,4 +1,4 @@
-ghost use Rattle.std.specs.Prelude.{◌<◌, ◌^◌, None, IfSome};
+ghost use Rattle.std.specs.Prelude.{◌≡◌, ◌<◌, ◌^◌, None, IfSome};
 ghost use Rattle.wh_system.specs.Untold.{untold};
 
 use std::time;
@@ -18,7 +18,10 @@ pub struct SystemClock<'a, T: time::Clock> {
 }
 
 impl<'a, T: time::Clock> SystemClock<'a, T> {
-    pub fn new(system: &'a T) -> SystemClock<'a, T> {
+    /// A clock that hasn't been read, whose last reading is 0.
+    pub fn new(system: &'a T) -> SystemClock<'a, T>
+        ensures { result.last ≡ 0 }
+    {
         SystemClock { system, last: 0 }
     }
 }

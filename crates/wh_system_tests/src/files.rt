@@ -1,6 +1,5 @@
 use std::alloc::{AllocError, Global};
 use std::fs::OpenOptions;
-use std::os::unix::fs::FileExt;
 use std::test::Fail;
 use std::{fs, process};
 use wh_system::{FileDisk, OpenError};
@@ -42,14 +41,48 @@ fn a_file_is_opened_once_at_a_time(rt: HostRuntime) -> Result<(), Fail> {
 }
 
 #[test]
-fn a_write_fails_where_another_handle_grew_the_file(rt: HostRuntime) -> Result<(), Fail> {
-    let path = path_of(rt.alloc(), rt.process(), "grown")?;
+fn a_piece_of_ten_thousand_bytes_is_found_again(rt: HostRuntime) -> Result<(), Fail> {
+    let path = path_of(rt.alloc(), rt.process(), "piece")?;
+    let piece = [7u8; 10_000];
     let mut disk = FileDisk::open(&rt, path.as_str())?;
-    assert_eq!(rt; disk.write_at(0, b"abcd"), Ok(()));
-    let other = OpenOptions::new().write(true).open(&rt, path.as_str())?;
-    other.write_all_at(b"xy", 4)?;
-    assert_eq!(rt; disk.write_at(4, b"z"), Err(Failed));
-    assert_eq!(rt; disk.fault_count(), 1);
+    assert_eq!(rt; disk.write_at(0, &piece), Ok(()));
+    drop(disk);
+    let mut again = FileDisk::open(&rt, path.as_str())?;
+    assert_eq!(rt; again.len(), Ok(10_000));
+    let mut found = [0u8; 10_000];
+    assert_eq!(rt; again.read(0, &mut found), Ok(()));
+    assert_eq!(rt; found, piece);
     fs::remove_file(&rt, path.as_str())?;
+    Ok(())
+}
+
+#[test]
+fn a_file_of_three_mebibytes_is_opened_again(rt: HostRuntime) -> Result<(), Fail> {
+    let path = path_of(rt.alloc(), rt.process(), "large")?;
+    let other = OpenOptions::new()
+        .write(true)
+        .create(true)
+        .open(&rt, path.as_str())?;
+    other.set_len(3 << 20)?;
+    let mut disk = FileDisk::open(&rt, path.as_str())?;
+    assert_eq!(rt; disk.len(), Ok(3 << 20));
+    assert_eq!(rt; disk.write_at(3 << 20, b"z"), Ok(()));
+    assert_eq!(rt; disk.len(), Ok((3 << 20) + 1));
+    fs::remove_file(&rt, path.as_str())?;
+    Ok(())
+}
+
+#[test]
+fn a_write_fails_where_another_handle_changed_the_length(rt: HostRuntime) -> Result<(), Fail> {
+    let path = path_of(rt.alloc(), rt.process(), "changed")?;
+    for (name, length) in [("grown", 6), ("shortened", 3)] {
+        let mut disk = FileDisk::open(&rt, path.as_str())?;
+        assert_eq!(rt; disk.write_at(0, b"abcd"), Ok(()), "{name}");
+        let other = OpenOptions::new().write(true).open(&rt, path.as_str())?;
+        other.set_len(length)?;
+        assert_eq!(rt; disk.write_at(2, b"z"), Err(Failed), "{name}");
+        assert_eq!(rt; disk.fault_count(), 1, "{name}");
+        fs::remove_file(&rt, path.as_str())?;
+    }
     Ok(())
 }

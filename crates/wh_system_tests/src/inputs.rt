@@ -13,6 +13,35 @@ impl Read for Failing {
     }
 }
 
+// Signals cut into the first reads, so many; then there are bytes.
+#[derive(Drop)]
+struct Interrupted<'a>(u32, &'a [u8]);
+
+impl Read for Interrupted<'_> {
+    fn read(&mut self, buf: &mut [u8]) -> io::Result<usize> {
+        if self.0 > 0 {
+            self.0 -= 1;
+            return Err(io::Error::from(ErrorKind::Interrupted));
+        }
+        self.1.read(buf)
+    }
+}
+
+#[test]
+fn a_read_goes_on_after_signals(rt: HostRuntime) {
+    let mut buf = [0u8; 2];
+    let cases = [
+        ("none", 0, Ok(2)),
+        ("one", 1, Ok(2)),
+        ("one less than the tries", 999, Ok(2)),
+        ("one for each try", 1000, Err(Failed)),
+    ];
+    for (name, signals, want) in cases {
+        let mut source = InSource::new(Interrupted(signals, b"ab"));
+        assert_eq!(rt; source.read(&mut buf), want, "{name}");
+    }
+}
+
 #[test]
 fn a_reader_gives_its_bytes_or_fails(rt: HostRuntime) {
     let mut buf = [0u8; 2];

@@ -1,5 +1,5 @@
 use std::io;
-use std::io::Write;
+use std::io::{ErrorKind, Write};
 use std::test::Fail;
 use wh_system::OutSink;
 use wh_world::{Failed, Sink};
@@ -32,6 +32,38 @@ impl Write for Slow {
 
     fn flush(&mut self) -> io::Result<()> {
         Ok(())
+    }
+}
+
+// Signals cut into the first writes, so many; then each piece is taken.
+#[derive(Drop)]
+struct Interrupted(u32);
+
+impl Write for Interrupted {
+    fn write(&mut self, piece: &[u8]) -> io::Result<usize> {
+        if self.0 > 0 {
+            self.0 -= 1;
+            return Err(io::Error::from(ErrorKind::Interrupted));
+        }
+        Ok(piece.len())
+    }
+
+    fn flush(&mut self) -> io::Result<()> {
+        Ok(())
+    }
+}
+
+#[test]
+fn a_write_goes_on_after_signals(rt: HostRuntime) {
+    let cases = [
+        ("none", 0, Ok(2)),
+        ("one", 1, Ok(2)),
+        ("one less than the tries", 999, Ok(2)),
+        ("one for each try", 1000, Err(Failed)),
+    ];
+    for (name, signals, want) in cases {
+        let mut sink = OutSink::new(Interrupted(signals));
+        assert_eq!(rt; sink.write(b"ab"), want, "{name}");
     }
 }
 

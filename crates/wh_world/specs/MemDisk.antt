@@ -1,7 +1,9 @@
 -- What a disk in memory holds, and what becomes of it in a call.
-use Rattle.std.specs.Prelude.{◌≡◌, ◌⊎◌, ℕ, ◌-◌, ◌<◌, List, [], ◌∷◌, length}
-use Rattle.wh_world.specs.Calls.{CallCount, no_calls, next, passed, failed}
-use Rattle.wh_world.specs.Events.{Event, content, last_synced, IsImage, WasImage}
+use Rattle.std.specs.Prelude.{◌≡◌, ◌⊎◌, ◌↔◌, ℕ, ◌-◌, ◌<◌, ◌≤◌, List, [], ◌∷◌, length}
+use Rattle.std.specs.Prelude.{Result, OnOk, OnErr, IsErr, IsTrue, ⊤}
+use Rattle.wh_world.specs.declared.source.Failed.{Failed}
+use Rattle.wh_world.specs.Calls.{CallCount, no_calls, next, passed, failed, is_due}
+use Rattle.wh_world.specs.Events.{Event, wrote, tore, content, last_synced, IsImage, WasImage}
 use Rattle.wh_world.specs.Crash.{Elapses}
 
 pub record DiskState : Type 0 where
@@ -63,6 +65,14 @@ logged disk event n =
 abbrev pub torn : DiskState → Event → DiskState
 torn disk event =
     record disk { past = event ∷ disk.past; spare = disk.spare - 1; calls = failed disk.calls }
+
+-- a write: it fails exactly where it is to, or where it is more than the disk takes
+pub record IsWrite (old new : DiskState) (at : ℕ) (piece : List ℕ) (result : Result ⊤ Failed) : Type 0 where
+  pub failed_exactly : IsErr result ↔ (IsTrue (is_due old.calls) ⊎ Exceeds old (length piece))
+  pub logs : OnOk result (new ≡ logged old (wrote at piece) (length piece))
+  -- one that is too much changes nothing, and any other that fails may be torn
+  pub refuses : OnErr result (Exceeds old (length piece) → new ≡ refused old)
+  pub tears : OnErr result (length piece ≤ old.room → 0 < old.spare → new ≡ torn old (tore at (length piece)))
 
 -- time goes on over a call
 abbrev pub GoesOn : DiskState → DiskState → Type 0

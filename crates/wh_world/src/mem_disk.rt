@@ -7,8 +7,8 @@ ghost use Rattle.wh_world.specs.Cut.{picked};
 ghost use Rattle.wh_world.specs.Events.{wrote, tore, synced, content, WasImage};
 ghost use Rattle.wh_world.specs.Images.{is_shown, counts_now, only_now, some_same};
 ghost use Rattle.std.proofs.Common.{subst};
-ghost use Rattle.wh_world.specs.MemDisk.{content_of, synced_of, images_of, fresh, Exceeds, done, refused, read_once};
-ghost use Rattle.wh_world.specs.MemDisk.{logged, torn, GoesOn};
+ghost use Rattle.wh_world.specs.MemDisk.{content_of, synced_of, images_of, fresh, done, refused, read_once};
+ghost use Rattle.wh_world.specs.MemDisk.{logged, torn, IsWrite, GoesOn};
 
 use crate::calls::Calls;
 use crate::imaging::{Tear, image_of};
@@ -253,16 +253,7 @@ impl Disk for MemDisk {
         requires place { at ≤ length (content_of self.old) }
         requires end { at + length piece.now ≤ 2 ^ 40 }
 
-        // It fails exactly where it is to, or where it is more than the disk takes.
-        ensures failed_exactly { IsErr result
-            ↔ (IsTrue (is_due self.old.calls) ⊎ Exceeds self.old (length piece.now)) }
-        ensures new { OnOk result
-            (self.new ≡ logged self.old (wrote at piece.now) (length piece.now)) }
-        ensures new_err { OnErr result
-            (Exceeds self.old (length piece.now) → self.new ≡ refused self.old) }
-        ensures new_torn { OnErr result
-            (length piece.now ≤ self.old.room → 0 < self.old.spare
-            → self.new ≡ torn self.old (tore at (length piece.now))) }
+        ensures written { IsWrite self.old self.new at piece.now result }
 
         // What the trait promises.
         ensures size { OnOk result (length (content_of self.new)

@@ -1,7 +1,9 @@
+use Rattle.std.proofs.Common.{refl}
 use Rattle.bokzarn.proofs.run_over.Goals as goal
 
-pub returns-clause-usage : goal.returns-clause-usage
-returns-clause-usage g c = rw c.in-Ok.is c.run-status.ensures.usage
+pub returns-clause-ending : goal.returns-clause-ending
+returns-clause-ending g c =
+    rw c.in-Ok.is (record { status = _; is = refl; usage = c.run-status.ensures.usage })
 
 pub returns-clause-runs : goal.returns-clause-runs
 returns-clause-runs g c = rw c.in-Ok.is c.run-status.ensures.runs

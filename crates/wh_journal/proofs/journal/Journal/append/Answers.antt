@@ -39,30 +39,33 @@ module _ (g : Over) (c : After-write_record g) where
         (TornRecord c.args.self.now.end c.as_slice-framed.result.now file) (HasWithOrWithout payloads c.args.frame.now)
         has (c.write_record.ensures.any_moment file told only)
 
-pub returns-in-Ok-clause-appended : goal.returns-in-Ok-clause-appended
-returns-in-Ok-clause-appended g c = λ payloads file told is lists.
+pub returns-in-Ok-clause-filed : goal.returns-in-Ok-clause-filed
+returns-in-Ok-clause-filed g c = λ payloads file is.
     let j = c.args.self.now in
     let payload = c.args.frame.now in
-    let at = (goal.at.returns-in-Ok-clause-appended g c).After-write_record in
+    let at = (goal.at.returns-in-Ok-clause-filed g c).After-write_record in
     let size = size g at in
     let added : AddsPlace j c.list.new.self (length payload) = search rules in
     let written : g.D.Disk.bytes c.write_record.new.disk ≡ Some (with_record file j.end (framed payload)) =
-    c.in-Ok.ensures.written ∙ ap (option_map (λ old. with_record old j.end c.as_slice-framed.result.now)) told
+    c.in-Ok.ensures.written ∙ ap (option_map (λ old. with_record old j.end c.as_slice-framed.result.now)) is.told
     ∙ ap (λ (l : List ℕ). Some (with_record file j.end l)) c.as_slice-framed.ensures in
-    let whole = is_file_with_record payloads payload file j.end is lists.end (fits g at) in
-    ((with_record file j.end (framed payload), written, whole), lists_push payloads payload _ _ lists added)
+    let whole = is_file_with_record payloads payload file j.end is.spelled is.lists.end (fits g at) in
+    record {
+      appended = (
+        (with_record file j.end (framed payload), written, whole),
+        lists_push payloads payload _ _ is.lists added,
+      );
+      torn = λ fault. absurd cc;
+      any_moment = leaves g at payloads file is.spelled is.lists is.told;
+    }
 
-pub returns-in-Err-clause-torn : goal.returns-in-Err-clause-torn
-returns-in-Err-clause-torn g c = λ is_fault payloads file told is lists.
-    let at = (goal.at.returns-in-Err-clause-torn g c).After-write_record in
+pub returns-in-Err-clause-filed : goal.returns-in-Err-clause-filed
+returns-in-Err-clause-filed g c = λ payloads file is.
+    let at = (goal.at.returns-in-Err-clause-filed g c).After-write_record in
     let torn = told_torn c.args.self.now.end c.as_slice-framed.result.now file (g.D.Disk.bytes c.args.disk.now)
-    (g.D.Disk.bytes c.write_record.new.disk) told c.in-Err.ensures.torn in
-    (torn.0, torn.1, has g at payloads file is lists torn.0 torn.2)
-
-pub returns-in-Ok-clause-any_moment : goal.returns-in-Ok-clause-any_moment
-returns-in-Ok-clause-any_moment g c = λ payloads file told is lists.
-    leaves g (goal.at.returns-in-Ok-clause-any_moment g c).After-write_record payloads file is lists told
-
-pub returns-in-Err-clause-any_moment : goal.returns-in-Err-clause-any_moment
-returns-in-Err-clause-any_moment g c = λ payloads file told is lists.
-    leaves g (goal.at.returns-in-Err-clause-any_moment g c).After-write_record payloads file is lists told
+    (g.D.Disk.bytes c.write_record.new.disk) is.told c.in-Err.ensures.torn in
+    record {
+      appended = tt;
+      torn = λ fault. (torn.0, torn.1, has g at payloads file is.spelled is.lists torn.0 torn.2);
+      any_moment = leaves g at payloads file is.spelled is.lists is.told;
+    }

@@ -1,0 +1,25 @@
+-- What a call does to a disk, beside the bytes that it reads or writes.
+--     Writes       it writes up to a position at most, and reads nothing
+--     Counts       how it counts the disk's faults
+--     IsDurable    what a read gives is all that a crash leaves
+use Rattle.std.specs.Prelude.{◌≡◌, ℕ, ◌≤◌, max, List, Some, Result, OnOk, OnErr, IsErrOf}
+use Rattle.wh_world.specs.Told.{Rose}
+use Rattle.wh_world.specs.Crash.{Only}
+use Rattle.wh_world.specs.declared.Disk.{Ghosts}
+
+pub record Writes {D A E : Type 0} (d : Ghosts D) (old new : D) (end : ℕ) (result : Result A E) : Type 0 where
+  pub size : OnOk result (d.size new ≡ max (d.size old) end)
+  pub size_err : OnErr result ((d.size old ≤ d.size new) × (d.size new ≤ max (d.size old) end))
+  pub reads : d.reads new ≡ d.reads old
+  pub later : d.faults old ≤ d.faults new
+  pub no_fault : OnOk result (d.faults new ≡ d.faults old)
+
+abbrev pub IsDurable : {D : Type 0} → Ghosts D → D → Type 0
+IsDurable d disk = (file : List ℕ) → d.bytes disk ≡ Some file → Only file (d.may_leave disk)
+
+-- none where it succeeds or wants memory, and one where the disk fails
+pub record Counts {D A E : Type 0} (d : Ghosts D) (old new : D) (result : Result A E) (memory disk : E) : Type 0 where
+  pub later : d.faults old ≤ d.faults new
+  pub no_fault : OnOk result (d.faults new ≡ d.faults old)
+  pub starved : IsErrOf result memory → d.faults new ≡ d.faults old
+  pub disk_fault : IsErrOf result disk → Rose (d.faults old) (d.faults new)
