@@ -29,19 +29,12 @@ pub(crate) struct Failing<'a> {
     pub(crate) disk: &'a [u64],
 }
 
-pub(crate) const NO_FAILURE: Failing<'static> = Failing {
-    source: &[],
-    sink: &[],
-    disk: &[],
-};
-
-pub(crate) fn owned(rt: &impl Abort, alloc: Global, words: &[&str]) -> Vec<String> {
-    let mut owned = Vec::new(alloc);
-    for word in words {
-        let word = String::from_str(alloc, word).expect(rt, "memory");
-        owned.push(word).expect(rt, "memory");
-    }
-    owned
+/// The word of a run.
+pub(crate) fn the_word(rt: &impl Abort, alloc: Global) -> Vec<String> {
+    let word = String::from_str(alloc, "run").expect(rt, "memory");
+    let mut words = Vec::new(alloc);
+    words.push(word).expect(rt, "memory");
+    words
 }
 
 pub(crate) fn source_of(
@@ -76,30 +69,50 @@ pub(crate) fn clock_at_0(rt: &impl Abort, alloc: Global) -> SetClock {
     SetClock::new([0].to_vec(alloc).expect(rt, "memory"))
 }
 
-/// What a run is over: the bytes of its file, its script, the calls that fail, and for how many more
-/// bytes the disk and the sink have room.
+/// What a run is over: the bytes of its file, its script and the calls that fail.
 #[derive(Clone, Copy)]
 pub(crate) struct Given<'a> {
     pub(crate) file: &'a [u8],
     pub(crate) script: &'a [u8],
     pub(crate) failing: Failing<'a>,
-    pub(crate) room: u64,
 }
 
+/// A run, where disk and sink have room.
 pub(crate) fn run_with(
     rt: &(impl Abort + Threads + Sync),
     alloc: Global,
-    words: &[&str],
     given: &Given<'_>,
 ) -> Outcome {
+    const ROOM: u64 = 1 << 20;
     let failing = given.failing;
-    let words = owned(rt, alloc, words);
+    let words = the_word(rt, alloc);
     let mut source = source_of(rt, alloc, given.script, failing.source);
-    let mut out = sink_of(rt, alloc, given.room, failing.sink);
-    let disk = disk_of(rt, alloc, given.file, given.room, failing.disk);
+    let mut out = sink_of(rt, alloc, ROOM, failing.sink);
+    let disk = disk_of(rt, alloc, given.file, ROOM, failing.disk);
     let mut clock = clock_at_0(rt, alloc);
     let (status, disk) = run(rt, alloc, &words, &mut source, &mut out, disk, &mut clock);
     Outcome { status, out, disk }
+}
+
+/// Carries out a script over a file, where these calls of the disk fail.
+pub(crate) fn stopped<'x>(
+    rt: &(impl Abort + Threads + Sync),
+    alloc: Global,
+    file: &'x [u8],
+    script: &'x [u8],
+    calls: &'x [u64],
+) -> Outcome {
+    let failing = Failing {
+        source: &[],
+        sink: &[],
+        disk: calls,
+    };
+    let given = Given {
+        file,
+        script,
+        failing,
+    };
+    run_with(rt, alloc, &given)
 }
 
 /// Carries out a script over a file, with no failure.
@@ -109,11 +122,5 @@ pub(crate) fn carried_out<'x>(
     file: &'x [u8],
     script: &'x [u8],
 ) -> Outcome {
-    let given = Given {
-        file,
-        script,
-        failing: NO_FAILURE,
-        room: 1 << 20,
-    };
-    run_with(rt, alloc, &["run"], &given)
+    stopped(rt, alloc, file, script, &[])
 }

@@ -1,7 +1,7 @@
 //! What a stop leaves, seen through whole runs: every call of the disk fails in turn, and every
 //! file that a crash may then leave is opened.
 
-use crate::running::{Failing, Given, Outcome, run_with};
+use crate::running::{carried_out, stopped};
 use std::alloc::Global;
 use std::process::Abort;
 use std::thread::Threads;
@@ -49,27 +49,6 @@ fn torn(cut: u64, fill: u64) -> u64 {
         .saturating_add(2)
 }
 
-/// Carries out a script over a file, where these calls of the disk fail.
-fn ran<'x>(
-    rt: &(impl Abort + Threads + Sync),
-    alloc: Global,
-    file: &'x [u8],
-    script: &'x [u8],
-    failing: &'x [u64],
-) -> Outcome {
-    let given = Given {
-        file,
-        script,
-        failing: Failing {
-            source: &[],
-            sink: &[],
-            disk: failing,
-        },
-        room: 1 << 12,
-    };
-    run_with(rt, alloc, &["run"], &given)
-}
-
 /// The commands from a place on, as one script.
 fn commands_from(rt: &impl Abort, alloc: Global, first: usize) -> Vec<u8> {
     let commands = COMMANDS.get(first..).expect(rt, "a command");
@@ -89,13 +68,13 @@ fn place_of(text: &[u8]) -> Option<usize> {
 /// How many of the commands a file holds, by what its listings print; none where they print
 /// anything else.
 fn commits_in(rt: &(impl Abort + Threads + Sync), alloc: Global, file: &[u8]) -> Option<usize> {
-    let left = ran(rt, alloc, file, LISTINGS, &[]);
+    let left = carried_out(rt, alloc, file, LISTINGS);
     place_of(left.out.held())
 }
 
 /// How a run of the listings over a file ends.
 fn listing_status(rt: &(impl Abort + Threads + Sync), alloc: Global, file: &[u8]) -> Status {
-    ran(rt, alloc, file, LISTINGS, &[]).status
+    carried_out(rt, alloc, file, LISTINGS).status
 }
 
 fn lines(text: &[u8]) -> usize {
@@ -117,7 +96,7 @@ fn gone_on(
     held: usize,
 ) -> (Status, Option<usize>) {
     let script = commands_from(rt, alloc, held);
-    let rest = ran(rt, alloc, file, &script, &[]);
+    let rest = carried_out(rt, alloc, file, &script);
     (rest.status, commits_in(rt, alloc, rest.disk.bytes()))
 }
 
@@ -186,7 +165,7 @@ fn picks_hold(
 
 /// A script that is stopped at that call leaves what was answered.
 fn assert_stop(rt: &(impl Abort + Threads + Sync), alloc: Global, script: &[u8], call: u64) {
-    let left = ran(rt, alloc, b"", script, &[call]);
+    let left = stopped(rt, alloc, b"", script, &[call]);
     assert_eq!(rt; left.status, Status::Stopped(Fault::Disk), "call {call}");
     let answered = lines(left.out.held());
     let holds = picks_hold(rt, alloc, &left.disk, answered);
@@ -201,13 +180,13 @@ fn each_file_that_a_failed_call_may_leave_holds_what_was_answered(rt: HostRuntim
     for call in 1..45u64 {
         assert_stop(&rt, alloc, &script, call);
     }
-    let done = ran(&rt, alloc, b"", &script, &[45]);
+    let done = stopped(&rt, alloc, b"", &script, &[45]);
     assert_eq!(rt; done.status, Status::Read { refusals: 0 });
 }
 
 /// How many bytes the file has after a script.
 fn size_after(rt: &(impl Abort + Threads + Sync), alloc: Global, script: &[u8]) -> usize {
-    ran(rt, alloc, b"", script, &[]).disk.bytes().len()
+    carried_out(rt, alloc, b"", script).disk.bytes().len()
 }
 
 /// How many bytes the file has after none to all of the commands.
@@ -289,7 +268,7 @@ fn assert_fronts(
     sizes: &[usize],
     call: u64,
 ) {
-    let left = ran(rt, alloc, b"", script, &[call]);
+    let left = stopped(rt, alloc, b"", script, &[call]);
     let answered = lines(left.out.held());
     let holds = fronts_hold(rt, alloc, left.disk.bytes(), sizes, answered);
     assert!(rt; holds, "call {call}");
@@ -328,7 +307,7 @@ fn assert_named(rt: &(impl Abort + Threads + Sync), alloc: Global, file: &[u8], 
 fn a_file_with_any_byte_turned_opens_or_is_no_warehouse(rt: HostRuntime) {
     let alloc = rt.alloc();
     let script = commands_from(&rt, alloc, 0);
-    let whole = ran(&rt, alloc, b"", &script, &[]);
+    let whole = carried_out(&rt, alloc, b"", &script);
     for at in 0..whole.disk.bytes().len() {
         assert_named(&rt, alloc, whole.disk.bytes(), at);
     }
@@ -347,7 +326,7 @@ fn assert_gate(rt: &(impl Abort + Threads + Sync), alloc: Global, disk: &MemDisk
 fn a_stop_at_the_gate_leaves_the_table_or_not(rt: HostRuntime) {
     let alloc = rt.alloc();
     // The eighth call is the sync behind the write of the gate.
-    let left = ran(&rt, alloc, b"", CREATE, &[8]);
+    let left = stopped(&rt, alloc, b"", CREATE, &[8]);
     assert_eq!(rt; left.status, Status::Stopped(Fault::Disk));
     assert_eq!(rt; left.out.held(), b"".as_slice());
     for gate in 0..=255u8 {
@@ -364,7 +343,7 @@ fn assert_table(rt: &(impl Abort + Threads + Sync), alloc: Global, disk: &MemDis
 #[test]
 fn after_the_reply_each_file_has_the_table(rt: HostRuntime) {
     let alloc = rt.alloc();
-    let done = ran(&rt, alloc, b"", CREATE, &[]);
+    let done = carried_out(&rt, alloc, b"", CREATE);
     assert_eq!(rt; done.status, Status::Read { refusals: 0 });
     for pick in 0..1000u64 {
         assert_table(&rt, alloc, &done.disk, pick);
