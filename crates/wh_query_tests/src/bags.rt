@@ -101,7 +101,12 @@ fn a_change_leads_from_one_bag_to_another(rt: HostRuntime) {
             &[(1, 1), (4, 2)],
             &[(1, 1), (2, u64::MAX), (3, 2)],
         ),
-        ("full, and one less", &[], &[(2, 1)], &[(1, 2), (2, u64::MAX - 1), (4, 2)]),
+        (
+            "full, and one less",
+            &[],
+            &[(2, 1)],
+            &[(1, 2), (2, u64::MAX - 1), (4, 2)],
+        ),
     ];
     const ON_BOTH_SIDES: &[Case] = &[
         (
@@ -119,7 +124,11 @@ fn a_change_leads_from_one_bag_to_another(rt: HostRuntime) {
     ];
     let alloc = rt.alloc();
     for case in NET {
-        assert!(rt; leads(&rt, alloc, case) && nets(&rt, alloc, case), "{}", case.0);
+        assert!(rt;
+            leads(&rt, alloc, case) && nets(&rt, alloc, case),
+            "{}",
+            case.0
+        );
     }
     for case in ON_BOTH_SIDES {
         assert!(rt; leads(&rt, alloc, case), "{}", case.0);

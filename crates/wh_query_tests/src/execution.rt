@@ -88,7 +88,12 @@ fn instance(rt: &impl Abort, alloc: Global) -> Instance {
 
 // How often the row of a number is in what two workers find of a source, and which partitions were
 // asked for. None where they find nothing.
-fn count_by_two(rt: &(impl Abort + Threads + Sync), alloc: Global, source: u32, number: i64) -> Option<u64> {
+fn count_by_two(
+    rt: &(impl Abort + Threads + Sync),
+    alloc: Global,
+    source: u32,
+    number: i64,
+) -> Option<u64> {
     let instance = instance(rt, alloc);
     let mut fetch = numbers(rt, alloc, 0);
     let found = run(alloc, rt, 2, &Physical::scan(source), &instance, &mut fetch);

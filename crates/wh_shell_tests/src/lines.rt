@@ -6,12 +6,7 @@ use std::process::Abort;
 use std::thread::Threads;
 
 /// Carries out a script over no file, which writes that text.
-fn assert_written(
-    rt: &(impl Abort + Threads + Sync),
-    alloc: Global,
-    script: &[u8],
-    text: &[u8],
-) {
+fn assert_written(rt: &(impl Abort + Threads + Sync), alloc: Global, script: &[u8], text: &[u8]) {
     let done = carried_out(rt, alloc, b"", script);
     assert_eq!(rt; done.out.held(), text, "of {} bytes", script.len());
 }

@@ -186,7 +186,11 @@ fn assert_whole(rt: &(impl Abort + Threads + Sync), alloc: Global, commits: &Com
     assert_eq!(rt; done.status, Status::Read { refusals }, "call {call}");
     let told = commits_told(done.out.held());
     assert_eq!(rt; told.saturating_add(1), commits.listed.len(), "told");
-    assert_eq!(rt; commits_in(rt, alloc, commits, done.disk.bytes()), Some(told), "held");
+    assert_eq!(rt;
+        commits_in(rt, alloc, commits, done.disk.bytes()),
+        Some(told),
+        "held"
+    );
 }
 
 /// The script is stopped at each of its calls: four to open, and four for each commit, which is one

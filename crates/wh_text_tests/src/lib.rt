@@ -1,9 +1,9 @@
-//! Tests of values, texts, lines of scripts, replies and tokens.
+//! Tests of lines of scripts, of replies and of tokens.
 #![tactic(auto)]
 
 #[cfg(test)]
 mod lines;
 #[cfg(test)]
-mod tokens;
+mod replies;
 #[cfg(test)]
-mod values;
+mod tokens;
