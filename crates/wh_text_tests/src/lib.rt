@@ -1,4 +1,4 @@
-//! Tests of lines of scripts, of replies and of tokens.
+//! Tests of lines of scripts, of replies, of tokens and of sorted rows.
 #![tactic(auto)]
 
 #[cfg(test)]
@@ -7,3 +7,5 @@ mod lines;
 mod replies;
 #[cfg(test)]
 mod tokens;
+#[cfg(test)]
+mod values;
