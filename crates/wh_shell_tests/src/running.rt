@@ -69,32 +69,32 @@ pub(crate) fn clock_at_0(rt: &impl Abort, alloc: Global) -> SetClock {
     SetClock::new([0].to_vec(alloc).expect(rt, "memory"))
 }
 
-/// What a run is over: the bytes of its file, its script and the calls that fail.
+/// What a run is over: the bytes of its file, its script, the calls that fail, and for how many more
+/// bytes disk and sink have room.
 #[derive(Clone, Copy)]
 pub(crate) struct Given<'a> {
     pub(crate) file: &'a [u8],
     pub(crate) script: &'a [u8],
     pub(crate) failing: Failing<'a>,
+    pub(crate) room: u64,
 }
 
-/// A run, where disk and sink have room.
 pub(crate) fn run_with(
     rt: &(impl Abort + Threads + Sync),
     alloc: Global,
     given: &Given<'_>,
 ) -> Outcome {
-    const ROOM: u64 = 1 << 20;
     let failing = given.failing;
     let words = the_word(rt, alloc);
     let mut source = source_of(rt, alloc, given.script, failing.source);
-    let mut out = sink_of(rt, alloc, ROOM, failing.sink);
-    let disk = disk_of(rt, alloc, given.file, ROOM, failing.disk);
+    let mut out = sink_of(rt, alloc, given.room, failing.sink);
+    let disk = disk_of(rt, alloc, given.file, given.room, failing.disk);
     let mut clock = clock_at_0(rt, alloc);
     let (status, disk) = run(rt, alloc, &words, &mut source, &mut out, disk, &mut clock);
     Outcome { status, out, disk }
 }
 
-/// Carries out a script over a file, where these calls of the disk fail.
+/// Carries out a script over a file, where these calls of the disk fail, with room for few bytes.
 pub(crate) fn stopped<'x>(
     rt: &(impl Abort + Threads + Sync),
     alloc: Global,
@@ -102,25 +102,35 @@ pub(crate) fn stopped<'x>(
     script: &'x [u8],
     calls: &'x [u64],
 ) -> Outcome {
-    let failing = Failing {
-        source: &[],
-        sink: &[],
-        disk: calls,
-    };
     let given = Given {
         file,
         script,
-        failing,
+        failing: Failing {
+            source: &[],
+            sink: &[],
+            disk: calls,
+        },
+        room: 1 << 12,
     };
     run_with(rt, alloc, &given)
 }
 
-/// Carries out a script over a file, with no failure.
+/// Carries out a script over a file, with no failure and room for many bytes.
 pub(crate) fn carried_out<'x>(
     rt: &(impl Abort + Threads + Sync),
     alloc: Global,
     file: &'x [u8],
     script: &'x [u8],
 ) -> Outcome {
-    stopped(rt, alloc, file, script, &[])
+    let given = Given {
+        file,
+        script,
+        failing: Failing {
+            source: &[],
+            sink: &[],
+            disk: &[],
+        },
+        room: 1 << 20,
+    };
+    run_with(rt, alloc, &given)
 }

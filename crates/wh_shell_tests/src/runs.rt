@@ -209,6 +209,7 @@ fn ended(
         file: b"",
         script: SCRIPT,
         failing: failing_at(device, &calls),
+        room: 1 << 12,
     };
     let done = run_with(rt, alloc, &given);
     let written = done.out.held();

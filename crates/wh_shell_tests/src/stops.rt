@@ -1,7 +1,8 @@
 //! What a stop leaves, seen through whole runs: every call of the disk fails in turn, and every
 //! file that a crash may then leave is opened.
 
-use crate::running::{carried_out, stopped};
+use crate::running::stopped;
+use crate::told::{Held, commits_in};
 use std::alloc::Global;
 use std::process::Abort;
 use std::thread::Threads;
@@ -27,19 +28,22 @@ const COMMANDS: &[&[u8]] = &[
 const LISTINGS: &[u8] = b"SELECT * FROM T; SELECT * FROM U;";
 
 /// What the listings print after the first of the commands, after none to all of them.
-const LISTED: &[&[u8]] = &[
-    b"E6 UnknownName T\nE6 UnknownName U\n",
-    b"K\n(0 rows)\nE6 UnknownName U\n",
-    b"K\n1\n(1 rows)\nE6 UnknownName U\n",
-    b"K\n1\n2\n3\n(3 rows)\nE6 UnknownName U\n",
-    b"K\n1\n2\n3\n(3 rows)\nA | B\n(0 rows)\n",
-    b"K\n1\n2\n3\n(3 rows)\nA | B\n1 | 7\n2 | 8\n(2 rows)\n",
-    b"K\n1\n5\n6\n(3 rows)\nA | B\n1 | 7\n2 | 8\n(2 rows)\n",
-    b"K\n5\n6\n8\n(3 rows)\nA | B\n1 | 7\n2 | 8\n(2 rows)\n",
-    b"K\n5\n6\n8\n(3 rows)\nA | B\n2 | 8\n(1 rows)\n",
-    b"K\n5\n6\n8\n(3 rows)\nC\n(0 rows)\n",
-    b"E6 UnknownName T\nC\n(0 rows)\n",
-];
+const TEN: Held = Held {
+    listings: LISTINGS,
+    listed: &[
+        b"E6 UnknownName T\nE6 UnknownName U\n",
+        b"K\n(0 rows)\nE6 UnknownName U\n",
+        b"K\n1\n(1 rows)\nE6 UnknownName U\n",
+        b"K\n1\n2\n3\n(3 rows)\nE6 UnknownName U\n",
+        b"K\n1\n2\n3\n(3 rows)\nA | B\n(0 rows)\n",
+        b"K\n1\n2\n3\n(3 rows)\nA | B\n1 | 7\n2 | 8\n(2 rows)\n",
+        b"K\n1\n5\n6\n(3 rows)\nA | B\n1 | 7\n2 | 8\n(2 rows)\n",
+        b"K\n5\n6\n8\n(3 rows)\nA | B\n1 | 7\n2 | 8\n(2 rows)\n",
+        b"K\n5\n6\n8\n(3 rows)\nA | B\n2 | 8\n(1 rows)\n",
+        b"K\n5\n6\n8\n(3 rows)\nC\n(0 rows)\n",
+        b"E6 UnknownName T\nC\n(0 rows)\n",
+    ],
+};
 
 /// A pick: of the bytes that were written and not synced the first `cut` are there, and in the
 /// place of those behind them stands `fill`, or for 256 what was there before.
@@ -55,26 +59,9 @@ fn commands_from(rt: &impl Abort, alloc: Global, first: usize) -> Vec<u8> {
     commands.concat(alloc).expect(rt, "memory")
 }
 
-/// After how many of the commands the listings print that text; none where they never do.
-fn place_of(text: &[u8]) -> Option<usize> {
-    for (place, listed) in LISTED.iter().enumerate() {
-        if *listed == text {
-            return Some(place);
-        }
-    }
-    None
-}
-
-/// How many of the commands a file holds, by what its listings print; none where they print
-/// anything else.
-fn commits_in(rt: &(impl Abort + Threads + Sync), alloc: Global, file: &[u8]) -> Option<usize> {
-    let left = carried_out(rt, alloc, file, LISTINGS);
-    place_of(left.out.held())
-}
-
 /// How a run of the listings over a file ends.
 fn listing_status(rt: &(impl Abort + Threads + Sync), alloc: Global, file: &[u8]) -> Status {
-    carried_out(rt, alloc, file, LISTINGS).status
+    stopped(rt, alloc, file, LISTINGS, &[]).status
 }
 
 fn lines(text: &[u8]) -> usize {
@@ -96,8 +83,8 @@ fn gone_on(
     held: usize,
 ) -> (Status, Option<usize>) {
     let script = commands_from(rt, alloc, held);
-    let rest = carried_out(rt, alloc, file, &script);
-    (rest.status, commits_in(rt, alloc, rest.disk.bytes()))
+    let rest = stopped(rt, alloc, file, &script, &[]);
+    (rest.status, commits_in(rt, alloc, &TEN, rest.disk.bytes()))
 }
 
 /// Whether a file holds the commands that were answered, at most one more, and the others go on
@@ -108,7 +95,7 @@ fn holds_what_was_answered(
     file: &[u8],
     answered: usize,
 ) -> bool {
-    let Some(held) = commits_in(rt, alloc, file) else {
+    let Some(held) = commits_in(rt, alloc, &TEN, file) else {
         return false;
     };
     let (status, all) = gone_on(rt, alloc, file, held);
@@ -186,7 +173,7 @@ fn each_file_that_a_failed_call_may_leave_holds_what_was_answered(rt: HostRuntim
 
 /// How many bytes the file has after a script.
 fn size_after(rt: &(impl Abort + Threads + Sync), alloc: Global, script: &[u8]) -> usize {
-    carried_out(rt, alloc, b"", script).disk.bytes().len()
+    stopped(rt, alloc, b"", script, &[]).disk.bytes().len()
 }
 
 /// How many bytes the file has after none to all of the commands.
@@ -229,7 +216,7 @@ fn front_holds(
     answered: usize,
 ) -> bool {
     if front.len() <= 8 {
-        return commits_in(rt, alloc, front) == Some(0);
+        return commits_in(rt, alloc, &TEN, front) == Some(0);
     }
     if end <= front.len() {
         return holds_what_was_answered(rt, alloc, front, answered);
@@ -246,7 +233,7 @@ fn fronts_hold(
     sizes: &[usize],
     answered: usize,
 ) -> bool {
-    let Some(held) = commits_in(rt, alloc, file) else {
+    let Some(held) = commits_in(rt, alloc, &TEN, file) else {
         return false;
     };
     let Some(end) = sizes.get(held) else {
@@ -307,7 +294,7 @@ fn assert_named(rt: &(impl Abort + Threads + Sync), alloc: Global, file: &[u8], 
 fn a_file_with_any_byte_turned_opens_or_is_no_warehouse(rt: HostRuntime) {
     let alloc = rt.alloc();
     let script = commands_from(&rt, alloc, 0);
-    let whole = carried_out(&rt, alloc, b"", &script);
+    let whole = stopped(&rt, alloc, b"", &script, &[]);
     for at in 0..whole.disk.bytes().len() {
         assert_named(&rt, alloc, whole.disk.bytes(), at);
     }
@@ -319,7 +306,11 @@ fn assert_gate(rt: &(impl Abort + Threads + Sync), alloc: Global, disk: &MemDisk
     let image = disk.image(alloc, pick).expect(rt, "memory");
     let commits = if gate == 1 { 1 } else { 0 };
     assert_eq!(rt; image.get(7).copied(), Some(gate), "gate {gate}");
-    assert_eq!(rt; commits_in(rt, alloc, &image), Some(commits), "gate {gate}");
+    assert_eq!(rt;
+        commits_in(rt, alloc, &TEN, &image),
+        Some(commits),
+        "gate {gate}"
+    );
 }
 
 #[test]
@@ -337,13 +328,13 @@ fn a_stop_at_the_gate_leaves_the_table_or_not(rt: HostRuntime) {
 /// A pick's file has the table.
 fn assert_table(rt: &(impl Abort + Threads + Sync), alloc: Global, disk: &MemDisk, pick: u64) {
     let image = disk.image(alloc, pick).expect(rt, "memory");
-    assert_eq!(rt; commits_in(rt, alloc, &image), Some(1), "pick {pick}");
+    assert_eq!(rt; commits_in(rt, alloc, &TEN, &image), Some(1), "pick {pick}");
 }
 
 #[test]
 fn after_the_reply_each_file_has_the_table(rt: HostRuntime) {
     let alloc = rt.alloc();
-    let done = carried_out(&rt, alloc, b"", CREATE);
+    let done = stopped(&rt, alloc, b"", CREATE, &[]);
     assert_eq!(rt; done.status, Status::Read { refusals: 0 });
     for pick in 0..1000u64 {
         assert_table(&rt, alloc, &done.disk, pick);

@@ -1,21 +1,27 @@
 //! Scripts that are stopped at every call of the disk, and what is listed of the file that is left:
 //! transactions of two sessions, and commits that consume a stream.
 
-use crate::running::{carried_out, stopped};
+use crate::running::stopped;
 use std::alloc::Global;
 use std::process::Abort;
 use std::thread::Threads;
 use wh_shell::{Fault, Status};
 use wh_world::MemDisk;
 
+/// What a file holds of a script, by what is listed of it.
+#[derive(Clone, Copy)]
+pub(crate) struct Held {
+    pub(crate) listings: &'static [u8],
+    /// What the listings print after none to all of the commits.
+    pub(crate) listed: &'static [&'static [u8]],
+}
+
 /// A script each of whose commits is answered by a line that begins with `CREATED` or `COMMITTED`.
 #[derive(Clone, Copy)]
 struct Commits {
     script: &'static [u8],
     refusals: u64,
-    listings: &'static [u8],
-    /// What the listings print after none to all of the commits.
-    listed: &'static [&'static [u8]],
+    held: Held,
 }
 
 /// Four commits: two tables, and a transaction of each session. A third is open at the end: the next
@@ -45,16 +51,18 @@ DELETE FROM T;
 INSERT INTO U VALUES (5);
 ",
     refusals: 1,
-    listings: b"SELECT * FROM T; SELECT * FROM U; COMMIT;
+    held: Held {
+        listings: b"SELECT * FROM T; SELECT * FROM U; COMMIT;
 !session 2
 DELETE FROM T;",
-    listed: &[
-        b"E6 UnknownName T\nE6 UnknownName U\nE5 NoTransaction\nE6 UnknownName T\n",
-        b"K\n(0 rows)\nE6 UnknownName U\nE5 NoTransaction\nDELETED 0\n",
-        b"K\n(0 rows)\nK\n(0 rows)\nE5 NoTransaction\nDELETED 0\n",
-        b"K\n1\n2\n(2 rows)\nK\n(0 rows)\nE5 NoTransaction\nDELETED 2\n",
-        b"K\n2\n(1 rows)\nK\n11\n20\n(2 rows)\nE5 NoTransaction\nDELETED 1\n",
-    ],
+        listed: &[
+            b"E6 UnknownName T\nE6 UnknownName U\nE5 NoTransaction\nE6 UnknownName T\n",
+            b"K\n(0 rows)\nE6 UnknownName U\nE5 NoTransaction\nDELETED 0\n",
+            b"K\n(0 rows)\nK\n(0 rows)\nE5 NoTransaction\nDELETED 0\n",
+            b"K\n1\n2\n(2 rows)\nK\n(0 rows)\nE5 NoTransaction\nDELETED 2\n",
+            b"K\n2\n(1 rows)\nK\n11\n20\n(2 rows)\nE5 NoTransaction\nDELETED 1\n",
+        ],
+    },
 };
 
 /// Seven commits. The fifth and the last move changes of T on to C.
@@ -77,17 +85,19 @@ INSERT INTO C SELECT K FROM S WHERE METADATA$ACTION = 'INSERT';
 COMMIT;
 ",
     refusals: 0,
-    listings: b"SELECT * FROM T; SELECT * FROM C; SELECT K, METADATA$ACTION AS A FROM S;",
-    listed: &[
-        b"E6 UnknownName T\nE6 UnknownName C\nE6 UnknownName S\n",
-        b"K\n(0 rows)\nE6 UnknownName C\nE6 UnknownName S\n",
-        b"K\n(0 rows)\nK\n(0 rows)\nE6 UnknownName S\n",
-        b"K\n(0 rows)\nK\n(0 rows)\nK | A\n(0 rows)\n",
-        b"K\n1\n2\n(2 rows)\nK\n(0 rows)\nK | A\n1 | 'INSERT'\n2 | 'INSERT'\n(2 rows)\n",
-        b"K\n1\n2\n(2 rows)\nK\n1\n2\n(2 rows)\nK | A\n(0 rows)\n",
-        b"K\n11\n(1 rows)\nK\n1\n2\n(2 rows)\nK | A\n1 | 'DELETE'\n2 | 'DELETE'\n11 | 'INSERT'\n(3 rows)\n",
-        b"K\n11\n(1 rows)\nK\n1\n2\n11\n(3 rows)\nK | A\n(0 rows)\n",
-    ],
+    held: Held {
+        listings: b"SELECT * FROM T; SELECT * FROM C; SELECT K, METADATA$ACTION AS A FROM S;",
+        listed: &[
+            b"E6 UnknownName T\nE6 UnknownName C\nE6 UnknownName S\n",
+            b"K\n(0 rows)\nE6 UnknownName C\nE6 UnknownName S\n",
+            b"K\n(0 rows)\nK\n(0 rows)\nE6 UnknownName S\n",
+            b"K\n(0 rows)\nK\n(0 rows)\nK | A\n(0 rows)\n",
+            b"K\n1\n2\n(2 rows)\nK\n(0 rows)\nK | A\n1 | 'INSERT'\n2 | 'INSERT'\n(2 rows)\n",
+            b"K\n1\n2\n(2 rows)\nK\n1\n2\n(2 rows)\nK | A\n(0 rows)\n",
+            b"K\n11\n(1 rows)\nK\n1\n2\n(2 rows)\nK | A\n1 | 'DELETE'\n2 | 'DELETE'\n11 | 'INSERT'\n(3 rows)\n",
+            b"K\n11\n(1 rows)\nK\n1\n2\n11\n(3 rows)\nK | A\n(0 rows)\n",
+        ],
+    },
 };
 
 /// The same with a stream of appended rows: a row that is changed or goes is moved on as it came.
@@ -111,28 +121,30 @@ INSERT INTO F SELECT K FROM A;
 COMMIT;
 ",
     refusals: 0,
-    listings: b"SELECT * FROM T; SELECT * FROM F; SELECT K FROM A;",
-    listed: &[
-        b"E6 UnknownName T\nE6 UnknownName F\nE6 UnknownName A\n",
-        b"K\n(0 rows)\nE6 UnknownName F\nE6 UnknownName A\n",
-        b"K\n(0 rows)\nK\n(0 rows)\nE6 UnknownName A\n",
-        b"K\n(0 rows)\nK\n(0 rows)\nK\n(0 rows)\n",
-        b"K\n1\n2\n(2 rows)\nK\n(0 rows)\nK\n1\n2\n(2 rows)\n",
-        b"K\n1\n2\n(2 rows)\nK\n1\n2\n(2 rows)\nK\n(0 rows)\n",
-        b"K\n3\n11\n(2 rows)\nK\n1\n2\n(2 rows)\nK\n3\n(1 rows)\n",
-        b"K\n3\n11\n(2 rows)\nK\n1\n2\n3\n(3 rows)\nK\n(0 rows)\n",
-    ],
+    held: Held {
+        listings: b"SELECT * FROM T; SELECT * FROM F; SELECT K FROM A;",
+        listed: &[
+            b"E6 UnknownName T\nE6 UnknownName F\nE6 UnknownName A\n",
+            b"K\n(0 rows)\nE6 UnknownName F\nE6 UnknownName A\n",
+            b"K\n(0 rows)\nK\n(0 rows)\nE6 UnknownName A\n",
+            b"K\n(0 rows)\nK\n(0 rows)\nK\n(0 rows)\n",
+            b"K\n1\n2\n(2 rows)\nK\n(0 rows)\nK\n1\n2\n(2 rows)\n",
+            b"K\n1\n2\n(2 rows)\nK\n1\n2\n(2 rows)\nK\n(0 rows)\n",
+            b"K\n3\n11\n(2 rows)\nK\n1\n2\n(2 rows)\nK\n3\n(1 rows)\n",
+            b"K\n3\n11\n(2 rows)\nK\n1\n2\n3\n(3 rows)\nK\n(0 rows)\n",
+        ],
+    },
 };
 
 /// How many commits the listings of a file show; none where they print anything else.
-fn commits_in(
+pub(crate) fn commits_in(
     rt: &(impl Abort + Threads + Sync),
     alloc: Global,
-    commits: &Commits,
+    held: &Held,
     file: &[u8],
 ) -> Option<usize> {
-    let left = carried_out(rt, alloc, file, commits.listings);
-    for (count, listed) in commits.listed.iter().enumerate() {
+    let left = stopped(rt, alloc, file, held.listings, &[]);
+    for (count, listed) in held.listed.iter().enumerate() {
         if *listed == left.out.held() {
             return Some(count);
         }
@@ -163,7 +175,7 @@ fn pick_holds(
     told: usize,
 ) -> bool {
     let image = disk.image(alloc, pick).expect(rt, "memory");
-    let held = commits_in(rt, alloc, commits, &image);
+    let held = commits_in(rt, alloc, &commits.held, &image);
     held == Some(told) || held == Some(told.saturating_add(1))
 }
 
@@ -185,9 +197,9 @@ fn assert_whole(rt: &(impl Abort + Threads + Sync), alloc: Global, commits: &Com
     let refusals = commits.refusals;
     assert_eq!(rt; done.status, Status::Read { refusals }, "call {call}");
     let told = commits_told(done.out.held());
-    assert_eq!(rt; told.saturating_add(1), commits.listed.len(), "told");
+    assert_eq!(rt; told.saturating_add(1), commits.held.listed.len(), "told");
     assert_eq!(rt;
-        commits_in(rt, alloc, commits, done.disk.bytes()),
+        commits_in(rt, alloc, &commits.held, done.disk.bytes()),
         Some(told),
         "held"
     );
@@ -197,7 +209,7 @@ fn assert_whole(rt: &(impl Abort + Threads + Sync), alloc: Global, commits: &Com
 /// record.
 fn assert_stops(rt: &(impl Abort + Threads + Sync), alloc: Global, commits: &Commits) {
     let mut call = 1u64;
-    for _ in commits.listed {
+    for _ in commits.held.listed {
         for _ in 0..4 {
             assert_stop(rt, alloc, commits, call);
             call = call.saturating_add(1);
