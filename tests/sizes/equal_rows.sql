@@ -2,7 +2,7 @@ CREATE TABLE T(K NUMBER);
 INSERT INTO T VALUES (7), (7), (7), (7), (7), (7), (7);
 -- a join of seven equal rows with themselves
 INSERT INTO T SELECT A.K FROM T A JOIN T B ON A.K = B.K;
--- and with the 56 of them
+-- of all 56 with themselves
 SELECT COUNT(*) AS N FROM T A JOIN T B ON A.K = B.K;
 CREATE TABLE U(K NUMBER);
 CREATE TABLE E(K NUMBER);
