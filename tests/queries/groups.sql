@@ -101,3 +101,13 @@ SELECT COUNT(*) BETWEEN COUNT(V) AND COUNT(*), COUNT(V) BETWEEN SUM(K) AND COUNT
 SELECT 3 IN (COUNT(V), SUM(K), COUNT(*)), SUM(V) NOT IN (COUNT(*), SUM(K) + 11) FROM T;
 -- FALSE AND spares no argument of a call
 SELECT FALSE AND SUM(K * 999999999999999999) > 0 FROM T;
+-- an IN in another order is another scalar
+SELECT K IN (2, 1) FROM T GROUP BY K IN (1, 2);
+-- so is one of other numbers
+SELECT K IN (1, 3) FROM T GROUP BY K IN (1, 2);
+-- a key below IS NULL
+SELECT (K + 1) IS NULL FROM T GROUP BY K + 1;
+-- the other order of a sum is one over its key
+SELECT 1 + K FROM T GROUP BY K, K + 1;
+-- a key beside a call in a comparison
+SELECT K = COUNT(*) FROM T GROUP BY K;

@@ -1,8 +1,6 @@
 //! Warehouses over files in memory, and what they answer, as printed lines. Where memory runs out a
 //! call ends the test: a step that returned would drop all that is alive.
 
-ghost use Rattle.std.specs.Prelude.{◌≤◌, ◌^◌};
-
 use std::alloc::Global;
 use std::process::Abort;
 use std::thread::Threads;
@@ -52,12 +50,8 @@ pub(crate) fn opened(
     rt: &(impl Threads + Sync),
     alloc: Global,
     disk: MemDisk,
-    limit: u64,
-) -> Option<Warehouse<MemDisk>>
-    requires some { 8 ≤ limit }
-    requires most { limit ≤ 2 ^ 40 }
-{
-    Warehouse::open(rt, alloc, disk, 1, limit).ok()
+) -> Option<Warehouse<MemDisk>> {
+    Warehouse::open(rt, alloc, disk, 1, LIMIT).ok()
 }
 
 /// The warehouse of a file of these bytes.
@@ -67,7 +61,7 @@ pub(crate) fn warehouse_of(
     bytes: &[u8],
 ) -> Warehouse<MemDisk> {
     let disk = disk_of(rt, alloc, bytes, 1 << 16, 100, &[]);
-    opened(rt, alloc, disk, LIMIT).expect(rt, "the file opens")
+    opened(rt, alloc, disk).expect(rt, "the file opens")
 }
 
 /// What a session's command gives.
@@ -86,7 +80,8 @@ pub(crate) fn answer(
     warehouse.carry_out(rt, &event)
 }
 
-fn printed(rt: &impl Abort, alloc: Global, reply: Reply) -> Bytes {
+/// The lines of a reply.
+pub(crate) fn printed(rt: &impl Abort, alloc: Global, reply: Reply) -> Bytes {
     let mut lines = Bytes::new(alloc);
     print_reply(alloc, reply, &mut lines).expect(rt, "memory");
     lines
@@ -104,19 +99,6 @@ pub(crate) fn lines(
     printed(rt, alloc, reply)
 }
 
-/// Carries out a session's command, whose reply has these lines.
-pub(crate) fn assert_lines(
-    rt: &(impl Abort + Threads + Sync),
-    alloc: Global,
-    warehouse: &mut Warehouse<MemDisk>,
-    session: u64,
-    text: &str,
-    wanted: &str,
-) {
-    let found = lines(rt, alloc, warehouse, session, text.as_bytes());
-    assert_eq!(rt; found.as_slice(), wanted.as_bytes(), "{session}: {text}");
-}
-
 /// Carries out the command of each case, `(text, lines)`, in a warehouse.
 pub(crate) fn assert_replies(
     rt: &(impl Abort + Threads + Sync),
@@ -125,7 +107,8 @@ pub(crate) fn assert_replies(
     cases: &[(&str, &str)],
 ) {
     for (text, wanted) in cases {
-        assert_lines(rt, alloc, warehouse, 1, text, wanted);
+        let found = lines(rt, alloc, warehouse, 1, text.as_bytes());
+        assert_eq!(rt; found.as_slice(), wanted.as_bytes(), "{text}");
     }
 }
 

@@ -1,9 +1,7 @@
-//! Files that are full, that stand for no state, whose writes fail, and that others wrote.
-
-ghost use Rattle.std.specs.Prelude.{◌≤◌, ◌^◌};
+//! Files that stand for no state, whose writes fail, and that others wrote, and the bytes of records.
 
 use crate::answering::{
-    LIMIT, ONE_TABLE, answer, assert_answered, assert_replies, disk_of, lines, opened, spliced,
+    LIMIT, ONE_TABLE, answer, assert_answered, assert_replies, disk_of, opened, spliced,
 };
 use std::alloc::Global;
 use std::process::Abort;
@@ -11,14 +9,6 @@ use std::thread::Threads;
 use wh_engine::{Event, Halt, OpenFault, Warehouse};
 use wh_reply::Reply;
 use wh_world::MemDisk;
-
-fn is_full(answer: &Result<Reply, Halt>) -> bool {
-    matches!(answer, Err(Halt::FileFull { len: 50, need: 83 }))
-}
-
-fn is_inserted(answer: &Result<Reply, Halt>) -> bool {
-    matches!(answer, Ok(Reply::Inserted(1)))
-}
 
 fn is_fault(answer: &Result<Reply, Halt>) -> bool {
     matches!(answer, Err(Halt::DiskFault))
@@ -34,51 +24,6 @@ fn insert(
     warehouse: &mut Warehouse<MemDisk>,
 ) -> Result<Reply, Halt> {
     answer(rt, alloc, warehouse, 1, b"INSERT INTO T VALUES (1)")
-}
-
-// Inserts a row, which fits or not, and finds these rows then.
-fn assert_inserted(
-    rt: &(impl Abort + Threads + Sync),
-    alloc: Global,
-    warehouse: &mut Warehouse<MemDisk>,
-    name: &str,
-    fits: bool,
-    rows: &str,
-) {
-    let answer = insert(rt, alloc, warehouse);
-    assert_eq!(rt; is_full(&answer), !fits, "{name}: full");
-    assert_eq!(rt; is_inserted(&answer), fits, "{name}: inserted");
-    let found = lines(rt, alloc, warehouse, 1, b"SELECT * FROM T");
-    assert_eq!(rt; found.as_slice(), rows.as_bytes(), "{name}: rows");
-}
-
-// Inserts a row into a file of one table of at most so many bytes, and then finds so many.
-fn assert_limited(
-    rt: &(impl Abort + Threads + Sync),
-    alloc: Global,
-    name: &str,
-    limit: u64,
-    wanted: (bool, &str, usize),
-)
-    requires some { 8 ≤ limit }
-    requires most { limit ≤ 2 ^ 40 }
-{
-    let (fits, rows, len) = wanted;
-    let disk = disk_of(rt, alloc, &ONE_TABLE, 1 << 16, 100, &[]);
-    let mut warehouse = opened(rt, alloc, disk, limit).expect(rt, "the file opens");
-    assert_inserted(rt, alloc, &mut warehouse, name, fits, rows);
-    let disk = warehouse.close();
-    let as_before = disk.bytes() == ONE_TABLE.as_slice();
-    assert_eq!(rt; disk.bytes().len(), len, "{name}: bytes");
-    assert_eq!(rt; as_before, !fits, "{name}: the file as before");
-}
-
-#[test]
-fn a_full_file_is_told_with_both_numbers_and_nothing_changes(rt: HostRuntime) {
-    let none = (false, "K\n(0 rows)\n", 50);
-    assert_limited(&rt, rt.alloc(), "one byte short", 132, none);
-    let one = (true, "K\n1\n(1 rows)\n", 133);
-    assert_limited(&rt, rt.alloc(), "just enough", 133, one);
 }
 
 // The fault of a file of these bytes.
@@ -141,7 +86,7 @@ fn is_stopped(
 // Whether the file opens where that call fails, and an insert meets a fault of the disk.
 fn is_stopped_at(rt: &(impl Abort + Threads + Sync), alloc: Global, call: u64) -> bool {
     let disk = disk_of(rt, alloc, &ONE_TABLE, 1 << 16, 100, &[call]);
-    match opened(rt, alloc, disk, LIMIT) {
+    match opened(rt, alloc, disk) {
         Some(mut warehouse) => is_stopped(rt, alloc, &mut warehouse, call),
         None => false,
     }
@@ -182,43 +127,27 @@ fn without_a_commit_nothing_is_written(rt: HostRuntime) {
     let alloc = rt.alloc();
     // The opening takes the one sync.
     let disk = disk_of(&rt, alloc, &ONE_TABLE, 0, 1, &[]);
-    let mut warehouse = opened(&rt, alloc, disk, LIMIT).expect(&rt, "the file opens");
+    let mut warehouse = opened(&rt, alloc, disk).expect(&rt, "the file opens");
     assert_unwritten(&rt, alloc, &mut warehouse, CASES);
 }
 
-// Adds the record of a payload.
-fn add_record(rt: &impl Abort, file: &mut Vec<u8>, payload: &[u8]) {
-    let length = (payload.len() as u64).to_be_bytes();
-    file.push(1).expect(rt, "memory");
-    file.extend_from_slice(&length).expect(rt, "memory");
-    file.extend_from_slice(payload).expect(rt, "memory");
-}
-
-// A file of these payloads.
-fn file_of(rt: &impl Abort, alloc: Global, payloads: &[&[u8]]) -> Vec<u8> {
-    let mut file = b"WHCORE1".to_vec(alloc).expect(rt, "memory");
-    for payload in payloads {
-        add_record(rt, &mut file, payload);
-    }
-    file.push(0).expect(rt, "memory");
-    file
-}
-
-const PAYLOADS: &[&[u8]] = &[
-    // a table and its first rows
-    b"\0\0\0\0\0\0\0\x01\0\0\0\x02\
+const COMMITS: &[u8] = b"WHCORE1\
+    \x01\0\0\0\0\0\0\0\x5f\
+      \0\0\0\0\0\0\0\x01\0\0\0\x02\
       \x01\0\0\0\x01\0\0\0\x01T\x01\0\0\0\x01\0\0\0\x01K\x01\
       \x0a\0\0\0\x01\0\0\0\0\0\0\0\x01\0\0\0\0\0\0\0\x02\0\0\0\x01\0\0\0\0\0\0\0\x01\
-      \0\0\0\0\0\0\0\x01\0\0\0\x01\0\0\0\0\0\0\0\x01\x01\0\0\0\0\0\0\0\x07",
-    // nothing
-    b"\0\0\0\0\0\0\0\x02\0\0\0\0",
-    // a partition in another's place
-    b"\0\0\0\0\0\0\0\x03\0\0\0\x01\
+      \0\0\0\0\0\0\0\x01\0\0\0\x01\0\0\0\0\0\0\0\x01\x01\0\0\0\0\0\0\0\x07\
+    \x01\0\0\0\0\0\0\0\x0c\
+      \0\0\0\0\0\0\0\x02\0\0\0\0\
+    \x01\0\0\0\0\0\0\0\x52\
+      \0\0\0\0\0\0\0\x03\0\0\0\x01\
       \x0a\0\0\0\x01\0\0\0\0\0\0\0\x03\0\0\0\0\0\0\0\x03\0\0\0\x01\
       \0\0\0\x01\0\0\0\0\0\0\0\x01\0\0\0\x01\
-      \0\0\0\0\0\0\0\x02\0\0\0\x01\0\0\0\0\0\0\0\x02\x01\0\0\0\0\0\0\0\x08",
-];
+      \0\0\0\0\0\0\0\x02\0\0\0\x01\0\0\0\0\0\0\0\x02\x01\0\0\0\0\0\0\0\x08\
+    \0";
 
+// A table and its first rows in one commit, nothing in the next one, and a partition in another's
+// place in the last.
 #[test]
 fn commits_of_any_number_of_changes_are_read(rt: HostRuntime) {
     const CASES: &[(&str, &str)] = &[
@@ -227,7 +156,33 @@ fn commits_of_any_number_of_changes_are_read(rt: HostRuntime) {
         ("SELECT * FROM T", "K\n8\n9\n(2 rows)\n"),
     ];
     const AGAIN: &[(&str, &str)] = &[("SELECT * FROM T", "K\n8\n9\n(2 rows)\n")];
-    let file = file_of(&rt, rt.alloc(), PAYLOADS);
-    let disk = assert_answered(&rt, rt.alloc(), &file, CASES);
+    let disk = assert_answered(&rt, rt.alloc(), COMMITS, CASES);
     assert_answered(&rt, rt.alloc(), disk.bytes(), AGAIN);
+}
+
+// The records of an INSERT, an UPDATE, a DELETE and a DROP.
+const RECORDS: &[u8] = b"\x01\0\0\0\0\0\0\0\x5b\0\0\0\0\0\0\0\x02\0\0\0\x01\
+    \x0a\0\0\0\x01\0\0\0\0\0\0\0\x02\0\0\0\0\0\0\0\x03\0\0\0\x01\
+    \0\0\0\0\0\0\0\x01\0\0\0\0\0\0\0\x01\0\0\0\x02\
+    \0\0\0\0\0\0\0\x01\x01\0\0\0\0\0\0\0\x01\0\0\0\0\0\0\0\x02\x01\0\0\0\0\0\0\0\x02\
+    \x01\0\0\0\0\0\0\0\x63\0\0\0\0\0\0\0\x03\0\0\0\x01\
+    \x0a\0\0\0\x01\0\0\0\0\0\0\0\x03\0\0\0\0\0\0\0\x03\0\0\0\x01\
+    \0\0\0\x01\0\0\0\0\0\0\0\x01\0\0\0\x01\0\0\0\0\0\0\0\x02\0\0\0\x02\
+    \0\0\0\0\0\0\0\x01\x01\0\0\0\0\0\0\0\x05\0\0\0\0\0\0\0\x02\x01\0\0\0\0\0\0\0\x02\
+    \x01\0\0\0\0\0\0\0\x35\0\0\0\0\0\0\0\x04\0\0\0\x01\
+    \x0a\0\0\0\x01\0\0\0\0\0\0\0\x04\0\0\0\0\0\0\0\x03\0\0\0\x01\
+    \0\0\0\x01\0\0\0\0\0\0\0\x02\0\0\0\0\
+    \x01\0\0\0\0\0\0\0\x11\0\0\0\0\0\0\0\x05\0\0\0\x01\x02\0\0\0\x01\0";
+
+#[test]
+fn an_update_and_a_delete_are_written_so(rt: HostRuntime) {
+    const CASES: &[(&str, &str)] = &[
+        ("INSERT INTO T VALUES (1), (2)", "INSERTED 2\n"),
+        ("UPDATE T SET K = 5 WHERE K = 1", "UPDATED 1\n"),
+        ("DELETE FROM T", "DELETED 2\n"),
+        ("DROP TABLE T", "DROPPED TABLE T\n"),
+    ];
+    let wanted = spliced(&rt, rt.alloc(), 49, RECORDS, 50);
+    let disk = assert_answered(&rt, rt.alloc(), &ONE_TABLE, CASES);
+    assert_eq!(rt; disk.bytes(), wanted.as_slice());
 }

@@ -4,12 +4,6 @@
 #[cfg(test)]
 mod answering;
 #[cfg(test)]
-mod changes;
-#[cfg(test)]
-mod commands;
-#[cfg(test)]
 mod files;
 #[cfg(test)]
 mod limits;
-#[cfg(test)]
-mod queries;

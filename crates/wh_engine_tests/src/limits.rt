@@ -1,59 +1,63 @@
-//! The limits that count what is there already.
+//! Limits that no script comes to.
 
-use crate::answering::{
-    LIMIT, ONE_TABLE, assert_answered, assert_replies, disk_of, lines, opened, spliced,
-};
+use crate::answering::{assert_answered, lines, printed, spliced, warehouse_of};
 use std::alloc::Global;
 use std::process::Abort;
 use std::thread::Threads;
-use wh_engine::Warehouse;
+use wh_engine::{Event, Warehouse};
 use wh_world::MemDisk;
 
-fn create(
+// In a session, sends BEGIN with blanks up to so many bytes, and finds these lines.
+fn assert_long(
     rt: &(impl Abort + Threads + Sync),
     alloc: Global,
     warehouse: &mut Warehouse<MemDisk>,
-    number: u32,
+    session: u64,
+    length: usize,
+    wanted: &str,
 ) {
-    let text = format!(in alloc; "CREATE TABLE A{number}(K NUMBER)").expect(rt, "memory");
-    lines(rt, alloc, warehouse, 1, text.as_bytes());
-}
-
-/// A warehouse of the live tables A0 to A999.
-fn of_1000_tables(rt: &(impl Abort + Threads + Sync), alloc: Global) -> Warehouse<MemDisk> {
-    let disk = disk_of(rt, alloc, b"", 1 << 17, 5000, &[]);
-    let mut warehouse = opened(rt, alloc, disk, LIMIT).expect(rt, "a new file opens");
-    for number in 0..1000u32 {
-        create(rt, alloc, &mut warehouse, number);
-    }
-    warehouse
+    let mut text = b"BEGIN".to_vec(alloc).expect(rt, "memory");
+    text.resize(length, b' ').expect(rt, "memory");
+    let found = lines(rt, alloc, warehouse, session, &text);
+    assert_eq!(rt; found.as_slice(), wanted.as_bytes(), "{length} bytes");
 }
 
 #[test]
-fn a_thousand_tables_live_at_once_and_no_more(rt: HostRuntime) {
-    const CASES: &[(&str, &str)] = &[
-        ("CREATE TABLE B(K NUMBER)", "E13 Limit OBJECTS 1000\n"),
-        (
-            "CREATE OR REPLACE TABLE B(K NUMBER)",
-            "E13 Limit OBJECTS 1000\n",
-        ),
-        ("CREATE TABLE A1(K NUMBER)", "E7 NameTaken A1\n"),
-        ("CREATE TABLE B(K NUMBER, K NUMBER)", "E7 NameTaken K\n"),
-        (
-            "CREATE TABLE B(K NUMBER) DATA_RETENTION_TIME_IN_DAYS = 91",
-            "E13 Limit OBJECTS 1000\n",
-        ),
-        ("CREATE OR REPLACE TABLE A1(L NUMBER)", "CREATED TABLE A1\n"),
-        ("SELECT * FROM A1", "L\n(0 rows)\n"),
-        ("DROP TABLE A2", "DROPPED TABLE A2\n"),
-        ("CREATE TABLE B(K NUMBER)", "CREATED TABLE B\n"),
-        ("CREATE TABLE A2(K NUMBER)", "E13 Limit OBJECTS 1000\n"),
-        ("INSERT INTO A999 SELECT COUNT(*) FROM B", "INSERTED 1\n"),
-        ("SELECT * FROM A999", "K\n0\n(1 rows)\n"),
+fn a_text_has_65536_bytes_at_most(rt: HostRuntime) {
+    let alloc = rt.alloc();
+    let mut warehouse = warehouse_of(&rt, alloc, b"");
+    assert_long(&rt, alloc, &mut warehouse, 1, 65536, "BEGUN 1\n");
+    let wanted = "E13 Limit STATEMENT 65536\n";
+    assert_long(&rt, alloc, &mut warehouse, 65, 65537, wanted);
+}
+
+// Carries out a tick, whose reply has these lines.
+fn assert_tick(
+    rt: &(impl Abort + Threads + Sync),
+    alloc: Global,
+    warehouse: &mut Warehouse<MemDisk>,
+    reading: u64,
+    wanted: &str,
+) {
+    let tick = warehouse.carry_out(rt, &Event::Tick { reading });
+    let found = printed(rt, alloc, tick.expect(rt, "a reply"));
+    assert_eq!(rt; found.as_slice(), wanted.as_bytes(), "{reading}");
+}
+
+#[test]
+fn a_tick_is_idle_up_to_the_last_stamp(rt: HostRuntime) {
+    const CASES: &[(u64, &str)] = &[
+        (0, "IDLE\n"),
+        (1 << 62, "E13 Limit STAMP 4611686018427387904\n"),
+        (5, "IDLE\n"),
+        ((1 << 62) - 1, "IDLE\n"),
+        (0, "E13 Limit STAMP 4611686018427387904\n"),
     ];
     let alloc = rt.alloc();
-    let mut warehouse = of_1000_tables(&rt, alloc);
-    assert_replies(&rt, alloc, &mut warehouse, CASES);
+    let mut warehouse = warehouse_of(&rt, alloc, b"");
+    for (reading, wanted) in CASES {
+        assert_tick(&rt, alloc, &mut warehouse, *reading, wanted);
+    }
 }
 
 // A record by which T's next row has the last number but one, and the gate behind it.
@@ -62,8 +66,8 @@ const NUMBERS_USED: &[u8] = b"\x01\0\0\0\0\0\0\0\x2d\0\0\0\0\0\0\0\x02\0\0\0\x01
     \0\0\0\0\0\0\0\0\0";
 
 #[test]
-fn a_row_without_a_number_is_refused(rt: HostRuntime) {
-    const CASES: &[(&str, &str)] = &[
+fn a_row_without_a_number_is_refused_by_its_statement_or_its_commit(rt: HostRuntime) {
+    const BY_ITSELF: &[(&str, &str)] = &[
         (
             "INSERT INTO T VALUES (1), (2)",
             "E13 Limit ROW_NUMBER 4611686018427387904\n",
@@ -86,13 +90,8 @@ fn a_row_without_a_number_is_refused(rt: HostRuntime) {
             "E13 Limit ROW_NUMBER 4611686018427387904\n",
         ),
     ];
-    let file = spliced(&rt, rt.alloc(), 49, NUMBERS_USED, 50);
-    assert_answered(&rt, rt.alloc(), &file, CASES);
-}
-
-#[test]
-fn a_commit_without_row_numbers_is_refused_and_leaves_its_transaction_open(rt: HostRuntime) {
-    const CASES: &[(&str, &str)] = &[
+    // The transaction stays open.
+    const IN_A_TRANSACTION: &[(&str, &str)] = &[
         ("BEGIN", "BEGUN 3\n"),
         ("INSERT INTO T VALUES (1), (2)", "INSERTED 2\n"),
         ("SELECT * FROM T", "K\n1\n2\n(2 rows)\n"),
@@ -108,5 +107,6 @@ fn a_commit_without_row_numbers_is_refused_and_leaves_its_transaction_open(rt: H
         ("SELECT * FROM T", "K\n2\n(1 rows)\n"),
     ];
     let file = spliced(&rt, rt.alloc(), 49, NUMBERS_USED, 50);
-    assert_answered(&rt, rt.alloc(), &file, CASES);
+    assert_answered(&rt, rt.alloc(), &file, BY_ITSELF);
+    assert_answered(&rt, rt.alloc(), &file, IN_A_TRANSACTION);
 }

@@ -1,17 +1,9 @@
-//! Tests of the parsers, by their public calls: texts with the trees that they spell.
+//! Tests of the parsers, and of copies of trees, by their public calls.
 #![tactic(auto)]
 
 #[cfg(test)]
-mod changes;
+mod later;
 #[cfg(test)]
-mod expressions;
-#[cfg(test)]
-mod options;
-#[cfg(test)]
-mod queries;
+mod print;
 #[cfg(test)]
 mod reading;
-#[cfg(test)]
-mod statements;
-#[cfg(test)]
-mod texts;

@@ -1,139 +1,118 @@
-//! One reader for all that the parsers' crates look for at the front of tokens, and the loops over
-//! tables of cases.
+//! Copies of what texts spell, and how much may stand in a text.
 
-use crate::changes::{read_dml, read_names};
-use crate::expressions::{read_expr, read_name, read_setting};
-use crate::options::{read_asked, read_condition, read_lag, read_table_options, read_task_options};
-use crate::queries::{read_alias_and_filter, read_query, read_source};
-use crate::texts::{Pieces, Printer, grown};
+use sqlite_items::Boxed;
 use std::alloc::Global;
 use std::process::Abort;
-use std::test::Fail;
-use wh_cursor::{ParseFault, Words};
-use wh_lex::tokens;
+use wh_ast::Statement;
+use wh_copy::copy_statement;
+use wh_stmt_parse::{ParseFault, parse};
 use wh_value::Bytes;
 
-/// What is looked for at the front of a text.
-#[derive(Clone, Copy)]
-pub(crate) enum Part {
-    AliasAndFilter,
-    Asked,
-    Condition,
-    Dml,
-    Expr,
-    Lag,
-    Name,
-    Names,
-    Query,
-    Setting,
-    Source,
-    TableOptions,
-    TaskOptions,
-}
-
-/// Takes it, and prints what it is.
-fn read_part(
-    alloc: Global,
-    part: Part,
-    words: &mut Words<'_>,
-    depth: usize,
-    out: &mut Printer,
-) -> Result<(), ParseFault> {
-    match part {
-        Part::AliasAndFilter => read_alias_and_filter(alloc, words, depth, out),
-        Part::Asked => read_asked(alloc, words, out),
-        Part::Condition => read_condition(alloc, words, depth, out),
-        Part::Dml => read_dml(alloc, words, depth, out),
-        Part::Expr => read_expr(alloc, words, depth, out),
-        Part::Lag => read_lag(alloc, words, out),
-        Part::Name => read_name(alloc, words, out),
-        Part::Names => read_names(alloc, words, out),
-        Part::Query => read_query(alloc, words, depth, out),
-        Part::Setting => read_setting(alloc, words, out),
-        Part::Source => read_source(alloc, words, depth, out),
-        Part::TableOptions => read_table_options(alloc, words, out),
-        Part::TaskOptions => read_task_options(alloc, words, out),
+/// A copy of the statement that a text spells, in a box, whose drop is one call; None where it
+/// spells none.
+pub(crate) fn copied(rt: &impl Abort, alloc: Global, text: &[u8]) -> Option<Boxed<Statement>> {
+    match parse(alloc, text) {
+        Ok(found) => {
+            let found = Boxed::new(alloc, found).expect(rt, "memory");
+            let copy = copy_statement(alloc, found.get()).expect(rt, "memory");
+            Some(Boxed::new(alloc, copy).expect(rt, "memory"))
+        }
+        Err(fault) => {
+            assert!(rt; matches!(fault, ParseFault::SyntaxError), "memory");
+            None
+        }
     }
 }
 
-/// Prints how many tokens are left.
-pub(crate) fn print_left(words: &Words<'_>, out: &mut Printer) {
-    out.put(b" ");
-    out.decimal(words.rest().len() as u64);
-}
-
-/// What stands at the front of a text, or `none`; nothing where the text has no tokens.
-pub(crate) fn read(alloc: Global, part: Part, text: &[u8], depth: usize) -> Result<Bytes, Fail> {
-    let all = match tokens(alloc, text) {
-        Ok(all) => all,
-        Err(_) => return Ok(Bytes::new(alloc)),
-    };
-    let mut words = Words::new(&all);
-    let mut out = Printer::new(alloc);
-    match read_part(alloc, part, &mut words, depth, &mut out) {
-        Ok(()) => {}
-        Err(ParseFault::SyntaxError) => out.put(b"none"),
-        Err(ParseFault::OutOfMemory) => out.put(b"no memory"),
+#[test]
+fn every_kind_of_statement_is_copied(rt: HostRuntime) {
+    const TEXTS: &[&str] = &[
+        "SELECT *, t.*, a AS b, t.c FROM t u JOIN (SELECT 1 FROM v) w ON TRUE WHERE FALSE \
+         GROUP BY a, -b UNION ALL SELECT 'x', NULL FROM t ORDER BY a DESC, 2",
+        "SELECT a + 1 - b * -2, NOT a = 1 OR b < 2 AND c IS NOT NULL, a NOT IN (1, 2), \
+         a BETWEEN 1 AND 2, SUM(a), COUNT(*), COUNT(b) FROM t",
+        "SELECT SYSTEM$STREAM_HAS_DATA('s')",
+        "INSERT INTO t (a, b) VALUES (1, 'x'), (NULL, TRUE)",
+        "INSERT INTO t SELECT a FROM u",
+        "UPDATE t SET a = 1, b = a + 1 WHERE a = 2",
+        "DELETE FROM t WHERE a = 1",
+        "MERGE INTO t AS x USING (SELECT a FROM u) AS y ON x.a = y.a WHEN MATCHED AND y.a = 1 \
+         THEN DELETE WHEN MATCHED THEN UPDATE SET a = 2 WHEN NOT MATCHED AND TRUE \
+         THEN INSERT (a) VALUES (3) WHEN NOT MATCHED THEN INSERT VALUES (4)",
+        "CREATE OR REPLACE TABLE t (a NUMBER, b TEXT, c BOOLEAN) DATA_RETENTION_TIME_IN_DAYS = 3",
+        "CREATE STREAM s ON TABLE t APPEND_ONLY = TRUE",
+        "DROP TABLE t",
+        "DROP STREAM s",
+        "BEGIN",
+        "COMMIT",
+        "ROLLBACK",
+    ];
+    for text in TEXTS {
+        let found = copied(&rt, rt.alloc(), text.as_bytes());
+        assert!(rt; found.is_some(), "{text}");
     }
-    out.finish()
 }
 
-/// Whether it stands at the front of a text.
-pub(crate) fn is_read(alloc: Global, part: Part, text: &[u8], depth: usize) -> Result<bool, Fail> {
-    let all = tokens(alloc, text)?;
-    let mut words = Words::new(&all);
-    let mut out = Printer::new(alloc);
-    let found = read_part(alloc, part, &mut words, depth, &mut out).is_ok();
-    out.finish()?;
-    Ok(found)
-}
+/// A name, then a front, what stands so many times behind it, and an end.
+type Grown = (
+    &'static str,
+    &'static str,
+    &'static str,
+    usize,
+    &'static str,
+);
 
-/// Reads the text of each case, `(name, text, want)`.
-pub(crate) fn assert_read(
-    rt: &impl Abort,
-    alloc: Global,
-    part: Part,
-    depth: usize,
-    cases: &[(&str, &str, &str)],
-) -> Result<(), Fail> {
-    for (name, text, want) in cases {
-        let found = read(alloc, part, text.as_bytes(), depth)?;
-        assert_eq!(rt; found.as_slice(), want.as_bytes(), "{name}");
+fn grown(rt: &impl Abort, alloc: Global, case: &Grown, more: bool) -> Bytes {
+    let (_, front, piece, count, end) = case;
+    let mut text = Bytes::from_slice(alloc, front.as_bytes()).expect(rt, "memory");
+    for _ in 0..*count {
+        text.extend(piece.as_bytes()).expect(rt, "memory");
     }
-    Ok(())
-}
-
-/// Finds none in the text of each case, `(name, text)`.
-pub(crate) fn assert_none(
-    rt: &impl Abort,
-    alloc: Global,
-    part: Part,
-    depth: usize,
-    cases: &[(&str, &str)],
-) -> Result<(), Fail> {
-    for (name, text) in cases {
-        let found = read(alloc, part, text.as_bytes(), depth)?;
-        assert_eq!(rt; found.as_slice(), b"none".as_slice(), "{name}");
+    if more {
+        text.extend(piece.as_bytes()).expect(rt, "memory");
     }
-    Ok(())
+    text.extend(end.as_bytes()).expect(rt, "memory");
+    text
 }
 
-fn is_grown_read(alloc: Global, part: Part, pieces: &Pieces, count: usize) -> Result<bool, Fail> {
-    let text = grown(alloc, pieces, count)?;
-    is_read(alloc, part, text.as_slice(), 64)
+fn is_spelled(rt: &impl Abort, alloc: Global, case: &Grown, more: bool) -> bool {
+    let text = grown(rt, alloc, case, more);
+    copied(rt, alloc, text.as_slice()).is_some()
 }
 
-/// Reads the pieces of each case so many times, and not once more.
-pub(crate) fn assert_most(
-    rt: &impl Abort,
-    alloc: Global,
-    part: Part,
-    cases: &[(&str, usize, Pieces)],
-) -> Result<(), Fail> {
-    for (name, most, pieces) in cases {
-        let as_many = is_grown_read(alloc, part, pieces, *most)?;
-        let one_more = is_grown_read(alloc, part, pieces, most.saturating_add(1))?;
-        assert_eq!(rt; (as_many, one_more), (true, false), "{name}");
+#[test]
+fn long_texts_are_read(rt: HostRuntime) {
+    // As many, and not one more.
+    const MOST: &[Grown] = &[
+        ("bytes of a text", "SELECT '", "a", 65536, "' FROM t"),
+        (
+            "bytes of a body",
+            "CREATE TASK k AS DELETE FROM",
+            " ",
+            65524,
+            "t",
+        ),
+    ];
+    // As many as there are.
+    const MANY: &[Grown] = &[
+        ("columns", "CREATE TABLE t (a INT", ", a INT", 2000, ")"),
+        ("rows", "INSERT INTO t VALUES (1)", ",(1)", 2000, ""),
+        ("keys", "SELECT a FROM t ORDER BY 1", ", a DESC", 2000, ""),
+        ("items", "SELECT a", ", a", 2000, " FROM t"),
+        (
+            "names",
+            "CREATE TASK k AFTER a",
+            ", a",
+            2000,
+            " AS DELETE FROM t",
+        ),
+    ];
+    let alloc = rt.alloc();
+    for case in MOST {
+        assert!(rt; is_spelled(&rt, alloc, case, false), "{}", case.0);
+        assert!(rt; !is_spelled(&rt, alloc, case, true), "{}: one more", case.0);
     }
-    Ok(())
+    for case in MANY {
+        assert!(rt; is_spelled(&rt, alloc, case, false), "{}", case.0);
+    }
 }

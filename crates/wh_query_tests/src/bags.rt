@@ -38,84 +38,103 @@ fn has(rt: &impl Abort, alloc: Global, bag: &Bag, rows: Counted<'_>) -> bool {
 }
 
 #[test]
-fn rows_stand_in_order_with_their_counts(rt: HostRuntime) {
+fn rows_are_counted_up_to_64_bits(rt: HostRuntime) {
+    const MOST: u64 = u64::MAX;
     let alloc = rt.alloc();
-    let bag = bag_of(&rt, alloc, &[(3, 1), (1, 2), (2, 0), (3, 4)]);
-    assert!(rt; has(&rt, alloc, &bag, &[(1, 2), (3, 5)]));
+    let mut bag = bag_of(&rt, alloc, &[(3, 1), (1, 2), (2, 0), (3, 4), (5, MOST - 1)]);
     assert_eq!(rt; bag.count(&row_of(&rt, alloc, 2)), 0);
     assert!(rt; !bag.is_empty());
+    assert_eq!(rt; bag.add(row_of(&rt, alloc, 5), 1), Ok(()));
+    assert_eq!(rt; bag.add(row_of(&rt, alloc, 5), 1), Err(AddFault::TooMany));
+    assert!(rt; has(&rt, alloc, &bag, &[(1, 2), (3, 5), (5, MOST)]));
     assert!(rt; bag_of(&rt, alloc, &[(1, 0)]).is_empty());
 }
 
-#[test]
-fn a_count_of_64_bits_is_kept_and_no_greater_one(rt: HostRuntime) {
-    let alloc = rt.alloc();
-    let mut bag = bag_of(&rt, alloc, &[(1, u64::MAX - 1)]);
-    assert_eq!(rt; bag.add(row_of(&rt, alloc, 1), 1), Ok(()));
-    assert_eq!(rt; bag.add(row_of(&rt, alloc, 1), 1), Err(AddFault::TooMany));
-    assert_eq!(rt; bag.add(row_of(&rt, alloc, 2), u64::MAX), Ok(()));
-    assert!(rt; has(&rt, alloc, &bag, &[(1, u64::MAX), (2, u64::MAX)]));
+// The signed rows of a change: those that are added, and those that are taken away.
+fn signed(rt: &impl Abort, alloc: Global, plus: Counted<'_>, minus: Counted<'_>) -> Signed {
+    Signed {
+        plus: bag_of(rt, alloc, plus),
+        minus: bag_of(rt, alloc, minus),
+    }
 }
 
-#[test]
-fn a_net_change_leads_from_one_bag_to_the_other(rt: HostRuntime) {
-    let alloc = rt.alloc();
-    let old = bag_of(&rt, alloc, &[(1, 3), (2, 1), (4, 2)]);
-    let new = bag_of(&rt, alloc, &[(1, 1), (3, 2), (4, 2)]);
-    let change = net(alloc, &old, &new).expect(&rt, "memory");
-    assert!(rt; has(&rt, alloc, &change.plus, &[(3, 2)]));
-    assert!(rt; has(&rt, alloc, &change.minus, &[(1, 2), (2, 1)]));
-    let found = apply(alloc, &old, &change).expect(&rt, "a change that applies");
-    assert!(rt; has(&rt, alloc, &found, &[(1, 1), (3, 2), (4, 2)]));
+const OLD: Counted<'static> = &[(1, 2), (2, u64::MAX), (4, 2)];
+
+// What a change of the old rows leaves.
+fn left(rt: &impl Abort, alloc: Global, change: &Signed) -> Result<Bag, ApplyFault> {
+    apply(alloc, &bag_of(rt, alloc, OLD), change)
 }
 
-type Case<'a> = (
-    &'a str,
-    Counted<'a>,
-    Counted<'a>,
-    Result<Counted<'a>, ApplyFault>,
+/// A name, the rows that are added, those that are taken away, and those that are left.
+type Case = (
+    &'static str,
+    Counted<'static>,
+    Counted<'static>,
+    Counted<'static>,
 );
 
+// Whether a change leaves these rows.
+fn leads(rt: &impl Abort, alloc: Global, case: &Case) -> bool {
+    let (_, plus, minus, new) = case;
+    let change = signed(rt, alloc, plus, minus);
+    match left(rt, alloc, &change) {
+        Ok(found) => has(rt, alloc, &found, new),
+        Err(_) => false,
+    }
+}
+
+// Whether the change between the old rows and others has these rows.
+fn nets(rt: &impl Abort, alloc: Global, case: &Case) -> bool {
+    let (_, plus, minus, new) = case;
+    let old = bag_of(rt, alloc, OLD);
+    let change = net(alloc, &old, &bag_of(rt, alloc, new)).expect(rt, "memory");
+    has(rt, alloc, &change.plus, plus) && has(rt, alloc, &change.minus, minus)
+}
+
 #[test]
-fn both_sides_of_a_change_are_counted(rt: HostRuntime) {
-    let alloc = rt.alloc();
-    let old: &[(i64, u64)] = &[(1, 2), (2, u64::MAX)];
-    let cases: [Case<'_>; 5] = [
-        ("nothing", &[], &[], Ok(old)),
+fn a_change_leads_from_one_bag_to_another(rt: HostRuntime) {
+    const NET: &[Case] = &[
+        ("nothing", &[], &[], OLD),
+        (
+            "rows of each side",
+            &[(3, 2)],
+            &[(1, 1), (4, 2)],
+            &[(1, 1), (2, u64::MAX), (3, 2)],
+        ),
+        (
+            "full, and one less",
+            &[],
+            &[(2, 1)],
+            &[(1, 2), (2, u64::MAX - 1), (4, 2)],
+        ),
+    ];
+    const ON_BOTH_SIDES: &[Case] = &[
         (
             "a row on both sides",
             &[(3, 5)],
             &[(1, 1), (3, 3)],
-            Ok(&[(1, 1), (2, u64::MAX), (3, 2)]),
+            &[(1, 1), (2, u64::MAX), (3, 2), (4, 2)],
         ),
         (
             "full, and one less",
             &[(2, 4)],
             &[(2, 5)],
-            Ok(&[(1, 2), (2, u64::MAX - 1)]),
-        ),
-        (
-            "full, and one more",
-            &[(2, 5)],
-            &[(2, 4)],
-            Err(ApplyFault::TooMany),
-        ),
-        (
-            "one too few",
-            &[(1, 1)],
-            &[(1, 4)],
-            Err(ApplyFault::Missing),
+            &[(1, 2), (2, u64::MAX - 1), (4, 2)],
         ),
     ];
-    for (name, plus, minus, want) in cases {
-        let plus = bag_of(&rt, alloc, plus);
-        let minus = bag_of(&rt, alloc, minus);
-        let old = bag_of(&rt, alloc, old);
-        let met = match (apply(alloc, &old, &Signed { plus, minus }), want) {
-            (Ok(found), Ok(rows)) => has(&rt, alloc, &found, rows),
-            (Err(fault), Err(wanted)) => fault == wanted,
-            _ => false,
-        };
-        assert!(rt; met, "{name}");
+    let alloc = rt.alloc();
+    for case in NET {
+        assert!(rt;
+            leads(&rt, alloc, case) && nets(&rt, alloc, case),
+            "{}",
+            case.0
+        );
     }
+    for case in ON_BOTH_SIDES {
+        assert!(rt; leads(&rt, alloc, case), "{}", case.0);
+    }
+    let too_many = signed(&rt, alloc, &[(2, 5)], &[(2, 4)]);
+    assert!(rt; matches!(left(&rt, alloc, &too_many), Err(ApplyFault::TooMany)));
+    let missing = signed(&rt, alloc, &[(1, 1)], &[(1, 4)]);
+    assert!(rt; matches!(left(&rt, alloc, &missing), Err(ApplyFault::Missing)));
 }

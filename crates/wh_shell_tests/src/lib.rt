@@ -10,8 +10,4 @@ mod runs;
 #[cfg(test)]
 mod stops;
 #[cfg(test)]
-mod streams;
-#[cfg(test)]
 mod told;
-#[cfg(test)]
-mod transactions;

@@ -1,111 +1,14 @@
-//! Scripts as lines, seen through whole runs: quotes and comments, sessions, ticks, and each front
-//! of a script.
+//! Scripts that end anywhere, seen through whole runs.
 
-use crate::running::{ONE_TABLE, carried_out};
+use crate::running::carried_out;
 use std::alloc::Global;
 use std::process::Abort;
 use std::thread::Threads;
-use wh_shell::Status;
 
 /// Carries out a script over no file, which writes that text.
-fn assert_written(
-    rt: &(impl Abort + Threads + Sync),
-    alloc: Global,
-    script: &[u8],
-    text: &[u8],
-) -> Status {
+fn assert_written(rt: &(impl Abort + Threads + Sync), alloc: Global, script: &[u8], text: &[u8]) {
     let done = carried_out(rt, alloc, b"", script);
     assert_eq!(rt; done.out.held(), text, "of {} bytes", script.len());
-    done.status
-}
-
-/// `SELECT`, so many spaces and `;`.
-fn long_select(rt: &impl Abort, alloc: Global, spaces: usize) -> Vec<u8> {
-    let mut text = b"SELECT".to_vec(alloc).expect(rt, "memory");
-    let length = spaces.saturating_add(6);
-    text.resize(length, b' ').expect(rt, "memory");
-    text.push(b';').expect(rt, "memory");
-    text
-}
-
-#[test]
-fn a_text_that_spells_nothing_is_refused(rt: HostRuntime) {
-    let alloc = rt.alloc();
-    let long = long_select(&rt, alloc, 65531);
-    let rest = b"\n!session 65\nBEGIN;\n!session 1\nSELECT 'abc".as_slice();
-    let pieces = [b"SELECT '\xff';".as_slice(), &long, rest];
-    let script = pieces.concat(alloc).expect(&rt, "memory");
-    let text = b"E1 SyntaxError\nE13 Limit STATEMENT 65536\nE2 NoSuchSession 65\nE1 SyntaxError\n";
-    let status = assert_written(&rt, alloc, &script, text);
-    assert_eq!(rt; status, Status::Read { refusals: 4 });
-}
-
-#[test]
-fn a_text_of_65536_bytes_is_read(rt: HostRuntime) {
-    let script = long_select(&rt, rt.alloc(), 65530);
-    assert_written(&rt, rt.alloc(), &script, b"E1 SyntaxError\n");
-}
-
-#[test]
-fn quotes_comments_and_ticks_are_answered(rt: HostRuntime) {
-    let script = b"CREATE TABLE \"a\"(K VARCHAR);
-INSERT INTO \"a\" VALUES ('x''y');
-SELECT * FROM \"a\"; -- end
-SELECT * FROM A;
-!tick 5
-";
-    let text = b"CREATED TABLE a
-INSERTED 1
-K
-'x''y'
-(1 rows)
-E6 UnknownName A
-IDLE
-";
-    let status = assert_written(&rt, rt.alloc(), script, text);
-    assert_eq!(rt; status, Status::Read { refusals: 1 });
-}
-
-/// The stamp of a script's one commit. But for it the file is that of one table.
-fn assert_stamp(
-    rt: &(impl Abort + Threads + Sync),
-    alloc: Global,
-    name: &str,
-    script: &[u8],
-    stamp: u8,
-) {
-    let done = carried_out(rt, alloc, b"", script);
-    let mut want = ONE_TABLE;
-    // The stamp is the last byte of the file's first 24.
-    want[23] = stamp;
-    assert_eq!(rt; done.disk.bytes(), want.as_slice(), "{name}");
-}
-
-#[test]
-fn a_stamp_is_behind_the_ticks_before_it(rt: HostRuntime) {
-    const CASES: &[(&str, &[u8], u8)] = &[
-        ("no tick", b"CREATE TABLE T(K NUMBER);", 1),
-        ("a tick", b"!tick\nCREATE TABLE T(K NUMBER);", 2),
-        ("at 5", b"!tick 5\nCREATE TABLE T(K NUMBER);", 6),
-        (
-            "5, then 3",
-            b"!tick 5\n!tick 3\nCREATE TABLE T(K NUMBER);",
-            7,
-        ),
-        (
-            "5, then 9",
-            b"!tick 5\n!tick 9\nCREATE TABLE T(K NUMBER);",
-            10,
-        ),
-        (
-            "a refusal between",
-            b"!tick 5\nROLLBACK;CREATE TABLE T(K NUMBER);",
-            7,
-        ),
-    ];
-    for (name, script, stamp) in CASES {
-        assert_stamp(&rt, rt.alloc(), name, script, *stamp);
-    }
 }
 
 /// The pieces of a script, each with its reply. The front of a piece spells nothing, but where it

@@ -29,19 +29,12 @@ pub(crate) struct Failing<'a> {
     pub(crate) disk: &'a [u64],
 }
 
-pub(crate) const NO_FAILURE: Failing<'static> = Failing {
-    source: &[],
-    sink: &[],
-    disk: &[],
-};
-
-pub(crate) fn owned(rt: &impl Abort, alloc: Global, words: &[&str]) -> Vec<String> {
-    let mut owned = Vec::new(alloc);
-    for word in words {
-        let word = String::from_str(alloc, word).expect(rt, "memory");
-        owned.push(word).expect(rt, "memory");
-    }
-    owned
+/// The word of a run.
+pub(crate) fn the_word(rt: &impl Abort, alloc: Global) -> Vec<String> {
+    let word = String::from_str(alloc, "run").expect(rt, "memory");
+    let mut words = Vec::new(alloc);
+    words.push(word).expect(rt, "memory");
+    words
 }
 
 pub(crate) fn source_of(
@@ -77,7 +70,7 @@ pub(crate) fn clock_at_0(rt: &impl Abort, alloc: Global) -> SetClock {
 }
 
 /// What a run is over: the bytes of its file, its script, the calls that fail, and for how many more
-/// bytes the disk and the sink have room.
+/// bytes disk and sink have room.
 #[derive(Clone, Copy)]
 pub(crate) struct Given<'a> {
     pub(crate) file: &'a [u8],
@@ -89,11 +82,10 @@ pub(crate) struct Given<'a> {
 pub(crate) fn run_with(
     rt: &(impl Abort + Threads + Sync),
     alloc: Global,
-    words: &[&str],
     given: &Given<'_>,
 ) -> Outcome {
     let failing = given.failing;
-    let words = owned(rt, alloc, words);
+    let words = the_word(rt, alloc);
     let mut source = source_of(rt, alloc, given.script, failing.source);
     let mut out = sink_of(rt, alloc, given.room, failing.sink);
     let disk = disk_of(rt, alloc, given.file, given.room, failing.disk);
@@ -102,7 +94,28 @@ pub(crate) fn run_with(
     Outcome { status, out, disk }
 }
 
-/// Carries out a script over a file, with no failure.
+/// Carries out a script over a file, where these calls of the disk fail, with room for few bytes.
+pub(crate) fn stopped<'x>(
+    rt: &(impl Abort + Threads + Sync),
+    alloc: Global,
+    file: &'x [u8],
+    script: &'x [u8],
+    calls: &'x [u64],
+) -> Outcome {
+    let given = Given {
+        file,
+        script,
+        failing: Failing {
+            source: &[],
+            sink: &[],
+            disk: calls,
+        },
+        room: 1 << 12,
+    };
+    run_with(rt, alloc, &given)
+}
+
+/// Carries out a script over a file, with no failure and room for many bytes.
 pub(crate) fn carried_out<'x>(
     rt: &(impl Abort + Threads + Sync),
     alloc: Global,
@@ -112,8 +125,12 @@ pub(crate) fn carried_out<'x>(
     let given = Given {
         file,
         script,
-        failing: NO_FAILURE,
+        failing: Failing {
+            source: &[],
+            sink: &[],
+            disk: &[],
+        },
         room: 1 << 20,
     };
-    run_with(rt, alloc, &["run"], &given)
+    run_with(rt, alloc, &given)
 }

@@ -1,7 +1,8 @@
 //! What a stop leaves, seen through whole runs: every call of the disk fails in turn, and every
 //! file that a crash may then leave is opened.
 
-use crate::running::{Failing, Given, Outcome, run_with};
+use crate::running::stopped;
+use crate::told::{Held, commits_in};
 use std::alloc::Global;
 use std::process::Abort;
 use std::thread::Threads;
@@ -27,19 +28,22 @@ const COMMANDS: &[&[u8]] = &[
 const LISTINGS: &[u8] = b"SELECT * FROM T; SELECT * FROM U;";
 
 /// What the listings print after the first of the commands, after none to all of them.
-const LISTED: &[&[u8]] = &[
-    b"E6 UnknownName T\nE6 UnknownName U\n",
-    b"K\n(0 rows)\nE6 UnknownName U\n",
-    b"K\n1\n(1 rows)\nE6 UnknownName U\n",
-    b"K\n1\n2\n3\n(3 rows)\nE6 UnknownName U\n",
-    b"K\n1\n2\n3\n(3 rows)\nA | B\n(0 rows)\n",
-    b"K\n1\n2\n3\n(3 rows)\nA | B\n1 | 7\n2 | 8\n(2 rows)\n",
-    b"K\n1\n5\n6\n(3 rows)\nA | B\n1 | 7\n2 | 8\n(2 rows)\n",
-    b"K\n5\n6\n8\n(3 rows)\nA | B\n1 | 7\n2 | 8\n(2 rows)\n",
-    b"K\n5\n6\n8\n(3 rows)\nA | B\n2 | 8\n(1 rows)\n",
-    b"K\n5\n6\n8\n(3 rows)\nC\n(0 rows)\n",
-    b"E6 UnknownName T\nC\n(0 rows)\n",
-];
+const TEN: Held = Held {
+    listings: LISTINGS,
+    listed: &[
+        b"E6 UnknownName T\nE6 UnknownName U\n",
+        b"K\n(0 rows)\nE6 UnknownName U\n",
+        b"K\n1\n(1 rows)\nE6 UnknownName U\n",
+        b"K\n1\n2\n3\n(3 rows)\nE6 UnknownName U\n",
+        b"K\n1\n2\n3\n(3 rows)\nA | B\n(0 rows)\n",
+        b"K\n1\n2\n3\n(3 rows)\nA | B\n1 | 7\n2 | 8\n(2 rows)\n",
+        b"K\n1\n5\n6\n(3 rows)\nA | B\n1 | 7\n2 | 8\n(2 rows)\n",
+        b"K\n5\n6\n8\n(3 rows)\nA | B\n1 | 7\n2 | 8\n(2 rows)\n",
+        b"K\n5\n6\n8\n(3 rows)\nA | B\n2 | 8\n(1 rows)\n",
+        b"K\n5\n6\n8\n(3 rows)\nC\n(0 rows)\n",
+        b"E6 UnknownName T\nC\n(0 rows)\n",
+    ],
+};
 
 /// A pick: of the bytes that were written and not synced the first `cut` are there, and in the
 /// place of those behind them stands `fill`, or for 256 what was there before.
@@ -49,53 +53,15 @@ fn torn(cut: u64, fill: u64) -> u64 {
         .saturating_add(2)
 }
 
-/// Carries out a script over a file, where these calls of the disk fail.
-fn ran<'x>(
-    rt: &(impl Abort + Threads + Sync),
-    alloc: Global,
-    file: &'x [u8],
-    script: &'x [u8],
-    failing: &'x [u64],
-) -> Outcome {
-    let given = Given {
-        file,
-        script,
-        failing: Failing {
-            source: &[],
-            sink: &[],
-            disk: failing,
-        },
-        room: 1 << 12,
-    };
-    run_with(rt, alloc, &["run"], &given)
-}
-
 /// The commands from a place on, as one script.
 fn commands_from(rt: &impl Abort, alloc: Global, first: usize) -> Vec<u8> {
     let commands = COMMANDS.get(first..).expect(rt, "a command");
     commands.concat(alloc).expect(rt, "memory")
 }
 
-/// After how many of the commands the listings print that text; none where they never do.
-fn place_of(text: &[u8]) -> Option<usize> {
-    for (place, listed) in LISTED.iter().enumerate() {
-        if *listed == text {
-            return Some(place);
-        }
-    }
-    None
-}
-
-/// How many of the commands a file holds, by what its listings print; none where they print
-/// anything else.
-fn commits_in(rt: &(impl Abort + Threads + Sync), alloc: Global, file: &[u8]) -> Option<usize> {
-    let left = ran(rt, alloc, file, LISTINGS, &[]);
-    place_of(left.out.held())
-}
-
 /// How a run of the listings over a file ends.
 fn listing_status(rt: &(impl Abort + Threads + Sync), alloc: Global, file: &[u8]) -> Status {
-    ran(rt, alloc, file, LISTINGS, &[]).status
+    stopped(rt, alloc, file, LISTINGS, &[]).status
 }
 
 fn lines(text: &[u8]) -> usize {
@@ -117,8 +83,8 @@ fn gone_on(
     held: usize,
 ) -> (Status, Option<usize>) {
     let script = commands_from(rt, alloc, held);
-    let rest = ran(rt, alloc, file, &script, &[]);
-    (rest.status, commits_in(rt, alloc, rest.disk.bytes()))
+    let rest = stopped(rt, alloc, file, &script, &[]);
+    (rest.status, commits_in(rt, alloc, &TEN, rest.disk.bytes()))
 }
 
 /// Whether a file holds the commands that were answered, at most one more, and the others go on
@@ -129,7 +95,7 @@ fn holds_what_was_answered(
     file: &[u8],
     answered: usize,
 ) -> bool {
-    let Some(held) = commits_in(rt, alloc, file) else {
+    let Some(held) = commits_in(rt, alloc, &TEN, file) else {
         return false;
     };
     let (status, all) = gone_on(rt, alloc, file, held);
@@ -186,7 +152,7 @@ fn picks_hold(
 
 /// A script that is stopped at that call leaves what was answered.
 fn assert_stop(rt: &(impl Abort + Threads + Sync), alloc: Global, script: &[u8], call: u64) {
-    let left = ran(rt, alloc, b"", script, &[call]);
+    let left = stopped(rt, alloc, b"", script, &[call]);
     assert_eq!(rt; left.status, Status::Stopped(Fault::Disk), "call {call}");
     let answered = lines(left.out.held());
     let holds = picks_hold(rt, alloc, &left.disk, answered);
@@ -201,13 +167,13 @@ fn each_file_that_a_failed_call_may_leave_holds_what_was_answered(rt: HostRuntim
     for call in 1..45u64 {
         assert_stop(&rt, alloc, &script, call);
     }
-    let done = ran(&rt, alloc, b"", &script, &[45]);
+    let done = stopped(&rt, alloc, b"", &script, &[45]);
     assert_eq!(rt; done.status, Status::Read { refusals: 0 });
 }
 
 /// How many bytes the file has after a script.
 fn size_after(rt: &(impl Abort + Threads + Sync), alloc: Global, script: &[u8]) -> usize {
-    ran(rt, alloc, b"", script, &[]).disk.bytes().len()
+    stopped(rt, alloc, b"", script, &[]).disk.bytes().len()
 }
 
 /// How many bytes the file has after none to all of the commands.
@@ -250,7 +216,7 @@ fn front_holds(
     answered: usize,
 ) -> bool {
     if front.len() <= 8 {
-        return commits_in(rt, alloc, front) == Some(0);
+        return commits_in(rt, alloc, &TEN, front) == Some(0);
     }
     if end <= front.len() {
         return holds_what_was_answered(rt, alloc, front, answered);
@@ -267,7 +233,7 @@ fn fronts_hold(
     sizes: &[usize],
     answered: usize,
 ) -> bool {
-    let Some(held) = commits_in(rt, alloc, file) else {
+    let Some(held) = commits_in(rt, alloc, &TEN, file) else {
         return false;
     };
     let Some(end) = sizes.get(held) else {
@@ -289,7 +255,7 @@ fn assert_fronts(
     sizes: &[usize],
     call: u64,
 ) {
-    let left = ran(rt, alloc, b"", script, &[call]);
+    let left = stopped(rt, alloc, b"", script, &[call]);
     let answered = lines(left.out.held());
     let holds = fronts_hold(rt, alloc, left.disk.bytes(), sizes, answered);
     assert!(rt; holds, "call {call}");
@@ -328,7 +294,7 @@ fn assert_named(rt: &(impl Abort + Threads + Sync), alloc: Global, file: &[u8], 
 fn a_file_with_any_byte_turned_opens_or_is_no_warehouse(rt: HostRuntime) {
     let alloc = rt.alloc();
     let script = commands_from(&rt, alloc, 0);
-    let whole = ran(&rt, alloc, b"", &script, &[]);
+    let whole = stopped(&rt, alloc, b"", &script, &[]);
     for at in 0..whole.disk.bytes().len() {
         assert_named(&rt, alloc, whole.disk.bytes(), at);
     }
@@ -340,14 +306,18 @@ fn assert_gate(rt: &(impl Abort + Threads + Sync), alloc: Global, disk: &MemDisk
     let image = disk.image(alloc, pick).expect(rt, "memory");
     let commits = if gate == 1 { 1 } else { 0 };
     assert_eq!(rt; image.get(7).copied(), Some(gate), "gate {gate}");
-    assert_eq!(rt; commits_in(rt, alloc, &image), Some(commits), "gate {gate}");
+    assert_eq!(rt;
+        commits_in(rt, alloc, &TEN, &image),
+        Some(commits),
+        "gate {gate}"
+    );
 }
 
 #[test]
 fn a_stop_at_the_gate_leaves_the_table_or_not(rt: HostRuntime) {
     let alloc = rt.alloc();
     // The eighth call is the sync behind the write of the gate.
-    let left = ran(&rt, alloc, b"", CREATE, &[8]);
+    let left = stopped(&rt, alloc, b"", CREATE, &[8]);
     assert_eq!(rt; left.status, Status::Stopped(Fault::Disk));
     assert_eq!(rt; left.out.held(), b"".as_slice());
     for gate in 0..=255u8 {
@@ -358,13 +328,13 @@ fn a_stop_at_the_gate_leaves_the_table_or_not(rt: HostRuntime) {
 /// A pick's file has the table.
 fn assert_table(rt: &(impl Abort + Threads + Sync), alloc: Global, disk: &MemDisk, pick: u64) {
     let image = disk.image(alloc, pick).expect(rt, "memory");
-    assert_eq!(rt; commits_in(rt, alloc, &image), Some(1), "pick {pick}");
+    assert_eq!(rt; commits_in(rt, alloc, &TEN, &image), Some(1), "pick {pick}");
 }
 
 #[test]
 fn after_the_reply_each_file_has_the_table(rt: HostRuntime) {
     let alloc = rt.alloc();
-    let done = ran(&rt, alloc, b"", CREATE, &[]);
+    let done = stopped(&rt, alloc, b"", CREATE, &[]);
     assert_eq!(rt; done.status, Status::Read { refusals: 0 });
     for pick in 0..1000u64 {
         assert_table(&rt, alloc, &done.disk, pick);

@@ -1,51 +1,150 @@
-//! Scripts that are stopped at every call of the disk, and what is listed of the file that is left.
+//! Scripts that are stopped at every call of the disk, and what is listed of the file that is left:
+//! transactions of two sessions, and commits that consume a stream.
 
-use crate::running::{Failing, Given, Outcome, carried_out, run_with};
+use crate::running::stopped;
 use std::alloc::Global;
 use std::process::Abort;
 use std::thread::Threads;
 use wh_shell::{Fault, Status};
 use wh_world::MemDisk;
 
-/// A script each of whose commits is answered by a line that begins with `CREATED` or `COMMITTED`.
-#[derive(Clone, Copy, Debug)]
-pub struct Commits {
-    pub script: &'static [u8],
-    pub listings: &'static [u8],
+/// What a file holds of a script, by what is listed of it.
+#[derive(Clone, Copy)]
+pub(crate) struct Held {
+    pub(crate) listings: &'static [u8],
     /// What the listings print after none to all of the commits.
-    pub listed: &'static [&'static [u8]],
+    pub(crate) listed: &'static [&'static [u8]],
 }
 
-/// Carries out the script over a new file, where that call of the disk fails.
-pub fn stopped(
-    rt: &(impl Abort + Threads + Sync),
-    alloc: Global,
-    commits: &Commits,
-    call: u64,
-) -> Outcome {
-    let failing = [call];
-    let given = Given {
-        file: b"",
-        script: commits.script,
-        failing: Failing {
-            source: &[],
-            sink: &[],
-            disk: &failing,
-        },
-        room: 1 << 12,
-    };
-    run_with(rt, alloc, &["run"], &given)
+/// A script each of whose commits is answered by a line that begins with `CREATED` or `COMMITTED`.
+#[derive(Clone, Copy)]
+struct Commits {
+    script: &'static [u8],
+    refusals: u64,
+    held: Held,
 }
+
+/// Four commits: two tables, and a transaction of each session. A third is open at the end: the next
+/// run finds none open, and what it held is free.
+const TRANSACTIONS: Commits = Commits {
+    script: b"CREATE TABLE T(K NUMBER);
+CREATE TABLE U(K NUMBER);
+BEGIN;
+INSERT INTO T VALUES (1);
+!session 2
+BEGIN;
+INSERT INTO U VALUES (10);
+!session 1
+INSERT INTO T VALUES (2);
+UPDATE U SET K = 0;
+COMMIT;
+!session 2
+UPDATE U SET K = K + 1;
+INSERT INTO U VALUES (20);
+DELETE FROM T WHERE K = 1;
+COMMIT;
+BEGIN;
+DELETE FROM T;
+ROLLBACK;
+BEGIN;
+DELETE FROM T;
+INSERT INTO U VALUES (5);
+",
+    refusals: 1,
+    held: Held {
+        listings: b"SELECT * FROM T; SELECT * FROM U; COMMIT;
+!session 2
+DELETE FROM T;",
+        listed: &[
+            b"E6 UnknownName T\nE6 UnknownName U\nE5 NoTransaction\nE6 UnknownName T\n",
+            b"K\n(0 rows)\nE6 UnknownName U\nE5 NoTransaction\nDELETED 0\n",
+            b"K\n(0 rows)\nK\n(0 rows)\nE5 NoTransaction\nDELETED 0\n",
+            b"K\n1\n2\n(2 rows)\nK\n(0 rows)\nE5 NoTransaction\nDELETED 2\n",
+            b"K\n2\n(1 rows)\nK\n11\n20\n(2 rows)\nE5 NoTransaction\nDELETED 1\n",
+        ],
+    },
+};
+
+/// Seven commits. The fifth and the last move changes of T on to C.
+const CHANGES: Commits = Commits {
+    script: b"CREATE TABLE T(K NUMBER);
+CREATE TABLE C(K NUMBER);
+CREATE STREAM S ON TABLE T;
+BEGIN;
+INSERT INTO T VALUES (1), (2);
+COMMIT;
+BEGIN;
+INSERT INTO C SELECT K FROM S;
+COMMIT;
+BEGIN;
+UPDATE T SET K = 11 WHERE K = 1;
+DELETE FROM T WHERE K = 2;
+COMMIT;
+BEGIN;
+INSERT INTO C SELECT K FROM S WHERE METADATA$ACTION = 'INSERT';
+COMMIT;
+",
+    refusals: 0,
+    held: Held {
+        listings: b"SELECT * FROM T; SELECT * FROM C; SELECT K, METADATA$ACTION AS A FROM S;",
+        listed: &[
+            b"E6 UnknownName T\nE6 UnknownName C\nE6 UnknownName S\n",
+            b"K\n(0 rows)\nE6 UnknownName C\nE6 UnknownName S\n",
+            b"K\n(0 rows)\nK\n(0 rows)\nE6 UnknownName S\n",
+            b"K\n(0 rows)\nK\n(0 rows)\nK | A\n(0 rows)\n",
+            b"K\n1\n2\n(2 rows)\nK\n(0 rows)\nK | A\n1 | 'INSERT'\n2 | 'INSERT'\n(2 rows)\n",
+            b"K\n1\n2\n(2 rows)\nK\n1\n2\n(2 rows)\nK | A\n(0 rows)\n",
+            b"K\n11\n(1 rows)\nK\n1\n2\n(2 rows)\nK | A\n1 | 'DELETE'\n2 | 'DELETE'\n11 | 'INSERT'\n(3 rows)\n",
+            b"K\n11\n(1 rows)\nK\n1\n2\n11\n(3 rows)\nK | A\n(0 rows)\n",
+        ],
+    },
+};
+
+/// The same with a stream of appended rows: a row that is changed or goes is moved on as it came.
+const APPENDED: Commits = Commits {
+    script: b"CREATE TABLE T(K NUMBER);
+CREATE TABLE F(K NUMBER);
+CREATE STREAM A ON TABLE T APPEND_ONLY = TRUE;
+BEGIN;
+INSERT INTO T VALUES (1), (2);
+COMMIT;
+BEGIN;
+INSERT INTO F SELECT K FROM A;
+COMMIT;
+BEGIN;
+UPDATE T SET K = 11 WHERE K = 1;
+DELETE FROM T WHERE K = 2;
+INSERT INTO T VALUES (3);
+COMMIT;
+BEGIN;
+INSERT INTO F SELECT K FROM A;
+COMMIT;
+",
+    refusals: 0,
+    held: Held {
+        listings: b"SELECT * FROM T; SELECT * FROM F; SELECT K FROM A;",
+        listed: &[
+            b"E6 UnknownName T\nE6 UnknownName F\nE6 UnknownName A\n",
+            b"K\n(0 rows)\nE6 UnknownName F\nE6 UnknownName A\n",
+            b"K\n(0 rows)\nK\n(0 rows)\nE6 UnknownName A\n",
+            b"K\n(0 rows)\nK\n(0 rows)\nK\n(0 rows)\n",
+            b"K\n1\n2\n(2 rows)\nK\n(0 rows)\nK\n1\n2\n(2 rows)\n",
+            b"K\n1\n2\n(2 rows)\nK\n1\n2\n(2 rows)\nK\n(0 rows)\n",
+            b"K\n3\n11\n(2 rows)\nK\n1\n2\n(2 rows)\nK\n3\n(1 rows)\n",
+            b"K\n3\n11\n(2 rows)\nK\n1\n2\n3\n(3 rows)\nK\n(0 rows)\n",
+        ],
+    },
+};
 
 /// How many commits the listings of a file show; none where they print anything else.
-fn commits_in(
+pub(crate) fn commits_in(
     rt: &(impl Abort + Threads + Sync),
     alloc: Global,
-    commits: &Commits,
+    held: &Held,
     file: &[u8],
 ) -> Option<usize> {
-    let left = carried_out(rt, alloc, file, commits.listings);
-    for (count, listed) in commits.listed.iter().enumerate() {
+    let left = stopped(rt, alloc, file, held.listings, &[]);
+    for (count, listed) in held.listed.iter().enumerate() {
         if *listed == left.out.held() {
             return Some(count);
         }
@@ -54,7 +153,7 @@ fn commits_in(
 }
 
 /// How many commits are told: lines that begin with `CREATED` or `COMMITTED`.
-pub fn commits_told(text: &[u8]) -> usize {
+fn commits_told(text: &[u8]) -> usize {
     let mut count = 0usize;
     let mut begins = true;
     for byte in text {
@@ -76,25 +175,60 @@ fn pick_holds(
     told: usize,
 ) -> bool {
     let image = disk.image(alloc, pick).expect(rt, "memory");
-    let held = commits_in(rt, alloc, commits, &image);
+    let held = commits_in(rt, alloc, &commits.held, &image);
     held == Some(told) || held == Some(told.saturating_add(1))
 }
 
 /// The script is stopped at that call: what is left is what was told.
-pub fn assert_stop(
-    rt: &(impl Abort + Threads + Sync),
-    alloc: Global,
-    commits: &Commits,
-    call: u64,
-) {
-    let left = stopped(rt, alloc, commits, call);
+fn assert_stop(rt: &(impl Abort + Threads + Sync), alloc: Global, commits: &Commits, call: u64) {
+    let left = stopped(rt, alloc, b"", commits.script, &[call]);
     assert_eq!(rt; left.status, Status::Stopped(Fault::Disk), "call {call}");
     let told = commits_told(left.out.held());
     // The synced bytes, what a read gives, and what is torn within the first bytes.
     for pick in 0..100u64 {
-        assert!(rt;
-            pick_holds(rt, alloc, commits, &left.disk, pick, told),
-            "call {call}, pick {pick}"
-        );
+        let holds = pick_holds(rt, alloc, commits, &left.disk, pick, told);
+        assert!(rt; holds, "call {call}, pick {pick}");
     }
+}
+
+/// The script isn't stopped before that call: all of its commits are told, and in the file.
+fn assert_whole(rt: &(impl Abort + Threads + Sync), alloc: Global, commits: &Commits, call: u64) {
+    let done = stopped(rt, alloc, b"", commits.script, &[call]);
+    let refusals = commits.refusals;
+    assert_eq!(rt; done.status, Status::Read { refusals }, "call {call}");
+    let told = commits_told(done.out.held());
+    assert_eq!(rt; told.saturating_add(1), commits.held.listed.len(), "told");
+    assert_eq!(rt;
+        commits_in(rt, alloc, &commits.held, done.disk.bytes()),
+        Some(told),
+        "held"
+    );
+}
+
+/// The script is stopped at each of its calls: four to open, and four for each commit, which is one
+/// record.
+fn assert_stops(rt: &(impl Abort + Threads + Sync), alloc: Global, commits: &Commits) {
+    let mut call = 1u64;
+    for _ in commits.held.listed {
+        for _ in 0..4 {
+            assert_stop(rt, alloc, commits, call);
+            call = call.saturating_add(1);
+        }
+    }
+    assert_whole(rt, alloc, commits, call);
+}
+
+#[test]
+fn a_stop_in_transactions_leaves_the_commits_that_were_told(rt: HostRuntime) {
+    assert_stops(&rt, rt.alloc(), &TRANSACTIONS);
+}
+
+#[test]
+fn a_stop_while_changes_are_moved_on_leaves_them_moved_once(rt: HostRuntime) {
+    assert_stops(&rt, rt.alloc(), &CHANGES);
+}
+
+#[test]
+fn a_stop_while_appended_rows_are_moved_on_leaves_them_moved_once(rt: HostRuntime) {
+    assert_stops(&rt, rt.alloc(), &APPENDED);
 }

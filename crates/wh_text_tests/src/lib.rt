@@ -1,8 +1,10 @@
-//! Tests of values, texts, lines of scripts, replies and tokens.
+//! Tests of lines of scripts, of replies, of tokens and of sorted rows.
 #![tactic(auto)]
 
 #[cfg(test)]
 mod lines;
+#[cfg(test)]
+mod replies;
 #[cfg(test)]
 mod tokens;
 #[cfg(test)]

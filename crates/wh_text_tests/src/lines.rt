@@ -1,5 +1,3 @@
-mod replies;
-
 use std::alloc::Global;
 use std::process::Abort;
 use wh_text::*;
@@ -158,33 +156,22 @@ fn check_runs(rt: &impl Abort, alloc: Global, byte: u8, cases: &[RunCase]) {
 }
 
 #[test]
-fn a_script_is_split_at_its_semicolons(rt: HostRuntime) {
-    const CASES: [Case; 5] = [
+fn a_script_has_its_lines_whatever_the_pieces_it_comes_in(rt: HostRuntime) {
+    const CASES: &[Case] = &[
+        // Semicolons end commands,
         ("no byte", b"", b""),
         ("blanks and semicolons", b" ;\t;\r\n", b""),
         ("no last semicolon", b"a;b", b"a|b|"),
         ("blanks", b" \r\n a \t;\tb\n", b"a \t|b\n|"),
         ("no text", b"\xff\x00;\x0bc3", b"\xff\x00|\x0bc3|"),
-    ];
-    check(&rt, rt.alloc(), &CASES);
-}
-
-#[test]
-fn a_semicolon_in_quotes_ends_no_command(rt: HostRuntime) {
-    const CASES: [Case; 6] = [
+        // but not in quotes,
         ("a text", b"'a;b';c", b"'a;b'|c|"),
         ("a name", b"\"a;b\";c", b"\"a;b\"|c|"),
         ("a doubled quote", b"'a'';b';c", b"'a'';b'|c|"),
         ("the other quote", b"'\";';\"';\"", b"'\";'|\"';\"|"),
         ("a backslash", b"'\\';a", b"'\\'|a|"),
         ("no end", b"a;'b;c", b"a|'b;c|"),
-    ];
-    check(&rt, rt.alloc(), &CASES);
-}
-
-#[test]
-fn a_semicolon_in_a_comment_ends_no_command(rt: HostRuntime) {
-    const CASES: [Case; 7] = [
+        // nor in comments.
         ("to the line's end", b"a--b;'\nd;e", b"a--b;'\nd|e|"),
         ("to its own end", b"a/*b;c*/d;e", b"a/*b;c*/d|e|"),
         ("none in quotes", b"'--';'/*';b", b"'--'|'/*'|b|"),
@@ -192,26 +179,14 @@ fn a_semicolon_in_a_comment_ends_no_command(rt: HostRuntime) {
         ("a slash before", b"//*a;*/b;c", b"//*a;*/b|c|"),
         ("no end", b"a/*b;c", b"a/*b;c|"),
         ("a slash behind", b"a/*/;*/;b", b"a/*/;*/|b|"),
-    ];
-    check(&rt, rt.alloc(), &CASES);
-}
-
-#[test]
-fn a_comment_between_commands_is_passed_over(rt: HostRuntime) {
-    const CASES: [Case; 6] = [
+        // Comments between commands are passed over.
         ("both kinds", b"---a;b\nc;/*d;*/e;", b"c|e|"),
         ("stars", b"/*;* /**;**//*;*/a;b", b"a|b|"),
         ("at the end", b"a;--b", b"a|"),
         ("no end", b"a;/*b;*", b"a|/*b;*|"),
         ("a slash behind", b"/*/;a", b"/*/;a|"),
         ("an end alone", b"*/a;/;-", b"*/a|/|-|"),
-    ];
-    check(&rt, rt.alloc(), &CASES);
-}
-
-#[test]
-fn a_marked_line_may_be_a_session(rt: HostRuntime) {
-    const CASES: [Case; 7] = [
+        // Marked lines: sessions
         ("a CR", b"!session 2\r\na;", b"S2|a|"),
         ("two", b"!session 2\r\r\na;", b"!session 2\r|a|"),
         ("a CR at the end", b"!session 2\r", b"!session 2\r|"),
@@ -223,13 +198,7 @@ fn a_marked_line_may_be_a_session(rt: HostRuntime) {
             b"!session 0000000001|",
         ),
         ("no number", b"!session \n", b"!session |"),
-    ];
-    check(&rt, rt.alloc(), &CASES);
-}
-
-#[test]
-fn a_marked_line_may_be_a_tick(rt: HostRuntime) {
-    const CASES: [Case; 9] = [
+        // and ticks.
         ("no reading", b" !tick\r\na", b"T|a|"),
         ("a reading", b"!tick 5\n!tick 0", b"T5|T0|"),
         (
@@ -252,13 +221,13 @@ fn a_marked_line_may_be_a_tick(rt: HostRuntime) {
         ("a semicolon", b"!tick 5;'--\nb", b"!tick 5;'--|b|"),
         ("in a command", b"a\n!tick\n;b", b"a\n!tick\n|b|"),
     ];
-    check(&rt, rt.alloc(), &CASES);
+    check(&rt, rt.alloc(), CASES);
 }
 
-// The texts are runs of `x`; a command `y` stands behind each.
+// Runs of `x` are texts and runs of `!` are lines; a command `y` stands behind each.
 #[test]
-fn a_long_text_is_given_by_its_front(rt: HostRuntime) {
-    const CASES: [RunCase; 6] = [
+fn a_long_line_is_given_by_its_front(rt: HostRuntime) {
+    const TEXTS: &[RunCase] = &[
         ("one below the most", 65535, b";y", 65535, b"|y|"),
         ("as long as a text may be", 65536, b";y", 65536, b"|y|"),
         ("one more", 65537, b";y", 65537, b"|y|"),
@@ -266,13 +235,7 @@ fn a_long_text_is_given_by_its_front(rt: HostRuntime) {
         ("more than a read", 70000, b";y", 65537, b"|y|"),
         ("many reads", 200000, b";y", 65537, b"|y|"),
     ];
-    check_runs(&rt, rt.alloc(), b'x', &CASES);
-}
-
-// The lines are runs of `!`, and what stands behind; a command `y` is the next line.
-#[test]
-fn a_long_marked_line_is_given_by_its_front(rt: HostRuntime) {
-    const CASES: [RunCase; 5] = [
+    const MARKED: &[RunCase] = &[
         ("as long as a text may be", 65536, b"\ny", 65536, b"|y|"),
         ("and a CR", 65536, b"\r\ny", 65536, b"|y|"),
         ("one more, and a CR", 65537, b"\r\ny", 65537, b"|y|"),
@@ -285,7 +248,8 @@ fn a_long_marked_line_is_given_by_its_front(rt: HostRuntime) {
         ),
         ("more than a read", 70000, b"\ny", 65537, b"|y|"),
     ];
-    check_runs(&rt, rt.alloc(), b'!', &CASES);
+    check_runs(&rt, rt.alloc(), b'x', TEXTS);
+    check_runs(&rt, rt.alloc(), b'!', MARKED);
 }
 
 // The second read comes in the second command, and the third at the end.

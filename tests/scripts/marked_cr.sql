@@ -1,0 +1,2 @@
+BEGIN;
+!session 2

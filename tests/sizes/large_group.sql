@@ -1,0 +1,15 @@
+CREATE TABLE D(N NUMBER);
+INSERT INTO D VALUES (0), (1), (2), (3), (4), (5), (6), (7), (8), (9);
+CREATE TABLE T(K NUMBER);
+-- the numbers from 0 to 9,999
+INSERT INTO T SELECT A.N * 1000 + B.N * 100 + C.N * 10 + E.N FROM D A JOIN D B ON TRUE JOIN D C ON TRUE JOIN D E ON TRUE;
+-- and one more
+INSERT INTO T VALUES (10000);
+-- a group of 10,001 rows
+SELECT COUNT(*) AS N, COUNT(K) AS M, SUM(K) AS S FROM T;
+-- by a key that all have
+SELECT K >= 0 AS Y, COUNT(*) AS N, SUM(K) AS S FROM T GROUP BY K >= 0;
+-- two groups
+SELECT K < 5000 AS Y, COUNT(*) AS N, SUM(K) AS S FROM T GROUP BY K < 5000;
+-- 10,001 groups
+SELECT COUNT(*) AS N, SUM(C) AS C FROM (SELECT K, COUNT(*) AS C FROM T GROUP BY K) Q;

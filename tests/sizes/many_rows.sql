@@ -1,0 +1,18 @@
+CREATE TABLE D(N NUMBER);
+INSERT INTO D VALUES (0), (1), (2), (3), (4), (5), (6), (7), (8), (9);
+CREATE TABLE H(K NUMBER);
+-- a hundred rows
+INSERT INTO H SELECT A.N * 10 + B.N FROM D A JOIN D B ON TRUE;
+CREATE TABLE T(K NUMBER);
+-- 100,001 rows by one query
+INSERT INTO T SELECT A.K * 1000 + B.K * 10 + D.N FROM H A JOIN H B ON TRUE JOIN D ON TRUE UNION ALL SELECT 100000 FROM D WHERE N = 0;
+-- each of them
+SELECT COUNT(*) AS N, SUM(K) AS S FROM T;
+-- the first and the last
+SELECT K FROM T WHERE K IN (0, 1, 99999, 100000) ORDER BY K DESC;
+-- one of them is changed
+UPDATE T SET K = -1 WHERE K = 50000;
+-- all of them go
+DELETE FROM T;
+-- none is left
+SELECT * FROM T;
