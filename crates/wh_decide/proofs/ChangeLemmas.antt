@@ -35,7 +35,7 @@ use Rattle.wh_machine.specs.Changes.{fails_or}
 use Rattle.wh_machine.specs.Transaction.{Transaction, staged, next_row_of}
 use Rattle.wh_machine.specs.Sessions.{transaction_in, first_locked, with_transaction}
 use Rattle.wh_machine.specs.Reading.{objects_seen, start_in, instance_read, reading_refusal}
-use Rattle.wh_machine.specs.Lone.{Machine, Outcome, Refuses, Does, alone}
+use Rattle.wh_machine.specs.Outcome.{Machine, Outcome, Refuses, Does, alone}
 use Rattle.wh_machine.specs.Statements.{streams_read, bound_changed, changed, changes_in, changes_rows}
 use Rattle.wh_decide.specs.declared.decision.Decision.{Decision}
 use Rattle.wh_decide.specs.declared.sight.Sight.{Sight}

@@ -24,7 +24,7 @@ use Rattle.wh_machine.specs.Definitions.{drops}
 use Rattle.wh_state.specs.Stored.{StoredObject}
 use Rattle.wh_state.specs.Written.{written}
 use Rattle.wh_machine.specs.Sessions.{number_in}
-use Rattle.wh_machine.specs.Lone.{Machine, Outcome, Refuses, Does, unless, alone, last_test}
+use Rattle.wh_machine.specs.Outcome.{Machine, Outcome, Refuses, Does, unless, alone, last_test}
 use Rattle.wh_machine.specs.Definitions.{holder_of, defines}
 use Rattle.wh_decide.specs.declared.decision.Decision.{Decision}
 use Rattle.wh_decide.specs.declared.sight.Sight.{Sight}

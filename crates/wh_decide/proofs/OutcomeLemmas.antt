@@ -21,7 +21,7 @@ use Rattle.wh_state.specs.Stored.{Stored}
 use Rattle.wh_state.specs.Written.{written}
 use Rattle.wh_machine.specs.Transaction.{Transaction, staged}
 use Rattle.wh_machine.specs.Sessions.{Sessions, transaction_in, with_transaction, with_begun, with_ended}
-use Rattle.wh_machine.specs.Lone.{Outcome, Refuses, Does}
+use Rattle.wh_machine.specs.Outcome.{Outcome, Refuses, Does}
 use Rattle.wh_decide.specs.declared.decision.Decision.TheVariants.{Refuse, Do}
 use Rattle.wh_decide.specs.declared.decision.Settlement.TheVariants.{Answers, Commits, Begins, Stages, Ends}
 use Rattle.wh_decide.specs.Decision.{Goes, Declines, changes_of, transaction_or_new, planned, Decides}

@@ -32,8 +32,8 @@ use Rattle.wh_machine.specs.Tests.{Outcome, Refuses, answers, refused_if, first_
 use Rattle.wh_machine.specs.Queries.{listing_of}
 use Rattle.wh_machine.specs.Names.{names_from, refusal_of}
 use Rattle.wh_machine.specs.Reading.{instance_read, reading_refusal}
-use Rattle.wh_machine.specs.Lone as sessions
-use Rattle.wh_machine.specs.Lone.{Machine, alone}
+use Rattle.wh_machine.specs.Outcome as sessions
+use Rattle.wh_machine.specs.Outcome.{Machine, alone}
 use Rattle.wh_machine.specs.Statements.{select_bound, selects}
 use Rattle.wh_decide.specs.declared.decision.Decision.{Decision}
 use Rattle.wh_decide.specs.declared.sight.Sight.{Sight}

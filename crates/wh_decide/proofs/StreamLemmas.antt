@@ -26,7 +26,7 @@ use Rattle.wh_machine.specs.Streams.{unknown_source, stream_refusal, makes_strea
 use Rattle.wh_state.specs.Commit.{CreatesStream}
 use Rattle.wh_state.specs.Written.{written}
 use Rattle.wh_machine.specs.Sessions.{Sessions, number_in}
-use Rattle.wh_machine.specs.Lone.{Machine, Refuses, Does, alone, unless, last_test}
+use Rattle.wh_machine.specs.Outcome.{Machine, Refuses, Does, alone, unless, last_test}
 use Rattle.wh_machine.specs.Reading.{reading_refusal, has_rows, asked, asked_of, start_in, has_data}
 use Rattle.wh_machine.specs.Definitions.{defines}
 use Rattle.wh_net.specs.Stream.{rows_shown}

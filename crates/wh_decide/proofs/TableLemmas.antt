@@ -26,7 +26,7 @@ use Rattle.wh_state.specs.Stored.{StoredObject}
 use Rattle.wh_state.specs.Commit.{CreatesTable, Drops, changed}
 use Rattle.wh_state.specs.Written.{written}
 use Rattle.wh_machine.specs.Sessions.{Sessions, number_in}
-use Rattle.wh_machine.specs.Lone.{Does, unless}
+use Rattle.wh_machine.specs.Outcome.{Does, unless}
 use Rattle.wh_machine.specs.Definitions.{holder_of, defines}
 use Rattle.wh_decide.proofs.ListLemmas.{length_changed_at}
 use Rattle.wh_decide.proofs.DefineLemmas.{counts_flat, counts_none, not_past, defines_by}

@@ -18,7 +18,7 @@ use Rattle.wh_state.specs.Commit as machine
 use Rattle.wh_state.specs.Written.{commit_for}
 use Rattle.wh_machine.specs.Transaction.{Transaction, acts_of, past_limit}
 use Rattle.wh_machine.specs.Sessions.{transaction_in, number_in, with_begun, with_ended}
-use Rattle.wh_machine.specs.Lone.{Machine, Refuses, Does, unless}
+use Rattle.wh_machine.specs.Outcome.{Machine, Refuses, Does, unless}
 use Rattle.wh_machine.specs.Statements.{begin, committed, commit_of, commit, rollback_of, rollback}
 use Rattle.wh_decide.specs.declared.decision.Decision.TheVariants.{Do}
 use Rattle.wh_decide.specs.declared.decision.Settlement.TheVariants.{Ends}

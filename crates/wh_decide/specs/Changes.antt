@@ -7,7 +7,7 @@ use Rattle.wh_naming.specs.Changes.{Change, InsertRows, InsertQuery}
 use Rattle.wh_effect.specs.Effect.{Effect}
 use Rattle.wh_machine.specs.Changes.{Changed}
 use Rattle.wh_machine.specs.Sessions.{transaction_in}
-use Rattle.wh_machine.specs.Lone.{Outcome}
+use Rattle.wh_machine.specs.Outcome.{Outcome}
 use Rattle.wh_machine.specs.Statements.{changes_in}
 use Rattle.wh_decide.specs.declared.sight.Sight.{Sight}
 use Rattle.wh_decide.specs.declared.settling.Counts.{Counts}

@@ -13,7 +13,7 @@ use Rattle.wh_state.specs.Commit.{Commit}
 use Rattle.wh_state.specs.Written.{commit_for}
 use Rattle.wh_machine.specs.Transaction.{Transaction, staged, begun}
 use Rattle.wh_machine.specs.Sessions.{Sessions, transaction_in, with_transaction, with_begun, with_ended}
-use Rattle.wh_machine.specs.Lone.{Machine, Outcome, Refuses, Does}
+use Rattle.wh_machine.specs.Outcome.{Machine, Outcome, Refuses, Does}
 use Rattle.wh_dml.specs.View.{effect_of}
 use Rattle.wh_record.specs.View.{commit_of}
 use Rattle.wh_decide.specs.declared.decision.Decision.{Decision}

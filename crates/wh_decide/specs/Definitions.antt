@@ -7,7 +7,7 @@ use Rattle.wh_ast.specs.declared.statement.Statement.TheVariants as st
 use Rattle.wh_reply.specs.Reply.{Refusal, DdlInTransaction, Unsupported}
 use Rattle.wh_state.specs.Commit.{Change, Drops}
 use Rattle.wh_machine.specs.Sessions.{number_in}
-use Rattle.wh_machine.specs.Lone.{Machine}
+use Rattle.wh_machine.specs.Outcome.{Machine}
 
 abbrev pub drops_written : Option ℕ → List Change
 drops_written None = []

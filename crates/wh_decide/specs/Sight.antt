@@ -7,7 +7,7 @@ use Rattle.wh_state.specs.State.{Object, stamped}
 use Rattle.wh_catalog.specs.Catalog.{stored_of, state_of}
 use Rattle.wh_txn.specs.View.{sessions_of}
 use Rattle.wh_machine.specs.Reading as reading
-use Rattle.wh_machine.specs.Lone.{Machine, Outcome}
+use Rattle.wh_machine.specs.Outcome.{Machine, Outcome}
 use Rattle.wh_decide.specs.declared.decision.Decision.{Decision}
 use Rattle.wh_decide.specs.declared.sight.Sight.{Sight}
 use Rattle.wh_decide.specs.Decision.{Decides, machine_at}

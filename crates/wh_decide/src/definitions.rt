@@ -6,7 +6,7 @@ ghost use Rattle.wh_state.specs.Act.{Act, DropsObject};
 ghost use Rattle.wh_state.specs.Written.{written};
 ghost use Rattle.wh_machine.specs.Tests.{first_of};
 ghost use Rattle.wh_machine.specs.Sessions.{number_in};
-ghost use Rattle.wh_machine.specs.Lone.{commits};
+ghost use Rattle.wh_machine.specs.Outcome.{commits};
 ghost use Rattle.wh_machine.specs.Definitions as machine;
 ghost use Rattle.wh_machine.specs.Definitions.{defines, holder_of};
 ghost use Rattle.wh_machine.specs.Tables.{one_if};

@@ -8,7 +8,7 @@ ghost use Rattle.wh_machine.specs.Changes as replies;
 ghost use Rattle.wh_machine.specs.Transaction as transactions;
 ghost use Rattle.wh_machine.specs.Transaction.{Transaction, begun, staged_in_state};
 ghost use Rattle.wh_machine.specs.Sessions.{Sessions, transaction_in, with_transaction};
-ghost use Rattle.wh_machine.specs.Lone.{Does};
+ghost use Rattle.wh_machine.specs.Outcome.{Does};
 ghost use Rattle.wh_machine.specs.Statements as machine;
 ghost use Rattle.wh_decide.specs.Decision.{Decides};
 ghost use Rattle.wh_decide.specs.Sight.{machine_in, Comes};

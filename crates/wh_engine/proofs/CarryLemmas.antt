@@ -15,7 +15,7 @@ use Rattle.wh_journal.specs.Journal.{end_of, failed_of}
 use Rattle.wh_catalog.specs.Catalog.{stored_of, state_of}
 use Rattle.wh_catalog.specs.declared.catalog.Catalog.{Catalog}
 use Rattle.wh_engine.specs.declared.warehouse.Warehouse.{Warehouse}
-use Rattle.wh_machine.specs.Lone.{Machine}
+use Rattle.wh_machine.specs.Outcome.{Machine}
 use Rattle.wh_engine.specs.Warehouse.{machine_of, state_with}
 use Rattle.wh_engine.specs.Answers.{CarriesOut}
 use Rattle.wh_decide.proofs.CatalogLemmas.{state_is}

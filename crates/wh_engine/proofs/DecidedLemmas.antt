@@ -14,7 +14,7 @@ use Rattle.wh_state.specs.Commit.{Change}
 use Rattle.wh_state.specs.Orderly.{IsOrderlyStored}
 use Rattle.wh_state.specs.Written.{commit_for}
 use Rattle.wh_machine.specs.Sessions.{Sessions}
-use Rattle.wh_machine.specs.Lone.{Machine, Outcome, Refuses, Does, settled, acts_in}
+use Rattle.wh_machine.specs.Outcome.{Machine, Outcome, Refuses, Does, settled, acts_in}
 use Rattle.wh_machine.specs.Step.{Event, reading_of, stamp_of, at_stamp, has_stamp, outcome_of, decided, step}
 use Rattle.wh_machine.specs.Made.{made}
 use Rattle.wh_machine.proofs.StepLaws.{ready, step_at, acts_at, stamp_refused, no_acts, decided_meant}

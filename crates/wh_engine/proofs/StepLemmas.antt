@@ -17,7 +17,7 @@ use Rattle.wh_machine.specs.Statement.{Begin, Commit, Rollback, CreateTable, Dro
 use Rattle.wh_machine.specs.Statement.{ChangeRows, Select, HasData, form_of}
 use Rattle.wh_machine.specs.Tables.{create_table, drop_table, replaced_id}
 use Rattle.wh_machine.specs.Streams.{create_stream, drop_stream}
-use Rattle.wh_machine.specs.Lone.{Machine, Outcome, Refuses}
+use Rattle.wh_machine.specs.Outcome.{Machine, Outcome, Refuses}
 use Rattle.wh_machine.specs.Reading.{has_data}
 use Rattle.wh_machine.specs.Statements.{begin, commit, rollback, changes_rows, selects}
 use Rattle.wh_machine.specs.Definitions.{defines}

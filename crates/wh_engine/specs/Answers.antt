@@ -4,7 +4,7 @@
 use Rattle.std.specs.Prelude.{◌≡◌, ◌+◌, Option, None, is_some, false}
 use Rattle.wh_state.specs.Commit.{Commit}
 use Rattle.wh_state.specs.Written.{kept_after, added_length, is_beyond}
-use Rattle.wh_machine.specs.Lone.{Machine}
+use Rattle.wh_machine.specs.Outcome.{Machine}
 use Rattle.wh_machine.specs.Step.{Event, step}
 use Rattle.wh_reply.specs.Reply.{Reply}
 use Rattle.wh_world.specs.declared.disk.Disk.{Ghosts}

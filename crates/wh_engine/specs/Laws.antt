@@ -8,11 +8,11 @@ use Rattle.wh_state.specs.Objects.{table_at, stream_at}
 use Rattle.wh_net.specs.Stream.{rows_at, shown_row}
 use Rattle.wh_machine.specs.Transaction.{Transaction, start_of}
 use Rattle.wh_machine.specs.Sessions.{transaction_in}
-use Rattle.wh_machine.specs.Lone.{Machine, settled}
+use Rattle.wh_machine.specs.Outcome.{Machine, settled}
 use Rattle.wh_machine.specs.Reading.{rows_read}
 use Rattle.wh_machine.specs.Statements.{commit}
 use Rattle.wh_machine.specs.Step.{Event, stamp_of, at_stamp, step, after}
-use Rattle.wh_state.specs.Sound.{SoundMachine}
+use Rattle.wh_machine.specs.Sound.{SoundMachine}
 use Rattle.wh_machine.specs.Consuming.{consumed, batches, all_patched, rows_consumed, reads, AreApart, IsHeldAlong}
 use Rattle.wh_machine.specs.Consuming.{committing, changing, change_reads, consumes}
 

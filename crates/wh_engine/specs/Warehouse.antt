@@ -14,7 +14,7 @@ use Rattle.wh_state.specs.Stored.{Stored, first_stored, meant}
 use Rattle.wh_state.specs.Commit.{Commit, Leads}
 use Rattle.wh_state.specs.Spelling.{payload_of, IsCommit}
 use Rattle.wh_state.specs.Written.{kept_after}
-use Rattle.wh_machine.specs.Lone.{Machine}
+use Rattle.wh_machine.specs.Outcome.{Machine}
 use Rattle.wh_machine.specs.Step.{Event, step}
 use Rattle.wh_machine.specs.Made.{made}
 use Rattle.wh_world.specs.Crash.{Only}

@@ -23,8 +23,8 @@ use Rattle.wh_machine.specs.Changes.{Changed, Fails, Gives, given, given_on, fai
 use Rattle.wh_net.specs.Stream.{shown_row, rows_on, rows_shown}
 use Rattle.wh_machine.specs.Transaction.{Transaction, start_of, start_at, staged, next_row_of}
 use Rattle.wh_machine.specs.Sessions.{Sessions, transaction_in}
-use Rattle.wh_machine.specs.Lone.{Machine, settled}
-use Rattle.wh_state.specs.Sound.{SoundMachine}
+use Rattle.wh_machine.specs.Outcome.{Machine, settled}
+use Rattle.wh_machine.specs.Sound.{SoundMachine}
 use Rattle.wh_machine.specs.Reading.{objects_seen, start_in, rows_read, instance_read}
 use Rattle.wh_machine.specs.Statements.{streams_read, change_refusal, bound_changed, changes_in, changes_rows}
 use Rattle.wh_machine.specs.Statements.{commit, commit_of, carried_out, carried_out_as, meant_in}

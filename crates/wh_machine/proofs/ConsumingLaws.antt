@@ -22,14 +22,14 @@ use Rattle.wh_state.proofs.AllLaws.{all_at}
 use Rattle.wh_net.specs.Net.{patch}
 use Rattle.wh_net.specs.Stream.{rows_at, records_between, shown}
 use Rattle.wh_net.proofs.NetLaws.{patched}
-use Rattle.wh_machine.specs.Lone.{Machine, Outcome, settled}
-use Rattle.wh_state.specs.Sound.{SoundMachine}
+use Rattle.wh_machine.specs.Outcome.{Machine, Outcome, settled}
+use Rattle.wh_machine.specs.Sound.{SoundMachine}
 use Rattle.wh_machine.specs.Consuming.{Extends, IsLaterStream, IsLaterKind, IsLater, AreLater, rows_then, shown_of}
 use Rattle.wh_machine.specs.Consuming.{shown_to, consumed, batches, all_patched, rows_consumed}
 use Rattle.wh_machine.specs.Step.{Event, reading_of, stamp_of, has_stamp, step, after}
 use Rattle.wh_machine.proofs.OutcomeLaws.{AllMoveOn, HoldsOfEach, outcome_of_event}
 use Rattle.wh_machine.proofs.StepLaws.{ready, step_at, stamp_refused, last_grows}
-use Rattle.wh_state.proofs.SoundLaws.{sound_ready, sound_step}
+use Rattle.wh_machine.proofs.SoundLaws.{sound_ready, sound_step}
 
 -- ---- lists that grow
 

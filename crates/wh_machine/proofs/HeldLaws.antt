@@ -14,8 +14,8 @@ use Rattle.wh_net.specs.Stream.{rows_at, records_between, shown, shown_row, rows
 use Rattle.wh_machine.specs.Transaction.{Transaction, start_at}
 use Rattle.wh_machine.specs.Reading.{start_in, rows_read}
 use Rattle.wh_machine.specs.Sessions.{no_sessions, transaction_in, number_in}
-use Rattle.wh_machine.specs.Lone.{Machine, Outcome, opened, settled}
-use Rattle.wh_state.specs.Sound.{SoundMachine}
+use Rattle.wh_machine.specs.Outcome.{Machine, Outcome, opened, settled}
+use Rattle.wh_machine.specs.Sound.{SoundMachine}
 use Rattle.wh_machine.specs.Consuming.{is_read_by, reads, AreApart, IsHeldAlong}
 use Rattle.wh_machine.specs.Step.{Event, has_stamp, step, after}
 use Rattle.wh_machine.proofs.OutcomeLaws.{HoldsOfEach, begun_in, start_before, outcome_of_event}

@@ -23,7 +23,7 @@ use Rattle.wh_state.proofs.KnownMaps.{map_steps}
 use Rattle.wh_state.proofs.KnownChanges.{row, filled}
 use Rattle.wh_machine.specs.Transaction.{seen, staged, acts_of, past_limit}
 use Rattle.wh_machine.specs.Sessions.{no_sessions}
-use Rattle.wh_machine.specs.Lone.{Outcome, Refuses, Does, opened}
+use Rattle.wh_machine.specs.Outcome.{Outcome, Refuses, Does, opened}
 use Rattle.wh_machine.specs.Reading.{reading_refusal}
 use Rattle.wh_machine.specs.Statements.{changes_rows}
 use Rattle.wh_machine.specs.Consuming.{change_in}

@@ -41,7 +41,7 @@ use Rattle.wh_state.proofs.KnownMaps.{map_steps}
 use Rattle.wh_machine.specs.Transaction as transactions
 use Rattle.wh_machine.specs.Transaction.{seen, staged, past_limit}
 use Rattle.wh_machine.specs.Sessions.{no_sessions}
-use Rattle.wh_machine.specs.Lone.{Machine, Outcome, Refuses, Does, opened}
+use Rattle.wh_machine.specs.Outcome.{Machine, Outcome, Refuses, Does, opened}
 use Rattle.wh_machine.specs.Reading.{reading_refusal}
 use Rattle.wh_machine.specs.Statements.{begin, changes_rows, carried_out}
 use Rattle.wh_machine.specs.Consuming.{change_in}

@@ -20,7 +20,7 @@ use Rattle.wh_state.proofs.KnownCommits as commits
 use Rattle.wh_state.proofs.KnownMaps.{map_steps}
 use Rattle.wh_machine.specs.Transaction as transactions
 use Rattle.wh_machine.specs.Transaction.{seen, staged, past_limit}
-use Rattle.wh_machine.specs.Lone.{Machine}
+use Rattle.wh_machine.specs.Outcome.{Machine}
 use Rattle.wh_machine.specs.Reading.{reading_refusal}
 use Rattle.wh_ddl_naming.specs.Statements as ddl
 use Rattle.wh_machine.specs.Statements.{changes_rows, carried_out}

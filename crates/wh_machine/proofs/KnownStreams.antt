@@ -35,7 +35,7 @@ use Rattle.wh_net.specs.Net.{net}
 use Rattle.wh_net.specs.Stream.{shown}
 use Rattle.wh_machine.specs.Transaction.{Transaction, begun, seen, staged, acts_of, past_limit}
 use Rattle.wh_machine.specs.Sessions.{Sessions, no_sessions, with_transaction, transaction_in}
-use Rattle.wh_machine.specs.Lone.{Machine, Outcome, Refuses, Does}
+use Rattle.wh_machine.specs.Outcome.{Machine, Outcome, Refuses, Does}
 use Rattle.wh_machine.specs.Reading.{reading_refusal, has_data}
 use Rattle.wh_machine.specs.Statements.{commit, bound_changed, changes_in, changes_rows, selects, carried_out}
 use Rattle.wh_machine.specs.Definitions.{defines}

@@ -29,7 +29,7 @@ use Rattle.wh_machine.specs.Tables.{table_refusal}
 use Rattle.wh_machine.specs.Changes.{edits_of, Fails, Gives, given, reply_to}
 use Rattle.wh_machine.specs.Transaction.{staged, acts_of, past_limit}
 use Rattle.wh_machine.specs.Sessions.{no_sessions}
-use Rattle.wh_machine.specs.Lone.{Outcome, Refuses, Does, opened}
+use Rattle.wh_machine.specs.Outcome.{Outcome, Refuses, Does, opened}
 use Rattle.wh_machine.specs.Statements.{changes_in}
 
 -- ---- CREATE TABLE

@@ -31,7 +31,7 @@ use Rattle.wh_machine.specs.Offsets.{offset_moves, acts_of_commit}
 use Rattle.wh_machine.specs.Changes.{Changed, Fails, Gives, reply_to}
 use Rattle.wh_machine.specs.Transaction.{Staged, Transaction, begun, start_of, staged, staged_in_state, edit_act}
 use Rattle.wh_machine.specs.Transaction.{touched, acts_of, commit_refusal}
-use Rattle.wh_machine.specs.Lone.{Machine, Outcome, Refuses, Does, commits, unless, last_test, settled}
+use Rattle.wh_machine.specs.Outcome.{Machine, Outcome, Refuses, Does, commits, unless, last_test, settled}
 use Rattle.wh_machine.specs.Queries.{listing_of}
 use Rattle.wh_machine.specs.Reading.{instance_read, reading_refusal, asked, has_data}
 use Rattle.wh_machine.specs.Definitions.{drops, holder_of, defines}

@@ -41,7 +41,7 @@ use Rattle.wh_ddl_naming.specs.Statements as ddl
 use Rattle.wh_ddl_naming.specs.Statements.{Bound}
 use Rattle.wh_machine.specs.Names.{refusal_of, naming_refusal}
 use Rattle.wh_machine.specs.Changes.{Changed, Fails, Gives, given, given_on, fails_or, reply_to}
-use Rattle.wh_machine.specs.Lone.{Machine, Outcome, Refuses, Does, answers, commits, unless, last_test}
+use Rattle.wh_machine.specs.Outcome.{Machine, Outcome, Refuses, Does, answers, commits, unless, last_test}
 use Rattle.wh_machine.specs.Queries.{listing_of}
 use Rattle.wh_machine.specs.Reading.{objects_seen, start_in, instance_read, reading_refusal, asked, has_data}
 use Rattle.wh_machine.specs.Definitions.{drops, defines}
@@ -51,7 +51,7 @@ use Rattle.wh_machine.specs.Statements.{begin, recorded, commit_reply, commit_of
 use Rattle.wh_machine.specs.Statements.{streams_read, change_refusal, bound_changed, changes_in, changes_rows}
 use Rattle.wh_machine.specs.Statements.{select_refusal, selects, carried_out, meant_in}
 use Rattle.wh_machine.specs.Step.{Event, Command, Tick, is_session, commanded, outcome_of}
-use Rattle.wh_state.specs.Sound.{IsBegun, AreBegun}
+use Rattle.wh_machine.specs.Sound.{IsBegun, AreBegun}
 use Rattle.wh_machine.specs.Consuming.{is_read_by, reads, AreApart}
 use Rattle.wh_machine.proofs.EntryLaws.{RiseFrom, entries_rise}
 use Rattle.wh_machine.proofs.MoveLaws.{left_of, acts_at, among_streams, stream_more, stream_dropped}

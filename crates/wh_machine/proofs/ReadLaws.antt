@@ -20,7 +20,7 @@ use Rattle.wh_machine.specs.Transaction.{Transaction, begun, start_of, start_at,
 use Rattle.wh_machine.specs.Transaction.{touched, acts_of, commit_refusal}
 use Rattle.wh_machine.specs.Sessions.{Sessions, transaction_in, with_ended}
 use Rattle.wh_machine.specs.Consuming.{is_read_by, reads}
-use Rattle.wh_machine.specs.Lone.{Machine, Outcome, Does, unless, settled}
+use Rattle.wh_machine.specs.Outcome.{Machine, Outcome, Does, unless, settled}
 use Rattle.wh_machine.specs.Reading.{start_in, rows_read}
 use Rattle.wh_machine.specs.Statements.{recorded, commit_reply, commit_of, commit, changes_in}
 use Rattle.wh_machine.proofs.MoveLaws.{read_to, left_of, acts_at, among_streams}

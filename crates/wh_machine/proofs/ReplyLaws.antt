@@ -13,7 +13,7 @@ use Rattle.wh_reply.specs.Reply.{Reply, CreatedTable, DroppedTable, CreatedStrea
 use Rattle.wh_reply.specs.Reply.{Updated, Deleted, Merged, Begun, Committed, CommittedNothing, RolledBack, Listing}
 use Rattle.wh_reply.specs.Reply.{Idle}
 use Rattle.wh_reply.specs.Reply.{Refused, line, parted, row_line, refusal_text, truth_text, print}
-use Rattle.wh_machine.specs.Lone.{Machine}
+use Rattle.wh_machine.specs.Outcome.{Machine}
 use Rattle.wh_machine.specs.Step.{Event, step, after, text, refusals}
 use Rattle.wh_machine.specs.Stop.{whole_replies}
 

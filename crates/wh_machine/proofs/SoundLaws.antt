@@ -10,8 +10,8 @@ use Rattle.wh_state.specs.Sound.{Sound}
 use Rattle.wh_state.proofs.AllLaws.{all_map}
 use Rattle.wh_state.proofs.SoundLaws.{IsWithin, sound_done}
 use Rattle.wh_machine.specs.Transaction.{Transaction}
-use Rattle.wh_machine.specs.Lone.{Machine, Outcome, opened, settled}
-use Rattle.wh_state.specs.Sound.{IsBegun, AreBegun, SoundMachine}
+use Rattle.wh_machine.specs.Outcome.{Machine, Outcome, opened, settled}
+use Rattle.wh_machine.specs.Sound.{IsBegun, AreBegun, SoundMachine}
 use Rattle.wh_machine.specs.Step.{Event, has_stamp, step, after}
 use Rattle.wh_machine.proofs.OutcomeLaws.{MovesOn, HoldsOfEach, outcome_of_event}
 use Rattle.wh_machine.proofs.StepLaws.{ready, step_at, stamp_refused}

@@ -17,7 +17,7 @@ use Rattle.wh_state.specs.Stored.{Stored, meant}
 use Rattle.wh_state.specs.Written.{commit_for, kept_after}
 use Rattle.wh_state.specs.Orderly.{IsOrderlyStored}
 use Rattle.wh_state.proofs.ActLaws.{IsOfOneStatement, written_meant}
-use Rattle.wh_machine.specs.Lone.{Machine, Outcome, Refuses, Does, settled, acts_in, rest_of}
+use Rattle.wh_machine.specs.Outcome.{Machine, Outcome, Refuses, Does, settled, acts_in, rest_of}
 use Rattle.wh_machine.specs.Step.{Event, reading_of, stamp_of, at_stamp, has_stamp, decided, step, acts_of}
 use Rattle.wh_machine.specs.Made.{made}
 use Rattle.wh_machine.proofs.OutcomeLaws.{HoldsOfEach, outcome_of_event}

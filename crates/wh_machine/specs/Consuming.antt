@@ -27,7 +27,7 @@ use Rattle.wh_net.specs.Net.{RowChange, patch}
 use Rattle.wh_net.specs.Stream.{rows_at, shown}
 use Rattle.wh_machine.specs.Transaction.{Transaction}
 use Rattle.wh_machine.specs.Sessions.{Sessions, transaction_in}
-use Rattle.wh_machine.specs.Lone.{Machine}
+use Rattle.wh_machine.specs.Outcome.{Machine}
 use Rattle.wh_machine.specs.Statements.{streams_read}
 use Rattle.wh_machine.specs.Step.{Event, Command, step}
 

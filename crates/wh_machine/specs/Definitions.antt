@@ -11,7 +11,7 @@ use Rattle.wh_state.specs.State.{State, live_count}
 use Rattle.wh_state.specs.Act.{Act, DropsObject}
 use Rattle.wh_machine.specs.Tests.{refused_past}
 use Rattle.wh_machine.specs.Sessions.{Sessions, number_in, holder}
-use Rattle.wh_machine.specs.Lone.{Machine, Outcome, unless, last_test}
+use Rattle.wh_machine.specs.Outcome.{Machine, Outcome, unless, last_test}
 
 -- live objects are counted as they are after the statement, where so many others go
 abbrev pub count_refusals : State → ℕ → List (Option Refusal)

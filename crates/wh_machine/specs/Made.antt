@@ -5,7 +5,7 @@ use Rattle.std.specs.Prelude.{ℕ, ◌+◌, List, [], ◌∷◌, Option, Some, N
 use Rattle.wh_state.specs.Stored.{Stored}
 use Rattle.wh_state.specs.Commit.{Commit}
 use Rattle.wh_state.specs.Written.{commit_for, kept_after, added_length, is_beyond}
-use Rattle.wh_machine.specs.Lone.{Machine}
+use Rattle.wh_machine.specs.Outcome.{Machine}
 use Rattle.wh_machine.specs.Step.{Event, reading_of, stamp_of, step, acts_of}
 
 -- over a file that says that much

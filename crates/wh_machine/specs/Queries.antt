@@ -8,7 +8,7 @@ use Rattle.wh_meaning.specs.Listing.{listed}
 use Rattle.wh_naming.specs.Select.{BoundSelect}
 use Rattle.wh_reply.specs.Reply.{NumberOutOfRange, Listing}
 use Rattle.wh_state.specs.State.{Table, last_rows}
-use Rattle.wh_machine.specs.Lone.{Machine, Outcome, Refuses, answers}
+use Rattle.wh_machine.specs.Outcome.{Machine, Outcome, Refuses, answers}
 
 abbrev pub table_bag : Option Table → Bag
 table_bag None = no_rows

@@ -15,7 +15,7 @@ use Rattle.wh_net.specs.Stream.{rows_shown, has_rows, is_gone, stale_at}
 use Rattle.wh_machine.specs.Tests.{first_of}
 use Rattle.wh_machine.specs.Transaction.{seen, start_at}
 use Rattle.wh_machine.specs.Sessions.{transaction_in}
-use Rattle.wh_machine.specs.Lone.{Machine, Outcome, answers, unless}
+use Rattle.wh_machine.specs.Outcome.{Machine, Outcome, answers, unless}
 use Rattle.wh_machine.specs.Queries.{table_bag}
 
 abbrev pub objects_seen : Machine → ℕ → List Object

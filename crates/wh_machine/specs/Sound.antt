@@ -7,7 +7,7 @@ use Rattle.std.specs.List.{AllByRecursion}
 use Rattle.wh_state.specs.Sound.{Sound}
 use Rattle.wh_machine.specs.Transaction.{Transaction}
 use Rattle.wh_machine.specs.Sessions.{Sessions}
-use Rattle.wh_machine.specs.Lone.{Machine}
+use Rattle.wh_machine.specs.Outcome.{Machine}
 
 abbrev pub IsBegun : ℕ → Option Transaction → Type 0
 IsBegun last None = Unit {0}

@@ -23,7 +23,7 @@ use Rattle.wh_machine.specs.Offsets.{streams_among}
 use Rattle.wh_machine.specs.Changes.{Changed, Fails, Gives, given_on, fails_or, reply_to}
 use Rattle.wh_machine.specs.Transaction.{Transaction, begun, staged_in_state, acts_of, commit_refusal}
 use Rattle.wh_machine.specs.Sessions.{Sessions, transaction_in, number_in, first_locked, with_transaction, with_begun, with_ended}
-use Rattle.wh_machine.specs.Lone.{Machine, Outcome, Refuses, Does, unless}
+use Rattle.wh_machine.specs.Outcome.{Machine, Outcome, Refuses, Does, unless}
 use Rattle.wh_machine.specs.Queries.{listing_of}
 use Rattle.wh_machine.specs.Reading.{objects_seen, instance_read, reading_refusal, has_data}
 use Rattle.wh_machine.specs.Definitions.{defines}

@@ -13,7 +13,7 @@ use Rattle.wh_reply.specs.Reply.{Reply, Idle, Refused, SyntaxError, NoSuchSessio
 use Rattle.wh_reply.specs.Reply.{is_refusal, print}
 use Rattle.wh_state.specs.State.{State, stamped}
 use Rattle.wh_state.specs.Act.{Act}
-use Rattle.wh_machine.specs.Lone.{Machine, Outcome, Refuses, Does, settled, acts_in}
+use Rattle.wh_machine.specs.Outcome.{Machine, Outcome, Refuses, Does, settled, acts_in}
 use Rattle.wh_machine.specs.Statements.{carried_out_as, meant_in}
 
 pub data Event : Type 0 where

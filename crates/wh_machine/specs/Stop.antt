@@ -10,8 +10,8 @@ use Rattle.wh_reply.specs.Reply.{print}
 use Rattle.wh_machine.specs.Step.{Event, step, after}
 use Rattle.wh_state.specs.File.{Stands}
 use Rattle.wh_state.specs.Sound.{IsSoundFile}
-use Rattle.wh_machine.specs.Lone.{Machine, rest_of}
-use Rattle.wh_state.specs.Sound.{SoundMachine}
+use Rattle.wh_machine.specs.Outcome.{Machine, rest_of}
+use Rattle.wh_machine.specs.Sound.{SoundMachine}
 
 -- of the replies to these events, in so many bytes at the front of their text
 abbrev pub whole_replies : Machine → List Event → ℕ → ℕ

@@ -8,7 +8,7 @@ use Rattle.wh_state.specs.State.{State}
 use Rattle.wh_state.specs.Act.{MakesStream, DropsObject}
 use Rattle.wh_state.specs.Objects.{name_at}
 use Rattle.wh_machine.specs.Tests.{refused_if, first_of}
-use Rattle.wh_machine.specs.Lone.{Machine, Outcome, commits, unless}
+use Rattle.wh_machine.specs.Outcome.{Machine, Outcome, commits, unless}
 use Rattle.wh_machine.specs.Definitions.{is_long, count_refusals}
 
 -- the first test that a new stream fails, behind those of names

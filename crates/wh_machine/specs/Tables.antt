@@ -9,7 +9,7 @@ use Rattle.wh_state.specs.State.{State}
 use Rattle.wh_state.specs.Act.{Act, MakesTable, DropsObject}
 use Rattle.wh_state.specs.Objects.{name_at}
 use Rattle.wh_machine.specs.Tests.{refused_if, refused_past, first_of}
-use Rattle.wh_machine.specs.Lone.{Machine, Outcome, commits, unless}
+use Rattle.wh_machine.specs.Outcome.{Machine, Outcome, commits, unless}
 use Rattle.wh_machine.specs.Definitions.{drops, is_long, count_refusals}
 
 abbrev pub one_if : Option ℕ → ℕ

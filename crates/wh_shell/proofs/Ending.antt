@@ -6,7 +6,7 @@ use Rattle.std.proofs.Common.{◌≡◌, ℕ, ◌<◌, List, [], length, inl, in
 use Rattle.std.proofs.Common.{Some}
 use Rattle.std.specs.Prelude.{Result, Ok, Err, IfOk, OnOk, IfErr, OnErr}
 use Rattle.wh_state.specs.File.{Stands}
-use Rattle.wh_machine.specs.Lone.{Machine, rest_of}
+use Rattle.wh_machine.specs.Outcome.{Machine, rest_of}
 use Rattle.wh_machine.specs.Step.{Event, text}
 use Rattle.wh_world.specs.declared.disk.Disk.{Ghosts}
 use Rattle.wh_engine.specs.Warehouse.{machine_of}

@@ -4,7 +4,7 @@
 use Rattle.std.proofs.Common.{◌≡◌, ⊎_elim, inl, inr, ℕ, List, [], refl, sym, ap, subst, append-nil, Option, Some, None}
 use Rattle.wh_reply.specs.Reply.{print}
 use Rattle.wh_state.specs.File.{Stands}
-use Rattle.wh_machine.specs.Lone.{Machine, rest_of}
+use Rattle.wh_machine.specs.Outcome.{Machine, rest_of}
 use Rattle.wh_machine.specs.Step.{Event, step}
 use Rattle.wh_engine.specs.Leaves.{StandsForEither}
 use Rattle.wh_shell.specs.Writing.{Writes, WritesFront}

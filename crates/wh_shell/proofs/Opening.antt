@@ -12,7 +12,7 @@ use Rattle.wh_state.specs.Stored.{Stored, Means}
 use Rattle.wh_state.specs.Spelling.{payload_of}
 use Rattle.wh_state.specs.File.{Keeps, Stands}
 use Rattle.wh_machine.specs.Sessions.{Sessions, no_sessions}
-use Rattle.wh_machine.specs.Lone.{Machine, opened}
+use Rattle.wh_machine.specs.Outcome.{Machine, opened}
 use Rattle.wh_machine.specs.Step.{Event}
 use Rattle.wh_machine.specs.Stop.{most_events, StandsWithin}
 use Rattle.wh_world.specs.Crash.{Only}

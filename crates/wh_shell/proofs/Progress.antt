@@ -6,7 +6,7 @@ use Rattle.std.proofs.Common.{◌≡◌, ℕ, ◌+◌, ◌<◌, ◌≤◌, List,
 use Rattle.std.proofs.Common.{append_assoc, add-zero, append-nil, length-append, Option, Some, None, Bool, true, false}
 use Rattle.std.specs.Prelude.{option_map, if◌then◌else◌}
 use Rattle.wh_reply.specs.Reply.{is_refusal, print}
-use Rattle.wh_machine.specs.Lone.{Machine}
+use Rattle.wh_machine.specs.Outcome.{Machine}
 use Rattle.wh_machine.specs.Step.{Event, step, after, text, refusals}
 use Rattle.wh_machine.specs.Stop.{StandsWithin}
 use Rattle.wh_machine.proofs.ReplyLaws.{after_append, text_append, refusals_append}

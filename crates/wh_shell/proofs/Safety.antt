@@ -9,7 +9,7 @@ use Rattle.std.proofs.Common.{append-nil, length-append, Option, Some, None}
 use Rattle.std.specs.Prelude.{option_map, is_some, IsTrue}
 use Rattle.wh_state.specs.State.{State}
 use Rattle.wh_state.specs.File.{Stands}
-use Rattle.wh_machine.specs.Lone.{Machine, rest_of}
+use Rattle.wh_machine.specs.Outcome.{Machine, rest_of}
 use Rattle.wh_machine.specs.Step.{Event, step, text}
 use Rattle.wh_world.specs.declared.disk.Disk.{Ghosts}
 use Rattle.wh_journal.specs.Crash.{LeavesOnly}

@@ -9,11 +9,11 @@ use Rattle.std.proofs.Math.Seq.{take-append_seam, take-append-add}
 use Rattle.wh_state.specs.File.{Stands}
 use Rattle.wh_state.specs.Sound.{Sound}
 use Rattle.wh_state.proofs.SoundLaws.{sound_rest}
-use Rattle.wh_machine.specs.Lone.{Machine, rest_of}
+use Rattle.wh_machine.specs.Outcome.{Machine, rest_of}
 use Rattle.wh_machine.specs.Step.{Event, step, after}
 use Rattle.wh_machine.specs.Stop.{committed_after, StandsWithin}
 use Rattle.wh_machine.proofs.ReplyLaws.{after_append}
-use Rattle.wh_state.proofs.SoundLaws.{sound_after}
+use Rattle.wh_machine.proofs.SoundLaws.{sound_after}
 use Rattle.wh_record.proofs.FileLaws.{file_fixes_state}
 use Rattle.wh_engine.specs.Leaves.{StandsForEither}
 

@@ -6,7 +6,7 @@
 use Rattle.std.specs.Prelude.{◌≡◌, ◌⊎◌, ℕ, List, [], ◌++◌, length, Option, Some}
 use Rattle.wh_reply.specs.Reply.{print}
 use Rattle.wh_state.specs.File.{Stands}
-use Rattle.wh_machine.specs.Lone.{Machine, rest_of}
+use Rattle.wh_machine.specs.Outcome.{Machine, rest_of}
 use Rattle.wh_machine.specs.Step.{Event, step}
 use Rattle.wh_machine.specs.Stop.{whole_replies, most_events, StandsWithin}
 use Rattle.wh_journal.specs.Crash.{LeavesOnly}

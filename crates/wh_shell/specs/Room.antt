@@ -8,7 +8,7 @@ use Rattle.wh_frame.specs.File.{GateEndsAt}
 use Rattle.wh_state.specs.Stored.{Stored}
 use Rattle.wh_state.specs.Commit.{Commit}
 use Rattle.wh_state.specs.Written.{kept_after, is_beyond, added_length}
-use Rattle.wh_machine.specs.Lone.{Machine}
+use Rattle.wh_machine.specs.Outcome.{Machine}
 use Rattle.wh_machine.specs.Step.{Event, step}
 use Rattle.wh_machine.specs.Made.{made, overflow}
 use Rattle.wh_world.specs.declared.disk.Disk.{Ghosts}

@@ -12,7 +12,7 @@ use Rattle.std.specs.Global.{Global}
 use Rattle.wh_state.specs.State.{State}
 use Rattle.wh_state.specs.File.{Stands}
 use Rattle.wh_state.specs.Fault.{IsFirstFault}
-use Rattle.wh_machine.specs.Lone.{Machine, rest_of}
+use Rattle.wh_machine.specs.Outcome.{Machine, rest_of}
 use Rattle.wh_machine.specs.Step.{Event, after, text, refusals}
 use Rattle.wh_machine.specs.Script.{IsScript}
 use Rattle.wh_world.specs.Crash.{Only}

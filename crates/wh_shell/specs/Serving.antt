@@ -6,7 +6,7 @@
 --     Goes               what the turns so far did
 use Rattle.std.specs.Prelude.{◌≡◌, ℕ, ◌≤◌, List, [], ◌∷◌, ◌++◌, length, Option, Some, if◌then◌else◌}
 use Rattle.wh_reply.specs.Reply.{is_refusal, print}
-use Rattle.wh_machine.specs.Lone.{Machine}
+use Rattle.wh_machine.specs.Outcome.{Machine}
 use Rattle.wh_machine.specs.Step.{Event, step, after, text, refusals}
 use Rattle.wh_machine.specs.Stop.{StandsWithin}
 use Rattle.wh_journal.specs.Crash.{LeavesOnly}

@@ -5,7 +5,7 @@ ghost use Rattle.wh_world.specs.Crash.{Only};
 ghost use Rattle.wh_state.specs.State.{State};
 ghost use Rattle.wh_state.specs.Stored.{Stored, Means};
 ghost use Rattle.wh_state.specs.File.{Keeps};
-ghost use Rattle.wh_machine.specs.Lone.{opened};
+ghost use Rattle.wh_machine.specs.Outcome.{opened};
 ghost use Rattle.wh_machine.specs.Step.{Event as MachineEvent};
 ghost use Rattle.wh_machine.specs.Script.{IsScript};
 ghost use Rattle.wh_machine.specs.Stop.{whole_replies, most_events, StandsWithin};

@@ -5,7 +5,7 @@ use Rattle.wh_machine.specs.Changes.{reply_to}
 use Rattle.wh_state.specs.Stored.{table_meant}
 use Rattle.wh_machine.specs.Transaction as transactions
 use Rattle.wh_machine.specs.Sessions.{transaction_in, with_transaction}
-use Rattle.wh_machine.specs.Lone.{Outcome, Does}
+use Rattle.wh_machine.specs.Outcome.{Outcome, Does}
 use Rattle.wh_catalog.specs.Catalog.{stored_of}
 use Rattle.wh_table.specs.Table.{table_of}
 use Rattle.wh_txn.specs.View.{sessions_of}

@@ -2,7 +2,7 @@ use Rattle.std.proofs.Common.{ℕ, List, refl, ap, sym, subst, ◌∙◌}
 use Rattle.std.specs.Result.{IfOk}
 use Rattle.wh_reply.specs.Reply.{Idle}
 use Rattle.wh_state.specs.State.{stamped}
-use Rattle.wh_machine.specs.Lone.{Outcome}
+use Rattle.wh_machine.specs.Outcome.{Outcome}
 use Rattle.wh_machine.specs.Step.{commanded, outcome_of}
 use Rattle.wh_stmt_parse.specs.Request.{request_of}
 use Rattle.wh_catalog.specs.Catalog.{stored_of, state_of}

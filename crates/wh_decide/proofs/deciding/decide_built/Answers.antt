@@ -1,7 +1,7 @@
 use Rattle.std.proofs.Common.{◌≡◌, Result, Ok, Some, ap, sym, ◌∙◌}
 use Rattle.std.specs.Result.{IfOk}
 use Rattle.std.specs.declared.alloc.AllocError.{AllocError}
-use Rattle.wh_machine.specs.Lone.{Outcome}
+use Rattle.wh_machine.specs.Outcome.{Outcome}
 use Rattle.wh_machine.specs.Step.{carried_out}
 use Rattle.wh_decide.specs.declared.built.Built.{Built}
 use Rattle.wh_decide.specs.declared.decision.Decision.{Decision}

@@ -7,7 +7,7 @@ use Rattle.wh_bind.specs.declared.fault.BindFault.{BindFault}
 use Rattle.wh_bind.specs.Binds.{Binds}
 use Rattle.wh_reply.specs.View.{refusal_view}
 use Rattle.wh_machine.specs.Names.{names_from, refusal_of}
-use Rattle.wh_machine.specs.Lone.{alone}
+use Rattle.wh_machine.specs.Outcome.{alone}
 use Rattle.wh_machine.specs.Lone as tables
 use Rattle.wh_catalog.specs.Catalog.{stored_of, state_of}
 use Rattle.wh_txn.specs.View.{sessions_of}

@@ -7,7 +7,7 @@ use Rattle.wh_reply.specs.declared.reply.Reply.TheVariants as shown
 use Rattle.wh_naming.specs.Select.{BoundSelect}
 use Rattle.wh_bind.specs.Binds.{IsBound}
 use Rattle.wh_machine.specs.Lone as tables
-use Rattle.wh_machine.specs.Lone.{alone}
+use Rattle.wh_machine.specs.Outcome.{alone}
 use Rattle.wh_machine.specs.Reading.{reading_refusal}
 use Rattle.wh_catalog.specs.Catalog.{stored_of}
 use Rattle.wh_txn.specs.View.{sessions_of}

@@ -16,7 +16,7 @@ use Rattle.wh_machine.specs.Changes.{reply_to, edit_acts, settled_effect, carrie
 use Rattle.wh_state.specs.Stored.{Stored, StoredTable, table_meant}
 use Rattle.wh_machine.specs.Lone as tables
 use Rattle.wh_state.specs.Written.{written}
-use Rattle.wh_machine.specs.Lone.{Machine, alone}
+use Rattle.wh_machine.specs.Outcome.{Machine, alone}
 use Rattle.wh_machine.specs.Reading.{start_in}
 use Rattle.wh_catalog.specs.Catalog.{stored_of}
 use Rattle.wh_table.specs.Table.{table_of}

@@ -1,6 +1,6 @@
 use Rattle.std.proofs.Common.{◌≡◌, ℕ, List, ◌++◌, length, Some, refl}
 use Rattle.wh_state.specs.State.{State}
-use Rattle.wh_machine.specs.Lone.{opened}
+use Rattle.wh_machine.specs.Outcome.{opened}
 use Rattle.wh_machine.specs.Step.{Event}
 use Rattle.wh_world.specs.Crash.{Only}
 use Rattle.wh_shell.specs.Crash.{Survives}

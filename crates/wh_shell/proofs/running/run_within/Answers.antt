@@ -2,7 +2,7 @@ use Rattle.std.proofs.Common.{◌≡◌, ◌∙◌, ◌<◌, ◌+◌, ℕ, List,
 use Rattle.std.specs.Prelude.{is_some}
 use Rattle.wh_state.specs.State.{State}
 use Rattle.wh_state.specs.Stored.{meant}
-use Rattle.wh_machine.specs.Lone.{Machine, opened}
+use Rattle.wh_machine.specs.Outcome.{Machine, opened}
 use Rattle.wh_machine.specs.Step.{Event}
 use Rattle.wh_machine.specs.Made.{overflow}
 use Rattle.wh_world.specs.Told.{Rose}

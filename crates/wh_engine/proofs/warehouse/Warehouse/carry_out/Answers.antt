@@ -3,7 +3,7 @@ use Rattle.wh_value.specs.Limit.{bound}
 use Rattle.wh_value.specs.declared.limit.Limit.TheVariants as limits
 use Rattle.wh_reply.specs.Reply.{Reply}
 use Rattle.wh_reply.specs.View.{reply_view}
-use Rattle.wh_machine.specs.Lone.{Machine}
+use Rattle.wh_machine.specs.Outcome.{Machine}
 use Rattle.wh_machine.specs.Step.{reading_of, stamp_of}
 use Rattle.wh_catalog.specs.Catalog.{stored_of, state_of}
 use Rattle.wh_decide.specs.Event.{event_of}
