@@ -1,8 +1,10 @@
 -- What a decision on an event leads to.
 --     Comes        an event's commit, and the machine and the reply that it comes to
 --     turns        so from what was decided on it at its stamp
+--     is_there     an open transaction
 --     unstamped    an event that there is no stamp for
-use Rattle.std.proofs.Common.{◌≡◌, ℕ, ◌+◌, ◌<◌, ◌≤◌, max, true, false, List, Some, None, Option, option_map}
+use Rattle.std.proofs.Common.{◌≡◌, ℕ, ◌+◌, ◌<◌, ◌≤◌, max, true, false, List, Some, None, Option, option_map, is_some}
+use Rattle.std.specs.Prelude.{IsTrue}
 use Rattle.std.proofs.Common.{refl, sym, ap, subst, ◌∙◌, arith}
 use Rattle.std.proofs.lemmas.Bool.{lt-ltb, le-ltb}
 use Rattle.wh_value.specs.Limit.{bound}
@@ -10,9 +12,10 @@ use Rattle.wh_value.specs.declared.limit.Limit.TheVariants as limits
 use Rattle.wh_reply.specs.Reply.{Reply, Refused, OverLimit}
 use Rattle.wh_state.specs.State.{stamped}
 use Rattle.wh_state.specs.Stored.{Stored, meant}
-use Rattle.wh_state.specs.Commit.{Change}
+use Rattle.wh_state.specs.Act.{Act}
 use Rattle.wh_state.specs.Orderly.{IsOrderlyStored}
 use Rattle.wh_state.specs.Written.{commit_for}
+use Rattle.wh_machine.specs.Transaction.{Transaction}
 use Rattle.wh_machine.specs.Sessions.{Sessions}
 use Rattle.wh_machine.specs.Outcome.{Machine, Outcome, Refuses, Does, settled, acts_in}
 use Rattle.wh_machine.specs.Step.{Event, reading_of, stamp_of, at_stamp, has_stamp, outcome_of, decided, step}
@@ -21,92 +24,67 @@ use Rattle.wh_machine.proofs.StepLaws.{ready, step_at, acts_at, stamp_refused, n
 use Rattle.wh_decide.specs.declared.decision.Decision.{Decision}
 use Rattle.wh_decide.specs.declared.decision.Decision.TheVariants as decisions
 use Rattle.wh_decide.specs.declared.decision.Settlement.{Settlement}
-use Rattle.wh_decide.specs.Decision.{Plan, Declines, Goes, plan_of, planned, Decides, commit_at, machine_at}
-use Rattle.wh_decide.specs.Decision.{sessions_after, changes_in, answer_of, settlement_of}
+use Rattle.wh_decide.specs.Decision.{Decides, machine_at, sessions_after, commit_in, answer_of, settlement_of}
+use Rattle.wh_decide.specs.Decision.{StagesInOpen}
 use Rattle.wh_decide.specs.Warehouse.{state_with}
 use Rattle.wh_catalog.specs.Catalog.{stored_of, state_of}
 use Rattle.wh_catalog.specs.declared.catalog.Catalog.{Catalog}
 use Rattle.wh_decide.proofs.CatalogLemmas.{state_is}
 
--- ---- plans
+-- ---- what a decision tells
 
-abbrev reply_in : Plan → Reply
-reply_in (Declines why) = Refused why
-reply_in (Goes reply sessions changes) = reply
+-- of an outcome that it comes to
+record IsTold (s : Stored) (m : Machine) (stamp : ℕ) (d : Decision) (o : Outcome) : Type 0 where
+  commit : commit_in (settlement_of d) ≡ option_map (commit_for s stamp) (acts_in o)
+  sessions : sessions_after stamp m.sessions (settlement_of d) ≡ (settled (at_stamp m stamp) o).0.sessions
+  reply : answer_of d ≡ (settled (at_stamp m stamp) o).1
+  staged : StagesInOpen m.sessions (settlement_of d)
 
-abbrev sessions_in : Sessions → Plan → Sessions
-sessions_in before (Declines why) = before
-sessions_in before (Goes reply sessions changes) = sessions
+told : (s : Stored) (m : Machine) (stamp : ℕ) (d : Decision) (o : Outcome) → Decides s m.sessions stamp d o
+    → IsTold s m stamp d o
+told s m stamp (decisions.Refuse why) o is =
+    subst (λ (x : Outcome). IsTold s m stamp (decisions.Refuse why) x) (sym is)
+    (record { commit = refl; sessions = refl; reply = refl; staged = tt })
+told s m stamp (decisions.Do reply settlement) o done =
+    subst (λ (x : Outcome). IsTold s m stamp (decisions.Do reply settlement) x) (sym done.does)
+    (record { commit = done.written; sessions = refl; reply = refl; staged = done.staged })
 
-abbrev changes_told : Plan → Option (List Change)
-changes_told (Declines why) = None
-changes_told (Goes reply sessions changes) = changes
+is_at : (s : Stored) (stamp : ℕ) (acts : Option (List Act)) → IsAt stamp (option_map (commit_for s stamp) acts)
+is_at s stamp None = tt
+is_at s stamp (Some acts) = refl
 
--- of a decision
-
-reply_told : (stamp : ℕ) (sessions : Sessions) (d : Decision) → answer_of d ≡ reply_in (plan_of stamp sessions d)
-reply_told stamp sessions (decisions.Refuse why) = refl
-reply_told stamp sessions (decisions.Do reply settlement) = refl
-
-sessions_told : (stamp : ℕ) (sessions : Sessions) (d : Decision)
-    → sessions_after stamp sessions (settlement_of d) ≡ sessions_in sessions (plan_of stamp sessions d)
-sessions_told stamp sessions (decisions.Refuse why) = refl
-sessions_told stamp sessions (decisions.Do reply settlement) = refl
-
-changes_are : (stamp : ℕ) (sessions : Sessions) (d : Decision)
-    → changes_in (settlement_of d) ≡ changes_told (plan_of stamp sessions d)
-changes_are stamp sessions (decisions.Refuse why) = refl
-changes_are stamp sessions (decisions.Do reply settlement) = refl
-
--- of an outcome
-
-commit_of_acts : (s : Stored) (stamp : ℕ) (o : Outcome)
-    → commit_at stamp (changes_told (planned s stamp o)) ≡ option_map (commit_for s stamp) (acts_in o)
-commit_of_acts s stamp (Refuses why) = refl
-commit_of_acts s stamp (Does reply sessions None) = refl
-commit_of_acts s stamp (Does reply sessions (Some acts)) = refl
-
-reply_of_outcome : (s : Stored) (m : Machine) (stamp : ℕ) (o : Outcome)
-    → (settled (at_stamp m stamp) o).1 ≡ reply_in (planned s stamp o)
-reply_of_outcome s m stamp (Refuses why) = refl
-reply_of_outcome s m stamp (Does reply sessions None) = refl
-reply_of_outcome s m stamp (Does reply sessions (Some acts)) = refl
-
-sessions_of_outcome : (s : Stored) (m : Machine) (stamp : ℕ) (o : Outcome)
-    → (settled (at_stamp m stamp) o).0.sessions ≡ sessions_in m.sessions (planned s stamp o)
-sessions_of_outcome s m stamp (Refuses why) = refl
-sessions_of_outcome s m stamp (Does reply sessions None) = refl
-sessions_of_outcome s m stamp (Does reply sessions (Some acts)) = refl
+-- a transaction that there is
+pub is_there : (found : Option Transaction) → IsTrue (is_some found) → (t : Transaction) × (found ≡ Some t)
+is_there None some = absurd cc
+is_there (Some t) some = (t, refl)
 
 -- ---- at an event's stamp
 
 pub record Comes
     (s : Stored) (m : Machine) (e : Event) (stamp : ℕ) (settlement : Settlement) (reply : Reply) : Type 0 where
-  pub commit : made s m e ≡ commit_at stamp (changes_in settlement)
+  pub commit : made s m e ≡ commit_in settlement
   pub leaves : (step m e).0
-      ≡ machine_at (state_with s stamp (commit_at stamp (changes_in settlement)))
-      (sessions_after stamp m.sessions settlement)
+      ≡ machine_at (state_with s stamp (commit_in settlement)) (sessions_after stamp m.sessions settlement)
   pub replied : reply ≡ (step m e).1
+  pub staged : StagesInOpen m.sessions settlement
+  pub timed : IsAt stamp (commit_in settlement)
 
 comes : (s : Stored) (m : Machine) (e : Event) (d : Decision) → IsOrderlyStored s
     → m.state ≡ record (meant s) { last = m.state.last }
-    → has_stamp m e ≡ true → plan_of (stamp_of m.state (reading_of e)) m.sessions d
-    ≡ planned s (stamp_of m.state (reading_of e)) (decided m e)
+    → has_stamp m e ≡ true → Decides s m.sessions (stamp_of m.state (reading_of e)) d (decided m e)
     → Comes s m e (stamp_of m.state (reading_of e)) (settlement_of d) (answer_of d)
-comes s m e d orderly is has plan =
+comes s m e d orderly is has decides =
     let stamp : ℕ = stamp_of m.state (reading_of e) in
     let o : Outcome = decided m e in
-    let commit : commit_at stamp (changes_in (settlement_of d)) ≡ option_map (commit_for s stamp) (acts_in o) =
-    ap (commit_at stamp) (changes_are stamp m.sessions d ∙ ap changes_told plan) ∙ commit_of_acts s stamp o in
-    let sessions : sessions_after stamp m.sessions (settlement_of d) ≡ (settled (ready m e) o).0.sessions =
-    sessions_told stamp m.sessions d ∙ ap (sessions_in m.sessions) plan ∙ sym (sessions_of_outcome s m stamp o) in
-    let state : (settled (ready m e) o).0.state ≡ state_with s stamp (commit_at stamp (changes_in (settlement_of d))) =
-    decided_meant s m e orderly is ∙ ap (state_with s stamp) (sym commit) in
+    let h : IsTold s m stamp d o = told s m stamp d o decides in
+    let state : (settled (ready m e) o).0.state ≡ state_with s stamp (commit_in (settlement_of d)) =
+    decided_meant s m e orderly is ∙ ap (state_with s stamp) (sym h.commit) in
     record {
-      commit = ap (option_map (commit_for s stamp)) (acts_at m e has) ∙ sym commit;
-      leaves = ap (λ (p : Machine × Reply). p.0) (step_at m e has) ∙ (λ i. machine_at (state i) (sym sessions i));
-      replied = reply_told stamp m.sessions d ∙ ap reply_in plan ∙ sym (reply_of_outcome s m stamp o)
-          ∙ sym (ap (λ (p : Machine × Reply). p.1) (step_at m e has));
+      commit = ap (option_map (commit_for s stamp)) (acts_at m e has) ∙ sym h.commit;
+      leaves = ap (λ (p : Machine × Reply). p.0) (step_at m e has) ∙ (λ i. machine_at (state i) (sym h.sessions i));
+      replied = h.reply ∙ sym (ap (λ (p : Machine × Reply). p.1) (step_at m e has));
+      staged = h.staged;
+      timed = subst (IsAt stamp) (sym h.commit) (is_at s stamp (acts_in o));
     }
 
 -- so for a catalog and open transactions, where the stamp is the code's
@@ -122,14 +100,12 @@ turns c sessions e reading last most stamp d settlement reply orderly read was l
     let m : Machine = machine_at (state_of c) sessions in
     let is : stamp ≡ stamp_of (state_of c) (reading_of e) = omega (arith, read, was, at) in
     let has : has_stamp m e ≡ true = lt-ltb _ _ (omega (arith, is, limit, within)) in
-    let plan : plan_of (stamp_of (state_of c) (reading_of e)) sessions d
-    ≡ planned s (stamp_of (state_of c) (reading_of e)) (decided m e) =
-    subst (λ (n : ℕ). plan_of n sessions d ≡ planned s n (outcome_of (machine_at (stamped (state_of c) n) sessions) e))
-    is h.same in
+    let decides : Decides s sessions (stamp_of (state_of c) (reading_of e)) d (decided m e) =
+    subst (λ (n : ℕ). Decides s sessions n d (outcome_of (machine_at (stamped (state_of c) n) sessions) e)) is h in
     subst (λ (n : ℕ). Comes s m e n settlement reply) (sym is)
     (subst (λ (done : Settlement). Comes s m e (stamp_of (state_of c) (reading_of e)) done reply) (sym carried)
     (subst (λ (r : Reply). Comes s m e (stamp_of (state_of c) (reading_of e)) (settlement_of d) r) (sym told)
-    (comes s m e d orderly (state_is c) has plan)))
+    (comes s m e d orderly (state_is c) has decides)))
 
 -- ---- no stamp is left
 

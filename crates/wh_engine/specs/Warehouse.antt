@@ -6,7 +6,8 @@
 --     machine_of          the machine that it is
 --     made_in, led_to     the commit that an event makes, and the machine that it leads to
 --     state_with          the state at a stamp, with a commit or without
-use Rattle.std.specs.Prelude.{◌≡◌, ℕ, List, map, Option, Some}
+--     IsAt                a commit is at a stamp
+use Rattle.std.specs.Prelude.{◌≡◌, ℕ, List, map, Option, Some, None}
 use Rattle.std.specs.List.{AllByRecursion}
 use Rattle.wh_frame.specs.File.{IsFileOf}
 use Rattle.wh_state.specs.State.{State, stamped}
@@ -59,3 +60,8 @@ led_to w event = (step (machine_of w) event).0
 
 abbrev pub state_with : Stored → ℕ → Option Commit → State
 state_with s stamp commit = stamped (meant (kept_after s commit)) stamp
+
+-- a commit is at a stamp, where there is one
+abbrev pub IsAt : ℕ → Option Commit → Type 0
+IsAt stamp None = Unit {0}
+IsAt stamp (Some c) = c.stamp ≡ stamp

@@ -1,9 +1,8 @@
-use crate::deciding::decide;
-use crate::decision::{Decision, Settlement};
 use crate::{Event, Halt, Warehouse};
 use std::alloc::AllocError;
 use std::thread::Threads;
-use wh_record::{Change, Commit};
+use wh_decide::{Decision, Settlement, decide};
+use wh_record::Commit;
 use wh_reply::{Refusal, Reply};
 use wh_value::Limit;
 use wh_world::Disk;
@@ -20,9 +19,9 @@ impl<D: Disk> Warehouse<D> {
     ghost use Rattle.wh_catalog.specs.Catalog.{stored_of, state_of};
     ghost use Rattle.wh_txn.specs.View.{sessions_of};
     ghost use Rattle.wh_decide.specs.Event.{event_of};
-    ghost use Rattle.wh_decide.specs.Decision.{changes_of, commit_at, changes_in, sessions_after};
+    ghost use Rattle.wh_decide.specs.Decision.{commit_in, sessions_after};
     ghost use Rattle.wh_decide.specs.Decision.{machine_at, Decides, StagesInOpen};
-    ghost use Rattle.wh_engine.specs.Warehouse.{made_in, led_to, state_with};
+    ghost use Rattle.wh_engine.specs.Warehouse.{made_in, led_to, state_with, IsAt};
     ghost use Rattle.wh_engine.specs.Answers.{Answered, CarriesOut};
     ghost use Rattle.wh_engine.specs.Halts.{Halted};
     ghost use Rattle.wh_engine.specs.Leaves.{Leaves};
@@ -68,20 +67,20 @@ impl<D: Disk> Warehouse<D> {
         requires later { (stored_of self.old.catalog).last ≤ stamp }
         requires within { stamp < bound limits.Stamp }
         requires staged { StagesInOpen (sessions_of self.old.sessions) settlement }
+        requires timed { IsAt stamp (commit_in settlement) }
         ensures answered { OnOk result (CarriesOut self.old self.new
-            (commit_at stamp (changes_in settlement))
-            (machine_at (state_with (stored_of self.old.catalog) stamp
-            (commit_at stamp (changes_in settlement)))
+            (commit_in settlement)
+            (machine_at (state_with (stored_of self.old.catalog) stamp (commit_in settlement))
             (sessions_after stamp (sessions_of self.old.sessions) settlement))) }
         ensures halted { IfErr result (λ halt. Halted self.old self.new
-            (commit_at stamp (changes_in settlement)) halt) }
+            (commit_in settlement) halt) }
         ensures any_moment { Leaves self.old self.new (state_with (stored_of self.old.catalog)
-            stamp (commit_at stamp (changes_in settlement))) }
+            stamp (commit_in settlement)) }
         ensures limit { limit_of self.new.journal ≡ limit_of self.old.journal }
     {
         match settlement {
             Settlement::Answers => self.record(stamp, None),
-            Settlement::Commits(changes) => self.record(stamp, Some(changes)),
+            Settlement::Commits(commit) => self.record(stamp, Some(commit)),
             Settlement::Begins(session) => {
                 self.catalog.pass(stamp);
                 self.sessions.begin(session, stamp);
@@ -99,31 +98,31 @@ impl<D: Disk> Warehouse<D> {
                 self.catalog.pass(stamp);
                 Ok(())
             }
-            Settlement::Ends { session, changes } => {
-                self.record(stamp, changes)?;
+            Settlement::Ends { session, commit } => {
+                self.record(stamp, commit)?;
                 self.sessions.rollback(session);
                 Ok(())
             }
         }
     }
 
-    // Adds a commit of these changes, or passes the stamp where there is none.
-    fn record(&mut self, stamp: u64, changes: Option<Vec<Change>>) -> Result<(), Halt>
+    // Adds a commit, or passes the stamp where there is none.
+    fn record(&mut self, stamp: u64, commit: Option<Commit>) -> Result<(), Halt>
         requires healthy { failed_of self.old.journal ≡ None }
         requires later { (stored_of self.old.catalog).last ≤ stamp }
         requires within { stamp < bound limits.Stamp }
-        ensures answered { OnOk result (CarriesOut self.old self.new
-            (commit_at stamp (option_map changes_of changes))
-            (machine_at (state_with (stored_of self.old.catalog) stamp
-            (commit_at stamp (option_map changes_of changes))) (sessions_of self.old.sessions))) }
-        ensures halted { IfErr result (λ halt. Halted self.old self.new
-            (commit_at stamp (option_map changes_of changes)) halt) }
-        ensures any_moment { Leaves self.old self.new (state_with (stored_of self.old.catalog)
-            stamp (commit_at stamp (option_map changes_of changes))) }
+        requires timed { IsAt stamp (option_map commit_of commit) }
+        ensures answered { OnOk result (CarriesOut self.old self.new (option_map commit_of commit)
+            (machine_at (state_with (stored_of self.old.catalog) stamp (option_map commit_of commit))
+            (sessions_of self.old.sessions))) }
+        ensures halted { IfErr result (λ halt.
+            Halted self.old self.new (option_map commit_of commit) halt) }
+        ensures any_moment { Leaves self.old self.new
+            (state_with (stored_of self.old.catalog) stamp (option_map commit_of commit)) }
         ensures limit { limit_of self.new.journal ≡ limit_of self.old.journal }
     {
-        match changes {
-            Some(changes) => self.commit(Commit { stamp, changes }),
+        match commit {
+            Some(commit) => self.commit(commit),
             None => {
                 self.catalog.pass(stamp);
                 Ok(())

@@ -8,14 +8,13 @@ use Rattle.wh_machine.specs.Step.{reading_of, stamp_of}
 use Rattle.wh_catalog.specs.Catalog.{stored_of, state_of}
 use Rattle.wh_decide.specs.Event.{event_of}
 use Rattle.wh_txn.specs.View.{sessions_of}
-use Rattle.wh_decide.specs.Decision.{StagesInOpen}
 use Rattle.wh_engine.specs.Warehouse.{machine_of, made_in, led_to}
 use Rattle.wh_engine.specs.Halts.{Halted}
 use Rattle.wh_engine.specs.Leaves.{Leaves}
 use Rattle.wh_engine.proofs.StopLemmas.{leaves_still}
 use Rattle.wh_engine.proofs.HaltLemmas.{unchanged, reopens, starved, passed_on}
 use Rattle.wh_engine.proofs.CarryLemmas.{carries_nothing}
-use Rattle.wh_engine.proofs.PlanLemmas.{Comes, turns, unstamped}
+use Rattle.wh_engine.proofs.DecidedLemmas.{Comes, turns, unstamped}
 use Rattle.wh_engine.proofs.warehouse.Warehouse.carry_out.Given.{Over}
 use Rattle.wh_engine.proofs.warehouse.Warehouse.carry_out.Goals.{After-settle}
 use Rattle.wh_engine.proofs.warehouse.Warehouse.carry_out.Goals as goal
@@ -65,12 +64,20 @@ returns-in_err-decision-clause-any_moment g c =
 pub settle-requires : goal.settle-requires
 settle-requires g c =
     let none : c.failed.result ≡ None = search rules in
+    let w = c.args.self.now in
+    let h : Comes (stored_of w.catalog) (machine_of w) (event_of c.args.event.now) c.max-stamp.result
+    c.into_parts-reply.result.1 (reply_view c.into_parts-reply.result.0) =
+    turns w.catalog (sessions_of w.sessions) (event_of c.args.event.now)
+    c.reading.result c.last.result c.bound.result c.max-stamp.result c.in_ok-decision.decision _ _
+    c.last.ensures.orderly c.reading.ensures c.last.ensures.last c.bound.ensures c.max-stamp.ensures
+    c.if-bound-stamp.false c.in_ok-decision.ensures
+    c.into_parts-reply.ensures.settlement c.into_parts-reply.ensures.reply in
     record {
       healthy = sym c.failed.ensures ∙ none;
       later = omega (arith, c.max-stamp.ensures, c.last.ensures.committed);
       within = omega (arith, c.bound.ensures, c.if-bound-stamp.false);
-      staged = subst (StagesInOpen (sessions_of c.args.self.now.sessions))
-          (sym c.into_parts-reply.ensures.settlement) c.in_ok-decision.ensures.staged;
+      staged = h.staged;
+      timed = h.timed;
     }
 
 -- ---- what was decided is carried out

@@ -1,7 +1,8 @@
 use Rattle.std.proofs.Common.{◌≡◌, None, option_map, refl, ap}
 use Rattle.wh_state.specs.State.{State}
 use Rattle.wh_txn.specs.View.{sessions_of}
-use Rattle.wh_decide.specs.Decision.{changes_of, commit_at, machine_at}
+use Rattle.wh_decide.specs.Decision.{machine_at}
+use Rattle.wh_record.specs.View.{commit_of}
 use Rattle.wh_engine.proofs.StopLemmas.{leaves_still}
 use Rattle.wh_engine.proofs.CarryLemmas.{carries_nothing, state_passed}
 use Rattle.wh_engine.proofs.warehouse.Warehouse.record.Goals as goal
@@ -10,7 +11,7 @@ use Rattle.wh_engine.proofs.warehouse.Warehouse.record.Goals as goal
 pub returns-in-None-clause-answered : goal.returns-in-None-clause-answered
 returns-in-None-clause-answered g c =
     let old = c.args.self.now in
-    let none : commit_at c.args.stamp (option_map changes_of c.args.changes) ≡ None = rw c.in-None.is refl in
+    let none : option_map commit_of c.args.commit ≡ None = rw c.in-None.is refl in
     carries_nothing old _ _ _ none refl refl c.pass.ensures.stored
     (ap (λ (s : State). machine_at s (sessions_of old.sessions))
     (state_passed old.catalog c.pass.new.self c.args.stamp _ none c.pass.ensures.state))
@@ -20,13 +21,17 @@ pub returns-in-None-clause-any_moment : goal.returns-in-None-clause-any_moment
 returns-in-None-clause-any_moment g c = leaves_still g.met.D.Disk.only_now c.args.self.now _ _ refl
 
 pub returns-in-Some-clause-answered : goal.returns-in-Some-clause-answered
-returns-in-Some-clause-answered g c = rw c.in-Some.is c.commit.ensures.answered
+returns-in-Some-clause-answered g c =
+    let timed : c.in-Some.commit.stamp ≡ c.args.stamp = rw c.in-Some.is at c.requires.timed in
+    rw (c.in-Some.is, sym timed) c.commit.ensures.answered
 
 pub returns-in-Some-clause-halted : goal.returns-in-Some-clause-halted
 returns-in-Some-clause-halted g c = rw c.in-Some.is c.commit.ensures.halted
 
 pub returns-in-Some-clause-any_moment : goal.returns-in-Some-clause-any_moment
-returns-in-Some-clause-any_moment g c = rw c.in-Some.is c.commit.ensures.any_moment
+returns-in-Some-clause-any_moment g c =
+    let timed : c.in-Some.commit.stamp ≡ c.args.stamp = rw c.in-Some.is at c.requires.timed in
+    rw (c.in-Some.is, sym timed) c.commit.ensures.any_moment
 
 pub commit-requires : goal.commit-requires
 commit-requires g c = record { healthy = c.requires.healthy }

@@ -4,16 +4,16 @@ use Rattle.wh_machine.specs.Transaction as transactions
 use Rattle.wh_machine.specs.Transaction.{Transaction}
 use Rattle.wh_machine.specs.Sessions.{transaction_in, with_transaction}
 use Rattle.wh_txn.specs.View.{sessions_of}
-use Rattle.wh_decide.specs.Decision.{commit_at, changes_in, sessions_after, transaction_or_new, machine_at}
+use Rattle.wh_decide.specs.Decision.{commit_in, sessions_after, transaction_or_new, machine_at}
 use Rattle.wh_engine.proofs.StopLemmas.{leaves_still}
 use Rattle.wh_engine.proofs.CarryLemmas.{carries_nothing, state_passed}
-use Rattle.wh_engine.proofs.TransactionLemmas.{is_there}
+use Rattle.wh_engine.proofs.DecidedLemmas.{is_there}
 use Rattle.wh_engine.proofs.warehouse.Warehouse.settle.Goals as goal
 
 pub returns-in-Begins-clause-answered : goal.returns-in-Begins-clause-answered
 returns-in-Begins-clause-answered g c =
     let old = c.args.self.now in
-    let none : commit_at c.args.stamp (changes_in c.args.settlement) ≡ None = rw c.in-Begins.is refl in
+    let none : commit_in c.args.settlement ≡ None = rw c.in-Begins.is refl in
     let sessions = c.begin.ensures ∙ ap (sessions_after c.args.stamp (sessions_of old.sessions)) (sym c.in-Begins.is) in
     carries_nothing old _ _ _ none refl refl c.pass.ensures.stored
     (λ i. machine_at (state_passed old.catalog c.pass.new.self c.args.stamp _ none c.pass.ensures.state i) (sessions i))
@@ -30,7 +30,7 @@ returns-in_ok-stage-in-Stages-clause-answered g c =
     let old = c.args.self.now in
     let before = sessions_of old.sessions in
     let staged = c.in-Stages in
-    let none : commit_at c.args.stamp (changes_in c.args.settlement) ≡ None = rw staged.is refl in
+    let none : commit_in c.args.settlement ≡ None = rw staged.is refl in
     let t = is_there (transaction_in before staged.session) (rw staged.is at c.requires.staged) in
     let sessions =
     c.in_ok-stage-in-Stages.ensures.ok t.0 t.1
