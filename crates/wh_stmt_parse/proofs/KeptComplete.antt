@@ -252,7 +252,7 @@ module _ (text : List ℕ) (placed : List Placed) (utf8 : IsUtf8 text) (tokens :
   pub words-read : Readers → {s : Statement} → IsStatement text placed s
       → read_words text placed (tokens_of placed) ≡ Some (s, [])
   words-read r (g.plain h) = plain-read text placed r h
-  words-read r (g.task head body e h b k) = task-read r head body e h b k
-  words-read r (g.guarded_task head guard body link e h c k l b body_k) =
+  words-read r (g.create_task (g.task head body e h b k)) = task-read r head body e h b k
+  words-read r (g.create_task (g.guarded_task head guard body link e h c k l b body_k)) =
       guarded-read r head guard body link e h c k l b body_k
-  words-read r (g.dynamic_table head body e h b k) = table-read r head body e h b k
+  words-read r (g.create_dynamic_table (g.dynamic_table head body e h b k)) = table-read r head body e h b k

@@ -17,7 +17,7 @@ use Rattle.wh_grammar.specs.Query.{IsQuery}
 use Rattle.wh_grammar.specs.Parts.{IsCondition, AreTableOptions}
 use Rattle.wh_grammar.specs.Spelled as g
 use Rattle.wh_grammar.specs.Spelled.{IsStatement, IsTaskHead, task_head, IsTableHead, table_head, most_nested}
-use Rattle.wh_grammar.specs.Spelled.{tokens_of, written, IsKept}
+use Rattle.wh_grammar.specs.Spelled.{tokens_of, written, IsKept, task_of}
 use Rattle.wh_cursor.specs.Steps.{tail, Reader, and_then}
 use Rattle.wh_cursor.proofs.Yields.{Yields, yields, nothing, follow, yields_law}
 use Rattle.wh_cursor.proofs.Combine.{if_eaten_word, then_expect_word, name-yields}
@@ -106,14 +106,7 @@ guard-sound r text placed ts = if_eaten_word (codes "WHEN") ts (guard_by text pl
 -- ---- CREATE TASK
 
 abbrev pub made : TaskHead → Option When → Dml → List ℕ → Statement
-made head when body kept = st.CreateTask (record {
-  name = head.name;
-  minutes = head.minutes;
-  after = head.after;
-  when = when;
-  body = body;
-  body_text = kept;
-})
+made head when body kept = st.CreateTask (task_of head.name head.minutes head.after when body kept)
 
 abbrev pub at_as : List Token → List Token
 at_as bs = Word (codes "AS") ∷ bs
@@ -131,10 +124,11 @@ task_made : Readers
 task_made r text placed ts head bs body kept e h b k =
     let f = task-frame r.names_frame r.task_options_frame h in
     let p = parted placed (f.front ++ at_as []) bs (e ∙ f.is ∙ one_more f.front _ bs) in
-    g.task p.head p.body p.is (stand (λ (ts : List Token). IsTaskHead ts head.name head.minutes head.after (at_as []))
+    g.create_task (g.task p.head p.body p.is
+    (stand (λ (ts : List Token). IsTaskHead ts head.name head.minutes head.after (at_as []))
     p.head_is (f.stands (at_as []) refl))
     (stand (λ (ts : List Token). IsDml most_nested ts body []) p.body_is b)
-    (subst (λ (ps : List Placed). IsKept text ps kept) (last_is p.head p.body p.is p.body_is) k)
+    (subst (λ (ps : List Placed). IsKept text ps kept) (last_is p.head p.body p.is p.body_is) k))
 
 guarded_made : Readers
     → (text : List ℕ) (placed : List Placed) (ts : List Token) (head : TaskHead) (gs : List Token)
@@ -157,14 +151,14 @@ guarded_made r text placed ts head gs guard bs body kept e h w b k =
     let body_at : placed ≡ (p.head ++ (q.head ++ l.link ∷ [])) ++ l.body =
     all_is ∙ ap (λ (m : List Placed). p.head ++ m) (sym (append_assoc q.head (l.link ∷ []) l.body))
     ∙ sym (append_assoc p.head (q.head ++ l.link ∷ []) l.body) in
-    g.guarded_task p.head q.head l.body l.link all_is
+    g.create_task (g.guarded_task p.head q.head l.body l.link all_is
     (stand (λ (ts : List Token). IsTaskHead ts head.name head.minutes head.after (Word (codes "WHEN") ∷ [])) p.head_is
     (f.stands (Word (codes "WHEN") ∷ []) refl))
     (stand (λ (ts : List Token). IsCondition most_nested ts guard.condition []) q.head_is c.2)
     (subst (λ (ps : List Placed). IsKept text ps guard.text) guard_at w.kept)
     l.link_is (stand (λ (ts : List Token). IsDml most_nested ts body []) l.body_is b)
     (subst (λ (ps : List Placed). IsKept text ps kept)
-    (last_is (p.head ++ (q.head ++ l.link ∷ [])) l.body body_at l.body_is) k)
+    (last_is (p.head ++ (q.head ++ l.link ∷ [])) l.body body_at l.body_is) k))
 
 any_task : Readers
     → (text : List ℕ) (placed : List Placed) (ts : List Token) (head : TaskHead) (us : List Token) (when : Option When)
@@ -206,10 +200,10 @@ table_made : Readers
 table_made r text placed ts name l m i bs q kept e h b k =
     let f = table-frame r.table_options_frame h in
     let p = parted placed (f.front ++ at_as []) bs (e ∙ f.is ∙ one_more f.front _ bs) in
-    g.dynamic_table p.head p.body p.is
+    g.create_dynamic_table (g.dynamic_table p.head p.body p.is
     (stand (λ (ts : List Token). IsTableHead ts name l m i (at_as [])) p.head_is (f.stands (at_as []) refl))
     (stand (λ (ts : List Token). IsQuery most_nested ts q []) p.body_is b)
-    (subst (λ (ps : List Placed). IsKept text ps kept) (last_is p.head p.body p.is p.body_is) k)
+    (subst (λ (ps : List Placed). IsKept text ps kept) (last_is p.head p.body p.is p.body_is) k))
 
 pub dynamic_table-sound : Readers → (text : List ℕ) (placed : List Placed) (ts : List Token)
     → tokens_of placed ≡ Word (codes "CREATE") ∷ Word (codes "DYNAMIC") ∷ ts

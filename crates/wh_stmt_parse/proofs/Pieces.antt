@@ -78,14 +78,15 @@ quotes-begin quote bytes inside rest e small =
     (e ∙ ap (λ (l : List ℕ). quote ∷ l) (sym (append_assoc inside (quote ∷ []) rest))) small
 
 token-begins : (bytes : List ℕ) (t : Token) (rest : List ℕ) → IsToken bytes t rest → Begins bytes rest
-token-begins bytes t rest (lex.word b more e h all stop made is) = begins b more e (letter-small b h)
-token-begins bytes t rest (lex.number digits e some all small stop is) = number-begins bytes digits rest e some all
-token-begins bytes t rest (lex.text inside e utf8 plain stop is) =
+token-begins bytes t rest (lex.bare (lex.word b more e h all stop made is)) = begins b more e (letter-small b h)
+token-begins bytes t rest (lex.bare (lex.number digits e some all small stop is)) =
+    number-begins bytes digits rest e some all
+token-begins bytes t rest (lex.enclosed (lex.text inside e utf8 plain stop is)) =
     quotes-begin 39 bytes (doubled 39 inside) rest e (omega arith)
-token-begins bytes t rest (lex.quoted inside e utf8 some stop is) =
+token-begins bytes t rest (lex.enclosed (lex.quoted inside e utf8 some stop is)) =
     quotes-begin 34 bytes (doubled 34 inside) rest e (omega arith)
-token-begins bytes t rest (lex.sign s e stop is) = sign-begins s bytes rest e
-token-begins bytes t rest (lex.other_unequal e is) = begins 33 (61 ∷ []) e (omega arith)
+token-begins bytes t rest (lex.signed (lex.sign s e stop is)) = sign-begins s bytes rest e
+token-begins bytes t rest (lex.signed (lex.other_unequal e is)) = begins 33 (61 ∷ []) e (omega arith)
 
 first-small : {bytes : List ℕ} {ts : List Placed} → HasTokens bytes ts → get_or bytes 0 0 < 128
 first-small lex.end = omega arith

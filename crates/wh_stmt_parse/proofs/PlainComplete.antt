@@ -18,7 +18,8 @@ use Rattle.wh_grammar.specs.Parts as parts
 use Rattle.wh_grammar.specs.Parts.{IsLag, AreColumns, AsksForData, asks, MayReplace, no_replace, or_replace, MayRetain}
 use Rattle.wh_grammar.specs.Parts.{MayAppend, MayHaveOrder}
 use Rattle.wh_grammar.specs.Spelled as g
-use Rattle.wh_grammar.specs.Spelled.{IsPlain, MayEnd, most_nested}
+use Rattle.wh_grammar.specs.Spelled.{IsPlain, IsTableStatement, IsStreamStatement, IsTaskStatement}
+use Rattle.wh_grammar.specs.Spelled.{IsDynamicTableStatement, IsTransactionStatement, at_table, MayEnd, most_nested}
 use Rattle.wh_cursor.specs.declared.key.Key.TheVariants as k
 use Rattle.wh_cursor.specs.Keys.{same_key, key_of}
 use Rattle.wh_cursor.specs.Steps.{tail, sees, sees_word}
@@ -156,9 +157,6 @@ altered-table : (ts : List Token)
     → read_alter (Word (codes "DYNAMIC") ∷ ts) ≡ read_alter_table (Word (codes "DYNAMIC") ∷ ts)
 unfolding read_alter
 altered-table ts = rw (other_word (codes "TASK") (codes "DYNAMIC") ts refl) refl
-
-abbrev at_table : List Token → List Token
-at_table ts = Word (codes "DYNAMIC") ∷ Word (codes "TABLE") ∷ ts
 
 table-resumed : {ts : List Token} {name : List ℕ} → IsName ts name (Word (codes "RESUME") ∷ [])
     → read_alter_table (at_table ts) ≡ Some (st.ResumeDynamicTable name, [])
@@ -298,6 +296,10 @@ module _ (text : List ℕ) (placed : List Placed) where
   unfolding read_words verb_of sees_word
   at-alter ts = refl
 
+  at-alter_table : (ts : List Token)
+      → read_words text placed (Word (codes "ALTER") ∷ at_table ts) ≡ read_alter_table (at_table ts)
+  at-alter_table ts = at-alter (at_table ts) ∙ altered-table (Word (codes "TABLE") ∷ ts)
+
   at-execute : (ts : List Token) → read_words text placed (Word (codes "EXECUTE") ∷ ts) ≡ read_execute ts
   unfolding read_words verb_of sees_word
   at-execute ts = refl
@@ -329,34 +331,48 @@ module _ (text : List ℕ) (placed : List Placed) where
   at-change (changing.delete _ _) = refl
   at-change (changing.merge _ _ _ _ _) = refl
 
+  table-read-at : {ts : List Token} {s : Statement} → IsTableStatement ts s → read_words text placed ts ≡ Some (s, [])
+  table-read-at (g.create_table {ts = ts} replaces n cs retained) =
+      at-create ts ∙ create-read text placed replaces n cs retained
+  table-read-at (g.drop_table {ts = ts} n) = at-drop (Word (codes "TABLE") ∷ ts) ∙ dropped-table n
+
+  stream-read-at : {ts : List Token} {s : Statement} → IsStreamStatement ts s
+      → read_words text placed ts ≡ Some (s, [])
+  stream-read-at (g.create_stream {ts = ts} n t a) =
+      at-create (Word (codes "STREAM") ∷ ts) ∙ created-stream text placed ts ∙ stream-read n t a
+  stream-read-at (g.drop_stream {ts = ts} n) = at-drop (Word (codes "STREAM") ∷ ts) ∙ dropped-stream n
+
+  task-read-at : {ts : List Token} {s : Statement} → IsTaskStatement ts s → read_words text placed ts ≡ Some (s, [])
+  task-read-at (g.resume_task {ts = ts} n) = at-alter (Word (codes "TASK") ∷ ts) ∙ altered-task ts ∙ task-resumed n
+  task-read-at (g.suspend_task {ts = ts} n) = at-alter (Word (codes "TASK") ∷ ts) ∙ altered-task ts ∙ task-suspended n
+  task-read-at (g.execute_task {ts = ts} n) = at-execute (Word (codes "TASK") ∷ ts) ∙ execute-read n
+  task-read-at (g.drop_task {ts = ts} n) = at-drop (Word (codes "TASK") ∷ ts) ∙ dropped-task n
+
+  dynamic_table-read-at : Readers → {ts : List Token} {s : Statement} → IsDynamicTableStatement ts s
+      → read_words text placed ts ≡ Some (s, [])
+  dynamic_table-read-at r (g.resume_table {ts = ts} n) = at-alter_table ts ∙ table-resumed n
+  dynamic_table-read-at r (g.suspend_table {ts = ts} n) = at-alter_table ts ∙ table-suspended n
+  dynamic_table-read-at r (g.refresh_table {ts = ts} n) = at-alter_table ts ∙ table-refreshed n
+  dynamic_table-read-at r (g.set_lag {ts = ts} n l) = at-alter_table ts ∙ table-set r n l
+  dynamic_table-read-at r (g.drop_dynamic_table {ts = ts} n) = at-drop (at_table ts) ∙ dropped-dynamic_table n
+
+  transaction-read-at : {ts : List Token} {s : Statement} → IsTransactionStatement ts s
+      → read_words text placed ts ≡ Some (s, [])
+  transaction-read-at g.begin = at-begin [] ∙ begin-alone
+  transaction-read-at g.begin_transaction = at-begin (Word (codes "TRANSACTION") ∷ []) ∙ begin-transaction
+  transaction-read-at g.begin_work = at-begin (Word (codes "WORK") ∷ []) ∙ begin-work
+  transaction-read-at g.start_transaction = at-start (Word (codes "TRANSACTION") ∷ []) ∙ start-read
+  transaction-read-at (g.commit {ts = ts} h) = at-commit ts ∙ ending-read st.Commit h
+  transaction-read-at (g.rollback {ts = ts} h) = at-rollback ts ∙ ending-read st.Rollback h
+
   pub plain-read : Readers → {ts : List Token} {s : Statement} → IsPlain ts s → read_words text placed ts ≡ Some (s, [])
   plain-read r (g.select {ts = ts} {q = q} {sorts = sorts} h order) =
       ap (read_words text placed) (query-begins h) ∙ at-select (tail ts) ∙ ap read_select (sym (query-begins h))
       ∙ select-read r h order
   plain-read r (g.has_data {ts = ts} h) = at-select ts ∙ asked-read r h
   plain-read r (g.dml h) = at-change h ∙ change-read r h
-  plain-read r (g.create_table {ts = ts} replaces n cs retained) =
-      at-create ts ∙ create-read text placed replaces n cs retained
-  plain-read r (g.create_stream {ts = ts} n t a) =
-      at-create (Word (codes "STREAM") ∷ ts) ∙ created-stream text placed ts ∙ stream-read n t a
-  plain-read r (g.resume_task {ts = ts} n) = at-alter (Word (codes "TASK") ∷ ts) ∙ altered-task ts ∙ task-resumed n
-  plain-read r (g.suspend_task {ts = ts} n) = at-alter (Word (codes "TASK") ∷ ts) ∙ altered-task ts ∙ task-suspended n
-  plain-read r (g.execute_task {ts = ts} n) = at-execute (Word (codes "TASK") ∷ ts) ∙ execute-read n
-  plain-read r (g.resume_table {ts = ts} n) = at-alter (at_table ts)
-      ∙ altered-table (Word (codes "TABLE") ∷ ts) ∙ table-resumed n
-  plain-read r (g.suspend_table {ts = ts} n) = at-alter (at_table ts)
-      ∙ altered-table (Word (codes "TABLE") ∷ ts) ∙ table-suspended n
-  plain-read r (g.refresh_table {ts = ts} n) = at-alter (at_table ts)
-      ∙ altered-table (Word (codes "TABLE") ∷ ts) ∙ table-refreshed n
-  plain-read r (g.set_lag {ts = ts} n l) = at-alter (at_table ts)
-      ∙ altered-table (Word (codes "TABLE") ∷ ts) ∙ table-set r n l
-  plain-read r (g.drop_table {ts = ts} n) = at-drop (Word (codes "TABLE") ∷ ts) ∙ dropped-table n
-  plain-read r (g.drop_stream {ts = ts} n) = at-drop (Word (codes "STREAM") ∷ ts) ∙ dropped-stream n
-  plain-read r (g.drop_task {ts = ts} n) = at-drop (Word (codes "TASK") ∷ ts) ∙ dropped-task n
-  plain-read r (g.drop_dynamic_table {ts = ts} n) = at-drop (at_table ts) ∙ dropped-dynamic_table n
-  plain-read r g.begin = at-begin [] ∙ begin-alone
-  plain-read r g.begin_transaction = at-begin (Word (codes "TRANSACTION") ∷ []) ∙ begin-transaction
-  plain-read r g.begin_work = at-begin (Word (codes "WORK") ∷ []) ∙ begin-work
-  plain-read r g.start_transaction = at-start (Word (codes "TRANSACTION") ∷ []) ∙ start-read
-  plain-read r (g.commit {ts = ts} h) = at-commit ts ∙ ending-read st.Commit h
-  plain-read r (g.rollback {ts = ts} h) = at-rollback ts ∙ ending-read st.Rollback h
+  plain-read r (g.of_table h) = table-read-at h
+  plain-read r (g.of_stream h) = stream-read-at h
+  plain-read r (g.of_task h) = task-read-at h
+  plain-read r (g.of_dynamic_table h) = dynamic_table-read-at r h
+  plain-read r (g.of_transaction h) = transaction-read-at h

@@ -8,7 +8,7 @@ use Rattle.wh_grammar.specs.Name.{IsName}
 use Rattle.wh_grammar.specs.Parts.{IsLag, AreColumns, AsksForData, MayReplace, no_replace, or_replace}
 use Rattle.wh_grammar.specs.Changing.{IsDml}
 use Rattle.wh_grammar.specs.Spelled as g
-use Rattle.wh_grammar.specs.Spelled.{IsPlain, MayEnd, most_nested}
+use Rattle.wh_grammar.specs.Spelled.{IsPlain, at_table, MayEnd, most_nested}
 use Rattle.wh_cursor.specs.declared.key.Key.TheVariants as k
 use Rattle.wh_cursor.specs.Steps.{tail, read_name, ◌>>=◌, and_then, sees_word, eat_word}
 use Rattle.wh_cursor.proofs.Yields.{Yields, yields, follow, mapped, yields_law, if_test}
@@ -66,8 +66,8 @@ unfolding read_table
 table_by {fs} {replace} ts r = follow (name-yields ts)
     (λ name us h. then_expect_key k.LParen us _ (λ opened. follow (columns-sound (tail us)) (λ columns vs i.
     then_expect_key k.RParen vs _ (λ close. follow (retention-sound (tail vs)) (λ retention ws l. yields _ ws (λ end.
-    g.create_table r (subst (λ (us : List Token). IsName ts name us) opened h)
-    (subst (λ (vs : List Token). AreColumns (tail us) columns vs) close i) (l end)))))))
+    g.of_table (g.create_table r (subst (λ (us : List Token). IsName ts name us) opened h)
+    (subst (λ (vs : List Token). AreColumns (tail us) columns vs) close i) (l end))))))))
 
 pub table-sound : (ts : List Token)
     → Yields (read_table false ts) (Whole (Word (codes "CREATE") ∷ Word (codes "TABLE") ∷ ts))
@@ -87,7 +87,7 @@ stream-sound ts = follow (name-yields ts)
     (λ name us h. then_expect_word (codes "ON") us _ (λ on. then_expect_word (codes "TABLE") (tail us) _ (λ t.
     follow (name-yields (tail (tail us))) (λ table vs i. follow (append-sound vs)
     (λ append_only ws l. yields (st.CreateStream name table append_only) ws (λ end.
-    g.create_stream (subst (λ (us : List Token). IsName ts name us) (then_is on t) h) i (l end)))))))
+    g.of_stream (g.create_stream (subst (λ (us : List Token). IsName ts name us) (then_is on t) h) i (l end))))))))
 
 -- ---- ALTER, EXECUTE, DROP
 
@@ -99,12 +99,12 @@ last_word {ts} {us} {name} h w end = subst (λ (us : List Token). IsName ts name
 task-sound : (ts : List Token) → Yields (read_alter_task ts) (Whole (Word (codes "ALTER") ∷ Word (codes "TASK") ∷ ts))
 unfolding read_alter_task
 task-sound ts = follow (name-yields ts) (λ name us h. if_eaten_word (codes "RESUME") us (task_by name)
-    (λ w. yields (st.ResumeTask name) (tail us) (λ end. g.resume_task (last_word h w end)))
+    (λ w. yields (st.ResumeTask name) (tail us) (λ end. g.of_task (g.resume_task (last_word h w end))))
     (λ _. then_expect_word (codes "SUSPEND") us _
-    (λ w. yields (st.SuspendTask name) (tail us) (λ end. g.suspend_task (last_word h w end)))))
+    (λ w. yields (st.SuspendTask name) (tail us) (λ end. g.of_task (g.suspend_task (last_word h w end))))))
 
 abbrev Altered : List Token → List Token
-Altered ts = Word (codes "ALTER") ∷ Word (codes "DYNAMIC") ∷ Word (codes "TABLE") ∷ ts
+Altered ts = Word (codes "ALTER") ∷ at_table ts
 
 set_lag-sound : option_laws.ReadsLags → (ts us : List Token) (name : List ℕ) → IsName ts name us
     → Yields (read_set_lag name us) (Whole (Altered ts))
@@ -115,17 +115,20 @@ set_lag-sound lags_read ts us name h =
     follow (yields_law {Q = λ l vs. IsLag (tail (tail (tail us))) l vs}
     (λ l vs i. (lags_read (tail (tail (tail us))) l vs).0 i)) (λ l vs i.
     yields (st.SetTargetLag name l) vs
-    (λ end. g.set_lag (subst (λ (us : List Token). IsName ts name us) (then_is s (then_is t e)) h)
-    (subst (λ (vs : List Token). IsLag (tail (tail (tail us))) l vs) end i))))))
+    (λ end. g.of_dynamic_table (g.set_lag (subst (λ (us : List Token). IsName ts name us) (then_is s (then_is t e)) h)
+    (subst (λ (vs : List Token). IsLag (tail (tail (tail us))) l vs) end i)))))))
 
 altered-sound : option_laws.ReadsLags → (ts : List Token)
     → Yields (and_then (read_name ts) (λ name. eat_word (codes "RESUME") >>= resumed_by name)) (Whole (Altered ts))
 altered-sound lags_read ts = follow (name-yields ts) (λ name us h. if_eaten_word (codes "RESUME") us (resumed_by name)
-    (λ w. yields (st.ResumeDynamicTable name) (tail us) (λ end. g.resume_table (last_word h w end)))
+    (λ w. yields (st.ResumeDynamicTable name) (tail us)
+    (λ end. g.of_dynamic_table (g.resume_table (last_word h w end))))
     (λ _. if_eaten_word (codes "SUSPEND") us (suspended_by name)
-    (λ w. yields (st.SuspendDynamicTable name) (tail us) (λ end. g.suspend_table (last_word h w end)))
+    (λ w. yields (st.SuspendDynamicTable name) (tail us)
+    (λ end. g.of_dynamic_table (g.suspend_table (last_word h w end))))
     (λ _. if_eaten_word (codes "REFRESH") us (refreshed_by name)
-    (λ w. yields (st.RefreshDynamicTable name) (tail us) (λ end. g.refresh_table (last_word h w end)))
+    (λ w. yields (st.RefreshDynamicTable name) (tail us)
+    (λ end. g.of_dynamic_table (g.refresh_table (last_word h w end))))
     (λ _. set_lag-sound lags_read ts us name h))))
 
 alter_table-sound : option_laws.ReadsLags → (ts : List Token)
@@ -155,7 +158,7 @@ unfolding read_execute
 execute-sound ts = then_expect_word (codes "TASK") ts _
     (λ w. named-sound (λ name. st.ExecuteTask name) (Word (codes "EXECUTE") ∷ ts) (tail ts)
     (λ name h. stand (λ (ts : List Token). IsPlain (Word (codes "EXECUTE") ∷ ts) (st.ExecuteTask name))
-    w (g.execute_task h)))
+    w (g.of_task (g.execute_task h))))
 
 dropped : (w : List ℕ) (made : List ℕ → Statement) (ts : List Token) → sees_word w ts ≡ true
     → ((name : List ℕ) (us : List Token) → IsName us name [] → IsPlain (Word (codes "DROP") ∷ Word w ∷ us) (made name))
@@ -168,15 +171,15 @@ pub drop-sound : (ts : List Token) → Yields (read_drop ts) (Whole (Word (codes
 unfolding read_drop
 drop-sound ts =
     if_test (sees_word (codes "TABLE") ts)
-    (λ r. dropped (codes "TABLE") (λ name. st.DropTable name) ts r (λ name us h. g.drop_table h)) (λ _.
+    (λ r. dropped (codes "TABLE") (λ name. st.DropTable name) ts r (λ name us h. g.of_table (g.drop_table h))) (λ _.
     if_test (sees_word (codes "STREAM") ts)
-    (λ r. dropped (codes "STREAM") (λ name. st.DropStream name) ts r (λ name us h. g.drop_stream h)) (λ _.
+    (λ r. dropped (codes "STREAM") (λ name. st.DropStream name) ts r (λ name us h. g.of_stream (g.drop_stream h))) (λ _.
     if_test (sees_word (codes "TASK") ts)
-    (λ r. dropped (codes "TASK") (λ name. st.DropTask name) ts r (λ name us h. g.drop_task h)) (λ _.
+    (λ r. dropped (codes "TASK") (λ name. st.DropTask name) ts r (λ name us h. g.of_task (g.drop_task h))) (λ _.
     then_expect_word (codes "DYNAMIC") ts _ (λ d. then_expect_word (codes "TABLE") (tail ts) _ (λ t.
     named-sound (λ name. st.DropDynamicTable name) (Word (codes "DROP") ∷ ts) (tail (tail ts))
     (λ name h. stand (λ (ts : List Token). IsPlain (Word (codes "DROP") ∷ ts) (st.DropDynamicTable name)) (then_is d t)
-    (g.drop_dynamic_table h)))))))
+    (g.of_dynamic_table (g.drop_dynamic_table h))))))))
 
 -- ---- transactions
 
@@ -184,18 +187,19 @@ pub begin-sound : (ts : List Token) → Yields (read_begin ts) (Whole (Word (cod
 unfolding read_begin
 begin-sound ts = if_eaten_word (codes "TRANSACTION") ts begin_by
     (λ w. yields st.Begin (tail ts) (λ end. stand (λ (ts : List Token). IsPlain (Word (codes "BEGIN") ∷ ts) st.Begin)
-    (then_is w end) g.begin_transaction))
+    (then_is w end) (g.of_transaction g.begin_transaction)))
     (λ _. if_eaten_word (codes "WORK") ts (λ (_ : Bool). λ us. Some (st.Begin, us))
     (λ w. yields st.Begin (tail ts)
-    (λ end. stand (λ (ts : List Token). IsPlain (Word (codes "BEGIN") ∷ ts) st.Begin) (then_is w end) g.begin_work))
+    (λ end. stand (λ (ts : List Token). IsPlain (Word (codes "BEGIN") ∷ ts) st.Begin) (then_is w end)
+    (g.of_transaction g.begin_work)))
     (λ _. yields st.Begin ts
-    (λ end. stand (λ (ts : List Token). IsPlain (Word (codes "BEGIN") ∷ ts) st.Begin) end g.begin)))
+    (λ end. stand (λ (ts : List Token). IsPlain (Word (codes "BEGIN") ∷ ts) st.Begin) end (g.of_transaction g.begin))))
 
 pub start-sound : (ts : List Token) → Yields (read_start ts) (Whole (Word (codes "START") ∷ ts))
 unfolding read_start
 start-sound ts = then_expect_word (codes "TRANSACTION") ts _ (λ w.
     yields st.Begin (tail ts) (λ end. stand (λ (ts : List Token). IsPlain (Word (codes "START") ∷ ts) st.Begin)
-    (then_is w end) g.start_transaction))
+    (then_is w end) (g.of_transaction g.start_transaction)))
 
 pub ending-sound : (made : Statement) (fs : List Token → List Token)
     → ((ts : List Token) → MayEnd (codes "WORK") ts → IsPlain (fs ts) made) → (ts : List Token)

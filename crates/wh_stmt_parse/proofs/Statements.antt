@@ -127,9 +127,11 @@ module _ (r : Readers) (text : List ℕ) (placed : List Placed) where
       by verb.Begin w = plainly (e ∙ w) (begin-sound (tail ts))
       by verb.Start w = plainly (e ∙ w) (start-sound (tail ts))
       by verb.Commit w =
-          plainly (e ∙ w) (ending-sound st.Commit (λ ts. Word (codes "COMMIT") ∷ ts) (λ ts h. g.commit h) (tail ts))
+          plainly (e ∙ w) (ending-sound st.Commit (λ ts. Word (codes "COMMIT") ∷ ts)
+          (λ ts h. g.of_transaction (g.commit h)) (tail ts))
       by verb.Rollback w = plainly (e ∙ w)
-          (ending-sound st.Rollback (λ ts. Word (codes "ROLLBACK") ∷ ts) (λ ts h. g.rollback h) (tail ts))
+          (ending-sound st.Rollback (λ ts. Word (codes "ROLLBACK") ∷ ts)
+          (λ ts h. g.of_transaction (g.rollback h)) (tail ts))
       by verb.Change w = plainly e (change-sound r.dml ts)
 
   all-sound : (ts : List Token) → tokens_of placed ≡ ts
