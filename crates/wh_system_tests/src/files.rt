@@ -41,6 +41,12 @@ fn a_file_is_opened_once_at_a_time(rt: HostRuntime) -> Result<(), Fail> {
 }
 
 #[test]
+fn a_file_in_no_folder_is_not_told_as_locked(rt: HostRuntime) {
+    let opening = FileDisk::open(&rt, "/tmp/bokzarn-no-such-folder/file.db");
+    assert!(rt; matches!(opening, Err(OpenError::System(_))));
+}
+
+#[test]
 fn a_piece_of_ten_thousand_bytes_is_found_again(rt: HostRuntime) -> Result<(), Fail> {
     let path = path_of(rt.alloc(), rt.process(), "piece")?;
     let piece = [7u8; 10_000];
