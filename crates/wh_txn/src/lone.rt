@@ -21,8 +21,9 @@ use wh_catalog::Catalog;
 use wh_dml::Effect;
 use wh_record::Commit;
 
-/// The commit of a transaction by itself, which begins at a stamp and stages one effect on a table, by
-/// a statement that reads these streams. None exactly where no row counts and no stream is read.
+/// The commit of a transaction by itself, which begins at a stamp and stages one effect on a table,
+/// by a statement that reads these streams. None exactly where no row counts and no stream is read.
+/// The effect's rows are moved into it.
 pub fn lone_commit(
     alloc: Global,
     catalog: &Catalog,

@@ -63,7 +63,8 @@ fn stage(
         ≡ Some (machine.staged t id streams.now next_row (effect_of effect))) }
     ensures closed { option_map transaction_of slot.old ≡ None
         → option_map transaction_of slot.new ≡ option_map transaction_of slot.old }
-    ensures err { OnErr result (option_map transaction_of slot.new ≡ option_map transaction_of slot.old) }
+    ensures err { OnErr result
+        (option_map transaction_of slot.new ≡ option_map transaction_of slot.old) }
 {
     let touches = is_some_counted(&effect);
     let later = edits(alloc, effect)?;
