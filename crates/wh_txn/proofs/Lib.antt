@@ -2,4 +2,5 @@ pub mod SlotLemmas
 pub mod TableLemmas
 pub mod SeenLemmas
 pub mod RecordLemmas
+pub mod VersionLemmas
 pub mod CommitLemmas

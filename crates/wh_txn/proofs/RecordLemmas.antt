@@ -2,9 +2,12 @@
 --     no_version, one_version        the version that is written for a table
 --     missing_within, rows_within, partitions_within, partitions_past     whether its numbers pass their limits
 --     row_first, partition_first     the first limit that is passed
+--     idle_within                    none is, where no table was touched and no stream read
+--     parts_of, parts_size           the parts of a transaction, and how many tables and streams they have
 use Rattle.std.proofs.Common.{◌≡◌, ℕ, ◌+◌, ◌≤◌, true, false, List, [], ◌∷◌, length}
-use Rattle.std.proofs.Common.{Option, Some, None, option_map, refl, sym, ap, ◌∙◌, arith}
+use Rattle.std.proofs.Common.{Option, Some, None, option_map, refl, sym, ap, subst, ◌∙◌, arith}
 use Rattle.std.specs.Prelude.{nat_le, nat_lt}
+use Rattle.std.proofs.lemmas.List.{length-map, nil_from_length}
 use Rattle.std.proofs.lemmas.Bool.Decides.{nat_tests}
 use Rattle.wh_value.specs.Limit.{bound}
 use Rattle.wh_value.specs.declared.limit.Limit.{Limit}
@@ -18,10 +21,11 @@ use Rattle.wh_state.specs.Written.{version_written, version_written_to}
 use Rattle.wh_state.proofs.MeaningLaws.{last_partitions_meant}
 use Rattle.wh_catalog.specs.Catalog.{stored_of, state_of, stored_table_at, table_in_object}
 use Rattle.wh_catalog.specs.declared.catalog.Catalog.{Catalog}
-use Rattle.wh_machine.specs.Transaction.{Staged, Transaction, touched}
+use Rattle.wh_machine.specs.Transaction.{Staged, Transaction, start_of, touched}
 use Rattle.wh_machine.specs.Transaction.{first_past, row_past, partition_past, past_limit, or_else}
 use Rattle.wh_machine.specs.Transaction.{next_row_of, next_partition_of}
-use Rattle.wh_txn.specs.Recording.{version_for}
+use Rattle.wh_txn.specs.declared.recording.TouchedTable.{TouchedTable}
+use Rattle.wh_txn.specs.Recording.{touched_in, touched_at, HasParts, version_for}
 use Rattle.wh_txn.proofs.SeenLemmas.{catalog_table}
 
 -- ---- one version
@@ -110,3 +114,28 @@ pub partition_first : (objects : List Object) (t : Transaction) (found : Option 
     → first_past (partition_past objects) limits.PartitionNumber (touched t) ≡ found → past_limit objects t ≡ found
 unfolding past_limit
 partition_first objects t found none first = (λ i. or_else (none i) (first i))
+
+pub idle_within : (objects : List Object) (t : Transaction) → length (touched t) + length t.streams ≡ 0
+    → past_limit objects t ≡ None
+idle_within objects t none =
+    let untouched : touched t ≡ [] = nil_from_length (touched t) (omega (arith, none)) in
+    partition_first objects t None (ap (first_past (row_past objects) limits.RowNumber) untouched)
+    (ap (first_past (partition_past objects) limits.PartitionNumber) untouched)
+
+-- ---- parts
+
+pub parts_of : {t same : Transaction} {start : ℕ} {tables : List TouchedTable} {streams : List ℕ} → Some t ≡ Some same
+    → start ≡ start_of t → touched_at tables ≡ touched t → streams ≡ t.streams → HasParts same start tables streams
+parts_of {t} {same} {start} {tables} {streams} is starts touches reads =
+    let is_same : t ≡ same = cc in
+    subst (λ (one : Transaction). HasParts one start tables streams) is_same (record {
+      start_is = starts;
+      touched_is = touches;
+      streams_are = reads;
+    })
+
+pub parts_size : {t : Transaction} {start : ℕ} {tables : List TouchedTable} {streams : List ℕ}
+    → HasParts t start tables streams → length tables + length streams ≡ length (touched t) + length t.streams
+parts_size {t} {start} {tables} {streams} parts =
+    (λ i. sym (length-map tables touched_in) i + length (parts.streams_are i))
+    ∙ (λ i. length (parts.touched_is i) + length t.streams)

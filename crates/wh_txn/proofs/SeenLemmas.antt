@@ -7,7 +7,7 @@ use Rattle.std.proofs.Common.{refl, ap, ◌∙◌, arith}
 use Rattle.std.specs.Prelude.{slice_get}
 use Rattle.std.specs.Ordering.{nat_cmp}
 use Rattle.std.specs.FinMap.{FinMap, get}
-use Rattle.wh_state.specs.State.{Kind, TableKind, StreamKind, Object, Table, Stream, at_id, stamped}
+use Rattle.wh_state.specs.State.{Kind, TableKind, StreamKind, Object, Table, at_id, stamped}
 use Rattle.wh_state.specs.Act.{edited_table}
 use Rattle.wh_state.specs.Objects.{as_table, table_at, stream_at}
 use Rattle.wh_state.specs.Stored.{StoredTable, StoredKind, StoredTableKind, StoredStreamKind, StoredObject, table_meant, object_meant}

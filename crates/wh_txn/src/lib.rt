@@ -1,4 +1,5 @@
-//! The open transactions of the sessions: what is staged, held and seen, and the commit that it comes to.
+//! The open transactions of the sessions: what is staged, held and seen, and the commit that it
+//! comes to.
 #![tactic(auto, unfolding(crate::specs::View::sessions_of))]
 
 mod fault;

@@ -1,35 +1,18 @@
 //! The offsets of streams in the commit that consumes them.
-ghost use Rattle.std.specs.Prelude.{◌≡◌, ◌++◌, [], ◌∷◌, cond, map, IfOk, OnOk};
+ghost use Rattle.std.specs.Prelude.{◌≡◌, ◌++◌, [], ◌∷◌, cond, map, OnOk};
 ghost use Rattle.wh_record.specs.View.{change_of};
 ghost use Rattle.wh_state.specs.Objects.{stream_at};
 ghost use Rattle.wh_state.specs.Act.{MovesOffset};
-ghost use Rattle.wh_machine.specs.Offsets.{with_streams, offset_move, offset_moves};
+ghost use Rattle.wh_machine.specs.Offsets.{offset_move, offset_moves};
 ghost use Rattle.wh_catalog.specs.Catalog.{state_of};
 ghost use Rattle.wh_txn.specs.Recording.{offsets_written};
 
-use crate::ids::with_ids;
-use std::alloc::{AllocError, Global};
+use std::alloc::AllocError;
 use wh_catalog::Catalog;
 use wh_record::Change;
 
-/// What a commit changes that consumes streams up to a stamp: the offset of each that is below it,
-/// by rising ids. An offset never falls.
-pub fn offset_changes(
-    alloc: Global,
-    catalog: &Catalog,
-    start: u64,
-    streams: &[u32],
-) -> Result<Vec<Change>, AllocError>
-    ensures { IfOk result (λ changes. map change_of changes.items
-        ≡ offsets_written (offset_moves (state_of catalog.now).objects start (with_streams streams.now []))) }
-{
-    let ids = with_ids(alloc, &[], streams)?;
-    let mut changes = Vec::new(alloc);
-    add_offsets(&mut changes, catalog, start, &ids)?;
-    Ok(changes)
-}
-
-/// Adds the offsets of these streams, in their order.
+/// Adds what a commit changes that consumes these streams up to a stamp, in their order: the offset
+/// of each that is below it. An offset never falls.
 pub(crate) fn add_offsets(
     changes: &mut Vec<Change>,
     catalog: &Catalog,

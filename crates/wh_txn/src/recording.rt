@@ -1,11 +1,11 @@
 use crate::offsets::add_offsets;
-use crate::transaction::{Staged, Transaction};
+use crate::transaction::Transaction;
 use crate::{RecordFault, Sessions};
 use std::alloc::{AllocError, Global};
 use wh_catalog::{Catalog, StoredTable};
 use wh_record::{Change, Commit, VersionChange};
 use wh_value::Limit;
-use wh_version::Rewritten;
+use wh_version::{Edits, Rewritten};
 
 impl Sessions {
     ghost use Rattle.std.specs.Prelude.{◌≡◌, ℕ, Some, None, Ok, Err, option_map, IfOk};
@@ -45,7 +45,15 @@ impl Sessions {
         let Some(transaction) = self.transaction(session) else {
             return Ok(None);
         };
-        commit(alloc, catalog, stamp, transaction)
+        let touched = touched(alloc, transaction)?;
+        commit(
+            alloc,
+            catalog,
+            stamp,
+            transaction.start(),
+            touched,
+            &transaction.streams,
+        )
     }
 }
 
@@ -63,77 +71,74 @@ ghost use Rattle.wh_table.specs.Table.{table_of};
 ghost use Rattle.wh_catalog.specs.Catalog.{stored_of, state_of};
 ghost use Rattle.wh_machine.specs.Transaction as machine;
 ghost use Rattle.wh_txn.specs.View.{transaction_of};
-ghost use Rattle.wh_txn.specs.Recording.{touched_at, touched_in, versions_for, version_for};
+ghost use Rattle.wh_txn.specs.Recording.{touched_at, touched_in, HasParts, versions_for, version_for};
 ghost use Rattle.wh_txn.specs.declared.fault.RecordFault.TheVariants as faults;
 
-fn commit(
+/// A table that a transaction touched, and its edits.
+#[derive(Debug, Drop)]
+pub(crate) struct TouchedTable {
+    pub(crate) id: u32,
+    pub(crate) edits: Edits,
+}
+
+/// The commit of a transaction with that start, which touched these tables and read these streams.
+pub(crate) fn commit(
     alloc: Global,
     catalog: &Catalog,
     stamp: u64,
-    transaction: &Transaction,
+    start: u64,
+    touched: Vec<TouchedTable>,
+    streams: &[u32],
 ) -> Result<Option<Commit>, RecordFault>
-    ensures made { IfOk result (λ found. option_map commit_of found
-        ≡ option_map (commit_for (stored_of catalog.now) stamp)
-        (machine.acts_of (state_of catalog.now).objects (transaction_of transaction.now))) }
-    ensures within { IfOk result (λ found.
-        machine.past_limit (state_of catalog.now).objects (transaction_of transaction.now) ≡ None) }
+    ensures made { IfOk result (λ found. (t : machine.Transaction)
+        → HasParts t start touched.items streams.now
+        → option_map commit_of found ≡ option_map (commit_for (stored_of catalog.now) stamp)
+        (machine.acts_of (state_of catalog.now).objects t)) }
+    ensures within { IfOk result (λ found. (t : machine.Transaction)
+        → HasParts t start touched.items streams.now
+        → machine.past_limit (state_of catalog.now).objects t ≡ None) }
     ensures limit { (id : ℕ) (which : Limit) → result ≡ Err (faults.Limit id which)
-        → machine.past_limit (state_of catalog.now).objects (transaction_of transaction.now)
-        ≡ Some (id, which) }
+        → (t : machine.Transaction) → HasParts t start touched.items streams.now
+        → machine.past_limit (state_of catalog.now).objects t ≡ Some (id, which) }
 {
-    let touched = touched(alloc, transaction)?;
+    if is_idle(&touched, streams) {
+        return Ok(None);
+    }
     if let Some(id) = row_past(catalog, &touched) {
         return Err(RecordFault::Limit {
             id,
             which: Limit::RowNumber,
         });
     }
-    let mut changes = versions(alloc, catalog, stamp, &touched)?;
-    if is_idle(&touched, &transaction.streams) {
-        return Ok(None);
-    }
-    add_offsets(
-        &mut changes,
-        catalog,
-        transaction.start(),
-        &transaction.streams,
-    )?;
+    let mut changes = versions(alloc, catalog, stamp, touched)?;
+    add_offsets(&mut changes, catalog, start, streams)?;
     Ok(Some(Commit { stamp, changes }))
 }
 
 // Whether a transaction touched none of the tables and read none of the streams.
-fn is_idle(touched: &[TouchedTable<'_>], streams: &[u32]) -> bool
+fn is_idle(touched: &[TouchedTable], streams: &[u32]) -> bool
     ensures { result ≡ nat_eq (length touched.now + length streams.now) 0 }
 {
     touched.is_empty() && streams.is_empty()
 }
 
-/// A table that a transaction touched, and what is staged for it.
-#[derive(Clone, Copy, Debug)]
-struct TouchedTable<'a> {
-    id: u32,
-    staged: &'a Staged,
-}
-
-// The tables that a transaction touched, by rising ids.
-fn touched<'a>(
-    alloc: Global,
-    transaction: &'a Transaction,
-) -> Result<Vec<TouchedTable<'a>>, AllocError>
+// The tables that an open transaction touched, by rising ids. It keeps its edits.
+fn touched(alloc: Global, transaction: &Transaction) -> Result<Vec<TouchedTable>, AllocError>
     ensures { IfOk result (λ touched. touched_at touched.items
         ≡ machine.touched (transaction_of transaction.now)) }
 {
     let mut touched = Vec::new(alloc);
     for (id, staged) in &transaction.tables {
         if staged.is_touched {
-            touched.push(TouchedTable { id: *id, staged })?;
+            let edits = staged.edits.copy(alloc)?;
+            touched.push(TouchedTable { id: *id, edits })?;
         }
     }
     Ok(touched)
 }
 
 // The first of these tables whose next row number would pass its limit.
-fn row_past(catalog: &Catalog, touched: &[TouchedTable<'_>]) -> Option<u32>
+fn row_past(catalog: &Catalog, touched: &[TouchedTable]) -> Option<u32>
     ensures { option_map (λ id. (id, limits.RowNumber)) result
         ≡ machine.first_past (machine.row_past (state_of catalog.now).objects) limits.RowNumber
         (touched_at touched.now) }
@@ -146,14 +151,14 @@ fn row_past(catalog: &Catalog, touched: &[TouchedTable<'_>]) -> Option<u32>
     None
 }
 
-fn is_row_past(catalog: &Catalog, one: &TouchedTable<'_>) -> bool
+fn is_row_past(catalog: &Catalog, one: &TouchedTable) -> bool
     ensures { result ≡ machine.row_past (state_of catalog.now).objects (touched_in one.now) }
 {
-    next_row(catalog, one.id) + one.staged.edits.added().len() as u64 > Limit::RowNumber.bound()
+    next_row(catalog, one.id) + one.edits.added().len() as u64 > Limit::RowNumber.bound()
 }
 
-// The number that the next row of a table has.
-fn next_row(catalog: &Catalog, id: u32) -> u64
+/// The number that the next row of a table has.
+pub(crate) fn next_row(catalog: &Catalog, id: u32) -> u64
     ensures number { result ≡ machine.next_row_of (table_at (state_of catalog.now).objects id) }
     ensures bounded { result ≤ bound limits.RowNumber }
 {
@@ -168,18 +173,18 @@ fn versions(
     alloc: Global,
     catalog: &Catalog,
     stamp: u64,
-    touched: &[TouchedTable<'_>],
+    touched: Vec<TouchedTable>,
 ) -> Result<Vec<Change>, RecordFault>
     requires { machine.first_past (machine.row_past (state_of catalog.now).objects)
-        limits.RowNumber (touched_at touched.now) ≡ None }
+        limits.RowNumber (touched_at touched.items) ≡ None }
     ensures made { IfOk result (λ changes. map change_of changes.items
-        ≡ versions_for stamp (stored_of catalog.now).objects (touched_at touched.now)) }
+        ≡ versions_for stamp (stored_of catalog.now).objects (touched_at touched.items)) }
     ensures within { IfOk result (λ changes.
         machine.first_past (machine.partition_past (state_of catalog.now).objects)
-        limits.PartitionNumber (touched_at touched.now) ≡ None) }
+        limits.PartitionNumber (touched_at touched.items) ≡ None) }
     ensures limit { (id : ℕ) (which : Limit) → result ≡ Err (faults.Limit id which)
         → machine.first_past (machine.partition_past (state_of catalog.now).objects)
-        limits.PartitionNumber (touched_at touched.now) ≡ Some (id, which) }
+        limits.PartitionNumber (touched_at touched.items) ≡ Some (id, which) }
 {
     let mut changes = Vec::new(alloc);
     for one in touched {
@@ -194,37 +199,37 @@ fn add_version(
     alloc: Global,
     catalog: &Catalog,
     stamp: u64,
-    one: &TouchedTable<'_>,
+    one: TouchedTable,
 ) -> Result<(), RecordFault>
-    requires { machine.row_past (state_of catalog.now).objects (touched_in one.now) ≡ false }
+    requires { machine.row_past (state_of catalog.now).objects (touched_in one) ≡ false }
     ensures made { OnOk result (map change_of changes.new.items ≡ map change_of changes.old.items
-        ++ version_for stamp (stored_of catalog.now).objects (touched_in one.now)) }
+        ++ version_for stamp (stored_of catalog.now).objects (touched_in one)) }
     ensures within { OnOk result (machine.partition_past (state_of catalog.now).objects
-        (touched_in one.now) ≡ false) }
+        (touched_in one) ≡ false) }
     ensures limit { (id : ℕ) (which : Limit) → result ≡ Err (faults.Limit id which)
-        → (id ≡ one.now.id) × (which ≡ limits.PartitionNumber)
-        × (machine.partition_past (state_of catalog.now).objects (touched_in one.now) ≡ true) }
+        → (id ≡ one.id) × (which ≡ limits.PartitionNumber)
+        × (machine.partition_past (state_of catalog.now).objects (touched_in one) ≡ true) }
 {
-    let Some(table) = catalog.table(one.id) else {
+    let TouchedTable { id, edits } = one;
+    let Some(table) = catalog.table(id) else {
         return Ok(());
     };
-    let edits = one.staged.edits.copy(alloc)?;
     let more = edits.added().len() as u64;
     let Some(rewritten) = table.rewrite(alloc, edits)? else {
         return Err(RecordFault::Limit {
-            id: one.id,
+            id,
             which: Limit::PartitionNumber,
         });
     };
-    let change = version(stamp, one.id, more, table, rewritten);
+    let change = version(stamp, id, more, table, rewritten);
     let Ok(()) = changes.push(change) else {
         return Err(RecordFault::OutOfMemory);
     };
     Ok(())
 }
 
-/// A version of the table with these partitions in the place of others, and so many rows more.
-pub fn version(stamp: u64, id: u32, more: u64, table: &StoredTable, rewritten: Rewritten) -> Change
+// A version of the table with these partitions in the place of others, and so many rows more.
+fn version(stamp: u64, id: u32, more: u64, table: &StoredTable, rewritten: Rewritten) -> Change
     requires { (table_of table.now).next_row + more ≤ bound limits.RowNumber }
     ensures { change_of result ≡ PushesVersion (record {
       id = id;

@@ -27,8 +27,8 @@ impl Sessions {
     ghost use Rattle.wh_txn.specs.View.{staged_of, sessions_of};
     ghost use Rattle.wh_txn.specs.Seen.{Shows, own};
 
-    /// What a statement of a session sees of the table of an id: its last version, with the edits of
-    /// the session's own transaction on it.
+    /// What a statement of a session sees of the table of an id: its last version, with the edits
+    /// of the session's own transaction on it.
     pub fn seen<'a>(
         &self,
         alloc: Global,
@@ -37,8 +37,8 @@ impl Sessions {
         id: u32,
     ) -> Result<TableSeen<'a>, AllocError>
         ensures { IfOk result (λ found. (stamp : ℕ) → Shows found (table_at
-            (seen (stamped (state_of catalog.now) stamp) (transaction_in (sessions_of self.now) session)).objects
-            id)) }
+            (seen (stamped (state_of catalog.now) stamp)
+            (transaction_in (sessions_of self.now) session)).objects id)) }
     {
         let Some(table) = catalog.table(id) else {
             return Ok(TableSeen::Missing);

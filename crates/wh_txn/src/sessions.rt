@@ -1,8 +1,9 @@
 use crate::transaction::Transaction;
 use std::alloc::{AllocError, Global};
+use wh_value::SESSIONS;
 
-/// A place for each session from 0 to 64.
-const PLACES: usize = 65;
+/// A place for each session from 0 on.
+const PLACES: usize = SESSIONS as usize + 1;
 
 /// The open transaction of each session.
 #[derive(Debug, Drop)]
@@ -87,13 +88,14 @@ impl Sessions {
     }
 }
 
-ghost use Rattle.std.specs.Prelude.{◌≡◌, None, map, option_map, replicate, IfOk};
+ghost use Rattle.std.specs.Prelude.{◌≡◌, ◌+◌, None, map, option_map, replicate, IfOk};
+ghost use Rattle.wh_value.specs.Limit.{last_session};
 ghost use Rattle.wh_machine.specs.Sessions as machine;
 ghost use Rattle.wh_txn.specs.View.{transaction_of};
 
 // A place for each session, with no transaction.
 fn closed(alloc: Global) -> Result<Vec<Option<Transaction>>, AllocError>
-    ensures { IfOk result (λ slots. slots.items ≡ replicate 65 None) }
+    ensures { IfOk result (λ slots. slots.items ≡ replicate (last_session + 1) None) }
 {
     let mut slots = Vec::with_capacity(alloc, PLACES)?;
     for _place in 0..PLACES {

@@ -44,8 +44,7 @@ impl Sessions {
 
 ghost use Rattle.std.specs.Prelude.{◌≡◌, ◌<◌, Some, None, option_map, nat_lt, IfOk, OnOk, OnErr};
 ghost use Rattle.wh_dml.specs.View.{effect_of};
-ghost use Rattle.wh_machine.specs.Changes.{edits_of};
-ghost use Rattle.wh_machine.specs.Changes.{counted};
+ghost use Rattle.wh_machine.specs.Changes.{edits_of, counted};
 ghost use Rattle.wh_machine.specs.Transaction as machine;
 ghost use Rattle.wh_version.specs.Edits.{edits_in};
 ghost use Rattle.wh_txn.specs.View.{transaction_of};
@@ -64,7 +63,8 @@ fn stage(
         ≡ Some (machine.staged t id streams.now next_row (effect_of effect))) }
     ensures closed { option_map transaction_of slot.old ≡ None
         → option_map transaction_of slot.new ≡ option_map transaction_of slot.old }
-    ensures err { OnErr result (option_map transaction_of slot.new ≡ option_map transaction_of slot.old) }
+    ensures err { OnErr result
+        (option_map transaction_of slot.new ≡ option_map transaction_of slot.old) }
 {
     let touches = is_some_counted(&effect);
     let later = edits(alloc, effect)?;
@@ -77,13 +77,15 @@ fn stage(
     }
 }
 
-fn is_some_counted(effect: &Effect) -> bool
+/// Whether a row was inserted, changed or deleted.
+pub(crate) fn is_some_counted(effect: &Effect) -> bool
     ensures { result ≡ nat_lt 0 (counted (effect_of effect.now)) }
 {
     !effect.added.is_empty() || !effect.changed.is_empty() || !effect.removed.is_empty()
 }
 
-fn edits(alloc: Global, effect: Effect) -> Result<Edits, AllocError>
+/// The edits that an effect comes to.
+pub(crate) fn edits(alloc: Global, effect: Effect) -> Result<Edits, AllocError>
     ensures { IfOk result (λ edits. edits_in edits ≡ edits_of (effect_of effect)) }
 {
     let Effect {

@@ -3,8 +3,8 @@ use std::alloc::{AllocError, Global};
 use std::collections::BTreeMap;
 use wh_version::Edits;
 
-/// The edits of a table that is held. It is touched where a statement inserted, changed or deleted a
-/// row of it.
+/// The edits of a table that is held. It is touched where a statement inserted, changed or deleted
+/// a row of it.
 #[derive(Debug, Drop)]
 pub(crate) struct Staged {
     pub(crate) edits: Edits,
@@ -78,7 +78,8 @@ impl Transaction {
 
     /// What it has staged for the table of an id.
     pub(crate) fn staged(&self, id: u32) -> Option<&Staged>
-        ensures { option_map (λ s. staged_of s.now) result ≡ get (transaction_of self.now).tables id }
+        ensures { option_map (λ s. staged_of s.now) result
+            ≡ get (transaction_of self.now).tables id }
     {
         self.tables.get(&id)
     }
@@ -95,7 +96,8 @@ impl Transaction {
         touches: bool,
     ) -> Result<(), AllocError>
         ensures ok { OnOk result (transaction_of self.new
-            ≡ with_reads streams.now (with_edits next_row (edits_in later) touches id (transaction_of self.old))) }
+            ≡ with_reads streams.now
+            (with_edits next_row (edits_in later) touches id (transaction_of self.old))) }
         ensures err { OnErr result (transaction_of self.new ≡ transaction_of self.old) }
     {
         let streams = with_ids(alloc, &self.streams, streams)?;

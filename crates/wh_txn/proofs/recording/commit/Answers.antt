@@ -1,5 +1,4 @@
 use Rattle.std.proofs.Common.{◌≡◌, ◌+◌, ◌<◌, ◌++◌, length, map, Some, None, Err, sym, ap, ◌∙◌, arith}
-use Rattle.std.proofs.lemmas.List.{length-map}
 use Rattle.std.proofs.lemmas.Bool.Decides.{nat_tests}
 use Rattle.wh_value.specs.declared.limit.Limit.TheVariants as limits
 use Rattle.wh_record.specs.View.{change_of}
@@ -7,77 +6,63 @@ use Rattle.wh_machine.specs.Offsets.{offset_moves}
 use Rattle.wh_catalog.specs.Catalog.{stored_of, state_of}
 use Rattle.wh_machine.specs.Transaction.{touched, first_past, row_past, partition_past}
 use Rattle.wh_txn.specs.declared.fault.RecordFault.{RecordFault}
-use Rattle.wh_txn.specs.View.{transaction_of}
-use Rattle.wh_txn.specs.Recording.{touched_in, touched_at, versions_for, offsets_written}
-use Rattle.wh_txn.proofs.RecordLemmas.{row_first, partition_first}
+use Rattle.wh_txn.specs.Recording.{touched_at, versions_for, offsets_written}
+use Rattle.wh_txn.proofs.RecordLemmas.{row_first, partition_first, idle_within, parts_size}
 use Rattle.wh_txn.proofs.CommitLemmas.{none_written, some_written}
 use Rattle.wh_txn.proofs.recording.commit.Goals as goal
 
+pub returns-then-is_idle-clause-made : goal.returns-then-is_idle-clause-made
+returns-then-is_idle-clause-made c = λ t parts.
+    let size = parts_size parts in
+    let given = ap length c.deref.ensures.value in
+    let none : length (touched t) + length t.streams ≡ 0 =
+    grind (arith, nat_tests, size, given, c.is_idle.ensures, c.if-is_idle.true) in
+    none_written (stored_of c.args.catalog.now) c.args.stamp (state_of c.args.catalog.now).objects t none
+
+pub returns-then-is_idle-clause-within : goal.returns-then-is_idle-clause-within
+returns-then-is_idle-clause-within c = λ t parts.
+    let size = parts_size parts in
+    let given = ap length c.deref.ensures.value in
+    let none : length (touched t) + length t.streams ≡ 0 =
+    grind (arith, nat_tests, size, given, c.is_idle.ensures, c.if-is_idle.true) in
+    idle_within (state_of c.args.catalog.now).objects t none
+
 pub returns-in-Some-clause-limit : goal.returns-in-Some-clause-limit
-returns-in-Some-clause-limit c = λ id which is.
+returns-in-Some-clause-limit c = λ id which is t parts.
     let objects = (state_of c.args.catalog.now).objects in
-    let t = transaction_of c.args.transaction.now in
-    let at = ap touched_at c.deref.ensures.value ∙ c.in_ok-touched.ensures in
+    let at = ap touched_at c.deref-2.ensures.value ∙ parts.touched_is in
     let found : Some (c.in-Some.id, limits.RowNumber) ≡ Some (id, which) = cc in
     row_first objects t c.in-Some.id
     (sym (c.in-Some.ensures ∙ ap (first_past (row_past objects) limits.RowNumber) at)) ∙ found
 
 pub returns-in_err-changes-clause-limit : goal.returns-in_err-changes-clause-limit
-returns-in_err-changes-clause-limit c = λ id which is.
+returns-in_err-changes-clause-limit c = λ id which is t parts.
     let objects = (state_of c.args.catalog.now).objects in
-    let t = transaction_of c.args.transaction.now in
-    let at = ap touched_at c.deref.ensures.value ∙ c.in_ok-touched.ensures in
-    let at-2 = ap touched_at c.deref-2.ensures.value ∙ c.in_ok-touched.ensures in
-    let same = rw is at c.from_residual-in_err-changes.ensures.1 in
+    let at = ap touched_at c.deref-2.ensures.value ∙ parts.touched_is in
+    let same = rw is at c.from_residual.ensures.1 in
     partition_first objects t (Some (id, which))
     (sym (c.in_default.ensures ∙ ap (first_past (row_past objects) limits.RowNumber) at))
-    (ap (first_past (partition_past objects) limits.PartitionNumber) (sym at-2)
+    (ap (first_past (partition_past objects) limits.PartitionNumber) (sym parts.touched_is)
     ∙ c.in_err-changes.ensures.limit id which (ap (λ (fault : RecordFault). Err fault) (sym same)))
 
-pub returns-then-is_idle-clause-made : goal.returns-then-is_idle-clause-made
-returns-then-is_idle-clause-made c =
-    let t = transaction_of c.args.transaction.now in
-    let at = ap touched_at c.deref-3.ensures.value ∙ c.in_ok-touched.ensures in
-    let size = length-map c.deref-3.result.now touched_in in
-    let same : length (touched_at c.deref-3.result.now) ≡ length (touched t) = ap length at in
-    let streams : length c.deref-4.result.now ≡ length t.streams = ap length c.deref-4.ensures.value in
-    let none : length (touched t) + length t.streams ≡ 0 =
-    grind (arith, nat_tests, size, same, streams, c.is_idle.ensures, c.if-is_idle.true) in
-    none_written (stored_of c.args.catalog.now) c.args.stamp (state_of c.args.catalog.now).objects t none
-
-pub returns-then-is_idle-clause-within : goal.returns-then-is_idle-clause-within
-returns-then-is_idle-clause-within c =
-    let objects = (state_of c.args.catalog.now).objects in
-    let t = transaction_of c.args.transaction.now in
-    let at = ap touched_at c.deref.ensures.value ∙ c.in_ok-touched.ensures in
-    let at-2 = ap touched_at c.deref-2.ensures.value ∙ c.in_ok-touched.ensures in
-    partition_first objects t None
-    (sym (c.in_default.ensures ∙ ap (first_past (row_past objects) limits.RowNumber) at))
-    (ap (first_past (partition_past objects) limits.PartitionNumber) (sym at-2) ∙ c.in_ok-changes.ensures.within)
-
 pub returns-clause-made : goal.returns-clause-made
-returns-clause-made c =
+returns-clause-made c = λ t parts.
     let stored = stored_of c.args.catalog.now in
     let objects = (state_of c.args.catalog.now).objects in
-    let t = transaction_of c.args.transaction.now in
-    let at = ap touched_at c.deref-3.ensures.value ∙ c.in_ok-touched.ensures in
-    let size = length-map c.deref-3.result.now touched_in in
-    let same : length (touched_at c.deref-3.result.now) ≡ length (touched t) = ap length at in
-    let streams : length c.deref-4.result.now ≡ length t.streams = ap length c.deref-4.ensures.value in
+    let size = parts_size parts in
+    let given = ap length c.deref.ensures.value in
     let some : 0 < length (touched t) + length t.streams =
-    grind (arith, nat_tests, size, same, streams, c.is_idle.ensures, c.if-is_idle.false) in
-    let at-2 = ap touched_at c.deref-2.ensures.value ∙ c.in_ok-touched.ensures in
-    let versions = c.in_ok-changes.ensures.made ∙ ap (versions_for c.args.stamp stored.objects) at-2 in
+    grind (arith, nat_tests, size, given, c.is_idle.ensures, c.if-is_idle.false) in
+    let versions = c.in_ok-changes.ensures.made ∙ ap (versions_for c.args.stamp stored.objects) parts.touched_is in
     some_written stored c.args.stamp objects t (map change_of c.add_offsets.new.changes.items) some
     (c.in_ok-add_offsets.ensures
-    ∙ (λ i. versions i ++ offsets_written (offset_moves objects (c.start.ensures i) (c.deref-5.ensures.value i))))
+    ∙ (λ i. versions i ++ offsets_written (offset_moves objects (parts.start_is i) (parts.streams_are i))))
 
 pub returns-clause-within : goal.returns-clause-within
-returns-clause-within c =
+returns-clause-within c = λ t parts.
     let objects = (state_of c.args.catalog.now).objects in
-    let t = transaction_of c.args.transaction.now in
-    let at = ap touched_at c.deref.ensures.value ∙ c.in_ok-touched.ensures in
-    let at-2 = ap touched_at c.deref-2.ensures.value ∙ c.in_ok-touched.ensures in
+    let at = ap touched_at c.deref-2.ensures.value ∙ parts.touched_is in
     partition_first objects t None
     (sym (c.in_default.ensures ∙ ap (first_past (row_past objects) limits.RowNumber) at))
-    (ap (first_past (partition_past objects) limits.PartitionNumber) (sym at-2) ∙ c.in_ok-changes.ensures.within)
+    (ap (first_past (partition_past objects) limits.PartitionNumber) (sym parts.touched_is)
+    ∙ c.in_ok-changes.ensures.within)
