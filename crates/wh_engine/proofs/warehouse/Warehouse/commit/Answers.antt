@@ -46,7 +46,8 @@ pub returns-in-Ok-clause-any_moment : goal.returns-in-Ok-clause-any_moment
 returns-in-Ok-clause-any_moment g c =
     leaves_commit c.args.self.now _ c.reserve.new.self
     (commit_of c.args.commit) c.in_ok-framed.framed c.reserve.ensures.same c.in_ok-framed.ensures.payload
-    c.in_ok-undo.ensures.applies c.in_ok-framed.ensures.spelled c.in-Ok.ensures.any_moment
+    c.in_ok-undo.ensures.applies c.in_ok-framed.ensures.spelled (λ payloads file told is lists only.
+    (c.in-Ok.ensures.filed payloads file (record { told = told; spelled = is; lists = lists })).any_moment only)
 
 pub returns-in-Ok-clause-answered : goal.returns-in-Ok-clause-answered
 returns-in-Ok-clause-answered g c =
@@ -59,8 +60,11 @@ returns-in-Ok-clause-answered g c =
     record { same = same; healthy = c.requires.healthy; spelled = spelled } in
     let bytes = g.D.Disk.bytes in
     let adds : Appends (bytes old.disk) (bytes c.append.new.disk) old.journal c.append.new.self c.in_ok-framed.framed =
-    λ payloads file told is lists. c.in-Ok.ensures.appended payloads file told is
-    (lists_same payloads old.journal c.reserve.new.self same lists) in
+    λ payloads file told is lists. (c.in-Ok.ensures.filed payloads file (record {
+      told = told;
+      spelled = is;
+      lists = lists_same payloads old.journal c.reserve.new.self same lists;
+    })).appended in
     record {
       stepped = ap (λ (s : State). machine_at s (sessions_of old.sessions))
           (state_reached old.catalog c.stage.new.self commit staged.applied staged.last);
@@ -75,18 +79,19 @@ returns-in-Ok-clause-answered g c =
       kept = λ e. absurd cc;
       room = has_room (limit_of old.journal) (end_of old.journal) commit
           (λ beyond. let full = is_full c.append.result old.journal c.reserve.new.self commit c.in_ok-framed.framed
-          calls c.append.ensures.file_full beyond in absurd cc);
-      grows = omega (arith, c.in-Ok.ensures.added.end, same.end, ap need_of spelled);
+          calls c.append.ensures.refused.file_full beyond in absurd cc);
+      grows = omega (arith, c.in-Ok.ensures.listed.added.end, same.end, ap need_of spelled);
       healthy = c.requires.healthy;
-      still_healthy = c.in-Ok.ensures.healthy;
-      no_fault = c.in-Ok.ensures.no_fault;
+      still_healthy = c.in-Ok.ensures.listed.healthy;
+      no_fault = c.in-Ok.ensures.writes.no_fault;
     }
 
 pub returns-clause-any_moment : goal.returns-clause-any_moment
 returns-clause-any_moment g c =
     leaves_commit c.args.self.now _ c.reserve.new.self
     (commit_of c.args.commit) c.in_ok-framed.framed c.reserve.ensures.same c.in_ok-framed.ensures.payload
-    c.in_ok-undo.ensures.applies c.in_ok-framed.ensures.spelled c.in-Err.ensures.any_moment
+    c.in_ok-undo.ensures.applies c.in_ok-framed.ensures.spelled (λ payloads file told is lists only.
+    (c.in-Err.ensures.filed payloads file (record { told = told; spelled = is; lists = lists })).any_moment only)
 
 -- what was staged is undone
 pub returns-clause-halted : goal.returns-clause-halted
@@ -99,7 +104,7 @@ returns-clause-halted g c =
     let same = c.reserve.ensures.same in
     let undoes = c.in_ok-undo.ensures.undoes in
     let stored = c.undo.ensures.stored old.catalog undoes in
-    let says = c.append.ensures in
+    let says = c.append.ensures.refused in
     let calls : Calls old.journal j commit payload =
     record { same = same; healthy = c.requires.healthy; spelled = c.in_ok-framed.ensures.payload } in
     let fails : Fails c.append.result j payload (g.D.Disk.faults old.disk) (g.D.Disk.faults c.append.new.disk)
@@ -117,4 +122,4 @@ returns-clause-halted g c =
     untouched u.0 (subst (IsSame old.journal) (sym u.1) same) stored refl)
     (λ faults is. let u = says.untouched faults (c.in-Err.is ∙ ap Err is) in
     untouched u.0 (subst (IsSame old.journal) (sym u.1) same) stored refl))
-    (ap (λ (s : State). machine_at s (sessions_of old.sessions)) (c.undo.ensures.state old.catalog undoes)) says.later)
+    (ap (λ (s : State). machine_at s (sessions_of old.sessions)) (c.undo.ensures.state old.catalog undoes)) c.append.ensures.writes.later)
