@@ -2,7 +2,7 @@
 --     EndsUnread    its words can't be read
 --     EndsBy        by the words behind a path, and by what the opening of the file gave
 --     EndsAs        by its words, of which the first is the path that is opened
-use Rattle.std.specs.Prelude.{◌≡◌, ◌≢◌, ◌↔◌, ℕ, List, [], ◌∷◌, ◌++◌, drop, codes, decimal, Result, Ok, Err, String, string_bytes}
+use Rattle.std.specs.Prelude.{◌≡◌, ◌≢◌, ◌↔◌, ℕ, nat_eq, if◌then◌else◌, List, [], ◌∷◌, ◌++◌, drop, codes, decimal, Result, Ok, Err, String, string_bytes}
 use Rattle.std.specs.Global.{Global}
 use Rattle.std.specs.Vec.Iter.{into_iter_items}
 use Rattle.std.specs.declared.vec.IntoIter.{IntoIter}
@@ -12,7 +12,8 @@ use Rattle.std.specs.declared.io.ErrorKind.TheVariants.{OutOfMemory}
 use Rattle.wh_shell.specs.Code.{code_of}
 use Rattle.wh_shell.specs.Run.{IsRun}
 use Rattle.wh_shell.specs.declared.status.Status.{Status}
-use Rattle.wh_shell.specs.declared.status.Status.TheVariants.{Usage, Stopped}
+use Rattle.wh_shell.specs.declared.status.Status.TheVariants.{Usage, Read, Stopped}
+use Rattle.wh_shell.specs.declared.fault.Fault.{Fault}
 use Rattle.wh_shell.specs.declared.fault.Fault.TheVariants as faults
 use Rattle.wh_system.specs.declared.OpenError.{OpenError}
 use Rattle.wh_system.specs.declared.OpenError.TheVariants as openings
@@ -24,16 +25,38 @@ status_of (With status) = status
 status_of Unopened = Stopped faults.Disk
 status_of Locked = Stopped faults.Disk
 
--- the line that says why, where the status doesn't
-abbrev pub note_of : Ending → List ℕ
-note_of (With Usage) = codes "usage: bokzarn PATH run < SCRIPT\n"
-note_of (With status) = []
-note_of Unopened = codes "bokzarn: the file can't be opened\n"
-note_of Locked = codes "bokzarn: another run has the file open\n"
+-- ---- the line that says why
 
--- the note, and the line of the status
+-- none where nothing was refused
+abbrev pub refusals_reason_of : ℕ → List ℕ
+refusals_reason_of refusals =
+    if nat_eq refusals 0 then [] else codes "bokzarn: refused: " ++ (decimal refusals ++ 10 ∷ [])
+
+abbrev pub foreign_reason_of : ℕ → List ℕ
+foreign_reason_of at = if nat_eq at 0 then codes "bokzarn: at byte 0 of the file stands no header of a warehouse\n"
+    else codes "bokzarn: at byte " ++ (decimal at ++ codes " of the file stands no whole commit that applies\n")
+
+abbrev pub fault_reason_of : Fault → List ℕ
+fault_reason_of faults.OutOfMemory = codes "bokzarn: memory ran out\n"
+fault_reason_of faults.Disk = codes "bokzarn: the file failed\n"
+fault_reason_of faults.Script = codes "bokzarn: the script can't be read\n"
+fault_reason_of faults.Output = codes "bokzarn: the replies can't be written\n"
+fault_reason_of (faults.NotWarehouse at) = foreign_reason_of at
+fault_reason_of (faults.FileFull len need) = codes "bokzarn: a commit at byte " ++ (decimal len ++ (codes " needs "
+    ++ (decimal need ++ codes " bytes, and a file has at most 1099511627776\n")))
+fault_reason_of (faults.ScriptTooLong taken) =
+    codes "bokzarn: a script has at most 1073741824 bytes, and " ++ (decimal taken ++ codes " were read\n")
+
+abbrev pub reason_of : Ending → List ℕ
+reason_of (With Usage) = codes "usage: bokzarn PATH run < SCRIPT\n"
+reason_of (With (Read refusals)) = refusals_reason_of refusals
+reason_of (With (Stopped fault)) = fault_reason_of fault
+reason_of Unopened = codes "bokzarn: the file can't be opened\n"
+reason_of Locked = codes "bokzarn: another run has the file open\n"
+
+-- that line, and the line of the status
 abbrev pub report_of : Ending → List ℕ
-report_of ending = note_of ending ++ (codes "status " ++ (decimal (code_of (status_of ending)) ++ 10 ∷ []))
+report_of ending = reason_of ending ++ (codes "status " ++ (decimal (code_of (status_of ending)) ++ 10 ∷ []))
 
 -- there is no memory for them, or one is no text
 pub record EndsUnread (error : Error) (ending : Ending) : Type 0 where
