@@ -3,28 +3,36 @@
 --     answers, commits                a reply alone, and one with a commit
 --     commits_all, commits_none       so from what is written for acts, if there are some
 --     begins, stages, ends            what becomes of a transaction
---     first_three, first_seven        the first refusal of tests
-use Rattle.std.proofs.Common.{◌≡◌, ℕ, List, [], ◌∷◌, Option, Some, None, option_map, is_some, refl, sym, ap, ◌∙◌}
+--     decides_as, comes_as            a decision on an outcome is one on the same outcome
+--     first_two, .. first_four        the first refusal of tests
+use Rattle.std.proofs.Common.{◌≡◌, ℕ, List, [], ◌∷◌, Option, Some, None, option_map, is_some, Result, refl, sym, ap}
+use Rattle.std.proofs.Common.{subst, ◌∙◌}
 use Rattle.std.specs.Prelude.{IsTrue, Vec}
 use Rattle.std.specs.declared.alloc.Global.{Global}
 use Rattle.std.specs.Option.{option_or}
+use Rattle.std.specs.Result.{IfOk}
 use Rattle.wh_reply.specs.Reply.{Refusal, Reply}
 use Rattle.wh_reply.specs.declared.reply.Refusal as code
 use Rattle.wh_reply.specs.declared.reply.Reply as code_reply
 use Rattle.wh_reply.specs.View.{refusal_view, reply_view}
 use Rattle.wh_dml.specs.View.{effect_of}
 use Rattle.wh_dml.specs.declared.target.Effect.{Effect}
-use Rattle.wh_record.specs.declared.commit.Change as records
+use Rattle.wh_record.specs.View.{commit_of}
+use Rattle.wh_record.specs.declared.commit.Commit as records
 use Rattle.wh_state.specs.Act.{Act}
-use Rattle.wh_machine.specs.Tests.{first_of}
 use Rattle.wh_state.specs.Stored.{Stored}
-use Rattle.wh_state.specs.Written.{written}
+use Rattle.wh_state.specs.Written.{commit_for}
+use Rattle.wh_machine.specs.Tests.{first_of}
 use Rattle.wh_machine.specs.Transaction.{Transaction, staged}
 use Rattle.wh_machine.specs.Sessions.{Sessions, transaction_in, with_transaction, with_begun, with_ended}
 use Rattle.wh_machine.specs.Outcome.{Outcome, Refuses, Does}
+use Rattle.wh_decide.specs.declared.decision.Decision.{Decision}
 use Rattle.wh_decide.specs.declared.decision.Decision.TheVariants.{Refuse, Do}
+use Rattle.wh_decide.specs.declared.decision.Settlement.{Settlement}
 use Rattle.wh_decide.specs.declared.decision.Settlement.TheVariants.{Answers, Commits, Begins, Stages, Ends}
-use Rattle.wh_decide.specs.Decision.{Goes, Declines, changes_of, transaction_or_new, planned, Decides}
+use Rattle.wh_decide.specs.declared.sight.Sight.{Sight}
+use Rattle.wh_decide.specs.Decision.{StagesInOpen, transaction_or_new, sessions_after, commit_in, Decides}
+use Rattle.wh_decide.specs.Sight.{Comes}
 
 -- ---- decisions
 
@@ -99,7 +107,22 @@ pub ends : (s : Stored) (sessions : Sessions) (stamp session : ℕ) (told : code
 ends s sessions stamp session told commit o reply acts is say same =
     does s sessions stamp told (Ends session commit) o reply acts is say tt same
 
+-- ---- the same outcome
+
+pub decides_as : (sight : Sight) (d : Decision) {o p : Outcome} → o ≡ p → Comes sight d o → Comes sight d p
+decides_as sight d same = subst (Comes sight d) same
+
+pub comes_as : {E : Type 0} (sight : Sight) (r : Result Decision E) {o p : Outcome} → o ≡ p
+    → IfOk r (λ d. Comes sight d o) → IfOk r (λ d. Comes sight d p)
+comes_as sight r same = subst (λ (q : Outcome). IfOk r (λ d. Comes sight d q)) same
+
 -- ---- tests
+
+pub first_two : {R : Type 0} (f : R → Refusal) (a b : Option R)
+    → option_map f (option_or a b) ≡ first_of (option_map f a ∷ option_map f b ∷ [])
+first_two f (Some x) b = refl
+first_two f None (Some x) = refl
+first_two f None None = refl
 
 pub first_three : {R : Type 0} (f : R → Refusal) (a b c : Option R)
     → option_map f (option_or (option_or a b) c) ≡ first_of (option_map f a ∷ option_map f b ∷ option_map f c ∷ [])
@@ -108,15 +131,11 @@ first_three f None (Some x) c = refl
 first_three f None None (Some x) = refl
 first_three f None None None = refl
 
-pub first_seven : {R : Type 0} (f : R → Refusal) (a b c d e g h : Option R)
-    → option_map f (option_or (option_or (option_or (option_or (option_or (option_or a b) c) d) e) g) h)
-    ≡ first_of (option_map f a ∷ option_map f b ∷ option_map f c ∷ option_map f d ∷ option_map f e ∷ option_map f g
-    ∷ option_map f h ∷ [])
-first_seven f (Some x) b c d e g h = refl
-first_seven f None (Some x) c d e g h = refl
-first_seven f None None (Some x) d e g h = refl
-first_seven f None None None (Some x) e g h = refl
-first_seven f None None None None (Some x) g h = refl
-first_seven f None None None None None (Some x) h = refl
-first_seven f None None None None None None (Some x) = refl
-first_seven f None None None None None None None = refl
+pub first_four : {R : Type 0} (f : R → Refusal) (a b c d : Option R)
+    → option_map f (option_or (option_or (option_or a b) c) d)
+    ≡ first_of (option_map f a ∷ option_map f b ∷ option_map f c ∷ option_map f d ∷ [])
+first_four f (Some x) b c d = refl
+first_four f None (Some x) c d = refl
+first_four f None None (Some x) d = refl
+first_four f None None None (Some x) = refl
+first_four f None None None None = refl

@@ -14,7 +14,6 @@ use Rattle.wh_record.specs.View as records
 use Rattle.wh_record.specs.declared.commit.Commit as code
 use Rattle.wh_state.specs.Act.{Act}
 use Rattle.wh_state.specs.Stored.{Stored}
-use Rattle.wh_state.specs.Commit as machine
 use Rattle.wh_state.specs.Written.{commit_for}
 use Rattle.wh_machine.specs.Transaction.{Transaction, acts_of, past_limit}
 use Rattle.wh_machine.specs.Sessions.{transaction_in, number_in, with_begun, with_ended}
@@ -88,19 +87,18 @@ pub commits_changes : (s : Stored) (m : Machine) (session : ℕ) (t : Transactio
     → transaction_in m.sessions session ≡ Some t → past_limit m.state.objects t ≡ None
     → Some (records.commit_of c) ≡ option_map (commit_for s m.state.last) (acts_of m.state.objects t)
     → Decides s m.sessions m.state.last
-    (Do (told.Committed m.state.last) (Ends session (Some c.changes))) (commit m session)
+    (Do (told.Committed m.state.last) (Ends session (Some c))) (commit m session)
 commits_changes s m session t c held within is = by_acts (acts_of m.state.objects t) refl
   where
     by_acts : (acts : Option (List Act)) → acts_of m.state.objects t ≡ acts
         → Decides s m.sessions m.state.last
-        (Do (told.Committed m.state.last) (Ends session (Some c.changes))) (commit m session)
+        (Do (told.Committed m.state.last) (Ends session (Some c))) (commit m session)
     by_acts None none = let found = rw none at is in absurd cc
     by_acts (Some acts) some =
         let found : Some (records.commit_of c) ≡ Some (commit_for s m.state.last acts) =
         is ∙ ap (option_map (commit_for s m.state.last)) some in
-        ends s m.sessions m.state.last session (told.Committed m.state.last) (Some c.changes) (commit m session)
-        (Committed m.state.last)
-        (Some acts) refl (ap (option_map (λ (written : machine.Commit). written.changes)) found)
+        ends s m.sessions m.state.last session (told.Committed m.state.last) (Some c) (commit m session)
+        (Committed m.state.last) (Some acts) refl found
         (commit_within m session t (Some acts) held within some)
 
 pub commits_nothing : (s : Stored) (m : Machine) (session : ℕ) (t : Transaction)
