@@ -5,9 +5,10 @@
 --     begins, stages, ends            what becomes of a transaction
 --     decides_as, comes_as            a decision on an outcome is one on the same outcome
 --     first_two, .. first_four        the first refusal of tests
+--     viewed_or                       a refusal, or else another
 use Rattle.std.proofs.Common.{◌≡◌, ℕ, List, [], ◌∷◌, Option, Some, None, option_map, is_some, Result, refl, sym, ap}
 use Rattle.std.proofs.Common.{subst, ◌∙◌}
-use Rattle.std.specs.Prelude.{IsTrue, Vec}
+use Rattle.std.specs.Prelude.{IsTrue, Vec, unwrap_or}
 use Rattle.std.specs.declared.alloc.Global.{Global}
 use Rattle.std.specs.Option.{option_or}
 use Rattle.std.specs.Result.{IfOk}
@@ -139,3 +140,8 @@ first_four f None (Some x) c d = refl
 first_four f None None (Some x) d = refl
 first_four f None None None (Some x) = refl
 first_four f None None None None = refl
+
+pub viewed_or : {R : Type 0} (f : R → Refusal) (found : Option R) (other : R)
+    → f (unwrap_or found other) ≡ unwrap_or (option_map f found) (f other)
+viewed_or f None other = refl
+viewed_or f (Some x) other = refl

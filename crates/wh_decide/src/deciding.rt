@@ -135,6 +135,7 @@ fn earlier_refusal(sight: &Sight<'_>, statement: &Statement) -> Option<Refusal>
 }
 
 // What a statement comes to that nothing is found wrong with.
+#[tactic(auto, unfolding(wh_machine::specs::Statements::carried_out))]
 fn decide_bound(
     alloc: Global,
     sight: &Sight<'_>,
