@@ -4,24 +4,20 @@
 --     object_there                          the object at an id
 --     table_there, table_missing            the table at an id
 --     stream_there                          the stream at an id
---     one_written                           the change that edits of it are written as
 --     means_by                              a commit is carried out
-use Rattle.std.proofs.Common.{◌≡◌, ℕ, List, [], ◌∷◌, length, map, Option, Some, None, option_map}
+use Rattle.std.proofs.Common.{◌≡◌, ℕ, List, length, map, Option, Some, None, option_map}
 use Rattle.std.proofs.Common.{refl, sym, ap, ◌∙◌}
 use Rattle.wh_state.specs.State.{State, Object, at_id, live_count, at_rest, stamped}
-use Rattle.wh_state.specs.Edits.{Edits}
 use Rattle.wh_state.specs.Objects.{table_at, stream_at}
 use Rattle.wh_state.specs.Stored.{Stored, StoredTable, StoredKind, StoredTableKind, StoredStreamKind, StoredObject}
 use Rattle.wh_state.specs.Stored.{table_meant, object_meant, meant}
 use Rattle.wh_state.specs.Commit.{Commit, applied}
-use Rattle.wh_state.specs.Written.{version_written, version_written_to}
 use Rattle.wh_state.proofs.MeaningLaws as meaning
 use Rattle.wh_state.proofs.MeaningLaws.{length_meant, at_id_meant, live_count_meant, table_at_meant}
 use Rattle.wh_state.proofs.MeaningLaws.{stream_at_meant}
 use Rattle.wh_catalog.specs.Catalog.{stored_of, state_of, stored_table_at, stored_stream_at}
 use Rattle.wh_catalog.specs.Catalog.{table_in_kind, table_in_object, stream_in_kind, stream_in_object}
 use Rattle.wh_catalog.specs.declared.catalog.Catalog.{Catalog}
-use Rattle.wh_decide.proofs.ListLemmas.{some_is}
 
 pub state_is : (c : Catalog) → state_of c ≡ record (meant (stored_of c)) { last = (state_of c).last }
 unfolding state_of
@@ -48,27 +44,6 @@ object_there c id =
     ap (λ (objects : List Object). at_id objects id) (objects_are c) ∙ at_id_meant (stored_of c).objects id
 
 -- ---- tables
-
--- the object that a table's id is that of
-record HasTable (objects : List StoredObject) (id : ℕ) (t : StoredTable) : Type 0 where
-  object : StoredObject
-  there : at_id objects id ≡ Some object
-  kind : object.kind ≡ StoredTableKind t
-
-has_table : (objects : List StoredObject) (id : ℕ) (t : StoredTable) → stored_table_at objects id ≡ Some t
-    → HasTable objects id t
-has_table objects id t is = by_object (at_id objects id) refl
-  where
-    by_kind : (o : StoredObject) (k : StoredKind) → at_id objects id ≡ Some o → o.kind ≡ k → HasTable objects id t
-    by_kind o (StoredTableKind u) there kind =
-        let found = rw (there, kind) at is in
-        let same : u ≡ t = some_is u t found in
-        record { object = o; there = there; kind = kind ∙ ap StoredTableKind same }
-    by_kind o (StoredStreamKind s) there kind = let found = rw (there, kind) at is in absurd cc
-
-    by_object : (found : Option StoredObject) → at_id objects id ≡ found → HasTable objects id t
-    by_object None none = let found = rw none at is in absurd cc
-    by_object (Some o) there = by_kind o o.kind there refl
 
 -- what is found in an object by its kind is the same, where it is so in each kind
 same_found : {A : Type 0} (f g : Option StoredObject → Option A) → f None ≡ g None
@@ -97,17 +72,6 @@ table_there c id t is = table_is c id ∙ ap (option_map table_meant) is
 pub table_missing : (c : Catalog) (id : ℕ) → stored_table_at (stored_of c).objects id ≡ None
     → table_at (state_of c).objects id ≡ None
 table_missing c id is = table_is c id ∙ ap (option_map table_meant) is
-
-kind_written : (stamp id : ℕ) (e : Edits) (o : StoredObject) (t : StoredTable) → o.kind ≡ StoredTableKind t
-    → version_written_to stamp id e (Some o) ≡ version_written stamp id e t ∷ []
-kind_written stamp id e o t kind = rw kind
-
-pub one_written : (stamp : ℕ) (objects : List StoredObject) (id : ℕ) (e : Edits) (t : StoredTable)
-    → stored_table_at objects id ≡ Some t
-    → version_written_to stamp id e (at_id objects id) ≡ version_written stamp id e t ∷ []
-one_written stamp objects id e t is =
-    let h = has_table objects id t is in
-    ap (version_written_to stamp id e) h.there ∙ kind_written stamp id e h.object t h.kind
 
 -- ---- streams
 

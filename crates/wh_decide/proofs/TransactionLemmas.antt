@@ -1,11 +1,10 @@
 -- BEGIN, COMMIT and ROLLBACK: their outcomes.
---     is_closed, is_open, is_there           whether the session has an open transaction
+--     is_closed, is_open                     whether the session has an open transaction
 --     begin_open, begin_new                  BEGIN
 --     commit_closed, commit_past             COMMIT that is refused
 --     commits_changes, commits_nothing       and one that is carried out, by the commit that is written
 --     rollback_closed, rollback_open         ROLLBACK
 use Rattle.std.proofs.Common.{◌≡◌, ℕ, List, Option, Some, None, option_map, is_some, true, false, refl, ap, ◌∙◌}
-use Rattle.std.specs.Prelude.{IsTrue}
 use Rattle.wh_value.specs.declared.limit.Limit.{Limit}
 use Rattle.wh_reply.specs.Reply.{OverLimit, TransactionOpen, NoTransaction, Begun, Committed}
 use Rattle.wh_reply.specs.Reply.{CommittedNothing, RolledBack}
@@ -37,10 +36,6 @@ pub is_open : (found : Option Transaction) (number : Option ℕ)
     → (t : Transaction) × (found ≡ Some t)
 is_open None number is some = absurd cc
 is_open (Some t) number is some = (t, refl)
-
-pub is_there : (found : Option Transaction) → IsTrue (is_some found) → (t : Transaction) × (found ≡ Some t)
-is_there None some = absurd cc
-is_there (Some t) some = (t, refl)
 
 -- ---- BEGIN
 

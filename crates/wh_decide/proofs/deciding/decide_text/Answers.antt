@@ -1,10 +1,6 @@
-use Rattle.std.proofs.Common.{◌≡◌, ◌<◌, ◌≤◌, Some, None, length, refl, ap, sym, ◌∙◌, arith, rules}
-use Rattle.wh_value.specs.declared.limit.Limit.TheVariants as limits
-use Rattle.wh_reply.specs.Reply.{OverLimit, SyntaxError}
+use Rattle.std.proofs.Common.{◌≡◌, ◌<◌, ◌≤◌, Some, None, length, ap, sym, ◌∙◌, arith, rules}
 use Rattle.wh_machine.specs.Step.{commanded}
 use Rattle.wh_stmt_parse.specs.Read.{read_statement}
-use Rattle.wh_catalog.specs.Catalog.{stored_of}
-use Rattle.wh_txn.specs.View.{sessions_of}
 use Rattle.wh_decide.specs.Sight.{machine_in}
 use Rattle.wh_decide.proofs.OutcomeLemmas.{comes_as}
 use Rattle.wh_decide.proofs.RequestLemmas.{long_request, short_request}

@@ -42,7 +42,7 @@ returns-in-Err-Failing c =
     subst (λ (fault : BindFault). Binds (Err fault) (bound names tree)) c.in-Err-Failing.field-0-is
     c.in-Err-Failing.ensures in
     let why : refusal_view c.unwrap_or.result
-        ≡ unwrap_or (earlier_refusal m sight.session tree) (refusal_of (failing_of failing)) =
+    ≡ unwrap_or (earlier_refusal m sight.session tree) (refusal_of (failing_of failing)) =
     ap refusal_view c.unwrap_or.ensures ∙ viewed_or refusal_view c.earlier_refusal.result c.refusal.result
     ∙ (λ i. unwrap_or (c.earlier_refusal.ensures i)
     ((c.refusal.ensures ∙ ap (λ (f : Failing). refusal_of (failing_of f)) c.in-Err-Failing.failing-is) i)) in
