@@ -68,8 +68,8 @@ commit_past m session t id which held past =
     (committed m session (acts_of m.state.objects t))) past
 
 commit_within : (m : Machine) (session : ℕ) (t : Transaction) (acts : Option (List Act))
-    → transaction_in m.sessions session ≡ Some t → past_limit m.state.objects t ≡ None → acts_of m.state.objects t ≡ acts
-    → commit m session ≡ committed m session acts
+    → transaction_in m.sessions session ≡ Some t → past_limit m.state.objects t ≡ None
+    → acts_of m.state.objects t ≡ acts → commit m session ≡ committed m session acts
 unfolding commit
 commit_within m session t acts held within is =
     ap (commit_of m session) held

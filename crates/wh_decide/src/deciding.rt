@@ -101,9 +101,10 @@ fn decide_tree(
     };
     match bind(alloc, &names, statement) {
         Ok(bound) => decide_bound(alloc, sight, bound),
-        Err(BindFault::Failing(failing)) => Ok(Decision::Refuse(earlier_refusal(
-            sight, statement,
-        ).unwrap_or(refusal(failing)))),
+        Err(BindFault::Failing(failing)) => {
+            let why = earlier_refusal(sight, statement).unwrap_or(refusal(failing));
+            Ok(Decision::Refuse(why))
+        }
         Err(BindFault::OutOfMemory) => Err(AllocError),
     }
 }

@@ -21,8 +21,8 @@ use wh_record::{Change, StreamChange};
 use wh_reply::{Refusal, Reply};
 use wh_value::Limit;
 
-// What CREATE STREAM comes to, whose names are right: a new stream, the last of the catalog. It shows
-// what comes behind its commit.
+// What CREATE STREAM comes to, whose names are right: a new stream, the last of the catalog. It
+// shows what comes behind its commit.
 pub(crate) fn create_stream(
     alloc: Global,
     sight: &Sight<'_>,

@@ -29,8 +29,8 @@ use wh_value::{Column, Limit};
 // In days, where none is written.
 const RETENTION: u64 = 1;
 
-// What CREATE TABLE comes to, whose names are right: a new table, the last of the catalog. One that it
-// replaces is dropped in the same commit.
+// What CREATE TABLE comes to, whose names are right: a new table, the last of the catalog. One that
+// it replaces is dropped in the same commit.
 pub(crate) fn create_table(
     alloc: Global,
     sight: &Sight<'_>,

@@ -25,10 +25,11 @@ returns-then-not-is_session c =
 pub returns-in-Ok : goal.returns-in-Ok
 returns-in-Ok c =
     let sight = c.args.sight.now in
+    let same = ap (map named_of) c.deref.ensures.value ∙ c.in_ok-objects.ensures in
     comes_as sight c.decide_bound.result
     (command_bound (machine_in sight) sight.session c.args.statement.now _ c.in-Ok.bound
     (sym c.is_session.ensures ∙ c.if-not-is_session.false)
-    (λ i. record { objects = (ap (map named_of) c.deref.ensures.value ∙ c.in_ok-objects.ensures) i; roots = [] }) c.in-Ok.ensures)
+    (λ i. record { objects = same i; roots = [] }) c.in-Ok.ensures)
     c.decide_bound.ensures
 
 pub returns-in-Err-Failing : goal.returns-in-Err-Failing
@@ -37,17 +38,17 @@ returns-in-Err-Failing c =
     let m = machine_in sight in
     let tree = c.args.statement.now in
     let failing = c.in-Err-Failing.failing in
+    let same = ap (map named_of) c.deref.ensures.value ∙ c.in_ok-objects.ensures in
     let names : Names = record { objects = map named_of c.deref.result.now; roots = [] } in
     let fails : first_failing (bound names tree) ≡ Some (failing_of failing) =
     subst (λ (fault : BindFault). Binds (Err fault) (bound names tree)) c.in-Err-Failing.field-0-is
     c.in-Err-Failing.ensures in
-    let why : refusal_view c.unwrap_or.result
+    let why : refusal_view c.unwrap_or-why.result
     ≡ unwrap_or (earlier_refusal m sight.session tree) (refusal_of (failing_of failing)) =
-    ap refusal_view c.unwrap_or.ensures ∙ viewed_or refusal_view c.earlier_refusal.result c.refusal.result
+    ap refusal_view c.unwrap_or-why.ensures ∙ viewed_or refusal_view c.earlier_refusal.result c.refusal.result
     ∙ (λ i. unwrap_or (c.earlier_refusal.ensures i)
     ((c.refusal.ensures ∙ ap (λ (f : Failing). refusal_of (failing_of f)) c.in-Err-Failing.failing-is) i)) in
     command_failing m sight.session tree names (failing_of failing)
     (sym c.is_session.ensures ∙ c.if-not-is_session.false)
-    (λ i. record { objects = (ap (map named_of) c.deref.ensures.value ∙ c.in_ok-objects.ensures) i; roots = [] })
-    fails
+    (λ i. record { objects = same i; roots = [] }) fails
     ∙ ap Refuses (sym why)

@@ -17,4 +17,5 @@ returns-else-is_long c =
     ∙ ap (λ (held : List code.Column). list_any (λ column. is_long (column_of column).name) held) c.deref.ensures.value
     ∙ any-map column_of (λ (column : Column). is_long column.name) columns
     ∙ any-map (λ (column : Column). column.name) is_long (map column_of columns)
-    ∙ ap (λ (b : Bool). b || list_any is_long (map (λ (column : Column). column.name) (map column_of columns))) (sym short)
+    ∙ ap (λ (b : Bool). b || list_any is_long (map (λ (column : Column). column.name) (map column_of columns)))
+    (sym short)
