@@ -1,27 +1,23 @@
 -- A catalog's state, and what its commits say.
 --     state_is, rest_of, objects_are        the state, but for its last stamp and at rest; its objects
---     found_by, count_is, live_is           objects by names, and how many there are
---     object_there, kind_there              the object at an id, and its kind
+--     count_is, live_is                     how many objects there are
+--     object_there                          the object at an id
 --     table_there, table_missing            the table at an id
 --     stream_there                          the stream at an id
---     one_written                           the change that edits of it are written as
 --     means_by                              a commit is carried out
-use Rattle.std.proofs.Common.{◌≡◌, ℕ, List, [], ◌∷◌, length, map, Option, Some, None, option_map, Bool, false}
+use Rattle.std.proofs.Common.{◌≡◌, ℕ, List, length, map, Option, Some, None, option_map}
 use Rattle.std.proofs.Common.{refl, sym, ap, ◌∙◌}
-use Rattle.wh_state.specs.State.{State, Kind, Object, at_id, id_of, live_count, at_rest, stamped}
-use Rattle.wh_state.specs.Edits.{Edits}
-use Rattle.wh_state.specs.Objects.{table_at, stream_at, is_kind_at}
+use Rattle.wh_state.specs.State.{State, Object, at_id, live_count, at_rest, stamped}
+use Rattle.wh_state.specs.Objects.{table_at, stream_at}
 use Rattle.wh_state.specs.Stored.{Stored, StoredTable, StoredKind, StoredTableKind, StoredStreamKind, StoredObject}
 use Rattle.wh_state.specs.Stored.{table_meant, object_meant, meant}
 use Rattle.wh_state.specs.Commit.{Commit, applied}
-use Rattle.wh_state.specs.Written.{version_written, version_written_to}
 use Rattle.wh_state.proofs.MeaningLaws as meaning
-use Rattle.wh_state.proofs.MeaningLaws.{length_meant, at_id_meant, id_of_meant, live_count_meant, table_at_meant}
+use Rattle.wh_state.proofs.MeaningLaws.{length_meant, at_id_meant, live_count_meant, table_at_meant}
 use Rattle.wh_state.proofs.MeaningLaws.{stream_at_meant}
 use Rattle.wh_catalog.specs.Catalog.{stored_of, state_of, stored_table_at, stored_stream_at}
 use Rattle.wh_catalog.specs.Catalog.{table_in_kind, table_in_object, stream_in_kind, stream_in_object}
 use Rattle.wh_catalog.specs.declared.catalog.Catalog.{Catalog}
-use Rattle.wh_decide.proofs.ListLemmas.{some_is}
 
 pub state_is : (c : Catalog) → state_of c ≡ record (meant (stored_of c)) { last = (state_of c).last }
 unfolding state_of
@@ -36,14 +32,6 @@ objects_are c = ap (λ (s : State). s.objects) (state_is c)
 
 -- ---- objects
 
--- what a look-up by a name's bytes found
-pub found_by : (c : Catalog) (name bytes : List ℕ) (found : Option ℕ) → bytes ≡ name
-    → found ≡ id_of bytes (stored_of c).objects
-    → id_of name (state_of c).objects ≡ found
-found_by c name bytes found same is =
-    ap (id_of name) (objects_are c) ∙ id_of_meant name (stored_of c).objects
-    ∙ ap (λ (n : List ℕ). id_of n (stored_of c).objects) (sym same) ∙ sym is
-
 pub count_is : (c : Catalog) → length (state_of c).objects ≡ length (stored_of c).objects
 count_is c = ap length (objects_are c) ∙ length_meant (stored_of c).objects
 
@@ -55,44 +43,7 @@ pub object_there : (c : Catalog) (id : ℕ)
 object_there c id =
     ap (λ (objects : List Object). at_id objects id) (objects_are c) ∙ at_id_meant (stored_of c).objects id
 
--- whether a place takes the kind of the object that there is
-abbrev pub is_kind_of : (Kind → Bool) → Option Object → Bool
-is_kind_of takes None = false
-is_kind_of takes (Some o) = takes o.kind
-
-kind_at : (takes : Kind → Bool) (objects : List Object) (id : ℕ) (found : Option Object) → at_id objects id ≡ found
-    → is_kind_at takes objects id ≡ is_kind_of takes found
-kind_at takes objects id None is = rw is refl
-kind_at takes objects id (Some o) is = rw is refl
-
-pub kind_there : (takes : Kind → Bool) (c : Catalog) (id : ℕ) (found : Option StoredObject)
-    → found ≡ at_id (stored_of c).objects id
-    → is_kind_of takes (option_map object_meant found) ≡ is_kind_at takes (state_of c).objects id
-kind_there takes c id found is =
-    sym (kind_at takes (state_of c).objects id _ (object_there c id ∙ ap (option_map object_meant) (sym is)))
-
 -- ---- tables
-
--- the object that a table's id is that of
-record HasTable (objects : List StoredObject) (id : ℕ) (t : StoredTable) : Type 0 where
-  object : StoredObject
-  there : at_id objects id ≡ Some object
-  kind : object.kind ≡ StoredTableKind t
-
-has_table : (objects : List StoredObject) (id : ℕ) (t : StoredTable) → stored_table_at objects id ≡ Some t
-    → HasTable objects id t
-has_table objects id t is = by_object (at_id objects id) refl
-  where
-    by_kind : (o : StoredObject) (k : StoredKind) → at_id objects id ≡ Some o → o.kind ≡ k → HasTable objects id t
-    by_kind o (StoredTableKind u) there kind =
-        let found = rw (there, kind) at is in
-        let same : u ≡ t = some_is u t found in
-        record { object = o; there = there; kind = kind ∙ ap StoredTableKind same }
-    by_kind o (StoredStreamKind s) there kind = let found = rw (there, kind) at is in absurd cc
-
-    by_object : (found : Option StoredObject) → at_id objects id ≡ found → HasTable objects id t
-    by_object None none = let found = rw none at is in absurd cc
-    by_object (Some o) there = by_kind o o.kind there refl
 
 -- what is found in an object by its kind is the same, where it is so in each kind
 same_found : {A : Type 0} (f g : Option StoredObject → Option A) → f None ≡ g None
@@ -121,17 +72,6 @@ table_there c id t is = table_is c id ∙ ap (option_map table_meant) is
 pub table_missing : (c : Catalog) (id : ℕ) → stored_table_at (stored_of c).objects id ≡ None
     → table_at (state_of c).objects id ≡ None
 table_missing c id is = table_is c id ∙ ap (option_map table_meant) is
-
-kind_written : (stamp id : ℕ) (e : Edits) (o : StoredObject) (t : StoredTable) → o.kind ≡ StoredTableKind t
-    → version_written_to stamp id e (Some o) ≡ version_written stamp id e t ∷ []
-kind_written stamp id e o t kind = rw kind
-
-pub one_written : (stamp : ℕ) (objects : List StoredObject) (id : ℕ) (e : Edits) (t : StoredTable)
-    → stored_table_at objects id ≡ Some t
-    → version_written_to stamp id e (at_id objects id) ≡ version_written stamp id e t ∷ []
-one_written stamp objects id e t is =
-    let h = has_table objects id t is in
-    ap (version_written_to stamp id e) h.there ∙ kind_written stamp id e h.object t h.kind
 
 -- ---- streams
 

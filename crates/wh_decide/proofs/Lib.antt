@@ -14,3 +14,4 @@ mod TargetLemmas
 mod QueryLemmas
 mod ObjectLemmas
 mod RequestLemmas
+mod CommandLemmas

@@ -1,30 +1,35 @@
 -- Outcomes, and the decisions that are them.
 --     declines                        a refusal
---     answers, commits                a reply alone, and one with a commit
---     commits_all, commits_none       so from what is written for acts, if there are some
---     begins, stages, ends            what becomes of a transaction
---     first_three, first_seven        the first refusal of tests
-use Rattle.std.proofs.Common.{◌≡◌, ℕ, List, [], ◌∷◌, Option, Some, None, option_map, is_some, refl, sym, ap, ◌∙◌}
-use Rattle.std.specs.Prelude.{IsTrue, Vec}
-use Rattle.std.specs.declared.alloc.Global.{Global}
+--     answers                         a reply alone
+--     commits_all, commits_none       a reply with a commit, by what is written for acts, if there are some
+--     begins, ends                    what becomes of a transaction
+--     decides_as, comes_as            a decision on an outcome is one on the same outcome
+--     first_two, first_four           the first refusal of tests
+--     viewed_or                       a refusal, or else another
+use Rattle.std.proofs.Common.{◌≡◌, ℕ, List, [], ◌∷◌, Option, Some, None, option_map, Result, refl, sym, ap}
+use Rattle.std.proofs.Common.{subst, ◌∙◌}
+use Rattle.std.specs.Prelude.{unwrap_or}
 use Rattle.std.specs.Option.{option_or}
+use Rattle.std.specs.Result.{IfOk}
 use Rattle.wh_reply.specs.Reply.{Refusal, Reply}
 use Rattle.wh_reply.specs.declared.reply.Refusal as code
 use Rattle.wh_reply.specs.declared.reply.Reply as code_reply
 use Rattle.wh_reply.specs.View.{refusal_view, reply_view}
-use Rattle.wh_dml.specs.View.{effect_of}
-use Rattle.wh_dml.specs.declared.target.Effect.{Effect}
-use Rattle.wh_record.specs.declared.commit.Change as records
+use Rattle.wh_record.specs.View.{commit_of}
+use Rattle.wh_record.specs.declared.commit.Commit as records
 use Rattle.wh_state.specs.Act.{Act}
-use Rattle.wh_machine.specs.Tests.{first_of}
 use Rattle.wh_state.specs.Stored.{Stored}
-use Rattle.wh_state.specs.Written.{written}
-use Rattle.wh_machine.specs.Transaction.{Transaction, staged}
-use Rattle.wh_machine.specs.Sessions.{Sessions, transaction_in, with_transaction, with_begun, with_ended}
+use Rattle.wh_state.specs.Written.{commit_for}
+use Rattle.wh_machine.specs.Tests.{first_of}
+use Rattle.wh_machine.specs.Sessions.{Sessions, with_begun, with_ended}
 use Rattle.wh_machine.specs.Outcome.{Outcome, Refuses, Does}
+use Rattle.wh_decide.specs.declared.decision.Decision.{Decision}
 use Rattle.wh_decide.specs.declared.decision.Decision.TheVariants.{Refuse, Do}
-use Rattle.wh_decide.specs.declared.decision.Settlement.TheVariants.{Answers, Commits, Begins, Stages, Ends}
-use Rattle.wh_decide.specs.Decision.{Goes, Declines, changes_of, transaction_or_new, planned, Decides}
+use Rattle.wh_decide.specs.declared.decision.Settlement.{Settlement}
+use Rattle.wh_decide.specs.declared.decision.Settlement.TheVariants.{Answers, Commits, Begins, Ends}
+use Rattle.wh_decide.specs.declared.sight.Sight.{Sight}
+use Rattle.wh_decide.specs.Decision.{StagesInOpen, sessions_after, commit_in, Decides}
+use Rattle.wh_decide.specs.Sight.{Comes}
 
 -- ---- decisions
 
@@ -51,13 +56,6 @@ pub answers : (s : Stored) (sessions : Sessions) (stamp : ℕ) (told : code_repl
     → Decides s sessions stamp (Do told Answers) o
 answers s sessions stamp told o reply is same = does s sessions stamp told Answers o reply None is refl tt same
 
-pub commits : (s : Stored) (sessions : Sessions) (stamp : ℕ) (told : code_reply.Reply) (commit : records.Commit)
-    (o : Outcome) (reply : Reply) (acts : List Act) → reply_view told ≡ reply
-    → commit_of commit ≡ commit_for s stamp acts
-    → o ≡ Does reply sessions (Some acts) → Decides s sessions stamp (Do told (Commits commit)) o
-commits s sessions stamp told commit o reply acts is say same =
-    does s sessions stamp told (Commits commit) o reply (Some acts) is (ap Some say) tt same
-
 pub commits_all : (s : Stored) (sessions : Sessions) (stamp : ℕ) (told : code_reply.Reply) (commit : records.Commit)
     (o : Outcome) (reply : Reply) (acts : Option (List Act)) → reply_view told ≡ reply
     → Some (commit_of commit) ≡ option_map (commit_for s stamp) acts
@@ -79,19 +77,6 @@ pub begins : (s : Stored) (sessions : Sessions) (stamp session : ℕ) (told : co
 begins s sessions stamp session told o reply is same =
     does s sessions stamp told (Begins session) o reply None is refl tt same
 
-pub stages : (s : Stored) (sessions : Sessions) (stamp session id : ℕ) (streams : Vec ℕ Global) (next_row : ℕ)
-    (effect : Effect) (t : Transaction) (told : code_reply.Reply)
-    (o : Outcome) (reply : Reply) → transaction_in sessions session ≡ Some t → reply_view told ≡ reply
-    → o ≡ Does reply (with_transaction sessions session (staged t id streams.items next_row (effect_of effect))) None
-    → Decides s sessions stamp (Do told (Stages session id streams next_row effect)) o
-stages s sessions stamp session id streams next_row effect t told o reply held is same =
-    does s sessions stamp told (Stages session id streams next_row effect) o reply None is refl is_open
-    (same ∙ sym (ap (λ (found : Option Transaction). Does reply (with_transaction sessions session
-    (staged (transaction_or_new found stamp) id streams.items next_row (effect_of effect))) None) held))
-  where
-    is_open : IsTrue (is_some (transaction_in sessions session))
-    is_open = ap is_some held
-
 pub ends : (s : Stored) (sessions : Sessions) (stamp session : ℕ) (told : code_reply.Reply)
     (commit : Option records.Commit) (o : Outcome) (reply : Reply) (acts : Option (List Act)) → reply_view told ≡ reply
     → option_map commit_of commit ≡ option_map (commit_for s stamp) acts
@@ -99,24 +84,33 @@ pub ends : (s : Stored) (sessions : Sessions) (stamp session : ℕ) (told : code
 ends s sessions stamp session told commit o reply acts is say same =
     does s sessions stamp told (Ends session commit) o reply acts is say tt same
 
+-- ---- the same outcome
+
+pub decides_as : (sight : Sight) (d : Decision) {o p : Outcome} → o ≡ p → Comes sight d o → Comes sight d p
+decides_as sight d same = subst (Comes sight d) same
+
+pub comes_as : {E : Type 0} (sight : Sight) (r : Result Decision E) {o p : Outcome} → o ≡ p
+    → IfOk r (λ d. Comes sight d o) → IfOk r (λ d. Comes sight d p)
+comes_as sight r same = subst (λ (q : Outcome). IfOk r (λ d. Comes sight d q)) same
+
 -- ---- tests
 
-pub first_three : {R : Type 0} (f : R → Refusal) (a b c : Option R)
-    → option_map f (option_or (option_or a b) c) ≡ first_of (option_map f a ∷ option_map f b ∷ option_map f c ∷ [])
-first_three f (Some x) b c = refl
-first_three f None (Some x) c = refl
-first_three f None None (Some x) = refl
-first_three f None None None = refl
+pub first_two : {R : Type 0} (f : R → Refusal) (a b : Option R)
+    → option_map f (option_or a b) ≡ first_of (option_map f a ∷ option_map f b ∷ [])
+first_two f (Some x) b = refl
+first_two f None (Some x) = refl
+first_two f None None = refl
 
-pub first_seven : {R : Type 0} (f : R → Refusal) (a b c d e g h : Option R)
-    → option_map f (option_or (option_or (option_or (option_or (option_or (option_or a b) c) d) e) g) h)
-    ≡ first_of (option_map f a ∷ option_map f b ∷ option_map f c ∷ option_map f d ∷ option_map f e ∷ option_map f g
-    ∷ option_map f h ∷ [])
-first_seven f (Some x) b c d e g h = refl
-first_seven f None (Some x) c d e g h = refl
-first_seven f None None (Some x) d e g h = refl
-first_seven f None None None (Some x) e g h = refl
-first_seven f None None None None (Some x) g h = refl
-first_seven f None None None None None (Some x) h = refl
-first_seven f None None None None None None (Some x) = refl
-first_seven f None None None None None None None = refl
+pub first_four : {R : Type 0} (f : R → Refusal) (a b c d : Option R)
+    → option_map f (option_or (option_or (option_or a b) c) d)
+    ≡ first_of (option_map f a ∷ option_map f b ∷ option_map f c ∷ option_map f d ∷ [])
+first_four f (Some x) b c d = refl
+first_four f None (Some x) c d = refl
+first_four f None None (Some x) d = refl
+first_four f None None None (Some x) = refl
+first_four f None None None None = refl
+
+pub viewed_or : {R : Type 0} (f : R → Refusal) (found : Option R) (other : R)
+    → f (unwrap_or found other) ≡ unwrap_or (option_map f found) (f other)
+viewed_or f None other = refl
+viewed_or f (Some x) other = refl

@@ -1,11 +1,10 @@
 -- BEGIN, COMMIT and ROLLBACK: their outcomes.
---     is_closed, is_open, is_there           whether the session has an open transaction
+--     is_closed, is_open                     whether the session has an open transaction
 --     begin_open, begin_new                  BEGIN
 --     commit_closed, commit_past             COMMIT that is refused
 --     commits_changes, commits_nothing       and one that is carried out, by the commit that is written
 --     rollback_closed, rollback_open         ROLLBACK
 use Rattle.std.proofs.Common.{◌≡◌, ℕ, List, Option, Some, None, option_map, is_some, true, false, refl, ap, ◌∙◌}
-use Rattle.std.specs.Prelude.{IsTrue}
 use Rattle.wh_value.specs.declared.limit.Limit.{Limit}
 use Rattle.wh_reply.specs.Reply.{OverLimit, TransactionOpen, NoTransaction, Begun, Committed}
 use Rattle.wh_reply.specs.Reply.{CommittedNothing, RolledBack}
@@ -14,7 +13,6 @@ use Rattle.wh_record.specs.View as records
 use Rattle.wh_record.specs.declared.commit.Commit as code
 use Rattle.wh_state.specs.Act.{Act}
 use Rattle.wh_state.specs.Stored.{Stored}
-use Rattle.wh_state.specs.Commit as machine
 use Rattle.wh_state.specs.Written.{commit_for}
 use Rattle.wh_machine.specs.Transaction.{Transaction, acts_of, past_limit}
 use Rattle.wh_machine.specs.Sessions.{transaction_in, number_in, with_begun, with_ended}
@@ -38,10 +36,6 @@ pub is_open : (found : Option Transaction) (number : Option ℕ)
     → (t : Transaction) × (found ≡ Some t)
 is_open None number is some = absurd cc
 is_open (Some t) number is some = (t, refl)
-
-pub is_there : (found : Option Transaction) → IsTrue (is_some found) → (t : Transaction) × (found ≡ Some t)
-is_there None some = absurd cc
-is_there (Some t) some = (t, refl)
 
 -- ---- BEGIN
 
@@ -74,8 +68,8 @@ commit_past m session t id which held past =
     (committed m session (acts_of m.state.objects t))) past
 
 commit_within : (m : Machine) (session : ℕ) (t : Transaction) (acts : Option (List Act))
-    → transaction_in m.sessions session ≡ Some t → past_limit m.state.objects t ≡ None → acts_of m.state.objects t ≡ acts
-    → commit m session ≡ committed m session acts
+    → transaction_in m.sessions session ≡ Some t → past_limit m.state.objects t ≡ None
+    → acts_of m.state.objects t ≡ acts → commit m session ≡ committed m session acts
 unfolding commit
 commit_within m session t acts held within is =
     ap (commit_of m session) held
@@ -88,19 +82,18 @@ pub commits_changes : (s : Stored) (m : Machine) (session : ℕ) (t : Transactio
     → transaction_in m.sessions session ≡ Some t → past_limit m.state.objects t ≡ None
     → Some (records.commit_of c) ≡ option_map (commit_for s m.state.last) (acts_of m.state.objects t)
     → Decides s m.sessions m.state.last
-    (Do (told.Committed m.state.last) (Ends session (Some c.changes))) (commit m session)
+    (Do (told.Committed m.state.last) (Ends session (Some c))) (commit m session)
 commits_changes s m session t c held within is = by_acts (acts_of m.state.objects t) refl
   where
     by_acts : (acts : Option (List Act)) → acts_of m.state.objects t ≡ acts
         → Decides s m.sessions m.state.last
-        (Do (told.Committed m.state.last) (Ends session (Some c.changes))) (commit m session)
+        (Do (told.Committed m.state.last) (Ends session (Some c))) (commit m session)
     by_acts None none = let found = rw none at is in absurd cc
     by_acts (Some acts) some =
         let found : Some (records.commit_of c) ≡ Some (commit_for s m.state.last acts) =
         is ∙ ap (option_map (commit_for s m.state.last)) some in
-        ends s m.sessions m.state.last session (told.Committed m.state.last) (Some c.changes) (commit m session)
-        (Committed m.state.last)
-        (Some acts) refl (ap (option_map (λ (written : machine.Commit). written.changes)) found)
+        ends s m.sessions m.state.last session (told.Committed m.state.last) (Some c) (commit m session)
+        (Committed m.state.last) (Some acts) refl found
         (commit_within m session t (Some acts) held within some)
 
 pub commits_nothing : (s : Stored) (m : Machine) (session : ℕ) (t : Transaction)

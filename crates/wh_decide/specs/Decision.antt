@@ -3,7 +3,7 @@
 --     answer_of, settlement_of      the reply of a decision, and what is carried out for it
 --     StagesInOpen                  what is staged is staged in an open transaction
 --     Decides                       a decision comes to that outcome
-use Rattle.std.specs.Prelude.{◌≡◌, ℕ, List, map, Option, Some, None, option_map, unwrap_or, is_some, IsTrue}
+use Rattle.std.specs.Prelude.{◌≡◌, ℕ, List, Option, Some, None, option_map, unwrap_or, is_some, IsTrue}
 use Rattle.wh_reply.specs.Reply.{Reply, Refused}
 use Rattle.wh_reply.specs.View.{refusal_view, reply_view}
 use Rattle.wh_state.specs.State.{State}

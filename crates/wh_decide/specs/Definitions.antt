@@ -1,5 +1,6 @@
 -- What CREATE and DROP of each kind of object have in common.
 --     drops_written     the drop of an object, where there is one
+--     in_transaction    the refusal of one in a transaction
 --     earlier_refusal   what a statement is refused for before its names are looked at
 use Rattle.std.specs.Prelude.{ℕ, List, [], ◌∷◌, Option, Some, None, option_map}
 use Rattle.wh_ast.specs.declared.statement.Statement.{Statement}

@@ -101,9 +101,10 @@ fn decide_tree(
     };
     match bind(alloc, &names, statement) {
         Ok(bound) => decide_bound(alloc, sight, bound),
-        Err(BindFault::Failing(failing)) => Ok(Decision::Refuse(
-            earlier_refusal(sight, statement).unwrap_or(refusal(failing)),
-        )),
+        Err(BindFault::Failing(failing)) => {
+            let why = earlier_refusal(sight, statement).unwrap_or(refusal(failing));
+            Ok(Decision::Refuse(why))
+        }
         Err(BindFault::OutOfMemory) => Err(AllocError),
     }
 }
@@ -135,11 +136,8 @@ fn earlier_refusal(sight: &Sight<'_>, statement: &Statement) -> Option<Refusal>
 }
 
 // What a statement comes to that nothing is found wrong with.
-fn decide_bound(
-    alloc: Global,
-    sight: &Sight<'_>,
-    statement: Bound,
-) -> Result<Decision, AllocError>
+#[tactic(auto, unfolding(wh_machine::specs::Statements::carried_out))]
+fn decide_bound(alloc: Global, sight: &Sight<'_>, statement: Bound) -> Result<Decision, AllocError>
     ensures { IfOk result (λ decision. Comes sight.now decision
         (carried_out (machine_in sight.now) sight.now.session None (bound_of statement))) }
 {

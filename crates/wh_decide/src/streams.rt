@@ -21,8 +21,8 @@ use wh_record::{Change, StreamChange};
 use wh_reply::{Refusal, Reply};
 use wh_value::Limit;
 
-// What CREATE STREAM comes to, whose names are right: a new stream, the last of the catalog. It shows
-// what comes behind its commit.
+// What CREATE STREAM comes to, whose names are right: a new stream, the last of the catalog. It
+// shows what comes behind its commit.
 pub(crate) fn create_stream(
     alloc: Global,
     sight: &Sight<'_>,
@@ -77,11 +77,7 @@ fn stream_change(stream: NewStream, id: u32, offset: u64) -> Change
 }
 
 // What DROP STREAM comes to, of a stream.
-pub(crate) fn drop_stream(
-    alloc: Global,
-    sight: &Sight<'_>,
-    id: u32,
-) -> Result<Decision, AllocError>
+pub(crate) fn drop_stream(alloc: Global, sight: &Sight<'_>, id: u32) -> Result<Decision, AllocError>
     ensures { IfOk result (λ decision. Comes sight.now decision
         (defines (machine_in sight.now) sight.now.session (Some id)
         (machine.drop_stream (machine_in sight.now) None id))) }
@@ -92,11 +88,7 @@ pub(crate) fn drop_stream(
 
 // What SYSTEM$STREAM_HAS_DATA comes to, of a stream: it is refused as a read of it is, and moves
 // nothing.
-pub(crate) fn has_data(
-    alloc: Global,
-    sight: &Sight<'_>,
-    id: u32,
-) -> Result<Decision, AllocError>
+pub(crate) fn has_data(alloc: Global, sight: &Sight<'_>, id: u32) -> Result<Decision, AllocError>
     ensures { IfOk result (λ decision. Comes sight.now decision
         (reading.has_data (machine_in sight.now) sight.now.session None id)) }
 {

@@ -15,9 +15,7 @@ ghost use Rattle.wh_decide.specs.Definitions.{drops_written};
 ghost use Rattle.wh_decide.specs.Sight.{machine_in, Comes};
 
 use crate::decision::Decision;
-use crate::definitions::{
-    count_refusal, defined, definition_refusal, drop_object, drops, is_long,
-};
+use crate::definitions::{count_refusal, defined, definition_refusal, drop_object, drops, is_long};
 use crate::limits::{refused_if, refused_past};
 use crate::reading::name_of;
 use crate::sight::Sight;
@@ -31,8 +29,8 @@ use wh_value::{Column, Limit};
 // In days, where none is written.
 const RETENTION: u64 = 1;
 
-// What CREATE TABLE comes to, whose names are right: a new table, the last of the catalog. One that it
-// replaces is dropped in the same commit.
+// What CREATE TABLE comes to, whose names are right: a new table, the last of the catalog. One that
+// it replaces is dropped in the same commit.
 pub(crate) fn create_table(
     alloc: Global,
     sight: &Sight<'_>,
@@ -57,11 +55,11 @@ fn creation(alloc: Global, id: u32, table: NewTable) -> Result<Vec<Change>, Allo
     requires { machine.retention_of (new_table_of table) ≤ bound limits.Retention }
     ensures { IfOk result (λ changes. map change_of changes.items
         ≡ drops_written table.replaced ++ CreatesTable (record {
-      id = id;
-      name = table.name;
-      retention = machine.retention_of (new_table_of table);
-      columns = (new_table_of table).columns;
-    }) ∷ []) }
+          id = id;
+          name = table.name;
+          retention = machine.retention_of (new_table_of table);
+          columns = (new_table_of table).columns;
+        }) ∷ []) }
 {
     let mut changes = drops(alloc, table.replaced)?;
     changes.push(table_change(id, table))?;
@@ -123,11 +121,7 @@ fn some_is_long(columns: &[Column]) -> bool
 }
 
 // What DROP TABLE comes to, of a table.
-pub(crate) fn drop_table(
-    alloc: Global,
-    sight: &Sight<'_>,
-    id: u32,
-) -> Result<Decision, AllocError>
+pub(crate) fn drop_table(alloc: Global, sight: &Sight<'_>, id: u32) -> Result<Decision, AllocError>
     ensures { IfOk result (λ decision. Comes sight.now decision
         (defines (machine_in sight.now) sight.now.session (Some id)
         (machine.drop_table (machine_in sight.now) None id))) }

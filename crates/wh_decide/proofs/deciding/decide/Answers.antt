@@ -1,6 +1,7 @@
 use Rattle.std.proofs.Common.{ℕ, List, refl, ap, sym, subst, ◌∙◌}
 use Rattle.std.specs.Result.{IfOk}
 use Rattle.wh_reply.specs.Reply.{Idle}
+use Rattle.wh_reply.specs.declared.reply.Reply.TheVariants as told
 use Rattle.wh_state.specs.State.{stamped}
 use Rattle.wh_machine.specs.Outcome.{Outcome}
 use Rattle.wh_machine.specs.Step.{commanded, outcome_of}
@@ -26,5 +27,5 @@ pub returns-in-Tick : goal.returns-in-Tick
 returns-in-Tick c =
     let sessions = sessions_of c.args.sessions.now in
     let m = machine_at (stamped (state_of c.args.catalog.now) c.args.stamp) sessions in
-    answers (stored_of c.args.catalog.now) sessions c.args.stamp _ _ Idle refl
+    answers (stored_of c.args.catalog.now) sessions c.args.stamp told.Idle _ Idle refl
     (ap (λ (e : Event). outcome_of m (event_of e)) c.in-Tick.is)

@@ -1,14 +1,10 @@
-use Rattle.std.proofs.Common.{◌≡◌, ◌<◌, ◌≤◌, Some, None, length, refl, ap, sym, ◌∙◌, arith, rules}
-use Rattle.wh_value.specs.declared.limit.Limit.TheVariants as limits
-use Rattle.wh_reply.specs.Reply.{OverLimit, SyntaxError}
+use Rattle.std.proofs.Common.{◌≡◌, ◌<◌, ◌≤◌, Some, None, length, ap, sym, ◌∙◌, arith, rules}
 use Rattle.wh_machine.specs.Step.{commanded}
 use Rattle.wh_stmt_parse.specs.Read.{read_statement}
-use Rattle.wh_catalog.specs.Catalog.{stored_of}
-use Rattle.wh_txn.specs.View.{sessions_of}
 use Rattle.wh_decide.specs.Sight.{machine_in}
-use Rattle.wh_decide.proofs.OutcomeLemmas.{declines}
+use Rattle.wh_decide.proofs.OutcomeLemmas.{comes_as}
 use Rattle.wh_decide.proofs.RequestLemmas.{long_request, short_request}
-use Rattle.wh_decide.proofs.StepLemmas.{comes_as, command_long, command_unreadable}
+use Rattle.wh_decide.proofs.CommandLemmas.{command_long, command_unreadable}
 use Rattle.wh_decide.proofs.deciding.decide_text.Goals as goal
 
 pub returns-then-bound-text : goal.returns-then-bound-text
@@ -16,16 +12,14 @@ returns-then-bound-text c =
     let sight = c.args.sight.now in
     let m = machine_in sight in
     let long : 65536 < length c.args.text.now = omega (arith, c.bound.ensures) in
-    declines (stored_of sight.catalog.now) (sessions_of sight.sessions.now) sight.stamp _ _
-    (OverLimit limits.Statement) refl
-    (ap (commanded m sight.session) (long_request c.args.text.now long) ∙ command_long m sight.session)
+    ap (commanded m sight.session) (long_request c.args.text.now long) ∙ command_long m sight.session
 
 pub returns-in-Ok : goal.returns-in-Ok
 returns-in-Ok c =
     let sight = c.args.sight.now in
     let m = machine_in sight in
     let within : length c.args.text.now ≤ 65536 = omega (arith, c.bound.ensures) in
-    comes_as sight c.decide_tree-decision.result _ _
+    comes_as sight c.decide_tree-decision.result
     (ap (commanded m sight.session)
     (sym (short_request c.args.text.now (Some c.in-Ok.statement) within c.in-Ok.ensures.reads)))
     c.decide_tree-decision.ensures
@@ -36,6 +30,5 @@ returns-in-Err-SyntaxError c =
     let m = machine_in sight in
     let within : length c.args.text.now ≤ 65536 = omega (arith, c.bound.ensures) in
     let none : read_statement c.args.text.now ≡ None = search rules in
-    declines (stored_of sight.catalog.now) (sessions_of sight.sessions.now) sight.stamp _ _ SyntaxError refl
-    (ap (commanded m sight.session) (short_request c.args.text.now None within none)
-    ∙ command_unreadable m sight.session)
+    ap (commanded m sight.session) (short_request c.args.text.now None within none)
+    ∙ command_unreadable m sight.session

@@ -1,40 +1,54 @@
-use Rattle.std.proofs.Common.{◌≡◌, Some, None, option_map, refl, ap, sym, ◌∙◌}
-use Rattle.wh_reply.specs.Reply.{NoSuchSession, Unsupported}
-use Rattle.wh_machine.specs.Statement.{form_of}
-use Rattle.wh_machine.specs.Step.{carried_out}
-use Rattle.wh_catalog.specs.Catalog.{stored_of}
-use Rattle.wh_txn.specs.View.{sessions_of}
-use Rattle.wh_decide.specs.Built.{built_view}
+use Rattle.std.proofs.Common.{◌≡◌, [], map, Some, Err, ap, sym, subst, ◌∙◌}
+use Rattle.std.specs.Prelude.{unwrap_or}
+use Rattle.wh_ddl_naming.specs.Meant.{first_failing}
+use Rattle.wh_ddl_naming.specs.Objects.{Names}
+use Rattle.wh_ddl_naming.specs.Statements.{bound}
+use Rattle.wh_bind.specs.declared.fault.BindFault.{BindFault}
+use Rattle.wh_ddl_bind.specs.Binds.{Binds}
+use Rattle.wh_expr_bind.specs.View.{failing_of, named_of}
+use Rattle.wh_expr_bind.specs.declared.findings.Failing.{Failing}
+use Rattle.wh_reply.specs.View.{refusal_view}
+use Rattle.wh_machine.specs.Names.{refusal_of}
+use Rattle.wh_machine.specs.Outcome.{Refuses}
+use Rattle.wh_decide.specs.Definitions.{earlier_refusal}
 use Rattle.wh_decide.specs.Sight.{machine_in}
-use Rattle.wh_decide.proofs.OutcomeLemmas.{declines}
-use Rattle.wh_decide.proofs.StepLemmas.{comes_as, command_of_none, command_carried, carried_none}
+use Rattle.wh_decide.proofs.OutcomeLemmas.{comes_as, viewed_or}
+use Rattle.wh_decide.proofs.CommandLemmas.{command_of_none, command_bound, command_failing}
 use Rattle.wh_decide.proofs.deciding.decide_tree.Goals as goal
 
 pub returns-then-not-is_session : goal.returns-then-not-is_session
 returns-then-not-is_session c =
     let sight = c.args.sight.now in
-    declines (stored_of sight.catalog.now) (sessions_of sight.sessions.now) sight.stamp _ _
-    (NoSuchSession sight.session) refl
-    (command_of_none (machine_in sight) sight.session c.args.statement.now
-    (sym c.is_session.ensures ∙ c.if-not-is_session.true))
+    command_of_none (machine_in sight) sight.session c.args.statement.now
+    (sym c.is_session.ensures ∙ c.if-not-is_session.true)
 
-pub returns-in-Some : goal.returns-in-Some
-returns-in-Some c =
+pub returns-in-Ok : goal.returns-in-Ok
+returns-in-Ok c =
+    let sight = c.args.sight.now in
+    let same = ap (map named_of) c.deref.ensures.value ∙ c.in_ok-objects.ensures in
+    comes_as sight c.decide_bound.result
+    (command_bound (machine_in sight) sight.session c.args.statement.now _ c.in-Ok.bound
+    (sym c.is_session.ensures ∙ c.if-not-is_session.false)
+    (λ i. record { objects = same i; roots = [] }) c.in-Ok.ensures)
+    c.decide_bound.ensures
+
+pub returns-in-Err-Failing : goal.returns-in-Err-Failing
+returns-in-Err-Failing c =
     let sight = c.args.sight.now in
     let m = machine_in sight in
-    let form : Some (built_view c.in-Some.built) ≡ form_of c.args.statement.now =
-    sym (ap (option_map built_view) c.in-Some.is) ∙ c.in_ok-built.ensures in
-    comes_as sight c.decide_built.result _ _
-    (ap (carried_out m sight.session) form
-    ∙ sym (command_carried m sight.session c.args.statement.now (sym c.is_session.ensures ∙ c.if-not-is_session.false)))
-    c.decide_built.ensures
-
-pub returns-in-None : goal.returns-in-None
-returns-in-None c =
-    let sight = c.args.sight.now in
-    let m = machine_in sight in
-    let form : form_of c.args.statement.now ≡ None =
-    sym c.in_ok-built.ensures ∙ ap (option_map built_view) c.in-None.is in
-    declines (stored_of sight.catalog.now) (sessions_of sight.sessions.now) sight.stamp _ _ Unsupported refl
-    (command_carried m sight.session c.args.statement.now (sym c.is_session.ensures ∙ c.if-not-is_session.false)
-    ∙ ap (carried_out m sight.session) form ∙ carried_none m sight.session)
+    let tree = c.args.statement.now in
+    let failing = c.in-Err-Failing.failing in
+    let same = ap (map named_of) c.deref.ensures.value ∙ c.in_ok-objects.ensures in
+    let names : Names = record { objects = map named_of c.deref.result.now; roots = [] } in
+    let fails : first_failing (bound names tree) ≡ Some (failing_of failing) =
+    subst (λ (fault : BindFault). Binds (Err fault) (bound names tree)) c.in-Err-Failing.field-0-is
+    c.in-Err-Failing.ensures in
+    let why : refusal_view c.unwrap_or-why.result
+    ≡ unwrap_or (earlier_refusal m sight.session tree) (refusal_of (failing_of failing)) =
+    ap refusal_view c.unwrap_or-why.ensures ∙ viewed_or refusal_view c.earlier_refusal.result c.refusal.result
+    ∙ (λ i. unwrap_or (c.earlier_refusal.ensures i)
+    ((c.refusal.ensures ∙ ap (λ (f : Failing). refusal_of (failing_of f)) c.in-Err-Failing.failing-is) i)) in
+    command_failing m sight.session tree names (failing_of failing)
+    (sym c.is_session.ensures ∙ c.if-not-is_session.false)
+    (λ i. record { objects = same i; roots = [] }) fails
+    ∙ ap Refuses (sym why)

@@ -6,7 +6,7 @@ use Rattle.wh_machine.specs.Tests.{first_of, refused_past}
 use Rattle.wh_machine.specs.Tables.{one_if}
 use Rattle.wh_catalog.specs.Catalog.{state_of}
 use Rattle.wh_decide.proofs.CatalogLemmas.{count_is, live_is}
-use Rattle.wh_decide.proofs.DefineLemmas.{first_two}
+use Rattle.wh_decide.proofs.OutcomeLemmas.{first_two}
 use Rattle.wh_decide.proofs.definitions.count_refusal.Goals as goal
 
 pub returns : goal.returns

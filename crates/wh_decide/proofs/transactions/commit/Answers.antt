@@ -1,13 +1,11 @@
-use Rattle.std.proofs.Common.{◌≡◌, Some, Err, option_map, refl, ap, sym, ◌∙◌}
+use Rattle.std.proofs.Common.{◌≡◌, Some, Err, option_map, ap, sym, ◌∙◌}
 use Rattle.std.specs.Prelude.{not}
-use Rattle.wh_reply.specs.Reply.{NoTransaction, OverLimit}
 use Rattle.wh_record.specs.View as records
 use Rattle.wh_catalog.specs.Catalog.{stored_of}
 use Rattle.wh_machine.specs.Transaction.{Transaction}
 use Rattle.wh_machine.specs.Sessions.{transaction_in}
 use Rattle.wh_txn.specs.View.{sessions_of}
 use Rattle.wh_decide.specs.Sight.{machine_in}
-use Rattle.wh_decide.proofs.OutcomeLemmas.{declines}
 use Rattle.wh_decide.proofs.TransactionLemmas.{is_closed, is_open, commit_closed, commit_past, commits_changes}
 use Rattle.wh_decide.proofs.TransactionLemmas.{commits_nothing}
 use Rattle.wh_decide.proofs.transactions.commit.Goals.{After-commit_record}
@@ -16,11 +14,9 @@ use Rattle.wh_decide.proofs.transactions.commit.Goals as goal
 pub returns-then-is_none : goal.returns-then-is_none
 returns-then-is_none c =
     let sight = c.args.sight.now in
-    let sessions = sessions_of sight.sessions.now in
-    declines (stored_of sight.catalog.now) sessions sight.stamp _ _ NoTransaction refl
-    (commit_closed (machine_in sight) sight.session
-    (is_closed (transaction_in sessions sight.session) c.number.result c.number.ensures
-    (c.is_none.ensures ∙ ap not c.if-is_none.true)))
+    commit_closed (machine_in sight) sight.session
+    (is_closed (transaction_in (sessions_of sight.sessions.now) sight.session) c.number.result c.number.ensures
+    (c.is_none.ensures ∙ ap not c.if-is_none.true))
 
 -- the session's open transaction
 open_in : (c : After-commit_record)
@@ -46,9 +42,7 @@ returns-in-Ok-None c =
 pub returns-in-Err-Limit : goal.returns-in-Err-Limit
 returns-in-Err-Limit c =
     let sight = c.args.sight.now in
-    let sessions = sessions_of sight.sessions.now in
     let t = open_in (goal.at.returns-in-Err-Limit c).After-commit_record in
-    declines (stored_of sight.catalog.now) sessions sight.stamp _ _ (OverLimit c.in-Err-Limit.which) refl
-    (commit_past (machine_in sight) sight.session t.0 c.in-Err-Limit.field-0-0 c.in-Err-Limit.which t.1
+    commit_past (machine_in sight) sight.session t.0 c.in-Err-Limit.field-0-0 c.in-Err-Limit.which t.1
     (c.commit_record.ensures.limit c.in-Err-Limit.field-0-0 c.in-Err-Limit.which
-    (c.in-Err-Limit.is ∙ ap Err c.in-Err-Limit.field-0-is) t.0 t.1))
+    (c.in-Err-Limit.is ∙ ap Err c.in-Err-Limit.field-0-is) t.0 t.1)
