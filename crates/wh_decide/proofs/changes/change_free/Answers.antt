@@ -39,9 +39,11 @@ target c =
     (table_there sight.catalog.now id table (sym c.in-Some.ensures))
 
 -- what a fault says of the effect that is meant
-gives : (meant : effects.Outcome) {fault kind : EffectFault} → fault ≡ kind → Gives (Err fault) meant → Gives (Err kind) meant
+gives : (meant : effects.Outcome) {fault kind : EffectFault} → fault ≡ kind → Gives (Err fault) meant
+    → Gives (Err kind) meant
 gives meant is = subst (λ (f : EffectFault). Gives (Err f) meant) is
 
+-- a row that a fault tells, as it is meant
 ambiguous : (s : Stored) (sessions : Sessions) (stamp : ℕ) (row meant : Row) (o : Outcome) → row ≡ meant
     → o ≡ Refuses (AmbiguousMerge meant) → Decides s sessions stamp (Refuse (refused.AmbiguousMerge row)) o
 ambiguous s sessions stamp row meant o is same =

@@ -32,6 +32,7 @@ module _ (c : After-lone_commit) where
   t = staged_in_state (machine_in c.args.sight.now).state (begun c.args.sight.now.stamp)
       c.args.bound.now.target c.args.streams.now e
 
+-- a limit that a fault tells, as it is meant
 past : (s : Stored) (sessions : Sessions) (stamp : ℕ) (which meant : Limit) (o : Outcome) → which ≡ meant
     → o ≡ Refuses (OverLimit meant) → Decides s sessions stamp (Refuse (refused.OverLimit which)) o
 past s sessions stamp which meant o is same =
