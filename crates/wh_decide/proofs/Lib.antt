@@ -8,9 +8,8 @@ mod TransactionLemmas
 mod SeenLemmas
 mod SourceLemmas
 mod ReadingLemmas
+mod NamingLemmas
 mod ChangeLemmas
-mod EditLemmas
-mod TargetLemmas
 mod QueryLemmas
 mod ObjectLemmas
 mod RequestLemmas

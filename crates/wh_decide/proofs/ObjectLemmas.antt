@@ -12,7 +12,7 @@ use Rattle.wh_machine.specs.Names.{names_from}
 use Rattle.wh_catalog.specs.Kept.{object_in}
 use Rattle.wh_catalog.specs.Object.{kept_object}
 use Rattle.wh_catalog.specs.declared.object.StoredObject.{StoredObject}
-use Rattle.wh_decide.specs.Objects.{object_of, live_name}
+use Rattle.wh_decide.specs.Names.{object_of, live_name}
 
 abbrev pub seen : List StoredObject → List Object
 seen os = map object_meant (map object_in (map kept_object os))

@@ -13,7 +13,8 @@ use Rattle.wh_state.specs.Stored.{object_meant}
 use Rattle.wh_machine.specs.Tests.{first_of}
 use Rattle.wh_state.specs.Objects.{name_at, is_kind_at, is_stream, stream_at}
 use Rattle.wh_machine.specs.Transaction.{Transaction, start_at}
-use Rattle.wh_machine.specs.Reading.{is_gone, least_from, least, stale_refusal, reading_refusal}
+use Rattle.wh_net.specs.Stream.{is_gone}
+use Rattle.wh_machine.specs.Reading.{least_from, least, stale_refusal, reading_refusal}
 use Rattle.wh_catalog.specs.Catalog.{stored_of, state_of, stored_stream_at}
 use Rattle.wh_catalog.specs.Kept.{object_in}
 use Rattle.wh_catalog.specs.Object.{kept_object}

@@ -2,7 +2,7 @@
 --     IsCountOf       how many rows it adds, changes and removes
 --     is_insert       a change that looks at no row of its target
 --     comes_to        what a change comes to in a session
-use Rattle.std.specs.Prelude.{◌≡◌, ℕ, Bool, true, false, length}
+use Rattle.std.specs.Prelude.{◌≡◌, Bool, true, false, length}
 use Rattle.wh_naming.specs.Changes.{Change, InsertRows, InsertQuery}
 use Rattle.wh_effect.specs.Effect.{Effect}
 use Rattle.wh_machine.specs.Changes.{Changed}

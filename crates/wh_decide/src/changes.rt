@@ -1,5 +1,4 @@
-ghost use Rattle.std.specs.Prelude.{◌≡◌, Some, None, IfOk};
-ghost use Rattle.wh_naming.specs.Changes as naming;
+ghost use Rattle.std.specs.Prelude.{◌≡◌, Some, IfOk};
 ghost use Rattle.wh_bound_change.specs.View as changes;
 ghost use Rattle.wh_ddl_bind.specs.View as view;
 ghost use Rattle.wh_dml.specs.View.{effect_of};

@@ -1,4 +1,4 @@
-ghost use Rattle.std.specs.Prelude.{◌≡◌, ℕ, Some, None, length, IfOk};
+ghost use Rattle.std.specs.Prelude.{◌≡◌, ℕ, Some, None, IfOk};
 ghost use Rattle.wh_reply.specs.View.{reply_view};
 ghost use Rattle.wh_effect.specs.Effect as effects;
 ghost use Rattle.wh_bound_change.specs.View as changes;

@@ -1,5 +1,4 @@
-ghost use Rattle.std.specs.Prelude.{◌≡◌, map, IfOk};
-ghost use Rattle.wh_meaning.specs.Bag.{Bag, bag_of};
+ghost use Rattle.std.specs.Prelude.{◌≡◌, IfOk};
 ghost use Rattle.wh_meaning.specs.Query.{Instance};
 ghost use Rattle.wh_exec.specs.Evaluation as evaluation;
 ghost use Rattle.wh_machine.specs.Reading as machine;

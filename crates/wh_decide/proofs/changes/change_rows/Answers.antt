@@ -1,45 +1,75 @@
-use Rattle.std.proofs.Common.{◌≡◌, List, Some, Err, map, ap, sym, subst, ◌∙◌}
-use Rattle.wh_naming.specs.Findings.{first_failing}
-use Rattle.wh_naming.specs.Scope.{Named}
-use Rattle.wh_naming.specs.Changes.{bound_change}
-use Rattle.wh_naming.specs.View.{named_of, failing_of}
-use Rattle.wh_bind.specs.declared.fault.BindFault.{BindFault}
-use Rattle.wh_dml_bind.specs.Binds.{Binds}
+use Rattle.std.proofs.Common.{◌≡◌, ℕ, List, ◌∷◌, Option, option_map, refl, ap, sym, subst, ◌∙◌}
+use Rattle.std.specs.Result.{IfOk}
+use Rattle.wh_value.specs.declared.limit.Limit.TheVariants as limits
+use Rattle.wh_reply.specs.Reply.{OverLimit, Locked}
 use Rattle.wh_reply.specs.View.{refusal_view}
-use Rattle.wh_machine.specs.Names.{names_from, refusal_of}
-use Rattle.wh_catalog.specs.Catalog.{stored_of, state_of}
+use Rattle.wh_reply.specs.declared.reply.Refusal.{Refusal}
+use Rattle.wh_reply.specs.declared.reply.Refusal.TheVariants as refused
+use Rattle.wh_machine.specs.Offsets.{streams_among}
+use Rattle.wh_machine.specs.Sessions.{first_locked}
+use Rattle.wh_machine.specs.Outcome.{Outcome}
+use Rattle.wh_machine.specs.Reading.{reading_refusal}
+use Rattle.wh_catalog.specs.Catalog.{stored_of}
 use Rattle.wh_txn.specs.View.{sessions_of}
-use Rattle.wh_decide.specs.Sight.{machine_in}
+use Rattle.wh_decide.specs.Sight.{machine_in, Comes}
 use Rattle.wh_decide.proofs.OutcomeLemmas.{declines}
-use Rattle.wh_decide.proofs.ChangeLemmas.{change_is, is_failing, comes_change}
-use Rattle.wh_decide.proofs.changes.change_rows.Goals.{After-deref}
+use Rattle.wh_decide.proofs.ChangeLemmas.{is_too_wide, is_unread, is_held, is_free}
+use Rattle.wh_decide.proofs.changes.change_rows.Goals.{In_ok-why, In_ok-streams}
 use Rattle.wh_decide.proofs.changes.change_rows.Goals as goal
 
-module _ (c : After-deref) where
-  abbrev names : List Named
-  names = map named_of c.deref.result.now
+-- what the test of the sources finds
+read : (c : In_ok-why) (found : Option Refusal) → c.in_ok-why.field-0 ≡ found
+    → reading_refusal (machine_in c.args.sight.now).state.objects (machine_in c.args.sight.now).state.last
+    c.args.bound.now.sources.items ≡ option_map refusal_view found
+read c found at =
+    let m = machine_in c.args.sight.now in
+    ap (reading_refusal m.state.objects m.state.last) (sym c.deref.ensures.value)
+    ∙ sym c.in_ok-why.ensures ∙ ap (option_map refusal_view) at
 
-  named : names ≡ names_from 1 (state_of c.args.sight.now.catalog.now).objects
-  named = ap (map named_of) c.deref.ensures.value ∙ c.in_ok-names.ensures
+-- the streams that it reads
+among : (c : In_ok-streams) → c.in_ok-streams.streams.items
+    ≡ streams_among (machine_in c.args.sight.now).state.objects c.args.bound.now.sources.items
+among c = c.in_ok-streams.ensures
+    ∙ ap (λ (ids : List ℕ). streams_among (machine_in c.args.sight.now).state.objects ids) c.deref-2.ensures.value
 
-pub returns-in-Ok : goal.returns-in-Ok
-returns-in-Ok c =
+pub returns-then-bound : goal.returns-then-bound
+returns-then-bound c =
     let sight = c.args.sight.now in
-    let at = (goal.at.returns-in-Ok c).After-deref in
-    comes_change sight c.change_bound-decision.result c.args.statement.now (names at) c.in-Ok.bound (named at)
-    c.in-Ok.ensures c.change_bound-decision.ensures
+    declines (stored_of sight.catalog.now) (sessions_of sight.sessions.now) sight.stamp
+    (refused.OverLimit limits.Output) _ (OverLimit limits.Output) refl
+    (is_too_wide (machine_in sight) sight.session c.args.bound.now c.if-bound.true)
 
-pub returns-in-Err-Failing : goal.returns-in-Err-Failing
-returns-in-Err-Failing c =
+pub returns-in-Some : goal.returns-in-Some
+returns-in-Some c =
+    let sight = c.args.sight.now in
+    let why = refusal_view c.in-Some.why in
+    declines (stored_of sight.catalog.now) (sessions_of sight.sessions.now) sight.stamp _ _ why refl
+    (is_unread (machine_in sight) sight.session c.args.bound.now why c.if-bound.false
+    (read (goal.at.returns-in-Some c).In_ok-why _ c.in-Some.is))
+
+pub returns-in-Some-first_locked : goal.returns-in-Some-first_locked
+returns-in-Some-first_locked c =
     let sight = c.args.sight.now in
     let m = machine_in sight in
-    let at = (goal.at.returns-in-Err-Failing c).After-deref in
-    let meant = bound_change (names at) c.args.statement.now in
-    let found : first_failing meant.findings ≡ Some (failing_of c.in-Err-Failing.failing) =
-    subst (λ (f : BindFault). Binds (Err f) meant) c.in-Err-Failing.field-0-is c.in-Err-Failing.ensures in
-    let why : refusal_view c.refusal.result ≡ refusal_of (failing_of c.in-Err-Failing.failing) =
-    c.refusal.ensures ∙ ap (λ f. refusal_of (failing_of f)) c.in-Err-Failing.failing-is in
-    declines (stored_of sight.catalog.now) (sessions_of sight.sessions.now) sight.stamp c.refusal.result _
-    (refusal_of (failing_of c.in-Err-Failing.failing)) why
-    (sym (change_is m sight.session c.args.statement.now (names at) (named at))
-    ∙ is_failing m sight.session meant (failing_of c.in-Err-Failing.failing) found)
+    let b = c.args.bound.now in
+    let number = c.in-Some-first_locked.number in
+    declines (stored_of sight.catalog.now) (sessions_of sight.sessions.now) sight.stamp
+    (refused.Locked number) _ (Locked number) refl
+    (is_held m sight.session b c.in_ok-streams.streams.items number c.if-bound.false
+    (read (goal.at.returns-in-Some-first_locked c).In_ok-why _ c.in_default.is)
+    (among (goal.at.returns-in-Some-first_locked c).In_ok-streams)
+    (ap (λ (ids : List ℕ). first_locked m.sessions sight.session (b.target ∷ ids)) (sym c.deref-3.ensures.value)
+    ∙ sym c.first_locked.ensures ∙ c.in-Some-first_locked.is))
+
+pub returns : goal.returns
+returns c =
+    let sight = c.args.sight.now in
+    let m = machine_in sight in
+    let b = c.args.bound.now in
+    subst (λ (o : Outcome). IfOk c.change_free.result (λ d. Comes sight d o))
+    (sym (is_free m sight.session b c.in_ok-streams.streams.items c.if-bound.false
+    (read (goal.at.returns c).In_ok-why _ c.in_default.is)
+    (among (goal.at.returns c).In_ok-streams)
+    (ap (λ (ids : List ℕ). first_locked m.sessions sight.session (b.target ∷ ids)) (sym c.deref-3.ensures.value)
+    ∙ sym c.first_locked.ensures ∙ c.in_default-first_locked.is)))
+    c.change_free.ensures

@@ -1,4 +1,5 @@
 use Rattle.std.proofs.Common.{ℕ, None, ap, sym, subst, ◌∙◌}
+use Rattle.std.specs.Result.{IfOk}
 use Rattle.wh_bound_change.specs.View as changes
 use Rattle.wh_dml.specs.View.{effect_of}
 use Rattle.wh_machine.specs.Changes.{reply_to}
@@ -11,7 +12,7 @@ use Rattle.wh_table.specs.Table.{table_of}
 use Rattle.wh_txn.specs.View.{sessions_of}
 use Rattle.wh_decide.specs.Sight.{machine_in, Comes}
 use Rattle.wh_decide.proofs.CatalogLemmas.{table_there}
-use Rattle.wh_decide.proofs.ChangeLemmas.{is_staged, comes_settled}
+use Rattle.wh_decide.proofs.ChangeLemmas.{is_staged, is_alone}
 use Rattle.wh_decide.proofs.TransactionLemmas.{is_closed, is_open}
 use Rattle.wh_decide.proofs.changes.settle.Goals as goal
 
@@ -36,9 +37,9 @@ returns-then-is_some c =
 pub returns : goal.returns
 returns c =
     let sight = c.args.sight.now in
-    let id = c.args.bound.now.target in
-    comes_settled sight c.settled.result id c.args.streams.items (changes.change_of c.args.bound.now.change) (effect_of c.args.effect)
-    (table_of c.args.table.now)
+    subst (λ (o : Outcome). IfOk c.alone.result (λ d. Comes sight d o))
+    (sym (is_alone (machine_in sight) sight.session c.args.bound.now.target c.args.streams.items
+    (changes.change_of c.args.bound.now.change) (effect_of c.args.effect)
     (is_closed (transaction_in (sessions_of sight.sessions.now) sight.session) c.number.result c.number.ensures
-    (sym c.is_some.ensures ∙ c.if-is_some.false))
-    c.requires (rw (sym c.deref.ensures.value) c.settled.ensures)
+    (sym c.is_some.ensures ∙ c.if-is_some.false))))
+    (rw (sym c.deref.ensures.value) c.alone.ensures)

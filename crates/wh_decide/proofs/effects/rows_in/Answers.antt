@@ -1,5 +1,7 @@
-use Rattle.wh_decide.proofs.TargetLemmas.{all_seen}
+use Rattle.std.proofs.lemmas.List.Folds.{flat_map-map}
 use Rattle.wh_decide.proofs.effects.rows_in.Goals as goal
 
 pub returns : goal.returns
-returns c = λ t shown. all_seen t c.in_ok-target.target.items (c.in_ok-target.ensures t shown)
+returns c = λ t shown.
+    let all = c.in_ok-target.ensures t shown in
+    rw flat_map-map at all

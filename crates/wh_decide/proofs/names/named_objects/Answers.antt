@@ -3,7 +3,7 @@ use Rattle.wh_state.specs.Stored.{object_meant}
 use Rattle.wh_machine.specs.Names.{names_from}
 use Rattle.wh_decide.proofs.CatalogLemmas.{objects_are}
 use Rattle.wh_decide.proofs.ObjectLemmas.{more_named, all_named}
-use Rattle.wh_decide.proofs.objects.named_objects.Goals as goal
+use Rattle.wh_decide.proofs.names.named_objects.Goals as goal
 
 pub loop-place-preserved : goal.loop-place-preserved
 loop-place-preserved c =

@@ -1,48 +1,61 @@
-use Rattle.std.proofs.Common.{◌≡◌, List, Some, Err, map, ap, sym, subst, ◌∙◌}
-use Rattle.wh_naming.specs.Findings.{first_failing}
-use Rattle.wh_naming.specs.Scope.{Named}
-use Rattle.wh_naming.specs.Select.{bound_select}
-use Rattle.wh_naming.specs.View.{named_of, failing_of}
-use Rattle.wh_bind.specs.declared.fault.BindFault.{BindFault}
-use Rattle.wh_bind.specs.Binds.{Binds}
+use Rattle.std.proofs.Common.{◌≡◌, ℕ, List, Option, option_map, refl, ap, sym, ◌∙◌}
+use Rattle.wh_value.specs.declared.limit.Limit.TheVariants as limits
+use Rattle.wh_reply.specs.Reply.{OverLimit, NumberOutOfRange, Listing}
 use Rattle.wh_reply.specs.View.{refusal_view}
-use Rattle.wh_machine.specs.Names.{names_from, refusal_of}
-use Rattle.wh_machine.specs.Outcome.{alone}
-use Rattle.wh_machine.specs.Lone as tables
-use Rattle.wh_catalog.specs.Catalog.{stored_of, state_of}
+use Rattle.wh_reply.specs.declared.reply.Refusal.{Refusal}
+use Rattle.wh_reply.specs.declared.reply.Refusal.TheVariants as refused
+use Rattle.wh_reply.specs.declared.reply.Reply.TheVariants as told
+use Rattle.wh_machine.specs.Reading.{reading_refusal}
+use Rattle.wh_catalog.specs.Catalog.{stored_of}
 use Rattle.wh_txn.specs.View.{sessions_of}
+use Rattle.wh_decide.specs.Rows.{rows_found}
 use Rattle.wh_decide.specs.Sight.{machine_in}
-use Rattle.wh_decide.proofs.OutcomeLemmas.{declines}
-use Rattle.wh_decide.proofs.QueryLemmas.{select_is, is_failing, comes_bound}
-use Rattle.wh_decide.proofs.queries.select.Goals.{After-deref}
+use Rattle.wh_decide.proofs.OutcomeLemmas.{declines, answers}
+use Rattle.wh_decide.proofs.QueryLemmas.{is_too_wide, is_unread, is_shown, is_undefined}
+use Rattle.wh_decide.proofs.queries.select.Goals.{In_ok-why}
 use Rattle.wh_decide.proofs.queries.select.Goals as goal
 
-module _ (c : After-deref) where
-  abbrev names : List Named
-  names = map named_of c.deref.result.now
+-- what the test of the sources finds
+read : (c : In_ok-why) (found : Option Refusal) → c.in_ok-why.field-0 ≡ found
+    → reading_refusal (machine_in c.args.sight.now).state.objects (machine_in c.args.sight.now).state.last
+    c.args.bound.now.sources.items ≡ option_map refusal_view found
+read c found at =
+    let m = machine_in c.args.sight.now in
+    ap (reading_refusal m.state.objects m.state.last) (sym c.deref.ensures.value)
+    ∙ sym c.in_ok-why.ensures ∙ ap (option_map refusal_view) at
 
-  named : names ≡ names_from 1 (state_of c.args.sight.now.catalog.now).objects
-  named = ap (map named_of) c.deref.ensures.value ∙ c.in_ok-names.ensures
-
-pub returns-in-Ok : goal.returns-in-Ok
-returns-in-Ok c =
+pub returns-then-bound : goal.returns-then-bound
+returns-then-bound c =
     let sight = c.args.sight.now in
-    let at = (goal.at.returns-in-Ok c).After-deref in
-    comes_bound sight c.select_bound-decision.result c.args.query.now c.args.sorts.now (names at) c.in-Ok.bound
-    (named at) c.in-Ok.ensures c.select_bound-decision.ensures
+    declines (stored_of sight.catalog.now) (sessions_of sight.sessions.now) sight.stamp
+    (refused.OverLimit limits.Output) _ (OverLimit limits.Output) refl
+    (is_too_wide (machine_in sight) sight.session c.args.bound.now c.if-bound.true)
 
-pub returns-in-Err-Failing : goal.returns-in-Err-Failing
-returns-in-Err-Failing c =
+pub returns-in-Some : goal.returns-in-Some
+returns-in-Some c =
     let sight = c.args.sight.now in
-    let sessions = sessions_of sight.sessions.now in
-    let at = (goal.at.returns-in-Err-Failing c).After-deref in
-    let meant = bound_select (names at) c.args.query.now c.args.sorts.now in
-    let found : first_failing meant.findings ≡ Some (failing_of c.in-Err-Failing.failing) =
-    subst (λ (f : BindFault). Binds (Err f) meant) c.in-Err-Failing.field-0-is c.in-Err-Failing.ensures in
-    let why : refusal_view c.refusal.result ≡ refusal_of (failing_of c.in-Err-Failing.failing) =
-    c.refusal.ensures ∙ ap (λ f. refusal_of (failing_of f)) c.in-Err-Failing.failing-is in
-    declines (stored_of sight.catalog.now) sessions sight.stamp c.refusal.result _
-    (refusal_of (failing_of c.in-Err-Failing.failing)) why
-    (sym (select_is (machine_in sight) sight.session c.args.query.now c.args.sorts.now (names at) (named at))
-    ∙ ap (λ (o : tables.Outcome). alone sessions o)
-    (is_failing (machine_in sight) sight.session meant (failing_of c.in-Err-Failing.failing) found))
+    let why = refusal_view c.in-Some.why in
+    declines (stored_of sight.catalog.now) (sessions_of sight.sessions.now) sight.stamp _ _ why refl
+    (is_unread (machine_in sight) sight.session c.args.bound.now why c.if-bound.false
+    (read (goal.at.returns-in-Some c).In_ok-why _ c.in-Some.is))
+
+pub returns-in_default-2 : goal.returns-in_default-2
+returns-in_default-2 c =
+    let sight = c.args.sight.now in
+    declines (stored_of sight.catalog.now) (sessions_of sight.sessions.now) sight.stamp
+    refused.NumberOutOfRange _ NumberOutOfRange refl
+    (is_undefined (machine_in sight) sight.session c.args.bound.now c.if-bound.false
+    (read (goal.at.returns-in_default-2 c).In_ok-why _ c.in_default.is)
+    (ap rows_found (sym c.in_default-2.is) ∙ c.in_ok-rows.ensures))
+
+pub returns : goal.returns
+returns c =
+    let sight = c.args.sight.now in
+    let b = c.args.bound.now in
+    let rows = c.in-Some-2.rows.items in
+    answers (stored_of sight.catalog.now) (sessions_of sight.sessions.now) sight.stamp
+    (told.Listing c.in_ok-names.names c.in-Some-2.rows) _ (Listing b.names.items rows)
+    (ap (λ (names : List (List ℕ)). Listing names rows) (c.in_ok-names.ensures ∙ c.deref-2.ensures.value))
+    (is_shown (machine_in sight) sight.session b rows c.if-bound.false
+    (read (goal.at.returns c).In_ok-why _ c.in_default.is)
+    (ap rows_found (sym c.in-Some-2.is) ∙ c.in_ok-rows.ensures))

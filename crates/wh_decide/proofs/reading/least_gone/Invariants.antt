@@ -1,6 +1,7 @@
 use Rattle.std.proofs.Common.{◌≡◌, drop}
 use Rattle.std.specs.List.{filter}
-use Rattle.wh_machine.specs.Reading.{is_gone, least}
+use Rattle.wh_net.specs.Stream.{is_gone}
+use Rattle.wh_machine.specs.Reading.{least}
 use Rattle.wh_catalog.specs.Catalog.{state_of}
 use Rattle.wh_decide.proofs.ReadingLemmas.{least_of}
 use Rattle.wh_decide.proofs.reading.least_gone.Given as goal
