@@ -6,7 +6,7 @@ use Rattle.wh_ddl_naming.specs.Statements.{bound}
 use Rattle.wh_bind.specs.declared.fault.BindFault.{BindFault}
 use Rattle.wh_ddl_bind.specs.Binds.{Binds}
 use Rattle.wh_naming.specs.View.{failing_of, named_of}
-use Rattle.wh_expr_bind.specs.declared.findings.Failing.{Failing}
+use Rattle.wh_naming.specs.declared.failing.Failing.{Failing}
 use Rattle.wh_reply.specs.View.{refusal_view}
 use Rattle.wh_machine.specs.Names.{refusal_of}
 use Rattle.wh_machine.specs.Outcome.{Refuses}
