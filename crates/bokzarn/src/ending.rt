@@ -83,9 +83,15 @@ fn write_foreign<W: Write>(err: &mut W, at: u64) -> io::Result<()>
         (Appends (W.contents err.old) (W.contents err.new) (foreign_reason_of at)) }
 {
     if at == 0 {
-        return write!(err, "bokzarn: at byte 0 of the file stands no header of a warehouse\n");
+        return write!(
+            err,
+            "bokzarn: at byte 0 of the file stands no header of a warehouse\n"
+        );
     }
-    write!(err, "bokzarn: at byte {at} of the file stands no whole commit that applies\n")
+    write!(
+        err,
+        "bokzarn: at byte {at} of the file stands no whole commit that applies\n"
+    )
 }
 
 fn write_ending<W: Write>(err: &mut W, ending: &Ending, code: u8) -> io::Result<()>

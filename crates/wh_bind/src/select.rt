@@ -11,8 +11,8 @@ use std::alloc::{AllocError, Global};
 use wh_algebra::Query;
 use wh_ast::Sort;
 use wh_core_bind::Output;
-use wh_naming::Named;
 use wh_listing::SortKey;
+use wh_naming::Named;
 use wh_value::Text;
 
 /// A SELECT over numbered sources.

@@ -84,9 +84,17 @@ drop_t = st.DropTable (codes "T")
 
 -- one day where none is written
 retentions : (retention_of (bound_table (names_in []) (record {
-      replace = false; name = codes "T"; columns = []; retention = None })).value ≡ 1)
+  replace = false;
+  name = codes "T";
+  columns = [];
+  retention = None;
+})).value ≡ 1)
     × (retention_of (bound_table (names_in []) (record {
-      replace = true; name = codes "T"; columns = []; retention = Some 7 })).value ≡ 7)
+      replace = true;
+      name = codes "T";
+      columns = [];
+      retention = Some 7;
+    })).value ≡ 7)
 retentions = (refl, refl)
 
 -- what a literal stands for, wherever it stands
