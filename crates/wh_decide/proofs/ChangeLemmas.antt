@@ -6,7 +6,6 @@
 --     no_table             the target is none
 --     outcome_is, fails_as what its effect on the table is, or that there is none
 --     is_staged, is_alone  an effect in a transaction, and outside of one
---     is_past, is_within   a transaction by itself, by the limits of its numbers
 --     unseen               an INSERT looks at no row of its target
 use Rattle.std.proofs.Common.{◌≡◌, ℕ, true, false, List, [], ◌∷◌, Option, Some, None, option_map, refl, ap, sym, ◌∙◌}
 use Rattle.wh_value.specs.Value.{Row}
@@ -29,7 +28,7 @@ use Rattle.wh_machine.specs.Transaction.{Transaction, begun, staged, staged_in_s
 use Rattle.wh_machine.specs.Sessions.{transaction_in, first_locked, with_transaction}
 use Rattle.wh_machine.specs.Outcome.{Machine, Outcome, Refuses, Does, unless}
 use Rattle.wh_machine.specs.Reading.{objects_seen, instance_read, reading_refusal}
-use Rattle.wh_machine.specs.Statements.{alone, changes_in, changes_rows}
+use Rattle.wh_machine.specs.Statements.{recorded, changes_in, changes_rows}
 use Rattle.wh_decide.specs.Changes.{is_insert}
 use Rattle.wh_decide.proofs.NamingLemmas.{only_width}
 
@@ -143,27 +142,9 @@ is_staged m session id streams change e t u held there =
 pub is_alone : (m : Machine) (session id : ℕ) (streams : List ℕ) (change : Change) (e : Effect)
     → transaction_in m.sessions session ≡ None
     → outcome m session (Gives id streams change e)
-    ≡ alone m (reply_to change e) (staged_in_state m.state (begun m.state.last) id streams e)
+    ≡ recorded m (reply_to change e) m.sessions (staged_in_state m.state (begun m.state.last) id streams e)
 is_alone m session id streams change e closed =
     ap (λ (found : Option Transaction). changes_in m session found (Gives id streams change e)) closed
-
--- ---- a transaction by itself
-
-tested_alone : (m : Machine) (reply : Reply) (t : Transaction) (found : Option (ℕ × Limit))
-    → past_limit m.state.objects t ≡ found
-    → alone m reply t ≡ unless (option_map (λ past. OverLimit past.1) found)
-    (Does reply m.sessions (acts_of m.state.objects t))
-tested_alone m reply t found is =
-    ap (λ (found : Option (ℕ × Limit)). unless (option_map (λ past. OverLimit past.1) found)
-    (Does reply m.sessions (acts_of m.state.objects t))) is
-
-pub is_past : (m : Machine) (reply : Reply) (t : Transaction) (id : ℕ) (which : Limit)
-    → past_limit m.state.objects t ≡ Some (id, which) → alone m reply t ≡ Refuses (OverLimit which)
-is_past m reply t id which is = tested_alone m reply t (Some (id, which)) is
-
-pub is_within : (m : Machine) (reply : Reply) (t : Transaction) → past_limit m.state.objects t ≡ None
-    → alone m reply t ≡ Does reply m.sessions (acts_of m.state.objects t)
-is_within m reply t is = tested_alone m reply t None is
 
 -- an INSERT looks at no row of its target
 pub unseen : (change : Change) (target : List (ℕ × Row)) (i : Instance) → is_insert change ≡ true

@@ -6,7 +6,7 @@
 --     rollback_closed, rollback_open         ROLLBACK
 use Rattle.std.proofs.Common.{◌≡◌, ℕ, List, Option, Some, None, option_map, is_some, true, false, refl, ap, ◌∙◌}
 use Rattle.wh_value.specs.declared.limit.Limit.{Limit}
-use Rattle.wh_reply.specs.Reply.{OverLimit, TransactionOpen, NoTransaction, Begun, Committed}
+use Rattle.wh_reply.specs.Reply.{Reply, OverLimit, TransactionOpen, NoTransaction, Begun, Committed}
 use Rattle.wh_reply.specs.Reply.{CommittedNothing, RolledBack}
 use Rattle.wh_reply.specs.declared.reply.Reply.TheVariants as told
 use Rattle.wh_record.specs.View as records
@@ -15,9 +15,9 @@ use Rattle.wh_state.specs.Act.{Act}
 use Rattle.wh_state.specs.Stored.{Stored}
 use Rattle.wh_state.specs.Written.{commit_for}
 use Rattle.wh_machine.specs.Transaction.{Transaction, acts_of, past_limit}
-use Rattle.wh_machine.specs.Sessions.{transaction_in, number_in, with_begun, with_ended}
+use Rattle.wh_machine.specs.Sessions.{Sessions, transaction_in, number_in, with_begun, with_ended}
 use Rattle.wh_machine.specs.Outcome.{Machine, Refuses, Does, unless}
-use Rattle.wh_machine.specs.Statements.{begin, committed, commit_of, commit, rollback_of, rollback}
+use Rattle.wh_machine.specs.Statements.{begin, recorded, commit_reply, commit_of, commit, rollback_of, rollback}
 use Rattle.wh_decide.specs.declared.decision.Decision.TheVariants.{Do}
 use Rattle.wh_decide.specs.declared.decision.Settlement.TheVariants.{Ends}
 use Rattle.wh_decide.specs.Decision.{Decides}
@@ -51,6 +51,24 @@ unfolding begin
 begin_new m session is = ap (λ (found : Option ℕ). unless (option_map TransactionOpen found)
     (Does (Begun m.state.last) (with_begun m.sessions session m.state.last) None)) is
 
+-- ---- a transaction that commits
+
+recorded_by : (m : Machine) (reply : Reply) (sessions : Sessions) (t : Transaction) (found : Option (ℕ × Limit))
+    → past_limit m.state.objects t ≡ found → recorded m reply sessions t
+    ≡ unless (option_map (λ past. OverLimit past.1) found) (Does reply sessions (acts_of m.state.objects t))
+recorded_by m reply sessions t found is =
+    ap (λ (found : Option (ℕ × Limit)). unless (option_map (λ past. OverLimit past.1) found)
+    (Does reply sessions (acts_of m.state.objects t))) is
+
+pub recorded_past : (m : Machine) (reply : Reply) (sessions : Sessions) (t : Transaction) (id : ℕ) (which : Limit)
+    → past_limit m.state.objects t ≡ Some (id, which) → recorded m reply sessions t ≡ Refuses (OverLimit which)
+recorded_past m reply sessions t id which is = recorded_by m reply sessions t (Some (id, which)) is
+
+pub recorded_within : (m : Machine) (reply : Reply) (sessions : Sessions) (t : Transaction)
+    → past_limit m.state.objects t ≡ None
+    → recorded m reply sessions t ≡ Does reply sessions (acts_of m.state.objects t)
+recorded_within m reply sessions t is = recorded_by m reply sessions t None is
+
 -- ---- COMMIT
 
 pub commit_closed : (m : Machine) (session : ℕ) → transaction_in m.sessions session ≡ None
@@ -64,18 +82,18 @@ pub commit_past : (m : Machine) (session : ℕ) (t : Transaction) (id : ℕ) (wh
 unfolding commit
 commit_past m session t id which held past =
     ap (commit_of m session) held
-    ∙ ap (λ (found : Option (ℕ × Limit)). unless (option_map (λ f. OverLimit f.1) found)
-    (committed m session (acts_of m.state.objects t))) past
+    ∙ recorded_past m (commit_reply m.state.last (acts_of m.state.objects t)) (with_ended m.sessions session) t id which
+    past
 
 commit_within : (m : Machine) (session : ℕ) (t : Transaction) (acts : Option (List Act))
     → transaction_in m.sessions session ≡ Some t → past_limit m.state.objects t ≡ None
-    → acts_of m.state.objects t ≡ acts → commit m session ≡ committed m session acts
+    → acts_of m.state.objects t ≡ acts
+    → commit m session ≡ Does (commit_reply m.state.last acts) (with_ended m.sessions session) acts
 unfolding commit
 commit_within m session t acts held within is =
     ap (commit_of m session) held
-    ∙ ap (λ (found : Option (ℕ × Limit)). unless (option_map (λ f. OverLimit f.1) found)
-    (committed m session (acts_of m.state.objects t))) within
-    ∙ ap (committed m session) is
+    ∙ recorded_within m (commit_reply m.state.last (acts_of m.state.objects t)) (with_ended m.sessions session) t within
+    ∙ ap (λ (made : Option (List Act)). Does (commit_reply m.state.last made) (with_ended m.sessions session) made) is
 
 -- what is written is the commit's changes
 pub commits_changes : (s : Stored) (m : Machine) (session : ℕ) (t : Transaction) (c : code.Commit)

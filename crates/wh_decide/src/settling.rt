@@ -9,7 +9,7 @@ ghost use Rattle.wh_machine.specs.Transaction as transactions;
 ghost use Rattle.wh_machine.specs.Transaction.{Transaction, begun, staged_in_state};
 ghost use Rattle.wh_machine.specs.Sessions.{Sessions, transaction_in, with_transaction};
 ghost use Rattle.wh_machine.specs.Outcome.{Does};
-ghost use Rattle.wh_machine.specs.Statements as machine;
+ghost use Rattle.wh_machine.specs.Statements.{recorded};
 ghost use Rattle.wh_decide.specs.Decision.{Decides};
 ghost use Rattle.wh_decide.specs.Sight.{machine_in, Comes};
 ghost use Rattle.wh_decide.specs.Changes.{IsCountOf};
@@ -31,8 +31,9 @@ pub(crate) fn alone(
     streams: &[u32],
     effect: Effect,
 ) -> Result<Decision, AllocError>
-    ensures { IfOk result (λ decision. Comes sight.now decision (machine.alone (machine_in sight.now)
+    ensures { IfOk result (λ decision. Comes sight.now decision (recorded (machine_in sight.now)
         (replies.reply_to (changes.change_of bound.now.change) (effect_of effect))
+        (machine_in sight.now).sessions
         (staged_in_state (machine_in sight.now).state (begun sight.now.stamp) bound.now.target
         streams.now (effect_of effect)))) }
 {

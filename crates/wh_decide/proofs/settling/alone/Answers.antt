@@ -17,7 +17,7 @@ use Rattle.wh_decide.specs.declared.decision.Decision.TheVariants.{Refuse}
 use Rattle.wh_decide.specs.Decision.{Decides}
 use Rattle.wh_decide.specs.Sight.{machine_in}
 use Rattle.wh_decide.proofs.OutcomeLemmas.{declines, commits_all, commits_none}
-use Rattle.wh_decide.proofs.ChangeLemmas.{is_past, is_within}
+use Rattle.wh_decide.proofs.TransactionLemmas.{recorded_past, recorded_within}
 use Rattle.wh_decide.proofs.settling.alone.Goals.{After-lone_commit}
 use Rattle.wh_decide.proofs.settling.alone.Goals as goal
 
@@ -45,7 +45,7 @@ returns-in-Ok-Some c =
     commits_all (stored_of sight.catalog.now) (sessions_of sight.sessions.now) sight.stamp _ c.in-Ok-Some.commit _
     (reply at) _ (c.reply_to.ensures (e at) c.counts_of-counts.ensures)
     (ap (option_map commit_of) (sym c.in-Ok-Some.field-0-is) ∙ c.in-Ok-Some.ensures.made)
-    (is_within (machine_in sight) (reply at) (t at) c.in-Ok-Some.ensures.within)
+    (recorded_within (machine_in sight) (reply at) (machine_in sight).sessions (t at) c.in-Ok-Some.ensures.within)
 
 pub returns-in-Ok-None : goal.returns-in-Ok-None
 returns-in-Ok-None c =
@@ -54,7 +54,7 @@ returns-in-Ok-None c =
     commits_none (stored_of sight.catalog.now) (sessions_of sight.sessions.now) sight.stamp _ _
     (reply at) _ (c.reply_to-in-Ok-None.ensures (e at) c.counts_of-counts.ensures)
     (ap (option_map commit_of) (sym c.in-Ok-None.field-0-is) ∙ c.in-Ok-None.ensures.made)
-    (is_within (machine_in sight) (reply at) (t at) c.in-Ok-None.ensures.within)
+    (recorded_within (machine_in sight) (reply at) (machine_in sight).sessions (t at) c.in-Ok-None.ensures.within)
 
 pub returns-in-Err-Limit : goal.returns-in-Err-Limit
 returns-in-Err-Limit c =
@@ -62,5 +62,5 @@ returns-in-Err-Limit c =
     let at = (goal.at.returns-in-Err-Limit c).After-lone_commit in
     past (stored_of sight.catalog.now) (sessions_of sight.sessions.now) sight.stamp _ c.in-Err-Limit.which _
     c.in-Err-Limit.which-is
-    (is_past (machine_in sight) (reply at) (t at) _ c.in-Err-Limit.which
+    (recorded_past (machine_in sight) (reply at) (machine_in sight).sessions (t at) _ c.in-Err-Limit.which
     (c.in-Err-Limit.ensures.limit _ _ (ap Err c.in-Err-Limit.field-0-is)))
