@@ -26,7 +26,7 @@ use Rattle.wh_decide.specs.declared.decision.Decision.TheVariants as decisions
 use Rattle.wh_decide.specs.declared.decision.Settlement.{Settlement}
 use Rattle.wh_decide.specs.Decision.{Decides, machine_at, sessions_after, commit_in, answer_of, settlement_of}
 use Rattle.wh_decide.specs.Decision.{StagesInOpen}
-use Rattle.wh_decide.specs.Warehouse.{state_with}
+use Rattle.wh_engine.specs.Warehouse.{state_with, IsAt}
 use Rattle.wh_catalog.specs.Catalog.{stored_of, state_of}
 use Rattle.wh_catalog.specs.declared.catalog.Catalog.{Catalog}
 use Rattle.wh_decide.proofs.CatalogLemmas.{state_is}

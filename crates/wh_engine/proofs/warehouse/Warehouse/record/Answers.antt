@@ -1,4 +1,4 @@
-use Rattle.std.proofs.Common.{◌≡◌, None, option_map, refl, ap}
+use Rattle.std.proofs.Common.{◌≡◌, None, option_map, refl, ap, sym}
 use Rattle.wh_state.specs.State.{State}
 use Rattle.wh_txn.specs.View.{sessions_of}
 use Rattle.wh_decide.specs.Decision.{machine_at}
