@@ -37,7 +37,7 @@ const BOUND: &[&str] = &[
 #[test]
 fn every_kind_of_statement_is_bound(rt: HostRuntime) {
     let alloc = rt.alloc();
-    let live = Live::new(&rt, alloc);
+    let live = Live::new(alloc).expect(&rt, "memory");
     for text in BOUND {
         let found = live.verdict(alloc, text.as_bytes());
         assert_eq!(rt; found, Verdict::Bound, "{text}");
@@ -118,7 +118,7 @@ const REFUSED: &[(&str, Verdict)] = &[
 #[test]
 fn the_first_failing_test_is_found(rt: HostRuntime) {
     let alloc = rt.alloc();
-    let live = Live::new(&rt, alloc);
+    let live = Live::new(alloc).expect(&rt, "memory");
     for (text, wanted) in REFUSED {
         let found = live.verdict(alloc, text.as_bytes());
         assert_eq!(rt; found, *wanted, "{text}");

@@ -1,7 +1,6 @@
 //! What is found of a text over a few objects.
 
-use std::alloc::Global;
-use std::process::Abort;
+use std::alloc::{AllocError, Global};
 use wh_ast::Statement;
 use wh_bind::BindFault;
 use wh_ddl_bind::{Names, TaskRoot, bind};
@@ -36,16 +35,23 @@ pub(crate) struct Live {
 impl Live {
     /// A table T, a stream S on it, a task R with its child C, another task O, and a dynamic table
     /// D. Rows have a column K of numbers.
-    pub(crate) fn new(rt: &impl Abort, alloc: Global) -> Live {
-        Live {
-            table: name(rt, alloc, "T"),
-            stream: name(rt, alloc, "S"),
-            root: name(rt, alloc, "R"),
-            child: name(rt, alloc, "C"),
-            other: name(rt, alloc, "O"),
-            dynamic: name(rt, alloc, "D"),
-            columns: columns(rt, alloc),
-        }
+    pub(crate) fn new(alloc: Global) -> Result<Live, AllocError> {
+        let table = Text::of(alloc, "T")?;
+        let stream = Text::of(alloc, "S")?;
+        let root = Text::of(alloc, "R")?;
+        let child = Text::of(alloc, "C")?;
+        let other = Text::of(alloc, "O")?;
+        let dynamic = Text::of(alloc, "D")?;
+        let columns = columns(alloc)?;
+        Ok(Live {
+            table,
+            stream,
+            root,
+            child,
+            other,
+            dynamic,
+            columns,
+        })
     }
 
     /// What is found of a text.
@@ -64,18 +70,14 @@ impl Live {
     }
 }
 
-fn name(rt: &impl Abort, alloc: Global, text: &str) -> Text {
-    Text::of(alloc, text).expect(rt, "memory")
-}
-
-fn columns(rt: &impl Abort, alloc: Global) -> Vec<Column> {
-    let column = Column {
-        name: name(rt, alloc, "K"),
+fn columns(alloc: Global) -> Result<Vec<Column>, AllocError> {
+    let name = Text::of(alloc, "K")?;
+    let mut columns = Vec::with_capacity(alloc, 1)?;
+    columns.push(Column {
+        name,
         column_type: ColumnType::Number,
-    };
-    let mut columns = Vec::new(alloc);
-    columns.push(column).expect(rt, "memory");
-    columns
+    })?;
+    Ok(columns)
 }
 
 fn named<'a>(name: &'a Text, id: u32, kind: ObjectKind, columns: &'a [Column]) -> Named<'a> {
