@@ -4,12 +4,12 @@
 --     rows_read           the rows of an object; instance_read, those of the sources of a statement
 --     reading_refusal     the first test that reading sources fails
 --     has_data            SYSTEM$STREAM_HAS_DATA
-use Rattle.std.specs.Prelude.{ℕ, false, min, List, [], ◌∷◌, map, Option, Some, None, option_map}
+use Rattle.std.specs.Prelude.{ℕ, false, min, List, [], ◌∷◌, map, Option, Some, None, option_map, unwrap_or}
 use Rattle.std.specs.List.{filter}
 use Rattle.wh_meaning.specs.Bag.{Bag, no_rows, bag_of}
 use Rattle.wh_meaning.specs.Query.{Instance}
 use Rattle.wh_reply.specs.Reply.{Refusal, SourceGone, StaleStream, HasData}
-use Rattle.wh_state.specs.State.{Kind, TableKind, StreamKind, Object, Stream, at_id}
+use Rattle.wh_state.specs.State.{Kind, Object, Stream, stream_in, at_id}
 use Rattle.wh_state.specs.Objects.{table_at, stream_at, name_at}
 use Rattle.wh_net.specs.Stream.{rows_shown, has_rows, is_gone, stale_at}
 use Rattle.wh_machine.specs.Tests.{first_of}
@@ -24,11 +24,12 @@ objects_seen m session = (seen m.state (transaction_in m.sessions session)).obje
 abbrev pub start_in : Machine → ℕ → ℕ
 start_in m session = start_at m.state.last (transaction_in m.sessions session)
 
--- ---- rows: of a table with the transaction's own edits, of a stream by its committed offset and versions
+-- ---- rows: of a stream by its committed offset and versions, of a table with the transaction's own edits
 
 abbrev pub kind_rows : List Object → List Object → ℕ → ℕ → Kind → Bag
-kind_rows committed seen start id (TableKind t) = table_bag (table_at seen id)
-kind_rows committed seen start id (StreamKind s) = bag_of (rows_shown committed s start)
+kind_rows committed seen start id k = unwrap_or
+    (option_map (λ s. bag_of (rows_shown committed s start)) (stream_in k))
+    (table_bag (table_at seen id))
 
 abbrev pub object_rows : List Object → List Object → ℕ → ℕ → Option Object → Bag
 object_rows committed seen start id None = no_rows

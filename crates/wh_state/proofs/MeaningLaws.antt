@@ -6,12 +6,13 @@
 --     stream_at_meant                                                             streams of a file
 use Rattle.std.proofs.Common.{◌≡◌, ℕ, ◌+◌, List, [], length, map, Option, Some, None, option_map, refl, ap, ◌∙◌}
 use Rattle.std.proofs.lemmas.List.{length-map}
-use Rattle.wh_state.specs.State.{Contents, Table, Stream, Kind, TableKind, StreamKind, Object, nothing_held}
-use Rattle.wh_state.specs.State.{columns_in, at_id, with_id, id_of, is_named, live_count}
+use Rattle.wh_state.specs.State.{Contents, Stream, Kind, Object, nothing_held}
+use Rattle.wh_state.specs.State.{table_in, stream_in, columns_in, at_id, with_id, id_of, is_named, live_count}
 use Rattle.wh_state.specs.State.{last_of, content_in, last_content, last_rows, last_partitions, columns_at}
 use Rattle.wh_state.specs.Objects.{table_at, stream_at}
 use Rattle.wh_state.specs.Stored.{StoredVersion, StoredTable, StoredKind, StoredTableKind, StoredStreamKind}
 use Rattle.wh_state.specs.Stored.{StoredObject, standing, stored_columns_in, stored_columns_at, rows_of}
+pub use Rattle.wh_state.specs.Stored.{stored_table_in, stored_stream_in}
 use Rattle.wh_state.specs.Stored.{contents_meant, version_meant, table_meant, kind_meant, object_meant}
 use Rattle.wh_state.proofs.IdLaws.{map_at, map_with, map_last, map_position, map_count}
 
@@ -71,20 +72,12 @@ pub last_partitions_meant : (t : StoredTable) → last_partitions (table_meant t
 last_partitions_meant t = ap (λ (c : Contents). c.partitions) (last_content_meant t)
 
 -- the stored table of an id, if there is one
-abbrev pub stored_table_in : StoredKind → Option StoredTable
-stored_table_in (StoredTableKind t) = Some t
-stored_table_in (StoredStreamKind s) = None
-
 abbrev pub stored_table_of : Option StoredObject → Option StoredTable
 stored_table_of None = None
 stored_table_of (Some o) = stored_table_in o.kind
 
 abbrev pub stored_table_at : List StoredObject → ℕ → Option StoredTable
 stored_table_at objects id = stored_table_of (at_id objects id)
-
-abbrev table_in : Kind → Option Table
-table_in (TableKind t) = Some t
-table_in (StreamKind s) = None
 
 pub table_at_meant : (objects : List StoredObject) (id : ℕ)
     → table_at (map object_meant objects) id ≡ option_map table_meant (stored_table_at objects id)
@@ -99,20 +92,12 @@ table_at_meant objects id =
 -- ---- streams
 
 -- the stored stream of an id, if there is one
-abbrev pub stored_stream_in : StoredKind → Option Stream
-stored_stream_in (StoredTableKind t) = None
-stored_stream_in (StoredStreamKind s) = Some s
-
 abbrev pub stored_stream_of : Option StoredObject → Option Stream
 stored_stream_of None = None
 stored_stream_of (Some o) = stored_stream_in o.kind
 
 abbrev pub stored_stream_at : List StoredObject → ℕ → Option Stream
 stored_stream_at objects id = stored_stream_of (at_id objects id)
-
-abbrev stream_in : Kind → Option Stream
-stream_in (TableKind t) = None
-stream_in (StreamKind s) = Some s
 
 pub stream_at_meant : (objects : List StoredObject) (id : ℕ)
     → stream_at (map object_meant objects) id ≡ stored_stream_at objects id

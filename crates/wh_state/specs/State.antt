@@ -8,6 +8,8 @@
 --     at_rest, stamped         a state as the file keeps it, and at another stamp
 --     at_id, changed_at        an object's id is its place in order of creation, from 1
 --     id_of                    the id of the live object of a name
+--     on_table, table_in       what is done to the table of a kind, and the table that it has
+--     on_stream, stream_in     the same of streams
 --     columns_in, columns_at   the columns of an object
 use Rattle.std.specs.Prelude.{ℕ, zero, suc, ◌+◌, Bool, true, false, ◌&&◌, List, [], ◌∷◌, Option, Some, None, option_map}
 use Rattle.std.specs.Prelude.{◌++◌, slice_get, slice_set, bytes_eq, count_by, codes}
@@ -159,6 +161,24 @@ pub data Kind : Type 0 where
 
 abbrev pub Object : Type 0
 Object = ObjectOf Kind
+
+-- its table changed, if it has one
+abbrev pub on_table : (Table → Table) → Kind → Kind
+on_table f (TableKind t) = TableKind (f t)
+on_table f k = k
+
+abbrev pub table_in : Kind → Option Table
+table_in (TableKind t) = Some t
+table_in _ = None
+
+-- its stream changed, if it is one
+abbrev pub on_stream : (Stream → Stream) → Kind → Kind
+on_stream f (StreamKind s) = StreamKind (f s)
+on_stream f k = k
+
+abbrev pub stream_in : Kind → Option Stream
+stream_in (StreamKind s) = Some s
+stream_in _ = None
 
 abbrev pub columns_in : Kind → List Column
 columns_in (TableKind t) = t.columns
