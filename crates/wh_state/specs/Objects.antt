@@ -3,7 +3,8 @@
 --     table_at, stream_at         the table or the stream of an id
 --     name_at, is_live_at         the name of an object, and whether it lives
 --     is_kind_at                  whether it is of a kind
-use Rattle.std.specs.Prelude.{ℕ, Bool, false, List, [], Option, Some, None, is_some}
+use Rattle.std.specs.Prelude.{ℕ, Bool, false, List, [], Option, is_some}
+use Rattle.std.specs.Option.{option_and_then, option_map_or}
 use Rattle.wh_state.specs.State.{Kind, Object, Table, Stream, table_in, stream_in, at_id}
 
 abbrev pub is_table : Kind → Bool
@@ -18,39 +19,19 @@ abbrev pub as_table : Object → Option Table
 as_table o = table_in o.kind
 
 abbrev pub table_at : List Object → ℕ → Option Table
-table_at objects id = in_object (at_id objects id)
-  where
-    in_object : Option Object → Option Table
-    in_object None = None
-    in_object (Some o) = as_table o
+table_at objects id = option_and_then as_table (at_id objects id)
 
 abbrev pub as_stream : Object → Option Stream
 as_stream o = stream_in o.kind
 
 abbrev pub stream_at : List Object → ℕ → Option Stream
-stream_at objects id = in_object (at_id objects id)
-  where
-    in_object : Option Object → Option Stream
-    in_object None = None
-    in_object (Some o) = as_stream o
+stream_at objects id = option_and_then as_stream (at_id objects id)
 
 abbrev pub name_at : List Object → ℕ → List ℕ
-name_at objects id = in_object (at_id objects id)
-  where
-    in_object : Option Object → List ℕ
-    in_object None = []
-    in_object (Some o) = o.name
+name_at objects id = option_map_or (λ o. o.name) (at_id objects id) []
 
 abbrev pub is_live_at : List Object → ℕ → Bool
-is_live_at objects id = in_object (at_id objects id)
-  where
-    in_object : Option Object → Bool
-    in_object None = false
-    in_object (Some o) = o.is_live
+is_live_at objects id = option_map_or (λ o. o.is_live) (at_id objects id) false
 
 abbrev pub is_kind_at : (Kind → Bool) → List Object → ℕ → Bool
-is_kind_at takes objects id = in_object (at_id objects id)
-  where
-    in_object : Option Object → Bool
-    in_object None = false
-    in_object (Some o) = takes o.kind
+is_kind_at takes objects id = option_map_or (λ o. takes o.kind) (at_id objects id) false

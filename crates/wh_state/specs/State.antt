@@ -14,6 +14,7 @@
 use Rattle.std.specs.Prelude.{ℕ, zero, suc, ◌+◌, Bool, true, false, ◌&&◌, List, [], ◌∷◌, Option, Some, None, option_map}
 use Rattle.std.specs.Prelude.{◌++◌, slice_get, slice_set, bytes_eq, count_by, codes}
 use Rattle.std.specs.List.{position}
+use Rattle.std.specs.Option.{option_map_or}
 use Rattle.std.specs.Ordering.{nat_cmp}
 use Rattle.std.specs.FinMap.{FinMap, empty, insert}
 use Rattle.wh_value.specs.Value.{Row}
@@ -186,11 +187,7 @@ columns_in (StreamKind s) = s.columns
 
 -- none where there is no such object
 abbrev pub columns_at : List Object → ℕ → List Column
-columns_at objects id = in_object (at_id objects id)
-  where
-    in_object : Option Object → List Column
-    in_object None = []
-    in_object (Some o) = columns_in o.kind
+columns_at objects id = option_map_or (λ o. columns_in o.kind) (at_id objects id) []
 
 -- the greatest stamp so far, that of the last commit, and the objects in order of creation
 pub record State : Type 0 where

@@ -6,6 +6,7 @@
 --     meant, Means                        the state that is meant
 use Rattle.std.specs.Prelude.{◌≡◌, ℕ, List, [], map, Option, Some, None}
 use Rattle.std.specs.List.{flat_map}
+use Rattle.std.specs.Option.{option_map_or}
 use Rattle.std.specs.FinMap.{empty}
 use Rattle.wh_value.specs.Column.{Column}
 use Rattle.wh_frame.specs.Partition.{Partition}
@@ -57,11 +58,7 @@ stored_columns_in (StoredStreamKind s) = s.columns
 
 -- none where there is no such object
 abbrev pub stored_columns_at : List StoredObject → ℕ → List Column
-stored_columns_at objects id = in_object (at_id objects id)
-  where
-    in_object : Option StoredObject → List Column
-    in_object None = []
-    in_object (Some o) = stored_columns_in o.kind
+stored_columns_at objects id = option_map_or (λ o. stored_columns_in o.kind) (at_id objects id) []
 
 -- those that stand in a table's last version
 abbrev pub standing : StoredTable → List Partition
