@@ -4,8 +4,9 @@
 --     rows_read           the rows of an object; instance_read, those of the sources of a statement
 --     reading_refusal     the first test that reading sources fails
 --     has_data            SYSTEM$STREAM_HAS_DATA
-use Rattle.std.specs.Prelude.{ℕ, false, min, List, [], ◌∷◌, map, Option, Some, None, option_map, unwrap_or}
+use Rattle.std.specs.Prelude.{ℕ, false, min, List, [], ◌∷◌, map, Option, Some, None, option_map}
 use Rattle.std.specs.List.{filter}
+use Rattle.std.specs.Option.{option_map_or}
 use Rattle.wh_meaning.specs.Bag.{Bag, no_rows, bag_of}
 use Rattle.wh_meaning.specs.Query.{Instance}
 use Rattle.wh_reply.specs.Reply.{Refusal, SourceGone, StaleStream, HasData}
@@ -27,9 +28,8 @@ start_in m session = start_at m.state.last (transaction_in m.sessions session)
 -- ---- rows: of a stream by its committed offset and versions, of a table with the transaction's own edits
 
 abbrev pub kind_rows : List Object → List Object → ℕ → ℕ → Kind → Bag
-kind_rows committed seen start id k = unwrap_or
-    (option_map (λ s. bag_of (rows_shown committed s start)) (stream_in k))
-    (table_bag (table_at seen id))
+kind_rows committed seen start id k =
+    option_map_or (λ s. bag_of (rows_shown committed s start)) (stream_in k) (table_bag (table_at seen id))
 
 abbrev pub object_rows : List Object → List Object → ℕ → ℕ → Option Object → Bag
 object_rows committed seen start id None = no_rows

@@ -7,7 +7,7 @@
 use Rattle.std.proofs.Common.{◌≡◌, ℕ, ◌+◌, List, [], length, map, Option, Some, None, option_map, refl, ap, ◌∙◌}
 use Rattle.std.specs.Option.{option_and_then, option_map_or}
 use Rattle.std.proofs.lemmas.List.{length-map}
-use Rattle.wh_state.specs.State.{Contents, Stream, Kind, Object, nothing_held}
+use Rattle.wh_state.specs.State.{Contents, Stream, Object, nothing_held}
 use Rattle.wh_state.specs.State.{table_in, stream_in, columns_in, at_id, with_id, id_of, is_named, live_count}
 use Rattle.wh_state.specs.State.{last_of, content_in, last_content, last_rows, last_partitions, columns_at}
 use Rattle.wh_state.specs.Objects.{as_table, as_stream, table_at, stream_at}
