@@ -218,7 +218,8 @@ kept_leads s (c ∷ cs) new good leads kept =
 -- ---- what is orderly
 
 pub orderly_stored : (s : Stored) → KeptStored s → IsOrderlyStored s
-orderly_stored s kept = all_map KeptObject IsOrderlyObject (λ o h. IfSome_then (stored_table_in o.kind) h (λ t kept. kept.orderly)) s.objects kept
+orderly_stored s kept = all_map KeptObject IsOrderlyObject
+    (λ o h. IfSome_then (stored_table_in o.kind) h (λ t kept. kept.orderly)) s.objects kept
 
 pub orderly_leads : (commits : List Commit) (s : Stored) → AllByRecursion IsCommit commits
     → Leads first_stored commits s → KeptStored s

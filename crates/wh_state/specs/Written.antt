@@ -27,7 +27,8 @@ version_written stamp id e t = PushesVersion (record {
 
 abbrev pub version_written_to : ℕ → ℕ → Edits → Option StoredObject → List Change
 version_written_to stamp id e None = []
-version_written_to stamp id e (Some o) = option_to_list (option_map (version_written stamp id e) (stored_table_in o.kind))
+version_written_to stamp id e (Some o) =
+    option_to_list (option_map (version_written stamp id e) (stored_table_in o.kind))
 
 abbrev pub act_written : ℕ → List StoredObject → Act → List Change
 act_written stamp objects (MakesTable name columns retention) =
