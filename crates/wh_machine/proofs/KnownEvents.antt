@@ -6,7 +6,6 @@ use Rattle.std.specs.Prelude.{codes}
 use Rattle.std.specs.Fmt.{digits}
 use Rattle.std.specs.FinMap.{empty}
 use Rattle.wh_value.specs.Value.{Number, Null}
-use Rattle.wh_value.specs.Column.{NumberType}
 use Rattle.wh_value.specs.declared.value.Value.TheVariants as v
 use Rattle.wh_value.specs.declared.column.ColumnType as types_of
 use Rattle.wh_value.specs.declared.column.ColumnType.TheVariants as types

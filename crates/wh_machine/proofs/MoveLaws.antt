@@ -6,13 +6,16 @@ use Rattle.std.proofs.Common.{◌≡◌, ℕ, zero, suc, Bool, true, false, cond
 use Rattle.std.proofs.Common.{Option, Some, None, option_map, refl, sym, ap, ◌∙◌, arith}
 use Rattle.std.specs.Prelude.{nat_le, nat_lt, nat_eq, ◌||◌, ◌&&◌, slice_get, slice_set}
 use Rattle.std.specs.List.{list_any}
+use Rattle.std.specs.Option.{option_and_then}
 use Rattle.std.proofs.lemmas.Bool.Decides.{nat_tests}
-use Rattle.wh_state.specs.State.{Stream, Kind, TableKind, StreamKind, Object, Table, with_offset, dropped, at_id}
+use Rattle.std.proofs.lemmas.Iterator.Adapters.{option_map_id}
+use Rattle.wh_state.specs.State.{Stream, Object, Table, with_offset, dropped, at_id}
 use Rattle.wh_state.specs.State.{put_at, changed_at}
 use Rattle.wh_state.specs.Edits.{Edits}
-use Rattle.wh_state.specs.Act.{DropsObject, EditsRows, MovesOffset, edited_object, edited_kind, moved_kind}
+use Rattle.wh_state.specs.Act.{DropsObject, EditsRows, MovesOffset, edited_table, edited_object}
 use Rattle.wh_state.specs.Act.{moved_object, acted, all_acted}
-use Rattle.wh_state.specs.Objects.{stream_at}
+use Rattle.wh_state.specs.Objects.{as_stream, stream_at}
+use Rattle.wh_state.proofs.KindLaws.{stream_of_table, stream_of_stream}
 use Rattle.wh_machine.specs.Offsets.{with_stream, with_streams, offset_move, offset_moves}
 use Rattle.wh_net.specs.Stream.{shown, records_between}
 use Rattle.wh_machine.specs.Transaction.{Staged, edit_act}
@@ -83,81 +86,55 @@ changed_get f xs (suc place) q = by_found (slice_get xs place) refl q
             sym (ap (option_map f) (ap (slice_get xs) (same_number q place is) ∙ there))
         by_number false is = refl
 
--- the stream that an object is
-abbrev kind_stream : Kind → Option Stream
-kind_stream (TableKind t) = None
-kind_stream (StreamKind s) = Some s
-
-abbrev stream_in : Option Object → Option Stream
-stream_in None = None
-stream_in (Some o) = kind_stream o.kind
-
-stream_is : (objects : List Object) (id : ℕ) → stream_at objects id ≡ stream_in (at_id objects id)
-stream_is objects id = by_found (at_id objects id) refl
-  where
-    by_kind : (o : Object) (k : Kind) → at_id objects id ≡ Some o → o.kind ≡ k → stream_at objects id ≡ kind_stream k
-    by_kind o (TableKind t) there is = rw (there, is) refl
-    by_kind o (StreamKind s) there is = rw (there, is) refl
-
-    by_found : (found : Option Object) → at_id objects id ≡ found → stream_at objects id ≡ stream_in found
-    by_found None there = rw there refl
-    by_found (Some o) there = by_kind o o.kind there refl
+-- the stream that an object is, if there is one
+abbrev stream_of : Option Object → Option Stream
+stream_of found = option_and_then as_stream found
 
 -- where the change of an object changes its stream so
 stream_changed : (f : Object → Object) (g : Stream → Stream)
-    → ((o : Object) → kind_stream (f o).kind ≡ option_map g (kind_stream o.kind))
+    → ((o : Object) → as_stream (f o) ≡ option_map g (as_stream o))
     → (objects : List Object) (id q : ℕ)
     → stream_at (changed_at objects id f) q
     ≡ cond (nat_eq q id) (option_map g (stream_at objects q)) (stream_at objects q)
 stream_changed f g so objects id q =
-    stream_is (changed_at objects id f) q ∙ ap stream_in (changed_get f objects id q)
-    ∙ by_number (nat_eq q id) (at_id objects q)
-    ∙ ap (λ (found : Option Stream). cond (nat_eq q id) (option_map g found) found) (sym (stream_is objects q))
+    ap stream_of (changed_get f objects id q) ∙ by_number (nat_eq q id) (at_id objects q)
   where
     by_number : (same : Bool) (found : Option Object)
-        → stream_in (cond same (option_map f found) found)
-        ≡ cond same (option_map g (stream_in found)) (stream_in found)
+        → stream_of (cond same (option_map f found) found)
+        ≡ cond same (option_map g (stream_of found)) (stream_of found)
     by_number true None = refl
     by_number true (Some o) = so o
     by_number false found = refl
 
 -- ---- edits, and offsets that move
 
-either_same : {X : Type 0} (b : Bool) (found : Option X) → cond b (option_map (λ x. x) found) found ≡ found
-either_same true None = refl
-either_same true (Some x) = refl
-either_same false found = refl
+-- where it stays as it is
+stream_stays : (f : Object → Object) → ((o : Object) → as_stream (f o) ≡ as_stream o)
+    → (objects : List Object) (id q : ℕ) → stream_at (changed_at objects id f) q ≡ stream_at objects q
+stream_stays f so objects id q =
+    stream_changed f (λ s. s) (λ o. so o ∙ sym (option_map_id (as_stream o))) objects id q
+    ∙ either_same (nat_eq q id) (stream_at objects q)
+  where
+    either_same : (b : Bool) (found : Option Stream) → cond b (option_map (λ x. x) found) found ≡ found
+    either_same true found = option_map_id found
+    either_same false found = refl
 
 stream_edited : (stamp id : ℕ) (e : Edits) (objects : List Object) (q : ℕ)
     → stream_at (acted stamp objects (EditsRows id e)) q ≡ stream_at objects q
 stream_edited stamp id e objects q =
-    stream_changed (edited_object stamp e) (λ s. s) (λ o. by_kind o.kind) objects id q
-    ∙ either_same (nat_eq q id) (stream_at objects q)
-  where
-    by_kind : (k : Kind) → kind_stream (edited_kind stamp e k) ≡ option_map (λ s. s) (kind_stream k)
-    by_kind (TableKind t) = refl
-    by_kind (StreamKind s) = refl
+    stream_stays (edited_object stamp e) (λ o. stream_of_table (edited_table stamp e) o.kind) objects id q
 
 stream_moved : (stamp id offset : ℕ) (objects : List Object) (q : ℕ)
     → stream_at (acted stamp objects (MovesOffset id offset)) q
     ≡ cond (nat_eq q id) (option_map (with_offset offset) (stream_at objects q)) (stream_at objects q)
 stream_moved stamp id offset objects q =
-    stream_changed (moved_object offset) (with_offset offset) (λ o. by_kind o.kind) objects id q
-  where
-    by_kind : (k : Kind) → kind_stream (moved_kind offset k) ≡ option_map (with_offset offset) (kind_stream k)
-    by_kind (TableKind t) = refl
-    by_kind (StreamKind s) = refl
+    stream_changed (moved_object offset) (with_offset offset)
+    (λ o. stream_of_stream (with_offset offset) o.kind) objects id q
 
 -- where objects are dropped, and where one is made
 pub stream_dropped : (stamp id : ℕ) (objects : List Object) (q : ℕ)
     → stream_at (acted stamp objects (DropsObject id)) q ≡ stream_at objects q
-stream_dropped stamp id objects q =
-    stream_changed dropped (λ s. s) (λ o. by_kind o.kind) objects id q
-    ∙ either_same (nat_eq q id) (stream_at objects q)
-  where
-    by_kind : (k : Kind) → kind_stream k ≡ option_map (λ s. s) (kind_stream k)
-    by_kind (TableKind t) = refl
-    by_kind (StreamKind s) = refl
+stream_dropped stamp id objects q = stream_stays dropped (λ o. refl) objects id q
 
 get_more : {X : Type 0} (xs : List X) (y x : X) (place : ℕ) → slice_get xs place ≡ Some x
     → slice_get (xs ++ y ∷ []) place ≡ Some x
@@ -167,15 +144,13 @@ get_more (z ∷ zs) y x (suc place) there = get_more zs y x place there
 
 pub stream_more : (objects : List Object) (o : Object) (id : ℕ) (s : Stream) → stream_at objects id ≡ Some s
     → stream_at (objects ++ o ∷ []) id ≡ Some s
-stream_more objects o id s at =
-    stream_is (objects ++ o ∷ []) id
-    ∙ by_place id (at_id objects id) refl (sym (stream_is objects id) ∙ at)
+stream_more objects o id s at = by_place id (at_id objects id) refl at
   where
-    by_place : (q : ℕ) (found : Option Object) → at_id objects q ≡ found → stream_in found ≡ Some s
-        → stream_in (at_id (objects ++ o ∷ []) q) ≡ Some s
+    by_place : (q : ℕ) (found : Option Object) → at_id objects q ≡ found → stream_of found ≡ Some s
+        → stream_of (at_id (objects ++ o ∷ []) q) ≡ Some s
     by_place q None there is = absurd cc
     by_place zero (Some p) there is = absurd cc
-    by_place (suc place) (Some p) there is = ap stream_in (get_more objects o p place there) ∙ is
+    by_place (suc place) (Some p) there is = ap stream_of (get_more objects o p place there) ∙ is
 
 -- up to a stamp, or not at all where it is behind it already
 abbrev pub read_to : ℕ → Stream → Stream

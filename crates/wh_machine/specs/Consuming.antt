@@ -13,6 +13,7 @@
 use Rattle.std.specs.Prelude.{◌≡◌, ℕ, ◌-◌, ◌<◌, ◌≤◌, max, Bool, true, false, List, [], ◌∷◌, Option, Some, None}
 use Rattle.std.specs.Prelude.{nat_eq, not, ◌&&◌, is_some}
 use Rattle.std.specs.List.{list_any}
+use Rattle.std.specs.Option.{IsSomeAnd}
 use Rattle.std.specs.FinMap.{empty}
 use Rattle.wh_ast.specs.declared.dml.Dml.{Dml}
 use Rattle.wh_ast.specs.declared.statement.Statement as tree
@@ -20,7 +21,7 @@ use Rattle.wh_ast.specs.declared.statement.Statement.TheVariants as st
 use Rattle.wh_grammar.specs.Spelled.{Asked}
 use Rattle.wh_naming.specs.Changes.{BoundChange, bound_change}
 use Rattle.wh_reply.specs.Reply.{is_refusal}
-use Rattle.wh_state.specs.State.{Rows, Kind, TableKind, StreamKind, Object, Table, Stream}
+use Rattle.wh_state.specs.State.{Rows, Kind, TableKind, StreamKind, Object, Table, Stream, table_in, stream_in}
 use Rattle.wh_state.specs.Objects.{table_at, stream_at}
 use Rattle.wh_machine.specs.Names.{names_from}
 use Rattle.wh_net.specs.Net.{RowChange, patch}
@@ -36,6 +37,10 @@ Extends R [] ys = Unit {0}
 Extends R (x ∷ xs) [] = ⊥
 Extends R (x ∷ xs) (y ∷ ys) = R x y × Extends R xs ys
 
+-- it has the rows that it had before a stamp
+abbrev pub IsLaterTable : ℕ → Table → Table → Type 0
+IsLaterTable stamp old new = (time : ℕ) → time < stamp → rows_at new time ≡ rows_at old time
+
 pub record IsLaterStream (stamp : ℕ) (old new : Stream) : Type 0 where
   pub source : new.source ≡ old.source
   pub mode : new.is_append_only ≡ old.is_append_only
@@ -43,10 +48,8 @@ pub record IsLaterStream (stamp : ℕ) (old new : Stream) : Type 0 where
   pub not_behind : new.offset ≤ max old.offset (stamp - 1)
 
 abbrev pub IsLaterKind : ℕ → Kind → Kind → Type 0
-IsLaterKind stamp (TableKind old) (TableKind new) = (time : ℕ) → time < stamp → rows_at new time ≡ rows_at old time
-IsLaterKind stamp (TableKind old) (StreamKind new) = ⊥
-IsLaterKind stamp (StreamKind old) (TableKind new) = ⊥
-IsLaterKind stamp (StreamKind old) (StreamKind new) = IsLaterStream stamp old new
+IsLaterKind stamp (TableKind old) new = IsSomeAnd (table_in new) (IsLaterTable stamp old)
+IsLaterKind stamp (StreamKind old) new = IsSomeAnd (stream_in new) (IsLaterStream stamp old)
 
 abbrev pub IsLater : ℕ → Object → Object → Type 0
 IsLater stamp old new = IsLaterKind stamp old.kind new.kind

@@ -6,10 +6,11 @@
 --     has_data            SYSTEM$STREAM_HAS_DATA
 use Rattle.std.specs.Prelude.{ℕ, false, min, List, [], ◌∷◌, map, Option, Some, None, option_map}
 use Rattle.std.specs.List.{filter}
+use Rattle.std.specs.Option.{option_map_or}
 use Rattle.wh_meaning.specs.Bag.{Bag, no_rows, bag_of}
 use Rattle.wh_meaning.specs.Query.{Instance}
 use Rattle.wh_reply.specs.Reply.{Refusal, SourceGone, StaleStream, HasData}
-use Rattle.wh_state.specs.State.{Kind, TableKind, StreamKind, Object, Stream, at_id}
+use Rattle.wh_state.specs.State.{Kind, Object, Stream, stream_in, at_id}
 use Rattle.wh_state.specs.Objects.{table_at, stream_at, name_at}
 use Rattle.wh_net.specs.Stream.{rows_shown, has_rows, is_gone, stale_at}
 use Rattle.wh_machine.specs.Tests.{first_of}
@@ -24,11 +25,11 @@ objects_seen m session = (seen m.state (transaction_in m.sessions session)).obje
 abbrev pub start_in : Machine → ℕ → ℕ
 start_in m session = start_at m.state.last (transaction_in m.sessions session)
 
--- ---- rows: of a table with the transaction's own edits, of a stream by its committed offset and versions
+-- ---- rows: of a stream by its committed offset and versions, of a table with the transaction's own edits
 
 abbrev pub kind_rows : List Object → List Object → ℕ → ℕ → Kind → Bag
-kind_rows committed seen start id (TableKind t) = table_bag (table_at seen id)
-kind_rows committed seen start id (StreamKind s) = bag_of (rows_shown committed s start)
+kind_rows committed seen start id k =
+    option_map_or (λ s. bag_of (rows_shown committed s start)) (stream_in k) (table_bag (table_at seen id))
 
 abbrev pub object_rows : List Object → List Object → ℕ → ℕ → Option Object → Bag
 object_rows committed seen start id None = no_rows

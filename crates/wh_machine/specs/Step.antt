@@ -4,7 +4,7 @@
 --     step                      the machine after an event, and its reply
 --     acts_of                   the acts of the commit that an event makes, where it makes one
 --     after, text, refusals     the machine after events, the text of their replies, and how many are refusals
-use Rattle.std.specs.Prelude.{ℕ, ◌+◌, max, Bool, true, false, ◌&&◌, List, [], ◌∷◌, ◌++◌, Option, Some, None}
+use Rattle.std.specs.Prelude.{ℕ, ◌+◌, max, Bool, ◌&&◌, List, [], ◌∷◌, ◌++◌, Option, None}
 use Rattle.std.specs.Prelude.{nat_le, nat_lt, if◌then◌else◌}
 use Rattle.wh_value.specs.Limit.{bound, last_session}
 use Rattle.wh_value.specs.declared.limit.Limit.TheVariants as limits

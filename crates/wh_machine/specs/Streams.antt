@@ -1,6 +1,6 @@
 -- Streams: CREATE STREAM and DROP STREAM.
 --     create_stream, drop_stream     their outcomes
-use Rattle.std.specs.Prelude.{ℕ, List, [], ◌∷◌, ◌++◌, Option}
+use Rattle.std.specs.Prelude.{ℕ, [], ◌∷◌, ◌++◌, Option}
 use Rattle.wh_value.specs.declared.limit.Limit.TheVariants as limits
 use Rattle.wh_ddl_naming.specs.Streams.{NewStream}
 use Rattle.wh_reply.specs.Reply.{Refusal, OverLimit, CreatedStream, DroppedStream}

@@ -13,4 +13,5 @@ pub mod KnownMaps
 pub mod KnownFacts
 pub mod KnownCommits
 pub mod KnownEdits
+pub mod KindLaws
 pub mod KnownChanges

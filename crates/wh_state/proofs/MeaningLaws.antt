@@ -5,13 +5,15 @@
 --     table_at_meant                                                              tables of a file
 --     stream_at_meant                                                             streams of a file
 use Rattle.std.proofs.Common.{◌≡◌, ℕ, ◌+◌, List, [], length, map, Option, Some, None, option_map, refl, ap, ◌∙◌}
+use Rattle.std.specs.Option.{option_and_then, option_map_or}
 use Rattle.std.proofs.lemmas.List.{length-map}
-use Rattle.wh_state.specs.State.{Contents, Table, Stream, Kind, TableKind, StreamKind, Object, nothing_held}
-use Rattle.wh_state.specs.State.{columns_in, at_id, with_id, id_of, is_named, live_count}
+use Rattle.wh_state.specs.State.{Contents, Stream, Object, nothing_held}
+use Rattle.wh_state.specs.State.{table_in, stream_in, columns_in, at_id, with_id, id_of, is_named, live_count}
 use Rattle.wh_state.specs.State.{last_of, content_in, last_content, last_rows, last_partitions, columns_at}
-use Rattle.wh_state.specs.Objects.{table_at, stream_at}
+use Rattle.wh_state.specs.Objects.{as_table, as_stream, table_at, stream_at}
 use Rattle.wh_state.specs.Stored.{StoredVersion, StoredTable, StoredKind, StoredTableKind, StoredStreamKind}
 use Rattle.wh_state.specs.Stored.{StoredObject, standing, stored_columns_in, stored_columns_at, rows_of}
+pub use Rattle.wh_state.specs.Stored.{stored_table_in, stored_stream_in}
 use Rattle.wh_state.specs.Stored.{contents_meant, version_meant, table_meant, kind_meant, object_meant}
 use Rattle.wh_state.proofs.IdLaws.{map_at, map_with, map_last, map_position, map_count}
 
@@ -37,19 +39,12 @@ pub live_count_meant : (objects : List StoredObject) → live_count (map object_
 live_count_meant objects = map_count object_meant (λ o. o.is_live) (λ o. o.is_live) (λ o. refl) objects
 
 -- what is said of the object of an id, if there is one
-abbrev found_as : {O X : Type 0} → X → (O → X) → Option O → X
-found_as none of None = none
-found_as none of (Some o) = of o
-
--- by its kind
-found_meant : {X : Type 0} (none : X) (of : Kind → X) (stored : Option StoredObject → X) → none ≡ stored None
-    → ((o : StoredObject) → of (kind_meant o.kind) ≡ stored (Some o)) → (objects : List StoredObject) (id : ℕ)
-    → found_as none (λ (o : Object). of o.kind) (at_id (map object_meant objects) id) ≡ stored (at_id objects id)
-found_meant none of stored of_none of_some objects id =
-    ap (found_as none (λ (o : Object). of o.kind)) (at_id_meant objects id) ∙ through (at_id objects id)
+found_meant : {X : Type 0} (of : Option Object → X) (stored : Option StoredObject → X) → of None ≡ stored None
+    → ((o : StoredObject) → of (Some (object_meant o)) ≡ stored (Some o)) → (objects : List StoredObject) (id : ℕ)
+    → of (at_id (map object_meant objects) id) ≡ stored (at_id objects id)
+found_meant of stored of_none of_some objects id = ap of (at_id_meant objects id) ∙ through (at_id objects id)
   where
-    through : (found : Option StoredObject)
-        → found_as none (λ (o : Object). of o.kind) (option_map object_meant found) ≡ stored found
+    through : (found : Option StoredObject) → of (option_map object_meant found) ≡ stored found
     through None = of_none
     through (Some o) = of_some o
 
@@ -71,10 +66,6 @@ pub last_partitions_meant : (t : StoredTable) → last_partitions (table_meant t
 last_partitions_meant t = ap (λ (c : Contents). c.partitions) (last_content_meant t)
 
 -- the stored table of an id, if there is one
-abbrev pub stored_table_in : StoredKind → Option StoredTable
-stored_table_in (StoredTableKind t) = Some t
-stored_table_in (StoredStreamKind s) = None
-
 abbrev pub stored_table_of : Option StoredObject → Option StoredTable
 stored_table_of None = None
 stored_table_of (Some o) = stored_table_in o.kind
@@ -82,15 +73,11 @@ stored_table_of (Some o) = stored_table_in o.kind
 abbrev pub stored_table_at : List StoredObject → ℕ → Option StoredTable
 stored_table_at objects id = stored_table_of (at_id objects id)
 
-abbrev table_in : Kind → Option Table
-table_in (TableKind t) = Some t
-table_in (StreamKind s) = None
-
 pub table_at_meant : (objects : List StoredObject) (id : ℕ)
     → table_at (map object_meant objects) id ≡ option_map table_meant (stored_table_at objects id)
 table_at_meant objects id =
-    found_meant None table_in (λ found. option_map table_meant (stored_table_of found)) refl (λ o. by_kind o.kind)
-    objects id
+    found_meant (option_and_then as_table) (λ found. option_map table_meant (stored_table_of found)) refl
+    (λ o. by_kind o.kind) objects id
   where
     by_kind : (k : StoredKind) → table_in (kind_meant k) ≡ option_map table_meant (stored_table_in k)
     by_kind (StoredTableKind t) = refl
@@ -99,10 +86,6 @@ table_at_meant objects id =
 -- ---- streams
 
 -- the stored stream of an id, if there is one
-abbrev pub stored_stream_in : StoredKind → Option Stream
-stored_stream_in (StoredTableKind t) = None
-stored_stream_in (StoredStreamKind s) = Some s
-
 abbrev pub stored_stream_of : Option StoredObject → Option Stream
 stored_stream_of None = None
 stored_stream_of (Some o) = stored_stream_in o.kind
@@ -110,13 +93,10 @@ stored_stream_of (Some o) = stored_stream_in o.kind
 abbrev pub stored_stream_at : List StoredObject → ℕ → Option Stream
 stored_stream_at objects id = stored_stream_of (at_id objects id)
 
-abbrev stream_in : Kind → Option Stream
-stream_in (TableKind t) = None
-stream_in (StreamKind s) = Some s
-
 pub stream_at_meant : (objects : List StoredObject) (id : ℕ)
     → stream_at (map object_meant objects) id ≡ stored_stream_at objects id
-stream_at_meant objects id = found_meant None stream_in stored_stream_of refl (λ o. by_kind o.kind) objects id
+stream_at_meant objects id =
+    found_meant (option_and_then as_stream) stored_stream_of refl (λ o. by_kind o.kind) objects id
   where
     by_kind : (k : StoredKind) → stream_in (kind_meant k) ≡ stored_stream_in k
     by_kind (StoredTableKind t) = refl
@@ -127,7 +107,9 @@ stream_at_meant objects id = found_meant None stream_in stored_stream_of refl (�
 pub columns_meant : (objects : List StoredObject) (id : ℕ)
     → columns_at (map object_meant objects) id ≡ stored_columns_at objects id
 columns_meant objects id =
-    found_meant [] columns_in (found_as [] (λ o. stored_columns_in o.kind)) refl (λ o. by_kind o.kind) objects id
+    found_meant (λ found. option_map_or (λ (o : Object). columns_in o.kind) found [])
+    (λ found. option_map_or (λ (o : StoredObject). stored_columns_in o.kind) found []) refl (λ o. by_kind o.kind)
+    objects id
   where
     by_kind : (k : StoredKind) → columns_in (kind_meant k) ≡ stored_columns_in k
     by_kind (StoredTableKind t) = refl

@@ -8,20 +8,22 @@ use Rattle.std.proofs.Common.{◌≡◌, ℕ, ◌+◌, ◌<◌, ◌≤◌, inl, 
 use Rattle.std.proofs.Common.{map, Option, Some, None, option_map, refl, sym, ap, subst, arith}
 use Rattle.std.specs.Prelude.{not}
 use Rattle.std.specs.List.{AllByRecursion, filter}
+use Rattle.std.specs.Option.{IfSome}
 use Rattle.std.proofs.lemmas.List.{map-append}
+use Rattle.std.proofs.lemmas.Option.{IfSome_then}
 use Rattle.wh_value.specs.Column.{Column}
 use Rattle.wh_frame.specs.Partition.{Partition}
 use Rattle.wh_frame.specs.Spelling.{IsPartition}
 use Rattle.wh_state.specs.State.{new_table, new_object, dropped, content_in, at_id, put_at}
 use Rattle.wh_state.specs.Edits.{is_among, without}
 use Rattle.wh_state.specs.Stored.{StoredTable, StoredKind, StoredTableKind, StoredStreamKind, StoredObject}
-use Rattle.wh_state.specs.Stored.{Stored, first_stored, standing}
+use Rattle.wh_state.specs.Stored.{Stored, first_stored, stored_table_in, standing}
 use Rattle.wh_state.specs.Commit.{VersionChange, Change, CreatesTable, Drops, PushesVersion, CreatesStream, SetsOffset}
 use Rattle.wh_state.specs.Commit.{Commit, pushed, pushed_object, offset_set, offset_set_kind, changed, all_changed}
 use Rattle.wh_state.specs.Commit.{applied, AreApart, AllApart, NumberedFrom}
 use Rattle.wh_state.specs.Commit.{VersionApplies, FitsObject, ChangeApplies, AllApply, Applies, Leads}
 use Rattle.wh_state.specs.Spelling.{NumbersRiseFrom, IsVersionChange, IsChange, IsCommit}
-use Rattle.wh_state.specs.Orderly.{HasRisingRows, IsOrderly, IsOrderlyVersion, IsOrderlyTable, IsOrderlyKind}
+use Rattle.wh_state.specs.Orderly.{HasRisingRows, IsOrderly, IsOrderlyVersion, IsOrderlyTable}
 use Rattle.wh_state.specs.Orderly.{IsOrderlyObject, IsOrderlyStored}
 use Rattle.wh_state.specs.File.{Keeps}
 use Rattle.wh_state.proofs.AllLaws.{all_map, all_filter, all_append, all_more, all_at, all_with, all_changed_at}
@@ -109,8 +111,7 @@ pub record KeptTable (t : StoredTable) : Type 0 where
   pub below : AllByRecursion (λ p. p.number < t.next_partition) (standing t)
 
 abbrev pub KeptKind : StoredKind → Type 0
-KeptKind (StoredTableKind t) = KeptTable t
-KeptKind (StoredStreamKind s) = Unit {0}
+KeptKind k = IfSome (stored_table_in k) KeptTable
 
 abbrev pub KeptObject : StoredObject → Type 0
 KeptObject o = KeptKind o.kind
@@ -216,12 +217,9 @@ kept_leads s (c ∷ cs) new good leads kept =
 
 -- ---- what is orderly
 
-orderly_object : (o : StoredObject) (k : StoredKind) → KeptKind k → IsOrderlyKind k
-orderly_object o (StoredTableKind t) kept = kept.orderly
-orderly_object o (StoredStreamKind s) kept = tt
-
 pub orderly_stored : (s : Stored) → KeptStored s → IsOrderlyStored s
-orderly_stored s kept = all_map KeptObject IsOrderlyObject (λ o h. orderly_object o o.kind h) s.objects kept
+orderly_stored s kept = all_map KeptObject IsOrderlyObject
+    (λ o h. IfSome_then (stored_table_in o.kind) h (λ t kept. kept.orderly)) s.objects kept
 
 pub orderly_leads : (commits : List Commit) (s : Stored) → AllByRecursion IsCommit commits
     → Leads first_stored commits s → KeptStored s

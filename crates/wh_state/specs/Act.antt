@@ -7,7 +7,7 @@ use Rattle.wh_value.specs.Column.{Column}
 use Rattle.wh_frame.specs.Partition.{Partition}
 use Rattle.wh_state.specs.State.{State, Kind, TableKind, StreamKind, Object, Table, Contents, nothing_held}
 use Rattle.wh_state.specs.State.{new_table, new_object, new_stream, with_offset, dropped, version_at, columns_at}
-use Rattle.wh_state.specs.State.{last_content, last_partitions, changed_at}
+use Rattle.wh_state.specs.State.{on_table, on_stream, last_content, last_partitions, changed_at}
 use Rattle.wh_state.specs.Edits.{Edits, partitions_made, contents_after}
 
 pub data Act : Type 0 where
@@ -40,15 +40,13 @@ edited_table stamp e t = record t {
 }
 
 abbrev pub edited_kind : ℕ → Edits → Kind → Kind
-edited_kind stamp e (TableKind t) = TableKind (edited_table stamp e t)
-edited_kind stamp e (StreamKind s) = StreamKind s
+edited_kind stamp e k = on_table (edited_table stamp e) k
 
 abbrev pub edited_object : ℕ → Edits → Object → Object
 edited_object stamp e o = record o { kind = edited_kind stamp e o.kind }
 
 abbrev pub moved_kind : ℕ → Kind → Kind
-moved_kind offset (TableKind t) = TableKind t
-moved_kind offset (StreamKind s) = StreamKind (with_offset offset s)
+moved_kind offset k = on_stream (with_offset offset) k
 
 abbrev pub moved_object : ℕ → Object → Object
 moved_object offset o = record o { kind = moved_kind offset o.kind }

@@ -2,19 +2,21 @@
 --     Change, Commit       what is changed at a stamp
 --     Applies, applied     when a commit may stand in a file, and what the file then says
 --     Leads                commits that apply one after the other
-use Rattle.std.specs.Prelude.{◌≡◌, ℕ, ◌+◌, ◌<◌, ◌≤◌, ◌⊎◌, Bool, IsTrue, List, [], ◌∷◌, ◌++◌, length, Option, Some, None}
+use Rattle.std.specs.Prelude.{◌≡◌, ℕ, ◌+◌, ◌<◌, ◌≤◌, ◌⊎◌, Bool, IsTrue, List, [], ◌∷◌, ◌++◌, length, Option}
 use Rattle.std.specs.Prelude.{IsNone, nat_eq}
 use Rattle.std.specs.List.{AllByRecursion, list_any}
+use Rattle.std.specs.Option.{IfSome, IsSomeAnd}
 use Rattle.wh_value.specs.Column.{Column}
 use Rattle.wh_value.specs.Fits.{row_fits}
 use Rattle.wh_value.specs.Limit.{bound}
 use Rattle.wh_value.specs.declared.limit.Limit.TheVariants as limits
 use Rattle.wh_frame.specs.Partition.{Partition, first_number, last_number}
-use Rattle.wh_state.specs.State.{Stream, new_table, new_object, new_stream, with_offset, dropped, last_of}
+use Rattle.wh_state.specs.State.{new_table, new_object, new_stream, with_offset, dropped, last_of}
 use Rattle.wh_state.specs.State.{at_id, changed_at}
 use Rattle.wh_state.specs.State.{id_of, live_count, VersionOf}
 use Rattle.wh_state.specs.Edits.{without}
 use Rattle.wh_state.specs.Stored.{StoredTable, StoredKind, StoredTableKind, StoredStreamKind, StoredObject, Stored}
+use Rattle.wh_state.specs.Stored.{on_stored_table, on_stored_stream, stored_table_in, stored_stream_in}
 use Rattle.wh_state.specs.Stored.{standing, stored_columns_at}
 
 -- a new table
@@ -67,15 +69,13 @@ pushed stamp c t = record t {
 }
 
 abbrev pub pushed_kind : ℕ → VersionChange → StoredKind → StoredKind
-pushed_kind stamp c (StoredTableKind t) = StoredTableKind (pushed stamp c t)
-pushed_kind stamp c (StoredStreamKind s) = StoredStreamKind s
+pushed_kind stamp c k = on_stored_table (pushed stamp c) k
 
 abbrev pub pushed_object : ℕ → VersionChange → StoredObject → StoredObject
 pushed_object stamp c o = record o { kind = pushed_kind stamp c o.kind }
 
 abbrev pub offset_set_kind : ℕ → StoredKind → StoredKind
-offset_set_kind offset (StoredTableKind t) = StoredTableKind t
-offset_set_kind offset (StoredStreamKind s) = StoredStreamKind (with_offset offset s)
+offset_set_kind offset k = on_stored_stream (with_offset offset) k
 
 abbrev pub offset_set : ℕ → StoredObject → StoredObject
 offset_set offset o = record o { kind = offset_set_kind offset o.kind }
@@ -138,8 +138,7 @@ abbrev pub Stands : List Partition → ℕ → Type 0
 Stands partitions number = IsTrue (list_any (λ p. nat_eq number p.number) partitions)
 
 abbrev pub DoesNotFall : Option (VersionOf (List Partition)) → ℕ → Type 0
-DoesNotFall None timestamp = Unit {0}
-DoesNotFall (Some v) timestamp = v.data_timestamp ≤ timestamp
+DoesNotFall last timestamp = IfSome last (λ v. v.data_timestamp ≤ timestamp)
 
 pub record VersionApplies (t : StoredTable) (c : VersionChange) : Type 0 where
   pub timestamp : DoesNotFall (last_of t.versions) c.data_timestamp
@@ -152,25 +151,20 @@ pub record VersionApplies (t : StoredTable) (c : VersionChange) : Type 0 where
   pub apart : AllApart (without c.removed (standing t)) c.added
 
 abbrev pub FitsKind : StoredKind → VersionChange → Type 0
-FitsKind (StoredTableKind t) c = VersionApplies t c
-FitsKind (StoredStreamKind s) c = ⊥
+FitsKind k c = IsSomeAnd (stored_table_in k) (λ t. VersionApplies t c)
 
 abbrev pub FitsObject : Option StoredObject → VersionChange → Type 0
-FitsObject None c = ⊥
-FitsObject (Some o) c = IsTrue o.is_live × FitsKind o.kind c
+FitsObject found c = IsSomeAnd found (λ o. IsTrue o.is_live × FitsKind o.kind c)
 
 abbrev pub IsLiveObject : Option StoredObject → Type 0
-IsLiveObject None = ⊥
-IsLiveObject (Some o) = IsTrue o.is_live
+IsLiveObject found = IsSomeAnd found (λ o. IsTrue o.is_live)
 
 -- a live table
 abbrev pub IsTableKind : StoredKind → Type 0
-IsTableKind (StoredTableKind t) = Unit {0}
-IsTableKind (StoredStreamKind s) = ⊥
+IsTableKind k = IsSomeAnd (stored_table_in k) (λ t. Unit {0})
 
 abbrev pub IsLiveTable : Option StoredObject → Type 0
-IsLiveTable None = ⊥
-IsLiveTable (Some o) = IsTrue o.is_live × IsTableKind o.kind
+IsLiveTable found = IsSomeAnd found (λ o. IsTrue o.is_live × IsTableKind o.kind)
 
 pub record StreamApplies (objects : List StoredObject) (c : StreamChange) : Type 0 where
   pub object : IsNewObject objects c.id c.name
@@ -178,12 +172,10 @@ pub record StreamApplies (objects : List StoredObject) (c : StreamChange) : Type
 
 -- an offset doesn't fall
 abbrev pub TakesOffset : StoredKind → ℕ → Type 0
-TakesOffset (StoredTableKind t) offset = ⊥
-TakesOffset (StoredStreamKind s) offset = s.offset ≤ offset
+TakesOffset k offset = IsSomeAnd (stored_stream_in k) (λ s. s.offset ≤ offset)
 
 abbrev pub OffsetApplies : Option StoredObject → ℕ → Type 0
-OffsetApplies None offset = ⊥
-OffsetApplies (Some o) offset = IsTrue o.is_live × TakesOffset o.kind offset
+OffsetApplies found offset = IsSomeAnd found (λ o. IsTrue o.is_live × TakesOffset o.kind offset)
 
 abbrev pub ChangeApplies : List StoredObject → Change → Type 0
 ChangeApplies objects (CreatesTable c) = TableApplies objects c

@@ -3,10 +3,10 @@
 --     IsOrderlyTable, IsOrderlyStored     so in each version of a table, and of each table
 use Rattle.std.specs.Prelude.{List, [], map}
 use Rattle.std.specs.List.{AllByRecursion}
+use Rattle.std.specs.Option.{IfSome}
 use Rattle.wh_frame.specs.Partition.{Partition}
 use Rattle.wh_frame.specs.Spelling.{RisesFrom}
-use Rattle.wh_state.specs.Stored.{StoredVersion, StoredTable, StoredKind, StoredTableKind, StoredStreamKind}
-use Rattle.wh_state.specs.Stored.{StoredObject, Stored}
+use Rattle.wh_state.specs.Stored.{StoredVersion, StoredTable, StoredKind, StoredObject, Stored, stored_table_in}
 use Rattle.wh_state.specs.Commit.{AllApart}
 use Rattle.wh_state.specs.Spelling.{NumbersRiseFrom}
 
@@ -25,8 +25,7 @@ abbrev pub IsOrderlyTable : StoredTable → Type 0
 IsOrderlyTable t = AllByRecursion IsOrderlyVersion t.versions
 
 abbrev pub IsOrderlyKind : StoredKind → Type 0
-IsOrderlyKind (StoredTableKind t) = IsOrderlyTable t
-IsOrderlyKind (StoredStreamKind s) = Unit {0}
+IsOrderlyKind k = IfSome (stored_table_in k) IsOrderlyTable
 
 abbrev pub IsOrderlyObject : StoredObject → Type 0
 IsOrderlyObject o = IsOrderlyKind o.kind

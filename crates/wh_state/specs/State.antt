@@ -8,10 +8,13 @@
 --     at_rest, stamped         a state as the file keeps it, and at another stamp
 --     at_id, changed_at        an object's id is its place in order of creation, from 1
 --     id_of                    the id of the live object of a name
+--     on_table, table_in       what is done to the table of a kind, and the table that it has
+--     on_stream, stream_in     the same of streams
 --     columns_in, columns_at   the columns of an object
 use Rattle.std.specs.Prelude.{ℕ, zero, suc, ◌+◌, Bool, true, false, ◌&&◌, List, [], ◌∷◌, Option, Some, None, option_map}
 use Rattle.std.specs.Prelude.{◌++◌, slice_get, slice_set, bytes_eq, count_by, codes}
 use Rattle.std.specs.List.{position}
+use Rattle.std.specs.Option.{option_map_or}
 use Rattle.std.specs.Ordering.{nat_cmp}
 use Rattle.std.specs.FinMap.{FinMap, empty, insert}
 use Rattle.wh_value.specs.Value.{Row}
@@ -160,17 +163,31 @@ pub data Kind : Type 0 where
 abbrev pub Object : Type 0
 Object = ObjectOf Kind
 
+-- its table changed, if it has one
+abbrev pub on_table : (Table → Table) → Kind → Kind
+on_table f (TableKind t) = TableKind (f t)
+on_table f k = k
+
+abbrev pub table_in : Kind → Option Table
+table_in (TableKind t) = Some t
+table_in _ = None
+
+-- its stream changed, if it is one
+abbrev pub on_stream : (Stream → Stream) → Kind → Kind
+on_stream f (StreamKind s) = StreamKind (f s)
+on_stream f k = k
+
+abbrev pub stream_in : Kind → Option Stream
+stream_in (StreamKind s) = Some s
+stream_in _ = None
+
 abbrev pub columns_in : Kind → List Column
 columns_in (TableKind t) = t.columns
 columns_in (StreamKind s) = s.columns
 
 -- none where there is no such object
 abbrev pub columns_at : List Object → ℕ → List Column
-columns_at objects id = in_object (at_id objects id)
-  where
-    in_object : Option Object → List Column
-    in_object None = []
-    in_object (Some o) = columns_in o.kind
+columns_at objects id = option_map_or (λ o. columns_in o.kind) (at_id objects id) []
 
 -- the greatest stamp so far, that of the last commit, and the objects in order of creation
 pub record State : Type 0 where

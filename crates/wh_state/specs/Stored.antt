@@ -1,9 +1,12 @@
 -- What the records of a file say, and the state that it means.
 --     StoredTable, StoredKind, Stored     objects as records say them: a version holds its partitions
+--     on_stored_table, stored_table_in    what is done to the table of a kind, and the table that it has
+--     on_stored_stream, stored_stream_in  the same of streams
 --     rows_of                             the rows of partitions
 --     meant, Means                        the state that is meant
 use Rattle.std.specs.Prelude.{◌≡◌, ℕ, List, [], map, Option, Some, None}
 use Rattle.std.specs.List.{flat_map}
+use Rattle.std.specs.Option.{option_map_or}
 use Rattle.std.specs.FinMap.{empty}
 use Rattle.wh_value.specs.Column.{Column}
 use Rattle.wh_frame.specs.Partition.{Partition}
@@ -31,17 +34,31 @@ pub record Stored : Type 0 where
 abbrev pub first_stored : Stored
 first_stored = record { last = 0; objects = [] }
 
+-- its table changed, if it has one
+abbrev pub on_stored_table : (StoredTable → StoredTable) → StoredKind → StoredKind
+on_stored_table f (StoredTableKind t) = StoredTableKind (f t)
+on_stored_table f k = k
+
+abbrev pub stored_table_in : StoredKind → Option StoredTable
+stored_table_in (StoredTableKind t) = Some t
+stored_table_in _ = None
+
+-- its stream changed, if it is one
+abbrev pub on_stored_stream : (Stream → Stream) → StoredKind → StoredKind
+on_stored_stream f (StoredStreamKind s) = StoredStreamKind (f s)
+on_stored_stream f k = k
+
+abbrev pub stored_stream_in : StoredKind → Option Stream
+stored_stream_in (StoredStreamKind s) = Some s
+stored_stream_in _ = None
+
 abbrev pub stored_columns_in : StoredKind → List Column
 stored_columns_in (StoredTableKind t) = t.columns
 stored_columns_in (StoredStreamKind s) = s.columns
 
 -- none where there is no such object
 abbrev pub stored_columns_at : List StoredObject → ℕ → List Column
-stored_columns_at objects id = in_object (at_id objects id)
-  where
-    in_object : Option StoredObject → List Column
-    in_object None = []
-    in_object (Some o) = stored_columns_in o.kind
+stored_columns_at objects id = option_map_or (λ o. stored_columns_in o.kind) (at_id objects id) []
 
 -- those that stand in a table's last version
 abbrev pub standing : StoredTable → List Partition

@@ -3,12 +3,12 @@
 --     commit_for     the commit of acts at a stamp
 --     kept_after     what the file says behind a commit, where there is one
 --     is_beyond      whether a file has no room for it
-use Rattle.std.specs.Prelude.{ℕ, ◌+◌, Bool, false, List, [], ◌∷◌, ◌++◌, length, Option, Some, None, nat_lt}
+use Rattle.std.specs.Prelude.{ℕ, ◌+◌, Bool, false, List, [], ◌∷◌, ◌++◌, length, Option, Some, None, option_map, nat_lt}
+use Rattle.std.specs.Option.{option_to_list}
 use Rattle.wh_state.specs.State.{at_id}
 use Rattle.wh_state.specs.Edits.{Edits, numbers_gone, partitions_made}
 use Rattle.wh_state.specs.Act.{Act, MakesTable, DropsObject, EditsRows, MakesStream, MovesOffset}
-use Rattle.wh_state.specs.Stored.{StoredTable, StoredKind, StoredTableKind, StoredStreamKind, StoredObject, Stored}
-use Rattle.wh_state.specs.Stored.{standing}
+use Rattle.wh_state.specs.Stored.{StoredTable, StoredObject, Stored, stored_table_in, standing}
 use Rattle.wh_state.specs.Commit.{Change, CreatesTable, Drops, PushesVersion, CreatesStream, SetsOffset, Commit}
 use Rattle.wh_state.specs.Commit.{all_changed, applied}
 use Rattle.wh_state.specs.Spelling.{payload_of}
@@ -27,11 +27,8 @@ version_written stamp id e t = PushesVersion (record {
 
 abbrev pub version_written_to : ℕ → ℕ → Edits → Option StoredObject → List Change
 version_written_to stamp id e None = []
-version_written_to stamp id e (Some o) = to_kind o.kind
-  where
-    to_kind : StoredKind → List Change
-    to_kind (StoredTableKind t) = version_written stamp id e t ∷ []
-    to_kind (StoredStreamKind s) = []
+version_written_to stamp id e (Some o) =
+    option_to_list (option_map (version_written stamp id e) (stored_table_in o.kind))
 
 abbrev pub act_written : ℕ → List StoredObject → Act → List Change
 act_written stamp objects (MakesTable name columns retention) =
