@@ -3,7 +3,7 @@
 --     nothing_consumed     and no batch comes of it
 use Rattle.std.proofs.Common.{◌≡◌, ℕ, Bool, true, false, cond, List, [], ◌∷◌, ◌++◌, map, Option, Some, None}
 use Rattle.std.proofs.Common.{option_map, refl, ap, ◌∙◌, arith}
-use Rattle.std.specs.Prelude.{nat_eq, nat_le, nat_lt, not, ◌&&◌, ◌||◌, is_some}
+use Rattle.std.specs.Prelude.{nat_eq, nat_le, not, ◌&&◌, ◌||◌, is_some}
 use Rattle.std.specs.List.{list_any}
 use Rattle.std.proofs.lemmas.Bool.Decides.{nat_tests}
 use Rattle.wh_ast.specs.declared.dml.Dml.{Dml}
@@ -17,8 +17,8 @@ use Rattle.wh_ddl_naming.specs.Streams.{NewStream}
 use Rattle.wh_ddl_naming.specs.Statements as ddl
 use Rattle.wh_meaning.specs.Bag.{Bag}
 use Rattle.wh_meaning.specs.Query.{eval}
-use Rattle.wh_reply.specs.Reply.{Refusal, Reply, is_refusal, TransactionOpen, Committed, NoSuchSession, Locked}
-use Rattle.wh_reply.specs.Reply.{DdlInTransaction, CreatedTable, DroppedTable, CreatedStream, DroppedStream}
+use Rattle.wh_reply.specs.Reply.{Refusal, Reply, is_refusal, TransactionOpen, NoSuchSession, Locked}
+use Rattle.wh_reply.specs.Reply.{DdlInTransaction, CreatedTable, DroppedTable, DroppedStream}
 use Rattle.wh_state.specs.State.{Table, Stream}
 use Rattle.wh_state.specs.Act.{MakesTable, DropsObject, acted}
 use Rattle.wh_state.specs.Objects.{name_at, table_at, stream_at}

@@ -1,12 +1,11 @@
 -- What an event may come to.
---     HoldsOfEach     what holds of refusals, of replies, and of replies with the acts of one statement
+--     HoldsOfEach     what holds of refusals, of replies, and of replies with the acts of a commit
 --     outcome_of_statement, outcome_of_command, outcome_of_event     it holds of what is carried out
 use Rattle.std.proofs.Common.{◌≡◌, ℕ, zero, suc, ◌-◌, ◌≤◌, Bool, true, false, cond, List, [], ◌∷◌, ◌++◌, map, ◌⊎◌}
 use Rattle.std.proofs.Common.{inl, inr, Option, Some, None, option_map, refl, sym, ap, ◌∙◌, subst, arith}
 use Rattle.std.specs.Prelude.{nat_lt, nat_eq, slice_set}
 use Rattle.std.specs.List.{AllByRecursion, list_any}
 use Rattle.std.proofs.lemmas.Bool.Decides.{nat_tests}
-use Rattle.wh_value.specs.Column.{Column}
 use Rattle.wh_value.specs.declared.limit.Limit.TheVariants as limits
 use Rattle.wh_grammar.specs.Spelled.{Request, TooLong, Unreadable, Asked}
 use Rattle.wh_meaning.specs.Bag.{Bag}
@@ -16,12 +15,12 @@ use Rattle.wh_naming.specs.Changes.{BoundChange, Change, InsertRows, InsertQuery
 use Rattle.wh_naming.specs.Select.{BoundSelect}
 use Rattle.wh_effect.specs.Effect as effects
 use Rattle.wh_effect.specs.Effect.{Effect}
-use Rattle.wh_reply.specs.Reply.{Refusal, Reply, Unsupported, SyntaxError, NoSuchSession, TypeMismatch, OverLimit}
+use Rattle.wh_reply.specs.Reply.{Refusal, Reply, Unsupported, SyntaxError, NoSuchSession, OverLimit}
 use Rattle.wh_reply.specs.Reply.{NumberOutOfRange, NoTransaction, CreatedTable, DroppedTable, CreatedStream}
-use Rattle.wh_reply.specs.Reply.{DroppedStream, HasData, Begun, Committed, CommittedNothing, RolledBack, Listing, Idle}
+use Rattle.wh_reply.specs.Reply.{DroppedStream, HasData, Begun, RolledBack, Listing, Idle}
 use Rattle.wh_reply.specs.Reply.{Locked}
 use Rattle.wh_reply.specs.Reply.{is_refusal}
-use Rattle.wh_state.specs.State.{State, Object, Table, Stream, id_of}
+use Rattle.wh_state.specs.State.{State, Object, Table, Stream}
 use Rattle.wh_state.specs.Act.{Act, MakesTable, DropsObject, EditsRows, MakesStream, MovesOffset, acted}
 use Rattle.wh_state.specs.Act.{all_acted}
 use Rattle.wh_machine.specs.Tests.{first_of}
@@ -29,7 +28,7 @@ use Rattle.wh_state.specs.Objects.{name_at, table_at, stream_at}
 use Rattle.wh_machine.specs.Offsets.{with_streams}
 use Rattle.wh_machine.specs.Offsets.{offset_move, offset_moves, acts_of_commit}
 use Rattle.wh_state.proofs.AllLaws.{all_map, all_append, all_with}
-use Rattle.wh_state.proofs.ActLaws.{AreMoves, AreEditsFrom, IsOfOneStatement}
+use Rattle.wh_state.proofs.ActLaws.{IsNoEdit, AreNoEdits, AreEditsFrom, no_more_edits, next_edit}
 use Rattle.wh_net.specs.Stream.{rows_shown, has_rows}
 use Rattle.wh_machine.specs.Transaction.{Staged, Transaction, begun, start_of, start_at, staged, staged_in_state}
 use Rattle.wh_machine.specs.Transaction.{edit_act, touched, acts_of, commit_refusal, next_row_of}
@@ -69,12 +68,9 @@ pub record KeepsSessions (m : Machine) (sessions : Sessions) : Type 0 where
 
 -- an offset moves on, to a stamp before the last one
 abbrev pub MovesOn : State → Act → Type 0
-MovesOn s (MakesTable name columns retention) = Unit {0}
-MovesOn s (DropsObject id) = Unit {0}
-MovesOn s (EditsRows id e) = Unit {0}
-MovesOn s (MakesStream name source is_append_only) = Unit {0}
 MovesOn s (MovesOffset id offset) =
     (offset ≤ s.last - 1) × ((old : Stream) → stream_at s.objects id ≡ Some old → old.offset ≤ offset)
+MovesOn s _ = Unit {0}
 
 abbrev pub AllMoveOn : State → List Act → Type 0
 AllMoveOn s acts = AllByRecursion (MovesOn s) acts
@@ -95,7 +91,7 @@ pub record HoldsOfEach (m : Machine) (P : Outcome → Type 0) : Type 0 where
   pub answer : (reply : Reply) (sessions : Sessions) → is_refusal reply ≡ false → KeepsSessions m sessions
       → P (Does reply sessions None)
   pub commit : (reply : Reply) (sessions : Sessions) (acts : List Act) → is_refusal reply ≡ false
-      → KeepsSessions m sessions → IsOfOneStatement acts → KeepsMovingOn m acts → SparesHeld m sessions acts
+      → KeepsSessions m sessions → AreEditsFrom 0 acts → KeepsMovingOn m acts → SparesHeld m sessions acts
       → P (Does reply sessions (Some acts))
 
 tested : (m : Machine) (P : Outcome → Type 0) → HoldsOfEach m P → (found : Option Refusal) (o : Outcome) → P o
@@ -124,18 +120,16 @@ answered m P each reply accepted = each.answer reply m.sessions accepted (same_s
 
 -- acts that make and drop objects
 abbrev Defines : Act → Type 0
-Defines (MakesTable name columns retention) = Unit {0}
-Defines (DropsObject id) = Unit {0}
 Defines (EditsRows id e) = ⊥
-Defines (MakesStream name source is_append_only) = Unit {0}
 Defines (MovesOffset id offset) = ⊥
+Defines _ = Unit {0}
 
-moves_none : (s : State) (act : Act) → Defines act → MovesOn s act
-moves_none s (MakesTable name columns retention) is = tt
-moves_none s (DropsObject id) is = tt
-moves_none s (EditsRows id e) is = absurd is
-moves_none s (MakesStream name source is_append_only) is = tt
-moves_none s (MovesOffset id offset) is = absurd is
+defines_only : (s : State) (act : Act) → Defines act → IsNoEdit act × MovesOn s act
+defines_only s (MakesTable name columns retention) is = (tt, tt)
+defines_only s (DropsObject id) is = (tt, tt)
+defines_only s (EditsRows id e) is = absurd is
+defines_only s (MakesStream name source is_append_only) is = (tt, tt)
+defines_only s (MovesOffset id offset) is = absurd is
 
 spares_all : (stamp : ℕ) (objects : List Object) (acts : List Act) → AllByRecursion Defines acts → (id : ℕ) (s : Stream)
     → stream_at objects id ≡ Some s → stream_at (all_acted stamp objects acts) id ≡ Some s
@@ -153,11 +147,12 @@ spares_all stamp objects (EditsRows other e ∷ acts) are id s at = absurd are.0
 spares_all stamp objects (MovesOffset other offset ∷ acts) are id s at = absurd are.0
 
 defined : (m : Machine) (P : Outcome → Type 0) → HoldsOfEach m P → (reply : Reply) (acts : List Act)
-    → is_refusal reply ≡ false → IsOfOneStatement acts → AllByRecursion Defines acts
+    → is_refusal reply ≡ false → AllByRecursion Defines acts
     → P (commits m reply acts)
-defined m P each reply acts accepted shape are =
-    each.commit reply m.sessions acts accepted (same_sessions m) shape
-    (λ begun. all_map Defines (MovesOn m.state) (moves_none m.state) acts are)
+defined m P each reply acts accepted are =
+    each.commit reply m.sessions acts accepted (same_sessions m)
+    (no_more_edits (all_map Defines IsNoEdit (λ act is. (defines_only m.state act is).0) acts are))
+    (λ begun. all_map Defines (MovesOn m.state) (λ act is. (defines_only m.state act is).1) acts are)
     (λ apart q id s before behind at. spares_all m.state.last m.state.objects acts are id s at)
 
 created : (m : Machine) (P : Outcome → Type 0) → HoldsOfEach m P → (n : NewTable)
@@ -168,9 +163,9 @@ created m P each n = by_replaced n.replaced
     made = MakesTable n.name n.columns (retention_of n)
 
     by_replaced : (replaced : Option ℕ) → P (commits m (CreatedTable n.name) (drops replaced ++ made ∷ []))
-    by_replaced None = defined m P each (CreatedTable n.name) (made ∷ []) refl tt (tt, tt)
+    by_replaced None = defined m P each (CreatedTable n.name) (made ∷ []) refl (tt, tt)
     by_replaced (Some id) =
-        defined m P each (CreatedTable n.name) (DropsObject id ∷ made ∷ []) refl tt (tt, (tt, tt))
+        defined m P each (CreatedTable n.name) (DropsObject id ∷ made ∷ []) refl (tt, (tt, tt))
 
 outcome_of_creation : (m : Machine) (P : Outcome → Type 0) → HoldsOfEach m P → (wrong : Option Refusal) (n : NewTable)
     → P (create_table m wrong n)
@@ -179,7 +174,7 @@ outcome_of_creation m P each wrong n = tested m P each (table_refusal m.state wr
 
 dropped : (m : Machine) (P : Outcome → Type 0) → HoldsOfEach m P → (reply : Reply) (id : ℕ)
     → is_refusal reply ≡ false → P (commits m reply (DropsObject id ∷ []))
-dropped m P each reply id accepted = defined m P each reply (DropsObject id ∷ []) accepted tt (tt, tt)
+dropped m P each reply id accepted = defined m P each reply (DropsObject id ∷ []) accepted (tt, tt)
 
 outcome_of_drop : (m : Machine) (P : Outcome → Type 0) → HoldsOfEach m P → (wrong : Option Refusal) (id : ℕ)
     → P (drop_table m wrong id)
@@ -192,7 +187,7 @@ outcome_of_stream : (m : Machine) (P : Outcome → Type 0) → HoldsOfEach m P �
 unfolding create_stream
 outcome_of_stream m P each wrong n =
     tested m P each (stream_refusal m.state wrong n) _
-    (defined m P each (CreatedStream n.name) (MakesStream n.name n.table n.is_append_only ∷ []) refl tt (tt, tt))
+    (defined m P each (CreatedStream n.name) (MakesStream n.name n.table n.is_append_only ∷ []) refl (tt, tt))
 
 outcome_of_stream_drop : (m : Machine) (P : Outcome → Type 0) → HoldsOfEach m P → (wrong : Option Refusal) (id : ℕ)
     → P (drop_stream m wrong id)
@@ -207,26 +202,18 @@ outcome_of_definition m P each session old o holds = tested m P each _ _ (tested
 
 -- ---- the acts of commits that edit tables and read streams
 
-moves_append : (first more : List Act) → AreMoves first → AreMoves more → AreMoves (first ++ more)
-moves_append [] more moves others = others
-moves_append (MovesOffset id offset ∷ first) more moves others = moves_append first more moves others
-moves_append (MakesTable n c r ∷ first) more moves others = absurd moves
-moves_append (MakesStream n s a ∷ first) more moves others = absurd moves
-moves_append (DropsObject id ∷ first) more moves others = absurd moves
-moves_append (EditsRows id e ∷ first) more moves others = absurd moves
-
-one_moves : (start id : ℕ) (found : Option Stream) → AreMoves (offset_move start id found)
+one_moves : (start id : ℕ) (found : Option Stream) → AreNoEdits (offset_move start id found)
 one_moves start id None = tt
 one_moves start id (Some s) = by_test (nat_lt s.offset start)
   where
-    by_test : (later : Bool) → AreMoves (cond later (MovesOffset id start ∷ []) [])
-    by_test true = tt
+    by_test : (later : Bool) → AreNoEdits (cond later (MovesOffset id start ∷ []) [])
+    by_test true = (tt, tt)
     by_test false = tt
 
-they_move : (objects : List Object) (start : ℕ) (ids : List ℕ) → AreMoves (offset_moves objects start ids)
+they_move : (objects : List Object) (start : ℕ) (ids : List ℕ) → AreNoEdits (offset_moves objects start ids)
 they_move objects start [] = tt
 they_move objects start (id ∷ ids) =
-    moves_append (offset_move start id (stream_at objects id)) (offset_moves objects start ids)
+    all_append IsNoEdit (offset_move start id (stream_at objects id)) (offset_moves objects start ids)
     (one_moves start id (stream_at objects id)) (they_move objects start ids)
 
 one_moves_on : (s : State) (start id : ℕ) → start ≤ s.last - 1 → (found : Option Stream)
@@ -247,25 +234,11 @@ all_move_on s start h (id ∷ ids) =
     all_append (MovesOn s) (offset_move start id (stream_at s.objects id)) (offset_moves s.objects start ids)
     (one_moves_on s start id h (stream_at s.objects id) refl) (all_move_on s start h ids)
 
-edits_of_rising : (least : ℕ) (found : List (ℕ × Staged)) (moves : List Act) → RiseFrom least found → AreMoves moves
-    → AreEditsFrom least (map edit_act found ++ moves)
-edits_of_rising least [] [] rising are = tt
-edits_of_rising least [] (MovesOffset id offset ∷ moves) rising are = are
-edits_of_rising least [] (MakesTable n c r ∷ moves) rising are = absurd are
-edits_of_rising least [] (MakesStream n s a ∷ moves) rising are = absurd are
-edits_of_rising least [] (DropsObject id ∷ moves) rising are = absurd are
-edits_of_rising least [] (EditsRows id e ∷ moves) rising are = absurd are
-edits_of_rising least (entry ∷ others) moves rising are =
-    (rising.0, edits_of_rising (suc entry.0) others moves rising.1 are)
-
--- what is so from some id on is of one statement
-of_one : (least : ℕ) (acts : List Act) → AreEditsFrom least acts → IsOfOneStatement acts
-of_one least [] are = tt
-of_one least (EditsRows id e ∷ acts) are = are.1
-of_one least (MovesOffset id offset ∷ acts) are = are
-of_one least (MakesTable n c r ∷ acts) are = absurd are
-of_one least (MakesStream n s a ∷ acts) are = absurd are
-of_one least (DropsObject id ∷ acts) are = absurd are
+edits_of_rising : (least : ℕ) (found : List (ℕ × Staged)) (more : List Act) → RiseFrom least found → AreNoEdits more
+    → AreEditsFrom least (map edit_act found ++ more)
+edits_of_rising least [] more rising are = no_more_edits are
+edits_of_rising least (entry ∷ others) more rising are =
+    next_edit rising.0 (edits_of_rising (suc entry.0) others more rising.1 are)
 
 edits_move_on : (s : State) (found : List (ℕ × Staged)) (moves : List Act) → AllMoveOn s moves
     → AllMoveOn s (map edit_act found ++ moves)
@@ -274,7 +247,7 @@ edits_move_on s (entry ∷ others) moves on = (tt, edits_move_on s others moves 
 
 -- what holds of the acts of a commit, where it makes one
 pub record IsCommitOf (m : Machine) (sessions : Sessions) (acts : List Act) : Type 0 where
-  pub shape : IsOfOneStatement acts
+  pub shape : AreEditsFrom 0 acts
   pub moves : KeepsMovingOn m acts
   pub spares : SparesHeld m sessions acts
 
@@ -291,9 +264,8 @@ is_commit : (m : Machine) (sessions : Sessions) (start : ℕ) (moving : List ℕ
     → RiseFrom 0 found → (AreBegun m.state.last m.sessions → start ≤ m.state.last - 1) → MovesFree m sessions moving
     → IsCommitOf m sessions (map edit_act found ++ offset_moves m.state.objects start moving)
 is_commit m sessions start moving found rising before free = record {
-  shape = of_one 0 (map edit_act found ++ offset_moves m.state.objects start moving)
-      (edits_of_rising 0 found (offset_moves m.state.objects start moving) rising
-      (they_move m.state.objects start moving));
+  shape = edits_of_rising 0 found (offset_moves m.state.objects start moving) rising
+      (they_move m.state.objects start moving);
   moves = λ begun. edits_move_on m.state found (offset_moves m.state.objects start moving)
       (all_move_on m.state start (before begun) moving);
   spares = λ apart q id s held still at.

@@ -11,8 +11,8 @@ use Rattle.wh_meaning.specs.Bag.{bag_of}
 use Rattle.wh_naming.specs.Changes.{Change}
 use Rattle.wh_effect.specs.Effect.{Effect}
 use Rattle.wh_reply.specs.Reply.{Refusal, Reply, is_refusal}
-use Rattle.wh_state.specs.State.{Kind, TableKind, StreamKind, Object, Table, Stream, at_id, with_offset}
-use Rattle.wh_state.specs.Objects.{table_at, stream_at}
+use Rattle.wh_state.specs.State.{Kind, TableKind, StreamKind, Object, Stream, at_id, with_offset}
+use Rattle.wh_state.specs.Objects.{stream_at}
 use Rattle.wh_machine.specs.Offsets.{offset_moves, acts_of_commit}
 use Rattle.wh_machine.specs.Changes.{Gives, reply_to}
 use Rattle.wh_net.specs.Stream.{rows_shown}

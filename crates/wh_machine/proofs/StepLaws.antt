@@ -16,7 +16,7 @@ use Rattle.wh_state.specs.Act.{Act, done}
 use Rattle.wh_state.specs.Stored.{Stored, meant}
 use Rattle.wh_state.specs.Written.{commit_for, kept_after}
 use Rattle.wh_state.specs.Orderly.{IsOrderlyStored}
-use Rattle.wh_state.proofs.ActLaws.{IsOfOneStatement, written_meant}
+use Rattle.wh_state.proofs.ActLaws.{AreEditsFrom, written_meant}
 use Rattle.wh_machine.specs.Outcome.{Machine, Outcome, Refuses, Does, settled, acts_in, rest_of}
 use Rattle.wh_machine.specs.Step.{Event, reading_of, stamp_of, at_stamp, has_stamp, decided, step, acts_of}
 use Rattle.wh_machine.specs.Made.{made}
@@ -85,13 +85,13 @@ committed_kept m e before = by_stamp (has_stamp m e) refl
 
 -- ---- what a file means
 
-abbrev pub HasActsOfOne : Outcome → Type 0
-HasActsOfOne (Refuses why) = Unit {0}
-HasActsOfOne (Does reply sessions None) = Unit {0}
-HasActsOfOne (Does reply sessions (Some acts)) = IsOfOneStatement acts
+abbrev pub HasEditsFirst : Outcome → Type 0
+HasEditsFirst (Refuses why) = Unit {0}
+HasEditsFirst (Does reply sessions None) = Unit {0}
+HasEditsFirst (Does reply sessions (Some acts)) = AreEditsFrom 0 acts
 
 -- what an outcome comes to, over an orderly file that means the state but for its last stamp
-pub settled_meant : (s : Stored) (m : Machine) (stamp : ℕ) (o : Outcome) → IsOrderlyStored s → HasActsOfOne o
+pub settled_meant : (s : Stored) (m : Machine) (stamp : ℕ) (o : Outcome) → IsOrderlyStored s → HasEditsFirst o
     → m.state ≡ record (meant s) { last = m.state.last }
     → (settled (at_stamp m stamp) o).0.state
     ≡ record (meant (kept_after s (option_map (commit_for s stamp) (acts_in o)))) { last = stamp }
@@ -101,8 +101,8 @@ settled_meant s m stamp (Does reply sessions (Some acts)) orderly one is =
     ap (λ (t : State). done (stamped t stamp) acts) is
     ∙ ap (λ (t : State). stamped t stamp) (sym (written_meant s stamp acts one orderly))
 
-each_of_one : (m : Machine) → HoldsOfEach m HasActsOfOne
-each_of_one m = record {
+each_edits_first : (m : Machine) → HoldsOfEach m HasEditsFirst
+each_edits_first m = record {
   refusal = λ why. tt;
   answer = λ reply sessions accepted keeps. tt;
   commit = λ reply sessions acts accepted keeps shape on spares. shape;
@@ -118,7 +118,7 @@ pub decided_meant : (s : Stored) (m : Machine) (e : Event) → IsOrderlyStored s
     }
 decided_meant s m e orderly is =
     settled_meant s m (stamp_of m.state (reading_of e)) (decided m e) orderly
-    (outcome_of_event (ready m e) HasActsOfOne (each_of_one (ready m e)) e) is
+    (outcome_of_event (ready m e) HasEditsFirst (each_edits_first (ready m e)) e) is
 
 -- the event's commit leaves a file that means the state after it but for its last stamp
 pub step_meant : (s : Stored) (m : Machine) (e : Event) → IsOrderlyStored s
