@@ -1,9 +1,9 @@
 -- What an event may come to.
---     HoldsOfEach     what holds of refusals, of replies, and of replies with the acts of a commit
---     outcome_of_statement, outcome_of_command, outcome_of_event     it holds of what is carried out
+--     IsLawful       what holds of the reply, of the sessions and of the acts of an outcome
+--     lawful         it holds of what each event does
 use Rattle.std.proofs.Common.{◌≡◌, ℕ, zero, suc, ◌-◌, ◌≤◌, Bool, true, false, cond, List, [], ◌∷◌, ◌++◌, map, ◌⊎◌}
 use Rattle.std.proofs.Common.{inl, inr, Option, Some, None, option_map, refl, sym, ap, ◌∙◌, subst, arith}
-use Rattle.std.specs.Prelude.{nat_lt, nat_eq, slice_set}
+use Rattle.std.specs.Prelude.{IsTrue, nat_lt, nat_eq, slice_set}
 use Rattle.std.specs.List.{AllByRecursion, list_any}
 use Rattle.std.proofs.lemmas.Bool.Decides.{nat_tests}
 use Rattle.wh_value.specs.declared.limit.Limit.TheVariants as limits
@@ -41,6 +41,7 @@ use Rattle.wh_ddl_naming.specs.Statements.{Bound}
 use Rattle.wh_machine.specs.Names.{refusal_of, naming_refusal}
 use Rattle.wh_machine.specs.Changes.{Changed, Fails, Gives, given, given_on, fails_or, reply_to}
 use Rattle.wh_machine.specs.Outcome.{Machine, Outcome, Refuses, Does, answers, commits, unless, last_test}
+use Rattle.wh_machine.specs.Outcome.{settled, acts_in}
 use Rattle.wh_machine.specs.Queries.{listing_of}
 use Rattle.wh_machine.specs.Reading.{objects_seen, start_in, instance_read, reading_refusal, asked, has_data}
 use Rattle.wh_machine.specs.Definitions.{drops, defines}
@@ -85,38 +86,51 @@ SparesHeld m sessions acts = AreApart m.sessions → (q id : ℕ) (s : Stream) �
     → reads sessions q id ≡ true → stream_at m.state.objects id ≡ Some s
     → stream_at (all_acted m.state.last m.state.objects acts) id ≡ Some s
 
--- no reply of a commit, or without one, is a refusal
-pub record HoldsOfEach (m : Machine) (P : Outcome → Type 0) : Type 0 where
-  pub refusal : (why : Refusal) → P (Refuses why)
-  pub answer : (reply : Reply) (sessions : Sessions) → is_refusal reply ≡ false → KeepsSessions m sessions
-      → P (Does reply sessions None)
-  pub commit : (reply : Reply) (sessions : Sessions) (acts : List Act) → is_refusal reply ≡ false
-      → KeepsSessions m sessions → AreEditsFrom 0 acts → KeepsMovingOn m acts → SparesHeld m sessions acts
-      → P (Does reply sessions (Some acts))
+-- what holds of the acts of a commit that leaves these sessions
+pub record IsCommitOf (m : Machine) (sessions : Sessions) (acts : List Act) : Type 0 where
+  pub shape : AreEditsFrom 0 acts
+  pub moves : KeepsMovingOn m acts
+  pub spares : SparesHeld m sessions acts
 
-tested : (m : Machine) (P : Outcome → Type 0) → HoldsOfEach m P → (found : Option Refusal) (o : Outcome) → P o
-    → P (unless found o)
-tested m P each (Some why) o holds = each.refusal why
-tested m P each None o holds = holds
+abbrev pub AreOfCommit : Machine → Sessions → Option (List Act) → Type 0
+AreOfCommit m sessions None = Unit {0}
+AreOfCommit m sessions (Some acts) = IsCommitOf m sessions acts
 
-tested_last : (m : Machine) (P : Outcome → Type 0) → HoldsOfEach m P → (found : Option Refusal) (o : Outcome) → P o
-    → P (last_test found o)
-tested_last m P each found (Refuses why) holds = holds
-tested_last m P each found (Does reply sessions acts) holds = tested m P each found (Does reply sessions acts) holds
-
-either : (P : Outcome → Type 0) (b : Bool) (o p : Outcome) → P o → P p → P (cond b o p)
-either P true o p first second = first
-either P false o p first second = second
-
--- ---- outcomes that leave the sessions as they are
+pub record IsLawful (m : Machine) (o : Outcome) : Type 0 where
+  -- where the reply is a refusal, all is as it was
+  pub refused : IsTrue (is_refusal (settled m o).1) → (acts_in o ≡ None) × ((settled m o).0 ≡ m)
+  pub sessions : KeepsSessions m (settled m o).0.sessions
+  pub acts : AreOfCommit m (settled m o).0.sessions (acts_in o)
 
 same_sessions : (m : Machine) → KeepsSessions m m.sessions
 same_sessions m =
     record { begun = λ begun. begun; apart = λ apart. apart; number = λ q id before behind. refl }
 
-answered : (m : Machine) (P : Outcome → Type 0) → HoldsOfEach m P → (reply : Reply) → is_refusal reply ≡ false
-    → P (answers m reply)
-answered m P each reply accepted = each.answer reply m.sessions accepted (same_sessions m)
+refuses : (m : Machine) (why : Refusal) → IsLawful m (Refuses why)
+refuses m why = record { refused = λ is. (refl, refl); sessions = same_sessions m; acts = tt }
+
+does : (m : Machine) (reply : Reply) (sessions : Sessions) (acts : Option (List Act)) → is_refusal reply ≡ false
+    → KeepsSessions m sessions → AreOfCommit m sessions acts
+    → IsLawful m (Does reply sessions acts)
+does m reply sessions acts accepted keeps are =
+    record { refused = λ is. absurd cc; sessions = keeps; acts = are }
+
+tested : (m : Machine) (found : Option Refusal) (o : Outcome) → IsLawful m o → IsLawful m (unless found o)
+tested m (Some why) o holds = refuses m why
+tested m None o holds = holds
+
+tested_last : (m : Machine) (found : Option Refusal) (o : Outcome) → IsLawful m o → IsLawful m (last_test found o)
+tested_last m found (Refuses why) holds = holds
+tested_last m found (Does reply sessions acts) holds = tested m found (Does reply sessions acts) holds
+
+either : (m : Machine) (b : Bool) (o p : Outcome) → IsLawful m o → IsLawful m p → IsLawful m (cond b o p)
+either m true o p first second = first
+either m false o p first second = second
+
+-- ---- outcomes that leave the sessions as they are
+
+answered : (m : Machine) (reply : Reply) → is_refusal reply ≡ false → IsLawful m (answers m reply)
+answered m reply accepted = does m reply m.sessions None accepted (same_sessions m) tt
 
 -- acts that make and drop objects
 abbrev Defines : Act → Type 0
@@ -146,59 +160,54 @@ spares_all stamp objects (DropsObject other ∷ acts) are id s at =
 spares_all stamp objects (EditsRows other e ∷ acts) are id s at = absurd are.0
 spares_all stamp objects (MovesOffset other offset ∷ acts) are id s at = absurd are.0
 
-defined : (m : Machine) (P : Outcome → Type 0) → HoldsOfEach m P → (reply : Reply) (acts : List Act)
+defined : (m : Machine) (reply : Reply) (acts : List Act)
     → is_refusal reply ≡ false → AllByRecursion Defines acts
-    → P (commits m reply acts)
-defined m P each reply acts accepted are =
-    each.commit reply m.sessions acts accepted (same_sessions m)
-    (no_more_edits (all_map Defines IsNoEdit (λ act is. (defines_only m.state act is).0) acts are))
-    (λ begun. all_map Defines (MovesOn m.state) (λ act is. (defines_only m.state act is).1) acts are)
-    (λ apart q id s before behind at. spares_all m.state.last m.state.objects acts are id s at)
+    → IsLawful m (commits m reply acts)
+defined m reply acts accepted are = does m reply m.sessions (Some acts) accepted (same_sessions m) (record {
+  shape = no_more_edits (all_map Defines IsNoEdit (λ act is. (defines_only m.state act is).0) acts are);
+  moves = λ begun. all_map Defines (MovesOn m.state) (λ act is. (defines_only m.state act is).1) acts are;
+  spares = λ apart q id s before behind at. spares_all m.state.last m.state.objects acts are id s at;
+})
 
-created : (m : Machine) (P : Outcome → Type 0) → HoldsOfEach m P → (n : NewTable)
-    → P (commits m (CreatedTable n.name) (table_made n))
-created m P each n = by_replaced n.replaced
+created : (m : Machine) (n : NewTable) → IsLawful m (commits m (CreatedTable n.name) (table_made n))
+created m n = by_replaced n.replaced
   where
     made : Act
     made = MakesTable n.name n.columns (retention_of n)
 
-    by_replaced : (replaced : Option ℕ) → P (commits m (CreatedTable n.name) (drops replaced ++ made ∷ []))
-    by_replaced None = defined m P each (CreatedTable n.name) (made ∷ []) refl (tt, tt)
+    by_replaced : (replaced : Option ℕ) → IsLawful m (commits m (CreatedTable n.name) (drops replaced ++ made ∷ []))
+    by_replaced None = defined m (CreatedTable n.name) (made ∷ []) refl (tt, tt)
     by_replaced (Some id) =
-        defined m P each (CreatedTable n.name) (DropsObject id ∷ made ∷ []) refl (tt, (tt, tt))
+        defined m (CreatedTable n.name) (DropsObject id ∷ made ∷ []) refl (tt, (tt, tt))
 
-outcome_of_creation : (m : Machine) (P : Outcome → Type 0) → HoldsOfEach m P → (wrong : Option Refusal) (n : NewTable)
-    → P (create_table m wrong n)
+outcome_of_creation : (m : Machine) (wrong : Option Refusal) (n : NewTable) → IsLawful m (create_table m wrong n)
 unfolding create_table
-outcome_of_creation m P each wrong n = tested m P each (table_refusal m.state wrong n) _ (created m P each n)
+outcome_of_creation m wrong n = tested m (table_refusal m.state wrong n) _ (created m n)
 
-dropped : (m : Machine) (P : Outcome → Type 0) → HoldsOfEach m P → (reply : Reply) (id : ℕ)
-    → is_refusal reply ≡ false → P (commits m reply (DropsObject id ∷ []))
-dropped m P each reply id accepted = defined m P each reply (DropsObject id ∷ []) accepted (tt, tt)
+dropped : (m : Machine) (reply : Reply) (id : ℕ)
+    → is_refusal reply ≡ false → IsLawful m (commits m reply (DropsObject id ∷ []))
+dropped m reply id accepted = defined m reply (DropsObject id ∷ []) accepted (tt, tt)
 
-outcome_of_drop : (m : Machine) (P : Outcome → Type 0) → HoldsOfEach m P → (wrong : Option Refusal) (id : ℕ)
-    → P (drop_table m wrong id)
+outcome_of_drop : (m : Machine) (wrong : Option Refusal) (id : ℕ) → IsLawful m (drop_table m wrong id)
 unfolding drop_table
-outcome_of_drop m P each wrong id =
-    tested m P each wrong _ (dropped m P each (DroppedTable (name_at m.state.objects id)) id refl)
+outcome_of_drop m wrong id =
+    tested m wrong _ (dropped m (DroppedTable (name_at m.state.objects id)) id refl)
 
-outcome_of_stream : (m : Machine) (P : Outcome → Type 0) → HoldsOfEach m P → (wrong : Option Refusal) (n : NewStream)
-    → P (create_stream m wrong n)
+outcome_of_stream : (m : Machine) (wrong : Option Refusal) (n : NewStream) → IsLawful m (create_stream m wrong n)
 unfolding create_stream
-outcome_of_stream m P each wrong n =
-    tested m P each (stream_refusal m.state wrong n) _
-    (defined m P each (CreatedStream n.name) (MakesStream n.name n.table n.is_append_only ∷ []) refl (tt, tt))
+outcome_of_stream m wrong n =
+    tested m (stream_refusal m.state wrong n) _
+    (defined m (CreatedStream n.name) (MakesStream n.name n.table n.is_append_only ∷ []) refl (tt, tt))
 
-outcome_of_stream_drop : (m : Machine) (P : Outcome → Type 0) → HoldsOfEach m P → (wrong : Option Refusal) (id : ℕ)
-    → P (drop_stream m wrong id)
+outcome_of_stream_drop : (m : Machine) (wrong : Option Refusal) (id : ℕ) → IsLawful m (drop_stream m wrong id)
 unfolding drop_stream
-outcome_of_stream_drop m P each wrong id =
-    tested m P each wrong _ (dropped m P each (DroppedStream (name_at m.state.objects id)) id refl)
+outcome_of_stream_drop m wrong id =
+    tested m wrong _ (dropped m (DroppedStream (name_at m.state.objects id)) id refl)
 
-outcome_of_definition : (m : Machine) (P : Outcome → Type 0) → HoldsOfEach m P
-    → (session : ℕ) (old : Option ℕ) (o : Outcome) → P o → P (defines m session old o)
+outcome_of_definition : (m : Machine)
+    (session : ℕ) (old : Option ℕ) (o : Outcome) → IsLawful m o → IsLawful m (defines m session old o)
 unfolding defines
-outcome_of_definition m P each session old o holds = tested m P each _ _ (tested_last m P each _ _ holds)
+outcome_of_definition m session old o holds = tested m _ _ (tested_last m _ _ holds)
 
 -- ---- the acts of commits that edit tables and read streams
 
@@ -245,16 +254,6 @@ edits_move_on : (s : State) (found : List (ℕ × Staged)) (moves : List Act) �
 edits_move_on s [] moves on = on
 edits_move_on s (entry ∷ others) moves on = (tt, edits_move_on s others moves on)
 
--- what holds of the acts of a commit, where it makes one
-pub record IsCommitOf (m : Machine) (sessions : Sessions) (acts : List Act) : Type 0 where
-  pub shape : AreEditsFrom 0 acts
-  pub moves : KeepsMovingOn m acts
-  pub spares : SparesHeld m sessions acts
-
-abbrev AreOfCommit : Machine → Sessions → Option (List Act) → Type 0
-AreOfCommit m sessions None = Unit {0}
-AreOfCommit m sessions (Some acts) = IsCommitOf m sessions acts
-
 -- no stream that is held before and behind is among those that move
 abbrev MovesFree : Machine → Sessions → List ℕ → Type 0
 MovesFree m sessions moving = AreApart m.sessions → (q id : ℕ) → reads m.sessions q id ≡ true
@@ -293,18 +292,14 @@ no_refusal (Delete condition) e = refl
 no_refusal (Merge source on clauses) e = refl
 
 -- a transaction that commits: it began before, and no stream that is held behind it is among those that it read
-recorded_holds : (m : Machine) (P : Outcome → Type 0) → HoldsOfEach m P → (reply : Reply) (sessions : Sessions)
+recorded_holds : (m : Machine) (reply : Reply) (sessions : Sessions)
     (t : Transaction) → is_refusal reply ≡ false → KeepsSessions m sessions
     → (AreBegun m.state.last m.sessions → start_of t ≤ m.state.last - 1) → MovesFree m sessions t.streams
-    → P (recorded m reply sessions t)
+    → IsLawful m (recorded m reply sessions t)
 unfolding acts_of
-recorded_holds m P each reply sessions t accepted keeps before free =
-    tested m P each (commit_refusal m.state.objects t) _ (by_acts _
+recorded_holds m reply sessions t accepted keeps before free =
+    tested m (commit_refusal m.state.objects t) _ (does m reply sessions _ accepted keeps
     (acts_are m sessions t.streams (start_of t) t.streams (touched t) (entries_rise t) before free))
-  where
-    by_acts : (acts : Option (List Act)) → AreOfCommit m sessions acts → P (Does reply sessions acts)
-    by_acts None are = each.answer reply sessions accepted keeps
-    by_acts (Some acts) are = each.commit reply sessions acts accepted keeps are.shape are.moves are.spares
 
 -- that of a session began by the last stamp, as all did
 pub begun_in : (last : ℕ) (sessions : Sessions) (session : ℕ) → AreBegun last sessions
@@ -384,67 +379,63 @@ free_alone m session streams none free apart q id held still =
     by_part (inl among) = mine (free_of m.sessions session q id streams free among held)
     by_part (inr is) = absurd cc
 
-changed_holds : (m : Machine) (P : Outcome → Type 0) → HoldsOfEach m P
-    → (session : ℕ) (t : Option Transaction) → transaction_in m.sessions session ≡ t → (c : Changed)
-    → IsFree m session c → P (changes_in m session t c)
+changed_holds : (m : Machine)
+    (session : ℕ) (t : Option Transaction) → transaction_in m.sessions session ≡ t → (c : Changed)
+    → IsFree m session c → IsLawful m (changes_in m session t c)
 unfolding staged
-changed_holds m P each session t is (Fails why) free = each.refusal why
-changed_holds m P each session None is (Gives id streams change e) free =
-    recorded_holds m P each (reply_to change e) m.sessions (staged_in_state m.state (begun m.state.last) id streams e)
+changed_holds m session t is (Fails why) free = refuses m why
+changed_holds m session None is (Gives id streams change e) free =
+    recorded_holds m (reply_to change e) m.sessions (staged_in_state m.state (begun m.state.last) id streams e)
     (no_refusal change e) (same_sessions m) (λ begun. omega arith) (free_alone m session streams is free)
-changed_holds m P each session (Some t) is (Gives id streams change e) free =
-    each.answer (reply_to change e) _ (no_refusal change e) (record {
+changed_holds m session (Some t) is (Gives id streams change e) free =
+    does m (reply_to change e) _ None (no_refusal change e) (record {
       begun = λ begun. begun_with m.state.last m.sessions session _ begun
           (subst (IsBegun m.state.last) is (begun_in m.state.last m.sessions session begun));
       apart = apart_staged m.sessions session id (next_row_of (table_at m.state.objects id)) streams t e is free;
       number = λ q stream before behind. number_put m.sessions session q stream _
           (λ read. sym (ap (λ (found : Option Transaction). option_map (λ t. t.number) found) is)) behind;
-    })
+    }) tt
 
-outcome_of_change : (m : Machine) (P : Outcome → Type 0) → HoldsOfEach m P → (session : ℕ) (b : BoundChange)
-    → P (changes_rows m session b)
+outcome_of_change : (m : Machine) (session : ℕ) (b : BoundChange) → IsLawful m (changes_rows m session b)
 unfolding changes_rows
-outcome_of_change m P each session b =
-    changed_holds m P each session (transaction_in m.sessions session) refl (bound_changed m session b)
+outcome_of_change m session b =
+    changed_holds m session (transaction_in m.sessions session) refl (bound_changed m session b)
     (bound_free m session b)
 
 -- ---- queries
 
-listed_rows : (m : Machine) (P : Outcome → Type 0) → HoldsOfEach m P → (b : BoundSelect) (found : Option Bag)
-    → P (listing_of m b found)
-listed_rows m P each b None = each.refusal NumberOutOfRange
-listed_rows m P each b (Some rows) = answered m P each (Listing b.names (listed b.keys rows)) refl
+listed_rows : (m : Machine) (b : BoundSelect) (found : Option Bag) → IsLawful m (listing_of m b found)
+listed_rows m b None = refuses m NumberOutOfRange
+listed_rows m b (Some rows) = answered m (Listing b.names (listed b.keys rows)) refl
 
-outcome_of_query : (m : Machine) (P : Outcome → Type 0) → HoldsOfEach m P → (session : ℕ) (b : BoundSelect)
-    → P (selects m session b)
+outcome_of_query : (m : Machine) (session : ℕ) (b : BoundSelect) → IsLawful m (selects m session b)
 unfolding selects
-outcome_of_query m P each session b =
-    tested m P each (select_refusal m b) _
-    (listed_rows m P each b (eval b.query (instance_read m session b.sources)))
+outcome_of_query m session b =
+    tested m (select_refusal m b) _
+    (listed_rows m b (eval b.query (instance_read m session b.sources)))
 
-asked_holds : (m : Machine) (P : Outcome → Type 0) → HoldsOfEach m P → (session id : ℕ) (found : Option Stream)
-    → P (asked m session id found)
-asked_holds m P each session id None = answered m P each (HasData false) refl
-asked_holds m P each session id (Some s) =
-    tested m P each (reading_refusal m.state.objects m.state.last (id ∷ [])) _
-    (answered m P each (HasData (has_rows (rows_shown m.state.objects s (start_in m session)))) refl)
+asked_holds : (m : Machine) (session id : ℕ) (found : Option Stream) → IsLawful m (asked m session id found)
+asked_holds m session id None = answered m (HasData false) refl
+asked_holds m session id (Some s) =
+    tested m (reading_refusal m.state.objects m.state.last (id ∷ [])) _
+    (answered m (HasData (has_rows (rows_shown m.state.objects s (start_in m session)))) refl)
 
-outcome_of_asking : (m : Machine) (P : Outcome → Type 0) → HoldsOfEach m P
-    → (session : ℕ) (wrong : Option Refusal) (id : ℕ) → P (has_data m session wrong id)
+outcome_of_asking : (m : Machine)
+    (session : ℕ) (wrong : Option Refusal) (id : ℕ) → IsLawful m (has_data m session wrong id)
 unfolding has_data
-outcome_of_asking m P each session wrong id =
-    tested m P each wrong _ (asked_holds m P each session id (stream_at m.state.objects id))
+outcome_of_asking m session wrong id =
+    tested m wrong _ (asked_holds m session id (stream_at m.state.objects id))
 
 -- ---- transactions
 
-outcome_of_begin : (m : Machine) (P : Outcome → Type 0) → HoldsOfEach m P → (session : ℕ) → P (begin m session)
+outcome_of_begin : (m : Machine) (session : ℕ) → IsLawful m (begin m session)
 unfolding begin
-outcome_of_begin m P each session =
-    tested m P each _ _ (each.answer (Begun m.state.last) _ refl (record {
+outcome_of_begin m session =
+    tested m _ _ (does m (Begun m.state.last) _ None refl (record {
       begun = λ begun. begun_with m.state.last m.sessions session _ begun (omega arith);
       apart = apart_put m.sessions session _ (λ id. refl);
       number = λ q id before behind. number_put m.sessions session q id _ (λ is. absurd cc) behind;
-    }))
+    }) tt)
 
 -- a session's transaction ends
 ended : (m : Machine) (session : ℕ) → KeepsSessions m (with_ended m.sessions session)
@@ -471,71 +462,69 @@ no_commit_refusal : (stamp : ℕ) (acts : Option (List Act)) → is_refusal (com
 no_commit_refusal stamp None = refl
 no_commit_refusal stamp (Some acts) = refl
 
-commit_holds : (m : Machine) (P : Outcome → Type 0) → HoldsOfEach m P → (session : ℕ) (t : Option Transaction)
-    → transaction_in m.sessions session ≡ t → P (commit_of m session t)
-commit_holds m P each session None is = each.refusal NoTransaction
-commit_holds m P each session (Some t) is =
-    recorded_holds m P each (commit_reply m.state.last (acts_of m.state.objects t)) (with_ended m.sessions session) t
+commit_holds : (m : Machine) (session : ℕ) (t : Option Transaction)
+    → transaction_in m.sessions session ≡ t → IsLawful m (commit_of m session t)
+commit_holds m session None is = refuses m NoTransaction
+commit_holds m session (Some t) is =
+    recorded_holds m (commit_reply m.state.last (acts_of m.state.objects t)) (with_ended m.sessions session) t
     (no_commit_refusal m.state.last (acts_of m.state.objects t)) (ended m session)
     (λ begun. start_before m.state.last (Some t)
     (subst (IsBegun m.state.last) is (begun_in m.state.last m.sessions session begun)))
     (free_ended m session t is)
 
-outcome_of_commit : (m : Machine) (P : Outcome → Type 0) → HoldsOfEach m P → (session : ℕ) → P (commit m session)
+outcome_of_commit : (m : Machine) (session : ℕ) → IsLawful m (commit m session)
 unfolding commit
-outcome_of_commit m P each session = commit_holds m P each session (transaction_in m.sessions session) refl
+outcome_of_commit m session = commit_holds m session (transaction_in m.sessions session) refl
 
-rollback_holds : (m : Machine) (P : Outcome → Type 0) → HoldsOfEach m P → (session : ℕ) (t : Option Transaction)
-    → P (rollback_of m session t)
-rollback_holds m P each session None = each.refusal NoTransaction
-rollback_holds m P each session (Some t) = each.answer RolledBack _ refl (ended m session)
+rollback_holds : (m : Machine) (session : ℕ) (t : Option Transaction) → IsLawful m (rollback_of m session t)
+rollback_holds m session None = refuses m NoTransaction
+rollback_holds m session (Some t) = does m RolledBack _ None refl (ended m session) tt
 
-outcome_of_rollback : (m : Machine) (P : Outcome → Type 0) → HoldsOfEach m P → (session : ℕ) → P (rollback m session)
+outcome_of_rollback : (m : Machine) (session : ℕ) → IsLawful m (rollback m session)
 unfolding rollback
-outcome_of_rollback m P each session = rollback_holds m P each session (transaction_in m.sessions session)
+outcome_of_rollback m session = rollback_holds m session (transaction_in m.sessions session)
 
 -- ---- all of them
 
-pub outcome_of_statement : (m : Machine) (P : Outcome → Type 0) → HoldsOfEach m P
-    → (session : ℕ) (wrong : Option Refusal) (statement : Bound) → P (carried_out m session wrong statement)
+pub outcome_of_statement : (m : Machine)
+    (session : ℕ) (wrong : Option Refusal) (statement : Bound) → IsLawful m (carried_out m session wrong statement)
 unfolding carried_out
-outcome_of_statement m P each session wrong ddl.Begin = outcome_of_begin m P each session
-outcome_of_statement m P each session wrong ddl.Commit = outcome_of_commit m P each session
-outcome_of_statement m P each session wrong ddl.Rollback = outcome_of_rollback m P each session
-outcome_of_statement m P each session wrong (ddl.Change b) = outcome_of_change m P each session b
-outcome_of_statement m P each session wrong (ddl.Select b) = outcome_of_query m P each session b
-outcome_of_statement m P each session wrong (ddl.HasData id) = outcome_of_asking m P each session wrong id
-outcome_of_statement m P each session wrong (ddl.CreateTable n) =
-    outcome_of_definition m P each session _ _ (outcome_of_creation m P each wrong n)
-outcome_of_statement m P each session wrong (ddl.DropTable id) =
-    outcome_of_definition m P each session _ _ (outcome_of_drop m P each wrong id)
-outcome_of_statement m P each session wrong (ddl.CreateStream n) =
-    outcome_of_definition m P each session _ _ (outcome_of_stream m P each wrong n)
-outcome_of_statement m P each session wrong (ddl.DropStream id) =
-    outcome_of_definition m P each session _ _ (outcome_of_stream_drop m P each wrong id)
-outcome_of_statement m P each session wrong (ddl.CreateTask n) = each.refusal Unsupported
-outcome_of_statement m P each session wrong (ddl.ResumeTask id) = each.refusal Unsupported
-outcome_of_statement m P each session wrong (ddl.SuspendTask id) = each.refusal Unsupported
-outcome_of_statement m P each session wrong (ddl.ExecuteTask id) = each.refusal Unsupported
-outcome_of_statement m P each session wrong (ddl.DropTask id) = each.refusal Unsupported
-outcome_of_statement m P each session wrong (ddl.CreateDynamicTable n) = each.refusal Unsupported
-outcome_of_statement m P each session wrong (ddl.ResumeDynamicTable id) = each.refusal Unsupported
-outcome_of_statement m P each session wrong (ddl.SuspendDynamicTable id) = each.refusal Unsupported
-outcome_of_statement m P each session wrong (ddl.RefreshDynamicTable id) = each.refusal Unsupported
-outcome_of_statement m P each session wrong (ddl.SetTargetLag id lag) = each.refusal Unsupported
-outcome_of_statement m P each session wrong (ddl.DropDynamicTable id) = each.refusal Unsupported
+outcome_of_statement m session wrong ddl.Begin = outcome_of_begin m session
+outcome_of_statement m session wrong ddl.Commit = outcome_of_commit m session
+outcome_of_statement m session wrong ddl.Rollback = outcome_of_rollback m session
+outcome_of_statement m session wrong (ddl.Change b) = outcome_of_change m session b
+outcome_of_statement m session wrong (ddl.Select b) = outcome_of_query m session b
+outcome_of_statement m session wrong (ddl.HasData id) = outcome_of_asking m session wrong id
+outcome_of_statement m session wrong (ddl.CreateTable n) =
+    outcome_of_definition m session _ _ (outcome_of_creation m wrong n)
+outcome_of_statement m session wrong (ddl.DropTable id) =
+    outcome_of_definition m session _ _ (outcome_of_drop m wrong id)
+outcome_of_statement m session wrong (ddl.CreateStream n) =
+    outcome_of_definition m session _ _ (outcome_of_stream m wrong n)
+outcome_of_statement m session wrong (ddl.DropStream id) =
+    outcome_of_definition m session _ _ (outcome_of_stream_drop m wrong id)
+outcome_of_statement m session wrong (ddl.CreateTask n) = refuses m Unsupported
+outcome_of_statement m session wrong (ddl.ResumeTask id) = refuses m Unsupported
+outcome_of_statement m session wrong (ddl.SuspendTask id) = refuses m Unsupported
+outcome_of_statement m session wrong (ddl.ExecuteTask id) = refuses m Unsupported
+outcome_of_statement m session wrong (ddl.DropTask id) = refuses m Unsupported
+outcome_of_statement m session wrong (ddl.CreateDynamicTable n) = refuses m Unsupported
+outcome_of_statement m session wrong (ddl.ResumeDynamicTable id) = refuses m Unsupported
+outcome_of_statement m session wrong (ddl.SuspendDynamicTable id) = refuses m Unsupported
+outcome_of_statement m session wrong (ddl.RefreshDynamicTable id) = refuses m Unsupported
+outcome_of_statement m session wrong (ddl.SetTargetLag id lag) = refuses m Unsupported
+outcome_of_statement m session wrong (ddl.DropDynamicTable id) = refuses m Unsupported
 
-pub outcome_of_command : (m : Machine) (P : Outcome → Type 0) → HoldsOfEach m P → (session : ℕ) (request : Request)
-    → P (commanded m session request)
+pub outcome_of_command : (m : Machine) (session : ℕ) (request : Request) → IsLawful m (commanded m session request)
 unfolding commanded
-outcome_of_command m P each session TooLong = each.refusal (OverLimit limits.Statement)
-outcome_of_command m P each session Unreadable = each.refusal SyntaxError
-outcome_of_command m P each session (Asked tree) =
-    either P (is_session session) _ _
-    (outcome_of_statement m P each session (option_map refusal_of (first_failing (meant_in m tree)))
+outcome_of_command m session TooLong = refuses m (OverLimit limits.Statement)
+outcome_of_command m session Unreadable = refuses m SyntaxError
+outcome_of_command m session (Asked tree) =
+    either m (is_session session) _ _
+    (outcome_of_statement m session (option_map refusal_of (first_failing (meant_in m tree)))
     (meant_in m tree).value)
-    (each.refusal (NoSuchSession session))
+    (refuses m (NoSuchSession session))
 
-pub outcome_of_event : (m : Machine) (P : Outcome → Type 0) → HoldsOfEach m P → (e : Event) → P (outcome_of m e)
-outcome_of_event m P each (Command reading session request) = outcome_of_command m P each session request
-outcome_of_event m P each (Tick reading) = each.answer Idle m.sessions refl (same_sessions m)
+pub lawful : (m : Machine) (e : Event) → IsLawful m (outcome_of m e)
+lawful m (Command reading session request) = outcome_of_command m session request
+lawful m (Tick reading) = answered m Idle refl

@@ -16,11 +16,11 @@ use Rattle.wh_state.specs.Act.{Act, done}
 use Rattle.wh_state.specs.Stored.{Stored, meant}
 use Rattle.wh_state.specs.Written.{commit_for, kept_after}
 use Rattle.wh_state.specs.Orderly.{IsOrderlyStored}
-use Rattle.wh_state.proofs.ActLaws.{AreEditsFrom, written_meant}
+use Rattle.wh_state.proofs.ActLaws.{written_meant}
 use Rattle.wh_machine.specs.Outcome.{Machine, Outcome, Refuses, Does, settled, acts_in, rest_of}
 use Rattle.wh_machine.specs.Step.{Event, reading_of, stamp_of, at_stamp, has_stamp, decided, step, acts_of}
 use Rattle.wh_machine.specs.Made.{made}
-use Rattle.wh_machine.proofs.OutcomeLaws.{HoldsOfEach, outcome_of_event}
+use Rattle.wh_machine.proofs.OutcomeLaws.{IsLawful, lawful}
 
 -- ---- stamps
 
@@ -85,28 +85,17 @@ committed_kept m e before = by_stamp (has_stamp m e) refl
 
 -- ---- what a file means
 
-abbrev pub HasEditsFirst : Outcome → Type 0
-HasEditsFirst (Refuses why) = Unit {0}
-HasEditsFirst (Does reply sessions None) = Unit {0}
-HasEditsFirst (Does reply sessions (Some acts)) = AreEditsFrom 0 acts
-
 -- what an outcome comes to, over an orderly file that means the state but for its last stamp
-pub settled_meant : (s : Stored) (m : Machine) (stamp : ℕ) (o : Outcome) → IsOrderlyStored s → HasEditsFirst o
+pub settled_meant : (s : Stored) (m : Machine) (stamp : ℕ) (o : Outcome) → IsOrderlyStored s
+    → IsLawful (at_stamp m stamp) o
     → m.state ≡ record (meant s) { last = m.state.last }
     → (settled (at_stamp m stamp) o).0.state
     ≡ record (meant (kept_after s (option_map (commit_for s stamp) (acts_in o)))) { last = stamp }
-settled_meant s m stamp (Refuses why) orderly one is = ap (λ (t : State). stamped t stamp) is
-settled_meant s m stamp (Does reply sessions None) orderly one is = ap (λ (t : State). stamped t stamp) is
-settled_meant s m stamp (Does reply sessions (Some acts)) orderly one is =
+settled_meant s m stamp (Refuses why) orderly holds is = ap (λ (t : State). stamped t stamp) is
+settled_meant s m stamp (Does reply sessions None) orderly holds is = ap (λ (t : State). stamped t stamp) is
+settled_meant s m stamp (Does reply sessions (Some acts)) orderly holds is =
     ap (λ (t : State). done (stamped t stamp) acts) is
-    ∙ ap (λ (t : State). stamped t stamp) (sym (written_meant s stamp acts one orderly))
-
-each_edits_first : (m : Machine) → HoldsOfEach m HasEditsFirst
-each_edits_first m = record {
-  refusal = λ why. tt;
-  answer = λ reply sessions accepted keeps. tt;
-  commit = λ reply sessions acts accepted keeps shape on spares. shape;
-}
+    ∙ ap (λ (t : State). stamped t stamp) (sym (written_meant s stamp acts holds.acts.shape orderly))
 
 -- so for what an event does
 pub decided_meant : (s : Stored) (m : Machine) (e : Event) → IsOrderlyStored s
@@ -118,7 +107,7 @@ pub decided_meant : (s : Stored) (m : Machine) (e : Event) → IsOrderlyStored s
     }
 decided_meant s m e orderly is =
     settled_meant s m (stamp_of m.state (reading_of e)) (decided m e) orderly
-    (outcome_of_event (ready m e) HasEditsFirst (each_edits_first (ready m e)) e) is
+    (lawful (ready m e) e) is
 
 -- the event's commit leaves a file that means the state after it but for its last stamp
 pub step_meant : (s : Stored) (m : Machine) (e : Event) → IsOrderlyStored s
@@ -171,20 +160,9 @@ unmade m e none = by_stamp (has_stamp m e) refl
 -- ---- refused events
 
 -- where the reply is a refusal, nothing but the stamp passes
-abbrev SparesRefused : Machine → Outcome → Type 0
-SparesRefused m o = IsTrue (is_refusal (settled m o).1) → (acts_in o ≡ None) × ((settled m o).0 ≡ m)
-
-spares : (m : Machine) → HoldsOfEach m (SparesRefused m)
-spares m = record {
-  refusal = λ why refused. (refl, refl);
-  answer = λ reply sessions accepted keeps refused. absurd cc;
-  commit = λ reply sessions acts accepted keeps shape on spares refused. absurd cc;
-}
-
 refused_spares : (m : Machine) (e : Event) → has_stamp m e ≡ true → IsTrue (is_refusal (step m e).1)
     → (acts_in (decided m e) ≡ None) × ((settled (ready m e) (decided m e)).0 ≡ ready m e)
-refused_spares m e has refused =
-    outcome_of_event (ready m e) (SparesRefused (ready m e)) (spares (ready m e)) e
+refused_spares m e has refused = (lawful (ready m e) e).refused
     (subst (λ (p : Machine × Reply). IsTrue (is_refusal p.1)) (step_at m e has) refused)
 
 pub refused_acts : (m : Machine) (e : Event) → IsTrue (is_refusal (step m e).1) → acts_of m e ≡ None
