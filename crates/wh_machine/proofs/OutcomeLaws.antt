@@ -33,9 +33,9 @@ use Rattle.wh_net.specs.Stream.{rows_shown, has_rows}
 use Rattle.wh_machine.specs.Transaction.{Staged, Transaction, begun, start_of, start_at, staged, staged_in_state}
 use Rattle.wh_machine.specs.Transaction.{edit_act, touched, acts_of, commit_refusal, next_row_of}
 use Rattle.wh_machine.specs.Sessions.{Sessions, transaction_in, number_in, with_ended, locked_by, first_locked}
+use Rattle.wh_machine.specs.Sessions.{with_begun}
 use Rattle.wh_ddl_naming.specs.Meant.{first_failing}
 use Rattle.wh_ddl_naming.specs.Tables.{NewTable}
-use Rattle.wh_ddl_naming.specs.Streams.{NewStream}
 use Rattle.wh_ddl_naming.specs.Statements as ddl
 use Rattle.wh_ddl_naming.specs.Statements.{Bound}
 use Rattle.wh_machine.specs.Names.{refusal_of, naming_refusal}
@@ -45,11 +45,11 @@ use Rattle.wh_machine.specs.Outcome.{settled, acts_in}
 use Rattle.wh_machine.specs.Queries.{listing_of}
 use Rattle.wh_machine.specs.Reading.{objects_seen, start_in, instance_read, reading_refusal, asked, has_data}
 use Rattle.wh_machine.specs.Definitions.{drops, defines}
-use Rattle.wh_machine.specs.Tables.{table_refusal, retention_of, table_made, create_table, drop_table}
-use Rattle.wh_machine.specs.Streams.{stream_refusal, create_stream, drop_stream}
+use Rattle.wh_machine.specs.Tables.{retention_of, table_made, create_table, drop_table}
+use Rattle.wh_machine.specs.Streams.{create_stream, drop_stream}
 use Rattle.wh_machine.specs.Statements.{begin, recorded, commit_reply, commit_of, commit, rollback_of, rollback}
 use Rattle.wh_machine.specs.Statements.{streams_read, change_refusal, bound_changed, changes_in, changes_rows}
-use Rattle.wh_machine.specs.Statements.{select_refusal, selects, carried_out, meant_in}
+use Rattle.wh_machine.specs.Statements.{selects, carried_out, meant_in}
 use Rattle.wh_machine.specs.Step.{Event, Command, Tick, is_session, commanded, outcome_of}
 use Rattle.wh_machine.specs.Sound.{IsBegun, AreBegun}
 use Rattle.wh_machine.specs.Consuming.{is_read_by, reads, AreApart}
@@ -160,8 +160,7 @@ spares_all stamp objects (DropsObject other ∷ acts) are id s at =
 spares_all stamp objects (EditsRows other e ∷ acts) are id s at = absurd are.0
 spares_all stamp objects (MovesOffset other offset ∷ acts) are id s at = absurd are.0
 
-defined : (m : Machine) (reply : Reply) (acts : List Act)
-    → is_refusal reply ≡ false → AllByRecursion Defines acts
+defined : (m : Machine) (reply : Reply) (acts : List Act) → is_refusal reply ≡ false → AllByRecursion Defines acts
     → IsLawful m (commits m reply acts)
 defined m reply acts accepted are = does m reply m.sessions (Some acts) accepted (same_sessions m) (record {
   shape = no_more_edits (all_map Defines IsNoEdit (λ act is. (defines_only m.state act is).0) acts are);
@@ -180,34 +179,14 @@ created m n = by_replaced n.replaced
     by_replaced (Some id) =
         defined m (CreatedTable n.name) (DropsObject id ∷ made ∷ []) refl (tt, (tt, tt))
 
-outcome_of_creation : (m : Machine) (wrong : Option Refusal) (n : NewTable) → IsLawful m (create_table m wrong n)
-unfolding create_table
-outcome_of_creation m wrong n = tested m (table_refusal m.state wrong n) _ (created m n)
-
-dropped : (m : Machine) (reply : Reply) (id : ℕ)
-    → is_refusal reply ≡ false → IsLawful m (commits m reply (DropsObject id ∷ []))
+dropped : (m : Machine) (reply : Reply) (id : ℕ) → is_refusal reply ≡ false
+    → IsLawful m (commits m reply (DropsObject id ∷ []))
 dropped m reply id accepted = defined m reply (DropsObject id ∷ []) accepted (tt, tt)
 
-outcome_of_drop : (m : Machine) (wrong : Option Refusal) (id : ℕ) → IsLawful m (drop_table m wrong id)
-unfolding drop_table
-outcome_of_drop m wrong id =
-    tested m wrong _ (dropped m (DroppedTable (name_at m.state.objects id)) id refl)
-
-outcome_of_stream : (m : Machine) (wrong : Option Refusal) (n : NewStream) → IsLawful m (create_stream m wrong n)
-unfolding create_stream
-outcome_of_stream m wrong n =
-    tested m (stream_refusal m.state wrong n) _
-    (defined m (CreatedStream n.name) (MakesStream n.name n.table n.is_append_only ∷ []) refl (tt, tt))
-
-outcome_of_stream_drop : (m : Machine) (wrong : Option Refusal) (id : ℕ) → IsLawful m (drop_stream m wrong id)
-unfolding drop_stream
-outcome_of_stream_drop m wrong id =
-    tested m wrong _ (dropped m (DroppedStream (name_at m.state.objects id)) id refl)
-
-outcome_of_definition : (m : Machine)
-    (session : ℕ) (old : Option ℕ) (o : Outcome) → IsLawful m o → IsLawful m (defines m session old o)
+definition : (m : Machine) (session : ℕ) (old : Option ℕ) (o : Outcome) → IsLawful m o
+    → IsLawful m (defines m session old o)
 unfolding defines
-outcome_of_definition m session old o holds = tested m _ _ (tested_last m _ _ holds)
+definition m session old o holds = tested m _ _ (tested_last m _ _ holds)
 
 -- ---- the acts of commits that edit tables and read streams
 
@@ -396,23 +375,11 @@ changed_holds m session (Some t) is (Gives id streams change e) free =
           (λ read. sym (ap (λ (found : Option Transaction). option_map (λ t. t.number) found) is)) behind;
     }) tt
 
-outcome_of_change : (m : Machine) (session : ℕ) (b : BoundChange) → IsLawful m (changes_rows m session b)
-unfolding changes_rows
-outcome_of_change m session b =
-    changed_holds m session (transaction_in m.sessions session) refl (bound_changed m session b)
-    (bound_free m session b)
-
 -- ---- queries
 
 listed_rows : (m : Machine) (b : BoundSelect) (found : Option Bag) → IsLawful m (listing_of m b found)
 listed_rows m b None = refuses m NumberOutOfRange
 listed_rows m b (Some rows) = answered m (Listing b.names (listed b.keys rows)) refl
-
-outcome_of_query : (m : Machine) (session : ℕ) (b : BoundSelect) → IsLawful m (selects m session b)
-unfolding selects
-outcome_of_query m session b =
-    tested m (select_refusal m b) _
-    (listed_rows m b (eval b.query (instance_read m session b.sources)))
 
 asked_holds : (m : Machine) (session id : ℕ) (found : Option Stream) → IsLawful m (asked m session id found)
 asked_holds m session id None = answered m (HasData false) refl
@@ -420,22 +387,15 @@ asked_holds m session id (Some s) =
     tested m (reading_refusal m.state.objects m.state.last (id ∷ [])) _
     (answered m (HasData (has_rows (rows_shown m.state.objects s (start_in m session)))) refl)
 
-outcome_of_asking : (m : Machine)
-    (session : ℕ) (wrong : Option Refusal) (id : ℕ) → IsLawful m (has_data m session wrong id)
-unfolding has_data
-outcome_of_asking m session wrong id =
-    tested m wrong _ (asked_holds m session id (stream_at m.state.objects id))
-
 -- ---- transactions
 
-outcome_of_begin : (m : Machine) (session : ℕ) → IsLawful m (begin m session)
-unfolding begin
-outcome_of_begin m session =
-    tested m _ _ (does m (Begun m.state.last) _ None refl (record {
-      begun = λ begun. begun_with m.state.last m.sessions session _ begun (omega arith);
-      apart = apart_put m.sessions session _ (λ id. refl);
-      number = λ q id before behind. number_put m.sessions session q id _ (λ is. absurd cc) behind;
-    }) tt)
+begun_holds : (m : Machine) (session : ℕ)
+    → IsLawful m (Does (Begun m.state.last) (with_begun m.sessions session m.state.last) None)
+begun_holds m session = does m (Begun m.state.last) _ None refl (record {
+  begun = λ begun. begun_with m.state.last m.sessions session _ begun (omega arith);
+  apart = apart_put m.sessions session _ (λ id. refl);
+  number = λ q id before behind. number_put m.sessions session q id _ (λ is. absurd cc) behind;
+}) tt
 
 -- a session's transaction ends
 ended : (m : Machine) (session : ℕ) → KeepsSessions m (with_ended m.sessions session)
@@ -472,59 +432,53 @@ commit_holds m session (Some t) is =
     (subst (IsBegun m.state.last) is (begun_in m.state.last m.sessions session begun)))
     (free_ended m session t is)
 
-outcome_of_commit : (m : Machine) (session : ℕ) → IsLawful m (commit m session)
-unfolding commit
-outcome_of_commit m session = commit_holds m session (transaction_in m.sessions session) refl
-
 rollback_holds : (m : Machine) (session : ℕ) (t : Option Transaction) → IsLawful m (rollback_of m session t)
 rollback_holds m session None = refuses m NoTransaction
 rollback_holds m session (Some t) = does m RolledBack _ None refl (ended m session) tt
 
-outcome_of_rollback : (m : Machine) (session : ℕ) → IsLawful m (rollback m session)
-unfolding rollback
-outcome_of_rollback m session = rollback_holds m session (transaction_in m.sessions session)
-
 -- ---- all of them
 
-pub outcome_of_statement : (m : Machine)
-    (session : ℕ) (wrong : Option Refusal) (statement : Bound) → IsLawful m (carried_out m session wrong statement)
-unfolding carried_out
-outcome_of_statement m session wrong ddl.Begin = outcome_of_begin m session
-outcome_of_statement m session wrong ddl.Commit = outcome_of_commit m session
-outcome_of_statement m session wrong ddl.Rollback = outcome_of_rollback m session
-outcome_of_statement m session wrong (ddl.Change b) = outcome_of_change m session b
-outcome_of_statement m session wrong (ddl.Select b) = outcome_of_query m session b
-outcome_of_statement m session wrong (ddl.HasData id) = outcome_of_asking m session wrong id
-outcome_of_statement m session wrong (ddl.CreateTable n) =
-    outcome_of_definition m session _ _ (outcome_of_creation m wrong n)
-outcome_of_statement m session wrong (ddl.DropTable id) =
-    outcome_of_definition m session _ _ (outcome_of_drop m wrong id)
-outcome_of_statement m session wrong (ddl.CreateStream n) =
-    outcome_of_definition m session _ _ (outcome_of_stream m wrong n)
-outcome_of_statement m session wrong (ddl.DropStream id) =
-    outcome_of_definition m session _ _ (outcome_of_stream_drop m wrong id)
-outcome_of_statement m session wrong (ddl.CreateTask n) = refuses m Unsupported
-outcome_of_statement m session wrong (ddl.ResumeTask id) = refuses m Unsupported
-outcome_of_statement m session wrong (ddl.SuspendTask id) = refuses m Unsupported
-outcome_of_statement m session wrong (ddl.ExecuteTask id) = refuses m Unsupported
-outcome_of_statement m session wrong (ddl.DropTask id) = refuses m Unsupported
-outcome_of_statement m session wrong (ddl.CreateDynamicTable n) = refuses m Unsupported
-outcome_of_statement m session wrong (ddl.ResumeDynamicTable id) = refuses m Unsupported
-outcome_of_statement m session wrong (ddl.SuspendDynamicTable id) = refuses m Unsupported
-outcome_of_statement m session wrong (ddl.RefreshDynamicTable id) = refuses m Unsupported
-outcome_of_statement m session wrong (ddl.SetTargetLag id lag) = refuses m Unsupported
-outcome_of_statement m session wrong (ddl.DropDynamicTable id) = refuses m Unsupported
+statement : (m : Machine) (session : ℕ) (wrong : Option Refusal) (b : Bound)
+    → IsLawful m (carried_out m session wrong b)
+unfolding carried_out begin commit rollback changes_rows selects has_data create_table drop_table create_stream drop_stream
+statement m session wrong ddl.Begin = tested m _ _ (begun_holds m session)
+statement m session wrong ddl.Commit = commit_holds m session (transaction_in m.sessions session) refl
+statement m session wrong ddl.Rollback = rollback_holds m session (transaction_in m.sessions session)
+statement m session wrong (ddl.Change b) =
+    changed_holds m session (transaction_in m.sessions session) refl (bound_changed m session b)
+    (bound_free m session b)
+statement m session wrong (ddl.Select b) =
+    tested m _ _ (listed_rows m b (eval b.query (instance_read m session b.sources)))
+statement m session wrong (ddl.HasData id) =
+    tested m wrong _ (asked_holds m session id (stream_at m.state.objects id))
+statement m session wrong (ddl.CreateTable n) = definition m session _ _ (tested m _ _ (created m n))
+statement m session wrong (ddl.DropTable id) =
+    definition m session _ _ (tested m wrong _ (dropped m (DroppedTable (name_at m.state.objects id)) id refl))
+statement m session wrong (ddl.CreateStream n) = definition m session _ _ (tested m _ _
+    (defined m (CreatedStream n.name) (MakesStream n.name n.table n.is_append_only ∷ []) refl (tt, tt)))
+statement m session wrong (ddl.DropStream id) =
+    definition m session _ _ (tested m wrong _ (dropped m (DroppedStream (name_at m.state.objects id)) id refl))
+statement m session wrong (ddl.CreateTask n) = refuses m Unsupported
+statement m session wrong (ddl.ResumeTask id) = refuses m Unsupported
+statement m session wrong (ddl.SuspendTask id) = refuses m Unsupported
+statement m session wrong (ddl.ExecuteTask id) = refuses m Unsupported
+statement m session wrong (ddl.DropTask id) = refuses m Unsupported
+statement m session wrong (ddl.CreateDynamicTable n) = refuses m Unsupported
+statement m session wrong (ddl.ResumeDynamicTable id) = refuses m Unsupported
+statement m session wrong (ddl.SuspendDynamicTable id) = refuses m Unsupported
+statement m session wrong (ddl.RefreshDynamicTable id) = refuses m Unsupported
+statement m session wrong (ddl.SetTargetLag id lag) = refuses m Unsupported
+statement m session wrong (ddl.DropDynamicTable id) = refuses m Unsupported
 
-pub outcome_of_command : (m : Machine) (session : ℕ) (request : Request) → IsLawful m (commanded m session request)
+command : (m : Machine) (session : ℕ) (request : Request) → IsLawful m (commanded m session request)
 unfolding commanded
-outcome_of_command m session TooLong = refuses m (OverLimit limits.Statement)
-outcome_of_command m session Unreadable = refuses m SyntaxError
-outcome_of_command m session (Asked tree) =
+command m session TooLong = refuses m (OverLimit limits.Statement)
+command m session Unreadable = refuses m SyntaxError
+command m session (Asked tree) =
     either m (is_session session) _ _
-    (outcome_of_statement m session (option_map refusal_of (first_failing (meant_in m tree)))
-    (meant_in m tree).value)
+    (statement m session (option_map refusal_of (first_failing (meant_in m tree))) (meant_in m tree).value)
     (refuses m (NoSuchSession session))
 
 pub lawful : (m : Machine) (e : Event) → IsLawful m (outcome_of m e)
-lawful m (Command reading session request) = outcome_of_command m session request
+lawful m (Command reading session request) = command m session request
 lawful m (Tick reading) = answered m Idle refl
