@@ -26,9 +26,9 @@ use Rattle.wh_machine.specs.Outcome.{Machine, Outcome, Refuses, Does, settled}
 use Rattle.wh_machine.specs.Sound.{SoundMachine}
 use Rattle.wh_machine.specs.Consuming.{Extends, IsLaterStream, IsLaterKind, IsLater, AreLater, rows_then, shown_of}
 use Rattle.wh_machine.specs.Consuming.{shown_to, consumed, batches, all_patched, rows_consumed}
-use Rattle.wh_machine.specs.Step.{Event, reading_of, stamp_of, has_stamp, decided, step, after}
+use Rattle.wh_machine.specs.Step.{Event, reading_of, stamp_of, decided, step, after}
 use Rattle.wh_machine.proofs.OutcomeLaws.{AllMoveOn, IsLawful, lawful}
-use Rattle.wh_machine.proofs.StepLaws.{ready, step_at, stamp_refused, last_grows}
+use Rattle.wh_machine.proofs.StepLaws.{ready, each_event, last_grows}
 use Rattle.wh_machine.proofs.SoundLaws.{sound_ready, sound_step}
 
 -- ---- lists that grow
@@ -151,15 +151,10 @@ settles_later m (Does reply sessions (Some acts)) sound holds =
 -- an event
 pub later_step : (m : Machine) (e : Event) → SoundMachine m
     → AreLater (stamp_of m.state (reading_of e)) m.state.objects (step m e).0.state.objects
-later_step m e sound = by_stamp (has_stamp m e) refl
-  where
-    by_stamp : (has : Bool) → has_stamp m e ≡ has
-        → AreLater (stamp_of m.state (reading_of e)) m.state.objects (step m e).0.state.objects
-    by_stamp true is =
-        rw (step_at m e is)
-        (settles_later (ready m e) (decided m e) (sound_ready m e sound) (lawful (ready m e) e))
-    by_stamp false is =
-        rw (stamp_refused m e is) (same_objects (stamp_of m.state (reading_of e)) m.state.objects)
+later_step m e sound = each_event m e
+    (λ p acts. AreLater (stamp_of m.state (reading_of e)) m.state.objects p.0.state.objects)
+    (settles_later (ready m e) (decided m e) (sound_ready m e sound) (lawful (ready m e) e))
+    (same_objects (stamp_of m.state (reading_of e)) m.state.objects)
 
 -- ---- what stands at an id
 

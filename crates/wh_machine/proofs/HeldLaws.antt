@@ -17,11 +17,11 @@ use Rattle.wh_machine.specs.Sessions.{no_sessions, transaction_in, number_in}
 use Rattle.wh_machine.specs.Outcome.{Machine, Outcome, Refuses, Does, opened, settled}
 use Rattle.wh_machine.specs.Sound.{SoundMachine}
 use Rattle.wh_machine.specs.Consuming.{is_read_by, reads, AreApart, IsHeldAlong}
-use Rattle.wh_machine.specs.Step.{Event, has_stamp, decided, step, after}
+use Rattle.wh_machine.specs.Step.{Event, decided, step, after}
 use Rattle.wh_machine.proofs.OutcomeLaws.{IsLawful, begun_in, start_before, lawful}
 use Rattle.wh_machine.proofs.ConsumingLaws.{table_after, offset_passed}
 use Rattle.wh_machine.proofs.ReadLaws.{read_by}
-use Rattle.wh_machine.proofs.StepLaws.{ready, step_at, stamp_refused}
+use Rattle.wh_machine.proofs.StepLaws.{ready, each_event}
 
 none_reads : (count session id : ℕ) → reads (replicate count None) session id ≡ false
 none_reads zero session id = refl
@@ -37,11 +37,8 @@ apart_opened s one other id first second =
     absurd (not_both (reads no_sessions one id) first (none_reads 65 one id))
 
 pub apart_step : (m : Machine) (e : Event) → AreApart m.sessions → AreApart (step m e).0.sessions
-apart_step m e apart = by_stamp (has_stamp m e) refl
-  where
-    by_stamp : (has : Bool) → has_stamp m e ≡ has → AreApart (step m e).0.sessions
-    by_stamp true is = rw (step_at m e is) ((lawful (ready m e) e).sessions.apart apart)
-    by_stamp false is = rw (stamp_refused m e is) apart
+apart_step m e apart =
+    each_event m e (λ p acts. AreApart p.0.sessions) ((lawful (ready m e) e).sessions.apart apart) apart
 
 -- where a session holds a stream behind an outcome, the stream is as it was
 leaves_held : (session id : ℕ) (s : Stream) (m : Machine) (o : Outcome) → IsLawful m o → AreApart m.sessions
@@ -56,25 +53,18 @@ leaves_held session id s m (Does reply sessions (Some acts)) holds apart held st
 pub held_step : (session id : ℕ) (s : Stream) (m : Machine) (e : Event) → AreApart m.sessions
     → reads m.sessions session id ≡ true → reads (step m e).0.sessions session id ≡ true
     → stream_at m.state.objects id ≡ Some s → stream_at (step m e).0.state.objects id ≡ Some s
-held_step session id s m e apart held still at = by_stamp (has_stamp m e) refl still
-  where
-    by_stamp : (has : Bool) → has_stamp m e ≡ has → reads (step m e).0.sessions session id ≡ true
-        → stream_at (step m e).0.state.objects id ≡ Some s
-    by_stamp true is =
-        rw (step_at m e is) (λ still.
-        leaves_held session id s (ready m e) (decided m e) (lawful (ready m e) e) apart held still at)
-    by_stamp false is = rw (stamp_refused m e is) (λ still. at)
+held_step session id s m e apart held still at =
+    each_event m e (λ p acts. reads p.0.sessions session id ≡ true → stream_at p.0.state.objects id ≡ Some s)
+    (λ still. leaves_held session id s (ready m e) (decided m e) (lawful (ready m e) e) apart held still at)
+    (λ still. at) still
 
 -- and that holds it by the same transaction
 pub number_step : (session id : ℕ) (m : Machine) (e : Event) → reads m.sessions session id ≡ true
     → reads (step m e).0.sessions session id ≡ true
     → number_in (step m e).0.sessions session ≡ number_in m.sessions session
-number_step session id m e held still = by_stamp (has_stamp m e) refl still
-  where
-    by_stamp : (has : Bool) → has_stamp m e ≡ has → reads (step m e).0.sessions session id ≡ true
-        → number_in (step m e).0.sessions session ≡ number_in m.sessions session
-    by_stamp true is = rw (step_at m e is) ((lawful (ready m e) e).sessions.number session id held)
-    by_stamp false is = rw (stamp_refused m e is) (λ still. refl)
+number_step session id m e held still = each_event m e
+    (λ p acts. reads p.0.sessions session id ≡ true → number_in p.0.sessions session ≡ number_in m.sessions session)
+    ((lawful (ready m e) e).sessions.number session id held) (λ still. refl) still
 
 first_held : (session id : ℕ) (m : Machine) (es : List Event) → IsHeldAlong session id m es
     → reads m.sessions session id ≡ true

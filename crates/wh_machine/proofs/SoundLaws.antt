@@ -1,7 +1,7 @@
 -- What is sound stays so.
 --     sound_opened                 the machine of a file's sound state is sound
 --     sound_step, sound_after      an event, and a run of them
-use Rattle.std.proofs.Common.{◌≡◌, ℕ, suc, zero, ◌<◌, ◌≤◌, Bool, true, false, List, [], ◌∷◌, Option, Some, None, refl}
+use Rattle.std.proofs.Common.{ℕ, suc, zero, ◌<◌, ◌≤◌, List, [], ◌∷◌, Option, Some, None}
 use Rattle.std.proofs.Common.{arith}
 use Rattle.std.specs.Prelude.{replicate}
 use Rattle.wh_state.specs.State.{State}
@@ -12,9 +12,9 @@ use Rattle.wh_state.proofs.SoundLaws.{IsWithin, sound_done}
 use Rattle.wh_machine.specs.Transaction.{Transaction}
 use Rattle.wh_machine.specs.Outcome.{Machine, Outcome, Refuses, Does, opened, settled}
 use Rattle.wh_machine.specs.Sound.{IsBegun, AreBegun, SoundMachine}
-use Rattle.wh_machine.specs.Step.{Event, has_stamp, decided, step, after}
+use Rattle.wh_machine.specs.Step.{Event, decided, step, after}
 use Rattle.wh_machine.proofs.OutcomeLaws.{MovesOn, IsLawful, lawful}
-use Rattle.wh_machine.proofs.StepLaws.{ready, step_at, stamp_refused}
+use Rattle.wh_machine.proofs.StepLaws.{ready, each_event}
 
 none_begun : (last count : ℕ) → AreBegun last (replicate count None)
 none_begun last zero = tt
@@ -57,13 +57,9 @@ sound_ready m e sound = record {
 
 -- an event
 pub sound_step : (m : Machine) (e : Event) → SoundMachine m → SoundMachine (step m e).0
-sound_step m e sound = by_stamp (has_stamp m e) refl
-  where
-    by_stamp : (has : Bool) → has_stamp m e ≡ has → SoundMachine (step m e).0
-    by_stamp true is =
-        rw (step_at m e is) (settles_sound (ready m e) (decided m e)
-        (omega (arith, sound.state.ordered)) (sound_ready m e sound) (lawful (ready m e) e))
-    by_stamp false is = rw (stamp_refused m e is) sound
+sound_step m e sound = each_event m e (λ p acts. SoundMachine p.0)
+    (settles_sound (ready m e) (decided m e) (omega (arith, sound.state.ordered)) (sound_ready m e sound)
+    (lawful (ready m e) e)) sound
 
 -- a run of events
 pub sound_after : (m : Machine) (es : List Event) → SoundMachine m → SoundMachine (after m es)
