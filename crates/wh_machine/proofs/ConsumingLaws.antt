@@ -140,7 +140,7 @@ acts_later s objects (MovesOffset id offset ∷ acts) on later =
 same_objects : (stamp : ℕ) (objects : List Object) → AreLater stamp objects objects
 same_objects stamp objects = same_extends (IsLater stamp) (same_later stamp) objects
 
-settles_later : (m : Machine) (o : Outcome) → SoundMachine m → IsLawful m o
+settles_later : (m : Machine) {moving : List ℕ} (o : Outcome) → SoundMachine m → IsLawful m moving o
     → AreLater m.state.last m.state.objects (settled m o).0.state.objects
 settles_later m (Refuses why) sound holds = same_objects m.state.last m.state.objects
 settles_later m (Does reply sessions None) sound holds = same_objects m.state.last m.state.objects

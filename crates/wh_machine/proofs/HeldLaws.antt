@@ -41,13 +41,14 @@ apart_step m e apart =
     each_event m e (λ p acts. AreApart p.0.sessions) ((lawful (ready m e) e).sessions.apart apart) apart
 
 -- where a session holds a stream behind an outcome, the stream is as it was
-leaves_held : (session id : ℕ) (s : Stream) (m : Machine) (o : Outcome) → IsLawful m o → AreApart m.sessions
+leaves_held : (session id : ℕ) (s : Stream) (m : Machine) {moving : List ℕ} (o : Outcome) → IsLawful m moving o
+    → AreApart m.sessions
     → reads m.sessions session id ≡ true → reads (settled m o).0.sessions session id ≡ true
     → stream_at m.state.objects id ≡ Some s → stream_at (settled m o).0.state.objects id ≡ Some s
 leaves_held session id s m (Refuses why) holds apart held still at = at
 leaves_held session id s m (Does reply sessions None) holds apart held still at = at
 leaves_held session id s m (Does reply sessions (Some acts)) holds apart held still at =
-    holds.acts.spares apart session id s held still at
+    holds.acts.stays id s at (holds.acts.free apart session id held still)
 
 -- no event takes a stream from the session that holds it, nor moves its offset
 pub held_step : (session id : ℕ) (s : Stream) (m : Machine) (e : Event) → AreApart m.sessions

@@ -80,56 +80,58 @@ AllMoveOn s acts = AllByRecursion (MovesOn s) acts
 abbrev pub KeepsMovingOn : Machine → List Act → Type 0
 KeepsMovingOn m acts = AreBegun m.state.last m.sessions → AllMoveOn m.state acts
 
--- a stream that is held before and behind an outcome stays as it is
-abbrev pub SparesHeld : Machine → Sessions → List Act → Type 0
-SparesHeld m sessions acts = AreApart m.sessions → (q id : ℕ) (s : Stream) → reads m.sessions q id ≡ true
-    → reads sessions q id ≡ true → stream_at m.state.objects id ≡ Some s
-    → stream_at (all_acted m.state.last m.state.objects acts) id ≡ Some s
+-- no stream that is held before and behind is among those that move
+abbrev pub MovesFree : Machine → Sessions → List ℕ → Type 0
+MovesFree m sessions moving = AreApart m.sessions → (q id : ℕ) → reads m.sessions q id ≡ true
+    → reads sessions q id ≡ true → list_any (nat_eq id) moving ≡ false
 
--- what holds of the acts of a commit that leaves these sessions
-pub record IsCommitOf (m : Machine) (sessions : Sessions) (acts : List Act) : Type 0 where
+-- what holds of the acts of a commit that leaves these sessions and moves those streams
+pub record IsCommitOf (m : Machine) (moving : List ℕ) (sessions : Sessions) (acts : List Act) : Type 0 where
   pub shape : AreEditsFrom 0 acts
   pub moves : KeepsMovingOn m acts
-  pub spares : SparesHeld m sessions acts
+  pub free : MovesFree m sessions moving
+  pub stays : (id : ℕ) (s : Stream) → stream_at m.state.objects id ≡ Some s → list_any (nat_eq id) moving ≡ false
+      → stream_at (all_acted m.state.last m.state.objects acts) id ≡ Some s
 
-abbrev pub AreOfCommit : Machine → Sessions → Option (List Act) → Type 0
-AreOfCommit m sessions None = Unit {0}
-AreOfCommit m sessions (Some acts) = IsCommitOf m sessions acts
+abbrev pub AreOfCommit : Machine → List ℕ → Sessions → Option (List Act) → Type 0
+AreOfCommit m moving sessions None = Unit {0}
+AreOfCommit m moving sessions (Some acts) = IsCommitOf m moving sessions acts
 
-pub record IsLawful (m : Machine) (o : Outcome) : Type 0 where
+-- of an outcome that moves no other streams
+pub record IsLawful (m : Machine) (moving : List ℕ) (o : Outcome) : Type 0 where
   -- where the reply is a refusal, all is as it was
   pub refused : IsTrue (is_refusal (settled m o).1) → (acts_in o ≡ None) × ((settled m o).0 ≡ m)
   pub sessions : KeepsSessions m (settled m o).0.sessions
-  pub acts : AreOfCommit m (settled m o).0.sessions (acts_in o)
+  pub acts : AreOfCommit m moving (settled m o).0.sessions (acts_in o)
 
 same_sessions : (m : Machine) → KeepsSessions m m.sessions
 same_sessions m =
     record { begun = λ begun. begun; apart = λ apart. apart; number = λ q id before behind. refl }
 
-refuses : (m : Machine) (why : Refusal) → IsLawful m (Refuses why)
+refuses : (m : Machine) {moving : List ℕ} (why : Refusal) → IsLawful m moving (Refuses why)
 refuses m why = record { refused = λ is. (refl, refl); sessions = same_sessions m; acts = tt }
 
-does : (m : Machine) (reply : Reply) (sessions : Sessions) (acts : Option (List Act)) → is_refusal reply ≡ false
-    → KeepsSessions m sessions → AreOfCommit m sessions acts
-    → IsLawful m (Does reply sessions acts)
+does : (m : Machine) {moving : List ℕ} (reply : Reply) (sessions : Sessions) (acts : Option (List Act)) → is_refusal reply ≡ false
+    → KeepsSessions m sessions → AreOfCommit m moving sessions acts
+    → IsLawful m moving (Does reply sessions acts)
 does m reply sessions acts accepted keeps are =
     record { refused = λ is. absurd cc; sessions = keeps; acts = are }
 
-tested : (m : Machine) (found : Option Refusal) (o : Outcome) → IsLawful m o → IsLawful m (unless found o)
+tested : (m : Machine) {moving : List ℕ} (found : Option Refusal) (o : Outcome) → IsLawful m moving o → IsLawful m moving (unless found o)
 tested m (Some why) o holds = refuses m why
 tested m None o holds = holds
 
-tested_last : (m : Machine) (found : Option Refusal) (o : Outcome) → IsLawful m o → IsLawful m (last_test found o)
+tested_last : (m : Machine) {moving : List ℕ} (found : Option Refusal) (o : Outcome) → IsLawful m moving o → IsLawful m moving (last_test found o)
 tested_last m found (Refuses why) holds = holds
 tested_last m found (Does reply sessions acts) holds = tested m found (Does reply sessions acts) holds
 
-either : (m : Machine) (b : Bool) (o p : Outcome) → IsLawful m o → IsLawful m p → IsLawful m (cond b o p)
+either : (m : Machine) {moving : List ℕ} (b : Bool) (o p : Outcome) → IsLawful m moving o → IsLawful m moving p → IsLawful m moving (cond b o p)
 either m true o p first second = first
 either m false o p first second = second
 
 -- ---- outcomes that leave the sessions as they are
 
-answered : (m : Machine) (reply : Reply) → is_refusal reply ≡ false → IsLawful m (answers m reply)
+answered : (m : Machine) {moving : List ℕ} (reply : Reply) → is_refusal reply ≡ false → IsLawful m moving (answers m reply)
 answered m reply accepted = does m reply m.sessions None accepted (same_sessions m) tt
 
 -- acts that make and drop objects
@@ -161,30 +163,31 @@ spares_all stamp objects (EditsRows other e ∷ acts) are id s at = absurd are.0
 spares_all stamp objects (MovesOffset other offset ∷ acts) are id s at = absurd are.0
 
 defined : (m : Machine) (reply : Reply) (acts : List Act) → is_refusal reply ≡ false → AllByRecursion Defines acts
-    → IsLawful m (commits m reply acts)
+    → IsLawful m [] (commits m reply acts)
 defined m reply acts accepted are = does m reply m.sessions (Some acts) accepted (same_sessions m) (record {
   shape = no_more_edits (all_map Defines IsNoEdit (λ act is. (defines_only m.state act is).0) acts are);
   moves = λ begun. all_map Defines (MovesOn m.state) (λ act is. (defines_only m.state act is).1) acts are;
-  spares = λ apart q id s before behind at. spares_all m.state.last m.state.objects acts are id s at;
+  free = λ apart q id held still. refl;
+  stays = λ id s at none. spares_all m.state.last m.state.objects acts are id s at;
 })
 
-created : (m : Machine) (n : NewTable) → IsLawful m (commits m (CreatedTable n.name) (table_made n))
+created : (m : Machine) (n : NewTable) → IsLawful m [] (commits m (CreatedTable n.name) (table_made n))
 created m n = by_replaced n.replaced
   where
     made : Act
     made = MakesTable n.name n.columns (retention_of n)
 
-    by_replaced : (replaced : Option ℕ) → IsLawful m (commits m (CreatedTable n.name) (drops replaced ++ made ∷ []))
+    by_replaced : (replaced : Option ℕ) → IsLawful m [] (commits m (CreatedTable n.name) (drops replaced ++ made ∷ []))
     by_replaced None = defined m (CreatedTable n.name) (made ∷ []) refl (tt, tt)
     by_replaced (Some id) =
         defined m (CreatedTable n.name) (DropsObject id ∷ made ∷ []) refl (tt, (tt, tt))
 
 dropped : (m : Machine) (reply : Reply) (id : ℕ) → is_refusal reply ≡ false
-    → IsLawful m (commits m reply (DropsObject id ∷ []))
+    → IsLawful m [] (commits m reply (DropsObject id ∷ []))
 dropped m reply id accepted = defined m reply (DropsObject id ∷ []) accepted (tt, tt)
 
-definition : (m : Machine) (session : ℕ) (old : Option ℕ) (o : Outcome) → IsLawful m o
-    → IsLawful m (defines m session old o)
+definition : (m : Machine) {moving : List ℕ} (session : ℕ) (old : Option ℕ) (o : Outcome) → IsLawful m moving o
+    → IsLawful m moving (defines m session old o)
 unfolding defines
 definition m session old o holds = tested m _ _ (tested_last m _ _ holds)
 
@@ -233,28 +236,23 @@ edits_move_on : (s : State) (found : List (ℕ × Staged)) (moves : List Act) �
 edits_move_on s [] moves on = on
 edits_move_on s (entry ∷ others) moves on = (tt, edits_move_on s others moves on)
 
--- no stream that is held before and behind is among those that move
-abbrev MovesFree : Machine → Sessions → List ℕ → Type 0
-MovesFree m sessions moving = AreApart m.sessions → (q id : ℕ) → reads m.sessions q id ≡ true
-    → reads sessions q id ≡ true → list_any (nat_eq id) moving ≡ false
-
 is_commit : (m : Machine) (sessions : Sessions) (start : ℕ) (moving : List ℕ) (found : List (ℕ × Staged))
     → RiseFrom 0 found → (AreBegun m.state.last m.sessions → start ≤ m.state.last - 1) → MovesFree m sessions moving
-    → IsCommitOf m sessions (map edit_act found ++ offset_moves m.state.objects start moving)
+    → IsCommitOf m moving sessions (map edit_act found ++ offset_moves m.state.objects start moving)
 is_commit m sessions start moving found rising before free = record {
   shape = edits_of_rising 0 found (offset_moves m.state.objects start moving) rising
       (they_move m.state.objects start moving);
   moves = λ begun. edits_move_on m.state found (offset_moves m.state.objects start moving)
       (all_move_on m.state start (before begun) moving);
-  spares = λ apart q id s held still at.
-      acts_at m.state.objects m.state.last start id s at found moving m.state.objects at
-      ∙ ap (λ (among : Bool). Some (left_of start s among s)) (free apart q id held still);
+  free = free;
+  stays = λ id s at none. acts_at m.state.objects m.state.last start id s at found moving m.state.objects at
+      ∙ ap (λ (among : Bool). Some (left_of start s among s)) none;
 }
 
 acts_are : (m : Machine) (sessions : Sessions) (streams : List ℕ) (start : ℕ) (moving : List ℕ)
     (found : List (ℕ × Staged)) → RiseFrom 0 found → (AreBegun m.state.last m.sessions → start ≤ m.state.last - 1)
     → MovesFree m sessions moving
-    → AreOfCommit m sessions (acts_of_commit streams (offset_moves m.state.objects start moving) (map edit_act found))
+    → AreOfCommit m moving sessions (acts_of_commit streams (offset_moves m.state.objects start moving) (map edit_act found))
 acts_are m sessions [] start moving [] rising before free = tt
 acts_are m sessions [] start moving (entry ∷ others) rising before free =
     is_commit m sessions start moving (entry ∷ others) rising before free
@@ -274,7 +272,7 @@ no_refusal (Merge source on clauses) e = refl
 recorded_holds : (m : Machine) (reply : Reply) (sessions : Sessions)
     (t : Transaction) → is_refusal reply ≡ false → KeepsSessions m sessions
     → (AreBegun m.state.last m.sessions → start_of t ≤ m.state.last - 1) → MovesFree m sessions t.streams
-    → IsLawful m (recorded m reply sessions t)
+    → IsLawful m t.streams (recorded m reply sessions t)
 unfolding acts_of
 recorded_holds m reply sessions t accepted keeps before free =
     tested m (commit_refusal m.state.objects t) _ (does m reply sessions _ accepted keeps
@@ -297,10 +295,11 @@ pub start_before : (last : ℕ) (t : Option Transaction) → IsBegun last t → 
 start_before last None begun = omega arith
 start_before last (Some t) begun = omega (arith, begun)
 
--- the streams that a change reads are free for its session
-abbrev IsFree : Machine → ℕ → Changed → Type 0
-IsFree m session (Fails why) = Unit {0}
-IsFree m session (Gives id streams change e) = first_locked m.sessions session streams ≡ None
+-- a change that reads those streams, which are free for its session
+abbrev IsFree : Machine → ℕ → List ℕ → Changed → Type 0
+IsFree m session streams (Fails why) = Unit {0}
+IsFree m session streams (Gives id read change e) =
+    (read ≡ streams) × (first_locked m.sessions session read ≡ None)
 
 none_locked : (naming reading : Option Refusal) (found : Option ℕ)
     → first_of (naming ∷ reading ∷ option_map Locked found ∷ []) ≡ None → found ≡ None
@@ -310,21 +309,22 @@ none_locked None None (Some number) none = absurd cc
 none_locked None None None none = refl
 
 given_free : (m : Machine) (session id : ℕ) (streams : List ℕ) (change : Change) (o : effects.Outcome)
-    → first_locked m.sessions session streams ≡ None → IsFree m session (given id streams change o)
+    → first_locked m.sessions session streams ≡ None → IsFree m session streams (given id streams change o)
 given_free m session id streams change effects.Undefined free = tt
 given_free m session id streams change (effects.Ambiguous row) free = tt
-given_free m session id streams change (effects.Does e) free = free
+given_free m session id streams change (effects.Does e) free = (refl, free)
 
-bound_free : (m : Machine) (session : ℕ) (b : BoundChange) → IsFree m session (bound_changed m session b)
+bound_free : (m : Machine) (session : ℕ) (b : BoundChange)
+    → IsFree m session (streams_read m b) (bound_changed m session b)
 bound_free m session b = by_refusal (change_refusal m session b) refl
   where
     by_table : (found : Option Table) → first_locked m.sessions session (streams_read m b) ≡ None
-        → IsFree m session (given_on (streams_read m b) (instance_read m session b.sources) b found)
+        → IsFree m session (streams_read m b) (given_on (streams_read m b) (instance_read m session b.sources) b found)
     by_table None free = tt
     by_table (Some t) free = given_free m session b.target (streams_read m b) b.change _ free
 
     by_refusal : (found : Option Refusal) → change_refusal m session b ≡ found
-        → IsFree m session (fails_or found (given_on (streams_read m b) (instance_read m session b.sources) b
+        → IsFree m session (streams_read m b) (fails_or found (given_on (streams_read m b) (instance_read m session b.sources) b
         (table_at (objects_seen m session) b.target)))
     by_refusal (Some why) is = tt
     by_refusal None is =
@@ -358,30 +358,41 @@ free_alone m session streams none free apart q id held still =
     by_part (inl among) = mine (free_of m.sessions session q id streams free among held)
     by_part (inr is) = absurd cc
 
-changed_holds : (m : Machine)
-    (session : ℕ) (t : Option Transaction) → transaction_in m.sessions session ≡ t → (c : Changed)
-    → IsFree m session c → IsLawful m (changes_in m session t c)
+-- the streams that a transaction read
+abbrev pub streams_of : Option Transaction → List ℕ
+streams_of None = []
+streams_of (Some t) = t.streams
+
+-- those that a change moves by itself; in a transaction it moves none
+abbrev pub moved_alone : List ℕ → Option Transaction → List ℕ
+moved_alone streams None = with_streams streams []
+moved_alone streams (Some t) = []
+
+changed_holds : (m : Machine) (session : ℕ) (t : Option Transaction) → transaction_in m.sessions session ≡ t
+    → (streams : List ℕ) (c : Changed) → IsFree m session streams c
+    → IsLawful m (moved_alone streams t) (changes_in m session t c)
 unfolding staged
-changed_holds m session t is (Fails why) free = refuses m why
-changed_holds m session None is (Gives id streams change e) free =
-    recorded_holds m (reply_to change e) m.sessions (staged_in_state m.state (begun m.state.last) id streams e)
-    (no_refusal change e) (same_sessions m) (λ begun. omega arith) (free_alone m session streams is free)
-changed_holds m session (Some t) is (Gives id streams change e) free =
+changed_holds m session t is streams (Fails why) free = refuses m why
+changed_holds m session None is streams (Gives id read change e) free =
+    subst (λ (ids : List ℕ). IsLawful m (with_streams ids []) (changes_in m session None (Gives id read change e))) free.0
+    (recorded_holds m (reply_to change e) m.sessions (staged_in_state m.state (begun m.state.last) id read e)
+    (no_refusal change e) (same_sessions m) (λ begun. omega arith) (free_alone m session read is free.1))
+changed_holds m session (Some t) is streams (Gives id read change e) free =
     does m (reply_to change e) _ None (no_refusal change e) (record {
       begun = λ begun. begun_with m.state.last m.sessions session _ begun
           (subst (IsBegun m.state.last) is (begun_in m.state.last m.sessions session begun));
-      apart = apart_staged m.sessions session id (next_row_of (table_at m.state.objects id)) streams t e is free;
+      apart = apart_staged m.sessions session id (next_row_of (table_at m.state.objects id)) read t e is free.1;
       number = λ q stream before behind. number_put m.sessions session q stream _
-          (λ read. sym (ap (λ (found : Option Transaction). option_map (λ t. t.number) found) is)) behind;
+          (λ reads. sym (ap (λ (found : Option Transaction). option_map (λ t. t.number) found) is)) behind;
     }) tt
 
 -- ---- queries
 
-listed_rows : (m : Machine) (b : BoundSelect) (found : Option Bag) → IsLawful m (listing_of m b found)
+listed_rows : (m : Machine) {moving : List ℕ} (b : BoundSelect) (found : Option Bag) → IsLawful m moving (listing_of m b found)
 listed_rows m b None = refuses m NumberOutOfRange
 listed_rows m b (Some rows) = answered m (Listing b.names (listed b.keys rows)) refl
 
-asked_holds : (m : Machine) (session id : ℕ) (found : Option Stream) → IsLawful m (asked m session id found)
+asked_holds : (m : Machine) {moving : List ℕ} (session id : ℕ) (found : Option Stream) → IsLawful m moving (asked m session id found)
 asked_holds m session id None = answered m (HasData false) refl
 asked_holds m session id (Some s) =
     tested m (reading_refusal m.state.objects m.state.last (id ∷ [])) _
@@ -389,8 +400,8 @@ asked_holds m session id (Some s) =
 
 -- ---- transactions
 
-begun_holds : (m : Machine) (session : ℕ)
-    → IsLawful m (Does (Begun m.state.last) (with_begun m.sessions session m.state.last) None)
+begun_holds : (m : Machine) {moving : List ℕ} (session : ℕ)
+    → IsLawful m moving (Does (Begun m.state.last) (with_begun m.sessions session m.state.last) None)
 begun_holds m session = does m (Begun m.state.last) _ None refl (record {
   begun = λ begun. begun_with m.state.last m.sessions session _ begun (omega arith);
   apart = apart_put m.sessions session _ (λ id. refl);
@@ -423,7 +434,7 @@ no_commit_refusal stamp None = refl
 no_commit_refusal stamp (Some acts) = refl
 
 commit_holds : (m : Machine) (session : ℕ) (t : Option Transaction)
-    → transaction_in m.sessions session ≡ t → IsLawful m (commit_of m session t)
+    → transaction_in m.sessions session ≡ t → IsLawful m (streams_of t) (commit_of m session t)
 commit_holds m session None is = refuses m NoTransaction
 commit_holds m session (Some t) is =
     recorded_holds m (commit_reply m.state.last (acts_of m.state.objects t)) (with_ended m.sessions session) t
@@ -432,20 +443,26 @@ commit_holds m session (Some t) is =
     (subst (IsBegun m.state.last) is (begun_in m.state.last m.sessions session begun)))
     (free_ended m session t is)
 
-rollback_holds : (m : Machine) (session : ℕ) (t : Option Transaction) → IsLawful m (rollback_of m session t)
+rollback_holds : (m : Machine) {moving : List ℕ} (session : ℕ) (t : Option Transaction) → IsLawful m moving (rollback_of m session t)
 rollback_holds m session None = refuses m NoTransaction
 rollback_holds m session (Some t) = does m RolledBack _ None refl (ended m session) tt
 
 -- ---- all of them
 
+-- the streams that a statement moves
+abbrev pub moved_by : Machine → ℕ → Bound → List ℕ
+moved_by m session ddl.Commit = streams_of (transaction_in m.sessions session)
+moved_by m session (ddl.Change b) = moved_alone (streams_read m b) (transaction_in m.sessions session)
+moved_by m session _ = []
+
 statement : (m : Machine) (session : ℕ) (wrong : Option Refusal) (b : Bound)
-    → IsLawful m (carried_out m session wrong b)
+    → IsLawful m (moved_by m session b) (carried_out m session wrong b)
 unfolding carried_out begin commit rollback changes_rows selects has_data create_table drop_table create_stream drop_stream
 statement m session wrong ddl.Begin = tested m _ _ (begun_holds m session)
 statement m session wrong ddl.Commit = commit_holds m session (transaction_in m.sessions session) refl
 statement m session wrong ddl.Rollback = rollback_holds m session (transaction_in m.sessions session)
 statement m session wrong (ddl.Change b) =
-    changed_holds m session (transaction_in m.sessions session) refl (bound_changed m session b)
+    changed_holds m session (transaction_in m.sessions session) refl (streams_read m b) (bound_changed m session b)
     (bound_free m session b)
 statement m session wrong (ddl.Select b) =
     tested m _ _ (listed_rows m b (eval b.query (instance_read m session b.sources)))
@@ -470,7 +487,17 @@ statement m session wrong (ddl.RefreshDynamicTable id) = refuses m Unsupported
 statement m session wrong (ddl.SetTargetLag id lag) = refuses m Unsupported
 statement m session wrong (ddl.DropDynamicTable id) = refuses m Unsupported
 
-command : (m : Machine) (session : ℕ) (request : Request) → IsLawful m (commanded m session request)
+abbrev pub request_moves : Machine → ℕ → Request → List ℕ
+request_moves m session (Asked tree) = moved_by m session (meant_in m tree).value
+request_moves m session _ = []
+
+-- and an event
+abbrev pub event_moves : Machine → Event → List ℕ
+event_moves m (Command reading session request) = request_moves m session request
+event_moves m (Tick reading) = []
+
+command : (m : Machine) (session : ℕ) (request : Request)
+    → IsLawful m (request_moves m session request) (commanded m session request)
 unfolding commanded
 command m session TooLong = refuses m (OverLimit limits.Statement)
 command m session Unreadable = refuses m SyntaxError
@@ -479,6 +506,6 @@ command m session (Asked tree) =
     (statement m session (option_map refusal_of (first_failing (meant_in m tree))) (meant_in m tree).value)
     (refuses m (NoSuchSession session))
 
-pub lawful : (m : Machine) (e : Event) → IsLawful m (outcome_of m e)
+pub lawful : (m : Machine) (e : Event) → IsLawful m (event_moves m e) (outcome_of m e)
 lawful m (Command reading session request) = command m session request
 lawful m (Tick reading) = answered m Idle refl

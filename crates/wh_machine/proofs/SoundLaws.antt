@@ -32,7 +32,8 @@ within s (EditsRows id e) on = tt
 within s (MakesStream name source is_append_only) on = tt
 within s (MovesOffset id offset) on = omega (arith, on.0)
 
-settles_sound : (m : Machine) (o : Outcome) → m.state.committed < m.state.last → SoundMachine m → IsLawful m o
+settles_sound : (m : Machine) {moving : List ℕ} (o : Outcome) → m.state.committed < m.state.last → SoundMachine m
+    → IsLawful m moving o
     → SoundMachine (settled m o).0
 settles_sound m (Refuses why) later sound holds = sound
 settles_sound m (Does reply sessions None) later sound holds =

@@ -93,9 +93,8 @@ committed_kept m e before = each_event m e (λ p acts. p.0.state.committed ≤ p
 -- ---- what a file means
 
 -- what an outcome comes to, over an orderly file that means the state but for its last stamp
-pub settled_meant : (s : Stored) (m : Machine) (stamp : ℕ) (o : Outcome) → IsOrderlyStored s
-    → IsLawful (at_stamp m stamp) o
-    → m.state ≡ record (meant s) { last = m.state.last }
+pub settled_meant : (s : Stored) (m : Machine) (stamp : ℕ) {moving : List ℕ} (o : Outcome) → IsOrderlyStored s
+    → IsLawful (at_stamp m stamp) moving o → m.state ≡ record (meant s) { last = m.state.last }
     → (settled (at_stamp m stamp) o).0.state
     ≡ record (meant (kept_after s (option_map (commit_for s stamp) (acts_in o)))) { last = stamp }
 settled_meant s m stamp (Refuses why) orderly holds is = ap (λ (t : State). stamped t stamp) is
