@@ -30,10 +30,10 @@ use Rattle.wh_machine.specs.Statements.{streams_read, change_refusal, bound_chan
 use Rattle.wh_machine.specs.Statements.{commit, commit_of, carried_out, carried_out_as, meant_in}
 use Rattle.wh_machine.specs.Consuming.{shown_of, shown_to, consumed, is_read_by, reads, AreApart, IsHeldAlong}
 use Rattle.wh_machine.specs.Consuming.{committing, changing, change_in, change_reads}
-use Rattle.wh_machine.specs.Step.{Event, Command, is_session, at_stamp, commanded, has_stamp}
+use Rattle.wh_machine.specs.Step.{Event, Command, is_session, at_stamp, commanded}
 use Rattle.wh_machine.specs.Step.{decided, step, after}
 use Rattle.wh_machine.proofs.MoveLaws.{read_to, among_streams, shown_again}
-use Rattle.wh_machine.proofs.StepLaws.{ready, step_at, stamp_refused}
+use Rattle.wh_machine.proofs.StepLaws.{ready, each_event}
 use Rattle.wh_machine.proofs.ReadLaws.{read_by, change_moves, commit_moves}
 use Rattle.wh_machine.proofs.HeldLaws.{held_after, read_again}
 
@@ -50,7 +50,11 @@ accepted_step : (m : Machine) (reading session : ℕ) (written : tree.Statement)
     (carried_out_as (ready m (Command reading session (Asked written))) session
     (meant_in (ready m (Command reading session (Asked written))) written))
 unfolding commanded
-accepted_step m reading session written accepted = by_stamp (has_stamp m e) refl
+accepted_step m reading session written accepted =
+    each_event m e
+    (λ p acts. is_refusal p.1 ≡ false
+    → p ≡ settled (ready m e) (carried_out_as (ready m e) session (meant_in (ready m e) written)))
+    (by_session (is_session session) refl) (λ accepted. absurd cc) accepted
   where
     e : Event
     e = Command reading session (Asked written)
@@ -61,14 +65,6 @@ accepted_step m reading session written accepted = by_stamp (has_stamp m e) refl
         ≡ settled (ready m e) (carried_out_as (ready m e) session (meant_in (ready m e) written))
     by_session true is accepted = rw is refl
     by_session false is accepted = absurd cc
-
-    by_stamp : (has : Bool) → has_stamp m e ≡ has
-        → step m e ≡ settled (ready m e) (carried_out_as (ready m e) session (meant_in (ready m e) written))
-    by_stamp true is =
-        step_at m e is ∙ by_session (is_session session) refl
-        (sym (ap (λ (p : Machine × Reply). is_refusal p.1) (step_at m e is)) ∙ accepted)
-    by_stamp false is =
-        refused_isnt (sym (ap (λ (p : Machine × Reply). is_refusal p.1) (stamp_refused m e is)) ∙ accepted)
 
 -- ---- what is consumed, as rows
 

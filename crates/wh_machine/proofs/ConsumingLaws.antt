@@ -22,13 +22,13 @@ use Rattle.wh_state.proofs.AllLaws.{all_at}
 use Rattle.wh_net.specs.Net.{patch}
 use Rattle.wh_net.specs.Stream.{rows_at, records_between, shown}
 use Rattle.wh_net.proofs.NetLaws.{patched}
-use Rattle.wh_machine.specs.Outcome.{Machine, Outcome, settled}
+use Rattle.wh_machine.specs.Outcome.{Machine, Outcome, Refuses, Does, settled}
 use Rattle.wh_machine.specs.Sound.{SoundMachine}
 use Rattle.wh_machine.specs.Consuming.{Extends, IsLaterStream, IsLaterKind, IsLater, AreLater, rows_then, shown_of}
 use Rattle.wh_machine.specs.Consuming.{shown_to, consumed, batches, all_patched, rows_consumed}
-use Rattle.wh_machine.specs.Step.{Event, reading_of, stamp_of, has_stamp, step, after}
-use Rattle.wh_machine.proofs.OutcomeLaws.{AllMoveOn, HoldsOfEach, outcome_of_event}
-use Rattle.wh_machine.proofs.StepLaws.{ready, step_at, stamp_refused, last_grows}
+use Rattle.wh_machine.specs.Step.{Event, reading_of, stamp_of, decided, step, after}
+use Rattle.wh_machine.proofs.OutcomeLaws.{AllMoveOn, IsLawful, lawful}
+use Rattle.wh_machine.proofs.StepLaws.{ready, each_event, last_grows}
 use Rattle.wh_machine.proofs.SoundLaws.{sound_ready, sound_step}
 
 -- ---- lists that grow
@@ -137,33 +137,24 @@ acts_later s objects (MovesOffset id offset ∷ acts) on later =
 
 -- ---- events
 
-abbrev SettlesLater : Machine → Outcome → Type 0
-SettlesLater m o = AreLater m.state.last m.state.objects (settled m o).0.state.objects
+same_objects : (stamp : ℕ) (objects : List Object) → AreLater stamp objects objects
+same_objects stamp objects = same_extends (IsLater stamp) (same_later stamp) objects
 
-settles_later : (m : Machine) → SoundMachine m → HoldsOfEach m (SettlesLater m)
-settles_later m sound = record {
-  refusal = λ why. same_extends (IsLater m.state.last) (same_later m.state.last) m.state.objects;
-  answer = λ reply sessions accepted keeps.
-      same_extends (IsLater m.state.last) (same_later m.state.last) m.state.objects;
-  commit = λ reply sessions acts accepted keeps shape on spares.
-      acts_later m.state m.state.objects acts (on sound.begun)
-      (same_extends (IsLater m.state.last) (same_later m.state.last) m.state.objects);
-}
+settles_later : (m : Machine) {moving : List ℕ} (o : Outcome) → SoundMachine m → IsLawful m moving o
+    → AreLater m.state.last m.state.objects (settled m o).0.state.objects
+settles_later m (Refuses why) sound holds = same_objects m.state.last m.state.objects
+settles_later m (Does reply sessions None) sound holds = same_objects m.state.last m.state.objects
+settles_later m (Does reply sessions (Some acts)) sound holds =
+    acts_later m.state m.state.objects acts (holds.acts.moves sound.begun)
+    (same_objects m.state.last m.state.objects)
 
 -- an event
 pub later_step : (m : Machine) (e : Event) → SoundMachine m
     → AreLater (stamp_of m.state (reading_of e)) m.state.objects (step m e).0.state.objects
-later_step m e sound = by_stamp (has_stamp m e) refl
-  where
-    by_stamp : (has : Bool) → has_stamp m e ≡ has
-        → AreLater (stamp_of m.state (reading_of e)) m.state.objects (step m e).0.state.objects
-    by_stamp true is =
-        rw (step_at m e is) (outcome_of_event (ready m e) (SettlesLater (ready m e))
-        (settles_later (ready m e) (sound_ready m e sound)) e)
-    by_stamp false is =
-        rw (stamp_refused m e is)
-        (same_extends (IsLater (stamp_of m.state (reading_of e))) (same_later (stamp_of m.state (reading_of e)))
-        m.state.objects)
+later_step m e sound = each_event m e
+    (λ p acts. AreLater (stamp_of m.state (reading_of e)) m.state.objects p.0.state.objects)
+    (settles_later (ready m e) (decided m e) (sound_ready m e sound) (lawful (ready m e) e))
+    (same_objects (stamp_of m.state (reading_of e)) m.state.objects)
 
 -- ---- what stands at an id
 

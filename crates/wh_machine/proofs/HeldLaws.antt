@@ -14,14 +14,14 @@ use Rattle.wh_net.specs.Stream.{rows_at, records_between, shown, shown_row, rows
 use Rattle.wh_machine.specs.Transaction.{Transaction, start_at}
 use Rattle.wh_machine.specs.Reading.{start_in, rows_read}
 use Rattle.wh_machine.specs.Sessions.{no_sessions, transaction_in, number_in}
-use Rattle.wh_machine.specs.Outcome.{Machine, Outcome, opened, settled}
+use Rattle.wh_machine.specs.Outcome.{Machine, Outcome, Refuses, Does, opened, settled}
 use Rattle.wh_machine.specs.Sound.{SoundMachine}
 use Rattle.wh_machine.specs.Consuming.{is_read_by, reads, AreApart, IsHeldAlong}
-use Rattle.wh_machine.specs.Step.{Event, has_stamp, step, after}
-use Rattle.wh_machine.proofs.OutcomeLaws.{HoldsOfEach, begun_in, start_before, outcome_of_event}
+use Rattle.wh_machine.specs.Step.{Event, decided, step, after}
+use Rattle.wh_machine.proofs.OutcomeLaws.{IsLawful, begun_in, start_before, lawful}
 use Rattle.wh_machine.proofs.ConsumingLaws.{table_after, offset_passed}
 use Rattle.wh_machine.proofs.ReadLaws.{read_by}
-use Rattle.wh_machine.proofs.StepLaws.{ready, step_at, stamp_refused}
+use Rattle.wh_machine.proofs.StepLaws.{ready, each_event}
 
 none_reads : (count session id : ℕ) → reads (replicate count None) session id ≡ false
 none_reads zero session id = refl
@@ -36,75 +36,36 @@ pub apart_opened : (s : State) → AreApart (opened s).sessions
 apart_opened s one other id first second =
     absurd (not_both (reads no_sessions one id) first (none_reads 65 one id))
 
-abbrev SettlesApart : Machine → Outcome → Type 0
-SettlesApart m o = AreApart (settled m o).0.sessions
-
-settles_apart : (m : Machine) → AreApart m.sessions → HoldsOfEach m (SettlesApart m)
-settles_apart m apart = record {
-  refusal = λ why. apart;
-  answer = λ reply sessions accepted keeps. keeps.apart apart;
-  commit = λ reply sessions acts accepted keeps shape on spares. keeps.apart apart;
-}
-
 pub apart_step : (m : Machine) (e : Event) → AreApart m.sessions → AreApart (step m e).0.sessions
-apart_step m e apart = by_stamp (has_stamp m e) refl
-  where
-    by_stamp : (has : Bool) → has_stamp m e ≡ has → AreApart (step m e).0.sessions
-    by_stamp true is =
-        rw (step_at m e is) (outcome_of_event (ready m e) (SettlesApart (ready m e))
-        (settles_apart (ready m e) apart) e)
-    by_stamp false is = rw (stamp_refused m e is) apart
+apart_step m e apart =
+    each_event m e (λ p acts. AreApart p.0.sessions) ((lawful (ready m e) e).sessions.apart apart) apart
 
 -- where a session holds a stream behind an outcome, the stream is as it was
-abbrev LeavesHeld : ℕ → ℕ → Stream → Machine → Outcome → Type 0
-LeavesHeld session id s m o =
-    reads (settled m o).0.sessions session id ≡ true → stream_at (settled m o).0.state.objects id ≡ Some s
-
-leaves_held : (session id : ℕ) (s : Stream) (m : Machine) → AreApart m.sessions → reads m.sessions session id ≡ true
-    → stream_at m.state.objects id ≡ Some s → HoldsOfEach m (LeavesHeld session id s m)
-leaves_held session id s m apart held at = record {
-  refusal = λ why still. at;
-  answer = λ reply sessions accepted keeps still. at;
-  commit = λ reply sessions acts accepted keeps shape on spares still. spares apart session id s held still at;
-}
+leaves_held : (session id : ℕ) (s : Stream) (m : Machine) {moving : List ℕ} (o : Outcome) → IsLawful m moving o
+    → AreApart m.sessions
+    → reads m.sessions session id ≡ true → reads (settled m o).0.sessions session id ≡ true
+    → stream_at m.state.objects id ≡ Some s → stream_at (settled m o).0.state.objects id ≡ Some s
+leaves_held session id s m (Refuses why) holds apart held still at = at
+leaves_held session id s m (Does reply sessions None) holds apart held still at = at
+leaves_held session id s m (Does reply sessions (Some acts)) holds apart held still at =
+    holds.acts.stays id s at (holds.acts.free apart session id held still)
 
 -- no event takes a stream from the session that holds it, nor moves its offset
 pub held_step : (session id : ℕ) (s : Stream) (m : Machine) (e : Event) → AreApart m.sessions
     → reads m.sessions session id ≡ true → reads (step m e).0.sessions session id ≡ true
     → stream_at m.state.objects id ≡ Some s → stream_at (step m e).0.state.objects id ≡ Some s
-held_step session id s m e apart held still at = by_stamp (has_stamp m e) refl still
-  where
-    by_stamp : (has : Bool) → has_stamp m e ≡ has → reads (step m e).0.sessions session id ≡ true
-        → stream_at (step m e).0.state.objects id ≡ Some s
-    by_stamp true is =
-        rw (step_at m e is) (outcome_of_event (ready m e) (LeavesHeld session id s (ready m e))
-        (leaves_held session id s (ready m e) apart held at) e)
-    by_stamp false is = rw (stamp_refused m e is) (λ still. at)
+held_step session id s m e apart held still at =
+    each_event m e (λ p acts. reads p.0.sessions session id ≡ true → stream_at p.0.state.objects id ≡ Some s)
+    (λ still. leaves_held session id s (ready m e) (decided m e) (lawful (ready m e) e) apart held still at)
+    (λ still. at) still
 
--- where a session holds a stream behind an outcome, it is by the same transaction
-abbrev LeavesNumber : ℕ → ℕ → Machine → Outcome → Type 0
-LeavesNumber session id m o = reads (settled m o).0.sessions session id ≡ true
-    → number_in (settled m o).0.sessions session ≡ number_in m.sessions session
-
-leaves_number : (session id : ℕ) (m : Machine) → reads m.sessions session id ≡ true
-    → HoldsOfEach m (LeavesNumber session id m)
-leaves_number session id m held = record {
-  refusal = λ why still. refl;
-  answer = λ reply sessions accepted keeps still. keeps.number session id held still;
-  commit = λ reply sessions acts accepted keeps shape on spares still. keeps.number session id held still;
-}
-
+-- and that holds it by the same transaction
 pub number_step : (session id : ℕ) (m : Machine) (e : Event) → reads m.sessions session id ≡ true
     → reads (step m e).0.sessions session id ≡ true
     → number_in (step m e).0.sessions session ≡ number_in m.sessions session
-number_step session id m e held still = by_stamp (has_stamp m e) refl still
-  where
-    by_stamp : (has : Bool) → has_stamp m e ≡ has → reads (step m e).0.sessions session id ≡ true
-        → number_in (step m e).0.sessions session ≡ number_in m.sessions session
-    by_stamp true is =
-        rw (step_at m e is) (outcome_of_event (ready m e) (LeavesNumber session id (ready m e))
-        (leaves_number session id (ready m e) held) e)
-    by_stamp false is = rw (stamp_refused m e is) (λ still. refl)
+number_step session id m e held still = each_event m e
+    (λ p acts. reads p.0.sessions session id ≡ true → number_in p.0.sessions session ≡ number_in m.sessions session)
+    ((lawful (ready m e) e).sessions.number session id held) (λ still. refl) still
 
 first_held : (session id : ℕ) (m : Machine) (es : List Event) → IsHeldAlong session id m es
     → reads m.sessions session id ≡ true

@@ -6,14 +6,13 @@ use Rattle.std.proofs.Common.{◌≡◌, ℕ, Bool, true, false, cond, List, [],
 use Rattle.std.proofs.Common.{refl, sym, ap, ◌∙◌, arith}
 use Rattle.std.specs.Prelude.{max, nat_eq, nat_lt, ◌||◌}
 use Rattle.std.specs.List.{list_any}
-use Rattle.std.specs.Option.{option_and_then, option_map_or}
 use Rattle.std.proofs.lemmas.Bool.Decides.{nat_tests}
 use Rattle.wh_meaning.specs.Bag.{bag_of}
 use Rattle.wh_naming.specs.Changes.{Change}
 use Rattle.wh_effect.specs.Effect.{Effect}
 use Rattle.wh_reply.specs.Reply.{Refusal, Reply, is_refusal}
-use Rattle.wh_state.specs.State.{Object, Stream, at_id, with_offset}
-use Rattle.wh_state.specs.Objects.{as_stream, table_at, stream_at}
+use Rattle.wh_state.specs.State.{Kind, TableKind, StreamKind, Object, Stream, at_id, with_offset}
+use Rattle.wh_state.specs.Objects.{stream_at}
 use Rattle.wh_machine.specs.Offsets.{offset_moves, acts_of_commit}
 use Rattle.wh_machine.specs.Changes.{Gives, reply_to}
 use Rattle.wh_net.specs.Stream.{rows_shown}
@@ -22,23 +21,30 @@ use Rattle.wh_machine.specs.Transaction.{touched, acts_of, commit_refusal}
 use Rattle.wh_machine.specs.Sessions.{Sessions, transaction_in, with_ended}
 use Rattle.wh_machine.specs.Consuming.{is_read_by, reads}
 use Rattle.wh_machine.specs.Outcome.{Machine, Outcome, Does, unless, settled}
-use Rattle.wh_machine.specs.Reading.{objects_seen, start_in, object_rows, rows_read}
-use Rattle.wh_machine.specs.Queries.{table_bag}
+use Rattle.wh_machine.specs.Reading.{start_in, rows_read}
 use Rattle.wh_machine.specs.Statements.{recorded, commit_reply, commit_of, commit, changes_in}
 use Rattle.wh_machine.proofs.MoveLaws.{read_to, left_of, acts_at, among_streams}
 
+no_stream : (objects : List Object) (id : ℕ) (s : Stream) → stream_at objects id ≡ Some s → stream_at objects id ≡ None
+    → ⊥
+no_stream objects id s at none = absurd cc
+
 pub read_by : (m : Machine) (session id : ℕ) (s : Stream) → stream_at m.state.objects id ≡ Some s
     → rows_read m session id ≡ bag_of (rows_shown m.state.objects s (start_in m session))
-read_by m session id s at = by_found (at_id m.state.objects id) at
+read_by m session id s at = by_found (at_id m.state.objects id) refl
   where
-    by_found : (found : Option Object) → option_and_then as_stream found ≡ Some s
-        → object_rows m.state.objects (objects_seen m session) (start_in m session) id found
-        ≡ bag_of (rows_shown m.state.objects s (start_in m session))
-    by_found None at = absurd cc
-    by_found (Some o) at =
-        ap (λ (r : Option Stream). option_map_or
-        (λ (q : Stream). bag_of (rows_shown m.state.objects q (start_in m session))) r
-        (table_bag (table_at (objects_seen m session) id))) at
+    by_kind : (o : Object) (k : Kind) → at_id m.state.objects id ≡ Some o → o.kind ≡ k
+        → rows_read m session id ≡ bag_of (rows_shown m.state.objects s (start_in m session))
+    by_kind o (TableKind t) there is = absurd (no_stream m.state.objects id s at (rw (there, is) refl))
+    by_kind o (StreamKind r) there is =
+        let here : stream_at m.state.objects id ≡ Some r = rw (there, is) refl in
+        let same : r ≡ s = cc in
+        rw (there, is) (ap (λ (q : Stream). bag_of (rows_shown m.state.objects q (start_in m session))) same)
+
+    by_found : (found : Option Object) → at_id m.state.objects id ≡ found
+        → rows_read m session id ≡ bag_of (rows_shown m.state.objects s (start_in m session))
+    by_found None there = absurd (no_stream m.state.objects id s at (rw there refl))
+    by_found (Some o) there = by_kind o o.kind there refl
 
 -- among those that are read it is read up to the start
 all_read : (start : ℕ) (s : Stream) (among : Bool) → among ≡ true

@@ -1,7 +1,7 @@
 -- What is sound stays so.
 --     sound_opened                 the machine of a file's sound state is sound
 --     sound_step, sound_after      an event, and a run of them
-use Rattle.std.proofs.Common.{◌≡◌, ℕ, suc, zero, ◌<◌, ◌≤◌, Bool, true, false, List, [], ◌∷◌, Option, Some, None, refl}
+use Rattle.std.proofs.Common.{ℕ, suc, zero, ◌<◌, ◌≤◌, List, [], ◌∷◌, Option, Some, None}
 use Rattle.std.proofs.Common.{arith}
 use Rattle.std.specs.Prelude.{replicate}
 use Rattle.wh_state.specs.State.{State}
@@ -10,11 +10,11 @@ use Rattle.wh_state.specs.Sound.{Sound}
 use Rattle.wh_state.proofs.AllLaws.{all_map}
 use Rattle.wh_state.proofs.SoundLaws.{IsWithin, sound_done}
 use Rattle.wh_machine.specs.Transaction.{Transaction}
-use Rattle.wh_machine.specs.Outcome.{Machine, Outcome, opened, settled}
+use Rattle.wh_machine.specs.Outcome.{Machine, Outcome, Refuses, Does, opened, settled}
 use Rattle.wh_machine.specs.Sound.{IsBegun, AreBegun, SoundMachine}
-use Rattle.wh_machine.specs.Step.{Event, has_stamp, step, after}
-use Rattle.wh_machine.proofs.OutcomeLaws.{MovesOn, HoldsOfEach, outcome_of_event}
-use Rattle.wh_machine.proofs.StepLaws.{ready, step_at, stamp_refused}
+use Rattle.wh_machine.specs.Step.{Event, decided, step, after}
+use Rattle.wh_machine.proofs.OutcomeLaws.{MovesOn, IsLawful, lawful}
+use Rattle.wh_machine.proofs.StepLaws.{ready, each_event}
 
 none_begun : (last count : ℕ) → AreBegun last (replicate count None)
 none_begun last zero = tt
@@ -32,18 +32,16 @@ within s (EditsRows id e) on = tt
 within s (MakesStream name source is_append_only) on = tt
 within s (MovesOffset id offset) on = omega (arith, on.0)
 
-abbrev SettlesSound : Machine → Outcome → Type 0
-SettlesSound m o = SoundMachine (settled m o).0
-
-settles_sound : (m : Machine) → m.state.committed < m.state.last → SoundMachine m → HoldsOfEach m (SettlesSound m)
-settles_sound m later sound = record {
-  refusal = λ why. sound;
-  answer = λ reply sessions accepted keeps. record { state = sound.state; begun = keeps.begun sound.begun };
-  commit = λ reply sessions acts accepted keeps shape on spares. record {
-    state = sound_done m.state later sound.state acts shape
-        (all_map (MovesOn m.state) (IsWithin m.state.last) (within m.state) acts (on sound.begun));
-    begun = keeps.begun sound.begun;
-  };
+settles_sound : (m : Machine) {moving : List ℕ} (o : Outcome) → m.state.committed < m.state.last → SoundMachine m
+    → IsLawful m moving o
+    → SoundMachine (settled m o).0
+settles_sound m (Refuses why) later sound holds = sound
+settles_sound m (Does reply sessions None) later sound holds =
+    record { state = sound.state; begun = holds.sessions.begun sound.begun }
+settles_sound m (Does reply sessions (Some acts)) later sound holds = record {
+  state = sound_done m.state later sound.state acts holds.acts.shape
+      (all_map (MovesOn m.state) (IsWithin m.state.last) (within m.state) acts (holds.acts.moves sound.begun));
+  begun = holds.sessions.begun sound.begun;
 }
 
 begun_later : (last later : ℕ) → last ≤ later → (found : Option Transaction) → IsBegun last found → IsBegun later found
@@ -60,13 +58,9 @@ sound_ready m e sound = record {
 
 -- an event
 pub sound_step : (m : Machine) (e : Event) → SoundMachine m → SoundMachine (step m e).0
-sound_step m e sound = by_stamp (has_stamp m e) refl
-  where
-    by_stamp : (has : Bool) → has_stamp m e ≡ has → SoundMachine (step m e).0
-    by_stamp true is =
-        rw (step_at m e is) (outcome_of_event (ready m e) (SettlesSound (ready m e))
-        (settles_sound (ready m e) (omega (arith, sound.state.ordered)) (sound_ready m e sound)) e)
-    by_stamp false is = rw (stamp_refused m e is) sound
+sound_step m e sound = each_event m e (λ p acts. SoundMachine p.0)
+    (settles_sound (ready m e) (decided m e) (omega (arith, sound.state.ordered)) (sound_ready m e sound)
+    (lawful (ready m e) e)) sound
 
 -- a run of events
 pub sound_after : (m : Machine) (es : List Event) → SoundMachine m → SoundMachine (after m es)

@@ -1,12 +1,13 @@
 -- What an event leaves.
 --     stamp_passes, stamp_refused           the last stamp, and an event that there is none for
+--     each_event                            what holds with a stamp and without one
 --     last_grows, committed_kept            the stamps of a machine
 --     settled_meant, decided_meant          an outcome over an orderly file that means the state before
 --     step_meant, rest_meant                with the event's commit it means the one after
 --     unmade                                an event without a commit
 --     refused_acts, refusals_change_nothing     a refused one
-use Rattle.std.proofs.Common.{◌≡◌, ℕ, ◌≤◌, Bool, true, false, List, Option, Some, None, option_map}
-use Rattle.std.proofs.Common.{refl, sym, ap, subst, ◌∙◌}
+use Rattle.std.proofs.Common.{◌≡◌, ℕ, ◌≤◌, Bool, true, false, cond, List, Option, Some, None, option_map}
+use Rattle.std.proofs.Common.{refl, sym, ap, ◌∙◌}
 use Rattle.std.proofs.Common.{arith}
 use Rattle.std.specs.Prelude.{IsTrue}
 use Rattle.wh_value.specs.declared.limit.Limit.TheVariants as limits
@@ -16,11 +17,11 @@ use Rattle.wh_state.specs.Act.{Act, done}
 use Rattle.wh_state.specs.Stored.{Stored, meant}
 use Rattle.wh_state.specs.Written.{commit_for, kept_after}
 use Rattle.wh_state.specs.Orderly.{IsOrderlyStored}
-use Rattle.wh_state.proofs.ActLaws.{IsOfOneStatement, written_meant}
+use Rattle.wh_state.proofs.ActLaws.{written_meant}
 use Rattle.wh_machine.specs.Outcome.{Machine, Outcome, Refuses, Does, settled, acts_in, rest_of}
 use Rattle.wh_machine.specs.Step.{Event, reading_of, stamp_of, at_stamp, has_stamp, decided, step, acts_of}
 use Rattle.wh_machine.specs.Made.{made}
-use Rattle.wh_machine.proofs.OutcomeLaws.{HoldsOfEach, outcome_of_event}
+use Rattle.wh_machine.proofs.OutcomeLaws.{IsLawful, lawful}
 
 -- ---- stamps
 
@@ -63,50 +64,44 @@ pub no_acts : (m : Machine) (e : Event) → has_stamp m e ≡ false → acts_of 
 unfolding acts_of
 no_acts m e none = rw none
 
-pub last_grows : (m : Machine) (e : Event) → m.state.last ≤ (step m e).0.state.last
-last_grows m e = by_stamp (has_stamp m e) refl
+-- what holds of a reply with its acts at the event's stamp, and of the refusal, holds of the event's
+pub each_event : (m : Machine) (e : Event) (P : Machine × Reply → Option (List Act) → Type 0)
+    → P (settled (ready m e) (decided m e)) (acts_in (decided m e))
+    → P (m, Refused (OverLimit limits.Stamp)) None
+    → P (step m e) (acts_of m e)
+unfolding step acts_of
+each_event m e P stamped refused = by_test (has_stamp m e)
   where
-    by_stamp : (has : Bool) → has_stamp m e ≡ has → m.state.last ≤ (step m e).0.state.last
-    by_stamp true is = omega (arith, stamp_passes m e is)
-    by_stamp false is = omega (arith, ap (λ (p : Machine × Reply). p.0.state.last) (stamp_refused m e is))
+    by_test : (has : Bool) → P (cond has (settled (ready m e) (decided m e)) (m, Refused (OverLimit limits.Stamp)))
+        (cond has (acts_in (decided m e)) None)
+    by_test true = stamped
+    by_test false = refused
+
+pub last_grows : (m : Machine) (e : Event) → m.state.last ≤ (step m e).0.state.last
+last_grows m e = each_event m e (λ p acts. m.state.last ≤ p.0.state.last)
+    (omega (arith, settled_last (ready m e) (decided m e))) (omega arith)
 
 pub committed_kept : (m : Machine) (e : Event) → m.state.committed ≤ m.state.last
     → (step m e).0.state.committed ≤ (step m e).0.state.last
-committed_kept m e before = by_stamp (has_stamp m e) refl
-  where
-    by_stamp : (has : Bool) → has_stamp m e ≡ has → (step m e).0.state.committed ≤ (step m e).0.state.last
-    by_stamp true is = omega (
+committed_kept m e before = each_event m e (λ p acts. p.0.state.committed ≤ p.0.state.last)
+    (omega (
       arith,
-      stamp_passes m e is,
-      ap (λ (p : Machine × Reply). p.0.state.committed) (step_at m e is),
+      settled_last (ready m e) (decided m e),
       settled_committed (ready m e) (decided m e) (omega arith),
-    )
-    by_stamp false is = rw (stamp_refused m e is) before
+    )) before
 
 -- ---- what a file means
 
-abbrev pub HasActsOfOne : Outcome → Type 0
-HasActsOfOne (Refuses why) = Unit {0}
-HasActsOfOne (Does reply sessions None) = Unit {0}
-HasActsOfOne (Does reply sessions (Some acts)) = IsOfOneStatement acts
-
 -- what an outcome comes to, over an orderly file that means the state but for its last stamp
-pub settled_meant : (s : Stored) (m : Machine) (stamp : ℕ) (o : Outcome) → IsOrderlyStored s → HasActsOfOne o
-    → m.state ≡ record (meant s) { last = m.state.last }
+pub settled_meant : (s : Stored) (m : Machine) (stamp : ℕ) {moving : List ℕ} (o : Outcome) → IsOrderlyStored s
+    → IsLawful (at_stamp m stamp) moving o → m.state ≡ record (meant s) { last = m.state.last }
     → (settled (at_stamp m stamp) o).0.state
     ≡ record (meant (kept_after s (option_map (commit_for s stamp) (acts_in o)))) { last = stamp }
-settled_meant s m stamp (Refuses why) orderly one is = ap (λ (t : State). stamped t stamp) is
-settled_meant s m stamp (Does reply sessions None) orderly one is = ap (λ (t : State). stamped t stamp) is
-settled_meant s m stamp (Does reply sessions (Some acts)) orderly one is =
+settled_meant s m stamp (Refuses why) orderly holds is = ap (λ (t : State). stamped t stamp) is
+settled_meant s m stamp (Does reply sessions None) orderly holds is = ap (λ (t : State). stamped t stamp) is
+settled_meant s m stamp (Does reply sessions (Some acts)) orderly holds is =
     ap (λ (t : State). done (stamped t stamp) acts) is
-    ∙ ap (λ (t : State). stamped t stamp) (sym (written_meant s stamp acts one orderly))
-
-each_of_one : (m : Machine) → HoldsOfEach m HasActsOfOne
-each_of_one m = record {
-  refusal = λ why. tt;
-  answer = λ reply sessions accepted keeps. tt;
-  commit = λ reply sessions acts accepted keeps shape on spares. shape;
-}
+    ∙ ap (λ (t : State). stamped t stamp) (sym (written_meant s stamp acts holds.acts.shape orderly))
 
 -- so for what an event does
 pub decided_meant : (s : Stored) (m : Machine) (e : Event) → IsOrderlyStored s
@@ -118,28 +113,19 @@ pub decided_meant : (s : Stored) (m : Machine) (e : Event) → IsOrderlyStored s
     }
 decided_meant s m e orderly is =
     settled_meant s m (stamp_of m.state (reading_of e)) (decided m e) orderly
-    (outcome_of_event (ready m e) HasActsOfOne (each_of_one (ready m e)) e) is
+    (lawful (ready m e) e) is
 
 -- the event's commit leaves a file that means the state after it but for its last stamp
 pub step_meant : (s : Stored) (m : Machine) (e : Event) → IsOrderlyStored s
     → m.state ≡ record (meant s) { last = m.state.last }
     → (step m e).0.state ≡ record (meant (kept_after s (made s m e))) { last = (step m e).0.state.last }
-step_meant s m e orderly is = by_stamp (has_stamp m e) refl
-  where
-    by_stamp : (has : Bool) → has_stamp m e ≡ has
-        → (step m e).0.state ≡ record (meant (kept_after s (made s m e))) { last = (step m e).0.state.last }
-    by_stamp true has =
-        let stamp : ℕ = stamp_of m.state (reading_of e) in
-        ap (λ (p : Machine × Reply). p.0.state) (step_at m e has) ∙ decided_meant s m e orderly is
-        ∙ ap (λ (acts : Option (List Act)). stamped (meant (kept_after s (option_map (commit_for s stamp) acts))) stamp)
-        (sym (acts_at m e has))
-        ∙ ap (λ (n : ℕ). stamped (meant (kept_after s (made s m e))) n) (sym (stamp_passes m e has))
-    by_stamp false none =
-        ap (λ (p : Machine × Reply). p.0.state) (stamp_refused m e none) ∙ is
-        ∙ ap (λ (acts : Option (List Act)). stamped (meant (kept_after s
-        (option_map (commit_for s (stamp_of m.state (reading_of e))) acts))) m.state.last) (sym (no_acts m e none))
-        ∙ ap (λ (n : ℕ). stamped (meant (kept_after s (made s m e))) n)
-        (sym (ap (λ (p : Machine × Reply). p.0.state.last) (stamp_refused m e none)))
+step_meant s m e orderly is =
+    let stamp : ℕ = stamp_of m.state (reading_of e) in
+    each_event m e
+    (λ p acts. p.0.state ≡ stamped (meant (kept_after s (option_map (commit_for s stamp) acts))) p.0.state.last)
+    (decided_meant s m e orderly is
+    ∙ ap (stamped (meant (kept_after s (option_map (commit_for s stamp) (acts_in (decided m e))))))
+    (sym (settled_last (ready m e) (decided m e)))) is
 
 -- as the file keeps it, it is what the file means
 pub rest_meant : (s : Stored) (m : Machine) (e : Event) → IsOrderlyStored s
@@ -156,53 +142,20 @@ settled_unmade m (Does reply sessions (Some acts)) none = absurd cc
 
 pub unmade : (m : Machine) (e : Event) → acts_of m e ≡ None
     → (step m e).0.state ≡ record (m.state) { last = (step m e).0.state.last }
-unmade m e none = by_stamp (has_stamp m e) refl
-  where
-    by_stamp : (has : Bool) → has_stamp m e ≡ has
-        → (step m e).0.state ≡ record (m.state) { last = (step m e).0.state.last }
-    by_stamp true is =
-        ap (λ (p : Machine × Reply). p.0.state) (step_at m e is)
-        ∙ settled_unmade (ready m e) (decided m e) (sym (acts_at m e is) ∙ none)
-        ∙ ap (stamped m.state) (sym (stamp_passes m e is))
-    by_stamp false is =
-        ap (λ (p : Machine × Reply). p.0.state) (stamp_refused m e is)
-        ∙ ap (stamped m.state) (sym (ap (λ (p : Machine × Reply). p.0.state.last) (stamp_refused m e is)))
+unmade m e none = each_event m e (λ p acts. acts ≡ None → p.0.state ≡ stamped m.state p.0.state.last)
+    (λ none. settled_unmade (ready m e) (decided m e) none
+    ∙ ap (stamped m.state) (sym (settled_last (ready m e) (decided m e)))) (λ none. refl) none
 
 -- ---- refused events
 
--- where the reply is a refusal, nothing but the stamp passes
-abbrev SparesRefused : Machine → Outcome → Type 0
-SparesRefused m o = IsTrue (is_refusal (settled m o).1) → (acts_in o ≡ None) × ((settled m o).0 ≡ m)
-
-spares : (m : Machine) → HoldsOfEach m (SparesRefused m)
-spares m = record {
-  refusal = λ why refused. (refl, refl);
-  answer = λ reply sessions accepted keeps refused. absurd cc;
-  commit = λ reply sessions acts accepted keeps shape on spares refused. absurd cc;
-}
-
-refused_spares : (m : Machine) (e : Event) → has_stamp m e ≡ true → IsTrue (is_refusal (step m e).1)
-    → (acts_in (decided m e) ≡ None) × ((settled (ready m e) (decided m e)).0 ≡ ready m e)
-refused_spares m e has refused =
-    outcome_of_event (ready m e) (SparesRefused (ready m e)) (spares (ready m e)) e
-    (subst (λ (p : Machine × Reply). IsTrue (is_refusal p.1)) (step_at m e has) refused)
-
 pub refused_acts : (m : Machine) (e : Event) → IsTrue (is_refusal (step m e).1) → acts_of m e ≡ None
-refused_acts m e refused = by_stamp (has_stamp m e) refl
-  where
-    by_stamp : (has : Bool) → has_stamp m e ≡ has → acts_of m e ≡ None
-    by_stamp true is = acts_at m e is ∙ (refused_spares m e is refused).0
-    by_stamp false is = no_acts m e is
+refused_acts m e refused = each_event m e (λ p acts. IsTrue (is_refusal p.1) → acts ≡ None)
+    (λ is. ((lawful (ready m e) e).refused is).0) (λ is. refl) refused
 
 -- a refused event changes nothing but the last stamp
 pub refusals_change_nothing : (m : Machine) (e : Event) → IsTrue (is_refusal (step m e).1)
     → (step m e).0 ≡ at_stamp m (step m e).0.state.last
-refusals_change_nothing m e refused = by_stamp (has_stamp m e) refl
-  where
-    by_stamp : (has : Bool) → has_stamp m e ≡ has → (step m e).0 ≡ at_stamp m (step m e).0.state.last
-    by_stamp true is =
-        ap (λ (p : Machine × Reply). p.0) (step_at m e is) ∙ (refused_spares m e is refused).1
-        ∙ ap (at_stamp m) (sym (stamp_passes m e is))
-    by_stamp false is =
-        ap (λ (p : Machine × Reply). p.0) (stamp_refused m e is)
-        ∙ ap (at_stamp m) (sym (ap (λ (p : Machine × Reply). p.0.state.last) (stamp_refused m e is)))
+refusals_change_nothing m e refused =
+    each_event m e (λ p acts. IsTrue (is_refusal p.1) → p.0 ≡ at_stamp m p.0.state.last)
+    (λ is. ((lawful (ready m e) e).refused is).1 ∙ ap (at_stamp m) (sym (settled_last (ready m e) (decided m e))))
+    (λ is. refl) refused

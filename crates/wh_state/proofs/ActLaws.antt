@@ -1,7 +1,7 @@
 -- What is written for acts means what they do.
 --     edited_meant                a table's next version
---     act_meant                   one act, over a table whose partitions are orderly
---     IsOfOneStatement            the acts that a statement may come to
+--     edit_meant, other_meant     an act that edits an orderly table, and any other one
+--     AreEditsFrom                edits of tables by rising ids, and then any other acts
 --     acts_meant, written_meant   these, and their commit
 use Rattle.std.proofs.Common.{◌≡◌, ℕ, suc, ◌+◌, ◌<◌, ◌≤◌, List, [], ◌∷◌, ◌++◌, length, map}
 use Rattle.std.proofs.Common.{Option, Some, None, option_map}
@@ -9,8 +9,7 @@ use Rattle.std.proofs.Common.{refl, sym, ap, subst, ◌∙◌, arith}
 use Rattle.std.specs.List.{AllByRecursion}
 use Rattle.std.proofs.lemmas.List.{map-append}
 use Rattle.wh_state.specs.State.{Rows, Contents, nothing_held, Version, Table, Object, at_id, with_id, put_at}
-use Rattle.wh_state.specs.State.{StreamKind, dropped, last_of, content_in, last_content, version_at, stamped}
-use Rattle.wh_state.specs.State.{new_object, new_stream}
+use Rattle.wh_state.specs.State.{dropped, last_of, content_in, last_content, version_at, stamped}
 use Rattle.wh_state.specs.Edits.{Edits, numbers_gone, partitions_made, without, contents_after}
 use Rattle.wh_state.specs.Act.{Act, MakesTable, DropsObject, EditsRows, MakesStream, MovesOffset, edited_table}
 use Rattle.wh_state.specs.Act.{edited_object, moved_object, acted, all_acted, done}
@@ -136,13 +135,6 @@ abbrev pub OrderlyAt : Option StoredObject → Type 0
 OrderlyAt None = Unit {0}
 OrderlyAt (Some o) = IsOrderlyObject o
 
-abbrev pub OrderlyFor : List StoredObject → Act → Type 0
-OrderlyFor objects (MakesTable name columns retention) = Unit {0}
-OrderlyFor objects (DropsObject id) = Unit {0}
-OrderlyFor objects (EditsRows id e) = OrderlyAt (at_id objects id)
-OrderlyFor objects (MakesStream name source is_append_only) = Unit {0}
-OrderlyFor objects (MovesOffset id offset) = Unit {0}
-
 -- what stands is orderly
 pub orderly_standing : (t : StoredTable) → IsOrderlyTable t → IsOrderly (standing t)
 orderly_standing t orderly = of_last t.versions orderly
@@ -153,21 +145,11 @@ orderly_standing t orderly = of_last t.versions orderly
     of_last (v ∷ []) all = all.0
     of_last (v ∷ w ∷ vs) all = of_last (w ∷ vs) all.1
 
-pub act_meant : (stamp : ℕ) (objects : List StoredObject) (act : Act) → OrderlyFor objects act
-    → map object_meant (all_changed stamp objects (act_written stamp objects act))
-    ≡ acted stamp (map object_meant objects) act
-act_meant stamp objects (MakesTable name columns retention) orderly =
-    made_meant stamp objects (record { id = length objects + 1; name = name; retention = retention; columns = columns })
-act_meant stamp objects (DropsObject id) orderly = dropped_meant stamp objects id
-act_meant stamp objects (MakesStream name source is_append_only) orderly = stream_meant stamp objects (record {
-  id = length objects + 1;
-  name = name;
-  source = source;
-  is_append_only = is_append_only;
-  offset = stamp;
-}) refl
-act_meant stamp objects (MovesOffset id offset) orderly = offset_meant stamp objects id offset
-act_meant stamp objects (EditsRows id e) orderly =
+-- the edits of a table
+edit_meant : (stamp : ℕ) (objects : List StoredObject) (id : ℕ) (e : Edits) → OrderlyAt (at_id objects id)
+    → map object_meant (all_changed stamp objects (act_written stamp objects (EditsRows id e)))
+    ≡ acted stamp (map object_meant objects) (EditsRows id e)
+edit_meant stamp objects id e orderly =
     by_found (at_id objects id) refl orderly
     ∙ ap (λ (found : Option Object). put_at (map object_meant objects) id (option_map (edited_object stamp e) found))
     (sym (at_id_meant objects id))
@@ -190,7 +172,28 @@ act_meant stamp objects (EditsRows id e) orderly =
     by_found None none orderly = refl
     by_found (Some o) there orderly = by_kind o o.kind there refl orderly
 
--- ---- the acts of a statement
+-- an act that makes no version of a table
+abbrev pub IsNoEdit : Act → Type 0
+IsNoEdit (EditsRows id e) = ⊥
+IsNoEdit _ = Unit {0}
+
+other_meant : (stamp : ℕ) (objects : List StoredObject) (act : Act) → IsNoEdit act
+    → map object_meant (all_changed stamp objects (act_written stamp objects act))
+    ≡ acted stamp (map object_meant objects) act
+other_meant stamp objects (EditsRows id e) other = absurd other
+other_meant stamp objects (MakesTable name columns retention) other =
+    made_meant stamp objects (record { id = length objects + 1; name = name; retention = retention; columns = columns })
+other_meant stamp objects (DropsObject id) other = dropped_meant stamp objects id
+other_meant stamp objects (MakesStream name source is_append_only) other = stream_meant stamp objects (record {
+  id = length objects + 1;
+  name = name;
+  source = source;
+  is_append_only = is_append_only;
+  offset = stamp;
+}) refl
+other_meant stamp objects (MovesOffset id offset) other = offset_meant stamp objects id offset
+
+-- ---- the acts of a commit
 
 -- offsets that move
 abbrev pub AreMoves : List Act → Type 0
@@ -198,23 +201,14 @@ AreMoves [] = Unit {0}
 AreMoves (MovesOffset id offset ∷ acts) = AreMoves acts
 AreMoves _ = ⊥
 
--- edits of tables by rising ids, from that id on, and then offsets that move
-abbrev pub AreEditsFrom : ℕ → List Act → Type 0
-AreEditsFrom least [] = Unit {0}
-AreEditsFrom least (EditsRows id e ∷ acts) = (least ≤ id) × AreEditsFrom (suc id) acts
-AreEditsFrom least (MovesOffset id offset ∷ acts) = AreMoves acts
-AreEditsFrom least _ = ⊥
+abbrev pub AreNoEdits : List Act → Type 0
+AreNoEdits acts = AllByRecursion IsNoEdit acts
 
--- none, one, a drop with a new table, or edits of several tables with offsets that move
-abbrev pub IsOfOneStatement : List Act → Type 0
-IsOfOneStatement [] = Unit {0}
-IsOfOneStatement (MakesTable name columns retention ∷ []) = Unit {0}
-IsOfOneStatement (MakesStream name source is_append_only ∷ []) = Unit {0}
-IsOfOneStatement (DropsObject id ∷ []) = Unit {0}
-IsOfOneStatement (DropsObject id ∷ MakesTable name columns retention ∷ []) = Unit {0}
-IsOfOneStatement (EditsRows id e ∷ acts) = AreEditsFrom (suc id) acts
-IsOfOneStatement (MovesOffset id offset ∷ acts) = AreMoves acts
-IsOfOneStatement _ = ⊥
+-- edits of tables by rising ids, from that id on, and then others
+pub data AreEditsFrom : ℕ → List Act → Type 0 where
+  no_more_edits : {least : ℕ} {acts : List Act} → AreNoEdits acts → AreEditsFrom least acts
+  next_edit : {least id : ℕ} {e : Edits} {acts : List Act} → least ≤ id → AreEditsFrom (suc id) acts
+      → AreEditsFrom least (EditsRows id e ∷ acts)
 
 pub all_changed_append : (stamp : ℕ) (objects : List StoredObject) (cs ds : List Change)
     → all_changed stamp objects (cs ++ ds) ≡ all_changed stamp (all_changed stamp objects cs) ds
@@ -222,16 +216,18 @@ all_changed_append stamp objects [] ds = refl
 all_changed_append stamp objects (c ∷ cs) ds = all_changed_append stamp (changed stamp objects c) cs ds
 
 -- an act, and then others
-more_meant : (stamp : ℕ) (objects : List StoredObject) (act : Act) (acts : List Act) → OrderlyFor objects act
+more_meant : (stamp : ℕ) (objects : List StoredObject) (act : Act) (acts : List Act)
+    → map object_meant (all_changed stamp objects (act_written stamp objects act))
+    ≡ acted stamp (map object_meant objects) act
     → ((first : List StoredObject) → first ≡ all_changed stamp objects (act_written stamp objects act)
     → map object_meant (all_changed stamp first (written stamp first acts))
     ≡ all_acted stamp (map object_meant first) acts)
     → map object_meant (all_changed stamp objects (written stamp objects (act ∷ acts)))
     ≡ all_acted stamp (map object_meant objects) (act ∷ acts)
-more_meant stamp objects act acts orderly rest =
+more_meant stamp objects act acts here rest =
     let first : List StoredObject = all_changed stamp objects (act_written stamp objects act) in
     ap (map object_meant) (all_changed_append stamp objects (act_written stamp objects act) (written stamp first acts))
-    ∙ rest first refl ∙ ap (λ (l : List Object). all_acted stamp l acts) (act_meant stamp objects act orderly)
+    ∙ rest first refl ∙ ap (λ (l : List Object). all_acted stamp l acts) here
 
 -- what is written for the edits of a table leaves what stands behind it
 pub edit_leaves : (stamp id : ℕ) (e : Edits) (objects : List StoredObject) (later : ℕ) → id < later
@@ -253,33 +249,25 @@ edit_leaves stamp id e objects later h = by_found (at_id objects id)
 abbrev pub OrderlyFrom : ℕ → List StoredObject → Type 0
 OrderlyFrom least objects = (id : ℕ) → least ≤ id → OrderlyAt (at_id objects id)
 
-moves_meant : (stamp : ℕ) (objects : List StoredObject) (acts : List Act) → AreMoves acts
+others_meant : (stamp : ℕ) (objects : List StoredObject) (acts : List Act) → AreNoEdits acts
     → map object_meant (all_changed stamp objects (written stamp objects acts))
     ≡ all_acted stamp (map object_meant objects) acts
-moves_meant stamp objects [] moves = refl
-moves_meant stamp objects (MakesTable name columns retention ∷ acts) moves = absurd moves
-moves_meant stamp objects (DropsObject id ∷ acts) moves = absurd moves
-moves_meant stamp objects (EditsRows id e ∷ acts) moves = absurd moves
-moves_meant stamp objects (MakesStream name source is_append_only ∷ acts) moves = absurd moves
-moves_meant stamp objects (MovesOffset id offset ∷ acts) moves =
-    more_meant stamp objects (MovesOffset id offset) acts tt (λ first is. moves_meant stamp first acts moves)
+others_meant stamp objects [] are = refl
+others_meant stamp objects (act ∷ acts) are =
+    more_meant stamp objects act acts (other_meant stamp objects act are.0)
+    (λ first is. others_meant stamp first acts are.1)
 
-edits_all_meant : (stamp least : ℕ) (objects : List StoredObject) (acts : List Act) → AreEditsFrom least acts
+acts_meant : (stamp least : ℕ) (objects : List StoredObject) (acts : List Act) → AreEditsFrom least acts
     → OrderlyFrom least objects
     → map object_meant (all_changed stamp objects (written stamp objects acts))
     ≡ all_acted stamp (map object_meant objects) acts
-edits_all_meant stamp least objects [] rising orderly = refl
-edits_all_meant stamp least objects (MakesTable name columns retention ∷ acts) rising orderly = absurd rising
-edits_all_meant stamp least objects (DropsObject id ∷ acts) rising orderly = absurd rising
-edits_all_meant stamp least objects (MakesStream name source a ∷ acts) rising orderly = absurd rising
-edits_all_meant stamp least objects (MovesOffset id offset ∷ acts) rising orderly =
-    moves_meant stamp objects (MovesOffset id offset ∷ acts) rising
-edits_all_meant stamp least objects (EditsRows id e ∷ acts) rising orderly =
-    more_meant stamp objects (EditsRows id e) acts (orderly id rising.0) (λ first is.
-    edits_all_meant stamp (suc id) first acts rising.1 (λ later h.
+acts_meant stamp least objects acts (no_more_edits are) orderly = others_meant stamp objects acts are
+acts_meant stamp least objects (EditsRows id e ∷ acts) (next_edit from rising) orderly =
+    more_meant stamp objects (EditsRows id e) acts (edit_meant stamp objects id e (orderly id from)) (λ first is.
+    acts_meant stamp (suc id) first acts rising (λ later h.
     subst OrderlyAt
     (sym (ap (λ (l : List StoredObject). at_id l later) is ∙ edit_leaves stamp id e objects later (omega arith)))
-    (orderly later (omega (arith, rising.0)))))
+    (orderly later (omega (arith, from)))))
 
 orderly_from : (s : Stored) → IsOrderlyStored s → OrderlyFrom 0 s.objects
 orderly_from s orderly id h = by_found (at_id s.objects id) refl
@@ -288,34 +276,9 @@ orderly_from s orderly id h = by_found (at_id s.objects id) refl
     by_found None none = tt
     by_found (Some o) there = all_at IsOrderlyObject s.objects id o orderly there
 
-pub acts_meant : (s : Stored) (stamp : ℕ) (acts : List Act) → IsOfOneStatement acts → IsOrderlyStored s
-    → map object_meant (all_changed stamp s.objects (written stamp s.objects acts))
-    ≡ all_acted stamp (map object_meant s.objects) acts
-acts_meant s stamp [] shape orderly = refl
-acts_meant s stamp (MakesTable n c r ∷ []) shape orderly =
-    more_meant stamp s.objects (MakesTable n c r) [] tt (λ first is. refl)
-acts_meant s stamp (MakesStream name source a ∷ []) shape orderly =
-    more_meant stamp s.objects (MakesStream name source a) [] tt (λ first is. refl)
-acts_meant s stamp (MovesOffset id offset ∷ acts) shape orderly =
-    moves_meant stamp s.objects (MovesOffset id offset ∷ acts) shape
-acts_meant s stamp (DropsObject id ∷ []) shape orderly =
-    more_meant stamp s.objects (DropsObject id) [] tt (λ first is. refl)
-acts_meant s stamp (DropsObject id ∷ MakesTable name columns retention ∷ []) shape orderly =
-    more_meant stamp s.objects (DropsObject id) (MakesTable name columns retention ∷ []) tt
-    (λ first is. more_meant stamp first (MakesTable name columns retention) [] tt (λ second at. refl))
-acts_meant s stamp (EditsRows id e ∷ acts) shape orderly =
-    edits_all_meant stamp 0 s.objects (EditsRows id e ∷ acts) (omega arith, shape) (orderly_from s orderly)
-acts_meant s stamp (MakesTable n c r ∷ act ∷ acts) shape orderly = absurd shape
-acts_meant s stamp (MakesStream n o a ∷ act ∷ acts) shape orderly = absurd shape
-acts_meant s stamp (DropsObject id ∷ DropsObject other ∷ acts) shape orderly = absurd shape
-acts_meant s stamp (DropsObject id ∷ EditsRows other e ∷ acts) shape orderly = absurd shape
-acts_meant s stamp (DropsObject id ∷ MakesStream n o a ∷ acts) shape orderly = absurd shape
-acts_meant s stamp (DropsObject id ∷ MovesOffset other offset ∷ acts) shape orderly = absurd shape
-acts_meant s stamp (DropsObject id ∷ MakesTable n c r ∷ act ∷ acts) shape orderly = absurd shape
-
--- over an orderly file, what is written for the acts of a statement means what they do
-pub written_meant : (s : Stored) (stamp : ℕ) (acts : List Act) → IsOfOneStatement acts → IsOrderlyStored s
+-- over an orderly file, what is written for such acts means what they do
+pub written_meant : (s : Stored) (stamp : ℕ) (acts : List Act) → AreEditsFrom 0 acts → IsOrderlyStored s
     → meant (applied s (commit_for s stamp acts)) ≡ done (stamped (meant s) stamp) acts
 written_meant s stamp acts shape orderly =
     ap (λ (objects : List Object). record { last = stamp; committed = stamp; objects = objects })
-    (acts_meant s stamp acts shape orderly)
+    (acts_meant stamp 0 s.objects acts shape (orderly_from s orderly))

@@ -2,7 +2,7 @@
 --     sound_first                  the first state is sound
 --     sound_rest                   so is a sound state as the file keeps it
 --     IsWithin, AreWithin          offsets that move aren't after a stamp
---     sound_done                   a commit of the acts of a statement at a later stamp
+--     sound_done                   a commit of edits and then other acts at a later stamp
 use Rattle.std.proofs.Common.{◌≡◌, ℕ, suc, ◌+◌, ◌<◌, ◌≤◌, ◌⊎◌, inl, inr, List, [], ◌∷◌, length}
 use Rattle.std.proofs.Common.{Option, Some, None, option_map, refl, sym, subst, arith}
 use Rattle.std.specs.List.{AllByRecursion}
@@ -10,8 +10,8 @@ use Rattle.std.specs.FinMap.{get}
 use Rattle.std.proofs.lemmas.Bool.{cases_lt}
 use Rattle.wh_value.specs.Value.{Row}
 use Rattle.wh_value.specs.Column.{Column}
-use Rattle.wh_state.specs.State.{Version, Table, Stream, Kind, TableKind, StreamKind, Object, State, nothing_held}
-use Rattle.wh_state.specs.State.{new_table, new_object, new_stream}
+use Rattle.wh_state.specs.State.{Version, Table, Kind, TableKind, StreamKind, Object, State, nothing_held}
+use Rattle.wh_state.specs.State.{new_table, new_object}
 use Rattle.wh_state.specs.State.{dropped, version_at, last_rows, first_state, at_rest, at_id, put_at}
 use Rattle.wh_state.specs.Edits.{Edits}
 use Rattle.wh_state.specs.Act.{Act, MakesTable, DropsObject, EditsRows, MakesStream, MovesOffset, next_contents}
@@ -20,7 +20,7 @@ use Rattle.wh_state.specs.Act.{all_acted, done}
 use Rattle.wh_state.specs.Sound.{IsTimely, IsBelow, IsSoundTable, IsSoundKind, IsSoundObject, Sound}
 use Rattle.wh_state.proofs.AllLaws.{all_map, all_more, all_at, all_with, all_changed_at}
 use Rattle.wh_state.proofs.IdLaws.{at_other}
-use Rattle.wh_state.proofs.ActLaws.{AreMoves, AreEditsFrom, IsOfOneStatement}
+use Rattle.wh_state.proofs.ActLaws.{IsNoEdit, AreNoEdits, AreEditsFrom, no_more_edits, next_edit}
 use Rattle.wh_state.proofs.VersionLaws.{still_lacks, empty_lacks, last_below, rise_more, none_more}
 
 -- ---- tables
@@ -108,11 +108,6 @@ edited_object_sound committed stamp e later o sound = record {
   kind = edited_kind_sound committed stamp e later o.kind sound.kind;
 }
 
-dropped_sound : (committed stamp : ℕ) → committed ≤ stamp → (o : Object) → IsSoundObject committed o
-    → IsSoundObject stamp (dropped o)
-dropped_sound committed stamp later o sound =
-    record { created = omega (arith, sound.created); kind = kind_later committed stamp later o.kind sound.kind }
-
 new_object_sound : (name : List ℕ) (columns : List Column) (retention stamp : ℕ)
     → IsSoundObject stamp (new_object name stamp (TableKind (new_table nothing_held columns retention stamp)))
 new_object_sound name columns retention stamp =
@@ -129,43 +124,35 @@ moved_object_sound stamp offset h o sound = record { created = sound.created; ki
 
 -- an offset that moves isn't after the stamp
 abbrev pub IsWithin : ℕ → Act → Type 0
-IsWithin stamp (MakesTable name columns retention) = Unit {0}
-IsWithin stamp (DropsObject id) = Unit {0}
-IsWithin stamp (EditsRows id e) = Unit {0}
-IsWithin stamp (MakesStream name source is_append_only) = Unit {0}
 IsWithin stamp (MovesOffset id offset) = offset ≤ stamp
+IsWithin stamp _ = Unit {0}
 
 abbrev pub AreWithin : ℕ → List Act → Type 0
 AreWithin stamp acts = AllByRecursion (IsWithin stamp) acts
 
--- an act at a stamp past the last commit
-acted_sound : (committed stamp : ℕ) → committed < stamp → (objects : List Object)
-    → AllByRecursion (IsSoundObject committed) objects → (act : Act) → IsWithin stamp act
-    → AllByRecursion (IsSoundObject stamp) (acted stamp objects act)
-acted_sound committed stamp later objects sound act within = by_act act within
-  where
-    still : AllByRecursion (IsSoundObject stamp) objects
-    still = all_map (IsSoundObject committed) (IsSoundObject stamp) (object_later committed stamp (omega (arith, later)))
-        objects sound
+-- ---- the acts of a commit
 
-    by_act : (act : Act) → IsWithin stamp act → AllByRecursion (IsSoundObject stamp) (acted stamp objects act)
-    by_act (MakesTable name columns retention) within =
-        all_more (IsSoundObject stamp) objects _ still (new_object_sound name columns retention stamp)
-    by_act (MakesStream name source is_append_only) within =
-        all_more (IsSoundObject stamp) objects _ still (record { created = omega arith; kind = omega arith })
-    by_act (DropsObject id) within =
-        all_changed_at (IsSoundObject committed) (IsSoundObject stamp) dropped
-        (object_later committed stamp (omega (arith, later)))
-        (dropped_sound committed stamp (omega (arith, later))) objects id sound
-    by_act (EditsRows id e) within =
-        all_changed_at (IsSoundObject committed) (IsSoundObject stamp) (edited_object stamp e)
-        (object_later committed stamp (omega (arith, later)))
-        (edited_object_sound committed stamp e later) objects id sound
-    by_act (MovesOffset id offset) within =
-        all_changed_at (IsSoundObject stamp) (IsSoundObject stamp) (moved_object offset) (λ o h. h)
-        (moved_object_sound stamp offset within) objects id still
+-- one that makes no version of a table
+other_sound : (stamp : ℕ) (objects : List Object) (act : Act) → IsNoEdit act → IsWithin stamp act
+    → AllByRecursion (IsSoundObject stamp) objects → AllByRecursion (IsSoundObject stamp) (acted stamp objects act)
+other_sound stamp objects (EditsRows id e) other within sound = absurd other
+other_sound stamp objects (MakesTable name columns retention) other within sound =
+    all_more (IsSoundObject stamp) objects _ sound (new_object_sound name columns retention stamp)
+other_sound stamp objects (MakesStream name source is_append_only) other within sound =
+    all_more (IsSoundObject stamp) objects _ sound (record { created = omega arith; kind = omega arith })
+other_sound stamp objects (DropsObject id) other within sound =
+    all_changed_at (IsSoundObject stamp) (IsSoundObject stamp) dropped (λ o h. h)
+    (λ o h. record { created = h.created; kind = h.kind }) objects id sound
+other_sound stamp objects (MovesOffset id offset) other within sound =
+    all_changed_at (IsSoundObject stamp) (IsSoundObject stamp) (moved_object offset) (λ o h. h)
+    (moved_object_sound stamp offset within) objects id sound
 
--- ---- the acts of a statement
+others_sound : (stamp : ℕ) (objects : List Object) (acts : List Act) → AreNoEdits acts → AreWithin stamp acts
+    → AllByRecursion (IsSoundObject stamp) objects → AllByRecursion (IsSoundObject stamp) (all_acted stamp objects acts)
+others_sound stamp objects [] are within sound = sound
+others_sound stamp objects (act ∷ acts) are within sound =
+    others_sound stamp (acted stamp objects act) acts are.1 within.1
+    (other_sound stamp objects act are.0 within.0 sound)
 
 -- what stands at an id was sound before
 abbrev SoundAt : ℕ → Option Object → Type 0
@@ -195,61 +182,17 @@ edit_sound committed stamp id e later objects sound here = by_found (at_id objec
         all_with (IsSoundObject stamp) objects id (edited_object stamp e o) sound
         (edited_object_sound committed stamp e later o here)
 
-moves_sound : (stamp : ℕ) (objects : List Object) (acts : List Act) → AreMoves acts → AreWithin stamp acts
-    → AllByRecursion (IsSoundObject stamp) objects → AllByRecursion (IsSoundObject stamp) (all_acted stamp objects acts)
-moves_sound stamp objects [] moves within sound = sound
-moves_sound stamp objects (MakesTable n c r ∷ acts) moves within sound = absurd moves
-moves_sound stamp objects (DropsObject id ∷ acts) moves within sound = absurd moves
-moves_sound stamp objects (EditsRows id e ∷ acts) moves within sound = absurd moves
-moves_sound stamp objects (MakesStream n o a ∷ acts) moves within sound = absurd moves
-moves_sound stamp objects (MovesOffset id offset ∷ acts) moves within sound =
-    moves_sound stamp (acted stamp objects (MovesOffset id offset)) acts moves within.1
-    (all_changed_at (IsSoundObject stamp) (IsSoundObject stamp) (moved_object offset) (λ o h. h)
-    (moved_object_sound stamp offset within.0) objects id sound)
-
-edits_sound : (committed stamp least : ℕ) → committed < stamp → (objects : List Object) (acts : List Act)
-    → AreEditsFrom least acts → AreWithin stamp acts → AllByRecursion (IsSoundObject stamp) objects → SoundFrom committed least objects
+acts_sound : (committed stamp least : ℕ) → committed < stamp → (objects : List Object) (acts : List Act)
+    → AreEditsFrom least acts → AreWithin stamp acts → AllByRecursion (IsSoundObject stamp) objects
+    → SoundFrom committed least objects
     → AllByRecursion (IsSoundObject stamp) (all_acted stamp objects acts)
-edits_sound committed stamp least later objects [] rising within sound before = sound
-edits_sound committed stamp least later objects (MakesTable n c r ∷ acts) rising within sound before = absurd rising
-edits_sound committed stamp least later objects (DropsObject id ∷ acts) rising within sound before = absurd rising
-edits_sound committed stamp least later objects (MakesStream n o a ∷ acts) rising within sound before = absurd rising
-edits_sound committed stamp least later objects (MovesOffset id offset ∷ acts) rising within sound before =
-    moves_sound stamp objects (MovesOffset id offset ∷ acts) rising within sound
-edits_sound committed stamp least later objects (EditsRows id e ∷ acts) rising within sound before =
-    edits_sound committed stamp (suc id) later (acted stamp objects (EditsRows id e)) acts rising.1 within.1
-    (edit_sound committed stamp id e later objects sound (before id rising.0))
+acts_sound committed stamp least later objects acts (no_more_edits are) within sound before =
+    others_sound stamp objects acts are within sound
+acts_sound committed stamp least later objects (EditsRows id e ∷ acts) (next_edit from rising) within sound before =
+    acts_sound committed stamp (suc id) later (acted stamp objects (EditsRows id e)) acts rising within.1
+    (edit_sound committed stamp id e later objects sound (before id from))
     (λ other h. subst (SoundAt committed) (sym (at_other (edited_object stamp e) objects id other (omega arith)))
-    (before other (omega (arith, rising.0))))
-
-acts_sound : (committed stamp : ℕ) → committed < stamp → (objects : List Object)
-    → AllByRecursion (IsSoundObject committed) objects → (acts : List Act) → IsOfOneStatement acts → AreWithin stamp acts
-    → AllByRecursion (IsSoundObject stamp) (all_acted stamp objects acts)
-acts_sound committed stamp later objects sound [] shape within =
-    all_map (IsSoundObject committed) (IsSoundObject stamp) (object_later committed stamp (omega arith)) objects sound
-acts_sound committed stamp later objects sound (MakesTable n c r ∷ []) shape within =
-    acted_sound committed stamp later objects sound (MakesTable n c r) tt
-acts_sound committed stamp later objects sound (MakesStream n o a ∷ []) shape within =
-    acted_sound committed stamp later objects sound (MakesStream n o a) tt
-acts_sound committed stamp later objects sound (MovesOffset id offset ∷ acts) shape within =
-    moves_sound stamp objects (MovesOffset id offset ∷ acts) shape within
-    (all_map (IsSoundObject committed) (IsSoundObject stamp) (object_later committed stamp (omega arith)) objects sound)
-acts_sound committed stamp later objects sound (DropsObject id ∷ []) shape within =
-    acted_sound committed stamp later objects sound (DropsObject id) tt
-acts_sound committed stamp later objects sound (DropsObject id ∷ MakesTable n c r ∷ []) shape within =
-    all_more (IsSoundObject stamp) (acted stamp objects (DropsObject id)) _
-    (acted_sound committed stamp later objects sound (DropsObject id) tt) (new_object_sound n c r stamp)
-acts_sound committed stamp later objects sound (EditsRows id e ∷ acts) shape within =
-    edits_sound committed stamp 0 later objects (EditsRows id e ∷ acts) (omega arith, shape) within
-    (all_map (IsSoundObject committed) (IsSoundObject stamp) (object_later committed stamp (omega arith)) objects sound)
-    (sound_from committed objects sound)
-acts_sound committed stamp later objects sound (MakesTable n c r ∷ act ∷ acts) shape within = absurd shape
-acts_sound committed stamp later objects sound (MakesStream n o a ∷ act ∷ acts) shape within = absurd shape
-acts_sound committed stamp later objects sound (DropsObject id ∷ DropsObject other ∷ acts) shape within = absurd shape
-acts_sound committed stamp later objects sound (DropsObject id ∷ EditsRows other e ∷ acts) shape within = absurd shape
-acts_sound committed stamp later objects sound (DropsObject id ∷ MakesStream n o a ∷ acts) shape within = absurd shape
-acts_sound committed stamp later objects sound (DropsObject id ∷ MovesOffset other offset ∷ acts) shape within = absurd shape
-acts_sound committed stamp later objects sound (DropsObject id ∷ MakesTable n c r ∷ act ∷ acts) shape within = absurd shape
+    (before other (omega (arith, from))))
 
 -- ---- states
 
@@ -261,9 +204,13 @@ sound_first = record { ordered = omega arith; objects = tt }
 pub sound_rest : (s : State) → Sound s → Sound (at_rest s)
 sound_rest s sound = record { ordered = omega arith; objects = sound.objects }
 
--- a commit of the acts of a statement at a stamp past the last commit
-pub sound_done : (s : State) → s.committed < s.last → Sound s → (acts : List Act) → IsOfOneStatement acts
+-- a commit of such acts at a stamp past the last commit
+pub sound_done : (s : State) → s.committed < s.last → Sound s → (acts : List Act) → AreEditsFrom 0 acts
     → AreWithin s.last acts
     → Sound (done s acts)
-sound_done s later sound acts shape within =
-    record { ordered = omega arith; objects = acts_sound s.committed s.last later s.objects sound.objects acts shape within }
+sound_done s later sound acts shape within = record {
+  ordered = omega arith;
+  objects = acts_sound s.committed s.last 0 later s.objects acts shape within
+      (all_map (IsSoundObject s.committed) (IsSoundObject s.last) (object_later s.committed s.last (omega (arith, later)))
+      s.objects sound.objects) (sound_from s.committed s.objects sound.objects);
+}
