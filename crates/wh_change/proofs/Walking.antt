@@ -1,8 +1,9 @@
 -- A walk over versions with the partitions that came so far.
 --     Walked        what is known in front of a version: the records so far, and which numbers were seen
 --     walk_begins, walked_past, walked_on, walk_ends
+--     came_at       what came with a version, by its place
 use Rattle.std.proofs.Common.{◌≡◌, ℕ, zero, suc, inl, inr, cond, Bool, true, false, List, [], ◌∷◌, ◌++◌}
-use Rattle.std.proofs.Common.{map, take, drop, filter, Option, Some, None, refl, sym, ap, ◌∙◌, append_assoc}
+use Rattle.std.proofs.Common.{map, take, drop, filter, Option, Some, None, refl, sym, ap, subst, ◌∙◌, append_assoc}
 use Rattle.std.proofs.lemmas.List.{append-nil}
 use Rattle.std.specs.Prelude.{◌||◌, not, is_some, if◌then◌else◌}
 use Rattle.std.specs.Cmp.{nat_cmp_total}
@@ -183,6 +184,13 @@ same_records : (earlier : List Rows) (seen : List Partition) → HasAll earlier 
     → map (λ (e : ℕ × Row). inserted e.0 false e.1) (filter (λ e. is_new earlier e.0) es) ≡ appeared seen es
 same_records earlier seen same es =
     λ i. map (λ (e : ℕ × Row). inserted e.0 false e.1) (filter (λ (e : ℕ × Row). not (same e.0 i)) es)
+
+-- what came with a version, by a place that is the version's
+pub came_at : {asked : ℕ} (place stamp : ℕ) (vs : List StoredVersion) (came : List Partition)
+    → AreArrivals stamp (all_rows came) (take asked vs) (drop asked vs) → asked ≡ place
+    → AreArrivals stamp (all_rows came) (take place vs) (drop place vs)
+came_at place stamp vs came arrival same =
+    subst (λ n. AreArrivals stamp (all_rows came) (take n vs) (drop n vs)) same arrival
 
 -- with what came with the next version
 pub walked_on : (from to stamp : ℕ) (vs : List StoredVersion) (place : ℕ) (records now : List RowChange)

@@ -1,11 +1,11 @@
 ghost use Rattle.std.specs.Prelude.{◌≡◌, ◌≤◌, ◌++◌, OnOk, IfOk, Some};
 ghost use Rattle.wh_frame.specs.Spelling.{RisesFrom};
 ghost use Rattle.wh_state.specs.Stored.{table_meant};
-ghost use Rattle.wh_net.specs.Net.{net, change_at, arrival_at};
+ghost use Rattle.wh_net.specs.Net.{net, net_change};
 ghost use Rattle.wh_net.specs.Stream.{rows_at};
 ghost use Rattle.wh_table.specs.Table.{table_of};
 ghost use Rattle.wh_change.specs.RowChange.{row_changes_of};
-ghost use Rattle.wh_change.specs.Rows.{row_in, entries_at, changes_by, arrivals_by};
+ghost use Rattle.wh_change.specs.Rows.{row_in, entries_at, arrival_at, changes_by, arrivals_by};
 
 use crate::RowChange;
 use crate::rows::{row_at, rows_in};
@@ -74,7 +74,7 @@ fn add_change<'a>(
     new: Option<&'a Row>,
 ) -> Result<(), AllocError>
     ensures { OnOk result (row_changes_of records.new.items ≡ row_changes_of records.old.items
-        ++ change_at old.now.number (Some old.now.row) (row_in new.entry)) }
+        ++ net_change old.now.number (Some old.now.row) (row_in new.entry)) }
 {
     let Some(row) = new else {
         records.push(RowChange::deleted(old.number, false, &old.row))?;

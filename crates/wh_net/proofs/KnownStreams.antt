@@ -6,11 +6,28 @@ use Rattle.std.specs.FinMap.{empty, insert}
 use Rattle.wh_value.specs.Value.{Number, Truth, Text, Row}
 use Rattle.wh_state.specs.State.{Rows, Table, Stream, version_at}
 use Rattle.wh_state.proofs.KnownMaps.{map_steps}
-use Rattle.wh_net.specs.Net.{deleted, inserted, net, appended}
+use Rattle.wh_net.specs.Net.{deleted, inserted, net_change, net, appended}
 use Rattle.wh_net.specs.Stream.{shown, shown_row, stale_by}
 
 abbrev row : ℕ → Row
 row k = Number (pos k) ∷ []
+
+-- of one number: nothing; a row that came; one that went; one that is as it was; one that was changed
+of_nothing : net_change 7 None None ≡ []
+of_nothing = refl
+
+of_one_that_came : net_change 7 None (Some (row 10)) ≡ inserted 7 false (row 10) ∷ []
+of_one_that_came = refl
+
+of_one_that_went : net_change 7 (Some (row 10)) None ≡ deleted 7 false (row 10) ∷ []
+of_one_that_went = refl
+
+of_an_equal_one : net_change 7 (Some (row 10)) (Some (row 10)) ≡ []
+of_an_equal_one = refl
+
+of_a_changed_one : net_change 7 (Some (row 10)) (Some (row 11))
+    ≡ deleted 7 true (row 10) ∷ inserted 7 true (row 11) ∷ []
+of_a_changed_one = refl
 
 -- rows 1 to 3; then row 1 is changed, row 2 goes and row 4 comes
 abbrev before : Rows

@@ -5,17 +5,19 @@ use Rattle.std.proofs.Common.{◌≡◌, ℕ, Bool, true, false, cond, ◌&&◌,
 use Rattle.std.proofs.Common.{refl, sym, ap, ◌∙◌, Less, Equal, Greater}
 use Rattle.std.specs.declared.cmp.Ordering.{Ordering}
 use Rattle.std.specs.Prelude.{not, is_some}
-use Rattle.std.specs.List.{flat_map, list_any}
+use Rattle.std.specs.List.{filter, flat_map, list_any}
 use Rattle.std.specs.FinMap.{get, entries, get-entries, get-insert, get-remove, same_map, nat_cmp-IsAntisymmetric}
 use Rattle.std.specs.FinMap.Entries.{is_some-find}
 use Rattle.std.specs.Ordering.{nat_cmp, eq_by_cmp, is_eq}
 use Rattle.std.specs.Cmp.{nat_cmp_total}
+use Rattle.std.proofs.lemmas.List.Folds.{list_any-append}
+use Rattle.std.proofs.lemmas.Map.Views.{any-filter_same}
 use Rattle.wh_value.specs.Value.{Row, row_cmp}
 use Rattle.wh_value.specs.Order.{row-IsAntisymmetric}
 use Rattle.wh_state.specs.State.{Rows}
 use Rattle.wh_state.proofs.RowLaws.{number_tied}
-use Rattle.wh_net.specs.Net.{RowAction, Delete, Insert, RowChange, deleted, inserted, change_at, arrival_at, numbers_in}
-use Rattle.wh_net.specs.Net.{net, patch, taken_out, put_back, without_deleted, with_inserted}
+use Rattle.wh_net.specs.Net.{RowAction, Delete, Insert, RowChange, deleted, inserted, net_change, numbers_in}
+use Rattle.wh_net.specs.Net.{numbers_in_either, net, patch, taken_out, put_back, without_deleted, with_inserted}
 
 -- ---- records one after the other
 
@@ -64,15 +66,6 @@ with_get rows (r ∷ rs) q =
     one Delete = refl
     one Insert = get-insert nat_cmp_total rows r.number r.row q
 
-any_append : (p : RowChange → Bool) (rs more : List RowChange) → list_any p (rs ++ more) ≡ (list_any p rs || list_any p more)
-any_append p [] more = refl
-any_append p (r ∷ rs) more = by_first (p r) (any_append p rs more)
-  where
-    by_first : (b : Bool) → list_any p (rs ++ more) ≡ (list_any p rs || list_any p more)
-        → (b || list_any p (rs ++ more)) ≡ ((b || list_any p rs) || list_any p more)
-    by_first true same = refl
-    by_first false same = same
-
 stands_append : (q : ℕ) (rs more : List RowChange) (found : Option Row)
     → stands q (rs ++ more) found ≡ stands q more (stands q rs found)
 stands_append q [] more found = refl
@@ -85,15 +78,11 @@ goes None new = false
 goes (Some old) None = true
 goes (Some old) (Some new) = not (eq_by_cmp row_cmp old new)
 
-abbrev changes : Option Row → Option Row → Bool
-changes None new = false
-changes (Some old) None = false
-changes (Some old) (Some new) = not (eq_by_cmp row_cmp old new)
-
-abbrev arrives : Option Row → Option Row → Bool
-arrives old None = false
-arrives None (Some new) = true
-arrives (Some old) (Some new) = false
+abbrev comes : Option Row → Option Row → Bool
+comes None None = false
+comes None (Some new) = true
+comes (Some old) None = false
+comes (Some old) (Some new) = not (eq_by_cmp row_cmp old new)
 
 and_false : (b : Bool) → false ≡ (b && false)
 and_false true = refl
@@ -108,8 +97,9 @@ or_nothing true = refl
 or_nothing false = refl
 
 change_deletes : (q n : ℕ) (old new : Option Row)
-    → list_any (deletes q) (change_at n old new) ≡ (is_at q n && goes old new)
-change_deletes q n None new = and_false (is_at q n)
+    → list_any (deletes q) (net_change n old new) ≡ (is_at q n && goes old new)
+change_deletes q n None None = and_false (is_at q n)
+change_deletes q n None (Some new) = and_false (is_at q n)
 change_deletes q n (Some old) None = or_nothing (is_at q n)
 change_deletes q n (Some old) (Some new) = by_rows (eq_by_cmp row_cmp old new)
   where
@@ -117,11 +107,6 @@ change_deletes q n (Some old) (Some new) = by_rows (eq_by_cmp row_cmp old new)
         ≡ (is_at q n && not b)
     by_rows true = and_false (is_at q n)
     by_rows false = or_nothing (is_at q n)
-
-arrival_deletes : (q n : ℕ) (old new : Option Row) → list_any (deletes q) (arrival_at n old new) ≡ false
-arrival_deletes q n old None = refl
-arrival_deletes q n None (Some new) = refl
-arrival_deletes q n (Some old) (Some new) = refl
 
 -- where nothing is left, and where a row is
 none_left : (b : Bool) (new found : Option Row) → found ≡ cond (b && false) new found
@@ -131,8 +116,9 @@ one_left : (b : Bool) (new found : Option Row) → cond b new found ≡ cond (b 
 one_left b new found = ap (λ (c : Bool). cond c new found) (and_true b)
 
 change_stands : (q n : ℕ) (old new found : Option Row)
-    → stands q (change_at n old new) found ≡ cond (is_at q n && changes old new) new found
-change_stands q n None new found = none_left (is_at q n) new found
+    → stands q (net_change n old new) found ≡ cond (is_at q n && comes old new) new found
+change_stands q n None None found = none_left (is_at q n) None found
+change_stands q n None (Some new) found = one_left (is_at q n) (Some new) found
 change_stands q n (Some old) None found = none_left (is_at q n) None found
 change_stands q n (Some old) (Some new) found = by_rows (eq_by_cmp row_cmp old new)
   where
@@ -140,12 +126,6 @@ change_stands q n (Some old) (Some new) found = by_rows (eq_by_cmp row_cmp old n
         ≡ cond (is_at q n && not b) (Some new) found
     by_rows true = none_left (is_at q n) (Some new) found
     by_rows false = one_left (is_at q n) (Some new) found
-
-arrival_stands : (q n : ℕ) (old new found : Option Row)
-    → stands q (arrival_at n old new) found ≡ cond (is_at q n && arrives old new) new found
-arrival_stands q n old None found = none_left (is_at q n) None found
-arrival_stands q n None (Some new) found = one_left (is_at q n) (Some new) found
-arrival_stands q n (Some old) (Some new) found = none_left (is_at q n) (Some new) found
 
 -- ---- the records of many
 
@@ -179,10 +159,7 @@ at_same q n f otherwise = by_number (is_at q n) refl
 
 module _ (old new : Rows) where
   abbrev change_of : ℕ → List RowChange
-  change_of n = change_at n (get old n) (get new n)
-
-  abbrev arrival_of : ℕ → List RowChange
-  arrival_of n = arrival_at n (get old n) (get new n)
+  change_of n = net_change n (get old n) (get new n)
 
   one_deletes : (q n : ℕ) → list_any (deletes q) (change_of n) ≡ (is_at q n && goes (get old q) (get new q))
   one_deletes q n = change_deletes q n (get old n) (get new n)
@@ -192,43 +169,24 @@ module _ (old new : Rows) where
       → list_any (deletes q) (flat_map change_of ns) ≡ (among q ns && goes (get old q) (get new q))
   all_delete q [] = refl
   all_delete q (n ∷ ns) =
-      any_append (deletes q) (change_of n) (flat_map change_of ns)
+      list_any-append (deletes q) (change_of n) (flat_map change_of ns)
       ∙ ap (λ (b : Bool). b || list_any (deletes q) (flat_map change_of ns)) (one_deletes q n)
       ∙ ap (λ (b : Bool). (is_at q n && goes (get old q) (get new q)) || b) (all_delete q ns)
       ∙ both_or (is_at q n) (among q ns) (goes (get old q) (get new q))
 
-  none_delete : (q : ℕ) (ns : List ℕ) → list_any (deletes q) (flat_map arrival_of ns) ≡ false
-  none_delete q [] = refl
-  none_delete q (n ∷ ns) =
-      any_append (deletes q) (arrival_of n) (flat_map arrival_of ns)
-      ∙ ap (λ (b : Bool). b || list_any (deletes q) (flat_map arrival_of ns))
-      (arrival_deletes q n (get old n) (get new n)) ∙ none_delete q ns
+  one_stands : (q n : ℕ) (found : Option Row)
+      → stands q (change_of n) found ≡ cond (is_at q n && comes (get old q) (get new q)) (get new q) found
+  one_stands q n found = change_stands q n (get old n) (get new n) found
+      ∙ at_same q n (λ (b : Bool) (k : ℕ). cond (b && comes (get old k) (get new k)) (get new k) found) refl
 
-  -- of records that leave the new row at their number where a test says so
-  module _ (records_of : ℕ → List RowChange) (test : Option Row → Option Row → Bool)
-      (left : (q n : ℕ) (found : Option Row)
-      → stands q (records_of n) found ≡ cond (is_at q n && test (get old n) (get new n)) (get new n) found) where
-    one_stands : (q n : ℕ) (found : Option Row)
-        → stands q (records_of n) found ≡ cond (is_at q n && test (get old q) (get new q)) (get new q) found
-    one_stands q n found = left q n found
-        ∙ at_same q n (λ (b : Bool) (k : ℕ). cond (b && test (get old k) (get new k)) (get new k) found) refl
-
-    all_stand : (q : ℕ) (ns : List ℕ) (found : Option Row)
-        → stands q (flat_map records_of ns) found ≡ cond (among q ns && test (get old q) (get new q)) (get new q) found
-    all_stand q [] found = refl
-    all_stand q (n ∷ ns) found =
-        stands_append q (records_of n) (flat_map records_of ns) found
-        ∙ ap (stands q (flat_map records_of ns)) (one_stands q n found)
-        ∙ all_stand q ns (cond (is_at q n && test (get old q) (get new q)) (get new q) found)
-        ∙ twice (is_at q n) (among q ns) (test (get old q) (get new q)) (get new q) found
-
-  all_change : (q : ℕ) (ns : List ℕ) (found : Option Row)
-      → stands q (flat_map change_of ns) found ≡ cond (among q ns && changes (get old q) (get new q)) (get new q) found
-  all_change = all_stand change_of changes (λ q n found. change_stands q n (get old n) (get new n) found)
-
-  all_arrive : (q : ℕ) (ns : List ℕ) (found : Option Row)
-      → stands q (flat_map arrival_of ns) found ≡ cond (among q ns && arrives (get old q) (get new q)) (get new q) found
-  all_arrive = all_stand arrival_of arrives (λ q n found. arrival_stands q n (get old n) (get new n) found)
+  all_stand : (q : ℕ) (ns : List ℕ) (found : Option Row)
+      → stands q (flat_map change_of ns) found ≡ cond (among q ns && comes (get old q) (get new q)) (get new q) found
+  all_stand q [] found = refl
+  all_stand q (n ∷ ns) found =
+      stands_append q (change_of n) (flat_map change_of ns) found
+      ∙ ap (stands q (flat_map change_of ns)) (one_stands q n found)
+      ∙ all_stand q ns (cond (is_at q n && comes (get old q) (get new q)) (get new q) found)
+      ∙ twice (is_at q n) (among q ns) (comes (get old q) (get new q)) (get new q) found
 
 -- ---- at each number
 
@@ -244,15 +202,29 @@ row_tied a b tie = by_order (row_cmp a b) refl tie
 is_there : (rows : Rows) (q : ℕ) → among q (numbers_in rows) ≡ is_some (get rows q)
 is_there rows q = sym (is_some-find nat_cmp q (entries rows)) ∙ ap is_some (sym (get-entries rows q))
 
-ends : (old new : Option Row) → cond (is_some new && arrives old new) new (cond (is_some old && changes old new) new
-    (cond ((is_some old && goes old new) || false) None old)) ≡ new
+abbrev is_in_either : Option Row → Option Row → Bool
+is_in_either old new = is_some old || (not (is_some old) && is_some new)
+
+in_either : (old new : Rows) (q : ℕ) → among q (numbers_in_either old new) ≡ is_in_either (get old q) (get new q)
+in_either old new q =
+    list_any-append (is_at q) (numbers_in old) (filter lacks (numbers_in new))
+    ∙ ap (λ (b : Bool). b || among q (filter lacks (numbers_in new))) (is_there old q)
+    ∙ ap (λ (b : Bool). is_some (get old q) || b)
+    (any-filter_same (is_at q) lacks (lacks q) (λ k is. ap lacks (sym (number_tied q k is))) (numbers_in new)
+    ∙ ap (λ (b : Bool). lacks q && b) (is_there new q))
+  where
+    lacks : ℕ → Bool
+    lacks n = not (is_some (get old n))
+
+ends : (old new : Option Row) → cond (is_in_either old new && comes old new) new
+    (cond (is_in_either old new && goes old new) None old) ≡ new
 ends None None = refl
 ends None (Some new) = refl
 ends (Some old) None = refl
 ends (Some old) (Some new) = by_rows (eq_by_cmp row_cmp old new) refl
   where
     by_rows : (same : Bool) → eq_by_cmp row_cmp old new ≡ same
-        → cond (not same) (Some new) (cond (not same || false) None (Some old)) ≡ Some new
+        → cond (not same) (Some new) (cond (not same) None (Some old)) ≡ Some new
     by_rows true is = ap Some (row_tied old new is)
     by_rows false is = refl
 
@@ -260,33 +232,18 @@ pub patched : (old new : Rows) → patch old (net old new) ≡ new
 unfolding patch net
 patched old new = same_map nat_cmp_total nat_cmp-IsAntisymmetric _ _ at_number
   where
-    gone : List RowChange
-    gone = flat_map (change_of old new) (numbers_in old)
+    ns : List ℕ
+    ns = numbers_in_either old new
 
-    come : List RowChange
-    come = flat_map (arrival_of old new) (numbers_in new)
+    rs : List RowChange
+    rs = flat_map (change_of old new) ns
 
-    at_number : (q : ℕ) → get (with_inserted (without_deleted old (gone ++ come)) (gone ++ come)) q ≡ get new q
+    at_number : (q : ℕ) → get (with_inserted (without_deleted old rs) rs) q ≡ get new q
     at_number q =
-        with_get (without_deleted old (gone ++ come)) (gone ++ come) q
-        ∙ stands_append q gone come (get (without_deleted old (gone ++ come)) q)
-        ∙ all_arrive old new q (numbers_in new) (stands q gone (get (without_deleted old (gone ++ come)) q))
-        ∙ ap (λ (b : Bool). cond (b && arrives (get old q) (get new q)) (get new q)
-        (stands q gone (get (without_deleted old (gone ++ come)) q))) (is_there new q)
-        ∙ ap (cond (is_some (get new q) && arrives (get old q) (get new q)) (get new q)) (below q)
+        with_get (without_deleted old rs) rs q
+        ∙ all_stand old new q ns (get (without_deleted old rs) q)
+        ∙ ap (cond (among q ns && comes (get old q) (get new q)) (get new q))
+        (without_get old rs q ∙ ap (λ (b : Bool). cond b None (get old q)) (all_delete old new q ns))
+        ∙ ap (λ (b : Bool). cond (b && comes (get old q) (get new q)) (get new q)
+        (cond (b && goes (get old q) (get new q)) None (get old q))) (in_either old new q)
         ∙ ends (get old q) (get new q)
-      where
-        below : (q : ℕ) → stands q gone (get (without_deleted old (gone ++ come)) q)
-            ≡ cond (is_some (get old q) && changes (get old q) (get new q)) (get new q)
-            (cond ((is_some (get old q) && goes (get old q) (get new q)) || false) None (get old q))
-        below q =
-            all_change old new q (numbers_in old) (get (without_deleted old (gone ++ come)) q)
-            ∙ ap (λ (b : Bool). cond (b && changes (get old q) (get new q)) (get new q)
-            (get (without_deleted old (gone ++ come)) q)) (is_there old q)
-            ∙ ap (cond (is_some (get old q) && changes (get old q) (get new q)) (get new q))
-            (without_get old (gone ++ come) q
-            ∙ ap (λ (b : Bool). cond b None (get old q)) (any_append (deletes q) gone come
-            ∙ ap (λ (b : Bool). b || list_any (deletes q) come) (all_delete old new q (numbers_in old)
-            ∙ ap (λ (b : Bool). b && goes (get old q) (get new q)) (is_there old q))
-            ∙ ap (λ (b : Bool). (is_some (get old q) && goes (get old q) (get new q)) || b)
-            (none_delete old new q (numbers_in new))))

@@ -1,5 +1,6 @@
 -- Changes of a table's rows from one version to another, by row number.
 --     RowChange             a row that came or went, by its number, and whether the other side of it did the other
+--     net_change         what became of the row of one number
 --     net                what became of each row
 --     patch              rows with the changes made
 --     appended           the rows that first stand in versions of a range of stamps
@@ -30,26 +31,24 @@ inserted number is_update row = record { number = number; action = Insert; is_up
 
 -- ---- net changes
 
--- of a row that was there
-abbrev pub change_at : ℕ → Option Row → Option Row → List RowChange
-change_at number None new = []
-change_at number (Some old) None = deleted number false old ∷ []
-change_at number (Some old) (Some new) =
+-- of one number, by the row that stood there and the one that stands there now
+abbrev pub net_change : ℕ → Option Row → Option Row → List RowChange
+net_change number None None = []
+net_change number None (Some new) = inserted number false new ∷ []
+net_change number (Some old) None = deleted number false old ∷ []
+net_change number (Some old) (Some new) =
     if eq_by_cmp row_cmp old new then [] else deleted number true old ∷ inserted number true new ∷ []
-
--- of one that is there now
-abbrev pub arrival_at : ℕ → Option Row → Option Row → List RowChange
-arrival_at number old None = []
-arrival_at number None (Some new) = inserted number false new ∷ []
-arrival_at number (Some old) (Some new) = []
 
 abbrev pub numbers_in : Rows → List ℕ
 numbers_in rows = map (λ e. e.0) (entries rows)
 
+-- each once: those that stood, and then those that came
+abbrev pub numbers_in_either : Rows → Rows → List ℕ
+numbers_in_either old new = numbers_in old ++ filter (λ n. not (is_some (get old n))) (numbers_in new)
+
 -- whatever came between
 unfoldable pub net : Rows → Rows → List RowChange
-net old new = flat_map (λ n. change_at n (get old n) (get new n)) (numbers_in old)
-    ++ flat_map (λ n. arrival_at n (get old n) (get new n)) (numbers_in new)
+net old new = flat_map (λ n. net_change n (get old n) (get new n)) (numbers_in_either old new)
 
 -- ---- what they come to
 

@@ -6,7 +6,7 @@ use Rattle.wh_version.specs.Arrivals.{count_by}
 use Rattle.wh_table.specs.Rows.{partitions_at}
 use Rattle.wh_table.specs.Table.{table_of}
 use Rattle.wh_change.specs.RowChange.{row_changes_of}
-use Rattle.wh_change.proofs.Walking.{Walked, walked_on, walk_ends}
+use Rattle.wh_change.proofs.Walking.{Walked, walked_on, came_at, walk_ends}
 use Rattle.wh_change.proofs.Behind.{front_walked}
 use Rattle.wh_change.proofs.appending.appends.Goals as goal
 
@@ -36,7 +36,9 @@ loop-place-preserved c =
     (subst (On (suc at.place))
     (sym (c.in_ok-see.ensures ∙ ap (λ ps. seen ++ partitions_at ps) c.deref.ensures.value))
     (walked_on c.args.from c.args.to arrivals.stamp versions at.place
-    (row_changes_of at.records.items) records seen came at.invariant c.in_ok-arrivals.ensures c.in_ok-add_appended.ensures))
+    (row_changes_of at.records.items) records seen came at.invariant
+    (came_at at.place arrivals.stamp versions came c.in_ok-arrivals.ensures (omega arith))
+    c.in_ok-add_appended.ensures))
 
 pub returns : goal.returns
 returns c =
