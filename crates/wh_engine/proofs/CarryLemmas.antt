@@ -19,7 +19,7 @@ use Rattle.wh_machine.specs.Outcome.{Machine}
 use Rattle.wh_engine.specs.Warehouse.{machine_of, state_with}
 use Rattle.wh_engine.specs.Answers.{CarriesOut}
 use Rattle.wh_decide.proofs.CatalogLemmas.{state_is}
-use Rattle.wh_engine.proofs.FileLemmas.{filed_same}
+use Rattle.wh_engine.proofs.FileLemmas.{filed_same, adds_none}
 
 -- ---- no commit
 
@@ -33,6 +33,8 @@ carries_nothing {D} {seen} old new commit machine none disk journal stored is he
   stored = rw none stored;
   filed =
       λ filed. rw (disk, journal) (filed_same (seen.bytes old.disk) old.journal old.catalog new.catalog stored filed);
+  adds = rw (none, journal) (adds_none (seen.bytes old.disk) (seen.bytes new.disk) old.journal old.catalog new.catalog
+      (ap seen.bytes disk) stored);
   told = ap (λ (d : D). is_some (seen.bytes d)) disk;
   durable = λ settled. rw disk settled;
   kept = λ _. disk;

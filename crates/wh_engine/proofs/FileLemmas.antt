@@ -1,11 +1,12 @@
 -- The file of a warehouse.
 --     keeps, stands                      what a file of commits says, and stands for
 --     filed_same, filed_append           nothing was added, or one commit
+--     adds_none, adds_commit             which commits are the file's then
 use Rattle.std.proofs.Common.{◌≡◌, ℕ, suc, ◌+◌, ◌≤◌, List, [], ◌∷◌, ◌++◌, length, map, Option, Some, None, is_some}
 use Rattle.std.proofs.Common.{refl, sym, ◌∙◌, subst, ap, arith, inl, inr, length-append}
 use Rattle.std.specs.List.{AllByRecursion}
 use Rattle.std.proofs.lemmas.Bool.{cases_lt}
-use Rattle.std.proofs.lemmas.List.{map-append}
+use Rattle.std.proofs.lemmas.List.{map-append, append-nil}
 use Rattle.wh_frame.specs.File.{IsFileOf, record_of, records_of}
 use Rattle.wh_state.specs.State.{at_rest}
 use Rattle.wh_state.specs.Stored.{Stored, first_stored, meant}
@@ -17,6 +18,7 @@ use Rattle.wh_journal.specs.declared.journal.Journal.{Journal}
 use Rattle.wh_catalog.specs.Catalog.{stored_of, state_of}
 use Rattle.wh_catalog.specs.declared.catalog.Catalog.{Catalog}
 use Rattle.wh_engine.specs.Warehouse.{IsFileOfCommits, Filed}
+use Rattle.wh_engine.specs.Answers.{AddsCommit}
 use Rattle.wh_decide.proofs.ListLemmas.{all_more, leads_then, some_is, none_told}
 use Rattle.wh_decide.proofs.CatalogLemmas.{rest_of}
 
@@ -86,25 +88,28 @@ Appends old new j k payload = (payloads : List (List ℕ)) (file : List ℕ) →
     → IsFileOf payloads file → Lists payloads j
     → ((now : List ℕ) × (new ≡ Some now) × IsFileOf (payloads ++ payload ∷ []) now) × Lists (payloads ++ payload ∷ []) k
 
-file_append : (file now : List ℕ) (j k : Journal) (c d : Catalog) (commit : Commit)
+-- a file of commits with that one behind them
+pub commit_added : (file now : List ℕ) (j k : Journal) (c d : Catalog) (commit : Commit)
     → Appends (Some file) (Some now) j k (payload_of commit) → Applies (stored_of c) commit
-    → stored_of d ≡ applied (stored_of c) commit → IsCommit commit → IsFileOfCommits file j c
-    → IsFileOfCommits now k d
-file_append file now j k c d commit appends applies is good h =
+    → stored_of d ≡ applied (stored_of c) commit → IsCommit commit → (h : IsFileOfCommits file j c)
+    → (g : IsFileOfCommits now k d) × (g.commits ≡ h.commits ++ commit ∷ [])
+commit_added file now j k c d commit appends applies is good h =
     let s = stored_of c in
     let added = appends (map payload_of h.commits) file refl h.spelled h.listed in
     let same : added.0.0 ≡ now = sym (some_is now added.0.0 added.0.1) in
     let payloads : map payload_of h.commits ++ payload_of commit ∷ [] ≡ map payload_of (h.commits ++ commit ∷ []) =
-    sym (map-append payload_of h.commits (commit ∷ [])) in
-    record {
-      commits = h.commits ++ commit ∷ [];
-      good = all_more IsCommit h.commits commit h.good good;
-      spelled = subst (λ (ps : List (List ℕ)). IsFileOf ps now) payloads
-          (subst (IsFileOf (map payload_of h.commits ++ payload_of commit ∷ [])) same added.0.2);
-      listed = subst (λ (ps : List (List ℕ)). Lists ps k) payloads added.1;
-      leads = subst (Leads first_stored (h.commits ++ commit ∷ [])) (sym is)
-          (leads_then first_stored h.commits s commit h.leads applies);
-    }
+    sym (map-append payload_of h.commits (commit ∷ [])) in (
+      record {
+        commits = h.commits ++ commit ∷ [];
+        good = all_more IsCommit h.commits commit h.good good;
+        spelled = subst (λ (ps : List (List ℕ)). IsFileOf ps now) payloads
+            (subst (IsFileOf (map payload_of h.commits ++ payload_of commit ∷ [])) same added.0.2);
+        listed = subst (λ (ps : List (List ℕ)). Lists ps k) payloads added.1;
+        leads = subst (Leads first_stored (h.commits ++ commit ∷ [])) (sym is)
+            (leads_then first_stored h.commits s commit h.leads applies);
+      },
+      refl,
+    )
 
 pub filed_append : (old new : Option (List ℕ)) (j k : Journal) (c d : Catalog) (commit : Commit)
     → is_some new ≡ is_some old → Appends old new j k (payload_of commit) → Applies (stored_of c) commit
@@ -114,6 +119,30 @@ filed_append None new j k c d commit told appends applies is good h =
     record { each = λ now e. absurd (none_told new now told e) }
 filed_append (Some file) new j k c d commit told appends applies is good h =
     record {
-      each = λ now e. file_append file now j k c d commit (subst (λ (o : Option (List ℕ)). Appends
-          (Some file) o j k (payload_of commit)) e appends) applies is good (h.each file refl);
+      each = λ now e. (commit_added file now j k c d commit (subst (λ (o : Option (List ℕ)). Appends
+          (Some file) o j k (payload_of commit)) e appends) applies is good (h.each file refl)).0;
     }
+
+-- so where bytes are told
+pub adds_commit : (old new : Option (List ℕ)) (j k : Journal) (c d : Catalog) (commit : Commit)
+    → Appends old new j k (payload_of commit) → Applies (stored_of c) commit
+    → stored_of d ≡ applied (stored_of c) commit → IsCommit commit → AddsCommit old new j k c d (Some commit)
+adds_commit old new j k c d commit appends applies is good before after was now h =
+    commit_added before after j k c d commit
+    (subst (λ (o : Option (List ℕ)). Appends o (Some after) j k (payload_of commit)) was
+    (subst (λ (o : Option (List ℕ)). Appends old o j k (payload_of commit)) now appends)) applies is good h
+
+-- and where no commit is made
+pub adds_none : (old new : Option (List ℕ)) (j : Journal) (c d : Catalog) → new ≡ old → stored_of d ≡ stored_of c
+    → AddsCommit old new j j c d None
+adds_none old new j c d same is before after was now h =
+    let file : before ≡ after = some_is before after (sym was ∙ sym same ∙ now) in (
+      record {
+        commits = h.commits;
+        good = h.good;
+        spelled = subst (IsFileOf (map payload_of h.commits)) file h.spelled;
+        listed = h.listed;
+        leads = subst (Leads first_stored h.commits) (sym is) h.leads;
+      },
+      sym (append-nil h.commits),
+    )

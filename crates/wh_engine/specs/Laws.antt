@@ -1,20 +1,40 @@
 -- Laws of the machine.
 use Rattle.std.specs.Prelude.{◌≡◌, ℕ, max, IsTrue, true, false, List, [], Some, None, map}
 use Rattle.wh_ast.specs.declared.dml.Dml.{Dml}
+use Rattle.wh_ast.specs.declared.query.Query.{Query}
+use Rattle.wh_ast.specs.declared.query.Sort.{Sort}
+use Rattle.wh_ast.specs.declared.statement.Statement.TheVariants as st
+use Rattle.wh_grammar.specs.Spelled.{Asked}
 use Rattle.wh_meaning.specs.Bag.{bag_of}
 use Rattle.wh_reply.specs.Reply.{is_refusal}
-use Rattle.wh_state.specs.State.{Table, Stream, with_offset}
+use Rattle.wh_state.specs.State.{State, Table, Stream, with_offset}
 use Rattle.wh_state.specs.Objects.{table_at, stream_at}
+use Rattle.wh_state.specs.Sound.{Sound}
 use Rattle.wh_net.specs.Stream.{rows_at, shown_row}
 use Rattle.wh_machine.specs.Transaction.{Transaction, start_of}
 use Rattle.wh_machine.specs.Sessions.{transaction_in}
-use Rattle.wh_machine.specs.Outcome.{Machine, settled}
+use Rattle.wh_machine.specs.Outcome.{Machine, opened, settled}
 use Rattle.wh_machine.specs.Reading.{rows_read}
 use Rattle.wh_machine.specs.Statements.{commit}
-use Rattle.wh_machine.specs.Step.{Event, stamp_of, at_stamp, step, after}
+use Rattle.wh_machine.specs.Step.{Event, Command, stamp_of, at_stamp, step, after}
 use Rattle.wh_machine.specs.Sound.{SoundMachine}
 use Rattle.wh_machine.specs.Consuming.{consumed, batches, all_patched, rows_consumed, reads, AreApart, IsHeldAlong}
 use Rattle.wh_machine.specs.Consuming.{committing, changing, change_reads, consumes}
+
+-- ---- machines that are reached from a sound file
+
+-- what the laws of streams ask of a machine
+pub record IsSoundAndApart (m : Machine) : Type 0 where
+  pub sound : SoundMachine m
+  pub apart : AreApart m.sessions
+
+abbrev pub SoundStatesOpen : Type 0
+SoundStatesOpen = (s : State) → Sound s → IsSoundAndApart (opened s)
+
+abbrev pub EventsKeepMachinesSound : Type 0
+EventsKeepMachinesSound = (m : Machine) (e : Event) → IsSoundAndApart m → IsSoundAndApart (step m e).0
+
+-- ---- events
 
 -- a refused event changes nothing but the last stamp, and no transaction
 abbrev pub RefusalsChangeNothing : Type 0
@@ -74,3 +94,20 @@ ChangesConsumeWhatTheyRead = (reading session id : ℕ) (change : Dml) (m : Mach
 -- outside of a transaction that reads it
 abbrev pub NothingElseConsumes : Type 0
 NothingElseConsumes = (id : ℕ) (m : Machine) (e : Event) → consumes id m e ≡ false → consumed id m e ≡ []
+
+-- where nothing of it is consumed, the stream is as it was, with its offset
+abbrev pub OthersMoveNothing : Type 0
+OthersMoveNothing = (m : Machine) (e : Event) (id : ℕ) (s : Stream) → stream_at m.state.objects id ≡ Some s
+    → consumes id m e ≡ false → stream_at (step m e).0.state.objects id ≡ Some s
+
+-- a SELECT is no such event, whatever it reads
+abbrev pub QueriesMoveNothing : Type 0
+QueriesMoveNothing = (reading session : ℕ) (query : Query) (sorts : List Sort) (m : Machine) (id : ℕ) (s : Stream)
+    → stream_at m.state.objects id ≡ Some s
+    → stream_at (step m (Command reading session (Asked (st.Select query sorts)))).0.state.objects id ≡ Some s
+
+-- what a transaction holds before and behind an event is as it was
+abbrev pub HeldStreamsStay : Type 0
+HeldStreamsStay = (session id : ℕ) (s : Stream) (m : Machine) (e : Event) → AreApart m.sessions
+    → reads m.sessions session id ≡ true → reads (step m e).0.sessions session id ≡ true
+    → stream_at m.state.objects id ≡ Some s → stream_at (step m e).0.state.objects id ≡ Some s

@@ -1,7 +1,8 @@
 ghost use Rattle.wh_engine.specs.Laws.{RefusalsChangeNothing, BatchesLead, ReadsTheSame};
 ghost use Rattle.wh_engine.specs.Laws.{CommitsMoveToTheStart, CommitsConsumeWhatWasRead};
 ghost use Rattle.wh_engine.specs.Laws.{ChangesHoldWhatTheyRead, ChangesConsumeWhatTheyRead};
-ghost use Rattle.wh_engine.specs.Laws.{NothingElseConsumes};
+ghost use Rattle.wh_engine.specs.Laws.{NothingElseConsumes, OthersMoveNothing, QueriesMoveNothing};
+ghost use Rattle.wh_engine.specs.Laws.{SoundStatesOpen, EventsKeepMachinesSound, HeldStreamsStay};
 
 /// A refused command changes nothing but the last stamp, and no transaction.
 pub fn refusals_change_nothing()
@@ -34,4 +35,27 @@ pub fn batches_are_what_was_read()
     ensures holds { ChangesHoldWhatTheyRead }
     ensures changes { ChangesConsumeWhatTheyRead }
     ensures others { NothingElseConsumes }
+{}
+
+/// A sound state opens to a machine that is sound, and of which no two sessions hold one stream: what
+/// the laws of streams ask for. A file that runs leave stands for a sound state.
+pub fn sound_states_open_to_sound_machines()
+    ensures { SoundStatesOpen }
+{}
+
+/// So is each machine that events lead to.
+pub fn events_keep_machines_sound()
+    ensures { EventsKeepMachinesSound }
+{}
+
+/// Where no event consumes a stream, it is as it was, with its offset; no SELECT does, whatever it
+/// reads.
+pub fn what_consumes_nothing_moves_nothing()
+    ensures others { OthersMoveNothing }
+    ensures queries { QueriesMoveNothing }
+{}
+
+/// A stream that an open transaction holds is moved by no event that leaves it held.
+pub fn held_streams_stay()
+    ensures { HeldStreamsStay }
 {}

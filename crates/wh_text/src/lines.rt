@@ -6,7 +6,7 @@ ghost use Rattle.wh_text.specs.Ahead.{consumed, total};
 ghost use Rattle.wh_text.specs.Fault.{FaultFits};
 ghost use Rattle.wh_text.specs.Area.{is_plain};
 ghost use Rattle.wh_text.specs.Place.{lines_at, line_at, last_line_at, begun, most};
-ghost use Rattle.wh_text.specs.Turn.{ahead_and, Gives, Ends, IsReadable};
+ghost use Rattle.wh_text.specs.Turn.{ahead_and, IsTurn, IsReadable};
 ghost use Rattle.wh_text.specs.View.{line_view};
 
 use crate::ahead::Ahead;
@@ -26,11 +26,8 @@ pub(crate) fn read_line<S: Source>(
     source: &mut S,
 ) -> Result<Option<Line>, ScriptFault>
     requires { ahead.old.taken ≤ 2 ^ 30 }
-    ensures turn { IfOk result (λ found. MatchOption found
-        (Ends (ahead_and ahead.old.bytes (S.left source.old))
-        (ahead_and ahead.new.bytes (S.left source.new)))
-        (λ line. Gives (ahead_and ahead.old.bytes (S.left source.old)) (line_view line)
-        (ahead_and ahead.new.bytes (S.left source.new)))) }
+    ensures turn { IfOk result (IsTurn (ahead_and ahead.old.bytes (S.left source.old))
+        (ahead_and ahead.new.bytes (S.left source.new))) }
     ensures reading { IfOk result (λ found. IfSome found IsReadable) }
     ensures progress { IfOk result (λ found. IfSome found
         (λ line. consumed ahead.old < consumed ahead.new)) }

@@ -19,12 +19,9 @@ pub struct Script {
 }
 
 impl Script {
-    ghost use Rattle.std.specs.Prelude.{◌≡◌, ◌<◌, ◌≤◌, ◌^◌, ◌⊎◌, [], ℕ, Some, None, Err};
-    ghost use Rattle.std.specs.Prelude.{IfOk, OnOk, IfErr, IsErrOf, IfSome, MatchOption};
-    ghost use Rattle.wh_world.specs.Told.{Rose};
-    ghost use Rattle.wh_text.specs.View.{line_view};
-    ghost use Rattle.wh_text.specs.Turn.{ahead_and, Gives, Ends, IsReadable};
-    ghost use Rattle.wh_text.specs.Script.{ahead_of, taken_of, consumed_of, fault_of, Counts};
+    ghost use Rattle.std.specs.Prelude.{◌≡◌, ◌≤◌, ◌^◌, [], Some, None, Err, IfOk, OnOk, IfSome};
+    ghost use Rattle.wh_text.specs.Turn.{ahead_and, IsTurn, IsReadable};
+    ghost use Rattle.wh_text.specs.Script.{ahead_of, taken_of, fault_of, Uses, Counts, HasCauses};
 
     /// The most bytes of a script.
     pub const MAX_BYTES: u64 = MAX_BYTES;
@@ -56,32 +53,20 @@ impl Script {
     /// The next line, of a longer command its first 65,537 bytes. None at the end of the script.
     pub fn next<S: Source>(&mut self, source: &mut S) -> Result<Option<Line>, ScriptFault>
         // The first line of what was still to be read, and the rest stays.
-        ensures turn { IfOk result (λ found. MatchOption found
-            (Ends (ahead_and (ahead_of self.old) (S.left source.old))
-            (ahead_and (ahead_of self.new) (S.left source.new)))
-            (λ line. Gives (ahead_and (ahead_of self.old) (S.left source.old)) (line_view line)
-            (ahead_and (ahead_of self.new) (S.left source.new)))) }
+        ensures turn { IfOk result (IsTurn (ahead_and (ahead_of self.old) (S.left source.old))
+            (ahead_and (ahead_of self.new) (S.left source.new))) }
         ensures reading { IfOk result (λ found. IfSome found IsReadable) }
-        ensures progress { IfOk result (λ found. IfSome found
-            (λ line. consumed_of self.old < consumed_of self.new)) }
+        ensures progress { IfOk result (λ found. IfSome found (λ _. Uses self.old self.new)) }
         ensures goes { OnOk result (fault_of self.new ≡ None) }
-
-        // Over any outcome.
         ensures counts { Counts self.old self.new (S.left source.old) (S.left source.new) }
         ensures later { S.faults source.old ≤ S.faults source.new }
         ensures no_fault { OnOk result (S.faults source.new ≡ S.faults source.old) }
 
         // A fault stays.
-        ensures stays { IfErr result (λ fault. fault_of self.new ≡ Some fault) }
+        ensures causes { HasCauses self.old self.new result
+            (S.faults source.old) (S.faults source.new) }
         ensures again { (fault : ScriptFault) → fault_of self.old ≡ Some fault →
             (result ≡ Err fault) × (self.new ≡ self.old) × (source.new ≡ source.old) }
-        ensures read { IsErrOf result ScriptFault.Read →
-            Rose (S.faults source.old) (S.faults source.new)
-            ⊎ (fault_of self.old ≡ Some ScriptFault.Read) }
-        ensures too_long { (taken : ℕ) → IsErrOf result (ScriptFault.TooLong taken) →
-            (2 ^ 30 < taken) × (taken ≡ taken_of self.new) }
-        ensures long { 2 ^ 30 < taken_of self.new →
-            IsErrOf result (ScriptFault.TooLong (taken_of self.new)) }
     {
         if let Some(fault) = self.fault {
             return Err(fault);

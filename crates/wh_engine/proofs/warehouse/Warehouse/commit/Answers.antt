@@ -6,7 +6,7 @@ use Rattle.wh_txn.specs.View.{sessions_of}
 use Rattle.wh_decide.specs.Decision.{machine_at}
 use Rattle.wh_engine.specs.Warehouse.{IsUntouched}
 use Rattle.wh_engine.specs.Halts.{Halted}
-use Rattle.wh_engine.proofs.FileLemmas.{Appends, filed_append, lists_same}
+use Rattle.wh_engine.proofs.FileLemmas.{Appends, filed_append, adds_commit, lists_same}
 use Rattle.wh_engine.proofs.StopLemmas.{leaves_still, leaves_commit}
 use Rattle.wh_engine.proofs.HaltLemmas.{unchanged, untouched, starved}
 use Rattle.wh_engine.proofs.CarryLemmas.{state_reached, has_room}
@@ -74,6 +74,10 @@ returns-in-Ok-clause-answered g c =
           (subst (Appends (bytes old.disk) (bytes c.append.new.disk) old.journal c.append.new.self) spelled adds)
           staged.applies staged.applied
           c.in_ok-framed.ensures.spelled;
+      adds = adds_commit (bytes old.disk) (bytes c.append.new.disk) old.journal c.append.new.self old.catalog
+          c.stage.new.self commit
+          (subst (Appends (bytes old.disk) (bytes c.append.new.disk) old.journal c.append.new.self) spelled adds)
+          staged.applies staged.applied c.in_ok-framed.ensures.spelled;
       told = c.in-Ok.ensures.told;
       durable = λ settled. record { each = c.in-Ok.ensures.durable };
       kept = λ e. absurd cc;

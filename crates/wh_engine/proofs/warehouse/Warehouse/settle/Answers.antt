@@ -2,7 +2,8 @@ use Rattle.std.proofs.Common.{◌≡◌, ℕ, List, Option, None, refl, sym, ap,
 use Rattle.wh_dml.specs.View.{effect_of}
 use Rattle.wh_machine.specs.Transaction as transactions
 use Rattle.wh_machine.specs.Transaction.{Transaction}
-use Rattle.wh_machine.specs.Sessions.{transaction_in, with_transaction}
+use Rattle.wh_machine.specs.Sessions.{transaction_in, with_transaction, with_ended}
+use Rattle.wh_machine.specs.Outcome.{Machine}
 use Rattle.wh_txn.specs.View.{sessions_of}
 use Rattle.wh_decide.specs.Decision.{commit_in, sessions_after, transaction_or_new, machine_at}
 use Rattle.wh_engine.proofs.StopLemmas.{leaves_still}
@@ -49,3 +50,25 @@ returns-in_ok-stage-in-Stages-clause-answered g c =
 
 pub returns-in_ok-stage-in-Stages-clause-any_moment : goal.returns-in_ok-stage-in-Stages-clause-any_moment
 returns-in_ok-stage-in-Stages-clause-any_moment g c = leaves_still g.met.D.Disk.only_now c.args.self.now _ _ refl
+
+-- the transaction ends behind its commit
+pub returns-in_ok-record-in-Ends-clause-answered : goal.returns-in_ok-record-in-Ends-clause-answered
+returns-in_ok-record-in-Ends-clause-answered g c =
+    let h = c.in_ok-record-in-Ends.ensures.answered in
+    let state = ap (λ (m : Machine). m.state) h.stepped in
+    let sessions =
+    c.rollback.ensures ∙ ap (λ (m : Machine). with_ended m.sessions c.in-Ends.session) h.stepped in
+    rw c.in-Ends.is (record {
+      stepped = λ i. machine_at (state i) (sessions i);
+      stored = h.stored;
+      filed = h.filed;
+      adds = h.adds;
+      told = h.told;
+      durable = h.durable;
+      kept = h.kept;
+      room = h.room;
+      grows = h.grows;
+      healthy = h.healthy;
+      still_healthy = h.still_healthy;
+      no_fault = h.no_fault;
+    })
