@@ -27,7 +27,8 @@ use Rattle.wh_machine.specs.Sound.{SoundMachine}
 use Rattle.wh_machine.specs.Consuming.{Extends, IsLaterStream, IsLaterKind, IsLater, AreLater, rows_then, shown_of}
 use Rattle.wh_machine.specs.Consuming.{shown_to, consumed, batches, all_patched, rows_consumed}
 use Rattle.wh_machine.specs.Step.{Event, reading_of, stamp_of, decided, step, after}
-use Rattle.wh_machine.proofs.OutcomeLaws.{AllMoveOn, IsLawful, lawful}
+use Rattle.wh_machine.proofs.Lawful.{AllMoveOn, IsLawful}
+use Rattle.wh_machine.proofs.OutcomeLaws.{lawful}
 use Rattle.wh_machine.proofs.StepLaws.{ready, each_event, last_grows}
 use Rattle.wh_machine.proofs.SoundLaws.{sound_ready, sound_step}
 

@@ -1,4 +1,6 @@
 pub mod EntryLaws
+pub mod Lawful
+pub mod CommitLaws
 pub mod OutcomeLaws
 pub mod StepLaws
 pub mod ReplyLaws

@@ -25,7 +25,8 @@ use Rattle.wh_machine.specs.Step.{Event, Command, Tick, at_stamp}
 use Rattle.wh_machine.specs.Step.{reading_of, stamp_of, decided, step}
 use Rattle.wh_machine.proofs.MoveLaws.{among_streams}
 use Rattle.wh_machine.proofs.StepLaws.{ready, each_event}
-use Rattle.wh_machine.proofs.OutcomeLaws.{IsLawful, moved_by, moved_alone, streams_of, event_moves, lawful}
+use Rattle.wh_machine.proofs.Lawful.{IsLawful}
+use Rattle.wh_machine.proofs.OutcomeLaws.{moved_by, moved_alone, streams_of, event_moves, lawful}
 
 -- ---- the streams that move
 

@@ -13,7 +13,8 @@ use Rattle.wh_machine.specs.Transaction.{Transaction}
 use Rattle.wh_machine.specs.Outcome.{Machine, Outcome, Refuses, Does, opened, settled}
 use Rattle.wh_machine.specs.Sound.{IsBegun, AreBegun, SoundMachine}
 use Rattle.wh_machine.specs.Step.{Event, decided, step, after}
-use Rattle.wh_machine.proofs.OutcomeLaws.{MovesOn, IsLawful, lawful}
+use Rattle.wh_machine.proofs.Lawful.{MovesOn, IsLawful}
+use Rattle.wh_machine.proofs.OutcomeLaws.{lawful}
 use Rattle.wh_machine.proofs.StepLaws.{ready, each_event}
 
 none_begun : (last count : ℕ) → AreBegun last (replicate count None)
@@ -44,7 +45,8 @@ settles_sound m (Does reply sessions (Some acts)) later sound holds = record {
   begun = holds.sessions.begun sound.begun;
 }
 
-begun_later : (last later : ℕ) → last ≤ later → (found : Option Transaction) → IsBegun last found → IsBegun later found
+begun_later : (last later : ℕ) → last ≤ later → (found : Option Transaction) → IsBegun last found
+    → IsBegun later found
 begun_later last later h None begun = tt
 begun_later last later h (Some t) begun = omega (arith, begun)
 

@@ -21,7 +21,8 @@ use Rattle.wh_state.proofs.ActLaws.{written_meant}
 use Rattle.wh_machine.specs.Outcome.{Machine, Outcome, Refuses, Does, settled, acts_in, rest_of}
 use Rattle.wh_machine.specs.Step.{Event, reading_of, stamp_of, at_stamp, has_stamp, decided, step, acts_of}
 use Rattle.wh_machine.specs.Made.{made}
-use Rattle.wh_machine.proofs.OutcomeLaws.{IsLawful, lawful}
+use Rattle.wh_machine.proofs.Lawful.{IsLawful}
+use Rattle.wh_machine.proofs.OutcomeLaws.{lawful}
 
 -- ---- stamps
 
@@ -56,7 +57,8 @@ stamp_passes m e has =
     ap (λ (p : Machine × Reply). p.0.state.last) (step_at m e has) ∙ settled_last (ready m e) (decided m e)
 
 -- without one it is refused, and all stays
-pub stamp_refused : (m : Machine) (e : Event) → has_stamp m e ≡ false → step m e ≡ (m, Refused (OverLimit limits.Stamp))
+pub stamp_refused : (m : Machine) (e : Event) → has_stamp m e ≡ false
+    → step m e ≡ (m, Refused (OverLimit limits.Stamp))
 unfolding step
 stamp_refused m e none = rw none
 
