@@ -9,7 +9,7 @@ use std::alloc::{AllocError, Global};
 use std::collections::VecDeque;
 
 /// Both lists by rising number, where the later edit of a row takes the place of an earlier one.
-/// Takes linear time.
+/// Takes linear time, and none where no edit is earlier.
 pub(crate) fn merged(
     alloc: Global,
     earlier: Vec<RowEdit>,
@@ -19,6 +19,9 @@ pub(crate) fn merged(
     ensures { IfOk result (λ merged. entries_in merged.items
         ≡ puts (entries_in earlier.items) (entries_in later.items)) }
 {
+    if earlier.is_empty() {
+        return Ok(later);
+    }
     let mut merged = Vec::with_capacity(alloc, earlier.len())?;
     let mut earlier = VecDeque::from_vec(earlier);
     for edit in later {

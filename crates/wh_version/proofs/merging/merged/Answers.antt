@@ -1,11 +1,12 @@
 use Rattle.std.proofs.Common.{◌≡◌, ◌∙◌, ap, sym, ◌∷◌, [], ◌++◌, length, true, arith}
 use Rattle.std.proofs.lemmas.List.{nil_from_length, map-append}
+use Rattle.std.proofs.lemmas.Bool.{eqb-true}
 use Rattle.std.specs.FinMap.{is_sorted}
 use Rattle.std.specs.Ordering.{nat_cmp}
 use Rattle.std.specs.Vec.Iter.{into_iter_items}
 use Rattle.wh_version.specs.RowEdits.{entry_of, entries_in, puts}
 use Rattle.wh_version.proofs.RisingEdits.{rest_rises}
-use Rattle.wh_version.proofs.Puts.{merged_on}
+use Rattle.wh_version.proofs.Puts.{puts_alone, merged_on}
 use Rattle.wh_version.proofs.merging.merged.Goals as goal
 
 pub loop-edit-preserved : goal.loop-edit-preserved
@@ -28,6 +29,15 @@ loop-edit-preserved c =
       rest_rises (entry_of edit) (entries_in rest) rises,
       omega arith,
     )
+
+pub returns-then-is_empty : goal.returns-then-is_empty
+returns-then-is_empty c =
+    let earlier = c.args.earlier in
+    let later = entries_in c.args.later.items in
+    let sized = earlier.ok.0 in
+    let none : earlier.len ≡ 0 = eqb-true earlier.len 0 (sym c.if-is_empty.ensures) in
+    let empty : earlier.items ≡ [] = nil_from_length _ (omega arith) in
+    sym (ap (λ items. puts (entries_in items) later) empty ∙ puts_alone later c.requires)
 
 pub returns : goal.returns
 returns c =
