@@ -11,7 +11,7 @@ use Rattle.wh_state.specs.State.{State, Table, Stream, with_offset}
 use Rattle.wh_state.specs.Objects.{table_at, stream_at}
 use Rattle.wh_state.specs.Sound.{Sound}
 use Rattle.wh_net.specs.Stream.{rows_at, shown_row}
-use Rattle.wh_machine.specs.Transaction.{Transaction, start_of}
+use Rattle.wh_machine.specs.Transaction.{Transaction, start_of, start_at}
 use Rattle.wh_machine.specs.Sessions.{transaction_in}
 use Rattle.wh_machine.specs.Outcome.{Machine, opened, settled}
 use Rattle.wh_machine.specs.Reading.{rows_read}
@@ -62,6 +62,14 @@ CommitsMoveToTheStart = (m : Machine) (session id : ℕ) (t : Transaction) (s : 
     → transaction_in m.sessions session ≡ Some t → stream_at m.state.objects id ≡ Some s
     → reads m.sessions session id ≡ true → is_refusal (settled m (commit m session)).1 ≡ false
     → stream_at (settled m (commit m session)).0.state.objects id ≡ Some (with_offset (max s.offset (start_of t)) s)
+
+-- a change outside of a transaction that reads a stream moves it to its start, up to which it reads it
+abbrev pub ChangesMoveToTheStart : Type 0
+ChangesMoveToTheStart = (reading session id : ℕ) (change : Dml) (m : Machine) (s : Stream)
+    → transaction_in m.sessions session ≡ None → stream_at m.state.objects id ≡ Some s
+    → change_reads m change id ≡ true → is_refusal (step m (changing reading session change)).1 ≡ false
+    → stream_at (step m (changing reading session change)).0.state.objects id
+    ≡ Some (with_offset (max s.offset (start_at (stamp_of m.state reading) None)) s)
 
 -- what the COMMIT of a transaction consumes of a standard stream is, as rows, what its statements read of it at any
 -- moment since the transaction held it, whatever their stamps

@@ -1,5 +1,6 @@
 ghost use Rattle.wh_engine.specs.Laws.{RefusalsChangeNothing, BatchesLead, ReadsTheSame};
-ghost use Rattle.wh_engine.specs.Laws.{CommitsMoveToTheStart, CommitsConsumeWhatWasRead};
+ghost use Rattle.wh_engine.specs.Laws.{CommitsMoveToTheStart, ChangesMoveToTheStart};
+ghost use Rattle.wh_engine.specs.Laws.{CommitsConsumeWhatWasRead};
 ghost use Rattle.wh_engine.specs.Laws.{ChangesHoldWhatTheyRead, ChangesConsumeWhatTheyRead};
 ghost use Rattle.wh_engine.specs.Laws.{NothingElseConsumes, OthersMoveNothing, QueriesMoveNothing};
 ghost use Rattle.wh_engine.specs.Laws.{SoundStatesOpen, EventsKeepMachinesSound, HeldStreamsStay};
@@ -22,9 +23,10 @@ pub fn held_streams_are_read_again()
 {}
 
 /// The COMMIT of a transaction that read a stream moves it to the transaction's start, up to which it
-/// was read, and never back.
+/// was read, and never back. So does a change outside of a transaction, which is one by itself.
 pub fn commits_move_to_the_start()
-    ensures { CommitsMoveToTheStart }
+    ensures commits { CommitsMoveToTheStart }
+    ensures changes { ChangesMoveToTheStart }
 {}
 
 /// A batch is what was read. What a COMMIT consumes of a standard stream is, row by row, what the

@@ -2,10 +2,11 @@
 --     commit_batch      a COMMIT consumes what its transaction reads of a standard stream, wherever it held it
 --     change_holds      a change inside of a transaction holds the streams that it reads, and they are read again
 --     changed_read      whether the streams that a change comes to are those of its statement
---     change_batch      a change outside of a transaction consumes what it reads itself
+--     change_consumes   a change outside of a transaction moves a stream that it reads to its start
+--     change_batch      and consumes what it reads itself
 use Rattle.std.proofs.Common.{◌≡◌, ℕ, zero, suc, Bool, true, false, List, [], ◌∷◌, map, Option, Some, None}
 use Rattle.std.proofs.Common.{refl, sym, ap, subst, ◌∙◌}
-use Rattle.std.specs.Prelude.{nat_eq, ◌||◌, slice_set}
+use Rattle.std.specs.Prelude.{max, nat_eq, ◌||◌, slice_set}
 use Rattle.std.specs.List.{list_any}
 use Rattle.wh_ast.specs.declared.dml.Dml.{Dml}
 use Rattle.wh_ast.specs.declared.statement.Statement as tree
@@ -17,7 +18,7 @@ use Rattle.wh_ddl_naming.specs.Statements as ddl
 use Rattle.wh_effect.specs.Effect as effects
 use Rattle.wh_effect.specs.Effect.{Effect}
 use Rattle.wh_reply.specs.Reply.{Refusal, Reply, is_refusal}
-use Rattle.wh_state.specs.State.{Table, Stream}
+use Rattle.wh_state.specs.State.{Table, Stream, with_offset}
 use Rattle.wh_state.specs.Objects.{table_at, stream_at}
 use Rattle.wh_machine.specs.Changes.{Changed, Fails, Gives, given, given_on, fails_or}
 use Rattle.wh_net.specs.Stream.{shown_row, rows_on, rows_shown}
@@ -30,11 +31,11 @@ use Rattle.wh_machine.specs.Statements.{streams_read, change_refusal, bound_chan
 use Rattle.wh_machine.specs.Statements.{commit, commit_of, carried_out, carried_out_as, meant_in}
 use Rattle.wh_machine.specs.Consuming.{shown_of, shown_to, consumed, is_read_by, reads, AreApart, IsHeldAlong}
 use Rattle.wh_machine.specs.Consuming.{committing, changing, change_in, change_reads}
-use Rattle.wh_machine.specs.Step.{Event, Command, is_session, at_stamp, commanded}
+use Rattle.wh_machine.specs.Step.{Event, Command, is_session, stamp_of, at_stamp, commanded}
 use Rattle.wh_machine.specs.Step.{decided, step, after}
 use Rattle.wh_machine.proofs.MoveLaws.{read_to, among_streams, shown_again}
 use Rattle.wh_machine.proofs.StepLaws.{ready, each_event}
-use Rattle.wh_machine.proofs.ReadLaws.{read_by, change_moves, commit_moves}
+use Rattle.wh_machine.proofs.ReadLaws.{read_by, change_moves, commit_moves, to_the_greater}
 use Rattle.wh_machine.proofs.HeldLaws.{held_after, read_again}
 
 refused_isnt : {X : Type 0} → true ≡ false → X
@@ -192,26 +193,48 @@ alone_moves m session id s (Gives target streams change e) none among at accepte
     change_moves m session target streams change e id s none at among accepted
 
 -- a change that reads a stream outside of a transaction
+alone_moved : (reading session id : ℕ) (statement : Dml) (m : Machine) (s : Stream)
+    → transaction_in m.sessions session ≡ None → stream_at m.state.objects id ≡ Some s
+    → change_reads m statement id ≡ true
+    → is_refusal (step m (changing reading session statement)).1 ≡ false
+    → stream_at (step m (changing reading session statement)).0.state.objects id
+    ≡ Some (read_to (start_in (ready m (changing reading session statement)) session) s)
+unfolding carried_out changes_rows ddl.bound
+alone_moved reading session id statement m s none at among accepted =
+    let e : Event = changing reading session statement in
+    let now : Machine = ready m e in
+    let changed : Changed = bound_changed now session (change_in now statement) in
+    let ends : step m e ≡ settled now (changes_in now session None changed) =
+    accepted_step m reading session (st.Dml statement) accepted
+    ∙ ap (λ (found : Option Transaction). settled now (changes_in now session found changed)) none in
+    ap (λ (p : Machine × Reply). stream_at p.0.state.objects id) ends
+    ∙ alone_moves now session id s changed none (changed_read true now session id statement among) at
+    (sym (ap (λ (p : Machine × Reply). is_refusal p.1) ends) ∙ accepted)
+
+-- to the start, where the stream isn't behind it already
+pub change_consumes : (reading session id : ℕ) (statement : Dml) (m : Machine) (s : Stream)
+    → transaction_in m.sessions session ≡ None → stream_at m.state.objects id ≡ Some s
+    → change_reads m statement id ≡ true
+    → is_refusal (step m (changing reading session statement)).1 ≡ false
+    → stream_at (step m (changing reading session statement)).0.state.objects id
+    ≡ Some (with_offset (max s.offset (start_at (stamp_of m.state reading) None)) s)
+change_consumes reading session id statement m s none at among accepted =
+    alone_moved reading session id statement m s none at among accepted
+    ∙ ap (λ (found : Option Transaction). Some (read_to (start_at (stamp_of m.state reading) found) s)) none
+    ∙ ap Some (to_the_greater (start_at (stamp_of m.state reading) None) s)
+
 pub change_batch : (reading session id : ℕ) (statement : Dml) (m : Machine) (s : Stream)
     → transaction_in m.sessions session ≡ None → stream_at m.state.objects id ≡ Some s
     → change_reads m statement id ≡ true
     → is_refusal (step m (changing reading session statement)).1 ≡ false
     → bag_of (map (shown_row s.source) (consumed id m (changing reading session statement)))
     ≡ rows_read (ready m (changing reading session statement)) session id
-unfolding carried_out changes_rows ddl.bound
 change_batch reading session id statement m s none at among accepted =
     let e : Event = changing reading session statement in
     let now : Machine = ready m e in
-    let ends : step m e ≡ settled now (changes_in now session None (bound_changed now session (change_in now statement))) =
-    accepted_step m reading session (st.Dml statement) accepted
-    ∙ ap (λ (found : Option Transaction). settled now (changes_in now session found (bound_changed now session (change_in now statement))))
-    none in
-    let moved : stream_at (step m e).0.state.objects id ≡ Some (read_to (start_in now session) s) =
-    ap (λ (p : Machine × Reply). stream_at p.0.state.objects id) ends
-    ∙ alone_moves now session id s (bound_changed now session (change_in now statement)) none
-    (changed_read true now session id statement among) at
-    (sym (ap (λ (p : Machine × Reply). is_refusal p.1) ends) ∙ accepted) in
-    ap bag_of (consumed_rows m e id (start_in now session) s at moved) ∙ sym (read_by now session id s at)
+    ap bag_of (consumed_rows m e id (start_in now session) s at
+    (alone_moved reading session id statement m s none at among accepted))
+    ∙ sym (read_by now session id s at)
 
 -- inside of one it is staged
 staged_there : (sessions : Sessions) (session : ℕ) (t u : Transaction) → transaction_in sessions session ≡ Some t

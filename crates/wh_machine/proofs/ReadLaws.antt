@@ -1,6 +1,7 @@
 -- What is consumed of a stream is what was read of it.
 --     read_by                        what a statement reads of a stream: what it shows up to the session's start
 --     change_moves, commit_moves     a commit that read it leaves it with what it showed up to the start consumed
+--     to_the_greater                 read up to a start, its offset is the greater of both
 --     commit_consumes                the COMMIT of a session moves it to the start
 use Rattle.std.proofs.Common.{◌≡◌, ℕ, Bool, true, false, cond, List, [], ◌∷◌, map, Option, Some, None}
 use Rattle.std.proofs.Common.{refl, sym, ap, ◌∙◌, arith}
@@ -102,7 +103,7 @@ commit_moves m session t =
     recorded_moves m (commit_reply m.state.last (acts_of m.state.objects t)) (with_ended m.sessions session) t
 
 -- that is the greater of its offset and the start
-to_the_greater : (start : ℕ) (s : Stream) → read_to start s ≡ with_offset (max s.offset start) s
+pub to_the_greater : (start : ℕ) (s : Stream) → read_to start s ≡ with_offset (max s.offset start) s
 to_the_greater start s = by_test (nat_lt s.offset start) refl
   where
     by_test : (later : Bool) → nat_lt s.offset start ≡ later
