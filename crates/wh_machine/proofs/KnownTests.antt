@@ -182,6 +182,10 @@ told : (refusal_text (OverLimit limits.RowNumber) ≡ codes "E13 Limit ROW_NUMBE
     × (refusal_text (OverLimit limits.Columns) ≡ codes "E13 Limit COLUMNS 64")
     × (refusal_text (OverLimit limits.Retention) ≡ codes "E13 Limit RETENTION 90")
     × (refusal_text (OverLimit limits.Output) ≡ codes "E13 Limit OUTPUT 256")
+    × (refusal_text (OverLimit limits.LeastSchedule) ≡ codes "E13 Limit SCHEDULE 1")
+    × (refusal_text (OverLimit limits.MostSchedule) ≡ codes "E13 Limit SCHEDULE 11520")
+    × (refusal_text (OverLimit limits.LeastTargetLag) ≡ codes "E13 Limit TARGET_LAG 60")
+    × (refusal_text (OverLimit limits.MostTargetLag) ≡ codes "E13 Limit TARGET_LAG 604800")
     × (refusal_text (AmbiguousMerge (Number (pos 1) ∷ Text (codes "a") ∷ [])) ≡ codes "E20 AmbiguousMerge 1 | 'a'")
 unfolding digits
-told = (refl, refl, refl, refl, refl, refl, refl, refl, refl)
+told = (refl, refl, refl, refl, refl, refl, refl, refl, refl, refl, refl, refl, refl)

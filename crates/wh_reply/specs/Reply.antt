@@ -91,6 +91,10 @@ limit_word limits.Objects = codes "OBJECTS"
 limit_word limits.Name = codes "NAME"
 limit_word limits.Columns = codes "COLUMNS"
 limit_word limits.Output = codes "OUTPUT"
+limit_word limits.LeastSchedule = codes "SCHEDULE"
+limit_word limits.MostSchedule = codes "SCHEDULE"
+limit_word limits.LeastTargetLag = codes "TARGET_LAG"
+limit_word limits.MostTargetLag = codes "TARGET_LAG"
 limit_word limits.Retention = codes "RETENTION"
 
 abbrev pub refusal_text : Refusal → List ℕ

@@ -184,6 +184,8 @@ fn put_limit_word(limit: Limit, out: &mut Bytes) -> Result<(), AllocError>
         Limit::Name => out.extend(b"NAME"),
         Limit::Columns => out.extend(b"COLUMNS"),
         Limit::Output => out.extend(b"OUTPUT"),
+        Limit::LeastSchedule | Limit::MostSchedule => out.extend(b"SCHEDULE"),
+        Limit::LeastTargetLag | Limit::MostTargetLag => out.extend(b"TARGET_LAG"),
         Limit::Retention => out.extend(b"RETENTION"),
     }
 }

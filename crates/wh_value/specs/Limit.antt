@@ -1,5 +1,5 @@
 -- The limits of the language.
---     bound               the number that a limit's count doesn't pass
+--     bound               the number that a limit's count doesn't pass, or that it isn't below
 --     last_session        there are sessions from 1 up to it
 --     days_of_changes     for which a table's changes are kept at least
 use Rattle.std.specs.Prelude.{ℕ}
@@ -17,6 +17,11 @@ bound limits.Objects = 1000
 bound limits.Name = 255
 bound limits.Columns = 64
 bound limits.Output = 256
+-- minutes of a schedule and seconds of a lag, which have a least number too
+bound limits.LeastSchedule = 1
+bound limits.MostSchedule = 11520
+bound limits.LeastTargetLag = 60
+bound limits.MostTargetLag = 604800
 bound limits.Retention = 90
 
 abbrev pub last_session : ℕ

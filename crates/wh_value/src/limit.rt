@@ -28,12 +28,20 @@ pub enum Limit {
     Columns,
     /// The columns of a query.
     Output,
+    /// The minutes of a schedule, which aren't below it.
+    LeastSchedule,
+    /// The minutes of a schedule.
+    MostSchedule,
+    /// The seconds of a target lag, which aren't below it.
+    LeastTargetLag,
+    /// The seconds of a target lag.
+    MostTargetLag,
     /// The days of a retention.
     Retention,
 }
 
 impl Limit {
-    /// The number that isn't passed.
+    /// The number that isn't passed, or that a count isn't below.
     pub fn bound(self) -> u64
         ensures { result ≡ bound self }
     {
@@ -45,6 +53,10 @@ impl Limit {
             Limit::Name => 255,
             Limit::Columns => 64,
             Limit::Output => 256,
+            Limit::LeastSchedule => 1,
+            Limit::MostSchedule => 11520,
+            Limit::LeastTargetLag => 60,
+            Limit::MostTargetLag => 604800,
             Limit::Retention => 90,
         }
     }
