@@ -2,7 +2,7 @@
 --     unchanged, untouched     a warehouse that stayed as it was
 --     reopens            an earlier failure
 --     starves, starved   want of memory
---     same_fault         a fault that is passed on as it is
+--     passed_on, same_fault    a fault that is passed on as it is
 use Rattle.std.proofs.Common.{◌≡◌, ℕ, Option, Some, None, Result, Ok, Err, refl, sym, ap, subst, ◌∙◌, arith}
 use Rattle.std.specs.Result.{IfErr, IsErrOf, IsErrAnd}
 use Rattle.wh_state.specs.Commit.{Commit}
@@ -64,9 +64,9 @@ starved (Ok x) old new commit gives healthy same state = tt
 starved (Err h) old new commit gives healthy same state =
     subst (Halted old new commit) (sym gives) (starves old new commit healthy same state)
 
--- what holds of a halt that is passed on
-pub passed_on : {T : Type 0} (r : Result T Halt) (passed : Halt) (P : Halt → Type 0)
-    → IsErrAnd r (λ halt. halt ≡ passed) → P passed
+-- what holds of an error that is passed on
+pub passed_on : {T E : Type 0} (r : Result T E) (passed : E) (P : E → Type 0)
+    → IsErrAnd r (λ h. h ≡ passed) → P passed
     → IfErr r P
 passed_on (Ok x) passed P gives holds = tt
 passed_on (Err h) passed P gives holds = subst P (sym gives) holds

@@ -1,9 +1,11 @@
 -- What an opened file stands for, and where one has its first fault.
+--     begun_file                   one that is written anew
 --     opened, filed, gate_ends     one that was replayed to its end
 --     fault_first, stray_first     one that breaks off, and one with a record that strays
 --     left_by_opening              what a crash leaves behind the journal's recovery
-use Rattle.std.proofs.Common.{◌≡◌, ℕ, ◌<◌, ◌≤◌, ◌^◌, ◌⊎◌, List, [], ◌∷◌, ◌++◌, length, map, Option, Some, None, is_some}
-use Rattle.std.proofs.Common.{refl, sym, ◌∙◌, subst, ap, arith, inl, inr, append_assoc}
+--     unread, fails                faults that aren't the file's
+use Rattle.std.proofs.Common.{◌≡◌, ℕ, ◌<◌, ◌^◌, ◌⊎◌, List, [], ◌∷◌, ◌++◌, length, map, Option, Some, None, is_some}
+use Rattle.std.proofs.Common.{Result, Err, refl, sym, ◌∙◌, subst, ap, arith, inl, inr, append_assoc}
 use Rattle.std.specs.Prelude.{MatchOption}
 use Rattle.std.specs.List.{AllByRecursion, flat_map}
 use Rattle.std.proofs.lemmas.Bool.{cases_lt}
@@ -16,38 +18,29 @@ use Rattle.wh_frame.specs.File.{IsFileOf, IsCut, GateEndsAt, header, record_of, 
 use Rattle.wh_state.specs.File.{Keeps}
 use Rattle.wh_state.specs.Fault.{IsFaulty, BreaksOff, IsFirstFault}
 use Rattle.wh_journal.specs.Crash.{IsKeptOrShort}
-use Rattle.wh_journal.specs.Fault.{AllShort, ListsUpTo}
+use Rattle.wh_journal.specs.Fault.{AllShort, EndsEarly, ListsUpTo}
+use Rattle.wh_journal.specs.Device.{Counts}
+use Rattle.wh_journal.specs.Opening.{RecoversShort, RecoversLong, LeavesKept}
+use Rattle.wh_journal.specs.declared.fault.ReadFault.{ReadFault}
+use Rattle.wh_journal.specs.declared.fault.ReadFault.TheVariants as reads
+use Rattle.wh_world.specs.declared.disk.Disk.{Ghosts}
 use Rattle.wh_journal.specs.Journal.{Lists, end_of, count_of}
 use Rattle.wh_journal.specs.declared.journal.Journal.{Journal}
 use Rattle.wh_catalog.specs.Catalog.{stored_of}
 use Rattle.wh_catalog.specs.declared.catalog.Catalog.{Catalog}
 use Rattle.wh_engine.specs.Warehouse.{IsFileOfCommits, Filed}
-use Rattle.wh_engine.specs.Replay.{Replays, StraysAt}
+use Rattle.wh_engine.specs.Fault.{fault_of_read}
+use Rattle.wh_engine.specs.Opening.{FailsToOpen}
+use Rattle.wh_engine.specs.Replay.{IsListed, Replays, StraysAt, LeadsTo, Strays}
+use Rattle.wh_engine.specs.declared.fault.OpenFault.{OpenFault}
+use Rattle.wh_engine.specs.declared.fault.OpenFault.TheVariants.{DiskFault, NotWarehouse}
 use Rattle.wh_engine.proofs.FileLemmas.{keeps}
 use Rattle.wh_decide.proofs.ListLemmas.{all_front, all_back, some_is, none_told}
-
--- what the journal's recovery says of a short file, and of a longer one
-abbrev pub Begun : Option (List ℕ) → Option (List ℕ) → Journal → Option ℕ → Type 0
-Begun old mid j fault = (file : List ℕ) → old ≡ Some file → length file ≤ 8
-    → (mid ≡ Some (header ++ 0 ∷ [])) × Lists [] j × (fault ≡ None)
 
 abbrev pub IsWhole : List ℕ → Journal → Type 0
 IsWhole file j = (payloads : List (List ℕ)) × IsFileOf payloads file × Lists payloads j
 
-abbrev pub Read : Option (List ℕ) → Option (List ℕ) → Journal → Option ℕ → Type 0
-Read old mid j fault = (file : List ℕ) → old ≡ Some file → 8 < length file
-    → (mid ≡ Some file) × MatchOption fault (IsWhole file j) (λ at. ListsUpTo file j at)
-
--- and what the replay says
-abbrev pub Led : Option (List ℕ) → Journal → Stored → Type 0
-Led mid j s = (payloads : List (List ℕ)) (file rest : List ℕ) → mid ≡ Some file → file ≡ records_of payloads ++ rest
-    → Lists payloads j → Replays first_stored payloads s
-
-abbrev pub Stray : Option (List ℕ) → Journal → ℕ → Type 0
-Stray mid j at = (payloads : List (List ℕ)) (file rest : List ℕ) → mid ≡ Some file → file ≡ records_of payloads ++ rest
-    → Lists payloads j → StraysAt payloads at
-
-begun_file : IsFileOf [] (header ++ 0 ∷ [])
+pub begun_file : IsFileOf [] (header ++ 0 ∷ [])
 unfolding records_of
 begun_file = record { gate = 0; tail = []; closed = λ e. absurd cc; spelled = refl; short = tt }
 
@@ -67,6 +60,16 @@ fault_at_some : (file : List ℕ) (j : Journal) (fault : Option ℕ) (at : ℕ) 
 fault_at_some file j None at is h = absurd cc
 fault_at_some file j (Some n) at is h = let same : n ≡ at = cc in subst (ListsUpTo file j) same h
 
+listed_whole : (payloads : List (List ℕ)) (file : List ℕ) (mid : Option (List ℕ)) (j : Journal) → mid ≡ Some file
+    → IsFileOf payloads file → Lists payloads j → IsListed mid j payloads
+listed_whole payloads file mid j told is lists =
+    record { file = file; rest = is.gate ∷ is.tail; told = told; begins = is.spelled; lists = lists }
+
+listed_early : (payloads : List (List ℕ)) (file : List ℕ) (mid : Option (List ℕ)) (j : Journal) (at : ℕ)
+    → mid ≡ Some file → EndsEarly file payloads at → Lists payloads j → IsListed mid j payloads
+listed_early payloads file mid j at told ends lists =
+    record { file = file; rest = ends.rest; told = told; begins = ends.spelled; lists = lists }
+
 -- ---- a file that was replayed to its end
 
 no_commits : (cs : List Commit) (s : Stored) → map payload_of cs ≡ [] → Leads first_stored cs s → s ≡ first_stored
@@ -74,11 +77,12 @@ no_commits [] s e leads = sym leads
 no_commits (c ∷ cs) s e leads = absurd cc
 
 led_whole : (payloads : List (List ℕ)) (file : List ℕ) (mid : Option (List ℕ)) (j : Journal) (s : Stored)
-    → mid ≡ Some file → IsFileOf payloads file → Lists payloads j → Led mid j s → Replays first_stored payloads s
-led_whole payloads file mid j s told is lists led = led payloads file (is.gate ∷ is.tail) told is.spelled lists
+    → mid ≡ Some file → IsFileOf payloads file → Lists payloads j → LeadsTo mid j s → Replays first_stored payloads s
+led_whole payloads file mid j s told is lists led = led payloads (listed_whole payloads file mid j told is lists)
 
 pub opened : (old mid : Option (List ℕ)) (j : Journal) (fault : Option ℕ) (s : Stored) → fault ≡ None
-    → Begun old mid j fault → Read old mid j fault → Led mid j s → (file : List ℕ) → old ≡ Some file → Keeps file s
+    → RecoversShort old mid (j, fault) → RecoversLong old mid (j, fault) → LeadsTo mid j s
+    → (file : List ℕ) → old ≡ Some file → Keeps file s
 opened old mid j fault s none begun read led file told = elim (cases_lt 8 (length file)) [
   | inl long ↦
       let r = read file told long in
@@ -103,7 +107,8 @@ filed_by payloads file j c is lists h = record {
 }
 
 filed_told : (old mid : Option (List ℕ)) (j : Journal) (fault : Option ℕ) (c : Catalog) → fault ≡ None
-    → Begun old mid j fault → Read old mid j fault → Led mid j (stored_of c) → (file now : List ℕ) → old ≡ Some file
+    → RecoversShort old mid (j, fault) → RecoversLong old mid (j, fault) → LeadsTo mid j (stored_of c)
+    → (file now : List ℕ) → old ≡ Some file
     → mid ≡ Some now → IsFileOfCommits now j c
 filed_told old mid j fault c none begun read led file now told is = elim (cases_lt 8 (length file)) [
   | inl long ↦
@@ -121,13 +126,15 @@ filed_told old mid j fault c none begun read led file now told is = elim (cases_
 ]
 
 pub filed : (old mid : Option (List ℕ)) (j : Journal) (fault : Option ℕ) (c : Catalog) → is_some mid ≡ is_some old
-    → fault ≡ None → Begun old mid j fault → Read old mid j fault → Led mid j (stored_of c) → Filed mid j c
+    → fault ≡ None → RecoversShort old mid (j, fault) → RecoversLong old mid (j, fault) → LeadsTo mid j (stored_of c)
+    → Filed mid j c
 filed None mid j fault c told none begun read led = record { each = λ now e. absurd (none_told mid now told e) }
 filed (Some file) mid j fault c told none begun read led =
     record { each = λ now e. filed_told (Some file) mid j fault c none begun read led file now refl e }
 
-pub gate_ends : (old mid : Option (List ℕ)) (j : Journal) (fault : Option ℕ) → fault ≡ None → Begun old mid j fault
-    → Read old mid j fault → (file : List ℕ) → old ≡ Some file → GateEndsAt file (end_of j)
+pub gate_ends : (old mid : Option (List ℕ)) (j : Journal) (fault : Option ℕ) → fault ≡ None
+    → RecoversShort old mid (j, fault)
+    → RecoversLong old mid (j, fault) → (file : List ℕ) → old ≡ Some file → GateEndsAt file (end_of j)
 gate_ends old mid j fault none begun read file told = elim (cases_lt 8 (length file)) [
   | inl long ↦
       let whole = whole_at_none file j fault none (read file told long).1 in
@@ -190,16 +197,17 @@ early rest s (inl none) = inl none
 early rest s (inr cut) = inr (inl cut)
 
 up_to : (file : List ℕ) (mid : Option (List ℕ)) (j : Journal) (at : ℕ) (s : Stored) → mid ≡ Some file
-    → ListsUpTo file j at → Led mid j s → IsFirstFault file at
+    → ListsUpTo file j at → LeadsTo mid j s → IsFirstFault file at
 up_to file mid j at s told (inl lacks) led = inl lacks.0
 up_to file mid j at s told (inr up) led =
     let ends = up.1 in
-    let h = led up.0 file ends.rest told ends.spelled up.2 in
+    let h = led up.0 (listed_early up.0 file mid j at told ends up.2) in
     inr (breaks_off up.0 file ends.rest at s h ends.short ends.spelled (early ends.rest s ends.faulty) ends.place)
 
 -- where each record that the journal lists was replayed, it is where the file breaks off
 pub fault_first : (old mid : Option (List ℕ)) (j : Journal) (fault : Option ℕ) (at : ℕ) (s : Stored) → fault ≡ Some at
-    → Begun old mid j fault → Read old mid j fault → Led mid j s → (file : List ℕ) → old ≡ Some file
+    → RecoversShort old mid (j, fault) → RecoversLong old mid (j, fault) → LeadsTo mid j s
+    → (file : List ℕ) → old ≡ Some file
     → (8 < length file) × IsFirstFault file at × (mid ≡ Some file)
 fault_first old mid j fault at s is begun read led file told = elim (cases_lt 8 (length file)) [
   | inl long ↦ let r = read file told long in
@@ -211,20 +219,22 @@ count_none : (j : Journal) → Lists [] j → count_of j ≡ 0
 count_none j lists = ap length lists.places
 
 strays_up_to : (file : List ℕ) (mid : Option (List ℕ)) (j : Journal) (at : ℕ) (fault : Option ℕ) → mid ≡ Some file
-    → 0 < count_of j → MatchOption fault (IsWhole file j) (λ n. ListsUpTo file j n) → Stray mid j at
+    → 0 < count_of j → MatchOption fault (IsWhole file j) (λ n. ListsUpTo file j n) → Strays mid j at
     → BreaksOff file at
 strays_up_to file mid j at None told some whole stray =
     let is = whole.1 in
     stray_breaks_off whole.0 file (is.gate ∷ is.tail) at is.short is.spelled
-    (stray whole.0 file (is.gate ∷ is.tail) told is.spelled whole.2)
+    (stray whole.0 (listed_whole whole.0 file mid j told is whole.2))
 strays_up_to file mid j at (Some n) told some (inl lacks) stray = absurd (omega (arith, count_none j lacks.1))
 strays_up_to file mid j at (Some n) told some (inr up) stray =
     let ends = up.1 in
-    stray_breaks_off up.0 file ends.rest at ends.short ends.spelled (stray up.0 file ends.rest told ends.spelled up.2)
+    stray_breaks_off up.0 file ends.rest at ends.short ends.spelled
+    (stray up.0 (listed_early up.0 file mid j n told ends up.2))
 
 -- else it is at the record that strays, which stands before
-pub stray_first : (old mid : Option (List ℕ)) (j : Journal) (fault : Option ℕ) (at : ℕ) → Begun old mid j fault
-    → Read old mid j fault → 0 < count_of j → Stray mid j at → (file : List ℕ) → old ≡ Some file
+pub stray_first : (old mid : Option (List ℕ)) (j : Journal) (fault : Option ℕ) (at : ℕ)
+    → RecoversShort old mid (j, fault)
+    → RecoversLong old mid (j, fault) → 0 < count_of j → Strays mid j at → (file : List ℕ) → old ≡ Some file
     → (8 < length file) × IsFirstFault file at × (mid ≡ Some file)
 stray_first old mid j fault at begun read some stray file told = elim (cases_lt 8 (length file)) [
   | inl long ↦ let r = read file told long in (long, inr (strays_up_to file mid j at fault r.0 some r.1 stray), r.0)
@@ -235,7 +245,8 @@ stray_first old mid j fault at begun read some stray file told = elim (cases_lt 
 
 -- what stands on the disk once the journal is recovered
 pub left_by_opening : (old mid : Option (List ℕ)) (j : Journal) (fault : Option ℕ) (images : List ℕ → Type 0)
-    → Begun old mid j fault → Read old mid j fault → ((now : List ℕ) → mid ≡ Some now → Only now images)
+    → RecoversShort old mid (j, fault) → RecoversLong old mid (j, fault)
+    → ((now : List ℕ) → mid ≡ Some now → Only now images)
     → (file : List ℕ) → old ≡ Some file → (image : List ℕ) → images image
     → IsKeptOrShort file image
 left_by_opening old mid j fault images begun read only file told image is = elim (cases_lt 8 (length file)) [
@@ -244,3 +255,35 @@ left_by_opening old mid j fault images begun read only file told image is = elim
       let anew : image ≡ header ++ 0 ∷ [] = only (header ++ 0 ∷ []) (begun file told short).0 image is in
       inr (short, omega (arith, ap length anew))
 ]
+
+-- ---- faults that aren't the file's
+
+-- of any but the disk
+pub fails : {D : Type 0} (seen : Ghosts D) (old new : D) (fault : OpenFault) → (fault ≡ DiskFault → ⊥)
+    → seen.faults new ≡ seen.faults old → LeavesKept seen old new
+    → ((at : ℕ) → fault ≡ NotWarehouse at → (file : List ℕ) → seen.bytes old ≡ Some file
+    → (8 < length file) × IsFirstFault file at × (seen.bytes new ≡ Some file) × Only file (seen.may_leave new))
+    → FailsToOpen seen old new fault
+fails seen old new fault other same left at_fault = record {
+  not_warehouse = λ at file is. at_fault at is file;
+  unfailed = λ at is. same;
+  memory = λ is. same;
+  disk_fault = λ is. absurd (other is);
+  later = omega (arith, same);
+  any_moment = left;
+}
+
+-- of a recovery
+pub unread : {D A : Type 0} (seen : Ghosts D) (old new : D) (r : Result A ReadFault) (fault : ReadFault) → r ≡ Err fault
+    → LeavesKept seen old new → Counts seen old new r reads.OutOfMemory reads.DiskFault
+    → FailsToOpen seen old new (fault_of_read fault)
+unread seen old new r reads.OutOfMemory is left counts =
+    fails seen old new _ (λ disk. cc) (counts.starved is) left (λ at e. absurd cc)
+unread seen old new r reads.DiskFault is left counts = record {
+  not_warehouse = λ at file e. absurd cc;
+  unfailed = λ at e. absurd cc;
+  memory = λ e. absurd cc;
+  disk_fault = λ e. counts.disk_fault is;
+  later = counts.later;
+  any_moment = left;
+}

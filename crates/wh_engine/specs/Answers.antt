@@ -35,7 +35,8 @@ pub record CarriesOut {D : Type 0} {seen : Ghosts D} (old new : Warehouse D seen
   -- the file goes with the state, and what was all on the disk still is
   pub filed : Filed (seen.bytes old.disk) old.journal old.catalog → Filed (seen.bytes new.disk) new.journal new.catalog
   -- whose records are those before and the commit's
-  pub adds : AddsCommit (seen.bytes old.disk) (seen.bytes new.disk) old.journal new.journal old.catalog new.catalog commit
+  pub adds : AddsCommit (seen.bytes old.disk) (seen.bytes new.disk) old.journal new.journal
+      old.catalog new.catalog commit
   pub told : is_some (seen.bytes new.disk) ≡ is_some (seen.bytes old.disk)
   pub durable : IsSettled (seen.bytes old.disk) (seen.may_leave old.disk)
       → IsSettled (seen.bytes new.disk) (seen.may_leave new.disk)

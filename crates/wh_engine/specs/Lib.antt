@@ -4,4 +4,5 @@ pub mod Answers
 pub mod Halts
 pub mod Leaves
 pub mod Replay
+pub mod Opening
 pub mod Laws

@@ -26,8 +26,9 @@ impl<D: Disk> Warehouse<D> {
     ghost use Rattle.wh_engine.specs.Halts.{Halted};
     ghost use Rattle.wh_engine.specs.Leaves.{Leaves};
 
-    /// Carries out one event, and gives its reply. A halt leaves the state and the open transactions
-    /// as they were; after a fault of a write or a sync the file has to be opened again.
+    /// Carries out one event, and gives its reply. A halt leaves the state and the open
+    /// transactions as they were; after a fault of a write or a sync the file has to be opened
+    /// again.
     pub fn carry_out(&mut self, _rt: &(impl Threads + Sync), event: &Event) -> Result<Reply, Halt>
         ensures answered { IfOk result (λ reply.
             Answered self.old self.new (event_of event.now) (reply_view reply)) }
@@ -113,8 +114,8 @@ impl<D: Disk> Warehouse<D> {
         requires within { stamp < bound limits.Stamp }
         requires timed { IsAt stamp (option_map commit_of commit) }
         ensures answered { OnOk result (CarriesOut self.old self.new (option_map commit_of commit)
-            (machine_at (state_with (stored_of self.old.catalog) stamp (option_map commit_of commit))
-            (sessions_of self.old.sessions))) }
+            (machine_at (state_with (stored_of self.old.catalog) stamp
+            (option_map commit_of commit)) (sessions_of self.old.sessions))) }
         ensures halted { IfErr result (λ halt.
             Halted self.old self.new (option_map commit_of commit) halt) }
         ensures any_moment { Leaves self.old self.new

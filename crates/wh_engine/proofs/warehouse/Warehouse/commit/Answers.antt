@@ -126,4 +126,5 @@ returns-clause-halted g c =
     untouched u.0 (subst (IsSame old.journal) (sym u.1) same) stored refl)
     (λ faults is. let u = says.untouched faults (c.in-Err.is ∙ ap Err is) in
     untouched u.0 (subst (IsSame old.journal) (sym u.1) same) stored refl))
-    (ap (λ (s : State). machine_at s (sessions_of old.sessions)) (c.undo.ensures.state old.catalog undoes)) c.append.ensures.writes.later)
+    (ap (λ (s : State). machine_at s (sessions_of old.sessions)) (c.undo.ensures.state old.catalog undoes))
+    c.append.ensures.writes.later)
