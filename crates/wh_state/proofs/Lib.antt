@@ -15,3 +15,7 @@ pub mod KnownCommits
 pub mod KnownEdits
 pub mod KindLaws
 pub mod KnownChanges
+pub mod FoundLaws
+pub mod PartLaws
+pub mod ApartLaws
+pub mod AppliesLaws

@@ -33,7 +33,7 @@ use Rattle.wh_state.proofs.ActLaws.{orderly_standing}
 
 -- ---- partitions that are apart
 
-abbrev ApartFrom : List Partition → Partition → Type 0
+abbrev pub ApartFrom : List Partition → Partition → Type 0
 ApartFrom before p = AllByRecursion (AreApart p) before
 
 -- from fewer
@@ -62,7 +62,7 @@ moved_back : (P : Partition → Type 0) (p : Partition) (ps before : List Partit
 moved_back P p [] before h = h
 moved_back P p (q ∷ ps) before h = (h.1.0, moved_back P p ps before (h.0, h.1.1))
 
-apart_append : (before ps qs : List Partition) → AllApart before ps → AllApart (ps ++ before) qs
+pub apart_append : (before ps qs : List Partition) → AllApart before ps → AllApart (ps ++ before) qs
     → AllApart before (ps ++ qs)
 apart_append before [] qs apart others = others
 apart_append before (p ∷ ps) qs apart others = (
