@@ -19,3 +19,5 @@ pub mod FoundLaws
 pub mod PartLaws
 pub mod ApartLaws
 pub mod AppliesLaws
+pub mod FirmLaws
+pub mod WrittenLaws
