@@ -18,3 +18,5 @@ pub mod KnownChanges
 pub mod KnownStops
 pub mod KnownStreams
 pub mod KnownTests
+pub mod GotLaws
+pub mod StandLaws
