@@ -20,3 +20,5 @@ pub mod KnownStreams
 pub mod KnownTests
 pub mod GotLaws
 pub mod StandLaws
+pub mod NamedLaws
+pub mod WorksLaws

@@ -124,7 +124,7 @@ found_through P keeps stamp objects id (c ∷ cs) spare h =
     found_through P keeps stamp (changed stamp objects c) id cs spare.1
     (found_changes P keeps stamp objects id c spare.0 h)
 
-edit_spares : (stamp : ℕ) (objects : List StoredObject) (other : ℕ) (e : Edits) (id : ℕ)
+pub edit_spares : (stamp : ℕ) (objects : List StoredObject) (other : ℕ) (e : Edits) (id : ℕ)
     → AllByRecursion (ChangeSpares id) (act_written stamp objects (EditsRows other e))
 edit_spares stamp objects other e id = by_found (at_id objects other)
   where
