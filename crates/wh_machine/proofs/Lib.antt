@@ -22,3 +22,5 @@ pub mod GotLaws
 pub mod StandLaws
 pub mod NamedLaws
 pub mod WorksLaws
+pub mod DefineLaws
+pub mod PassedLaws
