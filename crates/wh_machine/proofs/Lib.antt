@@ -24,3 +24,6 @@ pub mod NamedLaws
 pub mod WorksLaws
 pub mod DefineLaws
 pub mod PassedLaws
+pub mod StageLaws
+pub mod ReachedLaws
+pub mod LeadsLaws

@@ -30,6 +30,7 @@ use Rattle.wh_state.proofs.FoundLaws.{FoundAt}
 use Rattle.wh_state.proofs.MeaningLaws.{stored_table_of, stored_table_at, stored_stream_of, stored_stream_at}
 use Rattle.wh_state.proofs.MeaningLaws.{at_id_meant, table_at_meant, stream_at_meant, last_partitions_meant}
 use Rattle.wh_state.proofs.AppliesLaws.{EditsFit}
+use Rattle.wh_state.proofs.BelowLaws.{below_next}
 use Rattle.wh_state.proofs.WrittenLaws.{EditsApply, EditStands, TakesMove, ActStands, AllStand}
 use Rattle.wh_state.proofs.WrittenLaws.{KeptByCommits, ChangeSpares, found_through}
 use Rattle.wh_machine.specs.Offsets.{offset_move, offset_moves}
@@ -184,6 +185,7 @@ edit_stands committed stamp h objects sound entry within holds =
             (t.next_partition + length (partitions_made t.next_partition t.next_row e ps))) (sym (last_partitions_meant t))
             ∙ partitions in
         record {
+          below = below_next committed t sound;
           fit = fits;
           later = not_later committed stamp h t.versions sound.timely;
           few = not_less (bound limits.RowNumber) _ rows;

@@ -18,43 +18,51 @@ use Rattle.wh_frame.specs.Partition.{Partition}
 use Rattle.wh_state.specs.State.{Stream, ObjectOf, new_table, new_object, new_stream, with_offset, dropped, metadata_columns}
 use Rattle.wh_state.specs.State.{at_id, with_id, put_at, changed_at, id_of, is_named, content_in, last_of}
 use Rattle.wh_state.specs.Edits.{without, is_among}
-use Rattle.wh_state.specs.Stored.{StoredTable, StoredKind, StoredTableKind, StoredStreamKind, StoredObject}
+use Rattle.wh_state.specs.Stored.{Stored, first_stored, StoredTable, StoredKind, StoredTableKind, StoredStreamKind, StoredObject}
 use Rattle.wh_state.specs.Stored.{stored_table_in, stored_stream_in, stored_columns_in, stored_columns_at, standing}
 use Rattle.wh_state.specs.Commit.{VersionChange, Change, CreatesTable, Drops, PushesVersion, CreatesStream, SetsOffset}
 use Rattle.wh_state.specs.Commit.{pushed, pushed_kind, pushed_object, offset_set, offset_set_kind, changed, all_changed}
-use Rattle.wh_state.specs.Commit.{RowsFit, VersionApplies, FitsKind, FitsObject, IsLiveTable, IsTableKind, ChangeApplies, AllApply}
+use Rattle.wh_state.specs.Commit.{Commit, applied, Leads, RowsFit, VersionApplies, FitsKind, FitsObject, IsLiveTable, IsTableKind, ChangeApplies, AllApply}
 use Rattle.wh_state.specs.Orderly.{HasRisingRows}
+use Rattle.wh_state.specs.Spelling.{IsChange, IsCommit}
+use Rattle.wh_frame.specs.Spelling.{IsPartition}
+use Rattle.wh_state.specs.File.{Keeps}
 use Rattle.wh_state.proofs.AllLaws.{all_map, all_append, all_more, all_at, all_with, all_changed_at, all_filter}
-use Rattle.wh_state.proofs.OrderlyLaws.{KeptTable, rising_pushed, new_kept}
+use Rattle.wh_state.proofs.OrderlyLaws.{KeptTable, standing_pushed, rising_pushed, new_kept}
 use Rattle.wh_state.proofs.FoundLaws.{FoundAt, found_changed, found_more}
-use Rattle.wh_state.proofs.AppliesLaws.{VersionFits, IsFirmTable, standing_fits}
+use Rattle.wh_state.proofs.AppliesLaws.{HasRows, FitRows, VersionFits, IsFirmTable, standing_fits}
 
 -- ---- tables
 
-fits_later : (columns : List Column) (next later : ℕ) → next ≤ later → (ps : List Partition)
-    → AllByRecursion (RowsFit columns next) ps → AllByRecursion (RowsFit columns later) ps
-fits_later columns next later h ps fit =
-    all_map (RowsFit columns next) (RowsFit columns later)
-    (λ p fit. all_map (λ e. IsTrue (row_fits columns e.1) × (e.0 < next)) (λ e. IsTrue (row_fits columns e.1) × (e.0 < later))
-    (λ e is. (is.0, omega (arith, is.1))) p.rows fit) ps fit
+-- with rows that rise in each partition that comes
+pub record PushRises (c : VersionChange) : Type 0 where
+  pub rows : AllByRecursion HasRisingRows c.added
+  pub some : AllByRecursion HasRows c.added
 
--- a version that doesn't lower the next row number
-firm_pushed : (stamp : ℕ) (c : VersionChange) (t : StoredTable) → AllByRecursion HasRisingRows c.added
-    → t.next_row ≤ c.next_row → VersionApplies t c → IsFirmTable t → IsFirmTable (pushed stamp c t)
-firm_pushed stamp c t rising grows applies firm = record {
-  kept = rising_pushed stamp c t rising applies firm.kept;
-  some = omega (arith, firm.some);
-  fits = all_more (VersionFits t.columns c.next_row) t.versions _
-      (all_map (VersionFits t.columns t.next_row) (VersionFits t.columns c.next_row)
-      (λ v fit. fits_later t.columns t.next_row c.next_row grows v.content fit) t.versions firm.fits)
-      (all_append (RowsFit t.columns c.next_row) (without c.removed (standing t)) c.added
-      (all_filter (RowsFit t.columns c.next_row) (λ p. not (is_among p.number c.removed)) (standing t)
-      (fits_later t.columns t.next_row c.next_row grows (standing t) (standing_fits t firm))) applies.rows);
-}
+only_fit : (columns : List Column) (next : ℕ) (ps : List Partition) → AllByRecursion (RowsFit columns next) ps
+    → AllByRecursion (FitRows columns) ps
+only_fit columns next ps fit =
+    all_map (RowsFit columns next) (FitRows columns)
+    (λ p fit. all_map (λ e. IsTrue (row_fits columns e.1) × (e.0 < next)) (λ e. IsTrue (row_fits columns e.1))
+    (λ e is. is.0) p.rows fit) ps fit
+
+firm_pushed : (stamp : ℕ) (c : VersionChange) (t : StoredTable) → PushRises c → VersionApplies t c → IsFirmTable t
+    → IsFirmTable (pushed stamp c t)
+firm_pushed stamp c t rises applies firm =
+    let stays : Partition → Bool = λ (p : Partition). not (is_among p.number c.removed) in
+    record {
+      kept = rising_pushed stamp c t rises.rows applies firm.kept;
+      some = subst (AllByRecursion HasRows) (sym (standing_pushed stamp c t))
+          (all_append HasRows (without c.removed (standing t)) c.added (all_filter HasRows stays (standing t) firm.some)
+          rises.some);
+      fits = all_more (VersionFits t.columns) t.versions _ firm.fits
+          (all_append (FitRows t.columns) (without c.removed (standing t)) c.added
+          (all_filter (FitRows t.columns) stays (standing t) (standing_fits t firm))
+          (only_fit t.columns c.next_row c.added applies.rows));
+    }
 
 new_firm : (columns : List Column) (retention stamp : ℕ) → IsFirmTable (new_table [] columns retention stamp)
-new_firm columns retention stamp =
-    record { kept = new_kept columns retention stamp; some = omega arith; fits = (tt, tt) }
+new_firm columns retention stamp = record { kept = new_kept columns retention stamp; some = tt; fits = (tt, tt) }
 
 abbrev pub IsFirmKind : StoredKind → Type 0
 IsFirmKind k = IfSome (stored_table_in k) IsFirmTable
@@ -181,14 +189,9 @@ pub record IsFirm (objects : List StoredObject) : Type 0 where
 pub firm_first : IsFirm []
 firm_first = record { tables = tt; names = tt; streams = tt }
 
--- the rows that come rise, and the next row number doesn't fall
-pub record PushRises (c : VersionChange) (t : StoredTable) : Type 0 where
-  pub rows : AllByRecursion HasRisingRows c.added
-  pub grows : t.next_row ≤ c.next_row
-
-abbrev pub ChangeRises : List StoredObject → Change → Type 0
-ChangeRises objects (PushesVersion c) = IfSome (at_id objects c.id) (λ o. IfSome (stored_table_in o.kind) (PushRises c))
-ChangeRises objects _ = Unit {0}
+abbrev pub ChangeRises : Change → Type 0
+ChangeRises (PushesVersion c) = PushRises c
+ChangeRises _ = Unit {0}
 
 -- ---- what changes leave
 
@@ -282,7 +285,7 @@ source_found objects source is_append_only offset live = by_found (at_id objects
 
 -- a change that applies
 pub firm_changed : (stamp : ℕ) (objects : List StoredObject) (c : Change) → ChangeApplies objects c
-    → ChangeRises objects c → IsFirm objects → IsFirm (changed stamp objects c)
+    → ChangeRises c → IsFirm objects → IsFirm (changed stamp objects c)
 unfolding changed
 firm_changed stamp objects (CreatesTable c) applies rises firm = record {
   tables = all_more IsFirmObject objects _ firm.tables (new_firm c.columns c.retention stamp);
@@ -307,32 +310,49 @@ firm_changed stamp objects (SetsOffset id offset) applies rises firm = record {
   streams = streams_changed (offset_set offset) (set_source offset) (set_stream offset) objects id firm.streams;
 }
 firm_changed stamp objects (PushesVersion c) applies rises firm = record {
-  tables = by_found (at_id objects c.id) refl applies rises;
+  tables = by_found (at_id objects c.id) refl applies;
   names = names_changed (pushed_object stamp c) (λ o. refl) (λ o live. live) objects c.id firm.names;
   streams = streams_changed (pushed_object stamp c) (pushed_source stamp c) (pushed_stream stamp c) objects c.id
       firm.streams;
 }
   where
-    by_kind : (k : StoredKind) → IsFirmKind k → FitsKind k c → IfSome (stored_table_in k) (PushRises c)
-        → IsFirmKind (pushed_kind stamp c k)
-    by_kind (StoredTableKind t) firm fits rises = firm_pushed stamp c t rises.rows rises.grows fits firm
-    by_kind (StoredStreamKind s) firm fits rises = tt
+    by_kind : (k : StoredKind) → IsFirmKind k → FitsKind k c → IsFirmKind (pushed_kind stamp c k)
+    by_kind (StoredTableKind t) firm fits = firm_pushed stamp c t rises fits firm
+    by_kind (StoredStreamKind s) firm fits = tt
 
     by_found : (found : Option StoredObject) → at_id objects c.id ≡ found → FitsObject found c
-        → IfSome found (λ o. IfSome (stored_table_in o.kind) (PushRises c))
         → AllByRecursion IsFirmObject (put_at objects c.id (option_map (pushed_object stamp c) found))
-    by_found None none fits rises = absurd fits
-    by_found (Some o) there fits rises =
+    by_found None none fits = absurd fits
+    by_found (Some o) there fits =
         all_with IsFirmObject objects c.id (pushed_object stamp c o) firm.tables
-        (by_kind o.kind (all_at IsFirmObject objects c.id o firm.tables there) fits.1 rises)
+        (by_kind o.kind (all_at IsFirmObject objects c.id o firm.tables there) fits.1)
 
 -- changes that apply one after the other
-abbrev pub AllRise : ℕ → List StoredObject → List Change → Type 0
-AllRise stamp objects [] = Unit {0}
-AllRise stamp objects (c ∷ cs) = ChangeRises objects c × AllRise stamp (changed stamp objects c) cs
-
 pub firm_all : (stamp : ℕ) (objects : List StoredObject) (cs : List Change) → AllApply stamp objects cs
-    → AllRise stamp objects cs → IsFirm objects → IsFirm (all_changed stamp objects cs)
+    → AllByRecursion ChangeRises cs → IsFirm objects → IsFirm (all_changed stamp objects cs)
 firm_all stamp objects [] applies rises firm = firm
 firm_all stamp objects (c ∷ cs) applies rises firm =
     firm_all stamp (changed stamp objects c) cs applies.1 rises.1 (firm_changed stamp objects c applies.0 rises.0 firm)
+
+-- ---- what a file says
+
+written_rises : (c : Change) → IsChange c → ChangeRises c
+written_rises (CreatesTable c) good = tt
+written_rises (Drops id) good = tt
+written_rises (CreatesStream c) good = tt
+written_rises (SetsOffset id offset) good = tt
+written_rises (PushesVersion c) good = record {
+  rows = all_map (IsPartition c.width) HasRisingRows (λ p is. is.rising) c.added good.added;
+  some = all_map (IsPartition c.width) HasRows (λ p is. is.some) c.added good.added;
+}
+
+firm_leads : (s : Stored) (commits : List Commit) (new : Stored) → AllByRecursion IsCommit commits → Leads s commits new
+    → IsFirm s.objects → IsFirm new.objects
+firm_leads s [] new good leads firm = subst (λ (t : Stored). IsFirm t.objects) leads firm
+firm_leads s (c ∷ cs) new good leads firm =
+    firm_leads (applied s c) cs new good.1 leads.1 (firm_all c.stamp s.objects c.changes leads.0.changes
+    (all_map IsChange ChangeRises written_rises c.changes good.0.changes) firm)
+
+pub firm_file : (bytes : List ℕ) (s : Stored) → Keeps bytes s → IsFirm s.objects
+firm_file bytes s (inl few) = subst (λ (t : Stored). IsFirm t.objects) (sym few.1) firm_first
+firm_file bytes s (inr more) = firm_leads first_stored more.1.commits s more.1.good more.1.leads firm_first

@@ -21,3 +21,4 @@ pub mod ApartLaws
 pub mod AppliesLaws
 pub mod FirmLaws
 pub mod WrittenLaws
+pub mod BelowLaws

@@ -122,7 +122,7 @@ KeptObjects objects = AllByRecursion KeptObject objects
 abbrev pub KeptStored : Stored → Type 0
 KeptStored s = KeptObjects s.objects
 
-standing_pushed : (stamp : ℕ) (c : VersionChange) (t : StoredTable)
+pub standing_pushed : (stamp : ℕ) (c : VersionChange) (t : StoredTable)
     → standing (pushed stamp c t) ≡ without c.removed (standing t) ++ c.added
 standing_pushed stamp c t = ap (content_in []) (last_more t.versions _)
 

@@ -1,5 +1,5 @@
 -- What is written for the acts of a commit applies.
---     AllGo, go_apply, go_rise     changes that apply one after the other, with rows that rise
+--     AllGo, go_apply, go_firm     changes that apply one after the other, with rows that rise
 --     EditsApply, TakesMove        what edits and moves of offsets need
 --     ActStands                    so for each act of a commit of edits and moves
 --     acts_go                      what is written for them applies
@@ -24,25 +24,20 @@ use Rattle.wh_state.proofs.ActLaws.{version_change, IsNoEdit, AreNoEdits, AreEdi
 use Rattle.wh_state.proofs.ActLaws.{edit_leaves, all_changed_append, orderly_standing}
 use Rattle.wh_state.proofs.FoundLaws.{FoundAt, found_changed, found_spared, found_more}
 use Rattle.wh_state.proofs.PartLaws.{made_rise}
-use Rattle.wh_state.proofs.AppliesLaws.{IsFirmTable, EditsFit, version_applies}
-use Rattle.wh_state.proofs.FirmLaws.{IsFirmKind, IsFirmObject, IsFirm, PushRises, ChangeRises, AllRise, firm_changed}
+use Rattle.wh_state.proofs.AppliesLaws.{IsFirmTable, IsBelowNext, EditsFit, made_some, version_applies}
+use Rattle.wh_state.proofs.FirmLaws.{IsFirmKind, IsFirmObject, IsFirm, PushRises, ChangeRises, firm_changed}
 
 -- ---- changes one after the other
 
 abbrev pub AllGo : ℕ → List StoredObject → List Change → Type 0
 AllGo stamp objects [] = Unit {0}
 AllGo stamp objects (c ∷ cs) =
-    ChangeApplies objects c × (ChangeRises objects c × AllGo stamp (changed stamp objects c) cs)
+    ChangeApplies objects c × (ChangeRises c × AllGo stamp (changed stamp objects c) cs)
 
 pub go_apply : (stamp : ℕ) (objects : List StoredObject) (cs : List Change) → AllGo stamp objects cs
     → AllApply stamp objects cs
 go_apply stamp objects [] go = tt
 go_apply stamp objects (c ∷ cs) go = (go.0, go_apply stamp (changed stamp objects c) cs go.1.1)
-
-pub go_rise : (stamp : ℕ) (objects : List StoredObject) (cs : List Change) → AllGo stamp objects cs
-    → AllRise stamp objects cs
-go_rise stamp objects [] go = tt
-go_rise stamp objects (c ∷ cs) go = (go.1.0, go_rise stamp (changed stamp objects c) cs go.1.1)
 
 pub go_firm : (stamp : ℕ) (objects : List StoredObject) (cs : List Change) → AllGo stamp objects cs → IsFirm objects
     → IsFirm (all_changed stamp objects cs)
@@ -58,6 +53,7 @@ go_append stamp objects (c ∷ cs) ds go more = (go.0, (go.1.0, go_append stamp 
 -- ---- edits
 
 pub record EditsApply (stamp : ℕ) (e : Edits) (t : StoredTable) : Type 0 where
+  pub below : IsBelowNext t
   pub fit : EditsFit t.columns e
   pub later : DoesNotFall (last_of t.versions) stamp
   pub few : t.next_row + length e.added ≤ bound limits.RowNumber
@@ -78,15 +74,17 @@ edit_goes stamp objects id e firm stands = by_found (at_id objects id) refl stan
     by_kind o (StoredTableKind t) there stands firm =
         let c : VersionChange = version_change stamp id e t in
         let applies : FitsObject (Some (record o { kind = StoredTableKind t })) c =
-            (stands.0, version_applies stamp id e t firm stands.1.fit stands.1.later stands.1.few stands.1.few_partitions) in
-        let rises : IfSome (Some (record o { kind = StoredTableKind t }))
-            (λ o. IfSome (stored_table_in o.kind) (PushRises c)) = record {
-              rows = made_rise t.next_partition t.next_row e (standing t) (orderly_standing t firm.kept.orderly).rows;
-              grows = omega arith;
-            } in
+            (stands.0, version_applies stamp id e t firm stands.1.below stands.1.fit stands.1.later stands.1.few
+            stands.1.few_partitions) in
         (
           subst (λ found. FitsObject found c) (sym there) applies,
-          (subst (λ found. IfSome found (λ o. IfSome (stored_table_in o.kind) (PushRises c))) (sym there) rises, tt),
+          (
+            record {
+              rows = made_rise t.next_partition t.next_row e (standing t) (orderly_standing t firm.kept.orderly).rows;
+              some = made_some t.next_partition t.next_row e (standing t);
+            },
+            tt,
+          ),
         )
 
     by_found : (found : Option StoredObject) → at_id objects id ≡ found → IsSomeAnd found (EditStands stamp e)
