@@ -27,3 +27,4 @@ pub mod PassedLaws
 pub mod StageLaws
 pub mod ReachedLaws
 pub mod LeadsLaws
+pub mod FilledLaws
