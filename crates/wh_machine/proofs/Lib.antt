@@ -28,3 +28,6 @@ pub mod StageLaws
 pub mod ReachedLaws
 pub mod LeadsLaws
 pub mod FilledLaws
+pub mod BagRows
+pub mod ValueTypes
+pub mod TypedLaws
