@@ -31,3 +31,8 @@ pub mod FilledLaws
 pub mod BagRows
 pub mod ValueTypes
 pub mod TypedLaws
+pub mod QueryRows
+pub mod SameHeads
+pub mod GroupedLaws
+pub mod ShownLaws
+pub mod BoundLaws

@@ -85,7 +85,7 @@ const_fits Null = refl
 abbrev pub GivesType : Option ColumnType → Option Value → Type 0
 GivesType t found = (v : Value) → found ≡ Some v → OfType t v
 
-some_gives : (t : Option ColumnType) (x : Value) → OfType t x → GivesType t (Some x)
+pub some_gives : (t : Option ColumnType) (x : Value) → OfType t x → GivesType t (Some x)
 some_gives t x h v is = let same : x ≡ v = cc in subst (OfType t) same h
 
 pub ranged_gives : (z : ℤ) → GivesType (Some NumberType) (ranged z)
