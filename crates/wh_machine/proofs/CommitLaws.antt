@@ -76,7 +76,7 @@ one_moves start id (Some s) = by_test (nat_lt s.offset start)
     by_test true = (tt, tt)
     by_test false = tt
 
-they_move : (objects : List Object) (start : ℕ) (ids : List ℕ) → AreNoEdits (offset_moves objects start ids)
+pub they_move : (objects : List Object) (start : ℕ) (ids : List ℕ) → AreNoEdits (offset_moves objects start ids)
 they_move objects start [] = tt
 they_move objects start (id ∷ ids) =
     all_append IsNoEdit (offset_move start id (stream_at objects id)) (offset_moves objects start ids)
@@ -100,7 +100,7 @@ all_move_on s start h (id ∷ ids) =
     all_append (MovesOn s) (offset_move start id (stream_at s.objects id)) (offset_moves s.objects start ids)
     (one_moves_on s start id h (stream_at s.objects id) refl) (all_move_on s start h ids)
 
-edits_of_rising : (least : ℕ) (found : List (ℕ × Staged)) (more : List Act) → RiseFrom least found → AreNoEdits more
+pub edits_of_rising : (least : ℕ) (found : List (ℕ × Staged)) (more : List Act) → RiseFrom least found → AreNoEdits more
     → AreEditsFrom least (map edit_act found ++ more)
 edits_of_rising least [] more rising are = no_more_edits are
 edits_of_rising least (entry ∷ others) more rising are =

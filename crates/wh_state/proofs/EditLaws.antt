@@ -73,7 +73,7 @@ before_later_same rows p (q ∷ qs) apart =
         ∙ second_first rows p q qs apart.0
     by_test false rest = refl
 
-all_before_later : (P : Partition → Type 0) (p : Partition) (qs : List Partition) → P p → AllByRecursion P qs
+pub all_before_later : (P : Partition → Type 0) (p : Partition) (qs : List Partition) → P p → AllByRecursion P qs
     → AllByRecursion P (before_later p qs)
 all_before_later P p [] here h = (here, tt)
 all_before_later P p (q ∷ qs) here h =
@@ -84,7 +84,7 @@ all_before_later P p (q ∷ qs) here h =
     by_test true rest = (h.0, rest)
     by_test false rest = (here, h)
 
-all_by_rows : (P : Partition → Type 0) (ps : List Partition) → AllByRecursion P ps → AllByRecursion P (by_rows ps)
+pub all_by_rows : (P : Partition → Type 0) (ps : List Partition) → AllByRecursion P ps → AllByRecursion P (by_rows ps)
 all_by_rows P [] h = tt
 all_by_rows P (p ∷ ps) h = all_before_later P p (by_rows ps) h.0 (all_by_rows P ps h.1)
 
@@ -170,7 +170,7 @@ hold_apart p q rising other apart =
     differ m n low high least most (inl before) same = absurd (omega arith)
     differ m n low high least most (inr behind) same = absurd (omega arith)
 
-apart_from : (b : Partition) (before : List Partition)
+pub apart_from : (b : Partition) (before : List Partition)
     → ((q : Partition) → AllByRecursion (AreApart q) before → AreApart q b) → (ps : List Partition) → AllApart before ps
     → AllByRecursion (λ q. AreApart q b) ps
 apart_from b before one [] apart = tt

@@ -15,3 +15,10 @@ pub mod KnownCommits
 pub mod KnownEdits
 pub mod KindLaws
 pub mod KnownChanges
+pub mod FoundLaws
+pub mod PartLaws
+pub mod ApartLaws
+pub mod AppliesLaws
+pub mod FirmLaws
+pub mod WrittenLaws
+pub mod BelowLaws

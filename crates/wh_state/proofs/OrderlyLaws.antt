@@ -1,10 +1,10 @@
 -- Commits that may be written and apply leave orderly partitions.
 --     KeptStored           orderly, and the numbers are below each table's next one
---     orderly_pushed       a new version
+--     rising_pushed, orderly_pushed     a new version
 --     orderly_applied      a commit
 --     orderly_leads        commits one after the other
 --     orderly_file         what a file says
-use Rattle.std.proofs.Common.{◌≡◌, ℕ, ◌+◌, ◌<◌, ◌≤◌, inl, inr, Bool, true, false, cond, List, [], ◌∷◌, ◌++◌, length}
+use Rattle.std.proofs.Common.{◌≡◌, ℕ, ◌+◌, ◌^◌, ◌<◌, ◌≤◌, inl, inr, Bool, true, false, cond, List, [], ◌∷◌, ◌++◌, length}
 use Rattle.std.proofs.Common.{map, Option, Some, None, option_map, refl, sym, ap, subst, arith}
 use Rattle.std.specs.Prelude.{not}
 use Rattle.std.specs.List.{AllByRecursion, filter}
@@ -33,7 +33,7 @@ use Rattle.wh_state.proofs.ActLaws.{orderly_standing}
 
 -- ---- partitions that are apart
 
-abbrev ApartFrom : List Partition → Partition → Type 0
+abbrev pub ApartFrom : List Partition → Partition → Type 0
 ApartFrom before p = AllByRecursion (AreApart p) before
 
 -- from fewer
@@ -62,7 +62,7 @@ moved_back : (P : Partition → Type 0) (p : Partition) (ps before : List Partit
 moved_back P p [] before h = h
 moved_back P p (q ∷ ps) before h = (h.1.0, moved_back P p ps before (h.0, h.1.1))
 
-apart_append : (before ps qs : List Partition) → AllApart before ps → AllApart (ps ++ before) qs
+pub apart_append : (before ps qs : List Partition) → AllApart before ps → AllApart (ps ++ before) qs
     → AllApart before (ps ++ qs)
 apart_append before [] qs apart others = others
 apart_append before (p ∷ ps) qs apart others = (
@@ -81,14 +81,14 @@ rise_append least next [] (m ∷ ms) h rise below others = (omega (arith, others
 rise_append least next (n ∷ ns) ms h rise below others =
     (rise.0, rise.1, rise_append (n + 1) next ns ms (omega (arith, below.0)) rise.2 below.1 others)
 
-numbered_rise : (next width : ℕ) (ps : List Partition) → NumberedFrom next ps → AllByRecursion (IsPartition width) ps
+numbered_rise : (next : ℕ) (ps : List Partition) → NumberedFrom next ps → next + length ps ≤ 2 ^ 64
     → NumbersRiseFrom next (map (λ p. p.number) ps)
-numbered_rise next width [] numbered each = tt
-numbered_rise next width (p ∷ ps) numbered each =
+numbered_rise next [] numbered few = tt
+numbered_rise next (p ∷ ps) numbered few =
     let rest : NumbersRiseFrom (p.number + 1) (map (λ p. p.number) ps) =
     subst (λ (n : ℕ). NumbersRiseFrom (n + 1) (map (λ p. p.number) ps)) (sym numbered.0)
-    (numbered_rise (next + 1) width ps numbered.1 each.1) in
-    (omega (arith, numbered.0), each.0.number, rest)
+    (numbered_rise (next + 1) ps numbered.1 (omega arith)) in
+    (omega (arith, numbered.0), omega (arith, numbered.0), rest)
 
 numbered_below : (next : ℕ) (ps : List Partition) → NumberedFrom next ps
     → AllByRecursion (λ p. p.number < next + length ps) ps
@@ -122,13 +122,13 @@ KeptObjects objects = AllByRecursion KeptObject objects
 abbrev pub KeptStored : Stored → Type 0
 KeptStored s = KeptObjects s.objects
 
-standing_pushed : (stamp : ℕ) (c : VersionChange) (t : StoredTable)
+pub standing_pushed : (stamp : ℕ) (c : VersionChange) (t : StoredTable)
     → standing (pushed stamp c t) ≡ without c.removed (standing t) ++ c.added
 standing_pushed stamp c t = ap (content_in []) (last_more t.versions _)
 
-pub orderly_pushed : (stamp : ℕ) (c : VersionChange) (t : StoredTable) → IsVersionChange c → VersionApplies t c
-    → KeptTable t → KeptTable (pushed stamp c t)
-orderly_pushed stamp c t good applies kept =
+pub rising_pushed : (stamp : ℕ) (c : VersionChange) (t : StoredTable) → AllByRecursion HasRisingRows c.added
+    → VersionApplies t c → KeptTable t → KeptTable (pushed stamp c t)
+rising_pushed stamp c t rising applies kept =
     let stood : IsOrderly (standing t) = orderly_standing t kept.orderly in
     let stays : Partition → Bool = λ (p : Partition). not (is_among p.number c.removed) in
     let old : List Partition = without c.removed (standing t) in
@@ -138,12 +138,12 @@ orderly_pushed stamp c t good applies kept =
     all_filter (λ p. p.number < t.next_partition) stays (standing t) kept.below in
     let rise : NumbersRiseFrom 0 (map (λ p. p.number) old ++ map (λ p. p.number) c.added) =
     rise_append 0 t.next_partition _ _ (omega arith) rise_old (all_numbers t.next_partition old below_old)
-    (numbered_rise t.next_partition c.width c.added applies.numbers good.added) in
+    (numbered_rise t.next_partition c.added applies.numbers (omega (arith, applies.next_partition))) in
     let apart_old : AllApart [] old = apart_filter stays [] [] (λ p h. h) (standing t) stood.apart in
     let orderly : IsOrderly (old ++ c.added) = record {
       numbers = subst (NumbersRiseFrom 0) (sym (map-append (λ (p : Partition). p.number) old c.added)) rise;
       rows = all_append HasRisingRows old c.added (all_filter HasRisingRows stays (standing t) stood.rows)
-          (all_map (IsPartition c.width) HasRisingRows (λ p is. is.rising) c.added good.added);
+          rising;
       apart = apart_append [] old c.added apart_old
           (apart_weaker old (old ++ []) (λ p h. all_append (AreApart p) old [] h tt) c.added applies.apart);
     } in
@@ -158,7 +158,13 @@ orderly_pushed stamp c t good applies kept =
           (sym (standing_pushed stamp c t)) below;
     }
 
-new_kept : (columns : List Column) (retention stamp : ℕ) → KeptTable (new_table [] columns retention stamp)
+pub orderly_pushed : (stamp : ℕ) (c : VersionChange) (t : StoredTable) → IsVersionChange c → VersionApplies t c
+    → KeptTable t → KeptTable (pushed stamp c t)
+orderly_pushed stamp c t good applies kept =
+    rising_pushed stamp c t (all_map (IsPartition c.width) HasRisingRows (λ p is. is.rising) c.added good.added) applies
+    kept
+
+pub new_kept : (columns : List Column) (retention stamp : ℕ) → KeptTable (new_table [] columns retention stamp)
 new_kept columns retention stamp = record { orderly = (record { numbers = tt; rows = tt; apart = tt }, tt); below = tt }
 
 -- ---- changes

@@ -1,0 +1,358 @@
+-- What holds of the objects of a file that runs leave.
+--     NamesApart        no two live objects have one name
+--     HasSource         a stream has the columns of a table, and three more
+--     IsFirm            tables, names and streams
+--     ChangeRises       the rows of partitions that a change adds rise
+--     firm_first, firm_changed, firm_all     so it is of no objects, and behind changes that apply
+use Rattle.std.proofs.Common.{◌≡◌, ◌⊎◌, inl, inr, ℕ, zero, suc, ◌+◌, ◌<◌, ◌≤◌, Bool, true, false, cond, List, []}
+use Rattle.std.proofs.Common.{◌∷◌, ◌++◌, length, map, Option, Some, None, option_map, refl, sym, ap, subst, ◌∙◌, arith}
+use Rattle.std.proofs.Common.{IsTrue}
+use Rattle.std.specs.Prelude.{not, ◌&&◌, bytes_eq, IsNone, nat_lt}
+use Rattle.std.specs.List.{AllByRecursion, position, prefix_len}
+use Rattle.std.specs.Option.{IfSome, IsSomeAnd, option_map_or}
+use Rattle.std.proofs.lemmas.Bool.Decides.{nat_tests}
+use Rattle.wh_value.specs.Fits.{row_fits}
+use Rattle.std.proofs.lemmas.Slice.Eq.{bytes_eq-Decides}
+use Rattle.wh_value.specs.Column.{Column}
+use Rattle.wh_frame.specs.Partition.{Partition}
+use Rattle.wh_state.specs.State.{Stream, ObjectOf, new_table, new_object, new_stream, with_offset, dropped, metadata_columns}
+use Rattle.wh_state.specs.State.{at_id, with_id, put_at, changed_at, id_of, is_named, content_in, last_of}
+use Rattle.wh_state.specs.Edits.{without, is_among}
+use Rattle.wh_state.specs.Stored.{Stored, first_stored, StoredTable, StoredKind, StoredTableKind, StoredStreamKind, StoredObject}
+use Rattle.wh_state.specs.Stored.{stored_table_in, stored_stream_in, stored_columns_in, stored_columns_at, standing}
+use Rattle.wh_state.specs.Commit.{VersionChange, Change, CreatesTable, Drops, PushesVersion, CreatesStream, SetsOffset}
+use Rattle.wh_state.specs.Commit.{pushed, pushed_kind, pushed_object, offset_set, offset_set_kind, changed, all_changed}
+use Rattle.wh_state.specs.Commit.{Commit, applied, Leads, RowsFit, VersionApplies, FitsKind, FitsObject, IsLiveTable, IsTableKind, ChangeApplies, AllApply}
+use Rattle.wh_state.specs.Orderly.{HasRisingRows}
+use Rattle.wh_state.specs.Spelling.{IsChange, IsCommit}
+use Rattle.wh_frame.specs.Spelling.{IsPartition}
+use Rattle.wh_state.specs.File.{Keeps}
+use Rattle.wh_state.proofs.AllLaws.{all_map, all_append, all_more, all_at, all_with, all_changed_at, all_filter}
+use Rattle.wh_state.proofs.OrderlyLaws.{KeptTable, standing_pushed, rising_pushed, new_kept}
+use Rattle.wh_state.proofs.FoundLaws.{FoundAt, found_changed, found_more}
+use Rattle.wh_state.proofs.AppliesLaws.{HasRows, FitRows, VersionFits, IsFirmTable, standing_fits}
+
+-- ---- tables
+
+-- with rows that rise in each partition that comes
+pub record PushRises (c : VersionChange) : Type 0 where
+  pub rows : AllByRecursion HasRisingRows c.added
+  pub some : AllByRecursion HasRows c.added
+
+only_fit : (columns : List Column) (next : ℕ) (ps : List Partition) → AllByRecursion (RowsFit columns next) ps
+    → AllByRecursion (FitRows columns) ps
+only_fit columns next ps fit =
+    all_map (RowsFit columns next) (FitRows columns)
+    (λ p fit. all_map (λ e. IsTrue (row_fits columns e.1) × (e.0 < next)) (λ e. IsTrue (row_fits columns e.1))
+    (λ e is. is.0) p.rows fit) ps fit
+
+firm_pushed : (stamp : ℕ) (c : VersionChange) (t : StoredTable) → PushRises c → VersionApplies t c → IsFirmTable t
+    → IsFirmTable (pushed stamp c t)
+firm_pushed stamp c t rises applies firm =
+    let stays : Partition → Bool = λ (p : Partition). not (is_among p.number c.removed) in
+    record {
+      kept = rising_pushed stamp c t rises.rows applies firm.kept;
+      some = subst (AllByRecursion HasRows) (sym (standing_pushed stamp c t))
+          (all_append HasRows (without c.removed (standing t)) c.added (all_filter HasRows stays (standing t) firm.some)
+          rises.some);
+      fits = all_more (VersionFits t.columns) t.versions _ firm.fits
+          (all_append (FitRows t.columns) (without c.removed (standing t)) c.added
+          (all_filter (FitRows t.columns) stays (standing t) (standing_fits t firm))
+          (only_fit t.columns c.next_row c.added applies.rows));
+    }
+
+new_firm : (columns : List Column) (retention stamp : ℕ) → IsFirmTable (new_table [] columns retention stamp)
+new_firm columns retention stamp = record { kept = new_kept columns retention stamp; some = tt; fits = (tt, tt) }
+
+abbrev pub IsFirmKind : StoredKind → Type 0
+IsFirmKind k = IfSome (stored_table_in k) IsFirmTable
+
+abbrev pub IsFirmObject : StoredObject → Type 0
+IsFirmObject o = IsFirmKind o.kind
+
+-- ---- names
+
+abbrev pub HasNot : List ℕ → StoredObject → Type 0
+HasNot name o = is_named name o ≡ false
+
+abbrev pub NamesApart : List StoredObject → Type 0
+NamesApart [] = Unit {0}
+NamesApart (o ∷ os) = (o.is_live ≡ true → AllByRecursion (HasNot o.name) os) × NamesApart os
+
+not_named : (name : List ℕ) (o new : StoredObject) → new.name ≡ o.name → (new.is_live ≡ true → o.is_live ≡ true)
+    → HasNot name o → HasNot name new
+not_named name o new same lives h = by_live new.is_live o.is_live lives h
+  where
+    by_live : (live before : Bool) → (live ≡ true → before ≡ true) → (before && bytes_eq o.name name) ≡ false
+        → (live && bytes_eq new.name name) ≡ false
+    by_live false before lives h = refl
+    by_live true true lives h = ap (λ (n : List ℕ). bytes_eq n name) same ∙ h
+    by_live true false lives h = absurd (cc (lives refl))
+
+-- another one in the place of one, with its name
+names_set : (xs : List StoredObject) (place : ℕ) (o new : StoredObject) → at_id xs (suc place) ≡ Some o
+    → new.name ≡ o.name → (new.is_live ≡ true → o.is_live ≡ true) → NamesApart xs → NamesApart (with_id xs (suc place) new)
+names_set [] place o new there same lives apart = tt
+names_set (x ∷ xs) zero o new there same lives apart =
+    let first : x ≡ o = cc in (
+      λ live. subst (λ (name : List ℕ). AllByRecursion (HasNot name) xs)
+          (ap (λ (y : StoredObject). y.name) first ∙ sym same)
+          (apart.0 (ap (λ (y : StoredObject). y.is_live) first ∙ lives live)),
+      apart.1,
+    )
+names_set (x ∷ xs) (suc place) o new there same lives apart = (
+  λ live. let others : AllByRecursion (HasNot x.name) xs = apart.0 live in
+      all_with (HasNot x.name) xs (suc place) new others
+      (not_named x.name o new same lives (all_at (HasNot x.name) xs (suc place) o others there)),
+  names_set xs place o new there same lives apart.1,
+)
+
+pub names_changed : (f : StoredObject → StoredObject) → ((o : StoredObject) → (f o).name ≡ o.name)
+    → ((o : StoredObject) → (f o).is_live ≡ true → o.is_live ≡ true) → (objects : List StoredObject) (id : ℕ)
+    → NamesApart objects → NamesApart (changed_at objects id f)
+names_changed f same lives objects id apart = by_found (at_id objects id) refl
+  where
+    by_id : (id : ℕ) (o : StoredObject) → at_id objects id ≡ Some o → NamesApart (with_id objects id (f o))
+    by_id zero o there = apart
+    by_id (suc place) o there = names_set objects place o (f o) there (same o) (lives o) apart
+
+    by_found : (found : Option StoredObject) → at_id objects id ≡ found
+        → NamesApart (put_at objects id (option_map f found))
+    by_found None none = apart
+    by_found (Some o) there = by_id id o there
+
+-- a name that is free
+long_prefix : (test : StoredObject → Bool) (xs : List StoredObject) → length xs ≤ prefix_len (λ x. not (test x)) xs
+    → AllByRecursion (λ x. test x ≡ false) xs
+long_prefix test [] h = tt
+long_prefix test (x ∷ xs) h = by_test (test x) refl h (long_prefix test xs)
+  where
+    by_test : (b : Bool) → test x ≡ b → suc (length xs) ≤ cond (not b) (1 + prefix_len (λ x. not (test x)) xs) 0
+        → (length xs ≤ prefix_len (λ x. not (test x)) xs → AllByRecursion (λ x. test x ≡ false) xs)
+        → AllByRecursion (λ x. test x ≡ false) (x ∷ xs)
+    by_test true is h rest = absurd (omega (arith, h))
+    by_test false is h rest = (is, rest (omega (arith, h)))
+
+pub free_name : (name : List ℕ) (objects : List StoredObject) → IsNone (id_of name objects)
+    → AllByRecursion (HasNot name) objects
+free_name name objects none =
+    long_prefix (is_named name) objects (by_test (nat_lt (prefix_len (λ x. not (is_named name x)) objects) (length objects))
+    refl none)
+  where
+    by_test : (b : Bool) → nat_lt (prefix_len (λ x. not (is_named name x)) objects) (length objects) ≡ b
+        → IsNone (option_map (λ place. place + 1) (cond b (Some (prefix_len (λ x. not (is_named name x)) objects)) None))
+        → length objects ≤ prefix_len (λ x. not (is_named name x)) objects
+    by_test true is none = absurd cc
+    by_test false is none = grind (arith, nat_tests)
+
+bytes_turned : (a b : List ℕ) → bytes_eq a b ≡ false → bytes_eq b a ≡ false
+bytes_turned a b apart = by_test (bytes_eq b a) refl
+  where
+    by_test : (same : Bool) → bytes_eq b a ≡ same → same ≡ false
+    by_test true is =
+        let equal : b ≡ a = (bytes_eq-Decides b a).0 is in
+        let turned : bytes_eq a b ≡ true = (bytes_eq-Decides a b).1 (sym equal) in
+        absurd cc
+    by_test false is = refl
+
+-- one more, with a name that is free
+pub names_more : (objects : List StoredObject) (new : StoredObject) → AllByRecursion (HasNot new.name) objects
+    → NamesApart objects → NamesApart (objects ++ new ∷ [])
+names_more [] new free apart = (λ live. tt, tt)
+names_more (o ∷ os) new free apart = (
+  λ live. all_more (HasNot o.name) os new (apart.0 live) (turned live free.0),
+  names_more os new free.1 apart.1,
+)
+  where
+    turned : o.is_live ≡ true → HasNot new.name o → HasNot o.name new
+    turned live h = by_live new.is_live (rw live at h)
+      where
+        by_live : (b : Bool) → bytes_eq o.name new.name ≡ false → (b && bytes_eq new.name o.name) ≡ false
+        by_live true apart = bytes_turned o.name new.name apart
+        by_live false apart = refl
+
+-- ---- streams
+
+abbrev pub IsSourceOf : Stream → StoredObject → Type 0
+IsSourceOf s o = IsSomeAnd (stored_table_in o.kind) (λ t. s.columns ≡ t.columns ++ metadata_columns)
+
+abbrev pub HasSource : List StoredObject → StoredObject → Type 0
+HasSource objects o = IfSome (stored_stream_in o.kind) (λ s. FoundAt (IsSourceOf s) objects s.source)
+
+-- ---- all of them
+
+pub record IsFirm (objects : List StoredObject) : Type 0 where
+  pub tables : AllByRecursion IsFirmObject objects
+  pub names : NamesApart objects
+  pub streams : AllByRecursion (HasSource objects) objects
+
+pub firm_first : IsFirm []
+firm_first = record { tables = tt; names = tt; streams = tt }
+
+abbrev pub ChangeRises : Change → Type 0
+ChangeRises (PushesVersion c) = PushRises c
+ChangeRises _ = Unit {0}
+
+-- ---- what changes leave
+
+has_source : (objects new : List StoredObject)
+    → ((s : Stream) → FoundAt (IsSourceOf s) objects s.source → FoundAt (IsSourceOf s) new s.source) → (o : StoredObject)
+    → HasSource objects o → HasSource new o
+has_source objects new keeps o h = by_kind o.kind h
+  where
+    by_kind : (k : StoredKind) → IfSome (stored_stream_in k) (λ s. FoundAt (IsSourceOf s) objects s.source)
+        → IfSome (stored_stream_in k) (λ s. FoundAt (IsSourceOf s) new s.source)
+    by_kind (StoredTableKind t) h = tt
+    by_kind (StoredStreamKind s) h = keeps s h
+
+-- one that is changed as a source and as a stream
+streams_changed : (f : StoredObject → StoredObject)
+    → ((s : Stream) (o : StoredObject) → IsSourceOf s o → IsSourceOf s (f o))
+    → ((objects : List StoredObject) (o : StoredObject) → HasSource objects o → HasSource objects (f o))
+    → (objects : List StoredObject) (id : ℕ) → AllByRecursion (HasSource objects) objects
+    → AllByRecursion (HasSource (changed_at objects id f)) (changed_at objects id f)
+streams_changed f sources streams objects id h =
+    let new : List StoredObject = changed_at objects id f in
+    let so : (o : StoredObject) → HasSource objects o → HasSource new o =
+    λ o h. has_source objects new (λ s found. found_changed (IsSourceOf s) f (sources s) objects id s.source found) o h in
+    all_changed_at (HasSource objects) (HasSource new) f so (λ o h. streams new o (so o h)) objects id h
+
+pushed_source : (stamp : ℕ) (c : VersionChange) (s : Stream) (o : StoredObject) → IsSourceOf s o
+    → IsSourceOf s (pushed_object stamp c o)
+pushed_source stamp c s o h = by_kind o.kind h
+  where
+    by_kind : (k : StoredKind) → IsSomeAnd (stored_table_in k) (λ t. s.columns ≡ t.columns ++ metadata_columns)
+        → IsSomeAnd (stored_table_in (pushed_kind stamp c k)) (λ t. s.columns ≡ t.columns ++ metadata_columns)
+    by_kind (StoredTableKind t) h = h
+    by_kind (StoredStreamKind s) h = h
+
+pushed_stream : (stamp : ℕ) (c : VersionChange) (objects : List StoredObject) (o : StoredObject) → HasSource objects o
+    → HasSource objects (pushed_object stamp c o)
+pushed_stream stamp c objects o h = by_kind o.kind h
+  where
+    by_kind : (k : StoredKind) → IfSome (stored_stream_in k) (λ s. FoundAt (IsSourceOf s) objects s.source)
+        → IfSome (stored_stream_in (pushed_kind stamp c k)) (λ s. FoundAt (IsSourceOf s) objects s.source)
+    by_kind (StoredTableKind t) h = h
+    by_kind (StoredStreamKind s) h = h
+
+set_source : (offset : ℕ) (s : Stream) (o : StoredObject) → IsSourceOf s o → IsSourceOf s (offset_set offset o)
+set_source offset s o h = by_kind o.kind h
+  where
+    by_kind : (k : StoredKind) → IsSomeAnd (stored_table_in k) (λ t. s.columns ≡ t.columns ++ metadata_columns)
+        → IsSomeAnd (stored_table_in (offset_set_kind offset k)) (λ t. s.columns ≡ t.columns ++ metadata_columns)
+    by_kind (StoredTableKind t) h = h
+    by_kind (StoredStreamKind s) h = h
+
+set_stream : (offset : ℕ) (objects : List StoredObject) (o : StoredObject) → HasSource objects o
+    → HasSource objects (offset_set offset o)
+set_stream offset objects o h = by_kind o.kind h
+  where
+    by_kind : (k : StoredKind) → IfSome (stored_stream_in k) (λ s. FoundAt (IsSourceOf s) objects s.source)
+        → IfSome (stored_stream_in (offset_set_kind offset k)) (λ s. FoundAt (IsSourceOf s) objects s.source)
+    by_kind (StoredTableKind t) h = h
+    by_kind (StoredStreamKind s) h = h
+
+set_firm : (offset : ℕ) (o : StoredObject) → IsFirmObject o → IsFirmObject (offset_set offset o)
+set_firm offset o h = by_kind o.kind h
+  where
+    by_kind : (k : StoredKind) → IsFirmKind k → IsFirmKind (offset_set_kind offset k)
+    by_kind (StoredTableKind t) h = h
+    by_kind (StoredStreamKind s) h = h
+
+streams_more : (objects : List StoredObject) (new : StoredObject) → HasSource (objects ++ new ∷ []) new
+    → AllByRecursion (HasSource objects) objects → AllByRecursion (HasSource (objects ++ new ∷ [])) (objects ++ new ∷ [])
+streams_more objects new here h =
+    all_more (HasSource (objects ++ new ∷ [])) objects new
+    (all_map (HasSource objects) (HasSource (objects ++ new ∷ []))
+    (λ o h. has_source objects (objects ++ new ∷ [])
+    (λ s found. found_more (IsSourceOf s) objects (new ∷ []) s.source found) o h) objects h) here
+
+source_found : (objects : List StoredObject) (source : ℕ) (is_append_only : Bool) (offset : ℕ)
+    → IsLiveTable (at_id objects source)
+    → FoundAt (IsSourceOf (new_stream source is_append_only offset (stored_columns_at objects source))) objects source
+source_found objects source is_append_only offset live = by_found (at_id objects source) live
+  where
+    by_kind : (k : StoredKind) → IsTableKind k
+        → IsSomeAnd (stored_table_in k) (λ t. stored_columns_in k ++ metadata_columns ≡ t.columns ++ metadata_columns)
+    by_kind (StoredTableKind t) is = refl
+    by_kind (StoredStreamKind s) is = absurd is
+
+    by_found : (found : Option StoredObject) → IsLiveTable found
+        → IsSomeAnd found (IsSourceOf (new_stream source is_append_only offset
+        (option_map_or (λ o. stored_columns_in o.kind) found [])))
+    by_found None live = absurd live
+    by_found (Some o) live = by_kind o.kind live.1
+
+-- a change that applies
+pub firm_changed : (stamp : ℕ) (objects : List StoredObject) (c : Change) → ChangeApplies objects c
+    → ChangeRises c → IsFirm objects → IsFirm (changed stamp objects c)
+unfolding changed
+firm_changed stamp objects (CreatesTable c) applies rises firm = record {
+  tables = all_more IsFirmObject objects _ firm.tables (new_firm c.columns c.retention stamp);
+  names = names_more objects _ (free_name c.name objects applies.object.free) firm.names;
+  streams = streams_more objects _ tt firm.streams;
+}
+firm_changed stamp objects (CreatesStream c) applies rises firm = record {
+  tables = all_more IsFirmObject objects _ firm.tables tt;
+  names = names_more objects _ (free_name c.name objects applies.object.free) firm.names;
+  streams = streams_more objects _ (found_more (IsSourceOf (new_stream c.source c.is_append_only c.offset
+      (stored_columns_at objects c.source))) objects _ c.source
+      (source_found objects c.source c.is_append_only c.offset applies.source)) firm.streams;
+}
+firm_changed stamp objects (Drops id) applies rises firm = record {
+  tables = all_changed_at IsFirmObject IsFirmObject dropped (λ o h. h) (λ o h. h) objects id firm.tables;
+  names = names_changed dropped (λ o. refl) (λ o live. absurd cc) objects id firm.names;
+  streams = streams_changed dropped (λ s o h. h) (λ objects o h. h) objects id firm.streams;
+}
+firm_changed stamp objects (SetsOffset id offset) applies rises firm = record {
+  tables = all_changed_at IsFirmObject IsFirmObject (offset_set offset) (λ o h. h) (set_firm offset) objects id firm.tables;
+  names = names_changed (offset_set offset) (λ o. refl) (λ o live. live) objects id firm.names;
+  streams = streams_changed (offset_set offset) (set_source offset) (set_stream offset) objects id firm.streams;
+}
+firm_changed stamp objects (PushesVersion c) applies rises firm = record {
+  tables = by_found (at_id objects c.id) refl applies;
+  names = names_changed (pushed_object stamp c) (λ o. refl) (λ o live. live) objects c.id firm.names;
+  streams = streams_changed (pushed_object stamp c) (pushed_source stamp c) (pushed_stream stamp c) objects c.id
+      firm.streams;
+}
+  where
+    by_kind : (k : StoredKind) → IsFirmKind k → FitsKind k c → IsFirmKind (pushed_kind stamp c k)
+    by_kind (StoredTableKind t) firm fits = firm_pushed stamp c t rises fits firm
+    by_kind (StoredStreamKind s) firm fits = tt
+
+    by_found : (found : Option StoredObject) → at_id objects c.id ≡ found → FitsObject found c
+        → AllByRecursion IsFirmObject (put_at objects c.id (option_map (pushed_object stamp c) found))
+    by_found None none fits = absurd fits
+    by_found (Some o) there fits =
+        all_with IsFirmObject objects c.id (pushed_object stamp c o) firm.tables
+        (by_kind o.kind (all_at IsFirmObject objects c.id o firm.tables there) fits.1)
+
+-- changes that apply one after the other
+pub firm_all : (stamp : ℕ) (objects : List StoredObject) (cs : List Change) → AllApply stamp objects cs
+    → AllByRecursion ChangeRises cs → IsFirm objects → IsFirm (all_changed stamp objects cs)
+firm_all stamp objects [] applies rises firm = firm
+firm_all stamp objects (c ∷ cs) applies rises firm =
+    firm_all stamp (changed stamp objects c) cs applies.1 rises.1 (firm_changed stamp objects c applies.0 rises.0 firm)
+
+-- ---- what a file says
+
+written_rises : (c : Change) → IsChange c → ChangeRises c
+written_rises (CreatesTable c) good = tt
+written_rises (Drops id) good = tt
+written_rises (CreatesStream c) good = tt
+written_rises (SetsOffset id offset) good = tt
+written_rises (PushesVersion c) good = record {
+  rows = all_map (IsPartition c.width) HasRisingRows (λ p is. is.rising) c.added good.added;
+  some = all_map (IsPartition c.width) HasRows (λ p is. is.some) c.added good.added;
+}
+
+firm_leads : (s : Stored) (commits : List Commit) (new : Stored) → AllByRecursion IsCommit commits → Leads s commits new
+    → IsFirm s.objects → IsFirm new.objects
+firm_leads s [] new good leads firm = subst (λ (t : Stored). IsFirm t.objects) leads firm
+firm_leads s (c ∷ cs) new good leads firm =
+    firm_leads (applied s c) cs new good.1 leads.1 (firm_all c.stamp s.objects c.changes leads.0.changes
+    (all_map IsChange ChangeRises written_rises c.changes good.0.changes) firm)
+
+pub firm_file : (bytes : List ℕ) (s : Stored) → Keeps bytes s → IsFirm s.objects
+firm_file bytes s (inl few) = subst (λ (t : Stored). IsFirm t.objects) (sym few.1) firm_first
+firm_file bytes s (inr more) = firm_leads first_stored more.1.commits s more.1.good more.1.leads firm_first

@@ -1,0 +1,261 @@
+-- What is written for the acts of a commit applies.
+--     AllGo, go_apply, go_firm     changes that apply one after the other, with rows that rise
+--     EditsApply, TakesMove        what edits and moves of offsets need
+--     ActStands                    so for each act of a commit of edits and moves
+--     acts_go                      what is written for them applies
+--     found_through                what stands at an id that no change drops
+use Rattle.std.proofs.Common.{◌≡◌, ℕ, zero, suc, ◌+◌, ◌<◌, ◌≤◌, Bool, List, [], ◌∷◌, ◌++◌, length, Option, Some, None}
+use Rattle.std.proofs.Common.{option_map, refl, sym, ap, subst, ◌∙◌, arith, IsTrue}
+use Rattle.std.specs.List.{AllByRecursion}
+use Rattle.std.specs.Option.{IfSome, IsSomeAnd}
+use Rattle.wh_value.specs.Limit.{bound}
+use Rattle.wh_value.specs.declared.limit.Limit.TheVariants as limits
+use Rattle.wh_state.specs.State.{dropped, last_of, at_id, put_at, changed_at}
+use Rattle.wh_state.specs.Edits.{Edits, partitions_made}
+use Rattle.wh_state.specs.Act.{Act, MakesTable, DropsObject, EditsRows, MakesStream, MovesOffset}
+use Rattle.wh_state.specs.Stored.{StoredTable, StoredKind, StoredTableKind, StoredStreamKind, StoredObject}
+use Rattle.wh_state.specs.Stored.{stored_table_in, standing}
+use Rattle.wh_state.specs.Commit.{VersionChange, Change, CreatesTable, Drops, PushesVersion, CreatesStream, SetsOffset}
+use Rattle.wh_state.specs.Commit.{pushed_object, pushed_kind, offset_set, offset_set_kind, changed, all_changed}
+use Rattle.wh_state.specs.Commit.{DoesNotFall, FitsKind, FitsObject, TakesOffset, OffsetApplies, ChangeApplies, AllApply}
+use Rattle.wh_state.specs.Written.{version_written_to, act_written, written}
+use Rattle.wh_state.proofs.AllLaws.{all_at}
+use Rattle.wh_state.proofs.ActLaws.{version_change, IsNoEdit, AreNoEdits, AreEditsFrom, no_more_edits, next_edit}
+use Rattle.wh_state.proofs.ActLaws.{edit_leaves, all_changed_append, orderly_standing}
+use Rattle.wh_state.proofs.FoundLaws.{FoundAt, found_changed, found_spared, found_more}
+use Rattle.wh_state.proofs.PartLaws.{made_rise}
+use Rattle.wh_state.proofs.AppliesLaws.{IsFirmTable, IsBelowNext, EditsFit, made_some, version_applies}
+use Rattle.wh_state.proofs.FirmLaws.{IsFirmKind, IsFirmObject, IsFirm, PushRises, ChangeRises, firm_changed}
+
+-- ---- changes one after the other
+
+abbrev pub AllGo : ℕ → List StoredObject → List Change → Type 0
+AllGo stamp objects [] = Unit {0}
+AllGo stamp objects (c ∷ cs) =
+    ChangeApplies objects c × (ChangeRises c × AllGo stamp (changed stamp objects c) cs)
+
+pub go_apply : (stamp : ℕ) (objects : List StoredObject) (cs : List Change) → AllGo stamp objects cs
+    → AllApply stamp objects cs
+go_apply stamp objects [] go = tt
+go_apply stamp objects (c ∷ cs) go = (go.0, go_apply stamp (changed stamp objects c) cs go.1.1)
+
+pub go_firm : (stamp : ℕ) (objects : List StoredObject) (cs : List Change) → AllGo stamp objects cs → IsFirm objects
+    → IsFirm (all_changed stamp objects cs)
+go_firm stamp objects [] go firm = firm
+go_firm stamp objects (c ∷ cs) go firm =
+    go_firm stamp (changed stamp objects c) cs go.1.1 (firm_changed stamp objects c go.0 go.1.0 firm)
+
+pub go_append : (stamp : ℕ) (objects : List StoredObject) (cs ds : List Change) → AllGo stamp objects cs
+    → AllGo stamp (all_changed stamp objects cs) ds → AllGo stamp objects (cs ++ ds)
+go_append stamp objects [] ds go more = more
+go_append stamp objects (c ∷ cs) ds go more = (go.0, (go.1.0, go_append stamp (changed stamp objects c) cs ds go.1.1 more))
+
+-- ---- edits
+
+pub record EditsApply (stamp : ℕ) (e : Edits) (t : StoredTable) : Type 0 where
+  pub below : IsBelowNext t
+  pub fit : EditsFit t.columns e
+  pub later : DoesNotFall (last_of t.versions) stamp
+  pub few : t.next_row + length e.added ≤ bound limits.RowNumber
+  pub few_partitions : t.next_partition + length (partitions_made t.next_partition t.next_row e (standing t))
+      ≤ bound limits.PartitionNumber
+
+abbrev pub EditStands : ℕ → Edits → StoredObject → Type 0
+EditStands stamp e o = IsTrue o.is_live × IsSomeAnd (stored_table_in o.kind) (EditsApply stamp e)
+
+edit_goes : (stamp : ℕ) (objects : List StoredObject) (id : ℕ) (e : Edits) → AllByRecursion IsFirmObject objects
+    → FoundAt (EditStands stamp e) objects id → AllGo stamp objects (act_written stamp objects (EditsRows id e))
+edit_goes stamp objects id e firm stands = by_found (at_id objects id) refl stands
+  where
+    by_kind : (o : StoredObject) (k : StoredKind) → at_id objects id ≡ Some (record o { kind = k })
+        → EditStands stamp e (record o { kind = k }) → IsFirmKind k
+        → AllGo stamp objects (version_written_to stamp id e (Some (record o { kind = k })))
+    by_kind o (StoredStreamKind s) there stands firm = absurd stands.1
+    by_kind o (StoredTableKind t) there stands firm =
+        let c : VersionChange = version_change stamp id e t in
+        let applies : FitsObject (Some (record o { kind = StoredTableKind t })) c =
+            (stands.0, version_applies stamp id e t firm stands.1.below stands.1.fit stands.1.later stands.1.few
+            stands.1.few_partitions) in
+        (
+          subst (λ found. FitsObject found c) (sym there) applies,
+          (
+            record {
+              rows = made_rise t.next_partition t.next_row e (standing t) (orderly_standing t firm.kept.orderly).rows;
+              some = made_some t.next_partition t.next_row e (standing t);
+            },
+            tt,
+          ),
+        )
+
+    by_found : (found : Option StoredObject) → at_id objects id ≡ found → IsSomeAnd found (EditStands stamp e)
+        → AllGo stamp objects (version_written_to stamp id e found)
+    by_found None none stands = absurd stands
+    by_found (Some o) there stands = by_kind o o.kind there stands (all_at IsFirmObject objects id o firm there)
+
+-- ---- what stands at an id
+
+pub record KeptByCommits (P : StoredObject → Type 0) : Type 0 where
+  pub pushes : (stamp : ℕ) (c : VersionChange) (o : StoredObject) → P o → P (pushed_object stamp c o)
+  pub sets : (offset : ℕ) (o : StoredObject) → P o → P (offset_set offset o)
+
+abbrev pub ChangeSpares : ℕ → Change → Type 0
+ChangeSpares id (Drops other) = id ≡ other → ⊥
+ChangeSpares id _ = Unit {0}
+
+found_changes : (P : StoredObject → Type 0) → KeptByCommits P → (stamp : ℕ) (objects : List StoredObject) (id : ℕ)
+    → (c : Change) → ChangeSpares id c → FoundAt P objects id → FoundAt P (changed stamp objects c) id
+unfolding changed
+found_changes P keeps stamp objects id (CreatesTable c) spares h = found_more P objects _ id h
+found_changes P keeps stamp objects id (CreatesStream c) spares h = found_more P objects _ id h
+found_changes P keeps stamp objects id (Drops other) spares h = found_spared P dropped objects other id spares h
+found_changes P keeps stamp objects id (PushesVersion c) spares h =
+    found_changed P (pushed_object stamp c) (keeps.pushes stamp c) objects c.id id h
+found_changes P keeps stamp objects id (SetsOffset other offset) spares h =
+    found_changed P (offset_set offset) (keeps.sets offset) objects other id h
+
+-- behind changes of which none drops it
+pub found_through : (P : StoredObject → Type 0) → KeptByCommits P → (stamp : ℕ) (objects : List StoredObject) (id : ℕ)
+    → (cs : List Change) → AllByRecursion (ChangeSpares id) cs → FoundAt P objects id
+    → FoundAt P (all_changed stamp objects cs) id
+found_through P keeps stamp objects id [] spare h = h
+found_through P keeps stamp objects id (c ∷ cs) spare h =
+    found_through P keeps stamp (changed stamp objects c) id cs spare.1
+    (found_changes P keeps stamp objects id c spare.0 h)
+
+pub edit_spares : (stamp : ℕ) (objects : List StoredObject) (other : ℕ) (e : Edits) (id : ℕ)
+    → AllByRecursion (ChangeSpares id) (act_written stamp objects (EditsRows other e))
+edit_spares stamp objects other e id = by_found (at_id objects other)
+  where
+    by_kind : (o : StoredObject) (k : StoredKind)
+        → AllByRecursion (ChangeSpares id) (version_written_to stamp other e (Some (record o { kind = k })))
+    by_kind o (StoredTableKind t) = (tt, tt)
+    by_kind o (StoredStreamKind s) = tt
+
+    by_found : (found : Option StoredObject) → AllByRecursion (ChangeSpares id) (version_written_to stamp other e found)
+    by_found None = tt
+    by_found (Some o) = by_kind o o.kind
+
+-- behind the edits of a table
+edit_keeps : (P : StoredObject → Type 0)
+    → ((stamp : ℕ) (c : VersionChange) (o : StoredObject) → P o → P (pushed_object stamp c o))
+    → (stamp : ℕ) (objects : List StoredObject) (other : ℕ) (e : Edits) (id : ℕ)
+    → FoundAt P objects id → FoundAt P (all_changed stamp objects (act_written stamp objects (EditsRows other e))) id
+unfolding changed
+edit_keeps P keeps stamp objects other e id h = by_found (at_id objects other)
+  where
+    by_kind : (o : StoredObject) (k : StoredKind)
+        → FoundAt P (all_changed stamp objects (version_written_to stamp other e (Some (record o { kind = k })))) id
+    by_kind o (StoredTableKind t) =
+        found_changed P (pushed_object stamp (version_change stamp other e t))
+        (keeps stamp (version_change stamp other e t)) objects other id h
+    by_kind o (StoredStreamKind s) = h
+
+    by_found : (found : Option StoredObject)
+        → FoundAt P (all_changed stamp objects (version_written_to stamp other e found)) id
+    by_found None = h
+    by_found (Some o) = by_kind o o.kind
+
+-- ---- moves of offsets
+
+abbrev pub TakesMove : ℕ → StoredObject → Type 0
+TakesMove start o = IsTrue o.is_live × TakesOffset o.kind start
+
+takes_kept : (start : ℕ) (o : StoredObject) (stamp : ℕ) (c : VersionChange) → TakesMove start o
+    → TakesMove start (pushed_object stamp c o)
+takes_kept start o stamp c h = (h.0, by_kind o.kind h.1)
+  where
+    by_kind : (k : StoredKind) → TakesOffset k start → TakesOffset (pushed_kind stamp c k) start
+    by_kind (StoredTableKind t) h = absurd h
+    by_kind (StoredStreamKind s) h = h
+
+takes_again : (start : ℕ) (o : StoredObject) → TakesMove start o → TakesMove start (offset_set start o)
+takes_again start o h = (h.0, by_kind o.kind h.1)
+  where
+    by_kind : (k : StoredKind) → TakesOffset k start → TakesOffset (offset_set_kind start k) start
+    by_kind (StoredTableKind t) h = absurd h
+    by_kind (StoredStreamKind s) h = omega arith
+
+-- the acts of a commit of a transaction of that start
+abbrev pub ActStands : ℕ → ℕ → List StoredObject → Act → Type 0
+ActStands stamp start objects (EditsRows id e) = FoundAt (EditStands stamp e) objects id
+ActStands stamp start objects (MovesOffset id offset) = (offset ≡ start) × FoundAt (TakesMove start) objects id
+ActStands stamp start objects _ = ⊥
+
+abbrev pub AllStand : ℕ → ℕ → List StoredObject → List Act → Type 0
+AllStand stamp start objects acts = AllByRecursion (ActStands stamp start objects) acts
+
+move_stands : (stamp start : ℕ) (objects : List StoredObject) (id : ℕ) (act : Act) → IsNoEdit act
+    → ActStands stamp start objects act → ActStands stamp start (changed stamp objects (SetsOffset id start)) act
+unfolding changed
+move_stands stamp start objects id (EditsRows other e) are stands = absurd are
+move_stands stamp start objects id (MovesOffset other offset) are stands = (
+  stands.0,
+  found_changed (TakesMove start) (offset_set start) (takes_again start) objects id other stands.1,
+)
+move_stands stamp start objects id (MakesTable name columns retention) are stands = absurd stands
+move_stands stamp start objects id (DropsObject other) are stands = absurd stands
+move_stands stamp start objects id (MakesStream name source is_append_only) are stands = absurd stands
+
+moves_stand : (stamp start : ℕ) (objects : List StoredObject) (id : ℕ) (acts : List Act) → AreNoEdits acts
+    → AllStand stamp start objects acts → AllStand stamp start (changed stamp objects (SetsOffset id start)) acts
+moves_stand stamp start objects id [] are stand = tt
+moves_stand stamp start objects id (act ∷ acts) are stand =
+    (move_stands stamp start objects id act are.0 stand.0, moves_stand stamp start objects id acts are.1 stand.1)
+
+moves_go : (stamp start : ℕ) (objects : List StoredObject) (acts : List Act) → AreNoEdits acts
+    → AllStand stamp start objects acts → AllGo stamp objects (written stamp objects acts)
+moves_go stamp start objects [] are stand = tt
+moves_go stamp start objects (EditsRows id e ∷ acts) are stand = absurd are.0
+moves_go stamp start objects (MakesTable name columns retention ∷ acts) are stand = absurd stand.0
+moves_go stamp start objects (DropsObject id ∷ acts) are stand = absurd stand.0
+moves_go stamp start objects (MakesStream name source is_append_only ∷ acts) are stand = absurd stand.0
+moves_go stamp start objects (MovesOffset id offset ∷ acts) are stand =
+    let at_start : AllGo stamp (changed stamp objects (SetsOffset id start))
+        (written stamp (changed stamp objects (SetsOffset id start)) acts) =
+        moves_go stamp start (changed stamp objects (SetsOffset id start)) acts are.1
+        (moves_stand stamp start objects id acts are.1 stand.1) in
+    (
+      subst (λ (n : ℕ). OffsetApplies (at_id objects id) n) (sym stand.0.0) stand.0.1,
+      (tt, subst (λ (n : ℕ). AllGo stamp (changed stamp objects (SetsOffset id n))
+          (written stamp (changed stamp objects (SetsOffset id n)) acts)) (sym stand.0.0) at_start),
+    )
+
+-- ---- edits, and then moves
+
+act_stands : (stamp start : ℕ) (objects : List StoredObject) (id : ℕ) (e : Edits) (act : Act) → IsNoEdit act
+    → ActStands stamp start objects act
+    → ActStands stamp start (all_changed stamp objects (act_written stamp objects (EditsRows id e))) act
+act_stands stamp start objects id e (EditsRows other f) are stands = absurd are
+act_stands stamp start objects id e (MovesOffset other offset) are stands =
+    (stands.0, edit_keeps (TakesMove start) (λ stamp c o h. takes_kept start o stamp c h) stamp objects id e other stands.1)
+act_stands stamp start objects id e (MakesTable name columns retention) are stands = absurd stands
+act_stands stamp start objects id e (DropsObject other) are stands = absurd stands
+act_stands stamp start objects id e (MakesStream name source is_append_only) are stands = absurd stands
+
+others_stand : (stamp start : ℕ) (objects : List StoredObject) (id : ℕ) (e : Edits) (acts : List Act) → AreNoEdits acts
+    → AllStand stamp start objects acts
+    → AllStand stamp start (all_changed stamp objects (act_written stamp objects (EditsRows id e))) acts
+others_stand stamp start objects id e [] are stand = tt
+others_stand stamp start objects id e (act ∷ acts) are stand =
+    (act_stands stamp start objects id e act are.0 stand.0, others_stand stamp start objects id e acts are.1 stand.1)
+
+later_stand : (stamp start : ℕ) (objects : List StoredObject) (id : ℕ) (e : Edits) (least : ℕ) (acts : List Act)
+    → id < least → AreEditsFrom least acts → AllStand stamp start objects acts
+    → AllStand stamp start (all_changed stamp objects (act_written stamp objects (EditsRows id e))) acts
+later_stand stamp start objects id e least acts h (no_more_edits are) stand =
+    others_stand stamp start objects id e acts are stand
+later_stand stamp start objects id e least (EditsRows other f ∷ acts) h (next_edit from rising) stand = (
+  subst (λ found. IsSomeAnd found (EditStands stamp f))
+      (sym (edit_leaves stamp id e objects other (omega (arith, from)))) stand.0,
+  later_stand stamp start objects id e (suc other) acts (omega (arith, from)) rising stand.1,
+)
+
+pub acts_go : (stamp start least : ℕ) (objects : List StoredObject) (acts : List Act) → AreEditsFrom least acts
+    → AllStand stamp start objects acts → IsFirm objects → AllGo stamp objects (written stamp objects acts)
+acts_go stamp start least objects acts (no_more_edits are) stand firm = moves_go stamp start objects acts are stand
+acts_go stamp start least objects (EditsRows id e ∷ acts) (next_edit from rising) stand firm =
+    let first : List Change = act_written stamp objects (EditsRows id e) in
+    let go : AllGo stamp objects first = edit_goes stamp objects id e firm.tables stand.0 in
+    go_append stamp objects first (written stamp (all_changed stamp objects first) acts) go
+    (acts_go stamp start (suc id) (all_changed stamp objects first) acts rising
+    (later_stand stamp start objects id e (suc id) acts (omega arith) rising stand.1) (go_firm stamp objects first go firm))
