@@ -17,4 +17,4 @@ kind_in (KeptTableKind t) = StoredTableKind (table_in t)
 kind_in (KeptStreamKind s) = StoredStreamKind s
 
 abbrev pub object_in : KeptObject → StoredObject
-object_in o = record { name = o.name; is_live = o.is_live; created = o.created; kind = kind_in o.kind }
+object_in o = record { name = o.name; is_live = o.is_live; kind = kind_in o.kind }

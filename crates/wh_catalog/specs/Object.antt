@@ -16,7 +16,7 @@ kept_kind (Table t) = KeptTableKind (kept_table t)
 kept_kind (Stream s) = KeptStreamKind (stream_of s)
 
 abbrev pub kept_object : StoredObject → KeptObject
-kept_object o = record { name = o.name; is_live = o.is_live; created = o.created; kind = kept_kind o.kind }
+kept_object o = record { name = o.name; is_live = o.is_live; kind = kept_kind o.kind }
 
 abbrev pub kept_objects : List StoredObject → List KeptObject
 kept_objects objects = map kept_object objects

@@ -39,7 +39,7 @@ impl Catalog {
             Change::PushesVersion(change) => push_version(&mut self.objects, change, stamp),
             Change::CreatesStream(change) => {
                 let id = change.id;
-                let stream = self.new_stream(change, stamp)?;
+                let stream = self.new_stream(change)?;
                 self.add_object(id, stream)
             }
             Change::SetsOffset { id, offset } => set_offset(&mut self.objects, id, offset),

@@ -32,7 +32,6 @@ impl Catalog {
         Ok(StoredObject {
             name: change.name,
             is_live: true,
-            created: stamp,
             kind: StoredKind::Table(table),
         })
     }

@@ -7,7 +7,6 @@ use wh_value::Text;
 pub struct StoredObject {
     pub(crate) name: Text,
     pub(crate) is_live: bool,
-    pub(crate) created: u64,
     pub(crate) kind: StoredKind,
 }
 

@@ -321,7 +321,7 @@ offset_passed m sound id s at =
     let is : IsSoundObject m.state.committed here.object =
     all_at (IsSoundObject m.state.committed) m.state.objects id here.object sound.state.objects here.there in
     let within : IsSoundKind m.state.committed (StreamKind s) =
-    subst (IsSoundKind m.state.committed) here.kind is.kind in
+    subst (IsSoundKind m.state.committed) here.kind is in
     omega (arith, within, sound.state.ordered)
 
 -- the batches in which a standard stream was consumed, made one after the other on the rows of its source at its

@@ -50,6 +50,7 @@ row n = Number (pos n) ∷ []
 
 abbrev table_t : Table
 table_t = record {
+  created = 1;
   columns = record { name = k; column_type = NumberType } ∷ [];
   retention = 1;
   next_row = 2;
@@ -59,6 +60,7 @@ table_t = record {
 
 abbrev table_c : Table
 table_c = record {
+  created = 3;
   columns = record { name = k; column_type = NumberType } ∷ [];
   retention = 1;
   next_row = 1;
@@ -70,8 +72,8 @@ abbrev stream_s : Stream
 stream_s = new_stream 1 false 2 table_t.columns
 
 abbrev objects : List Object
-objects = new_object (codes "T") 1 (TableKind table_t) ∷ new_object (codes "S") 2 (StreamKind stream_s)
-    ∷ new_object (codes "C") 3 (TableKind table_c) ∷ []
+objects = new_object (codes "T") (TableKind table_t) ∷ new_object (codes "S") (StreamKind stream_s)
+    ∷ new_object (codes "C") (TableKind table_c) ∷ []
 
 abbrev machine : Sessions → Machine
 machine sessions = record { state = record { last = 6; committed = 4; objects = objects }; sessions = sessions }
@@ -157,11 +159,11 @@ others_are_locked_out = insert_read (machine (with_transaction no_sessions 1 hol
 
 -- streams 5, 2 and 3 on a live table 4, and on a table 1 that was dropped
 abbrev stream_on : ℕ → List ℕ → Object
-stream_on source name = new_object name 2 (StreamKind (new_stream source false 2 []))
+stream_on source name = new_object name (StreamKind (new_stream source false 2 []))
 
 abbrev gone_and_stale : List Object
-gone_and_stale = dropped (new_object (codes "T") 1 (TableKind table_t)) ∷ stream_on 1 (codes "A")
-    ∷ stream_on 1 (codes "B") ∷ new_object (codes "U") 1 (TableKind table_t) ∷ stream_on 4 (codes "D") ∷ []
+gone_and_stale = dropped (new_object (codes "T") (TableKind table_t)) ∷ stream_on 1 (codes "A")
+    ∷ stream_on 1 (codes "B") ∷ new_object (codes "U") (TableKind table_t) ∷ stream_on 4 (codes "D") ∷ []
 
 -- 14 days and two stamps: the sources are tested first, and of them the least id
 sources_before_offsets : (reading_refusal gone_and_stale 1209600003 (5 ∷ 3 ∷ 2 ∷ []) ≡ Some (SourceGone (codes "A")))

@@ -48,7 +48,6 @@ abbrev named_x : Bool → Object
 named_x live = record {
   name = codes "X";
   is_live = live;
-  created = 1;
   kind = TableKind (new_table nothing_held (map column_of (columns_from 65 1)) 1 1);
 }
 
@@ -125,7 +124,8 @@ wide_last = (refl, refl, refl)
 
 -- a table of one column of numbers, by its next row and partition
 abbrev next_at : ℕ → ℕ → Object
-next_at row partition = new_object (codes "T") 1 (TableKind (record {
+next_at row partition = new_object (codes "T") (TableKind (record {
+  created = 1;
   columns = map column_of (columns_from 65 1);
   retention = 1;
   next_row = row;

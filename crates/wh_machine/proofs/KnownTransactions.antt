@@ -48,7 +48,8 @@ seen_rows = simp map_steps
 -- ---- a statement in a transaction, and what it then sees
 
 abbrev table_with : ℕ → Object
-table_with next_row = new_object [] 5 (TableKind (record {
+table_with next_row = new_object [] (TableKind (record {
+  created = 5;
   columns = [];
   retention = 1;
   next_row = next_row;

@@ -23,6 +23,7 @@ held = record {
 
 abbrev pub table_t : Table
 table_t = record {
+  created = 1;
   columns = record { name = codes "K"; column_type = NumberType } ∷ [];
   retention = 1;
   next_row = 3;
@@ -34,7 +35,7 @@ abbrev pub filled : State
 filled = record {
   last = 3;
   committed = 2;
-  objects = record { name = codes "T"; is_live = true; created = 1; kind = TableKind table_t } ∷ [];
+  objects = record { name = codes "T"; is_live = true; kind = TableKind table_t } ∷ [];
 }
 
 -- ---- the table after a commit

@@ -181,7 +181,7 @@ pub orderly_changed : (stamp : ℕ) (objects : List StoredObject) (c : Change) �
     → KeptObjects (changed stamp objects c)
 unfolding changed
 orderly_changed stamp objects (CreatesTable c) good applies kept =
-    all_more KeptObject objects (new_object c.name stamp (StoredTableKind (new_table [] c.columns c.retention stamp)))
+    all_more KeptObject objects (new_object c.name (StoredTableKind (new_table [] c.columns c.retention stamp)))
     kept (new_kept c.columns c.retention stamp)
 orderly_changed stamp objects (CreatesStream c) good applies kept = all_more KeptObject objects _ kept tt
 orderly_changed stamp objects (SetsOffset id offset) good applies kept =

@@ -82,10 +82,10 @@ offset_set offset o = record o { kind = offset_set_kind offset o.kind }
 
 unfoldable pub changed : ℕ → List StoredObject → Change → List StoredObject
 changed stamp objects (CreatesTable c) =
-    objects ++ new_object c.name stamp (StoredTableKind (new_table [] c.columns c.retention stamp)) ∷ []
+    objects ++ new_object c.name (StoredTableKind (new_table [] c.columns c.retention stamp)) ∷ []
 changed stamp objects (Drops id) = changed_at objects id dropped
 changed stamp objects (PushesVersion c) = changed_at objects c.id (pushed_object stamp c)
-changed stamp objects (CreatesStream c) = objects ++ new_object c.name stamp
+changed stamp objects (CreatesStream c) = objects ++ new_object c.name
     (StoredStreamKind (new_stream c.source c.is_append_only c.offset (stored_columns_at objects c.source))) ∷ []
 changed stamp objects (SetsOffset id offset) = changed_at objects id (offset_set offset)
 

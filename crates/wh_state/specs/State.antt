@@ -1,6 +1,6 @@
 -- The state of the machine.
 --     VersionOf, TableOf       a table as the list of its versions, each with its content
---     ObjectOf                 a name, whether it lives, when it was created, and what it is
+--     ObjectOf                 a name, whether it lives, and what it is
 --     Contents                 what a version of the machine holds: its rows, by row number, and the
 --                              partitions that they are written in
 --     Stream                   the changes of a table behind an offset
@@ -29,8 +29,9 @@ pub record VersionOf (Content : Type 0) : Type 0 where
   pub data_timestamp : ℕ
   pub content : Content
 
--- the retention is in days; the versions stand in the order of their stamps
+-- the stamp of its creation; the retention is in days; the versions stand in the order of their stamps
 pub record TableOf (Content : Type 0) : Type 0 where
+  pub created : ℕ
   pub columns : List Column
   pub retention : ℕ
   pub next_row : ℕ
@@ -41,7 +42,6 @@ pub record TableOf (Content : Type 0) : Type 0 where
 pub record ObjectOf (Kind : Type 0) : Type 0 where
   pub name : List ℕ
   pub is_live : Bool
-  pub created : ℕ
   pub kind : Kind
 
 abbrev pub version_at : {Content : Type 0} → ℕ → Content → VersionOf Content
@@ -50,6 +50,7 @@ version_at stamp content = record { stamp = stamp; data_timestamp = stamp; conte
 -- a table as it is created: one version, with nothing in it
 abbrev pub new_table : {Content : Type 0} → Content → List Column → ℕ → ℕ → TableOf Content
 new_table nothing columns retention stamp = record {
+  created = stamp;
   columns = columns;
   retention = retention;
   next_row = 1;
@@ -57,8 +58,8 @@ new_table nothing columns retention stamp = record {
   versions = version_at stamp nothing ∷ [];
 }
 
-abbrev pub new_object : {Kind : Type 0} → List ℕ → ℕ → Kind → ObjectOf Kind
-new_object name stamp kind = record { name = name; is_live = true; created = stamp; kind = kind }
+abbrev pub new_object : {Kind : Type 0} → List ℕ → Kind → ObjectOf Kind
+new_object name kind = record { name = name; is_live = true; kind = kind }
 
 -- a dropped object keeps its name and its id
 abbrev pub dropped : {Kind : Type 0} → ObjectOf Kind → ObjectOf Kind

@@ -76,6 +76,7 @@ version_meant v = record { stamp = v.stamp; data_timestamp = v.data_timestamp; c
 
 abbrev pub table_meant : StoredTable → Table
 table_meant t = record {
+  created = t.created;
   columns = t.columns;
   retention = t.retention;
   next_row = t.next_row;
@@ -88,7 +89,7 @@ kind_meant (StoredTableKind t) = TableKind (table_meant t)
 kind_meant (StoredStreamKind s) = StreamKind s
 
 abbrev pub object_meant : StoredObject → Object
-object_meant o = record { name = o.name; is_live = o.is_live; created = o.created; kind = kind_meant o.kind }
+object_meant o = record { name = o.name; is_live = o.is_live; kind = kind_meant o.kind }
 
 abbrev pub meant : Stored → State
 meant s = record { last = s.last; committed = s.last; objects = map object_meant s.objects }

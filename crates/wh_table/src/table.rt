@@ -12,6 +12,8 @@ use wh_version::{History, Version};
 /// A table with all its versions.
 #[derive(Debug, Drop)]
 pub struct StoredTable {
+    /// The stamp of its creation.
+    pub(crate) created: u64,
     pub(crate) columns: Vec<Column>,
     pub(crate) retention: u8,
     pub(crate) next_row: u64,
@@ -41,6 +43,7 @@ impl StoredTable {
         ensures { table_of result ≡ new_table [] (map column_of columns.items) retention stamp }
     {
         StoredTable {
+            created: stamp,
             columns,
             retention,
             next_row: 1,

@@ -19,5 +19,5 @@ returns-clause-applies c = (Decides-table_applies (objects_of c.args.self.now) (
 pub returns-clause-made : goal.returns-clause-made
 unfolding changed kept_table
 returns-clause-made c =
-    ap (λ t. objects_of c.args.self.now ++ new_object c.args.change.name c.args.stamp (StoredTableKind t) ∷ [])
+    ap (λ t. objects_of c.args.self.now ++ new_object c.args.change.name (StoredTableKind t) ∷ [])
     c.new-table.ensures
