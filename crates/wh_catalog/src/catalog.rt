@@ -37,7 +37,8 @@ impl Catalog {
     ghost use Rattle.wh_table.specs.Table.{table_of};
     ghost use Rattle.wh_catalog.specs.Object.{kept_object};
     ghost use Rattle.wh_catalog.specs.Names.{names_of, is_last, last_id};
-    ghost use Rattle.wh_catalog.specs.Catalog.{stored_of, state_of, stored_table_at, stored_stream_at};
+    ghost use Rattle.wh_catalog.specs.Catalog.{stored_of, state_of, stored_table_at};
+    ghost use Rattle.wh_catalog.specs.Catalog.{stored_stream_at};
     ghost use Rattle.wh_catalog.specs.Stream.{stream_of};
     ghost use Rattle.wh_state.specs.State.{at_id};
 

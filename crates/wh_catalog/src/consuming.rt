@@ -63,9 +63,10 @@ impl StoredObject {
     ghost use Rattle.wh_catalog.specs.Object.{kept_object};
     ghost use Rattle.wh_catalog.specs.Back.{object_put_back};
 
-    // Sets the offset of a stream that lives, if it doesn't fall. The result is the offset of before.
+    // Sets the offset of a stream that lives, if it doesn't fall. The result is that of before.
     fn set_offset(&mut self, offset: u64) -> Result<u64, StageFault>
-        ensures applies { OnOk result (OffsetApplies (Some (object_in (kept_object self.old))) offset) }
+        ensures applies { OnOk result (OffsetApplies
+            (Some (object_in (kept_object self.old))) offset) }
         ensures set { OnOk result (object_in (kept_object self.new)
             ≡ offset_set offset (object_in (kept_object self.old))) }
         ensures back { IfOk result (λ before. object_put_back before (kept_object self.new)

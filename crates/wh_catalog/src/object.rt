@@ -45,7 +45,8 @@ impl StoredObject {
     }
 
     pub(crate) fn table(&self) -> Option<&StoredTable>
-        ensures { option_map (λ t. table_of t.now) result ≡ table_in_kind (kind_in (kept_kind self.now.kind)) }
+        ensures { option_map (λ t. table_of t.now) result
+            ≡ table_in_kind (kind_in (kept_kind self.now.kind)) }
     {
         match &self.kind {
             StoredKind::Table(table) => Some(table),
@@ -54,7 +55,8 @@ impl StoredObject {
     }
 
     pub(crate) fn stream(&self) -> Option<&StoredStream>
-        ensures { option_map (λ s. stream_of s.now) result ≡ stream_in_kind (kind_in (kept_kind self.now.kind)) }
+        ensures { option_map (λ s. stream_of s.now) result
+            ≡ stream_in_kind (kind_in (kept_kind self.now.kind)) }
     {
         match &self.kind {
             StoredKind::Table(_) => None,

@@ -5,7 +5,8 @@ use wh_record::StreamChange;
 use wh_value::{Column, ColumnType, Text};
 
 impl Catalog {
-    ghost use Rattle.std.specs.Prelude.{◌≡◌, ℕ, ◌++◌, ◌∷◌, [], is_some, OnOk, IfOk, IfSome, IsErrOf};
+    ghost use Rattle.std.specs.Prelude.{◌≡◌, ℕ, ◌++◌, ◌∷◌, [], is_some, OnOk, IfOk, IfSome};
+    ghost use Rattle.std.specs.Prelude.{IsErrOf};
     ghost use Rattle.wh_state.specs.State.{at_id};
     ghost use Rattle.wh_state.specs.Stored.{stored_columns_at};
     ghost use Rattle.wh_state.specs.Commit.{StreamApplies, changed, CreatesStream};
@@ -18,7 +19,8 @@ impl Catalog {
 
     /// The stream of a change, if it applies.
     pub(crate) fn new_stream(&self, change: StreamChange) -> Result<StoredObject, StageFault>
-        ensures applies { OnOk result (StreamApplies (objects_of self.now) (stream_change_of change)) }
+        ensures applies { OnOk result (StreamApplies (objects_of self.now)
+            (stream_change_of change)) }
         ensures made { IfOk result (λ made. (stamp : ℕ)
             → objects_of self.now ++ object_in (kept_object made) ∷ []
             ≡ changed stamp (objects_of self.now) (CreatesStream (stream_change_of change))) }

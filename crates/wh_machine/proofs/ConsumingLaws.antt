@@ -9,13 +9,11 @@ use Rattle.std.specs.Prelude.{nat_le, slice_get, slice_set}
 use Rattle.std.specs.List.{filter}
 use Rattle.std.proofs.lemmas.Bool.{lt-leb}
 use Rattle.std.proofs.lemmas.Bool.Decides.{nat_tests}
-use Rattle.wh_state.specs.State.{Rows, Version, Table, Stream, Kind, TableKind, StreamKind, Object, State}
-use Rattle.wh_state.specs.State.{nothing_held}
+use Rattle.wh_state.specs.State.{Rows, Version, Table, Stream, Kind, TableKind, StreamKind, Object, State, nothing_held}
 use Rattle.wh_state.specs.State.{dropped, content_in, last_of, at_id, put_at, changed_at}
 use Rattle.wh_state.specs.Edits.{Edits}
-use Rattle.wh_state.specs.Act.{Act, MakesTable, DropsObject, EditsRows, MakesStream, MovesOffset}
-use Rattle.wh_state.specs.Act.{edited_table, edited_kind, edited_object, moved_kind, moved_object, acted}
-use Rattle.wh_state.specs.Act.{all_acted}
+use Rattle.wh_state.specs.Act.{Act, MakesTable, DropsObject, EditsRows, MakesStream, MovesOffset, edited_table}
+use Rattle.wh_state.specs.Act.{edited_kind, edited_object, moved_kind, moved_object, acted, all_acted}
 use Rattle.wh_state.specs.Objects.{table_at, stream_at}
 use Rattle.wh_state.specs.Sound.{IsSoundKind, IsSoundObject}
 use Rattle.wh_state.proofs.AllLaws.{all_at}

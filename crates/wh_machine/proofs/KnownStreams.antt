@@ -1,7 +1,6 @@
 -- Statements that read a stream, worked out by hand: T has the row 7 since stamp 4, S shows what T got behind
 -- stamp 2, and C is empty.
-use Rattle.std.proofs.Common.{◌≡◌, ap, ◌∙◌, ℕ, true, false, List, [], ◌∷◌, ◌++◌, Some, None, pos}
-use Rattle.std.proofs.Common.{refl}
+use Rattle.std.proofs.Common.{◌≡◌, ap, ◌∙◌, ℕ, true, false, List, [], ◌∷◌, ◌++◌, Some, None, pos, refl}
 use Rattle.std.specs.Prelude.{codes}
 use Rattle.std.specs.Fmt.{digits}
 use Rattle.std.specs.FinMap.{empty, insert}
@@ -23,8 +22,8 @@ use Rattle.wh_naming.specs.Changes.{target_at, insert_query, bound_change}
 use Rattle.wh_naming.proofs.Written.{WrittenQuery, layers, k, name_s, only, column, object, select}
 use Rattle.wh_effect.specs.Effect.{effect}
 use Rattle.wh_reply.specs.Reply.{SourceGone, StaleStream, Locked, HasData, Inserted, Committed, Listing, print}
-use Rattle.wh_state.specs.State.{Table, Stream, Object, TableKind, StreamKind, new_object, dropped}
-use Rattle.wh_state.specs.State.{nothing_held, version_at, new_stream}
+use Rattle.wh_state.specs.State.{Table, Stream, Object, TableKind, StreamKind, new_object, dropped, nothing_held}
+use Rattle.wh_state.specs.State.{version_at, new_stream}
 use Rattle.wh_state.specs.Edits.{Edits, edits_from, later_edits, partitions_made}
 use Rattle.wh_state.specs.Act.{EditsRows, MovesOffset}
 use Rattle.wh_machine.specs.Tables.{table_refusal, create_table, drop_table}
@@ -93,8 +92,8 @@ select_read m o is =
 
 a_query_moves_nothing : selects (machine no_sessions) 1 (bound_select (names_from 1 objects) from_s.tree [])
     ≡ Does (Listing (k ∷ []) (row 7 ∷ [])) no_sessions None
-unfolding selects seen reading_refusal shown net digits first_failing source_step core_step query_step typing.step column_at
-    eval listed fold_bag val values_on
+unfolding selects seen reading_refusal shown net digits first_failing source_step core_step query_step typing.step
+    column_at eval listed fold_bag val values_on
 a_query_moves_nothing = select_read (machine no_sessions) _ (simp steps)
 
 -- INSERT INTO C SELECT K FROM S
@@ -179,8 +178,8 @@ kinds_are_told_apart : text first (asked event_t ∷ asked (st.CreateStream (cod
     ∷ asked (st.DropStream (codes "T")) ∷ asked (st.DropStream (codes "S")) ∷ asked (st.HasData (codes "S")) ∷ [])
     ≡ codes "CREATED TABLE T\nCREATED STREAM S\nFALSE\nE8 WrongKind T\nE8 WrongKind S\n"
     ++ codes "E8 WrongKind T\nDROPPED STREAM S\nE6 UnknownName S\n"
-unfolding step commanded ddl.bound first_failing carried_out defines create_table table_refusal create_stream stream_refusal drop_table
-    drop_stream has_data reading_refusal shown print digits
+unfolding step commanded ddl.bound first_failing carried_out defines create_table table_refusal create_stream
+    stream_refusal drop_table drop_stream has_data reading_refusal shown print digits
 kinds_are_told_apart = refl
 
 it_has_rows : has_data (machine no_sessions) 1 None 2 ≡ Does (HasData true) no_sessions None
@@ -190,7 +189,8 @@ it_has_rows = simp steps
 -- ---- offsets
 
 -- in the commit that consumes it an offset moves up to the start, and never back
-offsets : (offset_move 9 3 (Some (new_stream 1 false 5 [])) ≡ MovesOffset 3 9 ∷ []) × (offset_move 5 3 (Some (new_stream 1 false 5 [])) ≡ [])
+offsets : (offset_move 9 3 (Some (new_stream 1 false 5 [])) ≡ MovesOffset 3 9 ∷ [])
+    × (offset_move 5 3 (Some (new_stream 1 false 5 [])) ≡ [])
     × (offset_move 3 3 (Some (new_stream 1 false 5 [])) ≡ [])
 offsets = (refl, refl, refl)
 

@@ -16,8 +16,8 @@ use Rattle.wh_state.specs.Edits.{Edits, no_edits, edits_from, later_edits, rows_
 use Rattle.wh_state.specs.Act.{EditsRows, edited_table}
 use Rattle.wh_state.proofs.KnownMaps.{map_steps}
 use Rattle.wh_machine.specs.Transaction.{Staged, Transaction, begun, seen, staged, acts_of, past_limit, commit_refusal}
-use Rattle.wh_machine.specs.Sessions.{Sessions, no_sessions, number_in, holder, locked_by}
-use Rattle.wh_machine.specs.Sessions.{with_begun, with_ended, with_transaction}
+use Rattle.wh_machine.specs.Sessions.{Sessions, no_sessions, number_in, holder, locked_by, with_begun, with_ended}
+use Rattle.wh_machine.specs.Sessions.{with_transaction}
 
 abbrev row : ℕ → Row
 row k = Number (pos k) ∷ []

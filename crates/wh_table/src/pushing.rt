@@ -14,7 +14,8 @@ impl StoredTable {
 
     /// Adds a version, if it applies.
     pub fn push(&mut self, change: VersionChange, stamp: u64) -> Result<(), StageFault>
-        ensures applies { OnOk result (VersionApplies (table_of self.old) (version_change_of change)) }
+        ensures applies { OnOk result (VersionApplies (table_of self.old)
+            (version_change_of change)) }
         ensures pushed { OnOk result (table_of self.new
             ≡ pushed stamp (version_change_of change) (table_of self.old)) }
         ensures back { OnOk result (taken_back (table_of self.old).next_row (kept_table self.new)

@@ -46,7 +46,8 @@ impl History {
 
     /// The data timestamp of the last version.
     pub fn last_timestamp(&self) -> u64
-        ensures { option_map (λ v. v.data_timestamp) (last_of (versions_of self.now)) ≡ Some result }
+        ensures { option_map (λ v. v.data_timestamp) (last_of (versions_of self.now))
+            ≡ Some result }
     {
         last_mark(self.first, &self.later).data_timestamp
     }
@@ -61,7 +62,8 @@ impl History {
 
     /// Whether the last version has the partition of that number.
     pub fn stands(&self, number: u64) -> bool
-        ensures { result ≡ list_any (λ p. nat_eq number p.number) (standing_in (versions_of self.now)) }
+        ensures { result ≡ list_any (λ p. nat_eq number p.number)
+            (standing_in (versions_of self.now)) }
     {
         let number = number as usize;
         if number == 0 || self.kept.len() < number {
@@ -73,7 +75,8 @@ impl History {
 
     /// Each partition of each version, by rising number.
     pub fn kept(&self) -> &[Kept]
-        ensures { partitions_in (filter is_standing result.now) ≡ standing_in (versions_of self.now) }
+        ensures { partitions_in (filter is_standing result.now)
+            ≡ standing_in (versions_of self.now) }
     {
         self.kept.as_slice()
     }
