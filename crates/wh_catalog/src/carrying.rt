@@ -104,11 +104,11 @@ impl Catalog {
     }
 }
 
-ghost use Rattle.std.specs.Prelude.{◌≡◌, count_by, OnOk, OnErr, IfOk, IsErrOf};
+ghost use Rattle.std.specs.Prelude.{◌≡◌, OnOk, OnErr, IfOk, IsErrOf};
 ghost use Rattle.wh_state.specs.State.{at_id, changed_at};
 ghost use Rattle.wh_state.specs.Commit.{FitsObject, pushed_object};
 ghost use Rattle.wh_record.specs.View.{version_change_of};
-ghost use Rattle.wh_catalog.specs.Object.{kept_objects, stored_objects};
+ghost use Rattle.wh_catalog.specs.Object.{kept_objects, stored_objects, live_in};
 ghost use Rattle.wh_catalog.specs.Names.{KeepsNames};
 ghost use Rattle.wh_catalog.specs.Back.{object_taken_back};
 ghost use Rattle.wh_catalog.specs.Undo.{step_undone};
@@ -132,8 +132,7 @@ fn push_version(
         (version_change_of change) → ⊥ }
     ensures same { OnErr result (kept_objects objects.new.items
         ≡ kept_objects objects.old.items) }
-    ensures live { count_by (λ o. o.is_live) objects.new.items
-        ≡ count_by (λ o. o.is_live) objects.old.items }
+    ensures live { live_in objects.new.items ≡ live_in objects.old.items }
     ensures names { KeepsNames objects.old.items objects.new.items }
 {
     let id = change.id;
@@ -151,8 +150,7 @@ fn take_version_back(objects: &mut Vec<StoredObject>, pushed: Pushed)
     ensures back { kept_objects objects.new.items
         ≡ changed_at (kept_objects objects.old.items)
         pushed.id (object_taken_back pushed.next_row) }
-    ensures live { count_by (λ o. o.is_live) objects.new.items
-        ≡ count_by (λ o. o.is_live) objects.old.items }
+    ensures live { live_in objects.new.items ≡ live_in objects.old.items }
     ensures names { KeepsNames objects.old.items objects.new.items }
 {
     let Some(place) = place_of(objects, pushed.id) else {

@@ -7,8 +7,7 @@ use wh_value::{Column, ColumnType, Text};
 impl Catalog {
     ghost use Rattle.std.specs.Prelude.{◌≡◌, ℕ, ◌++◌, ◌∷◌, [], is_some, OnOk, IfOk, IfSome};
     ghost use Rattle.std.specs.Prelude.{IsErrOf};
-    ghost use Rattle.wh_state.specs.State.{at_id};
-    ghost use Rattle.wh_state.specs.Stored.{stored_columns_at};
+    ghost use Rattle.wh_state.specs.State.{at_id, columns_at};
     ghost use Rattle.wh_state.specs.Commit.{StreamApplies, changed, CreatesStream};
     ghost use Rattle.wh_record.specs.View.{stream_change_of};
     ghost use Rattle.wh_table.specs.Table.{table_of};
@@ -54,7 +53,7 @@ impl Catalog {
     fn live_table(&self, id: u32) -> Option<&StoredTable>
         ensures found { is_some result ≡ is_live_table (at_id (objects_of self.now) id) }
         ensures columns { IfSome result (λ t. (table_of t.now).columns
-            ≡ stored_columns_at (objects_of self.now) id) }
+            ≡ columns_at (objects_of self.now) id) }
     {
         let object = self.object(id)?;
         if !object.is_live {

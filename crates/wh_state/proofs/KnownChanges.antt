@@ -6,8 +6,8 @@ use Rattle.std.specs.Prelude.{codes}
 use Rattle.std.specs.FinMap.{empty, insert, values}
 use Rattle.wh_value.specs.Value.{Number, Row}
 use Rattle.wh_value.specs.Column.{NumberType}
-use Rattle.wh_state.specs.State.{Contents, Table, TableKind, State, Version, nothing_held, version_at}
-use Rattle.wh_state.specs.State.{last_rows, last_partitions}
+use Rattle.wh_state.specs.State.{Contents, Table, TableKind, State, Version, nothing_held, version_at, last_rows}
+use Rattle.wh_state.specs.State.{last_partitions}
 use Rattle.wh_state.specs.Edits.{Edits, rows_after, partitions_made}
 use Rattle.wh_state.specs.Act.{edited_table}
 use Rattle.wh_state.proofs.KnownMaps.{map_steps}

@@ -3,20 +3,19 @@
 --     sound_rest                   so is a sound state as the file keeps it
 --     IsWithin, AreWithin          offsets that move aren't after a stamp
 --     sound_done                   a commit of edits and then other acts at a later stamp
-use Rattle.std.proofs.Common.{◌≡◌, ℕ, suc, ◌+◌, ◌<◌, ◌≤◌, ◌⊎◌, inl, inr, List, [], ◌∷◌, length}
-use Rattle.std.proofs.Common.{Option, Some, None, option_map, refl, sym, subst, arith}
+use Rattle.std.proofs.Common.{◌≡◌, ℕ, suc, ◌+◌, ◌<◌, ◌≤◌, ◌⊎◌, inl, inr, List, [], ◌∷◌, length, Option, Some, None}
+use Rattle.std.proofs.Common.{option_map, refl, sym, subst, arith}
 use Rattle.std.specs.List.{AllByRecursion}
 use Rattle.std.specs.FinMap.{get}
 use Rattle.std.proofs.lemmas.Bool.{cases_lt}
 use Rattle.wh_value.specs.Value.{Row}
 use Rattle.wh_value.specs.Column.{Column}
-use Rattle.wh_state.specs.State.{Version, Table, Kind, TableKind, StreamKind, Object, State, nothing_held}
-use Rattle.wh_state.specs.State.{new_table}
+use Rattle.wh_state.specs.State.{Version, Table, Kind, TableKind, StreamKind, Object, State, nothing_held, new_table}
 use Rattle.wh_state.specs.State.{dropped, version_at, last_rows, first_state, at_rest, at_id, put_at}
 use Rattle.wh_state.specs.Edits.{Edits}
 use Rattle.wh_state.specs.Act.{Act, MakesTable, DropsObject, EditsRows, MakesStream, MovesOffset, next_contents}
-use Rattle.wh_state.specs.Act.{edited_table, edited_kind, edited_object, moved_kind, moved_object, acted}
-use Rattle.wh_state.specs.Act.{all_acted, done}
+use Rattle.wh_state.specs.Act.{edited_table, edited_kind, edited_object, moved_kind, moved_object, acted, all_acted}
+use Rattle.wh_state.specs.Act.{done}
 use Rattle.wh_state.specs.Sound.{IsTimely, IsBelow, IsSoundTable, IsSoundKind, IsSoundObject, Sound}
 use Rattle.wh_state.proofs.AllLaws.{all_map, all_more, all_at, all_with, all_changed_at}
 use Rattle.wh_state.proofs.IdLaws.{at_other}
@@ -197,6 +196,7 @@ pub sound_done : (s : State) → s.committed < s.last → Sound s → (acts : Li
 sound_done s later sound acts shape within = record {
   ordered = omega arith;
   objects = acts_sound s.committed s.last 0 later s.objects acts shape within
-      (all_map (IsSoundObject s.committed) (IsSoundObject s.last) (λ o h. kind_later s.committed s.last (omega (arith, later)) o.kind h)
+      (all_map (IsSoundObject s.committed) (IsSoundObject s.last)
+      (λ o h. kind_later s.committed s.last (omega (arith, later)) o.kind h)
       s.objects sound.objects) (sound_from s.committed s.objects sound.objects);
 }

@@ -5,9 +5,9 @@
 use Rattle.std.specs.Prelude.{ℕ, ◌+◌, Bool, List, [], ◌∷◌, ◌++◌, length}
 use Rattle.wh_value.specs.Column.{Column}
 use Rattle.wh_frame.specs.Partition.{Partition}
-use Rattle.wh_state.specs.State.{State, Kind, TableKind, StreamKind, Object, Table, Contents, nothing_held}
-use Rattle.wh_state.specs.State.{new_table, new_object, new_stream, with_offset, dropped, version_at, columns_at}
-use Rattle.wh_state.specs.State.{on_table, on_stream, last_content, last_partitions, changed_at}
+use Rattle.wh_state.specs.State.{State, Kind, TableKind, StreamKind, Object, Table, Contents, nothing_held, new_table}
+use Rattle.wh_state.specs.State.{new_object, new_stream, with_offset, dropped, version_at, columns_at, on_table}
+use Rattle.wh_state.specs.State.{on_stream, last_content, last_partitions, changed_at}
 use Rattle.wh_state.specs.Edits.{Edits, partitions_made, contents_after}
 
 pub data Act : Type 0 where

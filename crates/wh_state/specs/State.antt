@@ -4,13 +4,14 @@
 --     Contents                 what a version of the machine holds: its rows, by row number, and the
 --                              partitions that they are written in
 --     Stream                   the changes of a table behind an offset
+--     KindOf                   what an object is: a table, or a stream
+--     on_table, table_in       what is done to the table of a kind, and the table that it has
+--     on_stream, stream_in     the same of streams
+--     columns_in, columns_at   the columns of an object
 --     Version, Table, Kind, Object, State     those of the machine
 --     at_rest, stamped         a state as the file keeps it, and at another stamp
 --     at_id, changed_at        an object's id is its place in order of creation, from 1
 --     id_of                    the id of the live object of a name
---     on_table, table_in       what is done to the table of a kind, and the table that it has
---     on_stream, stream_in     the same of streams
---     columns_in, columns_at   the columns of an object
 use Rattle.std.specs.Prelude.{ℕ, zero, suc, ◌+◌, Bool, true, false, ◌&&◌, List, [], ◌∷◌, Option, Some, None, option_map}
 use Rattle.std.specs.Prelude.{◌++◌, slice_get, slice_set, bytes_eq, count_by, codes}
 use Rattle.std.specs.List.{position}
@@ -137,6 +138,38 @@ new_stream source is_append_only offset columns = record {
 abbrev pub with_offset : ℕ → Stream → Stream
 with_offset offset s = record s { offset = offset }
 
+-- ---- kinds
+
+pub data KindOf (Table : Type 0) : Type 0 where
+  TableKind : Table → KindOf Table
+  StreamKind : Stream → KindOf Table
+
+-- its table changed, if it has one
+abbrev pub on_table : {T U : Type 0} → (T → U) → KindOf T → KindOf U
+on_table f (TableKind t) = TableKind (f t)
+on_table f (StreamKind s) = StreamKind s
+
+abbrev pub table_in : {T : Type 0} → KindOf T → Option T
+table_in (TableKind t) = Some t
+table_in (StreamKind s) = None
+
+-- its stream changed, if it is one
+abbrev pub on_stream : {T : Type 0} → (Stream → Stream) → KindOf T → KindOf T
+on_stream f (TableKind t) = TableKind t
+on_stream f (StreamKind s) = StreamKind (f s)
+
+abbrev pub stream_in : {T : Type 0} → KindOf T → Option Stream
+stream_in (TableKind t) = None
+stream_in (StreamKind s) = Some s
+
+abbrev pub columns_in : {Content : Type 0} → KindOf (TableOf Content) → List Column
+columns_in (TableKind t) = t.columns
+columns_in (StreamKind s) = s.columns
+
+-- none where there is no such object
+abbrev pub columns_at : {Content : Type 0} → List (ObjectOf (KindOf (TableOf Content))) → ℕ → List Column
+columns_at objects id = option_map_or (λ o. columns_in o.kind) (at_id objects id) []
+
 -- ---- the machine's
 
 -- rows by row number
@@ -157,38 +190,11 @@ Version = VersionOf Contents
 abbrev pub Table : Type 0
 Table = TableOf Contents
 
-pub data Kind : Type 0 where
-  TableKind : Table → Kind
-  StreamKind : Stream → Kind
+abbrev pub Kind : Type 0
+Kind = KindOf Table
 
 abbrev pub Object : Type 0
 Object = ObjectOf Kind
-
--- its table changed, if it has one
-abbrev pub on_table : (Table → Table) → Kind → Kind
-on_table f (TableKind t) = TableKind (f t)
-on_table f k = k
-
-abbrev pub table_in : Kind → Option Table
-table_in (TableKind t) = Some t
-table_in _ = None
-
--- its stream changed, if it is one
-abbrev pub on_stream : (Stream → Stream) → Kind → Kind
-on_stream f (StreamKind s) = StreamKind (f s)
-on_stream f k = k
-
-abbrev pub stream_in : Kind → Option Stream
-stream_in (StreamKind s) = Some s
-stream_in _ = None
-
-abbrev pub columns_in : Kind → List Column
-columns_in (TableKind t) = t.columns
-columns_in (StreamKind s) = s.columns
-
--- none where there is no such object
-abbrev pub columns_at : List Object → ℕ → List Column
-columns_at objects id = option_map_or (λ o. columns_in o.kind) (at_id objects id) []
 
 -- the greatest stamp so far, that of the last commit, and the objects in order of creation
 pub record State : Type 0 where
