@@ -45,7 +45,7 @@ ghost use Rattle.wh_value.specs.declared.limit.Limit.TheVariants as limits;
 ghost use Rattle.wh_value.specs.View.{column_of};
 ghost use Rattle.wh_part.specs.View.{numbered_of};
 ghost use Rattle.wh_version.specs.Kept.{numbered_from};
-ghost use Rattle.wh_version.specs.History.{versions_of, standing_in};
+ghost use Rattle.wh_version.specs.History.{versions_of, standing_in, partitions_of};
 ghost use Rattle.wh_state.specs.Edits.{without};
 ghost use Rattle.wh_table.specs.Apart.{all_apart, highest_number};
 ghost use Rattle.wh_table.specs.Conditions.{is_standing_number, entry_fits, partition_fits};
@@ -113,20 +113,21 @@ fn entry_fits(columns: &[Column], next_row: u64, entry: &NumberedRow) -> bool
     row_fits(columns, &entry.row) && entry.number < next_row
 }
 
-/// Whether each partition that is added is apart from those that stand and stay, none of whose row
-/// numbers is above the highest, and from those before it.
+/// Whether each partition that is added is apart from those that stand and stay, and from those
+/// before it. The highest row number of all versions spares comparing each with each.
 pub(crate) fn are_apart(
     highest: u64,
     history: &History,
     removed: &[u64],
     added: &[Partition],
 ) -> bool
-    requires { highest_number (standing_in (versions_of history.now)) ≤ highest }
+    requires { highest ≡ highest_number (partitions_of history.now) }
     ensures { result
         ≡ all_apart (without removed.now (standing_in (versions_of history.now))) added.now }
 {
     // Rows are added in rising order, so that each is seldom compared with those that stand.
-    rise_above(highest, added) || compared_apart(history.kept(), removed, added)
+    let kept = history.kept();
+    rise_above(highest, added) || compared_apart(kept, removed, added)
 }
 
 fn rise_above(bound: u64, partitions: &[Partition]) -> bool

@@ -1,4 +1,4 @@
-use crate::numbers::{highest_of, highest_standing};
+use crate::numbers::{highest_kept, highest_of};
 use crate::{StageFault, StoredTable};
 use std::alloc::AllocError;
 use wh_record::VersionChange;
@@ -57,6 +57,6 @@ impl StoredTable {
     {
         self.history.pop();
         self.next_row = next_row;
-        self.highest = highest_standing(&self.history);
+        self.highest = highest_kept(&self.history);
     }
 }

@@ -1,8 +1,8 @@
-ghost use Rattle.std.specs.Prelude.{◌≤◌, length, IsTrue};
+ghost use Rattle.std.specs.Prelude.{◌≡◌, ◌≤◌, length, IsTrue};
 ghost use Rattle.std.specs.List.{list_all};
 ghost use Rattle.wh_value.specs.Limit.{bound};
 ghost use Rattle.wh_value.specs.declared.limit.Limit.TheVariants as limits;
-ghost use Rattle.wh_version.specs.History.{versions_of, standing_in};
+ghost use Rattle.wh_version.specs.History.{versions_of, partitions_of};
 ghost use Rattle.wh_table.specs.Apart.{highest_number, is_apart, is_rising};
 
 use std::alloc::Global;
@@ -17,12 +17,12 @@ pub struct StoredTable {
     pub(crate) columns: Vec<Column>,
     pub(crate) retention: u8,
     pub(crate) next_row: u64,
-    /// No row of the last version has a number above it.
+    /// The highest row number of all versions; 0 where none has a row.
     pub(crate) highest: u64,
     pub(crate) history: History,
     ghost few_columns: { length columns.items ≤ bound limits.Columns },
     ghost row_numbers: { next_row ≤ bound limits.RowNumber },
-    ghost highest_row: { highest_number (standing_in (versions_of history)) ≤ highest },
+    ghost highest_row: { highest ≡ highest_number (partitions_of history) },
     ghost apart: { IsTrue (list_all is_apart (versions_of history)) },
     ghost rising: { IsTrue (list_all is_rising (versions_of history)) },
 }

@@ -25,12 +25,14 @@ impl History {
     ghost use Rattle.std.specs.List.{list_any};
     ghost use Rattle.wh_state.specs.State.{version_at, last_of};
     ghost use Rattle.wh_version.specs.Kept.{is_standing, partitions_in};
-    ghost use Rattle.wh_version.specs.History.{versions_of, nexts_of, standing_in, next_in};
+    ghost use Rattle.wh_version.specs.History.{versions_of, nexts_of, standing_in, partitions_of};
+    ghost use Rattle.wh_version.specs.History.{next_in};
 
     /// One version, with nothing in it. Takes no memory.
     pub fn new(alloc: Global, stamp: u64) -> History
         ensures versions { versions_of result ≡ version_at stamp [] ∷ [] }
         ensures nexts { nexts_of result ≡ 1 ∷ [] }
+        ensures partitions { partitions_of result ≡ [] }
     {
         let first = VersionMark {
             stamp,
@@ -75,7 +77,8 @@ impl History {
 
     /// Each partition of each version, by rising number.
     pub fn kept(&self) -> &[Kept]
-        ensures { partitions_in (filter is_standing result.now)
+        ensures kept { partitions_in result.now ≡ partitions_of self.now }
+        ensures standing { partitions_in (filter is_standing result.now)
             ≡ standing_in (versions_of self.now) }
     {
         self.kept.as_slice()
