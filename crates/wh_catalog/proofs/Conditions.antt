@@ -1,6 +1,5 @@
 -- The tests say whether a new object applies.
-use Rattle.std.proofs.Common.{◌≡◌, ℕ, ◌+◌, ◌<◌, ◌≤◌, Bool, true, false, List, length}
-use Rattle.std.proofs.Common.{Option, Some, None, refl}
+use Rattle.std.proofs.Common.{◌≡◌, ℕ, ◌+◌, ◌<◌, ◌≤◌, Bool, true, false, List, length, Option, Some, None, refl}
 use Rattle.std.specs.Bool.{Decides}
 use Rattle.std.specs.Prelude.{not, is_some, IsNone}
 use Rattle.std.specs.List.{AllByRecursion}
@@ -9,11 +8,12 @@ use Rattle.std.proofs.lemmas.Bool.Decides.{Decides-and, Decides-eqb, Decides-ltb
 use Rattle.wh_value.specs.Column.{Column}
 use Rattle.wh_value.specs.Limit.{bound}
 use Rattle.wh_value.specs.declared.limit.Limit.TheVariants as limits
-use Rattle.wh_state.specs.State.{id_of, live_count}
-use Rattle.wh_state.specs.Stored.{StoredKind, StoredTableKind, StoredStreamKind, StoredObject}
+use Rattle.wh_state.specs.State.{id_of, live_count, TableKind, StreamKind}
+use Rattle.wh_state.specs.Objects.{is_table}
+use Rattle.wh_state.specs.Stored.{StoredKind, StoredObject}
 use Rattle.wh_state.specs.Commit.{TableChange, IsStoredName, IsNewObject, TableApplies, IsTableKind, IsLiveTable}
 use Rattle.wh_catalog.specs.Conditions.{is_stored_name, is_stored_column, are_stored_columns, is_new_object}
-use Rattle.wh_catalog.specs.Conditions.{table_applies, is_table_kind, is_live_table}
+use Rattle.wh_catalog.specs.Conditions.{table_applies, is_live_table}
 use Rattle.wh_table.proofs.Apart.{Decides-list_all}
 use Rattle.wh_table.proofs.Conditions.{Decides-leb}
 
@@ -45,9 +45,9 @@ Decides-new_object objects id name =
     (Decides-and _ _ (Decides-ltb (live_count objects) (bound limits.Objects))
     (Decides-and _ _ (Decides-none (id_of name objects)) (Decides-name name))))
 
-Decides-table_kind : (k : StoredKind) → Decides (is_table_kind k) (IsTableKind k)
-Decides-table_kind (StoredTableKind t) = (λ _. tt, λ _. refl)
-Decides-table_kind (StoredStreamKind s) = (λ is. cc, λ never. absurd never)
+Decides-table_kind : (k : StoredKind) → Decides (is_table k) (IsTableKind k)
+Decides-table_kind (TableKind t) = (λ _. tt, λ _. refl)
+Decides-table_kind (StreamKind s) = (λ is. cc, λ never. absurd never)
 
 pub Decides-live_table : (o : Option StoredObject) → Decides (is_live_table o) (IsLiveTable o)
 Decides-live_table None = (λ is. cc, λ never. absurd never)

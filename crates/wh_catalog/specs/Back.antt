@@ -3,23 +3,21 @@
 use Rattle.std.specs.Prelude.{ℕ, true, ◌&&◌, List, map, nat_lt, if◌then◌else◌}
 use Rattle.wh_value.specs.Limit.{bound}
 use Rattle.wh_value.specs.declared.limit.Limit.TheVariants as limits
-use Rattle.wh_state.specs.State.{with_offset, changed_at, live_count}
+use Rattle.wh_state.specs.State.{on_table, on_stream, with_offset, changed_at, live_count}
 use Rattle.wh_table.specs.Kept.{taken_back}
-use Rattle.wh_catalog.specs.Kept.{KeptKind, KeptTableKind, KeptStreamKind, KeptObject}
+use Rattle.wh_catalog.specs.Kept.{KeptKind, KeptObject}
 use Rattle.wh_catalog.specs.Names.{is_last}
 
 -- a table without its last version; the next row is that of before
 abbrev pub kind_taken_back : ℕ → KeptKind → KeptKind
-kind_taken_back next_row (KeptTableKind t) = KeptTableKind (taken_back next_row t)
-kind_taken_back next_row (KeptStreamKind s) = KeptStreamKind s
+kind_taken_back next_row k = on_table (taken_back next_row) k
 
 abbrev pub object_taken_back : ℕ → KeptObject → KeptObject
 object_taken_back next_row o = record o { kind = kind_taken_back next_row o.kind }
 
 -- a stream with the offset of before
 abbrev pub kind_put_back : ℕ → KeptKind → KeptKind
-kind_put_back offset (KeptTableKind t) = KeptTableKind t
-kind_put_back offset (KeptStreamKind s) = KeptStreamKind (with_offset offset s)
+kind_put_back offset k = on_stream (with_offset offset) k
 
 abbrev pub object_put_back : ℕ → KeptObject → KeptObject
 object_put_back offset o = record o { kind = kind_put_back offset o.kind }

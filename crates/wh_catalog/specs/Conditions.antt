@@ -2,14 +2,15 @@
 --     is_new_object       whether an id and a name are those of a new object
 --     table_applies       whether a new table applies
 --     is_live_table       whether an object is a table that lives, as the source of a new stream is
-use Rattle.std.specs.Prelude.{ℕ, ◌+◌, Bool, not, true, false, ◌&&◌, ◌==◌, List, length}
-use Rattle.std.specs.Prelude.{Option, Some, None, is_some, nat_lt, nat_le}
+use Rattle.std.specs.Prelude.{ℕ, ◌+◌, Bool, not, false, ◌&&◌, ◌==◌, List, length, Option, Some, None, is_some, nat_lt}
+use Rattle.std.specs.Prelude.{nat_le}
 use Rattle.std.specs.List.{list_all}
 use Rattle.wh_value.specs.Column.{Column}
 use Rattle.wh_value.specs.Limit.{bound}
 use Rattle.wh_value.specs.declared.limit.Limit.TheVariants as limits
 use Rattle.wh_state.specs.State.{id_of, live_count}
-use Rattle.wh_state.specs.Stored.{StoredKind, StoredTableKind, StoredStreamKind, StoredObject}
+use Rattle.wh_state.specs.Objects.{is_table}
+use Rattle.wh_state.specs.Stored.{StoredObject}
 use Rattle.wh_state.specs.Commit.{TableChange}
 
 abbrev pub is_stored_name : List ℕ → Bool
@@ -33,10 +34,6 @@ table_applies objects c =
     is_new_object objects c.id c.name
     && (nat_le c.retention (bound limits.Retention) && are_stored_columns c.columns)
 
-abbrev pub is_table_kind : StoredKind → Bool
-is_table_kind (StoredTableKind t) = true
-is_table_kind (StoredStreamKind s) = false
-
 abbrev pub is_live_table : Option StoredObject → Bool
 is_live_table None = false
-is_live_table (Some o) = o.is_live && is_table_kind o.kind
+is_live_table (Some o) = o.is_live && is_table o.kind

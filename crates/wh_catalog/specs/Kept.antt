@@ -1,20 +1,18 @@
 -- Objects with what it takes to take a table's version back.
 --     KeptKind, KeptObject      what an object is, and the object
 --     kind_in, object_in        what the file says of it
-use Rattle.wh_state.specs.State.{ObjectOf, Stream}
-use Rattle.wh_state.specs.Stored.{StoredKind, StoredTableKind, StoredStreamKind, StoredObject}
+use Rattle.wh_state.specs.State.{ObjectOf, KindOf, on_table}
+use Rattle.wh_state.specs.Stored.{StoredKind, StoredObject}
 use Rattle.wh_table.specs.Kept.{KeptTable, table_in}
 
-pub data KeptKind : Type 0 where
-  KeptTableKind : KeptTable → KeptKind
-  KeptStreamKind : Stream → KeptKind
+abbrev pub KeptKind : Type 0
+KeptKind = KindOf KeptTable
 
 abbrev pub KeptObject : Type 0
 KeptObject = ObjectOf KeptKind
 
 abbrev pub kind_in : KeptKind → StoredKind
-kind_in (KeptTableKind t) = StoredTableKind (table_in t)
-kind_in (KeptStreamKind s) = StoredStreamKind s
+kind_in k = on_table table_in k
 
 abbrev pub object_in : KeptObject → StoredObject
-object_in o = record { name = o.name; is_live = o.is_live; created = o.created; kind = kind_in o.kind }
+object_in o = record { name = o.name; is_live = o.is_live; kind = kind_in o.kind }

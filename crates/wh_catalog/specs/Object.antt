@@ -1,28 +1,36 @@
 -- What objects of the code stand for, and where they stand.
 --     kept_object, kept_objects     objects with what it takes to take a version back
---     stored_objects                what the file says of them
+--     stored_kind, stored_objects   what the file says of them
+--     live_in                       how many live
 --     IsPlaceOf                     where the object of an id stands
-use Rattle.std.specs.Prelude.{◌≡◌, ℕ, suc, ◌<◌, List, map, length}
+use Rattle.std.specs.Prelude.{◌≡◌, ℕ, suc, ◌<◌, List, map, length, count_by}
+use Rattle.wh_state.specs.State.{TableKind, StreamKind}
 use Rattle.wh_state.specs.Stored as machine
 use Rattle.wh_table.specs.Table.{kept_table}
 use Rattle.wh_catalog.specs.declared.object.StoredKind.{StoredKind}
 use Rattle.wh_catalog.specs.declared.object.StoredKind.TheVariants.{Table, Stream}
 use Rattle.wh_catalog.specs.declared.object.StoredObject.{StoredObject}
-use Rattle.wh_catalog.specs.Kept.{KeptKind, KeptTableKind, KeptStreamKind, KeptObject, object_in}
+use Rattle.wh_catalog.specs.Kept.{KeptKind, KeptObject, kind_in, object_in}
 use Rattle.wh_catalog.specs.Stream.{stream_of}
 
 abbrev pub kept_kind : StoredKind → KeptKind
-kept_kind (Table t) = KeptTableKind (kept_table t)
-kept_kind (Stream s) = KeptStreamKind (stream_of s)
+kept_kind (Table t) = TableKind (kept_table t)
+kept_kind (Stream s) = StreamKind (stream_of s)
+
+abbrev pub stored_kind : StoredKind → machine.StoredKind
+stored_kind k = kind_in (kept_kind k)
 
 abbrev pub kept_object : StoredObject → KeptObject
-kept_object o = record { name = o.name; is_live = o.is_live; created = o.created; kind = kept_kind o.kind }
+kept_object o = record { name = o.name; is_live = o.is_live; kind = kept_kind o.kind }
 
 abbrev pub kept_objects : List StoredObject → List KeptObject
 kept_objects objects = map kept_object objects
 
 abbrev pub stored_objects : List StoredObject → List machine.StoredObject
 stored_objects objects = map object_in (kept_objects objects)
+
+abbrev pub live_in : List StoredObject → ℕ
+live_in objects = count_by (λ o. o.is_live) objects
 
 -- ids begin at 1, places at 0
 pub record IsPlaceOf (id : ℕ) (objects : List StoredObject) (place : ℕ) : Type 0 where

@@ -22,7 +22,8 @@ impl Catalog {
         ensures applies { OnOk result (ChangeApplies (objects_of self.old) (change_of change)) }
         ensures changed { OnOk result (objects_of self.new
             ≡ changed stamp (objects_of self.old) (change_of change)) }
-        ensures back { IfOk result (λ step. step_undone step (kept_of self.new) ≡ kept_of self.old) }
+        ensures back { IfOk result (λ step. step_undone step (kept_of self.new)
+            ≡ kept_of self.old) }
         ensures not_applicable { IsErrOf result StageFault.NotApplicable
             → ChangeApplies (objects_of self.old) (change_of change) → ⊥ }
         ensures same { OnErr result (kept_of self.new ≡ kept_of self.old) }
@@ -39,7 +40,7 @@ impl Catalog {
             Change::PushesVersion(change) => push_version(&mut self.objects, change, stamp),
             Change::CreatesStream(change) => {
                 let id = change.id;
-                let stream = self.new_stream(change, stamp)?;
+                let stream = self.new_stream(change)?;
                 self.add_object(id, stream)
             }
             Change::SetsOffset { id, offset } => set_offset(&mut self.objects, id, offset),
@@ -51,7 +52,8 @@ impl Catalog {
         requires { IsNewObject (objects_of self.old) id object.name }
         ensures changed { OnOk result (objects_of self.new
             ≡ objects_of self.old ++ object_in (kept_object object) ∷ []) }
-        ensures back { IfOk result (λ step. step_undone step (kept_of self.new) ≡ kept_of self.old) }
+        ensures back { IfOk result (λ step. step_undone step (kept_of self.new)
+            ≡ kept_of self.old) }
         ensures memory { IsErrOf result StageFault.NotApplicable → ⊥ }
         ensures same { OnErr result (kept_of self.new ≡ kept_of self.old) }
         ensures last { self.new.last ≡ self.old.last }
@@ -88,7 +90,7 @@ impl Catalog {
         }
     }
 
-    // The last object goes. Its name has the id again of the last one before it that was made under it.
+    // The last object goes. Its name has the id again of the last one of that name before it.
     fn take_object_back(&mut self)
         ensures back { kept_of self.new ≡ but_last (kept_of self.old) }
         ensures last { self.new.last ≡ self.old.last }
@@ -102,11 +104,11 @@ impl Catalog {
     }
 }
 
-ghost use Rattle.std.specs.Prelude.{◌≡◌, count_by, OnOk, OnErr, IfOk, IsErrOf};
+ghost use Rattle.std.specs.Prelude.{◌≡◌, OnOk, OnErr, IfOk, IsErrOf};
 ghost use Rattle.wh_state.specs.State.{at_id, changed_at};
 ghost use Rattle.wh_state.specs.Commit.{FitsObject, pushed_object};
 ghost use Rattle.wh_record.specs.View.{version_change_of};
-ghost use Rattle.wh_catalog.specs.Object.{kept_objects, stored_objects};
+ghost use Rattle.wh_catalog.specs.Object.{kept_objects, stored_objects, live_in};
 ghost use Rattle.wh_catalog.specs.Names.{KeepsNames};
 ghost use Rattle.wh_catalog.specs.Back.{object_taken_back};
 ghost use Rattle.wh_catalog.specs.Undo.{step_undone};
@@ -130,8 +132,7 @@ fn push_version(
         (version_change_of change) → ⊥ }
     ensures same { OnErr result (kept_objects objects.new.items
         ≡ kept_objects objects.old.items) }
-    ensures live { count_by (λ o. o.is_live) objects.new.items
-        ≡ count_by (λ o. o.is_live) objects.old.items }
+    ensures live { live_in objects.new.items ≡ live_in objects.old.items }
     ensures names { KeepsNames objects.old.items objects.new.items }
 {
     let id = change.id;
@@ -147,9 +148,9 @@ fn push_version(
 
 fn take_version_back(objects: &mut Vec<StoredObject>, pushed: Pushed)
     ensures back { kept_objects objects.new.items
-        ≡ changed_at (kept_objects objects.old.items) pushed.id (object_taken_back pushed.next_row) }
-    ensures live { count_by (λ o. o.is_live) objects.new.items
-        ≡ count_by (λ o. o.is_live) objects.old.items }
+        ≡ changed_at (kept_objects objects.old.items)
+        pushed.id (object_taken_back pushed.next_row) }
+    ensures live { live_in objects.new.items ≡ live_in objects.old.items }
     ensures names { KeepsNames objects.old.items objects.new.items }
 {
     let Some(place) = place_of(objects, pushed.id) else {

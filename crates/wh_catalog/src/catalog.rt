@@ -1,7 +1,8 @@
-ghost use Rattle.std.specs.Prelude.{◌≡◌, ◌≤◌, ◌<◌, ℕ, List, length, count_by};
+ghost use Rattle.std.specs.Prelude.{◌≡◌, ◌≤◌, ◌<◌, ℕ, List, length};
 ghost use Rattle.wh_value.specs.Limit.{bound};
 ghost use Rattle.wh_value.specs.declared.limit.Limit.TheVariants as limits;
 ghost use Rattle.wh_catalog.specs.Names.{names_of, last_id, AreLast, AreLast-prop, id_at};
+ghost use Rattle.wh_catalog.specs.Object.{live_in};
 
 use crate::object::place_of;
 use crate::{StoredObject, StoredStream};
@@ -21,7 +22,7 @@ pub struct Catalog {
     ghost stamps: { last < bound limits.Stamp },
     ghost order: { committed ≤ last },
     ghost ids: { length objects.items ≤ bound limits.ObjectIds },
-    ghost live: { count_by (λ o. o.is_live) objects.items ≤ bound limits.Objects },
+    ghost live: { live_in objects.items ≤ bound limits.Objects },
     ghost named: { (name : List ℕ) → id_at names name ≡ last_id name (names_of objects.items) },
     ghost unique: { AreLast objects.items } by { AreLast-prop objects.items },
 }
@@ -37,7 +38,8 @@ impl Catalog {
     ghost use Rattle.wh_table.specs.Table.{table_of};
     ghost use Rattle.wh_catalog.specs.Object.{kept_object};
     ghost use Rattle.wh_catalog.specs.Names.{names_of, is_last, last_id};
-    ghost use Rattle.wh_catalog.specs.Catalog.{stored_of, state_of, stored_table_at, stored_stream_at};
+    ghost use Rattle.wh_state.specs.Objects.{table_at, stream_at};
+    ghost use Rattle.wh_catalog.specs.Catalog.{stored_of, state_of};
     ghost use Rattle.wh_catalog.specs.Stream.{stream_of};
     ghost use Rattle.wh_state.specs.State.{at_id};
 
@@ -141,7 +143,7 @@ impl Catalog {
     /// The table of an id. None where the object is no table.
     pub fn table(&self, id: u32) -> Option<&StoredTable>
         ensures { option_map (λ t. table_of t.now) result
-            ≡ stored_table_at (stored_of self.now).objects id }
+            ≡ table_at (stored_of self.now).objects id }
     {
         let object = self.object(id)?;
         object.table()
@@ -150,7 +152,7 @@ impl Catalog {
     /// The stream of an id. None where the object is no stream.
     pub fn stream(&self, id: u32) -> Option<&StoredStream>
         ensures { option_map (λ s. stream_of s.now) result
-            ≡ stored_stream_at (stored_of self.now).objects id }
+            ≡ stream_at (stored_of self.now).objects id }
     {
         let object = self.object(id)?;
         object.stream()

@@ -1,8 +1,8 @@
 //! Offsets of streams.
-ghost use Rattle.std.specs.Prelude.{◌≡◌, count_by, OnOk, OnErr, IfOk, IsErrOf};
+ghost use Rattle.std.specs.Prelude.{◌≡◌, OnOk, OnErr, IfOk, IsErrOf};
 ghost use Rattle.wh_state.specs.State.{at_id, changed_at};
 ghost use Rattle.wh_state.specs.Commit.{OffsetApplies, offset_set};
-ghost use Rattle.wh_catalog.specs.Object.{kept_objects, stored_objects};
+ghost use Rattle.wh_catalog.specs.Object.{kept_objects, stored_objects, live_in};
 ghost use Rattle.wh_catalog.specs.Names.{KeepsNames};
 ghost use Rattle.wh_catalog.specs.Back.{object_put_back};
 ghost use Rattle.wh_catalog.specs.Undo.{step_undone};
@@ -27,8 +27,7 @@ pub(crate) fn set_offset(
         → OffsetApplies (at_id (stored_objects objects.old.items) id) offset → ⊥ }
     ensures same { OnErr result (kept_objects objects.new.items
         ≡ kept_objects objects.old.items) }
-    ensures live { count_by (λ o. o.is_live) objects.new.items
-        ≡ count_by (λ o. o.is_live) objects.old.items }
+    ensures live { live_in objects.new.items ≡ live_in objects.old.items }
     ensures names { KeepsNames objects.old.items objects.new.items }
 {
     let Some(place) = place_of(objects, id) else {
@@ -45,8 +44,7 @@ pub(crate) fn set_offset(
 pub(crate) fn put_offset_back(objects: &mut Vec<StoredObject>, id: u32, offset: u64)
     ensures back { kept_objects objects.new.items
         ≡ changed_at (kept_objects objects.old.items) id (object_put_back offset) }
-    ensures live { count_by (λ o. o.is_live) objects.new.items
-        ≡ count_by (λ o. o.is_live) objects.old.items }
+    ensures live { live_in objects.new.items ≡ live_in objects.old.items }
     ensures names { KeepsNames objects.old.items objects.new.items }
 {
     let Some(place) = place_of(objects, id) else {
@@ -63,9 +61,10 @@ impl StoredObject {
     ghost use Rattle.wh_catalog.specs.Object.{kept_object};
     ghost use Rattle.wh_catalog.specs.Back.{object_put_back};
 
-    // Sets the offset of a stream that lives, if it doesn't fall. The result is the offset of before.
+    // Sets the offset of a stream that lives, if it doesn't fall. The result is that of before.
     fn set_offset(&mut self, offset: u64) -> Result<u64, StageFault>
-        ensures applies { OnOk result (OffsetApplies (Some (object_in (kept_object self.old))) offset) }
+        ensures applies { OnOk result (OffsetApplies
+            (Some (object_in (kept_object self.old))) offset) }
         ensures set { OnOk result (object_in (kept_object self.new)
             ≡ offset_set offset (object_in (kept_object self.old))) }
         ensures back { IfOk result (λ before. object_put_back before (kept_object self.new)

@@ -18,7 +18,8 @@ impl Catalog {
         change: TableChange,
         stamp: u64,
     ) -> Result<StoredObject, StageFault>
-        ensures applies { OnOk result (TableApplies (objects_of self.now) (table_change_of change)) }
+        ensures applies { OnOk result (TableApplies (objects_of self.now)
+            (table_change_of change)) }
         ensures made { IfOk result (λ made. objects_of self.now ++ object_in (kept_object made) ∷ []
             ≡ changed stamp (objects_of self.now) (CreatesTable (table_change_of change))) }
         ensures named { IfOk result (λ made. made.name ≡ change.name) }
@@ -32,7 +33,6 @@ impl Catalog {
         Ok(StoredObject {
             name: change.name,
             is_live: true,
-            created: stamp,
             kind: StoredKind::Table(table),
         })
     }

@@ -1,10 +1,10 @@
 //! Objects that are dropped, and that live again.
-ghost use Rattle.std.specs.Prelude.{◌≡◌, ◌≤◌, ◌+◌, true, count_by, OnOk, OnErr, IfOk, IsErrOf};
+ghost use Rattle.std.specs.Prelude.{◌≡◌, ◌≤◌, ◌+◌, true, OnOk, OnErr, IfOk, IsErrOf};
 ghost use Rattle.wh_value.specs.Limit.{bound};
 ghost use Rattle.wh_value.specs.declared.limit.Limit.TheVariants as limits;
 ghost use Rattle.wh_state.specs.State.{at_id, changed_at, dropped};
 ghost use Rattle.wh_state.specs.Commit.{IsLiveObject};
-ghost use Rattle.wh_catalog.specs.Object.{kept_objects, stored_objects};
+ghost use Rattle.wh_catalog.specs.Object.{kept_objects, stored_objects, live_in};
 ghost use Rattle.wh_catalog.specs.Names.{names_of, is_last, AreLast, KeepsNames};
 ghost use Rattle.wh_catalog.specs.Back.{alive};
 ghost use Rattle.wh_catalog.specs.Undo.{step_undone};
@@ -15,7 +15,7 @@ use crate::{StageFault, StoredObject};
 
 /// Drops the object of an id, if it lives.
 pub(crate) fn drop_object(objects: &mut Vec<StoredObject>, id: u32) -> Result<Step, StageFault>
-    requires live { count_by (λ o. o.is_live) objects.old.items ≤ bound limits.Objects }
+    requires live { live_in objects.old.items ≤ bound limits.Objects }
     requires last { AreLast objects.old.items }
     ensures applies { OnOk result (IsLiveObject
         (at_id (stored_objects objects.old.items) id)) }
@@ -27,8 +27,7 @@ pub(crate) fn drop_object(objects: &mut Vec<StoredObject>, id: u32) -> Result<St
         → IsLiveObject (at_id (stored_objects objects.old.items) id) → ⊥ }
     ensures same { OnErr result (kept_objects objects.new.items
         ≡ kept_objects objects.old.items) }
-    ensures live { count_by (λ o. o.is_live) objects.new.items
-        ≤ count_by (λ o. o.is_live) objects.old.items }
+    ensures live { live_in objects.new.items ≤ live_in objects.old.items }
     ensures names { KeepsNames objects.old.items objects.new.items }
 {
     let Some(place) = place_of(objects, id) else {
@@ -47,8 +46,7 @@ pub(crate) fn revive(objects: &mut Vec<StoredObject>, id: u32)
     requires { is_last id (names_of objects.old.items) ≡ true }
     ensures back { kept_objects objects.new.items
         ≡ changed_at (kept_objects objects.old.items) id alive }
-    ensures live { count_by (λ o. o.is_live) objects.new.items
-        ≤ count_by (λ o. o.is_live) objects.old.items + 1 }
+    ensures live { live_in objects.new.items ≤ live_in objects.old.items + 1 }
     ensures names { KeepsNames objects.old.items objects.new.items }
 {
     let Some(place) = place_of(objects, id) else {

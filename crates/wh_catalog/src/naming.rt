@@ -1,5 +1,6 @@
 //! The ids of names.
-ghost use Rattle.std.specs.Prelude.{◌≡◌, ◌≤◌, ℕ, Some, List, cond, length, bytes_eq, IsSome, OnOk, OnErr};
+ghost use Rattle.std.specs.Prelude.{◌≡◌, ◌≤◌, ℕ, Some, List, cond, length, bytes_eq, IsSome, OnOk};
+ghost use Rattle.std.specs.Prelude.{OnErr};
 ghost use Rattle.wh_value.specs.Limit.{bound};
 ghost use Rattle.wh_value.specs.declared.limit.Limit.TheVariants as limits;
 ghost use Rattle.wh_catalog.specs.Names.{id_at, last_id, names_of};

@@ -7,7 +7,6 @@ use wh_value::Text;
 pub struct StoredObject {
     pub(crate) name: Text,
     pub(crate) is_live: bool,
-    pub(crate) created: u64,
     pub(crate) kind: StoredKind,
 }
 
@@ -21,9 +20,9 @@ pub enum StoredKind {
 impl StoredObject {
     ghost use Rattle.std.specs.Prelude.{◌≡◌, option_map};
     ghost use Rattle.wh_table.specs.Table.{table_of};
-    ghost use Rattle.wh_catalog.specs.Kept.{kind_in};
+    ghost use Rattle.wh_state.specs.State.{table_in, stream_in};
+    ghost use Rattle.wh_catalog.specs.Kept.{object_in};
     ghost use Rattle.wh_catalog.specs.Stream.{stream_of};
-    ghost use Rattle.wh_catalog.specs.Catalog.{table_in_kind, stream_in_kind};
     ghost use Rattle.wh_catalog.specs.Object.{kept_kind, kept_object};
 
     /// The name that it has, or had.
@@ -46,18 +45,42 @@ impl StoredObject {
     }
 
     pub(crate) fn table(&self) -> Option<&StoredTable>
-        ensures { option_map (λ t. table_of t.now) result ≡ table_in_kind (kind_in (kept_kind self.now.kind)) }
+        ensures { option_map (λ t. table_of t.now) result
+            ≡ table_in (object_in (kept_object self.now)).kind }
     {
-        match &self.kind {
+        self.kind.table()
+    }
+
+    pub(crate) fn stream(&self) -> Option<&StoredStream>
+        ensures { option_map (λ s. stream_of s.now) result
+            ≡ stream_in (object_in (kept_object self.now)).kind }
+    {
+        self.kind.stream()
+    }
+}
+
+impl StoredKind {
+    ghost use Rattle.std.specs.Prelude.{◌≡◌, option_map};
+    ghost use Rattle.wh_state.specs.State.{table_in, stream_in};
+    ghost use Rattle.wh_table.specs.Table.{table_of};
+    ghost use Rattle.wh_catalog.specs.Stream.{stream_of};
+    ghost use Rattle.wh_catalog.specs.Object.{stored_kind};
+
+    /// The table that it is, if it is one.
+    pub fn table(&self) -> Option<&StoredTable>
+        ensures { option_map (λ t. table_of t.now) result ≡ table_in (stored_kind self.now) }
+    {
+        match self {
             StoredKind::Table(table) => Some(table),
             StoredKind::Stream(_) => None,
         }
     }
 
-    pub(crate) fn stream(&self) -> Option<&StoredStream>
-        ensures { option_map (λ s. stream_of s.now) result ≡ stream_in_kind (kind_in (kept_kind self.now.kind)) }
+    /// The stream that it is, if it is one.
+    pub fn stream(&self) -> Option<&StoredStream>
+        ensures { option_map (λ s. stream_of s.now) result ≡ stream_in (stored_kind self.now) }
     {
-        match &self.kind {
+        match self {
             StoredKind::Table(_) => None,
             StoredKind::Stream(stream) => Some(stream),
         }

@@ -14,7 +14,8 @@ impl Catalog {
     /// takes it back.
     pub fn stage(&mut self, commit: Commit) -> Result<Undo, StageFault>
         ensures applies { OnOk result (Applies (stored_of self.old) (commit_of commit)) }
-        ensures applied { OnOk result (stored_of self.new ≡ applied (stored_of self.old) (commit_of commit)) }
+        ensures applied { OnOk result (stored_of self.new
+            ≡ applied (stored_of self.old) (commit_of commit)) }
         ensures last { OnOk result ((state_of self.new).last ≡ commit.stamp) }
         ensures undoes { IfOk result (λ undo. Undoes undo self.new self.old) }
 
@@ -56,7 +57,8 @@ impl Catalog {
         steps: &mut Vec<Step>,
     ) -> Result<(), StageFault>
         requires { steps.old.items ≡ [] }
-        ensures apply { OnOk result (AllApply stamp (objects_of self.old) (map change_of changes.items)) }
+        ensures apply { OnOk result (AllApply stamp (objects_of self.old)
+            (map change_of changes.items)) }
         ensures changed { OnOk result (objects_of self.new
             ≡ all_changed stamp (objects_of self.old) (map change_of changes.items)) }
         ensures not_applicable { IsErrOf result StageFault.NotApplicable

@@ -5,9 +5,9 @@ use wh_record::StreamChange;
 use wh_value::{Column, ColumnType, Text};
 
 impl Catalog {
-    ghost use Rattle.std.specs.Prelude.{◌≡◌, ◌++◌, ◌∷◌, [], is_some, OnOk, IfOk, IfSome, IsErrOf};
-    ghost use Rattle.wh_state.specs.State.{at_id};
-    ghost use Rattle.wh_state.specs.Stored.{stored_columns_at};
+    ghost use Rattle.std.specs.Prelude.{◌≡◌, ℕ, ◌++◌, ◌∷◌, [], is_some, OnOk, IfOk, IfSome};
+    ghost use Rattle.std.specs.Prelude.{IsErrOf};
+    ghost use Rattle.wh_state.specs.State.{at_id, columns_at};
     ghost use Rattle.wh_state.specs.Commit.{StreamApplies, changed, CreatesStream};
     ghost use Rattle.wh_record.specs.View.{stream_change_of};
     ghost use Rattle.wh_table.specs.Table.{table_of};
@@ -17,13 +17,11 @@ impl Catalog {
     ghost use Rattle.wh_catalog.specs.Catalog.{objects_of};
 
     /// The stream of a change, if it applies.
-    pub(crate) fn new_stream(
-        &self,
-        change: StreamChange,
-        stamp: u64,
-    ) -> Result<StoredObject, StageFault>
-        ensures applies { OnOk result (StreamApplies (objects_of self.now) (stream_change_of change)) }
-        ensures made { IfOk result (λ made. objects_of self.now ++ object_in (kept_object made) ∷ []
+    pub(crate) fn new_stream(&self, change: StreamChange) -> Result<StoredObject, StageFault>
+        ensures applies { OnOk result (StreamApplies (objects_of self.now)
+            (stream_change_of change)) }
+        ensures made { IfOk result (λ made. (stamp : ℕ)
+            → objects_of self.now ++ object_in (kept_object made) ∷ []
             ≡ changed stamp (objects_of self.now) (CreatesStream (stream_change_of change))) }
         ensures named { IfOk result (λ made. made.name ≡ change.name) }
         ensures not_applicable { IsErrOf result StageFault.NotApplicable
@@ -47,7 +45,6 @@ impl Catalog {
         Ok(StoredObject {
             name: change.name,
             is_live: true,
-            created: stamp,
             kind: StoredKind::Stream(stream),
         })
     }
@@ -56,7 +53,7 @@ impl Catalog {
     fn live_table(&self, id: u32) -> Option<&StoredTable>
         ensures found { is_some result ≡ is_live_table (at_id (objects_of self.now) id) }
         ensures columns { IfSome result (λ t. (table_of t.now).columns
-            ≡ stored_columns_at (objects_of self.now) id) }
+            ≡ columns_at (objects_of self.now) id) }
     {
         let object = self.object(id)?;
         if !object.is_live {

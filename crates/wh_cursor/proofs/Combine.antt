@@ -2,7 +2,7 @@
 --     expect_.., sees_.., read_..        `_some`: where it reads, the token stands there;
 --                                        `_reads`, `_is`: it reads the token
 --     then_.., if_eaten_..               the step in front of the others, and behind a token that may stand there
---     not_that_word, not_that_key        a word or a sign isn't seen where another token stands, or none
+--     not_that_key, other_word, .._no_.. a word or a sign isn't seen where another token stands, or none
 --     given-.., end-..                   what takes nothing
 --     name_..                            names, and that each takes a token at least
 use Rattle.std.proofs.Common.{◌≡◌, ℕ, ◌<◌, Bool, true, false, if◌then◌else◌, List, [], ◌∷◌, length, Option, Some, None}
@@ -85,38 +85,6 @@ pub sees_key_some : (key : Key) (t : Token) (ts : List Token) → fixed key ≡ 
     → ts ≡ t ∷ tail ts
 sees_key_some key t ts is h = subst (λ (o : Option Token). Heads o ts) is (heads key ts h)
 
-pub expect_key_some : (key : Key) (t : Token) (ts : List Token) {u : Unit {0}} {us : List Token} → fixed key ≡ Some t
-    → expect_key key ts ≡ Some (u, us)
-    → ts ≡ t ∷ us
-unfolding expect_key
-expect_key_some key t ts is h =
-    let both = expect_by (sees key ts) ts h in
-    sees_key_some key t ts is both.0 ∙ ap (λ (us : List Token). t ∷ us) both.1
-
-pub lparen_some : (ts : List Token) {u : Unit {0}} {us : List Token} → expect_key k.LParen ts ≡ Some (u, us)
-    → ts ≡ SignToken token.LParen ∷ us
-lparen_some ts h = expect_key_some k.LParen _ ts refl h
-
-pub rparen_some : (ts : List Token) {u : Unit {0}} {us : List Token} → expect_key k.RParen ts ≡ Some (u, us)
-    → ts ≡ SignToken token.RParen ∷ us
-rparen_some ts h = expect_key_some k.RParen _ ts refl h
-
-pub comma_some : (ts : List Token) {u : Unit {0}} {us : List Token} → expect_key k.Comma ts ≡ Some (u, us)
-    → ts ≡ SignToken token.Comma ∷ us
-comma_some ts h = expect_key_some k.Comma _ ts refl h
-
-pub dot_some : (ts : List Token) {u : Unit {0}} {us : List Token} → expect_key k.Dot ts ≡ Some (u, us)
-    → ts ≡ SignToken token.Dot ∷ us
-dot_some ts h = expect_key_some k.Dot _ ts refl h
-
-pub star_some : (ts : List Token) {u : Unit {0}} {us : List Token} → expect_key k.Star ts ≡ Some (u, us)
-    → ts ≡ SignToken token.Star ∷ us
-star_some ts h = expect_key_some k.Star _ ts refl h
-
-pub equal_some : (ts : List Token) {u : Unit {0}} {us : List Token} → expect_key k.Equal ts ≡ Some (u, us)
-    → ts ≡ SignToken token.Equal ∷ us
-equal_some ts h = expect_key_some k.Equal _ ts refl h
-
 pub then_expect_key : {B : Type 0} (key : Key) (ts : List Token) (f : Unit {0} → Reader B) {Q : B → List Token → Type 0}
     → (Heads (fixed key) ts → Yields (f tt (tail ts)) Q) → Yields (and_then (expect_key key ts) f) Q
 unfolding expect_key
@@ -183,15 +151,6 @@ lparen_reads us = expect_key_reads k.LParen _ us refl
 pub rparen_reads : (us : List Token) → expect_key k.RParen (SignToken token.RParen ∷ us) ≡ Some (tt, us)
 rparen_reads us = expect_key_reads k.RParen _ us refl
 
-pub comma_reads : (us : List Token) → expect_key k.Comma (SignToken token.Comma ∷ us) ≡ Some (tt, us)
-comma_reads us = expect_key_reads k.Comma _ us refl
-
-pub dot_reads : (us : List Token) → expect_key k.Dot (SignToken token.Dot ∷ us) ≡ Some (tt, us)
-dot_reads us = expect_key_reads k.Dot _ us refl
-
-pub star_reads : (us : List Token) → expect_key k.Star (SignToken token.Star ∷ us) ≡ Some (tt, us)
-star_reads us = expect_key_reads k.Star _ us refl
-
 pub equal_reads : (us : List Token) → expect_key k.Equal (SignToken token.Equal ∷ us) ≡ Some (tt, us)
 equal_reads us = expect_key_reads k.Equal _ us refl
 
@@ -230,9 +189,6 @@ false_unless : (r : Bool) → (r ≡ true → ⊥) → r ≡ false
 false_unless true h = absurd (h refl)
 false_unless false h = refl
 
-pub not_that_word : (w : List ℕ) (ts : List Token) → Lacks (Word w) ts → sees_word w ts ≡ false
-not_that_word w ts h = false_unless (sees_word w ts) (λ r. h (sees_word_some w ts r))
-
 pub not_that_key : (key : Key) (t : Token) (ts : List Token) → fixed key ≡ Some t → Lacks t ts → sees key ts ≡ false
 not_that_key key t ts is h = false_unless (sees key ts) (λ r. h (sees_key_some key t ts is r))
 
@@ -245,48 +201,18 @@ pub end_no_word : (w : List ℕ) → sees_word w [] ≡ false
 unfolding sees_word
 end_no_word w = refl
 
-pub quoted_no_word : (w name : List ℕ) (us : List Token) → sees_word w (Quoted name ∷ us) ≡ false
-unfolding sees_word
-quoted_no_word w name us = refl
-
 pub text_no_word : (w bytes : List ℕ) (us : List Token) → sees_word w (TextToken bytes ∷ us) ≡ false
 unfolding sees_word
 text_no_word w bytes us = refl
-
-pub number_no_word : (w : List ℕ) (n : ℕ) (us : List Token) → sees_word w (NumberToken n ∷ us) ≡ false
-unfolding sees_word
-number_no_word w n us = refl
 
 pub sign_no_word : (w : List ℕ) (s : token.Sign) (us : List Token) → sees_word w (SignToken s ∷ us) ≡ false
 unfolding sees_word
 sign_no_word w s us = refl
 
-pub end_no_key : (key : Key) (t : Token) → fixed key ≡ Some t → sees key [] ≡ false
-end_no_key key t is = not_that_key key t [] is (λ e. cc)
-
 -- a word is no sign, and another word isn't that one
 pub word_no_sign : (key : Key) (s : token.Sign) (v : List ℕ) (us : List Token) → fixed key ≡ Some (SignToken s)
     → sees key (Word v ∷ us) ≡ false
 word_no_sign key s v us is = not_that_key key (SignToken s) (Word v ∷ us) is (λ e. cc)
-
-pub word_no_key : (key : Key) (w v : List ℕ) (us : List Token) → fixed key ≡ Some (Word w) → bytes_eq v w ≡ false
-    → sees key (Word v ∷ us) ≡ false
-word_no_key key w v us is other = not_that_key key (Word w) (Word v ∷ us) is
-    (λ e. let same : v ≡ w = cc in let k = sym other ∙ (bytes_eq-Decides v w).1 same in cc)
-
-pub quoted_no_key : (key : Key) (name : List ℕ) (us : List Token) (t : Token) → fixed key ≡ Some t
-    → sees key (Quoted name ∷ us) ≡ false
-unfolding sees same_key key_of
-quoted_no_key key name us t is = by key is
-  where
-    by : (key : Key) → fixed key ≡ Some t → sees key (Quoted name ∷ us) ≡ false
-    by k.Name is = absurd (cc)
-    by _ is = refl
-
--- a sign is no word, and another sign isn't that one
-pub sign_no_key : (key : Key) (w : List ℕ) (s : token.Sign) (us : List Token) → fixed key ≡ Some (Word w)
-    → sees key (SignToken s ∷ us) ≡ false
-sign_no_key key w s us is = not_that_key key (Word w) (SignToken s ∷ us) is (λ e. cc)
 
 -- ---- a token that carries something
 
@@ -341,9 +267,6 @@ pub number-yields : (ts : List Token) → Yields (read_number ts) (λ n us. ts �
 number-yields ts = yields_law (λ n us h. read_number_some ts h)
 
 -- ---- names
-
-pub name_some : {ts us : List Token} {name : List ℕ} → read_name ts ≡ Some (name, us) → IsName ts name us
-name_some h = name_sound _ _ _ h
 
 pub name_reads : {ts us : List Token} {name : List ℕ} → IsName ts name us → read_name ts ≡ Some (name, us)
 name_reads h = name-complete h

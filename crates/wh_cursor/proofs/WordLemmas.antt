@@ -1,5 +1,6 @@
 -- Lemmas on words.
-use Rattle.std.proofs.Common.{◌≡◌, ℕ, ◌||◌, ◌==◌, Bool, true, false, List, [], ◌∷◌, length, filter, map, refl, sym, ap, ◌∙◌}
+use Rattle.std.proofs.Common.{◌≡◌, ℕ, ◌||◌, ◌==◌, Bool, true, false, List, [], ◌∷◌, length, filter, map}
+use Rattle.std.proofs.Common.{refl, sym, ap, ◌∙◌}
 use Rattle.std.proofs.Common.{Decides, bytes_eq}
 use Rattle.std.proofs.lemmas.Bool.{eqb-false}
 use Rattle.std.proofs.lemmas.Slice.Eq.{bytes_eq-Decides}
@@ -7,7 +8,8 @@ use Rattle.std.specs.List.{list_any}
 use Rattle.std.specs.Cmp.Lexicographic.{nat_list_eq_equiv}
 use Rattle.wh_grammar.specs.Words.{is_reserved, reserved_words}
 
-pub any_map : {X Y : Type 0} (f : Y → Bool) (g : X → Y) (xs : List X) → list_any (λ x. f (g x)) xs ≡ list_any f (map g xs)
+pub any_map : {X Y : Type 0} (f : Y → Bool) (g : X → Y) (xs : List X)
+    → list_any (λ x. f (g x)) xs ≡ list_any f (map g xs)
 any_map f g [] = refl
 any_map f g (x ∷ xs) = ap (λ others. f (g x) || others) (any_map f g xs)
 

@@ -1,6 +1,6 @@
 -- What holds of a reader's outcome, step by step, over any state: the goal says which lemma serves. Soundness goes from
 -- an outcome to what stands at the front, completeness from what stands there to the outcome.
---     Bound, bind_some, bind_reads       one step after the other
+--     Bound, bind_some                   one step after the other
 --     Yields, follow, mapped             what holds of an outcome
 --     yields_law, yielded                from a reading function's law, and to it
 use Rattle.std.proofs.Common.{◌≡◌, Bool, true, false, Option, Some, None, refl, ap, subst, if◌then◌else◌}
@@ -20,10 +20,6 @@ pub bind_some : {S A B : Type 0} (read : Option (A × S)) (f : A → ReaderOf S 
     → and_then read f ≡ Some (y, us) → Bound read f y us
 bind_some None f h = absurd (cc)
 bind_some (Some p) f h = record { value = p.0; left = p.1; first = refl; next = h }
-
-pub bind_reads : {S A B : Type 0} {read : Option (A × S)} (f : A → ReaderOf S B) {x : A} {ms : S} → read ≡ Some (x, ms)
-    → and_then read f ≡ f x ms
-bind_reads f h = rw h refl
 
 pub pure_some : {S A : Type 0} {x y : A} {ts us : S}
     → ◌≡◌ {A = Option (A × S)} (Some (x, ts)) (Some (y, us)) → (x ≡ y) × (ts ≡ us)
@@ -86,10 +82,3 @@ pub if_test : {S A : Type 0} (r : Bool) {x y : Option (A × S)} {Q : A → S →
     → (r ≡ false → Yields y Q) → Yields (if r then x else y) Q
 if_test true g h = g refl
 if_test false g h = h refl
-
--- the same, where readers stand behind it
-pub if_readers : {S A : Type 0} (r : Bool) (p q : ReaderOf S A) {ts : S} {Q : A → S → Type 0}
-    → (r ≡ true → Yields (p ts) Q) → (r ≡ false → Yields (q ts) Q)
-    → Yields ((if r then p else q) ts) Q
-if_readers true p q g h = g refl
-if_readers false p q g h = h refl

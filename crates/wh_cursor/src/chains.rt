@@ -29,7 +29,8 @@ pub fn joined<
     requires operand_callable { Operand.IsAlwaysCallable operand.now }
     requires join_callable { Join.IsAlwaysCallable join.now }
     ensures { (links : Links S T O)
-        → ReadsLinks links (Operator.post operator.now) (Operand.post operand.now) (Join.post join.now)
+        → ReadsLinks links (Operator.post operator.now) (Operand.post operand.now)
+        (Join.post join.now)
         → Reads (spec.joined links most first tokens.old) result tokens.new }
 {
     let mut left = first;

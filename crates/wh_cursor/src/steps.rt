@@ -58,7 +58,8 @@ impl<'a> Words<'a> {
     /// Takes it, if it comes next.
     pub fn eat_word(&mut self, word: &[u8]) -> bool
         ensures found { result ≡ spec.sees_word word.now self.old }
-        ensures after { self.new ≡ (if spec.sees_word word.now self.old then tail self.old else self.old) }
+        ensures after { self.new
+            ≡ (if spec.sees_word word.now self.old then tail self.old else self.old) }
     {
         let found = self.sees_word(word);
         if found {

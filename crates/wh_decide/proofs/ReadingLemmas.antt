@@ -15,13 +15,14 @@ use Rattle.wh_state.specs.Objects.{name_at, is_kind_at, is_stream, stream_at}
 use Rattle.wh_machine.specs.Transaction.{Transaction, start_at}
 use Rattle.wh_net.specs.Stream.{is_gone}
 use Rattle.wh_machine.specs.Reading.{least_from, least, stale_refusal, reading_refusal}
-use Rattle.wh_catalog.specs.Catalog.{stored_of, state_of, stored_stream_at}
+use Rattle.wh_catalog.specs.Catalog.{stored_of, state_of}
 use Rattle.wh_catalog.specs.Kept.{object_in}
 use Rattle.wh_catalog.specs.Object.{kept_object}
 use Rattle.wh_catalog.specs.declared.catalog.Catalog.{Catalog}
 use Rattle.wh_catalog.specs.declared.object.StoredObject.{StoredObject}
 use Rattle.wh_decide.specs.Sources.{lower}
-use Rattle.wh_decide.proofs.CatalogLemmas.{object_there, stream_there}
+use Rattle.wh_txn.proofs.SeenLemmas.{catalog_stream}
+use Rattle.wh_decide.proofs.CatalogLemmas.{object_there}
 use Rattle.wh_decide.proofs.ListLemmas.{some_is}
 
 pub start_open : (stamp : ℕ) (found : Option Transaction) (number : ℕ)
@@ -86,8 +87,8 @@ name_missing c id is =
 -- ---- streams
 
 pub is_stream_at : (c : Catalog) (id : ℕ)
-    → is_some (stored_stream_at (stored_of c).objects id) ≡ is_kind_at is_stream (state_of c).objects id
-is_stream_at c id = ap is_some (sym (stream_there c id)) ∙ by_object (at_id (state_of c).objects id) refl
+    → is_some (stream_at (stored_of c).objects id) ≡ is_kind_at is_stream (state_of c).objects id
+is_stream_at c id = ap is_some (sym (catalog_stream c id)) ∙ by_object (at_id (state_of c).objects id) refl
   where
     objects : List Object
     objects = (state_of c).objects

@@ -18,11 +18,11 @@ use Rattle.wh_machine.specs.Queries.{table_bag}
 use Rattle.wh_net.specs.Stream.{rows_shown}
 use Rattle.wh_machine.specs.Transaction.{Transaction, seen}
 use Rattle.wh_machine.specs.Reading.{object_rows, kind_rows}
-use Rattle.wh_catalog.specs.Catalog.{stored_of, state_of, stored_stream_at}
+use Rattle.wh_catalog.specs.Catalog.{stored_of, state_of}
 use Rattle.wh_catalog.specs.declared.catalog.Catalog.{Catalog}
 use Rattle.wh_decide.specs.declared.sources.SourceSeen.{SourceSeen}
 use Rattle.wh_decide.specs.Sources.{IsSeenAs, AreSeenAs, IsRowsOf, AreRowsOf}
-use Rattle.wh_decide.proofs.CatalogLemmas.{stream_there}
+use Rattle.wh_txn.proofs.SeenLemmas.{catalog_stream}
 use Rattle.wh_decide.proofs.ListLemmas.{some_is}
 use Rattle.wh_decide.proofs.SeenLemmas.{seen_missing}
 
@@ -63,18 +63,18 @@ found_table s t start id is = by_object (at_id s.objects id) refl
     by_object (Some o) there = by_kind o o.kind there refl
 
 pub stream_rows : (c : Catalog) (before : List Object) (start id : ℕ) (s : Stream)
-    → stored_stream_at (stored_of c).objects id ≡ Some s
+    → stream_at (stored_of c).objects id ≡ Some s
     → object_rows (state_of c).objects before start id (at_id (state_of c).objects id)
     ≡ bag_of (rows_shown (state_of c).objects s start)
-stream_rows c before start id s is = found_stream (state_of c).objects before start id s (stream_there c id ∙ is)
+stream_rows c before start id s is = found_stream (state_of c).objects before start id s (catalog_stream c id ∙ is)
 
 -- at a stamp
 pub table_rows : (c : Catalog) (s : State) (t : Option Transaction) (start id : ℕ)
-    → s.objects ≡ (state_of c).objects → stored_stream_at (stored_of c).objects id ≡ None
+    → s.objects ≡ (state_of c).objects → stream_at (stored_of c).objects id ≡ None
     → object_rows s.objects (seen s t).objects start id (at_id s.objects id)
     ≡ table_bag (table_at (seen s t).objects id)
 table_rows c s t start id same is =
-    found_table s t start id (ap (λ (objects : List Object). stream_at objects id) same ∙ stream_there c id ∙ is)
+    found_table s t start id (ap (λ (objects : List Object). stream_at objects id) same ∙ catalog_stream c id ∙ is)
 
 -- ---- several
 

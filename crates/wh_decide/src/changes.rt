@@ -6,7 +6,8 @@ ghost use Rattle.wh_state.specs.Objects.{table_at};
 ghost use Rattle.wh_machine.specs.Changes.{Gives, given_on};
 ghost use Rattle.wh_machine.specs.Reading.{instance_read};
 ghost use Rattle.wh_machine.specs.Statements as machine;
-ghost use Rattle.wh_catalog.specs.Catalog.{stored_of, stored_table_at};
+ghost use Rattle.wh_state.specs.Objects.{table_at};
+ghost use Rattle.wh_catalog.specs.Catalog.{stored_of};
 ghost use Rattle.wh_table.specs.Table.{table_of};
 ghost use Rattle.wh_decide.specs.Changes.{comes_to};
 ghost use Rattle.wh_decide.specs.Sight.{machine_in, objects_seen, Comes};
@@ -82,7 +83,7 @@ fn settle(
     table: &StoredTable,
     effect: Effect,
 ) -> Result<Decision, AllocError>
-    requires { stored_table_at (stored_of sight.now.catalog.now).objects bound.now.target
+    requires { table_at (stored_of sight.now.catalog.now).objects bound.now.target
         ≡ Some (table_of table.now) }
     ensures { IfOk result (λ decision. Comes sight.now decision
         (comes_to sight.now (Gives bound.now.target streams.items

@@ -6,8 +6,7 @@ ghost use Rattle.wh_naming.specs.View.{named_of};
 ghost use Rattle.wh_state.specs.State as state;
 ghost use Rattle.wh_state.specs.Stored.{kind_meant};
 ghost use Rattle.wh_machine.specs.Names as machine;
-ghost use Rattle.wh_catalog.specs.Kept.{kind_in};
-ghost use Rattle.wh_catalog.specs.Object.{kept_kind};
+ghost use Rattle.wh_catalog.specs.Object.{stored_kind};
 ghost use Rattle.wh_catalog.specs.Catalog.{state_of};
 ghost use Rattle.wh_decide.specs.Names.{object_of, live_name};
 
@@ -58,7 +57,7 @@ fn named(id: u32, object: &StoredObject) -> Named<'_>
 }
 
 fn kind_of(kind: &StoredKind) -> ObjectKind
-    ensures { view.kind_of result ≡ machine.object_kind (kind_meant (kind_in (kept_kind kind.now))) }
+    ensures { view.kind_of result ≡ machine.object_kind (kind_meant (stored_kind kind.now)) }
 {
     match kind {
         StoredKind::Table(_) => ObjectKind::Table,
@@ -68,7 +67,7 @@ fn kind_of(kind: &StoredKind) -> ObjectKind
 
 fn columns_in(kind: &StoredKind) -> &[Column]
     ensures { map column_of result.now
-        ≡ state.columns_in (kind_meant (kind_in (kept_kind kind.now))) }
+        ≡ state.columns_in (kind_meant (stored_kind kind.now)) }
 {
     match kind {
         StoredKind::Table(table) => table.columns(),

@@ -16,9 +16,6 @@ use Rattle.wh_expr_parse.proofs.Soundness.{read_sound}
 use Rattle.wh_expr_parse.proofs.Completeness.{read_complete}
 use Rattle.wh_expr_parse.proofs.Fronts.{expr-front}
 
-pub expr_some : {d : ℕ} {ts us : List Token} {x : Expr} → read_expr d ts ≡ Some (x, us) → IsExprAt d ts x us
-expr_some h = read_sound _ _ _ _ h
-
 pub expr_reads : {d : ℕ} {ts us : List Token} {x : Expr} → IsExpr d ts x us → binds us ≡ 0
     → read_expr d ts ≡ Some (x, us)
 expr_reads h e = read_complete _ _ _ _ (record { expr = h; ends = e })

@@ -259,10 +259,6 @@ module _ (inner : Level → Reader Expr) where
   unfolding primary
   refuses-minus ts room h = rw h refl
 
-  other_key : (ts : List Token) (key other : Key) → key_of ts ≡ key → same_key key other ≡ false → sees other ts ≡ false
-  unfolding sees
-  other_key ts key other h d = rw h d
-
   refuses-not : (ts : List Token) (room : ℕ) → key_of ts ≡ k.Not → predicate inner (at ts room) ≡ None
   unfolding predicate sum product unary primary sees same_key
   refuses-not ts room h = rw h (rw h refl)

@@ -1,4 +1,4 @@
-//! The rules take the reader of what stands inside as a parameter, so that each is proved by itself.
+//! The rules take the reader of what stands inside as a parameter: so each is proved by itself.
 
 ghost use Rattle.wh_cursor.specs.Gives.{Reads};
 ghost use Rattle.wh_expr_parse.specs.Read as spec;
@@ -42,7 +42,8 @@ impl<F: Fn(Global, &mut Tokens<'_>, usize, Level) -> Result<Boxed<Expr>, ParseFa
 
     fn level(&self, tokens: &mut Tokens<'_>, level: Level) -> Result<Boxed<Expr>, ParseFault>
         requires { Nests self.now.depth (F.pre self.now.inner) (F.post self.now.inner) }
-        ensures { Reads (spec.level (spec.nested self.now.depth) level tokens.old) result tokens.new }
+        ensures { Reads
+            (spec.level (spec.nested self.now.depth) level tokens.old) result tokens.new }
     {
         match level {
             Level::Whole => self.whole(tokens),

@@ -54,7 +54,8 @@ impl<F: Fn(Global, &mut Tokens<'_>, usize, Level) -> Result<Boxed<Expr>, ParseFa
     #[tactic(auto, unfolding(crate::specs::Read::conjunction, crate::specs::Read::operand))]
     fn conjunction(&self, tokens: &mut Tokens<'_>) -> Result<Boxed<Expr>, ParseFault>
         requires { Nests self.now.depth (F.pre self.now.inner) (F.post self.now.inner) }
-        ensures { Reads (spec.conjunction (spec.nested self.now.depth) tokens.old) result tokens.new }
+        ensures { Reads
+            (spec.conjunction (spec.nested self.now.depth) tokens.old) result tokens.new }
     {
         self.chain(tokens, 2, &|tokens| self.negation(tokens))
     }

@@ -15,7 +15,8 @@ use wh_value::Value;
 /// The number or the text that the tokens begin with.
 #[tactic(auto, unfolding(crate::specs::Read::read_literal))]
 pub fn literal_at(alloc: Global, tokens: &[Token]) -> Result<Expr, ParseFault>
-    ensures { Reads (spec.read_literal (tokens_of tokens.now)) result (tail (tokens_of tokens.now)) }
+    ensures { Reads
+        (spec.read_literal (tokens_of tokens.now)) result (tail (tokens_of tokens.now)) }
 {
     match tokens {
         [] => Err(ParseFault::SyntaxError),

@@ -30,8 +30,8 @@ impl<F: Fn(Global, &mut Tokens<'_>, usize, Level) -> Result<Boxed<Expr>, ParseFa
         x: Boxed<Expr>,
     ) -> Result<Boxed<Expr>, ParseFault>
         requires { Nests self.now.depth (F.pre self.now.inner) (F.post self.now.inner) }
-        ensures { Reads (spec.test_by (spec.nested self.now.depth) x (key_of tokens.old.left) tokens.old)
-            result tokens.new }
+        ensures { Reads (spec.test_by (spec.nested self.now.depth) x
+            (key_of tokens.old.left) tokens.old) result tokens.new }
     {
         match tokens.key() {
             Key::Equal => self.compared(tokens, x, Comparison::Equal),
@@ -56,7 +56,8 @@ impl<F: Fn(Global, &mut Tokens<'_>, usize, Level) -> Result<Boxed<Expr>, ParseFa
         comparison: Comparison,
     ) -> Result<Boxed<Expr>, ParseFault>
         requires { Nests self.now.depth (F.pre self.now.inner) (F.post self.now.inner) }
-        ensures { Reads (spec.compared (spec.nested self.now.depth) x comparison tokens.old) result tokens.new }
+        ensures { Reads
+            (spec.compared (spec.nested self.now.depth) x comparison tokens.old) result tokens.new }
     {
         tokens.skip();
         tokens.spend()?;
@@ -68,7 +69,8 @@ impl<F: Fn(Global, &mut Tokens<'_>, usize, Level) -> Result<Boxed<Expr>, ParseFa
     #[tactic(auto, unfolding(crate::specs::Read::null_test))]
     fn null_test(&self, tokens: &mut Tokens<'_>, x: Boxed<Expr>) -> Result<Boxed<Expr>, ParseFault>
         requires { Nests self.now.depth (F.pre self.now.inner) (F.post self.now.inner) }
-        ensures { Reads (spec.null_test (spec.nested self.now.depth) x tokens.old) result tokens.new }
+        ensures { Reads
+            (spec.null_test (spec.nested self.now.depth) x tokens.old) result tokens.new }
     {
         tokens.skip();
         let negated = tokens.eat(Key::Not);
@@ -84,7 +86,8 @@ impl<F: Fn(Global, &mut Tokens<'_>, usize, Level) -> Result<Boxed<Expr>, ParseFa
         x: Boxed<Expr>,
     ) -> Result<Boxed<Expr>, ParseFault>
         requires { Nests self.now.depth (F.pre self.now.inner) (F.post self.now.inner) }
-        ensures { Reads (spec.negated_test (spec.nested self.now.depth) x tokens.old) result tokens.new }
+        ensures { Reads
+            (spec.negated_test (spec.nested self.now.depth) x tokens.old) result tokens.new }
     {
         tokens.skip();
         match tokens.key() {
@@ -102,7 +105,8 @@ impl<F: Fn(Global, &mut Tokens<'_>, usize, Level) -> Result<Boxed<Expr>, ParseFa
         x: Boxed<Expr>,
     ) -> Result<Boxed<Expr>, ParseFault>
         requires { Nests self.now.depth (F.pre self.now.inner) (F.post self.now.inner) }
-        ensures { Reads (spec.among (spec.nested self.now.depth) negated x tokens.old) result tokens.new }
+        ensures { Reads
+            (spec.among (spec.nested self.now.depth) negated x tokens.old) result tokens.new }
     {
         tokens.skip();
         tokens.expect(Key::LParen)?;
@@ -136,7 +140,8 @@ impl<F: Fn(Global, &mut Tokens<'_>, usize, Level) -> Result<Boxed<Expr>, ParseFa
         x: Boxed<Expr>,
     ) -> Result<Boxed<Expr>, ParseFault>
         requires { Nests self.now.depth (F.pre self.now.inner) (F.post self.now.inner) }
-        ensures { Reads (spec.between (spec.nested self.now.depth) negated x tokens.old) result tokens.new }
+        ensures { Reads
+            (spec.between (spec.nested self.now.depth) negated x tokens.old) result tokens.new }
     {
         tokens.skip();
         tokens.spend()?;

@@ -83,7 +83,8 @@ impl<F: Fn(Global, &mut Tokens<'_>, usize, Level) -> Result<Boxed<Expr>, ParseFa
     #[tactic(auto, unfolding(crate::specs::Read::parenthesized))]
     fn parenthesized(&self, tokens: &mut Tokens<'_>) -> Result<Boxed<Expr>, ParseFault>
         requires { Nests self.now.depth (F.pre self.now.inner) (F.post self.now.inner) }
-        ensures { Reads (spec.parenthesized (spec.nested self.now.depth) tokens.old) result tokens.new }
+        ensures { Reads
+            (spec.parenthesized (spec.nested self.now.depth) tokens.old) result tokens.new }
     {
         let x = self.inner(tokens, Level::Whole)?;
         tokens.expect(Key::RParen)?;
@@ -131,7 +132,8 @@ impl<F: Fn(Global, &mut Tokens<'_>, usize, Level) -> Result<Boxed<Expr>, ParseFa
     #[tactic(auto, unfolding(crate::specs::Read::count_call))]
     fn count_call(&self, tokens: &mut Tokens<'_>) -> Result<Boxed<Expr>, ParseFault>
         requires { Nests self.now.depth (F.pre self.now.inner) (F.post self.now.inner) }
-        ensures { Reads (spec.count_call (spec.nested self.now.depth) tokens.old) result tokens.new }
+        ensures { Reads
+            (spec.count_call (spec.nested self.now.depth) tokens.old) result tokens.new }
     {
         tokens.skip();
         let star = tokens.sees(Key::Star);
@@ -142,7 +144,8 @@ impl<F: Fn(Global, &mut Tokens<'_>, usize, Level) -> Result<Boxed<Expr>, ParseFa
     #[tactic(auto, unfolding(crate::specs::Read::count_by))]
     fn count_of(&self, tokens: &mut Tokens<'_>, star: bool) -> Result<Boxed<Expr>, ParseFault>
         requires { Nests self.now.depth (F.pre self.now.inner) (F.post self.now.inner) }
-        ensures { Reads (spec.count_by (spec.nested self.now.depth) star tokens.old) result tokens.new }
+        ensures { Reads
+            (spec.count_by (spec.nested self.now.depth) star tokens.old) result tokens.new }
     {
         if star {
             let x = self.inner(tokens, Level::Rows)?;

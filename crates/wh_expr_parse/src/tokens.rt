@@ -78,7 +78,8 @@ impl<'a> Tokens<'a> {
 
     pub fn eat(&mut self, key: Key) -> bool
         ensures found { result ≡ sees key self.old.left }
-        ensures after { self.new ≡ (if sees key self.old.left then spec.next self.old else self.old) }
+        ensures after { self.new
+            ≡ (if sees key self.old.left then spec.next self.old else self.old) }
     {
         let found = self.sees(key);
         if found {

@@ -14,6 +14,15 @@ const ALL_KINDS: [u8; 48] = [
     255, 255, 2, 0, 0, 0, 0, 0, 0, 1, 2, 3, 4, 0, 0, 0, 2, 104, 105, 0,
 ];
 
+/// Partition 9: row 3 is (5, 'b', NULL), row 4 (NULL, 'ba', NULL), row 10 (-7, 'a', NULL), and row 11
+/// (5, 'b', NULL).
+const FOUR_ROWS: [u8; 101] = [
+    0, 0, 0, 0, 0, 0, 0, 9, 0, 0, 0, 4, 0, 0, 0, 0, 0, 0, 0, 3, 1, 0, 0, 0, 0, 0, 0, 0, 5, 4, 0, 0,
+    0, 1, 98, 0, 0, 0, 0, 0, 0, 0, 0, 4, 0, 4, 0, 0, 0, 2, 98, 97, 0, 0, 0, 0, 0, 0, 0, 0, 10, 1,
+    255, 255, 255, 255, 255, 255, 255, 249, 4, 0, 0, 0, 1, 97, 0, 0, 0, 0, 0, 0, 0, 0, 11, 1, 0, 0,
+    0, 0, 0, 0, 0, 5, 4, 0, 0, 0, 1, 98, 0,
+];
+
 fn one_row(rt: &impl Abort, alloc: Global) -> Partition {
     let mut row = Row::new(alloc);
     row.push(Value::Number(1)).expect(rt, "memory");
@@ -229,19 +238,35 @@ fn print_bounds(rt: &impl Abort, columns: &[Bounds], out: &mut Bytes) {
     }
 }
 
-fn assert_places(rt: &impl Abort, meta: &PartMeta) {
-    assert_eq!(rt; (meta.id.object, meta.id.number), (3, 7));
-    assert_eq!(rt; (meta.at, meta.length), (100, 48));
-    assert_eq!(rt; (meta.rows, meta.first, meta.last), (2, 2, 258));
+/// What is known of the partition that these bytes begin with: its number, how many rows it has and
+/// the numbers of the first and the last, and the bounds of its three columns.
+fn assert_known(
+    rt: &impl Abort,
+    alloc: Global,
+    bytes: &[u8],
+    number: u64,
+    rows: (usize, u64, u64),
+    bounds: &[u8],
+) {
+    let meta = meta_of(rt, alloc, bytes, 3).expect(rt, "a partition");
+    assert_eq!(rt; meta.id.object, 3, "the table");
+    assert_eq!(rt; meta.id.number, number, "the number");
+    assert_eq!(rt; (meta.at, meta.length), (100, 48), "the place");
+    assert_eq!(rt; (meta.rows, meta.first, meta.last), rows, "the rows");
+    assert_eq!(rt; meta.columns.len(), 3, "the columns");
+    let mut printed = Bytes::new(alloc);
+    print_bounds(rt, &meta.columns, &mut printed);
+    assert_eq!(rt; printed.as_slice(), bounds, "the bounds");
 }
 
 #[test]
 fn bounds_follow_the_value_order(rt: HostRuntime) {
-    let alloc = rt.alloc();
-    let meta = meta_of(&rt, alloc, &ALL_KINDS, 3).expect(&rt, "a partition");
-    assert_places(&rt, &meta);
-    let mut printed = Bytes::new(alloc);
-    print_bounds(&rt, &meta.columns, &mut printed);
-    let want = b"TRUE..NULL -1..'hi' FALSE..NULL ".as_slice();
-    assert_eq!(rt; printed.as_slice(), want);
+    let bounds = b"TRUE..NULL -1..'hi' FALSE..NULL ".as_slice();
+    assert_known(&rt, rt.alloc(), &ALL_KINDS, 7, (2, 2, 258), bounds);
+}
+
+#[test]
+fn bounds_are_those_of_all_rows(rt: HostRuntime) {
+    let bounds = b"-7..NULL 'a'..'ba' NULL..NULL ".as_slice();
+    assert_known(&rt, rt.alloc(), &FOUR_ROWS, 9, (4, 3, 11), bounds);
 }

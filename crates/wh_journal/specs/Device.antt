@@ -1,11 +1,13 @@
 -- What a call does to a disk, beside the bytes that it reads or writes.
 --     Writes       it writes up to a position at most, and reads nothing
 --     Counts       how it counts the disk's faults
+--     OnlyReads    it reads once at most, and writes nothing
 --     IsDurable    what a read gives is all that a crash leaves
-use Rattle.std.specs.Prelude.{◌≡◌, ℕ, ◌≤◌, max, List, Some, Result, OnOk, OnErr, IsErrOf}
+use Rattle.std.specs.Prelude.{◌≡◌, ℕ, ◌+◌, ◌≤◌, max, List, Some, Result, OnOk, OnErr, IsErrOf}
 use Rattle.wh_world.specs.Told.{Rose}
-use Rattle.wh_world.specs.Crash.{Only}
+use Rattle.wh_world.specs.Crash.{Only, NoOthers}
 use Rattle.wh_world.specs.declared.Disk.{Ghosts}
+use Rattle.wh_journal.specs.Crash.{LeavesOnly}
 
 pub record Writes {D A E : Type 0} (d : Ghosts D) (old new : D) (end : ℕ) (result : Result A E) : Type 0 where
   pub size : OnOk result (d.size new ≡ max (d.size old) end)
@@ -13,6 +15,16 @@ pub record Writes {D A E : Type 0} (d : Ghosts D) (old new : D) (end : ℕ) (res
   pub reads : d.reads new ≡ d.reads old
   pub later : d.faults old ≤ d.faults new
   pub no_fault : OnOk result (d.faults new ≡ d.faults old)
+
+-- what a read gives stays, and what a crash leaves
+pub record OnlyReads {D : Type 0} (d : Ghosts D) (old new : D) : Type 0 where
+  pub bytes : d.bytes new ≡ d.bytes old
+  pub size : d.size new ≡ d.size old
+  pub not_before : d.reads old ≤ d.reads new
+  pub once : d.reads new ≤ d.reads old + 1
+  pub crash : NoOthers (d.may_leave old) (d.may_leave new)
+  pub any_moment : LeavesOnly d.moment d.left_since old new (d.may_leave old)
+  pub later : d.faults old ≤ d.faults new
 
 abbrev pub IsDurable : {D : Type 0} → Ghosts D → D → Type 0
 IsDurable d disk = (file : List ℕ) → d.bytes disk ≡ Some file → Only file (d.may_leave disk)

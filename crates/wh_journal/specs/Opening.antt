@@ -14,7 +14,8 @@ use Rattle.wh_journal.specs.Crash.{LeavesOnly, IsKeptOrShort}
 
 -- it is written anew, without records
 abbrev pub OpensShort : Option (List ℕ) → Option (List ℕ) → Journal → Type 0
-OpensShort old new j = (file : List ℕ) → old ≡ Some file → length file ≤ 8 → (new ≡ Some (header ++ 0 ∷ [])) × Lists [] j
+OpensShort old new j = (file : List ℕ) → old ≡ Some file → length file ≤ 8 →
+    (new ≡ Some (header ++ 0 ∷ [])) × Lists [] j
 
 abbrev pub OpensLong : Option (List ℕ) → Option (List ℕ) → Journal → Type 0
 OpensLong old new j = (file : List ℕ) → old ≡ Some file → 8 < length file →

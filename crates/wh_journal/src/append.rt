@@ -19,7 +19,8 @@ impl Journal {
         // Over any disk.
         ensures told { OnOk result (is_some (D.bytes disk.new) ≡ is_some (D.bytes disk.old)) }
         ensures durable { OnOk result (IsDurable D.Disk disk.new) }
-        ensures writes { Writes D.Disk disk.old disk.new (end_of self.old + need_of frame.now) result }
+        ensures writes { Writes D.Disk disk.old disk.new
+            (end_of self.old + need_of frame.now) result }
         ensures reach { end_of self.new ≤ D.size disk.new }
         ensures listed { Adds self.old self.new frame.now result }
         ensures refused { Refuses D.Disk disk.old disk.new self.old self.new frame.now result }
@@ -65,9 +66,11 @@ fn write_record<D: Disk>(disk: &mut D, end: u64, framed: &[u8]) -> Result<(), Fa
     requires fits { end + length framed.now ≤ 2 ^ 40 }
     ensures written { OnOk result
         (D.bytes disk.new ≡ option_map (λ old. with_record old end framed.now) (D.bytes disk.old)) }
-    ensures torn { OnErr result (Told (TornRecord end framed.now) (D.bytes disk.old) (D.bytes disk.new)) }
-    ensures any_moment { (file : List ℕ) → D.bytes disk.old ≡ Some file → Only file (D.may_leave disk.old) →
-        LeavesOnly D.moment D.left_since disk.old disk.new (TornRecord end framed.now file) }
+    ensures torn { OnErr result
+        (Told (TornRecord end framed.now) (D.bytes disk.old) (D.bytes disk.new)) }
+    ensures any_moment { (file : List ℕ) → D.bytes disk.old ≡ Some file
+        → Only file (D.may_leave disk.old)
+        → LeavesOnly D.moment D.left_since disk.old disk.new (TornRecord end framed.now file) }
     ensures durable { OnOk result (IsDurable D.Disk disk.new) }
     ensures writes { Writes D.Disk disk.old disk.new (end + length framed.now) result }
     ensures failed { OnErr result (Rose (D.faults disk.old) (D.faults disk.new)) }
@@ -83,7 +86,8 @@ fn stage<D: Disk>(disk: &mut D, end: u64, framed: &[u8]) -> Result<(), Failed>
     requires fits { end + length framed.now ≤ 2 ^ 40 }
     ensures written { OnOk result
         (D.bytes disk.new ≡ option_map (λ old. written old end framed.now) (D.bytes disk.old)) }
-    ensures torn { OnErr result (Told (Torn end (length framed.now)) (D.bytes disk.old) (D.bytes disk.new)) }
+    ensures torn { OnErr result
+        (Told (Torn end (length framed.now)) (D.bytes disk.old) (D.bytes disk.new)) }
     ensures any_moment { (file : List ℕ) → Only file (D.may_leave disk.old) →
         LeavesOnly D.moment D.left_since disk.old disk.new (Torn end (length framed.now) file) }
     ensures durable { OnOk result (IsDurable D.Disk disk.new) }

@@ -282,10 +282,13 @@ unfolding carried_out changes_rows ddl.bound
 change_holds reading session id statement m t s open_there at among accepted =
     let e : Event = changing reading session statement in
     let now : Machine = ready m e in
-    let ends : step m e ≡ settled now (changes_in now session (Some t) (bound_changed now session (change_in now statement))) =
+    let ends : step m e
+    ≡ settled now (changes_in now session (Some t) (bound_changed now session (change_in now statement))) =
     accepted_step m reading session (st.Dml statement) accepted
-    ∙ ap (λ (found : Option Transaction). settled now (changes_in now session found (bound_changed now session (change_in now statement))))
+    ∙ ap (λ (found : Option Transaction).
+    settled now (changes_in now session found (bound_changed now session (change_in now statement))))
     open_there in
     subst (λ (p : Machine × Reply). HoldsWhatWasRead session id now p.0) (sym ends)
-    (within_holds now session id t s (bound_changed now session (change_in now statement)) (changed_read true now session id statement among)
-    open_there at (sym (ap (λ (p : Machine × Reply). is_refusal p.1) ends) ∙ accepted))
+    (within_holds now session id t s (bound_changed now session (change_in now statement))
+    (changed_read true now session id statement among) open_there at
+    (sym (ap (λ (p : Machine × Reply). is_refusal p.1) ends) ∙ accepted))

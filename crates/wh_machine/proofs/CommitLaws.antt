@@ -127,7 +127,8 @@ is_commit m sessions start moving found rising before free = record {
 acts_are : (m : Machine) (sessions : Sessions) (streams : List ℕ) (start : ℕ) (moving : List ℕ)
     (found : List (ℕ × Staged)) → RiseFrom 0 found → (AreBegun m.state.last m.sessions → start ≤ m.state.last - 1)
     → MovesFree m sessions moving
-    → AreOfCommit m moving sessions (acts_of_commit streams (offset_moves m.state.objects start moving) (map edit_act found))
+    → AreOfCommit m moving sessions
+    (acts_of_commit streams (offset_moves m.state.objects start moving) (map edit_act found))
 acts_are m sessions [] start moving [] rising before free = tt
 acts_are m sessions [] start moving (entry ∷ others) rising before free =
     is_commit m sessions start moving (entry ∷ others) rising before free

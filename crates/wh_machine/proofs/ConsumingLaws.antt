@@ -9,13 +9,11 @@ use Rattle.std.specs.Prelude.{nat_le, slice_get, slice_set}
 use Rattle.std.specs.List.{filter}
 use Rattle.std.proofs.lemmas.Bool.{lt-leb}
 use Rattle.std.proofs.lemmas.Bool.Decides.{nat_tests}
-use Rattle.wh_state.specs.State.{Rows, Version, Table, Stream, Kind, TableKind, StreamKind, Object, State}
-use Rattle.wh_state.specs.State.{nothing_held}
+use Rattle.wh_state.specs.State.{Rows, Version, Table, Stream, Kind, TableKind, StreamKind, Object, State, nothing_held}
 use Rattle.wh_state.specs.State.{dropped, content_in, last_of, at_id, put_at, changed_at}
 use Rattle.wh_state.specs.Edits.{Edits}
-use Rattle.wh_state.specs.Act.{Act, MakesTable, DropsObject, EditsRows, MakesStream, MovesOffset}
-use Rattle.wh_state.specs.Act.{edited_table, edited_kind, edited_object, moved_kind, moved_object, acted}
-use Rattle.wh_state.specs.Act.{all_acted}
+use Rattle.wh_state.specs.Act.{Act, MakesTable, DropsObject, EditsRows, MakesStream, MovesOffset, edited_table}
+use Rattle.wh_state.specs.Act.{edited_kind, edited_object, moved_kind, moved_object, acted, all_acted}
 use Rattle.wh_state.specs.Objects.{table_at, stream_at}
 use Rattle.wh_state.specs.Sound.{IsSoundKind, IsSoundObject}
 use Rattle.wh_state.proofs.AllLaws.{all_at}
@@ -321,7 +319,7 @@ offset_passed m sound id s at =
     let is : IsSoundObject m.state.committed here.object =
     all_at (IsSoundObject m.state.committed) m.state.objects id here.object sound.state.objects here.there in
     let within : IsSoundKind m.state.committed (StreamKind s) =
-    subst (IsSoundKind m.state.committed) here.kind is.kind in
+    subst (IsSoundKind m.state.committed) here.kind is in
     omega (arith, within, sound.state.ordered)
 
 -- the batches in which a standard stream was consumed, made one after the other on the rows of its source at its

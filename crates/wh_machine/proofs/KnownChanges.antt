@@ -56,8 +56,8 @@ deleted : (outcome (delete (Some (is_k 7)))
     ≡ commits (Deleted 1) (EditsRows 1 (record { rows = insert empty 2 None; added = [] }) ∷ []))
     × (outcome (delete None)
     ≡ commits (Deleted 2) (EditsRows 1 (record { rows = insert (insert empty 1 None) 2 None; added = [] }) ∷ []))
-unfolding changes_rows acts_of past_limit staged later_edits seen reading_refusal bound_change first_failing column_at typing.step effect
-    values_on val partitions_made edits_from
+unfolding changes_rows acts_of past_limit staged later_edits seen reading_refusal bound_change first_failing column_at
+    typing.step effect values_on val partitions_made edits_from
 deleted = (simp steps, simp steps)
 
 -- also where the new row is an equal one
@@ -65,26 +65,26 @@ updated : (outcome (update (plus (column (codes "K")) (number 1)) (Some (is_k 7)
     ≡ commits (Updated 1) (EditsRows 1 (record { rows = insert empty 2 (Some (row 8)); added = [] }) ∷ []))
     × (outcome (update (number 5) None) ≡ commits (Updated 2)
     (EditsRows 1 (record { rows = insert (insert empty 1 (Some (row 5))) 2 (Some (row 5)); added = [] }) ∷ []))
-unfolding changes_rows acts_of past_limit staged later_edits seen reading_refusal bound_change first_failing column_at typing.step effect
-    values_on val partitions_made edits_from
+unfolding changes_rows acts_of past_limit staged later_edits seen reading_refusal bound_change first_failing column_at
+    typing.step effect values_on val partitions_made edits_from
 updated = (simp steps, simp steps)
 
 added : outcome (dml.Insert (codes "T") None (rows.Values ((number 5 ∷ []) ∷ [])))
     ≡ commits (Inserted 1) (EditsRows 1 (record { rows = empty; added = row 5 ∷ [] }) ∷ [])
-unfolding changes_rows acts_of past_limit staged later_edits seen reading_refusal bound_change first_failing column_at typing.step effect
-    values_on val partitions_made edits_from
+unfolding changes_rows acts_of past_limit staged later_edits seen reading_refusal bound_change first_failing column_at
+    typing.step effect values_on val partitions_made edits_from
 added = simp steps
 
 none_counts : (outcome (delete (Some (is_k 6))) ≡ answers (Deleted 0))
     × (outcome (update (number 9) (Some (is_k 6))) ≡ answers (Updated 0))
-unfolding changes_rows acts_of past_limit staged later_edits seen reading_refusal bound_change first_failing column_at typing.step effect
-    values_on val partitions_made edits_from
+unfolding changes_rows acts_of past_limit staged later_edits seen reading_refusal bound_change first_failing column_at
+    typing.step effect values_on val partitions_made edits_from
 none_counts = (simp steps, simp steps)
 
 -- a condition that is NULL holds on no row; one that is undefined on a row leaves no outcome
 no_value : (outcome (delete (Some (equal (column (codes "K")) null))) ≡ answers (Deleted 0))
     × (outcome (delete (Some (equal (plus (column (codes "K")) (number 999999999999999994)) (number 0))))
     ≡ Refuses NumberOutOfRange)
-unfolding changes_rows acts_of past_limit staged later_edits seen reading_refusal bound_change first_failing column_at typing.step effect
-    values_on val partitions_made edits_from
+unfolding changes_rows acts_of past_limit staged later_edits seen reading_refusal bound_change first_failing column_at
+    typing.step effect values_on val partitions_made edits_from
 no_value = (simp steps, simp steps)

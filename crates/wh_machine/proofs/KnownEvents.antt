@@ -115,23 +115,24 @@ taken = (refl, refl, refl, refl)
 refused : text first (asked table_t ∷ asked table_t
     ∷ asked (insertion (codes "T") ((number 1 ∷ number 2 ∷ []) ∷ [])) ∷ [])
     ≡ codes "CREATED TABLE T\nE7 NameTaken T\nE9 TypeMismatch\n"
-unfolding step commanded ddl.bound first_failing carried_out defines create_table drop_table table_refusal changes_rows transactions.acts_of past_limit staged later_edits seen
-    reading_refusal bound_change typing.step print digits
+unfolding step commanded ddl.bound first_failing carried_out defines create_table drop_table table_refusal changes_rows
+    transactions.acts_of past_limit staged later_edits seen reading_refusal bound_change typing.step print digits
 refused = simp (literal_typed, map_steps)
 
 unknown : text first (asked (insertion (codes "U") ((number 1 ∷ []) ∷ [])) ∷ asked (st.DropTable (codes "U"))
     ∷ asked (st.DropStream (codes "S")) ∷ Command 0 65 Unreadable ∷ Command 0 65 TooLong ∷ Tick 5 ∷ [])
     ≡ codes "E6 UnknownName U\nE6 UnknownName U\nE6 UnknownName S\nE1 SyntaxError\nE13 Limit STATEMENT 65536\nIDLE\n"
-unfolding step commanded ddl.bound first_failing carried_out defines create_table drop_table drop_stream table_refusal changes_rows transactions.acts_of past_limit staged later_edits seen
-    reading_refusal bound_change typing.step print digits
+unfolding step commanded ddl.bound first_failing carried_out defines create_table drop_table drop_stream table_refusal
+    changes_rows transactions.acts_of past_limit staged later_edits seen reading_refusal bound_change typing.step print
+    digits
 unknown = refl
 
 -- a dropped name is unknown, and free for a new table
 dropped : text first (asked table_t ∷ asked drop_t ∷ asked (insertion (codes "T") ((number 1 ∷ []) ∷ [])) ∷ asked drop_t
     ∷ asked table_t ∷ [])
     ≡ codes "CREATED TABLE T\nDROPPED TABLE T\nE6 UnknownName T\nE6 UnknownName T\nCREATED TABLE T\n"
-unfolding step commanded ddl.bound first_failing carried_out defines create_table drop_table table_refusal changes_rows transactions.acts_of past_limit staged later_edits seen
-    reading_refusal bound_change typing.step print digits
+unfolding step commanded ddl.bound first_failing carried_out defines create_table drop_table table_refusal changes_rows
+    transactions.acts_of past_limit staged later_edits seen reading_refusal bound_change typing.step print digits
 dropped = refl
 
 -- OR REPLACE takes the place of a table, or of none
@@ -144,8 +145,8 @@ replaced = refl
 inserted : text first (asked table_t ∷ asked (insertion (codes "T") ((number 1 ∷ []) ∷ (number 7 ∷ []) ∷ [])) ∷ [])
     ≡ codes "CREATED TABLE T\nINSERTED 2\n"
 unfolding step commanded ddl.bound first_failing carried_out defines create_table drop_table table_refusal changes_rows
-    transactions.acts_of past_limit staged later_edits seen reading_refusal bound_change typing.step effect values_on val edited_table
-    partitions_made edits_from print digits
+    transactions.acts_of past_limit staged later_edits seen reading_refusal bound_change typing.step effect values_on
+    val edited_table partitions_made edits_from print digits
 inserted = simp (literal_typed, map_steps)
 
 -- nothing goes where the condition holds on no row
@@ -154,8 +155,8 @@ none_go : text first
     ∷ asked (st.Dml (dml.Delete (codes "T") (Some (number 1)))) ∷ asked (st.Dml (dml.Delete (codes "U") None)) ∷ [])
     ≡ codes "CREATED TABLE T\nDELETED 0\nUPDATED 0\nE9 TypeMismatch\nE6 UnknownName U\n"
 unfolding step commanded ddl.bound first_failing carried_out defines create_table drop_table table_refusal changes_rows
-    transactions.acts_of past_limit staged later_edits seen reading_refusal bound_change typing.step effect values_on val edited_table
-    partitions_made edits_from print digits
+    transactions.acts_of past_limit staged later_edits seen reading_refusal bound_change typing.step effect values_on
+    val edited_table partitions_made edits_from print digits
 none_go = simp (literal_typed, map_steps)
 
 -- a session that there isn't is tested behind the grammar
@@ -203,7 +204,7 @@ rows_fit : (changed (insertion_of ((null ∷ []) ∷ (number 1 ∷ []) ∷ []))
     × (changed (insertion_of ((null ∷ null ∷ []) ∷ [])) ≡ Refuses TypeMismatch)
     × (changed (insertion_of ([] ∷ [])) ≡ Refuses TypeMismatch)
     × (changed (insertion_of ((null ∷ []) ∷ (text_one ∷ []) ∷ [])) ≡ Refuses TypeMismatch)
-unfolding step commanded ddl.bound first_failing carried_out defines create_table table_refusal changes_rows transactions.acts_of past_limit staged later_edits seen reading_refusal
-    bound_change
-    typing.step effect values_on val partitions_made edits_from
+unfolding step commanded ddl.bound first_failing carried_out defines create_table table_refusal changes_rows
+    transactions.acts_of past_limit staged later_edits seen reading_refusal bound_change typing.step effect values_on
+    val partitions_made edits_from
 rows_fit = (simp (literal_typed, map_steps), simp (literal_typed, map_steps), refl, simp (literal_typed, map_steps))

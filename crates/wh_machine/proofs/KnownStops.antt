@@ -45,35 +45,35 @@ unfolding acts_of commanded ddl.bound carried_out defines create_table table_ref
 made_table = refl
 
 made_row : made filed created (asked (insertion (codes "T") ((number 1 ∷ []) ∷ []))) ≡ Some commits.insertion
-unfolding acts_of step commanded ddl.bound carried_out defines create_table table_refusal changes_rows transactions.acts_of
-    past_limit staged later_edits seen reading_refusal bound_change first_failing typing.step effect values_on val edits_from edited_table
-    partitions_made changed
+unfolding acts_of step commanded ddl.bound carried_out defines create_table table_refusal changes_rows
+    transactions.acts_of past_limit staged later_edits seen reading_refusal bound_change first_failing typing.step
+    effect values_on val edits_from edited_table partitions_made changed
 made_row = simp (literal_typed, map_steps)
 
 -- a drop, and a table that takes the place of T
 made_drop : (made filed created (asked drop_t) ≡ Some (commits.drop 2))
     × (made filed created (asked replacing_t) ≡ Some (commits.replacement 2))
     × (made first_stored first (asked replacing_t) ≡ Some commits.creation)
-unfolding acts_of step commanded ddl.bound carried_out defines create_table drop_table table_refusal first_failing changed
+unfolding acts_of step commanded ddl.bound carried_out defines create_table drop_table table_refusal first_failing
+    changed
 made_drop = (refl, refl, refl)
 
 -- a table that is there, and two values for one column
 made_none : (made filed created (asked table_t) ≡ None)
     × (made filed created (asked (insertion (codes "T") ((number 1 ∷ number 2 ∷ []) ∷ []))) ≡ None)
-unfolding acts_of step commanded ddl.bound carried_out defines create_table table_refusal changes_rows transactions.acts_of
-    past_limit staged later_edits seen reading_refusal bound_change first_failing typing.step effect values_on val edits_from edited_table
-    partitions_made changed
+unfolding acts_of step commanded ddl.bound carried_out defines create_table table_refusal changes_rows
+    transactions.acts_of past_limit staged later_edits seen reading_refusal bound_change first_failing typing.step
+    effect values_on val edits_from edited_table partitions_made changed
 made_none = (refl, simp (literal_typed, map_steps))
 
 -- the second record needs 83 bytes behind the first 50
 no_room : (overflow 132 8 first_stored first table_and_row ≡ Some (50, 83))
     × (overflow 133 8 first_stored first table_and_row ≡ None)
     × (overflow 49 8 first_stored first table_and_row ≡ Some (8, 42))
-unfolding acts_of step commanded ddl.bound carried_out defines create_table table_refusal changes_rows transactions.acts_of
-    past_limit staged later_edits seen
-    reading_refusal bound_change first_failing typing.step effect values_on val edits_from edited_table
-    partitions_made
-    changed payload_of change_bytes table_bytes column_bytes version_bytes partition_bytes row_bytes value_bytes
+unfolding acts_of step commanded ddl.bound carried_out defines create_table table_refusal changes_rows
+    transactions.acts_of past_limit staged later_edits seen reading_refusal bound_change first_failing typing.step
+    effect values_on val edits_from edited_table partitions_made changed payload_of change_bytes table_bytes
+    column_bytes version_bytes partition_bytes row_bytes value_bytes
 no_room = (simp (literal_typed, map_steps), simp (literal_typed, map_steps), refl)
 
 abbrev twice : List Event

@@ -1,7 +1,6 @@
 -- Statements that read a stream, worked out by hand: T has the row 7 since stamp 4, S shows what T got behind
 -- stamp 2, and C is empty.
-use Rattle.std.proofs.Common.{◌≡◌, ap, ◌∙◌, ℕ, true, false, List, [], ◌∷◌, ◌++◌, Some, None, pos}
-use Rattle.std.proofs.Common.{refl}
+use Rattle.std.proofs.Common.{◌≡◌, ap, ◌∙◌, ℕ, true, false, List, [], ◌∷◌, ◌++◌, Some, None, pos, refl}
 use Rattle.std.specs.Prelude.{codes}
 use Rattle.std.specs.Fmt.{digits}
 use Rattle.std.specs.FinMap.{empty, insert}
@@ -23,8 +22,8 @@ use Rattle.wh_naming.specs.Changes.{target_at, insert_query, bound_change}
 use Rattle.wh_naming.proofs.Written.{WrittenQuery, layers, k, name_s, only, column, object, select}
 use Rattle.wh_effect.specs.Effect.{effect}
 use Rattle.wh_reply.specs.Reply.{SourceGone, StaleStream, Locked, HasData, Inserted, Committed, Listing, print}
-use Rattle.wh_state.specs.State.{Table, Stream, Object, TableKind, StreamKind, new_object, dropped}
-use Rattle.wh_state.specs.State.{nothing_held, version_at, new_stream}
+use Rattle.wh_state.specs.State.{Table, Stream, Object, TableKind, StreamKind, new_object, dropped, nothing_held}
+use Rattle.wh_state.specs.State.{version_at, new_stream}
 use Rattle.wh_state.specs.Edits.{Edits, edits_from, later_edits, partitions_made}
 use Rattle.wh_state.specs.Act.{EditsRows, MovesOffset}
 use Rattle.wh_machine.specs.Tables.{table_refusal, create_table, drop_table}
@@ -50,6 +49,7 @@ row n = Number (pos n) ∷ []
 
 abbrev table_t : Table
 table_t = record {
+  created = 1;
   columns = record { name = k; column_type = NumberType } ∷ [];
   retention = 1;
   next_row = 2;
@@ -59,6 +59,7 @@ table_t = record {
 
 abbrev table_c : Table
 table_c = record {
+  created = 3;
   columns = record { name = k; column_type = NumberType } ∷ [];
   retention = 1;
   next_row = 1;
@@ -70,8 +71,8 @@ abbrev stream_s : Stream
 stream_s = new_stream 1 false 2 table_t.columns
 
 abbrev objects : List Object
-objects = new_object (codes "T") 1 (TableKind table_t) ∷ new_object (codes "S") 2 (StreamKind stream_s)
-    ∷ new_object (codes "C") 3 (TableKind table_c) ∷ []
+objects = new_object (codes "T") (TableKind table_t) ∷ new_object (codes "S") (StreamKind stream_s)
+    ∷ new_object (codes "C") (TableKind table_c) ∷ []
 
 abbrev machine : Sessions → Machine
 machine sessions = record { state = record { last = 6; committed = 4; objects = objects }; sessions = sessions }
@@ -91,8 +92,8 @@ select_read m o is =
 
 a_query_moves_nothing : selects (machine no_sessions) 1 (bound_select (names_from 1 objects) from_s.tree [])
     ≡ Does (Listing (k ∷ []) (row 7 ∷ [])) no_sessions None
-unfolding selects seen reading_refusal shown net digits first_failing source_step core_step query_step typing.step column_at
-    eval listed fold_bag val values_on
+unfolding selects seen reading_refusal shown net digits first_failing source_step core_step query_step typing.step
+    column_at eval listed fold_bag val values_on
 a_query_moves_nothing = select_read (machine no_sessions) _ (simp steps)
 
 -- INSERT INTO C SELECT K FROM S
@@ -157,11 +158,11 @@ others_are_locked_out = insert_read (machine (with_transaction no_sessions 1 hol
 
 -- streams 5, 2 and 3 on a live table 4, and on a table 1 that was dropped
 abbrev stream_on : ℕ → List ℕ → Object
-stream_on source name = new_object name 2 (StreamKind (new_stream source false 2 []))
+stream_on source name = new_object name (StreamKind (new_stream source false 2 []))
 
 abbrev gone_and_stale : List Object
-gone_and_stale = dropped (new_object (codes "T") 1 (TableKind table_t)) ∷ stream_on 1 (codes "A")
-    ∷ stream_on 1 (codes "B") ∷ new_object (codes "U") 1 (TableKind table_t) ∷ stream_on 4 (codes "D") ∷ []
+gone_and_stale = dropped (new_object (codes "T") (TableKind table_t)) ∷ stream_on 1 (codes "A")
+    ∷ stream_on 1 (codes "B") ∷ new_object (codes "U") (TableKind table_t) ∷ stream_on 4 (codes "D") ∷ []
 
 -- 14 days and two stamps: the sources are tested first, and of them the least id
 sources_before_offsets : (reading_refusal gone_and_stale 1209600003 (5 ∷ 3 ∷ 2 ∷ []) ≡ Some (SourceGone (codes "A")))
@@ -177,8 +178,8 @@ kinds_are_told_apart : text first (asked event_t ∷ asked (st.CreateStream (cod
     ∷ asked (st.DropStream (codes "T")) ∷ asked (st.DropStream (codes "S")) ∷ asked (st.HasData (codes "S")) ∷ [])
     ≡ codes "CREATED TABLE T\nCREATED STREAM S\nFALSE\nE8 WrongKind T\nE8 WrongKind S\n"
     ++ codes "E8 WrongKind T\nDROPPED STREAM S\nE6 UnknownName S\n"
-unfolding step commanded ddl.bound first_failing carried_out defines create_table table_refusal create_stream stream_refusal drop_table
-    drop_stream has_data reading_refusal shown print digits
+unfolding step commanded ddl.bound first_failing carried_out defines create_table table_refusal create_stream
+    stream_refusal drop_table drop_stream has_data reading_refusal shown print digits
 kinds_are_told_apart = refl
 
 it_has_rows : has_data (machine no_sessions) 1 None 2 ≡ Does (HasData true) no_sessions None
@@ -188,7 +189,8 @@ it_has_rows = simp steps
 -- ---- offsets
 
 -- in the commit that consumes it an offset moves up to the start, and never back
-offsets : (offset_move 9 3 (Some (new_stream 1 false 5 [])) ≡ MovesOffset 3 9 ∷ []) × (offset_move 5 3 (Some (new_stream 1 false 5 [])) ≡ [])
+offsets : (offset_move 9 3 (Some (new_stream 1 false 5 [])) ≡ MovesOffset 3 9 ∷ [])
+    × (offset_move 5 3 (Some (new_stream 1 false 5 [])) ≡ [])
     × (offset_move 3 3 (Some (new_stream 1 false 5 [])) ≡ [])
 offsets = (refl, refl, refl)
 

@@ -12,8 +12,8 @@ use Rattle.wh_naming.specs.Findings.{nothing_found, mistyped_if, first_failing}
 use Rattle.wh_naming.specs.Changes.{InsertRows, Update, Delete, Merge}
 use Rattle.wh_effect.specs.Effect as effects
 use Rattle.wh_effect.specs.Effect.{Effect}
-use Rattle.wh_reply.specs.Reply.{Refusal, NameTaken, TypeMismatch, OverLimit, NumberOutOfRange, AmbiguousMerge, Inserted}
-use Rattle.wh_reply.specs.Reply.{Updated, Deleted, Merged, refusal_text}
+use Rattle.wh_reply.specs.Reply.{Refusal, NameTaken, TypeMismatch, OverLimit, NumberOutOfRange, AmbiguousMerge}
+use Rattle.wh_reply.specs.Reply.{Inserted, Updated, Deleted, Merged, refusal_text}
 use Rattle.wh_value.specs.View.{column_of}
 use Rattle.wh_value.specs.declared.column.Column as columns
 use Rattle.wh_value.specs.declared.column.ColumnType.TheVariants as types
@@ -41,14 +41,13 @@ columns_from byte (suc count) = record { name = byte ∷ []; column_type = types
 
 -- of one name
 abbrev twice : List columns.Column
-twice = record { name = codes "A"; column_type = types.Number } ∷ record { name = codes "A"; column_type = types.Number }
-    ∷ []
+twice = record { name = codes "A"; column_type = types.Number }
+    ∷ record { name = codes "A"; column_type = types.Number } ∷ []
 
 abbrev named_x : Bool → Object
 named_x live = record {
   name = codes "X";
   is_live = live;
-  created = 1;
   kind = TableKind (new_table nothing_held (map column_of (columns_from 65 1)) 1 1);
 }
 
@@ -86,7 +85,8 @@ unfolding table_refusal first_failing
 counts_last = (refl, refl, refl)
 
 -- what is at its limits is taken
-at_limits : refused (with_objects (replicate 999 (named_x true))) false (replicate 255 65) (columns_from 65 64) 90 ≡ None
+at_limits : refused (with_objects (replicate 999 (named_x true))) false (replicate 255 65) (columns_from 65 64) 90
+    ≡ None
 unfolding table_refusal first_failing
 at_limits = refl
 
@@ -125,7 +125,8 @@ wide_last = (refl, refl, refl)
 
 -- a table of one column of numbers, by its next row and partition
 abbrev next_at : ℕ → ℕ → Object
-next_at row partition = new_object (codes "T") 1 (TableKind (record {
+next_at row partition = new_object (codes "T") (TableKind (record {
+  created = 1;
   columns = map column_of (columns_from 65 1);
   retention = 1;
   next_row = row;
@@ -141,10 +142,12 @@ one = (Number (pos 1) ∷ []) ∷ []
 
 -- what an INSERT by itself comes to
 abbrev does_alone : Object → List Row → Outcome
-does_alone table rows = changes_in (opened (with_objects (table ∷ []))) 1 None (Gives 1 [] (InsertRows []) (adding rows))
+does_alone table rows =
+    changes_in (opened (with_objects (table ∷ []))) 1 None (Gives 1 [] (InsertRows []) (adding rows))
 
 -- row numbers, before partition numbers; no row needs a number where none is added
-numbers_tested : (does_alone (next_at 4611686018427387904 4611686018427387904) one ≡ Refuses (OverLimit limits.RowNumber))
+numbers_tested : (does_alone (next_at 4611686018427387904 4611686018427387904) one
+    ≡ Refuses (OverLimit limits.RowNumber))
     × (does_alone (next_at 1 4611686018427387904) one ≡ Refuses (OverLimit limits.PartitionNumber))
     × (does_alone (next_at 4611686018427387904 4611686018427387904) [] ≡ Does (Inserted 0) no_sessions None)
     × (does_alone (next_at 4611686018427387903 4611686018427387903) one ≡ Does (Inserted 1) no_sessions

@@ -16,8 +16,8 @@ use Rattle.wh_state.specs.Edits.{Edits, no_edits, edits_from, later_edits, rows_
 use Rattle.wh_state.specs.Act.{EditsRows, edited_table}
 use Rattle.wh_state.proofs.KnownMaps.{map_steps}
 use Rattle.wh_machine.specs.Transaction.{Staged, Transaction, begun, seen, staged, acts_of, past_limit, commit_refusal}
-use Rattle.wh_machine.specs.Sessions.{Sessions, no_sessions, number_in, holder, locked_by}
-use Rattle.wh_machine.specs.Sessions.{with_begun, with_ended, with_transaction}
+use Rattle.wh_machine.specs.Sessions.{Sessions, no_sessions, number_in, holder, locked_by, with_begun, with_ended}
+use Rattle.wh_machine.specs.Sessions.{with_transaction}
 
 abbrev row : ℕ → Row
 row k = Number (pos k) ∷ []
@@ -48,7 +48,8 @@ seen_rows = simp map_steps
 -- ---- a statement in a transaction, and what it then sees
 
 abbrev table_with : ℕ → Object
-table_with next_row = new_object [] 5 (TableKind (record {
+table_with next_row = new_object [] (TableKind (record {
+  created = 5;
   columns = [];
   retention = 1;
   next_row = next_row;

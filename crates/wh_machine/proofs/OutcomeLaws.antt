@@ -133,7 +133,8 @@ bound_free m session b = by_refusal (change_refusal m session b) refl
     by_table (Some t) free = given_free m session b.target (streams_read m b) b.change _ free
 
     by_refusal : (found : Option Refusal) → change_refusal m session b ≡ found
-        → IsFree m session (streams_read m b) (fails_or found (given_on (streams_read m b) (instance_read m session b.sources) b
+        → IsFree m session (streams_read m b) (fails_or found
+        (given_on (streams_read m b) (instance_read m session b.sources) b
         (table_at (objects_seen m session) b.target)))
     by_refusal (Some why) is = tt
     by_refusal None is =
@@ -183,7 +184,8 @@ changed_holds : (m : Machine) (session : ℕ) (t : Option Transaction) → trans
 unfolding staged
 changed_holds m session t is streams (Fails why) free = refuses m why
 changed_holds m session None is streams (Gives id read change e) free =
-    subst (λ (ids : List ℕ). IsLawful m (with_streams ids []) (changes_in m session None (Gives id read change e))) free.0
+    subst (λ (ids : List ℕ). IsLawful m (with_streams ids []) (changes_in m session None (Gives id read change e)))
+    free.0
     (recorded_holds m (reply_to change e) m.sessions (staged_in_state m.state (begun m.state.last) id read e)
     (no_refusal change e) (same_sessions m) (λ begun. omega arith) (free_alone m session read is free.1))
 changed_holds m session (Some t) is streams (Gives id read change e) free =
@@ -269,7 +271,8 @@ moved_by m session _ = []
 
 statement : (m : Machine) (session : ℕ) (wrong : Option Refusal) (b : Bound)
     → IsLawful m (moved_by m session b) (carried_out m session wrong b)
-unfolding carried_out begin commit rollback changes_rows selects has_data create_table drop_table create_stream drop_stream
+unfolding carried_out begin commit rollback changes_rows selects has_data create_table drop_table create_stream
+    drop_stream
 statement m session wrong ddl.Begin = tested m _ _ (begun_holds m session)
 statement m session wrong ddl.Commit = commit_holds m session (transaction_in m.sessions session) refl
 statement m session wrong ddl.Rollback = rollback_holds m session (transaction_in m.sessions session)

@@ -76,8 +76,10 @@ recorded_moves m reply sessions t id s at among accepted = by_refusal (commit_re
         acts_at m.state.objects m.state.last (start_of t) id s at (touched t) t.streams m.state.objects at
         ∙ all_read (start_of t) s (list_any (nat_eq id) t.streams) among
 
-    by_refusal : (why : Option Refusal) → is_refusal (settled m (unless why (does_by m reply sessions t t.streams))).1 ≡ false
-        → stream_at (settled m (unless why (does_by m reply sessions t t.streams))).0.state.objects id ≡ Some (read_to (start_of t) s)
+    by_refusal : (why : Option Refusal)
+        → is_refusal (settled m (unless why (does_by m reply sessions t t.streams))).1 ≡ false
+        → stream_at (settled m (unless why (does_by m reply sessions t t.streams))).0.state.objects id
+        ≡ Some (read_to (start_of t) s)
     by_refusal (Some why) accepted = refused_isnt accepted
     by_refusal None accepted = by_streams t.streams among
 

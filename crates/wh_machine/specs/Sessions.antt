@@ -4,7 +4,8 @@
 --     holder, locked_by               the number of the transaction that holds an object, and of one of another session
 --     first_locked                    of one of another session that holds the first of some objects
 --     with_begun, with_ended          a transaction that begins or ends; its holds go with it
-use Rattle.std.specs.Prelude.{ℕ, ◌+◌, Bool, ◌||◌, List, [], ◌∷◌, Option, Some, None, option_map, is_some, cond, replicate}
+use Rattle.std.specs.Prelude.{ℕ, ◌+◌, Bool, ◌||◌, List, [], ◌∷◌, Option, Some, None, option_map, is_some, cond}
+use Rattle.std.specs.Prelude.{replicate}
 use Rattle.std.specs.Prelude.{slice_get, slice_set, unwrap_or, nat_eq}
 use Rattle.std.specs.List.{list_any}
 use Rattle.std.specs.FinMap.{get}

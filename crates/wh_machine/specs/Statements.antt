@@ -22,7 +22,8 @@ use Rattle.wh_machine.specs.Names.{names_in, refusal_of, naming_refusal}
 use Rattle.wh_machine.specs.Offsets.{streams_among}
 use Rattle.wh_machine.specs.Changes.{Changed, Fails, Gives, given_on, fails_or, reply_to}
 use Rattle.wh_machine.specs.Transaction.{Transaction, begun, staged_in_state, acts_of, commit_refusal}
-use Rattle.wh_machine.specs.Sessions.{Sessions, transaction_in, number_in, first_locked, with_transaction, with_begun, with_ended}
+use Rattle.wh_machine.specs.Sessions.{Sessions, transaction_in, number_in, first_locked, with_transaction, with_begun}
+use Rattle.wh_machine.specs.Sessions.{with_ended}
 use Rattle.wh_machine.specs.Outcome.{Machine, Outcome, Refuses, Does, unless}
 use Rattle.wh_machine.specs.Queries.{listing_of}
 use Rattle.wh_machine.specs.Reading.{objects_seen, instance_read, reading_refusal, has_data}

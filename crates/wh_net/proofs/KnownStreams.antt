@@ -48,6 +48,7 @@ no_changes = simp map_steps
 -- a table of one row, then another beside it that is changed, then the first one alone
 abbrev table : Table
 table = record {
+  created = 2;
   columns = [];
   retention = 1;
   next_row = 3;

@@ -1,7 +1,7 @@
 -- A text is a span where it is digits, blanks and letters.
 use Rattle.std.proofs.Common.{◌≡◌, ℕ, suc, ◌+◌, ◌*◌, ◌<◌, ◌≤◌, ◌==◌, Bool, true, false, ◌||◌, if◌then◌else◌, List, []}
 use Rattle.std.proofs.Common.{◌∷◌, ◌++◌, length, map, take, drop, Option, Some, None, option_map, refl, sym, ap, ap₂}
-use Rattle.std.proofs.Common.{◌∙◌, subst, ne_eqb, arith, bytes_eq, take_at, drop_at, take-append-drop, length-append}
+use Rattle.std.proofs.Common.{◌∙◌, subst, ne_eqb, arith, bytes_eq, take_at, drop_at, take-append-drop}
 use Rattle.std.proofs.Common.{append_assoc, one-add}
 use Rattle.std.specs.Prelude.{codes, nat_lt, nat_le}
 use Rattle.std.specs.List.{list_all, prefix_len}
@@ -31,9 +31,6 @@ some_of n h = grind (arith, nat_tests)
 
 few_of : (n : ℕ) → nat_lt 9 n ≡ false → n ≤ 9
 few_of n h = grind (arith, nat_tests)
-
-length-front : (n : ℕ) (front rest whole : List ℕ) → front ++ rest ≡ whole → length front + length rest ≡ length whole
-length-front n front rest whole e = let same = ap length e in omega (arith, same, length-append front rest)
 
 prefix-le : (p : ℕ → Bool) (bytes : List ℕ) → prefix_len p bytes ≡ length (take (prefix_len p bytes) bytes)
 prefix-le p [] = refl

@@ -94,8 +94,8 @@ impl<F: Fn(Global, &mut Words<'_>, usize, Level) -> Result<Boxed<Condition>, Par
         requires callable { G.IsAlwaysCallable operand.now }
         requires reads { ReadsBy (spec.operand (spec.nested self.now.depth) connective)
             (G.post operand.now) }
-        ensures { Reads (spec.chain connective (spec.operand (spec.nested self.now.depth) connective)
-            words.old) result words.new }
+        ensures { Reads (spec.chain connective
+            (spec.operand (spec.nested self.now.depth) connective) words.old) result words.new }
     {
         let first = operand(words)?;
         let most = left_count(words);

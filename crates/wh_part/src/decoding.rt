@@ -1,7 +1,7 @@
 ghost use Rattle.std.specs.Prelude.{◌≡◌, map, nat_le};
 ghost use Rattle.wh_part.specs.Reading.{Gives, items_at};
-ghost use Rattle.wh_part.specs.Decoding.{whole_number_at, value_at, row_at, row_count_at, rows_at, partition_at};
-ghost use Rattle.wh_part.specs.Decoding.{least_after, rises_from};
+ghost use Rattle.wh_part.specs.Decoding.{whole_number_at, value_at, row_at, row_count_at, rows_at};
+ghost use Rattle.wh_part.specs.Decoding.{partition_at, least_after, rises_from};
 ghost use Rattle.wh_part.specs.Laws.{SpellingFixesPartitions};
 ghost use Rattle.wh_part.specs.View.{numbered_of};
 ghost use Rattle.wh_value.specs.View.{value_of};
@@ -141,7 +141,8 @@ fn read_rows(
 }
 
 impl Partition {
-    ghost use Rattle.std.specs.Prelude.{◌≡◌, ◌≤◌, ◌++◌, List, ℕ, length, take, IfSome, IfNone, IfOk};
+    ghost use Rattle.std.specs.Prelude.{◌≡◌, ◌≤◌, ◌++◌, List, ℕ, length, take, IfSome, IfNone};
+    ghost use Rattle.std.specs.Prelude.{IfOk};
     ghost use Rattle.wh_frame.specs.Partition as machine;
     ghost use Rattle.wh_frame.specs.Spelling.{partition_bytes, IsPartition};
     ghost use Rattle.wh_part.specs.Reading.{Gives};

@@ -52,7 +52,8 @@ fn write_row(out: &mut Bytes, numbered: &NumberedRow) -> Result<(), AllocError>
 }
 
 fn write_rows(out: &mut Bytes, rows: &[NumberedRow]) -> Result<(), AllocError>
-    ensures written { OnOk result (out.new ≡ out.old ++ flat_map row_bytes (map numbered_of rows.now)) }
+    ensures written { OnOk result (out.new
+        ≡ out.old ++ flat_map row_bytes (map numbered_of rows.now)) }
     ensures wide { OnOk result (AllByRecursion HasWideNumber (map numbered_of rows.now)) }
     ensures kept { Keeps out.old out.new }
 {

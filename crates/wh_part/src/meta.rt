@@ -78,8 +78,9 @@ fn bounds_of(alloc: Global, rows: &[NumberedRow], width: usize) -> Result<Vec<Bo
     requires some { 0 < length rows.now }
     requires wide { All (λ e. length e.1 ≡ width) (map numbered_of rows.now) }
     ensures width { IfOk result (λ columns. length columns.items ≡ width) }
-    ensures columns { IfOk result (λ columns. (place : ℕ) (d : Bounds) → place < width →
-        IsBoundsOf (slice_index_or columns.items place d) (column place (map numbered_of rows.now))) }
+    ensures columns { IfOk result (λ columns. (place : ℕ) (d : Bounds) → place < width
+        → IsBoundsOf (slice_index_or columns.items place d)
+        (column place (map numbered_of rows.now))) }
 {
     let mut columns = Vec::with_capacity(alloc, width)?;
     for place in 0..width {

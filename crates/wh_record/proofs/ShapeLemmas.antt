@@ -30,7 +30,8 @@ partition_spelled width p shape valued = record {
 
 module _ {A X : Type 0} (P : X → Type 0) (f : A → X) (xs : List A) where
   -- all of them passed
-  pub passed : (i : ℕ) → length xs ≤ i → AllByRecursion P (map f (take i xs)) → IsTrue true ↔ AllByRecursion P (map f xs)
+  pub passed : (i : ℕ) → length xs ≤ i → AllByRecursion P (map f (take i xs))
+      → IsTrue true ↔ AllByRecursion P (map f xs)
   passed i past all = (λ _. subst (λ l. AllByRecursion P (map f l)) (take_all i xs past) all, λ _. refl)
 
   module _ (i : ℕ) (x : A) (answer : Bool) (within : i < length xs) (is : x ≡ get_or xs i x)

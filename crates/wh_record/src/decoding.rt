@@ -3,11 +3,13 @@ ghost use Rattle.std.specs.Int.{w32, w64};
 ghost use Rattle.wh_value.specs.View.{type_of, column_of};
 ghost use Rattle.wh_part.specs.Reading.{Gives, items_at, list_at, number_at};
 ghost use Rattle.wh_part.specs.Decoding.{partition_at};
-ghost use Rattle.wh_record.specs.Decoding.{type_at, column_at, table_at, removed_at, version_at, stream_kind_at};
-ghost use Rattle.wh_record.specs.Decoding.{stream_at, offset_at, change_behind, change_at, commit_at, commit_of_all};
-ghost use Rattle.wh_record.specs.Laws.{PayloadFixesCommit, FileFixesPayloads, FileFixesStored, FileFixesState};
-ghost use Rattle.wh_record.specs.Laws.{FirstFaultIsOne, FaultyFileStandsForNone};
-ghost use Rattle.wh_record.specs.View.{table_change_of, version_change_of, stream_change_of, change_of, commit_of};
+ghost use Rattle.wh_record.specs.Decoding.{type_at, column_at, table_at, removed_at, version_at};
+ghost use Rattle.wh_record.specs.Decoding.{stream_kind_at, stream_at, offset_at, change_behind};
+ghost use Rattle.wh_record.specs.Decoding.{change_at, commit_at, commit_of_all};
+ghost use Rattle.wh_record.specs.Laws.{PayloadFixesCommit, FileFixesPayloads, FileFixesStored};
+ghost use Rattle.wh_record.specs.Laws.{FileFixesState, FirstFaultIsOne, FaultyFileStandsForNone};
+ghost use Rattle.wh_record.specs.View.{table_change_of, version_change_of, stream_change_of};
+ghost use Rattle.wh_record.specs.View.{change_of, commit_of};
 
 use crate::commit::{DROP_TAG, OFFSET_TAG, STREAM_TAG, TABLE_TAG, VERSION_TAG};
 use crate::format::rise;

@@ -2,12 +2,14 @@ ghost use Rattle.std.specs.Prelude.{◌≡◌, ◌<◌, ◌^◌, ◌∷◌, [], 
 ghost use Rattle.std.specs.List.{flat_map, AllByRecursion};
 ghost use Rattle.std.specs.Int.{w32, w64, to_be_bytes};
 ghost use Rattle.wh_frame.specs.Spelling.{list_bytes, partition_bytes, IsPartition};
-ghost use Rattle.wh_state.specs.Spelling.{type_byte, column_bytes, table_bytes, version_bytes, stream_kind_byte};
-ghost use Rattle.wh_state.specs.Spelling.{stream_bytes, offset_bytes, change_bytes, payload_of, NumbersRiseFrom};
-ghost use Rattle.wh_state.specs.Spelling.{IsColumn, IsTableChange, IsVersionChange, IsStreamChange, IsChange};
+ghost use Rattle.wh_state.specs.Spelling.{type_byte, column_bytes, table_bytes, version_bytes};
+ghost use Rattle.wh_state.specs.Spelling.{stream_kind_byte, stream_bytes, offset_bytes};
+ghost use Rattle.wh_state.specs.Spelling.{change_bytes, payload_of, NumbersRiseFrom, IsColumn};
+ghost use Rattle.wh_state.specs.Spelling.{IsTableChange, IsVersionChange, IsStreamChange, IsChange};
 ghost use Rattle.wh_state.specs.Spelling.{IsCommit};
 ghost use Rattle.wh_value.specs.View.{type_of, column_of};
-ghost use Rattle.wh_record.specs.View.{table_change_of, version_change_of, stream_change_of, change_of, commit_of};
+ghost use Rattle.wh_record.specs.View.{table_change_of, version_change_of, stream_change_of};
+ghost use Rattle.wh_record.specs.View.{change_of, commit_of};
 
 use crate::commit::{DROP_TAG, OFFSET_TAG, STREAM_TAG, TABLE_TAG, VERSION_TAG};
 use crate::format::{has_rows, rise};
@@ -170,7 +172,8 @@ fn byte_of_kind(is_append_only: bool) -> u8
 
 #[tactic(auto, unfolding(wh_state::specs::Spelling::stream_bytes))]
 fn write_stream(out: &mut Bytes, stream: &StreamChange) -> Result<(), AllocError>
-    ensures written { OnOk result (out.new ≡ out.old ++ stream_bytes (stream_change_of stream.now)) }
+    ensures written { OnOk result (out.new
+        ≡ out.old ++ stream_bytes (stream_change_of stream.now)) }
     ensures spelled { OnOk result (IsStreamChange (stream_change_of stream.now)) }
 {
     write_u32(out, stream.id)?;

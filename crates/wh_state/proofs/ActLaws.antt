@@ -3,23 +3,22 @@
 --     edit_meant, other_meant     an act that edits an orderly table, and any other one
 --     AreEditsFrom                edits of tables by rising ids, and then any other acts
 --     acts_meant, written_meant   these, and their commit
-use Rattle.std.proofs.Common.{◌≡◌, ℕ, suc, ◌+◌, ◌<◌, ◌≤◌, List, [], ◌∷◌, ◌++◌, length, map}
-use Rattle.std.proofs.Common.{Option, Some, None, option_map}
-use Rattle.std.proofs.Common.{refl, sym, ap, subst, ◌∙◌, arith}
+use Rattle.std.proofs.Common.{◌≡◌, ℕ, suc, ◌+◌, ◌<◌, ◌≤◌, List, [], ◌∷◌, ◌++◌, length, map, Option, Some, None}
+use Rattle.std.proofs.Common.{option_map, refl, sym, ap, subst, ◌∙◌, arith}
 use Rattle.std.specs.List.{AllByRecursion}
 use Rattle.std.proofs.lemmas.List.{map-append}
-use Rattle.wh_state.specs.State.{Rows, Contents, nothing_held, Version, Table, Object, at_id, with_id, put_at}
-use Rattle.wh_state.specs.State.{dropped, last_of, content_in, last_content, version_at, stamped}
+use Rattle.wh_state.specs.State.{Rows, Contents, nothing_held, Version, Table, Object, at_id, with_id, put_at, dropped}
+use Rattle.wh_state.specs.State.{last_of, content_in, last_content, version_at, stamped, TableKind, StreamKind}
 use Rattle.wh_state.specs.Edits.{Edits, numbers_gone, partitions_made, without, contents_after}
 use Rattle.wh_state.specs.Act.{Act, MakesTable, DropsObject, EditsRows, MakesStream, MovesOffset, edited_table}
 use Rattle.wh_state.specs.Act.{edited_object, moved_object, acted, all_acted, done}
-use Rattle.wh_state.specs.Stored.{StoredVersion, StoredTable, StoredKind, StoredTableKind, StoredStreamKind}
-use Rattle.wh_state.specs.Stored.{StoredObject, Stored, standing}
+use Rattle.wh_state.specs.Stored.{StoredVersion, StoredTable, StoredKind, StoredObject, Stored, standing}
 use Rattle.wh_state.specs.Stored.{contents_meant, version_meant, table_meant, object_meant, meant}
-use Rattle.wh_state.specs.Commit.{Change, TableChange, VersionChange, StreamChange, CreatesTable, Drops, CreatesStream}
+use Rattle.wh_state.specs.Commit.{Change, TableChange, StreamChange, CreatesTable, Drops, CreatesStream}
 use Rattle.wh_state.specs.Commit.{SetsOffset, pushed, pushed_object, offset_set, changed, all_changed, applied}
 use Rattle.wh_state.specs.Orderly.{IsOrderly, IsOrderlyVersion, IsOrderlyTable, IsOrderlyKind, IsOrderlyObject}
 use Rattle.wh_state.specs.Orderly.{IsOrderlyStored}
+pub use Rattle.wh_state.specs.Written.{version_change}
 use Rattle.wh_state.specs.Written.{version_written, version_written_to, act_written, written, commit_for}
 use Rattle.wh_state.proofs.AllLaws.{all_at}
 use Rattle.wh_state.proofs.IdLaws.{map_changed, at_other, with_same}
@@ -27,17 +26,6 @@ use Rattle.wh_state.proofs.EditLaws.{edits_written}
 use Rattle.wh_state.proofs.MeaningLaws.{at_id_meant, with_id_meant, last_content_meant, columns_meant}
 
 -- ---- a table's next version
-
--- the change that edits of a table are written as
-abbrev pub version_change : ℕ → ℕ → Edits → StoredTable → VersionChange
-version_change stamp id e t = record {
-  id = id;
-  data_timestamp = stamp;
-  next_row = t.next_row + length e.added;
-  width = length t.columns;
-  removed = numbers_gone e.rows (standing t);
-  added = partitions_made t.next_partition t.next_row e (standing t);
-}
 
 contents_written : (e : Edits) (t : StoredTable) → IsOrderly (standing t)
     → contents_meant (without (numbers_gone e.rows (standing t)) (standing t)
@@ -79,7 +67,7 @@ edited_meant stamp id e t orderly =
     ∙ ap (edited_from stamp e (table_meant t)) (sym (last_content_meant t))
     ∙ sym (edited_is stamp e (table_meant t))
 
-edited_object_meant : (stamp id : ℕ) (e : Edits) (o : StoredObject) (t : StoredTable) → o.kind ≡ StoredTableKind t
+edited_object_meant : (stamp id : ℕ) (e : Edits) (o : StoredObject) (t : StoredTable) → o.kind ≡ TableKind t
     → IsOrderly (standing t)
     → object_meant (pushed_object stamp (version_change stamp id e t) o) ≡ edited_object stamp e (object_meant o)
 edited_object_meant stamp id e o t is orderly =
@@ -111,8 +99,8 @@ offset_meant stamp objects id offset =
   where
     by_kind : (o : StoredObject) (k : StoredKind) → object_meant (offset_set offset (record o { kind = k }))
         ≡ moved_object offset (object_meant (record o { kind = k }))
-    by_kind o (StoredTableKind t) = refl
-    by_kind o (StoredStreamKind s) = refl
+    by_kind o (TableKind t) = refl
+    by_kind o (StreamKind s) = refl
 
 dropped_meant : (stamp : ℕ) (objects : List StoredObject) (id : ℕ)
     → map object_meant (changed stamp objects (Drops id)) ≡ acted stamp (map object_meant objects) (DropsObject id)
@@ -120,7 +108,7 @@ unfolding changed
 dropped_meant stamp objects id = map_changed object_meant dropped dropped (λ o. refl) objects id
 
 edits_meant : (stamp id : ℕ) (e : Edits) (objects : List StoredObject) (o : StoredObject) (t : StoredTable)
-    → at_id objects id ≡ Some o → o.kind ≡ StoredTableKind t → IsOrderly (standing t)
+    → at_id objects id ≡ Some o → o.kind ≡ TableKind t → IsOrderly (standing t)
     → map object_meant (changed stamp objects (version_written stamp id e t))
     ≡ with_id (map object_meant objects) id (edited_object stamp e (object_meant o))
 unfolding changed
@@ -157,14 +145,15 @@ edit_meant stamp objects id e orderly =
     by_kind : (o : StoredObject) (k : StoredKind) → at_id objects id ≡ Some o → o.kind ≡ k → IsOrderlyKind k
         → map object_meant (all_changed stamp objects (version_written_to stamp id e (Some o)))
         ≡ with_id (map object_meant objects) id (edited_object stamp e (object_meant o))
-    by_kind o (StoredTableKind t) there is orderly =
+    by_kind o (TableKind t) there is orderly =
         let edited : map object_meant (changed stamp objects (version_written stamp id e t))
         ≡ with_id (map object_meant objects) id (edited_object stamp e (object_meant o)) =
         edits_meant stamp id e objects o t there is (orderly_standing t orderly) in
         rw is (rw is at edited)
-    by_kind o (StoredStreamKind s) there is orderly =
+    by_kind o (StreamKind s) there is orderly =
         rw is (sym (with_same (map object_meant objects) id (object_meant o)
-        (at_id_meant objects id ∙ ap (option_map object_meant) there)) ∙ ap (with_id (map object_meant objects) id) (rw is refl))
+        (at_id_meant objects id ∙ ap (option_map object_meant) there))
+        ∙ ap (with_id (map object_meant objects) id) (rw is refl))
 
     by_found : (found : Option StoredObject) → at_id objects id ≡ found → OrderlyAt found
         → map object_meant (all_changed stamp objects (version_written_to stamp id e found))
@@ -238,8 +227,8 @@ edit_leaves stamp id e objects later h = by_found (at_id objects id)
     by_kind : (o : StoredObject) (k : StoredKind)
         → at_id (all_changed stamp objects (version_written_to stamp id e (Some (record o { kind = k })))) later
         ≡ at_id objects later
-    by_kind o (StoredTableKind t) = at_other (pushed_object stamp (version_change stamp id e t)) objects id later h
-    by_kind o (StoredStreamKind s) = refl
+    by_kind o (TableKind t) = at_other (pushed_object stamp (version_change stamp id e t)) objects id later h
+    by_kind o (StreamKind s) = refl
 
     by_found : (found : Option StoredObject)
         → at_id (all_changed stamp objects (version_written_to stamp id e found)) later ≡ at_id objects later

@@ -6,8 +6,8 @@ use Rattle.std.specs.Prelude.{codes}
 use Rattle.std.specs.FinMap.{empty, insert, values}
 use Rattle.wh_value.specs.Value.{Number, Row}
 use Rattle.wh_value.specs.Column.{NumberType}
-use Rattle.wh_state.specs.State.{Contents, Table, TableKind, State, Version, nothing_held, version_at}
-use Rattle.wh_state.specs.State.{last_rows, last_partitions}
+use Rattle.wh_state.specs.State.{Contents, Table, TableKind, State, Version, nothing_held, version_at, last_rows}
+use Rattle.wh_state.specs.State.{last_partitions}
 use Rattle.wh_state.specs.Edits.{Edits, rows_after, partitions_made}
 use Rattle.wh_state.specs.Act.{edited_table}
 use Rattle.wh_state.proofs.KnownMaps.{map_steps}
@@ -23,6 +23,7 @@ held = record {
 
 abbrev pub table_t : Table
 table_t = record {
+  created = 1;
   columns = record { name = codes "K"; column_type = NumberType } ∷ [];
   retention = 1;
   next_row = 3;
@@ -34,7 +35,7 @@ abbrev pub filled : State
 filled = record {
   last = 3;
   committed = 2;
-  objects = record { name = codes "T"; is_live = true; created = 1; kind = TableKind table_t } ∷ [];
+  objects = record { name = codes "T"; is_live = true; kind = TableKind table_t } ∷ [];
 }
 
 -- ---- the table after a commit

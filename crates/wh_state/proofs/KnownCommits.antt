@@ -1,16 +1,16 @@
 -- Commits, worked out by hand: their bytes, which of them apply, and what they leave.
-use Rattle.std.proofs.Common.{◌≡◌, ℕ, ◌<◌, ◌≤◌, ◌⊎◌, List, [], ◌∷◌, ◌++◌, length, map, true, false, Some, None, pos}
-use Rattle.std.proofs.Common.{inl, inr, refl, arith}
+use Rattle.std.proofs.Common.{◌≡◌, ℕ, ◌<◌, ◌≤◌, ◌⊎◌, List, [], ◌∷◌, ◌++◌, length, map, true, false, Some, None}
+use Rattle.std.proofs.Common.{option_map, pos, inl, inr, refl, arith}
 use Rattle.std.specs.Prelude.{codes}
 use Rattle.wh_value.specs.Value.{Number}
 use Rattle.wh_value.specs.Column.{NumberType, VarcharType, BooleanType}
 use Rattle.wh_frame.specs.Partition.{Partition}
 use Rattle.wh_frame.specs.Spelling.{partition_bytes, row_bytes, value_bytes}
 use Rattle.wh_frame.specs.File.{record_of, records_of}
-use Rattle.wh_state.specs.State.{VersionOf, new_table, id_of, live_count}
-use Rattle.wh_state.specs.Stored.{StoredTable, StoredTableKind, StoredObject, Stored, first_stored}
-use Rattle.wh_state.specs.Commit.{TableApplies, VersionApplies, Leads, TableChange, VersionChange, CreatesTable}
-use Rattle.wh_state.specs.Commit.{Drops, PushesVersion, Commit, changed, applied, Applies}
+use Rattle.wh_state.specs.State.{VersionOf, new_table, id_of, live_count, TableKind, table_in}
+use Rattle.wh_state.specs.Stored.{StoredTable, StoredObject, Stored, first_stored}
+use Rattle.wh_state.specs.Commit.{TableApplies, VersionApplies, Leads, TableChange, VersionChange, CreatesTable, Drops}
+use Rattle.wh_state.specs.Commit.{PushesVersion, Commit, changed, applied, Applies}
 use Rattle.wh_state.specs.Spelling.{payload_of, change_bytes, table_bytes, version_bytes, column_bytes}
 
 -- ---- bytes
@@ -112,8 +112,8 @@ filed last next_row next_partition versions = record {
   objects = record {
     name = codes "T";
     is_live = true;
-    created = 1;
-    kind = StoredTableKind (record {
+    kind = TableKind (record {
+      created = 1;
       columns = table_t.columns;
       retention = 1;
       next_row = next_row;
@@ -276,6 +276,7 @@ name_taken is = absurd (cc is.changes.0.object.free)
 
 replaced : (map (λ o. o.is_live) (applied before (replacement 2)).objects ≡ false ∷ true ∷ [])
     × (id_of (codes "T") (applied before (replacement 2)).objects ≡ Some 2)
-    × (map (λ o. o.created) (applied before (replacement 2)).objects ≡ 1 ∷ 2 ∷ [])
+    × (map (λ o. option_map (λ t. t.created) (table_in o.kind)) (applied before (replacement 2)).objects
+    ≡ Some 1 ∷ Some 2 ∷ [])
 unfolding changed
 replaced = (refl, refl, refl)

@@ -7,13 +7,11 @@
 use Rattle.std.proofs.Common.{◌≡◌, ℕ, ◌+◌, List, [], length, map, Option, Some, None, option_map, refl, ap, ◌∙◌}
 use Rattle.std.specs.Option.{option_and_then, option_map_or}
 use Rattle.std.proofs.lemmas.List.{length-map}
-use Rattle.wh_state.specs.State.{Contents, Stream, Object, nothing_held}
-use Rattle.wh_state.specs.State.{table_in, stream_in, columns_in, at_id, with_id, id_of, is_named, live_count}
-use Rattle.wh_state.specs.State.{last_of, content_in, last_content, last_rows, last_partitions, columns_at}
+use Rattle.wh_state.specs.State.{Contents, Object, TableKind, StreamKind, nothing_held, table_in, stream_in, columns_in}
+use Rattle.wh_state.specs.State.{at_id, with_id, id_of, is_named, live_count, last_of, content_in, last_content}
+use Rattle.wh_state.specs.State.{last_rows, last_partitions, columns_at}
 use Rattle.wh_state.specs.Objects.{as_table, as_stream, table_at, stream_at}
-use Rattle.wh_state.specs.Stored.{StoredVersion, StoredTable, StoredKind, StoredTableKind, StoredStreamKind}
-use Rattle.wh_state.specs.Stored.{StoredObject, standing, stored_columns_in, stored_columns_at, rows_of}
-pub use Rattle.wh_state.specs.Stored.{stored_table_in, stored_stream_in}
+use Rattle.wh_state.specs.Stored.{StoredVersion, StoredTable, StoredKind, StoredObject, standing, rows_of}
 use Rattle.wh_state.specs.Stored.{contents_meant, version_meant, table_meant, kind_meant, object_meant}
 use Rattle.wh_state.proofs.IdLaws.{map_at, map_with, map_last, map_position, map_count}
 
@@ -65,52 +63,36 @@ last_rows_meant t = ap (λ (c : Contents). c.rows) (last_content_meant t)
 pub last_partitions_meant : (t : StoredTable) → last_partitions (table_meant t) ≡ standing t
 last_partitions_meant t = ap (λ (c : Contents). c.partitions) (last_content_meant t)
 
--- the stored table of an id, if there is one
-abbrev pub stored_table_of : Option StoredObject → Option StoredTable
-stored_table_of None = None
-stored_table_of (Some o) = stored_table_in o.kind
-
-abbrev pub stored_table_at : List StoredObject → ℕ → Option StoredTable
-stored_table_at objects id = stored_table_of (at_id objects id)
-
 pub table_at_meant : (objects : List StoredObject) (id : ℕ)
-    → table_at (map object_meant objects) id ≡ option_map table_meant (stored_table_at objects id)
+    → table_at (map object_meant objects) id ≡ option_map table_meant (table_at objects id)
 table_at_meant objects id =
-    found_meant (option_and_then as_table) (λ found. option_map table_meant (stored_table_of found)) refl
+    found_meant (option_and_then as_table) (λ found. option_map table_meant (option_and_then as_table found)) refl
     (λ o. by_kind o.kind) objects id
   where
-    by_kind : (k : StoredKind) → table_in (kind_meant k) ≡ option_map table_meant (stored_table_in k)
-    by_kind (StoredTableKind t) = refl
-    by_kind (StoredStreamKind s) = refl
+    by_kind : (k : StoredKind) → table_in (kind_meant k) ≡ option_map table_meant (table_in k)
+    by_kind (TableKind t) = refl
+    by_kind (StreamKind s) = refl
 
 -- ---- streams
 
--- the stored stream of an id, if there is one
-abbrev pub stored_stream_of : Option StoredObject → Option Stream
-stored_stream_of None = None
-stored_stream_of (Some o) = stored_stream_in o.kind
-
-abbrev pub stored_stream_at : List StoredObject → ℕ → Option Stream
-stored_stream_at objects id = stored_stream_of (at_id objects id)
-
 pub stream_at_meant : (objects : List StoredObject) (id : ℕ)
-    → stream_at (map object_meant objects) id ≡ stored_stream_at objects id
+    → stream_at (map object_meant objects) id ≡ stream_at objects id
 stream_at_meant objects id =
-    found_meant (option_and_then as_stream) stored_stream_of refl (λ o. by_kind o.kind) objects id
+    found_meant (option_and_then as_stream) (option_and_then as_stream) refl (λ o. by_kind o.kind) objects id
   where
-    by_kind : (k : StoredKind) → stream_in (kind_meant k) ≡ stored_stream_in k
-    by_kind (StoredTableKind t) = refl
-    by_kind (StoredStreamKind s) = refl
+    by_kind : (k : StoredKind) → stream_in (kind_meant k) ≡ stream_in k
+    by_kind (TableKind t) = refl
+    by_kind (StreamKind s) = refl
 
 -- ---- columns
 
 pub columns_meant : (objects : List StoredObject) (id : ℕ)
-    → columns_at (map object_meant objects) id ≡ stored_columns_at objects id
+    → columns_at (map object_meant objects) id ≡ columns_at objects id
 columns_meant objects id =
     found_meant (λ found. option_map_or (λ (o : Object). columns_in o.kind) found [])
-    (λ found. option_map_or (λ (o : StoredObject). stored_columns_in o.kind) found []) refl (λ o. by_kind o.kind)
+    (λ found. option_map_or (λ (o : StoredObject). columns_in o.kind) found []) refl (λ o. by_kind o.kind)
     objects id
   where
-    by_kind : (k : StoredKind) → columns_in (kind_meant k) ≡ stored_columns_in k
-    by_kind (StoredTableKind t) = refl
-    by_kind (StoredStreamKind s) = refl
+    by_kind : (k : StoredKind) → columns_in (kind_meant k) ≡ columns_in k
+    by_kind (TableKind t) = refl
+    by_kind (StreamKind s) = refl

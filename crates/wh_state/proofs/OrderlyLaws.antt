@@ -14,17 +14,17 @@ use Rattle.std.proofs.lemmas.Option.{IfSome_then}
 use Rattle.wh_value.specs.Column.{Column}
 use Rattle.wh_frame.specs.Partition.{Partition}
 use Rattle.wh_frame.specs.Spelling.{IsPartition}
-use Rattle.wh_state.specs.State.{new_table, new_object, dropped, content_in, at_id, put_at}
+use Rattle.wh_state.specs.State.{new_table, new_object, dropped, content_in, at_id, put_at, TableKind, StreamKind}
+use Rattle.wh_state.specs.State.{table_in}
 use Rattle.wh_state.specs.Edits.{is_among, without}
-use Rattle.wh_state.specs.Stored.{StoredTable, StoredKind, StoredTableKind, StoredStreamKind, StoredObject}
-use Rattle.wh_state.specs.Stored.{Stored, first_stored, stored_table_in, standing}
+use Rattle.wh_state.specs.Stored.{StoredTable, StoredKind, StoredObject, Stored, first_stored, standing}
 use Rattle.wh_state.specs.Commit.{VersionChange, Change, CreatesTable, Drops, PushesVersion, CreatesStream, SetsOffset}
 use Rattle.wh_state.specs.Commit.{Commit, pushed, pushed_object, offset_set, offset_set_kind, changed, all_changed}
-use Rattle.wh_state.specs.Commit.{applied, AreApart, AllApart, NumberedFrom}
-use Rattle.wh_state.specs.Commit.{VersionApplies, FitsObject, ChangeApplies, AllApply, Applies, Leads}
+use Rattle.wh_state.specs.Commit.{applied, AreApart, AllApart, NumberedFrom, VersionApplies, FitsObject, ChangeApplies}
+use Rattle.wh_state.specs.Commit.{AllApply, Applies, Leads}
 use Rattle.wh_state.specs.Spelling.{NumbersRiseFrom, IsVersionChange, IsChange, IsCommit}
-use Rattle.wh_state.specs.Orderly.{HasRisingRows, IsOrderly, IsOrderlyVersion, IsOrderlyTable}
-use Rattle.wh_state.specs.Orderly.{IsOrderlyObject, IsOrderlyStored}
+use Rattle.wh_state.specs.Orderly.{HasRisingRows, IsOrderly, IsOrderlyVersion, IsOrderlyTable, IsOrderlyObject}
+use Rattle.wh_state.specs.Orderly.{IsOrderlyStored}
 use Rattle.wh_state.specs.File.{Keeps}
 use Rattle.wh_state.proofs.AllLaws.{all_map, all_filter, all_append, all_more, all_at, all_with, all_changed_at}
 use Rattle.wh_state.proofs.IdLaws.{last_more}
@@ -111,7 +111,7 @@ pub record KeptTable (t : StoredTable) : Type 0 where
   pub below : AllByRecursion (λ p. p.number < t.next_partition) (standing t)
 
 abbrev pub KeptKind : StoredKind → Type 0
-KeptKind k = IfSome (stored_table_in k) KeptTable
+KeptKind k = IfSome (table_in k) KeptTable
 
 abbrev pub KeptObject : StoredObject → Type 0
 KeptObject o = KeptKind o.kind
@@ -172,22 +172,22 @@ new_kept columns retention stamp = record { orderly = (record { numbers = tt; ro
 pushed_kept : (stamp : ℕ) (c : VersionChange) (o : StoredObject) (k : StoredKind) → IsVersionChange c → o.kind ≡ k
     → KeptKind k → FitsObject (Some (record o { kind = k })) c
     → KeptObject (pushed_object stamp c (record o { kind = k }))
-pushed_kept stamp c o (StoredTableKind t) good is kept fits = orderly_pushed stamp c t good fits.1 kept
-pushed_kept stamp c o (StoredStreamKind s) good is kept fits = absurd fits.1
+pushed_kept stamp c o (TableKind t) good is kept fits = orderly_pushed stamp c t good fits.1 kept
+pushed_kept stamp c o (StreamKind s) good is kept fits = absurd fits.1
 
 offset_kept : (offset : ℕ) (o : StoredObject) → KeptObject o → KeptObject (offset_set offset o)
 offset_kept offset o kept = by_kind o.kind kept
   where
     by_kind : (k : StoredKind) → KeptKind k → KeptKind (offset_set_kind offset k)
-    by_kind (StoredTableKind t) kept = kept
-    by_kind (StoredStreamKind s) kept = tt
+    by_kind (TableKind t) kept = kept
+    by_kind (StreamKind s) kept = tt
 
 pub orderly_changed : (stamp : ℕ) (objects : List StoredObject) (c : Change) → IsChange c → ChangeApplies objects c
     → KeptObjects objects
     → KeptObjects (changed stamp objects c)
 unfolding changed
 orderly_changed stamp objects (CreatesTable c) good applies kept =
-    all_more KeptObject objects (new_object c.name stamp (StoredTableKind (new_table [] c.columns c.retention stamp)))
+    all_more KeptObject objects (new_object c.name (TableKind (new_table [] c.columns c.retention stamp)))
     kept (new_kept c.columns c.retention stamp)
 orderly_changed stamp objects (CreatesStream c) good applies kept = all_more KeptObject objects _ kept tt
 orderly_changed stamp objects (SetsOffset id offset) good applies kept =
@@ -225,7 +225,7 @@ kept_leads s (c ∷ cs) new good leads kept =
 
 pub orderly_stored : (s : Stored) → KeptStored s → IsOrderlyStored s
 orderly_stored s kept = all_map KeptObject IsOrderlyObject
-    (λ o h. IfSome_then (stored_table_in o.kind) h (λ t kept. kept.orderly)) s.objects kept
+    (λ o h. IfSome_then (table_in o.kind) h (λ t kept. kept.orderly)) s.objects kept
 
 pub orderly_leads : (commits : List Commit) (s : Stored) → AllByRecursion IsCommit commits
     → Leads first_stored commits s → KeptStored s

@@ -3,20 +3,19 @@
 --     sound_rest                   so is a sound state as the file keeps it
 --     IsWithin, AreWithin          offsets that move aren't after a stamp
 --     sound_done                   a commit of edits and then other acts at a later stamp
-use Rattle.std.proofs.Common.{◌≡◌, ℕ, suc, ◌+◌, ◌<◌, ◌≤◌, ◌⊎◌, inl, inr, List, [], ◌∷◌, length}
-use Rattle.std.proofs.Common.{Option, Some, None, option_map, refl, sym, subst, arith}
+use Rattle.std.proofs.Common.{◌≡◌, ℕ, suc, ◌+◌, ◌<◌, ◌≤◌, ◌⊎◌, inl, inr, List, [], ◌∷◌, length, Option, Some, None}
+use Rattle.std.proofs.Common.{option_map, refl, sym, subst, arith}
 use Rattle.std.specs.List.{AllByRecursion}
 use Rattle.std.specs.FinMap.{get}
 use Rattle.std.proofs.lemmas.Bool.{cases_lt}
 use Rattle.wh_value.specs.Value.{Row}
 use Rattle.wh_value.specs.Column.{Column}
-use Rattle.wh_state.specs.State.{Version, Table, Kind, TableKind, StreamKind, Object, State, nothing_held}
-use Rattle.wh_state.specs.State.{new_table, new_object}
+use Rattle.wh_state.specs.State.{Version, Table, Kind, TableKind, StreamKind, Object, State, nothing_held, new_table}
 use Rattle.wh_state.specs.State.{dropped, version_at, last_rows, first_state, at_rest, at_id, put_at}
 use Rattle.wh_state.specs.Edits.{Edits}
 use Rattle.wh_state.specs.Act.{Act, MakesTable, DropsObject, EditsRows, MakesStream, MovesOffset, next_contents}
-use Rattle.wh_state.specs.Act.{edited_table, edited_kind, edited_object, moved_kind, moved_object, acted}
-use Rattle.wh_state.specs.Act.{all_acted, done}
+use Rattle.wh_state.specs.Act.{edited_table, edited_kind, edited_object, moved_kind, moved_object, acted, all_acted}
+use Rattle.wh_state.specs.Act.{done}
 use Rattle.wh_state.specs.Sound.{IsTimely, IsBelow, IsSoundTable, IsSoundKind, IsSoundObject, Sound}
 use Rattle.wh_state.proofs.AllLaws.{all_map, all_more, all_at, all_with, all_changed_at}
 use Rattle.wh_state.proofs.IdLaws.{at_other}
@@ -30,6 +29,7 @@ timely_later committed stamp later v is = record { stamp = omega (arith, is.stam
 
 table_later : (committed stamp : ℕ) → committed ≤ stamp → (t : Table) → IsSoundTable committed t → IsSoundTable stamp t
 table_later committed stamp later t is = record {
+  created = omega (arith, is.created);
   timely = all_map (IsTimely committed) (IsTimely stamp) (timely_later committed stamp later) t.versions is.timely;
   rise = is.rise;
   below = is.below;
@@ -39,6 +39,7 @@ table_later committed stamp later t is = record {
 new_sound : (columns : List Column) (retention stamp : ℕ)
     → IsSoundTable stamp (new_table nothing_held columns retention stamp)
 new_sound columns retention stamp = record {
+  created = omega arith;
   timely = (record { stamp = omega arith; data_timestamp = refl }, tt);
   rise = tt;
   below = (λ number has. absurd (cc (empty_lacks number, has.is_there)), tt);
@@ -77,6 +78,7 @@ edited_sound committed stamp e later t sound =
     all_map (IsBelow t.next_row) (IsBelow next) (λ w is number has. omega (arith, is number has))
     t.versions sound.below in
     record {
+      created = old.created;
       timely =
           all_more (IsTimely stamp) t.versions v old.timely (record { stamp = omega arith; data_timestamp = refl });
       rise = rise_more committed t.versions v sound.timely sound.rise later refl;
@@ -91,32 +93,15 @@ kind_later : (committed stamp : ℕ) → committed ≤ stamp → (k : Kind) → 
 kind_later committed stamp later (TableKind t) sound = table_later committed stamp later t sound
 kind_later committed stamp later (StreamKind s) sound = omega (arith, sound)
 
-object_later : (committed stamp : ℕ) → committed ≤ stamp → (o : Object) → IsSoundObject committed o
-    → IsSoundObject stamp o
-object_later committed stamp later o sound =
-    record { created = omega (arith, sound.created); kind = kind_later committed stamp later o.kind sound.kind }
-
 edited_kind_sound : (committed stamp : ℕ) (e : Edits) → committed < stamp → (k : Kind) → IsSoundKind committed k
     → IsSoundKind stamp (edited_kind stamp e k)
 edited_kind_sound committed stamp e later (TableKind t) sound = edited_sound committed stamp e later t sound
 edited_kind_sound committed stamp e later (StreamKind s) sound = omega (arith, sound)
 
-edited_object_sound : (committed stamp : ℕ) (e : Edits) → committed < stamp → (o : Object) → IsSoundObject committed o
-    → IsSoundObject stamp (edited_object stamp e o)
-edited_object_sound committed stamp e later o sound = record {
-  created = omega (arith, sound.created);
-  kind = edited_kind_sound committed stamp e later o.kind sound.kind;
-}
-
-new_object_sound : (name : List ℕ) (columns : List Column) (retention stamp : ℕ)
-    → IsSoundObject stamp (new_object name stamp (TableKind (new_table nothing_held columns retention stamp)))
-new_object_sound name columns retention stamp =
-    record { created = omega arith; kind = new_sound columns retention stamp }
-
 -- a stream's offset, which isn't after the stamp
 moved_object_sound : (stamp offset : ℕ) → offset ≤ stamp → (o : Object) → IsSoundObject stamp o
     → IsSoundObject stamp (moved_object offset o)
-moved_object_sound stamp offset h o sound = record { created = sound.created; kind = by_kind o.kind sound.kind }
+moved_object_sound stamp offset h o sound = by_kind o.kind sound
   where
     by_kind : (k : Kind) → IsSoundKind stamp k → IsSoundKind stamp (moved_kind offset k)
     by_kind (TableKind t) sound = sound
@@ -137,12 +122,12 @@ other_sound : (stamp : ℕ) (objects : List Object) (act : Act) → IsNoEdit act
     → AllByRecursion (IsSoundObject stamp) objects → AllByRecursion (IsSoundObject stamp) (acted stamp objects act)
 other_sound stamp objects (EditsRows id e) other within sound = absurd other
 other_sound stamp objects (MakesTable name columns retention) other within sound =
-    all_more (IsSoundObject stamp) objects _ sound (new_object_sound name columns retention stamp)
+    all_more (IsSoundObject stamp) objects _ sound (new_sound columns retention stamp)
 other_sound stamp objects (MakesStream name source is_append_only) other within sound =
-    all_more (IsSoundObject stamp) objects _ sound (record { created = omega arith; kind = omega arith })
+    all_more (IsSoundObject stamp) objects _ sound (omega arith)
 other_sound stamp objects (DropsObject id) other within sound =
     all_changed_at (IsSoundObject stamp) (IsSoundObject stamp) dropped (λ o h. h)
-    (λ o h. record { created = h.created; kind = h.kind }) objects id sound
+    (λ o h. h) objects id sound
 other_sound stamp objects (MovesOffset id offset) other within sound =
     all_changed_at (IsSoundObject stamp) (IsSoundObject stamp) (moved_object offset) (λ o h. h)
     (moved_object_sound stamp offset within) objects id sound
@@ -180,7 +165,7 @@ edit_sound committed stamp id e later objects sound here = by_found (at_id objec
     by_found None here = sound
     by_found (Some o) here =
         all_with (IsSoundObject stamp) objects id (edited_object stamp e o) sound
-        (edited_object_sound committed stamp e later o here)
+        (edited_kind_sound committed stamp e later o.kind here)
 
 acts_sound : (committed stamp least : ℕ) → committed < stamp → (objects : List Object) (acts : List Act)
     → AreEditsFrom least acts → AreWithin stamp acts → AllByRecursion (IsSoundObject stamp) objects
@@ -211,6 +196,7 @@ pub sound_done : (s : State) → s.committed < s.last → Sound s → (acts : Li
 sound_done s later sound acts shape within = record {
   ordered = omega arith;
   objects = acts_sound s.committed s.last 0 later s.objects acts shape within
-      (all_map (IsSoundObject s.committed) (IsSoundObject s.last) (object_later s.committed s.last (omega (arith, later)))
+      (all_map (IsSoundObject s.committed) (IsSoundObject s.last)
+      (λ o h. kind_later s.committed s.last (omega (arith, later)) o.kind h)
       s.objects sound.objects) (sound_from s.committed s.objects sound.objects);
 }

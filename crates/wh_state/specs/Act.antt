@@ -5,9 +5,9 @@
 use Rattle.std.specs.Prelude.{ℕ, ◌+◌, Bool, List, [], ◌∷◌, ◌++◌, length}
 use Rattle.wh_value.specs.Column.{Column}
 use Rattle.wh_frame.specs.Partition.{Partition}
-use Rattle.wh_state.specs.State.{State, Kind, TableKind, StreamKind, Object, Table, Contents, nothing_held}
-use Rattle.wh_state.specs.State.{new_table, new_object, new_stream, with_offset, dropped, version_at, columns_at}
-use Rattle.wh_state.specs.State.{on_table, on_stream, last_content, last_partitions, changed_at}
+use Rattle.wh_state.specs.State.{State, Kind, TableKind, StreamKind, Object, Table, Contents, nothing_held, new_table}
+use Rattle.wh_state.specs.State.{new_object, new_stream, with_offset, dropped, version_at, columns_at, on_table}
+use Rattle.wh_state.specs.State.{on_stream, last_content, last_partitions, changed_at}
 use Rattle.wh_state.specs.Edits.{Edits, partitions_made, contents_after}
 
 pub data Act : Type 0 where
@@ -53,10 +53,10 @@ moved_object offset o = record o { kind = moved_kind offset o.kind }
 
 abbrev pub acted : ℕ → List Object → Act → List Object
 acted stamp objects (MakesTable name columns retention) =
-    objects ++ new_object name stamp (TableKind (new_table nothing_held columns retention stamp)) ∷ []
+    objects ++ new_object name (TableKind (new_table nothing_held columns retention stamp)) ∷ []
 acted stamp objects (DropsObject id) = changed_at objects id dropped
 acted stamp objects (EditsRows id e) = changed_at objects id (edited_object stamp e)
-acted stamp objects (MakesStream name source is_append_only) = objects ++ new_object name stamp
+acted stamp objects (MakesStream name source is_append_only) = objects ++ new_object name
     (StreamKind (new_stream source is_append_only stamp (columns_at objects source))) ∷ []
 acted stamp objects (MovesOffset id offset) = changed_at objects id (moved_object offset)
 

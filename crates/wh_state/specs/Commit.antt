@@ -2,8 +2,8 @@
 --     Change, Commit       what is changed at a stamp
 --     Applies, applied     when a commit may stand in a file, and what the file then says
 --     Leads                commits that apply one after the other
-use Rattle.std.specs.Prelude.{◌≡◌, ℕ, ◌+◌, ◌<◌, ◌≤◌, ◌⊎◌, Bool, IsTrue, List, [], ◌∷◌, ◌++◌, length, Option}
-use Rattle.std.specs.Prelude.{IsNone, nat_eq}
+use Rattle.std.specs.Prelude.{◌≡◌, ℕ, ◌+◌, ◌<◌, ◌≤◌, ◌⊎◌, Bool, IsTrue, List, [], ◌∷◌, ◌++◌, length, Option, IsNone}
+use Rattle.std.specs.Prelude.{nat_eq}
 use Rattle.std.specs.List.{AllByRecursion, list_any}
 use Rattle.std.specs.Option.{IfSome, IsSomeAnd}
 use Rattle.wh_value.specs.Column.{Column}
@@ -11,13 +11,11 @@ use Rattle.wh_value.specs.Fits.{row_fits}
 use Rattle.wh_value.specs.Limit.{bound}
 use Rattle.wh_value.specs.declared.limit.Limit.TheVariants as limits
 use Rattle.wh_frame.specs.Partition.{Partition, first_number, last_number}
-use Rattle.wh_state.specs.State.{new_table, new_object, new_stream, with_offset, dropped, last_of}
-use Rattle.wh_state.specs.State.{at_id, changed_at}
-use Rattle.wh_state.specs.State.{id_of, live_count, VersionOf}
+use Rattle.wh_state.specs.State.{new_table, new_object, new_stream, with_offset, dropped, last_of, at_id, changed_at}
+use Rattle.wh_state.specs.State.{id_of, live_count, VersionOf, TableKind, StreamKind, on_table, on_stream, table_in}
+use Rattle.wh_state.specs.State.{stream_in, columns_at}
 use Rattle.wh_state.specs.Edits.{without}
-use Rattle.wh_state.specs.Stored.{StoredTable, StoredKind, StoredTableKind, StoredStreamKind, StoredObject, Stored}
-use Rattle.wh_state.specs.Stored.{on_stored_table, on_stored_stream, stored_table_in, stored_stream_in}
-use Rattle.wh_state.specs.Stored.{standing, stored_columns_at}
+use Rattle.wh_state.specs.Stored.{StoredTable, StoredKind, StoredObject, Stored, standing}
 
 -- a new table
 pub record TableChange : Type 0 where
@@ -69,24 +67,24 @@ pushed stamp c t = record t {
 }
 
 abbrev pub pushed_kind : ℕ → VersionChange → StoredKind → StoredKind
-pushed_kind stamp c k = on_stored_table (pushed stamp c) k
+pushed_kind stamp c k = on_table (pushed stamp c) k
 
 abbrev pub pushed_object : ℕ → VersionChange → StoredObject → StoredObject
 pushed_object stamp c o = record o { kind = pushed_kind stamp c o.kind }
 
 abbrev pub offset_set_kind : ℕ → StoredKind → StoredKind
-offset_set_kind offset k = on_stored_stream (with_offset offset) k
+offset_set_kind offset k = on_stream (with_offset offset) k
 
 abbrev pub offset_set : ℕ → StoredObject → StoredObject
 offset_set offset o = record o { kind = offset_set_kind offset o.kind }
 
 unfoldable pub changed : ℕ → List StoredObject → Change → List StoredObject
 changed stamp objects (CreatesTable c) =
-    objects ++ new_object c.name stamp (StoredTableKind (new_table [] c.columns c.retention stamp)) ∷ []
+    objects ++ new_object c.name (TableKind (new_table [] c.columns c.retention stamp)) ∷ []
 changed stamp objects (Drops id) = changed_at objects id dropped
 changed stamp objects (PushesVersion c) = changed_at objects c.id (pushed_object stamp c)
-changed stamp objects (CreatesStream c) = objects ++ new_object c.name stamp
-    (StoredStreamKind (new_stream c.source c.is_append_only c.offset (stored_columns_at objects c.source))) ∷ []
+changed stamp objects (CreatesStream c) = objects ++ new_object c.name
+    (StreamKind (new_stream c.source c.is_append_only c.offset (columns_at objects c.source))) ∷ []
 changed stamp objects (SetsOffset id offset) = changed_at objects id (offset_set offset)
 
 abbrev pub all_changed : ℕ → List StoredObject → List Change → List StoredObject
@@ -151,7 +149,7 @@ pub record VersionApplies (t : StoredTable) (c : VersionChange) : Type 0 where
   pub apart : AllApart (without c.removed (standing t)) c.added
 
 abbrev pub FitsKind : StoredKind → VersionChange → Type 0
-FitsKind k c = IsSomeAnd (stored_table_in k) (λ t. VersionApplies t c)
+FitsKind k c = IsSomeAnd (table_in k) (λ t. VersionApplies t c)
 
 abbrev pub FitsObject : Option StoredObject → VersionChange → Type 0
 FitsObject found c = IsSomeAnd found (λ o. IsTrue o.is_live × FitsKind o.kind c)
@@ -161,7 +159,7 @@ IsLiveObject found = IsSomeAnd found (λ o. IsTrue o.is_live)
 
 -- a live table
 abbrev pub IsTableKind : StoredKind → Type 0
-IsTableKind k = IsSomeAnd (stored_table_in k) (λ t. Unit {0})
+IsTableKind k = IsSomeAnd (table_in k) (λ t. Unit {0})
 
 abbrev pub IsLiveTable : Option StoredObject → Type 0
 IsLiveTable found = IsSomeAnd found (λ o. IsTrue o.is_live × IsTableKind o.kind)
@@ -172,7 +170,7 @@ pub record StreamApplies (objects : List StoredObject) (c : StreamChange) : Type
 
 -- an offset doesn't fall
 abbrev pub TakesOffset : StoredKind → ℕ → Type 0
-TakesOffset k offset = IsSomeAnd (stored_stream_in k) (λ s. s.offset ≤ offset)
+TakesOffset k offset = IsSomeAnd (stream_in k) (λ s. s.offset ≤ offset)
 
 abbrev pub OffsetApplies : Option StoredObject → ℕ → Type 0
 OffsetApplies found offset = IsSomeAnd found (λ o. IsTrue o.is_live × TakesOffset o.kind offset)

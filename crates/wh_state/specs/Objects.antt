@@ -5,26 +5,26 @@
 --     is_kind_at                  whether it is of a kind
 use Rattle.std.specs.Prelude.{ℕ, Bool, false, List, [], Option, is_some}
 use Rattle.std.specs.Option.{option_and_then, option_map_or}
-use Rattle.wh_state.specs.State.{Kind, Object, Table, Stream, table_in, stream_in, at_id}
+use Rattle.wh_state.specs.State.{ObjectOf, KindOf, Kind, Object, Stream, table_in, stream_in, at_id}
 
-abbrev pub is_table : Kind → Bool
+abbrev pub is_table : {T : Type 0} → KindOf T → Bool
 is_table k = is_some (table_in k)
 
-abbrev pub is_stream : Kind → Bool
+abbrev pub is_stream : {T : Type 0} → KindOf T → Bool
 is_stream k = is_some (stream_in k)
 
 -- ---- by ids
 
-abbrev pub as_table : Object → Option Table
+abbrev pub as_table : {T : Type 0} → ObjectOf (KindOf T) → Option T
 as_table o = table_in o.kind
 
-abbrev pub table_at : List Object → ℕ → Option Table
+abbrev pub table_at : {T : Type 0} → List (ObjectOf (KindOf T)) → ℕ → Option T
 table_at objects id = option_and_then as_table (at_id objects id)
 
-abbrev pub as_stream : Object → Option Stream
+abbrev pub as_stream : {T : Type 0} → ObjectOf (KindOf T) → Option Stream
 as_stream o = stream_in o.kind
 
-abbrev pub stream_at : List Object → ℕ → Option Stream
+abbrev pub stream_at : {T : Type 0} → List (ObjectOf (KindOf T)) → ℕ → Option Stream
 stream_at objects id = option_and_then as_stream (at_id objects id)
 
 abbrev pub name_at : List Object → ℕ → List ℕ

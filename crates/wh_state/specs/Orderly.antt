@@ -6,7 +6,8 @@ use Rattle.std.specs.List.{AllByRecursion}
 use Rattle.std.specs.Option.{IfSome}
 use Rattle.wh_frame.specs.Partition.{Partition}
 use Rattle.wh_frame.specs.Spelling.{RisesFrom}
-use Rattle.wh_state.specs.Stored.{StoredVersion, StoredTable, StoredKind, StoredObject, Stored, stored_table_in}
+use Rattle.wh_state.specs.State.{table_in}
+use Rattle.wh_state.specs.Stored.{StoredVersion, StoredTable, StoredKind, StoredObject, Stored}
 use Rattle.wh_state.specs.Commit.{AllApart}
 use Rattle.wh_state.specs.Spelling.{NumbersRiseFrom}
 
@@ -25,7 +26,7 @@ abbrev pub IsOrderlyTable : StoredTable → Type 0
 IsOrderlyTable t = AllByRecursion IsOrderlyVersion t.versions
 
 abbrev pub IsOrderlyKind : StoredKind → Type 0
-IsOrderlyKind k = IfSome (stored_table_in k) IsOrderlyTable
+IsOrderlyKind k = IfSome (table_in k) IsOrderlyTable
 
 abbrev pub IsOrderlyObject : StoredObject → Type 0
 IsOrderlyObject o = IsOrderlyKind o.kind

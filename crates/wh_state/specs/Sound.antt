@@ -39,7 +39,9 @@ pub record IsTimely (committed : ℕ) (v : Version) : Type 0 where
 abbrev pub IsBelow : ℕ → Version → Type 0
 IsBelow next v = (number : ℕ) → HasRow v number → number < next
 
+-- it wasn't created after the last commit
 pub record IsSoundTable (committed : ℕ) (t : Table) : Type 0 where
+  pub created : t.created ≤ committed
   pub timely : AllByRecursion (IsTimely committed) t.versions
   pub rise : Rise t.versions
   pub below : AllByRecursion (IsBelow t.next_row) t.versions
@@ -50,10 +52,8 @@ abbrev pub IsSoundKind : ℕ → Kind → Type 0
 IsSoundKind committed (TableKind t) = IsSoundTable committed t
 IsSoundKind committed (StreamKind s) = s.offset ≤ committed
 
--- it wasn't created after the last commit
-pub record IsSoundObject (committed : ℕ) (o : Object) : Type 0 where
-  pub created : o.created ≤ committed
-  pub kind : IsSoundKind committed o.kind
+abbrev pub IsSoundObject : ℕ → Object → Type 0
+IsSoundObject committed o = IsSoundKind committed o.kind
 
 pub record Sound (s : State) : Type 0 where
   pub ordered : s.committed ≤ s.last

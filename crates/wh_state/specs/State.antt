@@ -1,16 +1,17 @@
 -- The state of the machine.
 --     VersionOf, TableOf       a table as the list of its versions, each with its content
---     ObjectOf                 a name, whether it lives, when it was created, and what it is
+--     ObjectOf                 a name, whether it lives, and what it is
 --     Contents                 what a version of the machine holds: its rows, by row number, and the
 --                              partitions that they are written in
 --     Stream                   the changes of a table behind an offset
+--     KindOf                   what an object is: a table, or a stream
+--     on_table, table_in       what is done to the table of a kind, and the table that it has
+--     on_stream, stream_in     the same of streams
+--     columns_in, columns_at   the columns of an object
 --     Version, Table, Kind, Object, State     those of the machine
 --     at_rest, stamped         a state as the file keeps it, and at another stamp
 --     at_id, changed_at        an object's id is its place in order of creation, from 1
 --     id_of                    the id of the live object of a name
---     on_table, table_in       what is done to the table of a kind, and the table that it has
---     on_stream, stream_in     the same of streams
---     columns_in, columns_at   the columns of an object
 use Rattle.std.specs.Prelude.{ℕ, zero, suc, ◌+◌, Bool, true, false, ◌&&◌, List, [], ◌∷◌, Option, Some, None, option_map}
 use Rattle.std.specs.Prelude.{◌++◌, slice_get, slice_set, bytes_eq, count_by, codes}
 use Rattle.std.specs.List.{position}
@@ -29,8 +30,9 @@ pub record VersionOf (Content : Type 0) : Type 0 where
   pub data_timestamp : ℕ
   pub content : Content
 
--- the retention is in days; the versions stand in the order of their stamps
+-- the stamp of its creation; the retention is in days; the versions stand in the order of their stamps
 pub record TableOf (Content : Type 0) : Type 0 where
+  pub created : ℕ
   pub columns : List Column
   pub retention : ℕ
   pub next_row : ℕ
@@ -41,7 +43,6 @@ pub record TableOf (Content : Type 0) : Type 0 where
 pub record ObjectOf (Kind : Type 0) : Type 0 where
   pub name : List ℕ
   pub is_live : Bool
-  pub created : ℕ
   pub kind : Kind
 
 abbrev pub version_at : {Content : Type 0} → ℕ → Content → VersionOf Content
@@ -50,6 +51,7 @@ version_at stamp content = record { stamp = stamp; data_timestamp = stamp; conte
 -- a table as it is created: one version, with nothing in it
 abbrev pub new_table : {Content : Type 0} → Content → List Column → ℕ → ℕ → TableOf Content
 new_table nothing columns retention stamp = record {
+  created = stamp;
   columns = columns;
   retention = retention;
   next_row = 1;
@@ -57,8 +59,8 @@ new_table nothing columns retention stamp = record {
   versions = version_at stamp nothing ∷ [];
 }
 
-abbrev pub new_object : {Kind : Type 0} → List ℕ → ℕ → Kind → ObjectOf Kind
-new_object name stamp kind = record { name = name; is_live = true; created = stamp; kind = kind }
+abbrev pub new_object : {Kind : Type 0} → List ℕ → Kind → ObjectOf Kind
+new_object name kind = record { name = name; is_live = true; kind = kind }
 
 -- a dropped object keeps its name and its id
 abbrev pub dropped : {Kind : Type 0} → ObjectOf Kind → ObjectOf Kind
@@ -136,6 +138,38 @@ new_stream source is_append_only offset columns = record {
 abbrev pub with_offset : ℕ → Stream → Stream
 with_offset offset s = record s { offset = offset }
 
+-- ---- kinds
+
+pub data KindOf (Table : Type 0) : Type 0 where
+  TableKind : Table → KindOf Table
+  StreamKind : Stream → KindOf Table
+
+-- its table changed, if it has one
+abbrev pub on_table : {T U : Type 0} → (T → U) → KindOf T → KindOf U
+on_table f (TableKind t) = TableKind (f t)
+on_table f (StreamKind s) = StreamKind s
+
+abbrev pub table_in : {T : Type 0} → KindOf T → Option T
+table_in (TableKind t) = Some t
+table_in (StreamKind s) = None
+
+-- its stream changed, if it is one
+abbrev pub on_stream : {T : Type 0} → (Stream → Stream) → KindOf T → KindOf T
+on_stream f (TableKind t) = TableKind t
+on_stream f (StreamKind s) = StreamKind (f s)
+
+abbrev pub stream_in : {T : Type 0} → KindOf T → Option Stream
+stream_in (TableKind t) = None
+stream_in (StreamKind s) = Some s
+
+abbrev pub columns_in : {Content : Type 0} → KindOf (TableOf Content) → List Column
+columns_in (TableKind t) = t.columns
+columns_in (StreamKind s) = s.columns
+
+-- none where there is no such object
+abbrev pub columns_at : {Content : Type 0} → List (ObjectOf (KindOf (TableOf Content))) → ℕ → List Column
+columns_at objects id = option_map_or (λ o. columns_in o.kind) (at_id objects id) []
+
 -- ---- the machine's
 
 -- rows by row number
@@ -156,38 +190,11 @@ Version = VersionOf Contents
 abbrev pub Table : Type 0
 Table = TableOf Contents
 
-pub data Kind : Type 0 where
-  TableKind : Table → Kind
-  StreamKind : Stream → Kind
+abbrev pub Kind : Type 0
+Kind = KindOf Table
 
 abbrev pub Object : Type 0
 Object = ObjectOf Kind
-
--- its table changed, if it has one
-abbrev pub on_table : (Table → Table) → Kind → Kind
-on_table f (TableKind t) = TableKind (f t)
-on_table f k = k
-
-abbrev pub table_in : Kind → Option Table
-table_in (TableKind t) = Some t
-table_in _ = None
-
--- its stream changed, if it is one
-abbrev pub on_stream : (Stream → Stream) → Kind → Kind
-on_stream f (StreamKind s) = StreamKind (f s)
-on_stream f k = k
-
-abbrev pub stream_in : Kind → Option Stream
-stream_in (StreamKind s) = Some s
-stream_in _ = None
-
-abbrev pub columns_in : Kind → List Column
-columns_in (TableKind t) = t.columns
-columns_in (StreamKind s) = s.columns
-
--- none where there is no such object
-abbrev pub columns_at : List Object → ℕ → List Column
-columns_at objects id = option_map_or (λ o. columns_in o.kind) (at_id objects id) []
 
 -- the greatest stamp so far, that of the last commit, and the objects in order of creation
 pub record State : Type 0 where

@@ -5,30 +5,35 @@
 --     is_beyond      whether a file has no room for it
 use Rattle.std.specs.Prelude.{ℕ, ◌+◌, Bool, false, List, [], ◌∷◌, ◌++◌, length, Option, Some, None, option_map, nat_lt}
 use Rattle.std.specs.Option.{option_to_list}
-use Rattle.wh_state.specs.State.{at_id}
+use Rattle.wh_state.specs.State.{at_id, table_in}
 use Rattle.wh_state.specs.Edits.{Edits, numbers_gone, partitions_made}
 use Rattle.wh_state.specs.Act.{Act, MakesTable, DropsObject, EditsRows, MakesStream, MovesOffset}
-use Rattle.wh_state.specs.Stored.{StoredTable, StoredObject, Stored, stored_table_in, standing}
-use Rattle.wh_state.specs.Commit.{Change, CreatesTable, Drops, PushesVersion, CreatesStream, SetsOffset, Commit}
+use Rattle.wh_state.specs.Stored.{StoredTable, StoredObject, Stored, standing}
+use Rattle.wh_state.specs.Commit.{VersionChange, Change, CreatesTable, Drops, PushesVersion, CreatesStream, SetsOffset}
+use Rattle.wh_state.specs.Commit.{Commit}
 use Rattle.wh_state.specs.Commit.{all_changed, applied}
 use Rattle.wh_state.specs.Spelling.{payload_of}
 
 -- ---- acts as changes
 
-abbrev pub version_written : ℕ → ℕ → Edits → StoredTable → Change
-version_written stamp id e t = PushesVersion (record {
+-- the version that edits of a table make
+abbrev pub version_change : ℕ → ℕ → Edits → StoredTable → VersionChange
+version_change stamp id e t = record {
   id = id;
   data_timestamp = stamp;
   next_row = t.next_row + length e.added;
   width = length t.columns;
   removed = numbers_gone e.rows (standing t);
   added = partitions_made t.next_partition t.next_row e (standing t);
-})
+}
+
+abbrev pub version_written : ℕ → ℕ → Edits → StoredTable → Change
+version_written stamp id e t = PushesVersion (version_change stamp id e t)
 
 abbrev pub version_written_to : ℕ → ℕ → Edits → Option StoredObject → List Change
 version_written_to stamp id e None = []
 version_written_to stamp id e (Some o) =
-    option_to_list (option_map (version_written stamp id e) (stored_table_in o.kind))
+    option_to_list (option_map (version_written stamp id e) (table_in o.kind))
 
 abbrev pub act_written : ℕ → List StoredObject → Act → List Change
 act_written stamp objects (MakesTable name columns retention) =

@@ -153,6 +153,18 @@ highest_filter test (p ∷ ps) = pick (test p) (highest_filter test ps)
     pick true rest = omega arith
     pick false rest = omega arith
 
+-- some of those that are kept
+pub highest_kept : (test : Kept → Bool) (kept : List Kept)
+    → highest_number (partitions_in (filter test kept)) ≤ highest_number (partitions_in kept)
+highest_kept test [] = omega arith
+highest_kept test (k ∷ kept) = pick (test k) (highest_kept test kept)
+  where
+    pick : (b : Bool) → highest_number (partitions_in (filter test kept)) ≤ highest_number (partitions_in kept)
+        → highest_number (partitions_in (cond b (k ∷ filter test kept) (filter test kept)))
+        ≤ max (last_number k.partition.rows) (highest_number (partitions_in kept))
+    pick true rest = omega arith
+    pick false rest = omega arith
+
 -- partitions without some, and others that are apart from what is left, are apart
 pub changed_apart : (removed : List ℕ) (ps added : List Partition) → IsTrue (all_apart [] ps)
     → AllApart (without removed ps) added

@@ -7,7 +7,8 @@ use Rattle.wh_state.specs.Commit.{AllApart, pushed}
 use Rattle.wh_state.specs.Edits.{Edits, without}
 use Rattle.wh_state.specs.Act.{edited_table}
 use Rattle.wh_state.specs.Stored.{StoredVersion, standing, rows_of, table_meant}
-use Rattle.wh_state.proofs.ActLaws.{version_change, edited_meant, orderly_standing}
+use Rattle.wh_state.specs.Written.{version_change}
+use Rattle.wh_state.proofs.ActLaws.{edited_meant, orderly_standing}
 use Rattle.wh_state.proofs.MeaningLaws.{last_rows_meant}
 use Rattle.wh_version.specs.History.{versions_of}
 use Rattle.wh_table.specs.declared.editing.EditedTable.{EditedTable}

@@ -9,6 +9,7 @@ use Rattle.wh_version.specs.Lists.{shortened}
 use Rattle.wh_version.specs.History.{next_in}
 
 pub record KeptTable : Type 0 where
+  pub created : ℕ
   pub columns : List Column
   pub retention : ℕ
   pub next_row : ℕ
@@ -17,6 +18,7 @@ pub record KeptTable : Type 0 where
 
 abbrev pub table_in : KeptTable → StoredTable
 table_in t = record {
+  created = t.created;
   columns = t.columns;
   retention = t.retention;
   next_row = t.next_row;

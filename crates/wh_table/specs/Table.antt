@@ -8,6 +8,7 @@ use Rattle.wh_table.specs.Kept.{KeptTable, table_in}
 
 unfoldable pub kept_table : StoredTable → KeptTable
 kept_table t = record {
+  created = t.created;
   columns = map column_of t.columns.items;
   retention = t.retention;
   next_row = t.next_row;

@@ -14,8 +14,8 @@ impl StoredTable {
     ghost use Rattle.wh_table.specs.Table.{table_of};
 
     /// What went and came from the last version whose data timestamp is at most `from` to the last
-    /// one whose data timestamp is at most `to`, by their rows each. Where no version is old enough,
-    /// nothing stands.
+    /// one whose data timestamp is at most `to`, by their rows each. Where no version is old
+    /// enough, nothing stands.
     pub fn turnover(&self, alloc: Global, from: u64, to: u64) -> Result<Turnover<'_>, AllocError>
         requires { from ≤ to }
         ensures { IfOk result (λ found. AreChanges
@@ -39,7 +39,8 @@ impl StoredTable {
     /// What came with the version at a place, from the first one on, by its rows.
     pub fn arrivals(&self, alloc: Global, place: usize) -> Result<Arrivals<'_>, AllocError>
         requires { place < length (table_of self.now).versions }
-        ensures { IfOk result (λ found. AreArrivals found.stamp (all_rows (partitions_at found.came.items))
+        ensures { IfOk result (λ found. AreArrivals found.stamp
+            (all_rows (partitions_at found.came.items))
             (take place (table_of self.now).versions) (drop place (table_of self.now).versions)) }
     {
         let arrivals = self.history.arrivals(alloc, place)?;

@@ -32,7 +32,8 @@ fn is_free(partition: &Partition, kept: &[Kept], removed: &[u64], earlier: &[Par
 
 fn is_apart_from_kept(partition: &Partition, kept: &[Kept], removed: &[u64]) -> bool
     ensures { result ≡ list_all (λ k. not (is_standing k)
-        || (is_among k.partition.number removed.now || are_apart partition.now k.partition)) kept.now }
+        || (is_among k.partition.number removed.now
+        || are_apart partition.now k.partition)) kept.now }
 {
     kept.iter()
         .all(|one| is_gone_or_apart(partition, one, removed))

@@ -49,7 +49,8 @@ impl StoredTable {
     ) -> Result<Vec<&'a Row>, AllocError>
         ensures { IfOk result (λ rows. (stamp : ℕ) (e : machine.Edits)
             → IsEdited edited.now e (table_of self.now) → bag_of (rows_at rows.items)
-            ≡ bag_of (values (last_rows (edited_table stamp e (table_meant (table_of self.now)))))) }
+            ≡ bag_of (values (last_rows
+            (edited_table stamp e (table_meant (table_of self.now)))))) }
     {
         let partitions = partitions_with(self.history.kept(), edited, alloc)?;
         let rows = rows_in(&partitions, alloc)?;

@@ -45,10 +45,11 @@ ghost use Rattle.wh_value.specs.declared.limit.Limit.TheVariants as limits;
 ghost use Rattle.wh_value.specs.View.{column_of};
 ghost use Rattle.wh_part.specs.View.{numbered_of};
 ghost use Rattle.wh_version.specs.Kept.{numbered_from};
-ghost use Rattle.wh_version.specs.History.{versions_of, standing_in};
+ghost use Rattle.wh_version.specs.History.{versions_of, standing_in, partitions_of};
 ghost use Rattle.wh_state.specs.Edits.{without};
 ghost use Rattle.wh_table.specs.Apart.{all_apart, highest_number};
-ghost use Rattle.wh_table.specs.Conditions.{is_standing_number, entry_fits, partition_fits, rises_above};
+ghost use Rattle.wh_table.specs.Conditions.{is_standing_number, entry_fits, partition_fits};
+ghost use Rattle.wh_table.specs.Conditions.{rises_above};
 
 use crate::comparing::compared_apart;
 
@@ -61,7 +62,8 @@ fn are_few(next: u64, count: usize) -> bool
 }
 
 fn all_stand(history: &History, numbers: &[u64]) -> bool
-    ensures { result ≡ list_all (is_standing_number (standing_in (versions_of history.now))) numbers.now }
+    ensures { result
+        ≡ list_all (is_standing_number (standing_in (versions_of history.now))) numbers.now }
 {
     numbers.iter().all(|number| history.stands(*number))
 }
@@ -82,7 +84,8 @@ fn are_numbered(next: u64, partitions: &[Partition]) -> bool
 }
 
 fn all_fit(columns: &[Column], next_row: u64, partitions: &[Partition]) -> bool
-    ensures { result ≡ list_all (partition_fits (map column_of columns.now) next_row) partitions.now }
+    ensures { result
+        ≡ list_all (partition_fits (map column_of columns.now) next_row) partitions.now }
 {
     partitions
         .iter()
@@ -96,8 +99,8 @@ fn partition_fits(columns: &[Column], next_row: u64, partition: &Partition) -> b
 }
 
 fn entries_fit(columns: &[Column], next_row: u64, entries: &[NumberedRow]) -> bool
-    ensures { result
-        ≡ list_all (λ e. entry_fits (map column_of columns.now) next_row (numbered_of e)) entries.now }
+    ensures { result ≡ list_all
+        (λ e. entry_fits (map column_of columns.now) next_row (numbered_of e)) entries.now }
 {
     entries
         .iter()
@@ -110,20 +113,21 @@ fn entry_fits(columns: &[Column], next_row: u64, entry: &NumberedRow) -> bool
     row_fits(columns, &entry.row) && entry.number < next_row
 }
 
-/// Whether each partition that is added is apart from those that stand and stay, none of whose row
-/// numbers is above the highest, and from those before it.
+/// Whether each partition that is added is apart from those that stand and stay, and from those
+/// before it. The highest row number of all versions spares comparing each with each.
 pub(crate) fn are_apart(
     highest: u64,
     history: &History,
     removed: &[u64],
     added: &[Partition],
 ) -> bool
-    requires { highest_number (standing_in (versions_of history.now)) ≤ highest }
+    requires { highest ≡ highest_number (partitions_of history.now) }
     ensures { result
         ≡ all_apart (without removed.now (standing_in (versions_of history.now))) added.now }
 {
     // Rows are added in rising order, so that each is seldom compared with those that stand.
-    rise_above(highest, added) || compared_apart(history.kept(), removed, added)
+    let kept = history.kept();
+    rise_above(highest, added) || compared_apart(kept, removed, added)
 }
 
 fn rise_above(bound: u64, partitions: &[Partition]) -> bool

@@ -1,4 +1,4 @@
-//! A table with all its versions: its columns and rows, and the versions that are pushed and taken back.
+//! A table with all its versions: its columns and rows, and versions pushed and taken back.
 #![tactic(auto, unfolding(crate::specs::Table::kept_table))]
 
 mod by_number;

@@ -1,13 +1,12 @@
 //! The row numbers of partitions.
-ghost use Rattle.std.specs.Prelude.{◌≡◌, ◌≤◌, ◌∷◌, [], max, filter, IsTrue};
+ghost use Rattle.std.specs.Prelude.{◌≡◌, max, IsTrue};
 ghost use Rattle.std.specs.List.{list_all};
 ghost use Rattle.wh_frame.specs.Partition.{last_number};
-ghost use Rattle.wh_version.specs.Kept.{is_standing, partitions_in};
-ghost use Rattle.wh_version.specs.History.{versions_of, standing_in};
+ghost use Rattle.wh_version.specs.History.{partitions_of};
 ghost use Rattle.wh_table.specs.Apart.{highest_number, rows_rise};
 
 use wh_part::Partition;
-use wh_version::{History, Kept};
+use wh_version::History;
 
 /// The higher of a number and the last ones of the partitions, whose row numbers rise.
 pub(crate) fn highest_of(highest: u64, partitions: &[Partition]) -> u64
@@ -30,23 +29,14 @@ fn last_rising(partition: &Partition) -> u64
     partition.last()
 }
 
-/// A number above which no row of the last version has one.
-pub(crate) fn highest_standing(history: &History) -> u64
-    ensures { highest_number (standing_in (versions_of history.now)) ≤ result }
+/// The highest row number of all versions.
+pub(crate) fn highest_kept(history: &History) -> u64
+    ensures { result ≡ highest_number (partitions_of history.now) }
 {
     let kept = history.kept();
     let mut so_far: u64 = 0;
     for one in kept {
-        so_far = so_far.max(highest_in(one));
+        so_far = so_far.max(one.partition().last());
     }
     so_far
-}
-
-fn highest_in(one: &Kept) -> u64
-    ensures { result ≡ highest_number (partitions_in (filter is_standing (one.now ∷ []))) }
-{
-    if one.stands() {
-        return one.partition().last();
-    }
-    0
 }

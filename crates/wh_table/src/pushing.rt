@@ -1,4 +1,4 @@
-use crate::numbers::{highest_of, highest_standing};
+use crate::numbers::{highest_kept, highest_of};
 use crate::{StageFault, StoredTable};
 use std::alloc::AllocError;
 use wh_record::VersionChange;
@@ -14,7 +14,8 @@ impl StoredTable {
 
     /// Adds a version, if it applies.
     pub fn push(&mut self, change: VersionChange, stamp: u64) -> Result<(), StageFault>
-        ensures applies { OnOk result (VersionApplies (table_of self.old) (version_change_of change)) }
+        ensures applies { OnOk result (VersionApplies (table_of self.old)
+            (version_change_of change)) }
         ensures pushed { OnOk result (table_of self.new
             ≡ pushed stamp (version_change_of change) (table_of self.old)) }
         ensures back { OnOk result (taken_back (table_of self.old).next_row (kept_table self.new)
@@ -56,6 +57,6 @@ impl StoredTable {
     {
         self.history.pop();
         self.next_row = next_row;
-        self.highest = highest_standing(&self.history);
+        self.highest = highest_kept(&self.history);
     }
 }

@@ -1,8 +1,8 @@
-ghost use Rattle.std.specs.Prelude.{◌≤◌, length, IsTrue};
+ghost use Rattle.std.specs.Prelude.{◌≡◌, ◌≤◌, length, IsTrue};
 ghost use Rattle.std.specs.List.{list_all};
 ghost use Rattle.wh_value.specs.Limit.{bound};
 ghost use Rattle.wh_value.specs.declared.limit.Limit.TheVariants as limits;
-ghost use Rattle.wh_version.specs.History.{versions_of, standing_in};
+ghost use Rattle.wh_version.specs.History.{versions_of, partitions_of};
 ghost use Rattle.wh_table.specs.Apart.{highest_number, is_apart, is_rising};
 
 use std::alloc::Global;
@@ -12,15 +12,17 @@ use wh_version::{History, Version};
 /// A table with all its versions.
 #[derive(Debug, Drop)]
 pub struct StoredTable {
+    /// The stamp of its creation.
+    pub(crate) created: u64,
     pub(crate) columns: Vec<Column>,
     pub(crate) retention: u8,
     pub(crate) next_row: u64,
-    /// No row of the last version has a number above it.
+    /// The highest row number of all versions; 0 where none has a row.
     pub(crate) highest: u64,
     pub(crate) history: History,
     ghost few_columns: { length columns.items ≤ bound limits.Columns },
     ghost row_numbers: { next_row ≤ bound limits.RowNumber },
-    ghost highest_row: { highest_number (standing_in (versions_of history)) ≤ highest },
+    ghost highest_row: { highest ≡ highest_number (partitions_of history) },
     ghost apart: { IsTrue (list_all is_apart (versions_of history)) },
     ghost rising: { IsTrue (list_all is_rising (versions_of history)) },
 }
@@ -41,6 +43,7 @@ impl StoredTable {
         ensures { table_of result ≡ new_table [] (map column_of columns.items) retention stamp }
     {
         StoredTable {
+            created: stamp,
             columns,
             retention,
             next_row: 1,

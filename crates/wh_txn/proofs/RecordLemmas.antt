@@ -4,26 +4,26 @@
 --     row_first, partition_first     the first limit that is passed
 --     idle_within                    none is, where no table was touched and no stream read
 --     parts_of, parts_size           the parts of a transaction, and how many tables and streams they have
-use Rattle.std.proofs.Common.{◌≡◌, ℕ, ◌+◌, ◌≤◌, true, false, List, [], ◌∷◌, length}
-use Rattle.std.proofs.Common.{Option, Some, None, option_map, refl, sym, ap, subst, ◌∙◌, arith}
+use Rattle.std.proofs.Common.{◌≡◌, ℕ, ◌+◌, ◌≤◌, true, false, List, [], ◌∷◌, length, Option, Some, None, option_map}
+use Rattle.std.proofs.Common.{refl, sym, ap, subst, ◌∙◌, arith}
 use Rattle.std.specs.Prelude.{nat_le, nat_lt}
+use Rattle.std.specs.Option.{option_and_then}
 use Rattle.std.proofs.lemmas.List.{length-map, nil_from_length}
 use Rattle.std.proofs.lemmas.Bool.Decides.{nat_tests}
 use Rattle.wh_value.specs.Limit.{bound}
 use Rattle.wh_value.specs.declared.limit.Limit.{Limit}
 use Rattle.wh_value.specs.declared.limit.Limit.TheVariants as limits
-use Rattle.wh_state.specs.State.{Object, Table, at_id}
+use Rattle.wh_state.specs.State.{Object, Table, at_id, TableKind, StreamKind}
+use Rattle.wh_state.specs.Objects.{as_table, table_at}
 use Rattle.wh_state.specs.Edits.{Edits, partitions_made}
-use Rattle.wh_state.specs.Stored.{StoredTable, StoredKind, StoredTableKind, StoredStreamKind, StoredObject}
-use Rattle.wh_state.specs.Stored.{standing, table_meant}
+use Rattle.wh_state.specs.Stored.{StoredTable, StoredKind, StoredObject, standing, table_meant}
 use Rattle.wh_state.specs.Commit.{Change}
 use Rattle.wh_state.specs.Written.{version_written, version_written_to}
 use Rattle.wh_state.proofs.MeaningLaws.{last_partitions_meant}
-use Rattle.wh_catalog.specs.Catalog.{stored_of, state_of, stored_table_at, table_in_object}
+use Rattle.wh_catalog.specs.Catalog.{stored_of, state_of}
 use Rattle.wh_catalog.specs.declared.catalog.Catalog.{Catalog}
-use Rattle.wh_machine.specs.Transaction.{Staged, Transaction, start_of, touched}
-use Rattle.wh_machine.specs.Transaction.{first_past, row_past, partition_past, past_limit, or_else}
-use Rattle.wh_machine.specs.Transaction.{next_row_of, next_partition_of}
+use Rattle.wh_machine.specs.Transaction.{Staged, Transaction, start_of, touched, first_past, row_past, partition_past}
+use Rattle.wh_machine.specs.Transaction.{past_limit, or_else, next_row_of, next_partition_of}
 use Rattle.wh_txn.specs.declared.recording.TouchedTable.{TouchedTable}
 use Rattle.wh_txn.specs.Recording.{touched_in, touched_at, HasParts, version_for}
 use Rattle.wh_txn.proofs.SeenLemmas.{catalog_table}
@@ -35,22 +35,22 @@ written_for stamp id e None = []
 written_for stamp id e (Some t) = version_written stamp id e t ∷ []
 
 written_to : (stamp id : ℕ) (e : Edits) (found : Option StoredObject)
-    → version_written_to stamp id e found ≡ written_for stamp id e (table_in_object found)
+    → version_written_to stamp id e found ≡ written_for stamp id e (option_and_then as_table found)
 written_to stamp id e None = refl
 written_to stamp id e (Some o) = by_kind o.kind refl
   where
     by_kind : (k : StoredKind) → o.kind ≡ k
-        → version_written_to stamp id e (Some o) ≡ written_for stamp id e (table_in_object (Some o))
-    by_kind (StoredTableKind t) is = rw is
-    by_kind (StoredStreamKind k) is = rw is
+        → version_written_to stamp id e (Some o) ≡ written_for stamp id e (as_table o)
+    by_kind (TableKind t) is = rw is
+    by_kind (StreamKind k) is = rw is
 
-pub no_version : (stamp : ℕ) (objects : List StoredObject) (id : ℕ) (s : Staged) → stored_table_at objects id ≡ None
+pub no_version : (stamp : ℕ) (objects : List StoredObject) (id : ℕ) (s : Staged) → table_at objects id ≡ None
     → version_for stamp objects (id, s) ≡ []
 no_version stamp objects id s none =
     written_to stamp id s.edits (at_id objects id) ∙ ap (written_for stamp id s.edits) none
 
 pub one_version : (stamp : ℕ) (objects : List StoredObject) (id : ℕ) (s : Staged) (t : StoredTable)
-    → stored_table_at objects id ≡ Some t → version_for stamp objects (id, s) ≡ version_written stamp id s.edits t ∷ []
+    → table_at objects id ≡ Some t → version_for stamp objects (id, s) ≡ version_written stamp id s.edits t ∷ []
 one_version stamp objects id s t there =
     written_to stamp id s.edits (at_id objects id) ∙ ap (written_for stamp id s.edits) there
 
@@ -66,13 +66,13 @@ not_past : (n most : ℕ) → nat_lt most n ≡ false → n ≤ most
 not_past n most within = grind (arith, nat_tests)
 
 module _ (c : Catalog) (id : ℕ) (s : Staged) where
-  pub missing_within : stored_table_at (stored_of c).objects id ≡ None
+  pub missing_within : table_at (stored_of c).objects id ≡ None
       → partition_past (state_of c).objects (id, s) ≡ false
   missing_within none =
       ap (λ (found : Option Table). nat_lt (bound limits.PartitionNumber) (next_partition_of s.edits found))
       (catalog_table c id ∙ ap (option_map table_meant) none)
 
-  module _ (t : StoredTable) (there : stored_table_at (stored_of c).objects id ≡ Some t) where
+  module _ (t : StoredTable) (there : table_at (stored_of c).objects id ≡ Some t) where
     pub rows_within : row_past (state_of c).objects (id, s) ≡ false
         → t.next_row + length s.edits.added ≤ bound limits.RowNumber
     rows_within within =

@@ -1,59 +1,38 @@
 -- What a transaction sees of a table.
---     own_table        a table with a transaction's own edits
+--     objects_are      the objects of a catalog
 --     catalog_table, catalog_stream     the table or the stream of an id in the catalog
+--     own_table        a table with a transaction's own edits
 --     seen_in, seen_as     the table of an id that it sees, from the catalog's
-use Rattle.std.proofs.Common.{◌≡◌, ℕ, zero, suc, ◌+◌, List, [], ◌∷◌, map, Option, Some, None, option_map}
-use Rattle.std.proofs.Common.{refl, ap, ◌∙◌, arith}
+use Rattle.std.proofs.Common.{◌≡◌, ℕ, zero, suc, ◌+◌, List, [], ◌∷◌, map, Option, Some, None, option_map, refl, ap, ◌∙◌}
+use Rattle.std.proofs.Common.{arith}
 use Rattle.std.specs.Prelude.{slice_get}
 use Rattle.std.specs.Ordering.{nat_cmp}
 use Rattle.std.specs.FinMap.{FinMap, get}
 use Rattle.wh_state.specs.State.{Kind, TableKind, StreamKind, Object, Table, at_id, stamped}
 use Rattle.wh_state.specs.Act.{edited_table}
 use Rattle.wh_state.specs.Objects.{as_table, table_at, stream_at}
-use Rattle.wh_state.specs.Stored.{StoredTable, StoredKind, StoredTableKind, StoredStreamKind, StoredObject, table_meant, object_meant}
-use Rattle.wh_state.proofs.MeaningLaws.{table_at_meant, stored_table_in, stored_table_of}
-use Rattle.wh_state.proofs.MeaningLaws.{stream_at_meant, stored_stream_in, stored_stream_of}
-use Rattle.wh_catalog.specs.Catalog.{stored_of, state_of, stored_table_at, table_in_kind, table_in_object}
-use Rattle.wh_catalog.specs.Catalog.{stored_stream_at, stream_in_kind, stream_in_object}
+use Rattle.wh_state.specs.Stored.{StoredTable, table_meant, object_meant}
+use Rattle.wh_state.proofs.MeaningLaws.{table_at_meant, stream_at_meant}
+use Rattle.wh_catalog.specs.Catalog.{stored_of, state_of}
 use Rattle.wh_catalog.specs.declared.catalog.Catalog.{Catalog}
 use Rattle.wh_machine.specs.Transaction.{Staged, Transaction, with_own, seen_from, seen}
 use Rattle.wh_txn.specs.Seen.{own}
 
 -- ---- the table and the stream of an id in the catalog
 
-same_table : (found : Option StoredObject) → stored_table_of found ≡ table_in_object found
-same_table None = refl
-same_table (Some o) = by_kind o.kind
-  where
-    by_kind : (k : StoredKind) → stored_table_in k ≡ table_in_kind k
-    by_kind (StoredTableKind t) = refl
-    by_kind (StoredStreamKind s) = refl
-
-objects_are : (c : Catalog) → (state_of c).objects ≡ map object_meant (stored_of c).objects
+pub objects_are : (c : Catalog) → (state_of c).objects ≡ map object_meant (stored_of c).objects
 unfolding state_of
 objects_are c = refl
 
 pub catalog_table : (c : Catalog) (id : ℕ)
-    → table_at (state_of c).objects id ≡ option_map table_meant (stored_table_at (stored_of c).objects id)
+    → table_at (state_of c).objects id ≡ option_map table_meant (table_at (stored_of c).objects id)
 catalog_table c id =
-    ap (λ (objects : List Object). table_at objects id) (objects_are c)
-    ∙ table_at_meant (stored_of c).objects id
-    ∙ ap (option_map table_meant) (same_table (at_id (stored_of c).objects id))
-
-same_stream : (found : Option StoredObject) → stored_stream_of found ≡ stream_in_object found
-same_stream None = refl
-same_stream (Some o) = by_kind o.kind
-  where
-    by_kind : (k : StoredKind) → stored_stream_in k ≡ stream_in_kind k
-    by_kind (StoredTableKind t) = refl
-    by_kind (StoredStreamKind s) = refl
+    ap (λ (objects : List Object). table_at objects id) (objects_are c) ∙ table_at_meant (stored_of c).objects id
 
 pub catalog_stream : (c : Catalog) (id : ℕ)
-    → stream_at (state_of c).objects id ≡ stored_stream_at (stored_of c).objects id
+    → stream_at (state_of c).objects id ≡ stream_at (stored_of c).objects id
 catalog_stream c id =
-    ap (λ (objects : List Object). stream_at objects id) (objects_are c)
-    ∙ stream_at_meant (stored_of c).objects id
-    ∙ same_stream (at_id (stored_of c).objects id)
+    ap (λ (objects : List Object). stream_at objects id) (objects_are c) ∙ stream_at_meant (stored_of c).objects id
 
 -- ---- with a transaction's own edits
 
@@ -114,11 +93,11 @@ own_none stamp (Some t) = refl
 
 pub seen_in : (c : Catalog) (stamp : ℕ) (t : Option Transaction) (id : ℕ)
     → table_at (seen (stamped (state_of c) stamp) t).objects id
-    ≡ option_map (own_table stamp (own t id)) (option_map table_meant (stored_table_at (stored_of c).objects id))
+    ≡ option_map (own_table stamp (own t id)) (option_map table_meant (table_at (stored_of c).objects id))
 unfolding seen
 seen_in c stamp None id =
     catalog_table c id
-    ∙ own_none stamp (option_map table_meant (stored_table_at (stored_of c).objects id))
+    ∙ own_none stamp (option_map table_meant (table_at (stored_of c).objects id))
 seen_in c stamp (Some t) id =
     table_seen stamp t.tables (state_of c).objects id
     ∙ ap (option_map (own_table stamp (get t.tables id))) (catalog_table c id)

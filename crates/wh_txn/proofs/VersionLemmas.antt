@@ -54,7 +54,8 @@ module _ (stamp : ℕ) (stored : List StoredObject) (objects : List Object) wher
   partition_first_past tables = first_past (partition_past objects) limits.PartitionNumber (touched_at tables)
 
   pub none_yet : (whole left : List TouchedTable) (count : ℕ) (changes : List Change) → left ≡ whole
-      → count ≡ length left → changes ≡ [] → row_first_past whole ≡ None → VersionsSoFar stamp stored objects whole left count changes
+      → count ≡ length left → changes ≡ [] → row_first_past whole ≡ None
+      → VersionsSoFar stamp stored objects whole left count changes
   none_yet whole left count changes is counts none within = record {
     made = (λ i. map change_of (none i) ++ versions_for stamp stored (touched_at (is i)));
     rows = ap row_first_past is ∙ within;

@@ -1,5 +1,5 @@
 -- Whether a partition of a number stands.
-use Rattle.std.proofs.Common.{◌≡◌, ℕ, zero, suc, ◌+◌, ◌<◌, ◌≤◌, ◌⊎◌, inl, inr, cond, Bool, true, false, List, [], ◌∷◌}
+use Rattle.std.proofs.Common.{◌≡◌, ℕ, zero, suc, ◌+◌, ◌<◌, inl, cond, Bool, true, false, List, [], ◌∷◌}
 use Rattle.std.proofs.Common.{length, filter, get_or, IsTrue, refl, sym, ap, ◌∙◌, arith}
 use Rattle.std.proofs.lemmas.Bool.{and_parts, eqb-true, eq-eqb, ne_eqb}
 use Rattle.std.specs.Prelude.{◌||◌, nat_eq}
@@ -7,6 +7,7 @@ use Rattle.std.specs.List.{list_any}
 use Rattle.wh_frame.specs.Partition.{Partition}
 use Rattle.wh_version.specs.declared.kept.Kept.{Kept}
 use Rattle.wh_version.specs.Kept.{partitions_in, numbered_from, is_standing}
+use Rattle.wh_version.proofs.Parted.{IsOff, off_rest, off_first}
 
 abbrev has_number : ℕ → Partition → Bool
 has_number number p = nat_eq number p.number
@@ -20,25 +21,14 @@ passed_over number k kept other true =
 passed_over number k kept other false = refl
 
 pub none_there : (number next : ℕ) (kept : List Kept) → IsTrue (numbered_from next (partitions_in kept))
-    → (number < next) ⊎ (next + length kept ≤ number)
+    → IsOff number next kept
     → list_any (has_number number) (partitions_in (filter is_standing kept)) ≡ false
 none_there number next [] numbers off = refl
 none_there number next (k ∷ kept) numbers off =
     let parts = and_parts (nat_eq k.partition.number next) (numbered_from (next + 1) (partitions_in kept)) numbers in
     let here : k.partition.number ≡ next = eqb-true k.partition.number next parts.0 in
-    passed_over number k (filter is_standing kept) (other here off) (is_standing k)
-    ∙ none_there number (next + 1) kept parts.1 (further off)
-  where
-    further : (number < next) ⊎ (next + length (k ∷ kept) ≤ number)
-        → (number < next + 1) ⊎ (next + 1 + length kept ≤ number)
-    further (inl below) = inl (omega arith)
-    further (inr above) = inr (omega arith)
-
-    other : k.partition.number ≡ next → (number < next) ⊎ (next + length (k ∷ kept) ≤ number)
-        → number ≡ k.partition.number
-        → ⊥
-    other here (inl below) e = omega arith
-    other here (inr above) e = omega arith
+    passed_over number k (filter is_standing kept) (λ e. off_first number next k kept off here (sym e)) (is_standing k)
+    ∙ none_there number (next + 1) kept parts.1 (off_rest number next k kept off)
 
 found_first : (number : ℕ) (k : Kept) (kept : List Kept) → number ≡ k.partition.number
     → list_any (has_number number) (partitions_in kept) ≡ false → (s : Bool)

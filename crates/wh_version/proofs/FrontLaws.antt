@@ -1,13 +1,13 @@
 -- The versions at the front, one after the other, and what came with them.
 --     FrontUpTo              what is known in front of a place
---     front_begins, front_longer, front_ends, front_whole
+--     front_longer, front_ends
 --     Grown                  what came with a version, of its partitions up to an index
---     grown_none, grown_on
-use Rattle.std.proofs.Common.{◌≡◌, ℕ, suc, ◌+◌, ◌<◌, ◌≤◌, Bool, true, false, List, [], ◌∷◌, ◌++◌, length, take, drop, get_or}
+--     grown_on
+use Rattle.std.proofs.Common.{◌≡◌, ℕ, suc, ◌+◌, ◌<◌, ◌≤◌, Bool, true, false, List, [], ◌∷◌, ◌++◌, length, take}
+use Rattle.std.proofs.Common.{drop, get_or}
 use Rattle.std.proofs.Common.{refl, sym, ap, ◌∙◌, append_assoc, arith}
 use Rattle.std.proofs.lemmas.Bool.{le-leb}
 use Rattle.std.proofs.lemmas.Bool.Decides.{nat_tests}
-use Rattle.std.proofs.lemmas.List.{append-nil, drop_all}
 use Rattle.std.specs.Prelude.{nat_le, if◌then◌else◌}
 use Rattle.wh_frame.specs.Partition.{Partition}
 use Rattle.wh_state.specs.Stored.{StoredVersion}
@@ -15,7 +15,7 @@ use Rattle.wh_version.specs.declared.kept.Kept.{Kept}
 use Rattle.wh_version.specs.declared.mark.VersionMark.{VersionMark}
 use Rattle.wh_version.specs.Kept.{standing_at, versions_by}
 use Rattle.wh_version.specs.Arrivals.{HaveArrived, IsFront, count_by, partitions_before}
-use Rattle.wh_version.proofs.ArrivalLaws.{count_versions, version_there, arrived}
+use Rattle.wh_version.proofs.ArrivalLaws.{version_there, arrived}
 use Rattle.wh_version.proofs.TurnoverLaws.{standing_on}
 
 -- ---- a version's partitions
@@ -24,13 +24,6 @@ pub record Grown (kept : List Kept) (place before index : ℕ) (old now : List P
   pub next : List Partition
   pub more : now ≡ old ++ next
   pub joined : standing_at place (take before kept) ++ next ≡ standing_at place (take index kept)
-
-pub grown_none : (kept : List Kept) (place before : ℕ) (old : List Partition) → Grown kept place before before old old
-grown_none kept place before old = record {
-  next = [];
-  more = sym (append-nil old);
-  joined = append-nil (standing_at place (take before kept));
-}
 
 pub grown_on : (kept : List Kept) (place before index : ℕ) (k : Kept) (old now after : List Partition)
     → index < length kept → k ≡ get_or kept index k → after ≡ now ++ standing_at place (k ∷ [])
@@ -67,9 +60,6 @@ module _ (stamp : ℕ) (kept : List Kept) (marks : List VersionMark) (d : Versio
       ap (count_by stamp) (version_there kept 0 marks place d within)
       ∙ ap (λ (b : Bool). if b then suc (count_by stamp (drop (suc place) versions)) else 0) is
 
-  pub front_begins : (came : List Partition) → came ≡ [] → FrontUpTo stamp kept marks d 0 0 came
-  front_begins came none = record { counted = omega arith; before_is = refl; arrived = none }
-
   pub front_longer : (place before : ℕ) (came now : List Partition) → place < length marks → (mark place).stamp ≤ stamp
       → Grown kept place before (mark place).partitions came now → FrontUpTo stamp kept marks d place before came
       → FrontUpTo stamp kept marks d (suc place) (mark place).partitions now
@@ -91,7 +81,8 @@ module _ (stamp : ℕ) (kept : List Kept) (marks : List VersionMark) (d : Versio
 
   front_done : (place before : ℕ) (came : List Partition) → count_by stamp (drop place versions) ≡ 0
       → FrontUpTo stamp kept marks d place before came → IsFront stamp place came versions
-  front_done place before came none known = record { counted = omega (arith, known.counted, none); arrived = known.arrived }
+  front_done place before came none known =
+      record { counted = omega (arith, known.counted, none); arrived = known.arrived }
 
   -- at a version that is later
   pub front_ends : (place before : ℕ) (came : List Partition) → place < length marks → stamp < (mark place).stamp
@@ -99,10 +90,3 @@ module _ (stamp : ℕ) (kept : List Kept) (marks : List VersionMark) (d : Versio
   front_ends place before came within late =
       let later : nat_le (mark place).stamp stamp ≡ false = grind (arith, nat_tests) in
       front_done place before came (counted_there place within false later)
-
-  -- behind the last version
-  pub front_whole : (place before : ℕ) (came : List Partition) → length marks ≤ place
-      → FrontUpTo stamp kept marks d place before came → IsFront stamp place came versions
-  front_whole place before came behind =
-      let all = drop_all place versions (omega (arith, count_versions kept 0 marks)) in
-      front_done place before came (ap (count_by stamp) all)

@@ -10,7 +10,8 @@ use Rattle.wh_version.specs.declared.kept.Kept.{Kept}
 use Rattle.wh_version.specs.declared.mark.VersionMark.{VersionMark}
 use Rattle.wh_version.specs.Kept.{stands_at, standing_at, version_by, versions_by, partitions_in}
 use Rattle.wh_version.specs.Kept.{count_to, is_gone_by, is_standing}
-use Rattle.wh_version.specs.History.{next_in}
+use Rattle.wh_version.specs.History.{versions_of, standing_in, next_in}
+use Rattle.wh_version.specs.declared.history.History.{History}
 
 -- the last element, by its place
 pub last_of-get_or : {X : Type 0} (x : X) (xs : List X) (d : X)
@@ -94,3 +95,9 @@ standing_still kept m marks within counts gone =
     ∙ ap (λ n. standing_at n (take (get_or (m ∷ marks) (length marks) m).partitions kept)) (omega arith)
     ∙ ap (standing_at (length marks)) (take_all _ kept (omega arith))
     ∙ ap partitions_in (sym (standing_last (length marks) kept within gone))
+
+pub standing_now : (h : History) → standing_in (versions_of h) ≡ partitions_in (filter is_standing h.kept.items)
+unfolding versions_of
+standing_now h =
+    let sized = h.later.ok.0 in
+    standing_still h.kept.items h.first h.later.items (omega arith) h.marks h.gone

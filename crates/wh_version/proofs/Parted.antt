@@ -47,26 +47,31 @@ that_number : (place number : ℕ) (k : Kept) → k.partition.number ≡ number
 that_number place number k is =
     ap (λ b. cond b (record k { until = min k.until place }) k) (eq-eqb k.partition.number number is)
 
+-- a number that none has of those that are numbered from the next one on
+abbrev pub IsOff : ℕ → ℕ → List Kept → Type 0
+IsOff number next kept = (number < next) ⊎ (next + length kept ≤ number)
+
+pub off_rest : (number next : ℕ) (k : Kept) (kept : List Kept) → IsOff number next (k ∷ kept)
+    → IsOff number (next + 1) kept
+off_rest number next k kept (inl below) = inl (omega arith)
+off_rest number next k kept (inr above) = inr (omega arith)
+
+pub off_first : (number next : ℕ) (k : Kept) (kept : List Kept) → IsOff number next (k ∷ kept)
+    → k.partition.number ≡ next
+    → k.partition.number ≡ number
+    → ⊥
+off_first number next k kept (inl below) here e = omega arith
+off_first number next k kept (inr above) here e = omega arith
+
 pub not_there : (place next number : ℕ) (kept : List Kept) → IsTrue (numbered_from next (partitions_in kept))
-    → (number < next) ⊎ (next + length kept ≤ number)
+    → IsOff number next kept
     → map (part_one place number) kept ≡ kept
 not_there place next number [] numbers off = refl
 not_there place next number (k ∷ kept) numbers off =
     let here : k.partition.number ≡ next = eqb-true k.partition.number next (and_parts _ _ numbers).0 in
-    let rest = not_there place (next + 1) number kept (and_parts _ _ numbers).1 (further off) in
-    let same = other_number place number k (apart here off) in
+    let rest = not_there place (next + 1) number kept (and_parts _ _ numbers).1 (off_rest number next k kept off) in
+    let same = other_number place number k (off_first number next k kept off here) in
     λ i. same i ∷ rest i
-  where
-    further : (number < next) ⊎ (next + length (k ∷ kept) ≤ number)
-        → (number < next + 1) ⊎ (next + 1 + length kept ≤ number)
-    further (inl below) = inl (omega arith)
-    further (inr above) = inr (omega arith)
-
-    apart : k.partition.number ≡ next → (number < next) ⊎ (next + length (k ∷ kept) ≤ number)
-        → k.partition.number ≡ number
-        → ⊥
-    apart here (inl below) e = omega arith
-    apart here (inr above) e = omega arith
 
 pub there : (place next i : ℕ) (kept : List Kept) (k : Kept) → IsTrue (numbered_from next (partitions_in kept))
     → i < length kept → k ≡ get_or kept i k

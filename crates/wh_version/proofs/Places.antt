@@ -1,5 +1,5 @@
 -- Places in lists of edits that rise by number.
---     Adjacent, adjacent_more    numbers up to a place are below the next ones
+--     Adjacent               numbers up to a place are below the next ones
 --     adjacent_rise          so they rise
 --     numbers_rise           numbers do not fall from place to place
 --     both_halves            the halves of a list
@@ -8,12 +8,12 @@
 --     behind_one, behind_all    the first of the others, and where there is none
 use Rattle.std.proofs.Common.{◌≡◌, ℕ, zero, suc, ◌+◌, ◌-◌, ◌<◌, ◌≤◌, cond, Bool, true, false, T, List, [], ◌∷◌, ◌++◌}
 use Rattle.std.proofs.Common.{length, get_or, take, drop, refl, sym, ap, subst, ◌∙◌, arith, nat_lt}
-use Rattle.std.proofs.lemmas.List.{get_or_default, drop_more, drop_all, map-append, take-append-drop}
+use Rattle.std.proofs.lemmas.List.{drop_more, drop_all, map-append, take-append-drop}
 use Rattle.std.specs.Ordering.{nat_cmp}
 use Rattle.std.specs.List.Sorted.{IsNonDecreasingBy}
 use Rattle.std.specs.FinMap.{is_sorted}
 use Rattle.std.specs.FinMap.Entries.{below_all}
-use Rattle.std.proofs.lemmas.Bool.{ltb-true, ltb-false, lt-ltb, le-ltb}
+use Rattle.std.proofs.lemmas.Bool.{lt-ltb, le-ltb}
 use Rattle.wh_version.specs.declared.row_edit.RowEdit.{RowEdit}
 use Rattle.wh_version.specs.RowEdits.{entry_of, entries_in, below, not_below, IsPlaceOf}
 use Rattle.wh_version.proofs.RisingEdits.{holds, is_true, parts, together, is_below, tests_below, above_all}
@@ -22,27 +22,6 @@ use Rattle.wh_version.proofs.RisingEdits.{head_below, rest_rises}
 abbrev pub Adjacent : List RowEdit → ℕ → Type 0
 Adjacent list count = (k : ℕ) (d : RowEdit) → suc k < count
     → (get_or list k d).number < (get_or list (suc k) d).number
-
-pub adjacent_more : (list : List RowEdit) (place : ℕ) (x y : RowEdit) → 1 ≤ place → place < length list
-    → x ≡ get_or list (place - 1) x → y ≡ get_or list place y → x.number < y.number
-    → Adjacent list place → Adjacent list (place + 1)
-adjacent_more list place x y some within here next up so_far =
-    λ k d below. by_test k d below (nat_lt (suc k) place) refl
-  where
-    by_test : (k : ℕ) (d : RowEdit) → suc k < place + 1 → (b : Bool) → nat_lt (suc k) place ≡ b
-        → (get_or list k d).number < (get_or list (suc k) d).number
-    by_test k d below true is = so_far k d (ltb-true (suc k) place is)
-    by_test k d below false is =
-        let above : place ≤ suc k = ltb-false (suc k) place is in
-        let first : place - 1 ≡ k = omega arith in
-        let second : place ≡ suc k = omega arith in
-        let low : x ≡ get_or list k d =
-        here ∙ get_or_default list (place - 1) x d (omega arith) ∙ ap (λ i. get_or list i d) first in
-        let high : y ≡ get_or list (suc k) d =
-        next ∙ get_or_default list place y d within ∙ ap (λ i. get_or list i d) second in
-        let low_number : x.number ≡ (get_or list k d).number = ap (λ e. e.number) low in
-        let high_number : y.number ≡ (get_or list (suc k) d).number = ap (λ e. e.number) high in
-        omega arith
 
 pub adjacent_rise : (list : List RowEdit) → Adjacent list (length list) → is_sorted nat_cmp (entries_in list) ≡ true
 adjacent_rise [] each = refl

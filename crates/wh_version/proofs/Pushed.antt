@@ -116,16 +116,21 @@ numbered_more next (p ∷ ps) qs numbers more =
     let P : ℕ → Type 0 = λ n. NumberedFrom n qs in
     and_from _ _ parts.0 (numbered_more (next + 1) ps qs parts.1 (subst P (omega arith) more))
 
+-- those that there were, gone or not, and those that are added
+pub more_partitions : (last : ℕ) (numbers : List ℕ) (kept : List Kept) (added : List Partition)
+    → partitions_in (parted last numbers kept ++ map fresh added) ≡ partitions_in kept ++ added
+more_partitions last numbers kept added =
+    map-append (λ k. k.partition) (parted last numbers kept) (map fresh added)
+    ∙ (λ i. parted_partitions last numbers kept i ++ fresh_partitions added i)
+
 pub still_numbered : (last : ℕ) (numbers : List ℕ) (kept : List Kept) (added : List Partition)
     → IsTrue (numbered_from 1 (partitions_in kept)) → NumberedFrom (length kept + 1) added
     → IsTrue (numbered_from 1 (partitions_in (parted last numbers kept ++ map fresh added)))
 still_numbered last numbers kept added numbered more =
-    let same : partitions_in (parted last numbers kept ++ map fresh added) ≡ partitions_in kept ++ added =
-    map-append (λ k. k.partition) (parted last numbers kept) (map fresh added)
-    ∙ (λ i. parted_partitions last numbers kept i ++ fresh_partitions added i) in
     let count = length-map kept (λ k. k.partition) in
     let P : ℕ → Type 0 = λ n. NumberedFrom n added in
-    ap (numbered_from 1) same ∙ numbered_more 1 (partitions_in kept) added numbered (subst P (omega arith) more)
+    ap (numbered_from 1) (more_partitions last numbers kept added)
+    ∙ numbered_more 1 (partitions_in kept) added numbered (subst P (omega arith) more)
 
 pub still_count : (least : ℕ) (marks : List VersionMark) (m : VersionMark) (total : ℕ)
     → IsTrue (count_to least marks total) → total ≤ m.partitions

@@ -38,21 +38,6 @@ each_touched edits k ks = pick (is_standing k)
     pick true = by_touch (is_touched edits k.partition)
     pick false = refl
 
-pub stands_touched : (edits : RowEdits) (k : Kept) → is_standing k ≡ true → is_touched edits k.partition ≡ true
-    → touched_of edits (k ∷ []) ≡ k.partition ∷ []
-stands_touched edits k stands is =
-    ap (λ s. touched edits (partitions_in (cond s (k ∷ []) []))) stands ∙ ap (λ t. cond t (k.partition ∷ []) []) is
-
-pub not_standing : (edits : RowEdits) (k : Kept) → is_standing k ≡ false → touched_of edits (k ∷ []) ≡ []
-not_standing edits k gone = ap (λ s. touched edits (partitions_in (cond s (k ∷ []) []))) gone
-
-pub not_touched : (edits : RowEdits) (k : Kept) → is_touched edits k.partition ≡ false → touched_of edits (k ∷ []) ≡ []
-not_touched edits k not = pick (is_standing k)
-  where
-    pick : (s : Bool) → touched edits (partitions_in (cond s (k ∷ []) [])) ≡ []
-    pick true = ap (λ t. cond t (k.partition ∷ []) []) not
-    pick false = refl
-
 -- ---- edits that lie apart from a partition
 
 last_above : (least : ℕ) (e : ℕ × Row) (es : List (ℕ × Row)) → RisesFrom least (e ∷ es) → least ≤ last_number (e ∷ es)

@@ -2,6 +2,7 @@
 --     versions_of      the versions, each with its partitions
 --     nexts_of         the number that the next partition has after each version
 --     standing_in      the partitions of the last version
+--     partitions_of    each partition of each version, by rising number
 --     pushed_with      a version more, of the last one's partitions without some and with others
 use Rattle.std.specs.Prelude.{ℕ, ◌+◌, List, [], ◌∷◌, ◌++◌, map}
 use Rattle.wh_frame.specs.Partition.{Partition}
@@ -10,7 +11,7 @@ use Rattle.wh_state.specs.Stored.{StoredVersion}
 use Rattle.wh_state.specs.Edits.{without}
 use Rattle.wh_version.specs.declared.mark.VersionMark.{VersionMark}
 use Rattle.wh_version.specs.declared.history.History.{History}
-use Rattle.wh_version.specs.Kept.{versions_by}
+use Rattle.wh_version.specs.Kept.{partitions_in, versions_by}
 
 abbrev pub marks_of : History → List VersionMark
 marks_of h = h.first ∷ h.later.items
@@ -23,6 +24,9 @@ nexts_of h = map (λ mark. mark.partitions + 1) (marks_of h)
 
 abbrev pub standing_in : List StoredVersion → List Partition
 standing_in versions = content_in [] (last_of versions)
+
+abbrev pub partitions_of : History → List Partition
+partitions_of h = partitions_in h.kept.items
 
 abbrev pub next_in : List ℕ → ℕ
 next_in [] = 1

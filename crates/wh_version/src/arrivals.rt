@@ -19,7 +19,8 @@ pub struct Front<'a> {
 }
 
 impl History {
-    ghost use Rattle.std.specs.Prelude.{◌≡◌, ◌<◌, ◌∷◌, zero, suc, length, take, drop, slice_index_or as get_or, IfOk};
+    ghost use Rattle.std.specs.Prelude.{◌≡◌, ◌<◌, ◌∷◌, zero, suc, length, take, drop};
+    ghost use Rattle.std.specs.Prelude.{slice_index_or as get_or, IfOk};
     ghost use Rattle.wh_version.specs.Arrivals.{IsArrival, IsFront, partitions_before};
     ghost use Rattle.wh_version.specs.Edits.{partitions_at};
     ghost use Rattle.wh_version.specs.History.{versions_of, marks_of};

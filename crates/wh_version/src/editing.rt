@@ -1,4 +1,5 @@
-ghost use Rattle.std.specs.Prelude.{◌≡◌, ◌+◌, ◌≤◌, ◌^◌, ◌++◌, ◌∷◌, [], map, length, reverse, OnOk, IfOk};
+ghost use Rattle.std.specs.Prelude.{◌≡◌, ◌+◌, ◌≤◌, ◌^◌, ◌++◌, ◌∷◌, [], map, length, reverse, OnOk};
+ghost use Rattle.std.specs.Prelude.{IfOk};
 ghost use Rattle.wh_state.specs.Edits.{edited, edited_row, made_of};
 ghost use Rattle.wh_part.specs.View.{numbered_of};
 ghost use Rattle.wh_version.specs.Edits.{partitions_at};

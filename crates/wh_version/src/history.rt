@@ -25,12 +25,14 @@ impl History {
     ghost use Rattle.std.specs.List.{list_any};
     ghost use Rattle.wh_state.specs.State.{version_at, last_of};
     ghost use Rattle.wh_version.specs.Kept.{is_standing, partitions_in};
-    ghost use Rattle.wh_version.specs.History.{versions_of, nexts_of, standing_in, next_in};
+    ghost use Rattle.wh_version.specs.History.{versions_of, nexts_of, standing_in, partitions_of};
+    ghost use Rattle.wh_version.specs.History.{next_in};
 
     /// One version, with nothing in it. Takes no memory.
     pub fn new(alloc: Global, stamp: u64) -> History
         ensures versions { versions_of result ≡ version_at stamp [] ∷ [] }
         ensures nexts { nexts_of result ≡ 1 ∷ [] }
+        ensures partitions { partitions_of result ≡ [] }
     {
         let first = VersionMark {
             stamp,
@@ -46,7 +48,8 @@ impl History {
 
     /// The data timestamp of the last version.
     pub fn last_timestamp(&self) -> u64
-        ensures { option_map (λ v. v.data_timestamp) (last_of (versions_of self.now)) ≡ Some result }
+        ensures { option_map (λ v. v.data_timestamp) (last_of (versions_of self.now))
+            ≡ Some result }
     {
         last_mark(self.first, &self.later).data_timestamp
     }
@@ -61,7 +64,8 @@ impl History {
 
     /// Whether the last version has the partition of that number.
     pub fn stands(&self, number: u64) -> bool
-        ensures { result ≡ list_any (λ p. nat_eq number p.number) (standing_in (versions_of self.now)) }
+        ensures { result ≡ list_any (λ p. nat_eq number p.number)
+            (standing_in (versions_of self.now)) }
     {
         let number = number as usize;
         if number == 0 || self.kept.len() < number {
@@ -73,7 +77,9 @@ impl History {
 
     /// Each partition of each version, by rising number.
     pub fn kept(&self) -> &[Kept]
-        ensures { partitions_in (filter is_standing result.now) ≡ standing_in (versions_of self.now) }
+        ensures kept { partitions_in result.now ≡ partitions_of self.now }
+        ensures standing { partitions_in (filter is_standing result.now)
+            ≡ standing_in (versions_of self.now) }
     {
         self.kept.as_slice()
     }

@@ -1,4 +1,4 @@
-//! The versions of a table by copy on write: partitions that stand once, whichever versions have them.
+//! The versions of a table by copy on write: a partition stands once, whatever versions have it.
 #![tactic(auto, unfolding(crate::specs::History::versions_of, crate::specs::History::nexts_of))]
 
 mod amending;

@@ -2,7 +2,8 @@ ghost use Rattle.std.specs.Prelude.{◌≡◌, ◌<◌, ◌++◌, ◌∷◌, [],
 ghost use Rattle.std.specs.FinMap.{is_sorted};
 ghost use Rattle.std.specs.Ordering.{nat_cmp};
 ghost use Rattle.std.specs.Option.{option_to_list};
-ghost use Rattle.wh_version.specs.RowEdits.{entry_of, entries_in, puts, below, not_below, other_than};
+ghost use Rattle.wh_version.specs.RowEdits.{entry_of, entries_in, puts, below, not_below};
+ghost use Rattle.wh_version.specs.RowEdits.{other_than};
 
 use crate::row_edit::RowEdit;
 use std::alloc::{AllocError, Global};

@@ -1,4 +1,5 @@
-ghost use Rattle.std.specs.Prelude.{◌≡◌, ◌+◌, ◌≤◌, ◌++◌, length, map, vec_len, vec_capacity, IsTrue};
+ghost use Rattle.std.specs.Prelude.{◌≡◌, ◌+◌, ◌≤◌, ◌++◌, length, map, vec_len, vec_capacity};
+ghost use Rattle.std.specs.Prelude.{IsTrue};
 ghost use Rattle.wh_version.specs.Kept.{numbered_from, partitions_in, part_one, parted, fresh};
 
 use crate::{History, Kept, VersionMark};
@@ -8,7 +9,8 @@ use wh_part::Partition;
 impl History {
     ghost use Rattle.std.specs.Prelude.{◌≡◌, ◌+◌, [], ◌∷◌, ◌++◌, length, OnOk, OnErr};
     ghost use Rattle.wh_state.specs.Commit.{NumberedFrom};
-    ghost use Rattle.wh_version.specs.History.{versions_of, nexts_of, next_in, pushed_with};
+    ghost use Rattle.wh_version.specs.History.{versions_of, nexts_of, partitions_of, next_in};
+    ghost use Rattle.wh_version.specs.History.{pushed_with};
 
     /// Adds a version: the last one's partitions without those of the removed numbers, and then the
     /// added ones. Takes memory for what is added alone, and takes it first.
@@ -24,8 +26,11 @@ impl History {
             ≡ pushed_with (versions_of self.old) stamp data_timestamp removed.now added.items) }
         ensures nexts { OnOk result (nexts_of self.new
             ≡ nexts_of self.old ++ (next_in (nexts_of self.old) + length added.items) ∷ []) }
+        ensures partitions { OnOk result (partitions_of self.new
+            ≡ partitions_of self.old ++ added.items) }
         ensures same { OnErr result (versions_of self.new ≡ versions_of self.old) }
         ensures same_nexts { OnErr result (nexts_of self.new ≡ nexts_of self.old) }
+        ensures same_partitions { OnErr result (partitions_of self.new ≡ partitions_of self.old) }
     {
         self.kept.reserve(added.len())?;
         self.later.reserve(1)?;

@@ -80,7 +80,8 @@ fn made(
     next_row: u64,
 ) -> Result<Vec<Partition>, AllocError>
     requires { next ≤ 2 ^ 63 }
-    ensures { IfOk result (λ made. made.items ≡ with_added next next_row edits.added.items (made_of next
+    ensures { IfOk result (λ made. made.items
+        ≡ with_added next next_row edits.added.items (made_of next
         (map (λ p. edited edits.rows p.rows) (by_rows (partitions_at touched.now))))) }
 {
     let Edits { rows, added } = edits;

@@ -3,7 +3,8 @@ ghost use Rattle.std.specs.Prelude.{◌≡◌, ◌<◌, ◌≤◌, true, take, d
 ghost use Rattle.std.specs.Bool.{OnTrue, OnFalse};
 ghost use Rattle.std.specs.FinMap.{is_sorted};
 ghost use Rattle.std.specs.Ordering.{nat_cmp};
-ghost use Rattle.wh_version.specs.RowEdits.{entries_in, below, not_below, IsPlaceOf, IsBelowIn, IsBehindIn};
+ghost use Rattle.wh_version.specs.RowEdits.{entries_in, below, not_below, IsPlaceOf, IsBelowIn};
+ghost use Rattle.wh_version.specs.RowEdits.{IsBehindIn};
 
 use crate::row_edit::RowEdit;
 

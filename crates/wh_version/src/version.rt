@@ -15,7 +15,8 @@ pub struct Version<'a> {
 }
 
 impl History {
-    ghost use Rattle.std.specs.Prelude.{◌≡◌, ◌<◌, Some, length, option_map, slice_index_or as get_or};
+    ghost use Rattle.std.specs.Prelude.{◌≡◌, ◌<◌, Some, length, option_map};
+    ghost use Rattle.std.specs.Prelude.{slice_index_or as get_or};
     ghost use Rattle.wh_state.specs.State.{last_of};
     ghost use Rattle.wh_version.specs.Kept.{version_by};
     ghost use Rattle.wh_version.specs.Times.{data_at, visible_at, is_up_to, last_place};

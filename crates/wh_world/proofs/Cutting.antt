@@ -1,41 +1,10 @@
 -- What there is of a write, up to a cut.
-use Rattle.std.proofs.Common.{◌≡◌, ◌≢◌, ℕ, ◌-◌, ◌<◌, ◌≤◌, ◌==◌, nat_lt, min, if◌then◌else◌, Bool, true, false, List, []}
-use Rattle.std.proofs.Common.{◌∷◌, ◌++◌, Option, None, length, take, drop, refl, ◌∙◌, ap, arith}
-use Rattle.std.proofs.lemmas.Bool.{ltb-true, lt-ltb, eqb-true, eq-eqb}
+use Rattle.std.proofs.Common.{◌≡◌, ℕ, ◌-◌, ◌==◌, nat_lt, min, if◌then◌else◌, Bool, true, false, List, []}
+use Rattle.std.proofs.Common.{◌∷◌, ◌++◌, None, length, take, drop, refl, ◌∙◌, ap, arith}
 use Rattle.std.proofs.lemmas.List.{take-append-drop}
 use Rattle.wh_world.specs.Bytes.{written, part_at}
 use Rattle.wh_world.specs.Events.{Event, wrote, tore, synced, last_synced}
-use Rattle.wh_world.specs.Cut.{unsynced, filled, patched, torn_by, image_at}
-
--- a place past the end gets nothing
-pub patched_behind : (old : List ℕ) (at n : ℕ) (front : List ℕ) (fill : Option ℕ) → length old < at
-    → patched old at n front fill ≡ old
-patched_behind old at n front fill behind = rw (lt-ltb (length old) at behind) refl
-
--- any other is written
-pub patched_within : (old : List ℕ) (at n : ℕ) (front : List ℕ) (fill : Option ℕ) → at ≤ length old
-    → patched old at n front fill ≡ written old at (filled front n fill)
-patched_within old at n front fill within = by_test (nat_lt (length old) at) refl
-  where
-    by_test : (test : Bool) → nat_lt (length old) at ≡ test
-        → (if test then old else written old at (filled front n fill)) ≡ written old at (filled front n fill)
-    by_test true is = absurd (omega (arith, within, ltb-true (length old) at is))
-    by_test false is = refl
-
--- a failed write in front of the cut changes nothing
-pub torn_whole : (old : List ℕ) (at n there : ℕ) (fill : Option ℕ) → there ≡ n
-    → torn_by old at n there fill ≡ old
-torn_whole old at n there fill same = rw (eq-eqb there n same) refl
-
-pub torn_part : (old : List ℕ) (at n there : ℕ) (fill : Option ℕ) → there ≢ n
-    → torn_by old at n there fill ≡ patched old at n (part_at at there old) fill
-torn_part old at n there fill other = by_test (there == n) refl
-  where
-    by_test : (test : Bool) → (there == n) ≡ test
-        → (if test then old else patched old at n (part_at at there old) fill)
-        ≡ patched old at n (part_at at there old) fill
-    by_test true is = absurd (other (eqb-true there n is))
-    by_test false is = refl
+use Rattle.wh_world.specs.Cut.{unsynced, patched, image_at}
 
 -- a choice between equals
 either : (test : Bool) (a b : List ℕ) → b ≡ a → (if test then a else b) ≡ a

@@ -1,4 +1,5 @@
-ghost use Rattle.std.specs.Prelude.{◌≡◌, ◌<◌, ◌^◌, List, ℕ, Option, Some, length, option_map, slice_index};
+ghost use Rattle.std.specs.Prelude.{◌≡◌, ◌<◌, ◌^◌, List, ℕ, Option, Some, length, option_map};
+ghost use Rattle.std.specs.Prelude.{slice_index};
 ghost use Rattle.wh_world.specs.Readings.{readings_after};
 
 /// A clock in milliseconds.

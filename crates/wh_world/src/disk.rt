@@ -6,7 +6,8 @@ ghost use Rattle.wh_world.specs.Crash.{Follows, NoOthers, Only, Elapses};
 
 use crate::Failed;
 
-/// A file on a disk, with what a crash may leave of it. Between two syncs each written range may hold any bytes.
+/// A file on a disk, with what a crash may leave of it. Between two syncs each written range may
+/// hold any bytes.
 pub trait Disk {
     /// The bytes that a read gives, where they are told.
     ghost bytes: { Self → Option (List ℕ) };
@@ -35,8 +36,8 @@ pub trait Disk {
         ensures same { (bytes self.new ≡ bytes self.old) × (size self.new ≡ size self.old)
             × (reads self.new ≡ reads self.old) }
         ensures crash { NoOthers (may_leave self.old) (may_leave self.new) }
-        ensures time { Elapses (moment self.old) (moment self.new) (left_since self.old) (left_since self.new)
-            (may_leave self.new) }
+        ensures time { Elapses (moment self.old) (moment self.new)
+            (left_since self.old) (left_since self.new) (may_leave self.new) }
         ensures later { faults self.old ≤ faults self.new }
         ensures no_fault { OnOk result (faults self.new ≡ faults self.old) }
         ensures failed { OnErr result (Rose (faults self.old) (faults self.new)) };
@@ -54,37 +55,43 @@ pub trait Disk {
         ensures reads { (reads self.old ≤ reads self.new) × (reads self.new ≤ reads self.old + 1) }
         ensures counted { Rose (reads self.old) (reads self.new) }
         ensures crash { NoOthers (may_leave self.old) (may_leave self.new) }
-        ensures time { Elapses (moment self.old) (moment self.new) (left_since self.old) (left_since self.new)
-            (may_leave self.new) }
+        ensures time { Elapses (moment self.old) (moment self.new)
+            (left_since self.old) (left_since self.new) (may_leave self.new) }
         ensures later { faults self.old ≤ faults self.new }
         ensures no_fault { OnOk result (faults self.new ≡ faults self.old) }
         ensures failed { OnErr result (Rose (faults self.old) (faults self.new)) };
 
-    /// Writes over what is there, and past the end. Until a sync a crash may leave any bytes in the range.
+    /// Writes over what is there, and past the end. Until a sync a crash may leave any bytes in the
+    /// range.
     fn write_at(&mut self, at: u64, piece: &[u8]) -> Result<(), Failed>
         requires place { at ≤ size self.old }
         requires end { at + length piece.now ≤ 2 ^ 40 }
-        ensures written { OnOk result (bytes self.new ≡ option_map (λ old. written old at piece.now) (bytes self.old)) }
-        ensures torn { OnErr result (Told (Torn at (length piece.now)) (bytes self.old) (bytes self.new)) }
+        ensures written { OnOk result (bytes self.new
+            ≡ option_map (λ old. written old at piece.now) (bytes self.old)) }
+        ensures torn { OnErr result
+            (Told (Torn at (length piece.now)) (bytes self.old) (bytes self.new)) }
         ensures size { OnOk result (size self.new ≡ max (size self.old) (at + length piece.now)) }
         ensures size_err { OnErr result
-            ((size self.old ≤ size self.new) × (size self.new ≤ max (size self.old) (at + length piece.now))) }
+            ((size self.old ≤ size self.new)
+            × (size self.new ≤ max (size self.old) (at + length piece.now))) }
         ensures reads { reads self.new ≡ reads self.old }
-        ensures crash { Follows (Torn at (length piece.now)) (may_leave self.old) (may_leave self.new) }
-        ensures time { Elapses (moment self.old) (moment self.new) (left_since self.old) (left_since self.new)
-            (may_leave self.new) }
+        ensures crash { Follows (Torn at (length piece.now))
+            (may_leave self.old) (may_leave self.new) }
+        ensures time { Elapses (moment self.old) (moment self.new)
+            (left_since self.old) (left_since self.new) (may_leave self.new) }
         ensures later { faults self.old ≤ faults self.new }
         ensures no_fault { OnOk result (faults self.new ≡ faults self.old) }
         ensures failed { OnErr result (Rose (faults self.old) (faults self.new)) };
 
     /// Brings all that was written onto the disk: from Ok on a crash leaves what a read gives.
     fn sync(&mut self) -> Result<(), Failed>
-        ensures durable { OnOk result ((b : List ℕ) → bytes self.old ≡ Some b → Only b (may_leave self.new)) }
+        ensures durable { OnOk result ((b : List ℕ) → bytes self.old ≡ Some b
+            → Only b (may_leave self.new)) }
         ensures same { (bytes self.new ≡ bytes self.old) × (size self.new ≡ size self.old)
             × (reads self.new ≡ reads self.old) }
         ensures crash { NoOthers (may_leave self.old) (may_leave self.new) }
-        ensures time { Elapses (moment self.old) (moment self.new) (left_since self.old) (left_since self.new)
-            (may_leave self.new) }
+        ensures time { Elapses (moment self.old) (moment self.new)
+            (left_since self.old) (left_since self.new) (may_leave self.new) }
         ensures later { faults self.old ≤ faults self.new }
         ensures no_fault { OnOk result (faults self.new ≡ faults self.old) }
         ensures failed { OnErr result (Rose (faults self.old) (faults self.new)) };
@@ -96,9 +103,10 @@ pub trait Disk {
     ghost shown: { (disk : Self) (b : List ℕ) → bytes disk ≡ Some b → may_leave disk b };
 
     /// This moment is one of those since an earlier one.
-    ghost counts_now: { (disk : Self) (t : ℕ) (image : List ℕ) → t ≤ moment disk → may_leave disk image
-        → left_since disk t image };
+    ghost counts_now: { (disk : Self) (t : ℕ) (image : List ℕ) → t ≤ moment disk
+        → may_leave disk image → left_since disk t image };
 
     /// Since this moment there is no other.
-    ghost only_now: { (disk : Self) (image : List ℕ) → left_since disk (moment disk) image → may_leave disk image };
+    ghost only_now: { (disk : Self) (image : List ℕ) → left_since disk (moment disk) image
+        → may_leave disk image };
 }

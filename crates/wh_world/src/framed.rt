@@ -15,7 +15,8 @@ impl Model for Framed {
 
     ghost view = { λ f. take (length f.bytes.items - 9) (drop 8 f.bytes.items) };
 
-    ghost invariant = { λ f. f.bytes.items ≡ framed (take (length f.bytes.items - 9) (drop 8 f.bytes.items)) };
+    ghost invariant = { λ f. f.bytes.items
+        ≡ framed (take (length f.bytes.items - 9) (drop 8 f.bytes.items)) };
 }
 
 impl Framed {

@@ -1,5 +1,6 @@
-ghost use Rattle.std.specs.Prelude.{◌≡◌, ◌↔◌, ◌⊎◌, ◌+◌, ◌-◌, ◌<◌, ◌≤◌, ◌^◌, [], ◌∷◌, min, max, ℕ, List, Option, Some};
-ghost use Rattle.std.specs.Prelude.{length, option_map, vec_len, vec_capacity, IsErr, IsTrue, IfOk, OnOk, OnErr};
+ghost use Rattle.std.specs.Prelude.{◌≡◌, ◌↔◌, ◌⊎◌, ◌+◌, ◌-◌, ◌<◌, ◌≤◌, ◌^◌, [], ◌∷◌, min, max, ℕ};
+ghost use Rattle.std.specs.Prelude.{List, Option, Some, length, option_map, vec_len, vec_capacity};
+ghost use Rattle.std.specs.Prelude.{IsErr, IsTrue, IfOk, OnOk, OnErr};
 ghost use Rattle.wh_world.specs.Bytes.{written, part_at, Torn};
 ghost use Rattle.wh_world.specs.Calls.{next, is_due};
 ghost use Rattle.wh_world.specs.Crash.{Follows, NoOthers, Only};
@@ -7,8 +8,8 @@ ghost use Rattle.wh_world.specs.Cut.{picked};
 ghost use Rattle.wh_world.specs.Events.{wrote, tore, synced, content, WasImage};
 ghost use Rattle.wh_world.specs.Images.{is_shown, counts_now, only_now, some_same};
 ghost use Rattle.std.proofs.Common.{subst};
-ghost use Rattle.wh_world.specs.MemDisk.{content_of, synced_of, images_of, fresh, done, refused, read_once};
-ghost use Rattle.wh_world.specs.MemDisk.{logged, torn, IsWrite, GoesOn};
+ghost use Rattle.wh_world.specs.MemDisk.{content_of, synced_of, images_of, fresh, done, refused};
+ghost use Rattle.wh_world.specs.MemDisk.{read_once, logged, torn, IsWrite, GoesOn};
 
 use crate::calls::Calls;
 use crate::imaging::{Tear, image_of};
@@ -56,7 +57,8 @@ impl Model for MemDisk {
 impl MemDisk {
     /// A disk with these bytes, all of them synced, and the memory for writes of `room` bytes and
     /// for `calls` writes and syncs in all. A write that fails counts among these, a sync that
-    /// fails doesn't. The calls whose numbers, from 1, are in `failing` fail; `fault_count` has none.
+    /// fails doesn't. The calls whose numbers, from 1, are in `failing` fail; `fault_count` has
+    /// none.
     pub fn new(
         alloc: Global,
         bytes: Vec<u8>,
@@ -233,7 +235,8 @@ impl Disk for MemDisk {
         requires { at + length buf.old ≤ length (content_of self.old) }
 
         ensures failed_exactly { IsErr result ↔ IsTrue (is_due self.old.calls) }
-        ensures content { OnOk result (buf.new ≡ part_at at (length buf.new) (content_of self.old)) }
+        ensures content { OnOk result (buf.new
+            ≡ part_at at (length buf.new) (content_of self.old)) }
         ensures new { OnOk result (self.new ≡ read_once (done self.old)) }
         ensures new_err { OnErr result (self.new ≡ read_once (refused self.old)) }
         ensures reads { (self.old.reads ≤ self.new.reads) × (self.new.reads ≤ self.old.reads + 1) }
@@ -259,7 +262,8 @@ impl Disk for MemDisk {
         ensures size { OnOk result (length (content_of self.new)
             ≡ max (length (content_of self.old)) (at + length piece.now)) }
         ensures torn { OnErr result (content_of self.new ≡ content_of self.old) }
-        ensures crash { Follows (Torn at (length piece.now)) (images_of self.old) (images_of self.new) }
+        ensures crash { Follows (Torn at (length piece.now))
+            (images_of self.old) (images_of self.new) }
         ensures time { GoesOn self.old self.new }
         ensures later { self.old.calls.faults ≤ self.new.calls.faults }
     {

@@ -1,5 +1,5 @@
-ghost use Rattle.std.specs.Prelude.{◌≡◌, ◌↔◌, ◌⊎◌, ◌-◌, ◌++◌, ◌<◌, ◌≤◌, [], min, ℕ, Option, Some, length, take, IsErr};
-ghost use Rattle.std.specs.Prelude.{IsTrue, IfOk, OnErr};
+ghost use Rattle.std.specs.Prelude.{◌≡◌, ◌↔◌, ◌⊎◌, ◌-◌, ◌++◌, ◌<◌, ◌≤◌, [], min, ℕ, Option, Some};
+ghost use Rattle.std.specs.Prelude.{length, take, IsErr, IsTrue, IfOk, OnErr};
 ghost use Rattle.wh_world.specs.Calls.{no_calls, is_due, passed, failed};
 
 use crate::calls::Calls;

@@ -1,4 +1,5 @@
-ghost use Rattle.std.specs.Prelude.{◌≡◌, ◌↔◌, ◌<◌, ◌≤◌, [], min, Some, length, take, drop, IsErr, IsTrue, IfOk, OnErr};
+ghost use Rattle.std.specs.Prelude.{◌≡◌, ◌↔◌, ◌<◌, ◌≤◌, [], min, Some, length, take, drop, IsErr};
+ghost use Rattle.std.specs.Prelude.{IsTrue, IfOk, OnErr};
 ghost use Rattle.wh_world.specs.Calls.{no_calls, is_due, passed, failed};
 
 use crate::calls::Calls;

@@ -18,8 +18,10 @@ pub trait Source {
     fn read(&mut self, buf: &mut [u8]) -> Result<usize, Failed>
         requires { 0 < length buf.old }
         ensures count { IfOk result (λ n. n ≤ length buf.new) }
-        ensures taken { IfOk result (λ n. left self.old ≡ option_map (λ rest. take n buf.new ++ rest) (left self.new)) }
-        ensures at_end { IfOk result (λ n. n ≡ 0 → (bytes : List ℕ) → left self.old ≡ Some bytes → bytes ≡ []) }
+        ensures taken { IfOk result (λ n. left self.old
+            ≡ option_map (λ rest. take n buf.new ++ rest) (left self.new)) }
+        ensures at_end { IfOk result (λ n. n ≡ 0
+            → (bytes : List ℕ) → left self.old ≡ Some bytes → bytes ≡ []) }
         ensures kept { OnErr result (left self.new ≡ left self.old) }
         ensures later { faults self.old ≤ faults self.new }
         ensures no_fault { OnOk result (faults self.new ≡ faults self.old) }

@@ -1,7 +1,7 @@
 use Rattle.std.proofs.Common.{map, ap, sym, ◌∙◌, arith}
 use Rattle.wh_state.specs.Stored.{object_meant}
 use Rattle.wh_machine.specs.Names.{names_from}
-use Rattle.wh_decide.proofs.CatalogLemmas.{objects_are}
+use Rattle.wh_txn.proofs.SeenLemmas.{objects_are}
 use Rattle.wh_decide.proofs.ObjectLemmas.{more_named, all_named}
 use Rattle.wh_decide.proofs.names.named_objects.Goals as goal
 

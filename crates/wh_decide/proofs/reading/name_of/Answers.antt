@@ -8,4 +8,5 @@ returns-in_ok-copy-in-Some c =
     ∙ name_there c.args.catalog.now c.args.id c.in-Some.object.now c.in-Some.ensures
 
 pub returns-in_ok-empty-in-None : goal.returns-in_ok-empty-in-None
-returns-in_ok-empty-in-None c = c.in_ok-empty-in-None.ensures ∙ name_missing c.args.catalog.now c.args.id c.in-None.ensures
+returns-in_ok-empty-in-None c =
+    c.in_ok-empty-in-None.ensures ∙ name_missing c.args.catalog.now c.args.id c.in-None.ensures

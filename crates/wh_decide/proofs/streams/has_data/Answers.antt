@@ -8,7 +8,7 @@ use Rattle.wh_catalog.specs.Stream.{stream_of}
 use Rattle.wh_net.specs.Stream.{rows_shown, has_rows}
 use Rattle.wh_txn.specs.View.{sessions_of}
 use Rattle.wh_decide.specs.Sight.{machine_in}
-use Rattle.wh_decide.proofs.CatalogLemmas.{stream_there}
+use Rattle.wh_txn.proofs.SeenLemmas.{catalog_stream}
 use Rattle.wh_decide.proofs.OutcomeLemmas.{answers}
 use Rattle.wh_decide.proofs.StreamLemmas.{none_asked, asked_refused, asked_told}
 use Rattle.wh_decide.proofs.streams.has_data.Goals.{After-stream}
@@ -17,7 +17,7 @@ use Rattle.wh_decide.proofs.streams.has_data.Goals as goal
 -- the stream of the id, if there is one
 found : (c : After-stream) → stream_at (state_of c.args.sight.now.catalog.now).objects c.args.id
     ≡ option_map (λ s. stream_of s.now) c.stream.result
-found c = stream_there c.args.sight.now.catalog.now c.args.id ∙ sym c.stream.ensures
+found c = catalog_stream c.args.sight.now.catalog.now c.args.id ∙ sym c.stream.ensures
 
 pub returns-in_default : goal.returns-in_default
 returns-in_default c =

@@ -71,5 +71,6 @@ returns c =
     decides_as sight c.defined.result
     (ap (λ (name : List ℕ). commits (machine_in sight) (CreatedTable name) (table_made n)) c.in_ok-copy.ensures
     ∙ sym (defines_table (state_of sight.catalog.now) sight.stamp (sessions_of sight.sessions.now) sight.session n _
-    None c.table_refusal-wrong.ensures (sym (ap (option_map refusal_view) c.in_default.is) ∙ c.definition_refusal.ensures)))
+    None c.table_refusal-wrong.ensures
+    (sym (ap (option_map refusal_view) c.in_default.is) ∙ c.definition_refusal.ensures)))
     (c.defined.ensures (table_made n) items)

@@ -11,7 +11,8 @@ returns-then-not-has_row c =
 pub loop-numbered-preserved : goal.loop-numbered-preserved
 loop-numbered-preserved c =
     passed_on (HasRow c.args.width) numbered_of c.args.rows.now c.loop-numbered.numbered-index c.numbered-item.result
-    c.has_row.result c.loop-numbered-test.true c.numbered-item.is c.has_row.ensures c.if-not-has_row.false c.loop-numbered.invariant
+    c.has_row.result c.loop-numbered-test.true c.numbered-item.is c.has_row.ensures c.if-not-has_row.false
+    c.loop-numbered.invariant
 
 pub returns : goal.returns
 returns c =

@@ -11,7 +11,8 @@ returns-then-not-is_value c =
 pub loop-value-preserved : goal.loop-value-preserved
 loop-value-preserved c =
     passed_on IsValue value_of c.args.values.now c.loop-value.value-index c.value-item.result
-    c.is_value.result c.loop-value-test.true c.value-item.is c.is_value.ensures c.if-not-is_value.false c.loop-value.invariant
+    c.is_value.result c.loop-value-test.true c.value-item.is c.is_value.ensures c.if-not-is_value.false
+    c.loop-value.invariant
 
 pub returns : goal.returns
 returns c =

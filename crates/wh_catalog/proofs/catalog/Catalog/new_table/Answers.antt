@@ -1,6 +1,5 @@
 use Rattle.std.proofs.Common.{◌∙◌, ap, sym, ◌++◌, ◌∷◌, []}
-use Rattle.wh_state.specs.State.{new_object}
-use Rattle.wh_state.specs.Stored.{StoredTableKind}
+use Rattle.wh_state.specs.State.{new_object, TableKind}
 use Rattle.wh_state.specs.Commit.{changed}
 use Rattle.wh_record.specs.View.{table_change_of}
 use Rattle.wh_table.specs.Table.{kept_table}
@@ -19,5 +18,5 @@ returns-clause-applies c = (Decides-table_applies (objects_of c.args.self.now) (
 pub returns-clause-made : goal.returns-clause-made
 unfolding changed kept_table
 returns-clause-made c =
-    ap (λ t. objects_of c.args.self.now ++ new_object c.args.change.name c.args.stamp (StoredTableKind t) ∷ [])
+    ap (λ t. objects_of c.args.self.now ++ new_object c.args.change.name (TableKind t) ∷ [])
     c.new-table.ensures

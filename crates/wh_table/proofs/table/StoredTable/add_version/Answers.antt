@@ -1,18 +1,17 @@
-use Rattle.std.proofs.Common.{◌≡◌, refl, ◌≤◌, ◌+◌, ◌∙◌, ◌++◌, ◌∷◌, [], ap, sym, subst, List, length, map, IsTrue, arith}
+use Rattle.std.proofs.Common.{◌≡◌, refl, ◌+◌, ◌∙◌, ◌++◌, ◌∷◌, [], ap, sym, subst, List, length, map, IsTrue, arith}
 use Rattle.std.specs.List.{list_all}
 use Rattle.std.proofs.lemmas.Bool.{and_from}
 use Rattle.std.specs.Prelude.{not}
 use Rattle.wh_frame.specs.Partition.{Partition}
 use Rattle.wh_value.specs.View.{column_of}
-use Rattle.wh_state.specs.State.{content_in}
 use Rattle.wh_state.specs.Stored.{StoredVersion}
 use Rattle.wh_state.specs.Edits.{without, is_among}
 use Rattle.wh_version.specs.Lists.{shortened}
-use Rattle.wh_version.specs.History.{versions_of, nexts_of, standing_in, next_in, pushed_with}
+use Rattle.wh_version.specs.History.{versions_of, nexts_of, standing_in, partitions_of, next_in, pushed_with}
 use Rattle.wh_table.specs.Table.{kept_table}
 use Rattle.wh_table.specs.Apart.{is_apart, is_rising, rows_rise, highest_number}
-use Rattle.wh_table.proofs.Apart.{changed_apart, highest_number-append, highest_filter}
-use Rattle.wh_table.proofs.Pushed.{shortened-push, last_of-push, next_in-push, last_apart}
+use Rattle.wh_table.proofs.Apart.{changed_apart, highest_number-append}
+use Rattle.wh_table.proofs.Pushed.{shortened-push, next_in-push, last_apart}
 use Rattle.wh_table.proofs.Rising.{each_filter, each_append, last_rising}
 use Rattle.wh_table.proofs.table.StoredTable.add_version.Goals as goal
 
@@ -25,7 +24,7 @@ invariant_of-self c =
     record {
       few_columns = t.few_columns;
       row_numbers = t.row_numbers;
-      highest_row = subst (λ vs. highest_number (standing_in vs) ≤ t.highest) same t.highest_row;
+      highest_row = t.highest_row ∙ ap highest_number (sym c.in_err-push.ensures.same_partitions);
       apart = subst P same t.apart;
       rising = subst (λ vs. IsTrue (list_all is_rising vs)) same t.rising;
     }
@@ -46,10 +45,8 @@ invariant_of-self-2 c =
     let now : versions_of c.push.new.self ≡ versions ++ v ∷ [] = c.in_ok-push.ensures.versions
     ∙ ap (λ l. pushed_with versions c.args.stamp c.args.change.data_timestamp l added) c.deref-2.ensures.value in
     let P : List StoredVersion → Type 0 = λ vs. IsTrue (list_all is_apart vs) in
-    let last : standing_in (versions ++ v ∷ []) ≡ without removed ps ++ added =
-    ap (content_in []) (last_of-push versions v) in
-    let size = ap highest_number (ap standing_in now ∙ last) ∙ highest_number-append (without removed ps) added in
-    let fewer = highest_filter (λ p. not (is_among p.number removed)) ps in
+    let highest = ap highest_number c.in_ok-push.ensures.partitions
+    ∙ highest_number-append (partitions_of t.history) added in
     let before = t.highest_row in
     let added_rising : IsTrue (list_all rows_rise added) =
     subst (λ qs. IsTrue (list_all rows_rise qs)) c.deref.ensures.value c.highest_of-highest.ensures.rising in
@@ -59,7 +56,7 @@ invariant_of-self-2 c =
       few_columns = t.few_columns;
       row_numbers = c.requires.next_row;
       highest_row = omega
-          (arith, size, fewer, before, c.highest_of-highest.ensures.highest, ap highest_number c.deref.ensures.value);
+          (arith, highest, before, c.highest_of-highest.ensures.highest, ap highest_number c.deref.ensures.value);
       apart = subst P (sym now) (each_append is_apart versions (v ∷ []) t.apart
           (and_from _ _ (changed_apart removed ps added (last_apart versions t.apart) c.requires.apart) refl));
       rising = subst (λ vs. IsTrue (list_all is_rising vs)) (sym now)
@@ -80,6 +77,7 @@ returns-clause-pushed c =
     let next : next_in (nexts_of c.push.new.self) ≡ next_in (nexts_of t.history) + length added =
     ap next_in c.in_ok-push.ensures.nexts ∙ next_in-push (nexts_of t.history) _ in
     λ i. record {
+      created = t.created;
       columns = map column_of t.columns.items;
       retention = t.retention;
       next_row = c.args.change.next_row;
@@ -94,6 +92,7 @@ returns-clause-back c =
     let versions = ap shortened c.in_ok-push.ensures.versions ∙ shortened-push _ _ _ in
     let nexts = ap shortened c.in_ok-push.ensures.nexts ∙ shortened-push _ _ _ in
     λ i. record {
+      created = t.created;
       columns = map column_of t.columns.items;
       retention = t.retention;
       next_row = t.next_row;

@@ -28,4 +28,5 @@ returns c =
     λ sorted ps. AllApart [] (partitions_at ps) → all_rows (partitions_at sorted)
     ≡ entries (rows_of (partitions_at ps)) in
     are_arrivals arrivals.stamp c.args.place (partitions_at arrivals.came.items) (versions_of t.history) t.rising
-    c.in_ok-arrivals.ensures _ t.apart (subst (Sorts c.in_ok-came.came.items) c.deref.ensures.value c.in_ok-came.ensures)
+    c.in_ok-arrivals.ensures _ t.apart
+    (subst (Sorts c.in_ok-came.came.items) c.deref.ensures.value c.in_ok-came.ensures)

@@ -19,7 +19,8 @@ returns c = λ stamp e is.
     let all : List Partition = without removed (standing_in (versions_of t.history)) ++ edited.added.items in
     let found : partitions_at c.deref.result.now ≡ all =
     ap partitions_at c.deref.ensures.value
-    ∙ c.in_ok-partitions.ensures.partitions ∙ ap (λ ps. without removed ps ++ edited.added.items) c.kept.ensures in
+    ∙ c.in_ok-partitions.ensures.partitions
+    ∙ ap (λ ps. without removed ps ++ edited.added.items) c.kept.ensures.standing in
     c.in_ok-sorted.ensures (subst (AllApart []) (sym found) (edited_apart t edited e is))
     ∙ ap (λ ps. entries (rows_of ps)) found
     ∙ ap entries (edited_rows t edited e is stamp)

@@ -20,7 +20,8 @@ returns c = λ stamp e is.
     let removed = edited.removed.items in
     let all : List Partition = without removed (standing_in (versions_of t.history)) ++ edited.added.items in
     let found : partitions_at c.in_ok-partitions.partitions.items ≡ all =
-    c.in_ok-partitions.ensures.partitions ∙ ap (λ ps. without removed ps ++ edited.added.items) c.kept.ensures in
+    c.in_ok-partitions.ensures.partitions
+    ∙ ap (λ ps. without removed ps ++ edited.added.items) c.kept.ensures.standing in
     let rising = subst (AllByRecursion HasRisingRows) found c.in_ok-partitions.ensures.rising in
     ap bag_of (c.in_ok-rows.ensures
     ∙ ap (λ ps. rows_only (all_rows ps)) (ap partitions_at c.deref.ensures.value ∙ found))

@@ -13,7 +13,7 @@ invariant_of-self c =
     record {
       few_columns = t.few_columns;
       row_numbers = c.requires;
-      highest_row = c.highest_standing-self.ensures;
+      highest_row = c.highest_kept-self.ensures;
       apart = subst P (sym c.pop.ensures.versions) (each_shortened is_apart (versions_of t.history) t.apart);
       rising = subst (λ vs. IsTrue (list_all is_rising vs)) (sym c.pop.ensures.versions)
           (each_shortened is_rising (versions_of t.history) t.rising);

@@ -11,7 +11,8 @@ returns-then-contains_key c =
 
 pub returns-else-contains_key : goal.returns-else-contains_key
 returns-else-contains_key c =
-    let held = sym c.if-contains_key.false ∙ c.contains_key.ensures ∙ is_held c.args.self.now.tables.entries c.args.id in
+    let held = sym c.if-contains_key.false ∙ c.contains_key.ensures
+    ∙ is_held c.args.self.now.tables.entries c.args.id in
     c.is_among.ensures
     ∙ ap (list_any (nat_eq c.args.id)) c.deref.ensures.value
     ∙ ap (λ b. b || list_any (nat_eq c.args.id) c.args.self.now.streams.items) held

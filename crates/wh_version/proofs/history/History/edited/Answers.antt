@@ -10,7 +10,7 @@ returns-clause-added c =
     let h = c.args.self.now in
     let e = edits_in c.args.edits in
     let found : partitions_at c.deref-2.result.now ≡ touched e.rows (standing_in (versions_of h)) =
-    ap partitions_at c.deref-2.ensures.value ∙ c.in_ok-touched.ensures ∙ ap (touched e.rows) c.kept.ensures in
+    ap partitions_at c.deref-2.ensures.value ∙ c.in_ok-touched.ensures ∙ ap (touched e.rows) c.kept.ensures.standing in
     c.in_ok-added.ensures
     ∙ made_for c.next_partition.result (next_in (nexts_of h)) c.args.next_row e _ (standing_in (versions_of h))
     c.next_partition.ensures.number found

@@ -29,7 +29,8 @@ module _ (c : After-mark-mark) where
 
   -- it counts no more partitions than there are
   few : c.mark-mark.result.partitions ≤ length h.kept.items
-  few = omega (arith, counted, mark_within 0 (marks_of h) (length h.kept.items) c.loop-place.place h.first h.marks within)
+  few =
+      omega (arith, counted, mark_within 0 (marks_of h) (length h.kept.items) c.loop-place.place h.first h.marks within)
 
 pub returns-then-stamp-mark : goal.returns-then-stamp-mark
 unfolding versions_of

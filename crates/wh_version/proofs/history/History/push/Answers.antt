@@ -9,9 +9,9 @@ use Rattle.wh_version.specs.declared.mark.VersionMark.{VersionMark}
 use Rattle.wh_version.specs.Kept.{partitions_in, numbered_from, count_to, is_gone_by, parted, fresh}
 use Rattle.wh_version.specs.Kept.{standing_at, versions_by}
 use Rattle.wh_version.specs.History.{versions_of, nexts_of, marks_of, standing_in, next_in}
-use Rattle.wh_version.proofs.Last.{next_last, counts_all, standing_still, standing_last}
+use Rattle.wh_version.proofs.Last.{next_last, counts_all, standing_now, standing_last}
 use Rattle.wh_version.proofs.Parted.{all_later, parted_gone, length-parted}
-use Rattle.wh_version.proofs.Pushed.{versions_pushed, still_numbered, still_count, still_gone}
+use Rattle.wh_version.proofs.Pushed.{versions_pushed, more_partitions, still_numbered, still_count, still_gone}
 use Rattle.wh_version.proofs.history.History.push.Goals.{After-push_reserved}
 use Rattle.wh_version.proofs.history.History.push.Goals as goal
 
@@ -91,11 +91,10 @@ returns-clause-versions c =
     let h = c.args.self.now in
     let removed = c.args.removed.now in
     let added = c.args.added.items in
-    let sized = h.later.ok.0 in
     let few : last at < 18446744073709551615 = omega (arith, count at) in
     let standing : standing_at (last at) (kept at) ≡ standing_in (versions_by (kept at) 0 (marks_of h)) =
     ap partitions_in (sym (standing_last (last at) (kept at) few (gone at)))
-    ∙ sym (standing_still (kept at) h.first h.later.items (omega arith) h.marks h.gone) in
+    ∙ sym (standing_now h) in
     (λ i. versions_by (whole at i) 0 (marks at i))
     ∙ versions_pushed (last at) removed (kept at) added (marks_of h) (mark at) few (count at) h.marks (total at)
     ∙ (λ i. versions_by (kept at) 0 (marks_of h) ++ (record {
@@ -112,3 +111,8 @@ returns-clause-nexts c =
     ap (map (λ mark. mark.partitions + 1)) (marks at)
     ∙ map_push (λ mark. mark.partitions + 1) old (mark at)
     ∙ ap (λ n. map (λ m. m.partitions + 1) old ++ n ∷ []) (omega (arith, total at, size at, next at))
+
+pub returns-clause-partitions : goal.returns-clause-partitions
+returns-clause-partitions c =
+    let at = (goal.at.returns-clause-partitions c).After-push_reserved in
+    ap partitions_in (whole at) ∙ more_partitions (last at) c.args.removed.now (kept at) c.args.added.items

@@ -2,22 +2,18 @@ use Rattle.std.proofs.Common.{◌≡◌, ◌+◌, ◌-◌, ◌∙◌, ap, sym, f
 use Rattle.std.specs.Prelude.{nat_eq}
 use Rattle.std.specs.List.{list_any}
 use Rattle.wh_version.specs.Kept.{partitions_in, is_standing}
-use Rattle.wh_version.specs.History.{versions_of}
-use Rattle.wh_version.proofs.Last.{standing_still}
+use Rattle.wh_version.proofs.Last.{standing_now}
 use Rattle.wh_version.proofs.Found.{none_there, one_there}
 use Rattle.wh_version.proofs.history.History.stands.Goals as goal
 use Rattle.wh_version.proofs.history.History.stands.Goals.{then-number-eq0-via-then-number-eq0}
 use Rattle.wh_version.proofs.history.History.stands.Goals.{then-number-eq0-via-else-number-eq0+then-len-number}
 
 pub returns-then-number-eq0 : goal.returns-then-number-eq0
-unfolding versions_of
 returns-then-number-eq0 c =
     let h = c.args.self.now in
     let number = c.args.number in
     let sized = h.kept.ok.0 in
-    let sized_later = h.later.ok.0 in
-    let standing = ap (list_any (λ p. nat_eq number p.number))
-    (standing_still h.kept.items h.first h.later.items (omega arith) h.marks h.gone) in
+    let standing = ap (list_any (λ p. nat_eq number p.number)) (standing_now h) in
     let none : list_any (λ p. nat_eq number p.number) (partitions_in (filter is_standing h.kept.items)) ≡ false =
     elim c.then-number-eq0.branch [
       | then-number-eq0-via-then-number-eq0 w ↦ none_there number 1 h.kept.items h.numbers (inl (omega arith))
@@ -27,14 +23,11 @@ returns-then-number-eq0 c =
     sym (standing ∙ none)
 
 pub returns : goal.returns
-unfolding versions_of
 returns c =
     let h = c.args.self.now in
     let number = c.args.number in
     let sized = h.kept.ok.0 in
-    let sized_later = h.later.ok.0 in
-    let standing = ap (list_any (λ p. nat_eq number p.number))
-    (standing_still h.kept.items h.first h.later.items (omega arith) h.marks h.gone) in
+    let standing = ap (list_any (λ p. nat_eq number p.number)) (standing_now h) in
     let k = c.index-one.result.now in
     let there = one_there 1 (number - 1) h.kept.items k h.numbers (omega (arith, c.len.ensures)) c.index-one.ensures in
     let same : 1 + (number - 1) ≡ number = omega arith in
