@@ -26,8 +26,9 @@ use Rattle.wh_ddl_naming.specs.Tables.{NewTable, new_table, column_names, column
 use Rattle.wh_ddl_naming.specs.Streams.{NewStream, bound_stream}
 use Rattle.wh_reply.specs.Reply.{Refusal, Reply, OverLimit, Locked, DdlInTransaction, CreatedTable, CreatedStream}
 use Rattle.wh_state.specs.State.{State, Object, at_id, put_at, changed_at, dropped, id_of, live_count}
+use Rattle.wh_state.specs.State.{TableKind, StreamKind}
 use Rattle.wh_state.specs.Act.{Act, MakesTable, DropsObject, MakesStream}
-use Rattle.wh_state.specs.Stored.{StoredKind, StoredTableKind, StoredStreamKind, StoredObject, Stored, object_meant, kind_meant}
+use Rattle.wh_state.specs.Stored.{StoredKind, StoredObject, Stored, object_meant, kind_meant}
 use Rattle.wh_state.specs.Commit.{Change, CreatesTable, Drops, CreatesStream, changed, IsStoredName, IsNewObject}
 use Rattle.wh_state.specs.Commit.{TableApplies, StreamApplies, IsLiveObject, IsLiveTable, IsTableKind}
 use Rattle.wh_state.specs.Written.{written}
@@ -291,8 +292,8 @@ live_table objects id is =
     (is.live, by_kind is.object.kind is.kind_is)
   where
     by_kind : (k : StoredKind) → is_same_kind (object_kind (kind_meant k)) TableObject ≡ true → IsTableKind k
-    by_kind (StoredTableKind t) is = tt
-    by_kind (StoredStreamKind s) is = absurd cc
+    by_kind (TableKind t) is = tt
+    by_kind (StreamKind s) is = absurd cc
 
 passes_stream : (s : State) (wrong : Option Refusal) (n : NewStream) → stream_refusal s wrong n ≡ None
     → (wrong ≡ None) × ((live_count s.objects + 1 - 0 ≤ bound limits.Objects) × (length n.name ≤ bound limits.Name))

@@ -14,8 +14,9 @@ use Rattle.wh_value.specs.Limit.{bound}
 use Rattle.wh_value.specs.declared.limit.Limit.TheVariants as limits
 use Rattle.wh_reply.specs.Reply.{Reply, Refused, OverLimit}
 use Rattle.wh_state.specs.State.{State, stamped}
+use Rattle.wh_state.specs.State.{table_in}
 use Rattle.wh_state.specs.Act.{Act}
-use Rattle.wh_state.specs.Stored.{StoredObject, Stored, meant, Means, stored_table_in}
+use Rattle.wh_state.specs.Stored.{StoredObject, Stored, meant, Means}
 use Rattle.wh_state.specs.Commit.{Commit, Applies, applied, Leads}
 use Rattle.wh_state.specs.Written.{written, commit_for, kept_after}
 use Rattle.wh_state.specs.File.{Keeps}
@@ -36,7 +37,7 @@ use Rattle.wh_machine.proofs.StepLaws.{ready, decided_meant, step_at, acts_at, n
 orderly_firm : (s : Stored) → IsFirm s.objects → IsOrderlyStored s
 orderly_firm s firm =
     all_map IsFirmObject IsOrderlyObject
-    (λ o h. IfSome_then (stored_table_in o.kind) h (λ t firm. firm.kept.orderly)) s.objects firm.tables
+    (λ o h. IfSome_then (table_in o.kind) h (λ t firm. firm.kept.orderly)) s.objects firm.tables
 
 none_stand : (objects : List StoredObject) (count : ℕ) → AllStandOn objects (replicate count None)
 none_stand objects zero = tt

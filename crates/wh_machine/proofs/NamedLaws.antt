@@ -12,7 +12,8 @@ use Rattle.std.proofs.lemmas.Slice.Eq.{bytes_eq-Decides}
 use Rattle.wh_value.specs.Column.{Column}
 use Rattle.wh_naming.specs.Scope.{Named, named}
 use Rattle.wh_state.specs.State.{at_id, put_at, changed_at, columns_in, dropped, id_of, is_named}
-use Rattle.wh_state.specs.Stored.{StoredKind, StoredTableKind, StoredStreamKind, StoredObject, stored_columns_in}
+use Rattle.wh_state.specs.State.{TableKind, StreamKind}
+use Rattle.wh_state.specs.Stored.{StoredKind, StoredObject}
 use Rattle.wh_state.specs.Stored.{object_meant, kind_meant}
 use Rattle.wh_state.proofs.AllLaws.{all_map}
 use Rattle.wh_state.proofs.FirmLaws.{HasNot, NamesApart}
@@ -38,9 +39,9 @@ free_of_all name objects apart =
     not_before : (k n : ℕ) → n ≤ k → nat_lt k n ≡ false
     not_before k n h = grind (arith, nat_tests)
 
-columns_told : (k : StoredKind) → columns_in (kind_meant k) ≡ stored_columns_in k
-columns_told (StoredTableKind t) = refl
-columns_told (StoredStreamKind s) = refl
+columns_told : (k : StoredKind) → columns_in (kind_meant k) ≡ columns_in k
+columns_told (TableKind t) = refl
+columns_told (StreamKind s) = refl
 
 -- a name that isn't found
 pub none_named : (id : ℕ) (objects : List StoredObject) (name : List ℕ)
@@ -73,7 +74,7 @@ pub record IsNamed (from : ℕ) (objects : List StoredObject) (name : List ℕ) 
   pub id : found.id ≡ from + place
   pub live : object.is_live ≡ true
   pub kind : found.kind ≡ object_kind (kind_meant object.kind)
-  pub columns : found.columns ≡ stored_columns_in object.kind
+  pub columns : found.columns ≡ columns_in object.kind
   pub free : NamesApart objects → AllByRecursion (HasNot name) (slice_set objects place (dropped object))
 
 pub named_from : (from : ℕ) (objects : List StoredObject) (name : List ℕ) (found : Named)
@@ -130,7 +131,7 @@ pub record IsObjectOf (objects : List StoredObject) (name : List ℕ) (found : N
   pub there : at_id objects found.id ≡ Some object
   pub live : object.is_live ≡ true
   pub kind : found.kind ≡ object_kind (kind_meant object.kind)
-  pub columns : found.columns ≡ stored_columns_in object.kind
+  pub columns : found.columns ≡ columns_in object.kind
   pub free : NamesApart objects → AllByRecursion (HasNot name) (changed_at objects found.id dropped)
 
 pub object_named : (objects : List StoredObject) (name : List ℕ) (found : Named)

@@ -17,11 +17,11 @@ use Rattle.wh_value.specs.Fits.{row_fits}
 use Rattle.wh_frame.specs.Partition.{numbered}
 use Rattle.wh_effect.specs.Effect.{Effect}
 use Rattle.wh_state.specs.State.{at_id}
+use Rattle.wh_state.specs.State.{TableKind, StreamKind, table_in}
 use Rattle.wh_state.specs.Objects.{table_at}
 use Rattle.wh_state.specs.Edits.{RowEdits, Edits, edited, with_removed, with_changed, edits_from, with_later, added_left}
 use Rattle.wh_state.specs.Edits.{later_edits, no_edits}
-use Rattle.wh_state.specs.Stored.{StoredTable, StoredKind, StoredTableKind, StoredStreamKind, StoredObject, Stored}
-use Rattle.wh_state.specs.Stored.{stored_table_in}
+use Rattle.wh_state.specs.Stored.{StoredTable, StoredKind, StoredObject, Stored}
 use Rattle.wh_state.proofs.AllLaws.{all_append, all_with}
 use Rattle.wh_state.proofs.RowLaws.{number_tied}
 use Rattle.wh_state.proofs.FoundLaws.{FoundAt}
@@ -43,7 +43,7 @@ pub record EffectFits (columns : List Column) (e : Effect) : Type 0 where
   pub added : AllByRecursion (λ row. IsTrue (row_fits columns row)) e.added
 
 abbrev pub HoldsEffect : Effect → StoredObject → Type 0
-HoldsEffect e o = IsTrue o.is_live × IsSomeAnd (stored_table_in o.kind) (λ t. EffectFits t.columns e)
+HoldsEffect e o = IsTrue o.is_live × IsSomeAnd (table_in o.kind) (λ t. EffectFits t.columns e)
 
 -- ---- edits by numbers
 
@@ -154,21 +154,21 @@ staged_fits : (objects : List StoredObject) (t : Transaction) (id next : ℕ) (e
     → FoundAt (HoldsEdits (with_effect next e (staged_in (get t.tables id))).edits) objects id
 staged_fits objects t id next e stands holds = by_staged (get t.tables id) refl
   where
-    with_kind : (k : StoredKind) (old : Edits) → IsSomeAnd (stored_table_in k) (λ t. EditsFit t.columns old)
-        → IsSomeAnd (stored_table_in k) (λ t. EffectFits t.columns e)
-        → IsSomeAnd (stored_table_in k) (λ t. EditsFit t.columns (later_edits next old (edits_of e)))
-    with_kind (StoredTableKind t) old before fits = later_fit t.columns next old (edits_of e) before (effect_fit t.columns e fits)
-    with_kind (StoredStreamKind s) old before fits = absurd before
+    with_kind : (k : StoredKind) (old : Edits) → IsSomeAnd (table_in k) (λ t. EditsFit t.columns old)
+        → IsSomeAnd (table_in k) (λ t. EffectFits t.columns e)
+        → IsSomeAnd (table_in k) (λ t. EditsFit t.columns (later_edits next old (edits_of e)))
+    with_kind (TableKind t) old before fits = later_fit t.columns next old (edits_of e) before (effect_fit t.columns e fits)
+    with_kind (StreamKind s) old before fits = absurd before
 
     with_found : (found : Option StoredObject) (old : Edits) → IsSomeAnd found (HoldsEdits old)
         → IsSomeAnd found (HoldsEffect e) → IsSomeAnd found (HoldsEdits (later_edits next old (edits_of e)))
     with_found None old before fits = absurd before
     with_found (Some o) old before fits = (before.0, with_kind o.kind old before.1 fits.1)
 
-    untouched_kind : (k : StoredKind) → IsSomeAnd (stored_table_in k) (λ t. EffectFits t.columns e)
-        → IsSomeAnd (stored_table_in k) (λ t. EditsFit t.columns no_edits)
-    untouched_kind (StoredTableKind t) fits = no_edits_fit t.columns
-    untouched_kind (StoredStreamKind s) fits = absurd fits
+    untouched_kind : (k : StoredKind) → IsSomeAnd (table_in k) (λ t. EffectFits t.columns e)
+        → IsSomeAnd (table_in k) (λ t. EditsFit t.columns no_edits)
+    untouched_kind (TableKind t) fits = no_edits_fit t.columns
+    untouched_kind (StreamKind s) fits = absurd fits
 
     untouched_found : (found : Option StoredObject) → IsSomeAnd found (HoldsEffect e) → IsSomeAnd found (HoldsEdits no_edits)
     untouched_found None fits = absurd fits

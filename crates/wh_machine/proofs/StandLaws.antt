@@ -9,6 +9,7 @@ use Rattle.std.proofs.Common.{IsTrue}
 use Rattle.std.specs.Prelude.{nat_lt}
 use Rattle.std.specs.List.{AllByRecursion, filter}
 use Rattle.std.specs.Option.{IsSomeAnd}
+use Rattle.std.specs.Option.{option_and_then}
 use Rattle.std.specs.FinMap.{FinMap, get, entries}
 use Rattle.std.specs.Ordering.{nat_cmp}
 use Rattle.std.proofs.lemmas.Bool.Decides.{nat_tests}
@@ -16,18 +17,19 @@ use Rattle.wh_value.specs.Limit.{bound}
 use Rattle.wh_value.specs.declared.limit.Limit.{Limit}
 use Rattle.wh_value.specs.declared.limit.Limit.TheVariants as limits
 use Rattle.wh_state.specs.State.{State, Stream, Kind, TableKind, StreamKind, Object, Version, at_id, last_of}
+use Rattle.wh_state.specs.State.{table_in, stream_in}
 use Rattle.wh_state.specs.Objects.{stream_at, table_at}
+use Rattle.wh_state.specs.Objects.{as_table, as_stream}
 use Rattle.wh_state.specs.Edits.{Edits, partitions_made}
 use Rattle.wh_state.specs.Act.{Act, EditsRows, MovesOffset}
-use Rattle.wh_state.specs.Stored.{StoredVersion, StoredTable, StoredKind, StoredTableKind, StoredStreamKind, StoredObject}
-use Rattle.wh_state.specs.Stored.{Stored, stored_table_in, stored_stream_in, standing, object_meant, kind_meant}
+use Rattle.wh_state.specs.Stored.{StoredVersion, StoredTable, StoredKind, StoredObject}
+use Rattle.wh_state.specs.Stored.{Stored, standing, object_meant, kind_meant}
 use Rattle.wh_state.specs.Stored.{table_meant, version_meant}
 use Rattle.wh_state.specs.Commit.{VersionChange, Change, pushed_object, pushed_kind, offset_set, offset_set_kind}
 use Rattle.wh_state.specs.Commit.{all_changed, DoesNotFall}
 use Rattle.wh_state.specs.Sound.{IsTimely, IsSoundObject, IsSoundKind}
 use Rattle.wh_state.proofs.AllLaws.{all_map, all_both, all_append, all_at, all_filter}
 use Rattle.wh_state.proofs.FoundLaws.{FoundAt}
-use Rattle.wh_state.proofs.MeaningLaws.{stored_table_of, stored_table_at, stored_stream_of, stored_stream_at}
 use Rattle.wh_state.proofs.MeaningLaws.{at_id_meant, table_at_meant, stream_at_meant, last_partitions_meant}
 use Rattle.wh_state.proofs.AppliesLaws.{EditsFit}
 use Rattle.wh_state.proofs.BelowLaws.{below_next}
@@ -43,10 +45,10 @@ use Rattle.wh_machine.proofs.GotLaws.{entries_hold}
 -- ---- what a transaction holds
 
 abbrev pub HoldsEdits : Edits → StoredObject → Type 0
-HoldsEdits e o = IsTrue o.is_live × IsSomeAnd (stored_table_in o.kind) (λ t. EditsFit t.columns e)
+HoldsEdits e o = IsTrue o.is_live × IsSomeAnd (table_in o.kind) (λ t. EditsFit t.columns e)
 
 abbrev pub IsLiveStream : StoredObject → Type 0
-IsLiveStream o = IsTrue o.is_live × IsSomeAnd (stored_stream_in o.kind) (λ s. Unit {0})
+IsLiveStream o = IsTrue o.is_live × IsSomeAnd (stream_in o.kind) (λ s. Unit {0})
 
 pub record TransactionStands (objects : List StoredObject) (t : Transaction) : Type 0 where
   pub tables : (id : ℕ) (s : Staged) → get t.tables id ≡ Some s → FoundAt (HoldsEdits s.edits) objects id
@@ -65,28 +67,28 @@ pub edits_kept : (e : Edits) → KeptByCommits (HoldsEdits e)
 edits_kept e = record { pushes = λ stamp c o h. (h.0, pushed o.kind stamp c h.1); sets = λ offset o h. (h.0, moved o.kind offset h.1) }
   where
     pushed : (k : StoredKind) (stamp : ℕ) (c : VersionChange)
-        → IsSomeAnd (stored_table_in k) (λ t. EditsFit t.columns e)
-        → IsSomeAnd (stored_table_in (pushed_kind stamp c k)) (λ t. EditsFit t.columns e)
-    pushed (StoredTableKind t) stamp c h = record { rows = h.rows; added = h.added }
-    pushed (StoredStreamKind s) stamp c h = absurd h
+        → IsSomeAnd (table_in k) (λ t. EditsFit t.columns e)
+        → IsSomeAnd (table_in (pushed_kind stamp c k)) (λ t. EditsFit t.columns e)
+    pushed (TableKind t) stamp c h = record { rows = h.rows; added = h.added }
+    pushed (StreamKind s) stamp c h = absurd h
 
-    moved : (k : StoredKind) (offset : ℕ) → IsSomeAnd (stored_table_in k) (λ t. EditsFit t.columns e)
-        → IsSomeAnd (stored_table_in (offset_set_kind offset k)) (λ t. EditsFit t.columns e)
-    moved (StoredTableKind t) offset h = h
-    moved (StoredStreamKind s) offset h = absurd h
+    moved : (k : StoredKind) (offset : ℕ) → IsSomeAnd (table_in k) (λ t. EditsFit t.columns e)
+        → IsSomeAnd (table_in (offset_set_kind offset k)) (λ t. EditsFit t.columns e)
+    moved (TableKind t) offset h = h
+    moved (StreamKind s) offset h = absurd h
 
 pub streams_kept : KeptByCommits IsLiveStream
 streams_kept = record { pushes = λ stamp c o h. (h.0, pushed o.kind stamp c h.1); sets = λ offset o h. (h.0, moved o.kind offset h.1) }
   where
-    pushed : (k : StoredKind) (stamp : ℕ) (c : VersionChange) → IsSomeAnd (stored_stream_in k) (λ s. Unit {0})
-        → IsSomeAnd (stored_stream_in (pushed_kind stamp c k)) (λ s. Unit {0})
-    pushed (StoredTableKind t) stamp c h = absurd h
-    pushed (StoredStreamKind s) stamp c h = tt
+    pushed : (k : StoredKind) (stamp : ℕ) (c : VersionChange) → IsSomeAnd (stream_in k) (λ s. Unit {0})
+        → IsSomeAnd (stream_in (pushed_kind stamp c k)) (λ s. Unit {0})
+    pushed (TableKind t) stamp c h = absurd h
+    pushed (StreamKind s) stamp c h = tt
 
-    moved : (k : StoredKind) (offset : ℕ) → IsSomeAnd (stored_stream_in k) (λ s. Unit {0})
-        → IsSomeAnd (stored_stream_in (offset_set_kind offset k)) (λ s. Unit {0})
-    moved (StoredTableKind t) offset h = absurd h
-    moved (StoredStreamKind s) offset h = tt
+    moved : (k : StoredKind) (offset : ℕ) → IsSomeAnd (stream_in k) (λ s. Unit {0})
+        → IsSomeAnd (stream_in (offset_set_kind offset k)) (λ s. Unit {0})
+    moved (TableKind t) offset h = absurd h
+    moved (StreamKind s) offset h = tt
 
 -- what a transaction holds is not dropped
 pub record SparesHeld (cs : List Change) (t : Transaction) : Type 0 where
@@ -171,10 +173,10 @@ edit_stands committed stamp h objects sound entry within holds =
     e = entry.1.edits
 
     by_kind : (k : StoredKind) → IsSoundKind committed (kind_meant k)
-        → table_at (map object_meant objects) entry.0 ≡ option_map table_meant (stored_table_in k)
-        → IsSomeAnd (stored_table_in k) (λ t. EditsFit t.columns e) → IsSomeAnd (stored_table_in k) (EditsApply stamp e)
-    by_kind (StoredStreamKind s) sound at fits = absurd fits
-    by_kind (StoredTableKind t) sound at fits =
+        → table_at (map object_meant objects) entry.0 ≡ option_map table_meant (table_in k)
+        → IsSomeAnd (table_in k) (λ t. EditsFit t.columns e) → IsSomeAnd (table_in k) (EditsApply stamp e)
+    by_kind (StreamKind s) sound at fits = absurd fits
+    by_kind (TableKind t) sound at fits =
         let rows : nat_lt (bound limits.RowNumber) (next_row_of (Some (table_meant t)) + length e.added) ≡ false =
             ap (λ found. nat_lt (bound limits.RowNumber) (next_row_of found + length e.added)) (sym at) ∙ within.rows in
         let partitions : nat_lt (bound limits.PartitionNumber) (next_partition_of e (Some (table_meant t))) ≡ false =
@@ -199,7 +201,7 @@ edit_stands committed stamp h objects sound entry within holds =
       holds.0,
       by_kind o.kind (all_at (IsSoundObject committed) (map object_meant objects) entry.0 (object_meant o) sound
           (at_id_meant objects entry.0 ∙ ap (option_map object_meant) there)).kind
-          (table_at_meant objects entry.0 ∙ ap (λ found. option_map table_meant (stored_table_of found)) there) holds.1,
+          (table_at_meant objects entry.0 ∙ ap (λ found. option_map table_meant ((option_and_then as_table) found)) there) holds.1,
     )
 
 -- ---- moves
@@ -211,21 +213,21 @@ moves_of_one stamp start objects id live =
     (by_found (at_id objects id) refl live)
   where
     by_test : (o : StoredObject) (s : Stream) (later : Bool) → nat_lt s.offset start ≡ later → IsTrue o.is_live
-        → at_id objects id ≡ Some (record o { kind = StoredStreamKind s })
+        → at_id objects id ≡ Some (record o { kind = StreamKind s })
         → AllStand stamp start objects (cond later (MovesOffset id start ∷ []) [])
     by_test o s false test live there = tt
     by_test o s true test live there =
         let before : s.offset ≤ start = grind (arith, nat_tests) in
         ((refl, subst (λ found. IsSomeAnd found (TakesMove start)) (sym there) (live, before)), tt)
 
-    by_kind : (o : StoredObject) (k : StoredKind) → IsTrue o.is_live → IsSomeAnd (stored_stream_in k) (λ s. Unit {0})
+    by_kind : (o : StoredObject) (k : StoredKind) → IsTrue o.is_live → IsSomeAnd (stream_in k) (λ s. Unit {0})
         → at_id objects id ≡ Some (record o { kind = k })
-        → AllStand stamp start objects (offset_move start id (stored_stream_in k))
-    by_kind o (StoredTableKind t) live is there = absurd is
-    by_kind o (StoredStreamKind s) live is there = by_test o s (nat_lt s.offset start) refl live there
+        → AllStand stamp start objects (offset_move start id (stream_in k))
+    by_kind o (TableKind t) live is there = absurd is
+    by_kind o (StreamKind s) live is there = by_test o s (nat_lt s.offset start) refl live there
 
     by_found : (found : Option StoredObject) → at_id objects id ≡ found → IsSomeAnd found IsLiveStream
-        → AllStand stamp start objects (offset_move start id (stored_stream_of found))
+        → AllStand stamp start objects (offset_move start id ((option_and_then as_stream) found))
     by_found None none live = absurd live
     by_found (Some o) there live = by_kind o o.kind live.0 live.1 there
 

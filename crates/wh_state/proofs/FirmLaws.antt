@@ -17,9 +17,10 @@ use Rattle.wh_value.specs.Column.{Column}
 use Rattle.wh_frame.specs.Partition.{Partition}
 use Rattle.wh_state.specs.State.{Stream, ObjectOf, new_table, new_object, new_stream, with_offset, dropped, metadata_columns}
 use Rattle.wh_state.specs.State.{at_id, with_id, put_at, changed_at, id_of, is_named, content_in, last_of}
+use Rattle.wh_state.specs.State.{TableKind, StreamKind, table_in, stream_in, columns_in, columns_at}
 use Rattle.wh_state.specs.Edits.{without, is_among}
-use Rattle.wh_state.specs.Stored.{Stored, first_stored, StoredTable, StoredKind, StoredTableKind, StoredStreamKind, StoredObject}
-use Rattle.wh_state.specs.Stored.{stored_table_in, stored_stream_in, stored_columns_in, stored_columns_at, standing}
+use Rattle.wh_state.specs.Stored.{Stored, first_stored, StoredTable, StoredKind, StoredObject}
+use Rattle.wh_state.specs.Stored.{standing}
 use Rattle.wh_state.specs.Commit.{VersionChange, Change, CreatesTable, Drops, PushesVersion, CreatesStream, SetsOffset}
 use Rattle.wh_state.specs.Commit.{pushed, pushed_kind, pushed_object, offset_set, offset_set_kind, changed, all_changed}
 use Rattle.wh_state.specs.Commit.{Commit, applied, Leads, RowsFit, VersionApplies, FitsKind, FitsObject, IsLiveTable, IsTableKind, ChangeApplies, AllApply}
@@ -65,7 +66,7 @@ new_firm : (columns : List Column) (retention stamp : ℕ) → IsFirmTable (new_
 new_firm columns retention stamp = record { kept = new_kept columns retention stamp; some = tt; fits = (tt, tt) }
 
 abbrev pub IsFirmKind : StoredKind → Type 0
-IsFirmKind k = IfSome (stored_table_in k) IsFirmTable
+IsFirmKind k = IfSome (table_in k) IsFirmTable
 
 abbrev pub IsFirmObject : StoredObject → Type 0
 IsFirmObject o = IsFirmKind o.kind
@@ -174,10 +175,10 @@ names_more (o ∷ os) new free apart = (
 -- ---- streams
 
 abbrev pub IsSourceOf : Stream → StoredObject → Type 0
-IsSourceOf s o = IsSomeAnd (stored_table_in o.kind) (λ t. s.columns ≡ t.columns ++ metadata_columns)
+IsSourceOf s o = IsSomeAnd (table_in o.kind) (λ t. s.columns ≡ t.columns ++ metadata_columns)
 
 abbrev pub HasSource : List StoredObject → StoredObject → Type 0
-HasSource objects o = IfSome (stored_stream_in o.kind) (λ s. FoundAt (IsSourceOf s) objects s.source)
+HasSource objects o = IfSome (stream_in o.kind) (λ s. FoundAt (IsSourceOf s) objects s.source)
 
 -- ---- all of them
 
@@ -200,10 +201,10 @@ has_source : (objects new : List StoredObject)
     → HasSource objects o → HasSource new o
 has_source objects new keeps o h = by_kind o.kind h
   where
-    by_kind : (k : StoredKind) → IfSome (stored_stream_in k) (λ s. FoundAt (IsSourceOf s) objects s.source)
-        → IfSome (stored_stream_in k) (λ s. FoundAt (IsSourceOf s) new s.source)
-    by_kind (StoredTableKind t) h = tt
-    by_kind (StoredStreamKind s) h = keeps s h
+    by_kind : (k : StoredKind) → IfSome (stream_in k) (λ s. FoundAt (IsSourceOf s) objects s.source)
+        → IfSome (stream_in k) (λ s. FoundAt (IsSourceOf s) new s.source)
+    by_kind (TableKind t) h = tt
+    by_kind (StreamKind s) h = keeps s h
 
 -- one that is changed as a source and as a stream
 streams_changed : (f : StoredObject → StoredObject)
@@ -221,43 +222,43 @@ pushed_source : (stamp : ℕ) (c : VersionChange) (s : Stream) (o : StoredObject
     → IsSourceOf s (pushed_object stamp c o)
 pushed_source stamp c s o h = by_kind o.kind h
   where
-    by_kind : (k : StoredKind) → IsSomeAnd (stored_table_in k) (λ t. s.columns ≡ t.columns ++ metadata_columns)
-        → IsSomeAnd (stored_table_in (pushed_kind stamp c k)) (λ t. s.columns ≡ t.columns ++ metadata_columns)
-    by_kind (StoredTableKind t) h = h
-    by_kind (StoredStreamKind s) h = h
+    by_kind : (k : StoredKind) → IsSomeAnd (table_in k) (λ t. s.columns ≡ t.columns ++ metadata_columns)
+        → IsSomeAnd (table_in (pushed_kind stamp c k)) (λ t. s.columns ≡ t.columns ++ metadata_columns)
+    by_kind (TableKind t) h = h
+    by_kind (StreamKind s) h = h
 
 pushed_stream : (stamp : ℕ) (c : VersionChange) (objects : List StoredObject) (o : StoredObject) → HasSource objects o
     → HasSource objects (pushed_object stamp c o)
 pushed_stream stamp c objects o h = by_kind o.kind h
   where
-    by_kind : (k : StoredKind) → IfSome (stored_stream_in k) (λ s. FoundAt (IsSourceOf s) objects s.source)
-        → IfSome (stored_stream_in (pushed_kind stamp c k)) (λ s. FoundAt (IsSourceOf s) objects s.source)
-    by_kind (StoredTableKind t) h = h
-    by_kind (StoredStreamKind s) h = h
+    by_kind : (k : StoredKind) → IfSome (stream_in k) (λ s. FoundAt (IsSourceOf s) objects s.source)
+        → IfSome (stream_in (pushed_kind stamp c k)) (λ s. FoundAt (IsSourceOf s) objects s.source)
+    by_kind (TableKind t) h = h
+    by_kind (StreamKind s) h = h
 
 set_source : (offset : ℕ) (s : Stream) (o : StoredObject) → IsSourceOf s o → IsSourceOf s (offset_set offset o)
 set_source offset s o h = by_kind o.kind h
   where
-    by_kind : (k : StoredKind) → IsSomeAnd (stored_table_in k) (λ t. s.columns ≡ t.columns ++ metadata_columns)
-        → IsSomeAnd (stored_table_in (offset_set_kind offset k)) (λ t. s.columns ≡ t.columns ++ metadata_columns)
-    by_kind (StoredTableKind t) h = h
-    by_kind (StoredStreamKind s) h = h
+    by_kind : (k : StoredKind) → IsSomeAnd (table_in k) (λ t. s.columns ≡ t.columns ++ metadata_columns)
+        → IsSomeAnd (table_in (offset_set_kind offset k)) (λ t. s.columns ≡ t.columns ++ metadata_columns)
+    by_kind (TableKind t) h = h
+    by_kind (StreamKind s) h = h
 
 set_stream : (offset : ℕ) (objects : List StoredObject) (o : StoredObject) → HasSource objects o
     → HasSource objects (offset_set offset o)
 set_stream offset objects o h = by_kind o.kind h
   where
-    by_kind : (k : StoredKind) → IfSome (stored_stream_in k) (λ s. FoundAt (IsSourceOf s) objects s.source)
-        → IfSome (stored_stream_in (offset_set_kind offset k)) (λ s. FoundAt (IsSourceOf s) objects s.source)
-    by_kind (StoredTableKind t) h = h
-    by_kind (StoredStreamKind s) h = h
+    by_kind : (k : StoredKind) → IfSome (stream_in k) (λ s. FoundAt (IsSourceOf s) objects s.source)
+        → IfSome (stream_in (offset_set_kind offset k)) (λ s. FoundAt (IsSourceOf s) objects s.source)
+    by_kind (TableKind t) h = h
+    by_kind (StreamKind s) h = h
 
 set_firm : (offset : ℕ) (o : StoredObject) → IsFirmObject o → IsFirmObject (offset_set offset o)
 set_firm offset o h = by_kind o.kind h
   where
     by_kind : (k : StoredKind) → IsFirmKind k → IsFirmKind (offset_set_kind offset k)
-    by_kind (StoredTableKind t) h = h
-    by_kind (StoredStreamKind s) h = h
+    by_kind (TableKind t) h = h
+    by_kind (StreamKind s) h = h
 
 streams_more : (objects : List StoredObject) (new : StoredObject) → HasSource (objects ++ new ∷ []) new
     → AllByRecursion (HasSource objects) objects → AllByRecursion (HasSource (objects ++ new ∷ [])) (objects ++ new ∷ [])
@@ -269,17 +270,17 @@ streams_more objects new here h =
 
 source_found : (objects : List StoredObject) (source : ℕ) (is_append_only : Bool) (offset : ℕ)
     → IsLiveTable (at_id objects source)
-    → FoundAt (IsSourceOf (new_stream source is_append_only offset (stored_columns_at objects source))) objects source
+    → FoundAt (IsSourceOf (new_stream source is_append_only offset (columns_at objects source))) objects source
 source_found objects source is_append_only offset live = by_found (at_id objects source) live
   where
     by_kind : (k : StoredKind) → IsTableKind k
-        → IsSomeAnd (stored_table_in k) (λ t. stored_columns_in k ++ metadata_columns ≡ t.columns ++ metadata_columns)
-    by_kind (StoredTableKind t) is = refl
-    by_kind (StoredStreamKind s) is = absurd is
+        → IsSomeAnd (table_in k) (λ t. columns_in k ++ metadata_columns ≡ t.columns ++ metadata_columns)
+    by_kind (TableKind t) is = refl
+    by_kind (StreamKind s) is = absurd is
 
     by_found : (found : Option StoredObject) → IsLiveTable found
         → IsSomeAnd found (IsSourceOf (new_stream source is_append_only offset
-        (option_map_or (λ o. stored_columns_in o.kind) found [])))
+        (option_map_or (λ o. columns_in o.kind) found [])))
     by_found None live = absurd live
     by_found (Some o) live = by_kind o.kind live.1
 
@@ -296,7 +297,7 @@ firm_changed stamp objects (CreatesStream c) applies rises firm = record {
   tables = all_more IsFirmObject objects _ firm.tables tt;
   names = names_more objects _ (free_name c.name objects applies.object.free) firm.names;
   streams = streams_more objects _ (found_more (IsSourceOf (new_stream c.source c.is_append_only c.offset
-      (stored_columns_at objects c.source))) objects _ c.source
+      (columns_at objects c.source))) objects _ c.source
       (source_found objects c.source c.is_append_only c.offset applies.source)) firm.streams;
 }
 firm_changed stamp objects (Drops id) applies rises firm = record {
@@ -317,8 +318,8 @@ firm_changed stamp objects (PushesVersion c) applies rises firm = record {
 }
   where
     by_kind : (k : StoredKind) → IsFirmKind k → FitsKind k c → IsFirmKind (pushed_kind stamp c k)
-    by_kind (StoredTableKind t) firm fits = firm_pushed stamp c t rises fits firm
-    by_kind (StoredStreamKind s) firm fits = tt
+    by_kind (TableKind t) firm fits = firm_pushed stamp c t rises fits firm
+    by_kind (StreamKind s) firm fits = tt
 
     by_found : (found : Option StoredObject) → at_id objects c.id ≡ found → FitsObject found c
         → AllByRecursion IsFirmObject (put_at objects c.id (option_map (pushed_object stamp c) found))

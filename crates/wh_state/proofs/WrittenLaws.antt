@@ -11,10 +11,11 @@ use Rattle.std.specs.Option.{IfSome, IsSomeAnd}
 use Rattle.wh_value.specs.Limit.{bound}
 use Rattle.wh_value.specs.declared.limit.Limit.TheVariants as limits
 use Rattle.wh_state.specs.State.{dropped, last_of, at_id, put_at, changed_at}
+use Rattle.wh_state.specs.State.{TableKind, StreamKind, table_in}
 use Rattle.wh_state.specs.Edits.{Edits, partitions_made}
 use Rattle.wh_state.specs.Act.{Act, MakesTable, DropsObject, EditsRows, MakesStream, MovesOffset}
-use Rattle.wh_state.specs.Stored.{StoredTable, StoredKind, StoredTableKind, StoredStreamKind, StoredObject}
-use Rattle.wh_state.specs.Stored.{stored_table_in, standing}
+use Rattle.wh_state.specs.Stored.{StoredTable, StoredKind, StoredObject}
+use Rattle.wh_state.specs.Stored.{standing}
 use Rattle.wh_state.specs.Commit.{VersionChange, Change, CreatesTable, Drops, PushesVersion, CreatesStream, SetsOffset}
 use Rattle.wh_state.specs.Commit.{pushed_object, pushed_kind, offset_set, offset_set_kind, changed, all_changed}
 use Rattle.wh_state.specs.Commit.{DoesNotFall, FitsKind, FitsObject, TakesOffset, OffsetApplies, ChangeApplies, AllApply}
@@ -61,7 +62,7 @@ pub record EditsApply (stamp : ℕ) (e : Edits) (t : StoredTable) : Type 0 where
       ≤ bound limits.PartitionNumber
 
 abbrev pub EditStands : ℕ → Edits → StoredObject → Type 0
-EditStands stamp e o = IsTrue o.is_live × IsSomeAnd (stored_table_in o.kind) (EditsApply stamp e)
+EditStands stamp e o = IsTrue o.is_live × IsSomeAnd (table_in o.kind) (EditsApply stamp e)
 
 edit_goes : (stamp : ℕ) (objects : List StoredObject) (id : ℕ) (e : Edits) → AllByRecursion IsFirmObject objects
     → FoundAt (EditStands stamp e) objects id → AllGo stamp objects (act_written stamp objects (EditsRows id e))
@@ -70,10 +71,10 @@ edit_goes stamp objects id e firm stands = by_found (at_id objects id) refl stan
     by_kind : (o : StoredObject) (k : StoredKind) → at_id objects id ≡ Some (record o { kind = k })
         → EditStands stamp e (record o { kind = k }) → IsFirmKind k
         → AllGo stamp objects (version_written_to stamp id e (Some (record o { kind = k })))
-    by_kind o (StoredStreamKind s) there stands firm = absurd stands.1
-    by_kind o (StoredTableKind t) there stands firm =
+    by_kind o (StreamKind s) there stands firm = absurd stands.1
+    by_kind o (TableKind t) there stands firm =
         let c : VersionChange = version_change stamp id e t in
-        let applies : FitsObject (Some (record o { kind = StoredTableKind t })) c =
+        let applies : FitsObject (Some (record o { kind = TableKind t })) c =
             (stands.0, version_applies stamp id e t firm stands.1.below stands.1.fit stands.1.later stands.1.few
             stands.1.few_partitions) in
         (
@@ -128,8 +129,8 @@ edit_spares stamp objects other e id = by_found (at_id objects other)
   where
     by_kind : (o : StoredObject) (k : StoredKind)
         → AllByRecursion (ChangeSpares id) (version_written_to stamp other e (Some (record o { kind = k })))
-    by_kind o (StoredTableKind t) = (tt, tt)
-    by_kind o (StoredStreamKind s) = tt
+    by_kind o (TableKind t) = (tt, tt)
+    by_kind o (StreamKind s) = tt
 
     by_found : (found : Option StoredObject) → AllByRecursion (ChangeSpares id) (version_written_to stamp other e found)
     by_found None = tt
@@ -145,10 +146,10 @@ edit_keeps P keeps stamp objects other e id h = by_found (at_id objects other)
   where
     by_kind : (o : StoredObject) (k : StoredKind)
         → FoundAt P (all_changed stamp objects (version_written_to stamp other e (Some (record o { kind = k })))) id
-    by_kind o (StoredTableKind t) =
+    by_kind o (TableKind t) =
         found_changed P (pushed_object stamp (version_change stamp other e t))
         (keeps stamp (version_change stamp other e t)) objects other id h
-    by_kind o (StoredStreamKind s) = h
+    by_kind o (StreamKind s) = h
 
     by_found : (found : Option StoredObject)
         → FoundAt P (all_changed stamp objects (version_written_to stamp other e found)) id
@@ -165,15 +166,15 @@ takes_kept : (start : ℕ) (o : StoredObject) (stamp : ℕ) (c : VersionChange) 
 takes_kept start o stamp c h = (h.0, by_kind o.kind h.1)
   where
     by_kind : (k : StoredKind) → TakesOffset k start → TakesOffset (pushed_kind stamp c k) start
-    by_kind (StoredTableKind t) h = absurd h
-    by_kind (StoredStreamKind s) h = h
+    by_kind (TableKind t) h = absurd h
+    by_kind (StreamKind s) h = h
 
 takes_again : (start : ℕ) (o : StoredObject) → TakesMove start o → TakesMove start (offset_set start o)
 takes_again start o h = (h.0, by_kind o.kind h.1)
   where
     by_kind : (k : StoredKind) → TakesOffset k start → TakesOffset (offset_set_kind start k) start
-    by_kind (StoredTableKind t) h = absurd h
-    by_kind (StoredStreamKind s) h = omega arith
+    by_kind (TableKind t) h = absurd h
+    by_kind (StreamKind s) h = omega arith
 
 -- the acts of a commit of a transaction of that start
 abbrev pub ActStands : ℕ → ℕ → List StoredObject → Act → Type 0
