@@ -200,8 +200,8 @@ edit_stands committed stamp h objects sound entry within holds =
     by_found (Some o) there holds = (
       holds.0,
       by_kind o.kind (all_at (IsSoundObject committed) (map object_meant objects) entry.0 (object_meant o) sound
-          (at_id_meant objects entry.0 ∙ ap (option_map object_meant) there)).kind
-          (table_at_meant objects entry.0 ∙ ap (λ found. option_map table_meant ((option_and_then as_table) found)) there) holds.1,
+          (at_id_meant objects entry.0 ∙ ap (option_map object_meant) there))
+          (table_at_meant objects entry.0 ∙ ap (λ found. option_map table_meant (option_and_then as_table found)) there) holds.1,
     )
 
 -- ---- moves
@@ -227,7 +227,7 @@ moves_of_one stamp start objects id live =
     by_kind o (StreamKind s) live is there = by_test o s (nat_lt s.offset start) refl live there
 
     by_found : (found : Option StoredObject) → at_id objects id ≡ found → IsSomeAnd found IsLiveStream
-        → AllStand stamp start objects (offset_move start id ((option_and_then as_stream) found))
+        → AllStand stamp start objects (offset_move start id (option_and_then as_stream found))
     by_found None none live = absurd live
     by_found (Some o) there live = by_kind o o.kind live.0 live.1 there
 
