@@ -26,7 +26,7 @@ use Rattle.wh_option_parse.specs.declared.table.TableParts.{TableParts}
 use Rattle.wh_option_parse.specs.View.{seen}
 use Rattle.wh_option_parse.specs.Follow.{ends_table_options, AreTableOptionsAt}
 use Rattle.wh_option_parse.specs.Laws as laws
-use Rattle.wh_option_parse.specs.Read.{is_some, mode_of, initialize_of, table_lag, table_warehouse, table_mode}
+use Rattle.wh_option_parse.specs.Read.{is_some, mode_of, initialize_of, worded, table_lag, table_warehouse, table_mode}
 use Rattle.wh_option_parse.specs.Read.{table_initialize, table_option_by, table_option, no_table_parts, options_from}
 use Rattle.wh_option_parse.specs.Read.{read_table_options}
 use Rattle.wh_cursor.proofs.Yields.{Yields, yields, follow, yielded}
@@ -140,31 +140,38 @@ initialize_of-sound w i =
     (word_case (Says IsInitialize w i) w (codes "ON_SCHEDULE") (Some init.OnSchedule) None
     (says IsInitialize w _ i init.OnSchedule g.on_schedule) none)
 
+-- a word behind a name and an equals sign
+worded-sound : {X : Type 0} (name : List ℕ) (is_given : Bool) (value_of : List ℕ → Option X) (with_it : X → TableParts)
+    (option : X → TableOption) (parts : TableParts) (ts : List Token)
+    → ((x : X) → is_given ≡ false → put parts (option x) ≡ Some (with_it x))
+    → ((w : List ℕ) (x : X) (more : List TableOption) (us vs : List Token) → value_of w ≡ Some x
+    → AreTableOptions us more vs
+    → AreTableOptions (Word name ∷ SignToken token.Equal ∷ Word w ∷ us) (option x ∷ more) vs)
+    → ts ≡ Word name ∷ tail ts
+    → Yields (worded is_given value_of with_it (tail ts)) (More put AreTableOptions parts ts)
+worded-sound name is_given value_of with_it option parts ts adds stands is = then_once is_given (tail ts) _
+    (λ free. then_expect_key k.Equal (tail ts) _ (λ equal. follow (word-yields (tail (tail ts))) (λ w us n.
+    then_given (value_of w) us _ (λ x e.
+    yields (with_it x) us (record {
+      one = option x;
+      adds = adds x free;
+      before = λ more vs are. subst (λ (ts : List Token). AreTableOptions ts (option x ∷ more) vs)
+          (sym (front name ts _ is equal n)) (stands w x more us vs e are);
+    })))))
+
 mode-sound : (parts : TableParts) (ts : List Token) → ts ≡ Word (codes "REFRESH_MODE") ∷ tail ts
     → Yields (table_mode parts (tail ts)) (More put AreTableOptions parts ts)
 unfolding table_mode
-mode-sound parts ts is = then_once (is_some parts.mode) (tail ts) _
-    (λ free. then_expect_key k.Equal (tail ts) _ (λ equal. follow (word-yields (tail (tail ts))) (λ w us n.
-    then_given (mode_of w) us _ (λ m e.
-    yields (with_mode parts m) us (record {
-      one = g.Mode m;
-      adds = rw free refl;
-      before = λ more vs are. subst (λ (ts : List Token). AreTableOptions ts (g.Mode m ∷ more) vs)
-          (sym (front (codes "REFRESH_MODE") ts _ is equal n)) (g.refresh_mode (mode_of-sound w m e) are);
-    })))))
+mode-sound parts ts is =
+    worded-sound (codes "REFRESH_MODE") (is_some parts.mode) mode_of (with_mode parts) g.Mode parts ts
+    (λ m free. rw free refl) (λ w m more us vs e are. g.refresh_mode (mode_of-sound w m e) are) is
 
 initialize-sound : (parts : TableParts) (ts : List Token) → ts ≡ Word (codes "INITIALIZE") ∷ tail ts
     → Yields (table_initialize parts (tail ts)) (More put AreTableOptions parts ts)
 unfolding table_initialize
-initialize-sound parts ts is = then_once (is_some parts.initialize) (tail ts) _
-    (λ free. then_expect_key k.Equal (tail ts) _ (λ equal. follow (word-yields (tail (tail ts))) (λ w us n.
-    then_given (initialize_of w) us _ (λ i e.
-    yields (with_initialize parts i) us (record {
-      one = g.Initialized i;
-      adds = rw free refl;
-      before = λ more vs are. subst (λ (ts : List Token). AreTableOptions ts (g.Initialized i ∷ more) vs)
-          (sym (front (codes "INITIALIZE") ts _ is equal n)) (g.initialize (initialize_of-sound w i e) are);
-    })))))
+initialize-sound parts ts is =
+    worded-sound (codes "INITIALIZE") (is_some parts.initialize) initialize_of (with_initialize parts) g.Initialized
+    parts ts (λ i free. rw free refl) (λ w i more us vs e are. g.initialize (initialize_of-sound w i e) are) is
 
 option_yields : (parts : TableParts) (ts : List Token)
     → Yields (table_option parts ts) (Stepped put AreTableOptions ends_table_options parts ts)

@@ -285,14 +285,19 @@ mode_of w =
     else if is_word w (codes "INCREMENTAL") then Some mode.Incremental
     else None
 
--- behind REFRESH_MODE
-unfoldable pub table_mode : TableParts → Reader TableParts
-table_mode parts = do
-  once (is_some parts.mode)
+-- a word that says a value, given once
+abbrev pub worded : {X : Type 0} → Bool → (List ℕ → Option X) → (X → TableParts) → Reader TableParts
+worded is_given value_of put = do
+  once is_given
   expect_key k.Equal
   w ← read_word
-  m ← given (mode_of w)
-  pure (record { lag = parts.lag; warehouse = parts.warehouse; mode = Some m; initialize = parts.initialize })
+  x ← given (value_of w)
+  pure (put x)
+
+-- behind REFRESH_MODE
+unfoldable pub table_mode : TableParts → Reader TableParts
+table_mode parts = worded (is_some parts.mode) mode_of
+    (λ m. record { lag = parts.lag; warehouse = parts.warehouse; mode = Some m; initialize = parts.initialize })
 
 abbrev pub initialize_of : List ℕ → Option Initialize
 initialize_of w =
@@ -302,12 +307,8 @@ initialize_of w =
 
 -- behind INITIALIZE
 unfoldable pub table_initialize : TableParts → Reader TableParts
-table_initialize parts = do
-  once (is_some parts.initialize)
-  expect_key k.Equal
-  w ← read_word
-  i ← given (initialize_of w)
-  pure (record { lag = parts.lag; warehouse = parts.warehouse; mode = parts.mode; initialize = Some i })
+table_initialize parts = worded (is_some parts.initialize) initialize_of
+    (λ i. record { lag = parts.lag; warehouse = parts.warehouse; mode = parts.mode; initialize = Some i })
 
 abbrev pub table_option_by : TableParts → Bool → Bool → Bool → Bool → Reader (Option TableParts)
 table_option_by parts true w m i = found (table_lag parts)
