@@ -36,3 +36,6 @@ pub mod SameHeads
 pub mod GroupedLaws
 pub mod ShownLaws
 pub mod BoundLaws
+pub mod GivenLaws
+pub mod EffectLaws
+pub mod TargetLaws
