@@ -22,7 +22,7 @@ use Rattle.wh_naming.specs.Changes as changes
 use Rattle.wh_naming.specs.Changes.{places_from, place_in, given_places, place_type, fit_places, is_at, given_at, row_from}
 use Rattle.wh_naming.specs.Changes.{changed_from, typed_all, new_row, NewRow, changed_row, set_findings, outputs_from}
 use Rattle.wh_machine.proofs.ValueTypes.{type_or, type_at, head_type, types_of}
-use Rattle.wh_machine.proofs.TypedLaws.{Under, entry_types, typed_under, column_type_at}
+use Rattle.wh_machine.proofs.TypedLaws.{Under, entry_types, typed_under, column_type_at, column_got, get_front}
 use Rattle.wh_machine.proofs.GroupedLaws.{AllUnder}
 use Rattle.wh_machine.proofs.ShownLaws.{output_types}
 use Rattle.wh_machine.proofs.BoundLaws.{same_types}
@@ -131,6 +131,18 @@ place_ok columns name = by_found (place_in columns name) refl
     by_found (Some p) is =
         subst (λ (ts : List (Option ColumnType)). type_at ts p.place ≡ Some p.column_type) (entry_one [] columns)
         (column_type_at None name ((record { name = []; columns = columns }) ∷ []) p is)
+
+pub place_wide : (columns : List table.Column) (more : List (Option ColumnType)) (name : Name)
+    → PlaceOk (types_of columns ++ more) (place_in columns name)
+place_wide columns more name = by_found (place_in columns name) refl
+  where
+    by_found : (found : Option Place) → place_in columns name ≡ found → PlaceOk (types_of columns ++ more) found
+    by_found None is = tt
+    by_found (Some p) is =
+        let got : slice_get (types_of columns) p.place ≡ Some (Some p.column_type) =
+            ap (λ (ts : List (Option ColumnType)). slice_get ts p.place) (sym (entry_one [] columns))
+            ∙ column_got None name ((record { name = []; columns = columns }) ∷ []) p is in
+        ap type_or (get_front (types_of columns) more p.place (Some p.column_type) got)
 
 pub stand_ok : (all : List (Option ColumnType)) (place : ℕ) (columns : List table.Column) → Stand all place columns
     → AllByRecursion (PlaceOk all) (places_from place columns)

@@ -44,7 +44,7 @@ use Rattle.wh_machine.proofs.GroupedLaws.{AllUnder}
 use Rattle.wh_machine.proofs.ShownLaws.{output_types}
 use Rattle.wh_machine.proofs.BoundLaws.{IsGoodSource, IsGoodQuery, InstanceFits, query_good, source_good}
 use Rattle.wh_machine.proofs.GivenLaws.{neither, true_of, PlaceOk, row_under, changed_under, all_stand, own_stand, append_nil}
-use Rattle.wh_machine.proofs.GivenLaws.{entry_one, place_ok, given_ok, new_row_under, parts_fit, parts_ok, parts_under}
+use Rattle.wh_machine.proofs.GivenLaws.{entry_one, place_ok, given_ok, new_row_under, parts_fit, parts_ok, parts_under, place_wide}
 use Rattle.wh_machine.proofs.EffectLaws.{OutcomeFits, PartsFit, ClauseFits, inserts_fit, inserts_over_fit, updates_fit}
 use Rattle.wh_machine.proofs.EffectLaws.{deletes_fit, merges_fit}
 
@@ -106,3 +106,134 @@ set_under columns entries more parts is well =
   where
     ok : (name : Name) → PlaceOk (types_of columns ++ more) (place_in columns name)
     ok name = place_wide columns more name
+
+-- ---- each statement
+
+entries_two : (t s : Entry) → entry_types (t ∷ s ∷ []) ≡ types_of t.columns ++ types_of s.columns
+entries_two t s = ap (λ (cs : List table.Column). types_of (t.columns ++ cs)) (append_nil s.columns)
+    ∙ map-append (λ (c : table.Column). Some c.column_type) t.columns s.columns
+
+clauses_fit : (columns : List table.Column) (t s : Entry) → t.columns ≡ columns → (found : List MergeClause)
+    → (all_clause_findings columns t s found).is_mistyped ≡ false
+    → AllByRecursion (ClauseFits columns (types_of columns) (types_of s.columns)) (map (bound_clause columns t s) found)
+clauses_fit columns t s own [] well = tt
+clauses_fit columns t s own (c ∷ cs) well =
+    let both = neither (clause_findings columns t s c).is_mistyped (all_clause_findings columns t s cs).is_mistyped well in
+    (one_fits c both.0, clauses_fit columns t s own cs both.1)
+  where
+    wide : entry_types (t ∷ s ∷ []) ≡ types_of columns ++ types_of s.columns
+    wide = entries_two t s ∙ ap (λ (cs : List table.Column). types_of cs ++ types_of s.columns) own
+
+    narrow : entry_types (s ∷ []) ≡ types_of s.columns
+    narrow = ap types_of (append_nil s.columns)
+
+    one_fits : (c : MergeClause) → (clause_findings columns t s c).is_mistyped ≡ false
+        → ClauseFits columns (types_of columns) (types_of s.columns) (bound_clause columns t s c)
+    one_fits (clauses.Update condition parts) well =
+        subst (λ (ts : List (Option ColumnType)). PartsFit columns (type_at ts) (changed_row columns (t ∷ s ∷ []) parts)) wide
+        (set_under columns (t ∷ s ∷ []) (types_of s.columns) parts wide
+        (neither _ (set_findings columns (t ∷ s ∷ []) parts).is_mistyped well).1)
+    one_fits (clauses.Delete condition) well = tt
+    one_fits (clauses.Insert condition listed values) well =
+        let parts = neither _ _ well in
+        let row = neither (changes.given_findings columns listed).is_mistyped
+            (new_row columns (given_places columns listed) (typed_all (s ∷ []) values)).findings.is_mistyped parts.1 in
+        subst (λ (ts : List (Option ColumnType)). PartsFit columns (type_at ts)
+        (new_row columns (given_places columns listed) (typed_all (s ∷ []) values)).scalars) narrow
+        (new_row_under columns listed (s ∷ []) values row.1)
+
+module _ (names : List Named) (S : ℕ → Type 0) (F : ℕ → Row → Type 0) (none : S 0) (empty : (row : Row) → F 0 row → ⊥)
+    (live : (name : Name) (object : Named) → named names name ≡ Some object → S object.id)
+    (fits : (name : Name) (object : Named) → named names name ≡ Some object → (row : Row) → F object.id row
+    → FitsTypes (types_of object.columns) row) where
+  pub record IsGoodChange (t : Target) (b : BoundChange) : Type 0 where
+    pub target : b.target ≡ t.id
+    pub effect : b.findings.is_mistyped ≡ false → (instance : Instance)
+        → InstanceFits names S F none empty live fits 0 b.sources instance
+        → (found : List (ℕ × Row)) → AllByRecursion (λ entry. FitsTypes (types_of t.columns) entry.1) found
+        → OutcomeFits t.columns (effect b.change found instance)
+    pub sources : AllByRecursion S b.sources
+
+  insert_good : (t : Target) (listed : Option (List Name)) (found : Rows) {d : ℕ} {ts us : List Token}
+      → AreRows d ts found us → IsGoodChange t (bound_rows names t listed found)
+  unfolding effect
+  insert_good t listed found (g.values {found = values} are) = record {
+    target = refl;
+    effect = λ well instance fit rows rows_fit.
+        let parts = neither t.findings.is_mistyped _ well in
+        let both = neither (changes.given_findings t.columns listed).is_mistyped
+            (row_findings (value_rows t.columns (given_places t.columns listed) values)).is_mistyped parts.1 in
+        inserts_fit t.columns (map (λ row. row.scalars) (value_rows t.columns (given_places t.columns listed) values))
+        (values_under t.columns listed values both.1);
+    sources = tt;
+  }
+  insert_good t listed found (g.query {found = q} is) =
+      let b : BoundQuery = bound_query q names 0 in
+      let good : IsGoodQuery names S F none empty live fits 0 b = query_good names S F none empty live fits q is 0 in
+      record {
+        target = refl;
+        effect = λ well instance fit rows rows_fit.
+            let parts = neither t.findings.is_mistyped _ well in
+            let both = neither (changes.given_findings t.columns listed).is_mistyped _ parts.1 in
+            let last = neither b.findings.is_mistyped
+                (not (fit_places (given_places t.columns listed) (changes.output_types b.outputs))) both.1 in
+            inserts_over_fit t.columns (output_types b.outputs) _
+            (row_under (type_at (output_types b.outputs)) (types_of t.columns) 0 t.columns (given_places t.columns listed)
+            (outputs_from 0 b.outputs) (changes.output_types b.outputs) (outputs_under b.outputs)
+            (true_of (fit_places (given_places t.columns listed) (changes.output_types b.outputs)) last.1)
+            (given_ok t.columns listed) (own_stand t.columns)) (rows_in_order (eval b.query instance))
+            (ordered_fit (output_types b.outputs) (eval b.query instance) (good.rows last.0 instance fit));
+        sources = good.sources;
+      }
+
+  merge_good : (t : Target) (name : Name) (part : SourcePart) (on : Expr) (found : List MergeClause)
+      → IsGoodSource names S F none empty live fits 0 (part.reading names 0)
+      → IsGoodChange t (bound_merge t name part names on found)
+  unfolding effect
+  merge_good t name part on found good =
+      let s : BoundSource = part.reading names 0 in
+      let entry : Entry = record { name = part.name; columns = s.columns } in
+      record {
+        target = refl;
+        effect = λ well instance fit rows rows_fit.
+            let parts = neither t.findings.is_mistyped _ well in
+            let both = neither false _ parts.1 in
+            let source = neither s.findings.is_mistyped _ both.1 in
+            let last = neither _ (all_clause_findings t.columns (target_entry name t) entry found).is_mistyped source.1 in
+            merges_fit t.columns (types_of t.columns) (types_of s.columns) _
+            (map (bound_clause t.columns (target_entry name t) entry) found)
+            (clauses_fit t.columns (target_entry name t) entry refl found last.1) rows rows_fit
+            (rows_in_order (eval s.query instance))
+            (ordered_fit (types_of s.columns) (eval s.query instance) (good.rows source.0 instance fit));
+        sources = good.sources;
+      }
+
+  pub change_good : (x : Dml) {d : ℕ} {ts us : List Token} → IsDml d ts x us → (name : Name) × IsGoodChange (target_at names name) (bound_change names x)
+  unfolding bound_change effect
+  change_good x (g.insert {table = name} {names = listed} {found = found} is may are) =
+      (name, insert_good (target_at names name) listed found are)
+  change_good x (g.update {table = name} {set = parts} {filter = filter} is are may) =
+      let t : Target = target_at names name in
+      (name, record {
+        target = refl;
+        effect = λ well instance fit rows rows_fit.
+            let both = neither t.findings.is_mistyped _ well in
+            let set = neither (set_findings t.columns (target_entry name t ∷ []) parts).is_mistyped _ both.1 in
+            let is : entry_types (target_entry name t ∷ []) ≡ types_of t.columns ++ [] =
+                entry_one name t.columns ∙ sym (append_nil (types_of t.columns)) in
+            updates_fit t.columns (types_of t.columns) (condition_of (target_entry name t ∷ []) filter) _
+            (subst (λ (ts : List (Option ColumnType)). PartsFit t.columns (type_at ts)
+            (changed_row t.columns (target_entry name t ∷ []) parts)) (entry_one name t.columns)
+            (set_under t.columns (target_entry name t ∷ []) [] parts is set.0)) rows rows_fit;
+        sources = tt;
+      })
+  change_good x (g.delete {table = name} {filter = filter} is may) =
+      let t : Target = target_at names name in
+      (name, record {
+        target = refl;
+        effect = λ well instance fit rows rows_fit. deletes_fit t.columns (condition_of (target_entry name t ∷ []) filter) rows;
+        sources = tt;
+      })
+  change_good x (g.merge {target = name} {alias = alias} {source = source} {on = on} {clauses = found} is may from expr are) =
+      (name, merge_good (target_at names name) (unwrap_or alias name) (source_part source) on found
+      (source_good names S F none empty live fits source from 0))
