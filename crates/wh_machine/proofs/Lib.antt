@@ -39,3 +39,4 @@ pub mod BoundLaws
 pub mod GivenLaws
 pub mod EffectLaws
 pub mod TargetLaws
+pub mod SeenRows
