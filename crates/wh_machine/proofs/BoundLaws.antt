@@ -59,7 +59,7 @@ column_rows (o ∷ os) (v ∷ vs) h = (by_type o.type_of h.0, column_rows os vs 
 
 -- ---- columns of queries together
 
-same_types : (a b : ColumnType) → same_type a b ≡ true → a ≡ b
+pub same_types : (a b : ColumnType) → same_type a b ≡ true → a ≡ b
 same_types NumberType NumberType is = refl
 same_types NumberType VarcharType is = absurd cc
 same_types NumberType BooleanType is = absurd cc

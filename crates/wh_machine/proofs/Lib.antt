@@ -36,3 +36,7 @@ pub mod SameHeads
 pub mod GroupedLaws
 pub mod ShownLaws
 pub mod BoundLaws
+pub mod GivenLaws
+pub mod EffectLaws
+pub mod TargetLaws
+pub mod SeenRows

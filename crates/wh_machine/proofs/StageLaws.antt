@@ -102,13 +102,13 @@ later_put columns next edits (e ∷ es) fit old =
     by_test true = put_fit columns edits e.0 e.1 fit.0 old
     by_test false = old
 
-numbered_all : (columns : List Column) (next : ℕ) (rows : List Row)
+pub numbered_all : (columns : List Column) (next : ℕ) (rows : List Row)
     → AllByRecursion (λ row. IsTrue (row_fits columns row)) rows
     → AllByRecursion (λ e. IsTrue (row_fits columns e.1)) (numbered next rows)
 numbered_all columns next [] fit = tt
 numbered_all columns next (row ∷ rows) fit = (fit.0, numbered_all columns (next + 1) rows fit.1)
 
-rows_all : (columns : List Column) (es : List (ℕ × Row)) → AllByRecursion (λ e. IsTrue (row_fits columns e.1)) es
+pub rows_all : (columns : List Column) (es : List (ℕ × Row)) → AllByRecursion (λ e. IsTrue (row_fits columns e.1)) es
     → AllByRecursion (λ row. IsTrue (row_fits columns row)) (map (λ e. e.1) es)
 rows_all columns [] fit = tt
 rows_all columns (e ∷ es) fit = (fit.0, rows_all columns es fit.1)

@@ -64,7 +64,7 @@ among_typed name from (c ∷ cs) =
     by_name true rest = ((0, (omega arith, refl)), rest)
     by_name false rest = rest
 
-get_front : (ts us : List (Option ColumnType)) (k : ℕ) (t : Option ColumnType) → slice_get ts k ≡ Some t
+pub get_front : (ts us : List (Option ColumnType)) (k : ℕ) (t : Option ColumnType) → slice_get ts k ≡ Some t
     → slice_get (ts ++ us) k ≡ Some t
 get_front [] us k t is = absurd cc
 get_front (x ∷ ts) us zero t is = is
@@ -123,20 +123,24 @@ entries_typed entry name from (e ∷ es) =
     by_entry false rest = rest
 
 -- the one column of a name
-pub column_type_at : (entry : Option Name) (name : Name) (entries : List Entry) (p : Place)
-    → column_at entry name entries ≡ Some p → type_at (entry_types entries) p.place ≡ Some p.column_type
+pub column_got : (entry : Option Name) (name : Name) (entries : List Entry) (p : Place)
+    → column_at entry name entries ≡ Some p → slice_get (entry_types entries) p.place ≡ Some (Some p.column_type)
 unfolding column_at
-column_type_at entry name entries p is = of_only (places_of entry name 0 entries) is (entries_typed entry name 0 entries)
+column_got entry name entries p is = of_only (places_of entry name 0 entries) is (entries_typed entry name 0 entries)
   where
     of_only : (ps : List Place) → only ps ≡ Some p → AllByRecursion (TypeAt (entry_types entries) 0) ps
-        → type_at (entry_types entries) p.place ≡ Some p.column_type
+        → slice_get (entry_types entries) p.place ≡ Some (Some p.column_type)
     of_only [] is all = absurd cc
     of_only (q ∷ []) is all =
         let same : q ≡ p = cc in
         let at : TypeAt (entry_types entries) 0 p = subst (TypeAt (entry_types entries) 0) same all.0 in
         let place : p.place ≡ at.0 = omega (arith, at.1.0) in
-        ap (λ (k : ℕ). type_at (entry_types entries) k) place ∙ ap type_or at.1.1
+        ap (slice_get (entry_types entries)) place ∙ at.1.1
     of_only (q ∷ r ∷ qs) is all = absurd cc
+
+pub column_type_at : (entry : Option Name) (name : Name) (entries : List Entry) (p : Place)
+    → column_at entry name entries ≡ Some p → type_at (entry_types entries) p.place ≡ Some p.column_type
+column_type_at entry name entries p is = ap type_or (column_got entry name entries p is)
 
 pub width_is : (entries : List Entry) → width entries ≡ length (entry_types entries)
 width_is [] = refl
