@@ -22,16 +22,17 @@ use Rattle.wh_net.specs.Net.{is_between, appended_from, appended}
 use Rattle.wh_net.specs.Stream.{rows_at, records_between, shown, shown_row, rows_on, rows_shown}
 use Rattle.wh_state.specs.State.{Rows, Version, Table, Stream, Kind, TableKind, StreamKind, Object, State, with_entries, at_id}
 use Rattle.wh_state.specs.State.{last_of, content_in, last_rows, last_content, nothing_held, version_at, metadata_columns, stream_in}
+use Rattle.wh_state.specs.State.{table_in}
 use Rattle.wh_state.specs.Objects.{table_at, stream_at, as_table}
 use Rattle.wh_state.specs.Edits.{Edits, edited, rows_after}
 use Rattle.wh_state.specs.Act.{edited_table, edited_object, next_contents}
-use Rattle.wh_state.specs.Stored.{StoredVersion, StoredTable, StoredKind, StoredTableKind, StoredStreamKind, StoredObject, Stored}
-use Rattle.wh_state.specs.Stored.{stored_table_in, stored_columns_in, version_meant, table_meant, kind_meant, object_meant}
+use Rattle.wh_state.specs.Stored.{StoredVersion, StoredTable, StoredKind, StoredObject, Stored}
+use Rattle.wh_state.specs.Stored.{version_meant, table_meant, kind_meant, object_meant}
 use Rattle.wh_state.proofs.AllLaws.{all_map, all_append, all_filter, all_at}
 use Rattle.wh_state.proofs.IdLaws.{last_more}
 use Rattle.wh_state.proofs.CutLaws.{entries_append}
 use Rattle.wh_state.proofs.FoundLaws.{FoundAt}
-use Rattle.wh_state.proofs.MeaningLaws.{at_id_meant, table_at_meant, stored_table_of}
+use Rattle.wh_state.proofs.MeaningLaws.{at_id_meant, table_at_meant}
 use Rattle.wh_state.proofs.PartLaws.{edited_all}
 use Rattle.wh_state.proofs.AppliesLaws.{FitRows, VersionFits, IsFirmTable, EditsFit}
 use Rattle.wh_state.proofs.FirmLaws.{IsFirmObject, IsSourceOf, HasSource}
@@ -126,13 +127,13 @@ firm_rows : (t : StoredTable) → IsFirmTable t → RowsFitIn t.columns (last_ro
 firm_rows t firm = last_fits t.columns (map version_meant t.versions) (versions_fit t.columns t.versions firm.fits)
 
 pub seen_fits : (s : Stored) (m : Machine) (session id : ℕ) (o : StoredObject) (t : StoredTable) → IsReached s m
-    → at_id s.objects id ≡ Some o → o.kind ≡ StoredTableKind t → SeesTable m session id t.columns
+    → at_id s.objects id ≡ Some o → o.kind ≡ TableKind t → SeesTable m session id t.columns
 unfolding seen
 seen_fits s m session id o t reached there is =
     by_transaction (transaction_in m.sessions session) refl (one_stands s.objects m.sessions session reached.stand)
   where
     firm : IsFirmTable t
-    firm = subst (λ (k : StoredKind). IfSome (stored_table_in k) IsFirmTable) is
+    firm = subst (λ (k : StoredKind). IfSome (table_in k) IsFirmTable) is
         (all_at IsFirmObject s.objects id o reached.firm.tables there)
 
     now : at_id m.state.objects id ≡ Some (object_meant o)
@@ -153,7 +154,7 @@ seen_fits s m session id o t reached there is =
 
     holds : (e : Edits) → FoundAt (HoldsEdits e) s.objects id → EditsFit t.columns e
     holds e h =
-        subst (λ (k : StoredKind). IsSomeAnd (stored_table_in k) (λ t. EditsFit t.columns e)) is
+        subst (λ (k : StoredKind). IsSomeAnd (table_in k) (λ t. EditsFit t.columns e)) is
         (subst (λ (found : Option StoredObject). IsSomeAnd found (HoldsEdits e)) there h).1
 
     by_transaction : (found : Option Transaction) → transaction_in m.sessions session ≡ found → StandsOn s.objects found
