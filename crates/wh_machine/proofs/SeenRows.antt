@@ -56,7 +56,7 @@ RowsFitIn columns rows = (q : ℕ) (x : Row) → get rows q ≡ Some x → Fit c
 nothing_in : (number : ℕ) → get (empty {K = ℕ} {X = Row} {R = nat_cmp}) number ≡ None
 nothing_in number = get-empty nat_cmp number
 
-no_rows_fit : (columns : List Column) → RowsFitIn columns empty
+pub no_rows_fit : (columns : List Column) → RowsFitIn columns empty
 no_rows_fit columns q x is = absurd (cc (nothing_in q, is))
 
 -- ---- versions
@@ -78,7 +78,7 @@ versions_fit columns (v ∷ vs) h = (
   versions_fit columns vs h.1,
 )
 
-last_fits : (columns : List Column) (versions : List Version) → AllByRecursion (VersionRowsFit columns) versions
+pub last_fits : (columns : List Column) (versions : List Version) → AllByRecursion (VersionRowsFit columns) versions
     → RowsFitIn columns (content_in nothing_held (last_of versions)).rows
 last_fits columns [] h = no_rows_fit columns
 last_fits columns (v ∷ []) h = h.0

@@ -37,6 +37,7 @@ use Rattle.wh_naming.specs.Changes.{set_findings, changed_row, bound_update, bou
 use Rattle.wh_naming.specs.Changes.{all_clause_findings, merged_on, source_part, bound_merge, bound_change, BoundChange}
 use Rattle.wh_naming.specs.Changes.{condition_of, BoundClause}
 use Rattle.wh_effect.specs.Effect.{effect, rows_in_order}
+use Rattle.wh_machine.proofs.PassedLaws.{both_none}
 use Rattle.wh_machine.proofs.BagRows.{AllRows, GivesAll, all_listed}
 use Rattle.wh_machine.proofs.ValueTypes.{FitsTypes, type_or, type_at, head_type, types_of}
 use Rattle.wh_machine.proofs.TypedLaws.{Under, under_same, entry_types}
@@ -148,6 +149,8 @@ module _ (names : List Named) (S : ℕ → Type 0) (F : ℕ → Row → Type 0) 
     → FitsTypes (types_of object.columns) row) where
   pub record IsGoodChange (t : Target) (b : BoundChange) : Type 0 where
     pub target : b.target ≡ t.id
+    pub known : b.findings.unknown_object ≡ None → t.findings.unknown_object ≡ None
+    pub kinds : b.findings.wrong_kind ≡ None → t.findings.wrong_kind ≡ None
     pub effect : b.findings.is_mistyped ≡ false → (instance : Instance)
         → InstanceFits names S F none empty live fits 0 b.sources instance
         → (found : List (ℕ × Row)) → AllByRecursion (λ entry. FitsTypes (types_of t.columns) entry.1) found
@@ -159,6 +162,8 @@ module _ (names : List Named) (S : ℕ → Type 0) (F : ℕ → Row → Type 0) 
   unfolding effect
   insert_good t listed found (g.values {found = values} are) = record {
     target = refl;
+    known = λ none. (both_none t.findings.unknown_object _ none).0;
+    kinds = λ none. (both_none t.findings.wrong_kind _ none).0;
     effect = λ well instance fit rows rows_fit.
         let parts = neither t.findings.is_mistyped _ well in
         let both = neither (changes.given_findings t.columns listed).is_mistyped
@@ -172,6 +177,8 @@ module _ (names : List Named) (S : ℕ → Type 0) (F : ℕ → Row → Type 0) 
       let good : IsGoodQuery names S F none empty live fits 0 b = query_good names S F none empty live fits q is 0 in
       record {
         target = refl;
+        known = λ none. (both_none t.findings.unknown_object _ none).0;
+        kinds = λ none. (both_none t.findings.wrong_kind _ none).0;
         effect = λ well instance fit rows rows_fit.
             let parts = neither t.findings.is_mistyped _ well in
             let both = neither (changes.given_findings t.columns listed).is_mistyped _ parts.1 in
@@ -195,6 +202,8 @@ module _ (names : List Named) (S : ℕ → Type 0) (F : ℕ → Row → Type 0) 
       let entry : Entry = record { name = part.name; columns = s.columns } in
       record {
         target = refl;
+        known = λ none. (both_none t.findings.unknown_object _ none).0;
+        kinds = λ none. (both_none t.findings.wrong_kind _ none).0;
         effect = λ well instance fit rows rows_fit.
             let parts = neither t.findings.is_mistyped _ well in
             let both = neither false _ parts.1 in
@@ -216,6 +225,8 @@ module _ (names : List Named) (S : ℕ → Type 0) (F : ℕ → Row → Type 0) 
       let t : Target = target_at names name in
       (name, record {
         target = refl;
+        known = λ none. (both_none t.findings.unknown_object _ none).0;
+        kinds = λ none. (both_none t.findings.wrong_kind _ none).0;
         effect = λ well instance fit rows rows_fit.
             let both = neither t.findings.is_mistyped _ well in
             let set = neither (set_findings t.columns (target_entry name t ∷ []) parts).is_mistyped _ both.1 in
@@ -231,6 +242,8 @@ module _ (names : List Named) (S : ℕ → Type 0) (F : ℕ → Row → Type 0) 
       let t : Target = target_at names name in
       (name, record {
         target = refl;
+        known = λ none. (both_none t.findings.unknown_object _ none).0;
+        kinds = λ none. (both_none t.findings.wrong_kind _ none).0;
         effect = λ well instance fit rows rows_fit. deletes_fit t.columns (condition_of (target_entry name t ∷ []) filter) rows;
         sources = tt;
       })
