@@ -1,4 +1,4 @@
--- The new names and columns of a script are not empty.
+-- The new names and columns of a script are not empty, and its changes stand in its text.
 --     TokenFilled, tokens_filled      no word and no quoted name is empty
 --     name_filled, columns_filled     names and columns of tokens
 --     script_filled                   the events of a script
@@ -123,7 +123,7 @@ transaction_filled ts s (spelled.rollback may) = tt
 plain_filled : (ts : List Token) (s : Statement) → IsPlain ts s → AllFilled ts → IsFilled s
 plain_filled ts s (spelled.select is order) filled = tt
 plain_filled ts s (spelled.has_data is) filled = tt
-plain_filled ts s (spelled.dml is) filled = tt
+plain_filled ts s (spelled.dml is) filled = (ts, is)
 plain_filled ts s (of_table is) filled = table_filled ts s is filled
 plain_filled ts s (of_stream is) filled = stream_filled ts s is filled
 plain_filled ts s (of_task is) filled = task_filled ts s is

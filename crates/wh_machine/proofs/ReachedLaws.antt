@@ -1,9 +1,6 @@
--- The commits of events apply, where what changes come to fits.
---     ChangesFit                  what a change comes to fits, whatever machine was reached
---     IsFilled, IsFilledEvent     new names and columns are not empty
---     reached_opened, reached_step     machines and their files
---     made_applies                the commit of an event applies
---     made_leads                  those of several apply one after the other
+-- What each event comes to works over the file that its machine was reached from.
+--     IsFilled, IsFilledEvent     new names and columns are not empty, and changes stand in a text
+--     works_event                 of each event
 use Rattle.std.proofs.Common.{◌≡◌, ℕ, zero, suc, ◌+◌, ◌<◌, ◌≤◌, Bool, true, false, cond, List, []}
 use Rattle.std.proofs.Common.{◌∷◌, ◌++◌, length, map, Option, Some, None, option_map, refl, sym, ap, subst, ◌∙◌, arith}
 use Rattle.std.specs.Prelude.{nat_lt, replicate}
@@ -15,7 +12,9 @@ use Rattle.wh_value.specs.declared.limit.Limit.TheVariants as limits
 use Rattle.wh_ast.specs.declared.dml.Dml.{Dml}
 use Rattle.wh_ast.specs.declared.statement.Statement.{Statement}
 use Rattle.wh_ast.specs.declared.statement.Statement.TheVariants as st
-use Rattle.wh_grammar.specs.Spelled.{Request, TooLong, Unreadable, Asked}
+use Rattle.wh_grammar.specs.Token.{Token}
+use Rattle.wh_grammar.specs.Changing.{IsDml}
+use Rattle.wh_grammar.specs.Spelled.{Request, TooLong, Unreadable, Asked, most_nested}
 use Rattle.wh_meaning.specs.Bag.{Bag}
 use Rattle.wh_meaning.specs.Query.{eval}
 use Rattle.wh_naming.specs.Scope.{TableObject, StreamObject}
@@ -58,7 +57,8 @@ use Rattle.wh_machine.proofs.StandLaws.{TransactionStands, StandsOn, AllStandOn}
 use Rattle.wh_machine.proofs.WorksLaws.{IsReached, objects_meant, CommitGoes, objects_after, Works, works_refuses}
 use Rattle.wh_machine.proofs.WorksLaws.{works_unless, works_either, works_does, works_recorded}
 use Rattle.wh_machine.proofs.DefineLaws.{IsFilledTable, works_table, works_stream, works_drop}
-use Rattle.wh_machine.proofs.StageLaws.{begun_stands, one_stands, ChangedFits, works_changes}
+use Rattle.wh_machine.proofs.StageLaws.{begun_stands, one_stands, works_changes}
+use Rattle.wh_machine.proofs.ChangeLaws.{change_fits}
 use Rattle.wh_machine.proofs.SoundLaws.{sound_opened, sound_ready, sound_step}
 use Rattle.wh_machine.proofs.StepLaws.{ready, decided_meant, step_at, acts_at, no_acts, stamp_refused}
 
@@ -67,6 +67,7 @@ use Rattle.wh_machine.proofs.StepLaws.{ready, decided_meant, step_at, acts_at, n
 abbrev pub IsFilled : Statement → Type 0
 IsFilled (st.CreateTable t) = IsFilledTable t.name (map column_of t.columns)
 IsFilled (st.CreateStream name table is_append_only) = 0 < length name
+IsFilled (st.Dml x) = (ts : List Token) × IsDml most_nested ts x []
 IsFilled _ = Unit {0}
 
 abbrev pub IsFilledRequest : Request → Type 0
@@ -76,11 +77,6 @@ IsFilledRequest _ = Unit {0}
 abbrev pub IsFilledEvent : Event → Type 0
 IsFilledEvent (Command reading session request) = IsFilledRequest request
 IsFilledEvent (Tick reading) = Unit {0}
-
--- of a change in any machine that was reached
-abbrev pub ChangesFit : Type 0
-ChangesFit = (s : Stored) (m : Machine) (session : ℕ) (statement : Dml) → IsReached s m
-    → ChangedFits s.objects (bound_changed m session (bound_change (names_from 1 m.state.objects) statement))
 
 -- ---- statements that make no commit
 
@@ -139,54 +135,53 @@ works_data s m session wrong id reached =
 
 -- ---- each statement
 
-module _ (fit : ChangesFit) where
-  works_statement : (s : Stored) (m : Machine) (session : ℕ) (statement : Statement) → IsFilled statement → IsReached s m
-      → Works s m (carried_out_as m session (meant_in m statement))
-  unfolding ddl.bound carried_out commit rollback changes_rows drop_table drop_stream
-  works_statement s m session (st.Select q sorts) filled reached =
-      works_select s m session (bound_select (names_from 1 m.state.objects) q sorts) reached
-  works_statement s m session (st.HasData stream) filled reached =
-      works_data s m session (option_map refusal_of (first_failing (object_of StreamObject (names_in m.state.objects) stream)))
-      (object_of StreamObject (names_in m.state.objects) stream).value reached
-  works_statement s m session (st.Dml statement) filled reached =
-      works_changes s m session (transaction_in m.sessions session) refl
-      (bound_changed m session (bound_change (names_from 1 m.state.objects) statement)) reached
-      (fit s m session statement reached)
-  works_statement s m session (st.CreateTable t) filled reached = works_table s m session t reached filled
-  works_statement s m session (st.CreateStream name table is_append_only) filled reached =
-      works_stream s m session name table is_append_only reached filled
-  works_statement s m session (st.DropTable name) filled reached =
-      works_drop s m session TableObject name _ reached
-  works_statement s m session (st.DropStream name) filled reached =
-      works_drop s m session StreamObject name _ reached
-  works_statement s m session st.Begin filled reached = works_begin s m session reached
-  works_statement s m session st.Commit filled reached =
-      works_commit s m session (transaction_in m.sessions session) refl reached
-  works_statement s m session st.Rollback filled reached =
-      works_rollback s m session (transaction_in m.sessions session) reached
-  works_statement s m session (st.CreateTask t) filled reached = works_refuses s m Unsupported reached
-  works_statement s m session (st.ResumeTask name) filled reached = works_refuses s m Unsupported reached
-  works_statement s m session (st.SuspendTask name) filled reached = works_refuses s m Unsupported reached
-  works_statement s m session (st.ExecuteTask name) filled reached = works_refuses s m Unsupported reached
-  works_statement s m session (st.CreateDynamicTable t) filled reached = works_refuses s m Unsupported reached
-  works_statement s m session (st.ResumeDynamicTable name) filled reached = works_refuses s m Unsupported reached
-  works_statement s m session (st.SuspendDynamicTable name) filled reached = works_refuses s m Unsupported reached
-  works_statement s m session (st.RefreshDynamicTable name) filled reached = works_refuses s m Unsupported reached
-  works_statement s m session (st.SetTargetLag name lag) filled reached = works_refuses s m Unsupported reached
-  works_statement s m session (st.DropTask name) filled reached = works_refuses s m Unsupported reached
-  works_statement s m session (st.DropDynamicTable name) filled reached = works_refuses s m Unsupported reached
+works_statement : (s : Stored) (m : Machine) (session : ℕ) (statement : Statement) → IsFilled statement → IsReached s m
+    → Works s m (carried_out_as m session (meant_in m statement))
+unfolding ddl.bound carried_out commit rollback changes_rows drop_table drop_stream
+works_statement s m session (st.Select q sorts) filled reached =
+    works_select s m session (bound_select (names_from 1 m.state.objects) q sorts) reached
+works_statement s m session (st.HasData stream) filled reached =
+    works_data s m session (option_map refusal_of (first_failing (object_of StreamObject (names_in m.state.objects) stream)))
+    (object_of StreamObject (names_in m.state.objects) stream).value reached
+works_statement s m session (st.Dml statement) filled reached =
+    works_changes s m session (transaction_in m.sessions session) refl
+    (bound_changed m session (bound_change (names_from 1 m.state.objects) statement)) reached
+    (change_fits s m session reached statement filled.1)
+works_statement s m session (st.CreateTable t) filled reached = works_table s m session t reached filled
+works_statement s m session (st.CreateStream name table is_append_only) filled reached =
+    works_stream s m session name table is_append_only reached filled
+works_statement s m session (st.DropTable name) filled reached =
+    works_drop s m session TableObject name _ reached
+works_statement s m session (st.DropStream name) filled reached =
+    works_drop s m session StreamObject name _ reached
+works_statement s m session st.Begin filled reached = works_begin s m session reached
+works_statement s m session st.Commit filled reached =
+    works_commit s m session (transaction_in m.sessions session) refl reached
+works_statement s m session st.Rollback filled reached =
+    works_rollback s m session (transaction_in m.sessions session) reached
+works_statement s m session (st.CreateTask t) filled reached = works_refuses s m Unsupported reached
+works_statement s m session (st.ResumeTask name) filled reached = works_refuses s m Unsupported reached
+works_statement s m session (st.SuspendTask name) filled reached = works_refuses s m Unsupported reached
+works_statement s m session (st.ExecuteTask name) filled reached = works_refuses s m Unsupported reached
+works_statement s m session (st.CreateDynamicTable t) filled reached = works_refuses s m Unsupported reached
+works_statement s m session (st.ResumeDynamicTable name) filled reached = works_refuses s m Unsupported reached
+works_statement s m session (st.SuspendDynamicTable name) filled reached = works_refuses s m Unsupported reached
+works_statement s m session (st.RefreshDynamicTable name) filled reached = works_refuses s m Unsupported reached
+works_statement s m session (st.SetTargetLag name lag) filled reached = works_refuses s m Unsupported reached
+works_statement s m session (st.DropTask name) filled reached = works_refuses s m Unsupported reached
+works_statement s m session (st.DropDynamicTable name) filled reached = works_refuses s m Unsupported reached
 
-  works_command : (s : Stored) (m : Machine) (session : ℕ) (request : Request) → IsFilledRequest request → IsReached s m
-      → Works s m (commanded m session request)
-  unfolding commanded
-  works_command s m session TooLong filled reached = works_refuses s m (OverLimit limits.Statement) reached
-  works_command s m session Unreadable filled reached = works_refuses s m SyntaxError reached
-  works_command s m session (Asked statement) filled reached =
-      works_either s m (is_session session) _ _ (works_statement s m session statement filled reached)
-      (works_refuses s m (NoSuchSession session) reached)
+works_command : (s : Stored) (m : Machine) (session : ℕ) (request : Request) → IsFilledRequest request → IsReached s m
+    → Works s m (commanded m session request)
+unfolding commanded
+works_command s m session TooLong filled reached = works_refuses s m (OverLimit limits.Statement) reached
+works_command s m session Unreadable filled reached = works_refuses s m SyntaxError reached
+works_command s m session (Asked statement) filled reached =
+    works_either s m (is_session session) _ _ (works_statement s m session statement filled reached)
+    (works_refuses s m (NoSuchSession session) reached)
 
-  pub works_event : (s : Stored) (m : Machine) (e : Event) → IsFilledEvent e → IsReached s m → Works s m (outcome_of m e)
-  works_event s m (Command reading session request) filled reached =
-      works_command s m session request filled reached
-  works_event s m (Tick reading) filled reached = works_does s m Idle m.sessions reached.stand
+pub works_event : (s : Stored) (m : Machine) (e : Event) → IsFilledEvent e → IsReached s m → Works s m (outcome_of m e)
+works_event s m (Command reading session request) filled reached =
+    works_command s m session request filled reached
+works_event s m (Tick reading) filled reached = works_does s m Idle m.sessions reached.stand
 
