@@ -1,25 +1,25 @@
 -- What a change of a text comes to fits its target, and the streams that it reads live.
 --     changes_fit     of each change of a text, over a machine that was reached
-use Rattle.std.proofs.Common.{◌≡◌, ◌⊎◌, inl, inr, ℕ, zero, suc, ◌+◌, Bool, true, false, cond, List, [], ◌∷◌, map}
-use Rattle.std.proofs.Common.{Option, Some, None, option_map, refl, sym, ap, subst, ◌∙◌, arith, IsTrue}
+use Rattle.std.proofs.Common.{◌≡◌, ◌⊎◌, inl, inr, ℕ, zero, suc, Bool, true, false, cond, List, [], ◌∷◌}
+use Rattle.std.proofs.Common.{Option, Some, None, option_map, refl, sym, ap, subst, ◌∙◌, arith}
 use Rattle.std.specs.Prelude.{slice_get, not, unwrap_or}
-use Rattle.std.specs.List.{AllByRecursion, filter}
+use Rattle.std.specs.List.{AllByRecursion}
 use Rattle.std.specs.Option.{IsSomeAnd, option_map_or}
 use Rattle.std.specs.FinMap.{entries}
 use Rattle.wh_value.specs.Value.{Row}
-use Rattle.wh_value.specs.Column.{Column, ColumnType}
+use Rattle.wh_value.specs.Column.{Column}
 use Rattle.wh_ast.specs.declared.dml.Dml.{Dml}
 use Rattle.wh_grammar.specs.Token.{Token}
 use Rattle.wh_grammar.specs.Changing.{IsDml}
 use Rattle.wh_meaning.specs.Bag.{Bag, no_rows}
-use Rattle.wh_meaning.specs.Query.{Instance, source_in}
+use Rattle.wh_meaning.specs.Query.{source_in}
 use Rattle.wh_naming.specs.Findings as naming
 use Rattle.wh_naming.specs.Findings.{Name}
-use Rattle.wh_naming.specs.Scope.{Named, ObjectKind, TableObject, named}
+use Rattle.wh_naming.specs.Scope.{Named, named}
 use Rattle.wh_naming.specs.Changes.{Target, target_of, target_at, is_table, BoundChange, Change, bound_change}
 use Rattle.wh_effect.specs.Effect as effects
 use Rattle.wh_effect.specs.Effect.{effect}
-use Rattle.wh_reply.specs.Reply.{Refusal, Locked}
+use Rattle.wh_reply.specs.Reply.{Refusal}
 use Rattle.wh_state.specs.State.{Table, Object, at_id, last_rows}
 use Rattle.wh_state.specs.Objects.{is_stream, is_kind_at, table_at}
 use Rattle.wh_state.specs.Stored.{StoredTable, StoredKind, StoredTableKind, StoredStreamKind, StoredObject, Stored}
@@ -27,13 +27,11 @@ use Rattle.wh_state.specs.Stored.{stored_table_in, stored_stream_in, stored_colu
 use Rattle.wh_state.proofs.AllLaws.{all_map}
 use Rattle.wh_state.proofs.FoundLaws.{FoundAt}
 use Rattle.wh_state.proofs.MeaningLaws.{at_id_meant}
-use Rattle.wh_machine.specs.Tests.{first_of}
 use Rattle.wh_machine.specs.Names.{object_kind, names_from, refusal_of, naming_refusal}
 use Rattle.wh_machine.specs.Offsets.{streams_among}
-use Rattle.wh_machine.specs.Changes.{Changed, Fails, Gives, given, given_on, fails_or, rows_seen}
-use Rattle.wh_machine.specs.Sessions.{first_locked}
+use Rattle.wh_machine.specs.Changes.{given, given_on, fails_or, rows_seen}
 use Rattle.wh_machine.specs.Outcome.{Machine}
-use Rattle.wh_machine.specs.Reading.{objects_seen, instance_read, rows_read, reading_refusal}
+use Rattle.wh_machine.specs.Reading.{objects_seen, instance_read, rows_read}
 use Rattle.wh_machine.specs.Statements.{streams_read, change_refusal, bound_changed}
 use Rattle.wh_machine.proofs.GotLaws.{entries_hold}
 use Rattle.wh_machine.proofs.StandLaws.{IsLiveStream}
@@ -92,8 +90,8 @@ module _ (s : Stored) (m : Machine) (session : ℕ) (reached : IsReached s m) wh
   named_lives name object is kind_is =
       let o = object_found s m name object reached is in
       let here : is_stream (kind_meant o.object.kind) ≡ true =
-          ap (λ (found : Option Object). option_map_or (λ o. is_stream o.kind) found false)
-          (sym (at_now object.id o.object o.there)) ∙ kind_is in
+      ap (λ (found : Option Object). option_map_or (λ o. is_stream o.kind) found false)
+      (sym (at_now object.id o.object o.there)) ∙ kind_is in
       subst (λ (found : Option StoredObject). IsSomeAnd found IsLiveStream) (sym o.there)
       (o.live, by_kind o.object.kind here)
     where
@@ -120,8 +118,8 @@ module _ (s : Stored) (m : Machine) (session : ℕ) (reached : IsReached s m) wh
   instance_fits ids k place id at is =
       let same : place ≡ k = omega arith in
       let bag : source_in (instance_read m session ids) place ≡ rows_read m session id =
-          ap (λ (n : ℕ). source_in (instance_read m session ids) n) same
-          ∙ ap (λ (found : Option Bag). unwrap_or found no_rows) (mapped_get ids k id is) in
+      ap (λ (n : ℕ). source_in (instance_read m session ids) n) same
+      ∙ ap (λ (found : Option Bag). unwrap_or found no_rows) (mapped_get ids k id is) in
       subst (AllRows (IsRead id)) (sym bag) (all_among (entries (rows_read m session id)))
 
   -- ---- the target
@@ -188,12 +186,11 @@ module _ (s : Stored) (m : Machine) (session : ℕ) (reached : IsReached s m) wh
   given_fits t found streams change effects.Undefined live fits = tt
   given_fits t found streams change (effects.Ambiguous row) live fits = tt
   given_fits t found streams change (effects.Does e) live fits = (
-    subst (λ (o : Option StoredObject). IsSomeAnd o (HoldsEffect e)) (sym found.there)
-        (
-          found.live,
-          subst (λ (k : StoredKind). IsSomeAnd (stored_table_in k) (λ t. EffectFits t.columns e)) (sym found.kind)
-              (subst (λ (columns : List Column). EffectFits columns e) found.columns fits),
-        ),
+    subst (λ (o : Option StoredObject). IsSomeAnd o (HoldsEffect e)) (sym found.there) (
+      found.live,
+      subst (λ (k : StoredKind). IsSomeAnd (stored_table_in k) (λ t. EffectFits t.columns e)) (sym found.kind)
+          (subst (λ (columns : List Column). EffectFits columns e) found.columns fits),
+    ),
     live,
   )
 
@@ -213,15 +210,15 @@ module _ (s : Stored) (m : Machine) (session : ℕ) (reached : IsReached s m) wh
       let nothing : NothingFails b.findings = nothing_fails b.findings none in
       let found : IsFound t = target_found name (good.known nothing.unknown_object) (good.kinds nothing.wrong_kind) in
       let sees : SeesTable m session t.id found.table.columns =
-          seen_fits s m session t.id found.object found.table reached found.there found.kind in
+      seen_fits s m session t.id found.object found.table reached found.there found.kind in
       let there : table_at (objects_seen m session) b.target ≡ Some sees.table =
-          ap (λ (id : ℕ). table_at (objects_seen m session) id) good.target ∙ sees.there in
+      ap (λ (id : ℕ). table_at (objects_seen m session) id) good.target ∙ sees.there in
       let rows : AllByRecursion (λ entry. FitsTypes (types_of t.columns) entry.1) (rows_seen sees.table) =
-          subst (λ (columns : List Column). AllByRecursion (λ entry. FitsTypes (types_of columns) entry.1) (rows_seen sees.table))
-          (sym found.columns) (target_rows t.id found.table.columns sees) in
+      subst (λ (columns : List Column). AllByRecursion (λ entry. FitsTypes (types_of columns) entry.1) (rows_seen sees.table))
+      (sym found.columns) (target_rows t.id found.table.columns sees) in
       let fits : OutcomeFits t.columns (effect b.change (rows_seen sees.table) (instance_read m session b.sources)) =
-          good.effect nothing.is_mistyped (instance_read m session b.sources) (instance_fits b.sources) (rows_seen sees.table)
-          rows in
+      good.effect nothing.is_mistyped (instance_read m session b.sources) (instance_fits b.sources) (rows_seen sees.table)
+      rows in
       let streams : AllByRecursion (FoundAt IsLiveStream s.objects) (streams_read m b) = among_live b.sources good.sources in
       subst (λ (u : Option Table). ChangedFits s.objects
       (given_on (streams_read m b) (instance_read m session b.sources) b u)) (sym there)

@@ -3,20 +3,20 @@
 --     goes_on              the commit of an event applies, and the machine behind it is reached so
 --     made_leads           those of several apply one after the other
 --     commits_apply        of the events of a script over a sound file
-use Rattle.std.proofs.Common.{◌≡◌, ℕ, zero, suc, ◌+◌, ◌<◌, ◌≤◌, Bool, true, false, List, []}
+use Rattle.std.proofs.Common.{◌≡◌, ℕ, zero, suc, ◌<◌, Bool, true, false, List, []}
 use Rattle.std.proofs.Common.{◌∷◌, ◌++◌, Option, Some, None, option_map, refl, sym, ap, subst, ◌∙◌, arith}
 use Rattle.std.specs.Prelude.{nat_lt, replicate}
 use Rattle.std.specs.List.{AllByRecursion}
-use Rattle.std.specs.Option.{IfSome, option_to_list}
+use Rattle.std.specs.Option.{option_to_list}
 use Rattle.std.proofs.lemmas.Bool.Decides.{nat_tests}
 use Rattle.std.proofs.lemmas.Option.{IfSome_then}
 use Rattle.wh_value.specs.Limit.{bound}
 use Rattle.wh_value.specs.declared.limit.Limit.TheVariants as limits
-use Rattle.wh_reply.specs.Reply.{Reply, Refused, OverLimit}
+use Rattle.wh_reply.specs.Reply.{Reply}
 use Rattle.wh_state.specs.State.{State, stamped}
 use Rattle.wh_state.specs.Act.{Act}
 use Rattle.wh_state.specs.Stored.{StoredObject, Stored, meant, Means, stored_table_in}
-use Rattle.wh_state.specs.Commit.{Commit, Applies, applied, Leads}
+use Rattle.wh_state.specs.Commit.{Commit, Applies, Leads}
 use Rattle.wh_state.specs.Written.{written, commit_for, kept_after}
 use Rattle.wh_state.specs.File.{Keeps}
 use Rattle.wh_state.specs.Sound.{Sound}
@@ -25,7 +25,7 @@ use Rattle.wh_state.proofs.AllLaws.{all_map}
 use Rattle.wh_state.proofs.FirmLaws.{IsFirmObject, IsFirm, firm_file}
 use Rattle.wh_state.proofs.WrittenLaws.{go_apply, go_firm}
 use Rattle.wh_machine.specs.Outcome.{Machine, opened, settled, acts_in}
-use Rattle.wh_machine.specs.Step.{Event, reading_of, stamp_of, has_stamp, decided, step, acts_of}
+use Rattle.wh_machine.specs.Step.{Event, reading_of, stamp_of, has_stamp, decided, step}
 use Rattle.wh_machine.specs.Made.{made, all_made, kept_after_all}
 use Rattle.wh_machine.specs.Script.{IsScript}
 use Rattle.wh_machine.proofs.StandLaws.{AllStandOn}
@@ -113,11 +113,11 @@ goes_on s m e filled reached =
     by_stamp true has works =
         let new : Stored = kept_after s (option_map (commit_for s stamp) (acts_in (decided m e))) in
         let acts : made s m e ≡ option_map (commit_for s stamp) (acts_in (decided m e)) =
-            ap (option_map (commit_for s stamp)) (acts_at m e has) in
+        ap (option_map (commit_for s stamp)) (acts_at m e has) in
         let same : (step m e).0 ≡ (settled (ready m e) (decided m e)).0 =
-            ap (λ (p : Machine × Reply). p.0) (step_at m e has) in
+        ap (λ (p : Machine × Reply). p.0) (step_at m e has) in
         let means : (step m e).0.state ≡ record (meant new) { last = stamp } =
-            ap (λ (n : Machine). n.state) same ∙ decided_meant s m e (orderly_firm s reached.firm) reached.means in
+        ap (λ (n : Machine). n.state) same ∙ decided_meant s m e (orderly_firm s reached.firm) reached.means in
         let last : (step m e).0.state.last ≡ stamp = ap (λ (t : State). t.last) means in
         record {
           applies = subst (AppliesIf s) (sym acts)

@@ -1,15 +1,10 @@
 -- What each event comes to works over the file that its machine was reached from.
 --     IsFilled, IsFilledEvent     new names and columns are not empty, and changes stand in a text
 --     works_event                 of each event
-use Rattle.std.proofs.Common.{◌≡◌, ℕ, zero, suc, ◌+◌, ◌<◌, ◌≤◌, Bool, true, false, cond, List, []}
-use Rattle.std.proofs.Common.{◌∷◌, ◌++◌, length, map, Option, Some, None, option_map, refl, sym, ap, subst, ◌∙◌, arith}
-use Rattle.std.specs.Prelude.{nat_lt, replicate}
-use Rattle.std.specs.List.{AllByRecursion}
-use Rattle.std.proofs.lemmas.Bool.Decides.{nat_tests}
+use Rattle.std.proofs.Common.{◌≡◌, ℕ, suc, ◌<◌, false, List, []}
+use Rattle.std.proofs.Common.{◌∷◌, length, map, Option, Some, None, option_map, refl, subst}
 use Rattle.wh_value.specs.View.{column_of}
-use Rattle.wh_value.specs.Limit.{bound}
 use Rattle.wh_value.specs.declared.limit.Limit.TheVariants as limits
-use Rattle.wh_ast.specs.declared.dml.Dml.{Dml}
 use Rattle.wh_ast.specs.declared.statement.Statement.{Statement}
 use Rattle.wh_ast.specs.declared.statement.Statement.TheVariants as st
 use Rattle.wh_grammar.specs.Token.{Token}
@@ -18,9 +13,9 @@ use Rattle.wh_grammar.specs.Spelled.{Request, TooLong, Unreadable, Asked, most_n
 use Rattle.wh_meaning.specs.Bag.{Bag}
 use Rattle.wh_meaning.specs.Query.{eval}
 use Rattle.wh_naming.specs.Scope.{TableObject, StreamObject}
-use Rattle.wh_naming.specs.Changes.{BoundChange, bound_change}
+use Rattle.wh_naming.specs.Changes.{bound_change}
 use Rattle.wh_naming.specs.Select.{BoundSelect, bound_select}
-use Rattle.wh_ddl_naming.specs.Meant.{Meant, first_failing}
+use Rattle.wh_ddl_naming.specs.Meant.{first_failing}
 use Rattle.wh_ddl_naming.specs.Objects.{object_of}
 use Rattle.wh_ddl_naming.specs.Statements as ddl
 use Rattle.wh_ddl_naming.specs.Statements.{Bound}
@@ -28,39 +23,27 @@ use Rattle.wh_reply.specs.Reply.{Refusal, Reply, Unsupported, SyntaxError, NoSuc
 use Rattle.wh_reply.specs.Reply.{NoTransaction, Begun, RolledBack, Listing, HasData, Idle}
 use Rattle.wh_meaning.specs.Listing.{listed}
 use Rattle.wh_net.specs.Stream.{rows_shown, has_rows}
-use Rattle.wh_state.specs.State.{State, Stream, stamped}
+use Rattle.wh_state.specs.State.{Stream}
 use Rattle.wh_state.specs.Objects.{stream_at}
-use Rattle.wh_state.specs.Stored.{StoredObject, Stored, meant, Means}
-use Rattle.wh_state.specs.Commit.{Commit, Applies, applied, Leads}
-use Rattle.wh_state.specs.Written.{written, commit_for, kept_after}
-use Rattle.wh_state.specs.File.{Keeps}
-use Rattle.wh_state.specs.Sound.{Sound}
-use Rattle.wh_state.specs.Orderly.{IsOrderlyStored}
-use Rattle.wh_state.proofs.AllLaws.{all_map, all_with}
-use Rattle.wh_state.proofs.FirmLaws.{IsFirm}
-use Rattle.wh_state.proofs.WrittenLaws.{AllGo, go_apply, go_firm}
+use Rattle.wh_state.specs.Stored.{StoredObject, Stored}
+use Rattle.wh_state.proofs.AllLaws.{all_with}
 use Rattle.wh_machine.specs.Transaction.{Transaction, begun, acts_of}
-use Rattle.wh_machine.specs.Sessions.{Sessions, transaction_in, number_in, with_ended, with_begun}
+use Rattle.wh_machine.specs.Sessions.{Sessions, transaction_in, with_ended, with_begun}
 use Rattle.wh_machine.specs.Names.{names_from, names_in, refusal_of}
-use Rattle.wh_machine.specs.Outcome.{Machine, Outcome, Refuses, Does, opened, settled, acts_in, answers}
+use Rattle.wh_machine.specs.Outcome.{Machine, Does, answers}
 use Rattle.wh_machine.specs.Queries.{listing_of}
 use Rattle.wh_machine.specs.Reading.{instance_read, reading_refusal, asked, has_data, start_in}
-use Rattle.wh_machine.specs.Tables.{create_table, drop_table}
-use Rattle.wh_machine.specs.Streams.{create_stream, drop_stream}
+use Rattle.wh_machine.specs.Tables.{drop_table}
+use Rattle.wh_machine.specs.Streams.{drop_stream}
 use Rattle.wh_machine.specs.Statements.{begin, commit, commit_of, commit_reply, rollback, rollback_of, changes_rows}
 use Rattle.wh_machine.specs.Statements.{bound_changed, selects, select_refusal, carried_out, carried_out_as, meant_in}
-use Rattle.wh_machine.specs.Step.{Event, Command, Tick, is_session, commanded, outcome_of, reading_of, stamp_of, at_stamp}
-use Rattle.wh_machine.specs.Step.{has_stamp, decided, step}
-use Rattle.wh_machine.specs.Made.{made, all_made, kept_after_all}
-use Rattle.wh_machine.specs.Sound.{SoundMachine}
-use Rattle.wh_machine.proofs.StandLaws.{TransactionStands, StandsOn, AllStandOn}
-use Rattle.wh_machine.proofs.WorksLaws.{IsReached, objects_meant, CommitGoes, objects_after, Works, works_refuses}
+use Rattle.wh_machine.specs.Step.{Event, Command, Tick, is_session, commanded, outcome_of}
+use Rattle.wh_machine.proofs.StandLaws.{StandsOn, AllStandOn}
+use Rattle.wh_machine.proofs.WorksLaws.{IsReached, Works, works_refuses}
 use Rattle.wh_machine.proofs.WorksLaws.{works_unless, works_either, works_does, works_recorded}
 use Rattle.wh_machine.proofs.DefineLaws.{IsFilledTable, works_table, works_stream, works_drop}
 use Rattle.wh_machine.proofs.StageLaws.{begun_stands, one_stands, works_changes}
 use Rattle.wh_machine.proofs.ChangeLaws.{change_fits}
-use Rattle.wh_machine.proofs.SoundLaws.{sound_opened, sound_ready, sound_step}
-use Rattle.wh_machine.proofs.StepLaws.{ready, decided_meant, step_at, acts_at, no_acts, stamp_refused}
 
 -- ---- what is asked of a statement
 
@@ -184,4 +167,3 @@ pub works_event : (s : Stored) (m : Machine) (e : Event) → IsFilledEvent e →
 works_event s m (Command reading session request) filled reached =
     works_command s m session request filled reached
 works_event s m (Tick reading) filled reached = works_does s m Idle m.sessions reached.stand
-

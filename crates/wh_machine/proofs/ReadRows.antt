@@ -1,39 +1,37 @@
 -- The rows that a statement reads have the types of the columns of what it reads.
 --     shown_fits         the rows of a stream
 --     read_fits          those of an object
-use Rattle.std.proofs.Common.{◌≡◌, ℕ, zero, suc, ◌+◌, Bool, true, false, cond, List, [], ◌∷◌, ◌++◌, map}
-use Rattle.std.proofs.Common.{Option, Some, None, option_map, refl, sym, ap, subst, ◌∙◌, IsTrue}
+use Rattle.std.proofs.Common.{◌≡◌, ℕ, Bool, true, false, cond, List, [], ◌∷◌, ◌++◌, map}
+use Rattle.std.proofs.Common.{Option, Some, None, option_map, refl, sym, ap, subst, ◌∙◌}
 use Rattle.std.specs.Prelude.{nat_le, not}
 use Rattle.std.specs.List.{AllByRecursion, filter, flat_map}
-use Rattle.std.specs.Option.{IsSomeAnd, IfSome, option_and_then}
+use Rattle.std.specs.Option.{IsSomeAnd, IfSome}
 use Rattle.std.specs.FinMap.{get, entries, values}
 use Rattle.std.specs.Ordering.{eq_by_cmp}
 use Rattle.std.proofs.lemmas.List.{map-append}
 use Rattle.wh_value.specs.Value.{Row, row_cmp}
 use Rattle.wh_value.specs.Column.{Column, ColumnType}
-use Rattle.wh_meaning.specs.Bag.{Bag, bag_of}
+use Rattle.wh_meaning.specs.Bag.{bag_of}
 use Rattle.wh_net.specs.Net.{RowChange, deleted, inserted, net_change, numbers_in_either, net, first_here, is_in_one}
 use Rattle.wh_net.specs.Net.{is_between, appended_from, appended}
 use Rattle.wh_net.specs.Stream.{rows_at, records_between, shown, shown_row, rows_on, rows_shown}
-use Rattle.wh_state.specs.State.{Rows, Version, Table, Stream, Object, last_of, content_in, last_rows, nothing_held}
+use Rattle.wh_state.specs.State.{Rows, Version, Table, Stream, Object, last_rows}
 use Rattle.wh_state.specs.State.{metadata_columns, at_id}
-use Rattle.wh_state.specs.Objects.{table_at}
-use Rattle.wh_state.specs.Stored.{StoredTable, StoredKind, StoredTableKind, StoredStreamKind, StoredObject, Stored}
-use Rattle.wh_state.specs.Stored.{stored_table_in, stored_stream_in, stored_columns_in, version_meant, table_meant, object_meant, kind_meant}
+use Rattle.wh_state.specs.Stored.{StoredKind, StoredTableKind, StoredStreamKind, StoredObject, Stored}
+use Rattle.wh_state.specs.Stored.{stored_table_in, stored_stream_in, stored_columns_in, table_meant, object_meant, kind_meant}
 use Rattle.wh_state.proofs.AllLaws.{all_map, all_append, all_filter, all_at}
 use Rattle.wh_state.proofs.FoundLaws.{FoundAt}
 use Rattle.wh_state.proofs.MeaningLaws.{at_id_meant, table_at_meant, stored_table_of}
 use Rattle.wh_state.proofs.FirmLaws.{IsFirmKind, IsFirmObject, IsSourceOf, HasSource}
-use Rattle.wh_state.proofs.AppliesLaws.{IsFirmTable}
 use Rattle.wh_machine.specs.Outcome.{Machine}
 use Rattle.wh_machine.specs.Queries.{table_bag}
 use Rattle.wh_machine.specs.Reading.{objects_seen, start_in, kind_rows, object_rows, rows_read}
 use Rattle.wh_machine.proofs.GotLaws.{entries_hold}
 use Rattle.wh_machine.proofs.StageLaws.{rows_all}
 use Rattle.wh_machine.proofs.WorksLaws.{IsReached, objects_meant}
-use Rattle.wh_machine.proofs.BagRows.{AllRows, all_bag_of, all_none}
+use Rattle.wh_machine.proofs.BagRows.{AllRows, all_bag_of}
 use Rattle.wh_machine.proofs.ValueTypes.{FitsTypes, types_of, row_of_columns, fits_append}
-use Rattle.wh_machine.proofs.SeenRows.{Fit, RowsFitIn, no_rows_fit, versions_fit, VersionRowsFit, last_fits, SeesTable}
+use Rattle.wh_machine.proofs.SeenRows.{Fit, RowsFitIn, versions_fit, VersionRowsFit, last_fits}
 use Rattle.wh_machine.proofs.SeenRows.{seen_fits}
 
 -- ---- changes of rows
@@ -183,8 +181,8 @@ read_fits s m session id o reached there =
         (values_fit t.columns (last_rows seen.table) seen.rows)
     by_kind (StoredStreamKind stream) is =
         let source : FoundAt (IsSourceOf stream) s.objects stream.source =
-            subst (λ (k : StoredKind). IfSome (stored_stream_in k) (λ u. FoundAt (IsSourceOf u) s.objects u.source)) is
-            (all_at (HasSource s.objects) s.objects id o reached.firm.streams there) in
+        subst (λ (k : StoredKind). IfSome (stored_stream_in k) (λ u. FoundAt (IsSourceOf u) s.objects u.source)) is
+        (all_at (HasSource s.objects) s.objects id o reached.firm.streams there) in
         all_bag_of (FitsTypes (types_of stream.columns)) (rows_shown m.state.objects stream (start_in m session))
         (subst (λ (objects : List Object). AllByRecursion (FitsTypes (types_of stream.columns))
         (rows_shown objects stream (start_in m session))) (sym (objects_meant s m reached))
