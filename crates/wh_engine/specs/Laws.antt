@@ -10,6 +10,9 @@ use Rattle.wh_reply.specs.Reply.{is_refusal}
 use Rattle.wh_state.specs.State.{State, Table, Stream, with_offset}
 use Rattle.wh_state.specs.Objects.{table_at, stream_at}
 use Rattle.wh_state.specs.Sound.{Sound}
+use Rattle.wh_state.specs.Stored.{Stored, Means}
+use Rattle.wh_state.specs.Commit.{Leads}
+use Rattle.wh_state.specs.File.{Keeps}
 use Rattle.wh_net.specs.Stream.{rows_at, shown_row}
 use Rattle.wh_machine.specs.Transaction.{Transaction, start_of, start_at}
 use Rattle.wh_machine.specs.Sessions.{transaction_in}
@@ -17,6 +20,8 @@ use Rattle.wh_machine.specs.Outcome.{Machine, opened, settled}
 use Rattle.wh_machine.specs.Reading.{rows_read}
 use Rattle.wh_machine.specs.Statements.{commit}
 use Rattle.wh_machine.specs.Step.{Event, Command, stamp_of, at_stamp, step, after}
+use Rattle.wh_machine.specs.Script.{IsScript}
+use Rattle.wh_machine.specs.Made.{all_made, kept_after_all}
 use Rattle.wh_machine.specs.Sound.{SoundMachine}
 use Rattle.wh_machine.specs.Consuming.{consumed, batches, all_patched, rows_consumed, reads, AreApart, IsHeldAlong}
 use Rattle.wh_machine.specs.Consuming.{committing, changing, change_reads, consumes}
@@ -119,3 +124,11 @@ abbrev pub HeldStreamsStay : Type 0
 HeldStreamsStay = (session id : ℕ) (s : Stream) (m : Machine) (e : Event) → AreApart m.sessions
     → reads m.sessions session id ≡ true → reads (step m e).0.sessions session id ≡ true
     → stream_at m.state.objects id ≡ Some s → stream_at (step m e).0.state.objects id ≡ Some s
+
+-- ---- commits
+
+-- those that the events of a script make over a sound file apply, one after the other
+abbrev pub CommitsApply : Type 0
+CommitsApply = (file input : List ℕ) (s : Stored) (start : State) (es : List Event) → Keeps file s → Means s start
+    → Sound start → IsScript input es
+    → Leads s (all_made s (opened start) es) (kept_after_all s (opened start) es)

@@ -4,6 +4,7 @@ ghost use Rattle.wh_engine.specs.Laws.{CommitsConsumeWhatWasRead};
 ghost use Rattle.wh_engine.specs.Laws.{ChangesHoldWhatTheyRead, ChangesConsumeWhatTheyRead};
 ghost use Rattle.wh_engine.specs.Laws.{NothingElseConsumes, OthersMoveNothing, QueriesMoveNothing};
 ghost use Rattle.wh_engine.specs.Laws.{SoundStatesOpen, EventsKeepMachinesSound, HeldStreamsStay};
+ghost use Rattle.wh_engine.specs.Laws.{CommitsApply};
 
 /// A refused command changes nothing but the last stamp, and no transaction.
 pub fn refusals_change_nothing()
@@ -60,4 +61,10 @@ pub fn what_consumes_nothing_moves_nothing()
 /// A stream that an open transaction holds is moved by no event that leaves it held.
 pub fn held_streams_stay()
     ensures { HeldStreamsStay }
+{}
+
+/// The commits that the events of a script make over a sound file apply, one after the other: no
+/// event makes one that the file would refuse.
+pub fn commits_of_events_apply()
+    ensures { CommitsApply }
 {}

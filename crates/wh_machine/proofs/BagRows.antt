@@ -2,18 +2,17 @@
 --     AllRows                            of each row
 --     all_one, all_plus, all_gathered    of bags that are put together
 --     all_bag_of, all_listed, all_keys   of listed rows
-use Rattle.std.proofs.Common.{◌≡◌, ℕ, zero, suc, ◌+◌, Bool, true, false, cond, List, [], ◌∷◌, map, Option, Some, None}
-use Rattle.std.proofs.Common.{option_map, refl, sym, ap, subst, ◌∙◌}
+use Rattle.std.proofs.Common.{◌≡◌, ℕ, zero, suc, Bool, true, false, cond, List, [], ◌∷◌, map, Option, Some, None}
+use Rattle.std.proofs.Common.{refl, sym, subst, ◌∙◌}
 use Rattle.std.specs.List.{AllByRecursion}
 use Rattle.std.specs.declared.cmp.Ordering.{Ordering}
 use Rattle.std.specs.declared.cmp.Ordering.TheVariants.{Less, Equal, Greater}
 use Rattle.std.specs.Ordering.{is_gt}
-use Rattle.std.specs.FinMap.{entries, insert, put, entries-insert, len-entries, len-empty, keys}
+use Rattle.std.specs.FinMap.{entries, put, entries-insert, len-entries, len-empty, keys}
 use Rattle.std.specs.FinMap.Entries.{by_order}
 use Rattle.std.proofs.lemmas.List.{nil_from_length}
 use Rattle.wh_value.specs.Value.{Row, row_cmp, placed_by}
 use Rattle.wh_value.specs.Order.{row_total}
-use Rattle.wh_meaning.specs.Scalar.{of_two}
 use Rattle.wh_meaning.specs.Bag.{Bag, no_rows, count, with_row, one_row, bag_of, again, over_entries, fold_bag, plus, beside}
 use Rattle.wh_meaning.specs.Bag.{gathered}
 use Rattle.wh_meaning.specs.Listing.{SortKey, order_by, listed}

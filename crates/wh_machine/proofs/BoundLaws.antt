@@ -2,40 +2,40 @@
 --     InstanceFits            the bags of sources, from a number on
 --     IsGoodSource, IsGoodQuery     what a source and a query of a text give
 --     query_good, source_good       so it is of each
-use Rattle.std.proofs.Common.{◌≡◌, ℕ, zero, suc, ◌+◌, ◌<◌, ◌≤◌, Bool, true, false, cond, List, [], ◌∷◌, ◌++◌, map}
-use Rattle.std.proofs.Common.{length, Option, Some, None, refl, sym, ap, subst, ◌∙◌, arith, length-append, append_assoc}
+use Rattle.std.proofs.Common.{◌≡◌, ℕ, zero, suc, ◌+◌, ◌<◌, Bool, true, false, List, [], ◌∷◌, ◌++◌, map}
+use Rattle.std.proofs.Common.{length, Option, Some, None, refl, sym, ap, subst, ◌∙◌, arith, append_assoc}
 use Rattle.std.specs.Prelude.{slice_get, ◌||◌, ◌&&◌, not, unwrap_or}
 use Rattle.std.specs.List.{AllByRecursion}
 use Rattle.std.proofs.lemmas.List.{map-append}
 use Rattle.wh_value.specs.Column as table
 use Rattle.wh_value.specs.Column.{ColumnType, NumberType, VarcharType, BooleanType}
-use Rattle.wh_value.specs.Value.{Row, Value, Null}
+use Rattle.wh_value.specs.Value.{Row}
 use Rattle.wh_ast.specs.declared.expr.Expr.{Expr}
 use Rattle.wh_ast.specs.declared.query.Item.{Item}
-use Rattle.wh_ast.specs.declared.query.Source.{Source, roll-Source, fold-roll-Source, fold-Source}
-use Rattle.wh_ast.specs.declared.query.Source.TheOpen.{Source-F, Join-F}
+use Rattle.wh_ast.specs.declared.query.Source.{Source, fold-roll-Source, fold-Source}
+use Rattle.wh_ast.specs.declared.query.Source.TheOpen.{Source-F}
 use Rattle.wh_ast.specs.declared.query.Source.TheVariants as sources
 use Rattle.wh_grammar.specs.Token.{Token}
 use Rattle.wh_grammar.specs.Query as g
 use Rattle.wh_grammar.specs.Query.{IsQuery, AreCores, IsCore, IsSource, AreJoins}
 use Rattle.wh_ast.specs.declared.query.Join.{Join, roll-Join, fold-roll-Join, fold-Join}
-use Rattle.wh_ast.specs.declared.query.Core.{Core, roll-Core, fold-roll-Core, fold-Core, Core-F}
-use Rattle.wh_ast.specs.declared.query.Query.{Query, roll-Query, fold-roll-Query, fold-Query, Query-F}
-use Rattle.wh_meaning.specs.Bag.{Bag, no_rows}
+use Rattle.wh_ast.specs.declared.query.Core.{Core, roll-Core, fold-roll-Core, fold-Core}
+use Rattle.wh_ast.specs.declared.query.Query.{Query, roll-Query, fold-roll-Query}
+use Rattle.wh_meaning.specs.Bag.{Bag}
 use Rattle.wh_meaning.specs.Query as meaning
 use Rattle.wh_meaning.specs.Query.{Instance, eval, Scan, UnionAll, source_in}
-use Rattle.wh_naming.specs.Findings.{Name, Findings, followed, either}
-use Rattle.wh_naming.specs.Scope.{Named, named, Entry, width}
-use Rattle.wh_naming.specs.Typing.{alike, same_type, Typed}
-use Rattle.wh_naming.specs.Select.{Output, BoundQuery, BoundSource, SourceReading, SourcePart, JoinPart, QueryReading}
+use Rattle.wh_naming.specs.Findings.{Name, either}
+use Rattle.wh_naming.specs.Scope.{Named, named, Entry}
+use Rattle.wh_naming.specs.Typing.{alike, same_type}
+use Rattle.wh_naming.specs.Select.{Output, BoundQuery, BoundSource, SourcePart, JoinPart, QueryReading}
 use Rattle.wh_naming.specs.Select.{object_source, column_of, query_source, Joined, part_name, first_entry, with_entry, plain}
 use Rattle.wh_naming.specs.Select.{with_joins, from_part, filtered_by, key_scalars, nothing_shown, all_shown, is_grouped}
-use Rattle.wh_naming.specs.Select.{projected, core_of, bound_core, merged, fit_each_other, united, no_query, more_cores}
+use Rattle.wh_naming.specs.Select.{bound_core, merged, fit_each_other, united, more_cores}
 use Rattle.wh_naming.specs.Select.{all_cores, named_source, source_step, core_step, join_step, query_step, bound_query}
 use Rattle.wh_naming.specs.Select.{all_columns}
 use Rattle.wh_state.proofs.AllLaws.{all_append, all_map}
-use Rattle.wh_machine.proofs.BagRows.{AllRows, GivesAll, all_none}
-use Rattle.wh_machine.proofs.ValueTypes.{OfType, FitsTypes, types_of, null_fits}
+use Rattle.wh_machine.proofs.BagRows.{AllRows, GivesAll}
+use Rattle.wh_machine.proofs.ValueTypes.{OfType, FitsTypes, types_of}
 use Rattle.wh_machine.proofs.TypedLaws.{Under, entry_types, get_behind}
 use Rattle.wh_machine.proofs.QueryRows.{rows_filter, rows_join, rows_union}
 use Rattle.wh_machine.proofs.GroupedLaws.{AllUnder, all_under_fits}

@@ -2,52 +2,46 @@
 --     IsFilled                    a statement whose new names and columns are not empty
 --     works_table, works_stream   objects that are made
 --     works_drop                  an object that is dropped
-use Rattle.std.proofs.Common.{◌≡◌, ◌⊎◌, inl, inr, ℕ, zero, suc, ◌+◌, ◌-◌, ◌<◌, ◌≤◌, Bool, true, false, cond, List, []}
+use Rattle.std.proofs.Common.{◌≡◌, ℕ, zero, suc, ◌+◌, ◌-◌, ◌<◌, ◌≤◌, Bool, true, false, cond, List, []}
 use Rattle.std.proofs.Common.{◌∷◌, ◌++◌, length, map, Option, Some, None, option_map, refl, sym, ap, subst, ◌∙◌, arith}
 use Rattle.std.proofs.Common.{IsTrue, filter}
-use Rattle.std.specs.Prelude.{not, ◌||◌, if◌then◌else◌, is_some, nat_lt, slice_get, slice_set, count_by, IsNone}
+use Rattle.std.specs.Prelude.{not, if◌then◌else◌, slice_get, slice_set}
 use Rattle.std.specs.List.{AllByRecursion, list_any}
-use Rattle.std.specs.Option.{IsSomeAnd}
-use Rattle.std.proofs.lemmas.Bool.Decides.{nat_tests}
-use Rattle.std.proofs.lemmas.List.{length-map}
 use Rattle.std.proofs.lemmas.List.Sums.{length-filter}
 use Rattle.wh_value.specs.Column.{Column}
 use Rattle.wh_value.specs.View.{column_of}
 use Rattle.wh_value.specs.Limit.{bound}
-use Rattle.wh_value.specs.declared.limit.Limit.{Limit}
 use Rattle.wh_value.specs.declared.limit.Limit.TheVariants as limits
 use Rattle.wh_ast.specs.declared.statement.CreateTable.{CreateTable}
 use Rattle.wh_naming.specs.Findings as naming
 use Rattle.wh_naming.specs.Findings.{Findings, Failing, UnknownName, NameTaken, either, name_if, followed}
 use Rattle.wh_naming.specs.Scope.{ObjectKind, TableObject, Named, named}
-use Rattle.wh_ddl_naming.specs.Meant.{Meant, first_failing, first_failing_of}
+use Rattle.wh_ddl_naming.specs.Meant.{Meant, first_failing}
 use Rattle.wh_ddl_naming.specs.Objects.{Names, of_kind, is_same_kind, found_where, object_of, taken_name}
 use Rattle.wh_ddl_naming.specs.Tables.{NewTable, new_table, column_names, column_findings, replace_findings, bound_table}
 use Rattle.wh_ddl_naming.specs.Streams.{NewStream, bound_stream}
 use Rattle.wh_reply.specs.Reply.{Refusal, Reply, OverLimit, Locked, DdlInTransaction, CreatedTable, CreatedStream}
-use Rattle.wh_state.specs.State.{State, Object, at_id, put_at, changed_at, dropped, id_of, live_count}
+use Rattle.wh_state.specs.State.{State, Object, at_id, put_at, changed_at, dropped, live_count}
 use Rattle.wh_state.specs.State.{TableKind, StreamKind}
-use Rattle.wh_state.specs.Act.{Act, MakesTable, DropsObject, MakesStream}
-use Rattle.wh_state.specs.Stored.{StoredKind, StoredObject, Stored, object_meant, kind_meant}
-use Rattle.wh_state.specs.Commit.{Change, CreatesTable, Drops, CreatesStream, changed, IsStoredName, IsNewObject}
-use Rattle.wh_state.specs.Commit.{TableApplies, StreamApplies, IsLiveObject, IsLiveTable, IsTableKind}
-use Rattle.wh_state.specs.Written.{written}
-use Rattle.wh_state.proofs.FoundLaws.{FoundAt, found_some}
+use Rattle.wh_state.specs.Act.{MakesTable, DropsObject, MakesStream}
+use Rattle.wh_state.specs.Stored.{StoredKind, StoredObject, Stored, kind_meant}
+use Rattle.wh_state.specs.Commit.{changed, IsStoredName}
+use Rattle.wh_state.specs.Commit.{TableApplies, IsLiveTable, IsTableKind}
+use Rattle.wh_state.proofs.FoundLaws.{found_some}
 use Rattle.wh_state.proofs.MeaningLaws.{live_count_meant}
-use Rattle.wh_state.proofs.FirmLaws.{HasNot, NamesApart, IsFirm}
-use Rattle.wh_state.proofs.WrittenLaws.{AllGo, ChangeSpares}
-use Rattle.wh_machine.specs.Tests.{refused_if, refused_past, first_of}
+use Rattle.wh_state.proofs.FirmLaws.{HasNot, NamesApart}
+use Rattle.wh_machine.specs.Tests.{refused_if, refused_past}
 use Rattle.wh_machine.specs.Names.{object_kind, names_from, names_in, refusal_of}
 use Rattle.wh_machine.specs.Outcome.{Machine, Outcome, Does, commits, unless}
-use Rattle.wh_machine.specs.Sessions.{Sessions, number_in, holder}
-use Rattle.wh_machine.specs.Definitions.{count_refusals, is_long, drops, holder_of, defines}
-use Rattle.wh_machine.specs.Tables.{one_if, retention_of, table_refusal, table_made, create_table}
+use Rattle.wh_machine.specs.Sessions.{number_in, holder}
+use Rattle.wh_machine.specs.Definitions.{is_long, drops, holder_of, defines}
+use Rattle.wh_machine.specs.Tables.{one_if, retention_of, table_refusal, create_table}
 use Rattle.wh_machine.specs.Streams.{stream_refusal, create_stream}
-use Rattle.wh_machine.proofs.NamedLaws.{free_of_all, none_named, IsObjectOf, object_named}
+use Rattle.wh_machine.proofs.NamedLaws.{free_of_all, none_named}
 use Rattle.wh_machine.proofs.WorksLaws.{IsReached, objects_meant, Works, works_unless, works_last, works_defined}
-use Rattle.wh_machine.proofs.WorksLaws.{works_made, DropsOnly}
+use Rattle.wh_machine.proofs.WorksLaws.{works_made}
 use Rattle.wh_machine.proofs.PassedLaws.{passed, none_if, within, neither, short_name, no_map, no_name}
-use Rattle.wh_machine.proofs.PassedLaws.{NothingFails, nothing_fails, nothing_wrong, free_taken, object_found}
+use Rattle.wh_machine.proofs.PassedLaws.{nothing_fails, nothing_wrong, free_taken, object_found}
 
 -- ---- live objects
 
@@ -75,7 +69,7 @@ pub live_dropped : (objects : List StoredObject) (id : ℕ) (o : StoredObject) �
 live_dropped objects zero o there live = absurd cc
 live_dropped objects (suc place) o there live =
     let set : changed_at objects (suc place) dropped ≡ slice_set objects place (dropped o) =
-        ap (λ (found : Option StoredObject). put_at objects (suc place) (option_map dropped found)) there in
+    ap (λ (found : Option StoredObject). put_at objects (suc place) (option_map dropped found)) there in
     let new = length-filter (λ (o : StoredObject). o.is_live) (slice_set objects place (dropped o)) in
     let old = length-filter (λ (o : StoredObject). o.is_live) objects in
     let fewer = drop_count objects place o there live in
@@ -133,10 +127,9 @@ passes_table s wrong n none =
     let live = passed (refused_past limits.Objects (live_count s.objects + 1 - one_if n.replaced)) _ ids.1 in
     let long = passed (refused_if (list_any is_long (n.name ∷ column_names n.columns)) (OverLimit limits.Name)) _ live.1 in
     let short = neither (is_long n.name) (list_any is_long (column_names n.columns))
-        (none_if (list_any is_long (n.name ∷ column_names n.columns)) (OverLimit limits.Name) long.0) in
+    (none_if (list_any is_long (n.name ∷ column_names n.columns)) (OverLimit limits.Name) long.0) in
     let wide = passed (refused_past limits.Columns (length n.columns)) _ long.1 in
-    let days = passed (refused_past limits.Retention (retention_of n)) _ wide.1 in
-    (
+    let days = passed (refused_past limits.Retention (retention_of n)) _ wide.1 in (
       names.0,
       record {
         few = within limits.Objects (live_count s.objects + 1 - one_if n.replaced) live.0;
@@ -176,8 +169,7 @@ works_table_made : (s : Stored) (m : Machine) (n : NewTable) (replaced : Option 
     (Some (drops replaced ++ MakesTable n.name n.columns (retention_of n) ∷ [])))
 unfolding changed
 works_table_made s m n None is reached passes filled (nothing free) none =
-    works_made s m (CreatedTable n.name) (MakesTable n.name n.columns (retention_of n) ∷ []) reached (λ id. (tt, tt))
-    (
+    works_made s m (CreatedTable n.name) (MakesTable n.name n.columns (retention_of n) ∷ []) reached (λ id. (tt, tt)) (
       table_applies s.objects m.state n passes filled
           (omega (arith, passes.few, live_is s m reached, one_is)) free,
       (tt, tt),
@@ -187,8 +179,7 @@ works_table_made s m n None is reached passes filled (nothing free) none =
     one_is = ap one_if is
 works_table_made s m n (Some id) is reached passes filled (one o there live free) none =
     works_defined s m (CreatedTable n.name) (DropsObject id ∷ MakesTable n.name n.columns (retention_of n) ∷ []) id reached
-    none (refl, (tt, tt))
-    (
+    none (refl, (tt, tt)) (
       found_some (λ o. IsTrue o.is_live) s.objects id o there live,
       (
         tt,
@@ -302,8 +293,7 @@ passes_stream s wrong n none =
     let names = passed wrong _ none in
     let ids = passed (refused_past limits.ObjectIds (length s.objects + 1)) _ names.1 in
     let live = passed (refused_past limits.Objects (live_count s.objects + 1 - 0)) _ ids.1 in
-    let long = passed (refused_if (is_long n.name) (OverLimit limits.Name)) _ live.1 in
-    (
+    let long = passed (refused_if (is_long n.name) (OverLimit limits.Name)) _ live.1 in (
       names.0,
       (
         within limits.Objects (live_count s.objects + 1 - 0) live.0,
@@ -324,8 +314,7 @@ works_stream s m session name table is_append_only reached some =
     works_unless s m (stream_refusal m.state (option_map refusal_of (first_failing b)) b.value) _ reached (λ passes.
     let tests = passes_stream m.state (option_map refusal_of (first_failing b)) b.value passes in
     let found = nothing_wrong b tests.0 in
-    works_made s m (CreatedStream name) (MakesStream name b.value.table is_append_only ∷ []) reached (λ id. (tt, tt))
-    (
+    works_made s m (CreatedStream name) (MakesStream name b.value.table is_append_only ∷ []) reached (λ id. (tt, tt)) (
       record {
         object = record {
           next_id = refl;

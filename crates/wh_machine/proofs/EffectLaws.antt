@@ -1,10 +1,9 @@
 -- The rows of effects fit the columns of their target.
 --     OutcomeFits        what an effect changes and adds
 --     inserts_fit, updates_fit, merges_fit     of each statement
-use Rattle.std.proofs.Common.{◌≡◌, ℕ, zero, suc, ◌+◌, Bool, true, false, cond, List, [], ◌∷◌, ◌++◌, map}
-use Rattle.std.proofs.Common.{length, Option, Some, None, option_map, refl, sym, ap, subst, ◌∙◌, arith, IsTrue}
-use Rattle.std.specs.Prelude.{◌||◌, not, if◌then◌else◌, is_some}
-use Rattle.std.specs.List.{AllByRecursion, filter}
+use Rattle.std.proofs.Common.{◌≡◌, ℕ, Bool, true, false, cond, List, [], ◌∷◌, ◌++◌, map}
+use Rattle.std.proofs.Common.{Option, Some, None, option_map, refl, subst, IsTrue}
+use Rattle.std.specs.List.{AllByRecursion}
 use Rattle.wh_value.specs.Value.{Value, Row}
 use Rattle.wh_value.specs.Column as table
 use Rattle.wh_value.specs.Column.{ColumnType}
@@ -19,7 +18,7 @@ use Rattle.wh_effect.specs.Effect.{condition_of, matched_clauses, unmatched_clau
 use Rattle.wh_effect.specs.Effect.{is_selecting, selecting, target_rows, is_alone, unmatched, turn_by, merged_turn}
 use Rattle.wh_effect.specs.Effect.{inserted_by, with_inserted, inserted, with_added, unless_several, first_several}
 use Rattle.wh_effect.specs.Effect.{is_merge_defined, merged_by, merged}
-use Rattle.wh_state.proofs.AllLaws.{all_append, all_filter, all_map}
+use Rattle.wh_state.proofs.AllLaws.{all_append, all_filter}
 use Rattle.wh_machine.proofs.ValueTypes.{FitsTypes, CellsFit, type_at, cells_fit, fits_append, head_type, types_of, fits_row}
 use Rattle.wh_machine.proofs.QueryRows.{values_fit}
 use Rattle.wh_machine.proofs.GroupedLaws.{AllUnder, all_under_fits}

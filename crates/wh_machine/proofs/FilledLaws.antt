@@ -1,14 +1,14 @@
--- The new names and columns of a script are not empty.
+-- The new names and columns of a script are not empty, and its changes stand in its text.
 --     TokenFilled, tokens_filled      no word and no quoted name is empty
 --     name_filled, columns_filled     names and columns of tokens
 --     script_filled                   the events of a script
-use Rattle.std.proofs.Common.{◌≡◌, ℕ, ◌<◌, List, [], ◌∷◌, length, map, refl, subst, sym, arith, Option, Some, None}
+use Rattle.std.proofs.Common.{ℕ, ◌<◌, List, [], ◌∷◌, length, map, refl, subst, sym, arith}
 use Rattle.std.specs.Prelude.{◌≢◌}
 use Rattle.std.specs.List.{AllByRecursion}
 use Rattle.wh_value.specs.View.{column_of}
 use Rattle.wh_value.specs.declared.column.Column.{Column}
 use Rattle.wh_ast.specs.declared.statement.Statement.{Statement}
-use Rattle.wh_grammar.specs.Token.{Token, Word, Quoted, TextToken, NumberToken, SignToken, Placed}
+use Rattle.wh_grammar.specs.Token.{Token, Word, Quoted, Placed}
 use Rattle.wh_grammar.specs.Lexing as lexing
 use Rattle.wh_grammar.specs.Lexing.{IsBare, IsEnclosed, IsSign, IsToken, bare, enclosed, signed, HasTokens, end, gap, token}
 use Rattle.wh_grammar.specs.Name as names
@@ -23,7 +23,6 @@ use Rattle.wh_grammar.specs.Spelled.{spells_none, spells}
 use Rattle.wh_grammar.specs.Script.{Line, lines_of}
 use Rattle.wh_machine.specs.Step.{Event}
 use Rattle.wh_machine.specs.Script.{HasEvents, ends, sets_session, ticks, ticks_at, commands, IsScript}
-use Rattle.wh_machine.proofs.DefineLaws.{IsFilledTable}
 use Rattle.wh_machine.proofs.ReachedLaws.{IsFilled, IsFilledRequest, IsFilledEvent}
 
 -- ---- tokens
@@ -123,7 +122,7 @@ transaction_filled ts s (spelled.rollback may) = tt
 plain_filled : (ts : List Token) (s : Statement) → IsPlain ts s → AllFilled ts → IsFilled s
 plain_filled ts s (spelled.select is order) filled = tt
 plain_filled ts s (spelled.has_data is) filled = tt
-plain_filled ts s (spelled.dml is) filled = tt
+plain_filled ts s (spelled.dml is) filled = (ts, is)
 plain_filled ts s (of_table is) filled = table_filled ts s is filled
 plain_filled ts s (of_stream is) filled = stream_filled ts s is filled
 plain_filled ts s (of_task is) filled = task_filled ts s is

@@ -2,12 +2,11 @@
 --     row_under, changed_under     new rows and changed ones have the types of their columns
 --     places_ok                    the places of columns that are named
 --     set_fits, rows_fit_places    values that nothing is found wrong with
-use Rattle.std.proofs.Common.{◌≡◌, ℕ, zero, suc, ◌+◌, ◌<◌, ◌≤◌, Bool, true, false, cond, List, [], ◌∷◌, ◌++◌, map}
-use Rattle.std.proofs.Common.{length, Option, Some, None, refl, sym, ap, subst, ◌∙◌, arith}
-use Rattle.std.specs.Prelude.{slice_get, ◌||◌, not, nat_eq, if◌then◌else◌}
+use Rattle.std.proofs.Common.{◌≡◌, ℕ, suc, Bool, true, false, cond, List, [], ◌∷◌, ◌++◌, map}
+use Rattle.std.proofs.Common.{Option, Some, None, refl, sym, ap, subst, ◌∙◌, arith}
+use Rattle.std.specs.Prelude.{slice_get, ◌||◌, not}
 use Rattle.std.specs.List.{AllByRecursion}
 use Rattle.std.proofs.lemmas.Bool.Decides.{nat_tests}
-use Rattle.std.proofs.lemmas.List.{map-append}
 use Rattle.wh_value.specs.Value.{Null}
 use Rattle.wh_value.specs.Column as table
 use Rattle.wh_value.specs.Column.{ColumnType, NumberType, VarcharType, BooleanType}
@@ -15,16 +14,15 @@ use Rattle.wh_ast.specs.declared.expr.Expr.{Expr}
 use Rattle.wh_ast.specs.declared.dml.Assignment.{Assignment}
 use Rattle.wh_meaning.specs.Scalar.{Scalar, Const, Column}
 use Rattle.wh_naming.specs.Findings.{Name}
-use Rattle.wh_naming.specs.Scope.{Entry, Place, column_at}
-use Rattle.wh_naming.specs.Typing.{Typed, alike, same_type}
-use Rattle.wh_naming.specs.Select.{Output, column_of, plain}
+use Rattle.wh_naming.specs.Scope.{Entry, Place}
+use Rattle.wh_naming.specs.Typing.{alike}
+use Rattle.wh_naming.specs.Select.{plain}
 use Rattle.wh_naming.specs.Changes as changes
 use Rattle.wh_naming.specs.Changes.{places_from, place_in, given_places, place_type, fit_places, is_at, given_at, row_from}
 use Rattle.wh_naming.specs.Changes.{changed_from, typed_all, new_row, NewRow, changed_row, set_findings, outputs_from}
 use Rattle.wh_machine.proofs.ValueTypes.{type_or, type_at, head_type, types_of}
 use Rattle.wh_machine.proofs.TypedLaws.{Under, entry_types, typed_under, column_type_at, column_got, get_front}
 use Rattle.wh_machine.proofs.GroupedLaws.{AllUnder}
-use Rattle.wh_machine.proofs.ShownLaws.{output_types}
 use Rattle.wh_machine.proofs.BoundLaws.{same_types}
 
 pub neither : (a b : Bool) → (a || b) ≡ false → (a ≡ false) × (b ≡ false)
@@ -140,8 +138,8 @@ place_wide columns more name = by_found (place_in columns name) refl
     by_found None is = tt
     by_found (Some p) is =
         let got : slice_get (types_of columns) p.place ≡ Some (Some p.column_type) =
-            ap (λ (ts : List (Option ColumnType)). slice_get ts p.place) (sym (entry_one [] columns))
-            ∙ column_got None name ((record { name = []; columns = columns }) ∷ []) p is in
+        ap (λ (ts : List (Option ColumnType)). slice_get ts p.place) (sym (entry_one [] columns))
+        ∙ column_got None name ((record { name = []; columns = columns }) ∷ []) p is in
         ap type_or (get_front (types_of columns) more p.place (Some p.column_type) got)
 
 pub stand_ok : (all : List (Option ColumnType)) (place : ℕ) (columns : List table.Column) → Stand all place columns
@@ -201,11 +199,11 @@ parts_fit columns entries [] well = refl
 parts_fit columns entries (part ∷ parts) well =
     let both = neither _ (set_findings columns entries parts).is_mistyped well in
     let value = neither _ ((plain entries part.value).findings.is_mistyped
-        || not (alike (place_type (place_in columns part.column)) (plain entries part.value).type_of)) both.0 in
+    || not (alike (place_type (place_in columns part.column)) (plain entries part.value).type_of)) both.0 in
     let like = neither (plain entries part.value).findings.is_mistyped
-        (not (alike (place_type (place_in columns part.column)) (plain entries part.value).type_of)) value.1 in
+    (not (alike (place_type (place_in columns part.column)) (plain entries part.value).type_of)) value.1 in
     let here : alike (place_type (place_in columns part.column)) (plain entries part.value).type_of ≡ true =
-        true_of (alike (place_type (place_in columns part.column)) (plain entries part.value).type_of) like.1 in
+    true_of (alike (place_type (place_in columns part.column)) (plain entries part.value).type_of) like.1 in
     rw here (parts_fit columns entries parts both.1)
 
 pub parts_ok : (columns : List table.Column) (more : List (Option ColumnType)) (parts : List Assignment)

@@ -1,8 +1,8 @@
 -- What holds of the values of maps by numbers.
 --     entries_hold, get_holds     of what stands at each number, and of each entry
 --     rows_hold                   of rows that are put in
-use Rattle.std.proofs.Common.{◌≡◌, ℕ, ◌+◌, ◌<◌, ◌≤◌, Bool, true, false, cond, List, [], ◌∷◌, Option, Some, None, T}
-use Rattle.std.proofs.Common.{refl, sym, ap, subst, ◌∙◌, arith}
+use Rattle.std.proofs.Common.{◌≡◌, ℕ, ◌<◌, Bool, true, false, cond, List, [], ◌∷◌, Some, T}
+use Rattle.std.proofs.Common.{refl, sym, subst, ◌∙◌, arith}
 use Rattle.std.specs.List.{AllByRecursion}
 use Rattle.std.specs.FinMap.{FinMap, empty, get, insert, entries, entries_sorted, get-entries, get-empty}
 use Rattle.std.specs.FinMap.Entries.{find, is_sorted, below_all}
@@ -47,8 +47,7 @@ module _ {X : Type 0} where
   entries_found (e ∷ es) h =
       let parts = both_hold (below_all nat_cmp e.0 es) (is_sorted nat_cmp es) h in
       let self : eq_by_cmp nat_cmp e.0 e.0 ≡ true = grind (arith, nat_tests) in
-      let first : find nat_cmp e.0 (e ∷ es) ≡ Some e.1 = rw self refl in
-      (
+      let first : find nat_cmp e.0 (e ∷ es) ≡ Some e.1 = rw self refl in (
         first,
         all_both (λ f. e.0 < f.0) (λ f. find nat_cmp f.0 es ≡ Some f.1) (λ f. find nat_cmp f.0 (e ∷ es) ≡ Some f.1)
             (λ f less found. found_later f.0 e es less ∙ found) es (above e.0 es parts.0) (entries_found es parts.1),

@@ -3,16 +3,16 @@
 --     regrouped_under     an item over groups has the type that it had
 use Rattle.std.proofs.Common.{◌≡◌, ℕ, zero, suc, ◌+◌, ◌-◌, ◌<◌, ◌≤◌, Bool, true, false, cond, List, [], ◌∷◌, ◌++◌, map}
 use Rattle.std.proofs.Common.{length, Option, Some, None, option_map, refl, sym, ap, subst, ◌∙◌, arith}
-use Rattle.std.specs.Prelude.{slice_get, not, nat_lt, unwrap_or}
+use Rattle.std.specs.Prelude.{slice_get, not, nat_lt}
 use Rattle.std.specs.List.{prefix_len, position}
 use Rattle.std.proofs.lemmas.Bool.Decides.{nat_tests}
-use Rattle.wh_value.specs.Value.{Value, Null, Row}
+use Rattle.wh_value.specs.Value.{Row}
 use Rattle.wh_value.specs.Column.{ColumnType, NumberType}
-use Rattle.wh_meaning.specs.Scalar.{Scalar, Const, Column, Neg, Add, Sub, Mul, Compare, And, Or, Not, IsNull, of_two}
+use Rattle.wh_meaning.specs.Scalar.{Scalar, Const, Column, Neg, Add, Sub, Mul, Compare, And, Or, Not, IsNull}
 use Rattle.wh_meaning.specs.Query.{Call}
-use Rattle.wh_naming.specs.Grouping.{is_same, key_or, at_key, call_column, both, regrouped}
+use Rattle.wh_naming.specs.Grouping.{is_same, key_or, call_column, both, regrouped}
 use Rattle.wh_naming.specs.Select.{scalar_or, regrouped_all}
-use Rattle.wh_machine.proofs.ValueTypes.{OfType, FitsTypes, type_or, type_at, head_type}
+use Rattle.wh_machine.proofs.ValueTypes.{FitsTypes, type_or, type_at, head_type}
 use Rattle.wh_machine.proofs.TypedLaws.{Under, under_fits, under_same, get_behind}
 use Rattle.wh_machine.proofs.QueryRows.{number_types}
 use Rattle.wh_machine.proofs.SameHeads.{same_head}
@@ -119,10 +119,10 @@ module _ (types : ℕ → Option ColumnType) (width : ℕ)
   key_under s place is =
       let found = position_found (is_same s) keys place is in
       let at : slice_get group_types place ≡ Some (head_type types found.0) =
-          front_get (map (head_type types) keys) (number_types calls) place (head_type types found.0)
-          (map_get_some (head_type types) keys place found.0 found.1.0) in
+      front_get (map (head_type types) keys) (number_types calls) place (head_type types found.0)
+      (map_get_some (head_type types) keys place found.0 found.1.0) in
       let same : type_at group_types place ≡ head_type types s =
-          ap type_or at ∙ sym (same_head types s found.0 found.1.1) in
+      ap type_or at ∙ sym (same_head types s found.0 found.1.1) in
       subst (λ (t : Option ColumnType). Under t (head_type types s)) (sym same) (under_same (head_type types s))
 
   key_or_under : (s : Scalar) (found : Option ℕ) → position (is_same s) keys ≡ found → (inner : Option Scalar)
@@ -146,9 +146,9 @@ module _ (types : ℕ → Option ColumnType) (width : ℕ)
           let behind : width ≤ place = grind (arith, nat_tests) in
           let here : types place ≡ Some NumberType = beyond place (place - width) (omega (arith, behind)) in
           let there : type_at group_types (length keys + (place - width)) ≡ Some NumberType =
-              ap type_or (get_behind (map (head_type types) keys) (number_types calls) (length keys + (place - width))
-              (place - width) (omega (arith, mapped_length (head_type types) keys)))
-              ∙ numbers_only calls (place - width) in
+          ap type_or (get_behind (map (head_type types) keys) (number_types calls) (length keys + (place - width))
+          (place - width) (omega (arith, mapped_length (head_type types) keys)))
+          ∙ numbers_only calls (place - width) in
           subst (λ (x : Scalar). GroupedAs (Column place) x) same (subst (λ (t : Option ColumnType). Under t (types place))
           (sym there) (sym here))
 

@@ -40,3 +40,5 @@ pub mod GivenLaws
 pub mod EffectLaws
 pub mod TargetLaws
 pub mod SeenRows
+pub mod ReadRows
+pub mod ChangeLaws

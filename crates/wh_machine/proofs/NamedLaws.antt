@@ -2,20 +2,17 @@
 --     none_named          a name that no live object has is free
 --     IsNamed, named_is   the object of a name
 --     free_behind         the name is free once that object is dropped
-use Rattle.std.proofs.Common.{◌≡◌, ℕ, zero, suc, ◌+◌, ◌<◌, ◌≤◌, Bool, true, false, cond, List, []}
+use Rattle.std.proofs.Common.{◌≡◌, ℕ, suc, ◌+◌, ◌≤◌, Bool, true, false, cond, List, []}
 use Rattle.std.proofs.Common.{◌∷◌, ◌++◌, length, map, Option, Some, None, option_map, refl, sym, ap, subst, ◌∙◌, arith}
-use Rattle.std.proofs.Common.{IsTrue}
 use Rattle.std.specs.Prelude.{not, ◌&&◌, bytes_eq, IsNone, nat_lt, slice_get, slice_set}
 use Rattle.std.specs.List.{AllByRecursion, prefix_len}
 use Rattle.std.proofs.lemmas.Bool.Decides.{nat_tests}
 use Rattle.std.proofs.lemmas.Slice.Eq.{bytes_eq-Decides}
-use Rattle.wh_value.specs.Column.{Column}
 use Rattle.wh_naming.specs.Scope.{Named, named}
 use Rattle.wh_state.specs.State.{at_id, put_at, changed_at, columns_in, dropped, id_of, is_named}
 use Rattle.wh_state.specs.State.{TableKind, StreamKind}
 use Rattle.wh_state.specs.Stored.{StoredKind, StoredObject}
 use Rattle.wh_state.specs.Stored.{object_meant, kind_meant}
-use Rattle.wh_state.proofs.AllLaws.{all_map}
 use Rattle.wh_state.proofs.FirmLaws.{HasNot, NamesApart}
 use Rattle.wh_machine.specs.Names.{object_kind, names_from, named_object}
 
@@ -105,8 +102,11 @@ named_from from (o ∷ os) name found is = by_live o.is_live refl is (named_from
       live = live;
       kind = ap (λ (n : Named). n.kind) (sym found_is);
       columns = ap (λ (n : Named). n.columns) (sym found_is) ∙ columns_told o.kind;
-      free = λ apart. (refl, subst (λ (n : List ℕ). AllByRecursion (HasNot n) os)
-          ((bytes_eq-Decides o.name name).0 same) (apart.0 live));
+      free = λ apart. (
+        refl,
+        subst (λ (n : List ℕ). AllByRecursion (HasNot n) os)
+            ((bytes_eq-Decides o.name name).0 same) (apart.0 live),
+      );
     }
 
     by_name : (same : Bool) → bytes_eq o.name name ≡ same → o.is_live ≡ true

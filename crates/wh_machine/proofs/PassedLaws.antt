@@ -2,8 +2,8 @@
 --     passed, none_if, within         tests that none refuses
 --     nothing_wrong, nothing_fails    no name and no type is found wrong
 --     free_taken, object_found        a created name that isn't taken, and the object of a name
-use Rattle.std.proofs.Common.{◌≡◌, ℕ, ◌+◌, ◌<◌, ◌≤◌, Bool, true, false, List, []}
-use Rattle.std.proofs.Common.{◌∷◌, length, Option, Some, None, option_map, refl, sym, ap, subst, ◌∙◌, arith}
+use Rattle.std.proofs.Common.{◌≡◌, ℕ, ◌≤◌, Bool, true, false, List}
+use Rattle.std.proofs.Common.{◌∷◌, length, Option, Some, None, option_map, refl, subst, arith}
 use Rattle.std.specs.Prelude.{◌||◌, is_some, nat_lt}
 use Rattle.std.specs.List.{AllByRecursion}
 use Rattle.std.proofs.lemmas.Bool.Decides.{nat_tests}

@@ -1,20 +1,20 @@
 -- The types of the rows that queries give.
 --     values_fit                          the values of scalars on a row
 --     rows_project, rows_filter, rows_join, rows_union, rows_group     of each operator
-use Rattle.std.proofs.Common.{◌≡◌, ℕ, zero, suc, ◌+◌, Bool, true, false, cond, List, [], ◌∷◌, ◌++◌, map, length}
-use Rattle.std.proofs.Common.{Option, Some, None, option_map, refl, sym, ap, subst, ◌∙◌}
+use Rattle.std.proofs.Common.{◌≡◌, ℕ, zero, suc, Bool, true, false, cond, List, [], ◌∷◌, ◌++◌, map}
+use Rattle.std.proofs.Common.{Option, Some, None, option_map, refl, subst}
 use Rattle.std.specs.Prelude.{pos, ℤ}
 use Rattle.std.specs.List.{AllByRecursion}
 use Rattle.wh_value.specs.Value.{Value, Null, Row}
 use Rattle.wh_value.specs.Column.{ColumnType, NumberType}
-use Rattle.wh_meaning.specs.Scalar.{Scalar, val, is_true, ranged, of_one, of_two}
-use Rattle.wh_meaning.specs.Bag.{Bag, no_rows, one_row, beside}
-use Rattle.wh_meaning.specs.Query.{Call, Sum, CountRows, Count, Query, Scan, Filter, Project, Join, UnionAll, Group, Instance}
+use Rattle.wh_meaning.specs.Scalar.{Scalar, val, is_true, of_one, of_two}
+use Rattle.wh_meaning.specs.Bag.{Bag, no_rows, one_row}
+use Rattle.wh_meaning.specs.Query.{Call, Sum, CountRows, Count, Query, Filter, Project, Join, UnionAll, Group, Instance}
 use Rattle.wh_meaning.specs.Query.{if_true, kept_by, with_value, values_on, image_by, filtered, projected, paired_with}
 use Rattle.wh_meaning.specs.Query.{joined, Total, total_of, rows_in, sum_value, call_over, calls_over, with_key, group_row}
 use Rattle.wh_meaning.specs.Query.{group_rows, distinct, grouped, eval}
-use Rattle.wh_machine.proofs.BagRows.{AllRows, GivesAll, all_none, all_one, all_plus, beside_all, all_gathered, all_keys}
-use Rattle.wh_machine.proofs.ValueTypes.{OfType, FitsTypes, CellsFit, type_at, cells_fit, fits_append, head_type, val_fits}
+use Rattle.wh_machine.proofs.BagRows.{AllRows, GivesAll, all_none, all_one, beside_all, all_gathered, all_keys}
+use Rattle.wh_machine.proofs.ValueTypes.{FitsTypes, CellsFit, type_at, cells_fit, fits_append, head_type, val_fits}
 use Rattle.wh_machine.proofs.ValueTypes.{GivesType, ranged_gives, some_gives}
 
 -- ---- values of scalars

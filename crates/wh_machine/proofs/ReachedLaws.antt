@@ -1,27 +1,21 @@
--- The commits of events apply, where what changes come to fits.
---     ChangesFit                  what a change comes to fits, whatever machine was reached
---     IsFilled, IsFilledEvent     new names and columns are not empty
---     reached_opened, reached_step     machines and their files
---     made_applies                the commit of an event applies
---     made_leads                  those of several apply one after the other
-use Rattle.std.proofs.Common.{◌≡◌, ℕ, zero, suc, ◌+◌, ◌<◌, ◌≤◌, Bool, true, false, cond, List, []}
-use Rattle.std.proofs.Common.{◌∷◌, ◌++◌, length, map, Option, Some, None, option_map, refl, sym, ap, subst, ◌∙◌, arith}
-use Rattle.std.specs.Prelude.{nat_lt, replicate}
-use Rattle.std.specs.List.{AllByRecursion}
-use Rattle.std.proofs.lemmas.Bool.Decides.{nat_tests}
+-- What each event comes to works over the file that its machine was reached from.
+--     IsFilled, IsFilledEvent     new names and columns are not empty, and changes stand in a text
+--     works_event                 of each event
+use Rattle.std.proofs.Common.{◌≡◌, ℕ, suc, ◌<◌, false, List, []}
+use Rattle.std.proofs.Common.{◌∷◌, length, map, Option, Some, None, option_map, refl, subst}
 use Rattle.wh_value.specs.View.{column_of}
-use Rattle.wh_value.specs.Limit.{bound}
 use Rattle.wh_value.specs.declared.limit.Limit.TheVariants as limits
-use Rattle.wh_ast.specs.declared.dml.Dml.{Dml}
 use Rattle.wh_ast.specs.declared.statement.Statement.{Statement}
 use Rattle.wh_ast.specs.declared.statement.Statement.TheVariants as st
-use Rattle.wh_grammar.specs.Spelled.{Request, TooLong, Unreadable, Asked}
+use Rattle.wh_grammar.specs.Token.{Token}
+use Rattle.wh_grammar.specs.Changing.{IsDml}
+use Rattle.wh_grammar.specs.Spelled.{Request, TooLong, Unreadable, Asked, most_nested}
 use Rattle.wh_meaning.specs.Bag.{Bag}
 use Rattle.wh_meaning.specs.Query.{eval}
 use Rattle.wh_naming.specs.Scope.{TableObject, StreamObject}
-use Rattle.wh_naming.specs.Changes.{BoundChange, bound_change}
+use Rattle.wh_naming.specs.Changes.{bound_change}
 use Rattle.wh_naming.specs.Select.{BoundSelect, bound_select}
-use Rattle.wh_ddl_naming.specs.Meant.{Meant, first_failing}
+use Rattle.wh_ddl_naming.specs.Meant.{first_failing}
 use Rattle.wh_ddl_naming.specs.Objects.{object_of}
 use Rattle.wh_ddl_naming.specs.Statements as ddl
 use Rattle.wh_ddl_naming.specs.Statements.{Bound}
@@ -29,44 +23,34 @@ use Rattle.wh_reply.specs.Reply.{Refusal, Reply, Unsupported, SyntaxError, NoSuc
 use Rattle.wh_reply.specs.Reply.{NoTransaction, Begun, RolledBack, Listing, HasData, Idle}
 use Rattle.wh_meaning.specs.Listing.{listed}
 use Rattle.wh_net.specs.Stream.{rows_shown, has_rows}
-use Rattle.wh_state.specs.State.{State, Stream, stamped}
+use Rattle.wh_state.specs.State.{Stream}
 use Rattle.wh_state.specs.Objects.{stream_at}
-use Rattle.wh_state.specs.Stored.{StoredObject, Stored, meant, Means}
-use Rattle.wh_state.specs.Commit.{Commit, Applies, applied, Leads}
-use Rattle.wh_state.specs.Written.{written, commit_for, kept_after}
-use Rattle.wh_state.specs.File.{Keeps}
-use Rattle.wh_state.specs.Sound.{Sound}
-use Rattle.wh_state.specs.Orderly.{IsOrderlyStored}
-use Rattle.wh_state.proofs.AllLaws.{all_map, all_with}
-use Rattle.wh_state.proofs.FirmLaws.{IsFirm}
-use Rattle.wh_state.proofs.WrittenLaws.{AllGo, go_apply, go_firm}
+use Rattle.wh_state.specs.Stored.{StoredObject, Stored}
+use Rattle.wh_state.proofs.AllLaws.{all_with}
 use Rattle.wh_machine.specs.Transaction.{Transaction, begun, acts_of}
-use Rattle.wh_machine.specs.Sessions.{Sessions, transaction_in, number_in, with_ended, with_begun}
+use Rattle.wh_machine.specs.Sessions.{Sessions, transaction_in, with_ended, with_begun}
 use Rattle.wh_machine.specs.Names.{names_from, names_in, refusal_of}
-use Rattle.wh_machine.specs.Outcome.{Machine, Outcome, Refuses, Does, opened, settled, acts_in, answers}
+use Rattle.wh_machine.specs.Outcome.{Machine, Does, answers}
 use Rattle.wh_machine.specs.Queries.{listing_of}
 use Rattle.wh_machine.specs.Reading.{instance_read, reading_refusal, asked, has_data, start_in}
-use Rattle.wh_machine.specs.Tables.{create_table, drop_table}
-use Rattle.wh_machine.specs.Streams.{create_stream, drop_stream}
+use Rattle.wh_machine.specs.Tables.{drop_table}
+use Rattle.wh_machine.specs.Streams.{drop_stream}
 use Rattle.wh_machine.specs.Statements.{begin, commit, commit_of, commit_reply, rollback, rollback_of, changes_rows}
 use Rattle.wh_machine.specs.Statements.{bound_changed, selects, select_refusal, carried_out, carried_out_as, meant_in}
-use Rattle.wh_machine.specs.Step.{Event, Command, Tick, is_session, commanded, outcome_of, reading_of, stamp_of, at_stamp}
-use Rattle.wh_machine.specs.Step.{has_stamp, decided, step}
-use Rattle.wh_machine.specs.Made.{made, all_made, kept_after_all}
-use Rattle.wh_machine.specs.Sound.{SoundMachine}
-use Rattle.wh_machine.proofs.StandLaws.{TransactionStands, StandsOn, AllStandOn}
-use Rattle.wh_machine.proofs.WorksLaws.{IsReached, objects_meant, CommitGoes, objects_after, Works, works_refuses}
+use Rattle.wh_machine.specs.Step.{Event, Command, Tick, is_session, commanded, outcome_of}
+use Rattle.wh_machine.proofs.StandLaws.{StandsOn, AllStandOn}
+use Rattle.wh_machine.proofs.WorksLaws.{IsReached, Works, works_refuses}
 use Rattle.wh_machine.proofs.WorksLaws.{works_unless, works_either, works_does, works_recorded}
 use Rattle.wh_machine.proofs.DefineLaws.{IsFilledTable, works_table, works_stream, works_drop}
-use Rattle.wh_machine.proofs.StageLaws.{begun_stands, one_stands, ChangedFits, works_changes}
-use Rattle.wh_machine.proofs.SoundLaws.{sound_opened, sound_ready, sound_step}
-use Rattle.wh_machine.proofs.StepLaws.{ready, decided_meant, step_at, acts_at, no_acts, stamp_refused}
+use Rattle.wh_machine.proofs.StageLaws.{begun_stands, one_stands, works_changes}
+use Rattle.wh_machine.proofs.ChangeLaws.{change_fits}
 
 -- ---- what is asked of a statement
 
 abbrev pub IsFilled : Statement → Type 0
 IsFilled (st.CreateTable t) = IsFilledTable t.name (map column_of t.columns)
 IsFilled (st.CreateStream name table is_append_only) = 0 < length name
+IsFilled (st.Dml x) = (ts : List Token) × IsDml most_nested ts x []
 IsFilled _ = Unit {0}
 
 abbrev pub IsFilledRequest : Request → Type 0
@@ -76,11 +60,6 @@ IsFilledRequest _ = Unit {0}
 abbrev pub IsFilledEvent : Event → Type 0
 IsFilledEvent (Command reading session request) = IsFilledRequest request
 IsFilledEvent (Tick reading) = Unit {0}
-
--- of a change in any machine that was reached
-abbrev pub ChangesFit : Type 0
-ChangesFit = (s : Stored) (m : Machine) (session : ℕ) (statement : Dml) → IsReached s m
-    → ChangedFits s.objects (bound_changed m session (bound_change (names_from 1 m.state.objects) statement))
 
 -- ---- statements that make no commit
 
@@ -139,54 +118,52 @@ works_data s m session wrong id reached =
 
 -- ---- each statement
 
-module _ (fit : ChangesFit) where
-  works_statement : (s : Stored) (m : Machine) (session : ℕ) (statement : Statement) → IsFilled statement → IsReached s m
-      → Works s m (carried_out_as m session (meant_in m statement))
-  unfolding ddl.bound carried_out commit rollback changes_rows drop_table drop_stream
-  works_statement s m session (st.Select q sorts) filled reached =
-      works_select s m session (bound_select (names_from 1 m.state.objects) q sorts) reached
-  works_statement s m session (st.HasData stream) filled reached =
-      works_data s m session (option_map refusal_of (first_failing (object_of StreamObject (names_in m.state.objects) stream)))
-      (object_of StreamObject (names_in m.state.objects) stream).value reached
-  works_statement s m session (st.Dml statement) filled reached =
-      works_changes s m session (transaction_in m.sessions session) refl
-      (bound_changed m session (bound_change (names_from 1 m.state.objects) statement)) reached
-      (fit s m session statement reached)
-  works_statement s m session (st.CreateTable t) filled reached = works_table s m session t reached filled
-  works_statement s m session (st.CreateStream name table is_append_only) filled reached =
-      works_stream s m session name table is_append_only reached filled
-  works_statement s m session (st.DropTable name) filled reached =
-      works_drop s m session TableObject name _ reached
-  works_statement s m session (st.DropStream name) filled reached =
-      works_drop s m session StreamObject name _ reached
-  works_statement s m session st.Begin filled reached = works_begin s m session reached
-  works_statement s m session st.Commit filled reached =
-      works_commit s m session (transaction_in m.sessions session) refl reached
-  works_statement s m session st.Rollback filled reached =
-      works_rollback s m session (transaction_in m.sessions session) reached
-  works_statement s m session (st.CreateTask t) filled reached = works_refuses s m Unsupported reached
-  works_statement s m session (st.ResumeTask name) filled reached = works_refuses s m Unsupported reached
-  works_statement s m session (st.SuspendTask name) filled reached = works_refuses s m Unsupported reached
-  works_statement s m session (st.ExecuteTask name) filled reached = works_refuses s m Unsupported reached
-  works_statement s m session (st.CreateDynamicTable t) filled reached = works_refuses s m Unsupported reached
-  works_statement s m session (st.ResumeDynamicTable name) filled reached = works_refuses s m Unsupported reached
-  works_statement s m session (st.SuspendDynamicTable name) filled reached = works_refuses s m Unsupported reached
-  works_statement s m session (st.RefreshDynamicTable name) filled reached = works_refuses s m Unsupported reached
-  works_statement s m session (st.SetTargetLag name lag) filled reached = works_refuses s m Unsupported reached
-  works_statement s m session (st.DropTask name) filled reached = works_refuses s m Unsupported reached
-  works_statement s m session (st.DropDynamicTable name) filled reached = works_refuses s m Unsupported reached
+works_statement : (s : Stored) (m : Machine) (session : ℕ) (statement : Statement) → IsFilled statement → IsReached s m
+    → Works s m (carried_out_as m session (meant_in m statement))
+unfolding ddl.bound carried_out commit rollback changes_rows drop_table drop_stream
+works_statement s m session (st.Select q sorts) filled reached =
+    works_select s m session (bound_select (names_from 1 m.state.objects) q sorts) reached
+works_statement s m session (st.HasData stream) filled reached =
+    works_data s m session (option_map refusal_of (first_failing (object_of StreamObject (names_in m.state.objects) stream)))
+    (object_of StreamObject (names_in m.state.objects) stream).value reached
+works_statement s m session (st.Dml statement) filled reached =
+    works_changes s m session (transaction_in m.sessions session) refl
+    (bound_changed m session (bound_change (names_from 1 m.state.objects) statement)) reached
+    (change_fits s m session reached statement filled.1)
+works_statement s m session (st.CreateTable t) filled reached = works_table s m session t reached filled
+works_statement s m session (st.CreateStream name table is_append_only) filled reached =
+    works_stream s m session name table is_append_only reached filled
+works_statement s m session (st.DropTable name) filled reached =
+    works_drop s m session TableObject name _ reached
+works_statement s m session (st.DropStream name) filled reached =
+    works_drop s m session StreamObject name _ reached
+works_statement s m session st.Begin filled reached = works_begin s m session reached
+works_statement s m session st.Commit filled reached =
+    works_commit s m session (transaction_in m.sessions session) refl reached
+works_statement s m session st.Rollback filled reached =
+    works_rollback s m session (transaction_in m.sessions session) reached
+works_statement s m session (st.CreateTask t) filled reached = works_refuses s m Unsupported reached
+works_statement s m session (st.ResumeTask name) filled reached = works_refuses s m Unsupported reached
+works_statement s m session (st.SuspendTask name) filled reached = works_refuses s m Unsupported reached
+works_statement s m session (st.ExecuteTask name) filled reached = works_refuses s m Unsupported reached
+works_statement s m session (st.CreateDynamicTable t) filled reached = works_refuses s m Unsupported reached
+works_statement s m session (st.ResumeDynamicTable name) filled reached = works_refuses s m Unsupported reached
+works_statement s m session (st.SuspendDynamicTable name) filled reached = works_refuses s m Unsupported reached
+works_statement s m session (st.RefreshDynamicTable name) filled reached = works_refuses s m Unsupported reached
+works_statement s m session (st.SetTargetLag name lag) filled reached = works_refuses s m Unsupported reached
+works_statement s m session (st.DropTask name) filled reached = works_refuses s m Unsupported reached
+works_statement s m session (st.DropDynamicTable name) filled reached = works_refuses s m Unsupported reached
 
-  works_command : (s : Stored) (m : Machine) (session : ℕ) (request : Request) → IsFilledRequest request → IsReached s m
-      → Works s m (commanded m session request)
-  unfolding commanded
-  works_command s m session TooLong filled reached = works_refuses s m (OverLimit limits.Statement) reached
-  works_command s m session Unreadable filled reached = works_refuses s m SyntaxError reached
-  works_command s m session (Asked statement) filled reached =
-      works_either s m (is_session session) _ _ (works_statement s m session statement filled reached)
-      (works_refuses s m (NoSuchSession session) reached)
+works_command : (s : Stored) (m : Machine) (session : ℕ) (request : Request) → IsFilledRequest request → IsReached s m
+    → Works s m (commanded m session request)
+unfolding commanded
+works_command s m session TooLong filled reached = works_refuses s m (OverLimit limits.Statement) reached
+works_command s m session Unreadable filled reached = works_refuses s m SyntaxError reached
+works_command s m session (Asked statement) filled reached =
+    works_either s m (is_session session) _ _ (works_statement s m session statement filled reached)
+    (works_refuses s m (NoSuchSession session) reached)
 
-  pub works_event : (s : Stored) (m : Machine) (e : Event) → IsFilledEvent e → IsReached s m → Works s m (outcome_of m e)
-  works_event s m (Command reading session request) filled reached =
-      works_command s m session request filled reached
-  works_event s m (Tick reading) filled reached = works_does s m Idle m.sessions reached.stand
-
+pub works_event : (s : Stored) (m : Machine) (e : Event) → IsFilledEvent e → IsReached s m → Works s m (outcome_of m e)
+works_event s m (Command reading session request) filled reached =
+    works_command s m session request filled reached
+works_event s m (Tick reading) filled reached = works_does s m Idle m.sessions reached.stand

@@ -4,49 +4,41 @@
 --     seen_fits          those of a table as a transaction sees it
 --     shown_fit          those of a stream
 --     read_fits          those of an object
-use Rattle.std.proofs.Common.{◌≡◌, ℕ, zero, suc, ◌+◌, ◌<◌, ◌≤◌, Bool, true, false, cond, List, [], ◌∷◌, ◌++◌, map}
-use Rattle.std.proofs.Common.{length, Option, Some, None, option_map, refl, sym, ap, subst, ◌∙◌, arith, IsTrue}
-use Rattle.std.specs.Prelude.{slice_get, nat_le, codes, ◌&&◌, if◌then◌else◌, not}
-use Rattle.std.specs.List.{AllByRecursion, filter, flat_map}
-use Rattle.std.specs.Option.{IsSomeAnd, IfSome, option_map_or, option_and_then}
-use Rattle.std.specs.FinMap.{FinMap, empty, get, entries, values, get-empty}
-use Rattle.std.specs.Ordering.{nat_cmp, eq_by_cmp}
-use Rattle.std.proofs.lemmas.List.{map-append}
-use Rattle.wh_value.specs.Value.{Row, Text, Truth, row_cmp}
-use Rattle.wh_value.specs.Column.{Column, ColumnType}
+use Rattle.std.proofs.Common.{◌≡◌, ℕ, zero, suc, ◌+◌, List, [], ◌∷◌, ◌++◌, map}
+use Rattle.std.proofs.Common.{Option, Some, None, option_map, refl, sym, ap, subst, ◌∙◌, arith, IsTrue}
+use Rattle.std.specs.Prelude.{slice_get}
+use Rattle.std.specs.List.{AllByRecursion, flat_map}
+use Rattle.std.specs.Option.{IsSomeAnd, IfSome, option_and_then}
+use Rattle.std.specs.FinMap.{FinMap, empty, get, entries, get-empty}
+use Rattle.std.specs.Ordering.{nat_cmp}
+use Rattle.wh_value.specs.Value.{Row}
+use Rattle.wh_value.specs.Column.{Column}
 use Rattle.wh_value.specs.Fits.{row_fits}
 use Rattle.wh_frame.specs.Partition.{Partition, numbered}
-use Rattle.wh_meaning.specs.Bag.{Bag, no_rows, bag_of}
-use Rattle.wh_net.specs.Net.{RowChange, Delete, Insert, deleted, inserted, net_change, numbers_in_either, net, first_here, is_in_one}
-use Rattle.wh_net.specs.Net.{is_between, appended_from, appended}
-use Rattle.wh_net.specs.Stream.{rows_at, records_between, shown, shown_row, rows_on, rows_shown}
-use Rattle.wh_state.specs.State.{Rows, Version, Table, Stream, Kind, TableKind, StreamKind, Object, State, with_entries, at_id}
-use Rattle.wh_state.specs.State.{last_of, content_in, last_rows, last_content, nothing_held, version_at, metadata_columns, stream_in}
+use Rattle.wh_state.specs.State.{Rows, Version, Table, TableKind, Object, at_id}
+use Rattle.wh_state.specs.State.{last_of, content_in, last_rows, nothing_held, version_at}
 use Rattle.wh_state.specs.State.{table_in}
-use Rattle.wh_state.specs.Objects.{table_at, stream_at, as_table}
+use Rattle.wh_state.specs.Objects.{table_at, as_table}
 use Rattle.wh_state.specs.Edits.{Edits, edited, rows_after}
-use Rattle.wh_state.specs.Act.{edited_table, edited_object, next_contents}
+use Rattle.wh_state.specs.Act.{edited_table, next_contents}
 use Rattle.wh_state.specs.Stored.{StoredVersion, StoredTable, StoredKind, StoredObject, Stored}
 use Rattle.wh_state.specs.Stored.{version_meant, table_meant, kind_meant, object_meant}
-use Rattle.wh_state.proofs.AllLaws.{all_map, all_append, all_filter, all_at}
+use Rattle.wh_state.proofs.AllLaws.{all_append, all_at}
 use Rattle.wh_state.proofs.IdLaws.{last_more}
 use Rattle.wh_state.proofs.CutLaws.{entries_append}
 use Rattle.wh_state.proofs.FoundLaws.{FoundAt}
-use Rattle.wh_state.proofs.MeaningLaws.{at_id_meant, table_at_meant}
+use Rattle.wh_state.proofs.MeaningLaws.{at_id_meant}
 use Rattle.wh_state.proofs.PartLaws.{edited_all}
 use Rattle.wh_state.proofs.AppliesLaws.{FitRows, VersionFits, IsFirmTable, EditsFit}
-use Rattle.wh_state.proofs.FirmLaws.{IsFirmObject, IsSourceOf, HasSource}
+use Rattle.wh_state.proofs.FirmLaws.{IsFirmObject}
 use Rattle.wh_machine.specs.Transaction.{Staged, Transaction, with_own, seen_from, seen}
 use Rattle.wh_machine.specs.Sessions.{transaction_in}
 use Rattle.wh_machine.specs.Outcome.{Machine}
-use Rattle.wh_machine.specs.Queries.{table_bag}
-use Rattle.wh_machine.specs.Reading.{objects_seen, start_in, kind_rows, object_rows, rows_read}
-use Rattle.wh_machine.proofs.GotLaws.{entries_hold, get_holds, rows_hold}
-use Rattle.wh_machine.proofs.StandLaws.{HoldsEdits, TransactionStands, StandsOn}
-use Rattle.wh_machine.proofs.StageLaws.{numbered_all, rows_all, one_stands}
+use Rattle.wh_machine.specs.Reading.{objects_seen}
+use Rattle.wh_machine.proofs.GotLaws.{entries_hold, rows_hold}
+use Rattle.wh_machine.proofs.StandLaws.{HoldsEdits, StandsOn}
+use Rattle.wh_machine.proofs.StageLaws.{numbered_all, one_stands}
 use Rattle.wh_machine.proofs.WorksLaws.{IsReached, objects_meant}
-use Rattle.wh_machine.proofs.BagRows.{AllRows, all_bag_of, all_none}
-use Rattle.wh_machine.proofs.ValueTypes.{FitsTypes, types_of, row_of_columns, fits_append}
 
 abbrev pub Fit : List Column → Row → Type 0
 Fit columns row = IsTrue (row_fits columns row)
@@ -57,7 +49,7 @@ RowsFitIn columns rows = (q : ℕ) (x : Row) → get rows q ≡ Some x → Fit c
 nothing_in : (number : ℕ) → get (empty {K = ℕ} {X = Row} {R = nat_cmp}) number ≡ None
 nothing_in number = get-empty nat_cmp number
 
-no_rows_fit : (columns : List Column) → RowsFitIn columns empty
+pub no_rows_fit : (columns : List Column) → RowsFitIn columns empty
 no_rows_fit columns q x is = absurd (cc (nothing_in q, is))
 
 -- ---- versions
@@ -79,7 +71,7 @@ versions_fit columns (v ∷ vs) h = (
   versions_fit columns vs h.1,
 )
 
-last_fits : (columns : List Column) (versions : List Version) → AllByRecursion (VersionRowsFit columns) versions
+pub last_fits : (columns : List Column) (versions : List Version) → AllByRecursion (VersionRowsFit columns) versions
     → RowsFitIn columns (content_in nothing_held (last_of versions)).rows
 last_fits columns [] h = no_rows_fit columns
 last_fits columns (v ∷ []) h = h.0

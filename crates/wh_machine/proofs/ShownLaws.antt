@@ -2,33 +2,30 @@
 --     ShownUnder            the scalars of items have the types of their columns
 --     shown_under           so do those of all items
 --     core_rows             the rows of a core
-use Rattle.std.proofs.Common.{◌≡◌, ◌⊎◌, inl, inr, ℕ, zero, suc, ◌+◌, ◌<◌, ◌≤◌, Bool, true, false, cond, List, [], ◌∷◌}
+use Rattle.std.proofs.Common.{◌≡◌, ℕ, zero, suc, ◌+◌, Bool, true, false, cond, List, [], ◌∷◌}
 use Rattle.std.proofs.Common.{◌++◌, map, length, Option, Some, None, refl, sym, ap, subst, ◌∙◌, arith}
-use Rattle.std.specs.Prelude.{slice_get, bytes_eq, ◌||◌}
+use Rattle.std.specs.Prelude.{slice_get, bytes_eq}
 use Rattle.std.specs.List.{AllByRecursion}
 use Rattle.std.proofs.lemmas.List.{map-append}
 use Rattle.wh_value.specs.Column as table
 use Rattle.wh_value.specs.Column.{ColumnType, NumberType, VarcharType}
-use Rattle.wh_value.specs.Value.{Row}
-use Rattle.wh_ast.specs.declared.expr.Expr.{Expr}
 use Rattle.wh_ast.specs.declared.query.Item.{Item}
 use Rattle.wh_ast.specs.declared.query.Item.TheVariants as items
-use Rattle.wh_meaning.specs.Scalar.{Scalar, Const, Column}
-use Rattle.wh_meaning.specs.Bag.{Bag}
+use Rattle.wh_meaning.specs.Scalar.{Scalar}
 use Rattle.wh_meaning.specs.Query as meaning
 use Rattle.wh_meaning.specs.Query.{Instance, eval, Project, Group}
 use Rattle.wh_naming.specs.Findings.{Name}
 use Rattle.wh_naming.specs.Scope.{Entry, width, Span, spans_of, only, columns_of_entry}
 use Rattle.wh_naming.specs.Typing.{Typed, typed}
-use Rattle.wh_naming.specs.Select.{Output, Shown, nothing_shown, places_from, output_of, with_columns, all_columns, with_span}
-use Rattle.wh_naming.specs.Select.{output_name, with_item, item_context, shown_with, all_shown, column_of, key_scalars, plain}
+use Rattle.wh_naming.specs.Select.{Output, Shown, places_from, output_of, with_columns, all_columns, with_span}
+use Rattle.wh_naming.specs.Select.{output_name, with_item, item_context, shown_with, all_shown}
 use Rattle.wh_naming.specs.Select.{projected, regrouped_all}
-use Rattle.wh_state.proofs.AllLaws.{all_map, all_append}
+use Rattle.wh_state.proofs.AllLaws.{all_map}
 use Rattle.wh_machine.proofs.BagRows.{GivesAll, AllRows}
-use Rattle.wh_machine.proofs.ValueTypes.{OfType, FitsTypes, type_or, type_at, head_type, types_of}
+use Rattle.wh_machine.proofs.ValueTypes.{FitsTypes, type_or, type_at, head_type, types_of}
 use Rattle.wh_machine.proofs.TypedLaws.{Under, entry_types, typed_under, width_is, number_beyond, get_behind, types_length}
 use Rattle.wh_machine.proofs.QueryRows.{number_types, rows_project, rows_group}
-use Rattle.wh_machine.proofs.GroupedLaws.{AllUnder, all_under_fits, all_under_append, all_under_through, group_types}
+use Rattle.wh_machine.proofs.GroupedLaws.{AllUnder, all_under_fits, all_under_append, all_under_through}
 use Rattle.wh_machine.proofs.GroupedLaws.{all_regrouped}
 
 abbrev pub output_types : List Output → List (Option ColumnType)
@@ -74,7 +71,7 @@ with_item_under : (entries : List Entry) (shown : Shown) (name : Name) (x : Type
 with_item_under entries shown name x one under =
     let scalars = map-append (head_type (type_at (entry_types entries))) shown.scalars (x.scalar ∷ []) in
     let outputs = map-append (λ (o : Output). o.type_of) shown.outputs
-        ((record { name = name; type_of = x.type_of }) ∷ []) in
+    ((record { name = name; type_of = x.type_of }) ∷ []) in
     subst (λ (ts : List (Option ColumnType)). AllUnder ts
     (output_types (shown.outputs ++ (record { name = name; type_of = x.type_of }) ∷ []))) (sym scalars)
     (subst (AllUnder (heads entries shown.scalars ++ heads entries (x.scalar ∷ []))) (sym outputs)
@@ -179,20 +176,20 @@ pub core_rows : (entries : List Entry) (q : meaning.Query) (groups : Bool) (keys
     → GivesAll (FitsTypes (output_types shown.outputs)) (eval (projected groups q keys (width entries) shown) instance)
 core_rows entries q false keys shown instance under rows b is =
     let made : AllRows (FitsTypes (heads entries shown.scalars)) b =
-        rows_project (entry_types entries) q shown.scalars instance rows b is in
+    rows_project (entry_types entries) q shown.scalars instance rows b is in
     all_map (λ e. FitsTypes (heads entries shown.scalars) e.0) (λ e. FitsTypes (output_types shown.outputs) e.0)
     (λ e h. all_under_fits (heads entries shown.scalars) (output_types shown.outputs) under e.0 h) _ made
 core_rows entries q true keys shown instance under rows b is =
     let beyond : (place k : ℕ) → place ≡ width entries + k → type_at (entry_types entries) place ≡ Some NumberType =
-        λ place k at. number_beyond (entry_types entries) place k (omega (arith, at, width_is entries)) in
+    λ place k at. number_beyond (entry_types entries) place k (omega (arith, at, width_is entries)) in
     let types : ℕ → Option ColumnType = type_at (entry_types entries) in
     let kinds : List (Option ColumnType) = map (head_type types) keys ++ number_types shown.calls in
     let scalars : List Scalar = regrouped_all keys (width entries) shown.scalars in
     let grouped = rows_group (entry_types entries) q keys shown.calls instance rows in
     let made : AllRows (FitsTypes (map (head_type (type_at kinds)) scalars)) b =
-        rows_project kinds (Group q keys shown.calls) scalars instance grouped b is in
+    rows_project kinds (Group q keys shown.calls) scalars instance grouped b is in
     let same : AllUnder (map (head_type (type_at kinds)) scalars) (output_types shown.outputs) =
-        all_under_through (map (head_type (type_at kinds)) scalars) (heads entries shown.scalars)
-        (output_types shown.outputs) (all_regrouped types (width entries) beyond keys shown.calls shown.scalars) under in
+    all_under_through (map (head_type (type_at kinds)) scalars) (heads entries shown.scalars)
+    (output_types shown.outputs) (all_regrouped types (width entries) beyond keys shown.calls shown.scalars) under in
     all_map (λ e. FitsTypes (map (head_type (type_at kinds)) scalars) e.0) (λ e. FitsTypes (output_types shown.outputs) e.0)
     (λ e h. all_under_fits (map (head_type (type_at kinds)) scalars) (output_types shown.outputs) same e.0 h) _ made

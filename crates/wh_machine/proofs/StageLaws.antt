@@ -3,9 +3,9 @@
 --     later_fit                   edits with an effect more fit
 --     staged_stands               a transaction with it stands
 --     ChangedFits, works_changes  what a change comes to, and that its outcome works
-use Rattle.std.proofs.Common.{◌≡◌, ℕ, zero, suc, ◌+◌, ◌<◌, ◌≤◌, Bool, true, false, cond, List, []}
-use Rattle.std.proofs.Common.{◌∷◌, ◌++◌, length, map, Option, Some, None, refl, sym, ap, subst, ◌∙◌, arith, IsTrue}
-use Rattle.std.specs.Prelude.{nat_lt, nat_eq, slice_set, if◌then◌else◌}
+use Rattle.std.proofs.Common.{◌≡◌, ℕ, zero, suc, ◌+◌, Bool, true, false, cond, List, []}
+use Rattle.std.proofs.Common.{◌∷◌, map, Option, Some, None, refl, sym, ap, subst, ◌∙◌, IsTrue}
+use Rattle.std.specs.Prelude.{nat_lt, nat_eq, if◌then◌else◌}
 use Rattle.std.specs.List.{AllByRecursion}
 use Rattle.std.specs.Option.{IsSomeAnd}
 use Rattle.std.specs.FinMap.{empty, get, insert, entries, get-insert, get-empty}
@@ -21,7 +21,7 @@ use Rattle.wh_state.specs.State.{TableKind, StreamKind, table_in}
 use Rattle.wh_state.specs.Objects.{table_at}
 use Rattle.wh_state.specs.Edits.{RowEdits, Edits, edited, with_removed, with_changed, edits_from, with_later, added_left}
 use Rattle.wh_state.specs.Edits.{later_edits, no_edits}
-use Rattle.wh_state.specs.Stored.{StoredTable, StoredKind, StoredObject, Stored}
+use Rattle.wh_state.specs.Stored.{StoredKind, StoredObject, Stored}
 use Rattle.wh_state.proofs.AllLaws.{all_append, all_with}
 use Rattle.wh_state.proofs.RowLaws.{number_tied}
 use Rattle.wh_state.proofs.FoundLaws.{FoundAt}

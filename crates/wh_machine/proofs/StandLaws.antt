@@ -3,32 +3,31 @@
 --     StandsOn, AllStandOn         transactions that hold live tables that their edits fit, and live streams
 --     stand_through                they still do behind changes of which none drops what they hold
 --     commit_stands                the acts of a transaction that no limit refuses
-use Rattle.std.proofs.Common.{◌≡◌, ◌⊎◌, inl, inr, ℕ, zero, suc, ◌+◌, ◌-◌, ◌<◌, ◌≤◌, Bool, true, false, cond, List, []}
+use Rattle.std.proofs.Common.{◌≡◌, ℕ, ◌+◌, ◌≤◌, Bool, true, false, cond, List, []}
 use Rattle.std.proofs.Common.{◌∷◌, ◌++◌, length, map, Option, Some, None, option_map, refl, sym, ap, subst, ◌∙◌, arith}
 use Rattle.std.proofs.Common.{IsTrue}
 use Rattle.std.specs.Prelude.{nat_lt}
-use Rattle.std.specs.List.{AllByRecursion, filter}
+use Rattle.std.specs.List.{AllByRecursion}
 use Rattle.std.specs.Option.{IsSomeAnd}
 use Rattle.std.specs.Option.{option_and_then}
-use Rattle.std.specs.FinMap.{FinMap, get, entries}
-use Rattle.std.specs.Ordering.{nat_cmp}
+use Rattle.std.specs.FinMap.{get, entries}
 use Rattle.std.proofs.lemmas.Bool.Decides.{nat_tests}
 use Rattle.wh_value.specs.Limit.{bound}
 use Rattle.wh_value.specs.declared.limit.Limit.{Limit}
 use Rattle.wh_value.specs.declared.limit.Limit.TheVariants as limits
-use Rattle.wh_state.specs.State.{State, Stream, Kind, TableKind, StreamKind, Object, Version, at_id, last_of}
-use Rattle.wh_state.specs.State.{table_in, stream_in}
+use Rattle.wh_state.specs.State.{Stream, Object, at_id, last_of}
+use Rattle.wh_state.specs.State.{TableKind, StreamKind, table_in, stream_in}
 use Rattle.wh_state.specs.Objects.{stream_at, table_at}
 use Rattle.wh_state.specs.Objects.{as_table, as_stream}
 use Rattle.wh_state.specs.Edits.{Edits, partitions_made}
-use Rattle.wh_state.specs.Act.{Act, EditsRows, MovesOffset}
-use Rattle.wh_state.specs.Stored.{StoredVersion, StoredTable, StoredKind, StoredObject}
-use Rattle.wh_state.specs.Stored.{Stored, standing, object_meant, kind_meant}
+use Rattle.wh_state.specs.Act.{MovesOffset}
+use Rattle.wh_state.specs.Stored.{StoredVersion, StoredKind, StoredObject}
+use Rattle.wh_state.specs.Stored.{standing, object_meant, kind_meant}
 use Rattle.wh_state.specs.Stored.{table_meant, version_meant}
-use Rattle.wh_state.specs.Commit.{VersionChange, Change, pushed_object, pushed_kind, offset_set, offset_set_kind}
+use Rattle.wh_state.specs.Commit.{VersionChange, Change, pushed_kind, offset_set_kind}
 use Rattle.wh_state.specs.Commit.{all_changed, DoesNotFall}
 use Rattle.wh_state.specs.Sound.{IsTimely, IsSoundObject, IsSoundKind}
-use Rattle.wh_state.proofs.AllLaws.{all_map, all_both, all_append, all_at, all_filter}
+use Rattle.wh_state.proofs.AllLaws.{all_both, all_append, all_at, all_filter}
 use Rattle.wh_state.proofs.FoundLaws.{FoundAt}
 use Rattle.wh_state.proofs.MeaningLaws.{at_id_meant, table_at_meant, stream_at_meant, last_partitions_meant}
 use Rattle.wh_state.proofs.AppliesLaws.{EditsFit}
@@ -142,8 +141,8 @@ pub within_limits : (objects : List Object) (t : Transaction) → commit_refusal
 unfolding past_limit
 within_limits objects t none =
     let both = neither_past (first_past (row_past objects) limits.RowNumber (touched t))
-        (first_past (partition_past objects) limits.PartitionNumber (touched t))
-        (no_refusal _ (past_limit objects t) none) in
+    (first_past (partition_past objects) limits.PartitionNumber (touched t))
+    (no_refusal _ (past_limit objects t) none) in
     all_both (λ entry. row_past objects entry ≡ false) (λ entry. partition_past objects entry ≡ false)
     (IsWithinLimits objects) (λ entry rows partitions. record { rows = rows; partitions = partitions }) (touched t)
     (none_past (row_past objects) limits.RowNumber (touched t) both.0)
@@ -178,14 +177,14 @@ edit_stands committed stamp h objects sound entry within holds =
     by_kind (StreamKind s) sound at fits = absurd fits
     by_kind (TableKind t) sound at fits =
         let rows : nat_lt (bound limits.RowNumber) (next_row_of (Some (table_meant t)) + length e.added) ≡ false =
-            ap (λ found. nat_lt (bound limits.RowNumber) (next_row_of found + length e.added)) (sym at) ∙ within.rows in
+        ap (λ found. nat_lt (bound limits.RowNumber) (next_row_of found + length e.added)) (sym at) ∙ within.rows in
         let partitions : nat_lt (bound limits.PartitionNumber) (next_partition_of e (Some (table_meant t))) ≡ false =
-            ap (λ found. nat_lt (bound limits.PartitionNumber) (next_partition_of e found)) (sym at) ∙ within.partitions in
+        ap (λ found. nat_lt (bound limits.PartitionNumber) (next_partition_of e found)) (sym at) ∙ within.partitions in
         let made : nat_lt (bound limits.PartitionNumber)
-            (t.next_partition + length (partitions_made t.next_partition t.next_row e (standing t))) ≡ false =
-            ap (λ ps. nat_lt (bound limits.PartitionNumber)
-            (t.next_partition + length (partitions_made t.next_partition t.next_row e ps))) (sym (last_partitions_meant t))
-            ∙ partitions in
+        (t.next_partition + length (partitions_made t.next_partition t.next_row e (standing t))) ≡ false =
+        ap (λ ps. nat_lt (bound limits.PartitionNumber)
+        (t.next_partition + length (partitions_made t.next_partition t.next_row e ps))) (sym (last_partitions_meant t))
+        ∙ partitions in
         record {
           below = below_next committed t sound;
           fit = fits;

@@ -1,35 +1,28 @@
 -- What a change that nothing is found wrong with does to its target.
 --     change_fits     its effect fits the columns of its target
-use Rattle.std.proofs.Common.{◌≡◌, ℕ, zero, suc, ◌+◌, Bool, true, false, cond, List, [], ◌∷◌, ◌++◌, map}
-use Rattle.std.proofs.Common.{length, Option, Some, None, option_map, refl, sym, ap, subst, ◌∙◌, arith, IsTrue}
-use Rattle.std.specs.Prelude.{◌||◌, not, unwrap_or, slice_get}
+use Rattle.std.proofs.Common.{◌≡◌, ℕ, suc, ◌+◌, false, List, [], ◌∷◌, ◌++◌, map}
+use Rattle.std.proofs.Common.{Option, Some, None, refl, sym, ap, subst, ◌∙◌, arith}
+use Rattle.std.specs.Prelude.{not, unwrap_or, slice_get}
 use Rattle.std.specs.List.{AllByRecursion}
 use Rattle.std.proofs.lemmas.List.{map-append}
 use Rattle.wh_value.specs.Value.{Row}
 use Rattle.wh_value.specs.Column as table
 use Rattle.wh_value.specs.Column.{ColumnType, NumberType, VarcharType, BooleanType}
 use Rattle.wh_ast.specs.declared.expr.Expr.{Expr}
-use Rattle.wh_ast.specs.declared.query.Source.{Source}
-use Rattle.wh_ast.specs.declared.query.Query.{Query}
 use Rattle.wh_ast.specs.declared.dml.Dml.{Dml}
-use Rattle.wh_ast.specs.declared.dml.Dml.TheVariants as dml
 use Rattle.wh_ast.specs.declared.dml.Rows.{Rows}
-use Rattle.wh_ast.specs.declared.dml.Rows.TheVariants as rows
 use Rattle.wh_ast.specs.declared.dml.Assignment.{Assignment}
 use Rattle.wh_ast.specs.declared.dml.MergeClause.{MergeClause}
 use Rattle.wh_ast.specs.declared.dml.MergeClause.TheVariants as clauses
 use Rattle.wh_grammar.specs.Token.{Token}
 use Rattle.wh_grammar.specs.Changing as g
 use Rattle.wh_grammar.specs.Changing.{IsDml, AreRows}
-use Rattle.wh_meaning.specs.Scalar.{Scalar}
 use Rattle.wh_meaning.specs.Bag.{Bag}
-use Rattle.wh_meaning.specs.Query as meaning
 use Rattle.wh_meaning.specs.Query.{Instance, eval}
 use Rattle.wh_meaning.specs.Listing.{listed}
 use Rattle.wh_naming.specs.Findings.{Name}
 use Rattle.wh_naming.specs.Scope.{Entry, Named, named}
-use Rattle.wh_naming.specs.Typing.{Typed, alike}
-use Rattle.wh_naming.specs.Select.{Output, BoundQuery, BoundSource, SourcePart, column_of, plain, bound_query, all_columns}
+use Rattle.wh_naming.specs.Select.{Output, BoundQuery, BoundSource, SourcePart, column_of, plain, bound_query}
 use Rattle.wh_naming.specs.Changes as changes
 use Rattle.wh_naming.specs.Changes.{Target, target_at, target_entry, given_places, place_in, fit_places, typed_all, new_row}
 use Rattle.wh_naming.specs.Changes.{NewRow, value_rows, row_findings, insert_values, insert_query, outputs_from, bound_rows}
@@ -37,14 +30,15 @@ use Rattle.wh_naming.specs.Changes.{set_findings, changed_row, bound_update, bou
 use Rattle.wh_naming.specs.Changes.{all_clause_findings, merged_on, source_part, bound_merge, bound_change, BoundChange}
 use Rattle.wh_naming.specs.Changes.{condition_of, BoundClause}
 use Rattle.wh_effect.specs.Effect.{effect, rows_in_order}
-use Rattle.wh_machine.proofs.BagRows.{AllRows, GivesAll, all_listed}
+use Rattle.wh_machine.proofs.PassedLaws.{both_none}
+use Rattle.wh_machine.proofs.BagRows.{GivesAll, all_listed}
 use Rattle.wh_machine.proofs.ValueTypes.{FitsTypes, type_or, type_at, head_type, types_of}
-use Rattle.wh_machine.proofs.TypedLaws.{Under, under_same, entry_types}
+use Rattle.wh_machine.proofs.TypedLaws.{Under, entry_types}
 use Rattle.wh_machine.proofs.GroupedLaws.{AllUnder}
 use Rattle.wh_machine.proofs.ShownLaws.{output_types}
 use Rattle.wh_machine.proofs.BoundLaws.{IsGoodSource, IsGoodQuery, InstanceFits, query_good, source_good}
 use Rattle.wh_machine.proofs.GivenLaws.{neither, true_of, PlaceOk, row_under, changed_under, all_stand, own_stand, append_nil}
-use Rattle.wh_machine.proofs.GivenLaws.{entry_one, place_ok, given_ok, new_row_under, parts_fit, parts_ok, parts_under, place_wide}
+use Rattle.wh_machine.proofs.GivenLaws.{entry_one, given_ok, new_row_under, parts_fit, parts_ok, parts_under, place_wide}
 use Rattle.wh_machine.proofs.EffectLaws.{OutcomeFits, PartsFit, ClauseFits, inserts_fit, inserts_over_fit, updates_fit}
 use Rattle.wh_machine.proofs.EffectLaws.{deletes_fit, merges_fit}
 
@@ -57,7 +51,7 @@ values_under : (columns : List table.Column) (listed : Option (List Name)) (foun
 values_under columns listed [] well = tt
 values_under columns listed (values ∷ others) well =
     let both = neither (new_row columns (given_places columns listed) (typed_all [] values)).findings.is_mistyped
-        (row_findings (value_rows columns (given_places columns listed) others)).is_mistyped well in
+    (row_findings (value_rows columns (given_places columns listed) others)).is_mistyped well in
     (new_row_under columns listed [] values both.0, values_under columns listed others both.1)
 
 -- the columns of a query's rows, as values
@@ -137,7 +131,7 @@ clauses_fit columns t s own (c ∷ cs) well =
     one_fits (clauses.Insert condition listed values) well =
         let parts = neither _ _ well in
         let row = neither (changes.given_findings columns listed).is_mistyped
-            (new_row columns (given_places columns listed) (typed_all (s ∷ []) values)).findings.is_mistyped parts.1 in
+        (new_row columns (given_places columns listed) (typed_all (s ∷ []) values)).findings.is_mistyped parts.1 in
         subst (λ (ts : List (Option ColumnType)). PartsFit columns (type_at ts)
         (new_row columns (given_places columns listed) (typed_all (s ∷ []) values)).scalars) narrow
         (new_row_under columns listed (s ∷ []) values row.1)
@@ -148,6 +142,8 @@ module _ (names : List Named) (S : ℕ → Type 0) (F : ℕ → Row → Type 0) 
     → FitsTypes (types_of object.columns) row) where
   pub record IsGoodChange (t : Target) (b : BoundChange) : Type 0 where
     pub target : b.target ≡ t.id
+    pub known : b.findings.unknown_object ≡ None → t.findings.unknown_object ≡ None
+    pub kinds : b.findings.wrong_kind ≡ None → t.findings.wrong_kind ≡ None
     pub effect : b.findings.is_mistyped ≡ false → (instance : Instance)
         → InstanceFits names S F none empty live fits 0 b.sources instance
         → (found : List (ℕ × Row)) → AllByRecursion (λ entry. FitsTypes (types_of t.columns) entry.1) found
@@ -159,10 +155,12 @@ module _ (names : List Named) (S : ℕ → Type 0) (F : ℕ → Row → Type 0) 
   unfolding effect
   insert_good t listed found (g.values {found = values} are) = record {
     target = refl;
+    known = λ none. (both_none t.findings.unknown_object _ none).0;
+    kinds = λ none. (both_none t.findings.wrong_kind _ none).0;
     effect = λ well instance fit rows rows_fit.
         let parts = neither t.findings.is_mistyped _ well in
         let both = neither (changes.given_findings t.columns listed).is_mistyped
-            (row_findings (value_rows t.columns (given_places t.columns listed) values)).is_mistyped parts.1 in
+        (row_findings (value_rows t.columns (given_places t.columns listed) values)).is_mistyped parts.1 in
         inserts_fit t.columns (map (λ row. row.scalars) (value_rows t.columns (given_places t.columns listed) values))
         (values_under t.columns listed values both.1);
     sources = tt;
@@ -172,11 +170,13 @@ module _ (names : List Named) (S : ℕ → Type 0) (F : ℕ → Row → Type 0) 
       let good : IsGoodQuery names S F none empty live fits 0 b = query_good names S F none empty live fits q is 0 in
       record {
         target = refl;
+        known = λ none. (both_none t.findings.unknown_object _ none).0;
+        kinds = λ none. (both_none t.findings.wrong_kind _ none).0;
         effect = λ well instance fit rows rows_fit.
             let parts = neither t.findings.is_mistyped _ well in
             let both = neither (changes.given_findings t.columns listed).is_mistyped _ parts.1 in
             let last = neither b.findings.is_mistyped
-                (not (fit_places (given_places t.columns listed) (changes.output_types b.outputs))) both.1 in
+            (not (fit_places (given_places t.columns listed) (changes.output_types b.outputs))) both.1 in
             inserts_over_fit t.columns (output_types b.outputs) _
             (row_under (type_at (output_types b.outputs)) (types_of t.columns) 0 t.columns (given_places t.columns listed)
             (outputs_from 0 b.outputs) (changes.output_types b.outputs) (outputs_under b.outputs)
@@ -195,6 +195,8 @@ module _ (names : List Named) (S : ℕ → Type 0) (F : ℕ → Row → Type 0) 
       let entry : Entry = record { name = part.name; columns = s.columns } in
       record {
         target = refl;
+        known = λ none. (both_none t.findings.unknown_object _ none).0;
+        kinds = λ none. (both_none t.findings.wrong_kind _ none).0;
         effect = λ well instance fit rows rows_fit.
             let parts = neither t.findings.is_mistyped _ well in
             let both = neither false _ parts.1 in
@@ -213,27 +215,37 @@ module _ (names : List Named) (S : ℕ → Type 0) (F : ℕ → Row → Type 0) 
   change_good x (g.insert {table = name} {names = listed} {found = found} is may are) =
       (name, insert_good (target_at names name) listed found are)
   change_good x (g.update {table = name} {set = parts} {filter = filter} is are may) =
-      let t : Target = target_at names name in
-      (name, record {
-        target = refl;
-        effect = λ well instance fit rows rows_fit.
-            let both = neither t.findings.is_mistyped _ well in
-            let set = neither (set_findings t.columns (target_entry name t ∷ []) parts).is_mistyped _ both.1 in
-            let is : entry_types (target_entry name t ∷ []) ≡ types_of t.columns ++ [] =
-                entry_one name t.columns ∙ sym (append_nil (types_of t.columns)) in
-            updates_fit t.columns (types_of t.columns) (condition_of (target_entry name t ∷ []) filter) _
-            (subst (λ (ts : List (Option ColumnType)). PartsFit t.columns (type_at ts)
-            (changed_row t.columns (target_entry name t ∷ []) parts)) (entry_one name t.columns)
-            (set_under t.columns (target_entry name t ∷ []) [] parts is set.0)) rows rows_fit;
-        sources = tt;
-      })
+      let t : Target = target_at names name in (
+        name,
+        record {
+          target = refl;
+          known = λ none. (both_none t.findings.unknown_object _ none).0;
+          kinds = λ none. (both_none t.findings.wrong_kind _ none).0;
+          effect = λ well instance fit rows rows_fit.
+              let both = neither t.findings.is_mistyped _ well in
+              let set = neither (set_findings t.columns (target_entry name t ∷ []) parts).is_mistyped _ both.1 in
+              let is : entry_types (target_entry name t ∷ []) ≡ types_of t.columns ++ [] =
+              entry_one name t.columns ∙ sym (append_nil (types_of t.columns)) in
+              updates_fit t.columns (types_of t.columns) (condition_of (target_entry name t ∷ []) filter) _
+              (subst (λ (ts : List (Option ColumnType)). PartsFit t.columns (type_at ts)
+              (changed_row t.columns (target_entry name t ∷ []) parts)) (entry_one name t.columns)
+              (set_under t.columns (target_entry name t ∷ []) [] parts is set.0)) rows rows_fit;
+          sources = tt;
+        },
+      )
   change_good x (g.delete {table = name} {filter = filter} is may) =
-      let t : Target = target_at names name in
-      (name, record {
-        target = refl;
-        effect = λ well instance fit rows rows_fit. deletes_fit t.columns (condition_of (target_entry name t ∷ []) filter) rows;
-        sources = tt;
-      })
-  change_good x (g.merge {target = name} {alias = alias} {source = source} {on = on} {clauses = found} is may from expr are) =
-      (name, merge_good (target_at names name) (unwrap_or alias name) (source_part source) on found
-      (source_good names S F none empty live fits source from 0))
+      let t : Target = target_at names name in (
+        name,
+        record {
+          target = refl;
+          known = λ none. (both_none t.findings.unknown_object _ none).0;
+          kinds = λ none. (both_none t.findings.wrong_kind _ none).0;
+          effect = λ well instance fit rows rows_fit. deletes_fit t.columns (condition_of (target_entry name t ∷ []) filter) rows;
+          sources = tt;
+        },
+      )
+  change_good x (g.merge {target = name} {alias = alias} {source = source} {on = on} {clauses = found} is may from expr are) = (
+    name,
+    merge_good (target_at names name) (unwrap_or alias name) (source_part source) on found
+        (source_good names S F none empty live fits source from 0),
+  )

@@ -2,27 +2,26 @@
 --     Under              a type, or that of NULL
 --     entry_types        the types of the columns of entries
 --     typed_under        an expression's scalar has its type
-use Rattle.std.proofs.Common.{◌≡◌, ◌⊎◌, inl, inr, ℕ, zero, suc, ◌+◌, ◌<◌, ◌≤◌, Bool, true, false, cond, List, [], ◌∷◌}
-use Rattle.std.proofs.Common.{◌++◌, map, length, Option, Some, None, refl, sym, ap, subst, ◌∙◌, arith}
+use Rattle.std.proofs.Common.{◌≡◌, ℕ, zero, suc, ◌+◌, Bool, true, false, cond, List, [], ◌∷◌}
+use Rattle.std.proofs.Common.{◌++◌, length, Option, Some, None, refl, sym, ap, subst, ◌∙◌, arith}
 use Rattle.std.proofs.Common.{length-append}
 use Rattle.std.specs.Prelude.{slice_get, bytes_eq}
 use Rattle.std.specs.List.{AllByRecursion}
 use Rattle.std.proofs.lemmas.List.{map-append}
 use Rattle.wh_state.proofs.AllLaws.{all_map, all_append}
 use Rattle.wh_value.specs.Value.{Value, Null}
-use Rattle.wh_value.specs.View.{value_of}
 use Rattle.wh_value.specs.Column as table
 use Rattle.wh_value.specs.Column.{ColumnType, NumberType, BooleanType}
 use Rattle.wh_ast.specs.declared.expr.Operator.{Operator}
 use Rattle.wh_ast.specs.declared.expr.Operator.TheVariants as operators
 use Rattle.wh_ast.specs.declared.expr.Expr.{Expr, out-Expr, fold_out-Expr, map-Expr, fold-Expr}
 use Rattle.wh_ast.specs.declared.expr.Expr.TheOpen.{Expr-F}
-use Rattle.wh_meaning.specs.Scalar.{Scalar, Const, Column, Not}
+use Rattle.wh_meaning.specs.Scalar.{Const, Column}
 use Rattle.wh_meaning.specs.Query.{Call}
 use Rattle.wh_naming.specs.Findings.{Name, Findings, followed, mistyped_if}
 use Rattle.wh_naming.specs.Scope.{Entry, width, Place, places_among, may_be_of, places_of, only, column_at}
 use Rattle.wh_naming.specs.Typing.{Typed, Context, Reading, leaf, column_typed, combined, inverted_if, null_test, among}
-use Rattle.wh_naming.specs.Typing.{more_items, or_equal, compared_with, between, called, step, typed}
+use Rattle.wh_naming.specs.Typing.{more_items, or_equal, between, called, step, typed}
 use Rattle.wh_naming.specs.Select.{all_columns}
 use Rattle.wh_machine.proofs.ValueTypes.{OfType, null_fits, type_or, type_at, head_type, types_of}
 
@@ -147,7 +146,7 @@ width_is [] = refl
 width_is (e ∷ es) =
     let rest = width_is es in
     let both : entry_types (e ∷ es) ≡ types_of e.columns ++ entry_types es =
-        map-append (λ (c : table.Column). Some c.column_type) e.columns (all_columns es) in
+    map-append (λ (c : table.Column). Some c.column_type) e.columns (all_columns es) in
     let here = types_length e.columns in
     omega (arith, rest, here, ap length both, length-append (types_of e.columns) (entry_types es))
 

@@ -3,10 +3,9 @@
 --     type_at, cell_fits    the type at a place, and what stands there
 --     head_type, val_fits   the type that a scalar's values have
 --     types_of, fits_row    rows of columns
-use Rattle.std.proofs.Common.{◌≡◌, ◌⊎◌, inl, inr, ℕ, zero, suc, ◌+◌, ◌≤◌, Bool, true, false, cond, List, [], ◌∷◌, ◌++◌}
-use Rattle.std.proofs.Common.{map, length, Option, Some, None, option_map, refl, sym, ap, subst, ◌∙◌, arith, IsTrue}
+use Rattle.std.proofs.Common.{◌≡◌, ℕ, zero, suc, Bool, true, false, cond, List, [], ◌∷◌, ◌++◌}
+use Rattle.std.proofs.Common.{map, Option, Some, None, refl, subst, IsTrue}
 use Rattle.std.specs.Prelude.{slice_get, unwrap_or, ◌&&◌, ◌||◌, ℤ, ◌+ℤ◌, ◌-ℤ◌, ◌*ℤ◌, neg_ℤ, nat_lt, unsigned_abs}
-use Rattle.std.specs.List.{AllByRecursion}
 use Rattle.wh_value.specs.Value.{Value, Number, Truth, Text, Null, Row, value_cmp}
 use Rattle.wh_value.specs.Column as table
 use Rattle.wh_value.specs.Column.{ColumnType, NumberType, VarcharType, BooleanType}

@@ -4,10 +4,9 @@
 --     works_refuses, works_unless, works_last, works_answers     refusals, tests, and replies without a commit
 --     works_recorded           a transaction that commits
 --     works_dropped            objects that nobody holds are dropped, and others are made
-use Rattle.std.proofs.Common.{◌≡◌, ◌⊎◌, inl, inr, ℕ, zero, suc, ◌+◌, ◌-◌, ◌<◌, ◌≤◌, Bool, true, false, cond, List, []}
-use Rattle.std.proofs.Common.{◌∷◌, ◌++◌, length, map, Option, Some, None, option_map, refl, sym, ap, subst, ◌∙◌, arith}
-use Rattle.std.proofs.Common.{IsTrue}
-use Rattle.std.specs.Prelude.{nat_eq, slice_set, ◌||◌, is_some}
+use Rattle.std.proofs.Common.{◌≡◌, ℕ, Bool, true, false, cond, List, []}
+use Rattle.std.proofs.Common.{◌∷◌, ◌++◌, map, Option, Some, None, option_map, refl, sym, ap, subst, ◌∙◌, arith}
+use Rattle.std.specs.Prelude.{nat_eq, ◌||◌, is_some}
 use Rattle.std.specs.List.{AllByRecursion, list_any}
 use Rattle.std.specs.FinMap.{get}
 use Rattle.std.proofs.lemmas.Bool.Decides.{nat_tests}
@@ -18,20 +17,20 @@ use Rattle.wh_state.specs.Stored.{StoredObject, Stored, object_meant, meant}
 use Rattle.wh_state.specs.Commit.{Change, CreatesTable, Drops, PushesVersion, CreatesStream, SetsOffset, all_changed}
 use Rattle.wh_state.specs.Written.{written, act_written, commit_for, kept_after}
 use Rattle.wh_state.specs.Sound.{IsSoundObject}
-use Rattle.wh_state.proofs.AllLaws.{all_map, all_append, all_with}
-use Rattle.wh_state.proofs.ActLaws.{AreEditsFrom, AreNoEdits, no_more_edits, next_edit}
+use Rattle.wh_state.proofs.AllLaws.{all_map, all_append}
+use Rattle.wh_state.proofs.ActLaws.{AreEditsFrom}
 use Rattle.wh_state.proofs.FirmLaws.{IsFirm}
 use Rattle.wh_state.proofs.WrittenLaws.{AllGo, ActStands, AllStand, ChangeSpares, edit_spares, acts_go}
 use Rattle.wh_machine.specs.Offsets.{offset_moves, acts_of_commit}
-use Rattle.wh_machine.specs.Transaction.{Staged, Transaction, start_of, edit_act, touched, acts_of, commit_refusal, begun}
-use Rattle.wh_machine.specs.Sessions.{Sessions, held_by, is_held, holder, or_later}
+use Rattle.wh_machine.specs.Transaction.{Staged, Transaction, start_of, edit_act, touched, acts_of, commit_refusal}
+use Rattle.wh_machine.specs.Sessions.{Sessions, held_by, is_held, holder}
 use Rattle.wh_machine.specs.Outcome.{Machine, Outcome, Refuses, Does, unless, last_test, settled, acts_in}
 use Rattle.wh_machine.specs.Statements.{recorded}
 use Rattle.wh_machine.specs.Sound.{SoundMachine}
 use Rattle.wh_machine.proofs.EntryLaws.{entries_rise}
 use Rattle.wh_machine.proofs.HoldLaws.{or_none}
 use Rattle.wh_machine.proofs.CommitLaws.{edits_of_rising, they_move}
-use Rattle.wh_machine.proofs.StandLaws.{TransactionStands, StandsOn, AllStandOn, SparesHeld, stands_through, commit_stands}
+use Rattle.wh_machine.proofs.StandLaws.{TransactionStands, AllStandOn, stands_through, commit_stands}
 
 -- ---- machines and their files
 
@@ -198,8 +197,7 @@ free_stand stamp objects cs id only (None ∷ others) none stand =
     (tt, free_stand stamp objects cs id only others none stand.1)
 free_stand stamp objects cs id only (Some t ∷ others) none stand =
     let both = or_none (held_by id (Some t)) (holder others id) none in
-    let held = neither (is_some (get t.tables id)) (list_any (nat_eq id) t.streams) (apart_held t id both.0) in
-    (
+    let held = neither (is_some (get t.tables id)) (list_any (nat_eq id) t.streams) (apart_held t id both.0) in (
       stands_through stamp objects cs t (record {
         tables = λ other s is. all_map (DropsOnly id) (ChangeSpares other)
             (only_spares id other (λ same. not_some (get t.tables id) held.0 s

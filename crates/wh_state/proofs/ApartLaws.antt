@@ -4,22 +4,21 @@
 --     left_apart                  those in the places of others
 --     cut_apart                   those of rows that come
 --     made_apart                  all that edits make
-use Rattle.std.proofs.Common.{◌≡◌, ◌⊎◌, inl, inr, ℕ, zero, suc, ◌+◌, ◌*◌, ◌<◌, ◌≤◌, Bool, true, false, cond, List, []}
-use Rattle.std.proofs.Common.{◌∷◌, ◌++◌, length, map, drop, take, Option, Some, None, refl, sym, ap, subst, ◌∙◌, arith}
+use Rattle.std.proofs.Common.{◌≡◌, inl, inr, ℕ, ◌+◌, ◌≤◌, Bool, true, false, cond, List, []}
+use Rattle.std.proofs.Common.{◌∷◌, map, refl, arith}
 use Rattle.std.specs.Prelude.{not, nat_lt}
 use Rattle.std.specs.List.{AllByRecursion, filter}
-use Rattle.std.proofs.lemmas.List.{length-drop}
 use Rattle.wh_value.specs.Value.{Row}
-use Rattle.wh_frame.specs.Partition.{Partition, first_number, last_number, numbered, partitions_of, cut, cut_into}
+use Rattle.wh_frame.specs.Partition.{Partition, first_number, last_number}
 use Rattle.wh_frame.specs.Spelling.{RisesFrom}
-use Rattle.wh_state.specs.Edits.{RowEdits, Edits, edited, is_touched, touched, numbers_gone, before_later, by_rows, without}
-use Rattle.wh_state.specs.Edits.{made_of, partitions_left, partitions_made}
+use Rattle.wh_state.specs.Edits.{RowEdits, edited, is_touched, touched, before_later, by_rows}
+use Rattle.wh_state.specs.Edits.{made_of, partitions_left}
 use Rattle.wh_state.specs.Commit.{AreApart, AllApart}
 use Rattle.wh_state.specs.Orderly.{HasRisingRows, IsOrderly}
-use Rattle.wh_state.proofs.AllLaws.{all_map, all_both, all_append, all_filter}
-use Rattle.wh_state.proofs.EditLaws.{all_before_later, all_by_rows, apart_from, untouched, without_gone}
-use Rattle.wh_state.proofs.OrderlyLaws.{ApartFrom, apart_append}
-use Rattle.wh_state.proofs.PartLaws.{left_rise, left_each, numbered_rise_from, edited_all}
+use Rattle.wh_state.proofs.AllLaws.{all_map, all_both, all_filter}
+use Rattle.wh_state.proofs.EditLaws.{all_before_later, all_by_rows, apart_from, untouched}
+use Rattle.wh_state.proofs.OrderlyLaws.{ApartFrom}
+use Rattle.wh_state.proofs.PartLaws.{edited_all}
 
 pub turned_about : (p q : Partition) → AreApart p q → AreApart q p
 turned_about p q (inl before) = inr before

@@ -3,8 +3,8 @@
 --     VersionFits, IsFirmTable   what holds of each table of a file that runs leave
 --     EditsFit                   the rows of edits fit columns
 --     version_applies            the next version
-use Rattle.std.proofs.Common.{◌≡◌, ◌⊎◌, inl, inr, ℕ, zero, suc, ◌+◌, ◌*◌, ◌<◌, ◌≤◌, Bool, true, false, cond, List, []}
-use Rattle.std.proofs.Common.{◌∷◌, ◌++◌, length, map, drop, take, Option, Some, None, refl, sym, ap, subst, ◌∙◌, arith}
+use Rattle.std.proofs.Common.{◌≡◌, inr, ℕ, zero, suc, ◌+◌, ◌*◌, ◌<◌, ◌≤◌, List, []}
+use Rattle.std.proofs.Common.{◌∷◌, ◌++◌, length, map, drop, take, Some, refl, sym, subst, arith}
 use Rattle.std.proofs.Common.{IsTrue}
 use Rattle.std.specs.List.{AllByRecursion}
 use Rattle.std.specs.FinMap.{get}
@@ -14,11 +14,11 @@ use Rattle.wh_value.specs.Column.{Column}
 use Rattle.wh_value.specs.Fits.{row_fits}
 use Rattle.wh_value.specs.Limit.{bound}
 use Rattle.wh_value.specs.declared.limit.Limit.TheVariants as limits
-use Rattle.wh_frame.specs.Partition.{Partition, first_number, last_number, numbered, partitions_of, cut, cut_into}
+use Rattle.wh_frame.specs.Partition.{Partition, last_number, numbered, partitions_of, cut, cut_into}
 use Rattle.wh_frame.specs.Spelling.{RisesFrom}
 use Rattle.wh_state.specs.State.{content_in, last_of}
 use Rattle.std.specs.Prelude.{not}
-use Rattle.wh_state.specs.Edits.{RowEdits, Edits, edited, is_touched, touched, by_rows, numbers_gone, without, made_of}
+use Rattle.wh_state.specs.Edits.{Edits, edited, is_touched, touched, by_rows, numbers_gone, without, made_of}
 use Rattle.wh_state.specs.Edits.{partitions_left, partitions_made}
 use Rattle.wh_state.specs.Stored.{StoredVersion, StoredTable, standing}
 use Rattle.wh_state.specs.Commit.{AreApart, AllApart, RowsFit, DoesNotFall, VersionApplies}
@@ -54,8 +54,7 @@ cut_apart number (suc count) least [] before rising some below = absurd (omega a
 cut_apart number (suc count) least (e ∷ es) before rising some below =
     let front : Partition = record { number = number; rows = e ∷ take 999 es } in
     let rest = last_of_front 999 least e es rising in
-    let left : count * 1000 < length (drop 999 es) + 1000 = omega (arith, length-drop 999 es) in
-    (
+    let left : count * 1000 < length (drop 999 es) + 1000 = omega (arith, length-drop 999 es) in (
       all_map (λ p. last_number p.rows < least) (AreApart front) (λ p less. inr (omega (arith, rising.0))) before below,
       cut_apart (number + 1) count (last_number (e ∷ take 999 es) + 1) (drop 999 es) (front ∷ before) rest.1 left
           (omega arith, end_weaker least (last_number (e ∷ take 999 es) + 1) (omega (arith, rest.0)) before below),
@@ -113,10 +112,10 @@ made_apart next next_row e ps orderly some below =
     let stays : List Partition = untouched e.rows ps in
     let added : List (ℕ × Row) = numbered next_row e.added in
     let left_below : AllByRecursion (λ p. AllByRecursion (λ e. e.0 < next_row) p.rows) left =
-        left_each (AllByRecursion (λ e. e.0 < next_row)) next e.rows ps
-        (all_map (λ p. AllByRecursion (λ e. e.0 < next_row) p.rows)
-        (λ p. AllByRecursion (λ e. e.0 < next_row) (edited e.rows p.rows))
-        (λ p h. edited_all (λ e. e.0 < next_row) e.rows (λ number row old is h. h) p.rows h) ps below) in
+    left_each (AllByRecursion (λ e. e.0 < next_row)) next e.rows ps
+    (all_map (λ p. AllByRecursion (λ e. e.0 < next_row) p.rows)
+    (λ p. AllByRecursion (λ e. e.0 < next_row) (edited e.rows p.rows))
+    (λ p h. edited_all (λ e. e.0 < next_row) e.rows (λ number row old is h. h) p.rows h) ps below) in
     subst (λ (before : List Partition). AllApart before (left ++ cut (next + length left) added))
     (sym (without_gone e.rows ps orderly.numbers))
     (apart_append stays left (cut (next + length left) added) (left_apart next e.rows ps orderly)

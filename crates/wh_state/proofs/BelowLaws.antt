@@ -1,8 +1,8 @@
 -- The row numbers that stand in a sound table.
 --     entries_have     rows that are put in one after the other stand at their numbers
 --     below_next       they are below the table's next one
-use Rattle.std.proofs.Common.{◌≡◌, ℕ, ◌<◌, Bool, true, false, cond, List, [], ◌∷◌, ◌++◌, map, Option, Some, None, refl}
-use Rattle.std.proofs.Common.{sym, ap, ◌∙◌}
+use Rattle.std.proofs.Common.{◌≡◌, ℕ, ◌<◌, Bool, true, false, cond, List, [], ◌∷◌, ◌++◌, map, Some}
+use Rattle.std.proofs.Common.{ap, ◌∙◌}
 use Rattle.std.specs.List.{AllByRecursion, flat_map}
 use Rattle.std.specs.FinMap.{empty, get, insert}
 use Rattle.std.specs.Ordering.{nat_cmp, eq_by_cmp}
@@ -12,7 +12,7 @@ use Rattle.wh_value.specs.Value.{Row}
 use Rattle.wh_frame.specs.Partition.{Partition}
 use Rattle.wh_state.specs.State.{Rows, with_entries, content_in, last_of}
 use Rattle.wh_state.specs.Stored.{StoredVersion, StoredTable, version_meant, table_meant}
-use Rattle.wh_state.specs.Sound.{HasRow, IsBelow, IsSoundTable}
+use Rattle.wh_state.specs.Sound.{IsBelow, IsSoundTable}
 use Rattle.wh_state.proofs.AllLaws.{all_map}
 use Rattle.wh_state.proofs.RowLaws.{put_get}
 use Rattle.wh_state.proofs.AppliesLaws.{IsBelowNext}

@@ -4,19 +4,19 @@
 --     IsFirm            tables, names and streams
 --     ChangeRises       the rows of partitions that a change adds rise
 --     firm_first, firm_changed, firm_all     so it is of no objects, and behind changes that apply
-use Rattle.std.proofs.Common.{◌≡◌, ◌⊎◌, inl, inr, ℕ, zero, suc, ◌+◌, ◌<◌, ◌≤◌, Bool, true, false, cond, List, []}
-use Rattle.std.proofs.Common.{◌∷◌, ◌++◌, length, map, Option, Some, None, option_map, refl, sym, ap, subst, ◌∙◌, arith}
+use Rattle.std.proofs.Common.{◌≡◌, inl, inr, ℕ, zero, suc, ◌+◌, ◌<◌, ◌≤◌, Bool, true, false, cond, List, []}
+use Rattle.std.proofs.Common.{◌∷◌, ◌++◌, length, Option, Some, None, option_map, refl, sym, ap, subst, ◌∙◌, arith}
 use Rattle.std.proofs.Common.{IsTrue}
 use Rattle.std.specs.Prelude.{not, ◌&&◌, bytes_eq, IsNone, nat_lt}
-use Rattle.std.specs.List.{AllByRecursion, position, prefix_len}
+use Rattle.std.specs.List.{AllByRecursion, prefix_len}
 use Rattle.std.specs.Option.{IfSome, IsSomeAnd, option_map_or}
 use Rattle.std.proofs.lemmas.Bool.Decides.{nat_tests}
 use Rattle.wh_value.specs.Fits.{row_fits}
 use Rattle.std.proofs.lemmas.Slice.Eq.{bytes_eq-Decides}
 use Rattle.wh_value.specs.Column.{Column}
 use Rattle.wh_frame.specs.Partition.{Partition}
-use Rattle.wh_state.specs.State.{Stream, ObjectOf, new_table, new_object, new_stream, with_offset, dropped, metadata_columns}
-use Rattle.wh_state.specs.State.{at_id, with_id, put_at, changed_at, id_of, is_named, content_in, last_of}
+use Rattle.wh_state.specs.State.{Stream, new_table, new_stream, dropped, metadata_columns}
+use Rattle.wh_state.specs.State.{at_id, with_id, put_at, changed_at, id_of, is_named}
 use Rattle.wh_state.specs.State.{TableKind, StreamKind, table_in, stream_in, columns_in, columns_at}
 use Rattle.wh_state.specs.Edits.{without, is_among}
 use Rattle.wh_state.specs.Stored.{Stored, first_stored, StoredTable, StoredKind, StoredObject}
@@ -29,7 +29,7 @@ use Rattle.wh_state.specs.Spelling.{IsChange, IsCommit}
 use Rattle.wh_frame.specs.Spelling.{IsPartition}
 use Rattle.wh_state.specs.File.{Keeps}
 use Rattle.wh_state.proofs.AllLaws.{all_map, all_append, all_more, all_at, all_with, all_changed_at, all_filter}
-use Rattle.wh_state.proofs.OrderlyLaws.{KeptTable, standing_pushed, rising_pushed, new_kept}
+use Rattle.wh_state.proofs.OrderlyLaws.{standing_pushed, rising_pushed, new_kept}
 use Rattle.wh_state.proofs.FoundLaws.{FoundAt, found_changed, found_more}
 use Rattle.wh_state.proofs.AppliesLaws.{HasRows, FitRows, VersionFits, IsFirmTable, standing_fits}
 

@@ -4,16 +4,16 @@
 --     left_rise, edited_from     edited rows rise as those before, and lie where these do
 --     made_rise          the rows of each rise
 --     made_all           what holds of edited rows and of added ones holds of each row of theirs
-use Rattle.std.proofs.Common.{◌≡◌, ℕ, zero, suc, ◌+◌, ◌<◌, ◌≤◌, Bool, true, false, cond, List, [], ◌∷◌, ◌++◌, length, map}
-use Rattle.std.proofs.Common.{drop, take, Option, Some, None, refl, sym, ap, subst, ◌∙◌, arith, IsTrue}
+use Rattle.std.proofs.Common.{◌≡◌, ℕ, zero, suc, ◌+◌, ◌≤◌, Bool, true, false, cond, List, [], ◌∷◌, ◌++◌, length, map}
+use Rattle.std.proofs.Common.{drop, take, Option, Some, None, refl, subst, arith, IsTrue}
 use Rattle.std.specs.Prelude.{nat_eq, ◌||◌}
-use Rattle.std.specs.List.{AllByRecursion, filter, list_any}
+use Rattle.std.specs.List.{AllByRecursion, list_any}
 use Rattle.std.specs.FinMap.{get}
 use Rattle.std.proofs.lemmas.Bool.Decides.{nat_tests}
 use Rattle.wh_value.specs.Value.{Row}
-use Rattle.wh_frame.specs.Partition.{Partition, first_number, last_number, numbered, partitions_of, cut, cut_into}
+use Rattle.wh_frame.specs.Partition.{Partition, numbered, partitions_of, cut, cut_into}
 use Rattle.wh_frame.specs.Spelling.{RisesFrom}
-use Rattle.wh_state.specs.Edits.{RowEdits, Edits, row_as, edited_row, edited, is_touched, touched, numbers_gone, by_rows}
+use Rattle.wh_state.specs.Edits.{RowEdits, Edits, row_as, edited, is_touched, touched, numbers_gone, by_rows}
 use Rattle.wh_state.specs.Edits.{made_of, partitions_left, partitions_made}
 use Rattle.wh_state.specs.Commit.{NumberedFrom, Stands}
 use Rattle.wh_state.specs.Orderly.{HasRisingRows}

@@ -4,13 +4,13 @@
 --     ActStands                    so for each act of a commit of edits and moves
 --     acts_go                      what is written for them applies
 --     found_through                what stands at an id that no change drops
-use Rattle.std.proofs.Common.{◌≡◌, ℕ, zero, suc, ◌+◌, ◌<◌, ◌≤◌, Bool, List, [], ◌∷◌, ◌++◌, length, Option, Some, None}
-use Rattle.std.proofs.Common.{option_map, refl, sym, ap, subst, ◌∙◌, arith, IsTrue}
+use Rattle.std.proofs.Common.{◌≡◌, ℕ, suc, ◌+◌, ◌<◌, ◌≤◌, List, [], ◌∷◌, ◌++◌, length, Option, Some, None}
+use Rattle.std.proofs.Common.{refl, sym, subst, arith, IsTrue}
 use Rattle.std.specs.List.{AllByRecursion}
-use Rattle.std.specs.Option.{IfSome, IsSomeAnd}
+use Rattle.std.specs.Option.{IsSomeAnd}
 use Rattle.wh_value.specs.Limit.{bound}
 use Rattle.wh_value.specs.declared.limit.Limit.TheVariants as limits
-use Rattle.wh_state.specs.State.{dropped, last_of, at_id, put_at, changed_at}
+use Rattle.wh_state.specs.State.{dropped, last_of, at_id}
 use Rattle.wh_state.specs.State.{TableKind, StreamKind, table_in}
 use Rattle.wh_state.specs.Edits.{Edits, partitions_made}
 use Rattle.wh_state.specs.Act.{Act, MakesTable, DropsObject, EditsRows, MakesStream, MovesOffset}
@@ -18,15 +18,15 @@ use Rattle.wh_state.specs.Stored.{StoredTable, StoredKind, StoredObject}
 use Rattle.wh_state.specs.Stored.{standing}
 use Rattle.wh_state.specs.Commit.{VersionChange, Change, CreatesTable, Drops, PushesVersion, CreatesStream, SetsOffset}
 use Rattle.wh_state.specs.Commit.{pushed_object, pushed_kind, offset_set, offset_set_kind, changed, all_changed}
-use Rattle.wh_state.specs.Commit.{DoesNotFall, FitsKind, FitsObject, TakesOffset, OffsetApplies, ChangeApplies, AllApply}
+use Rattle.wh_state.specs.Commit.{DoesNotFall, FitsObject, TakesOffset, OffsetApplies, ChangeApplies, AllApply}
 use Rattle.wh_state.specs.Written.{version_written_to, act_written, written}
 use Rattle.wh_state.proofs.AllLaws.{all_at}
 use Rattle.wh_state.proofs.ActLaws.{version_change, IsNoEdit, AreNoEdits, AreEditsFrom, no_more_edits, next_edit}
-use Rattle.wh_state.proofs.ActLaws.{edit_leaves, all_changed_append, orderly_standing}
+use Rattle.wh_state.proofs.ActLaws.{edit_leaves, orderly_standing}
 use Rattle.wh_state.proofs.FoundLaws.{FoundAt, found_changed, found_spared, found_more}
 use Rattle.wh_state.proofs.PartLaws.{made_rise}
-use Rattle.wh_state.proofs.AppliesLaws.{IsFirmTable, IsBelowNext, EditsFit, made_some, version_applies}
-use Rattle.wh_state.proofs.FirmLaws.{IsFirmKind, IsFirmObject, IsFirm, PushRises, ChangeRises, firm_changed}
+use Rattle.wh_state.proofs.AppliesLaws.{IsBelowNext, EditsFit, made_some, version_applies}
+use Rattle.wh_state.proofs.FirmLaws.{IsFirmKind, IsFirmObject, IsFirm, ChangeRises, firm_changed}
 
 -- ---- changes one after the other
 
@@ -74,10 +74,11 @@ edit_goes stamp objects id e firm stands = by_found (at_id objects id) refl stan
     by_kind o (StreamKind s) there stands firm = absurd stands.1
     by_kind o (TableKind t) there stands firm =
         let c : VersionChange = version_change stamp id e t in
-        let applies : FitsObject (Some (record o { kind = TableKind t })) c =
-            (stands.0, version_applies stamp id e t firm stands.1.below stands.1.fit stands.1.later stands.1.few
-            stands.1.few_partitions) in
-        (
+        let applies : FitsObject (Some (record o { kind = TableKind t })) c = (
+          stands.0,
+          version_applies stamp id e t firm stands.1.below stands.1.fit stands.1.later stands.1.few
+              stands.1.few_partitions,
+        ) in (
           subst (λ found. FitsObject found c) (sym there) applies,
           (
             record {
@@ -212,13 +213,15 @@ moves_go stamp start objects (DropsObject id ∷ acts) are stand = absurd stand.
 moves_go stamp start objects (MakesStream name source is_append_only ∷ acts) are stand = absurd stand.0
 moves_go stamp start objects (MovesOffset id offset ∷ acts) are stand =
     let at_start : AllGo stamp (changed stamp objects (SetsOffset id start))
-        (written stamp (changed stamp objects (SetsOffset id start)) acts) =
-        moves_go stamp start (changed stamp objects (SetsOffset id start)) acts are.1
-        (moves_stand stamp start objects id acts are.1 stand.1) in
-    (
+    (written stamp (changed stamp objects (SetsOffset id start)) acts) =
+    moves_go stamp start (changed stamp objects (SetsOffset id start)) acts are.1
+    (moves_stand stamp start objects id acts are.1 stand.1) in (
       subst (λ (n : ℕ). OffsetApplies (at_id objects id) n) (sym stand.0.0) stand.0.1,
-      (tt, subst (λ (n : ℕ). AllGo stamp (changed stamp objects (SetsOffset id n))
-          (written stamp (changed stamp objects (SetsOffset id n)) acts)) (sym stand.0.0) at_start),
+      (
+        tt,
+        subst (λ (n : ℕ). AllGo stamp (changed stamp objects (SetsOffset id n))
+            (written stamp (changed stamp objects (SetsOffset id n)) acts)) (sym stand.0.0) at_start,
+      ),
     )
 
 -- ---- edits, and then moves
