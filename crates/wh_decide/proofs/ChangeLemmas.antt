@@ -1,15 +1,13 @@
 -- Changing statements: their outcome, from what they read and hold and from their effect.
---     is_too_wide          a query of it is too wide
---     is_unread            a source can't be read
+--     is_unread            it is refused for what it reads
 --     is_held              another transaction holds the target, or a stream that is read
 --     is_free              none of these, so it comes to its effect
 --     no_table             the target is none
 --     outcome_is, fails_as what its effect on the table is, or that there is none
 --     is_staged, is_alone  an effect in a transaction, and outside of one
 --     unseen               an INSERT looks at no row of its target
-use Rattle.std.proofs.Common.{◌≡◌, ℕ, true, false, List, [], ◌∷◌, Option, Some, None, option_map, refl, ap, sym, ◌∙◌}
+use Rattle.std.proofs.Common.{◌≡◌, ℕ, true, List, [], ◌∷◌, Option, Some, None, option_map, refl, ap, sym, ◌∙◌}
 use Rattle.wh_value.specs.Value.{Row}
-use Rattle.wh_value.specs.declared.limit.Limit.{Limit}
 use Rattle.wh_value.specs.declared.limit.Limit.TheVariants as limits
 use Rattle.wh_meaning.specs.Query.{Instance}
 use Rattle.wh_naming.specs.Changes.{Change, InsertRows, InsertQuery, Update, Delete, Merge}
@@ -18,18 +16,22 @@ use Rattle.wh_bound_change.specs.declared.change.BoundChange.{BoundChange}
 use Rattle.wh_ddl_bind.specs.View.{change_of}
 use Rattle.wh_effect.specs.Effect as effects
 use Rattle.wh_effect.specs.Effect.{Effect, effect}
-use Rattle.wh_reply.specs.Reply.{Refusal, Reply, OverLimit, TypeMismatch, Locked}
+use Rattle.wh_reply.specs.Reply.{Refusal, OverLimit, TypeMismatch, Locked}
 use Rattle.wh_state.specs.State.{Table}
 use Rattle.wh_state.specs.Objects.{table_at}
 use Rattle.wh_machine.specs.Tests.{refused_if, first_of}
 use Rattle.wh_machine.specs.Offsets.{streams_among}
 use Rattle.wh_machine.specs.Changes.{Changed, Fails, Gives, rows_seen, reply_to, given, given_on, fails_or}
-use Rattle.wh_machine.specs.Transaction.{Transaction, begun, staged, staged_in_state, next_row_of, acts_of, past_limit}
+use Rattle.wh_machine.specs.Transaction.{Transaction, begun, staged, staged_in_state, next_row_of}
 use Rattle.wh_machine.specs.Sessions.{transaction_in, first_locked, with_transaction}
-use Rattle.wh_machine.specs.Outcome.{Machine, Outcome, Refuses, Does, unless}
+use Rattle.wh_machine.specs.Outcome.{Machine, Outcome, Refuses, Does}
 use Rattle.wh_machine.specs.Reading.{objects_seen, instance_read, reading_refusal}
 use Rattle.wh_machine.specs.Statements.{recorded, changes_in, changes_rows}
+use Rattle.wh_naming.specs.Findings.{nothing_found}
+use Rattle.wh_machine.specs.Names.{naming_refusal}
 use Rattle.wh_decide.specs.Changes.{is_insert}
+use Rattle.wh_decide.specs.Sources.{sources_refusal}
+use Rattle.wh_decide.proofs.DefineLemmas.{tests_flat}
 use Rattle.wh_decide.proofs.NamingLemmas.{only_width}
 
 -- what it comes to in the session's transaction, or outside of one
@@ -44,21 +46,28 @@ effect_in m session streams b =
 
 -- ---- tests
 
--- columns, and then what is read, and then holds
-tested : (m : Machine) (session : ℕ) (b : BoundChange) (streams : List ℕ) (wide reading : Option Refusal)
-    (locked : Option ℕ)
+-- what is read, and then holds
+tested : (m : Machine) (session : ℕ) (b : BoundChange) (streams : List ℕ) (found : Option Refusal) (locked : Option ℕ)
     → streams ≡ streams_among m.state.objects b.sources.items
-    → refused_if b.is_wide (OverLimit limits.Output) ≡ wide
-    → reading_refusal m.state.objects m.state.last b.sources.items ≡ reading
+    → sources_refusal m b.is_wide b.sources.items ≡ found
     → first_locked m.sessions session (b.target ∷ streams) ≡ locked
     → changes_rows m session (change_of b) ≡ outcome m session
-    (fails_or (first_of (wide ∷ reading ∷ option_map Locked locked ∷ [])) (effect_in m session streams b))
+    (fails_or (first_of (found ∷ option_map Locked locked ∷ [])) (effect_in m session streams b))
 unfolding changes_rows
-tested m session b streams wide reading locked among at_wide at_reading at_locked =
+tested m session b streams found locked among is at_locked =
     let held : first_locked m.sessions session (b.target ∷ streams_among m.state.objects b.sources.items) ≡ locked =
     ap (λ (ids : List ℕ). first_locked m.sessions session (b.target ∷ ids)) (sym among) ∙ at_locked in
-    λ i. outcome m session (fails_or (first_of (only_width b.is_wide wide at_wide i
-    ∷ at_reading i ∷ option_map Locked (held i) ∷ [])) (effect_in m session (sym among i) b))
+    let wide : Option Refusal = refused_if b.is_wide (OverLimit limits.Output) in
+    let reading : Option Refusal = reading_refusal m.state.objects m.state.last b.sources.items in
+    let tests : first_of (naming_refusal nothing_found b.is_wide ∷ reading ∷ option_map Locked (first_locked m.sessions
+    session (b.target ∷ streams_among m.state.objects b.sources.items)) ∷ [])
+    ≡ first_of (found ∷ option_map Locked locked ∷ []) =
+    (ap (λ (o : Option Refusal). first_of (o ∷ reading ∷ option_map Locked (first_locked m.sessions session (b.target
+    ∷ streams_among m.state.objects b.sources.items)) ∷ [])) (only_width b.is_wide)
+    ∙ ap (λ (o : Option ℕ). first_of (wide ∷ reading ∷ option_map Locked o ∷ [])) held
+    ∙ sym (tests_flat wide reading (option_map Locked locked ∷ []))
+    ∙ ap (λ (o : Option Refusal). first_of (o ∷ option_map Locked locked ∷ [])) is) in
+    λ i. outcome m session (fails_or (tests i) (effect_in m session (sym among i) b))
 
 refuses : (m : Machine) (session : ℕ) (why : Refusal) → outcome m session (Fails why) ≡ Refuses why
 refuses m session why = by_transaction (transaction_in m.sessions session)
@@ -67,37 +76,26 @@ refuses m session why = by_transaction (transaction_in m.sessions session)
     by_transaction None = refl
     by_transaction (Some t) = refl
 
-pub is_too_wide : (m : Machine) (session : ℕ) (b : BoundChange) → b.is_wide ≡ true
-    → changes_rows m session (change_of b) ≡ Refuses (OverLimit limits.Output)
-is_too_wide m session b wide =
-    tested m session b _ _ _ _ refl (ap (λ is. refused_if is (OverLimit limits.Output)) wide) refl refl
-    ∙ refuses m session (OverLimit limits.Output)
-
-pub is_unread : (m : Machine) (session : ℕ) (b : BoundChange) (why : Refusal) → b.is_wide ≡ false
-    → reading_refusal m.state.objects m.state.last b.sources.items ≡ Some why
+pub is_unread : (m : Machine) (session : ℕ) (b : BoundChange) (why : Refusal)
+    → sources_refusal m b.is_wide b.sources.items ≡ Some why
     → changes_rows m session (change_of b) ≡ Refuses why
-is_unread m session b why narrow is =
-    tested m session b _ _ (Some why) _ refl (ap (λ is. refused_if is (OverLimit limits.Output)) narrow) is refl
-    ∙ refuses m session why
+is_unread m session b why is = tested m session b _ (Some why) _ refl is refl ∙ refuses m session why
 
-pub is_held : (m : Machine) (session : ℕ) (b : BoundChange) (streams : List ℕ) (number : ℕ) → b.is_wide ≡ false
-    → reading_refusal m.state.objects m.state.last b.sources.items ≡ None
+pub is_held : (m : Machine) (session : ℕ) (b : BoundChange) (streams : List ℕ) (number : ℕ)
+    → sources_refusal m b.is_wide b.sources.items ≡ None
     → streams ≡ streams_among m.state.objects b.sources.items
     → first_locked m.sessions session (b.target ∷ streams) ≡ Some number
     → changes_rows m session (change_of b) ≡ Refuses (Locked number)
-is_held m session b streams number narrow read among is =
-    tested m session b streams _ None (Some number) among
-    (ap (λ is. refused_if is (OverLimit limits.Output)) narrow) read is
-    ∙ refuses m session (Locked number)
+is_held m session b streams number read among is =
+    tested m session b streams None (Some number) among read is ∙ refuses m session (Locked number)
 
 -- it passes each of them
-pub is_free : (m : Machine) (session : ℕ) (b : BoundChange) (streams : List ℕ) → b.is_wide ≡ false
-    → reading_refusal m.state.objects m.state.last b.sources.items ≡ None
+pub is_free : (m : Machine) (session : ℕ) (b : BoundChange) (streams : List ℕ)
+    → sources_refusal m b.is_wide b.sources.items ≡ None
     → streams ≡ streams_among m.state.objects b.sources.items
     → first_locked m.sessions session (b.target ∷ streams) ≡ None
     → changes_rows m session (change_of b) ≡ outcome m session (effect_in m session streams b)
-is_free m session b streams narrow read among unheld =
-    tested m session b streams _ None None among (ap (λ is. refused_if is (OverLimit limits.Output)) narrow) read unheld
+is_free m session b streams read among unheld = tested m session b streams None None among read unheld
 
 -- ---- effects
 

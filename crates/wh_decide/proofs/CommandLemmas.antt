@@ -21,7 +21,7 @@ use Rattle.wh_ddl_bind.specs.View.{bound_of}
 use Rattle.wh_ddl_bind.specs.Binds.{IsBound}
 use Rattle.wh_ddl_bind.specs.declared.bound.Bound.{Bound}
 use Rattle.wh_reply.specs.Reply.{Refusal, OverLimit, SyntaxError, NoSuchSession, DdlInTransaction, Locked}
-use Rattle.wh_machine.specs.Names.{names_in, refusal_of}
+use Rattle.wh_machine.specs.Names.{refusal_of}
 use Rattle.wh_machine.specs.Sessions.{number_in}
 use Rattle.wh_machine.specs.Outcome.{Machine, Outcome, Refuses, unless, last_test}
 use Rattle.wh_machine.specs.Reading.{has_data}
@@ -54,15 +54,15 @@ command_carried m session tree there = rw there refl
 
 -- by what it may name
 command_meant : (m : Machine) (session : ℕ) (tree : Statement) (names : Names) → is_session session ≡ true
-    → names ≡ names_in m.state.objects
+    → bound names tree ≡ meant_in m tree
     → commanded m session (Asked tree) ≡ carried_out_as m session (bound names tree)
 command_meant m session tree names there same =
-    command_carried m session tree there ∙ ap (λ (n : Names). carried_out_as m session (bound n tree)) (sym same)
+    command_carried m session tree there ∙ ap (carried_out_as m session) (sym same)
 
 -- ---- nothing is found wrong
 
 pub command_bound : (m : Machine) (session : ℕ) (tree : Statement) (names : Names) (b : Bound)
-    → is_session session ≡ true → names ≡ names_in m.state.objects → IsBound b (bound names tree)
+    → is_session session ≡ true → bound names tree ≡ meant_in m tree → IsBound b (bound names tree)
     → carried_out m session None (bound_of b) ≡ commanded m session (Asked tree)
 command_bound m session tree names b there same h =
     sym (command_meant m session tree names there same
@@ -142,7 +142,7 @@ failing m session names f st.Rollback is = absurd (nothing_fails f is)
 failing m session names f _ is = refl
 
 pub command_failing : (m : Machine) (session : ℕ) (tree : Statement) (names : Names) (f : Failing)
-    → is_session session ≡ true → names ≡ names_in m.state.objects → first_failing (bound names tree) ≡ Some f
+    → is_session session ≡ true → bound names tree ≡ meant_in m tree → first_failing (bound names tree) ≡ Some f
     → commanded m session (Asked tree) ≡ Refuses (unwrap_or (earlier_refusal m session tree) (refusal_of f))
 command_failing m session tree names f there same is =
     command_meant m session tree names there same

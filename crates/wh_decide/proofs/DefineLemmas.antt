@@ -1,5 +1,5 @@
 -- CREATE and DROP of a session: their tests, and their outcomes.
---     counts_flat, counts_none     tests behind those of counts
+--     tests_flat, counts_none      tests behind two others
 --     not_past, none_past          a count, and a statement, that isn't refused
 --     defines_by                   a statement by its first failing test
 --     drops_as                     what is written for an object that goes
@@ -21,11 +21,11 @@ use Rattle.wh_decide.specs.Definitions.{drops_written}
 
 -- ---- tests
 
-pub counts_flat : (p q : Option Refusal) (rest : List (Option Refusal))
+pub tests_flat : (p q : Option Refusal) (rest : List (Option Refusal))
     → first_of (first_of (p ∷ q ∷ []) ∷ rest) ≡ first_of (p ∷ q ∷ rest)
-counts_flat None None rest = refl
-counts_flat None (Some why) rest = refl
-counts_flat (Some why) q rest = refl
+tests_flat None None rest = refl
+tests_flat None (Some why) rest = refl
+tests_flat (Some why) q rest = refl
 
 pub counts_none : (p q : Option Refusal) (rest : List (Option Refusal)) → first_of (p ∷ q ∷ rest) ≡ None
     → (p ≡ None) × (first_of rest ≡ None)

@@ -12,5 +12,6 @@ mod NamingLemmas
 mod ChangeLemmas
 mod QueryLemmas
 mod ObjectLemmas
+mod LookupLaws
 mod RequestLemmas
 mod CommandLemmas

@@ -1,4 +1,5 @@
 -- Names that nothing is found wrong with.
+--     alone          the first of one test
 --     only_width     of the tests of names and columns, the one of the columns is left
 use Rattle.std.proofs.Common.{◌≡◌, Bool, [], ◌∷◌, Option, Some, None, option_map, refl, ap, ◌∙◌}
 use Rattle.wh_value.specs.declared.limit.Limit.TheVariants as limits
@@ -11,13 +12,12 @@ none_failing : first_failing nothing_found ≡ None
 unfolding first_failing
 none_failing = refl
 
-alone : (found : Option Refusal) → first_of (found ∷ []) ≡ found
+pub alone : (found : Option Refusal) → first_of (found ∷ []) ≡ found
 alone None = refl
 alone (Some why) = refl
 
-pub only_width : (is_wide : Bool) (found : Option Refusal) → refused_if is_wide (OverLimit limits.Output) ≡ found
-    → naming_refusal nothing_found is_wide ≡ found
-only_width is_wide found is =
+pub only_width : (is_wide : Bool) → naming_refusal nothing_found is_wide ≡ refused_if is_wide (OverLimit limits.Output)
+only_width is_wide =
     ap (λ (failing : Option Failing). first_of (option_map refusal_of failing
     ∷ refused_if is_wide (OverLimit limits.Output) ∷ [])) none_failing
-    ∙ alone (refused_if is_wide (OverLimit limits.Output)) ∙ is
+    ∙ alone (refused_if is_wide (OverLimit limits.Output))

@@ -1,16 +1,21 @@
 -- Streams that can't be read.
+--     wide_first, then_read, found_read     what a statement is refused for that it reads
 --     start_open, start_alone      the stamp that streams are read up to
 --     least_of, least_alone, least_then     the least id of those whose source is gone
 --     is_gone_first, none_gone     the first test that fails
 --     name_there, name_missing     the name of the object at an id
 --     is_stream_at                 whether a stream stands at an id
-use Rattle.std.proofs.Common.{◌≡◌, ℕ, ◌-◌, List, [], ◌∷◌, map, Option, Some, None, option_map, is_some, refl, sym, ap}
-use Rattle.std.proofs.Common.{◌∙◌}
+use Rattle.std.proofs.Common.{◌≡◌, ℕ, ◌-◌, Bool, true, false, List, [], ◌∷◌, map, Option, Some, None, option_map}
+use Rattle.std.proofs.Common.{is_some, refl, sym, ap, ◌∙◌}
 use Rattle.std.specs.List.{filter}
-use Rattle.wh_reply.specs.Reply.{SourceGone}
+use Rattle.wh_value.specs.declared.limit.Limit.TheVariants as limits
+use Rattle.wh_reply.specs.Reply.{SourceGone, OverLimit}
+use Rattle.wh_reply.specs.View.{refusal_view}
+use Rattle.wh_reply.specs.declared.reply.Refusal.{Refusal}
 use Rattle.wh_state.specs.State.{Kind, TableKind, StreamKind, Object, at_id}
 use Rattle.wh_state.specs.Stored.{object_meant}
-use Rattle.wh_machine.specs.Tests.{first_of}
+use Rattle.wh_machine.specs.Tests.{refused_if, first_of}
+use Rattle.wh_machine.specs.Outcome.{Machine}
 use Rattle.wh_state.specs.Objects.{name_at, is_kind_at, is_stream, stream_at}
 use Rattle.wh_machine.specs.Transaction.{Transaction, start_at}
 use Rattle.wh_net.specs.Stream.{is_gone}
@@ -20,10 +25,11 @@ use Rattle.wh_catalog.specs.Kept.{object_in}
 use Rattle.wh_catalog.specs.Object.{kept_object}
 use Rattle.wh_catalog.specs.declared.catalog.Catalog.{Catalog}
 use Rattle.wh_catalog.specs.declared.object.StoredObject.{StoredObject}
-use Rattle.wh_decide.specs.Sources.{lower}
 use Rattle.wh_txn.proofs.SeenLemmas.{catalog_stream}
+use Rattle.wh_decide.specs.Sources.{lower, sources_refusal}
 use Rattle.wh_decide.proofs.CatalogLemmas.{object_there}
 use Rattle.wh_decide.proofs.ListLemmas.{some_is}
+use Rattle.wh_decide.proofs.NamingLemmas.{alone}
 
 pub start_open : (stamp : ℕ) (found : Option Transaction) (number : ℕ)
     → Some number ≡ option_map (λ (t : Transaction). t.number) found → number - 1 ≡ start_at stamp found
@@ -102,3 +108,23 @@ is_stream_at c id = ap is_some (sym (catalog_stream c id)) ∙ by_object (at_id 
         → is_some (stream_at objects id) ≡ is_kind_at is_stream objects id
     by_object None none = rw none refl
     by_object (Some o) there = by_kind o o.kind there refl
+
+-- ---- what a statement reads
+
+pub wide_first : (m : Machine) (is_wide : Bool) (ids : List ℕ) → is_wide ≡ true
+    → sources_refusal m is_wide ids ≡ Some (OverLimit limits.Output)
+wide_first m is_wide ids wide = rw wide refl
+
+pub then_read : (m : Machine) (is_wide : Bool) (ids : List ℕ) → is_wide ≡ false
+    → sources_refusal m is_wide ids ≡ reading_refusal m.state.objects m.state.last ids
+then_read m is_wide ids narrow =
+    ap (λ (is : Bool). first_of (refused_if is (OverLimit limits.Output)
+    ∷ reading_refusal m.state.objects m.state.last ids ∷ [])) narrow
+    ∙ alone (reading_refusal m.state.objects m.state.last ids)
+
+-- as the code finds it
+pub found_read : (m : Machine) (is_wide : Bool) (ids read : List ℕ) (found at : Option Refusal) → read ≡ ids
+    → option_map refusal_view found ≡ sources_refusal m is_wide read → found ≡ at
+    → sources_refusal m is_wide ids ≡ option_map refusal_view at
+found_read m is_wide ids read found at same says is =
+    ap (sources_refusal m is_wide) (sym same) ∙ sym says ∙ ap (option_map refusal_view) is

@@ -25,7 +25,7 @@ use Rattle.wh_machine.specs.Reading.{reading_refusal, asked, start_in, has_data}
 use Rattle.wh_machine.specs.Definitions.{is_long, count_refusals, holder_of, defines}
 use Rattle.wh_machine.specs.Streams.{stream_refusal, create_stream, drop_stream}
 use Rattle.wh_decide.specs.Decision.{machine_at}
-use Rattle.wh_decide.proofs.DefineLemmas.{counts_flat, counts_none, not_past, defines_by}
+use Rattle.wh_decide.proofs.DefineLemmas.{tests_flat, counts_none, not_past, defines_by}
 
 -- ---- CREATE STREAM: its tests
 
@@ -35,7 +35,7 @@ pub refusal_by : (s : State) (n : NewStream) (a b : Option Refusal)
 unfolding stream_refusal
 refusal_by s n a b at_a at_b =
     (λ i. first_of (at_a i ∷ at_b i ∷ []))
-    ∙ counts_flat
+    ∙ tests_flat
     (refused_past limits.ObjectIds (length s.objects + 1))
     (refused_past limits.Objects (live_count s.objects + 1 - 0))
     (refused_if (is_long n.name) (OverLimit limits.Name) ∷ [])

@@ -26,7 +26,7 @@ use Rattle.wh_machine.specs.Tables.{one_if, retention_of, table_refusal, table_m
 use Rattle.wh_decide.specs.Decision.{machine_at}
 use Rattle.wh_decide.specs.Definitions.{drops_written}
 use Rattle.wh_decide.proofs.ListLemmas.{length_changed_at}
-use Rattle.wh_decide.proofs.DefineLemmas.{counts_flat, counts_none, not_past, defines_by}
+use Rattle.wh_decide.proofs.DefineLemmas.{tests_flat, counts_none, not_past, defines_by}
 
 -- ---- CREATE TABLE: its tests
 
@@ -38,7 +38,7 @@ pub refusal_by : (s : State) (n : NewTable) (a b c d : Option Refusal)
 unfolding table_refusal
 refusal_by s n a b c d at_a at_b at_c at_d =
     (λ i. first_of (at_a i ∷ at_b i ∷ at_c i ∷ at_d i ∷ []))
-    ∙ counts_flat
+    ∙ tests_flat
     (refused_past limits.ObjectIds (length s.objects + 1))
     (refused_past limits.Objects (live_count s.objects + 1 - one_if n.replaced))
     (refused_if (list_any is_long (n.name ∷ column_names n.columns)) (OverLimit limits.Name)

@@ -2,15 +2,21 @@
 --     IsSeenAs, AreSeenAs     the rows that they show, of one source and of each
 --     IsRowsOf, AreRowsOf     rows that are those, whichever these are
 --     lower                   the lesser of an id and one that may be there
-use Rattle.std.specs.Prelude.{◌≡◌, ℕ, min, List, [], ◌∷◌, Option, Some, None, Vec}
+--     sources_refusal         what a statement is refused for that it reads
+use Rattle.std.specs.Prelude.{◌≡◌, ℕ, Bool, min, List, [], ◌∷◌, Option, Some, None, Vec}
 use Rattle.std.specs.declared.alloc.Global.{Global}
 use denote.Ref.{Bor}
 use Rattle.wh_value.specs.Value.{Row}
+use Rattle.wh_value.specs.declared.limit.Limit.TheVariants as limits
 use Rattle.wh_meaning.specs.Bag.{Bag, bag_of}
 use Rattle.wh_meaning.specs.Query.{Instance}
 use Rattle.wh_exec.specs.Evaluation.{rows_at}
 use Rattle.wh_state.specs.State.{Table}
+use Rattle.wh_reply.specs.Reply.{Refusal, OverLimit}
+use Rattle.wh_machine.specs.Tests.{refused_if, first_of}
+use Rattle.wh_machine.specs.Outcome.{Machine}
 use Rattle.wh_machine.specs.Queries.{table_bag}
+use Rattle.wh_machine.specs.Reading.{reading_refusal}
 use Rattle.wh_txn.specs.Seen.{Shows}
 use Rattle.wh_txn.specs.declared.seeing.TableSeen.{TableSeen}
 use Rattle.wh_decide.specs.declared.sources.SourceSeen.{SourceSeen}
@@ -44,3 +50,10 @@ AreRowsOf (one ∷ others) [] = ⊥
 abbrev pub lower : Option ℕ → ℕ → ℕ
 lower None id = id
 lower (Some other) id = min other id
+
+-- a query of it is too wide, or else one of its sources can't be read
+abbrev pub sources_refusal : Machine → Bool → List ℕ → Option Refusal
+sources_refusal m is_wide ids = first_of (
+    refused_if is_wide (OverLimit limits.Output)
+    ∷ reading_refusal m.state.objects m.state.last ids
+    ∷ [])

@@ -14,7 +14,7 @@ ghost use Rattle.wh_decide.specs.Sight.{machine_in, objects_seen, Comes};
 
 use crate::decision::Decision;
 use crate::effects::effect_on;
-use crate::reading::{first_locked, reading_refusal, streams_among};
+use crate::reading::{first_locked, sources_refusal, streams_among};
 use crate::settling::{alone, staged};
 use crate::sight::Sight;
 use std::alloc::{AllocError, Global};
@@ -22,12 +22,11 @@ use wh_bound_change::BoundChange;
 use wh_catalog::StoredTable;
 use wh_dml::{Effect, EffectFault};
 use wh_reply::Refusal;
-use wh_value::Limit;
 
 // What INSERT, UPDATE, DELETE and MERGE come to that nothing is found wrong with: in a transaction
-// their effect is staged. Outside of one it is a transaction of its own, which makes a new version of
-// the target, where a row counts, and moves the offsets of the streams that they read; there is no
-// commit where there is neither.
+// their effect is staged. Outside of one it is a transaction of its own, which makes a new version
+// of the target, where a row counts, and moves the offsets of the streams that they read; there is
+// no commit where there is neither.
 pub(crate) fn change_rows(
     alloc: Global,
     sight: &Sight<'_>,
@@ -36,10 +35,7 @@ pub(crate) fn change_rows(
     ensures { IfOk result (λ decision. Comes sight.now decision (machine.changes_rows
         (machine_in sight.now) sight.now.session (view.change_of bound.now))) }
 {
-    if bound.is_wide {
-        return Ok(Decision::Refuse(Refusal::OverLimit(Limit::Output)));
-    }
-    if let Some(why) = reading_refusal(alloc, sight, &bound.sources)? {
+    if let Some(why) = sources_refusal(alloc, sight, bound.is_wide, &bound.sources)? {
         return Ok(Decision::Refuse(why));
     }
     let streams = streams_among(alloc, sight.catalog, &bound.sources)?;

@@ -94,7 +94,7 @@ fn decide_tree(
     if !is_session(sight.session) {
         return Ok(Decision::Refuse(Refusal::NoSuchSession(sight.session)));
     }
-    let objects = named_objects(alloc, sight.catalog)?;
+    let objects = named_objects(alloc, sight.catalog, statement)?;
     let names = Names {
         objects: &objects,
         roots: &[],

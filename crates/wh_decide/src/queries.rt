@@ -13,7 +13,7 @@ ghost use Rattle.wh_decide.specs.Sight.{machine_in, Comes};
 ghost use Rattle.wh_decide.specs.Sources.{AreSeenAs};
 
 use crate::decision::{Decision, Settlement};
-use crate::reading::reading_refusal;
+use crate::reading::sources_refusal;
 use crate::sight::Sight;
 use crate::sources::{SourceSeen, rows_of, sources_seen};
 use std::alloc::{AllocError, Global};
@@ -23,7 +23,7 @@ use wh_exec::evaluate;
 use wh_listing::listed;
 use wh_reply::{Refusal, Reply};
 use wh_scalar::EvalFault;
-use wh_value::{Limit, Row, Text};
+use wh_value::{Row, Text};
 
 // What a SELECT comes to that nothing is found wrong with, over what the session sees. It makes no
 // commit.
@@ -35,10 +35,7 @@ pub(crate) fn select(
     ensures { IfOk result (λ decision. Comes sight.now decision
         (selects (machine_in sight.now) sight.now.session (select_of bound.now))) }
 {
-    if bound.is_wide {
-        return Ok(Decision::Refuse(Refusal::OverLimit(Limit::Output)));
-    }
-    if let Some(why) = reading_refusal(alloc, sight, &bound.sources)? {
+    if let Some(why) = sources_refusal(alloc, sight, bound.is_wide, &bound.sources)? {
         return Ok(Decision::Refuse(why));
     }
     let Some(rows) = listed_rows(alloc, sight, bound)? else {

@@ -10,17 +10,35 @@ ghost use Rattle.wh_machine.specs.Reading as machine;
 ghost use Rattle.wh_machine.specs.Sessions as holds;
 ghost use Rattle.wh_catalog.specs.Catalog.{state_of};
 ghost use Rattle.wh_txn.specs.View.{sessions_of};
-ghost use Rattle.wh_decide.specs.Sources.{lower};
+ghost use Rattle.wh_decide.specs.Sight.{machine_in};
+ghost use Rattle.wh_decide.specs.Sources.{lower, sources_refusal};
 
 use crate::sight::Sight;
 use std::alloc::{AllocError, Global};
 use wh_catalog::Catalog;
 use wh_reply::Refusal;
 use wh_stream::{Stale, is_gone, stale};
-use wh_value::Text;
+use wh_value::{Limit, Text};
 
-// Where one of these sources can't be read: every stream's source has to be there, and then no stream
-// may lie too far back, in the order of the text.
+// Where a statement can't be carried out over what it reads: a query of it is too wide, or else one
+// of its sources can't be read.
+pub(crate) fn sources_refusal(
+    alloc: Global,
+    sight: &Sight<'_>,
+    is_wide: bool,
+    ids: &[u32],
+) -> Result<Option<Refusal>, AllocError>
+    ensures { IfOk result (λ found. option_map refusal_view found
+        ≡ sources_refusal (machine_in sight.now) is_wide ids.now) }
+{
+    if is_wide {
+        return Ok(Some(Refusal::OverLimit(Limit::Output)));
+    }
+    reading_refusal(alloc, sight, ids)
+}
+
+// Where one of these sources can't be read: every stream's source has to be there, and then no
+// stream may lie too far back, in the order of the text.
 pub(crate) fn reading_refusal(
     alloc: Global,
     sight: &Sight<'_>,
@@ -114,8 +132,8 @@ fn is_stream(catalog: &Catalog, id: u32) -> bool
     }
 }
 
-// The number of another session's transaction that holds the target of a statement, or else the first
-// of its streams that one holds.
+// The number of another session's transaction that holds the target of a statement, or else the
+// first of its streams that one holds.
 pub(crate) fn first_locked(sight: &Sight<'_>, target: u32, streams: &[u32]) -> Option<u64>
     ensures { result ≡ holds.first_locked (sessions_of sight.now.sessions.now) sight.now.session
         (target ∷ streams.now) }

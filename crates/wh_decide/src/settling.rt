@@ -53,8 +53,8 @@ pub(crate) fn alone(
     }
 }
 
-// What it comes to in the session's open transaction, which holds the target and the streams that are
-// read from then on.
+// What it comes to in the session's open transaction, which holds the target and the streams that
+// are read from then on.
 pub(crate) fn staged(
     session: u64,
     bound: &BoundChange,

@@ -1,30 +1,28 @@
 use Rattle.std.proofs.Common.{◌≡◌, ℕ, List, ◌∷◌, Option, option_map, refl, ap, sym, subst, ◌∙◌}
 use Rattle.std.specs.Result.{IfOk}
-use Rattle.wh_value.specs.declared.limit.Limit.TheVariants as limits
-use Rattle.wh_reply.specs.Reply.{OverLimit, Locked}
+use Rattle.wh_reply.specs.Reply.{Locked}
 use Rattle.wh_reply.specs.View.{refusal_view}
 use Rattle.wh_reply.specs.declared.reply.Refusal.{Refusal}
 use Rattle.wh_reply.specs.declared.reply.Refusal.TheVariants as refused
 use Rattle.wh_machine.specs.Offsets.{streams_among}
 use Rattle.wh_machine.specs.Sessions.{first_locked}
 use Rattle.wh_machine.specs.Outcome.{Outcome}
-use Rattle.wh_machine.specs.Reading.{reading_refusal}
 use Rattle.wh_catalog.specs.Catalog.{stored_of}
 use Rattle.wh_txn.specs.View.{sessions_of}
 use Rattle.wh_decide.specs.Sight.{machine_in, Comes}
+use Rattle.wh_decide.specs.Sources.{sources_refusal}
 use Rattle.wh_decide.proofs.OutcomeLemmas.{declines}
-use Rattle.wh_decide.proofs.ChangeLemmas.{is_too_wide, is_unread, is_held, is_free}
+use Rattle.wh_decide.proofs.ReadingLemmas.{found_read}
+use Rattle.wh_decide.proofs.ChangeLemmas.{is_unread, is_held, is_free}
 use Rattle.wh_decide.proofs.changes.change_rows.Goals.{In_ok-why, In_ok-streams}
 use Rattle.wh_decide.proofs.changes.change_rows.Goals as goal
 
--- what the test of the sources finds
 read : (c : In_ok-why) (found : Option Refusal) → c.in_ok-why.field-0 ≡ found
-    → reading_refusal (machine_in c.args.sight.now).state.objects (machine_in c.args.sight.now).state.last
-    c.args.bound.now.sources.items ≡ option_map refusal_view found
+    → sources_refusal (machine_in c.args.sight.now) c.args.bound.now.is_wide c.args.bound.now.sources.items
+    ≡ option_map refusal_view found
 read c found at =
-    let m = machine_in c.args.sight.now in
-    ap (reading_refusal m.state.objects m.state.last) (sym c.deref.ensures.value)
-    ∙ sym c.in_ok-why.ensures ∙ ap (option_map refusal_view) at
+    found_read (machine_in c.args.sight.now) c.args.bound.now.is_wide _ _ _ found c.deref.ensures.value
+    c.in_ok-why.ensures at
 
 -- the streams that it reads
 among : (c : In_ok-streams) → c.in_ok-streams.streams.items
@@ -32,19 +30,12 @@ among : (c : In_ok-streams) → c.in_ok-streams.streams.items
 among c = c.in_ok-streams.ensures
     ∙ ap (λ (ids : List ℕ). streams_among (machine_in c.args.sight.now).state.objects ids) c.deref-2.ensures.value
 
-pub returns-then-bound : goal.returns-then-bound
-returns-then-bound c =
-    let sight = c.args.sight.now in
-    declines (stored_of sight.catalog.now) (sessions_of sight.sessions.now) sight.stamp
-    (refused.OverLimit limits.Output) _ (OverLimit limits.Output) refl
-    (is_too_wide (machine_in sight) sight.session c.args.bound.now c.if-bound.true)
-
 pub returns-in-Some : goal.returns-in-Some
 returns-in-Some c =
     let sight = c.args.sight.now in
     let why = refusal_view c.in-Some.why in
     declines (stored_of sight.catalog.now) (sessions_of sight.sessions.now) sight.stamp _ _ why refl
-    (is_unread (machine_in sight) sight.session c.args.bound.now why c.if-bound.false
+    (is_unread (machine_in sight) sight.session c.args.bound.now why
     (read (goal.at.returns-in-Some c).In_ok-why _ c.in-Some.is))
 
 pub returns-in-Some-first_locked : goal.returns-in-Some-first_locked
@@ -55,7 +46,7 @@ returns-in-Some-first_locked c =
     let number = c.in-Some-first_locked.number in
     declines (stored_of sight.catalog.now) (sessions_of sight.sessions.now) sight.stamp
     (refused.Locked number) _ (Locked number) refl
-    (is_held m sight.session b c.in_ok-streams.streams.items number c.if-bound.false
+    (is_held m sight.session b c.in_ok-streams.streams.items number
     (read (goal.at.returns-in-Some-first_locked c).In_ok-why _ c.in_default.is)
     (among (goal.at.returns-in-Some-first_locked c).In_ok-streams)
     (ap (λ (ids : List ℕ). first_locked m.sessions sight.session (b.target ∷ ids)) (sym c.deref-3.ensures.value)
@@ -67,7 +58,7 @@ returns c =
     let m = machine_in sight in
     let b = c.args.bound.now in
     subst (λ (o : Outcome). IfOk c.change_free.result (λ d. Comes sight d o))
-    (sym (is_free m sight.session b c.in_ok-streams.streams.items c.if-bound.false
+    (sym (is_free m sight.session b c.in_ok-streams.streams.items
     (read (goal.at.returns c).In_ok-why _ c.in_default.is)
     (among (goal.at.returns c).In_ok-streams)
     (ap (λ (ids : List ℕ). first_locked m.sessions sight.session (b.target ∷ ids)) (sym c.deref-3.ensures.value)

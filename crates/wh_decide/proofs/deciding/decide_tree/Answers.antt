@@ -1,4 +1,4 @@
-use Rattle.std.proofs.Common.{◌≡◌, [], map, Some, Err, ap, sym, subst, ◌∙◌}
+use Rattle.std.proofs.Common.{◌≡◌, List, map, Some, Err, ap, sym, subst, ◌∙◌}
 use Rattle.std.specs.Prelude.{unwrap_or}
 use Rattle.wh_ddl_naming.specs.Meant.{first_failing}
 use Rattle.wh_ddl_naming.specs.Objects.{Names}
@@ -7,10 +7,12 @@ use Rattle.wh_bind.specs.declared.fault.BindFault.{BindFault}
 use Rattle.wh_ddl_bind.specs.Binds.{Binds}
 use Rattle.wh_naming.specs.View.{failing_of, named_of}
 use Rattle.wh_naming.specs.declared.failing.Failing.{Failing}
+use Rattle.wh_naming.specs.declared.object.Named.{Named}
 use Rattle.wh_reply.specs.View.{refusal_view}
 use Rattle.wh_machine.specs.Names.{refusal_of}
 use Rattle.wh_machine.specs.Outcome.{Refuses}
 use Rattle.wh_decide.specs.Definitions.{earlier_refusal}
+use Rattle.wh_decide.specs.Names.{over}
 use Rattle.wh_decide.specs.Sight.{machine_in}
 use Rattle.wh_decide.proofs.OutcomeLemmas.{comes_as, viewed_or}
 use Rattle.wh_decide.proofs.CommandLemmas.{command_of_none, command_bound, command_failing}
@@ -25,11 +27,12 @@ returns-then-not-is_session c =
 pub returns-in-Ok : goal.returns-in-Ok
 returns-in-Ok c =
     let sight = c.args.sight.now in
-    let same = ap (map named_of) c.deref.ensures.value ∙ c.in_ok-objects.ensures in
+    let tree = c.args.statement.now in
+    let same =
+    ap (λ (os : List Named). bound (over (map named_of os)) tree) c.deref.ensures.value ∙ c.in_ok-objects.ensures in
     comes_as sight c.decide_bound.result
-    (command_bound (machine_in sight) sight.session c.args.statement.now _ c.in-Ok.bound
-    (sym c.is_session.ensures ∙ c.if-not-is_session.false)
-    (λ i. record { objects = same i; roots = [] }) c.in-Ok.ensures)
+    (command_bound (machine_in sight) sight.session tree _ c.in-Ok.bound
+    (sym c.is_session.ensures ∙ c.if-not-is_session.false) same c.in-Ok.ensures)
     c.decide_bound.ensures
 
 pub returns-in-Err-Failing : goal.returns-in-Err-Failing
@@ -38,8 +41,9 @@ returns-in-Err-Failing c =
     let m = machine_in sight in
     let tree = c.args.statement.now in
     let failing = c.in-Err-Failing.failing in
-    let same = ap (map named_of) c.deref.ensures.value ∙ c.in_ok-objects.ensures in
-    let names : Names = record { objects = map named_of c.deref.result.now; roots = [] } in
+    let same =
+    ap (λ (os : List Named). bound (over (map named_of os)) tree) c.deref.ensures.value ∙ c.in_ok-objects.ensures in
+    let names : Names = over (map named_of c.deref.result.now) in
     let fails : first_failing (bound names tree) ≡ Some (failing_of failing) =
     subst (λ (fault : BindFault). Binds (Err fault) (bound names tree)) c.in-Err-Failing.field-0-is
     c.in-Err-Failing.ensures in
@@ -49,6 +53,5 @@ returns-in-Err-Failing c =
     ∙ (λ i. unwrap_or (c.earlier_refusal.ensures i)
     ((c.refusal.ensures ∙ ap (λ (f : Failing). refusal_of (failing_of f)) c.in-Err-Failing.failing-is) i)) in
     command_failing m sight.session tree names (failing_of failing)
-    (sym c.is_session.ensures ∙ c.if-not-is_session.false)
-    (λ i. record { objects = same i; roots = [] }) fails
+    (sym c.is_session.ensures ∙ c.if-not-is_session.false) same fails
     ∙ ap Refuses (sym why)

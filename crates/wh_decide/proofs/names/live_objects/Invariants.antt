@@ -2,7 +2,7 @@ use Rattle.std.proofs.Common.{◌≡◌, ◌+◌, ◌++◌, map, drop}
 use Rattle.wh_naming.specs.View.{named_of}
 use Rattle.wh_machine.specs.Names.{names_from}
 use Rattle.wh_decide.proofs.ObjectLemmas.{seen}
-use Rattle.wh_decide.proofs.names.named_objects.Given as goal
+use Rattle.wh_decide.proofs.names.live_objects.Given as goal
 
 abbrev pub invariant-loop-place : goal.invariant-loop-place
 invariant-loop-place l =
