@@ -1,103 +1,156 @@
 -- Where the causes of faults come from.
---     halt_cause, script_cause     of faults that are passed on
---     passed_on                    a fault that a `?` passes on
---     more_causes                  what causes say, said otherwise
---     answer_cause, turn_cause     of a turn whose event is known; of all turns
-use Rattle.std.proofs.Common.{◌≡◌, ℕ, ◌<◌, ◌≤◌, ◌^◌, List, Option, Some, None, refl, sym, ◌∙◌, subst, arith}
-use Rattle.std.specs.Prelude.{Result, Ok, Err, IfErr, IsErrAnd}
-use Rattle.wh_machine.specs.Step.{Event}
+--     passed_on                                  a fault that a `?` passes on
+--     halt_cause, script_cause, script_long      of faults of the crates below
+--     halted_cause, full_first                   of a turn whose event is known
+--     counted_since, has_cause                   of all turns; of a run
+use Rattle.std.proofs.Common.{◌≡◌, ℕ, ◌+◌, ◌<◌, ◌≤◌, ◌^◌, List, [], ◌∷◌, Option, Some, refl, sym, ap, ◌∙◌, subst, arith}
+use Rattle.std.proofs.Common.{rules}
+use Rattle.std.specs.Prelude.{Result, Ok, Err, IfErr, IsErrAnd, true}
+use Rattle.wh_state.specs.Written.{is_beyond, added_length}
+use Rattle.wh_machine.specs.Step.{Event, text}
 use Rattle.wh_world.specs.Told.{Rose}
-use Rattle.wh_world.specs.declared.disk.Disk.{Ghosts}
-use Rattle.wh_text.specs.Script.{taken_of, Counts}
+use Rattle.wh_world.specs.declared.disk.Disk as disks
+use Rattle.wh_world.specs.declared.source.Source as sources
+use Rattle.wh_world.specs.declared.sink.Sink as sinks
+use Rattle.wh_text.specs.Script.{taken_of}
 use Rattle.wh_text.specs.declared.script.Script.{Script}
 use Rattle.wh_text.specs.declared.fault.ScriptFault.{ScriptFault}
 use Rattle.wh_text.specs.declared.fault.ScriptFault.TheVariants as scripts
 use Rattle.wh_journal.specs.Journal.{limit_of, failed_of}
-use Rattle.wh_engine.specs.Warehouse.{made_in}
+use Rattle.wh_engine.specs.Warehouse.{made_in, machine_of}
 use Rattle.wh_engine.specs.Halts.{Halted}
 use Rattle.wh_engine.specs.declared.fault.Halt.{Halt}
 use Rattle.wh_engine.specs.declared.fault.Halt.TheVariants as halts
 use Rattle.wh_engine.specs.declared.warehouse.Warehouse.{Warehouse}
-use Rattle.wh_shell.specs.Fault.{fault_of_halt, fault_of_script, HasCause, never}
+use Rattle.wh_shell.specs.Fault.{fault_of_script, fault_of_halt, IsCounted, HasCause}
+use Rattle.wh_shell.specs.Point.{Point, point_of}
 use Rattle.wh_shell.specs.Reading.{GivesEvent, FailsBy}
-use Rattle.wh_shell.specs.Room.{Reach, reach_of, LacksRoom, KeepsRoom, IsFull}
+use Rattle.wh_shell.specs.Room.{reach_of, made_at, LacksRoom, first_beyond, fitting_at}
 use Rattle.wh_shell.specs.Run.{WasTooLong}
+use Rattle.wh_shell.specs.Serving.{HaltsBy, IsFull}
+use Rattle.wh_shell.specs.World.{World, world_of, IsLater}
+use Rattle.wh_shell.specs.Writing.{Writes}
 use Rattle.wh_shell.specs.declared.fault.Fault.{Fault}
 use Rattle.wh_shell.specs.declared.fault.Fault.TheVariants.{OutOfMemory, Disk, Script as ScriptFails, Output}
 use Rattle.wh_shell.specs.declared.fault.Fault.TheVariants.{NotWarehouse, FileFull, ScriptTooLong}
-use Rattle.wh_shell.proofs.CountLemmas.{was_too_long}
-use Rattle.wh_shell.proofs.RoomLemmas.{lacks_room, full_more}
+use Rattle.wh_shell.proofs.RoomLemmas.{past_limit, first_lacks, none_fits}
+use Rattle.wh_shell.proofs.Written.{writes_none}
 
 pub passed_on : {A : Type 0} (P : Fault → Type 0) (result : Result A Fault) (fault : Fault) →
     IsErrAnd result (λ e. e ≡ fault) → P fault → IfErr result P
 passed_on P (Ok a) fault is holds = tt
 passed_on P (Err e) fault is holds = subst P (sym is) holds
 
+-- ---- of one event
+
 -- a healthy journal needs no reopening
-pub halt_cause : {D : Type 0} {disk : Ghosts D} (old new : Warehouse D disk) (event : Event) (output : Type 0)
-    (halt : Halt) → failed_of old.journal ≡ None →
-    Halted old new (made_in old event) halt →
-    HasCause (Rose (disk.faults old.disk) (disk.faults new.disk)) ⊥ output never
-    (LacksRoom (limit_of old.journal) event (reach_of old)) never (fault_of_halt halt)
-halt_cause old new event output halts.OutOfMemory healthy halted = tt
-halt_cause old new event output halts.DiskFault healthy halted = halted.disk_fault refl
-halt_cause old new event output (halts.FileFull len need) healthy halted =
+pub halt_cause : {D K : Type 0} {g : disks.Ghosts D} (k : sinks.Ghosts K) (old new : Warehouse D g) (event : Event)
+    (out : K) (halt : Halt) → failed_of old.journal ≡ None → Halted old new (made_in old event) halt →
+    HaltsBy k old new event out out (fault_of_halt halt)
+halt_cause k old new event out halts.OutOfMemory healthy halted = tt
+halt_cause k old new event out halts.DiskFault healthy halted = halted.disk_fault refl
+halt_cause k old new event out (halts.FileFull len need) healthy halted =
     let full = halted.file_full len need refl in
-    record { beyond = full.0; from = full.1; wants = full.2 }
-halt_cause old new event output (halts.NeedsReopen faults) healthy halted =
+    (record { beyond = full.0; from = full.1; wants = full.2 }, refl)
+halt_cause k old new event out (halts.NeedsReopen faults) healthy halted =
     let failed : failed_of old.journal ≡ Some faults = (halted.needs_reopen faults).0 refl in
     cc
 
-pub script_cause : (disk failed output : Type 0) (full : ℕ → ℕ → Type 0) (new : Script) (fault : ScriptFault) →
-    FailsBy failed new fault →
-    HasCause disk failed output never full (λ taken. (2 ^ 30 < taken) × (taken ≡ taken_of new)) (fault_of_script fault)
-script_cause disk failed output full new scripts.OutOfMemory fails = tt
-script_cause disk failed output full new scripts.Read fails = fails
-script_cause disk failed output full new (scripts.TooLong taken) fails = fails
+module _ {D S K : Type 0} (g : disks.Ghosts D) where
+  pub halted_cause : (s : sources.Ghosts S) (k : sinks.Ghosts K) (old new : Warehouse D g) (event : Event)
+      (script script_new : S) (out out_new : K) (why : Fault) → HaltsBy k old new event out out_new why →
+      IsCounted g s k (world_of old.disk script out) (world_of new.disk script_new out_new) why
+  halted_cause s k old new event script script_new out out_new OutOfMemory cause = tt
+  halted_cause s k old new event script script_new out out_new Disk cause = cause
+  halted_cause s k old new event script script_new out out_new ScriptFails cause = absurd cause
+  halted_cause s k old new event script script_new out out_new Output cause = cause
+  halted_cause s k old new event script script_new out out_new (NotWarehouse at) cause = cause
+  halted_cause s k old new event script script_new out out_new (FileFull len need) cause = tt
+  halted_cause s k old new event script script_new out out_new (ScriptTooLong taken) cause = tt
 
-pub more_causes : {disk script output disk_more script_more output_more : Type 0} {foreign foreign_more : ℕ → Type 0}
-    {full full_more : ℕ → ℕ → Type 0} {long long_more : ℕ → Type 0} →
-    (disk → disk_more) → (script → script_more) → (output → output_more) → ((at : ℕ) → foreign at → foreign_more at) →
-    ((len need : ℕ) → full len need → full_more len need) → ((taken : ℕ) → long taken → long_more taken) →
-    (why : Fault) → HasCause disk script output foreign full long why →
-    HasCause disk_more script_more output_more foreign_more full_more long_more why
-more_causes disk script output foreign full long OutOfMemory cause = tt
-more_causes disk script output foreign full long Disk cause = disk cause
-more_causes disk script output foreign full long ScriptFails cause = script cause
-more_causes disk script output foreign full long Output cause = output cause
-more_causes disk script output foreign full long (NotWarehouse at) cause = foreign at cause
-more_causes disk script output foreign full long (FileFull len need) cause = full len need cause
-more_causes disk script output foreign full long (ScriptTooLong taken) cause = long taken cause
+  -- its commit is the first that there is no room for, and nothing was written
+  pub full_first : (k : sinks.Ghosts K) (old new : Warehouse D g) (event : Event) (left left_new : Option (List Event))
+      (script script_new : S) (out out_new : K) (why : Fault) (len need : ℕ) → why ≡ FileFull len need →
+      GivesEvent left event left_new → HaltsBy k old new event out out_new why →
+      IsFull k (point_of old left script out) (world_of new.disk script_new out_new) len need
+  full_first k old new event left left_new script script_new out out_new why len need is gives cause =
+      let full : LacksRoom (limit_of old.journal) event (reach_of old) len need × (out_new ≡ out) =
+      subst (HaltsBy k old new event out out_new) is cause in
+      let lacks = full.0 in
+      let limit : ℕ = limit_of old.journal in
+      let reach = reach_of old in
+      let beyond : is_beyond limit reach.end (made_at reach event) ≡ true = lacks.beyond in
+      record {
+        past = omega (arith, past_limit limit reach.end (made_at reach event) beyond, lacks.from, lacks.wants);
+        first = λ es told.
+            let given = gives.each es told in
+            let first = first_lacks limit event reach given.0 beyond in
+            let from = lacks.from in
+            let wants = lacks.wants in
+            ap (first_beyond limit reach) given.2 ∙ first ∙ cc;
+        written = λ es told.
+            let given = gives.each es told in
+            let none : fitting_at limit reach es ≡ [] =
+            ap (fitting_at limit reach) given.2 ∙ none_fits limit event reach given.0 beyond in
+            subst (λ (fs : List Event). Writes (text (machine_of old) fs) (k.held out) (k.held out_new)) (sym none)
+            (ap k.held full.1 ∙ writes_none (k.held out));
+      }
 
--- of a turn whose event is known
-pub answer_cause : (limit : ℕ) (event : Event) (old : Reach) (left left_new : Option (List Event))
-    (disk script output : Type 0) (long : ℕ → Type 0) (why : Fault) →
-    GivesEvent left event left_new → HasCause disk ⊥ output never (LacksRoom limit event old) never why →
-    HasCause disk script output never (IsFull limit old left) long why
-answer_cause limit event old left left_new disk script output long why gives cause =
-    more_causes (λ x. x) (λ none. absurd none) (λ x. x) (λ at none. none)
-    (λ len need lacks. lacks_room limit event old left left_new len need gives lacks) (λ taken none. absurd none)
-    why cause
+-- ---- of the script
+
+pub script_cause : {D S K : Type 0} (d : disks.Ghosts D) (s : sources.Ghosts S) (k : sinks.Ghosts K)
+    (old new : World D S K) (script : Script) (fault : ScriptFault) →
+    FailsBy (Rose (s.faults old.script) (s.faults new.script)) script fault →
+    IsCounted d s k old new (fault_of_script fault)
+script_cause d s k old new script scripts.OutOfMemory fails = tt
+script_cause d s k old new script scripts.Read fails = fails
+script_cause d s k old new script (scripts.TooLong taken) fails = tt
+
+-- and its number
+pub script_long : (failed : Type 0) (script : Script) (fault : ScriptFault) (taken : ℕ) →
+    fault_of_script fault ≡ ScriptTooLong taken → FailsBy failed script fault →
+    (2 ^ 30 < taken) × (taken ≡ taken_of script)
+script_long failed script scripts.OutOfMemory taken is fails = absurd cc
+script_long failed script scripts.Read taken is fails = absurd cc
+script_long failed script (scripts.TooLong other) taken is fails =
+    let same : taken ≡ other = cc in
+    subst (λ (n : ℕ). (2 ^ 30 < n) × (n ≡ taken_of script)) (sym same) fails
+
+-- no file is full by it
+pub script_fills_none : (fault : ScriptFault) (len need : ℕ) → fault_of_script fault ≡ FileFull len need → ⊥
+script_fills_none scripts.OutOfMemory len need is = cc
+script_fills_none scripts.Read len need is = cc
+script_fills_none (scripts.TooLong taken) len need is = cc
+
+-- ---- of all turns
 
 -- a count that rose since later has risen since earlier
-pub rose_since : (first mid last : ℕ) → first ≤ mid → Rose mid last → Rose first last
+rose_since : (first mid last : ℕ) → first ≤ mid → Rose mid last → Rose first last
 rose_since first mid last later rose = omega arith
 
--- of all turns
-pub turn_cause : (limit limit_now : ℕ) (start now : Reach) (left_start left : Option (List Event))
-    (source source_new : Option (List ℕ)) (first last : Script)
-    (disk disk_mid disk_new script script_mid script_new output output_mid output_new : ℕ) (why : Fault) →
-    limit_now ≡ limit →
-    disk ≤ disk_mid → script ≤ script_mid → output ≤ output_mid → KeepsRoom limit start now left_start left →
-    taken_of first ≡ 0 → Counts first last source source_new →
-    HasCause (Rose disk_mid disk_new) (Rose script_mid script_new) (Rose output_mid output_new) never
-    (IsFull limit_now now left) (λ taken. (2 ^ 30 < taken) × (taken ≡ taken_of last)) why →
-    HasCause (Rose disk disk_new) (Rose script script_new) (Rose output output_new) never
-    (IsFull limit start left_start) (λ taken. WasTooLong taken source source_new) why
-turn_cause limit limit_now start now left_start left source source_new first last disk disk_mid disk_new script
-    script_mid script_new output output_mid output_new why same disk_later
-    script_later output_later room none counts cause =
-    more_causes (rose_since disk disk_mid disk_new disk_later) (rose_since script script_mid script_new script_later)
-    (rose_since output output_mid output_new output_later)
-    (λ at none. none) (λ len need full. full_more limit limit_now start now left_start left len need same room full)
-    (λ taken long. was_too_long first last source source_new taken none counts long) why cause
+module _ {D S K : Type 0} (d : disks.Ghosts D) (s : sources.Ghosts S) (k : sinks.Ghosts K) where
+  pub counted_since : (first mid last : World D S K) → IsLater d s k first mid → (why : Fault) →
+      IsCounted d s k mid last why → IsCounted d s k first last why
+  counted_since first mid last later OutOfMemory cause = tt
+  counted_since first mid last later Disk cause =
+      rose_since (d.faults first.disk) (d.faults mid.disk) (d.faults last.disk) later.disk cause
+  counted_since first mid last later ScriptFails cause =
+      rose_since (s.faults first.script) (s.faults mid.script) (s.faults last.script) later.script cause
+  counted_since first mid last later Output cause =
+      rose_since (k.faults first.out) (k.faults mid.out) (k.faults last.out) later.out cause
+  counted_since first mid last later (NotWarehouse at) cause = cause
+  counted_since first mid last later (FileFull len need) cause = tt
+  counted_since first mid last later (ScriptTooLong taken) cause = tt
+
+  -- what is said apart of a full file and a long script is said with the other causes
+  pub has_cause : (limit : ℕ) (old new : World D S K) (why : Fault) → IsCounted d s k old new why →
+      ((len need : ℕ) → why ≡ FileFull len need → limit < len + need) →
+      ((taken : ℕ) → why ≡ ScriptTooLong taken → WasTooLong taken (s.left old.script) (s.left new.script)) →
+      HasCause d s k limit old new why
+  has_cause limit old new OutOfMemory cause full long = tt
+  has_cause limit old new Disk cause full long = cause
+  has_cause limit old new ScriptFails cause full long = cause
+  has_cause limit old new Output cause full long = cause
+  has_cause limit old new (NotWarehouse at) cause full long = absurd cause
+  has_cause limit old new (FileFull len need) cause full long = full len need refl
+  has_cause limit old new (ScriptTooLong taken) cause full long = long taken refl

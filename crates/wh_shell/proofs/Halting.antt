@@ -1,42 +1,57 @@
 -- How a command ends that wasn't answered in full.
 --     halts_before     it may not have been carried out, and nothing was written
 --     halts_behind     it was carried out, and a front of its reply was written
-use Rattle.std.proofs.Common.{◌≡◌, ⊎_elim, inl, inr, ℕ, List, [], refl, sym, ap, subst, append-nil, Option, Some, None}
+--     reach_carried    where it was carried out
+use Rattle.std.proofs.Common.{⊎_elim, inl, inr, ◌≡◌, ℕ, List, [], refl, subst}
 use Rattle.wh_reply.specs.Reply.{print}
 use Rattle.wh_state.specs.File.{Stands}
 use Rattle.wh_machine.specs.Outcome.{Machine, rest_of}
 use Rattle.wh_machine.specs.Step.{Event, step}
+use Rattle.wh_world.specs.declared.disk.Disk as disks
+use Rattle.wh_world.specs.declared.sink.Sink as sinks
+use Rattle.wh_engine.specs.Warehouse.{machine_of, made_in, led_to}
+use Rattle.wh_engine.specs.Answers.{CarriesOut}
 use Rattle.wh_engine.specs.Leaves.{StandsForEither}
-use Rattle.wh_shell.specs.Writing.{Writes, WritesFront}
-use Rattle.wh_shell.specs.Crash.{Halts}
+use Rattle.wh_engine.specs.declared.warehouse.Warehouse.{Warehouse}
+use Rattle.wh_shell.specs.Open.{IsTold}
+use Rattle.wh_shell.specs.Room.{reach_of, reach_after}
+use Rattle.wh_shell.specs.Serving.{HaltsBy, Halts}
+use Rattle.wh_shell.specs.Writing.{WritesFront}
+use Rattle.wh_shell.specs.declared.fault.Fault.{Fault}
+use Rattle.wh_shell.proofs.Written.{writes_none}
 
--- nothing was written
-writes_none : (held : Option (List ℕ)) → Writes [] held held
-writes_none None = refl
-writes_none (Some bytes) = ap Some (sym (append-nil bytes))
+module _ {D K : Type 0} {g : disks.Ghosts D} (k : sinks.Ghosts K) (old new : Warehouse D g) (event : Event) where
+  -- it may not have been carried out, and nothing was written
+  pub halts_before : (out : K) (why : Fault) →
+      (IsTold old → (image : List ℕ) → g.may_leave new.disk image →
+      StandsForEither (machine_of old).state (step (machine_of old) event).0.state image) →
+      HaltsBy k old new event out out why → Halts k old new event out out why
+  halts_before out why leaves cause = record {
+    front = [];
+    rest = print (step (machine_of old) event).1;
+    parts = refl;
+    written = writes_none (k.held out);
+    leaves = λ told image left. ⊎_elim (λ before. inl (refl, before)) (λ behind. inr behind) (leaves told image left);
+    cause = cause;
+  }
 
--- it may not have been carried out, and nothing was written
-pub halts_before : (told : Type 0) (may_leave : List ℕ → Type 0) (m : Machine) (event : Event)
-    (held : Option (List ℕ)) →
-    (told → (image : List ℕ) → may_leave image → StandsForEither m.state (step m event).0.state image) →
-    Halts told may_leave m event held held
-halts_before told may_leave m event held leaves = record {
-  front = [];
-  rest = print (step m event).1;
-  parts = refl;
-  written = writes_none held;
-  leaves = λ is image left. ⊎_elim (λ before. inl (refl, before)) (λ behind. inr behind) (leaves is image left);
-}
+  -- it was carried out, and a front of its reply was written
+  pub halts_behind : (out out_new : K) (why : Fault) → machine_of new ≡ (step (machine_of old) event).0 →
+      (IsTold old → (image : List ℕ) → g.may_leave new.disk image → Stands image (rest_of (machine_of new))) →
+      WritesFront (print (step (machine_of old) event).1) (k.held out) (k.held out_new) →
+      HaltsBy k old new event out out_new why → Halts k old new event out out_new why
+  halts_behind out out_new why stepped leaves writes cause = record {
+    front = writes.front;
+    rest = writes.rest;
+    parts = writes.parts;
+    written = writes.written;
+    leaves = λ told image left.
+        inr (subst (λ (n : Machine). Stands image (rest_of n)) stepped (leaves told image left));
+    cause = cause;
+  }
 
--- it was carried out, and a front of its reply was written
-pub halts_behind : (told : Type 0) (may_leave : List ℕ → Type 0) (m new : Machine) (event : Event)
-    (held held_new : Option (List ℕ)) →
-    new ≡ (step m event).0 → (told → (image : List ℕ) → may_leave image → Stands image (rest_of new)) →
-    WritesFront (print (step m event).1) held held_new → Halts told may_leave m event held held_new
-halts_behind told may_leave m new event held held_new stepped leaves writes = record {
-  front = writes.front;
-  rest = writes.rest;
-  parts = writes.parts;
-  written = writes.written;
-  leaves = λ is image left. inr (subst (λ (n : Machine). Stands image (rest_of n)) stepped (leaves is image left));
-}
+-- where an event is carried out
+pub reach_carried : {D : Type 0} {g : disks.Ghosts D} (old new : Warehouse D g) (event : Event) →
+    CarriesOut old new (made_in old event) (led_to old event) → reach_of new ≡ reach_after (reach_of old) event
+reach_carried old new event carried =
+    λ i. record { end = carried.grows i; stored = carried.stored i; machine = carried.stepped i }

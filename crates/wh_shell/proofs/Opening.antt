@@ -4,7 +4,7 @@
 --     not_opened                          what a crash leaves where nothing is opened
 --     run_survives, unopened_survives     what a crash leaves of a run
 use Rattle.std.proofs.Common.{◌≡◌, inl, inr, ℕ, ◌+◌, ◌≤◌, List, [], ◌++◌, length, map, refl, sym, ap, subst, ◌∙◌}
-use Rattle.std.proofs.Common.{append-nil, arith, Option, Some}
+use Rattle.std.proofs.Common.{append-nil, arith, Option, Some, option_map}
 use Rattle.std.proofs.lemmas.List.{append_cancel_left}
 use Rattle.wh_frame.specs.File.{records_of, GateEndsAt}
 use Rattle.wh_state.specs.State.{State, at_rest}
@@ -16,12 +16,12 @@ use Rattle.wh_machine.specs.Outcome.{Machine, opened}
 use Rattle.wh_machine.specs.Step.{Event}
 use Rattle.wh_machine.specs.Stop.{most_events, StandsWithin}
 use Rattle.wh_world.specs.Crash.{Only}
+use Rattle.wh_world.specs.declared.disk.Disk.{Ghosts}
 use Rattle.wh_journal.specs.Crash.{LeavesOnly, IsKeptOrShort}
 use Rattle.wh_journal.proofs.CrashLemmas.{both, weaker, started}
 use Rattle.wh_record.proofs.FileLaws.{file_fixes_state}
 use Rattle.wh_engine.specs.Leaves.{StandsForEither}
-use Rattle.wh_shell.specs.Crash.{Survives, SurvivesWith, EndsSafely}
-use Rattle.wh_shell.specs.Run.{IsStart}
+use Rattle.wh_shell.specs.Crash.{Survives, SurvivesWith}
 use Rattle.wh_shell.proofs.Within.{within_none}
 use Rattle.wh_shell.proofs.Survival.{none_survives}
 
@@ -67,63 +67,60 @@ machine_opened file s start m stands keeps means none =
 
 -- ---- what a crash leaves
 
-module _ {D : Type 0} (moment : D → ℕ) (left_since : D → ℕ → List ℕ → Type 0) (may_leave : D → List ℕ → Type 0) where
+module _ {D : Type 0} (d : Ghosts D) where
   -- nothing is opened
-  pub not_opened : (only_now : (disk : D) (image : List ℕ) → left_since disk (moment disk) image →
-      may_leave disk image) →
-      (disk : D) (file : List ℕ) → Only file (may_leave disk) →
-      LeavesOnly moment left_since disk disk (IsKeptOrShort file)
+  pub not_opened : (only_now : (disk : D) (image : List ℕ) → d.left_since disk (d.moment disk) image →
+      d.may_leave disk image) →
+      (disk : D) (file : List ℕ) → Only file (d.may_leave disk) →
+      LeavesOnly d.moment d.left_since disk disk (IsKeptOrShort file)
   not_opened only_now disk file only =
-      weaker moment left_since disk disk (may_leave disk) (IsKeptOrShort file) (λ image left. inl (only image left))
-      (started moment left_since may_leave only_now disk)
+      weaker d.moment d.left_since disk disk (d.may_leave disk) (IsKeptOrShort file)
+      (λ image left. inl (only image left))
+      (started d.moment d.left_since d.may_leave only_now disk)
 
   opened_survives : (first mid last : D) (m : Machine) (es : List Event) (n : ℕ) →
-      LeavesOnly moment left_since first mid (StandsForEither m.state m.state) →
-      Survives moment left_since may_leave mid last m es n → Survives moment left_since may_leave first last m es n
+      LeavesOnly d.moment d.left_since first mid (StandsForEither m.state m.state) →
+      Survives d mid last m es n → Survives d first last m es n
   opened_survives first mid last m es n run survives = record {
-    any_moment = both moment left_since first mid last (StandsWithin m es 0 (most_events m es n))
-        (weaker moment left_since first mid (StandsForEither m.state m.state) (StandsWithin m es 0 (most_events m es n))
+    any_moment = both d.moment d.left_since first mid last (StandsWithin m es 0 (most_events m es n))
+        (weaker d.moment d.left_since first mid (StandsForEither m.state m.state)
+        (StandsWithin m es 0 (most_events m es n))
         (λ image is. within_none m es 0 (most_events m es n) image (omega arith) is) run)
         survives.any_moment;
     at_exit = survives.at_exit;
   }
 
-  -- a run behind an opening
-  pub run_survives : (told : Type 0) (first mid last : D) (bytes left : Option (List ℕ))
-      (told_events : Option (List Event)) (held held_new : Option (List ℕ))
-      (file input before written : List ℕ) (start : State) (now : Machine) (es : List Event) →
-      IsStart bytes left held file input before start es → told_events ≡ Some es → opened start ≡ now → told →
-      LeavesOnly moment left_since first mid (IsKeptOrShort file) →
-      EndsSafely moment left_since may_leave told mid last now told_events held held_new →
-      held_new ≡ Some (before ++ written) →
-      Survives moment left_since may_leave first last (opened start) es (length written)
-  run_survives told first mid last bytes left told_events held held_new file input before written start now es is
-      events_are same known run ends held_is =
-      let all : SurvivesWith moment left_since may_leave mid last now es before held_new =
-      ends.each known es before events_are is.told_output in
-      let appended : before ++ all.written ≡ before ++ written = cc (all.held_is, held_is) in
-      let written_is : all.written ≡ written = append_cancel_left before all.written written appended in
-      let behind : Survives moment left_since may_leave mid last (opened start) es (length all.written) =
-      subst (λ (m : Machine). Survives moment left_since may_leave mid last m es (length all.written)) (sym same)
-      all.survives in
+  -- a run behind an opening, whose output was told
+  pub run_survives : (first mid last : D) (held held_new : Option (List ℕ)) (file before written : List ℕ)
+      (start : State) (now : Machine) (es : List Event) → Stands file start → opened start ≡ now →
+      LeavesOnly d.moment d.left_since first mid (IsKeptOrShort file) →
+      SurvivesWith d mid last now es held held_new →
+      held ≡ Some before → held_new ≡ Some (before ++ written) →
+      Survives d first last (opened start) es (length written)
+  run_survives first mid last held held_new file before written start now es stands same run all told held_is =
+      let told_new : held_new ≡ Some (before ++ all.piece) =
+      all.written ∙ ap (option_map (λ x. x ++ all.piece)) told in
+      let appended : before ++ all.piece ≡ before ++ written = cc (told_new, held_is) in
+      let written_is : all.piece ≡ written = append_cancel_left before all.piece written appended in
+      let behind : Survives d mid last (opened start) es (length all.piece) =
+      subst (λ (m : Machine). Survives d mid last m es (length all.piece)) (sym same) all.survives in
       opened_survives first mid last (opened start) es (length written)
-      (weaker moment left_since first mid (IsKeptOrShort file) (StandsForEither start start)
-      (kept_stands file start is.stands) run)
-      (subst (λ (l : List ℕ). Survives moment left_since may_leave mid last (opened start) es (length l)) written_is
-      behind)
+      (weaker d.moment d.left_since first mid (IsKeptOrShort file) (StandsForEither start start)
+      (kept_stands file start stands) run)
+      (subst (λ (l : List ℕ). Survives d mid last (opened start) es (length l)) written_is behind)
 
   -- a run that opened nothing
-  pub unopened_survives : (counts_now : (disk : D) (t : ℕ) (image : List ℕ) → t ≤ moment disk → may_leave disk image →
-      left_since disk t image) →
-      (old new : D) (bytes left held held_new : Option (List ℕ)) (file input before written : List ℕ) (start : State)
+  pub unopened_survives : (counts_now : (disk : D) (t : ℕ) (image : List ℕ) → t ≤ d.moment disk →
+      d.may_leave disk image → d.left_since disk t image) →
+      (old new : D) (held held_new : Option (List ℕ)) (file before written : List ℕ) (start : State)
       (es : List Event) →
-      IsStart bytes left held file input before start es → LeavesOnly moment left_since old new (IsKeptOrShort file) →
-      held_new ≡ held → held_new ≡ Some (before ++ written) →
-      Survives moment left_since may_leave old new (opened start) es (length written)
-  unopened_survives counts_now old new bytes left held held_new file input before written start es is run same held_is =
-      let appended : before ++ [] ≡ before ++ written = append-nil before ∙ cc (same, held_is, is.told_output) in
+      Stands file start → LeavesOnly d.moment d.left_since old new (IsKeptOrShort file) →
+      held_new ≡ held → held ≡ Some before → held_new ≡ Some (before ++ written) →
+      Survives d old new (opened start) es (length written)
+  unopened_survives counts_now old new held held_new file before written start es stands run same told held_is =
+      let appended : before ++ [] ≡ before ++ written = append-nil before ∙ cc (same, held_is, told) in
       let none : [] ≡ written = append_cancel_left before [] written appended in
-      subst (λ (l : List ℕ). Survives moment left_since may_leave old new (opened start) es (length l)) none
-      (none_survives moment left_since may_leave counts_now old new (opened start) es
-      (weaker moment left_since old new (IsKeptOrShort file) (StandsForEither start start)
-      (kept_stands file start is.stands) run))
+      subst (λ (l : List ℕ). Survives d old new (opened start) es (length l)) none
+      (none_survives d counts_now old new (opened start) es
+      (weaker d.moment d.left_since old new (IsKeptOrShort file) (StandsForEither start start)
+      (kept_stands file start stands) run))

@@ -1,24 +1,45 @@
--- What is written and answered goes on from turn to turn.
+-- What is written and committed goes on from turn to turn.
 --     answers_first, stops_first     a turn whose event is known
+--     stops_none                     a turn that found out no event
 --     goes_not_yet, goes_more        the turns so far
 --     stops_more, serves_all         how they end
 use Rattle.std.proofs.Common.{◌≡◌, ℕ, ◌+◌, ◌<◌, ◌≤◌, List, [], ◌∷◌, ◌++◌, length, refl, ap, sym, ◌∙◌, subst, arith}
-use Rattle.std.proofs.Common.{append_assoc, add-zero, append-nil, length-append, Option, Some, None, Bool, true, false}
-use Rattle.std.specs.Prelude.{option_map, if◌then◌else◌}
+use Rattle.std.proofs.Common.{append_assoc, add-zero, append-nil, length-append, Option, Some, Bool, true, false}
+use Rattle.std.specs.Prelude.{if◌then◌else◌, is_some, IsTrue}
+use Rattle.std.specs.Option.{option_to_list}
 use Rattle.wh_reply.specs.Reply.{is_refusal, print}
+use Rattle.wh_state.specs.Commit.{Commit}
+use Rattle.wh_state.specs.Written.{is_beyond}
 use Rattle.wh_machine.specs.Outcome.{Machine}
 use Rattle.wh_machine.specs.Step.{Event, step, after, text, refusals}
 use Rattle.wh_machine.specs.Stop.{StandsWithin}
 use Rattle.wh_machine.proofs.ReplyLaws.{after_append, text_append, refusals_append}
+use Rattle.wh_world.specs.declared.disk.Disk as disks
+use Rattle.wh_world.specs.declared.source.Source as sources
+use Rattle.wh_world.specs.declared.sink.Sink as sinks
+use Rattle.wh_journal.specs.Journal.{limit_of}
 use Rattle.wh_journal.specs.Crash.{LeavesOnly}
 use Rattle.wh_journal.proofs.CrashLemmas.{both, weaker}
+use Rattle.wh_engine.specs.Warehouse.{machine_of}
 use Rattle.wh_engine.specs.Leaves.{StandsForEither}
+use Rattle.wh_engine.specs.declared.warehouse.Warehouse.{Warehouse}
+use Rattle.wh_shell.specs.Commits.{Adds}
+use Rattle.wh_shell.specs.Crash.{EndsSafely}
+use Rattle.wh_shell.specs.Open.{IsTold}
+use Rattle.wh_shell.specs.Point.{Point, point_of, IsToldAt}
 use Rattle.wh_shell.specs.Reading.{GivesEvent}
-use Rattle.wh_shell.specs.Run.{IsFront}
-use Rattle.wh_shell.specs.Crash.{Halts}
-use Rattle.wh_shell.specs.Serving.{refusals_of, Replies, AnswersFirst, Answers, Finds, Stops, ServesAll, Serves, GoesOn}
-use Rattle.wh_shell.specs.Serving.{Goes}
+use Rattle.wh_shell.specs.Room.{Reach, reach_of, made_at, reach_after, all_made_at, first_beyond, fitting_at}
+use Rattle.wh_shell.specs.World.{World, world_of, IsLater}
+use Rattle.wh_shell.specs.Writing.{Writes, WritesFront}
+use Rattle.wh_shell.specs.Serving.{refusals_of, Carries, Halts, AnswersFirst, Answers, Finds, IsFull, Stops, Serves}
+use Rattle.wh_shell.specs.Serving.{GoesOn, Goes}
+use Rattle.wh_shell.specs.declared.fault.Fault.{Fault}
+use Rattle.wh_shell.proofs.CauseLemmas.{halted_cause, full_first, counted_since}
+use Rattle.wh_shell.proofs.CommitLemmas.{adds_none, adds_then}
+use Rattle.wh_shell.proofs.RoomLemmas.{reach_one, machine_reached, made_more, room_behind, fits_behind}
+use Rattle.wh_shell.proofs.Safety.{halts_safely, safely_more}
 use Rattle.wh_shell.proofs.Within.{within_none, within_either, within_wider}
+use Rattle.wh_shell.proofs.Written.{writes_none, writes_both}
 
 -- ---- one turn
 
@@ -27,58 +48,62 @@ choice_few : (refused : Bool) → (if refused then 1 else 0) ≤ 1
 choice_few true = omega arith
 choice_few false = omega arith
 
--- the first event of what was left was carried out
-pub answers_first : (old new : Machine) (event : Event) (left left_new : Option (List Event))
-    (held held_new : Option (List ℕ)) (count : ℕ) →
-    GivesEvent left event left_new → Replies old new event held held_new count →
-    Answers old new left left_new held held_new count
-answers_first old new event left left_new held held_new count gives done = record {
-  few = subst (λ (x : ℕ). x ≤ 1) (sym done.refused) (choice_few (is_refusal (step old event).1));
-  each = λ es before told_left told_held. let found = gives.each es told_left in record {
-    event = event;
-    rest = found.0;
-    left = found.1;
-    first = found.2;
-    machine = done.machine;
-    written = done.written ∙ ap (option_map (λ x. x ++ print (step old event).1)) told_held;
-    refused = done.refused;
-  };
-}
+module _ {D S K : Type 0} {g : disks.Ghosts D} (k : sinks.Ghosts K) (old new : Warehouse D g) (event : Event)
+    (left left_new : Option (List Event)) (script script_new : S) (out out_new : K) where
+  -- the first event of what was left was carried out
+  pub answers_first : (count : ℕ) → GivesEvent left event left_new → Carries k old new event out out_new count →
+      (IsTold old → LeavesOnly g.moment g.left_since old.disk new.disk
+      (StandsForEither (machine_of old).state (step (machine_of old) event).0.state)) →
+      Answers g k (point_of old left script out) (point_of new left_new script_new out_new) count
+  answers_first count gives done run = record {
+    few = subst (λ (x : ℕ). x ≤ 1) (sym done.refused) (choice_few (is_refusal (step (machine_of old) event).1));
+    each = λ es told. let found = gives.each es told in record {
+      event = event;
+      rest = found.0;
+      first = found.2;
+      left = found.1;
+      room = done.room;
+      reach = done.reach;
+      adds = done.adds;
+      written = done.written;
+      refused = done.refused;
+    };
+    leaves = λ told.
+        subst (λ (r : Reach). LeavesOnly g.moment g.left_since old.disk new.disk
+        (StandsForEither (machine_of old).state r.machine.state)) (sym done.reach) (run told);
+  }
 
--- a front of its reply is a front of the text of all that was left
-front_of_reply : (given : Type 0) (may_leave : List ℕ → Type 0) (old : Machine) (event : Event) (es rest : List Event)
-    (before : List ℕ) (held held_new : Option (List ℕ)) →
-    es ≡ event ∷ rest → held ≡ Some before → Halts given may_leave old event held held_new →
-    IsFront old es before held_new
-front_of_reply given may_leave old event es rest before held held_new first told writes =
-    let behind : List ℕ = text (step old event).0 rest in
-    record {
-      front = writes.front;
-      rest = writes.rest ++ behind;
-      parts =
-          sym (append_assoc writes.front writes.rest behind) ∙ ap (λ x. x ++ behind) writes.parts
-          ∙ sym (ap (text old) first);
-      written = writes.written ∙ ap (option_map (λ x. x ++ writes.front)) told;
-    }
+  -- a front of its reply is a front of the text of all that was left
+  front_of_reply : (es rest : List Event) (why : Fault) → es ≡ event ∷ rest → Halts k old new event out out_new why →
+      WritesFront (text (machine_of old) es) (k.held out) (k.held out_new)
+  front_of_reply es rest why first halts =
+      let behind : List ℕ = text (step (machine_of old) event).0 rest in
+      record {
+        front = halts.front;
+        rest = halts.rest ++ behind;
+        parts =
+            sym (append_assoc halts.front halts.rest behind) ∙ ap (λ x. x ++ behind) halts.parts
+            ∙ sym (ap (text (machine_of old)) first);
+        written = halts.written;
+      }
 
-pub stops_first : (given : Type 0) (may_leave : List ℕ → Type 0) (old : Machine) (event : Event)
-    (left left_new : Option (List Event)) (held held_new : Option (List ℕ)) →
-    GivesEvent left event left_new → Halts given may_leave old event held held_new → Stops old left held held_new
-stops_first given may_leave old event left left_new held held_new gives done = record {
-  each = λ es before told_left told_held. let found = gives.each es told_left in
-      front_of_reply given may_leave old event es found.0 before held held_new found.2 told_held done;
-}
+  -- the first event of what was left was stopped at
+  pub stops_first : (s : sources.Ghosts S) (why : Fault) → GivesEvent left event left_new →
+      (IsTold old → LeavesOnly g.moment g.left_since old.disk new.disk
+      (StandsForEither (machine_of old).state (step (machine_of old) event).0.state)) →
+      Halts k old new event out out_new why →
+      Stops g s k (point_of old left script out) (world_of new.disk script_new out_new) why
+  stops_first s why gives run halts = record {
+    front = λ es told. let found = gives.each es told in front_of_reply es found.0 why found.2 halts;
+    safe = halts_safely g k old new event left left_new script script_new out out_new why gives run halts;
+    cause = halted_cause g s k old new event script script_new out out_new why halts.cause;
+    full = λ len need is.
+        full_first g k old new event left left_new script script_new out out_new why len need is gives halts.cause;
+  }
 
 -- nothing was written
-pub stops_none : (old : Machine) (left : Option (List Event)) (held : Option (List ℕ)) → Stops old left held held
-stops_none old left held = record {
-  each = λ es before told_left told_held. record {
-    front = [];
-    rest = text old es;
-    parts = refl;
-    written = told_held ∙ ap Some (sym (append-nil before));
-  };
-}
+pub stops_none : (m : Machine) (es : List Event) (held : Option (List ℕ)) → WritesFront (text m es) held held
+stops_none m es held = record { front = []; rest = text m es; parts = refl; written = writes_none held }
 
 -- ---- all turns so far
 
@@ -104,142 +129,201 @@ refusals_one start now done event machine =
 
 -- ---- from turn to turn
 
-module _ {D : Type 0} (moment : D → ℕ) (left_since : D → ℕ → List ℕ → Type 0) (told : Type 0) where
+module _ {D S K : Type 0} (d : disks.Ghosts D) (k : sinks.Ghosts K) where
   -- no turn yet
-  pub goes_not_yet : (first : D) (start : Machine) (left_start left : Option (List Event)) (held : Option (List ℕ)) →
+  pub goes_not_yet : (limit : ℕ) (reach : Reach) (left_start left : Option (List Event)) (world : World D S K) →
       left ≡ left_start →
-      (told → LeavesOnly moment left_since first first (StandsForEither start.state start.state)) →
-      Goes moment left_since told first first start start left_start left held held 0
-  goes_not_yet first start left_start left held same run = record {
-    each = λ es before told_left told_held. record {
+      (IsTrue (is_some (d.bytes world.disk)) → LeavesOnly d.moment d.left_since world.disk world.disk
+      (StandsForEither reach.machine.state reach.machine.state)) →
+      Goes d k (record { limit = limit; reach = reach; left = left_start; world = world })
+      (record { limit = limit; reach = reach; left = left; world = world }) 0
+  goes_not_yet limit reach left_start left world same run = record {
+    each = λ es told. record {
       rest = es;
-      left_is = same ∙ told_left;
+      left = same ∙ told;
       done = [];
       parts = refl;
-      machine = refl;
-      held_is = told_held ∙ ap Some (sym (append-nil before));
+      reach = refl;
+      room = refl;
+      fits = refl;
+      adds = adds_none (d.bytes world.disk);
+      written = writes_none (k.held world.out);
       refused = refl;
-      leaves =
-          λ is. weaker moment left_since first first (StandsForEither start.state start.state)
-          (StandsWithin start es 0 0)
-          (λ image either. within_none start es 0 0 image (omega arith) either) (run is);
+      leaves = λ is. weaker d.moment d.left_since world.disk world.disk
+          (StandsForEither reach.machine.state reach.machine.state) (StandsWithin reach.machine es 0 0)
+          (λ image either. within_none reach.machine es 0 0 image (omega arith) either) (run is);
     };
   }
 
-  -- one more event, of told events and told output
-  goes_on_more : (first mid last : D) (start now new : Machine) (es : List Event) (before : List ℕ)
-      (left left_new : Option (List Event)) (held held_new : Option (List ℕ)) (count more : ℕ) →
-      (so_far : GoesOn moment left_since told first mid start now es before left held count) →
-      (told → LeavesOnly moment left_since mid last (StandsForEither now.state new.state)) →
-      AnswersFirst now new so_far.rest (before ++ text start so_far.done) left_new held_new more →
-      GoesOn moment left_since told first last start new es before left_new held_new (count + more)
-  goes_on_more first mid last start now new es before left left_new held held_new count more so_far run answer =
+  -- the machine so far
+  machine_now : (first now : Point D S K) (count : ℕ) (es : List Event) →
+      (so_far : GoesOn d k first now count es) → now.reach.machine ≡ after first.reach.machine so_far.done
+  machine_now first now count es so_far =
+      ap (λ (r : Reach). r.machine) so_far.reach ∙ machine_reached first.reach so_far.done
+
+  -- one more event, of told events
+  goes_on_more : (first now new : Point D S K) (es : List Event) (count more : ℕ) → now.limit ≡ first.limit →
+      (IsToldAt d first → LeavesOnly d.moment d.left_since now.world.disk new.world.disk
+      (StandsForEither now.reach.machine.state new.reach.machine.state)) →
+      (so_far : GoesOn d k first now count es) → AnswersFirst d k now new more so_far.rest →
+      GoesOn d k first new (count + more) es
+  goes_on_more first now new es count more limit run so_far answer =
       let event : Event = answer.event in
       let others : List Event = answer.rest in
       let done : List Event = so_far.done in
+      let start : Machine = first.reach.machine in
+      let machine : now.reach.machine ≡ after start done = machine_now first now count es so_far in
+      let stepped : new.reach.machine ≡ (step now.reach.machine event).0 =
+      ap (λ (r : Reach). r.machine) answer.reach in
       let behind : done ++ event ∷ others ≡ es = ap (λ fs. done ++ fs) (sym answer.first) ∙ so_far.parts in
+      let within : is_beyond first.limit now.reach.end (made_at now.reach event) ≡ false =
+      subst (λ (l : ℕ). is_beyond l now.reach.end (made_at now.reach event) ≡ false) limit answer.room in
+      let fitting : List Event = fitting_at first.limit new.reach others in
+      let commits : all_made_at first.reach done ++ option_to_list (made_at now.reach event)
+      ≡ all_made_at first.reach (then_one done event) =
+      ap (λ (r : Reach). all_made_at first.reach done ++ option_to_list (made_at r event)) so_far.reach
+      ∙ sym (made_more first.reach done event) in
       record {
-        rest = answer.rest;
-        left_is = answer.left;
+        rest = others;
+        left = answer.left;
         done = then_one done event;
         parts = append_assoc done (event ∷ []) others ∙ behind;
-        machine =
-            answer.machine ∙ ap (λ m. (step m event).0) so_far.machine ∙ sym (after_append start done (event ∷ []));
-        held_is = answer.written ∙ ap Some (append_assoc before (text start done) (print (step now event).1))
-            ∙ ap (λ l. Some (before ++ l)) (text_one start now done event so_far.machine);
+        reach = answer.reach ∙ ap (λ (r : Reach). reach_after r event) so_far.reach
+            ∙ sym (reach_one first.reach done event);
+        room = so_far.room ∙ ap (first_beyond first.limit now.reach) answer.first
+            ∙ room_behind first.limit event now.reach new.reach others within answer.reach;
+        fits = so_far.fits ∙ ap (λ fs. done ++ fitting_at first.limit now.reach fs) answer.first
+            ∙ ap (λ fs. done ++ fs) (fits_behind first.limit event now.reach new.reach others within answer.reach)
+            ∙ sym (append_assoc done (event ∷ []) fitting);
+        adds = subst (Adds (d.bytes first.world.disk) (d.bytes new.world.disk)) commits
+            (adds_then (d.bytes first.world.disk) (d.bytes now.world.disk) (d.bytes new.world.disk)
+            (all_made_at first.reach done) (option_to_list (made_at now.reach event)) so_far.adds answer.adds);
+        written = subst (λ (l : List ℕ). Writes l (k.held first.world.out) (k.held new.world.out))
+            (text_one start now.reach.machine done event machine)
+            (writes_both (text start done) (print (step now.reach.machine event).1)
+            (k.held first.world.out) (k.held now.world.out) (k.held new.world.out) so_far.written answer.written);
         refused =
             ap (λ n. n + more) so_far.refused ∙ ap (λ n. refusals start done + n) answer.refused
-            ∙ refusals_one start now done event so_far.machine;
-        leaves = λ is. both moment left_since first mid last (StandsWithin start es 0 (length (then_one done event)))
-            (weaker moment left_since first mid (StandsWithin start es 0 (length done))
+            ∙ refusals_one start now.reach.machine done event machine;
+        leaves = λ is. both d.moment d.left_since first.world.disk now.world.disk new.world.disk
+            (StandsWithin start es 0 (length (then_one done event)))
+            (weaker d.moment d.left_since first.world.disk now.world.disk (StandsWithin start es 0 (length done))
             (StandsWithin start es 0 (length (then_one done event)))
             (within_wider start es 0 (length done) 0 (length (then_one done event)) (omega arith)
             (omega (arith, length-append done (event ∷ [])))) (so_far.leaves is))
-            (weaker moment left_since mid last (StandsForEither now.state new.state)
+            (weaker d.moment d.left_since now.world.disk new.world.disk
+            (StandsForEither now.reach.machine.state new.reach.machine.state)
             (StandsWithin start es 0 (length (then_one done event)))
-            (λ image either. within_either start now new es done others event image behind so_far.machine answer.machine
-            either) (run is));
+            (λ image either. within_either start now.reach.machine new.reach.machine es done others event image behind
+            machine stepped either) (run is));
       }
 
   -- one more event was carried out
-  pub goes_more : (first mid last : D) (start now new : Machine) (left_start left left_new : Option (List Event))
-      (held_start held held_new : Option (List ℕ)) (count more : ℕ) →
-      Goes moment left_since told first mid start now left_start left held_start held count →
-      (told → LeavesOnly moment left_since mid last (StandsForEither now.state new.state)) →
-      Answers now new left left_new held held_new more →
-      Goes moment left_since told first last start new left_start left_new held_start held_new (count + more)
-  goes_more first mid last start now new left_start left left_new held_start held held_new count more goes run answers =
-      record {
-        each = λ es before told_left told_held.
-            let so_far : GoesOn moment left_since told first mid start now es before left held count =
-            goes.each es before told_left told_held in
-            goes_on_more first mid last start now new es before left left_new held held_new count more so_far run
-            (answers.each so_far.rest (before ++ text start so_far.done) so_far.left_is so_far.held_is);
-      }
+  pub goes_more : (first now new : Point D S K) (count more : ℕ) → now.limit ≡ first.limit →
+      (IsToldAt d first → IsToldAt d now) → Goes d k first now count → Answers d k now new more →
+      Goes d k first new (count + more)
+  goes_more first now new count more limit stays goes answers = record {
+    each = λ es told.
+        let so_far : GoesOn d k first now count es = goes.each es told in
+        goes_on_more first now new es count more limit (λ is. answers.leaves (stays is)) so_far
+        (answers.each so_far.rest so_far.left);
+  }
 
   -- what is left makes up the whole text
-  text_parts : (first mid : D) (start now : Machine) (es : List Event) (before : List ℕ) (left : Option (List Event))
-      (held : Option (List ℕ)) (count : ℕ) →
-      (so_far : GoesOn moment left_since told first mid start now es before left held count) →
-      text start so_far.done ++ text now so_far.rest ≡ text start es
-  text_parts first mid start now es before left held count so_far =
-      ap (λ m. text start so_far.done ++ text m so_far.rest) so_far.machine
-      ∙ sym (text_append start so_far.done so_far.rest) ∙ ap (text start) so_far.parts
+  text_parts : (first now : Point D S K) (count : ℕ) (es : List Event) → (so_far : GoesOn d k first now count es) →
+      (fs : List Event) →
+      text first.reach.machine so_far.done ++ text now.reach.machine fs
+      ≡ text first.reach.machine (so_far.done ++ fs)
+  text_parts first now count es so_far fs =
+      ap (λ m. text first.reach.machine so_far.done ++ text m fs) (machine_now first now count es so_far)
+      ∙ sym (text_append first.reach.machine so_far.done fs)
 
   -- a front of the rest is a front of the whole
-  front_more : (first mid : D) (start now : Machine) (es : List Event) (before : List ℕ) (left : Option (List Event))
-      (held held_new : Option (List ℕ)) (count : ℕ) →
-      GoesOn moment left_since told first mid start now es before left held count → Stops now left held held_new →
-      IsFront start es before held_new
-  front_more first mid start now es before left held held_new count so_far stops =
-      let front : List ℕ = text start so_far.done in
-      let end : IsFront now so_far.rest (before ++ front) held_new =
-      stops.each so_far.rest (before ++ front) so_far.left_is so_far.held_is in
+  front_more : (first now : Point D S K) (new : World D S K) (count : ℕ) (es : List Event) →
+      (so_far : GoesOn d k first now count es) →
+      WritesFront (text now.reach.machine so_far.rest) (k.held now.world.out) (k.held new.out) →
+      WritesFront (text first.reach.machine es) (k.held first.world.out) (k.held new.out)
+  front_more first now new count es so_far end =
+      let front : List ℕ = text first.reach.machine so_far.done in
       record {
         front = front ++ end.front;
         rest = end.rest;
         parts = append_assoc front end.front end.rest ∙ ap (λ x. front ++ x) end.parts
-            ∙ text_parts first mid start now es before left held count so_far;
-        written = end.written ∙ ap Some (append_assoc before front end.front);
+            ∙ text_parts first now count es so_far so_far.rest ∙ ap (text first.reach.machine) so_far.parts;
+        written = writes_both front end.front (k.held first.world.out) (k.held now.world.out) (k.held new.out)
+            so_far.written end.written;
       }
 
+  -- the first commit that there is no room for, behind others
+  written_more : (first now : Point D S K) (new : World D S K) (count len need : ℕ) (es : List Event) →
+      now.limit ≡ first.limit → (so_far : GoesOn d k first now count es) → IsFull k now new len need →
+      Writes (text first.reach.machine (fitting_at first.limit first.reach es)) (k.held first.world.out)
+      (k.held new.out)
+  written_more first now new count len need es limit so_far full =
+      let front : List ℕ = text first.reach.machine so_far.done in
+      let fits : List Event = fitting_at first.limit now.reach so_far.rest in
+      let all : front ++ text now.reach.machine (fitting_at now.limit now.reach so_far.rest)
+      ≡ text first.reach.machine (fitting_at first.limit first.reach es) =
+      ap (λ (l : ℕ). front ++ text now.reach.machine (fitting_at l now.reach so_far.rest)) limit
+      ∙ text_parts first now count es so_far fits ∙ ap (text first.reach.machine) (sym so_far.fits) in
+      subst (λ (l : List ℕ). Writes l (k.held first.world.out) (k.held new.out)) all
+      (writes_both front (text now.reach.machine (fitting_at now.limit now.reach so_far.rest))
+      (k.held first.world.out) (k.held now.world.out) (k.held new.out) so_far.written
+      (full.written so_far.rest so_far.left))
+
+  full_more : (first now : Point D S K) (new : World D S K) (count len need : ℕ) → now.limit ≡ first.limit →
+      Goes d k first now count → IsFull k now new len need → IsFull k first new len need
+  full_more first now new count len need limit goes full = record {
+    past = omega (arith, full.past, limit);
+    first = λ es told.
+        let so_far : GoesOn d k first now count es = goes.each es told in
+        so_far.room ∙ ap (λ (l : ℕ). first_beyond l now.reach so_far.rest) (sym limit)
+        ∙ full.first so_far.rest so_far.left;
+    written = λ es told. written_more first now new count len need es limit (goes.each es told) full;
+  }
+
   -- the run stopped at a turn
-  pub stops_more : (first mid : D) (start now : Machine) (left_start left : Option (List Event))
-      (held_start held held_new : Option (List ℕ)) (count : ℕ) →
-      Goes moment left_since told first mid start now left_start left held_start held count →
-      Stops now left held held_new → Stops start left_start held_start held_new
-  stops_more first mid start now left_start left held_start held held_new count goes stops = record {
-    each = λ es before told_left told_held.
-        front_more first mid start now es before left held held_new count (goes.each es before told_left told_held)
-        stops;
+  pub stops_more : (s : sources.Ghosts S) (first now : Point D S K) (new : World D S K) (count : ℕ) (why : Fault) →
+      now.limit ≡ first.limit → (IsToldAt d first → IsToldAt d now) → IsLater d s k first.world now.world →
+      Goes d k first now count → Stops d s k now new why → Stops d s k first new why
+  stops_more s first now new count why limit stays later goes stops = record {
+    front = λ es told.
+        let so_far : GoesOn d k first now count es = goes.each es told in
+        front_more first now new count es so_far (stops.front so_far.rest so_far.left);
+    safe = safely_more d k first now new count stays goes stops.safe;
+    cause = counted_since d s k first.world now.world new later why stops.cause;
+    full = λ len need is. full_more first now new count len need limit goes (stops.full len need is);
   }
 
   -- where no event is left, all of them were carried out
-  all_served : (first mid : D) (start now new : Machine) (es : List Event) (before : List ℕ)
-      (left left_new : Option (List Event)) (held held_new source_new : Option (List ℕ)) (count : ℕ) →
-      GoesOn moment left_since told first mid start now es before left held count →
-      Finds now new left left_new source_new held held_new →
-      ServesAll start new es before count held_new source_new
-  all_served first mid start now new es before left left_new held held_new source_new count so_far finds =
-      let end = finds.ends.each so_far.rest so_far.left_is in
-      let whole : so_far.done ≡ es =
-      sym (append-nil so_far.done) ∙ ap (λ fs. so_far.done ++ fs) (sym end.2) ∙ so_far.parts in
-      record {
-        machine = finds.machine ∙ so_far.machine ∙ ap (after start) whole;
-        written = finds.written ∙ so_far.held_is ∙ ap (λ fs. Some (before ++ text start fs)) whole;
-        refused = so_far.refused ∙ ap (refusals start) whole;
-        read = end.1;
-      }
-
-  -- the script was read to its end
-  pub serves_all : (first mid : D) (start now new : Machine) (left_start left left_new : Option (List Event))
-      (held_start held held_new source_new : Option (List ℕ)) (count : ℕ) →
-      Goes moment left_since told first mid start now left_start left held_start held count →
-      Finds now new left left_new source_new held held_new →
-      Serves start new left_start held_start held_new source_new count
-  serves_all first mid start now new left_start left left_new held_start held held_new source_new count goes finds =
-      record {
-        each = λ es before told_left told_held.
-            all_served first mid start now new es before left left_new held held_new source_new count
-            (goes.each es before told_left told_held) finds;
-      }
+  pub serves_all : (s : sources.Ghosts S) (first now new : Point D S K) (count : ℕ) →
+      (IsToldAt d first → IsToldAt d now) → Goes d k first now count → Finds s now new →
+      EndsSafely d k now new.world → Serves d s k first new.reach.machine new.world count
+  serves_all s first now new count stays goes finds safe = record {
+    each = λ es told.
+        let so_far : GoesOn d k first now count es = goes.each es told in
+        let end = finds.ends.each so_far.rest so_far.left in
+        let whole : so_far.done ≡ es =
+        sym (append-nil so_far.done) ∙ ap (λ fs. so_far.done ++ fs) (sym end.2) ∙ so_far.parts in
+        record {
+          written = subst (λ (fs : List Event).
+              Writes (text first.reach.machine fs) (k.held first.world.out) (k.held new.world.out)) whole
+              (ap k.held finds.out ∙ so_far.written);
+          refused = so_far.refused ∙ ap (refusals first.reach.machine) whole;
+          read = end.1;
+          room = so_far.room ∙ ap (first_beyond first.limit now.reach) end.2;
+          adds = subst (λ (fs : List Event).
+              Adds (d.bytes first.world.disk) (d.bytes new.world.disk) (all_made_at first.reach fs)) whole
+              (subst (λ (last : D).
+              Adds (d.bytes first.world.disk) (d.bytes last) (all_made_at first.reach so_far.done)) (sym finds.disk)
+              so_far.adds);
+        };
+    reached = λ es told.
+        let so_far : GoesOn d k first now count es = goes.each es told in
+        let end = finds.ends.each so_far.rest so_far.left in
+        let whole : so_far.done ≡ es =
+        sym (append-nil so_far.done) ∙ ap (λ fs. so_far.done ++ fs) (sym end.2) ∙ so_far.parts in
+        ap (λ (r : Reach). r.machine) finds.reach ∙ machine_now first now count es so_far
+        ∙ ap (after first.reach.machine) whole;
+    safe = safely_more d k first now new.world count stays goes safe;
+  }

@@ -4,14 +4,14 @@
 --     none_safely                  a turn that carried out nothing
 --     halts_safely                 a turn that was stopped at an event
 --     safely_more                  all turns, the last of which ended so
-use Rattle.std.proofs.Common.{◌≡◌, ⊎_elim, inl, ℕ, ◌≤◌, List, [], ◌++◌, length, refl, sym, ap, subst, ◌∙◌, append_assoc}
-use Rattle.std.proofs.Common.{append-nil, length-append, Option, Some, None}
-use Rattle.std.specs.Prelude.{option_map, is_some, IsTrue}
+use Rattle.std.proofs.Common.{◌≡◌, ⊎_elim, inl, ℕ, ◌≤◌, List, [], ◌++◌, length, refl, sym, ap, subst, ◌∙◌}
+use Rattle.std.proofs.Common.{length-append, Option, Some}
 use Rattle.wh_state.specs.State.{State}
 use Rattle.wh_state.specs.File.{Stands}
 use Rattle.wh_machine.specs.Outcome.{Machine, rest_of}
-use Rattle.wh_machine.specs.Step.{Event, step, text}
+use Rattle.wh_machine.specs.Step.{Event, step, after, text}
 use Rattle.wh_world.specs.declared.disk.Disk.{Ghosts}
+use Rattle.wh_world.specs.declared.sink.Sink as sinks
 use Rattle.wh_journal.specs.Crash.{LeavesOnly}
 use Rattle.wh_journal.proofs.CrashLemmas.{weaker, started}
 use Rattle.wh_engine.specs.Warehouse.{machine_of}
@@ -19,15 +19,17 @@ use Rattle.wh_engine.specs.Leaves.{StandsForEither, Leaves}
 use Rattle.wh_engine.specs.declared.warehouse.Warehouse.{Warehouse}
 use Rattle.wh_engine.proofs.FileLemmas.{stands_for}
 use Rattle.wh_shell.specs.Reading.{GivesEvent}
+use Rattle.wh_shell.specs.Room.{Reach}
 use Rattle.wh_shell.specs.Open.{IsOpen, IsTold}
-use Rattle.wh_shell.specs.Crash.{Survives, SurvivesWith, EndsSafely, Halts}
-use Rattle.wh_shell.specs.Serving.{GoesOn, Goes}
+use Rattle.wh_shell.specs.Point.{Point, point_of, IsToldAt}
+use Rattle.wh_shell.specs.World.{World, world_of}
+use Rattle.wh_shell.specs.Crash.{Survives, EndsSafely}
+use Rattle.wh_shell.specs.Serving.{Halts, GoesOn, Goes}
+use Rattle.wh_shell.specs.declared.fault.Fault.{Fault}
+use Rattle.wh_shell.proofs.Told.{told_file}
+use Rattle.wh_shell.proofs.Written.{writes_none, writes_both}
+use Rattle.wh_shell.proofs.RoomLemmas.{machine_reached}
 use Rattle.wh_shell.proofs.Survival.{none_survives, halt_survives, survives_more}
-
--- told bytes are a file
-pub told_file : (bytes : Option (List ℕ)) → IsTrue (is_some bytes) → (file : List ℕ) × (bytes ≡ Some file)
-told_file None told = cc
-told_file (Some file) told = (file, refl)
 
 module _ {D : Type 0} {g : Ghosts D} where
   -- over an open warehouse
@@ -58,66 +60,65 @@ module _ {D : Type 0} {g : Ghosts D} where
         let still = leaves_open w w (machine_of w).state ready told (leaves_same w (machine_of w).state) in
         ⊎_elim (λ is. is) (λ is. is) (still.each image (counts_now w.disk (g.moment w.disk) image still.later left))
 
-module _ {D : Type 0} (moment : D → ℕ) (left_since : D → ℕ → List ℕ → Type 0) (may_leave : D → List ℕ → Type 0) where
+module _ {D S K : Type 0} (d : Ghosts D) (k : sinks.Ghosts K) where
   -- a turn that was stopped at an event
-  pub halts_safely : (told : Type 0) (old new : D) (m : Machine) (event : Event) (left left_new : Option (List Event))
-      (held held_new : Option (List ℕ)) →
+  pub halts_safely : (old new : Warehouse D d) (event : Event) (left left_new : Option (List Event))
+      (script script_new : S) (out out_new : K) (why : Fault) →
       GivesEvent left event left_new →
-      (told → LeavesOnly moment left_since old new (StandsForEither m.state (step m event).0.state)) →
-      Halts told (may_leave new) m event held held_new →
-      EndsSafely moment left_since may_leave told old new m left held held_new
-  halts_safely told old new m event left left_new held held_new gives run halts = record {
-    each = λ is es before told_left told_held.
+      (IsTold old → LeavesOnly d.moment d.left_since old.disk new.disk
+      (StandsForEither (machine_of old).state (step (machine_of old) event).0.state)) →
+      Halts k old new event out out_new why →
+      EndsSafely d k (point_of old left script out) (world_of new.disk script_new out_new)
+  halts_safely old new event left left_new script script_new out out_new why gives run halts = record {
+    each = λ told es told_left.
         let given = gives.each es told_left in
         record {
-          written = halts.front;
-          held_is = halts.written ∙ ap (option_map (λ x. x ++ halts.front)) told_held;
+          piece = halts.front;
+          written = halts.written;
           survives =
-              subst (λ (fs : List Event). Survives moment left_since may_leave old new m fs (length halts.front))
+              subst (λ (fs : List Event). Survives d old.disk new.disk (machine_of old) fs (length halts.front))
               (sym given.2)
-              (halt_survives moment left_since may_leave old new m event given.0 halts.front halts.rest halts.parts
-              (run is) (halts.leaves is));
+              (halt_survives d old.disk new.disk (machine_of old) event given.0 halts.front halts.rest halts.parts
+              (run told) (halts.leaves told));
         };
   }
 
   -- all turns, the last of which ended so
-  pub safely_more : (told told_now : Type 0) (first mid last : D) (start now : Machine)
-      (left_start left : Option (List Event)) (held_start held held_new : Option (List ℕ)) (count : ℕ) →
-      (told → told_now) → Goes moment left_since told first mid start now left_start left held_start held count →
-      EndsSafely moment left_since may_leave told_now mid last now left held held_new →
-      EndsSafely moment left_since may_leave told first last start left_start held_start held_new
-  safely_more told told_now first mid last start now left_start left held_start held held_new count stays goes ends =
-      record {
-        each = λ is es before told_left told_held.
-            let so_far : GoesOn moment left_since told first mid start now es before left held count =
-            goes.each es before told_left told_held in
-            let front : List ℕ = text start so_far.done in
-            let more : SurvivesWith moment left_since may_leave mid last now so_far.rest (before ++ front) held_new =
-            ends.each (stays is) so_far.rest (before ++ front) so_far.left_is so_far.held_is in
-            record {
-              written = front ++ more.written;
-              held_is = more.held_is ∙ ap Some (append_assoc before front more.written);
-              survives =
-                  subst (Survives moment left_since may_leave first last start es)
-                  (sym (length-append front more.written))
-                  (survives_more moment left_since may_leave first mid last start now es so_far.done so_far.rest
-                  (length more.written) so_far.parts so_far.machine (so_far.leaves is) more.survives);
-            };
-      }
+  pub safely_more : (first now : Point D S K) (new : World D S K) (count : ℕ) →
+      (IsToldAt d first → IsToldAt d now) → Goes d k first now count → EndsSafely d k now new →
+      EndsSafely d k first new
+  safely_more first now new count stays goes ends = record {
+    each = λ told es told_left.
+        let start : Machine = first.reach.machine in
+        let so_far : GoesOn d k first now count es = goes.each es told_left in
+        let machine : now.reach.machine ≡ after start so_far.done =
+        ap (λ (r : Reach). r.machine) so_far.reach ∙ machine_reached first.reach so_far.done in
+        let front : List ℕ = text start so_far.done in
+        let more = ends.each (stays told) so_far.rest so_far.left in
+        record {
+          piece = front ++ more.piece;
+          written =
+              writes_both front more.piece (k.held first.world.out) (k.held now.world.out) (k.held new.out)
+              so_far.written more.written;
+          survives =
+              subst (Survives d first.world.disk new.disk start es) (sym (length-append front more.piece))
+              (survives_more d first.world.disk now.world.disk new.disk start now.reach.machine es so_far.done
+              so_far.rest (length more.piece) so_far.parts machine (so_far.leaves told) more.survives);
+        };
+  }
 
-  module _ (counts_now : (disk : D) (t : ℕ) (image : List ℕ) → t ≤ moment disk → may_leave disk image →
-      left_since disk t image) where
-    -- a turn that carried out nothing
-    pub none_safely : (told : Type 0) (old new : D) (m m_new : Machine) (left : Option (List Event))
-        (held held_new : Option (List ℕ)) → held_new ≡ held → m_new ≡ m →
-        (told → LeavesOnly moment left_since old new (StandsForEither m.state m_new.state)) →
-        EndsSafely moment left_since may_leave told old new m left held held_new
-    none_safely told old new m m_new left held held_new same machine run = record {
-      each = λ is es before told_left told_held. record {
-        written = [];
-        held_is = same ∙ told_held ∙ ap Some (sym (append-nil before));
-        survives = none_survives moment left_since may_leave counts_now old new m es
-            (subst (λ (n : Machine). LeavesOnly moment left_since old new (StandsForEither m.state n.state)) machine
-            (run is));
-      };
-    }
+  -- a turn that carried out nothing, and left the disk
+  pub none_safely : (counts_now : (disk : D) (t : ℕ) (image : List ℕ) → t ≤ d.moment disk → d.may_leave disk image →
+      d.left_since disk t image) →
+      (old : Point D S K) (new : World D S K) → new.out ≡ old.world.out → new.disk ≡ old.world.disk →
+      (IsToldAt d old → LeavesOnly d.moment d.left_since old.world.disk old.world.disk
+      (StandsForEither old.reach.machine.state old.reach.machine.state)) → EndsSafely d k old new
+  none_safely counts_now old new out disk run = record {
+    each = λ told es told_left. record {
+      piece = [];
+      written = ap k.held out ∙ writes_none (k.held old.world.out);
+      survives =
+          subst (λ (last : D). Survives d old.world.disk last old.reach.machine es 0) (sym disk)
+          (none_survives d counts_now old.world.disk old.world.disk old.reach.machine es (run told));
+    };
+  }

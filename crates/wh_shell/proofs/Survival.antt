@@ -11,6 +11,7 @@ use Rattle.wh_machine.specs.Outcome.{Machine, rest_of}
 use Rattle.wh_machine.specs.Step.{Event, step, after, text}
 use Rattle.wh_machine.specs.Stop.{whole_replies, most_events, StandsWithin}
 use Rattle.wh_machine.proofs.ReplyLaws.{whole_replies_of, no_whole_reply, few_replies}
+use Rattle.wh_world.specs.declared.disk.Disk.{Ghosts}
 use Rattle.wh_journal.specs.Crash.{LeavesOnly}
 use Rattle.wh_journal.proofs.CrashLemmas.{both, weaker}
 use Rattle.wh_engine.specs.Leaves.{StandsForEither}
@@ -83,17 +84,17 @@ ended m event others front rest image parts (inr is) =
     (most_events m (event ∷ others) (length front)) image refl (whole_in_front m event others front rest parts)
     (omega arith) is
 
-module _ {D : Type 0} (moment : D → ℕ) (left_since : D → ℕ → List ℕ → Type 0) (may_leave : D → List ℕ → Type 0) where
+module _ {D : Type 0} (d : Ghosts D) where
   -- a command was begun, and a front of its reply was written
   pub halt_survives : (old new : D) (m : Machine) (event : Event) (others : List Event) (front rest : List ℕ) →
       front ++ rest ≡ print (step m event).1 →
-      LeavesOnly moment left_since old new (StandsForEither m.state (step m event).0.state) →
-      ((image : List ℕ) → may_leave new image →
+      LeavesOnly d.moment d.left_since old new (StandsForEither m.state (step m event).0.state) →
+      ((image : List ℕ) → d.may_leave new image →
       ((front ≡ []) × Stands image (rest_of m)) ⊎ Stands image (rest_of (step m event).0)) →
-      Survives moment left_since may_leave old new m (event ∷ others) (length front)
+      Survives d old new m (event ∷ others) (length front)
   halt_survives old new m event others front rest parts run leaves = record {
     any_moment =
-        weaker moment left_since old new (StandsForEither m.state (step m event).0.state)
+        weaker d.moment d.left_since old new (StandsForEither m.state (step m event).0.state)
         (StandsWithin m (event ∷ others) 0 (most_events m (event ∷ others) (length front)))
         (begun m event others (length front)) run;
     at_exit = λ image left. ended m event others front rest image parts (leaves image left);
@@ -102,9 +103,9 @@ module _ {D : Type 0} (moment : D → ℕ) (left_since : D → ℕ → List ℕ 
   -- a run behind the first events
   pub survives_more : (first last new : D) (start now : Machine) (es done others : List Event) (n : ℕ) →
       done ++ others ≡ es → now ≡ after start done →
-      LeavesOnly moment left_since first last (StandsWithin start es 0 (length done)) →
-      Survives moment left_since may_leave last new now others n →
-      Survives moment left_since may_leave first new start es (length (text start done) + n)
+      LeavesOnly d.moment d.left_since first last (StandsWithin start es 0 (length done)) →
+      Survives d last new now others n →
+      Survives d first new start es (length (text start done) + n)
   survives_more first last new start now es done others n parts machine so_far survives =
       let all : ℕ = length (text start done) + n in
       let whole = whole_more start now es done others n parts machine in
@@ -116,12 +117,12 @@ module _ {D : Type 0} (moment : D → ℕ) (left_since : D → ℕ → List ℕ 
       (omega arith) (omega (arith, most))
       (subst (λ (m : Machine). StandsWithin m others least (most_events now others n) image) machine within) in
       record {
-        any_moment = both moment left_since first last new (StandsWithin start es 0 (most_events start es all))
-            (weaker moment left_since first last (StandsWithin start es 0 (length done))
+        any_moment = both d.moment d.left_since first last new (StandsWithin start es 0 (most_events start es all))
+            (weaker d.moment d.left_since first last (StandsWithin start es 0 (length done))
             (StandsWithin start es 0 (most_events start es all))
             (λ image within. within_wider start es 0 (length done) 0 (most_events start es all) (omega arith)
             (omega (arith, most)) image within) so_far)
-            (weaker moment left_since last new (StandsWithin now others 0 (most_events now others n))
+            (weaker d.moment d.left_since last new (StandsWithin now others 0 (most_events now others n))
             (StandsWithin start es 0 (most_events start es all))
             (λ image within. within_wider start es (length done + 0) (most_events start es all) 0
             (most_events start es all) (omega arith) (omega arith) image
@@ -132,20 +133,21 @@ module _ {D : Type 0} (moment : D → ℕ) (left_since : D → ℕ → List ℕ 
             (further (whole_replies now others n) image (survives.at_exit image left));
       }
 
-  module _ (counts_now : (disk : D) (t : ℕ) (image : List ℕ) → t ≤ moment disk → may_leave disk image →
-      left_since disk t image) where
+  module _ (counts_now : (disk : D) (t : ℕ) (image : List ℕ) → t ≤ d.moment disk → d.may_leave disk image →
+      d.left_since disk t image) where
     -- what a crash now leaves is among what one since an earlier moment may have left
-    pub leaves_now : (old new : D) (P : List ℕ → Type 0) → LeavesOnly moment left_since old new P → (image : List ℕ) →
-        may_leave new image → P image
-    leaves_now old new P run image left = run.each image (counts_now new (moment old) image run.later left)
+    pub leaves_now : (old new : D) (P : List ℕ → Type 0) → LeavesOnly d.moment d.left_since old new P →
+        (image : List ℕ) → d.may_leave new image → P image
+    leaves_now old new P run image left = run.each image (counts_now new (d.moment old) image run.later left)
 
     -- no command was carried out
     pub none_survives : (old new : D) (m : Machine) (es : List Event) →
-        LeavesOnly moment left_since old new (StandsForEither m.state m.state) →
-        Survives moment left_since may_leave old new m es 0
+        LeavesOnly d.moment d.left_since old new (StandsForEither m.state m.state) →
+        Survives d old new m es 0
     none_survives old new m es run = record {
       any_moment =
-          weaker moment left_since old new (StandsForEither m.state m.state) (StandsWithin m es 0 (most_events m es 0))
+          weaker d.moment d.left_since old new (StandsForEither m.state m.state)
+          (StandsWithin m es 0 (most_events m es 0))
           (λ image is. within_none m es 0 (most_events m es 0) image (omega arith) is) run;
       at_exit =
           λ image left. within_none m es (whole_replies m es 0) (most_events m es 0) image

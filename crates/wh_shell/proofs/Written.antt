@@ -1,11 +1,18 @@
 -- What is written piece by piece.
-use Rattle.std.proofs.Common.{◌≡◌, ℕ, ◌+◌, ◌-◌, List, ◌++◌, length, take, drop, ap, sym, ◌∙◌, subst, arith}
-use Rattle.std.proofs.Common.{append_assoc, Option, Some, None}
+--     writes_none, writes_both, writes_more     nothing; two pieces; more of one piece
+--     writes_front                              what is written so far
+use Rattle.std.proofs.Common.{◌≡◌, ℕ, ◌+◌, ◌-◌, List, ◌++◌, length, take, drop, refl, ap, sym, ◌∙◌, subst, arith, []}
+use Rattle.std.proofs.Common.{append-nil, append_assoc, Option, Some, None}
 use Rattle.std.specs.Prelude.{option_map}
 use Rattle.std.proofs.Math.Seq.{take-add}
 use Rattle.std.proofs.lemmas.List.{take-append-drop}
 use Rattle.std.proofs.lemmas.Grind.{common_steps}
 use Rattle.wh_shell.specs.Writing.{Writes, WritesFront}
+
+-- nothing was written
+pub writes_none : (held : Option (List ℕ)) → Writes [] held held
+writes_none None = refl
+writes_none (Some bytes) = ap Some (sym (append-nil bytes))
 
 -- two pieces are written one behind the other
 pub writes_both : (first second : List ℕ) (a b c : Option (List ℕ)) → Writes first a b → Writes second b c

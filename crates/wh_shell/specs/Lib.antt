@@ -1,11 +1,16 @@
 pub mod Code
+pub mod Commits
 pub mod Crash
 pub mod Events
 pub mod Fault
+pub mod Full
 pub mod Laws
 pub mod Open
+pub mod Point
+pub mod Promised
 pub mod Reading
 pub mod Room
 pub mod Run
 pub mod Serving
+pub mod World
 pub mod Writing

@@ -15,15 +15,14 @@ pub(crate) struct Reader {
 
 impl Reader {
     ghost use Rattle.std.specs.Prelude.{◌≡◌, ◌<◌, ◌≤◌, ◌^◌, ℕ, List, Option, Some, None};
-    ghost use Rattle.std.specs.Prelude.{option_map, MatchOption, IfSome};
+    ghost use Rattle.std.specs.Prelude.{option_map, IfSome};
     ghost use Rattle.std.specs.Prelude.{IfOk, OnOk, IfErr, IsErrOf};
     ghost use Rattle.wh_world.specs.Told.{Rose};
     ghost use Rattle.wh_text.specs.View.{line_view};
     ghost use Rattle.wh_text.specs.Turn.{ahead_and};
     ghost use Rattle.wh_text.specs.Script.{ahead_of, taken_of, consumed_of, fault_of, Counts};
-    ghost use Rattle.wh_decide.specs.Event.{event_of};
     ghost use Rattle.wh_shell.specs.Events.{events};
-    ghost use Rattle.wh_shell.specs.Reading.{unread, GivesEvent, EndsEvents, Turns, FailsBy};
+    ghost use Rattle.wh_shell.specs.Reading.{unread, Gives, Turns, FailsBy};
 
     /// At the start of a script. Takes no memory.
     pub(crate) fn new(alloc: Global) -> Reader
@@ -41,11 +40,8 @@ impl Reader {
     /// The next event; None at the end of the script. Nothing more is to be read after an Err.
     pub(crate) fn next<S: Source>(&mut self, source: &mut S) -> Result<Option<Event>, ScriptFault>
         requires { fault_of self.old.script ≡ None }
-        ensures turn { IfOk result (λ found. MatchOption found
-            (EndsEvents (unread self.old (S.left source.old))
-            (unread self.new (S.left source.new)) (S.left source.new))
-            (λ event. GivesEvent (unread self.old (S.left source.old))
-            (event_of event) (unread self.new (S.left source.new)))) }
+        ensures turn { IfOk result (Gives (unread self.old (S.left source.old))
+            (unread self.new (S.left source.new)) (S.left source.new)) }
         ensures progress { IfOk result (λ found. IfSome found (λ event.
             consumed_of self.old.script < consumed_of self.new.script)) }
         ensures goes { OnOk result (fault_of self.new.script ≡ None) }

@@ -1,23 +1,19 @@
-ghost use Rattle.std.specs.Prelude.{◌≡◌, ◌+◌, ◌-◌, ◌<◌, ◌≤◌, ◌^◌, ℕ, List, length};
-ghost use Rattle.std.specs.Prelude.{Some, None, option_map, if◌then◌else◌};
-ghost use Rattle.std.specs.Prelude.{IfOk, OnOk, OnErr, IfErr, IsErrOf, MatchOption, IfSome};
+ghost use Rattle.std.specs.Prelude.{◌≡◌, ◌≤◌, ℕ, None, option_map, if◌then◌else◌};
+ghost use Rattle.std.specs.Prelude.{IfOk, OnOk, IfErr, IsErrOf};
 ghost use Rattle.wh_reply.specs.Reply.{is_refusal};
 ghost use Rattle.wh_reply.specs.View.{reply_view};
-ghost use Rattle.wh_world.specs.Told.{Rose};
-ghost use Rattle.wh_text.specs.Script.{taken_of, consumed_of, fault_of, Counts};
-ghost use Rattle.wh_journal.specs.Journal.{limit_of};
+ghost use Rattle.wh_text.specs.Script.{fault_of};
 ghost use Rattle.wh_decide.specs.Event.{event_of};
 ghost use Rattle.wh_engine.specs.Warehouse.{machine_of, led_to};
 ghost use Rattle.wh_engine.specs.Leaves.{Leaves};
+ghost use Rattle.wh_shell.specs.Code.{status_of};
 ghost use Rattle.wh_shell.specs.Events.{events};
-ghost use Rattle.wh_shell.specs.Fault.{HasCause, never};
-ghost use Rattle.wh_shell.specs.Reading.{unread};
-ghost use Rattle.wh_shell.specs.Open.{IsOpen, StaysOpen, IsTold};
-ghost use Rattle.wh_shell.specs.Room.{reach_of, HasRoom, LacksRoom, KeepsRoom};
-ghost use Rattle.wh_shell.specs.Room.{HasRoomForAll, IsFull};
-ghost use Rattle.wh_shell.specs.Crash.{Halts, EndsSafely};
-ghost use Rattle.wh_shell.specs.Run.{WasTooLong};
-ghost use Rattle.wh_shell.specs.Serving.{Replies, Answers, Finds, Stops, Serves};
+ghost use Rattle.wh_shell.specs.Open.{IsOpen, StaysOpen};
+ghost use Rattle.wh_shell.specs.Point.{point_of};
+ghost use Rattle.wh_shell.specs.Reading.{unread, Reads};
+ghost use Rattle.wh_shell.specs.Run.{StopsWhereTooLong};
+ghost use Rattle.wh_shell.specs.Serving.{Carries, Halts, Advances, Stops, Serves};
+ghost use Rattle.wh_shell.specs.World.{world_of, IsLater};
 
 use crate::Fault;
 use crate::reader::Reader;
@@ -39,33 +35,17 @@ pub(crate) fn serve<S: Source, K: Sink, D: Disk>(
     script: &mut S,
     out: &mut K,
 ) -> Result<u64, Fault>
-    requires ready { IsOpen warehouse.old }
-    ensures served { IfOk result (λ refused. Serves
-        (machine_of warehouse.old) (machine_of warehouse.new)
-        (option_map events (S.left script.old))
-        (K.held out.old) (K.held out.new) (S.left script.new) refused) }
+    requires { IsOpen warehouse.old }
+    ensures served { IfOk result (Serves D.Disk S.Source K.Sink
+        (point_of warehouse.old (option_map events (S.left script.old)) script.old out.old)
+        (machine_of warehouse.new) (world_of warehouse.new.disk script.new out.new)) }
     ensures ready { OnOk result (StaysOpen warehouse.old warehouse.new) }
-    ensures room { OnOk result (HasRoomForAll (limit_of warehouse.old.journal)
-        (reach_of warehouse.old) (option_map events (S.left script.old))) }
 
     // Where it is stopped, a front of the text was written.
-    ensures stopped { OnErr result (Stops (machine_of warehouse.old)
-        (option_map events (S.left script.old)) (K.held out.old) (K.held out.new)) }
-    ensures causes { IfErr result (HasCause
-        (Rose (D.faults warehouse.old.disk) (D.faults warehouse.new.disk))
-        (Rose (S.faults script.old) (S.faults script.new))
-        (Rose (K.faults out.old) (K.faults out.new)) never
-        (IsFull (limit_of warehouse.old.journal) (reach_of warehouse.old)
-        (option_map events (S.left script.old)))
-        (λ taken. WasTooLong taken (S.left script.old) (S.left script.new))) }
-
-    // What a crash leaves, and a script of too many bytes, over any outcome.
-    ensures safe { EndsSafely D.moment D.left_since D.may_leave (IsTold warehouse.old)
-        warehouse.old.disk warehouse.new.disk (machine_of warehouse.old)
-        (option_map events (S.left script.old)) (K.held out.old) (K.held out.new) }
-    ensures long { (input rest : List ℕ) → S.left script.old ≡ Some input →
-        S.left script.new ≡ Some rest → 2 ^ 30 + length rest < length input →
-        IsErrOf result (Fault.ScriptTooLong (length input - length rest)) }
+    ensures stopped { IfErr result (Stops D.Disk S.Source K.Sink
+        (point_of warehouse.old (option_map events (S.left script.old)) script.old out.old)
+        (world_of warehouse.new.disk script.new out.new)) }
+    ensures long { StopsWhereTooLong S.Source script.old script.new (status_of result) }
 {
     let mut reader = Reader::new(alloc);
     let mut lines = Bytes::new(alloc);
@@ -91,46 +71,19 @@ fn turn<S: Source, K: Sink, D: Disk>(
 ) -> Result<Option<u64>, Fault>
     requires ready { IsOpen warehouse.old }
     requires goes { fault_of reader.old.script ≡ None }
-    ensures went { IfOk result (λ found. MatchOption found
-        (Finds (machine_of warehouse.old) (machine_of warehouse.new)
-        (unread reader.old (S.left script.old)) (unread reader.new (S.left script.new))
-        (S.left script.new) (K.held out.old) (K.held out.new))
-        (Answers (machine_of warehouse.old) (machine_of warehouse.new)
-        (unread reader.old (S.left script.old)) (unread reader.new (S.left script.new))
-        (K.held out.old) (K.held out.new))) }
+    ensures went { IfOk result (Advances D.Disk S.Source K.Sink
+        (point_of warehouse.old (unread reader.old (S.left script.old)) script.old out.old)
+        (point_of warehouse.new (unread reader.new (S.left script.new)) script.new out.new)) }
     ensures ready { OnOk result (StaysOpen warehouse.old warehouse.new) }
-    ensures goes { OnOk result (fault_of reader.new.script ≡ None) }
-    ensures progress { IfOk result (λ found. IfSome found (λ refusals.
-        consumed_of reader.old.script < consumed_of reader.new.script)) }
-    ensures room { OnOk result (KeepsRoom (limit_of warehouse.old.journal)
-        (reach_of warehouse.old) (reach_of warehouse.new)
-        (unread reader.old (S.left script.old)) (unread reader.new (S.left script.new))) }
-    ensures any_moment { OnOk result
-        (Leaves warehouse.old warehouse.new (machine_of warehouse.new).state) }
-
-    // Where it is stopped.
-    ensures stopped { OnErr result (Stops (machine_of warehouse.old)
-        (unread reader.old (S.left script.old)) (K.held out.old) (K.held out.new)) }
-    ensures safe { OnErr result (EndsSafely D.moment D.left_since D.may_leave
-        (IsTold warehouse.old) warehouse.old.disk warehouse.new.disk
-        (machine_of warehouse.old) (unread reader.old (S.left script.old))
-        (K.held out.old) (K.held out.new)) }
-    ensures causes { IfErr result (HasCause
-        (Rose (D.faults warehouse.old.disk) (D.faults warehouse.new.disk))
-        (Rose (S.faults script.old) (S.faults script.new))
-        (Rose (K.faults out.old) (K.faults out.new)) never
-        (IsFull (limit_of warehouse.old.journal) (reach_of warehouse.old)
-        (unread reader.old (S.left script.old)))
-        (λ taken. (2 ^ 30 < taken) × (taken ≡ taken_of reader.new.script))) }
-
-    // Over any outcome.
-    ensures counts { Counts reader.old.script reader.new.script
-        (S.left script.old) (S.left script.new) }
-    ensures long { 2 ^ 30 < taken_of reader.new.script →
-        IsErrOf result (Fault.ScriptTooLong (taken_of reader.new.script)) }
-    ensures disk_later { D.faults warehouse.old.disk ≤ D.faults warehouse.new.disk }
-    ensures script_later { S.faults script.old ≤ S.faults script.new }
-    ensures out_later { K.faults out.old ≤ K.faults out.new }
+    ensures stopped { IfErr result (Stops D.Disk S.Source K.Sink
+        (point_of warehouse.old (unread reader.old (S.left script.old)) script.old out.old)
+        (world_of warehouse.new.disk script.new out.new)) }
+    ensures full { (len need : ℕ) → IsErrOf result (Fault.FileFull len need) → out.new ≡ out.old }
+    ensures reads { Reads reader.old.script reader.new.script
+        (S.left script.old) (S.left script.new) result Fault.ScriptTooLong }
+    ensures later { IsLater D.Disk S.Source K.Sink
+        (world_of warehouse.old.disk script.old out.old)
+        (world_of warehouse.new.disk script.new out.new) }
 {
     let Some(event) = reader.next(script)? else {
         return Ok(None);
@@ -150,22 +103,13 @@ fn answer<K: Sink, D: Disk>(
     out: &mut K,
 ) -> Result<u64, Fault>
     requires { IsOpen warehouse.old }
-    ensures carried { IfOk result (Replies
-        (machine_of warehouse.old) (machine_of warehouse.new)
-        (event_of event.now) (K.held out.old) (K.held out.new)) }
+    ensures carried { IfOk result (Carries K.Sink warehouse.old warehouse.new
+        (event_of event.now) out.old out.new) }
     ensures ready { OnOk result (StaysOpen warehouse.old warehouse.new) }
-    ensures room { OnOk result (HasRoom (limit_of warehouse.old.journal) (event_of event.now)
-        (reach_of warehouse.old) (reach_of warehouse.new)) }
 
-    // Where it is stopped.
-    ensures halts { OnErr result (Halts (IsTold warehouse.old) (D.may_leave warehouse.new.disk)
-        (machine_of warehouse.old) (event_of event.now)
-        (K.held out.old) (K.held out.new)) }
-    ensures causes { IfErr result (HasCause
-        (Rose (D.faults warehouse.old.disk) (D.faults warehouse.new.disk)) ⊥
-        (Rose (K.faults out.old) (K.faults out.new)) never
-        (LacksRoom (limit_of warehouse.old.journal) (event_of event.now)
-        (reach_of warehouse.old)) never) }
+    // Where it is stopped, a front of the reply was written.
+    ensures halts { IfErr result (Halts K.Sink warehouse.old warehouse.new
+        (event_of event.now) out.old out.new) }
 
     // Over any outcome.
     ensures any_moment { Leaves warehouse.old warehouse.new

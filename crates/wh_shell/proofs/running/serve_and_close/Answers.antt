@@ -1,23 +1,32 @@
 use Rattle.std.proofs.Common.{sym, subst}
 use Rattle.std.specs.Prelude.{option_map}
-use Rattle.wh_engine.specs.Warehouse.{machine_of}
+use Rattle.wh_shell.specs.Code.{status_of}
 use Rattle.wh_shell.specs.Events.{events}
-use Rattle.wh_shell.specs.Run.{IsRunOf}
+use Rattle.wh_shell.specs.Point.{point_of}
+use Rattle.wh_shell.specs.Run.{StopsWhereTooLong}
+use Rattle.wh_shell.specs.Serving.{EndsAs}
+use Rattle.wh_shell.specs.World.{world_of}
 use Rattle.wh_shell.specs.declared.status.Status.{Status}
-use Rattle.wh_shell.proofs.Ending.{served_run, left_file}
+use Rattle.wh_shell.proofs.Ending.{served_ends}
 use Rattle.wh_shell.proofs.running.serve_and_close.Goals as goal
 
 -- the disk that is handed back is the warehouse's
-pub returns-clause-runs : goal.returns-clause-runs
-returns-clause-runs g c = λ told es held told_left told_held.
+pub returns-clause-ends : goal.returns-clause-ends
+returns-clause-ends g c =
     let old = c.args.warehouse in
     let new = c.serve-served.new.warehouse in
-    let held_new = g.K.Sink.held c.serve-served.new.out in
-    let left_new = g.S.Source.left c.serve-served.new.script in
-    subst (λ (status : Status). IsRunOf (machine_of old) es held status held_new (g.D.Disk.bytes c.close.result)
-    left_new) (sym c.of.ensures)
-    (served_run (machine_of old) (machine_of new) es held (option_map events (g.S.Source.left c.args.script.now))
-    (g.K.Sink.held c.args.out.now)
-    held_new (g.D.Disk.bytes c.close.result) left_new c.serve-served.result told_left told_held
-    c.serve-served.ensures.served c.serve-served.ensures.stopped
-    (left_file old new c.close.result c.serve-served.result c.close.ensures.disk told c.serve-served.ensures.ready))
+    let left = option_map events (g.S.Source.left c.args.script.now) in
+    let first = point_of old left c.args.script.now c.args.out.now in
+    let ends = served_ends g.D.Disk g.S.Source g.K.Sink old new left c.args.script.now
+    c.serve-served.new.script c.args.out.now c.serve-served.new.out c.serve-served.result
+    c.serve-served.ensures.served c.serve-served.ensures.ready c.serve-served.ensures.stopped in
+    subst (λ (status : Status). EndsAs g.D.Disk g.S.Source g.K.Sink first
+    (world_of c.close.result c.serve-served.new.script c.serve-served.new.out) status) (sym c.of.ensures)
+    (subst (λ (disk : _). EndsAs g.D.Disk g.S.Source g.K.Sink first
+    (world_of disk c.serve-served.new.script c.serve-served.new.out) (status_of c.serve-served.result))
+    (sym c.close.ensures.disk) ends)
+
+pub returns-clause-long : goal.returns-clause-long
+returns-clause-long g c =
+    subst (λ (status : Status). StopsWhereTooLong g.S.Source c.args.script.now c.serve-served.new.script status)
+    (sym c.of.ensures) c.serve-served.ensures.long

@@ -1,59 +1,121 @@
-use Rattle.std.proofs.Common.{refl, rules}
+use Rattle.std.proofs.Common.{◌≡◌, refl, rules, None, ap, subst}
 use Rattle.wh_machine.specs.Step.{step}
+use Rattle.wh_world.specs.Told.{Rose}
 use Rattle.wh_decide.specs.Event.{event_of}
 use Rattle.wh_engine.specs.Warehouse.{machine_of}
-use Rattle.wh_shell.specs.Open.{IsTold}
+use Rattle.wh_shell.specs.Fault.{fault_of_script}
+use Rattle.wh_shell.specs.Point.{point_of}
 use Rattle.wh_shell.specs.Reading.{unread}
-use Rattle.wh_shell.specs.Crash.{EndsSafely}
-use Rattle.wh_shell.specs.Serving.{Stops}
-use Rattle.wh_shell.proofs.Progress.{stops_first}
-use Rattle.wh_shell.proofs.Safety.{leaves_open, leaves_same, none_safely, halts_safely}
+use Rattle.wh_shell.specs.Serving.{HaltsBy, Stops}
+use Rattle.wh_shell.specs.World.{world_of}
+use Rattle.wh_shell.proofs.CauseLemmas.{passed_on, script_cause, script_long, script_fills_none}
+use Rattle.wh_shell.proofs.CountLemmas.{passed_reads, err_is}
+use Rattle.wh_shell.proofs.Progress.{answers_first, stops_first, stops_none}
+use Rattle.wh_shell.proofs.Safety.{leaves_open, leaves_same, none_safely}
 use Rattle.wh_shell.proofs.serving.turn.Goals as goal
 
--- no event was read, and the disk is as it was
-pub returns-in_default-clause-any_moment : goal.returns-in_default-clause-any_moment
-returns-in_default-clause-any_moment g c =
-    leaves_same g.met.D.Disk.only_now c.args.warehouse.now (machine_of c.args.warehouse.now).state
+-- ---- the first event of what was left was answered
 
-pub returns-in_err-event-clause-safe : goal.returns-in_err-event-clause-safe
-returns-in_err-event-clause-safe g c =
+pub returns-clause-went : goal.returns-clause-went
+returns-clause-went g c =
+    let old = c.args.warehouse.now in
+    let new = c.answer.new.warehouse in
+    let event = event_of c.in-Some.event in
+    answers_first g.K.Sink old new event
+    (unread c.args.reader.now (g.S.Source.left c.args.script.now))
+    (unread c.next.new.self (g.S.Source.left c.next.new.source)) c.args.script.now c.next.new.source
+    c.args.out.now c.answer.new.out c.in_ok-refusals.refusals
+    (rw c.in-Some.is at c.in_ok-event.ensures.turn) c.in_ok-refusals.ensures.carried
+    (λ told. leaves_open old new (step (machine_of old) event).0.state c.requires.ready told
+    c.answer.ensures.any_moment)
+
+pub returns-clause-reads : goal.returns-clause-reads
+returns-clause-reads g c = record {
+  goes = c.in_ok-event.ensures.goes;
+  progress = rw c.in-Some.is at c.in_ok-event.ensures.progress;
+  counts = c.next.ensures.counts;
+  taken = λ taken is. absurd is;
+  long = λ longer. absurd (c.in_ok-event.ensures.long longer);
+}
+
+-- ---- no event was left
+
+pub returns-in_default-clause-went : goal.returns-in_default-clause-went
+returns-in_default-clause-went g c =
+    let none : c.in_ok-event.field-0 ≡ None = search rules in
+    record { ends = rw none at c.in_ok-event.ensures.turn; reach = refl; disk = refl; out = refl }
+
+pub returns-in_default-clause-reads : goal.returns-in_default-clause-reads
+returns-in_default-clause-reads g c = record {
+  goes = c.in_ok-event.ensures.goes;
+  progress = tt;
+  counts = c.next.ensures.counts;
+  taken = λ taken is. absurd is;
+  long = λ longer. absurd (c.in_ok-event.ensures.long longer);
+}
+
+-- ---- no event was read
+
+pub returns-in_err-event-clause-stopped : goal.returns-in_err-event-clause-stopped
+returns-in_err-event-clause-stopped g c =
     let w = c.args.warehouse.now in
-    let left = unread c.args.reader.now (g.S.Source.left c.args.script.now) in
-    let held = g.K.Sink.held c.args.out.now in
-    let safe : EndsSafely g.D.Disk.moment g.D.Disk.left_since g.D.Disk.may_leave (IsTold w) w.disk w.disk (machine_of w)
-    left held held =
-    none_safely g.D.Disk.moment g.D.Disk.left_since g.D.Disk.may_leave g.met.D.Disk.counts_now (IsTold w) w.disk w.disk
-    (machine_of w) (machine_of w) left held held refl refl
-    (λ told. leaves_open w w (machine_of w).state c.requires.ready told
-    (leaves_same g.met.D.Disk.only_now w (machine_of w).state)) in
-    search rules
+    let out = c.args.out.now in
+    let first = point_of w (unread c.args.reader.now (g.S.Source.left c.args.script.now)) c.args.script.now out in
+    let new = world_of w.disk c.next.new.source out in
+    let fault = c.in_err-event.field-0.0 in
+    passed_on (Stops g.D.Disk g.S.Source g.K.Sink first new) c.from_residual.result (fault_of_script fault)
+    c.from_residual.ensures.1
+    (record {
+      front = λ es told. stops_none (machine_of w) es (g.K.Sink.held out);
+      safe = none_safely g.D.Disk g.K.Sink g.met.D.Disk.counts_now first new refl refl
+          (λ told. leaves_open w w (machine_of w).state c.requires.ready told
+          (leaves_same g.met.D.Disk.only_now w (machine_of w).state));
+      cause = script_cause g.D.Disk g.S.Source g.K.Sink first.world new c.next.new.self.script fault
+          c.in_err-event.ensures.causes;
+      full = λ len need is. absurd (script_fills_none fault len need is);
+    })
 
--- the event is the first of what was left, and was stopped at
+pub returns-in_err-event-clause-reads : goal.returns-in_err-event-clause-reads
+returns-in_err-event-clause-reads g c =
+    let fault = c.in_err-event.field-0.0 in
+    passed_reads c.args.reader.now.script c.next.new.self.script (g.S.Source.left c.args.script.now)
+    (g.S.Source.left c.next.new.source) c.from_residual.result (fault_of_script fault) c.from_residual.ensures.1
+    c.next.ensures.counts
+    (λ taken is. script_long (Rose (g.S.Source.faults c.args.script.now) (g.S.Source.faults c.next.new.source))
+    c.next.new.self.script fault taken is c.in_err-event.ensures.causes)
+    (λ longer. ap fault_of_script (c.in_err-event.ensures.long longer))
+
+-- ---- the event is the first of what was left, and was stopped at
+
 pub returns-in_err-refusals-clause-stopped : goal.returns-in_err-refusals-clause-stopped
 returns-in_err-refusals-clause-stopped g c =
     let old = c.args.warehouse.now in
-    let left = unread c.args.reader.now (g.S.Source.left c.args.script.now) in
-    let stops : Stops (machine_of old) left (g.K.Sink.held c.args.out.now) (g.K.Sink.held c.answer.new.out) =
-    stops_first (IsTold old) (g.D.Disk.may_leave c.answer.new.warehouse.disk) (machine_of old)
-    (event_of c.in-Some.event)
-    left (unread c.next.new.self (g.S.Source.left c.next.new.source)) (g.K.Sink.held c.args.out.now)
-    (g.K.Sink.held c.answer.new.out)
-    (rw c.in-Some.is at c.in_ok-event.ensures.turn) c.in_err-refusals.ensures.halts in
-    search rules
-
-pub returns-in_err-refusals-clause-safe : goal.returns-in_err-refusals-clause-safe
-returns-in_err-refusals-clause-safe g c =
-    let old = c.args.warehouse.now in
     let new = c.answer.new.warehouse in
-    let m = machine_of old in
     let event = event_of c.in-Some.event in
     let left = unread c.args.reader.now (g.S.Source.left c.args.script.now) in
-    let safe : EndsSafely g.D.Disk.moment g.D.Disk.left_since g.D.Disk.may_leave (IsTold old) old.disk new.disk m left
-    (g.K.Sink.held c.args.out.now) (g.K.Sink.held c.answer.new.out) =
-    halts_safely g.D.Disk.moment g.D.Disk.left_since g.D.Disk.may_leave (IsTold old) old.disk new.disk m event
-    left (unread c.next.new.self (g.S.Source.left c.next.new.source)) (g.K.Sink.held c.args.out.now)
-    (g.K.Sink.held c.answer.new.out)
-    (rw c.in-Some.is at c.in_ok-event.ensures.turn)
-    (λ told. leaves_open old new (step m event).0.state c.requires.ready told c.answer.ensures.any_moment)
-    c.in_err-refusals.ensures.halts in
-    search rules
+    let left_new = unread c.next.new.self (g.S.Source.left c.next.new.source) in
+    let why = c.in_err-refusals.field-0.0 in
+    passed_on (Stops g.D.Disk g.S.Source g.K.Sink (point_of old left c.args.script.now c.args.out.now)
+    (world_of new.disk c.next.new.source c.answer.new.out)) c.from_residual.result why c.from_residual.ensures.1
+    (stops_first g.K.Sink old new event left left_new c.args.script.now c.next.new.source c.args.out.now
+    c.answer.new.out g.S.Source why (rw c.in-Some.is at c.in_ok-event.ensures.turn)
+    (λ told. leaves_open old new (step (machine_of old) event).0.state c.requires.ready told
+    c.answer.ensures.any_moment)
+    c.in_err-refusals.ensures.halts)
+
+pub returns-in_err-refusals-clause-full : goal.returns-in_err-refusals-clause-full
+returns-in_err-refusals-clause-full g c = λ len need is.
+    let why = c.in_err-refusals.field-0.0 in
+    (subst (HaltsBy g.K.Sink c.args.warehouse.now c.answer.new.warehouse (event_of c.in-Some.event) c.args.out.now
+    c.answer.new.out) (err_is c.from_residual.result why _ c.from_residual.ensures.1 is)
+    c.in_err-refusals.ensures.halts.cause).1
+
+pub returns-in_err-refusals-clause-reads : goal.returns-in_err-refusals-clause-reads
+returns-in_err-refusals-clause-reads g c =
+    let why = c.in_err-refusals.field-0.0 in
+    passed_reads c.args.reader.now.script c.next.new.self.script (g.S.Source.left c.args.script.now)
+    (g.S.Source.left c.next.new.source) c.from_residual.result why c.from_residual.ensures.1
+    c.next.ensures.counts
+    (λ taken is. absurd (subst (HaltsBy g.K.Sink c.args.warehouse.now c.answer.new.warehouse
+    (event_of c.in-Some.event) c.args.out.now c.answer.new.out) is c.in_err-refusals.ensures.halts.cause))
+    (λ longer. absurd (c.in_ok-event.ensures.long longer))
