@@ -1,7 +1,7 @@
 ghost use Rattle.std.specs.Prelude.{◌≡◌, ◌+◌, ◌≤◌, ◌^◌, max, List, ℕ, Option, Some, length};
 ghost use Rattle.std.specs.Prelude.{option_map, IfOk, OnOk, OnErr};
-ghost use Rattle.wh_world.specs.Told.{Told, Rose};
-ghost use Rattle.wh_world.specs.Bytes.{written, part_at, Torn};
+ghost use Rattle.wh_world.specs.Told.{Rose};
+ghost use Rattle.wh_world.specs.Bytes.{Overwrites, part_at, Torn, Tears, GrowsWithin};
 ghost use Rattle.wh_world.specs.Crash.{Follows, NoOthers, Only, Elapses};
 
 use crate::Failed;
@@ -66,14 +66,11 @@ pub trait Disk {
     fn write_at(&mut self, at: u64, piece: &[u8]) -> Result<(), Failed>
         requires place { at ≤ size self.old }
         requires end { at + length piece.now ≤ 2 ^ 40 }
-        ensures written { OnOk result (bytes self.new
-            ≡ option_map (λ old. written old at piece.now) (bytes self.old)) }
-        ensures torn { OnErr result
-            (Told (Torn at (length piece.now)) (bytes self.old) (bytes self.new)) }
+        ensures written { OnOk result (Overwrites at piece.now (bytes self.old) (bytes self.new)) }
+        ensures torn { OnErr result (Tears at piece.now (bytes self.old) (bytes self.new)) }
         ensures size { OnOk result (size self.new ≡ max (size self.old) (at + length piece.now)) }
         ensures size_err { OnErr result
-            ((size self.old ≤ size self.new)
-            × (size self.new ≤ max (size self.old) (at + length piece.now))) }
+            (GrowsWithin (at + length piece.now) (size self.old) (size self.new)) }
         ensures reads { reads self.new ≡ reads self.old }
         ensures crash { Follows (Torn at (length piece.now))
             (may_leave self.old) (may_leave self.new) }
