@@ -1,5 +1,5 @@
-//! A warehouse in a file: `bokzarn PATH run` carries out the script on standard input, and writes its replies to
-//! standard output.
+//! A warehouse in a file: `bokzarn PATH run` carries out the script on standard input, and writes
+//! its replies to standard output.
 #![tactic(auto)]
 
 ghost use Rattle.std.specs.Prelude.{◌≡◌, ℕ, List, String, IfOk, IfErr, IfSome, OnOk, IsSome, ◌⊎◌};

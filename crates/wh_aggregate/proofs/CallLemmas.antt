@@ -10,7 +10,7 @@ use Rattle.wh_meaning.specs.Query.{sum_value, count_value, call_over, calls_over
 use Rattle.wh_meaning.proofs.BagLaws.{fold_list, fold_bag_of}
 use Rattle.wh_meaning.proofs.Listed.{argument-turned}
 use Rattle.wh_aggregate.specs.Tally.{argument_of, nothing, before, tallied, answer, answers}
-use Rattle.wh_aggregate.specs.Groups.{totals_from}
+use Rattle.wh_aggregate.specs.RunningGroups.{totals_from}
 
 -- what one call adds up over rows
 abbrev total_from : Call → List Row → Option Total

@@ -19,8 +19,9 @@ use Rattle.wh_meaning.proofs.BagLaws.{tied_rows, one_row-plus, restricted-bag_of
 use Rattle.wh_meaning.proofs.Gathered.{gathered-no_rows, gathered-with_row}
 use Rattle.wh_meaning.proofs.Listed.{rows_with}
 use Rattle.wh_aggregate.specs.Tally.{begun, tallied, answers}
-use Rattle.wh_aggregate.specs.Groups.{Groups, totals_from, totals_at, noted, groups_from, group_row, row_before, listed}
-use Rattle.wh_aggregate.specs.Groups.{alone, whole_from}
+use Rattle.wh_aggregate.specs.RunningGroups.{RunningGroups, totals_from, totals_at, noted, groups_from, group_row}
+use Rattle.wh_aggregate.specs.RunningGroups.{row_before, listed}
+use Rattle.wh_aggregate.specs.RunningGroups.{alone, whole_from}
 use Rattle.wh_aggregate.proofs.CallLemmas.{answers-bag_of, nothing_beside}
 use Rattle.wh_aggregate.proofs.KeyLemmas.{keys-insert, keys-empty, tied, entries_found}
 
@@ -34,17 +35,17 @@ mapped : {A B : Type 0} (f : A → B) (o : Option A) (y : B) → option_map f o 
 mapped f None y e = cc
 mapped f (Some x) y e = (x, refl, cc)
 
-record Step (calls : List Call) (row : Row) (key_found : Option Row) (found : Option Groups)
-    (groups : Groups) : Type 0 where
+record Step (calls : List Call) (row : Row) (key_found : Option Row) (found : Option RunningGroups)
+    (groups : RunningGroups) : Type 0 where
   key : Row
-  before : Groups
+  before : RunningGroups
   totals : List Total
   key_is : key_found ≡ Some key
   before_is : found ≡ Some before
   totals_is : tallied calls row (totals_at calls before key) ≡ Some totals
   groups_is : groups ≡ insert before key totals
 
-step_of : (calls : List Call) (row : Row) (k : Option Row) (g : Option Groups) (groups : Groups)
+step_of : (calls : List Call) (row : Row) (k : Option Row) (g : Option RunningGroups) (groups : RunningGroups)
     → of_two (noted calls row) k g ≡ Some groups
     → Step calls row k g groups
 step_of calls row None g groups e = cc
@@ -63,7 +64,7 @@ step_of calls row (Some key) (Some before) groups e =
 
 -- ---- the totals at a key are those of the rows that have it
 
-module _ (calls : List Call) (row : Row) (key : Row) (before : Groups) (totals : List Total)
+module _ (calls : List Call) (row : Row) (key : Row) (before : RunningGroups) (totals : List Total)
     (totals_is : tallied calls row (totals_at calls before key) ≡ Some totals) where
   totals_step : (q : Row) (rows : List Row) (b : Bool) → is_eq (row_cmp q key) ≡ b
       → totals_from calls rows ≡ Some (totals_at calls before q)
@@ -74,7 +75,7 @@ module _ (calls : List Call) (row : Row) (key : Row) (before : Groups) (totals :
       ∙ ap (λ k. tallied calls row (totals_at calls before k)) (tied_rows q key t) ∙ totals_is
   totals_step q rows false t e = e
 
-own_totals : (by : List Scalar) (calls : List Call) (rows : List Row) (groups : Groups)
+own_totals : (by : List Scalar) (calls : List Call) (rows : List Row) (groups : RunningGroups)
     → groups_from by calls rows ≡ Some groups → (q : Row)
     → totals_from calls (rows_with by q rows) ≡ Some (totals_at calls groups q)
 own_totals by calls [] groups e q =
@@ -100,7 +101,7 @@ one_more key o p keyed o_is p_is =
     ap (λ x. beside (option_map one_row x) p) o_is ∙ ap (beside (Some (one_row key))) p_is
     ∙ ap Some (one_row-plus key keyed)
 
-keyed_rows : (by : List Scalar) (calls : List Call) (rows : List Row) (groups : Groups)
+keyed_rows : (by : List Scalar) (calls : List Call) (rows : List Row) (groups : RunningGroups)
     → groups_from by calls rows ≡ Some groups
     → (keyed : Bag) × (projected by (bag_of rows) ≡ Some keyed) × (keys groups ≡ keys keyed)
 keyed_rows by calls [] groups e =
@@ -154,9 +155,11 @@ keyed_has by q (row ∷ rows) keyed e =
 -- ---- where the walk ends
 
 calls_of_key : (by : List Scalar) (calls : List Call) (rows : List Row) (key : Row)
-    → calls_over (with_key by key (bag_of rows)) calls ≡ of_one (answers calls) (totals_from calls (rows_with by key rows))
+    → calls_over (with_key by key (bag_of rows)) calls
+    ≡ of_one (answers calls) (totals_from calls (rows_with by key rows))
 calls_of_key by calls rows key =
-    ap (λ b. calls_over b calls) (restricted-bag_of (has_key by key) rows) ∙ answers-bag_of calls (rows_with by key rows)
+    ap (λ b. calls_over b calls) (restricted-bag_of (has_key by key) rows)
+    ∙ answers-bag_of calls (rows_with by key rows)
 
 group_before : (key : Row) (a : Option Row) (rest : Option (List Row)) →
     beside (option_map (λ values. one_row (key ++ values)) a) (option_map bag_of rest)
@@ -175,7 +178,7 @@ rows_listed by calls b (e ∷ es) all =
     ∙ ap (beside (option_map (λ values. one_row (e.0 ++ values)) (answers calls e.1))) (rows_listed by calls b es all.1)
     ∙ group_before e.0 (answers calls e.1) (listed calls es)
 
-entries_answered : (by : List Scalar) (calls : List Call) (rows : List Row) (groups : Groups)
+entries_answered : (by : List Scalar) (calls : List Call) (rows : List Row) (groups : RunningGroups)
     → groups_from by calls rows ≡ Some groups → (es : List (Row × List Total))
     → AllByRecursion (λ e. get groups e.0 ≡ Some e.1) es
     → AllByRecursion (λ e. calls_over (with_key by e.0 (bag_of rows)) calls ≡ answers calls e.1) es
@@ -187,7 +190,7 @@ entries_answered by calls rows groups is (e ∷ es) all = (
   entries_answered by calls rows groups is es all.1,
 )
 
-pub grouped-listed : (e : Scalar) (es : List Scalar) (calls : List Call) (rows : List Row) (groups : Groups)
+pub grouped-listed : (e : Scalar) (es : List Scalar) (calls : List Call) (rows : List Row) (groups : RunningGroups)
     → groups_from (e ∷ es) calls rows ≡ Some groups
     → grouped (e ∷ es) calls (bag_of rows) ≡ option_map bag_of (listed calls (entries groups))
 grouped-listed e es calls rows groups is =
@@ -219,7 +222,7 @@ mapped_none f None e = refl
 mapped_none f (Some x) e = cc
 
 undefined_step : (by : List Scalar) (calls : List Call) (row : Row) (rows : List Row) (k : Option Row)
-    → values_on by row ≡ k → (g : Option Groups) → groups_from by calls rows ≡ g
+    → values_on by row ≡ k → (g : Option RunningGroups) → groups_from by calls rows ≡ g
     → (groups_from by calls rows ≡ None → Undefined by calls rows) → of_two (noted calls row) k g ≡ None
     → Undefined by calls (row ∷ rows)
 undefined_step by calls row rows None k_is g g_is earlier e =

@@ -67,8 +67,10 @@ module _ {X : Type 0} where
   found_later e rest [] h all = tt
   found_later e rest (f ∷ es) h all =
       let later : is_eq (row_cmp f.0 e.0) ≡ false =
-      ap is_eq (row_total.antisymm f.0 e.0) ∙ apart (row_cmp e.0 f.0) (both_hold _ _ h).0 in
-      (ap (λ b. cond b (Some e.1) (find row_cmp f.0 rest)) later ∙ all.0, found_later e rest es (both_hold _ _ h).1 all.1)
+      ap is_eq (row_total.antisymm f.0 e.0) ∙ apart (row_cmp e.0 f.0) (both_hold _ _ h).0 in (
+        ap (λ b. cond b (Some e.1) (find row_cmp f.0 rest)) later ∙ all.0,
+        found_later e rest es (both_hold _ _ h).1 all.1,
+      )
 
   all_found : (es : List (Row × X)) → T (is_sorted row_cmp es) → AllByRecursion (λ e. find row_cmp e.0 es ≡ Some e.1) es
   all_found [] h = tt

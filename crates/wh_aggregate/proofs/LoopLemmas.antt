@@ -21,8 +21,8 @@ use Rattle.wh_algebra.specs.declared.query.Call.{Call}
 use Rattle.wh_algebra.specs.declared.tuple.Tuple.{Tuple}
 use Rattle.wh_aggregate.specs.Given.{GivesListed, GivesRows}
 use Rattle.wh_aggregate.specs.Tally.{tallied, answers}
-use Rattle.wh_aggregate.specs.Groups.{Groups, totals_from, noted, groups_from, group_row}
-use Rattle.wh_aggregate.specs.Groups.{row_before, listed, whole_from}
+use Rattle.wh_aggregate.specs.RunningGroups.{RunningGroups, totals_from, noted, groups_from, group_row}
+use Rattle.wh_aggregate.specs.RunningGroups.{row_before, listed, whole_from}
 use Rattle.wh_aggregate.proofs.GroupLemmas.{grouped-listed, grouped-undefined, grouped-whole}
 
 answers-no_totals : (calls : List meaning.Call) → answers calls [] ≡ Some []
@@ -82,7 +82,7 @@ reached_rows tuples left tuple row r =
     ∙ ap (λ x. x ∷ rows_in (drop left tuples)) (sym (r.row_is ∙ ap row_in r.tuple_is))
 
 pub groups_stopped : (by : List scalars.Scalar) (calls : List meaning.Call) (tuples : List Tuple)
-    (left : ℕ) (tuple : Tuple) (row : Row) (groups : Groups)
+    (left : ℕ) (tuple : Tuple) (row : Row) (groups : RunningGroups)
     → Reached tuples left tuple row → groups_from by calls (rows_in (drop left tuples)) ≡ Some groups
     → of_two (noted calls row) (values_on by row) (Some groups) ≡ None
     → groups_from by calls (rows_in tuples) ≡ None
@@ -127,7 +127,7 @@ pub given_undefined : (by : List Scalar) (calls : List meaning.Call) (rows : Lis
 given_undefined [] calls rows some is = absurd (omega arith)
 given_undefined (e ∷ es) calls rows some is = grouped-undefined (scalar_of e) (scalars_of es) calls rows is
 
-given_listed : (by : List Scalar) (calls : List meaning.Call) (rows : List Row) (groups : Groups) → 0 < length by
+given_listed : (by : List Scalar) (calls : List meaning.Call) (rows : List Row) (groups : RunningGroups) → 0 < length by
     → groups_from (scalars_of by) calls rows ≡ Some groups
     → grouped (scalars_of by) calls (bag_of rows) ≡ option_map bag_of (listed calls (entries groups))
 given_listed [] calls rows groups some is = absurd (omega arith)
@@ -145,7 +145,7 @@ rows_given (Err NumberOutOfRange) found meant is e = e ∙ ap (option_map bag_of
 rows_given (Err OutOfMemory) found meant is e = tt
 
 pub groups_given : (by : List Scalar) (calls : List meaning.Call) (rows : List Row)
-    (groups : Groups) (r : Result (Vec Row Global) EvalFault)
+    (groups : RunningGroups) (r : Result (Vec Row Global) EvalFault)
     → 0 < length by → groups_from (scalars_of by) calls rows ≡ Some groups
     → GivesListed r (listed calls (entries groups))
     → GivesRows r (grouped (scalars_of by) calls (bag_of rows))

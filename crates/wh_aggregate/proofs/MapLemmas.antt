@@ -15,11 +15,11 @@ use Rattle.wh_meaning.proofs.KeyMaps.{gotten, map_after}
 use Rattle.wh_scalar.specs.declared.fault.EvalFault.{EvalFault}
 use Rattle.wh_aggregate.specs.Given.{Leaves}
 use Rattle.wh_aggregate.specs.Tally.{begun, tallied}
-use Rattle.wh_aggregate.specs.Groups.{Groups, noted}
+use Rattle.wh_aggregate.specs.RunningGroups.{RunningGroups, noted}
 use Rattle.wh_aggregate.proofs.FaultLemmas.{still}
 
 module _ (calls : List meaning.Call) (row key : Row) (m n : List (Row × List Total))
-    (groups : Groups) (groups_is : groups ≡ from_entries m)
+    (groups : RunningGroups) (groups_is : groups ≡ from_entries m)
     (old new : List Total) (old_is : old ≡ unwrap_or (lookup (is_at (row_cmp key)) m) (begun calls)) where
   noted_as : noted calls row key groups ≡ option_map (insert (from_entries m) key) (tallied calls row old)
   noted_as =

@@ -3,9 +3,9 @@ ghost use Rattle.wh_meaning.specs.Query.{grouped};
 ghost use Rattle.wh_algebra.specs.View.{calls_of, scalars_of};
 ghost use Rattle.wh_algebra.specs.Tuple.{rows_in};
 ghost use Rattle.wh_aggregate.specs.Given.{Gives, GivesListed, GivesRows};
-ghost use Rattle.wh_aggregate.specs.Groups.{groups_from, totals_from, whole_from};
+ghost use Rattle.wh_aggregate.specs.RunningGroups.{groups_from, totals_from, whole_from};
 
-use crate::groups::Groups;
+use crate::groups::RunningGroups;
 use crate::tallies::Tallies;
 use crate::values::values_on;
 use std::alloc::{AllocError, Global};
@@ -47,10 +47,11 @@ fn groups_of(
     by: &[Scalar],
     calls: &[Call],
     rows: &[Tuple<'_>],
-) -> Result<Groups, EvalFault>
-    ensures { Gives result (groups_from (scalars_of by.now) (calls_of calls.now) (rows_in rows.now)) }
+) -> Result<RunningGroups, EvalFault>
+    ensures { Gives result (groups_from (scalars_of by.now) (calls_of calls.now)
+        (rows_in rows.now)) }
 {
-    let mut groups = Groups::new(alloc);
+    let mut groups = RunningGroups::new(alloc);
     let mut left = rows.len();
     while left > 0 {
         left -= 1;

@@ -8,35 +8,35 @@ use wh_value::Row;
 
 /// The groups by their keys.
 #[derive(Drop)]
-pub(crate) struct Groups {
+pub(crate) struct RunningGroups {
     map: BTreeMap<Row, Tallies>,
 }
 
-impl Model for Groups {
+impl Model for RunningGroups {
     ghost use Rattle.std.specs.FinMap as maps;
     ghost use Rattle.std.specs.Coded.{coded_list};
     ghost use Rattle.wh_value.specs.Value.{coded_value};
     ghost use Rattle.wh_aggregate.specs.Tally.{coded_total};
-    ghost use Rattle.wh_aggregate.specs.Groups as groups;
+    ghost use Rattle.wh_aggregate.specs.RunningGroups as groups;
 
-    ghost Value = { groups.Groups };
+    ghost Value = { groups.RunningGroups };
 
     ghost coded = { maps.code (coded_list coded_value) (coded_list coded_total) };
 
     ghost view = { λ g. maps.from_entries g.map.entries };
 }
 
-impl Groups {
+impl RunningGroups {
     ghost use Rattle.std.specs.Prelude.{◌≡◌};
     ghost use Rattle.std.specs.FinMap.{empty, entries};
     ghost use Rattle.wh_algebra.specs.View.{calls_of};
     ghost use Rattle.wh_aggregate.specs.Given.{Leaves, GivesListed};
-    ghost use Rattle.wh_aggregate.specs.Groups.{noted, listed};
+    ghost use Rattle.wh_aggregate.specs.RunningGroups.{noted, listed};
 
-    pub(crate) fn new(alloc: Global) -> Groups
+    pub(crate) fn new(alloc: Global) -> RunningGroups
         ensures { result ≡ empty }
     {
-        Groups {
+        RunningGroups {
             map: BTreeMap::new(alloc),
         }
     }
@@ -66,7 +66,7 @@ impl Groups {
     pub(crate) fn list(self, alloc: Global, calls: &[Call]) -> Result<Vec<Row>, EvalFault>
         ensures { GivesListed result (listed (calls_of calls.now) (entries self)) }
     {
-        let Groups { map } = self;
+        let RunningGroups { map } = self;
         let mut rows = Vec::with_capacity(alloc, map.len())?;
         for (key, tallies) in map {
             let row = tallies.group_row(calls, key)?;

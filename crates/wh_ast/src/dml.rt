@@ -1,4 +1,4 @@
-use crate::{Expr, Query, Source};
+use crate::{Expr, FromItem, Query};
 use sqlite_items::Items;
 use wh_value::Text;
 
@@ -10,7 +10,7 @@ pub enum Dml {
     Update(Text, Items<Assignment>, Option<Expr>),
     Delete(Text, Option<Expr>),
     /// The target, its alias if there is one, the source, ON, and the clauses.
-    Merge(Text, Option<Text>, Source, Expr, Items<MergeClause>),
+    Merge(Text, Option<Text>, FromItem, Expr, Items<MergeClause>),
 }
 
 /// What INSERT adds.

@@ -9,8 +9,8 @@ mod statement;
 
 pub use dml::{Assignment, Dml, MergeClause, Rows};
 pub use expr::{Expr, Operator};
-pub use query::{Core, Item, Join, Key, Query, Sort, Source};
+pub use query::{Core, FromItem, Item, Join, OrderKey, Query, Sort};
 pub use statement::{
-    Condition, CreateDynamicTable, CreateTable, CreateTask, Initialize, Lag, RefreshMode,
-    Statement, When,
+    CreateDynamicTable, CreateTable, CreateTask, Initialize, Lag, RefreshMode, Statement, When,
+    WhenCondition,
 };

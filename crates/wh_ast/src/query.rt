@@ -14,7 +14,7 @@ pub struct Query {
 #[derive(Debug, Drop)]
 pub struct Core {
     pub items: Items<Item>,
-    pub from: Source,
+    pub from: FromItem,
     pub joins: Items<Join>,
     pub filter: Option<Expr>,
     pub group: Items<Expr>,
@@ -32,7 +32,7 @@ pub enum Item {
 
 #[cycle(query)]
 #[derive(Debug, Drop)]
-pub enum Source {
+pub enum FromItem {
     /// An object's name, and the alias if there is one.
     Named(Text, Option<Text>),
     Subquery(Boxed<Query>, Text),
@@ -41,19 +41,19 @@ pub enum Source {
 #[cycle(query)]
 #[derive(Debug, Drop)]
 pub struct Join {
-    pub source: Source,
+    pub source: FromItem,
     pub on: Expr,
 }
 
 /// What ORDER BY names.
 #[derive(Debug, Drop)]
-pub enum Key {
+pub enum OrderKey {
     Name(Text),
     Position(u64),
 }
 
 #[derive(Debug, Drop)]
 pub struct Sort {
-    pub key: Key,
+    pub key: OrderKey,
     pub descending: bool,
 }

@@ -54,16 +54,16 @@ pub struct CreateTask {
 /// A condition, and its text as it was written.
 #[derive(Debug, Drop)]
 pub struct When {
-    pub condition: Condition,
+    pub condition: WhenCondition,
     pub text: Text,
 }
 
 #[cycle(condition)]
 #[derive(Debug, Drop)]
-pub enum Condition {
-    Or(Boxed<Condition>, Boxed<Condition>),
-    And(Boxed<Condition>, Boxed<Condition>),
-    Not(Boxed<Condition>),
+pub enum WhenCondition {
+    Or(Boxed<WhenCondition>, Boxed<WhenCondition>),
+    And(Boxed<WhenCondition>, Boxed<WhenCondition>),
+    Not(Boxed<WhenCondition>),
     /// Whether a stream has data, by its name.
     HasData(Text),
 }

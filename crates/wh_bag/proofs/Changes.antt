@@ -7,7 +7,7 @@ use Rattle.std.proofs.Common.{sym, ap, ◌∙◌, arith}
 use Rattle.wh_value.specs.Value.{Row}
 use Rattle.wh_meaning.specs.Bag as bags
 use Rattle.wh_meaning.specs.Bag.{Bag, no_rows, count}
-use Rattle.wh_meaning.specs.Change.{IsExcess, IsNet, IsChanged, Lacks, Overflows}
+use Rattle.wh_meaning.specs.BagChange.{IsExcess, IsNet, IsChanged, Lacks, Overflows}
 use Rattle.wh_meaning.proofs.BagLaws.{count-no_rows, count-plus}
 use Rattle.wh_bag.proofs.Entries.{some_row}
 

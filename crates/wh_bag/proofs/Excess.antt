@@ -10,7 +10,7 @@ use Rattle.std.specs.FinMap.Entries.{below_all}
 use Rattle.std.specs.FinMap.{entries, entries_sorted, find, is_sorted}
 use Rattle.wh_value.specs.Value.{Row, row_cmp}
 use Rattle.wh_meaning.specs.Bag.{Bag, no_rows, times, count}
-use Rattle.wh_meaning.specs.Change.{IsExcess, IsWithin}
+use Rattle.wh_meaning.specs.BagChange.{IsExcess, IsWithin}
 use Rattle.wh_meaning.proofs.BagLaws.{count-no_rows, count-insert, tied_rows, find_below}
 use Rattle.wh_value.proofs.TestLaws.{both_hold}
 use Rattle.wh_bag.specs.Walk.{entered, excess}
@@ -56,12 +56,14 @@ count-excess other (e ∷ es) b q sorted fresh =
     let many = suc e.1 - count other e.0 in
     let after = entered e.0 many b in
     let later : Option ℕ = find row_cmp q es in
-    let rest_sorted : T (is_sorted row_cmp es) = (both_hold (below_all row_cmp e.0 es) (is_sorted row_cmp es) sorted).1 in
+    let rest_sorted : T (is_sorted row_cmp es) =
+    (both_hold (below_all row_cmp e.0 es) (is_sorted row_cmp es) sorted).1 in
     elim (eq_by_cmp row_cmp q e.0) as (λ t. eq_by_cmp row_cmp q e.0 ≡ t → IsFresh (cond t (Some e.1) later) (count b q)
     → count (excess other es after) q ≡ count_after other q (cond t (Some e.1) later) (count b q)) [
       | true ↦ λ t fresh.
           let none : count b q ≡ 0 = not_there e.1 (count b q) fresh in
-          let above : T (below_all row_cmp e.0 es) = (both_hold (below_all row_cmp e.0 es) (is_sorted row_cmp es) sorted).0 in
+          let above : T (below_all row_cmp e.0 es) =
+          (both_hold (below_all row_cmp e.0 es) (is_sorted row_cmp es) sorted).0 in
           let past : later ≡ None =
           find_below q es (subst (λ k. T (below_all row_cmp k es)) (sym (tied_rows q e.0 t)) above) in
           let now : count after q ≡ many =

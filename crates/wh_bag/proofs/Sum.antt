@@ -9,7 +9,7 @@ use Rattle.std.specs.Ordering.{eq_by_cmp}
 use Rattle.std.specs.FinMap.{entries}
 use Rattle.wh_value.specs.Value.{Row, row_cmp}
 use Rattle.wh_meaning.specs.Bag.{Bag, count, with_row, again, over_entries, fold_bag, plus}
-use Rattle.wh_meaning.specs.Change.{IsWithin}
+use Rattle.wh_meaning.specs.BagChange.{IsWithin}
 use Rattle.wh_meaning.proofs.BagLaws.{tied_rows, again-past, count-again, count-plus, with_row-with_row}
 use Rattle.wh_bag.specs.declared.fault.AddFault.{AddFault}
 use Rattle.wh_bag.specs.declared.fault.AddFault.TheVariants.{TooMany}

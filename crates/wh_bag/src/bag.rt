@@ -30,7 +30,7 @@ impl Bag {
     ghost use Rattle.wh_value.specs.Value as values;
     ghost use Rattle.wh_meaning.specs.Bag as bags;
     ghost use Rattle.wh_meaning.specs.Bag.{no_rows, with_row, again, plus};
-    ghost use Rattle.wh_meaning.specs.Change.{IsExcess, IsWithin};
+    ghost use Rattle.wh_meaning.specs.BagChange.{IsExcess, IsWithin};
     ghost use Rattle.wh_bag.specs.Walk.{entered};
     ghost use Rattle.wh_bag.specs.declared.fault.AddFault.TheVariants.{TooMany};
 

@@ -1,5 +1,5 @@
 ghost use Rattle.std.specs.Prelude.{◌≡◌, Err, IfOk};
-ghost use Rattle.wh_meaning.specs.Change.{IsNet, IsChanged, IsWithin, Lacks, Overflows};
+ghost use Rattle.wh_meaning.specs.BagChange.{IsNet, IsChanged, IsWithin, Lacks, Overflows};
 ghost use Rattle.wh_bag.specs.declared.fault.ApplyFault.TheVariants.{Missing, TooMany};
 
 use crate::{ApplyFault, Bag};

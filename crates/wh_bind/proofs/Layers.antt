@@ -7,10 +7,10 @@ use Rattle.wh_value.proofs.ListLaws.{drop_here}
 use Rattle.wh_ast.specs.declared.expr.Expr.{Expr}
 use Rattle.wh_ast.specs.declared.query.Item.{Item}
 use Rattle.wh_ast.specs.declared.query.Core.{Core, out-Core, fold_out-Core}
-use Rattle.wh_ast.specs.declared.query.Source as Source
-use Rattle.wh_ast.specs.declared.query.Source.{fold_out-Source}
-use Rattle.wh_ast.specs.declared.query.Source.TheVariants.{rolls-Subquery}
-use Rattle.wh_ast.specs.declared.query.Source.TheOpen.{Source-F}
+use Rattle.wh_ast.specs.declared.query.FromItem as FromItem
+use Rattle.wh_ast.specs.declared.query.FromItem.{fold_out-FromItem}
+use Rattle.wh_ast.specs.declared.query.FromItem.TheVariants.{rolls-Subquery}
+use Rattle.wh_ast.specs.declared.query.FromItem.TheOpen.{FromItem-F}
 use Rattle.wh_ast.specs.declared.query.Join.{Join, out-Join, fold_out-Join}
 use Rattle.wh_ast.specs.declared.query.Query.{Query, out-Query, fold_out-Query}
 use Rattle.wh_naming.specs.Findings.{Name}
@@ -146,30 +146,30 @@ query_of_cores q names next cores (Ok b) e h = h ∙ ap (λ cs. gathered names n
 query_of_cores q names next cores (Err x) e h = h
 
 named_is : (name : Name) (alias : Option Name) (names : List Named) (number : ℕ)
-    → (source_part (Source.Named name alias)).reading names number ≡ named_source name names number
-unfolding source_part source_step Source.out-Source denote.Hole.Carrier.out
-named_is name alias names number = ap (λ (p : SourcePart). p.reading names number) (fold_out-Source SourcePart
-    QueryReading JoinPart QueryReading source_step core_step join_step query_step (Source.Named name alias))
+    → (source_part (FromItem.Named name alias)).reading names number ≡ named_source name names number
+unfolding source_part source_step FromItem.out-Source denote.Hole.Carrier.out
+named_is name alias names number = ap (λ (p : SourcePart). p.reading names number) (fold_out-FromItem SourcePart
+    QueryReading JoinPart QueryReading source_step core_step join_step query_step (FromItem.Named name alias))
 
 subquery_is : (q : Query) (alias : Name) (names : List Named) (number : ℕ)
-    → (source_part (Source.Subquery q alias)).reading names number ≡ as_source (query_reading q names number)
+    → (source_part (FromItem.Subquery q alias)).reading names number ≡ as_source (query_reading q names number)
 unfolding source_part source_step query_reading as_source
 subquery_is q alias names number =
     ap (λ s. (source_part s).reading names number) (sym (rolls-Subquery q alias))
-    ∙ ap (λ (p : SourcePart). p.reading names number) (Source.fold-roll-Source SourcePart QueryReading JoinPart
-    QueryReading source_step core_step join_step query_step (Source-F.Subquery q alias))
+    ∙ ap (λ (p : SourcePart). p.reading names number) (FromItem.fold-roll-FromItem SourcePart QueryReading JoinPart
+    QueryReading source_step core_step join_step query_step (FromItem-F.Subquery q alias))
 
-pub named_read : (s : Source.Source) (name : Name) (alias : Option Name) (names : List Named)
+pub named_read : (s : FromItem.FromItem) (name : Name) (alias : Option Name) (names : List Named)
     (number : ℕ) (r : Result CodeSource AllocError)
-    → s ≡ Source.Named name alias → IfOk r (λ x. source_in x ≡ named_source name names number)
+    → s ≡ FromItem.Named name alias → IfOk r (λ x. source_in x ≡ named_source name names number)
     → IfOk r (λ x. source_in x ≡ (source_part s).reading names number)
 named_read s name alias names number (Ok x) e h = h ∙ sym (named_is name alias names number)
     ∙ ap (λ y. (source_part y).reading names number) (sym e)
 named_read s name alias names number (Err x) e h = h
 
-pub subquery_read : (s : Source.Source) (q : Query) (alias : Name) (names : List Named)
+pub subquery_read : (s : FromItem.FromItem) (q : Query) (alias : Name) (names : List Named)
     (number : ℕ) (bound : BoundQuery) (r : Result CodeSource AllocError)
-    → s ≡ Source.Subquery q alias → bound ≡ query_reading q names number → IfOk r (λ x. source_in x ≡ as_source bound)
+    → s ≡ FromItem.Subquery q alias → bound ≡ query_reading q names number → IfOk r (λ x. source_in x ≡ as_source bound)
     → IfOk r (λ x. source_in x ≡ (source_part s).reading names number)
 subquery_read s q alias names number bound (Ok x) e f h =
     h ∙ ap as_source f ∙ sym (subquery_is q alias names number) ∙ ap (λ y. (source_part y).reading names number) (sym e)

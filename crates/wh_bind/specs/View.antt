@@ -6,7 +6,7 @@
 --     query_reading             what a query stands for
 use Rattle.std.specs.Prelude.{map}
 use Rattle.wh_value.specs.View.{column_of}
-use Rattle.wh_ast.specs.declared.query.Source as ast_source
+use Rattle.wh_ast.specs.declared.query.FromItem as ast_source
 use Rattle.wh_ast.specs.declared.query.Join as ast_join
 use Rattle.wh_ast.specs.declared.query.Core as ast_core
 use Rattle.wh_ast.specs.declared.query.Query as ast_query
@@ -30,9 +30,9 @@ source_in s = record {
 abbrev pub sorted_in : BoundKeys → naming.BoundKeys
 sorted_in k = record { keys = keys_of k.keys.items; findings = findings_of k.findings }
 
-unfoldable pub source_part : ast_source.Source → SourcePart
+unfoldable pub source_part : ast_source.FromItem → SourcePart
 source_part s =
-    ast_source.fold-Source SourcePart QueryReading JoinPart QueryReading source_step core_step join_step query_step s
+    ast_source.fold-FromItem SourcePart QueryReading JoinPart QueryReading source_step core_step join_step query_step s
 
 unfoldable pub join_part : ast_join.Join → JoinPart
 join_part j =

@@ -2,7 +2,8 @@ ghost use Rattle.std.specs.Prelude.{◌≡◌, None, map, IfOk};
 ghost use Rattle.wh_naming.specs.View.{named_of};
 ghost use Rattle.wh_bind.specs.Steps.{gathered, joined_on};
 ghost use Rattle.wh_core_bind.specs.View.{joined_in, query_in};
-ghost use Rattle.wh_bind.specs.View.{source_in, source_part, join_part, core_reading, query_reading};
+ghost use Rattle.wh_bind.specs.View.{source_in, source_part, join_part, core_reading};
+ghost use Rattle.wh_bind.specs.View.{query_reading};
 
 use crate::cores::bound_core;
 use crate::joins::{first_entry, joins_behind, number_behind, with_entry};
@@ -10,7 +11,7 @@ use crate::sources::{BoundSource, object_source, query_source};
 use crate::unions::{no_query, number_after, with_core};
 use sqlite_items::Boxed;
 use std::alloc::{AllocError, Global};
-use wh_ast::{Core, Join, Query, Source};
+use wh_ast::{Core, FromItem, Join, Query};
 use wh_core_bind::{BoundQuery, Joined};
 use wh_naming::Named;
 
@@ -100,14 +101,14 @@ pub fn bind_source(
     alloc: Global,
     names: &[Named<'_>],
     number: u32,
-    source: &Source,
+    source: &FromItem,
 ) -> Result<Boxed<BoundSource>, AllocError>
     ensures { IfOk result (λ s. source_in s
         ≡ (source_part source.now).reading (map named_of names.now) number) }
 {
     match source {
-        Source::Named(name, _) => object_source(alloc, names, number, name),
-        Source::Subquery(query, _) => {
+        FromItem::Named(name, _) => object_source(alloc, names, number, name),
+        FromItem::Subquery(query, _) => {
             query_source(alloc, bind_query(alloc, names, number, query.get())?)
         }
     }

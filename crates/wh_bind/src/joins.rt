@@ -15,7 +15,7 @@ use crate::unions::{behind, both_ids};
 use sqlite_items::Boxed;
 use std::alloc::{AllocError, Global};
 use wh_algebra::Query;
-use wh_ast::{Join, Source};
+use wh_ast::{FromItem, Join};
 use wh_core_bind::{Joined, condition};
 use wh_expr_bind::{Entry, Findings};
 use wh_scalar::Scalar;
@@ -25,7 +25,7 @@ use wh_value::{Column, Text};
 #[tactic(auto, unfolding(crate::specs::Steps::started, crate::specs::View::source_in, wh_core_bind::specs::View::joined_in))]
 pub(crate) fn first_entry(
     alloc: Global,
-    from: &Source,
+    from: &FromItem,
     joins: &[Join],
     source: Boxed<BoundSource>,
 ) -> Result<Boxed<Joined>, AllocError>
@@ -113,13 +113,13 @@ fn with_last(
 
 /// An entry's name is its alias, or else its object's name.
 #[tactic(auto, unfolding(crate::specs::View::source_part, wh_naming::specs::Select::source_step))]
-pub fn source_name(source: &Source) -> &Text
+pub fn source_name(source: &FromItem) -> &Text
     ensures { result.now ≡ (source_part source.now).name }
 {
     match source {
-        Source::Named(name, None) => name,
-        Source::Named(_, Some(alias)) => alias,
-        Source::Subquery(_, alias) => alias,
+        FromItem::Named(name, None) => name,
+        FromItem::Named(_, Some(alias)) => alias,
+        FromItem::Subquery(_, alias) => alias,
     }
 }
 

@@ -7,7 +7,7 @@ ghost use Rattle.wh_bind.specs.View.{sorted_in};
 
 use std::alloc::{AllocError, Global};
 use std::mem;
-use wh_ast::{Key, Sort};
+use wh_ast::{OrderKey, Sort};
 use wh_core_bind::Output;
 use wh_expr_bind::Findings;
 use wh_listing::SortKey;
@@ -55,11 +55,11 @@ fn add_key(
         ≡ naming.sorted_by (outputs_of outputs.now) (sorted_in keys.old) sort.now) }
 {
     match &sort.key {
-        Key::Name(name) => match place_of(name, outputs)? {
+        OrderKey::Name(name) => match place_of(name, outputs)? {
             Some(place) => add_place(keys, place, sort.descending),
             None => Ok(add_unknown(keys, name.copy(alloc)?)),
         },
-        Key::Position(number) => match position_in(*number, outputs.len())? {
+        OrderKey::Position(number) => match position_in(*number, outputs.len())? {
             Some(place) => add_place(keys, place, sort.descending),
             None => Ok(add_unknown(keys, printed(alloc, *number)?)),
         },

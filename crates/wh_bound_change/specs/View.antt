@@ -9,8 +9,9 @@ use Rattle.wh_scalar.specs.View.{scalar_of}
 use Rattle.wh_scalar.specs.declared.scalar.Scalar.{Scalar}
 use Rattle.wh_algebra.specs.View.{query_of, scalars_of}
 use Rattle.wh_naming.specs.Changes as naming
-use Rattle.wh_bound_change.specs.declared.change.Change.{Change}
-use Rattle.wh_bound_change.specs.declared.change.Change.TheVariants.{InsertRows, InsertQuery, Update, Delete, Merge}
+use Rattle.wh_bound_change.specs.declared.change.Modification.{Modification}
+use Rattle.wh_bound_change.specs.declared.change.Modification.TheVariants.{InsertRows, InsertQuery, Update, Delete}
+use Rattle.wh_bound_change.specs.declared.change.Modification.TheVariants.{Merge}
 use Rattle.wh_bound_change.specs.declared.change.BoundClause.{BoundClause}
 use Rattle.wh_bound_change.specs.declared.change.BoundClause.TheVariants.{UpdateMatched, DeleteMatched, InsertUnmatched}
 
@@ -25,7 +26,7 @@ clause_of (InsertUnmatched condition row) = naming.InsertUnmatched (scalar_of co
 abbrev pub clauses_of : List BoundClause → List naming.BoundClause
 clauses_of clauses = map clause_of clauses
 
-abbrev pub change_of : Change → naming.Change
+abbrev pub change_of : Modification → naming.Modification
 change_of (InsertRows rows) = naming.InsertRows (rows_of rows.items)
 change_of (InsertQuery query row) = naming.InsertQuery (query_of query) (scalars_of row.items)
 change_of (Update condition row) = naming.Update (scalar_of condition) (scalars_of row.items)

@@ -3,7 +3,7 @@ use wh_scalar::Scalar;
 
 /// What becomes of the target's rows.
 #[derive(Debug, Drop)]
-pub enum Change {
+pub enum Modification {
     /// The new rows.
     InsertRows(Vec<Vec<Scalar>>),
     /// A query, and the new row for each of its rows.
@@ -32,7 +32,7 @@ pub enum BoundClause {
 pub struct BoundChange {
     /// The id of the table.
     pub target: u32,
-    pub change: Change,
+    pub change: Modification,
     /// The ids of the sources, by their numbers.
     pub sources: Vec<u32>,
     /// Whether a query in it has more columns than the limit.

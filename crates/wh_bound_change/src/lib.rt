@@ -3,4 +3,4 @@
 
 mod change;
 
-pub use change::{BoundChange, BoundClause, Change};
+pub use change::{BoundChange, BoundClause, Modification};

@@ -10,7 +10,7 @@ use Rattle.wh_state.specs.State.{live_count, changed_at}
 use Rattle.wh_catalog.specs.declared.object.StoredObject.{StoredObject}
 use Rattle.wh_state.specs.Stored as machine
 use Rattle.wh_state.proofs.IdLaws.{map_count}
-use Rattle.wh_catalog.specs.Kept.{KeptObject, object_in}
+use Rattle.wh_catalog.specs.Undoable.{KeptObject, object_in}
 use Rattle.wh_catalog.specs.Object.{kept_object, kept_objects, stored_objects, IsPlaceOf}
 use Rattle.wh_catalog.specs.Back.{alive, lives_again}
 use Rattle.wh_catalog.specs.Names.{is_last, names_of, AreLast}

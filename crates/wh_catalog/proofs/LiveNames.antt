@@ -14,7 +14,7 @@ use Rattle.std.proofs.lemmas.Bool.Decides.{nat_tests}
 use Rattle.wh_state.specs.State.{id_of, is_named}
 use Rattle.wh_state.proofs.IdLaws.{map_position}
 use Rattle.wh_catalog.specs.declared.object.StoredObject.{StoredObject}
-use Rattle.wh_catalog.specs.Kept.{object_in}
+use Rattle.wh_catalog.specs.Undoable.{object_in}
 use Rattle.wh_catalog.specs.Object.{kept_object, kept_objects, stored_objects}
 use Rattle.wh_catalog.specs.Names.{or_first, last_place, last_id, names_of, AreLast}
 use Rattle.wh_catalog.proofs.Names.{more_names, place_of_id}

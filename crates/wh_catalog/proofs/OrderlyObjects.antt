@@ -6,7 +6,7 @@ use Rattle.wh_table.proofs.OrderlyTables.{orderly_table}
 use Rattle.wh_catalog.specs.declared.object.StoredKind.{StoredKind}
 use Rattle.wh_catalog.specs.declared.object.StoredKind.TheVariants.{Table, Stream}
 use Rattle.wh_catalog.specs.declared.object.StoredObject.{StoredObject}
-use Rattle.wh_catalog.specs.Kept.{kind_in}
+use Rattle.wh_catalog.specs.Undoable.{kind_in}
 use Rattle.wh_catalog.specs.Object.{kept_kind, stored_objects}
 
 orderly_kind : (k : StoredKind) → IsOrderlyKind (kind_in (kept_kind k))

@@ -12,7 +12,7 @@ use Rattle.wh_state.specs.State.{at_id, with_id, put_at, changed_at}
 use Rattle.wh_state.specs.Stored as machine
 use Rattle.wh_state.proofs.IdLaws.{map_at}
 use Rattle.wh_catalog.specs.declared.object.StoredObject.{StoredObject}
-use Rattle.wh_catalog.specs.Kept.{KeptObject, object_in}
+use Rattle.wh_catalog.specs.Undoable.{KeptObject, object_in}
 use Rattle.wh_catalog.specs.Object.{kept_object, kept_objects, stored_objects, IsPlaceOf}
 
 -- ---- lists

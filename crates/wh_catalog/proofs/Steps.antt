@@ -1,7 +1,7 @@
 -- Steps one after the other, and faults of calls.
 use Rattle.std.proofs.Common.{◌≡◌, List, [], ◌∷◌, ◌++◌, Err, refl, ap}
 use Rattle.std.specs.Prelude.{Result, IsErrOf}
-use Rattle.wh_catalog.specs.Kept.{KeptObject}
+use Rattle.wh_catalog.specs.Undoable.{KeptObject}
 use Rattle.wh_catalog.specs.declared.undo.Step.{Step}
 use Rattle.wh_catalog.specs.Undo.{step_undone, undone}
 

@@ -4,8 +4,8 @@ use Rattle.std.specs.Prelude.{ℕ, true, ◌&&◌, List, map, nat_lt, if◌then�
 use Rattle.wh_value.specs.Limit.{bound}
 use Rattle.wh_value.specs.declared.limit.Limit.TheVariants as limits
 use Rattle.wh_state.specs.State.{on_table, on_stream, with_offset, changed_at, live_count}
-use Rattle.wh_table.specs.Kept.{taken_back}
-use Rattle.wh_catalog.specs.Kept.{KeptKind, KeptObject}
+use Rattle.wh_table.specs.Undoable.{taken_back}
+use Rattle.wh_catalog.specs.Undoable.{KeptKind, KeptObject}
 use Rattle.wh_catalog.specs.Names.{is_last}
 
 -- a table without its last version; the next row is that of before

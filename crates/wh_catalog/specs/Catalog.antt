@@ -5,7 +5,7 @@ use Rattle.std.specs.Prelude.{List, map}
 use Rattle.wh_state.specs.State.{State}
 use Rattle.wh_state.specs.Stored as machine
 use Rattle.wh_catalog.specs.declared.catalog.Catalog.{Catalog}
-use Rattle.wh_catalog.specs.Kept.{KeptObject, object_in}
+use Rattle.wh_catalog.specs.Undoable.{KeptObject, object_in}
 use Rattle.wh_catalog.specs.Object.{kept_object}
 
 unfoldable pub kept_of : Catalog → List KeptObject

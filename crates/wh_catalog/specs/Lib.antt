@@ -1,5 +1,5 @@
 pub mod Conditions
-pub mod Kept
+pub mod Undoable
 pub mod Stream
 pub mod Object
 pub mod Names

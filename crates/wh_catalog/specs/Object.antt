@@ -10,7 +10,7 @@ use Rattle.wh_table.specs.Table.{kept_table}
 use Rattle.wh_catalog.specs.declared.object.StoredKind.{StoredKind}
 use Rattle.wh_catalog.specs.declared.object.StoredKind.TheVariants.{Table, Stream}
 use Rattle.wh_catalog.specs.declared.object.StoredObject.{StoredObject}
-use Rattle.wh_catalog.specs.Kept.{KeptKind, KeptObject, kind_in, object_in}
+use Rattle.wh_catalog.specs.Undoable.{KeptKind, KeptObject, kind_in, object_in}
 use Rattle.wh_catalog.specs.Stream.{stream_of}
 
 abbrev pub kept_kind : StoredKind → KeptKind

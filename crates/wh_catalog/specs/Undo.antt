@@ -8,7 +8,7 @@ use Rattle.wh_catalog.specs.declared.catalog.Catalog.{Catalog}
 use Rattle.wh_catalog.specs.declared.undo.Step.{Step}
 use Rattle.wh_catalog.specs.declared.undo.Step.TheVariants.{MadeObject, DroppedObject, PushedVersion, SetOffset}
 use Rattle.wh_catalog.specs.declared.undo.Undo.{Undo}
-use Rattle.wh_catalog.specs.Kept.{KeptObject}
+use Rattle.wh_catalog.specs.Undoable.{KeptObject}
 use Rattle.wh_catalog.specs.Back.{object_taken_back, object_put_back, lives_again}
 use Rattle.wh_catalog.specs.Catalog.{kept_of}
 

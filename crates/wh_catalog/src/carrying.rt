@@ -12,7 +12,7 @@ impl Catalog {
     ghost use Rattle.wh_state.specs.Commit.{ChangeApplies, IsNewObject, changed};
     ghost use Rattle.wh_record.specs.View.{change_of};
     ghost use Rattle.wh_version.specs.Lists.{but_last};
-    ghost use Rattle.wh_catalog.specs.Kept.{object_in};
+    ghost use Rattle.wh_catalog.specs.Undoable.{object_in};
     ghost use Rattle.wh_catalog.specs.Object.{kept_object};
     ghost use Rattle.wh_catalog.specs.Catalog.{objects_of, kept_of};
     ghost use Rattle.wh_catalog.specs.Undo.{step_undone};

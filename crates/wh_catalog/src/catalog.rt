@@ -34,7 +34,7 @@ impl Catalog {
     ghost use Rattle.wh_state.specs.State.{first_state, id_of, live_count};
     ghost use Rattle.wh_state.specs.Stored.{first_stored};
     ghost use Rattle.wh_state.specs.Orderly.{IsOrderlyStored};
-    ghost use Rattle.wh_catalog.specs.Kept.{object_in};
+    ghost use Rattle.wh_catalog.specs.Undoable.{object_in};
     ghost use Rattle.wh_table.specs.Table.{table_of};
     ghost use Rattle.wh_catalog.specs.Object.{kept_object};
     ghost use Rattle.wh_catalog.specs.Names.{names_of, is_last, last_id};

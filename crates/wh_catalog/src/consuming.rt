@@ -57,7 +57,7 @@ pub(crate) fn put_offset_back(objects: &mut Vec<StoredObject>, id: u32, offset: 
 impl StoredObject {
     ghost use Rattle.std.specs.Prelude.{◌≡◌, Some, OnOk, OnErr, IfOk, IsErrOf};
     ghost use Rattle.wh_state.specs.Commit.{OffsetApplies, offset_set};
-    ghost use Rattle.wh_catalog.specs.Kept.{object_in};
+    ghost use Rattle.wh_catalog.specs.Undoable.{object_in};
     ghost use Rattle.wh_catalog.specs.Object.{kept_object};
     ghost use Rattle.wh_catalog.specs.Back.{object_put_back};
 

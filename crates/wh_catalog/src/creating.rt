@@ -8,7 +8,7 @@ impl Catalog {
     ghost use Rattle.wh_state.specs.Commit.{TableApplies, changed, CreatesTable};
     ghost use Rattle.wh_record.specs.View.{table_change_of};
     ghost use Rattle.wh_catalog.specs.Conditions.{is_new_object, table_applies};
-    ghost use Rattle.wh_catalog.specs.Kept.{object_in};
+    ghost use Rattle.wh_catalog.specs.Undoable.{object_in};
     ghost use Rattle.wh_catalog.specs.Object.{kept_object};
     ghost use Rattle.wh_catalog.specs.Catalog.{objects_of};
 

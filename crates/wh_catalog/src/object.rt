@@ -21,7 +21,7 @@ impl StoredObject {
     ghost use Rattle.std.specs.Prelude.{◌≡◌, option_map};
     ghost use Rattle.wh_table.specs.Table.{table_of};
     ghost use Rattle.wh_state.specs.State.{table_in, stream_in};
-    ghost use Rattle.wh_catalog.specs.Kept.{object_in};
+    ghost use Rattle.wh_catalog.specs.Undoable.{object_in};
     ghost use Rattle.wh_catalog.specs.Stream.{stream_of};
     ghost use Rattle.wh_catalog.specs.Object.{kept_kind, kept_object};
 

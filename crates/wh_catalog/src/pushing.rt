@@ -8,7 +8,7 @@ impl StoredObject {
     ghost use Rattle.wh_value.specs.declared.limit.Limit.TheVariants as limits;
     ghost use Rattle.wh_state.specs.Commit.{FitsObject, pushed_object};
     ghost use Rattle.wh_record.specs.View.{version_change_of};
-    ghost use Rattle.wh_catalog.specs.Kept.{object_in};
+    ghost use Rattle.wh_catalog.specs.Undoable.{object_in};
     ghost use Rattle.wh_catalog.specs.Object.{kept_object};
     ghost use Rattle.wh_catalog.specs.Back.{object_taken_back};
 

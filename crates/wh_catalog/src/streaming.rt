@@ -12,7 +12,7 @@ impl Catalog {
     ghost use Rattle.wh_record.specs.View.{stream_change_of};
     ghost use Rattle.wh_table.specs.Table.{table_of};
     ghost use Rattle.wh_catalog.specs.Conditions.{is_live_table};
-    ghost use Rattle.wh_catalog.specs.Kept.{object_in};
+    ghost use Rattle.wh_catalog.specs.Undoable.{object_in};
     ghost use Rattle.wh_catalog.specs.Object.{kept_object};
     ghost use Rattle.wh_catalog.specs.Catalog.{objects_of};
 

@@ -16,8 +16,8 @@ use wh_table::StoredTable;
 use wh_version::Arrivals;
 
 /// The rows that first stand in versions behind a stamp and up to another, as they first stood,
-/// version by version. Of a version only the rows of those partitions are looked at that came with it,
-/// and of the versions in front of the range none.
+/// version by version. Of a version only the rows of those partitions are looked at that came with
+/// it, and of the versions in front of the range none.
 pub fn appends<'a>(
     alloc: Global,
     table: &'a StoredTable,
@@ -48,7 +48,8 @@ fn add_appended<'a>(
     to: u64,
 ) -> Result<(), AllocError>
     ensures { OnOk result (row_changes_of records.new.items ≡ row_changes_of records.old.items
-        ++ (if is_between from to arrivals.now.stamp then appeared (partitions_at seen.now.partitions.items)
+        ++ (if is_between from to arrivals.now.stamp then appeared
+        (partitions_at seen.now.partitions.items)
         (all_rows (partitions_at arrivals.now.came.items)) else [])) }
 {
     if arrivals.stamp <= from || to < arrivals.stamp {

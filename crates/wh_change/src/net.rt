@@ -14,8 +14,8 @@ use wh_part::NumberedRow;
 use wh_table::StoredTable;
 use wh_value::Row;
 
-/// What became of each row between two times: those that were there then, and those that came since,
-/// by rising number each. The rows of partitions that both versions have aren't looked at.
+/// What became of each row between two times: those that were there then, and those that came
+/// since, by rising number each. The rows of partitions that both versions have aren't looked at.
 pub fn net_changes<'a>(
     alloc: Global,
     table: &'a StoredTable,

@@ -58,8 +58,8 @@ fn empty_table(rt: &impl Abort, alloc: Global) -> StoredTable {
     StoredTable::new(alloc, columns, 1, 2)
 }
 
-// Rows 1 to 3; then row 1 is changed, row 2 goes and row 4 comes; then row 1 is as it was; and row 2
-// stands again, as no run leaves it.
+// Rows 1 to 3; then row 1 is changed, row 2 goes and row 4 comes; then row 1 is as it was; and row
+// 2 stands again, as no run leaves it.
 fn filled_table(rt: &impl Abort, alloc: Global) -> StoredTable {
     let mut table = empty_table(rt, alloc);
     push(rt, alloc, &mut table, 3, &[], &[(1, 1, 10), (2, 2, 20)]);

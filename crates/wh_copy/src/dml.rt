@@ -4,7 +4,7 @@ ghost use Rattle.std.specs.Prelude.{◌≡◌, IfOk};
 use crate::parts::{Part, copy_three, copy_two};
 use sqlite_items::Items;
 use std::alloc::{AllocError, Global};
-use wh_ast::{Assignment, Dml, Expr, MergeClause, Rows, Source};
+use wh_ast::{Assignment, Dml, Expr, FromItem, MergeClause, Rows};
 use wh_value::Text;
 
 /// An equal statement, with memory of its own.
@@ -40,7 +40,7 @@ fn copy_merge(
     alloc: Global,
     target: &Text,
     alias: &Option<Text>,
-    source: &Source,
+    source: &FromItem,
     on: &Expr,
     clauses: &Items<MergeClause>,
 ) -> Result<Dml, AllocError>

@@ -5,7 +5,7 @@ use crate::expr::copy_expr;
 use crate::parts::{Part, beside, copy_three, copy_two};
 use sqlite_items::{Boxed, Items};
 use std::alloc::{AllocError, Global};
-use wh_ast::{Core, Item, Join, Key, Query, Sort, Source};
+use wh_ast::{Core, FromItem, Item, Join, OrderKey, Query, Sort};
 
 /// An equal query, with memory of its own.
 #[cycle(copy)]
@@ -40,18 +40,18 @@ fn copy_core(alloc: Global, core: &Core) -> Result<Core, AllocError>
 
 // An equal source, with memory of its own.
 #[cycle(copy)]
-fn copy_source(alloc: Global, source: &Source) -> Result<Source, AllocError>
+fn copy_source(alloc: Global, source: &FromItem) -> Result<FromItem, AllocError>
     ensures { IfOk result (λ copy. copy ≡ source.now) }
 {
     match source {
-        Source::Named(name, alias) => {
+        FromItem::Named(name, alias) => {
             let (name, alias) = copy_two(alloc, name, alias)?;
-            Ok(Source::Named(name, alias))
+            Ok(FromItem::Named(name, alias))
         }
-        Source::Subquery(query, alias) => {
+        FromItem::Subquery(query, alias) => {
             let query = Boxed::new(alloc, copy_query(alloc, query.get())?)?;
             let (query, alias) = beside(query, alias.copy(alloc))?;
-            Ok(Source::Subquery(query, alias))
+            Ok(FromItem::Subquery(query, alias))
         }
     }
 }
@@ -83,8 +83,8 @@ impl Part for Query {
     }
 }
 
-impl Part for Source {
-    fn copied(&self, alloc: Global) -> Result<Source, AllocError> {
+impl Part for FromItem {
+    fn copied(&self, alloc: Global) -> Result<FromItem, AllocError> {
         copy_source(alloc, self)
     }
 }
@@ -112,11 +112,11 @@ impl Part for Sort {
 }
 
 // An equal key, with memory of its own.
-fn copy_key(alloc: Global, key: &Key) -> Result<Key, AllocError>
+fn copy_key(alloc: Global, key: &OrderKey) -> Result<OrderKey, AllocError>
     ensures { IfOk result (λ copy. copy ≡ key.now) }
 {
     match key {
-        Key::Name(name) => Ok(Key::Name(name.copy(alloc)?)),
-        Key::Position(position) => Ok(Key::Position(*position)),
+        OrderKey::Name(name) => Ok(OrderKey::Name(name.copy(alloc)?)),
+        OrderKey::Position(position) => Ok(OrderKey::Position(*position)),
     }
 }

@@ -5,7 +5,7 @@ use crate::dml::copy_dml;
 use crate::parts::{Part, beside, copy_three, copy_two};
 use sqlite_items::Boxed;
 use std::alloc::{AllocError, Global};
-use wh_ast::{Condition, CreateDynamicTable, CreateTable, CreateTask, Statement, When};
+use wh_ast::{CreateDynamicTable, CreateTable, CreateTask, Statement, When, WhenCondition};
 
 /// An equal statement, with memory of its own.
 pub fn copy_statement(alloc: Global, statement: &Statement) -> Result<Statement, AllocError>
@@ -101,33 +101,36 @@ impl Part for When {
     }
 }
 
-impl Part for Condition {
-    fn copied(&self, alloc: Global) -> Result<Condition, AllocError> {
+impl Part for WhenCondition {
+    fn copied(&self, alloc: Global) -> Result<WhenCondition, AllocError> {
         copy_condition(alloc, self)
     }
 }
 
 /// An equal condition, with memory of its own.
 #[cycle(copy)]
-pub fn copy_condition(alloc: Global, condition: &Condition) -> Result<Condition, AllocError>
+pub fn copy_condition(alloc: Global, condition: &WhenCondition) -> Result<WhenCondition, AllocError>
     ensures { IfOk result (λ copy. copy ≡ condition.now) }
 {
     match condition {
-        Condition::Or(x, y) => {
+        WhenCondition::Or(x, y) => {
             let (x, y) = beside(copy_boxed(alloc, x)?, copy_boxed(alloc, y))?;
-            Ok(Condition::Or(x, y))
+            Ok(WhenCondition::Or(x, y))
         }
-        Condition::And(x, y) => {
+        WhenCondition::And(x, y) => {
             let (x, y) = beside(copy_boxed(alloc, x)?, copy_boxed(alloc, y))?;
-            Ok(Condition::And(x, y))
+            Ok(WhenCondition::And(x, y))
         }
-        Condition::Not(x) => Ok(Condition::Not(copy_boxed(alloc, x)?)),
-        Condition::HasData(name) => Ok(Condition::HasData(name.copy(alloc)?)),
+        WhenCondition::Not(x) => Ok(WhenCondition::Not(copy_boxed(alloc, x)?)),
+        WhenCondition::HasData(name) => Ok(WhenCondition::HasData(name.copy(alloc)?)),
     }
 }
 
 #[cycle(copy)]
-fn copy_boxed(alloc: Global, condition: &Boxed<Condition>) -> Result<Boxed<Condition>, AllocError>
+fn copy_boxed(
+    alloc: Global,
+    condition: &Boxed<WhenCondition>,
+) -> Result<Boxed<WhenCondition>, AllocError>
     ensures { IfOk result (λ copy. copy ≡ condition.now) }
 {
     Boxed::new(alloc, copy_condition(alloc, condition.get())?)

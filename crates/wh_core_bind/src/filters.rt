@@ -5,7 +5,7 @@ ghost use Rattle.wh_naming.specs.Select as naming;
 ghost use Rattle.wh_expr_bind.specs.View.{entries_of, findings_of};
 ghost use Rattle.wh_core_bind.specs.Parts.{filter_of, filtered};
 
-use crate::Condition;
+use crate::BoundCondition;
 use sqlite_items::Boxed;
 use std::alloc::{AllocError, Global};
 use wh_algebra::Query;
@@ -15,7 +15,7 @@ use wh_scalar::Scalar;
 use wh_value::ColumnType;
 
 /// A condition over the columns of entries. It is a BOOLEAN.
-pub fn condition(alloc: Global, entries: &[Entry], x: &Expr) -> Result<Condition, AllocError>
+pub fn condition(alloc: Global, entries: &[Entry], x: &Expr) -> Result<BoundCondition, AllocError>
     ensures scalar { IfOk result (λ c. scalar_of c.scalar
         ≡ (naming.plain (entries_of entries.now) x.now).scalar) }
     ensures findings { IfOk result (λ c. findings_of c.findings
@@ -23,7 +23,7 @@ pub fn condition(alloc: Global, entries: &[Entry], x: &Expr) -> Result<Condition
 {
     let x = typed(alloc, x, entries, false, 0)?;
     let is_mistyped = !alike(Some(ColumnType::Boolean), x.type_of);
-    Ok(Condition {
+    Ok(BoundCondition {
         scalar: x.scalar,
         findings: x.findings.followed(Findings::mistyped_if(is_mistyped)),
     })

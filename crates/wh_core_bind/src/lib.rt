@@ -13,5 +13,5 @@ mod shown;
 pub use bound::bound_core;
 pub use filters::condition;
 pub use output::Output;
-pub use parts::{BoundQuery, Condition, Joined};
+pub use parts::{BoundCondition, BoundQuery, Joined};
 pub use shown::column_scalar;

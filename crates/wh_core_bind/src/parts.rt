@@ -27,7 +27,7 @@ pub struct Joined {
 
 /// A condition, and what is found wrong in it.
 #[derive(Debug, Drop)]
-pub struct Condition {
+pub struct BoundCondition {
     pub scalar: Scalar,
     pub findings: Findings,
 }

@@ -14,8 +14,8 @@ use Rattle.wh_grammar.specs.Words.{is_reserved}
 use Rattle.wh_grammar.specs.Token as token
 use Rattle.wh_grammar.specs.Token.{Token, Word, Quoted, TextToken, NumberToken, SignToken}
 use Rattle.wh_grammar.specs.Name.{IsName}
-use Rattle.wh_cursor.specs.declared.key.Key.{Key}
-use Rattle.wh_cursor.specs.declared.key.Key.TheVariants as k
+use Rattle.wh_cursor.specs.declared.key.TokenClass.{TokenClass}
+use Rattle.wh_cursor.specs.declared.key.TokenClass.TheVariants as k
 use Rattle.wh_cursor.specs.Keys.{same_key, key_of}
 use Rattle.wh_cursor.specs.Steps.{Reader, and_then, tail, sees, sees_word, expect_word, expect_key, read_word}
 use Rattle.wh_cursor.specs.Steps.{read_text, read_number, read_name, given, read_end}
@@ -81,11 +81,12 @@ if_eaten_word w ts f {Q} g h = by (sees_word w ts) (λ r. g (sees_word_some w ts
 
 -- ---- a token by its key
 
-pub sees_key_some : (key : Key) (t : Token) (ts : List Token) → fixed key ≡ Some t → sees key ts ≡ true
+pub sees_key_some : (key : TokenClass) (t : Token) (ts : List Token) → fixed key ≡ Some t → sees key ts ≡ true
     → ts ≡ t ∷ tail ts
 sees_key_some key t ts is h = subst (λ (o : Option Token). Heads o ts) is (heads key ts h)
 
-pub then_expect_key : {B : Type 0} (key : Key) (ts : List Token) (f : Unit {0} → Reader B) {Q : B → List Token → Type 0}
+pub then_expect_key : {B : Type 0} (key : TokenClass) (ts : List Token) (f : Unit {0} → Reader B)
+    {Q : B → List Token → Type 0}
     → (Heads (fixed key) ts → Yields (f tt (tail ts)) Q) → Yields (and_then (expect_key key ts) f) Q
 unfolding expect_key
 then_expect_key key ts f {Q} g = by (sees key ts) (λ r. g (heads key ts r))
@@ -96,7 +97,7 @@ then_expect_key key ts f {Q} g = by (sees key ts) (λ r. g (heads key ts r))
     by false g = nothing
 
 -- behind a token that may stand there
-pub if_eaten_key : {B : Type 0} (key : Key) (ts : List Token) (f : Bool → Reader B) {Q : B → List Token → Type 0}
+pub if_eaten_key : {B : Type 0} (key : TokenClass) (ts : List Token) (f : Bool → Reader B) {Q : B → List Token → Type 0}
     → (Heads (fixed key) ts → Yields (f true (tail ts)) Q) → (sees key ts ≡ false → Yields (f false ts) Q)
     → Yields (f (sees key ts) (if sees key ts then tail ts else ts)) Q
 if_eaten_key key ts f {Q} g h = by (sees key ts) (λ r. g (heads key ts r)) h
@@ -107,7 +108,7 @@ if_eaten_key key ts f {Q} g h = by (sees key ts) (λ r. g (heads key ts r)) h
     by false g h = h refl
 
 -- each of them is seen where it stands
-pub sees_key_is : (key : Key) (t : Token) (us : List Token) → fixed key ≡ Some t → sees key (t ∷ us) ≡ true
+pub sees_key_is : (key : TokenClass) (t : Token) (us : List Token) → fixed key ≡ Some t → sees key (t ∷ us) ≡ true
 unfolding sees same_key key_of is_reserved
 sees_key_is k.End t us is = absurd (cc)
 sees_key_is k.Or t us is = rw (sym (same_Some _ _ is)) refl
@@ -140,7 +141,7 @@ sees_key_is k.Greater t us is = rw (sym (same_Some _ _ is)) refl
 sees_key_is k.AtLeast t us is = rw (sym (same_Some _ _ is)) refl
 sees_key_is k.Arrow t us is = absurd (cc)
 
-pub expect_key_reads : (key : Key) (t : Token) (us : List Token) → fixed key ≡ Some t
+pub expect_key_reads : (key : TokenClass) (t : Token) (us : List Token) → fixed key ≡ Some t
     → expect_key key (t ∷ us) ≡ Some (tt, us)
 unfolding expect_key
 expect_key_reads key t us is = rw (sees_key_is key t us is) refl
@@ -189,7 +190,8 @@ false_unless : (r : Bool) → (r ≡ true → ⊥) → r ≡ false
 false_unless true h = absurd (h refl)
 false_unless false h = refl
 
-pub not_that_key : (key : Key) (t : Token) (ts : List Token) → fixed key ≡ Some t → Lacks t ts → sees key ts ≡ false
+pub not_that_key : (key : TokenClass) (t : Token) (ts : List Token) → fixed key ≡ Some t → Lacks t ts →
+    sees key ts ≡ false
 not_that_key key t ts is h = false_unless (sees key ts) (λ r. h (sees_key_some key t ts is r))
 
 -- another word; the test is decided for two known words
@@ -210,7 +212,7 @@ unfolding sees_word
 sign_no_word w s us = refl
 
 -- a word is no sign, and another word isn't that one
-pub word_no_sign : (key : Key) (s : token.Sign) (v : List ℕ) (us : List Token) → fixed key ≡ Some (SignToken s)
+pub word_no_sign : (key : TokenClass) (s : token.Sign) (v : List ℕ) (us : List Token) → fixed key ≡ Some (SignToken s)
     → sees key (Word v ∷ us) ≡ false
 word_no_sign key s v us is = not_that_key key (SignToken s) (Word v ∷ us) is (λ e. cc)
 

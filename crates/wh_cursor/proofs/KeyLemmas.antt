@@ -8,14 +8,14 @@ use Rattle.wh_grammar.specs.Words.{is_reserved}
 use Rattle.wh_grammar.specs.Token as token
 use Rattle.wh_grammar.specs.Token.{Token, Word, Quoted, TextToken, NumberToken, SignToken}
 use Rattle.wh_cursor.specs.Binds.{binds, word_binds}
-use Rattle.wh_cursor.specs.declared.key.Key.{Key}
-use Rattle.wh_cursor.specs.declared.key.Key.TheVariants as k
-use Rattle.wh_cursor.specs.contracts.key.Key.{the_type}
+use Rattle.wh_cursor.specs.declared.key.TokenClass.{TokenClass}
+use Rattle.wh_cursor.specs.declared.key.TokenClass.TheVariants as k
+use Rattle.wh_cursor.specs.contracts.key.TokenClass.{the_type}
 use Rattle.wh_cursor.specs.Keys.{same_key, key_of, word_key, reserved_key, key_binds}
 use Rattle.wh_cursor.specs.Steps.{tail, sees}
 
 -- the one token that has it, where there is only one
-abbrev pub fixed : Key → Option Token
+abbrev pub fixed : TokenClass → Option Token
 fixed k.Or = Some (Word (codes "OR"))
 fixed k.And = Some (Word (codes "AND"))
 fixed k.Not = Some (Word (codes "NOT"))
@@ -47,16 +47,18 @@ abbrev pub Heads : Option Token → List Token → Type 0
 Heads None ts = Unit {0}
 Heads (Some t) ts = ts ≡ t ∷ tail ts
 
-pub by_test : (P : Key → Type 0) (r : Bool) (a b : Key) → (r ≡ true → P a) → (r ≡ false → P b) → P (if r then a else b)
+pub by_test : (P : TokenClass → Type 0) (r : Bool) (a b : TokenClass) → (r ≡ true → P a) → (r ≡ false → P b) →
+    P (if r then a else b)
 by_test P true a b f g = f refl
 by_test P false a b f g = g refl
 
-by_word : (P : Key → Type 0) (w c : List ℕ) (a b : Key) → (w ≡ c → P a) → P b → P (if bytes_eq w c then a else b)
+by_word : (P : TokenClass → Type 0) (w c : List ℕ) (a b : TokenClass) → (w ≡ c → P a) → P b →
+    P (if bytes_eq w c then a else b)
 by_word P w c a b f g = by_test P (bytes_eq w c) a b (λ r. f ((bytes_eq-Decides w c).0 r)) (λ _. g)
 
 word-heads : (w : List ℕ) (us : List Token) → Heads (fixed (word_key w)) (Word w ∷ us)
 word-heads w us =
-    let P : Key → Type 0 = λ key. Heads (fixed key) (Word w ∷ us) in
+    let P : TokenClass → Type 0 = λ key. Heads (fixed key) (Word w ∷ us) in
     let is : (c : List ℕ) → w ≡ c → Word w ∷ us ≡ Word c ∷ us = λ c e. ap (λ (v : List ℕ). Word v ∷ us) e in
     by_test P (is_reserved w) _ _
     (λ _. by_word P w (codes "OR") k.Or _ (is _)
@@ -93,10 +95,10 @@ key-heads (SignToken token.Greater ∷ us) = refl
 key-heads (SignToken token.AtLeast ∷ us) = refl
 key-heads (SignToken token.Arrow ∷ us) = tt
 
-pub heads_at : (key : Key) (ts : List Token) → key_of ts ≡ key → Heads (fixed key) ts
-heads_at key ts e = subst (λ (q : Key). Heads (fixed q) ts) e (key-heads ts)
+pub heads_at : (key : TokenClass) (ts : List Token) → key_of ts ≡ key → Heads (fixed key) ts
+heads_at key ts e = subst (λ (q : TokenClass). Heads (fixed q) ts) e (key-heads ts)
 
-pub heads : (key : Key) (ts : List Token) → sees key ts ≡ true → Heads (fixed key) ts
+pub heads : (key : TokenClass) (ts : List Token) → sees key ts ≡ true → Heads (fixed key) ts
 unfolding sees same_key
 heads key ts r = heads_at key ts (same_true the_type (search rules) (key_of ts) key r)
 
@@ -125,7 +127,7 @@ word_by w true e = six (bytes_eq w (codes "OR")) (bytes_eq w (codes "AND")) (byt
     three false false true = refl
     three false false false = refl
 
-    six : (a b c d e f : Bool) (key : Key) → key_binds key ≡ 0
+    six : (a b c d e f : Bool) (key : TokenClass) → key_binds key ≡ 0
         → key_binds (if a then k.Or else if b then k.And else if c then k.Not else if d then k.Is else if e then k.In
         else if f then k.Between else key)
         ≡ (if a then 1 else if b then 2 else if c then 3 else if d then 3 else if e then 3 else if f then 3 else 0)

@@ -6,7 +6,7 @@ use Rattle.std.proofs.Common.{◌≡◌, ℕ, zero, suc, ◌<◌, ◌≤◌, Boo
 use Rattle.std.proofs.Common.{length, refl, sym, ap, ◌∙◌, subst, append_assoc, arith}
 use Rattle.wh_grammar.specs.Token as token
 use Rattle.wh_grammar.specs.Token.{Token, SignToken}
-use Rattle.wh_cursor.specs.declared.key.Key.TheVariants as k
+use Rattle.wh_cursor.specs.declared.key.TokenClass.TheVariants as k
 use Rattle.wh_cursor.specs.Steps.{tail, sees, Reader, pure, eat_key}
 use Rattle.wh_cursor.specs.Lists.{some_from, listed}
 use Rattle.wh_cursor.proofs.KeyLemmas.{heads}

@@ -4,14 +4,14 @@ use denote.Enum.Bare.{sameb}
 use Rattle.wh_grammar.specs.Words.{is_reserved}
 use Rattle.wh_grammar.specs.Token.{Token, Word, Quoted, TextToken, NumberToken, SignToken, Sign, LParen, RParen, Comma}
 use Rattle.wh_grammar.specs.Token.{Dot, Star, Plus, Minus, Equal, Unequal, Less, AtMost, Greater, AtLeast, Arrow}
-use Rattle.wh_cursor.specs.declared.key.Key.{Key}
-use Rattle.wh_cursor.specs.declared.key.Key.TheVariants as k
-use Rattle.wh_cursor.specs.contracts.key.Key.{the_type}
+use Rattle.wh_cursor.specs.declared.key.TokenClass.{TokenClass}
+use Rattle.wh_cursor.specs.declared.key.TokenClass.TheVariants as k
+use Rattle.wh_cursor.specs.contracts.key.TokenClass.{the_type}
 
-unfoldable pub same_key : Key → Key → Bool
+unfoldable pub same_key : TokenClass → TokenClass → Bool
 same_key = sameb the_type
 
-abbrev pub sign_key : Sign → Key
+abbrev pub sign_key : Sign → TokenClass
 sign_key LParen = k.LParen
 sign_key RParen = k.RParen
 sign_key Comma = k.Comma
@@ -27,14 +27,14 @@ sign_key Greater = k.Greater
 sign_key AtLeast = k.AtLeast
 sign_key Arrow = k.Arrow
 
-abbrev pub constant_key : List ℕ → Key
+abbrev pub constant_key : List ℕ → TokenClass
 constant_key w =
     if bytes_eq w (codes "NULL") then k.Null
     else if bytes_eq w (codes "TRUE") then k.True
     else if bytes_eq w (codes "FALSE") then k.False
     else k.Reserved
 
-abbrev pub reserved_key : List ℕ → Key
+abbrev pub reserved_key : List ℕ → TokenClass
 reserved_key w =
     if bytes_eq w (codes "OR") then k.Or
     else if bytes_eq w (codes "AND") then k.And
@@ -44,14 +44,14 @@ reserved_key w =
     else if bytes_eq w (codes "BETWEEN") then k.Between
     else constant_key w
 
-abbrev pub word_key : List ℕ → Key
+abbrev pub word_key : List ℕ → TokenClass
 word_key w =
     if is_reserved w then reserved_key w
     else if bytes_eq w (codes "SUM") then k.Sum
     else if bytes_eq w (codes "COUNT") then k.Count
     else k.Name
 
-abbrev pub token_key : Token → Key
+abbrev pub token_key : Token → TokenClass
 token_key (Word w) = word_key w
 token_key (Quoted name) = k.Name
 token_key (TextToken bytes) = k.Text
@@ -59,12 +59,12 @@ token_key (NumberToken n) = k.Number
 token_key (SignToken s) = sign_key s
 
 -- that of the token that comes next
-unfoldable pub key_of : List Token → Key
+unfoldable pub key_of : List Token → TokenClass
 key_of [] = k.End
 key_of (t ∷ us) = token_key t
 
 -- How tightly it binds behind an expression: 0 where it doesn't go on with it.
-abbrev pub key_binds : Key → ℕ
+abbrev pub key_binds : TokenClass → ℕ
 key_binds k.Or = 1
 key_binds k.And = 2
 key_binds k.Not = 3

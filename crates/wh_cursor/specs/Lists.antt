@@ -7,7 +7,7 @@ use Rattle.std.specs.declared.alloc.Global.{Global}
 use denote.Ref.{MutBor}
 use Rattle.wh_grammar.specs.Token.{Token}
 use Rattle.wh_cursor.specs.declared.fault.ParseFault.{ParseFault}
-use Rattle.wh_cursor.specs.declared.key.Key.TheVariants as k
+use Rattle.wh_cursor.specs.declared.key.TokenClass.TheVariants as k
 use Rattle.wh_cursor.specs.Gives.{Reads}
 use Rattle.wh_cursor.specs.Steps.{Reader, ◌>>=◌, pure, refuse, eat_key}
 

@@ -12,7 +12,7 @@ use Rattle.std.specs.Prelude.{ℕ, Bool, false, not, ◌&&◌, List, [], ◌∷�
 use Rattle.wh_grammar.specs.Words.{is_reserved, is_call}
 use Rattle.wh_grammar.specs.Token.{Token, Word, Quoted, TextToken, NumberToken, SignToken}
 use Rattle.wh_grammar.specs.Name.{opens}
-use Rattle.wh_cursor.specs.declared.key.Key.{Key}
+use Rattle.wh_cursor.specs.declared.key.TokenClass.{TokenClass}
 use Rattle.wh_cursor.specs.Keys.{same_key, key_of}
 
 -- ---- readers over any state
@@ -47,7 +47,7 @@ abbrev pub tail : List Token → List Token
 tail [] = []
 tail (t ∷ us) = us
 
-unfoldable pub sees : Key → List Token → Bool
+unfoldable pub sees : TokenClass → List Token → Bool
 sees key ts = same_key (key_of ts) key
 
 -- takes the token, whatever it is
@@ -69,13 +69,13 @@ abbrev pub eat_word : List ℕ → Reader Bool
 eat_word w = λ ts. Some (sees_word w ts, if sees_word w ts then tail ts else ts)
 
 -- a sign, by its key
-abbrev pub eat_key : Key → Reader Bool
+abbrev pub eat_key : TokenClass → Reader Bool
 eat_key key = λ ts. Some (sees key ts, if sees key ts then tail ts else ts)
 
 unfoldable pub expect_word : List ℕ → Reader (Unit {0})
 expect_word w = λ ts. if sees_word w ts then Some (tt, tail ts) else None
 
-unfoldable pub expect_key : Key → Reader (Unit {0})
+unfoldable pub expect_key : TokenClass → Reader (Unit {0})
 expect_key key = λ ts. if sees key ts then Some (tt, tail ts) else None
 
 -- goes on with what was found

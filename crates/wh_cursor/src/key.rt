@@ -8,7 +8,7 @@ use wh_value::Text;
 
 /// What a token is for an expression, where its bytes don't matter.
 #[derive(Clone, Copy, Debug, PartialEq, Eq)]
-pub enum Key {
+pub enum TokenClass {
     /// No token.
     End,
     Or,
@@ -46,111 +46,116 @@ pub enum Key {
 
 /// Whether they are the same.
 #[tactic(auto, unfolding(crate::specs::Keys::same_key))]
-pub fn same_key(a: Key, b: Key) -> bool
+pub fn same_key(a: TokenClass, b: TokenClass) -> bool
     ensures { result ≡ spec.same_key a b }
 {
     a == b
 }
 
 /// How tightly it binds behind an expression: 0 where it doesn't go on with it.
-pub fn binds(key: Key) -> u8
+pub fn binds(key: TokenClass) -> u8
     ensures { result ≡ spec.key_binds key }
 {
     match key {
-        Key::Or => 1,
-        Key::And => 2,
-        Key::Not | Key::Is | Key::In | Key::Between => 3,
-        Key::Equal | Key::Unequal | Key::Less | Key::AtMost | Key::Greater | Key::AtLeast => 3,
-        Key::Plus | Key::Minus => 4,
-        Key::Star => 5,
-        Key::LParen | Key::Dot => 6,
+        TokenClass::Or => 1,
+        TokenClass::And => 2,
+        TokenClass::Not | TokenClass::Is | TokenClass::In | TokenClass::Between => 3,
+        TokenClass::Equal
+        | TokenClass::Unequal
+        | TokenClass::Less
+        | TokenClass::AtMost
+        | TokenClass::Greater
+        | TokenClass::AtLeast => 3,
+        TokenClass::Plus | TokenClass::Minus => 4,
+        TokenClass::Star => 5,
+        TokenClass::LParen | TokenClass::Dot => 6,
         _ => 0,
     }
 }
 
-fn reserved_key(word: &Text) -> Key
+fn reserved_key(word: &Text) -> TokenClass
     ensures { result ≡ spec.reserved_key word.now }
 {
     if is_same(word, b"OR") {
-        return Key::Or;
+        return TokenClass::Or;
     }
     if is_same(word, b"AND") {
-        return Key::And;
+        return TokenClass::And;
     }
     if is_same(word, b"NOT") {
-        return Key::Not;
+        return TokenClass::Not;
     }
     if is_same(word, b"IS") {
-        return Key::Is;
+        return TokenClass::Is;
     }
     if is_same(word, b"IN") {
-        return Key::In;
+        return TokenClass::In;
     }
     if is_same(word, b"BETWEEN") {
-        return Key::Between;
+        return TokenClass::Between;
     }
     constant_key(word)
 }
 
-fn constant_key(word: &Text) -> Key
+fn constant_key(word: &Text) -> TokenClass
     ensures { result ≡ spec.constant_key word.now }
 {
     if is_same(word, b"NULL") {
-        return Key::Null;
+        return TokenClass::Null;
     }
     if is_same(word, b"TRUE") {
-        return Key::True;
+        return TokenClass::True;
     }
     if is_same(word, b"FALSE") {
-        return Key::False;
+        return TokenClass::False;
     }
-    Key::Reserved
+    TokenClass::Reserved
 }
 
-fn word_key(word: &Text) -> Key
+fn word_key(word: &Text) -> TokenClass
     ensures { result ≡ spec.word_key word.now }
 {
     if is_reserved(word) {
         return reserved_key(word);
     }
     if is_same(word, b"SUM") {
-        return Key::Sum;
+        return TokenClass::Sum;
     }
     if is_same(word, b"COUNT") {
-        return Key::Count;
+        return TokenClass::Count;
     }
-    Key::Name
+    TokenClass::Name
 }
 
-fn sign_key(sign: Sign) -> Key
+fn sign_key(sign: Sign) -> TokenClass
     ensures { result ≡ spec.sign_key (sign_of sign) }
 {
     match sign {
-        Sign::LParen => Key::LParen,
-        Sign::RParen => Key::RParen,
-        Sign::Comma => Key::Comma,
-        Sign::Dot => Key::Dot,
-        Sign::Star => Key::Star,
-        Sign::Plus => Key::Plus,
-        Sign::Minus => Key::Minus,
-        Sign::Equal => Key::Equal,
-        Sign::Unequal => Key::Unequal,
-        Sign::Less => Key::Less,
-        Sign::AtMost => Key::AtMost,
-        Sign::Greater => Key::Greater,
-        Sign::AtLeast => Key::AtLeast,
-        Sign::Arrow => Key::Arrow,
+        Sign::LParen => TokenClass::LParen,
+        Sign::RParen => TokenClass::RParen,
+        Sign::Comma => TokenClass::Comma,
+        Sign::Dot => TokenClass::Dot,
+        Sign::Star => TokenClass::Star,
+        Sign::Plus => TokenClass::Plus,
+        Sign::Minus => TokenClass::Minus,
+        Sign::Equal => TokenClass::Equal,
+        Sign::Unequal => TokenClass::Unequal,
+        Sign::Less => TokenClass::Less,
+        Sign::AtMost => TokenClass::AtMost,
+        Sign::Greater => TokenClass::Greater,
+        Sign::AtLeast => TokenClass::AtLeast,
+        Sign::Arrow => TokenClass::Arrow,
     }
 }
 
-pub fn kind_key(kind: &Kind) -> Key
+pub fn kind_key(kind: &Kind) -> TokenClass
     ensures { result ≡ spec.token_key (token_of kind.now) }
 {
     match kind {
         Kind::Word(word) => word_key(word),
-        Kind::Quoted(_) => Key::Name,
-        Kind::Text(_) => Key::Text,
-        Kind::Number(_) => Key::Number,
+        Kind::Quoted(_) => TokenClass::Name,
+        Kind::Text(_) => TokenClass::Text,
+        Kind::Number(_) => TokenClass::Number,
         Kind::Sign(sign) => sign_key(*sign),
     }
 }

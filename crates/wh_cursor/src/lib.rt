@@ -12,7 +12,7 @@ mod words;
 
 pub use chains::joined;
 pub use fault::ParseFault;
-pub use key::{Key, binds};
+pub use key::{TokenClass, binds};
 pub use lists::listed;
 pub use reading::{name, reading_laws, tokens_of_text};
 pub use words::Words;

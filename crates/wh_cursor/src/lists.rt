@@ -4,7 +4,7 @@ ghost use Rattle.wh_cursor.specs.Lists as spec;
 ghost use Rattle.wh_cursor.specs.Lists.{ReadsItem};
 ghost use Rattle.wh_cursor.specs.Steps.{Reader};
 
-use crate::{Key, ParseFault, Words};
+use crate::{ParseFault, TokenClass, Words};
 use sqlite_items::Items;
 use std::alloc::Global;
 
@@ -42,7 +42,7 @@ fn items<T: Drop, F: Fn(Global, &mut Words<'_>, usize) -> Result<T, ParseFault>>
     let mut found = Items::new(alloc);
     for _turn in 0..words.rest().len() {
         found.push(item(alloc, words, depth)?)?;
-        if !words.eat(Key::Comma) {
+        if !words.eat(TokenClass::Comma) {
             return Ok(found);
         }
     }

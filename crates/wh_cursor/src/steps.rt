@@ -8,7 +8,7 @@ ghost use Rattle.wh_cursor.specs.Steps as spec;
 ghost use Rattle.wh_lex.specs.View.{token_of};
 
 use crate::key::same_key;
-use crate::{Key, ParseFault, Words};
+use crate::{ParseFault, TokenClass, Words};
 use std::alloc::Global;
 use wh_lex::{Kind, Token};
 use wh_value::Text;
@@ -16,14 +16,14 @@ use wh_value::Text;
 impl<'a> Words<'a> {
     /// Whether a sign, or a word of expressions, comes next.
     #[tactic(auto, unfolding(crate::specs::Steps::sees))]
-    pub fn sees(&self, key: Key) -> bool
+    pub fn sees(&self, key: TokenClass) -> bool
         ensures { result ≡ sees key self.now }
     {
         same_key(self.key(), key)
     }
 
     /// Takes it, if it comes next.
-    pub fn eat(&mut self, key: Key) -> bool
+    pub fn eat(&mut self, key: TokenClass) -> bool
         ensures found { result ≡ sees key self.old }
         ensures after { self.new ≡ (if sees key self.old then tail self.old else self.old) }
     {
@@ -36,7 +36,7 @@ impl<'a> Words<'a> {
 
     /// Takes it, and nothing else.
     #[tactic(auto, unfolding(crate::specs::Steps::expect_key))]
-    pub fn expect(&mut self, key: Key) -> Result<(), ParseFault>
+    pub fn expect(&mut self, key: TokenClass) -> Result<(), ParseFault>
         ensures reads { Reads (spec.expect_key key self.old) result self.new }
         ensures kept { OnErr result (self.new ≡ self.old) }
     {

@@ -9,7 +9,7 @@ ghost use Rattle.wh_cursor.specs.Steps.{tail, sees};
 ghost use Rattle.wh_lex.specs.View.{token_of};
 
 use crate::ParseFault;
-use crate::key::{Key, binds, kind_key, same_key};
+use crate::key::{TokenClass, binds, kind_key, same_key};
 use crate::reserved::{is_call, is_reserved};
 use std::alloc::Global;
 use std::marker::Model;
@@ -51,7 +51,7 @@ impl<'a> Words<'a> {
     }
 
     /// What the next token is for an expression.
-    pub fn key(&self) -> Key
+    pub fn key(&self) -> TokenClass
         ensures { result ≡ key_of self.now }
     {
         key_at(self.rest)
@@ -59,18 +59,18 @@ impl<'a> Words<'a> {
 
     /// What the token behind the next one is.
     #[tactic(auto, unfolding(crate::specs::Keys::key_of))]
-    pub fn key_behind(&self) -> Key
+    pub fn key_behind(&self) -> TokenClass
         ensures { result ≡ key_of (tail self.now) }
     {
         match self.rest {
-            [] => Key::End,
+            [] => TokenClass::End,
             [_, behind @ ..] => key_at(behind),
         }
     }
 
     /// Whether a sign, or a word of expressions, stands behind the next token.
     #[tactic(auto, unfolding(crate::specs::Steps::sees))]
-    pub fn sees_behind(&self, key: Key) -> bool
+    pub fn sees_behind(&self, key: TokenClass) -> bool
         ensures { result ≡ sees key (tail self.now) }
     {
         same_key(self.key_behind(), key)
@@ -105,11 +105,11 @@ impl<'a> Words<'a> {
 }
 
 #[tactic(auto, unfolding(crate::specs::Keys::key_of))]
-fn key_at(tokens: &[Token]) -> Key
+fn key_at(tokens: &[Token]) -> TokenClass
     ensures { result ≡ key_of (tokens_of tokens.now) }
 {
     match tokens {
-        [] => Key::End,
+        [] => TokenClass::End,
         [first, ..] => kind_key(first.kind()),
     }
 }

@@ -7,7 +7,8 @@ use wh_expr_bind::Findings;
 use wh_naming::Failing;
 use wh_value::Text;
 
-/// The first failing test, if one fails, of a statement that makes an object of a taken name, or none.
+/// The first failing test, if one fails, of a statement that makes an object of a taken name, or
+/// none.
 pub(crate) fn tested(taken_object: Option<Text>, findings: Findings) -> Result<(), BindFault>
     ensures { Answers result (first_failing_of taken_object (findings_of findings)) }
 {

@@ -10,7 +10,7 @@ use Rattle.std.proofs.Common.{◌≡◌, ℕ, true, List, [], ◌∷◌, Option,
 use Rattle.wh_value.specs.Value.{Row}
 use Rattle.wh_value.specs.declared.limit.Limit.TheVariants as limits
 use Rattle.wh_meaning.specs.Query.{Instance}
-use Rattle.wh_naming.specs.Changes.{Change, InsertRows, InsertQuery, Update, Delete, Merge}
+use Rattle.wh_naming.specs.Changes.{Modification, InsertRows, InsertQuery, Update, Delete, Merge}
 use Rattle.wh_bound_change.specs.View as changes
 use Rattle.wh_bound_change.specs.declared.change.BoundChange.{BoundChange}
 use Rattle.wh_ddl_bind.specs.View.{change_of}
@@ -108,7 +108,7 @@ no_table m session streams b missing =
     ∙ refuses m session TypeMismatch
 
 -- on its table
-pub outcome_is : (m : Machine) (session : ℕ) (streams : List ℕ) (b : BoundChange) (t : Table) (o : effects.Outcome)
+pub outcome_is : (m : Machine) (session : ℕ) (streams : List ℕ) (b : BoundChange) (t : Table) (o : effects.EffectResult)
     → table_at (objects_seen m session) b.target ≡ Some t
     → effect (changes.change_of b.change) (rows_seen t) (instance_read m session b.sources.items) ≡ o
     → outcome m session (effect_in m session streams b)
@@ -116,10 +116,10 @@ pub outcome_is : (m : Machine) (session : ℕ) (streams : List ℕ) (b : BoundCh
 outcome_is m session streams b t o there comes =
     ap (λ (found : Option Table). outcome m session
     (given_on streams (instance_read m session b.sources.items) (change_of b) found)) there
-    ∙ ap (λ (found : effects.Outcome). outcome m session
+    ∙ ap (λ (found : effects.EffectResult). outcome m session
     (given b.target streams (changes.change_of b.change) found)) comes
 
-pub fails_as : (m : Machine) (session : ℕ) (streams : List ℕ) (b : BoundChange) (t : Table) (o : effects.Outcome)
+pub fails_as : (m : Machine) (session : ℕ) (streams : List ℕ) (b : BoundChange) (t : Table) (o : effects.EffectResult)
     (why : Refusal) → table_at (objects_seen m session) b.target ≡ Some t
     → effect (changes.change_of b.change) (rows_seen t) (instance_read m session b.sources.items) ≡ o
     → given b.target streams (changes.change_of b.change) o ≡ Fails why
@@ -127,7 +127,7 @@ pub fails_as : (m : Machine) (session : ℕ) (streams : List ℕ) (b : BoundChan
 fails_as m session streams b t o why there comes fails =
     outcome_is m session streams b t o there comes ∙ ap (outcome m session) fails ∙ refuses m session why
 
-pub is_staged : (m : Machine) (session id : ℕ) (streams : List ℕ) (change : Change) (e : Effect) (t : Transaction)
+pub is_staged : (m : Machine) (session id : ℕ) (streams : List ℕ) (change : Modification) (e : Effect) (t : Transaction)
     (u : Table)
     → transaction_in m.sessions session ≡ Some t → table_at m.state.objects id ≡ Some u
     → outcome m session (Gives id streams change e)
@@ -137,7 +137,7 @@ is_staged m session id streams change e t u held there =
     ∙ ap (λ (found : Option Table). Does (reply_to change e)
     (with_transaction m.sessions session (staged t id streams (next_row_of found) e)) None) there
 
-pub is_alone : (m : Machine) (session id : ℕ) (streams : List ℕ) (change : Change) (e : Effect)
+pub is_alone : (m : Machine) (session id : ℕ) (streams : List ℕ) (change : Modification) (e : Effect)
     → transaction_in m.sessions session ≡ None
     → outcome m session (Gives id streams change e)
     ≡ recorded m (reply_to change e) m.sessions (staged_in_state m.state (begun m.state.last) id streams e)
@@ -145,7 +145,7 @@ is_alone m session id streams change e closed =
     ap (λ (found : Option Transaction). changes_in m session found (Gives id streams change e)) closed
 
 -- an INSERT looks at no row of its target
-pub unseen : (change : Change) (target : List (ℕ × Row)) (i : Instance) → is_insert change ≡ true
+pub unseen : (change : Modification) (target : List (ℕ × Row)) (i : Instance) → is_insert change ≡ true
     → effect change [] i ≡ effect change target i
 unfolding effect
 unseen (InsertRows rows) target i is = refl

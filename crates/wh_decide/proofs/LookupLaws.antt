@@ -21,7 +21,7 @@ use Rattle.wh_state.specs.State.{Object, at_id, id_of, is_named}
 use Rattle.wh_machine.specs.Names.{named_object, names_from}
 use Rattle.wh_state.specs.Stored.{object_meant}
 use Rattle.wh_state.proofs.MeaningLaws.{id_of_meant}
-use Rattle.wh_catalog.specs.Kept.{object_in}
+use Rattle.wh_catalog.specs.Undoable.{object_in}
 use Rattle.wh_catalog.specs.Object.{kept_object}
 use Rattle.wh_catalog.specs.Catalog.{stored_of, state_of}
 use Rattle.wh_catalog.specs.declared.catalog.Catalog.{Catalog}

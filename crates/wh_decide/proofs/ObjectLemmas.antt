@@ -9,7 +9,7 @@ use Rattle.wh_naming.specs.Scope.{Named}
 use Rattle.wh_state.specs.State.{Object}
 use Rattle.wh_state.specs.Stored.{object_meant}
 use Rattle.wh_machine.specs.Names.{names_from}
-use Rattle.wh_catalog.specs.Kept.{object_in}
+use Rattle.wh_catalog.specs.Undoable.{object_in}
 use Rattle.wh_catalog.specs.Object.{kept_object}
 use Rattle.wh_catalog.specs.declared.object.StoredObject.{StoredObject}
 use Rattle.wh_decide.specs.Names.{object_of, live_name}

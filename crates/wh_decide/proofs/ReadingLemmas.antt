@@ -21,7 +21,7 @@ use Rattle.wh_machine.specs.Transaction.{Transaction, start_at}
 use Rattle.wh_net.specs.Stream.{is_gone}
 use Rattle.wh_machine.specs.Reading.{least_from, least, stale_refusal, reading_refusal}
 use Rattle.wh_catalog.specs.Catalog.{stored_of, state_of}
-use Rattle.wh_catalog.specs.Kept.{object_in}
+use Rattle.wh_catalog.specs.Undoable.{object_in}
 use Rattle.wh_catalog.specs.Object.{kept_object}
 use Rattle.wh_catalog.specs.declared.catalog.Catalog.{Catalog}
 use Rattle.wh_catalog.specs.declared.object.StoredObject.{StoredObject}

@@ -3,7 +3,7 @@
 --     is_insert       a change that looks at no row of its target
 --     comes_to        what a change comes to in a session
 use Rattle.std.specs.Prelude.{◌≡◌, Bool, true, false, length}
-use Rattle.wh_naming.specs.Changes.{Change, InsertRows, InsertQuery}
+use Rattle.wh_naming.specs.Changes.{Modification, InsertRows, InsertQuery}
 use Rattle.wh_effect.specs.Effect.{Effect}
 use Rattle.wh_machine.specs.Changes.{Changed}
 use Rattle.wh_machine.specs.Sessions.{transaction_in}
@@ -18,7 +18,7 @@ pub record IsCountOf (c : Counts) (e : Effect) : Type 0 where
   pub updated : c.updated ≡ length e.changed
   pub deleted : c.deleted ≡ length e.removed
 
-abbrev pub is_insert : Change → Bool
+abbrev pub is_insert : Modification → Bool
 is_insert (InsertRows rows) = true
 is_insert (InsertQuery query parts) = true
 is_insert _ = false

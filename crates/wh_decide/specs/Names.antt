@@ -15,7 +15,7 @@ use Rattle.wh_ddl_naming.specs.Objects.{Names}
 use Rattle.wh_state.specs.State.{Object}
 use Rattle.wh_state.specs.Stored.{object_meant}
 use Rattle.wh_machine.specs.Names.{named_object}
-use Rattle.wh_catalog.specs.Kept.{object_in}
+use Rattle.wh_catalog.specs.Undoable.{object_in}
 use Rattle.wh_catalog.specs.Object.{kept_object}
 use Rattle.wh_catalog.specs.declared.object.StoredObject.{StoredObject}
 

@@ -13,7 +13,7 @@ ghost use Rattle.wh_decide.specs.Sight.{machine_in, objects_seen};
 use crate::sight::Sight;
 use crate::sources::{rows_of, sources_seen};
 use std::alloc::Global;
-use wh_bound_change::{BoundChange, Change};
+use wh_bound_change::{BoundChange, Modification};
 use wh_dml::{Effect, EffectFault, effect};
 use wh_value::Row;
 
@@ -54,11 +54,12 @@ fn effect_to(
     effect(alloc, &bound.change, &partitions, sources)
 }
 
-fn is_insert(change: &Change) -> bool
+fn is_insert(change: &Modification) -> bool
     ensures { result ≡ is_insert (changes.change_of change.now) }
 {
     match change {
-        Change::InsertRows(_) | Change::InsertQuery(_, _) => true,
-        Change::Update(_, _) | Change::Delete(_) | Change::Merge(_, _, _) => false,
+        Modification::InsertRows(_) | Modification::InsertQuery(_, _) => true,
+        Modification::Update(_, _) | Modification::Delete(_) | Modification::Merge(_, _, _) =>
+            false,
     }
 }

@@ -17,7 +17,7 @@ ghost use Rattle.wh_decide.specs.Changes.{IsCountOf};
 use crate::decision::{Decision, Settlement};
 use crate::sight::Sight;
 use std::alloc::{AllocError, Global};
-use wh_bound_change::{BoundChange, Change};
+use wh_bound_change::{BoundChange, Modification};
 use wh_dml::Effect;
 use wh_reply::{Refusal, Reply};
 use wh_txn::{RecordFault, lone_commit};
@@ -98,7 +98,7 @@ fn counts_of(effect: &Effect) -> Counts
     }
 }
 
-fn reply_to(change: &Change, counts: Counts) -> Reply
+fn reply_to(change: &Modification, counts: Counts) -> Reply
     ensures { (e : effects.Effect) → IsCountOf counts e
         → reply_view result ≡ replies.reply_to (changes.change_of change.now) e }
 {
@@ -108,10 +108,10 @@ fn reply_to(change: &Change, counts: Counts) -> Reply
         deleted,
     } = counts;
     match change {
-        Change::InsertRows(_) | Change::InsertQuery(_, _) => Reply::Inserted(inserted),
-        Change::Update(_, _) => Reply::Updated(updated),
-        Change::Delete(_) => Reply::Deleted(deleted),
-        Change::Merge(_, _, _) => Reply::Merged {
+        Modification::InsertRows(_) | Modification::InsertQuery(_, _) => Reply::Inserted(inserted),
+        Modification::Update(_, _) => Reply::Updated(updated),
+        Modification::Delete(_) => Reply::Deleted(deleted),
+        Modification::Merge(_, _, _) => Reply::Merged {
             inserted,
             updated,
             deleted,

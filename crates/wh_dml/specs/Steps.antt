@@ -13,7 +13,7 @@ use Rattle.wh_value.specs.Value.{Value, Row}
 use Rattle.wh_meaning.specs.Scalar.{Scalar, val, is_true, holds, of_one, of_two}
 use Rattle.wh_meaning.specs.Query.{values_on}
 use Rattle.wh_naming.specs.Changes.{BoundClause, UpdateMatched, DeleteMatched, InsertUnmatched}
-use Rattle.wh_effect.specs.Effect.{Effect, Outcome, Does, no_effect, unless_several, Turn, Stays, Goes, Becomes}
+use Rattle.wh_effect.specs.Effect.{Effect, EffectResult, Does, no_effect, unless_several, Turn, Stays, Goes, Becomes}
 use Rattle.wh_effect.specs.Effect.{condition_of, inserted_by}
 use Rattle.wh_bound_change.specs.View.{clause_of}
 use Rattle.wh_bound_change.specs.declared.change.BoundClause as code
@@ -105,7 +105,7 @@ settled turns [] = Some nothing
 settled turns (kept ∷ rest) =
     of_two (λ found others. Some (after (settled_by kept found) others)) (turns kept.1) (settled turns rest)
 
-abbrev pub outcome : Settled → List Row → Outcome
+abbrev pub outcome : Settled → List Row → EffectResult
 outcome s added = unless_several s.ambiguous (Does (record s.effect { added = added }))
 
 -- ---- the source rows that aren't matched

@@ -14,7 +14,7 @@ use Rattle.wh_part.specs.View.{numbered_of}
 use Rattle.wh_scalar.specs.declared.fault.EvalFault.{EvalFault}
 use Rattle.wh_scalar.specs.declared.fault.EvalFault.TheVariants as faults
 use Rattle.wh_effect.specs.Effect as meaning
-use Rattle.wh_effect.specs.Effect.{Outcome, Undefined, Ambiguous, Does}
+use Rattle.wh_effect.specs.Effect.{EffectResult, Undefined, Ambiguous, Does}
 use Rattle.wh_dml.specs.Steps as steps
 use Rattle.wh_dml.specs.declared.target.Effect.{Effect}
 use Rattle.wh_dml.specs.declared.turn.Turn.{Turn}
@@ -44,7 +44,7 @@ abbrev pub fault_of : EvalFault → EffectFault
 fault_of faults.NumberOutOfRange = NumberOutOfRange
 fault_of faults.OutOfMemory = OutOfMemory
 
-abbrev pub Gives : Result Effect EffectFault → Outcome → Type 0
+abbrev pub Gives : Result Effect EffectFault → EffectResult → Type 0
 Gives (Ok e) meant = meant ≡ Does (effect_of e)
 Gives (Err NumberOutOfRange) meant = meant ≡ Undefined
 Gives (Err (AmbiguousMerge row)) meant = meant ≡ Ambiguous row

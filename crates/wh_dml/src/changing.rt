@@ -9,7 +9,7 @@ use crate::merge::merged;
 use crate::update::updated;
 use crate::{Effect, EffectFault};
 use std::alloc::Global;
-use wh_bound_change::Change;
+use wh_bound_change::Modification;
 use wh_part::Partition;
 use wh_scalar::Condition;
 use wh_value::Row;
@@ -19,7 +19,7 @@ use wh_value::Row;
 #[tactic(auto, unfolding(wh_effect::specs::Effect::effect))]
 pub fn effect(
     alloc: Global,
-    change: &Change,
+    change: &Modification,
     target: &[&Partition],
     sources: &[Vec<&Row>],
 ) -> Result<Effect, EffectFault>
@@ -27,24 +27,24 @@ pub fn effect(
         (meaning.effect (change_of change.now) (targets_of target.now) (instance_of sources.now)) }
 {
     match change {
-        Change::InsertRows(rows) => {
+        Modification::InsertRows(rows) => {
             let added = rows_of(alloc, rows)?;
             Ok(Effect::adding(alloc, added))
         }
-        Change::InsertQuery(query, parts) => {
+        Modification::InsertQuery(query, parts) => {
             let source = rows_in_order(alloc, query, sources)?;
             let added = rows_over(alloc, parts, source)?;
             Ok(Effect::adding(alloc, added))
         }
-        Change::Update(condition, parts) => {
+        Modification::Update(condition, parts) => {
             let condition = Condition::new(condition);
             Ok(updated(alloc, &condition, parts, target)?)
         }
-        Change::Delete(condition) => {
+        Modification::Delete(condition) => {
             let condition = Condition::new(condition);
             Ok(deleted(alloc, &condition, target)?)
         }
-        Change::Merge(query, on, clauses) => {
+        Modification::Merge(query, on, clauses) => {
             let source = rows_in_order(alloc, query, sources)?;
             merged(alloc, on, clauses, target, &source)
         }

@@ -29,8 +29,8 @@ pub(crate) fn rows_of(alloc: Global, rows: &[Vec<Scalar>]) -> Result<Vec<Row>, E
     Ok(added)
 }
 
-/// A row for each source row, in their order. Where the parts are the columns of each source row, the
-/// rows are moved.
+/// A row for each source row, in their order. Where the parts are the columns of each source row,
+/// the rows are moved.
 pub(crate) fn rows_over(
     alloc: Global,
     parts: &[Scalar],

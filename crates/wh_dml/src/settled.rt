@@ -35,7 +35,8 @@ impl Settled {
         turns: Vec<Turn>,
     ) -> Result<(), AllocError>
         ensures { OnOk result (settled_of self.new
-            ≡ after (settled_of self.old) (settled_by (numbered_of entry.now) (turns_of turns.items))) }
+            ≡ after (settled_of self.old)
+            (settled_by (numbered_of entry.now) (turns_of turns.items))) }
     {
         let mut turns = turns;
         if turns.len() > 1 {

@@ -21,7 +21,8 @@ pub(crate) fn updated(
     target: &[&Partition],
 ) -> Result<Effect, EvalFault>
     ensures { Shows effect_of result (meaning.turned
-        (meaning.updated (scalar_of condition.now) (scalars_of parts.now)) (targets_of target.now)) }
+        (meaning.updated (scalar_of condition.now) (scalars_of parts.now))
+        (targets_of target.now)) }
 {
     let mut effect = Effect::new(alloc);
     for partition in target {

@@ -6,7 +6,7 @@ ghost use Rattle.wh_expr_bind.specs.View.{entries_of, findings_of};
 
 use std::alloc::{AllocError, Global};
 use wh_ast::Expr;
-use wh_core_bind::{Condition, condition};
+use wh_core_bind::{BoundCondition, condition};
 use wh_expr_bind::{Entry, Findings};
 use wh_scalar::Scalar;
 use wh_value::Value;
@@ -16,7 +16,7 @@ pub(crate) fn condition_of(
     alloc: Global,
     entries: &[Entry],
     filter: &Option<Expr>,
-) -> Result<Condition, AllocError>
+) -> Result<BoundCondition, AllocError>
     ensures scalar { IfOk result (λ c. scalar_of c.scalar
         ≡ naming.condition_of (entries_of entries.now) filter.now) }
     ensures findings { IfOk result (λ c. findings_of c.findings
@@ -24,7 +24,7 @@ pub(crate) fn condition_of(
 {
     match filter {
         Some(filter) => condition(alloc, entries, filter),
-        None => Ok(Condition {
+        None => Ok(BoundCondition {
             scalar: Scalar::Const(Value::Bool(true)),
             findings: Findings::nothing(),
         }),

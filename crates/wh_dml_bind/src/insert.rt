@@ -17,7 +17,7 @@ use sqlite_items::{Boxed, Items};
 use std::alloc::{AllocError, Global};
 use wh_ast::{Expr, Rows};
 use wh_bind::bind_query;
-use wh_bound_change::{BoundChange, Change};
+use wh_bound_change::{BoundChange, Modification};
 use wh_core_bind::{BoundQuery, Output, column_scalar};
 use wh_expr_bind::Findings;
 use wh_naming::Named;
@@ -51,14 +51,15 @@ fn insert_values(
     listed: &Option<Items<Text>>,
     found: &[Items<Expr>],
 ) -> Result<Boxed<Checked>, AllocError>
-    ensures { IfOk result (λ c. checked_in c ≡ naming.insert_values (target_in target.entry) listed.now
+    ensures { IfOk result (λ c. checked_in c
+        ≡ naming.insert_values (target_in target.entry) listed.now
         (naming.value_rows (target_in target.entry).columns
         (naming.given_places (target_in target.entry).columns listed.now) found.now)) }
 {
     let given = given_columns(alloc, target.columns, listed)?;
     let rows = value_rows(alloc, target.columns, &given.places, found)?;
     let findings = given.findings.followed(rows.findings);
-    change_alone(alloc, target, Change::InsertRows(rows.rows), findings)
+    change_alone(alloc, target, Modification::InsertRows(rows.rows), findings)
 }
 
 #[tactic(auto, unfolding(crate::specs::View::checked_in, wh_core_bind::specs::View::query_in))]
@@ -77,7 +78,7 @@ fn insert_query(
     let findings = target.findings.followed(row.findings.followed(in_query));
     let bound = BoundChange {
         target: target.id,
-        change: Change::InsertQuery(query.query, row.scalars),
+        change: Modification::InsertQuery(query.query, row.scalars),
         sources: query.sources,
         is_wide: query.is_wide,
     };

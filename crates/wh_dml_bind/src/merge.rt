@@ -16,9 +16,9 @@ use crate::clauses::bound_clauses;
 use crate::target::{Target, target_entries};
 use sqlite_items::Boxed;
 use std::alloc::{AllocError, Global};
-use wh_ast::{Expr, MergeClause, Source};
+use wh_ast::{Expr, FromItem, MergeClause};
 use wh_bind::{BoundSource, bind_source, copied_columns, source_name};
-use wh_bound_change::{BoundChange, BoundClause, Change};
+use wh_bound_change::{BoundChange, BoundClause, Modification};
 use wh_core_bind::condition;
 use wh_expr_bind::{Entry, Findings};
 use wh_naming::Named;
@@ -32,7 +32,7 @@ pub(crate) fn merge(
     names: &[Named<'_>],
     target: Target<'_>,
     name: &Text,
-    source: &Source,
+    source: &FromItem,
     on: &Expr,
     clauses: &[MergeClause],
 ) -> Result<Boxed<Checked>, AllocError>
@@ -155,7 +155,7 @@ fn merged(
     let findings = target.findings.followed(behind);
     let bound = BoundChange {
         target: target.id,
-        change: Change::Merge(source.query, parts.on, parts.clauses),
+        change: Modification::Merge(source.query, parts.on, parts.clauses),
         sources: source.sources,
         is_wide: source.is_wide,
     };

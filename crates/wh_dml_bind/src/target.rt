@@ -11,7 +11,7 @@ use crate::checked::Checked;
 use sqlite_items::Boxed;
 use std::alloc::{AllocError, Global};
 use wh_bind::{copied_columns, find};
-use wh_bound_change::{BoundChange, Change};
+use wh_bound_change::{BoundChange, Modification};
 use wh_expr_bind::{Entry, Findings};
 use wh_naming::{Named, ObjectKind};
 use wh_value::{Column, Text};
@@ -79,7 +79,7 @@ pub(crate) fn target_entries(
 pub(crate) fn change_alone(
     alloc: Global,
     target: Target<'_>,
-    change: Change,
+    change: Modification,
     findings: Findings,
 ) -> Result<Boxed<Checked>, AllocError>
     ensures { IfOk result (λ c. checked_in c

@@ -10,7 +10,7 @@ use crate::target::{Target, change_alone};
 use sqlite_items::Boxed;
 use std::alloc::{AllocError, Global};
 use wh_ast::{Assignment, Expr};
-use wh_bound_change::Change;
+use wh_bound_change::Modification;
 use wh_expr_bind::Entry;
 
 /// UPDATE of the rows on which its condition is TRUE.
@@ -30,7 +30,7 @@ pub(crate) fn update(
     change_alone(
         alloc,
         target,
-        Change::Update(filter.scalar, row.scalars),
+        Modification::Update(filter.scalar, row.scalars),
         findings,
     )
 }
@@ -49,7 +49,7 @@ pub(crate) fn delete(
     change_alone(
         alloc,
         target,
-        Change::Delete(filter.scalar),
+        Modification::Delete(filter.scalar),
         filter.findings,
     )
 }

@@ -4,7 +4,7 @@ use Rattle.std.proofs.Common.{subst, ne_eqb, arith}
 use Rattle.std.specs.Prelude.{codes}
 use Rattle.wh_ast.specs.declared.expr.Expr.{Expr}
 use Rattle.wh_ast.specs.declared.query.Query.{Query}
-use Rattle.wh_ast.specs.declared.query.Source.{Source}
+use Rattle.wh_ast.specs.declared.query.FromItem.{FromItem}
 use Rattle.wh_ast.specs.declared.query.Core.{Core}
 use Rattle.wh_ast.specs.declared.dml.Assignment.{Assignment}
 use Rattle.wh_ast.specs.declared.dml.Rows.{Rows}
@@ -19,7 +19,7 @@ use Rattle.wh_grammar.specs.Query.{IsQuery, AreCores, IsCore, IsSource, MayHaveA
 use Rattle.wh_grammar.specs.Changing as g
 use Rattle.wh_grammar.specs.Changing.{AreNames, MayHaveColumns, IsValuesRow, AreValuesRows, AreRows, IsAssignment}
 use Rattle.wh_grammar.specs.Changing.{AreAssignments, MayHaveCondition, IsMergeClause, AreMergeClauses, IsDml}
-use Rattle.wh_cursor.specs.declared.key.Key.TheVariants as k
+use Rattle.wh_cursor.specs.declared.key.TokenClass.TheVariants as k
 use Rattle.wh_cursor.specs.Steps.{tail, sees, sees_word, expect_word, read_name}
 use Rattle.wh_cursor.proofs.Combine.{lparen_reads, rparen_reads, equal_reads, sees_key_is, word_no_sign, name_reads}
 use Rattle.wh_cursor.proofs.Combine.{name_shorter, end-reads}
@@ -186,7 +186,7 @@ alias-reads : {ts vs : List Token} {a : Option (List ℕ)} → MayHaveAlias ts a
 unfolding is_reserved
 alias-reads {ts} {vs} {a} h = (aliases_read ts a (Word (codes "USING") ∷ vs)).1 (record { alias = h; ends = refl })
 
-source-reads : {d : ℕ} {ts vs : List Token} {s : Source} → IsSource d ts s (Word (codes "ON") ∷ vs)
+source-reads : {d : ℕ} {ts vs : List Token} {s : FromItem} → IsSource d ts s (Word (codes "ON") ∷ vs)
     → read_source d ts ≡ Some (s, Word (codes "ON") ∷ vs)
 unfolding is_reserved
 source-reads {d} {ts} {vs} {s} h = (sources_read d ts s (Word (codes "ON") ∷ vs)).1 (record { source = h; ends = refl })

@@ -15,7 +15,7 @@ use Rattle.wh_grammar.specs.Query.{IsQuery, IsSource, MayHaveAlias, MayHaveFilte
 use Rattle.wh_grammar.specs.Changing as g
 use Rattle.wh_grammar.specs.Changing.{AreNames, MayHaveColumns, IsValuesRow, AreValuesRows, AreRows, IsAssignment}
 use Rattle.wh_grammar.specs.Changing.{AreAssignments, MayHaveCondition, IsMergeClause, AreMergeClauses, IsDml}
-use Rattle.wh_cursor.specs.declared.key.Key.TheVariants as k
+use Rattle.wh_cursor.specs.declared.key.TokenClass.TheVariants as k
 use Rattle.wh_cursor.specs.Steps.{tail, read_name}
 use Rattle.wh_expr_parse.specs.Read.{read_expr}
 use Rattle.wh_cursor.proofs.Yields.{Yields, yields, nothing, yields_law, follow, mapped}

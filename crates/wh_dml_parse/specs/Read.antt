@@ -11,7 +11,7 @@ use Rattle.wh_ast.specs.declared.dml.MergeClause.{MergeClause}
 use Rattle.wh_ast.specs.declared.dml.MergeClause.TheVariants as clause
 use Rattle.wh_ast.specs.declared.dml.Dml.{Dml}
 use Rattle.wh_ast.specs.declared.dml.Dml.TheVariants as dml
-use Rattle.wh_cursor.specs.declared.key.Key.TheVariants as k
+use Rattle.wh_cursor.specs.declared.key.TokenClass.TheVariants as k
 use Rattle.wh_cursor.specs.Steps.{read_name, Reader, ◌>>=◌, ◌>>◌, pure, refuse, sees_word, eat_word, eat_key}
 use Rattle.wh_cursor.specs.Steps.{expect_word, expect_key, read_end}
 use Rattle.wh_cursor.specs.Lists.{some_from, listed}

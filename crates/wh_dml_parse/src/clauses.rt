@@ -7,7 +7,7 @@ use crate::lists::{assignment_list, name_list, values_row};
 use sqlite_items::{Boxed, Items};
 use std::alloc::Global;
 use wh_ast::{Expr, MergeClause};
-use wh_cursor::{Key, ParseFault, Words};
+use wh_cursor::{ParseFault, TokenClass, Words};
 use wh_expr_parse::expr;
 use wh_value::Text;
 
@@ -19,11 +19,11 @@ pub fn columns(
 ) -> Result<Boxed<Option<Items<Text>>>, ParseFault>
     ensures { Reads (spec.read_columns words.old) result words.new }
 {
-    if !words.eat(Key::LParen) {
+    if !words.eat(TokenClass::LParen) {
         return Ok(Boxed::new(alloc, None)?);
     }
     let found = name_list(alloc, words)?;
-    words.expect(Key::RParen)?;
+    words.expect(TokenClass::RParen)?;
     Ok(Boxed::new(alloc, Some(found))?)
 }
 

@@ -8,7 +8,7 @@ ghost use Rattle.wh_dml_parse.specs.Read as spec;
 use sqlite_items::Items;
 use std::alloc::Global;
 use wh_ast::{Assignment, Expr};
-use wh_cursor::{Key, ParseFault, Words, listed, name};
+use wh_cursor::{ParseFault, TokenClass, Words, listed, name};
 use wh_expr_parse::{expr, exprs};
 use wh_value::Text;
 
@@ -62,9 +62,9 @@ pub fn values_row(
     if depth == 0 {
         return Err(ParseFault::SyntaxError);
     }
-    words.expect(Key::LParen)?;
+    words.expect(TokenClass::LParen)?;
     let row = exprs(alloc, words, depth - 1)?;
-    words.expect(Key::RParen)?;
+    words.expect(TokenClass::RParen)?;
     Ok(row)
 }
 
@@ -74,7 +74,7 @@ fn assignment(alloc: Global, words: &mut Words<'_>, depth: usize) -> Result<Assi
     ensures { Reads (spec.read_assignment depth words.old) result words.new }
 {
     let column = name(alloc, words)?;
-    words.expect(Key::Equal)?;
+    words.expect(TokenClass::Equal)?;
     let value = expr(alloc, words, depth)?;
     Ok(Assignment { column, value })
 }

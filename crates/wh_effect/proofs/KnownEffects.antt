@@ -6,7 +6,7 @@ use Rattle.wh_meaning.specs.Scalar.{Scalar, Const, Column, Add, Compare, val}
 use Rattle.wh_meaning.specs.Query.{values_on}
 use Rattle.wh_naming.specs.Changes.{BoundClause, UpdateMatched, DeleteMatched, InsertUnmatched}
 use Rattle.wh_naming.specs.Changes.{InsertRows, Update, Delete}
-use Rattle.wh_effect.specs.Effect.{Outcome, Undefined, Ambiguous, Does, effect, merged, inserts_over}
+use Rattle.wh_effect.specs.Effect.{EffectResult, Undefined, Ambiguous, Does, effect, merged, inserts_over}
 
 abbrev n : ℕ → Value
 n k = Number (pos k)
@@ -24,7 +24,7 @@ equal a b = Compare comparisons.Equal a b
 abbrev near_the_limit : Scalar
 near_the_limit = Const (n 999999999999999985)
 
-abbrev does : List ℕ → List (ℕ × Row) → List Row → Outcome
+abbrev does : List ℕ → List (ℕ × Row) → List Row → EffectResult
 does removed changed added = Does (record { removed = removed; changed = changed; added = added })
 
 -- UPDATE: SET parts read the old row

@@ -1,7 +1,7 @@
 -- What a changing statement does to the rows of its target.
 --     Effect           the rows that go, by their numbers, those that are changed, and
 --                      those that are added, in order
---     Outcome          undefined, or ambiguous with a row of the target, or an effect
+--     EffectResult          undefined, or ambiguous with a row of the target, or an effect
 --     effect           of a change over the target's rows, by rising number, and the bags of its sources
 use Rattle.std.specs.Prelude.{ℕ, Bool, true, false, not, ◌&&◌, if◌then◌else◌, List, [], ◌∷◌, ◌++◌, map, Option, Some}
 use Rattle.std.specs.Prelude.{None, option_map, is_some}
@@ -11,7 +11,8 @@ use Rattle.wh_meaning.specs.Scalar.{Scalar, val, is_true, holds}
 use Rattle.wh_meaning.specs.Query.{Instance, values_on, eval}
 use Rattle.wh_meaning.specs.Bag.{Bag}
 use Rattle.wh_meaning.specs.Listing.{listed}
-use Rattle.wh_naming.specs.Changes.{BoundClause, UpdateMatched, DeleteMatched, InsertUnmatched, Change, InsertRows}
+use Rattle.wh_naming.specs.Changes.{BoundClause, UpdateMatched, DeleteMatched, InsertUnmatched, Modification}
+use Rattle.wh_naming.specs.Changes.{InsertRows}
 use Rattle.wh_naming.specs.Changes.{InsertQuery, Update, Delete, Merge}
 
 pub record Effect : Type 0 where
@@ -19,15 +20,15 @@ pub record Effect : Type 0 where
   pub changed : List (ℕ × Row)
   pub added : List Row
 
-pub data Outcome : Type 0 where
-  Undefined : Outcome
-  Ambiguous : (row : Row) → Outcome
-  Does : Effect → Outcome
+pub data EffectResult : Type 0 where
+  Undefined : EffectResult
+  Ambiguous : (row : Row) → EffectResult
+  Does : Effect → EffectResult
 
 abbrev pub no_effect : Effect
 no_effect = record { removed = []; changed = []; added = [] }
 
-abbrev pub defined : Option Effect → Outcome
+abbrev pub defined : Option Effect → EffectResult
 defined None = Undefined
 defined (Some e) = Does e
 
@@ -82,14 +83,14 @@ abbrev pub rows_over : List Scalar → List Row → Option (List Row)
 rows_over parts [] = Some []
 rows_over parts (row ∷ rows) = with_row (values_on parts row) (rows_over parts rows)
 
-abbrev pub adds : Option (List Row) → Outcome
+abbrev pub adds : Option (List Row) → EffectResult
 adds rows = defined (option_map (λ added. record no_effect { added = added }) rows)
 
 -- the rows of a query in the row order
 abbrev pub rows_in_order : Option Bag → Option (List Row)
 rows_in_order b = option_map (listed []) b
 
-abbrev pub inserts_over : List Scalar → Option (List Row) → Outcome
+abbrev pub inserts_over : List Scalar → Option (List Row) → EffectResult
 inserts_over parts None = Undefined
 inserts_over parts (Some source) = adds (rows_over parts source)
 
@@ -202,12 +203,12 @@ with_added None e = None
 with_added (Some rows) None = None
 with_added (Some rows) (Some e) = Some (record e { added = rows })
 
-abbrev pub unless_several : Option Row → Outcome → Outcome
+abbrev pub unless_several : Option Row → EffectResult → EffectResult
 unless_several None outcome = outcome
 unless_several (Some row) outcome = Ambiguous row
 
 -- undefined comes before ambiguous
-abbrev pub merged_by : Scalar → List BoundClause → List BoundClause → List (ℕ × Row) → List Row → Outcome
+abbrev pub merged_by : Scalar → List BoundClause → List BoundClause → List (ℕ × Row) → List Row → EffectResult
 merged_by on matching others target source =
     if is_merge_defined on matching others (target_rows target) source
     then unless_several (first_several (selecting on matching source) (target_rows target))
@@ -215,14 +216,14 @@ merged_by on matching others target source =
     (turned (λ t. merged_turn matching (selecting on matching source t)) target)))
     else Undefined
 
-abbrev pub merged : Scalar → List BoundClause → List (ℕ × Row) → Option (List Row) → Outcome
+abbrev pub merged : Scalar → List BoundClause → List (ℕ × Row) → Option (List Row) → EffectResult
 merged on clauses target None = Undefined
 merged on clauses target (Some source) =
     merged_by on (matched_clauses clauses) (unmatched_clauses clauses) target source
 
 -- ---- the change
 
-unfoldable pub effect : Change → List (ℕ × Row) → Instance → Outcome
+unfoldable pub effect : Modification → List (ℕ × Row) → Instance → EffectResult
 effect (InsertRows rows) target instance = adds (rows_of rows)
 effect (InsertQuery query parts) target instance = inserts_over parts (rows_in_order (eval query instance))
 effect (Update condition parts) target instance = defined (turned (updated condition parts) target)

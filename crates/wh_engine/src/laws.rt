@@ -23,8 +23,8 @@ pub fn held_streams_are_read_again()
     ensures { ReadsTheSame }
 {}
 
-/// The COMMIT of a transaction that read a stream moves it to the transaction's start, up to which it
-/// was read, and never back. So does a change outside of a transaction, which is one by itself.
+/// The COMMIT of a transaction that read a stream moves it to the transaction's start, up to which
+/// it was read, and never back. So does a change outside of a transaction, which is one by itself.
 pub fn commits_move_to_the_start()
     ensures commits { CommitsMoveToTheStart }
     ensures changes { ChangesMoveToTheStart }
@@ -32,7 +32,8 @@ pub fn commits_move_to_the_start()
 
 /// A batch is what was read. What a COMMIT consumes of a standard stream is, row by row, what the
 /// statements of its transaction read of it, from the first change on that read it and so held it;
-/// a change outside of a transaction consumes what it reads itself; nothing else consumes any of it.
+/// a change outside of a transaction consumes what it reads itself; nothing else consumes any of
+/// it.
 pub fn batches_are_what_was_read()
     ensures commits { CommitsConsumeWhatWasRead }
     ensures holds { ChangesHoldWhatTheyRead }
@@ -40,8 +41,8 @@ pub fn batches_are_what_was_read()
     ensures others { NothingElseConsumes }
 {}
 
-/// A sound state opens to a machine that is sound, and of which no two sessions hold one stream: what
-/// the laws of streams ask for. A file that runs leave stands for a sound state.
+/// A sound state opens to a machine that is sound, and of which no two sessions hold one stream:
+/// what the laws of streams ask for. A file that runs leave stands for a sound state.
 pub fn sound_states_open_to_sound_machines()
     ensures { SoundStatesOpen }
 {}

@@ -1,4 +1,5 @@
-//! Files that stand for no state, whose writes fail, and that others wrote, and the bytes of records.
+//! Files that stand for no state, whose writes fail, and that others wrote, and the bytes of
+//! records.
 
 use crate::answering::{
     LIMIT, ONE_TABLE, answer, assert_answered, assert_replies, disk_of, opened, spliced,

@@ -18,8 +18,8 @@ use wh_bag::Bag;
 use wh_fetch::Fetch;
 use wh_scalar::EvalFault;
 
-/// The bag of a plan over the rows of its sources, whose partitions are fetched. A source that isn't
-/// there has no rows.
+/// The bag of a plan over the rows of its sources, whose partitions are fetched. A source that
+/// isn't there has no rows.
 pub fn bag_of_plan<F: Fetch>(
     alloc: Global,
     plan: &Physical,

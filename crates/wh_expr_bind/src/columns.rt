@@ -71,7 +71,8 @@ fn add_places(
     columns: &[Column],
 ) -> Result<(), AllocError>
     ensures { OnOk result (map place_of places.new.items
-        ≡ map place_of places.old.items ++ naming.places_among name.now from (map column_of columns.now)) }
+        ≡ map place_of places.old.items
+        ++ naming.places_among name.now from (map column_of columns.now)) }
 {
     for (index, column) in columns.iter().enumerate() {
         if column.name == *name {

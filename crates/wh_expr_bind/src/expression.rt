@@ -106,7 +106,8 @@ fn binary(
     number: usize,
 ) -> Result<Boxed<Typed>, AllocError>
     ensures { IfOk result (λ t. part_in t
-        ≡ naming.binary operator (part_in x) (naming.typed second.now) (sees context.entry) number) }
+        ≡ naming.binary operator (part_in x) (naming.typed second.now)
+        (sees context.entry) number) }
 {
     let y = typed_behind(alloc, second, x.get(), context, number)?;
     forms::combined(alloc, operator, x, y)

@@ -6,8 +6,8 @@ ghost use Rattle.wh_expr_bind.specs.View.{findings_of};
 use wh_naming::Failing;
 use wh_value::Text;
 
-/// What is found wrong: for each test the first name in the text that fails it, and whether anything
-/// is mistyped.
+/// What is found wrong: for each test the first name in the text that fails it, and whether
+/// anything is mistyped.
 #[derive(Debug, Drop)]
 pub struct Findings {
     pub unknown_object: Option<Text>,

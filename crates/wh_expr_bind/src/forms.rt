@@ -267,7 +267,8 @@ pub(crate) fn under(
 }
 
 fn joined(mut first: Vec<Call>, mut next: Vec<Call>) -> Result<Vec<Call>, AllocError>
-    ensures { IfOk result (λ both. calls_of both.items ≡ calls_of first.items ++ calls_of next.items) }
+    ensures { IfOk result (λ both. calls_of both.items ≡ calls_of first.items
+        ++ calls_of next.items) }
 {
     first.append(&mut next)?;
     Ok(first)

@@ -16,7 +16,8 @@ pub(crate) fn by(
     x: Scalar,
     y: Scalar,
 ) -> Result<Scalar, AllocError>
-    ensures { IfOk result (λ both. scalar_of both ≡ scalar_by operator (scalar_of x) (scalar_of y)) }
+    ensures { IfOk result (λ both. scalar_of both
+        ≡ scalar_by operator (scalar_of x) (scalar_of y)) }
 {
     match Boxed::new(alloc, x) {
         Ok(x) => Ok(between(operator, x, Boxed::new(alloc, y)?)),

@@ -14,7 +14,7 @@ use Rattle.wh_grammar.specs.Expression.{IsNegation, IsComparison}
 use Rattle.wh_expr_parse.specs.Laws.{IsExprAt}
 use Rattle.wh_cursor.specs.Binds.{binds}
 use Rattle.wh_value.specs.declared.comparison.Comparison.{Comparison}
-use Rattle.wh_cursor.specs.declared.key.Key.TheVariants as k
+use Rattle.wh_cursor.specs.declared.key.TokenClass.TheVariants as k
 use Rattle.wh_expr_parse.specs.declared.grammar.Level.TheVariants.{Whole, Negation, Unary, Rows}
 use Rattle.wh_cursor.specs.Keys.{key_of, key_binds, same_key}
 use Rattle.wh_expr_parse.specs.Operators.{joins}

@@ -4,7 +4,7 @@ use Rattle.std.proofs.Common.{◌≡◌, ℕ, ◌<◌, false, List, length, Some
 use Rattle.wh_ast.specs.declared.expr.Expr.{Expr}
 use Rattle.wh_grammar.specs.Token.{Token}
 use Rattle.wh_grammar.specs.Expression.{IsExpr, AreExprs, last_expr, more_exprs}
-use Rattle.wh_cursor.specs.declared.key.Key.TheVariants as k
+use Rattle.wh_cursor.specs.declared.key.TokenClass.TheVariants as k
 use Rattle.wh_cursor.specs.Binds.{binds}
 use Rattle.wh_cursor.specs.Steps.{sees}
 use Rattle.wh_cursor.proofs.Yields.{Yields, yields_law}

@@ -1,7 +1,7 @@
 -- One item more.
 use Rattle.std.proofs.Common.{◌≡◌, ℕ, suc, true, List, [], ◌∷◌, ◌++◌, Some, refl}
 use Rattle.wh_ast.specs.declared.expr.Expr.{Expr}
-use Rattle.wh_cursor.specs.declared.key.Key.TheVariants as k
+use Rattle.wh_cursor.specs.declared.key.TokenClass.TheVariants as k
 use Rattle.wh_expr_parse.specs.declared.grammar.Level.{Level}
 use Rattle.wh_expr_parse.specs.declared.grammar.Level.TheVariants.{Whole}
 use Rattle.wh_expr_parse.specs.State.{State, next, Reader, spend}

@@ -3,7 +3,7 @@ use Rattle.std.proofs.Common.{◌≡◌, ℕ, suc, ◌+◌, ◌-◌, ◌==◌, B
 use Rattle.std.proofs.Common.{refl, arith, if◌then◌else◌}
 use Rattle.std.proofs.lemmas.Bool.Decides.{Decides-eqb, not_from_Decides}
 use Rattle.wh_grammar.specs.Token.{Token}
-use Rattle.wh_cursor.specs.declared.key.Key.{Key}
+use Rattle.wh_cursor.specs.declared.key.TokenClass.{TokenClass}
 use Rattle.wh_expr_parse.specs.State.{State, at, next, Reader, expect, spend}
 use Rattle.wh_cursor.specs.Steps.{and_then, sees}
 use Rattle.wh_cursor.proofs.Yields.{Is, Yields}
@@ -15,7 +15,7 @@ expect_by : {B : Type 0} (r : Bool) (s : State) (f : Unit {0} → Reader B) (Q :
 expect_by true s f Q k = (k refl).is
 expect_by false s f Q k = tt
 
-pub then_expect : {B : Type 0} (key : Key) (s : State) (f : Unit {0} → Reader B) {Q : B → State → Type 0}
+pub then_expect : {B : Type 0} (key : TokenClass) (s : State) (f : Unit {0} → Reader B) {Q : B → State → Type 0}
     → (Heads (fixed key) s.left → Yields (f tt (next s)) Q) → Yields (and_then (expect key s) f) Q
 unfolding expect
 then_expect key s f {Q = Q} k = record { is = expect_by (sees key s.left) s f Q (λ r. k (heads key s.left r)) }
@@ -34,7 +34,7 @@ unfolding spend
 then_spend s f {Q = Q} k = record { is = spend_by (s.room == 0) s f Q refl k }
 
 -- behind a token that may stand there
-pub if_eaten : {B : Type 0} (key : Key) (s : State) (f : Bool → Reader B) {Q : B → State → Type 0}
+pub if_eaten : {B : Type 0} (key : TokenClass) (s : State) (f : Bool → Reader B) {Q : B → State → Type 0}
     → (Heads (fixed key) s.left → Yields (f true (next s)) Q) → Yields (f false s) Q
     → Yields (f (sees key s.left) (if sees key s.left then next s else s)) Q
 if_eaten key s f {Q = Q} yes_ no_ = by (sees key s.left) (λ r. yes_ (heads key s.left r))

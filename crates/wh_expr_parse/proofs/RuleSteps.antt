@@ -17,9 +17,9 @@ use Rattle.wh_grammar.specs.Name.{IsName, opens, word, quoted}
 use Rattle.wh_grammar.specs.Expression as g
 use Rattle.wh_grammar.specs.Expression.{IsComparison, IsNegation}
 use Rattle.wh_cursor.specs.Binds.{binds}
-use Rattle.wh_cursor.specs.declared.key.Key.{Key}
-use Rattle.wh_cursor.specs.declared.key.Key.TheVariants as k
-use Rattle.wh_cursor.specs.contracts.key.Key.{the_type}
+use Rattle.wh_cursor.specs.declared.key.TokenClass.{TokenClass}
+use Rattle.wh_cursor.specs.declared.key.TokenClass.TheVariants as k
+use Rattle.wh_cursor.specs.contracts.key.TokenClass.{the_type}
 use Rattle.wh_expr_parse.specs.declared.grammar.Level.{Level}
 use Rattle.wh_expr_parse.specs.declared.grammar.Level.TheVariants.{Whole, Negation, Unary, Rows}
 use Rattle.wh_cursor.specs.Keys.{key_of, key_binds, same_key}
@@ -48,12 +48,12 @@ spend-some us room left h =
     let less : room - 1 ≡ left = omega (arith, h) in
     rw (some, less) refl
 
-pub expect-some : (key : Key) (ts : List Token) (room : ℕ) → sees key ts ≡ true
+pub expect-some : (key : TokenClass) (ts : List Token) (room : ℕ) → sees key ts ≡ true
     → expect key (at ts room) ≡ Some (tt, at (tail ts) room)
 unfolding expect
 expect-some key ts room h = rw h refl
 
-pub not_seen : (key : Key) (us : List Token) → binds us < key_binds key → sees key us ≡ false
+pub not_seen : (key : TokenClass) (us : List Token) → binds us < key_binds key → sees key us ≡ false
 unfolding sees same_key
 not_seen key us h = by (same_key (key_of us) key) refl
   where
@@ -267,7 +267,7 @@ module _ (inner : Level → Reader Expr) where
   unfolding whole conjunction negation predicate sum product unary primary sees same_key
   refuses-star ts room h = rw h (rw h (rw h refl))
 
-  unseen : {A : Type 0} {r : Reader A} (key : Key) {n : ℕ} {ts us : List Token} {x : A}
+  unseen : {A : Type 0} {r : Reader A} (key : TokenClass) {n : ℕ} {ts us : List Token} {x : A}
       → ((room : ℕ) → key_of ts ≡ key → r (at ts room) ≡ None) → Gives r n ts x us
       → sees key ts ≡ false
   unfolding sees same_key
@@ -297,7 +297,7 @@ module _ (inner : Level → Reader Expr) where
 
   -- ---- what may follow a sum
 
-  no_test : (key : Key) (x : Expr) (s : State) → key_binds key < 3 → test_by inner x key s ≡ Some (x, s)
+  no_test : (key : TokenClass) (x : Expr) (s : State) → key_binds key < 3 → test_by inner x key s ≡ Some (x, s)
   no_test k.Equal x s h = absurd (omega (arith, h))
   no_test k.Unequal x s h = absurd (omega (arith, h))
   no_test k.Less x s h = absurd (omega (arith, h))

@@ -17,8 +17,8 @@ use Rattle.wh_grammar.specs.Expression as g
 use Rattle.wh_grammar.specs.Expression.{IsWhole, IsAnd, IsNot, IsTest, AreItems, IsSum, IsProduct, IsUnary, IsPrim}
 use Rattle.wh_grammar.specs.Expression.{IsComparison, IsNegation}
 use Rattle.wh_expr_parse.specs.Laws.{IsExprAt}
-use Rattle.wh_cursor.specs.declared.key.Key.{Key}
-use Rattle.wh_cursor.specs.declared.key.Key.TheVariants as k
+use Rattle.wh_cursor.specs.declared.key.TokenClass.{TokenClass}
+use Rattle.wh_cursor.specs.declared.key.TokenClass.TheVariants as k
 use Rattle.wh_expr_parse.specs.declared.grammar.Level.{Level}
 use Rattle.wh_expr_parse.specs.declared.grammar.Level.TheVariants.{Whole, Negation, Unary, Rows}
 use Rattle.wh_cursor.specs.Keys.{key_of, key_binds}
@@ -135,7 +135,7 @@ or-joined : (P : Operator → Type 0) (us : List Token) (op : Operator) → join
 unfolding joins
 or-joined P us op h f0 = or-by (key_of us) (heads_at (key_of us) us refl) h
   where
-    or-by : (key : Key) → Heads (fixed key) us → joins 1 key ≡ Some op → P op
+    or-by : (key : TokenClass) → Heads (fixed key) us → joins 1 key ≡ Some op → P op
     or-by k.Or front h = subst P (same_Some _ _ h) (f0 front)
     or-by _ front h = absurd (cc)
 
@@ -145,7 +145,7 @@ and-joined : (P : Operator → Type 0) (us : List Token) (op : Operator) → joi
 unfolding joins
 and-joined P us op h f0 = and-by (key_of us) (heads_at (key_of us) us refl) h
   where
-    and-by : (key : Key) → Heads (fixed key) us → joins 2 key ≡ Some op → P op
+    and-by : (key : TokenClass) → Heads (fixed key) us → joins 2 key ≡ Some op → P op
     and-by k.And front h = subst P (same_Some _ _ h) (f0 front)
     and-by _ front h = absurd (cc)
 
@@ -155,7 +155,7 @@ sign-joined : (P : Operator → Type 0) (us : List Token) (op : Operator) → jo
 unfolding joins
 sign-joined P us op h f0 f1 = sign-by (key_of us) (heads_at (key_of us) us refl) h
   where
-    sign-by : (key : Key) → Heads (fixed key) us → joins 4 key ≡ Some op → P op
+    sign-by : (key : TokenClass) → Heads (fixed key) us → joins 4 key ≡ Some op → P op
     sign-by k.Plus front h = subst P (same_Some _ _ h) (f0 front)
     sign-by k.Minus front h = subst P (same_Some _ _ h) (f1 front)
     sign-by _ front h = absurd (cc)
@@ -166,7 +166,7 @@ star-joined : (P : Operator → Type 0) (us : List Token) (op : Operator) → jo
 unfolding joins
 star-joined P us op h f0 = star-by (key_of us) (heads_at (key_of us) us refl) h
   where
-    star-by : (key : Key) → Heads (fixed key) us → joins 5 key ≡ Some op → P op
+    star-by : (key : TokenClass) → Heads (fixed key) us → joins 5 key ≡ Some op → P op
     star-by k.Star front h = subst P (same_Some _ _ h) (f0 front)
     star-by _ front h = absurd (cc)
 
@@ -248,7 +248,7 @@ module _ (inner : Level → Reader Expr) (d : ℕ) (inside : Inside inner d) whe
       → Yields (Some (x, next s)) (Took (IsPrim d) s)
   constant-sound s x h = yields x (next s) (record { count = 0; spent = omega arith; is = h })
 
-  primary_by-sound : (s : State) (key : Key) → Heads (fixed key) s.left
+  primary_by-sound : (s : State) (key : TokenClass) → Heads (fixed key) s.left
       → Yields (primary_by inner key s) (Took (IsPrim d) s)
   primary_by-sound s k.LParen h = mapped (parenthesized-sound (next s)) (λ x t i.
       record {
@@ -407,7 +407,7 @@ module _ (inner : Level → Reader Expr) (d : ℕ) (inside : Inside inner d) whe
             (subst (λ (vs : List Token). IsSum d i.count (tail s.left) y vs) and i.is) j.is;
       })))))
 
-  negated_by-sound : (s₀ s : State) (x : Expr) (key : Key) → Took (IsSum d) s₀ x s
+  negated_by-sound : (s₀ s : State) (x : Expr) (key : TokenClass) → Took (IsSum d) s₀ x s
       → s.left ≡ Word (codes "NOT") ∷ tail s.left → Heads (fixed key) (tail s.left)
       → Yields (negated_by inner x key (next s)) (Took (IsTest d) s₀)
   negated_by-sound s₀ s x k.In h not front = among-sound s₀ (next s) x s.left h.count true h.spent h.is
@@ -422,7 +422,7 @@ module _ (inner : Level → Reader Expr) (d : ℕ) (inside : Inside inner d) whe
   negated_test-sound s₀ s x h not =
       negated_by-sound s₀ s x (key_of (tail s.left)) h not (heads_at (key_of (tail s.left)) (tail s.left) refl)
 
-  test_by-sound : (s₀ s : State) (x : Expr) (key : Key) → Took (IsSum d) s₀ x s → Heads (fixed key) s.left
+  test_by-sound : (s₀ s : State) (x : Expr) (key : TokenClass) → Took (IsSum d) s₀ x s → Heads (fixed key) s.left
       → Yields (test_by inner x key s) (Took (IsTest d) s₀)
   test_by-sound s₀ s x k.Equal h front = compared-sound s₀ s x token.Equal _ g.equal h front
   test_by-sound s₀ s x k.Unequal h front = compared-sound s₀ s x token.Unequal _ g.unequal h front

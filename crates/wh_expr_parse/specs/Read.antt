@@ -11,8 +11,8 @@ use Rattle.wh_ast.specs.declared.expr.Operator.TheVariants as o
 use Rattle.wh_ast.specs.declared.expr.Expr.{Expr}
 use Rattle.wh_ast.specs.declared.expr.Expr.TheVariants as e
 use Rattle.wh_grammar.specs.Token.{Token, Word, Quoted, TextToken, NumberToken, SignToken}
-use Rattle.wh_cursor.specs.declared.key.Key.{Key}
-use Rattle.wh_cursor.specs.declared.key.Key.TheVariants as k
+use Rattle.wh_cursor.specs.declared.key.TokenClass.{TokenClass}
+use Rattle.wh_cursor.specs.declared.key.TokenClass.TheVariants as k
 use Rattle.wh_expr_parse.specs.declared.grammar.Level.{Level}
 use Rattle.wh_expr_parse.specs.declared.grammar.Level.TheVariants.{Whole, Negation, Unary, Rows}
 use Rattle.wh_cursor.specs.Keys.{key_of, key_binds}
@@ -107,7 +107,7 @@ module _ (inner : Level → Reader Expr) where
   abbrev pub call_or_column : Reader Expr → Reader Expr
   call_or_column call = λ s. if sees k.LParen (tail s.left) then (skip >> call) s else column s
 
-  abbrev pub primary_by : Key → Reader Expr
+  abbrev pub primary_by : TokenClass → Reader Expr
   primary_by k.LParen = skip >> parenthesized
   primary_by k.Number = plainly read_literal
   primary_by k.Text = plainly read_literal
@@ -191,7 +191,7 @@ module _ (inner : Level → Reader Expr) where
     pure (e.Between negated x y z)
 
   -- behind `NOT`
-  abbrev pub negated_by : Expr → Key → Reader Expr
+  abbrev pub negated_by : Expr → TokenClass → Reader Expr
   negated_by x k.In = among true x
   negated_by x k.Between = between true x
   negated_by x _ = refuse
@@ -202,7 +202,7 @@ module _ (inner : Level → Reader Expr) where
     key ← peek
     negated_by x key
 
-  abbrev pub test_by : Expr → Key → Reader Expr
+  abbrev pub test_by : Expr → TokenClass → Reader Expr
   test_by x k.Equal = compared x c.Equal
   test_by x k.Unequal = compared x c.Unequal
   test_by x k.Less = compared x c.Less

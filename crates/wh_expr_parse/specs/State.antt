@@ -2,7 +2,7 @@
 use Rattle.std.specs.Prelude.{ℕ, ◌-◌, Bool, ◌==◌, List, Option, Some, None, refl, if◌then◌else◌}
 use Rattle.std.specs.Coded.{Coded, code_by, coded×, coded_ℕ, coded_list}
 use Rattle.wh_grammar.specs.Token.{Token, coded_token}
-use Rattle.wh_cursor.specs.declared.key.Key.{Key}
+use Rattle.wh_cursor.specs.declared.key.TokenClass.{TokenClass}
 use Rattle.wh_cursor.specs.Keys.{key_of}
 use Rattle.wh_cursor.specs.Steps.{ReaderOf, tail, sees}
 
@@ -21,7 +21,7 @@ at ts room = record { left = ts; room = room }
 abbrev pub Reader : Type 0 → Type 0
 Reader A = ReaderOf State A
 
-abbrev pub peek : Reader Key
+abbrev pub peek : Reader TokenClass
 peek = λ s. Some (key_of s.left, s)
 
 abbrev pub next : State → State
@@ -32,10 +32,10 @@ abbrev pub skip : Reader (Unit {0})
 skip = λ s. Some (tt, next s)
 
 -- takes a token of this kind, if it comes next
-abbrev pub eat : Key → Reader Bool
+abbrev pub eat : TokenClass → Reader Bool
 eat key = λ s. Some (sees key s.left, if sees key s.left then next s else s)
 
-unfoldable pub expect : Key → Reader (Unit {0})
+unfoldable pub expect : TokenClass → Reader (Unit {0})
 expect key = λ s. if sees key s.left then Some (tt, next s) else None
 
 -- counts one operator or IN item

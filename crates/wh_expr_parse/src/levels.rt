@@ -12,7 +12,7 @@ use crate::tokens::Tokens;
 use sqlite_items::Boxed;
 use std::alloc::Global;
 use wh_ast::Expr;
-use wh_cursor::{Key, ParseFault, joined};
+use wh_cursor::{ParseFault, TokenClass, joined};
 
 impl<F: Fn(Global, &mut Tokens<'_>, usize, Level) -> Result<Boxed<Expr>, ParseFault>> Grammar<F> {
     /// Operands with a level's operators between them, grouped to the left.
@@ -65,7 +65,7 @@ impl<F: Fn(Global, &mut Tokens<'_>, usize, Level) -> Result<Boxed<Expr>, ParseFa
         requires { Nests self.now.depth (F.pre self.now.inner) (F.post self.now.inner) }
         ensures { Reads (spec.negation (spec.nested self.now.depth) tokens.old) result tokens.new }
     {
-        if tokens.sees(Key::Not) {
+        if tokens.sees(TokenClass::Not) {
             self.not_test(tokens)
         } else {
             self.predicate(tokens)
@@ -106,7 +106,7 @@ impl<F: Fn(Global, &mut Tokens<'_>, usize, Level) -> Result<Boxed<Expr>, ParseFa
         requires { Nests self.now.depth (F.pre self.now.inner) (F.post self.now.inner) }
         ensures { Reads (spec.unary (spec.nested self.now.depth) tokens.old) result tokens.new }
     {
-        if tokens.sees(Key::Minus) {
+        if tokens.sees(TokenClass::Minus) {
             self.negative(tokens)
         } else {
             self.primary(tokens)

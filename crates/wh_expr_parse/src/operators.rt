@@ -5,24 +5,24 @@ ghost use Rattle.wh_expr_parse.specs.Read as read;
 
 use crate::tokens::Tokens;
 use wh_ast::Operator;
-use wh_cursor::{Key, ParseFault, binds};
+use wh_cursor::{ParseFault, TokenClass, binds};
 
-fn operator(key: Key) -> Option<Operator>
+fn operator(key: TokenClass) -> Option<Operator>
     ensures { result ≡ spec.operator key }
 {
     match key {
-        Key::Or => Some(Operator::Or),
-        Key::And => Some(Operator::And),
-        Key::Plus => Some(Operator::Add),
-        Key::Minus => Some(Operator::Sub),
-        Key::Star => Some(Operator::Mul),
+        TokenClass::Or => Some(Operator::Or),
+        TokenClass::And => Some(Operator::And),
+        TokenClass::Plus => Some(Operator::Add),
+        TokenClass::Minus => Some(Operator::Sub),
+        TokenClass::Star => Some(Operator::Mul),
         _ => None,
     }
 }
 
 /// The operator of a level.
 #[tactic(auto, unfolding(crate::specs::Operators::joins))]
-fn joins(level: u8, key: Key) -> Option<Operator>
+fn joins(level: u8, key: TokenClass) -> Option<Operator>
     ensures { result ≡ spec.joins level key }
 {
     if binds(key) == level {

@@ -11,7 +11,7 @@ use crate::tokens::Tokens;
 use sqlite_items::{Boxed, Items};
 use std::alloc::Global;
 use wh_ast::{Expr, Operator};
-use wh_cursor::{Key, ParseFault};
+use wh_cursor::{ParseFault, TokenClass};
 use wh_value::Comparison;
 
 impl<F: Fn(Global, &mut Tokens<'_>, usize, Level) -> Result<Boxed<Expr>, ParseFault>> Grammar<F> {
@@ -34,16 +34,16 @@ impl<F: Fn(Global, &mut Tokens<'_>, usize, Level) -> Result<Boxed<Expr>, ParseFa
             (key_of tokens.old.left) tokens.old) result tokens.new }
     {
         match tokens.key() {
-            Key::Equal => self.compared(tokens, x, Comparison::Equal),
-            Key::Unequal => self.compared(tokens, x, Comparison::Unequal),
-            Key::Less => self.compared(tokens, x, Comparison::Less),
-            Key::AtMost => self.compared(tokens, x, Comparison::LessOrEqual),
-            Key::Greater => self.compared(tokens, x, Comparison::Greater),
-            Key::AtLeast => self.compared(tokens, x, Comparison::GreaterOrEqual),
-            Key::Is => self.null_test(tokens, x),
-            Key::In => self.among(tokens, false, x),
-            Key::Between => self.between(tokens, false, x),
-            Key::Not => self.negated_test(tokens, x),
+            TokenClass::Equal => self.compared(tokens, x, Comparison::Equal),
+            TokenClass::Unequal => self.compared(tokens, x, Comparison::Unequal),
+            TokenClass::Less => self.compared(tokens, x, Comparison::Less),
+            TokenClass::AtMost => self.compared(tokens, x, Comparison::LessOrEqual),
+            TokenClass::Greater => self.compared(tokens, x, Comparison::Greater),
+            TokenClass::AtLeast => self.compared(tokens, x, Comparison::GreaterOrEqual),
+            TokenClass::Is => self.null_test(tokens, x),
+            TokenClass::In => self.among(tokens, false, x),
+            TokenClass::Between => self.between(tokens, false, x),
+            TokenClass::Not => self.negated_test(tokens, x),
             _ => Ok(x),
         }
     }
@@ -73,8 +73,8 @@ impl<F: Fn(Global, &mut Tokens<'_>, usize, Level) -> Result<Boxed<Expr>, ParseFa
             (spec.null_test (spec.nested self.now.depth) x tokens.old) result tokens.new }
     {
         tokens.skip();
-        let negated = tokens.eat(Key::Not);
-        tokens.expect(Key::Null)?;
+        let negated = tokens.eat(TokenClass::Not);
+        tokens.expect(TokenClass::Null)?;
         tokens.spend()?;
         Ok(Boxed::new(self.alloc, Expr::IsNull(negated, x))?)
     }
@@ -91,8 +91,8 @@ impl<F: Fn(Global, &mut Tokens<'_>, usize, Level) -> Result<Boxed<Expr>, ParseFa
     {
         tokens.skip();
         match tokens.key() {
-            Key::In => self.among(tokens, true, x),
-            Key::Between => self.between(tokens, true, x),
+            TokenClass::In => self.among(tokens, true, x),
+            TokenClass::Between => self.between(tokens, true, x),
             _ => Err(ParseFault::SyntaxError),
         }
     }
@@ -109,10 +109,10 @@ impl<F: Fn(Global, &mut Tokens<'_>, usize, Level) -> Result<Boxed<Expr>, ParseFa
             (spec.among (spec.nested self.now.depth) negated x tokens.old) result tokens.new }
     {
         tokens.skip();
-        tokens.expect(Key::LParen)?;
+        tokens.expect(TokenClass::LParen)?;
         tokens.spend()?;
         let items = self.items(tokens)?;
-        tokens.expect(Key::RParen)?;
+        tokens.expect(TokenClass::RParen)?;
         Ok(Boxed::new(self.alloc, Expr::In(negated, x, items))?)
     }
 
@@ -125,7 +125,7 @@ impl<F: Fn(Global, &mut Tokens<'_>, usize, Level) -> Result<Boxed<Expr>, ParseFa
         for _turn in 0..tokens.room() {
             tokens.spend()?;
             found.push(self.inner(tokens, Level::Whole)?.into_inner())?;
-            if !tokens.eat(Key::Comma) {
+            if !tokens.eat(TokenClass::Comma) {
                 return Ok(found);
             }
         }
@@ -146,7 +146,7 @@ impl<F: Fn(Global, &mut Tokens<'_>, usize, Level) -> Result<Boxed<Expr>, ParseFa
         tokens.skip();
         tokens.spend()?;
         let least = self.sum(tokens)?;
-        tokens.expect(Key::And)?;
+        tokens.expect(TokenClass::And)?;
         let greatest = self.sum(tokens)?;
         let x = Expr::Between(negated, x, least, greatest);
         Ok(Boxed::new(self.alloc, x)?)

@@ -11,7 +11,7 @@ use crate::tokens::Tokens;
 use sqlite_items::Boxed;
 use std::alloc::Global;
 use wh_ast::Expr;
-use wh_cursor::{Key, ParseFault};
+use wh_cursor::{ParseFault, TokenClass};
 use wh_value::{Text, Value};
 
 #[tactic(auto, unfolding(crate::specs::Read::column))]
@@ -19,7 +19,7 @@ fn column(alloc: Global, tokens: &mut Tokens<'_>) -> Result<Boxed<Expr>, ParseFa
     ensures { Reads (spec.column tokens.old) result tokens.new }
 {
     let first = tokens.name(alloc)?;
-    let dotted = tokens.eat(Key::Dot);
+    let dotted = tokens.eat(TokenClass::Dot);
     column_of(alloc, tokens, first, dotted)
 }
 
@@ -64,17 +64,17 @@ impl<F: Fn(Global, &mut Tokens<'_>, usize, Level) -> Result<Boxed<Expr>, ParseFa
         ensures { Reads (spec.primary (spec.nested self.now.depth) tokens.old) result tokens.new }
     {
         match tokens.key() {
-            Key::LParen => {
+            TokenClass::LParen => {
                 tokens.skip();
                 self.parenthesized(tokens)
             }
-            Key::Number | Key::Text => tokens.literal(self.alloc),
-            Key::True => constant(self.alloc, tokens, Value::Bool(true)),
-            Key::False => constant(self.alloc, tokens, Value::Bool(false)),
-            Key::Null => constant(self.alloc, tokens, Value::Null),
-            Key::Sum => self.sum_or_column(tokens),
-            Key::Count => self.count_or_column(tokens),
-            Key::Name => column(self.alloc, tokens),
+            TokenClass::Number | TokenClass::Text => tokens.literal(self.alloc),
+            TokenClass::True => constant(self.alloc, tokens, Value::Bool(true)),
+            TokenClass::False => constant(self.alloc, tokens, Value::Bool(false)),
+            TokenClass::Null => constant(self.alloc, tokens, Value::Null),
+            TokenClass::Sum => self.sum_or_column(tokens),
+            TokenClass::Count => self.count_or_column(tokens),
+            TokenClass::Name => column(self.alloc, tokens),
             _ => Err(ParseFault::SyntaxError),
         }
     }
@@ -87,7 +87,7 @@ impl<F: Fn(Global, &mut Tokens<'_>, usize, Level) -> Result<Boxed<Expr>, ParseFa
             (spec.parenthesized (spec.nested self.now.depth) tokens.old) result tokens.new }
     {
         let x = self.inner(tokens, Level::Whole)?;
-        tokens.expect(Key::RParen)?;
+        tokens.expect(TokenClass::RParen)?;
         Ok(x)
     }
 
@@ -96,7 +96,7 @@ impl<F: Fn(Global, &mut Tokens<'_>, usize, Level) -> Result<Boxed<Expr>, ParseFa
         ensures { Reads (spec.call_or_column (spec.nested self.now.depth)
             (spec.sum_call (spec.nested self.now.depth)) tokens.old) result tokens.new }
     {
-        if tokens.sees_behind(Key::LParen) {
+        if tokens.sees_behind(TokenClass::LParen) {
             tokens.skip();
             self.sum_call(tokens)
         } else {
@@ -120,7 +120,7 @@ impl<F: Fn(Global, &mut Tokens<'_>, usize, Level) -> Result<Boxed<Expr>, ParseFa
         ensures { Reads (spec.call_or_column (spec.nested self.now.depth)
             (spec.count_call (spec.nested self.now.depth)) tokens.old) result tokens.new }
     {
-        if tokens.sees_behind(Key::LParen) {
+        if tokens.sees_behind(TokenClass::LParen) {
             tokens.skip();
             self.count_call(tokens)
         } else {
@@ -136,7 +136,7 @@ impl<F: Fn(Global, &mut Tokens<'_>, usize, Level) -> Result<Boxed<Expr>, ParseFa
             (spec.count_call (spec.nested self.now.depth) tokens.old) result tokens.new }
     {
         tokens.skip();
-        let star = tokens.sees(Key::Star);
+        let star = tokens.sees(TokenClass::Star);
         self.count_of(tokens, star)
     }
 
@@ -149,7 +149,7 @@ impl<F: Fn(Global, &mut Tokens<'_>, usize, Level) -> Result<Boxed<Expr>, ParseFa
     {
         if star {
             let x = self.inner(tokens, Level::Rows)?;
-            tokens.expect(Key::RParen)?;
+            tokens.expect(TokenClass::RParen)?;
             return Ok(x);
         }
         let x = self.parenthesized(tokens)?;

@@ -11,7 +11,7 @@ use sqlite_items::Boxed;
 use std::alloc::Global;
 use std::marker::Model;
 use wh_ast::Expr;
-use wh_cursor::{Key, ParseFault, Words};
+use wh_cursor::{ParseFault, TokenClass, Words};
 use wh_value::Text;
 
 /// The tokens that are left, and how many operators and IN items the expression may still have.
@@ -45,7 +45,7 @@ impl<'a> Tokens<'a> {
         words
     }
 
-    pub fn key(&self) -> Key
+    pub fn key(&self) -> TokenClass
         ensures { result ≡ key_of self.now.left }
     {
         self.words.key()
@@ -64,19 +64,19 @@ impl<'a> Tokens<'a> {
         self.words.skip();
     }
 
-    pub fn sees(&self, key: Key) -> bool
+    pub fn sees(&self, key: TokenClass) -> bool
         ensures { result ≡ sees key self.now.left }
     {
         self.words.sees(key)
     }
 
-    pub fn sees_behind(&self, key: Key) -> bool
+    pub fn sees_behind(&self, key: TokenClass) -> bool
         ensures { result ≡ sees key (tail self.now.left) }
     {
         self.words.sees_behind(key)
     }
 
-    pub fn eat(&mut self, key: Key) -> bool
+    pub fn eat(&mut self, key: TokenClass) -> bool
         ensures found { result ≡ sees key self.old.left }
         ensures after { self.new
             ≡ (if sees key self.old.left then spec.next self.old else self.old) }
@@ -89,7 +89,7 @@ impl<'a> Tokens<'a> {
     }
 
     #[tactic(auto, unfolding(crate::specs::State::expect))]
-    pub fn expect(&mut self, key: Key) -> Result<(), ParseFault>
+    pub fn expect(&mut self, key: TokenClass) -> Result<(), ParseFault>
         ensures { Reads (spec.expect key self.old) result self.new }
     {
         if self.sees(key) {

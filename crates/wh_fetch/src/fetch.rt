@@ -31,7 +31,8 @@ pub trait Fetch {
     /// The partition, which is one of those that it covers.
     fn fetch(&mut self, part: &PartMeta) -> Result<Arc<Partition>, FetchFault>
         requires { covers self.old part.now }
-        ensures contents { IfOk result (λ found. IsTold (contents self.old part.now) (arc_value found)) }
+        ensures contents { IfOk result
+            (λ found. IsTold (contents self.old part.now) (arc_value found)) }
         ensures asked { Asks result part.now.id (asked self.old) (asked self.new) }
         ensures stays { stays self.old self.new }
         ensures later { faults self.old ≤ faults self.new }
@@ -46,13 +47,15 @@ pub trait Fetch {
     ghost stays_so: { (fetch : Self) → stays fetch fetch };
 
     /// What goes with a later state goes with one that is later still.
-    ghost stays_on: { (first then last : Self) → stays first then → stays then last → stays first last };
+    ghost stays_on: { (first then last : Self) → stays first then → stays then last →
+        stays first last };
 
     /// What is covered stays covered.
     ghost covers_on: { (first last : Self) (part : PartMeta) → stays first last
         → covers first part → covers last part };
 
     /// What is covered keeps its contents.
-    ghost contents_on: { (first last : Self) (part : PartMeta) → stays first last → covers first part
+    ghost contents_on: { (first last : Self) (part : PartMeta) → stays first last →
+        covers first part
         → contents last part ≡ contents first part };
 }

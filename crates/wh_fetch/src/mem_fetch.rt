@@ -26,7 +26,8 @@ impl MemFetch {
         alloc: Global,
         parts: Vec<(PartMeta, Arc<Partition>)>,
     ) -> Result<MemFetch, AllocError>
-        ensures held { IfOk result (λ fetch. (id : PartId) → held fetch id ≡ held_in parts.items id) }
+        ensures held { IfOk result (λ fetch. (id : PartId) → held fetch id
+            ≡ held_in parts.items id) }
         ensures asked { IfOk result (λ fetch. fetch.asked.items ≡ []) }
     {
         let mut held = IndexMap::new(alloc);

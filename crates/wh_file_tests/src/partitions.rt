@@ -14,8 +14,8 @@ const ALL_KINDS: [u8; 48] = [
     255, 255, 2, 0, 0, 0, 0, 0, 0, 1, 2, 3, 4, 0, 0, 0, 2, 104, 105, 0,
 ];
 
-/// Partition 9: row 3 is (5, 'b', NULL), row 4 (NULL, 'ba', NULL), row 10 (-7, 'a', NULL), and row 11
-/// (5, 'b', NULL).
+/// Partition 9: row 3 is (5, 'b', NULL), row 4 (NULL, 'ba', NULL), row 10 (-7, 'a', NULL), and row
+/// 11 (5, 'b', NULL).
 const FOUR_ROWS: [u8; 101] = [
     0, 0, 0, 0, 0, 0, 0, 9, 0, 0, 0, 4, 0, 0, 0, 0, 0, 0, 0, 3, 1, 0, 0, 0, 0, 0, 0, 0, 5, 4, 0, 0,
     0, 1, 98, 0, 0, 0, 0, 0, 0, 0, 0, 4, 0, 4, 0, 0, 0, 2, 98, 97, 0, 0, 0, 0, 0, 0, 0, 0, 10, 1,
@@ -148,7 +148,8 @@ fn bare_bytes(rt: &impl Abort, alloc: Global, count: u32) -> Bytes {
     bytes
 }
 
-/// How many rows the partition of that many rows without values has, and the number of its last one.
+/// How many rows the partition of that many rows without values has, and the number of its last
+/// one.
 fn bare(rt: &impl Abort, alloc: Global, count: u32) -> Option<(usize, u64)> {
     let bytes = bare_bytes(rt, alloc, count);
     match Partition::decode(alloc, bytes.as_slice(), 0) {

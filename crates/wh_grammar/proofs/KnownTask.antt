@@ -4,7 +4,7 @@ use Rattle.std.specs.Prelude.{codes}
 use Rattle.wh_ast.specs.declared.dml.Dml.TheVariants as dml
 use Rattle.wh_ast.specs.declared.statement.Statement.{Statement}
 use Rattle.wh_ast.specs.declared.statement.Statement.TheVariants as st
-use Rattle.wh_ast.specs.declared.statement.Condition.TheVariants as c
+use Rattle.wh_ast.specs.declared.statement.WhenCondition.TheVariants as c
 use Rattle.wh_grammar.specs.Words.{is_reserved, is_call}
 use Rattle.wh_grammar.specs.Token.{Placed, Word, TextToken, SignToken, LParen, RParen}
 use Rattle.wh_grammar.specs.Lexing as lex

@@ -2,7 +2,7 @@
 use Rattle.std.specs.Prelude.{ℕ, suc, List, [], ◌∷◌, Option, Some, None, codes}
 use Rattle.wh_ast.specs.declared.expr.Expr.{Expr}
 use Rattle.wh_ast.specs.declared.query.Query.{Query}
-use Rattle.wh_ast.specs.declared.query.Source.{Source}
+use Rattle.wh_ast.specs.declared.query.FromItem.{FromItem}
 use Rattle.wh_ast.specs.declared.dml.Assignment.{Assignment}
 use Rattle.wh_ast.specs.declared.dml.Dml.{Dml}
 use Rattle.wh_ast.specs.declared.dml.Dml.TheVariants as dml
@@ -110,7 +110,7 @@ pub data IsDml (d : ℕ) : List Token → Dml → List Token → Type 0 where
       → MayHaveFilter d us filter vs
       → IsDml d (Word (codes "DELETE") ∷ Word (codes "FROM") ∷ ts) (dml.Delete table filter) vs
   merge : {ts us vs ws rs ends : List Token} {target : List ℕ} {alias : Option (List ℕ)}
-      {source : Source} {on : Expr} {clauses : List MergeClause}
+      {source : FromItem} {on : Expr} {clauses : List MergeClause}
       → IsName ts target us
       → MayHaveAlias us alias (Word (codes "USING") ∷ vs)
       → IsSource d vs source (Word (codes "ON") ∷ ws)

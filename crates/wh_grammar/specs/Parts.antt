@@ -5,10 +5,10 @@ use Rattle.wh_value.specs.declared.column.ColumnType.{ColumnType}
 use Rattle.wh_value.specs.declared.column.ColumnType.TheVariants as types
 use Rattle.wh_value.specs.declared.column.Column.{Column}
 use Rattle.wh_ast.specs.declared.query.Sort.{Sort}
-use Rattle.wh_ast.specs.declared.query.Key.{Key}
-use Rattle.wh_ast.specs.declared.query.Key.TheVariants as key
-use Rattle.wh_ast.specs.declared.statement.Condition.{Condition}
-use Rattle.wh_ast.specs.declared.statement.Condition.TheVariants as c
+use Rattle.wh_ast.specs.declared.query.OrderKey.{OrderKey}
+use Rattle.wh_ast.specs.declared.query.OrderKey.TheVariants as key
+use Rattle.wh_ast.specs.declared.statement.WhenCondition.{WhenCondition}
+use Rattle.wh_ast.specs.declared.statement.WhenCondition.TheVariants as c
 use Rattle.wh_ast.specs.declared.statement.Lag.{Lag}
 use Rattle.wh_ast.specs.declared.statement.Lag.TheVariants as lag
 use Rattle.wh_ast.specs.declared.statement.RefreshMode.{RefreshMode}
@@ -65,17 +65,17 @@ pub data IsDirection : List Token → Bool → List Token → Type 0 where
   descending : {ts : List Token} → IsDirection (Word (codes "DESC") ∷ ts) true ts
 
 -- name | number
-pub data IsKey : List Token → Key → List Token → Type 0 where
+pub data IsKey : List Token → OrderKey → List Token → Type 0 where
   key_name : {ts us : List Token} {name : List ℕ} → IsName ts name us → IsKey ts (key.Name name) us
   key_position : {us : List Token} {n : ℕ} → IsKey (NumberToken n ∷ us) (key.Position n) us
 
 -- one key or more to the end
 pub data AreSorts : List Token → List Sort → Type 0 where
-  last_sort : {ts us : List Token} {k : Key} {d : Bool}
+  last_sort : {ts us : List Token} {k : OrderKey} {d : Bool}
       → IsKey ts k us
       → IsDirection us d []
       → AreSorts ts (record { key = k; descending = d } ∷ [])
-  more_sorts : {ts us vs : List Token} {k : Key} {d : Bool} {more : List Sort}
+  more_sorts : {ts us vs : List Token} {k : OrderKey} {d : Bool} {more : List Sort}
       → IsKey ts k us
       → IsDirection us d (SignToken Comma ∷ vs)
       → AreSorts vs more
@@ -103,25 +103,25 @@ pub data AsksForData : List Token → List ℕ → List Token → Type 0 where
 -- ---- conditions of tasks: cand {OR cand}, cnot {AND cnot}, NOT cnot
 
 mutual
-  pub data IsCondition : ℕ → List Token → Condition → List Token → Type 0 where
-    one_cand : {d : ℕ} {ts us : List Token} {x : Condition} → IsAndCondition d ts x us → IsCondition d ts x us
-    or_condition : {d : ℕ} {ts us vs : List Token} {x y : Condition}
+  pub data IsCondition : ℕ → List Token → WhenCondition → List Token → Type 0 where
+    one_cand : {d : ℕ} {ts us : List Token} {x : WhenCondition} → IsAndCondition d ts x us → IsCondition d ts x us
+    or_condition : {d : ℕ} {ts us vs : List Token} {x y : WhenCondition}
         → IsCondition d ts x (Word (codes "OR") ∷ us)
         → IsAndCondition d us y vs
         → IsCondition d ts (c.Or x y) vs
 
-  pub data IsAndCondition : ℕ → List Token → Condition → List Token → Type 0 where
-    one_cnot : {d : ℕ} {ts us : List Token} {x : Condition} → IsNotCondition d ts x us → IsAndCondition d ts x us
-    and_condition : {d : ℕ} {ts us vs : List Token} {x y : Condition}
+  pub data IsAndCondition : ℕ → List Token → WhenCondition → List Token → Type 0 where
+    one_cnot : {d : ℕ} {ts us : List Token} {x : WhenCondition} → IsNotCondition d ts x us → IsAndCondition d ts x us
+    and_condition : {d : ℕ} {ts us vs : List Token} {x y : WhenCondition}
         → IsAndCondition d ts x (Word (codes "AND") ∷ us)
         → IsNotCondition d us y vs
         → IsAndCondition d ts (c.And x y) vs
 
-  pub data IsNotCondition : ℕ → List Token → Condition → List Token → Type 0 where
-    not_condition : {d : ℕ} {ts us : List Token} {x : Condition}
+  pub data IsNotCondition : ℕ → List Token → WhenCondition → List Token → Type 0 where
+    not_condition : {d : ℕ} {ts us : List Token} {x : WhenCondition}
         → IsNotCondition d ts x us
         → IsNotCondition (suc d) (Word (codes "NOT") ∷ ts) (c.Not x) us
-    inner_condition : {d : ℕ} {ts us : List Token} {x : Condition}
+    inner_condition : {d : ℕ} {ts us : List Token} {x : WhenCondition}
         → IsCondition d ts x (SignToken RParen ∷ us)
         → IsNotCondition (suc d) (SignToken LParen ∷ ts) x us
     has_data : {d : ℕ} {ts us : List Token} {name : List ℕ}

@@ -6,8 +6,8 @@ use Rattle.wh_ast.specs.declared.query.Core.{Core, roll-Core}
 use Rattle.wh_ast.specs.declared.query.Join.{Join, roll-Join}
 use Rattle.wh_ast.specs.declared.query.Item.{Item}
 use Rattle.wh_ast.specs.declared.query.Item.TheVariants as i
-use Rattle.wh_ast.specs.declared.query.Source.{Source}
-use Rattle.wh_ast.specs.declared.query.Source.TheVariants as s
+use Rattle.wh_ast.specs.declared.query.FromItem.{FromItem}
+use Rattle.wh_ast.specs.declared.query.FromItem.TheVariants as s
 use Rattle.wh_grammar.specs.Token.{Token, Word, SignToken, LParen, RParen, Comma, Dot, Star}
 use Rattle.wh_grammar.specs.Name.{IsName}
 use Rattle.wh_grammar.specs.Expression.{IsExpr, AreExprs}
@@ -76,7 +76,7 @@ mutual
 
   -- SELECT items FROM source joins [WHERE expr] [GROUP BY exprs], of at most 16 sources
   pub data IsCore : ℕ → List Token → Core → List Token → Type 0 where
-    core : {d : ℕ} {ts us vs ws rs ends : List Token} {items : List Item} {source : Source} {joins : List Join}
+    core : {d : ℕ} {ts us vs ws rs ends : List Token} {items : List Item} {source : FromItem} {joins : List Join}
         {filter : Option Expr} {group : List Expr}
         → length joins ≤ 15
         → AreItems d ts items (Word (codes "FROM") ∷ us)
@@ -93,7 +93,7 @@ mutual
         })) ends
 
   -- name [[AS] name] | ( query ) [AS] name
-  pub data IsSource : ℕ → List Token → Source → List Token → Type 0 where
+  pub data IsSource : ℕ → List Token → FromItem → List Token → Type 0 where
     named : {d : ℕ} {ts us vs : List Token} {name : List ℕ} {alias : Option (List ℕ)}
         → IsName ts name us
         → MayHaveAlias us alias vs
@@ -106,7 +106,7 @@ mutual
   -- {[INNER] JOIN source ON expr}
   pub data AreJoins : ℕ → List Token → List Join → List Token → Type 0 where
     no_joins : {d : ℕ} {ts : List Token} → AreJoins d ts [] ts
-    more_joins : {d : ℕ} {ts us vs ws rs : List Token} {source : Source} {x : Expr} {joins : List Join}
+    more_joins : {d : ℕ} {ts us vs ws rs : List Token} {source : FromItem} {x : Expr} {joins : List Join}
         → IsJoinWord ts us
         → IsSource d us source (Word (codes "ON") ∷ vs)
         → IsExpr d vs x ws

@@ -87,14 +87,14 @@ ends_command CommentSlash b = false
 
 -- where a byte of a script stands: between commands, there but in a comment, or behind so many bytes
 -- of a marked line or of a command
-pub data Place : Type 0 where
-  Gap : Place
-  GapComment : Area → Place
-  InMarked : (text : List ℕ) → Place
-  InCommand : Area → (text : List ℕ) → Place
+pub data ScriptPlace : Type 0 where
+  Gap : ScriptPlace
+  GapComment : Area → ScriptPlace
+  InMarked : (text : List ℕ) → ScriptPlace
+  InCommand : Area → (text : List ℕ) → ScriptPlace
 
 -- behind a comment between commands
-abbrev pub gap_at : Area → Place
+abbrev pub gap_at : Area → ScriptPlace
 gap_at Plain = Gap
 gap_at (Between quote) = Gap
 gap_at LineComment = GapComment LineComment
@@ -104,7 +104,7 @@ gap_at CommentSlash = GapComment CommentSlash
 
 -- between commands: blanks and `;` are passed over, and comments that end; a `!` begins a
 -- line, and any other byte a command
-unfoldable pub place_behind : ℕ → List ℕ → Place
+unfoldable pub place_behind : ℕ → List ℕ → ScriptPlace
 place_behind b bytes =
     if is_blank b || b == 59 then Gap
     else if b == 33 then InMarked (b ∷ [])
@@ -113,7 +113,7 @@ place_behind b bytes =
     else InCommand (area_behind Plain b bytes) (b ∷ [])
 
 -- the lines from a place on
-unfoldable pub lines_from : Place → List ℕ → List Line
+unfoldable pub lines_from : ScriptPlace → List ℕ → List Line
 lines_from Gap [] = []
 lines_from (GapComment area) [] = []
 lines_from (InMarked text) [] = marked_line text ∷ []

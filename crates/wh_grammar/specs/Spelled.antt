@@ -19,7 +19,7 @@ use Rattle.wh_ast.specs.declared.statement.Statement.TheVariants as st
 use Rattle.wh_ast.specs.declared.statement.CreateTask.{CreateTask}
 use Rattle.wh_ast.specs.declared.statement.CreateDynamicTable.{CreateDynamicTable}
 use Rattle.wh_ast.specs.declared.statement.When.{When}
-use Rattle.wh_ast.specs.declared.statement.Condition.{Condition}
+use Rattle.wh_ast.specs.declared.statement.WhenCondition.{WhenCondition}
 use Rattle.wh_ast.specs.declared.statement.Lag.{Lag}
 use Rattle.wh_ast.specs.declared.statement.RefreshMode.{RefreshMode}
 use Rattle.wh_ast.specs.declared.statement.Initialize.{Initialize}
@@ -194,7 +194,7 @@ pub data IsTask (text : List ℕ) (placed : List Placed) : CreateTask → Type 0
       → IsKept text body kept
       → IsTask text placed (task_of name minutes names None x kept)
   guarded_task : (head guard body : List Placed) (link : Placed) {name : List ℕ} {minutes : Option ℕ}
-      {names : List (List ℕ)} {condition : Condition} {x : Dml} {kept body_kept : List ℕ}
+      {names : List (List ℕ)} {condition : WhenCondition} {x : Dml} {kept body_kept : List ℕ}
       → placed ≡ head ++ (guard ++ link ∷ body)
       → IsTaskHead (tokens_of head) name minutes names (Word (codes "WHEN") ∷ [])
       → IsCondition most_nested (tokens_of guard) condition []

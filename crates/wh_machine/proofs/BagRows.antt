@@ -13,7 +13,8 @@ use Rattle.std.specs.FinMap.Entries.{by_order}
 use Rattle.std.proofs.lemmas.List.{nil_from_length}
 use Rattle.wh_value.specs.Value.{Row, row_cmp, placed_by}
 use Rattle.wh_value.specs.Order.{row_total}
-use Rattle.wh_meaning.specs.Bag.{Bag, no_rows, count, with_row, one_row, bag_of, again, over_entries, fold_bag, plus, beside}
+use Rattle.wh_meaning.specs.Bag.{Bag, no_rows, count, with_row, one_row, bag_of, again, over_entries, fold_bag, plus}
+use Rattle.wh_meaning.specs.Bag.{beside}
 use Rattle.wh_meaning.specs.Bag.{gathered}
 use Rattle.wh_meaning.specs.Listing.{SortKey, order_by, listed}
 
@@ -24,7 +25,8 @@ abbrev pub AllRows : (Row → Type 0) → Bag → Type 0
 AllRows P b = AllEntries P (entries b)
 
 pub all_none : (P : Row → Type 0) → AllRows P no_rows
-all_none P = subst (AllEntries P) (sym (nil_from_length (entries no_rows) (sym (len-entries no_rows) ∙ len-empty row_cmp ℕ))) tt
+all_none P = subst (AllEntries P) (sym (nil_from_length (entries no_rows)
+    (sym (len-entries no_rows) ∙ len-empty row_cmp ℕ))) tt
 
 all_put : (P : Row → Type 0) (row : Row) (n : ℕ) (es : List (Row × ℕ)) → P row → AllEntries P es
     → AllEntries P (put row_cmp row n es)
@@ -39,7 +41,8 @@ all_put P row n (e ∷ es) here h = by_cmp (row_cmp row e.0) (all_put P row n es
 
 pub all_with_row : (P : Row → Type 0) (row : Row) (b : Bag) → P row → AllRows P b → AllRows P (with_row row b)
 all_with_row P row b here h =
-    subst (AllEntries P) (sym (entries-insert row_total b row (count b row))) (all_put P row (count b row) (entries b) here h)
+    subst (AllEntries P) (sym (entries-insert row_total b row (count b row)))
+    (all_put P row (count b row) (entries b) here h)
 
 pub all_one : (P : Row → Type 0) (row : Row) → P row → AllRows P (one_row row)
 all_one P row here = all_with_row P row no_rows here (all_none P)
@@ -48,7 +51,8 @@ pub all_bag_of : (P : Row → Type 0) (rows : List Row) → AllByRecursion P row
 all_bag_of P [] h = all_none P
 all_bag_of P (row ∷ rows) h = all_with_row P row (bag_of rows) h.0 (all_bag_of P rows h.1)
 
-again_all : (P : Row → Type 0) (row : Row) (n : ℕ) (b : Bag) → P row → AllRows P b → AllRows P (again n (with_row row) b)
+again_all : (P : Row → Type 0) (row : Row) (n : ℕ) (b : Bag) → P row → AllRows P b →
+    AllRows P (again n (with_row row) b)
 again_all P row zero b here h = h
 again_all P row (suc n) b here h = all_with_row P row (again n (with_row row) b) here (again_all P row n b here h)
 
@@ -94,7 +98,8 @@ all_gathered P Q f gives b h = over_gives P Q f gives (entries b) h
 
 -- ---- lists of rows
 
-placed_all : (P : Row → Type 0) (cmp : Row → Row → Ordering) (row : Row) (rows : List Row) → P row → AllByRecursion P rows
+placed_all : (P : Row → Type 0) (cmp : Row → Row → Ordering) (row : Row) (rows : List Row) → P row →
+    AllByRecursion P rows
     → AllByRecursion P (placed_by cmp row rows)
 placed_all P cmp row [] here h = (here, tt)
 placed_all P cmp row (r ∷ rows) here h = by_test (is_gt (cmp row r)) (placed_all P cmp row rows here h.1)

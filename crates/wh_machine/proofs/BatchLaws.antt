@@ -163,7 +163,7 @@ bound_read : (is : Bool) (m : Machine) (session id : ℕ) (b : BoundChange)
     → list_any (nat_eq id) (streams_read m b) ≡ is → IsReadIn is id (bound_changed m session b)
 bound_read is m session id b among = by_refusal (change_refusal m session b)
   where
-    by_effect : (o : effects.Outcome) → IsReadIn is id (given b.target (streams_read m b) b.change o)
+    by_effect : (o : effects.EffectResult) → IsReadIn is id (given b.target (streams_read m b) b.change o)
     by_effect effects.Undefined = tt
     by_effect (effects.Ambiguous row) = tt
     by_effect (effects.Does e) = among

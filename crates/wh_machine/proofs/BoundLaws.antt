@@ -12,9 +12,9 @@ use Rattle.wh_value.specs.Column.{ColumnType, NumberType, VarcharType, BooleanTy
 use Rattle.wh_value.specs.Value.{Row}
 use Rattle.wh_ast.specs.declared.expr.Expr.{Expr}
 use Rattle.wh_ast.specs.declared.query.Item.{Item}
-use Rattle.wh_ast.specs.declared.query.Source.{Source, fold-roll-Source, fold-Source}
-use Rattle.wh_ast.specs.declared.query.Source.TheOpen.{Source-F}
-use Rattle.wh_ast.specs.declared.query.Source.TheVariants as sources
+use Rattle.wh_ast.specs.declared.query.FromItem.{FromItem, fold-roll-FromItem, fold-FromItem}
+use Rattle.wh_ast.specs.declared.query.FromItem.TheOpen.{FromItem-F}
+use Rattle.wh_ast.specs.declared.query.FromItem.TheVariants as sources
 use Rattle.wh_grammar.specs.Token.{Token}
 use Rattle.wh_grammar.specs.Query as g
 use Rattle.wh_grammar.specs.Query.{IsQuery, AreCores, IsCore, IsSource, AreJoins}
@@ -28,8 +28,10 @@ use Rattle.wh_naming.specs.Findings.{Name, either}
 use Rattle.wh_naming.specs.Scope.{Named, named, Entry}
 use Rattle.wh_naming.specs.Typing.{alike, same_type}
 use Rattle.wh_naming.specs.Select.{Output, BoundQuery, BoundSource, SourcePart, JoinPart, QueryReading}
-use Rattle.wh_naming.specs.Select.{object_source, column_of, query_source, Joined, part_name, first_entry, with_entry, plain}
-use Rattle.wh_naming.specs.Select.{with_joins, from_part, filtered_by, key_scalars, nothing_shown, all_shown, is_grouped}
+use Rattle.wh_naming.specs.Select.{object_source, column_of, query_source, Joined, part_name, first_entry, with_entry}
+use Rattle.wh_naming.specs.Select.{plain}
+use Rattle.wh_naming.specs.Select.{with_joins, from_part, filtered_by, key_scalars, nothing_shown, all_shown}
+use Rattle.wh_naming.specs.Select.{is_grouped}
 use Rattle.wh_naming.specs.Select.{bound_core, merged, fit_each_other, united, more_cores}
 use Rattle.wh_naming.specs.Select.{all_cores, named_source, source_step, core_step, join_step, query_step, bound_query}
 use Rattle.wh_naming.specs.Select.{all_columns}
@@ -85,7 +87,8 @@ both_true true b is = (refl, is)
 both_true false b is = absurd cc
 
 merged_under : (os ps : List Output) → fit_each_other os ps ≡ true
-    → AllUnder (output_types os) (output_types (merged os ps)) × AllUnder (output_types ps) (output_types (merged os ps))
+    → AllUnder (output_types os) (output_types (merged os ps))
+    × AllUnder (output_types ps) (output_types (merged os ps))
 merged_under [] [] is = (tt, tt)
 merged_under [] (p ∷ ps) is = absurd cc
 merged_under (o ∷ os) [] is = absurd cc
@@ -105,8 +108,8 @@ rows_under ts us under found h b is =
 
 -- ---- trees, layer by layer
 
-abbrev pub source_read : Source → SourcePart
-source_read s = fold-Source SourcePart QueryReading JoinPart QueryReading source_step core_step join_step query_step s
+abbrev pub source_read : FromItem → SourcePart
+source_read s = fold-FromItem SourcePart QueryReading JoinPart QueryReading source_step core_step join_step query_step s
 
 abbrev join_read : Join → JoinPart
 join_read j = fold-Join SourcePart QueryReading JoinPart QueryReading source_step core_step join_step query_step j
@@ -121,16 +124,23 @@ query_reads cores names next = ap (λ (r : QueryReading). r names next)
     (fold-roll-Query SourcePart QueryReading JoinPart QueryReading source_step core_step join_step query_step
     (record { cores = cores }))
 
-core_reads : (found : List Item) (from : Source) (joins : List Join) (filter : Option Expr) (group : List Expr)
+core_reads : (found : List Item) (from : FromItem) (joins : List Join) (filter : Option Expr) (group : List Expr)
     (names : List Named) (next : ℕ)
-    → core_read (roll-Core (record { items = found; from = from; joins = joins; filter = filter; group = group })) names next
+    → core_read (roll-Core (record {
+      items = found;
+      from = from;
+      joins = joins;
+      filter = filter;
+      group =
+          group;
+    })) names next
     ≡ bound_core found (from_part names next (source_read from) (map join_read joins)) filter group
 unfolding core_step
 core_reads found from joins filter group names next = ap (λ (r : QueryReading). r names next)
     (fold-roll-Core SourcePart QueryReading JoinPart QueryReading source_step core_step join_step query_step
     (record { items = found; from = from; joins = joins; filter = filter; group = group }))
 
-join_reads : (source : Source) (on : Expr)
+join_reads : (source : FromItem) (on : Expr)
     → (join_read (roll-Join (record { source = source; on = on }))).source ≡ source_read source
 unfolding join_step
 join_reads source on = ap (λ (j : JoinPart). j.source)
@@ -141,19 +151,19 @@ named_reads : (name : Name) (alias : Option Name) (names : List Named) (next : �
     → (source_read (sources.Named name alias)).reading names next ≡ named_source name names next
 unfolding source_step
 named_reads name alias names next =
-    ap (λ (s : Source). (source_read s).reading names next) (sym (sources.rolls-Named name alias))
+    ap (λ (s : FromItem). (source_read s).reading names next) (sym (sources.rolls-Named name alias))
     ∙ ap (λ (p : SourcePart). p.reading names next)
-    (fold-roll-Source SourcePart QueryReading JoinPart QueryReading source_step core_step join_step query_step
-    (Source-F.Named name alias))
+    (fold-roll-FromItem SourcePart QueryReading JoinPart QueryReading source_step core_step join_step query_step
+    (FromItem-F.Named name alias))
 
 inner_reads : (inner : Query) (alias : Name) (names : List Named) (next : ℕ)
     → (source_read (sources.Subquery inner alias)).reading names next ≡ query_source (bound_query inner names next)
 unfolding source_step
 inner_reads inner alias names next =
-    ap (λ (s : Source). (source_read s).reading names next) (sym (sources.rolls-Subquery inner alias))
+    ap (λ (s : FromItem). (source_read s).reading names next) (sym (sources.rolls-Subquery inner alias))
     ∙ ap (λ (p : SourcePart). p.reading names next)
-    (fold-roll-Source SourcePart QueryReading JoinPart QueryReading source_step core_step join_step query_step
-    (Source-F.Subquery inner alias))
+    (fold-roll-FromItem SourcePart QueryReading JoinPart QueryReading source_step core_step join_step query_step
+    (FromItem-F.Subquery inner alias))
 
 -- ---- over the live objects of some names; S holds of the ids of sources, and F of the rows of each
 
@@ -201,7 +211,8 @@ module _ (names : List Named) (S : ℕ → Type 0) (F : ℕ → Row → Type 0) 
   unfolding eval
   scan_gives P next id so instance h b is =
       let same : source_in instance next ≡ b = cc in
-      subst (AllRows P) same (all_map (λ e. F id e.0) (λ e. P e.0) (λ e row. so e.0 row) _ (h 0 next id (omega arith) refl))
+      subst (AllRows P) same (all_map (λ e. F id e.0) (λ e. P e.0) (λ e row. so e.0 row) _
+      (h 0 next id (omega arith) refl))
 
   object_good : (name : Name) (next : ℕ) → IsGoodSource next (named_source name names next)
   object_good name next = by_found (named names name) refl
@@ -212,7 +223,8 @@ module _ (names : List Named) (S : ℕ → Type 0) (F : ℕ → Row → Type 0) 
         sources = (none, tt);
       }
       by_found (Some object) is = record {
-        rows = λ well instance. scan_gives (FitsTypes (types_of object.columns)) next object.id (fits name object is) instance;
+        rows = λ well instance. scan_gives (FitsTypes (types_of object.columns)) next object.id
+            (fits name object is) instance;
         sources = (live name object is, tt);
       }
 
@@ -226,7 +238,8 @@ module _ (names : List Named) (S : ℕ → Type 0) (F : ℕ → Row → Type 0) 
 
   entry_types_more : (entries : List Entry) (e : Entry)
       → entry_types (entries ++ e ∷ []) ≡ entry_types entries ++ types_of e.columns
-  entry_types_more [] e = map-append (λ (c : table.Column). Some c.column_type) e.columns [] ∙ append_nil (types_of e.columns)
+  entry_types_more [] e = map-append (λ (c : table.Column). Some c.column_type) e.columns []
+      ∙ append_nil (types_of e.columns)
     where
       append_nil : (xs : List (Option ColumnType)) → xs ++ [] ≡ xs
       append_nil [] = refl
@@ -243,20 +256,23 @@ module _ (names : List Named) (S : ℕ → Type 0) (F : ℕ → Row → Type 0) 
   first_good : (next : ℕ) (part : SourcePart) (joins : List JoinPart) (s : BoundSource) → IsGoodSource next s
       → IsGoodJoined next (first_entry part joins s)
   first_good next part joins s good = record {
-    rows = λ well instance fit. subst (λ (ts : List (Option ColumnType)). GivesAll (FitsTypes ts) (eval s.query instance))
+    rows = λ well instance fit. subst (λ (ts : List (Option ColumnType)). GivesAll (FitsTypes ts)
+        (eval s.query instance))
         (sym (entry_types_more [] (record { name = part.name; columns = s.columns })))
         (good.rows (neither s.findings.is_mistyped false well).0 instance fit);
     sources = good.sources;
   }
 
-  entry_good : (next : ℕ) (left : Joined) (j : JoinPart) (joins : List JoinPart) (s : BoundSource) → IsGoodJoined next left
+  entry_good : (next : ℕ) (left : Joined) (j : JoinPart) (joins : List JoinPart) (s : BoundSource) →
+      IsGoodJoined next left
       → IsGoodSource (next + length left.sources) s → IsGoodJoined next (with_entry left j joins s)
   entry_good next left j joins s before good = record {
     rows = λ well instance fit.
         let parts = neither left.findings.is_mistyped _ well in
         let both = neither (s.findings.is_mistyped || false) _ parts.1 in
         let here = neither s.findings.is_mistyped false both.0 in
-        subst (λ (ts : List (Option ColumnType)). GivesAll (FitsTypes ts) (eval (with_entry left j joins s).query instance))
+        subst (λ (ts : List (Option ColumnType)). GivesAll (FitsTypes ts)
+        (eval (with_entry left j joins s).query instance))
         (sym (entry_types_more left.entries (record { name = part_name j; columns = s.columns })))
         (rows_join (entry_types left.entries) (types_of s.columns) left.query s.query _ instance
         (before.rows parts.0 instance (front_fits next left.sources s.sources instance fit))
@@ -292,14 +308,16 @@ module _ (names : List Named) (S : ℕ → Type 0) (F : ℕ → Row → Type 0) 
   filtered_rows next j (Some e) rows instance fit =
       rows_filter (FitsTypes (entry_types j.entries)) j.query (plain j.entries e).scalar instance (rows instance fit)
 
-  core_good : (next : ℕ) (found : List Item) (j : Joined) (filter : Option Expr) (group : List Expr) → IsGoodJoined next j
+  core_good : (next : ℕ) (found : List Item) (j : Joined) (filter : Option Expr) (group : List Expr) →
+      IsGoodJoined next j
       → IsGoodQuery next (bound_core found j filter group)
   core_good next found j filter group good = record {
     rows = λ well instance fit.
         let shown = all_shown j.entries nothing_shown found in
         let parts = neither shown.findings.is_mistyped _ well in
         let both = neither j.findings.is_mistyped _ parts.1 in
-        core_rows j.entries (filtered_by j filter) (is_grouped group shown.calls) (key_scalars j.entries group) shown instance
+        core_rows j.entries (filtered_by j filter) (is_grouped group shown.calls) (key_scalars j.entries group)
+        shown instance
         (shown_under j.entries nothing_shown found tt) (filtered_rows next j filter (good.rows both.0) instance fit);
     sources = good.sources;
   }
@@ -310,7 +328,8 @@ module _ (names : List Named) (S : ℕ → Type 0) (F : ℕ → Row → Type 0) 
       → IsGoodQuery next (united a b)
   united_good next a b left right = record {
     rows = λ well instance fit.
-        let parts = neither (a.findings.is_mistyped || b.findings.is_mistyped) (not (fit_each_other a.outputs b.outputs)) well in
+        let parts = neither (a.findings.is_mistyped || b.findings.is_mistyped)
+        (not (fit_each_other a.outputs b.outputs)) well in
         let both = neither a.findings.is_mistyped b.findings.is_mistyped parts.0 in
         let types = merged_under a.outputs b.outputs (not_false (fit_each_other a.outputs b.outputs) parts.1) in
         rows_union (FitsTypes (output_types (merged a.outputs b.outputs))) a.query b.query instance
@@ -335,7 +354,8 @@ module _ (names : List Named) (S : ℕ → Type 0) (F : ℕ → Row → Type 0) 
 
   -- ---- of a text
 
-  some_cores : {d : ℕ} {ts us : List Token} (cores : List Core) → AreCores d ts cores us → 0 < length (map core_read cores)
+  some_cores : {d : ℕ} {ts us : List Token} (cores : List Core) → AreCores d ts cores us →
+      0 < length (map core_read cores)
   some_cores cores (g.last_core is) = omega arith
   some_cores cores (g.more_cores is more) = omega arith
 
@@ -351,13 +371,14 @@ module _ (names : List Named) (S : ℕ → Type 0) (F : ℕ → Row → Type 0) 
     all_cores_good (core ∷ cores) (g.more_cores is more) = (one_core_good core is, all_cores_good cores more)
 
     one_core_good : {d : ℕ} {ts us : List Token} (c : Core) → IsCore d ts c us → IsGoodReading (core_read c)
-    one_core_good c (g.core {items = found} {source = from} {joins = joins} {filter = filter} {group = group} few are is more
+    one_core_good c (g.core {items = found} {source = from} {joins = joins} {filter = filter} {group = group}
+        few are is more
         where_ grouped) next =
         subst (IsGoodQuery next) (sym (core_reads found from joins filter group names next))
         (core_good next found (from_part names next (source_read from) (map join_read joins)) filter group
         (from_good next (source_read from) (map join_read joins) (source_good from is) (all_joins_good joins more)))
 
-    pub source_good : {d : ℕ} {ts us : List Token} (source : Source) → IsSource d ts source us
+    pub source_good : {d : ℕ} {ts us : List Token} (source : FromItem) → IsSource d ts source us
         → IsGoodPart (source_read source)
     source_good source (g.named {name = name} {alias = alias} is may) next =
         subst (IsGoodSource next) (sym (named_reads name alias names next)) (object_good name next)

@@ -16,7 +16,7 @@ use Rattle.wh_meaning.specs.Query.{source_in}
 use Rattle.wh_naming.specs.Findings as naming
 use Rattle.wh_naming.specs.Findings.{Name}
 use Rattle.wh_naming.specs.Scope.{Named, named}
-use Rattle.wh_naming.specs.Changes.{Target, target_of, target_at, is_table, BoundChange, Change, bound_change}
+use Rattle.wh_naming.specs.Changes.{Target, target_of, target_at, is_table, BoundChange, Modification, bound_change}
 use Rattle.wh_effect.specs.Effect as effects
 use Rattle.wh_effect.specs.Effect.{effect}
 use Rattle.wh_reply.specs.Reply.{Refusal}
@@ -115,7 +115,8 @@ module _ (s : Stored) (m : Machine) (session : ℕ) (reached : IsReached s m) wh
   mapped_get (x ∷ ids) (suc k) id is = mapped_get ids k id is
 
   instance_fits : (ids : List ℕ)
-      → InstanceFits names SourceLives IsRead none_lives nothing_read named_lives named_fits 0 ids (instance_read m session ids)
+      → InstanceFits names SourceLives IsRead none_lives nothing_read named_lives named_fits 0 ids
+      (instance_read m session ids)
   instance_fits ids k place id at is =
       let same : place ≡ k = omega arith in
       let bag : source_in (instance_read m session ids) place ≡ rows_read m session id =
@@ -137,7 +138,8 @@ module _ (s : Stored) (m : Machine) (session : ℕ) (reached : IsReached s m) wh
       → (target_at names name).findings.wrong_kind ≡ None → IsFound (target_at names name)
   target_found name known kinds = by_found (named names name) refl known kinds
     where
-      by_found : (found : Option Named) → named names name ≡ found → (target_of name found).findings.unknown_object ≡ None
+      by_found : (found : Option Named) → named names name ≡ found →
+          (target_of name found).findings.unknown_object ≡ None
           → (target_of name found).findings.wrong_kind ≡ None → IsFound (target_of name found)
       by_found None is known kinds = absurd cc
       by_found (Some object) is known kinds =
@@ -181,7 +183,7 @@ module _ (s : Stored) (m : Machine) (session : ℕ) (reached : IsReached s m) wh
       by_test true is rest = (h.0 is, rest)
       by_test false is rest = rest
 
-  given_fits : (t : Target) (found : IsFound t) (streams : List ℕ) (change : Change) (o : effects.Outcome)
+  given_fits : (t : Target) (found : IsFound t) (streams : List ℕ) (change : Modification) (o : effects.EffectResult)
       → AllByRecursion (FoundAt IsLiveStream s.objects) streams → OutcomeFits t.columns o
       → ChangedFits s.objects (given t.id streams change o)
   given_fits t found streams change effects.Undefined live fits = tt
@@ -215,12 +217,15 @@ module _ (s : Stored) (m : Machine) (session : ℕ) (reached : IsReached s m) wh
       let there : table_at (objects_seen m session) b.target ≡ Some sees.table =
       ap (λ (id : ℕ). table_at (objects_seen m session) id) good.target ∙ sees.there in
       let rows : AllByRecursion (λ entry. FitsTypes (types_of t.columns) entry.1) (rows_seen sees.table) =
-      subst (λ (columns : List Column). AllByRecursion (λ entry. FitsTypes (types_of columns) entry.1) (rows_seen sees.table))
+      subst (λ (columns : List Column). AllByRecursion (λ entry. FitsTypes (types_of columns) entry.1)
+      (rows_seen sees.table))
       (sym found.columns) (target_rows t.id found.table.columns sees) in
       let fits : OutcomeFits t.columns (effect b.change (rows_seen sees.table) (instance_read m session b.sources)) =
-      good.effect nothing.is_mistyped (instance_read m session b.sources) (instance_fits b.sources) (rows_seen sees.table)
+      good.effect nothing.is_mistyped (instance_read m session b.sources) (instance_fits b.sources)
+      (rows_seen sees.table)
       rows in
-      let streams : AllByRecursion (FoundAt IsLiveStream s.objects) (streams_read m b) = among_live b.sources good.sources in
+      let streams : AllByRecursion (FoundAt IsLiveStream s.objects) (streams_read m b) =
+      among_live b.sources good.sources in
       subst (λ (u : Option Table). ChangedFits s.objects
       (given_on (streams_read m b) (instance_read m session b.sources) b u)) (sym there)
       (subst (λ (id : ℕ). ChangedFits s.objects (given id (streams_read m b) b.change
@@ -242,7 +247,9 @@ module _ (s : Stored) (m : Machine) (session : ℕ) (reached : IsReached s m) wh
           (table_at (objects_seen m session) (bound_change names x).target)))
       by_refusal (Some why) is = tt
       by_refusal None is =
-          let names_pass = passed (naming_refusal (bound_change names x).findings (bound_change names x).is_wide) _ is in
-          let types_pass = passed (option_map refusal_of (naming.first_failing (bound_change names x).findings)) _ names_pass.0 in
+          let names_pass = passed (naming_refusal (bound_change names x).findings
+          (bound_change names x).is_wide) _ is in
+          let types_pass = passed (option_map refusal_of (naming.first_failing (bound_change names x).findings)) _
+          names_pass.0 in
           well_given x good.0 good.1
           (no_map refusal_of (naming.first_failing (bound_change names x).findings) types_pass.0)

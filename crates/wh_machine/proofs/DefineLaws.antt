@@ -18,7 +18,8 @@ use Rattle.wh_naming.specs.Findings.{Findings, Failing, UnknownName, NameTaken, 
 use Rattle.wh_naming.specs.Scope.{ObjectKind, TableObject, Named, named}
 use Rattle.wh_ddl_naming.specs.Meant.{Meant, first_failing}
 use Rattle.wh_ddl_naming.specs.Objects.{Names, of_kind, is_same_kind, found_where, object_of, taken_name}
-use Rattle.wh_ddl_naming.specs.Tables.{NewTable, new_table, column_names, column_findings, replace_findings, bound_table}
+use Rattle.wh_ddl_naming.specs.Tables.{NewTable, new_table, column_names, column_findings, replace_findings}
+use Rattle.wh_ddl_naming.specs.Tables.{bound_table}
 use Rattle.wh_ddl_naming.specs.Streams.{NewStream, bound_stream}
 use Rattle.wh_reply.specs.Reply.{Refusal, Reply, OverLimit, Locked, DdlInTransaction, CreatedTable, CreatedStream}
 use Rattle.wh_state.specs.State.{State, Object, at_id, put_at, changed_at, dropped, live_count}
@@ -125,7 +126,8 @@ passes_table s wrong n none =
     let names = passed wrong _ none in
     let ids = passed (refused_past limits.ObjectIds (length s.objects + 1)) _ names.1 in
     let live = passed (refused_past limits.Objects (live_count s.objects + 1 - one_if n.replaced)) _ ids.1 in
-    let long = passed (refused_if (list_any is_long (n.name ∷ column_names n.columns)) (OverLimit limits.Name)) _ live.1 in
+    let long = passed (refused_if (list_any is_long (n.name ∷ column_names n.columns))
+    (OverLimit limits.Name)) _ live.1 in
     let short = neither (is_long n.name) (list_any is_long (column_names n.columns))
     (none_if (list_any is_long (n.name ∷ column_names n.columns)) (OverLimit limits.Name) long.0) in
     let wide = passed (refused_past limits.Columns (length n.columns)) _ long.1 in
@@ -178,7 +180,8 @@ works_table_made s m n None is reached passes filled (nothing free) none =
     one_is : one_if n.replaced ≡ 0
     one_is = ap one_if is
 works_table_made s m n (Some id) is reached passes filled (one o there live free) none =
-    works_defined s m (CreatedTable n.name) (DropsObject id ∷ MakesTable n.name n.columns (retention_of n) ∷ []) id reached
+    works_defined s m (CreatedTable n.name)
+    (DropsObject id ∷ MakesTable n.name n.columns (retention_of n) ∷ []) id reached
     none (refl, (tt, tt)) (
       found_some (λ o. IsTrue o.is_live) s.objects id o there live,
       (
@@ -270,7 +273,8 @@ placed s m kind name reached none = by_found (named (names_from 1 m.state.object
           there = o.there;
           live = o.live;
           kind_is = ap (λ (k : ObjectKind). is_same_kind k kind) (sym o.kind)
-              ∙ not_false (of_kind kind found) (no_name (not (of_kind kind found)) name (nothing_fails _ none).wrong_kind);
+              ∙ not_false (of_kind kind found)
+              (no_name (not (of_kind kind found)) name (nothing_fails _ none).wrong_kind);
         }
       where
         not_false : (b : Bool) → not b ≡ false → b ≡ true
@@ -301,7 +305,8 @@ passes_stream s wrong n none =
       ),
     )
 
-pub works_stream : (s : Stored) (m : Machine) (session : ℕ) (name table : List ℕ) (is_append_only : Bool) → IsReached s m
+pub works_stream : (s : Stored) (m : Machine) (session : ℕ) (name table : List ℕ) (is_append_only : Bool)
+    → IsReached s m
     → 0 < length name
     → Works s m (defines m session None
     (create_stream m

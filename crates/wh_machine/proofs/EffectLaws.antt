@@ -13,18 +13,20 @@ use Rattle.wh_meaning.specs.Query.{values_on}
 use Rattle.wh_naming.specs.Changes.{BoundClause, UpdateMatched, DeleteMatched, InsertUnmatched}
 use Rattle.wh_effect.specs.Effect as effects
 use Rattle.wh_effect.specs.Effect.{Effect, Turn, Stays, Goes, Becomes, becomes, turn_where, with_turn, turned, updated}
-use Rattle.wh_effect.specs.Effect.{deleted, with_row, rows_of, rows_over, adds, inserts_over, no_effect, defined, selected}
+use Rattle.wh_effect.specs.Effect.{deleted, with_row, rows_of, rows_over, adds, inserts_over, no_effect, defined}
+use Rattle.wh_effect.specs.Effect.{selected}
 use Rattle.wh_effect.specs.Effect.{condition_of, matched_clauses, unmatched_clauses, is_matched, is_unmatched, pairs_of}
 use Rattle.wh_effect.specs.Effect.{is_selecting, selecting, target_rows, is_alone, unmatched, turn_by, merged_turn}
 use Rattle.wh_effect.specs.Effect.{inserted_by, with_inserted, inserted, with_added, unless_several, first_several}
 use Rattle.wh_effect.specs.Effect.{is_merge_defined, merged_by, merged}
 use Rattle.wh_state.proofs.AllLaws.{all_append, all_filter}
-use Rattle.wh_machine.proofs.ValueTypes.{FitsTypes, CellsFit, type_at, cells_fit, fits_append, head_type, types_of, fits_row}
+use Rattle.wh_machine.proofs.ValueTypes.{FitsTypes, CellsFit, type_at, cells_fit, fits_append, head_type, types_of}
+use Rattle.wh_machine.proofs.ValueTypes.{fits_row}
 use Rattle.wh_machine.proofs.QueryRows.{values_fit}
 use Rattle.wh_machine.proofs.GroupedLaws.{AllUnder, all_under_fits}
 use Rattle.wh_machine.proofs.StageLaws.{EffectFits}
 
-abbrev pub OutcomeFits : List table.Column → effects.Outcome → Type 0
+abbrev pub OutcomeFits : List table.Column → effects.EffectResult → Type 0
 OutcomeFits columns effects.Undefined = Unit {0}
 OutcomeFits columns (effects.Ambiguous row) = Unit {0}
 OutcomeFits columns (effects.Does e) = EffectFits columns e
@@ -56,7 +58,8 @@ with_row_fit columns (Some row) (Some others) h k rows is =
 nothing_fits : (columns : List table.Column) (rows : List Row) → Some [] ≡ Some rows → AllByRecursion (Fit columns) rows
 nothing_fits columns rows is = let same : [] ≡ rows = cc in subst (AllByRecursion (Fit columns)) same tt
 
-rows_of_fit : (columns : List table.Column) (found : List (List Scalar)) → AllByRecursion (PartsFit columns (type_at [])) found
+rows_of_fit : (columns : List table.Column) (found : List (List Scalar)) →
+    AllByRecursion (PartsFit columns (type_at [])) found
     → RowsFit columns (rows_of found)
 rows_of_fit columns [] h rows is = nothing_fits columns rows is
 rows_of_fit columns (parts ∷ others) h rows is =
@@ -72,7 +75,8 @@ rows_over_fit columns types parts under (row ∷ others) h rows is =
     (parts_give columns (type_at types) parts row (cells_fit types row h.0) under)
     (rows_over_fit columns types parts under others h.1) rows is
 
-adds_fit : (columns : List table.Column) (rows : Option (List Row)) → RowsFit columns rows → OutcomeFits columns (adds rows)
+adds_fit : (columns : List table.Column) (rows : Option (List Row)) → RowsFit columns rows →
+    OutcomeFits columns (adds rows)
 adds_fit columns None h = tt
 adds_fit columns (Some rows) h = record { changed = tt; added = h rows refl }
 
@@ -111,7 +115,8 @@ with_turn_fit columns entry (Some Goes) (Some r) h k = record {
 }
 with_turn_fit columns entry (Some (Becomes row)) (Some r) h k = record {
   changed = λ e is. let same : record r { changed = (entry.0, row) ∷ r.changed } ≡ e = cc in
-      subst (λ (x : Effect). AllByRecursion (λ entry. Fit columns entry.1) x.changed) same (h row refl, k.changed r refl);
+      subst (λ (x : Effect). AllByRecursion (λ entry. Fit columns entry.1) x.changed) same
+      (h row refl, k.changed r refl);
   added = λ e is. let same : record r { changed = (entry.0, row) ∷ r.changed } ≡ e = cc in
       subst (λ (x : Effect). AllByRecursion (Fit columns) x.added) same (k.added r refl);
 }
@@ -126,7 +131,8 @@ turned_fit columns P turn so [] h = record {
       subst (λ (x : Effect). AllByRecursion (Fit columns) x.added) same tt;
 }
 turned_fit columns P turn so (entry ∷ rest) h =
-    with_turn_fit columns entry (turn entry.1) (turned turn rest) (so entry.1 h.0) (turned_fit columns P turn so rest h.1)
+    with_turn_fit columns entry (turn entry.1) (turned turn rest) (so entry.1 h.0)
+    (turned_fit columns P turn so rest h.1)
 
 defined_fit : (columns : List table.Column) (found : Option Effect) → ChangesOf columns found
     → OutcomeFits columns (defined found)
@@ -147,7 +153,8 @@ where_fit columns (Some v) turn h new given = by_test (is_true v) new given
     by_test true new is = h new is
     by_test false new is = absurd cc
 
-pub updates_fit : (columns : List table.Column) (types : List (Option ColumnType)) (condition : Scalar) (parts : List Scalar)
+pub updates_fit : (columns : List table.Column) (types : List (Option ColumnType)) (condition : Scalar)
+    (parts : List Scalar)
     → PartsFit columns (type_at types) parts → (target : List (ℕ × Row))
     → AllByRecursion (λ entry. FitsTypes types entry.1) target
     → OutcomeFits columns (defined (turned (updated condition parts) target))
@@ -200,11 +207,13 @@ turn_by_fit columns ts us (Some (UpdateMatched condition parts)) h pair fits new
     (parts_give columns (type_at (ts ++ us)) parts pair (cells_fit (ts ++ us) pair fits) h) new is
 
 merged_turn_fit : (columns : List table.Column) (ts us : List (Option ColumnType)) (clauses : List BoundClause)
-    → AllByRecursion (ClauseFits columns ts us) clauses → (pairs : List Row) → AllByRecursion (FitsTypes (ts ++ us)) pairs
+    → AllByRecursion (ClauseFits columns ts us) clauses → (pairs : List Row) →
+    AllByRecursion (FitsTypes (ts ++ us)) pairs
     → TurnFits columns (merged_turn clauses pairs)
 merged_turn_fit columns ts us clauses h [] fits new is = absurd cc
 merged_turn_fit columns ts us clauses h (pair ∷ others) fits new is =
-    turn_by_fit columns ts us (selected clauses pair) (selected_fits (ClauseFits columns ts us) clauses h pair) pair fits.0
+    turn_by_fit columns ts us (selected clauses pair)
+    (selected_fits (ClauseFits columns ts us) clauses h pair) pair fits.0
     new is
 
 pairs_fit : (ts us : List (Option ColumnType)) (t : Row) → FitsTypes ts t → (source : List Row)
@@ -255,12 +264,13 @@ with_added_fit columns (Some rows) (Some r) h k = record {
       subst (λ (x : Effect). AllByRecursion (Fit columns) x.added) same (h rows refl);
 }
 
-several_fit : (columns : List table.Column) (row : Option Row) (o : effects.Outcome) → OutcomeFits columns o
+several_fit : (columns : List table.Column) (row : Option Row) (o : effects.EffectResult) → OutcomeFits columns o
     → OutcomeFits columns (unless_several row o)
 several_fit columns None o h = h
 several_fit columns (Some row) o h = tt
 
-pub merges_fit : (columns : List table.Column) (ts us : List (Option ColumnType)) (on : Scalar) (clauses : List BoundClause)
+pub merges_fit : (columns : List table.Column) (ts us : List (Option ColumnType)) (on : Scalar)
+    (clauses : List BoundClause)
     → AllByRecursion (ClauseFits columns ts us) clauses → (target : List (ℕ × Row))
     → AllByRecursion (λ entry. FitsTypes ts entry.1) target → (source : Option (List Row))
     → ((rows : List Row) → source ≡ Some rows → AllByRecursion (FitsTypes us) rows)

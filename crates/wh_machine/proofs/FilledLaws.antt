@@ -10,7 +10,8 @@ use Rattle.wh_value.specs.declared.column.Column.{Column}
 use Rattle.wh_ast.specs.declared.statement.Statement.{Statement}
 use Rattle.wh_grammar.specs.Token.{Token, Word, Quoted, Placed}
 use Rattle.wh_grammar.specs.Lexing as lexing
-use Rattle.wh_grammar.specs.Lexing.{IsBare, IsEnclosed, IsSign, IsToken, bare, enclosed, signed, HasTokens, end, gap, token}
+use Rattle.wh_grammar.specs.Lexing.{IsBare, IsEnclosed, IsSign, IsToken, bare, enclosed, signed, HasTokens, end, gap}
+use Rattle.wh_grammar.specs.Lexing.{token}
 use Rattle.wh_grammar.specs.Name as names
 use Rattle.wh_grammar.specs.Name.{IsName}
 use Rattle.wh_grammar.specs.Parts.{AreColumns, last_column, more_columns, MayReplace, no_replace, or_replace}
@@ -40,7 +41,8 @@ some_bytes [] none = absurd (none refl)
 some_bytes (b ∷ bytes) none = omega arith
 
 bare_filled : (bytes rest : List ℕ) (t : Token) → IsBare bytes t rest → TokenFilled t
-bare_filled bytes rest t (lexing.word b more is begins goes behind text t_is) = subst TokenFilled (sym t_is) (omega arith)
+bare_filled bytes rest t (lexing.word b more is begins goes behind text t_is) =
+    subst TokenFilled (sym t_is) (omega arith)
 bare_filled bytes rest t (lexing.number digits is some all few behind t_is) = subst TokenFilled (sym t_is) tt
 
 enclosed_filled : (bytes rest : List ℕ) (t : Token) → IsEnclosed bytes t rest → TokenFilled t

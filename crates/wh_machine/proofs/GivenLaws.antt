@@ -18,7 +18,8 @@ use Rattle.wh_naming.specs.Scope.{Entry, Place}
 use Rattle.wh_naming.specs.Typing.{alike}
 use Rattle.wh_naming.specs.Select.{plain}
 use Rattle.wh_naming.specs.Changes as changes
-use Rattle.wh_naming.specs.Changes.{places_from, place_in, given_places, place_type, fit_places, is_at, given_at, row_from}
+use Rattle.wh_naming.specs.Changes.{places_from, place_in, given_places, place_type, fit_places, is_at, given_at}
+use Rattle.wh_naming.specs.Changes.{row_from}
 use Rattle.wh_naming.specs.Changes.{changed_from, typed_all, new_row, NewRow, changed_row, set_findings, outputs_from}
 use Rattle.wh_machine.proofs.ValueTypes.{type_or, type_at, head_type, types_of}
 use Rattle.wh_machine.proofs.TypedLaws.{Under, entry_types, typed_under, column_type_at, column_got, get_front}
@@ -42,7 +43,8 @@ alike_under (Some s) (Some t) c under is = under ∙ ap Some (sym (same_types c 
 
 given_under : (env : ℕ → Option ColumnType) (all : List (Option ColumnType)) (place : ℕ) (c : ColumnType)
     (places : List (Option Place)) (scalars : List Scalar) (types : List (Option ColumnType)) (otherwise : Scalar)
-    → AllUnder (map (head_type env) scalars) types → fit_places places types ≡ true → AllByRecursion (PlaceOk all) places
+    → AllUnder (map (head_type env) scalars) types → fit_places places types ≡ true →
+    AllByRecursion (PlaceOk all) places
     → type_at all place ≡ Some c → Under (head_type env otherwise) (Some c)
     → Under (head_type env (given_at place places scalars otherwise)) (Some c)
 given_under env all place c [] scalars types otherwise under fit ok at else_ = else_
@@ -82,14 +84,16 @@ shifted : (t : Option ColumnType) (all : List (Option ColumnType)) (place : ℕ)
 shifted t all place [] stand = tt
 shifted t all place (c ∷ cs) stand = (stand.0, shifted t all (suc place) cs stand.1)
 
-pub all_stand : (columns : List table.Column) (more : List (Option ColumnType)) → Stand (types_of columns ++ more) 0 columns
+pub all_stand : (columns : List table.Column) (more : List (Option ColumnType)) →
+    Stand (types_of columns ++ more) 0 columns
 all_stand [] more = tt
 all_stand (c ∷ cs) more = (refl, shifted (Some c.column_type) (types_of cs ++ more) 0 cs (all_stand cs more))
 
 -- a new row
 pub row_under : (env : ℕ → Option ColumnType) (all : List (Option ColumnType)) (place : ℕ) (columns : List table.Column)
     (places : List (Option Place)) (scalars : List Scalar) (types : List (Option ColumnType))
-    → AllUnder (map (head_type env) scalars) types → fit_places places types ≡ true → AllByRecursion (PlaceOk all) places
+    → AllUnder (map (head_type env) scalars) types → fit_places places types ≡ true →
+    AllByRecursion (PlaceOk all) places
     → Stand all place columns
     → AllUnder (map (head_type env) (row_from place columns places scalars)) (types_of columns)
 row_under env all place [] places scalars types under fit ok stand = tt
@@ -99,9 +103,11 @@ row_under env all place (c ∷ cs) places scalars types under fit ok stand = (
 )
 
 -- a changed row, over rows that begin with the columns
-pub changed_under : (env : ℕ → Option ColumnType) (all : List (Option ColumnType)) (place : ℕ) (columns : List table.Column)
+pub changed_under : (env : ℕ → Option ColumnType) (all : List (Option ColumnType)) (place : ℕ)
+    (columns : List table.Column)
     (places : List (Option Place)) (scalars : List Scalar) (types : List (Option ColumnType))
-    → AllUnder (map (head_type env) scalars) types → fit_places places types ≡ true → AllByRecursion (PlaceOk all) places
+    → AllUnder (map (head_type env) scalars) types → fit_places places types ≡ true →
+    AllByRecursion (PlaceOk all) places
     → Stand all place columns → ((n : ℕ) → env n ≡ type_at all n)
     → AllUnder (map (head_type env) (changed_from place columns places scalars)) (types_of columns)
 changed_under env all place [] places scalars types under fit ok stand same = tt
@@ -177,7 +183,8 @@ true_of true is = refl
 true_of false is = absurd cc
 
 -- a new row of values
-pub new_row_under : (columns : List table.Column) (listed : Option (List Name)) (entries : List Entry) (values : List Expr)
+pub new_row_under : (columns : List table.Column) (listed : Option (List Name)) (entries : List Entry)
+    (values : List Expr)
     → (new_row columns (given_places columns listed) (typed_all entries values)).findings.is_mistyped ≡ false
     → AllUnder (map (head_type (type_at (entry_types entries)))
     (new_row columns (given_places columns listed) (typed_all entries values)).scalars) (types_of columns)
@@ -193,7 +200,8 @@ new_row_under columns listed entries values well =
 
 pub parts_fit : (columns : List table.Column) (entries : List Entry) (parts : List Assignment)
     → (set_findings columns entries parts).is_mistyped ≡ false
-    → fit_places (map (λ part. place_in columns part.column) parts) (map (λ part. (plain entries part.value).type_of) parts)
+    → fit_places (map (λ part. place_in columns part.column) parts)
+    (map (λ part. (plain entries part.value).type_of) parts)
     ≡ true
 parts_fit columns entries [] well = refl
 parts_fit columns entries (part ∷ parts) well =

@@ -42,7 +42,8 @@ module _ {X : Type 0} where
       let parts = both_hold (is_lt (nat_cmp n e.0)) (below_all nat_cmp n es) h in
       (less_is n e.0 parts.0, above n es parts.1)
 
-  entries_found : (es : List (ℕ × X)) → T (is_sorted nat_cmp es) → AllByRecursion (λ e. find nat_cmp e.0 es ≡ Some e.1) es
+  entries_found : (es : List (ℕ × X)) → T (is_sorted nat_cmp es) →
+      AllByRecursion (λ e. find nat_cmp e.0 es ≡ Some e.1) es
   entries_found [] h = tt
   entries_found (e ∷ es) h =
       let parts = both_hold (below_all nat_cmp e.0 es) (is_sorted nat_cmp es) h in

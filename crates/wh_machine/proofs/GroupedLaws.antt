@@ -83,7 +83,8 @@ position_found test xs place is = by_test (nat_lt k (length xs)) refl is
         subst (λ (n : ℕ). (x : Scalar) × ((slice_get xs n ≡ Some x) × (test x ≡ true))) same (first_found test xs below)
     by_test false less is = absurd cc
 
-map_get_some : (f : Scalar → Option ColumnType) (xs : List Scalar) (place : ℕ) (x : Scalar) → slice_get xs place ≡ Some x
+map_get_some : (f : Scalar → Option ColumnType) (xs : List Scalar) (place : ℕ) (x : Scalar) →
+    slice_get xs place ≡ Some x
     → slice_get (map f xs) place ≡ Some (f x)
 map_get_some f [] place x is = absurd cc
 map_get_some f (y ∷ ys) zero x is = ap (option_map f) is
@@ -149,7 +150,8 @@ module _ (types : ℕ → Option ColumnType) (width : ℕ)
           ap type_or (get_behind (map (head_type types) keys) (number_types calls) (length keys + (place - width))
           (place - width) (omega (arith, mapped_length (head_type types) keys)))
           ∙ numbers_only calls (place - width) in
-          subst (λ (x : Scalar). GroupedAs (Column place) x) same (subst (λ (t : Option ColumnType). Under t (types place))
+          subst (λ (x : Scalar). GroupedAs (Column place) x) same
+          (subst (λ (t : Option ColumnType). Under t (types place))
           (sym there) (sym here))
 
   one_under : (s : Scalar) (make : Scalar → Scalar) (found : Option Scalar)
@@ -197,6 +199,7 @@ module _ (types : ℕ → Option ColumnType) (width : ℕ)
   or_under s (Some new) is = regrouped_under s new is
 
   pub all_regrouped : (scalars : List Scalar)
-      → AllUnder (map (head_type (type_at group_types)) (regrouped_all keys width scalars)) (map (head_type types) scalars)
+      → AllUnder (map (head_type (type_at group_types)) (regrouped_all keys width scalars))
+      (map (head_type types) scalars)
   all_regrouped [] = tt
   all_regrouped (s ∷ ss) = (or_under s (regrouped keys width s) refl, all_regrouped ss)

@@ -47,14 +47,16 @@ none_named id [] name none = tt
 none_named id (o ∷ os) name none = by_live o.is_live refl none (none_named (suc id) os name)
   where
     by_name : (same : Bool) → bytes_eq o.name name ≡ same
-        → cond same (Some (named_object id (object_meant o))) (named (names_from (suc id) (map object_meant os)) name) ≡ None
+        → cond same (Some (named_object id (object_meant o)))
+        (named (names_from (suc id) (map object_meant os)) name) ≡ None
         → (named (names_from (suc id) (map object_meant os)) name ≡ None → AllByRecursion (HasNot name) os)
         → (bytes_eq o.name name ≡ false) × AllByRecursion (HasNot name) os
     by_name true is none rest = absurd cc
     by_name false is none rest = (is, rest none)
 
     by_live : (live : Bool) → o.is_live ≡ live
-        → named (cond live (named_object id (object_meant o) ∷ []) [] ++ names_from (suc id) (map object_meant os)) name ≡ None
+        → named (cond live (named_object id (object_meant o) ∷ []) []
+        ++ names_from (suc id) (map object_meant os)) name ≡ None
         → (named (names_from (suc id) (map object_meant os)) name ≡ None → AllByRecursion (HasNot name) os)
         → ((o.is_live && bytes_eq o.name name) ≡ false) × AllByRecursion (HasNot name) os
     by_live false is none rest = (rw is refl, rest none)
@@ -110,7 +112,8 @@ named_from from (o ∷ os) name found is = by_live o.is_live refl is (named_from
     }
 
     by_name : (same : Bool) → bytes_eq o.name name ≡ same → o.is_live ≡ true
-        → cond same (Some (named_object from (object_meant o))) (named (names_from (suc from) (map object_meant os)) name)
+        → cond same (Some (named_object from (object_meant o)))
+        (named (names_from (suc from) (map object_meant os)) name)
         ≡ Some found
         → (named (names_from (suc from) (map object_meant os)) name ≡ Some found → IsNamed (suc from) os name found)
         → IsNamed from (o ∷ os) name found
@@ -118,7 +121,8 @@ named_from from (o ∷ os) name found is = by_live o.is_live refl is (named_from
     by_name false same live is rest = later (rw live same) (rest is)
 
     by_live : (live : Bool) → o.is_live ≡ live
-        → named (cond live (named_object from (object_meant o) ∷ []) [] ++ names_from (suc from) (map object_meant os)) name
+        → named (cond live (named_object from (object_meant o) ∷ []) []
+        ++ names_from (suc from) (map object_meant os)) name
         ≡ Some found
         → (named (names_from (suc from) (map object_meant os)) name ≡ Some found → IsNamed (suc from) os name found)
         → IsNamed from (o ∷ os) name found
@@ -147,6 +151,7 @@ object_named objects name found is =
       kind = n.kind;
       columns = n.columns;
       free = λ apart. subst (λ (id : ℕ). AllByRecursion (HasNot name) (changed_at objects id dropped)) id
-          (subst (λ (f : Option StoredObject). AllByRecursion (HasNot name) (put_at objects (suc n.place) (option_map dropped f)))
+          (subst (λ (f : Option StoredObject). AllByRecursion (HasNot name)
+          (put_at objects (suc n.place) (option_map dropped f)))
           (sym n.there) (n.free apart));
     }

@@ -10,7 +10,7 @@ use Rattle.wh_grammar.specs.Spelled.{Request, TooLong, Unreadable, Asked}
 use Rattle.wh_meaning.specs.Bag.{Bag}
 use Rattle.wh_meaning.specs.Query.{eval}
 use Rattle.wh_meaning.specs.Listing.{listed}
-use Rattle.wh_naming.specs.Changes.{BoundChange, Change, InsertRows, InsertQuery, Update, Delete, Merge}
+use Rattle.wh_naming.specs.Changes.{BoundChange, Modification, InsertRows, InsertQuery, Update, Delete, Merge}
 use Rattle.wh_naming.specs.Select.{BoundSelect}
 use Rattle.wh_effect.specs.Effect as effects
 use Rattle.wh_effect.specs.Effect.{Effect}
@@ -80,7 +80,7 @@ definition m session old o holds = tested m _ _ (tested_last m _ _ holds)
 
 -- ---- changes of rows
 
-no_refusal : (change : Change) (e : Effect) → is_refusal (reply_to change e) ≡ false
+no_refusal : (change : Modification) (e : Effect) → is_refusal (reply_to change e) ≡ false
 no_refusal (InsertRows rows) e = refl
 no_refusal (InsertQuery query parts) e = refl
 no_refusal (Update condition parts) e = refl
@@ -117,7 +117,7 @@ none_locked None (Some why) found none = absurd cc
 none_locked None None (Some number) none = absurd cc
 none_locked None None None none = refl
 
-given_free : (m : Machine) (session id : ℕ) (streams : List ℕ) (change : Change) (o : effects.Outcome)
+given_free : (m : Machine) (session id : ℕ) (streams : List ℕ) (change : Modification) (o : effects.EffectResult)
     → first_locked m.sessions session streams ≡ None → IsFree m session streams (given id streams change o)
 given_free m session id streams change effects.Undefined free = tt
 given_free m session id streams change (effects.Ambiguous row) free = tt

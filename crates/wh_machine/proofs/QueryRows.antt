@@ -11,7 +11,8 @@ use Rattle.wh_meaning.specs.Scalar.{Scalar, val, is_true, of_one, of_two}
 use Rattle.wh_meaning.specs.Bag.{Bag, no_rows, one_row}
 use Rattle.wh_meaning.specs.Query.{Call, Sum, CountRows, Count, Query, Filter, Project, Join, UnionAll, Group, Instance}
 use Rattle.wh_meaning.specs.Query.{if_true, kept_by, with_value, values_on, image_by, filtered, projected, paired_with}
-use Rattle.wh_meaning.specs.Query.{joined, Total, total_of, rows_in, sum_value, call_over, calls_over, with_key, group_row}
+use Rattle.wh_meaning.specs.Query.{joined, Total, total_of, rows_in, sum_value, call_over, calls_over, with_key}
+use Rattle.wh_meaning.specs.Query.{group_row}
 use Rattle.wh_meaning.specs.Query.{group_rows, distinct, grouped, eval}
 use Rattle.wh_machine.proofs.BagRows.{AllRows, GivesAll, all_none, all_one, beside_all, all_gathered, all_keys}
 use Rattle.wh_machine.proofs.ValueTypes.{FitsTypes, CellsFit, type_at, cells_fit, fits_append, head_type, val_fits}
@@ -133,7 +134,8 @@ call_gives b (Sum e) = total_gives _ (total_of e b) (λ t. sum_gives t.sum t.val
 call_gives b CountRows = ranged_gives (pos (rows_in b))
 call_gives b (Count e) = total_gives _ (total_of e b) (λ t. ranged_gives (pos t.values))
 
-calls_fit : (b : Bag) (calls : List Call) (row : Row) → calls_over b calls ≡ Some row → FitsTypes (number_types calls) row
+calls_fit : (b : Bag) (calls : List Call) (row : Row) → calls_over b calls ≡ Some row →
+    FitsTypes (number_types calls) row
 calls_fit b [] row is = let same : [] ≡ row = cc in subst (FitsTypes []) same tt
 calls_fit b (c ∷ cs) row is = by_both (call_over b c) refl (calls_over b cs) refl is (calls_fit b cs)
   where
@@ -159,7 +161,8 @@ group_gives kts by calls b key h = by_values (calls_over (with_key by key b) cal
         (fits_append kts (number_types calls) key values h (calls_fit (with_key by key b) calls values is)) c some
 
 groups_give : (kts : List (Option ColumnType)) (by : List Scalar) (calls : List Call) (b : Bag) (found : List Row)
-    → AllByRecursion (FitsTypes kts) found → GivesAll (FitsTypes (kts ++ number_types calls)) (group_rows by calls b found)
+    → AllByRecursion (FitsTypes kts) found →
+    GivesAll (FitsTypes (kts ++ number_types calls)) (group_rows by calls b found)
 groups_give kts by calls b [] h c is =
     let same : no_rows ≡ c = cc in subst (AllRows (FitsTypes (kts ++ number_types calls))) same
     (all_none (FitsTypes (kts ++ number_types calls)))
@@ -173,7 +176,8 @@ distinct_fit : (types : ℕ → Option ColumnType) (by : List Scalar) (keyed : B
 distinct_fit types [] keyed h = (tt, tt)
 distinct_fit types (e ∷ es) keyed h = all_keys (FitsTypes (map (head_type types) (e ∷ es))) keyed h
 
-pub rows_group : (types : List (Option ColumnType)) (q : Query) (by : List Scalar) (calls : List Call) (instance : Instance)
+pub rows_group : (types : List (Option ColumnType)) (q : Query) (by : List Scalar) (calls : List Call)
+    (instance : Instance)
     → GivesAll (FitsTypes types) (eval q instance)
     → GivesAll (FitsTypes (map (head_type (type_at types)) by ++ number_types calls)) (eval (Group q by calls) instance)
 unfolding eval

@@ -104,7 +104,8 @@ works_asked s m session id (Some stream) reached =
     works_unless s m (reading_refusal m.state.objects m.state.last (id ∷ [])) _ reached (λ none.
     works_answers s m (HasData (has_rows (rows_shown m.state.objects stream (start_in m session)))) reached)
 
-works_select : (s : Stored) (m : Machine) (session : ℕ) (b : BoundSelect) → IsReached s m → Works s m (selects m session b)
+works_select : (s : Stored) (m : Machine) (session : ℕ) (b : BoundSelect) → IsReached s m →
+    Works s m (selects m session b)
 unfolding selects
 works_select s m session b reached =
     works_unless s m (select_refusal m b) _ reached (λ none.
@@ -124,7 +125,8 @@ unfolding ddl.bound carried_out commit rollback changes_rows drop_table drop_str
 works_statement s m session (st.Select q sorts) filled reached =
     works_select s m session (bound_select (names_from 1 m.state.objects) q sorts) reached
 works_statement s m session (st.HasData stream) filled reached =
-    works_data s m session (option_map refusal_of (first_failing (object_of StreamObject (names_in m.state.objects) stream)))
+    works_data s m session (option_map refusal_of
+    (first_failing (object_of StreamObject (names_in m.state.objects) stream)))
     (object_of StreamObject (names_in m.state.objects) stream).value reached
 works_statement s m session (st.Dml statement) filled reached =
     works_changes s m session (transaction_in m.sessions session) refl

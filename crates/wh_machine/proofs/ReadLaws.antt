@@ -9,7 +9,7 @@ use Rattle.std.specs.Prelude.{max, nat_eq, nat_lt, ◌||◌}
 use Rattle.std.specs.List.{list_any}
 use Rattle.std.proofs.lemmas.Bool.Decides.{nat_tests}
 use Rattle.wh_meaning.specs.Bag.{bag_of}
-use Rattle.wh_naming.specs.Changes.{Change}
+use Rattle.wh_naming.specs.Changes.{Modification}
 use Rattle.wh_effect.specs.Effect.{Effect}
 use Rattle.wh_reply.specs.Reply.{Refusal, Reply, is_refusal}
 use Rattle.wh_state.specs.State.{Kind, TableKind, StreamKind, Object, Stream, at_id, with_offset}
@@ -84,7 +84,7 @@ recorded_moves m reply sessions t id s at among accepted = by_refusal (commit_re
     by_refusal None accepted = by_streams t.streams among
 
 -- a change outside of a transaction
-pub change_moves : (m : Machine) (session target : ℕ) (streams : List ℕ) (change : Change) (e : Effect) (id : ℕ)
+pub change_moves : (m : Machine) (session target : ℕ) (streams : List ℕ) (change : Modification) (e : Effect) (id : ℕ)
     (s : Stream) → transaction_in m.sessions session ≡ None
     → stream_at m.state.objects id ≡ Some s → list_any (nat_eq id) streams ≡ true
     → is_refusal (settled m (changes_in m session None (Gives target streams change e))).1 ≡ false

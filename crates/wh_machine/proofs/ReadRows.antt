@@ -107,7 +107,8 @@ between_fits columns false t from to h =
     net_fits columns (rows_at t from) (rows_at t to) (at_fits columns t from h) (at_fits columns t to h)
 between_fits columns true t from to h = appended_fit columns [] from to t.versions h
 
-changes_fit : (columns : List Column) (t : Table) (s : Stream) (to : ℕ) → AllByRecursion (VersionRowsFit columns) t.versions
+changes_fit : (columns : List Column) (t : Table) (s : Stream) (to : ℕ) →
+    AllByRecursion (VersionRowsFit columns) t.versions
     → AllByRecursion (ChangeFits columns) (shown t s to)
 unfolding shown
 changes_fit columns t s to h = by_test (nat_le to s.offset)

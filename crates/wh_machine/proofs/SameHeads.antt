@@ -32,7 +32,8 @@ same_value Null Null same = refl
 same_place : (p q : ℕ) → nat_eq p q ≡ true → p ≡ q
 same_place p q test = grind (arith, nat_tests)
 
-pub same_head : (types : ℕ → Option ColumnType) (s t : Scalar) → is_same s t ≡ true → head_type types s ≡ head_type types t
+pub same_head : (types : ℕ → Option ColumnType) (s t : Scalar) → is_same s t ≡ true → head_type types s
+    ≡ head_type types t
 unfolding is_same
 same_head types (Const v) (Const v2) same = same_value v v2 same
 same_head types (Const v) (Column p2) same = absurd cc

@@ -63,7 +63,8 @@ flat_all columns (p ∷ ps) h =
 abbrev pub VersionRowsFit : List Column → Version → Type 0
 VersionRowsFit columns v = RowsFitIn columns v.content.rows
 
-pub versions_fit : (columns : List Column) (versions : List StoredVersion) → AllByRecursion (VersionFits columns) versions
+pub versions_fit : (columns : List Column) (versions : List StoredVersion) →
+    AllByRecursion (VersionFits columns) versions
     → AllByRecursion (VersionRowsFit columns) (map version_meant versions)
 versions_fit columns [] h = tt
 versions_fit columns (v ∷ vs) h = (
@@ -98,7 +99,8 @@ edited_fits columns stamp e t fit before =
     (after_fits columns t.next_row e (last_rows t) fit before)
 
 seen_get : (stamp from : ℕ) (tables : FinMap nat_cmp Staged) (objects : List Object) (place id : ℕ) → id ≡ from + place
-    → slice_get (seen_from stamp from tables objects) place ≡ option_map (with_own stamp (get tables id)) (slice_get objects place)
+    → slice_get (seen_from stamp from tables objects) place
+    ≡ option_map (with_own stamp (get tables id)) (slice_get objects place)
 seen_get stamp from tables [] place id is = refl
 seen_get stamp from tables (o ∷ os) zero id is =
     let same : from ≡ id = omega arith in ap (λ (n : ℕ). Some (with_own stamp (get tables n) o)) same
@@ -137,7 +139,8 @@ seen_fits s m session id o t reached there is =
 
     by_staged : (stamp : ℕ) (found : Option Staged)
         → ((st : Staged) → found ≡ Some st → EditsFit t.columns st.edits)
-        → (u : Table) × ((as_table (with_own stamp found (object_meant o)) ≡ Some u) × RowsFitIn t.columns (last_rows u))
+        → (u : Table) × ((as_table (with_own stamp found (object_meant o)) ≡ Some u)
+        × RowsFitIn t.columns (last_rows u))
     by_staged stamp None fit = (table_meant t, (rw kind_now refl, firm_rows t firm))
     by_staged stamp (Some st) fit = (
       edited_table stamp st.edits (table_meant t),

@@ -23,7 +23,8 @@ use Rattle.wh_naming.specs.Select.{projected, regrouped_all}
 use Rattle.wh_state.proofs.AllLaws.{all_map}
 use Rattle.wh_machine.proofs.BagRows.{GivesAll, AllRows}
 use Rattle.wh_machine.proofs.ValueTypes.{FitsTypes, type_or, type_at, head_type, types_of}
-use Rattle.wh_machine.proofs.TypedLaws.{Under, entry_types, typed_under, width_is, number_beyond, get_behind, types_length}
+use Rattle.wh_machine.proofs.TypedLaws.{Under, entry_types, typed_under, width_is, number_beyond, get_behind}
+use Rattle.wh_machine.proofs.TypedLaws.{types_length}
 use Rattle.wh_machine.proofs.QueryRows.{number_types, rows_project, rows_group}
 use Rattle.wh_machine.proofs.GroupedLaws.{AllUnder, all_under_fits, all_under_append, all_under_through}
 use Rattle.wh_machine.proofs.GroupedLaws.{all_regrouped}
@@ -100,14 +101,16 @@ spans_stand name from (e ∷ es) =
     joined : entry_types (e ∷ es) ≡ types_of e.columns ++ entry_types es
     joined = map-append (λ (c : table.Column). Some c.column_type) e.columns (all_columns es)
 
-    behind : (s : Span) → SpanStands (entry_types es) (from + length e.columns) s → SpanStands (entry_types (e ∷ es)) from s
+    behind : (s : Span) → SpanStands (entry_types es) (from + length e.columns) s →
+        SpanStands (entry_types (e ∷ es)) from s
     behind s at = (
       length e.columns + at.0,
       (
         omega (arith, at.1.0),
         λ k place t is there.
             ap (λ (ts : List (Option ColumnType)). slice_get ts place) joined
-            ∙ get_behind (types_of e.columns) (entry_types es) place (at.0 + k) (omega (arith, is, types_length e.columns))
+            ∙ get_behind (types_of e.columns) (entry_types es) place (at.0 + k)
+            (omega (arith, is, types_length e.columns))
             ∙ at.1.1 k (at.0 + k) t refl there,
       ),
     )
@@ -128,7 +131,8 @@ spans_stand name from (e ∷ es) =
     by_name : (same : Bool)
         → AllByRecursion (SpanStands (entry_types (e ∷ es)) from) (spans_of name (from + length e.columns) es)
         → AllByRecursion (SpanStands (entry_types (e ∷ es)) from)
-        (cond same ((record { from = from; columns = e.columns }) ∷ []) [] ++ spans_of name (from + length e.columns) es)
+        (cond same ((record { from = from; columns = e.columns }) ∷ []) []
+        ++ spans_of name (from + length e.columns) es)
     by_name true rest = (here, rest)
     by_name false rest = rest
 
@@ -152,7 +156,8 @@ item_under : (entries : List Entry) (shown : Shown) (item : Item) → ShownUnder
     → ShownUnder entries (shown_with entries shown item)
 item_under entries shown items.Star under =
     with_columns_under entries shown 0 (all_columns entries)
-    (λ k place t is there. let same : place ≡ k = omega arith in ap (slice_get (entry_types entries)) same ∙ there) under
+    (λ k place t is there. let same : place ≡ k = omega arith in ap (slice_get (entry_types entries)) same
+    ∙ there) under
 item_under entries shown (items.StarOf name) under = by_span (columns_of_entry name entries) refl
   where
     by_span : (found : Option Span) → columns_of_entry name entries ≡ found
@@ -161,7 +166,8 @@ item_under entries shown (items.StarOf name) under = by_span (columns_of_entry n
     by_span (Some s) is = with_columns_under entries shown s.from s.columns (span_stands name entries s is) under
 item_under entries shown (items.Expr e alias) under =
     with_item_under entries shown (output_name alias e (suc (length shown.outputs)))
-    (typed e (item_context entries) (length shown.calls)) (typed_under e (item_context entries) (length shown.calls)) under
+    (typed e (item_context entries) (length shown.calls))
+    (typed_under e (item_context entries) (length shown.calls)) under
 
 pub shown_under : (entries : List Entry) (shown : Shown) (found : List Item) → ShownUnder entries shown
     → ShownUnder entries (all_shown entries shown found)
@@ -191,5 +197,6 @@ core_rows entries q true keys shown instance under rows b is =
     let same : AllUnder (map (head_type (type_at kinds)) scalars) (output_types shown.outputs) =
     all_under_through (map (head_type (type_at kinds)) scalars) (heads entries shown.scalars)
     (output_types shown.outputs) (all_regrouped types (width entries) beyond keys shown.calls shown.scalars) under in
-    all_map (λ e. FitsTypes (map (head_type (type_at kinds)) scalars) e.0) (λ e. FitsTypes (output_types shown.outputs) e.0)
+    all_map (λ e. FitsTypes (map (head_type (type_at kinds)) scalars) e.0)
+    (λ e. FitsTypes (output_types shown.outputs) e.0)
     (λ e h. all_under_fits (map (head_type (type_at kinds)) scalars) (output_types shown.outputs) same e.0 h) _ made

@@ -19,7 +19,8 @@ use Rattle.wh_effect.specs.Effect.{Effect}
 use Rattle.wh_state.specs.State.{at_id}
 use Rattle.wh_state.specs.State.{TableKind, StreamKind, table_in}
 use Rattle.wh_state.specs.Objects.{table_at}
-use Rattle.wh_state.specs.Edits.{RowEdits, Edits, edited, with_removed, with_changed, edits_from, with_later, added_left}
+use Rattle.wh_state.specs.Edits.{RowEdits, Edits, edited, with_removed, with_changed, edits_from, with_later}
+use Rattle.wh_state.specs.Edits.{added_left}
 use Rattle.wh_state.specs.Edits.{later_edits, no_edits}
 use Rattle.wh_state.specs.Stored.{StoredKind, StoredObject, Stored}
 use Rattle.wh_state.proofs.AllLaws.{all_append, all_with}
@@ -96,7 +97,8 @@ later_put : (columns : List Column) (next : ℕ) (edits : RowEdits) (es : List (
     → NewRowsFit columns (with_later next edits es)
 later_put columns next edits [] fit old = old
 later_put columns next edits (e ∷ es) fit old =
-    later_put columns next (if nat_lt e.0 next then insert edits e.0 e.1 else edits) es fit.1 (by_test (nat_lt e.0 next))
+    later_put columns next (if nat_lt e.0 next then insert edits e.0 e.1 else edits) es fit.1
+    (by_test (nat_lt e.0 next))
   where
     by_test : (b : Bool) → NewRowsFit columns (cond b (insert edits e.0 e.1) edits)
     by_test true = put_fit columns edits e.0 e.1 fit.0 old
@@ -132,13 +134,15 @@ no_edits_fit columns = record { rows = none_fit columns; added = tt }
 
 -- ---- transactions
 
-stream_all : (P : ℕ → Type 0) (id : ℕ) (ids : List ℕ) → P id → AllByRecursion P ids → AllByRecursion P (with_stream id ids)
+stream_all : (P : ℕ → Type 0) (id : ℕ) (ids : List ℕ) → P id → AllByRecursion P ids →
+    AllByRecursion P (with_stream id ids)
 stream_all P id [] here h = (here, tt)
 stream_all P id (other ∷ others) here h =
     by_tests (nat_lt id other) (nat_eq id other) (stream_all P id others here h.1)
   where
     by_tests : (less same : Bool) → AllByRecursion P (with_stream id others)
-        → AllByRecursion P (cond less (id ∷ other ∷ others) (cond same (other ∷ others) (other ∷ with_stream id others)))
+        → AllByRecursion P (cond less (id ∷ other ∷ others)
+        (cond same (other ∷ others) (other ∷ with_stream id others)))
     by_tests true same rest = (here, h)
     by_tests false true rest = h
     by_tests false false rest = (h.0, rest)
@@ -157,7 +161,8 @@ staged_fits objects t id next e stands holds = by_staged (get t.tables id) refl
     with_kind : (k : StoredKind) (old : Edits) → IsSomeAnd (table_in k) (λ t. EditsFit t.columns old)
         → IsSomeAnd (table_in k) (λ t. EffectFits t.columns e)
         → IsSomeAnd (table_in k) (λ t. EditsFit t.columns (later_edits next old (edits_of e)))
-    with_kind (TableKind t) old before fits = later_fit t.columns next old (edits_of e) before (effect_fit t.columns e fits)
+    with_kind (TableKind t) old before fits =
+        later_fit t.columns next old (edits_of e) before (effect_fit t.columns e fits)
     with_kind (StreamKind s) old before fits = absurd before
 
     with_found : (found : Option StoredObject) (old : Edits) → IsSomeAnd found (HoldsEdits old)
@@ -170,7 +175,8 @@ staged_fits objects t id next e stands holds = by_staged (get t.tables id) refl
     untouched_kind (TableKind t) fits = no_edits_fit t.columns
     untouched_kind (StreamKind s) fits = absurd fits
 
-    untouched_found : (found : Option StoredObject) → IsSomeAnd found (HoldsEffect e) → IsSomeAnd found (HoldsEdits no_edits)
+    untouched_found : (found : Option StoredObject) → IsSomeAnd found (HoldsEffect e) →
+        IsSomeAnd found (HoldsEdits no_edits)
     untouched_found None fits = absurd fits
     untouched_found (Some o) fits = (fits.0, untouched_kind o.kind fits.1)
 
@@ -196,7 +202,8 @@ staged_stands objects t id streams next e stands holds live = record {
     by_tie q s true tied is =
         let new : with_effect next e (staged_in (get t.tables id)) ≡ s = cc in
         subst (λ (n : ℕ). FoundAt (HoldsEdits s.edits) objects n) (sym (number_tied q id tied))
-        (subst (λ (u : Staged). FoundAt (HoldsEdits u.edits) objects id) new (staged_fits objects t id next e stands holds))
+        (subst (λ (u : Staged). FoundAt (HoldsEdits u.edits) objects id) new
+        (staged_fits objects t id next e stands holds))
     by_tie q s false tied is = stands.tables q s is
 
 pub begun_stands : (objects : List StoredObject) (stamp : ℕ) → TransactionStands objects (begun stamp)
@@ -215,16 +222,19 @@ ChangedFits objects (Fails why) = Unit {0}
 ChangedFits objects (Gives id streams change e) =
     FoundAt (HoldsEffect e) objects id × AllByRecursion (FoundAt IsLiveStream objects) streams
 
-pub works_changes : (s : Stored) (m : Machine) (session : ℕ) (t : Option Transaction) → transaction_in m.sessions session ≡ t
+pub works_changes : (s : Stored) (m : Machine) (session : ℕ) (t : Option Transaction) →
+    transaction_in m.sessions session ≡ t
     → (c : Changed) → IsReached s m → ChangedFits s.objects c → Works s m (changes_in m session t c)
 works_changes s m session t is (Fails why) reached fits = works_refuses s m why reached
 works_changes s m session None is (Gives id streams change e) reached fits =
-    works_recorded s m (reply_to change e) m.sessions (staged_in_state m.state (begun m.state.last) id streams e) reached
+    works_recorded s m (reply_to change e) m.sessions
+    (staged_in_state m.state (begun m.state.last) id streams e) reached
     reached.stand
     (staged_stands s.objects (begun m.state.last) id streams (next_row_of (table_at m.state.objects id)) e
     (begun_stands s.objects m.state.last) fits.0 fits.1)
 works_changes s m session (Some t) is (Gives id streams change e) reached fits =
     works_does s m (reply_to change e) _
-    (all_with (StandsOn s.objects) m.sessions (suc session) (Some (staged_in_state m.state t id streams e)) reached.stand
+    (all_with (StandsOn s.objects) m.sessions (suc session)
+    (Some (staged_in_state m.state t id streams e)) reached.stand
     (staged_stands s.objects t id streams (next_row_of (table_at m.state.objects id)) e
     (subst (StandsOn s.objects) is (one_stands s.objects m.sessions session reached.stand)) fits.0 fits.1))

@@ -63,7 +63,11 @@ AllStandOn objects sessions = AllByRecursion (StandsOn objects) sessions
 -- ---- behind a commit
 
 pub edits_kept : (e : Edits) → KeptByCommits (HoldsEdits e)
-edits_kept e = record { pushes = λ stamp c o h. (h.0, pushed o.kind stamp c h.1); sets = λ offset o h. (h.0, moved o.kind offset h.1) }
+edits_kept e = record {
+  pushes = λ stamp c o h. (h.0, pushed o.kind stamp c h.1);
+  sets =
+      λ offset o h. (h.0, moved o.kind offset h.1);
+}
   where
     pushed : (k : StoredKind) (stamp : ℕ) (c : VersionChange)
         → IsSomeAnd (table_in k) (λ t. EditsFit t.columns e)
@@ -77,7 +81,11 @@ edits_kept e = record { pushes = λ stamp c o h. (h.0, pushed o.kind stamp c h.1
     moved (StreamKind s) offset h = absurd h
 
 pub streams_kept : KeptByCommits IsLiveStream
-streams_kept = record { pushes = λ stamp c o h. (h.0, pushed o.kind stamp c h.1); sets = λ offset o h. (h.0, moved o.kind offset h.1) }
+streams_kept = record {
+  pushes = λ stamp c o h. (h.0, pushed o.kind stamp c h.1);
+  sets =
+      λ offset o h. (h.0, moved o.kind offset h.1);
+}
   where
     pushed : (k : StoredKind) (stamp : ℕ) (c : VersionChange) → IsSomeAnd (stream_in k) (λ s. Unit {0})
         → IsSomeAnd (stream_in (pushed_kind stamp c k)) (λ s. Unit {0})
@@ -97,7 +105,8 @@ pub record SparesHeld (cs : List Change) (t : Transaction) : Type 0 where
 pub stands_through : (stamp : ℕ) (objects : List StoredObject) (cs : List Change) (t : Transaction) → SparesHeld cs t
     → TransactionStands objects t → TransactionStands (all_changed stamp objects cs) t
 stands_through stamp objects cs t spares stands = record {
-  tables = λ id s is. found_through (HoldsEdits s.edits) (edits_kept s.edits) stamp objects id cs (spares.tables id s is)
+  tables = λ id s is. found_through (HoldsEdits s.edits) (edits_kept s.edits) stamp objects id cs
+      (spares.tables id s is)
       (stands.tables id s is);
   streams = streams_through t.streams spares.streams stands.streams;
 }
@@ -113,7 +122,8 @@ stands_through stamp objects cs t spares stands = record {
 
 -- ---- limits
 
-none_past : (is_past : ℕ × Staged → Bool) (which : Limit) (found : List (ℕ × Staged)) → first_past is_past which found ≡ None
+none_past : (is_past : ℕ × Staged → Bool) (which : Limit) (found : List (ℕ × Staged)) →
+    first_past is_past which found ≡ None
     → AllByRecursion (λ entry. is_past entry ≡ false) found
 none_past is_past which [] none = tt
 none_past is_past which (entry ∷ others) none = by_test (is_past entry) refl none (none_past is_past which others)
@@ -200,7 +210,8 @@ edit_stands committed stamp h objects sound entry within holds =
       holds.0,
       by_kind o.kind (all_at (IsSoundObject committed) (map object_meant objects) entry.0 (object_meant o) sound
           (at_id_meant objects entry.0 ∙ ap (option_map object_meant) there))
-          (table_at_meant objects entry.0 ∙ ap (λ found. option_map table_meant (option_and_then as_table found)) there) holds.1,
+          (table_at_meant objects entry.0 ∙ ap (λ found. option_map table_meant (option_and_then as_table found))
+          there) holds.1,
     )
 
 -- ---- moves
@@ -230,7 +241,8 @@ moves_of_one stamp start objects id live =
     by_found None none live = absurd live
     by_found (Some o) there live = by_kind o o.kind live.0 live.1 there
 
-moves_of_all : (stamp start : ℕ) (objects : List StoredObject) (ids : List ℕ) → AllByRecursion (FoundAt IsLiveStream objects) ids
+moves_of_all : (stamp start : ℕ) (objects : List StoredObject) (ids : List ℕ) →
+    AllByRecursion (FoundAt IsLiveStream objects) ids
     → AllStand stamp start objects (offset_moves (map object_meant objects) start ids)
 moves_of_all stamp start objects [] live = tt
 moves_of_all stamp start objects (id ∷ ids) live =
@@ -261,6 +273,7 @@ commit_stands committed stamp h objects t sound none stands =
     (λ entry. FoundAt (EditStands stamp entry.1.edits) objects entry.0)
     (λ entry within holds. edit_stands committed stamp h objects sound entry within holds) (touched t)
     (within_limits (map object_meant objects) t none)
-    (all_filter (λ entry. FoundAt (HoldsEdits entry.1.edits) objects entry.0) (λ entry. entry.1.is_touched) (entries t.tables)
+    (all_filter (λ entry. FoundAt (HoldsEdits entry.1.edits) objects entry.0) (λ entry. entry.1.is_touched)
+    (entries t.tables)
     (entries_hold (λ id s. FoundAt (HoldsEdits s.edits) objects id) t.tables stands.tables))))
     (moves_of_all stamp (start_of t) objects t.streams stands.streams)

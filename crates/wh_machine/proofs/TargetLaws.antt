@@ -24,8 +24,10 @@ use Rattle.wh_naming.specs.Findings.{Name}
 use Rattle.wh_naming.specs.Scope.{Entry, Named, named}
 use Rattle.wh_naming.specs.Select.{Output, BoundQuery, BoundSource, SourcePart, column_of, plain, bound_query}
 use Rattle.wh_naming.specs.Changes as changes
-use Rattle.wh_naming.specs.Changes.{Target, target_at, target_entry, given_places, place_in, fit_places, typed_all, new_row}
-use Rattle.wh_naming.specs.Changes.{NewRow, value_rows, row_findings, insert_values, insert_query, outputs_from, bound_rows}
+use Rattle.wh_naming.specs.Changes.{Target, target_at, target_entry, given_places, place_in, fit_places, typed_all}
+use Rattle.wh_naming.specs.Changes.{new_row}
+use Rattle.wh_naming.specs.Changes.{NewRow, value_rows, row_findings, insert_values, insert_query, outputs_from}
+use Rattle.wh_naming.specs.Changes.{bound_rows}
 use Rattle.wh_naming.specs.Changes.{set_findings, changed_row, bound_update, bound_clause, clause_findings}
 use Rattle.wh_naming.specs.Changes.{all_clause_findings, merged_on, source_part, bound_merge, bound_change, BoundChange}
 use Rattle.wh_naming.specs.Changes.{condition_of, BoundClause}
@@ -37,8 +39,10 @@ use Rattle.wh_machine.proofs.TypedLaws.{Under, entry_types}
 use Rattle.wh_machine.proofs.GroupedLaws.{AllUnder}
 use Rattle.wh_machine.proofs.ShownLaws.{output_types}
 use Rattle.wh_machine.proofs.BoundLaws.{IsGoodSource, IsGoodQuery, InstanceFits, query_good, source_good}
-use Rattle.wh_machine.proofs.GivenLaws.{neither, true_of, PlaceOk, row_under, changed_under, all_stand, own_stand, append_nil}
-use Rattle.wh_machine.proofs.GivenLaws.{entry_one, given_ok, new_row_under, parts_fit, parts_ok, parts_under, place_wide}
+use Rattle.wh_machine.proofs.GivenLaws.{neither, true_of, PlaceOk, row_under, changed_under, all_stand, own_stand}
+use Rattle.wh_machine.proofs.GivenLaws.{append_nil}
+use Rattle.wh_machine.proofs.GivenLaws.{entry_one, given_ok, new_row_under, parts_fit, parts_ok, parts_under}
+use Rattle.wh_machine.proofs.GivenLaws.{place_wide}
 use Rattle.wh_machine.proofs.EffectLaws.{OutcomeFits, PartsFit, ClauseFits, inserts_fit, inserts_over_fit, updates_fit}
 use Rattle.wh_machine.proofs.EffectLaws.{deletes_fit, merges_fit}
 
@@ -74,7 +78,8 @@ own_types all place (o ∷ os) stand = (
     by_type (Some t) = refl
 
 outputs_under : (outputs : List Output)
-    → AllUnder (map (head_type (type_at (output_types outputs))) (outputs_from 0 outputs)) (changes.output_types outputs)
+    → AllUnder (map (head_type (type_at (output_types outputs))) (outputs_from 0 outputs))
+    (changes.output_types outputs)
 outputs_under outputs = own_types (output_types outputs) 0 outputs
     (λ k n t is at. let same : n ≡ k = omega arith in ap (slice_get (output_types outputs)) same ∙ at)
 
@@ -88,13 +93,15 @@ ordered_fit types (Some b) h rows is =
 
 -- ---- SET over rows that begin with the target's columns
 
-set_under : (columns : List table.Column) (entries : List Entry) (more : List (Option ColumnType)) (parts : List Assignment)
+set_under : (columns : List table.Column) (entries : List Entry) (more : List (Option ColumnType))
+    (parts : List Assignment)
     → entry_types entries ≡ types_of columns ++ more → (set_findings columns entries parts).is_mistyped ≡ false
     → PartsFit columns (type_at (entry_types entries)) (changed_row columns entries parts)
 set_under columns entries more parts is well =
     changed_under (type_at (entry_types entries)) (types_of columns ++ more) 0 columns
     (map (λ part. place_in columns part.column) parts) (map (λ part. (plain entries part.value).scalar) parts)
-    (map (λ part. (plain entries part.value).type_of) parts) (parts_under entries parts) (parts_fit columns entries parts well)
+    (map (λ part. (plain entries part.value).type_of) parts) (parts_under entries parts)
+    (parts_fit columns entries parts well)
     (parts_ok columns more parts (λ name. ok name)) (all_stand columns more)
     (λ n. ap (λ (ts : List (Option ColumnType)). type_at ts n) is)
   where
@@ -112,7 +119,8 @@ clauses_fit : (columns : List table.Column) (t s : Entry) → t.columns ≡ colu
     → AllByRecursion (ClauseFits columns (types_of columns) (types_of s.columns)) (map (bound_clause columns t s) found)
 clauses_fit columns t s own [] well = tt
 clauses_fit columns t s own (c ∷ cs) well =
-    let both = neither (clause_findings columns t s c).is_mistyped (all_clause_findings columns t s cs).is_mistyped well in
+    let both = neither (clause_findings columns t s c).is_mistyped
+    (all_clause_findings columns t s cs).is_mistyped well in
     (one_fits c both.0, clauses_fit columns t s own cs both.1)
   where
     wide : entry_types (t ∷ s ∷ []) ≡ types_of columns ++ types_of s.columns
@@ -124,7 +132,8 @@ clauses_fit columns t s own (c ∷ cs) well =
     one_fits : (c : MergeClause) → (clause_findings columns t s c).is_mistyped ≡ false
         → ClauseFits columns (types_of columns) (types_of s.columns) (bound_clause columns t s c)
     one_fits (clauses.Update condition parts) well =
-        subst (λ (ts : List (Option ColumnType)). PartsFit columns (type_at ts) (changed_row columns (t ∷ s ∷ []) parts)) wide
+        subst (λ (ts : List (Option ColumnType)). PartsFit columns (type_at ts)
+        (changed_row columns (t ∷ s ∷ []) parts)) wide
         (set_under columns (t ∷ s ∷ []) (types_of s.columns) parts wide
         (neither _ (set_findings columns (t ∷ s ∷ []) parts).is_mistyped well).1)
     one_fits (clauses.Delete condition) well = tt
@@ -178,7 +187,8 @@ module _ (names : List Named) (S : ℕ → Type 0) (F : ℕ → Row → Type 0) 
             let last = neither b.findings.is_mistyped
             (not (fit_places (given_places t.columns listed) (changes.output_types b.outputs))) both.1 in
             inserts_over_fit t.columns (output_types b.outputs) _
-            (row_under (type_at (output_types b.outputs)) (types_of t.columns) 0 t.columns (given_places t.columns listed)
+            (row_under (type_at (output_types b.outputs)) (types_of t.columns) 0 t.columns
+            (given_places t.columns listed)
             (outputs_from 0 b.outputs) (changes.output_types b.outputs) (outputs_under b.outputs)
             (true_of (fit_places (given_places t.columns listed) (changes.output_types b.outputs)) last.1)
             (given_ok t.columns listed) (own_stand t.columns)) (rows_in_order (eval b.query instance))
@@ -201,7 +211,8 @@ module _ (names : List Named) (S : ℕ → Type 0) (F : ℕ → Row → Type 0) 
             let parts = neither t.findings.is_mistyped _ well in
             let both = neither false _ parts.1 in
             let source = neither s.findings.is_mistyped _ both.1 in
-            let last = neither _ (all_clause_findings t.columns (target_entry name t) entry found).is_mistyped source.1 in
+            let last = neither _ (all_clause_findings t.columns (target_entry name t) entry
+            found).is_mistyped source.1 in
             merges_fit t.columns (types_of t.columns) (types_of s.columns) _
             (map (bound_clause t.columns (target_entry name t) entry) found)
             (clauses_fit t.columns (target_entry name t) entry refl found last.1) rows rows_fit
@@ -210,7 +221,8 @@ module _ (names : List Named) (S : ℕ → Type 0) (F : ℕ → Row → Type 0) 
         sources = good.sources;
       }
 
-  pub change_good : (x : Dml) {d : ℕ} {ts us : List Token} → IsDml d ts x us → (name : Name) × IsGoodChange (target_at names name) (bound_change names x)
+  pub change_good : (x : Dml) {d : ℕ} {ts us : List Token} → IsDml d ts x us → (name : Name)
+      × IsGoodChange (target_at names name) (bound_change names x)
   unfolding bound_change effect
   change_good x (g.insert {table = name} {names = listed} {found = found} is may are) =
       (name, insert_good (target_at names name) listed found are)
@@ -240,12 +252,14 @@ module _ (names : List Named) (S : ℕ → Type 0) (F : ℕ → Row → Type 0) 
           target = refl;
           known = λ none. (both_none t.findings.unknown_object _ none).0;
           kinds = λ none. (both_none t.findings.wrong_kind _ none).0;
-          effect = λ well instance fit rows rows_fit. deletes_fit t.columns (condition_of (target_entry name t ∷ []) filter) rows;
+          effect = λ well instance fit rows rows_fit. deletes_fit t.columns
+              (condition_of (target_entry name t ∷ []) filter) rows;
           sources = tt;
         },
       )
-  change_good x (g.merge {target = name} {alias = alias} {source = source} {on = on} {clauses = found} is may from expr are) = (
-    name,
-    merge_good (target_at names name) (unwrap_or alias name) (source_part source) on found
-        (source_good names S F none empty live fits source from 0),
-  )
+  change_good x (g.merge {target = name} {alias = alias} {source = source} {on = on} {clauses = found} is may
+      from expr are) = (
+        name,
+        merge_good (target_at names name) (unwrap_or alias name) (source_part source) on found
+            (source_good names S F none empty live fits source from 0),
+      )

@@ -168,7 +168,8 @@ column_under : (entries : List Entry) (name : Name) (found : Option Place)
     → ((p : Place) → found ≡ Some p → type_at (entry_types entries) p.place ≡ Some p.column_type)
     → TypedUnder entries (column_typed name found)
 column_under entries name None at = tt
-column_under entries name (Some p) at = subst (λ (t : Option ColumnType). Under t (Some p.column_type)) (sym (at p refl)) refl
+column_under entries name (Some p) at = subst (λ (t : Option ColumnType). Under t (Some p.column_type))
+    (sym (at p refl)) refl
 
 combined_under : (entries : List Entry) (o : Operator) (x y : Typed) → TypedUnder entries (combined o x y)
 combined_under entries operators.Or x y = refl
@@ -234,7 +235,8 @@ step_under (Expr-F.IsNull negated x) context calls =
     inverted_under context.entries negated (null_test (x context calls)) refl refl
 step_under (Expr-F.In negated x items) context calls =
     inverted_under context.entries negated (among (x context calls) items context calls)
-    (among_truth (x context calls) items context calls) (among_under context.entries (x context calls) items context calls)
+    (among_truth (x context calls) items context calls)
+    (among_under context.entries (x context calls) items context calls)
 step_under (Expr-F.Between negated x low high) context calls =
     inverted_under context.entries negated (between (x context calls) low high context calls) refl refl
 step_under (Expr-F.Sum x) context calls = called_under context calls _ _

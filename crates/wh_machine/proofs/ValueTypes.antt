@@ -12,7 +12,8 @@ use Rattle.wh_value.specs.Column.{ColumnType, NumberType, VarcharType, BooleanTy
 use Rattle.wh_value.specs.Fits.{fits, row_fits}
 use Rattle.wh_value.specs.declared.comparison.Comparison.{Comparison}
 use Rattle.wh_meaning.specs.Scalar.{Scalar, Const, Column, Neg, Add, Sub, Mul, Compare, And, Or, Not, IsNull, val}
-use Rattle.wh_meaning.specs.Scalar.{ranged, computed, negated, compared, conjoined, disjoined, inverted, is_null, is_true}
+use Rattle.wh_meaning.specs.Scalar.{ranged, computed, negated, compared, conjoined, disjoined, inverted, is_null}
+use Rattle.wh_meaning.specs.Scalar.{is_true}
 use Rattle.wh_meaning.specs.Scalar.{is_false, of_one, of_two, meets}
 use Rattle.wh_naming.specs.Typing.{value_type}
 
@@ -157,7 +158,8 @@ val_fits types (Sub a b) row h =
     two_give (Some NumberType) (computed (λ x y. x -ℤ y)) (val a row) (val b row) (computed_gives (λ x y. x -ℤ y))
 val_fits types (Mul a b) row h =
     two_give (Some NumberType) (computed (λ x y. x *ℤ y)) (val a row) (val b row) (computed_gives (λ x y. x *ℤ y))
-val_fits types (Compare c a b) row h = two_give (Some BooleanType) (λ x y. Some (compared c x y)) (val a row) (val b row)
+val_fits types (Compare c a b) row h = two_give (Some BooleanType) (λ x y. Some (compared c x y))
+    (val a row) (val b row)
     (λ x y. some_gives (Some BooleanType) (compared c x y) (compared_truth c x y))
 val_fits types (And a b) row h = two_give (Some BooleanType) (λ x y. Some (conjoined x y)) (val a row) (val b row)
     (λ x y. some_gives (Some BooleanType) (conjoined x y) (conjoined_truth x y))

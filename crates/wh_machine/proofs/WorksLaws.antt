@@ -189,7 +189,8 @@ only_spares id other apart (CreatesStream c) only = tt
 only_spares id other apart (SetsOffset target offset) only = tt
 only_spares id other apart (Drops target) only = λ same. apart (same ∙ only)
 
-pub free_stand : (stamp : ℕ) (objects : List StoredObject) (cs : List Change) (id : ℕ) → AllByRecursion (DropsOnly id) cs
+pub free_stand : (stamp : ℕ) (objects : List StoredObject) (cs : List Change) (id : ℕ) →
+    AllByRecursion (DropsOnly id) cs
     → (sessions : Sessions) → holder sessions id ≡ None → AllStandOn objects sessions
     → AllStandOn (all_changed stamp objects cs) sessions
 free_stand stamp objects cs id only [] none stand = tt

@@ -5,7 +5,7 @@
 use Rattle.std.specs.Prelude.{ℕ, ◌+◌, List, length, Option, Some, None}
 use Rattle.std.specs.FinMap.{entries}
 use Rattle.wh_value.specs.Value.{Row}
-use Rattle.wh_naming.specs.Changes.{BoundChange, Change, InsertRows, InsertQuery, Update, Delete, Merge}
+use Rattle.wh_naming.specs.Changes.{BoundChange, Modification, InsertRows, InsertQuery, Update, Delete, Merge}
 use Rattle.wh_reply.specs.Reply.{Refusal, Reply, TypeMismatch, NumberOutOfRange, AmbiguousMerge, Inserted, Updated}
 use Rattle.wh_reply.specs.Reply.{Deleted, Merged}
 use Rattle.wh_meaning.specs.Query.{Instance}
@@ -25,7 +25,7 @@ rows_seen t = entries (last_rows t)
 abbrev pub counted : Effect → ℕ
 counted e = length e.added + length e.changed + length e.removed
 
-abbrev pub reply_to : Change → Effect → Reply
+abbrev pub reply_to : Modification → Effect → Reply
 reply_to (InsertRows rows) e = Inserted (length e.added)
 reply_to (InsertQuery query parts) e = Inserted (length e.added)
 reply_to (Update condition parts) e = Updated (length e.changed)
@@ -36,9 +36,9 @@ reply_to (Merge source on clauses) e = Merged (length e.added) (length e.changed
 
 pub data Changed : Type 0 where
   Fails : Refusal → Changed
-  Gives : (id : ℕ) → (streams : List ℕ) → Change → Effect → Changed
+  Gives : (id : ℕ) → (streams : List ℕ) → Modification → Effect → Changed
 
-abbrev pub given : ℕ → List ℕ → Change → effects.Outcome → Changed
+abbrev pub given : ℕ → List ℕ → Modification → effects.EffectResult → Changed
 given id streams change effects.Undefined = Fails NumberOutOfRange
 given id streams change (effects.Ambiguous row) = Fails (AmbiguousMerge row)
 given id streams change (effects.Does e) = Gives id streams change e

@@ -157,7 +157,8 @@ count-over b q (e ∷ es) h =
     as (λ t. eq_by_cmp row_cmp q e.0 ≡ t → cond t (suc e.1 + (times (find row_cmp q es) + count b q))
     (times (find row_cmp q es) + count b q) ≡ times (cond t (Some e.1) (find row_cmp q es)) + count b q) [
       | true ↦ λ t. let none : find row_cmp q es
-          ≡ None = find_below q es (subst (λ k. T (below_all row_cmp k es)) (sym (tied_rows q e.0 t)) (both_hold _ _ h).0) in
+          ≡ None = find_below q es (subst (λ k. T (below_all row_cmp k es)) (sym (tied_rows q e.0 t))
+          (both_hold _ _ h).0) in
           ap (λ found. suc e.1 + (times found + count b q)) none ∙ omega arith
       | false ↦ λ t. refl
     ] refl

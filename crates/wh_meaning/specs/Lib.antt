@@ -1,5 +1,5 @@
 pub mod Scalar
 pub mod Bag
-pub mod Change
+pub mod BagChange
 pub mod Query
 pub mod Listing

@@ -22,7 +22,7 @@ use Rattle.wh_naming.specs.Findings.{Name, Failing, UnknownName, WrongKind, Name
 use Rattle.wh_naming.specs.Scope.{column_at}
 use Rattle.wh_naming.specs.Typing.{step}
 use Rattle.wh_naming.specs.Select.{QueryReading, SourcePart, source_step, core_step, query_step}
-use Rattle.wh_naming.specs.Changes.{Change, InsertRows, InsertQuery, Update, Delete, Merge, UpdateMatched}
+use Rattle.wh_naming.specs.Changes.{Modification, InsertRows, InsertQuery, Update, Delete, Merge, UpdateMatched}
 use Rattle.wh_naming.specs.Changes.{DeleteMatched, InsertUnmatched, BoundChange, target_at, condition_of}
 use Rattle.wh_naming.specs.Changes.{insert_query, bound_merge, bound_change}
 use Rattle.wh_naming.proofs.Written.{WrittenSource, WrittenQuery, k, v, name_a, name_d, name_n}
@@ -62,8 +62,8 @@ IsTaken name c = Has (Option Failing) answer c (Some (NameTaken name))
 abbrev IsMistyped : WrittenChange → Type 0
 IsMistyped c = Has (Option Failing) answer c (Some TypeMismatch)
 
-abbrev Means : WrittenChange → Change → Type 0
-Means c meant = Has Change (λ b. b.change) c meant
+abbrev Means : WrittenChange → Modification → Type 0
+Means c meant = Has Modification (λ b. b.change) c meant
 
 -- ---- statements
 

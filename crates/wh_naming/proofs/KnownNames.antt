@@ -19,8 +19,8 @@ use Rattle.wh_ast.specs.declared.expr.Expr.{Expr}
 use Rattle.wh_ast.specs.declared.query.Item.{Item}
 use Rattle.wh_ast.specs.declared.query.Item.TheVariants as items
 use Rattle.wh_ast.specs.declared.query.Sort.{Sort}
-use Rattle.wh_ast.specs.declared.query.Key.{Key}
-use Rattle.wh_ast.specs.declared.query.Key.TheVariants as keys
+use Rattle.wh_ast.specs.declared.query.OrderKey.{OrderKey}
+use Rattle.wh_ast.specs.declared.query.OrderKey.TheVariants as keys
 use Rattle.wh_meaning.specs.Scalar.{Scalar, Const, Column, Add, Compare, Or}
 use Rattle.wh_meaning.specs.Query as meaning
 use Rattle.wh_meaning.specs.Query.{Scan, Project, Join as Joined, UnionAll, Group, Sum, CountRows}
@@ -140,7 +140,7 @@ over_t takes_calls = record {
   takes_calls = takes_calls;
 }
 
-abbrev up : Key → Sort
+abbrev up : OrderKey → Sort
 up key = record { key = key; descending = false }
 
 abbrev literal : ℕ → Scalar

@@ -16,8 +16,8 @@ use Rattle.wh_ast.specs.declared.expr.Expr.{Expr, roll-Expr, fold-roll-Expr, out
 use Rattle.wh_ast.specs.declared.expr.Expr.TheOpen.{Expr-F}
 use Rattle.wh_ast.specs.declared.query.Item.{Item}
 use Rattle.wh_ast.specs.declared.query.Item.TheVariants as items
-use Rattle.wh_ast.specs.declared.query.Source.{Source, roll-Source, fold-roll-Source, fold-Source}
-use Rattle.wh_ast.specs.declared.query.Source.TheOpen.{Source-F}
+use Rattle.wh_ast.specs.declared.query.FromItem.{FromItem, roll-FromItem, fold-roll-FromItem, fold-FromItem}
+use Rattle.wh_ast.specs.declared.query.FromItem.TheOpen.{FromItem-F}
 use Rattle.wh_ast.specs.declared.query.Join.{Join, roll-Join, fold-roll-Join, fold-Join}
 use Rattle.wh_ast.specs.declared.query.Core.{Core, roll-Core, fold-roll-Core, fold-Core}
 use Rattle.wh_ast.specs.declared.query.Query.{Query, roll-Query, fold-roll-Query}
@@ -166,8 +166,8 @@ only x = shown x ∷ []
 abbrev pub shown_as : Expr → Name → Item
 shown_as x alias = items.Expr x (Some alias)
 
-abbrev pub source_part : Source → SourcePart
-source_part s = fold-Source SourcePart QueryReading JoinPart QueryReading source_step core_step join_step query_step s
+abbrev pub source_part : FromItem → SourcePart
+source_part s = fold-FromItem SourcePart QueryReading JoinPart QueryReading source_step core_step join_step query_step s
 
 abbrev pub join_part : Join → JoinPart
 join_part j = fold-Join SourcePart QueryReading JoinPart QueryReading source_step core_step join_step query_step j
@@ -178,7 +178,7 @@ core_reading c = fold-Core SourcePart QueryReading JoinPart QueryReading source_
 -- sources, joins, cores and queries, each with what it stands for
 
 pub record WrittenSource : Type 0 where
-  pub tree : Source
+  pub tree : FromItem
   pub part : SourcePart
   pub is : source_part tree ≡ part
 
@@ -199,10 +199,10 @@ pub record WrittenQuery : Type 0 where
 
 abbrev pub named_source : Name → Option Name → WrittenSource
 named_source name alias = record {
-  tree = roll-Source (Source-F.Named name alias);
-  part = source_step (Source-F.Named name alias);
-  is = fold-roll-Source SourcePart QueryReading JoinPart QueryReading source_step core_step join_step query_step
-      (Source-F.Named name alias);
+  tree = roll-FromItem (FromItem-F.Named name alias);
+  part = source_step (FromItem-F.Named name alias);
+  is = fold-roll-FromItem SourcePart QueryReading JoinPart QueryReading source_step core_step join_step query_step
+      (FromItem-F.Named name alias);
 }
 
 abbrev pub object : Name → WrittenSource
@@ -213,11 +213,11 @@ object_as name alias = named_source name (Some alias)
 
 abbrev pub subquery : WrittenQuery → Name → WrittenSource
 subquery q alias = record {
-  tree = roll-Source (Source-F.Subquery q.tree alias);
-  part = source_step (Source-F.Subquery q.reading alias);
-  is = fold-roll-Source SourcePart QueryReading JoinPart QueryReading source_step core_step join_step query_step
-      (Source-F.Subquery q.tree alias)
-      ∙ ap (λ (r : QueryReading). source_step (Source-F.Subquery r alias)) q.is;
+  tree = roll-FromItem (FromItem-F.Subquery q.tree alias);
+  part = source_step (FromItem-F.Subquery q.reading alias);
+  is = fold-roll-FromItem SourcePart QueryReading JoinPart QueryReading source_step core_step join_step query_step
+      (FromItem-F.Subquery q.tree alias)
+      ∙ ap (λ (r : QueryReading). source_step (FromItem-F.Subquery r alias)) q.is;
 }
 
 abbrev pub join : WrittenSource → Expr → WrittenJoin

@@ -1,5 +1,5 @@
 -- What a changing statement stands for.
---     Change         rows for INSERT, the new row for UPDATE, and so on, as scalars over the rows
+--     Modification         rows for INSERT, the new row for UPDATE, and so on, as scalars over the rows
 --                    that they are computed from
 --     BoundChange    a change with its target's id, its sources' ids in the order of the text, and what is found wrong
 --     bound_change   of a statement as it is written
@@ -10,7 +10,7 @@ use Rattle.wh_value.specs.Value.{Null, Truth}
 use Rattle.wh_value.specs.Column as table
 use Rattle.wh_value.specs.Column.{ColumnType}
 use Rattle.wh_ast.specs.declared.expr.Expr.{Expr}
-use Rattle.wh_ast.specs.declared.query.Source as written
+use Rattle.wh_ast.specs.declared.query.FromItem as written
 use Rattle.wh_ast.specs.declared.dml.Dml.{Dml}
 use Rattle.wh_ast.specs.declared.dml.Dml.TheVariants as dml
 use Rattle.wh_ast.specs.declared.dml.Rows.{Rows}
@@ -174,22 +174,22 @@ pub data BoundClause : Type 0 where
   DeleteMatched : (condition : Scalar) → BoundClause
   InsertUnmatched : (condition : Scalar) → (row : List Scalar) → BoundClause
 
-pub data Change : Type 0 where
-  InsertRows : (rows : List (List Scalar)) → Change
-  InsertQuery : (query : Query) → (row : List Scalar) → Change
-  Update : (condition : Scalar) → (row : List Scalar) → Change
-  Delete : (condition : Scalar) → Change
-  Merge : (source : Query) → (on : Scalar) → (clauses : List BoundClause) → Change
+pub data Modification : Type 0 where
+  InsertRows : (rows : List (List Scalar)) → Modification
+  InsertQuery : (query : Query) → (row : List Scalar) → Modification
+  Update : (condition : Scalar) → (row : List Scalar) → Modification
+  Delete : (condition : Scalar) → Modification
+  Merge : (source : Query) → (on : Scalar) → (clauses : List BoundClause) → Modification
 
 pub record BoundChange : Type 0 where
   pub target : ℕ
-  pub change : Change
+  pub change : Modification
   pub sources : List ℕ
   pub findings : Findings
   pub is_wide : Bool
 
 -- a change that reads its target alone
-abbrev pub change_alone : Target → Change → Findings → BoundChange
+abbrev pub change_alone : Target → Modification → Findings → BoundChange
 change_alone t change findings =
     record { target = t.id; change = change; sources = []; findings = followed t.findings findings; is_wide = false }
 
@@ -243,9 +243,9 @@ bound_delete t entries filter = change_alone t (Delete (condition_of entries fil
 
 -- ---- MERGE
 
-abbrev pub source_part : written.Source → SourcePart
+abbrev pub source_part : written.FromItem → SourcePart
 source_part s =
-    written.fold-Source SourcePart QueryReading JoinPart QueryReading source_step core_step join_step query_step s
+    written.fold-FromItem SourcePart QueryReading JoinPart QueryReading source_step core_step join_step query_step s
 
 -- a clause sees both entries, after NOT MATCHED the source alone
 abbrev pub bound_clause : List table.Column → Entry → Entry → MergeClause → BoundClause

@@ -16,10 +16,10 @@ use Rattle.wh_ast.specs.declared.expr.Expr.{Expr, out-Expr}
 use Rattle.wh_ast.specs.declared.expr.Expr.TheOpen.{Expr-F}
 use Rattle.wh_ast.specs.declared.query.Item.{Item}
 use Rattle.wh_ast.specs.declared.query.Item.TheVariants as items
-use Rattle.wh_ast.specs.declared.query.Key.{Key}
-use Rattle.wh_ast.specs.declared.query.Key.TheVariants as keys
+use Rattle.wh_ast.specs.declared.query.OrderKey.{OrderKey}
+use Rattle.wh_ast.specs.declared.query.OrderKey.TheVariants as keys
 use Rattle.wh_ast.specs.declared.query.Sort.{Sort}
-use Rattle.wh_ast.specs.declared.query.Source.TheOpen.{Source-F, Join-F}
+use Rattle.wh_ast.specs.declared.query.FromItem.TheOpen.{FromItem-F, Join-F}
 use Rattle.wh_ast.specs.declared.query.Core.{Core-F}
 use Rattle.wh_ast.specs.declared.query.Query.{Query, Query-F, fold-Query}
 use Rattle.wh_meaning.specs.Scalar.{Scalar, Const, Column}
@@ -318,9 +318,9 @@ all_cores names next (core ∷ cores) = more_cores names next (core names next) 
 abbrev pub named_source : Name → SourceReading
 named_source name names next = object_source name next (named names name)
 
-unfoldable pub source_step : Source-F SourcePart QueryReading JoinPart QueryReading → SourcePart
-source_step (Source-F.Named name alias) = record { name = unwrap_or alias name; reading = named_source name }
-source_step (Source-F.Subquery q alias) = record { name = alias; reading = λ names next. query_source (q names next) }
+unfoldable pub source_step : FromItem-F SourcePart QueryReading JoinPart QueryReading → SourcePart
+source_step (FromItem-F.Named name alias) = record { name = unwrap_or alias name; reading = named_source name }
+source_step (FromItem-F.Subquery q alias) = record { name = alias; reading = λ names next. query_source (q names next) }
 
 unfoldable pub core_step : Core-F SourcePart QueryReading JoinPart QueryReading → QueryReading
 core_step c names next = bound_core c.items (from_part names next c.from c.joins) c.filter c.group
@@ -356,7 +356,7 @@ position_in (suc place) outputs = if nat_lt place (length outputs) then Some pla
 abbrev pub sorted_by : List Output → BoundKeys → Sort → BoundKeys
 sorted_by outputs k sort = with_written sort.key
   where
-    with_written : Key → BoundKeys
+    with_written : OrderKey → BoundKeys
     with_written (keys.Name name) = with_key k sort.descending name (only (positions_of name 0 outputs))
     with_written (keys.Position number) = with_key k sort.descending (decimal number) (position_in number outputs)
 

@@ -2,14 +2,14 @@
 use Rattle.std.proofs.Common.{◌≡◌, ℕ, zero, suc, ◌<◌, ◌≤◌, Bool, true, false, not, ◌||◌, if◌then◌else◌, List, [], ◌∷◌}
 use Rattle.std.proofs.Common.{length, Option, Some, None, refl, sym, ap, ◌∙◌, subst, bytes_eq, arith}
 use Rattle.std.specs.Prelude.{codes}
-use Rattle.wh_ast.specs.declared.statement.Condition.{Condition}
-use Rattle.wh_ast.specs.declared.statement.Condition.TheVariants as c
+use Rattle.wh_ast.specs.declared.statement.WhenCondition.{WhenCondition}
+use Rattle.wh_ast.specs.declared.statement.WhenCondition.TheVariants as c
 use Rattle.wh_grammar.specs.Words.{is_reserved}
 use Rattle.wh_grammar.specs.Token as token
 use Rattle.wh_grammar.specs.Token.{Token, Word, Quoted, TextToken, NumberToken, SignToken}
 use Rattle.wh_grammar.specs.Parts.{AsksForData, asks, IsCondition, one_cand, or_condition, IsAndCondition, one_cnot}
 use Rattle.wh_grammar.specs.Parts.{and_condition, IsNotCondition, not_condition, inner_condition, has_data}
-use Rattle.wh_cursor.specs.declared.key.Key.TheVariants as k
+use Rattle.wh_cursor.specs.declared.key.TokenClass.TheVariants as k
 use Rattle.wh_cursor.specs.Keys.{same_key, key_of}
 use Rattle.wh_cursor.specs.Steps.{tail, sees, Reader, and_then, sees_word}
 use Rattle.wh_cursor.proofs.KeyLemmas.{heads}
@@ -31,10 +31,12 @@ use Rattle.wh_option_parse.proofs.Frames.{cand-frame, cnot-frame, rest-short}
 
 -- ---- what is read stands there
 
-connective-turn : (k : Connective) (item : Reader Condition) (P Q : List Token → Condition → List Token → Type 0)
-    → ((ts us : List Token) (x y : Condition) (vs : List Token) → P ts x (Word (word_of k) ∷ us) → Q us y vs
+connective-turn : (k : Connective) (item : Reader WhenCondition)
+    (P Q : List Token → WhenCondition → List Token → Type 0)
+    → ((ts us : List Token) (x y : WhenCondition) (vs : List Token) → P ts x (Word (word_of k) ∷ us) → Q us y vs
     → P ts (connected k x y) vs)
-    → ((ts : List Token) → Yields (item ts) (Q ts)) → (ts₀ : List Token) (x : Condition) (ts : List Token) → P ts₀ x ts
+    → ((ts : List Token) → Yields (item ts) (Q ts)) →
+    (ts₀ : List Token) (x : WhenCondition) (ts : List Token) → P ts₀ x ts
     → Yields (read_connective k ts) (Joins (links k item) (P ts₀) x)
 unfolding read_connective
 connective-turn k item P Q joined items ts₀ x ts h = by (sees_word (word_of k) ts) refl
@@ -46,9 +48,9 @@ connective-turn k item P Q joined items ts₀ x ts h = by (sees_word (word_of k)
     by true e = yields (Some k) (tail ts) (mapped (items (tail ts)) (λ y vs i.
         joined ts₀ (tail ts) x y vs (subst (λ (us : List Token). P ts₀ x us) (sees_word_some (word_of k) ts e) h) i))
 
-chain-sound : (k : Connective) (item : Reader Condition) (P Q : List Token → Condition → List Token → Type 0)
-    → ((ts : List Token) (x : Condition) (us : List Token) → Q ts x us → P ts x us)
-    → ((ts us : List Token) (x y : Condition) (vs : List Token) → P ts x (Word (word_of k) ∷ us) → Q us y vs
+chain-sound : (k : Connective) (item : Reader WhenCondition) (P Q : List Token → WhenCondition → List Token → Type 0)
+    → ((ts : List Token) (x : WhenCondition) (us : List Token) → Q ts x us → P ts x us)
+    → ((ts us : List Token) (x y : WhenCondition) (vs : List Token) → P ts x (Word (word_of k) ∷ us) → Q us y vs
     → P ts (connected k x y) vs)
     → ((ts : List Token) → Yields (item ts) (Q ts)) → (ts : List Token)
     → Yields (chain k item ts) (P ts)
@@ -56,11 +58,11 @@ chain-sound k item P Q one joined items ts =
     chains.chain-sound (links k item) (P ts) (connective-turn k item P Q joined items ts) length ts
     (mapped (items ts) (one ts))
 
-record Inside (inner : Level → Reader Condition) (d : ℕ) : Type 0 where
+record Inside (inner : Level → Reader WhenCondition) (d : ℕ) : Type 0 where
   whole : (ts : List Token) → Yields (inner Whole ts) (IsCondition d ts)
   negation : (ts : List Token) → Yields (inner Negation ts) (IsNotCondition d ts)
 
-module _ (inner : Level → Reader Condition) (d : ℕ) (inside : Inside inner d) where
+module _ (inner : Level → Reader WhenCondition) (d : ℕ) (inside : Inside inner d) where
   negated-sound : (ts : List Token) → ts ≡ Word (codes "NOT") ∷ tail ts
       → Yields (negated inner ts) (IsNotCondition (suc d) ts)
   unfolding negated
@@ -133,7 +135,7 @@ unfolding read_condition no_operator
 condition_yields d ts = follow ((nested-sound d).whole ts)
     (λ x us h. by x us h (sees_word (codes "OR") us || sees_word (codes "AND") us) refl)
   where
-    by : (x : Condition) (us : List Token) → IsCondition d ts x us → (r : Bool)
+    by : (x : WhenCondition) (us : List Token) → IsCondition d ts x us → (r : Bool)
         → (sees_word (codes "OR") us || sees_word (codes "AND") us) ≡ r
         → Yields (and_then (if◌then◌else◌ {A = Option (Unit {0} × List Token)} r None (Some (tt, us)))
         (λ _ vs. Some (x, vs))) (IsConditionAt d ts)
@@ -144,8 +146,8 @@ condition_yields d ts = follow ((nested-sound d).whole ts)
 -- ---- what stands there is read
 
 -- the turns have come to x
-record Comes (k : Connective) (item r : Reader Condition) (ts : List Token)
-    (x : Condition) (us : List Token) : Type 0 where
+record Comes (k : Connective) (item r : Reader WhenCondition) (ts : List Token)
+    (x : WhenCondition) (us : List Token) : Type 0 where
   run : chains.Comes (links k item) (r ts) (length us) x us
 
 connective-reads : (k : Connective) (us : List Token) → read_connective k (Word (word_of k) ∷ us) ≡ Some (Some k, us)
@@ -157,13 +159,13 @@ none-reads : (k : Connective) (us : List Token) → sees_word (word_of k) us ≡
 unfolding read_connective
 none-reads k us end = rw end refl
 
-comes-next : (k : Connective) {item r : Reader Condition} {ts us vs : List Token} {x y : Condition}
+comes-next : (k : Connective) {item r : Reader WhenCondition} {ts us vs : List Token} {x y : WhenCondition}
     → Comes k item r ts x (Word (word_of k) ∷ us) → item us ≡ Some (y, vs) → length vs ≤ length us
     → Comes k item r ts (connected k x y) vs
 comes-next k {us = us} h l short =
     record { run = chains.comes-next h.run (connective-reads k us) l (omega (arith, short)) }
 
-comes-ends : (k : Connective) {item r : Reader Condition} {ts us : List Token} {x : Condition}
+comes-ends : (k : Connective) {item r : Reader WhenCondition} {ts us : List Token} {x : WhenCondition}
     → Comes k item r ts x us → sees_word (word_of k) us ≡ false → r ts ≡ Some (x, us)
 comes-ends k {us = us} h end = chains.comes-ends h.run (none-reads k us end)
 
@@ -172,15 +174,15 @@ before zero = zero
 before (suc d) = d
 
 mutual
-  cond-deep : {d : ℕ} {ts us : List Token} {x : Condition} → IsCondition d ts x us → 0 < d
+  cond-deep : {d : ℕ} {ts us : List Token} {x : WhenCondition} → IsCondition d ts x us → 0 < d
   cond-deep (one_cand h) = and-deep h
   cond-deep (or_condition h l) = and-deep l
 
-  and-deep : {d : ℕ} {ts us : List Token} {x : Condition} → IsAndCondition d ts x us → 0 < d
+  and-deep : {d : ℕ} {ts us : List Token} {x : WhenCondition} → IsAndCondition d ts x us → 0 < d
   and-deep (one_cnot h) = not-deep h
   and-deep (and_condition h l) = not-deep l
 
-  not-deep : {d : ℕ} {ts us : List Token} {x : Condition} → IsNotCondition d ts x us → 0 < d
+  not-deep : {d : ℕ} {ts us : List Token} {x : WhenCondition} → IsNotCondition d ts x us → 0 < d
   not-deep (not_condition h) = omega arith
   not-deep (inner_condition h) = omega arith
   not-deep (has_data h) = omega arith
@@ -195,13 +197,13 @@ unfolding nested
 inner-negation zero ts some = absurd (omega (arith, some))
 inner-negation (suc d) ts some = refl
 
-module _ (inner : Level → Reader Condition) where
-  whole-first : {ts us : List Token} {x : Condition} → conjunction inner ts ≡ Some (x, us)
+module _ (inner : Level → Reader WhenCondition) where
+  whole-first : {ts us : List Token} {x : WhenCondition} → conjunction inner ts ≡ Some (x, us)
       → Comes Or (conjunction inner) (whole inner) ts x us
   unfolding whole
   whole-first h = record { run = chains.comes-first (links Or (conjunction inner)) length h }
 
-  and-first : {ts us : List Token} {x : Condition} → negation inner ts ≡ Some (x, us)
+  and-first : {ts us : List Token} {x : WhenCondition} → negation inner ts ≡ Some (x, us)
       → Comes And (negation inner) (conjunction inner) ts x us
   unfolding conjunction
   and-first h = record { run = chains.comes-first (links And (negation inner)) length h }
@@ -226,12 +228,12 @@ module _ (inner : Level → Reader Condition) where
   unfolding sees same_key key_of is_reserved
   asks-unopened us = refl
 
-  not-gives : {ts us : List Token} {x : Condition} → inner Negation ts ≡ Some (x, us)
+  not-gives : {ts us : List Token} {x : WhenCondition} → inner Negation ts ≡ Some (x, us)
       → negation inner (Word (codes "NOT") ∷ ts) ≡ Some (c.Not x, us)
   unfolding negation negated
   not-gives {ts = ts} h = rw (not-seen ts, h) refl
 
-  inner-gives : {ts us : List Token} {x : Condition} → inner Whole ts ≡ Some (x, SignToken token.RParen ∷ us)
+  inner-gives : {ts us : List Token} {x : WhenCondition} → inner Whole ts ≡ Some (x, SignToken token.RParen ∷ us)
       → negation inner (SignToken token.LParen ∷ ts) ≡ Some (x, us)
   unfolding negation parenthesized
   inner-gives {ts = ts} {us = us} h = rw (open-other ts, open-seen ts, h, rparen_reads us) refl
@@ -256,18 +258,19 @@ unfolding sees_word
 close-and us = refl
 
 mutual
-  whole-run : {d : ℕ} {ts us : List Token} {x : Condition} → IsCondition d ts x us → sees_word (codes "AND") us ≡ false
+  whole-run : {d : ℕ} {ts us : List Token} {x : WhenCondition} → IsCondition d ts x us →
+      sees_word (codes "AND") us ≡ false
       → Comes Or (conjunction (nested (before d))) (whole (nested (before d))) ts x us
   whole-run (one_cand h) end = whole-first _ (comes-ends And (and-run h) end)
   whole-run (or_condition h l) end =
       comes-next Or (whole-run h (or-other _)) (comes-ends And (and-run l) end) (rest-short (cand-frame l))
 
-  and-run : {d : ℕ} {ts us : List Token} {x : Condition} → IsAndCondition d ts x us
+  and-run : {d : ℕ} {ts us : List Token} {x : WhenCondition} → IsAndCondition d ts x us
       → Comes And (negation (nested (before d))) (conjunction (nested (before d))) ts x us
   and-run (one_cnot h) = and-first _ (not-run h)
   and-run (and_condition h l) = comes-next And (and-run h) (not-run l) (rest-short (cnot-frame l))
 
-  not-run : {d : ℕ} {ts us : List Token} {x : Condition} → IsNotCondition d ts x us
+  not-run : {d : ℕ} {ts us : List Token} {x : WhenCondition} → IsNotCondition d ts x us
       → negation (nested (before d)) ts ≡ Some (x, us)
   not-run (not_condition {d} {ts} h) = not-gives (nested d) (inner-negation d ts (not-deep h) ∙ not-run h)
   not-run (inner_condition {d} {ts} {us} h) =
@@ -278,7 +281,7 @@ no_either : (a b : Bool) → (a || b) ≡ false → (a ≡ false) × (b ≡ fals
 no_either true b h = absurd (cc)
 no_either false b h = (refl, h)
 
-condition_given : (d : ℕ) (ts : List Token) (x : Condition) (us : List Token) → IsConditionAt d ts x us
+condition_given : (d : ℕ) (ts : List Token) (x : WhenCondition) (us : List Token) → IsConditionAt d ts x us
     → read_condition d ts ≡ Some (x, us)
 unfolding read_condition no_operator
 condition_given d ts x us h =

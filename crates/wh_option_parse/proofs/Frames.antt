@@ -2,7 +2,7 @@
 use Rattle.std.proofs.Common.{◌≡◌, ℕ, suc, ◌≤◌, Bool, true, false, ◌&&◌, List, [], ◌∷◌, ◌++◌, length, refl, sym, ap}
 use Rattle.std.proofs.Common.{◌∙◌, subst, append_assoc, append-nil, length-append, arith}
 use Rattle.std.specs.Prelude.{codes}
-use Rattle.wh_ast.specs.declared.statement.Condition.{Condition}
+use Rattle.wh_ast.specs.declared.statement.WhenCondition.{WhenCondition}
 use Rattle.wh_ast.specs.declared.statement.Lag.{Lag}
 use Rattle.wh_grammar.specs.Words.{is_call}
 use Rattle.wh_grammar.specs.Token as token
@@ -63,30 +63,30 @@ asked-frame (asks {us} {bytes} {name} h) = record {
 }
 
 -- `(` and a condition
-data IsInner : ℕ → List Token → Condition → List Token → Type 0 where
-  inner : {d : ℕ} {ts us : List Token} {x : Condition} → IsCondition d ts x us
+data IsInner : ℕ → List Token → WhenCondition → List Token → Type 0 where
+  inner : {d : ℕ} {ts us : List Token} {x : WhenCondition} → IsCondition d ts x us
       → IsInner d (SignToken token.LParen ∷ ts) x us
 
-close : {d : ℕ} {ts us : List Token} {x : Condition} → IsInner d ts x (SignToken token.RParen ∷ us)
+close : {d : ℕ} {ts us : List Token} {x : WhenCondition} → IsInner d ts x (SignToken token.RParen ∷ us)
     → IsNotCondition (suc d) ts x us
 close k = by k refl
   where
-    by : {d : ℕ} {ts us vs : List Token} {x : Condition} → IsInner d ts x vs → vs ≡ SignToken token.RParen ∷ us
+    by : {d : ℕ} {ts us vs : List Token} {x : WhenCondition} → IsInner d ts x vs → vs ≡ SignToken token.RParen ∷ us
         → IsNotCondition (suc d) ts x us
     by (inner {d} {ts} {us} {x} h) e = inner_condition (subst (λ (vs : List Token). IsCondition d ts x vs) e h)
 
 mutual
-  pub cor-frame : {d : ℕ} {ts us : List Token} {x : Condition} → IsCondition d ts x us
+  pub cor-frame : {d : ℕ} {ts us : List Token} {x : WhenCondition} → IsCondition d ts x us
       → Framed (λ xs ys. IsCondition d xs x ys) ts us
   cor-frame (one_cand h) = let f = cand-frame h in record { front = f.front; is = f.is; on = λ vs. one_cand (f.on vs) }
   cor-frame (or_condition h l) = joined (Word (codes "OR")) (cor-frame h) (cand-frame l) (λ xs ys zs. or_condition)
 
-  pub cand-frame : {d : ℕ} {ts us : List Token} {x : Condition} → IsAndCondition d ts x us
+  pub cand-frame : {d : ℕ} {ts us : List Token} {x : WhenCondition} → IsAndCondition d ts x us
       → Framed (λ xs ys. IsAndCondition d xs x ys) ts us
   cand-frame (one_cnot h) = let f = cnot-frame h in record { front = f.front; is = f.is; on = λ vs. one_cnot (f.on vs) }
   cand-frame (and_condition h l) = joined (Word (codes "AND")) (cand-frame h) (cnot-frame l) (λ xs ys zs. and_condition)
 
-  pub cnot-frame : {d : ℕ} {ts us : List Token} {x : Condition} → IsNotCondition d ts x us
+  pub cnot-frame : {d : ℕ} {ts us : List Token} {x : WhenCondition} → IsNotCondition d ts x us
       → Framed (λ xs ys. IsNotCondition d xs x ys) ts us
   cnot-frame (not_condition h) = first (Word (codes "NOT")) (cnot-frame h) (λ xs ys. not_condition)
   cnot-frame (inner_condition {d} {ts} {us} {x} h) =

@@ -7,7 +7,7 @@ use Rattle.wh_grammar.specs.Token as token
 use Rattle.wh_grammar.specs.Token.{Token, Word, TextToken, SignToken}
 use Rattle.wh_grammar.specs.OptionText.{IsSchedule, IsNameText}
 use Rattle.wh_grammar.specs.Parts.{IsLag, downstream, lag_text, AsksForData, asks}
-use Rattle.wh_cursor.specs.declared.key.Key.TheVariants as k
+use Rattle.wh_cursor.specs.declared.key.TokenClass.TheVariants as k
 use Rattle.wh_cursor.specs.Steps.{tail, sees_word}
 use Rattle.wh_option_parse.specs.Laws as laws
 use Rattle.wh_option_parse.specs.Read.{lag_of, name_text_of, schedule_of, read_schedule, read_name_text, lag_from}

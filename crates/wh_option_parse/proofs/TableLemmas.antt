@@ -16,7 +16,7 @@ use Rattle.wh_grammar.specs.Name.{IsName}
 use Rattle.wh_grammar.specs.Parts as g
 use Rattle.wh_grammar.specs.Parts.{IsLag, IsMode, IsInitialize, IsChosen, TableOption, AreTableOptions}
 use Rattle.wh_grammar.specs.Parts.{TableOptionsGive, lags_in, modes_in, initialized_in, warehouses_in}
-use Rattle.wh_cursor.specs.declared.key.Key.TheVariants as k
+use Rattle.wh_cursor.specs.declared.key.TokenClass.TheVariants as k
 use Rattle.wh_cursor.specs.Steps.{tail, sees_word, read_word}
 use Rattle.wh_cursor.specs.declared.fault.ParseFault.{ParseFault}
 use Rattle.wh_cursor.specs.declared.fault.ParseFault.TheVariants as faults

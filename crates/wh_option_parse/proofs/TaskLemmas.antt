@@ -9,7 +9,7 @@ use Rattle.wh_grammar.specs.Name.{IsName}
 use Rattle.wh_grammar.specs.OptionText.{IsSchedule}
 use Rattle.wh_grammar.specs.Parts as g
 use Rattle.wh_grammar.specs.Parts.{TaskOption, AreTaskOptions, TaskOptionsGive}
-use Rattle.wh_cursor.specs.declared.key.Key.TheVariants as k
+use Rattle.wh_cursor.specs.declared.key.TokenClass.TheVariants as k
 use Rattle.wh_cursor.specs.Steps.{tail, sees_word}
 use Rattle.wh_option_parse.specs.declared.task.TaskParts.{TaskParts}
 use Rattle.wh_option_parse.specs.Follow.{ends_task_options, AreTaskOptionsAt}

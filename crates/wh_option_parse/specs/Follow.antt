@@ -3,7 +3,7 @@
 --     AreTaskOptionsAt    the options of a task, each at most once, and none behind them
 --     AreTableOptionsAt   the options of a dynamic table, each at most once, with a lag, and none behind them
 use Rattle.std.specs.Prelude.{◌≡◌, ℕ, Bool, true, not, ◌||◌, List, ◌∷◌, Option, codes, bytes_eq}
-use Rattle.wh_ast.specs.declared.statement.Condition.{Condition}
+use Rattle.wh_ast.specs.declared.statement.WhenCondition.{WhenCondition}
 use Rattle.wh_ast.specs.declared.statement.Lag.{Lag}
 use Rattle.wh_ast.specs.declared.statement.RefreshMode.{RefreshMode}
 use Rattle.wh_ast.specs.declared.statement.Initialize.{Initialize}
@@ -28,7 +28,7 @@ ends_table_options (Word w ∷ us) =
     || bytes_eq w (codes "INITIALIZE"))
 ends_table_options _ = true
 
-pub record IsConditionAt (d : ℕ) (ts : List Token) (x : Condition) (us : List Token) : Type 0 where
+pub record IsConditionAt (d : ℕ) (ts : List Token) (x : WhenCondition) (us : List Token) : Type 0 where
   pub condition : IsCondition d ts x us
   pub ends : ends_condition us ≡ true
 

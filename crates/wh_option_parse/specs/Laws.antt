@@ -6,7 +6,7 @@
 --     TaskOptionsFrame, TableOptionsFrame
 --                         options are a front of the tokens, and are the same before any tokens but a `(`
 use Rattle.std.specs.Prelude.{◌≡◌, ◌↔◌, ℕ, false, List, [], ◌++◌, Option, Some}
-use Rattle.wh_ast.specs.declared.statement.Condition.{Condition}
+use Rattle.wh_ast.specs.declared.statement.WhenCondition.{WhenCondition}
 use Rattle.wh_ast.specs.declared.statement.Lag.{Lag}
 use Rattle.wh_ast.specs.declared.statement.RefreshMode.{RefreshMode}
 use Rattle.wh_ast.specs.declared.statement.Initialize.{Initialize}
@@ -25,7 +25,7 @@ ReadsAsked = (ts : List Token) (name : List ℕ) (us : List Token)
     → (read_asked ts ≡ Some (name, us)) ↔ AsksForData ts name us
 
 abbrev pub ReadsConditions : Type 0
-ReadsConditions = (d : ℕ) (ts : List Token) (x : Condition) (us : List Token)
+ReadsConditions = (d : ℕ) (ts : List Token) (x : WhenCondition) (us : List Token)
     → (read_condition d ts ≡ Some (x, us)) ↔ IsConditionAt d ts x us
 
 abbrev pub ReadsTaskOptions : Type 0
@@ -37,11 +37,11 @@ ReadsTableOptions = (ts : List Token) (l : Lag) (m : RefreshMode) (i : Initializ
     → (read_table_options ts ≡ Some ((l, (m, i)), us)) ↔ AreTableOptionsAt ts l m i us
 
 abbrev pub ConditionFrame : Type 0
-ConditionFrame = (d : ℕ) (ts : List Token) (x : Condition) (us : List Token) → IsCondition d ts x us
+ConditionFrame = (d : ℕ) (ts : List Token) (x : WhenCondition) (us : List Token) → IsCondition d ts x us
     → (front : List Token) × (ts ≡ front ++ us) × IsCondition d front x []
 
 abbrev pub ConditionBack : Type 0
-ConditionBack = (d : ℕ) (front : List Token) (x : Condition) (us : List Token) → IsCondition d front x []
+ConditionBack = (d : ℕ) (front : List Token) (x : WhenCondition) (us : List Token) → IsCondition d front x []
     → IsCondition d (front ++ us) x us
 
 abbrev pub TaskOptionsFrame : Type 0

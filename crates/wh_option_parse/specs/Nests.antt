@@ -4,7 +4,7 @@
 use Rattle.std.specs.Prelude.{ℕ, List, Option, Result}
 use Rattle.std.specs.declared.alloc.Global.{Global}
 use denote.Ref.{MutBor}
-use Rattle.wh_ast.specs.declared.statement.Condition.{Condition}
+use Rattle.wh_ast.specs.declared.statement.WhenCondition.{WhenCondition}
 use Rattle.wh_grammar.specs.Token.{Token}
 use Rattle.wh_cursor.specs.declared.fault.ParseFault.{ParseFault}
 use Rattle.wh_cursor.specs.Gives.{Reads}
@@ -13,10 +13,10 @@ use Rattle.wh_option_parse.specs.declared.levels.Level.{Level}
 use Rattle.wh_option_parse.specs.Read.{nested}
 
 pub record Nests (depth : ℕ) (pre : Global → MutBor (List Token) → ℕ → Level → Type 0)
-    (post : Global → MutBor (List Token) → ℕ → Level → Result Condition ParseFault → MutBor (List Token)
+    (post : Global → MutBor (List Token) → ℕ → Level → Result WhenCondition ParseFault → MutBor (List Token)
     → Type 0) : Type 0 where
   pub callable : (alloc : Global) (old : MutBor (List Token)) (level : Level) → pre alloc old depth level
-  pub reads : (alloc : Global) (old new : MutBor (List Token)) (level : Level) (r : Result Condition ParseFault)
+  pub reads : (alloc : Global) (old new : MutBor (List Token)) (level : Level) (r : Result WhenCondition ParseFault)
       → post alloc old depth level r new
       → Reads (nested depth level old.now) r new.now
 

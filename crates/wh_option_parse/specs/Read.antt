@@ -9,8 +9,8 @@ use Rattle.std.specs.Prelude.{length, map, take, drop, Option, Some, None, optio
 use Rattle.std.specs.List.{prefix_len}
 use Rattle.wh_ast.specs.declared.statement.Lag.{Lag}
 use Rattle.wh_ast.specs.declared.statement.Lag.TheVariants as lag
-use Rattle.wh_ast.specs.declared.statement.Condition.{Condition}
-use Rattle.wh_ast.specs.declared.statement.Condition.TheVariants as c
+use Rattle.wh_ast.specs.declared.statement.WhenCondition.{WhenCondition}
+use Rattle.wh_ast.specs.declared.statement.WhenCondition.TheVariants as c
 use Rattle.wh_ast.specs.declared.statement.RefreshMode.{RefreshMode}
 use Rattle.wh_ast.specs.declared.statement.RefreshMode.TheVariants as mode
 use Rattle.wh_ast.specs.declared.statement.Initialize.{Initialize}
@@ -19,7 +19,7 @@ use Rattle.wh_grammar.specs.Bytes.{is_blank, is_digit, upper, number_behind}
 use Rattle.wh_grammar.specs.Words.{is_reserved}
 use Rattle.wh_grammar.specs.Token.{Token, Word, Quoted, TextToken, NumberToken, SignToken}
 use Rattle.wh_lex.specs.Front.{front_of}
-use Rattle.wh_cursor.specs.declared.key.Key.TheVariants as k
+use Rattle.wh_cursor.specs.declared.key.TokenClass.TheVariants as k
 use Rattle.wh_cursor.specs.Chains as chains
 use Rattle.wh_cursor.specs.Chains.{Links}
 use Rattle.wh_cursor.specs.Steps.{sees, Reader, ◌>>=◌, ◌>>◌, pure, refuse, skip, sees_word, eat_word, expect_word}
@@ -140,61 +140,61 @@ read_connective connective = do
   found ← eat_word (word_of connective)
   pure (if found then Some connective else None)
 
-abbrev pub connected : Connective → Condition → Condition → Condition
+abbrev pub connected : Connective → WhenCondition → WhenCondition → WhenCondition
 connected Or x y = c.Or x y
 connected And x y = c.And x y
 
-abbrev pub links : Connective → Reader Condition → Links (List Token) Condition Connective
+abbrev pub links : Connective → Reader WhenCondition → Links (List Token) WhenCondition Connective
 links connective item = record { operator = read_connective connective; operand = item; make = connected }
 
-abbrev pub chain : Connective → Reader Condition → Reader Condition
+abbrev pub chain : Connective → Reader WhenCondition → Reader WhenCondition
 chain connective item = chains.chain (links connective item) length
 
-module _ (inner : Level → Reader Condition) where
-  unfoldable pub negated : Reader Condition
+module _ (inner : Level → Reader WhenCondition) where
+  unfoldable pub negated : Reader WhenCondition
   negated = do
     skip
     x ← inner Negation
     pure (c.Not x)
 
-  unfoldable pub parenthesized : Reader Condition
+  unfoldable pub parenthesized : Reader WhenCondition
   parenthesized = do
     skip
     x ← inner Whole
     expect_key k.RParen
     pure x
 
-  unfoldable pub has_data : Reader Condition
+  unfoldable pub has_data : Reader WhenCondition
   has_data = do
     name ← read_asked
     pure (c.HasData name)
 
   -- whether NOT and whether `(` comes next
-  abbrev pub negation_by : Bool → Bool → Reader Condition
+  abbrev pub negation_by : Bool → Bool → Reader WhenCondition
   negation_by true opened = negated
   negation_by false true = parenthesized
   negation_by false false = has_data
 
-  unfoldable pub negation : Reader Condition
+  unfoldable pub negation : Reader WhenCondition
   negation = λ ts. negation_by (sees_word (codes "NOT") ts) (sees k.LParen ts) ts
 
-  unfoldable pub conjunction : Reader Condition
+  unfoldable pub conjunction : Reader WhenCondition
   conjunction = chain And negation
 
-  unfoldable pub whole : Reader Condition
+  unfoldable pub whole : Reader WhenCondition
   whole = chain Or conjunction
 
   -- what a connective stands between
-  abbrev pub operand : Connective → Reader Condition
+  abbrev pub operand : Connective → Reader WhenCondition
   operand Or = conjunction
   operand And = negation
 
-abbrev pub level : (Level → Reader Condition) → Level → Reader Condition
+abbrev pub level : (Level → Reader WhenCondition) → Level → Reader WhenCondition
 level inner Whole = whole inner
 level inner Negation = negation inner
 
 -- inside one another, as deep as the number says
-unfoldable pub nested : ℕ → Level → Reader Condition
+unfoldable pub nested : ℕ → Level → Reader WhenCondition
 nested zero l = refuse
 nested (suc depth) l = level (nested depth) l
 
@@ -202,7 +202,7 @@ nested (suc depth) l = level (nested depth) l
 unfoldable pub no_operator : Reader (Unit {0})
 no_operator = λ ts. if sees_word (codes "OR") ts || sees_word (codes "AND") ts then None else Some (tt, ts)
 
-unfoldable pub read_condition : ℕ → Reader Condition
+unfoldable pub read_condition : ℕ → Reader WhenCondition
 read_condition d = do
   x ← nested d Whole
   no_operator

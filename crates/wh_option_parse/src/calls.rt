@@ -1,5 +1,5 @@
 ghost use Rattle.std.specs.Prelude.{◌≡◌, ℕ, List, Option, IfOk, IsErrOf, OnErr};
-ghost use Rattle.wh_ast.specs.declared.statement.Condition as ast_condition;
+ghost use Rattle.wh_ast.specs.declared.statement.WhenCondition as ast_condition;
 ghost use Rattle.wh_ast.specs.declared.statement.Initialize as ast_initialize;
 ghost use Rattle.wh_ast.specs.declared.statement.Lag as ast_lag;
 ghost use Rattle.wh_ast.specs.declared.statement.RefreshMode as ast_mode;
@@ -17,7 +17,7 @@ use crate::levels::read_condition;
 use crate::table::read_table_options;
 use crate::task::read_task_options;
 use std::alloc::Global;
-use wh_ast::{Condition, Lag};
+use wh_ast::{Lag, WhenCondition};
 use wh_cursor::{ParseFault, Words};
 use wh_value::Text;
 
@@ -49,10 +49,10 @@ pub fn condition(
     alloc: Global,
     words: &mut Words<'_>,
     depth: usize,
-) -> Result<Condition, ParseFault>
+) -> Result<WhenCondition, ParseFault>
     ensures found { IfOk result (λ x. IsConditionAt depth words.old x words.new) }
     ensures none { IsErrOf result ParseFault.SyntaxError
-        → (x : ast_condition.Condition) (us : List machine.Token)
+        → (x : ast_condition.WhenCondition) (us : List machine.Token)
         → IsConditionAt depth words.old x us → ⊥ }
     ensures reads { Reads (spec.read_condition depth words.old) result words.new }
     ensures kept { OnErr result (words.new ≡ words.old) }

@@ -8,7 +8,7 @@ use crate::names::name_text;
 use crate::span::{lag_text, schedule};
 use std::alloc::Global;
 use wh_ast::Lag;
-use wh_cursor::{Key, ParseFault, Words};
+use wh_cursor::{ParseFault, TokenClass, Words};
 use wh_value::Text;
 
 fn lag_by_text(alloc: Global, words: &mut Words<'_>) -> Result<Lag, ParseFault>
@@ -67,9 +67,9 @@ pub fn read_asked(alloc: Global, words: &mut Words<'_>) -> Result<Text, ParseFau
 {
     let mut ahead = Words::new(words.rest());
     ahead.expect_word(b"SYSTEM$STREAM_HAS_DATA")?;
-    ahead.expect(Key::LParen)?;
+    ahead.expect(TokenClass::LParen)?;
     let name = read_name_text(alloc, &mut ahead)?;
-    ahead.expect(Key::RParen)?;
+    ahead.expect(TokenClass::RParen)?;
     *words = ahead;
     Ok(name)
 }

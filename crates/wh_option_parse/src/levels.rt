@@ -9,8 +9,8 @@ ghost use Rattle.wh_option_parse.specs.Read as spec;
 use crate::lags::read_asked;
 use sqlite_items::Boxed;
 use std::alloc::Global;
-use wh_ast::Condition;
-use wh_cursor::{Key, ParseFault, Words, joined};
+use wh_ast::WhenCondition;
+use wh_cursor::{ParseFault, TokenClass, Words, joined};
 
 /// What may stand inside a condition.
 #[derive(Clone, Copy)]
@@ -51,12 +51,16 @@ fn read_connective(
     Ok(if found { Some(connective) } else { None })
 }
 
-fn connected(connective: Connective, x: Boxed<Condition>, y: Boxed<Condition>) -> Condition
+fn connected(
+    connective: Connective,
+    x: Boxed<WhenCondition>,
+    y: Boxed<WhenCondition>,
+) -> WhenCondition
     ensures { result ≡ spec.connected connective x y }
 {
     match connective {
-        Connective::Or => Condition::Or(x, y),
-        Connective::And => Condition::And(x, y),
+        Connective::Or => WhenCondition::Or(x, y),
+        Connective::And => WhenCondition::And(x, y),
     }
 }
 
@@ -66,15 +70,17 @@ fn left_count(words: &Words<'_>) -> usize
     words.rest().len()
 }
 
-impl<F: Fn(Global, &mut Words<'_>, usize, Level) -> Result<Boxed<Condition>, ParseFault>> Rules<F> {
-    fn inner(&self, words: &mut Words<'_>, level: Level) -> Result<Boxed<Condition>, ParseFault>
+impl<F: Fn(Global, &mut Words<'_>, usize, Level) -> Result<Boxed<WhenCondition>, ParseFault>> Rules<
+    F,
+> {
+    fn inner(&self, words: &mut Words<'_>, level: Level) -> Result<Boxed<WhenCondition>, ParseFault>
         requires { Nests self.now.depth (F.pre self.now.inner) (F.post self.now.inner) }
         ensures { Reads (spec.nested self.now.depth level words.old) result words.new }
     {
         (self.inner)(self.alloc, words, self.depth, level)
     }
 
-    fn level(&self, words: &mut Words<'_>, level: Level) -> Result<Boxed<Condition>, ParseFault>
+    fn level(&self, words: &mut Words<'_>, level: Level) -> Result<Boxed<WhenCondition>, ParseFault>
         requires { Nests self.now.depth (F.pre self.now.inner) (F.post self.now.inner) }
         ensures { Reads (spec.level (spec.nested self.now.depth) level words.old) result words.new }
     {
@@ -85,12 +91,12 @@ impl<F: Fn(Global, &mut Words<'_>, usize, Level) -> Result<Boxed<Condition>, Par
     }
 
     /// Operands with a connective between them, grouped to the left.
-    fn chain<G: Fn(&mut Words<'_>) -> Result<Boxed<Condition>, ParseFault>>(
+    fn chain<G: Fn(&mut Words<'_>) -> Result<Boxed<WhenCondition>, ParseFault>>(
         &self,
         words: &mut Words<'_>,
         connective: Connective,
         operand: &G,
-    ) -> Result<Boxed<Condition>, ParseFault>
+    ) -> Result<Boxed<WhenCondition>, ParseFault>
         requires callable { G.IsAlwaysCallable operand.now }
         requires reads { ReadsBy (spec.operand (spec.nested self.now.depth) connective)
             (G.post operand.now) }
@@ -112,7 +118,7 @@ impl<F: Fn(Global, &mut Words<'_>, usize, Level) -> Result<Boxed<Condition>, Par
 
     /// Operands of OR.
     #[tactic(auto, unfolding(crate::specs::Read::whole))]
-    fn whole(&self, words: &mut Words<'_>) -> Result<Boxed<Condition>, ParseFault>
+    fn whole(&self, words: &mut Words<'_>) -> Result<Boxed<WhenCondition>, ParseFault>
         requires { Nests self.now.depth (F.pre self.now.inner) (F.post self.now.inner) }
         ensures { Reads (spec.whole (spec.nested self.now.depth) words.old) result words.new }
     {
@@ -121,7 +127,7 @@ impl<F: Fn(Global, &mut Words<'_>, usize, Level) -> Result<Boxed<Condition>, Par
 
     /// Operands of AND.
     #[tactic(auto, unfolding(crate::specs::Read::conjunction))]
-    fn conjunction(&self, words: &mut Words<'_>) -> Result<Boxed<Condition>, ParseFault>
+    fn conjunction(&self, words: &mut Words<'_>) -> Result<Boxed<WhenCondition>, ParseFault>
         requires { Nests self.now.depth (F.pre self.now.inner) (F.post self.now.inner) }
         ensures { Reads (spec.conjunction (spec.nested self.now.depth) words.old) result words.new }
     {
@@ -129,14 +135,14 @@ impl<F: Fn(Global, &mut Words<'_>, usize, Level) -> Result<Boxed<Condition>, Par
     }
 
     #[tactic(auto, unfolding(crate::specs::Read::negation))]
-    fn negation(&self, words: &mut Words<'_>) -> Result<Boxed<Condition>, ParseFault>
+    fn negation(&self, words: &mut Words<'_>) -> Result<Boxed<WhenCondition>, ParseFault>
         requires { Nests self.now.depth (F.pre self.now.inner) (F.post self.now.inner) }
         ensures { Reads (spec.negation (spec.nested self.now.depth) words.old) result words.new }
     {
         if words.sees_word(b"NOT") {
             return self.negated(words);
         }
-        if words.sees(Key::LParen) {
+        if words.sees(TokenClass::LParen) {
             return self.parenthesized(words);
         }
         self.has_data(words)
@@ -144,34 +150,34 @@ impl<F: Fn(Global, &mut Words<'_>, usize, Level) -> Result<Boxed<Condition>, Par
 
     /// At `NOT`.
     #[tactic(auto, unfolding(crate::specs::Read::negated))]
-    fn negated(&self, words: &mut Words<'_>) -> Result<Boxed<Condition>, ParseFault>
+    fn negated(&self, words: &mut Words<'_>) -> Result<Boxed<WhenCondition>, ParseFault>
         requires { Nests self.now.depth (F.pre self.now.inner) (F.post self.now.inner) }
         ensures { Reads (spec.negated (spec.nested self.now.depth) words.old) result words.new }
     {
         words.skip();
         let x = self.inner(words, Level::Negation)?;
-        Ok(Boxed::new(self.alloc, Condition::Not(x))?)
+        Ok(Boxed::new(self.alloc, WhenCondition::Not(x))?)
     }
 
     /// At `(`.
     #[tactic(auto, unfolding(crate::specs::Read::parenthesized))]
-    fn parenthesized(&self, words: &mut Words<'_>) -> Result<Boxed<Condition>, ParseFault>
+    fn parenthesized(&self, words: &mut Words<'_>) -> Result<Boxed<WhenCondition>, ParseFault>
         requires { Nests self.now.depth (F.pre self.now.inner) (F.post self.now.inner) }
         ensures { Reads (spec.parenthesized (spec.nested self.now.depth) words.old) result
             words.new }
     {
         words.skip();
         let x = self.inner(words, Level::Whole)?;
-        words.expect(Key::RParen)?;
+        words.expect(TokenClass::RParen)?;
         Ok(x)
     }
 
     #[tactic(auto, unfolding(crate::specs::Read::has_data))]
-    fn has_data(&self, words: &mut Words<'_>) -> Result<Boxed<Condition>, ParseFault>
+    fn has_data(&self, words: &mut Words<'_>) -> Result<Boxed<WhenCondition>, ParseFault>
         ensures { Reads (spec.has_data (spec.nested self.now.depth) words.old) result words.new }
     {
         let name = read_asked(self.alloc, words)?;
-        Ok(Boxed::new(self.alloc, Condition::HasData(name))?)
+        Ok(Boxed::new(self.alloc, WhenCondition::HasData(name))?)
     }
 }
 
@@ -181,7 +187,7 @@ fn nested(
     words: &mut Words<'_>,
     depth: usize,
     level: Level,
-) -> Result<Boxed<Condition>, ParseFault>
+) -> Result<Boxed<WhenCondition>, ParseFault>
     ensures { Reads (spec.nested depth level words.old) result words.new }
 {
     if depth == 0 {
@@ -201,7 +207,7 @@ pub fn read_condition(
     alloc: Global,
     words: &mut Words<'_>,
     depth: usize,
-) -> Result<Condition, ParseFault>
+) -> Result<WhenCondition, ParseFault>
     ensures reads { Reads (spec.read_condition depth words.old) result words.new }
     ensures kept { OnErr result (words.new ≡ words.old) }
 {

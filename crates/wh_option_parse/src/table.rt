@@ -8,7 +8,7 @@ use crate::gathering::options;
 use crate::lags::read_lag;
 use std::alloc::Global;
 use wh_ast::{Initialize, Lag, RefreshMode};
-use wh_cursor::{Key, ParseFault, Words, name};
+use wh_cursor::{ParseFault, TokenClass, Words, name};
 use wh_value::Text;
 
 /// What the options of a dynamic table say.
@@ -40,7 +40,7 @@ fn table_lag(
     if parts.lag.is_some() {
         return Err(ParseFault::SyntaxError);
     }
-    words.expect(Key::Equal)?;
+    words.expect(TokenClass::Equal)?;
     let lag = read_lag(alloc, words)?;
     Ok(TableParts {
         lag: Some(lag),
@@ -62,7 +62,7 @@ fn table_warehouse(
     if parts.warehouse {
         return Err(ParseFault::SyntaxError);
     }
-    words.expect(Key::Equal)?;
+    words.expect(TokenClass::Equal)?;
     let _name = name(alloc, words)?;
     Ok(TableParts {
         lag: parts.lag,
@@ -117,7 +117,7 @@ fn table_mode(
     if parts.mode.is_some() {
         return Err(ParseFault::SyntaxError);
     }
-    words.expect(Key::Equal)?;
+    words.expect(TokenClass::Equal)?;
     let word = words.word(alloc)?;
     let Some(mode) = mode(&word) else {
         return Err(ParseFault::SyntaxError);
@@ -142,7 +142,7 @@ fn table_initialize(
     if parts.initialize.is_some() {
         return Err(ParseFault::SyntaxError);
     }
-    words.expect(Key::Equal)?;
+    words.expect(TokenClass::Equal)?;
     let word = words.word(alloc)?;
     let Some(initialize) = initialize(&word) else {
         return Err(ParseFault::SyntaxError);

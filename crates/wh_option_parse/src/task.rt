@@ -6,7 +6,7 @@ ghost use Rattle.wh_option_parse.specs.Read as spec;
 use crate::gathering::options;
 use crate::lags::read_schedule;
 use std::alloc::Global;
-use wh_cursor::{Key, ParseFault, Words, name};
+use wh_cursor::{ParseFault, TokenClass, Words, name};
 
 /// The options of a task so far.
 #[derive(Clone, Copy)]
@@ -27,7 +27,7 @@ fn task_warehouse(
     if parts.warehouse {
         return Err(ParseFault::SyntaxError);
     }
-    words.expect(Key::Equal)?;
+    words.expect(TokenClass::Equal)?;
     let _name = name(alloc, words)?;
     Ok(TaskParts {
         warehouse: true,
@@ -47,7 +47,7 @@ fn task_schedule(
     if parts.minutes.is_some() {
         return Err(ParseFault::SyntaxError);
     }
-    words.expect(Key::Equal)?;
+    words.expect(TokenClass::Equal)?;
     let minutes = read_schedule(alloc, words)?;
     Ok(TaskParts {
         warehouse: parts.warehouse,

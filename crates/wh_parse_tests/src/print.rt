@@ -3,7 +3,7 @@
 use std::alloc::{AllocError, Global};
 use std::process::Abort;
 use wh_ast::{
-    Condition, CreateDynamicTable, CreateTask, Dml, Initialize, Lag, RefreshMode, Statement,
+    CreateDynamicTable, CreateTask, Dml, Initialize, Lag, RefreshMode, Statement, WhenCondition,
 };
 use wh_value::{Bytes, Text};
 
@@ -56,28 +56,28 @@ fn kept(text: &Text, out: &mut Printer) {
     out.put(b">");
 }
 
-fn condition(found: &Condition, out: &mut Printer) {
+fn condition(found: &WhenCondition, out: &mut Printer) {
     match found {
-        Condition::Or(x, y) => {
+        WhenCondition::Or(x, y) => {
             out.put(b"(");
             condition(x.get(), out);
             out.put(b" or ");
             condition(y.get(), out);
             out.put(b")");
         }
-        Condition::And(x, y) => {
+        WhenCondition::And(x, y) => {
             out.put(b"(");
             condition(x.get(), out);
             out.put(b" and ");
             condition(y.get(), out);
             out.put(b")");
         }
-        Condition::Not(x) => {
+        WhenCondition::Not(x) => {
             out.put(b"(not ");
             condition(x.get(), out);
             out.put(b")");
         }
-        Condition::HasData(name) => out.put(name.as_bytes()),
+        WhenCondition::HasData(name) => out.put(name.as_bytes()),
     }
 }
 

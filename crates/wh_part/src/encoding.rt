@@ -3,7 +3,7 @@ ghost use Rattle.std.specs.List.{flat_map, AllByRecursion};
 ghost use Rattle.wh_frame.specs.Spelling.{value_bytes, row_bytes};
 ghost use Rattle.wh_part.specs.Shape.{HasWideNumber};
 ghost use Rattle.wh_part.specs.View.{numbered_of};
-ghost use Rattle.wh_value.specs.Kept.{Keeps};
+ghost use Rattle.wh_value.specs.Appended.{Keeps};
 ghost use Rattle.wh_value.specs.View.{value_of};
 
 use crate::writing::{write_text, write_u32, write_u64};
@@ -67,7 +67,7 @@ impl Partition {
     ghost use Rattle.std.specs.Prelude.{◌≡◌, ◌++◌, OnOk, OnErr};
     ghost use Rattle.wh_frame.specs.Spelling.{partition_bytes};
     ghost use Rattle.wh_part.specs.Shape.{IsShaped};
-    ghost use Rattle.wh_value.specs.Kept.{Keeps};
+    ghost use Rattle.wh_value.specs.Appended.{Keeps};
 
     /// Adds the bytes of the partition, or nothing where memory runs out.
     pub fn encode(&self, out: &mut Bytes) -> Result<(), AllocError>

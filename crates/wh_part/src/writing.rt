@@ -1,6 +1,6 @@
 ghost use Rattle.std.specs.Prelude.{◌≡◌, ◌++◌, OnOk, OnErr};
 ghost use Rattle.std.specs.Int.{w32, w64, to_be_bytes};
-ghost use Rattle.wh_value.specs.Kept.{Keeps};
+ghost use Rattle.wh_value.specs.Appended.{Keeps};
 ghost use Rattle.wh_value.specs.Value.{IsText};
 ghost use Rattle.wh_frame.specs.Spelling.{text_bytes};
 

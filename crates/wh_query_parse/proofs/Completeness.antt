@@ -4,7 +4,7 @@ use Rattle.wh_ast.specs.declared.expr.Expr.{Expr}
 use Rattle.wh_ast.specs.declared.query.Query.{Query}
 use Rattle.wh_ast.specs.declared.query.Core.{Core}
 use Rattle.wh_ast.specs.declared.query.Join.{Join}
-use Rattle.wh_ast.specs.declared.query.Source.{Source}
+use Rattle.wh_ast.specs.declared.query.FromItem.{FromItem}
 use Rattle.wh_grammar.specs.Token.{Token}
 use Rattle.wh_grammar.specs.Query as g
 use Rattle.wh_grammar.specs.Query.{MayHaveFilter, MayHaveGroup, IsJoinWord, IsQuery, AreCores}
@@ -63,7 +63,7 @@ mutual
       (joins-complete joins behind-joins)
       where_ behind-filter grouped end
 
-  pub source-complete : {d : ℕ} {ts us : List Token} {x : Source} → IsSource d ts x us → ends_alias us ≡ true
+  pub source-complete : {d : ℕ} {ts us : List Token} {x : FromItem} → IsSource d ts x us → ends_alias us ≡ true
       → source_of (nested d) ts ≡ Some (x, us)
   source-complete (g.named {d = d} name alias) e = named-source (nested d) name alias e
   source-complete (g.subquery {d = d} {ts = ts} q alias) e =

@@ -5,7 +5,7 @@ use Rattle.wh_ast.specs.declared.query.Query.{Query}
 use Rattle.wh_ast.specs.declared.query.Core.{Core}
 use Rattle.wh_ast.specs.declared.query.Join.{Join}
 use Rattle.wh_ast.specs.declared.query.Item.{Item}
-use Rattle.wh_ast.specs.declared.query.Source.{Source}
+use Rattle.wh_ast.specs.declared.query.FromItem.{FromItem}
 use Rattle.wh_grammar.specs.Token.{Token}
 use Rattle.wh_grammar.specs.Query as g
 use Rattle.wh_grammar.specs.Query.{IsAlias, MayHaveAlias, IsItem, AreItems, MayHaveFilter, MayHaveGroup, IsJoinWord}
@@ -59,7 +59,7 @@ mutual
       let f = group-front group in
       omega (arith, a, b, c, e, f)
 
-  source-front : {d : ℕ} {ts us : List Token} {x : Source} → IsSource d ts x us → length us < length ts
+  source-front : {d : ℕ} {ts us : List Token} {x : FromItem} → IsSource d ts x us → length us < length ts
   source-front (g.named name alias) = let n = name_shorter name in let m = optional-front alias in omega (arith, n, m)
   source-front (g.subquery q alias) = let n = query-front q in let m = alias-front alias in omega (arith, n, m)
 
@@ -75,5 +75,6 @@ mutual
 pub query_front : (d : ℕ) (ts : List Token) (q : Query) (us : List Token) → IsQuery d ts q us → length us < length ts
 query_front d ts q us h = query-front h
 
-pub source_front : (d : ℕ) (ts : List Token) (x : Source) (us : List Token) → IsSource d ts x us → length us < length ts
+pub source_front : (d : ℕ) (ts : List Token) (x : FromItem) (us : List Token) → IsSource d ts x us →
+    length us < length ts
 source_front d ts x us h = source-front h

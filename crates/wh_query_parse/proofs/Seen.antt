@@ -5,7 +5,7 @@ use Rattle.wh_grammar.specs.Words.{is_reserved}
 use Rattle.wh_grammar.specs.Token as token
 use Rattle.wh_grammar.specs.Token.{Token, Word, Quoted, TextToken, NumberToken, SignToken}
 use Rattle.wh_cursor.specs.Binds.{binds}
-use Rattle.wh_cursor.specs.declared.key.Key.TheVariants as k
+use Rattle.wh_cursor.specs.declared.key.TokenClass.TheVariants as k
 use Rattle.wh_cursor.specs.Keys.{key_of, reserved_key, key_binds}
 use Rattle.wh_cursor.specs.Steps.{sees_word}
 use Rattle.wh_cursor.proofs.KeyLemmas.{binds_key}

@@ -9,8 +9,8 @@ use Rattle.wh_ast.specs.declared.query.Query.{Query, roll-Query}
 use Rattle.wh_ast.specs.declared.query.Core.{Core, roll-Core}
 use Rattle.wh_ast.specs.declared.query.Join.{Join, roll-Join}
 use Rattle.wh_ast.specs.declared.query.Item.TheVariants as i
-use Rattle.wh_ast.specs.declared.query.Source.{Source}
-use Rattle.wh_ast.specs.declared.query.Source.TheVariants as s
+use Rattle.wh_ast.specs.declared.query.FromItem.{FromItem}
+use Rattle.wh_ast.specs.declared.query.FromItem.TheVariants as s
 use Rattle.wh_grammar.specs.Token as token
 use Rattle.wh_grammar.specs.Token.{Token, Word, SignToken}
 use Rattle.wh_grammar.specs.Name.{IsName, word, quoted}
@@ -18,7 +18,7 @@ use Rattle.wh_grammar.specs.Expression.{IsExpr}
 use Rattle.wh_grammar.specs.Query as g
 use Rattle.wh_grammar.specs.Query.{IsAlias, IsItem, AreItems, MayHaveFilter, MayHaveGroup, IsJoinWord, IsQuery}
 use Rattle.wh_grammar.specs.Query.{AreCores, IsCore, IsSource, AreJoins}
-use Rattle.wh_cursor.specs.declared.key.Key.TheVariants as k
+use Rattle.wh_cursor.specs.declared.key.TokenClass.TheVariants as k
 use Rattle.wh_cursor.specs.Steps.{tail, sees, Reader, ◌>>◌, pure, and_then, expect_word, read_name}
 use Rattle.wh_cursor.proofs.KeyLemmas.{heads}
 use Rattle.wh_query_parse.specs.Follow.{ends_query, ends_alias, ends_filter, IsQueryAt}
@@ -148,7 +148,7 @@ named-source-sound d ts = follow (name-yields ts) (λ name us h.
 
 -- a join, and what it stands for
 record IsJoin (d : ℕ) (ts : List Token) (join : Join) (ends : List Token) : Type 0 where
-  pub it : Source
+  pub it : FromItem
   pub on : Expr
   pub left : List Token
   pub behind : List Token

@@ -8,8 +8,8 @@ use Rattle.wh_ast.specs.declared.query.Query.{Query, roll-Query}
 use Rattle.wh_ast.specs.declared.query.Core.{Core, roll-Core}
 use Rattle.wh_ast.specs.declared.query.Join.{Join, roll-Join}
 use Rattle.wh_ast.specs.declared.query.Item.{Item}
-use Rattle.wh_ast.specs.declared.query.Source.{Source}
-use Rattle.wh_ast.specs.declared.query.Source.TheVariants as s
+use Rattle.wh_ast.specs.declared.query.FromItem.{FromItem}
+use Rattle.wh_ast.specs.declared.query.FromItem.TheVariants as s
 use Rattle.wh_grammar.specs.Token as token
 use Rattle.wh_grammar.specs.Token.{Token, Word, SignToken}
 use Rattle.wh_grammar.specs.Name.{IsName, word, quoted}
@@ -17,7 +17,7 @@ use Rattle.wh_grammar.specs.Expression.{IsExpr}
 use Rattle.wh_cursor.specs.Binds.{binds}
 use Rattle.wh_grammar.specs.Query as g
 use Rattle.wh_grammar.specs.Query.{IsAlias, MayHaveAlias, AreItems, MayHaveFilter, MayHaveGroup, IsJoinWord}
-use Rattle.wh_cursor.specs.declared.key.Key.TheVariants as k
+use Rattle.wh_cursor.specs.declared.key.TokenClass.TheVariants as k
 use Rattle.wh_cursor.specs.Steps.{sees, Reader, sees_word}
 use Rattle.wh_cursor.proofs.Combine.{Lacks, not_that_key, sees_key_is, sees_word_is, expect_word_reads, rparen_reads}
 use Rattle.wh_cursor.proofs.Combine.{other_word, name_reads}
@@ -63,14 +63,14 @@ unfolding sees_word
 join-seen g.join_word = refl
 join-seen g.inner_join_word = refl
 
-joined : (inner : Reader Query) (d : ℕ) (ts us : List Token) {vs : List Token} {source : Source} {x : Expr}
+joined : (inner : Reader Query) (d : ℕ) (ts us : List Token) {vs : List Token} {source : FromItem} {x : Expr}
     → source_of inner ts ≡ Some (source, Word (codes "ON") ∷ us) → IsExpr d us x vs → binds vs ≡ 0
     → read_joined inner d (Word (codes "JOIN") ∷ ts) ≡ Some (roll-Join (record { source = source; on = x }), vs)
 unfolding read_joined
 joined inner d ts us source h e =
     rw (expect_word_reads (codes "JOIN") ts, source, expect_word_reads (codes "ON") us, expr_reads h e) refl
 
-one-join : (inner : Reader Query) (d : ℕ) {ts us vs ws : List Token} {source : Source} {x : Expr} → IsJoinWord ts us
+one-join : (inner : Reader Query) (d : ℕ) {ts us vs ws : List Token} {source : FromItem} {x : Expr} → IsJoinWord ts us
     → source_of inner us ≡ Some (source, Word (codes "ON") ∷ vs) → IsExpr d vs x ws → binds ws ≡ 0
     → read_join inner d ts ≡ Some (roll-Join (record { source = source; on = x }), ws)
 unfolding read_join
@@ -92,7 +92,7 @@ last-join inner d us e = record { run = by }
     by (suc n) found few = rw (e) (ap (λ (l : List Join). Some (l, us)) (sym (append-nil found)))
 
 pub more-joins : (inner : Reader Query) (d : ℕ) {ts us vs ws rs : List Token}
-    {source : Source} {x : Expr} {xs : List Join}
+    {source : FromItem} {x : Expr} {xs : List Join}
     → IsJoinWord ts us → source_of inner us ≡ Some (source, Word (codes "ON") ∷ vs) → IsExpr d vs x ws → binds ws ≡ 0
     → Joins inner d ws xs rs
     → Joins inner d ts (roll-Join (record { source = source; on = x }) ∷ xs) rs
@@ -112,7 +112,7 @@ more-joins inner d {ts} {us} {vs} {ws} {rs} {source} {x} {xs} words read h e mor
 -- ---- cores
 
 pub one-core : (inner : Reader Query) (d : ℕ) {ts us vs ws rs ends : List Token} {items : List Item}
-    {source : Source} {joins : List Join} {filter : Option Expr} {group : List Expr}
+    {source : FromItem} {joins : List Join} {filter : Option Expr} {group : List Expr}
     → length joins ≤ 15 → AreItems d ts items (Word (codes "FROM") ∷ us) → source_of inner us ≡ Some (source, vs)
     → Joins inner d vs joins ws → MayHaveFilter d ws filter rs → FilterEnd rs → MayHaveGroup d rs group ends
     → CoreEnd ends

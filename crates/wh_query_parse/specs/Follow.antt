@@ -6,13 +6,13 @@
 use Rattle.std.specs.Prelude.{◌≡◌, ℕ, Bool, true, false, not, ◌&&◌, ◌==◌, List, [], ◌∷◌, Option, codes, bytes_eq}
 use Rattle.wh_ast.specs.declared.expr.Expr.{Expr}
 use Rattle.wh_ast.specs.declared.query.Query.{Query}
-use Rattle.wh_ast.specs.declared.query.Source.{Source}
+use Rattle.wh_ast.specs.declared.query.FromItem.{FromItem}
 use Rattle.wh_grammar.specs.Words.{is_reserved}
 use Rattle.wh_grammar.specs.Token.{Token, Word, Quoted, TextToken, NumberToken, SignToken, Sign, RParen}
 use Rattle.wh_cursor.specs.Binds.{binds}
 use Rattle.wh_grammar.specs.Query.{MayHaveAlias, MayHaveFilter, IsQuery, IsSource}
-use Rattle.wh_cursor.specs.declared.key.Key.{Key}
-use Rattle.wh_cursor.specs.declared.key.Key.TheVariants as k
+use Rattle.wh_cursor.specs.declared.key.TokenClass.{TokenClass}
+use Rattle.wh_cursor.specs.declared.key.TokenClass.TheVariants as k
 use Rattle.wh_cursor.specs.Steps.{sees_word}
 
 abbrev pub closes : Sign → Bool
@@ -36,7 +36,7 @@ ends_alias (NumberToken n ∷ us) = true
 ends_alias (SignToken s ∷ us) = true
 
 -- what the code asks of the next token: whether it is a name's, by its key
-abbrev pub names_key : Key → Bool
+abbrev pub names_key : TokenClass → Bool
 names_key k.Name = true
 names_key k.Sum = true
 names_key k.Count = true
@@ -49,7 +49,7 @@ pub record IsQueryAt (d : ℕ) (ts : List Token) (q : Query) (us : List Token) :
   pub query : IsQuery d ts q us
   pub ends : ends_query us ≡ true
 
-pub record IsSourceAt (d : ℕ) (ts : List Token) (x : Source) (us : List Token) : Type 0 where
+pub record IsSourceAt (d : ℕ) (ts : List Token) (x : FromItem) (us : List Token) : Type 0 where
   pub source : IsSource d ts x us
   pub ends : ends_alias us ≡ true
 

@@ -6,7 +6,7 @@
 use Rattle.std.specs.Prelude.{◌≡◌, ◌↔◌, ℕ, ◌<◌, List, Option, Some, length}
 use Rattle.wh_ast.specs.declared.expr.Expr.{Expr}
 use Rattle.wh_ast.specs.declared.query.Query.{Query}
-use Rattle.wh_ast.specs.declared.query.Source.{Source}
+use Rattle.wh_ast.specs.declared.query.FromItem.{FromItem}
 use Rattle.wh_grammar.specs.Token.{Token}
 use Rattle.wh_grammar.specs.Query.{IsQuery, IsSource}
 use Rattle.wh_query_parse.specs.Follow.{IsQueryAt, IsSourceAt, IsAliasAt, IsFilterAt}
@@ -17,7 +17,7 @@ ReadsQueries = (d : ℕ) (ts : List Token) (q : Query) (us : List Token)
     → (read_query d ts ≡ Some (q, us)) ↔ IsQueryAt d ts q us
 
 abbrev pub ReadsSources : Type 0
-ReadsSources = (d : ℕ) (ts : List Token) (x : Source) (us : List Token)
+ReadsSources = (d : ℕ) (ts : List Token) (x : FromItem) (us : List Token)
     → (read_source d ts ≡ Some (x, us)) ↔ IsSourceAt d ts x us
 
 abbrev pub ReadsAliases : Type 0
@@ -36,4 +36,4 @@ abbrev pub QueryIsFront : Type 0
 QueryIsFront = (d : ℕ) (ts : List Token) (q : Query) (us : List Token) → IsQuery d ts q us → length us < length ts
 
 abbrev pub SourceIsFront : Type 0
-SourceIsFront = (d : ℕ) (ts : List Token) (x : Source) (us : List Token) → IsSource d ts x us → length us < length ts
+SourceIsFront = (d : ℕ) (ts : List Token) (x : FromItem) (us : List Token) → IsSource d ts x us → length us < length ts

@@ -11,10 +11,10 @@ use Rattle.wh_ast.specs.declared.query.Core.{Core, roll-Core}
 use Rattle.wh_ast.specs.declared.query.Join.{Join, roll-Join}
 use Rattle.wh_ast.specs.declared.query.Item.{Item}
 use Rattle.wh_ast.specs.declared.query.Item.TheVariants as i
-use Rattle.wh_ast.specs.declared.query.Source.{Source}
-use Rattle.wh_ast.specs.declared.query.Source.TheVariants as s
+use Rattle.wh_ast.specs.declared.query.FromItem.{FromItem}
+use Rattle.wh_ast.specs.declared.query.FromItem.TheVariants as s
 use Rattle.wh_grammar.specs.Token.{Token}
-use Rattle.wh_cursor.specs.declared.key.Key.TheVariants as k
+use Rattle.wh_cursor.specs.declared.key.TokenClass.TheVariants as k
 use Rattle.wh_cursor.specs.Steps.{tail, sees, Reader, ◌>>=◌, ◌>>◌, pure, refuse, skip, sees_word, eat_word, eat_key}
 use Rattle.wh_cursor.specs.Steps.{expect_word, expect_key, read_name}
 use Rattle.wh_cursor.specs.Lists.{listed}
@@ -99,7 +99,7 @@ read_items d = listed (read_item d)
 abbrev pub sees_join : List Token → Bool
 sees_join ts = sees_word (codes "INNER") ts || sees_word (codes "JOIN") ts
 
-unfoldable pub read_named_source : Reader Source
+unfoldable pub read_named_source : Reader FromItem
 read_named_source = do
   name ← read_name
   alias ← read_alias
@@ -107,7 +107,7 @@ read_named_source = do
 
 module _ (inner : Reader Query) where
   -- at the `(`
-  unfoldable pub read_subquery : Reader Source
+  unfoldable pub read_subquery : Reader FromItem
   read_subquery = do
     skip
     query ← inner
@@ -116,7 +116,7 @@ module _ (inner : Reader Query) where
     provided ends_alias
     pure (s.Subquery query alias)
 
-  unfoldable pub source_of : Reader Source
+  unfoldable pub source_of : Reader FromItem
   source_of = λ ts. if sees k.LParen ts then read_subquery ts else read_named_source ts
 
   module _ (d : ℕ) where
@@ -174,7 +174,7 @@ unfoldable pub nested : ℕ → Reader Query
 nested zero = refuse
 nested (suc d) = query_of (nested d) d
 
-unfoldable pub read_source : ℕ → Reader Source
+unfoldable pub read_source : ℕ → Reader FromItem
 read_source d = source_of (nested d)
 
 unfoldable pub read_query : ℕ → Reader Query

@@ -5,7 +5,7 @@ ghost use Rattle.wh_lex.specs.View.{token_of};
 ghost use Rattle.wh_query_parse.specs.Follow as spec;
 ghost use Rattle.wh_query_parse.specs.Read.{names_all, sees_join};
 
-use wh_cursor::{Key, Words};
+use wh_cursor::{TokenClass, Words};
 use wh_lex::{Kind, Sign};
 
 fn is_query_end(kind: &Kind) -> bool
@@ -29,10 +29,10 @@ pub fn ends_query(words: &Words<'_>) -> bool
 }
 
 /// Whether a name may begin with that.
-fn is_named(key: Key) -> bool
+fn is_named(key: TokenClass) -> bool
     ensures { result ≡ spec.names_key key }
 {
-    matches!(key, Key::Name | Key::Sum | Key::Count)
+    matches!(key, TokenClass::Name | TokenClass::Sum | TokenClass::Count)
 }
 
 /// Whether neither AS nor a name comes next.
@@ -58,7 +58,7 @@ pub fn names_all(words: &Words<'_>) -> bool
 {
     let mut ahead = Words::new(words.rest());
     ahead.skip();
-    ahead.eat(Key::Dot) && ahead.sees(Key::Star)
+    ahead.eat(TokenClass::Dot) && ahead.sees(TokenClass::Star)
 }
 
 /// Whether a join comes next.

@@ -12,8 +12,8 @@ use crate::items::items;
 use crate::parts::{expect_alias_end, group, named, optional_alias, optional_filter};
 use sqlite_items::{Boxed, Items};
 use std::alloc::Global;
-use wh_ast::{Core, Join, Query, Source};
-use wh_cursor::{Key, ParseFault, Words, name};
+use wh_ast::{Core, FromItem, Join, Query};
+use wh_cursor::{ParseFault, TokenClass, Words, name};
 use wh_expr_parse::expr;
 
 /// How many cores a query may have.
@@ -31,12 +31,12 @@ pub struct Grammar<F> {
 }
 
 #[tactic(auto, unfolding(crate::specs::Read::read_named_source))]
-fn named_source(alloc: Global, words: &mut Words<'_>) -> Result<Boxed<Source>, ParseFault>
+fn named_source(alloc: Global, words: &mut Words<'_>) -> Result<Boxed<FromItem>, ParseFault>
     ensures { Reads (spec.read_named_source words.old) result words.new }
 {
     let object = name(alloc, words)?;
     let alias = optional_alias(alloc, words)?;
-    Ok(Boxed::new(alloc, Source::Named(object, alias))?)
+    Ok(Boxed::new(alloc, FromItem::Named(object, alias))?)
 }
 
 #[tactic(auto, unfolding(crate::specs::Read::provided))]
@@ -60,25 +60,25 @@ impl<F: Fn(Global, &mut Words<'_>, usize) -> Result<Query, ParseFault>> Grammar<
 
     /// Takes a query in parentheses, and its alias.
     #[tactic(auto, unfolding(crate::specs::Read::read_subquery))]
-    fn subquery(&self, words: &mut Words<'_>) -> Result<Boxed<Source>, ParseFault>
+    fn subquery(&self, words: &mut Words<'_>) -> Result<Boxed<FromItem>, ParseFault>
         requires { Nests self.now.depth (F.pre self.now.inner) (F.post self.now.inner) }
         ensures { Reads (spec.read_subquery (spec.nested self.now.depth) words.old)
             result words.new }
     {
         words.skip();
         let query = Boxed::new(self.alloc, self.inner(words)?)?;
-        words.expect(Key::RParen)?;
+        words.expect(TokenClass::RParen)?;
         let alias = named(self.alloc, words)?;
         expect_alias_end(words)?;
-        Ok(Boxed::new(self.alloc, Source::Subquery(query, alias))?)
+        Ok(Boxed::new(self.alloc, FromItem::Subquery(query, alias))?)
     }
 
     #[tactic(auto, unfolding(crate::specs::Read::source_of))]
-    pub fn source(&self, words: &mut Words<'_>) -> Result<Boxed<Source>, ParseFault>
+    pub fn source(&self, words: &mut Words<'_>) -> Result<Boxed<FromItem>, ParseFault>
         requires { Nests self.now.depth (F.pre self.now.inner) (F.post self.now.inner) }
         ensures { Reads (spec.source_of (spec.nested self.now.depth) words.old) result words.new }
     {
-        if words.sees(Key::LParen) {
+        if words.sees(TokenClass::LParen) {
             self.subquery(words)
         } else {
             named_source(self.alloc, words)
@@ -215,7 +215,7 @@ pub fn whole_source(
     alloc: Global,
     words: &mut Words<'_>,
     depth: usize,
-) -> Result<Source, ParseFault>
+) -> Result<FromItem, ParseFault>
     ensures reads { Reads (spec.read_source depth words.old) result words.new }
     ensures kept { OnErr result (words.new ≡ words.old) }
 {

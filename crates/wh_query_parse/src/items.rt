@@ -9,7 +9,7 @@ use crate::parts::optional_alias;
 use sqlite_items::{Boxed, Items};
 use std::alloc::Global;
 use wh_ast::Item;
-use wh_cursor::{Key, ParseFault, Words, listed, name};
+use wh_cursor::{ParseFault, TokenClass, Words, listed, name};
 use wh_expr_parse::expr;
 
 /// Takes a name and the `. *` behind it.
@@ -36,7 +36,7 @@ fn shown(alloc: Global, words: &mut Words<'_>, depth: usize) -> Result<Item, Par
 fn item(alloc: Global, words: &mut Words<'_>, depth: usize) -> Result<Item, ParseFault>
     ensures { Reads (spec.read_item depth words.old) result words.new }
 {
-    if words.sees(Key::Star) {
+    if words.sees(TokenClass::Star) {
         words.skip();
         return Ok(Item::Star);
     }

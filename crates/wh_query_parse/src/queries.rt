@@ -1,7 +1,7 @@
 ghost use Rattle.std.specs.Prelude.{◌≡◌, ℕ, List, Option, IfOk, IsErrOf, OnErr};
 ghost use Rattle.wh_ast.specs.declared.expr.Expr as ast_expr;
 ghost use Rattle.wh_ast.specs.declared.query.Query as ast_query;
-ghost use Rattle.wh_ast.specs.declared.query.Source as ast_source;
+ghost use Rattle.wh_ast.specs.declared.query.FromItem as ast_source;
 ghost use Rattle.wh_grammar.specs.Token as machine;
 ghost use Rattle.wh_cursor.specs.Gives.{Reads};
 ghost use Rattle.wh_query_parse.specs.Follow.{IsQueryAt, IsSourceAt, IsAliasAt, IsFilterAt};
@@ -11,7 +11,7 @@ ghost use Rattle.wh_query_parse.specs.Read.{read_query, read_source, read_alias,
 use crate::grammar::{whole_query, whole_source};
 use crate::parts::{optional_alias, optional_filter};
 use std::alloc::Global;
-use wh_ast::{Expr, Query, Source};
+use wh_ast::{Expr, FromItem, Query};
 use wh_cursor::{ParseFault, Words};
 use wh_value::Text;
 
@@ -29,10 +29,11 @@ pub fn query(alloc: Global, words: &mut Words<'_>, depth: usize) -> Result<Query
 
 /// Takes the source that the tokens begin with: a name with or without an alias, or a query in
 /// parentheses with one.
-pub fn source(alloc: Global, words: &mut Words<'_>, depth: usize) -> Result<Source, ParseFault>
+pub fn source(alloc: Global, words: &mut Words<'_>, depth: usize) -> Result<FromItem, ParseFault>
     ensures found { IfOk result (λ x. IsSourceAt depth words.old x words.new) }
     ensures none { IsErrOf result ParseFault.SyntaxError
-        → (x : ast_source.Source) (us : List machine.Token) → IsSourceAt depth words.old x us → ⊥ }
+        → (x : ast_source.FromItem) (us : List machine.Token) →
+        IsSourceAt depth words.old x us → ⊥ }
     ensures reads { Reads (read_source depth words.old) result words.new }
     ensures kept { OnErr result (words.new ≡ words.old) }
 {

@@ -76,7 +76,8 @@ fn thrice(rt: &impl Abort, alloc: Global) -> Given {
     Given::Rows(bag)
 }
 
-// Source 0 has the partitions of 1 and 2, source 1 the number 2 thrice, source 2 the partition of 3.
+// Source 0 has the partitions of 1 and 2, source 1 the number 2 thrice, source 2 the partition of
+// 3.
 fn instance(rt: &impl Abort, alloc: Global) -> Instance {
     let mut sources = Vec::new(alloc);
     sources.push(parts(rt, alloc, &[0, 1])).expect(rt, "memory");

@@ -6,8 +6,8 @@ use std::alloc::Global;
 use std::marker::Model;
 use wh_value::{Comparison, Row, Value};
 
-/// A scalar that rows are tested by. It is looked at once: where it compares a column with a number,
-/// a row is tested where its value stands.
+/// A scalar that rows are tested by. It is looked at once: where it compares a column with a
+/// number, a row is tested where its value stands.
 #[derive(Debug, Drop)]
 pub struct Condition<'a> {
     scalar: &'a Scalar,
@@ -62,7 +62,8 @@ impl<'a> Condition<'a> {
     }
 
     fn truth_at_hand(&self, row: &Row) -> Option<bool>
-        ensures { IfSome result (λ truth. option_map is_true (val (scalar_of self.now) row.now) ≡ Some truth) }
+        ensures { IfSome result (λ truth. option_map is_true (val (scalar_of self.now) row.now)
+            ≡ Some truth) }
     {
         self.quick?.truth_on(row)
     }

@@ -9,8 +9,8 @@ impl Scalar {
     ghost use Rattle.wh_meaning.specs.Scalar.{val};
     ghost use Rattle.wh_scalar.specs.View.{scalar_of, Gives};
 
-    /// The value on a row. Each part is evaluated, so a number of more than 18 digits anywhere in it
-    /// leaves it without a value. A column that the row lacks is NULL.
+    /// The value on a row. Each part is evaluated, so a number of more than 18 digits anywhere in
+    /// it leaves it without a value. A column that the row lacks is NULL.
     #[cycle(eval)]
     #[tactic(auto, unfolding(wh_meaning::specs::Scalar::val))]
     pub fn eval(&self, alloc: Global, row: &Row) -> Result<Value, EvalFault>

@@ -15,7 +15,7 @@ pub(crate) const ONE_TABLE: [u8; 50] = [
 
 /// What a run answers, writes and leaves.
 #[derive(Drop)]
-pub(crate) struct Outcome {
+pub(crate) struct RunEnd {
     pub(crate) status: Status,
     pub(crate) out: MemSink,
     pub(crate) disk: MemDisk,
@@ -69,8 +69,8 @@ pub(crate) fn clock_at_0(rt: &impl Abort, alloc: Global) -> SetClock {
     SetClock::new([0].to_vec(alloc).expect(rt, "memory"))
 }
 
-/// What a run is over: the bytes of its file, its script, the calls that fail, and for how many more
-/// bytes disk and sink have room.
+/// What a run is over: the bytes of its file, its script, the calls that fail, and for how many
+/// more bytes disk and sink have room.
 #[derive(Clone, Copy)]
 pub(crate) struct Given<'a> {
     pub(crate) file: &'a [u8],
@@ -83,7 +83,7 @@ pub(crate) fn run_with(
     rt: &(impl Abort + Threads + Sync),
     alloc: Global,
     given: &Given<'_>,
-) -> Outcome {
+) -> RunEnd {
     let failing = given.failing;
     let words = the_word(rt, alloc);
     let mut source = source_of(rt, alloc, given.script, failing.source);
@@ -91,7 +91,7 @@ pub(crate) fn run_with(
     let disk = disk_of(rt, alloc, given.file, given.room, failing.disk);
     let mut clock = clock_at_0(rt, alloc);
     let (status, disk) = run(rt, alloc, &words, &mut source, &mut out, disk, &mut clock);
-    Outcome { status, out, disk }
+    RunEnd { status, out, disk }
 }
 
 /// Carries out a script over a file, where these calls of the disk fail, with room for few bytes.
@@ -101,7 +101,7 @@ pub(crate) fn stopped<'x>(
     file: &'x [u8],
     script: &'x [u8],
     calls: &'x [u64],
-) -> Outcome {
+) -> RunEnd {
     let given = Given {
         file,
         script,
@@ -121,7 +121,7 @@ pub(crate) fn carried_out<'x>(
     alloc: Global,
     file: &'x [u8],
     script: &'x [u8],
-) -> Outcome {
+) -> RunEnd {
     let given = Given {
         file,
         script,

@@ -116,8 +116,8 @@ fn pick_holds(
     is_shown || holds_what_was_answered(rt, alloc, &image, answered)
 }
 
-/// Whether each pick's file holds what was answered, where what is torn at a place has each of these
-/// bytes behind.
+/// Whether each pick's file holds what was answered, where what is torn at a place has each of
+/// these bytes behind.
 fn torn_hold(
     rt: &(impl Abort + Threads + Sync),
     alloc: Global,

@@ -24,8 +24,8 @@ struct Commits {
     held: Held,
 }
 
-/// Four commits: two tables, and a transaction of each session. A third is open at the end: the next
-/// run finds none open, and what it held is free.
+/// Four commits: two tables, and a transaction of each session. A third is open at the end: the
+/// next run finds none open, and what it held is free.
 const TRANSACTIONS: Commits = Commits {
     script: b"CREATE TABLE T(K NUMBER);
 CREATE TABLE U(K NUMBER);

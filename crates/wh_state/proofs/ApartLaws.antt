@@ -38,7 +38,8 @@ apart_pairs before [] from pairs = tt
 apart_pairs before (p ∷ ps) from pairs = (
   from.0,
   apart_pairs (p ∷ before) ps
-      (all_both (λ q. AreApart q p) (ApartFrom before) (ApartFrom (p ∷ before)) (λ q h more. (h, more)) ps pairs.0 from.1)
+      (all_both (λ q. AreApart q p) (ApartFrom before) (ApartFrom (p ∷ before)) (λ q h more. (h, more)) ps
+      pairs.0 from.1)
       pairs.1,
 )
 

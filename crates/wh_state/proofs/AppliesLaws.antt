@@ -40,7 +40,8 @@ last_of_front (suc n) least e (f ∷ es) rising =
     let rest = last_of_front n (e.0 + 1) f es rising.1 in
     (omega (arith, rising.0, rest.0), rest.1)
 
-end_weaker : (least most : ℕ) → least ≤ most → (ps : List Partition) → AllByRecursion (λ p. last_number p.rows < least) ps
+end_weaker : (least most : ℕ) → least ≤ most → (ps : List Partition) →
+    AllByRecursion (λ p. last_number p.rows < least) ps
     → AllByRecursion (λ p. last_number p.rows < most) ps
 end_weaker least most h ps below =
     all_map (λ p. last_number p.rows < least) (λ p. last_number p.rows < most) (λ p less. omega arith) ps below
@@ -122,7 +123,8 @@ made_apart next next_row e ps orderly some below =
     (cut_apart (next + length left) (partitions_of (length added)) next_row added (left ++ stays)
     (numbered_rise_from next_row e.added) (few_parts (length added))
     (all_append (λ p. last_number p.rows < next_row) left stays
-    (ends_below next_row left (left_some next (map (λ p. edited e.rows p.rows) (by_rows (touched e.rows ps)))) left_below)
+    (ends_below next_row left (left_some next
+    (map (λ p. edited e.rows p.rows) (by_rows (touched e.rows ps)))) left_below)
     (stay_below (ends_below next_row ps some below)))))
   where
     stay_below : AllByRecursion (λ p. last_number p.rows < next_row) ps
@@ -174,7 +176,8 @@ made_fits e t firm below fit =
     made_all (λ r. IsTrue (row_fits t.columns r.1) × (r.0 < t.next_row + length e.added)) t.next_partition t.next_row e
     (standing t)
     (all_both (FitRows t.columns) (λ p. AllByRecursion (λ r. r.0 < t.next_row) p.rows)
-    (λ p. AllByRecursion (λ r. IsTrue (row_fits t.columns r.1) × (r.0 < t.next_row + length e.added)) (edited e.rows p.rows))
+    (λ p. AllByRecursion (λ r. IsTrue (row_fits t.columns r.1) × (r.0 < t.next_row + length e.added))
+    (edited e.rows p.rows))
     (λ p fits less. edited_all (λ r. IsTrue (row_fits t.columns r.1) × (r.0 < t.next_row + length e.added)) e.rows
     (λ number row old is before. (fit.rows number row is, before.1)) p.rows
     (all_both (λ r. IsTrue (row_fits t.columns r.1)) (λ r. r.0 < t.next_row)
@@ -183,9 +186,11 @@ made_fits e t firm below fit =
     (numbered_fit t.columns t.next_row (t.next_row + length e.added) e.added (omega arith) fit.added)
 
 -- the next version of a table, with numbers within the limits and a later stamp
-pub version_applies : (stamp id : ℕ) (e : Edits) (t : StoredTable) → IsFirmTable t → IsBelowNext t → EditsFit t.columns e
+pub version_applies : (stamp id : ℕ) (e : Edits) (t : StoredTable) → IsFirmTable t → IsBelowNext t →
+    EditsFit t.columns e
     → DoesNotFall (last_of t.versions) stamp → t.next_row + length e.added ≤ bound limits.RowNumber
-    → t.next_partition + length (partitions_made t.next_partition t.next_row e (standing t)) ≤ bound limits.PartitionNumber
+    → t.next_partition + length (partitions_made t.next_partition t.next_row e (standing t)) ≤ bound
+    limits.PartitionNumber
     → VersionApplies t (version_change stamp id e t)
 version_applies stamp id e t firm below fit later few few_partitions = record {
   timestamp = later;

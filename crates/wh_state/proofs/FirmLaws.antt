@@ -23,7 +23,8 @@ use Rattle.wh_state.specs.Stored.{Stored, first_stored, StoredTable, StoredKind,
 use Rattle.wh_state.specs.Stored.{standing}
 use Rattle.wh_state.specs.Commit.{VersionChange, Change, CreatesTable, Drops, PushesVersion, CreatesStream, SetsOffset}
 use Rattle.wh_state.specs.Commit.{pushed, pushed_kind, pushed_object, offset_set, offset_set_kind, changed, all_changed}
-use Rattle.wh_state.specs.Commit.{Commit, applied, Leads, RowsFit, VersionApplies, FitsKind, FitsObject, IsLiveTable, IsTableKind, ChangeApplies, AllApply}
+use Rattle.wh_state.specs.Commit.{Commit, applied, Leads, RowsFit, VersionApplies, FitsKind, FitsObject, IsLiveTable}
+use Rattle.wh_state.specs.Commit.{IsTableKind, ChangeApplies, AllApply}
 use Rattle.wh_state.specs.Orderly.{HasRisingRows}
 use Rattle.wh_state.specs.Spelling.{IsChange, IsCommit}
 use Rattle.wh_frame.specs.Spelling.{IsPartition}
@@ -92,7 +93,8 @@ not_named name o new same lives h = by_live new.is_live o.is_live lives h
 
 -- another one in the place of one, with its name
 names_set : (xs : List StoredObject) (place : ℕ) (o new : StoredObject) → at_id xs (suc place) ≡ Some o
-    → new.name ≡ o.name → (new.is_live ≡ true → o.is_live ≡ true) → NamesApart xs → NamesApart (with_id xs (suc place) new)
+    → new.name ≡ o.name → (new.is_live ≡ true → o.is_live ≡ true) → NamesApart xs →
+    NamesApart (with_id xs (suc place) new)
 names_set [] place o new there same lives apart = tt
 names_set (x ∷ xs) zero o new there same lives apart =
     let first : x ≡ o = cc in (
@@ -137,11 +139,13 @@ long_prefix test (x ∷ xs) h = by_test (test x) refl h (long_prefix test xs)
 pub free_name : (name : List ℕ) (objects : List StoredObject) → IsNone (id_of name objects)
     → AllByRecursion (HasNot name) objects
 free_name name objects none =
-    long_prefix (is_named name) objects (by_test (nat_lt (prefix_len (λ x. not (is_named name x)) objects) (length objects))
+    long_prefix (is_named name) objects (by_test
+    (nat_lt (prefix_len (λ x. not (is_named name x)) objects) (length objects))
     refl none)
   where
     by_test : (b : Bool) → nat_lt (prefix_len (λ x. not (is_named name x)) objects) (length objects) ≡ b
-        → IsNone (option_map (λ place. place + 1) (cond b (Some (prefix_len (λ x. not (is_named name x)) objects)) None))
+        → IsNone (option_map (λ place. place + 1)
+        (cond b (Some (prefix_len (λ x. not (is_named name x)) objects)) None))
         → length objects ≤ prefix_len (λ x. not (is_named name x)) objects
     by_test true is none = absurd cc
     by_test false is none = grind (arith, nat_tests)
@@ -197,7 +201,8 @@ ChangeRises _ = Unit {0}
 -- ---- what changes leave
 
 has_source : (objects new : List StoredObject)
-    → ((s : Stream) → FoundAt (IsSourceOf s) objects s.source → FoundAt (IsSourceOf s) new s.source) → (o : StoredObject)
+    → ((s : Stream) → FoundAt (IsSourceOf s) objects s.source → FoundAt (IsSourceOf s) new s.source) →
+    (o : StoredObject)
     → HasSource objects o → HasSource new o
 has_source objects new keeps o h = by_kind o.kind h
   where
@@ -215,7 +220,8 @@ streams_changed : (f : StoredObject → StoredObject)
 streams_changed f sources streams objects id h =
     let new : List StoredObject = changed_at objects id f in
     let so : (o : StoredObject) → HasSource objects o → HasSource new o =
-    λ o h. has_source objects new (λ s found. found_changed (IsSourceOf s) f (sources s) objects id s.source found) o h in
+    λ o h. has_source objects new (λ s found. found_changed (IsSourceOf s) f (sources s) objects id
+    s.source found) o h in
     all_changed_at (HasSource objects) (HasSource new) f so (λ o h. streams new o (so o h)) objects id h
 
 pushed_source : (stamp : ℕ) (c : VersionChange) (s : Stream) (o : StoredObject) → IsSourceOf s o
@@ -261,7 +267,8 @@ set_firm offset o h = by_kind o.kind h
     by_kind (StreamKind s) h = h
 
 streams_more : (objects : List StoredObject) (new : StoredObject) → HasSource (objects ++ new ∷ []) new
-    → AllByRecursion (HasSource objects) objects → AllByRecursion (HasSource (objects ++ new ∷ [])) (objects ++ new ∷ [])
+    → AllByRecursion (HasSource objects) objects →
+    AllByRecursion (HasSource (objects ++ new ∷ [])) (objects ++ new ∷ [])
 streams_more objects new here h =
     all_more (HasSource (objects ++ new ∷ [])) objects new
     (all_map (HasSource objects) (HasSource (objects ++ new ∷ []))
@@ -306,7 +313,8 @@ firm_changed stamp objects (Drops id) applies rises firm = record {
   streams = streams_changed dropped (λ s o h. h) (λ objects o h. h) objects id firm.streams;
 }
 firm_changed stamp objects (SetsOffset id offset) applies rises firm = record {
-  tables = all_changed_at IsFirmObject IsFirmObject (offset_set offset) (λ o h. h) (set_firm offset) objects id firm.tables;
+  tables = all_changed_at IsFirmObject IsFirmObject (offset_set offset) (λ o h. h) (set_firm offset) objects
+      id firm.tables;
   names = names_changed (offset_set offset) (λ o. refl) (λ o live. live) objects id firm.names;
   streams = streams_changed (offset_set offset) (set_source offset) (set_stream offset) objects id firm.streams;
 }

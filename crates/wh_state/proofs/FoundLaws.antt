@@ -60,7 +60,8 @@ set_get [] place x y there = absurd cc
 set_get (z ∷ zs) zero x y there = refl
 set_get (z ∷ zs) (suc place) x y there = set_get zs place x y there
 
-with_same_id : {X : Type 0} (xs : List X) (id : ℕ) (x y : X) → at_id xs id ≡ Some x → at_id (with_id xs id y) id ≡ Some y
+with_same_id : {X : Type 0} (xs : List X) (id : ℕ) (x y : X) → at_id xs id ≡ Some x →
+    at_id (with_id xs id y) id ≡ Some y
 with_same_id xs zero x y there = absurd cc
 with_same_id xs (suc place) x y there = set_get xs place x y there
 

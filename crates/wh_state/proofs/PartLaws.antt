@@ -78,7 +78,8 @@ rises_weaker : (least most : ℕ) (es : List (ℕ × Row)) → least ≤ most �
 rises_weaker least most [] h rising = tt
 rises_weaker least most (e ∷ es) h rising = (omega (arith, rising.0), rising.1)
 
-pub left_rise : (edits : RowEdits) (least : ℕ) (es : List (ℕ × Row)) → RisesFrom least es → RisesFrom least (edited edits es)
+pub left_rise : (edits : RowEdits) (least : ℕ) (es : List (ℕ × Row)) → RisesFrom least es →
+    RisesFrom least (edited edits es)
 left_rise edits least [] rising = tt
 left_rise edits least (e ∷ es) rising = by_edit (get edits e.0) (left_rise edits (e.0 + 1) es rising.1)
   where
@@ -140,7 +141,8 @@ made_both P parts next next_row e ps left added =
     all_append (λ p. P p.rows) (partitions_left next e.rows ps)
     (cut (next + length (partitions_left next e.rows ps)) (numbered next_row e.added))
     (left_each P next e.rows ps left)
-    (cut_each P parts (next + length (partitions_left next e.rows ps)) (partitions_of (length (numbered next_row e.added)))
+    (cut_each P parts (next + length (partitions_left next e.rows ps))
+    (partitions_of (length (numbered next_row e.added)))
     (numbered next_row e.added) added)
 
 -- ---- they rise

@@ -49,7 +49,8 @@ go_firm stamp objects (c ∷ cs) go firm =
 pub go_append : (stamp : ℕ) (objects : List StoredObject) (cs ds : List Change) → AllGo stamp objects cs
     → AllGo stamp (all_changed stamp objects cs) ds → AllGo stamp objects (cs ++ ds)
 go_append stamp objects [] ds go more = more
-go_append stamp objects (c ∷ cs) ds go more = (go.0, (go.1.0, go_append stamp (changed stamp objects c) cs ds go.1.1 more))
+go_append stamp objects (c ∷ cs) ds go more =
+    (go.0, (go.1.0, go_append stamp (changed stamp objects c) cs ds go.1.1 more))
 
 -- ---- edits
 
@@ -230,8 +231,11 @@ act_stands : (stamp start : ℕ) (objects : List StoredObject) (id : ℕ) (e : E
     → ActStands stamp start objects act
     → ActStands stamp start (all_changed stamp objects (act_written stamp objects (EditsRows id e))) act
 act_stands stamp start objects id e (EditsRows other f) are stands = absurd are
-act_stands stamp start objects id e (MovesOffset other offset) are stands =
-    (stands.0, edit_keeps (TakesMove start) (λ stamp c o h. takes_kept start o stamp c h) stamp objects id e other stands.1)
+act_stands stamp start objects id e (MovesOffset other offset) are stands = (
+  stands.0,
+  edit_keeps (TakesMove start) (λ stamp c o h. takes_kept start o stamp c h) stamp objects id e
+      other stands.1,
+)
 act_stands stamp start objects id e (MakesTable name columns retention) are stands = absurd stands
 act_stands stamp start objects id e (DropsObject other) are stands = absurd stands
 act_stands stamp start objects id e (MakesStream name source is_append_only) are stands = absurd stands
@@ -262,4 +266,5 @@ acts_go stamp start least objects (EditsRows id e ∷ acts) (next_edit from risi
     let go : AllGo stamp objects first = edit_goes stamp objects id e firm.tables stand.0 in
     go_append stamp objects first (written stamp (all_changed stamp objects first) acts) go
     (acts_go stamp start (suc id) (all_changed stamp objects first) acts rising
-    (later_stand stamp start objects id e (suc id) acts (omega arith) rising stand.1) (go_firm stamp objects first go firm))
+    (later_stand stamp start objects id e (suc id) acts (omega arith) rising stand.1)
+    (go_firm stamp objects first go firm))

@@ -14,7 +14,7 @@ use Rattle.wh_grammar.specs.Expression as g
 use Rattle.wh_grammar.specs.Expression.{IsWhole, IsAnd, IsNot, IsTest, IsSum, IsProduct, IsUnary, IsPrim, IsNegation}
 use Rattle.wh_grammar.specs.Query as q
 use Rattle.wh_grammar.specs.Query.{IsAlias, IsItem, AreItems, IsCore, AreCores, IsQuery}
-use Rattle.wh_cursor.specs.declared.key.Key.TheVariants as k
+use Rattle.wh_cursor.specs.declared.key.TokenClass.TheVariants as k
 use Rattle.wh_cursor.specs.Steps.{tail}
 use Rattle.wh_cursor.proofs.Combine.{sees_word_some, sees_key_some}
 use Rattle.wh_stmt_parse.specs.Plain.{asks}

@@ -6,7 +6,7 @@ use Rattle.wh_value.specs.Value.{IsText}
 use Rattle.wh_ast.specs.declared.dml.Dml.{Dml}
 use Rattle.wh_ast.specs.declared.query.Query.{Query}
 use Rattle.wh_ast.specs.declared.statement.Statement.{Statement}
-use Rattle.wh_ast.specs.declared.statement.Condition.{Condition}
+use Rattle.wh_ast.specs.declared.statement.WhenCondition.{WhenCondition}
 use Rattle.wh_ast.specs.declared.statement.When.{When}
 use Rattle.wh_ast.specs.declared.statement.Lag.{Lag}
 use Rattle.wh_ast.specs.declared.statement.RefreshMode.{RefreshMode}
@@ -28,8 +28,8 @@ use Rattle.wh_option_parse.specs.Read.{read_condition, read_table_options}
 use Rattle.wh_dml_parse.specs.Follow.{ends_names}
 use Rattle.wh_dml_parse.specs.Read.{read_dml}
 use Rattle.wh_stmt_parse.specs.declared.kept.TaskHead.{TaskHead}
-use Rattle.wh_stmt_parse.specs.Kept.{between, starts_once, read_task_head, piece, read_guard, read_task}
-use Rattle.wh_stmt_parse.specs.Kept.{read_dynamic_table}
+use Rattle.wh_stmt_parse.specs.KeptText.{between, starts_once, read_task_head, piece, read_guard, read_task}
+use Rattle.wh_stmt_parse.specs.KeptText.{read_dynamic_table}
 use Rattle.wh_stmt_parse.specs.Read.{object_of, read_create, read_words}
 use Rattle.wh_stmt_parse.proofs.Heads.{task-frame, table-frame}
 use Rattle.wh_stmt_parse.proofs.KeptSound.{made, shown, at_as}
@@ -113,7 +113,7 @@ no_guard : (text : List ℕ) (placed : List Placed) (bs : List Token)
 unfolding read_guard
 no_guard text placed bs = rw (other_word (codes "WHEN") (codes "AS") bs refl) refl
 
-a_guard : (text : List ℕ) (placed : List Placed) (gs vs : List Token) (c : Condition) (kept : List ℕ)
+a_guard : (text : List ℕ) (placed : List Placed) (gs vs : List Token) (c : WhenCondition) (kept : List ℕ)
     → read_condition most_nested gs ≡ Some (c, vs) → piece text placed (length gs) (length vs) vs ≡ Some (kept, vs)
     → read_guard text placed (Word (codes "WHEN") ∷ gs) ≡ Some (Some (record { condition = c; text = kept }), vs)
 unfolding read_guard
@@ -187,7 +187,7 @@ module _ (text : List ℕ) (placed : List Placed) (utf8 : IsUtf8 text) (tokens :
       ((r.dml most_nested bs x []).1 (record { dml = b; ends = refl })) (body-read head body kept e k))
 
   guarded-read : Readers → (head guard body : List Placed) (link : Placed) {name : List ℕ} {minutes : Option ℕ}
-      {names : List (List ℕ)} {condition : Condition} {x : Dml} {kept body_kept : List ℕ}
+      {names : List (List ℕ)} {condition : WhenCondition} {x : Dml} {kept body_kept : List ℕ}
       → placed ≡ head ++ (guard ++ link ∷ body)
       → IsTaskHead (tokens_of head) name minutes names (Word (codes "WHEN") ∷ [])
       → IsCondition most_nested (tokens_of guard) condition [] → IsKept text guard kept → link.token ≡ Word (codes "AS")

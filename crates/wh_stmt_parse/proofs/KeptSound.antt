@@ -27,8 +27,8 @@ use Rattle.wh_dml_parse.specs.Follow.{IsDmlAt}
 use Rattle.wh_stmt_parse.specs.declared.kept.TaskHead.{TaskHead}
 use Rattle.wh_lex.specs.Front.{text_of}
 use Rattle.wh_lex.proofs.TextLemmas.{of_text}
-use Rattle.wh_stmt_parse.specs.Kept.{between, starts_once, checked, read_task_head, piece, guard_by, read_guard}
-use Rattle.wh_stmt_parse.specs.Kept.{read_task, read_dynamic_table}
+use Rattle.wh_stmt_parse.specs.KeptText.{between, starts_once, checked, read_task_head, piece, guard_by, read_guard}
+use Rattle.wh_stmt_parse.specs.KeptText.{read_task, read_dynamic_table}
 use Rattle.wh_stmt_parse.proofs.Heads.{task-frame, table-frame}
 use Rattle.wh_cursor.proofs.Combine.{given-yields}
 use Rattle.wh_stmt_parse.proofs.Carrying.{stand, cons}

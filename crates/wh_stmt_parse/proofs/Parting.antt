@@ -4,7 +4,7 @@ use Rattle.std.proofs.Common.{sym, ap, ◌∙◌, arith, length-append, take_at,
 use Rattle.wh_grammar.specs.Token.{Token, Placed}
 use Rattle.std.proofs.lemmas.Option.{same_Some}
 use Rattle.wh_grammar.specs.Spelled.{tokens_of, end_of}
-use Rattle.wh_stmt_parse.specs.Kept.{between}
+use Rattle.wh_stmt_parse.specs.KeptText.{between}
 
 -- in two, where the tokens are two lists
 pub record Parted (placed : List Placed) (fronts backs : List Token) : Type 0 where

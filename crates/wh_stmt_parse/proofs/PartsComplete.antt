@@ -6,7 +6,7 @@ use denote.Enum.Bare.{sameb}
 use Rattle.wh_value.specs.declared.column.ColumnType.{ColumnType}
 use Rattle.wh_value.specs.declared.column.Column.{Column}
 use Rattle.wh_ast.specs.declared.query.Sort.{Sort}
-use Rattle.wh_ast.specs.declared.query.Key as sort_key
+use Rattle.wh_ast.specs.declared.query.OrderKey as sort_key
 use Rattle.wh_grammar.specs.Words.{is_reserved}
 use Rattle.wh_grammar.specs.Token as token
 use Rattle.wh_grammar.specs.Token.{Token, Word, Quoted, NumberToken, SignToken}
@@ -14,8 +14,8 @@ use Rattle.wh_grammar.specs.Name.{IsName, word, quoted}
 use Rattle.wh_grammar.specs.Parts as g
 use Rattle.wh_grammar.specs.Parts.{IsType, AreColumns, MayRetain, MayAppend, IsDirection, IsKey, AreSorts, MayHaveOrder}
 use Rattle.wh_grammar.specs.Spelled.{MayFollow, follows_none, follows}
-use Rattle.wh_cursor.specs.declared.key.Key.TheVariants as k
-use Rattle.wh_cursor.specs.contracts.key.Key.{the_type}
+use Rattle.wh_cursor.specs.declared.key.TokenClass.TheVariants as k
+use Rattle.wh_cursor.specs.contracts.key.TokenClass.{the_type}
 use Rattle.wh_cursor.specs.Keys.{same_key, key_of}
 use Rattle.wh_cursor.specs.Steps.{sees, sees_word}
 use Rattle.wh_cursor.proofs.Combine.{sees_word_is, expect_word_reads, equal_reads, read_word_reads, read_number_reads}
@@ -116,12 +116,12 @@ name_no_number : {ts us : List Token} {name : List ℕ} → IsName ts name us �
 name_no_number (word {w = w} {us = us} r c) = no_number w us r
 name_no_number (quoted {name = name} {us = us}) = no_number_quoted name us
 
-key-reads : {ts us : List Token} {x : sort_key.Key} → IsKey ts x us → read_key ts ≡ Some (x, us)
+key-reads : {ts us : List Token} {x : sort_key.OrderKey} → IsKey ts x us → read_key ts ≡ Some (x, us)
 unfolding read_key
 key-reads (g.key_name n) = rw (name_no_number n, name_reads n) refl
 key-reads (g.key_position {us = us} {n = n}) = rw (a_number n us, read_number_reads n us) refl
 
-key-shorter : {ts us : List Token} {x : sort_key.Key} → IsKey ts x us → length us < length ts
+key-shorter : {ts us : List Token} {x : sort_key.OrderKey} → IsKey ts x us → length us < length ts
 key-shorter (g.key_name n) = name_shorter n
 key-shorter g.key_position = omega arith
 
@@ -152,7 +152,7 @@ direction-reads (g.ascending {ts = ts}) none =
     rw (other_word (codes "DESC") (codes "ASC") ts refl, sees_word_is (codes "ASC") ts) refl
 direction-reads (g.descending {ts = ts}) none = rw (sees_word_is (codes "DESC") ts) refl
 
-sort-reads : {ts us vs : List Token} {x : sort_key.Key} {d : Bool} → IsKey ts x us → IsDirection us d vs
+sort-reads : {ts us vs : List Token} {x : sort_key.OrderKey} {d : Bool} → IsKey ts x us → IsDirection us d vs
     → NoDirection vs
     → read_sort ts ≡ Some (record { key = x; descending = d }, vs)
 unfolding read_sort

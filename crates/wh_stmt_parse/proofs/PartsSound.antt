@@ -7,14 +7,14 @@ use Rattle.std.proofs.lemmas.Slice.Eq.{bytes_eq-Decides}
 use Rattle.wh_value.specs.declared.column.ColumnType.{ColumnType}
 use Rattle.wh_value.specs.declared.column.Column.{Column}
 use Rattle.wh_ast.specs.declared.query.Sort.{Sort}
-use Rattle.wh_ast.specs.declared.query.Key.TheVariants as key
+use Rattle.wh_ast.specs.declared.query.OrderKey.TheVariants as key
 use Rattle.wh_grammar.specs.Token as token
 use Rattle.wh_grammar.specs.Token.{Token, Word, SignToken}
 use Rattle.wh_grammar.specs.Name.{IsName}
 use Rattle.wh_grammar.specs.Parts as g
 use Rattle.wh_grammar.specs.Parts.{IsType, AreColumns, MayRetain, MayAppend, IsDirection, IsKey, AreSorts, MayHaveOrder}
 use Rattle.wh_grammar.specs.Spelled.{MayFollow, follows_none, follows}
-use Rattle.wh_cursor.specs.declared.key.Key.TheVariants as k
+use Rattle.wh_cursor.specs.declared.key.TokenClass.TheVariants as k
 use Rattle.wh_cursor.specs.Steps.{tail, sees}
 use Rattle.wh_cursor.proofs.Yields.{Yields, yields, follow, mapped, yields_law}
 use Rattle.wh_cursor.proofs.Combine.{if_eaten_word, then_expect_word, then_expect_key, word-yields}

@@ -20,7 +20,7 @@ use Rattle.wh_grammar.specs.Parts.{MayAppend, MayHaveOrder}
 use Rattle.wh_grammar.specs.Spelled as g
 use Rattle.wh_grammar.specs.Spelled.{IsPlain, IsTableStatement, IsStreamStatement, IsTaskStatement}
 use Rattle.wh_grammar.specs.Spelled.{IsDynamicTableStatement, IsTransactionStatement, at_table, MayEnd, most_nested}
-use Rattle.wh_cursor.specs.declared.key.Key.TheVariants as k
+use Rattle.wh_cursor.specs.declared.key.TokenClass.TheVariants as k
 use Rattle.wh_cursor.specs.Keys.{same_key, key_of}
 use Rattle.wh_cursor.specs.Steps.{tail, sees, sees_word}
 use Rattle.wh_cursor.proofs.Combine.{sees_word_is, expect_word_reads, equal_reads, lparen_reads, rparen_reads}

@@ -9,7 +9,7 @@ use Rattle.wh_grammar.specs.Parts.{IsLag, AreColumns, AsksForData, MayReplace, n
 use Rattle.wh_grammar.specs.Changing.{IsDml}
 use Rattle.wh_grammar.specs.Spelled as g
 use Rattle.wh_grammar.specs.Spelled.{IsPlain, at_table, MayEnd, most_nested}
-use Rattle.wh_cursor.specs.declared.key.Key.TheVariants as k
+use Rattle.wh_cursor.specs.declared.key.TokenClass.TheVariants as k
 use Rattle.wh_cursor.specs.Steps.{tail, read_name, ◌>>=◌, and_then, sees_word, eat_word}
 use Rattle.wh_cursor.proofs.Yields.{Yields, yields, follow, mapped, yields_law, if_test}
 use Rattle.wh_cursor.proofs.Combine.{if_eaten_word, then_expect_word, then_expect_key, sees_word_some, name-yields}

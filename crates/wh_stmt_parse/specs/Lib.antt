@@ -1,6 +1,6 @@
 pub mod Parts
 pub mod Plain
-pub mod Kept
+pub mod KeptText
 pub mod Read
 pub mod Request
 pub mod Gives

@@ -8,9 +8,9 @@ use Rattle.wh_value.specs.declared.column.ColumnType.{ColumnType}
 use Rattle.wh_value.specs.declared.column.ColumnType.TheVariants as types
 use Rattle.wh_value.specs.declared.column.Column.{Column}
 use Rattle.wh_ast.specs.declared.query.Sort.{Sort}
-use Rattle.wh_ast.specs.declared.query.Key as sort_key
-use Rattle.wh_ast.specs.declared.query.Key.TheVariants as key
-use Rattle.wh_cursor.specs.declared.key.Key.TheVariants as k
+use Rattle.wh_ast.specs.declared.query.OrderKey as sort_key
+use Rattle.wh_ast.specs.declared.query.OrderKey.TheVariants as key
+use Rattle.wh_cursor.specs.declared.key.TokenClass.TheVariants as k
 use Rattle.wh_cursor.specs.Steps.{read_name, sees, Reader, ◌>>=◌, ◌>>◌, pure, eat_word, eat_key, expect_word}
 use Rattle.wh_cursor.specs.Steps.{expect_key, read_word, read_number, given}
 use Rattle.wh_cursor.specs.Lists.{listed}
@@ -78,7 +78,7 @@ read_append = do
 
 -- ---- sort keys
 
-abbrev pub key_by : Bool → Reader sort_key.Key
+abbrev pub key_by : Bool → Reader sort_key.OrderKey
 key_by true = do
   n ← read_number
   pure (key.Position n)
@@ -86,7 +86,7 @@ key_by false = do
   name ← read_name
   pure (key.Name name)
 
-unfoldable pub read_key : Reader sort_key.Key
+unfoldable pub read_key : Reader sort_key.OrderKey
 read_key = λ ts. key_by (sees k.Number ts) ts
 
 abbrev pub direction_by : Bool → Reader Bool

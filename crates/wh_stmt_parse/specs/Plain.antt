@@ -4,7 +4,7 @@ use Rattle.wh_ast.specs.declared.statement.Statement.{Statement}
 use Rattle.wh_ast.specs.declared.statement.Statement.TheVariants as st
 use Rattle.wh_grammar.specs.Token.{Token}
 use Rattle.wh_grammar.specs.Spelled.{most_nested}
-use Rattle.wh_cursor.specs.declared.key.Key.TheVariants as k
+use Rattle.wh_cursor.specs.declared.key.TokenClass.TheVariants as k
 use Rattle.wh_cursor.specs.Steps.{read_name, sees, tail, Reader, ◌>>=◌, ◌>>◌, pure, sees_word, eat_word, expect_word}
 use Rattle.wh_cursor.specs.Steps.{expect_key, skip}
 use Rattle.wh_query_parse.specs.Read.{read_query}

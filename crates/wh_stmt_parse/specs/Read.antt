@@ -16,7 +16,7 @@ use Rattle.wh_stmt_parse.specs.declared.verb.Object.{Object}
 use Rattle.wh_stmt_parse.specs.declared.verb.Object.TheVariants as object
 use Rattle.wh_stmt_parse.specs.Plain.{read_select, read_change, read_table, read_replacement, read_stream, read_alter}
 use Rattle.wh_stmt_parse.specs.Plain.{read_execute, read_drop, read_begin, read_start, read_ending}
-use Rattle.wh_stmt_parse.specs.Kept.{read_task, read_dynamic_table}
+use Rattle.wh_stmt_parse.specs.KeptText.{read_task, read_dynamic_table}
 
 unfoldable pub verb_of : List Token → Verb
 verb_of ts =

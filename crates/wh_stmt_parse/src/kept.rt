@@ -5,7 +5,7 @@ ghost use Rattle.wh_cursor.specs.Gives.{Reads};
 ghost use Rattle.wh_grammar.specs.Spelled.{end_of, written};
 ghost use Rattle.wh_lex.specs.Front.{text_of};
 ghost use Rattle.wh_stmt_parse.specs.Gives.{Gives};
-ghost use Rattle.wh_stmt_parse.specs.Kept as spec;
+ghost use Rattle.wh_stmt_parse.specs.KeptText as spec;
 
 use crate::options::after;
 use crate::plain::MOST_NESTED;
@@ -29,7 +29,7 @@ pub struct TaskHead {
 
 /// A text and its tokens.
 #[derive(Clone, Copy)]
-pub struct Source<'a> {
+pub struct LexedText<'a> {
     pub text: &'a [u8],
     pub tokens: &'a [Token],
 }
@@ -91,7 +91,7 @@ fn between(tokens: &[Token], from: usize, to: usize) -> &[Token]
 }
 
 /// The text from where so many tokens are left to where so many are.
-fn piece(alloc: Global, source: Source<'_>, from: usize, to: usize) -> Result<Text, ParseFault>
+fn piece(alloc: Global, source: LexedText<'_>, from: usize, to: usize) -> Result<Text, ParseFault>
     ensures { Gives result (text_of
         (written source.entry.text.now (spec.between source.entry.tokens.now from to))) }
 {
@@ -116,7 +116,7 @@ fn starts_once(minutes: Option<u64>, after: &Items<Text>) -> bool
 }
 
 /// Behind CREATE TASK.
-#[tactic(auto, unfolding(crate::specs::Kept::read_task_head))]
+#[tactic(auto, unfolding(crate::specs::KeptText::read_task_head))]
 fn task_head(alloc: Global, words: &mut Words<'_>) -> Result<TaskHead, ParseFault>
     ensures { Reads (spec.read_task_head words.old) result words.new }
 {
@@ -134,13 +134,14 @@ fn task_head(alloc: Global, words: &mut Words<'_>) -> Result<TaskHead, ParseFaul
 }
 
 /// `WHEN condition`, or nothing.
-#[tactic(auto, unfolding(crate::specs::Kept::read_guard, crate::specs::Kept::piece))]
+#[tactic(auto, unfolding(crate::specs::KeptText::read_guard, crate::specs::KeptText::piece))]
 fn guard(
     alloc: Global,
-    source: Source<'_>,
+    source: LexedText<'_>,
     words: &mut Words<'_>,
 ) -> Result<Option<When>, ParseFault>
-    ensures { Reads (spec.read_guard source.entry.text.now source.entry.tokens.now words.old) result words.new }
+    ensures { Reads (spec.read_guard source.entry.text.now source.entry.tokens.now words.old)
+        result words.new }
 {
     if !words.eat_word(b"WHEN") {
         return Ok(None);
@@ -152,13 +153,14 @@ fn guard(
 }
 
 /// Behind CREATE TASK.
-#[tactic(auto, unfolding(crate::specs::Kept::read_task, crate::specs::Kept::piece))]
+#[tactic(auto, unfolding(crate::specs::KeptText::read_task, crate::specs::KeptText::piece))]
 pub fn task(
     alloc: Global,
-    source: Source<'_>,
+    source: LexedText<'_>,
     words: &mut Words<'_>,
 ) -> Result<Statement, ParseFault>
-    ensures { Reads (spec.read_task source.entry.text.now source.entry.tokens.now words.old) result words.new }
+    ensures { Reads (spec.read_task source.entry.text.now source.entry.tokens.now words.old)
+        result words.new }
 {
     let head = Boxed::new(alloc, task_head(alloc, words)?)?;
     let when = Boxed::new(alloc, guard(alloc, source, words)?)?;
@@ -178,13 +180,14 @@ pub fn task(
 }
 
 /// Behind CREATE DYNAMIC.
-#[tactic(auto, unfolding(crate::specs::Kept::read_dynamic_table, crate::specs::Kept::piece))]
+#[tactic(auto, unfolding(crate::specs::KeptText::read_dynamic_table, crate::specs::KeptText::piece))]
 pub fn dynamic_table(
     alloc: Global,
-    source: Source<'_>,
+    source: LexedText<'_>,
     words: &mut Words<'_>,
 ) -> Result<Statement, ParseFault>
-    ensures { Reads (spec.read_dynamic_table source.entry.text.now source.entry.tokens.now words.old)
+    ensures { Reads (spec.read_dynamic_table source.entry.text.now
+        source.entry.tokens.now words.old)
         result words.new }
 {
     words.expect_word(b"TABLE")?;

@@ -5,7 +5,7 @@ ghost use Rattle.wh_stmt_parse.specs.Parts as spec;
 
 use sqlite_items::Items;
 use std::alloc::Global;
-use wh_cursor::{Key, ParseFault, Words};
+use wh_cursor::{ParseFault, TokenClass, Words};
 use wh_dml_parse::names;
 use wh_value::Text;
 
@@ -17,7 +17,7 @@ pub fn retention(words: &mut Words<'_>) -> Result<Option<u64>, ParseFault>
     if !words.eat_word(b"DATA_RETENTION_TIME_IN_DAYS") {
         return Ok(None);
     }
-    words.expect(Key::Equal)?;
+    words.expect(TokenClass::Equal)?;
     let days = words.number()?;
     Ok(Some(days))
 }
@@ -41,7 +41,7 @@ pub fn append_only(words: &mut Words<'_>) -> Result<bool, ParseFault>
     if !words.eat_word(b"APPEND_ONLY") {
         return Ok(false);
     }
-    words.expect(Key::Equal)?;
+    words.expect(TokenClass::Equal)?;
     truth(words)
 }
 

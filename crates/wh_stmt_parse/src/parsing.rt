@@ -8,7 +8,7 @@ ghost use Rattle.wh_stmt_parse.specs.Laws as laws;
 ghost use Rattle.wh_stmt_parse.specs.Read as spec;
 ghost use Rattle.wh_stmt_parse.specs.Read.{read_statement, statement_of};
 
-use crate::kept::{Source, dynamic_table, task};
+use crate::kept::{LexedText, dynamic_table, task};
 use crate::plain::{
     alter, begin, change, commit, drop, execute, replacement, rollback, select, start, stream,
     table,
@@ -24,7 +24,7 @@ use wh_lex::Token;
 #[tactic(auto, unfolding(crate::specs::Read::read_create))]
 fn creation(
     alloc: Global,
-    source: Source<'_>,
+    source: LexedText<'_>,
     words: &mut Words<'_>,
 ) -> Result<Statement, ParseFault>
     ensures { Reads (spec.read_create source.entry.text.now source.entry.tokens.now words.old)
@@ -45,7 +45,7 @@ fn creation(
 /// Behind the first word of a statement that is neither a query nor a change of rows.
 fn behind_verb(
     alloc: Global,
-    source: Source<'_>,
+    source: LexedText<'_>,
     words: &mut Words<'_>,
     verb: Verb,
 ) -> Result<Statement, ParseFault>
@@ -67,7 +67,11 @@ fn behind_verb(
 
 /// The statement that the tokens begin with.
 #[tactic(auto, unfolding(crate::specs::Read::read_words))]
-fn front(alloc: Global, source: Source<'_>, words: &mut Words<'_>) -> Result<Statement, ParseFault>
+fn front(
+    alloc: Global,
+    source: LexedText<'_>,
+    words: &mut Words<'_>,
+) -> Result<Statement, ParseFault>
     ensures { Reads (spec.read_words source.entry.text.now source.entry.tokens.now words.old)
         result words.new }
 {
@@ -83,7 +87,7 @@ fn front(alloc: Global, source: Source<'_>, words: &mut Words<'_>) -> Result<Sta
 
 /// The statement that all the tokens are that are left.
 #[tactic(auto, unfolding(crate::specs::Read::read_all))]
-fn all(alloc: Global, source: Source<'_>, words: &mut Words<'_>) -> Result<Statement, ParseFault>
+fn all(alloc: Global, source: LexedText<'_>, words: &mut Words<'_>) -> Result<Statement, ParseFault>
     ensures { Reads (spec.read_all source.entry.text.now source.entry.tokens.now words.old)
         result words.new }
 {
@@ -96,7 +100,7 @@ fn statement(alloc: Global, text: &[u8], tokens: &[Token]) -> Result<Statement, 
     ensures { Gives result (statement_of text.now tokens.now) }
 {
     let mut words = Words::new(tokens);
-    all(alloc, Source { text, tokens }, &mut words)
+    all(alloc, LexedText { text, tokens }, &mut words)
 }
 
 fn is_utf8(text: &[u8]) -> bool

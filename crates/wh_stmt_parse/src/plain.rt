@@ -10,7 +10,7 @@ use crate::options::{append_only, retention};
 use crate::sorts::order;
 use std::alloc::Global;
 use wh_ast::{CreateTable, Statement};
-use wh_cursor::{Key, ParseFault, Words, name};
+use wh_cursor::{ParseFault, TokenClass, Words, name};
 use wh_dml_parse::dml;
 use wh_option_parse::{asked, lag};
 use wh_query_parse::query;
@@ -30,7 +30,7 @@ fn asks(words: &Words<'_>) -> bool
         return false;
     }
     ahead.skip();
-    ahead.sees(Key::LParen)
+    ahead.sees(TokenClass::LParen)
 }
 
 #[tactic(auto, unfolding(crate::specs::Plain::read_has_data))]
@@ -77,9 +77,9 @@ pub fn table(alloc: Global, words: &mut Words<'_>, replace: bool) -> Result<Stat
     ensures { Reads (spec.read_table replace words.old) result words.new }
 {
     let name = name(alloc, words)?;
-    words.expect(Key::LParen)?;
+    words.expect(TokenClass::LParen)?;
     let columns = columns(alloc, words)?;
-    words.expect(Key::RParen)?;
+    words.expect(TokenClass::RParen)?;
     let retention = retention(words)?;
     Ok(Statement::CreateTable(CreateTable {
         replace,
@@ -131,7 +131,7 @@ fn set_lag(alloc: Global, words: &mut Words<'_>, name: Text) -> Result<Statement
 {
     words.expect_word(b"SET")?;
     words.expect_word(b"TARGET_LAG")?;
-    words.expect(Key::Equal)?;
+    words.expect(TokenClass::Equal)?;
     let lag = lag(alloc, words)?;
     Ok(Statement::SetTargetLag(name, lag))
 }

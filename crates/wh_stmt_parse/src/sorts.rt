@@ -7,19 +7,19 @@ ghost use Rattle.wh_stmt_parse.specs.Parts as spec;
 use sqlite_items::Items;
 use std::alloc::Global;
 use wh_ast::Sort;
-use wh_cursor::{Key, ParseFault, Words, listed, name};
+use wh_cursor::{ParseFault, TokenClass, Words, listed, name};
 
 /// A column's name, or its number.
 #[tactic(auto, unfolding(crate::specs::Parts::read_key))]
-fn key(alloc: Global, words: &mut Words<'_>) -> Result<wh_ast::Key, ParseFault>
+fn key(alloc: Global, words: &mut Words<'_>) -> Result<wh_ast::OrderKey, ParseFault>
     ensures { Reads (spec.read_key words.old) result words.new }
 {
-    if words.sees(Key::Number) {
+    if words.sees(TokenClass::Number) {
         let number = words.number()?;
-        return Ok(wh_ast::Key::Position(number));
+        return Ok(wh_ast::OrderKey::Position(number));
     }
     let name = name(alloc, words)?;
-    Ok(wh_ast::Key::Name(name))
+    Ok(wh_ast::OrderKey::Name(name))
 }
 
 /// Whether DESC is written.

@@ -18,7 +18,8 @@ pub(crate) fn shown_rows(
     source: u32,
     records: &[RowChange<'_>],
 ) -> Result<Vec<Row>, AllocError>
-    ensures { IfOk result (λ rows. rows.items ≡ map (shown_row source) (row_changes_of records.now)) }
+    ensures { IfOk result (λ rows. rows.items
+        ≡ map (shown_row source) (row_changes_of records.now)) }
 {
     let actions = ActionTexts::new(alloc)?;
     let ids = RowIds::new(alloc, source)?;

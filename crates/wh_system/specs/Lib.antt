@@ -1,3 +1,3 @@
 pub mod Untold
 pub mod Opening
-pub mod Outcome
+pub mod Attempt

@@ -39,12 +39,14 @@ impl From<TryLockError> for OpenError {
     }
 }
 
-/// A file of the system, opened for reading and writing. Its bytes aren't told, but their number is.
+/// A file of the system, opened for reading and writing. Its bytes aren't told, but their number
+/// is.
 ///
-/// It holds the system's lock on the file until it is dropped, so no other `FileDisk` has the file meanwhile. A
-/// program that doesn't ask for the lock can still write to it: before each write the file's length is compared with
-/// the one that was left, and where it is another the write fails. What remains is a change that leaves the length as
-/// it was, or that comes between this comparison and the write.
+/// It holds the system's lock on the file until it is dropped, so no other `FileDisk` has the file
+/// meanwhile. A program that doesn't ask for the lock can still write to it: before each write the
+/// file's length is compared with the one that was left, and where it is another the write fails.
+/// What remains is a change that leaves the length as it was, or that comes between this comparison
+/// and the write.
 #[derive(Drop)]
 pub struct FileDisk {
     file: File,
@@ -54,7 +56,8 @@ pub struct FileDisk {
 }
 
 impl FileDisk {
-    /// Opens the file of that path, creates it where it isn't there, and takes its lock without waiting.
+    /// Opens the file of that path, creates it where it isn't there, and takes its lock without
+    /// waiting.
     pub fn open(rt: &impl Files<File = File>, path: &str) -> Result<FileDisk, OpenError>
         ensures fresh { IfOk result (λ disk. (disk.faults ≡ 0) × (disk.reads ≡ 0)) }
     {

@@ -6,8 +6,8 @@ use crate::tries::{TRIES, read_outcome};
 use std::io::Read;
 use wh_world::{Failed, Source};
 
-/// A script that comes from a reader, as standard input. Its bytes aren't told, but what it takes is, as far as the
-/// reader tells it.
+/// A script that comes from a reader, as standard input. Its bytes aren't told, but what it takes
+/// is, as far as the reader tells it.
 #[derive(Drop)]
 pub struct InSource<R: Read + Drop> {
     reader: R,
@@ -48,8 +48,8 @@ impl<R: Read + Drop> Source for InSource<R> {
     }
 }
 
-// Reads some bytes, or none at the end. It gives up where the reader fails and no signal was the cause, or where a
-// signal cut into each of the tries.
+// Reads some bytes, or none at the end. It gives up where the reader fails and no signal was the
+// cause, or where a signal cut into each of the tries.
 fn read_some<R: Read>(reader: &mut R, buf: &mut [u8]) -> Result<usize, Failed>
     requires { 0 < length buf.old }
     ensures count { IfOk result (λ count. count ≤ length buf.new) }

@@ -1,4 +1,5 @@
-//! The world of the system: a script from a reader, replies to a writer, the system's clock, and a file as a disk.
+//! The world of the system: a script from a reader, replies to a writer, the system's clock, and a
+//! file as a disk.
 #![tactic(auto)]
 
 mod file_disk;

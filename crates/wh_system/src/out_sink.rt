@@ -6,8 +6,8 @@ use crate::tries::{TRIES, write_outcome};
 use std::io::Write;
 use wh_world::{Failed, Sink};
 
-/// Replies that go to a writer, as standard output, each piece at once. The bytes aren't told, but what the writer
-/// takes is, as far as it tells it.
+/// Replies that go to a writer, as standard output, each piece at once. The bytes aren't told, but
+/// what the writer takes is, as far as it tells it.
 #[derive(Drop)]
 pub struct OutSink<W: Write + Drop> {
     writer: W,
@@ -48,8 +48,8 @@ impl<W: Write + Drop> Sink for OutSink<W> {
     }
 }
 
-// Writes at least one byte. It gives up where the writer takes none, where it fails and no signal was the cause, or
-// where a signal cut into each of the tries.
+// Writes at least one byte. It gives up where the writer takes none, where it fails and no signal
+// was the cause, or where a signal cut into each of the tries.
 fn write_some<W: Write>(writer: &mut W, piece: &[u8]) -> Result<usize, Failed>
     ensures count { IfOk result (λ count. (0 < count) × (count ≤ length piece.now)) }
     ensures taken { WriteAppends (W.contents writer.old) (W.contents writer.new) result piece.now }

@@ -8,8 +8,8 @@ use wh_world::Clock;
 // No reading is as great.
 const LIMIT: u128 = 1 << 62;
 
-/// The system's clock, in milliseconds since 1970. Where it can't be read or is out of range it gives its last
-/// reading again, 0 at first. Its readings aren't told.
+/// The system's clock, in milliseconds since 1970. Where it can't be read or is out of range it
+/// gives its last reading again, 0 at first. Its readings aren't told.
 #[derive(Drop)]
 pub struct SystemClock<'a, T: time::Clock> {
     system: &'a T,

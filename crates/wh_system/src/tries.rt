@@ -1,4 +1,4 @@
-ghost use Rattle.wh_system.specs.Outcome.{ErrorOutcome, ReadOutcome, WriteOutcome};
+ghost use Rattle.wh_system.specs.Attempt.{ErrorOutcome, ReadOutcome, WriteOutcome};
 
 use std::io;
 use std::io::ErrorKind;
@@ -7,7 +7,8 @@ use wh_world::Failed;
 /// How often a call is tried that signals cut into.
 pub(crate) const TRIES: u32 = 1000;
 
-/// What one try of a read came to, and nothing where a signal cut in. The end of the input is no failure.
+/// What one try of a read came to, and nothing where a signal cut in. The end of the input is no
+/// failure.
 pub(crate) fn read_outcome(tried: io::Result<usize>) -> Option<Result<usize, Failed>>
     ensures { ReadOutcome tried result }
 {
@@ -17,8 +18,8 @@ pub(crate) fn read_outcome(tried: io::Result<usize>) -> Option<Result<usize, Fai
     }
 }
 
-/// What one try of a write came to, and nothing where a signal cut in. A count of 0 is a failure: nothing more would
-/// be taken.
+/// What one try of a write came to, and nothing where a signal cut in. A count of 0 is a failure:
+/// nothing more would be taken.
 pub(crate) fn write_outcome(tried: io::Result<usize>) -> Option<Result<usize, Failed>>
     ensures { WriteOutcome tried result }
 {

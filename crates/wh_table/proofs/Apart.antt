@@ -10,8 +10,8 @@ use Rattle.std.proofs.lemmas.Bool.Decides.{Decides-and, Decides-or, Decides-ltb}
 use Rattle.wh_frame.specs.Partition.{Partition, first_number, last_number}
 use Rattle.wh_state.specs.Commit.{AreApart, AllApart}
 use Rattle.wh_state.specs.Edits.{without, is_among}
-use Rattle.wh_version.specs.declared.kept.Kept.{Kept}
-use Rattle.wh_version.specs.Kept.{is_standing, partitions_in}
+use Rattle.wh_version.specs.declared.lasting.Lasting.{Lasting}
+use Rattle.wh_version.specs.Lasting.{is_standing, partitions_in}
 use Rattle.wh_table.specs.Apart.{are_apart, all_apart, highest_number}
 use Rattle.wh_table.specs.Conditions.{rises_above}
 
@@ -154,7 +154,7 @@ highest_filter test (p ∷ ps) = pick (test p) (highest_filter test ps)
     pick false rest = omega arith
 
 -- some of those that are kept
-pub highest_kept : (test : Kept → Bool) (kept : List Kept)
+pub highest_kept : (test : Lasting → Bool) (kept : List Lasting)
     → highest_number (partitions_in (filter test kept)) ≤ highest_number (partitions_in kept)
 highest_kept test [] = omega arith
 highest_kept test (k ∷ kept) = pick (test k) (highest_kept test kept)
@@ -176,7 +176,7 @@ changed_apart removed ps added apart more =
 
 -- ---- those that stand and stay
 
-list_all_stay : (test : Partition → Bool) (removed : List ℕ) (kept : List Kept)
+list_all_stay : (test : Partition → Bool) (removed : List ℕ) (kept : List Lasting)
     → list_all test (without removed (partitions_in (filter is_standing kept)))
     ≡ list_all (λ k. not (is_standing k) || (is_among k.partition.number removed || test k.partition)) kept
 list_all_stay test removed [] = refl
@@ -200,7 +200,7 @@ list_all_stay test removed (k ∷ kept) = pick (is_standing k) (list_all_stay te
     pick false rest = rest
     pick true rest = inner (is_among k.partition.number removed) rest
 
-pub stay : (test : Partition → Bool) (removed : List ℕ) (kept : List Kept)
+pub stay : (test : Partition → Bool) (removed : List ℕ) (kept : List Lasting)
     → list_all (λ k. not (is_standing k) || (is_among k.partition.number removed || test k.partition)) kept
     ≡ list_all test (without removed (partitions_in (filter is_standing kept)))
 stay test removed kept = sym (list_all_stay test removed kept)

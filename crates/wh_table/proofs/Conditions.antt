@@ -14,7 +14,7 @@ use Rattle.wh_state.specs.State.{last_of}
 use Rattle.wh_state.specs.Stored.{StoredVersion, StoredTable, standing}
 use Rattle.wh_state.specs.Commit.{VersionChange, NumberedFrom, RowsFit, Stands, DoesNotFall, AllApart, VersionApplies}
 use Rattle.wh_state.specs.Edits.{without}
-use Rattle.wh_version.specs.Kept.{numbered_from}
+use Rattle.wh_version.specs.Lasting.{numbered_from}
 use Rattle.wh_table.specs.Conditions.{entry_fits, partition_fits, does_not_fall, is_standing_number, is_formed}
 use Rattle.wh_table.specs.Conditions.{partitions_apply, version_applies}
 use Rattle.wh_table.proofs.Apart.{Decides-list_all, Decides-all_apart}

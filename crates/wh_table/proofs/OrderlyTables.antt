@@ -6,9 +6,9 @@ use Rattle.std.specs.Prelude.{nat_eq}
 use Rattle.std.specs.List.{AllByRecursion, list_all}
 use Rattle.wh_state.specs.Spelling.{NumbersRiseFrom}
 use Rattle.wh_state.specs.Orderly.{IsOrderly, IsOrderlyVersion, IsOrderlyTable}
-use Rattle.wh_version.specs.declared.kept.Kept.{Kept}
+use Rattle.wh_version.specs.declared.lasting.Lasting.{Lasting}
 use Rattle.wh_version.specs.declared.mark.VersionMark.{VersionMark}
-use Rattle.wh_version.specs.Kept.{partitions_in, numbered_from, stands_at, version_by, versions_by}
+use Rattle.wh_version.specs.Lasting.{partitions_in, numbered_from, stands_at, version_by, versions_by}
 use Rattle.wh_version.specs.History.{versions_of, marks_of}
 use Rattle.wh_table.specs.Apart.{is_apart, is_rising}
 use Rattle.wh_table.specs.declared.table.StoredTable.{StoredTable}
@@ -17,7 +17,7 @@ use Rattle.wh_table.proofs.Apart.{Decides-all_apart}
 use Rattle.wh_table.proofs.Rising.{all_rising}
 
 -- the numbers of some of them rise, as all numbers do
-numbers_rise : (keep : Kept → Bool) (low next : ℕ) (kept : List Kept) → low ≤ next
+numbers_rise : (keep : Lasting → Bool) (low next : ℕ) (kept : List Lasting) → low ≤ next
     → next + length kept ≤ 2 ^ 64 → IsTrue (numbered_from next (partitions_in kept))
     → NumbersRiseFrom low (map (λ p. p.number) (partitions_in (filter keep kept)))
 numbers_rise keep low next [] under few numbers = tt
@@ -37,7 +37,7 @@ numbers_rise keep low next (k ∷ kept) under few numbers =
 
 -- ---- the first ones of all
 
-front_numbered : (count next : ℕ) (kept : List Kept) → IsTrue (numbered_from next (partitions_in kept))
+front_numbered : (count next : ℕ) (kept : List Lasting) → IsTrue (numbered_from next (partitions_in kept))
     → IsTrue (numbered_from next (partitions_in (take count kept)))
 front_numbered zero next kept numbers = refl
 front_numbered (suc count) next [] numbers = refl
@@ -45,12 +45,12 @@ front_numbered (suc count) next (k ∷ kept) numbers =
     let parts = and_parts (nat_eq k.partition.number next) (numbered_from (next + 1) (partitions_in kept)) numbers in
     and_from _ _ parts.0 (front_numbered count (next + 1) kept parts.1)
 
-front_few : (count : ℕ) (kept : List Kept) → length (take count kept) ≤ length kept
+front_few : (count : ℕ) (kept : List Lasting) → length (take count kept) ≤ length kept
 front_few zero kept = omega arith
 front_few (suc count) [] = omega arith
 front_few (suc count) (k ∷ kept) = let rest = front_few count kept in omega arith
 
-version_numbers : (kept : List Kept) (place : ℕ) (mark : VersionMark) → 1 + length kept ≤ 2 ^ 64
+version_numbers : (kept : List Lasting) (place : ℕ) (mark : VersionMark) → 1 + length kept ≤ 2 ^ 64
     → IsTrue (numbered_from 1 (partitions_in kept))
     → NumbersRiseFrom 0 (map (λ p. p.number) (version_by kept place mark).content)
 version_numbers kept place mark few numbers =
@@ -60,7 +60,7 @@ version_numbers kept place mark few numbers =
 
 -- ---- each version
 
-orderly_versions : (kept : List Kept) (place : ℕ) (marks : List VersionMark) → 1 + length kept ≤ 2 ^ 64
+orderly_versions : (kept : List Lasting) (place : ℕ) (marks : List VersionMark) → 1 + length kept ≤ 2 ^ 64
     → IsTrue (numbered_from 1 (partitions_in kept)) → IsTrue (list_all is_apart (versions_by kept place marks))
     → IsTrue (list_all is_rising (versions_by kept place marks))
     → AllByRecursion IsOrderlyVersion (versions_by kept place marks)

@@ -5,15 +5,15 @@ use Rattle.std.specs.Prelude.{not}
 use Rattle.std.specs.List.{AllByRecursion}
 use Rattle.wh_frame.specs.Partition.{Partition}
 use Rattle.wh_state.specs.Edits.{without, is_among}
-use Rattle.wh_version.specs.declared.kept.Kept.{Kept}
-use Rattle.wh_version.specs.Kept.{is_standing, partitions_in}
+use Rattle.wh_version.specs.declared.lasting.Lasting.{Lasting}
+use Rattle.wh_version.specs.Lasting.{is_standing, partitions_in}
 use Rattle.wh_table.specs.Rows.{all_rows}
 
 -- of those that are kept, the ones that stand and aren't among the removed
-abbrev pub staying : List ℕ → List Kept → List Partition
+abbrev pub staying : List ℕ → List Lasting → List Partition
 staying removed kept = without removed (partitions_in (filter is_standing kept))
 
-pub staying_more : (removed : List ℕ) (k : Kept) (ks : List Kept)
+pub staying_more : (removed : List ℕ) (k : Lasting) (ks : List Lasting)
     → staying removed (k ∷ ks) ≡ staying removed (k ∷ []) ++ staying removed ks
 staying_more removed k ks = pick (is_standing k)
   where

@@ -14,7 +14,7 @@ use Rattle.wh_state.specs.State.{last_of}
 use Rattle.wh_state.specs.Stored.{StoredVersion, StoredTable, standing}
 use Rattle.wh_state.specs.Commit.{VersionChange}
 use Rattle.wh_state.specs.Edits.{without}
-use Rattle.wh_version.specs.Kept.{numbered_from}
+use Rattle.wh_version.specs.Lasting.{numbered_from}
 use Rattle.wh_table.specs.Apart.{all_apart}
 
 abbrev pub does_not_fall : Option StoredVersion → ℕ → Bool

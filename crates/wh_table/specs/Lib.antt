@@ -3,6 +3,6 @@ pub mod Rows
 pub mod Chain
 pub mod Changes
 pub mod Conditions
-pub mod Kept
+pub mod Undoable
 pub mod Table
 pub mod Edited

@@ -4,7 +4,7 @@ use Rattle.wh_value.specs.View.{column_of}
 use Rattle.wh_state.specs.Stored as machine
 use Rattle.wh_version.specs.History.{versions_of, nexts_of}
 use Rattle.wh_table.specs.declared.table.StoredTable.{StoredTable}
-use Rattle.wh_table.specs.Kept.{KeptTable, table_in}
+use Rattle.wh_table.specs.Undoable.{KeptTable, table_in}
 
 unfoldable pub kept_table : StoredTable → KeptTable
 kept_table t = record {

@@ -1,7 +1,7 @@
 use crate::StoredTable;
 use crate::by_number::by_rows;
 use std::alloc::{AllocError, Global};
-use wh_version::{Arrivals, Front, Turnover};
+use wh_version::{Arrivals, Leading, Turnover};
 
 impl StoredTable {
     ghost use Rattle.std.specs.Prelude.{◌≡◌, ◌<◌, ◌≤◌, [], length, take, drop, IfOk};
@@ -52,7 +52,7 @@ impl StoredTable {
     }
 
     /// The versions at the front that were pushed by a stamp, and what came with them.
-    pub fn front(&self, alloc: Global, stamp: u64) -> Result<Front<'_>, AllocError>
+    pub fn front(&self, alloc: Global, stamp: u64) -> Result<Leading<'_>, AllocError>
         ensures { IfOk result (λ front. IsFront stamp front.count
             (partitions_at front.came.items) (table_of self.now).versions) }
     {

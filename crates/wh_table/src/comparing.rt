@@ -2,14 +2,14 @@
 ghost use Rattle.std.specs.Prelude.{◌≡◌, ◌&&◌, ◌||◌, not, filter};
 ghost use Rattle.std.specs.List.{list_all};
 ghost use Rattle.wh_state.specs.Edits.{without, is_among};
-ghost use Rattle.wh_version.specs.Kept.{is_standing, partitions_in};
+ghost use Rattle.wh_version.specs.Lasting.{is_standing, partitions_in};
 ghost use Rattle.wh_table.specs.Apart.{are_apart, all_apart};
 
 use wh_part::Partition;
-use wh_version::Kept;
+use wh_version::Lasting;
 
 /// Whether each partition is apart from those that stand and stay, and from those before it.
-pub(crate) fn compared_apart(kept: &[Kept], removed: &[u64], added: &[Partition]) -> bool
+pub(crate) fn compared_apart(kept: &[Lasting], removed: &[u64], added: &[Partition]) -> bool
     ensures { result
         ≡ all_apart (without removed.now (partitions_in (filter is_standing kept.now))) added.now }
 {
@@ -22,7 +22,7 @@ pub(crate) fn compared_apart(kept: &[Kept], removed: &[u64], added: &[Partition]
     true
 }
 
-fn is_free(partition: &Partition, kept: &[Kept], removed: &[u64], earlier: &[Partition]) -> bool
+fn is_free(partition: &Partition, kept: &[Lasting], removed: &[u64], earlier: &[Partition]) -> bool
     ensures { result ≡ (list_all (are_apart partition.now)
         (without removed.now (partitions_in (filter is_standing kept.now)))
         && list_all (are_apart partition.now) earlier.now) }
@@ -30,7 +30,7 @@ fn is_free(partition: &Partition, kept: &[Kept], removed: &[u64], earlier: &[Par
     is_apart_from_kept(partition, kept, removed) && is_apart_from(partition, earlier)
 }
 
-fn is_apart_from_kept(partition: &Partition, kept: &[Kept], removed: &[u64]) -> bool
+fn is_apart_from_kept(partition: &Partition, kept: &[Lasting], removed: &[u64]) -> bool
     ensures { result ≡ list_all (λ k. not (is_standing k)
         || (is_among k.partition.number removed.now
         || are_apart partition.now k.partition)) kept.now }
@@ -39,7 +39,7 @@ fn is_apart_from_kept(partition: &Partition, kept: &[Kept], removed: &[u64]) -> 
         .all(|one| is_gone_or_apart(partition, one, removed))
 }
 
-fn is_gone_or_apart(partition: &Partition, one: &Kept, removed: &[u64]) -> bool
+fn is_gone_or_apart(partition: &Partition, one: &Lasting, removed: &[u64]) -> bool
     ensures { result ≡ (not (is_standing one.now)
         || (is_among one.now.partition.number removed.now
         || are_apart partition.now one.now.partition)) }

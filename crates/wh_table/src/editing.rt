@@ -77,15 +77,15 @@ ghost use Rattle.std.specs.Prelude.{◌≡◌, ◌&&◌, not, ◌++◌, ◌∷�
 ghost use Rattle.std.specs.List.{AllByRecursion};
 ghost use Rattle.wh_state.specs.Edits.{without, is_among};
 ghost use Rattle.wh_state.specs.Orderly.{HasRisingRows};
-ghost use Rattle.wh_version.specs.Kept.{is_standing, partitions_in};
+ghost use Rattle.wh_version.specs.Lasting.{is_standing, partitions_in};
 ghost use Rattle.wh_table.specs.Rows.{partitions_at};
 
 use crate::comparing::is_among;
-use wh_version::Kept;
+use wh_version::Lasting;
 
 // The partitions that stand and stay, and those that come.
 fn partitions_with<'a>(
-    kept: &'a [Kept],
+    kept: &'a [Lasting],
     edited: &'a EditedTable,
     alloc: Global,
 ) -> Result<Vec<&'a Partition>, AllocError>
@@ -101,7 +101,7 @@ fn partitions_with<'a>(
 }
 
 fn staying<'a>(
-    kept: &'a [Kept],
+    kept: &'a [Lasting],
     removed: &[u64],
     alloc: Global,
 ) -> Result<Vec<&'a Partition>, AllocError>
@@ -120,7 +120,7 @@ fn staying<'a>(
 fn add_staying<'a>(
     found: &mut Vec<&'a Partition>,
     removed: &[u64],
-    one: &'a Kept,
+    one: &'a Lasting,
 ) -> Result<(), AllocError>
     ensures added { OnOk result (partitions_at found.new.items ≡ partitions_at found.old.items
         ++ without removed.now (partitions_in (filter is_standing (one.now ∷ [])))) }
@@ -133,7 +133,7 @@ fn add_staying<'a>(
     add(found, one.partition())
 }
 
-fn stays(one: &Kept, removed: &[u64]) -> bool
+fn stays(one: &Lasting, removed: &[u64]) -> bool
     ensures { result
         ≡ (is_standing one.now && not (is_among one.now.partition.number removed.now)) }
 {

@@ -44,7 +44,7 @@ ghost use Rattle.wh_value.specs.Limit.{bound};
 ghost use Rattle.wh_value.specs.declared.limit.Limit.TheVariants as limits;
 ghost use Rattle.wh_value.specs.View.{column_of};
 ghost use Rattle.wh_part.specs.View.{numbered_of};
-ghost use Rattle.wh_version.specs.Kept.{numbered_from};
+ghost use Rattle.wh_version.specs.Lasting.{numbered_from};
 ghost use Rattle.wh_version.specs.History.{versions_of, standing_in, partitions_of};
 ghost use Rattle.wh_state.specs.Edits.{without};
 ghost use Rattle.wh_table.specs.Apart.{all_apart, highest_number};

@@ -9,7 +9,7 @@ impl StoredTable {
     ghost use Rattle.wh_value.specs.declared.limit.Limit.TheVariants as limits;
     ghost use Rattle.wh_state.specs.Commit.{VersionApplies, pushed};
     ghost use Rattle.wh_record.specs.View.{version_change_of};
-    ghost use Rattle.wh_table.specs.Kept.{taken_back};
+    ghost use Rattle.wh_table.specs.Undoable.{taken_back};
     ghost use Rattle.wh_table.specs.Table.{table_of, kept_table};
 
     /// Adds a version, if it applies.

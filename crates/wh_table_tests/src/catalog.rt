@@ -445,7 +445,8 @@ type Added = &'static [(u64, u64, i64)];
 
 const NEXT: Added = &[(2, 6, 1)];
 
-// What is wrong with a version, its id, its data timestamp, its next row, what goes, and what comes.
+// What is wrong with a version, its id, its data timestamp, its next row, what goes, and what
+// comes.
 type VersionCase = (&'static str, u32, u64, u64, &'static [u64], Added);
 
 fn version_of_rows(

@@ -66,7 +66,8 @@ fn a_version_is_pushed_and_taken_back(rt: HostRuntime) {
     assert_first(&rt, &history);
 }
 
-// The numbers of the partitions of a version, and its place by its stamp; nothing where there is none.
+// The numbers of the partitions of a version, and its place by its stamp; nothing where there is
+// none.
 fn shown(rt: &impl Abort, alloc: Global, version: Option<Version<'_>>) -> String {
     let Some(version) = version else {
         return String::new(alloc);
@@ -168,7 +169,8 @@ fn edit(
     format!(in alloc; "{removed:?} {shapes:?}").expect(rt, "memory")
 }
 
-// Edits of rows from one number up to another that go, of others that change, and of some that come.
+// Edits of rows from one number up to another that go, of others that change, and of some that
+// come.
 fn edits(
     rt: &impl Abort,
     alloc: Global,
@@ -185,8 +187,8 @@ fn edits(
     edits
 }
 
-// What is edited, the numbers of rows that go, from one up to another, of rows that change, how many
-// come, the next row, and the partitions that go and the shapes of those that come.
+// What is edited, the numbers of rows that go, from one up to another, of rows that change, how
+// many come, the next row, and the partitions that go and the shapes of those that come.
 type Case = (
     &'static str,
     (u64, u64),

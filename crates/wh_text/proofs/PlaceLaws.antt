@@ -1,4 +1,4 @@
--- One byte of a script, by the places of its definition and by a `Place`.
+-- One byte of a script, by the places of its definition and by a `ScriptPlace`.
 use Rattle.std.proofs.Common.{◌≡◌, ℕ, ◌≤◌, Bool, true, false, ◌==◌, List, [], ◌∷◌, ◌++◌, length, drop, Option, Some}
 use Rattle.std.proofs.Common.{None, nat_lt, if◌then◌else◌, refl, sym, ap, ◌∙◌, eqb-true, ltb-false, append_assoc}
 use Rattle.std.proofs.Common.{append-nil}
@@ -10,12 +10,12 @@ use Rattle.wh_grammar.specs.Script as scripts
 use Rattle.wh_grammar.specs.Script.{Line, CommandLine, lines_from, place_behind, area_behind, gap_at, ends_command}
 use Rattle.wh_grammar.specs.Script.{command_line, marked_line, without_return}
 use Rattle.wh_text.specs.Area.{area_of, behind_plain, behind_comment, behind, ends, is_plain}
-use Rattle.wh_text.specs.Place.{closes, lines_at, line_at, last_line_at, is_gap, behind_gap, behind_command}
-use Rattle.wh_text.specs.Place.{behind_opening, next, with_byte, kept}
+use Rattle.wh_text.specs.ScriptPlace.{closes, lines_at, line_at, last_line_at, is_gap, behind_gap, behind_command}
+use Rattle.wh_text.specs.ScriptPlace.{behind_opening, next, with_byte, kept}
 use Rattle.wh_text.specs.declared.area.Area.{Area}
 use Rattle.wh_text.specs.declared.area.Area.TheVariants as areas
-use Rattle.wh_text.specs.declared.place.Place.{Place}
-use Rattle.wh_text.specs.declared.place.Place.TheVariants.{Gap, GapComment, Marked, Opening, Command}
+use Rattle.wh_text.specs.declared.place.ScriptPlace.{ScriptPlace}
+use Rattle.wh_text.specs.declared.place.ScriptPlace.TheVariants.{Gap, GapComment, Marked, Opening, Command}
 use Rattle.wh_text.proofs.AreaLaws.{swapped, otherwise, plain_step, area_step, ends_same}
 use Rattle.wh_text.proofs.MarkedLaws.{marked_front, returned_front}
 
@@ -88,7 +88,7 @@ marked_kept bytes text b = marked_kept_step bytes text b (nat_lt (length text) 6
 -- ---- one byte
 
 -- the lines from the next place on, or the line that ends and those behind it
-abbrev pub goes : Option Place → Line → List ℕ → List ℕ → List Line
+abbrev pub goes : Option ScriptPlace → Line → List ℕ → List ℕ → List Line
 goes (Some after) line text bytes = lines_at after text bytes
 goes None line text bytes = line ∷ lines_from scripts.Gap bytes
 
@@ -241,7 +241,7 @@ marked_cases text b bytes true e = rw e refl
 marked_cases text b bytes false e = rw e (marked_kept bytes text b)
 
 -- a byte moves the place, or ends a line
-pub one_step : (place : Place) (text : List ℕ) (b : ℕ) (bytes : List ℕ)
+pub one_step : (place : ScriptPlace) (text : List ℕ) (b : ℕ) (bytes : List ℕ)
     → lines_at place text (b ∷ bytes) ≡ goes (next place b) (line_at place text) (kept place text b) bytes
 one_step Gap text b bytes = gap_step b bytes
 one_step GapComment text b bytes = line_cases (line_at GapComment text) text b bytes (b == 10) refl
@@ -260,7 +260,7 @@ opening_ends areas.Comment text = refl
 opening_ends areas.Star text = refl
 
 -- the end of the script ends the last line
-pub at_end : (place : Place) (text : List ℕ) → lines_at place text [] ≡ last_line_at place text
+pub at_end : (place : ScriptPlace) (text : List ℕ) → lines_at place text [] ≡ last_line_at place text
 unfolding lines_from
 at_end Gap text = refl
 at_end GapComment text = refl

@@ -5,13 +5,13 @@ use Rattle.wh_grammar.specs.Script.{Line, lines_from, lines_of}
 use Rattle.wh_text.specs.View.{line_view}
 use Rattle.wh_text.specs.declared.line.Line as code
 use Rattle.wh_text.specs.Turn.{ahead_and, Gives, Ends}
-use Rattle.wh_text.specs.Place.{lines_at, line_at, last_line_at, next, with_byte, kept, most, begun}
-use Rattle.wh_text.specs.declared.place.Place.{Place}
-use Rattle.wh_text.specs.declared.place.Place.TheVariants.{Gap, GapComment, Marked, Opening, Command}
+use Rattle.wh_text.specs.ScriptPlace.{lines_at, line_at, last_line_at, next, with_byte, kept, most, begun}
+use Rattle.wh_text.specs.declared.place.ScriptPlace.{ScriptPlace}
+use Rattle.wh_text.specs.declared.place.ScriptPlace.TheVariants.{Gap, GapComment, Marked, Opening, Command}
 use Rattle.wh_text.proofs.PlaceLaws.{goes, one_step, at_end}
 
 -- a byte moves the place
-pub goes_on : (place after : Place) (text : List ℕ) (b : ℕ) (start mid rest : Option (List ℕ))
+pub goes_on : (place after : ScriptPlace) (text : List ℕ) (b : ℕ) (start mid rest : Option (List ℕ))
     → next place b ≡ Some after → option_map lines_of start ≡ option_map (lines_at place text) mid
     → mid ≡ option_map (λ bytes. b ∷ bytes) rest
     → option_map lines_of start ≡ option_map (lines_at after (kept place text b)) rest
@@ -21,7 +21,7 @@ goes_on place after text b start mid (Some bytes) moved same first =
     ∙ ap Some (one_step place text b bytes ∙ ap (λ o. goes o (line_at place text) (kept place text b) bytes) moved)
 
 -- a run of bytes leaves the place
-pub runs_on : (place : Place) (text after old new : List ℕ) (start left : Option (List ℕ))
+pub runs_on : (place : ScriptPlace) (text after old new : List ℕ) (start left : Option (List ℕ))
     → ((rest : List ℕ) → lines_at place after (new ++ rest) ≡ lines_at place text (old ++ rest))
     → option_map lines_of start ≡ option_map (lines_at place text) (ahead_and old left)
     → option_map lines_of start ≡ option_map (lines_at place after) (ahead_and new left)
@@ -40,7 +40,7 @@ gives_by line (Some script) (Some bytes) same = record {
       (bytes, refl, ap lines_of (sym the_script) ∙ here);
 }
 
-ended_lines : (place : Place) (text : List ℕ) (b : ℕ) (line : Line) (start mid rest : Option (List ℕ))
+ended_lines : (place : ScriptPlace) (text : List ℕ) (b : ℕ) (line : Line) (start mid rest : Option (List ℕ))
     → next place b ≡ None → line ≡ line_at place text → option_map lines_of start ≡ option_map (lines_at place text) mid
     → mid ≡ option_map (λ bytes. b ∷ bytes) rest
     → option_map lines_of start ≡ option_map (λ bytes. line ∷ lines_of bytes) rest
@@ -52,7 +52,7 @@ ended_lines place text b line start mid (Some bytes) ended is same first =
     ∙ ap (λ given. given ∷ lines_of bytes) (sym is))
 
 -- a byte ends a line
-pub gives_line : (place : Place) (text : List ℕ) (b : ℕ) (line : Line) (start mid rest : Option (List ℕ))
+pub gives_line : (place : ScriptPlace) (text : List ℕ) (b : ℕ) (line : Line) (start mid rest : Option (List ℕ))
     → next place b ≡ None → line ≡ line_at place text → option_map lines_of start ≡ option_map (lines_at place text) mid
     → mid ≡ option_map (λ bytes. b ∷ bytes) rest
     → Gives start line rest
@@ -63,7 +63,7 @@ no_lines : lines_of [] ≡ []
 unfolding lines_from
 no_lines = refl
 
-last_lines : (place : Place) (text : List ℕ) (line : Line) (start mid : Option (List ℕ))
+last_lines : (place : ScriptPlace) (text : List ℕ) (line : Line) (start mid : Option (List ℕ))
     → ((script : List ℕ) → mid ≡ Some script → script ≡ []) → last_line_at place text ≡ line ∷ []
     → option_map lines_of start ≡ option_map (lines_at place text) mid
     → option_map lines_of start ≡ option_map (λ bytes. line ∷ lines_of bytes) mid
@@ -75,7 +75,7 @@ last_lines place text line start (Some bytes) end last same =
     ∙ ap (λ xs. Some (line ∷ lines_of xs)) (sym none)
 
 -- the end of the script ends a line
-pub gives_last : (place : Place) (text : List ℕ) (line : Line) (start mid rest : Option (List ℕ))
+pub gives_last : (place : ScriptPlace) (text : List ℕ) (line : Line) (start mid rest : Option (List ℕ))
     → ((script : List ℕ) → mid ≡ Some script → script ≡ []) → last_line_at place text ≡ line ∷ []
     → option_map lines_of start ≡ option_map (lines_at place text) mid → rest ≡ mid
     → Gives start line rest
@@ -85,7 +85,7 @@ gives_last place text line start mid rest end last same kept_there =
     ∙ ap (λ m. option_map (λ bytes. line ∷ lines_of bytes) m) (sym kept_there))
 
 -- or none is left
-pub ends_there : (place : Place) (text : List ℕ) (start mid rest : Option (List ℕ))
+pub ends_there : (place : ScriptPlace) (text : List ℕ) (start mid rest : Option (List ℕ))
     → ((script : List ℕ) → mid ≡ Some script → script ≡ []) → last_line_at place text ≡ []
     → option_map lines_of start ≡ option_map (lines_at place text) mid → rest ≡ mid
     → Ends start rest
@@ -104,7 +104,7 @@ ends_there place text (Some script) (Some bytes) rest end last same kept_there =
     }
 
 -- a turn at the end of the script
-pub last_turn : (place : Place) (text : List ℕ) (found : Option code.Line) (start mid rest : Option (List ℕ))
+pub last_turn : (place : ScriptPlace) (text : List ℕ) (found : Option code.Line) (start mid rest : Option (List ℕ))
     → ((script : List ℕ) → mid ≡ Some script → script ≡ [])
     → MatchOption found
     (last_line_at place text ≡ []) (λ line. (last_line_at place text ≡ line_view line ∷ []) × (begun place ≡ 1))
@@ -117,14 +117,14 @@ last_turn place text (Some line) start mid rest end last same kept_there =
 
 -- ---- how long the text is, and where a line has begun
 
-pub begun_once : (place : Place) → begun place ≤ 1
+pub begun_once : (place : ScriptPlace) → begun place ≤ 1
 begun_once Gap = omega arith
 begun_once GapComment = omega arith
 begun_once Marked = omega arith
 begun_once (Opening area) = omega arith
 begun_once (Command area) = omega arith
 
-most_least : (place : Place) → 65537 ≤ most place
+most_least : (place : ScriptPlace) → 65537 ≤ most place
 most_least Gap = omega arith
 most_least GapComment = omega arith
 most_least Marked = omega arith
@@ -140,7 +140,7 @@ with_byte_cases limit text b false e short = rw e short
 with_byte_fits : (limit : ℕ) (text : List ℕ) (b : ℕ) → length text ≤ limit → length (with_byte limit text b) ≤ limit
 with_byte_fits limit text b short = with_byte_cases limit text b (nat_lt (length text) limit) refl short
 
-marked_fits : (b : ℕ) (after : Place) (v : Bool) → (b == 10) ≡ v → next Marked b ≡ Some after → 65538 ≤ most after
+marked_fits : (b : ℕ) (after : ScriptPlace) (v : Bool) → (b == 10) ≡ v → next Marked b ≡ Some after → 65538 ≤ most after
 marked_fits b after true e moved =
     let ended : next Marked b ≡ None = rw e refl in absurd (cc)
 marked_fits b after false e moved =
@@ -148,7 +148,8 @@ marked_fits b after false e moved =
     let same : after ≡ Marked = cc in rw same (omega arith)
 
 -- the text stays within its limit
-pub kept_fits : (place after : Place) (text : List ℕ) (b : ℕ) → next place b ≡ Some after → length text ≤ most place
+pub kept_fits : (place after : ScriptPlace) (text : List ℕ) (b : ℕ) → next place b ≡ Some after →
+    length text ≤ most place
     → length (kept place text b) ≤ most after
 kept_fits Gap after text b moved short = omega (arith, most_least after)
 kept_fits GapComment after text b moved short = omega (arith, most_least after)

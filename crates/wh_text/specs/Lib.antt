@@ -4,4 +4,4 @@ pub mod Ahead
 pub mod Fault
 pub mod Script
 pub mod Area
-pub mod Place
+pub mod ScriptPlace

@@ -39,7 +39,8 @@ impl Model for Ahead {
 }
 
 impl Ahead {
-    ghost use Rattle.std.specs.Prelude.{◌≡◌, ◌<◌, ◌≤◌, ◌+◌, ◌^◌, [], ◌∷◌, length, drop, Some, option_map};
+    ghost use Rattle.std.specs.Prelude.{◌≡◌, ◌<◌, ◌≤◌, ◌+◌, ◌^◌, [], ◌∷◌, length, drop, Some};
+    ghost use Rattle.std.specs.Prelude.{option_map};
     ghost use Rattle.std.specs.Prelude.{IfOk, OnOk, IfErr, IsErrOf, MatchOption, MatchBool, false};
     ghost use Rattle.wh_world.specs.Told.{Rose};
     ghost use Rattle.wh_text.specs.Ahead.{consumed, Uses, AtEnd, Fills, total};

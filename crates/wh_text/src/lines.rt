@@ -1,18 +1,19 @@
-ghost use Rattle.std.specs.Prelude.{◌≡◌, ◌<◌, ◌≤◌, ◌+◌, ◌++◌, ◌^◌, ℕ, List, [], ◌∷◌, length, take, Some, true};
+ghost use Rattle.std.specs.Prelude.{◌≡◌, ◌<◌, ◌≤◌, ◌+◌, ◌++◌, ◌^◌, ℕ, List, [], ◌∷◌, length, take};
+ghost use Rattle.std.specs.Prelude.{Some, true};
 ghost use Rattle.std.specs.Prelude.{IfOk, OnOk, IfSome, IfErr, IsErrOf, MatchOption};
 ghost use Rattle.std.specs.List.{list_all};
 ghost use Rattle.wh_world.specs.Told.{Rose};
 ghost use Rattle.wh_text.specs.Ahead.{consumed, total};
 ghost use Rattle.wh_text.specs.Fault.{FaultFits};
 ghost use Rattle.wh_text.specs.Area.{is_plain};
-ghost use Rattle.wh_text.specs.Place.{lines_at, line_at, last_line_at, begun, most};
+ghost use Rattle.wh_text.specs.ScriptPlace.{lines_at, line_at, last_line_at, begun, most};
 ghost use Rattle.wh_text.specs.Turn.{ahead_and, IsTurn, IsReadable};
 ghost use Rattle.wh_text.specs.View.{line_view};
 
 use crate::ahead::Ahead;
 use crate::area::{Area, is_plain};
 use crate::marked::{command_line, marked_line, without_return};
-use crate::place::{COMMAND_BYTES, Place};
+use crate::place::{COMMAND_BYTES, ScriptPlace};
 use crate::{Line, ScriptFault};
 use std::alloc::Global;
 use wh_value::Bytes;
@@ -40,7 +41,7 @@ pub(crate) fn read_line<S: Source>(
         Rose (S.faults source.old) (S.faults source.new) }
 {
     text.clear();
-    let mut place = Place::Gap;
+    let mut place = ScriptPlace::Gap;
     'bytes: loop {
         let Some(byte) = ahead.take_byte(source)? else {
             let found = last_line(alloc, place, text)?;
@@ -57,7 +58,7 @@ pub(crate) fn read_line<S: Source>(
 }
 
 /// Takes the plain bytes that are ahead, where they are a command's: they leave the place as it is.
-fn take_run(place: Place, ahead: &mut Ahead, text: &mut Bytes) -> Result<(), ScriptFault>
+fn take_run(place: ScriptPlace, ahead: &mut Ahead, text: &mut Bytes) -> Result<(), ScriptFault>
     requires { length text.old ≤ most place }
     ensures same { OnOk result ((rest : List ℕ) → lines_at place text.new (ahead.new.bytes ++ rest)
         ≡ lines_at place text.old (ahead.old.bytes ++ rest)) }
@@ -67,16 +68,16 @@ fn take_run(place: Place, ahead: &mut Ahead, text: &mut Bytes) -> Result<(), Scr
     ensures fault { IfErr result (λ fault. fault ≡ ScriptFault.OutOfMemory) }
 {
     match place {
-        Place::Command(Area::Plain) => take_plain(ahead, text),
+        ScriptPlace::Command(Area::Plain) => take_plain(ahead, text),
         _ => Ok(()),
     }
 }
 
 fn take_plain(ahead: &mut Ahead, text: &mut Bytes) -> Result<(), ScriptFault>
     requires { length text.old ≤ 65537 }
-    ensures same { OnOk result ((rest : List ℕ) → lines_at (Place.Command Area.Plain)
+    ensures same { OnOk result ((rest : List ℕ) → lines_at (ScriptPlace.Command Area.Plain)
         text.new (ahead.new.bytes ++ rest)
-        ≡ lines_at (Place.Command Area.Plain) text.old (ahead.old.bytes ++ rest)) }
+        ≡ lines_at (ScriptPlace.Command Area.Plain) text.old (ahead.old.bytes ++ rest)) }
     ensures fits { OnOk result (length text.new ≤ 65537) }
     ensures used { consumed ahead.old ≤ consumed ahead.new }
     ensures taken { ahead.new.taken ≡ ahead.old.taken }
@@ -107,21 +108,22 @@ fn plain_len(bytes: &[u8], most: usize) -> usize
 }
 
 /// The line that ends at a place.
-fn ended_line(alloc: Global, place: Place, text: &Bytes) -> Result<Line, ScriptFault>
+fn ended_line(alloc: Global, place: ScriptPlace, text: &Bytes) -> Result<Line, ScriptFault>
     ensures line { IfOk result (λ line. line_view line ≡ line_at place text.now) }
     ensures reading { IfOk result IsReadable }
     ensures fault { IfErr result (λ fault. fault ≡ ScriptFault.OutOfMemory) }
 {
     match place {
-        Place::Marked => marked_line(alloc, without_return(text.as_slice())),
-        Place::Gap | Place::GapComment | Place::Opening(_) | Place::Command(_) => {
-            command_line(alloc, text.as_slice())
-        }
+        ScriptPlace::Marked => marked_line(alloc, without_return(text.as_slice())),
+        ScriptPlace::Gap
+        | ScriptPlace::GapComment
+        | ScriptPlace::Opening(_)
+        | ScriptPlace::Command(_) => { command_line(alloc, text.as_slice()) }
     }
 }
 
 /// The line that the end of the script ends, if one does.
-fn last_line(alloc: Global, place: Place, text: &Bytes) -> Result<Option<Line>, ScriptFault>
+fn last_line(alloc: Global, place: ScriptPlace, text: &Bytes) -> Result<Option<Line>, ScriptFault>
     ensures line { IfOk result (λ found. MatchOption found
         (last_line_at place text.now ≡ [])
         (λ line. (last_line_at place text.now ≡ line_view line ∷ []) × (begun place ≡ 1))) }
@@ -129,12 +131,12 @@ fn last_line(alloc: Global, place: Place, text: &Bytes) -> Result<Option<Line>, 
     ensures fault { IfErr result (λ fault. fault ≡ ScriptFault.OutOfMemory) }
 {
     match place {
-        Place::Gap | Place::GapComment => Ok(None),
-        Place::Marked => {
+        ScriptPlace::Gap | ScriptPlace::GapComment => Ok(None),
+        ScriptPlace::Marked => {
             let line = marked_line(alloc, text.as_slice())?;
             Ok(Some(line))
         }
-        Place::Opening(_) | Place::Command(_) => {
+        ScriptPlace::Opening(_) | ScriptPlace::Command(_) => {
             let line = command_line(alloc, text.as_slice())?;
             Ok(Some(line))
         }

@@ -1,5 +1,5 @@
 ghost use Rattle.std.specs.Prelude.{◌≡◌, ◌++◌, take, ◌-◌, length, OnOk, IfErr};
-ghost use Rattle.wh_text.specs.Place as spec;
+ghost use Rattle.wh_text.specs.ScriptPlace as spec;
 
 use crate::ScriptFault;
 use crate::area::Area;
@@ -13,7 +13,7 @@ const MARKED_BYTES: usize = 65538;
 
 /// Where the next byte of a script stands.
 #[derive(Clone, Copy, Debug, PartialEq, Eq)]
-pub(crate) enum Place {
+pub(crate) enum ScriptPlace {
     /// Between commands.
     Gap,
     /// In a comment to the end of the line, between commands.
@@ -25,73 +25,74 @@ pub(crate) enum Place {
     Command(Area),
 }
 
-impl Place {
+impl ScriptPlace {
     /// Where the byte behind that one stands. None where it ends a marked line or a command.
-    pub(crate) fn next(self, byte: u8) -> Option<Place>
+    pub(crate) fn next(self, byte: u8) -> Option<ScriptPlace>
         ensures { result ≡ spec.next self byte }
     {
         match (self, byte) {
-            (Place::Gap, _) => Some(Place::behind_gap(byte)),
-            (Place::GapComment, b'\n') => Some(Place::Gap),
-            (Place::Marked, b'\n') => None,
-            (Place::GapComment | Place::Marked, _) => Some(self),
-            (Place::Opening(area), _) => Place::behind_opening(area, byte),
-            (Place::Command(area), _) => Place::behind_command(area, byte),
+            (ScriptPlace::Gap, _) => Some(ScriptPlace::behind_gap(byte)),
+            (ScriptPlace::GapComment, b'\n') => Some(ScriptPlace::Gap),
+            (ScriptPlace::Marked, b'\n') => None,
+            (ScriptPlace::GapComment | ScriptPlace::Marked, _) => Some(self),
+            (ScriptPlace::Opening(area), _) => ScriptPlace::behind_opening(area, byte),
+            (ScriptPlace::Command(area), _) => ScriptPlace::behind_command(area, byte),
         }
     }
 
-    fn behind_gap(byte: u8) -> Place
+    fn behind_gap(byte: u8) -> ScriptPlace
         ensures { result ≡ spec.behind_gap byte }
     {
         if is_gap(byte) {
-            return Place::Gap;
+            return ScriptPlace::Gap;
         }
         if byte == b'!' {
-            return Place::Marked;
+            return ScriptPlace::Marked;
         }
         if byte == b'-' {
-            return Place::Opening(Area::Minus);
+            return ScriptPlace::Opening(Area::Minus);
         }
         if byte == b'/' {
-            return Place::Opening(Area::Slash);
+            return ScriptPlace::Opening(Area::Slash);
         }
-        Place::Command(Area::Plain.behind(byte))
+        ScriptPlace::Command(Area::Plain.behind(byte))
     }
 
-    fn behind_opening(area: Area, byte: u8) -> Option<Place>
+    fn behind_opening(area: Area, byte: u8) -> Option<ScriptPlace>
         ensures { result ≡ spec.behind_opening area byte }
     {
         match (area, byte) {
-            (Area::Minus, b'-') => Some(Place::GapComment),
-            (Area::Slash, b'*') => Some(Place::Opening(Area::Comment)),
-            (Area::Star, b'/') => Some(Place::Gap),
-            (Area::Comment | Area::Star, _) => Some(Place::Opening(area.behind(byte))),
-            _ => Place::behind_command(area, byte),
+            (Area::Minus, b'-') => Some(ScriptPlace::GapComment),
+            (Area::Slash, b'*') => Some(ScriptPlace::Opening(Area::Comment)),
+            (Area::Star, b'/') => Some(ScriptPlace::Gap),
+            (Area::Comment | Area::Star, _) => Some(ScriptPlace::Opening(area.behind(byte))),
+            _ => ScriptPlace::behind_command(area, byte),
         }
     }
 
-    fn behind_command(area: Area, byte: u8) -> Option<Place>
+    fn behind_command(area: Area, byte: u8) -> Option<ScriptPlace>
         ensures { result ≡ spec.behind_command area byte }
     {
         if area.ends(byte) {
             return None;
         }
-        Some(Place::Command(area.behind(byte)))
+        Some(ScriptPlace::Command(area.behind(byte)))
     }
 
-    /// Adds a byte that stands here to the text of a command or of a marked line, or begins one with it.
+    /// Adds a byte that stands here to the text of a command or of a marked line, or begins one
+    /// with it.
     pub(crate) fn keep(self, byte: u8, text: &mut Bytes) -> Result<(), ScriptFault>
         ensures text { OnOk result (text.new ≡ spec.kept self text.old byte) }
         ensures fault { IfErr result (λ fault. fault ≡ ScriptFault.OutOfMemory) }
     {
         match self {
-            Place::Gap => {
+            ScriptPlace::Gap => {
                 text.clear();
                 push(byte, COMMAND_BYTES, text)
             }
-            Place::GapComment => Ok(()),
-            Place::Marked => push(byte, MARKED_BYTES, text),
-            Place::Opening(_) | Place::Command(_) => push(byte, COMMAND_BYTES, text),
+            ScriptPlace::GapComment => Ok(()),
+            ScriptPlace::Marked => push(byte, MARKED_BYTES, text),
+            ScriptPlace::Opening(_) | ScriptPlace::Command(_) => push(byte, COMMAND_BYTES, text),
         }
     }
 }

@@ -1,4 +1,5 @@
-ghost use Rattle.std.specs.Prelude.{◌≡◌, [], ◌∷◌, ◌++◌, OnOk, OnErr, List, ℕ, map, codes, decimal, length};
+ghost use Rattle.std.specs.Prelude.{◌≡◌, [], ◌∷◌, ◌++◌, OnOk, OnErr, List, ℕ, map, codes, decimal};
+ghost use Rattle.std.specs.Prelude.{length};
 ghost use Rattle.std.specs.List.{flat_map};
 ghost use Rattle.wh_value.specs.Limit.{bound};
 ghost use Rattle.wh_value.specs.Value.{literal};
@@ -271,7 +272,8 @@ fn put_other_values(values: &[Value], out: &mut Bytes) -> Result<(), AllocError>
 }
 
 fn put_count(count: u64, out: &mut Bytes) -> Result<(), AllocError>
-    ensures { OnOk result (out.new ≡ out.old ++ line (codes "(" ++ decimal count ++ codes " rows)")) }
+    ensures { OnOk result (out.new ≡ out.old
+        ++ line (codes "(" ++ decimal count ++ codes " rows)")) }
 {
     out.extend(b"(")?;
     out.extend_decimal(count)?;

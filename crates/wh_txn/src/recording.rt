@@ -57,7 +57,8 @@ impl Sessions {
     }
 }
 
-ghost use Rattle.std.specs.Prelude.{◌≡◌, ◌+◌, ◌++◌, ◌≤◌, ℕ, Some, None, Err, true, false, nat_eq, length, map};
+ghost use Rattle.std.specs.Prelude.{◌≡◌, ◌+◌, ◌++◌, ◌≤◌, ℕ, Some, None, Err, true, false, nat_eq};
+ghost use Rattle.std.specs.Prelude.{length, map};
 ghost use Rattle.std.specs.Prelude.{option_map, IfOk, OnOk};
 ghost use Rattle.wh_value.specs.Limit.{bound};
 ghost use Rattle.wh_value.specs.declared.limit.Limit.{Limit};
@@ -71,7 +72,8 @@ ghost use Rattle.wh_table.specs.Table.{table_of};
 ghost use Rattle.wh_catalog.specs.Catalog.{stored_of, state_of};
 ghost use Rattle.wh_machine.specs.Transaction as machine;
 ghost use Rattle.wh_txn.specs.View.{transaction_of};
-ghost use Rattle.wh_txn.specs.Recording.{touched_at, touched_in, HasParts, versions_for, version_for};
+ghost use Rattle.wh_txn.specs.Recording.{touched_at, touched_in, HasParts, versions_for};
+ghost use Rattle.wh_txn.specs.Recording.{version_for};
 ghost use Rattle.wh_txn.specs.declared.fault.RecordFault.TheVariants as faults;
 
 /// A table that a transaction touched, and its edits.

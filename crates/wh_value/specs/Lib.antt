@@ -4,4 +4,4 @@ pub mod View
 pub mod Order
 pub mod Fits
 pub mod Limit
-pub mod Kept
+pub mod Appended

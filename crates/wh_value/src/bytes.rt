@@ -18,7 +18,7 @@ impl Model for Bytes {
 impl Bytes {
     ghost use Rattle.std.specs.Prelude.{◌≡◌, [], ◌∷◌, ◌++◌, length, take, OnOk, OnErr, IfOk};
     ghost use Rattle.std.specs.Fmt.{decimal};
-    ghost use Rattle.wh_value.specs.Kept.{Keeps};
+    ghost use Rattle.wh_value.specs.Appended.{Keeps};
 
     /// None yet. Takes no memory.
     pub fn new(alloc: Global) -> Bytes

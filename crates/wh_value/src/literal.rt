@@ -1,7 +1,7 @@
 ghost use Rattle.std.specs.Prelude.{◌≡◌, [], ◌∷◌, ◌++◌, OnOk, OnErr};
 ghost use Rattle.std.specs.Fmt.{signed_decimal};
 ghost use Rattle.std.specs.List.{flat_map};
-ghost use Rattle.wh_value.specs.Kept.{Keeps};
+ghost use Rattle.wh_value.specs.Appended.{Keeps};
 ghost use Rattle.wh_value.specs.Value.{literal, quoted_byte};
 ghost use Rattle.wh_value.specs.View.{value_of};
 

@@ -1,6 +1,7 @@
 ghost use Rattle.std.specs.Prelude.{◌≡◌, Some, bytes_eq, refl};
 ghost use Rattle.std.specs.Cmp.{partial_equiv_from_equiv};
-ghost use Rattle.std.specs.Cmp.Lexicographic.{slice_cmp, nat_list_cmp_total, nat_list_eq_equiv, texts_po, texts_ties};
+ghost use Rattle.std.specs.Cmp.Lexicographic.{slice_cmp, nat_list_cmp_total, nat_list_eq_equiv};
+ghost use Rattle.std.specs.Cmp.Lexicographic.{texts_po, texts_ties};
 ghost use Rattle.std.specs.Ordering.{nat_cmp};
 
 use std::alloc::{AllocError, Global};
@@ -34,7 +35,8 @@ impl Text {
 
     /// The text of these bytes, where they are one.
     pub fn from_bytes(alloc: Global, bytes: &[u8]) -> Option<Result<Text, AllocError>>
-        ensures found { IfSome result (λ made. IsText bytes.now × IfOk made (λ text. text ≡ bytes.now)) }
+        ensures found { IfSome result
+            (λ made. IsText bytes.now × IfOk made (λ text. text ≡ bytes.now)) }
         ensures none { IfNone result (IsText bytes.now → ⊥) }
     {
         if bytes.len() > Text::MAX_BYTES {

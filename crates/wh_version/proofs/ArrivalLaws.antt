@@ -10,14 +10,14 @@ use Rattle.std.proofs.Common.{IsTrue, refl, ap, subst, ◌∙◌, arith}
 use Rattle.wh_frame.specs.Partition.{Partition}
 use Rattle.wh_state.specs.State.{last_of, content_in}
 use Rattle.wh_version.specs.declared.history.History.{History}
-use Rattle.wh_version.specs.declared.kept.Kept.{Kept}
+use Rattle.wh_version.specs.declared.lasting.Lasting.{Lasting}
 use Rattle.wh_version.specs.declared.mark.VersionMark.{VersionMark}
-use Rattle.wh_version.specs.Kept.{standing_at, gone_between, version_by, versions_by, count_to}
+use Rattle.wh_version.specs.Lasting.{standing_at, gone_between, version_by, versions_by, count_to}
 use Rattle.wh_version.specs.Arrivals.{IsArrival, partitions_before}
 use Rattle.wh_version.specs.History.{versions_of, marks_of, standing_in}
 use Rattle.wh_version.proofs.TurnoverLaws.{counts_rise, turned_over}
 
-pub count_versions : (kept : List Kept) (first : ℕ) (marks : List VersionMark)
+pub count_versions : (kept : List Lasting) (first : ℕ) (marks : List VersionMark)
     → length (versions_by kept first marks) ≡ length marks
 count_versions kept first [] = refl
 count_versions kept first (m ∷ marks) = ap suc (count_versions kept (first + 1) marks)
@@ -26,7 +26,7 @@ pub within_marks : (h : History) (place : ℕ) → place < length (versions_of h
 unfolding versions_of
 within_marks h place within = subst (λ n. place < n) (count_versions h.kept.items 0 (marks_of h)) within
 
-pub version_there : (kept : List Kept) (first : ℕ) (marks : List VersionMark) (place : ℕ) (d : VersionMark)
+pub version_there : (kept : List Lasting) (first : ℕ) (marks : List VersionMark) (place : ℕ) (d : VersionMark)
     → place < length marks
     → drop place (versions_by kept first marks)
     ≡ version_by kept (first + place) (get_or marks place d) ∷ drop (suc place) (versions_by kept first marks)
@@ -43,7 +43,7 @@ last_behind : {X : Type 0} (x y : X) (ys : List X) → last_of ys ≡ Some x →
 last_behind x y [] is = cc
 last_behind x y (z ∷ ys) is = is
 
-last_before : (kept : List Kept) (first : ℕ) (marks : List VersionMark) (place : ℕ) (d : VersionMark)
+last_before : (kept : List Lasting) (first : ℕ) (marks : List VersionMark) (place : ℕ) (d : VersionMark)
     → place < length marks
     → last_of (take (suc place) (versions_by kept first marks))
     ≡ Some (version_by kept (first + place) (get_or marks place d))
@@ -64,7 +64,7 @@ before_grows marks total zero d counts within = omega arith
 before_grows marks total (suc place) d counts within =
     counts_rise 0 marks total place (suc place) d counts (omega arith) within
 
-stood : (kept : List Kept) (marks : List VersionMark) (d : VersionMark) (place : ℕ) → place < length marks
+stood : (kept : List Lasting) (marks : List VersionMark) (d : VersionMark) (place : ℕ) → place < length marks
     → standing_in (take place (versions_by kept 0 marks))
     ≡ standing_at (place - 1) (take (partitions_before marks d place) kept)
 stood kept marks d zero within = refl
@@ -73,7 +73,7 @@ stood kept marks d (suc place) within =
     ap (content_in []) (last_before kept 0 marks place d (omega arith))
     ∙ ap (λ n. standing_at n (take (get_or marks place d).partitions kept)) same
 
-pub arrived : (kept : List Kept) (marks : List VersionMark) (d : VersionMark) (place : ℕ) (came : List Partition)
+pub arrived : (kept : List Lasting) (marks : List VersionMark) (d : VersionMark) (place : ℕ) (came : List Partition)
     → place < length marks
     → standing_at place (take (partitions_before marks d place) kept) ++ came
     ≡ standing_at place (take (get_or marks place d).partitions kept)

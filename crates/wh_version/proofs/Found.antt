@@ -5,22 +5,22 @@ use Rattle.std.proofs.lemmas.Bool.{and_parts, eqb-true, eq-eqb, ne_eqb}
 use Rattle.std.specs.Prelude.{◌||◌, nat_eq}
 use Rattle.std.specs.List.{list_any}
 use Rattle.wh_frame.specs.Partition.{Partition}
-use Rattle.wh_version.specs.declared.kept.Kept.{Kept}
-use Rattle.wh_version.specs.Kept.{partitions_in, numbered_from, is_standing}
+use Rattle.wh_version.specs.declared.lasting.Lasting.{Lasting}
+use Rattle.wh_version.specs.Lasting.{partitions_in, numbered_from, is_standing}
 use Rattle.wh_version.proofs.Parted.{IsOff, off_rest, off_first}
 
 abbrev has_number : ℕ → Partition → Bool
 has_number number p = nat_eq number p.number
 
 -- one of another number makes no difference
-passed_over : (number : ℕ) (k : Kept) (kept : List Kept) → (number ≡ k.partition.number → ⊥) → (s : Bool)
+passed_over : (number : ℕ) (k : Lasting) (kept : List Lasting) → (number ≡ k.partition.number → ⊥) → (s : Bool)
     → list_any (has_number number) (partitions_in (cond s (k ∷ kept) kept))
     ≡ list_any (has_number number) (partitions_in kept)
 passed_over number k kept other true =
     ap (λ b. b || list_any (has_number number) (partitions_in kept)) (ne_eqb number k.partition.number other)
 passed_over number k kept other false = refl
 
-pub none_there : (number next : ℕ) (kept : List Kept) → IsTrue (numbered_from next (partitions_in kept))
+pub none_there : (number next : ℕ) (kept : List Lasting) → IsTrue (numbered_from next (partitions_in kept))
     → IsOff number next kept
     → list_any (has_number number) (partitions_in (filter is_standing kept)) ≡ false
 none_there number next [] numbers off = refl
@@ -30,14 +30,14 @@ none_there number next (k ∷ kept) numbers off =
     passed_over number k (filter is_standing kept) (λ e. off_first number next k kept off here (sym e)) (is_standing k)
     ∙ none_there number (next + 1) kept parts.1 (off_rest number next k kept off)
 
-found_first : (number : ℕ) (k : Kept) (kept : List Kept) → number ≡ k.partition.number
+found_first : (number : ℕ) (k : Lasting) (kept : List Lasting) → number ≡ k.partition.number
     → list_any (has_number number) (partitions_in kept) ≡ false → (s : Bool)
     → list_any (has_number number) (partitions_in (cond s (k ∷ kept) kept)) ≡ s
 found_first number k kept is none true =
     ap (λ b. b || list_any (has_number number) (partitions_in kept)) (eq-eqb number k.partition.number is)
 found_first number k kept is none false = none
 
-pub one_there : (next i : ℕ) (kept : List Kept) (k : Kept) → IsTrue (numbered_from next (partitions_in kept))
+pub one_there : (next i : ℕ) (kept : List Lasting) (k : Lasting) → IsTrue (numbered_from next (partitions_in kept))
     → i < length kept → k ≡ get_or kept i k
     → list_any (has_number (next + i)) (partitions_in (filter is_standing kept)) ≡ is_standing k
 one_there next i [] k numbers within is = absurd (omega arith)

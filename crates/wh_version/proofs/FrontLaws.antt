@@ -11,21 +11,21 @@ use Rattle.std.proofs.lemmas.Bool.Decides.{nat_tests}
 use Rattle.std.specs.Prelude.{nat_le, if◌then◌else◌}
 use Rattle.wh_frame.specs.Partition.{Partition}
 use Rattle.wh_state.specs.Stored.{StoredVersion}
-use Rattle.wh_version.specs.declared.kept.Kept.{Kept}
+use Rattle.wh_version.specs.declared.lasting.Lasting.{Lasting}
 use Rattle.wh_version.specs.declared.mark.VersionMark.{VersionMark}
-use Rattle.wh_version.specs.Kept.{standing_at, versions_by}
+use Rattle.wh_version.specs.Lasting.{standing_at, versions_by}
 use Rattle.wh_version.specs.Arrivals.{HaveArrived, IsFront, count_by, partitions_before}
 use Rattle.wh_version.proofs.ArrivalLaws.{version_there, arrived}
 use Rattle.wh_version.proofs.TurnoverLaws.{standing_on}
 
 -- ---- a version's partitions
 
-pub record Grown (kept : List Kept) (place before index : ℕ) (old now : List Partition) : Type 0 where
+pub record Grown (kept : List Lasting) (place before index : ℕ) (old now : List Partition) : Type 0 where
   pub next : List Partition
   pub more : now ≡ old ++ next
   pub joined : standing_at place (take before kept) ++ next ≡ standing_at place (take index kept)
 
-pub grown_on : (kept : List Kept) (place before index : ℕ) (k : Kept) (old now after : List Partition)
+pub grown_on : (kept : List Lasting) (place before index : ℕ) (k : Lasting) (old now after : List Partition)
     → index < length kept → k ≡ get_or kept index k → after ≡ now ++ standing_at place (k ∷ [])
     → Grown kept place before index old now → Grown kept place before (index + 1) old after
 grown_on kept place before index k old now after within is after_is grown =
@@ -39,14 +39,14 @@ grown_on kept place before index k old now after within is after_is grown =
 
 -- ---- versions
 
-pub record FrontUpTo (stamp : ℕ) (kept : List Kept) (marks : List VersionMark) (d : VersionMark) (place before : ℕ)
+pub record FrontUpTo (stamp : ℕ) (kept : List Lasting) (marks : List VersionMark) (d : VersionMark) (place before : ℕ)
     (came : List Partition) : Type 0 where
   pub counted : place + count_by stamp (drop place (versions_by kept 0 marks))
       ≡ count_by stamp (versions_by kept 0 marks)
   pub before_is : before ≡ partitions_before marks d place
   pub arrived : HaveArrived place came (versions_by kept 0 marks)
 
-module _ (stamp : ℕ) (kept : List Kept) (marks : List VersionMark) (d : VersionMark) where
+module _ (stamp : ℕ) (kept : List Lasting) (marks : List VersionMark) (d : VersionMark) where
   abbrev versions : List StoredVersion
   versions = versions_by kept 0 marks
 

@@ -6,10 +6,10 @@ use Rattle.std.proofs.lemmas.List.{take_all}
 use Rattle.std.specs.Prelude.{nat_lt, nat_le, nat_eq, ◌||◌}
 use Rattle.std.specs.List.{list_all}
 use Rattle.wh_state.specs.State.{last_of, content_in}
-use Rattle.wh_version.specs.declared.kept.Kept.{Kept}
+use Rattle.wh_version.specs.declared.lasting.Lasting.{Lasting}
 use Rattle.wh_version.specs.declared.mark.VersionMark.{VersionMark}
-use Rattle.wh_version.specs.Kept.{stands_at, standing_at, version_by, versions_by, partitions_in}
-use Rattle.wh_version.specs.Kept.{count_to, is_gone_by, is_standing}
+use Rattle.wh_version.specs.Lasting.{stands_at, standing_at, version_by, versions_by, partitions_in}
+use Rattle.wh_version.specs.Lasting.{count_to, is_gone_by, is_standing}
 use Rattle.wh_version.specs.History.{versions_of, standing_in, next_in}
 use Rattle.wh_version.specs.declared.history.History.{History}
 
@@ -25,7 +25,7 @@ pub get_or_any : (m : VersionMark) (marks : List VersionMark) (d : VersionMark)
 get_or_any m [] d = refl
 get_or_any m (n ∷ marks) d = sym (get_or_any n marks m) ∙ get_or_any n marks d
 
-pub last_version : (kept : List Kept) (place : ℕ) (m : VersionMark) (marks : List VersionMark)
+pub last_version : (kept : List Lasting) (place : ℕ) (m : VersionMark) (marks : List VersionMark)
     → last_of (versions_by kept place (m ∷ marks))
     ≡ Some (version_by kept (place + length marks) (get_or (m ∷ marks) (length marks) m))
 last_version kept place m [] = ap (λ n. Some (version_by kept n m)) (omega arith)
@@ -33,7 +33,7 @@ last_version kept place m (n ∷ marks) =
     last_version kept (place + 1) n marks ∙ ap (λ k. Some (version_by kept k (get_or (n ∷ marks) (length marks) n)))
     (omega arith) ∙ ap (λ k. Some (version_by kept (place + length (n ∷ marks)) k)) (get_or_any n marks m)
 
-pub timestamp_of : (kept : List Kept) (m : VersionMark) (marks : List VersionMark)
+pub timestamp_of : (kept : List Lasting) (m : VersionMark) (marks : List VersionMark)
     → option_map (λ v. v.data_timestamp) (last_of (versions_by kept 0 (m ∷ marks)))
     ≡ Some (get_or (m ∷ marks) (length marks) m).data_timestamp
 timestamp_of kept m marks = ap (option_map (λ v. v.data_timestamp)) (last_version kept 0 m marks)
@@ -74,7 +74,7 @@ stands_now last until within gone = by_cases (or_cases _ _ gone)
     by_cases (inr still) = let here : until ≡ 18446744073709551615 = eqb-true until 18446744073709551615 still in
         still ∙ sym (lt-ltb last until (omega arith))
 
-pub standing_last : (last : ℕ) (kept : List Kept) → last < 18446744073709551615
+pub standing_last : (last : ℕ) (kept : List Lasting) → last < 18446744073709551615
     → IsTrue (list_all (is_gone_by last) kept)
     → filter is_standing kept ≡ filter (stands_at last) kept
 standing_last last [] within gone = refl
@@ -85,7 +85,7 @@ standing_last last (k ∷ kept) within gone =
     λ i. cond (here i) (k ∷ rest i) (rest i)
 
 -- the last version has the partitions that stand still
-pub standing_still : (kept : List Kept) (m : VersionMark) (marks : List VersionMark)
+pub standing_still : (kept : List Lasting) (m : VersionMark) (marks : List VersionMark)
     → length marks < 18446744073709551615 → IsTrue (count_to 0 (m ∷ marks) (length kept))
     → IsTrue (list_all (is_gone_by (length marks)) kept)
     → content_in [] (last_of (versions_by kept 0 (m ∷ marks))) ≡ partitions_in (filter is_standing kept)

@@ -4,9 +4,9 @@ use Rattle.std.proofs.Common.{filter, drop, get_or, option_map, Option, Some, No
 use Rattle.std.proofs.lemmas.Bool.{and_parts}
 use Rattle.wh_state.specs.State.{last_of}
 use Rattle.wh_state.specs.Stored.{StoredVersion}
-use Rattle.wh_version.specs.declared.kept.Kept.{Kept}
+use Rattle.wh_version.specs.declared.lasting.Lasting.{Lasting}
 use Rattle.wh_version.specs.declared.mark.VersionMark.{VersionMark}
-use Rattle.wh_version.specs.Kept.{version_by, versions_by, count_to}
+use Rattle.wh_version.specs.Lasting.{version_by, versions_by, count_to}
 use Rattle.wh_version.specs.Times.{one_further, last_place}
 use Rattle.wh_version.proofs.Pushed.{count_within}
 
@@ -65,11 +65,11 @@ none_there [] none = refl
 none_there (y ∷ []) none = cc
 none_there (y ∷ z ∷ ys) none = let rest : z ∷ ys ≡ [] = none_there (z ∷ ys) none in cc
 
-abbrev version_from : List Kept → ℕ → List VersionMark → VersionMark → ℕ → StoredVersion
+abbrev version_from : List Lasting → ℕ → List VersionMark → VersionMark → ℕ → StoredVersion
 version_from kept first marks d place = version_by kept (first + place) (get_or marks place d)
 
 -- what holds of the versions, by a test of their marks
-last_from : (of_version : StoredVersion → Bool) (of_mark : VersionMark → Bool) (kept : List Kept)
+last_from : (of_version : StoredVersion → Bool) (of_mark : VersionMark → Bool) (kept : List Lasting)
     (first : ℕ) (marks : List VersionMark) (d : VersionMark)
     → ((place : ℕ) (m : VersionMark) → of_version (version_by kept place m) ≡ of_mark m)
     → last_of (filter of_version (versions_by kept first marks))
@@ -97,7 +97,7 @@ last_from of_version of_mark kept first (m ∷ marks) d same =
         ∙ ap (λ n. Some (version_by kept n m)) here
     pick false None rest is = is
 
-pub last_by_marks : (of_version : StoredVersion → Bool) (of_mark : VersionMark → Bool) (kept : List Kept)
+pub last_by_marks : (of_version : StoredVersion → Bool) (of_mark : VersionMark → Bool) (kept : List Lasting)
     (marks : List VersionMark) (d : VersionMark)
     → ((place : ℕ) (m : VersionMark) → of_version (version_by kept place m) ≡ of_mark m)
     → last_of (filter of_version (versions_by kept 0 marks))

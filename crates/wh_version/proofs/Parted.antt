@@ -8,26 +8,26 @@ use Rattle.std.specs.List.{list_all}
 use Rattle.std.specs.Prelude.{nat_lt, nat_le, nat_eq, min, not, ◌&&◌, ◌||◌}
 use Rattle.wh_frame.specs.Partition.{Partition}
 use Rattle.wh_state.specs.Edits.{without, is_among}
-use Rattle.wh_version.specs.declared.kept.Kept.{Kept}
-use Rattle.wh_version.specs.Kept.{stands_at, standing_at, partitions_in, numbered_from, part_one}
-use Rattle.wh_version.specs.Kept.{parted, is_gone_by, is_standing}
+use Rattle.wh_version.specs.declared.lasting.Lasting.{Lasting}
+use Rattle.wh_version.specs.Lasting.{stands_at, standing_at, partitions_in, numbered_from, part_one}
+use Rattle.wh_version.specs.Lasting.{parted, is_gone_by, is_standing}
 
 -- ---- the numbers stay
 
-part_number : (place number : ℕ) (k : Kept) → (part_one place number k).partition ≡ k.partition
+part_number : (place number : ℕ) (k : Lasting) → (part_one place number k).partition ≡ k.partition
 part_number place number k = pick (nat_eq k.partition.number number)
   where
     pick : (b : Bool) → (cond b (record k { until = min k.until place }) k).partition ≡ k.partition
     pick true = refl
     pick false = refl
 
-pub one_partitions : (place number : ℕ) (kept : List Kept)
+pub one_partitions : (place number : ℕ) (kept : List Lasting)
     → partitions_in (map (part_one place number) kept) ≡ partitions_in kept
 one_partitions place number [] = refl
 one_partitions place number (k ∷ kept) = let rest = one_partitions place number kept in
     λ i. part_number place number k i ∷ rest i
 
-pub parted_partitions : (place : ℕ) (numbers : List ℕ) (kept : List Kept)
+pub parted_partitions : (place : ℕ) (numbers : List ℕ) (kept : List Lasting)
     → partitions_in (parted place numbers kept) ≡ partitions_in kept
 parted_partitions place [] kept = refl
 parted_partitions place (n ∷ numbers) kept = parted_partitions place numbers (map (part_one place n) kept)
@@ -35,35 +35,35 @@ parted_partitions place (n ∷ numbers) kept = parted_partitions place numbers (
 
 -- ---- one number, by its place in the list
 
-abbrev gone_from : ℕ → Kept → Kept
+abbrev gone_from : ℕ → Lasting → Lasting
 gone_from place k = record k { until = min k.until place }
 
-other_number : (place number : ℕ) (k : Kept) → (k.partition.number ≡ number → ⊥) → part_one place number k ≡ k
+other_number : (place number : ℕ) (k : Lasting) → (k.partition.number ≡ number → ⊥) → part_one place number k ≡ k
 other_number place number k other =
     ap (λ b. cond b (record k { until = min k.until place }) k) (ne_eqb k.partition.number number other)
 
-that_number : (place number : ℕ) (k : Kept) → k.partition.number ≡ number
+that_number : (place number : ℕ) (k : Lasting) → k.partition.number ≡ number
     → part_one place number k ≡ record k { until = min k.until place }
 that_number place number k is =
     ap (λ b. cond b (record k { until = min k.until place }) k) (eq-eqb k.partition.number number is)
 
 -- a number that none has of those that are numbered from the next one on
-abbrev pub IsOff : ℕ → ℕ → List Kept → Type 0
+abbrev pub IsOff : ℕ → ℕ → List Lasting → Type 0
 IsOff number next kept = (number < next) ⊎ (next + length kept ≤ number)
 
-pub off_rest : (number next : ℕ) (k : Kept) (kept : List Kept) → IsOff number next (k ∷ kept)
+pub off_rest : (number next : ℕ) (k : Lasting) (kept : List Lasting) → IsOff number next (k ∷ kept)
     → IsOff number (next + 1) kept
 off_rest number next k kept (inl below) = inl (omega arith)
 off_rest number next k kept (inr above) = inr (omega arith)
 
-pub off_first : (number next : ℕ) (k : Kept) (kept : List Kept) → IsOff number next (k ∷ kept)
+pub off_first : (number next : ℕ) (k : Lasting) (kept : List Lasting) → IsOff number next (k ∷ kept)
     → k.partition.number ≡ next
     → k.partition.number ≡ number
     → ⊥
 off_first number next k kept (inl below) here e = omega arith
 off_first number next k kept (inr above) here e = omega arith
 
-pub not_there : (place next number : ℕ) (kept : List Kept) → IsTrue (numbered_from next (partitions_in kept))
+pub not_there : (place next number : ℕ) (kept : List Lasting) → IsTrue (numbered_from next (partitions_in kept))
     → IsOff number next kept
     → map (part_one place number) kept ≡ kept
 not_there place next number [] numbers off = refl
@@ -73,7 +73,7 @@ not_there place next number (k ∷ kept) numbers off =
     let same = other_number place number k (off_first number next k kept off here) in
     λ i. same i ∷ rest i
 
-pub there : (place next i : ℕ) (kept : List Kept) (k : Kept) → IsTrue (numbered_from next (partitions_in kept))
+pub there : (place next i : ℕ) (kept : List Lasting) (k : Lasting) → IsTrue (numbered_from next (partitions_in kept))
     → i < length kept → k ≡ get_or kept i k
     → set kept i (record k { until = min k.until place }) ≡ map (part_one place (next + i)) kept
 there place next i [] k numbers within is = absurd (omega arith)
@@ -100,7 +100,7 @@ still_before early place until before = by_cases (cases_lt early until)
     by_cases (inl under) = lt-ltb early (min until place) (omega arith) ∙ sym (lt-ltb early until under)
     by_cases (inr over) = le-ltb early (min until place) (omega arith) ∙ sym (le-ltb early until over)
 
-stands_before : (early place number : ℕ) (k : Kept) → early < place
+stands_before : (early place number : ℕ) (k : Lasting) → early < place
     → stands_at early (part_one place number k) ≡ stands_at early k
 stands_before early place number k before = pick (nat_eq k.partition.number number)
   where
@@ -109,14 +109,14 @@ stands_before early place number k before = pick (nat_eq k.partition.number numb
     pick false = refl
 
 -- what is shown of a list with one more in front
-shown : (s : Bool) (k : Kept) (kept : List Kept)
+shown : (s : Bool) (k : Lasting) (kept : List Lasting)
     → partitions_in (cond s (k ∷ kept) kept) ≡ cond s (k.partition ∷ partitions_in kept) (partitions_in kept)
 shown true k kept = refl
 shown false k kept = refl
 
 -- the same stand, where each stands as before and is of the same partition
-pub same_standing : (place : ℕ) (f : Kept → Kept) → ((k : Kept) → stands_at place (f k) ≡ stands_at place k)
-    → ((k : Kept) → (f k).partition ≡ k.partition) → (kept : List Kept)
+pub same_standing : (place : ℕ) (f : Lasting → Lasting) → ((k : Lasting) → stands_at place (f k) ≡ stands_at place k)
+    → ((k : Lasting) → (f k).partition ≡ k.partition) → (kept : List Lasting)
     → standing_at place (map f kept) ≡ standing_at place kept
 same_standing place f stands same [] = refl
 same_standing place f stands same (k ∷ kept) =
@@ -125,7 +125,7 @@ same_standing place f stands same (k ∷ kept) =
     ∙ (λ i. cond (stands k i) (same k i ∷ rest i) (rest i))
     ∙ sym (shown (stands_at place k) k (filter (stands_at place) kept))
 
-pub parted_before : (early place count : ℕ) (numbers : List ℕ) (kept : List Kept) → early < place
+pub parted_before : (early place count : ℕ) (numbers : List ℕ) (kept : List Lasting) → early < place
     → standing_at early (take count (parted place numbers kept)) ≡ standing_at early (take count kept)
 parted_before early place count [] kept before = refl
 parted_before early place count (n ∷ numbers) kept before =
@@ -140,7 +140,7 @@ and_true : (b : Bool) → b ≡ (b && true)
 and_true true = refl
 and_true false = refl
 
-stands_there : (place number : ℕ) (k : Kept)
+stands_there : (place number : ℕ) (k : Lasting)
     → stands_at place (part_one place number k) ≡ (stands_at place k && not (is_among k.partition.number (number ∷ [])))
 stands_there place number k = pick (nat_eq k.partition.number number)
   where
@@ -149,18 +149,18 @@ stands_there place number k = pick (nat_eq k.partition.number number)
     pick true = le-ltb place (min k.until place) (omega arith) ∙ sym (and_right (stands_at place k) false refl)
     pick false = and_true (stands_at place k)
 
-filtered : (test : Partition → Bool) (s : Bool) (k : Kept) (kept : List Kept)
+filtered : (test : Partition → Bool) (s : Bool) (k : Lasting) (kept : List Lasting)
     → filter test (partitions_in (cond s (k ∷ kept) kept))
     ≡ cond (s && test k.partition) (k.partition ∷ filter test (partitions_in kept)) (filter test (partitions_in kept))
 filtered test true k kept = refl
 filtered test false k kept = refl
 
-one_there : (place number : ℕ) (kept : List Kept)
+one_there : (place number : ℕ) (kept : List Lasting)
     → standing_at place (map (part_one place number) kept) ≡ without (number ∷ []) (standing_at place kept)
 one_there place number [] = refl
 one_there place number (k ∷ kept) =
     let rest = one_there place number kept in
-    let parted : List Kept = map (part_one place number) kept in
+    let parted : List Lasting = map (part_one place number) kept in
     shown (stands_at place (part_one place number k)) (part_one place number k) (filter (stands_at place) parted)
     ∙ (λ i. cond (stands_there place number k i) (part_number place number k i ∷ rest i) (rest i))
     ∙ sym (filtered (λ p. not (is_among p.number (number ∷ []))) (stands_at place k) k (filter (stands_at place) kept))
@@ -187,7 +187,7 @@ filter_twice f g h both [] = refl
 filter_twice f g h both (p ∷ ps) =
     filter_more f g h p (filter f ps) (both p) ∙ ap (λ l. cond (h p) (p ∷ l) l) (filter_twice f g h both ps)
 
-pub parted_there : (place : ℕ) (numbers : List ℕ) (kept : List Kept)
+pub parted_there : (place : ℕ) (numbers : List ℕ) (kept : List Lasting)
     → standing_at place (parted place numbers kept) ≡ without numbers (standing_at place kept)
 parted_there place [] kept = sym (filter_all (standing_at place kept))
 parted_there place (n ∷ numbers) kept =
@@ -200,7 +200,7 @@ parted_there place (n ∷ numbers) kept =
 -- ---- what holds of each
 
 -- and later on
-later : (last : ℕ) (k : Kept) → is_gone_by last k ≡ true → is_gone_by (last + 1) k ≡ true
+later : (last : ℕ) (k : Lasting) → is_gone_by last k ≡ true → is_gone_by (last + 1) k ≡ true
 later last k gone = by_cases (or_cases _ _ gone)
   where
     by_cases : (nat_le k.until last ≡ true) ⊎ (is_standing k ≡ true) → is_gone_by (last + 1) k ≡ true
@@ -208,14 +208,14 @@ later last k gone = by_cases (or_cases _ _ gone)
         or_left _ _ (le-leb k.until (last + 1) (omega arith))
     by_cases (inr still) = or_right _ _ still
 
-pub all_later : (last : ℕ) (kept : List Kept) → IsTrue (list_all (is_gone_by last) kept)
+pub all_later : (last : ℕ) (kept : List Lasting) → IsTrue (list_all (is_gone_by last) kept)
     → IsTrue (list_all (is_gone_by (last + 1)) kept)
 all_later last [] gone = refl
 all_later last (k ∷ kept) gone = let each = and_parts _ _ gone in
     and_from _ _ (later last k each.0) (all_later last kept each.1)
 
 -- parting again changes nothing of it
-one_still_gone : (last number : ℕ) (k : Kept) → is_gone_by last k ≡ true
+one_still_gone : (last number : ℕ) (k : Lasting) → is_gone_by last k ≡ true
     → is_gone_by last (part_one last number k) ≡ true
 one_still_gone last number k gone = pick (nat_eq k.partition.number number)
   where
@@ -223,20 +223,21 @@ one_still_gone last number k gone = pick (nat_eq k.partition.number number)
     pick true = or_left _ _ (le-leb (min k.until last) last (omega arith))
     pick false = gone
 
-all_still_gone : (last number : ℕ) (kept : List Kept) → IsTrue (list_all (is_gone_by last) kept)
+all_still_gone : (last number : ℕ) (kept : List Lasting) → IsTrue (list_all (is_gone_by last) kept)
     → IsTrue (list_all (is_gone_by last) (map (part_one last number) kept))
 all_still_gone last number [] gone = refl
 all_still_gone last number (k ∷ kept) gone =
     let each = and_parts _ _ gone in
     and_from _ _ (one_still_gone last number k each.0) (all_still_gone last number kept each.1)
 
-pub parted_gone : (last : ℕ) (numbers : List ℕ) (kept : List Kept) → IsTrue (list_all (is_gone_by last) kept)
+pub parted_gone : (last : ℕ) (numbers : List ℕ) (kept : List Lasting) → IsTrue (list_all (is_gone_by last) kept)
     → IsTrue (list_all (is_gone_by last) (parted last numbers kept))
 parted_gone last [] kept gone = gone
 parted_gone last (n ∷ numbers) kept gone =
     parted_gone last numbers (map (part_one last n) kept) (all_still_gone last n kept gone)
 
-pub length-parted : (place : ℕ) (numbers : List ℕ) (kept : List Kept) → length (parted place numbers kept) ≡ length kept
+pub length-parted : (place : ℕ) (numbers : List ℕ) (kept : List Lasting) →
+    length (parted place numbers kept) ≡ length kept
 length-parted place [] kept = refl
 length-parted place (n ∷ numbers) kept = length-parted place numbers (map (part_one place n) kept)
     ∙ length-map kept (part_one place n)

@@ -8,10 +8,10 @@ use native.Mathlib.Numerals.{unary_clauses}
 use Rattle.std.proofs.lemmas.List.{take-map, length-map, take_all, take-append-le}
 use Rattle.std.specs.Prelude.{◌&&◌, nat_le, nat_eq}
 use Rattle.std.specs.List.{list_all}
-use Rattle.wh_version.specs.declared.kept.Kept.{Kept}
+use Rattle.wh_version.specs.declared.lasting.Lasting.{Lasting}
 use Rattle.wh_version.specs.declared.mark.VersionMark.{VersionMark}
-use Rattle.wh_version.specs.Kept.{stands_at, standing_at, partitions_in, numbered_from, count_to, is_gone_by}
-use Rattle.wh_version.specs.Kept.{is_standing, stands_again, version_by, versions_by}
+use Rattle.wh_version.specs.Lasting.{stands_at, standing_at, partitions_in, numbered_from, count_to, is_gone_by}
+use Rattle.wh_version.specs.Lasting.{is_standing, stands_again, version_by, versions_by}
 use Rattle.wh_version.specs.Lists.{shortened}
 use Rattle.wh_version.proofs.Last.{get_or_any}
 use Rattle.wh_version.proofs.Parted.{same_standing}
@@ -31,14 +31,14 @@ take_exactly n xs ys all = take-append-le n xs ys (omega arith) ∙ take_all n x
 
 -- ---- at the places before, the same stand
 
-again_partition : (place : ℕ) (k : Kept) → (stands_again place k).partition ≡ k.partition
+again_partition : (place : ℕ) (k : Lasting) → (stands_again place k).partition ≡ k.partition
 again_partition place k = pick (nat_eq k.until place)
   where
     pick : (b : Bool) → (cond b (record k { until = 18446744073709551615 }) k).partition ≡ k.partition
     pick true = refl
     pick false = refl
 
-again_stands : (early place : ℕ) (k : Kept) → early < place → place < 18446744073709551615
+again_stands : (early place : ℕ) (k : Lasting) → early < place → place < 18446744073709551615
     → stands_at early (stands_again place k) ≡ stands_at early k
 again_stands early place k before within = pick (nat_eq k.until place) refl
   where
@@ -57,7 +57,7 @@ take_less (suc n) zero xs less = absurd (omega arith)
 take_less (suc n) (suc m) [] less = refl
 take_less (suc n) (suc m) (x ∷ xs) less = ap (λ l. x ∷ l) (take_less n m xs (omega arith))
 
-pub versions_left : (last count : ℕ) (kept : List Kept) (place least : ℕ) (marks : List VersionMark)
+pub versions_left : (last count : ℕ) (kept : List Lasting) (place least : ℕ) (marks : List VersionMark)
     → last < 18446744073709551615 → place + length marks ≤ last → IsTrue (count_to least marks count)
     → versions_by (map (stands_again last) (take count kept)) place marks ≡ versions_by kept place marks
 versions_left last count kept place least [] within places counts = refl
@@ -71,19 +71,19 @@ versions_left last count kept place least (m ∷ marks) within places counts =
     let rest = versions_left last count kept (place + 1) m.partitions marks within (omega arith) parts.1 in
     λ i. record { stamp = m.stamp; data_timestamp = m.data_timestamp; content = content i } ∷ rest i
 
-versions_taken : (kept : List Kept) (place n : ℕ) (marks : List VersionMark)
+versions_taken : (kept : List Lasting) (place n : ℕ) (marks : List VersionMark)
     → take n (versions_by kept place marks) ≡ versions_by kept place (take n marks)
 versions_taken kept place zero marks = refl
 versions_taken kept place (suc n) [] = refl
 versions_taken kept place (suc n) (m ∷ marks) =
     ap (λ l. version_by kept place m ∷ l) (versions_taken kept (place + 1) n marks)
 
-length-versions_by : (kept : List Kept) (place : ℕ) (marks : List VersionMark)
+length-versions_by : (kept : List Lasting) (place : ℕ) (marks : List VersionMark)
     → length (versions_by kept place marks) ≡ length marks
 length-versions_by kept place [] = refl
 length-versions_by kept place (m ∷ marks) = let rest = length-versions_by kept (place + 1) marks in omega arith
 
-pub versions_shortened : (kept : List Kept) (m : VersionMark) (marks : List VersionMark)
+pub versions_shortened : (kept : List Lasting) (m : VersionMark) (marks : List VersionMark)
     → shortened (versions_by kept 0 (m ∷ marks)) ≡ versions_by kept 0 (m ∷ take (length marks - 1) marks)
 versions_shortened kept m marks =
     ap (λ n. version_by kept 0 m ∷ take (n - 1) (versions_by kept 1 marks)) (length-versions_by kept 1 marks)
@@ -97,7 +97,7 @@ nexts_shortened f m marks =
 
 -- ---- what always holds, after a pop
 
-pub numbered_less : (place n next : ℕ) (kept : List Kept) → IsTrue (numbered_from next (partitions_in kept))
+pub numbered_less : (place n next : ℕ) (kept : List Lasting) → IsTrue (numbered_from next (partitions_in kept))
     → IsTrue (numbered_from next (partitions_in (map (stands_again place) (take n kept))))
 numbered_less place zero next kept numbers = refl
 numbered_less place (suc n) next [] numbers = refl
@@ -127,7 +127,7 @@ count_less least (suc n) total m (k ∷ marks) counts =
     let here = subst P (get_or_any k (take n marks) m) rest in
     (and_from _ _ parts.0 here.0, here.1)
 
-pub gone_less : (last : ℕ) (kept : List Kept) (n : ℕ) → 0 < last → IsTrue (list_all (is_gone_by last) kept)
+pub gone_less : (last : ℕ) (kept : List Lasting) (n : ℕ) → 0 < last → IsTrue (list_all (is_gone_by last) kept)
     → IsTrue (list_all (is_gone_by (last - 1)) (map (stands_again last) (take n kept)))
 gone_less last kept zero some gone = refl
 gone_less last [] (suc n) some gone = refl

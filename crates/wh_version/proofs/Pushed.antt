@@ -10,15 +10,15 @@ use Rattle.std.specs.List.{list_all}
 use Rattle.wh_frame.specs.Partition.{Partition}
 use Rattle.wh_state.specs.Commit.{NumberedFrom}
 use Rattle.wh_state.specs.Edits.{without}
-use Rattle.wh_version.specs.declared.kept.Kept.{Kept}
+use Rattle.wh_version.specs.declared.lasting.Lasting.{Lasting}
 use Rattle.wh_version.specs.declared.mark.VersionMark.{VersionMark}
-use Rattle.wh_version.specs.Kept.{stands_at, standing_at, partitions_in, numbered_from, count_to, is_gone_by, fresh}
-use Rattle.wh_version.specs.Kept.{parted, version_by, versions_by}
+use Rattle.wh_version.specs.Lasting.{stands_at, standing_at, partitions_in, numbered_from, count_to, is_gone_by, fresh}
+use Rattle.wh_version.specs.Lasting.{parted, version_by, versions_by}
 use Rattle.wh_version.proofs.Parted.{parted_before, parted_there, parted_partitions, length-parted}
 
 -- ---- lists
 
-standing_append : (place : ℕ) (xs ys : List Kept)
+standing_append : (place : ℕ) (xs ys : List Lasting)
     → standing_at place (xs ++ ys) ≡ standing_at place xs ++ standing_at place ys
 standing_append place xs ys =
     ap partitions_in (filter-append (stands_at place) xs ys) ∙ map-append (λ k. k.partition) _ _
@@ -47,7 +47,7 @@ count_within least (m ∷ marks) total counts =
     let rest = count_within m.partitions marks total parts.1 in
     omega arith
 
-versions_before : (last : ℕ) (numbers : List ℕ) (kept more : List Kept) (place least : ℕ) (marks : List VersionMark)
+versions_before : (last : ℕ) (numbers : List ℕ) (kept more : List Lasting) (place least : ℕ) (marks : List VersionMark)
     → place + length marks ≤ last → IsTrue (count_to least marks (length kept))
     → versions_by (parted last numbers kept ++ more) place marks ≡ versions_by kept place marks
 versions_before last numbers kept more place least [] within counts = refl
@@ -61,7 +61,7 @@ versions_before last numbers kept more place least (m ∷ marks) within counts =
     let rest = versions_before last numbers kept more (place + 1) m.partitions marks (omega arith) parts.1 in
     λ i. record { stamp = m.stamp; data_timestamp = m.data_timestamp; content = content i } ∷ rest i
 
-versions_more : (kept : List Kept) (place : ℕ) (marks : List VersionMark) (m : VersionMark)
+versions_more : (kept : List Lasting) (place : ℕ) (marks : List VersionMark) (m : VersionMark)
     → versions_by kept place (marks ++ m ∷ []) ≡ versions_by kept place marks
     ++ version_by kept (place + length marks) m ∷ []
 versions_more kept place [] m = ap (λ n. version_by kept n m ∷ []) (omega arith)
@@ -72,7 +72,7 @@ versions_more kept place (n ∷ marks) m =
 
 -- ---- the version that is pushed
 
-pub content_pushed : (last : ℕ) (numbers : List ℕ) (kept : List Kept) (added : List Partition) (count : ℕ)
+pub content_pushed : (last : ℕ) (numbers : List ℕ) (kept : List Lasting) (added : List Partition) (count : ℕ)
     → last < 18446744073709551615 → count ≡ length (parted last numbers kept ++ map fresh added)
     → standing_at last (take count (parted last numbers kept ++ map fresh added))
     ≡ without numbers (standing_at last kept) ++ added
@@ -82,7 +82,7 @@ content_pushed last numbers kept added count within all =
     ∙ (λ i. parted_there last numbers kept i ++ fresh_stand last added within i)
 
 -- marks that stand at the places before the last, and one at the last
-pub versions_pushed : (last : ℕ) (numbers : List ℕ) (kept : List Kept) (added : List Partition)
+pub versions_pushed : (last : ℕ) (numbers : List ℕ) (kept : List Lasting) (added : List Partition)
     (marks : List VersionMark) (m : VersionMark)
     → last < 18446744073709551615 → length marks ≡ last → IsTrue (count_to 0 marks (length kept))
     → m.partitions ≡ length (parted last numbers kept ++ map fresh added)
@@ -93,7 +93,7 @@ pub versions_pushed : (last : ℕ) (numbers : List ℕ) (kept : List Kept) (adde
       content = without numbers (standing_at last kept) ++ added;
     }) ∷ []
 versions_pushed last numbers kept added marks m within places counts all =
-    let whole : List Kept = parted last numbers kept ++ map fresh added in
+    let whole : List Lasting = parted last numbers kept ++ map fresh added in
     let content = content_pushed last numbers kept added m.partitions within all in
     let before = versions_before last numbers kept (map fresh added) 0 0 marks (omega arith) counts in
     let place : 0 + length marks ≡ last = omega arith in
@@ -117,13 +117,13 @@ numbered_more next (p ∷ ps) qs numbers more =
     and_from _ _ parts.0 (numbered_more (next + 1) ps qs parts.1 (subst P (omega arith) more))
 
 -- those that there were, gone or not, and those that are added
-pub more_partitions : (last : ℕ) (numbers : List ℕ) (kept : List Kept) (added : List Partition)
+pub more_partitions : (last : ℕ) (numbers : List ℕ) (kept : List Lasting) (added : List Partition)
     → partitions_in (parted last numbers kept ++ map fresh added) ≡ partitions_in kept ++ added
 more_partitions last numbers kept added =
     map-append (λ k. k.partition) (parted last numbers kept) (map fresh added)
     ∙ (λ i. parted_partitions last numbers kept i ++ fresh_partitions added i)
 
-pub still_numbered : (last : ℕ) (numbers : List ℕ) (kept : List Kept) (added : List Partition)
+pub still_numbered : (last : ℕ) (numbers : List ℕ) (kept : List Lasting) (added : List Partition)
     → IsTrue (numbered_from 1 (partitions_in kept)) → NumberedFrom (length kept + 1) added
     → IsTrue (numbered_from 1 (partitions_in (parted last numbers kept ++ map fresh added)))
 still_numbered last numbers kept added numbered more =
@@ -146,7 +146,7 @@ fresh_gone : (last : ℕ) (ps : List Partition) → IsTrue (list_all (is_gone_by
 fresh_gone last [] = refl
 fresh_gone last (p ∷ ps) = and_from _ _ (or_right _ _ refl) (fresh_gone last ps)
 
-pub still_gone : (last : ℕ) (kept : List Kept) (added : List Partition) → IsTrue (list_all (is_gone_by last) kept)
+pub still_gone : (last : ℕ) (kept : List Lasting) (added : List Partition) → IsTrue (list_all (is_gone_by last) kept)
     → IsTrue (list_all (is_gone_by last) (kept ++ map fresh added))
 still_gone last kept added gone =
     list_all-append (is_gone_by last) kept (map fresh added) ∙ and_from _ _ gone (fresh_gone last added)

@@ -11,8 +11,8 @@ use Rattle.wh_value.specs.Value.{Row}
 use Rattle.wh_frame.specs.Partition.{Partition, first_number, last_number}
 use Rattle.wh_frame.specs.Spelling.{RisesFrom}
 use Rattle.wh_state.specs.Edits.{RowEdits, is_touched, touched}
-use Rattle.wh_version.specs.declared.kept.Kept.{Kept}
-use Rattle.wh_version.specs.Kept.{is_standing, partitions_in}
+use Rattle.wh_version.specs.declared.lasting.Lasting.{Lasting}
+use Rattle.wh_version.specs.Lasting.{is_standing, partitions_in}
 
 pub any-map : {X Y : Type 0} (f : X → Y) (test : Y → Bool) (xs : List X)
     → list_any (λ x. test (f x)) xs ≡ list_any test (map f xs)
@@ -20,10 +20,10 @@ any-map f test [] = refl
 any-map f test (x ∷ xs) = ap (λ b. test (f x) || b) (any-map f test xs)
 
 -- of those that are kept, the ones that stand and are touched
-abbrev pub touched_of : RowEdits → List Kept → List Partition
+abbrev pub touched_of : RowEdits → List Lasting → List Partition
 touched_of edits kept = touched edits (partitions_in (filter is_standing kept))
 
-pub each_touched : (edits : RowEdits) (k : Kept) (ks : List Kept)
+pub each_touched : (edits : RowEdits) (k : Lasting) (ks : List Lasting)
     → touched_of edits (k ∷ ks) ≡ touched_of edits (k ∷ []) ++ touched_of edits ks
 each_touched edits k ks = pick (is_standing k)
   where

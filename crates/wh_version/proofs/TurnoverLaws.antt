@@ -13,17 +13,17 @@ use Rattle.std.proofs.lemmas.List.Elements.{filter-append}
 use Rattle.std.specs.Prelude.{nat_lt, nat_le}
 use Rattle.wh_frame.specs.Partition.{Partition}
 use Rattle.wh_state.specs.State.{content_in}
-use Rattle.wh_version.specs.declared.kept.Kept.{Kept}
+use Rattle.wh_version.specs.declared.lasting.Lasting.{Lasting}
 use Rattle.wh_version.specs.declared.mark.VersionMark.{VersionMark}
 use Rattle.wh_version.specs.declared.turnover.Reach.{Reach}
 use Rattle.wh_version.specs.declared.times.Time.TheVariants.{Data}
-use Rattle.wh_version.specs.Kept.{stands_at, standing_at, gone_between, partitions_in, versions_by}
-use Rattle.wh_version.specs.Kept.{count_to}
+use Rattle.wh_version.specs.Lasting.{stands_at, standing_at, gone_between, partitions_in, versions_by}
+use Rattle.wh_version.specs.Lasting.{count_to}
 use Rattle.wh_version.specs.Times.{data_at, is_up_to, last_place, one_further}
 use Rattle.wh_version.specs.Turnover.{IsMixed, IsTurnover, reach_at}
 use Rattle.wh_version.proofs.LastUpTo.{last_by_marks, mark_within, place_within}
 
-pub reach_stands : (kept : List Kept) (m : VersionMark) (marks : List VersionMark) (timestamp : ℕ) (r : Reach)
+pub reach_stands : (kept : List Lasting) (m : VersionMark) (marks : List VersionMark) (timestamp : ℕ) (r : Reach)
     → r ≡ reach_at (m ∷ marks) m (last_place (is_up_to Data timestamp) (m ∷ marks))
     → content_in [] (data_at timestamp (versions_by kept 0 (m ∷ marks))) ≡ standing_at r.place (take r.partitions kept)
 reach_stands kept m marks timestamp r is =
@@ -132,7 +132,7 @@ reach_grows m marks total from to old new order counts is_old is_new =
 
 -- ---- what went and came
 
-mixed : (old new : ℕ) (kept : List Kept) → old ≤ new
+mixed : (old new : ℕ) (kept : List Lasting) → old ≤ new
     → IsMixed (standing_at new kept) (gone_between old new kept) (standing_at old kept)
 mixed old new [] order = (refl, refl)
 mixed old new (k ∷ kept) order = by_test (nat_lt old k.until) (nat_lt new k.until) refl refl (mixed old new kept order)
@@ -149,14 +149,15 @@ mixed old new (k ∷ kept) order = by_test (nat_lt old k.until) (nat_lt new k.un
     by_test false true is_b is_c rest = absurd (grind (arith, nat_tests))
     by_test false false is_b is_c rest = rw (is_b, is_c) rest
 
-standing_more : (place : ℕ) (xs ys : List Kept)
+standing_more : (place : ℕ) (xs ys : List Lasting)
     → standing_at place (xs ++ ys) ≡ standing_at place xs ++ standing_at place ys
 standing_more place xs ys =
     ap partitions_in (filter-append (stands_at place) xs ys)
     ∙ map-append (λ k. k.partition) (filter (stands_at place) xs) (filter (stands_at place) ys)
 
 -- one partition more
-pub standing_on : (kept : List Kept) (place i : ℕ) (k : Kept) (before after : List Partition) (front : List Partition)
+pub standing_on : (kept : List Lasting) (place i : ℕ) (k : Lasting) (before after : List Partition)
+    (front : List Partition)
     → i < length kept → k ≡ get_or kept i k → after ≡ before ++ standing_at place (k ∷ [])
     → front ++ before ≡ standing_at place (take i kept)
     → front ++ after ≡ standing_at place (take (i + 1) kept)
@@ -166,7 +167,7 @@ standing_on kept place i k before after front within is more so_far =
     ∙ sym (ap (standing_at place) (take_more kept i k within ∙ ap (λ x. take i kept ++ x ∷ []) (sym is))
     ∙ standing_more place (take i kept) (k ∷ []))
 
-pub turned_over : (kept : List Kept) (old new : Reach) (went came before behind : List Partition)
+pub turned_over : (kept : List Lasting) (old new : Reach) (went came before behind : List Partition)
     → old.place ≤ new.place
     → went ≡ gone_between old.place new.place (take old.partitions kept)
     → standing_at new.place (take old.partitions kept) ++ came ≡ standing_at new.place (take new.partitions kept)

@@ -11,7 +11,7 @@ use Rattle.wh_state.specs.Stored.{StoredVersion}
 use Rattle.wh_state.specs.Edits.{without}
 use Rattle.wh_version.specs.declared.mark.VersionMark.{VersionMark}
 use Rattle.wh_version.specs.declared.history.History.{History}
-use Rattle.wh_version.specs.Kept.{partitions_in, versions_by}
+use Rattle.wh_version.specs.Lasting.{partitions_in, versions_by}
 
 abbrev pub marks_of : History → List VersionMark
 marks_of h = h.first ∷ h.later.items

@@ -1,5 +1,5 @@
 pub mod Lists
-pub mod Kept
+pub mod Lasting
 pub mod Times
 pub mod History
 pub mod Version

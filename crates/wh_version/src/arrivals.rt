@@ -1,5 +1,5 @@
 use crate::turnover::{Reach, standing_behind};
-use crate::{History, Kept};
+use crate::{History, Lasting};
 use std::alloc::{AllocError, Global};
 use wh_part::Partition;
 
@@ -13,7 +13,7 @@ pub struct Arrivals<'a> {
 /// How many versions at the front of a table's were pushed by a stamp, and the partitions that came
 /// with them, version by version.
 #[derive(Debug, Drop)]
-pub struct Front<'a> {
+pub struct Leading<'a> {
     pub count: usize,
     pub came: Vec<&'a Partition>,
 }
@@ -51,7 +51,7 @@ impl History {
     }
 
     /// The versions at the front that were pushed by a stamp, and what came with them.
-    pub fn front(&self, alloc: Global, stamp: u64) -> Result<Front<'_>, AllocError>
+    pub fn front(&self, alloc: Global, stamp: u64) -> Result<Leading<'_>, AllocError>
         ensures { IfOk result (λ front. IsFront stamp front.count
             (partitions_at front.came.items) (versions_of self.now)) }
     {
@@ -61,14 +61,14 @@ impl History {
         for place in 0..count {
             let mark = self.mark(place);
             if stamp < mark.stamp {
-                return Ok(Front { count: place, came });
+                return Ok(Leading { count: place, came });
             }
             for index in before..mark.partitions {
                 put_standing(&mut came, place, &self.kept[index]);
             }
             before = mark.partitions;
         }
-        Ok(Front { count, came })
+        Ok(Leading { count, came })
     }
 
     // How many partitions there were before the version at a place.
@@ -85,10 +85,10 @@ impl History {
 
 ghost use Rattle.std.specs.Prelude.{◌≡◌, ◌+◌, ◌<◌, ◌≤◌, ◌∷◌, [], ◌++◌, vec_len, vec_capacity};
 ghost use Rattle.wh_version.specs.Edits.{partitions_at};
-ghost use Rattle.wh_version.specs.Kept.{standing_at};
+ghost use Rattle.wh_version.specs.Lasting.{standing_at};
 
 // Adds a partition, if it stands at a place. There is memory for it.
-fn put_standing<'a>(found: &mut Vec<&'a Partition>, place: usize, one: &'a Kept)
+fn put_standing<'a>(found: &mut Vec<&'a Partition>, place: usize, one: &'a Lasting)
     requires { vec_len found.old < vec_capacity found.old }
     ensures items { partitions_at found.new.items
         ≡ partitions_at found.old.items ++ standing_at place (one.now ∷ []) }

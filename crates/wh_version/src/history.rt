@@ -1,9 +1,9 @@
 ghost use Rattle.std.specs.Prelude.{◌∷◌, length, IsTrue};
 ghost use Rattle.std.specs.List.{list_all};
-ghost use Rattle.wh_version.specs.Kept.{numbered_from, count_to, is_gone_by, partitions_in};
+ghost use Rattle.wh_version.specs.Lasting.{numbered_from, count_to, is_gone_by, partitions_in};
 
 use crate::mark::last_mark;
-use crate::{Kept, VersionMark};
+use crate::{Lasting, VersionMark};
 use std::alloc::Global;
 
 /// The versions of one table. Each partition stands once: a version has those that were there when
@@ -11,7 +11,7 @@ use std::alloc::Global;
 #[derive(Debug, Drop)]
 pub struct History {
     /// By their numbers, which rise by one from 1.
-    pub(crate) kept: Vec<Kept>,
+    pub(crate) kept: Vec<Lasting>,
     /// The version with which the table was created, and those that were pushed since.
     pub(crate) first: VersionMark,
     pub(crate) later: Vec<VersionMark>,
@@ -24,7 +24,7 @@ impl History {
     ghost use Rattle.std.specs.Prelude.{◌≡◌, ◌≤◌, ◌^◌, [], ◌∷◌, Some, filter, option_map, nat_eq};
     ghost use Rattle.std.specs.List.{list_any};
     ghost use Rattle.wh_state.specs.State.{version_at, last_of};
-    ghost use Rattle.wh_version.specs.Kept.{is_standing, partitions_in};
+    ghost use Rattle.wh_version.specs.Lasting.{is_standing, partitions_in};
     ghost use Rattle.wh_version.specs.History.{versions_of, nexts_of, standing_in, partitions_of};
     ghost use Rattle.wh_version.specs.History.{next_in};
 
@@ -76,7 +76,7 @@ impl History {
     }
 
     /// Each partition of each version, by rising number.
-    pub fn kept(&self) -> &[Kept]
+    pub fn kept(&self) -> &[Lasting]
         ensures kept { partitions_in result.now ≡ partitions_of self.now }
         ensures standing { partitions_in (filter is_standing result.now)
             ≡ standing_in (versions_of self.now) }

@@ -1,8 +1,8 @@
 ghost use Rattle.std.specs.Prelude.{◌≡◌, map};
-ghost use Rattle.wh_version.specs.Kept.{stands_again};
+ghost use Rattle.wh_version.specs.Lasting.{stands_again};
 
 use crate::mark::last_mark;
-use crate::{History, Kept};
+use crate::{History, Lasting};
 
 impl History {
     ghost use Rattle.std.specs.Prelude.{◌≡◌};
@@ -27,7 +27,7 @@ impl History {
 }
 
 // What was gone from the place on stands again.
-fn stand_again(kept: &mut [Kept], place: usize)
+fn stand_again(kept: &mut [Lasting], place: usize)
     ensures { kept.new ≡ map (stands_again place) kept.old }
 {
     for one in kept.iter_mut() {

@@ -1,8 +1,8 @@
 ghost use Rattle.std.specs.Prelude.{◌≡◌, ◌+◌, ◌≤◌, ◌++◌, length, map, vec_len, vec_capacity};
 ghost use Rattle.std.specs.Prelude.{IsTrue};
-ghost use Rattle.wh_version.specs.Kept.{numbered_from, partitions_in, part_one, parted, fresh};
+ghost use Rattle.wh_version.specs.Lasting.{numbered_from, partitions_in, part_one, parted, fresh};
 
-use crate::{History, Kept, VersionMark};
+use crate::{History, Lasting, VersionMark};
 use std::alloc::AllocError;
 use wh_part::Partition;
 
@@ -48,7 +48,7 @@ impl History {
 }
 
 // From the place on the partitions of these numbers don't stand.
-fn part(kept: &mut Vec<Kept>, place: usize, removed: &[u64])
+fn part(kept: &mut Vec<Lasting>, place: usize, removed: &[u64])
     requires { IsTrue (numbered_from 1 (partitions_in kept.old.items)) }
     ensures parted { kept.new.items ≡ parted place removed.now kept.old.items }
     ensures length { vec_len kept.new ≡ vec_len kept.old }
@@ -59,7 +59,7 @@ fn part(kept: &mut Vec<Kept>, place: usize, removed: &[u64])
     }
 }
 
-fn part_one(kept: &mut Vec<Kept>, place: usize, number: u64)
+fn part_one(kept: &mut Vec<Lasting>, place: usize, number: u64)
     requires { IsTrue (numbered_from 1 (partitions_in kept.old.items)) }
     ensures parted { kept.new.items ≡ map (part_one place number) kept.old.items }
     ensures length { vec_len kept.new ≡ vec_len kept.old }
@@ -74,12 +74,12 @@ fn part_one(kept: &mut Vec<Kept>, place: usize, number: u64)
 }
 
 // Adds partitions that stand, for which there is memory.
-fn append(kept: &mut Vec<Kept>, added: Vec<Partition>)
+fn append(kept: &mut Vec<Lasting>, added: Vec<Partition>)
     requires { vec_len kept.old + vec_len added ≤ vec_capacity kept.old }
     ensures { kept.new.items ≡ kept.old.items ++ map fresh added.items }
 {
     for partition in added {
-        kept.push_reserved(Kept {
+        kept.push_reserved(Lasting {
             partition,
             until: usize::MAX,
         });

@@ -2,10 +2,10 @@ ghost use Rattle.std.specs.Prelude.{◌≡◌, ◌++◌, ◌∷◌, [], map, fil
 ghost use Rattle.std.specs.List.{list_any};
 ghost use Rattle.std.specs.FinMap.{get};
 ghost use Rattle.wh_state.specs.Edits.{is_touched, touched};
-ghost use Rattle.wh_version.specs.Kept.{is_standing, partitions_in};
+ghost use Rattle.wh_version.specs.Lasting.{is_standing, partitions_in};
 ghost use Rattle.wh_version.specs.Edits.{partitions_at};
 
-use crate::Kept;
+use crate::Lasting;
 use crate::row_edits::RowEdits;
 use std::alloc::{AllocError, Global};
 use wh_part::{NumberedRow, Partition};
@@ -14,7 +14,7 @@ use wh_part::{NumberedRow, Partition};
 pub(crate) fn touched<'a>(
     alloc: Global,
     edits: &RowEdits,
-    kept: &'a [Kept],
+    kept: &'a [Lasting],
 ) -> Result<Vec<&'a Partition>, AllocError>
     ensures { IfOk result (λ found. partitions_at found.items
         ≡ touched edits.now (partitions_in (filter is_standing kept.now))) }
@@ -29,7 +29,7 @@ pub(crate) fn touched<'a>(
 fn add_touched<'a>(
     found: &mut Vec<&'a Partition>,
     edits: &RowEdits,
-    one: &'a Kept,
+    one: &'a Lasting,
 ) -> Result<(), AllocError>
     ensures { OnOk result (partitions_at found.new.items ≡ partitions_at found.old.items
         ++ touched edits.now (partitions_in (filter is_standing (one.now ∷ [])))) }

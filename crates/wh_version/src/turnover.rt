@@ -1,10 +1,10 @@
 ghost use Rattle.std.specs.Prelude.{◌≡◌, ◌≤◌, ◌++◌, ◌∷◌, [], length, take, OnOk, IfOk};
-ghost use Rattle.wh_version.specs.Kept.{standing_at, gone_between};
+ghost use Rattle.wh_version.specs.Lasting.{standing_at, gone_between};
 ghost use Rattle.wh_version.specs.Edits.{partitions_at};
 
 use crate::times::{Time, last_place};
 use crate::version::add_standing;
-use crate::{History, Kept};
+use crate::{History, Lasting};
 use std::alloc::{AllocError, Global};
 use wh_part::Partition;
 
@@ -68,7 +68,7 @@ impl History {
 
 // The partitions that stand at a place and are gone by another.
 fn gone_between(
-    kept: &[Kept],
+    kept: &[Lasting],
     old: usize,
     new: usize,
     alloc: Global,
@@ -86,7 +86,7 @@ fn add_gone<'a>(
     found: &mut Vec<&'a Partition>,
     old: usize,
     new: usize,
-    one: &'a Kept,
+    one: &'a Lasting,
 ) -> Result<(), AllocError>
     ensures { OnOk result (partitions_at found.new.items
         ≡ partitions_at found.old.items ++ gone_between old new (one.now ∷ [])) }
@@ -99,7 +99,7 @@ fn add_gone<'a>(
 
 /// The partitions behind so many, up to a version's reach, that stand in it.
 pub(crate) fn standing_behind<'a>(
-    kept: &'a [Kept],
+    kept: &'a [Lasting],
     seen: usize,
     reach: Reach,
     alloc: Global,

@@ -1,5 +1,5 @@
 use crate::times::{Time, last_place};
-use crate::{History, Kept};
+use crate::{History, Lasting};
 use std::alloc::{AllocError, Global};
 use wh_part::Partition;
 
@@ -11,14 +11,14 @@ pub struct Version<'a> {
     /// Its place among the versions of its table.
     pub(crate) place: usize,
     /// The partitions that there were by then.
-    pub(crate) kept: &'a [Kept],
+    pub(crate) kept: &'a [Lasting],
 }
 
 impl History {
     ghost use Rattle.std.specs.Prelude.{◌≡◌, ◌<◌, Some, length, option_map};
     ghost use Rattle.std.specs.Prelude.{slice_index_or as get_or};
     ghost use Rattle.wh_state.specs.State.{last_of};
-    ghost use Rattle.wh_version.specs.Kept.{version_by};
+    ghost use Rattle.wh_version.specs.Lasting.{version_by};
     ghost use Rattle.wh_version.specs.Times.{data_at, visible_at, is_up_to, last_place};
     ghost use Rattle.wh_version.specs.History.{versions_of, marks_of};
     ghost use Rattle.wh_version.specs.Version.{version_in};
@@ -86,11 +86,11 @@ impl<'a> Version<'a> {
 }
 
 ghost use Rattle.std.specs.Prelude.{◌≡◌, ◌++◌, ◌∷◌, [], OnOk, IfOk};
-ghost use Rattle.wh_version.specs.Kept.{standing_at};
+ghost use Rattle.wh_version.specs.Lasting.{standing_at};
 ghost use Rattle.wh_version.specs.Edits.{partitions_at};
 
 // The partitions that stand in the version at a place.
-fn standing_at(place: usize, kept: &[Kept], alloc: Global) -> Result<Vec<&Partition>, AllocError>
+fn standing_at(place: usize, kept: &[Lasting], alloc: Global) -> Result<Vec<&Partition>, AllocError>
     ensures { IfOk result (λ found. partitions_at found.items ≡ standing_at place kept.now) }
 {
     let mut found = Vec::new(alloc);
@@ -104,7 +104,7 @@ fn standing_at(place: usize, kept: &[Kept], alloc: Global) -> Result<Vec<&Partit
 pub(crate) fn add_standing<'a>(
     found: &mut Vec<&'a Partition>,
     place: usize,
-    one: &'a Kept,
+    one: &'a Lasting,
 ) -> Result<(), AllocError>
     ensures { OnOk result (partitions_at found.new.items
         ≡ partitions_at found.old.items ++ standing_at place (one.now ∷ [])) }

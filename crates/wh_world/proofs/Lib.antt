@@ -1,4 +1,4 @@
-mod Kept
+mod Joining
 mod Moments
 mod Imaged
 pub mod Cutting

@@ -4,14 +4,14 @@ use Rattle.wh_meaning.specs.Scalar.{of_two}
 use Rattle.wh_meaning.specs.Query.{values_on}
 use Rattle.wh_algebra.specs.View.{calls_of, scalars_of}
 use Rattle.wh_algebra.specs.Tuple.{rows_in}
-use Rattle.wh_aggregate.specs.Groups.{Groups, noted, groups_from}
+use Rattle.wh_aggregate.specs.RunningGroups.{RunningGroups, noted, groups_from}
 use Rattle.wh_aggregate.proofs.FaultLemmas.{stopped}
 use Rattle.wh_aggregate.proofs.LoopLemmas.{groups_stopped}
 use Rattle.wh_aggregate.proofs.grouping.groups_of.Goals.{After-values_on}
 use Rattle.wh_aggregate.proofs.grouping.groups_of.Goals as goal
 
 -- the groups with the row, by its key
-abbrev with_row : After-values_on → Option Row → Option Groups
+abbrev with_row : After-values_on → Option Row → Option RunningGroups
 with_row c key = of_two (noted (calls_of c.args.calls.now) c.row-row.result.now) key (Some c.loop-left.groups)
 
 -- where the row can't be noted, there are no groups of all rows

@@ -2,7 +2,7 @@ use Rattle.std.proofs.Common.{◌≡◌, ◌≤◌, length, drop}
 use Rattle.std.specs.Prelude.{Some}
 use Rattle.wh_algebra.specs.View.{calls_of}
 use Rattle.wh_algebra.specs.Tuple.{rows_in}
-use Rattle.wh_aggregate.specs.Groups.{totals_from}
+use Rattle.wh_aggregate.specs.RunningGroups.{totals_from}
 use Rattle.wh_aggregate.proofs.grouping.totals_of.Given as goal
 
 abbrev pub invariant-loop-left : goal.invariant-loop-left

@@ -8,7 +8,8 @@ use Rattle.wh_change.proofs.rows.place_of.Goals as goal
 pub returns : goal.returns
 returns c =
     let rows = c.args.rows.now in
-    let parted = IsPartitionedBy-ltb (λ row. row.now.number) rows c.args.number (rows_rise entry_at 0 rows c.requires) in
+    let parted = IsPartitionedBy-ltb (λ row. row.now.number) rows c.args.number
+    (rows_rise entry_at 0 rows c.requires) in
     let point = IsPartitionPoint-from_clause (λ row. ltb row.now.number c.args.number) _ _
     c.partition_point.ensures.partitioned parted (λ a r q k. search rules) in
     record {

@@ -7,7 +7,8 @@ use Rattle.wh_change.proofs.seen.has_row.Goals as goal
 pub returns-then-place-rows : goal.returns-then-place-rows
 returns-then-place-rows c =
     ap (λ row. nat_eq row.number c.args.number) (sym c.index-rows-place.is)
-    ∙ found_or_not numbered_of c.args.number c.args.rows.now c.place_in-place.result c.index-rows-place.result c.requires
+    ∙ found_or_not numbered_of c.args.number c.args.rows.now c.place_in-place.result
+    c.index-rows-place.result c.requires
     c.place_in-place.ensures (omega (arith, c.if-place-rows.true)) c.index-rows-place.is
 
 pub returns-else-place-rows : goal.returns-else-place-rows

@@ -1,5 +1,5 @@
 use Rattle.std.proofs.Common.{◌≡◌, ◌-◌}
-use Rattle.wh_cursor.specs.declared.key.Key.TheVariants as k
+use Rattle.wh_cursor.specs.declared.key.TokenClass.TheVariants as k
 use Rattle.wh_cursor.specs.Steps.{eat_key}
 use Rattle.wh_cursor.specs.Lists.{listed, some_from}
 use Rattle.wh_cursor.proofs.lists.items.Given as goal

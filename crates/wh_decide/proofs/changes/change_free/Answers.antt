@@ -39,7 +39,7 @@ target c =
     (table_there sight.catalog.now id table (sym c.in-Some.ensures))
 
 -- what a fault says of the effect that is meant
-gives : (meant : effects.Outcome) {fault kind : EffectFault} → fault ≡ kind → Gives (Err fault) meant
+gives : (meant : effects.EffectResult) {fault kind : EffectFault} → fault ≡ kind → Gives (Err fault) meant
     → Gives (Err kind) meant
 gives meant is = subst (λ (f : EffectFault). Gives (Err f) meant) is
 

@@ -26,7 +26,7 @@ returns-then-is_insert c = λ t there.
     let change = change_of c.args.bound.now.change in
     let sources = ap instance_of c.deref-then-is_insert.ensures.value
     ∙ read (goal.at.returns-then-is_insert c).After-is_insert in
-    subst (λ (o : effects.Outcome). Gives c.effect.result o)
+    subst (λ (o : effects.EffectResult). Gives c.effect.result o)
     (ap (effect change []) sources
     ∙ unseen change (rows_seen t) _ (sym c.is_insert.ensures ∙ c.if-is_insert.true))
     c.effect.ensures

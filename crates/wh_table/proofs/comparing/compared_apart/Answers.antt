@@ -2,7 +2,7 @@ use Rattle.std.proofs.Common.{List, ◌+◌, ◌∙◌, sym, ap, take, drop, fil
 use Rattle.std.specs.Prelude.{◌&&◌}
 use Rattle.wh_frame.specs.Partition.{Partition}
 use Rattle.wh_state.specs.Edits.{without}
-use Rattle.wh_version.specs.Kept.{is_standing, partitions_in}
+use Rattle.wh_version.specs.Lasting.{is_standing, partitions_in}
 use Rattle.wh_table.specs.Apart.{all_apart}
 use Rattle.wh_table.proofs.Apart.{turned, compared}
 use Rattle.wh_table.proofs.comparing.compared_apart.Goals as goal

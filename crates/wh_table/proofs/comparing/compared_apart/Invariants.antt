@@ -1,6 +1,6 @@
 use Rattle.std.proofs.Common.{◌≡◌, drop, take, filter}
 use Rattle.wh_state.specs.Edits.{without}
-use Rattle.wh_version.specs.Kept.{is_standing, partitions_in}
+use Rattle.wh_version.specs.Lasting.{is_standing, partitions_in}
 use Rattle.wh_table.specs.Apart.{all_apart}
 use Rattle.wh_table.proofs.Apart.{turned}
 use Rattle.wh_table.proofs.comparing.compared_apart.Given as goal

@@ -2,7 +2,7 @@ use Rattle.std.proofs.Common.{List, ◌≤◌, ◌∙◌, sym, ap, arith}
 use Rattle.std.specs.Prelude.{not}
 use Rattle.wh_frame.specs.Partition.{Partition}
 use Rattle.wh_state.specs.Edits.{without, is_among}
-use Rattle.wh_version.specs.Kept.{is_standing}
+use Rattle.wh_version.specs.Lasting.{is_standing}
 use Rattle.wh_version.specs.History.{versions_of, standing_in}
 use Rattle.wh_table.specs.Apart.{all_apart, highest_number}
 use Rattle.wh_table.proofs.Apart.{rising_apart, highest_filter, highest_kept}

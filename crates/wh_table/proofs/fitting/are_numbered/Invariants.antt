@@ -1,5 +1,5 @@
 use Rattle.std.proofs.Common.{◌≡◌, ◌+◌, drop}
-use Rattle.wh_version.specs.Kept.{numbered_from}
+use Rattle.wh_version.specs.Lasting.{numbered_from}
 use Rattle.wh_table.proofs.fitting.are_numbered.Given as goal
 
 abbrev pub invariant-loop-partition : goal.invariant-loop-partition

@@ -1,7 +1,7 @@
 use Rattle.std.proofs.Common.{◌∙◌, ◌∷◌, [], ◌++◌, ap, sym, take, arith}
 use Rattle.std.proofs.lemmas.List.{take_all, take_more, map_push}
 use Rattle.wh_frame.specs.Partition.{last_number}
-use Rattle.wh_version.specs.Kept.{partitions_in}
+use Rattle.wh_version.specs.Lasting.{partitions_in}
 use Rattle.wh_table.specs.Apart.{highest_number}
 use Rattle.wh_table.proofs.Apart.{highest_number-append}
 use Rattle.wh_table.proofs.numbers.highest_kept.Goals as goal

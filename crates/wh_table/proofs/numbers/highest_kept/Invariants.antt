@@ -1,5 +1,5 @@
 use Rattle.std.proofs.Common.{◌≡◌, take}
-use Rattle.wh_version.specs.Kept.{partitions_in}
+use Rattle.wh_version.specs.Lasting.{partitions_in}
 use Rattle.wh_table.specs.Apart.{highest_number}
 use Rattle.wh_table.proofs.numbers.highest_kept.Given as goal
 

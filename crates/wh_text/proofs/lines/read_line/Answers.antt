@@ -1,5 +1,5 @@
 use Rattle.std.proofs.Common.{◌≡◌, ◌+◌, ◌∙◌, Some, None, length, option_map, sym, ap, arith}
-use Rattle.wh_text.specs.Place.{lines_at, next, kept}
+use Rattle.wh_text.specs.ScriptPlace.{lines_at, next, kept}
 use Rattle.wh_text.specs.Turn.{ahead_and}
 use Rattle.wh_text.specs.View.{line_view}
 use Rattle.wh_text.proofs.TurnLaws.{goes_on, runs_on, gives_line, last_turn, begun_once, kept_fits}

@@ -1,7 +1,7 @@
 use Rattle.std.proofs.Common.{◌≡◌, ◌+◌, ◌-◌, ◌^◌, ◌≤◌, length, option_map}
 use Rattle.wh_grammar.specs.Script.{lines_of}
 use Rattle.wh_text.specs.Ahead.{consumed, total}
-use Rattle.wh_text.specs.Place.{lines_at, most, begun}
+use Rattle.wh_text.specs.ScriptPlace.{lines_at, most, begun}
 use Rattle.wh_text.specs.Turn.{ahead_and}
 use Rattle.wh_text.proofs.lines.read_line.Given as goal
 

@@ -2,9 +2,9 @@ use Rattle.std.proofs.Common.{◌≡◌, ◌∙◌, ◌++◌, true, take, drop, 
 use Rattle.std.specs.List.{list_all}
 use Rattle.std.proofs.lemmas.List.{take-append-drop}
 use Rattle.wh_text.specs.Area.{is_plain}
-use Rattle.wh_text.specs.Place.{lines_at}
+use Rattle.wh_text.specs.ScriptPlace.{lines_at}
 use Rattle.wh_text.specs.declared.area.Area.TheVariants as areas
-use Rattle.wh_text.specs.declared.place.Place.TheVariants.{Command}
+use Rattle.wh_text.specs.declared.place.ScriptPlace.TheVariants.{Command}
 use Rattle.wh_text.proofs.PlaceLaws.{plain_run}
 use Rattle.wh_text.proofs.lines.take_plain.Goals as goal
 

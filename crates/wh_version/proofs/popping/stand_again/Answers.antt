@@ -1,6 +1,6 @@
 use Rattle.std.proofs.Common.{◌≡◌, ◌++◌, ◌∙◌, ap, sym, map, take, drop, set, get_or, append-nil}
 use Rattle.std.proofs.lemmas.List.{take_all, drop_all}
-use Rattle.wh_version.specs.Kept.{stands_again}
+use Rattle.wh_version.specs.Lasting.{stands_again}
 use Rattle.wh_version.proofs.Popped.{changed_more}
 use Rattle.wh_version.proofs.popping.stand_again.Goals as goal
 

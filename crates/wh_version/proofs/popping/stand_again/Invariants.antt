@@ -1,5 +1,5 @@
 use Rattle.std.proofs.Common.{◌≡◌, ◌++◌, map, take, drop}
-use Rattle.wh_version.specs.Kept.{stands_again}
+use Rattle.wh_version.specs.Lasting.{stands_again}
 use Rattle.wh_version.proofs.popping.stand_again.Given as goal
 
 abbrev pub invariant-loop-one : goal.invariant-loop-one

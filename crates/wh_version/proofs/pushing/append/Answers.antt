@@ -1,6 +1,6 @@
 use Rattle.std.proofs.Common.{◌∙◌, ap, sym, ◌∷◌, [], ◌++◌, map, length, refl, arith}
 use Rattle.std.proofs.lemmas.List.{nil_from_length}
-use Rattle.wh_version.specs.Kept.{fresh}
+use Rattle.wh_version.specs.Lasting.{fresh}
 use Rattle.wh_version.proofs.Steps.{taken_on, none_left}
 use Rattle.wh_version.proofs.pushing.append.Goals as goal
 

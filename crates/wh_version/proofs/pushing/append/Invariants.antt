@@ -1,7 +1,7 @@
 use Rattle.std.proofs.Common.{◌≡◌, ◌+◌, ◌≤◌, ◌++◌, map, length}
 use Rattle.std.specs.Vec.{vec_len, vec_capacity}
 use Rattle.std.specs.Vec.Iter.{into_iter_items, into_iter_len}
-use Rattle.wh_version.specs.Kept.{fresh}
+use Rattle.wh_version.specs.Lasting.{fresh}
 use Rattle.wh_version.proofs.pushing.append.Given as goal
 
 abbrev pub invariant-loop-partition : goal.invariant-loop-partition

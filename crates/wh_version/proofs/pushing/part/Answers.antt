@@ -1,7 +1,7 @@
 use Rattle.std.proofs.Common.{◌≡◌, ◌+◌, ◌∙◌, ap, sym, subst, List, ◌∷◌, drop, get_or, IsTrue, arith}
 use Rattle.std.proofs.lemmas.List.{drop_more}
 use Rattle.wh_frame.specs.Partition.{Partition}
-use Rattle.wh_version.specs.Kept.{numbered_from, partitions_in, parted}
+use Rattle.wh_version.specs.Lasting.{numbered_from, partitions_in, parted}
 use Rattle.wh_version.proofs.Parted.{one_partitions}
 use Rattle.wh_version.proofs.pushing.part.Goals as goal
 

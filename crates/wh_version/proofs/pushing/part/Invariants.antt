@@ -1,6 +1,6 @@
 use Rattle.std.proofs.Common.{◌≡◌, drop}
 use Rattle.std.specs.Vec.{vec_len, vec_capacity}
-use Rattle.wh_version.specs.Kept.{partitions_in, parted}
+use Rattle.wh_version.specs.Lasting.{partitions_in, parted}
 use Rattle.wh_version.proofs.pushing.part.Given as goal
 
 abbrev pub invariant-loop-number : goal.invariant-loop-number

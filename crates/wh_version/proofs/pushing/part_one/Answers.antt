@@ -1,5 +1,5 @@
 use Rattle.std.proofs.Common.{◌≡◌, ◌+◌, ◌-◌, ◌∙◌, ap, sym, map, set, inl, inr, arith}
-use Rattle.wh_version.specs.Kept.{part_one}
+use Rattle.wh_version.specs.Lasting.{part_one}
 use Rattle.wh_version.proofs.Parted.{there, not_there}
 use Rattle.wh_version.proofs.pushing.part_one.Goals as goal
 use Rattle.wh_version.proofs.pushing.part_one.Goals.{then-number-eq0-via-then-number-eq0}

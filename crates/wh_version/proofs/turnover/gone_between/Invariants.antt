@@ -1,5 +1,5 @@
 use Rattle.std.proofs.Common.{◌≡◌, take}
-use Rattle.wh_version.specs.Kept.{gone_between}
+use Rattle.wh_version.specs.Lasting.{gone_between}
 use Rattle.wh_version.specs.Edits.{partitions_at}
 use Rattle.wh_version.proofs.turnover.gone_between.Given as goal
 

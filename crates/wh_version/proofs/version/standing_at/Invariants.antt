@@ -1,5 +1,5 @@
 use Rattle.std.proofs.Common.{◌≡◌, take}
-use Rattle.wh_version.specs.Kept.{standing_at}
+use Rattle.wh_version.specs.Lasting.{standing_at}
 use Rattle.wh_version.specs.Edits.{partitions_at}
 use Rattle.wh_version.proofs.version.standing_at.Given as goal
 

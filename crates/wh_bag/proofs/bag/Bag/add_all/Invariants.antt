@@ -1,6 +1,6 @@
 use Rattle.std.proofs.Common.{◌≡◌}
 use Rattle.std.specs.FinMap.{entries}
-use Rattle.wh_meaning.specs.Change.{IsWithin}
+use Rattle.wh_meaning.specs.BagChange.{IsWithin}
 use Rattle.wh_bag.proofs.Sum.{summed}
 use Rattle.wh_bag.proofs.bag.Bag.add_all.Given as goal
 

@@ -2,7 +2,7 @@ use Rattle.std.proofs.Common.{◌≡◌, ◌∙◌, refl, sym, subst, ℕ, suc, 
 use Rattle.std.proofs.lemmas.Grind.{common_steps}
 use Rattle.wh_value.specs.Value.{Row}
 use Rattle.wh_meaning.specs.Bag.{count}
-use Rattle.wh_meaning.specs.Change.{IsWithin}
+use Rattle.wh_meaning.specs.BagChange.{IsWithin}
 use Rattle.wh_bag.proofs.Excess.{excess-turn, excess-is, none-within, entered-within}
 use Rattle.wh_bag.proofs.bag.Bag.excess.Goals as goal
 

@@ -1,7 +1,7 @@
 use Rattle.std.proofs.Common.{◌≡◌}
 use Rattle.std.specs.FinMap.{entries}
 use Rattle.wh_meaning.specs.Bag.{no_rows}
-use Rattle.wh_meaning.specs.Change.{IsWithin}
+use Rattle.wh_meaning.specs.BagChange.{IsWithin}
 use Rattle.wh_bag.specs.Walk.{excess}
 use Rattle.wh_bag.proofs.bag.Bag.excess.Given as goal
 

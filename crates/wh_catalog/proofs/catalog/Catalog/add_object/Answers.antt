@@ -6,7 +6,7 @@ use Rattle.wh_value.specs.declared.limit.Limit.TheVariants as limits
 use Rattle.std.proofs.lemmas.List.{length-map, map-append}
 use Rattle.wh_catalog.specs.declared.object.StoredObject.{StoredObject}
 use Rattle.wh_catalog.specs.Names.{last_id, names_of, AreLast, id_at}
-use Rattle.wh_catalog.specs.Kept.{object_in}
+use Rattle.wh_catalog.specs.Undoable.{object_in}
 use Rattle.wh_catalog.specs.Object.{kept_object}
 use Rattle.wh_catalog.specs.Catalog.{kept_of}
 use Rattle.wh_catalog.proofs.Dropped.{one_more}

@@ -4,7 +4,7 @@ use Rattle.wh_version.specs.declared.mark.VersionMark.{VersionMark}
 use Rattle.wh_version.specs.Arrivals.{IsArrival, partitions_before}
 use Rattle.wh_version.specs.Edits.{partitions_at}
 use Rattle.wh_version.specs.History.{versions_of, marks_of}
-use Rattle.wh_version.specs.Kept.{standing_at}
+use Rattle.wh_version.specs.Lasting.{standing_at}
 use Rattle.wh_version.proofs.ArrivalLaws.{within_marks, before_grows, arrived}
 use Rattle.wh_version.proofs.LastUpTo.{mark_within}
 use Rattle.wh_version.proofs.history.History.arrivals.Goals as goal

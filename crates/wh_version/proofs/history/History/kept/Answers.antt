@@ -1,5 +1,5 @@
 use Rattle.std.proofs.Common.{◌∙◌, ap, sym, filter}
-use Rattle.wh_version.specs.Kept.{partitions_in, is_standing}
+use Rattle.wh_version.specs.Lasting.{partitions_in, is_standing}
 use Rattle.wh_version.proofs.Last.{standing_now}
 use Rattle.wh_version.proofs.history.History.kept.Goals as goal
 

@@ -1,5 +1,5 @@
 use Rattle.std.proofs.Common.{◌≡◌, ◌+◌, ◌∷◌, ◌∙◌, ap, sym, length, get_or, Some, arith}
-use Rattle.wh_version.specs.Kept.{version_by}
+use Rattle.wh_version.specs.Lasting.{version_by}
 use Rattle.wh_version.specs.History.{versions_of}
 use Rattle.wh_version.proofs.Last.{last_version}
 use Rattle.wh_version.proofs.history.History.last.Goals as goal

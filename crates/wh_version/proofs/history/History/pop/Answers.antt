@@ -2,9 +2,9 @@ use Rattle.std.proofs.Common.{◌≡◌, ℕ, ◌≤◌, ◌+◌, ◌-◌, ◌�
 use Rattle.std.proofs.Common.{IsTrue, List, arith}
 use Rattle.std.specs.List.{list_all}
 use Rattle.std.proofs.lemmas.List.{length-map, length-take}
-use Rattle.wh_version.specs.declared.kept.Kept.{Kept}
+use Rattle.wh_version.specs.declared.lasting.Lasting.{Lasting}
 use Rattle.wh_version.specs.declared.mark.VersionMark.{VersionMark}
-use Rattle.wh_version.specs.Kept.{partitions_in, numbered_from, count_to, is_gone_by, stands_again, versions_by}
+use Rattle.wh_version.specs.Lasting.{partitions_in, numbered_from, count_to, is_gone_by, stands_again, versions_by}
 use Rattle.wh_version.specs.History.{versions_of, nexts_of}
 use Rattle.wh_version.proofs.Popped.{versions_left, versions_shortened, nexts_shortened, numbered_less, count_less}
 use Rattle.wh_version.proofs.Popped.{gone_less, take_exactly}
@@ -12,7 +12,7 @@ use Rattle.wh_version.proofs.history.History.pop.Goals.{After-stand_again}
 use Rattle.wh_version.proofs.history.History.pop.Goals as goal
 
 module _ (c : After-stand_again) where
-  abbrev kept : List Kept
+  abbrev kept : List Lasting
   kept = c.args.self.now.kept.items
 
   -- the marks behind the first, but for the last of them
@@ -24,7 +24,7 @@ module _ (c : After-stand_again) where
   last = c.len-place.result
 
   -- what is left, as it was before that version
-  abbrev left : List Kept
+  abbrev left : List Lasting
   left = map (stands_again last) (take c.last_mark-mark.result.partitions kept)
 
   count : last ≡ length c.args.self.now.later.items

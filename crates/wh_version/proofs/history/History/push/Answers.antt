@@ -4,10 +4,10 @@ use Rattle.std.specs.List.{list_all}
 use Rattle.std.proofs.lemmas.List.{length-map, map_push}
 use Rattle.wh_state.specs.Commit.{NumberedFrom}
 use Rattle.wh_state.specs.Edits.{without}
-use Rattle.wh_version.specs.declared.kept.Kept.{Kept}
+use Rattle.wh_version.specs.declared.lasting.Lasting.{Lasting}
 use Rattle.wh_version.specs.declared.mark.VersionMark.{VersionMark}
-use Rattle.wh_version.specs.Kept.{partitions_in, numbered_from, count_to, is_gone_by, parted, fresh}
-use Rattle.wh_version.specs.Kept.{standing_at, versions_by}
+use Rattle.wh_version.specs.Lasting.{partitions_in, numbered_from, count_to, is_gone_by, parted, fresh}
+use Rattle.wh_version.specs.Lasting.{standing_at, versions_by}
 use Rattle.wh_version.specs.History.{versions_of, nexts_of, marks_of, standing_in, next_in}
 use Rattle.wh_version.proofs.Last.{next_last, counts_all, standing_now, standing_last}
 use Rattle.wh_version.proofs.Parted.{all_later, parted_gone, length-parted}
@@ -16,7 +16,7 @@ use Rattle.wh_version.proofs.history.History.push.Goals.{After-push_reserved}
 use Rattle.wh_version.proofs.history.History.push.Goals as goal
 
 module _ (c : After-push_reserved) where
-  abbrev kept : List Kept
+  abbrev kept : List Lasting
   kept = c.args.self.now.kept.items
 
   -- the place of the new version
@@ -24,7 +24,7 @@ module _ (c : After-push_reserved) where
   last = c.len-place.result + 1
 
   -- what there was, as the new version leaves it, and what is added
-  abbrev all : List Kept
+  abbrev all : List Lasting
   all = parted last c.args.removed.now kept ++ map fresh c.args.added.items
 
   abbrev mark : VersionMark

@@ -1,7 +1,7 @@
 use Rattle.std.proofs.Common.{◌≡◌, ◌+◌, ◌-◌, ◌∙◌, ap, sym, false, filter, inl, inr, arith}
 use Rattle.std.specs.Prelude.{nat_eq}
 use Rattle.std.specs.List.{list_any}
-use Rattle.wh_version.specs.Kept.{partitions_in, is_standing}
+use Rattle.wh_version.specs.Lasting.{partitions_in, is_standing}
 use Rattle.wh_version.proofs.Last.{standing_now}
 use Rattle.wh_version.proofs.Found.{none_there, one_there}
 use Rattle.wh_version.proofs.history.History.stands.Goals as goal

@@ -1,7 +1,7 @@
 use Rattle.std.proofs.Common.{◌≡◌, List, ◌++◌, ◌∙◌, ap, length, take, subst, arith}
 use Rattle.std.proofs.lemmas.List.{length-take}
-use Rattle.wh_version.specs.declared.kept.Kept.{Kept}
-use Rattle.wh_version.specs.Kept.{standing_at, gone_between}
+use Rattle.wh_version.specs.declared.lasting.Lasting.{Lasting}
+use Rattle.wh_version.specs.Lasting.{standing_at, gone_between}
 use Rattle.wh_version.specs.Edits.{partitions_at}
 use Rattle.wh_version.specs.History.{versions_of}
 use Rattle.wh_version.proofs.TurnoverLaws.{reach_grows, reach_stands, turned_over}
@@ -34,7 +34,7 @@ pub returns : goal.returns
 unfolding versions_of
 returns c =
     let h = c.args.self.now in
-    let kept : List Kept = h.kept.items in
+    let kept : List Lasting = h.kept.items in
     let old = c.reach-old.result in
     let new = c.reach-new.result in
     let grows = reach_grows h.first h.later.items (length kept) c.args.from c.args.to old new c.requires h.marks
@@ -42,7 +42,8 @@ returns c =
     turned_over kept old new (partitions_at c.in_ok-went.went.items) (partitions_at c.in_ok-came.came.items) _ _
     grows.place
     (c.in_ok-went.ensures ∙ ap (λ ks. gone_between old.place new.place (take old.partitions ks)) c.deref.ensures.value)
-    (subst (λ (ks : List Kept). standing_at new.place (take old.partitions ks) ++ partitions_at c.in_ok-came.came.items
+    (subst (λ (ks : List Lasting). standing_at new.place (take old.partitions ks)
+    ++ partitions_at c.in_ok-came.came.items
     ≡ standing_at new.place (take new.partitions ks)) c.deref-2.ensures.value c.in_ok-came.ensures)
     (reach_stands kept h.first h.later.items c.args.from old c.reach-old.ensures)
     (reach_stands kept h.first h.later.items c.args.to new c.reach-new.ensures)

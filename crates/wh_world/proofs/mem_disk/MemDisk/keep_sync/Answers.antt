@@ -2,7 +2,7 @@ use Rattle.std.proofs.Common.{◌≡◌, [], ◌∷◌, ◌++◌, refl, rules}
 use Rattle.wh_world.specs.Logged.{events}
 use Rattle.wh_world.specs.Events.{synced}
 use Rattle.wh_world.specs.declared.logged.Logged.TheVariants.{Synced}
-use Rattle.wh_world.proofs.Kept.{agrees_synced, events_synced}
+use Rattle.wh_world.proofs.Joining.{agrees_synced, events_synced}
 use Rattle.wh_world.proofs.mem_disk.MemDisk.keep_sync.Goals as goal
 
 pub invariant_of-self : goal.invariant_of-self

@@ -2,7 +2,7 @@ use Rattle.std.proofs.Common.{◌≡◌, [], ◌∷◌, ◌++◌, refl, rules}
 use Rattle.wh_world.specs.Logged.{events}
 use Rattle.wh_world.specs.Events.{tore}
 use Rattle.wh_world.specs.declared.logged.Logged.TheVariants.{Tore}
-use Rattle.wh_world.proofs.Kept.{agrees_tore, events_tore}
+use Rattle.wh_world.proofs.Joining.{agrees_tore, events_tore}
 use Rattle.wh_world.proofs.mem_disk.MemDisk.keep_torn.Goals as goal
 
 pub invariant_of-self : goal.invariant_of-self

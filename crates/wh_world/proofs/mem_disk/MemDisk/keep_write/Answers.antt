@@ -3,7 +3,7 @@ use Rattle.wh_world.specs.Bytes.{written}
 use Rattle.wh_world.specs.Events.{wrote}
 use Rattle.wh_world.specs.Logged.{events}
 use Rattle.wh_world.specs.declared.logged.Logged.TheVariants.{Wrote}
-use Rattle.wh_world.proofs.Kept.{agrees_wrote, events_wrote}
+use Rattle.wh_world.proofs.Joining.{agrees_wrote, events_wrote}
 use Rattle.wh_world.proofs.mem_disk.MemDisk.keep_write.Goals as goal
 
 pub invariant_of-self : goal.invariant_of-self

@@ -1,6 +1,6 @@
 -- What the walk over the rows computes, from the last row to the first.
 --     totals_from     the totals of calls over rows
---     Groups          the totals of calls by key
+--     RunningGroups          the totals of calls by key
 --     groups_from     the groups of rows; None where a key or an argument has no value
 --     listed          the rows of groups: each key, and then its answers
 --     whole_from      the row of all rows
@@ -15,16 +15,16 @@ abbrev pub totals_from : List Call → List Row → Option (List Total)
 totals_from calls [] = Some (begun calls)
 totals_from calls (row ∷ rows) = of_one (tallied calls row) (totals_from calls rows)
 
-abbrev pub Groups : Type 0
-Groups = FinMap row_cmp (List Total)
+abbrev pub RunningGroups : Type 0
+RunningGroups = FinMap row_cmp (List Total)
 
-abbrev pub totals_at : List Call → Groups → Row → List Total
+abbrev pub totals_at : List Call → RunningGroups → Row → List Total
 totals_at calls groups key = unwrap_or (get groups key) (begun calls)
 
-abbrev pub noted : List Call → Row → Row → Groups → Option Groups
+abbrev pub noted : List Call → Row → Row → RunningGroups → Option RunningGroups
 noted calls row key groups = option_map (insert groups key) (tallied calls row (totals_at calls groups key))
 
-abbrev pub groups_from : List Scalar → List Call → List Row → Option Groups
+abbrev pub groups_from : List Scalar → List Call → List Row → Option RunningGroups
 groups_from by calls [] = Some empty
 groups_from by calls (row ∷ rows) = of_two (noted calls row) (values_on by row) (groups_from by calls rows)
 

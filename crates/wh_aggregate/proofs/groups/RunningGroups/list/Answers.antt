@@ -7,11 +7,11 @@ use Rattle.wh_value.specs.Order.{row_total}
 use Rattle.wh_meaning.specs.Query.{Total}
 use Rattle.wh_algebra.specs.View.{calls_of}
 use Rattle.wh_aggregate.specs.Given.{GivesListed}
-use Rattle.wh_aggregate.specs.Groups.{listed}
+use Rattle.wh_aggregate.specs.RunningGroups.{listed}
 use Rattle.wh_aggregate.proofs.FaultLemmas.{still, passed_on}
 use Rattle.wh_aggregate.proofs.LoopLemmas.{listed_more, listed_none}
 use Rattle.wh_meaning.proofs.KeyMaps.{entries_in_order}
-use Rattle.wh_aggregate.proofs.groups.Groups.list.Goals as goal
+use Rattle.wh_aggregate.proofs.groups.RunningGroups.list.Goals as goal
 
 pub returns-in_err-row : goal.returns-in_err-row
 returns-in_err-row c =

@@ -7,52 +7,52 @@ use Rattle.std.specs.Prelude.{ℕ, ◌+◌, Bool, true, ◌&&◌, ◌||◌, List
 use Rattle.std.specs.Prelude.{min, if◌then◌else◌}
 use Rattle.wh_frame.specs.Partition.{Partition}
 use Rattle.wh_state.specs.Stored.{StoredVersion}
-use Rattle.wh_version.specs.declared.kept.Kept.{Kept}
+use Rattle.wh_version.specs.declared.lasting.Lasting.{Lasting}
 use Rattle.wh_version.specs.declared.mark.VersionMark.{VersionMark}
 
-abbrev pub stands_at : ℕ → Kept → Bool
+abbrev pub stands_at : ℕ → Lasting → Bool
 stands_at place k = nat_lt place k.until
 
-abbrev pub partitions_in : List Kept → List Partition
+abbrev pub partitions_in : List Lasting → List Partition
 partitions_in kept = map (λ k. k.partition) kept
 
-abbrev pub standing_at : ℕ → List Kept → List Partition
+abbrev pub standing_at : ℕ → List Lasting → List Partition
 standing_at place kept = partitions_in (filter (stands_at place) kept)
 
-abbrev pub is_gone_between : ℕ → ℕ → Kept → Bool
+abbrev pub is_gone_between : ℕ → ℕ → Lasting → Bool
 is_gone_between old new k = nat_lt old k.until && nat_le k.until new
 
-abbrev pub gone_between : ℕ → ℕ → List Kept → List Partition
+abbrev pub gone_between : ℕ → ℕ → List Lasting → List Partition
 gone_between old new kept = partitions_in (filter (is_gone_between old new) kept)
 
 -- ---- what a version more changes
 
-abbrev pub fresh : Partition → Kept
+abbrev pub fresh : Partition → Lasting
 fresh p = record { partition = p; until = 18446744073709551615 }
 
 -- gone from the place on, if it is the one of that number
-abbrev pub part_one : ℕ → ℕ → Kept → Kept
+abbrev pub part_one : ℕ → ℕ → Lasting → Lasting
 part_one place number k = if nat_eq k.partition.number number then record k { until = min k.until place } else k
 
-abbrev pub parted : ℕ → List ℕ → List Kept → List Kept
+abbrev pub parted : ℕ → List ℕ → List Lasting → List Lasting
 parted place [] kept = kept
 parted place (number ∷ numbers) kept = parted place numbers (map (part_one place number) kept)
 
 -- what was gone from the place on stands again
-abbrev pub stands_again : ℕ → Kept → Kept
+abbrev pub stands_again : ℕ → Lasting → Lasting
 stands_again place k = if nat_eq k.until place then record k { until = 18446744073709551615 } else k
 
 -- ---- versions
 
 -- a version has those of the first partitions, up to its mark, that stand at its place
-abbrev pub version_by : List Kept → ℕ → VersionMark → StoredVersion
+abbrev pub version_by : List Lasting → ℕ → VersionMark → StoredVersion
 version_by kept place mark = record {
   stamp = mark.stamp;
   data_timestamp = mark.data_timestamp;
   content = standing_at place (take mark.partitions kept);
 }
 
-abbrev pub versions_by : List Kept → ℕ → List VersionMark → List StoredVersion
+abbrev pub versions_by : List Lasting → ℕ → List VersionMark → List StoredVersion
 versions_by kept place [] = []
 versions_by kept place (mark ∷ marks) = version_by kept place mark ∷ versions_by kept (place + 1) marks
 
@@ -69,9 +69,9 @@ count_to least [] total = nat_eq least total
 count_to least (mark ∷ marks) total = nat_le least mark.partitions && count_to mark.partitions marks total
 
 -- it stands still
-abbrev pub is_standing : Kept → Bool
+abbrev pub is_standing : Lasting → Bool
 is_standing k = nat_eq k.until 18446744073709551615
 
 -- it stands still, or is gone from a version up to the last one
-abbrev pub is_gone_by : ℕ → Kept → Bool
+abbrev pub is_gone_by : ℕ → Lasting → Bool
 is_gone_by last k = nat_le k.until last || is_standing k

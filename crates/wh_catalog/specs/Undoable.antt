@@ -3,7 +3,7 @@
 --     kind_in, object_in        what the file says of it
 use Rattle.wh_state.specs.State.{ObjectOf, KindOf, on_table}
 use Rattle.wh_state.specs.Stored.{StoredKind, StoredObject}
-use Rattle.wh_table.specs.Kept.{KeptTable, table_in}
+use Rattle.wh_table.specs.Undoable.{KeptTable, table_in}
 
 abbrev pub KeptKind : Type 0
 KeptKind = KindOf KeptTable

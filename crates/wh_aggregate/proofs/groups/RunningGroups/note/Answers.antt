@@ -8,10 +8,10 @@ use Rattle.wh_value.specs.Value.{row_cmp}
 use Rattle.wh_algebra.specs.View.{calls_of}
 use Rattle.wh_aggregate.specs.Tally.{begun}
 use Rattle.wh_aggregate.specs.Given.{Leaves}
-use Rattle.wh_aggregate.specs.Groups.{noted}
+use Rattle.wh_aggregate.specs.RunningGroups.{noted}
 use Rattle.wh_aggregate.proofs.FaultLemmas.{still, passed_on}
 use Rattle.wh_aggregate.proofs.MapLemmas.{row_left, row_noted, not_noted}
-use Rattle.wh_aggregate.proofs.groups.Groups.note.Goals as goal
+use Rattle.wh_aggregate.proofs.groups.RunningGroups.note.Goals as goal
 
 pub returns-in-Some : goal.returns-in-Some
 returns-in-Some c =

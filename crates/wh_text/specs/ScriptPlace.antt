@@ -1,4 +1,4 @@
--- What a `Place` stands for, with the text so far.
+-- What a `ScriptPlace` stands for, with the text so far.
 --     lines_at    the lines from a place on
 --     line_at     the line that ends at a place
 --     next        the next place, where no line ends
@@ -13,8 +13,8 @@ use Rattle.wh_grammar.specs.Script as scripts
 use Rattle.wh_text.specs.Area.{area_of, behind, ends}
 use Rattle.wh_text.specs.declared.area.Area.{Area}
 use Rattle.wh_text.specs.declared.area.Area.TheVariants as areas
-use Rattle.wh_text.specs.declared.place.Place.{Place}
-use Rattle.wh_text.specs.declared.place.Place.TheVariants.{Gap, GapComment, Marked, Opening, Command}
+use Rattle.wh_text.specs.declared.place.ScriptPlace.{ScriptPlace}
+use Rattle.wh_text.specs.declared.place.ScriptPlace.TheVariants.{Gap, GapComment, Marked, Opening, Command}
 
 -- whether the bytes end what may be a comment between commands
 abbrev pub closes : Area → List ℕ → Bool
@@ -26,7 +26,7 @@ closes areas.LineComment bytes = false
 closes areas.Comment bytes = has_comment_end bytes
 closes areas.Star bytes = has_comment_end (42 ∷ bytes)
 
-abbrev pub lines_at : Place → List ℕ → List ℕ → List scripts.Line
+abbrev pub lines_at : ScriptPlace → List ℕ → List ℕ → List scripts.Line
 lines_at Gap text bytes = scripts.lines_from scripts.Gap bytes
 lines_at GapComment text bytes = scripts.lines_from (scripts.GapComment scripts.LineComment) bytes
 lines_at Marked text bytes = scripts.lines_from (scripts.InMarked text) bytes
@@ -35,7 +35,7 @@ lines_at (Opening area) text bytes =
     else scripts.lines_from (scripts.InCommand (area_of area bytes) text) bytes
 lines_at (Command area) text bytes = scripts.lines_from (scripts.InCommand (area_of area bytes) text) bytes
 
-abbrev pub line_at : Place → List ℕ → scripts.Line
+abbrev pub line_at : ScriptPlace → List ℕ → scripts.Line
 line_at Gap text = scripts.command_line text
 line_at GapComment text = scripts.command_line text
 line_at Marked text = scripts.marked_line (scripts.without_return text)
@@ -43,7 +43,7 @@ line_at (Opening area) text = scripts.command_line text
 line_at (Command area) text = scripts.command_line text
 
 -- the line that the end of the script ends, if one does
-abbrev pub last_line_at : Place → List ℕ → List scripts.Line
+abbrev pub last_line_at : ScriptPlace → List ℕ → List scripts.Line
 last_line_at Gap text = []
 last_line_at GapComment text = []
 last_line_at Marked text = scripts.marked_line text ∷ []
@@ -53,7 +53,7 @@ last_line_at (Command area) text = scripts.command_line text ∷ []
 abbrev pub is_gap : ℕ → Bool
 is_gap b = is_blank b || b == 59
 
-abbrev pub behind_gap : ℕ → Place
+abbrev pub behind_gap : ℕ → ScriptPlace
 behind_gap b =
     if is_gap b then Gap
     else if b == 33 then Marked
@@ -61,10 +61,10 @@ behind_gap b =
     else if b == 47 then Opening areas.Slash
     else Command (behind areas.Plain b)
 
-abbrev pub behind_command : Area → ℕ → Option Place
+abbrev pub behind_command : Area → ℕ → Option ScriptPlace
 behind_command area b = if ends area b then None else Some (Command (behind area b))
 
-abbrev pub behind_opening : Area → ℕ → Option Place
+abbrev pub behind_opening : Area → ℕ → Option ScriptPlace
 behind_opening areas.Plain b = behind_command areas.Plain b
 behind_opening areas.Minus b = if b == 45 then Some GapComment else behind_command areas.Minus b
 behind_opening areas.Slash b = if b == 42 then Some (Opening areas.Comment) else behind_command areas.Slash b
@@ -73,7 +73,7 @@ behind_opening areas.LineComment b = behind_command areas.LineComment b
 behind_opening areas.Comment b = Some (Opening (behind areas.Comment b))
 behind_opening areas.Star b = if b == 47 then Some Gap else Some (Opening (behind areas.Star b))
 
-abbrev pub next : Place → ℕ → Option Place
+abbrev pub next : ScriptPlace → ℕ → Option ScriptPlace
 next Gap b = Some (behind_gap b)
 next GapComment b = if b == 10 then Some Gap else Some GapComment
 next Marked b = if b == 10 then None else Some Marked
@@ -84,7 +84,7 @@ next (Command area) b = behind_command area b
 abbrev pub with_byte : ℕ → List ℕ → ℕ → List ℕ
 with_byte most text b = if nat_lt (length text) most then text ++ b ∷ [] else text
 
-abbrev pub kept : Place → List ℕ → ℕ → List ℕ
+abbrev pub kept : ScriptPlace → List ℕ → ℕ → List ℕ
 kept Gap text b = b ∷ []
 kept GapComment text b = text
 kept Marked text b = with_byte 65538 text b
@@ -92,7 +92,7 @@ kept (Opening area) text b = with_byte 65537 text b
 kept (Command area) text b = with_byte 65537 text b
 
 -- how many bytes the text has at most
-abbrev pub most : Place → ℕ
+abbrev pub most : ScriptPlace → ℕ
 most Gap = 65537
 most GapComment = 65537
 most Marked = 65538
@@ -100,7 +100,7 @@ most (Opening area) = 65537
 most (Command area) = 65537
 
 -- 1 where a line has begun
-abbrev pub begun : Place → ℕ
+abbrev pub begun : ScriptPlace → ℕ
 begun Gap = 0
 begun GapComment = 0
 begun Marked = 1

@@ -2,14 +2,14 @@ use wh_part::Partition;
 
 /// A partition, and the place of the version that it is gone from: `usize::MAX` while it stands.
 #[derive(Debug, Drop)]
-pub struct Kept {
+pub struct Lasting {
     pub(crate) partition: Partition,
     pub(crate) until: usize,
 }
 
-impl Kept {
+impl Lasting {
     ghost use Rattle.std.specs.Prelude.{◌≡◌};
-    ghost use Rattle.wh_version.specs.Kept.{is_standing, stands_again};
+    ghost use Rattle.wh_version.specs.Lasting.{is_standing, stands_again};
 
     pub fn partition(&self) -> &Partition
         ensures { result.now ≡ self.now.partition }
