@@ -4,7 +4,7 @@
 --     halted_cause, full_first                   of a turn whose event is known
 --     counted_since, has_cause                   of all turns; of a run
 use Rattle.std.proofs.Common.{◌≡◌, ℕ, ◌+◌, ◌<◌, ◌≤◌, ◌^◌, List, [], ◌∷◌, Option, Some, refl, sym, ap, ◌∙◌, subst, arith}
-use Rattle.std.proofs.Common.{rules}
+use Rattle.std.proofs.Common.{rules, None}
 use Rattle.std.specs.Prelude.{Result, Ok, Err, IfErr, IsErrAnd, true}
 use Rattle.wh_state.specs.Written.{is_beyond, added_length}
 use Rattle.wh_machine.specs.Step.{Event, text}

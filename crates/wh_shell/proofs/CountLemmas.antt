@@ -2,7 +2,7 @@
 --     counts_none, counts_on         no turn yet; one turn behind others
 --     long_read, long_stop           a script that was read to its end, and one at which a fault stopped
 --     passed_reads, status_passed    a fault that a `?` passes on
---     err_is                         the fault of a result
+--     err_is, err_same, ok_isnt      the fault of a result, which has one
 use Rattle.std.proofs.Common.{◌≡◌, ℕ, ◌+◌, ◌-◌, ◌^◌, ◌<◌, List, length, Option, Some, None, refl, ap, ◌∙◌, sym, subst}
 use Rattle.std.proofs.Common.{arith}
 use Rattle.std.specs.Prelude.{Result, Ok, Err, IsErrAnd, IsErrOf}
@@ -81,10 +81,16 @@ module _ {S : Type 0} (s : sources.Ghosts S) (old new : S) (first last : Script)
 
 -- ---- a fault that is passed on
 
+pub err_same : {A E : Type 0} (a b : E) → IsErrOf {T = A} (Err a) b → a ≡ b
+err_same a b same = cc
+
+pub ok_isnt : {A E : Type 0} {a : A} {e : E} → IsErrOf (Ok a) e → ⊥
+ok_isnt same = absurd cc
+
 pub err_is : {A : Type 0} (result : Result A Fault) (fault other : Fault) → IsErrAnd result (λ e. e ≡ fault) →
     IsErrOf result other → fault ≡ other
 err_is (Ok a) fault other is of = absurd is
-err_is (Err e) fault other is of = sym is ∙ of
+err_is (Err e) fault other is of = sym is ∙ err_same e other of
 
 pub status_passed : (P : Status → Type 0) (result : Result ℕ Fault) (fault : Fault) →
     IsErrAnd result (λ e. e ≡ fault) → P (Stopped fault) → P (status_of result)
@@ -101,6 +107,6 @@ passed_reads old new left left_new (Err e) fault is counts says stops = record {
   goes = tt;
   progress = tt;
   counts = counts;
-  taken = λ taken of. says taken (sym is ∙ of);
-  long = λ longer. is ∙ stops longer;
+  taken = λ taken of. says taken (sym is ∙ err_same e (ScriptTooLong taken) of);
+  long = λ longer. ap (λ (f : Fault). Err f) (is ∙ stops longer);
 }

@@ -68,7 +68,7 @@ pub returns-in_err-print_reply-clause-halts : goal.returns-in_err-print_reply-cl
 returns-in_err-print_reply-clause-halts g c =
     let out = c.args.out.now in
     passed_on (Halts g.K.Sink c.args.warehouse.now c.carry_out.new.self (event_of c.args.event.now) out out)
-    c.from_residual.result OutOfMemory c.from_residual.ensures.1
+    c.from_residual-in_err-print_reply.result OutOfMemory c.from_residual-in_err-print_reply.ensures.1
     (halts g (goal.at.returns-in_err-print_reply-clause-halts g c).After-carry_out OutOfMemory tt)
 
 -- the reply was printed, and a front of it written
@@ -88,6 +88,7 @@ returns-in_err-write_all-clause-halts g c =
       settled = stays.durable c.requires.settled;
       healthy = stays.still_healthy;
     } in
-    passed_on (Halts g.K.Sink old new event out out_new) c.from_residual.result Output c.from_residual.ensures.1
+    passed_on (Halts g.K.Sink old new event out out_new) c.from_residual-in_err-write_all.result Output
+    c.from_residual-in_err-write_all.ensures.1
     (halts_behind g.K.Sink old new event out out_new Output stays.stepped
     (λ told. open_stands g.met.D.Disk.only_now g.met.D.Disk.counts_now new ready (stays.told ∙ told)) writes rose)

@@ -1,5 +1,5 @@
-use Rattle.std.proofs.Common.{◌≡◌, ◌∙◌, None, refl, arith, rules}
-use Rattle.std.specs.Prelude.{option_map}
+use Rattle.std.proofs.Common.{◌≡◌, ◌∙◌, None, refl, ap, arith, rules}
+use Rattle.std.specs.Prelude.{option_map, Err}
 use Rattle.wh_journal.specs.Journal.{limit_of}
 use Rattle.wh_engine.specs.Warehouse.{machine_of}
 use Rattle.wh_shell.specs.Events.{events}
@@ -9,9 +9,11 @@ use Rattle.wh_shell.specs.Room.{reach_of}
 use Rattle.wh_shell.specs.Run.{StopsWhereTooLong}
 use Rattle.wh_shell.specs.Serving.{Stops}
 use Rattle.wh_shell.specs.World.{world_of}
+use Rattle.wh_shell.specs.declared.fault.Fault.{Fault}
 use Rattle.wh_shell.proofs.Progress.{goes_not_yet, goes_more, stops_more, serves_all}
 use Rattle.wh_shell.proofs.CauseLemmas.{passed_on}
 use Rattle.wh_shell.proofs.CountLemmas.{counts_none, counts_on, long_read, long_stop, status_passed}
+use Rattle.wh_shell.proofs.CountLemmas.{err_same, ok_isnt}
 use Rattle.wh_shell.proofs.Safety.{leaves_open, leaves_same, none_safely}
 use Rattle.wh_shell.proofs.serving.serve.Goals as goal
 
@@ -95,7 +97,8 @@ returns-in_err-found-clause-long g c =
     (long_stop g.S.Source c.args.script.now c.turn.new.script reader last c.new-reader.ensures.taken
     (counts_on reader c.turns.reader.script last left (g.S.Source.left c.turns.script) left_new
     c.turns.invariant.counts reads.counts)
-    why reads.long reads.taken)
+    why (λ longer. err_same why _ (reads.long longer))
+    (λ taken is. reads.taken taken (ap (λ (f : Fault). Err f) is)))
 
 -- ---- no event was left
 
@@ -126,4 +129,4 @@ returns-in_default-clause-long g c =
     long_read g.S.Source c.args.script.now c.turn.new.script reader last c.new-reader.ensures.taken
     (counts_on reader c.turns.reader.script last left (g.S.Source.left c.turns.script) left_new
     c.turns.invariant.counts reads.counts)
-    c.turns.refused (λ longer. reads.long longer)
+    c.turns.refused (λ longer. ok_isnt (reads.long longer))

@@ -9,7 +9,7 @@ use Rattle.wh_shell.specs.Reading.{unread}
 use Rattle.wh_shell.specs.Serving.{HaltsBy, Stops}
 use Rattle.wh_shell.specs.World.{world_of}
 use Rattle.wh_shell.proofs.CauseLemmas.{passed_on, script_cause, script_long, script_fills_none}
-use Rattle.wh_shell.proofs.CountLemmas.{passed_reads, err_is}
+use Rattle.wh_shell.proofs.CountLemmas.{passed_reads, err_is, err_same, ok_isnt}
 use Rattle.wh_shell.proofs.Progress.{answers_first, stops_first, stops_none}
 use Rattle.wh_shell.proofs.Safety.{leaves_open, leaves_same, none_safely}
 use Rattle.wh_shell.proofs.serving.turn.Goals as goal
@@ -34,8 +34,8 @@ returns-clause-reads g c = record {
   goes = c.in_ok-event.ensures.goes;
   progress = rw c.in-Some.is at c.in_ok-event.ensures.progress;
   counts = c.next.ensures.counts;
-  taken = λ taken is. absurd is;
-  long = λ longer. absurd (c.in_ok-event.ensures.long longer);
+  taken = λ taken is. absurd (ok_isnt is);
+  long = λ longer. absurd (ok_isnt (c.in_ok-event.ensures.long longer));
 }
 
 -- ---- no event was left
@@ -50,8 +50,8 @@ returns-in_default-clause-reads g c = record {
   goes = c.in_ok-event.ensures.goes;
   progress = tt;
   counts = c.next.ensures.counts;
-  taken = λ taken is. absurd is;
-  long = λ longer. absurd (c.in_ok-event.ensures.long longer);
+  taken = λ taken is. absurd (ok_isnt is);
+  long = λ longer. absurd (ok_isnt (c.in_ok-event.ensures.long longer));
 }
 
 -- ---- no event was read
@@ -83,7 +83,7 @@ returns-in_err-event-clause-reads g c =
     c.next.ensures.counts
     (λ taken is. script_long (Rose (g.S.Source.faults c.args.script.now) (g.S.Source.faults c.next.new.source))
     c.next.new.self.script fault taken is c.in_err-event.ensures.causes)
-    (λ longer. ap fault_of_script (c.in_err-event.ensures.long longer))
+    (λ longer. ap fault_of_script (err_same fault _ (c.in_err-event.ensures.long longer)))
 
 -- ---- the event is the first of what was left, and was stopped at
 
@@ -96,7 +96,8 @@ returns-in_err-refusals-clause-stopped g c =
     let left_new = unread c.next.new.self (g.S.Source.left c.next.new.source) in
     let why = c.in_err-refusals.field-0.0 in
     passed_on (Stops g.D.Disk g.S.Source g.K.Sink (point_of old left c.args.script.now c.args.out.now)
-    (world_of new.disk c.next.new.source c.answer.new.out)) c.from_residual.result why c.from_residual.ensures.1
+    (world_of new.disk c.next.new.source c.answer.new.out)) c.from_residual-in_err-refusals.result why
+    c.from_residual-in_err-refusals.ensures.1
     (stops_first g.K.Sink old new event left left_new c.args.script.now c.next.new.source c.args.out.now
     c.answer.new.out g.S.Source why (rw c.in-Some.is at c.in_ok-event.ensures.turn)
     (λ told. leaves_open old new (step (machine_of old) event).0.state c.requires.ready told
@@ -107,15 +108,16 @@ pub returns-in_err-refusals-clause-full : goal.returns-in_err-refusals-clause-fu
 returns-in_err-refusals-clause-full g c = λ len need is.
     let why = c.in_err-refusals.field-0.0 in
     (subst (HaltsBy g.K.Sink c.args.warehouse.now c.answer.new.warehouse (event_of c.in-Some.event) c.args.out.now
-    c.answer.new.out) (err_is c.from_residual.result why _ c.from_residual.ensures.1 is)
+    c.answer.new.out) (err_is c.from_residual-in_err-refusals.result why _ c.from_residual-in_err-refusals.ensures.1 is)
     c.in_err-refusals.ensures.halts.cause).1
 
 pub returns-in_err-refusals-clause-reads : goal.returns-in_err-refusals-clause-reads
 returns-in_err-refusals-clause-reads g c =
     let why = c.in_err-refusals.field-0.0 in
     passed_reads c.args.reader.now.script c.next.new.self.script (g.S.Source.left c.args.script.now)
-    (g.S.Source.left c.next.new.source) c.from_residual.result why c.from_residual.ensures.1
+    (g.S.Source.left c.next.new.source) c.from_residual-in_err-refusals.result why
+    c.from_residual-in_err-refusals.ensures.1
     c.next.ensures.counts
     (λ taken is. absurd (subst (HaltsBy g.K.Sink c.args.warehouse.now c.answer.new.warehouse
     (event_of c.in-Some.event) c.args.out.now c.answer.new.out) is c.in_err-refusals.ensures.halts.cause))
-    (λ longer. absurd (c.in_ok-event.ensures.long longer))
+    (λ longer. absurd (ok_isnt (c.in_ok-event.ensures.long longer)))
