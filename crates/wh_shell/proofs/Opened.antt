@@ -1,6 +1,6 @@
 -- A run whose file was opened.
 --     opened_runs     what it promises
-use Rattle.std.proofs.Common.{◌≡◌, inl, inr, ℕ, ◌+◌, ◌<◌, List, ◌++◌, length, Option, Some, sym, ap, ◌∙◌, subst}
+use Rattle.std.proofs.Common.{◌≡◌, inl, inr, ℕ, ◌+◌, ◌<◌, List, ◌++◌, length, Option, Some, sym, ap, ◌∙◌, subst, refl}
 use Rattle.std.proofs.Common.{arith, option_map}
 use Rattle.std.specs.Prelude.{◌≢◌, is_some}
 use Rattle.wh_frame.specs.File.{IsFileOf}
