@@ -147,7 +147,7 @@ query_of_cores q names next cores (Err x) e h = h
 
 named_is : (name : Name) (alias : Option Name) (names : List Named) (number : ℕ)
     → (source_part (FromItem.Named name alias)).reading names number ≡ named_source name names number
-unfolding source_part source_step FromItem.out-Source denote.Hole.Carrier.out
+unfolding source_part source_step FromItem.out-FromItem denote.Hole.Carrier.out
 named_is name alias names number = ap (λ (p : SourcePart). p.reading names number) (fold_out-FromItem SourcePart
     QueryReading JoinPart QueryReading source_step core_step join_step query_step (FromItem.Named name alias))
 
