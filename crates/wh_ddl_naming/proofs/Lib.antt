@@ -1,1 +1,3 @@
 pub mod KnownStatements
+pub mod QueryLaws
+pub mod NameLaws

@@ -5,3 +5,4 @@ pub mod Streams
 pub mod Tasks
 pub mod DynamicTables
 pub mod Statements
+pub mod Names

@@ -1,3 +1,7 @@
-//! What statements about objects stand for, as definitions that no code shares. All of it is in
-//! `specs/` and `proofs/`.
+//! What statements about objects stand for, and the names that a statement writes. The meanings
+//! are definitions that no code shares, in `specs/`.
 #![tactic(auto)]
+
+mod names;
+
+pub use names::names_in;
