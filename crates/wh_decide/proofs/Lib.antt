@@ -11,7 +11,6 @@ mod ReadingLemmas
 mod NamingLemmas
 mod ChangeLemmas
 mod QueryLemmas
-mod ObjectLemmas
 mod LookupLaws
 mod RequestLemmas
 mod CommandLemmas

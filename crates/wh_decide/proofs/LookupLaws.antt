@@ -1,22 +1,13 @@
 -- Names that are looked up one by one.
---     bound_alike, found_bound     what a statement of one name stands for hangs on the object of that name alone
---     found_alone                  that object, where it is the only one
---     place_named, none_named      it is found by its place among all objects
+--     place_named, none_named              the object of a name is found by its place among all objects
 --     not_named, not_lost, is_named_so     so by the catalog's ids
 use Rattle.std.proofs.Common.{◌≡◌, ℕ, suc, ◌+◌, Bool, true, false, cond, ◌&&◌, List, [], ◌∷◌, ◌++◌, Option, Some, None}
 use Rattle.std.proofs.Common.{option_map, slice_get, refl, sym, ap, subst, ◌∙◌, arith}
-use Rattle.std.specs.Prelude.{bytes_eq, option_to_list, if◌then◌else◌}
-use Rattle.std.specs.Option.{option_and_then}
+use Rattle.std.specs.Prelude.{bytes_eq, if◌then◌else◌}
 use Rattle.std.specs.List.{position, position_from}
 use Rattle.std.proofs.lemmas.Iterator.Adapters.{position_from-zero}
-use Rattle.wh_ast.specs.declared.dml.Dml.TheVariants as dml
-use Rattle.wh_ast.specs.declared.dml.Rows.TheVariants as rows
-use Rattle.wh_ast.specs.declared.statement.Statement.{Statement}
-use Rattle.wh_ast.specs.declared.statement.Statement.TheVariants as st
 use Rattle.wh_naming.specs.Findings.{Name}
 use Rattle.wh_naming.specs.Scope.{Named, named}
-use Rattle.wh_naming.specs.Changes.{bound_change}
-use Rattle.wh_ddl_naming.specs.Statements.{bound}
 use Rattle.wh_state.specs.State.{Object, at_id, id_of, is_named}
 use Rattle.wh_machine.specs.Names.{named_object, names_from}
 use Rattle.wh_state.specs.Stored.{object_meant}
@@ -26,47 +17,9 @@ use Rattle.wh_catalog.specs.Object.{kept_object}
 use Rattle.wh_catalog.specs.Catalog.{stored_of, state_of}
 use Rattle.wh_catalog.specs.declared.catalog.Catalog.{Catalog}
 use Rattle.wh_catalog.specs.declared.object.StoredObject.{StoredObject}
-use Rattle.wh_decide.specs.Names.{object_of, over, name_in, has_more_names}
+use Rattle.wh_decide.specs.Names.{object_of}
 use Rattle.wh_txn.proofs.SeenLemmas.{objects_are}
 use Rattle.wh_decide.proofs.CatalogLemmas.{object_there}
-
--- ---- by one name
-
-pub bound_alike : (s : Statement) (a b : List Named) → has_more_names s ≡ false
-    → ((n : Name) → name_in s ≡ Some n → named a n ≡ named b n)
-    → bound (over a) s ≡ bound (over b) s
-unfolding bound bound_change
-bound_alike (st.HasData stream) a b few same = rw (same stream refl) refl
-bound_alike (st.Dml (dml.Insert table listed (rows.Values found))) a b few same = rw (same table refl) refl
-bound_alike (st.Dml (dml.Update table parts filter)) a b few same = rw (same table refl) refl
-bound_alike (st.Dml (dml.Delete table filter)) a b few same = rw (same table refl) refl
-bound_alike (st.CreateTable t) a b few same = rw (same t.name refl) refl
-bound_alike (st.DropTable table) a b few same = rw (same table refl) refl
-bound_alike (st.DropStream stream) a b few same = rw (same stream refl) refl
-bound_alike st.Begin a b few same = refl
-bound_alike st.Commit a b few same = refl
-bound_alike st.Rollback a b few same = refl
-bound_alike _ a b few same = absurd cc
-
--- ---- the object of a name
-
--- by whether it is the first one's
-by_first : (o : Named) (n : Name) (found : Option Named) (is : Bool) → bytes_eq o.name n ≡ is
-    → named (option_to_list found) n ≡ found
-    → named (option_to_list (cond is (Some o) found)) n ≡ cond is (Some o) found
-by_first o n found true is h = rw is refl
-by_first o n found false is h = h
-
-pub found_alone : (all : List Named) (n : Name) → named (option_to_list (named all n)) n ≡ named all n
-found_alone [] n = refl
-found_alone (o ∷ os) n = by_first o n (named os n) (bytes_eq o.name n) refl (found_alone os n)
-
-pub found_bound : (s : Statement) (all names : List Named) (found : Option Named) → has_more_names s ≡ false
-    → found ≡ option_and_then (named all) (name_in s) → names ≡ option_to_list found
-    → bound (over names) s ≡ bound (over all) s
-found_bound s all names found few is listed = bound_alike s names all few (λ n e.
-    let one : found ≡ named all n = is ∙ ap (option_and_then (named all)) e in
-    ap (λ (os : List Named). named os n) (listed ∙ ap option_to_list one) ∙ found_alone all n)
 
 -- ---- by its place
 
