@@ -1,7 +1,9 @@
 -- The names of objects that a statement writes, in the order of the text.
+--     names_at                      the names that references point to
+--     all_names                     the names of parts, one after the other
 --     names_in_source, names_in_join, names_in_core, names_in_query     of a layer of a query, over those of its parts
---     source_names, query_names     of an entry of FROM, and of a whole query
---     changed_names                 of a changing statement
+--     source_names, join_names, core_names, query_names                 of an entry of FROM, and so on to a whole query
+--     names_in_rows, changed_names  of the rows of INSERT, and of a changing statement
 --     names_of                      of a statement
 --     looked_up                     of each name the object that has it, where there is one
 use Rattle.std.specs.Prelude.{List, [], ◌∷◌, ◌++◌, map, filter_map}
@@ -21,13 +23,11 @@ use Rattle.wh_ast.specs.declared.statement.Statement.TheVariants as written
 use Rattle.wh_naming.specs.Findings.{Name}
 use Rattle.wh_naming.specs.Scope.{Named, named}
 
--- the names that references point to
 abbrev pub names_at : List (Bor Name) → List Name
 names_at names = map (λ name. name.now) names
 
 -- ---- a query
 
--- of parts, one after the other
 abbrev pub all_names : List (List Name) → List Name
 all_names parts = flat_map (λ names. names) parts
 
