@@ -1,22 +1,14 @@
--- What contracts say of an effect on a table.
---     IsCountOf       how many rows it adds, changes and removes
+-- What contracts say of a change.
 --     is_insert       a change that looks at no row of its target
 --     comes_to        what a change comes to in a session
-use Rattle.std.specs.Prelude.{◌≡◌, Bool, true, false, length}
+use Rattle.std.specs.Prelude.{Bool, true, false}
 use Rattle.wh_naming.specs.Changes.{Modification, InsertRows, InsertQuery}
-use Rattle.wh_effect.specs.Effect.{Effect}
 use Rattle.wh_machine.specs.Changes.{Changed}
 use Rattle.wh_machine.specs.Sessions.{transaction_in}
 use Rattle.wh_machine.specs.Outcome.{Outcome}
 use Rattle.wh_machine.specs.Statements.{changes_in}
 use Rattle.wh_decide.specs.declared.sight.Sight.{Sight}
-use Rattle.wh_decide.specs.declared.settling.Counts.{Counts}
 use Rattle.wh_decide.specs.Sight.{machine_in}
-
-pub record IsCountOf (c : Counts) (e : Effect) : Type 0 where
-  pub inserted : c.inserted ≡ length e.added
-  pub updated : c.updated ≡ length e.changed
-  pub deleted : c.deleted ≡ length e.removed
 
 abbrev pub is_insert : Modification → Bool
 is_insert (InsertRows rows) = true

@@ -1,6 +1,5 @@
 ghost use Rattle.std.specs.Prelude.{◌≡◌, ℕ, Some, None, IfOk};
-ghost use Rattle.wh_reply.specs.View.{reply_view};
-ghost use Rattle.wh_effect.specs.Effect as effects;
+ghost use Rattle.wh_reply.specs.View.{counts_view};
 ghost use Rattle.wh_bound_change.specs.View as changes;
 ghost use Rattle.wh_dml.specs.View.{effect_of};
 ghost use Rattle.wh_state.specs.Stored.{Stored};
@@ -12,14 +11,13 @@ ghost use Rattle.wh_machine.specs.Outcome.{Does};
 ghost use Rattle.wh_machine.specs.Statements.{recorded};
 ghost use Rattle.wh_decide.specs.Decision.{Decides};
 ghost use Rattle.wh_decide.specs.Sight.{machine_in, Comes};
-ghost use Rattle.wh_decide.specs.Changes.{IsCountOf};
 
 use crate::decision::{Decision, Settlement};
 use crate::sight::Sight;
 use std::alloc::{AllocError, Global};
 use wh_bound_change::{BoundChange, Modification};
 use wh_dml::Effect;
-use wh_reply::{Refusal, Reply};
+use wh_reply::{Counts, Refusal, Reply};
 use wh_txn::{RecordFault, lone_commit};
 
 // What an effect on the target comes to outside of a transaction, by a statement that reads these
@@ -37,15 +35,15 @@ pub(crate) fn alone(
         (staged_in_state (machine_in sight.now).state (begun sight.now.stamp) bound.now.target
         streams.now (effect_of effect)))) }
 {
-    let counts = counts_of(&effect);
+    let counts = counts_of(&bound.change, &effect);
     let id = bound.target;
     match lone_commit(alloc, sight.catalog, sight.stamp, id, streams, effect) {
         Ok(Some(commit)) => Ok(Decision::Do {
-            reply: reply_to(&bound.change, counts),
+            reply: Reply::Changed(counts),
             settlement: Settlement::Commits(commit),
         }),
         Ok(None) => Ok(Decision::Do {
-            reply: reply_to(&bound.change, counts),
+            reply: Reply::Changed(counts),
             settlement: Settlement::Answers,
         }),
         Err(RecordFault::Limit { which, .. }) => Ok(Decision::Refuse(Refusal::OverLimit(which))),
@@ -69,7 +67,7 @@ pub(crate) fn staged(
         (transactions.staged t bound.now.target streams.items next_row (effect_of effect))) None) }
 {
     Decision::Do {
-        reply: reply_to(&bound.change, counts_of(&effect)),
+        reply: Reply::Changed(counts_of(&bound.change, &effect)),
         settlement: Settlement::Stages {
             session,
             id: bound.target,
@@ -80,38 +78,19 @@ pub(crate) fn staged(
     }
 }
 
-// How many rows an effect adds, changes and removes.
-#[derive(Clone, Copy, Debug)]
-pub(crate) struct Counts {
-    inserted: u64,
-    updated: u64,
-    deleted: u64,
-}
-
-fn counts_of(effect: &Effect) -> Counts
-    ensures { IsCountOf result (effect_of effect.now) }
+// How many rows a change with that effect is told to have changed.
+fn counts_of(change: &Modification, effect: &Effect) -> Counts
+    ensures { counts_view result
+        ≡ replies.counts_of (changes.change_of change.now) (effect_of effect.now) }
 {
-    Counts {
-        inserted: effect.added.len() as u64,
-        updated: effect.changed.len() as u64,
-        deleted: effect.removed.len() as u64,
-    }
-}
-
-fn reply_to(change: &Modification, counts: Counts) -> Reply
-    ensures { (e : effects.Effect) → IsCountOf counts e
-        → reply_view result ≡ replies.reply_to (changes.change_of change.now) e }
-{
-    let Counts {
-        inserted,
-        updated,
-        deleted,
-    } = counts;
+    let inserted = effect.added.len() as u64;
+    let updated = effect.changed.len() as u64;
+    let deleted = effect.removed.len() as u64;
     match change {
-        Modification::InsertRows(_) | Modification::InsertQuery(_, _) => Reply::Inserted(inserted),
-        Modification::Update(_, _) => Reply::Updated(updated),
-        Modification::Delete(_) => Reply::Deleted(deleted),
-        Modification::Merge(_, _, _) => Reply::Merged {
+        Modification::InsertRows(_) | Modification::InsertQuery(_, _) => Counts::Inserted(inserted),
+        Modification::Update(_, _) => Counts::Updated(updated),
+        Modification::Delete(_) => Counts::Deleted(deleted),
+        Modification::Merge(_, _, _) => Counts::Merged {
             inserted,
             updated,
             deleted,

@@ -16,7 +16,7 @@ use Rattle.wh_naming.specs.Typing as typing
 use Rattle.wh_naming.specs.Changes.{bound_change, condition_of}
 use Rattle.wh_naming.proofs.Written.{layers, number, null, column, equal, plus}
 use Rattle.wh_effect.specs.Effect.{effect}
-use Rattle.wh_reply.specs.Reply.{Reply, NumberOutOfRange, Inserted, Updated, Deleted}
+use Rattle.wh_reply.specs.Reply.{Reply, NumberOutOfRange, Changed, Inserted, Updated, Deleted}
 use Rattle.wh_state.specs.Edits.{edits_from, later_edits, partitions_made}
 use Rattle.wh_state.specs.Act.{Act, EditsRows}
 use Rattle.wh_state.proofs.KnownMaps.{map_steps}
@@ -53,36 +53,37 @@ update x filter = dml.Update (codes "T") ((record { column = codes "K"; value = 
 
 -- the row of the condition goes; without one all go
 deleted : (outcome (delete (Some (is_k 7)))
-    ≡ commits (Deleted 1) (EditsRows 1 (record { rows = insert empty 2 None; added = [] }) ∷ []))
+    ≡ commits (Changed (Deleted 1)) (EditsRows 1 (record { rows = insert empty 2 None; added = [] }) ∷ []))
     × (outcome (delete None)
-    ≡ commits (Deleted 2) (EditsRows 1 (record { rows = insert (insert empty 1 None) 2 None; added = [] }) ∷ []))
+    ≡ commits (Changed (Deleted 2))
+    (EditsRows 1 (record { rows = insert (insert empty 1 None) 2 None; added = [] }) ∷ []))
 unfolding changes_rows acts_of past_limit staged later_edits seen reading_refusal bound_change first_failing column_at
     typing.step effect values_on val partitions_made edits_from
 deleted = (simp steps, simp steps)
 
 -- also where the new row is an equal one
 updated : (outcome (update (plus (column (codes "K")) (number 1)) (Some (is_k 7)))
-    ≡ commits (Updated 1) (EditsRows 1 (record { rows = insert empty 2 (Some (row 8)); added = [] }) ∷ []))
-    × (outcome (update (number 5) None) ≡ commits (Updated 2)
+    ≡ commits (Changed (Updated 1)) (EditsRows 1 (record { rows = insert empty 2 (Some (row 8)); added = [] }) ∷ []))
+    × (outcome (update (number 5) None) ≡ commits (Changed (Updated 2))
     (EditsRows 1 (record { rows = insert (insert empty 1 (Some (row 5))) 2 (Some (row 5)); added = [] }) ∷ []))
 unfolding changes_rows acts_of past_limit staged later_edits seen reading_refusal bound_change first_failing column_at
     typing.step effect values_on val partitions_made edits_from
 updated = (simp steps, simp steps)
 
 added : outcome (dml.Insert (codes "T") None (rows.Values ((number 5 ∷ []) ∷ [])))
-    ≡ commits (Inserted 1) (EditsRows 1 (record { rows = empty; added = row 5 ∷ [] }) ∷ [])
+    ≡ commits (Changed (Inserted 1)) (EditsRows 1 (record { rows = empty; added = row 5 ∷ [] }) ∷ [])
 unfolding changes_rows acts_of past_limit staged later_edits seen reading_refusal bound_change first_failing column_at
     typing.step effect values_on val partitions_made edits_from
 added = simp steps
 
-none_counts : (outcome (delete (Some (is_k 6))) ≡ answers (Deleted 0))
-    × (outcome (update (number 9) (Some (is_k 6))) ≡ answers (Updated 0))
+none_counts : (outcome (delete (Some (is_k 6))) ≡ answers (Changed (Deleted 0)))
+    × (outcome (update (number 9) (Some (is_k 6))) ≡ answers (Changed (Updated 0)))
 unfolding changes_rows acts_of past_limit staged later_edits seen reading_refusal bound_change first_failing column_at
     typing.step effect values_on val partitions_made edits_from
 none_counts = (simp steps, simp steps)
 
 -- a condition that is NULL holds on no row; one that is undefined on a row leaves no outcome
-no_value : (outcome (delete (Some (equal (column (codes "K")) null))) ≡ answers (Deleted 0))
+no_value : (outcome (delete (Some (equal (column (codes "K")) null))) ≡ answers (Changed (Deleted 0)))
     × (outcome (delete (Some (equal (plus (column (codes "K")) (number 999999999999999994)) (number 0))))
     ≡ Refuses NumberOutOfRange)
 unfolding changes_rows acts_of past_limit staged later_edits seen reading_refusal bound_change first_failing column_at

@@ -27,7 +27,7 @@ use Rattle.wh_naming.specs.Typing as typing
 use Rattle.wh_naming.specs.Typing.{Context, Reading, typed}
 use Rattle.wh_naming.specs.Changes.{bound_change}
 use Rattle.wh_effect.specs.Effect.{effect}
-use Rattle.wh_reply.specs.Reply.{Refused, NoSuchSession, TypeMismatch, OverLimit, Inserted, Begun, print}
+use Rattle.wh_reply.specs.Reply.{Refused, NoSuchSession, TypeMismatch, OverLimit, Changed, Inserted, Begun, print}
 use Rattle.wh_state.specs.State.{first_state}
 use Rattle.wh_state.specs.Edits.{edits_from, later_edits, partitions_made}
 use Rattle.wh_state.specs.Act.{EditsRows, edited_table}
@@ -197,7 +197,7 @@ changed statement = changes_rows created 1 (change_in created statement)
 
 -- it takes one value for each column, of its type or NULL
 rows_fit : (changed (insertion_of ((null ∷ []) ∷ (number 1 ∷ []) ∷ []))
-    ≡ Does (Inserted 2) no_sessions (Some (EditsRows 1 (record {
+    ≡ Does (Changed (Inserted 2)) no_sessions (Some (EditsRows 1 (record {
       rows = empty;
       added = (Null ∷ []) ∷ (Number (pos 1) ∷ []) ∷ [];
     }) ∷ [])))

@@ -21,7 +21,8 @@ use Rattle.wh_naming.specs.Select.{QueryReading, source_step, core_step, query_s
 use Rattle.wh_naming.specs.Changes.{target_at, insert_query, bound_change}
 use Rattle.wh_naming.proofs.Written.{WrittenQuery, layers, k, name_s, only, column, object, select}
 use Rattle.wh_effect.specs.Effect.{effect}
-use Rattle.wh_reply.specs.Reply.{SourceGone, StaleStream, Locked, HasData, Inserted, Committed, Listing, print}
+use Rattle.wh_reply.specs.Reply.{SourceGone, StaleStream, Locked, HasData, Changed, Inserted, Committed, Listing}
+use Rattle.wh_reply.specs.Reply.{print}
 use Rattle.wh_state.specs.State.{Table, Stream, Object, TableKind, StreamKind, new_object, dropped, nothing_held}
 use Rattle.wh_state.specs.State.{version_at, new_stream}
 use Rattle.wh_state.specs.Edits.{Edits, edits_from, later_edits, partitions_made}
@@ -120,7 +121,7 @@ one_row = record { rows = empty; added = row 7 ∷ [] }
 
 -- its start is the stamp before its own
 a_change_moves_the_offset_at_once : moved_on (machine no_sessions) 1
-    ≡ Does (Inserted 1) no_sessions (Some (EditsRows 3 one_row ∷ MovesOffset 2 5 ∷ []))
+    ≡ Does (Changed (Inserted 1)) no_sessions (Some (EditsRows 3 one_row ∷ MovesOffset 2 5 ∷ []))
 unfolding seen reading_refusal shown net digits first_failing source_step core_step query_step typing.step column_at
     eval listed fold_bag val values_on effect staged later_edits acts_of past_limit edits_from
     partitions_made
@@ -139,7 +140,7 @@ holding = record {
 }
 
 a_stream_is_held : moved_on (machine in_transaction) 1
-    ≡ Does (Inserted 1) (with_transaction no_sessions 1 holding) None
+    ≡ Does (Changed (Inserted 1)) (with_transaction no_sessions 1 holding) None
 unfolding seen reading_refusal shown net digits first_failing source_step core_step query_step typing.step column_at
     eval listed fold_bag val values_on effect staged later_edits edits_from
 a_stream_is_held = insert_read (machine in_transaction) 1 _ (simp steps)

@@ -13,7 +13,7 @@ use Rattle.wh_naming.specs.Changes.{InsertRows, Update, Delete, Merge}
 use Rattle.wh_effect.specs.Effect as effects
 use Rattle.wh_effect.specs.Effect.{Effect}
 use Rattle.wh_reply.specs.Reply.{Refusal, NameTaken, TypeMismatch, OverLimit, NumberOutOfRange, AmbiguousMerge}
-use Rattle.wh_reply.specs.Reply.{Inserted, Updated, Deleted, Merged, refusal_text}
+use Rattle.wh_reply.specs.Reply.{Changed, Inserted, Updated, Deleted, Merged, refusal_text}
 use Rattle.wh_value.specs.View.{column_of}
 use Rattle.wh_value.specs.declared.column.Column as columns
 use Rattle.wh_value.specs.declared.column.ColumnType.TheVariants as types
@@ -149,8 +149,8 @@ does_alone table rows =
 numbers_tested : (does_alone (next_at 4611686018427387904 4611686018427387904) one
     ≡ Refuses (OverLimit limits.RowNumber))
     × (does_alone (next_at 1 4611686018427387904) one ≡ Refuses (OverLimit limits.PartitionNumber))
-    × (does_alone (next_at 4611686018427387904 4611686018427387904) [] ≡ Does (Inserted 0) no_sessions None)
-    × (does_alone (next_at 4611686018427387903 4611686018427387903) one ≡ Does (Inserted 1) no_sessions
+    × (does_alone (next_at 4611686018427387904 4611686018427387904) [] ≡ Does (Changed (Inserted 0)) no_sessions None)
+    × (does_alone (next_at 4611686018427387903 4611686018427387903) one ≡ Does (Changed (Inserted 1)) no_sessions
     (Some (EditsRows 1 (record { rows = empty; added = one }) ∷ [])))
 unfolding acts_of past_limit staged later_edits partitions_made edits_from
 numbers_tested = (simp map_steps, simp map_steps, simp map_steps, simp map_steps)
@@ -165,9 +165,10 @@ given_as = (refl, refl, refl)
 abbrev of_all : Effect
 of_all = record { removed = 4 ∷ 5 ∷ []; changed = (6, Null ∷ []) ∷ []; added = one }
 
-counts_told : (reply_to (InsertRows []) of_all ≡ Inserted 1) × (reply_to (Update (Const Null) []) of_all ≡ Updated 1)
-    × (reply_to (Delete (Const Null)) of_all ≡ Deleted 2)
-    × (reply_to (Merge (Scan 0) (Const Null) []) of_all ≡ Merged 1 1 2)
+counts_told : (reply_to (InsertRows []) of_all ≡ Changed (Inserted 1))
+    × (reply_to (Update (Const Null) []) of_all ≡ Changed (Updated 1))
+    × (reply_to (Delete (Const Null)) of_all ≡ Changed (Deleted 2))
+    × (reply_to (Merge (Scan 0) (Const Null) []) of_all ≡ Changed (Merged 1 1 2))
 counts_told = (refl, refl, refl, refl)
 
 edits_are : edits_of of_all

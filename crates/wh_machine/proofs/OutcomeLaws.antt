@@ -10,7 +10,7 @@ use Rattle.wh_grammar.specs.Spelled.{Request, TooLong, Unreadable, Asked}
 use Rattle.wh_meaning.specs.Bag.{Bag}
 use Rattle.wh_meaning.specs.Query.{eval}
 use Rattle.wh_meaning.specs.Listing.{listed}
-use Rattle.wh_naming.specs.Changes.{BoundChange, Modification, InsertRows, InsertQuery, Update, Delete, Merge}
+use Rattle.wh_naming.specs.Changes.{BoundChange, Modification}
 use Rattle.wh_naming.specs.Select.{BoundSelect}
 use Rattle.wh_effect.specs.Effect as effects
 use Rattle.wh_effect.specs.Effect.{Effect}
@@ -79,13 +79,6 @@ unfolding defines
 definition m session old o holds = tested m _ _ (tested_last m _ _ holds)
 
 -- ---- changes of rows
-
-no_refusal : (change : Modification) (e : Effect) → is_refusal (reply_to change e) ≡ false
-no_refusal (InsertRows rows) e = refl
-no_refusal (InsertQuery query parts) e = refl
-no_refusal (Update condition parts) e = refl
-no_refusal (Delete condition) e = refl
-no_refusal (Merge source on clauses) e = refl
 
 -- that of a session began by the last stamp, as all did
 pub begun_in : (last : ℕ) (sessions : Sessions) (session : ℕ) → AreBegun last sessions
@@ -187,9 +180,9 @@ changed_holds m session None is streams (Gives id read change e) free =
     subst (λ (ids : List ℕ). IsLawful m (with_streams ids []) (changes_in m session None (Gives id read change e)))
     free.0
     (recorded_holds m (reply_to change e) m.sessions (staged_in_state m.state (begun m.state.last) id read e)
-    (no_refusal change e) (same_sessions m) (λ begun. omega arith) (free_alone m session read is free.1))
+    refl (same_sessions m) (λ begun. omega arith) (free_alone m session read is free.1))
 changed_holds m session (Some t) is streams (Gives id read change e) free =
-    does m (reply_to change e) _ None (no_refusal change e) (record {
+    does m (reply_to change e) _ None refl (record {
       begun = λ begun. begun_with m.state.last m.sessions session _ begun
           (subst (IsBegun m.state.last) is (begun_in m.state.last m.sessions session begun));
       apart = apart_staged m.sessions session id (next_row_of (table_at m.state.objects id)) read t e is free.1;

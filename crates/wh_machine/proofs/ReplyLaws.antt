@@ -9,10 +9,11 @@ use Rattle.std.proofs.Common.{List, [], ◌∷◌, ◌++◌, length, refl, sym, 
 use Rattle.std.specs.Prelude.{codes, decimal}
 use Rattle.std.specs.List.{flat_map}
 use Rattle.std.proofs.lemmas.Bool.{le-leb, lt-leb}
-use Rattle.wh_reply.specs.Reply.{Reply, CreatedTable, DroppedTable, CreatedStream, DroppedStream, HasData, Inserted}
-use Rattle.wh_reply.specs.Reply.{Updated, Deleted, Merged, Begun, Committed, CommittedNothing, RolledBack, Listing}
-use Rattle.wh_reply.specs.Reply.{Idle}
-use Rattle.wh_reply.specs.Reply.{Refused, line, parted, row_line, refusal_text, truth_text, print}
+use Rattle.wh_reply.specs.Reply.{Reply, CreatedTable, DroppedTable, CreatedStream, DroppedStream, CreatedTask}
+use Rattle.wh_reply.specs.Reply.{DroppedTask, Resumed, Suspended, Started, TaskSucceeded, TaskSkipped, TaskFailed}
+use Rattle.wh_reply.specs.Reply.{HasData, Changed, Begun, Committed, CommittedNothing, RolledBack, Listing, Idle}
+use Rattle.wh_reply.specs.Reply.{Refused, line, parted, row_line, refusal_text, counts_text, truth_text, print}
+use Rattle.wh_reply.specs.Reply.{aftermath_lines}
 use Rattle.wh_machine.specs.Outcome.{Machine}
 use Rattle.wh_machine.specs.Step.{Event, step, after, text, refusals}
 use Rattle.wh_machine.specs.Stop.{whole_replies}
@@ -23,6 +24,13 @@ ends_some front back some = omega (arith, length-append front back)
 line_some : (bytes : List ℕ) → 0 < length (line bytes)
 line_some bytes = ends_some bytes (10 ∷ []) (omega arith)
 
+begins_some : (front back : List ℕ) → 0 < length front → 0 < length (front ++ back)
+begins_some front back some = omega (arith, length-append front back)
+
+-- a line and more
+lines_some : (bytes more : List ℕ) → 0 < length (line bytes ++ more)
+lines_some bytes more = begins_some (line bytes) more (line_some bytes)
+
 -- a reply is never empty
 pub print_some : (r : Reply) → 0 < length (print r)
 unfolding print
@@ -30,13 +38,19 @@ print_some (CreatedTable name) = line_some (codes "CREATED TABLE " ++ name)
 print_some (DroppedTable name) = line_some (codes "DROPPED TABLE " ++ name)
 print_some (CreatedStream name) = line_some (codes "CREATED STREAM " ++ name)
 print_some (DroppedStream name) = line_some (codes "DROPPED STREAM " ++ name)
+print_some (CreatedTask name) = line_some (codes "CREATED TASK " ++ name)
+print_some (DroppedTask name) = line_some (codes "DROPPED TASK " ++ name)
+print_some (Resumed name) = line_some (codes "RESUMED " ++ name)
+print_some (Suspended name) = line_some (codes "SUSPENDED " ++ name)
+print_some (Started root) = line_some (codes "STARTED " ++ root)
+print_some (TaskSucceeded name counts aftermath) =
+    lines_some (codes "TASK " ++ name ++ codes " SUCCEEDED " ++ counts_text counts) (aftermath_lines aftermath)
+print_some (TaskSkipped name aftermath) =
+    lines_some (codes "TASK " ++ name ++ codes " SKIPPED") (aftermath_lines aftermath)
+print_some (TaskFailed name why aftermath) =
+    lines_some (codes "TASK " ++ name ++ codes " FAILED " ++ refusal_text why) (aftermath_lines aftermath)
 print_some (HasData has) = line_some (truth_text has)
-print_some (Inserted count) = line_some (codes "INSERTED " ++ decimal count)
-print_some (Updated count) = line_some (codes "UPDATED " ++ decimal count)
-print_some (Deleted count) = line_some (codes "DELETED " ++ decimal count)
-print_some (Merged inserted updated deleted) =
-    line_some (codes "MERGED " ++ decimal inserted ++ codes " INSERTED " ++ decimal updated ++ codes " UPDATED "
-    ++ decimal deleted ++ codes " DELETED")
+print_some (Changed counts) = line_some (counts_text counts)
 print_some (Begun number) = line_some (codes "BEGUN " ++ decimal number)
 print_some (Committed stamp) = line_some (codes "COMMITTED " ++ decimal stamp)
 print_some CommittedNothing = line_some (codes "COMMITTED NOTHING")

@@ -6,8 +6,9 @@ use Rattle.std.specs.Prelude.{ℕ, ◌+◌, List, length, Option, Some, None}
 use Rattle.std.specs.FinMap.{entries}
 use Rattle.wh_value.specs.Value.{Row}
 use Rattle.wh_naming.specs.Changes.{BoundChange, Modification, InsertRows, InsertQuery, Update, Delete, Merge}
-use Rattle.wh_reply.specs.Reply.{Refusal, Reply, TypeMismatch, NumberOutOfRange, AmbiguousMerge, Inserted, Updated}
-use Rattle.wh_reply.specs.Reply.{Deleted, Merged}
+use Rattle.wh_reply.specs.Reply as replies
+use Rattle.wh_reply.specs.Reply.{Refusal, Reply, TypeMismatch, NumberOutOfRange, AmbiguousMerge}
+use Rattle.wh_reply.specs.Reply.{Counts, Inserted, Updated, Deleted, Merged}
 use Rattle.wh_meaning.specs.Query.{Instance}
 use Rattle.wh_effect.specs.Effect as effects
 use Rattle.wh_effect.specs.Effect.{Effect, effect}
@@ -25,12 +26,16 @@ rows_seen t = entries (last_rows t)
 abbrev pub counted : Effect → ℕ
 counted e = length e.added + length e.changed + length e.removed
 
+-- how many rows the statement is told to have changed
+abbrev pub counts_of : Modification → Effect → Counts
+counts_of (InsertRows rows) e = Inserted (length e.added)
+counts_of (InsertQuery query parts) e = Inserted (length e.added)
+counts_of (Update condition parts) e = Updated (length e.changed)
+counts_of (Delete condition) e = Deleted (length e.removed)
+counts_of (Merge source on clauses) e = Merged (length e.added) (length e.changed) (length e.removed)
+
 abbrev pub reply_to : Modification → Effect → Reply
-reply_to (InsertRows rows) e = Inserted (length e.added)
-reply_to (InsertQuery query parts) e = Inserted (length e.added)
-reply_to (Update condition parts) e = Updated (length e.changed)
-reply_to (Delete condition) e = Deleted (length e.removed)
-reply_to (Merge source on clauses) e = Merged (length e.added) (length e.changed) (length e.removed)
+reply_to change e = replies.Changed (counts_of change e)
 
 -- ---- what a change comes to before its numbers are tested
 

@@ -1,7 +1,10 @@
 -- Replies, and their text.
 --     Refusal, Reply     what is answered to an event
---     print              its lines
-use Rattle.std.specs.Prelude.{ℕ, Bool, true, false, List, [], ◌∷◌, ◌++◌, length, map, codes, decimal}
+--     Counts             how many rows a statement changed
+--     Aftermath          what else the end of a task does, GraphEnd with it
+--     print              the lines of a reply
+use Rattle.std.specs.Prelude.{ℕ, Bool, true, false, List, [], ◌∷◌, ◌++◌, length, map, Option, Some, None}
+use Rattle.std.specs.Prelude.{codes, decimal}
 use Rattle.std.specs.List.{flat_map, join_by}
 use Rattle.wh_value.specs.Value.{Row, literal}
 use Rattle.wh_value.specs.Limit.{bound}
@@ -20,6 +23,12 @@ pub data Refusal : Type 0 where
   NameTaken : (name : List ℕ) → Refusal
   WrongKind : (name : List ℕ) → Refusal
   TypeMismatch : Refusal
+  -- a root that has a run under way
+  RootRunning : (root : List ℕ) → Refusal
+  -- a root that is resumed
+  RootNotSuspended : (root : List ℕ) → Refusal
+  -- a task that follows the one that would be dropped
+  HasChildren : (child : List ℕ) → Refusal
   OverLimit : Limit → Refusal
   -- a stream whose source was dropped or replaced
   SourceGone : (name : List ℕ) → Refusal
@@ -31,17 +40,44 @@ pub data Refusal : Type 0 where
   -- a row of the target that several source rows would change
   AmbiguousMerge : Row → Refusal
 
+-- what a statement changed
+pub data Counts : Type 0 where
+  Inserted : (count : ℕ) → Counts
+  Updated : (count : ℕ) → Counts
+  Deleted : (count : ℕ) → Counts
+  Merged : (inserted updated deleted : ℕ) → Counts
+
+-- how a run of a graph ended
+pub record GraphEnd : Type 0 where
+  pub root : List ℕ
+  pub has_failed : Bool
+  -- where it was the tenth that failed in a row
+  pub is_suspended : Bool
+
+-- what else a task's end does
+pub record Aftermath : Type 0 where
+  -- the names of the descendants that become SKIPPED
+  pub skipped : List (List ℕ)
+  -- the end of the run
+  pub graph : Option GraphEnd
+
 pub data Reply : Type 0 where
   CreatedTable : (name : List ℕ) → Reply
   DroppedTable : (name : List ℕ) → Reply
   CreatedStream : (name : List ℕ) → Reply
   DroppedStream : (name : List ℕ) → Reply
+  CreatedTask : (name : List ℕ) → Reply
+  DroppedTask : (name : List ℕ) → Reply
+  Resumed : (name : List ℕ) → Reply
+  Suspended : (name : List ℕ) → Reply
+  -- a run of the graph of that root
+  Started : (root : List ℕ) → Reply
+  TaskSucceeded : (name : List ℕ) → Counts → Aftermath → Reply
+  TaskSkipped : (name : List ℕ) → Aftermath → Reply
+  TaskFailed : (name : List ℕ) → Refusal → Aftermath → Reply
   -- whether a stream has rows to show
   HasData : Bool → Reply
-  Inserted : (count : ℕ) → Reply
-  Updated : (count : ℕ) → Reply
-  Deleted : (count : ℕ) → Reply
-  Merged : (inserted updated deleted : ℕ) → Reply
+  Changed : Counts → Reply
   Begun : (number : ℕ) → Reply
   Committed : (stamp : ℕ) → Reply
   CommittedNothing : Reply
@@ -55,11 +91,16 @@ is_refusal (CreatedTable name) = false
 is_refusal (DroppedTable name) = false
 is_refusal (CreatedStream name) = false
 is_refusal (DroppedStream name) = false
+is_refusal (CreatedTask name) = false
+is_refusal (DroppedTask name) = false
+is_refusal (Resumed name) = false
+is_refusal (Suspended name) = false
+is_refusal (Started root) = false
+is_refusal (TaskSucceeded name counts aftermath) = false
+is_refusal (TaskSkipped name aftermath) = false
+is_refusal (TaskFailed name why aftermath) = false
 is_refusal (HasData has) = false
-is_refusal (Inserted count) = false
-is_refusal (Updated count) = false
-is_refusal (Deleted count) = false
-is_refusal (Merged inserted updated deleted) = false
+is_refusal (Changed counts) = false
 is_refusal (Begun number) = false
 is_refusal (Committed stamp) = false
 is_refusal CommittedNothing = false
@@ -108,6 +149,9 @@ refusal_text (UnknownName name) = codes "E6 UnknownName " ++ name
 refusal_text (NameTaken name) = codes "E7 NameTaken " ++ name
 refusal_text (WrongKind name) = codes "E8 WrongKind " ++ name
 refusal_text TypeMismatch = codes "E9 TypeMismatch"
+refusal_text (RootRunning root) = codes "E12 RootRunning " ++ root
+refusal_text (RootNotSuspended root) = codes "E12 RootNotSuspended " ++ root
+refusal_text (HasChildren child) = codes "E12 HasChildren " ++ child
 refusal_text (OverLimit limit) = codes "E13 Limit " ++ limit_word limit ++ codes " " ++ decimal (bound limit)
 refusal_text (SourceGone name) = codes "E15 SourceGone " ++ name
 refusal_text (StaleStream offset last_read) =
@@ -120,17 +164,54 @@ abbrev pub truth_text : Bool → List ℕ
 truth_text true = codes "TRUE"
 truth_text false = codes "FALSE"
 
+abbrev pub counts_text : Counts → List ℕ
+counts_text (Inserted count) = codes "INSERTED " ++ decimal count
+counts_text (Updated count) = codes "UPDATED " ++ decimal count
+counts_text (Deleted count) = codes "DELETED " ++ decimal count
+counts_text (Merged inserted updated deleted) = codes "MERGED " ++ decimal inserted ++ codes " INSERTED "
+    ++ decimal updated ++ codes " UPDATED " ++ decimal deleted ++ codes " DELETED"
+
+abbrev pub skipped_line : List ℕ → List ℕ
+skipped_line name = line (codes "TASK " ++ name ++ codes " SKIPPED")
+
+-- whether a run failed
+abbrev pub failed_text : Bool → List ℕ
+failed_text true = codes " FAILED"
+failed_text false = codes " SUCCEEDED"
+
+-- whether a root was suspended by it
+abbrev pub suspended_text : Bool → List ℕ
+suspended_text true = codes " SUSPENDED"
+suspended_text false = []
+
+abbrev pub graph_line : GraphEnd → List ℕ
+graph_line g = line (codes "GRAPH " ++ g.root ++ failed_text g.has_failed ++ suspended_text g.is_suspended)
+
+-- the line of a run's end, where it ended
+abbrev pub graph_lines : Option GraphEnd → List ℕ
+graph_lines None = []
+graph_lines (Some g) = graph_line g
+
+abbrev pub aftermath_lines : Aftermath → List ℕ
+aftermath_lines a = flat_map skipped_line a.skipped ++ graph_lines a.graph
+
 unfoldable pub print : Reply → List ℕ
 print (CreatedTable name) = line (codes "CREATED TABLE " ++ name)
 print (DroppedTable name) = line (codes "DROPPED TABLE " ++ name)
 print (CreatedStream name) = line (codes "CREATED STREAM " ++ name)
 print (DroppedStream name) = line (codes "DROPPED STREAM " ++ name)
+print (CreatedTask name) = line (codes "CREATED TASK " ++ name)
+print (DroppedTask name) = line (codes "DROPPED TASK " ++ name)
+print (Resumed name) = line (codes "RESUMED " ++ name)
+print (Suspended name) = line (codes "SUSPENDED " ++ name)
+print (Started root) = line (codes "STARTED " ++ root)
+print (TaskSucceeded name counts aftermath) =
+    line (codes "TASK " ++ name ++ codes " SUCCEEDED " ++ counts_text counts) ++ aftermath_lines aftermath
+print (TaskSkipped name aftermath) = skipped_line name ++ aftermath_lines aftermath
+print (TaskFailed name why aftermath) =
+    line (codes "TASK " ++ name ++ codes " FAILED " ++ refusal_text why) ++ aftermath_lines aftermath
 print (HasData has) = line (truth_text has)
-print (Inserted count) = line (codes "INSERTED " ++ decimal count)
-print (Updated count) = line (codes "UPDATED " ++ decimal count)
-print (Deleted count) = line (codes "DELETED " ++ decimal count)
-print (Merged inserted updated deleted) = line (codes "MERGED " ++ decimal inserted ++ codes " INSERTED "
-    ++ decimal updated ++ codes " UPDATED " ++ decimal deleted ++ codes " DELETED")
+print (Changed counts) = line (counts_text counts)
 print (Begun number) = line (codes "BEGUN " ++ decimal number)
 print (Committed stamp) = line (codes "COMMITTED " ++ decimal stamp)
 print CommittedNothing = line (codes "COMMITTED NOTHING")

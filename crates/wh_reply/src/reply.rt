@@ -23,6 +23,12 @@ pub enum Refusal {
     WrongKind(Text),
     /// An expression isn't typed, or a value doesn't fit its column.
     TypeMismatch,
+    /// The root of that name has a run under way.
+    RootRunning(Text),
+    /// The root of that name is resumed.
+    RootNotSuspended(Text),
+    /// The task of that name follows the one that would be dropped.
+    HasChildren(Text),
     /// A count would pass a limit.
     OverLimit(Limit),
     /// The source of the stream of that name was dropped or replaced.
@@ -41,19 +47,9 @@ pub enum Refusal {
     AmbiguousMerge(Row),
 }
 
-/// The answer to an event.
-#[derive(Debug, Drop)]
-pub enum Reply {
-    /// The table's name.
-    CreatedTable(Text),
-    /// The table's name.
-    DroppedTable(Text),
-    /// The stream's name.
-    CreatedStream(Text),
-    /// The stream's name.
-    DroppedStream(Text),
-    /// Whether the stream has rows to show.
-    HasData(bool),
+/// How many rows a statement changed.
+#[derive(Clone, Copy, Debug)]
+pub enum Counts {
     /// The number of inserted rows.
     Inserted(u64),
     /// The number of rows that an UPDATE selected.
@@ -66,6 +62,69 @@ pub enum Reply {
         updated: u64,
         deleted: u64,
     },
+}
+
+/// How a run of a graph of tasks ended.
+#[derive(Debug, Drop)]
+pub struct GraphEnd {
+    /// The name of the graph's root.
+    pub root: Text,
+    pub has_failed: bool,
+    /// Whether it was the tenth run that failed in a row, which suspends the root.
+    pub is_suspended: bool,
+}
+
+/// What else the end of a task does.
+#[derive(Debug, Drop)]
+pub struct Aftermath {
+    /// The names of the descendants that become SKIPPED.
+    pub skipped: Vec<Text>,
+    /// The end of the run, where it ended.
+    pub graph: Option<GraphEnd>,
+}
+
+/// The answer to an event.
+#[derive(Debug, Drop)]
+pub enum Reply {
+    /// The table's name.
+    CreatedTable(Text),
+    /// The table's name.
+    DroppedTable(Text),
+    /// The stream's name.
+    CreatedStream(Text),
+    /// The stream's name.
+    DroppedStream(Text),
+    /// The task's name.
+    CreatedTask(Text),
+    /// The task's name.
+    DroppedTask(Text),
+    /// The task's name.
+    Resumed(Text),
+    /// The task's name.
+    Suspended(Text),
+    /// A run of the graph of the root of that name is under way.
+    Started(Text),
+    /// The task of that name succeeded, and its statement changed so many rows.
+    TaskSucceeded {
+        name: Text,
+        counts: Counts,
+        aftermath: Aftermath,
+    },
+    /// The task of that name was skipped.
+    TaskSkipped {
+        name: Text,
+        aftermath: Aftermath,
+    },
+    /// The task of that name failed: why.
+    TaskFailed {
+        name: Text,
+        why: Refusal,
+        aftermath: Aftermath,
+    },
+    /// Whether the stream has rows to show.
+    HasData(bool),
+    /// A statement changed so many rows.
+    Changed(Counts),
     /// The number of the transaction.
     Begun(u64),
     /// The stamp of the transaction's commit.

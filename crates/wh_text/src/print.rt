@@ -8,11 +8,12 @@ ghost use Rattle.wh_reply.specs.Reply.{print, line, parted, values_text, row_lin
 ghost use Rattle.wh_reply.specs.Reply.{refusal_text, truth_text};
 ghost use Rattle.wh_reply.specs.View.{reply_view, refusal_view};
 
+use crate::print_task::{put_counts_line, put_failed, put_skipped, put_succeeded};
 use std::alloc::{AllocError, Global};
 use wh_reply::{Refusal, Reply};
 use wh_value::{Bytes, Limit, Row, Text, Value, print_literal};
 
-const LF: u8 = b'\n';
+pub(crate) const LF: u8 = b'\n';
 
 /// Adds the lines of a reply, each with its LF, or nothing where memory runs out.
 pub fn print_reply(alloc: Global, reply: Reply, out: &mut Bytes) -> Result<(), AllocError>
@@ -49,15 +50,24 @@ fn put_reply(reply: Reply, out: &mut Bytes) -> Result<(), AllocError>
         Reply::DroppedTable(name) => put_name_line(b"DROPPED TABLE ", &name, out),
         Reply::CreatedStream(name) => put_name_line(b"CREATED STREAM ", &name, out),
         Reply::DroppedStream(name) => put_name_line(b"DROPPED STREAM ", &name, out),
+        Reply::CreatedTask(name) => put_name_line(b"CREATED TASK ", &name, out),
+        Reply::DroppedTask(name) => put_name_line(b"DROPPED TASK ", &name, out),
+        Reply::Resumed(name) => put_name_line(b"RESUMED ", &name, out),
+        Reply::Suspended(name) => put_name_line(b"SUSPENDED ", &name, out),
+        Reply::Started(root) => put_name_line(b"STARTED ", &root, out),
+        Reply::TaskSucceeded {
+            name,
+            counts,
+            aftermath,
+        } => put_succeeded(&name, counts, &aftermath, out),
+        Reply::TaskSkipped { name, aftermath } => put_skipped(&name, &aftermath, out),
+        Reply::TaskFailed {
+            name,
+            why,
+            aftermath,
+        } => put_failed(&name, &why, &aftermath, out),
         Reply::HasData(has) => put_truth_line(has, out),
-        Reply::Inserted(count) => put_count_line(b"INSERTED ", count, out),
-        Reply::Updated(count) => put_count_line(b"UPDATED ", count, out),
-        Reply::Deleted(count) => put_count_line(b"DELETED ", count, out),
-        Reply::Merged {
-            inserted,
-            updated,
-            deleted,
-        } => put_merged(inserted, updated, deleted, out),
+        Reply::Changed(counts) => put_counts_line(counts, out),
         Reply::Begun(number) => put_count_line(b"BEGUN ", number, out),
         Reply::Committed(stamp) => put_count_line(b"COMMITTED ", stamp, out),
         Reply::CommittedNothing => out.extend(b"COMMITTED NOTHING\n"),
@@ -75,7 +85,7 @@ fn put_name_line(front: &[u8], name: &Text, out: &mut Bytes) -> Result<(), Alloc
     out.push(LF)
 }
 
-fn put_name(front: &[u8], name: &Text, out: &mut Bytes) -> Result<(), AllocError>
+pub(crate) fn put_name(front: &[u8], name: &Text, out: &mut Bytes) -> Result<(), AllocError>
     ensures { OnOk result (out.new ≡ out.old ++ (front.now ++ name.now)) }
 {
     out.extend(front)?;
@@ -89,7 +99,7 @@ fn put_count_line(front: &[u8], count: u64, out: &mut Bytes) -> Result<(), Alloc
     out.push(LF)
 }
 
-fn put_number(front: &[u8], number: u64, out: &mut Bytes) -> Result<(), AllocError>
+pub(crate) fn put_number(front: &[u8], number: u64, out: &mut Bytes) -> Result<(), AllocError>
     ensures { OnOk result (out.new ≡ out.old ++ (front.now ++ decimal number)) }
 {
     out.extend(front)?;
@@ -106,18 +116,7 @@ fn put_truth_line(truth: bool, out: &mut Bytes) -> Result<(), AllocError>
     }
 }
 
-fn put_merged(inserted: u64, updated: u64, deleted: u64, out: &mut Bytes) -> Result<(), AllocError>
-    ensures { OnOk result (out.new ≡ out.old ++ line (codes "MERGED " ++ decimal inserted
-        ++ codes " INSERTED " ++ decimal updated ++ codes " UPDATED " ++ decimal deleted
-        ++ codes " DELETED")) }
-{
-    put_number(b"MERGED ", inserted, out)?;
-    put_number(b" INSERTED ", updated, out)?;
-    put_number(b" UPDATED ", deleted, out)?;
-    out.extend(b" DELETED\n")
-}
-
-fn put_refused(refusal: &Refusal, out: &mut Bytes) -> Result<(), AllocError>
+pub(crate) fn put_refused(refusal: &Refusal, out: &mut Bytes) -> Result<(), AllocError>
     ensures { OnOk result (out.new ≡ out.old ++ line (refusal_text (refusal_view refusal.now))) }
 {
     put_refusal(refusal, out)?;
@@ -138,6 +137,9 @@ fn put_refusal(refusal: &Refusal, out: &mut Bytes) -> Result<(), AllocError>
         Refusal::NameTaken(name) => put_name(b"E7 NameTaken ", name, out),
         Refusal::WrongKind(name) => put_name(b"E8 WrongKind ", name, out),
         Refusal::TypeMismatch => out.extend(b"E9 TypeMismatch"),
+        Refusal::RootRunning(root) => put_name(b"E12 RootRunning ", root, out),
+        Refusal::RootNotSuspended(root) => put_name(b"E12 RootNotSuspended ", root, out),
+        Refusal::HasChildren(child) => put_name(b"E12 HasChildren ", child, out),
         Refusal::OverLimit(limit) => put_limit(*limit, out),
         Refusal::SourceGone(name) => put_name(b"E15 SourceGone ", name, out),
         Refusal::StaleStream { offset, last_read } => put_stale(*offset, *last_read, out),

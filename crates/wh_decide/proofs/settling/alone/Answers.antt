@@ -1,6 +1,6 @@
 use Rattle.std.proofs.Common.{◌≡◌, ℕ, Err, option_map, ap, sym, ◌∙◌}
 use Rattle.wh_value.specs.declared.limit.Limit.{Limit}
-use Rattle.wh_reply.specs.Reply.{Reply, OverLimit}
+use Rattle.wh_reply.specs.Reply.{Reply, Changed, OverLimit}
 use Rattle.wh_reply.specs.declared.reply.Refusal.TheVariants as refused
 use Rattle.wh_bound_change.specs.View as changes
 use Rattle.wh_dml.specs.View.{effect_of}
@@ -43,7 +43,7 @@ returns-in-Ok-Some c =
     let sight = c.args.sight.now in
     let at = (goal.at.returns-in-Ok-Some c).After-lone_commit in
     commits_all (stored_of sight.catalog.now) (sessions_of sight.sessions.now) sight.stamp _ c.in-Ok-Some.commit _
-    (reply at) _ (c.reply_to.ensures (e at) c.counts_of-counts.ensures)
+    (reply at) _ (ap Changed c.counts_of-counts.ensures)
     (ap (option_map commit_of) (sym c.in-Ok-Some.field-0-is) ∙ c.in-Ok-Some.ensures.made)
     (recorded_within (machine_in sight) (reply at) (machine_in sight).sessions (t at) c.in-Ok-Some.ensures.within)
 
@@ -52,7 +52,7 @@ returns-in-Ok-None c =
     let sight = c.args.sight.now in
     let at = (goal.at.returns-in-Ok-None c).After-lone_commit in
     commits_none (stored_of sight.catalog.now) (sessions_of sight.sessions.now) sight.stamp _ _
-    (reply at) _ (c.reply_to-in-Ok-None.ensures (e at) c.counts_of-counts.ensures)
+    (reply at) _ (ap Changed c.counts_of-counts.ensures)
     (ap (option_map commit_of) (sym c.in-Ok-None.field-0-is) ∙ c.in-Ok-None.ensures.made)
     (recorded_within (machine_in sight) (reply at) (machine_in sight).sessions (t at) c.in-Ok-None.ensures.within)
 
