@@ -3,10 +3,10 @@ use Rattle.std.proofs.Common.{◌≡◌, ℕ, Bool, true, false, List, [], ◌�
 use Rattle.std.specs.Prelude.{not, nat_eq}
 use Rattle.wh_ast.specs.declared.dml.Dml.TheVariants as dml
 use Rattle.wh_state.specs.Task.{TaskBody, Ending, Succeeded, Failed, Skipped, TaskRun, Run, TaskState, Task, waiting}
-use Rattle.wh_state.specs.Task.{new_task, with_state, with_run, with_ended}
-use Rattle.wh_graph.specs.Graph.{Tasks, kept_tasks, is_under_way, skipped_behind, run_behind, has_failed}
+use Rattle.wh_state.specs.Task.{new_task, with_state}
+use Rattle.wh_graph.specs.Graph.{Tasks, kept_tasks, skipped_behind, run_behind}
 use Rattle.wh_graph.specs.Root.{point_at, is_due, state_behind}
-use Rattle.wh_graph.specs.Action.{ready_in, ready_task, due_root, RunsTask, StartsRun, DoesNothing, action}
+use Rattle.wh_graph.specs.Action.{ready_task, RunsTask, StartsRun, DoesNothing, action}
 
 -- what they run doesn't matter here
 abbrev body : TaskBody

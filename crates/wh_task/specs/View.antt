@@ -1,5 +1,5 @@
 -- What tasks of the code stand for.
-use Rattle.std.specs.Prelude.{ℕ, List, map, Option, Some, None, option_map}
+use Rattle.std.specs.Prelude.{List, map, Option, option_map}
 use denote.Ref.{Bor}
 use Rattle.wh_state.specs.Task as state
 use Rattle.wh_graph.specs.Graph.{Tasks}

@@ -8,11 +8,7 @@ use std::alloc::{AllocError, Global};
 /// The tasks of a run of a root that begins: the root, and each resumed task that has a predecessor
 /// in the run. `tasks` are the live tasks by their ids from 1.
 #[tactic(auto, unfolding(wh_graph::specs::Graph::kept_tasks))]
-pub fn kept_tasks(
-    alloc: Global,
-    tasks: &[Option<&Task>],
-    root: u32,
-) -> Result<Vec<u32>, AllocError>
+pub fn kept_tasks(alloc: Global, tasks: &[Option<&Task>], root: u32) -> Result<Vec<u32>, AllocError>
     requires { length tasks.now < 2 ^ 32 }
     ensures { IfOk result (λ kept. kept.items ≡ graph.kept_tasks (tasks_of tasks.now) root) }
 {

@@ -8,6 +8,8 @@ mod ends;
 mod run;
 mod state;
 mod task;
+#[cfg(test)]
+mod tests;
 
 pub use action::{Action, next_action};
 pub use begins::kept_tasks;

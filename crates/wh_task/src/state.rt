@@ -23,7 +23,10 @@ impl TaskState {
         ensures { state_of result ≡ root.state_behind has_failed (state_of self) }
     {
         if !has_failed {
-            return TaskState { failures: 0, ..self };
+            return TaskState {
+                failures: 0,
+                ..self
+            };
         }
         if self.failures >= MOST_FAILURES {
             return self;

@@ -1,4 +1,4 @@
-use Rattle.std.proofs.Common.{◌≡◌, ◌-◌, ◌≤◌, ◌<◌, length, Some, sym, ◌∙◌, ap, arith, rules}
+use Rattle.std.proofs.Common.{◌-◌, ◌≤◌, ◌<◌, length, Some, sym, ◌∙◌, ap, rules}
 use Rattle.std.proofs.lemmas.Option.{slice_get_past, slice_get-get_or}
 use Rattle.wh_task.proofs.TaskLemmas.{found_at, none_at}
 use Rattle.wh_task.proofs.ends.task_of.Goals as goal
