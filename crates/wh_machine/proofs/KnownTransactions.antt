@@ -74,6 +74,12 @@ a_statement_is_staged : staged (begun 7) 1 [] 3 effect_of_one ≡ after_one
 unfolding staged later_edits edits_from
 a_statement_is_staged = simp map_steps
 
+-- a later statement that counts no row
+a_touched_table_stays_touched :
+    acts_of [] (staged after_one 1 [] 3 (record { removed = []; changed = []; added = [] })) ≡ acts_of [] after_one
+unfolding staged later_edits edits_from acts_of
+a_touched_table_stays_touched = simp map_steps refl
+
 abbrev rows_at : List Object → ℕ → Option (List (ℕ × Row))
 rows_at objects id = option_map (λ t. entries (last_rows t)) (table_at objects id)
 

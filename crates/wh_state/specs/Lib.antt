@@ -1,4 +1,5 @@
 pub use Rattle.wh_value.specs.Value
+pub mod Task
 pub mod State
 pub mod Objects
 pub mod Edits
