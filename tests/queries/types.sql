@@ -1,10 +1,9 @@
-CREATE TABLE T(K NUMBER, V NUMBER);
-INSERT INTO T VALUES (1, 10), (1, 5), (2, NULL);
-CREATE TABLE U(K NUMBER, W VARCHAR);
-INSERT INTO U VALUES (1, 'a'), (3, 'b'), (NULL, 'c');
-CREATE TABLE E(K NUMBER);
 CREATE TABLE ONE(X NUMBER);
 INSERT INTO ONE VALUES (1);
+CREATE TABLE T(K NUMBER, V NUMBER);
+INSERT INTO T VALUES (1, 5), (2, NULL);
+CREATE TABLE U(K NUMBER, W VARCHAR);
+INSERT INTO U VALUES (1, 'a'), (NULL, 'c');
 -- arithmetic takes numbers
 SELECT K + V FROM T WHERE V = 5;
 -- no sum with a text
@@ -60,7 +59,7 @@ SELECT *, COUNT(*) FROM T;
 -- no star of an entry beside a call
 SELECT T.*, COUNT(*) FROM T;
 -- no star with GROUP BY
-SELECT * FROM E GROUP BY K;
+SELECT * FROM T GROUP BY K;
 -- a column outside of calls
 SELECT K, COUNT(*) FROM T;
 -- a column outside of the keys

@@ -14,7 +14,7 @@ ghost use Rattle.wh_expr_bind.specs.Forms.{sees};
 
 use crate::context::Context;
 use crate::count::counted;
-use crate::forms::{fits, leaf};
+use crate::forms::{fits, leaf, part};
 use crate::{Findings, Typed, scalars, width};
 use sqlite_items::Boxed;
 use std::alloc::{AllocError, Global};
@@ -101,15 +101,7 @@ fn placed(
 {
     let calls = only(alloc, call)?;
     let scalar = place_of(context, number)?;
-    Boxed::new(
-        alloc,
-        Typed {
-            scalar,
-            type_of: Some(ColumnType::Number),
-            calls,
-            findings,
-        },
-    )
+    part(alloc, scalar, Some(ColumnType::Number), calls, findings)
 }
 
 // What stands where no call may stand.

@@ -9,6 +9,7 @@ ghost use Rattle.wh_expr_bind.specs.Forms.{sees};
 
 use crate::context::Context;
 use crate::count::counted;
+use crate::scalars::Prefix;
 use crate::{Entry, Typed, calls, column_at, forms, ranges};
 use sqlite_items::Boxed;
 use std::alloc::{AllocError, Global};
@@ -48,8 +49,14 @@ fn typed_in(
     match x {
         Expr::Const(value) => forms::constant(alloc, value),
         Expr::Column(entry, name) => column(alloc, entry, name, context),
-        Expr::Neg(x) => forms::negated(alloc, typed_in(alloc, x.get(), context, number)?),
-        Expr::Not(x) => forms::inverted(alloc, typed_in(alloc, x.get(), context, number)?),
+        Expr::Neg(x) => {
+            let x = typed_in(alloc, x.get(), context, number)?;
+            forms::prefixed(alloc, Prefix::Minus, x)
+        }
+        Expr::Not(x) => {
+            let x = typed_in(alloc, x.get(), context, number)?;
+            forms::prefixed(alloc, Prefix::Not, x)
+        }
         Expr::Binary(operator, x, y) => {
             let x = typed_in(alloc, x.get(), context, number)?;
             binary(alloc, y.get(), *operator, x, context, number)

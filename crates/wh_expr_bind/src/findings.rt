@@ -48,10 +48,7 @@ impl Findings {
     {
         Findings {
             unknown_object: Some(name),
-            wrong_kind: None,
-            unknown_column: None,
-            taken: None,
-            is_mistyped: false,
+            ..Findings::nothing()
         }
     }
 
@@ -59,11 +56,8 @@ impl Findings {
         ensures { findings_of result ≡ naming.wrong_kind_if true name }
     {
         Findings {
-            unknown_object: None,
             wrong_kind: Some(name),
-            unknown_column: None,
-            taken: None,
-            is_mistyped: false,
+            ..Findings::nothing()
         }
     }
 
@@ -71,11 +65,8 @@ impl Findings {
         ensures { findings_of result ≡ naming.unknown_column name }
     {
         Findings {
-            unknown_object: None,
-            wrong_kind: None,
             unknown_column: Some(name),
-            taken: None,
-            is_mistyped: false,
+            ..Findings::nothing()
         }
     }
 
@@ -83,11 +74,8 @@ impl Findings {
         ensures { findings_of result ≡ naming.taken_if true name }
     {
         Findings {
-            unknown_object: None,
-            wrong_kind: None,
-            unknown_column: None,
             taken: Some(name),
-            is_mistyped: false,
+            ..Findings::nothing()
         }
     }
 
@@ -95,11 +83,8 @@ impl Findings {
         ensures { findings_of result ≡ naming.mistyped_if is_mistyped }
     {
         Findings {
-            unknown_object: None,
-            wrong_kind: None,
-            unknown_column: None,
-            taken: None,
             is_mistyped,
+            ..Findings::nothing()
         }
     }
 

@@ -1,6 +1,5 @@
 //! Expressions of typed parts.
 ghost use Rattle.std.specs.Prelude.{◌≡◌, ◌++◌, not, IfOk, option_map};
-ghost use Rattle.wh_value.specs.Column.{NumberType, BooleanType};
 ghost use Rattle.wh_value.specs.View.{value_of, type_of};
 ghost use Rattle.wh_meaning.specs.Scalar as meaning;
 ghost use Rattle.wh_scalar.specs.View.{scalar_of};
@@ -8,8 +7,10 @@ ghost use Rattle.wh_algebra.specs.View.{calls_of};
 ghost use Rattle.wh_naming.specs.Findings as wrong;
 ghost use Rattle.wh_naming.specs.Typing as naming;
 ghost use Rattle.wh_expr_bind.specs.View.{findings_of, part_in, place_of, type_of_option};
-ghost use Rattle.wh_expr_bind.specs.Forms.{alone, scalar_by, under};
+ghost use Rattle.wh_expr_bind.specs.Forms.{alone, part_of, scalar_by};
+ghost use Rattle.wh_expr_bind.specs.Forms.{scalar_under, taken_by, under};
 
+use crate::scalars::Prefix;
 use crate::types::value_type;
 use crate::{Findings, Place, Typed, alike, scalars};
 use sqlite_items::Boxed;
@@ -19,18 +20,18 @@ use wh_ast::Operator;
 use wh_scalar::Scalar;
 use wh_value::{ColumnType, Comparison, Text, Value};
 
-/// A scalar of a type without calls.
+/// A part of a scalar and its type, with the calls in it and what is found wrong.
 #[tactic(auto, unfolding(crate::specs::View::part_in))]
-pub(crate) fn leaf(
+pub(crate) fn part(
     alloc: Global,
     scalar: Scalar,
     type_of: Option<ColumnType>,
+    calls: Vec<Call>,
     findings: Findings,
 ) -> Result<Boxed<Typed>, AllocError>
-    ensures { IfOk result (λ t. part_in t
-        ≡ naming.leaf (scalar_of scalar) (type_of_option type_of) (findings_of findings)) }
+    ensures { IfOk result (λ t. part_in t ≡ part_of (scalar_of scalar) (type_of_option type_of)
+        (calls_of calls.items) (findings_of findings)) }
 {
-    let calls = Vec::new(alloc);
     Boxed::new(
         alloc,
         Typed {
@@ -40,6 +41,19 @@ pub(crate) fn leaf(
             findings,
         },
     )
+}
+
+/// A scalar of a type without calls.
+pub(crate) fn leaf(
+    alloc: Global,
+    scalar: Scalar,
+    type_of: Option<ColumnType>,
+    findings: Findings,
+) -> Result<Boxed<Typed>, AllocError>
+    ensures { IfOk result (λ t. part_in t
+        ≡ naming.leaf (scalar_of scalar) (type_of_option type_of) (findings_of findings)) }
+{
+    part(alloc, scalar, type_of, Vec::new(alloc), findings)
 }
 
 pub(crate) fn constant(alloc: Global, value: &Value) -> Result<Boxed<Typed>, AllocError>
@@ -92,42 +106,31 @@ pub(crate) fn are_alike(x: &Typed, y: &Typed) -> bool
     alike(x.type_of, y.type_of)
 }
 
+/// A part under a minus sign, which takes a number, or under NOT, which takes a truth value.
 #[tactic(auto, unfolding(crate::specs::View::part_in))]
-pub(crate) fn negated(alloc: Global, x: Boxed<Typed>) -> Result<Boxed<Typed>, AllocError>
+pub(crate) fn prefixed(
+    alloc: Global,
+    prefix: Prefix,
+    x: Boxed<Typed>,
+) -> Result<Boxed<Typed>, AllocError>
     ensures { IfOk result (λ t. part_in t
-        ≡ naming.over meaning.Neg NumberType NumberType (part_in x)) }
+        ≡ naming.over (scalar_under prefix) (taken_by prefix) (taken_by prefix) (part_in x)) }
 {
-    let is_mistyped = !fits(ColumnType::Number, x.get());
+    let taken = taken_by(prefix);
+    let is_mistyped = !fits(taken, x.get());
     let x = x.into_inner();
-    let scalar = scalars::negated(alloc, x.scalar)?;
-    Boxed::new(
-        alloc,
-        Typed {
-            scalar,
-            type_of: Some(ColumnType::Number),
-            calls: x.calls,
-            findings: x.findings.followed(Findings::mistyped_if(is_mistyped)),
-        },
-    )
+    let scalar = scalars::prefixed(alloc, prefix, x.scalar)?;
+    let findings = x.findings.followed(Findings::mistyped_if(is_mistyped));
+    part(alloc, scalar, Some(taken), x.calls, findings)
 }
 
-#[tactic(auto, unfolding(crate::specs::View::part_in))]
-pub(crate) fn inverted(alloc: Global, x: Boxed<Typed>) -> Result<Boxed<Typed>, AllocError>
-    ensures { IfOk result (λ t. part_in t
-        ≡ naming.over meaning.Not BooleanType BooleanType (part_in x)) }
+fn taken_by(prefix: Prefix) -> ColumnType
+    ensures { type_of result ≡ taken_by prefix }
 {
-    let is_mistyped = !fits(ColumnType::Boolean, x.get());
-    let x = x.into_inner();
-    let scalar = scalars::inverted(alloc, x.scalar)?;
-    Boxed::new(
-        alloc,
-        Typed {
-            scalar,
-            type_of: Some(ColumnType::Boolean),
-            calls: x.calls,
-            findings: x.findings.followed(Findings::mistyped_if(is_mistyped)),
-        },
-    )
+    match prefix {
+        Prefix::Minus => ColumnType::Number,
+        Prefix::Not => ColumnType::Boolean,
+    }
 }
 
 /// With NOT, where it is written.
@@ -143,16 +146,8 @@ pub(crate) fn inverted_if(
         return Ok(x);
     }
     let x = x.into_inner();
-    let scalar = scalars::inverted(alloc, x.scalar)?;
-    Boxed::new(
-        alloc,
-        Typed {
-            scalar,
-            type_of: x.type_of,
-            calls: x.calls,
-            findings: x.findings,
-        },
-    )
+    let scalar = scalars::prefixed(alloc, Prefix::Not, x.scalar)?;
+    part(alloc, scalar, x.type_of, x.calls, x.findings)
 }
 
 /// IS NULL, or IS NOT NULL.
@@ -174,14 +169,12 @@ fn is_null(alloc: Global, x: Boxed<Typed>) -> Result<Boxed<Typed>, AllocError>
 {
     let x = x.into_inner();
     let scalar = scalars::is_null(alloc, x.scalar)?;
-    Boxed::new(
+    part(
         alloc,
-        Typed {
-            scalar,
-            type_of: Some(ColumnType::Boolean),
-            calls: x.calls,
-            findings: x.findings,
-        },
+        scalar,
+        Some(ColumnType::Boolean),
+        x.calls,
+        x.findings,
     )
 }
 
@@ -255,15 +248,7 @@ pub(crate) fn under(
     let findings = found.followed(Findings::mistyped_if(is_mistyped));
     let scalar = scalars::by(alloc, operator, x.scalar, y.scalar)?;
     let calls = joined(x.calls, y.calls)?;
-    Boxed::new(
-        alloc,
-        Typed {
-            scalar,
-            type_of: Some(given),
-            calls,
-            findings,
-        },
-    )
+    part(alloc, scalar, Some(given), calls, findings)
 }
 
 fn joined(mut first: Vec<Call>, mut next: Vec<Call>) -> Result<Vec<Call>, AllocError>

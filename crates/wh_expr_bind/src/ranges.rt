@@ -4,7 +4,7 @@ ghost use Rattle.wh_naming.specs.Typing as naming;
 ghost use Rattle.wh_expr_bind.specs.Forms.{equal_to};
 ghost use Rattle.wh_expr_bind.specs.View.{part_in};
 
-use crate::forms::{alone, are_alike, compared, under};
+use crate::forms::{alone, are_alike, compared, part, under};
 use crate::{Typed, scalars};
 use sqlite_items::Boxed;
 use std::alloc::{AllocError, Global};
@@ -19,14 +19,13 @@ pub(crate) fn among_none(alloc: Global, x: Boxed<Typed>) -> Result<Boxed<Typed>,
         ≡ naming.among (part_in x) [] context number) }
 {
     let x = x.into_inner();
-    Boxed::new(
+    let scalar = Scalar::Const(Value::Bool(false));
+    part(
         alloc,
-        Typed {
-            scalar: Scalar::Const(Value::Bool(false)),
-            type_of: Some(ColumnType::Boolean),
-            calls: x.calls,
-            findings: x.findings,
-        },
+        scalar,
+        Some(ColumnType::Boolean),
+        x.calls,
+        x.findings,
     )
 }
 
@@ -60,15 +59,7 @@ fn equal_to(alloc: Global, left: &Typed, item: Boxed<Typed>) -> Result<Boxed<Typ
     let copy = left.scalar.copy(alloc)?;
     let item = item.into_inner();
     let scalar = scalars::compared(alloc, Comparison::Equal, copy, item.scalar)?;
-    Boxed::new(
-        alloc,
-        Typed {
-            scalar,
-            type_of: item.type_of,
-            calls: item.calls,
-            findings: item.findings,
-        },
-    )
+    part(alloc, scalar, item.type_of, item.calls, item.findings)
 }
 
 /// BETWEEN a least and a greatest.

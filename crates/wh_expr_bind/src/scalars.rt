@@ -2,7 +2,7 @@
 ghost use Rattle.std.specs.Prelude.{◌≡◌, IfOk};
 ghost use Rattle.wh_scalar.specs.View.{scalar_of};
 ghost use Rattle.wh_meaning.specs.Scalar as meaning;
-ghost use Rattle.wh_expr_bind.specs.Forms.{scalar_by};
+ghost use Rattle.wh_expr_bind.specs.Forms.{scalar_by, scalar_under};
 
 use sqlite_items::Boxed;
 use std::alloc::{AllocError, Global};
@@ -53,16 +53,21 @@ pub(crate) fn compared(
     by(alloc, Operator::Compare(comparison), x, y)
 }
 
-pub(crate) fn negated(alloc: Global, x: Scalar) -> Result<Scalar, AllocError>
-    ensures { IfOk result (λ negative. scalar_of negative ≡ meaning.Neg (scalar_of x)) }
-{
-    Ok(Scalar::Neg(Boxed::new(alloc, x)?))
+/// What stands before a part: a minus sign, or NOT.
+#[derive(Clone, Copy, Debug)]
+pub(crate) enum Prefix {
+    Minus,
+    Not,
 }
 
-pub(crate) fn inverted(alloc: Global, x: Scalar) -> Result<Scalar, AllocError>
-    ensures { IfOk result (λ inverse. scalar_of inverse ≡ meaning.Not (scalar_of x)) }
+pub(crate) fn prefixed(alloc: Global, prefix: Prefix, x: Scalar) -> Result<Scalar, AllocError>
+    ensures { IfOk result (λ under. scalar_of under ≡ scalar_under prefix (scalar_of x)) }
 {
-    Ok(Scalar::Not(Boxed::new(alloc, x)?))
+    let x = Boxed::new(alloc, x)?;
+    match prefix {
+        Prefix::Minus => Ok(Scalar::Neg(x)),
+        Prefix::Not => Ok(Scalar::Not(x)),
+    }
 }
 
 pub(crate) fn is_null(alloc: Global, x: Scalar) -> Result<Scalar, AllocError>

@@ -126,30 +126,13 @@ ReadAs s rest = front_of (sign_bytes s ++ rest) ≡ Some (token (SignToken s) re
 
 sign_read : (s : Sign) (rest : List ℕ) → begins_with (extends s) rest ≡ false → ReadAs s rest
 unfolding front_behind sign_front
-sign_read LParen [] h = refl
-sign_read LParen (c ∷ rest) h = refl
-sign_read RParen [] h = refl
-sign_read RParen (c ∷ rest) h = refl
-sign_read Comma [] h = refl
-sign_read Comma (c ∷ rest) h = refl
-sign_read Dot [] h = refl
-sign_read Dot (c ∷ rest) h = refl
-sign_read Star [] h = refl
-sign_read Star (c ∷ rest) h = refl
-sign_read Plus [] h = refl
-sign_read Plus (c ∷ rest) h = refl
-sign_read Minus [] h = refl
 sign_read Minus (c ∷ rest) h = let k : is_byte 45 c ≡ false = grind (arith, nat_tests) in rw k refl
-sign_read Equal [] h = refl
 sign_read Equal (c ∷ rest) h = rw h refl
-sign_read Unequal rest h = refl
-sign_read Less [] h = refl
 sign_read Less (c ∷ rest) h = let both = or_false (c == 61) (c == 62) h in rw (both.0, both.1) refl
-sign_read AtMost rest h = refl
-sign_read Greater [] h = refl
 sign_read Greater (c ∷ rest) h = rw h refl
-sign_read AtLeast rest h = refl
-sign_read Arrow rest h = refl
+sign_read LParen [] h = refl
+sign_read _ [] h = refl
+sign_read _ (c ∷ rest) h = refl
 
 pub sign_is_read : (s : Sign) (bytes rest : List ℕ) → bytes ≡ sign_bytes s ++ rest
     → begins_with (extends s) rest ≡ false

@@ -7,27 +7,24 @@ use Rattle.std.proofs.lemmas.Bool.Decides.{nat_tests}
 use Rattle.wh_grammar.specs.Bytes.{is_blank, is_digit, begins_word, is_word_byte, upper}
 use Rattle.wh_grammar.specs.Lexing.{begins_with}
 
-all_by : (p : ℕ → Bool) (b : ℕ) (bytes : List ℕ) (r : Bool) → p b ≡ r
-    → list_all p (take (prefix_len p bytes) bytes) ≡ true
-    → list_all p (take (prefix_len p (b ∷ bytes)) (b ∷ bytes)) ≡ true
-all_by p b bytes true e ih = simp (e, one-add) ih
-all_by p b bytes false e ih = simp e
+-- the bytes at the front that pass a test pass it, and the one behind them doesn't
+abbrev IsCutAt : (ℕ → Bool) → List ℕ → ℕ → Type 0
+IsCutAt p bytes n = (list_all p (take n bytes) ≡ true) × (begins_with p (drop n bytes) ≡ false)
 
--- the bytes at the front that pass a test pass it
+cut_by : (p : ℕ → Bool) (b : ℕ) (bytes : List ℕ) (r : Bool) → p b ≡ r → IsCutAt p bytes (prefix_len p bytes)
+    → IsCutAt p (b ∷ bytes) (prefix_len p (b ∷ bytes))
+cut_by p b bytes true e ih = (simp (e, one-add) ih.0, simp (e, one-add) ih.1)
+cut_by p b bytes false e ih = (simp e, simp e)
+
+cut-prefix : (p : ℕ → Bool) (bytes : List ℕ) → IsCutAt p bytes (prefix_len p bytes)
+cut-prefix p [] = (refl, refl)
+cut-prefix p (b ∷ bytes) = cut_by p b bytes (p b) refl (cut-prefix p bytes)
+
 pub all-prefix : (p : ℕ → Bool) (bytes : List ℕ) → list_all p (take (prefix_len p bytes) bytes) ≡ true
-all-prefix p [] = refl
-all-prefix p (b ∷ bytes) = all_by p b bytes (p b) refl (all-prefix p bytes)
+all-prefix p bytes = (cut-prefix p bytes).0
 
-stops_by : (p : ℕ → Bool) (b : ℕ) (bytes : List ℕ) (r : Bool) → p b ≡ r
-    → begins_with p (drop (prefix_len p bytes) bytes) ≡ false
-    → begins_with p (drop (prefix_len p (b ∷ bytes)) (b ∷ bytes)) ≡ false
-stops_by p b bytes true e ih = simp (e, one-add) ih
-stops_by p b bytes false e ih = simp e
-
--- and the one behind them doesn't
 pub stops-prefix : (p : ℕ → Bool) (bytes : List ℕ) → begins_with p (drop (prefix_len p bytes) bytes) ≡ false
-stops-prefix p [] = refl
-stops-prefix p (b ∷ bytes) = stops_by p b bytes (p b) refl (stops-prefix p bytes)
+stops-prefix p bytes = (cut-prefix p bytes).1
 
 none-prefix : (p : ℕ → Bool) (rest : List ℕ) → begins_with p rest ≡ false → prefix_len p rest ≡ 0
 none-prefix p [] h = refl

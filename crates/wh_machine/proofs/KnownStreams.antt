@@ -24,7 +24,7 @@ use Rattle.wh_effect.specs.Effect.{effect}
 use Rattle.wh_reply.specs.Reply.{SourceGone, StaleStream, Locked, HasData, Changed, Inserted, Committed, Listing}
 use Rattle.wh_reply.specs.Reply.{print}
 use Rattle.wh_state.specs.State.{Table, Stream, Object, TableKind, StreamKind, new_object, dropped, nothing_held}
-use Rattle.wh_state.specs.State.{version_at, new_stream}
+use Rattle.wh_state.specs.State.{Version, version_at, new_stream}
 use Rattle.wh_state.specs.Edits.{Edits, edits_from, later_edits, partitions_made}
 use Rattle.wh_state.specs.Act.{EditsRows, MovesOffset}
 use Rattle.wh_machine.specs.Tables.{table_refusal, create_table, drop_table}
@@ -48,25 +48,22 @@ use Rattle.wh_machine.proofs.KnownEvents.{first, table_t as event_t, asked}
 abbrev row : ℕ → Row
 row n = Number (pos n) ∷ []
 
-abbrev table_t : Table
-table_t = record {
-  created = 1;
+abbrev table_of : ℕ → ℕ → List Version → Table
+table_of stamp next kept = record {
+  created = stamp;
   columns = record { name = k; column_type = NumberType } ∷ [];
   retention = 1;
-  next_row = 2;
+  next_row = next;
   next_partition = 1;
-  versions = version_at 1 nothing_held ∷ version_at 4 (record { rows = insert empty 1 (row 7); partitions = [] }) ∷ [];
+  versions = kept;
 }
 
+abbrev table_t : Table
+table_t = table_of 1 2 (version_at 1 nothing_held
+    ∷ version_at 4 (record { rows = insert empty 1 (row 7); partitions = [] }) ∷ [])
+
 abbrev table_c : Table
-table_c = record {
-  created = 3;
-  columns = record { name = k; column_type = NumberType } ∷ [];
-  retention = 1;
-  next_row = 1;
-  next_partition = 1;
-  versions = version_at 3 nothing_held ∷ [];
-}
+table_c = table_of 3 1 (version_at 3 nothing_held ∷ [])
 
 abbrev stream_s : Stream
 stream_s = new_stream 1 false 2 table_t.columns

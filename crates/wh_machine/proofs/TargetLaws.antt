@@ -20,7 +20,7 @@ use Rattle.wh_grammar.specs.Changing.{IsDml, AreRows}
 use Rattle.wh_meaning.specs.Bag.{Bag}
 use Rattle.wh_meaning.specs.Query.{Instance, eval}
 use Rattle.wh_meaning.specs.Listing.{listed}
-use Rattle.wh_naming.specs.Findings.{Name}
+use Rattle.wh_naming.specs.Findings.{Name, either}
 use Rattle.wh_naming.specs.Scope.{Entry, Named, named}
 use Rattle.wh_naming.specs.Select.{Output, BoundQuery, BoundSource, SourcePart, column_of, plain, bound_query}
 use Rattle.wh_naming.specs.Changes as changes
@@ -159,42 +159,48 @@ module _ (names : List Named) (S : ℕ → Type 0) (F : ℕ → Row → Type 0) 
         → OutcomeFits t.columns (effect b.change found instance)
     pub sources : AllByRecursion S b.sources
 
+  -- what is found in the target's name comes first in each statement
+  as_good : (t : Target) (b : BoundChange) (unknown kind : Option Name) → b.target ≡ t.id
+      → b.findings.unknown_object ≡ either t.findings.unknown_object unknown
+      → b.findings.wrong_kind ≡ either t.findings.wrong_kind kind
+      → (b.findings.is_mistyped ≡ false → (instance : Instance)
+      → InstanceFits names S F none empty live fits 0 b.sources instance
+      → (found : List (ℕ × Row)) → AllByRecursion (λ entry. FitsTypes (types_of t.columns) entry.1) found
+      → OutcomeFits t.columns (effect b.change found instance))
+      → AllByRecursion S b.sources → IsGoodChange t b
+  as_good t b unknown kind target objects wrong effects sources = record {
+    target = target;
+    known = λ none. (both_none t.findings.unknown_object unknown (sym objects ∙ none)).0;
+    kinds = λ none. (both_none t.findings.wrong_kind kind (sym wrong ∙ none)).0;
+    effect = effects;
+    sources = sources;
+  }
+
   insert_good : (t : Target) (listed : Option (List Name)) (found : Rows) {d : ℕ} {ts us : List Token}
       → AreRows d ts found us → IsGoodChange t (bound_rows names t listed found)
   unfolding effect
-  insert_good t listed found (g.values {found = values} are) = record {
-    target = refl;
-    known = λ none. (both_none t.findings.unknown_object _ none).0;
-    kinds = λ none. (both_none t.findings.wrong_kind _ none).0;
-    effect = λ well instance fit rows rows_fit.
-        let parts = neither t.findings.is_mistyped _ well in
-        let both = neither (changes.given_findings t.columns listed).is_mistyped
-        (row_findings (value_rows t.columns (given_places t.columns listed) values)).is_mistyped parts.1 in
-        inserts_fit t.columns (map (λ row. row.scalars) (value_rows t.columns (given_places t.columns listed) values))
-        (values_under t.columns listed values both.1);
-    sources = tt;
-  }
+  insert_good t listed found (g.values {found = values} are) =
+      as_good t (bound_rows names t listed found) _ _ refl refl refl (λ well instance fit rows rows_fit.
+      let parts = neither t.findings.is_mistyped _ well in
+      let both = neither (changes.given_findings t.columns listed).is_mistyped
+      (row_findings (value_rows t.columns (given_places t.columns listed) values)).is_mistyped parts.1 in
+      inserts_fit t.columns (map (λ row. row.scalars) (value_rows t.columns (given_places t.columns listed) values))
+      (values_under t.columns listed values both.1)) tt
   insert_good t listed found (g.query {found = q} is) =
       let b : BoundQuery = bound_query q names 0 in
       let good : IsGoodQuery names S F none empty live fits 0 b = query_good names S F none empty live fits q is 0 in
-      record {
-        target = refl;
-        known = λ none. (both_none t.findings.unknown_object _ none).0;
-        kinds = λ none. (both_none t.findings.wrong_kind _ none).0;
-        effect = λ well instance fit rows rows_fit.
-            let parts = neither t.findings.is_mistyped _ well in
-            let both = neither (changes.given_findings t.columns listed).is_mistyped _ parts.1 in
-            let last = neither b.findings.is_mistyped
-            (not (fit_places (given_places t.columns listed) (changes.output_types b.outputs))) both.1 in
-            inserts_over_fit t.columns (output_types b.outputs) _
-            (row_under (type_at (output_types b.outputs)) (types_of t.columns) 0 t.columns
-            (given_places t.columns listed)
-            (outputs_from 0 b.outputs) (changes.output_types b.outputs) (outputs_under b.outputs)
-            (true_of (fit_places (given_places t.columns listed) (changes.output_types b.outputs)) last.1)
-            (given_ok t.columns listed) (own_stand t.columns)) (rows_in_order (eval b.query instance))
-            (ordered_fit (output_types b.outputs) (eval b.query instance) (good.rows last.0 instance fit));
-        sources = good.sources;
-      }
+      as_good t (bound_rows names t listed found) _ _ refl refl refl (λ well instance fit rows rows_fit.
+      let parts = neither t.findings.is_mistyped _ well in
+      let both = neither (changes.given_findings t.columns listed).is_mistyped _ parts.1 in
+      let last = neither b.findings.is_mistyped
+      (not (fit_places (given_places t.columns listed) (changes.output_types b.outputs))) both.1 in
+      inserts_over_fit t.columns (output_types b.outputs) _
+      (row_under (type_at (output_types b.outputs)) (types_of t.columns) 0 t.columns
+      (given_places t.columns listed)
+      (outputs_from 0 b.outputs) (changes.output_types b.outputs) (outputs_under b.outputs)
+      (true_of (fit_places (given_places t.columns listed) (changes.output_types b.outputs)) last.1)
+      (given_ok t.columns listed) (own_stand t.columns)) (rows_in_order (eval b.query instance))
+      (ordered_fit (output_types b.outputs) (eval b.query instance) (good.rows last.0 instance fit))) good.sources
 
   merge_good : (t : Target) (name : Name) (part : SourcePart) (on : Expr) (found : List MergeClause)
       → IsGoodSource names S F none empty live fits 0 (part.reading names 0)
@@ -203,23 +209,32 @@ module _ (names : List Named) (S : ℕ → Type 0) (F : ℕ → Row → Type 0) 
   merge_good t name part on found good =
       let s : BoundSource = part.reading names 0 in
       let entry : Entry = record { name = part.name; columns = s.columns } in
-      record {
-        target = refl;
-        known = λ none. (both_none t.findings.unknown_object _ none).0;
-        kinds = λ none. (both_none t.findings.wrong_kind _ none).0;
-        effect = λ well instance fit rows rows_fit.
-            let parts = neither t.findings.is_mistyped _ well in
-            let both = neither false _ parts.1 in
-            let source = neither s.findings.is_mistyped _ both.1 in
-            let last = neither _ (all_clause_findings t.columns (target_entry name t) entry
-            found).is_mistyped source.1 in
-            merges_fit t.columns (types_of t.columns) (types_of s.columns) _
-            (map (bound_clause t.columns (target_entry name t) entry) found)
-            (clauses_fit t.columns (target_entry name t) entry refl found last.1) rows rows_fit
-            (rows_in_order (eval s.query instance))
-            (ordered_fit (types_of s.columns) (eval s.query instance) (good.rows source.0 instance fit));
-        sources = good.sources;
-      }
+      as_good t (bound_merge t name part names on found) _ _ refl refl refl (λ well instance fit rows rows_fit.
+      let parts = neither t.findings.is_mistyped _ well in
+      let both = neither false _ parts.1 in
+      let source = neither s.findings.is_mistyped _ both.1 in
+      let last = neither _ (all_clause_findings t.columns (target_entry name t) entry
+      found).is_mistyped source.1 in
+      merges_fit t.columns (types_of t.columns) (types_of s.columns) _
+      (map (bound_clause t.columns (target_entry name t) entry) found)
+      (clauses_fit t.columns (target_entry name t) entry refl found last.1) rows rows_fit
+      (rows_in_order (eval s.query instance))
+      (ordered_fit (types_of s.columns) (eval s.query instance) (good.rows source.0 instance fit))) good.sources
+
+  update_good : (t : Target) (name : Name) (parts : List Assignment) (filter : Option Expr)
+      → IsGoodChange t (bound_update t (target_entry name t ∷ []) parts filter)
+  unfolding effect
+  update_good t name parts filter =
+      as_good t (bound_update t (target_entry name t ∷ []) parts filter) _ _ refl refl refl
+      (λ well instance fit rows rows_fit.
+      let both = neither t.findings.is_mistyped _ well in
+      let set = neither (set_findings t.columns (target_entry name t ∷ []) parts).is_mistyped _ both.1 in
+      let is : entry_types (target_entry name t ∷ []) ≡ types_of t.columns ++ [] =
+      entry_one name t.columns ∙ sym (append_nil (types_of t.columns)) in
+      updates_fit t.columns (types_of t.columns) (condition_of (target_entry name t ∷ []) filter) _
+      (subst (λ (ts : List (Option ColumnType)). PartsFit t.columns (type_at ts)
+      (changed_row t.columns (target_entry name t ∷ []) parts)) (entry_one name t.columns)
+      (set_under t.columns (target_entry name t ∷ []) [] parts is set.0)) rows rows_fit) tt
 
   pub change_good : (x : Dml) {d : ℕ} {ts us : List Token} → IsDml d ts x us → (name : Name)
       × IsGoodChange (target_at names name) (bound_change names x)
@@ -227,35 +242,12 @@ module _ (names : List Named) (S : ℕ → Type 0) (F : ℕ → Row → Type 0) 
   change_good x (g.insert {table = name} {names = listed} {found = found} is may are) =
       (name, insert_good (target_at names name) listed found are)
   change_good x (g.update {table = name} {set = parts} {filter = filter} is are may) =
-      let t : Target = target_at names name in (
-        name,
-        record {
-          target = refl;
-          known = λ none. (both_none t.findings.unknown_object _ none).0;
-          kinds = λ none. (both_none t.findings.wrong_kind _ none).0;
-          effect = λ well instance fit rows rows_fit.
-              let both = neither t.findings.is_mistyped _ well in
-              let set = neither (set_findings t.columns (target_entry name t ∷ []) parts).is_mistyped _ both.1 in
-              let is : entry_types (target_entry name t ∷ []) ≡ types_of t.columns ++ [] =
-              entry_one name t.columns ∙ sym (append_nil (types_of t.columns)) in
-              updates_fit t.columns (types_of t.columns) (condition_of (target_entry name t ∷ []) filter) _
-              (subst (λ (ts : List (Option ColumnType)). PartsFit t.columns (type_at ts)
-              (changed_row t.columns (target_entry name t ∷ []) parts)) (entry_one name t.columns)
-              (set_under t.columns (target_entry name t ∷ []) [] parts is set.0)) rows rows_fit;
-          sources = tt;
-        },
-      )
+      (name, update_good (target_at names name) name parts filter)
   change_good x (g.delete {table = name} {filter = filter} is may) =
       let t : Target = target_at names name in (
         name,
-        record {
-          target = refl;
-          known = λ none. (both_none t.findings.unknown_object _ none).0;
-          kinds = λ none. (both_none t.findings.wrong_kind _ none).0;
-          effect = λ well instance fit rows rows_fit. deletes_fit t.columns
-              (condition_of (target_entry name t ∷ []) filter) rows;
-          sources = tt;
-        },
+        as_good t (bound_change names x) _ _ refl refl refl (λ well instance fit rows rows_fit. deletes_fit t.columns
+            (condition_of (target_entry name t ∷ []) filter) rows) tt,
       )
   change_good x (g.merge {target = name} {alias = alias} {source = source} {on = on} {clauses = found} is may
       from expr are) = (

@@ -14,7 +14,7 @@ use Rattle.wh_value.specs.View.{value_of}
 use Rattle.wh_value.specs.declared.value.Value.{Value}
 use Rattle.wh_frame.specs.Partition.{Partition}
 use Rattle.wh_frame.specs.Spelling.{IsNumberedRow, IsPartition}
-use Rattle.wh_part.specs.Meta.{IsEven, width_of, column}
+use Rattle.wh_part.specs.Meta.{IsEven, width_of, column, stands_before}
 use Rattle.wh_part.specs.declared.meta.Bounds.{Bounds}
 use Rattle.wh_part.specs.View.{numbered_of}
 use Rattle.wh_part.specs.declared.partition.NumberedRow.{NumberedRow}
@@ -49,12 +49,10 @@ value_of_column rows i place d values v within reaches same at =
     ap value_of at ∙ sym value ∙ ap (λ (row : Row). get_or row place Null) same
     ∙ sym (one ∙ ap (λ (e : ℕ × Row). get_or e.1 place Null) here)
 
--- the value order ranks
-pub value_ranks : IsStrictWeakOrder (λ x y. is_lt (value_cmp x y))
-value_ranks = ranks_by value_total (λ v. v)
-
-pub value_ranks_back : IsStrictWeakOrder (λ x y. is_lt (value_cmp y x))
-value_ranks_back = IsStrictWeakOrder-flip (λ x y. is_lt (value_cmp x y)) value_ranks
+-- the value order ranks, and so does its reverse
+pub value_ranks : (backward : Bool) → IsStrictWeakOrder (stands_before backward)
+value_ranks false = ranks_by value_total (λ v. v)
+value_ranks true = IsStrictWeakOrder-flip (λ x y. is_lt (value_cmp x y)) (ranks_by value_total (λ v. v))
 
 -- the first best so far, and one value more
 pub best_on : {beats : machine.Value → machine.Value → Bool} (ranks : IsStrictWeakOrder beats)

@@ -1,9 +1,10 @@
 -- What is known of a partition without its rows.
 --     width_of, IsEven        how many values the first row has, and that each has as many
 --     column                  the values at a place, from the first row on
+--     stands_before           whether a value stands before another in the value order, or in its reverse
 --     IsLeast, IsGreatest     one of some values, such that none is less, or none greater, in the value order
 --     IsMetaOf                what is said of a partition is so
-use Rattle.std.specs.Prelude.{◌≡◌, ℕ, ◌<◌, false, List, [], ◌∷◌, map, length, slice_index_or}
+use Rattle.std.specs.Prelude.{◌≡◌, ℕ, ◌<◌, Bool, true, false, List, [], ◌∷◌, map, length, slice_index_or}
 use Rattle.std.specs.List.{All, Contains}
 use Rattle.std.specs.Ordering.{is_lt}
 use Rattle.wh_value.specs.Value.{Value, Null, Row, value_cmp}
@@ -21,6 +22,10 @@ IsEven rows = All (λ e. length e.1 ≡ width_of rows) rows
 
 abbrev pub column : ℕ → List (ℕ × Row) → List Value
 column place rows = map (λ e. slice_index_or e.1 place Null) rows
+
+abbrev pub stands_before : Bool → Value → Value → Bool
+stands_before false x y = is_lt (value_cmp x y)
+stands_before true x y = is_lt (value_cmp y x)
 
 pub record IsLeast (value : Value) (values : List Value) : Type 0 where
   pub held : Contains values value

@@ -1,10 +1,8 @@
 ghost use Rattle.std.specs.Prelude.{◌≡◌, ◌<◌, ◌≤◌, ℕ, map, length, slice_index_or, IfOk};
 ghost use Rattle.std.specs.List.{All, IsFirstBest};
-ghost use Rattle.std.specs.Ordering.{is_lt};
-ghost use Rattle.wh_value.specs.Value.{value_cmp};
 ghost use Rattle.wh_value.specs.Value as machine;
 ghost use Rattle.wh_value.specs.View.{value_of};
-ghost use Rattle.wh_part.specs.Meta.{column, IsLeast, IsGreatest, IsBoundsOf};
+ghost use Rattle.wh_part.specs.Meta.{column, stands_before, IsLeast, IsGreatest, IsBoundsOf};
 ghost use Rattle.wh_part.specs.View.{numbered_of};
 
 use crate::{NumberedRow, Partition};
@@ -94,41 +92,26 @@ fn bounds_at(alloc: Global, rows: &[NumberedRow], place: usize) -> Result<Bounds
     requires wide { All (λ e. place < length e.1) (map numbered_of rows.now) }
     ensures { IfOk result (λ bounds. IsBoundsOf bounds (column place (map numbered_of rows.now))) }
 {
-    let least = value_at(rows, least_at(rows, place), place).copy(alloc)?;
-    let greatest = value_at(rows, greatest_at(rows, place), place).copy(alloc)?;
+    let least = value_at(rows, foremost_at(rows, place, false), place).copy(alloc)?;
+    let greatest = value_at(rows, foremost_at(rows, place, true), place).copy(alloc)?;
     Ok(Bounds { least, greatest })
 }
 
-/// A row with the least value at a place.
-fn least_at(rows: &[NumberedRow], place: usize) -> usize
+/// A row whose value at a place none stands before, in the value order or in its reverse.
+fn foremost_at(rows: &[NumberedRow], place: usize, backward: bool) -> usize
     requires some { 0 < length rows.now }
     requires wide { All (λ e. place < length e.1) (map numbered_of rows.now) }
-    ensures { IsFirstBest (λ x y. is_lt (value_cmp x y)) (column place (map numbered_of rows.now))
+    ensures { IsFirstBest (stands_before backward) (column place (map numbered_of rows.now))
         (length rows.now) result }
 {
-    let mut least = 0;
+    let mut foremost = 0;
     for row in 1..rows.len() {
-        if precedes(value_at(rows, row, place), value_at(rows, least, place)) {
-            least = row;
+        let so_far = value_at(rows, foremost, place);
+        if precedes(value_at(rows, row, place), so_far, backward) {
+            foremost = row;
         }
     }
-    least
-}
-
-/// A row with the greatest value at a place.
-fn greatest_at(rows: &[NumberedRow], place: usize) -> usize
-    requires some { 0 < length rows.now }
-    requires wide { All (λ e. place < length e.1) (map numbered_of rows.now) }
-    ensures { IsFirstBest (λ x y. is_lt (value_cmp y x)) (column place (map numbered_of rows.now))
-        (length rows.now) result }
-{
-    let mut greatest = 0;
-    for row in 1..rows.len() {
-        if precedes(value_at(rows, greatest, place), value_at(rows, row, place)) {
-            greatest = row;
-        }
-    }
-    greatest
+    foremost
 }
 
 /// The value of a row at a place.
@@ -141,9 +124,13 @@ fn value_at(rows: &[NumberedRow], row: usize, place: usize) -> &Value
     &rows[row].row.values()[place]
 }
 
-/// Whether a value stands before another in the value order.
-fn precedes(a: &Value, b: &Value) -> bool
-    ensures { result ≡ is_lt (value_cmp (value_of a.now) (value_of b.now)) }
+/// Whether a value stands before another in the value order, or in its reverse.
+fn precedes(a: &Value, b: &Value, backward: bool) -> bool
+    ensures { result ≡ stands_before backward (value_of a.now) (value_of b.now) }
 {
-    a.cmp(b).is_lt()
+    if backward {
+        b.cmp(a).is_lt()
+    } else {
+        a.cmp(b).is_lt()
+    }
 }

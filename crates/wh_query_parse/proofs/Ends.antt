@@ -57,18 +57,33 @@ no-union nothing_left = refl
 no-union closed = refl
 no-union order = refl
 
--- ---- no comma and no GROUP goes on with a core
+-- ---- what goes on with a core, its condition, its joins, an alias or an expression
 
-query-comma : {us : List Token} → QueryEnd us → sees k.Comma us ≡ false
-unfolding sees same_key key_of is_reserved
-query-comma nothing_left = refl
-query-comma closed = refl
-query-comma order = refl
+record IsQuiet (us : List Token) : Type 0 where
+  no_comma : sees k.Comma us ≡ false
+  condition : ends_filter us ≡ true
+  no_join : sees_join us ≡ false
+  name : ends_alias us ≡ true
+  unbound : binds us ≡ 0
+
+query-quiet : {us : List Token} → QueryEnd us → IsQuiet us
+unfolding sees same_key key_of is_reserved sees_word
+query-quiet nothing_left = record { no_comma = refl; condition = refl; no_join = refl; name = refl; unbound = refl }
+query-quiet closed = record { no_comma = refl; condition = refl; no_join = refl; name = refl; unbound = refl }
+query-quiet order = record { no_comma = refl; condition = refl; no_join = refl; name = refl; unbound = refl }
+
+core-quiet : {us : List Token} → CoreEnd us → IsQuiet us
+unfolding sees same_key key_of is_reserved sees_word
+core-quiet (query_end h) = query-quiet h
+core-quiet union = record { no_comma = refl; condition = refl; no_join = refl; name = refl; unbound = refl }
+
+filter-quiet : {us : List Token} → FilterEnd us → IsQuiet us
+unfolding sees same_key key_of is_reserved sees_word
+filter-quiet (core_end h) = core-quiet h
+filter-quiet group = record { no_comma = refl; condition = refl; no_join = refl; name = refl; unbound = refl }
 
 pub no-comma : {us : List Token} → CoreEnd us → sees k.Comma us ≡ false
-unfolding sees same_key key_of is_reserved
-no-comma (query_end h) = query-comma h
-no-comma union = refl
+no-comma h = (core-quiet h).no_comma
 
 query-group : {us : List Token} → QueryEnd us → sees_word (codes "GROUP") us ≡ false
 unfolding sees_word
@@ -81,77 +96,20 @@ unfolding sees_word
 no-group (query_end h) = query-group h
 no-group union = refl
 
-query-binds : {us : List Token} → QueryEnd us → binds us ≡ 0
-query-binds nothing_left = refl
-query-binds closed = refl
-query-binds order = refl
-
 pub core-binds : {us : List Token} → CoreEnd us → binds us ≡ 0
-core-binds (query_end h) = query-binds h
-core-binds union = refl
-
--- ---- nothing goes on with a condition
-
-query-filter : {us : List Token} → QueryEnd us → ends_filter us ≡ true
-unfolding sees_word
-query-filter nothing_left = refl
-query-filter closed = refl
-query-filter order = refl
-
-core-filter : {us : List Token} → CoreEnd us → ends_filter us ≡ true
-unfolding sees_word
-core-filter (query_end h) = query-filter h
-core-filter union = refl
+core-binds h = (core-quiet h).unbound
 
 pub filter-ends : {us : List Token} → FilterEnd us → ends_filter us ≡ true
-unfolding sees_word
-filter-ends (core_end h) = core-filter h
-filter-ends group = refl
-
--- ---- no join goes on with joins
-
-query-join : {us : List Token} → QueryEnd us → sees_join us ≡ false
-unfolding sees_word
-query-join nothing_left = refl
-query-join closed = refl
-query-join order = refl
-
-core-join : {us : List Token} → CoreEnd us → sees_join us ≡ false
-unfolding sees_word
-core-join (query_end h) = query-join h
-core-join union = refl
-
-filter-join : {us : List Token} → FilterEnd us → sees_join us ≡ false
-unfolding sees_word
-filter-join (core_end h) = core-join h
-filter-join group = refl
+filter-ends h = (filter-quiet h).condition
 
 pub no-join : {us : List Token} → JoinsEnd us → sees_join us ≡ false
 unfolding sees_word
-no-join (filter_end h) = filter-join h
+no-join (filter_end h) = (filter-quiet h).no_join
 no-join filter = refl
-
--- ---- nothing goes on with a source or with the expression behind ON
-
-query-alias : {us : List Token} → QueryEnd us → ends_alias us ≡ true
-unfolding is_reserved
-query-alias nothing_left = refl
-query-alias closed = refl
-query-alias order = refl
-
-core-alias : {us : List Token} → CoreEnd us → ends_alias us ≡ true
-unfolding is_reserved
-core-alias (query_end h) = query-alias h
-core-alias union = refl
-
-filter-alias : {us : List Token} → FilterEnd us → ends_alias us ≡ true
-unfolding is_reserved
-filter-alias (core_end h) = core-alias h
-filter-alias group = refl
 
 joins-alias : {us : List Token} → JoinsEnd us → ends_alias us ≡ true
 unfolding is_reserved
-joins-alias (filter_end h) = filter-alias h
+joins-alias (filter_end h) = (filter-quiet h).name
 joins-alias filter = refl
 
 pub source-ends : {us : List Token} → SourceEnd us → ends_alias us ≡ true
@@ -160,12 +118,8 @@ source-ends (joins_end h) = joins-alias h
 source-ends join = refl
 source-ends inner = refl
 
-filter-binds : {us : List Token} → FilterEnd us → binds us ≡ 0
-filter-binds (core_end h) = core-binds h
-filter-binds group = refl
-
 joins-binds : {us : List Token} → JoinsEnd us → binds us ≡ 0
-joins-binds (filter_end h) = filter-binds h
+joins-binds (filter_end h) = (filter-quiet h).unbound
 joins-binds filter = refl
 
 pub source-binds : {us : List Token} → SourceEnd us → binds us ≡ 0

@@ -72,19 +72,7 @@ asked_alias (Quoted name ∷ us) = refl
 asked_alias (TextToken bytes ∷ us) = refl
 asked_alias (NumberToken n ∷ us) = refl
 asked_alias (SignToken token.LParen ∷ us) = refl
-asked_alias (SignToken token.RParen ∷ us) = refl
-asked_alias (SignToken token.Comma ∷ us) = refl
-asked_alias (SignToken token.Dot ∷ us) = refl
-asked_alias (SignToken token.Star ∷ us) = refl
-asked_alias (SignToken token.Plus ∷ us) = refl
-asked_alias (SignToken token.Minus ∷ us) = refl
-asked_alias (SignToken token.Equal ∷ us) = refl
-asked_alias (SignToken token.Unequal ∷ us) = refl
-asked_alias (SignToken token.Less ∷ us) = refl
-asked_alias (SignToken token.AtMost ∷ us) = refl
-asked_alias (SignToken token.Greater ∷ us) = refl
-asked_alias (SignToken token.AtLeast ∷ us) = refl
-asked_alias (SignToken token.Arrow ∷ us) = refl
+asked_alias (SignToken _ ∷ us) = refl
 
 pub as_alias : (ts : List Token) → sees_word (codes "AS") ts ≡ true → false ≡ ends_alias ts
 as_alias ts e = ap (λ (b : Bool). if b then false else not (names_key (key_of ts))) (sym e) ∙ asked_alias ts

@@ -69,6 +69,7 @@ pub fn filter(
 
 /// What each reading function reads is what stands there. No tokens begin with two queries, and a
 /// query or a source is a front of them.
+#[tactic(auto, using(crate::proofs::Reading::tokens_fix_query, crate::proofs::Reading::query_is_front, crate::proofs::Reading::source_is_front))]
 pub fn reading_laws()
     ensures queries { laws.ReadsQueries }
     ensures sources { laws.ReadsSources }

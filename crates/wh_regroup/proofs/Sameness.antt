@@ -26,11 +26,7 @@ same_comparisons _ _ e = cc
 
 same_comparison-itself : (o : Comparison) → same_comparison o o ≡ true
 same_comparison-itself comparisons.Equal = refl
-same_comparison-itself comparisons.Unequal = refl
-same_comparison-itself comparisons.Less = refl
-same_comparison-itself comparisons.LessOrEqual = refl
-same_comparison-itself comparisons.Greater = refl
-same_comparison-itself comparisons.GreaterOrEqual = refl
+same_comparison-itself _ = refl
 
 equal_to_itself : (r : Ordering) → r ≡ ordering_reverse r → r ≡ Equal
 equal_to_itself Less e = cc

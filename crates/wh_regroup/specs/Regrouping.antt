@@ -1,18 +1,6 @@
 -- How a scalar is put over the rows of groups.
---     Regroups                  what a fallible regrouping gives: the scalar that is meant, or
---                               the fault where there is none
 --     with_part, with_sides     the operator of a scalar over other parts
-use Rattle.std.specs.Prelude.{◌≡◌, Option, Some, None, Result, Ok, Err}
 use Rattle.wh_meaning.specs.Scalar as meaning
-use Rattle.wh_scalar.specs.View.{scalar_of}
-use Rattle.wh_scalar.specs.declared.scalar.Scalar.{Scalar}
-use Rattle.wh_regroup.specs.declared.fault.GroupFault.{GroupFault}
-use Rattle.wh_regroup.specs.declared.fault.GroupFault.TheVariants.{ColumnOutside, OutOfMemory}
-
-abbrev pub Regroups : Result Scalar GroupFault → Option meaning.Scalar → Type 0
-Regroups (Ok found) meant = meant ≡ Some (scalar_of found)
-Regroups (Err ColumnOutside) meant = meant ≡ None
-Regroups (Err OutOfMemory) meant = Unit {0}
 
 abbrev pub with_part : meaning.Scalar → meaning.Scalar → meaning.Scalar
 with_part (meaning.Neg a) part = meaning.Neg part

@@ -1,9 +1,8 @@
-ghost use Rattle.std.specs.Prelude.{◌≡◌, Some, map, option_map, IfOk};
+ghost use Rattle.std.specs.Prelude.{◌≡◌, map, option_map, IfOk};
 ghost use Rattle.wh_naming.specs.Grouping.{regrouped};
-ghost use Rattle.wh_regroup.specs.Regrouping.{Regroups, with_part, with_sides};
+ghost use Rattle.wh_regroup.specs.Regrouping.{with_part, with_sides};
 ghost use Rattle.wh_scalar.specs.View.{scalar_of};
 
-use crate::fault::GroupFault;
 use crate::keys::{call_column, column, key_of};
 use sqlite_items::Boxed;
 use std::alloc::{AllocError, Global};
@@ -11,6 +10,7 @@ use wh_scalar::Scalar;
 
 /// The scalar over the rows of groups; None where a column stands outside of keys and calls.
 /// Each outermost part that is a key is the key's column, and a call is a column behind the keys.
+#[tactic(auto, unfolding(wh_naming::specs::Grouping::regrouped), using(crate::proofs::KeyLemmas::key_first))]
 pub fn regrouped(
     alloc: Global,
     keys: &[Scalar],
@@ -20,31 +20,17 @@ pub fn regrouped(
     ensures { IfOk result (λ found. option_map scalar_of found
         ≡ regrouped (map scalar_of keys.now) width (scalar_of scalar.now)) }
 {
-    match over_groups(alloc, keys, width, scalar) {
-        Ok(found) => Ok(Some(found)),
-        Err(GroupFault::ColumnOutside) => Ok(None),
-        Err(GroupFault::OutOfMemory) => Err(AllocError),
-    }
-}
-
-#[tactic(auto, unfolding(wh_naming::specs::Grouping::regrouped), using(crate::proofs::KeyLemmas::key_first))]
-fn over_groups(
-    alloc: Global,
-    keys: &[Scalar],
-    width: usize,
-    scalar: &Scalar,
-) -> Result<Scalar, GroupFault>
-    ensures { Regroups result (regrouped (map scalar_of keys.now) width (scalar_of scalar.now)) }
-{
     if let Some(place) = key_of(keys, scalar) {
-        return column(place);
+        return Ok(Some(column(place)?));
     }
     match scalar {
-        Scalar::Const(value) => Ok(Scalar::Const(value.copy(alloc)?)),
+        Scalar::Const(value) => Ok(Some(Scalar::Const(value.copy(alloc)?))),
         Scalar::Column(place) => call_column(keys.len(), width, *place),
         Scalar::Neg(x) | Scalar::Not(x) | Scalar::IsNull(x) => {
-            let part = over_groups(alloc, keys, width, x.get())?;
-            Ok(with_part(scalar, Boxed::new(alloc, part)?))
+            let Some(part) = regrouped(alloc, keys, width, x.get())? else {
+                return Ok(None);
+            };
+            Ok(Some(with_part(scalar, Boxed::new(alloc, part)?)))
         }
         Scalar::Add(x, y)
         | Scalar::Sub(x, y)
@@ -52,9 +38,14 @@ fn over_groups(
         | Scalar::Compare(_, x, y)
         | Scalar::And(x, y)
         | Scalar::Or(x, y) => {
-            let left = Boxed::new(alloc, over_groups(alloc, keys, width, x.get())?)?;
-            let right = Boxed::new(alloc, over_groups(alloc, keys, width, y.get())?)?;
-            Ok(with_sides(scalar, left, right))
+            let Some(left) = regrouped(alloc, keys, width, x.get())? else {
+                return Ok(None);
+            };
+            let left = Boxed::new(alloc, left)?;
+            let Some(right) = regrouped(alloc, keys, width, y.get())? else {
+                return Ok(None);
+            };
+            Ok(Some(with_sides(scalar, left, Boxed::new(alloc, right)?)))
         }
     }
 }

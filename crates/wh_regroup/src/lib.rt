@@ -2,7 +2,6 @@
 #![tactic(auto)]
 
 mod comparing;
-mod fault;
 mod grouped;
 mod keys;
 mod laws;

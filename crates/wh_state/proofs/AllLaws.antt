@@ -1,18 +1,14 @@
 -- What holds of each element of a list.
---     all_map, all_both, all_filter     also another thing, and of the elements that pass a test
---     all_append, all_more              others behind them, and one more
+--     all_both, all_filter              also another thing, by two that hold, and of the elements that pass a test
+--     all_map, all_append, all_more     as wh_value has them: another thing, others behind them, and one more
 --     all_at, all_with, all_changed_at  the one of an id, another one there, and one that is changed
 --     filter_same                       tests that agree on each element
-use Rattle.std.proofs.Common.{◌≡◌, ℕ, zero, suc, Bool, true, false, cond, List, [], ◌∷◌, ◌++◌, Option, Some, None}
+use Rattle.std.proofs.Common.{◌≡◌, ℕ, zero, suc, Bool, true, false, cond, List, [], ◌∷◌, Option, Some, None}
 use Rattle.std.proofs.Common.{option_map, refl, subst}
 use Rattle.std.specs.Prelude.{slice_get, slice_set}
 use Rattle.std.specs.List.{AllByRecursion, filter}
 use Rattle.wh_state.specs.State.{at_id, with_id, put_at, changed_at}
-
-pub all_map : {X : Type 0} (P Q : X → Type 0) → ((x : X) → P x → Q x) → (xs : List X)
-    → AllByRecursion P xs → AllByRecursion Q xs
-all_map P Q so [] h = tt
-all_map P Q so (x ∷ xs) h = (so x h.0, all_map P Q so xs h.1)
+pub use Rattle.wh_value.proofs.ListLaws.{all_map, all_append, all_more}
 
 pub all_both : {X : Type 0} (P Q R : X → Type 0) → ((x : X) → P x → Q x → R x) → (xs : List X)
     → AllByRecursion P xs → AllByRecursion Q xs → AllByRecursion R xs
@@ -36,16 +32,6 @@ filter_same test other (x ∷ xs) same =
     let here : test x ≡ other x = same.0 in
     let rest = filter_same test other xs same.1 in
     rw (here, rest) refl
-
-pub all_append : {X : Type 0} (P : X → Type 0) (xs ys : List X) → AllByRecursion P xs → AllByRecursion P ys
-    → AllByRecursion P (xs ++ ys)
-all_append P [] ys h k = k
-all_append P (x ∷ xs) ys h k = (h.0, all_append P xs ys h.1 k)
-
-pub all_more : {X : Type 0} (P : X → Type 0) (xs : List X) (x : X)
-    → AllByRecursion P xs → P x → AllByRecursion P (xs ++ x ∷ [])
-all_more P [] x h here = (here, tt)
-all_more P (y ∷ ys) x h here = (h.0, all_more P ys x h.1 here)
 
 all_get : {X : Type 0} (P : X → Type 0) (xs : List X) (place : ℕ) (x : X)
     → AllByRecursion P xs → slice_get xs place ≡ Some x → P x

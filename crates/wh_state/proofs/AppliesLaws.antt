@@ -27,7 +27,8 @@ use Rattle.wh_state.proofs.AllLaws.{all_map, all_both, all_append, all_filter}
 use Rattle.wh_state.proofs.EditLaws.{untouched, without_gone}
 use Rattle.wh_state.proofs.ActLaws.{version_change, orderly_standing}
 use Rattle.wh_state.proofs.OrderlyLaws.{apart_append, KeptTable}
-use Rattle.wh_state.proofs.PartLaws.{made_numbered, gone_stand, edited_all, left_each, made_all, numbered_rise_from}
+use Rattle.wh_state.proofs.PartLaws.{few_parts, made_have, made_numbered, gone_stand, edited_all, left_each, made_all}
+use Rattle.wh_state.proofs.PartLaws.{numbered_rise_from}
 use Rattle.wh_state.proofs.ApartLaws.{left_apart}
 
 -- ---- rows that come
@@ -90,18 +91,11 @@ cut_some number (suc count) [] some = absurd (omega arith)
 cut_some number (suc count) (e ∷ es) some =
     (omega arith, cut_some (number + 1) count (drop 999 es) (omega (arith, length-drop 999 es)))
 
-few_parts : (count : ℕ) → partitions_of count * 1000 < count + 1000
-few_parts count = omega arith
-
 pub made_some : (next next_row : ℕ) (e : Edits) (ps : List Partition)
     → AllByRecursion HasRows (partitions_made next next_row e ps)
-unfolding partitions_made
 made_some next next_row e ps =
-    let left : List Partition = partitions_left next e.rows ps in
-    let added : List (ℕ × Row) = numbered next_row e.added in
-    all_append HasRows left (cut (next + length left) added)
-    (left_some next (map (λ p. edited e.rows p.rows) (by_rows (touched e.rows ps))))
-    (cut_some (next + length left) (partitions_of (length added)) added (few_parts (length added)))
+    made_have (λ first made. AllByRecursion HasRows made) (λ first left added. all_append HasRows left added)
+    left_some cut_some next next_row e ps
 
 -- those that edits make, and those that stay
 pub made_apart : (next next_row : ℕ) (e : Edits) (ps : List Partition) → IsOrderly ps → AllByRecursion HasRows ps

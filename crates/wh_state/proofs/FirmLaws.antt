@@ -22,7 +22,8 @@ use Rattle.wh_state.specs.Edits.{without, is_among}
 use Rattle.wh_state.specs.Stored.{Stored, first_stored, StoredTable, StoredKind, StoredObject}
 use Rattle.wh_state.specs.Stored.{standing}
 use Rattle.wh_state.specs.Commit.{VersionChange, Change, CreatesTable, Drops, PushesVersion, CreatesStream, SetsOffset}
-use Rattle.wh_state.specs.Commit.{pushed, pushed_kind, pushed_object, offset_set, offset_set_kind, changed, all_changed}
+use Rattle.wh_state.specs.Commit.{pushed, pushed_kind, pushed_object, offset_set, changed, all_changed}
+use Rattle.wh_state.proofs.KindLaws.{offset_keeps}
 use Rattle.wh_state.specs.Commit.{Commit, applied, Leads, RowsFit, VersionApplies, FitsKind, FitsObject, IsLiveTable}
 use Rattle.wh_state.specs.Commit.{IsTableKind, ChangeApplies, AllApply}
 use Rattle.wh_state.specs.Orderly.{HasRisingRows}
@@ -243,28 +244,17 @@ pushed_stream stamp c objects o h = by_kind o.kind h
     by_kind (StreamKind s) h = h
 
 set_source : (offset : ℕ) (s : Stream) (o : StoredObject) → IsSourceOf s o → IsSourceOf s (offset_set offset o)
-set_source offset s o h = by_kind o.kind h
-  where
-    by_kind : (k : StoredKind) → IsSomeAnd (table_in k) (λ t. s.columns ≡ t.columns ++ metadata_columns)
-        → IsSomeAnd (table_in (offset_set_kind offset k)) (λ t. s.columns ≡ t.columns ++ metadata_columns)
-    by_kind (TableKind t) h = h
-    by_kind (StreamKind s) h = h
+set_source offset s o h =
+    offset_keeps (λ k. IsSomeAnd (table_in k) (λ t. s.columns ≡ t.columns ++ metadata_columns)) offset (λ r h. h)
+    o.kind h
 
 set_stream : (offset : ℕ) (objects : List StoredObject) (o : StoredObject) → HasSource objects o
     → HasSource objects (offset_set offset o)
-set_stream offset objects o h = by_kind o.kind h
-  where
-    by_kind : (k : StoredKind) → IfSome (stream_in k) (λ s. FoundAt (IsSourceOf s) objects s.source)
-        → IfSome (stream_in (offset_set_kind offset k)) (λ s. FoundAt (IsSourceOf s) objects s.source)
-    by_kind (TableKind t) h = h
-    by_kind (StreamKind s) h = h
+set_stream offset objects o h =
+    offset_keeps (λ k. IfSome (stream_in k) (λ s. FoundAt (IsSourceOf s) objects s.source)) offset (λ r h. h) o.kind h
 
 set_firm : (offset : ℕ) (o : StoredObject) → IsFirmObject o → IsFirmObject (offset_set offset o)
-set_firm offset o h = by_kind o.kind h
-  where
-    by_kind : (k : StoredKind) → IsFirmKind k → IsFirmKind (offset_set_kind offset k)
-    by_kind (TableKind t) h = h
-    by_kind (StreamKind s) h = h
+set_firm offset o h = offset_keeps IsFirmKind offset (λ r h. h) o.kind h
 
 streams_more : (objects : List StoredObject) (new : StoredObject) → HasSource (objects ++ new ∷ []) new
     → AllByRecursion (HasSource objects) objects →

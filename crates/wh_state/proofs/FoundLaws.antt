@@ -8,6 +8,7 @@ use Rattle.std.proofs.Common.{subst, ap, ◌∙◌, ◌⊎◌, inl, inr, arith}
 use Rattle.std.specs.Prelude.{slice_get, slice_set}
 use Rattle.std.specs.Option.{IsSomeAnd}
 use Rattle.wh_state.specs.State.{at_id, with_id, put_at, changed_at}
+use Rattle.wh_state.proofs.IdLaws.{at_spared}
 
 -- what stands at an id has it
 abbrev pub FoundAt : {X : Type 0} → (X → Type 0) → List X → ℕ → Type 0
@@ -26,28 +27,6 @@ get_kept P (x ∷ xs) zero zero y new h = new
 get_kept P (x ∷ xs) zero (suc other) y new h = h
 get_kept P (x ∷ xs) (suc place) zero y new h = h
 get_kept P (x ∷ xs) (suc place) (suc other) y new h = get_kept P xs place other y new h
-
-get_spared : {X : Type 0} (xs : List X) (place other : ℕ) (y : X) → (other ≡ place → ⊥)
-    → slice_get (slice_set xs place y) other ≡ slice_get xs other
-get_spared [] place other y apart = refl
-get_spared (x ∷ xs) zero zero y apart = absurd (apart refl)
-get_spared (x ∷ xs) zero (suc other) y apart = refl
-get_spared (x ∷ xs) (suc place) zero y apart = refl
-get_spared (x ∷ xs) (suc place) (suc other) y apart = get_spared xs place other y (λ same. apart (ap suc same))
-
-with_spared : {X : Type 0} (xs : List X) (id other : ℕ) (y : X) → (other ≡ id → ⊥)
-    → at_id (with_id xs id y) other ≡ at_id xs other
-with_spared xs zero other y apart = refl
-with_spared xs (suc place) zero y apart = refl
-with_spared xs (suc place) (suc other) y apart = get_spared xs place other y (λ same. apart (ap suc same))
-
-pub at_spared : {X : Type 0} (f : X → X) (xs : List X) (id other : ℕ) → (other ≡ id → ⊥)
-    → at_id (changed_at xs id f) other ≡ at_id xs other
-at_spared f xs id other apart = by_found (at_id xs id)
-  where
-    by_found : (found : Option _) → at_id (put_at xs id (option_map f found)) other ≡ at_id xs other
-    by_found None = refl
-    by_found (Some x) = with_spared xs id other (f x) apart
 
 -- at another id
 pub found_spared : {X : Type 0} (P : X → Type 0) (f : X → X) (xs : List X) (id other : ℕ) → (other ≡ id → ⊥)

@@ -1,7 +1,7 @@
 -- Lists by ids and names, where each element is looked at through a function.
 --     map_at, map_with, map_put         what stands at an id, and another value there
 --     map_changed                       what stands there is changed
---     at_other, with_same               what stands at an id behind it stays, and what is put in its own place
+--     at_spared, at_other, with_same    what stands at another id stays, and what is put in its own place
 --     map_last, last_more               the last element
 --     map_position, map_count           the first that passes a test, and how many pass
 use Rattle.std.proofs.Common.{◌≡◌, ℕ, zero, suc, ◌+◌, ◌<◌, Bool, cond, List, [], ◌∷◌, ◌++◌, map}
@@ -60,28 +60,32 @@ pub with_same : {X : Type 0} (xs : List X) (id : ℕ) (x : X) → at_id xs id �
 with_same xs zero x there = refl
 with_same xs (suc place) x there = set_same xs place x there
 
--- what stands at a later place
-get_other : {X : Type 0} (xs : List X) (place later : ℕ) (x : X) → place < later
-    → slice_get (slice_set xs place x) later ≡ slice_get xs later
-get_other [] place later x h = refl
-get_other (y ∷ ys) zero zero x h = absurd (omega arith)
-get_other (y ∷ ys) zero (suc later) x h = refl
-get_other (y ∷ ys) (suc place) zero x h = absurd (omega arith)
-get_other (y ∷ ys) (suc place) (suc later) x h = get_other ys place later x (omega arith)
+-- what stands at another place
+get_spared : {X : Type 0} (xs : List X) (place other : ℕ) (y : X) → (other ≡ place → ⊥)
+    → slice_get (slice_set xs place y) other ≡ slice_get xs other
+get_spared [] place other y apart = refl
+get_spared (x ∷ xs) zero zero y apart = absurd (apart refl)
+get_spared (x ∷ xs) zero (suc other) y apart = refl
+get_spared (x ∷ xs) (suc place) zero y apart = refl
+get_spared (x ∷ xs) (suc place) (suc other) y apart = get_spared xs place other y (λ same. apart (ap suc same))
 
-with_other : {X : Type 0} (xs : List X) (id later : ℕ) (x : X) → id < later
-    → at_id (with_id xs id x) later ≡ at_id xs later
-with_other xs zero later x h = refl
-with_other xs (suc place) zero x h = absurd (omega arith)
-with_other xs (suc place) (suc later) x h = get_other xs place later x (omega arith)
+with_spared : {X : Type 0} (xs : List X) (id other : ℕ) (y : X) → (other ≡ id → ⊥)
+    → at_id (with_id xs id y) other ≡ at_id xs other
+with_spared xs zero other y apart = refl
+with_spared xs (suc place) zero y apart = refl
+with_spared xs (suc place) (suc other) y apart = get_spared xs place other y (λ same. apart (ap suc same))
+
+pub at_spared : {X : Type 0} (f : X → X) (xs : List X) (id other : ℕ) → (other ≡ id → ⊥)
+    → at_id (changed_at xs id f) other ≡ at_id xs other
+at_spared f xs id other apart = by_found (at_id xs id)
+  where
+    by_found : (found : Option _) → at_id (put_at xs id (option_map f found)) other ≡ at_id xs other
+    by_found None = refl
+    by_found (Some x) = with_spared xs id other (f x) apart
 
 pub at_other : {X : Type 0} (f : X → X) (xs : List X) (id later : ℕ) → id < later
     → at_id (changed_at xs id f) later ≡ at_id xs later
-at_other f xs id later h = by_found (at_id xs id)
-  where
-    by_found : (found : Option _) → at_id (put_at xs id (option_map f found)) later ≡ at_id xs later
-    by_found None = refl
-    by_found (Some x) = with_other xs id later (f x) h
+at_other f xs id later h = at_spared f xs id later (λ same. omega (arith, same))
 
 -- ---- the last element
 

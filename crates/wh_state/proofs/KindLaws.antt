@@ -1,6 +1,8 @@
--- The stream of a kind whose table changed, and of one whose stream did.
-use Rattle.std.proofs.Common.{◌≡◌, option_map, refl}
+-- The stream of a kind whose table changed, and of one whose stream did, and what stays at another offset.
+use Rattle.std.proofs.Common.{◌≡◌, ℕ, option_map, refl}
 use Rattle.wh_state.specs.State.{Table, Stream, Kind, TableKind, StreamKind, on_table, on_stream, stream_in}
+use Rattle.wh_state.specs.Stored.{StoredKind}
+use Rattle.wh_state.specs.Commit.{offset_set_kind}
 
 pub stream_of_table : (f : Table → Table) (k : Kind) → stream_in (on_table f k) ≡ stream_in k
 stream_of_table f (TableKind t) = refl
@@ -9,3 +11,10 @@ stream_of_table f (StreamKind s) = refl
 pub stream_of_stream : (f : Stream → Stream) (k : Kind) → stream_in (on_stream f k) ≡ option_map f (stream_in k)
 stream_of_stream f (TableKind t) = refl
 stream_of_stream f (StreamKind s) = refl
+
+-- what a stream keeps at another offset is kept
+pub offset_keeps : (P : StoredKind → Type 0) (offset : ℕ)
+    → ((s : Stream) → P (StreamKind s) → P (offset_set_kind offset (StreamKind s))) → (k : StoredKind) → P k
+    → P (offset_set_kind offset k)
+offset_keeps P offset keeps (TableKind t) h = h
+offset_keeps P offset keeps (StreamKind s) h = keeps s h

@@ -20,7 +20,8 @@ use Rattle.wh_state.specs.State.{table_in}
 use Rattle.wh_state.specs.Edits.{is_among, without}
 use Rattle.wh_state.specs.Stored.{StoredTable, StoredKind, StoredObject, Stored, first_stored, standing}
 use Rattle.wh_state.specs.Commit.{VersionChange, Change, CreatesTable, Drops, PushesVersion, CreatesStream, SetsOffset}
-use Rattle.wh_state.specs.Commit.{Commit, pushed, pushed_object, offset_set, offset_set_kind, changed, all_changed}
+use Rattle.wh_state.specs.Commit.{Commit, pushed, pushed_object, offset_set, changed, all_changed}
+use Rattle.wh_state.proofs.KindLaws.{offset_keeps}
 use Rattle.wh_state.specs.Commit.{applied, AreApart, AllApart, NumberedFrom, VersionApplies, FitsObject, ChangeApplies}
 use Rattle.wh_state.specs.Commit.{AllApply, Applies, Leads}
 use Rattle.wh_state.specs.Spelling.{NumbersRiseFrom, IsVersionChange, IsChange, IsCommit}
@@ -177,11 +178,7 @@ pushed_kept stamp c o (TableKind t) good is kept fits = orderly_pushed stamp c t
 pushed_kept stamp c o (StreamKind s) good is kept fits = absurd fits.1
 
 offset_kept : (offset : ℕ) (o : StoredObject) → KeptObject o → KeptObject (offset_set offset o)
-offset_kept offset o kept = by_kind o.kind kept
-  where
-    by_kind : (k : StoredKind) → KeptKind k → KeptKind (offset_set_kind offset k)
-    by_kind (TableKind t) kept = kept
-    by_kind (StreamKind s) kept = tt
+offset_kept offset o kept = offset_keeps KeptKind offset (λ s kept. tt) o.kind kept
 
 pub orderly_changed : (stamp : ℕ) (objects : List StoredObject) (c : Change) → IsChange c → ChangeApplies objects c
     → KeptObjects objects

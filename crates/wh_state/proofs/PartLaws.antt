@@ -1,11 +1,12 @@
 -- The partitions that edits make.
+--     few_parts, made_have     what holds of those that are left and of those that come
 --     made_numbered      their numbers rise by one from the next on
 --     gone_stand         the numbers that go are those of partitions that stand
 --     left_rise, edited_from     edited rows rise as those before, and lie where these do
 --     made_rise          the rows of each rise
 --     made_all           what holds of edited rows and of added ones holds of each row of theirs
-use Rattle.std.proofs.Common.{◌≡◌, ℕ, zero, suc, ◌+◌, ◌≤◌, Bool, true, false, cond, List, [], ◌∷◌, ◌++◌, length, map}
-use Rattle.std.proofs.Common.{drop, take, Option, Some, None, refl, subst, arith, IsTrue}
+use Rattle.std.proofs.Common.{◌≡◌, ℕ, zero, suc, ◌+◌, ◌*◌, ◌<◌, ◌≤◌, Bool, true, false, cond, List, [], ◌∷◌, ◌++◌}
+use Rattle.std.proofs.Common.{length, map, drop, take, Option, Some, None, refl, subst, arith, IsTrue}
 use Rattle.std.specs.Prelude.{nat_eq, ◌||◌}
 use Rattle.std.specs.List.{AllByRecursion, list_any}
 use Rattle.std.specs.FinMap.{get}
@@ -19,6 +20,24 @@ use Rattle.wh_state.specs.Commit.{NumberedFrom, Stands}
 use Rattle.wh_state.specs.Orderly.{HasRisingRows}
 use Rattle.wh_state.proofs.AllLaws.{all_map, all_append, all_filter}
 use Rattle.wh_state.proofs.EditLaws.{all_by_rows}
+
+-- ---- those that are left, and behind them those of the rows that come
+
+pub few_parts : (count : ℕ) → partitions_of count * 1000 < count + 1000
+few_parts count = omega arith
+
+pub made_have : (P : ℕ → List Partition → Type 0)
+    → ((next : ℕ) (ps qs : List Partition) → P next ps → P (next + length ps) qs → P next (ps ++ qs))
+    → ((next : ℕ) (lists : List (List (ℕ × Row))) → P next (made_of next lists))
+    → ((next count : ℕ) (rows : List (ℕ × Row)) → count * 1000 < length rows + 1000 → P next (cut_into next count rows))
+    → (next next_row : ℕ) (e : Edits) (standing : List Partition) → P next (partitions_made next next_row e standing)
+unfolding partitions_made
+made_have P both lefts pieces next next_row e standing =
+    let left : List Partition = partitions_left next e.rows standing in
+    let added : List (ℕ × Row) = numbered next_row e.added in
+    both next left (cut (next + length left) added)
+    (lefts next (map (λ p. edited e.rows p.rows) (by_rows (touched e.rows standing))))
+    (pieces (next + length left) (partitions_of (length added)) added (few_parts (length added)))
 
 -- ---- their numbers
 
@@ -40,13 +59,9 @@ numbered_both next (p ∷ ps) qs left right =
 
 pub made_numbered : (next next_row : ℕ) (e : Edits) (standing : List Partition)
     → NumberedFrom next (partitions_made next next_row e standing)
-unfolding partitions_made
 made_numbered next next_row e standing =
-    let left : List Partition = partitions_left next e.rows standing in
-    let added : List (ℕ × Row) = numbered next_row e.added in
-    numbered_both next left (cut (next + length left) added)
-    (numbered_left next (map (λ p. edited e.rows p.rows) (by_rows (touched e.rows standing))))
-    (numbered_cut (next + length left) (partitions_of (length added)) added)
+    made_have NumberedFrom numbered_both numbered_left (λ first count rows few. numbered_cut first count rows)
+    next next_row e standing
 
 -- ---- the numbers that go
 

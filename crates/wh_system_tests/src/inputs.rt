@@ -27,16 +27,18 @@ impl Read for Interrupted<'_> {
     }
 }
 
+/// How many signals cut into a call over two bytes, and what it gives.
+pub(crate) const SIGNALS: [(&str, u32, Result<usize, Failed>); 4] = [
+    ("none", 0, Ok(2)),
+    ("one", 1, Ok(2)),
+    ("one less than the tries", 999, Ok(2)),
+    ("one for each try", 1000, Err(Failed)),
+];
+
 #[test]
 fn a_read_goes_on_after_signals(rt: HostRuntime) {
     let mut buf = [0u8; 2];
-    let cases = [
-        ("none", 0, Ok(2)),
-        ("one", 1, Ok(2)),
-        ("one less than the tries", 999, Ok(2)),
-        ("one for each try", 1000, Err(Failed)),
-    ];
-    for (name, signals, want) in cases {
+    for (name, signals, want) in SIGNALS {
         let mut source = InSource::new(Interrupted(signals, b"ab"));
         assert_eq!(rt; source.read(&mut buf), want, "{name}");
     }

@@ -1,3 +1,4 @@
+use crate::inputs::SIGNALS;
 use std::io;
 use std::io::{ErrorKind, Write};
 use std::test::Fail;
@@ -55,13 +56,7 @@ impl Write for Interrupted {
 
 #[test]
 fn a_write_goes_on_after_signals(rt: HostRuntime) {
-    let cases = [
-        ("none", 0, Ok(2)),
-        ("one", 1, Ok(2)),
-        ("one less than the tries", 999, Ok(2)),
-        ("one for each try", 1000, Err(Failed)),
-    ];
-    for (name, signals, want) in cases {
+    for (name, signals, want) in SIGNALS {
         let mut sink = OutSink::new(Interrupted(signals));
         assert_eq!(rt; sink.write(b"ab"), want, "{name}");
     }

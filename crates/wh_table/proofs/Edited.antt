@@ -1,7 +1,8 @@
 -- A table with edits that are in no version yet.
+--     parts_after      the partitions that stay, and behind them those that are made
 --     edited_rows      the rows of the partitions that stay and of those that are made are the rows after the edits
 --     edited_apart     these partitions are apart
-use Rattle.std.proofs.Common.{◌≡◌, ℕ, ◌∷◌, [], ◌++◌, ap, sym, ◌∙◌}
+use Rattle.std.proofs.Common.{◌≡◌, ℕ, List, ◌∷◌, [], ◌++◌, ap, sym, ◌∙◌}
 use Rattle.wh_state.specs.State.{last_of, content_in, last_rows}
 use Rattle.wh_state.specs.Commit.{AllApart, pushed}
 use Rattle.wh_state.specs.Edits.{Edits, without}
@@ -10,7 +11,8 @@ use Rattle.wh_state.specs.Stored.{StoredVersion, standing, rows_of, table_meant}
 use Rattle.wh_state.specs.Written.{version_change}
 use Rattle.wh_state.proofs.ActLaws.{edited_meant, orderly_standing}
 use Rattle.wh_state.proofs.MeaningLaws.{last_rows_meant}
-use Rattle.wh_version.specs.History.{versions_of}
+use Rattle.wh_frame.specs.Partition.{Partition}
+use Rattle.wh_version.specs.History.{versions_of, standing_in}
 use Rattle.wh_table.specs.declared.editing.EditedTable.{EditedTable}
 use Rattle.wh_table.specs.declared.table.StoredTable.{StoredTable}
 use Rattle.wh_table.specs.Edited.{IsEdited}
@@ -18,6 +20,9 @@ use Rattle.wh_table.specs.Table.{kept_table, table_of}
 use Rattle.wh_table.proofs.Apart.{Decides-all_apart, changed_apart}
 use Rattle.wh_table.proofs.OrderlyTables.{orderly_table}
 use Rattle.wh_table.proofs.Pushed.{last_apart, last_of-push}
+
+abbrev pub parts_after : StoredTable → EditedTable → List Partition
+parts_after t edited = without edited.removed.items (standing_in (versions_of t.history)) ++ edited.added.items
 
 module _ (t : StoredTable) (edited : EditedTable) (e : Edits) (is : IsEdited edited e (table_of t)) where
   pub edited_rows : (stamp : ℕ) → rows_of (without edited.removed.items (standing (table_of t)) ++ edited.added.items)

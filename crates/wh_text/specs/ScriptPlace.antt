@@ -93,11 +93,8 @@ kept (Command area) text b = with_byte 65537 text b
 
 -- how many bytes the text has at most
 abbrev pub most : ScriptPlace → ℕ
-most Gap = 65537
-most GapComment = 65537
 most Marked = 65538
-most (Opening area) = 65537
-most (Command area) = 65537
+most _ = 65537
 
 -- 1 where a line has begun
 abbrev pub begun : ScriptPlace → ℕ

@@ -29,7 +29,8 @@ use Rattle.std.specs.Bool.{OnTrue}
 use Rattle.wh_version.specs.declared.row_edit.RowEdit.{RowEdit}
 use Rattle.wh_version.specs.RowEdits.{entries_in, put_all, puts, below, removal_of, change_of}
 use Rattle.wh_version.proofs.Puts.{puts_alone}
-use Rattle.wh_version.proofs.RisingEdits.{holds, is_true, parts, is_below, head_below, rest_rises}
+use Rattle.wh_value.proofs.TestLaws.{both_hold}
+use Rattle.wh_version.proofs.RisingEdits.{holds, is_true, is_below, head_below, rest_rises}
 
 module _ {X : Type 0} where
   pub no_entries : entries (empty {K = ℕ} {X = X} {R = nat_cmp}) ≡ []
@@ -126,7 +127,7 @@ later_above : (next : ℕ) (edits : RowEdits) (least : ℕ) (es : List (ℕ × O
     → T (below_all nat_cmp least es) → with_later next edits es ≡ edits
 later_above next edits least [] low above = refl
 later_above next edits least (e ∷ es) low above =
-    let two = parts (is_lt (nat_cmp least e.0)) (below_all nat_cmp least es) above in
+    let two = both_hold (is_lt (nat_cmp least e.0)) (below_all nat_cmp least es) above in
     let here : least < e.0 = is_below least e.0 two.0 in
     let test : nat_lt e.0 next ≡ false = grind (arith, nat_tests) in
     ap (λ (b : Bool). with_later next (cond b (insert edits e.0 e.1) edits) es) test

@@ -1,5 +1,5 @@
 -- The rows and partitions that edits leave.
---     length_edited, rises_edited     rows that are left are no more, and rise
+--     length_edited                   rows that are left are no more
 --     made_one, made_none             a partition of rows, and of no row
 --     made_more                       one more in front of others
 --     left_on, left_none, left_all    from the first partition to the last one
@@ -10,7 +10,6 @@ use Rattle.std.specs.FinMap.{get}
 use denote.Ref.{Bor}
 use Rattle.wh_value.specs.Value.{Row}
 use Rattle.wh_frame.specs.Partition.{Partition}
-use Rattle.wh_frame.specs.Spelling.{RisesFrom}
 use Rattle.wh_state.specs.Edits.{RowEdits, row_as, edited, made_of}
 use Rattle.wh_version.proofs.ByRows.{turned, turned-take}
 
@@ -23,21 +22,6 @@ length_edited edits (e ∷ es) = one (get edits e.0) (length_edited edits es)
     one None rest = omega arith
     one (Some None) rest = omega arith
     one (Some (Some row)) rest = omega arith
-
-rises_lower : (least most : ℕ) (rows : List (ℕ × Row)) → least ≤ most → RisesFrom most rows → RisesFrom least rows
-rises_lower least most [] below rises = tt
-rises_lower least most (e ∷ es) below rises = let here = rises.0 in (omega arith, rises.1)
-
-pub rises_edited : (edits : RowEdits) (least : ℕ) (rows : List (ℕ × Row)) → RisesFrom least rows
-    → RisesFrom least (edited edits rows)
-rises_edited edits least [] rises = tt
-rises_edited edits least (e ∷ es) rises = one (get edits e.0) (rises_edited edits (e.0 + 1) es rises.1)
-  where
-    one : (o : Option (Option Row)) → RisesFrom (e.0 + 1) (edited edits es)
-        → RisesFrom least (row_as e o ++ edited edits es)
-    one None rest = (rises.0, rest)
-    one (Some None) rest = let here = rises.0 in rises_lower least (e.0 + 1) (edited edits es) (omega arith) rest
-    one (Some (Some row)) rest = (rises.0, rest)
 
 pub made_none : (next : ℕ) (rows : List (ℕ × Row)) → length rows ≡ 0 → made_of next (rows ∷ []) ≡ []
 made_none next [] none = refl

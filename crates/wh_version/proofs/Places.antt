@@ -16,7 +16,8 @@ use Rattle.std.specs.FinMap.Entries.{below_all}
 use Rattle.std.proofs.lemmas.Bool.{lt-ltb, le-ltb}
 use Rattle.wh_version.specs.declared.row_edit.RowEdit.{RowEdit}
 use Rattle.wh_version.specs.RowEdits.{entry_of, entries_in, below, not_below, IsPlaceOf}
-use Rattle.wh_version.proofs.RisingEdits.{holds, is_true, parts, together, is_below, tests_below, above_all}
+use Rattle.wh_value.proofs.TestLaws.{both_hold, together}
+use Rattle.wh_version.proofs.RisingEdits.{holds, is_true, is_below, tests_below, above_all}
 use Rattle.wh_version.proofs.RisingEdits.{head_below, rest_rises}
 
 abbrev pub Adjacent : List RowEdit → ℕ → Type 0
@@ -37,8 +38,8 @@ adjacent_rise (e ∷ f ∷ list) each =
 number_above : (least : ℕ) (list : List RowEdit) (i : ℕ) (d : RowEdit)
     → T (below_all nat_cmp least (entries_in list)) → i < length list → least < (get_or list i d).number
 number_above least [] i d above within = absurd (omega arith)
-number_above least (e ∷ list) zero d above within = is_below least e.number (parts _ _ above).0
-number_above least (e ∷ list) (suc i) d above within = number_above least list i d (parts _ _ above).1 (omega arith)
+number_above least (e ∷ list) zero d above within = is_below least e.number (both_hold _ _ above).0
+number_above least (e ∷ list) (suc i) d above within = number_above least list i d (both_hold _ _ above).1 (omega arith)
 
 pub numbers_rise : (list : List RowEdit) → is_sorted nat_cmp (entries_in list) ≡ true
     → IsNonDecreasingBy (λ e. e.number) list

@@ -14,7 +14,8 @@ use Rattle.std.proofs.lemmas.Cmp.{ranked}
 use Rattle.std.proofs.lemmas.Bool.{ltb-true}
 use Rattle.std.proofs.lemmas.Bool.Decides.{nat_tests}
 use Rattle.wh_version.specs.RowEdits.{puts, below, not_below, other_than}
-use Rattle.wh_version.proofs.RisingEdits.{parts, is_below, above_all, head_below, rest_rises}
+use Rattle.wh_value.proofs.TestLaws.{both_hold}
+use Rattle.wh_version.proofs.RisingEdits.{is_below, above_all, head_below, rest_rises}
 
 module _ {X : Type 0} where
   pub put_parts : (k : ℕ) (v : X) (es : List (ℕ × X))
@@ -48,7 +49,7 @@ module _ {X : Type 0} where
   puts_after : (f : ℕ × X) (es ls : List (ℕ × X)) → T (below_all nat_cmp f.0 ls) → puts (f ∷ es) ls ≡ f ∷ puts es ls
   puts_after f es [] above = refl
   puts_after f es (l ∷ ls) above =
-      let two = parts (is_lt (nat_cmp f.0 l.0)) (below_all nat_cmp f.0 ls) above in
+      let two = both_hold (is_lt (nat_cmp f.0 l.0)) (below_all nat_cmp f.0 ls) above in
       let order : Greater ≡ nat_cmp l.0 f.0 = nat_cmp_is l.0 f.0 Greater (is_below f.0 l.0 two.0) in
       ap (λ r. puts (by_order r (l ∷ f ∷ es) ((f.0, l.1) ∷ es) (f ∷ put nat_cmp l.0 l.1 es)) ls) (sym order)
       ∙ puts_after f (put nat_cmp l.0 l.1 es) ls two.1

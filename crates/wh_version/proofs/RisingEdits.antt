@@ -1,6 +1,5 @@
 -- Entries that rise by number, and the entry of a number among them.
 --     holds, is_true             a test as a fact, and back
---     parts                      what two tests say together
 --     is_below, tests_below      what the order of numbers says, and back
 --     when_above, when_past      what tests say where they fail
 --     above_all                  a lower number is below those that a number is below
@@ -10,7 +9,7 @@
 --     none_above                 none has the number where the first one's is above it
 --     found_none, found_first, found_other    by the entries from the number on
 --     none_between, none_behind    none from a number on, up to another or to the end
-use Rattle.std.proofs.Common.{◌≡◌, ℕ, ◌<◌, ◌≤◌, cond, Bool, true, false, ◌&&◌, T, List, [], ◌∷◌}
+use Rattle.std.proofs.Common.{◌≡◌, ℕ, ◌<◌, ◌≤◌, cond, Bool, true, false, T, List, [], ◌∷◌}
 use Rattle.std.proofs.Common.{Some, None, refl, sym, ap, subst, ◌∙◌, arith, leb, nat_lt}
 use Rattle.std.specs.declared.cmp.Ordering.{Ordering}
 use Rattle.std.specs.declared.cmp.Ordering.TheVariants.{Less, Equal, Greater}
@@ -21,6 +20,7 @@ use Rattle.std.specs.FinMap.{find, is_sorted}
 use Rattle.std.specs.FinMap.Entries.{below_all}
 use Rattle.std.proofs.lemmas.Cmp.{ranked}
 use Rattle.std.proofs.lemmas.Bool.{leb-false, ltb-true, ltb-false}
+use Rattle.wh_value.proofs.TestLaws.{both_hold, together}
 use Rattle.wh_version.specs.RowEdits.{below, not_below}
 
 pub holds : {b : Bool} → b ≡ true → T b
@@ -29,14 +29,6 @@ holds is = subst T (sym is) tt
 pub is_true : (b : Bool) → T b → b ≡ true
 is_true true is = refl
 is_true false is = absurd is
-
-pub parts : (a b : Bool) → T (a && b) → T a × T b
-parts true b both = (tt, both)
-parts false b both = absurd both
-
-pub together : (a b : Bool) → T a → T b → T (a && b)
-together true b first second = second
-together false b first second = absurd first
 
 pub is_below : (a b : ℕ) → T (is_lt (nat_cmp a b)) → a < b
 is_below a b is = by_order (nat_cmp a b) (ranked a b (nat_cmp a b) refl) is
@@ -77,15 +69,15 @@ module _ {X : Type 0} where
   pub above_all : (a b : ℕ) (es : List (ℕ × X)) → a ≤ b → T (below_all nat_cmp b es) → T (below_all nat_cmp a es)
   above_all a b [] low above = tt
   above_all a b (e ∷ es) low above =
-      let two = parts (is_lt (nat_cmp b e.0)) (below_all nat_cmp b es) above in
+      let two = both_hold (is_lt (nat_cmp b e.0)) (below_all nat_cmp b es) above in
       let here : b < e.0 = is_below b e.0 two.0 in
       together _ _ (tests_below a e.0 (omega arith)) (above_all a b es low two.1)
 
   pub head_below : (e : ℕ × X) (es : List (ℕ × X)) → is_sorted nat_cmp (e ∷ es) ≡ true → T (below_all nat_cmp e.0 es)
-  head_below e es rises = (parts (below_all nat_cmp e.0 es) (is_sorted nat_cmp es) (holds rises)).0
+  head_below e es rises = (both_hold (below_all nat_cmp e.0 es) (is_sorted nat_cmp es) (holds rises)).0
 
   pub rest_rises : (e : ℕ × X) (es : List (ℕ × X)) → is_sorted nat_cmp (e ∷ es) ≡ true → is_sorted nat_cmp es ≡ true
-  rest_rises e es rises = is_true _ (parts (below_all nat_cmp e.0 es) (is_sorted nat_cmp es) (holds rises)).1
+  rest_rises e es rises = is_true _ (both_hold (below_all nat_cmp e.0 es) (is_sorted nat_cmp es) (holds rises)).1
 
   pub not_below_rises : (number : ℕ) (es : List (ℕ × X)) → is_sorted nat_cmp es ≡ true
       → is_sorted nat_cmp (not_below number es) ≡ true
@@ -100,7 +92,7 @@ module _ {X : Type 0} where
       → T (below_all nat_cmp least (below number es))
   below_above least number [] above = tt
   below_above least number (e ∷ es) above =
-      let two = parts (is_lt (nat_cmp least e.0)) (below_all nat_cmp least es) above in
+      let two = both_hold (is_lt (nat_cmp least e.0)) (below_all nat_cmp least es) above in
       elim (nat_lt e.0 number) as (λ b. T (below_all nat_cmp least (cond b (e ∷ below number es) []))) [
         | true ↦ together _ _ two.0 (below_above least number es two.1)
         | false ↦ tt
@@ -133,7 +125,7 @@ module _ {X : Type 0} where
       → find nat_cmp number es ≡ None
   none_below_all least number [] low above = refl
   none_below_all least number (e ∷ es) low above =
-      let two = parts (is_lt (nat_cmp least e.0)) (below_all nat_cmp least es) above in
+      let two = both_hold (is_lt (nat_cmp least e.0)) (below_all nat_cmp least es) above in
       let here : least < e.0 = is_below least e.0 two.0 in
       ap (λ (b : Bool). cond b (Some e.1) (find nat_cmp number es)) (less_untied number e.0 (omega arith))
       ∙ none_below_all least number es low two.1

@@ -1,13 +1,14 @@
 use Rattle.wh_query_parse.proofs.Reading as lemmas
 use Rattle.wh_query_parse.proofs.queries.reading_laws.Goals as goal
 
-pub returns : goal.returns
-returns c = record {
-  queries = lemmas.queries_read;
-  sources = lemmas.sources_read;
-  aliases = lemmas.aliases_read;
-  filters = lemmas.filters_read;
-  fixed = lemmas.tokens_fix_query;
-  query_front = lemmas.query_is_front;
-  source_front = lemmas.source_is_front;
-}
+pub returns-clause-queries : goal.returns-clause-queries
+returns-clause-queries c = lemmas.queries_read
+
+pub returns-clause-sources : goal.returns-clause-sources
+returns-clause-sources c = lemmas.sources_read
+
+pub returns-clause-aliases : goal.returns-clause-aliases
+returns-clause-aliases c = lemmas.aliases_read
+
+pub returns-clause-filters : goal.returns-clause-filters
+returns-clause-filters c = lemmas.filters_read

@@ -5,7 +5,8 @@ use Rattle.wh_value.specs.Value.{Row}
 use Rattle.wh_frame.specs.Spelling.{RisesFrom}
 use Rattle.wh_part.specs.View.{numbered_of}
 use Rattle.wh_state.specs.Edits.{edited, made_of}
-use Rattle.wh_version.proofs.Left.{length_edited, rises_edited, made_one}
+use Rattle.wh_state.proofs.PartLaws.{left_rise}
+use Rattle.wh_version.proofs.Left.{length_edited, made_one}
 use Rattle.wh_version.proofs.editing.add_left.Goals as goal
 
 pub make-requires : goal.make-requires
@@ -25,7 +26,7 @@ make-requires c =
     record {
       some = omega arith;
       few = omega (arith, length_edited edits rows);
-      rising = subst P (sym here) (rises_edited edits 0 rows c.rows.ensures.rising);
+      rising = subst P (sym here) (left_rise edits 0 rows c.rows.ensures.rising);
     }
 
 pub returns : goal.returns
