@@ -15,5 +15,6 @@ mod unions;
 pub use binding::{bind_query, bind_source};
 pub use fault::BindFault;
 pub use joins::source_name;
+pub use merging::columns_of;
 pub use select::{BoundSelect, bind_select};
 pub use sources::{BoundSource, copied_columns, find};

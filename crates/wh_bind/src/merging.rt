@@ -57,8 +57,8 @@ pub(crate) fn fit_each_other(outputs: &[Output], others: &[Output]) -> bool
     true
 }
 
-/// The columns of a query in parentheses. One that is NULL in every core is VARCHAR.
-pub(crate) fn columns_of(alloc: Global, outputs: &[Output]) -> Result<Vec<Column>, AllocError>
+/// The columns of a query. One that is NULL in every core is VARCHAR.
+pub fn columns_of(alloc: Global, outputs: &[Output]) -> Result<Vec<Column>, AllocError>
     ensures { IfOk result (λ cs. map column_of cs.items
         ≡ map naming.column_of (outputs_of outputs.now)) }
 {

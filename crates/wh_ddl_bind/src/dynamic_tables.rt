@@ -14,11 +14,11 @@ use crate::{Bound, Names, NewDynamicTable};
 use sqlite_items::Boxed;
 use std::alloc::{AllocError, Global};
 use wh_ast::{CreateDynamicTable, Lag};
-use wh_bind::{BindFault, bind_query};
-use wh_core_bind::{BoundQuery, Output};
+use wh_bind::{BindFault, bind_query, columns_of};
+use wh_core_bind::BoundQuery;
 use wh_expr_bind::Findings;
 use wh_naming::{Named, ObjectKind};
-use wh_value::{Column, ColumnType, Text};
+use wh_value::Text;
 
 /// ALTER DYNAMIC TABLE .. RESUME.
 pub(crate) fn resume_dynamic_table(
@@ -191,31 +191,4 @@ fn made(
         made: Boxed::new(alloc, made)?,
         findings: query.findings,
     })
-}
-
-ghost use Rattle.wh_value.specs.View.{column_of};
-ghost use Rattle.wh_naming.specs.Select as select;
-ghost use Rattle.wh_core_bind.specs.View.{output_of, outputs_of};
-
-// The columns of a query. One that is NULL in every core is VARCHAR.
-fn columns_of(alloc: Global, outputs: &[Output]) -> Result<Vec<Column>, AllocError>
-    ensures { IfOk result (λ cs. map column_of cs.items
-        ≡ map select.column_of (outputs_of outputs.now)) }
-{
-    let mut columns = Vec::new(alloc);
-    for output in outputs {
-        columns.push(column_for(alloc, output)?)?;
-    }
-    Ok(columns)
-}
-
-fn column_for(alloc: Global, output: &Output) -> Result<Column, AllocError>
-    ensures { IfOk result (λ c. column_of c ≡ select.column_of (output_of output.now)) }
-{
-    let column_type = match output.type_of {
-        Some(column_type) => column_type,
-        None => ColumnType::Varchar,
-    };
-    let name = output.name.copy(alloc)?;
-    Ok(Column { name, column_type })
 }

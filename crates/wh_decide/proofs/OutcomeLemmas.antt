@@ -4,6 +4,7 @@
 --     commits_all, commits_none       a reply with a commit, by what is written for acts, if there are some
 --     begins, ends                    what becomes of a transaction
 --     decides_as, comes_as            a decision on an outcome is one on the same outcome
+--     drops_as                        an object goes
 --     first_two, first_four           the first refusal of tests
 --     viewed_or                       a refusal, or else another
 use Rattle.std.proofs.Common.{◌≡◌, ℕ, List, [], ◌∷◌, Option, Some, None, option_map, Result, refl, sym, ap}
@@ -17,19 +18,21 @@ use Rattle.wh_reply.specs.declared.reply.Reply as code_reply
 use Rattle.wh_reply.specs.View.{refusal_view, reply_view}
 use Rattle.wh_record.specs.View.{commit_of}
 use Rattle.wh_record.specs.declared.commit.Commit as records
-use Rattle.wh_state.specs.Act.{Act}
+use Rattle.wh_state.specs.Act.{Act, DropsObject}
+use Rattle.wh_state.specs.Objects.{name_at}
 use Rattle.wh_state.specs.Stored.{Stored}
 use Rattle.wh_state.specs.Written.{commit_for}
 use Rattle.wh_machine.specs.Tests.{first_of}
 use Rattle.wh_machine.specs.Sessions.{Sessions, with_begun, with_ended}
-use Rattle.wh_machine.specs.Outcome.{Outcome, Refuses, Does}
+use Rattle.wh_machine.specs.Definitions.{defines}
+use Rattle.wh_machine.specs.Outcome.{Outcome, Refuses, Does, commits}
 use Rattle.wh_decide.specs.declared.decision.Decision.{Decision}
 use Rattle.wh_decide.specs.declared.decision.Decision.TheVariants.{Refuse, Do}
 use Rattle.wh_decide.specs.declared.decision.Settlement.{Settlement}
 use Rattle.wh_decide.specs.declared.decision.Settlement.TheVariants.{Answers, Commits, Begins, Ends}
 use Rattle.wh_decide.specs.declared.sight.Sight.{Sight}
 use Rattle.wh_decide.specs.Decision.{StagesInOpen, sessions_after, commit_in, Decides}
-use Rattle.wh_decide.specs.Sight.{Comes}
+use Rattle.wh_decide.specs.Sight.{Comes, machine_in}
 
 -- ---- decisions
 
@@ -92,6 +95,17 @@ decides_as sight d same = subst (Comes sight d) same
 pub comes_as : {E : Type 0} (sight : Sight) (r : Result Decision E) {o p : Outcome} → o ≡ p
     → IfOk r (λ d. Comes sight d o) → IfOk r (λ d. Comes sight d p)
 comes_as sight r same = subst (λ (q : Outcome). IfOk r (λ d. Comes sight d q)) same
+
+-- an object goes, and the reply has a copy of its name
+pub drops_as : {E : Type 0} (sight : Sight) (r : Result Decision E) (id : ℕ) (reply : List ℕ → Reply)
+    (copied : List ℕ) {o : Outcome} → copied ≡ name_at (machine_in sight).state.objects id
+    → commits (machine_in sight) (reply (name_at (machine_in sight).state.objects id)) (DropsObject id ∷ []) ≡ o
+    → IfOk r (λ d. Comes sight d (defines (machine_in sight) sight.session (Some id)
+    (commits (machine_in sight) (reply copied) (DropsObject id ∷ []))))
+    → IfOk r (λ d. Comes sight d (defines (machine_in sight) sight.session (Some id) o))
+drops_as sight r id reply copied same is =
+    comes_as sight r (ap (defines (machine_in sight) sight.session (Some id))
+    (ap (λ (name : List ℕ). commits (machine_in sight) (reply name) (DropsObject id ∷ [])) same ∙ is))
 
 -- ---- tests
 

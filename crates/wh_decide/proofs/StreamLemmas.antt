@@ -3,17 +3,16 @@
 --     within_limits        what a stream that passes all tests keeps
 --     defines_stream       the outcome of CREATE STREAM
 --     stream_written       what is written for it
---     drop_is              the outcome of DROP STREAM
 --     none_asked, asked_refused, asked_told     SYSTEM$STREAM_HAS_DATA
 use Rattle.std.proofs.Common.{◌≡◌, ℕ, ◌+◌, ◌-◌, ◌≤◌, List, [], ◌∷◌, length, Option, Some, None, option_map, Bool, false}
 use Rattle.std.proofs.Common.{refl, ap, sym, ◌∙◌}
 use Rattle.wh_value.specs.Limit.{bound}
 use Rattle.wh_value.specs.declared.limit.Limit.TheVariants as limits
 use Rattle.wh_ddl_naming.specs.Streams.{NewStream}
-use Rattle.wh_reply.specs.Reply.{Refusal, OverLimit, DdlInTransaction, Locked, CreatedStream, DroppedStream, HasData}
+use Rattle.wh_reply.specs.Reply.{Refusal, OverLimit, DdlInTransaction, Locked, CreatedStream, HasData}
 use Rattle.wh_state.specs.State.{State, Stream, live_count, stamped}
-use Rattle.wh_state.specs.Act.{MakesStream, DropsObject}
-use Rattle.wh_state.specs.Objects.{stream_at, name_at}
+use Rattle.wh_state.specs.Act.{MakesStream}
+use Rattle.wh_state.specs.Objects.{stream_at}
 use Rattle.wh_state.specs.Stored.{StoredObject}
 use Rattle.wh_state.specs.Commit.{CreatesStream}
 use Rattle.wh_state.specs.Written.{written}
@@ -23,7 +22,7 @@ use Rattle.wh_machine.specs.Sessions.{Sessions, number_in}
 use Rattle.wh_machine.specs.Outcome.{Machine, Refuses, answers, commits, unless}
 use Rattle.wh_machine.specs.Reading.{reading_refusal, asked, start_in, has_data}
 use Rattle.wh_machine.specs.Definitions.{is_long, count_refusals, holder_of, defines}
-use Rattle.wh_machine.specs.Streams.{stream_refusal, create_stream, drop_stream}
+use Rattle.wh_machine.specs.Streams.{stream_refusal, create_stream}
 use Rattle.wh_decide.specs.Decision.{machine_at}
 use Rattle.wh_decide.proofs.DefineLemmas.{tests_flat, counts_none, not_past, defines_by}
 
@@ -87,14 +86,6 @@ pub stream_written : (stamp : ℕ) (objects : List StoredObject) (name : List �
       offset = stamp;
     }) ∷ [] ≡ written stamp objects (MakesStream name source is_append_only ∷ [])
 stream_written stamp objects name source is_append_only = refl
-
--- ---- DROP STREAM
-
--- whose reply has a copy of the name
-pub drop_is : (m : Machine) (id : ℕ) (copied : List ℕ) → copied ≡ name_at m.state.objects id
-    → commits m (DroppedStream copied) (DropsObject id ∷ []) ≡ drop_stream m None id
-unfolding drop_stream
-drop_is m id copied same = ap (λ (name : List ℕ). commits m (DroppedStream name) (DropsObject id ∷ [])) same
 
 -- ---- SYSTEM$STREAM_HAS_DATA
 

@@ -3,7 +3,6 @@
 --     defines_table        the outcome of CREATE TABLE
 --     within_limits        what a table that passes all tests keeps
 --     creation_written     what is written for it
---     drop_is              the outcome of DROP TABLE
 use Rattle.std.proofs.Common.{◌≡◌, ℕ, ◌+◌, ◌-◌, ◌≤◌, List, [], ◌∷◌, ◌++◌, length, Option, Some, None, option_map, refl}
 use Rattle.std.proofs.Common.{ap, sym, ◌∙◌}
 use Rattle.std.specs.List.{list_any}
@@ -11,10 +10,9 @@ use Rattle.wh_value.specs.Column.{Column}
 use Rattle.wh_value.specs.Limit.{bound}
 use Rattle.wh_value.specs.declared.limit.Limit.TheVariants as limits
 use Rattle.wh_ddl_naming.specs.Tables.{NewTable, column_names}
-use Rattle.wh_reply.specs.Reply.{Refusal, OverLimit, DdlInTransaction, Locked, CreatedTable, DroppedTable}
+use Rattle.wh_reply.specs.Reply.{Refusal, OverLimit, DdlInTransaction, Locked, CreatedTable}
 use Rattle.wh_state.specs.State.{State, dropped, live_count, stamped}
-use Rattle.wh_state.specs.Act.{MakesTable, DropsObject}
-use Rattle.wh_state.specs.Objects.{name_at}
+use Rattle.wh_state.specs.Act.{MakesTable}
 use Rattle.wh_state.specs.Stored.{StoredObject}
 use Rattle.wh_state.specs.Commit.{CreatesTable, Drops, changed}
 use Rattle.wh_state.specs.Written.{written}
@@ -22,7 +20,7 @@ use Rattle.wh_machine.specs.Tests.{refused_if, refused_past, first_of}
 use Rattle.wh_machine.specs.Sessions.{Sessions, number_in}
 use Rattle.wh_machine.specs.Outcome.{Machine, commits, unless}
 use Rattle.wh_machine.specs.Definitions.{drops, is_long, count_refusals, holder_of, defines}
-use Rattle.wh_machine.specs.Tables.{one_if, retention_of, table_refusal, table_made, create_table, drop_table}
+use Rattle.wh_machine.specs.Tables.{one_if, retention_of, table_refusal, table_made, create_table}
 use Rattle.wh_decide.specs.Decision.{machine_at}
 use Rattle.wh_decide.specs.Definitions.{drops_written}
 use Rattle.wh_decide.proofs.ListLemmas.{length_changed_at}
@@ -114,11 +112,3 @@ creation_written stamp objects (Some id) name columns retention =
     ap (λ (n : ℕ). Drops id
     ∷ CreatesTable (record { id = n + 1; name = name; retention = retention; columns = columns }) ∷ [])
     (sym (after_drop stamp id objects))
-
--- ---- DROP TABLE
-
--- whose reply has a copy of the name
-pub drop_is : (m : Machine) (id : ℕ) (copied : List ℕ) → copied ≡ name_at m.state.objects id
-    → commits m (DroppedTable copied) (DropsObject id ∷ []) ≡ drop_table m None id
-unfolding drop_table
-drop_is m id copied same = ap (λ (name : List ℕ). commits m (DroppedTable name) (DropsObject id ∷ [])) same

@@ -17,7 +17,7 @@ use crate::sight::Sight;
 use std::alloc::{AllocError, Global};
 use wh_bound_change::{BoundChange, Modification};
 use wh_dml::Effect;
-use wh_reply::{Counts, Refusal, Reply};
+use wh_reply::{Refusal, Reply, RowCounts};
 use wh_txn::{RecordFault, lone_commit};
 
 // What an effect on the target comes to outside of a transaction, by a statement that reads these
@@ -79,7 +79,7 @@ pub(crate) fn staged(
 }
 
 // How many rows a change with that effect is told to have changed.
-fn counts_of(change: &Modification, effect: &Effect) -> Counts
+fn counts_of(change: &Modification, effect: &Effect) -> RowCounts
     ensures { counts_view result
         ≡ replies.counts_of (changes.change_of change.now) (effect_of effect.now) }
 {
@@ -87,10 +87,12 @@ fn counts_of(change: &Modification, effect: &Effect) -> Counts
     let updated = effect.changed.len() as u64;
     let deleted = effect.removed.len() as u64;
     match change {
-        Modification::InsertRows(_) | Modification::InsertQuery(_, _) => Counts::Inserted(inserted),
-        Modification::Update(_, _) => Counts::Updated(updated),
-        Modification::Delete(_) => Counts::Deleted(deleted),
-        Modification::Merge(_, _, _) => Counts::Merged {
+        Modification::InsertRows(_) | Modification::InsertQuery(_, _) => RowCounts::Inserted(
+            inserted,
+        ),
+        Modification::Update(_, _) => RowCounts::Updated(updated),
+        Modification::Delete(_) => RowCounts::Deleted(deleted),
+        Modification::Merge(_, _, _) => RowCounts::Merged {
             inserted,
             updated,
             deleted,

@@ -59,6 +59,15 @@ pub selected-passes : (test : BoundClause → Bool) (clauses : List BoundClause)
 selected-passes test [] row = tt
 selected-passes test (c ∷ cs) row = passes_more test c (filter test cs) row (test c) refl (selected-passes test cs row)
 
+-- where its part is defined too, the choice is
+chosen-defined : {A : Type 0} (taken : Option BoundClause → Option A) (clauses : List BoundClause) (row : Row)
+    (part : Bool) → is_some (taken (selected clauses row)) ≡ part
+    → is_some (of_one taken (choice clauses row)) ≡ (all_defined clauses row && part)
+chosen-defined taken clauses row part is =
+    ap (λ c. is_some (of_one taken c)) (choice-is clauses row)
+    ∙ some_if (all_defined clauses row) taken (selected clauses row)
+    ∙ ap (λ b. all_defined clauses row && b) is
+
 -- ---- after MATCHED
 
 turns_by-defined : (c : Option BoundClause) (pair : Row) → Passes is_matched c
@@ -72,9 +81,8 @@ turns_by-defined (Some (InsertUnmatched condition parts)) pair kind = absurd (fa
 pub matched-defined : (clauses : List BoundClause) (pair : Row) → Passes is_matched (selected clauses pair)
     → is_some (matched_turns clauses pair) ≡ is_defined_on clauses pair
 matched-defined clauses pair kind =
-    ap (λ c. is_some (of_one (λ found. turns_by found pair) c)) (choice-is clauses pair)
-    ∙ some_if (all_defined clauses pair) (λ found. turns_by found pair) (selected clauses pair)
-    ∙ ap (λ b. all_defined clauses pair && b) (turns_by-defined (selected clauses pair) pair kind)
+    chosen-defined (λ found. turns_by found pair) clauses pair (is_defined_part (selected clauses pair) pair)
+    (turns_by-defined (selected clauses pair) pair kind)
 
 -- the turn of a clause that is selected, and none where none is
 abbrev pub turn_if : Option BoundClause → Row → List (Option Turn)
@@ -116,9 +124,8 @@ inserted_by-defined (Some (InsertUnmatched condition parts)) row kind = some_map
 pub inserts-defined : (clauses : List BoundClause) (row : Row) → Passes is_unmatched (selected clauses row)
     → is_some (inserts_by clauses row) ≡ is_defined_on clauses row
 inserts-defined clauses row kind =
-    ap (λ c. is_some (of_one (λ found. inserted_by found row) c)) (choice-is clauses row)
-    ∙ some_if (all_defined clauses row) (λ found. inserted_by found row) (selected clauses row)
-    ∙ ap (λ b. all_defined clauses row && b) (inserted_by-defined (selected clauses row) row kind)
+    chosen-defined (λ found. inserted_by found row) clauses row (is_defined_part (selected clauses row) row)
+    (inserted_by-defined (selected clauses row) row kind)
 
 pub inserts-given : (clauses : List BoundClause) (row : Row) (rows : List Row) → inserts_by clauses row ≡ Some rows
     → inserted_by (selected clauses row) row ≡ Some rows

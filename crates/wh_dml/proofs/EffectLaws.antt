@@ -1,7 +1,8 @@
 -- Effects one behind the other.
 --     before_assoc, before_none     three effects, and an effect with none behind it
 --     one_turn                      the turn of the next row, and then those of the others
---     turned_append, more_turns     the turns of rows and then of others
+--     turned_append                 the turns of rows and then of others
+--     partition_joined, partition_lacks     what the next partition's rows come to, and then those of the others
 --     partition_done, partition_fails   the rows of the next partition, and then those of the others
 --     all_done                      no partition is left
 use Rattle.std.specs.Prelude.{◌≡◌, ℕ, ◌+◌, ◌<◌, ◌≤◌, length, drop, List, [], ◌∷◌, ◌++◌, Option}
@@ -70,23 +71,6 @@ turned_append turn (kept ∷ rest) others =
     ap (with_turn kept (turn kept.1)) (turned_append turn rest others)
     ∙ row_both kept (turn kept.1) (turned turn rest) (turned turn others)
 
-added_both : (some others : Option Effect) (old new : Effect)
-    → option_map (λ more. before old more) some ≡ Some new
-    → option_map (before old) (both some others) ≡ option_map (before new) others
-added_both None others old new is = absurd cc
-added_both (Some a) None old new is = refl
-added_both (Some a) (Some b) old new is =
-    let same : before old a ≡ new = cc in
-    ap Some (sym (before_assoc old a b)) ∙ ap (λ done. Some (before done b)) same
-
--- what is done so far, with the turns of some rows, and the rest
-pub more_turns : (turn : Row → Option Turn) (some others : List (ℕ × Row)) (old new : Effect)
-    → option_map (λ more. before old more) (turned turn some) ≡ Some new
-    → option_map (before old) (turned turn (some ++ others)) ≡ option_map (before new) (turned turn others)
-more_turns turn some others old new is =
-    ap (option_map (before old)) (turned_append turn some others)
-    ∙ added_both (turned turn some) (turned turn others) old new is
-
 -- the rows of the next partition, and those of the others
 pub next_partition : (target : List (Bor Partition)) (i : ℕ) (p : Bor Partition) (rows : List (ℕ × Row))
     → i < length target → p ≡ get_or target i p → rows ≡ p.now.rows
@@ -94,6 +78,41 @@ pub next_partition : (target : List (Bor Partition)) (i : ℕ) (p : Bor Partitio
 next_partition target i p rows within is same =
     ap targets_of (drop_more target i p within ∙ ap (λ q. q ∷ drop (i + 1) target) (sym is))
     ∙ ap (λ r. r ++ targets_of (drop (i + 1) target)) (sym same)
+
+-- what rows come to one behind the other, where that of some and that of others are joined
+module _ {A : Type 0} (join : A → A → A) (assoc : (a b c : A) → join (join a b) c ≡ join a (join b c))
+    (of_rows : List (ℕ × Row) → Option A)
+    (appends : (some others : List (ℕ × Row))
+    → of_rows (some ++ others) ≡ of_two (λ a b. Some (join a b)) (of_rows some) (of_rows others))
+    (target : List (Bor Partition)) (i : ℕ) (p : Bor Partition) (rows : List (ℕ × Row))
+    (within : i < length target) (is : p ≡ get_or target i p) (same : rows ≡ p.now.rows) where
+  joined : (some others : Option A) (old new : A) → option_map (join old) some ≡ Some new
+      → option_map (join old) (of_two (λ a b. Some (join a b)) some others) ≡ option_map (join new) others
+  joined None others old new done = absurd cc
+  joined (Some a) None old new done = refl
+  joined (Some a) (Some b) old new done =
+      let here : join old a ≡ new = cc in
+      ap Some (sym (assoc old a b)) ∙ ap (λ so_far. Some (join so_far b)) here
+
+  next_rows : of_rows (targets_of (drop i target))
+      ≡ of_two (λ a b. Some (join a b)) (of_rows rows) (of_rows (targets_of (drop (i + 1) target)))
+  next_rows =
+      ap of_rows (next_partition target i p rows within is same) ∙ appends rows (targets_of (drop (i + 1) target))
+
+  -- what there is so far, with that of the next partition's rows, and the rest
+  pub partition_joined : (old new : A) → option_map (join old) (of_rows rows) ≡ Some new
+      → option_map (join old) (of_rows (targets_of (drop i target)))
+      ≡ option_map (join new) (of_rows (targets_of (drop (i + 1) target)))
+  partition_joined old new done =
+      ap (option_map (join old)) next_rows
+      ∙ joined (of_rows rows) (of_rows (targets_of (drop (i + 1) target))) old new done
+
+  lacks : (some others : Option A) → some ≡ None → of_two (λ a b. Some (join a b)) some others ≡ None
+  lacks None others none = refl
+  lacks (Some a) others none = absurd cc
+
+  pub partition_lacks : of_rows rows ≡ None → of_rows (targets_of (drop i target)) ≡ None
+  partition_lacks none = next_rows ∙ lacks (of_rows rows) (of_rows (targets_of (drop (i + 1) target))) none
 
 -- what is done so far, with the turns of the next partition's rows, and the rest
 pub partition_done : (turn : Row → Option Turn) (target : List (Bor Partition)) (i : ℕ) (p : Bor Partition)
@@ -103,8 +122,7 @@ pub partition_done : (turn : Row → Option Turn) (target : List (Bor Partition)
     → option_map (before old) (turned turn (targets_of (drop i target)))
     ≡ option_map (before new) (turned turn (targets_of (drop (i + 1) target)))
 partition_done turn target i p rows old new within is same done =
-    ap (λ ts. option_map (before old) (turned turn ts)) (next_partition target i p rows within is same)
-    ∙ more_turns turn rows (targets_of (drop (i + 1) target)) old new done
+    partition_joined before before_assoc (turned turn) (turned_append turn) target i p rows within is same old new done
 
 -- behind the last partition nothing is left to do
 pub all_done : (turn : Row → Option Turn) (target : List (Bor Partition)) (i : ℕ) (e : Effect) → length target ≤ i
@@ -112,16 +130,10 @@ pub all_done : (turn : Row → Option Turn) (target : List (Bor Partition)) (i :
 all_done turn target i e past =
     ap (λ ts. option_map (before e) (turned turn (targets_of ts))) (drop_all i target past) ∙ ap Some (before_none e)
 
-fails_both : (some others : Option Effect) → some ≡ None → both some others ≡ None
-fails_both None others none = refl
-fails_both (Some a) others none = absurd cc
-
 -- where a row of the next partition has no turn, there is no effect
 pub partition_fails : (turn : Row → Option Turn) (target : List (Bor Partition)) (i : ℕ) (p : Bor Partition)
     (rows : List (ℕ × Row))
     → i < length target → p ≡ get_or target i p → rows ≡ p.now.rows → turned turn rows ≡ None
     → turned turn (targets_of (drop i target)) ≡ None
 partition_fails turn target i p rows within is same none =
-    ap (turned turn) (next_partition target i p rows within is same)
-    ∙ turned_append turn rows (targets_of (drop (i + 1) target))
-    ∙ fails_both (turned turn rows) (turned turn (targets_of (drop (i + 1) target))) none
+    partition_lacks before before_assoc (turned turn) (turned_append turn) target i p rows within is same none

@@ -10,7 +10,7 @@ use Rattle.wh_world.specs.declared.disk.Disk.{Ghosts}
 use Rattle.wh_journal.specs.Journal.{IsSame, failed_of}
 use Rattle.wh_catalog.specs.Catalog.{stored_of}
 use Rattle.wh_txn.specs.View.{sessions_of}
-use Rattle.wh_engine.specs.declared.fault.OpenFault.{OpenFault}
+use Rattle.wh_journal.specs.declared.fault.OpenFault.{OpenFault}
 use Rattle.wh_engine.specs.declared.fault.Halt.{Halt}
 use Rattle.wh_engine.specs.declared.fault.Halt.TheVariants.{OutOfMemory, NeedsReopen}
 use Rattle.wh_engine.specs.declared.warehouse.Warehouse.{Warehouse}

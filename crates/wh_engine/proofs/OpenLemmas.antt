@@ -29,11 +29,11 @@ use Rattle.wh_journal.specs.declared.journal.Journal.{Journal}
 use Rattle.wh_catalog.specs.Catalog.{stored_of}
 use Rattle.wh_catalog.specs.declared.catalog.Catalog.{Catalog}
 use Rattle.wh_engine.specs.Warehouse.{IsFileOfCommits, Filed}
-use Rattle.wh_engine.specs.Fault.{fault_of_read}
+use Rattle.wh_journal.specs.Fault.{fault_of_read}
 use Rattle.wh_engine.specs.Opening.{FailsToOpen}
 use Rattle.wh_engine.specs.Replay.{IsListed, Replays, StraysAt, LeadsTo, Strays}
-use Rattle.wh_engine.specs.declared.fault.OpenFault.{OpenFault}
-use Rattle.wh_engine.specs.declared.fault.OpenFault.TheVariants.{DiskFault, NotWarehouse}
+use Rattle.wh_journal.specs.declared.fault.OpenFault.{OpenFault}
+use Rattle.wh_journal.specs.declared.fault.OpenFault.TheVariants.{DiskFault, NotWarehouse}
 use Rattle.wh_engine.proofs.FileLemmas.{keeps}
 use Rattle.wh_decide.proofs.ListLemmas.{all_front, all_back, some_is, none_told}
 

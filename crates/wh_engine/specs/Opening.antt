@@ -19,8 +19,8 @@ use Rattle.wh_catalog.specs.declared.catalog.Catalog.{Catalog}
 use Rattle.wh_txn.specs.View.{sessions_of}
 use Rattle.wh_txn.specs.declared.sessions.Sessions.{Sessions}
 use Rattle.wh_engine.specs.Warehouse.{Filed, IsSettled}
-use Rattle.wh_engine.specs.declared.fault.OpenFault.{OpenFault}
-use Rattle.wh_engine.specs.declared.fault.OpenFault.TheVariants.{OutOfMemory, DiskFault, NotWarehouse}
+use Rattle.wh_journal.specs.declared.fault.OpenFault.{OpenFault}
+use Rattle.wh_journal.specs.declared.fault.OpenFault.TheVariants.{OutOfMemory, DiskFault, NotWarehouse}
 use Rattle.wh_engine.specs.declared.warehouse.Warehouse.{Warehouse}
 
 -- of a file of at most so many bytes

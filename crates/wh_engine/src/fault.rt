@@ -1,15 +1,6 @@
-use std::alloc::{AllocError, AllocFailed};
+use std::alloc::AllocError;
 use wh_catalog::StageFault;
-use wh_journal::{AppendFault, ReadFault};
-
-/// Why a warehouse could not be opened.
-#[derive(Clone, Copy, Debug, PartialEq, Eq)]
-pub enum OpenFault {
-    OutOfMemory,
-    DiskFault,
-    /// The file stands for no state; `at` is the position of the first fault.
-    NotWarehouse { at: u64 },
-}
+use wh_journal::AppendFault;
 
 /// Why a command was not carried out. The state is as it was.
 #[derive(Clone, Copy, Debug, PartialEq, Eq)]
@@ -57,31 +48,6 @@ impl From<AppendFault> for Halt {
             AppendFault::DiskFault => Halt::DiskFault,
             AppendFault::FileFull { len, need } => Halt::FileFull { len, need },
             AppendFault::NeedsReopen { faults } => Halt::NeedsReopen { faults },
-        }
-    }
-}
-
-impl From<AllocError> for OpenFault {
-    ghost use Rattle.std.specs.Prelude.{◌≡◌};
-    ghost use Rattle.wh_engine.specs.declared.fault.OpenFault.TheVariants.{OutOfMemory};
-
-    ghost from_gives = { λ _ fault. fault ≡ OutOfMemory };
-
-    fn from(_: AllocError) -> Self {
-        OpenFault::OutOfMemory
-    }
-}
-
-impl From<ReadFault> for OpenFault {
-    ghost use Rattle.std.specs.Prelude.{◌≡◌};
-    ghost use Rattle.wh_engine.specs.Fault.{fault_of_read};
-
-    ghost from_gives = { λ read fault. fault ≡ fault_of_read read };
-
-    fn from(read: ReadFault) -> Self {
-        match read {
-            ReadFault::OutOfMemory => OpenFault::OutOfMemory,
-            ReadFault::DiskFault => OpenFault::DiskFault,
         }
     }
 }

@@ -9,7 +9,7 @@ mod open;
 mod replay;
 mod warehouse;
 
-pub use fault::{Halt, OpenFault};
+pub use fault::Halt;
 pub use laws::{
     batches_are_what_was_read, commits_move_to_the_start, commits_of_events_apply,
     events_keep_machines_sound, held_streams_are_read_again, held_streams_stay,
@@ -18,3 +18,4 @@ pub use laws::{
 };
 pub use warehouse::Warehouse;
 pub use wh_decide::Event;
+pub use wh_journal::OpenFault;

@@ -8,7 +8,7 @@ use Rattle.wh_value.specs.Value.{Row}
 use Rattle.wh_naming.specs.Changes.{BoundChange, Modification, InsertRows, InsertQuery, Update, Delete, Merge}
 use Rattle.wh_reply.specs.Reply as replies
 use Rattle.wh_reply.specs.Reply.{Refusal, Reply, TypeMismatch, NumberOutOfRange, AmbiguousMerge}
-use Rattle.wh_reply.specs.Reply.{Counts, Inserted, Updated, Deleted, Merged}
+use Rattle.wh_reply.specs.Reply.{RowCounts, Inserted, Updated, Deleted, Merged}
 use Rattle.wh_meaning.specs.Query.{Instance}
 use Rattle.wh_effect.specs.Effect as effects
 use Rattle.wh_effect.specs.Effect.{Effect, effect}
@@ -27,7 +27,7 @@ abbrev pub counted : Effect → ℕ
 counted e = length e.added + length e.changed + length e.removed
 
 -- how many rows the statement is told to have changed
-abbrev pub counts_of : Modification → Effect → Counts
+abbrev pub counts_of : Modification → Effect → RowCounts
 counts_of (InsertRows rows) e = Inserted (length e.added)
 counts_of (InsertQuery query parts) e = Inserted (length e.added)
 counts_of (Update condition parts) e = Updated (length e.changed)

@@ -58,17 +58,16 @@ fn kept(text: &Text, out: &mut Printer) {
 
 fn condition(found: &WhenCondition, out: &mut Printer) {
     match found {
-        WhenCondition::Or(x, y) => {
+        WhenCondition::Or(x, y) | WhenCondition::And(x, y) => {
+            let is_or = matches!(found, WhenCondition::Or(..));
+            let word = if is_or {
+                b" or ".as_slice()
+            } else {
+                b" and ".as_slice()
+            };
             out.put(b"(");
             condition(x.get(), out);
-            out.put(b" or ");
-            condition(y.get(), out);
-            out.put(b")");
-        }
-        WhenCondition::And(x, y) => {
-            out.put(b"(");
-            condition(x.get(), out);
-            out.put(b" and ");
+            out.put(word);
             condition(y.get(), out);
             out.put(b")");
         }

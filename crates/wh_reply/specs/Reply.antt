@@ -1,6 +1,6 @@
 -- Replies, and their text.
 --     Refusal, Reply     what is answered to an event
---     Counts             how many rows a statement changed
+--     RowCounts             how many rows a statement changed
 --     Aftermath          what else the end of a task does, GraphEnd with it
 --     print              the lines of a reply
 use Rattle.std.specs.Prelude.{ℕ, Bool, true, false, List, [], ◌∷◌, ◌++◌, length, map, Option, Some, None}
@@ -41,11 +41,11 @@ pub data Refusal : Type 0 where
   AmbiguousMerge : Row → Refusal
 
 -- what a statement changed
-pub data Counts : Type 0 where
-  Inserted : (count : ℕ) → Counts
-  Updated : (count : ℕ) → Counts
-  Deleted : (count : ℕ) → Counts
-  Merged : (inserted updated deleted : ℕ) → Counts
+pub data RowCounts : Type 0 where
+  Inserted : (count : ℕ) → RowCounts
+  Updated : (count : ℕ) → RowCounts
+  Deleted : (count : ℕ) → RowCounts
+  Merged : (inserted updated deleted : ℕ) → RowCounts
 
 -- how a run of a graph ended
 pub record GraphEnd : Type 0 where
@@ -72,12 +72,12 @@ pub data Reply : Type 0 where
   Suspended : (name : List ℕ) → Reply
   -- a run of the graph of that root
   Started : (root : List ℕ) → Reply
-  TaskSucceeded : (name : List ℕ) → Counts → Aftermath → Reply
+  TaskSucceeded : (name : List ℕ) → RowCounts → Aftermath → Reply
   TaskSkipped : (name : List ℕ) → Aftermath → Reply
   TaskFailed : (name : List ℕ) → Refusal → Aftermath → Reply
   -- whether a stream has rows to show
   HasData : Bool → Reply
-  Changed : Counts → Reply
+  Changed : RowCounts → Reply
   Begun : (number : ℕ) → Reply
   Committed : (stamp : ℕ) → Reply
   CommittedNothing : Reply
@@ -164,7 +164,7 @@ abbrev pub truth_text : Bool → List ℕ
 truth_text true = codes "TRUE"
 truth_text false = codes "FALSE"
 
-abbrev pub counts_text : Counts → List ℕ
+abbrev pub counts_text : RowCounts → List ℕ
 counts_text (Inserted count) = codes "INSERTED " ++ decimal count
 counts_text (Updated count) = codes "UPDATED " ++ decimal count
 counts_text (Deleted count) = codes "DELETED " ++ decimal count

@@ -2,8 +2,8 @@
 use Rattle.std.specs.Prelude.{option_map}
 use Rattle.wh_reply.specs.Reply as machine
 use Rattle.wh_reply.specs.declared.reply.Aftermath.{Aftermath}
-use Rattle.wh_reply.specs.declared.reply.Counts.{Counts}
-use Rattle.wh_reply.specs.declared.reply.Counts.TheVariants as counts
+use Rattle.wh_reply.specs.declared.reply.RowCounts.{RowCounts}
+use Rattle.wh_reply.specs.declared.reply.RowCounts.TheVariants as counts
 use Rattle.wh_reply.specs.declared.reply.GraphEnd.{GraphEnd}
 use Rattle.wh_reply.specs.declared.reply.Refusal.{Refusal}
 use Rattle.wh_reply.specs.declared.reply.Refusal.TheVariants as refusals
@@ -31,7 +31,7 @@ refusal_view (refusals.Locked number) = machine.Locked number
 refusal_view refusals.NumberOutOfRange = machine.NumberOutOfRange
 refusal_view (refusals.AmbiguousMerge row) = machine.AmbiguousMerge row
 
-abbrev pub counts_view : Counts → machine.Counts
+abbrev pub counts_view : RowCounts → machine.RowCounts
 counts_view (counts.Inserted count) = machine.Inserted count
 counts_view (counts.Updated count) = machine.Updated count
 counts_view (counts.Deleted count) = machine.Deleted count

@@ -3,4 +3,4 @@
 
 mod reply;
 
-pub use reply::{Aftermath, Counts, GraphEnd, Refusal, Reply};
+pub use reply::{Aftermath, GraphEnd, Refusal, Reply, RowCounts};

@@ -49,7 +49,7 @@ pub enum Refusal {
 
 /// How many rows a statement changed.
 #[derive(Clone, Copy, Debug)]
-pub enum Counts {
+pub enum RowCounts {
     /// The number of inserted rows.
     Inserted(u64),
     /// The number of rows that an UPDATE selected.
@@ -107,7 +107,7 @@ pub enum Reply {
     /// The task of that name succeeded, and its statement changed so many rows.
     TaskSucceeded {
         name: Text,
-        counts: Counts,
+        counts: RowCounts,
         aftermath: Aftermath,
     },
     /// The task of that name was skipped.
@@ -124,7 +124,7 @@ pub enum Reply {
     /// Whether the stream has rows to show.
     HasData(bool),
     /// A statement changed so many rows.
-    Changed(Counts),
+    Changed(RowCounts),
     /// The number of the transaction.
     Begun(u64),
     /// The stamp of the transaction's commit.

@@ -14,8 +14,8 @@ use Rattle.wh_world.specs.declared.source.Source as sources
 use Rattle.wh_world.specs.declared.sink.Sink as sinks
 use Rattle.wh_journal.specs.Opening.{LeavesKept}
 use Rattle.wh_engine.specs.Opening.{FailsToOpen}
-use Rattle.wh_engine.specs.declared.fault.OpenFault.{OpenFault}
-use Rattle.wh_engine.specs.declared.fault.OpenFault.TheVariants as opens
+use Rattle.wh_journal.specs.declared.fault.OpenFault.{OpenFault}
+use Rattle.wh_journal.specs.declared.fault.OpenFault.TheVariants as opens
 use Rattle.wh_shell.specs.Crash.{Survives}
 use Rattle.wh_shell.specs.Fault.{fault_of_open, HasCause}
 use Rattle.wh_shell.specs.Full.{FillsFile, Fills}

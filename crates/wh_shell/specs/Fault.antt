@@ -10,8 +10,8 @@ use Rattle.wh_text.specs.declared.fault.ScriptFault.{ScriptFault}
 use Rattle.wh_text.specs.declared.fault.ScriptFault.TheVariants as scripts
 use Rattle.wh_engine.specs.declared.fault.Halt.{Halt}
 use Rattle.wh_engine.specs.declared.fault.Halt.TheVariants as halts
-use Rattle.wh_engine.specs.declared.fault.OpenFault.{OpenFault}
-use Rattle.wh_engine.specs.declared.fault.OpenFault.TheVariants as opens
+use Rattle.wh_journal.specs.declared.fault.OpenFault.{OpenFault}
+use Rattle.wh_journal.specs.declared.fault.OpenFault.TheVariants as opens
 use Rattle.wh_shell.specs.World.{World}
 use Rattle.wh_shell.specs.Run.{Rejects, WasTooLong}
 use Rattle.wh_shell.specs.declared.fault.Fault.{Fault}

@@ -94,6 +94,21 @@ pub(crate) fn run_with(
     RunEnd { status, out, disk }
 }
 
+// A script over a file, where no call fails but these of the disk.
+fn with_calls<'x>(file: &'x [u8], script: &'x [u8], calls: &'x [u64], room: u64) -> Given<'x> {
+    let failing = Failing {
+        source: &[],
+        sink: &[],
+        disk: calls,
+    };
+    Given {
+        file,
+        script,
+        failing,
+        room,
+    }
+}
+
 /// Carries out a script over a file, where these calls of the disk fail, with room for few bytes.
 pub(crate) fn stopped<'x>(
     rt: &(impl Abort + Threads + Sync),
@@ -102,17 +117,7 @@ pub(crate) fn stopped<'x>(
     script: &'x [u8],
     calls: &'x [u64],
 ) -> RunEnd {
-    let given = Given {
-        file,
-        script,
-        failing: Failing {
-            source: &[],
-            sink: &[],
-            disk: calls,
-        },
-        room: 1 << 12,
-    };
-    run_with(rt, alloc, &given)
+    run_with(rt, alloc, &with_calls(file, script, calls, 1 << 12))
 }
 
 /// Carries out a script over a file, with no failure and room for many bytes.
@@ -122,15 +127,5 @@ pub(crate) fn carried_out<'x>(
     file: &'x [u8],
     script: &'x [u8],
 ) -> RunEnd {
-    let given = Given {
-        file,
-        script,
-        failing: Failing {
-            source: &[],
-            sink: &[],
-            disk: &[],
-        },
-        room: 1 << 20,
-    };
-    run_with(rt, alloc, &given)
+    run_with(rt, alloc, &with_calls(file, script, &[], 1 << 20))
 }

@@ -6,25 +6,25 @@ ghost use Rattle.wh_reply.specs.View.{aftermath_view, counts_view, graph_view, r
 
 use crate::print::{LF, put_name, put_number, put_refused};
 use std::alloc::AllocError;
-use wh_reply::{Aftermath, Counts, GraphEnd, Refusal};
+use wh_reply::{Aftermath, GraphEnd, Refusal, RowCounts};
 use wh_value::{Bytes, Text};
 
 // What a statement changed, as a line or the end of one.
-pub(crate) fn put_counts_line(counts: Counts, out: &mut Bytes) -> Result<(), AllocError>
+pub(crate) fn put_counts_line(counts: RowCounts, out: &mut Bytes) -> Result<(), AllocError>
     ensures { OnOk result (out.new ≡ out.old ++ line (counts_text (counts_view counts))) }
 {
     put_counts(counts, out)?;
     out.push(LF)
 }
 
-fn put_counts(counts: Counts, out: &mut Bytes) -> Result<(), AllocError>
+fn put_counts(counts: RowCounts, out: &mut Bytes) -> Result<(), AllocError>
     ensures { OnOk result (out.new ≡ out.old ++ counts_text (counts_view counts)) }
 {
     match counts {
-        Counts::Inserted(count) => put_number(b"INSERTED ", count, out),
-        Counts::Updated(count) => put_number(b"UPDATED ", count, out),
-        Counts::Deleted(count) => put_number(b"DELETED ", count, out),
-        Counts::Merged {
+        RowCounts::Inserted(count) => put_number(b"INSERTED ", count, out),
+        RowCounts::Updated(count) => put_number(b"UPDATED ", count, out),
+        RowCounts::Deleted(count) => put_number(b"DELETED ", count, out),
+        RowCounts::Merged {
             inserted,
             updated,
             deleted,
@@ -45,7 +45,7 @@ fn put_merged(inserted: u64, updated: u64, deleted: u64, out: &mut Bytes) -> Res
 
 pub(crate) fn put_succeeded(
     name: &Text,
-    counts: Counts,
+    counts: RowCounts,
     aftermath: &Aftermath,
     out: &mut Bytes,
 ) -> Result<(), AllocError>

@@ -2,7 +2,7 @@
 
 use std::alloc::Global;
 use std::process::Abort;
-use wh_reply::{Aftermath, Counts, GraphEnd, Refusal, Reply};
+use wh_reply::{Aftermath, GraphEnd, Refusal, Reply, RowCounts};
 use wh_text::print_reply;
 use wh_value::{Bytes, Limit, Text};
 
@@ -97,7 +97,7 @@ fn tasks_are_printed(rt: HostRuntime) {
             "succeeded, and the run goes on",
             Reply::TaskSucceeded {
                 name: named(&rt, alloc, b'A'),
-                counts: Counts::Inserted(2),
+                counts: RowCounts::Inserted(2),
                 aftermath: goes_on(alloc),
             },
             b"TASK A SUCCEEDED INSERTED 2\n".as_slice(),
@@ -106,7 +106,7 @@ fn tasks_are_printed(rt: HostRuntime) {
             "succeeded, the last one",
             Reply::TaskSucceeded {
                 name: named(&rt, alloc, b'A'),
-                counts: Counts::Merged {
+                counts: RowCounts::Merged {
                     inserted: 1,
                     updated: 20,
                     deleted: 3,

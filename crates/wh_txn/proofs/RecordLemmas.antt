@@ -4,9 +4,10 @@
 --     row_first, partition_first     the first limit that is passed
 --     idle_within                    none is, where no table was touched and no stream read
 --     parts_of, parts_size           the parts of a transaction, and how many tables and streams they have
-use Rattle.std.proofs.Common.{◌≡◌, ℕ, ◌+◌, ◌≤◌, true, false, List, [], ◌∷◌, length, Option, Some, None, option_map}
-use Rattle.std.proofs.Common.{refl, sym, ap, subst, ◌∙◌, arith}
-use Rattle.std.specs.Prelude.{nat_le, nat_lt}
+--     idle_size                      whether there are none
+use Rattle.std.proofs.Common.{◌≡◌, ℕ, ◌+◌, ◌≤◌, Bool, true, false, List, [], ◌∷◌, length, Option, Some, None}
+use Rattle.std.proofs.Common.{option_map, refl, sym, ap, subst, ◌∙◌, arith}
+use Rattle.std.specs.Prelude.{nat_le, nat_lt, nat_eq}
 use Rattle.std.specs.Option.{option_and_then}
 use Rattle.std.proofs.lemmas.List.{length-map, nil_from_length}
 use Rattle.std.proofs.lemmas.Bool.Decides.{nat_tests}
@@ -139,3 +140,13 @@ pub parts_size : {t : Transaction} {start : ℕ} {tables : List TouchedTable} {s
 parts_size {t} {start} {tables} {streams} parts =
     (λ i. sym (length-map tables touched_in) i + length (parts.streams_are i))
     ∙ (λ i. length (parts.touched_is i) + length t.streams)
+
+-- whether there are none of them, as it is asked of the tables that are lent
+pub idle_size : {t : Transaction} {start : ℕ} {tables : List TouchedTable} {streams : List ℕ}
+    → HasParts t start tables streams → (lent : List TouchedTable) (idle answer : Bool) → lent ≡ tables
+    → idle ≡ nat_eq (length lent + length streams) 0 → idle ≡ answer
+    → nat_eq (length (touched t) + length t.streams) 0 ≡ answer
+idle_size {t} {start} {tables} {streams} parts lent idle answer same asked gives =
+    ap (λ (n : ℕ). nat_eq n 0) (sym (parts_size parts))
+    ∙ ap (λ (l : List TouchedTable). nat_eq (length l + length streams) 0) (sym same)
+    ∙ sym asked ∙ gives

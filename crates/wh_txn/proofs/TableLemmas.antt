@@ -4,13 +4,15 @@
 --     with_one         a tree with one id written, and the map with it
 --     with_same        a tree with what is staged for one id written again
 --     held_entries     the entries of both
+--     touched_whole    those that were touched
 --     held_anew, held_again, staged_is     later edits of a table
-use Rattle.std.proofs.Common.{◌≡◌, ℕ, Bool, true, false, cond, List, [], ◌∷◌, map}
+use Rattle.std.proofs.Common.{◌≡◌, ℕ, Bool, true, false, cond, List, [], ◌∷◌, ◌++◌, map, append-nil}
 use Rattle.std.proofs.Common.{Option, Some, None, option_map, is_some, refl, sym, ap, subst, ◌∙◌}
 use Rattle.std.specs.Prelude.{option_copied, nat_lt, Result, Ok, Err, OnErr, IsSome}
 use denote.Ref.{Bor}
 use Rattle.std.specs.Ordering.{is_eq, nat_cmp}
 use Rattle.std.specs.BTreeMap.{is_at}
+use Rattle.std.specs.List.{filter}
 use Rattle.std.specs.Map.{lookup, set_value, keys_of}
 use Rattle.std.specs.List.Sorted.{IsStrictlySortedBy}
 use Rattle.std.specs.Cmp.{nat_cmp_total}
@@ -99,6 +101,18 @@ pub held_entries : (es : List (ℕ × Staged)) → IsStrictlySortedBy nat_cmp (k
     → entries (tables_of es) ≡ map entry_of es
 held_entries es sorted =
     entries_in_order nat_cmp_total (map entry_of es) (subst (IsStrictlySortedBy nat_cmp) (sym (keys_same es)) sorted)
+
+-- once none of the entries is left, those that were found are all that were touched
+pub touched_whole : (es left : List (ℕ × Staged)) (found : List (ℕ × machine.Staged))
+    → IsStrictlySortedBy nat_cmp (keys_of es) → left ≡ []
+    → found ++ filter (λ entry. entry.1.is_touched) (map entry_of left)
+    ≡ filter (λ entry. entry.1.is_touched) (map entry_of es)
+    → found ≡ filter (λ entry. entry.1.is_touched) (entries (tables_of es))
+touched_whole es left found sorted none so_far =
+    sym (append-nil found)
+    ∙ ap (λ rest. found ++ filter (λ entry. entry.1.is_touched) (map entry_of rest)) (sym none)
+    ∙ so_far
+    ∙ ap (filter (λ entry. entry.1.is_touched)) (sym (held_entries es sorted))
 
 -- ---- later edits of a table
 

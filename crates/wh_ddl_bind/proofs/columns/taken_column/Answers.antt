@@ -1,31 +1,17 @@
-use Rattle.std.proofs.Common.{◌≡◌, ◌+◌, ◌-◌, Some, length, take, drop, get_or, ap, sym, ◌∙◌, arith}
-use Rattle.std.proofs.lemmas.List.{take_all, length-drop}
+use Rattle.std.proofs.Common.{Some, ap, sym, ◌∙◌, arith}
 use Rattle.wh_value.specs.declared.column.Column.{Column}
-use Rattle.wh_ddl_bind.specs.Steps.{is_taken}
 use Rattle.wh_ddl_bind.proofs.ColumnLemmas.{taken_here, taken_later}
 use Rattle.wh_ddl_bind.proofs.columns.taken_column.Goals as goal
 
 pub returns-then-is_taken : goal.returns-then-is_taken
 returns-then-is_taken c =
-    let cs = c.args.columns.now in
-    let i = c.loop-place.place in
-    let item = c.index-columns-place.result in
-    let rest : take (length cs - (i + 1)) (drop (i + 1) cs) ≡ drop (i + 1) cs =
-    take_all _ _ (omega (arith, length-drop (i + 1) cs)) in
-    let test = ap (λ (x : Column). is_taken x.name (drop (i + 1) cs)) c.index-columns-place.is
-    ∙ ap (is_taken (get_or cs i item).name) (sym rest)
-    ∙ sym c.is_taken.ensures ∙ c.if-is_taken.true in
     ap Some (c.in_ok-copy.ensures ∙ ap (λ (x : Column). x.name) (sym c.index-columns-place.is))
-    ∙ sym (taken_here cs i item (omega arith) c.index-columns-place.is test) ∙ c.loop-place.invariant
+    ∙ sym (taken_here c.args.columns.now c.loop-place.place c.index-columns-place.result c.is_taken.result
+    (omega arith) c.index-columns-place.is c.is_taken.ensures c.if-is_taken.true)
+    ∙ c.loop-place.invariant
 
 pub loop-place-preserved : goal.loop-place-preserved
 loop-place-preserved c =
-    let cs = c.args.columns.now in
-    let i = c.loop-place.place in
-    let item = c.index-columns-place.result in
-    let rest : take (length cs - (i + 1)) (drop (i + 1) cs) ≡ drop (i + 1) cs =
-    take_all _ _ (omega (arith, length-drop (i + 1) cs)) in
-    let test = ap (λ (x : Column). is_taken x.name (drop (i + 1) cs)) c.index-columns-place.is
-    ∙ ap (is_taken (get_or cs i item).name) (sym rest)
-    ∙ sym c.is_taken.ensures ∙ c.if-is_taken.false in
-    sym (taken_later cs i item (omega arith) c.index-columns-place.is test) ∙ c.loop-place.invariant
+    sym (taken_later c.args.columns.now c.loop-place.place c.index-columns-place.result c.is_taken.result
+    (omega arith) c.index-columns-place.is c.is_taken.ensures c.if-is_taken.false)
+    ∙ c.loop-place.invariant

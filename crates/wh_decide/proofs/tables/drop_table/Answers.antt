@@ -1,14 +1,11 @@
-use Rattle.std.proofs.Common.{Some, ap}
-use Rattle.wh_machine.specs.Definitions.{defines}
-use Rattle.wh_decide.specs.Sight.{machine_in}
-use Rattle.wh_decide.proofs.OutcomeLemmas.{comes_as}
-use Rattle.wh_decide.proofs.TableLemmas.{drop_is}
+use Rattle.std.proofs.Common.{refl}
+use Rattle.wh_reply.specs.Reply.{DroppedTable}
+use Rattle.wh_machine.specs.Tables.{drop_table}
+use Rattle.wh_decide.proofs.OutcomeLemmas.{drops_as}
 use Rattle.wh_decide.proofs.tables.drop_table.Goals as goal
 
 pub returns : goal.returns
+unfolding drop_table
 returns c =
-    let sight = c.args.sight.now in
-    let id = c.args.id in
-    comes_as sight c.drop_object.result
-    (ap (defines (machine_in sight) sight.session (Some id)) (drop_is (machine_in sight) id _ c.in_ok-name_of.ensures))
+    drops_as c.args.sight.now c.drop_object.result c.args.id DroppedTable _ c.in_ok-name_of.ensures refl
     c.drop_object.ensures

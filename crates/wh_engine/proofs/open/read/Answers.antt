@@ -9,9 +9,9 @@ use Rattle.wh_journal.specs.Opening.{LeavesKept}
 use Rattle.wh_journal.proofs.CrashLemmas.{both, weaker}
 use Rattle.wh_catalog.specs.Catalog.{stored_of}
 use Rattle.wh_engine.specs.Warehouse.{Filed}
-use Rattle.wh_engine.specs.Fault.{fault_of_read}
+use Rattle.wh_journal.specs.Fault.{fault_of_read}
 use Rattle.wh_engine.specs.Opening.{FailsToOpen}
-use Rattle.wh_engine.specs.declared.fault.OpenFault.TheVariants.{OutOfMemory, NotWarehouse}
+use Rattle.wh_journal.specs.declared.fault.OpenFault.TheVariants.{OutOfMemory, NotWarehouse}
 use Rattle.wh_engine.proofs.HaltLemmas.{passed_on}
 use Rattle.wh_engine.proofs.OpenLemmas.{begun_file, opened, filed, gate_ends, fault_first, stray_first, left_by_opening}
 use Rattle.wh_engine.proofs.OpenLemmas.{unread, fails}

@@ -7,24 +7,20 @@ use Rattle.wh_catalog.specs.Catalog.{stored_of, state_of}
 use Rattle.wh_machine.specs.Transaction.{touched, first_past, row_past, partition_past}
 use Rattle.wh_txn.specs.declared.fault.RecordFault.{RecordFault}
 use Rattle.wh_txn.specs.Recording.{touched_at, versions_for, offsets_written}
-use Rattle.wh_txn.proofs.RecordLemmas.{row_first, partition_first, idle_within, parts_size}
+use Rattle.wh_txn.proofs.RecordLemmas.{row_first, partition_first, idle_within, idle_size}
 use Rattle.wh_txn.proofs.CommitLemmas.{none_written, some_written}
 use Rattle.wh_txn.proofs.recording.commit.Goals as goal
 
 pub returns-then-is_idle-clause-made : goal.returns-then-is_idle-clause-made
 returns-then-is_idle-clause-made c = λ t parts.
-    let size = parts_size parts in
-    let given = ap length c.deref.ensures.value in
-    let none : length (touched t) + length t.streams ≡ 0 =
-    grind (arith, nat_tests, size, given, c.is_idle.ensures, c.if-is_idle.true) in
+    let size = idle_size parts _ _ true c.deref.ensures.value c.is_idle.ensures c.if-is_idle.true in
+    let none : length (touched t) + length t.streams ≡ 0 = grind (arith, nat_tests, size) in
     none_written (stored_of c.args.catalog.now) c.args.stamp (state_of c.args.catalog.now).objects t none
 
 pub returns-then-is_idle-clause-within : goal.returns-then-is_idle-clause-within
 returns-then-is_idle-clause-within c = λ t parts.
-    let size = parts_size parts in
-    let given = ap length c.deref.ensures.value in
-    let none : length (touched t) + length t.streams ≡ 0 =
-    grind (arith, nat_tests, size, given, c.is_idle.ensures, c.if-is_idle.true) in
+    let size = idle_size parts _ _ true c.deref.ensures.value c.is_idle.ensures c.if-is_idle.true in
+    let none : length (touched t) + length t.streams ≡ 0 = grind (arith, nat_tests, size) in
     idle_within (state_of c.args.catalog.now).objects t none
 
 pub returns-in-Some-clause-limit : goal.returns-in-Some-clause-limit
@@ -49,10 +45,8 @@ pub returns-clause-made : goal.returns-clause-made
 returns-clause-made c = λ t parts.
     let stored = stored_of c.args.catalog.now in
     let objects = (state_of c.args.catalog.now).objects in
-    let size = parts_size parts in
-    let given = ap length c.deref.ensures.value in
-    let some : 0 < length (touched t) + length t.streams =
-    grind (arith, nat_tests, size, given, c.is_idle.ensures, c.if-is_idle.false) in
+    let size = idle_size parts _ _ false c.deref.ensures.value c.is_idle.ensures c.if-is_idle.false in
+    let some : 0 < length (touched t) + length t.streams = grind (arith, nat_tests, size) in
     let versions = c.in_ok-changes.ensures.made ∙ ap (versions_for c.args.stamp stored.objects) parts.touched_is in
     some_written stored c.args.stamp objects t (map change_of c.add_offsets.new.changes.items) some
     (c.in_ok-add_offsets.ensures
