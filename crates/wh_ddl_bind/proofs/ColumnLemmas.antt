@@ -42,10 +42,10 @@ module _ (cs : List Column) (i : ℕ) (c : Column) (answer : Bool) (within : i <
       ∙ ap (λ b. cond b (Some c.name) (taken_column (column_names (map column_of (drop (i + 1) cs))))) answers
 
   pub taken_here : answer ≡ true → taken_column (column_names (map column_of (drop i cs))) ≡ Some c.name
-  taken_here yes =
-      turn ∙ ap (λ b. cond b (Some c.name) (taken_column (column_names (map column_of (drop (i + 1) cs))))) yes
+  taken_here so =
+      turn ∙ ap (λ b. cond b (Some c.name) (taken_column (column_names (map column_of (drop (i + 1) cs))))) so
 
   pub taken_later : answer ≡ false → taken_column (column_names (map column_of (drop i cs)))
       ≡ taken_column (column_names (map column_of (drop (i + 1) cs)))
-  taken_later no =
-      turn ∙ ap (λ b. cond b (Some c.name) (taken_column (column_names (map column_of (drop (i + 1) cs))))) no
+  taken_later so =
+      turn ∙ ap (λ b. cond b (Some c.name) (taken_column (column_names (map column_of (drop (i + 1) cs))))) so
