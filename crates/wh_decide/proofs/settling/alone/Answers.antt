@@ -2,6 +2,7 @@ use Rattle.std.proofs.Common.{◌≡◌, ℕ, Err, option_map, ap, sym, ◌∙�
 use Rattle.wh_value.specs.declared.limit.Limit.{Limit}
 use Rattle.wh_reply.specs.Reply.{Reply, Changed, OverLimit}
 use Rattle.wh_reply.specs.declared.reply.Refusal.TheVariants as refused
+use Rattle.wh_reply.specs.declared.reply.Reply.TheVariants as code
 use Rattle.wh_bound_change.specs.View as changes
 use Rattle.wh_dml.specs.View.{effect_of}
 use Rattle.wh_effect.specs.Effect.{Effect}
@@ -42,7 +43,8 @@ pub returns-in-Ok-Some : goal.returns-in-Ok-Some
 returns-in-Ok-Some c =
     let sight = c.args.sight.now in
     let at = (goal.at.returns-in-Ok-Some c).After-lone_commit in
-    commits_all (stored_of sight.catalog.now) (sessions_of sight.sessions.now) sight.stamp _ c.in-Ok-Some.commit _
+    commits_all (stored_of sight.catalog.now) (sessions_of sight.sessions.now) sight.stamp
+    (code.Changed c.counts_of-counts.result) c.in-Ok-Some.commit _
     (reply at) _ (ap Changed c.counts_of-counts.ensures)
     (ap (option_map commit_of) (sym c.in-Ok-Some.field-0-is) ∙ c.in-Ok-Some.ensures.made)
     (recorded_within (machine_in sight) (reply at) (machine_in sight).sessions (t at) c.in-Ok-Some.ensures.within)
@@ -51,7 +53,8 @@ pub returns-in-Ok-None : goal.returns-in-Ok-None
 returns-in-Ok-None c =
     let sight = c.args.sight.now in
     let at = (goal.at.returns-in-Ok-None c).After-lone_commit in
-    commits_none (stored_of sight.catalog.now) (sessions_of sight.sessions.now) sight.stamp _ _
+    commits_none (stored_of sight.catalog.now) (sessions_of sight.sessions.now) sight.stamp
+    (code.Changed c.counts_of-counts.result) _
     (reply at) _ (ap Changed c.counts_of-counts.ensures)
     (ap (option_map commit_of) (sym c.in-Ok-None.field-0-is) ∙ c.in-Ok-None.ensures.made)
     (recorded_within (machine_in sight) (reply at) (machine_in sight).sessions (t at) c.in-Ok-None.ensures.within)
