@@ -20,8 +20,8 @@ pub enum Action {
 }
 
 /// The ready task with the least root and then the least id, else the due root with the least id.
-/// `tasks` are the live tasks by their ids from 1; those of `held` wait for an open transaction that
-/// holds what they change or read.
+/// `tasks` are the live tasks by their ids from 1; those of `held` wait for an open transaction
+/// that holds what they change or read.
 #[tactic(auto, unfolding(wh_graph::specs::Action::action))]
 pub fn next_action(tasks: &[Option<&Task>], held: &[u32], stamp: u64) -> Action
     requires { length tasks.now < 2 ^ 32 }
@@ -55,8 +55,8 @@ fn ready_task(tasks: &[Option<&Task>], held: &[u32]) -> Option<(u32, u32)>
 
 // The task of a root's run that is ready first.
 fn ready_in(tasks: &[Option<&Task>], root: Option<&Task>, held: &[u32]) -> Option<u32>
-    ensures { option_map (λ id. id) result
-        ≡ graph.ready_in (λ id. not (is_among id held.now)) (tasks_of tasks.now) (live_of root.entry) }
+    ensures { option_map (λ id. id) result ≡ graph.ready_in (λ id. not (is_among id held.now))
+        (tasks_of tasks.now) (live_of root.entry) }
 {
     let root = root?;
     first_ready(tasks, &root.run, held)

@@ -17,6 +17,9 @@ bound limits.Objects = 1000
 bound limits.Name = 255
 bound limits.Columns = 64
 bound limits.Output = 256
+bound limits.GraphTasks = 1000
+bound limits.Predecessors = 100
+bound limits.Children = 100
 -- minutes of a schedule and seconds of a lag, which have a least number too
 bound limits.LeastSchedule = 1
 bound limits.MostSchedule = 11520

@@ -28,6 +28,12 @@ pub enum Limit {
     Columns,
     /// The columns of a query.
     Output,
+    /// The live tasks of a graph.
+    GraphTasks,
+    /// The names behind AFTER.
+    Predecessors,
+    /// The live tasks that follow one.
+    Children,
     /// The minutes of a schedule, which aren't below it.
     LeastSchedule,
     /// The minutes of a schedule.
@@ -53,6 +59,8 @@ impl Limit {
             Limit::Name => 255,
             Limit::Columns => 64,
             Limit::Output => 256,
+            Limit::GraphTasks => 1000,
+            Limit::Predecessors | Limit::Children => 100,
             Limit::LeastSchedule => 1,
             Limit::MostSchedule => 11520,
             Limit::LeastTargetLag => 60,
