@@ -7,12 +7,6 @@ use std::thread::Threads;
 use wh_shell::{Status, run};
 use wh_world::{MemDisk, MemSink, MemSource, SetClock};
 
-/// After `CREATE TABLE T(K NUMBER);`.
-pub(crate) const ONE_TABLE: [u8; 50] = [
-    0x57, 0x48, 0x43, 0x4f, 0x52, 0x45, 0x31, 1, 0, 0, 0, 0, 0, 0, 0, 0x21, 0, 0, 0, 0, 0, 0, 0, 1,
-    0, 0, 0, 1, 1, 0, 0, 0, 1, 0, 0, 0, 1, 0x54, 1, 0, 0, 0, 1, 0, 0, 0, 1, 0x4b, 1, 0,
-];
-
 /// What a run answers, writes and leaves.
 #[derive(Drop)]
 pub(crate) struct RunEnd {

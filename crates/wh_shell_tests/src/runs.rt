@@ -1,23 +1,13 @@
 ghost use Rattle.std.specs.Prelude.{◌≤◌, ◌^◌, Some};
 
 use crate::running::{
-    Failing, Given, ONE_TABLE, carried_out, clock_at_0, disk_of, run_with, sink_of, source_of,
-    the_word,
+    Failing, Given, carried_out, clock_at_0, disk_of, run_with, sink_of, source_of, the_word,
 };
 use std::alloc::Global;
 use std::process::Abort;
 use std::thread::Threads;
 use wh_shell::{Fault, Status, run, run_within};
 use wh_world::{Failed, Sink};
-
-const EMPTY_FILE: [u8; 8] = *b"WHCORE1\0";
-
-/// What `INSERT INTO T VALUES (1);` then adds: the length, the payload and a closed gate.
-const ONE_ROW: [u8; 83] = [
-    0, 0, 0, 0, 0, 0, 0, 0x4a, 0, 0, 0, 0, 0, 0, 0, 2, 0, 0, 0, 1, 10, 0, 0, 0, 1, 0, 0, 0, 0, 0,
-    0, 0, 2, 0, 0, 0, 0, 0, 0, 0, 2, 0, 0, 0, 1, 0, 0, 0, 0, 0, 0, 0, 1, 0, 0, 0, 0, 0, 0, 0, 1, 0,
-    0, 0, 1, 0, 0, 0, 0, 0, 0, 0, 1, 1, 0, 0, 0, 0, 0, 0, 0, 1, 0,
-];
 
 const SCRIPT: &[u8] = b"CREATE TABLE T(K NUMBER, V NUMBER);
 INSERT INTO T VALUES (2, 5), (1, NULL), (2, 5);
@@ -61,43 +51,6 @@ impl Sink for ByteSink {
         }
         Ok(1)
     }
-}
-
-/// A script leaves these bytes.
-fn assert_left(
-    rt: &(impl Abort + Threads + Sync),
-    alloc: Global,
-    file: &[u8],
-    script: &[u8],
-    want: &[u8],
-) {
-    let done = carried_out(rt, alloc, file, script);
-    assert_eq!(rt; done.disk.bytes(), want);
-}
-
-/// The table with its row.
-fn one_row(rt: &impl Abort, alloc: Global) -> Vec<u8> {
-    let mut file = ONE_TABLE[..49].to_vec(alloc).expect(rt, "memory");
-    file.push(1).expect(rt, "memory");
-    file.extend_from_slice(&ONE_ROW).expect(rt, "memory");
-    file
-}
-
-fn assert_rubbish(rt: &(impl Abort + Threads + Sync), alloc: Global) {
-    let done = carried_out(rt, alloc, b"rubbish!!", SCRIPT);
-    assert_eq!(rt; done.status.code(), 7);
-    assert_eq!(rt; done.out.held(), b"".as_slice());
-    assert_eq!(rt; done.disk.bytes(), b"rubbish!!".as_slice());
-}
-
-#[test]
-fn a_file_has_these_bytes(rt: HostRuntime) {
-    let alloc = rt.alloc();
-    let row = one_row(&rt, alloc);
-    assert_left(&rt, alloc, b"", b"", &EMPTY_FILE);
-    assert_left(&rt, alloc, b"", b"CREATE TABLE T(K NUMBER);", &ONE_TABLE);
-    assert_left(&rt, alloc, &ONE_TABLE, b"INSERT INTO T VALUES (1);", &row);
-    assert_rubbish(&rt, alloc);
 }
 
 /// Carries out a script over a file of at most so many bytes.
