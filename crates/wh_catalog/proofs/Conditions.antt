@@ -8,7 +8,7 @@ use Rattle.std.proofs.lemmas.Bool.Decides.{Decides-and, Decides-eqb, Decides-ltb
 use Rattle.wh_value.specs.Column.{Column}
 use Rattle.wh_value.specs.Limit.{bound}
 use Rattle.wh_value.specs.declared.limit.Limit.TheVariants as limits
-use Rattle.wh_state.specs.State.{id_of, live_count, TableKind, StreamKind}
+use Rattle.wh_state.specs.State.{id_of, live_count, TableKind, StreamKind, TaskKind}
 use Rattle.wh_state.specs.Objects.{is_table}
 use Rattle.wh_state.specs.Stored.{StoredKind, StoredObject}
 use Rattle.wh_state.specs.Commit.{TableChange, IsStoredName, IsNewObject, TableApplies, IsTableKind, IsLiveTable}
@@ -21,8 +21,11 @@ not_from_false : (b : Bool) → b ≡ false → not b ≡ true
 not_from_false true e = cc
 not_from_false false e = refl
 
+pub Decides-false : (b : Bool) → Decides (not b) (b ≡ false)
+Decides-false b = (not-true b, not_from_false b)
+
 Decides-none : {A : Type 0} (o : Option A) → Decides (not (is_some o)) (IsNone o)
-Decides-none o = (not-true (is_some o), not_from_false (is_some o))
+Decides-none o = Decides-false (is_some o)
 
 Decides-name : (name : List ℕ) → Decides (is_stored_name name) (IsStoredName name)
 Decides-name name = Decides-and _ _ (Decides-ltb 0 (length name)) (Decides-leb (length name) (bound limits.Name))
@@ -48,6 +51,7 @@ Decides-new_object objects id name =
 Decides-table_kind : (k : StoredKind) → Decides (is_table k) (IsTableKind k)
 Decides-table_kind (TableKind t) = (λ _. tt, λ _. refl)
 Decides-table_kind (StreamKind s) = (λ is. cc, λ never. absurd never)
+Decides-table_kind (TaskKind t) = (λ is. cc, λ never. absurd never)
 
 pub Decides-live_table : (o : Option StoredObject) → Decides (is_live_table o) (IsLiveTable o)
 Decides-live_table None = (λ is. cc, λ never. absurd never)

@@ -8,12 +8,12 @@ use Rattle.wh_value.specs.Limit.{bound}
 use Rattle.wh_value.specs.declared.limit.Limit.TheVariants as limits
 use Rattle.wh_state.specs.State.{live_count, changed_at}
 use Rattle.wh_catalog.specs.declared.object.StoredObject.{StoredObject}
-use Rattle.wh_state.specs.Stored as machine
 use Rattle.wh_state.proofs.IdLaws.{map_count}
-use Rattle.wh_catalog.specs.Undoable.{KeptObject, object_in}
+use Rattle.wh_catalog.specs.Undoable.{KeptObject}
 use Rattle.wh_catalog.specs.Object.{kept_object, kept_objects, stored_objects, IsPlaceOf}
 use Rattle.wh_catalog.specs.Back.{alive, lives_again}
 use Rattle.wh_catalog.specs.Names.{is_last, names_of, AreLast}
+use Rattle.wh_catalog.proofs.Each.{counted_by}
 use Rattle.wh_catalog.proofs.Names.{same_names, lives_by_id}
 use Rattle.wh_catalog.proofs.Places.{put_back}
 
@@ -58,9 +58,8 @@ revived {xs} {id} {place} {old} at is live few last =
 
 -- ---- the tests of the code
 
-counted : (xs : List StoredObject) → live_count (stored_objects xs) ≡ count_by (λ o. o.is_live) xs
-counted xs = map_count object_in (λ (k : KeptObject). k.is_live) (λ (o : machine.StoredObject). o.is_live) (λ k. refl)
-    (kept_objects xs) ∙ same_count xs
+pub counted : (xs : List StoredObject) → live_count (stored_objects xs) ≡ count_by (λ o. o.is_live) xs
+counted xs = counted_by (λ o. o.is_live) xs
 
 pub one_more : (xs : List StoredObject) (o : StoredObject) (n : ℕ) → live_count (stored_objects xs) < n
     → count_by (λ (q : StoredObject). q.is_live) (xs ++ o ∷ []) ≤ n

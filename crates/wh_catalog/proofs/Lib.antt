@@ -1,6 +1,10 @@
 pub mod Places
 pub mod Steps
+pub mod Each
 pub mod Conditions
+pub mod TaskConditions
+pub mod TaskLaws
+pub mod TaskPlaces
 pub mod Dropped
 pub mod OrderlyObjects
 pub mod Columns

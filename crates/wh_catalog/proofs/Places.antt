@@ -1,5 +1,5 @@
 -- An object at its place, and another one put there: all else is the same.
---     at_place, stands          the object of an id, and what the file says of it
+--     at_place, kept, stands    the object of an id, as it is kept, and what the file says of it
 --     changed, kept_changed     what is put there is what was there, changed
 --     same_kept                 what is put there stands for the same
 --     put_back                  a change that leads back to what was there
@@ -36,7 +36,7 @@ module _ {xs : List StoredObject} {id place : ℕ} {old : StoredObject} (at : Is
   pub at_place : at_id xs id ≡ Some old
   at_place = ap (at_id xs) at.before ∙ slice_get_read xs (length xs) place old refl at.within is
 
-  kept : at_id (kept_objects xs) id ≡ Some (kept_object old)
+  pub kept : at_id (kept_objects xs) id ≡ Some (kept_object old)
   kept = map_at kept_object xs id ∙ ap (option_map kept_object) at_place
 
   pub stands : at_id (stored_objects xs) id ≡ Some (object_in (kept_object old))

@@ -1,9 +1,10 @@
--- Objects as they were: tables without their last version, streams with the offset of before, and dropped objects
--- that live again.
+-- Objects as they were: tables without their last version, streams with the offset of before, tasks with the state or
+-- the run of before, and dropped objects that live again.
 use Rattle.std.specs.Prelude.{ℕ, true, ◌&&◌, List, map, nat_lt, if◌then◌else◌}
 use Rattle.wh_value.specs.Limit.{bound}
 use Rattle.wh_value.specs.declared.limit.Limit.TheVariants as limits
-use Rattle.wh_state.specs.State.{on_table, on_stream, with_offset, changed_at, live_count}
+use Rattle.wh_state.specs.State.{on_table, on_stream, on_task, with_offset, changed_at, live_count}
+use Rattle.wh_state.specs.Task.{Task, Run}
 use Rattle.wh_table.specs.Undoable.{taken_back}
 use Rattle.wh_catalog.specs.Undoable.{KeptKind, KeptObject}
 use Rattle.wh_catalog.specs.Names.{is_last}
@@ -21,6 +22,14 @@ kind_put_back offset k = on_stream (with_offset offset) k
 
 abbrev pub object_put_back : ℕ → KeptObject → KeptObject
 object_put_back offset o = record o { kind = kind_put_back offset o.kind }
+
+-- a task changed, as by `with_state` and `holding`
+abbrev pub on_task_kept : (Task → Task) → KeptObject → KeptObject
+on_task_kept f o = record o { kind = on_task f o.kind }
+
+-- a root with that run
+abbrev pub holding : Run → Task → Task
+holding run t = record t { run = run }
 
 -- an object lives again
 abbrev pub alive : KeptObject → KeptObject

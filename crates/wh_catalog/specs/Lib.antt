@@ -1,4 +1,5 @@
 pub mod Conditions
+pub mod TaskConditions
 pub mod Undoable
 pub mod Stream
 pub mod Object

@@ -3,13 +3,16 @@
 --     Undoes     leads back from a catalog to what it was
 use Rattle.std.specs.Prelude.{◌≡◌, List, [], ◌∷◌}
 use Rattle.wh_state.specs.State.{changed_at}
+use Rattle.wh_state.specs.Task.{with_state}
+use Rattle.wh_task.specs.View.{state_of, run_of}
 use Rattle.wh_version.specs.Lists.{but_last}
 use Rattle.wh_catalog.specs.declared.catalog.Catalog.{Catalog}
 use Rattle.wh_catalog.specs.declared.undo.Step.{Step}
 use Rattle.wh_catalog.specs.declared.undo.Step.TheVariants.{MadeObject, DroppedObject, PushedVersion, SetOffset}
+use Rattle.wh_catalog.specs.declared.undo.Step.TheVariants.{SetTask, SetRun}
 use Rattle.wh_catalog.specs.declared.undo.Undo.{Undo}
 use Rattle.wh_catalog.specs.Undoable.{KeptObject}
-use Rattle.wh_catalog.specs.Back.{object_taken_back, object_put_back, lives_again}
+use Rattle.wh_catalog.specs.Back.{object_taken_back, object_put_back, on_task_kept, holding, lives_again}
 use Rattle.wh_catalog.specs.Catalog.{kept_of}
 
 abbrev pub step_undone : Step → List KeptObject → List KeptObject
@@ -17,6 +20,8 @@ step_undone MadeObject objects = but_last objects
 step_undone (DroppedObject id) objects = lives_again id objects
 step_undone (PushedVersion p) objects = changed_at objects p.id (object_taken_back p.next_row)
 step_undone (SetOffset id offset) objects = changed_at objects id (object_put_back offset)
+step_undone (SetTask id state) objects = changed_at objects id (on_task_kept (with_state (state_of state)))
+step_undone (SetRun root run) objects = changed_at objects root (on_task_kept (holding (run_of run.items)))
 
 -- the last step is undone first
 abbrev pub undone : List Step → List KeptObject → List KeptObject

@@ -2,6 +2,7 @@ use crate::consuming::{put_offset_back, set_offset};
 use crate::dropping::{drop_object, revive};
 use crate::naming::{change_id, give_id, last_id};
 use crate::object::place_of;
+use crate::running::{put_run, put_state};
 use crate::undo::{Pushed, Step};
 use crate::{Catalog, StageFault, StoredObject};
 use wh_record::{Change, VersionChange};
@@ -9,7 +10,8 @@ use wh_value::Limit;
 
 impl Catalog {
     ghost use Rattle.std.specs.Prelude.{◌≡◌, ◌++◌, ◌∷◌, [], OnOk, OnErr, IfOk, IsErrOf};
-    ghost use Rattle.wh_state.specs.Commit.{ChangeApplies, IsNewObject, changed};
+    ghost use Rattle.wh_state.specs.State.{changed_at, dropped};
+    ghost use Rattle.wh_state.specs.Commit.{ChangeApplies, IsNewObject, MayGo, changed};
     ghost use Rattle.wh_record.specs.View.{change_of};
     ghost use Rattle.wh_version.specs.Lists.{but_last};
     ghost use Rattle.wh_catalog.specs.Undoable.{object_in};
@@ -36,7 +38,7 @@ impl Catalog {
                 let table = self.new_table(change, stamp)?;
                 self.add_object(id, table)
             }
-            Change::Drops(id) => drop_object(&mut self.objects, id),
+            Change::Drops(id) => self.drop_at(id),
             Change::PushesVersion(change) => push_version(&mut self.objects, change, stamp),
             Change::CreatesStream(change) => {
                 let id = change.id;
@@ -44,7 +46,34 @@ impl Catalog {
                 self.add_object(id, stream)
             }
             Change::SetsOffset { id, offset } => set_offset(&mut self.objects, id, offset),
+            Change::CreatesTask(change) => {
+                let id = change.id;
+                let task = self.new_task(change)?;
+                self.add_object(id, task)
+            }
+            Change::SetsTask { id, state } => self.set_task(id, state),
+            Change::StartsRun { root, tasks } => self.start_run(root, &tasks),
+            Change::FinishesTask { root, task, ending } => self.finish_task(root, task, ending),
         }
+    }
+
+    // Drops the object of an id, if it lives and is no task that others need.
+    fn drop_at(&mut self, id: u32) -> Result<Step, StageFault>
+        ensures applies { OnOk result (MayGo (objects_of self.old) id) }
+        ensures changed { OnOk result (objects_of self.new
+            ≡ changed_at (objects_of self.old) id dropped) }
+        ensures back { IfOk result (λ step. step_undone step (kept_of self.new)
+            ≡ kept_of self.old) }
+        ensures not_applicable { IsErrOf result StageFault.NotApplicable
+            → MayGo (objects_of self.old) id → ⊥ }
+        ensures same { OnErr result (kept_of self.new ≡ kept_of self.old) }
+        ensures last { self.new.last ≡ self.old.last }
+        ensures committed { self.new.committed ≡ self.old.committed }
+    {
+        if !self.may_go(id) {
+            return Err(StageFault::NotApplicable);
+        }
+        drop_object(&mut self.objects, id)
     }
 
     // Adds an object, whose id and name are those of a new one.
@@ -87,6 +116,12 @@ impl Catalog {
             }
             Step::PushedVersion(pushed) => take_version_back(&mut self.objects, pushed),
             Step::SetOffset { id, offset } => put_offset_back(&mut self.objects, id, offset),
+            Step::SetTask { id, state } => {
+                put_state(&mut self.objects, id, state);
+            }
+            Step::SetRun { root, run } => {
+                put_run(&mut self.objects, root, run);
+            }
         }
     }
 

@@ -7,8 +7,9 @@ ghost use Rattle.wh_catalog.specs.Object.{live_in};
 use crate::object::place_of;
 use crate::{StoredObject, StoredStream};
 use indexmap::IndexMap;
-use std::alloc::Global;
+use std::alloc::{AllocError, Global};
 use wh_table::StoredTable;
+use wh_task::Task;
 
 /// The objects in order of creation, the greatest stamp so far, and that of the last commit.
 /// Each name has the id of the last object that was made under it, whether that one lives or not.
@@ -28,7 +29,7 @@ pub struct Catalog {
 }
 
 impl Catalog {
-    ghost use Rattle.std.specs.Prelude.{◌≡◌, ◌<◌, ◌≤◌, length, map, option_map};
+    ghost use Rattle.std.specs.Prelude.{◌≡◌, ◌<◌, ◌≤◌, length, map, option_map, IfOk};
     ghost use Rattle.wh_value.specs.Limit.{bound};
     ghost use Rattle.wh_value.specs.declared.limit.Limit.TheVariants as limits;
     ghost use Rattle.wh_state.specs.State.{first_state, id_of, live_count};
@@ -36,9 +37,10 @@ impl Catalog {
     ghost use Rattle.wh_state.specs.Orderly.{IsOrderlyStored};
     ghost use Rattle.wh_catalog.specs.Undoable.{object_in};
     ghost use Rattle.wh_table.specs.Table.{table_of};
+    ghost use Rattle.wh_task.specs.View.{task_of, tasks_of};
     ghost use Rattle.wh_catalog.specs.Object.{kept_object};
     ghost use Rattle.wh_catalog.specs.Names.{names_of, is_last, last_id};
-    ghost use Rattle.wh_state.specs.Objects.{table_at, stream_at};
+    ghost use Rattle.wh_state.specs.Objects.{table_at, stream_at, task_at, live_tasks};
     ghost use Rattle.wh_catalog.specs.Catalog.{stored_of, state_of};
     ghost use Rattle.wh_catalog.specs.Stream.{stream_of};
     ghost use Rattle.wh_state.specs.State.{at_id};
@@ -127,7 +129,7 @@ impl Catalog {
         ensures count { result ≡ live_count (stored_of self.now).objects }
         ensures bounded { result ≤ bound limits.Objects }
     {
-        self.objects.iter().filter(|object| object.is_live).count() as u64
+        count_live(&self.objects)
     }
 
     /// The object of an id.
@@ -157,4 +159,45 @@ impl Catalog {
         let object = self.object(id)?;
         object.stream()
     }
+
+    /// The task of an id. None where the object is no task.
+    pub fn task(&self, id: u32) -> Option<&Task>
+        ensures { option_map (λ t. task_of t.now) result
+            ≡ task_at (stored_of self.now).objects id }
+    {
+        let object = self.object(id)?;
+        object.task()
+    }
+
+    /// The live tasks by their ids from 1, None at an id that has none.
+    pub fn live_tasks(&self, alloc: Global) -> Result<Vec<Option<&Task>>, AllocError>
+        ensures tasks { IfOk result (λ tasks. tasks_of tasks.items
+            ≡ live_tasks (stored_of self.now).objects) }
+        ensures bounded { IfOk result (λ tasks.
+            length tasks.items ≤ bound limits.ObjectIds) }
+    {
+        live_tasks(alloc, &self.objects)
+    }
+}
+
+ghost use Rattle.std.specs.Prelude.{IfOk};
+ghost use Rattle.wh_state.specs.Objects.{live_tasks};
+ghost use Rattle.wh_task.specs.View.{tasks_of};
+ghost use Rattle.wh_catalog.specs.Object.{stored_objects};
+
+fn count_live(objects: &[StoredObject]) -> u64
+    ensures { result ≡ live_in objects.now }
+{
+    objects.iter().filter(|object| object.is_live()).count() as u64
+}
+
+fn live_tasks(alloc: Global, objects: &[StoredObject]) -> Result<Vec<Option<&Task>>, AllocError>
+    ensures { IfOk result (λ tasks. tasks_of tasks.items
+        ≡ live_tasks (stored_objects objects.now)) }
+{
+    let mut tasks = Vec::new(alloc);
+    for object in objects {
+        tasks.push(object.live_task())?;
+    }
+    Ok(tasks)
 }

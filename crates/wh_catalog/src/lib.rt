@@ -9,9 +9,11 @@ mod dropping;
 mod naming;
 mod object;
 mod pushing;
+mod running;
 mod stage;
 mod stream;
 mod streaming;
+mod tasks;
 mod undo;
 
 pub use catalog::Catalog;

@@ -1,5 +1,6 @@
 use crate::StoredStream;
 use wh_table::StoredTable;
+use wh_task::Task;
 use wh_value::Text;
 
 /// An object of the warehouse. A dropped one stays, with the name that it had.
@@ -15,12 +16,15 @@ pub struct StoredObject {
 pub enum StoredKind {
     Table(StoredTable),
     Stream(StoredStream),
+    Task(Task),
 }
 
 impl StoredObject {
     ghost use Rattle.std.specs.Prelude.{◌≡◌, option_map};
     ghost use Rattle.wh_table.specs.Table.{table_of};
-    ghost use Rattle.wh_state.specs.State.{table_in, stream_in};
+    ghost use Rattle.wh_task.specs.View.{live_of};
+    ghost use Rattle.wh_state.specs.State.{table_in, stream_in, task_in};
+    ghost use Rattle.wh_state.specs.Objects.{live_task};
     ghost use Rattle.wh_catalog.specs.Undoable.{object_in};
     ghost use Rattle.wh_catalog.specs.Stream.{stream_of};
     ghost use Rattle.wh_catalog.specs.Object.{kept_kind, kept_object};
@@ -57,12 +61,29 @@ impl StoredObject {
     {
         self.kind.stream()
     }
+
+    pub(crate) fn task(&self) -> Option<&Task>
+        ensures { live_of result ≡ task_in (object_in (kept_object self.now)).kind }
+    {
+        self.kind.task()
+    }
+
+    /// The task that it is, if it lives and is one.
+    pub(crate) fn live_task(&self) -> Option<&Task>
+        ensures { live_of result ≡ live_task (object_in (kept_object self.now)) }
+    {
+        if !self.is_live {
+            return None;
+        }
+        self.kind.task()
+    }
 }
 
 impl StoredKind {
     ghost use Rattle.std.specs.Prelude.{◌≡◌, option_map};
-    ghost use Rattle.wh_state.specs.State.{table_in, stream_in};
+    ghost use Rattle.wh_state.specs.State.{table_in, stream_in, task_in};
     ghost use Rattle.wh_table.specs.Table.{table_of};
+    ghost use Rattle.wh_task.specs.View.{live_of};
     ghost use Rattle.wh_catalog.specs.Stream.{stream_of};
     ghost use Rattle.wh_catalog.specs.Object.{stored_kind};
 
@@ -72,7 +93,7 @@ impl StoredKind {
     {
         match self {
             StoredKind::Table(table) => Some(table),
-            StoredKind::Stream(_) => None,
+            StoredKind::Stream(_) | StoredKind::Task(_) => None,
         }
     }
 
@@ -81,8 +102,18 @@ impl StoredKind {
         ensures { option_map (λ s. stream_of s.now) result ≡ stream_in (stored_kind self.now) }
     {
         match self {
-            StoredKind::Table(_) => None,
+            StoredKind::Table(_) | StoredKind::Task(_) => None,
             StoredKind::Stream(stream) => Some(stream),
+        }
+    }
+
+    /// The task that it is, if it is one.
+    pub fn task(&self) -> Option<&Task>
+        ensures { live_of result ≡ task_in (stored_kind self.now) }
+    {
+        match self {
+            StoredKind::Table(_) | StoredKind::Stream(_) => None,
+            StoredKind::Task(task) => Some(task),
         }
     }
 }

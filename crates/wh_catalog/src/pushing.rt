@@ -36,7 +36,7 @@ impl StoredObject {
                 table.push(change, stamp)?;
                 Ok(next_row)
             }
-            StoredKind::Stream(_) => Err(StageFault::NotApplicable),
+            StoredKind::Stream(_) | StoredKind::Task(_) => Err(StageFault::NotApplicable),
         }
     }
 
@@ -49,7 +49,7 @@ impl StoredObject {
     {
         match &mut self.kind {
             StoredKind::Table(table) => table.take_back(next_row),
-            StoredKind::Stream(_) => {}
+            StoredKind::Stream(_) | StoredKind::Task(_) => {}
         }
     }
 }

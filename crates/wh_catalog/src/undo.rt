@@ -2,6 +2,8 @@ ghost use Rattle.std.specs.Prelude.{◌≤◌, ◌<◌};
 ghost use Rattle.wh_value.specs.Limit.{bound};
 ghost use Rattle.wh_value.specs.declared.limit.Limit.TheVariants as limits;
 
+use wh_task::{TaskRun, TaskState};
+
 /// A version that was pushed to the table of an id, whose next row was that one.
 #[derive(Debug, Drop)]
 pub(crate) struct Pushed {
@@ -19,6 +21,10 @@ pub(crate) enum Step {
     PushedVersion(Pushed),
     /// That of a stream, by its id; the offset is that of before.
     SetOffset { id: u32, offset: u64 },
+    /// That of a task, by its id, with the one of before.
+    SetTask { id: u32, state: TaskState },
+    /// That of a root, by its id, with the one of before.
+    SetRun { root: u32, run: Vec<TaskRun> },
 }
 
 /// What leads back from a commit that was staged.

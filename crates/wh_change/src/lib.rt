@@ -6,8 +6,6 @@ mod net;
 mod row_change;
 mod rows;
 mod seen;
-#[cfg(test)]
-mod tests;
 
 pub use appending::appends;
 pub use net::net_changes;

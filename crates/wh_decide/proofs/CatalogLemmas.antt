@@ -3,14 +3,22 @@
 --     count_is, live_is                     how many objects there are
 --     object_there                          the object at an id
 --     table_there, table_missing            the table at an id
+--     task_there, count_meant, tasks_are    the task at an id, and the live tasks
 --     means_by                              a commit is carried out
-use Rattle.std.proofs.Common.{◌≡◌, ℕ, List, length, Some, None, option_map, refl, sym, ap, ◌∙◌}
-use Rattle.wh_state.specs.State.{Object, at_id, live_count, at_rest, stamped}
-use Rattle.wh_state.specs.Objects.{table_at}
-use Rattle.wh_state.specs.Stored.{Stored, StoredTable, table_meant, object_meant, meant}
-use Rattle.wh_state.specs.Commit.{Commit, applied}
-use Rattle.wh_state.proofs.MeaningLaws.{length_meant, at_id_meant, live_count_meant}
-use Rattle.wh_catalog.specs.Catalog.{stored_of, state_of}
+use Rattle.std.proofs.Common.{◌≡◌, ℕ, Bool, true, false, cond, List, [], ◌∷◌, map, length, Some, None, option_map, refl}
+use Rattle.std.proofs.Common.{◌&&◌, sym, ap, ◌∙◌}
+use Rattle.std.specs.Prelude.{count_by}
+use Rattle.std.specs.Option.{option_map_or}
+use Rattle.wh_state.specs.State.{Object, TableKind, StreamKind, TaskKind, task_in, at_id, live_count, at_rest, stamped}
+use Rattle.wh_state.specs.Objects.{table_at, task_at, live_task, live_tasks}
+use Rattle.wh_state.specs.Stored.{Stored, StoredTable, StoredKind, StoredObject, table_meant, kind_meant, object_meant}
+use Rattle.wh_state.specs.Stored.{meant}
+use Rattle.wh_state.specs.Commit.{Commit, applied, is_member}
+use Rattle.wh_state.specs.Task.{Task}
+use Rattle.wh_state.proofs.IdLaws.{map_count}
+use Rattle.wh_state.proofs.MeaningLaws.{length_meant, at_id_meant, live_count_meant, task_at_meant}
+use Rattle.wh_machine.specs.Tasks.{tasks_that}
+use Rattle.wh_catalog.specs.Catalog.{objects_of, stored_of, state_of}
 use Rattle.wh_catalog.specs.declared.catalog.Catalog.{Catalog}
 use Rattle.wh_txn.proofs.SeenLemmas.{objects_are, catalog_table}
 
@@ -44,6 +52,49 @@ table_there c id t is = catalog_table c id ∙ ap (option_map table_meant) is
 pub table_missing : (c : Catalog) (id : ℕ) → table_at (stored_of c).objects id ≡ None
     → table_at (state_of c).objects id ≡ None
 table_missing c id is = catalog_table c id ∙ ap (option_map table_meant) is
+
+-- ---- tasks
+
+pub task_there : (c : Catalog) (id : ℕ) → task_at (stored_of c).objects id ≡ task_at (state_of c).objects id
+task_there c id =
+    sym (ap (λ (objects : List Object). task_at objects id) (objects_are c) ∙ task_at_meant (stored_of c).objects id)
+
+task_meant : (o : StoredObject) → live_task (object_meant o) ≡ live_task o
+task_meant o = by_live o.is_live o.kind
+  where
+    by_kind : (k : StoredKind) → task_in (kind_meant k) ≡ task_in k
+    by_kind (TableKind t) = refl
+    by_kind (StreamKind s) = refl
+    by_kind (TaskKind t) = refl
+
+    by_live : (live : Bool) (k : StoredKind) → cond live (task_in (kind_meant k)) None ≡ cond live (task_in k) None
+    by_live true k = by_kind k
+    by_live false k = refl
+
+tasks_meant : (objects : List StoredObject) → live_tasks (map object_meant objects) ≡ live_tasks objects
+tasks_meant [] = refl
+tasks_meant (o ∷ os) = λ i. task_meant o i ∷ tasks_meant os i
+
+-- how many live tasks meet a condition
+pub count_meant : (c : Catalog) (takes : Task → Bool)
+    → count_by (is_member takes) (objects_of c) ≡ tasks_that takes (state_of c).objects
+unfolding state_of stored_of
+count_meant c takes = sym (map_count object_meant (is_member takes)
+    (λ (o : Object). option_map_or takes (live_task o) false) same (objects_of c))
+  where
+    by_live : (live : Bool) (k : StoredKind)
+        → option_map_or takes (cond live (task_in (kind_meant k)) None) false
+        ≡ live && option_map_or takes (task_in k) false
+    by_live true (TableKind t) = refl
+    by_live true (StreamKind s) = refl
+    by_live true (TaskKind t) = refl
+    by_live false k = refl
+
+    same : (o : StoredObject) → option_map_or takes (live_task (object_meant o)) false ≡ is_member takes o
+    same o = by_live o.is_live o.kind
+
+pub tasks_are : (c : Catalog) → live_tasks (state_of c).objects ≡ live_tasks (stored_of c).objects
+tasks_are c = ap live_tasks (objects_are c) ∙ tasks_meant (stored_of c).objects
 
 -- ---- a commit
 

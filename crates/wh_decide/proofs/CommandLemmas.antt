@@ -16,6 +16,7 @@ use Rattle.wh_ddl_naming.specs.Meant.{first_failing}
 use Rattle.wh_ddl_naming.specs.Objects.{Names}
 use Rattle.wh_ddl_naming.specs.Tables.{NewTable}
 use Rattle.wh_ddl_naming.specs.Streams.{NewStream}
+use Rattle.wh_ddl_naming.specs.Tasks.{NewTask}
 use Rattle.wh_ddl_naming.specs.Statements.{bound}
 use Rattle.wh_ddl_bind.specs.View.{bound_of}
 use Rattle.wh_ddl_bind.specs.Binds.{IsBound}
@@ -28,6 +29,7 @@ use Rattle.wh_machine.specs.Reading.{has_data}
 use Rattle.wh_machine.specs.Definitions.{holder_of, defines}
 use Rattle.wh_machine.specs.Tables.{table_refusal, create_table, drop_table}
 use Rattle.wh_machine.specs.Streams.{stream_refusal, create_stream, drop_stream}
+use Rattle.wh_machine.specs.Tasks.{task_refusal, create_task, resume_task, suspend_task, execute_task, drop_task}
 use Rattle.wh_machine.specs.Statements.{selects, changes_rows, carried_out, carried_out_as, meant_in}
 use Rattle.wh_machine.specs.Step.{commanded, is_session}
 use Rattle.wh_decide.specs.Definitions.{in_transaction, earlier_refusal}
@@ -70,7 +72,7 @@ command_bound m session tree names b there same h =
 
 -- ---- a test of names fails
 
--- CREATE and DROP
+-- CREATE, ALTER, EXECUTE and DROP
 defines_failing : (m : Machine) (session : ℕ) (old : Option ℕ) (o : Outcome) (why : Refusal) → o ≡ Refuses why
     → defines m session old o ≡ Refuses (unwrap_or (in_transaction m session) why)
 unfolding defines
@@ -98,6 +100,26 @@ stream_failing m why n = refl
 drop_stream_failing : (m : Machine) (why : Refusal) (id : ℕ) → drop_stream m (Some why) id ≡ Refuses why
 unfolding drop_stream
 drop_stream_failing m why id = refl
+
+task_failing : (m : Machine) (why : Refusal) (n : NewTask) → create_task m (Some why) n ≡ Refuses why
+unfolding create_task task_refusal
+task_failing m why n = refl
+
+resume_failing : (m : Machine) (why : Refusal) (id : ℕ) → resume_task m (Some why) id ≡ Refuses why
+unfolding resume_task
+resume_failing m why id = refl
+
+suspend_failing : (m : Machine) (why : Refusal) (id : ℕ) → suspend_task m (Some why) id ≡ Refuses why
+unfolding suspend_task
+suspend_failing m why id = refl
+
+execute_failing : (m : Machine) (why : Refusal) (root : ℕ) → execute_task m (Some why) root ≡ Refuses why
+unfolding execute_task
+execute_failing m why root = refl
+
+drop_task_failing : (m : Machine) (why : Refusal) (id : ℕ) → drop_task m (Some why) id ≡ Refuses why
+unfolding drop_task
+drop_task_failing m why id = refl
 
 has_data_failing : (m : Machine) (session : ℕ) (why : Refusal) (id : ℕ) → has_data m session (Some why) id ≡ Refuses why
 unfolding has_data
@@ -136,6 +158,16 @@ failing m session names f (st.CreateStream name table is_append_only) is =
     defines_failing m session _ _ (refusal_of f) (stream_failing m (refusal_of f) _)
 failing m session names f (st.DropStream stream) is =
     defines_failing m session _ _ (refusal_of f) (drop_stream_failing m (refusal_of f) _)
+failing m session names f (st.CreateTask t) is =
+    defines_failing m session _ _ (refusal_of f) (task_failing m (refusal_of f) _)
+failing m session names f (st.ResumeTask task) is =
+    defines_failing m session _ _ (refusal_of f) (resume_failing m (refusal_of f) _)
+failing m session names f (st.SuspendTask task) is =
+    defines_failing m session _ _ (refusal_of f) (suspend_failing m (refusal_of f) _)
+failing m session names f (st.ExecuteTask root) is =
+    defines_failing m session _ _ (refusal_of f) (execute_failing m (refusal_of f) _)
+failing m session names f (st.DropTask task) is =
+    defines_failing m session _ _ (refusal_of f) (drop_task_failing m (refusal_of f) _)
 failing m session names f st.Begin is = absurd (nothing_fails f is)
 failing m session names f st.Commit is = absurd (nothing_fails f is)
 failing m session names f st.Rollback is = absurd (nothing_fails f is)

@@ -1,7 +1,8 @@
--- CREATE and DROP of a session: their tests, and their outcomes.
+-- CREATE, ALTER and DROP of a session: their tests, and their outcomes.
 --     tests_flat, counts_none      tests behind two others
 --     not_past, none_past          a count, and a statement, that isn't refused
 --     defines_by                   a statement by its first failing test
+--     defines_as                   the same statement by the same test and name
 --     drops_as                     what is written for an object that goes
 use Rattle.std.proofs.Common.{◌≡◌, ℕ, ◌≤◌, List, [], ◌∷◌, Option, Some, None, option_map, true, inl, inr, refl, sym, ap}
 use Rattle.std.proofs.Common.{◌∙◌}
@@ -66,6 +67,14 @@ defines_by m session old wrong found reply acts is =
     tests_around m (option_map DdlInTransaction (number_in m.sessions session)) wrong
     (option_map Locked (holder_of m.sessions old)) reply acts
     ∙ ap (λ (why : Option Refusal). unless why (commits m reply acts)) (sym is)
+
+-- the reply has a copy of the name
+pub defines_as : {wrong found : Option Refusal} {copied name : List ℕ} (m : Machine) (session : ℕ) (old : Option ℕ)
+    (reply : List ℕ → Reply) (acts : List Act) → wrong ≡ found → copied ≡ name
+    → defines m session old (unless wrong (commits m (reply copied) acts))
+    ≡ defines m session old (unless found (commits m (reply name) acts))
+defines_as m session old reply acts test same =
+    λ i. defines m session old (unless (test i) (commits m (reply (same i)) acts))
 
 -- ---- what is written for an object that goes
 

@@ -4,8 +4,7 @@
 --     commits_all, commits_none       a reply with a commit, by what is written for acts, if there are some
 --     begins, ends                    what becomes of a transaction
 --     decides_as, comes_as            a decision on an outcome is one on the same outcome
---     drops_as                        an object goes
---     first_two, first_four           the first refusal of tests
+--     first_two, first_three, first_four     the first refusal of tests
 --     viewed_or                       a refusal, or else another
 use Rattle.std.proofs.Common.{◌≡◌, ℕ, List, [], ◌∷◌, Option, Some, None, option_map, Result, refl, sym, ap}
 use Rattle.std.proofs.Common.{subst, ◌∙◌}
@@ -17,22 +16,21 @@ use Rattle.wh_reply.specs.declared.reply.Refusal as code
 use Rattle.wh_reply.specs.declared.reply.Reply as code_reply
 use Rattle.wh_reply.specs.View.{refusal_view, reply_view}
 use Rattle.wh_record.specs.View.{commit_of}
-use Rattle.wh_record.specs.declared.commit.Commit as records
-use Rattle.wh_state.specs.Act.{Act, DropsObject}
-use Rattle.wh_state.specs.Objects.{name_at}
+use Rattle.wh_record.specs.declared.commit.CommitIn.{CommitIn}
+use Rattle.wh_task.specs.declared.task.TaskBody.{TaskBody}
+use Rattle.wh_state.specs.Act.{Act}
 use Rattle.wh_state.specs.Stored.{Stored}
 use Rattle.wh_state.specs.Written.{commit_for}
 use Rattle.wh_machine.specs.Tests.{first_of}
 use Rattle.wh_machine.specs.Sessions.{Sessions, with_begun, with_ended}
-use Rattle.wh_machine.specs.Definitions.{defines}
-use Rattle.wh_machine.specs.Outcome.{Outcome, Refuses, Does, commits}
+use Rattle.wh_machine.specs.Outcome.{Outcome, Refuses, Does}
 use Rattle.wh_decide.specs.declared.decision.Decision.{Decision}
 use Rattle.wh_decide.specs.declared.decision.Decision.TheVariants.{Refuse, Do}
 use Rattle.wh_decide.specs.declared.decision.Settlement.{Settlement}
 use Rattle.wh_decide.specs.declared.decision.Settlement.TheVariants.{Answers, Commits, Begins, Ends}
 use Rattle.wh_decide.specs.declared.sight.Sight.{Sight}
 use Rattle.wh_decide.specs.Decision.{StagesInOpen, sessions_after, commit_in, Decides}
-use Rattle.wh_decide.specs.Sight.{Comes, machine_in}
+use Rattle.wh_decide.specs.Sight.{Comes}
 
 -- ---- decisions
 
@@ -59,7 +57,7 @@ pub answers : (s : Stored) (sessions : Sessions) (stamp : ℕ) (told : code_repl
     → Decides s sessions stamp (Do told Answers) o
 answers s sessions stamp told o reply is same = does s sessions stamp told Answers o reply None is refl tt same
 
-pub commits_all : (s : Stored) (sessions : Sessions) (stamp : ℕ) (told : code_reply.Reply) (commit : records.Commit)
+pub commits_all : (s : Stored) (sessions : Sessions) (stamp : ℕ) (told : code_reply.Reply) (commit : CommitIn TaskBody)
     (o : Outcome) (reply : Reply) (acts : Option (List Act)) → reply_view told ≡ reply
     → Some (commit_of commit) ≡ option_map (commit_for s stamp) acts
     → o ≡ Does reply sessions acts → Decides s sessions stamp (Do told (Commits commit)) o
@@ -81,7 +79,8 @@ begins s sessions stamp session told o reply is same =
     does s sessions stamp told (Begins session) o reply None is refl tt same
 
 pub ends : (s : Stored) (sessions : Sessions) (stamp session : ℕ) (told : code_reply.Reply)
-    (commit : Option records.Commit) (o : Outcome) (reply : Reply) (acts : Option (List Act)) → reply_view told ≡ reply
+    (commit : Option (CommitIn TaskBody)) (o : Outcome) (reply : Reply) (acts : Option (List Act))
+    → reply_view told ≡ reply
     → option_map commit_of commit ≡ option_map (commit_for s stamp) acts
     → o ≡ Does reply (with_ended sessions session) acts → Decides s sessions stamp (Do told (Ends session commit)) o
 ends s sessions stamp session told commit o reply acts is say same =
@@ -96,17 +95,6 @@ pub comes_as : {E : Type 0} (sight : Sight) (r : Result Decision E) {o p : Outco
     → IfOk r (λ d. Comes sight d o) → IfOk r (λ d. Comes sight d p)
 comes_as sight r same = subst (λ (q : Outcome). IfOk r (λ d. Comes sight d q)) same
 
--- an object goes, and the reply has a copy of its name
-pub drops_as : {E : Type 0} (sight : Sight) (r : Result Decision E) (id : ℕ) (reply : List ℕ → Reply)
-    (copied : List ℕ) {o : Outcome} → copied ≡ name_at (machine_in sight).state.objects id
-    → commits (machine_in sight) (reply (name_at (machine_in sight).state.objects id)) (DropsObject id ∷ []) ≡ o
-    → IfOk r (λ d. Comes sight d (defines (machine_in sight) sight.session (Some id)
-    (commits (machine_in sight) (reply copied) (DropsObject id ∷ []))))
-    → IfOk r (λ d. Comes sight d (defines (machine_in sight) sight.session (Some id) o))
-drops_as sight r id reply copied same is =
-    comes_as sight r (ap (defines (machine_in sight) sight.session (Some id))
-    (ap (λ (name : List ℕ). commits (machine_in sight) (reply name) (DropsObject id ∷ [])) same ∙ is))
-
 -- ---- tests
 
 pub first_two : {R : Type 0} (f : R → Refusal) (a b : Option R)
@@ -114,6 +102,13 @@ pub first_two : {R : Type 0} (f : R → Refusal) (a b : Option R)
 first_two f (Some x) b = refl
 first_two f None (Some x) = refl
 first_two f None None = refl
+
+pub first_three : {R : Type 0} (f : R → Refusal) (a b c : Option R)
+    → option_map f (option_or (option_or a b) c) ≡ first_of (option_map f a ∷ option_map f b ∷ option_map f c ∷ [])
+first_three f (Some x) b c = refl
+first_three f None (Some x) c = refl
+first_three f None None (Some x) = refl
+first_three f None None None = refl
 
 pub first_four : {R : Type 0} (f : R → Refusal) (a b c d : Option R)
     → option_map f (option_or (option_or (option_or a b) c) d)

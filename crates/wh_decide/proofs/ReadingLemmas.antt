@@ -12,7 +12,7 @@ use Rattle.wh_value.specs.declared.limit.Limit.TheVariants as limits
 use Rattle.wh_reply.specs.Reply.{SourceGone, OverLimit}
 use Rattle.wh_reply.specs.View.{refusal_view}
 use Rattle.wh_reply.specs.declared.reply.Refusal.{Refusal}
-use Rattle.wh_state.specs.State.{Kind, TableKind, StreamKind, Object, at_id}
+use Rattle.wh_state.specs.State.{Kind, TableKind, StreamKind, TaskKind, Object, at_id}
 use Rattle.wh_state.specs.Stored.{object_meant}
 use Rattle.wh_machine.specs.Tests.{refused_if, first_of}
 use Rattle.wh_machine.specs.Outcome.{Machine}
@@ -103,6 +103,7 @@ is_stream_at c id = ap is_some (sym (catalog_stream c id)) ∙ by_object (at_id 
         → is_some (stream_at objects id) ≡ is_kind_at is_stream objects id
     by_kind o (TableKind t) there kind = rw (there, kind) refl
     by_kind o (StreamKind s) there kind = rw (there, kind) refl
+    by_kind o (TaskKind t) there kind = rw (there, kind) refl
 
     by_object : (found : Option Object) → at_id objects id ≡ found
         → is_some (stream_at objects id) ≡ is_kind_at is_stream objects id

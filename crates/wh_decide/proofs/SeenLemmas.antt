@@ -4,7 +4,7 @@ use Rattle.std.proofs.Common.{◌≡◌, ℕ, zero, suc, List, [], ◌∷◌, Op
 use Rattle.std.proofs.Common.{slice_get, refl, ap, sym, ◌∙◌}
 use Rattle.std.specs.FinMap.{FinMap, get}
 use Rattle.std.specs.Ordering.{nat_cmp}
-use Rattle.wh_state.specs.State.{State, Kind, TableKind, StreamKind, Object, Table, at_id}
+use Rattle.wh_state.specs.State.{State, Kind, TableKind, StreamKind, TaskKind, Object, Table, at_id}
 use Rattle.wh_state.specs.Act.{edited_table}
 use Rattle.wh_state.specs.Objects.{as_table, table_at}
 use Rattle.wh_machine.specs.Transaction.{Staged, Transaction, with_own, seen_from, seen}
@@ -44,6 +44,7 @@ one_table stamp own o = by_own own
         → as_table (with_own stamp (Some s) o) ≡ option_map (own_edits stamp (Some s)) (as_table o)
     by_kind s (TableKind t) is = rw is refl
     by_kind s (StreamKind u) is = rw is refl
+    by_kind s (TaskKind u) is = rw is refl
 
     same_edits : (found : Option Table) → found ≡ option_map (own_edits stamp None) found
     same_edits None = refl

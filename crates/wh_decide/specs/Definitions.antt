@@ -22,11 +22,16 @@ earlier_refusal m session (st.CreateTable t) = in_transaction m session
 earlier_refusal m session (st.DropTable name) = in_transaction m session
 earlier_refusal m session (st.CreateStream name table is_append_only) = in_transaction m session
 earlier_refusal m session (st.DropStream name) = in_transaction m session
+earlier_refusal m session (st.CreateTask t) = in_transaction m session
+earlier_refusal m session (st.ResumeTask name) = in_transaction m session
+earlier_refusal m session (st.SuspendTask name) = in_transaction m session
+earlier_refusal m session (st.ExecuteTask name) = in_transaction m session
+earlier_refusal m session (st.DropTask name) = in_transaction m session
 earlier_refusal m session (st.Select query sorts) = None
 earlier_refusal m session (st.HasData stream) = None
 earlier_refusal m session (st.Dml statement) = None
 earlier_refusal m session st.Begin = None
 earlier_refusal m session st.Commit = None
 earlier_refusal m session st.Rollback = None
--- tasks and dynamic tables
+-- dynamic tables
 earlier_refusal m session _ = Some Unsupported

@@ -2,6 +2,7 @@ pub mod Event
 pub mod Decision
 pub mod Sight
 pub mod Names
+pub mod Tasks
 pub mod Definitions
 pub mod Rows
 pub mod Sources

@@ -23,11 +23,11 @@ use wh_catalog::StoredTable;
 use wh_dml::{Effect, EffectFault};
 use wh_reply::Refusal;
 
-// What INSERT, UPDATE, DELETE and MERGE come to that nothing is found wrong with: in a transaction
-// their effect is staged. Outside of one it is a transaction of its own, which makes a new version
-// of the target, where a row counts, and moves the offsets of the streams that they read; there is
-// no commit where there is neither.
-pub(crate) fn change_rows(
+/// What INSERT, UPDATE, DELETE and MERGE come to that nothing is found wrong with: in a transaction
+/// their effect is staged. Outside of one it is a transaction of its own, which makes a new version
+/// of the target, where a row counts, and moves the offsets of the streams that they read; there is
+/// no commit where there is neither.
+pub fn change_rows(
     alloc: Global,
     sight: &Sight<'_>,
     bound: &BoundChange,

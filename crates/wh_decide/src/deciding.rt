@@ -1,70 +1,34 @@
 ghost use Rattle.std.specs.Prelude.{◌≡◌, None, option_map, IfOk};
 ghost use Rattle.wh_reply.specs.View.{refusal_view};
 ghost use Rattle.wh_grammar.specs.Spelled.{Asked};
-ghost use Rattle.wh_state.specs.State.{stamped};
-ghost use Rattle.wh_machine.specs.Step.{outcome_of, commanded, is_session};
+ghost use Rattle.wh_machine.specs.Step.{commanded, is_session};
 ghost use Rattle.wh_machine.specs.Statements.{carried_out};
 ghost use Rattle.wh_stmt_parse.specs.Request.{request_of};
-ghost use Rattle.wh_catalog.specs.Catalog.{stored_of, state_of};
-ghost use Rattle.wh_txn.specs.View.{sessions_of};
 ghost use Rattle.wh_ddl_bind.specs.View.{bound_of};
 ghost use Rattle.wh_decide.specs.Definitions.{earlier_refusal};
-ghost use Rattle.wh_decide.specs.Event.{event_of};
-ghost use Rattle.wh_decide.specs.Decision.{Decides, machine_at};
 ghost use Rattle.wh_decide.specs.Sight.{machine_in, Comes};
 
-use crate::Event;
+use crate::altering::{drop_task, execute_task, resume_task, suspend_task};
 use crate::changes::change_rows;
-use crate::decision::{Decision, Settlement};
+use crate::decision::Decision;
 use crate::names::{named_objects, refusal};
 use crate::queries::select;
+use crate::roots::task_roots;
 use crate::sight::Sight;
 use crate::streams::{create_stream, drop_stream, has_data};
 use crate::tables::{create_table, drop_table};
+use crate::tasks::create_task;
 use crate::transactions::{begin, commit, refused_in_transaction, rollback};
 use std::alloc::{AllocError, Global};
 use wh_ast::Statement;
 use wh_bind::BindFault;
-use wh_catalog::Catalog;
 use wh_ddl_bind::{Bound, Names, bind};
-use wh_reply::{Refusal, Reply};
+use wh_reply::Refusal;
 use wh_stmt_parse::{ParseFault, parse};
-use wh_txn::Sessions;
 use wh_value::{Limit, SESSIONS};
 
-/// What an event comes to at a stamp.
-pub fn decide(
-    alloc: Global,
-    catalog: &Catalog,
-    sessions: &Sessions,
-    stamp: u64,
-    event: &Event,
-) -> Result<Decision, AllocError>
-    ensures { IfOk result (λ decision.
-        Decides (stored_of catalog.now) (sessions_of sessions.now) stamp decision
-        (outcome_of (machine_at (stamped (state_of catalog.now) stamp) (sessions_of sessions.now))
-        (event_of event.now))) }
-{
-    match event {
-        Event::Command { session, text, .. } => {
-            let sight = Sight {
-                catalog,
-                sessions,
-                session: *session,
-                stamp,
-            };
-            decide_text(alloc, &sight, text.as_slice())
-        }
-        // Nothing is ever due yet.
-        Event::Tick { .. } => Ok(Decision::Do {
-            reply: Reply::Idle,
-            settlement: Settlement::Answers,
-        }),
-    }
-}
-
-// What a command's text comes to.
-fn decide_text(alloc: Global, sight: &Sight<'_>, text: &[u8]) -> Result<Decision, AllocError>
+/// What a command's text comes to in a session.
+pub fn decide_command(alloc: Global, sight: &Sight<'_>, text: &[u8]) -> Result<Decision, AllocError>
     ensures { IfOk result (λ decision. Comes sight.now decision
         (commanded (machine_in sight.now) sight.now.session (request_of text.now))) }
 {
@@ -95,9 +59,10 @@ fn decide_tree(
         return Ok(Decision::Refuse(Refusal::NoSuchSession(sight.session)));
     }
     let objects = named_objects(alloc, sight.catalog, statement)?;
+    let roots = task_roots(alloc, sight.catalog, statement)?;
     let names = Names {
         objects: &objects,
-        roots: &[],
+        roots: &roots,
     };
     match bind(alloc, &names, statement) {
         Ok(bound) => decide_bound(alloc, sight, bound),
@@ -124,7 +89,12 @@ fn earlier_refusal(sight: &Sight<'_>, statement: &Statement) -> Option<Refusal>
         Statement::CreateTable(_)
         | Statement::DropTable(_)
         | Statement::CreateStream(_, _, _)
-        | Statement::DropStream(_) => refused_in_transaction(sight),
+        | Statement::DropStream(_)
+        | Statement::CreateTask(_)
+        | Statement::ResumeTask(_)
+        | Statement::SuspendTask(_)
+        | Statement::ExecuteTask(_)
+        | Statement::DropTask(_) => refused_in_transaction(sight),
         Statement::Select(_, _)
         | Statement::HasData(_)
         | Statement::Dml(_)
@@ -152,6 +122,11 @@ fn decide_bound(alloc: Global, sight: &Sight<'_>, statement: Bound) -> Result<De
         Bound::DropTable(id) => drop_table(alloc, sight, id),
         Bound::CreateStream(stream) => create_stream(alloc, sight, stream.into_inner()),
         Bound::DropStream(id) => drop_stream(alloc, sight, id),
+        Bound::CreateTask(task) => create_task(alloc, sight, task.into_inner()),
+        Bound::ResumeTask(id) => resume_task(alloc, sight, id),
+        Bound::SuspendTask(id) => suspend_task(alloc, sight, id),
+        Bound::ExecuteTask(root) => execute_task(alloc, sight, root),
+        Bound::DropTask(id) => drop_task(alloc, sight, id),
         _ => Ok(Decision::Refuse(Refusal::Unsupported)),
     }
 }

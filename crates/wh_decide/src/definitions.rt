@@ -1,4 +1,4 @@
-//! What CREATE and DROP of each kind of object have in common.
+//! What CREATE, ALTER and DROP of each kind of object have in common.
 ghost use Rattle.std.specs.Prelude.{◌≡◌, ◌+◌, ◌∷◌, [], List, Some, option_map, map, IfOk};
 ghost use Rattle.wh_reply.specs.Reply.{DdlInTransaction, Locked};
 ghost use Rattle.wh_reply.specs.View.{refusal_view, reply_view};
@@ -6,7 +6,7 @@ ghost use Rattle.wh_state.specs.Act.{Act, DropsObject};
 ghost use Rattle.wh_state.specs.Written.{written};
 ghost use Rattle.wh_machine.specs.Tests.{first_of};
 ghost use Rattle.wh_machine.specs.Sessions.{number_in};
-ghost use Rattle.wh_machine.specs.Outcome.{commits};
+ghost use Rattle.wh_machine.specs.Outcome.{commits, unless};
 ghost use Rattle.wh_machine.specs.Definitions as machine;
 ghost use Rattle.wh_machine.specs.Definitions.{defines, holder_of};
 ghost use Rattle.wh_machine.specs.Tables.{one_if};
@@ -26,8 +26,8 @@ use wh_record::{Change, Commit};
 use wh_reply::{Refusal, Reply};
 use wh_value::{Limit, Text};
 
-// The first test that a CREATE or DROP fails, around those of its own: that of a transaction first,
-// and that of holds last, of the object that goes.
+// The first test that a CREATE, ALTER or DROP fails, around those of its own: that of a transaction
+// first, and that of holds last, of the object that goes.
 pub(crate) fn definition_refusal(
     sight: &Sight<'_>,
     old: Option<u32>,
@@ -77,7 +77,7 @@ pub(crate) fn drops(alloc: Global, old: Option<u32>) -> Result<Vec<Change>, Allo
     }
 }
 
-// The commit of a CREATE or DROP that passes each test.
+// The commit of a CREATE, ALTER or DROP that passes each test.
 pub(crate) fn defined(sight: &Sight<'_>, reply: Reply, changes: Vec<Change>) -> Decision
     ensures { (acts : List Act) → map change_of changes.items
         ≡ written sight.now.stamp (stored_of sight.now.catalog.now).objects acts
@@ -90,22 +90,42 @@ pub(crate) fn defined(sight: &Sight<'_>, reply: Reply, changes: Vec<Change>) -> 
     }
 }
 
-// The drop of an object that nothing is found wrong with, once nobody holds it.
+// The commit of one whose changes are known, or its refusal, with the first test of its own that it
+// fails.
+pub(crate) fn tested(
+    sight: &Sight<'_>,
+    old: Option<u32>,
+    wrong: Option<Refusal>,
+    reply: Reply,
+    changes: Vec<Change>,
+) -> Decision
+    ensures { (acts : List Act) → map change_of changes.items
+        ≡ written sight.now.stamp (stored_of sight.now.catalog.now).objects acts
+        → Comes sight.now result (defines (machine_in sight.now) sight.now.session old
+        (unless (option_map refusal_view wrong)
+        (commits (machine_in sight.now) (reply_view reply) acts))) }
+{
+    match definition_refusal(sight, old, wrong) {
+        Some(why) => Decision::Refuse(why),
+        None => defined(sight, reply, changes),
+    }
+}
+
+// The drop of an object, with the first test of its own that it fails, once nobody holds it.
 pub(crate) fn drop_object(
     alloc: Global,
     sight: &Sight<'_>,
     id: u32,
+    wrong: Option<Refusal>,
     reply: Reply,
 ) -> Result<Decision, AllocError>
     ensures { IfOk result (λ decision. Comes sight.now decision
         (defines (machine_in sight.now) sight.now.session (Some id)
-        (commits (machine_in sight.now) (reply_view reply) (DropsObject id ∷ [])))) }
+        (unless (option_map refusal_view wrong)
+        (commits (machine_in sight.now) (reply_view reply) (DropsObject id ∷ []))))) }
 {
-    if let Some(why) = definition_refusal(sight, Some(id), None) {
-        return Ok(Decision::Refuse(why));
-    }
     let changes = drops(alloc, Some(id))?;
-    Ok(defined(sight, reply, changes))
+    Ok(tested(sight, Some(id), wrong, reply, changes))
 }
 
 // Whether a name is beyond the limit.

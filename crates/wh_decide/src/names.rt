@@ -1,10 +1,11 @@
-ghost use Rattle.std.specs.Prelude.{◌≡◌, [], ◌∷◌, ◌++◌, map, option_map, IfOk, OnOk};
+ghost use Rattle.std.specs.Prelude.{◌≡◌, [], ◌∷◌, ◌++◌, List, map, option_map, IfOk, OnOk};
 ghost use Rattle.wh_reply.specs.View.{refusal_view};
 ghost use Rattle.wh_value.specs.View.{column_of};
 ghost use Rattle.wh_naming.specs.Scope.{named};
 ghost use Rattle.wh_naming.specs.View as view;
 ghost use Rattle.wh_naming.specs.View.{named_of};
 ghost use Rattle.wh_ddl_naming.specs.Names.{names_at, looked_up};
+ghost use Rattle.wh_ddl_naming.specs.Objects.{TaskRoot};
 ghost use Rattle.wh_ddl_naming.specs.Statements.{bound};
 ghost use Rattle.wh_state.specs.State as state;
 ghost use Rattle.wh_state.specs.Stored.{kind_meant};
@@ -27,8 +28,9 @@ pub(crate) fn named_objects<'a>(
     catalog: &'a Catalog,
     statement: &Statement,
 ) -> Result<Vec<Named<'a>>, AllocError>
-    ensures { IfOk result (λ objects. bound (over (map named_of objects.items)) statement.now
-        ≡ bound (machine.names_in (state_of catalog.now).objects) statement.now) }
+    ensures { IfOk result (λ objects. (roots : List TaskRoot)
+        → bound (over (map named_of objects.items) roots) statement.now
+        ≡ bound (over (machine.names_from 1 (state_of catalog.now).objects) roots) statement.now) }
 {
     let names = names_in(alloc, statement)?;
     live_objects(alloc, catalog, &names)
@@ -74,7 +76,8 @@ fn live_object<'a>(catalog: &'a Catalog, name: &Text) -> Option<Named<'a>>
     Some(named(id, object))
 }
 
-fn named(id: u32, object: &StoredObject) -> Named<'_>
+/// An object that a statement may name.
+pub fn named(id: u32, object: &StoredObject) -> Named<'_>
     ensures { named_of result
         ≡ machine.named_object id (object_of object.now) }
 {
@@ -92,6 +95,7 @@ fn kind_of(kind: &StoredKind) -> ObjectKind
     match kind {
         StoredKind::Table(_) => ObjectKind::Table,
         StoredKind::Stream(_) => ObjectKind::Stream,
+        StoredKind::Task(_) => ObjectKind::Task,
     }
 }
 
@@ -102,11 +106,12 @@ fn columns_in(kind: &StoredKind) -> &[Column]
     match kind {
         StoredKind::Table(table) => table.columns(),
         StoredKind::Stream(stream) => stream.columns(),
+        StoredKind::Task(_) => &[],
     }
 }
 
-// The refusal that a failing test of names comes to.
-pub(crate) fn refusal(failing: Failing) -> Refusal
+/// The refusal that a failing test of names comes to.
+pub fn refusal(failing: Failing) -> Refusal
     ensures { refusal_view result ≡ machine.refusal_of (view.failing_of failing) }
 {
     match failing {

@@ -37,9 +37,9 @@ pub(crate) fn sources_refusal(
     reading_refusal(alloc, sight, ids)
 }
 
-// Where one of these sources can't be read: every stream's source has to be there, and then no
-// stream may lie too far back, in the order of the text.
-pub(crate) fn reading_refusal(
+/// Where one of these sources can't be read: every stream's source has to be there, and then no
+/// stream may lie too far back, in the order of the text.
+pub fn reading_refusal(
     alloc: Global,
     sight: &Sight<'_>,
     ids: &[u32],
@@ -76,7 +76,8 @@ fn lower(least: Option<u32>, id: u32) -> u32
     }
 }
 
-pub(crate) fn name_of(alloc: Global, catalog: &Catalog, id: u32) -> Result<Text, AllocError>
+/// The name of the object of an id, empty where there is none.
+pub fn name_of(alloc: Global, catalog: &Catalog, id: u32) -> Result<Text, AllocError>
     ensures { IfOk result (λ name. name ≡ name_at (state_of catalog.now).objects id) }
 {
     match catalog.object(id) {
@@ -105,12 +106,8 @@ fn first_stale(catalog: &Catalog, ids: &[u32], stamp: u64) -> Option<Refusal>
     None
 }
 
-// Those of them that are streams, in the order of the text.
-pub(crate) fn streams_among(
-    alloc: Global,
-    catalog: &Catalog,
-    ids: &[u32],
-) -> Result<Vec<u32>, AllocError>
+/// Those of them that are streams, in the order of the text.
+pub fn streams_among(alloc: Global, catalog: &Catalog, ids: &[u32]) -> Result<Vec<u32>, AllocError>
     ensures { IfOk result (λ found. found.items
         ≡ streams.streams_among (state_of catalog.now).objects ids.now) }
 {

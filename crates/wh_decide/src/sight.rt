@@ -1,14 +1,15 @@
 use wh_catalog::Catalog;
 use wh_txn::Sessions;
 
-/// What a statement of a session is decided by.
+/// What a statement of a session is decided by. That of a task is one of session 0, which has no
+/// open transaction.
 #[derive(Clone, Copy, Debug)]
-pub(crate) struct Sight<'a> {
-    pub(crate) catalog: &'a Catalog,
-    pub(crate) sessions: &'a Sessions,
-    pub(crate) session: u64,
+pub struct Sight<'a> {
+    pub catalog: &'a Catalog,
+    pub sessions: &'a Sessions,
+    pub session: u64,
     /// The statement's.
-    pub(crate) stamp: u64,
+    pub stamp: u64,
 }
 
 impl Sight<'_> {
@@ -19,7 +20,7 @@ impl Sight<'_> {
     /// The stamp that streams are read up to: no commit lies between it and the number of the
     /// session's transaction. A statement by itself is a transaction of its own.
     #[tactic(auto, using(crate::proofs::ReadingLemmas::start_open, crate::proofs::ReadingLemmas::start_alone))]
-    pub(crate) fn start(&self) -> u64
+    pub fn start(&self) -> u64
         ensures { result ≡ start_in (machine_in self.now) self.now.session }
     {
         match self.sessions.number(self.session) {

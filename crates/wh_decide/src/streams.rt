@@ -83,7 +83,7 @@ pub(crate) fn drop_stream(alloc: Global, sight: &Sight<'_>, id: u32) -> Result<D
         (machine.drop_stream (machine_in sight.now) None id))) }
 {
     let reply = Reply::DroppedStream(name_of(alloc, sight.catalog, id)?);
-    drop_object(alloc, sight, id, reply)
+    drop_object(alloc, sight, id, None, reply)
 }
 
 // What SYSTEM$STREAM_HAS_DATA comes to, of a stream: it is refused as a read of it is, and moves

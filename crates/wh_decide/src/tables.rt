@@ -127,5 +127,5 @@ pub(crate) fn drop_table(alloc: Global, sight: &Sight<'_>, id: u32) -> Result<De
         (machine.drop_table (machine_in sight.now) None id))) }
 {
     let reply = Reply::DroppedTable(name_of(alloc, sight.catalog, id)?);
-    drop_object(alloc, sight, id, reply)
+    drop_object(alloc, sight, id, None, reply)
 }

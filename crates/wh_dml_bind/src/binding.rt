@@ -27,8 +27,38 @@ pub fn bind_change(
     bound(checked(alloc, names, statement)?)
 }
 
+/// The target of a change, and the sources that it reads, whatever is found wrong with it.
+pub fn change_reach(
+    alloc: Global,
+    names: &[Named<'_>],
+    statement: &Dml,
+) -> Result<(u32, Vec<u32>), AllocError>
+    ensures target { IfOk result (λ reach. reach.0
+        ≡ (naming.bound_change (map named_of names.now) statement.now).target) }
+    ensures sources { IfOk result (λ reach. reach.1.items
+        ≡ (naming.bound_change (map named_of names.now) statement.now).sources) }
+{
+    let checked = checked(alloc, names, statement)?;
+    Ok(reach(checked))
+}
+
 ghost use Rattle.std.specs.Prelude.{◌∷◌, [], unwrap_or, IfOk};
 ghost use Rattle.wh_dml_bind.specs.View.{checked_in};
+
+#[tactic(auto, unfolding(crate::specs::View::checked_in))]
+fn reach(checked: Boxed<Checked>) -> (u32, Vec<u32>)
+    ensures target { result.0 ≡ (checked_in checked).target }
+    ensures sources { result.1.items ≡ (checked_in checked).sources }
+{
+    let Checked { bound, findings } = checked.into_inner();
+    drop(findings);
+    let BoundChange {
+        target,
+        sources,
+        ..
+    } = bound;
+    (target, sources)
+}
 
 // The change, or the first failing test.
 #[tactic(auto, unfolding(crate::specs::View::checked_in))]

@@ -16,4 +16,4 @@ mod target;
 mod update;
 mod values;
 
-pub use binding::bind_change;
+pub use binding::{bind_change, change_reach};

@@ -26,7 +26,9 @@ use Rattle.wh_decide.specs.declared.decision.Decision.TheVariants as decisions
 use Rattle.wh_decide.specs.declared.decision.Settlement.{Settlement}
 use Rattle.wh_decide.specs.Decision.{Decides, machine_at, sessions_after, commit_in, answer_of, settlement_of}
 use Rattle.wh_decide.specs.Decision.{StagesInOpen}
-use Rattle.wh_engine.specs.Warehouse.{state_with, IsAt}
+use Rattle.wh_engine.specs.Warehouse.{state_with, IsAt, IsRead}
+use Rattle.wh_state.proofs.SpelledLaws.{understood_written}
+use Rattle.wh_machine.proofs.UnderstoodLaws.{AreUnderstood, IsSpelledEvent, outcome_understood}
 use Rattle.wh_catalog.specs.Catalog.{stored_of, state_of}
 use Rattle.wh_catalog.specs.declared.catalog.Catalog.{Catalog}
 use Rattle.wh_decide.proofs.CatalogLemmas.{state_is}
@@ -53,6 +55,11 @@ is_at : (s : Stored) (stamp : ℕ) (acts : Option (List Act)) → IsAt stamp (op
 is_at s stamp None = tt
 is_at s stamp (Some acts) = refl
 
+is_read : (s : Stored) (stamp : ℕ) (acts : Option (List Act)) → AreUnderstood acts
+    → IsRead (option_map (commit_for s stamp) acts)
+is_read s stamp None are = tt
+is_read s stamp (Some acts) are = understood_written stamp s.objects acts are
+
 -- a transaction that there is
 pub is_there : (found : Option Transaction) → IsTrue (is_some found) → (t : Transaction) × (found ≡ Some t)
 is_there None some = absurd cc
@@ -68,12 +75,14 @@ pub record Comes
   pub replied : reply ≡ (step m e).1
   pub staged : StagesInOpen m.sessions settlement
   pub timed : IsAt stamp (commit_in settlement)
+  pub read : IsRead (commit_in settlement)
 
 comes : (s : Stored) (m : Machine) (e : Event) (d : Decision) → IsOrderlyStored s
     → m.state ≡ record (meant s) { last = m.state.last }
-    → has_stamp m e ≡ true → Decides s m.sessions (stamp_of m.state (reading_of e)) d (decided m e)
+    → IsSpelledEvent e → has_stamp m e ≡ true
+    → Decides s m.sessions (stamp_of m.state (reading_of e)) d (decided m e)
     → Comes s m e (stamp_of m.state (reading_of e)) (settlement_of d) (answer_of d)
-comes s m e d orderly is has decides =
+comes s m e d orderly is spelled has decides =
     let stamp : ℕ = stamp_of m.state (reading_of e) in
     let o : Outcome = decided m e in
     let h : IsTold s m stamp d o = told s m stamp d o decides in
@@ -85,17 +94,18 @@ comes s m e d orderly is has decides =
       replied = h.reply ∙ sym (ap (λ (p : Machine × Reply). p.1) (step_at m e has));
       staged = h.staged;
       timed = subst (IsAt stamp) (sym h.commit) (is_at s stamp (acts_in o));
+      read = subst IsRead (sym h.commit) (is_read s stamp (acts_in o) (outcome_understood (ready m e) e spelled));
     }
 
 -- so for a catalog and open transactions, where the stamp is the code's
 pub turns : (c : Catalog) (sessions : Sessions) (e : Event) (reading last most stamp : ℕ) (d : Decision)
     (settlement : Settlement) (reply : Reply)
     → IsOrderlyStored (stored_of c) → reading ≡ reading_of e → last ≡ (state_of c).last → most ≡ bound limits.Stamp
-    → stamp ≡ max reading (last + 1) → stamp < most
+    → stamp ≡ max reading (last + 1) → stamp < most → IsSpelledEvent e
     → Decides (stored_of c) sessions stamp d (outcome_of (machine_at (stamped (state_of c) stamp) sessions) e)
     → settlement ≡ settlement_of d → reply ≡ answer_of d
     → Comes (stored_of c) (machine_at (state_of c) sessions) e stamp settlement reply
-turns c sessions e reading last most stamp d settlement reply orderly read was limit at within h carried told =
+turns c sessions e reading last most stamp d settlement reply orderly read was limit at within spelled h carried told =
     let s = stored_of c in
     let m : Machine = machine_at (state_of c) sessions in
     let is : stamp ≡ stamp_of (state_of c) (reading_of e) = omega (arith, read, was, at) in
@@ -105,7 +115,7 @@ turns c sessions e reading last most stamp d settlement reply orderly read was l
     subst (λ (n : ℕ). Comes s m e n settlement reply) (sym is)
     (subst (λ (done : Settlement). Comes s m e (stamp_of (state_of c) (reading_of e)) done reply) (sym carried)
     (subst (λ (r : Reply). Comes s m e (stamp_of (state_of c) (reading_of e)) (settlement_of d) r) (sym told)
-    (comes s m e d orderly (state_is c) has decides)))
+    (comes s m e d orderly (state_is c) spelled has decides)))
 
 -- ---- no stamp is left
 

@@ -1,9 +1,10 @@
 use crate::{Event, Halt, Warehouse};
 use std::alloc::AllocError;
 use std::thread::Threads;
-use wh_decide::{Decision, Settlement, decide};
+use wh_decide::{Decision, Settlement};
 use wh_record::Commit;
 use wh_reply::{Refusal, Reply};
+use wh_tick::decide;
 use wh_value::Limit;
 use wh_world::Disk;
 
@@ -21,7 +22,7 @@ impl<D: Disk> Warehouse<D> {
     ghost use Rattle.wh_decide.specs.Event.{event_of};
     ghost use Rattle.wh_decide.specs.Decision.{commit_in, sessions_after};
     ghost use Rattle.wh_decide.specs.Decision.{machine_at, Decides, StagesInOpen};
-    ghost use Rattle.wh_engine.specs.Warehouse.{made_in, led_to, state_with, IsAt};
+    ghost use Rattle.wh_engine.specs.Warehouse.{made_in, led_to, state_with, IsAt, IsRead};
     ghost use Rattle.wh_engine.specs.Answers.{Answered, CarriesOut};
     ghost use Rattle.wh_engine.specs.Halts.{Halted};
     ghost use Rattle.wh_engine.specs.Leaves.{Leaves};
@@ -69,6 +70,7 @@ impl<D: Disk> Warehouse<D> {
         requires within { stamp < bound limits.Stamp }
         requires staged { StagesInOpen (sessions_of self.old.sessions) settlement }
         requires timed { IsAt stamp (commit_in settlement) }
+        requires read { IsRead (commit_in settlement) }
         ensures answered { OnOk result (CarriesOut self.old self.new
             (commit_in settlement)
             (machine_at (state_with (stored_of self.old.catalog) stamp (commit_in settlement))
@@ -113,6 +115,7 @@ impl<D: Disk> Warehouse<D> {
         requires later { (stored_of self.old.catalog).last ≤ stamp }
         requires within { stamp < bound limits.Stamp }
         requires timed { IsAt stamp (option_map commit_of commit) }
+        requires read { IsRead (option_map commit_of commit) }
         ensures answered { OnOk result (CarriesOut self.old self.new (option_map commit_of commit)
             (machine_at (state_with (stored_of self.old.catalog) stamp
             (option_map commit_of commit)) (sessions_of self.old.sessions))) }
@@ -134,6 +137,7 @@ impl<D: Disk> Warehouse<D> {
     // Carries out a commit, in the catalog first, where it can be undone, and then in the file.
     fn commit(&mut self, commit: Commit) -> Result<(), Halt>
         requires healthy { failed_of self.old.journal ≡ None }
+        requires read { IsRead (Some (commit_of commit)) }
         ensures answered { OnOk result (CarriesOut self.old self.new (Some (commit_of commit))
             (machine_at (state_with (stored_of self.old.catalog) commit.stamp
             (Some (commit_of commit))) (sessions_of self.old.sessions))) }

@@ -9,8 +9,8 @@ ghost use Rattle.wh_engine.specs.Replay.{Carries, CarriesNone, CarriesAt, Carrie
 use crate::OpenFault;
 use std::alloc::Global;
 use wh_catalog::{Catalog, StageFault};
+use wh_commit_parse::decode_commit;
 use wh_journal::Journal;
-use wh_record::Commit;
 use wh_world::Disk;
 
 // The catalog to which the commits of a file lead, one after the other.
@@ -85,7 +85,7 @@ fn carry_out(
         CarriesNone payload.now (stored_of catalog.old) × (place ≡ gate) }
     ensures no_disk { IsErrOf result OpenFault.DiskFault → ⊥ }
 {
-    let Some(decoded) = Commit::decode(alloc, payload) else {
+    let Some(decoded) = decode_commit(alloc, payload) else {
         return Err(OpenFault::NotWarehouse { at: gate });
     };
     let commit = decoded?;

@@ -147,11 +147,13 @@ fn is_record_of(commit: &Commit, alloc: Global, payload: &[u8]) -> bool {
     }
 }
 
-/// Whether the commit is written as this payload, and read from it as one that is written so again.
+/// Whether the commit is written as this payload, and its stamp and number of changes are read from it.
 fn there_and_back(commit: &Commit, alloc: Global, payload: &[u8]) -> bool {
-    match Commit::decode(alloc, payload) {
+    match TextCommit::decode(alloc, payload) {
         Some(Ok(read)) => {
-            is_record_of(commit, alloc, payload) && is_record_of(&read, alloc, payload)
+            read.stamp == commit.stamp
+                && read.changes.len() == commit.changes.len()
+                && is_record_of(commit, alloc, payload)
         }
         _ => false,
     }
@@ -162,7 +164,7 @@ fn assert_written(rt: &impl Abort, alloc: Global, name: &str, commit: &Commit, p
 }
 
 /// A commit of that one change is written as this payload.
-fn assert_one(
+pub(crate) fn assert_one(
     rt: &impl Abort,
     alloc: Global,
     name: &str,
@@ -211,7 +213,7 @@ fn commits_have_any_number_of_changes(rt: HostRuntime) {
 }
 
 /// Whether a commit of that one change is written.
-fn is_written(rt: &impl Abort, alloc: Global, stamp: u64, change: Change) -> bool {
+pub(crate) fn is_written(rt: &impl Abort, alloc: Global, stamp: u64, change: Change) -> bool {
     one(rt, alloc, stamp, change).encode(alloc).is_ok()
 }
 
@@ -230,9 +232,9 @@ fn what_is_no_commit_is_not_written(rt: HostRuntime) {
 }
 
 /// Whether some of the first bytes, and not all, are a commit.
-fn has_a_prefix(alloc: Global, payload: &[u8]) -> bool {
+pub(crate) fn has_a_prefix(alloc: Global, payload: &[u8]) -> bool {
     for len in 0..payload.len() {
-        if Commit::decode(alloc, &payload[..len]).is_some() {
+        if TextCommit::decode(alloc, &payload[..len]).is_some() {
             return true;
         }
     }
@@ -258,7 +260,13 @@ fn no_prefix_is_a_commit(rt: HostRuntime) {
 }
 
 /// The bytes with another byte at a place; at the place behind the last one it is added.
-fn with_byte(rt: &impl Abort, alloc: Global, bytes: &[u8], place: usize, byte: u8) -> Vec<u8> {
+pub(crate) fn with_byte(
+    rt: &impl Abort,
+    alloc: Global,
+    bytes: &[u8],
+    place: usize,
+    byte: u8,
+) -> Vec<u8> {
     let mut changed = Vec::from_slice(alloc, bytes).expect(rt, "memory");
     if place < changed.len() {
         changed[place] = byte;
@@ -269,10 +277,16 @@ fn with_byte(rt: &impl Abort, alloc: Global, bytes: &[u8], place: usize, byte: u
 }
 
 /// Of a payload with another byte at a place, no commit is read.
-fn assert_unread(rt: &impl Abort, alloc: Global, name: &str, bytes: &[u8], at: (usize, u8)) {
+pub(crate) fn assert_unread(
+    rt: &impl Abort,
+    alloc: Global,
+    name: &str,
+    bytes: &[u8],
+    at: (usize, u8),
+) {
     let (place, byte) = at;
     let changed = with_byte(rt, alloc, bytes, place, byte);
-    let none = Commit::decode(alloc, &changed).is_none();
+    let none = TextCommit::decode(alloc, &changed).is_none();
     assert!(rt; none, "{name}");
 }
 
@@ -283,7 +297,7 @@ fn what_is_no_commit_is_not_read(rt: HostRuntime) {
         ("more changes than there are", &CREATE, 11, 2),
         ("four billion changes", &NOTHING, 8, 255),
         ("a tag of 0", &CREATE, 12, 0),
-        ("a tag of 4", &DROP, 12, 4),
+        ("a tag of 8", &DROP, 12, 8),
         ("a drop with a stream's tag", &DROP, 12, 3),
         ("a kind byte of 0", &STANDARD, 26, 0),
         ("a kind byte of 3", &APPEND_ONLY, 27, 3),

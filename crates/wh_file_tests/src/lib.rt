@@ -11,3 +11,5 @@ mod fetching;
 mod journal;
 #[cfg(test)]
 mod partitions;
+#[cfg(test)]
+mod tasks;

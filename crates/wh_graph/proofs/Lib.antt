@@ -1,1 +1,3 @@
 pub mod KnownGraphs
+pub mod ReadyLaws
+pub mod SkipLaws

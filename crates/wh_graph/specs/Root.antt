@@ -4,7 +4,7 @@
 --     is_tenth         whether a failed run is the tenth in a row
 --     state_behind     its state behind a run that ended
 use Rattle.std.specs.Prelude.{ℕ, ◌+◌, ◌-◌, ◌*◌, ◌/◌, Bool, true, false, not, ◌&&◌, if◌then◌else◌, nat_eq, nat_lt}
-use Rattle.wh_state.specs.Task.{TaskState, Task}
+use Rattle.wh_state.specs.Task.{TaskState, Task, most_failures}
 use Rattle.wh_graph.specs.Graph.{is_under_way}
 
 -- in milliseconds
@@ -22,10 +22,6 @@ is_behind point s = nat_lt s.base point && nat_lt s.last_start point
 unfoldable pub is_due : ℕ → Task → Bool
 is_due stamp t = t.state.is_resumed && nat_lt 0 t.minutes && not (is_under_way t.run)
     && is_behind (point_at t.state.base t.minutes stamp) t.state
-
--- so many failed runs in a row suspend a root
-abbrev pub most_failures : ℕ
-most_failures = 10
 
 abbrev pub is_tenth : Bool → TaskState → Bool
 is_tenth failed s = failed && nat_eq (s.failures + 1) most_failures

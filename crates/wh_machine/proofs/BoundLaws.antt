@@ -4,7 +4,7 @@
 --     query_good, source_good       so it is of each
 use Rattle.std.proofs.Common.{◌≡◌, ℕ, zero, suc, ◌+◌, ◌<◌, Bool, true, false, List, [], ◌∷◌, ◌++◌, map}
 use Rattle.std.proofs.Common.{length, Option, Some, None, refl, sym, ap, subst, ◌∙◌, arith, append_assoc}
-use Rattle.std.specs.Prelude.{slice_get, ◌||◌, ◌&&◌, not, unwrap_or}
+use Rattle.std.specs.Prelude.{slice_get, ◌||◌, not, unwrap_or}
 use Rattle.std.specs.List.{AllByRecursion}
 use Rattle.std.proofs.lemmas.List.{map-append}
 use Rattle.wh_value.specs.Column as table
@@ -37,7 +37,7 @@ use Rattle.wh_naming.specs.Select.{all_cores, named_source, source_step, core_st
 use Rattle.wh_naming.specs.Select.{all_columns}
 use Rattle.wh_state.proofs.AllLaws.{all_append, all_map}
 use Rattle.wh_machine.proofs.BagRows.{AllRows, GivesAll}
-use Rattle.wh_machine.proofs.ValueTypes.{OfType, FitsTypes, types_of}
+use Rattle.wh_machine.proofs.ValueTypes.{OfType, FitsTypes, types_of, both_true}
 use Rattle.wh_machine.proofs.TypedLaws.{Under, entry_types, get_behind}
 use Rattle.wh_machine.proofs.QueryRows.{rows_filter, rows_join, rows_union}
 use Rattle.wh_machine.proofs.GroupedLaws.{AllUnder, all_under_fits}
@@ -81,10 +81,6 @@ right_type None None is = tt
 right_type None (Some b) is = refl
 right_type (Some a) None is = tt
 right_type (Some a) (Some b) is = ap Some (sym (same_types a b is))
-
-both_true : (a b : Bool) → (a && b) ≡ true → (a ≡ true) × (b ≡ true)
-both_true true b is = (refl, is)
-both_true false b is = absurd cc
 
 merged_under : (os ps : List Output) → fit_each_other os ps ≡ true
     → AllUnder (output_types os) (output_types (merged os ps))

@@ -20,6 +20,7 @@ use Rattle.wh_naming.specs.Changes.{Target, target_of, target_at, is_table, Boun
 use Rattle.wh_effect.specs.Effect as effects
 use Rattle.wh_effect.specs.Effect.{effect}
 use Rattle.wh_reply.specs.Reply.{Refusal}
+use Rattle.wh_state.specs.State.{TaskKind}
 use Rattle.wh_state.specs.State.{Table, Object, at_id, last_rows}
 use Rattle.wh_state.specs.State.{TableKind, StreamKind, table_in, stream_in, columns_in}
 use Rattle.wh_state.specs.Objects.{is_stream, is_kind_at, table_at}
@@ -99,6 +100,7 @@ module _ (s : Stored) (m : Machine) (session : ℕ) (reached : IsReached s m) wh
       by_kind : (k : StoredKind) → is_stream (kind_meant k) ≡ true → IsSomeAnd (stream_in k) (λ s. Unit {0})
       by_kind (TableKind t) is = absurd cc
       by_kind (StreamKind s) is = tt
+      by_kind (TaskKind t) is = absurd cc
 
   named_fits : (name : Name) (object : Named) → named names name ≡ Some object → (row : Row) → IsRead object.id row
       → FitsTypes (types_of object.columns) row
@@ -156,6 +158,7 @@ module _ (s : Stored) (m : Machine) (session : ℕ) (reached : IsReached s m) wh
           by_kind : (k : StoredKind) → o.object.kind ≡ k → is_table (object_kind (kind_meant k)) ≡ true
               → IsFound (target_of name (Some object))
           by_kind (StreamKind stream) kind table = absurd cc
+          by_kind (TaskKind task) kind table = absurd cc
           by_kind (TableKind t) kind table = record {
             object = o.object;
             there = o.there;

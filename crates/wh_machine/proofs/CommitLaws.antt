@@ -10,6 +10,7 @@ use Rattle.std.proofs.lemmas.Bool.Decides.{nat_tests}
 use Rattle.wh_reply.specs.Reply.{Reply}
 use Rattle.wh_reply.specs.Reply.{is_refusal}
 use Rattle.wh_state.specs.State.{State, Object, Stream}
+use Rattle.wh_state.specs.Act.{MakesTask, PutsTask, BeginsRun, EndsTask}
 use Rattle.wh_state.specs.Act.{Act, MakesTable, DropsObject, EditsRows, MakesStream, MovesOffset, acted}
 use Rattle.wh_state.specs.Act.{all_acted}
 use Rattle.wh_state.specs.Objects.{stream_at}
@@ -23,25 +24,30 @@ use Rattle.wh_machine.specs.Outcome.{Machine, commits}
 use Rattle.wh_machine.specs.Statements.{recorded}
 use Rattle.wh_machine.specs.Sound.{AreBegun}
 use Rattle.wh_machine.proofs.EntryLaws.{RiseFrom, entries_rise}
-use Rattle.wh_machine.proofs.MoveLaws.{left_of, acts_at, stream_more, stream_dropped}
+use Rattle.wh_machine.proofs.MoveLaws.{left_of, acts_at, stream_more, stream_dropped, stream_tasked}
 use Rattle.wh_machine.proofs.Lawful.{KeepsSessions, MovesOn, AllMoveOn, MovesFree, IsCommitOf, AreOfCommit}
 use Rattle.wh_machine.proofs.Lawful.{IsLawful, same_sessions, does, tested}
+use Rattle.wh_state.specs.Task.{with_state, with_run, with_ended}
 
 -- ---- acts that make and drop objects
 
-abbrev Defines : Act → Type 0
+abbrev pub Defines : Act → Type 0
 Defines (EditsRows id e) = ⊥
 Defines (MovesOffset id offset) = ⊥
 Defines _ = Unit {0}
 
-defines_only : (s : State) (act : Act) → Defines act → IsNoEdit act × MovesOn s act
+pub defines_only : (s : State) (act : Act) → Defines act → IsNoEdit act × MovesOn s act
 defines_only s (MakesTable name columns retention) is = (tt, tt)
 defines_only s (DropsObject id) is = (tt, tt)
 defines_only s (EditsRows id e) is = absurd is
 defines_only s (MakesStream name source is_append_only) is = (tt, tt)
 defines_only s (MovesOffset id offset) is = absurd is
+defines_only s (MakesTask name minutes after runs) is = (tt, tt)
+defines_only s (PutsTask id state) is = (tt, tt)
+defines_only s (BeginsRun root tasks) is = (tt, tt)
+defines_only s (EndsTask root task ending) is = (tt, tt)
 
-spares_all : (stamp : ℕ) (objects : List Object) (acts : List Act) → AllByRecursion Defines acts
+pub spares_all : (stamp : ℕ) (objects : List Object) (acts : List Act) → AllByRecursion Defines acts
     → (id : ℕ) (s : Stream)
     → stream_at objects id ≡ Some s → stream_at (all_acted stamp objects acts) id ≡ Some s
 spares_all stamp objects [] are id s at = at
@@ -54,6 +60,18 @@ spares_all stamp objects (MakesStream name source is_append_only ∷ acts) are i
 spares_all stamp objects (DropsObject other ∷ acts) are id s at =
     spares_all stamp (acted stamp objects (DropsObject other)) acts are.1 id s
     (stream_dropped stamp other objects id ∙ at)
+spares_all stamp objects (MakesTask name minutes after runs ∷ acts) are id s at =
+    spares_all stamp (acted stamp objects (MakesTask name minutes after runs)) acts are.1 id s
+    (stream_more objects _ id s at)
+spares_all stamp objects (PutsTask other state ∷ acts) are id s at =
+    spares_all stamp (acted stamp objects (PutsTask other state)) acts are.1 id s
+    (stream_tasked (with_state state) other objects id ∙ at)
+spares_all stamp objects (BeginsRun root tasks ∷ acts) are id s at =
+    spares_all stamp (acted stamp objects (BeginsRun root tasks)) acts are.1 id s
+    (stream_tasked (with_run tasks) root objects id ∙ at)
+spares_all stamp objects (EndsTask root task ending ∷ acts) are id s at =
+    spares_all stamp (acted stamp objects (EndsTask root task ending)) acts are.1 id s
+    (stream_tasked (with_ended task ending) root objects id ∙ at)
 spares_all stamp objects (EditsRows other e ∷ acts) are id s at = absurd are.0
 spares_all stamp objects (MovesOffset other offset ∷ acts) are id s at = absurd are.0
 
@@ -124,7 +142,7 @@ is_commit m sessions start moving found rising before free = record {
       ∙ ap (λ (among : Bool). Some (left_of start s among s)) none;
 }
 
-acts_are : (m : Machine) (sessions : Sessions) (streams : List ℕ) (start : ℕ) (moving : List ℕ)
+pub acts_are : (m : Machine) (sessions : Sessions) (streams : List ℕ) (start : ℕ) (moving : List ℕ)
     (found : List (ℕ × Staged)) → RiseFrom 0 found → (AreBegun m.state.last m.sessions → start ≤ m.state.last - 1)
     → MovesFree m sessions moving
     → AreOfCommit m moving sessions

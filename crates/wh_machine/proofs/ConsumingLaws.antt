@@ -9,9 +9,11 @@ use Rattle.std.specs.Prelude.{nat_le, slice_get, slice_set}
 use Rattle.std.specs.List.{filter}
 use Rattle.std.proofs.lemmas.Bool.{lt-leb}
 use Rattle.std.proofs.lemmas.Bool.Decides.{nat_tests}
+use Rattle.wh_state.specs.State.{TaskKind, on_task, changed_at}
 use Rattle.wh_state.specs.State.{Rows, Version, Table, Stream, Kind, TableKind, StreamKind, Object, State, nothing_held}
 use Rattle.wh_state.specs.State.{dropped, content_in, last_of, at_id, put_at, changed_at}
 use Rattle.wh_state.specs.Edits.{Edits}
+use Rattle.wh_state.specs.Act.{MakesTask, PutsTask, BeginsRun, EndsTask, on_task_object}
 use Rattle.wh_state.specs.Act.{Act, MakesTable, DropsObject, EditsRows, MakesStream, MovesOffset, edited_table}
 use Rattle.wh_state.specs.Act.{edited_kind, edited_object, moved_kind, moved_object, acted, all_acted}
 use Rattle.wh_state.specs.Objects.{table_at, stream_at}
@@ -26,9 +28,10 @@ use Rattle.wh_machine.specs.Consuming.{Extends, IsLaterStream, IsLaterKind, IsLa
 use Rattle.wh_machine.specs.Consuming.{shown_to, consumed, batches, all_patched, rows_consumed}
 use Rattle.wh_machine.specs.Step.{Event, reading_of, stamp_of, decided, step, after}
 use Rattle.wh_machine.proofs.Lawful.{AllMoveOn, IsLawful}
-use Rattle.wh_machine.proofs.OutcomeLaws.{lawful}
+use Rattle.wh_machine.proofs.EventLaws.{lawful}
 use Rattle.wh_machine.proofs.StepLaws.{ready, each_event, last_grows}
 use Rattle.wh_machine.proofs.SoundLaws.{sound_ready, sound_step}
+use Rattle.wh_state.specs.Task.{Task, with_state, with_run, with_ended}
 
 -- ---- lists that grow
 
@@ -76,6 +79,7 @@ same_later stamp o = by_kind o.kind
     by_kind : (k : Kind) → IsLaterKind stamp k k
     by_kind (TableKind t) = λ time before. refl
     by_kind (StreamKind s) = record { source = refl; mode = refl; not_before = omega arith; not_behind = omega arith }
+    by_kind (TaskKind t) = tt
 
 -- a version that the test leaves out
 filter_more : (test : Version → Bool) (vs : List Version) (v : Version) → test v ≡ false
@@ -97,6 +101,20 @@ edited_is_later stamp e (TableKind t) (TableKind u) later =
 edited_is_later stamp e (TableKind t) (StreamKind r) later = absurd later
 edited_is_later stamp e (StreamKind s) (TableKind u) later = absurd later
 edited_is_later stamp e (StreamKind s) (StreamKind r) later = later
+edited_is_later stamp e (TableKind t) (TaskKind u) later = absurd later
+edited_is_later stamp e (StreamKind s) (TaskKind u) later = absurd later
+edited_is_later stamp e (TaskKind t) (TableKind u) later = absurd later
+edited_is_later stamp e (TaskKind t) (StreamKind r) later = absurd later
+edited_is_later stamp e (TaskKind t) (TaskKind u) later = tt
+
+-- however a task is changed
+tasked_is_later : (stamp : ℕ) (f : Task → Task) (old new : Kind) → IsLaterKind stamp old new
+    → IsLaterKind stamp old (on_task f new)
+tasked_is_later stamp f old (TableKind u) later = later
+tasked_is_later stamp f old (StreamKind r) later = later
+tasked_is_later stamp f (TableKind t) (TaskKind u) later = absurd later
+tasked_is_later stamp f (StreamKind s) (TaskKind u) later = absurd later
+tasked_is_later stamp f (TaskKind t) (TaskKind u) later = tt
 
 moved_is_later : (stamp offset : ℕ) (old new : Kind) → offset ≤ stamp - 1
     → ((s : Stream) → old ≡ StreamKind s → s.offset ≤ offset)
@@ -104,12 +122,22 @@ moved_is_later : (stamp offset : ℕ) (old new : Kind) → offset ≤ stamp - 1
 moved_is_later stamp offset (TableKind t) (TableKind u) within on later = later
 moved_is_later stamp offset (TableKind t) (StreamKind r) within on later = absurd later
 moved_is_later stamp offset (StreamKind s) (TableKind u) within on later = absurd later
+moved_is_later stamp offset (TableKind t) (TaskKind u) within on later = absurd later
+moved_is_later stamp offset (StreamKind s) (TaskKind u) within on later = absurd later
+moved_is_later stamp offset (TaskKind t) (TableKind u) within on later = absurd later
+moved_is_later stamp offset (TaskKind t) (StreamKind r) within on later = absurd later
+moved_is_later stamp offset (TaskKind t) (TaskKind u) within on later = tt
 moved_is_later stamp offset (StreamKind s) (StreamKind r) within on later =
     record { source = later.source; mode = later.mode; not_before = on s refl; not_behind = omega (arith, within) }
 
 stream_found : (objects : List Object) (id : ℕ) (o : Object) (s : Stream) → at_id objects id ≡ Some o
     → o.kind ≡ StreamKind s → stream_at objects id ≡ Some s
 stream_found objects id o s there is = rw (there, is) refl
+
+tasked_later : (s : State) (objects : List Object) (id : ℕ) (f : Task → Task) → AreLater s.last s.objects objects
+    → AreLater s.last s.objects (changed_at objects id (on_task_object f))
+tasked_later s objects id f later = changed_extends (IsLater s.last) (on_task_object f) s.objects objects id
+    (λ old new at is. tasked_is_later s.last f old.kind new.kind is) later
 
 acts_later : (s : State) (objects : List Object) (acts : List Act) → AllMoveOn s acts
     → AreLater s.last s.objects objects
@@ -121,6 +149,17 @@ acts_later s objects (MakesTable name columns retention ∷ acts) on later =
 acts_later s objects (MakesStream name source is_append_only ∷ acts) on later =
     acts_later s (acted s.last objects (MakesStream name source is_append_only)) acts on.1
     (more_extends (IsLater s.last) s.objects objects _ later)
+acts_later s objects (MakesTask name minutes after runs ∷ acts) on later =
+    acts_later s (acted s.last objects (MakesTask name minutes after runs)) acts on.1
+    (more_extends (IsLater s.last) s.objects objects _ later)
+acts_later s objects (PutsTask id state ∷ acts) on later =
+    acts_later s (acted s.last objects (PutsTask id state)) acts on.1 (tasked_later s objects id (with_state state) later)
+acts_later s objects (BeginsRun root tasks ∷ acts) on later =
+    acts_later s (acted s.last objects (BeginsRun root tasks)) acts on.1
+    (tasked_later s objects root (with_run tasks) later)
+acts_later s objects (EndsTask root task ending ∷ acts) on later =
+    acts_later s (acted s.last objects (EndsTask root task ending)) acts on.1
+    (tasked_later s objects root (with_ended task ending) later)
 acts_later s objects (DropsObject id ∷ acts) on later =
     acts_later s (acted s.last objects (DropsObject id)) acts on.1
     (changed_extends (IsLater s.last) dropped s.objects objects id (λ old new at is. is) later)
@@ -188,6 +227,7 @@ stream_stands objects id s at =
   where
     by_kind : (o : Object) → at_id objects id ≡ Some o → (k : Kind) → o.kind ≡ k → IsStream s k
     by_kind o there (TableKind t) is = let none : stream_at objects id ≡ None = rw (there, is) refl in absurd cc
+    by_kind o there (TaskKind t) is = let none : stream_at objects id ≡ None = rw (there, is) refl in absurd cc
     by_kind o there (StreamKind r) is = ap StreamKind (some_same r s (sym (stream_found objects id o r there is) ∙ at))
 
 table_stands : (objects : List Object) (id : ℕ) (t : Table) → table_at objects id ≡ Some t
@@ -198,6 +238,7 @@ table_stands objects id t at =
   where
     by_kind : (o : Object) → at_id objects id ≡ Some o → (k : Kind) → o.kind ≡ k → IsTable t k
     by_kind o there (StreamKind r) is = let none : table_at objects id ≡ None = rw (there, is) refl in absurd cc
+    by_kind o there (TaskKind t) is = let none : table_at objects id ≡ None = rw (there, is) refl in absurd cc
     by_kind o there (TableKind u) is = ap TableKind (some_same u t (sym (table_found objects id o u there is) ∙ at))
 
 -- and later on
@@ -237,6 +278,7 @@ stream_later stamp xs ys id s later at =
     by_kind : (o : Object) → at_id ys id ≡ Some o → (k : Kind) → o.kind ≡ k → IsLaterKind stamp (StreamKind s) k
         → LaterStream stamp ys id s
     by_kind o there (TableKind t) is kept = absurd kept
+    by_kind o there (TaskKind t) is kept = absurd kept
     by_kind o there (StreamKind r) is kept =
         record { stream = r; there = stream_found ys id o r there is; later = kept }
 
@@ -256,6 +298,7 @@ table_later stamp xs ys id t later at =
     by_kind : (o : Object) → at_id ys id ≡ Some o → (k : Kind) → o.kind ≡ k → IsLaterKind stamp (TableKind t) k
         → LaterTable stamp ys id t
     by_kind o there (StreamKind r) is kept = absurd kept
+    by_kind o there (TaskKind u) is kept = absurd kept
     by_kind o there (TableKind u) is kept =
         record { table = u; there = table_found ys id o u there is; kept = kept }
 

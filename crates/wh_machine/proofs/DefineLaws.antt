@@ -4,7 +4,7 @@
 --     works_drop                  an object that is dropped
 use Rattle.std.proofs.Common.{◌≡◌, ℕ, zero, suc, ◌+◌, ◌-◌, ◌<◌, ◌≤◌, Bool, true, false, cond, List, []}
 use Rattle.std.proofs.Common.{◌∷◌, ◌++◌, length, map, Option, Some, None, option_map, refl, sym, ap, subst, ◌∙◌, arith}
-use Rattle.std.proofs.Common.{IsTrue, filter}
+use Rattle.std.proofs.Common.{IsTrue, filter, IfSome, option_and_then}
 use Rattle.std.specs.Prelude.{not, if◌then◌else◌, slice_get, slice_set}
 use Rattle.std.specs.List.{AllByRecursion, list_any}
 use Rattle.std.proofs.lemmas.List.Sums.{length-filter}
@@ -14,7 +14,8 @@ use Rattle.wh_value.specs.Limit.{bound}
 use Rattle.wh_value.specs.declared.limit.Limit.TheVariants as limits
 use Rattle.wh_ast.specs.declared.statement.CreateTable.{CreateTable}
 use Rattle.wh_naming.specs.Findings as naming
-use Rattle.wh_naming.specs.Findings.{Findings, Failing, UnknownName, NameTaken, either, name_if, followed}
+use Rattle.wh_naming.specs.Findings.{Name, Findings, Failing, UnknownName, NameTaken, either, name_if, followed}
+use Rattle.wh_naming.specs.Scope.{StreamObject, TaskObject, DynamicTableObject}
 use Rattle.wh_naming.specs.Scope.{ObjectKind, TableObject, Named, named}
 use Rattle.wh_ddl_naming.specs.Meant.{Meant, first_failing}
 use Rattle.wh_ddl_naming.specs.Objects.{Names, of_kind, is_same_kind, found_where, object_of, taken_name}
@@ -22,10 +23,12 @@ use Rattle.wh_ddl_naming.specs.Tables.{NewTable, new_table, column_names, column
 use Rattle.wh_ddl_naming.specs.Tables.{bound_table}
 use Rattle.wh_ddl_naming.specs.Streams.{NewStream, bound_stream}
 use Rattle.wh_reply.specs.Reply.{Refusal, Reply, OverLimit, Locked, DdlInTransaction, CreatedTable, CreatedStream}
+use Rattle.wh_state.specs.State.{TaskKind, task_in}
 use Rattle.wh_state.specs.State.{State, Object, at_id, put_at, changed_at, dropped, live_count}
 use Rattle.wh_state.specs.State.{TableKind, StreamKind}
 use Rattle.wh_state.specs.Act.{MakesTable, DropsObject, MakesStream}
 use Rattle.wh_state.specs.Stored.{StoredKind, StoredObject, Stored, kind_meant}
+use Rattle.wh_state.specs.Commit.{MayGo, TaskMayGo}
 use Rattle.wh_state.specs.Commit.{changed, IsStoredName}
 use Rattle.wh_state.specs.Commit.{TableApplies, IsLiveTable, IsTableKind}
 use Rattle.wh_state.proofs.FoundLaws.{found_some}
@@ -43,6 +46,8 @@ use Rattle.wh_machine.proofs.WorksLaws.{IsReached, objects_meant, Works, works_u
 use Rattle.wh_machine.proofs.WorksLaws.{works_made}
 use Rattle.wh_machine.proofs.PassedLaws.{passed, none_if, within, neither, short_name, no_map, no_name}
 use Rattle.wh_machine.proofs.PassedLaws.{nothing_fails, nothing_wrong, free_taken, object_found}
+use Rattle.wh_state.specs.Task.{Task}
+use Rattle.wh_state.specs.Objects.{as_task}
 
 -- ---- live objects
 
@@ -76,11 +81,11 @@ live_dropped objects (suc place) o there live =
     let fewer = drop_count objects place o there live in
     ap (λ (xs : List StoredObject). live_count xs + 1) set ∙ omega (arith, new, old, fewer)
 
-live_is : (s : Stored) (m : Machine) → IsReached s m → live_count m.state.objects ≡ live_count s.objects
+pub live_is : (s : Stored) (m : Machine) → IsReached s m → live_count m.state.objects ≡ live_count s.objects
 live_is s m reached = ap live_count (objects_meant s m reached) ∙ live_count_meant s.objects
 
 -- outside of transactions, where nobody holds what goes
-works_defines : (s : Stored) (m : Machine) (session : ℕ) (old : Option ℕ) (o : Outcome) → IsReached s m
+pub works_defines : (s : Stored) (m : Machine) (session : ℕ) (old : Option ℕ) (o : Outcome) → IsReached s m
     → (holder_of m.sessions old ≡ None → Works s m o) → Works s m (defines m session old o)
 unfolding defines
 works_defines s m session old o reached works =
@@ -90,10 +95,29 @@ works_defines s m session old o reached works =
 
 -- ---- a table
 
+-- an object that is no task is dropped wherever it lives
+may_go : (objects : List StoredObject) (id : ℕ) (o : StoredObject) → at_id objects id ≡ Some o → o.is_live ≡ true
+    → task_in o.kind ≡ None → MayGo objects id
+may_go objects id o there live no_task = (
+  found_some (λ o. IsTrue o.is_live) objects id o there live,
+  subst (λ (found : Option Task). IfSome found (TaskMayGo objects id))
+      (sym (ap (option_and_then as_task) there ∙ no_task)) tt,
+)
+
+-- a place of another kind takes no task
+not_task : (kind : ObjectKind) (k : StoredKind) → is_same_kind kind TaskObject ≡ false
+    → is_same_kind (object_kind (kind_meant k)) kind ≡ true → task_in k ≡ None
+not_task kind (TableKind t) other is = refl
+not_task kind (StreamKind s) other is = refl
+not_task TaskObject (TaskKind t) other is = absurd cc
+not_task TableObject (TaskKind t) other is = absurd cc
+not_task StreamObject (TaskKind t) other is = absurd cc
+not_task DynamicTableObject (TaskKind t) other is = absurd cc
+
 -- what a new table takes the place of
 data Replaces (objects : List StoredObject) (name : List ℕ) : Option ℕ → Type 0 where
   nothing : AllByRecursion (HasNot name) objects → Replaces objects name None
-  one : {id : ℕ} (o : StoredObject) → at_id objects id ≡ Some o → o.is_live ≡ true
+  one : {id : ℕ} (o : StoredObject) → at_id objects id ≡ Some o → o.is_live ≡ true → task_in o.kind ≡ None
       → (NamesApart objects → AllByRecursion (HasNot name) (changed_at objects id dropped))
       → Replaces objects name (Some id)
 
@@ -179,11 +203,11 @@ works_table_made s m n None is reached passes filled (nothing free) none =
   where
     one_is : one_if n.replaced ≡ 0
     one_is = ap one_if is
-works_table_made s m n (Some id) is reached passes filled (one o there live free) none =
+works_table_made s m n (Some id) is reached passes filled (one o there live no_task free) none =
     works_defined s m (CreatedTable n.name)
     (DropsObject id ∷ MakesTable n.name n.columns (retention_of n) ∷ []) id reached
     none (refl, (tt, tt)) (
-      found_some (λ o. IsTrue o.is_live) s.objects id o there live,
+      may_go s.objects id o there live no_task,
       (
         tt,
         (
@@ -246,7 +270,20 @@ works_table s m session t reached filled =
         (subst (λ (objects : List Object). named (names_from 1 objects) t.name ≡ None) (objects_meant s m reached) is)))
     by_replace true (Some found) is =
         let o = object_found s m t.name found reached is in
-        works_new s m session _ (new_table t (Some found)) reached filled (λ none. one o.object o.there o.live o.free)
+        works_new s m session _ (new_table t (Some found)) reached filled (λ none.
+        one o.object o.there o.live
+        (not_task TableObject o.object.kind refl (ap (λ (k : ObjectKind). is_same_kind k TableObject) (sym o.kind)
+        ∙ held (of_kind TableObject found) (no_name (not (of_kind TableObject found)) t.name
+        (first_none _ _ (nothing_fails _ (nothing_wrong (table_meant true names t (Some found)) none).1).wrong_kind))))
+        o.free)
+      where
+        held : (b : Bool) → not b ≡ false → b ≡ true
+        held true is = refl
+        held false is = absurd cc
+
+        first_none : (a b : Option Name) → either a b ≡ None → a ≡ None
+        first_none None b none = refl
+        first_none (Some name) b none = absurd cc
 
 -- ---- a stream
 
@@ -289,6 +326,7 @@ live_table objects id is =
     by_kind : (k : StoredKind) → is_same_kind (object_kind (kind_meant k)) TableObject ≡ true → IsTableKind k
     by_kind (TableKind t) is = tt
     by_kind (StreamKind s) is = absurd cc
+    by_kind (TaskKind t) is = absurd cc
 
 passes_stream : (s : State) (wrong : Option Refusal) (n : NewStream) → stream_refusal s wrong n ≡ None
     → (wrong ≡ None) × ((live_count s.objects + 1 - 0 ≤ bound limits.Objects) × (length n.name ≤ bound limits.Name))
@@ -335,22 +373,22 @@ works_stream s m session name table is_append_only reached some =
 -- ---- an object that is dropped
 
 works_goes : (s : Stored) (m : Machine) (reply : Reply) (kind : ObjectKind) (id : ℕ) → IsReached s m
-    → holder m.sessions id ≡ None → IsPlaced s.objects kind id
+    → is_same_kind kind TaskObject ≡ false → holder m.sessions id ≡ None → IsPlaced s.objects kind id
     → Works s m (Does reply m.sessions (Some (DropsObject id ∷ [])))
-works_goes s m reply kind id reached none is =
+works_goes s m reply kind id reached other none is =
     works_defined s m reply (DropsObject id ∷ []) id reached none (refl, tt)
-    (found_some (λ o. IsTrue o.is_live) s.objects id is.object is.there is.live, (tt, tt))
+    (may_go s.objects id is.object is.there is.live (not_task kind is.object.kind other is.kind_is), (tt, tt))
 
 -- by a name in the place of a kind
 pub works_drop : (s : Stored) (m : Machine) (session : ℕ) (kind : ObjectKind) (name : List ℕ) (reply : Reply)
-    → IsReached s m
+    → is_same_kind kind TaskObject ≡ false → IsReached s m
     → Works s m (defines m session (Some (object_of kind (names_in m.state.objects) name).value)
     (unless (option_map refusal_of (first_failing (object_of kind (names_in m.state.objects) name)))
     (commits m reply (DropsObject (object_of kind (names_in m.state.objects) name).value ∷ []))))
-works_drop s m session kind name reply reached =
+works_drop s m session kind name reply other reached =
     let found : Meant ℕ = object_of kind (names_in m.state.objects) name in
     works_defines s m session (Some found.value) (unless (option_map refusal_of (first_failing found))
     (commits m reply (DropsObject found.value ∷ []))) reached (λ free.
     works_unless s m (option_map refusal_of (first_failing found)) _ reached (λ none.
-    works_goes s m reply kind found.value reached free
+    works_goes s m reply kind found.value reached other free
     (placed s m kind name reached (nothing_wrong found none).1)))

@@ -2,12 +2,13 @@
 --     TokenFilled, tokens_filled      no word and no quoted name is empty
 --     name_filled, columns_filled     names and columns of tokens
 --     script_filled                   the events of a script
-use Rattle.std.proofs.Common.{ℕ, ◌<◌, List, [], ◌∷◌, length, map, refl, subst, sym, arith}
+use Rattle.std.proofs.Common.{◌≡◌, ℕ, ◌<◌, List, [], ◌∷◌, ◌++◌, length, map, Option, None, refl, subst, sym, arith, ◌⊎◌}
 use Rattle.std.specs.Prelude.{◌≢◌}
 use Rattle.std.specs.List.{AllByRecursion}
 use Rattle.wh_value.specs.View.{column_of}
 use Rattle.wh_value.specs.declared.column.Column.{Column}
 use Rattle.wh_ast.specs.declared.statement.Statement.{Statement}
+use Rattle.wh_ast.specs.declared.statement.CreateTask.{CreateTask}
 use Rattle.wh_grammar.specs.Token.{Token, Word, Quoted, Placed}
 use Rattle.wh_grammar.specs.Lexing as lexing
 use Rattle.wh_grammar.specs.Lexing.{IsBare, IsEnclosed, IsSign, IsToken, bare, enclosed, signed, HasTokens, end, gap}
@@ -19,11 +20,13 @@ use Rattle.wh_grammar.specs.Spelled.{IsTableStatement, create_table, drop_table,
 use Rattle.wh_grammar.specs.Spelled.{drop_stream, IsTaskStatement, IsDynamicTableStatement, IsTransactionStatement}
 use Rattle.wh_grammar.specs.Spelled.{IsPlain, of_table, of_stream, of_task, of_dynamic_table, of_transaction, tokens_of}
 use Rattle.wh_grammar.specs.Spelled as spelled
+use Rattle.wh_grammar.specs.Spelled.{IsTaskHead, task_head, IsTask}
 use Rattle.wh_grammar.specs.Spelled.{IsStatement, plain, Spells, Request, TooLong, Unreadable, Asked, Asks, is_long}
 use Rattle.wh_grammar.specs.Spelled.{spells_none, spells}
 use Rattle.wh_grammar.specs.Script.{Line, lines_of}
 use Rattle.wh_machine.specs.Step.{Event}
 use Rattle.wh_machine.specs.Script.{HasEvents, ends, sets_session, ticks, ticks_at, commands, IsScript}
+use Rattle.wh_machine.proofs.TaskMade.{IsFilledTask}
 use Rattle.wh_machine.proofs.ReachedLaws.{IsFilled, IsFilledRequest, IsFilledEvent}
 
 -- ---- tokens
@@ -131,10 +134,31 @@ plain_filled ts s (of_task is) filled = task_filled ts s is
 plain_filled ts s (of_dynamic_table is) filled = dynamic_filled ts s is
 plain_filled ts s (of_transaction is) filled = transaction_filled ts s is
 
+first_filled : (head body : List Placed) → AllFilled (tokens_of (head ++ body)) → AllFilled (tokens_of head)
+first_filled [] body filled = tt
+first_filled (p ∷ ps) body filled = (filled.0, first_filled ps body filled.1)
+
+head_filled : (ts us : List Token) (name : List ℕ) (minutes : Option ℕ) (after : List (List ℕ))
+    → IsTaskHead ts name minutes after us → AllFilled ts → (0 < length name) × ((minutes ≡ None) ⊎ (after ≡ []))
+head_filled ts us name minutes after (task_head is options gives behind either) filled =
+    ((name_filled _ _ _ is filled.1.1).0, either)
+
+created_filled : (text : List ℕ) (placed : List Placed) (t : CreateTask) → IsTask text placed t
+    → AllFilled (tokens_of placed) → IsFilledTask t
+created_filled text placed t (spelled.task head body split is_head is_body kept) filled =
+    let here = head_filled _ _ _ _ _ is_head (first_filled head body
+    (subst (λ (ps : List Placed). AllFilled (tokens_of ps)) split filled)) in
+    record { name = here.0; either = here.1; body = (tokens_of body, is_body) }
+created_filled text placed t (spelled.guarded_task head guard body link split is_head is_guard kept link_is is_body body_kept)
+    filled =
+    let here = head_filled _ _ _ _ _ is_head (first_filled head (guard ++ link ∷ body)
+    (subst (λ (ps : List Placed). AllFilled (tokens_of ps)) split filled)) in
+    record { name = here.0; either = here.1; body = (tokens_of body, is_body) }
+
 statement_filled : (text : List ℕ) (placed : List Placed) (s : Statement) → IsStatement text placed s
     → AllFilled (tokens_of placed) → IsFilled s
 statement_filled text placed s (plain is) filled = plain_filled (tokens_of placed) s is filled
-statement_filled text placed s (spelled.create_task is) filled = tt
+statement_filled text placed s (spelled.create_task is) filled = created_filled text placed _ is filled
 statement_filled text placed s (spelled.create_dynamic_table is) filled = tt
 
 request_filled : (text : List ℕ) (request : Request) → Asks text request → IsFilledRequest request

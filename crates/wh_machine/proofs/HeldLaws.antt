@@ -19,7 +19,8 @@ use Rattle.wh_machine.specs.Sound.{SoundMachine}
 use Rattle.wh_machine.specs.Consuming.{is_read_by, reads, AreApart, IsHeldAlong}
 use Rattle.wh_machine.specs.Step.{Event, decided, step, after}
 use Rattle.wh_machine.proofs.Lawful.{IsLawful}
-use Rattle.wh_machine.proofs.OutcomeLaws.{begun_in, start_before, lawful}
+use Rattle.wh_machine.proofs.OutcomeLaws.{begun_in, start_before}
+use Rattle.wh_machine.proofs.EventLaws.{lawful}
 use Rattle.wh_machine.proofs.ConsumingLaws.{table_after, offset_passed}
 use Rattle.wh_machine.proofs.ReadLaws.{read_by}
 use Rattle.wh_machine.proofs.StepLaws.{ready, each_event}

@@ -81,7 +81,7 @@ holder_reads (Some t) id is none =
     some_held true is none = absurd cc
     some_held false is none = absurd cc
 
-none_reads : (sessions : Sessions) (q id : ℕ) → holder sessions id ≡ None → reads sessions q id ≡ true → ⊥
+pub none_reads : (sessions : Sessions) (q id : ℕ) → holder sessions id ≡ None → reads sessions q id ≡ true → ⊥
 none_reads [] q id none is = absurd cc
 none_reads (one ∷ others) zero id none is =
     holder_reads one id is (or_none (held_by id one) (holder others id) none).0

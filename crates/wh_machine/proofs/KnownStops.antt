@@ -14,7 +14,8 @@ use Rattle.wh_state.specs.Edits.{edits_from, later_edits, partitions_made}
 use Rattle.wh_state.specs.Act.{edited_table}
 use Rattle.wh_state.specs.Stored.{Stored, first_stored}
 use Rattle.wh_state.specs.Commit.{changed}
-use Rattle.wh_state.specs.Spelling.{payload_of, change_bytes, table_bytes, version_bytes, column_bytes}
+use Rattle.wh_state.specs.Spelling.{text_payload}
+use Rattle.wh_state.specs.Spelling.{change_bytes, table_bytes, version_bytes, column_bytes}
 use Rattle.wh_state.specs.Written.{kept_after}
 use Rattle.wh_state.proofs.KnownCommits as commits
 use Rattle.wh_state.proofs.KnownMaps.{map_steps}
@@ -72,7 +73,7 @@ no_room : (overflow 132 8 first_stored first table_and_row ≡ Some (50, 83))
     × (overflow 49 8 first_stored first table_and_row ≡ Some (8, 42))
 unfolding acts_of step commanded ddl.bound carried_out defines create_table table_refusal changes_rows
     transactions.acts_of past_limit staged later_edits seen reading_refusal bound_change first_failing typing.step
-    effect values_on val edits_from edited_table partitions_made changed payload_of change_bytes table_bytes
+    effect values_on val edits_from edited_table partitions_made changed text_payload change_bytes table_bytes
     column_bytes version_bytes partition_bytes row_bytes value_bytes
 no_room = (simp (literal_typed, map_steps), simp (literal_typed, map_steps), refl)
 

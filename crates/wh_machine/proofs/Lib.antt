@@ -1,7 +1,10 @@
 pub mod EntryLaws
 pub mod Lawful
 pub mod CommitLaws
+pub mod TaskActs
 pub mod OutcomeLaws
+pub mod TaskLaws
+pub mod EventLaws
 pub mod StepLaws
 pub mod ReplyLaws
 pub mod SoundLaws
@@ -23,9 +26,14 @@ pub mod StandLaws
 pub mod NamedLaws
 pub mod WorksLaws
 pub mod DefineLaws
+pub mod TaskWorks
+pub mod StartWorks
+pub mod TaskMade
 pub mod PassedLaws
 pub mod StageLaws
+pub mod TickWorks
 pub mod ReachedLaws
+pub mod UnderstoodLaws
 pub mod LeadsLaws
 pub mod FilledLaws
 pub mod BagRows

@@ -12,13 +12,16 @@ use Rattle.std.proofs.lemmas.Iterator.Adapters.{option_map_id}
 use Rattle.wh_state.specs.State.{Stream, Object, Table, with_offset, dropped, at_id}
 use Rattle.wh_state.specs.State.{put_at, changed_at}
 use Rattle.wh_state.specs.Edits.{Edits}
+use Rattle.wh_state.specs.Act.{on_task_object}
 use Rattle.wh_state.specs.Act.{DropsObject, EditsRows, MovesOffset, edited_table, edited_object}
 use Rattle.wh_state.specs.Act.{moved_object, acted, all_acted}
 use Rattle.wh_state.specs.Objects.{as_stream, stream_at}
+use Rattle.wh_state.proofs.KindLaws.{stream_of_task}
 use Rattle.wh_state.proofs.KindLaws.{stream_of_table, stream_of_stream}
 use Rattle.wh_machine.specs.Offsets.{with_stream, with_streams, offset_move, offset_moves}
 use Rattle.wh_net.specs.Stream.{shown, records_between}
 use Rattle.wh_machine.specs.Transaction.{Staged, edit_act}
+use Rattle.wh_state.specs.Task.{Task}
 
 -- ---- what stands at an id
 
@@ -135,6 +138,10 @@ stream_moved stamp id offset objects q =
 pub stream_dropped : (stamp id : ℕ) (objects : List Object) (q : ℕ)
     → stream_at (acted stamp objects (DropsObject id)) q ≡ stream_at objects q
 stream_dropped stamp id objects q = stream_stays dropped (λ o. refl) objects id q
+
+pub stream_tasked : (f : Task → Task) (id : ℕ) (objects : List Object) (q : ℕ)
+    → stream_at (changed_at objects id (on_task_object f)) q ≡ stream_at objects q
+stream_tasked f id objects q = stream_stays (on_task_object f) (λ o. stream_of_task f o.kind) objects id q
 
 get_more : {X : Type 0} (xs : List X) (y x : X) (place : ℕ) → slice_get xs place ≡ Some x
     → slice_get (xs ++ y ∷ []) place ≡ Some x

@@ -13,20 +13,27 @@ use Rattle.wh_ast.specs.declared.statement.Statement.TheVariants as st
 use Rattle.wh_ddl_naming.specs.Statements as ddl
 use Rattle.wh_reply.specs.Reply.{is_refusal}
 use Rattle.wh_state.specs.State.{Table, Stream}
+use Rattle.wh_state.specs.Objects.{task_at}
 use Rattle.wh_state.specs.Objects.{table_at, stream_at}
 use Rattle.wh_net.specs.Stream.{records_between, shown}
 use Rattle.wh_machine.specs.Sessions.{transaction_in}
+use Rattle.wh_machine.specs.Consuming.{task_reads, action_consumes}
 use Rattle.wh_machine.specs.Consuming.{shown_of, shown_to, consumed, is_read_by, change_in}
 use Rattle.wh_machine.specs.Consuming.{statement_consumes, event_consumes, consumes}
 use Rattle.wh_machine.specs.Transaction.{Transaction}
 use Rattle.wh_machine.specs.Outcome.{Machine, Outcome, Refuses, Does, settled}
 use Rattle.wh_machine.specs.Statements.{streams_read, meant_in}
-use Rattle.wh_machine.specs.Step.{Event, Command, Tick, at_stamp}
-use Rattle.wh_machine.specs.Step.{reading_of, stamp_of, decided, step}
+use Rattle.wh_machine.specs.Step.{Event, Command, Tick}
+use Rattle.wh_machine.specs.Step.{decided, step}
 use Rattle.wh_machine.proofs.MoveLaws.{among_streams}
 use Rattle.wh_machine.proofs.StepLaws.{ready, each_event}
 use Rattle.wh_machine.proofs.Lawful.{IsLawful}
-use Rattle.wh_machine.proofs.OutcomeLaws.{moved_by, moved_alone, streams_of, event_moves, lawful}
+use Rattle.wh_machine.proofs.OutcomeLaws.{moved_by, moved_alone, streams_of}
+use Rattle.wh_machine.proofs.EventLaws.{event_moves, lawful}
+use Rattle.wh_state.specs.Task.{Task}
+use Rattle.wh_graph.specs.Action.{Action, RunsTask, StartsRun, DoesNothing}
+use Rattle.wh_machine.specs.Ticks.{action_at}
+use Rattle.wh_machine.proofs.TaskLaws.{task_moves, action_moves}
 
 -- ---- the streams that move
 
@@ -68,13 +75,24 @@ statement_moves m session id (st.RefreshDynamicTable name) none = refl
 statement_moves m session id (st.SetTargetLag name lag) none = refl
 statement_moves m session id (st.DropDynamicTable name) none = refl
 
--- at the event's stamp
-none_moved : (m : Machine) (stamp id : ℕ) (e : Event) → event_consumes id m e ≡ false
-    → list_any (nat_eq id) (event_moves (at_stamp m stamp) e) ≡ false
-none_moved m stamp id (Tick reading) none = refl
-none_moved m stamp id (Command reading session TooLong) none = refl
-none_moved m stamp id (Command reading session Unreadable) none = refl
-none_moved m stamp id (Command reading session (Asked written)) none = statement_moves m session id written none
+task_none : (m : Machine) (id : ℕ) (found : Option Task) → task_reads id m found ≡ false
+    → list_any (nat_eq id) (task_moves m found) ≡ false
+task_none m id None none = refl
+task_none m id (Some t) none =
+    among_streams id (streams_read m (change_in m t.runs.body)) [] ∙ ap (λ (b : Bool). b || false) none
+
+action_none : (m : Machine) (id : ℕ) (a : Action) → action_consumes id m a ≡ false
+    → list_any (nat_eq id) (action_moves m a) ≡ false
+action_none m id (RunsTask root task) none = task_none m id (task_at m.state.objects task) none
+action_none m id (StartsRun root) none = refl
+action_none m id DoesNothing none = refl
+
+none_moved : (m : Machine) (id : ℕ) (e : Event) → event_consumes id m e ≡ false
+    → list_any (nat_eq id) (event_moves m e) ≡ false
+none_moved m id (Tick reading) none = action_none m id (action_at m) none
+none_moved m id (Command reading session TooLong) none = refl
+none_moved m id (Command reading session Unreadable) none = refl
+none_moved m id (Command reading session (Asked written)) none = statement_moves m session id written none
 
 -- ---- a stream that isn't consumed
 
@@ -90,17 +108,17 @@ pub stays : (m : Machine) (e : Event) (id : ℕ) (s : Stream) → stream_at m.st
     → consumes id m e ≡ false → stream_at (step m e).0.state.objects id ≡ Some s
 stays m e id s at none =
     each_event m e
-    (λ p acts. (not (is_refusal p.1) && event_consumes id m e) ≡ false → stream_at p.0.state.objects id ≡ Some s)
+    (λ p acts. (not (is_refusal p.1) && event_consumes id (ready m e) e) ≡ false → stream_at p.0.state.objects id ≡ Some s)
     (by_refusal (is_refusal (settled (ready m e) (decided m e)).1) refl) (λ none. at) none
   where
     by_refusal : (refused : Bool) → is_refusal (settled (ready m e) (decided m e)).1 ≡ refused
-        → (not refused && event_consumes id m e) ≡ false
+        → (not refused && event_consumes id (ready m e) e) ≡ false
         → stream_at (settled (ready m e) (decided m e)).0.state.objects id ≡ Some s
     by_refusal true is none =
         ap (λ (n : Machine). stream_at n.state.objects id) ((lawful (ready m e) e).refused is).1 ∙ at
     by_refusal false is none =
         left_alone (ready m e) id s (decided m e) (lawful (ready m e) e) at
-        (none_moved m (stamp_of m.state (reading_of e)) id e none)
+        (none_moved (ready m e) id e none)
 
 -- up to its offset a stream shows nothing
 none_shown : (s : Stream) (found : Option Table) → shown_of found s s.offset ≡ []

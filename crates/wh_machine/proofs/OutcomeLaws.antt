@@ -1,12 +1,10 @@
--- What an event may come to.
---     event_moves     the streams whose offsets it may move
---     lawful          what it does is lawful
+-- What a statement may come to.
+--     moved_by      the streams whose offsets a statement may move
+--     statement     what a statement does is lawful
 use Rattle.std.proofs.Common.{◌≡◌, ℕ, zero, suc, ◌-◌, ◌≤◌, Bool, true, false, List, [], ◌∷◌, ◌++◌, ◌⊎◌}
 use Rattle.std.proofs.Common.{inl, inr, Option, Some, None, option_map, refl, sym, ap, ◌∙◌, subst, arith}
 use Rattle.std.specs.Prelude.{nat_eq, slice_set}
 use Rattle.std.specs.List.{list_any}
-use Rattle.wh_value.specs.declared.limit.Limit.TheVariants as limits
-use Rattle.wh_grammar.specs.Spelled.{Request, TooLong, Unreadable, Asked}
 use Rattle.wh_meaning.specs.Bag.{Bag}
 use Rattle.wh_meaning.specs.Query.{eval}
 use Rattle.wh_meaning.specs.Listing.{listed}
@@ -14,9 +12,9 @@ use Rattle.wh_naming.specs.Changes.{BoundChange, Modification}
 use Rattle.wh_naming.specs.Select.{BoundSelect}
 use Rattle.wh_effect.specs.Effect as effects
 use Rattle.wh_effect.specs.Effect.{Effect}
-use Rattle.wh_reply.specs.Reply.{Refusal, Reply, Unsupported, SyntaxError, NoSuchSession, OverLimit}
+use Rattle.wh_reply.specs.Reply.{Refusal, Reply, Unsupported}
 use Rattle.wh_reply.specs.Reply.{NumberOutOfRange, NoTransaction, CreatedTable, DroppedTable, CreatedStream}
-use Rattle.wh_reply.specs.Reply.{DroppedStream, HasData, Begun, RolledBack, Listing, Idle}
+use Rattle.wh_reply.specs.Reply.{DroppedStream, HasData, Begun, RolledBack, Listing}
 use Rattle.wh_reply.specs.Reply.{Locked}
 use Rattle.wh_reply.specs.Reply.{is_refusal}
 use Rattle.wh_state.specs.State.{Table, Stream}
@@ -30,11 +28,10 @@ use Rattle.wh_machine.specs.Transaction.{Transaction, begun, start_at, staged, s
 use Rattle.wh_machine.specs.Transaction.{acts_of, next_row_of}
 use Rattle.wh_machine.specs.Sessions.{Sessions, transaction_in, with_ended, locked_by, first_locked}
 use Rattle.wh_machine.specs.Sessions.{with_begun}
-use Rattle.wh_ddl_naming.specs.Meant.{first_failing}
 use Rattle.wh_ddl_naming.specs.Tables.{NewTable}
 use Rattle.wh_ddl_naming.specs.Statements as ddl
 use Rattle.wh_ddl_naming.specs.Statements.{Bound}
-use Rattle.wh_machine.specs.Names.{refusal_of, naming_refusal}
+use Rattle.wh_machine.specs.Names.{naming_refusal}
 use Rattle.wh_machine.specs.Changes.{Changed, Fails, Gives, given, given_on, fails_or, reply_to}
 use Rattle.wh_machine.specs.Outcome.{Machine, Outcome, Does, commits}
 use Rattle.wh_machine.specs.Queries.{listing_of}
@@ -44,16 +41,22 @@ use Rattle.wh_machine.specs.Tables.{retention_of, table_made, create_table, drop
 use Rattle.wh_machine.specs.Streams.{create_stream, drop_stream}
 use Rattle.wh_machine.specs.Statements.{begin, commit_reply, commit_of, commit, rollback_of, rollback}
 use Rattle.wh_machine.specs.Statements.{streams_read, change_refusal, bound_changed, changes_in, changes_rows}
-use Rattle.wh_machine.specs.Statements.{selects, carried_out, meant_in}
-use Rattle.wh_machine.specs.Step.{Event, Command, Tick, is_session, commanded, outcome_of}
+use Rattle.wh_machine.specs.Statements.{selects, carried_out}
 use Rattle.wh_machine.specs.Sound.{IsBegun, AreBegun}
 use Rattle.wh_machine.specs.Consuming.{is_read_by, reads}
 use Rattle.wh_machine.proofs.MoveLaws.{among_streams}
 use Rattle.wh_machine.proofs.HoldLaws.{or_none, one_of, free_of, apart_put, apart_staged, ended_reads}
 use Rattle.wh_machine.proofs.HoldLaws.{number_put}
 use Rattle.wh_machine.proofs.Lawful.{KeepsSessions, MovesFree}
-use Rattle.wh_machine.proofs.Lawful.{IsLawful, same_sessions, refuses, does, tested, tested_last, either, answered}
+use Rattle.wh_machine.proofs.Lawful.{IsLawful, same_sessions, refuses, does, tested, tested_last, answered}
 use Rattle.wh_machine.proofs.CommitLaws.{defined, recorded_holds}
+use Rattle.std.specs.Prelude.{unwrap_or}
+use Rattle.wh_reply.specs.Reply.{CreatedTask, DroppedTask, Resumed, Suspended, Started}
+use Rattle.wh_state.specs.Act.{MakesTask}
+use Rattle.wh_state.specs.Objects.{task_at}
+use Rattle.wh_machine.specs.Tasks.{create_task, body_of, resume_task, resumed_state, suspend_task, suspended_state}
+use Rattle.wh_machine.specs.Tasks.{execute_task, start_acts, drop_task}
+use Rattle.wh_machine.proofs.TaskActs.{put_is, task_defined}
 
 -- ---- objects that are made and dropped
 
@@ -98,7 +101,7 @@ start_before last None begun = omega arith
 start_before last (Some t) begun = omega (arith, begun)
 
 -- a change that reads those streams, which are free for its session
-abbrev IsFree : Machine → ℕ → List ℕ → Changed → Type 0
+abbrev pub IsFree : Machine → ℕ → List ℕ → Changed → Type 0
 IsFree m session streams (Fails why) = Unit {0}
 IsFree m session streams (Gives id read change e) =
     (read ≡ streams) × (first_locked m.sessions session read ≡ None)
@@ -116,7 +119,7 @@ given_free m session id streams change effects.Undefined free = tt
 given_free m session id streams change (effects.Ambiguous row) free = tt
 given_free m session id streams change (effects.Does e) free = (refl, free)
 
-bound_free : (m : Machine) (session : ℕ) (b : BoundChange)
+pub bound_free : (m : Machine) (session : ℕ) (b : BoundChange)
     → IsFree m session (streams_read m b) (bound_changed m session b)
 bound_free m session b = by_refusal (change_refusal m session b) refl
   where
@@ -262,10 +265,10 @@ moved_by m session ddl.Commit = streams_of (transaction_in m.sessions session)
 moved_by m session (ddl.Change b) = moved_alone (streams_read m b) (transaction_in m.sessions session)
 moved_by m session _ = []
 
-statement : (m : Machine) (session : ℕ) (wrong : Option Refusal) (b : Bound)
+pub statement : (m : Machine) (session : ℕ) (wrong : Option Refusal) (b : Bound)
     → IsLawful m (moved_by m session b) (carried_out m session wrong b)
 unfolding carried_out begin commit rollback changes_rows selects has_data create_table drop_table create_stream
-    drop_stream
+    drop_stream create_task resume_task suspend_task execute_task drop_task
 statement m session wrong ddl.Begin = tested m _ _ (begun_holds m session)
 statement m session wrong ddl.Commit = commit_holds m session (transaction_in m.sessions session) refl
 statement m session wrong ddl.Rollback = rollback_holds m session (transaction_in m.sessions session)
@@ -283,37 +286,21 @@ statement m session wrong (ddl.CreateStream n) = definition m session _ _ (teste
     (defined m (CreatedStream n.name) (MakesStream n.name n.table n.is_append_only ∷ []) refl (tt, tt)))
 statement m session wrong (ddl.DropStream id) =
     definition m session _ _ (tested m wrong _ (dropped m (DroppedStream (name_at m.state.objects id)) id refl))
-statement m session wrong (ddl.CreateTask n) = refuses m Unsupported
-statement m session wrong (ddl.ResumeTask id) = refuses m Unsupported
-statement m session wrong (ddl.SuspendTask id) = refuses m Unsupported
-statement m session wrong (ddl.ExecuteTask id) = refuses m Unsupported
-statement m session wrong (ddl.DropTask id) = refuses m Unsupported
+statement m session wrong (ddl.CreateTask n) = definition m session _ _ (tested m _ _
+    (defined m (CreatedTask n.name) (MakesTask n.name (unwrap_or n.minutes 0) n.after (body_of n) ∷ []) refl (tt, tt)))
+statement m session wrong (ddl.ResumeTask id) = definition m session _ _ (tested m _ _
+    (task_defined m (Resumed (name_at m.state.objects id)) _ refl
+    (put_is id (resumed_state m.state.last id) (task_at m.state.objects id))))
+statement m session wrong (ddl.SuspendTask id) = definition m session _ _ (tested m _ _
+    (task_defined m (Suspended (name_at m.state.objects id)) _ refl
+    (put_is id suspended_state (task_at m.state.objects id))))
+statement m session wrong (ddl.ExecuteTask id) = definition m session _ _ (tested m _ _
+    (task_defined m (Started (name_at m.state.objects id)) (start_acts m.state.objects id) refl (tt, tt)))
+statement m session wrong (ddl.DropTask id) =
+    definition m session _ _ (tested m _ _ (dropped m (DroppedTask (name_at m.state.objects id)) id refl))
 statement m session wrong (ddl.CreateDynamicTable n) = refuses m Unsupported
 statement m session wrong (ddl.ResumeDynamicTable id) = refuses m Unsupported
 statement m session wrong (ddl.SuspendDynamicTable id) = refuses m Unsupported
 statement m session wrong (ddl.RefreshDynamicTable id) = refuses m Unsupported
 statement m session wrong (ddl.SetTargetLag id lag) = refuses m Unsupported
 statement m session wrong (ddl.DropDynamicTable id) = refuses m Unsupported
-
-abbrev pub request_moves : Machine → ℕ → Request → List ℕ
-request_moves m session (Asked tree) = moved_by m session (meant_in m tree).value
-request_moves m session _ = []
-
--- and an event
-abbrev pub event_moves : Machine → Event → List ℕ
-event_moves m (Command reading session request) = request_moves m session request
-event_moves m (Tick reading) = []
-
-command : (m : Machine) (session : ℕ) (request : Request)
-    → IsLawful m (request_moves m session request) (commanded m session request)
-unfolding commanded
-command m session TooLong = refuses m (OverLimit limits.Statement)
-command m session Unreadable = refuses m SyntaxError
-command m session (Asked tree) =
-    either m (is_session session) _ _
-    (statement m session (option_map refusal_of (first_failing (meant_in m tree))) (meant_in m tree).value)
-    (refuses m (NoSuchSession session))
-
-pub lawful : (m : Machine) (e : Event) → IsLawful m (event_moves m e) (outcome_of m e)
-lawful m (Command reading session request) = command m session request
-lawful m (Tick reading) = answered m Idle refl

@@ -20,7 +20,7 @@ use Rattle.wh_ddl_naming.specs.Objects.{object_of}
 use Rattle.wh_ddl_naming.specs.Statements as ddl
 use Rattle.wh_ddl_naming.specs.Statements.{Bound}
 use Rattle.wh_reply.specs.Reply.{Refusal, Reply, Unsupported, SyntaxError, NoSuchSession, OverLimit, NumberOutOfRange}
-use Rattle.wh_reply.specs.Reply.{NoTransaction, Begun, RolledBack, Listing, HasData, Idle}
+use Rattle.wh_reply.specs.Reply.{NoTransaction, Begun, RolledBack, Listing, HasData}
 use Rattle.wh_meaning.specs.Listing.{listed}
 use Rattle.wh_net.specs.Stream.{rows_shown, has_rows}
 use Rattle.wh_state.specs.State.{Stream}
@@ -42,6 +42,10 @@ use Rattle.wh_machine.proofs.StandLaws.{StandsOn, AllStandOn}
 use Rattle.wh_machine.proofs.WorksLaws.{IsReached, Works, works_refuses}
 use Rattle.wh_machine.proofs.WorksLaws.{works_unless, works_either, works_does, works_recorded}
 use Rattle.wh_machine.proofs.DefineLaws.{IsFilledTable, works_table, works_stream, works_drop}
+use Rattle.wh_machine.proofs.TaskWorks.{works_resume, works_suspend, works_drop_task}
+use Rattle.wh_machine.proofs.StartWorks.{works_execute}
+use Rattle.wh_machine.proofs.TickWorks.{works_tick}
+use Rattle.wh_machine.proofs.TaskMade.{IsFilledTask, works_create_task}
 use Rattle.wh_machine.proofs.StageLaws.{begun_stands, one_stands, works_changes}
 use Rattle.wh_machine.proofs.ChangeLaws.{change_fits}
 
@@ -50,6 +54,7 @@ use Rattle.wh_machine.proofs.ChangeLaws.{change_fits}
 abbrev pub IsFilled : Statement → Type 0
 IsFilled (st.CreateTable t) = IsFilledTable t.name (map column_of t.columns)
 IsFilled (st.CreateStream name table is_append_only) = 0 < length name
+IsFilled (st.CreateTask t) = IsFilledTask t
 IsFilled (st.Dml x) = (ts : List Token) × IsDml most_nested ts x []
 IsFilled _ = Unit {0}
 
@@ -136,24 +141,24 @@ works_statement s m session (st.CreateTable t) filled reached = works_table s m 
 works_statement s m session (st.CreateStream name table is_append_only) filled reached =
     works_stream s m session name table is_append_only reached filled
 works_statement s m session (st.DropTable name) filled reached =
-    works_drop s m session TableObject name _ reached
+    works_drop s m session TableObject name _ refl reached
 works_statement s m session (st.DropStream name) filled reached =
-    works_drop s m session StreamObject name _ reached
+    works_drop s m session StreamObject name _ refl reached
 works_statement s m session st.Begin filled reached = works_begin s m session reached
 works_statement s m session st.Commit filled reached =
     works_commit s m session (transaction_in m.sessions session) refl reached
 works_statement s m session st.Rollback filled reached =
     works_rollback s m session (transaction_in m.sessions session) reached
-works_statement s m session (st.CreateTask t) filled reached = works_refuses s m Unsupported reached
-works_statement s m session (st.ResumeTask name) filled reached = works_refuses s m Unsupported reached
-works_statement s m session (st.SuspendTask name) filled reached = works_refuses s m Unsupported reached
-works_statement s m session (st.ExecuteTask name) filled reached = works_refuses s m Unsupported reached
+works_statement s m session (st.CreateTask t) filled reached = works_create_task s m session t reached filled
+works_statement s m session (st.ResumeTask name) filled reached = works_resume s m session name reached
+works_statement s m session (st.SuspendTask name) filled reached = works_suspend s m session name reached
+works_statement s m session (st.ExecuteTask name) filled reached = works_execute s m session name reached
 works_statement s m session (st.CreateDynamicTable t) filled reached = works_refuses s m Unsupported reached
 works_statement s m session (st.ResumeDynamicTable name) filled reached = works_refuses s m Unsupported reached
 works_statement s m session (st.SuspendDynamicTable name) filled reached = works_refuses s m Unsupported reached
 works_statement s m session (st.RefreshDynamicTable name) filled reached = works_refuses s m Unsupported reached
 works_statement s m session (st.SetTargetLag name lag) filled reached = works_refuses s m Unsupported reached
-works_statement s m session (st.DropTask name) filled reached = works_refuses s m Unsupported reached
+works_statement s m session (st.DropTask name) filled reached = works_drop_task s m session name reached
 works_statement s m session (st.DropDynamicTable name) filled reached = works_refuses s m Unsupported reached
 
 works_command : (s : Stored) (m : Machine) (session : ℕ) (request : Request) → IsFilledRequest request → IsReached s m
@@ -168,4 +173,4 @@ works_command s m session (Asked statement) filled reached =
 pub works_event : (s : Stored) (m : Machine) (e : Event) → IsFilledEvent e → IsReached s m → Works s m (outcome_of m e)
 works_event s m (Command reading session request) filled reached =
     works_command s m session request filled reached
-works_event s m (Tick reading) filled reached = works_does s m Idle m.sessions reached.stand
+works_event s m (Tick reading) filled reached = works_tick s m reached

@@ -16,6 +16,8 @@ use Rattle.wh_meaning.specs.Bag.{bag_of}
 use Rattle.wh_net.specs.Net.{RowChange, deleted, inserted, net_change, numbers_in_either, net, first_here, is_in_one}
 use Rattle.wh_net.specs.Net.{is_between, appended_from, appended}
 use Rattle.wh_net.specs.Stream.{rows_at, records_between, shown, shown_row, rows_on, rows_shown}
+use Rattle.wh_state.specs.State.{table_in}
+use Rattle.wh_state.specs.State.{TaskKind}
 use Rattle.wh_state.specs.State.{Rows, Version, Table, Stream, Object, last_rows}
 use Rattle.wh_state.specs.State.{metadata_columns, at_id}
 use Rattle.wh_state.specs.State.{TableKind, StreamKind, table_in, stream_in, columns_in}
@@ -31,10 +33,13 @@ use Rattle.wh_machine.specs.Reading.{objects_seen, start_in, kind_rows, object_r
 use Rattle.wh_machine.proofs.GotLaws.{entries_hold}
 use Rattle.wh_machine.proofs.StageLaws.{rows_all}
 use Rattle.wh_machine.proofs.WorksLaws.{IsReached, objects_meant}
+use Rattle.wh_machine.proofs.BagRows.{all_none}
 use Rattle.wh_machine.proofs.BagRows.{AllRows, all_bag_of}
 use Rattle.wh_machine.proofs.ValueTypes.{FitsTypes, types_of, row_of_columns, fits_append}
+use Rattle.wh_machine.proofs.SeenRows.{none_seen}
 use Rattle.wh_machine.proofs.SeenRows.{Fit, RowsFitIn, versions_fit, VersionRowsFit, last_fits}
 use Rattle.wh_machine.proofs.SeenRows.{seen_fits}
+use Rattle.wh_state.specs.Objects.{table_at}
 use Rattle.wh_state.specs.Objects.{as_table}
 
 -- ---- changes of rows
@@ -142,6 +147,7 @@ shown_fits s stream to firm source =
         → IsSomeAnd (table_in k) (λ t. stream.columns ≡ t.columns ++ metadata_columns)
         → AllByRecursion (FitsTypes (types_of stream.columns)) (rows_on (option_map table_meant (table_in k)) stream to)
     by_kind (StreamKind other) firm is = absurd is
+    by_kind (TaskKind t) firm is = absurd is
     by_kind (TableKind t) firm is =
         subst (λ (columns : List Column). AllByRecursion (FitsTypes (types_of columns))
         (rows_on (Some (table_meant t)) stream to)) (sym is)
@@ -183,6 +189,10 @@ read_fits s m session id o reached there =
         let seen = seen_fits s m session id o t reached there is in
         subst (λ (found : Option Table). AllRows (FitsTypes (types_of t.columns)) (table_bag found)) (sym seen.there)
         (values_fit t.columns (last_rows seen.table) seen.rows)
+    by_kind (TaskKind task) is =
+        let none : table_at (objects_seen m session) id ≡ None =
+        none_seen m session id (object_meant o) now (ap (λ k. table_in (kind_meant k)) is) in
+        subst (λ (found : Option Table). AllRows (FitsTypes []) (table_bag found)) (sym none) (all_none (FitsTypes []))
     by_kind (StreamKind stream) is =
         let source : FoundAt (IsSourceOf stream) s.objects stream.source =
         subst (λ (k : StoredKind). IfSome (stream_in k) (λ u. FoundAt (IsSourceOf u) s.objects u.source)) is

@@ -15,11 +15,13 @@ use Rattle.wh_value.specs.Value.{Row}
 use Rattle.wh_value.specs.Column.{Column}
 use Rattle.wh_value.specs.Fits.{row_fits}
 use Rattle.wh_frame.specs.Partition.{Partition, numbered}
+use Rattle.wh_state.specs.State.{Kind, StreamKind, TaskKind}
 use Rattle.wh_state.specs.State.{Rows, Version, Table, TableKind, Object, at_id}
 use Rattle.wh_state.specs.State.{last_of, content_in, last_rows, nothing_held, version_at}
 use Rattle.wh_state.specs.State.{table_in}
 use Rattle.wh_state.specs.Objects.{table_at, as_table}
 use Rattle.wh_state.specs.Edits.{Edits, edited, rows_after}
+use Rattle.wh_state.specs.Act.{edited_kind}
 use Rattle.wh_state.specs.Act.{edited_table, next_contents}
 use Rattle.wh_state.specs.Stored.{StoredVersion, StoredTable, StoredKind, StoredObject, Stored}
 use Rattle.wh_state.specs.Stored.{version_meant, table_meant, kind_meant, object_meant}
@@ -171,3 +173,29 @@ seen_fits s m session id o t reached there is =
               ∙ ap (option_map (with_own m.state.last (get tr.tables id))) now) ∙ own.1.0;
           rows = own.1.1;
         }
+
+-- what is no table isn't seen as one
+pub none_seen : (m : Machine) (session id : ℕ) (o : Object) → at_id m.state.objects id ≡ Some o → table_in o.kind ≡ None
+    → table_at (objects_seen m session) id ≡ None
+unfolding seen
+none_seen m session id o there none = by_transaction (transaction_in m.sessions session) refl
+  where
+    by_kind : (stamp : ℕ) (e : Edits) (k : Kind) → table_in k ≡ None → table_in (edited_kind stamp e k) ≡ None
+    by_kind stamp e (TableKind t) none = absurd cc
+    by_kind stamp e (StreamKind s) none = refl
+    by_kind stamp e (TaskKind t) none = refl
+
+    by_staged : (stamp : ℕ) (found : Option Staged) → as_table (with_own stamp found o) ≡ None
+    by_staged stamp None = none
+    by_staged stamp (Some st) = by_kind stamp st.edits o.kind none
+
+    by_transaction : (found : Option Transaction) → transaction_in m.sessions session ≡ found
+        → table_at (objects_seen m session) id ≡ None
+    by_transaction None no_one =
+        ap (λ (found : Option Transaction). table_at (seen m.state found).objects id) no_one
+        ∙ ap (option_and_then as_table) there ∙ none
+    by_transaction (Some tr) some =
+        ap (λ (found : Option Transaction). table_at (seen m.state found).objects id) some
+        ∙ ap (option_and_then as_table) (seen_at m.state.last tr.tables m.state.objects id
+        ∙ ap (option_map (with_own m.state.last (get tr.tables id))) there)
+        ∙ by_staged m.state.last (get tr.tables id)

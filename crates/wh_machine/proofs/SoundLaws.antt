@@ -5,6 +5,7 @@ use Rattle.std.proofs.Common.{ℕ, suc, zero, ◌<◌, ◌≤◌, List, [], ◌�
 use Rattle.std.proofs.Common.{arith}
 use Rattle.std.specs.Prelude.{replicate}
 use Rattle.wh_state.specs.State.{State}
+use Rattle.wh_state.specs.Act.{MakesTask, PutsTask, BeginsRun, EndsTask}
 use Rattle.wh_state.specs.Act.{Act, MakesTable, DropsObject, EditsRows, MakesStream, MovesOffset}
 use Rattle.wh_state.specs.Sound.{Sound}
 use Rattle.wh_state.proofs.AllLaws.{all_map}
@@ -14,7 +15,7 @@ use Rattle.wh_machine.specs.Outcome.{Machine, Outcome, Refuses, Does, opened, se
 use Rattle.wh_machine.specs.Sound.{IsBegun, AreBegun, SoundMachine}
 use Rattle.wh_machine.specs.Step.{Event, decided, step, after}
 use Rattle.wh_machine.proofs.Lawful.{MovesOn, IsLawful}
-use Rattle.wh_machine.proofs.OutcomeLaws.{lawful}
+use Rattle.wh_machine.proofs.EventLaws.{lawful}
 use Rattle.wh_machine.proofs.StepLaws.{ready, each_event}
 
 none_begun : (last count : ℕ) → AreBegun last (replicate count None)
@@ -32,6 +33,10 @@ within s (DropsObject id) on = tt
 within s (EditsRows id e) on = tt
 within s (MakesStream name source is_append_only) on = tt
 within s (MovesOffset id offset) on = omega (arith, on.0)
+within s (MakesTask name minutes after runs) on = tt
+within s (PutsTask id state) on = tt
+within s (BeginsRun root tasks) on = tt
+within s (EndsTask root task ending) on = tt
 
 settles_sound : (m : Machine) {moving : List ℕ} (o : Outcome) → m.state.committed < m.state.last → SoundMachine m
     → IsLawful m moving o

@@ -2,6 +2,7 @@
 --     EffectFits, HoldsEffect     the rows of an effect fit a live table
 --     later_fit                   edits with an effect more fit
 --     staged_stands               a transaction with it stands
+--     alone_stands                so does one of a change by itself
 --     ChangedFits, works_changes  what a change comes to, and that its outcome works
 use Rattle.std.proofs.Common.{◌≡◌, ℕ, zero, suc, ◌+◌, Bool, true, false, cond, List, []}
 use Rattle.std.proofs.Common.{◌∷◌, map, Option, Some, None, refl, sym, ap, subst, ◌∙◌, IsTrue}
@@ -15,7 +16,9 @@ use Rattle.wh_value.specs.Value.{Row}
 use Rattle.wh_value.specs.Column.{Column}
 use Rattle.wh_value.specs.Fits.{row_fits}
 use Rattle.wh_frame.specs.Partition.{numbered}
+use Rattle.wh_naming.specs.Changes.{Modification}
 use Rattle.wh_effect.specs.Effect.{Effect}
+use Rattle.wh_state.specs.State.{TaskKind}
 use Rattle.wh_state.specs.State.{at_id}
 use Rattle.wh_state.specs.State.{TableKind, StreamKind, table_in}
 use Rattle.wh_state.specs.Objects.{table_at}
@@ -164,6 +167,7 @@ staged_fits objects t id next e stands holds = by_staged (get t.tables id) refl
     with_kind (TableKind t) old before fits =
         later_fit t.columns next old (edits_of e) before (effect_fit t.columns e fits)
     with_kind (StreamKind s) old before fits = absurd before
+    with_kind (TaskKind t) old before fits = absurd before
 
     with_found : (found : Option StoredObject) (old : Edits) → IsSomeAnd found (HoldsEdits old)
         → IsSomeAnd found (HoldsEffect e) → IsSomeAnd found (HoldsEdits (later_edits next old (edits_of e)))
@@ -174,6 +178,7 @@ staged_fits objects t id next e stands holds = by_staged (get t.tables id) refl
         → IsSomeAnd (table_in k) (λ t. EditsFit t.columns no_edits)
     untouched_kind (TableKind t) fits = no_edits_fit t.columns
     untouched_kind (StreamKind s) fits = absurd fits
+    untouched_kind (TaskKind t) fits = absurd fits
 
     untouched_found : (found : Option StoredObject) → IsSomeAnd found (HoldsEffect e) →
         IsSomeAnd found (HoldsEdits no_edits)
@@ -222,16 +227,22 @@ ChangedFits objects (Fails why) = Unit {0}
 ChangedFits objects (Gives id streams change e) =
     FoundAt (HoldsEffect e) objects id × AllByRecursion (FoundAt IsLiveStream objects) streams
 
+-- the transaction of a change by itself
+pub alone_stands : (s : Stored) (m : Machine) (id : ℕ) (streams : List ℕ) (change : Modification) (e : Effect)
+    → ChangedFits s.objects (Gives id streams change e)
+    → TransactionStands s.objects (staged_in_state m.state (begun m.state.last) id streams e)
+alone_stands s m id streams change e fits =
+    staged_stands s.objects (begun m.state.last) id streams (next_row_of (table_at m.state.objects id)) e
+    (begun_stands s.objects m.state.last) fits.0 fits.1
+
 pub works_changes : (s : Stored) (m : Machine) (session : ℕ) (t : Option Transaction) →
     transaction_in m.sessions session ≡ t
     → (c : Changed) → IsReached s m → ChangedFits s.objects c → Works s m (changes_in m session t c)
 works_changes s m session t is (Fails why) reached fits = works_refuses s m why reached
 works_changes s m session None is (Gives id streams change e) reached fits =
     works_recorded s m (reply_to change e) m.sessions
-    (staged_in_state m.state (begun m.state.last) id streams e) reached
-    reached.stand
-    (staged_stands s.objects (begun m.state.last) id streams (next_row_of (table_at m.state.objects id)) e
-    (begun_stands s.objects m.state.last) fits.0 fits.1)
+    (staged_in_state m.state (begun m.state.last) id streams e) reached reached.stand
+    (alone_stands s m id streams change e fits)
 works_changes s m session (Some t) is (Gives id streams change e) reached fits =
     works_does s m (reply_to change e) _
     (all_with (StandsOn s.objects) m.sessions (suc session)

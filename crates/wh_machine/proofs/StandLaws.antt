@@ -15,6 +15,7 @@ use Rattle.std.proofs.lemmas.Bool.Decides.{nat_tests}
 use Rattle.wh_value.specs.Limit.{bound}
 use Rattle.wh_value.specs.declared.limit.Limit.{Limit}
 use Rattle.wh_value.specs.declared.limit.Limit.TheVariants as limits
+use Rattle.wh_state.specs.State.{TaskKind}
 use Rattle.wh_state.specs.State.{Stream, Object, at_id, last_of}
 use Rattle.wh_state.specs.State.{TableKind, StreamKind, table_in, stream_in}
 use Rattle.wh_state.specs.Objects.{stream_at, table_at}
@@ -40,6 +41,7 @@ use Rattle.wh_machine.specs.Transaction.{next_partition_of, partition_past, firs
 use Rattle.wh_machine.specs.Transaction.{or_else}
 use Rattle.wh_machine.specs.Sessions.{Sessions}
 use Rattle.wh_machine.proofs.GotLaws.{entries_hold}
+use Rattle.wh_state.proofs.KindLaws.{task_keeps}
 
 -- ---- what a transaction holds
 
@@ -67,6 +69,7 @@ edits_kept e = record {
   pushes = λ stamp c o h. (h.0, pushed o.kind stamp c h.1);
   sets =
       λ offset o h. (h.0, moved o.kind offset h.1);
+  tasks = λ f o h. (h.0, task_keeps (λ k. IsSomeAnd (table_in k) (λ t. EditsFit t.columns e)) f (λ t h. h) o.kind h.1);
 }
   where
     pushed : (k : StoredKind) (stamp : ℕ) (c : VersionChange)
@@ -74,28 +77,33 @@ edits_kept e = record {
         → IsSomeAnd (table_in (pushed_kind stamp c k)) (λ t. EditsFit t.columns e)
     pushed (TableKind t) stamp c h = record { rows = h.rows; added = h.added }
     pushed (StreamKind s) stamp c h = absurd h
+    pushed (TaskKind t) stamp c h = absurd h
 
     moved : (k : StoredKind) (offset : ℕ) → IsSomeAnd (table_in k) (λ t. EditsFit t.columns e)
         → IsSomeAnd (table_in (offset_set_kind offset k)) (λ t. EditsFit t.columns e)
     moved (TableKind t) offset h = h
     moved (StreamKind s) offset h = absurd h
+    moved (TaskKind t) offset h = absurd h
 
 pub streams_kept : KeptByCommits IsLiveStream
 streams_kept = record {
   pushes = λ stamp c o h. (h.0, pushed o.kind stamp c h.1);
   sets =
       λ offset o h. (h.0, moved o.kind offset h.1);
+  tasks = λ f o h. (h.0, task_keeps (λ k. IsSomeAnd (stream_in k) (λ s. Unit {0})) f (λ t h. h) o.kind h.1);
 }
   where
     pushed : (k : StoredKind) (stamp : ℕ) (c : VersionChange) → IsSomeAnd (stream_in k) (λ s. Unit {0})
         → IsSomeAnd (stream_in (pushed_kind stamp c k)) (λ s. Unit {0})
     pushed (TableKind t) stamp c h = absurd h
     pushed (StreamKind s) stamp c h = tt
+    pushed (TaskKind t) stamp c h = absurd h
 
     moved : (k : StoredKind) (offset : ℕ) → IsSomeAnd (stream_in k) (λ s. Unit {0})
         → IsSomeAnd (stream_in (offset_set_kind offset k)) (λ s. Unit {0})
     moved (TableKind t) offset h = absurd h
     moved (StreamKind s) offset h = tt
+    moved (TaskKind t) offset h = absurd h
 
 -- what a transaction holds is not dropped
 pub record SparesHeld (cs : List Change) (t : Transaction) : Type 0 where
@@ -185,6 +193,7 @@ edit_stands committed stamp h objects sound entry within holds =
         → table_at (map object_meant objects) entry.0 ≡ option_map table_meant (table_in k)
         → IsSomeAnd (table_in k) (λ t. EditsFit t.columns e) → IsSomeAnd (table_in k) (EditsApply stamp e)
     by_kind (StreamKind s) sound at fits = absurd fits
+    by_kind (TaskKind t) sound at fits = absurd fits
     by_kind (TableKind t) sound at fits =
         let rows : nat_lt (bound limits.RowNumber) (next_row_of (Some (table_meant t)) + length e.added) ≡ false =
         ap (λ found. nat_lt (bound limits.RowNumber) (next_row_of found + length e.added)) (sym at) ∙ within.rows in
@@ -234,6 +243,7 @@ moves_of_one stamp start objects id live =
         → at_id objects id ≡ Some (record o { kind = k })
         → AllStand stamp start objects (offset_move start id (stream_in k))
     by_kind o (TableKind t) live is there = absurd is
+    by_kind o (TaskKind t) live is there = absurd is
     by_kind o (StreamKind s) live is there = by_test o s (nat_lt s.offset start) refl live there
 
     by_found : (found : Option StoredObject) → at_id objects id ≡ found → IsSomeAnd found IsLiveStream

@@ -22,7 +22,7 @@ use Rattle.wh_machine.specs.Outcome.{Machine, Outcome, Refuses, Does, settled, a
 use Rattle.wh_machine.specs.Step.{Event, reading_of, stamp_of, at_stamp, has_stamp, decided, step, acts_of}
 use Rattle.wh_machine.specs.Made.{made}
 use Rattle.wh_machine.proofs.Lawful.{IsLawful}
-use Rattle.wh_machine.proofs.OutcomeLaws.{lawful}
+use Rattle.wh_machine.proofs.EventLaws.{lawful}
 
 -- ---- stamps
 

@@ -175,7 +175,7 @@ val_fits types (IsNull a) row h = one_gives (Some BooleanType) (λ x. Some (Trut
 abbrev pub types_of : List table.Column → List (Option ColumnType)
 types_of columns = map (λ c. Some c.column_type) columns
 
-both_true : (a b : Bool) → (a && b) ≡ true → (a ≡ true) × (b ≡ true)
+pub both_true : (a b : Bool) → (a && b) ≡ true → (a ≡ true) × (b ≡ true)
 both_true true b is = (refl, is)
 both_true false b is = absurd cc
 

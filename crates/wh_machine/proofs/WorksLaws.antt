@@ -1,26 +1,28 @@
 -- What an event may come to over a file that its machine was opened from.
 --     IsReached                a machine and what its file says by then
 --     Works                    the commit of an outcome applies, and what is held still stands
---     works_refuses, works_unless, works_last, works_answers     refusals, tests, and replies without a commit
---     works_recorded           a transaction that commits
---     works_dropped            objects that nobody holds are dropped, and others are made
+--     works_refuses, works_unless, works_last, works_does     refusals, tests, and replies without a commit
+--     transaction_commits, works_recorded                     a transaction that commits
+--     works_defined, works_made                               an object that nobody holds is dropped, or none is
 use Rattle.std.proofs.Common.{◌≡◌, ℕ, Bool, true, false, cond, List, []}
-use Rattle.std.proofs.Common.{◌∷◌, ◌++◌, map, Option, Some, None, option_map, refl, sym, ap, subst, ◌∙◌, arith}
+use Rattle.std.proofs.Common.{◌∷◌, ◌++◌, map, Option, Some, None, option_map, refl, sym, ap, subst, ◌∙◌, arith, IfSome}
 use Rattle.std.specs.Prelude.{nat_eq, ◌||◌, is_some}
 use Rattle.std.specs.List.{AllByRecursion, list_any}
 use Rattle.std.specs.FinMap.{get}
 use Rattle.std.proofs.lemmas.Bool.Decides.{nat_tests}
 use Rattle.wh_reply.specs.Reply.{Refusal, Reply}
 use Rattle.wh_state.specs.State.{State, Object}
-use Rattle.wh_state.specs.Act.{Act, MakesTable, DropsObject, EditsRows, MakesStream, MovesOffset}
+use Rattle.wh_state.specs.Act.{Act}
 use Rattle.wh_state.specs.Stored.{StoredObject, Stored, object_meant, meant}
+use Rattle.wh_state.specs.Commit.{CreatesTask, SetsTask, StartsRun, FinishesTask}
 use Rattle.wh_state.specs.Commit.{Change, CreatesTable, Drops, PushesVersion, CreatesStream, SetsOffset, all_changed}
-use Rattle.wh_state.specs.Written.{written, act_written, commit_for, kept_after}
+use Rattle.wh_state.specs.Written.{written, commit_for, kept_after}
 use Rattle.wh_state.specs.Sound.{IsSoundObject}
-use Rattle.wh_state.proofs.AllLaws.{all_map, all_append}
+use Rattle.wh_state.proofs.AllLaws.{all_map}
 use Rattle.wh_state.proofs.ActLaws.{AreEditsFrom}
 use Rattle.wh_state.proofs.FirmLaws.{IsFirm}
-use Rattle.wh_state.proofs.WrittenLaws.{AllGo, ActStands, AllStand, ChangeSpares, edit_spares, acts_go}
+use Rattle.wh_state.proofs.WrittenLaws.{AllGo, AllStand, ChangeSpares, acts_go}
+use Rattle.wh_state.proofs.EndLaws.{rows_spare, acts_of_rows}
 use Rattle.wh_machine.specs.Offsets.{offset_moves, acts_of_commit}
 use Rattle.wh_machine.specs.Transaction.{Staged, Transaction, start_of, edit_act, touched, acts_of, commit_refusal}
 use Rattle.wh_machine.specs.Sessions.{Sessions, held_by, is_held, holder}
@@ -81,24 +83,6 @@ works_does s m reply sessions stand = record { goes = tt; stand = stand }
 
 -- ---- a transaction that commits
 
--- edits and moves drop nothing
-act_spares : (stamp start : ℕ) (objects : List StoredObject) (act : Act) → ActStands stamp start objects act
-    → (later : List StoredObject) (id : ℕ) → AllByRecursion (ChangeSpares id) (act_written stamp later act)
-act_spares stamp start objects (EditsRows other e) stands later id = edit_spares stamp later other e id
-act_spares stamp start objects (MovesOffset other offset) stands later id = (tt, tt)
-act_spares stamp start objects (MakesTable name columns retention) stands later id = absurd stands
-act_spares stamp start objects (DropsObject other) stands later id = absurd stands
-act_spares stamp start objects (MakesStream name source is_append_only) stands later id = absurd stands
-
-acts_spare : (stamp start : ℕ) (objects : List StoredObject) (acts : List Act) → AllStand stamp start objects acts
-    → (later : List StoredObject) (id : ℕ) → AllByRecursion (ChangeSpares id) (written stamp later acts)
-acts_spare stamp start objects [] stand later id = tt
-acts_spare stamp start objects (act ∷ acts) stand later id =
-    all_append (ChangeSpares id) (act_written stamp later act)
-    (written stamp (all_changed stamp later (act_written stamp later act)) acts)
-    (act_spares stamp start objects act stand.0 later id)
-    (acts_spare stamp start objects acts stand.1 (all_changed stamp later (act_written stamp later act)) id)
-
 all_spare : (P : ℕ → Type 0) → ((id : ℕ) → P id) → (ids : List ℕ) → AllByRecursion P ids
 all_spare P so [] = tt
 all_spare P so (id ∷ ids) = (so id, all_spare P so ids)
@@ -118,41 +102,51 @@ sessions_through stamp objects cs spares (Some t ∷ others) stand = (
   sessions_through stamp objects cs spares others stand.1,
 )
 
--- edits and moves that stand
-works_acts : (s : Stored) (m : Machine) (reply : Reply) (sessions : Sessions) (start : ℕ) (acts : List Act)
-    → IsReached s m → AllStandOn s.objects sessions → AreEditsFrom 0 acts → AllStand m.state.last start s.objects acts
-    → Works s m (Does reply sessions (Some acts))
-works_acts s m reply sessions start acts reached stand shape acts_stand = record {
-  goes = acts_go m.state.last start 0 s.objects acts shape acts_stand reached.firm;
+-- edits and then moves that stand, of a transaction of that start
+abbrev pub CommitStands : Stored → ℕ → ℕ → Option (List Act) → Type 0
+CommitStands s stamp start found = IfSome found (λ acts. AreEditsFrom 0 acts × AllStand stamp start s.objects acts)
+
+works_acts : (s : Stored) (m : Machine) (reply : Reply) (sessions : Sessions) (start : ℕ) (found : Option (List Act))
+    → IsReached s m → AllStandOn s.objects sessions → CommitStands s m.state.last start found
+    → Works s m (Does reply sessions found)
+works_acts s m reply sessions start None reached stand stands = works_does s m reply sessions stand
+works_acts s m reply sessions start (Some acts) reached stand stands = record {
+  goes = acts_go m.state.last start 0 s.objects acts stands.0 stands.1 reached.firm;
   stand = sessions_through m.state.last s.objects (written m.state.last s.objects acts)
-      (λ id. acts_spare m.state.last start s.objects acts acts_stand s.objects id) sessions stand;
+      (λ id. rows_spare id (written m.state.last s.objects acts)
+      (acts_of_rows m.state.last start s.objects acts stands.1 s.objects)) sessions stand;
 }
 
-works_commit : (s : Stored) (m : Machine) (reply : Reply) (sessions : Sessions) (start : ℕ) (streams : List ℕ)
-    (edits moves : List Act) → IsReached s m → AllStandOn s.objects sessions → AreEditsFrom 0 (edits ++ moves)
-    → AllStand m.state.last start s.objects (edits ++ moves)
-    → Works s m (Does reply sessions (acts_of_commit streams moves edits))
-works_commit s m reply sessions start [] [] moves reached stand shape acts_stand = works_does s m reply sessions stand
-works_commit s m reply sessions start [] (edit ∷ edits) moves reached stand shape acts_stand =
-    works_acts s m reply sessions start (edit ∷ edits ++ moves) reached stand shape acts_stand
-works_commit s m reply sessions start (id ∷ ids) edits moves reached stand shape acts_stand =
-    works_acts s m reply sessions start (edits ++ moves) reached stand shape acts_stand
+stands_some : (s : Stored) (stamp start : ℕ) (streams : List ℕ) (edits moves : List Act)
+    → AreEditsFrom 0 (edits ++ moves) → AllStand stamp start s.objects (edits ++ moves)
+    → CommitStands s stamp start (acts_of_commit streams moves edits)
+stands_some s stamp start [] [] moves shape stand = tt
+stands_some s stamp start [] (edit ∷ edits) moves shape stand = (shape, stand)
+stands_some s stamp start (id ∷ ids) edits moves shape stand = (shape, stand)
 
--- a transaction that stands, where the sessions that it leaves do
-pub works_recorded : (s : Stored) (m : Machine) (reply : Reply) (sessions : Sessions) (t : Transaction) → IsReached s m
-    → AllStandOn s.objects sessions → TransactionStands s.objects t → Works s m (recorded m reply sessions t)
+-- of a transaction that stands and that no limit refuses
+pub transaction_commits : (s : Stored) (m : Machine) (t : Transaction) → IsReached s m
+    → commit_refusal m.state.objects t ≡ None → TransactionStands s.objects t
+    → CommitStands s m.state.last (start_of t) (acts_of m.state.objects t)
 unfolding acts_of
-works_recorded s m reply sessions t reached stand stands =
-    works_unless s m (commit_refusal m.state.objects t) _ reached (λ none.
-    works_commit s m reply sessions (start_of t) t.streams (map edit_act (touched t))
-    (offset_moves m.state.objects (start_of t) t.streams) reached stand
+transaction_commits s m t reached none stands =
+    stands_some s m.state.last (start_of t) t.streams (map edit_act (touched t))
+    (offset_moves m.state.objects (start_of t) t.streams)
     (edits_of_rising 0 (touched t) (offset_moves m.state.objects (start_of t) t.streams) (entries_rise t)
     (they_move m.state.objects (start_of t) t.streams))
     (subst (λ (objects : List Object). AllStand m.state.last (start_of t) s.objects
     (map edit_act (touched t) ++ offset_moves objects (start_of t) t.streams)) (sym (objects_meant s m reached))
     (commit_stands m.state.committed m.state.last reached.sound.state.ordered s.objects t
     (subst (AllByRecursion (IsSoundObject m.state.committed)) (objects_meant s m reached) reached.sound.state.objects)
-    (subst (λ (objects : List Object). commit_refusal objects t ≡ None) (objects_meant s m reached) none) stands)))
+    (subst (λ (objects : List Object). commit_refusal objects t ≡ None) (objects_meant s m reached) none) stands))
+
+-- where the sessions that it leaves stand
+pub works_recorded : (s : Stored) (m : Machine) (reply : Reply) (sessions : Sessions) (t : Transaction) → IsReached s m
+    → AllStandOn s.objects sessions → TransactionStands s.objects t → Works s m (recorded m reply sessions t)
+works_recorded s m reply sessions t reached stand stands =
+    works_unless s m (commit_refusal m.state.objects t) _ reached (λ none.
+    works_acts s m reply sessions (start_of t) (acts_of m.state.objects t) reached stand
+    (transaction_commits s m t reached none stands))
 
 -- ---- objects that are made and dropped
 
@@ -187,6 +181,10 @@ only_spares id other apart (CreatesTable c) only = tt
 only_spares id other apart (PushesVersion c) only = tt
 only_spares id other apart (CreatesStream c) only = tt
 only_spares id other apart (SetsOffset target offset) only = tt
+only_spares id other apart (CreatesTask c) only = tt
+only_spares id other apart (SetsTask target state) only = tt
+only_spares id other apart (StartsRun root tasks) only = tt
+only_spares id other apart (FinishesTask root task ending) only = tt
 only_spares id other apart (Drops target) only = λ same. apart (same ∙ only)
 
 pub free_stand : (stamp : ℕ) (objects : List StoredObject) (cs : List Change) (id : ℕ) →

@@ -13,15 +13,19 @@
 use Rattle.std.specs.Prelude.{◌≡◌, ℕ, ◌-◌, ◌<◌, ◌≤◌, max, Bool, true, false, List, [], ◌∷◌, Option, Some, None}
 use Rattle.std.specs.Prelude.{nat_eq, not, ◌&&◌, is_some}
 use Rattle.std.specs.List.{list_any}
+use Rattle.std.specs.Option.{option_map_or}
 use Rattle.std.specs.Option.{IsSomeAnd}
 use Rattle.std.specs.FinMap.{empty}
 use Rattle.wh_ast.specs.declared.dml.Dml.{Dml}
 use Rattle.wh_ast.specs.declared.statement.Statement as tree
 use Rattle.wh_ast.specs.declared.statement.Statement.TheVariants as st
+use Rattle.wh_grammar.specs.Spelled.{TooLong, Unreadable}
 use Rattle.wh_grammar.specs.Spelled.{Asked}
 use Rattle.wh_naming.specs.Changes.{BoundChange, bound_change}
 use Rattle.wh_reply.specs.Reply.{is_refusal}
+use Rattle.wh_state.specs.State.{TaskKind, task_in}
 use Rattle.wh_state.specs.State.{Rows, Kind, TableKind, StreamKind, Object, Table, Stream, table_in, stream_in}
+use Rattle.wh_state.specs.Objects.{task_at}
 use Rattle.wh_state.specs.Objects.{table_at, stream_at}
 use Rattle.wh_machine.specs.Names.{names_from}
 use Rattle.wh_net.specs.Net.{RowChange, patch}
@@ -30,7 +34,10 @@ use Rattle.wh_machine.specs.Transaction.{Transaction}
 use Rattle.wh_machine.specs.Sessions.{Sessions, transaction_in}
 use Rattle.wh_machine.specs.Outcome.{Machine}
 use Rattle.wh_machine.specs.Statements.{streams_read}
-use Rattle.wh_machine.specs.Step.{Event, Command, step}
+use Rattle.wh_graph.specs.Action.{Action, RunsTask, StartsRun, DoesNothing}
+use Rattle.wh_machine.specs.Ticks.{action_at}
+use Rattle.wh_machine.specs.Step.{Event, Command, Tick, reading_of, stamp_of, at_stamp, step}
+use Rattle.wh_state.specs.Task.{Task}
 
 abbrev pub Extends : {X : Type 0} → (X → X → Type 0) → List X → List X → Type 0
 Extends R [] ys = Unit {0}
@@ -50,6 +57,7 @@ pub record IsLaterStream (stamp : ℕ) (old new : Stream) : Type 0 where
 abbrev pub IsLaterKind : ℕ → Kind → Kind → Type 0
 IsLaterKind stamp (TableKind old) new = IsSomeAnd (table_in new) (IsLaterTable stamp old)
 IsLaterKind stamp (StreamKind old) new = IsSomeAnd (stream_in new) (IsLaterStream stamp old)
+IsLaterKind stamp (TaskKind old) new = IsSomeAnd (task_in new) (λ t. Unit {0})
 
 abbrev pub IsLater : ℕ → Object → Object → Type 0
 IsLater stamp old new = IsLaterKind stamp old.kind new.kind
@@ -136,10 +144,23 @@ statement_consumes id m session (st.Dml change) =
     not (is_some (transaction_in m.sessions session)) && change_reads m change id
 statement_consumes id m session _ = false
 
+-- a task by its statement
+abbrev pub task_reads : ℕ → Machine → Option Task → Bool
+task_reads id m found = option_map_or (λ t. change_reads m t.runs.body id) found false
+
+abbrev pub action_consumes : ℕ → Machine → Action → Bool
+action_consumes id m (RunsTask root task) = task_reads id m (task_at m.state.objects task)
+action_consumes id m (StartsRun root) = false
+action_consumes id m DoesNothing = false
+
+-- over the machine at its stamp
 abbrev pub event_consumes : ℕ → Machine → Event → Bool
 event_consumes id m (Command reading session (Asked written)) = statement_consumes id m session written
-event_consumes id m e = false
+event_consumes id m (Command reading session TooLong) = false
+event_consumes id m (Command reading session Unreadable) = false
+event_consumes id m (Tick reading) = action_consumes id m (action_at m)
 
 -- where it isn't refused
 abbrev pub consumes : ℕ → Machine → Event → Bool
-consumes id m e = not (is_refusal (step m e).1) && event_consumes id m e
+consumes id m e =
+    not (is_refusal (step m e).1) && event_consumes id (at_stamp m (stamp_of m.state (reading_of e))) e

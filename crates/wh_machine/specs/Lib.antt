@@ -10,7 +10,9 @@ pub mod Reading
 pub mod Definitions
 pub mod Tables
 pub mod Streams
+pub mod Tasks
 pub mod Statements
+pub mod Ticks
 pub mod Step
 pub mod Script
 pub mod Made

@@ -2,19 +2,21 @@
 --     names_from, names_in     the live objects by their names, ids and columns
 --     refusal_of               the refusal that a failing test comes to
 --     naming_refusal           what is wrong with names and types, or the columns of queries
-use Rattle.std.specs.Prelude.{ℕ, suc, Bool, if◌then◌else◌, List, [], ◌∷◌, ◌++◌, Option, option_map}
+use Rattle.std.specs.Prelude.{ℕ, suc, Bool, if◌then◌else◌, List, [], ◌∷◌, ◌++◌, Option, Some, None, option_map}
 use Rattle.wh_value.specs.declared.limit.Limit.TheVariants as limits
 use Rattle.wh_naming.specs.Findings as naming
 use Rattle.wh_naming.specs.Findings.{Findings, Failing, first_failing}
-use Rattle.wh_naming.specs.Scope.{Named, ObjectKind, TableObject, StreamObject}
-use Rattle.wh_ddl_naming.specs.Objects.{Names}
+use Rattle.wh_naming.specs.Scope.{Named, ObjectKind, TableObject, StreamObject, TaskObject}
+use Rattle.wh_ddl_naming.specs.Objects.{Names, TaskRoot}
 use Rattle.wh_reply.specs.Reply.{Refusal, UnknownName, NameTaken, WrongKind, TypeMismatch, OverLimit}
-use Rattle.wh_state.specs.State.{Kind, TableKind, StreamKind, Object, columns_in}
+use Rattle.wh_state.specs.State.{Kind, TableKind, StreamKind, TaskKind, Object, columns_in, task_in}
 use Rattle.wh_machine.specs.Tests.{refused_if, first_of}
+use Rattle.wh_state.specs.Task.{Task}
 
 abbrev pub object_kind : Kind → ObjectKind
 object_kind (TableKind t) = TableObject
 object_kind (StreamKind s) = StreamObject
+object_kind (TaskKind t) = TaskObject
 
 abbrev pub named_object : ℕ → Object → Named
 named_object id o = record { name = o.name; id = id; kind = object_kind o.kind; columns = columns_in o.kind }
@@ -23,9 +25,16 @@ abbrev pub names_from : ℕ → List Object → List Named
 names_from id [] = []
 names_from id (o ∷ os) = (if o.is_live then named_object id o ∷ [] else []) ++ names_from (suc id) os
 
--- no object is a task yet
+abbrev pub root_told : ℕ → Option Task → List TaskRoot
+root_told id None = []
+root_told id (Some t) = record { task = id; root = t.root } ∷ []
+
+abbrev pub roots_from : ℕ → List Object → List TaskRoot
+roots_from id [] = []
+roots_from id (o ∷ os) = (if o.is_live then root_told id (task_in o.kind) else []) ++ roots_from (suc id) os
+
 abbrev pub names_in : List Object → Names
-names_in objects = record { objects = names_from 1 objects; roots = [] }
+names_in objects = record { objects = names_from 1 objects; roots = roots_from 1 objects }
 
 abbrev pub refusal_of : Failing → Refusal
 refusal_of (naming.UnknownName name) = UnknownName name

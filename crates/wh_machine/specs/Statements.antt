@@ -30,6 +30,7 @@ use Rattle.wh_machine.specs.Reading.{objects_seen, instance_read, reading_refusa
 use Rattle.wh_machine.specs.Definitions.{defines}
 use Rattle.wh_machine.specs.Tables.{create_table, drop_table}
 use Rattle.wh_machine.specs.Streams.{create_stream, drop_stream}
+use Rattle.wh_machine.specs.Tasks.{create_task, resume_task, suspend_task, execute_task, drop_task}
 
 -- ---- BEGIN, COMMIT, ROLLBACK
 
@@ -119,7 +120,12 @@ carried_out m session wrong (ddl.CreateTable n) = defines m session n.replaced (
 carried_out m session wrong (ddl.DropTable id) = defines m session (Some id) (drop_table m wrong id)
 carried_out m session wrong (ddl.CreateStream n) = defines m session None (create_stream m wrong n)
 carried_out m session wrong (ddl.DropStream id) = defines m session (Some id) (drop_stream m wrong id)
--- tasks and dynamic tables aren't carried out yet
+carried_out m session wrong (ddl.CreateTask n) = defines m session None (create_task m wrong n)
+carried_out m session wrong (ddl.ResumeTask id) = defines m session None (resume_task m wrong id)
+carried_out m session wrong (ddl.SuspendTask id) = defines m session None (suspend_task m wrong id)
+carried_out m session wrong (ddl.ExecuteTask root) = defines m session None (execute_task m wrong root)
+carried_out m session wrong (ddl.DropTask id) = defines m session (Some id) (drop_task m wrong id)
+-- dynamic tables aren't carried out yet
 carried_out m session wrong _ = Refuses Unsupported
 
 abbrev pub carried_out_as : Machine → ℕ → Meant Bound → Outcome

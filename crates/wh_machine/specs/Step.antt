@@ -9,12 +9,13 @@ use Rattle.std.specs.Prelude.{nat_le, nat_lt, if◌then◌else◌}
 use Rattle.wh_value.specs.Limit.{bound, last_session}
 use Rattle.wh_value.specs.declared.limit.Limit.TheVariants as limits
 use Rattle.wh_grammar.specs.Spelled.{Request, TooLong, Unreadable, Asked}
-use Rattle.wh_reply.specs.Reply.{Reply, Idle, Refused, SyntaxError, NoSuchSession, OverLimit}
+use Rattle.wh_reply.specs.Reply.{Reply, Refused, SyntaxError, NoSuchSession, OverLimit}
 use Rattle.wh_reply.specs.Reply.{is_refusal, print}
 use Rattle.wh_state.specs.State.{State, stamped}
 use Rattle.wh_state.specs.Act.{Act}
-use Rattle.wh_machine.specs.Outcome.{Machine, Outcome, Refuses, Does, settled, acts_in}
+use Rattle.wh_machine.specs.Outcome.{Machine, Outcome, Refuses, settled, acts_in}
 use Rattle.wh_machine.specs.Statements.{carried_out_as, meant_in}
+use Rattle.wh_machine.specs.Ticks.{ticked}
 
 pub data Event : Type 0 where
   Command : (reading session : ℕ) → Request → Event
@@ -36,10 +37,9 @@ commanded m session Unreadable = Refuses SyntaxError
 commanded m session (Asked tree) =
     if is_session session then carried_out_as m session (meant_in m tree) else Refuses (NoSuchSession session)
 
--- nothing is ever due yet at a tick
 abbrev pub outcome_of : Machine → Event → Outcome
 outcome_of m (Command reading session request) = commanded m session request
-outcome_of m (Tick reading) = Does Idle m.sessions None
+outcome_of m (Tick reading) = ticked m
 
 -- ---- the step
 

@@ -1,5 +1,6 @@
 pub mod WritingLaws
+pub mod TaskLaws
 pub mod CommitLaws
 pub mod FileLaws
-pub mod FaultLaws
 pub mod ShapeLemmas
+pub mod FieldLaws

@@ -1,9 +1,14 @@
 -- Pieces that are written one after the other.
-use Rattle.std.proofs.Common.{◌≡◌, ℕ, List, ◌++◌, ◌∙◌, ap, append_assoc}
+use Rattle.std.proofs.Common.{◌≡◌, ℕ, List, [], ◌∷◌, ◌++◌, map, sym, ◌∙◌, ap, append_assoc}
+use Rattle.std.proofs.lemmas.Simd.{map-map}
 use Rattle.std.specs.Int.{w32, w64, to_be_bytes}
 use Rattle.wh_frame.specs.Spelling.{list_bytes}
-use Rattle.wh_state.specs.Commit.{Commit}
-use Rattle.wh_state.specs.Spelling.{payload_of, change_bytes, offset_bytes}
+use Rattle.wh_state.specs.Commit.{TextCommit, change_as_text}
+use Rattle.wh_state.specs.Spelling.{text_payload, change_bytes, offset_bytes, truth_byte, state_bytes}
+use Rattle.wh_state.specs.Task.{TaskState}
+use Rattle.wh_task.specs.declared.task.TaskBody.{TaskBody}
+use Rattle.wh_record.specs.declared.commit.ChangeIn.{ChangeIn}
+use Rattle.wh_record.specs.View.{change_of, written_of}
 
 pub four_written : (a b c d before one two three after : List ℕ)
     → one ≡ before ++ a → two ≡ one ++ b → three ≡ two ++ c → after ≡ three ++ d → after ≡ before ++ (a ++ b ++ c ++ d)
@@ -22,10 +27,26 @@ unfolding offset_bytes
 offset_written id offset before one after p q =
     two_written (to_be_bytes w32 id) (to_be_bytes w64 offset) before one after p q
 
+-- the id and the state are the change
+pub state_written : (id : ℕ) (s : TaskState) (before one two three four after : List ℕ)
+    → one ≡ before ++ to_be_bytes w32 id → two ≡ one ++ truth_byte s.is_resumed ∷ [] → three ≡ two ++ to_be_bytes w64 s.base
+    → four ≡ three ++ to_be_bytes w64 s.last_start → after ≡ four ++ to_be_bytes w32 s.failures
+    → after ≡ before ++ state_bytes id s
+unfolding state_bytes
+state_written id s before one two three four after p q r t u =
+    let whole : after ≡ ((((before ++ to_be_bytes w32 id) ++ truth_byte s.is_resumed ∷ []) ++ to_be_bytes w64 s.base)
+    ++ to_be_bytes w64 s.last_start) ++ to_be_bytes w32 s.failures = cc in
+    whole ∙ simp append_assoc
+
 -- the stamp and the changes are the commit
-pub commit_written : (c : Commit) (before one after : List ℕ) → one ≡ before ++ to_be_bytes w64 c.stamp
+pub commit_written : (c : TextCommit) (before one after : List ℕ) → one ≡ before ++ to_be_bytes w64 c.stamp
     → after ≡ one ++ list_bytes change_bytes c.changes
-    → after ≡ before ++ payload_of c
-unfolding payload_of
+    → after ≡ before ++ text_payload c
+unfolding text_payload
 commit_written c before one after p q =
     two_written (to_be_bytes w64 c.stamp) (list_bytes change_bytes c.changes) before one after p q
+
+-- what is written of changes is what their texts say
+pub as_written : (changes : List (ChangeIn TaskBody))
+    → map written_of changes ≡ map change_as_text (map change_of changes)
+as_written changes = sym (map-map change_as_text change_of changes)

@@ -1,10 +1,12 @@
--- Reading commits.
+-- Reading what bytes give of commits.
 use Rattle.std.specs.Prelude.{ℕ, zero, suc, ◌+◌, Bool, true, false, ◌&&◌, List, [], ◌∷◌, length, Option, Some, None}
 use Rattle.std.specs.Prelude.{nat_le, ◌==◌, if◌then◌else◌}
 use Rattle.std.specs.Int.{w32, w64}
 use Rattle.wh_value.specs.Column.{Column, ColumnType, NumberType, VarcharType, BooleanType}
-use Rattle.wh_state.specs.Commit.{TableChange, VersionChange, StreamChange, Change, CreatesTable, Drops}
-use Rattle.wh_state.specs.Commit.{PushesVersion, CreatesStream, SetsOffset, Commit}
+use Rattle.wh_state.specs.Task.{TaskTexts, TaskState, Ending, Succeeded, Failed, Skipped}
+use Rattle.wh_state.specs.Commit.{TableChange, VersionChange, StreamChange, TextChange, CreatesTable, Drops}
+use Rattle.wh_state.specs.Commit.{PushesVersion, CreatesStream, SetsOffset, TextCommit, InTexts, TaskChangeIn}
+use Rattle.wh_state.specs.Commit.{CreatesTask, SetsTask, StartsRun, FinishesTask}
 use Rattle.wh_part.specs.Reading.{Reader, ◌>>=◌, then_at, where_at, as_at, list_at, byte_at, number_at, text_at}
 use Rattle.wh_part.specs.Decoding.{partition_at}
 
@@ -63,23 +65,76 @@ stream_at bytes =
 unfoldable pub offset_at : Reader (ℕ × ℕ)
 offset_at bytes = then_at (number_at w32) (λ _. number_at w64) bytes
 
+-- ---- tasks
+
+abbrev pub ids_at : Reader (List ℕ)
+ids_at = list_at (number_at w32) (number_at w32)
+
+-- of a condition, and of a body
+unfoldable pub texts_at : Reader TaskTexts
+texts_at bytes = as_at (λ p. record { when = p.0; body = p.1 }) (then_at text_at (λ _. text_at)) bytes
+
+unfoldable pub task_at : Reader (TaskChangeIn InTexts)
+task_at bytes =
+    as_at (λ p. record { id = p.0; name = p.1.0; minutes = p.1.1.0; after = p.1.1.1.0; runs = p.1.1.1.1 })
+    (then_at (number_at w32) (λ _. then_at text_at (λ _. then_at (number_at w32) (λ _. then_at ids_at
+    (λ _. texts_at))))) bytes
+
+unfoldable pub truth_at : Reader Bool
+truth_at [] = None
+truth_at (zero ∷ bytes) = Some (false, bytes)
+truth_at (suc zero ∷ bytes) = Some (true, bytes)
+truth_at (suc (suc truth) ∷ bytes) = None
+
+-- the id of a task, and its state
+unfoldable pub state_at : Reader (ℕ × TaskState)
+state_at bytes =
+    as_at (λ p. (p.0, record { is_resumed = p.1.0; base = p.1.1.0; last_start = p.1.1.1.0; failures = p.1.1.1.1 }))
+    (then_at (number_at w32) (λ _. then_at truth_at (λ _. then_at (number_at w64) (λ _. then_at (number_at w64)
+    (λ _. number_at w32))))) bytes
+
+unfoldable pub rising_ids_at : Reader (List ℕ)
+rising_ids_at bytes = where_at (numbers_rise 0) ids_at bytes
+
+-- the id of a root, and the tasks of its run
+unfoldable pub run_at : Reader (ℕ × List ℕ)
+run_at bytes = then_at (number_at w32) (λ _. rising_ids_at) bytes
+
+unfoldable pub ending_at : Reader Ending
+ending_at [] = None
+ending_at (zero ∷ bytes) = None
+ending_at (suc zero ∷ bytes) = Some (Succeeded, bytes)
+ending_at (suc (suc zero) ∷ bytes) = Some (Failed, bytes)
+ending_at (suc (suc (suc zero)) ∷ bytes) = Some (Skipped, bytes)
+ending_at (suc (suc (suc (suc ending))) ∷ bytes) = None
+
+-- the ids of a root and of a task of its run, and how that ended
+unfoldable pub end_at : Reader (ℕ × (ℕ × Ending))
+end_at bytes = then_at (number_at w32) (λ _. then_at (number_at w32) (λ _. ending_at)) bytes
+
+-- ---- commits
+
 -- what a tag announces
-abbrev pub change_behind : ℕ → Reader Change
+abbrev pub change_behind : ℕ → Reader TextChange
 change_behind tag bytes =
     if tag == 1 then as_at CreatesTable table_at bytes
     else if tag == 2 then as_at Drops (number_at w32) bytes
     else if tag == 3 then as_at CreatesStream stream_at bytes
+    else if tag == 4 then as_at CreatesTask task_at bytes
+    else if tag == 5 then as_at (λ p. SetsTask p.0 p.1) state_at bytes
+    else if tag == 6 then as_at (λ p. StartsRun p.0 p.1) run_at bytes
+    else if tag == 7 then as_at (λ p. FinishesTask p.0 p.1.0 p.1.1) end_at bytes
     else if tag == 10 then as_at PushesVersion version_at bytes
     else if tag == 11 then as_at (λ p. SetsOffset p.0 p.1) offset_at bytes
     else None
 
-unfoldable pub change_at : Reader Change
+unfoldable pub change_at : Reader TextChange
 change_at bytes = byte_at bytes >>= λ tag. change_behind tag.0 tag.1
 
-unfoldable pub commit_at : Reader Commit
+unfoldable pub commit_at : Reader TextCommit
 commit_at bytes = as_at (λ p. record { stamp = p.0; changes = p.1 })
     (then_at (number_at w64) (λ _. list_at (number_at w32) change_at)) bytes
 
 -- the commit that all of the bytes spell
-unfoldable pub commit_of_all : List ℕ → Option Commit
+unfoldable pub commit_of_all : List ℕ → Option TextCommit
 commit_of_all bytes = commit_at bytes >>= λ c. if length c.1 == 0 then Some c.0 else None

@@ -1,40 +1,15 @@
 -- What the bytes of commits and files fix.
---     PayloadFixesCommit          of a commit
---     FileFixesPayloads           of the records of a file
---     FileFixesStored             of a whole file: what it keeps
---     FileFixesState              and the state that it stands for
---     FirstFaultIsOne             of a file that stands for no state
---     FaultyFileStandsForNone     a file has a first fault, or stands for a state, but not both
-use Rattle.std.specs.Prelude.{◌≡◌, ℕ, ◌<◌, List, length}
+--     PayloadFixesTextCommit     of a commit: what its texts say
+--     FileFixesPayloads          of a file: its records
+use Rattle.std.specs.Prelude.{◌≡◌, ℕ, List}
 use Rattle.wh_frame.specs.File.{IsFileOf}
-use Rattle.wh_state.specs.State.{State}
-use Rattle.wh_state.specs.Stored.{Stored}
-use Rattle.wh_state.specs.Commit.{Commit}
-use Rattle.wh_state.specs.Spelling.{payload_of, IsCommit}
-use Rattle.wh_state.specs.File.{Keeps, Stands}
-use Rattle.wh_state.specs.Fault.{IsFirstFault}
+use Rattle.wh_state.specs.Commit.{TextCommit}
+use Rattle.wh_state.specs.Spelling.{text_payload, IsTextCommit}
 
--- no two commits have one payload
-abbrev pub PayloadFixesCommit : Type 0
-PayloadFixesCommit = (c d : Commit) → IsCommit c → IsCommit d → payload_of c ≡ payload_of d → c ≡ d
+-- no two commits with other texts have one payload
+abbrev pub PayloadFixesTextCommit : Type 0
+PayloadFixesTextCommit = (c d : TextCommit) → IsTextCommit c → IsTextCommit d → text_payload c ≡ text_payload d → c ≡ d
 
 -- no bytes are a file of two lists of payloads
 abbrev pub FileFixesPayloads : Type 0
 FileFixesPayloads = (ps qs : List (List ℕ)) (bytes : List ℕ) → IsFileOf ps bytes → IsFileOf qs bytes → ps ≡ qs
-
--- no bytes keep two things
-abbrev pub FileFixesStored : Type 0
-FileFixesStored = (bytes : List ℕ) (a b : Stored) → Keeps bytes a → Keeps bytes b → a ≡ b
-
--- no bytes stand for two states
-abbrev pub FileFixesState : Type 0
-FileFixesState = (bytes : List ℕ) (a b : State) → Stands bytes a → Stands bytes b → a ≡ b
-
--- no two positions are where a file has its first fault
-abbrev pub FirstFaultIsOne : Type 0
-FirstFaultIsOne = (file : List ℕ) (a b : ℕ) → IsFirstFault file a → IsFirstFault file b → a ≡ b
-
--- a longer file than 8 bytes that has a first fault stands for no state
-abbrev pub FaultyFileStandsForNone : Type 0
-FaultyFileStandsForNone = (file : List ℕ) (at : ℕ) (state : State) → 8 < length file → IsFirstFault file at
-    → Stands file state → ⊥

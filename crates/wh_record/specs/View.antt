@@ -1,5 +1,7 @@
 -- What the commits of the code stand for.
 --     commit_of           the commit of the machine
+--     text_commit_of      and what bytes give of one
+--     written_of          a change as its bytes give it
 --     HasRow, HasRows     rows that may be written, which the code's types leave open
 use Rattle.std.specs.Prelude.{◌≡◌, ℕ, length, map}
 use Rattle.std.specs.List.{AllByRecursion}
@@ -10,10 +12,16 @@ use Rattle.wh_state.specs.Commit as machine
 use Rattle.wh_record.specs.declared.commit.TableChange.{TableChange}
 use Rattle.wh_record.specs.declared.commit.VersionChange.{VersionChange}
 use Rattle.wh_record.specs.declared.commit.StreamChange.{StreamChange}
-use Rattle.wh_record.specs.declared.commit.Change.{Change}
-use Rattle.wh_record.specs.declared.commit.Change.TheVariants.{CreatesTable, Drops, PushesVersion}
-use Rattle.wh_record.specs.declared.commit.Change.TheVariants.{CreatesStream, SetsOffset}
-use Rattle.wh_record.specs.declared.commit.Commit.{Commit}
+use Rattle.wh_record.specs.declared.commit.TaskTexts.{TaskTexts}
+use Rattle.wh_record.specs.declared.commit.TaskChangeIn.{TaskChangeIn}
+use Rattle.wh_record.specs.declared.commit.ChangeIn.{ChangeIn}
+use Rattle.wh_record.specs.declared.commit.ChangeIn.TheVariants.{CreatesTable, Drops, PushesVersion}
+use Rattle.wh_record.specs.declared.commit.ChangeIn.TheVariants.{CreatesStream, SetsOffset}
+use Rattle.wh_record.specs.declared.commit.ChangeIn.TheVariants.{CreatesTask, SetsTask, StartsRun, FinishesTask}
+use Rattle.wh_record.specs.declared.commit.CommitIn.{CommitIn}
+use Rattle.wh_state.specs.Task as state
+use Rattle.wh_task.specs.declared.task.TaskBody.{TaskBody}
+use Rattle.wh_task.specs.View.{state_of, ending_of, body_of}
 
 abbrev pub table_change_of : TableChange → machine.TableChange
 table_change_of c =
@@ -38,15 +46,49 @@ stream_change_of c = record {
   offset = c.offset;
 }
 
-abbrev pub change_of : Change → machine.Change
-change_of (CreatesTable c) = machine.CreatesTable (table_change_of c)
-change_of (Drops id) = machine.Drops id
-change_of (PushesVersion c) = machine.PushesVersion (version_change_of c)
-change_of (CreatesStream c) = machine.CreatesStream (stream_change_of c)
-change_of (SetsOffset id offset) = machine.SetsOffset id offset
+-- ---- what is told of statements by their texts, and with what they mean
 
-abbrev pub commit_of : Commit → machine.Commit
-commit_of c = record { stamp = c.stamp; changes = map change_of c.changes.items }
+abbrev pub texts_in : TaskTexts → state.TaskTexts
+texts_in t = record { when = t.when; body = t.body }
+
+abbrev pub task_in : {R : Type 0} {form : machine.Form} → (R → machine.TaskPart form) → TaskChangeIn R
+    → machine.TaskChangeIn form
+task_in runs_of c =
+    record { id = c.id; name = c.name; minutes = c.minutes; after = c.after.items; runs = runs_of c.runs }
+
+abbrev pub change_in : {R : Type 0} {form : machine.Form} → (R → machine.TaskPart form) → ChangeIn R
+    → machine.ChangeIn form
+change_in runs_of (CreatesTable c) = machine.CreatesTable (table_change_of c)
+change_in runs_of (Drops id) = machine.Drops id
+change_in runs_of (PushesVersion c) = machine.PushesVersion (version_change_of c)
+change_in runs_of (CreatesStream c) = machine.CreatesStream (stream_change_of c)
+change_in runs_of (SetsOffset id offset) = machine.SetsOffset id offset
+change_in runs_of (CreatesTask c) = machine.CreatesTask (task_in runs_of c)
+change_in runs_of (SetsTask id state) = machine.SetsTask id (state_of state)
+change_in runs_of (StartsRun root tasks) = machine.StartsRun root tasks.items
+change_in runs_of (FinishesTask root task ending) = machine.FinishesTask root task (ending_of ending)
+
+abbrev pub commit_in : {R : Type 0} {form : machine.Form} → (R → machine.TaskPart form) → CommitIn R
+    → machine.CommitIn form
+commit_in runs_of c = record { stamp = c.stamp; changes = map (change_in runs_of) c.changes.items }
+
+abbrev pub text_change_of : ChangeIn TaskTexts → machine.TextChange
+text_change_of c = change_in texts_in c
+
+abbrev pub text_commit_of : CommitIn TaskTexts → machine.TextCommit
+text_commit_of c = commit_in texts_in c
+
+abbrev pub task_change_of : TaskChangeIn TaskBody → machine.TaskChange
+task_change_of c = task_in body_of c
+
+abbrev pub change_of : ChangeIn TaskBody → machine.Change
+change_of c = change_in body_of c
+
+abbrev pub written_of : ChangeIn TaskBody → machine.TextChange
+written_of c = machine.change_as_text (change_of c)
+
+abbrev pub commit_of : CommitIn TaskBody → machine.Commit
+commit_of c = commit_in body_of c
 
 -- a row of a partition that is added has the width's number of values, and they are within the format
 abbrev pub HasRow : ℕ → ℕ × Row → Type 0

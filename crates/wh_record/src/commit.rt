@@ -1,4 +1,5 @@
 use wh_part::Partition;
+use wh_task::{Ending, TaskBody, TaskState};
 use wh_value::{Column, Text};
 
 /// The byte before a new table.
@@ -9,6 +10,18 @@ pub(crate) const DROP_TAG: u8 = 2;
 
 /// The byte before a new stream.
 pub(crate) const STREAM_TAG: u8 = 3;
+
+/// The byte before a new task.
+pub(crate) const TASK_TAG: u8 = 4;
+
+/// The byte before the state of a task.
+pub(crate) const STATE_TAG: u8 = 5;
+
+/// The byte before a run that begins.
+pub(crate) const RUN_TAG: u8 = 6;
+
+/// The byte before the end of a task in a run.
+pub(crate) const END_TAG: u8 = 7;
 
 /// The byte before a new version.
 pub(crate) const VERSION_TAG: u8 = 10;
@@ -47,21 +60,71 @@ pub struct StreamChange {
     pub offset: u64,
 }
 
+/// The texts of a task's condition and body. An empty one stands for no condition.
+#[derive(Debug, Drop)]
+pub struct TaskTexts {
+    pub when: Text,
+    pub body: Text,
+}
+
+/// A new task behind those of some ids. What it runs is told by its texts, as bytes tell it, or
+/// with what they mean.
+#[derive(Debug, Drop)]
+pub struct TaskChangeIn<R> {
+    pub id: u32,
+    pub name: Text,
+    pub minutes: u32,
+    pub after: Vec<u32>,
+    pub runs: R,
+}
+
 /// One of the things that a commit changes.
 #[derive(Debug, Drop)]
-pub enum Change {
+pub enum ChangeIn<R> {
     CreatesTable(TableChange),
     /// The object of that id is dropped.
     Drops(u32),
     PushesVersion(VersionChange),
     CreatesStream(StreamChange),
     /// The stream of that id is consumed up to that stamp.
-    SetsOffset { id: u32, offset: u64 },
+    SetsOffset {
+        id: u32,
+        offset: u64,
+    },
+    CreatesTask(TaskChangeIn<R>),
+    /// The task of that id has another state.
+    SetsTask {
+        id: u32,
+        state: TaskState,
+    },
+    /// A run of the root of that id begins, with these tasks by rising ids.
+    StartsRun {
+        root: u32,
+        tasks: Vec<u32>,
+    },
+    /// A task of the run of the root of that id ended.
+    FinishesTask {
+        root: u32,
+        task: u32,
+        ending: Ending,
+    },
 }
 
 /// Changes, and the stamp at which they are made. There may be none.
 #[derive(Debug, Drop)]
-pub struct Commit {
+pub struct CommitIn<R> {
     pub stamp: u64,
-    pub changes: Vec<Change>,
+    pub changes: Vec<ChangeIn<R>>,
 }
+
+/// What its bytes give of a commit.
+pub type TextCommit = CommitIn<TaskTexts>;
+
+pub type TextChange = ChangeIn<TaskTexts>;
+
+/// A commit with what its texts mean.
+pub type Commit = CommitIn<TaskBody>;
+
+pub type Change = ChangeIn<TaskBody>;
+
+pub type TaskChange = TaskChangeIn<TaskBody>;

@@ -6,14 +6,16 @@ ghost use Rattle.wh_part.specs.Decoding.{partition_at};
 ghost use Rattle.wh_record.specs.Decoding.{type_at, column_at, table_at, removed_at, version_at};
 ghost use Rattle.wh_record.specs.Decoding.{stream_kind_at, stream_at, offset_at, change_behind};
 ghost use Rattle.wh_record.specs.Decoding.{change_at, commit_at, commit_of_all};
-ghost use Rattle.wh_record.specs.Laws.{PayloadFixesCommit, FileFixesPayloads, FileFixesStored};
-ghost use Rattle.wh_record.specs.Laws.{FileFixesState, FirstFaultIsOne, FaultyFileStandsForNone};
+ghost use Rattle.wh_record.specs.Laws.{PayloadFixesTextCommit, FileFixesPayloads};
 ghost use Rattle.wh_record.specs.View.{table_change_of, version_change_of, stream_change_of};
-ghost use Rattle.wh_record.specs.View.{change_of, commit_of};
+ghost use Rattle.wh_record.specs.View.{text_change_of, text_commit_of};
 
-use crate::commit::{DROP_TAG, OFFSET_TAG, STREAM_TAG, TABLE_TAG, VERSION_TAG};
+use crate::commit::{
+    DROP_TAG, END_TAG, OFFSET_TAG, RUN_TAG, STATE_TAG, STREAM_TAG, TABLE_TAG, TASK_TAG, VERSION_TAG,
+};
 use crate::format::rise;
-use crate::{Change, Commit, StreamChange, TableChange, VersionChange};
+use crate::task_decoding::{read_end, read_run, read_state, read_task};
+use crate::{StreamChange, TableChange, TextChange, TextCommit, VersionChange};
 use std::alloc::{AllocError, Global};
 use wh_part::{Partition, ReadError, read_byte, read_text, read_u32, read_u64};
 use wh_value::{Column, ColumnType};
@@ -201,35 +203,55 @@ fn read_offset(bytes: &[u8]) -> Result<((u32, u64), &[u8]), ReadError>
     Ok(((id, offset), rest))
 }
 
-fn read_change_behind(alloc: Global, tag: u8, bytes: &[u8]) -> Result<(Change, &[u8]), ReadError>
-    ensures { Gives (λ x. (change_of x.0, x.1.now)) result (change_behind tag bytes.now) }
+fn read_change_behind(
+    alloc: Global,
+    tag: u8,
+    bytes: &[u8],
+) -> Result<(TextChange, &[u8]), ReadError>
+    ensures { Gives (λ x. (text_change_of x.0, x.1.now)) result (change_behind tag bytes.now) }
 {
     if tag == TABLE_TAG {
         let (table, rest) = read_table(alloc, bytes)?;
-        return Ok((Change::CreatesTable(table), rest));
+        return Ok((TextChange::CreatesTable(table), rest));
     }
     if tag == DROP_TAG {
         let (id, rest) = read_u32(bytes)?;
-        return Ok((Change::Drops(id), rest));
+        return Ok((TextChange::Drops(id), rest));
     }
     if tag == STREAM_TAG {
         let (stream, rest) = read_stream(alloc, bytes)?;
-        return Ok((Change::CreatesStream(stream), rest));
+        return Ok((TextChange::CreatesStream(stream), rest));
+    }
+    if tag == TASK_TAG {
+        let (task, rest) = read_task(alloc, bytes)?;
+        return Ok((TextChange::CreatesTask(task), rest));
+    }
+    if tag == STATE_TAG {
+        let ((id, state), rest) = read_state(bytes)?;
+        return Ok((TextChange::SetsTask { id, state }, rest));
+    }
+    if tag == RUN_TAG {
+        let ((root, tasks), rest) = read_run(alloc, bytes)?;
+        return Ok((TextChange::StartsRun { root, tasks }, rest));
+    }
+    if tag == END_TAG {
+        let ((root, task, ending), rest) = read_end(bytes)?;
+        return Ok((TextChange::FinishesTask { root, task, ending }, rest));
     }
     if tag == VERSION_TAG {
         let (version, rest) = read_version(alloc, bytes)?;
-        return Ok((Change::PushesVersion(version), rest));
+        return Ok((TextChange::PushesVersion(version), rest));
     }
     if tag == OFFSET_TAG {
         let ((id, offset), rest) = read_offset(bytes)?;
-        return Ok((Change::SetsOffset { id, offset }, rest));
+        return Ok((TextChange::SetsOffset { id, offset }, rest));
     }
     Err(ReadError::Malformed)
 }
 
 #[tactic(auto, unfolding(crate::specs::Decoding::change_at))]
-fn read_change(alloc: Global, bytes: &[u8]) -> Result<(Change, &[u8]), ReadError>
-    ensures { Gives (λ x. (change_of x.0, x.1.now)) result (change_at bytes.now) }
+fn read_change(alloc: Global, bytes: &[u8]) -> Result<(TextChange, &[u8]), ReadError>
+    ensures { Gives (λ x. (text_change_of x.0, x.1.now)) result (change_at bytes.now) }
 {
     let (tag, rest) = read_byte(bytes)?;
     let (change, rest) = read_change_behind(alloc, tag, rest)?;
@@ -240,8 +262,8 @@ fn read_each_change(
     alloc: Global,
     count: u32,
     bytes: &[u8],
-) -> Result<(Vec<Change>, &[u8]), ReadError>
-    ensures { Gives (λ x. (map change_of x.0.items, x.1.now)) result
+) -> Result<(Vec<TextChange>, &[u8]), ReadError>
+    ensures { Gives (λ x. (map text_change_of x.0.items, x.1.now)) result
         (items_at change_at count bytes.now) }
 {
     let mut changes = Vec::new(alloc);
@@ -254,8 +276,8 @@ fn read_each_change(
     Ok((changes, rest))
 }
 
-fn read_changes(alloc: Global, bytes: &[u8]) -> Result<(Vec<Change>, &[u8]), ReadError>
-    ensures { Gives (λ x. (map change_of x.0.items, x.1.now)) result
+fn read_changes(alloc: Global, bytes: &[u8]) -> Result<(Vec<TextChange>, &[u8]), ReadError>
+    ensures { Gives (λ x. (map text_change_of x.0.items, x.1.now)) result
         (list_at (number_at w32) change_at bytes.now) }
 {
     let (count, rest) = read_u32(bytes)?;
@@ -264,17 +286,17 @@ fn read_changes(alloc: Global, bytes: &[u8]) -> Result<(Vec<Change>, &[u8]), Rea
 }
 
 #[tactic(auto, unfolding(crate::specs::Decoding::commit_at))]
-fn read_commit(alloc: Global, bytes: &[u8]) -> Result<(Commit, &[u8]), ReadError>
-    ensures { Gives (λ x. (commit_of x.0, x.1.now)) result (commit_at bytes.now) }
+fn read_commit(alloc: Global, bytes: &[u8]) -> Result<(TextCommit, &[u8]), ReadError>
+    ensures { Gives (λ x. (text_commit_of x.0, x.1.now)) result (commit_at bytes.now) }
 {
     let (stamp, rest) = read_u64(bytes)?;
     let (changes, rest) = read_changes(alloc, rest)?;
-    Ok((Commit { stamp, changes }, rest))
+    Ok((TextCommit { stamp, changes }, rest))
 }
 
 #[tactic(auto, unfolding(crate::specs::Decoding::commit_of_all))]
-fn read_all(alloc: Global, bytes: &[u8]) -> Result<Commit, ReadError>
-    ensures { Gives (λ commit. commit_of commit) result (commit_of_all bytes.now) }
+fn read_all(alloc: Global, bytes: &[u8]) -> Result<TextCommit, ReadError>
+    ensures { Gives (λ commit. text_commit_of commit) result (commit_of_all bytes.now) }
 {
     let (commit, rest) = read_commit(alloc, bytes)?;
     if !rest.is_empty() {
@@ -283,20 +305,21 @@ fn read_all(alloc: Global, bytes: &[u8]) -> Result<Commit, ReadError>
     Ok(commit)
 }
 
-impl Commit {
+impl TextCommit {
     ghost use Rattle.std.specs.Prelude.{◌≡◌, IfSome, IfNone, IfOk};
     ghost use Rattle.wh_state.specs.Commit as machine;
-    ghost use Rattle.wh_state.specs.Spelling.{payload_of, IsCommit};
-    ghost use Rattle.wh_record.specs.View.{commit_of};
+    ghost use Rattle.wh_state.specs.Spelling.{text_payload, IsTextCommit};
+    ghost use Rattle.wh_record.specs.View.{text_commit_of};
 
-    /// The commit of a record's payload. None exactly where the bytes are no commit.
-    pub fn decode(alloc: Global, payload: &[u8]) -> Option<Result<Commit, AllocError>>
+    /// What a record's payload says of a commit. None exactly where the bytes are no commit.
+    pub fn decode(alloc: Global, payload: &[u8]) -> Option<Result<TextCommit, AllocError>>
         ensures found { IfSome result (λ found. IfOk found (λ commit.
-            IsCommit (commit_of commit) × (payload.now ≡ payload_of (commit_of commit)))) }
-        ensures again { (c : machine.Commit) → IsCommit c → payload.now ≡ payload_of c →
-            IfSome result (λ found. IfOk found (λ commit. commit_of commit ≡ c)) }
-        ensures none { IfNone result ((c : machine.Commit) → IsCommit c →
-            payload.now ≡ payload_of c → ⊥) }
+            IsTextCommit (text_commit_of commit)
+            × (payload.now ≡ text_payload (text_commit_of commit)))) }
+        ensures again { (c : machine.TextCommit) → IsTextCommit c → payload.now ≡ text_payload c →
+            IfSome result (λ found. IfOk found (λ commit. text_commit_of commit ≡ c)) }
+        ensures none { IfNone result ((c : machine.TextCommit) → IsTextCommit c →
+            payload.now ≡ text_payload c → ⊥) }
     {
         match read_all(alloc, payload) {
             Ok(commit) => Some(Ok(commit)),
@@ -306,18 +329,9 @@ impl Commit {
     }
 }
 
-/// No two commits have one payload, no bytes are a file of two lists of records, none keep two
-/// things, and none stand for two states.
+/// No two commits with other texts have one payload, and no bytes are a file of two lists of
+/// records.
 pub fn spelling_fixes_commits()
-    ensures payload { PayloadFixesCommit }
+    ensures payload { PayloadFixesTextCommit }
     ensures records { FileFixesPayloads }
-    ensures stored { FileFixesStored }
-    ensures state { FileFixesState }
-{}
-
-/// No two positions are where a file has its first fault, and a file of more than 8 bytes that has
-/// one stands for no state.
-pub fn spelling_fixes_faults()
-    ensures position { FirstFaultIsOne }
-    ensures no_state { FaultyFileStandsForNone }
 {}

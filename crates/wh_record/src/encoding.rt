@@ -1,4 +1,4 @@
-ghost use Rattle.std.specs.Prelude.{◌≡◌, ◌<◌, ◌^◌, ◌∷◌, [], ◌++◌, map, length, OnOk};
+ghost use Rattle.std.specs.Prelude.{◌≡◌, ◌<◌, ◌^◌, ◌++◌, map, length, OnOk};
 ghost use Rattle.std.specs.List.{flat_map, AllByRecursion};
 ghost use Rattle.std.specs.Int.{w32, w64, to_be_bytes};
 ghost use Rattle.wh_frame.specs.Spelling.{list_bytes, partition_bytes, IsPartition};
@@ -6,13 +6,17 @@ ghost use Rattle.wh_state.specs.Spelling.{type_byte, column_bytes, table_bytes, 
 ghost use Rattle.wh_state.specs.Spelling.{stream_kind_byte, stream_bytes, offset_bytes};
 ghost use Rattle.wh_state.specs.Spelling.{change_bytes, payload_of, NumbersRiseFrom, IsColumn};
 ghost use Rattle.wh_state.specs.Spelling.{IsTableChange, IsVersionChange, IsStreamChange, IsChange};
-ghost use Rattle.wh_state.specs.Spelling.{IsCommit};
+ghost use Rattle.wh_state.specs.Spelling.{IsTextCommit};
+ghost use Rattle.wh_state.specs.Commit.{as_text};
 ghost use Rattle.wh_value.specs.View.{type_of, column_of};
 ghost use Rattle.wh_record.specs.View.{table_change_of, version_change_of, stream_change_of};
-ghost use Rattle.wh_record.specs.View.{change_of, commit_of};
+ghost use Rattle.wh_record.specs.View.{written_of, commit_of};
 
-use crate::commit::{DROP_TAG, OFFSET_TAG, STREAM_TAG, TABLE_TAG, VERSION_TAG};
+use crate::commit::{
+    DROP_TAG, END_TAG, OFFSET_TAG, RUN_TAG, STATE_TAG, STREAM_TAG, TABLE_TAG, TASK_TAG, VERSION_TAG,
+};
 use crate::format::{has_rows, rise};
+use crate::task_encoding::{write_end, write_run, write_state, write_task};
 use crate::{Change, Commit, StreamChange, TableChange, VersionChange};
 use std::alloc::{AllocError, Global};
 use wh_part::{Partition, write_text, write_u32, write_u64};
@@ -30,7 +34,7 @@ fn byte_of_type(column_type: ColumnType) -> u8
 }
 
 /// Adds the count of a list; one that doesn't fit four bytes is taken for memory that ran out.
-fn write_count(out: &mut Bytes, count: usize) -> Result<(), AllocError>
+pub(crate) fn write_count(out: &mut Bytes, count: usize) -> Result<(), AllocError>
     ensures written { OnOk result (out.new ≡ out.old ++ to_be_bytes w32 count) }
     ensures fits { OnOk result (count < 2 ^ 32) }
 {
@@ -194,8 +198,8 @@ fn write_offset(out: &mut Bytes, id: u32, offset: u64) -> Result<(), AllocError>
 
 #[tactic(auto, unfolding(wh_state::specs::Spelling::change_bytes))]
 fn write_change(out: &mut Bytes, change: &Change) -> Result<(), AllocError>
-    ensures written { OnOk result (out.new ≡ out.old ++ change_bytes (change_of change.now)) }
-    ensures spelled { OnOk result (IsChange (change_of change.now)) }
+    ensures written { OnOk result (out.new ≡ out.old ++ change_bytes (written_of change.now)) }
+    ensures spelled { OnOk result (IsChange (written_of change.now)) }
 {
     match change {
         Change::CreatesTable(table) => {
@@ -218,14 +222,30 @@ fn write_change(out: &mut Bytes, change: &Change) -> Result<(), AllocError>
             out.push(OFFSET_TAG)?;
             write_offset(out, *id, *offset)
         }
+        Change::CreatesTask(task) => {
+            out.push(TASK_TAG)?;
+            write_task(out, task)
+        }
+        Change::SetsTask { id, state } => {
+            out.push(STATE_TAG)?;
+            write_state(out, *id, *state)
+        }
+        Change::StartsRun { root, tasks } => {
+            out.push(RUN_TAG)?;
+            write_run(out, *root, tasks)
+        }
+        Change::FinishesTask { root, task, ending } => {
+            out.push(END_TAG)?;
+            write_end(out, *root, *task, *ending)
+        }
     }
 }
 
 fn write_changes(out: &mut Bytes, changes: &[Change]) -> Result<(), AllocError>
     ensures written { OnOk result (out.new
-        ≡ out.old ++ list_bytes change_bytes (map change_of changes.now)) }
+        ≡ out.old ++ list_bytes change_bytes (map written_of changes.now)) }
     ensures fits { OnOk result (length changes.now < 2 ^ 32) }
-    ensures spelled { OnOk result (AllByRecursion IsChange (map change_of changes.now)) }
+    ensures spelled { OnOk result (AllByRecursion IsChange (map written_of changes.now)) }
 {
     write_count(out, changes.len())?;
     write_each_change(out, changes)?;
@@ -234,8 +254,8 @@ fn write_changes(out: &mut Bytes, changes: &[Change]) -> Result<(), AllocError>
 
 fn write_each_change(out: &mut Bytes, changes: &[Change]) -> Result<(), AllocError>
     ensures written { OnOk result (out.new
-        ≡ out.old ++ flat_map change_bytes (map change_of changes.now)) }
-    ensures spelled { OnOk result (AllByRecursion IsChange (map change_of changes.now)) }
+        ≡ out.old ++ flat_map change_bytes (map written_of changes.now)) }
+    ensures spelled { OnOk result (AllByRecursion IsChange (map written_of changes.now)) }
 {
     for change in changes {
         write_change(out, change)?;
@@ -243,10 +263,10 @@ fn write_each_change(out: &mut Bytes, changes: &[Change]) -> Result<(), AllocErr
     Ok(())
 }
 
-#[tactic(auto, unfolding(wh_state::specs::Spelling::payload_of))]
+#[tactic(auto, unfolding(wh_state::specs::Spelling::text_payload))]
 fn write_commit(out: &mut Bytes, commit: &Commit) -> Result<(), AllocError>
     ensures written { OnOk result (out.new ≡ out.old ++ payload_of (commit_of commit.now)) }
-    ensures spelled { OnOk result (IsCommit (commit_of commit.now)) }
+    ensures spelled { OnOk result (IsTextCommit (as_text (commit_of commit.now))) }
 {
     write_u64(out, commit.stamp)?;
     write_changes(out, &commit.changes)?;
@@ -255,15 +275,17 @@ fn write_commit(out: &mut Bytes, commit: &Commit) -> Result<(), AllocError>
 
 impl Commit {
     ghost use Rattle.std.specs.Prelude.{◌≡◌, IfOk, OnOk};
-    ghost use Rattle.wh_state.specs.Spelling.{payload_of, IsCommit};
+    ghost use Rattle.wh_state.specs.Commit.{as_text};
+    ghost use Rattle.wh_state.specs.Spelling.{payload_of, IsTextCommit};
     ghost use Rattle.wh_record.specs.View.{commit_of};
 
     /// The record of the commit. `AllocError` is also the answer where a list's count doesn't fit
     /// four bytes, a row has another number of values than the width, a number has more than 18
-    /// digits, or the numbers of removed partitions don't rise. No run makes such a commit.
+    /// digits, or the numbers of removed partitions or the ids of a run's tasks don't rise. No run
+    /// makes such a commit.
     pub fn encode(&self, alloc: Global) -> Result<Framed, AllocError>
         ensures payload { IfOk result (λ framed. framed ≡ payload_of (commit_of self.now)) }
-        ensures spelled { OnOk result (IsCommit (commit_of self.now)) }
+        ensures written { OnOk result (IsTextCommit (as_text (commit_of self.now))) }
     {
         let mut payload = Bytes::new(alloc);
         write_commit(&mut payload, self)?;

@@ -37,6 +37,21 @@ pub(crate) fn rise(numbers: &[u64]) -> bool
     true
 }
 
+/// Whether each id is greater than the one before.
+pub(crate) fn ids_rise(ids: &[u32]) -> bool
+    ensures { result ≡ numbers_rise 0 ids.now }
+{
+    let mut last = None;
+    for id in ids {
+        let number = u64::from(*id);
+        if !follows(last, number) {
+            return false;
+        }
+        last = Some(number);
+    }
+    true
+}
+
 /// Always: a text is within the format by its type.
 fn is_text(text: &Text) -> bool
     ensures { IsTrue result ↔ IsText text.now }

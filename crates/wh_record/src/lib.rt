@@ -5,6 +5,11 @@ mod commit;
 mod decoding;
 mod encoding;
 mod format;
+mod task_decoding;
+mod task_encoding;
 
-pub use commit::{Change, Commit, StreamChange, TableChange, VersionChange};
-pub use decoding::{spelling_fixes_commits, spelling_fixes_faults};
+pub use commit::{
+    Change, ChangeIn, Commit, CommitIn, StreamChange, TableChange, TaskChange, TaskChangeIn,
+    TaskTexts, TextChange, TextCommit, VersionChange,
+};
+pub use decoding::spelling_fixes_commits;

@@ -11,7 +11,7 @@ use Rattle.wh_machine.specs.Outcome.{Machine, opened}
 use Rattle.wh_machine.specs.Step.{Event, text}
 use Rattle.wh_machine.specs.Made.{all_made, overflow, fitting}
 use Rattle.wh_machine.specs.Script.{IsScript}
-use Rattle.wh_record.proofs.FileLaws.{file_fixes_stored}
+use Rattle.wh_commit_parse.proofs.FileLaws.{file_fixes_stored}
 use Rattle.wh_world.specs.Crash.{Only}
 use Rattle.wh_world.specs.declared.disk.Disk as disks
 use Rattle.wh_world.specs.declared.source.Source as sources

@@ -19,7 +19,7 @@ use Rattle.wh_world.specs.Crash.{Only}
 use Rattle.wh_world.specs.declared.disk.Disk.{Ghosts}
 use Rattle.wh_journal.specs.Crash.{LeavesOnly, IsKeptOrShort}
 use Rattle.wh_journal.proofs.CrashLemmas.{both, weaker, started}
-use Rattle.wh_record.proofs.FileLaws.{file_fixes_state}
+use Rattle.wh_commit_parse.proofs.FileLaws.{file_fixes_state}
 use Rattle.wh_engine.specs.Leaves.{StandsForEither}
 use Rattle.wh_shell.specs.Crash.{Survives, SurvivesWith}
 use Rattle.wh_shell.proofs.Within.{within_none}

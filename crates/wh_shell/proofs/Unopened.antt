@@ -7,7 +7,7 @@ use Rattle.std.proofs.Common.{ap, ◌∙◌, subst, arith, append-nil}
 use Rattle.wh_state.specs.State.{State}
 use Rattle.wh_machine.specs.Outcome.{opened}
 use Rattle.wh_machine.specs.Step.{Event, text}
-use Rattle.wh_record.proofs.FaultLaws.{faulty_file_stands_for_none}
+use Rattle.wh_commit_parse.proofs.FaultLaws.{faulty_file_stands_for_none}
 use Rattle.wh_world.specs.Crash.{Only}
 use Rattle.wh_world.specs.declared.disk.Disk as disks
 use Rattle.wh_world.specs.declared.source.Source as sources

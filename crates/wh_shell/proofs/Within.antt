@@ -14,7 +14,7 @@ use Rattle.wh_machine.specs.Step.{Event, step, after}
 use Rattle.wh_machine.specs.Stop.{committed_after, StandsWithin}
 use Rattle.wh_machine.proofs.ReplyLaws.{after_append}
 use Rattle.wh_machine.proofs.SoundLaws.{sound_after}
-use Rattle.wh_record.proofs.FileLaws.{file_fixes_state}
+use Rattle.wh_commit_parse.proofs.FileLaws.{file_fixes_state}
 use Rattle.wh_engine.specs.Leaves.{StandsForEither}
 
 -- what was committed after some number of events

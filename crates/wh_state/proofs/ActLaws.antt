@@ -6,14 +6,18 @@
 use Rattle.std.proofs.Common.{◌≡◌, ℕ, suc, ◌+◌, ◌<◌, ◌≤◌, List, [], ◌∷◌, ◌++◌, length, map, Option, Some, None}
 use Rattle.std.proofs.Common.{option_map, refl, sym, ap, subst, ◌∙◌, arith}
 use Rattle.std.specs.List.{AllByRecursion}
-use Rattle.std.proofs.lemmas.List.{map-append}
+use Rattle.std.proofs.lemmas.List.{length-map, map-append}
+use Rattle.wh_state.specs.State.{changed_at, new_object}
+use Rattle.wh_state.specs.State.{TaskKind}
 use Rattle.wh_state.specs.State.{Rows, Contents, nothing_held, Version, Table, Object, at_id, with_id, put_at, dropped}
 use Rattle.wh_state.specs.State.{last_of, content_in, last_content, version_at, stamped, TableKind, StreamKind}
 use Rattle.wh_state.specs.Edits.{Edits, numbers_gone, partitions_made, without, contents_after}
+use Rattle.wh_state.specs.Act.{MakesTask, PutsTask, BeginsRun, EndsTask, on_task_object}
 use Rattle.wh_state.specs.Act.{Act, MakesTable, DropsObject, EditsRows, MakesStream, MovesOffset, edited_table}
 use Rattle.wh_state.specs.Act.{edited_object, moved_object, acted, all_acted, done}
 use Rattle.wh_state.specs.Stored.{StoredVersion, StoredTable, StoredKind, StoredObject, Stored, standing}
 use Rattle.wh_state.specs.Stored.{contents_meant, version_meant, table_meant, object_meant, meant}
+use Rattle.wh_state.specs.Commit.{TaskChange, CreatesTask, on_task_stored}
 use Rattle.wh_state.specs.Commit.{Change, TableChange, StreamChange, CreatesTable, Drops, CreatesStream}
 use Rattle.wh_state.specs.Commit.{SetsOffset, pushed, pushed_object, offset_set, changed, all_changed, applied}
 use Rattle.wh_state.specs.Orderly.{IsOrderly, IsOrderlyVersion, IsOrderlyTable, IsOrderlyKind, IsOrderlyObject}
@@ -23,7 +27,10 @@ use Rattle.wh_state.specs.Written.{version_written, version_written_to, act_writ
 use Rattle.wh_state.proofs.AllLaws.{all_at}
 use Rattle.wh_state.proofs.IdLaws.{map_changed, at_other, with_same}
 use Rattle.wh_state.proofs.EditLaws.{edits_written}
+use Rattle.wh_state.proofs.MeaningLaws.{root_meant}
 use Rattle.wh_state.proofs.MeaningLaws.{at_id_meant, with_id_meant, last_content_meant, columns_meant}
+use Rattle.wh_state.specs.Task.{Task, new_task, with_state, with_run, with_ended, root_by}
+use Rattle.wh_state.specs.Objects.{task_at}
 
 -- ---- a table's next version
 
@@ -101,6 +108,30 @@ offset_meant stamp objects id offset =
         ≡ moved_object offset (object_meant (record o { kind = k }))
     by_kind o (TableKind t) = refl
     by_kind o (StreamKind s) = refl
+    by_kind o (TaskKind t) = refl
+
+on_task_meant : (f : Task → Task) (objects : List StoredObject) (id : ℕ)
+    → map object_meant (changed_at objects id (on_task_stored f))
+    ≡ changed_at (map object_meant objects) id (on_task_object f)
+on_task_meant f objects id =
+    map_changed object_meant (on_task_stored f) (on_task_object f) (λ o. by_kind o o.kind) objects id
+  where
+    by_kind : (o : StoredObject) (k : StoredKind) → object_meant (on_task_stored f (record o { kind = k }))
+        ≡ on_task_object f (object_meant (record o { kind = k }))
+    by_kind o (TableKind t) = refl
+    by_kind o (StreamKind s) = refl
+    by_kind o (TaskKind t) = refl
+
+task_meant : (stamp : ℕ) (objects : List StoredObject) (c : TaskChange)
+    → map object_meant (changed stamp objects (CreatesTask c))
+    ≡ acted stamp (map object_meant objects) (MakesTask c.name c.minutes c.after c.runs)
+unfolding changed
+task_meant stamp objects c =
+    map-append object_meant objects _
+    ∙ ap (λ (root : ℕ). map object_meant objects
+    ++ new_object c.name (TaskKind (new_task c.minutes c.after root c.runs)) ∷ [])
+    (sym (root_meant objects (length objects + 1) c.after)
+    ∙ ap (λ (n : ℕ). root_by (task_at (map object_meant objects)) (n + 1) c.after) (sym (length-map objects object_meant)))
 
 dropped_meant : (stamp : ℕ) (objects : List StoredObject) (id : ℕ)
     → map object_meant (changed stamp objects (Drops id)) ≡ acted stamp (map object_meant objects) (DropsObject id)
@@ -154,6 +185,10 @@ edit_meant stamp objects id e orderly =
         rw is (sym (with_same (map object_meant objects) id (object_meant o)
         (at_id_meant objects id ∙ ap (option_map object_meant) there))
         ∙ ap (with_id (map object_meant objects) id) (rw is refl))
+    by_kind o (TaskKind t) there is orderly =
+        rw is (sym (with_same (map object_meant objects) id (object_meant o)
+        (at_id_meant objects id ∙ ap (option_map object_meant) there))
+        ∙ ap (with_id (map object_meant objects) id) (rw is refl))
 
     by_found : (found : Option StoredObject) → at_id objects id ≡ found → OrderlyAt found
         → map object_meant (all_changed stamp objects (version_written_to stamp id e found))
@@ -169,6 +204,7 @@ IsNoEdit _ = Unit {0}
 other_meant : (stamp : ℕ) (objects : List StoredObject) (act : Act) → IsNoEdit act
     → map object_meant (all_changed stamp objects (act_written stamp objects act))
     ≡ acted stamp (map object_meant objects) act
+unfolding changed
 other_meant stamp objects (EditsRows id e) other = absurd other
 other_meant stamp objects (MakesTable name columns retention) other =
     made_meant stamp objects (record { id = length objects + 1; name = name; retention = retention; columns = columns })
@@ -181,6 +217,11 @@ other_meant stamp objects (MakesStream name source is_append_only) other = strea
   offset = stamp;
 }) refl
 other_meant stamp objects (MovesOffset id offset) other = offset_meant stamp objects id offset
+other_meant stamp objects (MakesTask name minutes after runs) other = task_meant stamp objects
+    (record { id = length objects + 1; name = name; minutes = minutes; after = after; runs = runs })
+other_meant stamp objects (PutsTask id state) other = on_task_meant (with_state state) objects id
+other_meant stamp objects (BeginsRun root tasks) other = on_task_meant (with_run tasks) objects root
+other_meant stamp objects (EndsTask root task ending) other = on_task_meant (with_ended task ending) objects root
 
 -- ---- the acts of a commit
 
@@ -229,6 +270,7 @@ edit_leaves stamp id e objects later h = by_found (at_id objects id)
         ≡ at_id objects later
     by_kind o (TableKind t) = at_other (pushed_object stamp (version_change stamp id e t)) objects id later h
     by_kind o (StreamKind s) = refl
+    by_kind o (TaskKind t) = refl
 
     by_found : (found : Option StoredObject)
         → at_id (all_changed stamp objects (version_written_to stamp id e found)) later ≡ at_id objects later

@@ -3,11 +3,14 @@
 --     all_map, all_append, all_more     as wh_value has them: another thing, others behind them, and one more
 --     all_at, all_with, all_changed_at  the one of an id, another one there, and one that is changed
 --     filter_same                       tests that agree on each element
+--     among_all                         a number that is among others
 use Rattle.std.proofs.Common.{◌≡◌, ℕ, zero, suc, Bool, true, false, cond, List, [], ◌∷◌, Option, Some, None}
-use Rattle.std.proofs.Common.{option_map, refl, subst}
-use Rattle.std.specs.Prelude.{slice_get, slice_set}
+use Rattle.std.proofs.Common.{option_map, refl, sym, subst, arith}
+use Rattle.std.specs.Prelude.{slice_get, slice_set, nat_eq, ◌||◌}
+use Rattle.std.proofs.lemmas.Bool.Decides.{nat_tests}
 use Rattle.std.specs.List.{AllByRecursion, filter}
 use Rattle.wh_state.specs.State.{at_id, with_id, put_at, changed_at}
+use Rattle.wh_state.specs.Edits.{is_among}
 pub use Rattle.wh_value.proofs.ListLaws.{all_map, all_append, all_more}
 
 pub all_both : {X : Type 0} (P Q R : X → Type 0) → ((x : X) → P x → Q x → R x) → (xs : List X)
@@ -63,3 +66,17 @@ all_changed_at P Q f so changes xs id h = by_found (at_id xs id) refl
     by_found : (found : Option _) → at_id xs id ≡ found → AllByRecursion Q (put_at xs id (option_map f found))
     by_found None none = all_map P Q so xs h
     by_found (Some x) there = all_with Q xs id (f x) (all_map P Q so xs h) (changes x (all_at P xs id x h there))
+
+-- ---- numbers
+
+pub among_all : (P : ℕ → Type 0) (id : ℕ) (ids : List ℕ) → AllByRecursion P ids → is_among id ids ≡ true → P id
+among_all P id [] all is = absurd cc
+among_all P id (x ∷ xs) all is = by_test (nat_eq id x) refl is (λ rest. among_all P id xs all.1 rest)
+  where
+    same_by : nat_eq id x ≡ true → id ≡ x
+    same_by test = grind (arith, nat_tests)
+
+    by_test : (same : Bool) → nat_eq id x ≡ same → (same || is_among id xs) ≡ true → (is_among id xs ≡ true → P id)
+        → P id
+    by_test true test is rest = subst P (sym (same_by test)) all.0
+    by_test false test is rest = rest is

@@ -4,7 +4,7 @@
 --     IsFirm            tables, names and streams
 --     ChangeRises       the rows of partitions that a change adds rise
 --     firm_first, firm_changed, firm_all     so it is of no objects, and behind changes that apply
-use Rattle.std.proofs.Common.{◌≡◌, inl, inr, ℕ, zero, suc, ◌+◌, ◌<◌, ◌≤◌, Bool, true, false, cond, List, []}
+use Rattle.std.proofs.Common.{map, ◌≡◌, inl, inr, ℕ, zero, suc, ◌+◌, ◌<◌, ◌≤◌, Bool, true, false, cond, List, []}
 use Rattle.std.proofs.Common.{◌∷◌, ◌++◌, length, Option, Some, None, option_map, refl, sym, ap, subst, ◌∙◌, arith}
 use Rattle.std.proofs.Common.{IsTrue}
 use Rattle.std.specs.Prelude.{not, ◌&&◌, bytes_eq, IsNone, nat_lt}
@@ -15,14 +15,17 @@ use Rattle.wh_value.specs.Fits.{row_fits}
 use Rattle.std.proofs.lemmas.Slice.Eq.{bytes_eq-Decides}
 use Rattle.wh_value.specs.Column.{Column}
 use Rattle.wh_frame.specs.Partition.{Partition}
+use Rattle.wh_state.specs.State.{TaskKind, changed_at}
 use Rattle.wh_state.specs.State.{Stream, new_table, new_stream, dropped, metadata_columns}
 use Rattle.wh_state.specs.State.{at_id, with_id, put_at, changed_at, id_of, is_named}
 use Rattle.wh_state.specs.State.{TableKind, StreamKind, table_in, stream_in, columns_in, columns_at}
 use Rattle.wh_state.specs.Edits.{without, is_among}
 use Rattle.wh_state.specs.Stored.{Stored, first_stored, StoredTable, StoredKind, StoredObject}
 use Rattle.wh_state.specs.Stored.{standing}
+use Rattle.wh_state.specs.Commit.{CreatesTask, SetsTask, StartsRun, FinishesTask, change_as_text, on_task_stored}
 use Rattle.wh_state.specs.Commit.{VersionChange, Change, CreatesTable, Drops, PushesVersion, CreatesStream, SetsOffset}
 use Rattle.wh_state.specs.Commit.{pushed, pushed_kind, pushed_object, offset_set, changed, all_changed}
+use Rattle.wh_state.proofs.KindLaws.{task_keeps}
 use Rattle.wh_state.proofs.KindLaws.{offset_keeps}
 use Rattle.wh_state.specs.Commit.{Commit, applied, Leads, RowsFit, VersionApplies, FitsKind, FitsObject, IsLiveTable}
 use Rattle.wh_state.specs.Commit.{IsTableKind, ChangeApplies, AllApply}
@@ -34,6 +37,17 @@ use Rattle.wh_state.proofs.AllLaws.{all_map, all_append, all_more, all_at, all_w
 use Rattle.wh_state.proofs.OrderlyLaws.{standing_pushed, rising_pushed, new_kept}
 use Rattle.wh_state.proofs.FoundLaws.{FoundAt, found_changed, found_more}
 use Rattle.wh_state.proofs.AppliesLaws.{HasRows, FitRows, VersionFits, IsFirmTable, standing_fits}
+use Rattle.wh_state.specs.Task.{Task, with_state, with_run, with_ended}
+use Rattle.std.specs.Prelude.{slice_get}
+use Rattle.wh_state.specs.State.{task_in}
+use Rattle.wh_state.specs.Task.{TaskState, most_failures, new_task, root_by}
+use Rattle.wh_state.specs.Objects.{task_at}
+use Rattle.wh_state.specs.Spelling.{body_in}
+use Rattle.wh_state.specs.Task.{IsSpelled}
+use Rattle.wh_state.proofs.SpelledLaws.{HasTokensOf, spelled_change}
+use Rattle.wh_state.specs.Commit.{offset_set_kind, TaskChange, TaskApplies, StateApplies, IsLiveTask, root_among}
+use Rattle.wh_state.proofs.TaskFirm.{IsTaskOf, IsFirmTask, TaskHolds, AreFirmTasks, tasked, same_tasks, tasks_more}
+use Rattle.wh_state.proofs.TaskFirm.{tasks_dropped, state_firm, run_firm, end_firm, TasksRise, tasks_rise}
 
 -- ---- tables
 
@@ -191,12 +205,19 @@ pub record IsFirm (objects : List StoredObject) : Type 0 where
   pub tables : AllByRecursion IsFirmObject objects
   pub names : NamesApart objects
   pub streams : AllByRecursion (HasSource objects) objects
+  pub tasks : AreFirmTasks objects
+
+no_object : (id : ℕ) (o : StoredObject) → at_id [] id ≡ Some o → TaskHolds [] id o.is_live (task_in o.kind)
+no_object zero o there = absurd cc
+no_object (suc place) o there = absurd cc
 
 pub firm_first : IsFirm []
-firm_first = record { tables = tt; names = tt; streams = tt }
+firm_first = record { tables = tt; names = tt; streams = tt; tasks = λ id o there. no_object id o there }
 
 abbrev pub ChangeRises : Change → Type 0
 ChangeRises (PushesVersion c) = PushRises c
+ChangeRises (StartsRun root tasks) = TasksRise 0 tasks
+ChangeRises (CreatesTask c) = HasTokensOf c.runs.body
 ChangeRises _ = Unit {0}
 
 -- ---- what changes leave
@@ -211,6 +232,7 @@ has_source objects new keeps o h = by_kind o.kind h
         → IfSome (stream_in k) (λ s. FoundAt (IsSourceOf s) new s.source)
     by_kind (TableKind t) h = tt
     by_kind (StreamKind s) h = keeps s h
+    by_kind (TaskKind t) h = tt
 
 -- one that is changed as a source and as a stream
 streams_changed : (f : StoredObject → StoredObject)
@@ -233,6 +255,7 @@ pushed_source stamp c s o h = by_kind o.kind h
         → IsSomeAnd (table_in (pushed_kind stamp c k)) (λ t. s.columns ≡ t.columns ++ metadata_columns)
     by_kind (TableKind t) h = h
     by_kind (StreamKind s) h = h
+    by_kind (TaskKind t) h = h
 
 pushed_stream : (stamp : ℕ) (c : VersionChange) (objects : List StoredObject) (o : StoredObject) → HasSource objects o
     → HasSource objects (pushed_object stamp c o)
@@ -242,6 +265,7 @@ pushed_stream stamp c objects o h = by_kind o.kind h
         → IfSome (stream_in (pushed_kind stamp c k)) (λ s. FoundAt (IsSourceOf s) objects s.source)
     by_kind (TableKind t) h = h
     by_kind (StreamKind s) h = h
+    by_kind (TaskKind t) h = h
 
 set_source : (offset : ℕ) (s : Stream) (o : StoredObject) → IsSourceOf s o → IsSourceOf s (offset_set offset o)
 set_source offset s o h =
@@ -274,12 +298,80 @@ source_found objects source is_append_only offset live = by_found (at_id objects
         → IsSomeAnd (table_in k) (λ t. columns_in k ++ metadata_columns ≡ t.columns ++ metadata_columns)
     by_kind (TableKind t) is = refl
     by_kind (StreamKind s) is = absurd is
+    by_kind (TaskKind t) is = absurd is
 
     by_found : (found : Option StoredObject) → IsLiveTable found
         → IsSomeAnd found (IsSourceOf (new_stream source is_append_only offset
         (option_map_or (λ o. columns_in o.kind) found [])))
     by_found None live = absurd live
     by_found (Some o) live = by_kind o.kind live.1
+
+-- a task that is changed
+task_firm : (f : Task → Task) → ((t : Task) → (f t).after ≡ t.after) → ((t : Task) → (f t).root ≡ t.root)
+    → ((id : ℕ) (t : Task) → IsFirmTask id t → IsFirmTask id (f t)) → (objects : List StoredObject) (id : ℕ)
+    → IsFirm objects → IsFirm (changed_at objects id (on_task_stored f))
+task_firm f after root keeps objects id firm = record {
+  tasks = tasked f after root keeps objects id firm.tasks;
+  tables = all_changed_at IsFirmObject IsFirmObject (on_task_stored f) (λ o h. h)
+      (λ o h. task_keeps IsFirmKind f (λ t h. h) o.kind h) objects id firm.tables;
+  names = names_changed (on_task_stored f) (λ o. refl) (λ o live. live) objects id firm.names;
+  streams = streams_changed (on_task_stored f)
+      (λ s o h. task_keeps (λ k. IsSomeAnd (table_in k) (λ t. s.columns ≡ t.columns ++ metadata_columns)) f (λ t h. h)
+      o.kind h)
+      (λ objects o h. task_keeps (λ k. IfSome (stream_in k) (λ s. FoundAt (IsSourceOf s) objects s.source)) f (λ t h. h)
+      o.kind h) objects id firm.streams;
+}
+
+pub offset_task : (offset : ℕ) (k : StoredKind) → task_in (offset_set_kind offset k) ≡ task_in k
+offset_task offset (TableKind t) = refl
+offset_task offset (StreamKind s) = refl
+offset_task offset (TaskKind t) = refl
+
+pub pushed_task : (stamp : ℕ) (c : VersionChange) (k : StoredKind) → task_in (pushed_kind stamp c k) ≡ task_in k
+pushed_task stamp c (TableKind t) = refl
+pushed_task stamp c (StreamKind s) = refl
+pushed_task stamp c (TaskKind t) = refl
+
+few_failures : (state : TaskState) (found : Option StoredObject) → StateApplies found state
+    → state.failures ≤ most_failures
+few_failures state None applies = absurd applies
+few_failures state (Some o) applies = by_task (task_in o.kind) applies.1
+  where
+    by_task : (found : Option Task) → IsSomeAnd found (λ t. state.failures ≤ most_failures)
+        → state.failures ≤ most_failures
+    by_task None is = absurd is
+    by_task (Some t) is = is
+
+live_before : (os : List StoredObject) (P : Task → Type 0) (place : ℕ) → IsLiveTask P (slice_get os place)
+    → place < length os
+live_before [] P place live = absurd live
+live_before (o ∷ os) P zero live = omega arith
+live_before (o ∷ os) P (suc place) live = let rest = live_before os P place live in omega (arith, rest)
+
+-- a new task behind live ones
+task_made_holds : (objects : List StoredObject) (c : TaskChange) → HasTokensOf c.runs.body → TaskApplies objects c
+    → TaskHolds objects (length objects + 1) true
+    (Some (new_task c.minutes c.after (root_among objects (length objects + 1) c.after) c.runs))
+task_made_holds objects c written applies = (
+  record {
+    few = omega arith;
+    before = all_map _ _ (λ id live. before id live) c.after applies.after;
+    either = applies.either;
+    rises = tt;
+    body = written;
+  },
+  λ lives. record {
+    behind = subst (λ (id : ℕ). AllByRecursion (FoundAt (IsTaskOf (root_among objects id c.after)) objects) c.after)
+        applies.object.next_id applies.after;
+    own = λ none. ap (root_by (task_at objects) (length objects + 1)) none;
+  },
+)
+  where
+    before : (id : ℕ) → IsLiveTask (λ t. t.root ≡ root_among objects c.id c.after) (at_id objects id)
+        → id < length objects + 1
+    before zero live = absurd live
+    before (suc place) live =
+        let rest = live_before objects (λ t. t.root ≡ root_among objects c.id c.after) place live in omega (arith, rest)
 
 -- a change that applies
 pub firm_changed : (stamp : ℕ) (objects : List StoredObject) (c : Change) → ChangeApplies objects c
@@ -289,6 +381,7 @@ firm_changed stamp objects (CreatesTable c) applies rises firm = record {
   tables = all_more IsFirmObject objects _ firm.tables (new_firm c.columns c.retention stamp);
   names = names_more objects _ (free_name c.name objects applies.object.free) firm.names;
   streams = streams_more objects _ tt firm.streams;
+  tasks = tasks_more objects _ tt firm.tasks;
 }
 firm_changed stamp objects (CreatesStream c) applies rises firm = record {
   tables = all_more IsFirmObject objects _ firm.tables tt;
@@ -296,28 +389,45 @@ firm_changed stamp objects (CreatesStream c) applies rises firm = record {
   streams = streams_more objects _ (found_more (IsSourceOf (new_stream c.source c.is_append_only c.offset
       (columns_at objects c.source))) objects _ c.source
       (source_found objects c.source c.is_append_only c.offset applies.source)) firm.streams;
+  tasks = tasks_more objects _ tt firm.tasks;
 }
+firm_changed stamp objects (CreatesTask c) applies rises firm = record {
+  tables = all_more IsFirmObject objects _ firm.tables tt;
+  names = names_more objects _ (free_name c.name objects applies.object.free) firm.names;
+  streams = streams_more objects _ tt firm.streams;
+  tasks = tasks_more objects _ (task_made_holds objects c rises applies) firm.tasks;
+}
+firm_changed stamp objects (SetsTask id state) applies rises firm = task_firm (with_state state) (λ t. refl) (λ t. refl)
+    (state_firm state (few_failures state (at_id objects id) applies)) objects id firm
+firm_changed stamp objects (StartsRun root tasks) applies rises firm =
+    task_firm (with_run tasks) (λ t. refl) (λ t. refl) (run_firm tasks rises) objects root firm
+firm_changed stamp objects (FinishesTask root task ending) applies rises firm =
+    task_firm (with_ended task ending) (λ t. refl) (λ t. refl) (end_firm task ending) objects root firm
 firm_changed stamp objects (Drops id) applies rises firm = record {
   tables = all_changed_at IsFirmObject IsFirmObject dropped (λ o h. h) (λ o h. h) objects id firm.tables;
   names = names_changed dropped (λ o. refl) (λ o live. absurd cc) objects id firm.names;
   streams = streams_changed dropped (λ s o h. h) (λ objects o h. h) objects id firm.streams;
+  tasks = tasks_dropped objects id applies firm.tasks;
 }
 firm_changed stamp objects (SetsOffset id offset) applies rises firm = record {
   tables = all_changed_at IsFirmObject IsFirmObject (offset_set offset) (λ o h. h) (set_firm offset) objects
       id firm.tables;
   names = names_changed (offset_set offset) (λ o. refl) (λ o live. live) objects id firm.names;
   streams = streams_changed (offset_set offset) (set_source offset) (set_stream offset) objects id firm.streams;
+  tasks = same_tasks (offset_set offset) (λ o. offset_task offset o.kind) (λ o. refl) objects id firm.tasks;
 }
 firm_changed stamp objects (PushesVersion c) applies rises firm = record {
   tables = by_found (at_id objects c.id) refl applies;
   names = names_changed (pushed_object stamp c) (λ o. refl) (λ o live. live) objects c.id firm.names;
   streams = streams_changed (pushed_object stamp c) (pushed_source stamp c) (pushed_stream stamp c) objects c.id
       firm.streams;
+  tasks = same_tasks (pushed_object stamp c) (λ o. pushed_task stamp c o.kind) (λ o. refl) objects c.id firm.tasks;
 }
   where
     by_kind : (k : StoredKind) → IsFirmKind k → FitsKind k c → IsFirmKind (pushed_kind stamp c k)
     by_kind (TableKind t) firm fits = firm_pushed stamp c t rises fits firm
     by_kind (StreamKind s) firm fits = tt
+    by_kind (TaskKind t) firm fits = tt
 
     by_found : (found : Option StoredObject) → at_id objects c.id ≡ found → FitsObject found c
         → AllByRecursion IsFirmObject (put_at objects c.id (option_map (pushed_object stamp c) found))
@@ -335,22 +445,31 @@ firm_all stamp objects (c ∷ cs) applies rises firm =
 
 -- ---- what a file says
 
-written_rises : (c : Change) → IsChange c → ChangeRises c
-written_rises (CreatesTable c) good = tt
-written_rises (Drops id) good = tt
-written_rises (CreatesStream c) good = tt
-written_rises (SetsOffset id offset) good = tt
-written_rises (PushesVersion c) good = record {
+written_rises : (c : Change) → IsChange (change_as_text c) → IfSome (body_in c) IsSpelled → ChangeRises c
+written_rises (CreatesTable c) good spelled = tt
+written_rises (Drops id) good spelled = tt
+written_rises (CreatesStream c) good spelled = tt
+written_rises (SetsOffset id offset) good spelled = tt
+written_rises (CreatesTask c) good spelled = spelled_change c.runs.body_text c.runs.body spelled.body
+written_rises (SetsTask id state) good spelled = tt
+written_rises (StartsRun root tasks) good spelled = tasks_rise 0 tasks good.tasks
+written_rises (FinishesTask root task ending) good spelled = tt
+written_rises (PushesVersion c) good spelled = record {
   rows = all_map (IsPartition c.width) HasRisingRows (λ p is. is.rising) c.added good.added;
   some = all_map (IsPartition c.width) HasRows (λ p is. is.some) c.added good.added;
 }
+
+all_rise : (cs : List Change) → AllByRecursion IsChange (map change_as_text cs)
+    → AllByRecursion (λ c. IfSome (body_in c) IsSpelled) cs → AllByRecursion ChangeRises cs
+all_rise [] good spelled = tt
+all_rise (c ∷ cs) good spelled = (written_rises c good.0 spelled.0, all_rise cs good.1 spelled.1)
 
 firm_leads : (s : Stored) (commits : List Commit) (new : Stored) → AllByRecursion IsCommit commits → Leads s commits new
     → IsFirm s.objects → IsFirm new.objects
 firm_leads s [] new good leads firm = subst (λ (t : Stored). IsFirm t.objects) leads firm
 firm_leads s (c ∷ cs) new good leads firm =
     firm_leads (applied s c) cs new good.1 leads.1 (firm_all c.stamp s.objects c.changes leads.0.changes
-    (all_map IsChange ChangeRises written_rises c.changes good.0.changes) firm)
+    (all_rise c.changes good.0.written.changes good.0.understood) firm)
 
 pub firm_file : (bytes : List ℕ) (s : Stored) → Keeps bytes s → IsFirm s.objects
 firm_file bytes s (inl few) = subst (λ (t : Stored). IsFirm t.objects) (sym few.1) firm_first

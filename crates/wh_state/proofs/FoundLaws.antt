@@ -1,5 +1,6 @@
 -- What holds of what stands at an id, and still does behind a change.
 --     found_at                    what stands there
+--     found_became                it is changed, and has another thing
 --     found_changed               another one is changed, or it is and still has it
 --     found_spared                what stands at another id stays
 --     found_more                  more behind them
@@ -49,7 +50,7 @@ pub at_same : {X : Type 0} (f : X → X) (xs : List X) (id : ℕ) (x : X) → at
 at_same f xs id x there =
     ap (λ (found : Option _). at_id (put_at xs id (option_map f found)) id) there ∙ with_same_id xs id x (f x) there
 
-same_or_not : (m n : ℕ) → (m ≡ n) ⊎ (m ≡ n → ⊥)
+pub same_or_not : (m n : ℕ) → (m ≡ n) ⊎ (m ≡ n → ⊥)
 same_or_not zero zero = inl refl
 same_or_not zero (suc n) = inr (λ same. omega arith)
 same_or_not (suc m) zero = inr (λ same. omega arith)
@@ -59,19 +60,24 @@ same_or_not (suc m) (suc n) = later (same_or_not m n)
     later (inl same) = inl (ap suc same)
     later (inr apart) = inr (λ same. apart (omega arith))
 
+-- the one that is changed comes to have another thing
+pub found_became : {X : Type 0} (P Q : X → Type 0) (f : X → X) → ((x : X) → P x → Q (f x)) → (xs : List X) (id : ℕ)
+    → FoundAt P xs id → FoundAt Q (changed_at xs id f) id
+found_became P Q f becomes xs id h = by_found (at_id xs id) refl h
+  where
+    by_found : (found : Option _) → at_id xs id ≡ found → IsSomeAnd found P → FoundAt Q (changed_at xs id f) id
+    by_found None none h = absurd h
+    by_found (Some x) there h = found_some Q (changed_at xs id f) id (f x) (at_same f xs id x there) (becomes x h)
+
 -- whichever is changed, where the change keeps it
 pub found_changed : {X : Type 0} (P : X → Type 0) (f : X → X) → ((x : X) → P x → P (f x)) → (xs : List X) (id other : ℕ)
     → FoundAt P xs other → FoundAt P (changed_at xs id f) other
 found_changed P f keeps xs id other h = by_id (same_or_not other id)
   where
-    by_found : (found : Option _) → at_id xs id ≡ found → IsSomeAnd found P → FoundAt P (changed_at xs id f) id
-    by_found None none h = absurd h
-    by_found (Some x) there h = found_some P (changed_at xs id f) id (f x) (at_same f xs id x there) (keeps x h)
-
     by_id : (other ≡ id) ⊎ (other ≡ id → ⊥) → FoundAt P (changed_at xs id f) other
     by_id (inl same) =
         subst (λ (n : ℕ). FoundAt P (changed_at xs id f) n) (sym same)
-        (by_found (at_id xs id) refl (subst (λ (n : ℕ). FoundAt P xs n) same h))
+        (found_became P P f keeps xs id (subst (λ (n : ℕ). FoundAt P xs n) same h))
     by_id (inr apart) = found_spared P f xs id other apart h
 
 -- ---- more of them

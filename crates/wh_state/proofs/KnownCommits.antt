@@ -11,6 +11,7 @@ use Rattle.wh_state.specs.State.{VersionOf, new_table, id_of, live_count, TableK
 use Rattle.wh_state.specs.Stored.{StoredTable, StoredObject, Stored, first_stored}
 use Rattle.wh_state.specs.Commit.{TableApplies, VersionApplies, Leads, TableChange, VersionChange, CreatesTable, Drops}
 use Rattle.wh_state.specs.Commit.{PushesVersion, Commit, changed, applied, Applies}
+use Rattle.wh_state.specs.Spelling.{text_payload}
 use Rattle.wh_state.specs.Spelling.{payload_of, change_bytes, table_bytes, version_bytes, column_bytes}
 
 -- ---- bytes
@@ -44,7 +45,7 @@ insertion = record { stamp = 2; changes = PushesVersion (version_t 2 2 [] (one_r
 created : records_of (payload_of creation ∷ []) ++ 0 ∷ []
     ≡ 87 ∷ 72 ∷ 67 ∷ 79 ∷ 82 ∷ 69 ∷ 49 ∷ 1 ∷ 0 ∷ 0 ∷ 0 ∷ 0 ∷ 0 ∷ 0 ∷ 0 ∷ 33 ∷ 0 ∷ 0 ∷ 0 ∷ 0 ∷ 0 ∷ 0 ∷ 0 ∷ 1 ∷ 0 ∷ 0 ∷ 0
     ∷ 1 ∷ 1 ∷ 0 ∷ 0 ∷ 0 ∷ 1 ∷ 0 ∷ 0 ∷ 0 ∷ 1 ∷ 84 ∷ 1 ∷ 0 ∷ 0 ∷ 0 ∷ 1 ∷ 0 ∷ 0 ∷ 0 ∷ 1 ∷ 75 ∷ 1 ∷ 0 ∷ []
-unfolding records_of record_of payload_of change_bytes table_bytes column_bytes
+unfolding records_of record_of text_payload change_bytes table_bytes column_bytes
 created = refl
 
 -- the record of the second
@@ -60,18 +61,18 @@ inserted : record_of (payload_of insertion) ≡
     -- the partition's number, its count of rows, the row's number, and a number
     ∷ 0 ∷ 0 ∷ 0 ∷ 0 ∷ 0 ∷ 0 ∷ 0 ∷ 1 ∷ 0 ∷ 0 ∷ 0 ∷ 1 ∷ 0 ∷ 0 ∷ 0 ∷ 0 ∷ 0 ∷ 0 ∷ 0 ∷ 1 ∷ 1 ∷ 0 ∷ 0 ∷ 0
     ∷ 0 ∷ 0 ∷ 0 ∷ 0 ∷ 1 ∷ []
-unfolding record_of payload_of change_bytes version_bytes partition_bytes row_bytes value_bytes
+unfolding record_of text_payload change_bytes version_bytes partition_bytes row_bytes value_bytes
 inserted = refl
 
 lengths : (length (payload_of creation) ≡ 33) × (length (payload_of insertion) ≡ 74)
     × (length (record_of (payload_of insertion)) ≡ 83)
-unfolding record_of payload_of change_bytes table_bytes column_bytes version_bytes partition_bytes row_bytes value_bytes
+unfolding record_of text_payload change_bytes table_bytes column_bytes version_bytes partition_bytes row_bytes value_bytes
 lengths = (refl, refl, refl)
 
 -- the numbers of removed partitions have 8 bytes each
 removed_bytes : length
     (payload_of (record { stamp = 3; changes = PushesVersion (version_t 3 3 (1 ∷ []) (one_row 2 2)) ∷ [] })) ≡ 82
-unfolding payload_of change_bytes version_bytes partition_bytes row_bytes value_bytes
+unfolding text_payload change_bytes version_bytes partition_bytes row_bytes value_bytes
 removed_bytes = refl
 
 -- a column's type is its last byte
@@ -87,7 +88,7 @@ abbrev nothing : ℕ → Commit
 nothing stamp = record { stamp = stamp; changes = [] }
 
 nothing_length : length (payload_of (nothing 7)) ≡ 12
-unfolding payload_of
+unfolding text_payload
 nothing_length = refl
 
 -- it applies at a later stamp, which is all that it moves
@@ -220,12 +221,12 @@ drop stamp = record { stamp = stamp; changes = Drops 1 ∷ [] }
 
 -- the stamp, the count of changes, the tag of a drop, and the table's id
 drop_bytes : payload_of (drop 3) ≡ 0 ∷ 0 ∷ 0 ∷ 0 ∷ 0 ∷ 0 ∷ 0 ∷ 3 ∷ 0 ∷ 0 ∷ 0 ∷ 1 ∷ 2 ∷ 0 ∷ 0 ∷ 0 ∷ 1 ∷ []
-unfolding payload_of change_bytes
+unfolding text_payload change_bytes
 drop_bytes = refl
 
 drop_applies : Applies before (drop 2)
 unfolding changed
-drop_applies = record { later = omega arith; within = omega arith; changes = (refl, tt) }
+drop_applies = record { later = omega arith; within = omega arith; changes = ((refl, tt), tt) }
 
 -- it keeps its id and what it holds, and frees its name
 dropped_table : (map (λ o. o.is_live) (applied before (drop 2)).objects ≡ false ∷ [])
@@ -242,7 +243,7 @@ dropped_once : (Applies (applied before (drop 2)) (drop 3) → ⊥) × (Applies 
     × (Applies before (record { stamp = 2; changes = Drops 0 ∷ [] }) → ⊥)
 unfolding changed
 dropped_once =
-    (λ is. absurd (cc is.changes.0), λ is. absurd (cc is.changes.0.0), λ is. is.changes.0, λ is. is.changes.0)
+    (λ is. absurd (cc is.changes.0.0), λ is. absurd (cc is.changes.0.0), λ is. is.changes.0.0, λ is. is.changes.0.0)
 
 -- T again, with the next id
 abbrev again : TableChange
@@ -268,7 +269,7 @@ unfolding changed
 replacement_applies = record {
   later = omega arith;
   within = omega arith;
-  changes = (refl, (again_applies (applied before (drop 2)).objects refl refl refl, tt));
+  changes = ((refl, tt), (again_applies (applied before (drop 2)).objects refl refl refl, tt));
 }
 
 name_taken : Applies before (record { stamp = 2; changes = CreatesTable again ∷ [] }) → ⊥

@@ -16,9 +16,14 @@ pub mod KnownEdits
 pub mod KindLaws
 pub mod KnownChanges
 pub mod FoundLaws
+pub mod SpelledLaws
+pub mod TaskFirm
 pub mod PartLaws
 pub mod ApartLaws
 pub mod AppliesLaws
 pub mod FirmLaws
 pub mod WrittenLaws
+pub mod EndLaws
 pub mod BelowLaws
+pub mod TextParts
+pub mod KeptLaws

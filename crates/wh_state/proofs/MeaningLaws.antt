@@ -4,16 +4,20 @@
 --     columns_meant                                                               the columns of an object
 --     table_at_meant                                                              tables of a file
 --     stream_at_meant                                                             streams of a file
-use Rattle.std.proofs.Common.{◌≡◌, ℕ, ◌+◌, List, [], length, map, Option, Some, None, option_map, refl, ap, ◌∙◌}
+use Rattle.std.proofs.Common.{◌∷◌, ◌≡◌, ℕ, ◌+◌, List, [], length, map, Option, Some, None, option_map, refl, ap, ◌∙◌}
 use Rattle.std.specs.Option.{option_and_then, option_map_or}
 use Rattle.std.proofs.lemmas.List.{length-map}
+use Rattle.wh_state.specs.State.{task_in}
+use Rattle.wh_state.specs.State.{TaskKind}
 use Rattle.wh_state.specs.State.{Contents, Object, TableKind, StreamKind, nothing_held, table_in, stream_in, columns_in}
 use Rattle.wh_state.specs.State.{at_id, with_id, id_of, is_named, live_count, last_of, content_in, last_content}
 use Rattle.wh_state.specs.State.{last_rows, last_partitions, columns_at}
+use Rattle.wh_state.specs.Objects.{as_task, task_at}
 use Rattle.wh_state.specs.Objects.{as_table, as_stream, table_at, stream_at}
 use Rattle.wh_state.specs.Stored.{StoredVersion, StoredTable, StoredKind, StoredObject, standing, rows_of}
 use Rattle.wh_state.specs.Stored.{contents_meant, version_meant, table_meant, kind_meant, object_meant}
 use Rattle.wh_state.proofs.IdLaws.{map_at, map_with, map_last, map_position, map_count}
+use Rattle.wh_state.specs.Task.{Task, root_by}
 
 -- ---- objects
 
@@ -72,6 +76,7 @@ table_at_meant objects id =
     by_kind : (k : StoredKind) → table_in (kind_meant k) ≡ option_map table_meant (table_in k)
     by_kind (TableKind t) = refl
     by_kind (StreamKind s) = refl
+    by_kind (TaskKind t) = refl
 
 -- ---- streams
 
@@ -83,6 +88,25 @@ stream_at_meant objects id =
     by_kind : (k : StoredKind) → stream_in (kind_meant k) ≡ stream_in k
     by_kind (TableKind t) = refl
     by_kind (StreamKind s) = refl
+    by_kind (TaskKind t) = refl
+
+-- ---- tasks
+
+pub task_at_meant : (objects : List StoredObject) (id : ℕ)
+    → task_at (map object_meant objects) id ≡ task_at objects id
+task_at_meant objects id =
+    found_meant (option_and_then as_task) (option_and_then as_task) refl (λ o. by_kind o.kind) objects id
+  where
+    by_kind : (k : StoredKind) → task_in (kind_meant k) ≡ task_in k
+    by_kind (TableKind t) = refl
+    by_kind (StreamKind s) = refl
+    by_kind (TaskKind t) = refl
+
+pub root_meant : (objects : List StoredObject) (id : ℕ) (after : List ℕ)
+    → root_by (task_at (map object_meant objects)) id after ≡ root_by (task_at objects) id after
+root_meant objects id [] = refl
+root_meant objects id (first ∷ others) =
+    ap (λ (found : Option Task). option_map_or (λ t. t.root) found id) (task_at_meant objects first)
 
 -- ---- columns
 
@@ -96,3 +120,4 @@ columns_meant objects id =
     by_kind : (k : StoredKind) → columns_in (kind_meant k) ≡ columns_in k
     by_kind (TableKind t) = refl
     by_kind (StreamKind s) = refl
+    by_kind (TaskKind t) = refl

@@ -15,12 +15,15 @@ use Rattle.std.proofs.lemmas.Option.{IfSome_then}
 use Rattle.wh_value.specs.Column.{Column}
 use Rattle.wh_frame.specs.Partition.{Partition}
 use Rattle.wh_frame.specs.Spelling.{IsPartition}
+use Rattle.wh_state.specs.State.{TaskKind, changed_at}
 use Rattle.wh_state.specs.State.{new_table, new_object, dropped, content_in, at_id, put_at, TableKind, StreamKind}
 use Rattle.wh_state.specs.State.{table_in}
 use Rattle.wh_state.specs.Edits.{is_among, without}
 use Rattle.wh_state.specs.Stored.{StoredTable, StoredKind, StoredObject, Stored, first_stored, standing}
+use Rattle.wh_state.specs.Commit.{CreatesTask, SetsTask, StartsRun, FinishesTask, change_as_text, on_task_stored}
 use Rattle.wh_state.specs.Commit.{VersionChange, Change, CreatesTable, Drops, PushesVersion, CreatesStream, SetsOffset}
 use Rattle.wh_state.specs.Commit.{Commit, pushed, pushed_object, offset_set, changed, all_changed}
+use Rattle.wh_state.proofs.KindLaws.{task_keeps}
 use Rattle.wh_state.proofs.KindLaws.{offset_keeps}
 use Rattle.wh_state.specs.Commit.{applied, AreApart, AllApart, NumberedFrom, VersionApplies, FitsObject, ChangeApplies}
 use Rattle.wh_state.specs.Commit.{AllApply, Applies, Leads}
@@ -32,6 +35,7 @@ use Rattle.wh_state.proofs.AllLaws.{all_map, all_filter, all_append, all_more, a
 use Rattle.wh_state.proofs.IdLaws.{last_more}
 use Rattle.wh_state.proofs.EditLaws.{rise_filter}
 use Rattle.wh_state.proofs.ActLaws.{orderly_standing}
+use Rattle.wh_state.specs.Task.{Task, with_state, with_run, with_ended}
 
 -- ---- partitions that are apart
 
@@ -176,11 +180,18 @@ pushed_kept : (stamp : ℕ) (c : VersionChange) (o : StoredObject) (k : StoredKi
     → KeptObject (pushed_object stamp c (record o { kind = k }))
 pushed_kept stamp c o (TableKind t) good is kept fits = orderly_pushed stamp c t good fits.1 kept
 pushed_kept stamp c o (StreamKind s) good is kept fits = absurd fits.1
+pushed_kept stamp c o (TaskKind t) good is kept fits = absurd fits.1
 
 offset_kept : (offset : ℕ) (o : StoredObject) → KeptObject o → KeptObject (offset_set offset o)
 offset_kept offset o kept = offset_keeps KeptKind offset (λ s kept. tt) o.kind kept
 
-pub orderly_changed : (stamp : ℕ) (objects : List StoredObject) (c : Change) → IsChange c → ChangeApplies objects c
+task_kept : (f : Task → Task) (objects : List StoredObject) (id : ℕ) → KeptObjects objects
+    → KeptObjects (changed_at objects id (on_task_stored f))
+task_kept f objects id kept = all_changed_at KeptObject KeptObject (on_task_stored f) (λ o h. h)
+    (λ o h. task_keeps KeptKind f (λ t kept. tt) o.kind h) objects id kept
+
+pub orderly_changed : (stamp : ℕ) (objects : List StoredObject) (c : Change) → IsChange (change_as_text c)
+    → ChangeApplies objects c
     → KeptObjects objects
     → KeptObjects (changed stamp objects c)
 unfolding changed
@@ -192,6 +203,11 @@ orderly_changed stamp objects (SetsOffset id offset) good applies kept =
     all_changed_at KeptObject KeptObject (offset_set offset) (λ o h. h) (offset_kept offset) objects id kept
 orderly_changed stamp objects (Drops id) good applies kept =
     all_changed_at KeptObject KeptObject dropped (λ o h. h) (λ o h. h) objects id kept
+orderly_changed stamp objects (CreatesTask c) good applies kept = all_more KeptObject objects _ kept tt
+orderly_changed stamp objects (SetsTask id state) good applies kept = task_kept (with_state state) objects id kept
+orderly_changed stamp objects (StartsRun root tasks) good applies kept = task_kept (with_run tasks) objects root kept
+orderly_changed stamp objects (FinishesTask root task ending) good applies kept =
+    task_kept (with_ended task ending) objects root kept
 orderly_changed stamp objects (PushesVersion c) good applies kept = by_found (at_id objects c.id) refl applies
   where
     by_found : (found : Option StoredObject) → at_id objects c.id ≡ found → FitsObject found c
@@ -201,7 +217,8 @@ orderly_changed stamp objects (PushesVersion c) good applies kept = by_found (at
         all_with KeptObject objects c.id (pushed_object stamp c o) kept
         (pushed_kept stamp c o o.kind good refl (all_at KeptObject objects c.id o kept there) fits)
 
-orderly_all : (stamp : ℕ) (objects : List StoredObject) (cs : List Change) → AllByRecursion IsChange cs
+orderly_all : (stamp : ℕ) (objects : List StoredObject) (cs : List Change)
+    → AllByRecursion IsChange (map change_as_text cs)
     → AllApply stamp objects cs → KeptObjects objects
     → KeptObjects (all_changed stamp objects cs)
 orderly_all stamp objects [] good applies kept = kept
@@ -211,7 +228,7 @@ orderly_all stamp objects (c ∷ cs) good applies kept =
 
 -- a commit that may be written and applies
 pub orderly_applied : (s : Stored) (c : Commit) → IsCommit c → Applies s c → KeptStored s → KeptStored (applied s c)
-orderly_applied s c good applies kept = orderly_all c.stamp s.objects c.changes good.changes applies.changes kept
+orderly_applied s c good applies kept = orderly_all c.stamp s.objects c.changes good.written.changes applies.changes kept
 
 kept_leads : (s : Stored) (commits : List Commit) (new : Stored) → AllByRecursion IsCommit commits → Leads s commits new
     → KeptStored s → KeptStored new

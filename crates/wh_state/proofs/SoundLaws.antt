@@ -10,9 +10,11 @@ use Rattle.std.specs.FinMap.{get}
 use Rattle.std.proofs.lemmas.Bool.{cases_lt}
 use Rattle.wh_value.specs.Value.{Row}
 use Rattle.wh_value.specs.Column.{Column}
+use Rattle.wh_state.specs.State.{TaskKind, on_task, changed_at}
 use Rattle.wh_state.specs.State.{Version, Table, Kind, TableKind, StreamKind, Object, State, nothing_held, new_table}
 use Rattle.wh_state.specs.State.{dropped, version_at, last_rows, first_state, at_rest, at_id, put_at}
 use Rattle.wh_state.specs.Edits.{Edits}
+use Rattle.wh_state.specs.Act.{MakesTask, PutsTask, BeginsRun, EndsTask, on_task_object}
 use Rattle.wh_state.specs.Act.{Act, MakesTable, DropsObject, EditsRows, MakesStream, MovesOffset, next_contents}
 use Rattle.wh_state.specs.Act.{edited_table, edited_kind, edited_object, moved_kind, moved_object, acted, all_acted}
 use Rattle.wh_state.specs.Act.{done}
@@ -21,6 +23,7 @@ use Rattle.wh_state.proofs.AllLaws.{all_map, all_more, all_at, all_with, all_cha
 use Rattle.wh_state.proofs.IdLaws.{at_other}
 use Rattle.wh_state.proofs.ActLaws.{IsNoEdit, AreNoEdits, AreEditsFrom, no_more_edits, next_edit}
 use Rattle.wh_state.proofs.VersionLaws.{still_lacks, empty_lacks, last_below, rise_more, none_more}
+use Rattle.wh_state.specs.Task.{Task, with_state, with_run, with_ended}
 
 -- ---- tables
 
@@ -92,11 +95,13 @@ edited_sound committed stamp e later t sound =
 kind_later : (committed stamp : ℕ) → committed ≤ stamp → (k : Kind) → IsSoundKind committed k → IsSoundKind stamp k
 kind_later committed stamp later (TableKind t) sound = table_later committed stamp later t sound
 kind_later committed stamp later (StreamKind s) sound = omega (arith, sound)
+kind_later committed stamp later (TaskKind t) sound = tt
 
 edited_kind_sound : (committed stamp : ℕ) (e : Edits) → committed < stamp → (k : Kind) → IsSoundKind committed k
     → IsSoundKind stamp (edited_kind stamp e k)
 edited_kind_sound committed stamp e later (TableKind t) sound = edited_sound committed stamp e later t sound
 edited_kind_sound committed stamp e later (StreamKind s) sound = omega (arith, sound)
+edited_kind_sound committed stamp e later (TaskKind t) sound = tt
 
 -- a stream's offset, which isn't after the stamp
 moved_object_sound : (stamp offset : ℕ) → offset ≤ stamp → (o : Object) → IsSoundObject stamp o
@@ -106,6 +111,23 @@ moved_object_sound stamp offset h o sound = by_kind o.kind sound
     by_kind : (k : Kind) → IsSoundKind stamp k → IsSoundKind stamp (moved_kind offset k)
     by_kind (TableKind t) sound = sound
     by_kind (StreamKind s) sound = h
+    by_kind (TaskKind t) sound = tt
+
+-- a task, however it is changed
+task_object_sound : (stamp : ℕ) (f : Task → Task) (o : Object) → IsSoundObject stamp o
+    → IsSoundObject stamp (on_task_object f o)
+task_object_sound stamp f o sound = by_kind o.kind sound
+  where
+    by_kind : (k : Kind) → IsSoundKind stamp k → IsSoundKind stamp (on_task f k)
+    by_kind (TableKind t) sound = sound
+    by_kind (StreamKind s) sound = sound
+    by_kind (TaskKind t) sound = tt
+
+task_sound : (stamp : ℕ) (f : Task → Task) (objects : List Object) (id : ℕ)
+    → AllByRecursion (IsSoundObject stamp) objects
+    → AllByRecursion (IsSoundObject stamp) (changed_at objects id (on_task_object f))
+task_sound stamp f objects id sound = all_changed_at (IsSoundObject stamp) (IsSoundObject stamp) (on_task_object f)
+    (λ o h. h) (task_object_sound stamp f) objects id sound
 
 -- an offset that moves isn't after the stamp
 abbrev pub IsWithin : ℕ → Act → Type 0
@@ -131,6 +153,13 @@ other_sound stamp objects (DropsObject id) other within sound =
 other_sound stamp objects (MovesOffset id offset) other within sound =
     all_changed_at (IsSoundObject stamp) (IsSoundObject stamp) (moved_object offset) (λ o h. h)
     (moved_object_sound stamp offset within) objects id sound
+other_sound stamp objects (MakesTask name minutes after runs) other within sound =
+    all_more (IsSoundObject stamp) objects _ sound tt
+other_sound stamp objects (PutsTask id state) other within sound = task_sound stamp (with_state state) objects id sound
+other_sound stamp objects (BeginsRun root tasks) other within sound =
+    task_sound stamp (with_run tasks) objects root sound
+other_sound stamp objects (EndsTask root task ending) other within sound =
+    task_sound stamp (with_ended task ending) objects root sound
 
 others_sound : (stamp : ℕ) (objects : List Object) (acts : List Act) → AreNoEdits acts → AreWithin stamp acts
     → AllByRecursion (IsSoundObject stamp) objects → AllByRecursion (IsSoundObject stamp) (all_acted stamp objects acts)

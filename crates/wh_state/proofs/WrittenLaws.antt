@@ -10,12 +10,15 @@ use Rattle.std.specs.List.{AllByRecursion}
 use Rattle.std.specs.Option.{IsSomeAnd}
 use Rattle.wh_value.specs.Limit.{bound}
 use Rattle.wh_value.specs.declared.limit.Limit.TheVariants as limits
+use Rattle.wh_state.specs.State.{TaskKind}
 use Rattle.wh_state.specs.State.{dropped, last_of, at_id}
 use Rattle.wh_state.specs.State.{TableKind, StreamKind, table_in}
 use Rattle.wh_state.specs.Edits.{Edits, partitions_made}
+use Rattle.wh_state.specs.Act.{MakesTask, PutsTask, BeginsRun, EndsTask}
 use Rattle.wh_state.specs.Act.{Act, MakesTable, DropsObject, EditsRows, MakesStream, MovesOffset}
 use Rattle.wh_state.specs.Stored.{StoredTable, StoredKind, StoredObject}
 use Rattle.wh_state.specs.Stored.{standing}
+use Rattle.wh_state.specs.Commit.{CreatesTask, SetsTask, StartsRun, FinishesTask, on_task_stored}
 use Rattle.wh_state.specs.Commit.{VersionChange, Change, CreatesTable, Drops, PushesVersion, CreatesStream, SetsOffset}
 use Rattle.wh_state.specs.Commit.{pushed_object, pushed_kind, offset_set, offset_set_kind, changed, all_changed}
 use Rattle.wh_state.specs.Commit.{DoesNotFall, FitsObject, TakesOffset, OffsetApplies, ChangeApplies, AllApply}
@@ -27,6 +30,7 @@ use Rattle.wh_state.proofs.FoundLaws.{FoundAt, found_changed, found_spared, foun
 use Rattle.wh_state.proofs.PartLaws.{made_rise}
 use Rattle.wh_state.proofs.AppliesLaws.{IsBelowNext, EditsFit, made_some, version_applies}
 use Rattle.wh_state.proofs.FirmLaws.{IsFirmKind, IsFirmObject, IsFirm, ChangeRises, firm_changed}
+use Rattle.wh_state.specs.Task.{Task, with_state, with_run, with_ended}
 
 -- ---- changes one after the other
 
@@ -73,6 +77,7 @@ edit_goes stamp objects id e firm stands = by_found (at_id objects id) refl stan
         → EditStands stamp e (record o { kind = k }) → IsFirmKind k
         → AllGo stamp objects (version_written_to stamp id e (Some (record o { kind = k })))
     by_kind o (StreamKind s) there stands firm = absurd stands.1
+    by_kind o (TaskKind t) there stands firm = absurd stands.1
     by_kind o (TableKind t) there stands firm =
         let c : VersionChange = version_change stamp id e t in
         let applies : FitsObject (Some (record o { kind = TableKind t })) c = (
@@ -100,6 +105,7 @@ edit_goes stamp objects id e firm stands = by_found (at_id objects id) refl stan
 pub record KeptByCommits (P : StoredObject → Type 0) : Type 0 where
   pub pushes : (stamp : ℕ) (c : VersionChange) (o : StoredObject) → P o → P (pushed_object stamp c o)
   pub sets : (offset : ℕ) (o : StoredObject) → P o → P (offset_set offset o)
+  pub tasks : (f : Task → Task) (o : StoredObject) → P o → P (on_task_stored f o)
 
 abbrev pub ChangeSpares : ℕ → Change → Type 0
 ChangeSpares id (Drops other) = id ≡ other → ⊥
@@ -115,6 +121,13 @@ found_changes P keeps stamp objects id (PushesVersion c) spares h =
     found_changed P (pushed_object stamp c) (keeps.pushes stamp c) objects c.id id h
 found_changes P keeps stamp objects id (SetsOffset other offset) spares h =
     found_changed P (offset_set offset) (keeps.sets offset) objects other id h
+found_changes P keeps stamp objects id (CreatesTask c) spares h = found_more P objects _ id h
+found_changes P keeps stamp objects id (SetsTask other state) spares h =
+    found_changed P (on_task_stored (with_state state)) (keeps.tasks (with_state state)) objects other id h
+found_changes P keeps stamp objects id (StartsRun root tasks) spares h =
+    found_changed P (on_task_stored (with_run tasks)) (keeps.tasks (with_run tasks)) objects root id h
+found_changes P keeps stamp objects id (FinishesTask root task ending) spares h =
+    found_changed P (on_task_stored (with_ended task ending)) (keeps.tasks (with_ended task ending)) objects root id h
 
 -- behind changes of which none drops it
 pub found_through : (P : StoredObject → Type 0) → KeptByCommits P → (stamp : ℕ) (objects : List StoredObject) (id : ℕ)
@@ -124,19 +137,6 @@ found_through P keeps stamp objects id [] spare h = h
 found_through P keeps stamp objects id (c ∷ cs) spare h =
     found_through P keeps stamp (changed stamp objects c) id cs spare.1
     (found_changes P keeps stamp objects id c spare.0 h)
-
-pub edit_spares : (stamp : ℕ) (objects : List StoredObject) (other : ℕ) (e : Edits) (id : ℕ)
-    → AllByRecursion (ChangeSpares id) (act_written stamp objects (EditsRows other e))
-edit_spares stamp objects other e id = by_found (at_id objects other)
-  where
-    by_kind : (o : StoredObject) (k : StoredKind)
-        → AllByRecursion (ChangeSpares id) (version_written_to stamp other e (Some (record o { kind = k })))
-    by_kind o (TableKind t) = (tt, tt)
-    by_kind o (StreamKind s) = tt
-
-    by_found : (found : Option StoredObject) → AllByRecursion (ChangeSpares id) (version_written_to stamp other e found)
-    by_found None = tt
-    by_found (Some o) = by_kind o o.kind
 
 -- behind the edits of a table
 edit_keeps : (P : StoredObject → Type 0)
@@ -152,6 +152,7 @@ edit_keeps P keeps stamp objects other e id h = by_found (at_id objects other)
         found_changed P (pushed_object stamp (version_change stamp other e t))
         (keeps stamp (version_change stamp other e t)) objects other id h
     by_kind o (StreamKind s) = h
+    by_kind o (TaskKind t) = h
 
     by_found : (found : Option StoredObject)
         → FoundAt P (all_changed stamp objects (version_written_to stamp other e found)) id
@@ -170,6 +171,7 @@ takes_kept start o stamp c h = (h.0, by_kind o.kind h.1)
     by_kind : (k : StoredKind) → TakesOffset k start → TakesOffset (pushed_kind stamp c k) start
     by_kind (TableKind t) h = absurd h
     by_kind (StreamKind s) h = h
+    by_kind (TaskKind t) h = absurd h
 
 takes_again : (start : ℕ) (o : StoredObject) → TakesMove start o → TakesMove start (offset_set start o)
 takes_again start o h = (h.0, by_kind o.kind h.1)
@@ -177,6 +179,7 @@ takes_again start o h = (h.0, by_kind o.kind h.1)
     by_kind : (k : StoredKind) → TakesOffset k start → TakesOffset (offset_set_kind start k) start
     by_kind (TableKind t) h = absurd h
     by_kind (StreamKind s) h = omega arith
+    by_kind (TaskKind t) h = absurd h
 
 -- the acts of a commit of a transaction of that start
 abbrev pub ActStands : ℕ → ℕ → List StoredObject → Act → Type 0
@@ -198,6 +201,10 @@ move_stands stamp start objects id (MovesOffset other offset) are stands = (
 move_stands stamp start objects id (MakesTable name columns retention) are stands = absurd stands
 move_stands stamp start objects id (DropsObject other) are stands = absurd stands
 move_stands stamp start objects id (MakesStream name source is_append_only) are stands = absurd stands
+move_stands stamp start objects id (MakesTask name minutes after runs) are stands = absurd stands
+move_stands stamp start objects id (PutsTask other state) are stands = absurd stands
+move_stands stamp start objects id (BeginsRun root tasks) are stands = absurd stands
+move_stands stamp start objects id (EndsTask root task ending) are stands = absurd stands
 
 moves_stand : (stamp start : ℕ) (objects : List StoredObject) (id : ℕ) (acts : List Act) → AreNoEdits acts
     → AllStand stamp start objects acts → AllStand stamp start (changed stamp objects (SetsOffset id start)) acts
@@ -212,6 +219,10 @@ moves_go stamp start objects (EditsRows id e ∷ acts) are stand = absurd are.0
 moves_go stamp start objects (MakesTable name columns retention ∷ acts) are stand = absurd stand.0
 moves_go stamp start objects (DropsObject id ∷ acts) are stand = absurd stand.0
 moves_go stamp start objects (MakesStream name source is_append_only ∷ acts) are stand = absurd stand.0
+moves_go stamp start objects (MakesTask name minutes after runs ∷ acts) are stand = absurd stand.0
+moves_go stamp start objects (PutsTask id state ∷ acts) are stand = absurd stand.0
+moves_go stamp start objects (BeginsRun root tasks ∷ acts) are stand = absurd stand.0
+moves_go stamp start objects (EndsTask root task ending ∷ acts) are stand = absurd stand.0
 moves_go stamp start objects (MovesOffset id offset ∷ acts) are stand =
     let at_start : AllGo stamp (changed stamp objects (SetsOffset id start))
     (written stamp (changed stamp objects (SetsOffset id start)) acts) =
@@ -239,6 +250,10 @@ act_stands stamp start objects id e (MovesOffset other offset) are stands = (
 act_stands stamp start objects id e (MakesTable name columns retention) are stands = absurd stands
 act_stands stamp start objects id e (DropsObject other) are stands = absurd stands
 act_stands stamp start objects id e (MakesStream name source is_append_only) are stands = absurd stands
+act_stands stamp start objects id e (MakesTask name minutes after runs) are stands = absurd stands
+act_stands stamp start objects id e (PutsTask other state) are stands = absurd stands
+act_stands stamp start objects id e (BeginsRun root tasks) are stands = absurd stands
+act_stands stamp start objects id e (EndsTask root task ending) are stands = absurd stands
 
 others_stand : (stamp start : ℕ) (objects : List StoredObject) (id : ℕ) (e : Edits) (acts : List Act) → AreNoEdits acts
     → AllStand stamp start objects acts

@@ -7,7 +7,9 @@ use Rattle.wh_value.specs.Column.{Column}
 use Rattle.wh_frame.specs.Partition.{Partition}
 use Rattle.wh_state.specs.State.{State, Kind, TableKind, StreamKind, Object, Table, Contents, nothing_held, new_table}
 use Rattle.wh_state.specs.State.{new_object, new_stream, with_offset, dropped, version_at, columns_at, on_table}
-use Rattle.wh_state.specs.State.{on_stream, last_content, last_partitions, changed_at}
+use Rattle.wh_state.specs.State.{TaskKind, on_stream, on_task, last_content, last_partitions, changed_at}
+use Rattle.wh_state.specs.Task.{TaskBody, TaskState, Ending, Task, new_task, with_state, with_run, with_ended, root_by}
+use Rattle.wh_state.specs.Objects.{task_at}
 use Rattle.wh_state.specs.Edits.{Edits, partitions_made, contents_after}
 
 pub data Act : Type 0 where
@@ -21,6 +23,14 @@ pub data Act : Type 0 where
   MakesStream : (name : List ℕ) → (source : ℕ) → (is_append_only : Bool) → Act
   -- the stream of that id was read up to a stamp
   MovesOffset : (id offset : ℕ) → Act
+  -- a new task behind those of some ids, with the next id
+  MakesTask : (name : List ℕ) → (minutes : ℕ) → (after : List ℕ) → TaskBody → Act
+  -- the state of the task of that id is another one
+  PutsTask : (id : ℕ) → TaskState → Act
+  -- a run of the root of that id begins, with these tasks
+  BeginsRun : (root : ℕ) → (tasks : List ℕ) → Act
+  -- a task of the run of the root of that id ended
+  EndsTask : (root task : ℕ) → Ending → Act
 
 -- ---- what an act does at a stamp
 
@@ -51,6 +61,13 @@ moved_kind offset k = on_stream (with_offset offset) k
 abbrev pub moved_object : ℕ → Object → Object
 moved_object offset o = record o { kind = moved_kind offset o.kind }
 
+abbrev pub on_task_object : (Task → Task) → Object → Object
+on_task_object f o = record o { kind = on_task f o.kind }
+
+-- with the id that it gets
+abbrev pub task_made : List Object → ℕ → ℕ → List ℕ → TaskBody → Task
+task_made objects id minutes after runs = new_task minutes after (root_by (task_at objects) id after) runs
+
 abbrev pub acted : ℕ → List Object → Act → List Object
 acted stamp objects (MakesTable name columns retention) =
     objects ++ new_object name (TableKind (new_table nothing_held columns retention stamp)) ∷ []
@@ -59,6 +76,11 @@ acted stamp objects (EditsRows id e) = changed_at objects id (edited_object stam
 acted stamp objects (MakesStream name source is_append_only) = objects ++ new_object name
     (StreamKind (new_stream source is_append_only stamp (columns_at objects source))) ∷ []
 acted stamp objects (MovesOffset id offset) = changed_at objects id (moved_object offset)
+acted stamp objects (MakesTask name minutes after runs) =
+    objects ++ new_object name (TaskKind (task_made objects (length objects + 1) minutes after runs)) ∷ []
+acted stamp objects (PutsTask id state) = changed_at objects id (on_task_object (with_state state))
+acted stamp objects (BeginsRun root tasks) = changed_at objects root (on_task_object (with_run tasks))
+acted stamp objects (EndsTask root task ending) = changed_at objects root (on_task_object (with_ended task ending))
 
 abbrev pub all_acted : ℕ → List Object → List Act → List Object
 all_acted stamp objects [] = objects

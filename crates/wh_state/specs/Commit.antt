@@ -1,20 +1,26 @@
 -- Commits, and what they do to what a file says.
---     Change, Commit       what is changed at a stamp
+--     Form                 whether statements are told by their texts, or with what they mean
+--     Change, Commit       what is changed at a stamp, as it is meant
+--     TextChange, TextCommit, as_text     the same as its bytes give it
 --     Applies, applied     when a commit may stand in a file, and what the file then says
 --     Leads                commits that apply one after the other
 use Rattle.std.specs.Prelude.{◌≡◌, ℕ, ◌+◌, ◌<◌, ◌≤◌, ◌⊎◌, Bool, IsTrue, List, [], ◌∷◌, ◌++◌, length, Option, IsNone}
-use Rattle.std.specs.Prelude.{nat_eq}
+use Rattle.std.specs.Prelude.{false, not, ◌&&◌, map, nat_eq, is_some, count_by}
 use Rattle.std.specs.List.{AllByRecursion, list_any}
-use Rattle.std.specs.Option.{IfSome, IsSomeAnd}
+use Rattle.std.specs.Option.{IfSome, IsSomeAnd, option_map_or}
 use Rattle.wh_value.specs.Column.{Column}
 use Rattle.wh_value.specs.Fits.{row_fits}
 use Rattle.wh_value.specs.Limit.{bound}
 use Rattle.wh_value.specs.declared.limit.Limit.TheVariants as limits
 use Rattle.wh_frame.specs.Partition.{Partition, first_number, last_number}
 use Rattle.wh_state.specs.State.{new_table, new_object, new_stream, with_offset, dropped, last_of, at_id, changed_at}
-use Rattle.wh_state.specs.State.{id_of, live_count, VersionOf, TableKind, StreamKind, on_table, on_stream, table_in}
+use Rattle.wh_state.specs.State.{id_of, live_count, VersionOf, KindOf, TableKind, StreamKind, on_table, on_stream, table_in}
 use Rattle.wh_state.specs.State.{stream_in, columns_at}
-use Rattle.wh_state.specs.Edits.{without}
+use Rattle.wh_state.specs.State.{ObjectOf, TaskKind, on_task, task_in}
+use Rattle.wh_state.specs.Task.{TaskTexts, TaskBody, texts_of, TaskState, Ending, TaskRun, Run, Task, new_task, with_state}
+use Rattle.wh_state.specs.Task.{with_run, with_ended, root_by, most_failures}
+use Rattle.wh_state.specs.Objects.{task_at}
+use Rattle.wh_state.specs.Edits.{without, is_among}
 use Rattle.wh_state.specs.Stored.{StoredTable, StoredKind, StoredObject, Stored, standing}
 
 -- a new table
@@ -41,17 +47,71 @@ pub record StreamChange : Type 0 where
   pub is_append_only : Bool
   pub offset : ℕ
 
-pub data Change : Type 0 where
-  CreatesTable : TableChange → Change
-  -- by its id
-  Drops : (id : ℕ) → Change
-  PushesVersion : VersionChange → Change
-  CreatesStream : StreamChange → Change
-  SetsOffset : (id offset : ℕ) → Change
+-- what a commit says of statements: their texts, as its bytes do, or what they mean too
+pub data Form : Type 0 where
+  InTexts : Form
+  InTrees : Form
 
-pub record Commit : Type 0 where
+abbrev pub TaskPart : Form → Type 0
+TaskPart InTexts = TaskTexts
+TaskPart InTrees = TaskBody
+
+-- a new task, behind the tasks of some ids
+pub record TaskChangeIn (form : Form) : Type 0 where
+  pub id : ℕ
+  pub name : List ℕ
+  pub minutes : ℕ
+  pub after : List ℕ
+  pub runs : TaskPart form
+
+pub data ChangeIn (form : Form) : Type 0 where
+  CreatesTable : TableChange → ChangeIn form
+  -- by its id
+  Drops : (id : ℕ) → ChangeIn form
+  PushesVersion : VersionChange → ChangeIn form
+  CreatesStream : StreamChange → ChangeIn form
+  SetsOffset : (id offset : ℕ) → ChangeIn form
+  CreatesTask : TaskChangeIn form → ChangeIn form
+  SetsTask : (id : ℕ) → TaskState → ChangeIn form
+  StartsRun : (root : ℕ) → (tasks : List ℕ) → ChangeIn form
+  FinishesTask : (root task : ℕ) → Ending → ChangeIn form
+
+pub record CommitIn (form : Form) : Type 0 where
   pub stamp : ℕ
-  pub changes : List Change
+  pub changes : List (ChangeIn form)
+
+abbrev pub Change : Type 0
+Change = ChangeIn InTrees
+
+abbrev pub Commit : Type 0
+Commit = CommitIn InTrees
+
+abbrev pub TextChange : Type 0
+TextChange = ChangeIn InTexts
+
+abbrev pub TextCommit : Type 0
+TextCommit = CommitIn InTexts
+
+abbrev pub TaskChange : Type 0
+TaskChange = TaskChangeIn InTrees
+
+abbrev pub task_as_text : TaskChange → TaskChangeIn InTexts
+task_as_text c =
+    record { id = c.id; name = c.name; minutes = c.minutes; after = c.after; runs = texts_of c.runs }
+
+abbrev pub change_as_text : Change → TextChange
+change_as_text (CreatesTable c) = CreatesTable c
+change_as_text (Drops id) = Drops id
+change_as_text (PushesVersion c) = PushesVersion c
+change_as_text (CreatesStream c) = CreatesStream c
+change_as_text (SetsOffset id offset) = SetsOffset id offset
+change_as_text (CreatesTask c) = CreatesTask (task_as_text c)
+change_as_text (SetsTask id state) = SetsTask id state
+change_as_text (StartsRun root tasks) = StartsRun root tasks
+change_as_text (FinishesTask root task ending) = FinishesTask root task ending
+
+abbrev pub as_text : Commit → TextCommit
+as_text c = record { stamp = c.stamp; changes = map change_as_text c.changes }
 
 -- ---- what a change leaves
 
@@ -78,6 +138,13 @@ offset_set_kind offset k = on_stream (with_offset offset) k
 abbrev pub offset_set : ℕ → StoredObject → StoredObject
 offset_set offset o = record o { kind = offset_set_kind offset o.kind }
 
+abbrev pub on_task_stored : (Task → Task) → StoredObject → StoredObject
+on_task_stored f o = record o { kind = on_task f o.kind }
+
+-- the root of a new task of an id
+abbrev pub root_among : {T : Type 0} → List (ObjectOf (KindOf T)) → ℕ → List ℕ → ℕ
+root_among objects id after = root_by (task_at objects) id after
+
 unfoldable pub changed : ℕ → List StoredObject → Change → List StoredObject
 changed stamp objects (CreatesTable c) =
     objects ++ new_object c.name (TableKind (new_table [] c.columns c.retention stamp)) ∷ []
@@ -86,6 +153,12 @@ changed stamp objects (PushesVersion c) = changed_at objects c.id (pushed_object
 changed stamp objects (CreatesStream c) = objects ++ new_object c.name
     (StreamKind (new_stream c.source c.is_append_only c.offset (columns_at objects c.source))) ∷ []
 changed stamp objects (SetsOffset id offset) = changed_at objects id (offset_set offset)
+changed stamp objects (CreatesTask c) = objects ++ new_object c.name
+    (TaskKind (new_task c.minutes c.after (root_among objects (length objects + 1) c.after) c.runs)) ∷ []
+changed stamp objects (SetsTask id state) = changed_at objects id (on_task_stored (with_state state))
+changed stamp objects (StartsRun root tasks) = changed_at objects root (on_task_stored (with_run tasks))
+changed stamp objects (FinishesTask root task ending) =
+    changed_at objects root (on_task_stored (with_ended task ending))
 
 abbrev pub all_changed : ℕ → List StoredObject → List Change → List StoredObject
 all_changed stamp objects [] = objects
@@ -175,12 +248,68 @@ TakesOffset k offset = IsSomeAnd (stream_in k) (λ s. s.offset ≤ offset)
 abbrev pub OffsetApplies : Option StoredObject → ℕ → Type 0
 OffsetApplies found offset = IsSomeAnd found (λ o. IsTrue o.is_live × TakesOffset o.kind offset)
 
+-- ---- tasks
+
+-- a live task that meets a condition
+abbrev pub IsLiveTask : (Task → Type 0) → Option StoredObject → Type 0
+IsLiveTask P found = IsSomeAnd found (λ o. IsTrue o.is_live × IsSomeAnd (task_in o.kind) P)
+
+-- how many live tasks meet a condition
+abbrev pub is_member : (Task → Bool) → StoredObject → Bool
+is_member takes o = o.is_live && option_map_or takes (task_in o.kind) false
+
+abbrev pub count_of_root : List StoredObject → ℕ → ℕ
+count_of_root objects root = count_by (is_member (λ t. nat_eq t.root root)) objects
+
+abbrev pub child_count : List StoredObject → ℕ → ℕ
+child_count objects parent = count_by (is_member (λ t. is_among parent t.after)) objects
+
+abbrev pub waits : TaskRun → Bool
+waits r = not (is_some r.ending)
+
+abbrev pub waits_in : Run → ℕ → Bool
+waits_in run task = list_any (λ r. nat_eq r.task task && waits r) run
+
+-- predecessors are tasks of one root and stand beside 0 minutes
+pub record TaskApplies (objects : List StoredObject) (c : TaskChange) : Type 0 where
+  pub object : IsNewObject objects c.id c.name
+  pub minutes : c.minutes ≤ bound limits.MostSchedule
+  pub either : (c.after ≡ []) ⊎ (c.minutes ≡ 0)
+  pub few_after : length c.after ≤ bound limits.Predecessors
+  pub after : AllByRecursion (λ id. IsLiveTask (λ t. t.root ≡ root_among objects c.id c.after) (at_id objects id)) c.after
+  pub few_tasks : count_of_root objects (root_among objects c.id c.after) < bound limits.GraphTasks
+  pub few_children : AllByRecursion (λ id. child_count objects id < bound limits.Children) c.after
+
+abbrev pub StateApplies : Option StoredObject → TaskState → Type 0
+StateApplies found state = IsLiveTask (λ t. state.failures ≤ most_failures) found
+
+-- no run of the root is under way, and what is listed is the root and tasks below it
+pub record RunApplies (objects : List StoredObject) (root : ℕ) (tasks : List ℕ) : Type 0 where
+  pub none : IsLiveTask (λ t. (t.root ≡ root) × (list_any waits t.run ≡ false)) (at_id objects root)
+  pub has_root : IsTrue (is_among root tasks)
+  pub members : AllByRecursion (λ id. IsLiveTask (λ t. t.root ≡ root) (at_id objects id)) tasks
+
+abbrev pub EndApplies : Option StoredObject → ℕ → Type 0
+EndApplies root task = IsLiveTask (λ t. IsTrue (waits_in t.run task)) root
+
+-- a task that is dropped has no live child, and no run of its root is under way
+pub record TaskMayGo (objects : List StoredObject) (id : ℕ) (t : Task) : Type 0 where
+  pub childless : child_count objects id ≡ 0
+  pub at_rest : IsLiveTask (λ r. list_any waits r.run ≡ false) (at_id objects t.root)
+
+abbrev pub MayGo : List StoredObject → ℕ → Type 0
+MayGo objects id = IsLiveObject (at_id objects id) × IfSome (task_at objects id) (TaskMayGo objects id)
+
 abbrev pub ChangeApplies : List StoredObject → Change → Type 0
 ChangeApplies objects (CreatesTable c) = TableApplies objects c
-ChangeApplies objects (Drops id) = IsLiveObject (at_id objects id)
+ChangeApplies objects (Drops id) = MayGo objects id
 ChangeApplies objects (PushesVersion c) = FitsObject (at_id objects c.id) c
 ChangeApplies objects (CreatesStream c) = StreamApplies objects c
 ChangeApplies objects (SetsOffset id offset) = OffsetApplies (at_id objects id) offset
+ChangeApplies objects (CreatesTask c) = TaskApplies objects c
+ChangeApplies objects (SetsTask id state) = StateApplies (at_id objects id) state
+ChangeApplies objects (StartsRun root tasks) = RunApplies objects root tasks
+ChangeApplies objects (FinishesTask root task ending) = EndApplies (at_id objects root) task
 
 -- each change applies to what those before it leave
 abbrev pub AllApply : ℕ → List StoredObject → List Change → Type 0

@@ -7,7 +7,7 @@ use Rattle.std.specs.Prelude.{◌≡◌, ℕ, ◌<◌, ◌≤◌, List, [], ◌�
 use Rattle.std.specs.List.{AllByRecursion}
 use Rattle.std.specs.FinMap.{get}
 use Rattle.wh_value.specs.Value.{Row}
-use Rattle.wh_state.specs.State.{Version, Table, Kind, TableKind, StreamKind, Object, State}
+use Rattle.wh_state.specs.State.{Version, Table, Kind, TableKind, StreamKind, TaskKind, Object, State}
 use Rattle.wh_state.specs.File.{Stands}
 
 pub record HasRow (v : Version) (number : ℕ) : Type 0 where
@@ -51,6 +51,7 @@ pub record IsSoundTable (committed : ℕ) (t : Table) : Type 0 where
 abbrev pub IsSoundKind : ℕ → Kind → Type 0
 IsSoundKind committed (TableKind t) = IsSoundTable committed t
 IsSoundKind committed (StreamKind s) = s.offset ≤ committed
+IsSoundKind committed (TaskKind t) = Unit {0}
 
 abbrev pub IsSoundObject : ℕ → Object → Type 0
 IsSoundObject committed o = IsSoundKind committed o.kind

@@ -1,14 +1,17 @@
 -- The bytes of commits.
 --     payload_of     a stamp, and a list of changes, each behind its tag
 --     IsCommit       what a commit may be: numbers, names and values within the format
-use Rattle.std.specs.Prelude.{ℕ, ◌+◌, ◌<◌, ◌≤◌, ◌^◌, Bool, true, false, List, [], ◌∷◌, ◌++◌, length}
+use Rattle.std.specs.Prelude.{ℕ, ◌+◌, ◌<◌, ◌≤◌, ◌^◌, Bool, true, false, List, [], ◌∷◌, ◌++◌, length, Option, Some, None}
+use Rattle.std.specs.Option.{IfSome}
 use Rattle.std.specs.List.{AllByRecursion}
 use Rattle.std.specs.Int.{w32, w64, to_be_bytes}
 use Rattle.wh_value.specs.Value.{IsText}
 use Rattle.wh_value.specs.Column.{Column, ColumnType, NumberType, VarcharType, BooleanType}
 use Rattle.wh_frame.specs.Spelling.{text_bytes, list_bytes, partition_bytes, IsPartition}
 use Rattle.wh_state.specs.Commit.{TableChange, VersionChange, StreamChange, Change, CreatesTable, Drops}
-use Rattle.wh_state.specs.Commit.{PushesVersion, CreatesStream, SetsOffset, Commit}
+use Rattle.wh_state.specs.Commit.{PushesVersion, CreatesStream, SetsOffset, CreatesTask, SetsTask, StartsRun}
+use Rattle.wh_state.specs.Commit.{FinishesTask, TaskChangeIn, InTexts, TextChange, TextCommit, Commit, as_text}
+use Rattle.wh_state.specs.Task.{TaskState, Ending, Succeeded, Failed, Skipped, TaskBody, IsSpelled}
 
 abbrev pub type_byte : ColumnType → ℕ
 type_byte NumberType = 1
@@ -37,15 +40,46 @@ stream_bytes c = to_be_bytes w32 c.id ++ text_bytes c.name ++ to_be_bytes w32 c.
 unfoldable pub offset_bytes : ℕ → ℕ → List ℕ
 offset_bytes id offset = to_be_bytes w32 id ++ to_be_bytes w64 offset
 
-unfoldable pub change_bytes : Change → List ℕ
+unfoldable pub task_bytes : TaskChangeIn InTexts → List ℕ
+task_bytes c = to_be_bytes w32 c.id ++ text_bytes c.name ++ to_be_bytes w32 c.minutes
+    ++ list_bytes (to_be_bytes w32) c.after ++ text_bytes c.runs.when ++ text_bytes c.runs.body
+
+abbrev pub truth_byte : Bool → ℕ
+truth_byte false = 0
+truth_byte true = 1
+
+unfoldable pub state_bytes : ℕ → TaskState → List ℕ
+state_bytes id s = to_be_bytes w32 id ++ truth_byte s.is_resumed ∷ to_be_bytes w64 s.base
+    ++ to_be_bytes w64 s.last_start ++ to_be_bytes w32 s.failures
+
+unfoldable pub run_bytes : ℕ → List ℕ → List ℕ
+run_bytes root tasks = to_be_bytes w32 root ++ list_bytes (to_be_bytes w32) tasks
+
+abbrev pub ending_byte : Ending → ℕ
+ending_byte Succeeded = 1
+ending_byte Failed = 2
+ending_byte Skipped = 3
+
+unfoldable pub end_bytes : ℕ → ℕ → Ending → List ℕ
+end_bytes root task ending = to_be_bytes w32 root ++ to_be_bytes w32 task ++ ending_byte ending ∷ []
+
+unfoldable pub change_bytes : TextChange → List ℕ
 change_bytes (CreatesTable c) = 1 ∷ table_bytes c
 change_bytes (Drops id) = 2 ∷ to_be_bytes w32 id
 change_bytes (PushesVersion c) = 10 ∷ version_bytes c
 change_bytes (CreatesStream c) = 3 ∷ stream_bytes c
 change_bytes (SetsOffset id offset) = 11 ∷ offset_bytes id offset
+change_bytes (CreatesTask c) = 4 ∷ task_bytes c
+change_bytes (SetsTask id state) = 5 ∷ state_bytes id state
+change_bytes (StartsRun root tasks) = 6 ∷ run_bytes root tasks
+change_bytes (FinishesTask root task ending) = 7 ∷ end_bytes root task ending
 
-unfoldable pub payload_of : Commit → List ℕ
-payload_of c = to_be_bytes w64 c.stamp ++ list_bytes change_bytes c.changes
+unfoldable pub text_payload : TextCommit → List ℕ
+text_payload c = to_be_bytes w64 c.stamp ++ list_bytes change_bytes c.changes
+
+-- of its texts
+abbrev pub payload_of : Commit → List ℕ
+payload_of c = text_payload (as_text c)
 
 -- ---- what may be written
 
@@ -80,14 +114,54 @@ pub record IsStreamChange (c : StreamChange) : Type 0 where
   pub source : c.source < 2 ^ 32
   pub offset : c.offset < 2 ^ 64
 
-abbrev pub IsChange : Change → Type 0
+-- tasks by rising ids
+pub record IsTaskChange (c : TaskChangeIn InTexts) : Type 0 where
+  pub id : c.id < 2 ^ 32
+  pub name : IsText c.name
+  pub minutes : c.minutes < 2 ^ 32
+  pub few : length c.after < 2 ^ 32
+  pub after : AllByRecursion (λ id. id < 2 ^ 32) c.after
+  pub when : IsText c.runs.when
+  pub body : IsText c.runs.body
+
+pub record IsTaskState (task : ℕ) (s : TaskState) : Type 0 where
+  pub id : task < 2 ^ 32
+  pub base : s.base < 2 ^ 64
+  pub last_start : s.last_start < 2 ^ 64
+  pub failures : s.failures < 2 ^ 32
+
+-- ids rise, from a least one on
+abbrev pub IdsRiseFrom : ℕ → List ℕ → Type 0
+IdsRiseFrom least [] = Unit {0}
+IdsRiseFrom least (id ∷ ids) = (least ≤ id) × (id < 2 ^ 32) × IdsRiseFrom (id + 1) ids
+
+pub record IsRunChange (of_root : ℕ) (ids : List ℕ) : Type 0 where
+  pub root : of_root < 2 ^ 32
+  pub few : length ids < 2 ^ 32
+  pub tasks : IdsRiseFrom 0 ids
+
+abbrev pub IsChange : TextChange → Type 0
 IsChange (CreatesTable c) = IsTableChange c
 IsChange (Drops id) = id < 2 ^ 32
 IsChange (PushesVersion c) = IsVersionChange c
 IsChange (CreatesStream c) = IsStreamChange c
 IsChange (SetsOffset id offset) = (id < 2 ^ 32) × (offset < 2 ^ 64)
+IsChange (CreatesTask c) = IsTaskChange c
+IsChange (SetsTask id state) = IsTaskState id state
+IsChange (StartsRun root tasks) = IsRunChange root tasks
+IsChange (FinishesTask root task ending) = (root < 2 ^ 32) × (task < 2 ^ 32)
 
-pub record IsCommit (c : Commit) : Type 0 where
+pub record IsTextCommit (c : TextCommit) : Type 0 where
   pub stamp : c.stamp < 2 ^ 64
   pub few : length c.changes < 2 ^ 32
   pub changes : AllByRecursion IsChange c.changes
+
+-- what a change says of statements
+abbrev pub body_in : Change → Option TaskBody
+body_in (CreatesTask c) = Some c.runs
+body_in _ = None
+
+-- whose texts are within the format, and spell what they stand for
+pub record IsCommit (c : Commit) : Type 0 where
+  pub written : IsTextCommit (as_text c)
+  pub understood : AllByRecursion (λ change. IfSome (body_in change) IsSpelled) c.changes

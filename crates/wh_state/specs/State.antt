@@ -4,9 +4,9 @@
 --     Contents                 what a version of the machine holds: its rows, by row number, and the
 --                              partitions that they are written in
 --     Stream                   the changes of a table behind an offset
---     KindOf                   what an object is: a table, or a stream
+--     KindOf                   what an object is: a table, a stream, or a task
 --     on_table, table_in       what is done to the table of a kind, and the table that it has
---     on_stream, stream_in     the same of streams
+--     on_stream, stream_in, on_task, task_in     the same of streams and of tasks
 --     columns_in, columns_at   the columns of an object
 --     Version, Table, Kind, Object, State     those of the machine
 --     at_rest, stamped         a state as the file keeps it, and at another stamp
@@ -21,6 +21,7 @@ use Rattle.std.specs.FinMap.{FinMap, empty, insert}
 use Rattle.wh_value.specs.Value.{Row}
 use Rattle.wh_value.specs.Column.{Column, VarcharType, BooleanType}
 use Rattle.wh_frame.specs.Partition.{Partition}
+use Rattle.wh_state.specs.Task.{Task}
 
 -- ---- tables and objects, whatever a version holds
 
@@ -143,28 +144,45 @@ with_offset offset s = record s { offset = offset }
 pub data KindOf (Table : Type 0) : Type 0 where
   TableKind : Table → KindOf Table
   StreamKind : Stream → KindOf Table
+  TaskKind : Task → KindOf Table
 
 -- its table changed, if it has one
 abbrev pub on_table : {T U : Type 0} → (T → U) → KindOf T → KindOf U
 on_table f (TableKind t) = TableKind (f t)
 on_table f (StreamKind s) = StreamKind s
+on_table f (TaskKind t) = TaskKind t
 
 abbrev pub table_in : {T : Type 0} → KindOf T → Option T
 table_in (TableKind t) = Some t
 table_in (StreamKind s) = None
+table_in (TaskKind t) = None
 
 -- its stream changed, if it is one
 abbrev pub on_stream : {T : Type 0} → (Stream → Stream) → KindOf T → KindOf T
 on_stream f (TableKind t) = TableKind t
 on_stream f (StreamKind s) = StreamKind (f s)
+on_stream f (TaskKind t) = TaskKind t
 
 abbrev pub stream_in : {T : Type 0} → KindOf T → Option Stream
 stream_in (TableKind t) = None
 stream_in (StreamKind s) = Some s
+stream_in (TaskKind t) = None
+
+-- its task changed, if it is one
+abbrev pub on_task : {T : Type 0} → (Task → Task) → KindOf T → KindOf T
+on_task f (TableKind t) = TableKind t
+on_task f (StreamKind s) = StreamKind s
+on_task f (TaskKind t) = TaskKind (f t)
+
+abbrev pub task_in : {T : Type 0} → KindOf T → Option Task
+task_in (TableKind t) = None
+task_in (StreamKind s) = None
+task_in (TaskKind t) = Some t
 
 abbrev pub columns_in : {Content : Type 0} → KindOf (TableOf Content) → List Column
 columns_in (TableKind t) = t.columns
 columns_in (StreamKind s) = s.columns
+columns_in (TaskKind t) = []
 
 -- none where there is no such object
 abbrev pub columns_at : {Content : Type 0} → List (ObjectOf (KindOf (TableOf Content))) → ℕ → List Column

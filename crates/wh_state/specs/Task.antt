@@ -80,6 +80,10 @@ pub record TaskState : Type 0 where
   pub last_start : ℕ
   pub failures : ℕ
 
+-- so many failed runs in a row suspend a root, and are counted
+abbrev pub most_failures : ℕ
+most_failures = 10
+
 abbrev pub first_task_state : TaskState
 first_task_state = record { is_resumed = false; base = 0; last_start = 0; failures = 0 }
 

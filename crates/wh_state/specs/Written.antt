@@ -7,10 +7,11 @@ use Rattle.std.specs.Prelude.{ℕ, ◌+◌, Bool, false, List, [], ◌∷◌, �
 use Rattle.std.specs.Option.{option_to_list}
 use Rattle.wh_state.specs.State.{at_id, table_in}
 use Rattle.wh_state.specs.Edits.{Edits, numbers_gone, partitions_made}
-use Rattle.wh_state.specs.Act.{Act, MakesTable, DropsObject, EditsRows, MakesStream, MovesOffset}
+use Rattle.wh_state.specs.Act.{Act, MakesTable, DropsObject, EditsRows, MakesStream, MovesOffset, MakesTask, PutsTask}
+use Rattle.wh_state.specs.Act.{BeginsRun, EndsTask}
 use Rattle.wh_state.specs.Stored.{StoredTable, StoredObject, Stored, standing}
 use Rattle.wh_state.specs.Commit.{VersionChange, Change, CreatesTable, Drops, PushesVersion, CreatesStream, SetsOffset}
-use Rattle.wh_state.specs.Commit.{Commit}
+use Rattle.wh_state.specs.Commit.{Commit, CreatesTask, SetsTask, StartsRun, FinishesTask}
 use Rattle.wh_state.specs.Commit.{all_changed, applied}
 use Rattle.wh_state.specs.Spelling.{payload_of}
 
@@ -48,6 +49,11 @@ act_written stamp objects (MakesStream name source is_append_only) = CreatesStre
   offset = stamp;
 }) ∷ []
 act_written stamp objects (MovesOffset id offset) = SetsOffset id offset ∷ []
+act_written stamp objects (MakesTask name minutes after runs) = CreatesTask
+    (record { id = length objects + 1; name = name; minutes = minutes; after = after; runs = runs }) ∷ []
+act_written stamp objects (PutsTask id state) = SetsTask id state ∷ []
+act_written stamp objects (BeginsRun root tasks) = StartsRun root tasks ∷ []
+act_written stamp objects (EndsTask root task ending) = FinishesTask root task ending ∷ []
 
 abbrev pub written : ℕ → List StoredObject → List Act → List Change
 written stamp objects [] = []

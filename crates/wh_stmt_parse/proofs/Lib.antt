@@ -13,4 +13,4 @@ mod PlainComplete
 mod KeptComplete
 mod Statements
 pub mod Reading
-mod Outcomes
+pub mod Outcomes

@@ -6,4 +6,6 @@ mod catalog;
 #[cfg(test)]
 mod streams;
 #[cfg(test)]
+mod tasks;
+#[cfg(test)]
 mod versions;

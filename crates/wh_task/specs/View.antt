@@ -9,6 +9,7 @@ use Rattle.wh_task.specs.declared.run.Ending.TheVariants as endings
 use Rattle.wh_task.specs.declared.run.TaskRun.{TaskRun}
 use Rattle.wh_task.specs.declared.state.TaskState.{TaskState}
 use Rattle.wh_task.specs.declared.task.Task.{Task}
+use Rattle.wh_task.specs.declared.task.TaskBody.{TaskBody}
 use Rattle.wh_task.specs.declared.action.Action.{Action}
 use Rattle.wh_task.specs.declared.action.Action.TheVariants as actions
 
@@ -27,12 +28,15 @@ abbrev pub state_of : TaskState → state.TaskState
 state_of s =
     record { is_resumed = s.is_resumed; base = s.base; last_start = s.last_start; failures = s.failures }
 
+abbrev pub body_of : TaskBody → state.TaskBody
+body_of b = record { when = b.when; body = b.body; body_text = b.body_text }
+
 abbrev pub task_of : Task → state.Task
 task_of t = record {
   minutes = t.minutes;
   after = t.after.items;
   root = t.root;
-  runs = record { when = t.when; body = t.body; body_text = t.body_text };
+  runs = body_of t.runs;
   state = state_of t.state;
   run = run_of t.run.items;
 }

@@ -8,12 +8,10 @@ mod ends;
 mod run;
 mod state;
 mod task;
-#[cfg(test)]
-mod tests;
 
 pub use action::{Action, next_action};
 pub use begins::kept_tasks;
 pub use ends::skipped_behind;
 pub use run::{Ending, TaskRun, has_failed, is_under_way};
 pub use state::TaskState;
-pub use task::Task;
+pub use task::{Task, TaskBody};

@@ -3,6 +3,15 @@ use crate::state::TaskState;
 use wh_ast::{Dml, When};
 use wh_value::Text;
 
+/// What a task runs, and under which condition.
+#[derive(Debug, Drop)]
+pub struct TaskBody {
+    pub when: Option<When>,
+    pub body: Dml,
+    /// The body as it was written.
+    pub body_text: Text,
+}
+
 /// A task: what it runs, when, and behind which others.
 #[derive(Debug, Drop)]
 pub struct Task {
@@ -12,10 +21,7 @@ pub struct Task {
     pub after: Vec<u32>,
     /// Its root's id, its own where it has no predecessors.
     pub root: u32,
-    pub when: Option<When>,
-    pub body: Dml,
-    /// The body as it was written.
-    pub body_text: Text,
+    pub runs: TaskBody,
     pub state: TaskState,
     /// On a root the last run, by rising ids.
     pub run: Vec<TaskRun>,

@@ -14,7 +14,7 @@ use Rattle.std.proofs.lemmas.Bool.Decides.{nat_tests}
 use Rattle.wh_value.specs.Limit.{bound}
 use Rattle.wh_value.specs.declared.limit.Limit.{Limit}
 use Rattle.wh_value.specs.declared.limit.Limit.TheVariants as limits
-use Rattle.wh_state.specs.State.{Object, Table, at_id, TableKind, StreamKind}
+use Rattle.wh_state.specs.State.{Object, Table, at_id, TableKind, StreamKind, TaskKind}
 use Rattle.wh_state.specs.Objects.{as_table, table_at}
 use Rattle.wh_state.specs.Edits.{Edits, partitions_made}
 use Rattle.wh_state.specs.Stored.{StoredTable, StoredKind, StoredObject, standing, table_meant}
@@ -44,6 +44,7 @@ written_to stamp id e (Some o) = by_kind o.kind refl
         → version_written_to stamp id e (Some o) ≡ written_for stamp id e (as_table o)
     by_kind (TableKind t) is = rw is
     by_kind (StreamKind k) is = rw is
+    by_kind (TaskKind k) is = rw is
 
 pub no_version : (stamp : ℕ) (objects : List StoredObject) (id : ℕ) (s : Staged) → table_at objects id ≡ None
     → version_for stamp objects (id, s) ≡ []

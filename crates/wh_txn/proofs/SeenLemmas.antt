@@ -8,7 +8,7 @@ use Rattle.std.proofs.Common.{arith}
 use Rattle.std.specs.Prelude.{slice_get}
 use Rattle.std.specs.Ordering.{nat_cmp}
 use Rattle.std.specs.FinMap.{FinMap, get}
-use Rattle.wh_state.specs.State.{Kind, TableKind, StreamKind, Object, Table, at_id, stamped}
+use Rattle.wh_state.specs.State.{Kind, TableKind, StreamKind, TaskKind, Object, Table, at_id, stamped}
 use Rattle.wh_state.specs.Act.{edited_table}
 use Rattle.wh_state.specs.Objects.{as_table, table_at, stream_at}
 use Rattle.wh_state.specs.Stored.{StoredTable, table_meant, object_meant}
@@ -71,6 +71,8 @@ table_seen stamp tables objects id = by_found (at_id objects id) refl
     by_kind o (Some s) (TableKind t) is = rw is
     by_kind o None (StreamKind k) is = rw is
     by_kind o (Some s) (StreamKind k) is = rw is
+    by_kind o None (TaskKind k) is = rw is
+    by_kind o (Some s) (TaskKind k) is = rw is
 
     by_found : (found : Option Object) → at_id objects id ≡ found
         → table_at (seen_from stamp 1 tables objects) id

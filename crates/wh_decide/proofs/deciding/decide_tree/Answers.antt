@@ -8,8 +8,11 @@ use Rattle.wh_ddl_bind.specs.Binds.{Binds}
 use Rattle.wh_naming.specs.View.{failing_of, named_of}
 use Rattle.wh_naming.specs.declared.failing.Failing.{Failing}
 use Rattle.wh_naming.specs.declared.object.Named.{Named}
+use Rattle.wh_ddl_bind.specs.View.{root_in}
+use Rattle.wh_ddl_bind.specs.declared.names.TaskRoot.{TaskRoot}
 use Rattle.wh_reply.specs.View.{refusal_view}
-use Rattle.wh_machine.specs.Names.{refusal_of}
+use Rattle.wh_machine.specs.Names.{refusal_of, names_from}
+use Rattle.wh_catalog.specs.Catalog.{state_of}
 use Rattle.wh_machine.specs.Outcome.{Refuses}
 use Rattle.wh_decide.specs.Definitions.{earlier_refusal}
 use Rattle.wh_decide.specs.Names.{over}
@@ -29,7 +32,12 @@ returns-in-Ok c =
     let sight = c.args.sight.now in
     let tree = c.args.statement.now in
     let same =
-    ap (λ (os : List Named). bound (over (map named_of os)) tree) c.deref.ensures.value ∙ c.in_ok-objects.ensures in
+    ap (λ (os : List Named). bound (over (map named_of os) (map root_in c.deref-2.result.now)) tree)
+    c.deref.ensures.value
+    ∙ ap (λ (rs : List TaskRoot). bound (over (map named_of c.in_ok-objects.objects.items) (map root_in rs)) tree)
+    c.deref-2.ensures.value
+    ∙ c.in_ok-objects.ensures (map root_in c.in_ok-roots.roots.items)
+    ∙ c.in_ok-roots.ensures (names_from 1 (state_of sight.catalog.now).objects) in
     comes_as sight c.decide_bound.result
     (command_bound (machine_in sight) sight.session tree _ c.in-Ok.bound
     (sym c.is_session.ensures ∙ c.if-not-is_session.false) same c.in-Ok.ensures)
@@ -42,8 +50,13 @@ returns-in-Err-Failing c =
     let tree = c.args.statement.now in
     let failing = c.in-Err-Failing.failing in
     let same =
-    ap (λ (os : List Named). bound (over (map named_of os)) tree) c.deref.ensures.value ∙ c.in_ok-objects.ensures in
-    let names : Names = over (map named_of c.deref.result.now) in
+    ap (λ (os : List Named). bound (over (map named_of os) (map root_in c.deref-2.result.now)) tree)
+    c.deref.ensures.value
+    ∙ ap (λ (rs : List TaskRoot). bound (over (map named_of c.in_ok-objects.objects.items) (map root_in rs)) tree)
+    c.deref-2.ensures.value
+    ∙ c.in_ok-objects.ensures (map root_in c.in_ok-roots.roots.items)
+    ∙ c.in_ok-roots.ensures (names_from 1 (state_of sight.catalog.now).objects) in
+    let names : Names = over (map named_of c.deref.result.now) (map root_in c.deref-2.result.now) in
     let fails : first_failing (bound names tree) ≡ Some (failing_of failing) =
     subst (λ (fault : BindFault). Binds (Err fault) (bound names tree)) c.in-Err-Failing.field-0-is
     c.in-Err-Failing.ensures in

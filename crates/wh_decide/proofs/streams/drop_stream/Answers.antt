@@ -1,11 +1,17 @@
-use Rattle.std.proofs.Common.{refl}
+use Rattle.std.proofs.Common.{[], ◌∷◌, Some, None, refl}
 use Rattle.wh_reply.specs.Reply.{DroppedStream}
+use Rattle.wh_state.specs.Act.{DropsObject}
 use Rattle.wh_machine.specs.Streams.{drop_stream}
-use Rattle.wh_decide.proofs.OutcomeLemmas.{drops_as}
+use Rattle.wh_decide.specs.Sight.{machine_in}
+use Rattle.wh_decide.proofs.DefineLemmas.{defines_as}
+use Rattle.wh_decide.proofs.OutcomeLemmas.{comes_as}
 use Rattle.wh_decide.proofs.streams.drop_stream.Goals as goal
 
 pub returns : goal.returns
 unfolding drop_stream
 returns c =
-    drops_as c.args.sight.now c.drop_object.result c.args.id DroppedStream _ c.in_ok-name_of.ensures refl
+    let sight = c.args.sight.now in
+    comes_as sight c.drop_object.result
+    (defines_as {wrong = None} {found = None} (machine_in sight) sight.session (Some c.args.id) DroppedStream
+    (DropsObject c.args.id ∷ []) refl c.in_ok-name_of.ensures)
     c.drop_object.ensures

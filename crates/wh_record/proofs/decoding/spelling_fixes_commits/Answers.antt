@@ -1,15 +1,9 @@
-use Rattle.wh_record.proofs.CommitLaws.{payload_fixes_commit}
-use Rattle.wh_record.proofs.FileLaws.{file_fixes_payloads, file_fixes_stored, file_fixes_state}
+use Rattle.wh_record.proofs.CommitLaws.{payload_fixes_text_commit}
+use Rattle.wh_record.proofs.FileLaws.{file_fixes_payloads}
 use Rattle.wh_record.proofs.decoding.spelling_fixes_commits.Goals as goal
 
 pub returns-clause-payload : goal.returns-clause-payload
-returns-clause-payload c = payload_fixes_commit
+returns-clause-payload c = payload_fixes_text_commit
 
 pub returns-clause-records : goal.returns-clause-records
 returns-clause-records c = file_fixes_payloads
-
-pub returns-clause-stored : goal.returns-clause-stored
-returns-clause-stored c = file_fixes_stored
-
-pub returns-clause-state : goal.returns-clause-state
-returns-clause-state c = file_fixes_state

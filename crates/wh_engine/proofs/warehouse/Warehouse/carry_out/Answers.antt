@@ -15,6 +15,7 @@ use Rattle.wh_engine.proofs.StopLemmas.{leaves_still}
 use Rattle.wh_engine.proofs.HaltLemmas.{unchanged, reopens, starved, passed_on}
 use Rattle.wh_engine.proofs.CarryLemmas.{carries_nothing}
 use Rattle.wh_engine.proofs.DecidedLemmas.{Comes, turns, unstamped}
+use Rattle.wh_engine.proofs.SpelledLemmas.{event_spelled}
 use Rattle.wh_engine.proofs.warehouse.Warehouse.carry_out.Given.{Over}
 use Rattle.wh_engine.proofs.warehouse.Warehouse.carry_out.Goals.{After-settle}
 use Rattle.wh_engine.proofs.warehouse.Warehouse.carry_out.Goals as goal
@@ -70,7 +71,7 @@ settle-requires g c =
     turns w.catalog (sessions_of w.sessions) (event_of c.args.event.now)
     c.reading.result c.last.result c.bound.result c.max-stamp.result c.in_ok-decision.decision _ _
     c.last.ensures.orderly c.reading.ensures c.last.ensures.last c.bound.ensures c.max-stamp.ensures
-    c.if-bound-stamp.false c.in_ok-decision.ensures
+    c.if-bound-stamp.false (event_spelled c.args.event.now) c.in_ok-decision.ensures
     c.into_parts-reply.ensures.settlement c.into_parts-reply.ensures.reply in
     record {
       healthy = sym c.failed.ensures ∙ none;
@@ -78,6 +79,7 @@ settle-requires g c =
       within = omega (arith, c.bound.ensures, c.if-bound-stamp.false);
       staged = h.staged;
       timed = h.timed;
+      read = h.read;
     }
 
 -- ---- what was decided is carried out
@@ -90,7 +92,7 @@ module _ (g : Over) (c : After-settle g) where
       turns w.catalog (sessions_of w.sessions) (event_of c.args.event.now)
       c.reading.result c.last.result c.bound.result c.max-stamp.result c.in_ok-decision.decision _ _
       c.last.ensures.orderly c.reading.ensures c.last.ensures.last c.bound.ensures c.max-stamp.ensures
-      c.if-bound-stamp.false c.in_ok-decision.ensures
+      c.if-bound-stamp.false (event_spelled c.args.event.now) c.in_ok-decision.ensures
       c.into_parts-reply.ensures.settlement c.into_parts-reply.ensures.reply
 
   any_moment : Leaves c.args.self.now c.settle.new.self (led_to c.args.self.now (event_of c.args.event.now)).state

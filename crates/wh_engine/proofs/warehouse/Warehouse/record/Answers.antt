@@ -1,8 +1,9 @@
-use Rattle.std.proofs.Common.{◌≡◌, None, option_map, refl, ap, sym}
+use Rattle.std.proofs.Common.{◌≡◌, None, Some, option_map, refl, ap, sym}
 use Rattle.wh_state.specs.State.{State}
 use Rattle.wh_txn.specs.View.{sessions_of}
 use Rattle.wh_decide.specs.Decision.{machine_at}
 use Rattle.wh_record.specs.View.{commit_of}
+use Rattle.wh_engine.specs.Warehouse.{IsRead}
 use Rattle.wh_engine.proofs.StopLemmas.{leaves_still}
 use Rattle.wh_engine.proofs.CarryLemmas.{carries_nothing, state_passed}
 use Rattle.wh_engine.proofs.warehouse.Warehouse.record.Goals as goal
@@ -34,4 +35,6 @@ returns-in-Some-clause-any_moment g c =
     rw (c.in-Some.is, sym timed) c.commit.ensures.any_moment
 
 pub commit-requires : goal.commit-requires
-commit-requires g c = record { healthy = c.requires.healthy }
+commit-requires g c =
+    let read : IsRead (Some (commit_of c.in-Some.commit)) = rw c.in-Some.is at c.requires.read in
+    record { healthy = c.requires.healthy; read = read }

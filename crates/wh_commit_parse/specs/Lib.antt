@@ -1,0 +1,4 @@
+pub mod Laws
+pub mod Bodies
+pub mod Meant
+pub mod Gives

@@ -1,0 +1,130 @@
+-- What holds of acts that change tasks alone.
+--     IsOfTasks         such an act
+--     task_defined      a commit of them is lawful
+--     ends_lawful       so is one with a task's end behind its other acts
+use Rattle.std.proofs.Common.{◌≡◌, ℕ, Bool, true, false, cond, List, [], ◌∷◌, ◌++◌, map, Option, Some, None, refl, ap}
+use Rattle.std.proofs.Common.{◌∙◌}
+use Rattle.std.specs.Prelude.{nat_eq}
+use Rattle.std.specs.List.{AllByRecursion}
+use Rattle.wh_reply.specs.Reply.{Reply, is_refusal}
+use Rattle.wh_state.specs.Task.{Ending, Skipped, TaskState, Task, Run}
+use Rattle.wh_state.specs.State.{Object}
+use Rattle.wh_state.specs.Act.{Act, MakesTable, DropsObject, EditsRows, MakesStream, MovesOffset, MakesTask, PutsTask}
+use Rattle.wh_state.specs.Act.{BeginsRun, EndsTask, acted, all_acted}
+use Rattle.wh_state.specs.Objects.{stream_at}
+use Rattle.wh_state.proofs.AllLaws.{all_map, all_append}
+use Rattle.wh_state.proofs.ActLaws.{IsNoEdit, AreNoEdits, AreEditsFrom, no_more_edits, next_edit}
+use Rattle.wh_graph.specs.Graph.{is_under_way, has_failed, skipped_behind, run_behind}
+use Rattle.wh_graph.specs.Root.{state_behind}
+use Rattle.wh_machine.specs.Outcome.{Machine, commits}
+use Rattle.wh_machine.specs.Tasks.{live_tasks, put_to, is_same_state}
+use Rattle.wh_machine.specs.Ticks.{count_acts, graph_acts, end_acts, ends_as}
+use Rattle.wh_machine.proofs.Lawful.{MovesOn, MovesFree, IsCommitOf, IsLawful, same_sessions}
+use Rattle.wh_machine.proofs.Lawful.{does}
+use Rattle.wh_machine.proofs.CommitLaws.{Defines, defines_only, spares_all, defined}
+
+-- ---- acts that change tasks alone
+
+abbrev pub IsOfTasks : Act → Type 0
+IsOfTasks (PutsTask id state) = Unit {0}
+IsOfTasks (BeginsRun root tasks) = Unit {0}
+IsOfTasks (EndsTask root task ending) = Unit {0}
+IsOfTasks _ = ⊥
+
+define : (act : Act) → IsOfTasks act → Defines act
+define (PutsTask id state) is = tt
+define (BeginsRun root tasks) is = tt
+define (EndsTask root task ending) is = tt
+define (MakesTable name columns retention) is = absurd is
+define (DropsObject id) is = absurd is
+define (EditsRows id e) is = absurd is
+define (MakesStream name source is_append_only) is = absurd is
+define (MovesOffset id offset) is = absurd is
+define (MakesTask name minutes after runs) is = absurd is
+
+all_define : (acts : List Act) → AllByRecursion IsOfTasks acts → AllByRecursion Defines acts
+all_define acts are = all_map IsOfTasks Defines define acts are
+
+pub put_is : (id : ℕ) (new : Task → TaskState) (found : Option Task) → AllByRecursion IsOfTasks (put_to id new found)
+put_is id new None = tt
+put_is id new (Some t) = by_test (is_same_state t.state (new t))
+  where
+    by_test : (same : Bool) → AllByRecursion IsOfTasks (cond same [] (PutsTask id (new t) ∷ []))
+    by_test true = tt
+    by_test false = (tt, tt)
+
+pub task_defined : (m : Machine) (reply : Reply) (acts : List Act) → is_refusal reply ≡ false
+    → AllByRecursion IsOfTasks acts → IsLawful m [] (commits m reply acts)
+task_defined m reply acts accepted are = defined m reply acts accepted (all_define acts are)
+
+-- ---- the end of a task
+
+ends_are : (root : ℕ) (ids : List ℕ) → AllByRecursion IsOfTasks (map (λ id. EndsTask root id Skipped) ids)
+ends_are root [] = tt
+ends_are root (id ∷ ids) = (tt, ends_are root ids)
+
+count_is : (root : ℕ) (old new : TaskState) → AllByRecursion IsOfTasks (count_acts root old new)
+count_is root old new = by_test (nat_eq old.failures new.failures)
+  where
+    by_test : (same : Bool) → AllByRecursion IsOfTasks (cond same [] (PutsTask root new ∷ []))
+    by_test true = tt
+    by_test false = (tt, tt)
+
+graph_is : (root : ℕ) (s : TaskState) (behind : Run) → AllByRecursion IsOfTasks (graph_acts root s behind)
+graph_is root s behind = by_test (is_under_way behind)
+  where
+    by_test : (more : Bool)
+        → AllByRecursion IsOfTasks (cond more [] (count_acts root s (state_behind (has_failed behind) s)))
+    by_test true = tt
+    by_test false = count_is root s (state_behind (has_failed behind) s)
+
+pub end_is : (objects : List Object) (root : ℕ) (r : Task) (task : ℕ) (ending : Ending)
+    → AllByRecursion IsOfTasks (end_acts objects root r task ending)
+unfolding end_acts
+end_is objects root r task ending = (
+  tt,
+  all_append IsOfTasks (map (λ id. EndsTask root id Skipped) (skipped_behind (live_tasks objects) r.run task ending))
+      (graph_acts root r.state (run_behind (live_tasks objects) r.run task ending))
+      (ends_are root (skipped_behind (live_tasks objects) r.run task ending))
+      (graph_is root r.state (run_behind (live_tasks objects) r.run task ending)),
+)
+
+-- ---- a commit with acts of tasks behind it
+
+edits_more : (least : ℕ) (acts more : List Act) → AreEditsFrom least acts → AreNoEdits more
+    → AreEditsFrom least (acts ++ more)
+edits_more least acts more (no_more_edits are) others = no_more_edits (all_append IsNoEdit acts more are others)
+edits_more least (EditsRows id e ∷ acts) more (next_edit from rising) others =
+    next_edit from (edits_more _ acts more rising others)
+
+acted_append : (stamp : ℕ) (objects : List Object) (acts more : List Act)
+    → all_acted stamp objects (acts ++ more) ≡ all_acted stamp (all_acted stamp objects acts) more
+acted_append stamp objects [] more = refl
+acted_append stamp objects (act ∷ acts) more = acted_append stamp (acted stamp objects act) acts more
+
+ends_commit : (m : Machine) (moving : List ℕ) (acts more : List Act) → AllByRecursion IsOfTasks more
+    → IsCommitOf m moving m.sessions acts → IsCommitOf m moving m.sessions (acts ++ more)
+ends_commit m moving acts more are commit = record {
+  shape = edits_more 0 acts more commit.shape
+      (all_map Defines IsNoEdit (λ act is. (defines_only m.state act is).0) more (all_define more are));
+  moves = λ begun. all_append (MovesOn m.state) acts more (commit.moves begun)
+      (all_map Defines (MovesOn m.state) (λ act is. (defines_only m.state act is).1) more (all_define more are));
+  free = commit.free;
+  stays = λ id s at none. ap (λ (objects : List Object). stream_at objects id)
+      (acted_append m.state.last m.state.objects acts more)
+      ∙ spares_all m.state.last (all_acted m.state.last m.state.objects acts) more (all_define more are) id s
+      (commit.stays id s at none);
+}
+
+pub nothing_commits : (m : Machine) (moving : List ℕ) → MovesFree m m.sessions moving
+    → IsCommitOf m moving m.sessions []
+nothing_commits m moving free =
+    record { shape = no_more_edits tt; moves = λ begun. tt; free = free; stays = λ id s at none. at }
+
+pub ends_lawful : (m : Machine) (moving : List ℕ) (reply : Reply) (acts : List Act) (root : ℕ) (r : Task) (task : ℕ)
+    (ending : Ending)
+    → is_refusal reply ≡ false → IsCommitOf m moving m.sessions acts
+    → IsLawful m moving (ends_as m root r task ending reply acts)
+ends_lawful m moving reply acts root r task ending accepted commit =
+    does m reply m.sessions _ accepted (same_sessions m)
+    (ends_commit m moving acts _ (end_is m.state.objects root r task ending) commit)

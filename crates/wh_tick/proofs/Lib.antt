@@ -1,0 +1,6 @@
+pub mod CarryLemmas
+pub mod CatalogLemmas
+pub mod EndLemmas
+pub mod GuardLemmas
+pub mod HoldingLaws
+pub mod RunLemmas

@@ -1,0 +1,29 @@
+use Rattle.std.proofs.Common.{ℕ, List, refl, ap, sym, subst, ◌∙◌}
+use Rattle.std.specs.Result.{IfOk}
+use Rattle.wh_state.specs.State.{stamped}
+use Rattle.wh_machine.specs.Outcome.{Outcome}
+use Rattle.wh_machine.specs.Step.{commanded, outcome_of}
+use Rattle.wh_stmt_parse.specs.Request.{request_of}
+use Rattle.wh_catalog.specs.Catalog.{stored_of, state_of}
+use Rattle.wh_txn.specs.View.{sessions_of}
+use Rattle.wh_decide.specs.declared.event.Event.{Event}
+use Rattle.wh_decide.specs.Event.{event_of}
+use Rattle.wh_decide.specs.Decision.{Decides, machine_at}
+use Rattle.wh_tick.proofs.deciding.decide.Goals as goal
+
+pub returns-in-Command : goal.returns-in-Command
+returns-in-Command c =
+    let catalog = c.args.catalog.now in
+    let sessions = sessions_of c.args.sessions.now in
+    let m = machine_at (stamped (state_of catalog) c.args.stamp) sessions in
+    subst (λ (o : Outcome). IfOk c.decide_command.result (λ d. Decides (stored_of catalog) sessions c.args.stamp d o))
+    (ap (λ (t : List ℕ). commanded m c.in-Command.session (request_of t)) c.as_slice.ensures
+    ∙ ap (λ (e : Event). outcome_of m (event_of e)) (sym c.in-Command.is)) c.decide_command.ensures
+
+pub returns-in-Tick : goal.returns-in-Tick
+returns-in-Tick c =
+    let catalog = c.args.catalog.now in
+    let sessions = sessions_of c.args.sessions.now in
+    let m = machine_at (stamped (state_of catalog) c.args.stamp) sessions in
+    subst (λ (o : Outcome). IfOk c.decide_tick.result (λ d. Decides (stored_of catalog) sessions c.args.stamp d o))
+    (ap (λ (e : Event). outcome_of m (event_of e)) (sym c.in-Tick.is)) c.decide_tick.ensures

@@ -1,0 +1,24 @@
+use Rattle.std.proofs.Common.{List, ℕ, Option, refl, sym, ap, ◌∙◌}
+use Rattle.wh_reply.specs.Reply.{Started}
+use Rattle.wh_state.specs.Task.{Task}
+use Rattle.wh_task.specs.View.{state_of}
+use Rattle.wh_machine.specs.Outcome.{commits}
+use Rattle.wh_machine.specs.Ticks.{scheduled_acts, starts_run}
+use Rattle.wh_decide.specs.Sight.{machine_in}
+use Rattle.wh_decide.proofs.OutcomeLemmas.{decides_as}
+use Rattle.wh_tick.proofs.starting.start_run.Goals as goal
+
+pub returns-in_default : goal.returns-in_default
+returns-in_default c =
+    let sight = c.args.sight.now in
+    decides_as sight c.idle.result (ap (starts_run (machine_in sight) c.args.root) c.in_default.ensures) c.idle.ensures
+
+pub returns : goal.returns
+returns c =
+    let sight = c.args.sight.now in
+    let m = machine_in sight in
+    let acts = scheduled_acts m.state.objects sight.stamp c.args.root (state_of c.in-Some.task.now.state) in
+    decides_as sight c.committed.result
+    (ap (λ (name : List ℕ). commits m (Started name) acts) c.in_ok-name.ensures
+    ∙ ap (starts_run m c.args.root) c.in-Some.ensures)
+    (c.committed.ensures acts c.in_ok-changes.ensures)

@@ -1,0 +1,140 @@
+//! WHEN of a task: whether it holds, by what its streams have to show.
+ghost use Rattle.std.specs.Prelude.{◌≡◌, ◌++◌, IfOk, OnOk};
+ghost use Rattle.wh_ddl_naming.specs.Names.{names_at};
+ghost use Rattle.wh_machine.specs.Ticks as machine;
+ghost use Rattle.wh_machine.specs.Ticks.{guard_of, guard_verdict};
+ghost use Rattle.wh_decide.specs.Sight.{machine_in};
+ghost use Rattle.wh_tick.specs.Guards.{verdict_of};
+
+use crate::guards::guard_refusal;
+use crate::lookups::{id_of, stream_at};
+use std::alloc::{AllocError, Global};
+use wh_ast::{When, WhenCondition};
+use wh_decide::Sight;
+use wh_reply::Refusal;
+use wh_stream::has_data;
+use wh_value::Text;
+
+/// What a task's condition says.
+#[derive(Debug, Drop)]
+pub(crate) enum Verdict {
+    Fails(Refusal),
+    Holds,
+    HoldsNot,
+}
+
+/// What the condition of a task says, whose statement is one of session 0. One without a condition
+/// runs.
+pub(crate) fn task_verdict(
+    alloc: Global,
+    sight: &Sight<'_>,
+    when: &Option<When>,
+) -> Result<Verdict, AllocError>
+    requires { sight.now.session ≡ 0 }
+    ensures { IfOk result (λ verdict. verdict_of verdict
+        ≡ machine.verdict (machine_in sight.now) when.now) }
+{
+    match when {
+        Some(when) => condition_verdict(alloc, sight, &when.condition),
+        None => Ok(Verdict::Holds),
+    }
+}
+
+fn condition_verdict(
+    alloc: Global,
+    sight: &Sight<'_>,
+    condition: &WhenCondition,
+) -> Result<Verdict, AllocError>
+    requires { sight.now.session ≡ 0 }
+    ensures { IfOk result (λ verdict. verdict_of verdict
+        ≡ guard_verdict (machine_in sight.now) (guard_of condition.now)) }
+{
+    let streams = streams_of(alloc, condition)?;
+    let found = guard_refusal(alloc, sight, &streams)?;
+    if let Some(why) = found {
+        return Ok(Verdict::Fails(why));
+    }
+    let so = holds(alloc, sight, condition)?;
+    if so {
+        return Ok(Verdict::Holds);
+    }
+    Ok(Verdict::HoldsNot)
+}
+
+// The streams that a condition asks for, in the order of the text.
+fn streams_of(alloc: Global, condition: &WhenCondition) -> Result<Vec<&Text>, AllocError>
+    ensures { IfOk result (λ streams. names_at streams.items ≡ (guard_of condition.now).streams) }
+{
+    let mut streams = Vec::new(alloc);
+    add_streams(&mut streams, condition)?;
+    Ok(streams)
+}
+
+#[cycle(streams)]
+#[tactic(auto, unfolding(wh_machine::specs::Ticks::guard_step))]
+fn add_streams<'a>(
+    streams: &mut Vec<&'a Text>,
+    condition: &'a WhenCondition,
+) -> Result<(), AllocError>
+    ensures { OnOk result (names_at streams.new.items
+        ≡ names_at streams.old.items ++ (guard_of condition.now).streams) }
+{
+    match condition {
+        WhenCondition::Or(x, y) => {
+            add_streams(streams, x.get())?;
+            add_streams(streams, y.get())
+        }
+        WhenCondition::And(x, y) => {
+            add_streams(streams, x.get())?;
+            add_streams(streams, y.get())
+        }
+        WhenCondition::Not(x) => add_streams(streams, x.get()),
+        WhenCondition::HasData(name) => {
+            streams.push(name)?;
+            Ok(())
+        }
+    }
+}
+
+// Whether a condition holds.
+#[cycle(holds)]
+#[tactic(auto, unfolding(wh_machine::specs::Ticks::guard_step))]
+fn holds(alloc: Global, sight: &Sight<'_>, condition: &WhenCondition) -> Result<bool, AllocError>
+    requires { sight.now.session ≡ 0 }
+    ensures { IfOk result (λ so. so
+        ≡ (guard_of condition.now).holds (machine.shows (machine_in sight.now))) }
+{
+    match condition {
+        WhenCondition::Or(x, y) => {
+            if holds(alloc, sight, x.get())? {
+                return Ok(true);
+            }
+            holds(alloc, sight, y.get())
+        }
+        WhenCondition::And(x, y) => {
+            if !holds(alloc, sight, x.get())? {
+                return Ok(false);
+            }
+            holds(alloc, sight, y.get())
+        }
+        WhenCondition::Not(x) => {
+            let so = holds(alloc, sight, x.get())?;
+            Ok(!so)
+        }
+        WhenCondition::HasData(name) => shows(alloc, sight, name),
+    }
+}
+
+// Whether the stream of a name has rows to show.
+fn shows(alloc: Global, sight: &Sight<'_>, name: &Text) -> Result<bool, AllocError>
+    requires { sight.now.session ≡ 0 }
+    ensures { IfOk result (λ has. has ≡ machine.shows (machine_in sight.now) name.now) }
+{
+    let Some(id) = id_of(sight.catalog, name) else {
+        return Ok(false);
+    };
+    let Some(stream) = stream_at(sight.catalog, id) else {
+        return Ok(false);
+    };
+    has_data(alloc, sight.catalog, stream, sight.start())
+}

@@ -1,0 +1,32 @@
+CREATE TABLE T(K NUMBER);
+CREATE TABLE C(K NUMBER);
+CREATE STREAM S ON TABLE T;
+-- the condition's stream has nothing to show, so the task is skipped, and its statement isn't looked at
+CREATE TASK A WHEN SYSTEM$STREAM_HAS_DATA('S') AS INSERT INTO C SELECT K FROM S;
+EXECUTE TASK A;
+!tick
+-- with a row to show it moves the changes on
+INSERT INTO T VALUES (1);
+EXECUTE TASK A;
+!tick
+SELECT * FROM C;
+-- once
+EXECUTE TASK A;
+!tick
+-- a condition moves nothing
+CREATE TASK B WHEN NOT SYSTEM$STREAM_HAS_DATA('S') AS DELETE FROM C;
+INSERT INTO T VALUES (2);
+EXECUTE TASK B;
+!tick
+SELECT SYSTEM$STREAM_HAS_DATA('S');
+-- each name is looked at, whatever the others say
+CREATE TASK D WHEN SYSTEM$STREAM_HAS_DATA('S') OR SYSTEM$STREAM_HAS_DATA('NONE') AS DELETE FROM C;
+EXECUTE TASK D;
+!tick
+-- a table is no stream
+CREATE TASK E WHEN SYSTEM$STREAM_HAS_DATA('T') AND SYSTEM$STREAM_HAS_DATA('NONE') AS DELETE FROM C;
+EXECUTE TASK E;
+!tick
+CREATE TASK F WHEN SYSTEM$STREAM_HAS_DATA('T') AS DELETE FROM C;
+EXECUTE TASK F;
+!tick
