@@ -11,6 +11,7 @@ ghost use Rattle.wh_stmt_parse.specs.Gives.{Gives};
 ghost use Rattle.wh_commit_parse.specs.Gives.{GivesAs};
 ghost use Rattle.wh_commit_parse.specs.Meant as spec;
 
+use sqlite_items::Boxed;
 use std::alloc::Global;
 use wh_ast::{Dml, Statement, When, WhenCondition};
 use wh_cursor::{ParseFault, Words, tokens_of_text};
@@ -63,22 +64,22 @@ fn condition_in(alloc: Global, text: &[u8]) -> Result<Option<WhenCondition>, Par
 }
 
 #[tactic(auto, unfolding(crate::specs::Meant::when_of))]
-fn when_of(alloc: Global, text: Text) -> Result<Option<When>, ParseFault>
+fn when_of(alloc: Global, text: Text) -> Result<Option<Boxed<When>>, ParseFault>
     ensures { Gives result (spec.when_of text) }
 {
     match condition_in(alloc, text.as_bytes())? {
         None => Ok(None),
-        Some(condition) => Ok(Some(When { condition, text })),
+        Some(condition) => Ok(Some(Boxed::new(alloc, When { condition, text })?)),
     }
 }
 
 /// The changing statement that a text spells.
 #[tactic(auto, unfolding(crate::specs::Meant::dml_of))]
-fn dml_of(alloc: Global, text: &[u8]) -> Result<Dml, ParseFault>
+fn dml_of(alloc: Global, text: &[u8]) -> Result<Boxed<Dml>, ParseFault>
     ensures { Gives result (spec.dml_of text.now) }
 {
     match parse(alloc, text)? {
-        Statement::Dml(found) => Ok(found),
+        Statement::Dml(found) => Ok(Boxed::new(alloc, found)?),
         _ => Err(ParseFault::SyntaxError),
     }
 }

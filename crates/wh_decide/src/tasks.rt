@@ -17,9 +17,7 @@ use crate::definitions::{count_refusal, defined, definition_refusal, is_long};
 use crate::graphs::{child_count, graph_count, root_at, root_resumed};
 use crate::limits::{refused_if, refused_past};
 use crate::sight::Sight;
-use sqlite_items::Boxed;
 use std::alloc::{AllocError, Global};
-use wh_ast::When;
 use wh_catalog::Catalog;
 use wh_ddl_bind::NewTask;
 use wh_record::{Change, TaskChange};
@@ -60,8 +58,8 @@ fn task_change(task: NewTask, id: u32) -> Change
 {
     let minutes = task.minutes.unwrap_or(0) as u32;
     let runs = TaskBody {
-        when: unboxed(task.when),
-        body: task.body.into_inner(),
+        when: task.when,
+        body: task.body,
         body_text: task.body_text,
     };
     Change::CreatesTask(TaskChange {
@@ -71,15 +69,6 @@ fn task_change(task: NewTask, id: u32) -> Change
         after: task.after,
         runs,
     })
-}
-
-fn unboxed(when: Option<Boxed<When>>) -> Option<When>
-    ensures { result ≡ when }
-{
-    match when {
-        Some(when) => Some(when.into_inner()),
-        None => None,
-    }
 }
 
 // ---- the first test that a new task fails whose names are right

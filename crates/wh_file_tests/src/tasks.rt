@@ -1,4 +1,5 @@
 use crate::commits::{assert_one, assert_unread, has_a_prefix, is_written, with_byte};
+use sqlite_items::Boxed;
 use std::alloc::Global;
 use std::process::Abort;
 use wh_ast::{Dml, When, WhenCondition};
@@ -41,20 +42,22 @@ const END: [u8; 22] = [
 ];
 
 /// A deletion under a condition.
-fn runs(rt: &impl Abort, alloc: Global, when: Option<When>) -> TaskBody {
+fn runs(rt: &impl Abort, alloc: Global, when: Option<Boxed<When>>) -> TaskBody {
+    let deletion = Dml::Delete(Text::of(alloc, "T").expect(rt, "memory"), None);
     TaskBody {
         when,
-        body: Dml::Delete(Text::of(alloc, "T").expect(rt, "memory"), None),
+        body: Boxed::new(alloc, deletion).expect(rt, "memory"),
         body_text: Text::of(alloc, "DELETE FROM T").expect(rt, "memory"),
     }
 }
 
 /// That the stream S has data.
-fn condition(rt: &impl Abort, alloc: Global) -> When {
-    When {
+fn condition(rt: &impl Abort, alloc: Global) -> Boxed<When> {
+    let when = When {
         condition: WhenCondition::HasData(Text::of(alloc, "S").expect(rt, "memory")),
         text: Text::of(alloc, "SYSTEM$STREAM_HAS_DATA('S')").expect(rt, "memory"),
-    }
+    };
+    Boxed::new(alloc, when).expect(rt, "memory")
 }
 
 fn created(rt: &impl Abort, alloc: Global) -> Change {

@@ -45,7 +45,7 @@ fn write_condition(out: &mut Bytes, runs: &TaskBody) -> Result<(), AllocError>
     ensures text { OnOk result (IsText (texts_of (body_of runs.now)).when) }
 {
     match &runs.when {
-        Some(when) => write_text(out, &when.text),
+        Some(when) => write_text(out, &when.get().text),
         None => write_u32(out, 0),
     }
 }

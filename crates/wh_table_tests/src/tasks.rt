@@ -1,4 +1,5 @@
 use crate::catalog::{assert_refused, carry_out, commit, text};
+use sqlite_items::Boxed;
 use std::alloc::Global;
 use std::process::Abort;
 use wh_ast::Dml;
@@ -19,7 +20,7 @@ enum Step {
 fn body(rt: &impl Abort, alloc: Global) -> TaskBody {
     TaskBody {
         when: None,
-        body: Dml::Delete(text(rt, alloc, b"T"), None),
+        body: Boxed::new(alloc, Dml::Delete(text(rt, alloc, b"T"), None)).expect(rt, "memory"),
         body_text: text(rt, alloc, b"DELETE FROM T"),
     }
 }

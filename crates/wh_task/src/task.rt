@@ -1,13 +1,14 @@
 use crate::run::{TaskRun, is_under_way};
 use crate::state::TaskState;
+use sqlite_items::Boxed;
 use wh_ast::{Dml, When};
 use wh_value::Text;
 
 /// What a task runs, and under which condition.
 #[derive(Debug, Drop)]
 pub struct TaskBody {
-    pub when: Option<When>,
-    pub body: Dml,
+    pub when: Option<Boxed<When>>,
+    pub body: Boxed<Dml>,
     /// The body as it was written.
     pub body_text: Text,
 }

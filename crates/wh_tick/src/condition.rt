@@ -8,6 +8,7 @@ ghost use Rattle.wh_tick.specs.Guards.{verdict_of};
 
 use crate::guards::guard_refusal;
 use crate::lookups::{id_of, stream_at};
+use sqlite_items::Boxed;
 use std::alloc::{AllocError, Global};
 use wh_ast::{When, WhenCondition};
 use wh_decide::Sight;
@@ -28,14 +29,14 @@ pub(crate) enum Verdict {
 pub(crate) fn task_verdict(
     alloc: Global,
     sight: &Sight<'_>,
-    when: &Option<When>,
+    when: &Option<Boxed<When>>,
 ) -> Result<Verdict, AllocError>
     requires { sight.now.session ≡ 0 }
     ensures { IfOk result (λ verdict. verdict_of verdict
         ≡ machine.verdict (machine_in sight.now) when.now) }
 {
     match when {
-        Some(when) => condition_verdict(alloc, sight, &when.condition),
+        Some(when) => condition_verdict(alloc, sight, &when.get().condition),
         None => Ok(Verdict::Holds),
     }
 }

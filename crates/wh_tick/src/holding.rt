@@ -98,7 +98,7 @@ fn is_free(
 {
     match task_at(sight.catalog, id) {
         Some(task) => {
-            let is_held = is_held_back(alloc, sight, names, &task.runs.body)?;
+            let is_held = is_held_back(alloc, sight, names, task.runs.body.get())?;
             Ok(!is_held)
         }
         None => Ok(false),

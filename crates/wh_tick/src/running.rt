@@ -75,7 +75,7 @@ fn run_by(
     match task_verdict(alloc, sight, &runs.when)? {
         Verdict::Fails(why) => fails(alloc, sight, turn, why),
         Verdict::HoldsNot => skips(alloc, sight, turn),
-        Verdict::Holds => carries(alloc, sight, turn, &runs.body),
+        Verdict::Holds => carries(alloc, sight, turn, runs.body.get()),
     }
 }
 
