@@ -19,12 +19,12 @@ use Rattle.wh_machine.specs.Sessions.{transaction_in}
 use Rattle.wh_machine.specs.Outcome.{Machine, opened, settled}
 use Rattle.wh_machine.specs.Reading.{rows_read}
 use Rattle.wh_machine.specs.Statements.{commit}
-use Rattle.wh_machine.specs.Step.{Event, Command, stamp_of, at_stamp, step, after}
+use Rattle.wh_machine.specs.Step.{Event, Command, Tick, stamp_of, at_stamp, step, after}
 use Rattle.wh_machine.specs.Script.{IsScript}
 use Rattle.wh_machine.specs.Made.{all_made, kept_after_all}
 use Rattle.wh_machine.specs.Sound.{SoundMachine}
 use Rattle.wh_machine.specs.Consuming.{consumed, batches, all_patched, rows_consumed, reads, AreApart, IsHeldAlong}
-use Rattle.wh_machine.specs.Consuming.{committing, changing, change_reads, consumes}
+use Rattle.wh_machine.specs.Consuming.{committing, changing, change_reads, consumes, event_consumes, has_succeeded}
 
 -- ---- machines that are reached from a sound file
 
@@ -103,8 +103,18 @@ ChangesConsumeWhatTheyRead = (reading session id : ℕ) (change : Dml) (m : Mach
     → bag_of (map (shown_row s.source) (consumed id m (changing reading session change)))
     ≡ rows_read (at_stamp m (stamp_of m.state reading)) session id
 
--- nothing is consumed of a stream but by an accepted COMMIT of a transaction that holds it, and by an accepted change
--- outside of a transaction that reads it
+-- what a task's run consumes of a stream that its statement reads is, as rows, what the statement reads of it; it is
+-- one of session 0, which no command is one of
+abbrev pub RunsConsumeWhatTheyRead : Type 0
+RunsConsumeWhatTheyRead = (reading id : ℕ) (m : Machine) (s : Stream) → transaction_in m.sessions 0 ≡ None
+    → stream_at m.state.objects id ≡ Some s
+    → event_consumes id (at_stamp m (stamp_of m.state reading)) (Tick reading) ≡ true
+    → has_succeeded (step m (Tick reading)).1 ≡ true
+    → bag_of (map (shown_row s.source) (consumed id m (Tick reading)))
+    ≡ rows_read (at_stamp m (stamp_of m.state reading)) 0 id
+
+-- nothing is consumed of a stream but by an accepted COMMIT of a transaction that holds it, by an accepted change
+-- outside of a transaction that reads it, and by the run of a task whose statement reads it
 abbrev pub NothingElseConsumes : Type 0
 NothingElseConsumes = (id : ℕ) (m : Machine) (e : Event) → consumes id m e ≡ false → consumed id m e ≡ []
 
@@ -118,6 +128,12 @@ abbrev pub QueriesMoveNothing : Type 0
 QueriesMoveNothing = (reading session : ℕ) (query : Query) (sorts : List Sort) (m : Machine) (id : ℕ) (s : Stream)
     → stream_at m.state.objects id ≡ Some s
     → stream_at (step m (Command reading session (Asked (st.Select query sorts)))).0.state.objects id ≡ Some s
+
+-- nor is a tick at which no task succeeds: a condition moves nothing, and neither does a statement that fails
+abbrev pub OtherTicksMoveNothing : Type 0
+OtherTicksMoveNothing = (reading id : ℕ) (m : Machine) (s : Stream) → stream_at m.state.objects id ≡ Some s
+    → has_succeeded (step m (Tick reading)).1 ≡ false
+    → stream_at (step m (Tick reading)).0.state.objects id ≡ Some s
 
 -- what a transaction holds before and behind an event is as it was
 abbrev pub HeldStreamsStay : Type 0

@@ -2,6 +2,7 @@ ghost use Rattle.wh_engine.specs.Laws.{RefusalsChangeNothing, BatchesLead, Reads
 ghost use Rattle.wh_engine.specs.Laws.{CommitsMoveToTheStart, ChangesMoveToTheStart};
 ghost use Rattle.wh_engine.specs.Laws.{CommitsConsumeWhatWasRead};
 ghost use Rattle.wh_engine.specs.Laws.{ChangesHoldWhatTheyRead, ChangesConsumeWhatTheyRead};
+ghost use Rattle.wh_engine.specs.Laws.{RunsConsumeWhatTheyRead, OtherTicksMoveNothing};
 ghost use Rattle.wh_engine.specs.Laws.{NothingElseConsumes, OthersMoveNothing, QueriesMoveNothing};
 ghost use Rattle.wh_engine.specs.Laws.{SoundStatesOpen, EventsKeepMachinesSound, HeldStreamsStay};
 ghost use Rattle.wh_engine.specs.Laws.{CommitsApply};
@@ -32,12 +33,13 @@ pub fn commits_move_to_the_start()
 
 /// A batch is what was read. What a COMMIT consumes of a standard stream is, row by row, what the
 /// statements of its transaction read of it, from the first change on that read it and so held it;
-/// a change outside of a transaction consumes what it reads itself; nothing else consumes any of
-/// it.
+/// a change outside of a transaction consumes what it reads itself, and so does the statement of a
+/// task; nothing else consumes any of it.
 pub fn batches_are_what_was_read()
     ensures commits { CommitsConsumeWhatWasRead }
     ensures holds { ChangesHoldWhatTheyRead }
     ensures changes { ChangesConsumeWhatTheyRead }
+    ensures runs { RunsConsumeWhatTheyRead }
     ensures others { NothingElseConsumes }
 {}
 
@@ -53,10 +55,11 @@ pub fn events_keep_machines_sound()
 {}
 
 /// Where no event consumes a stream, it is as it was, with its offset; no SELECT does, whatever it
-/// reads.
+/// reads, and no tick but one that carries out the statement of a task.
 pub fn what_consumes_nothing_moves_nothing()
     ensures others { OthersMoveNothing }
     ensures queries { QueriesMoveNothing }
+    ensures ticks { OtherTicksMoveNothing }
 {}
 
 /// A stream that an open transaction holds is moved by no event that leaves it held.

@@ -4,6 +4,7 @@
 --     changed_read      whether the streams that a change comes to are those of its statement
 --     change_consumes   a change outside of a transaction moves a stream that it reads to its start
 --     change_batch      and consumes what it reads itself
+--     consumed_rows     what an event consumes that moves a stream up to a stamp
 use Rattle.std.proofs.Common.{◌≡◌, ℕ, zero, suc, Bool, true, false, List, [], ◌∷◌, map, Option, Some, None}
 use Rattle.std.proofs.Common.{refl, sym, ap, subst, ◌∙◌}
 use Rattle.std.specs.Prelude.{max, nat_eq, ◌||◌, slice_set}
@@ -75,7 +76,7 @@ shown_rows : (s : Stream) (start : ℕ) (found : Option Table)
 shown_rows s start None = refl
 shown_rows s start (Some t) = ap (map (shown_row s.source)) (shown_again t s start)
 
-consumed_rows : (m : Machine) (e : Event) (id start : ℕ) (s : Stream) → stream_at m.state.objects id ≡ Some s
+pub consumed_rows : (m : Machine) (e : Event) (id start : ℕ) (s : Stream) → stream_at m.state.objects id ≡ Some s
     → stream_at (step m e).0.state.objects id ≡ Some (read_to start s)
     → map (shown_row s.source) (consumed id m e) ≡ rows_shown m.state.objects s start
 consumed_rows m e id start s at moved =

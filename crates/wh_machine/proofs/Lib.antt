@@ -14,6 +14,7 @@ pub mod ReadLaws
 pub mod HoldLaws
 pub mod HeldLaws
 pub mod BatchLaws
+pub mod RunLaws
 pub mod OtherwiseLaws
 pub mod KnownTransactions
 pub mod KnownEvents

@@ -2,13 +2,15 @@
 --     IsOfTasks         such an act
 --     task_defined      a commit of them is lawful
 --     ends_lawful       so is one with a task's end behind its other acts
+--     ends_spare        a task's end moves no stream
+--     spares_tasks      and acts that change tasks alone do not
 use Rattle.std.proofs.Common.{◌≡◌, ℕ, Bool, true, false, cond, List, [], ◌∷◌, ◌++◌, map, Option, Some, None, refl, ap}
 use Rattle.std.proofs.Common.{◌∙◌}
 use Rattle.std.specs.Prelude.{nat_eq}
 use Rattle.std.specs.List.{AllByRecursion}
 use Rattle.wh_reply.specs.Reply.{Reply, is_refusal}
 use Rattle.wh_state.specs.Task.{Ending, Skipped, TaskState, Task, Run}
-use Rattle.wh_state.specs.State.{Object}
+use Rattle.wh_state.specs.State.{Object, Stream}
 use Rattle.wh_state.specs.Act.{Act, MakesTable, DropsObject, EditsRows, MakesStream, MovesOffset, MakesTask, PutsTask}
 use Rattle.wh_state.specs.Act.{BeginsRun, EndsTask, acted, all_acted}
 use Rattle.wh_state.specs.Objects.{stream_at}
@@ -115,6 +117,21 @@ ends_commit m moving acts more are commit = record {
       ∙ spares_all m.state.last (all_acted m.state.last m.state.objects acts) more (all_define more are) id s
       (commit.stays id s at none);
 }
+
+pub spares_tasks : (m : Machine) (acts : List Act) → AllByRecursion IsOfTasks acts → (id : ℕ) (s : Stream)
+    → stream_at m.state.objects id ≡ Some s → stream_at (all_acted m.state.last m.state.objects acts) id ≡ Some s
+spares_tasks m acts are id s at =
+    spares_all m.state.last m.state.objects acts (all_define acts are) id s at
+
+pub ends_spare : (m : Machine) (root : ℕ) (r : Task) (task : ℕ) (ending : Ending) (acts : List Act) (id : ℕ) (s : Stream)
+    → stream_at (all_acted m.state.last m.state.objects acts) id ≡ Some s
+    → stream_at (all_acted m.state.last m.state.objects (acts ++ end_acts m.state.objects root r task ending)) id
+    ≡ Some s
+ends_spare m root r task ending acts id s at =
+    let ends : List Act = end_acts m.state.objects root r task ending in
+    ap (λ (objects : List Object). stream_at objects id) (acted_append m.state.last m.state.objects acts ends)
+    ∙ spares_all m.state.last (all_acted m.state.last m.state.objects acts) ends
+    (all_define ends (end_is m.state.objects root r task ending)) id s at
 
 pub nothing_commits : (m : Machine) (moving : List ℕ) → MovesFree m m.sessions moving
     → IsCommitOf m moving m.sessions []

@@ -9,6 +9,7 @@
 --     committing, changing  a command that asks for COMMIT, and one for a change of rows
 --     change_in             a change of rows over the live objects; change_reads, that it reads a stream
 --     consumes              an event is an accepted one of those that consume a stream
+--     has_succeeded         a tick carried out the statement of a task
 --     all_patched           rows with batches of changes made, one after the other
 use Rattle.std.specs.Prelude.{◌≡◌, ℕ, ◌-◌, ◌<◌, ◌≤◌, max, Bool, true, false, List, [], ◌∷◌, Option, Some, None}
 use Rattle.std.specs.Prelude.{nat_eq, not, ◌&&◌, is_some}
@@ -22,7 +23,7 @@ use Rattle.wh_ast.specs.declared.statement.Statement.TheVariants as st
 use Rattle.wh_grammar.specs.Spelled.{TooLong, Unreadable}
 use Rattle.wh_grammar.specs.Spelled.{Asked}
 use Rattle.wh_naming.specs.Changes.{BoundChange, bound_change}
-use Rattle.wh_reply.specs.Reply.{is_refusal}
+use Rattle.wh_reply.specs.Reply.{Reply, TaskSucceeded, is_refusal}
 use Rattle.wh_state.specs.State.{TaskKind, task_in}
 use Rattle.wh_state.specs.State.{Rows, Kind, TableKind, StreamKind, Object, Table, Stream, table_in, stream_in}
 use Rattle.wh_state.specs.Objects.{task_at}
@@ -159,6 +160,11 @@ event_consumes id m (Command reading session (Asked written)) = statement_consum
 event_consumes id m (Command reading session TooLong) = false
 event_consumes id m (Command reading session Unreadable) = false
 event_consumes id m (Tick reading) = action_consumes id m (action_at m)
+
+-- the run of a task that carried out its statement
+abbrev pub has_succeeded : Reply → Bool
+has_succeeded (TaskSucceeded name counts aftermath) = true
+has_succeeded _ = false
 
 -- where it isn't refused
 abbrev pub consumes : ℕ → Machine → Event → Bool
