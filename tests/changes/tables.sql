@@ -78,13 +78,13 @@ DROP TABLE U, V;
 DROP TABLE IF EXISTS U;
 -- OR REPLACE makes tables alone
 CREATE OR REPLACE STREAM S ON TABLE U;
--- a task isn't resumed yet
+-- a task that isn't there isn't resumed
 ALTER TASK A RESUME;
--- nor a dynamic table refreshed
+-- a dynamic table isn't refreshed yet
 ALTER DYNAMIC TABLE D REFRESH;
--- tasks aren't carried out yet
+-- a task is made beside the tables
 CREATE TASK A AS DELETE FROM U;
--- dynamic tables neither
+-- dynamic tables aren't carried out yet
 CREATE DYNAMIC TABLE D TARGET_LAG = DOWNSTREAM AS SELECT K FROM U;
 -- in a session too many this isn't looked at
 !session 65

@@ -52,7 +52,7 @@ CREATE TASK K WHEN NOT NOT NOT NOT NOT NOT NOT NOT NOT NOT NOT NOT NOT NOT NOT N
 -- one more
 CREATE TASK K WHEN NOT NOT NOT NOT NOT NOT NOT NOT NOT NOT NOT NOT NOT NOT NOT NOT NOT NOT NOT NOT NOT NOT NOT NOT NOT NOT NOT NOT NOT NOT NOT NOT NOT NOT NOT NOT NOT NOT NOT NOT NOT NOT NOT NOT NOT NOT NOT NOT NOT NOT NOT NOT NOT NOT NOT NOT NOT NOT NOT NOT NOT NOT NOT NOT SYSTEM$STREAM_HAS_DATA('S') AS DELETE FROM T;
 -- parentheses in it
-CREATE TASK K WHEN (((((((((((((((((((((((((((((((((((((((((((((((((((((((((((((((SYSTEM$STREAM_HAS_DATA('S')))))))))))))))))))))))))))))))))))))))))))))))))))))))))))))))) AS DELETE FROM T;
+CREATE TASK L WHEN (((((((((((((((((((((((((((((((((((((((((((((((((((((((((((((((SYSTEM$STREAM_HAS_DATA('S')))))))))))))))))))))))))))))))))))))))))))))))))))))))))))))))) AS DELETE FROM T;
 -- one more
 CREATE TASK K WHEN ((((((((((((((((((((((((((((((((((((((((((((((((((((((((((((((((SYSTEM$STREAM_HAS_DATA('S'))))))))))))))))))))))))))))))))))))))))))))))))))))))))))))))))) AS DELETE FROM T;
 -- 1,000 operators

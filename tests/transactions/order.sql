@@ -10,8 +10,10 @@ BEGIN;
 -- one is open
 BEGIN;
 -- a statement that is read and not carried out, before a transaction is looked at
+CREATE DYNAMIC TABLE D TARGET_LAG = DOWNSTREAM AS SELECT K FROM T;
+-- no task is made in a transaction
 CREATE TASK A AS DELETE FROM T;
--- no object is made in a transaction
+-- nor another object
 CREATE TABLE N(K NUMBER);
 -- before its name is looked at
 CREATE TABLE T(K NUMBER, K NUMBER);
