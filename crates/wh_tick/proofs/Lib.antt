@@ -1,3 +1,4 @@
+pub mod OutcomeLemmas
 pub mod CarryLemmas
 pub mod CatalogLemmas
 pub mod EndLemmas

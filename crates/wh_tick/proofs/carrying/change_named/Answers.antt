@@ -8,7 +8,7 @@ use Rattle.wh_dml_bind.specs.Binds.{Binds}
 use Rattle.wh_machine.specs.Names.{refusal_of}
 use Rattle.wh_machine.specs.Outcome.{Refuses}
 use Rattle.wh_decide.specs.Sight.{machine_in}
-use Rattle.wh_decide.proofs.OutcomeLemmas.{comes_as}
+use Rattle.wh_tick.proofs.OutcomeLemmas.{comes_as}
 use Rattle.wh_tick.proofs.CarryLemmas.{bound_alike, bound_failing}
 use Rattle.wh_tick.proofs.carrying.change_named.Goals as goal
 

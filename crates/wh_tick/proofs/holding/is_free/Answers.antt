@@ -1,5 +1,6 @@
 use Rattle.std.proofs.Common.{Option, false, not, map, ap, ◌∙◌}
 use Rattle.std.specs.Option.{option_map_or}
+use Rattle.wh_ast.specs.declared.dml.Dml.{Dml}
 use Rattle.wh_naming.specs.Changes.{bound_change}
 use Rattle.wh_naming.specs.View.{named_of}
 use Rattle.wh_state.specs.Task.{Task}
@@ -11,7 +12,8 @@ pub returns-in_ok-is_held-in-Some : goal.returns-in_ok-is_held-in-Some
 returns-in_ok-is_held-in-Some c =
     let m = machine_in c.args.sight.now in
     let names = map named_of c.args.names.now in
-    ap not c.in_ok-is_held-in-Some.ensures
+    ap not (c.in_ok-is_held-in-Some.ensures
+    ∙ ap (λ (body : Dml). is_held_back m (bound_change names body)) c.get.ensures)
     ∙ ap (λ (found : Option Task).
     option_map_or (λ t. not (is_held_back m (bound_change names t.runs.body))) found false) c.in-Some.ensures
 

@@ -1,8 +1,9 @@
 use Rattle.std.proofs.Common.{sym, ap, ◌∙◌}
-use Rattle.wh_machine.specs.Ticks.{Verdict, runs_by}
+use Rattle.wh_ast.specs.declared.dml.Dml.{Dml}
+use Rattle.wh_machine.specs.Ticks.{Verdict, Holds, runs_by}
 use Rattle.wh_task.specs.View.{task_of}
 use Rattle.wh_decide.specs.Sight.{machine_in}
-use Rattle.wh_decide.proofs.OutcomeLemmas.{comes_as}
+use Rattle.wh_tick.proofs.OutcomeLemmas.{comes_as}
 use Rattle.wh_tick.specs.Guards.{verdict_of}
 use Rattle.wh_tick.proofs.running.run_by.Goals as goal
 
@@ -27,5 +28,7 @@ returns-in-Holds c =
     let sight = c.args.sight.now in
     let turn = c.args.turn.now in
     comes_as sight c.carries.result
-    (ap (runs_by (machine_in sight) turn.root (task_of turn.graph.now) turn.task c.args.runs.now.body)
+    (ap (λ (body : Dml). runs_by (machine_in sight) turn.root (task_of turn.graph.now) turn.task body Holds)
+    c.get.ensures
+    ∙ ap (runs_by (machine_in sight) turn.root (task_of turn.graph.now) turn.task c.args.runs.now.body)
     (sym (ap verdict_of c.in-Holds.is) ∙ c.in_ok-why.ensures)) c.carries.ensures
