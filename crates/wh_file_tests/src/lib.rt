@@ -1,8 +1,6 @@
-//! Tests of devices in memory, partitions, commits and the journal.
+//! Tests of devices in memory, partitions and the journal.
 #![tactic(auto)]
 
-#[cfg(test)]
-mod commits;
 #[cfg(test)]
 mod devices;
 #[cfg(test)]
@@ -11,5 +9,3 @@ mod fetching;
 mod journal;
 #[cfg(test)]
 mod partitions;
-#[cfg(test)]
-mod tasks;

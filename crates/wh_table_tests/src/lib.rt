@@ -6,6 +6,4 @@ mod catalog;
 #[cfg(test)]
 mod streams;
 #[cfg(test)]
-mod tasks;
-#[cfg(test)]
 mod versions;
