@@ -17,9 +17,9 @@ abbrev pub doubled_up_to : ℕ → ℕ → ℕ → ℕ
 doubled_up_to zero limit n = n
 doubled_up_to (suc turns) limit n = if nat_le (2 * n) limit then doubled_up_to turns limit (2 * n) else n
 
--- the greatest 48 * 2^k seconds that aren't above the lag
+-- the greatest 48 * 2^k seconds that aren't above the lag; no lag is 48 * 2^14 seconds long
 unfoldable pub period : ℕ → ℕ
-period lag = doubled_up_to lag lag 48 * 1000
+period lag = doubled_up_to 14 lag 48 * 1000
 
 -- the greatest multiple of the period, from 0
 unfoldable pub grid : ℕ → ℕ → ℕ
