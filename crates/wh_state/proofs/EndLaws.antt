@@ -12,10 +12,10 @@ use Rattle.std.specs.Option.{IsSomeAnd}
 use Rattle.std.proofs.lemmas.Bool.Decides.{nat_tests}
 use Rattle.std.proofs.lemmas.List.{append_assoc}
 use Rattle.wh_state.specs.Task.{Ending, Run, Task, ended_in, with_ended}
-use Rattle.wh_state.specs.State.{TableKind, StreamKind, TaskKind, task_in, on_task, at_id}
+use Rattle.wh_state.specs.State.{TableKind, StreamKind, TaskKind, DynamicKind, task_in, on_task, at_id}
 use Rattle.wh_state.specs.Edits.{Edits}
 use Rattle.wh_state.specs.Act.{Act, MakesTable, DropsObject, EditsRows, MakesStream, MovesOffset, MakesTask, PutsTask}
-use Rattle.wh_state.specs.Act.{BeginsRun, EndsTask}
+use Rattle.wh_state.specs.Act.{BeginsRun, EndsTask, MakesDynamic, PutsDynamic, RefreshesRows}
 use Rattle.wh_state.specs.Stored.{StoredKind, StoredObject}
 use Rattle.wh_state.specs.Commit.{Change, CreatesTable, Drops, PushesVersion, CreatesStream, SetsOffset, CreatesTask}
 use Rattle.wh_state.specs.Commit.{SetsTask}
@@ -49,6 +49,7 @@ edit_of_rows stamp objects id e = by_found (at_id objects id)
     by_kind o (TableKind t) = (tt, tt)
     by_kind o (StreamKind s) = tt
     by_kind o (TaskKind t) = tt
+    by_kind o (DynamicKind d t) = (tt, tt)
 
     by_found : (found : Option StoredObject) → AreOfRows (version_written_to stamp id e found)
     by_found None = tt
@@ -65,6 +66,9 @@ act_of_rows stamp start objects (MakesTask name minutes after runs) stands later
 act_of_rows stamp start objects (PutsTask id state) stands later = absurd stands
 act_of_rows stamp start objects (BeginsRun root tasks) stands later = absurd stands
 act_of_rows stamp start objects (EndsTask root task ending) stands later = absurd stands
+act_of_rows stamp start objects (MakesDynamic name lag is_incremental query columns) stands later = absurd stands
+act_of_rows stamp start objects (PutsDynamic id state) stands later = absurd stands
+act_of_rows stamp start objects (RefreshesRows id moment e) stands later = absurd stands
 
 pub acts_of_rows : (stamp start : ℕ) (objects : List StoredObject) (acts : List Act) → AllStand stamp start objects acts
     → (later : List StoredObject) → AreOfRows (written stamp later acts)
@@ -195,6 +199,7 @@ end_leaves stamp objects root id ending ids rise wait =
     by_kind (TableKind t) h = absurd h
     by_kind (StreamKind s) h = absurd h
     by_kind (TaskKind t) h = others_wait id ending ids rise t h.1
+    by_kind (DynamicKind d t) h = absurd h
 
 pub live_map : (P Q : Task → Type 0) → ((t : Task) → P t → Q t) → (found : Option StoredObject) → IsLiveTask P found
     → IsLiveTask Q found

@@ -6,7 +6,7 @@ use Rattle.std.specs.Prelude.{ℕ, ◌+◌, Bool, List, [], ◌∷◌, ◌++◌,
 use Rattle.wh_value.specs.Column.{Column}
 use Rattle.wh_frame.specs.Partition.{Partition}
 use Rattle.wh_state.specs.State.{State, Kind, TableKind, StreamKind, Object, Table, Contents, nothing_held, new_table}
-use Rattle.wh_state.specs.State.{new_object, new_stream, with_offset, dropped, columns_at, on_table}
+use Rattle.wh_state.specs.State.{new_object, new_stream, with_offset, dropped, version_for, columns_at, on_table}
 use Rattle.wh_state.specs.State.{TaskKind, DynamicKind, on_stream, on_task, on_dynamic, empty_table, last_content}
 use Rattle.wh_state.specs.State.{last_partitions, changed_at}
 use Rattle.wh_state.specs.Dynamic.{DynamicQuery, DynamicState, Dynamic, new_dynamic, with_dynamic_state}
@@ -54,8 +54,7 @@ unfoldable pub edited_table : ℕ → ℕ → Edits → Table → Table
 edited_table stamp moment e t = record t {
   next_row = t.next_row + length e.added;
   next_partition = t.next_partition + length (table_partitions_made e t);
-  versions = t.versions
-      ++ record { stamp = stamp; data_timestamp = moment; content = next_contents e t } ∷ [];
+  versions = t.versions ++ version_for stamp moment (next_contents e t) ∷ [];
 }
 
 abbrev pub edited_kind : ℕ → ℕ → Edits → Kind → Kind

@@ -49,8 +49,12 @@ pub record ObjectOf (Kind : Type 0) : Type 0 where
   pub is_live : Bool
   pub kind : Kind
 
+-- at a stamp, for a moment
+abbrev pub version_for : {Content : Type 0} → ℕ → ℕ → Content → VersionOf Content
+version_for stamp moment content = record { stamp = stamp; data_timestamp = moment; content = content }
+
 abbrev pub version_at : {Content : Type 0} → ℕ → Content → VersionOf Content
-version_at stamp content = record { stamp = stamp; data_timestamp = stamp; content = content }
+version_at stamp content = version_for stamp stamp content
 
 -- a table as it is created: one version, with nothing in it
 abbrev pub new_table : {Content : Type 0} → Content → List Column → ℕ → ℕ → TableOf Content
