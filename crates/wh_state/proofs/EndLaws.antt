@@ -20,6 +20,7 @@ use Rattle.wh_state.specs.Stored.{StoredKind, StoredObject}
 use Rattle.wh_state.specs.Commit.{Change, CreatesTable, Drops, PushesVersion, CreatesStream, SetsOffset, CreatesTask}
 use Rattle.wh_state.specs.Commit.{SetsTask}
 use Rattle.wh_state.specs.Commit.{StartsRun, FinishesTask, pushed_object, offset_set, on_task_stored, changed}
+use Rattle.wh_state.specs.Commit.{CreatesDynamic, SetsDynamic}
 use Rattle.wh_state.specs.Commit.{all_changed}
 use Rattle.wh_state.specs.Commit.{IsLiveTask, waits, waits_in}
 use Rattle.wh_state.specs.Written.{version_written_to, act_written, written}
@@ -88,6 +89,8 @@ change_spares id (CreatesTask c) rows = absurd rows
 change_spares id (SetsTask other state) rows = absurd rows
 change_spares id (StartsRun root tasks) rows = absurd rows
 change_spares id (FinishesTask root task ending) rows = absurd rows
+change_spares id (CreatesDynamic c) rows = absurd rows
+change_spares id (SetsDynamic other state) rows = absurd rows
 
 pub rows_spare : (id : ℕ) (cs : List Change) → AreOfRows cs → AllByRecursion (ChangeSpares id) cs
 rows_spare id cs rows = all_map IsOfRows (ChangeSpares id) (change_spares id) cs rows
@@ -111,6 +114,8 @@ one_behind P stamp objects id (CreatesTask c) rows live = absurd rows
 one_behind P stamp objects id (SetsTask other state) rows live = absurd rows
 one_behind P stamp objects id (StartsRun root tasks) rows live = absurd rows
 one_behind P stamp objects id (FinishesTask root task ending) rows live = absurd rows
+one_behind P stamp objects id (CreatesDynamic c) rows live = absurd rows
+one_behind P stamp objects id (SetsDynamic other state) rows live = absurd rows
 
 pub live_behind : (P : Task → Type 0) (stamp : ℕ) (objects : List StoredObject) (id : ℕ) (cs : List Change)
     → AreOfRows cs
