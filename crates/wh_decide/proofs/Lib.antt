@@ -1,16 +1,16 @@
 pub mod ListLemmas
 pub mod CatalogLemmas
-mod OutcomeLemmas
+pub mod OutcomeLemmas
 mod TableLemmas
 mod DefineLemmas
 mod StreamLemmas
 mod TaskLemmas
 mod AlterLemmas
-mod TransactionLemmas
+pub mod TransactionLemmas
 mod SeenLemmas
 mod SourceLemmas
 mod ReadingLemmas
-mod NamingLemmas
+pub mod NamingLemmas
 mod RootLemmas
 mod ChangeLemmas
 mod QueryLemmas

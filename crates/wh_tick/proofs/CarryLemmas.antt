@@ -8,13 +8,13 @@ use Rattle.wh_meaning.specs.Query.{Instance}
 use Rattle.wh_naming.specs.Findings.{Failing, first_failing, nothing_found}
 use Rattle.wh_naming.specs.Changes.{BoundChange}
 use Rattle.wh_effect.specs.Effect.{effect}
-use Rattle.wh_reply.specs.Reply.{Refusal, OverLimit, Locked}
+use Rattle.wh_reply.specs.Reply.{OverLimit, Locked}
 use Rattle.wh_state.specs.State.{Table}
 use Rattle.wh_state.specs.Objects.{table_at}
 use Rattle.wh_machine.specs.Tests.{refused_if, first_of}
 use Rattle.wh_machine.specs.Names.{refusal_of}
 use Rattle.wh_machine.specs.Offsets.{streams_among}
-use Rattle.wh_machine.specs.Changes.{Changed, rows_seen, given, given_on, fails_or}
+use Rattle.wh_machine.specs.Changes.{rows_seen, given, given_on, fails_or}
 use Rattle.wh_machine.specs.Transaction.{Transaction}
 use Rattle.wh_machine.specs.Sessions.{transaction_in, first_locked}
 use Rattle.wh_machine.specs.Outcome.{Machine, Refuses}

@@ -15,7 +15,7 @@ use Rattle.wh_state.specs.State.{Object, Stream, at_id, id_of}
 use Rattle.wh_state.specs.Objects.{as_stream, is_stream, stream_at, is_kind_at}
 use Rattle.wh_machine.specs.Outcome.{Machine}
 use Rattle.wh_machine.specs.Ticks.{Guard, unknown_in, no_stream_in, guard_refusal, shows, verdict_by, guard_verdict}
-use Rattle.wh_tick.proofs.OutcomeLemmas.{alone}
+use Rattle.wh_decide.proofs.NamingLemmas.{alone}
 use Rattle.wh_tick.specs.Guards.{ids_told}
 
 first_append : (tests more : List (Option Refusal))

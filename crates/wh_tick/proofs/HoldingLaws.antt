@@ -14,8 +14,7 @@ use Rattle.wh_state.specs.Objects.{live_tasks}
 use Rattle.wh_state.specs.Edits.{is_among}
 use Rattle.wh_state.specs.Task.{TaskRun, Run, Task}
 use Rattle.wh_graph.specs.Graph.{Tasks, is_waiting, are_done, after_of}
-use Rattle.wh_graph.specs.Root.{is_due}
-use Rattle.wh_graph.specs.Action.{Action, is_ready, first_ready, ready_in, or_next, ready_from, starts_or_idles}
+use Rattle.wh_graph.specs.Action.{is_ready, first_ready, ready_in, or_next, ready_from, starts_or_idles}
 use Rattle.wh_graph.specs.Action.{due_root, runs_or, action}
 use Rattle.wh_machine.specs.Names.{names_from}
 use Rattle.wh_machine.specs.Sessions.{or_later}

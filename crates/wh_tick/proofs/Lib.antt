@@ -1,4 +1,3 @@
-pub mod OutcomeLemmas
 pub mod CarryLemmas
 pub mod CatalogLemmas
 pub mod EndLemmas

@@ -2,7 +2,7 @@
 --     changes_for      the changes of a statement's commit
 --     run_by, no_root, no_task     a task's run, of what is found
 --     ticked_as        a tick, by what it carries out
-use Rattle.std.proofs.Common.{◌≡◌, ℕ, List, [], Option, Some, None, option_map, refl, ap, sym, ◌∙◌}
+use Rattle.std.proofs.Common.{◌≡◌, ℕ, List, [], Option, Some, None, option_map, refl, ap}
 use Rattle.std.specs.Prelude.{unwrap_or}
 use Rattle.std.specs.Option.{option_map_or}
 use Rattle.wh_reply.specs.Reply.{Idle}
@@ -13,7 +13,7 @@ use Rattle.wh_state.specs.Commit.{Change}
 use Rattle.wh_state.specs.Task.{Task}
 use Rattle.wh_state.specs.Written.{written, commit_for}
 use Rattle.wh_graph.specs.Action.{Action}
-use Rattle.wh_machine.specs.Outcome.{Machine, Outcome, answers}
+use Rattle.wh_machine.specs.Outcome.{Machine, answers}
 use Rattle.wh_machine.specs.Ticks.{runs_task, run_task, does_action, action_at, ticked}
 
 pub changes_for : (s : Stored) (stamp : ℕ) (acts : Option (List Act))

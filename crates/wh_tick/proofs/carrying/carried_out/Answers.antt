@@ -7,8 +7,8 @@ use Rattle.wh_machine.specs.Statements.{changes_rows}
 use Rattle.wh_machine.specs.Ticks.{body_bound}
 use Rattle.wh_txn.specs.View.{sessions_of}
 use Rattle.wh_decide.specs.Sight.{machine_in}
-use Rattle.wh_tick.proofs.OutcomeLemmas.{comes_as}
-use Rattle.wh_tick.proofs.OutcomeLemmas.{is_closed}
+use Rattle.wh_decide.proofs.OutcomeLemmas.{comes_as}
+use Rattle.wh_decide.proofs.TransactionLemmas.{is_closed}
 use Rattle.wh_tick.proofs.CarryLemmas.{alone_in}
 use Rattle.wh_tick.proofs.carrying.carried_out.Goals as goal
 

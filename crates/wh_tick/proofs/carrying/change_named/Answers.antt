@@ -1,5 +1,4 @@
 use Rattle.std.proofs.Common.{Err, sym, ap, subst, map, ◌∙◌}
-use Rattle.wh_naming.specs.Findings as wrong
 use Rattle.wh_naming.specs.Changes.{bound_change}
 use Rattle.wh_naming.specs.View.{failing_of, named_of}
 use Rattle.wh_naming.specs.declared.failing.Failing.{Failing}
@@ -8,7 +7,7 @@ use Rattle.wh_dml_bind.specs.Binds.{Binds}
 use Rattle.wh_machine.specs.Names.{refusal_of}
 use Rattle.wh_machine.specs.Outcome.{Refuses}
 use Rattle.wh_decide.specs.Sight.{machine_in}
-use Rattle.wh_tick.proofs.OutcomeLemmas.{comes_as}
+use Rattle.wh_decide.proofs.OutcomeLemmas.{comes_as}
 use Rattle.wh_tick.proofs.CarryLemmas.{bound_alike, bound_failing}
 use Rattle.wh_tick.proofs.carrying.change_named.Goals as goal
 

@@ -1,4 +1,4 @@
-use Rattle.std.proofs.Common.{◌≡◌, Option, Some, None, option_map, true, false, refl, sym, ap, ◌∙◌}
+use Rattle.std.proofs.Common.{Some, None, option_map, true, false, refl, sym, ap, ◌∙◌}
 use Rattle.wh_reply.specs.View.{refusal_view}
 use Rattle.wh_ddl_naming.specs.Names.{names_at}
 use Rattle.wh_machine.specs.Ticks.{guard_of, guard_refusal, shows}

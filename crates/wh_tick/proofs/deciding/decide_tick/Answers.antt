@@ -1,9 +1,7 @@
 use Rattle.std.proofs.Common.{sym, ap, ◌∙◌}
-use Rattle.wh_graph.specs.Action as graph
-use Rattle.wh_machine.specs.Outcome.{Machine, Outcome}
 use Rattle.wh_task.specs.View.{action_of}
 use Rattle.wh_decide.specs.Sight.{machine_in}
-use Rattle.wh_tick.proofs.OutcomeLemmas.{decides_as, comes_as}
+use Rattle.wh_decide.proofs.OutcomeLemmas.{decides_as, comes_as}
 use Rattle.wh_tick.proofs.RunLemmas.{ticked_as}
 use Rattle.wh_tick.proofs.deciding.decide_tick.Goals as goal
 

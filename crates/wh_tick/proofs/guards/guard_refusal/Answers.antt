@@ -3,7 +3,6 @@ use Rattle.std.proofs.lemmas.Result.{IfOk-weaker}
 use Rattle.wh_ddl_naming.specs.Names.{names_at}
 use Rattle.wh_reply.specs.Reply.{UnknownName, WrongKind}
 use Rattle.wh_machine.specs.Reading.{reading_refusal}
-use Rattle.wh_catalog.specs.Catalog.{state_of}
 use Rattle.wh_decide.specs.Sight.{machine_in}
 use Rattle.wh_tick.proofs.GuardLemmas.{tests_of}
 use Rattle.wh_tick.proofs.guards.guard_refusal.Goals as goal

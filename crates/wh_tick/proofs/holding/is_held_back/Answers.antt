@@ -1,6 +1,4 @@
-use Rattle.std.proofs.Common.{◌∷◌, is_some, map, ap, ◌∙◌}
-use Rattle.wh_naming.specs.Changes.{bound_change}
-use Rattle.wh_naming.specs.View.{named_of}
+use Rattle.std.proofs.Common.{◌∷◌, is_some, ap, ◌∙◌}
 use Rattle.wh_machine.specs.Offsets.{streams_among}
 use Rattle.wh_machine.specs.Ticks.{first_held}
 use Rattle.wh_decide.specs.Sight.{machine_in}

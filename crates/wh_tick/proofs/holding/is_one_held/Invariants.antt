@@ -1,4 +1,4 @@
-use Rattle.std.proofs.Common.{◌≡◌, take, drop}
+use Rattle.std.proofs.Common.{◌≡◌, drop}
 use Rattle.wh_machine.specs.Ticks.{first_held}
 use Rattle.wh_txn.specs.View.{sessions_of}
 use Rattle.wh_tick.proofs.holding.is_one_held.Given as goal

@@ -1,4 +1,4 @@
-use Rattle.std.proofs.Common.{List, ap, ◌∙◌}
+use Rattle.std.proofs.Common.{◌∙◌}
 use Rattle.wh_tick.proofs.CatalogLemmas.{named_id}
 use Rattle.wh_tick.proofs.lookups.id_of.Goals as goal
 

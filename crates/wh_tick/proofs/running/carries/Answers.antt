@@ -11,7 +11,7 @@ use Rattle.wh_task.specs.View.{task_of}
 use Rattle.wh_catalog.specs.Catalog.{stored_of, state_of}
 use Rattle.wh_decide.specs.declared.decision.Decision.{Decision}
 use Rattle.wh_decide.specs.Sight.{machine_in, Comes}
-use Rattle.wh_tick.proofs.OutcomeLemmas.{decides_as, comes_as}
+use Rattle.wh_decide.proofs.OutcomeLemmas.{decides_as, comes_as}
 use Rattle.wh_tick.proofs.RunLemmas.{changes_for}
 use Rattle.wh_tick.proofs.running.carries.Goals as goal
 

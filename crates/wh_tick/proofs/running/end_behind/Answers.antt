@@ -1,4 +1,4 @@
-use Rattle.std.proofs.Common.{List, ◌++◌, map, sym, ap, ◌∙◌}
+use Rattle.std.proofs.Common.{List, ◌++◌, map, ap, ◌∙◌}
 use Rattle.wh_state.specs.Commit.{Change}
 use Rattle.wh_task.specs.View.{ending_of, run_of, task_of, tasks_of}
 use Rattle.wh_record.specs.View.{change_of}

@@ -8,7 +8,7 @@ use Rattle.wh_machine.specs.Outcome.{commits}
 use Rattle.wh_machine.specs.Ticks.{end_acts}
 use Rattle.wh_catalog.specs.Catalog.{stored_of}
 use Rattle.wh_decide.specs.Sight.{machine_in}
-use Rattle.wh_tick.proofs.OutcomeLemmas.{decides_as}
+use Rattle.wh_decide.proofs.OutcomeLemmas.{decides_as}
 use Rattle.wh_tick.proofs.EndLemmas.{end_behind}
 use Rattle.wh_tick.proofs.running.fails.Goals as goal
 

@@ -1,9 +1,9 @@
 use Rattle.std.proofs.Common.{sym, ap, ◌∙◌}
 use Rattle.wh_ast.specs.declared.dml.Dml.{Dml}
-use Rattle.wh_machine.specs.Ticks.{Verdict, Holds, runs_by}
+use Rattle.wh_machine.specs.Ticks.{Holds, runs_by}
 use Rattle.wh_task.specs.View.{task_of}
 use Rattle.wh_decide.specs.Sight.{machine_in}
-use Rattle.wh_tick.proofs.OutcomeLemmas.{comes_as}
+use Rattle.wh_decide.proofs.OutcomeLemmas.{comes_as}
 use Rattle.wh_tick.specs.Guards.{verdict_of}
 use Rattle.wh_tick.proofs.running.run_by.Goals as goal
 

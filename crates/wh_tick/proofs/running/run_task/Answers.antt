@@ -1,7 +1,7 @@
 use Rattle.std.proofs.Common.{Some}
 use Rattle.wh_task.specs.View.{task_of}
 use Rattle.wh_decide.specs.Sight.{machine_in}
-use Rattle.wh_tick.proofs.OutcomeLemmas.{decides_as, comes_as}
+use Rattle.wh_decide.proofs.OutcomeLemmas.{decides_as, comes_as}
 use Rattle.wh_tick.proofs.RunLemmas.{run_by, no_root, no_task}
 use Rattle.wh_tick.proofs.running.run_task.Goals as goal
 

@@ -1,16 +1,14 @@
-use Rattle.std.proofs.Common.{◌≡◌, List, map, ◌∙◌}
+use Rattle.std.proofs.Common.{map, ◌∙◌}
 use Rattle.wh_reply.specs.Reply.{TaskSucceeded}
 use Rattle.wh_reply.specs.View.{counts_view}
-use Rattle.wh_state.specs.Act.{Act}
 use Rattle.wh_state.specs.Task.{Succeeded}
-use Rattle.wh_state.specs.Written.{written}
 use Rattle.wh_record.specs.View.{change_of}
 use Rattle.wh_task.specs.View.{task_of}
 use Rattle.wh_machine.specs.Outcome.{commits}
 use Rattle.wh_machine.specs.Ticks.{end_acts}
 use Rattle.wh_catalog.specs.Catalog.{stored_of}
 use Rattle.wh_decide.specs.Sight.{machine_in}
-use Rattle.wh_tick.proofs.OutcomeLemmas.{decides_as}
+use Rattle.wh_decide.proofs.OutcomeLemmas.{decides_as}
 use Rattle.wh_tick.proofs.EndLemmas.{end_behind}
 use Rattle.wh_tick.proofs.running.succeeds.Goals as goal
 use Rattle.std.specs.Prelude.{◌++◌}

@@ -1,11 +1,10 @@
-use Rattle.std.proofs.Common.{List, ℕ, Option, refl, sym, ap, ◌∙◌}
+use Rattle.std.proofs.Common.{List, ℕ, ap, ◌∙◌}
 use Rattle.wh_reply.specs.Reply.{Started}
-use Rattle.wh_state.specs.Task.{Task}
 use Rattle.wh_task.specs.View.{state_of}
 use Rattle.wh_machine.specs.Outcome.{commits}
 use Rattle.wh_machine.specs.Ticks.{scheduled_acts, starts_run}
 use Rattle.wh_decide.specs.Sight.{machine_in}
-use Rattle.wh_tick.proofs.OutcomeLemmas.{decides_as}
+use Rattle.wh_decide.proofs.OutcomeLemmas.{decides_as}
 use Rattle.wh_tick.proofs.starting.start_run.Goals as goal
 
 pub returns-in_default : goal.returns-in_default
