@@ -1,4 +1,3 @@
 pub mod View
 pub mod Tuple
-pub mod Increments
 pub mod Plan

@@ -24,7 +24,7 @@ use Rattle.wh_grammar.specs.Spelled.{TooLong, Unreadable}
 use Rattle.wh_grammar.specs.Spelled.{Asked}
 use Rattle.wh_naming.specs.Changes.{BoundChange, bound_change}
 use Rattle.wh_reply.specs.Reply.{Reply, TaskSucceeded, is_refusal}
-use Rattle.wh_state.specs.State.{TaskKind, task_in}
+use Rattle.wh_state.specs.State.{TaskKind, DynamicKind, task_in, dynamic_in}
 use Rattle.wh_state.specs.State.{Rows, Kind, TableKind, StreamKind, Object, Table, Stream, table_in, stream_in}
 use Rattle.wh_state.specs.Objects.{task_at}
 use Rattle.wh_state.specs.Objects.{table_at, stream_at}
@@ -59,6 +59,7 @@ abbrev pub IsLaterKind : ℕ → Kind → Kind → Type 0
 IsLaterKind stamp (TableKind old) new = IsSomeAnd (table_in new) (IsLaterTable stamp old)
 IsLaterKind stamp (StreamKind old) new = IsSomeAnd (stream_in new) (IsLaterStream stamp old)
 IsLaterKind stamp (TaskKind old) new = IsSomeAnd (task_in new) (λ t. Unit {0})
+IsLaterKind stamp (DynamicKind old t) new = IsSomeAnd (dynamic_in new) (λ d. Unit {0})
 
 abbrev pub IsLater : ℕ → Object → Object → Type 0
 IsLater stamp old new = IsLaterKind stamp old.kind new.kind

@@ -11,6 +11,8 @@ pub mod Definitions
 pub mod Tables
 pub mod Streams
 pub mod Tasks
+pub mod Refresh
+pub mod Dynamics
 pub mod Statements
 pub mod Ticks
 pub mod Step

@@ -30,6 +30,9 @@ use Rattle.wh_machine.specs.Sessions.{Sessions, holder, or_later}
 use Rattle.wh_machine.specs.Outcome.{Machine, Outcome, Refuses, Does, answers, commits}
 use Rattle.wh_machine.specs.Reading.{start_in, reading_refusal}
 use Rattle.wh_machine.specs.Statements.{streams_read, bound_changed, changes_in}
+use Rattle.wh_moment.specs.Moment.{due_table}
+use Rattle.wh_machine.specs.Refresh.{dynamics_of}
+use Rattle.wh_machine.specs.Dynamics.{scheduled}
 use Rattle.wh_machine.specs.Tasks.{live_tasks, start_acts}
 
 -- ---- readiness
@@ -176,10 +179,15 @@ starts_run m root None = answers m Idle
 starts_run m root (Some r) =
     commits m (Started (name_at m.state.objects root)) (scheduled_acts m.state.objects m.state.last root r.state)
 
+-- behind a ready task and a due root, the refresh of the dynamic table that is due
+abbrev pub refreshes : Machine → Option (ℕ × ℕ) → Outcome
+refreshes m None = answers m Idle
+refreshes m (Some due) = scheduled m due.0 due.1
+
 abbrev pub does_action : Machine → Action → Outcome
 does_action m (RunsTask root task) = run_task m root task
 does_action m (StartsRun root) = starts_run m root (task_at m.state.objects root)
-does_action m DoesNothing = answers m Idle
+does_action m DoesNothing = refreshes m (due_table (dynamics_of m.state.objects) m.state.last)
 
 abbrev pub action_at : Machine → Action
 action_at m = action (is_free m) (live_tasks m.state.objects) m.state.last

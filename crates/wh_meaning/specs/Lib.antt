@@ -3,3 +3,4 @@ pub mod Bag
 pub mod BagChange
 pub mod Query
 pub mod Listing
+pub mod Increments

@@ -8,16 +8,19 @@ use Rattle.std.proofs.Common.{option_map, refl, sym, ap, subst, ◌∙◌, arith
 use Rattle.std.specs.List.{AllByRecursion}
 use Rattle.std.proofs.lemmas.List.{length-map, map-append}
 use Rattle.wh_state.specs.State.{changed_at, new_object}
-use Rattle.wh_state.specs.State.{TaskKind}
+use Rattle.wh_state.specs.State.{TaskKind, DynamicKind}
 use Rattle.wh_state.specs.State.{Rows, Contents, nothing_held, Version, Table, Object, at_id, with_id, put_at, dropped}
-use Rattle.wh_state.specs.State.{last_of, content_in, last_content, version_at, stamped, TableKind, StreamKind}
+use Rattle.wh_state.specs.State.{last_of, content_in, last_content, version_for, stamped, TableKind, StreamKind}
 use Rattle.wh_state.specs.Edits.{Edits, numbers_gone, partitions_made, without, contents_after}
 use Rattle.wh_state.specs.Act.{MakesTask, PutsTask, BeginsRun, EndsTask, on_task_object}
 use Rattle.wh_state.specs.Act.{Act, MakesTable, DropsObject, EditsRows, MakesStream, MovesOffset, edited_table}
-use Rattle.wh_state.specs.Act.{edited_object, moved_object, acted, all_acted, done}
+use Rattle.wh_state.specs.Act.{edited_object, moved_object, acted, all_acted, done, on_dynamic_object, MakesDynamic}
+use Rattle.wh_state.specs.Act.{PutsDynamic, RefreshesRows}
+use Rattle.wh_state.specs.Dynamic.{Dynamic, with_dynamic_state}
 use Rattle.wh_state.specs.Stored.{StoredVersion, StoredTable, StoredKind, StoredObject, Stored, standing}
 use Rattle.wh_state.specs.Stored.{contents_meant, version_meant, table_meant, object_meant, meant}
-use Rattle.wh_state.specs.Commit.{TaskChange, CreatesTask, on_task_stored}
+use Rattle.wh_state.specs.Commit.{TaskChange, CreatesTask, on_task_stored, on_dynamic_stored, DynamicChange}
+use Rattle.wh_state.specs.Commit.{CreatesDynamic}
 use Rattle.wh_state.specs.Commit.{Change, TableChange, StreamChange, CreatesTable, Drops, CreatesStream}
 use Rattle.wh_state.specs.Commit.{SetsOffset, pushed, pushed_object, offset_set, changed, all_changed, applied}
 use Rattle.wh_state.specs.Orderly.{IsOrderly, IsOrderlyVersion, IsOrderlyTable, IsOrderlyKind, IsOrderlyObject}
@@ -44,41 +47,48 @@ contents_written e t orderly = ap (λ (rows : Rows). record {
       ++ partitions_made t.next_partition t.next_row e (standing t);
 }) (edits_written t.next_partition t.next_row e (standing t) orderly)
 
-versions_written : (stamp id : ℕ) (e : Edits) (t : StoredTable) → IsOrderly (standing t)
-    → map version_meant (pushed stamp (version_change stamp id e t) t).versions
+versions_written : (stamp moment id : ℕ) (e : Edits) (t : StoredTable) → IsOrderly (standing t)
+    → map version_meant (pushed stamp (version_change moment id e t) t).versions
     ≡ map version_meant t.versions
-    ++ version_at stamp (contents_after t.next_partition t.next_row e (contents_meant (standing t))) ∷ []
-versions_written stamp id e t orderly =
+    ++ version_for stamp moment (contents_after t.next_partition t.next_row e (contents_meant (standing t))) ∷ []
+versions_written stamp moment id e t orderly =
     map-append version_meant t.versions _
-    ∙ ap (λ (new : Contents). map version_meant t.versions ++ version_at stamp new ∷ []) (contents_written e t orderly)
+    ∙ ap (λ (new : Contents). map version_meant t.versions ++ version_for stamp moment new ∷ []) (contents_written e t orderly)
 
 -- a table with its next version, from what its last one holds
-abbrev edited_from : ℕ → Edits → Table → Contents → Table
-edited_from stamp e t c = record t {
+abbrev edited_from : ℕ → ℕ → Edits → Table → Contents → Table
+edited_from stamp moment e t c = record t {
   next_row = t.next_row + length e.added;
   next_partition = t.next_partition + length (partitions_made t.next_partition t.next_row e c.partitions);
-  versions = t.versions ++ version_at stamp (contents_after t.next_partition t.next_row e c) ∷ [];
+  versions = t.versions ++ version_for stamp moment (contents_after t.next_partition t.next_row e c) ∷ [];
 }
 
-edited_is : (stamp : ℕ) (e : Edits) (t : Table)
-    → edited_table stamp e t ≡ edited_from stamp e t (last_content nothing_held t)
+edited_is : (stamp moment : ℕ) (e : Edits) (t : Table)
+    → edited_table stamp moment e t ≡ edited_from stamp moment e t (last_content nothing_held t)
 unfolding edited_table
-edited_is stamp e t = refl
+edited_is stamp moment e t = refl
 
-pub edited_meant : (stamp id : ℕ) (e : Edits) (t : StoredTable) → IsOrderly (standing t)
-    → table_meant (pushed stamp (version_change stamp id e t) t) ≡ edited_table stamp e (table_meant t)
-edited_meant stamp id e t orderly =
-    ap (λ (versions : List Version). record (edited_from stamp e (table_meant t)
+pub edited_meant : (stamp moment id : ℕ) (e : Edits) (t : StoredTable) → IsOrderly (standing t)
+    → table_meant (pushed stamp (version_change moment id e t) t) ≡ edited_table stamp moment e (table_meant t)
+edited_meant stamp moment id e t orderly =
+    ap (λ (versions : List Version). record (edited_from stamp moment e (table_meant t)
     (contents_meant (standing t))) { versions = versions })
-    (versions_written stamp id e t orderly)
-    ∙ ap (edited_from stamp e (table_meant t)) (sym (last_content_meant t))
-    ∙ sym (edited_is stamp e (table_meant t))
+    (versions_written stamp moment id e t orderly)
+    ∙ ap (edited_from stamp moment e (table_meant t)) (sym (last_content_meant t))
+    ∙ sym (edited_is stamp moment e (table_meant t))
 
-edited_object_meant : (stamp id : ℕ) (e : Edits) (o : StoredObject) (t : StoredTable) → o.kind ≡ TableKind t
+edited_object_meant : (stamp moment id : ℕ) (e : Edits) (o : StoredObject) (t : StoredTable) → o.kind ≡ TableKind t
     → IsOrderly (standing t)
-    → object_meant (pushed_object stamp (version_change stamp id e t) o) ≡ edited_object stamp e (object_meant o)
-edited_object_meant stamp id e o t is orderly =
-    let same = edited_meant stamp id e t orderly in
+    → object_meant (pushed_object stamp (version_change moment id e t) o) ≡ edited_object stamp moment e (object_meant o)
+edited_object_meant stamp moment id e o t is orderly =
+    let same = edited_meant stamp moment id e t orderly in
+    rw (is, same)
+
+edited_dynamic_meant : (stamp moment id : ℕ) (e : Edits) (o : StoredObject) (d : Dynamic) (t : StoredTable)
+    → o.kind ≡ DynamicKind d t → IsOrderly (standing t)
+    → object_meant (pushed_object stamp (version_change moment id e t) o) ≡ edited_object stamp moment e (object_meant o)
+edited_dynamic_meant stamp moment id e o d t is orderly =
+    let same = edited_meant stamp moment id e t orderly in
     rw (is, same)
 
 -- ---- acts
@@ -109,6 +119,7 @@ offset_meant stamp objects id offset =
     by_kind o (TableKind t) = refl
     by_kind o (StreamKind s) = refl
     by_kind o (TaskKind t) = refl
+    by_kind o (DynamicKind d t) = refl
 
 on_task_meant : (f : Task → Task) (objects : List StoredObject) (id : ℕ)
     → map object_meant (changed_at objects id (on_task_stored f))
@@ -121,6 +132,20 @@ on_task_meant f objects id =
     by_kind o (TableKind t) = refl
     by_kind o (StreamKind s) = refl
     by_kind o (TaskKind t) = refl
+    by_kind o (DynamicKind d t) = refl
+
+on_dynamic_meant : (f : Dynamic → Dynamic) (objects : List StoredObject) (id : ℕ)
+    → map object_meant (changed_at objects id (on_dynamic_stored f))
+    ≡ changed_at (map object_meant objects) id (on_dynamic_object f)
+on_dynamic_meant f objects id =
+    map_changed object_meant (on_dynamic_stored f) (on_dynamic_object f) (λ o. by_kind o o.kind) objects id
+  where
+    by_kind : (o : StoredObject) (k : StoredKind) → object_meant (on_dynamic_stored f (record o { kind = k }))
+        ≡ on_dynamic_object f (object_meant (record o { kind = k }))
+    by_kind o (TableKind t) = refl
+    by_kind o (StreamKind s) = refl
+    by_kind o (TaskKind t) = refl
+    by_kind o (DynamicKind d t) = refl
 
 task_meant : (stamp : ℕ) (objects : List StoredObject) (c : TaskChange)
     → map object_meant (changed stamp objects (CreatesTask c))
@@ -133,21 +158,28 @@ task_meant stamp objects c =
     (sym (root_meant objects (length objects + 1) c.after)
     ∙ ap (λ (n : ℕ). root_by (task_at (map object_meant objects)) (n + 1) c.after) (sym (length-map objects object_meant)))
 
+dynamic_meant : (stamp : ℕ) (objects : List StoredObject) (c : DynamicChange)
+    → map object_meant (changed stamp objects (CreatesDynamic c))
+    ≡ acted stamp (map object_meant objects) (MakesDynamic c.name c.lag c.is_incremental c.query c.columns)
+unfolding changed
+dynamic_meant stamp objects c = map-append object_meant objects _
+
 dropped_meant : (stamp : ℕ) (objects : List StoredObject) (id : ℕ)
     → map object_meant (changed stamp objects (Drops id)) ≡ acted stamp (map object_meant objects) (DropsObject id)
 unfolding changed
 dropped_meant stamp objects id = map_changed object_meant dropped dropped (λ o. refl) objects id
 
-edits_meant : (stamp id : ℕ) (e : Edits) (objects : List StoredObject) (o : StoredObject) (t : StoredTable)
-    → at_id objects id ≡ Some o → o.kind ≡ TableKind t → IsOrderly (standing t)
-    → map object_meant (changed stamp objects (version_written stamp id e t))
-    ≡ with_id (map object_meant objects) id (edited_object stamp e (object_meant o))
+edits_meant : (stamp moment id : ℕ) (e : Edits) (objects : List StoredObject) (o : StoredObject) (t : StoredTable)
+    → at_id objects id ≡ Some o
+    → object_meant (pushed_object stamp (version_change moment id e t) o) ≡ edited_object stamp moment e (object_meant o)
+    → map object_meant (changed stamp objects (version_written moment id e t))
+    ≡ with_id (map object_meant objects) id (edited_object stamp moment e (object_meant o))
 unfolding changed
-edits_meant stamp id e objects o t there is orderly =
+edits_meant stamp moment id e objects o t there same =
     ap (λ (found : Option StoredObject). map object_meant
-    (put_at objects id (option_map (pushed_object stamp (version_change stamp id e t)) found))) there
-    ∙ with_id_meant objects id (pushed_object stamp (version_change stamp id e t) o)
-    ∙ ap (with_id (map object_meant objects) id) (edited_object_meant stamp id e o t is orderly)
+    (put_at objects id (option_map (pushed_object stamp (version_change moment id e t)) found))) there
+    ∙ with_id_meant objects id (pushed_object stamp (version_change moment id e t) o)
+    ∙ ap (with_id (map object_meant objects) id) same
 
 -- what is edited is orderly
 abbrev pub OrderlyAt : Option StoredObject → Type 0
@@ -165,21 +197,22 @@ orderly_standing t orderly = of_last t.versions orderly
     of_last (v ∷ w ∷ vs) all = of_last (w ∷ vs) all.1
 
 -- the edits of a table
-edit_meant : (stamp : ℕ) (objects : List StoredObject) (id : ℕ) (e : Edits) → OrderlyAt (at_id objects id)
-    → map object_meant (all_changed stamp objects (act_written stamp objects (EditsRows id e)))
-    ≡ acted stamp (map object_meant objects) (EditsRows id e)
-edit_meant stamp objects id e orderly =
+edit_meant : (stamp moment : ℕ) (objects : List StoredObject) (id : ℕ) (e : Edits) → OrderlyAt (at_id objects id)
+    → map object_meant (all_changed stamp objects (version_written_to moment id e (at_id objects id)))
+    ≡ changed_at (map object_meant objects) id (edited_object stamp moment e)
+edit_meant stamp moment objects id e orderly =
     by_found (at_id objects id) refl orderly
-    ∙ ap (λ (found : Option Object). put_at (map object_meant objects) id (option_map (edited_object stamp e) found))
+    ∙ ap (λ (found : Option Object). put_at (map object_meant objects) id (option_map (edited_object stamp moment e) found))
     (sym (at_id_meant objects id))
   where
     by_kind : (o : StoredObject) (k : StoredKind) → at_id objects id ≡ Some o → o.kind ≡ k → IsOrderlyKind k
-        → map object_meant (all_changed stamp objects (version_written_to stamp id e (Some o)))
-        ≡ with_id (map object_meant objects) id (edited_object stamp e (object_meant o))
+        → map object_meant (all_changed stamp objects (version_written_to moment id e (Some o)))
+        ≡ with_id (map object_meant objects) id (edited_object stamp moment e (object_meant o))
     by_kind o (TableKind t) there is orderly =
-        let edited : map object_meant (changed stamp objects (version_written stamp id e t))
-        ≡ with_id (map object_meant objects) id (edited_object stamp e (object_meant o)) =
-        edits_meant stamp id e objects o t there is (orderly_standing t orderly) in
+        let edited : map object_meant (changed stamp objects (version_written moment id e t))
+        ≡ with_id (map object_meant objects) id (edited_object stamp moment e (object_meant o)) =
+        edits_meant stamp moment id e objects o t there
+        (edited_object_meant stamp moment id e o t is (orderly_standing t orderly)) in
         rw is (rw is at edited)
     by_kind o (StreamKind s) there is orderly =
         rw is (sym (with_same (map object_meant objects) id (object_meant o)
@@ -189,16 +222,23 @@ edit_meant stamp objects id e orderly =
         rw is (sym (with_same (map object_meant objects) id (object_meant o)
         (at_id_meant objects id ∙ ap (option_map object_meant) there))
         ∙ ap (with_id (map object_meant objects) id) (rw is refl))
+    by_kind o (DynamicKind d t) there is orderly =
+        let edited : map object_meant (changed stamp objects (version_written moment id e t))
+        ≡ with_id (map object_meant objects) id (edited_object stamp moment e (object_meant o)) =
+        edits_meant stamp moment id e objects o t there
+        (edited_dynamic_meant stamp moment id e o d t is (orderly_standing t orderly)) in
+        rw is (rw is at edited)
 
     by_found : (found : Option StoredObject) → at_id objects id ≡ found → OrderlyAt found
-        → map object_meant (all_changed stamp objects (version_written_to stamp id e found))
-        ≡ put_at (map object_meant objects) id (option_map (edited_object stamp e) (option_map object_meant found))
+        → map object_meant (all_changed stamp objects (version_written_to moment id e found))
+        ≡ put_at (map object_meant objects) id (option_map (edited_object stamp moment e) (option_map object_meant found))
     by_found None none orderly = refl
     by_found (Some o) there orderly = by_kind o o.kind there refl orderly
 
 -- an act that makes no version of a table
 abbrev pub IsNoEdit : Act → Type 0
 IsNoEdit (EditsRows id e) = ⊥
+IsNoEdit (RefreshesRows id moment e) = ⊥
 IsNoEdit _ = Unit {0}
 
 other_meant : (stamp : ℕ) (objects : List StoredObject) (act : Act) → IsNoEdit act
@@ -222,6 +262,16 @@ other_meant stamp objects (MakesTask name minutes after runs) other = task_meant
 other_meant stamp objects (PutsTask id state) other = on_task_meant (with_state state) objects id
 other_meant stamp objects (BeginsRun root tasks) other = on_task_meant (with_run tasks) objects root
 other_meant stamp objects (EndsTask root task ending) other = on_task_meant (with_ended task ending) objects root
+other_meant stamp objects (MakesDynamic name lag is_incremental query columns) other = dynamic_meant stamp objects (record {
+  id = length objects + 1;
+  name = name;
+  lag = lag;
+  is_incremental = is_incremental;
+  query = query;
+  columns = columns;
+})
+other_meant stamp objects (PutsDynamic id state) other = on_dynamic_meant (with_dynamic_state state) objects id
+other_meant stamp objects (RefreshesRows id moment e) other = absurd other
 
 -- ---- the acts of a commit
 
@@ -271,6 +321,7 @@ edit_leaves stamp id e objects later h = by_found (at_id objects id)
     by_kind o (TableKind t) = at_other (pushed_object stamp (version_change stamp id e t)) objects id later h
     by_kind o (StreamKind s) = refl
     by_kind o (TaskKind t) = refl
+    by_kind o (DynamicKind d t) = at_other (pushed_object stamp (version_change stamp id e t)) objects id later h
 
     by_found : (found : Option StoredObject)
         → at_id (all_changed stamp objects (version_written_to stamp id e found)) later ≡ at_id objects later
@@ -294,7 +345,7 @@ acts_meant : (stamp least : ℕ) (objects : List StoredObject) (acts : List Act)
     ≡ all_acted stamp (map object_meant objects) acts
 acts_meant stamp least objects acts (no_more_edits are) orderly = others_meant stamp objects acts are
 acts_meant stamp least objects (EditsRows id e ∷ acts) (next_edit from rising) orderly =
-    more_meant stamp objects (EditsRows id e) acts (edit_meant stamp objects id e (orderly id from)) (λ first is.
+    more_meant stamp objects (EditsRows id e) acts (edit_meant stamp stamp objects id e (orderly id from)) (λ first is.
     acts_meant stamp (suc id) first acts rising (λ later h.
     subst OrderlyAt
     (sym (ap (λ (l : List StoredObject). at_id l later) is ∙ edit_leaves stamp id e objects later (omega arith)))

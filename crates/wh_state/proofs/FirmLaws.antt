@@ -15,7 +15,7 @@ use Rattle.wh_value.specs.Fits.{row_fits}
 use Rattle.std.proofs.lemmas.Slice.Eq.{bytes_eq-Decides}
 use Rattle.wh_value.specs.Column.{Column}
 use Rattle.wh_frame.specs.Partition.{Partition}
-use Rattle.wh_state.specs.State.{TaskKind, changed_at}
+use Rattle.wh_state.specs.State.{TaskKind, DynamicKind, changed_at}
 use Rattle.wh_state.specs.State.{Stream, new_table, new_stream, dropped, metadata_columns}
 use Rattle.wh_state.specs.State.{at_id, with_id, put_at, changed_at, id_of, is_named}
 use Rattle.wh_state.specs.State.{TableKind, StreamKind, table_in, stream_in, columns_in, columns_at}
@@ -25,7 +25,10 @@ use Rattle.wh_state.specs.Stored.{standing}
 use Rattle.wh_state.specs.Commit.{CreatesTask, SetsTask, StartsRun, FinishesTask, change_as_text, on_task_stored}
 use Rattle.wh_state.specs.Commit.{VersionChange, Change, CreatesTable, Drops, PushesVersion, CreatesStream, SetsOffset}
 use Rattle.wh_state.specs.Commit.{pushed, pushed_kind, pushed_object, offset_set, changed, all_changed}
-use Rattle.wh_state.proofs.KindLaws.{task_keeps}
+use Rattle.wh_state.specs.State.{on_dynamic, empty_table}
+use Rattle.wh_state.specs.Dynamic.{Dynamic, with_dynamic_state}
+use Rattle.wh_state.specs.Commit.{CreatesDynamic, SetsDynamic, on_dynamic_stored}
+use Rattle.wh_state.proofs.KindLaws.{task_keeps, dynamic_keeps}
 use Rattle.wh_state.proofs.KindLaws.{offset_keeps}
 use Rattle.wh_state.specs.Commit.{Commit, applied, Leads, RowsFit, VersionApplies, FitsKind, FitsObject, IsLiveTable}
 use Rattle.wh_state.specs.Commit.{IsTableKind, ChangeApplies, AllApply}
@@ -42,7 +45,7 @@ use Rattle.std.specs.Prelude.{slice_get}
 use Rattle.wh_state.specs.State.{task_in}
 use Rattle.wh_state.specs.Task.{TaskState, most_failures, new_task, root_by}
 use Rattle.wh_state.specs.Objects.{task_at}
-use Rattle.wh_state.specs.Spelling.{body_in}
+use Rattle.wh_state.specs.Spelling.{IsUnderstood}
 use Rattle.wh_state.specs.Task.{IsSpelled}
 use Rattle.wh_state.proofs.SpelledLaws.{HasTokensOf, spelled_change}
 use Rattle.wh_state.specs.Commit.{offset_set_kind, TaskChange, TaskApplies, StateApplies, IsLiveTask, root_among}
@@ -80,6 +83,9 @@ firm_pushed stamp c t rises applies firm =
 
 new_firm : (columns : List Column) (retention stamp : ℕ) → IsFirmTable (new_table [] columns retention stamp)
 new_firm columns retention stamp = record { kept = new_kept columns retention stamp; some = tt; fits = (tt, tt) }
+
+empty_firm : (columns : List Column) (stamp : ℕ) → IsFirmTable (empty_table columns stamp)
+empty_firm columns stamp = record { kept = record { orderly = tt; below = tt }; some = tt; fits = tt }
 
 abbrev pub IsFirmKind : StoredKind → Type 0
 IsFirmKind k = IfSome (table_in k) IsFirmTable
@@ -233,6 +239,7 @@ has_source objects new keeps o h = by_kind o.kind h
     by_kind (TableKind t) h = tt
     by_kind (StreamKind s) h = keeps s h
     by_kind (TaskKind t) h = tt
+    by_kind (DynamicKind d t) h = tt
 
 -- one that is changed as a source and as a stream
 streams_changed : (f : StoredObject → StoredObject)
@@ -256,6 +263,7 @@ pushed_source stamp c s o h = by_kind o.kind h
     by_kind (TableKind t) h = h
     by_kind (StreamKind s) h = h
     by_kind (TaskKind t) h = h
+    by_kind (DynamicKind d t) h = h
 
 pushed_stream : (stamp : ℕ) (c : VersionChange) (objects : List StoredObject) (o : StoredObject) → HasSource objects o
     → HasSource objects (pushed_object stamp c o)
@@ -266,6 +274,7 @@ pushed_stream stamp c objects o h = by_kind o.kind h
     by_kind (TableKind t) h = h
     by_kind (StreamKind s) h = h
     by_kind (TaskKind t) h = h
+    by_kind (DynamicKind d t) h = h
 
 set_source : (offset : ℕ) (s : Stream) (o : StoredObject) → IsSourceOf s o → IsSourceOf s (offset_set offset o)
 set_source offset s o h =
@@ -299,6 +308,7 @@ source_found objects source is_append_only offset live = by_found (at_id objects
     by_kind (TableKind t) is = refl
     by_kind (StreamKind s) is = absurd is
     by_kind (TaskKind t) is = absurd is
+    by_kind (DynamicKind d t) is = refl
 
     by_found : (found : Option StoredObject) → IsLiveTable found
         → IsSomeAnd found (IsSourceOf (new_stream source is_append_only offset
@@ -322,15 +332,38 @@ task_firm f after root keeps objects id firm = record {
       o.kind h) objects id firm.streams;
 }
 
+dynamic_task : (f : Dynamic → Dynamic) (k : StoredKind) → task_in (on_dynamic f k) ≡ task_in k
+dynamic_task f (TableKind t) = refl
+dynamic_task f (StreamKind s) = refl
+dynamic_task f (TaskKind t) = refl
+dynamic_task f (DynamicKind d t) = refl
+
+-- a dynamic table that is changed beside its rows
+dynamic_firm : (f : Dynamic → Dynamic) (objects : List StoredObject) (id : ℕ) → IsFirm objects
+    → IsFirm (changed_at objects id (on_dynamic_stored f))
+dynamic_firm f objects id firm = record {
+  tasks = same_tasks (on_dynamic_stored f) (λ o. dynamic_task f o.kind) (λ o. refl) objects id firm.tasks;
+  tables = all_changed_at IsFirmObject IsFirmObject (on_dynamic_stored f) (λ o h. h)
+      (λ o h. dynamic_keeps IsFirmKind f (λ d t h. h) o.kind h) objects id firm.tables;
+  names = names_changed (on_dynamic_stored f) (λ o. refl) (λ o live. live) objects id firm.names;
+  streams = streams_changed (on_dynamic_stored f)
+      (λ s o h. dynamic_keeps (λ k. IsSomeAnd (table_in k) (λ t. s.columns ≡ t.columns ++ metadata_columns)) f
+      (λ d t h. h) o.kind h)
+      (λ objects o h. dynamic_keeps (λ k. IfSome (stream_in k) (λ s. FoundAt (IsSourceOf s) objects s.source)) f
+      (λ d t h. h) o.kind h) objects id firm.streams;
+}
+
 pub offset_task : (offset : ℕ) (k : StoredKind) → task_in (offset_set_kind offset k) ≡ task_in k
 offset_task offset (TableKind t) = refl
 offset_task offset (StreamKind s) = refl
 offset_task offset (TaskKind t) = refl
+offset_task offset (DynamicKind d t) = refl
 
 pub pushed_task : (stamp : ℕ) (c : VersionChange) (k : StoredKind) → task_in (pushed_kind stamp c k) ≡ task_in k
 pushed_task stamp c (TableKind t) = refl
 pushed_task stamp c (StreamKind s) = refl
 pushed_task stamp c (TaskKind t) = refl
+pushed_task stamp c (DynamicKind d t) = refl
 
 few_failures : (state : TaskState) (found : Option StoredObject) → StateApplies found state
     → state.failures ≤ most_failures
@@ -403,6 +436,14 @@ firm_changed stamp objects (StartsRun root tasks) applies rises firm =
     task_firm (with_run tasks) (λ t. refl) (λ t. refl) (run_firm tasks rises) objects root firm
 firm_changed stamp objects (FinishesTask root task ending) applies rises firm =
     task_firm (with_ended task ending) (λ t. refl) (λ t. refl) (end_firm task ending) objects root firm
+firm_changed stamp objects (CreatesDynamic c) applies rises firm = record {
+  tables = all_more IsFirmObject objects _ firm.tables (empty_firm c.columns stamp);
+  names = names_more objects _ (free_name c.name objects applies.object.free) firm.names;
+  streams = streams_more objects _ tt firm.streams;
+  tasks = tasks_more objects _ tt firm.tasks;
+}
+firm_changed stamp objects (SetsDynamic id state) applies rises firm =
+    dynamic_firm (with_dynamic_state state) objects id firm
 firm_changed stamp objects (Drops id) applies rises firm = record {
   tables = all_changed_at IsFirmObject IsFirmObject dropped (λ o h. h) (λ o h. h) objects id firm.tables;
   names = names_changed dropped (λ o. refl) (λ o live. absurd cc) objects id firm.names;
@@ -428,6 +469,7 @@ firm_changed stamp objects (PushesVersion c) applies rises firm = record {
     by_kind (TableKind t) firm fits = firm_pushed stamp c t rises fits firm
     by_kind (StreamKind s) firm fits = tt
     by_kind (TaskKind t) firm fits = tt
+    by_kind (DynamicKind d t) firm fits = firm_pushed stamp c t rises fits firm
 
     by_found : (found : Option StoredObject) → at_id objects c.id ≡ found → FitsObject found c
         → AllByRecursion IsFirmObject (put_at objects c.id (option_map (pushed_object stamp c) found))
@@ -445,7 +487,7 @@ firm_all stamp objects (c ∷ cs) applies rises firm =
 
 -- ---- what a file says
 
-written_rises : (c : Change) → IsChange (change_as_text c) → IfSome (body_in c) IsSpelled → ChangeRises c
+written_rises : (c : Change) → IsChange (change_as_text c) → IsUnderstood c → ChangeRises c
 written_rises (CreatesTable c) good spelled = tt
 written_rises (Drops id) good spelled = tt
 written_rises (CreatesStream c) good spelled = tt
@@ -454,13 +496,15 @@ written_rises (CreatesTask c) good spelled = spelled_change c.runs.body_text c.r
 written_rises (SetsTask id state) good spelled = tt
 written_rises (StartsRun root tasks) good spelled = tasks_rise 0 tasks good.tasks
 written_rises (FinishesTask root task ending) good spelled = tt
+written_rises (CreatesDynamic c) good spelled = tt
+written_rises (SetsDynamic id state) good spelled = tt
 written_rises (PushesVersion c) good spelled = record {
   rows = all_map (IsPartition c.width) HasRisingRows (λ p is. is.rising) c.added good.added;
   some = all_map (IsPartition c.width) HasRows (λ p is. is.some) c.added good.added;
 }
 
 all_rise : (cs : List Change) → AllByRecursion IsChange (map change_as_text cs)
-    → AllByRecursion (λ c. IfSome (body_in c) IsSpelled) cs → AllByRecursion ChangeRises cs
+    → AllByRecursion IsUnderstood cs → AllByRecursion ChangeRises cs
 all_rise [] good spelled = tt
 all_rise (c ∷ cs) good spelled = (written_rises c good.0 spelled.0, all_rise cs good.1 spelled.1)
 

@@ -10,7 +10,7 @@ use Rattle.std.specs.FinMap.{get}
 use Rattle.std.proofs.lemmas.Bool.{cases_lt}
 use Rattle.wh_value.specs.Value.{Row}
 use Rattle.wh_value.specs.Column.{Column}
-use Rattle.wh_state.specs.State.{TaskKind, on_task, changed_at}
+use Rattle.wh_state.specs.State.{TaskKind, DynamicKind, on_task, changed_at}
 use Rattle.wh_state.specs.State.{Version, Table, Kind, TableKind, StreamKind, Object, State, nothing_held, new_table}
 use Rattle.wh_state.specs.State.{dropped, version_at, last_rows, first_state, at_rest, at_id, put_at}
 use Rattle.wh_state.specs.Edits.{Edits}
@@ -96,12 +96,14 @@ kind_later : (committed stamp : ℕ) → committed ≤ stamp → (k : Kind) → 
 kind_later committed stamp later (TableKind t) sound = table_later committed stamp later t sound
 kind_later committed stamp later (StreamKind s) sound = omega (arith, sound)
 kind_later committed stamp later (TaskKind t) sound = tt
+kind_later committed stamp later (DynamicKind d t) sound = table_later committed stamp later t sound
 
 edited_kind_sound : (committed stamp : ℕ) (e : Edits) → committed < stamp → (k : Kind) → IsSoundKind committed k
     → IsSoundKind stamp (edited_kind stamp e k)
 edited_kind_sound committed stamp e later (TableKind t) sound = edited_sound committed stamp e later t sound
 edited_kind_sound committed stamp e later (StreamKind s) sound = omega (arith, sound)
 edited_kind_sound committed stamp e later (TaskKind t) sound = tt
+edited_kind_sound committed stamp e later (DynamicKind d t) sound = edited_sound committed stamp e later t sound
 
 -- a stream's offset, which isn't after the stamp
 moved_object_sound : (stamp offset : ℕ) → offset ≤ stamp → (o : Object) → IsSoundObject stamp o
@@ -112,6 +114,7 @@ moved_object_sound stamp offset h o sound = by_kind o.kind sound
     by_kind (TableKind t) sound = sound
     by_kind (StreamKind s) sound = h
     by_kind (TaskKind t) sound = tt
+    by_kind (DynamicKind d t) sound = sound
 
 -- a task, however it is changed
 task_object_sound : (stamp : ℕ) (f : Task → Task) (o : Object) → IsSoundObject stamp o
@@ -122,6 +125,7 @@ task_object_sound stamp f o sound = by_kind o.kind sound
     by_kind (TableKind t) sound = sound
     by_kind (StreamKind s) sound = sound
     by_kind (TaskKind t) sound = tt
+    by_kind (DynamicKind d t) sound = sound
 
 task_sound : (stamp : ℕ) (f : Task → Task) (objects : List Object) (id : ℕ)
     → AllByRecursion (IsSoundObject stamp) objects

@@ -10,11 +10,13 @@ use Rattle.std.specs.List.{AllByRecursion}
 use Rattle.std.specs.Option.{IsSomeAnd}
 use Rattle.wh_value.specs.Limit.{bound}
 use Rattle.wh_value.specs.declared.limit.Limit.TheVariants as limits
-use Rattle.wh_state.specs.State.{TaskKind}
+use Rattle.wh_state.specs.State.{TaskKind, DynamicKind}
 use Rattle.wh_state.specs.State.{dropped, last_of, at_id}
 use Rattle.wh_state.specs.State.{TableKind, StreamKind, table_in}
 use Rattle.wh_state.specs.Edits.{Edits, partitions_made}
-use Rattle.wh_state.specs.Act.{MakesTask, PutsTask, BeginsRun, EndsTask}
+use Rattle.wh_state.specs.Act.{MakesTask, PutsTask, BeginsRun, EndsTask, MakesDynamic, PutsDynamic, RefreshesRows}
+use Rattle.wh_state.specs.Dynamic.{Dynamic, with_dynamic_state}
+use Rattle.wh_state.specs.Commit.{CreatesDynamic, SetsDynamic, on_dynamic_stored}
 use Rattle.wh_state.specs.Act.{Act, MakesTable, DropsObject, EditsRows, MakesStream, MovesOffset}
 use Rattle.wh_state.specs.Stored.{StoredTable, StoredKind, StoredObject}
 use Rattle.wh_state.specs.Stored.{standing}
@@ -94,6 +96,22 @@ edit_goes stamp objects id e firm stands = by_found (at_id objects id) refl stan
             tt,
           ),
         )
+    by_kind o (DynamicKind d t) there stands firm =
+        let c : VersionChange = version_change stamp id e t in
+        let applies : FitsObject (Some (record o { kind = DynamicKind d t })) c = (
+          stands.0,
+          version_applies stamp id e t firm stands.1.below stands.1.fit stands.1.later stands.1.few
+              stands.1.few_partitions,
+        ) in (
+          subst (λ found. FitsObject found c) (sym there) applies,
+          (
+            record {
+              rows = made_rise t.next_partition t.next_row e (standing t) (orderly_standing t firm.kept.orderly).rows;
+              some = made_some t.next_partition t.next_row e (standing t);
+            },
+            tt,
+          ),
+        )
 
     by_found : (found : Option StoredObject) → at_id objects id ≡ found → IsSomeAnd found (EditStands stamp e)
         → AllGo stamp objects (version_written_to stamp id e found)
@@ -106,6 +124,7 @@ pub record KeptByCommits (P : StoredObject → Type 0) : Type 0 where
   pub pushes : (stamp : ℕ) (c : VersionChange) (o : StoredObject) → P o → P (pushed_object stamp c o)
   pub sets : (offset : ℕ) (o : StoredObject) → P o → P (offset_set offset o)
   pub tasks : (f : Task → Task) (o : StoredObject) → P o → P (on_task_stored f o)
+  pub dynamics : (f : Dynamic → Dynamic) (o : StoredObject) → P o → P (on_dynamic_stored f o)
 
 abbrev pub ChangeSpares : ℕ → Change → Type 0
 ChangeSpares id (Drops other) = id ≡ other → ⊥
@@ -128,6 +147,9 @@ found_changes P keeps stamp objects id (StartsRun root tasks) spares h =
     found_changed P (on_task_stored (with_run tasks)) (keeps.tasks (with_run tasks)) objects root id h
 found_changes P keeps stamp objects id (FinishesTask root task ending) spares h =
     found_changed P (on_task_stored (with_ended task ending)) (keeps.tasks (with_ended task ending)) objects root id h
+found_changes P keeps stamp objects id (CreatesDynamic c) spares h = found_more P objects _ id h
+found_changes P keeps stamp objects id (SetsDynamic other state) spares h = found_changed P
+    (on_dynamic_stored (with_dynamic_state state)) (keeps.dynamics (with_dynamic_state state)) objects other id h
 
 -- behind changes of which none drops it
 pub found_through : (P : StoredObject → Type 0) → KeptByCommits P → (stamp : ℕ) (objects : List StoredObject) (id : ℕ)
@@ -153,6 +175,9 @@ edit_keeps P keeps stamp objects other e id h = by_found (at_id objects other)
         (keeps stamp (version_change stamp other e t)) objects other id h
     by_kind o (StreamKind s) = h
     by_kind o (TaskKind t) = h
+    by_kind o (DynamicKind d t) =
+        found_changed P (pushed_object stamp (version_change stamp other e t))
+        (keeps stamp (version_change stamp other e t)) objects other id h
 
     by_found : (found : Option StoredObject)
         → FoundAt P (all_changed stamp objects (version_written_to stamp other e found)) id
@@ -172,6 +197,7 @@ takes_kept start o stamp c h = (h.0, by_kind o.kind h.1)
     by_kind (TableKind t) h = absurd h
     by_kind (StreamKind s) h = h
     by_kind (TaskKind t) h = absurd h
+    by_kind (DynamicKind d t) h = absurd h
 
 takes_again : (start : ℕ) (o : StoredObject) → TakesMove start o → TakesMove start (offset_set start o)
 takes_again start o h = (h.0, by_kind o.kind h.1)
@@ -180,6 +206,7 @@ takes_again start o h = (h.0, by_kind o.kind h.1)
     by_kind (TableKind t) h = absurd h
     by_kind (StreamKind s) h = omega arith
     by_kind (TaskKind t) h = absurd h
+    by_kind (DynamicKind d t) h = absurd h
 
 -- the acts of a commit of a transaction of that start
 abbrev pub ActStands : ℕ → ℕ → List StoredObject → Act → Type 0
@@ -205,6 +232,9 @@ move_stands stamp start objects id (MakesTask name minutes after runs) are stand
 move_stands stamp start objects id (PutsTask other state) are stands = absurd stands
 move_stands stamp start objects id (BeginsRun root tasks) are stands = absurd stands
 move_stands stamp start objects id (EndsTask root task ending) are stands = absurd stands
+move_stands stamp start objects id (MakesDynamic name lag is_incremental query columns) are stands = absurd stands
+move_stands stamp start objects id (PutsDynamic other state) are stands = absurd stands
+move_stands stamp start objects id (RefreshesRows other moment f) are stands = absurd are
 
 moves_stand : (stamp start : ℕ) (objects : List StoredObject) (id : ℕ) (acts : List Act) → AreNoEdits acts
     → AllStand stamp start objects acts → AllStand stamp start (changed stamp objects (SetsOffset id start)) acts
@@ -223,6 +253,9 @@ moves_go stamp start objects (MakesTask name minutes after runs ∷ acts) are st
 moves_go stamp start objects (PutsTask id state ∷ acts) are stand = absurd stand.0
 moves_go stamp start objects (BeginsRun root tasks ∷ acts) are stand = absurd stand.0
 moves_go stamp start objects (EndsTask root task ending ∷ acts) are stand = absurd stand.0
+moves_go stamp start objects (MakesDynamic name lag is_incremental query columns ∷ acts) are stand = absurd stand.0
+moves_go stamp start objects (PutsDynamic id state ∷ acts) are stand = absurd stand.0
+moves_go stamp start objects (RefreshesRows id moment e ∷ acts) are stand = absurd are.0
 moves_go stamp start objects (MovesOffset id offset ∷ acts) are stand =
     let at_start : AllGo stamp (changed stamp objects (SetsOffset id start))
     (written stamp (changed stamp objects (SetsOffset id start)) acts) =
@@ -254,6 +287,9 @@ act_stands stamp start objects id e (MakesTask name minutes after runs) are stan
 act_stands stamp start objects id e (PutsTask other state) are stands = absurd stands
 act_stands stamp start objects id e (BeginsRun root tasks) are stands = absurd stands
 act_stands stamp start objects id e (EndsTask root task ending) are stands = absurd stands
+act_stands stamp start objects id e (MakesDynamic name lag is_incremental query columns) are stands = absurd stands
+act_stands stamp start objects id e (PutsDynamic other state) are stands = absurd stands
+act_stands stamp start objects id e (RefreshesRows other moment f) are stands = absurd are
 
 others_stand : (stamp start : ℕ) (objects : List StoredObject) (id : ℕ) (e : Edits) (acts : List Act) → AreNoEdits acts
     → AllStand stamp start objects acts

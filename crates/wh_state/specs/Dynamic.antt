@@ -1,0 +1,62 @@
+-- Dynamic tables: what they have beside their rows.
+--     Source                        an object that a query names, by its id
+--     DynamicTexts, DynamicQuery    its query: the text in a file, the text with its tree in the machine
+--     IsQuerySpelled                the text spells the tree
+--     DynamicState, Dynamic         what ALTER DYNAMIC TABLE and refreshes move of it; all that it has
+--     with_dynamic_state            one in another state
+use Rattle.std.specs.Prelude.{ℕ, Bool, false, List, []}
+use Rattle.wh_ast.specs.declared.query.Query.{Query}
+use Rattle.wh_ast.specs.declared.statement.Statement.TheVariants as st
+use Rattle.wh_grammar.specs.Spelled.{Spells}
+
+-- ---- the query
+
+pub record Source : Type 0 where
+  pub name : List ℕ
+  pub id : ℕ
+
+-- an object for each name in FROM, in the order of the text
+pub record DynamicTexts : Type 0 where
+  pub text : List ℕ
+  pub sources : List Source
+
+pub record DynamicQuery : Type 0 where
+  pub tree : Query
+  pub text : List ℕ
+  pub sources : List Source
+
+abbrev pub query_texts_of : DynamicQuery → DynamicTexts
+query_texts_of q = record { text = q.text; sources = q.sources }
+
+abbrev pub IsQuerySpelled : DynamicQuery → Type 0
+IsQuerySpelled q = Spells q.text (st.Select q.tree [])
+
+-- ---- the table
+
+-- the lag is in seconds, 0 for DOWNSTREAM; the moment that its rows stand for, and the target of its last scheduled
+-- refresh that failed, are 0 where there is none
+pub record DynamicState : Type 0 where
+  pub lag : ℕ
+  pub is_suspended : Bool
+  pub failures : ℕ
+  pub tried : ℕ
+  pub moment : ℕ
+
+-- so many failed refreshes in a row suspend it, and are counted
+abbrev pub most_failed_refreshes : ℕ
+most_failed_refreshes = 5
+
+abbrev pub first_dynamic_state : ℕ → DynamicState
+first_dynamic_state lag = record { lag = lag; is_suspended = false; failures = 0; tried = 0; moment = 0 }
+
+pub record Dynamic : Type 0 where
+  pub query : DynamicQuery
+  pub is_incremental : Bool
+  pub state : DynamicState
+
+abbrev pub new_dynamic : ℕ → Bool → DynamicQuery → Dynamic
+new_dynamic lag is_incremental query =
+    record { query = query; is_incremental = is_incremental; state = first_dynamic_state lag }
+
+abbrev pub with_dynamic_state : DynamicState → Dynamic → Dynamic
+with_dynamic_state state d = record d { state = state }
