@@ -1,3 +1,4 @@
 pub mod View
 pub mod Tuple
+pub mod Increments
 pub mod Plan

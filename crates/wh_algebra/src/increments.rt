@@ -1,12 +1,12 @@
 ghost use Rattle.std.specs.Prelude.{◌≡◌};
 ghost use Rattle.wh_algebra.specs.View.{query_of};
-ghost use Rattle.wh_meaning.specs.Increments as increments;
+ghost use Rattle.wh_algebra.specs.Increments as increments;
 
 use crate::Query;
 
 /// Whether changes of the sources can be carried through the query: each Group has a key, and no
 /// condition of a Join holds arithmetic.
-#[tactic(auto, unfolding(wh_meaning::specs::Increments::incrementable))]
+#[tactic(auto, unfolding(crate::specs::Increments::incrementable))]
 pub fn incrementable(query: &Query) -> bool
     ensures { result ≡ increments.incrementable (query_of query.now) }
 {

@@ -15,7 +15,7 @@ use Rattle.wh_ast.specs.declared.statement.RefreshMode.{RefreshMode}
 use Rattle.wh_ast.specs.declared.statement.RefreshMode.TheVariants as modes
 use Rattle.wh_ast.specs.declared.statement.Initialize.{Initialize}
 use Rattle.wh_ast.specs.declared.statement.Initialize.TheVariants as starts
-use Rattle.wh_meaning.specs.Increments.{incrementable}
+use Rattle.wh_algebra.specs.Increments.{incrementable}
 use Rattle.wh_ddl_naming.specs.DynamicTables.{NewDynamicTable}
 use Rattle.wh_naming.specs.Findings.{Name}
 use Rattle.wh_ddl_naming.specs.Names.{query_names}
@@ -28,13 +28,13 @@ use Rattle.wh_state.specs.Edits.{is_among}
 use Rattle.wh_state.specs.Dynamic.{Source, DynamicQuery, DynamicState, Dynamic, most_failed_refreshes}
 use Rattle.wh_state.specs.Objects.{name_at, dynamic_at, is_live_at}
 use Rattle.wh_state.specs.Act.{Act, MakesDynamic, PutsDynamic, DropsObject, all_acted}
-use Rattle.wh_moment.specs.Upstream.{Dynamics, upstream}
+use Rattle.wh_moment.specs.Upstream.{upstream, dynamics_of}
 use Rattle.wh_moment.specs.Moment.{is_suspended_at, ids_from, behind_failure}
 use Rattle.wh_machine.specs.Tests.{refused_if, refused_past, first_of}
 use Rattle.wh_machine.specs.Outcome.{Machine, Outcome, Refuses, commits, unless}
 use Rattle.wh_machine.specs.Definitions.{is_long, count_refusals}
 use Rattle.wh_machine.specs.Tasks.{is_same_truth}
-use Rattle.wh_machine.specs.Refresh.{Refreshing, Fails, Brings, dynamics_of, with_upstream, refresh}
+use Rattle.wh_machine.specs.Refresh.{Refreshing, Fails, Brings, with_upstream, refresh}
 
 -- ---- lags
 

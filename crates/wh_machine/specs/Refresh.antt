@@ -1,5 +1,4 @@
 -- Refreshes: dynamic tables brought to a moment.
---     dynamics_of        what a schedule looks at of the dynamic tables
 --     Brought            what is done to one table: how it is brought to the moment, and its edits
 --     brought_one, brought_all     of one table, and of several by rising ids; None where an evaluation is undefined
 --     Refreshing, refresh          the refresh of a table to a moment: a refusal, or its lines and its acts
@@ -12,31 +11,16 @@ use Rattle.wh_value.specs.Limit.{bound}
 use Rattle.wh_value.specs.declared.limit.Limit.TheVariants as limits
 use Rattle.wh_reply.specs.Reply.{Refusal, OverLimit, SourceGone, NumberOutOfRange, RefreshAction, NoData, Full, Incremental}
 use Rattle.wh_reply.specs.Reply.{Refreshed}
-use Rattle.wh_state.specs.State.{Kind, DynamicKind, Object, Table, State, last_rows}
-use Rattle.wh_state.specs.Dynamic.{Dynamic, DynamicState}
-use Rattle.wh_state.specs.Bound.{query_bound}
-use Rattle.wh_state.specs.Moments.{sources_of, evaluated_at}
+use Rattle.wh_state.specs.State.{Object, Table, State, last_rows}
+use Rattle.wh_state.specs.Dynamic.{Dynamic, DynamicState, ids_read}
+use Rattle.wh_state.specs.Moments.{evaluated_at}
 use Rattle.wh_state.specs.Edits.{Edits}
 use Rattle.wh_state.specs.Objects.{table_at, dynamic_at, name_at, is_live_at}
 use Rattle.wh_state.specs.Act.{Act, PutsDynamic, RefreshesRows, all_acted, table_partitions_made}
-use Rattle.wh_moment.specs.Upstream.{Watched, Dynamics, upstream, brought}
+use Rattle.wh_moment.specs.Upstream.{upstream, dynamics_of, brought}
 use Rattle.wh_moment.specs.Moment.{brought_to}
 use Rattle.wh_moment.specs.Rebase.{rebase}
 use Rattle.wh_machine.specs.Tests.{first_of}
-
--- ---- what dynamic tables read
-
-abbrev pub watched : List Object → Bool → Kind → Option Watched
-watched objects is_live (DynamicKind d t) = Some (record {
-  is_live = is_live;
-  created = t.created;
-  sources = (query_bound objects d.query).sources;
-  state = d.state;
-})
-watched objects is_live _ = None
-
-abbrev pub dynamics_of : List Object → Dynamics
-dynamics_of objects = map (λ o. watched objects o.is_live o.kind) objects
 
 -- ---- one table
 
@@ -57,7 +41,7 @@ abbrev pub action_by : Dynamic → Bool → RefreshAction
 action_by d is_new = if nat_eq d.state.moment 0 then Full else (if is_new then by_mode d.is_incremental else NoData)
 
 abbrev pub action_of : List Object → ℕ → Dynamic → RefreshAction
-action_of objects moment d = action_by d (has_new_data objects d.state.moment moment (sources_of objects d))
+action_of objects moment d = action_by d (has_new_data objects d.state.moment moment (ids_read d.query))
 
 -- no edits where there is nothing new
 pub record Brought : Type 0 where
@@ -123,7 +107,7 @@ number_refusal objects all =
 -- ---- a refresh
 
 abbrev pub lost_source : List Object → ℕ → Bool
-lost_source objects id = option_map_or (λ d. list_any (λ source. not (is_live_at objects source)) (sources_of objects d))
+lost_source objects id = option_map_or (λ d. list_any (λ source. not (is_live_at objects source)) (ids_read d.query))
     (dynamic_at objects id) false
 
 abbrev pub first_lost : List Object → List ℕ → Option Refusal

@@ -31,7 +31,7 @@ use Rattle.wh_machine.specs.Outcome.{Machine, Outcome, Refuses, Does, answers, c
 use Rattle.wh_machine.specs.Reading.{start_in, reading_refusal}
 use Rattle.wh_machine.specs.Statements.{streams_read, bound_changed, changes_in}
 use Rattle.wh_moment.specs.Moment.{due_table}
-use Rattle.wh_machine.specs.Refresh.{dynamics_of}
+use Rattle.wh_moment.specs.Upstream.{dynamics_of}
 use Rattle.wh_machine.specs.Dynamics.{scheduled}
 use Rattle.wh_machine.specs.Tasks.{live_tasks, start_acts}
 

@@ -3,4 +3,3 @@ pub mod Bag
 pub mod BagChange
 pub mod Query
 pub mod Listing
-pub mod Increments

@@ -1,15 +1,16 @@
 -- What dynamic tables read.
 --     Watched            what a schedule looks at of a dynamic table
 --     Dynamics           all of them by their ids, dropped ones too
+--     dynamics_of        those of a state
 --     upstream           the dynamic tables that one reads, directly or through others
 --     brought            those that a refresh of one brings to a moment
-use Rattle.std.specs.Prelude.{ℕ, zero, suc, ◌-◌, Bool, false, ◌||◌, ◌&&◌, if◌then◌else◌, List, [], ◌∷◌, ◌++◌, Option}
-use Rattle.std.specs.Prelude.{None, is_some, unwrap_or, nat_eq, nat_lt}
+use Rattle.std.specs.Prelude.{ℕ, zero, suc, ◌-◌, Bool, false, ◌||◌, ◌&&◌, if◌then◌else◌, List, [], ◌∷◌, ◌++◌, map, Option}
+use Rattle.std.specs.Prelude.{Some, None, is_some, unwrap_or, nat_eq, nat_lt}
 use Rattle.std.specs.List.{filter}
 use Rattle.std.specs.Option.{option_map_or}
-use Rattle.wh_state.specs.State.{at_id}
+use Rattle.wh_state.specs.State.{TableOf, ObjectOf, KindOf, DynamicKind, at_id}
 use Rattle.wh_state.specs.Edits.{is_among}
-use Rattle.wh_state.specs.Dynamic.{DynamicState}
+use Rattle.wh_state.specs.Dynamic.{DynamicState, ids_read}
 
 -- the ids of the objects that its query reads, and the stamp of its creation
 pub record Watched : Type 0 where
@@ -24,6 +25,25 @@ Dynamics = List (Option Watched)
 
 abbrev pub watched_at : Dynamics → ℕ → Option Watched
 watched_at all id = unwrap_or (at_id all id) None
+
+-- ---- of objects
+
+abbrev pub watched : {Content : Type 0} → Bool → KindOf (TableOf Content) → Option Watched
+watched is_live (DynamicKind d t) = Some (record {
+  is_live = is_live;
+  created = t.created;
+  sources = ids_read d.query;
+  state = d.state;
+})
+watched is_live _ = None
+
+abbrev pub watched_object : {Content : Type 0} → ObjectOf (KindOf (TableOf Content)) → Option Watched
+watched_object o = watched o.is_live o.kind
+
+abbrev pub dynamics_of : {Content : Type 0} → List (ObjectOf (KindOf (TableOf Content))) → Dynamics
+dynamics_of objects = map watched_object objects
+
+-- ---- what they read
 
 -- what the dynamic table of an id reads; nothing where it isn't among some
 abbrev pub more_read : Dynamics → ℕ → List ℕ → List ℕ

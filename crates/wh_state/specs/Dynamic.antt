@@ -2,12 +2,14 @@
 --     Source                        an object that a query names, by its id
 --     DynamicTexts, DynamicQuery    its query: the text in a file, the text with its tree in the machine
 --     IsQuerySpelled                the text spells the tree
+--     ids_read                      the ids of what it reads
 --     DynamicState, Dynamic         what ALTER DYNAMIC TABLE and refreshes move of it; all that it has
 --     with_dynamic_state            one in another state
-use Rattle.std.specs.Prelude.{ℕ, Bool, false, List, []}
+use Rattle.std.specs.Prelude.{ℕ, Bool, false, List, [], ◌∷◌, map, bytes_eq, if◌then◌else◌}
 use Rattle.wh_ast.specs.declared.query.Query.{Query}
 use Rattle.wh_ast.specs.declared.statement.Statement.TheVariants as st
 use Rattle.wh_grammar.specs.Spelled.{Spells}
+use Rattle.wh_ddl_naming.specs.Names.{query_names}
 
 -- ---- the query
 
@@ -30,6 +32,15 @@ query_texts_of q = record { text = q.text; sources = q.sources }
 
 abbrev pub IsQuerySpelled : DynamicQuery → Type 0
 IsQuerySpelled q = Spells q.text (st.Select q.tree [])
+
+-- 0 for a name that is kept with none
+abbrev pub id_named : List Source → List ℕ → ℕ
+id_named [] name = 0
+id_named (s ∷ ss) name = if bytes_eq s.name name then s.id else id_named ss name
+
+-- for each name in FROM, in the order of the text, as its sources are numbered
+unfoldable pub ids_read : DynamicQuery → List ℕ
+ids_read q = map (id_named q.sources) (query_names q.tree)
 
 -- ---- the table
 

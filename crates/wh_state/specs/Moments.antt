@@ -10,11 +10,8 @@ use Rattle.wh_meaning.specs.Bag.{Bag, no_rows, bag_of}
 use Rattle.wh_meaning.specs.Query.{Instance, eval}
 use Rattle.wh_state.specs.State.{Object, Table, last_rows, rows_at}
 use Rattle.wh_state.specs.Objects.{table_at, dynamic_at}
-use Rattle.wh_state.specs.Dynamic.{Dynamic}
+use Rattle.wh_state.specs.Dynamic.{Dynamic, ids_read}
 use Rattle.wh_state.specs.Bound.{query_bound}
-
-abbrev pub sources_of : List Object → Dynamic → List ℕ
-sources_of objects d = (query_bound objects d.query).sources
 
 -- each row as often as it stands there
 abbrev pub bag_at : List Object → ℕ → ℕ → Bag
@@ -25,10 +22,10 @@ instance_at objects moment ids = map (bag_at objects moment) ids
 
 unfoldable pub evaluated_at : List Object → ℕ → Dynamic → Option Bag
 evaluated_at objects moment d =
-    eval (query_bound objects d.query).query (instance_at objects moment (sources_of objects d))
+    eval (query_bound objects d.query).query (instance_at objects moment (ids_read d.query))
 
 -- and each dynamic table that it reads stands for that moment, or a later one
 pub record StandsFor (objects : List Object) (d : Dynamic) (t : Table) : Type 0 where
   pub rows : evaluated_at objects d.state.moment d ≡ Some (bag_of (values (last_rows t)))
   pub sources : AllByRecursion (λ id. IfSome (dynamic_at objects id) (λ e. d.state.moment ≤ e.state.moment))
-      (sources_of objects d)
+      (ids_read d.query)

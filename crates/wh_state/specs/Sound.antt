@@ -10,11 +10,11 @@ use Rattle.std.specs.Option.{IfSome}
 use Rattle.std.specs.FinMap.{get}
 use Rattle.wh_value.specs.Value.{Row}
 use Rattle.wh_state.specs.State.{Version, Table, Kind, TableKind, StreamKind, TaskKind, DynamicKind, Object, State}
-use Rattle.wh_meaning.specs.Increments.{incrementable}
-use Rattle.wh_state.specs.Dynamic.{Dynamic}
+use Rattle.wh_algebra.specs.Increments.{incrementable}
+use Rattle.wh_state.specs.Dynamic.{Dynamic, ids_read}
 use Rattle.wh_state.specs.Objects.{table_at, dynamic_at}
 use Rattle.wh_state.specs.Bound.{query_bound}
-use Rattle.wh_state.specs.Moments.{sources_of, StandsFor}
+use Rattle.wh_state.specs.Moments.{StandsFor}
 use Rattle.wh_state.specs.File.{Stands}
 
 pub record HasRow (v : Version) (number : ℕ) : Type 0 where
@@ -66,7 +66,7 @@ IsOlder objects created id = IfSome (dynamic_at objects id) (λ e. IfSome (table
 -- one that stands for a moment has the rows of its query for it, and one that stands for none has no version
 pub record IsSoundDynamic (committed : ℕ) (objects : List Object) (d : Dynamic) (t : Table) : Type 0 where
   pub created : t.created ≤ committed
-  pub older : AllByRecursion (IsOlder objects t.created) (sources_of objects d)
+  pub older : AllByRecursion (IsOlder objects t.created) (ids_read d.query)
   pub moment : d.state.moment ≤ committed
   pub tried : d.state.tried ≤ committed
   pub timely : AllByRecursion (IsTimelyFor committed d.state.moment) t.versions
