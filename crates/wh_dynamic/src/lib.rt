@@ -1,0 +1,17 @@
+//! Dynamic tables, what they read, and when they are due.
+#![tactic(auto)]
+
+mod due;
+mod dynamic;
+mod query;
+mod reached;
+mod reads;
+mod state;
+mod watched;
+
+pub use due::due_table;
+pub use dynamic::Dynamic;
+pub use query::{DynamicQuery, NamedSource};
+pub use state::DynamicState;
+pub use reached::{brought, upstream};
+pub use watched::Watched;
