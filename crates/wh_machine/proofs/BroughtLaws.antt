@@ -1,7 +1,4 @@
 -- What tables leave that a refresh brings to a moment.
---     after_all               the objects behind several
---     AreAbove                their ids lie above one, and rise
---     sought                  what is done to the table of an id
 --     object_brought, at_after        what stands at an id
 --     table_after, dynamic_after      so its rows, and what a dynamic table has beside them
 --     bound_after             what a query binds to stays
@@ -27,14 +24,9 @@ use Rattle.wh_state.specs.Act.{on_dynamic_object, next_contents}
 use Rattle.wh_state.proofs.IdLaws.{map_at, map_changed, with_same, at_spared, last_more}
 use Rattle.wh_state.proofs.FoundLaws.{at_same, same_or_not}
 use Rattle.wh_machine.specs.Refresh.{Brought, version_acts, acts_of_one, has_version_between}
+use Rattle.wh_machine.specs.Brought.{after_one, after_all, AreAbove, sought, edits_sought}
 
 -- ---- objects behind several
-
-abbrev pub after_one : ℕ → ℕ → Brought → List Object → List Object
-after_one stamp moment b objects = all_acted stamp objects (acts_of_one moment b)
-
-abbrev pub after_all : ℕ → ℕ → List Brought → List Object → List Object
-after_all stamp moment bs objects = all_acted stamp objects (flat_map (acts_of_one moment) bs)
 
 pub acted_append : (stamp : ℕ) (objects : List Object) (acts more : List Act)
     → all_acted stamp objects (acts ++ more) ≡ all_acted stamp (all_acted stamp objects acts) more
@@ -114,20 +106,6 @@ one_here stamp moment b objects = by_edits b.edits
         ∙ ap (option_map puts) (at_changed (edited_object stamp moment e) objects b.id)
         ∙ twice (edited_object stamp moment e) (at_id objects b.id)
 
--- their ids lie above one, and rise
-abbrev pub AreAbove : ℕ → List Brought → Type 0
-AreAbove least [] = Unit {0}
-AreAbove least (b ∷ bs) = (least < b.id) × AreAbove b.id bs
-
--- so do the ids of a list
-abbrev pub RiseAbove : ℕ → List ℕ → Type 0
-RiseAbove least [] = Unit {0}
-RiseAbove least (id ∷ ids) = (least < id) × RiseAbove id ids
-
-abbrev pub sought : ℕ → List Brought → Option Brought
-sought id [] = None
-sought id (b ∷ bs) = cond (nat_eq b.id id) (Some b) (sought id bs)
-
 none_above : (least id : ℕ) (bs : List Brought) → id ≤ least → AreAbove least bs → sought id bs ≡ None
 none_above least id [] below above = refl
 none_above least id (b ∷ bs) below above =
@@ -170,9 +148,6 @@ at_after stamp moment least (b ∷ bs) objects id above =
 abbrev pub table_brought : ℕ → ℕ → Option Edits → Option Table → Option Table
 table_brought stamp moment None found = found
 table_brought stamp moment (Some e) found = option_map (edited_table stamp moment e) found
-
-abbrev pub edits_sought : ℕ → List Brought → Option Edits
-edits_sought id bs = option_and_then (λ b. b.edits) (sought id bs)
 
 pub table_after : (stamp moment : ℕ) (least : ℕ) (bs : List Brought) (objects : List Object) (id : ℕ) → AreAbove least bs
     → table_at (after_all stamp moment bs objects) id

@@ -1,0 +1,4 @@
+pub mod Objects
+pub mod Sources
+pub mod Brought
+pub mod Refreshing
