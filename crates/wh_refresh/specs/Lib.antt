@@ -1,3 +1,4 @@
+pub mod Walk
 pub mod Objects
 pub mod Sources
 pub mod Brought

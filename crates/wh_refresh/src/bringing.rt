@@ -95,7 +95,7 @@ fn new_rows(
         return Ok(None);
     };
     let old = table.by_rows(alloc)?;
-    let Rebased { edits, plus, minus } = rebase(alloc, &old, rows)?;
+    let Rebased { edits, plus, minus } = rebase(alloc, &old, &rows)?;
     let edited = table.edited(alloc, edits)?;
     Ok(Some(NewRows {
         edited,

@@ -4,7 +4,6 @@
 
 mod bringing;
 mod brought;
-mod counted;
 mod evaluation;
 mod limits;
 mod objects;
