@@ -218,7 +218,7 @@ module _ (s : Stored) (m : Machine) (session : ℕ) (reached : IsReached s m) wh
       let nothing : NothingFails b.findings = nothing_fails b.findings none in
       let found : IsFound t = target_found name (good.known nothing.unknown_object) (good.kinds nothing.wrong_kind) in
       let sees : SeesTable m session t.id found.table.columns =
-      seen_fits s m session t.id found.object found.table reached found.there found.kind in
+      seen_fits s m session t.id found.object found.table reached found.there (ap table_in found.kind) in
       let there : table_at (objects_seen m session) b.target ≡ Some sees.table =
       ap (λ (id : ℕ). table_at (objects_seen m session) id) good.target ∙ sees.there in
       let rows : AllByRecursion (λ entry. FitsTypes (types_of t.columns) entry.1) (rows_seen sees.table) =

@@ -322,7 +322,7 @@ placed s m kind name reached none = by_found (named (names_from 1 m.state.object
 -- a place of a table takes no dynamic one
 placed_table : (k : StoredKind) → is_same_kind (object_kind (kind_meant k)) TableObject ≡ true
     → IsTableKind k × IsTrue (is_table k)
-placed_table (TableKind t) is = (tt, tt)
+placed_table (TableKind t) is = (tt, refl)
 placed_table (StreamKind s) is = absurd cc
 placed_table (TaskKind t) is = absurd cc
 placed_table (DynamicKind d t) is = absurd cc

@@ -26,6 +26,7 @@ use Rattle.wh_state.specs.Stored.{table_meant, object_meant, kind_meant}
 use Rattle.wh_state.proofs.AllLaws.{all_map, all_append, all_filter, all_at}
 use Rattle.wh_state.proofs.FoundLaws.{FoundAt}
 use Rattle.wh_state.proofs.MeaningLaws.{at_id_meant, table_at_meant}
+use Rattle.wh_state.proofs.AppliesLaws.{IsFirmTable}
 use Rattle.wh_state.proofs.FirmLaws.{IsFirmKind, IsFirmObject, IsSourceOf, HasSource}
 use Rattle.wh_machine.specs.Outcome.{Machine}
 use Rattle.wh_machine.specs.Queries.{table_bag}
@@ -38,7 +39,7 @@ use Rattle.wh_machine.proofs.BagRows.{AllRows, all_bag_of}
 use Rattle.wh_machine.proofs.ValueTypes.{FitsTypes, types_of, row_of_columns, fits_append}
 use Rattle.wh_machine.proofs.SeenRows.{none_seen}
 use Rattle.wh_machine.proofs.SeenRows.{Fit, RowsFitIn, versions_fit, VersionRowsFit, last_fits}
-use Rattle.wh_machine.proofs.SeenRows.{seen_fits}
+use Rattle.wh_machine.proofs.SeenRows.{SeesTable, seen_fits}
 use Rattle.wh_state.specs.Objects.{table_at}
 use Rattle.wh_state.specs.Objects.{as_table}
 
