@@ -8,6 +8,8 @@ pub mod VersionLaws
 pub mod MeaningLaws
 pub mod ActLaws
 pub mod OrderlyLaws
+pub mod EvaluatedLaws
+pub mod SoundObjects
 pub mod SoundLaws
 pub mod KnownMaps
 pub mod KnownFacts
