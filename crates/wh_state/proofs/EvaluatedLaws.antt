@@ -5,10 +5,10 @@
 --     next_same, follows_refl       what stays follows itself
 --     bag_follows, bound_follows    the rows of a source, and what a query binds to
 --     ids_below, evaluated_follows  so what it gives
-use Rattle.std.proofs.Common.{◌≡◌, ℕ, zero, suc, ◌<◌, ◌≤◌, Bool, true, false, cond, List, [], ◌∷◌, ◌++◌, map, length}
+use Rattle.std.proofs.Common.{◌≡◌, ℕ, ◌<◌, ◌≤◌, Bool, true, false, cond, List, [], ◌∷◌, ◌++◌, map, length}
 use Rattle.std.proofs.Common.{Option, Some, None, refl, sym, ap, subst, ◌∙◌, arith}
-use Rattle.std.specs.Prelude.{nat_le, bytes_eq, if◌then◌else◌}
-use Rattle.std.specs.List.{AllByRecursion, filter, flat_map}
+use Rattle.std.specs.Prelude.{nat_le, bytes_eq}
+use Rattle.std.specs.List.{AllByRecursion, filter}
 use Rattle.std.specs.Option.{IsSomeAnd, IfSome, option_map_or, option_and_then}
 use Rattle.std.specs.FinMap.{values}
 use Rattle.std.proofs.lemmas.Bool.Decides.{nat_tests}
@@ -21,7 +21,7 @@ use Rattle.wh_state.specs.State.{Version, Table, Kind, TableKind, StreamKind, Ta
 use Rattle.wh_state.specs.State.{Rows, nothing_held, content_in, last_of, at_id, rows_at, version_for, table_in, dynamic_in}
 use Rattle.wh_state.specs.Task.{Task}
 use Rattle.wh_state.specs.Dynamic.{Source, DynamicQuery, Dynamic, id_named, ids_read}
-use Rattle.wh_state.specs.Objects.{as_table, as_dynamic, table_at, dynamic_at}
+use Rattle.wh_state.specs.Objects.{as_table, as_dynamic, dynamic_at}
 use Rattle.wh_state.specs.Bound.{named_as, names_among, query_bound}
 use Rattle.wh_state.specs.Moments.{bag_at, instance_at, evaluated_at}
 use Rattle.wh_state.specs.Edits.{Edits}

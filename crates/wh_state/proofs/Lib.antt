@@ -10,7 +10,9 @@ pub mod ActLaws
 pub mod OrderlyLaws
 pub mod EvaluatedLaws
 pub mod SoundObjects
+pub mod SoundTables
 pub mod SoundLaws
+pub mod PlainActs
 pub mod KnownMaps
 pub mod KnownFacts
 pub mod KnownCommits

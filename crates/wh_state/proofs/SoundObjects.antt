@@ -4,17 +4,17 @@
 --     AllBefore, moments_within     the moments of dynamic tables before a stamp
 --     dynamic_follows           a dynamic table among objects that follow
 --     changed_kept, more_kept   one object that is changed, and one more
-use Rattle.std.proofs.Common.{◌≡◌, ℕ, zero, suc, ◌+◌, ◌<◌, ◌≤◌, ◌⊎◌, inl, inr, List, [], ◌∷◌, ◌++◌, length, Option, Some, None}
+use Rattle.std.proofs.Common.{◌≡◌, ℕ, zero, suc, ◌<◌, ◌≤◌, ◌⊎◌, inl, inr, List, [], ◌∷◌, ◌++◌, length, Option, Some, None}
 use Rattle.std.proofs.Common.{option_map, refl, sym, ap, subst, ◌∙◌, arith, IsTrue}
-use Rattle.std.specs.Prelude.{slice_get}
+use Rattle.std.specs.Prelude.{slice_get, slice_set}
 use Rattle.std.specs.List.{AllByRecursion}
 use Rattle.std.specs.Option.{IsSomeAnd, IfSome, option_and_then}
 use Rattle.wh_naming.specs.Select.{BoundQuery}
 use Rattle.wh_algebra.specs.Increments.{incrementable}
 use Rattle.wh_state.specs.State.{Table, Kind, TableKind, StreamKind, TaskKind, DynamicKind, Object, at_id, changed_at}
-use Rattle.wh_state.specs.State.{table_in, dynamic_in, put_at}
-use Rattle.wh_state.specs.Dynamic.{Source, DynamicQuery, Dynamic, ids_read}
-use Rattle.wh_state.specs.Objects.{as_table, as_dynamic, table_at, dynamic_at}
+use Rattle.wh_state.specs.State.{table_in, dynamic_in, with_id, put_at}
+use Rattle.wh_state.specs.Dynamic.{DynamicQuery, Dynamic, ids_read}
+use Rattle.wh_state.specs.Objects.{as_table, as_dynamic, dynamic_at}
 use Rattle.wh_state.specs.Sound.{IsOlder, IsSoundDynamic, IsSoundKind, IsSoundObject, ReadsEarlier}
 use Rattle.wh_state.proofs.AllLaws.{all_map, all_both, all_at}
 use Rattle.wh_state.proofs.IdLaws.{at_spared}
@@ -148,7 +148,7 @@ moments_within stamp objects kept id d is =
 
 -- ---- objects that follow
 
-older_follows : (before created : ℕ) (old new : List Object) → Follows before old new → (id : ℕ) → id ≤ length old
+pub older_follows : (before created : ℕ) (old new : List Object) → Follows before old new → (id : ℕ) → id ≤ length old
     → IsOlder old created id → IsOlder new created id
 older_follows before created old new follows id there older =
     by_found (at_id old id) (at_id new id) (follows id there) older
@@ -224,7 +224,7 @@ dynamic_follows before stamp old new follows d t there within sound = record {
 }
 
 -- an object that stays as it is
-kind_follows : (before stamp : ℕ) (old new : List Object) → Follows before old new → IsKept stamp old
+pub kind_follows : (before stamp : ℕ) (old new : List Object) → Follows before old new → IsKept stamp old
     → AllBefore before old
     → (id : ℕ) (o : Object) → at_id old id ≡ Some o → IsSoundKind stamp new o.kind
 kind_follows before stamp old new follows kept within id o there = by_kind o.kind refl (kept.each id o there)
@@ -238,6 +238,29 @@ kind_follows before stamp old new follows kept within id o there = by_kind o.kin
         dynamic_follows before stamp old new follows d t (reads_there old id d kept.earlier at) (within id d at) sound
 
 -- ---- one that is changed
+
+get_set : {X : Type 0} (xs : List X) (place : ℕ) (x y : X)
+    → slice_set (slice_set xs place x) place y ≡ slice_set xs place y
+get_set [] place x y = refl
+get_set (z ∷ zs) zero x y = refl
+get_set (z ∷ zs) (suc place) x y = ap (λ (l : List _). z ∷ l) (get_set zs place x y)
+
+with_twice : {X : Type 0} (xs : List X) (id : ℕ) (x y : X) → with_id (with_id xs id x) id y ≡ with_id xs id y
+with_twice xs zero x y = refl
+with_twice xs (suc place) x y = get_set xs place x y
+
+-- changed twice
+pub changed_twice : {X : Type 0} (f g : X → X) (xs : List X) (id : ℕ)
+    → changed_at (changed_at xs id f) id g ≡ changed_at xs id (λ x. g (f x))
+changed_twice f g xs id = by_found (at_id xs id) refl
+  where
+    by_found : (found : Option _) → at_id xs id ≡ found
+        → changed_at (put_at xs id (option_map f found)) id g ≡ put_at xs id (option_map (λ x. g (f x)) found)
+    by_found None none = ap (λ (found : Option _). put_at xs id (option_map g found)) none
+    by_found (Some x) there =
+        ap (λ (found : Option _). put_at (with_id xs id (f x)) id (option_map g found))
+        (ap (λ (found : Option _). at_id (put_at xs id (option_map f found)) id) (sym there) ∙ at_same f xs id x there)
+        ∙ with_twice xs id (f x) (g (f x))
 
 -- what stands at each id behind the change
 next_changed : (before : ℕ) (objects : List Object) (id : ℕ) (f : Object → Object)
@@ -264,19 +287,19 @@ record WasDynamic (found : Option Object) (e : Dynamic) : Type 0 where
   there : option_and_then as_dynamic found ≡ Some d
   query : e.query ≡ d.query
 
-was_dynamic : (before : ℕ) (found other : Option Object) (e : Dynamic) → IsNextAt before found other
-    → option_and_then as_dynamic other ≡ Some e → WasDynamic found e
-was_dynamic before None other e is there = absurd (cc (ap (option_and_then as_dynamic) is, there))
-was_dynamic before (Some o) None e is there = absurd is
-was_dynamic before (Some o) (Some p) e is there = by_kind o.kind p.kind is there
+was_dynamic : (before : ℕ) (found other : Option Object) (new : Dynamic) → IsNextAt before found other
+    → option_and_then as_dynamic other ≡ Some new → WasDynamic found new
+was_dynamic before None other new is there = absurd (cc (ap (option_and_then as_dynamic) is, there))
+was_dynamic before (Some o) None new is there = absurd is
+was_dynamic before (Some o) (Some p) new is there = by_kind o.kind p.kind is there
   where
-    by_kind : (k l : Kind) → IsNextKind before k l → dynamic_in l ≡ Some e
-        → WasDynamic (Some (record o { kind = k })) e
+    by_kind : (k l : Kind) → IsNextKind before k l → dynamic_in l ≡ Some new
+        → WasDynamic (Some (record o { kind = k })) new
     by_kind k l (next_table made columns rows) there = absurd cc
     by_kind k l (next_stream columns) there = absurd cc
     by_kind k l next_task there = absurd cc
-    by_kind k l (next_dynamic {d} {new} query made columns moment rows) there =
-        let same : e ≡ new = cc in
+    by_kind k l (next_dynamic {d} {e} query made columns moment rows) there =
+        let same : new ≡ e = cc in
         record { d = d; there = refl; query = ap (λ (c : Dynamic). c.query) same ∙ query }
 
 pub changed_kept : (before stamp : ℕ) (objects : List Object) (id : ℕ) (f : Object → Object) → IsKept stamp objects
@@ -299,11 +322,7 @@ changed_kept before stamp objects id f kept within next sound = record {
 
     here : (found : Option Object) → at_id objects id ≡ found → (o : Object)
         → at_id (changed_at objects id f) id ≡ Some o → IsSoundKind stamp (changed_at objects id f) o.kind
-    here None none o there = absurd (cc (
-      ap (λ (found : Option Object). at_id (put_at objects id (option_map f found)) id) none,
-      none,
-      there,
-    ))
+    here None none o there = absurd cc
     here (Some old) was o there =
         let same : f old ≡ o = cc (at_same f objects id old was, there) in
         subst (λ (p : Object). IsSoundKind stamp (changed_at objects id f) p.kind) same (sound follows old was)
