@@ -11,6 +11,7 @@ pub mod OrderlyLaws
 pub mod EvaluatedLaws
 pub mod SoundObjects
 pub mod SoundTables
+pub mod AfterLaws
 pub mod SoundLaws
 pub mod PlainActs
 pub mod KnownMaps
