@@ -6,6 +6,7 @@ pub mod RowLaws
 pub mod EditLaws
 pub mod VersionLaws
 pub mod MeaningLaws
+pub mod NextVersion
 pub mod ActLaws
 pub mod OrderlyLaws
 pub mod EvaluatedLaws

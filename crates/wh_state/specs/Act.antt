@@ -92,7 +92,6 @@ acted stamp objects (MakesTask name minutes after runs) =
 acted stamp objects (PutsTask id state) = changed_at objects id (on_task_object (with_state state))
 acted stamp objects (BeginsRun root tasks) = changed_at objects root (on_task_object (with_run tasks))
 acted stamp objects (EndsTask root task ending) = changed_at objects root (on_task_object (with_ended task ending))
-
 acted stamp objects (MakesDynamic name lag is_incremental query columns) = objects ++ new_object name
     (DynamicKind (new_dynamic lag is_incremental query) (empty_table columns stamp)) ∷ []
 acted stamp objects (PutsDynamic id state) = changed_at objects id (on_dynamic_object (with_dynamic_state state))
