@@ -14,7 +14,7 @@ use Rattle.std.specs.Ordering.{nat_cmp, eq_by_cmp}
 use Rattle.std.proofs.lemmas.List.{nil_from_length, map-append, append-nil, append_assoc}
 use Rattle.wh_value.specs.Value.{Row}
 use Rattle.wh_frame.specs.Partition.{numbered}
-use Rattle.wh_frame.specs.Spelling.{RisesFrom}
+pub use Rattle.wh_frame.specs.Spelling.{RisesFrom}
 use Rattle.wh_state.specs.State.{Rows, with_entries}
 use Rattle.wh_state.specs.Edits.{RowEdits, Edits, row_as, edited, rows_after}
 use Rattle.wh_state.proofs.AllLaws.{all_map, all_more}
