@@ -197,13 +197,13 @@ initialized_is m n query starts.OnCreate spelled =
     by_refresh (asked_refresh (with_dynamic m.state n query) (new_id m.state))
     (refresh_acts (with_dynamic m.state n query) _ (new_id m.state) m.state.last)
   where
-    by_refresh : (r : Refreshing) → AreOfRefresh r → Understands (made_with m n query r)
+    by_refresh : (r : Refreshing) → AreOfRefresh (with_dynamic m.state n query) r → Understands (made_with m n query r)
     by_refresh (refresh.Fails why) are = refuses
-    by_refresh (refresh.Brings lines acts) are = does (spelled, refreshes_are acts are.1)
+    by_refresh (refresh.Brings lines acts) are = does (spelled, refreshes_are acts are.are)
 
-refreshed_is : (m : Machine) (r : Refreshing) → AreOfRefresh r → Understands (refreshed_by m r)
+refreshed_is : (m : Machine) (r : Refreshing) → AreOfRefresh m.state r → Understands (refreshed_by m r)
 refreshed_is m (refresh.Fails why) are = refuses
-refreshed_is m (refresh.Brings lines acts) are = does (refreshes_are acts are.1)
+refreshed_is m (refresh.Brings lines acts) are = does (refreshes_are acts are.are)
 
 alters_is : (m : Machine) (reply : Reply) (id : ℕ) (new : DynamicState → DynamicState)
     → Understands (alters m reply id new)
@@ -226,9 +226,9 @@ scheduled_is m id target = by_refresh (refresh.refresh m.state None id target) (
     by_found why None = refuses
     by_found why (Some d) = does (tt, tt)
 
-    by_refresh : (r : Refreshing) → AreOfRefresh r → Understands (scheduled_by m id target r)
+    by_refresh : (r : Refreshing) → AreOfRefresh m.state r → Understands (scheduled_by m id target r)
     by_refresh (refresh.Fails why) are = by_found why (dynamic_at m.state.objects id)
-    by_refresh (refresh.Brings lines acts) are = does (refreshes_are acts are.1)
+    by_refresh (refresh.Brings lines acts) are = does (refreshes_are acts are.are)
 
 -- ---- all of them
 
