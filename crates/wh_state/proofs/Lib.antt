@@ -19,6 +19,7 @@ pub mod KnownChanges
 pub mod FoundLaws
 pub mod SpelledLaws
 pub mod TaskFirm
+pub mod DynamicFirm
 pub mod PartLaws
 pub mod ApartLaws
 pub mod AppliesLaws
