@@ -51,3 +51,5 @@ pub mod TargetLaws
 pub mod SeenRows
 pub mod ReadRows
 pub mod ChangeLaws
+pub mod RebaseLaws
+pub mod EvaluatedLaws
