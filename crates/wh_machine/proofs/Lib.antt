@@ -2,6 +2,7 @@ pub mod EntryLaws
 pub mod Lawful
 pub mod CommitLaws
 pub mod TaskActs
+pub mod RefreshLaws
 pub mod OutcomeLaws
 pub mod TaskLaws
 pub mod EventLaws

@@ -1,1 +1,2 @@
 pub mod KnownMoments
+pub mod UpstreamLaws

@@ -1,7 +1,7 @@
 -- What is written for acts means what they do.
 --     edit_meant, other_meant     an act that edits an orderly table, and any other one
 --     AreEditsFrom                edits and refreshes of tables by rising ids, with any other acts between them
---     no_edits_from               others alone
+--     no_edits_from, from_less    others alone, and edits from a lower id on
 --     acts_meant, written_meant   these, and their commit
 use Rattle.std.proofs.Common.{◌≡◌, ℕ, suc, ◌+◌, ◌<◌, ◌≤◌, List, [], ◌∷◌, ◌++◌, length, map, Option, Some, None}
 use Rattle.std.proofs.Common.{option_map, refl, sym, ap, subst, ◌∙◌, arith}
@@ -244,6 +244,13 @@ pub data AreEditsFrom : ℕ → List Act → Type 0 where
 pub no_edits_from : (least : ℕ) (acts : List Act) → AreNoEdits acts → AreEditsFrom least acts
 no_edits_from least [] are = no_more_edits
 no_edits_from least (act ∷ acts) are = other_act are.0 (no_edits_from least acts are.1)
+
+pub from_less : (least more : ℕ) (acts : List Act) → least ≤ more → AreEditsFrom more acts → AreEditsFrom least acts
+from_less least more [] h no_more_edits = no_more_edits
+from_less least more (act ∷ acts) h (other_act other rising) = other_act other (from_less least more acts h rising)
+from_less least more (EditsRows id e ∷ acts) h (next_edit from rising) = next_edit (omega (arith, from)) rising
+from_less least more (RefreshesRows id moment e ∷ acts) h (next_refresh from rising) =
+    next_refresh (omega (arith, from)) rising
 
 pub all_changed_append : (stamp : ℕ) (objects : List StoredObject) (cs ds : List Change)
     → all_changed stamp objects (cs ++ ds) ≡ all_changed stamp (all_changed stamp objects cs) ds

@@ -20,6 +20,12 @@ stream_of_task f (StreamKind s) = refl
 stream_of_task f (TaskKind t) = refl
 stream_of_task f (DynamicKind d t) = refl
 
+pub stream_of_dynamic : (f : Dynamic → Dynamic) (k : Kind) → stream_in (on_dynamic f k) ≡ stream_in k
+stream_of_dynamic f (TableKind t) = refl
+stream_of_dynamic f (StreamKind s) = refl
+stream_of_dynamic f (TaskKind t) = refl
+stream_of_dynamic f (DynamicKind d t) = refl
+
 pub stream_of_stream : (f : Stream → Stream) (k : Kind) → stream_in (on_stream f k) ≡ option_map f (stream_in k)
 stream_of_stream f (TableKind t) = refl
 stream_of_stream f (StreamKind s) = refl
