@@ -29,3 +29,4 @@ pub mod EndLaws
 pub mod BelowLaws
 pub mod TextParts
 pub mod KeptLaws
+pub mod BroughtGoes
