@@ -1,2 +1,3 @@
 pub mod KnownMoments
 pub mod UpstreamLaws
+pub mod DirectLaws
