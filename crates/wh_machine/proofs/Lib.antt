@@ -54,3 +54,4 @@ pub mod ReadRows
 pub mod ChangeLaws
 pub mod RebaseLaws
 pub mod EvaluatedLaws
+pub mod BroughtWorks
