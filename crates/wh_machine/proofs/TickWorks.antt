@@ -16,7 +16,7 @@ use Rattle.wh_reply.specs.Reply.{Refusal, Reply, RootRunning, Started, Idle}
 use Rattle.wh_state.specs.Task.{Ending, Succeeded, Failed, Skipped, Run, TaskState, Task, most_failures}
 use Rattle.wh_state.specs.State.{Object, task_in, at_id}
 use Rattle.wh_state.specs.Act.{Act, MakesTable, DropsObject, EditsRows, MakesStream, MovesOffset, MakesTask, PutsTask}
-use Rattle.wh_state.specs.Act.{BeginsRun, EndsTask}
+use Rattle.wh_state.specs.Act.{BeginsRun, EndsTask, MakesDynamic, PutsDynamic, RefreshesRows}
 use Rattle.wh_state.specs.Objects.{name_at, as_task, task_at}
 use Rattle.wh_state.specs.Stored.{StoredObject, Stored, object_meant}
 use Rattle.wh_state.specs.Commit.{Change, SetsTask, FinishesTask, waits_in, changed, all_changed}
@@ -171,6 +171,9 @@ tasks_spare stamp objects (EditsRows other e ∷ acts) are id = absurd are.0
 tasks_spare stamp objects (MakesStream name source is_append_only ∷ acts) are id = absurd are.0
 tasks_spare stamp objects (MovesOffset other offset ∷ acts) are id = absurd are.0
 tasks_spare stamp objects (MakesTask name minutes after runs ∷ acts) are id = absurd are.0
+tasks_spare stamp objects (MakesDynamic name lag is_incremental query columns ∷ acts) are id = absurd are.0
+tasks_spare stamp objects (PutsDynamic other state ∷ acts) are id = absurd are.0
+tasks_spare stamp objects (RefreshesRows other moment e ∷ acts) are id = absurd are.0
 
 still_few : (failed : Bool) (state : TaskState) → state.failures ≤ most_failures
     → (state_behind failed state).failures ≤ most_failures

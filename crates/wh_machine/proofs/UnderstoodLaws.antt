@@ -1,6 +1,7 @@
--- The texts of the tasks that acts make are understood.
+-- The texts of the tasks and dynamic tables that acts make are understood.
 --     AreUnderstood         so it is of the acts of a commit, where there is one
---     IsSpelledEvent        what CREATE TASK keeps of its text spells what the task runs
+--     IsSpelledEvent        what CREATE TASK and CREATE DYNAMIC TABLE keep of their texts spells what the task runs, and
+--                           the query
 --     outcome_understood    so the acts of what an event comes to are understood
 use Rattle.std.proofs.Common.{◌≡◌, ℕ, Bool, true, false, cond, List, [], ◌∷◌, ◌++◌, map, Option, Some, None}
 use Rattle.std.specs.Prelude.{option_map, unwrap_or, nat_eq, nat_lt}
@@ -8,7 +9,7 @@ use Rattle.std.specs.List.{AllByRecursion}
 use Rattle.wh_ast.specs.declared.dml.Dml.{Dml}
 use Rattle.wh_ast.specs.declared.statement.Statement.{Statement}
 use Rattle.wh_ast.specs.declared.statement.Statement.TheVariants as st
-use Rattle.wh_grammar.specs.Spelled.{Request, TooLong, Unreadable, Asked}
+use Rattle.wh_grammar.specs.Spelled.{Spells, Request, TooLong, Unreadable, Asked}
 use Rattle.wh_meaning.specs.Bag.{Bag}
 use Rattle.wh_meaning.specs.Query.{eval}
 use Rattle.wh_naming.specs.Select.{BoundSelect}
@@ -19,12 +20,14 @@ use Rattle.wh_ddl_naming.specs.Statements.{Bound}
 use Rattle.wh_reply.specs.Reply.{Refusal, Reply}
 use Rattle.wh_state.specs.State.{Object, Stream}
 use Rattle.wh_state.specs.Task.{IsSpelled, Ending, Succeeded, Failed, Skipped, Run, TaskState, Task}
-use Rattle.wh_state.specs.Objects.{stream_at, task_at}
-use Rattle.wh_state.specs.Act.{Act, MakesTable, MovesOffset, PutsTask, EndsTask}
+use Rattle.wh_state.specs.Objects.{stream_at, task_at, dynamic_at}
+use Rattle.wh_state.specs.Dynamic.{IsQuerySpelled, DynamicQuery, DynamicState, Dynamic}
+use Rattle.wh_state.specs.Act.{Act, MakesTable, DropsObject, EditsRows, MakesStream, MovesOffset, MakesTask, PutsTask}
+use Rattle.wh_state.specs.Act.{BeginsRun, EndsTask, MakesDynamic, PutsDynamic, RefreshesRows}
 use Rattle.wh_graph.specs.Graph.{is_under_way, skipped_behind, run_behind, has_failed}
 use Rattle.wh_graph.specs.Root.{state_behind}
 use Rattle.wh_graph.specs.Action.{Action, RunsTask, StartsRun, DoesNothing}
-use Rattle.wh_state.proofs.AllLaws.{all_append}
+use Rattle.wh_state.proofs.AllLaws.{all_map, all_append}
 use Rattle.wh_state.proofs.SpelledLaws.{IsUnderstood}
 use Rattle.wh_machine.specs.Names.{names_in, refusal_of}
 use Rattle.wh_machine.specs.Offsets.{offset_move, offset_moves, acts_of_commit}
@@ -44,7 +47,19 @@ use Rattle.wh_machine.specs.Tasks.{live_tasks, body_of, is_same_state, put_to, r
 use Rattle.wh_machine.specs.Tasks.{create_task, resume_task, suspend_task, execute_task, drop_task}
 use Rattle.wh_machine.specs.Ticks.{body_bound, Verdict, Fails, Holds, HoldsNot, verdict, count_acts, graph_acts, end_acts}
 use Rattle.wh_machine.specs.Ticks.{ends_as, carried_in, runs_by, runs_task, run_task, starts_run, does_action, action_at}
-use Rattle.wh_machine.specs.Ticks.{ticked}
+use Rattle.wh_machine.specs.Ticks.{refreshes, ticked}
+use Rattle.wh_ast.specs.declared.statement.Initialize.{Initialize}
+use Rattle.wh_ast.specs.declared.statement.Initialize.TheVariants as starts
+use Rattle.wh_ddl_naming.specs.DynamicTables.{NewDynamicTable}
+use Rattle.wh_moment.specs.Upstream.{dynamics_of}
+use Rattle.wh_moment.specs.Moment.{due_table}
+use Rattle.wh_machine.specs.Refresh as refresh
+use Rattle.wh_machine.specs.Refresh.{Refreshing}
+use Rattle.wh_machine.specs.Dynamics.{with_dynamic, new_id, asked_refresh, made_with, initialized, query_of}
+use Rattle.wh_machine.specs.Dynamics.{create_dynamic, resume_dynamic, suspend_dynamic, refresh_dynamic, set_lag}
+use Rattle.wh_machine.specs.Dynamics.{drop_dynamic, is_same_dynamic_state, puts_dynamic, alters, refreshed_by}
+use Rattle.wh_machine.specs.Dynamics.{failed_of, scheduled_by, scheduled}
+use Rattle.wh_machine.proofs.RefreshLaws.{IsOfRefresh, AreOfRefresh, refresh_acts}
 use Rattle.wh_machine.specs.Step.{Event, Command, Tick, is_session, commanded, outcome_of}
 
 abbrev pub AreUnderstood : Option (List Act) → Type 0
@@ -156,15 +171,78 @@ put_is id new (Some t) = by_test (is_same_state t.state (new t))
     by_test true = tt
     by_test false = (tt, tt)
 
--- with what a task runs
+-- ---- dynamic tables
+
+refresh_is : (act : Act) → IsOfRefresh act → IsUnderstood act
+refresh_is (RefreshesRows id moment e) is = tt
+refresh_is (PutsDynamic id state) is = tt
+refresh_is (MakesTable name columns retention) is = absurd is
+refresh_is (DropsObject id) is = absurd is
+refresh_is (EditsRows id e) is = absurd is
+refresh_is (MakesStream name source is_append_only) is = absurd is
+refresh_is (MovesOffset id offset) is = absurd is
+refresh_is (MakesTask name minutes after runs) is = absurd is
+refresh_is (PutsTask id state) is = absurd is
+refresh_is (BeginsRun root tasks) is = absurd is
+refresh_is (EndsTask root task ending) is = absurd is
+refresh_is (MakesDynamic name lag is_incremental query columns) is = absurd is
+
+refreshes_are : (acts : List Act) → AllByRecursion IsOfRefresh acts → AllByRecursion IsUnderstood acts
+refreshes_are acts are = all_map IsOfRefresh IsUnderstood refresh_is acts are
+
+initialized_is : (m : Machine) (n : NewDynamicTable) (query : DynamicQuery) (start : Initialize) → IsQuerySpelled query
+    → Understands (initialized m n query start)
+initialized_is m n query starts.OnSchedule spelled = does (spelled, tt)
+initialized_is m n query starts.OnCreate spelled =
+    by_refresh (asked_refresh (with_dynamic m.state n query) (new_id m.state))
+    (refresh_acts (with_dynamic m.state n query) _ (new_id m.state) m.state.last)
+  where
+    by_refresh : (r : Refreshing) → AreOfRefresh r → Understands (made_with m n query r)
+    by_refresh (refresh.Fails why) are = refuses
+    by_refresh (refresh.Brings lines acts) are = does (spelled, refreshes_are acts are.1)
+
+refreshed_is : (m : Machine) (r : Refreshing) → AreOfRefresh r → Understands (refreshed_by m r)
+refreshed_is m (refresh.Fails why) are = refuses
+refreshed_is m (refresh.Brings lines acts) are = does (refreshes_are acts are.1)
+
+alters_is : (m : Machine) (reply : Reply) (id : ℕ) (new : DynamicState → DynamicState)
+    → Understands (alters m reply id new)
+alters_is m reply id new = does (by_found (dynamic_at m.state.objects id))
+  where
+    by_test : (d : Dynamic) (same : Bool)
+        → AllByRecursion IsUnderstood (cond same [] (PutsDynamic id (new d.state) ∷ []))
+    by_test d true = tt
+    by_test d false = (tt, tt)
+
+    by_found : (found : Option Dynamic) → AllByRecursion IsUnderstood (puts_dynamic id new found)
+    by_found None = tt
+    by_found (Some d) = by_test d (is_same_dynamic_state d.state (new d.state))
+
+scheduled_is : (m : Machine) (id target : ℕ) → Understands (scheduled m id target)
+unfolding scheduled
+scheduled_is m id target = by_refresh (refresh.refresh m.state None id target) (refresh_acts m.state None id target)
+  where
+    by_found : (why : Refusal) (found : Option Dynamic) → Understands (failed_of m id target why found)
+    by_found why None = refuses
+    by_found why (Some d) = does (tt, tt)
+
+    by_refresh : (r : Refreshing) → AreOfRefresh r → Understands (scheduled_by m id target r)
+    by_refresh (refresh.Fails why) are = by_found why (dynamic_at m.state.objects id)
+    by_refresh (refresh.Brings lines acts) are = does (refreshes_are acts are.1)
+
+-- ---- all of them
+
+-- with what a task runs, and what a dynamic table has of its query
 abbrev IsSpelledBound : Bound → Type 0
 IsSpelledBound (ddl.CreateTask n) = IsSpelled (body_of n)
+IsSpelledBound (ddl.CreateDynamicTable n) = IsQuerySpelled (query_of n)
 IsSpelledBound _ = Unit {0}
 
 statement_is : (m : Machine) (session : ℕ) (wrong : Option Refusal) (b : Bound) → IsSpelledBound b
     → Understands (carried_out m session wrong b)
 unfolding carried_out begin commit rollback changes_rows selects has_data create_table drop_table create_stream
-    drop_stream create_task resume_task suspend_task execute_task drop_task
+    drop_stream create_task resume_task suspend_task execute_task drop_task create_dynamic resume_dynamic suspend_dynamic
+    refresh_dynamic set_lag drop_dynamic
 statement_is m session wrong ddl.Begin spelled = behind _ _ (does tt)
 statement_is m session wrong ddl.Commit spelled = commits_are m session (transaction_in m.sessions session)
 statement_is m session wrong ddl.Rollback spelled = ends_are m session (transaction_in m.sessions session)
@@ -186,18 +264,25 @@ statement_is m session wrong (ddl.SuspendTask id) spelled = definition m session
     (does (put_is id suspended_state (task_at m.state.objects id))))
 statement_is m session wrong (ddl.ExecuteTask id) spelled = definition m session _ _ (behind _ _ (does (tt, tt)))
 statement_is m session wrong (ddl.DropTask id) spelled = definition m session _ _ (behind _ _ (does (tt, tt)))
-statement_is m session wrong (ddl.CreateDynamicTable n) spelled = refuses
-statement_is m session wrong (ddl.ResumeDynamicTable id) spelled = refuses
-statement_is m session wrong (ddl.SuspendDynamicTable id) spelled = refuses
-statement_is m session wrong (ddl.RefreshDynamicTable id) spelled = refuses
-statement_is m session wrong (ddl.SetTargetLag id lag) spelled = refuses
-statement_is m session wrong (ddl.DropDynamicTable id) spelled = refuses
+statement_is m session wrong (ddl.CreateDynamicTable n) spelled = definition m session _ _ (behind _ _
+    (initialized_is m n (query_of n) n.initialize spelled))
+statement_is m session wrong (ddl.ResumeDynamicTable id) spelled = definition m session _ _ (behind wrong _
+    (alters_is m _ id _))
+statement_is m session wrong (ddl.SuspendDynamicTable id) spelled = definition m session _ _ (behind wrong _
+    (alters_is m _ id _))
+statement_is m session wrong (ddl.RefreshDynamicTable id) spelled = definition m session _ _ (behind wrong _
+    (refreshed_is m (asked_refresh m.state id) (refresh_acts m.state _ id m.state.last)))
+statement_is m session wrong (ddl.SetTargetLag id lag) spelled = definition m session _ _ (behind _ _
+    (alters_is m _ id _))
+statement_is m session wrong (ddl.DropDynamicTable id) spelled = definition m session _ _ (behind wrong _
+    (does (tt, tt)))
 
 -- ---- what a text asks for
 
 abbrev pub IsSpelledStatement : Statement → Type 0
 IsSpelledStatement (st.CreateTask t) =
     IsSpelled (record { when = t.when; body = t.body; body_text = t.body_text })
+IsSpelledStatement (st.CreateDynamicTable t) = Spells t.query_text (st.Select t.query [])
 IsSpelledStatement _ = Unit {0}
 
 abbrev pub IsSpelledRequest : Request → Type 0
@@ -226,7 +311,7 @@ bound_spelled names (st.ResumeTask name) spelled = tt
 bound_spelled names (st.SuspendTask name) spelled = tt
 bound_spelled names (st.ExecuteTask name) spelled = tt
 bound_spelled names (st.DropTask name) spelled = tt
-bound_spelled names (st.CreateDynamicTable t) spelled = tt
+bound_spelled names (st.CreateDynamicTable t) spelled = spelled
 bound_spelled names (st.ResumeDynamicTable name) spelled = tt
 bound_spelled names (st.SuspendDynamicTable name) spelled = tt
 bound_spelled names (st.RefreshDynamicTable name) spelled = tt
@@ -304,12 +389,16 @@ start_is : (m : Machine) (root : ℕ) (r : Option Task) → Understands (starts_
 start_is m root None = does tt
 start_is m root (Some r) = does (tt, (tt, tt))
 
+due_is : (m : Machine) (due : Option (ℕ × ℕ)) → Understands (refreshes m due)
+due_is m None = does tt
+due_is m (Some due) = scheduled_is m due.0 due.1
+
 action_is : (m : Machine) (a : Action) → Understands (does_action m a)
 unfolding run_task
 action_is m (RunsTask root task) =
     task_is m root task (task_at m.state.objects root) (task_at m.state.objects task)
 action_is m (StartsRun root) = start_is m root (task_at m.state.objects root)
-action_is m DoesNothing = does tt
+action_is m DoesNothing = due_is m (due_table (dynamics_of m.state.objects) m.state.last)
 
 tick_is : (m : Machine) → Understands (ticked m)
 unfolding ticked

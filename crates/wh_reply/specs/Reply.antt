@@ -245,12 +245,17 @@ abbrev pub refreshed_line : Refreshed → List ℕ
 refreshed_line r = line (r.name ++ codes " REFRESHED " ++ decimal r.moment ++ codes " " ++ action_word r.action
     ++ codes " +" ++ decimal r.plus ++ codes " -" ++ decimal r.minus)
 
+-- no reply is empty: where no table stood below the moment, nothing was done
+abbrev pub refreshed_lines : List Refreshed → List ℕ
+refreshed_lines [] = line (codes "IDLE")
+refreshed_lines (r ∷ rs) = refreshed_line r ++ flat_map refreshed_line rs
+
 unfoldable pub print : Reply → List ℕ
 print (CreatedDynamicTable name refreshed) =
     line (codes "CREATED DYNAMIC TABLE " ++ name) ++ flat_map refreshed_line refreshed
 print (DroppedDynamicTable name) = line (codes "DROPPED DYNAMIC TABLE " ++ name)
 print (Altered name) = line (codes "ALTERED " ++ name)
-print (RefreshedTables refreshed) = flat_map refreshed_line refreshed
+print (RefreshedTables refreshed) = refreshed_lines refreshed
 print (RefreshFailed name target why is_suspended) =
     line (name ++ codes " FAILED " ++ decimal target ++ codes " " ++ refusal_text why ++ suspended_text is_suspended)
 print (CreatedTable name) = line (codes "CREATED TABLE " ++ name)

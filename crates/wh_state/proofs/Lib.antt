@@ -9,7 +9,12 @@ pub mod MeaningLaws
 pub mod NextVersion
 pub mod ActLaws
 pub mod OrderlyLaws
+pub mod EvaluatedLaws
+pub mod SoundObjects
+pub mod SoundTables
+pub mod AfterLaws
 pub mod SoundLaws
+pub mod PlainActs
 pub mod KnownMaps
 pub mod KnownFacts
 pub mod KnownCommits

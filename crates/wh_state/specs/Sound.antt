@@ -2,6 +2,7 @@
 --     HasRow, LacksRow     a version has a row of that number, or none
 --     IsSoundTable         what holds of a table's versions
 --     IsSoundDynamic       and of those of a dynamic table, among all objects
+--     ReadsEarlier         what a dynamic table reads was created before it
 --     Sound                of a state
 --     IsSoundFile          of each state that a file stands for
 use Rattle.std.specs.Prelude.{◌≡◌, ℕ, ◌<◌, ◌≤◌, IsTrue, List, [], ◌∷◌, Some, None}
@@ -87,9 +88,15 @@ IsSoundKind committed objects (DynamicKind d t) = IsSoundDynamic committed objec
 abbrev pub IsSoundObject : ℕ → List Object → Object → Type 0
 IsSoundObject committed objects o = IsSoundKind committed objects o.kind
 
+-- each object that a dynamic table reads was created before it
+abbrev pub ReadsEarlier : List Object → Type 0
+ReadsEarlier objects = (id : ℕ) (d : Dynamic) → dynamic_at objects id ≡ Some d
+    → AllByRecursion (λ s. s.id < id) d.query.sources
+
 pub record Sound (s : State) : Type 0 where
   pub ordered : s.committed ≤ s.last
   pub objects : AllByRecursion (IsSoundObject s.committed s.objects) s.objects
+  pub earlier : ReadsEarlier s.objects
 
 abbrev pub IsSoundFile : List ℕ → Type 0
 IsSoundFile file = (state : State) → Stands file state → Sound state
