@@ -52,3 +52,6 @@ pub mod TargetLaws
 pub mod SeenRows
 pub mod ReadRows
 pub mod ChangeLaws
+pub mod RebaseLaws
+pub mod EvaluatedLaws
+pub mod BroughtWorks
