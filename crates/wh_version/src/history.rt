@@ -26,7 +26,8 @@ pub struct History {
 }
 
 impl History {
-    ghost use Rattle.std.specs.Prelude.{◌≡◌, ◌≤◌, ◌^◌, [], ◌∷◌, true, false, filter, option_map, nat_eq};
+    ghost use Rattle.std.specs.Prelude.{◌≡◌, ◌≤◌, ◌^◌, [], ◌∷◌, true, false, filter, option_map};
+    ghost use Rattle.std.specs.Prelude.{nat_eq};
     ghost use Rattle.std.specs.List.{list_any};
     ghost use Rattle.wh_state.specs.State.{version_at, last_of};
     ghost use Rattle.wh_version.specs.Lasting.{is_standing, partitions_in};
