@@ -1,4 +1,4 @@
-ghost use Rattle.std.specs.Prelude.{◌≡◌, ◌-◌, ◌++◌, option_map, IfOk, OnOk};
+ghost use Rattle.std.specs.Prelude.{◌≡◌, ◌-◌, ◌++◌, length, option_map, IfOk, OnOk};
 ghost use Rattle.std.specs.List.{filter};
 ghost use Rattle.wh_moment.specs.Upstream as moments;
 ghost use Rattle.wh_dynamic.specs.View.{state_of, watched_of, dynamics_in};
@@ -17,6 +17,23 @@ pub fn upstream(alloc: Global, all: &[Option<Watched<'_>>], id: u32) -> Result<V
         Some(table) => reached_below(alloc, all, id, table.dynamic.reads()),
         None => Ok(Vec::new(alloc)),
     }
+}
+
+/// The dynamic tables that a new one reads, directly or through others, by rising ids: `reads` are
+/// the ids that its query reads.
+pub fn upstream_of_new(
+    alloc: Global,
+    all: &[Option<Watched<'_>>],
+    reads: &[u32],
+) -> Result<Vec<u32>, AllocError>
+    ensures { IfOk result (λ ids. ids.items
+        ≡ moments.reached_from (dynamics_in all.now) (length all.now) reads.now) }
+{
+    // No catalog has so many objects.
+    if u32::MAX as usize <= all.len() {
+        return Err(AllocError);
+    }
+    reached_below(alloc, all, all.len() as u32 + 1, reads)
 }
 
 // Those below an id that are among some ids, or that these read. What a table reads has lower ids,

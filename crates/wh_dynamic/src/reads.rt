@@ -10,7 +10,7 @@ use wh_value::Text;
 
 /// The ids of what a query reads, in the order of its text.
 #[tactic(auto, unfolding(wh_state::specs::Dynamic::ids_read))]
-pub(crate) fn ids_read(alloc: Global, query: &DynamicQuery) -> Result<Vec<u32>, AllocError>
+pub fn ids_read(alloc: Global, query: &DynamicQuery) -> Result<Vec<u32>, AllocError>
     ensures { IfOk result (λ ids. ids.items ≡ machine.ids_read (query_of query.now)) }
 {
     let names = names_in_query(alloc, query.tree.get())?;

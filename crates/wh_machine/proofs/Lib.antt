@@ -8,6 +8,9 @@ pub mod TaskLaws
 pub mod EventLaws
 pub mod StepLaws
 pub mod ReplyLaws
+pub mod KeepingLaws
+pub mod TableNamed
+pub mod PlainLaws
 pub mod SoundLaws
 pub mod ConsumingLaws
 pub mod MoveLaws
