@@ -55,3 +55,4 @@ pub mod ChangeLaws
 pub mod RebaseLaws
 pub mod EvaluatedLaws
 pub mod BroughtWorks
+pub mod RefreshGoes
