@@ -56,3 +56,4 @@ pub mod RebaseLaws
 pub mod EvaluatedLaws
 pub mod BroughtWorks
 pub mod RefreshGoes
+pub mod DynamicWorks

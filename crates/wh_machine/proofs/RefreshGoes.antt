@@ -89,10 +89,10 @@ below_is moment s is = by_test (nat_eq s.moment 0) refl is
 -- ---- the schedule of what a file says
 
 module _ (objects : List StoredObject) where
-  abbrev meant : List Object
+  abbrev pub meant : List Object
   meant = map object_meant objects
 
-  watched_found : (id : ℕ)
+  pub watched_found : (id : ℕ)
       → watched_at (dynamics_of meant) id ≡ option_and_then (λ o. watched_object (object_meant o)) (at_id objects id)
   watched_found id =
       ap (λ (found : Option (Option Watched)). unwrap_or found None)
