@@ -58,3 +58,5 @@ pub mod ChangeLaws
 pub mod RebaseLaws
 pub mod EvaluatedLaws
 pub mod BroughtWorks
+pub mod RefreshGoes
+pub mod DynamicWorks
