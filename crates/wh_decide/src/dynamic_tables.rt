@@ -135,7 +135,6 @@ fn made(
     let columns = copied_columns(alloc, &table.columns)?;
     let rows = StoredTable::empty(alloc, columns, sight.stamp);
     let name = table.name.copy(alloc)?;
-    let dynamic = Boxed::new(alloc, dynamic)?;
     Ok(StoredObject::dynamic_table(name, dynamic, rows))
 }
 

@@ -3,6 +3,7 @@ use wh_reply::RefreshAction;
 use wh_table::EditedTable;
 
 /// What a refresh does to one table.
+#[derive(Debug, Drop)]
 pub(crate) struct Brought {
     pub id: u32,
     pub action: RefreshAction,
@@ -12,6 +13,7 @@ pub(crate) struct Brought {
 }
 
 /// A version to come, and how many rows come and go with it.
+#[derive(Debug, Drop)]
 pub(crate) struct NewRows {
     pub edited: EditedTable,
     pub plus: u64,

@@ -11,7 +11,7 @@ ghost use Rattle.wh_catalog.specs.Catalog.{state_of};
 ghost use Rattle.wh_refresh.specs.Objects.{object_of, objects_in, with_made};
 
 use std::alloc::{AllocError, Global};
-use wh_catalog::{Catalog, StoredKind, StoredObject, StoredTable};
+use wh_catalog::{Catalog, StoredObject, StoredTable, watched_object};
 use wh_dynamic::{Dynamic, Watched};
 use wh_value::Text;
 
@@ -99,7 +99,7 @@ pub(crate) fn watched<'a>(
 {
     let mut all = Vec::new(alloc);
     for object in objects {
-        all.push(object.watched())?;
+        all.push(watched_object(*object))?;
     }
     Ok(all)
 }
