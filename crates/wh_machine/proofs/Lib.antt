@@ -22,6 +22,7 @@ pub mod KnownEvents
 pub mod KnownChanges
 pub mod KnownStops
 pub mod KnownStreams
+pub mod KnownDynamics
 pub mod KnownTests
 pub mod GotLaws
 pub mod StandLaws

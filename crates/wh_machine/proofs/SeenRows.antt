@@ -139,14 +139,16 @@ seen_fits s m session id o t reached there is =
     own_of : (k : StoredKind) (stamp : ℕ) (e : Edits) → table_in k ≡ Some t
         → (table_in (kind_meant k) ≡ Some (table_meant t))
         × (table_in (edited_kind stamp stamp e (kind_meant k)) ≡ Some (edited_table stamp stamp e (table_meant t)))
-    own_of (TableKind u) stamp e is = let same : u ≡ t = cc in
-        (ap (λ (t : StoredTable). Some (table_meant t)) same,
-        ap (λ (t : StoredTable). Some (edited_table stamp stamp e (table_meant t))) same)
+    own_of (TableKind u) stamp e is = let same : u ≡ t = cc in (
+      ap (λ (t : StoredTable). Some (table_meant t)) same,
+      ap (λ (t : StoredTable). Some (edited_table stamp stamp e (table_meant t))) same,
+    )
     own_of (StreamKind s) stamp e is = absurd cc
     own_of (TaskKind t) stamp e is = absurd cc
-    own_of (DynamicKind d u) stamp e is = let same : u ≡ t = cc in
-        (ap (λ (t : StoredTable). Some (table_meant t)) same,
-        ap (λ (t : StoredTable). Some (edited_table stamp stamp e (table_meant t))) same)
+    own_of (DynamicKind d u) stamp e is = let same : u ≡ t = cc in (
+      ap (λ (t : StoredTable). Some (table_meant t)) same,
+      ap (λ (t : StoredTable). Some (edited_table stamp stamp e (table_meant t))) same,
+    )
 
     by_staged : (stamp : ℕ) (found : Option Staged)
         → ((st : Staged) → found ≡ Some st → EditsFit t.columns st.edits)

@@ -79,9 +79,11 @@ upstream_rises all id = by_found (watched_at all id)
         × AllByRecursion (λ n. n < id) (option_map_or (λ w. reached_from all (id - 1) w.sources) found [])
     by_found None = (tt, tt)
     by_found (Some w) =
-        let rises = reached_rise all (id - 1) w.sources in
-        (rises.0, all_map (IsWithin 1 (id - 1)) (λ n. n < id) (λ n h. omega (arith, h.0, h.1))
-        (reached_from all (id - 1) w.sources) rises.1)
+        let rises = reached_rise all (id - 1) w.sources in (
+          rises.0,
+          all_map (IsWithin 1 (id - 1)) (λ n. n < id) (λ n h. omega (arith, h.0, h.1))
+              (reached_from all (id - 1) w.sources) rises.1,
+        )
 
 -- the table behind its upstream
 pub with_upstream_rises : (all : Dynamics) (id : ℕ) → RiseFrom 0 (upstream all id ++ id ∷ [])
