@@ -1,5 +1,5 @@
--- Dynamic tables, worked out by hand: T has the row FALSE since stamp 4 and the row TRUE since stamp 15, and D shows what
--- its query gives, which reads T.
+-- Dynamic tables, worked out by hand: T has the row FALSE since stamp 4 and the row TRUE since stamp 15, and D shows
+-- what its query gives, which reads T.
 --     first_refresh, and on     refreshes of each kind
 --     refused, suspended        refreshes that are refused, in the order of the tests
 --     initialized               reads of a table that has no version
@@ -32,10 +32,12 @@ use Rattle.wh_naming.proofs.Written.{WrittenQuery, layers, name_b, name_t, only,
 use Rattle.wh_ddl_naming.specs.Names.{query_names}
 use Rattle.wh_algebra.specs.Increments.{incrementable}
 use Rattle.wh_ddl_naming.specs.DynamicTables.{NewDynamicTable}
-use Rattle.wh_reply.specs.Reply.{Refusal, NotIncrementable, LagTooShort, NotInitialized, SourceGone, IsSuspended, OverLimit}
+use Rattle.wh_reply.specs.Reply.{Refusal, NotIncrementable, LagTooShort, NotInitialized, SourceGone, IsSuspended}
+use Rattle.wh_reply.specs.Reply.{OverLimit}
 use Rattle.wh_reply.specs.Reply.{Refreshed, RefreshAction, NoData, Full, Incremental}
 use Rattle.wh_reply.specs.Reply.{CreatedDynamicTable, Resumed, Suspended, RefreshedTables, RefreshFailed}
-use Rattle.wh_state.specs.State.{State, Version, Table, Object, TableKind, DynamicKind, new_object, dropped, nothing_held}
+use Rattle.wh_state.specs.State.{State, Version, Table, Object, TableKind, DynamicKind, new_object, dropped}
+use Rattle.wh_state.specs.State.{nothing_held}
 use Rattle.wh_state.specs.State.{version_for, version_at}
 use Rattle.wh_state.specs.Dynamic.{DynamicQuery, DynamicState, id_named, ids_read}
 use Rattle.wh_state.specs.Bound.{names_among, query_bound}
@@ -110,7 +112,8 @@ GivesRows q = (kept : List Version) (live : Bool) (others : List Object)
 module _ (q : DynamicQuery) (reads : ids_read q ≡ 1 ∷ []) (gives : GivesRows q) where
   abbrev d : DynamicState → List Version → Object
   d state kept =
-      new_object (codes "D") (DynamicKind (record { query = q; is_incremental = true; state = state }) (table_of 2 2 kept))
+      new_object (codes "D") (DynamicKind (record { query = q; is_incremental = true; state = state })
+      (table_of 2 2 kept))
 
   -- at its last numbers
   abbrev d_at : ℕ → ℕ → Object
@@ -148,7 +151,8 @@ module _ (q : DynamicQuery) (reads : ids_read q ≡ 1 ∷ []) (gives : GivesRows
   earlier = simp (reads, gives, map_steps)
 
   -- as many rows stay as there are before and behind, with their numbers
-  one_more : refresh (state_with 20 (one ∷ twice ∷ []) (state_of 60 5 false) (version_for 6 5 one.content ∷ [])) None 2 20
+  one_more : refresh (state_with 20 (one ∷ twice ∷ []) (state_of 60 5 false) (version_for 6 5 one.content ∷ [])) None
+      2 20
       ≡ Brings (brings 20 Incremental 1 0)
       (RefreshesRows 2 20 (adds (low ∷ [])) ∷ PutsDynamic 2 (state_of 60 20 false) ∷ [])
   unfolding refresh upstream brought brought_one evaluated_at eval val values_on rebase listed order_by fold_bag
@@ -165,8 +169,8 @@ module _ (q : DynamicQuery) (reads : ids_read q ≡ 1 ∷ []) (gives : GivesRows
   one_less = simp (reads, gives, map_steps)
 
   -- no version of T is new, and none comes
-  nothing_new : refresh (state_with 20 (one ∷ two ∷ []) (state_of 60 15 false) (version_for 16 15 two.content ∷ [])) None
-      2 20 ≡ Brings (brings 20 NoData 0 0) (PutsDynamic 2 (state_of 60 20 false) ∷ [])
+  nothing_new : refresh (state_with 20 (one ∷ two ∷ []) (state_of 60 15 false) (version_for 16 15 two.content ∷ []))
+      None 2 20 ≡ Brings (brings 20 NoData 0 0) (PutsDynamic 2 (state_of 60 20 false) ∷ [])
   unfolding refresh upstream brought brought_one
   nothing_new = simp reads
 
@@ -221,7 +225,8 @@ module _ (q : DynamicQuery) (reads : ids_read q ≡ 1 ∷ []) (gives : GivesRows
   tests : (tested (lags.Seconds 3600) modes.Incremental (Group (Scan 0) [] []) ≡ Some NotIncrementable)
       × (tested (lags.Seconds 59) modes.Auto (Group (Scan 0) [] []) ≡ Some (OverLimit limits.LeastTargetLag))
       × (tested (lags.Seconds 604801) modes.Full (Scan 0) ≡ Some (OverLimit limits.MostTargetLag))
-      × (tested (lags.Seconds 60) modes.Incremental (Scan 0) ≡ None) × (tested lags.Downstream modes.Auto (Scan 0) ≡ None)
+      × (tested (lags.Seconds 60) modes.Incremental (Scan 0) ≡ None)
+      × (tested lags.Downstream modes.Auto (Scan 0) ≡ None)
   unfolding dynamic_refusal upstream incrementable
   tests = (refl, simp reads, simp reads, simp reads, refl)
 
@@ -254,8 +259,8 @@ module _ (q : DynamicQuery) (reads : ids_read q ≡ 1 ∷ []) (gives : GivesRows
   suspended = (refl, refl)
 
   -- it forgets the failures
-  resumed : resume_dynamic (machine (table_t [] ∷ d (record (state_of 60 15 true) { failures = 5; tried = 48000 }) [] ∷ []))
-      None 2 ≡ Does (Resumed (codes "D")) no_sessions (Some (PutsDynamic 2 (state_of 60 15 false) ∷ []))
+  resumed : resume_dynamic (machine (table_t [] ∷ d (record (state_of 60 15 true) { failures = 5; tried = 48000 }) []
+      ∷ [])) None 2 ≡ Does (Resumed (codes "D")) no_sessions (Some (PutsDynamic 2 (state_of 60 15 false) ∷ []))
   unfolding resume_dynamic
   resumed = refl
 
@@ -266,15 +271,16 @@ module _ (q : DynamicQuery) (reads : ids_read q ≡ 1 ∷ []) (gives : GivesRows
       (Some (2, 48000))
       ≡ Does (RefreshedTables (brings 48000 Full 1 0)) no_sessions (Some (RefreshesRows 2 48000 (adds (low ∷ []))
       ∷ PutsDynamic 2 (state_of 60 48000 false) ∷ [])))
-      × (refreshes (opened (over 48001 (dropped (table_t (one ∷ [])) ∷ d (state_of 60 0 false) [] ∷ []))) (Some (2, 48000))
+      × (refreshes (opened (over 48001 (dropped (table_t (one ∷ [])) ∷ d (state_of 60 0 false) [] ∷ [])))
+      (Some (2, 48000))
       ≡ Does (RefreshFailed (codes "D") 48000 (SourceGone (codes "D")) false) no_sessions
       (Some (PutsDynamic 2 (record (state_of 60 0 false) { failures = 1; tried = 48000 }) ∷ [])))
       × (refreshes (opened (over 48001 (dropped (table_t (one ∷ []))
       ∷ d (record (state_of 60 0 false) { failures = 4 }) [] ∷ []))) (Some (2, 48000))
       ≡ Does (RefreshFailed (codes "D") 48000 (SourceGone (codes "D")) true) no_sessions
       (Some (PutsDynamic 2 (record (state_of 60 0 true) { failures = 5; tried = 48000 }) ∷ [])))
-  unfolding scheduled refresh upstream brought brought_one evaluated_at eval val values_on rebase listed order_by fold_bag
-      edits_from partitions_made edited_table behind_failure
+  unfolding scheduled refresh upstream brought brought_one evaluated_at eval val values_on rebase listed order_by
+      fold_bag edits_from partitions_made edited_table behind_failure
   scheduled_refresh =
       (simp (reads, gives, map_steps), simp (reads, gives, map_steps), simp (reads, gives, map_steps))
 
@@ -329,5 +335,6 @@ it_reads = ap (map (id_named query_d.sources)) its_names
 it_gives : GivesRows query_d
 unfolding source_step core_step query_step typing.step column_at
 it_gives kept live others =
-    ap (λ (r : QueryReading). (r (names_among (record (table_t kept) { is_live = live } ∷ others) query_d.sources) 0).query)
-    from_t.is ∙ simp layers
+    ap (λ (r : QueryReading).
+    (r (names_among (record (table_t kept) { is_live = live } ∷ others) query_d.sources) 0).query) from_t.is
+    ∙ simp layers

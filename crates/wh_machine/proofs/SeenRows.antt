@@ -157,7 +157,10 @@ seen_fits s m session id o t reached there is =
     by_staged stamp None fit = (table_meant t, ((own_of o.kind stamp no_edits is).0, firm_rows t firm))
     by_staged stamp (Some st) fit = (
       edited_table stamp stamp st.edits (table_meant t),
-      ((own_of o.kind stamp st.edits is).1, edited_fits t.columns stamp st.edits (table_meant t) (fit st refl) (firm_rows t firm)),
+      (
+        (own_of o.kind stamp st.edits is).1,
+        edited_fits t.columns stamp st.edits (table_meant t) (fit st refl) (firm_rows t firm),
+      ),
     )
 
     holds : (e : Edits) → FoundAt (HoldsEdits e) s.objects id → EditsFit t.columns e
