@@ -57,3 +57,5 @@ pub mod EvaluatedLaws
 pub mod BroughtWorks
 pub mod RefreshGoes
 pub mod DynamicWorks
+pub mod DynamicNames
+pub mod BehindLaws
