@@ -53,3 +53,10 @@ pub mod TargetLaws
 pub mod SeenRows
 pub mod ReadRows
 pub mod ChangeLaws
+pub mod RebaseLaws
+pub mod EvaluatedLaws
+pub mod BroughtWorks
+pub mod RefreshGoes
+pub mod DynamicWorks
+pub mod DynamicNames
+pub mod BehindLaws

@@ -1,3 +1,4 @@
 pub mod KnownMoments
 pub mod UpstreamLaws
+pub mod DirectLaws
 pub mod RebaseLaws

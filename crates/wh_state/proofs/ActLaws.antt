@@ -277,7 +277,7 @@ more_meant stamp objects act acts here rest =
     ∙ rest first refl ∙ ap (λ (l : List Object). all_acted stamp l acts) here
 
 -- what is written for a version of a table leaves what stands behind it
-version_leaves : (stamp moment id : ℕ) (e : Edits) (objects : List StoredObject) (later : ℕ) → id < later
+pub version_leaves : (stamp moment id : ℕ) (e : Edits) (objects : List StoredObject) (later : ℕ) → id < later
     → at_id (all_changed stamp objects (version_written_to moment id e (at_id objects id))) later ≡ at_id objects later
 unfolding changed
 version_leaves stamp moment id e objects later h = by_found (at_id objects id)
