@@ -11,6 +11,7 @@ pub mod ReplyLaws
 pub mod KeepingLaws
 pub mod TableNamed
 pub mod PlainLaws
+pub mod BroughtLaws
 pub mod SoundLaws
 pub mod ConsumingLaws
 pub mod MoveLaws

@@ -1,3 +1,5 @@
 pub mod KnownMoments
 pub mod UpstreamLaws
 pub mod RebaseLaws
+pub mod ClosedLaws
+pub mod DueLaws
