@@ -59,3 +59,5 @@ pub mod RefreshGoes
 pub mod DynamicWorks
 pub mod DynamicNames
 pub mod BehindLaws
+pub mod TokensFilled
+pub mod OutputLaws
