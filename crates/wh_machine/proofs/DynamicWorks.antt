@@ -85,7 +85,7 @@ standing_of s m reached =
 
 -- ---- lags
 
-lag_is : (lag : Lag) → first_of (lag_refusals lag) ≡ None → IsLag (seconds_of lag)
+pub lag_is : (lag : Lag) → first_of (lag_refusals lag) ≡ None → IsLag (seconds_of lag)
 lag_is lags.Downstream none = inl refl
 lag_is (lags.Seconds n) none =
     let least = passed (refused_if (nat_lt n (bound limits.LeastTargetLag)) (OverLimit limits.LeastTargetLag)) _ none in
@@ -102,7 +102,7 @@ lag_is (lags.Seconds n) none =
 -- ---- acts of refreshes
 
 -- they drop nothing
-refresh_spares : (id stamp : ℕ) (objects : List StoredObject) (acts : List Act) → AllByRecursion IsOfRefresh acts
+pub refresh_spares : (id stamp : ℕ) (objects : List StoredObject) (acts : List Act) → AllByRecursion IsOfRefresh acts
     → AllByRecursion (ChangeSpares id) (written stamp objects acts)
 refresh_spares id stamp objects [] are = tt
 refresh_spares id stamp objects (act ∷ acts) are =

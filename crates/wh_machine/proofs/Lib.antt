@@ -61,3 +61,4 @@ pub mod DynamicNames
 pub mod BehindLaws
 pub mod TokensFilled
 pub mod OutputLaws
+pub mod DynamicMade
