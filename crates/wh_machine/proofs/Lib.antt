@@ -8,6 +8,10 @@ pub mod TaskLaws
 pub mod EventLaws
 pub mod StepLaws
 pub mod ReplyLaws
+pub mod KeepingLaws
+pub mod TableNamed
+pub mod PlainLaws
+pub mod BroughtLaws
 pub mod SoundLaws
 pub mod ConsumingLaws
 pub mod MoveLaws
@@ -22,6 +26,7 @@ pub mod KnownEvents
 pub mod KnownChanges
 pub mod KnownStops
 pub mod KnownStreams
+pub mod KnownDynamics
 pub mod KnownTests
 pub mod GotLaws
 pub mod StandLaws
