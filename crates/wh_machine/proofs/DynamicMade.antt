@@ -228,7 +228,7 @@ module _ (s : Stored) (m : Machine) (reached : IsReached s m) (n : NewDynamicTab
       by_refresh (Brings lines acts) r_is =
           works_made s m (CreatedDynamicTable n.name lines) (dynamic_made n query ++ acts) reached
           (λ id. made_spares id acts (refresh_spares id m.state.last new acts
-          (subst AreOfRefresh r_is (refresh_acts later besides (new_id m.state) later.last)).1))
+          (subst (AreOfRefresh later) r_is (refresh_acts later besides (new_id m.state) later.last)).are))
           (go_behind m.state.last s.objects (dynamic_made n query) acts goes
           (refresh_goes new later made_objects
           (go_firm m.state.last s.objects (written m.state.last s.objects (dynamic_made n query)) goes reached.firm)

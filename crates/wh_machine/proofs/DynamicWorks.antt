@@ -304,7 +304,7 @@ module _ (s : Stored) (m : Machine) (reached : IsReached s m) where
   works_brings reply lines acts besides id moment live is =
       works_made s m reply acts reached
       (λ other. refresh_spares other m.state.last s.objects acts
-      (subst AreOfRefresh is (refresh_acts m.state besides id moment)).1)
+      (subst (AreOfRefresh m.state) is (refresh_acts m.state besides id moment)).are)
       (refresh_goes s.objects m.state (objects_meant s m reached) reached.firm (standing_of s m reached) besides id moment
       live lines acts is)
 
