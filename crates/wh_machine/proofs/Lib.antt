@@ -64,3 +64,6 @@ pub mod RefreshGoes
 pub mod DynamicWorks
 pub mod DynamicNames
 pub mod BehindLaws
+pub mod TokensFilled
+pub mod OutputLaws
+pub mod DynamicMade
