@@ -14,6 +14,8 @@ pub mod PlainLaws
 pub mod BroughtLaws
 pub mod MadeQuery
 pub mod RefreshKeeps
+pub mod DynamicKeeps
+pub mod EventKeeps
 pub mod SoundLaws
 pub mod ConsumingLaws
 pub mod MoveLaws

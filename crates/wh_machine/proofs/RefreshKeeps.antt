@@ -146,18 +146,18 @@ not_below : (target moment : ℕ) → (nat_eq moment 0 || nat_lt moment target) 
 not_below target moment test = grind (arith, nat_tests)
 
 module _ (objects : List Object) (id moment : ℕ) (earlier : ReadsEarlier objects) (some : 0 < moment) where
-  abbrev all : Dynamics
-  all = dynamics_of objects
+  abbrev seen : Dynamics
+  seen = dynamics_of objects
 
   -- with the table itself
   abbrev reached : List ℕ
-  reached = upstream all id ++ id ∷ []
+  reached = upstream seen id ++ id ∷ []
 
   abbrev ids : List ℕ
-  ids = filter (stands_below all moment) reached
+  ids = filter (stands_below seen moment) reached
 
   stands_as : (x : ℕ) (e : Dynamic) → dynamic_at objects x ≡ Some e
-      → stands_below all moment x ≡ (nat_eq e.state.moment 0 || nat_lt e.state.moment moment)
+      → stands_below seen moment x ≡ (nat_eq e.state.moment 0 || nat_lt e.state.moment moment)
   stands_as x e at =
       let w : IsWatched objects x e = watched_of objects x e at in
       ap (λ (found : Option Watched). option_map_or (λ w. is_below moment w.state) found false) w.at
@@ -166,7 +166,7 @@ module _ (objects : List Object) (id moment : ℕ) (earlier : ReadsEarlier objec
   -- what one of them reads is one of them
   source_reached : (y x : ℕ) (d e : Dynamic) → is_among y reached ≡ true → dynamic_at objects y ≡ Some d
       → is_among x (ids_read d.query) ≡ true → x < y → dynamic_at objects x ≡ Some e → is_among x reached ≡ true
-  source_reached y x d e is at reads less there = by_part (among_either y (upstream all id) (id ∷ []) is)
+  source_reached y x d e is at reads less there = by_part (among_either y (upstream seen id) (id ∷ []) is)
     where
       v : IsWatched objects y d
       v = watched_of objects y d at
@@ -180,38 +180,38 @@ module _ (objects : List Object) (id moment : ℕ) (earlier : ReadsEarlier objec
       read : is_among x v.w.sources ≡ true
       read = ap (is_among x) v.sources ∙ reads
 
-      by_part : (is_among y (upstream all id) ≡ true) ⊎ (is_among y (id ∷ []) ≡ true) → is_among x reached ≡ true
-      by_part (inl above) = among_front x (upstream all id) (id ∷ [])
-          (upstream_closed all id x y w.w above
+      by_part : (is_among y (upstream seen id) ≡ true) ⊎ (is_among y (id ∷ []) ≡ true) → is_among x reached ≡ true
+      by_part (inl above) = among_front x (upstream seen id) (id ∷ [])
+          (upstream_closed seen id x y w.w above
           (ap (λ (found : Option Watched). is_among x (option_map_or (λ w. w.sources) found [])) v.at ∙ read)
           (at_within objects x place.object place.there).0 less w.at)
       by_part (inr last) =
           let same : y ≡ id = among_one y id last in
-          among_front x (upstream all id) (id ∷ [])
-          (reads_upstream all id x v.w w.w (ap (watched_at all) (sym same) ∙ v.at) read
+          among_front x (upstream seen id) (id ∷ [])
+          (reads_upstream seen id x v.w w.w (ap (watched_at seen) (sym same) ∙ v.at) read
           (at_within objects x place.object place.there).0 (omega (arith, same, less)) w.at)
 
   source_comes : (y x : ℕ) (d : Dynamic) → is_among y reached ≡ true → dynamic_at objects y ≡ Some d
       → is_among x (ids_read d.query) ≡ true → x < y → StandsOrComes moment objects ids x
   source_comes y x d is at reads less = by_found (dynamic_at objects x) refl
     where
-      by_test : (e : Dynamic) → dynamic_at objects x ≡ Some e → (b : Bool) → stands_below all moment x ≡ b
+      by_test : (e : Dynamic) → dynamic_at objects x ≡ Some e → (b : Bool) → stands_below seen moment x ≡ b
           → StandsOrComes moment objects ids x
       by_test e there true test =
-          inr (filter_among (stands_below all moment) reached x (source_reached y x d e is at reads less there) test)
+          inr (filter_among (stands_below seen moment) reached x (source_reached y x d e is at reads less there) test)
       by_test e there false test = inl (subst (λ (found : Option Dynamic). IfSome found (λ e. moment ≤ e.state.moment))
           (sym there) (not_below moment e.state.moment (sym (stands_as x e there) ∙ test)))
 
       by_found : (found : Option Dynamic) → dynamic_at objects x ≡ found → StandsOrComes moment objects ids x
       by_found None none = inl (subst (λ (found : Option Dynamic). IfSome found (λ e. moment ≤ e.state.moment))
           (sym none) tt)
-      by_found (Some e) there = by_test e there (stands_below all moment x) refl
+      by_found (Some e) there = by_test e there (stands_below seen moment x) refl
 
   one_awaited : (y : ℕ) → is_among y ids ≡ true → IsAwaited moment objects ids y
   one_awaited y is = by_found (dynamic_at objects y) refl
     where
-      passes : (is_among y reached ≡ true) × (stands_below all moment y ≡ true)
-      passes = among_filter (stands_below all moment) reached y is
+      passes : (is_among y reached ≡ true) × (stands_below seen moment y ≡ true)
+      passes = among_filter (stands_below seen moment) reached y is
 
       by_found : (found : Option Dynamic) → dynamic_at objects y ≡ found
           → IfSome found (IsAwaitedWith moment objects ids)
