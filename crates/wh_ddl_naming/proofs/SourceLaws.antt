@@ -1,11 +1,15 @@
--- The sources of a query are the objects of its names, in the order of the text.
---     id_in            the id of the object of a name, 0 where there is none
---     query_sources    so it is of a query
-use Rattle.std.proofs.Common.{◌≡◌, ℕ, ◌+◌, List, [], ◌∷◌, ◌++◌, map, length, Option, Some, None}
-use Rattle.std.proofs.Common.{refl, sym, ap, subst, ◌∙◌}
-use Rattle.std.proofs.lemmas.List.{map-append, append-nil, append_assoc}
-use Rattle.std.specs.List.{AllByRecursion, flat_map}
-use Rattle.std.specs.Option.{option_map_or}
+-- The sources of a query are the objects of its names.
+--     IsSourceNamed     a name is that of an object that may be read
+--     id_in             the id of the object of a name; 0 where there is none
+--     IsSourced         some sources are the objects of written names, and where none is found wrong each may be read
+--     query_sourced     so it is of a query
+use Rattle.std.proofs.Common.{◌≡◌, ℕ, ◌+◌, Bool, true, false, List, [], ◌∷◌, ◌++◌, map, length, Option, Some, None, refl}
+use Rattle.std.proofs.Common.{sym, ap, subst, ◌∙◌, IsTrue, append_assoc}
+use Rattle.std.specs.Prelude.{not}
+use Rattle.std.specs.List.{AllByRecursion}
+use Rattle.std.specs.Option.{IsSomeAnd, option_map_or}
+use Rattle.std.proofs.lemmas.List.{map-append}
+use Rattle.wh_value.proofs.ListLaws.{all_append}
 use Rattle.wh_ast.specs.declared.expr.Expr.{Expr}
 use Rattle.wh_ast.specs.declared.query.Item.{Item}
 use Rattle.wh_ast.specs.declared.query.FromItem.{FromItem, roll-FromItem, map-FromItem}
@@ -13,139 +17,273 @@ use Rattle.wh_ast.specs.declared.query.FromItem.TheOpen.{FromItem-F}
 use Rattle.wh_ast.specs.declared.query.Join.{Join, roll-Join}
 use Rattle.wh_ast.specs.declared.query.Core.{Core, roll-Core}
 use Rattle.wh_ast.specs.declared.query.Query.{Query, roll-Query, ind-Query}
-use Rattle.wh_naming.specs.Findings.{Name}
-use Rattle.wh_naming.specs.Scope.{Named, named}
-use Rattle.wh_naming.specs.Select.{BoundQuery, BoundSource, SourcePart, JoinPart, QueryReading, Joined, object_source}
-use Rattle.wh_naming.specs.Select.{first_entry, with_entry, with_joins, from_part, bound_core, united, more_cores, all_cores}
-use Rattle.wh_naming.specs.Select.{query_source, bound_query}
+use Rattle.wh_naming.specs.Findings.{Name, Findings, either, name_if, followed}
+use Rattle.wh_naming.specs.Scope.{Named, named, is_source}
+use Rattle.wh_naming.specs.Select.{BoundQuery, BoundSource, SourcePart, JoinPart, QueryReading, Joined, query_source}
+use Rattle.wh_naming.specs.Select.{object_source, first_entry, with_entry, with_joins, from_part, bound_core, united}
+use Rattle.wh_naming.specs.Select.{more_cores, all_cores, bound_query, all_shown, nothing_shown}
 use Rattle.wh_naming.specs.Changes.{source_part}
 use Rattle.wh_ddl_naming.specs.Names.{all_names, source_names, join_names, core_names, query_names}
-use Rattle.wh_ddl_naming.proofs.QueryLaws.{query_reads, core_reads, join_reads, named_reads, inner_reads, query_writes}
-use Rattle.wh_ddl_naming.proofs.QueryLaws.{core_writes, join_writes, named_writes, inner_writes, join_part, core_reading}
-use Rattle.wh_ddl_naming.proofs.QueryLaws.{firsts}
+use Rattle.wh_ddl_naming.proofs.QueryLaws.{firsts, join_part, core_reading, query_reads, core_reads, join_reads}
+use Rattle.wh_ddl_naming.proofs.QueryLaws.{named_reads, inner_reads, query_writes, core_writes, join_writes}
+use Rattle.wh_ddl_naming.proofs.QueryLaws.{named_writes, inner_writes}
 
-abbrev pub id_in : List Named → Name → ℕ
-id_in objects name = option_map_or (λ o. o.id) (named objects name) 0
+-- ---- findings
 
-module _ (objects : List Named) where
-  abbrev ids : List Name → List ℕ
-  ids names = map (id_in objects) names
+either_none : {A : Type 0} (a b : Option A) → either a b ≡ None → (a ≡ None) × (b ≡ None)
+either_none None b none = (refl, none)
+either_none (Some x) b none = absurd cc
 
-  abbrev IsSource : SourcePart → List Name → Type 0
-  IsSource p names = (next : ℕ) → (p.reading objects next).sources ≡ ids names
+-- no name is found wrong as an object's
+abbrev pub NamesRight : Findings → Type 0
+NamesRight f = (f.unknown_object ≡ None) × (f.wrong_kind ≡ None)
 
-  abbrev IsReading : QueryReading → List Name → Type 0
-  IsReading r names = (next : ℕ) → (r objects next).sources ≡ ids names
+-- by the unknown and the wrong names of each of two parts
+both_right : (a b c d : Option Name) → (either a b ≡ None) × (either c d ≡ None)
+    → ((a ≡ None) × (c ≡ None)) × ((b ≡ None) × (d ≡ None))
+both_right a b c d right =
+    let unknown = either_none a b right.0 in
+    let wrong = either_none c d right.1 in
+    ((unknown.0, wrong.0), (unknown.1, wrong.1))
+
+-- ---- over some objects
+
+module _ (names : List Named) where
+  abbrev pub id_in : Name → ℕ
+  id_in name = option_map_or (λ (n : Named). n.id) (named names name) 0
+
+  abbrev pub IsSourceNamed : Name → Type 0
+  IsSourceNamed name = IsSomeAnd (named names name) (λ (n : Named). IsTrue (is_source n.kind))
+
+  pub record IsSourced (sources : List ℕ) (f : Findings) (written : List Name) : Type 0 where
+    pub ids : sources ≡ map id_in written
+    pub all : NamesRight f → AllByRecursion IsSourceNamed written
+
+  -- with more found behind it
+  followed_sourced : (sources : List ℕ) (f g : Findings) (written : List Name) → IsSourced sources f written
+      → IsSourced sources (followed f g) written
+  followed_sourced sources f g written is =
+      record { ids = is.ids; all = λ right. is.all (both_right f.unknown_object _ f.wrong_kind _ right).0 }
+
+  -- one behind the other
+  appended_sourced : (a b : List ℕ) (f g h : Findings) (xs ys : List Name)
+      → (NamesRight h → NamesRight f × NamesRight g) → IsSourced a f xs → IsSourced b g ys
+      → IsSourced (a ++ b) h (xs ++ ys)
+  appended_sourced a b f g h xs ys right left is = record {
+    ids = ap (λ (l : List ℕ). l ++ b) left.ids ∙ ap (λ (l : List ℕ). map id_in xs ++ l) is.ids
+        ∙ sym (map-append id_in xs ys);
+    all = λ all. all_append IsSourceNamed xs ys (left.all (right all).0) (is.all (right all).1);
+  }
 
   -- ---- FROM
 
-  abbrev JoinReads : Join → Type 0
-  JoinReads j = IsSource (join_part j).source (join_names j)
+  source_of : (name : Name) (number : ℕ) (found : Option Named) → named names name ≡ found
+      → IsSourced (object_source name number found).sources (object_source name number found).findings (name ∷ [])
+  source_of name number None is = record {
+    ids = ap (λ (n : ℕ). n ∷ []) (ap (λ (found : Option Named). option_map_or (λ (n : Named). n.id) found 0) (sym is));
+    all = λ right. absurd (cc right.0);
+  }
+  source_of name number (Some object) is = record {
+    ids = ap (λ (n : ℕ). n ∷ []) (ap (λ (found : Option Named). option_map_or (λ (n : Named). n.id) found 0) (sym is));
+    all = λ right. (
+      subst (λ (found : Option Named). IsSomeAnd found (λ (n : Named). IsTrue (is_source n.kind))) (sym is)
+          (readable (is_source object.kind) right.1),
+      tt,
+    );
+  }
+    where
+      readable : (b : Bool) → name_if (not b) name ≡ None → b ≡ true
+      readable true none = refl
+      readable false none = absurd cc
 
-  joins_read : (next : ℕ) (left : Joined) (joins : List Join) → AllByRecursion JoinReads joins
-      → (with_joins objects next left (map join_part joins)).sources ≡ left.sources ++ ids (all_names (map join_names joins))
-  joins_read next left [] each = sym (append-nil left.sources)
-  joins_read next left (j ∷ js) each =
-      let number = next + length left.sources in
-      let s : BoundSource = (join_part j).source.reading objects number in
-      joins_read next (with_entry left (join_part j) (map join_part js) s) js each.1
-      ∙ ap (λ (l : List ℕ). (left.sources ++ l) ++ ids (all_names (map join_names js))) (each.0 number)
-      ∙ append_assoc left.sources (ids (join_names j)) (ids (all_names (map join_names js)))
-      ∙ ap (λ (l : List ℕ). left.sources ++ l)
-      (sym (map-append (id_in objects) (join_names j) (all_names (map join_names js))))
+  abbrev IsSourcedPart : SourcePart → List Name → Type 0
+  IsSourcedPart p written =
+      (next : ℕ) → IsSourced (p.reading names next).sources (p.reading names next).findings written
 
-  from_reads : (next : ℕ) (from : FromItem) (joins : List Join) → IsSource (source_part from) (source_names from)
-      → AllByRecursion JoinReads joins
-      → (from_part objects next (source_part from) (map join_part joins)).sources
-      ≡ ids (source_names from ++ all_names (map join_names joins))
-  from_reads next from joins first each =
-      joins_read next (first_entry (source_part from) (map join_part joins) ((source_part from).reading objects next)) joins
-      each
-      ∙ ap (λ (l : List ℕ). l ++ ids (all_names (map join_names joins))) (first next)
-      ∙ sym (map-append (id_in objects) (source_names from) (all_names (map join_names joins)))
+  abbrev IsSourcedJoin : JoinPart → List Name → Type 0
+  IsSourcedJoin j written = IsSourcedPart j.source written
+
+  abbrev IsSourcedReading : QueryReading → List Name → Type 0
+  IsSourcedReading r written = (next : ℕ) → IsSourced (r names next).sources (r names next).findings written
+
+  -- parts with the names that they write
+  abbrev AllSourced : {T : Type 0} → (T → List Name → Type 0) → List T → List (List Name) → Type 0
+  AllSourced P [] [] = Unit {0}
+  AllSourced P [] (w ∷ ws) = ⊥
+  AllSourced P (t ∷ ts) [] = ⊥
+  AllSourced P (t ∷ ts) (w ∷ ws) = P t w × AllSourced P ts ws
+
+  entry_sourced : (left : Joined) (j : JoinPart) (joins : List JoinPart) (s : BoundSource) (xs ys : List Name)
+      → IsSourced left.sources left.findings xs → IsSourced s.sources s.findings ys
+      → IsSourced (with_entry left j joins s).sources (with_entry left j joins s).findings (xs ++ ys)
+  entry_sourced left j joins s xs ys before is =
+      appended_sourced left.sources s.sources left.findings s.findings (with_entry left j joins s).findings xs ys
+      (λ right.
+      let parts = both_right left.findings.unknown_object _ left.findings.wrong_kind _ right in
+      let behind = both_right (either s.findings.unknown_object _) _ (either s.findings.wrong_kind _) _ parts.1 in
+      (parts.0, (both_right s.findings.unknown_object _ s.findings.wrong_kind _ behind.0).0)) before is
+
+  joins_sourced : (next : ℕ) (left : Joined) (joins : List JoinPart) (xs : List Name) (written : List (List Name))
+      → IsSourced left.sources left.findings xs → AllSourced IsSourcedJoin joins written
+      → IsSourced (with_joins names next left joins).sources (with_joins names next left joins).findings
+      (xs ++ all_names written)
+  joins_sourced next left [] xs [] before all =
+      subst (IsSourced left.sources left.findings) (sym (append_nil xs)) before
+    where
+      append_nil : (xs : List Name) → xs ++ [] ≡ xs
+      append_nil [] = refl
+      append_nil (x ∷ xs) = ap (λ (l : List Name). x ∷ l) (append_nil xs)
+  joins_sourced next left [] xs (w ∷ ws) before all = absurd all
+  joins_sourced next left (j ∷ js) xs [] before all = absurd all
+  joins_sourced next left (j ∷ js) xs (w ∷ ws) before all =
+      let s : BoundSource = j.source.reading names (next + length left.sources) in
+      subst (IsSourced (with_joins names next (with_entry left j js s) js).sources
+      (with_joins names next (with_entry left j js s) js).findings) (append_assoc xs w (all_names ws))
+      (joins_sourced next (with_entry left j js s) js (xs ++ w) ws
+      (entry_sourced left j js s xs w before (all.0 (next + length left.sources))) all.1)
+
+  from_sourced : (next : ℕ) (part : SourcePart) (joins : List JoinPart) (xs : List Name) (written : List (List Name))
+      → IsSourcedPart part xs → AllSourced IsSourcedJoin joins written
+      → IsSourced (from_part names next part joins).sources (from_part names next part joins).findings
+      (xs ++ all_names written)
+  from_sourced next part joins xs written first all =
+      joins_sourced next (first_entry part joins (part.reading names next)) joins xs written
+      (followed_sourced _ (part.reading names next).findings _ xs (first next)) all
+
+  core_sourced : (found : List Item) (j : Joined) (filter : Option Expr) (group : List Expr) (written : List Name)
+      → IsSourced j.sources j.findings written
+      → IsSourced (bound_core found j filter group).sources (bound_core found j filter group).findings written
+  core_sourced found j filter group written is = record {
+    ids = is.ids;
+    all = λ right. is.all (both_right j.findings.unknown_object _ j.findings.wrong_kind _
+        (both_right (all_shown j.entries nothing_shown found).findings.unknown_object _
+        (all_shown j.entries nothing_shown found).findings.wrong_kind _ right).1).0;
+  }
 
   -- ---- UNION ALL
 
-  abbrev CoreReads : Core → Type 0
-  CoreReads c = IsReading (core_reading c) (core_names c)
+  united_sourced : (a b : BoundQuery) (xs ys : List Name) → IsSourced a.sources a.findings xs
+      → IsSourced b.sources b.findings ys → IsSourced (united a b).sources (united a b).findings (xs ++ ys)
+  united_sourced a b xs ys left is =
+      appended_sourced a.sources b.sources a.findings b.findings (united a b).findings xs ys
+      (λ right. both_right a.findings.unknown_object b.findings.unknown_object a.findings.wrong_kind
+      b.findings.wrong_kind (both_right (either a.findings.unknown_object b.findings.unknown_object) _
+      (either a.findings.wrong_kind b.findings.wrong_kind) _ right).0) left is
 
-  more_read : (next : ℕ) (q : BoundQuery) (cores : List Core) → AllByRecursion CoreReads cores
-      → (more_cores objects next q (map core_reading cores)).sources ≡ q.sources ++ ids (all_names (map core_names cores))
-  more_read next q [] each = sym (append-nil q.sources)
-  more_read next q (c ∷ cs) each =
-      let number = next + length q.sources in
-      more_read next (united q (core_reading c objects number)) cs each.1
-      ∙ ap (λ (l : List ℕ). (q.sources ++ l) ++ ids (all_names (map core_names cs))) (each.0 number)
-      ∙ append_assoc q.sources (ids (core_names c)) (ids (all_names (map core_names cs)))
-      ∙ ap (λ (l : List ℕ). q.sources ++ l) (sym (map-append (id_in objects) (core_names c) (all_names (map core_names cs))))
-
-  cores_read : (next : ℕ) (cores : List Core) → AllByRecursion CoreReads cores
-      → (all_cores objects next (map core_reading cores)).sources ≡ ids (all_names (map core_names cores))
-  cores_read next [] each = refl
-  cores_read next (c ∷ cs) each =
-      more_read next (core_reading c objects next) cs each.1
-      ∙ ap (λ (l : List ℕ). l ++ ids (all_names (map core_names cs))) (each.0 next)
-      ∙ sym (map-append (id_in objects) (core_names c) (all_names (map core_names cs)))
-
-  -- ---- of each layer
-
-  abbrev SourceReads : FromItem → Type 0
-  SourceReads s = IsSource (source_part s) (source_names s)
-
-  abbrev QueryReads : Query → Type 0
-  QueryReads q = IsReading (bound_query q) (query_names q)
-
-  named_law : (name : Name) (alias : Option Name) → SourceReads (roll-FromItem (FromItem-F.Named name alias))
-  named_law name alias next =
-      ap (λ (s : BoundSource). s.sources) (named_reads name alias objects next)
-      ∙ by_found (named objects name)
-      ∙ ap ids (sym (named_writes name alias))
+  more_sourced : (next : ℕ) (q : BoundQuery) (cores : List QueryReading) (xs : List Name) (written : List (List Name))
+      → IsSourced q.sources q.findings xs → AllSourced IsSourcedReading cores written
+      → IsSourced (more_cores names next q cores).sources (more_cores names next q cores).findings
+      (xs ++ all_names written)
+  more_sourced next q [] xs [] before all =
+      subst (IsSourced q.sources q.findings) (sym (append_nil xs)) before
     where
-      by_found : (found : Option Named)
-          → (object_source name next found).sources ≡ option_map_or (λ o. o.id) found 0 ∷ []
-      by_found None = refl
-      by_found (Some o) = refl
+      append_nil : (xs : List Name) → xs ++ [] ≡ xs
+      append_nil [] = refl
+      append_nil (x ∷ xs) = ap (λ (l : List Name). x ∷ l) (append_nil xs)
+  more_sourced next q [] xs (w ∷ ws) before all = absurd all
+  more_sourced next q (core ∷ cores) xs [] before all = absurd all
+  more_sourced next q (core ∷ cores) xs (w ∷ ws) before all =
+      let b : BoundQuery = core names (next + length q.sources) in
+      subst (IsSourced (more_cores names next (united q b) cores).sources
+      (more_cores names next (united q b) cores).findings) (append_assoc xs w (all_names ws))
+      (more_sourced next (united q b) cores (xs ++ w) ws
+      (united_sourced q b xs w before (all.0 (next + length q.sources))) all.1)
 
-  inner_law : (inner : Query) (alias : Name) → QueryReads inner
-      → SourceReads (roll-FromItem (FromItem-F.Subquery inner alias))
-  inner_law inner alias reads next =
-      ap (λ (s : BoundSource). s.sources) (inner_reads inner alias objects next)
-      ∙ reads next ∙ ap ids (sym (inner_writes inner alias))
+  cores_sourced : (next : ℕ) (cores : List QueryReading) (written : List (List Name))
+      → AllSourced IsSourcedReading cores written
+      → IsSourced (all_cores names next cores).sources (all_cores names next cores).findings (all_names written)
+  cores_sourced next [] [] all = record { ids = refl; all = λ right. tt }
+  cores_sourced next [] (w ∷ ws) all = absurd all
+  cores_sourced next (core ∷ cores) [] all = absurd all
+  cores_sourced next (core ∷ cores) (w ∷ ws) all = more_sourced next (core names next) cores w ws (all.0 next) all.1
 
-  join_law : (source : FromItem) (on : Expr) → SourceReads source
-      → JoinReads (roll-Join (record { source = source; on = on }))
-  join_law source on reads next =
-      ap (λ (p : SourcePart). (p.reading objects next).sources) (join_reads source on)
-      ∙ reads next ∙ ap ids (sym (join_writes source on))
+  -- ---- each tree
+
+  abbrev SourceLaw : FromItem → Type 0
+  SourceLaw s = IsSourcedPart (source_part s) (source_names s)
+
+  abbrev JoinLaw : Join → Type 0
+  JoinLaw j = IsSourcedJoin (join_part j) (join_names j)
+
+  abbrev CoreLaw : Core → Type 0
+  CoreLaw c = IsSourcedReading (core_reading c) (core_names c)
+
+  abbrev QueryLaw : Query → Type 0
+  QueryLaw q = IsSourcedReading (bound_query q) (query_names q)
+
+  all_joins : (joins : List Join) → AllByRecursion JoinLaw joins
+      → AllSourced IsSourcedJoin (map join_part joins) (map join_names joins)
+  all_joins [] each = tt
+  all_joins (j ∷ js) each = (each.0, all_joins js each.1)
+
+  all_read : (cores : List Core) → AllByRecursion CoreLaw cores
+      → AllSourced IsSourcedReading (map core_reading cores) (map core_names cores)
+  all_read [] each = tt
+  all_read (c ∷ cs) each = (each.0, all_read cs each.1)
+
+  abbrev SourcedBound : BoundSource → List Name → Type 0
+  SourcedBound s written = IsSourced s.sources s.findings written
+
+  abbrev SourcedQuery : BoundQuery → List Name → Type 0
+  SourcedQuery q written = IsSourced q.sources q.findings written
+
+  named_law : (name : Name) (alias : Option Name) → SourceLaw (roll-FromItem (FromItem-F.Named name alias))
+  named_law name alias next =
+      subst (λ (s : BoundSource). SourcedBound s (source_names (roll-FromItem (FromItem-F.Named name alias))))
+      (sym (named_reads name alias names next))
+      (subst (SourcedBound (object_source name next (named names name))) (sym (named_writes name alias))
+      (source_of name next (named names name) refl))
+
+  inner_law : (inner : Query) (alias : Name) → QueryLaw inner
+      → SourceLaw (roll-FromItem (FromItem-F.Subquery inner alias))
+  inner_law inner alias is next =
+      subst (λ (s : BoundSource). SourcedBound s (source_names (roll-FromItem (FromItem-F.Subquery inner alias))))
+      (sym (inner_reads inner alias names next))
+      (subst (SourcedBound (query_source (bound_query inner names next))) (sym (inner_writes inner alias)) (is next))
+
+  join_law : (source : FromItem) (on : Expr) → SourceLaw source
+      → JoinLaw (roll-Join (record { source = source; on = on }))
+  join_law source on is =
+      subst (λ (p : SourcePart). IsSourcedPart p (join_names (roll-Join (record { source = source; on = on }))))
+      (sym (join_reads source on))
+      (subst (IsSourcedPart (source_part source)) (sym (join_writes source on)) is)
 
   core_law : (found : List Item) (from : FromItem) (joins : List Join) (filter : Option Expr) (group : List Expr)
-      → SourceReads from → AllByRecursion JoinReads joins
-      → CoreReads (roll-Core (record { items = found; from = from; joins = joins; filter = filter; group = group }))
+      → SourceLaw from → AllByRecursion JoinLaw joins
+      → CoreLaw (roll-Core (record { items = found; from = from; joins = joins; filter = filter; group = group }))
   core_law found from joins filter group first each next =
-      ap (λ (q : BoundQuery). q.sources) (core_reads found from joins filter group objects next)
-      ∙ from_reads next from joins first each ∙ ap ids (sym (core_writes found from joins filter group))
+      subst (λ (q : BoundQuery). SourcedQuery q (core_names (roll-Core
+      (record { items = found; from = from; joins = joins; filter = filter; group = group }))))
+      (sym (core_reads found from joins filter group names next))
+      (subst (SourcedQuery (bound_core found (from_part names next (source_part from) (map join_part joins)) filter
+      group)) (sym (core_writes found from joins filter group))
+      (core_sourced found (from_part names next (source_part from) (map join_part joins)) filter group _
+      (from_sourced next (source_part from) (map join_part joins) (source_names from) (map join_names joins) first
+      (all_joins joins each))))
 
-  query_law : (cores : List Core) → AllByRecursion CoreReads cores → QueryReads (roll-Query (record { cores = cores }))
+  query_law : (cores : List Core) → AllByRecursion CoreLaw cores → QueryLaw (roll-Query (record { cores = cores }))
   query_law cores each next =
-      ap (λ (q : BoundQuery). q.sources) (query_reads cores objects next)
-      ∙ cores_read next cores each ∙ ap ids (sym (query_writes cores))
+      subst (λ (q : BoundQuery). SourcedQuery q (query_names (roll-Query (record { cores = cores }))))
+      (sym (query_reads cores names next))
+      (subst (SourcedQuery (all_cores names next (map core_reading cores))) (sym (query_writes cores))
+      (cores_sourced next (map core_reading cores) (map core_names cores) (all_read cores each)))
 
-  -- ---- of each tree: y is the layer x with a proof beside each part
+  -- y is the layer x with a proof beside each part
 
   abbrev Proved : {T : Type 0} → (T → Type 0) → Type 0
   Proved {T} P = (t : T) × P t
 
-  each_source : (y : FromItem-F (Proved SourceReads) (Proved CoreReads) (Proved JoinReads) (Proved QueryReads))
-      → SourceReads (roll-FromItem (map-FromItem (Proved SourceReads) (Proved CoreReads) (Proved JoinReads)
-      (Proved QueryReads) FromItem Core Join Query (λ e. e.0) (λ e. e.0) (λ e. e.0) (λ e. e.0) y))
+  each_source : (y : FromItem-F (Proved SourceLaw) (Proved CoreLaw) (Proved JoinLaw) (Proved QueryLaw))
+      → SourceLaw (roll-FromItem (map-FromItem (Proved SourceLaw) (Proved CoreLaw) (Proved JoinLaw)
+      (Proved QueryLaw) FromItem Core Join Query (λ e. e.0) (λ e. e.0) (λ e. e.0) (λ e. e.0) y))
   each_source (FromItem-F.Named name alias) = named_law name alias
   each_source (FromItem-F.Subquery inner alias) = inner_law inner.0 alias inner.1
 
-  pub query_sources : (q : Query) → QueryReads q
-  query_sources = ind-Query SourceReads CoreReads JoinReads QueryReads
-      (λ x y is. subst (λ z. SourceReads (roll-FromItem z)) is (each_source y))
-      (λ x y is. subst (λ z. CoreReads (roll-Core z)) is
-      (core_law y.items y.from.0 (map (λ e. e.0) y.joins) y.filter y.group y.from.1 (firsts JoinReads y.joins)))
-      (λ x y is. subst (λ z. JoinReads (roll-Join z)) is (join_law y.source.0 y.on y.source.1))
-      (λ x y is. subst (λ z. QueryReads (roll-Query z)) is
-      (query_law (map (λ e. e.0) y.cores) (firsts CoreReads y.cores)))
+  pub query_sourced : (q : Query) → QueryLaw q
+  query_sourced = ind-Query SourceLaw CoreLaw JoinLaw QueryLaw
+      (λ x y is. subst (λ z. SourceLaw (roll-FromItem z)) is (each_source y))
+      (λ x y is. subst (λ z. CoreLaw (roll-Core z)) is
+      (core_law y.items y.from.0 (map (λ e. e.0) y.joins) y.filter y.group y.from.1 (firsts JoinLaw y.joins)))
+      (λ x y is. subst (λ z. JoinLaw (roll-Join z)) is (join_law y.source.0 y.on y.source.1))
+      (λ x y is. subst (λ z. QueryLaw (roll-Query z)) is
+      (query_law (map (λ e. e.0) y.cores) (firsts CoreLaw y.cores)))

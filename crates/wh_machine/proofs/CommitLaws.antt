@@ -38,20 +38,6 @@ abbrev pub MovesNone : Act → Type 0
 MovesNone (MovesOffset id offset) = ⊥
 MovesNone _ = Unit {0}
 
-none_moves_on : (s : State) (act : Act) → MovesNone act → MovesOn s act
-none_moves_on s (MakesTable name columns retention) is = tt
-none_moves_on s (DropsObject id) is = tt
-none_moves_on s (EditsRows id e) is = tt
-none_moves_on s (MakesStream name source is_append_only) is = tt
-none_moves_on s (MovesOffset id offset) is = absurd is
-none_moves_on s (MakesTask name minutes after runs) is = tt
-none_moves_on s (PutsTask id state) is = tt
-none_moves_on s (BeginsRun root tasks) is = tt
-none_moves_on s (EndsTask root task ending) is = tt
-none_moves_on s (MakesDynamic name lag is_incremental query columns) is = tt
-none_moves_on s (PutsDynamic id state) is = tt
-none_moves_on s (RefreshesRows id moment e) is = tt
-
 pub spares_one : (stamp : ℕ) (objects : List Object) (act : Act) → MovesNone act → (id : ℕ) (s : Stream)
     → stream_at objects id ≡ Some s → stream_at (acted stamp objects act) id ≡ Some s
 spares_one stamp objects (MakesTable name columns retention) is id s at = stream_more objects _ id s at
@@ -78,14 +64,11 @@ spares_all stamp objects [] are id s at = at
 spares_all stamp objects (act ∷ acts) are id s at =
     spares_all stamp (acted stamp objects act) acts are.1 id s (spares_one stamp objects act are.0 id s at)
 
-pub none_move_on : (s : State) (acts : List Act) → AllByRecursion MovesNone acts → AllMoveOn s acts
-none_move_on s acts are = all_map MovesNone (MovesOn s) (none_moves_on s) acts are
-
 pub unmoved : (m : Machine) (reply : Reply) (acts : List Act) → is_refusal reply ≡ false → AreEditsFrom 0 acts
-    → AllByRecursion MovesNone acts → IsLawful m [] (commits m reply acts)
-unmoved m reply acts accepted shape are = does m reply m.sessions (Some acts) accepted (same_sessions m) (record {
+    → AllByRecursion MovesNone acts → AllMoveOn m.state acts → IsLawful m [] (commits m reply acts)
+unmoved m reply acts accepted shape are on = does m reply m.sessions (Some acts) accepted (same_sessions m) (record {
   shape = shape;
-  moves = λ begun. none_move_on m.state acts are;
+  moves = λ begun. on;
   free = λ apart q id held still. refl;
   stays = λ id s at none. spares_all m.state.last m.state.objects acts are id s at;
 })
@@ -98,30 +81,40 @@ Defines (RefreshesRows id moment e) = ⊥
 Defines (MovesOffset id offset) = ⊥
 Defines _ = Unit {0}
 
-pub defines_only : (act : Act) → Defines act → IsNoEdit act × MovesNone act
-defines_only (MakesTable name columns retention) is = (tt, tt)
-defines_only (DropsObject id) is = (tt, tt)
-defines_only (EditsRows id e) is = absurd is
-defines_only (MakesStream name source is_append_only) is = (tt, tt)
-defines_only (MovesOffset id offset) is = absurd is
-defines_only (MakesTask name minutes after runs) is = (tt, tt)
-defines_only (PutsTask id state) is = (tt, tt)
-defines_only (BeginsRun root tasks) is = (tt, tt)
-defines_only (EndsTask root task ending) is = (tt, tt)
-defines_only (MakesDynamic name lag is_incremental query columns) is = (tt, tt)
-defines_only (PutsDynamic id state) is = (tt, tt)
-defines_only (RefreshesRows id moment e) is = absurd is
+-- it edits no rows and moves no offset
+record DefinesOnly (s : State) (act : Act) : Type 0 where
+  no_edit : IsNoEdit act
+  moves_none : MovesNone act
+  moves_on : MovesOn s act
 
-pub all_no_edits : (acts : List Act) → AllByRecursion Defines acts → AreNoEdits acts
-all_no_edits acts are = all_map Defines IsNoEdit (λ act is. (defines_only act is).0) acts are
+defines_only : (s : State) (act : Act) → Defines act → DefinesOnly s act
+defines_only s (MakesTable name columns retention) is = record { no_edit = tt; moves_none = tt; moves_on = tt }
+defines_only s (DropsObject id) is = record { no_edit = tt; moves_none = tt; moves_on = tt }
+defines_only s (EditsRows id e) is = absurd is
+defines_only s (MakesStream name source is_append_only) is = record { no_edit = tt; moves_none = tt; moves_on = tt }
+defines_only s (MovesOffset id offset) is = absurd is
+defines_only s (MakesTask name minutes after runs) is = record { no_edit = tt; moves_none = tt; moves_on = tt }
+defines_only s (PutsTask id state) is = record { no_edit = tt; moves_none = tt; moves_on = tt }
+defines_only s (BeginsRun root tasks) is = record { no_edit = tt; moves_none = tt; moves_on = tt }
+defines_only s (EndsTask root task ending) is = record { no_edit = tt; moves_none = tt; moves_on = tt }
+defines_only s (MakesDynamic name lag is_incremental query columns) is =
+    record { no_edit = tt; moves_none = tt; moves_on = tt }
+defines_only s (PutsDynamic id state) is = record { no_edit = tt; moves_none = tt; moves_on = tt }
+defines_only s (RefreshesRows id moment e) is = absurd is
 
-pub all_move_none : (acts : List Act) → AllByRecursion Defines acts → AllByRecursion MovesNone acts
-all_move_none acts are = all_map Defines MovesNone (λ act is. (defines_only act is).1) acts are
+pub all_no_edits : (s : State) (acts : List Act) → AllByRecursion Defines acts → AreNoEdits acts
+all_no_edits s acts are = all_map Defines IsNoEdit (λ act is. (defines_only s act is).no_edit) acts are
+
+pub all_move_none : (s : State) (acts : List Act) → AllByRecursion Defines acts → AllByRecursion MovesNone acts
+all_move_none s acts are = all_map Defines MovesNone (λ act is. (defines_only s act is).moves_none) acts are
+
+pub defines_move_on : (s : State) (acts : List Act) → AllByRecursion Defines acts → AllMoveOn s acts
+defines_move_on s acts are = all_map Defines (MovesOn s) (λ act is. (defines_only s act is).moves_on) acts are
 
 pub defined : (m : Machine) (reply : Reply) (acts : List Act) → is_refusal reply ≡ false → AllByRecursion Defines acts
     → IsLawful m [] (commits m reply acts)
-defined m reply acts accepted are =
-    unmoved m reply acts accepted (no_edits_from 0 acts (all_no_edits acts are)) (all_move_none acts are)
+defined m reply acts accepted are = unmoved m reply acts accepted (no_edits_from 0 acts (all_no_edits m.state acts are))
+    (all_move_none m.state acts are) (defines_move_on m.state acts are)
 
 -- ---- the acts of commits that edit tables and read streams
 

@@ -149,7 +149,8 @@ created_filled text placed t (spelled.task head body split is_head is_body kept)
     let here = head_filled _ _ _ _ _ is_head (first_filled head body
     (subst (λ (ps : List Placed). AllFilled (tokens_of ps)) split filled)) in
     record { name = here.0; either = here.1; body = (tokens_of body, is_body) }
-created_filled text placed t (spelled.guarded_task head guard body link split is_head is_guard kept link_is is_body body_kept)
+created_filled text placed t
+    (spelled.guarded_task head guard body link split is_head is_guard kept link_is is_body body_kept)
     filled =
     let here = head_filled _ _ _ _ _ is_head (first_filled head (guard ++ link ∷ body)
     (subst (λ (ps : List Placed). AllFilled (tokens_of ps)) split filled)) in

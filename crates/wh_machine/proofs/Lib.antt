@@ -30,6 +30,7 @@ pub mod KnownEvents
 pub mod KnownChanges
 pub mod KnownStops
 pub mod KnownStreams
+pub mod KnownDynamics
 pub mod KnownTests
 pub mod GotLaws
 pub mod StandLaws
@@ -60,3 +61,10 @@ pub mod TargetLaws
 pub mod SeenRows
 pub mod ReadRows
 pub mod ChangeLaws
+pub mod RebaseLaws
+pub mod EvaluatedLaws
+pub mod BroughtWorks
+pub mod RefreshGoes
+pub mod DynamicWorks
+pub mod DynamicNames
+pub mod BehindLaws

@@ -1,39 +1,45 @@
 -- The acts of refreshes.
 --     IsOfRefresh, AreOfRefresh     an act of one, and what holds of the acts of a refresh
 --     brought_id, brought_ids       what is brought by a refresh are the tables that it goes over
---     refresh_acts                  versions by rising ids, and states
+--     IsRefresh, refresh_acts       versions by rising ids, of tables that are no base tables, and states
 --     dynamic_lawful                the outcomes of dynamic tables are lawful
-use Rattle.std.proofs.Common.{◌≡◌, ℕ, suc, ◌≤◌, Bool, true, false, cond, List, [], ◌∷◌, ◌++◌, map, Option, Some, None}
+use Rattle.std.proofs.Common.{◌≡◌, ℕ, zero, suc, ◌≤◌, Bool, true, false, cond, List, [], ◌∷◌, ◌++◌, map, Option, Some}
+use Rattle.std.proofs.Common.{None}
 use Rattle.std.proofs.Common.{option_map, refl, sym, ap, subst, ◌∙◌, arith}
+use Rattle.std.specs.Prelude.{slice_get}
 use Rattle.std.specs.List.{AllByRecursion, flat_map}
+use Rattle.std.specs.Option.{option_and_then, IsSomeAnd}
 use Rattle.wh_ast.specs.declared.statement.Initialize.{Initialize}
 use Rattle.wh_ast.specs.declared.statement.Initialize.TheVariants as starts
 use Rattle.wh_ddl_naming.specs.DynamicTables.{NewDynamicTable}
 use Rattle.wh_reply.specs.Reply.{Refusal, Reply, Refreshed, RefreshAction, NoData, Full, Incremental, is_refusal}
 use Rattle.wh_reply.specs.Reply.{CreatedDynamicTable, RefreshedTables, RefreshFailed}
 use Rattle.wh_meaning.specs.Bag.{Bag}
-use Rattle.wh_state.specs.State.{State, Object, Table, last_rows}
+use Rattle.wh_state.specs.State.{State, Object, Table, Kind, TableKind, StreamKind, TaskKind, DynamicKind, last_rows}
+use Rattle.wh_state.specs.State.{dynamic_in, at_id}
 use Rattle.wh_state.specs.Edits.{Edits}
 use Rattle.wh_state.specs.Dynamic.{DynamicQuery, DynamicState, Dynamic, ids_read}
 use Rattle.wh_state.specs.Moments.{evaluated_at}
 use Rattle.wh_state.specs.Act.{Act, MakesTable, DropsObject, EditsRows, MakesStream, MovesOffset, MakesTask, PutsTask}
 use Rattle.wh_state.specs.Act.{BeginsRun, EndsTask, MakesDynamic, PutsDynamic, RefreshesRows, all_acted}
-use Rattle.wh_state.specs.Objects.{table_at, dynamic_at, name_at}
+use Rattle.wh_state.specs.Objects.{table_at, as_dynamic, dynamic_at, name_at}
 use Rattle.wh_state.proofs.AllLaws.{all_map, all_append}
 use Rattle.wh_state.proofs.ActLaws.{AreEditsFrom, no_more_edits, other_act, next_refresh, from_less}
 use Rattle.wh_moment.specs.Upstream.{dynamics_of, brought}
 use Rattle.wh_moment.specs.Moment.{behind_failure}
 use Rattle.wh_moment.specs.Rebase.{rebase}
-use Rattle.wh_moment.proofs.UpstreamLaws.{RiseFrom, brought_rise}
+use Rattle.wh_moment.proofs.UpstreamLaws.{RiseFrom, brought_rise, IsWatched, brought_watched, watched_kind}
 use Rattle.wh_machine.specs.Tests.{first_of}
-use Rattle.wh_machine.specs.Refresh.{Brought, brought_as, brought_by, brought_with, brought_one, action_of, version_acts}
+use Rattle.wh_machine.specs.Refresh.{Brought, brought_as, brought_by, brought_with, brought_one, action_of}
+use Rattle.wh_machine.specs.Refresh.{version_acts}
 use Rattle.wh_machine.specs.Refresh.{acts_of_one, brought_then, brought_all, number_refusal, first_lost, told_of}
 use Rattle.wh_machine.specs.Refresh.{Refreshing, Fails, Brings, unless_past, refresh_by, with_upstream, refresh}
 use Rattle.wh_machine.specs.Outcome.{Machine, Outcome, Refuses, commits}
 use Rattle.wh_machine.specs.Dynamics.{dynamic_made, with_dynamic, new_id, asked_refresh, made_with, initialized}
 use Rattle.wh_machine.specs.Dynamics.{is_same_dynamic_state, puts_dynamic, alters, refreshed_by, is_fifth, failed_of}
 use Rattle.wh_machine.specs.Dynamics.{scheduled_by, scheduled}
-use Rattle.wh_machine.proofs.Lawful.{IsLawful, refuses}
+use Rattle.wh_machine.specs.Consuming.{base_in, base_at}
+use Rattle.wh_machine.proofs.Lawful.{MovesOn, AllMoveOn, IsLawful, refuses}
 use Rattle.wh_machine.proofs.CommitLaws.{MovesNone, unmoved, defined}
 
 -- ---- what is brought
@@ -135,41 +141,118 @@ brought_shape moment least (b ∷ others) rise = by_edits b.edits (brought_shape
     by_edits None rest = other_act tt (from_less least (suc b.id) _ (omega (arith, rise.0)) rest)
     by_edits (Some e) rest = next_refresh rise.0 (other_act tt rest)
 
+-- over tables that are no base tables
+one_moves_on : (s : State) (moment : ℕ) (b : Brought) → base_at s.objects b.id ≡ None
+    → AllMoveOn s (acts_of_one moment b)
+one_moves_on s moment b none = by_edits b.edits
+  where
+    by_edits : (edits : Option Edits)
+        → AllMoveOn s (version_acts b.id moment edits ++ PutsDynamic b.id b.state ∷ [])
+    by_edits None = (tt, tt)
+    by_edits (Some e) = (none, (tt, tt))
+
+all_move_on : (s : State) (moment : ℕ) (all : List Brought)
+    → AllByRecursion (λ id. base_at s.objects id ≡ None) (map (λ b. b.id) all)
+    → AllMoveOn s (flat_map (acts_of_one moment) all)
+all_move_on s moment [] none = tt
+all_move_on s moment (b ∷ others) none =
+    all_append (MovesOn s) (acts_of_one moment b) (flat_map (acts_of_one moment) others)
+    (one_moves_on s moment b none.0) (all_move_on s moment others none.1)
+
+-- a dynamic table is no base table
+not_base : (objects : List Object) (id : ℕ) → IsWatched (dynamics_of objects) id → base_at objects id ≡ None
+not_base objects id is = by_found (at_id objects id) (watched_kind objects id is)
+  where
+    by_kind : (k : Kind) → IsSomeAnd (dynamic_in k) (λ d. Unit {0}) → base_in k ≡ None
+    by_kind (TableKind t) is = absurd is
+    by_kind (StreamKind s) is = absurd is
+    by_kind (TaskKind t) is = absurd is
+    by_kind (DynamicKind d t) is = refl
+
+    by_found : (found : Option Object) → IsSomeAnd (option_and_then as_dynamic found) (λ d. Unit {0})
+        → option_and_then (λ o. base_in o.kind) found ≡ None
+    by_found None is = refl
+    by_found (Some o) is = by_kind o.kind is
+
 -- ---- a refresh
 
-abbrev pub AreOfRefresh : Refreshing → Type 0
-AreOfRefresh (Fails why) = Unit {0}
-AreOfRefresh (Brings lines acts) = AreEditsFrom 0 acts × AllByRecursion IsOfRefresh acts
+-- of a commit over a state, or one with one object more
+pub record IsRefresh (s : State) (acts : List Act) : Type 0 where
+  pub shape : AreEditsFrom 0 acts
+  pub are : AllByRecursion IsOfRefresh acts
+  pub on : AllMoveOn s acts
 
-pub refresh_acts : (s : State) (besides : Option Refusal) (id moment : ℕ) → AreOfRefresh (refresh s besides id moment)
+abbrev pub AreOfRefresh : State → Refreshing → Type 0
+AreOfRefresh s (Fails why) = Unit {0}
+AreOfRefresh s (Brings lines acts) = IsRefresh s acts
+
+pub refresh_acts : (s : State) (besides : Option Refusal) (id moment : ℕ)
+    → AreOfRefresh s (refresh s besides id moment)
 unfolding refresh
 refresh_acts s besides id moment =
     by_refusal (first_of (first_lost s.objects (with_upstream s.objects id) ∷ besides ∷ []))
     (brought_all s.last moment (brought (dynamics_of s.objects) id moment) s.objects) refl
   where
-    by_limit : (found : Option Refusal) (all : List Brought) → map (λ b. b.id) all ≡ brought (dynamics_of s.objects) id moment
-        → AreOfRefresh (unless_past found (map (told_of s.objects moment) all) (flat_map (acts_of_one moment) all))
+    ids : List ℕ
+    ids = brought (dynamics_of s.objects) id moment
+
+    by_limit : (found : Option Refusal) (all : List Brought) → map (λ b. b.id) all ≡ ids
+        → AreOfRefresh s (unless_past found (map (told_of s.objects moment) all) (flat_map (acts_of_one moment) all))
     by_limit (Some why) all is = tt
-    by_limit None all is = (
-      brought_shape moment 0 all
-          (subst (RiseFrom 0) (sym is) (brought_rise (dynamics_of s.objects) id moment)),
-      all_are moment all,
-    )
+    by_limit None all is = record {
+      shape = brought_shape moment 0 all
+          (subst (RiseFrom 0) (sym is) (brought_rise (dynamics_of s.objects) id moment));
+      are = all_are moment all;
+      on = all_move_on s moment all (subst (AllByRecursion (λ id. base_at s.objects id ≡ None)) (sym is)
+          (all_map (IsWatched (dynamics_of s.objects)) (λ id. base_at s.objects id ≡ None) (not_base s.objects) ids
+          (brought_watched (dynamics_of s.objects) id moment)));
+    }
 
     by_refusal : (found : Option Refusal) (all : Option (List Brought))
-        → brought_all s.last moment (brought (dynamics_of s.objects) id moment) s.objects ≡ all
-        → AreOfRefresh (refresh_by s.objects moment found all)
+        → brought_all s.last moment ids s.objects ≡ all → AreOfRefresh s (refresh_by s.objects moment found all)
     by_refusal (Some why) all is = tt
     by_refusal None None is = tt
     by_refusal None (Some all) is = by_limit (number_refusal s.objects all) all
-        (brought_ids s.last moment (brought (dynamics_of s.objects) id moment) s.objects all is)
+        (brought_ids s.last moment ids s.objects all is)
+
+-- with one object less
+base_less : (objects : List Object) (o : Object) (id : ℕ) → base_at (objects ++ o ∷ []) id ≡ None
+    → base_at objects id ≡ None
+base_less objects o zero none = refl
+base_less objects o (suc place) none = of_place objects place none
+  where
+    base_of : Option Object → Option Table
+    base_of found = option_and_then (λ o. base_in o.kind) found
+
+    of_place : (os : List Object) (place : ℕ) → base_of (slice_get (os ++ o ∷ []) place) ≡ None
+        → base_of (slice_get os place) ≡ None
+    of_place [] place none = refl
+    of_place (x ∷ os) zero none = none
+    of_place (x ∷ os) (suc place) none = of_place os place none
+
+refresh_before : (m : Machine) (n : NewDynamicTable) (query : DynamicQuery) (acts : List Act)
+    → AllByRecursion IsOfRefresh acts → AllMoveOn (with_dynamic m.state n query) acts → AllMoveOn m.state acts
+refresh_before m n query [] are on = tt
+refresh_before m n query (RefreshesRows id moment e ∷ acts) are on =
+    (base_less m.state.objects _ id on.0, refresh_before m n query acts are.1 on.1)
+refresh_before m n query (PutsDynamic id state ∷ acts) are on = (tt, refresh_before m n query acts are.1 on.1)
+refresh_before m n query (MakesTable name columns retention ∷ acts) are on = absurd are.0
+refresh_before m n query (DropsObject id ∷ acts) are on = absurd are.0
+refresh_before m n query (EditsRows id e ∷ acts) are on = absurd are.0
+refresh_before m n query (MakesStream name source is_append_only ∷ acts) are on = absurd are.0
+refresh_before m n query (MovesOffset id offset ∷ acts) are on = absurd are.0
+refresh_before m n query (MakesTask name minutes after runs ∷ acts) are on = absurd are.0
+refresh_before m n query (PutsTask id state ∷ acts) are on = absurd are.0
+refresh_before m n query (BeginsRun root tasks ∷ acts) are on = absurd are.0
+refresh_before m n query (EndsTask root task ending ∷ acts) are on = absurd are.0
+refresh_before m n query (MakesDynamic name lag is_incremental made columns ∷ acts) are on = absurd are.0
 
 -- ---- outcomes
 
-pub refreshes_lawful : (m : Machine) (reply : Reply) (acts : List Act) → is_refusal reply ≡ false → AreEditsFrom 0 acts
-    → AllByRecursion IsOfRefresh acts → IsLawful m [] (commits m reply acts)
-refreshes_lawful m reply acts accepted shape are =
-    unmoved m reply acts accepted shape (all_map IsOfRefresh MovesNone refresh_moves_none acts are)
+pub refreshes_lawful : (m : Machine) (reply : Reply) (acts : List Act) → is_refusal reply ≡ false
+    → IsRefresh m.state acts → IsLawful m [] (commits m reply acts)
+refreshes_lawful m reply acts accepted is =
+    unmoved m reply acts accepted is.shape (all_map IsOfRefresh MovesNone refresh_moves_none acts is.are) is.on
 
 pub created_dynamic : (m : Machine) (n : NewDynamicTable) (query : DynamicQuery) (start : Initialize)
     → IsLawful m [] (initialized m n query start)
@@ -178,14 +261,16 @@ created_dynamic m n query starts.OnSchedule =
 created_dynamic m n query starts.OnCreate = by_refresh (asked_refresh (with_dynamic m.state n query) (new_id m.state))
     (refresh_acts (with_dynamic m.state n query) _ (new_id m.state) m.state.last)
   where
-    by_refresh : (r : Refreshing) → AreOfRefresh r → IsLawful m [] (made_with m n query r)
-    by_refresh (Fails why) are = refuses m why
-    by_refresh (Brings lines acts) are = unmoved m (CreatedDynamicTable n.name lines) (dynamic_made n query ++ acts) refl
-        (other_act tt are.0) (tt, all_map IsOfRefresh MovesNone refresh_moves_none acts are.1)
+    by_refresh : (r : Refreshing) → AreOfRefresh (with_dynamic m.state n query) r
+        → IsLawful m [] (made_with m n query r)
+    by_refresh (Fails why) is = refuses m why
+    by_refresh (Brings lines acts) is = unmoved m (CreatedDynamicTable n.name lines) (dynamic_made n query ++ acts) refl
+        (other_act tt is.shape) (tt, all_map IsOfRefresh MovesNone refresh_moves_none acts is.are)
+        (tt, refresh_before m n query acts is.are is.on)
 
-pub refreshed_dynamic : (m : Machine) (r : Refreshing) → AreOfRefresh r → IsLawful m [] (refreshed_by m r)
-refreshed_dynamic m (Fails why) are = refuses m why
-refreshed_dynamic m (Brings lines acts) are = refreshes_lawful m (RefreshedTables lines) acts refl are.0 are.1
+pub refreshed_dynamic : (m : Machine) (r : Refreshing) → AreOfRefresh m.state r → IsLawful m [] (refreshed_by m r)
+refreshed_dynamic m (Fails why) is = refuses m why
+refreshed_dynamic m (Brings lines acts) is = refreshes_lawful m (RefreshedTables lines) acts refl is
 
 pub altered_dynamic : (m : Machine) (reply : Reply) (id : ℕ) (new : DynamicState → DynamicState)
     → is_refusal reply ≡ false → IsLawful m [] (alters m reply id new)
@@ -211,6 +296,6 @@ scheduled_dynamic m id target =
         (RefreshFailed (name_at m.state.objects id) target why (is_fifth d.state))
         (PutsDynamic id (behind_failure target d.state) ∷ []) refl (tt, tt)
 
-    by_refresh : (r : Refreshing) → AreOfRefresh r → IsLawful m [] (scheduled_by m id target r)
-    by_refresh (Fails why) are = by_found why (dynamic_at m.state.objects id)
-    by_refresh (Brings lines acts) are = refreshes_lawful m (RefreshedTables lines) acts refl are.0 are.1
+    by_refresh : (r : Refreshing) → AreOfRefresh m.state r → IsLawful m [] (scheduled_by m id target r)
+    by_refresh (Fails why) is = by_found why (dynamic_at m.state.objects id)
+    by_refresh (Brings lines acts) is = refreshes_lawful m (RefreshedTables lines) acts refl is

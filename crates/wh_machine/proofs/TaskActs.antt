@@ -15,7 +15,8 @@ use Rattle.wh_state.specs.Act.{Act, MakesTable, DropsObject, EditsRows, MakesStr
 use Rattle.wh_state.specs.Act.{BeginsRun, EndsTask, MakesDynamic, PutsDynamic, RefreshesRows, acted, all_acted}
 use Rattle.wh_state.specs.Objects.{stream_at}
 use Rattle.wh_state.proofs.AllLaws.{all_map, all_append}
-use Rattle.wh_state.proofs.ActLaws.{AreNoEdits, AreEditsFrom, no_more_edits, other_act, next_edit, next_refresh, no_edits_from}
+use Rattle.wh_state.proofs.ActLaws.{AreNoEdits, AreEditsFrom, no_more_edits, other_act, next_edit, next_refresh}
+use Rattle.wh_state.proofs.ActLaws.{no_edits_from}
 use Rattle.wh_graph.specs.Graph.{is_under_way, has_failed, skipped_behind, run_behind}
 use Rattle.wh_graph.specs.Root.{state_behind}
 use Rattle.wh_machine.specs.Outcome.{Machine, commits}
@@ -23,7 +24,7 @@ use Rattle.wh_machine.specs.Tasks.{live_tasks, put_to, is_same_state}
 use Rattle.wh_machine.specs.Ticks.{count_acts, graph_acts, end_acts, ends_as}
 use Rattle.wh_machine.proofs.Lawful.{MovesOn, MovesFree, IsCommitOf, IsLawful, same_sessions}
 use Rattle.wh_machine.proofs.Lawful.{does}
-use Rattle.wh_machine.proofs.CommitLaws.{Defines, all_no_edits, all_move_none, none_move_on, spares_all, defined}
+use Rattle.wh_machine.proofs.CommitLaws.{Defines, all_no_edits, all_move_none, defines_move_on, spares_all, defined}
 
 -- ---- acts that change tasks alone
 
@@ -114,23 +115,24 @@ acted_append stamp objects (act ∷ acts) more = acted_append stamp (acted stamp
 ends_commit : (m : Machine) (moving : List ℕ) (acts more : List Act) → AllByRecursion IsOfTasks more
     → IsCommitOf m moving m.sessions acts → IsCommitOf m moving m.sessions (acts ++ more)
 ends_commit m moving acts more are commit = record {
-  shape = edits_more 0 acts more commit.shape (all_no_edits more (all_define more are));
+  shape = edits_more 0 acts more commit.shape (all_no_edits m.state more (all_define more are));
   moves = λ begun. all_append (MovesOn m.state) acts more (commit.moves begun)
-      (none_move_on m.state more (all_move_none more (all_define more are)));
+      (defines_move_on m.state more (all_define more are));
   free = commit.free;
   stays = λ id s at none. ap (λ (objects : List Object). stream_at objects id)
       (acted_append m.state.last m.state.objects acts more)
       ∙ spares_all m.state.last (all_acted m.state.last m.state.objects acts) more
-      (all_move_none more (all_define more are)) id s
+      (all_move_none m.state more (all_define more are)) id s
       (commit.stays id s at none);
 }
 
 pub spares_tasks : (m : Machine) (acts : List Act) → AllByRecursion IsOfTasks acts → (id : ℕ) (s : Stream)
     → stream_at m.state.objects id ≡ Some s → stream_at (all_acted m.state.last m.state.objects acts) id ≡ Some s
 spares_tasks m acts are id s at =
-    spares_all m.state.last m.state.objects acts (all_move_none acts (all_define acts are)) id s at
+    spares_all m.state.last m.state.objects acts (all_move_none m.state acts (all_define acts are)) id s at
 
-pub ends_spare : (m : Machine) (root : ℕ) (r : Task) (task : ℕ) (ending : Ending) (acts : List Act) (id : ℕ) (s : Stream)
+pub ends_spare : (m : Machine) (root : ℕ) (r : Task) (task : ℕ) (ending : Ending) (acts : List Act) (id : ℕ)
+    → (s : Stream)
     → stream_at (all_acted m.state.last m.state.objects acts) id ≡ Some s
     → stream_at (all_acted m.state.last m.state.objects (acts ++ end_acts m.state.objects root r task ending)) id
     ≡ Some s
@@ -138,7 +140,7 @@ ends_spare m root r task ending acts id s at =
     let ends : List Act = end_acts m.state.objects root r task ending in
     ap (λ (objects : List Object). stream_at objects id) (acted_append m.state.last m.state.objects acts ends)
     ∙ spares_all m.state.last (all_acted m.state.last m.state.objects acts) ends
-    (all_move_none ends (all_define ends (end_is m.state.objects root r task ending))) id s at
+    (all_move_none m.state ends (all_define ends (end_is m.state.objects root r task ending))) id s at
 
 pub nothing_commits : (m : Machine) (moving : List ℕ) → MovesFree m m.sessions moving
     → IsCommitOf m moving m.sessions []

@@ -2,15 +2,20 @@
 --     RiseFrom          ids that rise, from one on
 --     upstream_rises    what one reads, by rising ids below its own
 --     brought_rise      those that its refresh brings, and itself the last
-use Rattle.std.proofs.Common.{ℕ, zero, suc, ◌+◌, ◌-◌, ◌<◌, ◌≤◌, Bool, true, false, cond, List, [], ◌∷◌, ◌++◌, Option, Some}
-use Rattle.std.proofs.Common.{None, arith}
-use Rattle.std.specs.Prelude.{◌&&◌, is_some}
+--     brought_watched, watched_kind     each of them is a dynamic table
+use Rattle.std.proofs.Common.{ℕ, zero, suc, ◌+◌, ◌-◌, ◌<◌, ◌≤◌, Bool, true, false, cond, List, [], ◌∷◌, ◌++◌, Option}
+use Rattle.std.proofs.Common.{Some}
+use Rattle.std.proofs.Common.{None, ◌≡◌, option_map, refl, subst, arith}
+use Rattle.std.specs.Prelude.{◌&&◌, is_some, unwrap_or}
 use Rattle.std.specs.List.{AllByRecursion, filter}
-use Rattle.std.specs.Option.{option_map_or}
+use Rattle.std.specs.Option.{option_map_or, option_and_then, IsSomeAnd}
+use Rattle.wh_state.specs.State.{Object, Kind, TableKind, StreamKind, TaskKind, DynamicKind, dynamic_in, at_id}
+use Rattle.wh_state.specs.Objects.{as_dynamic, dynamic_at}
+use Rattle.wh_state.proofs.IdLaws.{map_at}
 use Rattle.wh_state.specs.Edits.{is_among}
 use Rattle.wh_state.proofs.AllLaws.{all_append, all_map}
 use Rattle.wh_moment.specs.Upstream.{Watched, Dynamics, watched_at, more_read, if_reached, reached_from, upstream}
-use Rattle.wh_moment.specs.Upstream.{stands_below, brought}
+use Rattle.wh_moment.specs.Upstream.{is_below, stands_below, brought, watched, watched_object, dynamics_of}
 
 abbrev pub RiseFrom : ℕ → List ℕ → Type 0
 RiseFrom least [] = Unit {0}
@@ -75,9 +80,11 @@ upstream_rises all id = by_found (watched_at all id)
         × AllByRecursion (λ n. n < id) (option_map_or (λ w. reached_from all (id - 1) w.sources) found [])
     by_found None = (tt, tt)
     by_found (Some w) =
-        let rises = reached_rise all (id - 1) w.sources in
-        (rises.0, all_map (IsWithin 1 (id - 1)) (λ n. n < id) (λ n h. omega (arith, h.0, h.1))
-        (reached_from all (id - 1) w.sources) rises.1)
+        let rises = reached_rise all (id - 1) w.sources in (
+          rises.0,
+          all_map (IsWithin 1 (id - 1)) (λ n. n < id) (λ n h. omega (arith, h.0, h.1))
+              (reached_from all (id - 1) w.sources) rises.1,
+        )
 
 -- the table behind its upstream
 pub with_upstream_rises : (all : Dynamics) (id : ℕ) → RiseFrom 0 (upstream all id ++ id ∷ [])
@@ -90,3 +97,48 @@ pub brought_rise : (all : Dynamics) (id target : ℕ) → RiseFrom 0 (brought al
 unfolding brought
 brought_rise all id target =
     rise_filter (stands_below all target) 0 (upstream all id ++ id ∷ []) (with_upstream_rises all id)
+
+-- ---- each of them is a dynamic table
+
+abbrev pub IsWatched : Dynamics → ℕ → Type 0
+IsWatched all id = IsSomeAnd (watched_at all id) (λ w. Unit {0})
+
+pub brought_watched : (all : Dynamics) (id target : ℕ) → AllByRecursion (IsWatched all) (brought all id target)
+unfolding brought
+brought_watched all id target = of_all (upstream all id ++ id ∷ [])
+  where
+    by_found : (found : Option Watched) → option_map_or (λ w. is_below target w.state) found false ≡ true
+        → IsSomeAnd found (λ w. Unit {0})
+    by_found None is = absurd cc
+    by_found (Some w) is = tt
+
+    of_all : (ids : List ℕ) → AllByRecursion (IsWatched all) (filter (stands_below all target) ids)
+    of_all [] = tt
+    of_all (one ∷ ids) = by_test (stands_below all target one) refl (of_all ids)
+      where
+        by_test : (b : Bool) → stands_below all target one ≡ b
+            → AllByRecursion (IsWatched all) (filter (stands_below all target) ids)
+            → AllByRecursion (IsWatched all)
+            (cond b (one ∷ filter (stands_below all target) ids) (filter (stands_below all target) ids))
+        by_test true is rest = (by_found (watched_at all one) is, rest)
+        by_test false is rest = rest
+
+-- among the objects of a state
+pub watched_kind : (objects : List Object) (id : ℕ) → IsWatched (dynamics_of objects) id
+    → IsSomeAnd (dynamic_at objects id) (λ d. Unit {0})
+watched_kind objects id is = by_found (at_id objects id)
+    (subst (λ (found : Option (Option Watched)). IsSomeAnd (unwrap_or found None) (λ w. Unit {0}))
+    (map_at watched_object objects id) is)
+  where
+    by_kind : (o : Object) (k : Kind) → IsSomeAnd (watched o.is_live k) (λ w. Unit {0})
+        → IsSomeAnd (dynamic_in k) (λ d. Unit {0})
+    by_kind o (TableKind t) is = absurd is
+    by_kind o (StreamKind s) is = absurd is
+    by_kind o (TaskKind t) is = absurd is
+    by_kind o (DynamicKind d t) is = tt
+
+    by_found : (found : Option Object)
+        → IsSomeAnd (unwrap_or (option_map watched_object found) None) (λ w. Unit {0})
+        → IsSomeAnd (option_and_then as_dynamic found) (λ d. Unit {0})
+    by_found None is = absurd is
+    by_found (Some o) is = by_kind o o.kind is

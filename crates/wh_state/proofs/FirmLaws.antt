@@ -1,7 +1,7 @@
 -- What holds of the objects of a file that runs leave.
 --     NamesApart        no two live objects have one name
 --     HasSource         a stream has the columns of a table, and three more
---     IsFirm            tables, names and streams
+--     IsFirm            tables, names, streams, tasks and dynamic tables
 --     ChangeRises       the rows of partitions that a change adds rise
 --     firm_first, firm_changed, firm_all     so it is of no objects, and behind changes that apply
 use Rattle.std.proofs.Common.{map, ◌≡◌, inl, inr, ℕ, zero, suc, ◌+◌, ◌<◌, ◌≤◌, Bool, true, false, cond, List, []}
@@ -28,6 +28,11 @@ use Rattle.wh_state.specs.Commit.{pushed, pushed_kind, pushed_object, offset_set
 use Rattle.wh_state.specs.State.{on_dynamic, empty_table}
 use Rattle.wh_state.specs.Dynamic.{Dynamic, with_dynamic_state}
 use Rattle.wh_state.specs.Commit.{CreatesDynamic, SetsDynamic, on_dynamic_stored}
+use Rattle.wh_state.specs.State.{on_task}
+use Rattle.wh_state.specs.Bound.{source_kind}
+use Rattle.wh_state.proofs.DynamicFirm.{HasColumns, KindHasColumns, HasQueryTokens, spelled_query, IsFirmDynamic}
+use Rattle.wh_state.proofs.DynamicFirm.{DynamicHolds, AreFirmDynamics, KeepsSeen, dynamics_changed, dynamics_more}
+use Rattle.wh_state.proofs.DynamicFirm.{made_firm, made_filled, state_taken, state_holds}
 use Rattle.wh_state.proofs.KindLaws.{task_keeps, dynamic_keeps}
 use Rattle.wh_state.proofs.KindLaws.{offset_keeps}
 use Rattle.wh_state.specs.Commit.{Commit, applied, Leads, RowsFit, VersionApplies, FitsKind, FitsObject, IsLiveTable}
@@ -212,18 +217,28 @@ pub record IsFirm (objects : List StoredObject) : Type 0 where
   pub names : NamesApart objects
   pub streams : AllByRecursion (HasSource objects) objects
   pub tasks : AreFirmTasks objects
+  pub columns : AllByRecursion HasColumns objects
+  pub dynamics : AreFirmDynamics objects
 
 no_object : (id : ℕ) (o : StoredObject) → at_id [] id ≡ Some o → TaskHolds [] id o.is_live (task_in o.kind)
 no_object zero o there = absurd cc
 no_object (suc place) o there = absurd cc
 
 pub firm_first : IsFirm []
-firm_first = record { tables = tt; names = tt; streams = tt; tasks = λ id o there. no_object id o there }
+firm_first = record {
+  tables = tt;
+  names = tt;
+  streams = tt;
+  tasks = λ id o there. no_object id o there;
+  columns = tt;
+  dynamics = tt;
+}
 
 abbrev pub ChangeRises : Change → Type 0
 ChangeRises (PushesVersion c) = PushRises c
 ChangeRises (StartsRun root tasks) = TasksRise 0 tasks
 ChangeRises (CreatesTask c) = HasTokensOf c.runs.body
+ChangeRises (CreatesDynamic c) = HasQueryTokens c.query.tree
 ChangeRises _ = Unit {0}
 
 -- ---- what changes leave
@@ -316,6 +331,87 @@ source_found objects source is_append_only offset live = by_found (at_id objects
     by_found None live = absurd live
     by_found (Some o) live = by_kind o.kind live.1
 
+-- what is neither a source nor has columns stays so
+columns_changed : (f : StoredObject → StoredObject) → ((o : StoredObject) → HasColumns o → HasColumns (f o))
+    → (objects : List StoredObject) (id : ℕ) → AllByRecursion HasColumns objects
+    → AllByRecursion HasColumns (changed_at objects id f)
+columns_changed f keeps objects id h = all_changed_at HasColumns HasColumns f (λ o h. h) keeps objects id h
+
+task_seen : (f : Task → Task) → KeepsSeen (on_task_stored f)
+task_seen f = record { kind = λ o. by_kind o.kind; columns = λ o. by_columns o.kind }
+  where
+    by_kind : (k : StoredKind) → source_kind (on_task f k) ≡ source_kind k
+    by_kind (TableKind t) = refl
+    by_kind (StreamKind s) = refl
+    by_kind (TaskKind t) = refl
+    by_kind (DynamicKind d t) = refl
+
+    by_columns : (k : StoredKind) → columns_in (on_task f k) ≡ columns_in k
+    by_columns (TableKind t) = refl
+    by_columns (StreamKind s) = refl
+    by_columns (TaskKind t) = refl
+    by_columns (DynamicKind d t) = refl
+
+dynamic_seen : (f : Dynamic → Dynamic) → KeepsSeen (on_dynamic_stored f)
+dynamic_seen f = record { kind = λ o. by_kind o.kind; columns = λ o. by_columns o.kind }
+  where
+    by_kind : (k : StoredKind) → source_kind (on_dynamic f k) ≡ source_kind k
+    by_kind (TableKind t) = refl
+    by_kind (StreamKind s) = refl
+    by_kind (TaskKind t) = refl
+    by_kind (DynamicKind d t) = refl
+
+    by_columns : (k : StoredKind) → columns_in (on_dynamic f k) ≡ columns_in k
+    by_columns (TableKind t) = refl
+    by_columns (StreamKind s) = refl
+    by_columns (TaskKind t) = refl
+    by_columns (DynamicKind d t) = refl
+
+set_seen : (offset : ℕ) → KeepsSeen (offset_set offset)
+set_seen offset = record { kind = λ o. by_kind o.kind; columns = λ o. by_columns o.kind }
+  where
+    by_kind : (k : StoredKind) → source_kind (offset_set_kind offset k) ≡ source_kind k
+    by_kind (TableKind t) = refl
+    by_kind (StreamKind s) = refl
+    by_kind (TaskKind t) = refl
+    by_kind (DynamicKind d t) = refl
+
+    by_columns : (k : StoredKind) → columns_in (offset_set_kind offset k) ≡ columns_in k
+    by_columns (TableKind t) = refl
+    by_columns (StreamKind s) = refl
+    by_columns (TaskKind t) = refl
+    by_columns (DynamicKind d t) = refl
+
+pushed_seen : (stamp : ℕ) (c : VersionChange) → KeepsSeen (pushed_object stamp c)
+pushed_seen stamp c = record { kind = λ o. by_kind o.kind; columns = λ o. by_columns o.kind }
+  where
+    by_kind : (k : StoredKind) → source_kind (pushed_kind stamp c k) ≡ source_kind k
+    by_kind (TableKind t) = refl
+    by_kind (StreamKind s) = refl
+    by_kind (TaskKind t) = refl
+    by_kind (DynamicKind d t) = refl
+
+    by_columns : (k : StoredKind) → columns_in (pushed_kind stamp c k) ≡ columns_in k
+    by_columns (TableKind t) = refl
+    by_columns (StreamKind s) = refl
+    by_columns (TaskKind t) = refl
+    by_columns (DynamicKind d t) = refl
+
+pushed_columns : (stamp : ℕ) (c : VersionChange) (k : StoredKind) → KindHasColumns k
+    → KindHasColumns (pushed_kind stamp c k)
+pushed_columns stamp c (TableKind t) h = record { some = h.some; names = h.names }
+pushed_columns stamp c (StreamKind s) h = h
+pushed_columns stamp c (TaskKind t) h = h
+pushed_columns stamp c (DynamicKind d t) h = record { some = h.some; names = h.names }
+
+pushed_dynamic : (stamp : ℕ) (c : VersionChange) (objects : List StoredObject) (k : StoredKind) → DynamicHolds objects k
+    → DynamicHolds objects (pushed_kind stamp c k)
+pushed_dynamic stamp c objects (TableKind t) h = tt
+pushed_dynamic stamp c objects (StreamKind s) h = tt
+pushed_dynamic stamp c objects (TaskKind t) h = tt
+pushed_dynamic stamp c objects (DynamicKind d t) h =
+    record { lag = h.lag; few = h.few; written = h.written; bound = h.bound }
+
 -- a task that is changed
 task_firm : (f : Task → Task) → ((t : Task) → (f t).after ≡ t.after) → ((t : Task) → (f t).root ≡ t.root)
     → ((id : ℕ) (t : Task) → IsFirmTask id t → IsFirmTask id (f t)) → (objects : List StoredObject) (id : ℕ)
@@ -330,6 +426,10 @@ task_firm f after root keeps objects id firm = record {
       o.kind h)
       (λ objects o h. task_keeps (λ k. IfSome (stream_in k) (λ s. FoundAt (IsSourceOf s) objects s.source)) f (λ t h. h)
       o.kind h) objects id firm.streams;
+  columns = columns_changed (on_task_stored f) (λ o h. task_keeps KindHasColumns f (λ t h. h) o.kind h) objects id
+      firm.columns;
+  dynamics = dynamics_changed (on_task_stored f) (task_seen f)
+      (λ objects o h. task_keeps (DynamicHolds objects) f (λ t h. h) o.kind h) objects id firm.dynamics;
 }
 
 dynamic_task : (f : Dynamic → Dynamic) (k : StoredKind) → task_in (on_dynamic f k) ≡ task_in k
@@ -339,9 +439,16 @@ dynamic_task f (TaskKind t) = refl
 dynamic_task f (DynamicKind d t) = refl
 
 -- a dynamic table that is changed beside its rows
-dynamic_firm : (f : Dynamic → Dynamic) (objects : List StoredObject) (id : ℕ) → IsFirm objects
+dynamic_firm : (f : Dynamic → Dynamic)
+    → ((objects : List StoredObject) (d : Dynamic) (columns : List Column) → IsFirmDynamic objects d columns
+    → IsFirmDynamic objects (f d) columns) → (objects : List StoredObject) (id : ℕ) → IsFirm objects
     → IsFirm (changed_at objects id (on_dynamic_stored f))
-dynamic_firm f objects id firm = record {
+dynamic_firm f holds objects id firm = record {
+  columns = columns_changed (on_dynamic_stored f) (λ o h. dynamic_keeps KindHasColumns f (λ d t h. h) o.kind h) objects id
+      firm.columns;
+  dynamics = dynamics_changed (on_dynamic_stored f) (dynamic_seen f)
+      (λ objects o h. dynamic_keeps (DynamicHolds objects) f (λ d t h. holds objects d t.columns h) o.kind h) objects id
+      firm.dynamics;
   tasks = same_tasks (on_dynamic_stored f) (λ o. dynamic_task f o.kind) (λ o. refl) objects id firm.tasks;
   tables = all_changed_at IsFirmObject IsFirmObject (on_dynamic_stored f) (λ o h. h)
       (λ o h. dynamic_keeps IsFirmKind f (λ d t h. h) o.kind h) objects id firm.tables;
@@ -415,6 +522,11 @@ firm_changed stamp objects (CreatesTable c) applies rises firm = record {
   names = names_more objects _ (free_name c.name objects applies.object.free) firm.names;
   streams = streams_more objects _ tt firm.streams;
   tasks = tasks_more objects _ tt firm.tasks;
+  columns = all_more HasColumns objects _ firm.columns (record {
+    some = applies.some_column;
+    names = all_map _ _ (λ column name. name.0) c.columns applies.column_names;
+  });
+  dynamics = dynamics_more objects _ tt firm.dynamics;
 }
 firm_changed stamp objects (CreatesStream c) applies rises firm = record {
   tables = all_more IsFirmObject objects _ firm.tables tt;
@@ -423,12 +535,16 @@ firm_changed stamp objects (CreatesStream c) applies rises firm = record {
       (columns_at objects c.source))) objects _ c.source
       (source_found objects c.source c.is_append_only c.offset applies.source)) firm.streams;
   tasks = tasks_more objects _ tt firm.tasks;
+  columns = all_more HasColumns objects _ firm.columns tt;
+  dynamics = dynamics_more objects _ tt firm.dynamics;
 }
 firm_changed stamp objects (CreatesTask c) applies rises firm = record {
   tables = all_more IsFirmObject objects _ firm.tables tt;
   names = names_more objects _ (free_name c.name objects applies.object.free) firm.names;
   streams = streams_more objects _ tt firm.streams;
   tasks = tasks_more objects _ (task_made_holds objects c rises applies) firm.tasks;
+  columns = all_more HasColumns objects _ firm.columns tt;
+  dynamics = dynamics_more objects _ tt firm.dynamics;
 }
 firm_changed stamp objects (SetsTask id state) applies rises firm = task_firm (with_state state) (λ t. refl) (λ t. refl)
     (state_firm state (few_failures state (at_id objects id) applies)) objects id firm
@@ -441,14 +557,20 @@ firm_changed stamp objects (CreatesDynamic c) applies rises firm = record {
   names = names_more objects _ (free_name c.name objects applies.object.free) firm.names;
   streams = streams_more objects _ tt firm.streams;
   tasks = tasks_more objects _ tt firm.tasks;
+  columns = all_more HasColumns objects _ firm.columns (made_filled objects c applies);
+  dynamics = dynamics_more objects _ (made_firm objects c rises applies) firm.dynamics;
 }
 firm_changed stamp objects (SetsDynamic id state) applies rises firm =
-    dynamic_firm (with_dynamic_state state) objects id firm
+    dynamic_firm (with_dynamic_state state) (state_holds state (state_taken (at_id objects id) state applies)) objects id
+    firm
 firm_changed stamp objects (Drops id) applies rises firm = record {
   tables = all_changed_at IsFirmObject IsFirmObject dropped (λ o h. h) (λ o h. h) objects id firm.tables;
   names = names_changed dropped (λ o. refl) (λ o live. absurd cc) objects id firm.names;
   streams = streams_changed dropped (λ s o h. h) (λ objects o h. h) objects id firm.streams;
   tasks = tasks_dropped objects id applies firm.tasks;
+  columns = columns_changed dropped (λ o h. h) objects id firm.columns;
+  dynamics = dynamics_changed dropped (record { kind = λ o. refl; columns = λ o. refl }) (λ objects o h. h) objects id
+      firm.dynamics;
 }
 firm_changed stamp objects (SetsOffset id offset) applies rises firm = record {
   tables = all_changed_at IsFirmObject IsFirmObject (offset_set offset) (λ o h. h) (set_firm offset) objects
@@ -456,6 +578,10 @@ firm_changed stamp objects (SetsOffset id offset) applies rises firm = record {
   names = names_changed (offset_set offset) (λ o. refl) (λ o live. live) objects id firm.names;
   streams = streams_changed (offset_set offset) (set_source offset) (set_stream offset) objects id firm.streams;
   tasks = same_tasks (offset_set offset) (λ o. offset_task offset o.kind) (λ o. refl) objects id firm.tasks;
+  columns = columns_changed (offset_set offset) (λ o h. offset_keeps KindHasColumns offset (λ s h. h) o.kind h) objects id
+      firm.columns;
+  dynamics = dynamics_changed (offset_set offset) (set_seen offset)
+      (λ objects o h. offset_keeps (DynamicHolds objects) offset (λ s h. h) o.kind h) objects id firm.dynamics;
 }
 firm_changed stamp objects (PushesVersion c) applies rises firm = record {
   tables = by_found (at_id objects c.id) refl applies;
@@ -463,6 +589,9 @@ firm_changed stamp objects (PushesVersion c) applies rises firm = record {
   streams = streams_changed (pushed_object stamp c) (pushed_source stamp c) (pushed_stream stamp c) objects c.id
       firm.streams;
   tasks = same_tasks (pushed_object stamp c) (λ o. pushed_task stamp c o.kind) (λ o. refl) objects c.id firm.tasks;
+  columns = columns_changed (pushed_object stamp c) (λ o h. pushed_columns stamp c o.kind h) objects c.id firm.columns;
+  dynamics = dynamics_changed (pushed_object stamp c) (pushed_seen stamp c)
+      (λ objects o h. pushed_dynamic stamp c objects o.kind h) objects c.id firm.dynamics;
 }
   where
     by_kind : (k : StoredKind) → IsFirmKind k → FitsKind k c → IsFirmKind (pushed_kind stamp c k)
@@ -496,7 +625,7 @@ written_rises (CreatesTask c) good spelled = spelled_change c.runs.body_text c.r
 written_rises (SetsTask id state) good spelled = tt
 written_rises (StartsRun root tasks) good spelled = tasks_rise 0 tasks good.tasks
 written_rises (FinishesTask root task ending) good spelled = tt
-written_rises (CreatesDynamic c) good spelled = tt
+written_rises (CreatesDynamic c) good spelled = spelled_query c.query.text c.query.tree spelled
 written_rises (SetsDynamic id state) good spelled = tt
 written_rises (PushesVersion c) good spelled = record {
   rows = all_map (IsPartition c.width) HasRisingRows (λ p is. is.rising) c.added good.added;

@@ -24,6 +24,7 @@ pub mod KnownChanges
 pub mod FoundLaws
 pub mod SpelledLaws
 pub mod TaskFirm
+pub mod DynamicFirm
 pub mod PartLaws
 pub mod ApartLaws
 pub mod AppliesLaws
@@ -33,3 +34,4 @@ pub mod EndLaws
 pub mod BelowLaws
 pub mod TextParts
 pub mod KeptLaws
+pub mod BroughtGoes

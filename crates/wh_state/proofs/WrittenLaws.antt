@@ -26,7 +26,8 @@ use Rattle.wh_state.specs.Commit.{pushed_object, pushed_kind, offset_set, offset
 use Rattle.wh_state.specs.Commit.{DoesNotFall, FitsObject, TakesOffset, OffsetApplies, ChangeApplies, AllApply}
 use Rattle.wh_state.specs.Written.{version_written_to, act_written, written}
 use Rattle.wh_state.proofs.AllLaws.{all_at}
-use Rattle.wh_state.proofs.ActLaws.{version_change, IsNoEdit, AreEditsFrom, no_more_edits, other_act, next_edit, next_refresh}
+use Rattle.wh_state.proofs.ActLaws.{version_change, IsNoEdit, AreEditsFrom, no_more_edits, other_act, next_edit}
+use Rattle.wh_state.proofs.ActLaws.{next_refresh}
 use Rattle.wh_state.proofs.ActLaws.{edit_leaves, orderly_standing}
 use Rattle.wh_state.proofs.FoundLaws.{FoundAt, found_changed, found_spared, found_more}
 use Rattle.wh_state.proofs.PartLaws.{made_rise}
@@ -71,20 +72,22 @@ pub record EditsApply (stamp : ℕ) (e : Edits) (t : StoredTable) : Type 0 where
 abbrev pub EditStands : ℕ → Edits → StoredObject → Type 0
 EditStands stamp e o = IsTrue o.is_live × IsSomeAnd (table_in o.kind) (EditsApply stamp e)
 
-edit_goes : (stamp : ℕ) (objects : List StoredObject) (id : ℕ) (e : Edits) → AllByRecursion IsFirmObject objects
-    → FoundAt (EditStands stamp e) objects id → AllGo stamp objects (act_written stamp objects (EditsRows id e))
-edit_goes stamp objects id e firm stands = by_found (at_id objects id) refl stands
+-- a version for a moment
+pub version_goes : (stamp moment : ℕ) (objects : List StoredObject) (id : ℕ) (e : Edits)
+    → AllByRecursion IsFirmObject objects → FoundAt (EditStands moment e) objects id
+    → AllGo stamp objects (version_written_to moment id e (at_id objects id))
+version_goes stamp moment objects id e firm stands = by_found (at_id objects id) refl stands
   where
     by_kind : (o : StoredObject) (k : StoredKind) → at_id objects id ≡ Some (record o { kind = k })
-        → EditStands stamp e (record o { kind = k }) → IsFirmKind k
-        → AllGo stamp objects (version_written_to stamp id e (Some (record o { kind = k })))
+        → EditStands moment e (record o { kind = k }) → IsFirmKind k
+        → AllGo stamp objects (version_written_to moment id e (Some (record o { kind = k })))
     by_kind o (StreamKind s) there stands firm = absurd stands.1
     by_kind o (TaskKind t) there stands firm = absurd stands.1
     by_kind o (TableKind t) there stands firm =
-        let c : VersionChange = version_change stamp id e t in
+        let c : VersionChange = version_change moment id e t in
         let applies : FitsObject (Some (record o { kind = TableKind t })) c = (
           stands.0,
-          version_applies stamp id e t firm stands.1.below stands.1.fit stands.1.later stands.1.few
+          version_applies moment id e t firm stands.1.below stands.1.fit stands.1.later stands.1.few
               stands.1.few_partitions,
         ) in (
           subst (λ found. FitsObject found c) (sym there) applies,
@@ -97,10 +100,10 @@ edit_goes stamp objects id e firm stands = by_found (at_id objects id) refl stan
           ),
         )
     by_kind o (DynamicKind d t) there stands firm =
-        let c : VersionChange = version_change stamp id e t in
+        let c : VersionChange = version_change moment id e t in
         let applies : FitsObject (Some (record o { kind = DynamicKind d t })) c = (
           stands.0,
-          version_applies stamp id e t firm stands.1.below stands.1.fit stands.1.later stands.1.few
+          version_applies moment id e t firm stands.1.below stands.1.fit stands.1.later stands.1.few
               stands.1.few_partitions,
         ) in (
           subst (λ found. FitsObject found c) (sym there) applies,
@@ -113,10 +116,14 @@ edit_goes stamp objects id e firm stands = by_found (at_id objects id) refl stan
           ),
         )
 
-    by_found : (found : Option StoredObject) → at_id objects id ≡ found → IsSomeAnd found (EditStands stamp e)
-        → AllGo stamp objects (version_written_to stamp id e found)
+    by_found : (found : Option StoredObject) → at_id objects id ≡ found → IsSomeAnd found (EditStands moment e)
+        → AllGo stamp objects (version_written_to moment id e found)
     by_found None none stands = absurd stands
     by_found (Some o) there stands = by_kind o o.kind there stands (all_at IsFirmObject objects id o firm there)
+
+edit_goes : (stamp : ℕ) (objects : List StoredObject) (id : ℕ) (e : Edits) → AllByRecursion IsFirmObject objects
+    → FoundAt (EditStands stamp e) objects id → AllGo stamp objects (act_written stamp objects (EditsRows id e))
+edit_goes stamp objects id e firm stands = version_goes stamp stamp objects id e firm stands
 
 -- ---- what stands at an id
 
