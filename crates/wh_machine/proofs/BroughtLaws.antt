@@ -1,323 +1,440 @@
--- What tables leave that a refresh brings to a moment.
---     object_brought, at_after        what stands at an id
---     table_after, dynamic_after      so its rows, and what a dynamic table has beside them
---     bound_after             what a query binds to stays
---     refreshed_rows, refreshed_between     the rows of a table for the moment that it was brought to, and its versions
-use Rattle.std.proofs.Common.{◌≡◌, ℕ, zero, suc, ◌<◌, ◌≤◌, ◌⊎◌, inl, inr, Bool, true, false, cond, List, [], ◌∷◌, ◌++◌, map}
-use Rattle.std.proofs.Common.{Option, Some, None, option_map, refl, sym, ap, ◌∙◌, arith}
-use Rattle.std.specs.Prelude.{nat_eq, nat_le, nat_lt, ◌&&◌, ◌||◌, if◌then◌else◌}
-use Rattle.std.specs.List.{AllByRecursion, filter, flat_map, list_any}
-use Rattle.std.specs.Option.{option_and_then, option_map_or}
+-- A refresh keeps objects sound.
+--     AreFreshFrom        tables of ids from one on have no version of the stamp
+--     IsReadyTo           a table that is brought to a moment, and what it reads
+--     one_keeps           what is done to one table
+--     brought_keeps       to several by rising ids
+use Rattle.std.proofs.Common.{◌≡◌, ℕ, zero, suc, ◌+◌, ◌<◌, ◌≤◌, ◌⊎◌, inl, inr, Bool, true, false, cond, List, [], ◌∷◌}
+use Rattle.std.proofs.Common.{◌++◌, map, Option, Some, None, option_map, refl, sym, ap, subst, ◌∙◌, arith}
+use Rattle.std.specs.Prelude.{◌&&◌, ◌||◌, nat_eq, nat_lt, nat_le}
+use Rattle.std.specs.List.{AllByRecursion, flat_map, filter, list_any}
+use Rattle.std.specs.Option.{IfSome, IsSomeAnd, option_and_then, option_map_or}
+use Rattle.std.specs.FinMap.{entries, values}
 use Rattle.std.proofs.lemmas.Bool.Decides.{nat_tests}
-use Rattle.wh_value.specs.Column.{Column}
-use Rattle.wh_naming.specs.Scope.{Named, ObjectKind}
-use Rattle.wh_naming.specs.Select.{bound_query}
-use Rattle.wh_state.specs.State.{Version, Table, Kind, TableKind, StreamKind, TaskKind, DynamicKind, Object, at_id}
-use Rattle.wh_state.specs.State.{changed_at, put_at, last_of, last_rows, rows_at, nothing_held, content_in, columns_in}
-use Rattle.wh_state.specs.State.{last_content, version_for, table_in, dynamic_in, on_dynamic}
-use Rattle.wh_state.specs.Dynamic.{Source, DynamicQuery, Dynamic, with_dynamic_state}
+use Rattle.wh_value.specs.Value.{Row}
+use Rattle.wh_meaning.specs.Bag.{Bag, bag_of, no_rows}
+use Rattle.wh_reply.specs.Reply.{RefreshAction, NoData, Full, Incremental}
+use Rattle.wh_state.specs.State.{Version, Kind, TableKind, StreamKind, TaskKind, DynamicKind, Object, Table, Rows, at_id}
+use Rattle.wh_state.specs.State.{changed_at, put_at, table_in, dynamic_in, last_rows, rows_at, nothing_held, content_in, last_of}
+use Rattle.wh_state.specs.State.{on_dynamic}
+use Rattle.wh_state.specs.Dynamic.{Source, DynamicState, Dynamic, ids_read, with_dynamic_state}
 use Rattle.wh_state.specs.Objects.{as_table, as_dynamic, table_at, dynamic_at}
-use Rattle.wh_state.specs.Bound.{source_kind, named_as, names_among, query_bound}
-use Rattle.wh_state.specs.Edits.{Edits}
-use Rattle.wh_state.specs.Act.{Act, PutsDynamic, RefreshesRows, acted, all_acted, edited_table, edited_kind, edited_object}
-use Rattle.wh_state.specs.Act.{on_dynamic_object, next_contents}
-use Rattle.wh_state.proofs.IdLaws.{map_at, map_changed, with_same, at_spared, last_more}
+use Rattle.wh_state.specs.Edits.{Edits, is_among, rows_after}
+use Rattle.wh_state.specs.Moments.{bag_at, evaluated_at}
+use Rattle.wh_state.specs.Act.{Act, RefreshesRows, PutsDynamic, edited_object, on_dynamic_object, acted, all_acted}
+use Rattle.wh_state.specs.Sound.{IsBelow, IsSoundDynamic, IsSoundKind}
+use Rattle.wh_state.proofs.AllLaws.{all_map, all_both, filter_same, among_all}
+use Rattle.wh_state.proofs.IdLaws.{at_spared}
 use Rattle.wh_state.proofs.FoundLaws.{at_same, same_or_not}
-use Rattle.wh_machine.specs.Refresh.{Brought, version_acts, acts_of_one, has_version_between}
-use Rattle.wh_machine.specs.Brought.{after_one, after_all, AreAbove, sought, edits_sought}
+use Rattle.wh_state.proofs.VersionLaws.{last_below}
+use Rattle.wh_state.proofs.EvaluatedLaws.{StandFrom, ids_read_hold, evaluated_same}
+use Rattle.wh_state.proofs.SoundObjects.{IsKept, IsDynamicAt, found_dynamic, dynamic_there, at_within, sound_at}
+use Rattle.wh_state.proofs.SoundTables.{IsFresh, IsRefreshed}
+use Rattle.wh_state.proofs.SoundLaws.{IsNothingNew, MayPut, MayRefreshKind, MayRefresh, AreKeeping, no_act, put_act}
+use Rattle.wh_state.proofs.SoundLaws.{refresh_acts, acts_kept, keeping_append}
+use Rattle.wh_moment.specs.Moment.{brought_to}
+use Rattle.wh_moment.specs.Rebase.{rebase}
+use Rattle.wh_moment.proofs.RebaseLaws.{rebased}
+use Rattle.wh_moment.proofs.UpstreamLaws.{RiseFrom}
+use Rattle.wh_moment.proofs.ClosedLaws.{same_number}
+use Rattle.wh_machine.specs.Refresh.{has_version_between, has_new_data, action_by, action_of, Brought, brought_as}
+use Rattle.wh_machine.specs.Refresh.{brought_by, brought_with, brought_one, acts_of_one, brought_then, brought_all, by_mode}
+use Rattle.wh_machine.specs.Refresh.{version_acts}
+use Rattle.wh_machine.proofs.GotLaws.{entries_hold}
+use Rattle.wh_machine.proofs.RefreshLaws.{brought_id}
 
--- ---- objects behind several
+-- ---- nothing new
 
-pub acted_append : (stamp : ℕ) (objects : List Object) (acts more : List Act)
-    → all_acted stamp objects (acts ++ more) ≡ all_acted stamp (all_acted stamp objects acts) more
-acted_append stamp objects [] more = refl
-acted_append stamp objects (act ∷ acts) more = acted_append stamp (acted stamp objects act) acts more
-
-pub after_more : (stamp moment : ℕ) (b : Brought) (bs : List Brought) (objects : List Object)
-    → after_all stamp moment (b ∷ bs) objects ≡ after_all stamp moment bs (after_one stamp moment b objects)
-after_more stamp moment b bs objects =
-    acted_append stamp objects (acts_of_one moment b) (flat_map (acts_of_one moment) bs)
-
-flat_append : {X Y : Type 0} (f : X → List Y) (xs ys : List X) → flat_map f (xs ++ ys) ≡ flat_map f xs ++ flat_map f ys
-flat_append f [] ys = refl
-flat_append f (x ∷ xs) ys =
-    ap (λ (l : List _). f x ++ l) (flat_append f xs ys) ∙ sym (append_assoc (f x) (flat_map f xs) (flat_map f ys))
+no_version : (from to : ℕ) → from ≤ to → (versions : List Version)
+    → list_any (λ v. nat_lt from v.data_timestamp && nat_le v.data_timestamp to) versions ≡ false
+    → AllByRecursion (λ v. nat_le v.data_timestamp to ≡ nat_le v.data_timestamp from) versions
+no_version from to h [] none = tt
+no_version from to h (v ∷ vs) none =
+    let both = neither (nat_lt from v.data_timestamp && nat_le v.data_timestamp to) _ none in
+    (same from to v.data_timestamp h both.0, no_version from to h vs both.1)
   where
-    append_assoc : {Y : Type 0} (xs ys zs : List Y) → (xs ++ ys) ++ zs ≡ xs ++ (ys ++ zs)
-    append_assoc [] ys zs = refl
-    append_assoc (x ∷ xs) ys zs = ap (λ (l : List _). x ∷ l) (append_assoc xs ys zs)
+    neither : (a b : Bool) → (a || b) ≡ false → (a ≡ false) × (b ≡ false)
+    neither true b is = absurd cc
+    neither false b is = (refl, is)
 
-pub after_last : (stamp moment : ℕ) (bs : List Brought) (b : Brought) (objects : List Object)
-    → after_all stamp moment (bs ++ b ∷ []) objects ≡ after_one stamp moment b (after_all stamp moment bs objects)
-after_last stamp moment bs b objects =
-    ap (all_acted stamp objects) (flat_append (acts_of_one moment) bs (b ∷ []))
-    ∙ acted_append stamp objects (flat_map (acts_of_one moment) bs) (acts_of_one moment b ++ [])
-    ∙ acted_append stamp (after_all stamp moment bs objects) (acts_of_one moment b) []
+    same : (from to time : ℕ) → from ≤ to → (nat_lt from time && nat_le time to) ≡ false
+        → nat_le time to ≡ nat_le time from
+    same from to time h test = grind (arith, nat_tests)
 
--- ---- what stands at an id
-
-abbrev pub rows_brought : ℕ → ℕ → Option Edits → Object → Object
-rows_brought stamp moment None o = o
-rows_brought stamp moment (Some e) o = edited_object stamp moment e o
-
-abbrev pub object_brought : ℕ → ℕ → Brought → Object → Object
-object_brought stamp moment b o =
-    on_dynamic_object (with_dynamic_state b.state) (rows_brought stamp moment b.edits o)
-
-at_changed : {X : Type 0} (f : X → X) (xs : List X) (id : ℕ)
-    → at_id (changed_at xs id f) id ≡ option_map f (at_id xs id)
-at_changed f xs id = by_found (at_id xs id) refl
+-- a source without a version between two moments has the same rows for both
+rows_same : (objects : List Object) (from to : ℕ) → from ≤ to → (ids : List ℕ) → has_new_data objects from to ids ≡ false
+    → AllByRecursion (λ id. bag_at objects to id ≡ bag_at objects from id) ids
+rows_same objects from to h [] none = tt
+rows_same objects from to h (id ∷ ids) none =
+    let both = neither (option_map_or (has_version_between from to) (table_at objects id) false) _ none in
+    (by_found (table_at objects id) both.0, rows_same objects from to h ids both.1)
   where
-    by_found : (found : Option _) → at_id xs id ≡ found → at_id (changed_at xs id f) id ≡ option_map f found
-    by_found None none = ap (λ (p : Option _). at_id (put_at xs id (option_map f p)) id) none ∙ none
-    by_found (Some x) there = at_same f xs id x there
+    neither : (a b : Bool) → (a || b) ≡ false → (a ≡ false) × (b ≡ false)
+    neither true b is = absurd cc
+    neither false b is = (refl, is)
 
-one_spared : (stamp moment : ℕ) (b : Brought) (objects : List Object) (id : ℕ) → (id ≡ b.id → ⊥)
-    → at_id (after_one stamp moment b objects) id ≡ at_id objects id
-one_spared stamp moment b objects id apart = by_edits b.edits
+    by_found : (found : Option Table) → option_map_or (has_version_between from to) found false ≡ false
+        → option_map_or (λ t. bag_of (values (rows_at t to))) found no_rows
+        ≡ option_map_or (λ t. bag_of (values (rows_at t from))) found no_rows
+    by_found None none = refl
+    by_found (Some t) none = ap (λ (vs : List Version). bag_of (values (content_in nothing_held (last_of vs)).rows))
+        (filter_same (λ v. nat_le v.data_timestamp to) (λ v. nat_le v.data_timestamp from) t.versions
+        (no_version from to h t.versions none))
+
+-- ---- one table
+
+-- what it reads stands for the moment
+abbrev pub IsReadyTo : ℕ → List Object → Dynamic → Type 0
+IsReadyTo moment objects d = (d.state.moment < moment) × StandFrom moment objects (ids_read d.query)
+
+-- the numbers of a dynamic table's rows
+rows_below : (stamp : ℕ) (objects : List Object) (d : Dynamic) (t : Table) → IsSoundDynamic stamp objects d t
+    → AllByRecursion (λ e. e.0 < t.next_row) (entries (last_rows t))
+rows_below stamp objects d t sound = entries_hold (λ number row. number < t.next_row) (last_rows t)
+    (λ number row is. last_below t.next_row t.versions sound.below number row is)
+
+-- its dynamic table, and its rows
+record IsOne (stamp : ℕ) (objects : List Object) (id : ℕ) (d : Dynamic) (t : Table) : Type 0 where
+  object : Object
+  there : at_id objects id ≡ Some object
+  kind : object.kind ≡ DynamicKind d t
+  sound : IsSoundDynamic stamp objects d t
+  fresh : IsFresh stamp t
+
+refreshes_one : (stamp moment : ℕ) (objects : List Object) (id : ℕ) (d : Dynamic) (t : Table) (rows : Bag)
+    → moment ≤ stamp → IsOne stamp objects id d t → IsReadyTo moment objects d
+    → evaluated_at objects moment d ≡ Some rows
+    → MayRefresh stamp objects id moment (rebase (last_rows t) rows) (brought_to moment d.state)
+refreshes_one stamp moment objects id d t rows within one ready is =
+    subst (λ (found : Option Object). IsSomeAnd found (λ o.
+    MayRefreshKind stamp objects moment (rebase (last_rows t) rows) (brought_to moment d.state) o.kind)) (sym one.there)
+    (subst (MayRefreshKind stamp objects moment (rebase (last_rows t) rows) (brought_to moment d.state)) (sym one.kind)
+    (record {
+      fresh = one.fresh;
+      later = ready.0;
+      within = within;
+      sources = ready.1;
+      rows = is ∙ ap Some (sym (rebased t.next_row (last_rows t) rows (rows_below stamp objects d t one.sound)));
+      brought = refl;
+      tried = omega arith;
+    }))
+
+-- a table that has stood for a moment before, and finds nothing new
+leaves_one : (stamp moment : ℕ) (objects : List Object) (id : ℕ) (d : Dynamic) → moment ≤ stamp → 0 < d.state.moment
+    → IsReadyTo moment objects d → has_new_data objects d.state.moment moment (ids_read d.query) ≡ false
+    → MayPut stamp objects (brought_to moment d.state) d
+leaves_one stamp moment objects id d within some ready none = record {
+  tried = omega arith;
+  moment = inr (record {
+    some = some;
+    later = omega (arith, ready.0);
+    within = within;
+    sources = ready.1;
+    same = evaluated_same objects objects d.state.moment moment d refl
+        (rows_same objects d.state.moment moment (omega (arith, ready.0)) (ids_read d.query) none);
+  });
+}
+
+-- the acts of an evaluation
+evaluated_keeps : (stamp moment : ℕ) (objects : List Object) (id : ℕ) (d : Dynamic) (t : Table) (b : Brought)
+    (action : RefreshAction) (found : Option Bag) → moment ≤ stamp → IsOne stamp objects id d t
+    → IsReadyTo moment objects d → evaluated_at objects moment d ≡ found
+    → option_map (λ rows. brought_as id moment d.state action (Some (rebase (last_rows t) rows))) found ≡ Some b
+    → AreKeeping stamp objects (acts_of_one moment b)
+evaluated_keeps stamp moment objects id d t b action None within one ready found is = absurd cc
+evaluated_keeps stamp moment objects id d t b action (Some rows) within one ready found is =
+    let same : brought_as id moment d.state action (Some (rebase (last_rows t) rows)) ≡ b = cc in
+    subst (λ (x : Brought). AreKeeping stamp objects (acts_of_one moment x)) same
+    (refresh_acts (refreshes_one stamp moment objects id d t rows within one ready found) no_act)
+
+-- the act of a table that finds nothing new
+leaving_keeps : (stamp moment : ℕ) (objects : List Object) (id : ℕ) (d : Dynamic) (b : Brought) → moment ≤ stamp
+    → dynamic_at objects id ≡ Some d → 0 < d.state.moment → IsReadyTo moment objects d
+    → has_new_data objects d.state.moment moment (ids_read d.query) ≡ false
+    → Some (brought_as id moment d.state NoData None) ≡ Some b
+    → AreKeeping stamp objects (acts_of_one moment b)
+leaving_keeps stamp moment objects id d b within at some ready none is =
+    let same : brought_as id moment d.state NoData None ≡ b = cc in
+    subst (λ (x : Brought). AreKeeping stamp objects (acts_of_one moment x)) same
+    (put_act (subst (λ (found : Option Dynamic). IfSome found (MayPut stamp objects (brought_to moment d.state))) (sym at)
+    (leaves_one stamp moment objects id d within some ready none)) no_act)
+
+one_by : (stamp moment : ℕ) (objects : List Object) (id : ℕ) (d : Dynamic) (t : Table) (b : Brought) → moment ≤ stamp
+    → IsOne stamp objects id d t → IsReadyTo moment objects d
+    → brought_by objects moment id d t (action_of objects moment d) ≡ Some b
+    → AreKeeping stamp objects (acts_of_one moment b)
+one_by stamp moment objects id d t b within one ready is =
+    by_tests (nat_eq d.state.moment 0) (has_new_data objects d.state.moment moment (ids_read d.query)) refl refl is
   where
-    by_edits : (found : Option Edits)
-        → at_id (all_acted stamp objects (version_acts b.id moment found ++ PutsDynamic b.id b.state ∷ [])) id
-        ≡ at_id objects id
-    by_edits None = at_spared (on_dynamic_object (with_dynamic_state b.state)) objects b.id id apart
+    has_some : (n : ℕ) → nat_eq n 0 ≡ false → 0 < n
+    has_some n test = grind (arith, nat_tests)
+
+    by_mode_of : (is_incremental : Bool) → brought_by objects moment id d t (by_mode is_incremental) ≡ Some b
+        → AreKeeping stamp objects (acts_of_one moment b)
+    by_mode_of true is = evaluated_keeps stamp moment objects id d t b Incremental (evaluated_at objects moment d) within
+        one ready refl is
+    by_mode_of false is = evaluated_keeps stamp moment objects id d t b Full (evaluated_at objects moment d) within one
+        ready refl is
+
+    by_tests : (none new : Bool) → nat_eq d.state.moment 0 ≡ none
+        → has_new_data objects d.state.moment moment (ids_read d.query) ≡ new
+        → brought_by objects moment id d t (cond none Full (cond new (by_mode d.is_incremental) NoData)) ≡ Some b
+        → AreKeeping stamp objects (acts_of_one moment b)
+    by_tests true new none found is = by_mode_of false is
+    by_tests false true none found is = by_mode_of d.is_incremental is
+    by_tests false false none found is = leaving_keeps stamp moment objects id d b within
+        (dynamic_there objects id one.object d t one.there one.kind) (has_some d.state.moment none) ready found is
+
+-- where it is a dynamic table, it is sound and fresh
+pub one_keeps : (stamp moment : ℕ) (objects : List Object) (id : ℕ) (b : Brought) → moment ≤ stamp
+    → IsKept stamp objects → IfSome (table_at objects id) (IsFresh stamp)
+    → IfSome (dynamic_at objects id) (IsReadyTo moment objects) → brought_one objects moment id ≡ Some b
+    → AreKeeping stamp objects (acts_of_one moment b)
+unfolding brought_one
+one_keeps stamp moment objects id b within kept fresh ready is =
+    by_dynamic (dynamic_at objects id) refl ready is
+  where
+    by_at : (d : Dynamic) → IsDynamicAt objects id d → IsReadyTo moment objects d
+        → brought_with objects moment id (Some d) (table_at objects id) ≡ Some b
+        → AreKeeping stamp objects (acts_of_one moment b)
+    by_at d at ready is =
+        let table : table_at objects id ≡ Some at.table =
+        ap (option_and_then as_table) at.there ∙ ap table_in at.kind in
+        one_by stamp moment objects id d at.table b within (record {
+          object = at.object;
+          there = at.there;
+          kind = at.kind;
+          sound = sound_at stamp objects id d kept at;
+          fresh = subst (λ (found : Option Table). IfSome found (IsFresh stamp)) table fresh;
+        }) ready (ap (brought_with objects moment id (Some d)) (sym table) ∙ is)
+
+    by_dynamic : (found : Option Dynamic) → dynamic_at objects id ≡ found → IfSome found (IsReadyTo moment objects)
+        → brought_with objects moment id found (table_at objects id) ≡ Some b
+        → AreKeeping stamp objects (acts_of_one moment b)
+    by_dynamic None at ready is = absurd cc
+    by_dynamic (Some d) at ready is = by_at d (found_dynamic objects id d at) ready is
+
+-- ---- what it leaves
+
+-- other objects are as they were
+one_spares : (stamp moment : ℕ) (objects : List Object) (b : Brought) (other : ℕ) → (other ≡ b.id → ⊥)
+    → at_id (all_acted stamp objects (acts_of_one moment b)) other ≡ at_id objects other
+one_spares stamp moment objects b other apart = by_edits b.edits
+  where
+    put : Object → Object
+    put = on_dynamic_object (with_dynamic_state b.state)
+
+    by_edits : (edits : Option Edits)
+        → at_id (all_acted stamp objects (version_acts b.id moment edits ++ PutsDynamic b.id b.state ∷ [])) other
+        ≡ at_id objects other
+    by_edits None = at_spared put objects b.id other apart
     by_edits (Some e) =
-        at_spared (on_dynamic_object (with_dynamic_state b.state))
-        (changed_at objects b.id (edited_object stamp moment e)) b.id id apart
-        ∙ at_spared (edited_object stamp moment e) objects b.id id apart
+        at_spared put (changed_at objects b.id (edited_object stamp moment e)) b.id other apart
+        ∙ at_spared (edited_object stamp moment e) objects b.id other apart
 
-one_here : (stamp moment : ℕ) (b : Brought) (objects : List Object)
-    → at_id (after_one stamp moment b objects) b.id ≡ option_map (object_brought stamp moment b) (at_id objects b.id)
-one_here stamp moment b objects = by_edits b.edits
+-- a state that is put in is there
+put_stands : (objects : List Object) (id : ℕ) (state : DynamicState)
+    → IfSome (dynamic_at (changed_at objects id (on_dynamic_object (with_dynamic_state state))) id)
+    (λ e. state.moment ≤ e.state.moment)
+put_stands objects id state = by_found (at_id objects id) refl
   where
-    puts : Object → Object
-    puts o = on_dynamic_object (with_dynamic_state b.state) o
+    put : Object → Object
+    put = on_dynamic_object (with_dynamic_state state)
 
-    twice : (f : Object → Object) (found : Option Object)
-        → option_map puts (option_map f found) ≡ option_map (λ o. puts (f o)) found
-    twice f None = refl
-    twice f (Some o) = refl
+    by_kind : (k : Kind)
+        → IfSome (dynamic_in (on_dynamic (with_dynamic_state state) k)) (λ e. state.moment ≤ e.state.moment)
+    by_kind (TableKind t) = tt
+    by_kind (StreamKind s) = tt
+    by_kind (TaskKind t) = tt
+    by_kind (DynamicKind d t) = omega arith
 
-    by_edits : (found : Option Edits)
-        → at_id (all_acted stamp objects (version_acts b.id moment found ++ PutsDynamic b.id b.state ∷ [])) b.id
-        ≡ option_map (λ o. puts (rows_brought stamp moment found o)) (at_id objects b.id)
-    by_edits None = at_changed puts objects b.id
-    by_edits (Some e) =
-        at_changed puts (changed_at objects b.id (edited_object stamp moment e)) b.id
-        ∙ ap (option_map puts) (at_changed (edited_object stamp moment e) objects b.id)
-        ∙ twice (edited_object stamp moment e) (at_id objects b.id)
+    by_found : (found : Option Object) → at_id objects id ≡ found
+        → IfSome (dynamic_at (changed_at objects id put) id) (λ e. state.moment ≤ e.state.moment)
+    by_found None none =
+        let still : at_id (changed_at objects id put) id ≡ None =
+        ap (λ (found : Option Object). at_id (put_at objects id (option_map put found)) id) none ∙ none in
+        subst (λ (found : Option Object). IfSome (option_and_then as_dynamic found)
+        (λ e. state.moment ≤ e.state.moment)) (sym still) tt
+    by_found (Some o) there =
+        subst (λ (found : Option Object). IfSome (option_and_then as_dynamic found)
+        (λ e. state.moment ≤ e.state.moment)) (sym (at_same put objects id o there)) (by_kind o.kind)
 
-none_above : (least id : ℕ) (bs : List Brought) → id ≤ least → AreAbove least bs → sought id bs ≡ None
-none_above least id [] below above = refl
-none_above least id (b ∷ bs) below above =
-    let apart : nat_eq b.id id ≡ false = by_above in
-    ap (λ (t : Bool). cond t (Some b) (sought id bs)) apart ∙ none_above b.id id bs (omega (arith, above.0)) above.1
+one_stands : (stamp moment : ℕ) (objects : List Object) (b : Brought)
+    → IfSome (dynamic_at (all_acted stamp objects (acts_of_one moment b)) b.id) (λ e. b.state.moment ≤ e.state.moment)
+one_stands stamp moment objects b = by_edits b.edits
   where
-    by_above : nat_eq b.id id ≡ false
-    by_above = let h = above.0 in grind (arith, nat_tests)
+    by_edits : (edits : Option Edits)
+        → IfSome (dynamic_at (all_acted stamp objects (version_acts b.id moment edits ++ PutsDynamic b.id b.state ∷ []))
+        b.id) (λ e. b.state.moment ≤ e.state.moment)
+    by_edits None = put_stands objects b.id b.state
+    by_edits (Some e) = put_stands (changed_at objects b.id (edited_object stamp moment e)) b.id b.state
 
-abbrev pub brought_at : ℕ → ℕ → Option Brought → Option Object → Option Object
-brought_at stamp moment None found = found
-brought_at stamp moment (Some b) found = option_map (object_brought stamp moment b) found
-
-pub at_after : (stamp moment : ℕ) (least : ℕ) (bs : List Brought) (objects : List Object) (id : ℕ) → AreAbove least bs
-    → at_id (after_all stamp moment bs objects) id ≡ brought_at stamp moment (sought id bs) (at_id objects id)
-at_after stamp moment least [] objects id above = refl
-at_after stamp moment least (b ∷ bs) objects id above =
-    ap (λ (l : List Object). at_id l id) (after_more stamp moment b bs objects)
-    ∙ at_after stamp moment b.id bs (after_one stamp moment b objects) id above.1
-    ∙ by_test (same_or_not id b.id)
+-- what is brought stands for the moment
+brought_moment : (objects : List Object) (moment id : ℕ) (b : Brought) → brought_one objects moment id ≡ Some b
+    → b.state.moment ≡ moment
+unfolding brought_one
+brought_moment objects moment id b is = by_found (dynamic_at objects id) (table_at objects id) is
   where
-    by_test : (id ≡ b.id) ⊎ (id ≡ b.id → ⊥)
-        → brought_at stamp moment (sought id bs) (at_id (after_one stamp moment b objects) id)
-        ≡ brought_at stamp moment (sought id (b ∷ bs)) (at_id objects id)
-    by_test (inl same) =
-        let none : sought id bs ≡ None = none_above b.id id bs (omega (arith, same)) above.1 in
-        let here : nat_eq b.id id ≡ true = grind (arith, nat_tests) in
-        ap (λ (p : Option Brought). brought_at stamp moment p (at_id (after_one stamp moment b objects) id)) none
-        ∙ ap (at_id (after_one stamp moment b objects)) same
-        ∙ one_here stamp moment b objects
-        ∙ ap (λ (other : ℕ). option_map (object_brought stamp moment b) (at_id objects other)) (sym same)
-        ∙ ap (λ (t : Bool). brought_at stamp moment (cond t (Some b) (sought id bs)) (at_id objects id)) (sym here)
-    by_test (inr apart) =
-        let test : nat_eq b.id id ≡ false = grind (arith, nat_tests) in
-        ap (brought_at stamp moment (sought id bs)) (one_spared stamp moment b objects id apart)
-        ∙ ap (λ (t : Bool). brought_at stamp moment (cond t (Some b) (sought id bs)) (at_id objects id)) (sym test)
+    of_some : (x : Brought) → x.state.moment ≡ moment → Some x ≡ Some b → b.state.moment ≡ moment
+    of_some x at is = let same : x ≡ b = cc in ap (λ (y : Brought). y.state.moment) (sym same) ∙ at
 
--- ---- rows, and what is beside them
+    by_rows : (d : Dynamic) (t : Table) (action : RefreshAction) (found : Option Bag)
+        → option_map (λ rows. brought_as id moment d.state action (Some (rebase (last_rows t) rows))) found ≡ Some b
+        → b.state.moment ≡ moment
+    by_rows d t action None is = absurd cc
+    by_rows d t action (Some rows) is = of_some _ refl is
 
-abbrev pub table_brought : ℕ → ℕ → Option Edits → Option Table → Option Table
-table_brought stamp moment None found = found
-table_brought stamp moment (Some e) found = option_map (edited_table stamp moment e) found
+    by_action : (d : Dynamic) (t : Table) (action : RefreshAction) → brought_by objects moment id d t action ≡ Some b
+        → b.state.moment ≡ moment
+    by_action d t NoData is = of_some _ refl is
+    by_action d t Full is = by_rows d t Full (evaluated_at objects moment d) is
+    by_action d t Incremental is = by_rows d t Incremental (evaluated_at objects moment d) is
 
-pub table_after : (stamp moment : ℕ) (least : ℕ) (bs : List Brought) (objects : List Object) (id : ℕ) → AreAbove least bs
-    → table_at (after_all stamp moment bs objects) id
-    ≡ table_brought stamp moment (edits_sought id bs) (table_at objects id)
-table_after stamp moment least bs objects id above =
-    ap (option_and_then as_table) (at_after stamp moment least bs objects id above)
-    ∙ by_sought (sought id bs) (at_id objects id)
+    by_found : (d : Option Dynamic) (t : Option Table) → brought_with objects moment id d t ≡ Some b
+        → b.state.moment ≡ moment
+    by_found None t is = absurd cc
+    by_found (Some d) None is = absurd cc
+    by_found (Some d) (Some t) is = by_action d t (action_of objects moment d) is
+
+-- ---- several, by rising ids
+
+-- a source stands for the moment, or is brought to it
+abbrev pub StandsOrComes : ℕ → List Object → List ℕ → ℕ → Type 0
+StandsOrComes moment objects ids x =
+    IfSome (dynamic_at objects x) (λ e. moment ≤ e.state.moment) ⊎ (is_among x ids ≡ true)
+
+abbrev pub IsAwaitedWith : ℕ → List Object → List ℕ → Dynamic → Type 0
+IsAwaitedWith moment objects ids d =
+    (d.state.moment < moment) × AllByRecursion (StandsOrComes moment objects ids) (ids_read d.query)
+
+abbrev pub IsAwaited : ℕ → List Object → List ℕ → ℕ → Type 0
+IsAwaited moment objects ids id = IfSome (dynamic_at objects id) (IsAwaitedWith moment objects ids)
+
+abbrev pub IsFreshFrom : ℕ → ℕ → List Object → Type 0
+IsFreshFrom stamp least objects = (id : ℕ) → least ≤ id → IfSome (table_at objects id) (IsFresh stamp)
+
+rise_all : (least : ℕ) (ids : List ℕ) → RiseFrom least ids → AllByRecursion (λ n. least ≤ n) ids
+rise_all least [] rise = tt
+rise_all least (id ∷ ids) rise =
+    (rise.0, all_map (λ n. suc id ≤ n) (λ n. least ≤ n) (λ n h. omega (arith, h, rise.0)) ids
+    (rise_all (suc id) ids rise.1))
+
+-- what it reads comes before it, and so stands already
+head_ready : (stamp moment : ℕ) (objects : List Object) (id : ℕ) (ids : List ℕ) → IsKept stamp objects
+    → AllByRecursion (λ n. id ≤ n) (id ∷ ids) → IsAwaited moment objects (id ∷ ids) id
+    → IfSome (dynamic_at objects id) (IsReadyTo moment objects)
+head_ready stamp moment objects id ids kept from awaited = by_found (dynamic_at objects id) refl awaited
   where
-    by_kind : (b : Brought) (edits : Option Edits) (o : Object) (k : Kind)
-        → table_in (on_dynamic (with_dynamic_state b.state) (rows_brought stamp moment edits (record o { kind = k })).kind)
-        ≡ table_brought stamp moment edits (table_in k)
-    by_kind b None o (TableKind t) = refl
-    by_kind b None o (StreamKind s) = refl
-    by_kind b None o (TaskKind t) = refl
-    by_kind b None o (DynamicKind d t) = refl
-    by_kind b (Some e) o (TableKind t) = refl
-    by_kind b (Some e) o (StreamKind s) = refl
-    by_kind b (Some e) o (TaskKind t) = refl
-    by_kind b (Some e) o (DynamicKind d t) = refl
+    of_source : (x : ℕ) → x < id → StandsOrComes moment objects (id ∷ ids) x
+        → IfSome (dynamic_at objects x) (λ e. moment ≤ e.state.moment)
+    of_source x less (inl stands) = stands
+    of_source x less (inr among) = absurd (omega (arith, less, among_all (λ n. id ≤ n) x (id ∷ ids) from among))
 
-    nothing : (edits : Option Edits) → None ≡ table_brought stamp moment edits None
-    nothing None = refl
-    nothing (Some e) = refl
+    by_found : (found : Option Dynamic) → dynamic_at objects id ≡ found
+        → IfSome found (IsAwaitedWith moment objects (id ∷ ids)) → IfSome found (IsReadyTo moment objects)
+    by_found None at awaited = tt
+    by_found (Some d) at awaited =
+        let place : IsDynamicAt objects id d = found_dynamic objects id d at in
+        (awaited.0, all_both (λ x. x < id) (StandsOrComes moment objects (id ∷ ids))
+        (λ x. IfSome (dynamic_at objects x) (λ e. moment ≤ e.state.moment))
+        (λ x less comes. of_source x less comes) (ids_read d.query)
+        (ids_read_hold (λ x. x < id) (at_within objects id place.object place.there).0 d.query (kept.earlier id d at))
+        awaited.1)
 
-    by_sought : (found : Option Brought) (o : Option Object)
-        → option_and_then as_table (brought_at stamp moment found o)
-        ≡ table_brought stamp moment (option_and_then (λ b. b.edits) found) (option_and_then as_table o)
-    by_sought None o = refl
-    by_sought (Some b) None = nothing b.edits
-    by_sought (Some b) (Some o) = by_kind b b.edits o o.kind
-
-pub dynamic_after : (stamp moment : ℕ) (least : ℕ) (bs : List Brought) (objects : List Object) (id : ℕ) → AreAbove least bs
-    → sought id bs ≡ None → dynamic_at (after_all stamp moment bs objects) id ≡ dynamic_at objects id
-dynamic_after stamp moment least bs objects id above none =
-    ap (option_and_then as_dynamic) (at_after stamp moment least bs objects id above)
-    ∙ ap (λ (p : Option Brought). option_and_then as_dynamic (brought_at stamp moment p (at_id objects id))) none
-
--- ---- what a query binds to
-
-abbrev Shape : Type 0
-Shape = ObjectKind × List Column
-
-abbrev shape_of : Object → Shape
-shape_of o = (source_kind o.kind, columns_in o.kind)
-
-named_by : List Shape → Source → List Named
-named_by shapes s = option_map_or
-    (λ p. (record { name = s.name; id = s.id; kind = p.0; columns = p.1 }) ∷ []) (at_id shapes s.id) []
-
-names_by : (objects : List Object) (sources : List Source)
-    → names_among objects sources ≡ flat_map (named_by (map shape_of objects)) sources
-unfolding named_by
-names_by objects [] = refl
-names_by objects (s ∷ ss) =
-    ap (λ (l : List Named). l ++ names_among objects ss) (by_found (at_id objects s.id) (map_at shape_of objects s.id))
-    ∙ ap (λ (l : List Named). named_by (map shape_of objects) s ++ l) (names_by objects ss)
+-- those behind it await the others
+rest_awaits : (moment : ℕ) (objects next : List Object) (id : ℕ) (ids : List ℕ)
+    → ((other : ℕ) → (other ≡ id → ⊥) → at_id next other ≡ at_id objects other)
+    → IfSome (dynamic_at next id) (λ e. moment ≤ e.state.moment) → (y : ℕ) → suc id ≤ y
+    → IsAwaited moment objects (id ∷ ids) y
+    → IsAwaited moment next ids y
+rest_awaits moment objects next id ids spares stands y behind awaited =
+    subst (λ (found : Option Object). IfSome (option_and_then as_dynamic found) (IsAwaitedWith moment next ids))
+    (sym (spares y (λ same. omega (arith, same, behind)))) (by_found (dynamic_at objects y) awaited)
   where
-    by_found : (found : Option Object) → at_id (map shape_of objects) s.id ≡ option_map shape_of found
-        → option_map_or (λ o. named_as s o ∷ []) found [] ≡ named_by (map shape_of objects) s
-    by_found None there = ap (λ (p : Option Shape). option_map_or
-        (λ p. (record { name = s.name; id = s.id; kind = p.0; columns = p.1 }) ∷ []) p []) (sym there)
-    by_found (Some o) there = ap (λ (p : Option Shape). option_map_or
-        (λ p. (record { name = s.name; id = s.id; kind = p.0; columns = p.1 }) ∷ []) p []) (sym there)
+    apart_from : (x : ℕ) → (x ≡ id → ⊥) → StandsOrComes moment objects (id ∷ ids) x → StandsOrComes moment next ids x
+    apart_from x apart (inl was) = inl (subst (λ (found : Option Object).
+        IfSome (option_and_then as_dynamic found) (λ e. moment ≤ e.state.moment)) (sym (spares x apart)) was)
+    apart_from x apart (inr among) = by_test (nat_eq x id) refl among
+      where
+        by_test : (b : Bool) → nat_eq x id ≡ b → (b || is_among x ids) ≡ true → StandsOrComes moment next ids x
+        by_test true test among = absurd (apart (same_number x id test))
+        by_test false test among = inr among
 
--- a change that leaves the shape of each object
-shapes_stay : (f : Object → Object) → ((o : Object) → shape_of (f o) ≡ shape_of o) → (objects : List Object) (id : ℕ)
-    → map shape_of (changed_at objects id f) ≡ map shape_of objects
-shapes_stay f same objects id =
-    map_changed shape_of f (λ p. p) same objects id ∙ by_found (at_id (map shape_of objects) id) refl
+    of_source : (x : ℕ) → StandsOrComes moment objects (id ∷ ids) x → (x ≡ id) ⊎ (x ≡ id → ⊥)
+        → StandsOrComes moment next ids x
+    of_source x comes (inl same) = inl (subst (λ (n : ℕ).
+        IfSome (dynamic_at next n) (λ e. moment ≤ e.state.moment)) (sym same) stands)
+    of_source x comes (inr apart) = apart_from x apart comes
+
+    by_found : (found : Option Dynamic) → IfSome found (IsAwaitedWith moment objects (id ∷ ids))
+        → IfSome found (IsAwaitedWith moment next ids)
+    by_found None awaited = tt
+    by_found (Some d) awaited = (
+      awaited.0,
+      all_map (StandsOrComes moment objects (id ∷ ids)) (StandsOrComes moment next ids)
+          (λ x comes. of_source x comes (same_or_not x id)) (ids_read d.query) awaited.1,
+    )
+
+pub brought_keeps : (stamp moment : ℕ) → moment ≤ stamp → (ids : List ℕ) (least : ℕ) (objects : List Object)
+    → RiseFrom least ids → IsKept stamp objects → IsFreshFrom stamp least objects
+    → AllByRecursion (IsAwaited moment objects ids) ids → (all : List Brought)
+    → brought_all stamp moment ids objects ≡ Some all
+    → AreKeeping stamp objects (flat_map (acts_of_one moment) all)
+brought_keeps stamp moment within [] least objects rise kept fresh awaited all is =
+    let same : [] ≡ all = cc in
+    subst (λ (l : List Brought). AreKeeping stamp objects (flat_map (acts_of_one moment) l)) same no_act
+brought_keeps stamp moment within (id ∷ ids) least objects rise kept fresh awaited all is =
+    by_one (brought_one objects moment id) refl is
+    (λ next kept fresh awaited more is. brought_keeps stamp moment within ids (suc id) next rise.1 kept fresh awaited
+    more is)
   where
-    by_found : (found : Option Shape) → at_id (map shape_of objects) id ≡ found
-        → put_at (map shape_of objects) id (option_map (λ p. p) (at_id (map shape_of objects) id)) ≡ map shape_of objects
-    by_found None none = ap (λ (p : Option Shape). put_at (map shape_of objects) id (option_map (λ p. p) p)) none
-    by_found (Some p) there =
-        ap (λ (q : Option Shape). put_at (map shape_of objects) id (option_map (λ p. p) q)) there
-        ∙ with_same (map shape_of objects) id p there
+    Others : Type 0
+    Others = (next : List Object) → IsKept stamp next → IsFreshFrom stamp (suc id) next
+        → AllByRecursion (IsAwaited moment next ids) ids → (more : List Brought)
+        → brought_all stamp moment ids next ≡ Some more
+        → AreKeeping stamp next (flat_map (acts_of_one moment) more)
 
-edit_shape : (stamp moment : ℕ) (e : Edits) (o : Object) → shape_of (edited_object stamp moment e o) ≡ shape_of o
-unfolding edited_table
-edit_shape stamp moment e o = by_kind o.kind
-  where
-    by_kind : (k : Kind) → shape_of (edited_object stamp moment e (record o { kind = k })) ≡ shape_of (record o { kind = k })
-    by_kind (TableKind t) = refl
-    by_kind (StreamKind s) = refl
-    by_kind (TaskKind t) = refl
-    by_kind (DynamicKind d t) = refl
+    from : AllByRecursion (λ n. id ≤ n) (id ∷ ids)
+    from = rise_all id (id ∷ ids) (omega arith, rise.1)
 
-put_shape : (f : Dynamic → Dynamic) (o : Object) → shape_of (on_dynamic_object f o) ≡ shape_of o
-put_shape f o = by_kind o.kind
-  where
-    by_kind : (k : Kind) → shape_of (on_dynamic_object f (record o { kind = k })) ≡ shape_of (record o { kind = k })
-    by_kind (TableKind t) = refl
-    by_kind (StreamKind s) = refl
-    by_kind (TaskKind t) = refl
-    by_kind (DynamicKind d t) = refl
+    behind : AllByRecursion (λ n. suc id ≤ n) ids
+    behind = rise_all (suc id) ids rise.1
 
-one_shape : (stamp moment : ℕ) (b : Brought) (objects : List Object)
-    → map shape_of (after_one stamp moment b objects) ≡ map shape_of objects
-one_shape stamp moment b objects = by_edits b.edits
-  where
-    by_edits : (found : Option Edits)
-        → map shape_of (all_acted stamp objects (version_acts b.id moment found ++ PutsDynamic b.id b.state ∷ []))
-        ≡ map shape_of objects
-    by_edits None = shapes_stay _ (put_shape (with_dynamic_state b.state)) objects b.id
-    by_edits (Some e) =
-        shapes_stay _ (put_shape (with_dynamic_state b.state)) (changed_at objects b.id (edited_object stamp moment e)) b.id
-        ∙ shapes_stay _ (edit_shape stamp moment e) objects b.id
+    with_one : (b : Brought) → brought_one objects moment id ≡ Some b → (more : List Brought)
+        → brought_all stamp moment ids (all_acted stamp objects (acts_of_one moment b)) ≡ Some more → Others
+        → AreKeeping stamp objects (flat_map (acts_of_one moment) (b ∷ more))
+    with_one b one more rest others =
+        let next : List Object = all_acted stamp objects (acts_of_one moment b) in
+        let same : b.id ≡ id = brought_id objects moment id b one in
+        let here : AreKeeping stamp objects (acts_of_one moment b) =
+        one_keeps stamp moment objects id b within kept (fresh id rise.0)
+        (head_ready stamp moment objects id ids kept from awaited.0) one in
+        let spares : (other : ℕ) → (other ≡ id → ⊥) → at_id next other ≡ at_id objects other =
+        λ other apart. one_spares stamp moment objects b other (λ at. apart (at ∙ same)) in
+        let stands : IfSome (dynamic_at next id) (λ e. moment ≤ e.state.moment) =
+        subst (λ (n : ℕ). IfSome (dynamic_at next n) (λ e. moment ≤ e.state.moment)) same
+        (subst (λ (n : ℕ). IfSome (dynamic_at next b.id) (λ e. n ≤ e.state.moment))
+        (brought_moment objects moment id b one) (one_stands stamp moment objects b)) in
+        keeping_append stamp objects (acts_of_one moment b) (flat_map (acts_of_one moment) more) here
+        (others next (acts_kept stamp objects (acts_of_one moment b) here kept)
+        (λ other h. subst (λ (found : Option Object). IfSome (option_and_then as_table found) (IsFresh stamp))
+        (sym (spares other (λ at. omega (arith, at, h)))) (fresh other (omega (arith, h, rise.0))))
+        (all_both (λ n. suc id ≤ n) (IsAwaited moment objects (id ∷ ids)) (IsAwaited moment next ids)
+        (λ y h await. rest_awaits moment objects next id ids spares stands y h await) ids behind awaited.1)
+        more rest)
 
-all_shape : (stamp moment : ℕ) (bs : List Brought) (objects : List Object)
-    → map shape_of (after_all stamp moment bs objects) ≡ map shape_of objects
-all_shape stamp moment [] objects = refl
-all_shape stamp moment (b ∷ bs) objects =
-    ap (map shape_of) (after_more stamp moment b bs objects)
-    ∙ all_shape stamp moment bs (after_one stamp moment b objects) ∙ one_shape stamp moment b objects
+    by_rest : (b : Brought) → brought_one objects moment id ≡ Some b → (found : Option (List Brought))
+        → brought_all stamp moment ids (all_acted stamp objects (acts_of_one moment b)) ≡ found
+        → option_map (λ more. b ∷ more) found ≡ Some all → Others
+        → AreKeeping stamp objects (flat_map (acts_of_one moment) all)
+    by_rest b one None rest is others = absurd cc
+    by_rest b one (Some more) rest is others =
+        let same : b ∷ more ≡ all = cc in
+        subst (λ (l : List Brought). AreKeeping stamp objects (flat_map (acts_of_one moment) l)) same
+        (with_one b one more rest others)
 
-pub bound_after : (stamp moment : ℕ) (bs : List Brought) (objects : List Object) (q : DynamicQuery)
-    → query_bound (after_all stamp moment bs objects) q ≡ query_bound objects q
-bound_after stamp moment bs objects q = ap (λ (names : List Named). bound_query q.tree names 0)
-    (names_by (after_all stamp moment bs objects) q.sources
-    ∙ ap (λ (shapes : List Shape). flat_map (named_by shapes) q.sources) (all_shape stamp moment bs objects)
-    ∙ sym (names_by objects q.sources))
-
--- ---- a table that was brought to a moment
-
-filter_last : {X : Type 0} (test : X → Bool) (xs : List X) (x : X) → test x ≡ true
-    → filter test (xs ++ x ∷ []) ≡ filter test xs ++ x ∷ []
-filter_last test [] x passes = rw passes refl
-filter_last test (y ∷ ys) x passes =
-    ap (λ (rest : List _). cond (test y) (y ∷ rest) rest) (filter_last test ys x passes) ∙ by_test (test y)
-  where
-    by_test : (b : Bool) → cond b (y ∷ (filter test ys ++ x ∷ [])) (filter test ys ++ x ∷ [])
-        ≡ cond b (y ∷ filter test ys) (filter test ys) ++ x ∷ []
-    by_test true = refl
-    by_test false = refl
-
-any_last : {X : Type 0} (test : X → Bool) (xs : List X) (x : X)
-    → list_any test (xs ++ x ∷ []) ≡ (list_any test xs || test x)
-any_last test [] x = by_test (test x)
-  where
-    by_test : (b : Bool) → (b || false) ≡ (false || b)
-    by_test true = refl
-    by_test false = refl
-any_last test (y ∷ ys) x = ap (λ (rest : Bool). test y || rest) (any_last test ys x) ∙ by_test (test y)
-  where
-    by_test : (b : Bool) → (b || (list_any test ys || test x)) ≡ ((b || list_any test ys) || test x)
-    by_test true = refl
-    by_test false = refl
-
-pub refreshed_rows : (stamp moment : ℕ) (e : Edits) (t : Table)
-    → rows_at (edited_table stamp moment e t) moment ≡ last_rows (edited_table stamp moment e t)
-unfolding edited_table
-refreshed_rows stamp moment e t =
-    let v : Version = version_for stamp moment (next_contents e t) in
-    let now : nat_le moment moment ≡ true = grind (arith, nat_tests) in
-    ap (λ (vs : List Version). (content_in nothing_held (last_of vs)).rows)
-    (filter_last (λ w. nat_le w.data_timestamp moment) t.versions v now)
-    ∙ ap (λ (w : Option Version). (content_in nothing_held w).rows)
-    (last_more (filter (λ w. nat_le w.data_timestamp moment) t.versions) v ∙ sym (last_more t.versions v))
-
-pub refreshed_between : (stamp moment from : ℕ) (e : Edits) (t : Table)
-    → has_version_between from moment (edited_table stamp moment e t)
-    ≡ (has_version_between from moment t || nat_lt from moment)
-unfolding edited_table
-refreshed_between stamp moment from e t =
-    let v : Version = version_for stamp moment (next_contents e t) in
-    let now : nat_le moment moment ≡ true = grind (arith, nat_tests) in
-    any_last (λ w. nat_lt from w.data_timestamp && nat_le w.data_timestamp moment) t.versions v
-    ∙ ap (λ (b : Bool). has_version_between from moment t || (nat_lt from moment && b)) now
-    ∙ ap (λ (b : Bool). has_version_between from moment t || b) (by_test (nat_lt from moment))
-  where
-    by_test : (b : Bool) → (b && true) ≡ b
-    by_test true = refl
-    by_test false = refl
+    by_one : (found : Option Brought) → brought_one objects moment id ≡ found
+        → brought_then (brought_all stamp moment ids) stamp moment objects found ≡ Some all → Others
+        → AreKeeping stamp objects (flat_map (acts_of_one moment) all)
+    by_one None one is others = absurd cc
+    by_one (Some b) one is others =
+        by_rest b one (brought_all stamp moment ids (all_acted stamp objects (acts_of_one moment b))) refl is others

@@ -27,7 +27,8 @@ use Rattle.wh_net.specs.Stream.{rows_at, records_between, shown}
 use Rattle.wh_net.proofs.NetLaws.{patched}
 use Rattle.wh_machine.specs.Outcome.{Machine, Outcome, Refuses, Does, settled}
 use Rattle.wh_machine.specs.Sound.{SoundMachine}
-use Rattle.wh_machine.specs.Consuming.{base_in, base_at, Extends, IsLaterStream, IsLaterKind, IsLater, AreLater, rows_then, shown_of}
+use Rattle.wh_machine.specs.Consuming.{base_in, base_at, Extends, IsLaterStream, IsLaterKind, IsLater, AreLater}
+use Rattle.wh_machine.specs.Consuming.{rows_then, shown_of}
 use Rattle.wh_machine.specs.Consuming.{shown_to, consumed, batches, all_patched, rows_consumed}
 use Rattle.wh_machine.specs.Step.{Event, reading_of, stamp_of, decided, step, after}
 use Rattle.wh_machine.proofs.Lawful.{AllMoveOn, IsLawful}
@@ -193,7 +194,8 @@ acts_later s objects (MakesTask name minutes after runs ∷ acts) on later =
     acts_later s (acted s.last objects (MakesTask name minutes after runs)) acts on.1
     (more_extends (IsLater s.last) s.objects objects _ later)
 acts_later s objects (PutsTask id state ∷ acts) on later =
-    acts_later s (acted s.last objects (PutsTask id state)) acts on.1 (tasked_later s objects id (with_state state) later)
+    acts_later s (acted s.last objects (PutsTask id state)) acts on.1
+    (tasked_later s objects id (with_state state) later)
 acts_later s objects (BeginsRun root tasks ∷ acts) on later =
     acts_later s (acted s.last objects (BeginsRun root tasks)) acts on.1
     (tasked_later s objects root (with_run tasks) later)
@@ -428,8 +430,8 @@ offset_passed m sound id s at =
     subst (IsSoundKind m.state.committed m.state.objects) here.kind is in
     omega (arith, within, sound.state.ordered)
 
--- the batches in which a standard stream on a table was consumed, made one after the other on the rows of its source at its
--- offset, give those at the offset that it has at last: nothing is lost, and nothing comes twice
+-- the batches in which a standard stream on a table was consumed, made one after the other on the rows of its source at
+-- its offset, give those at the offset that it has at last: nothing is lost, and nothing comes twice
 pub batches_lead : (id : ℕ) (m : Machine) (es : List Event) → SoundMachine m → (s : Stream) (t : Table)
     → stream_at m.state.objects id ≡ Some s → s.is_append_only ≡ false → base_at m.state.objects s.source ≡ Some t
     → all_patched (rows_at t s.offset) (batches id m es)

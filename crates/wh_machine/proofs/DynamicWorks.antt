@@ -85,7 +85,7 @@ standing_of s m reached =
 
 -- ---- lags
 
-lag_is : (lag : Lag) → first_of (lag_refusals lag) ≡ None → IsLag (seconds_of lag)
+pub lag_is : (lag : Lag) → first_of (lag_refusals lag) ≡ None → IsLag (seconds_of lag)
 lag_is lags.Downstream none = inl refl
 lag_is (lags.Seconds n) none =
     let least = passed (refused_if (nat_lt n (bound limits.LeastTargetLag)) (OverLimit limits.LeastTargetLag)) _ none in
@@ -102,7 +102,7 @@ lag_is (lags.Seconds n) none =
 -- ---- acts of refreshes
 
 -- they drop nothing
-refresh_spares : (id stamp : ℕ) (objects : List StoredObject) (acts : List Act) → AllByRecursion IsOfRefresh acts
+pub refresh_spares : (id stamp : ℕ) (objects : List StoredObject) (acts : List Act) → AllByRecursion IsOfRefresh acts
     → AllByRecursion (ChangeSpares id) (written stamp objects acts)
 refresh_spares id stamp objects [] are = tt
 refresh_spares id stamp objects (act ∷ acts) are =
@@ -304,7 +304,7 @@ module _ (s : Stored) (m : Machine) (reached : IsReached s m) where
   works_brings reply lines acts besides id moment live is =
       works_made s m reply acts reached
       (λ other. refresh_spares other m.state.last s.objects acts
-      (subst AreOfRefresh is (refresh_acts m.state besides id moment)).1)
+      (subst (AreOfRefresh m.state) is (refresh_acts m.state besides id moment)).are)
       (refresh_goes s.objects m.state (objects_meant s m reached) reached.firm (standing_of s m reached) besides id moment
       live lines acts is)
 

@@ -21,13 +21,14 @@ use Rattle.wh_state.proofs.SoundLaws.{AreKeeping}
 use Rattle.wh_machine.specs.Transaction.{Transaction}
 use Rattle.wh_machine.specs.Sessions.{Sessions}
 use Rattle.wh_machine.specs.Outcome.{Machine, Outcome, Refuses, Does, answers, unless, last_test, settled, acts_in}
-use Rattle.wh_machine.specs.Sound.{IsTableAt, ChangesTables, AllChangeTables}
+use Rattle.wh_machine.specs.Sound.{AreBegun, IsTableAt, ChangesTables, AllChangeTables}
 
 -- ---- outcomes
 
 pub record IsReady (m : Machine) : Type 0 where
   pub later : m.state.committed < m.state.last
   pub sound : Sound m.state
+  pub begun : AreBegun m.state.last m.sessions
   pub tables : AllChangeTables m.state.objects m.sessions
 
 abbrev pub KeepsState : Machine → Option (List Act) → Type 0

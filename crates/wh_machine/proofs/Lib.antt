@@ -11,6 +11,11 @@ pub mod ReplyLaws
 pub mod KeepingLaws
 pub mod TableNamed
 pub mod PlainLaws
+pub mod BroughtLaws
+pub mod MadeQuery
+pub mod RefreshKeeps
+pub mod DynamicKeeps
+pub mod EventKeeps
 pub mod SoundLaws
 pub mod ConsumingLaws
 pub mod MoveLaws
@@ -25,6 +30,7 @@ pub mod KnownEvents
 pub mod KnownChanges
 pub mod KnownStops
 pub mod KnownStreams
+pub mod KnownDynamics
 pub mod KnownTests
 pub mod GotLaws
 pub mod StandLaws
@@ -60,3 +66,8 @@ pub mod EvaluatedLaws
 pub mod BroughtWorks
 pub mod RefreshGoes
 pub mod DynamicWorks
+pub mod DynamicNames
+pub mod BehindLaws
+pub mod TokensFilled
+pub mod OutputLaws
+pub mod DynamicMade

@@ -272,8 +272,8 @@ moved_by m session _ = []
 pub statement : (m : Machine) (session : ℕ) (wrong : Option Refusal) (b : Bound)
     → IsLawful m (moved_by m session b) (carried_out m session wrong b)
 unfolding carried_out begin commit rollback changes_rows selects has_data create_table drop_table create_stream
-    drop_stream create_task resume_task suspend_task execute_task drop_task create_dynamic resume_dynamic suspend_dynamic
-    refresh_dynamic set_lag drop_dynamic
+    drop_stream create_task resume_task suspend_task execute_task drop_task create_dynamic resume_dynamic
+    suspend_dynamic refresh_dynamic set_lag drop_dynamic
 statement m session wrong ddl.Begin = tested m _ _ (begun_holds m session)
 statement m session wrong ddl.Commit = commit_holds m session (transaction_in m.sessions session) refl
 statement m session wrong ddl.Rollback = rollback_holds m session (transaction_in m.sessions session)

@@ -110,12 +110,12 @@ edits_plain stamp least objects (entry ∷ others) more rising tables still =
     plain_edit rising.0 (no_dynamic objects entry.0 tables.0)
     (edits_plain stamp (suc entry.0) objects others more rising.1 tables.1 still)
 
-pub plain_more : (stamp least : ℕ) (objects : List Object) (acts more : List Act) → ArePlain stamp objects least acts
+pub plain_more : (stamp : ℕ) (objects : List Object) (least : ℕ) (acts more : List Act) → ArePlain stamp objects least acts
     → AllByRecursion (IsStill stamp) more → ArePlain stamp objects least (acts ++ more)
-plain_more stamp least objects acts more (no_more_edit still) others =
+plain_more stamp objects least acts more (no_more_edit still) others =
     no_more_edit (all_append (IsStill stamp) acts more still others)
-plain_more stamp least objects (EditsRows id e ∷ acts) more (plain_edit from base rest) others =
-    plain_edit from base (plain_more stamp (suc id) objects acts more rest others)
+plain_more stamp objects least (EditsRows id e ∷ acts) more (plain_edit from base rest) others =
+    plain_edit from base (plain_more stamp objects (suc id) acts more rest others)
 
 abbrev pub PlainActs : Machine → Option (List Act) → Type 0
 PlainActs m None = Unit {0}
@@ -174,6 +174,11 @@ staged_tables objects t id streams next e tables is q s held =
     by_tie true tied held = subst (IsTableAt objects) (sym (number_tied q id tied)) is
     by_tie false tied held = tables q s held
 
+staged_number : (t : Transaction) (id : ℕ) (streams : List ℕ) (next : ℕ) (e : Effect)
+    → (staged t id streams next e).number ≡ t.number
+unfolding staged
+staged_number t id streams next e = refl
+
 pub tables_of : (objects : List Object) (sessions : Sessions) (session : ℕ) → AllChangeTables objects sessions
     → ChangesTables objects (transaction_in sessions session)
 tables_of objects [] session tables = tt
@@ -187,14 +192,9 @@ pub changed_keeps : (m : Machine) (session : ℕ) (t : Option Transaction) → t
 changed_keeps m session t is (Fails why) ready table = refused m why ready
 changed_keeps m session None is (Gives id streams change e) ready table =
     recorded_keeps m (reply_to change e) m.sessions (staged_in_state m.state (begun m.state.last) id streams e) ready
-    (number_same (begun m.state.last) id streams (next_row_of (table_at m.state.objects id)) e (omega arith))
+    (omega (arith, staged_number (begun m.state.last) id streams (next_row_of (table_at m.state.objects id)) e))
     (staged_tables m.state.objects (begun m.state.last) id streams (next_row_of (table_at m.state.objects id)) e
     (begun_tables m.state.objects m.state.last) table) ready.tables
-  where
-    number_same : (t : Transaction) (id : ℕ) (streams : List ℕ) (next : ℕ) (e : Effect) → t.number ≤ m.state.last
-        → (staged t id streams next e).number ≤ m.state.last
-    unfolding staged
-    number_same t id streams next e h = h
 changed_keeps m session (Some t) is (Gives id streams change e) ready table =
     does m (reply_to change e) _ None tt
     (all_with (ChangesTables m.state.objects) m.sessions (suc session) _ ready.tables
@@ -207,6 +207,6 @@ pub ends_keep : (m : Machine) (root : ℕ) (r : Task) (task : ℕ) (ending : End
     → IsReady m → ArePlain m.state.last m.state.objects 0 acts
     → IsKeeping m (ends_as m root r task ending reply acts)
 ends_keep m root r task ending reply acts ready plain =
-    does m reply m.sessions _ (plain_commits m _ ready (plain_more m.state.last 0 m.state.objects acts
+    does m reply m.sessions _ (plain_commits m _ ready (plain_more m.state.last m.state.objects 0 acts
     (end_acts m.state.objects root r task ending) plain
     (tasks_still m.state.last _ (end_is m.state.objects root r task ending)))) ready.tables

@@ -3,7 +3,8 @@
 --     brought_id, brought_ids       what is brought by a refresh are the tables that it goes over
 --     IsRefresh, refresh_acts       versions by rising ids, of tables that are no base tables, and states
 --     dynamic_lawful                the outcomes of dynamic tables are lawful
-use Rattle.std.proofs.Common.{◌≡◌, ℕ, zero, suc, ◌≤◌, Bool, true, false, cond, List, [], ◌∷◌, ◌++◌, map, Option, Some, None}
+use Rattle.std.proofs.Common.{◌≡◌, ℕ, zero, suc, ◌≤◌, Bool, true, false, cond, List, [], ◌∷◌, ◌++◌, map, Option, Some}
+use Rattle.std.proofs.Common.{None}
 use Rattle.std.proofs.Common.{option_map, refl, sym, ap, subst, ◌∙◌, arith}
 use Rattle.std.specs.Prelude.{slice_get}
 use Rattle.std.specs.List.{AllByRecursion, flat_map}
@@ -29,7 +30,8 @@ use Rattle.wh_moment.specs.Moment.{behind_failure}
 use Rattle.wh_moment.specs.Rebase.{rebase}
 use Rattle.wh_moment.proofs.UpstreamLaws.{RiseFrom, brought_rise, IsWatched, brought_watched, watched_kind}
 use Rattle.wh_machine.specs.Tests.{first_of}
-use Rattle.wh_machine.specs.Refresh.{Brought, brought_as, brought_by, brought_with, brought_one, action_of, version_acts}
+use Rattle.wh_machine.specs.Refresh.{Brought, brought_as, brought_by, brought_with, brought_one, action_of}
+use Rattle.wh_machine.specs.Refresh.{version_acts}
 use Rattle.wh_machine.specs.Refresh.{acts_of_one, brought_then, brought_all, number_refusal, first_lost, told_of}
 use Rattle.wh_machine.specs.Refresh.{Refreshing, Fails, Brings, unless_past, refresh_by, with_upstream, refresh}
 use Rattle.wh_machine.specs.Outcome.{Machine, Outcome, Refuses, commits}

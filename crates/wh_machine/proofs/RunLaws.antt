@@ -23,12 +23,14 @@ use Rattle.wh_machine.specs.Outcome.{Machine, Outcome, Refuses, Does, unless, se
 use Rattle.wh_machine.specs.Reading.{start_in, rows_read}
 use Rattle.wh_machine.specs.Statements.{bound_changed, changes_in}
 use Rattle.wh_machine.specs.Ticks as ticks
-use Rattle.wh_machine.specs.Ticks.{Verdict, Holds, HoldsNot, verdict, body_bound, carried_in, runs_by, runs_task, run_task}
+use Rattle.wh_machine.specs.Ticks.{Verdict, Holds, HoldsNot, verdict, body_bound, carried_in, runs_by, runs_task}
+use Rattle.wh_machine.specs.Ticks.{run_task}
 use Rattle.wh_machine.specs.Ticks.{scheduled_acts, starts_run, refreshes, does_action, action_at, ticked}
 use Rattle.wh_machine.specs.Dynamics.{scheduled}
 use Rattle.wh_moment.specs.Upstream.{dynamics_of}
 use Rattle.wh_moment.specs.Moment.{due_table}
-use Rattle.wh_machine.specs.Consuming.{consumed, change_reads, task_reads, action_consumes, event_consumes, has_succeeded}
+use Rattle.wh_machine.specs.Consuming.{consumed, change_reads, task_reads, action_consumes, event_consumes}
+use Rattle.wh_machine.specs.Consuming.{has_succeeded}
 use Rattle.wh_machine.specs.Step.{Event, Tick, step}
 use Rattle.wh_machine.proofs.MoveLaws.{read_to}
 use Rattle.wh_machine.proofs.Lawful.{IsLawful}
@@ -63,7 +65,8 @@ task_stays m root task id s (Some r) (Some t) at otherwise =
     runs_stay m root r task id s t.runs.body (verdict m t.runs.when) at otherwise
 
 -- what is lawful and moves none
-unmoved_stays : (m : Machine) (id : ℕ) (s : Stream) (o : Outcome) → IsLawful m [] o → stream_at m.state.objects id ≡ Some s
+unmoved_stays : (m : Machine) (id : ℕ) (s : Stream) (o : Outcome) → IsLawful m [] o
+    → stream_at m.state.objects id ≡ Some s
     → stream_at (settled m o).0.state.objects id ≡ Some s
 unmoved_stays m id s (Refuses why) holds at = at
 unmoved_stays m id s (Does reply sessions None) holds at = at
@@ -89,7 +92,8 @@ unfolding run_task
 action_stays m id s (RunsTask root task) at otherwise =
     task_stays m root task id s (task_at m.state.objects root) (task_at m.state.objects task) at otherwise
 action_stays m id s (StartsRun root) at otherwise = start_stays m root id s (task_at m.state.objects root) at
-action_stays m id s DoesNothing at otherwise = due_stays m id s (due_table (dynamics_of m.state.objects) m.state.last) at
+action_stays m id s DoesNothing at otherwise =
+    due_stays m id s (due_table (dynamics_of m.state.objects) m.state.last) at
 
 pub others_stay : (reading id : ℕ) (m : Machine) (s : Stream) → stream_at m.state.objects id ≡ Some s
     → has_succeeded (step m (Tick reading)).1 ≡ false

@@ -139,14 +139,16 @@ seen_fits s m session id o t reached there is =
     own_of : (k : StoredKind) (stamp : ℕ) (e : Edits) → table_in k ≡ Some t
         → (table_in (kind_meant k) ≡ Some (table_meant t))
         × (table_in (edited_kind stamp stamp e (kind_meant k)) ≡ Some (edited_table stamp stamp e (table_meant t)))
-    own_of (TableKind u) stamp e is = let same : u ≡ t = cc in
-        (ap (λ (t : StoredTable). Some (table_meant t)) same,
-        ap (λ (t : StoredTable). Some (edited_table stamp stamp e (table_meant t))) same)
+    own_of (TableKind u) stamp e is = let same : u ≡ t = cc in (
+      ap (λ (t : StoredTable). Some (table_meant t)) same,
+      ap (λ (t : StoredTable). Some (edited_table stamp stamp e (table_meant t))) same,
+    )
     own_of (StreamKind s) stamp e is = absurd cc
     own_of (TaskKind t) stamp e is = absurd cc
-    own_of (DynamicKind d u) stamp e is = let same : u ≡ t = cc in
-        (ap (λ (t : StoredTable). Some (table_meant t)) same,
-        ap (λ (t : StoredTable). Some (edited_table stamp stamp e (table_meant t))) same)
+    own_of (DynamicKind d u) stamp e is = let same : u ≡ t = cc in (
+      ap (λ (t : StoredTable). Some (table_meant t)) same,
+      ap (λ (t : StoredTable). Some (edited_table stamp stamp e (table_meant t))) same,
+    )
 
     by_staged : (stamp : ℕ) (found : Option Staged)
         → ((st : Staged) → found ≡ Some st → EditsFit t.columns st.edits)
@@ -155,7 +157,10 @@ seen_fits s m session id o t reached there is =
     by_staged stamp None fit = (table_meant t, ((own_of o.kind stamp no_edits is).0, firm_rows t firm))
     by_staged stamp (Some st) fit = (
       edited_table stamp stamp st.edits (table_meant t),
-      ((own_of o.kind stamp st.edits is).1, edited_fits t.columns stamp st.edits (table_meant t) (fit st refl) (firm_rows t firm)),
+      (
+        (own_of o.kind stamp st.edits is).1,
+        edited_fits t.columns stamp st.edits (table_meant t) (fit st refl) (firm_rows t firm),
+      ),
     )
 
     holds : (e : Edits) → FoundAt (HoldsEdits e) s.objects id → EditsFit t.columns e

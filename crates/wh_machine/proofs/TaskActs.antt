@@ -15,7 +15,8 @@ use Rattle.wh_state.specs.Act.{Act, MakesTable, DropsObject, EditsRows, MakesStr
 use Rattle.wh_state.specs.Act.{BeginsRun, EndsTask, MakesDynamic, PutsDynamic, RefreshesRows, acted, all_acted}
 use Rattle.wh_state.specs.Objects.{stream_at}
 use Rattle.wh_state.proofs.AllLaws.{all_map, all_append}
-use Rattle.wh_state.proofs.ActLaws.{AreNoEdits, AreEditsFrom, no_more_edits, other_act, next_edit, next_refresh, no_edits_from}
+use Rattle.wh_state.proofs.ActLaws.{AreNoEdits, AreEditsFrom, no_more_edits, other_act, next_edit, next_refresh}
+use Rattle.wh_state.proofs.ActLaws.{no_edits_from}
 use Rattle.wh_graph.specs.Graph.{is_under_way, has_failed, skipped_behind, run_behind}
 use Rattle.wh_graph.specs.Root.{state_behind}
 use Rattle.wh_machine.specs.Outcome.{Machine, commits}
@@ -130,7 +131,8 @@ pub spares_tasks : (m : Machine) (acts : List Act) → AllByRecursion IsOfTasks 
 spares_tasks m acts are id s at =
     spares_all m.state.last m.state.objects acts (all_move_none m.state acts (all_define acts are)) id s at
 
-pub ends_spare : (m : Machine) (root : ℕ) (r : Task) (task : ℕ) (ending : Ending) (acts : List Act) (id : ℕ) (s : Stream)
+pub ends_spare : (m : Machine) (root : ℕ) (r : Task) (task : ℕ) (ending : Ending) (acts : List Act) (id : ℕ)
+    → (s : Stream)
     → stream_at (all_acted m.state.last m.state.objects acts) id ≡ Some s
     → stream_at (all_acted m.state.last m.state.objects (acts ++ end_acts m.state.objects root r task ending)) id
     ≡ Some s

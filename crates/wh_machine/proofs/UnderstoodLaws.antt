@@ -1,7 +1,7 @@
 -- The texts of the tasks and dynamic tables that acts make are understood.
 --     AreUnderstood         so it is of the acts of a commit, where there is one
---     IsSpelledEvent        what CREATE TASK and CREATE DYNAMIC TABLE keep of their texts spells what the task runs, and
---                           the query
+--     IsSpelledEvent        what CREATE TASK and CREATE DYNAMIC TABLE keep of their texts spells what the task runs,
+--                           and the query
 --     outcome_understood    so the acts of what an event comes to are understood
 use Rattle.std.proofs.Common.{◌≡◌, ℕ, Bool, true, false, cond, List, [], ◌∷◌, ◌++◌, map, Option, Some, None}
 use Rattle.std.specs.Prelude.{option_map, unwrap_or, nat_eq, nat_lt}
@@ -45,8 +45,10 @@ use Rattle.wh_machine.specs.Statements.{begin, recorded, commit_of, commit, roll
 use Rattle.wh_machine.specs.Statements.{changes_in, changes_rows, selects, carried_out, meant_in}
 use Rattle.wh_machine.specs.Tasks.{live_tasks, body_of, is_same_state, put_to, resumed_state, suspended_state}
 use Rattle.wh_machine.specs.Tasks.{create_task, resume_task, suspend_task, execute_task, drop_task}
-use Rattle.wh_machine.specs.Ticks.{body_bound, Verdict, Fails, Holds, HoldsNot, verdict, count_acts, graph_acts, end_acts}
-use Rattle.wh_machine.specs.Ticks.{ends_as, carried_in, runs_by, runs_task, run_task, starts_run, does_action, action_at}
+use Rattle.wh_machine.specs.Ticks.{body_bound, Verdict, Fails, Holds, HoldsNot, verdict, count_acts, graph_acts}
+use Rattle.wh_machine.specs.Ticks.{end_acts}
+use Rattle.wh_machine.specs.Ticks.{ends_as, carried_in, runs_by, runs_task, run_task, starts_run, does_action}
+use Rattle.wh_machine.specs.Ticks.{action_at}
 use Rattle.wh_machine.specs.Ticks.{refreshes, ticked}
 use Rattle.wh_ast.specs.declared.statement.Initialize.{Initialize}
 use Rattle.wh_ast.specs.declared.statement.Initialize.TheVariants as starts
@@ -241,8 +243,8 @@ IsSpelledBound _ = Unit {0}
 statement_is : (m : Machine) (session : ℕ) (wrong : Option Refusal) (b : Bound) → IsSpelledBound b
     → Understands (carried_out m session wrong b)
 unfolding carried_out begin commit rollback changes_rows selects has_data create_table drop_table create_stream
-    drop_stream create_task resume_task suspend_task execute_task drop_task create_dynamic resume_dynamic suspend_dynamic
-    refresh_dynamic set_lag drop_dynamic
+    drop_stream create_task resume_task suspend_task execute_task drop_task create_dynamic resume_dynamic
+    suspend_dynamic refresh_dynamic set_lag drop_dynamic
 statement_is m session wrong ddl.Begin spelled = behind _ _ (does tt)
 statement_is m session wrong ddl.Commit spelled = commits_are m session (transaction_in m.sessions session)
 statement_is m session wrong ddl.Rollback spelled = ends_are m session (transaction_in m.sessions session)

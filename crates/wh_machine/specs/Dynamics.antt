@@ -2,7 +2,8 @@
 --     create_dynamic, drop_dynamic                            their outcomes
 --     suspend_dynamic, resume_dynamic, set_lag, refresh_dynamic     those of ALTER
 --     scheduled                                               the refresh of a table that is due
-use Rattle.std.specs.Prelude.{ℕ, zero, suc, ◌+◌, Bool, true, false, not, ◌&&◌, if◌then◌else◌, List, [], ◌∷◌, ◌++◌, length, map}
+use Rattle.std.specs.Prelude.{ℕ, zero, suc, ◌+◌, Bool, true, false, not, ◌&&◌, if◌then◌else◌, List, [], ◌∷◌, ◌++◌}
+use Rattle.std.specs.Prelude.{length, map}
 use Rattle.std.specs.Prelude.{Option, Some, None, option_map, nat_eq, nat_lt}
 use Rattle.std.specs.List.{filter, list_any}
 use Rattle.std.specs.Option.{option_map_or}
@@ -106,8 +107,8 @@ dynamic_refusal s wrong n query = first_of (
 -- the suspended one with the least id
 abbrev pub first_suspended : List Object → List ℕ → Option Refusal
 first_suspended objects [] = None
-first_suspended objects (id ∷ ids) = if is_suspended_at (dynamics_of objects) id then Some (IsSuspended (name_at objects id))
-    else first_suspended objects ids
+first_suspended objects (id ∷ ids) = if is_suspended_at (dynamics_of objects) id
+    then Some (IsSuspended (name_at objects id)) else first_suspended objects ids
 
 -- to the event's stamp, where neither the table nor one of its upstream is suspended
 abbrev pub asked_refresh : State → ℕ → Refreshing
@@ -149,7 +150,8 @@ is_same_dynamic_state a b = nat_eq a.lag b.lag && is_same_truth a.is_suspended b
 -- none where it is so already
 abbrev pub puts_dynamic : ℕ → (DynamicState → DynamicState) → Option Dynamic → List Act
 puts_dynamic id new None = []
-puts_dynamic id new (Some d) = if is_same_dynamic_state d.state (new d.state) then [] else PutsDynamic id (new d.state) ∷ []
+puts_dynamic id new (Some d) =
+    if is_same_dynamic_state d.state (new d.state) then [] else PutsDynamic id (new d.state) ∷ []
 
 abbrev pub alters : Machine → Reply → ℕ → (DynamicState → DynamicState) → Outcome
 alters m reply id new = commits m reply (puts_dynamic id new (dynamic_at m.state.objects id))
@@ -203,7 +205,8 @@ is_fifth s = nat_eq (s.failures + 1) most_failed_refreshes
 
 abbrev pub failed_of : Machine → ℕ → ℕ → Refusal → Option Dynamic → Outcome
 failed_of m id target why None = Refuses why
-failed_of m id target why (Some d) = commits m (RefreshFailed (name_at m.state.objects id) target why (is_fifth d.state))
+failed_of m id target why (Some d) = commits m
+    (RefreshFailed (name_at m.state.objects id) target why (is_fifth d.state))
     (PutsDynamic id (behind_failure target d.state) ∷ [])
 
 abbrev pub scheduled_by : Machine → ℕ → ℕ → Refreshing → Outcome

@@ -4,7 +4,8 @@
 --     rows_read           the rows of an object; instance_read, those of the sources of a statement
 --     reading_refusal     the first test that reading sources fails
 --     has_data            SYSTEM$STREAM_HAS_DATA
-use Rattle.std.specs.Prelude.{ℕ, Bool, false, ◌&&◌, min, List, [], ◌∷◌, ◌++◌, length, map, Option, Some, None, option_map}
+use Rattle.std.specs.Prelude.{ℕ, Bool, false, ◌&&◌, min, List, [], ◌∷◌, ◌++◌, length, map, Option, Some, None}
+use Rattle.std.specs.Prelude.{option_map}
 use Rattle.std.specs.Prelude.{is_some, nat_eq}
 use Rattle.std.specs.List.{filter}
 use Rattle.std.specs.Option.{option_map_or}
@@ -66,7 +67,8 @@ has_no_version None = false
 has_no_version (Some t) = nat_eq (length t.versions) 0
 
 abbrev pub is_uninitialized : List Object → ℕ → Bool
-is_uninitialized objects id = is_some (dynamic_at objects id) && is_live_at objects id && has_no_version (table_at objects id)
+is_uninitialized objects id =
+    is_some (dynamic_at objects id) && is_live_at objects id && has_no_version (table_at objects id)
 
 abbrev pub uninitialized_refusal : List Object → ℕ → Option Refusal
 uninitialized_refusal objects id = refused_if (is_uninitialized objects id) (NotInitialized (name_at objects id))

@@ -9,7 +9,8 @@ use Rattle.std.specs.List.{filter, flat_map, list_any}
 use Rattle.std.specs.Option.{option_and_then, option_map_or}
 use Rattle.wh_value.specs.Limit.{bound}
 use Rattle.wh_value.specs.declared.limit.Limit.TheVariants as limits
-use Rattle.wh_reply.specs.Reply.{Refusal, OverLimit, SourceGone, NumberOutOfRange, RefreshAction, NoData, Full, Incremental}
+use Rattle.wh_reply.specs.Reply.{Refusal, OverLimit, SourceGone, NumberOutOfRange, RefreshAction, NoData, Full}
+use Rattle.wh_reply.specs.Reply.{Incremental}
 use Rattle.wh_reply.specs.Reply.{Refreshed}
 use Rattle.wh_state.specs.State.{Object, Table, State, last_rows}
 use Rattle.wh_state.specs.Dynamic.{Dynamic, DynamicState, ids_read}

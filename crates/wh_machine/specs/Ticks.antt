@@ -82,7 +82,8 @@ unfoldable pub guard_refusal : Machine → List (List ℕ) → Option Refusal
 guard_refusal m streams = first_of (
     map (unknown_in m.state.objects) streams
     ++ map (no_stream_in m.state.objects) streams
-    ++ reading_refusal m.state.objects m.state.last (flat_map (λ name. option_to_list (id_of name m.state.objects)) streams)
+    ++ reading_refusal m.state.objects m.state.last
+    (flat_map (λ name. option_to_list (id_of name m.state.objects)) streams)
     ∷ [])
 
 -- whether the stream of a name has rows to show now
@@ -159,7 +160,8 @@ abbrev pub runs_by : Machine → ℕ → Task → ℕ → Dml → Verdict → Ou
 runs_by m root r task body (Fails why) = fails_by m root r task why
 runs_by m root r task body HoldsNot = ends_as m root r task Skipped
     (TaskSkipped (name_at m.state.objects task) (aftermath_of m root r task Skipped)) []
-runs_by m root r task body Holds = carried_in m root r task (changes_in m 0 None (bound_changed m 0 (body_bound m body)))
+runs_by m root r task body Holds =
+    carried_in m root r task (changes_in m 0 None (bound_changed m 0 (body_bound m body)))
 
 abbrev pub runs_task : Machine → ℕ → ℕ → Option Task → Option Task → Outcome
 runs_task m root task (Some r) (Some t) = runs_by m root r task t.runs.body (verdict m t.runs.when)

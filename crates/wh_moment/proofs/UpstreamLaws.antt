@@ -3,7 +3,8 @@
 --     upstream_rises    what one reads, by rising ids below its own
 --     brought_rise      those that its refresh brings, and itself the last
 --     brought_watched, watched_kind     each of them is a dynamic table
-use Rattle.std.proofs.Common.{ℕ, zero, suc, ◌+◌, ◌-◌, ◌<◌, ◌≤◌, Bool, true, false, cond, List, [], ◌∷◌, ◌++◌, Option, Some}
+use Rattle.std.proofs.Common.{ℕ, zero, suc, ◌+◌, ◌-◌, ◌<◌, ◌≤◌, Bool, true, false, cond, List, [], ◌∷◌, ◌++◌, Option}
+use Rattle.std.proofs.Common.{Some}
 use Rattle.std.proofs.Common.{None, ◌≡◌, option_map, refl, subst, arith}
 use Rattle.std.specs.Prelude.{◌&&◌, is_some, unwrap_or}
 use Rattle.std.specs.List.{AllByRecursion, filter}
@@ -79,9 +80,11 @@ upstream_rises all id = by_found (watched_at all id)
         × AllByRecursion (λ n. n < id) (option_map_or (λ w. reached_from all (id - 1) w.sources) found [])
     by_found None = (tt, tt)
     by_found (Some w) =
-        let rises = reached_rise all (id - 1) w.sources in
-        (rises.0, all_map (IsWithin 1 (id - 1)) (λ n. n < id) (λ n h. omega (arith, h.0, h.1))
-        (reached_from all (id - 1) w.sources) rises.1)
+        let rises = reached_rise all (id - 1) w.sources in (
+          rises.0,
+          all_map (IsWithin 1 (id - 1)) (λ n. n < id) (λ n h. omega (arith, h.0, h.1))
+              (reached_from all (id - 1) w.sources) rises.1,
+        )
 
 -- the table behind its upstream
 pub with_upstream_rises : (all : Dynamics) (id : ℕ) → RiseFrom 0 (upstream all id ++ id ∷ [])

@@ -104,7 +104,8 @@ task_meant stamp objects c =
     ∙ ap (λ (root : ℕ). map object_meant objects
     ++ new_object c.name (TaskKind (new_task c.minutes c.after root c.runs)) ∷ [])
     (sym (root_meant objects (length objects + 1) c.after)
-    ∙ ap (λ (n : ℕ). root_by (task_at (map object_meant objects)) (n + 1) c.after) (sym (length-map objects object_meant)))
+    ∙ ap (λ (n : ℕ). root_by (task_at (map object_meant objects)) (n + 1) c.after)
+    (sym (length-map objects object_meant)))
 
 dynamic_meant : (stamp : ℕ) (objects : List StoredObject) (c : DynamicChange)
     → map object_meant (changed stamp objects (CreatesDynamic c))
@@ -119,7 +120,8 @@ dropped_meant stamp objects id = map_changed object_meant dropped dropped (λ o.
 
 edits_meant : (stamp moment id : ℕ) (e : Edits) (objects : List StoredObject) (o : StoredObject) (t : StoredTable)
     → at_id objects id ≡ Some o
-    → object_meant (pushed_object stamp (version_change moment id e t) o) ≡ edited_object stamp moment e (object_meant o)
+    → object_meant (pushed_object stamp (version_change moment id e t) o)
+    ≡ edited_object stamp moment e (object_meant o)
     → map object_meant (changed stamp objects (version_written moment id e t))
     ≡ with_id (map object_meant objects) id (edited_object stamp moment e (object_meant o))
 unfolding changed
@@ -149,7 +151,8 @@ edit_meant : (stamp moment : ℕ) (objects : List StoredObject) (id : ℕ) (e : 
     ≡ changed_at (map object_meant objects) id (edited_object stamp moment e)
 edit_meant stamp moment objects id e orderly =
     by_found (at_id objects id) refl orderly
-    ∙ ap (λ (found : Option Object). put_at (map object_meant objects) id (option_map (edited_object stamp moment e) found))
+    ∙ ap (λ (found : Option Object). put_at (map object_meant objects) id
+    (option_map (edited_object stamp moment e) found))
     (sym (at_id_meant objects id))
   where
     by_kind : (o : StoredObject) (k : StoredKind) → at_id objects id ≡ Some o → o.kind ≡ k → IsOrderlyKind k
@@ -178,7 +181,8 @@ edit_meant stamp moment objects id e orderly =
 
     by_found : (found : Option StoredObject) → at_id objects id ≡ found → OrderlyAt found
         → map object_meant (all_changed stamp objects (version_written_to moment id e found))
-        ≡ put_at (map object_meant objects) id (option_map (edited_object stamp moment e) (option_map object_meant found))
+        ≡ put_at (map object_meant objects) id
+        (option_map (edited_object stamp moment e) (option_map object_meant found))
     by_found None none orderly = refl
     by_found (Some o) there orderly = by_kind o o.kind there refl orderly
 
@@ -209,14 +213,15 @@ other_meant stamp objects (MakesTask name minutes after runs) other = task_meant
 other_meant stamp objects (PutsTask id state) other = on_task_meant (with_state state) objects id
 other_meant stamp objects (BeginsRun root tasks) other = on_task_meant (with_run tasks) objects root
 other_meant stamp objects (EndsTask root task ending) other = on_task_meant (with_ended task ending) objects root
-other_meant stamp objects (MakesDynamic name lag is_incremental query columns) other = dynamic_meant stamp objects (record {
-  id = length objects + 1;
-  name = name;
-  lag = lag;
-  is_incremental = is_incremental;
-  query = query;
-  columns = columns;
-})
+other_meant stamp objects (MakesDynamic name lag is_incremental query columns) other =
+    dynamic_meant stamp objects (record {
+      id = length objects + 1;
+      name = name;
+      lag = lag;
+      is_incremental = is_incremental;
+      query = query;
+      columns = columns;
+    })
 other_meant stamp objects (PutsDynamic id state) other = on_dynamic_meant (with_dynamic_state state) objects id
 other_meant stamp objects (RefreshesRows id moment e) other = absurd other
 

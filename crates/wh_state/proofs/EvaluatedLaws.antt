@@ -4,7 +4,8 @@
 --                                   dynamic tables up to their own
 --     next_same, follows_refl       what stays follows itself
 --     bag_follows, bound_follows    the rows of a source, and what a query binds to
---     ids_below, evaluated_follows  so what it gives
+--     ids_read_hold                 what holds of the ids that it is kept with
+--     evaluated_same, evaluated_follows     so what it gives
 use Rattle.std.proofs.Common.{◌≡◌, ℕ, ◌<◌, ◌≤◌, Bool, true, false, cond, List, [], ◌∷◌, ◌++◌, map, length}
 use Rattle.std.proofs.Common.{Option, Some, None, refl, sym, ap, subst, ◌∙◌, arith}
 use Rattle.std.specs.Prelude.{nat_le, bytes_eq}
@@ -164,23 +165,24 @@ pub ids_read_hold : (P : ℕ → Type 0) → P 0 → (q : DynamicQuery) → AllB
 unfolding ids_read
 ids_read_hold P none q all = ids_hold P none q.sources all (query_names q.tree)
 
-instance_same : (old new : List Object) (time : ℕ) (ids : List ℕ)
-    → AllByRecursion (λ id. bag_at new time id ≡ bag_at old time id) ids
-    → instance_at new time ids ≡ instance_at old time ids
-instance_same old new time [] same = refl
-instance_same old new time (id ∷ ids) same =
-    ap (λ (b : Bag). b ∷ instance_at new time ids) same.0
-    ∙ ap (λ (bs : List Bag). bag_at old time id ∷ bs) (instance_same old new time ids same.1)
+instance_same : (old new : List Object) (from to : ℕ) (ids : List ℕ)
+    → AllByRecursion (λ id. bag_at new to id ≡ bag_at old from id) ids
+    → instance_at new to ids ≡ instance_at old from ids
+instance_same old new from to [] same = refl
+instance_same old new from to (id ∷ ids) same =
+    ap (λ (b : Bag). b ∷ instance_at new to ids) same.0
+    ∙ ap (λ (bs : List Bag). bag_at old from id ∷ bs) (instance_same old new from to ids same.1)
 
-pub evaluated_same : (old new : List Object) (time : ℕ) (d : Dynamic)
+-- for a moment and for another, where the rows that it reads are the same
+pub evaluated_same : (old new : List Object) (from to : ℕ) (d : Dynamic)
     → query_bound new d.query ≡ query_bound old d.query
-    → AllByRecursion (λ id. bag_at new time id ≡ bag_at old time id) (ids_read d.query)
-    → evaluated_at new time d ≡ evaluated_at old time d
+    → AllByRecursion (λ id. bag_at new to id ≡ bag_at old from id) (ids_read d.query)
+    → evaluated_at new to d ≡ evaluated_at old from d
 unfolding evaluated_at
-evaluated_same old new time d bound same =
-    ap (λ (b : BoundQuery). eval b.query (instance_at new time (ids_read d.query))) bound
+evaluated_same old new from to d bound same =
+    ap (λ (b : BoundQuery). eval b.query (instance_at new to (ids_read d.query))) bound
     ∙ ap (λ (bags : List Bag). eval (query_bound old d.query).query bags)
-    (instance_same old new time (ids_read d.query) same)
+    (instance_same old new from to (ids_read d.query) same)
 
 -- the dynamic tables that it reads stand for a moment, or later ones
 abbrev pub StandFrom : ℕ → List Object → List ℕ → Type 0
@@ -191,7 +193,7 @@ pub evaluated_follows : (before time : ℕ) (old new : List Object) → Follows 
     → IsThere old d.query → time < before → StandFrom time old (ids_read d.query)
     → evaluated_at new time d ≡ evaluated_at old time d
 evaluated_follows before time old new follows d there within stand =
-    evaluated_same old new time d (bound_follows before old new follows d.query there)
+    evaluated_same old new time time d (bound_follows before old new follows d.query there)
     (all_both (λ id. id ≤ length old) (λ id. IfSome (dynamic_at old id) (λ e. time ≤ e.state.moment))
     (λ id. bag_at new time id ≡ bag_at old time id)
     (λ id here up. bag_follows before time old new follows id here within up) (ids_read d.query)

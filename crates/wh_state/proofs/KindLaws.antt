@@ -1,6 +1,7 @@
 -- The stream of a kind whose table changed, and of one whose stream did, and what stays at another offset.
 use Rattle.std.proofs.Common.{◌≡◌, ℕ, option_map, refl}
-use Rattle.wh_state.specs.State.{Table, Stream, Kind, TableKind, StreamKind, TaskKind, DynamicKind, on_table, on_stream, on_task}
+use Rattle.wh_state.specs.State.{Table, Stream, Kind, TableKind, StreamKind, TaskKind, DynamicKind, on_table, on_stream}
+use Rattle.wh_state.specs.State.{on_task}
 use Rattle.wh_state.specs.State.{on_dynamic}
 use Rattle.wh_state.specs.State.{stream_in}
 use Rattle.wh_state.specs.Task.{Task}

@@ -32,7 +32,8 @@ versions_written : (stamp moment id : ℕ) (e : Edits) (t : StoredTable) → IsO
     ++ version_for stamp moment (contents_after t.next_partition t.next_row e (contents_meant (standing t))) ∷ []
 versions_written stamp moment id e t orderly =
     map-append version_meant t.versions _
-    ∙ ap (λ (new : Contents). map version_meant t.versions ++ version_for stamp moment new ∷ []) (contents_written e t orderly)
+    ∙ ap (λ (new : Contents). map version_meant t.versions ++ version_for stamp moment new ∷ [])
+    (contents_written e t orderly)
 
 -- a table with its next version, from what its last one holds
 abbrev edited_from : ℕ → ℕ → Edits → Table → Contents → Table
@@ -58,14 +59,16 @@ edited_meant stamp moment id e t orderly =
 
 pub edited_object_meant : (stamp moment id : ℕ) (e : Edits) (o : StoredObject) (t : StoredTable) → o.kind ≡ TableKind t
     → IsOrderly (standing t)
-    → object_meant (pushed_object stamp (version_change moment id e t) o) ≡ edited_object stamp moment e (object_meant o)
+    → object_meant (pushed_object stamp (version_change moment id e t) o)
+    ≡ edited_object stamp moment e (object_meant o)
 edited_object_meant stamp moment id e o t is orderly =
     let same = edited_meant stamp moment id e t orderly in
     rw (is, same)
 
 pub edited_dynamic_meant : (stamp moment id : ℕ) (e : Edits) (o : StoredObject) (d : Dynamic) (t : StoredTable)
     → o.kind ≡ DynamicKind d t → IsOrderly (standing t)
-    → object_meant (pushed_object stamp (version_change moment id e t) o) ≡ edited_object stamp moment e (object_meant o)
+    → object_meant (pushed_object stamp (version_change moment id e t) o)
+    ≡ edited_object stamp moment e (object_meant o)
 edited_dynamic_meant stamp moment id e o d t is orderly =
     let same = edited_meant stamp moment id e t orderly in
     rw (is, same)

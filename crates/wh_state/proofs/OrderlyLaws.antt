@@ -243,7 +243,8 @@ orderly_all stamp objects (c ∷ cs) good applies kept =
 
 -- a commit that may be written and applies
 pub orderly_applied : (s : Stored) (c : Commit) → IsCommit c → Applies s c → KeptStored s → KeptStored (applied s c)
-orderly_applied s c good applies kept = orderly_all c.stamp s.objects c.changes good.written.changes applies.changes kept
+orderly_applied s c good applies kept =
+    orderly_all c.stamp s.objects c.changes good.written.changes applies.changes kept
 
 kept_leads : (s : Stored) (commits : List Commit) (new : Stored) → AllByRecursion IsCommit commits → Leads s commits new
     → KeptStored s → KeptStored new

@@ -63,7 +63,7 @@ edited_before stamp moment before id e objects base within other d is = by_id (s
 abbrev IsAsBefore : ℕ → List Object → List Object → Type 0
 IsAsBefore least start objects = (id : ℕ) → least ≤ id → at_id objects id ≡ at_id start id
 
-fresh_at : (s : State) (stamp : ℕ) → s.committed < stamp → Sound s → (id : ℕ)
+pub fresh_at : (s : State) (stamp : ℕ) → s.committed < stamp → Sound s → (id : ℕ)
     → IfSome (table_at s.objects id) (IsFresh stamp)
 fresh_at s stamp later sound id = by_found (at_id s.objects id) refl
   where

@@ -3,7 +3,7 @@
 --     sound_rest                   so is a sound state as the file keeps it
 --     IsStill                      an act that leaves the rows of tables and all of dynamic tables
 --     MayEdit, MayMake, MayPut, MayRefresh     when acts of the others keep objects sound, by the objects that they meet
---     AreKeeping                   acts that do so, one after the other
+--     AreKeeping, acts_kept        acts that do so, one after the other
 --     sound_done                   a commit of such acts at a later stamp
 use Rattle.std.proofs.Common.{◌≡◌, ℕ, zero, suc, ◌<◌, ◌≤◌, ◌⊎◌, inl, inr, Bool, List, [], ◌∷◌, ◌++◌, length, Option, Some, None}
 use Rattle.std.proofs.Common.{IsTrue, refl, sym, ap, subst, ◌∙◌, arith}
@@ -404,7 +404,7 @@ pub data AreKeeping (stamp : ℕ) : List Object → List Act → Type 0 where
       → AreKeeping stamp (acted stamp (acted stamp objects (RefreshesRows id moment e)) (PutsDynamic id state)) acts
       → AreKeeping stamp objects (RefreshesRows id moment e ∷ PutsDynamic id state ∷ acts)
 
-acts_kept : (stamp : ℕ) (objects : List Object) (acts : List Act) → AreKeeping stamp objects acts
+pub acts_kept : (stamp : ℕ) (objects : List Object) (acts : List Act) → AreKeeping stamp objects acts
     → IsKept stamp objects
     → IsKept stamp (all_acted stamp objects acts)
 acts_kept stamp objects acts no_act kept = kept

@@ -18,7 +18,8 @@ use Rattle.std.specs.List.{AllByRecursion}
 use Rattle.std.specs.Option.{IsSomeAnd}
 use Rattle.wh_state.specs.Task.{Ending, TaskRun, Run, TaskState, Task, waiting, ended_as, ended_in, most_failures}
 use Rattle.wh_state.specs.Task.{with_state, with_run, with_ended}
-use Rattle.wh_state.specs.State.{TableKind, StreamKind, TaskKind, DynamicKind, task_in, on_task, at_id, changed_at, dropped}
+use Rattle.wh_state.specs.State.{TableKind, StreamKind, TaskKind, DynamicKind, task_in, on_task, at_id, changed_at}
+use Rattle.wh_state.specs.State.{dropped}
 use Rattle.wh_state.specs.Edits.{is_among}
 use Rattle.wh_state.specs.Stored.{StoredKind, StoredObject}
 use Rattle.wh_state.specs.Spelling.{IdsRiseFrom}

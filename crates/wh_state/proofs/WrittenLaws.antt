@@ -26,7 +26,8 @@ use Rattle.wh_state.specs.Commit.{pushed_object, pushed_kind, offset_set, offset
 use Rattle.wh_state.specs.Commit.{DoesNotFall, FitsObject, TakesOffset, OffsetApplies, ChangeApplies, AllApply}
 use Rattle.wh_state.specs.Written.{version_written_to, act_written, written}
 use Rattle.wh_state.proofs.AllLaws.{all_at}
-use Rattle.wh_state.proofs.ActLaws.{version_change, IsNoEdit, AreEditsFrom, no_more_edits, other_act, next_edit, next_refresh}
+use Rattle.wh_state.proofs.ActLaws.{version_change, IsNoEdit, AreEditsFrom, no_more_edits, other_act, next_edit}
+use Rattle.wh_state.proofs.ActLaws.{next_refresh}
 use Rattle.wh_state.proofs.ActLaws.{edit_leaves, orderly_standing}
 use Rattle.wh_state.proofs.FoundLaws.{FoundAt, found_changed, found_spared, found_more}
 use Rattle.wh_state.proofs.PartLaws.{made_rise}

@@ -14,10 +14,12 @@ use Rattle.wh_value.specs.Limit.{bound}
 use Rattle.wh_value.specs.declared.limit.Limit.TheVariants as limits
 use Rattle.wh_frame.specs.Partition.{Partition, first_number, last_number}
 use Rattle.wh_state.specs.State.{new_table, new_object, new_stream, with_offset, dropped, last_of, at_id, changed_at}
-use Rattle.wh_state.specs.State.{id_of, live_count, VersionOf, KindOf, TableKind, StreamKind, on_table, on_stream, table_in}
+use Rattle.wh_state.specs.State.{id_of, live_count, VersionOf, KindOf, TableKind, StreamKind, on_table, on_stream}
+use Rattle.wh_state.specs.State.{table_in}
 use Rattle.wh_state.specs.State.{stream_in, columns_at}
 use Rattle.wh_state.specs.State.{ObjectOf, TaskKind, DynamicKind, on_task, on_dynamic, task_in, dynamic_in, empty_table}
-use Rattle.wh_state.specs.Task.{TaskTexts, TaskBody, texts_of, TaskState, Ending, TaskRun, Run, Task, new_task, with_state}
+use Rattle.wh_state.specs.Task.{TaskTexts, TaskBody, texts_of, TaskState, Ending, TaskRun, Run, Task, new_task}
+use Rattle.wh_state.specs.Task.{with_state}
 use Rattle.wh_state.specs.Task.{with_run, with_ended, root_by, most_failures}
 use Rattle.wh_state.specs.Dynamic.{DynamicTexts, DynamicQuery, query_texts_of, DynamicState, Dynamic, new_dynamic}
 use Rattle.wh_state.specs.Dynamic.{with_dynamic_state, most_failed_refreshes}
@@ -321,7 +323,8 @@ pub record TaskApplies (objects : List StoredObject) (c : TaskChange) : Type 0 w
   pub minutes : c.minutes ≤ bound limits.MostSchedule
   pub either : (c.after ≡ []) ⊎ (c.minutes ≡ 0)
   pub few_after : length c.after ≤ bound limits.Predecessors
-  pub after : AllByRecursion (λ id. IsLiveTask (λ t. t.root ≡ root_among objects c.id c.after) (at_id objects id)) c.after
+  pub after : AllByRecursion (λ id. IsLiveTask (λ t. t.root ≡ root_among objects c.id c.after) (at_id objects id))
+      c.after
   pub few_tasks : count_of_root objects (root_among objects c.id c.after) < bound limits.GraphTasks
   pub few_children : AllByRecursion (λ id. child_count objects id < bound limits.Children) c.after
 

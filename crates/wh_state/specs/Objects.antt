@@ -7,7 +7,8 @@
 --     is_kind_at                  whether it is of a kind
 use Rattle.std.specs.Prelude.{ℕ, Bool, false, not, ◌&&◌, List, [], map, Option, None, is_some, if◌then◌else◌}
 use Rattle.std.specs.Option.{option_and_then, option_map_or}
-use Rattle.wh_state.specs.State.{ObjectOf, KindOf, Kind, Object, Stream, table_in, stream_in, task_in, dynamic_in, at_id}
+use Rattle.wh_state.specs.State.{ObjectOf, KindOf, Kind, Object, Stream, table_in, stream_in, task_in, dynamic_in}
+use Rattle.wh_state.specs.State.{at_id}
 use Rattle.wh_state.specs.Task.{Task}
 use Rattle.wh_state.specs.Dynamic.{Dynamic}
 

@@ -62,7 +62,8 @@ pub record IsTimelyFor (committed moment : ℕ) (v : Version) : Type 0 where
 
 -- no dynamic table that it reads was created behind it
 abbrev pub IsOlder : List Object → ℕ → ℕ → Type 0
-IsOlder objects created id = IfSome (dynamic_at objects id) (λ e. IfSome (table_at objects id) (λ u. u.created ≤ created))
+IsOlder objects created id =
+    IfSome (dynamic_at objects id) (λ e. IfSome (table_at objects id) (λ u. u.created ≤ created))
 
 -- one that stands for a moment has the rows of its query for it, and one that stands for none has no version
 pub record IsSoundDynamic (committed : ℕ) (objects : List Object) (d : Dynamic) (t : Table) : Type 0 where
