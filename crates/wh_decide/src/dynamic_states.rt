@@ -92,7 +92,9 @@ fn new_lag_refusal(
     lag: Lag,
 ) -> Result<Option<Refusal>, AllocError> {
     let all = catalog.watched(alloc)?;
-    let below = below_refusal(catalog, lag, &upstream(alloc, &all, id)?);
+    let reads = upstream(alloc, &all, id)?;
+    let name = name_of(alloc, catalog, id)?;
+    let below = below_refusal(alloc, catalog, &name, lag, &reads)?;
     let above = above_refusal(alloc, catalog, id, lag)?;
     Ok(below.or(above).or(lag_refusal(lag)))
 }

@@ -185,7 +185,7 @@ fn dynamic_refusal(
         return Ok(Some(why));
     }
     let upstream = new_upstream(alloc, catalog, table)?;
-    if let Some(why) = below_refusal(catalog, table.lag, &upstream) {
+    if let Some(why) = below_refusal(alloc, catalog, &table.name, table.lag, &upstream)? {
         return Ok(Some(why));
     }
     Ok(limit_refusal(catalog, table))

@@ -11,6 +11,7 @@ pub mod ReplyLaws
 pub mod KeepingLaws
 pub mod TableNamed
 pub mod PlainLaws
+pub mod AfterLaws
 pub mod BroughtLaws
 pub mod MadeQuery
 pub mod RefreshKeeps

@@ -25,10 +25,10 @@ pub enum Refusal {
     TypeMismatch,
     /// Changes can't be carried through the query of an incremental table.
     NotIncrementable,
-    /// The lag would be below that of a dynamic table upstream, both in seconds.
+    /// The lag of a dynamic table would be below that of one upstream: their names.
     LagTooShort {
-        lag: u64,
-        upstream: u64,
+        table: Text,
+        upstream: Text,
     },
     /// The root of that name has a run under way.
     RootRunning(Text),

@@ -149,7 +149,7 @@ pub(crate) fn put_refusal(refusal: &Refusal, out: &mut Bytes) -> Result<(), Allo
         Refusal::WrongKind(name) => put_name(b"E8 WrongKind ", name, out),
         Refusal::TypeMismatch => out.extend(b"E9 TypeMismatch"),
         Refusal::NotIncrementable => out.extend(b"E10 NotIncrementable"),
-        Refusal::LagTooShort { lag, upstream } => put_lags(*lag, *upstream, out),
+        Refusal::LagTooShort { table, upstream } => put_lags(table, upstream, out),
         Refusal::RootRunning(root) => put_name(b"E12 RootRunning ", root, out),
         Refusal::RootNotSuspended(root) => put_name(b"E12 RootNotSuspended ", root, out),
         Refusal::HasChildren(child) => put_name(b"E12 HasChildren ", child, out),
@@ -164,12 +164,12 @@ pub(crate) fn put_refusal(refusal: &Refusal, out: &mut Bytes) -> Result<(), Allo
     }
 }
 
-fn put_lags(lag: u64, upstream: u64, out: &mut Bytes) -> Result<(), AllocError>
-    ensures { OnOk result (out.new ≡ out.old ++ (codes "E11 LagTooShort " ++ decimal lag
-        ++ codes " " ++ decimal upstream)) }
+fn put_lags(table: &Text, upstream: &Text, out: &mut Bytes) -> Result<(), AllocError>
+    ensures { OnOk result (out.new ≡ out.old ++ (codes "E11 LagTooShort " ++ table.now
+        ++ codes " " ++ upstream.now)) }
 {
-    put_number(b"E11 LagTooShort ", lag, out)?;
-    put_number(b" ", upstream, out)
+    put_name(b"E11 LagTooShort ", table, out)?;
+    put_name(b" ", upstream, out)
 }
 
 fn put_stale(offset: u64, last_read: u64, out: &mut Bytes) -> Result<(), AllocError>
