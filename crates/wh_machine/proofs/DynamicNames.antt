@@ -19,9 +19,9 @@ use Rattle.wh_ddl_naming.specs.Tables.{column_findings}
 use Rattle.wh_ddl_naming.specs.DynamicTables.{kind_inside, inside}
 use Rattle.wh_ddl_naming.proofs.QueryLaws.{query_alike}
 use Rattle.wh_ddl_naming.proofs.SourceLaws.{NamesRight, id_in, IsSourceNamed, IsSourced, query_sourced}
-use Rattle.wh_state.specs.State.{TableKind, StreamKind, TaskKind, DynamicKind, Object, at_id, columns_in, table_in}
-use Rattle.wh_state.specs.Dynamic.{Source, DynamicQuery}
-use Rattle.wh_state.specs.Bound.{source_kind, named_as, names_among, query_bound, IsLiveSource, HasOneId, but_taken, Binds}
+use Rattle.wh_state.specs.State.{TableKind, StreamKind, TaskKind, DynamicKind, at_id, columns_in, table_in}
+use Rattle.wh_state.specs.Dynamic.{Source}
+use Rattle.wh_state.specs.Bound.{source_kind, named_as, names_among, IsLiveSource, HasOneId, but_taken, Binds}
 use Rattle.wh_state.specs.Stored.{StoredKind, StoredObject, object_meant, kind_meant}
 use Rattle.wh_state.proofs.AllLaws.{all_map, all_both}
 use Rattle.wh_machine.specs.Names.{object_kind, names_from}

@@ -3,10 +3,10 @@
 --     works_suspend_dynamic, works_resume_dynamic, works_lag     other states
 --     works_refresh_dynamic        a refresh that is asked for
 --     works_refreshes              the refresh of a table that is due
-use Rattle.std.proofs.Common.{◌≡◌, ℕ, zero, suc, ◌+◌, ◌≤◌, min, Bool, true, false, cond, List, [], ◌∷◌, ◌++◌, map}
-use Rattle.std.proofs.Common.{Option, Some, None, option_map, refl, sym, ap, subst, ◌∙◌, ◌⊎◌, inl, inr, arith, IsTrue}
+use Rattle.std.proofs.Common.{◌≡◌, ℕ, ◌+◌, ◌≤◌, min, Bool, true, false, cond, List, [], ◌∷◌, map}
+use Rattle.std.proofs.Common.{Option, Some, None, option_map, refl, sym, ap, subst, ◌∙◌, inl, inr, arith}
 use Rattle.std.specs.Prelude.{◌&&◌, not, nat_lt}
-use Rattle.std.specs.List.{AllByRecursion, list_any}
+use Rattle.std.specs.List.{AllByRecursion}
 use Rattle.std.specs.Option.{IsSomeAnd, option_and_then, option_map_or}
 use Rattle.std.proofs.lemmas.Bool.Decides.{nat_tests}
 use Rattle.wh_value.specs.Limit.{bound}
@@ -18,7 +18,7 @@ use Rattle.wh_ddl_naming.specs.Meant.{Meant, first_failing}
 use Rattle.wh_ddl_naming.specs.Objects.{is_same_kind, object_of}
 use Rattle.wh_reply.specs.Reply.{Refusal, Reply, OverLimit, Refreshed, Suspended, Resumed, Altered, RefreshedTables}
 use Rattle.wh_reply.specs.Reply.{RefreshFailed, Idle}
-use Rattle.wh_state.specs.State.{TableKind, StreamKind, TaskKind, DynamicKind, Object, at_id, last_of, dynamic_in}
+use Rattle.wh_state.specs.State.{TableKind, StreamKind, TaskKind, DynamicKind, Object, at_id, last_of}
 use Rattle.wh_state.specs.Dynamic.{DynamicState, Dynamic, most_failed_refreshes}
 use Rattle.wh_state.specs.Objects.{as_dynamic, dynamic_at, is_live_at, name_at}
 use Rattle.wh_state.specs.Act.{Act, MakesTable, DropsObject, EditsRows, MakesStream, MovesOffset, MakesTask, PutsTask}
@@ -29,19 +29,19 @@ use Rattle.wh_state.specs.Stored.{version_meant}
 use Rattle.wh_state.specs.Commit.{IsLag, TakesState, DoesNotFall, all_changed}
 use Rattle.wh_state.specs.Written.{version_written_to, act_written, written}
 use Rattle.wh_state.specs.Sound.{IsTimelyFor, IsSoundObject, IsSoundKind}
-use Rattle.wh_state.proofs.AllLaws.{all_map, all_append, all_at}
+use Rattle.wh_state.proofs.AllLaws.{all_append, all_at}
 use Rattle.wh_state.proofs.FoundLaws.{FoundAt, found_some}
 use Rattle.wh_state.proofs.MeaningLaws.{at_id_meant}
 use Rattle.wh_state.proofs.BelowLaws.{rows_below}
 use Rattle.wh_state.proofs.DynamicFirm.{DynamicHolds, IsFirmDynamic}
-use Rattle.wh_state.proofs.WrittenLaws.{AllGo, ChangeSpares}
+use Rattle.wh_state.proofs.WrittenLaws.{ChangeSpares}
 use Rattle.wh_state.proofs.BroughtGoes.{StateStands}
 use Rattle.wh_moment.specs.Upstream.{Watched, Dynamics, dynamics_of, watched_at, watched_object, upstream}
-use Rattle.wh_moment.specs.Moment.{is_waiting_for, is_due, is_suspended_at, target, sooner, due_among, ids_from, due_table}
+use Rattle.wh_moment.specs.Moment.{is_waiting_for, is_due, target, sooner, due_among, ids_from, due_table}
 use Rattle.wh_moment.specs.Moment.{behind_failure, has_come, grid}
 use Rattle.wh_machine.specs.Tests.{refused_if, refused_past, first_of}
 use Rattle.wh_machine.specs.Names.{object_kind, names_in, refusal_of}
-use Rattle.wh_machine.specs.Outcome.{Machine, Outcome, Does, answers, commits, unless}
+use Rattle.wh_machine.specs.Outcome.{Machine, commits}
 use Rattle.wh_machine.specs.Definitions.{defines}
 use Rattle.wh_machine.specs.Refresh.{Refreshing, Fails, Brings, refresh}
 use Rattle.wh_machine.specs.Dynamics.{seconds_of, lag_refusals, below_refusal, above_refusal, lag_refusal}

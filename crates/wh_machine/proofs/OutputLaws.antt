@@ -26,17 +26,17 @@ use Rattle.wh_naming.specs.Scope.{Named, named, is_source, Entry, Place, places_
 use Rattle.wh_naming.specs.Scope.{column_at, Span, spans_of, columns_of_entry}
 use Rattle.wh_naming.specs.Typing.{Typed, Context, Reading, column_typed, step, typed}
 use Rattle.wh_naming.specs.Select.{Output, BoundQuery, BoundSource, SourcePart, JoinPart, QueryReading, Joined}
-use Rattle.wh_naming.specs.Select.{object_source, named_source, column_of, query_source, first_entry, with_entry, part_name}
+use Rattle.wh_naming.specs.Select.{object_source, named_source, column_of, first_entry, with_entry}
 use Rattle.wh_naming.specs.Select.{with_joins, from_part, Shown, nothing_shown, output_of, with_columns, all_columns}
 use Rattle.wh_naming.specs.Select.{with_span, name_in, output_name, item_context, shown_with, all_shown, bound_core, merged}
 use Rattle.wh_naming.specs.Select.{united, more_cores, all_cores, bound_query}
 use Rattle.wh_naming.specs.Changes.{source_part}
 use Rattle.wh_ddl_naming.proofs.QueryLaws.{join_part, core_reading, query_reads, core_reads, join_reads, named_reads}
 use Rattle.wh_ddl_naming.proofs.QueryLaws.{inner_reads}
-use Rattle.wh_state.proofs.AllLaws.{all_append, all_map}
+use Rattle.wh_state.proofs.AllLaws.{all_append}
 use Rattle.wh_state.proofs.DynamicFirm.{AreFilled}
 use Rattle.wh_machine.proofs.TokensFilled.{TokenFilled, AllFilled, alias_filled}
-use Rattle.wh_machine.proofs.BehindLaws.{expr_behind, item_behind, items_behind, core_behind, source_behind, word_behind}
+use Rattle.wh_machine.proofs.BehindLaws.{expr_behind, item_behind, items_behind, source_behind, word_behind}
 
 -- ---- columns
 

@@ -2,14 +2,13 @@
 --     create_dynamic, drop_dynamic                            their outcomes
 --     suspend_dynamic, resume_dynamic, set_lag, refresh_dynamic     those of ALTER
 --     scheduled                                               the refresh of a table that is due
-use Rattle.std.specs.Prelude.{ℕ, zero, suc, ◌+◌, Bool, true, false, not, ◌&&◌, if◌then◌else◌, List, [], ◌∷◌, ◌++◌}
-use Rattle.std.specs.Prelude.{length, map}
-use Rattle.std.specs.Prelude.{Option, Some, None, option_map, nat_eq, nat_lt}
-use Rattle.std.specs.List.{filter, list_any}
+use Rattle.std.specs.Prelude.{ℕ, suc, ◌+◌, Bool, true, false, not, ◌&&◌, if◌then◌else◌, List, [], ◌∷◌, ◌++◌}
+use Rattle.std.specs.Prelude.{length}
+use Rattle.std.specs.Prelude.{Option, Some, None, nat_eq, nat_lt}
+use Rattle.std.specs.List.{list_any}
 use Rattle.std.specs.Option.{option_map_or}
 use Rattle.wh_value.specs.declared.limit.Limit.TheVariants as limits
 use Rattle.wh_value.specs.Limit.{bound}
-use Rattle.wh_ast.specs.declared.query.Query.{Query}
 use Rattle.wh_ast.specs.declared.statement.Lag.{Lag}
 use Rattle.wh_ast.specs.declared.statement.Lag.TheVariants as lags
 use Rattle.wh_ast.specs.declared.statement.RefreshMode.{RefreshMode}
@@ -21,7 +20,7 @@ use Rattle.wh_ddl_naming.specs.DynamicTables.{NewDynamicTable}
 use Rattle.wh_naming.specs.Findings.{Name}
 use Rattle.wh_ddl_naming.specs.Names.{query_names}
 use Rattle.wh_ddl_naming.specs.Tables.{column_names}
-use Rattle.wh_reply.specs.Reply.{Refusal, OverLimit, NotIncrementable, LagTooShort, IsSuspended, Reply, Refreshed}
+use Rattle.wh_reply.specs.Reply.{Refusal, OverLimit, NotIncrementable, LagTooShort, IsSuspended, Reply}
 use Rattle.wh_reply.specs.Reply.{CreatedDynamicTable, DroppedDynamicTable, Altered, Resumed, Suspended, RefreshedTables}
 use Rattle.wh_reply.specs.Reply.{RefreshFailed}
 use Rattle.wh_state.specs.State.{State, Object}

@@ -2,9 +2,9 @@
 --     IsDueAt, due_is      a due table, with its target
 --     due_some             its target is a moment
 --     due_within           and not behind the stamp, where no table stands for a moment behind it
-use Rattle.std.proofs.Common.{◌≡◌, ℕ, suc, ◌+◌, ◌*◌, ◌/◌, ◌%◌, ◌<◌, ◌≤◌, max, Bool, true, false, cond, List, [], ◌∷◌}
-use Rattle.std.proofs.Common.{Option, Some, None, refl, sym, ap, subst, ◌∙◌, arith}
-use Rattle.std.specs.Prelude.{◌&&◌, not, nat_lt, nat_eq}
+use Rattle.std.proofs.Common.{◌≡◌, ℕ, ◌<◌, ◌≤◌, Bool, true, false, cond, List, [], ◌∷◌}
+use Rattle.std.proofs.Common.{Option, Some, None, refl, subst, arith}
+use Rattle.std.specs.Prelude.{◌&&◌, not, nat_lt}
 use Rattle.std.specs.Option.{option_map_or}
 use Rattle.std.proofs.lemmas.Bool.Decides.{nat_tests}
 use Rattle.std.proofs.lemmas.Nat.{div-add-mod'}
@@ -92,8 +92,12 @@ pub due_within : (all : Dynamics) (stamp : ℕ) (due : ℕ × ℕ) → IsDueAt a
     → ((id : ℕ) → moment_at all id ≤ stamp) → due.1 ≤ stamp
 unfolding target
 due_within all stamp due is each =
-    omega (arith, is.target, by_found (watched_at all due.0),
-    greatest_within all stamp each (upstream all due.0))
+    omega (
+      arith,
+      is.target,
+      by_found (watched_at all due.0),
+      greatest_within all stamp each (upstream all due.0),
+    )
   where
     by_found : (found : Option Watched) → option_map_or (λ w. grid w.state.lag stamp) found 0 ≤ stamp
     by_found None = omega arith
