@@ -84,7 +84,7 @@ unfolding dynamic_refusal
 passes_dynamic s wrong n query none =
     let names = passed wrong _ none in
     let mode = passed (mode_refusal n.mode (incrementable n.query)) _ names.1 in
-    let lags = passed (below_refusal s.objects n.lag
+    let lags = passed (below_refusal s.objects n.name n.lag
     (upstream (dynamics_of (with_dynamic s n query).objects) (new_id s))) _ mode.1 in
     let ids = passed (refused_past limits.ObjectIds (length s.objects + 1)) _ lags.1 in
     let live = passed (refused_past limits.Objects (live_count s.objects + 1 - 0)) _ ids.1 in

@@ -288,7 +288,7 @@ module _ (s : Stored) (m : Machine) (reached : IsReached s m) where
       works_defines s m session None _ reached (λ free.
       works_unless s m (lag_refusal m.state (wrong_in name) (named_table name).value lag) _ reached (λ none.
       let names = passed (wrong_in name) _ none in
-      let below = passed (below_refusal m.state.objects lag
+      let below = passed (below_refusal m.state.objects (name_at m.state.objects (named_table name).value) lag
       (upstream (dynamics_of m.state.objects) (named_table name).value)) _ names.1 in
       let over = passed (above_refusal m.state.objects (named_table name).value lag) _ below.1 in
       works_alters (Altered (name_at m.state.objects (named_table name).value)) (named_table name).value
