@@ -1,7 +1,7 @@
 -- What holds of all tokens holds of those behind an expression or a part of a query.
 --     expr_behind                        behind an expression
 --     name_behind, alias_behind, items_behind, filter_behind, group_behind     and behind parts of queries
-use Rattle.std.specs.Prelude.{ℕ, suc, List, [], ◌∷◌, Option, Some, None, codes, Bool}
+use Rattle.std.specs.Prelude.{ℕ, List, Option, Bool}
 use Rattle.std.specs.List.{AllByRecursion}
 use Rattle.wh_ast.specs.declared.expr.Expr.{Expr}
 use Rattle.wh_ast.specs.declared.query.Item.{Item}
@@ -16,7 +16,8 @@ use Rattle.wh_grammar.specs.Expression as x
 use Rattle.wh_grammar.specs.Expression.{IsNegation, IsWhole, IsAnd, IsNot, IsTest, AreItems, IsSum, IsProduct, IsUnary}
 use Rattle.wh_grammar.specs.Expression.{IsPrim, IsExpr, AreExprs}
 use Rattle.wh_grammar.specs.Query as g
-use Rattle.wh_grammar.specs.Query.{IsAlias, MayHaveAlias, IsItem, MayHaveFilter, MayHaveGroup, IsJoinWord, IsQuery, AreCores}
+use Rattle.wh_grammar.specs.Query.{IsAlias, MayHaveAlias, IsItem, MayHaveFilter, MayHaveGroup, IsJoinWord, IsQuery}
+use Rattle.wh_grammar.specs.Query.{AreCores}
 use Rattle.wh_grammar.specs.Query.{IsCore, IsSource, AreJoins}
 
 module _ (P : Token → Type 0) where

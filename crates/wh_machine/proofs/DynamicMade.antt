@@ -2,12 +2,11 @@
 --     IsFilledDynamic         its name and those of its query are not empty, and its query stands in a text
 --     dynamic_applies         the new table
 --     works_create_dynamic    it is made, and brought to its first moment where it is asked for
-use Rattle.std.proofs.Common.{◌≡◌, ℕ, suc, ◌+◌, ◌-◌, ◌<◌, ◌≤◌, Bool, true, false, List, [], ◌∷◌, ◌++◌, length, map}
-use Rattle.std.proofs.Common.{Option, Some, None, option_map, refl, sym, ap, subst, ◌∙◌, arith, IfSome}
+use Rattle.std.proofs.Common.{◌≡◌, ℕ, suc, ◌+◌, ◌-◌, ◌<◌, ◌≤◌, true, false, List, [], ◌∷◌, ◌++◌, length, map}
+use Rattle.std.proofs.Common.{Option, Some, None, option_map, refl, sym, ap, subst, ◌∙◌, arith}
 use Rattle.std.specs.Prelude.{slice_get}
 use Rattle.std.specs.List.{AllByRecursion, list_any}
 use Rattle.std.specs.Option.{option_map_or}
-use Rattle.wh_value.specs.Column.{Column}
 use Rattle.wh_value.specs.Limit.{bound}
 use Rattle.wh_value.specs.declared.limit.Limit.TheVariants as limits
 use Rattle.wh_ast.specs.declared.statement.CreateDynamicTable.{CreateDynamicTable}
@@ -19,13 +18,14 @@ use Rattle.wh_grammar.specs.Spelled.{most_nested}
 use Rattle.wh_algebra.specs.Increments.{incrementable}
 use Rattle.wh_naming.specs.Findings as naming
 use Rattle.wh_naming.specs.Findings.{Name}
-use Rattle.wh_naming.specs.Scope.{Named, named, is_source}
+use Rattle.wh_naming.specs.Scope.{Named, is_source}
 use Rattle.wh_naming.specs.Select.{BoundQuery, bound_query, column_of}
 use Rattle.wh_ddl_naming.specs.Meant.{Meant, first_failing}
 use Rattle.wh_ddl_naming.specs.Tables.{column_names}
 use Rattle.wh_ddl_naming.specs.DynamicTables.{NewDynamicTable, bound_dynamic_table}
-use Rattle.wh_reply.specs.Reply.{Refusal, Refreshed, OverLimit, CreatedDynamicTable}
-use Rattle.wh_state.specs.State.{TableKind, StreamKind, TaskKind, DynamicKind, State, Object, at_id, live_count, columns_in}
+use Rattle.wh_reply.specs.Reply.{Refusal, OverLimit, CreatedDynamicTable}
+use Rattle.wh_state.specs.State.{TableKind, StreamKind, TaskKind, DynamicKind, State, Object, at_id, live_count}
+use Rattle.wh_state.specs.State.{columns_in}
 use Rattle.wh_state.specs.Dynamic.{DynamicQuery}
 use Rattle.wh_state.specs.Objects.{is_live_at}
 use Rattle.wh_state.specs.Bound.{source_kind, Binds}
@@ -36,16 +36,17 @@ use Rattle.wh_state.specs.Written.{written}
 use Rattle.wh_state.proofs.AllLaws.{all_append, all_more, all_at}
 use Rattle.wh_state.proofs.MeaningLaws.{at_id_meant, length_meant}
 use Rattle.wh_state.proofs.DynamicFirm.{AreFilled, KindHasColumns, HasColumns}
-use Rattle.wh_state.proofs.FirmLaws.{HasNot, IsFirm}
+use Rattle.wh_state.proofs.FirmLaws.{HasNot}
 use Rattle.wh_state.proofs.WrittenLaws.{AllGo, ChangeSpares, go_firm}
 use Rattle.wh_state.proofs.EndLaws.{written_append, go_behind}
 use Rattle.wh_state.proofs.BroughtGoes.{made_means}
 use Rattle.wh_machine.specs.Tests.{refused_if, refused_past}
 use Rattle.wh_machine.specs.Names.{names_in, refusal_of}
-use Rattle.wh_machine.specs.Outcome.{Machine, Outcome, commits}
+use Rattle.wh_machine.specs.Outcome.{Machine}
 use Rattle.wh_machine.specs.Definitions.{is_long, defines}
-use Rattle.wh_machine.specs.Refresh.{Refreshing, Fails, Brings, with_upstream, refresh}
-use Rattle.wh_machine.specs.Dynamics.{seconds_of, is_incremental, mode_refusal, below_refusal, dynamic_made, with_dynamic}
+use Rattle.wh_machine.specs.Refresh.{Refreshing, Fails, Brings, with_upstream}
+use Rattle.wh_machine.specs.Dynamics.{seconds_of, is_incremental, mode_refusal, below_refusal, dynamic_made}
+use Rattle.wh_machine.specs.Dynamics.{with_dynamic}
 use Rattle.wh_machine.specs.Dynamics.{new_id, dynamic_refusal, first_suspended, asked_refresh, made_with, initialized}
 use Rattle.wh_machine.specs.Dynamics.{query_of, create_dynamic}
 use Rattle.wh_moment.specs.Upstream.{dynamics_of, upstream}
@@ -58,7 +59,8 @@ use Rattle.wh_machine.proofs.RefreshGoes.{AreStanding, KindStands, refresh_goes}
 use Rattle.wh_machine.proofs.DynamicWorks.{lag_is, refresh_spares, standing_of}
 use Rattle.wh_machine.proofs.DynamicNames.{all_inside, IsSeenBy, seen_by, right_kept, new_binds}
 use Rattle.wh_machine.proofs.TokensFilled.{AllFilled}
-use Rattle.wh_machine.proofs.OutputLaws.{columns_filled, SourcesFilled, query_filled}
+use Rattle.wh_machine.proofs.OutputLaws.{columns_filled}
+use Rattle.wh_machine.proofs.QueryOutputs.{SourcesFilled, query_filled}
 
 -- ---- what is asked of the statement
 
@@ -163,7 +165,8 @@ module _ (objects : List StoredObject) (columns : AllByRecursion HasColumns obje
       let q : BoundQuery = bound_query t.query (all_inside objects) 0 in
       let right = right_kept (column_names (map column_of q.outputs)) q.findings none in (
         new_binds objects t.query t.query_text (column_names (map column_of q.outputs)) none narrow,
-        columns_filled q.outputs (query_filled (all_inside objects) (sources_filled objects columns) t.query filled.query
+        columns_filled q.outputs (query_filled (all_inside objects)
+            (sources_filled objects columns) t.query filled.query
             filled.filled 0 (right.0.0.0, (right.0.0.1, right.0.1))),
       )
 
@@ -244,7 +247,8 @@ works_create_dynamic s m session t reached filled =
     let b : Meant NewDynamicTable = bound_dynamic_table (names_in m.state.objects) t in
     let n : NewDynamicTable = b.value in
     works_defines s m session None _ reached (λ outside.
-    works_unless s m (dynamic_refusal m.state (option_map refusal_of (first_failing b)) n (query_of n)) _ reached (λ none.
+    works_unless s m (dynamic_refusal m.state (option_map refusal_of (first_failing b)) n (query_of n)) _ reached
+    (λ none.
     let tests = passes_dynamic m.state (option_map refusal_of (first_failing b)) n (query_of n) none in
     let found = nothing_wrong b tests.0 in
     let binds = binds_over s.objects reached.firm.columns t filled m.state.objects (objects_meant s m reached) found.1

@@ -2,7 +2,8 @@
 --     IsSeenBy        an object as a dynamic table's query sees it
 --     names_alike     the objects of its names are the same
 --     new_binds       a query in which no name and no type is found wrong binds to its columns
-use Rattle.std.proofs.Common.{◌≡◌, ℕ, Bool, true, false, cond, ◌⊎◌, inl, inr, List, [], ◌∷◌, ◌++◌, map, Option, Some, None}
+use Rattle.std.proofs.Common.{◌≡◌, ℕ, Bool, true, false, cond, ◌⊎◌, inl, inr, List, [], ◌∷◌, ◌++◌, map, Option, Some}
+use Rattle.std.proofs.Common.{None}
 use Rattle.std.proofs.Common.{option_map, refl, sym, ap, subst, ◌∙◌, IsTrue}
 use Rattle.std.specs.Prelude.{bytes_eq}
 use Rattle.std.specs.List.{AllByRecursion}
@@ -19,9 +20,9 @@ use Rattle.wh_ddl_naming.specs.Tables.{column_findings}
 use Rattle.wh_ddl_naming.specs.DynamicTables.{kind_inside, inside}
 use Rattle.wh_ddl_naming.proofs.QueryLaws.{query_alike}
 use Rattle.wh_ddl_naming.proofs.SourceLaws.{NamesRight, id_in, IsSourceNamed, IsSourced, query_sourced}
-use Rattle.wh_state.specs.State.{TableKind, StreamKind, TaskKind, DynamicKind, Object, at_id, columns_in, table_in}
-use Rattle.wh_state.specs.Dynamic.{Source, DynamicQuery}
-use Rattle.wh_state.specs.Bound.{source_kind, named_as, names_among, query_bound, IsLiveSource, HasOneId, but_taken, Binds}
+use Rattle.wh_state.specs.State.{TableKind, StreamKind, TaskKind, DynamicKind, at_id, columns_in, table_in}
+use Rattle.wh_state.specs.Dynamic.{Source}
+use Rattle.wh_state.specs.Bound.{source_kind, named_as, names_among, IsLiveSource, HasOneId, but_taken, Binds}
 use Rattle.wh_state.specs.Stored.{StoredKind, StoredObject, object_meant, kind_meant}
 use Rattle.wh_state.proofs.AllLaws.{all_map, all_both}
 use Rattle.wh_machine.specs.Names.{object_kind, names_from}
@@ -63,7 +64,7 @@ source_table (StreamKind s) is = absurd cc
 source_table (TaskKind t) is = absurd cc
 source_table (DynamicKind d t) is = tt
 
-abbrev named_with : Name → ℕ → ObjectKind → List Column → Named
+abbrev pub named_with : Name → ℕ → ObjectKind → List Column → Named
 named_with name id kind columns = record { name = name; id = id; kind = kind; columns = columns }
 
 named_same : (a b : Name) (id : ℕ) (k l : ObjectKind) (cs ds : List Column) → a ≡ b → k ≡ l → cs ≡ ds
@@ -81,7 +82,7 @@ module _ (objects : List StoredObject) where
     pub object : StoredObject
     pub there : at_id objects found.id ≡ Some object
     pub live : object.is_live ≡ true
-    pub is : found ≡ record { name = name; id = found.id; kind = source_kind object.kind; columns = columns_in object.kind }
+    pub is : found ≡ named_with name found.id (source_kind object.kind) (columns_in object.kind)
 
   pub seen_by : (name : Name) (found : Named) → named all_inside name ≡ Some found → IsSeenBy name found
   seen_by name found is =
@@ -150,8 +151,11 @@ module _ (objects : List StoredObject) where
 
   all_among : (ws : List Name) → AllByRecursion (λ name. IsAmong name ws) ws
   all_among [] = tt
-  all_among (w ∷ ws) =
-      (inl refl, all_map (λ name. IsAmong name ws) (λ name. IsAmong name (w ∷ ws)) (λ name is. inr is) ws (all_among ws))
+  all_among (w ∷ ws) = (
+    inl refl,
+    all_map (λ name. IsAmong name ws) (λ name. IsAmong name (w ∷ ws)) (λ name is. inr is) ws
+        (all_among ws),
+  )
 
   found_among : (written : List Name) → AreSources written → (name : Name) → IsAmong name written
       → (s : IsSourceSeen name) → named (names_among objects (numbered_names written)) name ≡ Some s.found
@@ -212,7 +216,8 @@ module _ (objects : List StoredObject) where
       → AllByRecursion (HasOneId sources) sources
   one_id sources are =
       all_map (λ s. s.id ≡ id_in all_inside s.name) (HasOneId sources)
-      (λ s is. all_map (λ other. other.id ≡ id_in all_inside other.name) (λ other. other.name ≡ s.name → other.id ≡ s.id)
+      (λ s is. all_map (λ other. other.id ≡ id_in all_inside other.name) (λ other. other.name ≡ s.name
+      → other.id ≡ s.id)
       (λ other at same. at ∙ ap (id_in all_inside) same ∙ sym is) sources are) sources are
 
 -- ---- what is found
@@ -243,7 +248,8 @@ right_kept columns f none =
 
 -- by its tree, its text, and what its query stands for
 pub new_binds : (objects : List StoredObject) (tree : Query) (text : List ℕ) (columns : List Name)
-    → naming.first_failing (followed (column_findings columns) (bound_query tree (all_inside objects) 0).findings) ≡ None
+    → naming.first_failing (followed (column_findings columns) (bound_query tree (all_inside objects) 0).findings)
+    ≡ None
     → (bound_query tree (all_inside objects) 0).is_wide ≡ false
     → Binds objects (record {
       tree = tree;

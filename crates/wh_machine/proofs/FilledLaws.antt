@@ -13,12 +13,10 @@ use Rattle.wh_ast.specs.declared.statement.CreateDynamicTable.{CreateDynamicTabl
 use Rattle.wh_ast.specs.declared.statement.Lag.{Lag}
 use Rattle.wh_ast.specs.declared.statement.RefreshMode.{RefreshMode}
 use Rattle.wh_ast.specs.declared.statement.Initialize.{Initialize}
-use Rattle.wh_grammar.specs.Token.{Token, Word, Quoted, Placed}
+use Rattle.wh_grammar.specs.Token.{Token, Placed}
 use Rattle.wh_grammar.specs.Lexing as lexing
 use Rattle.wh_grammar.specs.Lexing.{IsBare, IsEnclosed, IsSign, IsToken, bare, enclosed, signed, HasTokens, end, gap}
 use Rattle.wh_grammar.specs.Lexing.{token}
-use Rattle.wh_grammar.specs.Name as names
-use Rattle.wh_grammar.specs.Name.{IsName}
 use Rattle.wh_grammar.specs.Parts.{AreColumns, last_column, more_columns, MayReplace, no_replace, or_replace}
 use Rattle.wh_grammar.specs.Spelled.{IsTableStatement, create_table, drop_table, IsStreamStatement, create_stream}
 use Rattle.wh_grammar.specs.Spelled.{drop_stream, IsTaskStatement, IsDynamicTableStatement, IsTransactionStatement}

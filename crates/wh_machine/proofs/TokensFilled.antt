@@ -1,7 +1,7 @@
 -- Tokens whose words and quoted names are not empty.
 --     TokenFilled, AllFilled      of one token, and of all
 --     name_filled, alias_filled   names among them
-use Rattle.std.proofs.Common.{ℕ, ◌<◌, List, ◌∷◌, length}
+use Rattle.std.proofs.Common.{ℕ, ◌<◌, List, length}
 use Rattle.std.specs.List.{AllByRecursion}
 use Rattle.wh_grammar.specs.Token.{Token, Word, Quoted}
 use Rattle.wh_grammar.specs.Name as names
