@@ -12,6 +12,10 @@ pub mod KeepingLaws
 pub mod TableNamed
 pub mod PlainLaws
 pub mod BroughtLaws
+pub mod MadeQuery
+pub mod RefreshKeeps
+pub mod DynamicKeeps
+pub mod EventKeeps
 pub mod SoundLaws
 pub mod ConsumingLaws
 pub mod MoveLaws
