@@ -15,6 +15,7 @@ use sqlite_items::Boxed;
 use std::alloc::{AllocError, Global};
 use wh_ast::{CreateDynamicTable, Lag};
 use wh_bind::{BindFault, bind_query, columns_of};
+use wh_copy::copy_query;
 use wh_core_bind::BoundQuery;
 use wh_expr_bind::Findings;
 use wh_naming::{Named, ObjectKind};
@@ -175,12 +176,14 @@ fn made(
     let columns = columns_of(alloc, &query.get().outputs)?;
     let name = table.name.copy(alloc)?;
     let query_text = table.query_text.copy(alloc)?;
+    let tree = Boxed::new(alloc, copy_query(alloc, &table.query)?)?;
     let query = query.into_inner();
     let made = NewDynamicTable {
         name,
         lag: table.lag,
         mode: table.mode,
         initialize: table.initialize,
+        tree,
         query: query.query,
         columns,
         sources: query.sources,

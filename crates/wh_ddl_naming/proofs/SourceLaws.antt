@@ -2,7 +2,7 @@
 --     IsSourceNamed     a name is that of an object that may be read
 --     id_in             the id of the object of a name; 0 where there is none
 --     IsSourced         some sources are the objects of written names, and where none is found wrong each may be read
---     query_sourced     so it is of a query
+--     query_sourced, query_sources     so it is of a query
 use Rattle.std.proofs.Common.{◌≡◌, ℕ, ◌+◌, Bool, true, false, List, [], ◌∷◌, ◌++◌, map, length, Option, Some, None, refl}
 use Rattle.std.proofs.Common.{sym, ap, subst, ◌∙◌, IsTrue, append_assoc}
 use Rattle.std.specs.Prelude.{not}
@@ -287,3 +287,6 @@ module _ (names : List Named) where
       (λ x y is. subst (λ z. JoinLaw (roll-Join z)) is (join_law y.source.0 y.on y.source.1))
       (λ x y is. subst (λ z. QueryLaw (roll-Query z)) is
       (query_law (map (λ e. e.0) y.cores) (firsts CoreLaw y.cores)))
+
+  pub query_sources : (q : Query) (next : ℕ) → (bound_query q names next).sources ≡ map id_in (query_names q)
+  query_sources q next = (query_sourced q next).ids

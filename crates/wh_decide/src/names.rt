@@ -96,6 +96,7 @@ fn kind_of(kind: &StoredKind) -> ObjectKind
         StoredKind::Table(_) => ObjectKind::Table,
         StoredKind::Stream(_) => ObjectKind::Stream,
         StoredKind::Task(_) => ObjectKind::Task,
+        StoredKind::Dynamic(_, _) => ObjectKind::DynamicTable,
     }
 }
 
@@ -104,7 +105,7 @@ fn columns_in(kind: &StoredKind) -> &[Column]
         ≡ state.columns_in (kind_meant (stored_kind kind.now)) }
 {
     match kind {
-        StoredKind::Table(table) => table.columns(),
+        StoredKind::Table(table) | StoredKind::Dynamic(_, table) => table.columns(),
         StoredKind::Stream(stream) => stream.columns(),
         StoredKind::Task(_) => &[],
     }

@@ -1,7 +1,7 @@
 -- What holds of all tokens holds of those behind an expression or a part of a query.
 --     expr_behind                        behind an expression
 --     name_behind, alias_behind, items_behind, filter_behind, group_behind     and behind parts of queries
-use Rattle.std.specs.Prelude.{ℕ, suc, List, [], ◌∷◌, Option, Some, None, codes, Bool}
+use Rattle.std.specs.Prelude.{ℕ, List, Option, Bool}
 use Rattle.std.specs.List.{AllByRecursion}
 use Rattle.wh_ast.specs.declared.expr.Expr.{Expr}
 use Rattle.wh_ast.specs.declared.query.Item.{Item}

@@ -3,40 +3,39 @@
 --     IsReadyTo           a table that is brought to a moment, and what it reads
 --     one_keeps           what is done to one table
 --     brought_keeps       to several by rising ids
-use Rattle.std.proofs.Common.{◌≡◌, ℕ, zero, suc, ◌+◌, ◌<◌, ◌≤◌, ◌⊎◌, inl, inr, Bool, true, false, cond, List, [], ◌∷◌}
-use Rattle.std.proofs.Common.{◌++◌, map, Option, Some, None, option_map, refl, sym, ap, subst, ◌∙◌, arith}
+use Rattle.std.proofs.Common.{◌≡◌, ℕ, suc, ◌<◌, ◌≤◌, ◌⊎◌, inl, inr, Bool, true, false, cond, List, [], ◌∷◌}
+use Rattle.std.proofs.Common.{◌++◌, Option, Some, None, option_map, refl, sym, ap, subst, ◌∙◌, arith}
 use Rattle.std.specs.Prelude.{◌&&◌, ◌||◌, nat_eq, nat_lt, nat_le}
-use Rattle.std.specs.List.{AllByRecursion, flat_map, filter, list_any}
+use Rattle.std.specs.List.{AllByRecursion, flat_map, list_any}
 use Rattle.std.specs.Option.{IfSome, IsSomeAnd, option_and_then, option_map_or}
 use Rattle.std.specs.FinMap.{entries, values}
 use Rattle.std.proofs.lemmas.Bool.Decides.{nat_tests}
-use Rattle.wh_value.specs.Value.{Row}
 use Rattle.wh_meaning.specs.Bag.{Bag, bag_of, no_rows}
 use Rattle.wh_reply.specs.Reply.{RefreshAction, NoData, Full, Incremental}
-use Rattle.wh_state.specs.State.{Version, Kind, TableKind, StreamKind, TaskKind, DynamicKind, Object, Table, Rows, at_id}
+use Rattle.wh_state.specs.State.{Version, Kind, TableKind, StreamKind, TaskKind, DynamicKind, Object, Table, at_id}
 use Rattle.wh_state.specs.State.{changed_at, put_at, table_in, dynamic_in, last_rows, rows_at, nothing_held, content_in, last_of}
 use Rattle.wh_state.specs.State.{on_dynamic}
-use Rattle.wh_state.specs.Dynamic.{Source, DynamicState, Dynamic, ids_read, with_dynamic_state}
+use Rattle.wh_state.specs.Dynamic.{DynamicState, Dynamic, ids_read, with_dynamic_state}
 use Rattle.wh_state.specs.Objects.{as_table, as_dynamic, table_at, dynamic_at}
-use Rattle.wh_state.specs.Edits.{Edits, is_among, rows_after}
+use Rattle.wh_state.specs.Edits.{Edits, is_among}
 use Rattle.wh_state.specs.Moments.{bag_at, evaluated_at}
-use Rattle.wh_state.specs.Act.{Act, RefreshesRows, PutsDynamic, edited_object, on_dynamic_object, acted, all_acted}
-use Rattle.wh_state.specs.Sound.{IsBelow, IsSoundDynamic, IsSoundKind}
+use Rattle.wh_state.specs.Act.{PutsDynamic, edited_object, on_dynamic_object, all_acted}
+use Rattle.wh_state.specs.Sound.{IsSoundDynamic}
 use Rattle.wh_state.proofs.AllLaws.{all_map, all_both, filter_same, among_all}
 use Rattle.wh_state.proofs.IdLaws.{at_spared}
 use Rattle.wh_state.proofs.FoundLaws.{at_same, same_or_not}
 use Rattle.wh_state.proofs.VersionLaws.{last_below}
 use Rattle.wh_state.proofs.EvaluatedLaws.{StandAt, ids_read_hold, evaluated_same}
 use Rattle.wh_state.proofs.SoundObjects.{IsKept, IsDynamicAt, found_dynamic, dynamic_there, at_within, sound_at}
-use Rattle.wh_state.proofs.SoundTables.{IsFresh, IsRefreshed}
-use Rattle.wh_state.proofs.SoundLaws.{IsNothingNew, MayPut, MayRefreshKind, MayRefresh, AreKeeping, no_act, put_act}
+use Rattle.wh_state.proofs.SoundTables.{IsFresh}
+use Rattle.wh_state.proofs.SoundLaws.{MayPut, MayRefreshKind, MayRefresh, AreKeeping, no_act, put_act}
 use Rattle.wh_state.proofs.SoundLaws.{refresh_acts, acts_kept, keeping_append}
 use Rattle.wh_moment.specs.Moment.{brought_to}
 use Rattle.wh_moment.specs.Rebase.{rebase}
 use Rattle.wh_moment.proofs.RebaseLaws.{rebased}
 use Rattle.wh_moment.proofs.UpstreamLaws.{RiseFrom}
 use Rattle.wh_moment.proofs.ClosedLaws.{same_number}
-use Rattle.wh_machine.specs.Refresh.{has_version_between, has_new_data, action_by, action_of, Brought, brought_as}
+use Rattle.wh_machine.specs.Refresh.{has_version_between, has_new_data, action_of, Brought, brought_as}
 use Rattle.wh_machine.specs.Refresh.{brought_by, brought_with, brought_one, acts_of_one, brought_then, brought_all, by_mode}
 use Rattle.wh_machine.specs.Refresh.{version_acts}
 use Rattle.wh_machine.proofs.GotLaws.{entries_hold}
@@ -314,9 +313,11 @@ IsFreshFrom stamp least objects = (id : ℕ) → least ≤ id → IfSome (table_
 
 rise_all : (least : ℕ) (ids : List ℕ) → RiseFrom least ids → AllByRecursion (λ n. least ≤ n) ids
 rise_all least [] rise = tt
-rise_all least (id ∷ ids) rise =
-    (rise.0, all_map (λ n. suc id ≤ n) (λ n. least ≤ n) (λ n h. omega (arith, h, rise.0)) ids
-    (rise_all (suc id) ids rise.1))
+rise_all least (id ∷ ids) rise = (
+  rise.0,
+  all_map (λ n. suc id ≤ n) (λ n. least ≤ n) (λ n h. omega (arith, h, rise.0)) ids
+      (rise_all (suc id) ids rise.1),
+)
 
 -- what it reads comes before it, and so stands already
 head_ready : (stamp moment : ℕ) (objects : List Object) (id : ℕ) (ids : List ℕ) → IsKept stamp objects
@@ -333,12 +334,14 @@ head_ready stamp moment objects id ids kept from awaited = by_found (dynamic_at 
         → IfSome found (IsAwaitedWith moment objects (id ∷ ids)) → IfSome found (IsReadyTo moment objects)
     by_found None at awaited = tt
     by_found (Some d) at awaited =
-        let place : IsDynamicAt objects id d = found_dynamic objects id d at in
-        (awaited.0, all_both (λ x. x < id) (StandsOrComes moment objects (id ∷ ids))
-        (λ x. IfSome (dynamic_at objects x) (λ e. e.state.moment ≡ moment))
-        (λ x less comes. of_source x less comes) (ids_read d.query)
-        (ids_read_hold (λ x. x < id) (at_within objects id place.object place.there).0 d.query (kept.earlier id d at))
-        awaited.1)
+        let place : IsDynamicAt objects id d = found_dynamic objects id d at in (
+          awaited.0,
+          all_both (λ x. x < id) (StandsOrComes moment objects (id ∷ ids))
+              (λ x. IfSome (dynamic_at objects x) (λ e. e.state.moment ≡ moment))
+              (λ x less comes. of_source x less comes) (ids_read d.query)
+              (ids_read_hold (λ x. x < id) (at_within objects id place.object place.there).0 d.query (kept.earlier id d at))
+              awaited.1,
+        )
 
 -- those behind it await the others
 rest_awaits : (moment : ℕ) (objects next : List Object) (id : ℕ) (ids : List ℕ)

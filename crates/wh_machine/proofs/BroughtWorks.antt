@@ -2,7 +2,7 @@
 --     IsWithinNumbers     its next numbers are within their limits
 --     OneBrought          what holds of one table that is brought; one_brought
 --     all_go              the tables one after the other
-use Rattle.std.proofs.Common.{◌≡◌, ℕ, suc, ◌+◌, ◌<◌, ◌≤◌, Bool, true, false, List, [], ◌∷◌, ◌++◌, length, map, Option, Some}
+use Rattle.std.proofs.Common.{◌≡◌, ℕ, suc, ◌+◌, ◌≤◌, false, List, [], ◌∷◌, ◌++◌, length, map, Option, Some}
 use Rattle.std.proofs.Common.{None, option_map, refl, sym, ap, subst, ◌∙◌, arith, IsTrue, IfSome}
 use Rattle.std.specs.Prelude.{nat_lt}
 use Rattle.std.specs.List.{AllByRecursion, flat_map}
@@ -13,11 +13,10 @@ use Rattle.wh_value.specs.declared.limit.Limit.TheVariants as limits
 use Rattle.wh_frame.specs.Partition.{Partition}
 use Rattle.wh_meaning.specs.Bag.{Bag}
 use Rattle.wh_reply.specs.Reply.{RefreshAction, NoData, Full, Incremental}
-use Rattle.wh_state.specs.State.{TableKind, StreamKind, TaskKind, DynamicKind, Object, Table, at_id, last_of, last_rows}
-use Rattle.wh_state.specs.State.{table_in}
+use Rattle.wh_state.specs.State.{TableKind, StreamKind, TaskKind, DynamicKind, Object, Table, at_id, last_rows}
 use Rattle.wh_state.specs.Objects.{as_table, as_dynamic, table_at, dynamic_at}
 use Rattle.wh_state.specs.Edits.{Edits, partitions_made}
-use Rattle.wh_state.specs.Dynamic.{DynamicState, Dynamic}
+use Rattle.wh_state.specs.Dynamic.{Dynamic}
 use Rattle.wh_state.specs.Moments.{evaluated_at}
 use Rattle.wh_state.specs.Act.{Act, PutsDynamic, all_acted, table_partitions_made}
 use Rattle.wh_state.specs.Stored.{StoredTable, StoredKind, StoredObject, standing, table_meant, object_meant}

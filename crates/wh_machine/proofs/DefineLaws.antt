@@ -128,7 +128,7 @@ pub record IsFilledTable (given : List ℕ) (made : List Column) : Type 0 where
   pub columns : AllByRecursion (λ column. 0 < length column.name) made
 
 -- names that are short and not empty
-columns_named : (columns : List Column) → list_any is_long (column_names columns) ≡ false
+pub columns_named : (columns : List Column) → list_any is_long (column_names columns) ≡ false
     → AllByRecursion (λ column. 0 < length column.name) columns
     → AllByRecursion (λ column. IsStoredName column.name) columns
 columns_named [] short some = tt

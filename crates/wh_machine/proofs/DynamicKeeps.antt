@@ -2,11 +2,10 @@
 --     create_keeps                 a new dynamic table, refreshed or not
 --     altered_keeps                one in another state, that stands for the same moment
 --     asked_keeps, due_keeps       a refresh that is asked for, and one that is due
-use Rattle.std.proofs.Common.{◌≡◌, ℕ, zero, suc, ◌<◌, ◌≤◌, ◌⊎◌, inl, inr, Bool, true, false, cond, List, [], ◌∷◌, ◌++◌, map}
-use Rattle.std.proofs.Common.{length, Option, Some, None, IsTrue, option_map, refl, sym, ap, subst, ◌∙◌, arith}
+use Rattle.std.proofs.Common.{◌≡◌, ℕ, suc, ◌<◌, ◌≤◌, ◌⊎◌, inl, inr, Bool, true, false, cond, [], ◌∷◌, map}
+use Rattle.std.proofs.Common.{length, Option, Some, None, IsTrue, refl, sym, subst, ◌∙◌, arith}
 use Rattle.std.specs.Prelude.{not}
 use Rattle.std.specs.Option.{IfSome, option_and_then}
-use Rattle.std.specs.List.{AllByRecursion}
 use Rattle.wh_ast.specs.declared.statement.CreateDynamicTable.{CreateDynamicTable}
 use Rattle.wh_ast.specs.declared.statement.RefreshMode.{RefreshMode}
 use Rattle.wh_ast.specs.declared.statement.RefreshMode.TheVariants as modes
@@ -14,15 +13,13 @@ use Rattle.wh_ast.specs.declared.statement.Initialize.{Initialize}
 use Rattle.wh_ast.specs.declared.statement.Initialize.TheVariants as starts
 use Rattle.wh_naming.specs.Select.{BoundQuery, bound_query}
 use Rattle.wh_algebra.specs.Increments.{incrementable}
-use Rattle.wh_ddl_naming.specs.Names.{query_names}
 use Rattle.wh_ddl_naming.specs.DynamicTables.{NewDynamicTable, inside, new_dynamic_table}
-use Rattle.wh_reply.specs.Reply.{Refusal, Reply, NotIncrementable, Refreshed, CreatedDynamicTable, RefreshedTables}
+use Rattle.wh_reply.specs.Reply.{Refusal, Reply, NotIncrementable, CreatedDynamicTable, RefreshedTables}
 use Rattle.wh_reply.specs.Reply.{RefreshFailed}
-use Rattle.wh_state.specs.State.{State, Object, Table, DynamicKind, new_object, empty_table, at_id, table_in}
-use Rattle.wh_state.specs.Dynamic.{DynamicQuery, DynamicState, Dynamic, new_dynamic}
-use Rattle.wh_state.specs.Bound.{query_bound}
+use Rattle.wh_state.specs.State.{State, Object, DynamicKind, new_object, empty_table, at_id, table_in}
+use Rattle.wh_state.specs.Dynamic.{DynamicState, Dynamic, new_dynamic}
 use Rattle.wh_state.specs.Objects.{as_table, dynamic_at, table_at, name_at}
-use Rattle.wh_state.specs.Act.{Act, MakesDynamic, PutsDynamic, acted, all_acted}
+use Rattle.wh_state.specs.Act.{PutsDynamic}
 use Rattle.wh_state.proofs.SoundObjects.{IsKept, IsDynamicAt, found_dynamic, sound_at, at_front, at_either}
 use Rattle.wh_state.proofs.SoundTables.{IsFresh}
 use Rattle.wh_state.proofs.SoundLaws.{MayMake, MayPut, AreKeeping, no_act, make_act, put_act, acts_kept, kept_later}
@@ -32,8 +29,7 @@ use Rattle.wh_moment.specs.Upstream.{dynamics_of, upstream}
 use Rattle.wh_moment.specs.Moment.{behind_failure, due_table, moment_at}
 use Rattle.wh_moment.proofs.DueLaws.{IsDueAt, due_is, due_some, due_within, due_greatest}
 use Rattle.wh_machine.specs.Names.{names_from}
-use Rattle.wh_machine.specs.Tests.{refused_if, first_of}
-use Rattle.wh_machine.specs.Outcome.{Machine, Outcome, Refuses, commits}
+use Rattle.wh_machine.specs.Outcome.{Machine, commits}
 use Rattle.wh_machine.specs.Refresh.{Refreshing, Fails, Brings, with_upstream, refresh}
 use Rattle.wh_machine.specs.Dynamics.{seconds_of, is_incremental, mode_refusal, dynamic_made, with_dynamic, new_id, dynamic_refusal}
 use Rattle.wh_machine.specs.Dynamics.{first_suspended, asked_refresh, made_with, initialized, query_of, create_dynamic}
@@ -152,8 +148,11 @@ altered_keeps m reply id new modest ready = by_found (dynamic_at m.state.objects
         let place : IsDynamicAt m.state.objects id d = found_dynamic m.state.objects id d at in
         put_act (subst (λ (found : Option Dynamic).
         IfSome found (MayPut m.state.last m.state.objects (new d.state))) (sym at) (record {
-          tried = omega (arith, (modest d.state).1,
-              (sound_at m.state.last m.state.objects id d (ready_kept m ready) place).tried);
+          tried = omega (
+            arith,
+            (modest d.state).1,
+            (sound_at m.state.last m.state.objects id d (ready_kept m ready) place).tried,
+          );
           moment = inl (modest d.state).0;
         })) no_act
 

@@ -19,9 +19,9 @@ use Rattle.wh_ddl_naming.specs.Tables.{column_findings}
 use Rattle.wh_ddl_naming.specs.DynamicTables.{kind_inside, inside}
 use Rattle.wh_ddl_naming.proofs.QueryLaws.{query_alike}
 use Rattle.wh_ddl_naming.proofs.SourceLaws.{NamesRight, id_in, IsSourceNamed, IsSourced, query_sourced}
-use Rattle.wh_state.specs.State.{TableKind, StreamKind, TaskKind, DynamicKind, Object, at_id, columns_in, table_in}
-use Rattle.wh_state.specs.Dynamic.{Source, DynamicQuery}
-use Rattle.wh_state.specs.Bound.{source_kind, named_as, names_among, query_bound, IsLiveSource, HasOneId, but_taken, Binds}
+use Rattle.wh_state.specs.State.{TableKind, StreamKind, TaskKind, DynamicKind, at_id, columns_in, table_in}
+use Rattle.wh_state.specs.Dynamic.{Source}
+use Rattle.wh_state.specs.Bound.{source_kind, named_as, names_among, IsLiveSource, HasOneId, but_taken, Binds}
 use Rattle.wh_state.specs.Stored.{StoredKind, StoredObject, object_meant, kind_meant}
 use Rattle.wh_state.proofs.AllLaws.{all_map, all_both}
 use Rattle.wh_machine.specs.Names.{object_kind, names_from}
@@ -218,15 +218,19 @@ module _ (objects : List StoredObject) where
 -- ---- what is found
 
 -- as it is kept, without what is found of its columns' names
-right_kept : (columns : List Name) (f : Findings) → naming.first_failing (followed (column_findings columns) f) ≡ None
-    → NamesRight f × (naming.first_failing (but_taken f) ≡ None)
+pub right_kept : (columns : List Name) (f : Findings)
+    → naming.first_failing (followed (column_findings columns) f) ≡ None
+    → (NamesRight f × (f.unknown_column ≡ None)) × (naming.first_failing (but_taken f) ≡ None)
 unfolding naming.first_failing
 right_kept columns f none =
     let objects = both_none (option_map UnknownName f.unknown_object) _ none in
     let kinds = both_none (option_map WrongKind f.wrong_kind) _ objects.1 in
     let unknown = both_none (option_map UnknownName f.unknown_column) _ kinds.1 in
     let taken = both_none (option_map NameTaken (either (column_findings columns).taken f.taken)) _ unknown.1 in (
-      (no_map UnknownName f.unknown_object objects.0, no_map WrongKind f.wrong_kind kinds.0),
+      (
+        (no_map UnknownName f.unknown_object objects.0, no_map WrongKind f.wrong_kind kinds.0),
+        no_map UnknownName f.unknown_column unknown.0,
+      ),
       all_none (option_map UnknownName f.unknown_object) (option_map WrongKind f.wrong_kind)
           (option_map UnknownName f.unknown_column) (naming.mistyped f.is_mistyped) objects.0 kinds.0 unknown.0 taken.1,
     )
@@ -265,11 +269,12 @@ new_binds objects tree text columns none narrow =
     sourced : IsSourced (all_inside objects) q.sources q.findings written
     sourced = query_sourced (all_inside objects) tree 0
 
-    right : NamesRight q.findings × (naming.first_failing (but_taken q.findings) ≡ None)
+    right : (NamesRight q.findings × (q.findings.unknown_column ≡ None))
+        × (naming.first_failing (but_taken q.findings) ≡ None)
     right = right_kept columns q.findings none
 
     are : AreSources objects written
-    are = sourced.all right.0
+    are = sourced.all right.0.0
 
     same : q ≡ bound_query tree (names_among objects (numbered_names objects written)) 0
     same = query_alike (all_inside objects) (names_among objects (numbered_names objects written)) tree

@@ -3,10 +3,10 @@
 --     works_suspend_dynamic, works_resume_dynamic, works_lag     other states
 --     works_refresh_dynamic        a refresh that is asked for
 --     works_refreshes              the refresh of a table that is due
-use Rattle.std.proofs.Common.{◌≡◌, ℕ, zero, suc, ◌+◌, ◌≤◌, min, Bool, true, false, cond, List, [], ◌∷◌, ◌++◌, map}
-use Rattle.std.proofs.Common.{Option, Some, None, option_map, refl, sym, ap, subst, ◌∙◌, ◌⊎◌, inl, inr, arith, IsTrue}
+use Rattle.std.proofs.Common.{◌≡◌, ℕ, ◌+◌, ◌≤◌, min, Bool, true, false, cond, List, [], ◌∷◌, map}
+use Rattle.std.proofs.Common.{Option, Some, None, option_map, refl, sym, ap, subst, ◌∙◌, inl, inr, arith}
 use Rattle.std.specs.Prelude.{◌&&◌, not, nat_lt}
-use Rattle.std.specs.List.{AllByRecursion, list_any}
+use Rattle.std.specs.List.{AllByRecursion}
 use Rattle.std.specs.Option.{IsSomeAnd, option_and_then, option_map_or}
 use Rattle.std.proofs.lemmas.Bool.Decides.{nat_tests}
 use Rattle.wh_value.specs.Limit.{bound}
@@ -18,7 +18,7 @@ use Rattle.wh_ddl_naming.specs.Meant.{Meant, first_failing}
 use Rattle.wh_ddl_naming.specs.Objects.{is_same_kind, object_of}
 use Rattle.wh_reply.specs.Reply.{Refusal, Reply, OverLimit, Refreshed, Suspended, Resumed, Altered, RefreshedTables}
 use Rattle.wh_reply.specs.Reply.{RefreshFailed, Idle}
-use Rattle.wh_state.specs.State.{TableKind, StreamKind, TaskKind, DynamicKind, Object, at_id, last_of, dynamic_in}
+use Rattle.wh_state.specs.State.{TableKind, StreamKind, TaskKind, DynamicKind, Object, at_id, last_of}
 use Rattle.wh_state.specs.Dynamic.{DynamicState, Dynamic, most_failed_refreshes}
 use Rattle.wh_state.specs.Objects.{as_dynamic, dynamic_at, is_live_at, name_at}
 use Rattle.wh_state.specs.Act.{Act, MakesTable, DropsObject, EditsRows, MakesStream, MovesOffset, MakesTask, PutsTask}
@@ -29,19 +29,19 @@ use Rattle.wh_state.specs.Stored.{version_meant}
 use Rattle.wh_state.specs.Commit.{IsLag, TakesState, DoesNotFall, all_changed}
 use Rattle.wh_state.specs.Written.{version_written_to, act_written, written}
 use Rattle.wh_state.specs.Sound.{IsTimelyFor, IsSoundObject, IsSoundKind}
-use Rattle.wh_state.proofs.AllLaws.{all_map, all_append, all_at}
+use Rattle.wh_state.proofs.AllLaws.{all_append, all_at}
 use Rattle.wh_state.proofs.FoundLaws.{FoundAt, found_some}
 use Rattle.wh_state.proofs.MeaningLaws.{at_id_meant}
 use Rattle.wh_state.proofs.BelowLaws.{rows_below}
 use Rattle.wh_state.proofs.DynamicFirm.{DynamicHolds, IsFirmDynamic}
-use Rattle.wh_state.proofs.WrittenLaws.{AllGo, ChangeSpares}
+use Rattle.wh_state.proofs.WrittenLaws.{ChangeSpares}
 use Rattle.wh_state.proofs.BroughtGoes.{StateStands}
 use Rattle.wh_moment.specs.Upstream.{Watched, Dynamics, dynamics_of, watched_at, watched_object, upstream}
-use Rattle.wh_moment.specs.Moment.{is_waiting_for, is_due, is_suspended_at, target, sooner, due_among, ids_from, due_table}
+use Rattle.wh_moment.specs.Moment.{is_waiting_for, is_due, target, sooner, due_among, ids_from, due_table}
 use Rattle.wh_moment.specs.Moment.{behind_failure, has_come, grid}
 use Rattle.wh_machine.specs.Tests.{refused_if, refused_past, first_of}
 use Rattle.wh_machine.specs.Names.{object_kind, names_in, refusal_of}
-use Rattle.wh_machine.specs.Outcome.{Machine, Outcome, Does, answers, commits, unless}
+use Rattle.wh_machine.specs.Outcome.{Machine, commits}
 use Rattle.wh_machine.specs.Definitions.{defines}
 use Rattle.wh_machine.specs.Refresh.{Refreshing, Fails, Brings, refresh}
 use Rattle.wh_machine.specs.Dynamics.{seconds_of, lag_refusals, below_refusal, above_refusal, lag_refusal}
@@ -85,7 +85,7 @@ standing_of s m reached =
 
 -- ---- lags
 
-lag_is : (lag : Lag) → first_of (lag_refusals lag) ≡ None → IsLag (seconds_of lag)
+pub lag_is : (lag : Lag) → first_of (lag_refusals lag) ≡ None → IsLag (seconds_of lag)
 lag_is lags.Downstream none = inl refl
 lag_is (lags.Seconds n) none =
     let least = passed (refused_if (nat_lt n (bound limits.LeastTargetLag)) (OverLimit limits.LeastTargetLag)) _ none in
@@ -102,7 +102,7 @@ lag_is (lags.Seconds n) none =
 -- ---- acts of refreshes
 
 -- they drop nothing
-refresh_spares : (id stamp : ℕ) (objects : List StoredObject) (acts : List Act) → AllByRecursion IsOfRefresh acts
+pub refresh_spares : (id stamp : ℕ) (objects : List StoredObject) (acts : List Act) → AllByRecursion IsOfRefresh acts
     → AllByRecursion (ChangeSpares id) (written stamp objects acts)
 refresh_spares id stamp objects [] are = tt
 refresh_spares id stamp objects (act ∷ acts) are =
@@ -288,7 +288,7 @@ module _ (s : Stored) (m : Machine) (reached : IsReached s m) where
       works_defines s m session None _ reached (λ free.
       works_unless s m (lag_refusal m.state (wrong_in name) (named_table name).value lag) _ reached (λ none.
       let names = passed (wrong_in name) _ none in
-      let below = passed (below_refusal m.state.objects lag
+      let below = passed (below_refusal m.state.objects (name_at m.state.objects (named_table name).value) lag
       (upstream (dynamics_of m.state.objects) (named_table name).value)) _ names.1 in
       let over = passed (above_refusal m.state.objects (named_table name).value lag) _ below.1 in
       works_alters (Altered (name_at m.state.objects (named_table name).value)) (named_table name).value
@@ -304,7 +304,7 @@ module _ (s : Stored) (m : Machine) (reached : IsReached s m) where
   works_brings reply lines acts besides id moment live is =
       works_made s m reply acts reached
       (λ other. refresh_spares other m.state.last s.objects acts
-      (subst AreOfRefresh is (refresh_acts m.state besides id moment)).1)
+      (subst (AreOfRefresh m.state) is (refresh_acts m.state besides id moment)).are)
       (refresh_goes s.objects m.state (objects_meant s m reached) reached.firm (standing_of s m reached) besides id moment
       live lines acts is)
 

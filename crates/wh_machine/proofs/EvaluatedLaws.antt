@@ -2,25 +2,25 @@
 --     names_meant        its query sees the same of what a file says and of what that means
 --     ids_sourced        the sources of its query are what it is numbered to read
 --     evaluated_fits     its rows
-use Rattle.std.proofs.Common.{◌≡◌, ℕ, zero, suc, ◌+◌, Bool, true, false, cond, List, [], ◌∷◌, ◌++◌, map, Option, Some, None}
+use Rattle.std.proofs.Common.{◌≡◌, ℕ, zero, suc, Bool, true, false, cond, List, [], ◌∷◌, ◌++◌, map, Option, Some, None}
 use Rattle.std.proofs.Common.{option_map, refl, sym, ap, subst, ◌∙◌, arith}
 use Rattle.std.specs.Prelude.{slice_get, bytes_eq, unwrap_or}
 use Rattle.std.specs.List.{AllByRecursion}
-use Rattle.std.specs.Option.{IsSomeAnd, IfSome, option_and_then, option_map_or}
+use Rattle.std.specs.Option.{IsSomeAnd, option_and_then, option_map_or}
 use Rattle.std.specs.FinMap.{entries, values}
 use Rattle.wh_value.specs.Value.{Row}
 use Rattle.wh_value.specs.Column.{Column}
 use Rattle.wh_meaning.specs.Bag.{Bag, no_rows, bag_of}
-use Rattle.wh_meaning.specs.Query.{Instance, eval, source_in}
+use Rattle.wh_meaning.specs.Query.{eval, source_in}
 use Rattle.wh_naming.specs.Findings.{Name}
-use Rattle.wh_naming.specs.Scope.{ObjectKind, Named, named}
+use Rattle.wh_naming.specs.Scope.{Named, named}
 use Rattle.wh_naming.specs.Select.{BoundQuery, bound_query, column_of}
 use Rattle.wh_ddl_naming.specs.Names.{query_names}
 use Rattle.wh_ddl_naming.proofs.SourceLaws.{id_in, query_sourced}
-use Rattle.wh_state.specs.State.{TableKind, StreamKind, TaskKind, DynamicKind, Object, Table, Rows, Version, table_in}
-use Rattle.wh_state.specs.State.{at_id, columns_in, columns_at, last_of, content_in, nothing_held, rows_at}
+use Rattle.wh_state.specs.State.{TableKind, StreamKind, TaskKind, DynamicKind, Object, Rows, table_in}
+use Rattle.wh_state.specs.State.{at_id, columns_in, columns_at, rows_at}
 use Rattle.wh_state.specs.Dynamic.{Source, DynamicQuery, Dynamic, id_named, ids_read}
-use Rattle.wh_state.specs.Objects.{as_table, table_at}
+use Rattle.wh_state.specs.Objects.{as_table}
 use Rattle.wh_state.specs.Bound.{source_kind, named_as, names_among, query_bound}
 use Rattle.wh_state.specs.Moments.{bag_at, instance_at, evaluated_at}
 use Rattle.wh_state.specs.Stored.{StoredTable, StoredKind, StoredObject, version_meant, table_meant, kind_meant}
@@ -30,11 +30,11 @@ use Rattle.wh_state.proofs.FoundLaws.{FoundAt}
 use Rattle.wh_state.proofs.MeaningLaws.{at_id_meant}
 use Rattle.wh_state.proofs.AppliesLaws.{IsFirmTable}
 use Rattle.wh_state.proofs.FirmLaws.{IsFirmKind, IsFirmObject}
-use Rattle.wh_state.proofs.DynamicFirm.{IsThere, IsBound, IsFirmDynamic}
+use Rattle.wh_state.proofs.DynamicFirm.{IsThere, IsFirmDynamic}
 use Rattle.wh_machine.proofs.BagRows.{AllRows, GivesAll, all_none, all_bag_of}
 use Rattle.wh_machine.proofs.ValueTypes.{FitsTypes, types_of, row_of_columns}
 use Rattle.wh_machine.proofs.GotLaws.{entries_hold}
-use Rattle.wh_machine.proofs.PassedLaws.{NothingFails, nothing_fails}
+use Rattle.wh_machine.proofs.PassedLaws.{nothing_fails}
 use Rattle.wh_machine.proofs.ShownLaws.{output_types}
 use Rattle.wh_machine.proofs.BoundLaws.{column_rows, InstanceFits, IsGoodQuery, query_good}
 use Rattle.wh_machine.proofs.SeenRows.{Fit, RowsFitIn, versions_fit, last_fits}

@@ -2,8 +2,8 @@
 --     statement_keeps     a statement of a session
 --     tick_keeps          a tick
 --     event_keeps         an event
-use Rattle.std.proofs.Common.{◌≡◌, ℕ, suc, ◌≤◌, Bool, true, false, List, [], ◌∷◌, ◌++◌, Option, Some, None, option_map}
-use Rattle.std.proofs.Common.{refl, sym, ap, subst, ◌∙◌, arith}
+use Rattle.std.proofs.Common.{◌≡◌, ℕ, suc, false, List, [], ◌∷◌, ◌++◌, Option, Some, None}
+use Rattle.std.proofs.Common.{refl, subst, arith}
 use Rattle.std.specs.Prelude.{unwrap_or, slice_set}
 use Rattle.std.specs.List.{AllByRecursion}
 use Rattle.wh_value.specs.declared.limit.Limit.TheVariants as limits
@@ -12,7 +12,6 @@ use Rattle.wh_ast.specs.declared.statement.Statement.TheVariants as st
 use Rattle.wh_ast.specs.declared.dml.Dml.{Dml}
 use Rattle.wh_grammar.specs.Spelled.{Request, TooLong, Unreadable, Asked}
 use Rattle.wh_meaning.specs.Bag.{Bag}
-use Rattle.wh_meaning.specs.Query.{eval}
 use Rattle.wh_meaning.specs.Listing.{listed}
 use Rattle.wh_naming.specs.Scope.{TaskObject}
 use Rattle.wh_naming.specs.Select.{BoundSelect, bound_select}
@@ -20,14 +19,13 @@ use Rattle.wh_ddl_naming.specs.Objects.{object_of}
 use Rattle.wh_ddl_naming.specs.Tables.{NewTable, bound_table}
 use Rattle.wh_ddl_naming.specs.Statements as ddl
 use Rattle.wh_reply.specs.Reply.{Refusal, Reply, NumberOutOfRange, NoTransaction, SyntaxError, NoSuchSession, OverLimit}
-use Rattle.wh_reply.specs.Reply.{Begun, RolledBack, Listing, HasData, CreatedTable, CreatedStream, CreatedTask, DroppedTable}
-use Rattle.wh_reply.specs.Reply.{DroppedStream, DroppedTask, DroppedDynamicTable, Resumed, Suspended, Started, Altered, Idle}
+use Rattle.wh_reply.specs.Reply.{Begun, RolledBack, Listing, HasData, CreatedTable}
+use Rattle.wh_reply.specs.Reply.{Started, Idle}
 use Rattle.wh_state.specs.State.{Stream}
 use Rattle.wh_state.specs.Task.{Task, Succeeded, Failed, Skipped}
-use Rattle.wh_state.specs.Objects.{name_at, table_at, stream_at, task_at}
-use Rattle.wh_state.specs.Act.{Act, MakesTable, DropsObject, MakesStream, MakesTask}
+use Rattle.wh_state.specs.Objects.{name_at, table_at, task_at}
+use Rattle.wh_state.specs.Act.{Act, MakesTable, DropsObject}
 use Rattle.wh_state.proofs.AllLaws.{all_with}
-use Rattle.wh_state.proofs.SoundLaws.{IsStill}
 use Rattle.wh_state.proofs.PlainActs.{ArePlain, no_more_edit}
 use Rattle.wh_net.specs.Stream.{rows_shown, has_rows}
 use Rattle.wh_graph.specs.Action.{Action, RunsTask, StartsRun, DoesNothing}
@@ -35,18 +33,18 @@ use Rattle.wh_moment.specs.Upstream.{dynamics_of}
 use Rattle.wh_moment.specs.Moment.{due_table}
 use Rattle.wh_machine.specs.Changes.{Changed, Fails, Gives, reply_to}
 use Rattle.wh_machine.specs.Transaction.{Transaction, begun, staged, staged_in_state, next_row_of, acts_of, commit_refusal}
-use Rattle.wh_machine.specs.Sessions.{Sessions, transaction_in, with_begun, with_ended}
-use Rattle.wh_machine.specs.Names.{refusal_of, names_in}
-use Rattle.wh_machine.specs.Outcome.{Machine, Outcome, Refuses, Does, commits, unless}
+use Rattle.wh_machine.specs.Sessions.{transaction_in, with_begun, with_ended}
+use Rattle.wh_machine.specs.Names.{names_in}
+use Rattle.wh_machine.specs.Outcome.{Machine, Outcome, Does, commits, unless}
 use Rattle.wh_machine.specs.Queries.{listing_of}
-use Rattle.wh_machine.specs.Reading.{instance_read, reading_refusal, start_in, asked, has_data}
+use Rattle.wh_machine.specs.Reading.{reading_refusal, start_in, asked, has_data}
 use Rattle.wh_machine.specs.Definitions.{drops, defines}
 use Rattle.wh_machine.specs.Tables.{retention_of, table_made, create_table, drop_table}
 use Rattle.wh_machine.specs.Streams.{create_stream, drop_stream}
-use Rattle.wh_machine.specs.Tasks.{body_of, put_to, resumed_state, suspended_state, start_acts, create_task, resume_task}
+use Rattle.wh_machine.specs.Tasks.{resumed_state, suspended_state, create_task, resume_task}
 use Rattle.wh_machine.specs.Tasks.{suspend_task, execute_task, drop_task}
-use Rattle.wh_machine.specs.Dynamics.{seconds_of, drop_dynamic, suspend_dynamic, resume_dynamic, set_lag, refresh_dynamic}
-use Rattle.wh_machine.specs.Statements.{begin, commit, rollback, commit_of, rollback_of, commit_reply, bound_changed}
+use Rattle.wh_machine.specs.Dynamics.{drop_dynamic, suspend_dynamic, resume_dynamic, set_lag, refresh_dynamic}
+use Rattle.wh_machine.specs.Statements.{begin, commit, rollback, commit_of, rollback_of, commit_reply}
 use Rattle.wh_machine.specs.Statements.{changes_in, changes_rows, selects, carried_out, carried_out_as, meant_in}
 use Rattle.wh_machine.specs.Ticks as ticks
 use Rattle.wh_machine.specs.Ticks.{body_bound, Verdict, Holds, HoldsNot, verdict, fails_by, carried_in, runs_by, runs_task}

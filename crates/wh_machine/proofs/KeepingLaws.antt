@@ -4,7 +4,6 @@
 --     refused, does, tested, tested_last, either, answered     as of what is lawful
 --     tables_stay       what is a table stays one
 use Rattle.std.proofs.Common.{◌≡◌, ℕ, ◌<◌, Bool, true, false, cond, List, [], ◌∷◌, Option, Some, None, IsTrue, refl}
-use Rattle.std.specs.List.{AllByRecursion}
 use Rattle.wh_reply.specs.Reply.{Refusal, Reply}
 use Rattle.wh_state.specs.State.{Kind, TableKind, StreamKind, TaskKind, DynamicKind, Object, dropped, on_task, on_dynamic}
 use Rattle.wh_state.specs.State.{Table, Stream, on_table, on_stream}

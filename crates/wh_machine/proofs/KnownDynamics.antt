@@ -299,8 +299,8 @@ chain p q lag above = over 20 (table_t [] ∷ new_object (codes "D") (DynamicKin
 
 -- D reads T, and E reads D: no lag of E is below that of D, whichever is altered
 lags_tested : (p q : DynamicQuery) → ids_read p ≡ 1 ∷ [] → ids_read q ≡ 2 ∷ []
-    → (lag_refusal (chain p q 300 600) None 3 (lags.Seconds 299) ≡ Some (LagTooShort 299 300))
-    × (lag_refusal (chain p q 300 600) None 2 (lags.Seconds 601) ≡ Some (LagTooShort 600 601))
+    → (lag_refusal (chain p q 300 600) None 3 (lags.Seconds 299) ≡ Some (LagTooShort (codes "E") (codes "D")))
+    × (lag_refusal (chain p q 300 600) None 2 (lags.Seconds 601) ≡ Some (LagTooShort (codes "E") (codes "D")))
     × (lag_refusal (chain p q 300 600) None 2 (lags.Seconds 600) ≡ None)
     × (lag_refusal (chain p q 300 0) None 2 (lags.Seconds 601) ≡ None)
     × (lag_refusal (chain p q 300 600) None 3 lags.Downstream ≡ None)

@@ -11,6 +11,7 @@ pub mod ReplyLaws
 pub mod KeepingLaws
 pub mod TableNamed
 pub mod PlainLaws
+pub mod AfterLaws
 pub mod BroughtLaws
 pub mod MadeQuery
 pub mod RefreshKeeps
@@ -68,3 +69,6 @@ pub mod RefreshGoes
 pub mod DynamicWorks
 pub mod DynamicNames
 pub mod BehindLaws
+pub mod TokensFilled
+pub mod OutputLaws
+pub mod DynamicMade

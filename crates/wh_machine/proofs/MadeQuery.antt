@@ -2,7 +2,7 @@
 --     sources_by            a source for each name
 --     query_same            over the objects that it is kept with it binds to what the statement's query binds to
 --     sources_there         they are there
-use Rattle.std.proofs.Common.{◌≡◌, ℕ, zero, suc, ◌+◌, ◌<◌, ◌≤◌, Bool, true, false, cond, List, [], ◌∷◌, ◌++◌, map, length}
+use Rattle.std.proofs.Common.{◌≡◌, ℕ, suc, ◌+◌, ◌≤◌, Bool, true, false, cond, List, [], ◌∷◌, ◌++◌, map, length}
 use Rattle.std.proofs.Common.{Option, Some, None, option_map, refl, sym, ap, subst, ◌∙◌, arith}
 use Rattle.std.specs.Prelude.{bytes_eq, ◌||◌}
 use Rattle.std.specs.List.{AllByRecursion, list_any}
@@ -10,18 +10,18 @@ use Rattle.std.specs.Option.{option_map_or}
 use Rattle.std.proofs.lemmas.Slice.Eq.{bytes_eq-Decides}
 use Rattle.wh_ast.specs.declared.query.Query as trees
 use Rattle.wh_naming.specs.Findings.{Name}
-use Rattle.wh_naming.specs.Scope.{ObjectKind, Named, named}
-use Rattle.wh_naming.specs.Select.{BoundQuery, bound_query}
+use Rattle.wh_naming.specs.Scope.{Named, named}
+use Rattle.wh_naming.specs.Select.{bound_query}
 use Rattle.wh_ddl_naming.specs.Names.{query_names}
-use Rattle.wh_ddl_naming.specs.DynamicTables.{kind_inside, inside}
+use Rattle.wh_ddl_naming.specs.DynamicTables.{inside}
 use Rattle.wh_ddl_naming.proofs.QueryLaws.{query_alike}
 use Rattle.wh_ddl_naming.proofs.SourceLaws.{id_in, query_sourced}
 use Rattle.wh_state.specs.State.{Kind, TableKind, StreamKind, TaskKind, DynamicKind, Object, at_id}
-use Rattle.wh_state.specs.Dynamic.{Source, DynamicQuery}
-use Rattle.wh_state.specs.Bound.{source_kind, named_as, names_among, query_bound}
+use Rattle.wh_state.specs.Dynamic.{Source}
+use Rattle.wh_state.specs.Bound.{named_as, names_among, query_bound}
 use Rattle.wh_state.proofs.AllLaws.{all_map}
 use Rattle.wh_state.proofs.SoundObjects.{at_within}
-use Rattle.wh_machine.specs.Names.{object_kind, named_object, names_from}
+use Rattle.wh_machine.specs.Names.{named_object, names_from}
 use Rattle.wh_machine.specs.Dynamics.{sources_named}
 use Rattle.wh_machine.proofs.TableNamed.{IsObjectAt, object_of}
 

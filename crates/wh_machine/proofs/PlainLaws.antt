@@ -3,16 +3,16 @@
 --     acts_plain              the acts of a transaction that commits
 --     recorded_keeps, changed_keeps     a transaction that commits, and a change of rows
 --     ends_keep               a task's end behind other acts
-use Rattle.std.proofs.Common.{◌≡◌, ℕ, suc, zero, ◌-◌, ◌<◌, ◌≤◌, Bool, true, false, cond, List, [], ◌∷◌, ◌++◌, map}
-use Rattle.std.proofs.Common.{Option, Some, None, IsTrue, refl, sym, ap, subst, ◌∙◌, arith}
-use Rattle.std.specs.Prelude.{nat_lt, unwrap_or}
+use Rattle.std.proofs.Common.{◌≡◌, ℕ, suc, zero, ◌≤◌, Bool, true, false, cond, List, [], ◌∷◌, ◌++◌, map}
+use Rattle.std.proofs.Common.{Option, Some, None, IsTrue, refl, sym, subst, ◌∙◌, arith}
+use Rattle.std.specs.Prelude.{nat_lt}
 use Rattle.std.specs.List.{AllByRecursion}
 use Rattle.std.specs.Option.{IsSomeAnd, option_and_then}
-use Rattle.std.specs.FinMap.{get, insert, entries, empty, get-insert, get-empty}
+use Rattle.std.specs.FinMap.{get, entries, get-insert, get-empty}
 use Rattle.std.specs.Cmp.{nat_cmp_total}
 use Rattle.std.specs.Ordering.{nat_cmp, eq_by_cmp}
-use Rattle.wh_reply.specs.Reply.{Refusal, Reply}
-use Rattle.wh_state.specs.State.{State, Kind, TableKind, StreamKind, TaskKind, DynamicKind, Object, Stream, at_id, dynamic_in}
+use Rattle.wh_reply.specs.Reply.{Reply}
+use Rattle.wh_state.specs.State.{Kind, TableKind, StreamKind, TaskKind, DynamicKind, Object, Stream, at_id, dynamic_in}
 use Rattle.wh_state.specs.Task.{Task, Ending}
 use Rattle.wh_state.specs.Objects.{is_table, as_dynamic, table_at, stream_at, dynamic_at}
 use Rattle.wh_state.specs.Act.{Act, MakesTable, DropsObject, EditsRows, MakesStream, MovesOffset, MakesTask, PutsTask}
@@ -28,10 +28,10 @@ use Rattle.wh_machine.specs.Transaction.{Staged, Transaction, begun, start_of, s
 use Rattle.wh_machine.specs.Transaction.{with_effect, staged_in, next_row_of}
 use Rattle.wh_machine.specs.Transaction.{acts_of, commit_refusal}
 use Rattle.wh_machine.specs.Sessions.{Sessions, transaction_in}
-use Rattle.wh_machine.specs.Outcome.{Machine, Outcome, Refuses, Does, commits}
+use Rattle.wh_machine.specs.Outcome.{Machine, commits}
 use Rattle.wh_machine.specs.Statements.{recorded, changes_in}
 use Rattle.wh_machine.specs.Ticks.{end_acts, ends_as}
-use Rattle.wh_machine.specs.Sound.{IsBegun, AreBegun, IsTableAt, ChangesTables, AllChangeTables}
+use Rattle.wh_machine.specs.Sound.{IsTableAt, ChangesTables, AllChangeTables}
 use Rattle.wh_machine.proofs.EntryLaws.{RiseFrom, entries_rise}
 use Rattle.wh_machine.proofs.GotLaws.{entries_hold}
 use Rattle.wh_machine.proofs.TaskActs.{IsOfTasks, end_is}

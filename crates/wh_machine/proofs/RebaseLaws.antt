@@ -22,11 +22,11 @@ use Rattle.wh_value.specs.Fits.{row_fits}
 use Rattle.wh_meaning.specs.Bag.{Bag}
 use Rattle.wh_meaning.specs.Listing.{listed}
 use Rattle.wh_state.specs.State.{Rows}
-use Rattle.wh_state.specs.Edits.{RowEdits, Edits, with_removed, edits_from}
+use Rattle.wh_state.specs.Edits.{RowEdits, with_removed, edits_from}
 use Rattle.wh_value.proofs.TestLaws.{both_hold}
 use Rattle.wh_state.proofs.AllLaws.{all_map, all_both}
 use Rattle.wh_state.proofs.AppliesLaws.{EditsFit}
-use Rattle.wh_moment.specs.Rebase.{less_by_count, without_row, KeptApart, gone_if, kept_apart, rebase}
+use Rattle.wh_moment.specs.Rebase.{less_by_count, without_row, gone_if, kept_apart, rebase}
 use Rattle.wh_machine.proofs.BagRows.{AllEntries, AllRows, all_put, all_listed}
 use Rattle.wh_machine.proofs.ValueTypes.{FitsTypes, types_of, fits_row}
 

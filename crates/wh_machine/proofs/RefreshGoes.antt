@@ -9,13 +9,13 @@ use Rattle.std.specs.List.{AllByRecursion, filter, list_any, flat_map}
 use Rattle.std.specs.Option.{IsSomeAnd, option_and_then, option_map_or}
 use Rattle.std.proofs.lemmas.Bool.Decides.{nat_tests}
 use Rattle.wh_value.specs.declared.limit.Limit.TheVariants as limits
-use Rattle.wh_reply.specs.Reply.{Refusal, Refreshed, OverLimit, SourceGone, NumberOutOfRange}
+use Rattle.wh_reply.specs.Reply.{Refusal, Refreshed, OverLimit, SourceGone}
 use Rattle.wh_state.specs.State.{State, TableKind, StreamKind, TaskKind, DynamicKind, Object, VersionOf, at_id, last_of}
 use Rattle.wh_frame.specs.Partition.{Partition}
 use Rattle.wh_state.specs.Dynamic.{DynamicState, Dynamic, ids_read}
 use Rattle.wh_state.specs.Objects.{as_dynamic, dynamic_at, is_live_at, name_at}
 use Rattle.wh_state.specs.Act.{Act}
-use Rattle.wh_state.specs.Stored.{StoredTable, StoredKind, StoredObject, object_meant, kind_meant}
+use Rattle.wh_state.specs.Stored.{StoredKind, StoredObject, object_meant}
 use Rattle.wh_state.specs.Commit.{DoesNotFall}
 use Rattle.wh_state.specs.Written.{written}
 use Rattle.wh_state.proofs.AllLaws.{all_map, all_both, all_append, all_filter, all_at}
@@ -26,13 +26,13 @@ use Rattle.wh_state.proofs.AppliesLaws.{IsBelowNext}
 use Rattle.wh_state.proofs.FirmLaws.{IsFirm}
 use Rattle.wh_state.proofs.WrittenLaws.{AllGo}
 use Rattle.wh_state.proofs.BroughtGoes.{KindRefreshable, Refreshable}
-use Rattle.wh_moment.specs.Upstream.{Watched, Dynamics, watched_object, dynamics_of, watched_at, upstream, is_below}
+use Rattle.wh_moment.specs.Upstream.{Watched, watched_object, dynamics_of, watched_at, upstream, is_below}
 use Rattle.wh_moment.specs.Upstream.{stands_below, brought}
 use Rattle.wh_moment.proofs.UpstreamLaws.{brought_rise}
 use Rattle.wh_moment.proofs.DirectLaws.{sources_at, upstream_all}
 use Rattle.wh_machine.specs.Tests.{first_of}
 use Rattle.wh_machine.specs.Refresh.{Brought, acts_of_one, brought_all, is_row_past, is_partition_past, number_refusal}
-use Rattle.wh_machine.specs.Refresh.{lost_source, first_lost, told_of, Refreshing, Fails, Brings, unless_past, refresh_by}
+use Rattle.wh_machine.specs.Refresh.{lost_source, first_lost, told_of, Refreshing, Brings, unless_past, refresh_by}
 use Rattle.wh_machine.specs.Refresh.{with_upstream, refresh}
 use Rattle.wh_machine.proofs.PassedLaws.{passed}
 use Rattle.wh_machine.proofs.BroughtWorks.{IsWithinNumbers, all_go}

@@ -2,20 +2,19 @@
 --     IsWatched, watched_of     what a schedule looks at of a dynamic table
 --     moments_seen              no moment is behind the stamp
 --     refresh_keeps             a refresh to a moment
-use Rattle.std.proofs.Common.{◌≡◌, ℕ, zero, suc, ◌<◌, ◌≤◌, ◌⊎◌, inl, inr, Bool, true, false, cond, List, [], ◌∷◌, ◌++◌, map}
+use Rattle.std.proofs.Common.{◌≡◌, ℕ, ◌<◌, ◌≤◌, ◌⊎◌, inl, inr, Bool, true, false, cond, List, [], ◌∷◌, ◌++◌, map}
 use Rattle.std.proofs.Common.{Option, Some, None, option_map, refl, sym, ap, subst, ◌∙◌, arith}
 use Rattle.std.specs.Prelude.{◌||◌, nat_eq, nat_lt, unwrap_or}
-use Rattle.std.specs.List.{AllByRecursion, filter, flat_map, list_any}
-use Rattle.std.specs.Option.{IfSome, option_and_then, option_map_or}
+use Rattle.std.specs.List.{AllByRecursion, filter, flat_map}
+use Rattle.std.specs.Option.{IfSome, option_map_or}
 use Rattle.std.proofs.lemmas.Bool.Decides.{nat_tests}
-use Rattle.wh_reply.specs.Reply.{Refusal, Refreshed}
-use Rattle.wh_state.specs.State.{Kind, TableKind, StreamKind, TaskKind, DynamicKind, Object, Table, State, at_id}
-use Rattle.wh_state.specs.Dynamic.{DynamicState, Dynamic, ids_read}
+use Rattle.wh_reply.specs.Reply.{Refusal}
+use Rattle.wh_state.specs.State.{Kind, TableKind, StreamKind, TaskKind, DynamicKind, Object, State, at_id}
+use Rattle.wh_state.specs.Dynamic.{Dynamic, ids_read}
 use Rattle.wh_state.specs.Objects.{dynamic_at}
 use Rattle.wh_state.specs.Edits.{is_among}
-use Rattle.wh_state.specs.Act.{Act}
 use Rattle.wh_state.specs.Sound.{IsSoundKind, ReadsEarlier}
-use Rattle.wh_state.proofs.AllLaws.{all_map, all_both}
+use Rattle.wh_state.proofs.AllLaws.{all_both}
 use Rattle.wh_state.proofs.IdLaws.{map_at}
 use Rattle.wh_state.proofs.EvaluatedLaws.{ids_read_hold}
 use Rattle.wh_state.proofs.SoundObjects.{IsKept, IsDynamicAt, found_dynamic, at_within}
@@ -24,8 +23,8 @@ use Rattle.wh_moment.specs.Upstream.{Watched, Dynamics, watched, watched_object,
 use Rattle.wh_moment.specs.Upstream.{is_below, stands_below, brought}
 use Rattle.wh_moment.specs.Moment.{moment_at}
 use Rattle.wh_moment.proofs.UpstreamLaws.{brought_rise}
-use Rattle.wh_moment.proofs.ClosedLaws.{among_front, among_behind, among_either, among_one, same_number, reads_upstream}
-use Rattle.wh_moment.proofs.ClosedLaws.{IsReadBy, upstream_closed}
+use Rattle.wh_moment.proofs.ClosedLaws.{among_front, among_either, among_one, same_number, reads_upstream}
+use Rattle.wh_moment.proofs.ClosedLaws.{upstream_closed}
 use Rattle.wh_machine.specs.Tests.{first_of}
 use Rattle.wh_machine.specs.Refresh.{Brought, acts_of_one, brought_all, number_refusal, first_lost, told_of, Refreshing}
 use Rattle.wh_machine.specs.Refresh.{Fails, Brings, unless_past, refresh_by, with_upstream, refresh}

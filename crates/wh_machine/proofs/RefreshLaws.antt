@@ -3,7 +3,7 @@
 --     brought_id, brought_ids       what is brought by a refresh are the tables that it goes over
 --     IsRefresh, refresh_acts       versions by rising ids, of tables that are no base tables, and states
 --     dynamic_lawful                the outcomes of dynamic tables are lawful
-use Rattle.std.proofs.Common.{◌≡◌, ℕ, zero, suc, ◌≤◌, Bool, true, false, cond, List, [], ◌∷◌, ◌++◌, map, Option, Some}
+use Rattle.std.proofs.Common.{◌≡◌, ℕ, zero, suc, Bool, true, false, cond, List, [], ◌∷◌, ◌++◌, map, Option, Some}
 use Rattle.std.proofs.Common.{None}
 use Rattle.std.proofs.Common.{option_map, refl, sym, ap, subst, ◌∙◌, arith}
 use Rattle.std.specs.Prelude.{slice_get}
@@ -12,13 +12,13 @@ use Rattle.std.specs.Option.{option_and_then, IsSomeAnd}
 use Rattle.wh_ast.specs.declared.statement.Initialize.{Initialize}
 use Rattle.wh_ast.specs.declared.statement.Initialize.TheVariants as starts
 use Rattle.wh_ddl_naming.specs.DynamicTables.{NewDynamicTable}
-use Rattle.wh_reply.specs.Reply.{Refusal, Reply, Refreshed, RefreshAction, NoData, Full, Incremental, is_refusal}
+use Rattle.wh_reply.specs.Reply.{Refusal, Reply, RefreshAction, NoData, Full, Incremental, is_refusal}
 use Rattle.wh_reply.specs.Reply.{CreatedDynamicTable, RefreshedTables, RefreshFailed}
 use Rattle.wh_meaning.specs.Bag.{Bag}
 use Rattle.wh_state.specs.State.{State, Object, Table, Kind, TableKind, StreamKind, TaskKind, DynamicKind, last_rows}
 use Rattle.wh_state.specs.State.{dynamic_in, at_id}
 use Rattle.wh_state.specs.Edits.{Edits}
-use Rattle.wh_state.specs.Dynamic.{DynamicQuery, DynamicState, Dynamic, ids_read}
+use Rattle.wh_state.specs.Dynamic.{DynamicQuery, DynamicState, Dynamic}
 use Rattle.wh_state.specs.Moments.{evaluated_at}
 use Rattle.wh_state.specs.Act.{Act, MakesTable, DropsObject, EditsRows, MakesStream, MovesOffset, MakesTask, PutsTask}
 use Rattle.wh_state.specs.Act.{BeginsRun, EndsTask, MakesDynamic, PutsDynamic, RefreshesRows, all_acted}
@@ -34,7 +34,7 @@ use Rattle.wh_machine.specs.Refresh.{Brought, brought_as, brought_by, brought_wi
 use Rattle.wh_machine.specs.Refresh.{version_acts}
 use Rattle.wh_machine.specs.Refresh.{acts_of_one, brought_then, brought_all, number_refusal, first_lost, told_of}
 use Rattle.wh_machine.specs.Refresh.{Refreshing, Fails, Brings, unless_past, refresh_by, with_upstream, refresh}
-use Rattle.wh_machine.specs.Outcome.{Machine, Outcome, Refuses, commits}
+use Rattle.wh_machine.specs.Outcome.{Machine, commits}
 use Rattle.wh_machine.specs.Dynamics.{dynamic_made, with_dynamic, new_id, asked_refresh, made_with, initialized}
 use Rattle.wh_machine.specs.Dynamics.{is_same_dynamic_state, puts_dynamic, alters, refreshed_by, is_fifth, failed_of}
 use Rattle.wh_machine.specs.Dynamics.{scheduled_by, scheduled}

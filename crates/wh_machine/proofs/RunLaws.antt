@@ -3,12 +3,8 @@
 --     others_stay       every other tick leaves each stream as it was: a condition moves none, and neither does a
 --                       statement that fails
 use Rattle.std.proofs.Common.{◌≡◌, ℕ, true, false, List, [], map, Option, Some, None, refl, sym, ap, ◌∙◌}
-use Rattle.std.specs.Prelude.{nat_eq}
-use Rattle.std.specs.List.{list_any}
 use Rattle.wh_ast.specs.declared.dml.Dml.{Dml}
 use Rattle.wh_meaning.specs.Bag.{bag_of}
-use Rattle.wh_effect.specs.Effect.{Effect}
-use Rattle.wh_naming.specs.Changes.{Modification}
 use Rattle.wh_reply.specs.Reply.{Refusal, is_refusal}
 use Rattle.wh_net.specs.Stream.{shown_row}
 use Rattle.wh_graph.specs.Action.{Action, RunsTask, StartsRun, DoesNothing}

@@ -1,11 +1,10 @@
 -- What is sound stays so.
 --     sound_opened                 the machine of a file's sound state is sound
 --     sound_step, sound_after      an event, and a run of them
-use Rattle.std.proofs.Common.{ℕ, suc, zero, ◌<◌, ◌≤◌, List, [], ◌∷◌, Option, Some, None}
+use Rattle.std.proofs.Common.{ℕ, suc, zero, ◌≤◌, List, [], ◌∷◌, Option, Some, None}
 use Rattle.std.proofs.Common.{arith}
 use Rattle.std.specs.Prelude.{replicate}
 use Rattle.wh_state.specs.State.{State, Object}
-use Rattle.wh_state.specs.Act.{Act}
 use Rattle.wh_state.specs.Sound.{Sound}
 use Rattle.wh_state.proofs.AllLaws.{all_map}
 use Rattle.wh_state.proofs.SoundLaws.{sound_done}

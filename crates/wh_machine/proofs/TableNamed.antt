@@ -3,11 +3,10 @@
 --     table_changed             what a change does is done to a table
 use Rattle.std.proofs.Common.{◌≡◌, ℕ, suc, ◌+◌, Bool, true, false, cond, List, [], ◌∷◌, ◌++◌, Option, Some, None, IsTrue}
 use Rattle.std.proofs.Common.{option_map, refl, sym, ap, subst, ◌∙◌, arith}
-use Rattle.std.specs.Prelude.{not, bytes_eq, slice_get, unwrap_or}
+use Rattle.std.specs.Prelude.{not, bytes_eq, slice_get}
 use Rattle.std.specs.Option.{IsSomeAnd}
 use Rattle.wh_ast.specs.declared.dml.Dml.{Dml}
 use Rattle.wh_ast.specs.declared.dml.Dml.TheVariants as dml
-use Rattle.wh_ast.specs.declared.dml.Rows.{Rows}
 use Rattle.wh_ast.specs.declared.dml.Rows.TheVariants as rows
 use Rattle.wh_naming.specs.Findings as naming
 use Rattle.wh_naming.specs.Findings.{Name}

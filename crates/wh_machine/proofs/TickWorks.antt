@@ -54,6 +54,9 @@ use Rattle.wh_machine.proofs.WorksLaws.{IsReached, objects_meant, Works, works_d
 use Rattle.wh_machine.proofs.WorksLaws.{transaction_commits}
 use Rattle.wh_machine.proofs.ValueTypes.{both_true}
 use Rattle.wh_machine.proofs.StageLaws.{ChangedFits, alone_stands}
+use Rattle.wh_moment.specs.Upstream.{dynamics_of}
+use Rattle.wh_moment.specs.Moment.{due_table}
+use Rattle.wh_machine.proofs.DynamicWorks.{works_refreshes}
 use Rattle.wh_machine.proofs.ChangeLaws.{change_fits}
 use Rattle.wh_machine.proofs.TaskWorks.{IsTaskAt, live_task_at, firm_at, task_found, live_meant}
 use Rattle.wh_machine.proofs.StartWorks.{works_scheduled}
@@ -328,7 +331,8 @@ works_run s m root task reached is =
 works_action : (s : Stored) (m : Machine) (a : Action) → IsReached s m → action_at m ≡ a → Works s m (does_action m a)
 works_action s m (RunsTask root task) reached is = works_run s m root task reached is
 works_action s m (StartsRun root) reached is = works_due s m root reached is
-works_action s m DoesNothing reached is = works_does s m Idle m.sessions reached.stand
+works_action s m DoesNothing reached is =
+    works_refreshes s m reached (due_table (dynamics_of m.state.objects) m.state.last) refl
 
 pub works_tick : (s : Stored) (m : Machine) → IsReached s m → Works s m (ticked m)
 unfolding ticked

@@ -3,7 +3,7 @@
 --     IsSpelledEvent        what CREATE TASK and CREATE DYNAMIC TABLE keep of their texts spells what the task runs,
 --                           and the query
 --     outcome_understood    so the acts of what an event comes to are understood
-use Rattle.std.proofs.Common.{◌≡◌, ℕ, Bool, true, false, cond, List, [], ◌∷◌, ◌++◌, map, Option, Some, None}
+use Rattle.std.proofs.Common.{ℕ, Bool, true, false, cond, List, [], ◌∷◌, ◌++◌, map, Option, Some, None}
 use Rattle.std.specs.Prelude.{option_map, unwrap_or, nat_eq, nat_lt}
 use Rattle.std.specs.List.{AllByRecursion}
 use Rattle.wh_ast.specs.declared.dml.Dml.{Dml}

@@ -2,14 +2,13 @@
 --     create_dynamic, drop_dynamic                            their outcomes
 --     suspend_dynamic, resume_dynamic, set_lag, refresh_dynamic     those of ALTER
 --     scheduled                                               the refresh of a table that is due
-use Rattle.std.specs.Prelude.{ℕ, zero, suc, ◌+◌, Bool, true, false, not, ◌&&◌, if◌then◌else◌, List, [], ◌∷◌, ◌++◌}
-use Rattle.std.specs.Prelude.{length, map}
-use Rattle.std.specs.Prelude.{Option, Some, None, option_map, nat_eq, nat_lt}
-use Rattle.std.specs.List.{filter, list_any}
+use Rattle.std.specs.Prelude.{ℕ, suc, ◌+◌, Bool, true, false, not, ◌&&◌, if◌then◌else◌, List, [], ◌∷◌, ◌++◌}
+use Rattle.std.specs.Prelude.{length}
+use Rattle.std.specs.Prelude.{Option, Some, None, nat_eq, nat_lt}
+use Rattle.std.specs.List.{list_any}
 use Rattle.std.specs.Option.{option_map_or}
 use Rattle.wh_value.specs.declared.limit.Limit.TheVariants as limits
 use Rattle.wh_value.specs.Limit.{bound}
-use Rattle.wh_ast.specs.declared.query.Query.{Query}
 use Rattle.wh_ast.specs.declared.statement.Lag.{Lag}
 use Rattle.wh_ast.specs.declared.statement.Lag.TheVariants as lags
 use Rattle.wh_ast.specs.declared.statement.RefreshMode.{RefreshMode}
@@ -21,7 +20,7 @@ use Rattle.wh_ddl_naming.specs.DynamicTables.{NewDynamicTable}
 use Rattle.wh_naming.specs.Findings.{Name}
 use Rattle.wh_ddl_naming.specs.Names.{query_names}
 use Rattle.wh_ddl_naming.specs.Tables.{column_names}
-use Rattle.wh_reply.specs.Reply.{Refusal, OverLimit, NotIncrementable, LagTooShort, IsSuspended, Reply, Refreshed}
+use Rattle.wh_reply.specs.Reply.{Refusal, OverLimit, NotIncrementable, LagTooShort, IsSuspended, Reply}
 use Rattle.wh_reply.specs.Reply.{CreatedDynamicTable, DroppedDynamicTable, Altered, Resumed, Suspended, RefreshedTables}
 use Rattle.wh_reply.specs.Reply.{RefreshFailed}
 use Rattle.wh_state.specs.State.{State, Object}
@@ -58,14 +57,15 @@ abbrev pub is_longer : List Object → ℕ → ℕ → Bool
 is_longer objects lag id = nat_lt lag (live_lag objects id)
 
 -- of those of the upstream that have a longer lag the one with the least id
-abbrev pub first_longer : List Object → ℕ → List ℕ → Option Refusal
-first_longer objects lag [] = None
-first_longer objects lag (id ∷ ids) =
-    if is_longer objects lag id then Some (LagTooShort lag (live_lag objects id)) else first_longer objects lag ids
+abbrev pub first_longer : List Object → List ℕ → ℕ → List ℕ → Option Refusal
+first_longer objects name lag [] = None
+first_longer objects name lag (id ∷ ids) = if is_longer objects lag id
+    then Some (LagTooShort name (name_at objects id)) else first_longer objects name lag ids
 
-abbrev pub below_refusal : List Object → Lag → List ℕ → Option Refusal
-below_refusal objects lags.Downstream ids = None
-below_refusal objects (lags.Seconds n) ids = first_longer objects n ids
+-- of a table of that name
+abbrev pub below_refusal : List Object → List ℕ → Lag → List ℕ → Option Refusal
+below_refusal objects name lags.Downstream ids = None
+below_refusal objects name (lags.Seconds n) ids = first_longer objects name n ids
 
 -- ---- CREATE DYNAMIC TABLE
 
@@ -97,7 +97,7 @@ unfoldable pub dynamic_refusal : State → Option Refusal → NewDynamicTable �
 dynamic_refusal s wrong n query = first_of (
     wrong
     ∷ mode_refusal n.mode (incrementable n.query)
-    ∷ below_refusal s.objects n.lag (upstream (dynamics_of (with_dynamic s n query).objects) (new_id s))
+    ∷ below_refusal s.objects n.name n.lag (upstream (dynamics_of (with_dynamic s n query).objects) (new_id s))
     ∷ count_refusals s 0
     ++ refused_if (list_any is_long (n.name ∷ column_names n.columns)) (OverLimit limits.Name)
     ∷ refused_past limits.Columns (length n.columns)
@@ -173,7 +173,7 @@ is_shorter_above objects id lag above = nat_lt 0 (live_lag objects above) && nat
 abbrev pub first_shorter : List Object → ℕ → ℕ → List ℕ → Option Refusal
 first_shorter objects id lag [] = None
 first_shorter objects id lag (above ∷ others) = if is_shorter_above objects id lag above
-    then Some (LagTooShort (live_lag objects above) lag) else first_shorter objects id lag others
+    then Some (LagTooShort (name_at objects above) (name_at objects id)) else first_shorter objects id lag others
 
 abbrev pub above_refusal : List Object → ℕ → Lag → Option Refusal
 above_refusal objects id lags.Downstream = None
@@ -183,7 +183,7 @@ above_refusal objects id (lags.Seconds n) = first_shorter objects id n (ids_from
 unfoldable pub lag_refusal : State → Option Refusal → ℕ → Lag → Option Refusal
 lag_refusal s wrong id lag = first_of (
     wrong
-    ∷ below_refusal s.objects lag (upstream (dynamics_of s.objects) id)
+    ∷ below_refusal s.objects (name_at s.objects id) lag (upstream (dynamics_of s.objects) id)
     ∷ above_refusal s.objects id lag
     ∷ lag_refusals lag)
 

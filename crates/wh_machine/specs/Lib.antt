@@ -12,6 +12,7 @@ pub mod Tables
 pub mod Streams
 pub mod Tasks
 pub mod Refresh
+pub mod Brought
 pub mod Dynamics
 pub mod Statements
 pub mod Ticks

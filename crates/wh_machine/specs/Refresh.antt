@@ -4,9 +4,9 @@
 --     Refreshing, refresh          the refresh of a table to a moment: a refusal, or its lines and its acts
 use Rattle.std.specs.Prelude.{ℕ, ◌+◌, Bool, true, false, not, ◌&&◌, if◌then◌else◌, List, [], ◌∷◌, ◌++◌, length, map}
 use Rattle.std.specs.Prelude.{Option, Some, None, option_map, nat_eq, nat_lt, nat_le}
-use Rattle.std.specs.FinMap.{entries, values}
-use Rattle.std.specs.List.{filter, flat_map, list_any}
-use Rattle.std.specs.Option.{option_and_then, option_map_or}
+use Rattle.std.specs.FinMap.{entries}
+use Rattle.std.specs.List.{flat_map, list_any}
+use Rattle.std.specs.Option.{option_map_or}
 use Rattle.wh_value.specs.Limit.{bound}
 use Rattle.wh_value.specs.declared.limit.Limit.TheVariants as limits
 use Rattle.wh_reply.specs.Reply.{Refusal, OverLimit, SourceGone, NumberOutOfRange, RefreshAction, NoData, Full}

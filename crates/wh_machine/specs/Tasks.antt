@@ -3,7 +3,7 @@
 --     create_task, resume_task, suspend_task, execute_task, drop_task     their outcomes
 use Rattle.std.specs.Prelude.{ℕ, zero, suc, ◌+◌, Bool, true, false, not, ◌&&◌, if◌then◌else◌, List, [], ◌∷◌, ◌++◌}
 use Rattle.std.specs.Prelude.{length}
-use Rattle.std.specs.Prelude.{map, Option, Some, None, is_some, unwrap_or, nat_eq, count_by}
+use Rattle.std.specs.Prelude.{map, Option, Some, None, unwrap_or, nat_eq, count_by}
 use Rattle.std.specs.Option.{option_map_or}
 use Rattle.wh_value.specs.declared.limit.Limit.TheVariants as limits
 use Rattle.wh_ddl_naming.specs.Tasks.{NewTask}

@@ -4,7 +4,7 @@
 --     end_acts             the acts of a task's end
 --     run_task, ticked     the outcomes of a task's run, and of a tick
 use Rattle.std.specs.Prelude.{ℕ, Bool, true, false, not, ◌&&◌, ◌||◌, if◌then◌else◌, List, [], ◌∷◌, ◌++◌, map}
-use Rattle.std.specs.Prelude.{Option, Some, None, is_some, option_map, unwrap_or, nat_eq}
+use Rattle.std.specs.Prelude.{Option, Some, None, is_some, unwrap_or, nat_eq}
 use Rattle.std.specs.List.{flat_map}
 use Rattle.std.specs.Option.{option_map_or, option_to_list}
 use Rattle.wh_ast.specs.declared.dml.Dml.{Dml}
@@ -17,7 +17,7 @@ use Rattle.wh_reply.specs.Reply.{TaskSucceeded, TaskSkipped, TaskFailed, Idle}
 use Rattle.wh_reply.specs.Reply as replies
 use Rattle.wh_net.specs.Stream.{rows_shown, has_rows}
 use Rattle.wh_state.specs.Task.{Ending, Succeeded, Failed, Skipped, Run, TaskState, Task}
-use Rattle.wh_state.specs.State.{Object, Stream, id_of}
+use Rattle.wh_state.specs.State.{Object, id_of}
 use Rattle.wh_state.specs.Act.{Act, PutsTask, EndsTask}
 use Rattle.wh_state.specs.Objects.{name_at, task_at, stream_at, is_stream, is_kind_at}
 use Rattle.wh_graph.specs.Graph.{is_under_way, skipped_behind, run_behind, has_failed}
@@ -25,7 +25,6 @@ use Rattle.wh_graph.specs.Root.{is_tenth, state_behind}
 use Rattle.wh_graph.specs.Action.{Action, RunsTask, StartsRun, DoesNothing, action}
 use Rattle.wh_machine.specs.Tests.{refused_if, first_of}
 use Rattle.wh_machine.specs.Names.{names_from}
-use Rattle.wh_machine.specs.Changes.{Changed}
 use Rattle.wh_machine.specs.Sessions.{Sessions, holder, or_later}
 use Rattle.wh_machine.specs.Outcome.{Machine, Outcome, Refuses, Does, answers, commits}
 use Rattle.wh_machine.specs.Reading.{start_in, reading_refusal}

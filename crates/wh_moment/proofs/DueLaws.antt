@@ -3,8 +3,8 @@
 --     due_some             its target is a moment
 --     due_within           and not behind the stamp, where no table stands for a moment behind it
 --     due_greatest         and no table that is upstream stands for a later one
-use Rattle.std.proofs.Common.{◌≡◌, ℕ, suc, ◌+◌, ◌*◌, ◌/◌, ◌%◌, ◌<◌, ◌≤◌, max, Bool, true, false, cond, List, [], ◌∷◌}
-use Rattle.std.proofs.Common.{Option, Some, None, refl, sym, ap, subst, ◌∙◌, arith}
+use Rattle.std.proofs.Common.{◌≡◌, ℕ, ◌<◌, ◌≤◌, max, Bool, true, false, cond, List, [], ◌∷◌}
+use Rattle.std.proofs.Common.{Option, Some, None, refl, ap, subst, arith}
 use Rattle.std.specs.Prelude.{◌&&◌, ◌||◌, not, nat_lt, nat_eq}
 use Rattle.std.specs.Option.{option_map_or}
 use Rattle.std.proofs.lemmas.Bool.Decides.{nat_tests}
@@ -95,8 +95,12 @@ pub due_within : (all : Dynamics) (stamp : ℕ) (due : ℕ × ℕ) → IsDueAt a
     → ((id : ℕ) → moment_at all id ≤ stamp) → due.1 ≤ stamp
 unfolding target
 due_within all stamp due is each =
-    omega (arith, is.target, by_found (watched_at all due.0),
-    greatest_within all stamp each (upstream all due.0))
+    omega (
+      arith,
+      is.target,
+      by_found (watched_at all due.0),
+      greatest_within all stamp each (upstream all due.0),
+    )
   where
     by_found : (found : Option Watched) → option_map_or (λ w. grid w.state.lag stamp) found 0 ≤ stamp
     by_found None = omega arith

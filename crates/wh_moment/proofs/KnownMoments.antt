@@ -1,5 +1,5 @@
 -- Moments, what dynamic tables read and which rows stay, worked out by hand: a wrong rule doesn't check.
-use Rattle.std.proofs.Common.{◌≡◌, ℕ, List, [], ◌∷◌, Option, Some, None, Bool, true, false, refl}
+use Rattle.std.proofs.Common.{◌≡◌, ℕ, List, [], ◌∷◌, Some, None, Bool, true, false, refl}
 use Rattle.wh_state.specs.Dynamic.{DynamicState}
 use Rattle.wh_moment.specs.Upstream.{Watched, Dynamics, upstream, brought}
 use Rattle.wh_moment.specs.Moment.{period, grid, is_due, target, due_table, behind_failure}

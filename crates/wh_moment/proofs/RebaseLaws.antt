@@ -3,8 +3,8 @@
 --     rows_left          the entries that stay
 --     rebased            what the rows are afterwards
 use Rattle.std.proofs.Common.{◌≡◌, ℕ, zero, suc, ◌+◌, ◌<◌, ◌≤◌, Bool, true, false, cond, List, [], ◌∷◌, ◌++◌, map}
-use Rattle.std.proofs.Common.{Option, Some, None, is_some, refl, sym, ap, subst, ◌∙◌, arith}
-use Rattle.std.specs.Prelude.{not, if◌then◌else◌}
+use Rattle.std.proofs.Common.{Option, Some, None, is_some, refl, sym, ap, ◌∙◌, arith}
+use Rattle.std.specs.Prelude.{not}
 use Rattle.std.specs.List.{AllByRecursion}
 use Rattle.std.specs.declared.cmp.Ordering.{Ordering}
 use Rattle.std.specs.Ordering.{nat_cmp, eq_by_cmp, is_gt}
@@ -18,8 +18,7 @@ use Rattle.wh_meaning.specs.Listing.{SortKey, order_by, listed}
 use Rattle.wh_meaning.proofs.BagLaws.{bag_of_same, with_row-with_row, with_row-plus, plus-no_rows, no_rows-plus}
 use Rattle.wh_meaning.proofs.BagLaws.{bag_of-append, count-with_row, count-insert, tied_rows}
 use Rattle.wh_state.specs.State.{Rows}
-use Rattle.wh_state.specs.Edits.{RowEdits, Edits, row_as, edited, with_removed, edits_from, rows_after}
-use Rattle.wh_state.proofs.RowLaws.{number_tied}
+use Rattle.wh_state.specs.Edits.{RowEdits, row_as, edited, with_removed, edits_from, rows_after}
 use Rattle.wh_state.proofs.AfterLaws.{RisesFrom, after_values, entries_rise}
 use Rattle.wh_state.proofs.AllLaws.{all_map}
 use Rattle.wh_moment.specs.Rebase.{less_by_count, without_row, KeptApart, gone_if, kept_apart, rebase}
@@ -164,9 +163,11 @@ edited_alike edits other (e ∷ es) same =
 -- numbers from a least one on
 rising_from : (least : ℕ) (es : List (ℕ × Row)) → RisesFrom least es → AllByRecursion (λ e. least ≤ e.0) es
 rising_from least [] rises = tt
-rising_from least (e ∷ es) rises =
-    (rises.0, all_map (λ f. e.0 + 1 ≤ f.0) (λ f. least ≤ f.0) (λ f h. omega (arith, h, rises.0)) es
-    (rising_from (e.0 + 1) es rises.1))
+rising_from least (e ∷ es) rises = (
+  rises.0,
+  all_map (λ f. e.0 + 1 ≤ f.0) (λ f. least ≤ f.0) (λ f h. omega (arith, h, rises.0)) es
+      (rising_from (e.0 + 1) es rises.1),
+)
 
 gone_from : (least : ℕ) (new : Bag) (es : List (ℕ × Row)) → RisesFrom least es
     → AllByRecursion (λ n. least ≤ n) (kept_apart new es).gone
@@ -176,8 +177,11 @@ gone_from least new (e ∷ es) rises =
   where
     by_gone : (gone : Bool) → AllByRecursion (λ n. e.0 + 1 ≤ n) (kept_apart (without_row e.1 new) es).gone
         → AllByRecursion (λ n. least ≤ n) (gone_if gone e.0 (kept_apart (without_row e.1 new) es)).gone
-    by_gone true rest = (rises.0, all_map (λ n. e.0 + 1 ≤ n) (λ n. least ≤ n) (λ n h. omega (arith, h, rises.0))
-        (kept_apart (without_row e.1 new) es).gone rest)
+    by_gone true rest = (
+      rises.0,
+      all_map (λ n. e.0 + 1 ≤ n) (λ n. least ≤ n) (λ n h. omega (arith, h, rises.0))
+          (kept_apart (without_row e.1 new) es).gone rest,
+    )
     by_gone false rest = all_map (λ n. e.0 + 1 ≤ n) (λ n. least ≤ n) (λ n h. omega (arith, h, rises.0))
         (kept_apart (without_row e.1 new) es).gone rest
 

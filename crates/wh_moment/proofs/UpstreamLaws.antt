@@ -3,7 +3,7 @@
 --     upstream_rises    what one reads, by rising ids below its own
 --     brought_rise      those that its refresh brings, and itself the last
 --     brought_watched, watched_kind     each of them is a dynamic table
-use Rattle.std.proofs.Common.{ℕ, zero, suc, ◌+◌, ◌-◌, ◌<◌, ◌≤◌, Bool, true, false, cond, List, [], ◌∷◌, ◌++◌, Option}
+use Rattle.std.proofs.Common.{ℕ, zero, suc, ◌-◌, ◌<◌, ◌≤◌, Bool, true, false, cond, List, [], ◌∷◌, ◌++◌, Option}
 use Rattle.std.proofs.Common.{Some}
 use Rattle.std.proofs.Common.{None, ◌≡◌, option_map, refl, subst, arith}
 use Rattle.std.specs.Prelude.{◌&&◌, is_some, unwrap_or}

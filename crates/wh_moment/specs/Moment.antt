@@ -3,7 +3,7 @@
 --     is_due, target    whether a table is due at a stamp, and the moment that it is brought to
 --     due_table         the due table with the least target and then the least id
 --     behind_failure    its state behind a scheduled refresh that failed
-use Rattle.std.specs.Prelude.{ℕ, zero, suc, ◌+◌, ◌*◌, ◌/◌, max, min, Bool, true, false, not, ◌&&◌, ◌||◌, if◌then◌else◌}
+use Rattle.std.specs.Prelude.{ℕ, zero, suc, ◌+◌, ◌*◌, ◌/◌, max, min, Bool, false, not, ◌&&◌, ◌||◌, if◌then◌else◌}
 use Rattle.std.specs.Prelude.{List, []}
 use Rattle.std.specs.Prelude.{◌∷◌, Option, Some, None, nat_eq, nat_le, nat_lt}
 use Rattle.std.specs.List.{list_any}

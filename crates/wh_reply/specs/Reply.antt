@@ -25,8 +25,8 @@ pub data Refusal : Type 0 where
   TypeMismatch : Refusal
   -- a query through which changes can't be carried
   NotIncrementable : Refusal
-  -- a lag, and the longer one of a dynamic table upstream, in seconds
-  LagTooShort : (lag upstream : ℕ) → Refusal
+  -- a dynamic table, and one upstream whose lag would be longer
+  LagTooShort : (table upstream : List ℕ) → Refusal
   -- a root that has a run under way
   RootRunning : (root : List ℕ) → Refusal
   -- a root that is resumed
@@ -186,8 +186,7 @@ refusal_text (NameTaken name) = codes "E7 NameTaken " ++ name
 refusal_text (WrongKind name) = codes "E8 WrongKind " ++ name
 refusal_text TypeMismatch = codes "E9 TypeMismatch"
 refusal_text NotIncrementable = codes "E10 NotIncrementable"
-refusal_text (LagTooShort lag upstream) =
-    codes "E11 LagTooShort " ++ decimal lag ++ codes " " ++ decimal upstream
+refusal_text (LagTooShort table upstream) = codes "E11 LagTooShort " ++ table ++ codes " " ++ upstream
 refusal_text (RootRunning root) = codes "E12 RootRunning " ++ root
 refusal_text (RootNotSuspended root) = codes "E12 RootNotSuspended " ++ root
 refusal_text (HasChildren child) = codes "E12 HasChildren " ++ child

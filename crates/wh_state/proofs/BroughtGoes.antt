@@ -4,16 +4,16 @@
 --     one_goes            its version, if there is one, and then its state
 --     one_leaves          what stands behind it stays
 --     one_means           and means what its acts do
-use Rattle.std.proofs.Common.{◌≡◌, ℕ, ◌<◌, ◌≤◌, Bool, List, [], ◌∷◌, ◌++◌, map, Option, Some, None, refl, sym, ap, ◌∙◌}
+use Rattle.std.proofs.Common.{◌≡◌, ℕ, ◌<◌, ◌≤◌, Bool, List, [], ◌∷◌, map, Option, Some, None, ap, ◌∙◌}
 use Rattle.std.proofs.Common.{IsTrue, IfSome, arith}
 use Rattle.std.specs.List.{AllByRecursion}
 use Rattle.std.specs.Option.{IsSomeAnd}
 use Rattle.wh_value.specs.Column.{Column}
 use Rattle.wh_state.specs.State.{State, TableKind, StreamKind, TaskKind, DynamicKind, dynamic_in, at_id, last_of}
-use Rattle.wh_state.specs.Dynamic.{DynamicQuery, DynamicState, Dynamic, with_dynamic_state}
+use Rattle.wh_state.specs.Dynamic.{DynamicQuery, DynamicState, with_dynamic_state}
 use Rattle.wh_state.specs.Edits.{Edits}
 use Rattle.wh_state.specs.Act.{Act, MakesDynamic, PutsDynamic, RefreshesRows, all_acted}
-use Rattle.wh_state.specs.Stored.{StoredTable, StoredKind, StoredObject, object_meant}
+use Rattle.wh_state.specs.Stored.{StoredKind, StoredObject, object_meant}
 use Rattle.wh_state.specs.Commit.{VersionChange, SetsDynamic, on_dynamic_stored, pushed_object, pushed_kind, changed}
 use Rattle.wh_state.specs.Commit.{all_changed, TakesState, DoesNotFall}
 use Rattle.wh_state.specs.Written.{version_written_to, written}

@@ -5,8 +5,8 @@
 --     IsFirmDynamic                a lag, few failures, and a query of a text that is bound
 --     AreFirmDynamics              so of all dynamic tables
 --     dynamics_changed, dynamics_more     and still where an object is changed or made
-use Rattle.std.proofs.Common.{◌≡◌, ℕ, ◌<◌, ◌≤◌, List, [], ◌∷◌, ◌++◌, length, map, Option, Some, None, refl, sym, ap}
-use Rattle.std.proofs.Common.{subst, ◌∙◌, IfSome, IsTrue, arith}
+use Rattle.std.proofs.Common.{◌≡◌, ℕ, ◌<◌, ◌≤◌, List, [], ◌∷◌, ◌++◌, length, map, Option, Some, None, refl, sym}
+use Rattle.std.proofs.Common.{subst, ◌∙◌, IfSome, arith}
 use Rattle.std.specs.List.{AllByRecursion}
 use Rattle.std.specs.Option.{IsSomeAnd, option_map_or}
 use Rattle.wh_value.specs.Column.{Column}
@@ -23,8 +23,8 @@ use Rattle.wh_state.specs.State.{TableKind, StreamKind, TaskKind, DynamicKind, t
 use Rattle.wh_state.specs.State.{changed_at}
 use Rattle.wh_state.specs.Dynamic.{Source, DynamicQuery, DynamicState, Dynamic, new_dynamic, with_dynamic_state}
 use Rattle.wh_state.specs.Dynamic.{most_failed_refreshes}
-use Rattle.wh_state.specs.Bound.{source_kind, named_as, names_among, query_bound, IsLiveSource, but_taken, Binds}
-use Rattle.wh_state.specs.Stored.{StoredTable, StoredKind, StoredObject}
+use Rattle.wh_state.specs.Bound.{source_kind, named_as, names_among, query_bound, IsLiveSource, but_taken}
+use Rattle.wh_state.specs.Stored.{StoredKind, StoredObject}
 use Rattle.wh_state.specs.Commit.{IsLag, DynamicChange, DynamicApplies, DynamicStateApplies, TakesState}
 use Rattle.wh_state.proofs.AllLaws.{all_map, all_more, all_changed_at}
 use Rattle.wh_state.proofs.FoundLaws.{FoundAt, found_some, found_changed, found_more}

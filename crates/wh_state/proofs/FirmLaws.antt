@@ -51,7 +51,6 @@ use Rattle.wh_state.specs.State.{task_in}
 use Rattle.wh_state.specs.Task.{TaskState, most_failures, new_task, root_by}
 use Rattle.wh_state.specs.Objects.{task_at}
 use Rattle.wh_state.specs.Spelling.{IsUnderstood}
-use Rattle.wh_state.specs.Task.{IsSpelled}
 use Rattle.wh_state.proofs.SpelledLaws.{HasTokensOf, spelled_change}
 use Rattle.wh_state.specs.Commit.{offset_set_kind, TaskChange, TaskApplies, StateApplies, IsLiveTask, root_among}
 use Rattle.wh_state.proofs.TaskFirm.{IsTaskOf, IsFirmTask, TaskHolds, AreFirmTasks, tasked, same_tasks, tasks_more}

@@ -108,5 +108,8 @@ pub plain_keep : (s : State) (stamp : ℕ) → s.committed < stamp → Sound s �
     → AreKeeping stamp s.objects acts
 plain_keep s stamp later sound acts plain =
     plain_from s stamp later sound 0 s.objects acts plain (λ id h. refl)
-    (λ id d is. omega (arith, moments_within s.committed s.objects (kept_later s s.committed (omega arith) sound) id d is,
-    later))
+    (λ id d is. omega (
+      arith,
+      moments_within s.committed s.objects (kept_later s s.committed (omega arith) sound) id d is,
+      later,
+    ))

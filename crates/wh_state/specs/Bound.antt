@@ -2,7 +2,7 @@
 --     names_among     the objects that its text names
 --     query_bound     its query over numbered sources, with their ids
 --     Binds           it binds to these columns
-use Rattle.std.specs.Prelude.{◌≡◌, ℕ, Bool, IsTrue, false, List, [], ◌∷◌, map, Option, None}
+use Rattle.std.specs.Prelude.{◌≡◌, IsTrue, false, List, [], ◌∷◌, map, Option, None}
 use Rattle.std.specs.List.{AllByRecursion, flat_map}
 use Rattle.std.specs.Option.{IsSomeAnd, option_map_or}
 use Rattle.wh_value.specs.Column.{Column}

@@ -1,8 +1,7 @@
 -- The bytes of commits.
 --     payload_of     a stamp, and a list of changes, each behind its tag
 --     IsCommit       what a commit may be: numbers, names and values within the format
-use Rattle.std.specs.Prelude.{ℕ, ◌+◌, ◌<◌, ◌≤◌, ◌^◌, Bool, true, false, List, [], ◌∷◌, ◌++◌, length, Option, Some, None}
-use Rattle.std.specs.Option.{IfSome}
+use Rattle.std.specs.Prelude.{ℕ, ◌+◌, ◌<◌, ◌≤◌, ◌^◌, Bool, true, false, List, [], ◌∷◌, ◌++◌, length}
 use Rattle.std.specs.List.{AllByRecursion}
 use Rattle.std.specs.Int.{w32, w64, to_be_bytes}
 use Rattle.wh_value.specs.Value.{IsText}
@@ -13,7 +12,7 @@ use Rattle.wh_state.specs.Commit.{PushesVersion, CreatesStream, SetsOffset, Crea
 use Rattle.wh_state.specs.Commit.{CreatesDynamic, SetsDynamic, DynamicChangeIn}
 use Rattle.wh_state.specs.Commit.{FinishesTask, TaskChangeIn, InTexts, TextChange, TextCommit, Commit, as_text}
 use Rattle.wh_state.specs.Dynamic.{Source, DynamicState, IsQuerySpelled}
-use Rattle.wh_state.specs.Task.{TaskState, Ending, Succeeded, Failed, Skipped, TaskBody, IsSpelled}
+use Rattle.wh_state.specs.Task.{TaskState, Ending, Succeeded, Failed, Skipped, IsSpelled}
 
 abbrev pub type_byte : ColumnType → ℕ
 type_byte NumberType = 1

@@ -1,6 +1,7 @@
 -- The two times of a version, and the last version up to one.
 --     data_at, visible_at     the last version whose data timestamp, or stamp, is at most that
 --     last_place              the last place at which a test is true
+--     place_behind            the same, but for the first place, if that is asked
 use Rattle.std.specs.Prelude.{ℕ, zero, suc, Bool, true, false, List, [], ◌∷◌, filter, nat_le, Option, Some, None}
 use Rattle.wh_state.specs.State.{last_of}
 use Rattle.wh_state.specs.Stored.{StoredVersion}
@@ -32,3 +33,9 @@ one_further false None = None
 abbrev pub last_place : {X : Type 0} → (X → Bool) → List X → Option ℕ
 last_place test [] = None
 last_place test (x ∷ xs) = one_further (test x) (last_place test xs)
+
+abbrev pub place_behind : Bool → Option ℕ → Option ℕ
+place_behind true (Some zero) = None
+place_behind true (Some (suc place)) = Some (suc place)
+place_behind true None = None
+place_behind false found = found

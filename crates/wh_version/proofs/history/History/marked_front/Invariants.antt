@@ -3,7 +3,7 @@ use Rattle.std.specs.Prelude.{vec_capacity}
 use Rattle.wh_version.specs.Edits.{partitions_at}
 use Rattle.wh_version.specs.History.{marks_of}
 use Rattle.wh_version.proofs.FrontLaws.{FrontUpTo, Grown}
-use Rattle.wh_version.proofs.history.History.front.Given as goal
+use Rattle.wh_version.proofs.history.History.marked_front.Given as goal
 
 abbrev pub invariant-loop-place : goal.invariant-loop-place
 invariant-loop-place l =

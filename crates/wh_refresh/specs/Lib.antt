@@ -1,0 +1,5 @@
+pub mod Walk
+pub mod Objects
+pub mod Sources
+pub mod Brought
+pub mod Refreshing

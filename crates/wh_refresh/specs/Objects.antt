@@ -1,0 +1,31 @@
+-- Objects of the catalog in a list, as the machine and as the file have them.
+--     object_of, objects_in     as the machine has them
+--     stored_in                 as the file has them
+--     with_made                 one that is to be made, if there is one
+use Rattle.std.specs.Prelude.{List, [], ◌∷◌, map, Option, Some, None, option_map, Vec}
+use Rattle.std.specs.declared.alloc.Global.{Global}
+use denote.Ref.{Bor}
+use Rattle.wh_value.specs.Value.{Row}
+use Rattle.wh_state.specs.State.{Object}
+use Rattle.wh_state.specs.Stored as machine
+use Rattle.wh_state.specs.Stored.{object_meant}
+use Rattle.wh_catalog.specs.Undoable.{object_in}
+use Rattle.wh_catalog.specs.Object.{kept_object}
+use Rattle.wh_catalog.specs.declared.object.StoredObject.{StoredObject}
+
+abbrev pub object_of : StoredObject → Object
+object_of o = object_meant (object_in (kept_object o))
+
+abbrev pub objects_in : List (Bor StoredObject) → List Object
+objects_in objects = map (λ o. object_of o.now) objects
+
+abbrev pub stored_in : List (Bor StoredObject) → List machine.StoredObject
+stored_in objects = map (λ o. object_in (kept_object o.now)) objects
+
+abbrev pub with_made : Option (Bor StoredObject) → List Object
+with_made None = []
+with_made (Some o) = object_of o.now ∷ []
+
+-- rows that were found, as a list
+abbrev pub rows_found : Option (Vec Row Global) → Option (List Row)
+rows_found found = option_map (λ made. made.items) found
