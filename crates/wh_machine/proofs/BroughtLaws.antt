@@ -25,7 +25,7 @@ use Rattle.wh_state.proofs.AllLaws.{all_map, all_both, filter_same, among_all}
 use Rattle.wh_state.proofs.IdLaws.{at_spared}
 use Rattle.wh_state.proofs.FoundLaws.{at_same, same_or_not}
 use Rattle.wh_state.proofs.VersionLaws.{last_below}
-use Rattle.wh_state.proofs.EvaluatedLaws.{StandFrom, ids_read_hold, evaluated_same}
+use Rattle.wh_state.proofs.EvaluatedLaws.{StandAt, ids_read_hold, evaluated_same}
 use Rattle.wh_state.proofs.SoundObjects.{IsKept, IsDynamicAt, found_dynamic, dynamic_there, at_within, sound_at}
 use Rattle.wh_state.proofs.SoundTables.{IsFresh}
 use Rattle.wh_state.proofs.SoundLaws.{MayPut, MayRefreshKind, MayRefresh, AreKeeping, no_act, put_act}
@@ -83,7 +83,7 @@ rows_same objects from to h (id ∷ ids) none =
 
 -- what it reads stands for the moment
 abbrev pub IsReadyTo : ℕ → List Object → Dynamic → Type 0
-IsReadyTo moment objects d = (d.state.moment < moment) × StandFrom moment objects (ids_read d.query)
+IsReadyTo moment objects d = (d.state.moment < moment) × StandAt moment objects (ids_read d.query)
 
 -- the numbers of a dynamic table's rows
 rows_below : (stamp : ℕ) (objects : List Object) (d : Dynamic) (t : Table) → IsSoundDynamic stamp objects d t
@@ -233,37 +233,37 @@ one_spares stamp moment objects b other apart = by_edits b.edits
 -- a state that is put in is there
 put_stands : (objects : List Object) (id : ℕ) (state : DynamicState)
     → IfSome (dynamic_at (changed_at objects id (on_dynamic_object (with_dynamic_state state))) id)
-    (λ e. state.moment ≤ e.state.moment)
+    (λ e. e.state.moment ≡ state.moment)
 put_stands objects id state = by_found (at_id objects id) refl
   where
     put : Object → Object
     put = on_dynamic_object (with_dynamic_state state)
 
     by_kind : (k : Kind)
-        → IfSome (dynamic_in (on_dynamic (with_dynamic_state state) k)) (λ e. state.moment ≤ e.state.moment)
+        → IfSome (dynamic_in (on_dynamic (with_dynamic_state state) k)) (λ e. e.state.moment ≡ state.moment)
     by_kind (TableKind t) = tt
     by_kind (StreamKind s) = tt
     by_kind (TaskKind t) = tt
-    by_kind (DynamicKind d t) = omega arith
+    by_kind (DynamicKind d t) = refl
 
     by_found : (found : Option Object) → at_id objects id ≡ found
-        → IfSome (dynamic_at (changed_at objects id put) id) (λ e. state.moment ≤ e.state.moment)
+        → IfSome (dynamic_at (changed_at objects id put) id) (λ e. e.state.moment ≡ state.moment)
     by_found None none =
         let still : at_id (changed_at objects id put) id ≡ None =
         ap (λ (found : Option Object). at_id (put_at objects id (option_map put found)) id) none ∙ none in
         subst (λ (found : Option Object). IfSome (option_and_then as_dynamic found)
-        (λ e. state.moment ≤ e.state.moment)) (sym still) tt
+        (λ e. e.state.moment ≡ state.moment)) (sym still) tt
     by_found (Some o) there =
         subst (λ (found : Option Object). IfSome (option_and_then as_dynamic found)
-        (λ e. state.moment ≤ e.state.moment)) (sym (at_same put objects id o there)) (by_kind o.kind)
+        (λ e. e.state.moment ≡ state.moment)) (sym (at_same put objects id o there)) (by_kind o.kind)
 
 one_stands : (stamp moment : ℕ) (objects : List Object) (b : Brought)
-    → IfSome (dynamic_at (all_acted stamp objects (acts_of_one moment b)) b.id) (λ e. b.state.moment ≤ e.state.moment)
+    → IfSome (dynamic_at (all_acted stamp objects (acts_of_one moment b)) b.id) (λ e. e.state.moment ≡ b.state.moment)
 one_stands stamp moment objects b = by_edits b.edits
   where
     by_edits : (edits : Option Edits)
         → IfSome (dynamic_at (all_acted stamp objects (version_acts b.id moment edits ++ PutsDynamic b.id b.state ∷ []))
-        b.id) (λ e. b.state.moment ≤ e.state.moment)
+        b.id) (λ e. e.state.moment ≡ b.state.moment)
     by_edits None = put_stands objects b.id b.state
     by_edits (Some e) = put_stands (changed_at objects b.id (edited_object stamp moment e)) b.id b.state
 
@@ -299,7 +299,7 @@ brought_moment objects moment id b is = by_found (dynamic_at objects id) (table_
 -- a source stands for the moment, or is brought to it
 abbrev pub StandsOrComes : ℕ → List Object → List ℕ → ℕ → Type 0
 StandsOrComes moment objects ids x =
-    IfSome (dynamic_at objects x) (λ e. moment ≤ e.state.moment) ⊎ (is_among x ids ≡ true)
+    IfSome (dynamic_at objects x) (λ e. e.state.moment ≡ moment) ⊎ (is_among x ids ≡ true)
 
 abbrev pub IsAwaitedWith : ℕ → List Object → List ℕ → Dynamic → Type 0
 IsAwaitedWith moment objects ids d =
@@ -326,7 +326,7 @@ head_ready : (stamp moment : ℕ) (objects : List Object) (id : ℕ) (ids : List
 head_ready stamp moment objects id ids kept from awaited = by_found (dynamic_at objects id) refl awaited
   where
     of_source : (x : ℕ) → x < id → StandsOrComes moment objects (id ∷ ids) x
-        → IfSome (dynamic_at objects x) (λ e. moment ≤ e.state.moment)
+        → IfSome (dynamic_at objects x) (λ e. e.state.moment ≡ moment)
     of_source x less (inl stands) = stands
     of_source x less (inr among) = absurd (omega (arith, less, among_all (λ n. id ≤ n) x (id ∷ ids) from among))
 
@@ -337,7 +337,7 @@ head_ready stamp moment objects id ids kept from awaited = by_found (dynamic_at 
         let place : IsDynamicAt objects id d = found_dynamic objects id d at in (
           awaited.0,
           all_both (λ x. x < id) (StandsOrComes moment objects (id ∷ ids))
-              (λ x. IfSome (dynamic_at objects x) (λ e. moment ≤ e.state.moment))
+              (λ x. IfSome (dynamic_at objects x) (λ e. e.state.moment ≡ moment))
               (λ x less comes. of_source x less comes) (ids_read d.query)
               (ids_read_hold (λ x. x < id) (at_within objects id place.object place.there).0 d.query (kept.earlier id d at))
               awaited.1,
@@ -346,7 +346,7 @@ head_ready stamp moment objects id ids kept from awaited = by_found (dynamic_at 
 -- those behind it await the others
 rest_awaits : (moment : ℕ) (objects next : List Object) (id : ℕ) (ids : List ℕ)
     → ((other : ℕ) → (other ≡ id → ⊥) → at_id next other ≡ at_id objects other)
-    → IfSome (dynamic_at next id) (λ e. moment ≤ e.state.moment) → (y : ℕ) → suc id ≤ y
+    → IfSome (dynamic_at next id) (λ e. e.state.moment ≡ moment) → (y : ℕ) → suc id ≤ y
     → IsAwaited moment objects (id ∷ ids) y
     → IsAwaited moment next ids y
 rest_awaits moment objects next id ids spares stands y behind awaited =
@@ -355,7 +355,7 @@ rest_awaits moment objects next id ids spares stands y behind awaited =
   where
     apart_from : (x : ℕ) → (x ≡ id → ⊥) → StandsOrComes moment objects (id ∷ ids) x → StandsOrComes moment next ids x
     apart_from x apart (inl was) = inl (subst (λ (found : Option Object).
-        IfSome (option_and_then as_dynamic found) (λ e. moment ≤ e.state.moment)) (sym (spares x apart)) was)
+        IfSome (option_and_then as_dynamic found) (λ e. e.state.moment ≡ moment)) (sym (spares x apart)) was)
     apart_from x apart (inr among) = by_test (nat_eq x id) refl among
       where
         by_test : (b : Bool) → nat_eq x id ≡ b → (b || is_among x ids) ≡ true → StandsOrComes moment next ids x
@@ -365,7 +365,7 @@ rest_awaits moment objects next id ids spares stands y behind awaited =
     of_source : (x : ℕ) → StandsOrComes moment objects (id ∷ ids) x → (x ≡ id) ⊎ (x ≡ id → ⊥)
         → StandsOrComes moment next ids x
     of_source x comes (inl same) = inl (subst (λ (n : ℕ).
-        IfSome (dynamic_at next n) (λ e. moment ≤ e.state.moment)) (sym same) stands)
+        IfSome (dynamic_at next n) (λ e. e.state.moment ≡ moment)) (sym same) stands)
     of_source x comes (inr apart) = apart_from x apart comes
 
     by_found : (found : Option Dynamic) → IfSome found (IsAwaitedWith moment objects (id ∷ ids))
@@ -413,9 +413,9 @@ brought_keeps stamp moment within (id ∷ ids) least objects rise kept fresh awa
         (head_ready stamp moment objects id ids kept from awaited.0) one in
         let spares : (other : ℕ) → (other ≡ id → ⊥) → at_id next other ≡ at_id objects other =
         λ other apart. one_spares stamp moment objects b other (λ at. apart (at ∙ same)) in
-        let stands : IfSome (dynamic_at next id) (λ e. moment ≤ e.state.moment) =
-        subst (λ (n : ℕ). IfSome (dynamic_at next n) (λ e. moment ≤ e.state.moment)) same
-        (subst (λ (n : ℕ). IfSome (dynamic_at next b.id) (λ e. n ≤ e.state.moment))
+        let stands : IfSome (dynamic_at next id) (λ e. e.state.moment ≡ moment) =
+        subst (λ (n : ℕ). IfSome (dynamic_at next n) (λ e. e.state.moment ≡ moment)) same
+        (subst (λ (n : ℕ). IfSome (dynamic_at next b.id) (λ e. e.state.moment ≡ n))
         (brought_moment objects moment id b one) (one_stands stamp moment objects b)) in
         keeping_append stamp objects (acts_of_one moment b) (flat_map (acts_of_one moment) more) here
         (others next (acts_kept stamp objects (acts_of_one moment b) here kept)

@@ -24,9 +24,10 @@ use Rattle.wh_state.proofs.SoundObjects.{IsKept, IsDynamicAt, found_dynamic, sou
 use Rattle.wh_state.proofs.SoundTables.{IsFresh}
 use Rattle.wh_state.proofs.SoundLaws.{MayMake, MayPut, AreKeeping, no_act, make_act, put_act, acts_kept, kept_later}
 use Rattle.wh_state.proofs.PlainActs.{fresh_at}
-use Rattle.wh_moment.specs.Upstream.{dynamics_of}
-use Rattle.wh_moment.specs.Moment.{behind_failure, due_table}
-use Rattle.wh_moment.proofs.DueLaws.{IsDueAt, due_is, due_some, due_within}
+use Rattle.wh_state.specs.Edits.{is_among}
+use Rattle.wh_moment.specs.Upstream.{dynamics_of, upstream}
+use Rattle.wh_moment.specs.Moment.{behind_failure, due_table, moment_at}
+use Rattle.wh_moment.proofs.DueLaws.{IsDueAt, due_is, due_some, due_within, due_greatest}
 use Rattle.wh_machine.specs.Names.{names_from}
 use Rattle.wh_machine.specs.Outcome.{Machine, commits}
 use Rattle.wh_machine.specs.Refresh.{Refreshing, Fails, Brings, with_upstream, refresh}
@@ -113,9 +114,12 @@ module _ (m : Machine) (t : CreateDynamicTable) where
       (refresh_keeps with_it
       (first_suspended with_it.objects (with_upstream with_it.objects (new_id m.state))) (new_id m.state) m.state.last
       (omega (arith, ready.later)) (omega arith)
-      (acts_kept m.state.last m.state.objects (dynamic_made made_of (query_of made_of))
-      (make_act (may_make none) no_act) (ready_kept m ready)) (fresh_with ready))
+      (λ x above. moments_seen m.state.last with_it.objects kept x) kept (fresh_with ready))
     where
+      kept : IsKept m.state.last with_it.objects
+      kept = acts_kept m.state.last m.state.objects (dynamic_made made_of (query_of made_of))
+          (make_act (may_make none) no_act) (ready_kept m ready)
+
       by_refresh : (r : Refreshing) → RefreshKeeps with_it r → IsKeeping m (made_with m made_of (query_of made_of) r)
       by_refresh (Fails why) keeps = refused m why ready
       by_refresh (Brings lines acts) keeps =
@@ -168,6 +172,7 @@ pub asked_keeps : (m : Machine) (id : ℕ) → IsReady m → IsKeeping m (refres
 asked_keeps m id ready = by_refresh (asked_refresh m.state id)
     (refresh_keeps m.state (first_suspended m.state.objects (with_upstream m.state.objects id)) id m.state.last
     (omega (arith, ready.later)) (omega arith)
+    (λ x above. moments_seen m.state.last m.state.objects (ready_kept m ready) x)
     (ready_kept m ready) (ready_fresh m ready))
   where
     by_refresh : (r : Refreshing) → RefreshKeeps m.state r → IsKeeping m (refreshed_by m r)
@@ -189,11 +194,13 @@ failed_keeps m id target why within ready = by_found (dynamic_at m.state.objects
         IfSome found (MayPut m.state.last m.state.objects (behind_failure target d.state))) (sym at)
         (record { tried = within; moment = inl refl })) no_act) ready.tables
 
-scheduled_keeps : (m : Machine) (id target : ℕ) → 0 < target → target ≤ m.state.last → IsReady m
+scheduled_keeps : (m : Machine) (id target : ℕ) → 0 < target → target ≤ m.state.last
+    → ((x : ℕ) → is_among x (upstream (dynamics_of m.state.objects) id) ≡ true
+    → moment_at (dynamics_of m.state.objects) x ≤ target) → IsReady m
     → IsKeeping m (scheduled m id target)
 unfolding scheduled
-scheduled_keeps m id target some within ready = by_refresh (refresh m.state None id target)
-    (refresh_keeps m.state None id target some within (ready_kept m ready) (ready_fresh m ready))
+scheduled_keeps m id target some within most ready = by_refresh (refresh m.state None id target)
+    (refresh_keeps m.state None id target some within most (ready_kept m ready) (ready_fresh m ready))
   where
     by_refresh : (r : Refreshing) → RefreshKeeps m.state r → IsKeeping m (scheduled_by m id target r)
     by_refresh (Fails why) keeps = failed_keeps m id target why within ready
@@ -206,4 +213,5 @@ due_keeps m due is ready =
     due_is (dynamics_of m.state.objects) m.state.last due is in
     scheduled_keeps m due.0 due.1 (due_some (dynamics_of m.state.objects) m.state.last due at)
     (due_within (dynamics_of m.state.objects) m.state.last due at
-    (moments_seen m.state.last m.state.objects (ready_kept m ready))) ready
+    (moments_seen m.state.last m.state.objects (ready_kept m ready)))
+    (λ x above. due_greatest (dynamics_of m.state.objects) m.state.last due at x above) ready

@@ -144,7 +144,8 @@ below_is target moment some test = grind (arith, nat_tests)
 not_below : (target moment : ℕ) → (nat_eq moment 0 || nat_lt moment target) ≡ false → target ≤ moment
 not_below target moment test = grind (arith, nat_tests)
 
-module _ (objects : List Object) (id moment : ℕ) (earlier : ReadsEarlier objects) (some : 0 < moment) where
+module _ (objects : List Object) (id moment : ℕ) (earlier : ReadsEarlier objects) (some : 0 < moment)
+    (most : (x : ℕ) → is_among x (upstream (dynamics_of objects) id) ≡ true → moment_at (dynamics_of objects) x ≤ moment) where
   abbrev seen : Dynamics
   seen = dynamics_of objects
 
@@ -162,10 +163,11 @@ module _ (objects : List Object) (id moment : ℕ) (earlier : ReadsEarlier objec
       ap (λ (found : Option Watched). option_map_or (λ w. is_below moment w.state) found false) w.at
       ∙ ap (is_below moment) w.state
 
-  -- what one of them reads is one of them
-  source_reached : (y x : ℕ) (d e : Dynamic) → is_among y reached ≡ true → dynamic_at objects y ≡ Some d
-      → is_among x (ids_read d.query) ≡ true → x < y → dynamic_at objects x ≡ Some e → is_among x reached ≡ true
-  source_reached y x d e is at reads less there = by_part (among_either y (upstream seen id) (id ∷ []) is)
+  -- what one of them reads is upstream of the table
+  source_upstream : (y x : ℕ) (d e : Dynamic) → is_among y reached ≡ true → dynamic_at objects y ≡ Some d
+      → is_among x (ids_read d.query) ≡ true → x < y → dynamic_at objects x ≡ Some e
+      → is_among x (upstream seen id) ≡ true
+  source_upstream y x d e is at reads less there = by_part (among_either y (upstream seen id) (id ∷ []) is)
     where
       v : IsWatched objects y d
       v = watched_of objects y d at
@@ -179,30 +181,39 @@ module _ (objects : List Object) (id moment : ℕ) (earlier : ReadsEarlier objec
       read : is_among x v.w.sources ≡ true
       read = ap (is_among x) v.sources ∙ reads
 
-      by_part : (is_among y (upstream seen id) ≡ true) ⊎ (is_among y (id ∷ []) ≡ true) → is_among x reached ≡ true
-      by_part (inl above) = among_front x (upstream seen id) (id ∷ [])
-          (upstream_closed seen id x y w.w above
+      by_part : (is_among y (upstream seen id) ≡ true) ⊎ (is_among y (id ∷ []) ≡ true)
+          → is_among x (upstream seen id) ≡ true
+      by_part (inl above) = upstream_closed seen id x y w.w above
           (ap (λ (found : Option Watched). is_among x (option_map_or (λ w. w.sources) found [])) v.at ∙ read)
-          (at_within objects x place.object place.there).0 less w.at)
+          (at_within objects x place.object place.there).0 less w.at
       by_part (inr last) =
           let same : y ≡ id = among_one y id last in
-          among_front x (upstream seen id) (id ∷ [])
-          (reads_upstream seen id x v.w w.w (ap (watched_at seen) (sym same) ∙ v.at) read
-          (at_within objects x place.object place.there).0 (omega (arith, same, less)) w.at)
+          reads_upstream seen id x v.w w.w (ap (watched_at seen) (sym same) ∙ v.at) read
+          (at_within objects x place.object place.there).0 (omega (arith, same, less)) w.at
 
   source_comes : (y x : ℕ) (d : Dynamic) → is_among y reached ≡ true → dynamic_at objects y ≡ Some d
       → is_among x (ids_read d.query) ≡ true → x < y → StandsOrComes moment objects ids x
   source_comes y x d is at reads less = by_found (dynamic_at objects x) refl
     where
+      at_moment : (e : Dynamic) → dynamic_at objects x ≡ Some e → stands_below seen moment x ≡ false
+          → e.state.moment ≡ moment
+      at_moment e there test =
+          let w : IsWatched objects x e = watched_of objects x e there in
+          let same : moment_at seen x ≡ e.state.moment =
+          ap (λ (found : Option Watched). option_map_or (λ w. w.state.moment) found 0) w.at
+          ∙ ap (λ (s : DynamicState). s.moment) w.state in
+          omega (arith, same, most x (source_upstream y x d e is at reads less there),
+          not_below moment e.state.moment (sym (stands_as x e there) ∙ test))
+
       by_test : (e : Dynamic) → dynamic_at objects x ≡ Some e → (b : Bool) → stands_below seen moment x ≡ b
           → StandsOrComes moment objects ids x
-      by_test e there true test =
-          inr (filter_among (stands_below seen moment) reached x (source_reached y x d e is at reads less there) test)
-      by_test e there false test = inl (subst (λ (found : Option Dynamic). IfSome found (λ e. moment ≤ e.state.moment))
-          (sym there) (not_below moment e.state.moment (sym (stands_as x e there) ∙ test)))
+      by_test e there true test = inr (filter_among (stands_below seen moment) reached x
+          (among_front x (upstream seen id) (id ∷ []) (source_upstream y x d e is at reads less there)) test)
+      by_test e there false test = inl (subst (λ (found : Option Dynamic). IfSome found (λ e. e.state.moment ≡ moment))
+          (sym there) (at_moment e there test))
 
       by_found : (found : Option Dynamic) → dynamic_at objects x ≡ found → StandsOrComes moment objects ids x
-      by_found None none = inl (subst (λ (found : Option Dynamic). IfSome found (λ e. moment ≤ e.state.moment))
+      by_found None none = inl (subst (λ (found : Option Dynamic). IfSome found (λ e. e.state.moment ≡ moment))
           (sym none) tt)
       by_found (Some e) there = by_test e there (stands_below seen moment x) refl
 
@@ -233,12 +244,13 @@ abbrev pub RefreshKeeps : State → Refreshing → Type 0
 RefreshKeeps s (Fails why) = Unit {0}
 RefreshKeeps s (Brings lines acts) = AreKeeping s.last s.objects acts
 
--- to a moment that isn't behind the stamp
+-- to a moment that isn't behind the stamp, and for which or before which all that is upstream stands
 pub refresh_keeps : (s : State) (besides : Option Refusal) (id moment : ℕ) → 0 < moment → moment ≤ s.last
+    → ((x : ℕ) → is_among x (upstream (dynamics_of s.objects) id) ≡ true → moment_at (dynamics_of s.objects) x ≤ moment)
     → IsKept s.last s.objects → IsFreshFrom s.last 0 s.objects
     → RefreshKeeps s (refresh s besides id moment)
 unfolding refresh brought
-refresh_keeps s besides id moment some within kept fresh =
+refresh_keeps s besides id moment some within most kept fresh =
     by_refusal (first_of (first_lost s.objects (with_upstream s.objects id) ∷ besides ∷ []))
     (brought_all s.last moment ids s.objects) refl
   where
@@ -256,4 +268,4 @@ refresh_keeps s besides id moment some within kept fresh =
     by_refusal None None is = tt
     by_refusal None (Some all) is = by_limit (number_refusal s.objects all) all
         (brought_keeps s.last moment within ids 0 s.objects (brought_rise (dynamics_of s.objects) id moment) kept fresh
-        (all_awaited s.objects id moment kept.earlier some) all is)
+        (all_awaited s.objects id moment kept.earlier some most) all is)

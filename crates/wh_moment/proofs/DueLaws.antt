@@ -2,12 +2,15 @@
 --     IsDueAt, due_is      a due table, with its target
 --     due_some             its target is a moment
 --     due_within           and not behind the stamp, where no table stands for a moment behind it
-use Rattle.std.proofs.Common.{◌≡◌, ℕ, ◌<◌, ◌≤◌, Bool, true, false, cond, List, [], ◌∷◌}
-use Rattle.std.proofs.Common.{Option, Some, None, refl, subst, arith}
-use Rattle.std.specs.Prelude.{◌&&◌, not, nat_lt}
+--     due_greatest         and no table that is upstream stands for a later one
+use Rattle.std.proofs.Common.{◌≡◌, ℕ, ◌<◌, ◌≤◌, max, Bool, true, false, cond, List, [], ◌∷◌}
+use Rattle.std.proofs.Common.{Option, Some, None, refl, ap, subst, arith}
+use Rattle.std.specs.Prelude.{◌&&◌, ◌||◌, not, nat_lt, nat_eq}
 use Rattle.std.specs.Option.{option_map_or}
 use Rattle.std.proofs.lemmas.Bool.Decides.{nat_tests}
 use Rattle.std.proofs.lemmas.Nat.{div-add-mod'}
+use Rattle.wh_state.specs.Edits.{is_among}
+use Rattle.wh_moment.proofs.ClosedLaws.{same_number}
 use Rattle.wh_moment.specs.Upstream.{Watched, Dynamics, watched_at, upstream}
 use Rattle.wh_moment.specs.Moment.{period, grid, stands_since, has_come, is_waiting_for, is_due, moment_at, greatest_moment}
 use Rattle.wh_moment.specs.Moment.{target, sooner, due_among, ids_from, due_table}
@@ -102,3 +105,22 @@ due_within all stamp due is each =
     by_found : (found : Option Watched) → option_map_or (λ w. grid w.state.lag stamp) found 0 ≤ stamp
     by_found None = omega arith
     by_found (Some w) = grid_within w.state.lag stamp
+
+-- none of some is greater than the greatest
+none_greater : (all : Dynamics) (ids : List ℕ) (x : ℕ) → is_among x ids ≡ true → moment_at all x ≤ greatest_moment all ids
+none_greater all [] x is = absurd cc
+none_greater all (id ∷ ids) x is = by_test (nat_eq x id) refl is (λ is. none_greater all ids x is)
+  where
+    by_test : (b : Bool) → nat_eq x id ≡ b → (b || is_among x ids) ≡ true
+        → (is_among x ids ≡ true → moment_at all x ≤ greatest_moment all ids)
+        → moment_at all x ≤ max (moment_at all id) (greatest_moment all ids)
+    by_test true test is rest =
+        let same : moment_at all x ≡ moment_at all id = ap (moment_at all) (same_number x id test) in
+        omega (arith, same)
+    by_test false test is rest = omega (arith, rest is)
+
+pub due_greatest : (all : Dynamics) (stamp : ℕ) (due : ℕ × ℕ) → IsDueAt all stamp due → (x : ℕ)
+    → is_among x (upstream all due.0) ≡ true → moment_at all x ≤ due.1
+unfolding target
+due_greatest all stamp due is x above =
+    omega (arith, is.target, none_greater all (upstream all due.0) x above)

@@ -6,8 +6,10 @@
 --     bag_follows, bound_follows    the rows of a source, and what a query binds to
 --     ids_read_hold                 what holds of the ids that it is kept with
 --     evaluated_same, evaluated_follows     so what it gives
+--     written_same, written_is      what it gives over tables alone
+--     rows_last                     all versions stand for no later moment
 use Rattle.std.proofs.Common.{◌≡◌, ℕ, ◌<◌, ◌≤◌, Bool, true, false, cond, List, [], ◌∷◌, ◌++◌, map, length}
-use Rattle.std.proofs.Common.{Option, Some, None, refl, sym, ap, subst, ◌∙◌, arith}
+use Rattle.std.proofs.Common.{Option, Some, None, option_map, refl, sym, ap, subst, ◌∙◌, arith}
 use Rattle.std.specs.Prelude.{nat_le, bytes_eq}
 use Rattle.std.specs.List.{AllByRecursion, filter}
 use Rattle.std.specs.Option.{IsSomeAnd, IfSome, option_map_or, option_and_then}
@@ -17,17 +19,17 @@ use Rattle.wh_naming.specs.Scope.{Named}
 use Rattle.wh_naming.specs.Select.{BoundQuery, bound_query}
 use Rattle.wh_ddl_naming.specs.Names.{query_names}
 use Rattle.wh_meaning.specs.Bag.{Bag, bag_of, no_rows}
-use Rattle.wh_meaning.specs.Query.{eval}
+use Rattle.wh_meaning.specs.Query.{Instance, eval}
 use Rattle.wh_state.specs.State.{Version, Table, Kind, TableKind, StreamKind, TaskKind, DynamicKind, Object, Stream}
-use Rattle.wh_state.specs.State.{Rows, nothing_held, content_in, last_of, at_id, rows_at, version_for, table_in, dynamic_in}
+use Rattle.wh_state.specs.State.{Rows, nothing_held, content_in, last_of, at_id, rows_at, last_rows, version_for, table_in, dynamic_in}
 use Rattle.wh_state.specs.Task.{Task}
 use Rattle.wh_state.specs.Dynamic.{Source, DynamicQuery, Dynamic, id_named, ids_read}
 use Rattle.wh_state.specs.Objects.{as_table, as_dynamic, dynamic_at}
 use Rattle.wh_state.specs.Bound.{named_as, names_among, query_bound}
-use Rattle.wh_state.specs.Moments.{bag_at, instance_at, evaluated_at}
+use Rattle.wh_state.specs.Moments.{bag_at, instance_at, evaluated_at, with_given, all_given, written_out}
 use Rattle.wh_state.specs.Edits.{Edits}
 use Rattle.wh_state.specs.Act.{edited_table, next_contents}
-use Rattle.wh_state.proofs.AllLaws.{all_both}
+use Rattle.wh_state.proofs.AllLaws.{all_map, all_both}
 
 -- ---- the rows of a table for a time
 
@@ -188,6 +190,22 @@ evaluated_same old new from to d bound same =
 abbrev pub StandFrom : ℕ → List Object → List ℕ → Type 0
 StandFrom moment objects ids = AllByRecursion (λ id. IfSome (dynamic_at objects id) (λ e. moment ≤ e.state.moment)) ids
 
+-- or for that moment itself
+abbrev pub StandAt : ℕ → List Object → List ℕ → Type 0
+StandAt moment objects ids = AllByRecursion (λ id. IfSome (dynamic_at objects id) (λ e. e.state.moment ≡ moment)) ids
+
+pub stand_from : (moment : ℕ) (objects : List Object) (ids : List ℕ) → StandAt moment objects ids
+    → StandFrom moment objects ids
+stand_from moment objects ids stand =
+    all_map (λ id. IfSome (dynamic_at objects id) (λ e. e.state.moment ≡ moment))
+    (λ id. IfSome (dynamic_at objects id) (λ e. moment ≤ e.state.moment))
+    (λ id at. by_found (dynamic_at objects id) at) ids stand
+  where
+    by_found : (found : Option Dynamic) → IfSome found (λ e. e.state.moment ≡ moment)
+        → IfSome found (λ e. moment ≤ e.state.moment)
+    by_found None at = tt
+    by_found (Some e) at = omega (arith, at)
+
 -- for a moment that those stand for
 pub evaluated_follows : (before time : ℕ) (old new : List Object) → Follows before old new → (d : Dynamic)
     → IsThere old d.query → time < before → StandFrom time old (ids_read d.query)
@@ -198,3 +216,58 @@ evaluated_follows before time old new follows d there within stand =
     (λ id. bag_at new time id ≡ bag_at old time id)
     (λ id here up. bag_follows before time old new follows id here within up) (ids_read d.query)
     (ids_read_hold (λ id. id ≤ length old) (omega arith) d.query there) stand)
+
+-- ---- over tables alone
+
+pub given_alike : (gives other : ℕ → Option Bag) (ids : List ℕ) → AllByRecursion (λ id. gives id ≡ other id) ids
+    → map gives ids ≡ map other ids
+given_alike gives other [] same = refl
+given_alike gives other (id ∷ ids) same =
+    ap (λ (b : Option Bag). b ∷ map gives ids) same.0
+    ∙ ap (λ (bs : List (Option Bag)). other id ∷ bs) (given_alike gives other ids same.1)
+
+pub written_same : (gives other : ℕ → Option Bag) (old new : List Object) (d e : Dynamic) → e.query ≡ d.query
+    → query_bound new d.query ≡ query_bound old d.query
+    → AllByRecursion (λ id. gives id ≡ other id) (ids_read d.query)
+    → written_out gives new e ≡ written_out other old d
+unfolding written_out
+written_same gives other old new d e query bound same =
+    ap (λ (q : DynamicQuery). option_and_then (eval (query_bound new q).query) (all_given (map gives (ids_read q)))) query
+    ∙ ap (λ (b : BoundQuery). option_and_then (eval b.query) (all_given (map gives (ids_read d.query)))) bound
+    ∙ ap (λ (bs : List (Option Bag)). option_and_then (eval (query_bound old d.query).query) (all_given bs))
+    (given_alike gives other (ids_read d.query) same)
+
+given_rows : (gives : ℕ → Option Bag) (objects : List Object) (moment : ℕ) (ids : List ℕ)
+    → AllByRecursion (λ id. gives id ≡ Some (bag_at objects moment id)) ids
+    → all_given (map gives ids) ≡ Some (instance_at objects moment ids)
+given_rows gives objects moment [] are = refl
+given_rows gives objects moment (id ∷ ids) are =
+    ap (λ (b : Option Bag). with_given b (all_given (map gives ids))) are.0
+    ∙ ap (λ (rest : Option Instance). option_map (λ bags. bag_at objects moment id ∷ bags) rest)
+    (given_rows gives objects moment ids are.1)
+
+-- where what it reads gives the rows that stand there
+pub written_is : (gives : ℕ → Option Bag) (objects : List Object) (moment : ℕ) (d : Dynamic)
+    → AllByRecursion (λ id. gives id ≡ Some (bag_at objects moment id)) (ids_read d.query)
+    → written_out gives objects d ≡ evaluated_at objects moment d
+unfolding written_out evaluated_at
+written_is gives objects moment d are =
+    ap (λ (bags : Option Instance). option_and_then (eval (query_bound objects d.query).query) bags)
+    (given_rows gives objects moment (ids_read d.query) are)
+
+-- all versions stand for no later moment than a time
+all_pass : {X : Type 0} (test : X → Bool) (xs : List X) → AllByRecursion (λ x. test x ≡ true) xs → filter test xs ≡ xs
+all_pass test [] are = refl
+all_pass test (x ∷ xs) are =
+    ap (λ (b : Bool). cond b (x ∷ filter test xs) (filter test xs)) are.0 ∙ ap (λ (l : List _). x ∷ l) (all_pass test xs are.1)
+
+pub rows_last : (t : Table) (time : ℕ) → AllByRecursion (λ v. v.data_timestamp ≤ time) t.versions
+    → rows_at t time ≡ last_rows t
+rows_last t time within =
+    ap (λ (vs : List Version). (content_in nothing_held (last_of vs)).rows)
+    (all_pass (λ v. nat_le v.data_timestamp time) t.versions
+    (all_map (λ v. v.data_timestamp ≤ time) (λ v. nat_le v.data_timestamp time ≡ true)
+    (λ v h. not_behind v.data_timestamp time h) t.versions within))
+  where
+    not_behind : (m n : ℕ) → m ≤ n → nat_le m n ≡ true
+    not_behind m n h = grind (arith, nat_tests)

@@ -7,18 +7,20 @@
 --     sound_done                   a commit of such acts at a later stamp
 use Rattle.std.proofs.Common.{◌≡◌, ℕ, zero, suc, ◌<◌, ◌≤◌, ◌⊎◌, inl, inr, Bool, List, [], ◌∷◌, ◌++◌, length, Option, Some, None}
 use Rattle.std.proofs.Common.{IsTrue, refl, sym, ap, subst, ◌∙◌, arith}
+use Rattle.std.specs.FinMap.{values}
 use Rattle.std.specs.Option.{IfSome, IsSomeAnd, option_and_then}
+use Rattle.wh_meaning.specs.Bag.{bag_of}
 use Rattle.wh_value.specs.Column.{Column}
 use Rattle.wh_naming.specs.Select.{BoundQuery}
 use Rattle.wh_algebra.specs.Increments.{incrementable}
 use Rattle.wh_state.specs.State.{Table, Kind, TableKind, StreamKind, TaskKind, DynamicKind, Object, State}
 use Rattle.wh_state.specs.State.{dropped, first_state, at_rest, at_id, changed_at, on_task, on_dynamic, dynamic_in}
-use Rattle.wh_state.specs.State.{empty_table, table_in}
+use Rattle.wh_state.specs.State.{last_rows, empty_table, table_in}
 use Rattle.wh_state.specs.Task.{Task, with_state, with_run, with_ended}
 use Rattle.wh_state.specs.Dynamic.{DynamicQuery, DynamicState, Dynamic, new_dynamic, with_dynamic_state, ids_read}
 use Rattle.wh_state.specs.Objects.{as_dynamic, as_table, table_at, dynamic_at}
 use Rattle.wh_state.specs.Bound.{query_bound}
-use Rattle.wh_state.specs.Moments.{evaluated_at, StandsFor}
+use Rattle.wh_state.specs.Moments.{evaluated_at, written_out, over_tables, StandsFor}
 use Rattle.wh_state.specs.Edits.{Edits}
 use Rattle.wh_state.specs.Act.{Act, MakesTable, DropsObject, EditsRows, MakesStream, MovesOffset, MakesTask, PutsTask}
 use Rattle.wh_state.specs.Act.{BeginsRun, EndsTask, MakesDynamic, PutsDynamic, RefreshesRows, edited_table, edited_kind}
@@ -27,9 +29,11 @@ use Rattle.wh_state.specs.Act.{done}
 use Rattle.wh_state.specs.Sound.{IsTimelyFor, IsOlder, IsSoundDynamic, IsSoundKind, IsSoundObject, Sound}
 use Rattle.wh_state.proofs.AllLaws.{all_map}
 use Rattle.wh_state.proofs.EvaluatedLaws.{IsNextKind, next_table, next_stream, next_task, next_dynamic, next_same, Follows}
-use Rattle.wh_state.proofs.EvaluatedLaws.{rows_kept, IsThere, bound_follows, StandFrom, evaluated_follows, ids_read_hold}
+use Rattle.wh_state.proofs.EvaluatedLaws.{rows_kept, IsThere, bound_follows, StandFrom, StandAt, stand_from, evaluated_follows}
+use Rattle.wh_state.proofs.EvaluatedLaws.{ids_read_hold}
 use Rattle.wh_state.proofs.SoundObjects.{IsKept, kept_of, all_sound, dynamic_there}
-use Rattle.wh_state.proofs.SoundObjects.{reads_there, AllBefore, moments_within, all_stand}
+use Rattle.wh_state.proofs.SoundObjects.{reads_there, AllBefore, moments_within, all_stand, written_follows}
+use Rattle.wh_state.proofs.SoundObjects.{written_evaluated}
 use Rattle.wh_state.proofs.SoundObjects.{more_follow, changed_twice, changed_kept, more_kept, older_follows, kind_follows}
 use Rattle.wh_state.proofs.SoundTables.{IsFresh, table_later, new_sound, edited_sound, IsRefreshed, refreshed_sound}
 
@@ -201,7 +205,7 @@ pub record IsNothingNew (stamp : ℕ) (objects : List Object) (d : Dynamic) (mom
   pub some : 0 < d.state.moment
   pub later : d.state.moment ≤ moment
   pub within : moment ≤ stamp
-  pub sources : StandFrom moment objects (ids_read d.query)
+  pub sources : StandAt moment objects (ids_read d.query)
   pub same : evaluated_at objects moment d ≡ evaluated_at objects d.state.moment d
 
 -- its moment stays, or nothing is new for another
@@ -228,12 +232,23 @@ put_later stamp objects state d (inl same) = omega (arith, same)
 put_later stamp objects state d (inr is) = is.later
 
 put_sound : (stamp : ℕ) (objects all : List Object) (state : DynamicState) (d : Dynamic) (t : Table)
-    → MayPut stamp objects state d → IsThere objects d.query → Follows (suc stamp) objects all
+    → IsKept stamp objects → MayPut stamp objects state d → IsThere objects d.query → Follows (suc stamp) objects all
     → IsSoundDynamic stamp all d t
     → IsSoundDynamic stamp all (with_dynamic_state state d) t
-unfolding evaluated_at
-put_sound stamp objects all state d t may there follows sound = by_moment may.moment
+unfolding evaluated_at written_out
+put_sound stamp objects all state d t kept may there follows sound = by_moment may.moment
   where
+    stand : IsNothingNew stamp objects d state.moment → StandFrom state.moment objects (ids_read d.query)
+    stand is = stand_from state.moment objects (ids_read d.query) is.sources
+
+    -- what it gave before
+    before : IsNothingNew stamp objects d state.moment
+        → evaluated_at objects d.state.moment d ≡ Some (bag_of (values (last_rows t)))
+    before is =
+        sym (evaluated_follows (suc stamp) d.state.moment objects all follows d there (omega (arith, sound.moment))
+        (stand_earlier objects d.state.moment state.moment is.later (ids_read d.query) (stand is)))
+        ∙ (sound.stands is.some).rows
+
     with_moment : state.moment ≤ stamp → (d.state.moment ≤ state.moment)
         → (0 < state.moment → StandsFor all (with_dynamic_state state d) t)
         → (state.moment ≡ 0 → t.versions ≡ []) → IsSoundDynamic stamp all (with_dynamic_state state d) t
@@ -259,19 +274,20 @@ put_sound stamp objects all state d t may there follows sound = by_moment may.mo
         (λ some. let was = sound.stands (omega (arith, same, some)) in record {
           rows = ap (λ (time : ℕ). evaluated_at all time d) same ∙ was.rows;
           sources = subst (λ (time : ℕ). StandFrom time all (ids_read d.query)) (sym same) was.sources;
+          whole = λ layers enough.
+              ap (λ (time : ℕ). written_out (over_tables layers all time) all d) same ∙ was.whole layers enough;
         })
         (λ zero. sound.none (omega (arith, same, zero)))
-    by_moment (inr is) = with_moment is.within is.later
-        (λ some. record {
-          rows = evaluated_follows (suc stamp) state.moment objects all follows d there (omega (arith, is.within)) is.sources
-              ∙ is.same
-              ∙ sym (evaluated_follows (suc stamp) d.state.moment objects all follows d there
-              (omega (arith, sound.moment))
-              (stand_earlier objects d.state.moment state.moment is.later (ids_read d.query) is.sources))
-              ∙ (sound.stands is.some).rows;
-          sources = all_stand (suc stamp) state.moment objects all follows d there is.sources;
-        })
-        (λ zero. absurd (omega (arith, zero, is.some, is.later)))
+    by_moment (inr is) = with_moment is.within is.later (λ some. record {
+      rows = evaluated_follows (suc stamp) state.moment objects all follows d there (omega (arith, is.within)) (stand is)
+          ∙ is.same ∙ before is;
+      sources = all_stand (suc stamp) state.moment objects all follows d there (stand is);
+      whole = λ layers enough.
+          written_follows (suc stamp) state.moment objects all follows kept.earlier (omega (arith, is.within)) layers d
+          there
+          ∙ written_evaluated stamp state.moment layers objects kept some d is.sources enough
+          ∙ is.same ∙ before is;
+    }) (λ zero. absurd (omega (arith, zero, is.some, is.later)))
 
 put_kept : (stamp : ℕ) (objects : List Object) (id : ℕ) (state : DynamicState)
     → IfSome (dynamic_at objects id) (MayPut stamp objects state) → IsKept stamp objects
@@ -306,7 +322,7 @@ put_kept stamp objects id state may kept =
     sound follows o there (StreamKind s) is may was = was
     sound follows o there (TaskKind t) is may was = tt
     sound follows o there (DynamicKind d t) is may was =
-        put_sound stamp objects (changed_at objects id f) state d t may
+        put_sound stamp objects (changed_at objects id f) state d t kept may
         (reads_there objects id d kept.earlier (dynamic_there objects id o d t there is)) follows was
 
 -- ---- a refresh
@@ -327,20 +343,18 @@ refreshed_object stamp moment e state o =
 
 -- among what is there after it
 refresh_sound : (stamp : ℕ) (objects all : List Object) (moment : ℕ) (e : Edits) (state : DynamicState) (d : Dynamic)
-    (t : Table) → IsRefreshed stamp objects d t moment e state → IsThere objects d.query
+    (t : Table) → IsKept stamp objects → IsRefreshed stamp objects d t moment e state → IsThere objects d.query
     → Follows (suc stamp) objects all → IsSoundDynamic stamp all d t
     → IsSoundDynamic stamp all (with_dynamic_state state d) (edited_table stamp moment e t)
-refresh_sound stamp objects all moment e state d t is there follows was =
-    refreshed_sound stamp all d t moment e state (record {
-      fresh = is.fresh;
-      later = is.later;
-      within = is.within;
-      sources = all_stand (suc stamp) moment objects all follows d there is.sources;
-      rows = evaluated_follows (suc stamp) moment objects all follows d there (omega (arith, is.within)) is.sources
-          ∙ is.rows;
-      brought = is.brought;
-      tried = is.tried;
-    }) was
+refresh_sound stamp objects all moment e state d t kept is there follows was =
+    let stand : StandFrom moment objects (ids_read d.query) =
+    stand_from moment objects (ids_read d.query) is.sources in
+    refreshed_sound stamp objects all d t moment e state is
+    (all_stand (suc stamp) moment objects all follows d there stand)
+    (evaluated_follows (suc stamp) moment objects all follows d there (omega (arith, is.within)) stand)
+    (λ layers enough.
+    written_follows (suc stamp) moment objects all follows kept.earlier (omega (arith, is.within)) layers d there
+    ∙ written_evaluated stamp moment layers objects kept (omega (arith, is.later)) d is.sources enough) was
 
 refreshed_kept : (stamp : ℕ) (objects : List Object) (id moment : ℕ) (e : Edits) (state : DynamicState)
     → MayRefresh stamp objects id moment e state → IsKept stamp objects
@@ -379,7 +393,7 @@ refreshed_kept stamp objects id moment e state may kept =
     sound follows o there (StreamKind s) is may was = absurd may
     sound follows o there (TaskKind t) is may was = absurd may
     sound follows o there (DynamicKind d t) is may was =
-        refresh_sound stamp objects (changed_at objects id f) moment e state d t may
+        refresh_sound stamp objects (changed_at objects id f) moment e state d t kept may
         (reads_there objects id d kept.earlier (dynamic_there objects id o d t there is)) follows was
 
 -- ---- acts, one after the other

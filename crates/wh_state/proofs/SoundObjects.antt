@@ -2,24 +2,29 @@
 --     IsKept                    each object is sound at a stamp, and each dynamic table reads earlier ones
 --     kept_of, all_sound        so are all that are sound, and the other way round
 --     AllBefore, moments_within     the moments of dynamic tables before a stamp
+--     written_evaluated         a query over tables alone, where what it reads stands for the moment
 --     dynamic_follows           a dynamic table among objects that follow
 --     changed_kept, more_kept   one object that is changed, and one more
 use Rattle.std.proofs.Common.{◌≡◌, ℕ, zero, suc, ◌<◌, ◌≤◌, ◌⊎◌, inl, inr, List, [], ◌∷◌, ◌++◌, length, Option, Some, None}
 use Rattle.std.proofs.Common.{option_map, refl, sym, ap, subst, ◌∙◌, arith, IsTrue}
 use Rattle.std.specs.Prelude.{slice_get, slice_set}
 use Rattle.std.specs.List.{AllByRecursion}
-use Rattle.std.specs.Option.{IsSomeAnd, IfSome, option_and_then}
+use Rattle.std.specs.Option.{IsSomeAnd, IfSome, option_and_then, option_map_or}
+use Rattle.std.specs.FinMap.{values}
+use Rattle.wh_meaning.specs.Bag.{Bag, bag_of, no_rows}
 use Rattle.wh_naming.specs.Select.{BoundQuery}
 use Rattle.wh_algebra.specs.Increments.{incrementable}
 use Rattle.wh_state.specs.State.{Table, Kind, TableKind, StreamKind, TaskKind, DynamicKind, Object, at_id, changed_at}
-use Rattle.wh_state.specs.State.{table_in, dynamic_in, with_id, put_at}
+use Rattle.wh_state.specs.State.{Rows, rows_at, table_in, dynamic_in, with_id, put_at}
 use Rattle.wh_state.specs.Dynamic.{DynamicQuery, Dynamic, ids_read}
 use Rattle.wh_state.specs.Objects.{as_table, as_dynamic, dynamic_at}
-use Rattle.wh_state.specs.Sound.{IsOlder, IsSoundDynamic, IsSoundKind, IsSoundObject, ReadsEarlier}
+use Rattle.wh_state.specs.Moments.{bag_at, evaluated_at, written_out, given_by, over_tables}
+use Rattle.wh_state.specs.Sound.{IsTimelyFor, IsOlder, IsSoundDynamic, IsSoundKind, IsSoundObject, ReadsEarlier}
 use Rattle.wh_state.proofs.AllLaws.{all_map, all_both, all_at}
 use Rattle.wh_state.proofs.IdLaws.{at_spared}
 use Rattle.wh_state.proofs.FoundLaws.{at_same, same_or_not}
 use Rattle.wh_state.proofs.EvaluatedLaws.{IsNextKind, next_table, next_stream, next_task, next_dynamic, IsNextAt, Follows}
+use Rattle.wh_state.proofs.EvaluatedLaws.{StandAt, written_same, written_is, rows_last}
 use Rattle.wh_state.proofs.EvaluatedLaws.{next_at, IsThere, bound_follows, ids_read_hold, StandFrom, evaluated_follows}
 
 -- ---- places
@@ -146,6 +151,57 @@ moments_within stamp objects kept id d is =
     let at : IsDynamicAt objects id d = found_dynamic objects id d is in
     omega (arith, (sound_at stamp objects id d kept at).moment)
 
+-- ---- what stands for a moment gives its rows
+
+-- over tables alone, with layers enough
+given_rows : (stamp moment layers : ℕ) (objects : List Object) → IsKept stamp objects → 0 < moment → (id : ℕ)
+    → id < layers → IfSome (dynamic_at objects id) (λ e. e.state.moment ≡ moment)
+    → over_tables layers objects moment id ≡ Some (bag_at objects moment id)
+given_rows stamp moment zero objects kept some id less at = absurd (omega (arith, less))
+given_rows stamp moment (suc layers) objects kept some id less at = by_found (at_id objects id) refl at
+  where
+    below : (e : Dynamic) → dynamic_at objects id ≡ Some e → AllByRecursion (λ x. x < layers) (ids_read e.query)
+    below e is =
+        let place : IsDynamicAt objects id e = found_dynamic objects id e is in
+        all_map (λ x. x < id) (λ x. x < layers) (λ x h. omega (arith, h, less)) (ids_read e.query)
+        (ids_read_hold (λ x. x < id) (at_within objects id place.object place.there).0 e.query (kept.earlier id e is))
+
+    stands : (e : Dynamic) (t : Table) → dynamic_at objects id ≡ Some e → IsSoundDynamic stamp objects e t
+        → e.state.moment ≡ moment
+        → written_out (over_tables layers objects moment) objects e ≡ Some (bag_of (values (rows_at t moment)))
+    stands e t is sound same =
+        ap (λ (time : ℕ). written_out (over_tables layers objects time) objects e) (sym same)
+        ∙ (sound.stands (omega (arith, same, some))).whole layers (below e is)
+        ∙ ap (λ (held : Rows). Some (bag_of (values held))) (sym (rows_last t moment
+        (all_map (IsTimelyFor stamp e.state.moment) (λ v. v.data_timestamp ≤ moment)
+        (λ v timely. omega (arith, timely.data_timestamp, same)) t.versions sound.timely)))
+
+    by_kind : (o : Object) (k : Kind) → at_id objects id ≡ Some o → o.kind ≡ k → IsSoundKind stamp objects k
+        → IfSome (dynamic_in k) (λ e. e.state.moment ≡ moment)
+        → given_by (over_tables layers objects moment) objects moment k
+        ≡ Some (option_map_or (λ t. bag_of (values (rows_at t moment))) (table_in k) no_rows)
+    by_kind o (TableKind t) there is sound at = refl
+    by_kind o (StreamKind s) there is sound at = refl
+    by_kind o (TaskKind t) there is sound at = refl
+    by_kind o (DynamicKind e t) there is sound at = stands e t (dynamic_there objects id o e t there is) sound at
+
+    by_found : (found : Option Object) → at_id objects id ≡ found
+        → IfSome (option_and_then as_dynamic found) (λ e. e.state.moment ≡ moment)
+        → option_map_or (λ o. given_by (over_tables layers objects moment) objects moment o.kind) found (Some no_rows)
+        ≡ Some (option_map_or (λ t. bag_of (values (rows_at t moment))) (option_and_then as_table found) no_rows)
+    by_found None there at = refl
+    by_found (Some o) there at = by_kind o o.kind there refl (kept.each id o there) at
+
+-- so a query over what stands for a moment gives the same over tables alone
+pub written_evaluated : (stamp moment layers : ℕ) (objects : List Object) → IsKept stamp objects → 0 < moment
+    → (d : Dynamic) → StandAt moment objects (ids_read d.query) → AllByRecursion (λ id. id < layers) (ids_read d.query)
+    → written_out (over_tables layers objects moment) objects d ≡ evaluated_at objects moment d
+written_evaluated stamp moment layers objects kept some d stand enough =
+    written_is (over_tables layers objects moment) objects moment d
+    (all_both (λ id. id < layers) (λ id. IfSome (dynamic_at objects id) (λ e. e.state.moment ≡ moment))
+    (λ id. over_tables layers objects moment id ≡ Some (bag_at objects moment id))
+    (λ id less at. given_rows stamp moment layers objects kept some id less at) (ids_read d.query) enough stand)
+
 -- ---- objects that follow
 
 pub older_follows : (before created : ℕ) (old new : List Object) → Follows before old new → (id : ℕ) → id ≤ length old
@@ -200,9 +256,56 @@ all_stand before moment old new follows d there stand =
     (λ id here up. stand_follows before moment old new follows id here up) (ids_read d.query)
     (ids_read_hold (λ id. id ≤ length old) (omega arith) d.query there) stand
 
-pub dynamic_follows : (before stamp : ℕ) (old new : List Object) → Follows before old new → (d : Dynamic) (t : Table)
+-- what it gives over tables alone
+written_alike : (before : ℕ) (old new : List Object) → Follows before old new → (gives other : ℕ → Option Bag)
+    → ((id : ℕ) → id ≤ length old → gives id ≡ other id) → (d e : Dynamic) → e.query ≡ d.query → IsThere old d.query
+    → written_out gives new e ≡ written_out other old d
+written_alike before old new follows gives other same d e query there =
+    written_same gives other old new d e query (bound_follows before old new follows d.query there)
+    (all_map (λ id. id ≤ length old) (λ id. gives id ≡ other id) (λ id here. same id here) (ids_read d.query)
+    (ids_read_hold (λ id. id ≤ length old) (omega arith) d.query there))
+
+over_follows : (before time : ℕ) (old new : List Object) → Follows before old new → ReadsEarlier old → time < before
+    → (layers : ℕ) (id : ℕ) → id ≤ length old → over_tables layers new time id ≡ over_tables layers old time id
+over_follows before time old new follows earlier within zero id here = refl
+over_follows before time old new follows earlier within (suc layers) id here =
+    by_found (at_id old id) (at_id new id) refl (follows id here)
+    (λ x h. over_follows before time old new follows earlier within layers x h)
+  where
+    Alike : Type 0
+    Alike = (x : ℕ) → x ≤ length old → over_tables layers new time x ≡ over_tables layers old time x
+
+    given : Option Object → List Object → Option Bag
+    given found objects = option_map_or (λ o. given_by (over_tables layers objects time) objects time o.kind) found
+        (Some no_rows)
+
+    by_kind : (o : Object) (k l : Kind) → at_id old id ≡ Some o → o.kind ≡ k → IsNextKind before k l → Alike
+        → given_by (over_tables layers new time) new time l ≡ given_by (over_tables layers old time) old time k
+    by_kind o k l there is (next_table made columns rows) alike =
+        ap (λ (held : Rows). Some (bag_of (values held))) (rows time within)
+    by_kind o k l there is (next_stream columns) alike = refl
+    by_kind o k l there is next_task alike = refl
+    by_kind o k l there is (next_dynamic {d} {e} {t} query made columns moment rows) alike =
+        written_alike before old new follows (over_tables layers new time) (over_tables layers old time) alike d e query
+        (reads_there old id d earlier (dynamic_there old id o d t there is))
+
+    by_found : (found other : Option Object) → at_id old id ≡ found → IsNextAt before found other → Alike
+        → given other new ≡ given found old
+    by_found None other there is alike = ap (λ (p : Option Object). given p new) is
+    by_found (Some o) None there is alike = absurd is
+    by_found (Some o) (Some p) there is alike = by_kind o o.kind p.kind there refl is alike
+
+pub written_follows : (before time : ℕ) (old new : List Object) → Follows before old new → ReadsEarlier old
+    → time < before → (layers : ℕ) (d : Dynamic) → IsThere old d.query
+    → written_out (over_tables layers new time) new d ≡ written_out (over_tables layers old time) old d
+written_follows before time old new follows earlier within layers d there =
+    written_alike before old new follows (over_tables layers new time) (over_tables layers old time)
+    (λ id here. over_follows before time old new follows earlier within layers id here) d d refl there
+
+pub dynamic_follows : (before stamp : ℕ) (old new : List Object) → Follows before old new → ReadsEarlier old
+    → (d : Dynamic) (t : Table)
     → IsThere old d.query → d.state.moment < before → IsSoundDynamic stamp old d t → IsSoundDynamic stamp new d t
-dynamic_follows before stamp old new follows d t there within sound = record {
+dynamic_follows before stamp old new follows earlier d t there within sound = record {
   created = sound.created;
   older = all_both (λ id. id ≤ length old) (IsOlder old t.created) (IsOlder new t.created)
       (λ id here older. older_follows before t.created old new follows id here older) (ids_read d.query)
@@ -219,6 +322,9 @@ dynamic_follows before stamp old new follows d t there within sound = record {
     rows = evaluated_follows before d.state.moment old new follows d there within (sound.stands some).sources
         ∙ (sound.stands some).rows;
     sources = all_stand before d.state.moment old new follows d there (sound.stands some).sources;
+    whole = λ layers enough.
+        written_follows before d.state.moment old new follows earlier within layers d there
+        ∙ (sound.stands some).whole layers enough;
   };
   none = sound.none;
 }
@@ -235,7 +341,7 @@ kind_follows before stamp old new follows kept within id o there = by_kind o.kin
     by_kind (TaskKind t) is sound = tt
     by_kind (DynamicKind d t) is sound =
         let at : dynamic_at old id ≡ Some d = dynamic_there old id o d t there is in
-        dynamic_follows before stamp old new follows d t (reads_there old id d kept.earlier at) (within id d at) sound
+        dynamic_follows before stamp old new follows kept.earlier d t (reads_there old id d kept.earlier at) (within id d at) sound
 
 -- ---- one that is changed
 

@@ -15,13 +15,13 @@ use Rattle.wh_meaning.specs.Bag.{bag_of}
 use Rattle.wh_state.specs.State.{Version, Table, Object, Rows, nothing_held, new_table, version_for, last_rows, content_in}
 use Rattle.wh_state.specs.Dynamic.{DynamicState, Dynamic, with_dynamic_state, ids_read}
 use Rattle.wh_state.specs.Edits.{Edits, rows_after}
-use Rattle.wh_state.specs.Moments.{evaluated_at}
+use Rattle.wh_state.specs.Moments.{evaluated_at, written_out, over_tables}
 use Rattle.wh_state.specs.Act.{next_contents, edited_table}
 use Rattle.wh_state.specs.Sound.{IsTimely, IsTimelyFor, IsBelow, IsSoundTable, IsSoundDynamic}
 use Rattle.wh_state.proofs.AllLaws.{all_map, all_both, all_more}
 use Rattle.wh_state.proofs.IdLaws.{last_more}
 use Rattle.wh_state.proofs.VersionLaws.{still_lacks, empty_lacks, last_below, IsBefore, rise_more, none_more}
-use Rattle.wh_state.proofs.EvaluatedLaws.{StandFrom}
+use Rattle.wh_state.proofs.EvaluatedLaws.{StandFrom, StandAt}
 
 -- each version has a stamp before
 abbrev pub IsFresh : ℕ → Table → Type 0
@@ -113,16 +113,21 @@ pub record IsRefreshed (stamp : ℕ) (objects : List Object) (d : Dynamic) (t : 
   pub fresh : IsFresh stamp t
   pub later : d.state.moment < moment
   pub within : moment ≤ stamp
-  pub sources : StandFrom moment objects (ids_read d.query)
+  pub sources : StandAt moment objects (ids_read d.query)
   pub rows : evaluated_at objects moment d ≡ Some (bag_of (values (rows_after t.next_row e (last_rows t))))
   pub brought : state.moment ≡ moment
   pub tried : state.tried ≤ stamp
 
-pub refreshed_sound : (stamp : ℕ) (objects : List Object) (d : Dynamic) (t : Table) (moment : ℕ) (e : Edits)
-    (state : DynamicState) → IsRefreshed stamp objects d t moment e state → IsSoundDynamic stamp objects d t
+-- among what is there behind it
+pub refreshed_sound : (stamp : ℕ) (old objects : List Object) (d : Dynamic) (t : Table) (moment : ℕ) (e : Edits)
+    (state : DynamicState) → IsRefreshed stamp old d t moment e state → StandFrom moment objects (ids_read d.query)
+    → evaluated_at objects moment d ≡ evaluated_at old moment d
+    → ((layers : ℕ) → AllByRecursion (λ id. id < layers) (ids_read d.query)
+    → written_out (over_tables layers objects moment) objects d ≡ evaluated_at old moment d)
+    → IsSoundDynamic stamp objects d t
     → IsSoundDynamic stamp objects (with_dynamic_state state d) (edited_table stamp moment e t)
-unfolding edited_table evaluated_at
-refreshed_sound stamp objects d t moment e state is sound =
+unfolding edited_table evaluated_at written_out
+refreshed_sound stamp old objects d t moment e state is stand same whole sound =
     let v : Version = next_version stamp moment e t in
     record {
       created = sound.created;
@@ -144,9 +149,13 @@ refreshed_sound stamp objects d t moment e state is sound =
           (λ number before lacks. still_lacks t.next_row e (last_rows t) number (inl before) lacks);
       mode = sound.mode;
       stands = λ some. record {
-        rows = ap (λ (time : ℕ). evaluated_at objects time d) is.brought ∙ is.rows
+        rows = ap (λ (time : ℕ). evaluated_at objects time d) is.brought ∙ same ∙ is.rows
             ∙ ap (λ (held : Rows). Some (bag_of (values held))) (sym (last_after stamp moment e t));
-        sources = subst (λ (time : ℕ). StandFrom time objects (ids_read d.query)) (sym is.brought) is.sources;
+        sources = subst (λ (time : ℕ). StandFrom time objects (ids_read d.query)) (sym is.brought) stand;
+        whole = λ layers enough.
+            ap (λ (time : ℕ). written_out (over_tables layers objects time) objects d) is.brought
+            ∙ whole layers enough ∙ is.rows
+            ∙ ap (λ (held : Rows). Some (bag_of (values held))) (sym (last_after stamp moment e t));
       };
       none = λ zero. absurd (omega (arith, zero, is.brought, is.later));
     }
