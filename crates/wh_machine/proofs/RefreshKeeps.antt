@@ -10,7 +10,7 @@ use Rattle.std.specs.Option.{IfSome, option_map_or}
 use Rattle.std.proofs.lemmas.Bool.Decides.{nat_tests}
 use Rattle.wh_reply.specs.Reply.{Refusal}
 use Rattle.wh_state.specs.State.{Kind, TableKind, StreamKind, TaskKind, DynamicKind, Object, State, at_id}
-use Rattle.wh_state.specs.Dynamic.{Dynamic, ids_read}
+use Rattle.wh_state.specs.Dynamic.{DynamicState, Dynamic, ids_read}
 use Rattle.wh_state.specs.Objects.{dynamic_at}
 use Rattle.wh_state.specs.Edits.{is_among}
 use Rattle.wh_state.specs.Sound.{IsSoundKind, ReadsEarlier}
