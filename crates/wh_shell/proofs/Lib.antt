@@ -1,7 +1,8 @@
-pub mod LoneWord
 pub mod Told
 pub mod Written
 pub mod EventLemmas
+pub mod TimingLemmas
+pub mod TickingLemmas
 pub mod ReadingLemmas
 pub mod CountLemmas
 pub mod RoomLemmas
