@@ -17,3 +17,4 @@ pub mod Opening
 pub mod Ending
 pub mod Opened
 pub mod Unopened
+pub mod Idle

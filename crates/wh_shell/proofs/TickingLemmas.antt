@@ -21,9 +21,12 @@ none_behind None = refl
 none_behind (Some rs) = refl
 
 behind_behind : (n m : ℕ) (rs : List ℕ) → readings_behind m (readings_behind n rs) ≡ readings_behind (n + m) rs
-behind_behind zero m rs = ap {B = List ℕ} (λ (i : ℕ). readings_behind i rs) (omega arith)
+behind_behind zero m rs =
+    let same : m ≡ 0 + m = omega arith in
+    ap (λ (i : ℕ). readings_behind i rs) same
 behind_behind (suc n) m rs =
-    behind_behind n m (readings_after rs) ∙ ap {B = List ℕ} (λ (i : ℕ). readings_behind i rs) (omega arith)
+    let same : suc (n + m) ≡ suc n + m = omega arith in
+    behind_behind n m (readings_after rs) ∙ ap (λ (i : ℕ). readings_behind i rs) same
 
 both_behind : (n m : ℕ) (rs : Option (List ℕ)) →
     option_map (readings_behind m) (option_map (readings_behind n) rs) ≡ option_map (readings_behind (n + m)) rs
