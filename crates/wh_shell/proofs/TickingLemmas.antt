@@ -1,17 +1,19 @@
 -- Readings that are taken of a clock.
 --     takes_none, takes_more                       none, and some behind others
 --     taken_end, taken_one                         a turn that found no event, and one that carried one out
---     taken_unread, taken_halted                   a turn that was stopped
+--     taken_unread, taken_halted, taken_passed     a turn that was stopped
 --     taken_not_yet, taken_on                      the turns so far
 --     taken_all, taken_stop                        how they end
 --     taken_never, ticks_take_none                 a run that reads no event, and one by the ticks
 use Rattle.std.proofs.Common.{◌≡◌, ℕ, zero, suc, ◌+◌, ◌≤◌, Bool, true, false, List, [], ◌∷◌, length, Option, Some, None}
 use Rattle.std.proofs.Common.{refl, sym, ap, ◌∙◌, option_map, arith}
+use Rattle.std.specs.Prelude.{Result, Ok, Err, IsErrAnd}
 use Rattle.wh_machine.specs.Step.{Event}
 use Rattle.wh_world.specs.Readings.{readings_after}
 use Rattle.wh_world.specs.declared.clock.Clock.{Ghosts}
 use Rattle.wh_shell.specs.Reading.{GivesEvent, EndsEvents}
-use Rattle.wh_shell.specs.Ticking.{readings_behind, Takes, TakesOf, TakesAtMost, TakesSoFar, TakesFor}
+use Rattle.wh_shell.specs.Ticking.{readings_behind, Takes, TakesOf, TakesAtMost, TakesTurn}
+use Rattle.wh_shell.specs.Ticking.{TakesSoFar, TakesFor}
 use Rattle.wh_shell.specs.declared.fault.Fault.{Fault}
 use Rattle.wh_shell.specs.declared.status.Status.{Status}
 use Rattle.wh_shell.specs.declared.status.Status.TheVariants.{Usage, Read, Stopped}
@@ -80,6 +82,13 @@ module _ {C : Type 0} (c : Ghosts C) (system : Bool) where
         let longer = ((taken_one left left_new event old new gives one).each es told).2 in
         omega (arith, longer);
   }
+
+  -- a fault that a `?` passes on
+  pub taken_passed : {A : Type 0} (left left_new : Option (List Event)) (result : Result (Option A) Fault)
+      (fault : Fault) (old new : C) → IsErrAnd result (λ e. e ≡ fault) → TakesAtMost c system left old new →
+      TakesTurn c system left left_new result old new
+  taken_passed left left_new (Ok a) fault old new is takes = absurd is
+  taken_passed left left_new (Err e) fault old new is takes = takes
 
   -- ---- the turns so far
 

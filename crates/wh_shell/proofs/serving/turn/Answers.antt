@@ -13,7 +13,7 @@ use Rattle.wh_shell.proofs.CauseLemmas.{passed_on, script_cause, script_long, sc
 use Rattle.wh_shell.proofs.CountLemmas.{passed_reads, err_is, err_same, ok_isnt}
 use Rattle.wh_shell.proofs.Progress.{answers_first, stops_first, stops_none}
 use Rattle.wh_shell.proofs.TimingLemmas.{timed_gives, timed_ends}
-use Rattle.wh_shell.proofs.TickingLemmas.{taken_end, taken_one, taken_unread, taken_halted}
+use Rattle.wh_shell.proofs.TickingLemmas.{taken_end, taken_one, taken_unread, taken_halted, taken_passed}
 use Rattle.wh_shell.proofs.Safety.{leaves_open, leaves_same, none_safely}
 use Rattle.wh_shell.proofs.serving.turn.Goals as goal
 
@@ -164,11 +164,17 @@ returns-in_default-clause-clock g c =
 
 pub returns-in_err-event-clause-clock : goal.returns-in_err-event-clause-clock
 returns-in_err-event-clause-clock g c =
-    taken_unread g.C.Clock c.args.system (unread c.args.reader.now (g.S.Source.left c.args.script.now))
-    c.args.clock.now
+    let left = unread c.args.reader.now (g.S.Source.left c.args.script.now) in
+    let left_new = unread c.next.new.self (g.S.Source.left c.next.new.source) in
+    taken_passed g.C.Clock c.args.system left left_new c.from_residual.result (fault_of_script c.in_err-event.field-0.0)
+    c.args.clock.now c.args.clock.now c.from_residual.ensures.1
+    (taken_unread g.C.Clock c.args.system left c.args.clock.now)
 
 pub returns-in_err-refusals-clause-clock : goal.returns-in_err-refusals-clause-clock
 returns-in_err-refusals-clause-clock g c =
-    taken_halted g.C.Clock c.args.system (unread c.args.reader.now (g.S.Source.left c.args.script.now))
-    (unread c.next.new.self (g.S.Source.left c.next.new.source)) (event_of c.in-Some.event) c.args.clock.now
-    c.timed-event.new.clock (rw c.in-Some.is at c.in_ok-event.ensures.turn) c.timed-event.ensures.clock
+    let left = unread c.args.reader.now (g.S.Source.left c.args.script.now) in
+    let left_new = unread c.next.new.self (g.S.Source.left c.next.new.source) in
+    taken_passed g.C.Clock c.args.system left left_new c.from_residual-in_err-refusals.result
+    c.in_err-refusals.field-0.0 c.args.clock.now c.timed-event.new.clock c.from_residual-in_err-refusals.ensures.1
+    (taken_halted g.C.Clock c.args.system left left_new (event_of c.in-Some.event) c.args.clock.now
+    c.timed-event.new.clock (rw c.in-Some.is at c.in_ok-event.ensures.turn) c.timed-event.ensures.clock)
