@@ -4,7 +4,7 @@
 --     known_ends       in front of rows 0, 499 and 500, and behind rows 498 and 499, with and without rows left
 use Rattle.std.proofs.Common.{◌≡◌, ◌++◌, [], codes, refl}
 use Rattle.std.specs.Fmt.{digits}
-use Rattle.wh_generator.specs.Generated.{draw, front, back, row_text, rows_from, generated, opening, closing}
+use Rattle.wh_generator.specs.Generated.{draw, front, back, generated, opening, closing}
 
 pub known_draws : (draw 1 ≡ 16807) × (draw 16807 ≡ 282475249) × (draw 282475249 ≡ 1622650073)
     × (draw 1622650073 ≡ 984943658)

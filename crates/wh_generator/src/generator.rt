@@ -9,7 +9,8 @@ use std::marker::Model;
 use wh_world::{Failed, Source};
 
 // What comes before the rows.
-const OPENING: &[u8] = b"CREATE TABLE BENCH(K NUMBER, V NUMBER);\nCREATE STREAM BENCH_S ON TABLE BENCH;\nCREATE TABLE BENCH_T(K NUMBER, V NUMBER);\nCREATE DYNAMIC TABLE BENCH_D TARGET_LAG = '60 seconds' AS SELECT K, COUNT(*) AS N, SUM(V) AS TOTAL FROM BENCH_T GROUP BY K;\n";
+const OPENING: &[u8] =
+    b"CREATE TABLE BENCH(K NUMBER, V NUMBER);\nCREATE STREAM BENCH_S ON TABLE BENCH;\nCREATE TABLE BENCH_T(K NUMBER, V NUMBER);\nCREATE DYNAMIC TABLE BENCH_D TARGET_LAG = '60 seconds' AS SELECT K, COUNT(*) AS N, SUM(V) AS TOTAL FROM BENCH_T GROUP BY K;\n";
 
 /// A source of the generated script, which has one piece of it at a time. It never fails. Contracts
 /// see the bytes that are still to come.

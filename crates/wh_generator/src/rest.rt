@@ -67,6 +67,9 @@ impl Rest {
         ensures capacity { 256 ≤ vec_capacity piece.new }
     {
         self.closed = true;
-        put(piece, b"SELECT COUNT(*) AS N, SUM(TOTAL) AS TOTAL FROM BENCH_D;\n");
+        put(
+            piece,
+            b"SELECT COUNT(*) AS N, SUM(TOTAL) AS TOTAL FROM BENCH_D;\n",
+        );
     }
 }

@@ -90,7 +90,10 @@ fn put_batch_end(out: &mut Vec<u8>, batch: u32)
     ensures items { out.new.items ≡ out.old.items ++ batch_end batch }
     ensures capacity { vec_capacity out.old ≤ vec_capacity out.new }
 {
-    put(out, b";\nINSERT INTO BENCH_T SELECT K, V FROM BENCH_S;\n!tick ");
+    put(
+        out,
+        b";\nINSERT INTO BENCH_T SELECT K, V FROM BENCH_S;\n!tick ",
+    );
     put_number(out, 48000 * batch as u64);
     put(out, b"\n");
 }

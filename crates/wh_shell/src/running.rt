@@ -158,7 +158,7 @@ fn serve_and_close<S: Source, K: Sink, D: Disk, C: Clock>(
     requires { IsOpen warehouse }
     ensures ends { EndsAs D.Disk S.Source K.Sink
         (point_of warehouse (timed (timing_of system (C.readings clock.old))
-            (option_map events (S.left script.old))) script.old out.old)
+        (option_map events (S.left script.old))) script.old out.old)
         (world_of result.1 script.new out.new) result.0 }
     ensures long { StopsWhereTooLong S.Source script.old script.new result.0 }
     ensures clock { TakesFor C.Clock system

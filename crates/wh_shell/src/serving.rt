@@ -43,14 +43,14 @@ pub(crate) fn serve<S: Source, K: Sink, D: Disk, C: Clock>(
     requires { IsOpen warehouse.old }
     ensures served { IfOk result (Serves D.Disk S.Source K.Sink
         (point_of warehouse.old (timed (timing_of system (C.readings clock.old))
-            (option_map events (S.left script.old))) script.old out.old)
+        (option_map events (S.left script.old))) script.old out.old)
         (machine_of warehouse.new) (world_of warehouse.new.disk script.new out.new)) }
     ensures ready { OnOk result (StaysOpen warehouse.old warehouse.new) }
 
     // Where it is stopped, a front of the text was written.
     ensures stopped { IfErr result (Stops D.Disk S.Source K.Sink
         (point_of warehouse.old (timed (timing_of system (C.readings clock.old))
-            (option_map events (S.left script.old))) script.old out.old)
+        (option_map events (S.left script.old))) script.old out.old)
         (world_of warehouse.new.disk script.new out.new)) }
     ensures long { StopsWhereTooLong S.Source script.old script.new (status_of result) }
     ensures clock { TakesFor C.Clock system (option_map events (S.left script.old))
@@ -94,13 +94,13 @@ fn turn<S: Source, K: Sink, D: Disk, C: Clock>(
     requires goes { fault_of reader.old.script ≡ None }
     ensures went { IfOk result (Advances D.Disk S.Source K.Sink
         (point_of warehouse.old (awaited system (C.readings clock.old) reader.old (S.left script.old))
-            script.old out.old)
+        script.old out.old)
         (point_of warehouse.new (awaited system (C.readings clock.new) reader.new (S.left script.new))
-            script.new out.new)) }
+        script.new out.new)) }
     ensures ready { OnOk result (StaysOpen warehouse.old warehouse.new) }
     ensures stopped { IfErr result (Stops D.Disk S.Source K.Sink
         (point_of warehouse.old (awaited system (C.readings clock.old) reader.old (S.left script.old))
-            script.old out.old)
+        script.old out.old)
         (world_of warehouse.new.disk script.new out.new)) }
     ensures full { (len need : ℕ) → IsErrOf result (Fault.FileFull len need) → out.new ≡ out.old }
     ensures reads { Reads reader.old.script reader.new.script

@@ -68,7 +68,7 @@ pub(crate) fn matched<'a>(
     ensures ok { IfOk result (λ matches.
         (fault_of (app_of command.entry) (map string_bytes words.entry.now) ≡ [])
         × (rows_of (found_of matches)
-            ≡ matches_of (app_of command.entry) (map string_bytes words.entry.now))) }
+        ≡ matches_of (app_of command.entry) (map string_bytes words.entry.now))) }
     ensures usage { result ≡ Err Usage →
         fault_of (app_of command.entry) (map string_bytes words.entry.now) ≡ [] → ⊥ }
 {

@@ -157,10 +157,12 @@ returns-clause-clock g c =
 
 pub returns-in_default-clause-clock : goal.returns-in_default-clause-clock
 returns-in_default-clause-clock g c =
-    let none : c.in_ok-event.field-0 ≡ None = search rules in
-    (refl, taken_end g.C.Clock c.args.system (unread c.args.reader.now (g.S.Source.left c.args.script.now))
-    (unread c.next.new.self (g.S.Source.left c.next.new.source)) (g.S.Source.left c.next.new.source)
-    (rw none at c.in_ok-event.ensures.turn))
+    let none : c.in_ok-event.field-0 ≡ None = search rules in (
+      refl,
+      taken_end g.C.Clock c.args.system (unread c.args.reader.now (g.S.Source.left c.args.script.now))
+          (unread c.next.new.self (g.S.Source.left c.next.new.source)) (g.S.Source.left c.next.new.source)
+          (rw none at c.in_ok-event.ensures.turn),
+    )
 
 pub returns-in_err-event-clause-clock : goal.returns-in_err-event-clause-clock
 returns-in_err-event-clause-clock g c =
