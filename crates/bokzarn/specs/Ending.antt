@@ -2,7 +2,7 @@
 --     EndsUnread    its words can't be read
 --     EndsBy        by the words behind a path, and by what the opening of the file gave
 --     EndsAs        by its words, of which the first is the path that is opened
-use Rattle.std.specs.Prelude.{◌≡◌, ◌≢◌, ◌↔◌, ℕ, nat_eq, if◌then◌else◌, List, [], ◌∷◌, ◌++◌, drop, codes, decimal}
+use Rattle.std.specs.Prelude.{◌≡◌, ◌≢◌, ℕ, nat_eq, if◌then◌else◌, List, [], ◌∷◌, ◌++◌, drop, codes, decimal}
 use Rattle.std.specs.Prelude.{Result, Ok, Err, String, string_bytes}
 use Rattle.std.specs.Global.{Global}
 use Rattle.std.specs.Vec.Iter.{into_iter_items}

@@ -1,7 +1,7 @@
 -- The events of a script, as the relation and as the function.
 --     fixes_events     a script has the events that the function gives, by a timing, and these alone
 --     told_events      of a told script
-use Rattle.std.proofs.Common.{◌≡◌, ℕ, List, [], ◌∷◌, Option, Some, None, refl, sym, ap, ◌∙◌, subst, option_map}
+use Rattle.std.proofs.Common.{◌≡◌, ℕ, List, [], ◌∷◌, Option, Some, None, refl, sym, ap, ◌∙◌, option_map}
 use Rattle.wh_grammar.specs.Spelled.{Request, Asks}
 use Rattle.wh_grammar.specs.Script.{Line, CommandLine, SessionLine, TickLine, lines_of}
 use Rattle.wh_machine.specs.Step.{Event, Command, Tick}
@@ -36,12 +36,12 @@ has_them reads session reading (TickLine None ∷ lines) = ticks (has_them reads
 has_them reads session reading (TickLine (Some n) ∷ lines) = ticks_at (has_them reads session n lines)
 
 -- by the ticks
-ticked : (script : List ℕ) (es : List Event) → IsScript script es → es ≡ events script
-ticked script es is = one_list requests_read is
+ticked_fixes : (script : List ℕ) (es : List Event) → IsScript script es → es ≡ events script
+ticked_fixes script es is = one_list requests_read is
 
 pub fixes_events : FixesEvents
 fixes_events timing script es = (
-  λ is. ap (λ (us : List Event). timed timing (Some us)) (sym (ticked script is.ticked is.spelled)) ∙ is.read,
+  λ is. ap (λ (us : List Event). timed timing (Some us)) (sym (ticked_fixes script is.ticked is.spelled)) ∙ is.read,
   λ same. record { ticked = events script; spelled = has_them requests_read 1 0 (lines_of script); read = same },
 )
 

@@ -44,7 +44,7 @@ use Rattle.wh_shell.proofs.Opening.{machine_is, machine_opened, run_survives}
 
 module _ {D S K : Type 0} (d : disks.Ghosts D) (s : sources.Ghosts S) (k : sinks.Ghosts K) (limit : ℕ)
     (timing : Timing) (old new : World D S K) (w : Warehouse D d) (opens : Opens d old.disk limit w) where
-  abbrev left_of : Option (List Event)
+  abbrev pub left_of : Option (List Event)
   left_of = timed timing (option_map events (s.left old.script))
 
   -- the warehouse, and all events of the script
