@@ -1,5 +1,5 @@
 -- What dynamic tables of the code stand for.
-use Rattle.std.specs.Prelude.{List, map, Option, option_map}
+use Rattle.std.specs.Prelude.{ℕ, List, map, Option, option_map}
 use Rattle.wh_state.specs.Dynamic as state
 use Rattle.wh_moment.specs.Upstream as moment
 use Rattle.wh_dynamic.specs.declared.state.DynamicState.{DynamicState}
@@ -30,3 +30,7 @@ watched_of w = record {
 -- by their ids
 abbrev pub dynamics_in : List (Option Watched) → moment.Dynamics
 dynamics_in all = map (option_map watched_of) all
+
+-- the id of a due table, with its target
+abbrev pub due_of : Option (ℕ × ℕ) → Option (ℕ × ℕ)
+due_of due = option_map (λ p. (p.0, p.1)) due

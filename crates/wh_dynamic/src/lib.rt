@@ -3,6 +3,7 @@
 
 mod due;
 mod dynamic;
+mod period;
 mod query;
 mod reached;
 mod reads;
@@ -12,6 +13,6 @@ mod watched;
 pub use due::due_table;
 pub use dynamic::Dynamic;
 pub use query::{DynamicQuery, NamedSource};
-pub use state::DynamicState;
 pub use reached::{brought, upstream};
+pub use state::DynamicState;
 pub use watched::Watched;

@@ -16,7 +16,7 @@ pub struct DynamicState {
 const MOST_FAILURES: u32 = 5;
 
 impl DynamicState {
-    ghost use Rattle.std.specs.Prelude.{◌≡◌, ◌≤◌, ◌+◌, nat_le};
+    ghost use Rattle.std.specs.Prelude.{◌≡◌, ◌+◌, nat_eq};
     ghost use Rattle.wh_state.specs.Dynamic as machine;
     ghost use Rattle.wh_moment.specs.Moment as moments;
     ghost use Rattle.wh_dynamic.specs.View.{state_of};
@@ -51,19 +51,23 @@ impl DynamicState {
     pub fn behind_failure(self, tried: u64) -> DynamicState
         ensures { state_of result ≡ moments.behind_failure tried (state_of self) }
     {
-        let failures = if self.is_fifth() { MOST_FAILURES } else { self.failures + 1 };
+        let is_enough = self.failures >= MOST_FAILURES - 1;
         DynamicState {
-            is_suspended: self.is_suspended || self.is_fifth(),
-            failures,
+            is_suspended: self.is_suspended || is_enough,
+            failures: if is_enough {
+                MOST_FAILURES
+            } else {
+                self.failures + 1
+            },
             tried,
             ..self
         }
     }
 
-    /// Whether a scheduled refresh that fails is the fifth in a row, or a later one.
+    /// Whether a scheduled refresh that fails is the fifth in a row.
     pub fn is_fifth(self) -> bool
-        ensures { result ≡ nat_le machine.most_failed_refreshes ((state_of self).failures + 1) }
+        ensures { result ≡ nat_eq ((state_of self).failures + 1) machine.most_failed_refreshes }
     {
-        self.failures >= MOST_FAILURES - 1
+        self.failures == MOST_FAILURES - 1
     }
 }

@@ -148,13 +148,16 @@ dynamic_at bytes =
 -- the id of a dynamic table, and its state
 unfoldable pub dynamic_state_at : Reader (ℕ × DynamicState)
 dynamic_state_at bytes =
-    as_at (λ p. (p.0, record {
-      lag = p.1.0;
-      is_suspended = p.1.1.0;
-      failures = p.1.1.1.0;
-      tried = p.1.1.1.1.0;
-      moment = p.1.1.1.1.1;
-    }))
+    as_at (λ p. (
+      p.0,
+      record {
+        lag = p.1.0;
+        is_suspended = p.1.1.0;
+        failures = p.1.1.1.0;
+        tried = p.1.1.1.1.0;
+        moment = p.1.1.1.1.1;
+      },
+    ))
     (then_at (number_at w32) (λ _. then_at (number_at w32) (λ _. then_at truth_at (λ _. then_at (number_at w32)
     (λ _. then_at (number_at w64) (λ _. number_at w64)))))) bytes
 

@@ -66,7 +66,8 @@ pub(crate) fn write_dynamic(out: &mut Bytes, table: &DynamicChange) -> Result<()
     out.push(byte_of_mode(table.is_incremental))?;
     write_text(out, &table.query.text)?;
     write_sources(out, &table.query.sources)?;
-    write_columns(out, &table.columns)
+    write_columns(out, &table.columns)?;
+    Ok(())
 }
 
 #[tactic(auto, unfolding(wh_state::specs::Spelling::dynamic_state_bytes))]
@@ -83,5 +84,6 @@ pub(crate) fn write_dynamic_state(
     out.push(byte_of_truth(state.is_suspended))?;
     write_u32(out, state.failures)?;
     write_u64(out, state.tried)?;
-    write_u64(out, state.moment)
+    write_u64(out, state.moment)?;
+    Ok(())
 }
