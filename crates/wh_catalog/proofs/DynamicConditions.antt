@@ -28,6 +28,9 @@ Decides-lag lag =
     Decides-or _ _ (Decides-eqb lag 0)
     (Decides-and _ _ (Decides-leb (bound limits.LeastTargetLag) lag) (Decides-leb lag (bound limits.MostTargetLag)))
 
+pub never_both : (b : Bool) → b ≡ false → b ≡ true → ⊥
+never_both b is_false is_true = cc
+
 -- ---- columns
 
 same_types : (a b : ColumnType) → same_type a b ≡ true → a ≡ b

@@ -6,12 +6,13 @@ use Rattle.wh_state.specs.Commit.{DynamicApplies, changed}
 use Rattle.wh_record.specs.View.{dynamic_change_of}
 use Rattle.wh_table.specs.Table.{kept_table}
 use Rattle.wh_catalog.specs.Catalog.{objects_of}
-use Rattle.wh_catalog.proofs.DynamicConditions.{Decides-dynamic_applies}
+use Rattle.wh_catalog.proofs.DynamicConditions.{never_both, Decides-dynamic_applies}
 use Rattle.wh_catalog.proofs.catalog.Catalog.new_dynamic.Goals as goal
 
 pub returns-then-not-applies-clause-not_applicable : goal.returns-then-not-applies-clause-not_applicable
 returns-then-not-applies-clause-not_applicable c = λ _ applies.
-    let yes = (Decides-dynamic_applies (objects_of c.args.self.now) (dynamic_change_of c.args.change)).1 applies in cc
+    let yes = (Decides-dynamic_applies (objects_of c.args.self.now) (dynamic_change_of c.args.change)).1 applies in
+    never_both c.in-Ok.applies c.if-not-applies.true (c.in-Ok.ensures ∙ yes)
 
 pub empty-table-requires : goal.empty-table-requires
 empty-table-requires c =
