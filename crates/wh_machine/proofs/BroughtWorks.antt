@@ -35,7 +35,8 @@ use Rattle.wh_state.proofs.BroughtGoes.{one_means}
 use Rattle.wh_moment.specs.Moment.{brought_to}
 use Rattle.wh_moment.specs.Rebase.{rebase}
 use Rattle.wh_moment.proofs.UpstreamLaws.{RiseFrom}
-use Rattle.wh_machine.specs.Refresh.{Brought, brought_as, brought_by, brought_with, brought_one, action_of, version_acts}
+use Rattle.wh_machine.specs.Refresh.{Brought, brought_as, brought_by, brought_with, brought_one, action_of}
+use Rattle.wh_machine.specs.Refresh.{version_acts}
 use Rattle.wh_machine.specs.Refresh.{acts_of_one, brought_then, brought_all, is_row_past, is_partition_past}
 use Rattle.wh_machine.proofs.RebaseLaws.{rebase_fits}
 use Rattle.wh_machine.proofs.EvaluatedLaws.{evaluated_fits}

@@ -24,7 +24,8 @@ use Rattle.wh_ddl_naming.specs.Meant.{Meant, first_failing}
 use Rattle.wh_ddl_naming.specs.Tables.{column_names}
 use Rattle.wh_ddl_naming.specs.DynamicTables.{NewDynamicTable, bound_dynamic_table}
 use Rattle.wh_reply.specs.Reply.{Refusal, OverLimit, CreatedDynamicTable}
-use Rattle.wh_state.specs.State.{TableKind, StreamKind, TaskKind, DynamicKind, State, Object, at_id, live_count, columns_in}
+use Rattle.wh_state.specs.State.{TableKind, StreamKind, TaskKind, DynamicKind, State, Object, at_id, live_count}
+use Rattle.wh_state.specs.State.{columns_in}
 use Rattle.wh_state.specs.Dynamic.{DynamicQuery}
 use Rattle.wh_state.specs.Objects.{is_live_at}
 use Rattle.wh_state.specs.Bound.{source_kind, Binds}
@@ -44,7 +45,8 @@ use Rattle.wh_machine.specs.Names.{names_in, refusal_of}
 use Rattle.wh_machine.specs.Outcome.{Machine}
 use Rattle.wh_machine.specs.Definitions.{is_long, defines}
 use Rattle.wh_machine.specs.Refresh.{Refreshing, Fails, Brings, with_upstream}
-use Rattle.wh_machine.specs.Dynamics.{seconds_of, is_incremental, mode_refusal, below_refusal, dynamic_made, with_dynamic}
+use Rattle.wh_machine.specs.Dynamics.{seconds_of, is_incremental, mode_refusal, below_refusal, dynamic_made}
+use Rattle.wh_machine.specs.Dynamics.{with_dynamic}
 use Rattle.wh_machine.specs.Dynamics.{new_id, dynamic_refusal, first_suspended, asked_refresh, made_with, initialized}
 use Rattle.wh_machine.specs.Dynamics.{query_of, create_dynamic}
 use Rattle.wh_moment.specs.Upstream.{dynamics_of, upstream}

@@ -24,7 +24,8 @@ use Rattle.wh_state.specs.Objects.{as_dynamic, dynamic_at, is_live_at, name_at}
 use Rattle.wh_state.specs.Act.{Act, MakesTable, DropsObject, EditsRows, MakesStream, MovesOffset, MakesTask, PutsTask}
 use Rattle.wh_state.specs.Act.{BeginsRun, EndsTask, MakesDynamic, PutsDynamic, RefreshesRows}
 use Rattle.wh_state.specs.Edits.{Edits}
-use Rattle.wh_state.specs.Stored.{StoredTable, StoredVersion, StoredKind, StoredObject, Stored, kind_meant, object_meant}
+use Rattle.wh_state.specs.Stored.{StoredTable, StoredVersion, StoredKind, StoredObject, Stored, kind_meant}
+use Rattle.wh_state.specs.Stored.{object_meant}
 use Rattle.wh_state.specs.Stored.{version_meant}
 use Rattle.wh_state.specs.Commit.{IsLag, TakesState, DoesNotFall, all_changed}
 use Rattle.wh_state.specs.Written.{version_written_to, act_written, written}

@@ -28,7 +28,8 @@ use Rattle.wh_naming.specs.Typing.{Typed, Context, Reading, column_typed, step, 
 use Rattle.wh_naming.specs.Select.{Output, BoundQuery, BoundSource, SourcePart, JoinPart, QueryReading, Joined}
 use Rattle.wh_naming.specs.Select.{object_source, named_source, column_of, first_entry, with_entry}
 use Rattle.wh_naming.specs.Select.{with_joins, from_part, Shown, nothing_shown, output_of, with_columns, all_columns}
-use Rattle.wh_naming.specs.Select.{with_span, name_in, output_name, item_context, shown_with, all_shown, bound_core, merged}
+use Rattle.wh_naming.specs.Select.{with_span, name_in, output_name, item_context, shown_with, all_shown, bound_core}
+use Rattle.wh_naming.specs.Select.{merged}
 use Rattle.wh_naming.specs.Select.{united, more_cores, all_cores, bound_query}
 use Rattle.wh_naming.specs.Changes.{source_part}
 use Rattle.wh_ddl_naming.proofs.QueryLaws.{join_part, core_reading, query_reads, core_reads, join_reads, named_reads}

@@ -2,7 +2,8 @@
 --     AreStanding         the row numbers of dynamic tables and the moments of their last versions
 --     all_live            where no source is lost, all that is upstream of a live table lives
 --     refresh_goes        a refresh that brings some
-use Rattle.std.proofs.Common.{◌≡◌, ℕ, ◌≤◌, Bool, true, false, cond, List, [], ◌∷◌, ◌++◌, map, Option, Some, None, option_map}
+use Rattle.std.proofs.Common.{◌≡◌, ℕ, ◌≤◌, Bool, true, false, cond, List, [], ◌∷◌, ◌++◌, map, Option, Some, None}
+use Rattle.std.proofs.Common.{option_map}
 use Rattle.std.proofs.Common.{refl, sym, ap, subst, ◌∙◌, arith}
 use Rattle.std.specs.Prelude.{not, ◌||◌, nat_eq, nat_lt, unwrap_or}
 use Rattle.std.specs.List.{AllByRecursion, filter, list_any, flat_map}

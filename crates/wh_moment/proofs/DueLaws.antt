@@ -9,7 +9,8 @@ use Rattle.std.specs.Option.{option_map_or}
 use Rattle.std.proofs.lemmas.Bool.Decides.{nat_tests}
 use Rattle.std.proofs.lemmas.Nat.{div-add-mod'}
 use Rattle.wh_moment.specs.Upstream.{Watched, Dynamics, watched_at, upstream}
-use Rattle.wh_moment.specs.Moment.{period, grid, stands_since, has_come, is_waiting_for, is_due, moment_at, greatest_moment}
+use Rattle.wh_moment.specs.Moment.{period, grid, stands_since, has_come, is_waiting_for, is_due, moment_at}
+use Rattle.wh_moment.specs.Moment.{greatest_moment}
 use Rattle.wh_moment.specs.Moment.{target, sooner, due_among, ids_from, due_table}
 
 -- ---- the one that is due

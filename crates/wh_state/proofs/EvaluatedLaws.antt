@@ -19,7 +19,8 @@ use Rattle.wh_ddl_naming.specs.Names.{query_names}
 use Rattle.wh_meaning.specs.Bag.{Bag, bag_of, no_rows}
 use Rattle.wh_meaning.specs.Query.{eval}
 use Rattle.wh_state.specs.State.{Version, Table, Kind, TableKind, StreamKind, TaskKind, DynamicKind, Object, Stream}
-use Rattle.wh_state.specs.State.{Rows, nothing_held, content_in, last_of, at_id, rows_at, version_for, table_in, dynamic_in}
+use Rattle.wh_state.specs.State.{Rows, nothing_held, content_in, last_of, at_id, rows_at, version_for, table_in}
+use Rattle.wh_state.specs.State.{dynamic_in}
 use Rattle.wh_state.specs.Task.{Task}
 use Rattle.wh_state.specs.Dynamic.{Source, DynamicQuery, Dynamic, id_named, ids_read}
 use Rattle.wh_state.specs.Objects.{as_table, as_dynamic, dynamic_at}

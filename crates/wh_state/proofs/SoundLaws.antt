@@ -5,7 +5,8 @@
 --     MayEdit, MayMake, MayPut, MayRefresh     when acts of the others keep objects sound, by the objects that they meet
 --     AreKeeping, acts_kept        acts that do so, one after the other
 --     sound_done                   a commit of such acts at a later stamp
-use Rattle.std.proofs.Common.{◌≡◌, ℕ, zero, suc, ◌<◌, ◌≤◌, ◌⊎◌, inl, inr, Bool, List, [], ◌∷◌, ◌++◌, length, Option, Some, None}
+use Rattle.std.proofs.Common.{◌≡◌, ℕ, zero, suc, ◌<◌, ◌≤◌, ◌⊎◌, inl, inr, Bool, List, [], ◌∷◌, ◌++◌, length, Option}
+use Rattle.std.proofs.Common.{Some, None}
 use Rattle.std.proofs.Common.{IsTrue, refl, sym, ap, subst, ◌∙◌, arith}
 use Rattle.std.specs.Option.{IfSome, IsSomeAnd, option_and_then}
 use Rattle.wh_value.specs.Column.{Column}
@@ -22,15 +23,19 @@ use Rattle.wh_state.specs.Moments.{evaluated_at, StandsFor}
 use Rattle.wh_state.specs.Edits.{Edits}
 use Rattle.wh_state.specs.Act.{Act, MakesTable, DropsObject, EditsRows, MakesStream, MovesOffset, MakesTask, PutsTask}
 use Rattle.wh_state.specs.Act.{BeginsRun, EndsTask, MakesDynamic, PutsDynamic, RefreshesRows, edited_table, edited_kind}
-use Rattle.wh_state.specs.Act.{edited_object, moved_kind, moved_object, on_task_object, on_dynamic_object, acted, all_acted}
+use Rattle.wh_state.specs.Act.{edited_object, moved_kind, moved_object, on_task_object, on_dynamic_object, acted}
+use Rattle.wh_state.specs.Act.{all_acted}
 use Rattle.wh_state.specs.Act.{done}
 use Rattle.wh_state.specs.Sound.{IsTimelyFor, IsOlder, IsSoundDynamic, IsSoundKind, IsSoundObject, Sound}
 use Rattle.wh_state.proofs.AllLaws.{all_map}
-use Rattle.wh_state.proofs.EvaluatedLaws.{IsNextKind, next_table, next_stream, next_task, next_dynamic, next_same, Follows}
-use Rattle.wh_state.proofs.EvaluatedLaws.{rows_kept, IsThere, bound_follows, StandFrom, evaluated_follows, ids_read_hold}
+use Rattle.wh_state.proofs.EvaluatedLaws.{IsNextKind, next_table, next_stream, next_task, next_dynamic, next_same}
+use Rattle.wh_state.proofs.EvaluatedLaws.{Follows}
+use Rattle.wh_state.proofs.EvaluatedLaws.{rows_kept, IsThere, bound_follows, StandFrom, evaluated_follows}
+use Rattle.wh_state.proofs.EvaluatedLaws.{ids_read_hold}
 use Rattle.wh_state.proofs.SoundObjects.{IsKept, kept_of, all_sound, dynamic_there}
 use Rattle.wh_state.proofs.SoundObjects.{reads_there, AllBefore, moments_within, all_stand}
-use Rattle.wh_state.proofs.SoundObjects.{more_follow, changed_twice, changed_kept, more_kept, older_follows, kind_follows}
+use Rattle.wh_state.proofs.SoundObjects.{more_follow, changed_twice, changed_kept, more_kept, older_follows}
+use Rattle.wh_state.proofs.SoundObjects.{kind_follows}
 use Rattle.wh_state.proofs.SoundTables.{IsFresh, table_later, new_sound, edited_sound, IsRefreshed, refreshed_sound}
 
 -- ---- acts that leave rows and dynamic tables

@@ -4,7 +4,8 @@
 --     AllBefore, moments_within     the moments of dynamic tables before a stamp
 --     dynamic_follows           a dynamic table among objects that follow
 --     changed_kept, more_kept   one object that is changed, and one more
-use Rattle.std.proofs.Common.{◌≡◌, ℕ, zero, suc, ◌<◌, ◌≤◌, ◌⊎◌, inl, inr, List, [], ◌∷◌, ◌++◌, length, Option, Some, None}
+use Rattle.std.proofs.Common.{◌≡◌, ℕ, zero, suc, ◌<◌, ◌≤◌, ◌⊎◌, inl, inr, List, [], ◌∷◌, ◌++◌, length, Option, Some}
+use Rattle.std.proofs.Common.{None}
 use Rattle.std.proofs.Common.{option_map, refl, sym, ap, subst, ◌∙◌, arith, IsTrue}
 use Rattle.std.specs.Prelude.{slice_get, slice_set}
 use Rattle.std.specs.List.{AllByRecursion}
@@ -19,7 +20,8 @@ use Rattle.wh_state.specs.Sound.{IsOlder, IsSoundDynamic, IsSoundKind, IsSoundOb
 use Rattle.wh_state.proofs.AllLaws.{all_map, all_both, all_at}
 use Rattle.wh_state.proofs.IdLaws.{at_spared}
 use Rattle.wh_state.proofs.FoundLaws.{at_same, same_or_not}
-use Rattle.wh_state.proofs.EvaluatedLaws.{IsNextKind, next_table, next_stream, next_task, next_dynamic, IsNextAt, Follows}
+use Rattle.wh_state.proofs.EvaluatedLaws.{IsNextKind, next_table, next_stream, next_task, next_dynamic, IsNextAt}
+use Rattle.wh_state.proofs.EvaluatedLaws.{Follows}
 use Rattle.wh_state.proofs.EvaluatedLaws.{next_at, IsThere, bound_follows, ids_read_hold, StandFrom, evaluated_follows}
 
 -- ---- places
