@@ -59,7 +59,8 @@ use Rattle.wh_machine.proofs.RefreshGoes.{AreStanding, KindStands, refresh_goes}
 use Rattle.wh_machine.proofs.DynamicWorks.{lag_is, refresh_spares, standing_of}
 use Rattle.wh_machine.proofs.DynamicNames.{all_inside, IsSeenBy, seen_by, right_kept, new_binds}
 use Rattle.wh_machine.proofs.TokensFilled.{AllFilled}
-use Rattle.wh_machine.proofs.OutputLaws.{columns_filled, SourcesFilled, query_filled}
+use Rattle.wh_machine.proofs.OutputLaws.{columns_filled}
+use Rattle.wh_machine.proofs.QueryOutputs.{SourcesFilled, query_filled}
 
 -- ---- what is asked of the statement
 
@@ -164,7 +165,8 @@ module _ (objects : List StoredObject) (columns : AllByRecursion HasColumns obje
       let q : BoundQuery = bound_query t.query (all_inside objects) 0 in
       let right = right_kept (column_names (map column_of q.outputs)) q.findings none in (
         new_binds objects t.query t.query_text (column_names (map column_of q.outputs)) none narrow,
-        columns_filled q.outputs (query_filled (all_inside objects) (sources_filled objects columns) t.query filled.query
+        columns_filled q.outputs (query_filled (all_inside objects)
+            (sources_filled objects columns) t.query filled.query
             filled.filled 0 (right.0.0.0, (right.0.0.1, right.0.1))),
       )
 
@@ -245,7 +247,8 @@ works_create_dynamic s m session t reached filled =
     let b : Meant NewDynamicTable = bound_dynamic_table (names_in m.state.objects) t in
     let n : NewDynamicTable = b.value in
     works_defines s m session None _ reached (λ outside.
-    works_unless s m (dynamic_refusal m.state (option_map refusal_of (first_failing b)) n (query_of n)) _ reached (λ none.
+    works_unless s m (dynamic_refusal m.state (option_map refusal_of (first_failing b)) n (query_of n)) _ reached
+    (λ none.
     let tests = passes_dynamic m.state (option_map refusal_of (first_failing b)) n (query_of n) none in
     let found = nothing_wrong b tests.0 in
     let binds = binds_over s.objects reached.firm.columns t filled m.state.objects (objects_meant s m reached) found.1

@@ -64,7 +64,7 @@ source_table (StreamKind s) is = absurd cc
 source_table (TaskKind t) is = absurd cc
 source_table (DynamicKind d t) is = tt
 
-abbrev named_with : Name → ℕ → ObjectKind → List Column → Named
+abbrev pub named_with : Name → ℕ → ObjectKind → List Column → Named
 named_with name id kind columns = record { name = name; id = id; kind = kind; columns = columns }
 
 named_same : (a b : Name) (id : ℕ) (k l : ObjectKind) (cs ds : List Column) → a ≡ b → k ≡ l → cs ≡ ds
@@ -82,7 +82,7 @@ module _ (objects : List StoredObject) where
     pub object : StoredObject
     pub there : at_id objects found.id ≡ Some object
     pub live : object.is_live ≡ true
-    pub is : found ≡ record { name = name; id = found.id; kind = source_kind object.kind; columns = columns_in object.kind }
+    pub is : found ≡ named_with name found.id (source_kind object.kind) (columns_in object.kind)
 
   pub seen_by : (name : Name) (found : Named) → named all_inside name ≡ Some found → IsSeenBy name found
   seen_by name found is =
@@ -151,8 +151,11 @@ module _ (objects : List StoredObject) where
 
   all_among : (ws : List Name) → AllByRecursion (λ name. IsAmong name ws) ws
   all_among [] = tt
-  all_among (w ∷ ws) =
-      (inl refl, all_map (λ name. IsAmong name ws) (λ name. IsAmong name (w ∷ ws)) (λ name is. inr is) ws (all_among ws))
+  all_among (w ∷ ws) = (
+    inl refl,
+    all_map (λ name. IsAmong name ws) (λ name. IsAmong name (w ∷ ws)) (λ name is. inr is) ws
+        (all_among ws),
+  )
 
   found_among : (written : List Name) → AreSources written → (name : Name) → IsAmong name written
       → (s : IsSourceSeen name) → named (names_among objects (numbered_names written)) name ≡ Some s.found
@@ -213,7 +216,8 @@ module _ (objects : List StoredObject) where
       → AllByRecursion (HasOneId sources) sources
   one_id sources are =
       all_map (λ s. s.id ≡ id_in all_inside s.name) (HasOneId sources)
-      (λ s is. all_map (λ other. other.id ≡ id_in all_inside other.name) (λ other. other.name ≡ s.name → other.id ≡ s.id)
+      (λ s is. all_map (λ other. other.id ≡ id_in all_inside other.name) (λ other. other.name ≡ s.name
+      → other.id ≡ s.id)
       (λ other at same. at ∙ ap (id_in all_inside) same ∙ sym is) sources are) sources are
 
 -- ---- what is found
@@ -244,7 +248,8 @@ right_kept columns f none =
 
 -- by its tree, its text, and what its query stands for
 pub new_binds : (objects : List StoredObject) (tree : Query) (text : List ℕ) (columns : List Name)
-    → naming.first_failing (followed (column_findings columns) (bound_query tree (all_inside objects) 0).findings) ≡ None
+    → naming.first_failing (followed (column_findings columns) (bound_query tree (all_inside objects) 0).findings)
+    ≡ None
     → (bound_query tree (all_inside objects) 0).is_wide ≡ false
     → Binds objects (record {
       tree = tree;

@@ -70,4 +70,5 @@ pub mod DynamicNames
 pub mod BehindLaws
 pub mod TokensFilled
 pub mod OutputLaws
+pub mod QueryOutputs
 pub mod DynamicMade
