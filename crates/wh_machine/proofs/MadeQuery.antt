@@ -15,7 +15,7 @@ use Rattle.wh_naming.specs.Select.{bound_query}
 use Rattle.wh_ddl_naming.specs.Names.{query_names}
 use Rattle.wh_ddl_naming.specs.DynamicTables.{inside}
 use Rattle.wh_ddl_naming.proofs.QueryLaws.{query_alike}
-use Rattle.wh_ddl_naming.proofs.SourceLaws.{id_in, query_sources}
+use Rattle.wh_ddl_naming.proofs.SourceLaws.{id_in, query_sourced}
 use Rattle.wh_state.specs.State.{Kind, TableKind, StreamKind, TaskKind, DynamicKind, Object, at_id}
 use Rattle.wh_state.specs.Dynamic.{Source}
 use Rattle.wh_state.specs.Bound.{named_as, names_among, query_bound}
@@ -193,7 +193,7 @@ module _ (objects : List Object) where
   pub kept_sources : (q : trees.Query)
       → sources_named (query_names q) (bound_query q seen_names 0).sources ≡ sources_by id_seen (query_names q)
   kept_sources q =
-      ap (sources_named (query_names q)) (query_sources seen_names q 0) ∙ sources_are id_seen (query_names q)
+      ap (sources_named (query_names q)) (query_sourced seen_names q 0).ids ∙ sources_are id_seen (query_names q)
 
   pub query_same : (q : trees.Query) (text : List ℕ) → query_bound objects (record {
     tree = q;
