@@ -17,6 +17,7 @@ pub mod RefreshKeeps
 pub mod DynamicKeeps
 pub mod EventKeeps
 pub mod SoundLaws
+pub mod LaterLaws
 pub mod ConsumingLaws
 pub mod MoveLaws
 pub mod ReadLaws
@@ -44,6 +45,7 @@ pub mod PassedLaws
 pub mod StageLaws
 pub mod TickWorks
 pub mod ReachedLaws
+pub mod UnderstoodActs
 pub mod UnderstoodLaws
 pub mod LeadsLaws
 pub mod FilledLaws
