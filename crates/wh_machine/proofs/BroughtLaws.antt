@@ -13,7 +13,8 @@ use Rattle.std.proofs.lemmas.Bool.Decides.{nat_tests}
 use Rattle.wh_meaning.specs.Bag.{Bag, bag_of, no_rows}
 use Rattle.wh_reply.specs.Reply.{RefreshAction, NoData, Full, Incremental}
 use Rattle.wh_state.specs.State.{Version, Kind, TableKind, StreamKind, TaskKind, DynamicKind, Object, Table, at_id}
-use Rattle.wh_state.specs.State.{changed_at, put_at, table_in, dynamic_in, last_rows, rows_at, nothing_held, content_in, last_of}
+use Rattle.wh_state.specs.State.{changed_at, put_at, table_in, dynamic_in, last_rows, rows_at, nothing_held, content_in}
+use Rattle.wh_state.specs.State.{last_of}
 use Rattle.wh_state.specs.State.{on_dynamic}
 use Rattle.wh_state.specs.Dynamic.{DynamicState, Dynamic, ids_read, with_dynamic_state}
 use Rattle.wh_state.specs.Objects.{as_table, as_dynamic, table_at, dynamic_at}
@@ -36,7 +37,8 @@ use Rattle.wh_moment.proofs.RebaseLaws.{rebased}
 use Rattle.wh_moment.proofs.UpstreamLaws.{RiseFrom}
 use Rattle.wh_moment.proofs.ClosedLaws.{same_number}
 use Rattle.wh_machine.specs.Refresh.{has_version_between, has_new_data, action_of, Brought, brought_as}
-use Rattle.wh_machine.specs.Refresh.{brought_by, brought_with, brought_one, acts_of_one, brought_then, brought_all, by_mode}
+use Rattle.wh_machine.specs.Refresh.{brought_by, brought_with, brought_one, acts_of_one, brought_then, brought_all}
+use Rattle.wh_machine.specs.Refresh.{by_mode}
 use Rattle.wh_machine.specs.Refresh.{version_acts}
 use Rattle.wh_machine.proofs.GotLaws.{entries_hold}
 use Rattle.wh_machine.proofs.RefreshLaws.{brought_id}

@@ -31,7 +31,8 @@ use Rattle.wh_moment.proofs.DueLaws.{IsDueAt, due_is, due_some, due_within, due_
 use Rattle.wh_machine.specs.Names.{names_from}
 use Rattle.wh_machine.specs.Outcome.{Machine, commits}
 use Rattle.wh_machine.specs.Refresh.{Refreshing, Fails, Brings, with_upstream, refresh}
-use Rattle.wh_machine.specs.Dynamics.{seconds_of, is_incremental, mode_refusal, dynamic_made, with_dynamic, new_id, dynamic_refusal}
+use Rattle.wh_machine.specs.Dynamics.{seconds_of, is_incremental, mode_refusal, dynamic_made, with_dynamic, new_id}
+use Rattle.wh_machine.specs.Dynamics.{dynamic_refusal}
 use Rattle.wh_machine.specs.Dynamics.{first_suspended, asked_refresh, made_with, initialized, query_of, create_dynamic}
 use Rattle.wh_machine.specs.Dynamics.{is_same_dynamic_state, puts_dynamic, alters, refreshed_by, is_fifth, failed_of}
 use Rattle.wh_machine.specs.Dynamics.{scheduled_by, scheduled}

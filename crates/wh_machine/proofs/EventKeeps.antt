@@ -32,7 +32,8 @@ use Rattle.wh_graph.specs.Action.{Action, RunsTask, StartsRun, DoesNothing}
 use Rattle.wh_moment.specs.Upstream.{dynamics_of}
 use Rattle.wh_moment.specs.Moment.{due_table}
 use Rattle.wh_machine.specs.Changes.{Changed, Fails, Gives, reply_to}
-use Rattle.wh_machine.specs.Transaction.{Transaction, begun, staged, staged_in_state, next_row_of, acts_of, commit_refusal}
+use Rattle.wh_machine.specs.Transaction.{Transaction, begun, staged, staged_in_state, next_row_of, acts_of}
+use Rattle.wh_machine.specs.Transaction.{commit_refusal}
 use Rattle.wh_machine.specs.Sessions.{transaction_in, with_begun, with_ended}
 use Rattle.wh_machine.specs.Names.{names_in}
 use Rattle.wh_machine.specs.Outcome.{Machine, Outcome, Does, commits, unless}
@@ -47,7 +48,8 @@ use Rattle.wh_machine.specs.Dynamics.{drop_dynamic, suspend_dynamic, resume_dyna
 use Rattle.wh_machine.specs.Statements.{begin, commit, rollback, commit_of, rollback_of, commit_reply}
 use Rattle.wh_machine.specs.Statements.{changes_in, changes_rows, selects, carried_out, carried_out_as, meant_in}
 use Rattle.wh_machine.specs.Ticks as ticks
-use Rattle.wh_machine.specs.Ticks.{body_bound, Verdict, Holds, HoldsNot, verdict, fails_by, carried_in, runs_by, runs_task}
+use Rattle.wh_machine.specs.Ticks.{body_bound, Verdict, Holds, HoldsNot, verdict, fails_by, carried_in, runs_by}
+use Rattle.wh_machine.specs.Ticks.{runs_task}
 use Rattle.wh_machine.specs.Ticks.{run_task, scheduled_acts, starts_run, refreshes, does_action, action_at, ticked}
 use Rattle.wh_machine.specs.Step.{Event, Command, Tick, is_session, commanded, outcome_of}
 use Rattle.wh_machine.specs.Sound.{IsBegun, ChangesTables, AllChangeTables}

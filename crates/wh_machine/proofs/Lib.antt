@@ -18,6 +18,7 @@ pub mod RefreshKeeps
 pub mod DynamicKeeps
 pub mod EventKeeps
 pub mod SoundLaws
+pub mod LaterLaws
 pub mod ConsumingLaws
 pub mod MoveLaws
 pub mod ReadLaws
@@ -45,6 +46,7 @@ pub mod PassedLaws
 pub mod StageLaws
 pub mod TickWorks
 pub mod ReachedLaws
+pub mod UnderstoodActs
 pub mod UnderstoodLaws
 pub mod LeadsLaws
 pub mod FilledLaws

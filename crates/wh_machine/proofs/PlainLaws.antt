@@ -24,7 +24,8 @@ use Rattle.wh_state.proofs.PlainActs.{ArePlain, no_more_edit, plain_edit, plain_
 use Rattle.wh_effect.specs.Effect.{Effect}
 use Rattle.wh_machine.specs.Offsets.{offset_move, offset_moves, acts_of_commit}
 use Rattle.wh_machine.specs.Changes.{Changed, Fails, Gives, reply_to}
-use Rattle.wh_machine.specs.Transaction.{Staged, Transaction, begun, start_of, staged, staged_in_state, edit_act, touched}
+use Rattle.wh_machine.specs.Transaction.{Staged, Transaction, begun, start_of, staged, staged_in_state, edit_act}
+use Rattle.wh_machine.specs.Transaction.{touched}
 use Rattle.wh_machine.specs.Transaction.{with_effect, staged_in, next_row_of}
 use Rattle.wh_machine.specs.Transaction.{acts_of, commit_refusal}
 use Rattle.wh_machine.specs.Sessions.{Sessions, transaction_in}

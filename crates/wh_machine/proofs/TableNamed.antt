@@ -1,7 +1,8 @@
 -- The target of a change that nothing is found wrong with.
 --     IsObjectAt, object_of     the live object of a name
 --     table_changed             what a change does is done to a table
-use Rattle.std.proofs.Common.{◌≡◌, ℕ, suc, ◌+◌, Bool, true, false, cond, List, [], ◌∷◌, ◌++◌, Option, Some, None, IsTrue}
+use Rattle.std.proofs.Common.{◌≡◌, ℕ, suc, ◌+◌, Bool, true, false, cond, List, [], ◌∷◌, ◌++◌, Option, Some, None}
+use Rattle.std.proofs.Common.{IsTrue}
 use Rattle.std.proofs.Common.{option_map, refl, sym, ap, subst, ◌∙◌, arith}
 use Rattle.std.specs.Prelude.{not, bytes_eq, slice_get}
 use Rattle.std.specs.Option.{IsSomeAnd}

@@ -5,7 +5,8 @@
 --     MayEdit, MayMake, MayPut, MayRefresh     when acts of the others keep objects sound, by the objects that they meet
 --     AreKeeping, acts_kept        acts that do so, one after the other
 --     sound_done                   a commit of such acts at a later stamp
-use Rattle.std.proofs.Common.{◌≡◌, ℕ, zero, suc, ◌<◌, ◌≤◌, ◌⊎◌, inl, inr, Bool, List, [], ◌∷◌, ◌++◌, length, Option, Some, None}
+use Rattle.std.proofs.Common.{◌≡◌, ℕ, zero, suc, ◌<◌, ◌≤◌, ◌⊎◌, inl, inr, Bool, List, [], ◌∷◌, ◌++◌, length, Option}
+use Rattle.std.proofs.Common.{Some, None}
 use Rattle.std.proofs.Common.{IsTrue, refl, sym, ap, subst, ◌∙◌, arith}
 use Rattle.std.specs.FinMap.{values}
 use Rattle.std.specs.Option.{IfSome, IsSomeAnd, option_and_then}
@@ -24,7 +25,8 @@ use Rattle.wh_state.specs.Moments.{evaluated_at, written_out, over_tables, Stand
 use Rattle.wh_state.specs.Edits.{Edits}
 use Rattle.wh_state.specs.Act.{Act, MakesTable, DropsObject, EditsRows, MakesStream, MovesOffset, MakesTask, PutsTask}
 use Rattle.wh_state.specs.Act.{BeginsRun, EndsTask, MakesDynamic, PutsDynamic, RefreshesRows, edited_table, edited_kind}
-use Rattle.wh_state.specs.Act.{edited_object, moved_kind, moved_object, on_task_object, on_dynamic_object, acted, all_acted}
+use Rattle.wh_state.specs.Act.{edited_object, moved_kind, moved_object, on_task_object, on_dynamic_object, acted}
+use Rattle.wh_state.specs.Act.{all_acted}
 use Rattle.wh_state.specs.Act.{done}
 use Rattle.wh_state.specs.Sound.{IsTimelyFor, IsOlder, IsSoundDynamic, IsSoundKind, IsSoundObject, Sound}
 use Rattle.wh_state.proofs.AllLaws.{all_map}

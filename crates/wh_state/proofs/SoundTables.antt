@@ -12,7 +12,8 @@ use Rattle.std.proofs.lemmas.Bool.{cases_lt}
 use Rattle.wh_value.specs.Value.{Row}
 use Rattle.wh_value.specs.Column.{Column}
 use Rattle.wh_meaning.specs.Bag.{bag_of}
-use Rattle.wh_state.specs.State.{Version, Table, Object, Rows, nothing_held, new_table, version_for, last_rows, content_in}
+use Rattle.wh_state.specs.State.{Version, Table, Object, Rows, nothing_held, new_table, version_for, last_rows}
+use Rattle.wh_state.specs.State.{content_in}
 use Rattle.wh_state.specs.Dynamic.{DynamicState, Dynamic, with_dynamic_state, ids_read}
 use Rattle.wh_state.specs.Edits.{Edits, rows_after}
 use Rattle.wh_state.specs.Moments.{evaluated_at, written_out, over_tables}
