@@ -1,7 +1,7 @@
 use Rattle.wh_text.proofs.print.put_refusal.Goals as goal
 
 pub returns-in-LagTooShort : goal.returns-in-LagTooShort
-returns-in-LagTooShort c = rw c.in-LagTooShort.is c.put_numbers.ensures
+returns-in-LagTooShort c = rw c.in-LagTooShort.is c.put_names_of.ensures
 
 pub returns-in-RootRunning : goal.returns-in-RootRunning
 returns-in-RootRunning c = rw c.in-RootRunning.is c.put_name-in-RootRunning.ensures
