@@ -22,11 +22,7 @@ impl Catalog {
     ghost use Rattle.wh_catalog.specs.DynamicConditions.{are_sources, binds, is_right};
 
     /// Whether a query binds to these columns.
-    pub(crate) fn binds(
-        &self,
-        query: &DynamicQuery,
-        columns: &[Column],
-    ) -> Result<bool, AllocError>
+    pub(crate) fn binds(&self, query: &DynamicQuery, columns: &[Column]) -> Result<bool, AllocError>
         ensures { IfOk result (λ found. found
             ≡ binds (objects_of self.now) (query_of query.now) (map column_of columns.now)) }
     {
@@ -71,10 +67,7 @@ impl Catalog {
     }
 
     // The objects that a query names, each under the name that it is kept with.
-    fn names_among<'a>(
-        &'a self,
-        sources: &'a [NamedSource],
-    ) -> Result<Vec<Named<'a>>, AllocError>
+    fn names_among<'a>(&'a self, sources: &'a [NamedSource]) -> Result<Vec<Named<'a>>, AllocError>
         ensures { IfOk result (λ names. map named_of names.items
             ≡ names_among (objects_of self.now) (map source_of sources.now)) }
     {

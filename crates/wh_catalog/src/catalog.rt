@@ -231,10 +231,7 @@ ghost use Rattle.std.specs.Prelude.{option_map};
 ghost use Rattle.wh_catalog.specs.Undoable.{object_in};
 ghost use Rattle.wh_catalog.specs.Object.{kept_object};
 
-fn watched(
-    alloc: Global,
-    objects: &[StoredObject],
-) -> Result<Vec<Option<Watched<'_>>>, AllocError>
+fn watched(alloc: Global, objects: &[StoredObject]) -> Result<Vec<Option<Watched<'_>>>, AllocError>
     ensures { IfOk result (λ all. dynamics_in all.items
         ≡ dynamics_of (stored_objects objects.now)) }
 {

@@ -1,4 +1,4 @@
-use Rattle.std.proofs.Common.{◌∙◌, ap, sym, ◌++◌, ◌∷◌, [], arith}
+use Rattle.std.proofs.Common.{◌∙◌, sym, ◌++◌, ◌∷◌, [], arith}
 use Rattle.std.proofs.lemmas.List.{length-map}
 use Rattle.wh_value.specs.View.{column_of}
 use Rattle.wh_state.specs.State.{new_object, DynamicKind}
