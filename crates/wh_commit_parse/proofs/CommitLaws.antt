@@ -4,7 +4,7 @@
 use Rattle.std.proofs.Common.{◌≡◌, ℕ, List, [], ◌∷◌, map, refl, sym, ap, ◌∙◌}
 use Rattle.std.specs.List.{AllByRecursion}
 use Rattle.std.proofs.lemmas.Option.{same_Some}
-use Rattle.wh_state.specs.Commit.{Change, Commit, TextChange, TextCommit, change_as_text, as_text}
+use Rattle.wh_state.specs.Commit.{Change, Commit, TextCommit, change_as_text, as_text}
 use Rattle.wh_state.specs.Spelling.{IsUnderstood, IsCommit}
 use Rattle.wh_record.proofs.CommitLaws.{payload_fixes_text_commit}
 use Rattle.wh_commit_parse.specs.Laws.{PayloadFixesCommit}

@@ -1,7 +1,7 @@
 -- Conditions that texts spell.
 --     no_condition            an empty one spells none
 --     condition_is_read       what is spelled is read
-use Rattle.std.proofs.Common.{◌≡◌, ℕ, List, [], ◌∷◌, Some, refl, sym, ap, subst}
+use Rattle.std.proofs.Common.{◌≡◌, ℕ, List, [], Some, refl, sym, ap, subst}
 use Rattle.wh_ast.specs.declared.statement.WhenCondition.{WhenCondition}
 use Rattle.wh_grammar.specs.Token.{Token}
 use Rattle.wh_grammar.specs.Lexing.{HasTokens, end}

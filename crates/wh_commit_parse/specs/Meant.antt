@@ -12,7 +12,7 @@ use Rattle.wh_ast.specs.declared.statement.When.{When}
 use Rattle.wh_ast.specs.declared.statement.WhenCondition.{WhenCondition}
 use Rattle.wh_ast.specs.declared.statement.Statement.{Statement}
 use Rattle.wh_ast.specs.declared.statement.Statement.TheVariants as st
-use Rattle.wh_grammar.specs.Token.{Token, Placed}
+use Rattle.wh_grammar.specs.Token.{Placed}
 use Rattle.wh_grammar.specs.Spelled.{tokens_of, most_nested}
 use Rattle.wh_lex.specs.Read.{read_tokens}
 use Rattle.wh_cursor.specs.Steps.{Reader, ◌>>=◌, ◌>>◌, pure, read_end}
