@@ -18,6 +18,7 @@ pub mod RefreshKeeps
 pub mod DynamicKeeps
 pub mod EventKeeps
 pub mod SoundLaws
+pub mod OneMoment
 pub mod ConsumingLaws
 pub mod MoveLaws
 pub mod ReadLaws
