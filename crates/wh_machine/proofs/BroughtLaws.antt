@@ -217,7 +217,7 @@ one_keeps stamp moment objects id b within kept fresh ready is =
 -- ---- what it leaves
 
 -- other objects are as they were
-one_spares : (stamp moment : ℕ) (objects : List Object) (b : Brought) (other : ℕ) → (other ≡ b.id → ⊥)
+pub one_spares : (stamp moment : ℕ) (objects : List Object) (b : Brought) (other : ℕ) → (other ≡ b.id → ⊥)
     → at_id (all_acted stamp objects (acts_of_one moment b)) other ≡ at_id objects other
 one_spares stamp moment objects b other apart = by_edits b.edits
   where
@@ -259,7 +259,7 @@ put_stands objects id state = by_found (at_id objects id) refl
         subst (λ (found : Option Object). IfSome (option_and_then as_dynamic found)
         (λ e. e.state.moment ≡ state.moment)) (sym (at_same put objects id o there)) (by_kind o.kind)
 
-one_stands : (stamp moment : ℕ) (objects : List Object) (b : Brought)
+pub one_stands : (stamp moment : ℕ) (objects : List Object) (b : Brought)
     → IfSome (dynamic_at (all_acted stamp objects (acts_of_one moment b)) b.id) (λ e. e.state.moment ≡ b.state.moment)
 one_stands stamp moment objects b = by_edits b.edits
   where
@@ -270,7 +270,7 @@ one_stands stamp moment objects b = by_edits b.edits
     by_edits (Some e) = put_stands (changed_at objects b.id (edited_object stamp moment e)) b.id b.state
 
 -- what is brought stands for the moment
-brought_moment : (objects : List Object) (moment id : ℕ) (b : Brought) → brought_one objects moment id ≡ Some b
+pub brought_moment : (objects : List Object) (moment id : ℕ) (b : Brought) → brought_one objects moment id ≡ Some b
     → b.state.moment ≡ moment
 unfolding brought_one
 brought_moment objects moment id b is = by_found (dynamic_at objects id) (table_at objects id) is
@@ -313,7 +313,7 @@ IsAwaited moment objects ids id = IfSome (dynamic_at objects id) (IsAwaitedWith 
 abbrev pub IsFreshFrom : ℕ → ℕ → List Object → Type 0
 IsFreshFrom stamp least objects = (id : ℕ) → least ≤ id → IfSome (table_at objects id) (IsFresh stamp)
 
-rise_all : (least : ℕ) (ids : List ℕ) → RiseFrom least ids → AllByRecursion (λ n. least ≤ n) ids
+pub rise_all : (least : ℕ) (ids : List ℕ) → RiseFrom least ids → AllByRecursion (λ n. least ≤ n) ids
 rise_all least [] rise = tt
 rise_all least (id ∷ ids) rise = (
   rise.0,

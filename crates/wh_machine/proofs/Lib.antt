@@ -19,6 +19,7 @@ pub mod DynamicKeeps
 pub mod EventKeeps
 pub mod SoundLaws
 pub mod LaterLaws
+pub mod OneMoment
 pub mod ConsumingLaws
 pub mod MoveLaws
 pub mod ReadLaws

@@ -99,7 +99,7 @@ each_among P (id ∷ ids) each = (
   each_among P ids (λ y is. each y (second_holds (nat_eq y id) (is_among y ids) is)),
 )
 
-among_filter : (test : ℕ → Bool) (ids : List ℕ) (y : ℕ) → is_among y (filter test ids) ≡ true
+pub among_filter : (test : ℕ → Bool) (ids : List ℕ) (y : ℕ) → is_among y (filter test ids) ≡ true
     → (is_among y ids ≡ true) × (test y ≡ true)
 among_filter test [] y is = absurd cc
 among_filter test (id ∷ ids) y is = by_test (test id) refl is (λ is. among_filter test ids y is)
@@ -116,7 +116,7 @@ among_filter test (id ∷ ids) y is = by_test (test id) refl is (λ is. among_fi
     by_test true passes is rest = by_same (nat_eq y id) refl passes is rest
     by_test false fails is rest = (second_holds (nat_eq y id) (is_among y ids) (rest is).0, (rest is).1)
 
-filter_among : (test : ℕ → Bool) (ids : List ℕ) (y : ℕ) → is_among y ids ≡ true → test y ≡ true
+pub filter_among : (test : ℕ → Bool) (ids : List ℕ) (y : ℕ) → is_among y ids ≡ true → test y ≡ true
     → is_among y (filter test ids) ≡ true
 filter_among test [] y is passes = absurd cc
 filter_among test (id ∷ ids) y is passes =
@@ -141,7 +141,7 @@ filter_among test (id ∷ ids) y is passes =
 below_is : (target moment : ℕ) → 0 < target → (nat_eq moment 0 || nat_lt moment target) ≡ true → moment < target
 below_is target moment some test = grind (arith, nat_tests)
 
-not_below : (target moment : ℕ) → (nat_eq moment 0 || nat_lt moment target) ≡ false → target ≤ moment
+pub not_below : (target moment : ℕ) → (nat_eq moment 0 || nat_lt moment target) ≡ false → target ≤ moment
 not_below target moment test = grind (arith, nat_tests)
 
 module _ (objects : List Object) (id moment : ℕ) (earlier : ReadsEarlier objects) (some : 0 < moment)

@@ -107,7 +107,7 @@ edits_more least (EditsRows id e ∷ acts) more (next_edit from rising) others =
 edits_more least (RefreshesRows id moment e ∷ acts) more (next_refresh from rising) others =
     next_refresh from (edits_more _ acts more rising others)
 
-acted_append : (stamp : ℕ) (objects : List Object) (acts more : List Act)
+pub acted_append : (stamp : ℕ) (objects : List Object) (acts more : List Act)
     → all_acted stamp objects (acts ++ more) ≡ all_acted stamp (all_acted stamp objects acts) more
 acted_append stamp objects [] more = refl
 acted_append stamp objects (act ∷ acts) more = acted_append stamp (acted stamp objects act) acts more

@@ -20,5 +20,6 @@ pub mod Step
 pub mod Script
 pub mod Made
 pub mod Sound
+pub mod OneMoment
 pub mod Consuming
 pub mod Stop
