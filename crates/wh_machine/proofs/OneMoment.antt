@@ -122,8 +122,11 @@ brought_stand stamp moment (id ∷ ids) least objects rise all is =
         subst (λ (after : List Object). AreBrought moment objects after (id ∷ ids))
         (sym (acted_append stamp objects (acts_of_one moment b) (flat_map (acts_of_one moment) more)))
         (record {
-          stand = (subst (λ (found : Option Object). IfSome (option_and_then as_dynamic found)
-              (λ d. d.state.moment ≡ moment)) (sym here) stands, later.stand);
+          stand = (
+            subst (λ (found : Option Object). IfSome (option_and_then as_dynamic found)
+                (λ d. d.state.moment ≡ moment)) (sym here) stands,
+            later.stand,
+          );
           others = λ x none.
               let both : (nat_eq x id ≡ false) × (is_among x ids ≡ false) = neither (nat_eq x id) (is_among x ids) none in
               later.others x both.1
