@@ -242,7 +242,8 @@ fn watched(alloc: Global, objects: &[StoredObject]) -> Result<Vec<Option<Watched
     Ok(all)
 }
 
-fn watched_object(object: &StoredObject) -> Option<Watched<'_>>
+/// What a schedule looks at of a dynamic table; None of another object.
+pub fn watched_object(object: &StoredObject) -> Option<Watched<'_>>
     ensures { option_map watched_of result ≡ watched_object (object_in (kept_object object.now)) }
 {
     match &object.kind {

@@ -18,7 +18,7 @@ mod streaming;
 mod tasks;
 mod undo;
 
-pub use catalog::Catalog;
+pub use catalog::{Catalog, watched_object};
 pub use object::{StoredKind, StoredObject};
 pub use stream::StoredStream;
 pub use undo::Undo;

@@ -29,9 +29,23 @@ impl StoredObject {
     ghost use Rattle.wh_state.specs.State.{table_in, stream_in, task_in, dynamic_in};
     ghost use Rattle.wh_dynamic.specs.View.{dynamic_of};
     ghost use Rattle.wh_state.specs.Objects.{live_task};
+    ghost use Rattle.wh_state.specs.State.{DynamicKind, new_object};
+    ghost use Rattle.wh_table.specs.Table.{kept_table};
     ghost use Rattle.wh_catalog.specs.Undoable.{object_in};
     ghost use Rattle.wh_catalog.specs.Stream.{stream_of};
     ghost use Rattle.wh_catalog.specs.Object.{kept_kind, kept_object};
+
+    /// A dynamic table that lives.
+    pub fn dynamic_table(name: Text, dynamic: Dynamic, table: StoredTable) -> StoredObject
+        ensures { kept_object result
+            ≡ new_object name (DynamicKind (dynamic_of dynamic) (kept_table table)) }
+    {
+        StoredObject {
+            name,
+            is_live: true,
+            kind: StoredKind::Dynamic(dynamic, table),
+        }
+    }
 
     /// The name that it has, or had.
     pub fn name(&self) -> &Text
@@ -142,7 +156,7 @@ impl StoredKind {
     }
 
     /// Its columns; a task has none.
-    pub(crate) fn columns(&self) -> &[Column]
+    pub fn columns(&self) -> &[Column]
         ensures { map column_of result.now ≡ columns_in (stored_kind self.now) }
     {
         match self {

@@ -1,4 +1,11 @@
 //! ALTER DYNAMIC TABLE, and refreshes.
+ghost use Rattle.std.specs.Prelude.{◌≡◌, None, option_map, IfOk};
+ghost use Rattle.wh_reply.specs.View.{refusal_view};
+ghost use Rattle.wh_machine.specs.Definitions.{defines};
+ghost use Rattle.wh_machine.specs.Dynamics as machine;
+ghost use Rattle.wh_dynamic.specs.View.{state_of as dynamic_state_of};
+ghost use Rattle.wh_decide.specs.Sight.{machine_in, Comes};
+
 use crate::decision::Decision;
 use crate::definitions::{defined, definition_refusal, tested};
 use crate::lags::{above_refusal, below_refusal, lag_refusal, seconds_of};
@@ -20,7 +27,11 @@ pub(crate) fn resume_dynamic(
     alloc: Global,
     sight: &Sight<'_>,
     id: u32,
-) -> Result<Decision, AllocError> {
+) -> Result<Decision, AllocError>
+    ensures { IfOk result (λ decision. Comes sight.now decision
+        (defines (machine_in sight.now) sight.now.session None
+        (machine.resume_dynamic (machine_in sight.now) None id))) }
+{
     let reply = Reply::Resumed(name_of(alloc, sight.catalog, id)?);
     let changes = match sight.catalog.dynamic(id) {
         Some(dynamic) => put_state(alloc, id, dynamic.state(), resumed(dynamic.state()))?,
@@ -43,7 +54,11 @@ pub(crate) fn suspend_dynamic(
     alloc: Global,
     sight: &Sight<'_>,
     id: u32,
-) -> Result<Decision, AllocError> {
+) -> Result<Decision, AllocError>
+    ensures { IfOk result (λ decision. Comes sight.now decision
+        (defines (machine_in sight.now) sight.now.session None
+        (machine.suspend_dynamic (machine_in sight.now) None id))) }
+{
     let reply = Reply::Suspended(name_of(alloc, sight.catalog, id)?);
     let changes = match sight.catalog.dynamic(id) {
         Some(dynamic) => put_state(alloc, id, dynamic.state(), suspended(dynamic.state()))?,
@@ -65,7 +80,11 @@ pub(crate) fn set_lag(
     sight: &Sight<'_>,
     id: u32,
     lag: Lag,
-) -> Result<Decision, AllocError> {
+) -> Result<Decision, AllocError>
+    ensures { IfOk result (λ decision. Comes sight.now decision
+        (defines (machine_in sight.now) sight.now.session None
+        (machine.set_lag (machine_in sight.now) None id lag))) }
+{
     let wrong = new_lag_refusal(alloc, sight.catalog, id, lag)?;
     if let Some(why) = definition_refusal(sight, None, wrong) {
         return Ok(Decision::Refuse(why));
@@ -128,7 +147,11 @@ pub(crate) fn refresh_dynamic(
     alloc: Global,
     sight: &Sight<'_>,
     id: u32,
-) -> Result<Decision, AllocError> {
+) -> Result<Decision, AllocError>
+    ensures { IfOk result (λ decision. Comes sight.now decision
+        (defines (machine_in sight.now) sight.now.session None
+        (machine.refresh_dynamic (machine_in sight.now) None id))) }
+{
     if let Some(why) = refused_in_transaction(sight) {
         return Ok(Decision::Refuse(why));
     }
@@ -148,7 +171,10 @@ pub fn scheduled_refresh(
     sight: &Sight<'_>,
     id: u32,
     target: u64,
-) -> Result<Decision, AllocError> {
+) -> Result<Decision, AllocError>
+    ensures { IfOk result (λ decision. Comes sight.now decision
+        (machine.scheduled (machine_in sight.now) id target)) }
+{
     let objects = all_objects(alloc, sight.catalog, None)?;
     match refresh(alloc, &objects, Asked::BySchedule, id, target)? {
         Refreshing::Fails(why) => failed(alloc, sight, id, target, why),

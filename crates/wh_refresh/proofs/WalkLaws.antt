@@ -130,3 +130,65 @@ bag_expanded b = ap bag_of (sym (over_expanded (entries b))) ∙ bag_of-rows_of 
 
 pub same_excess : (a b more left : Bag) → IsExcess a b more → IsExcess a b left → more ≡ left
 same_excess a b more left here there = bag_of_same more left (λ row. here row ∙ sym (there row))
+
+-- ---- how many rows go
+
+-- numbers that rise, from one on
+abbrev RiseFrom : ℕ → List ℕ → Type 0
+RiseFrom least [] = Unit {0}
+RiseFrom least (n ∷ ns) = (least ≤ n) × RiseFrom (n + 1) ns
+
+rise_later : (least more : ℕ) (ns : List ℕ) → least ≤ more → RiseFrom more ns → RiseFrom least ns
+rise_later least more [] h rise = tt
+rise_later least more (n ∷ ns) h rise = (omega (arith, rise.0), rise.1)
+
+abbrev RiseIn : ℕ → List (ℕ × Row) → Type 0
+RiseIn least es = (left : Bag) → RiseFrom least (kept_apart left es).gone
+
+gone_more : (least : ℕ) (e : ℕ × Row) (es : List (ℕ × Row)) → least ≤ e.0 → RiseIn (e.0 + 1) es
+    → RiseIn least (e ∷ es)
+gone_more least e es from rest left =
+    by_test (not (is_some (get left e.1))) (rest (without_row e.1 left))
+  where
+    by_test : (t : Bool) → RiseFrom (e.0 + 1) (kept_apart (without_row e.1 left) es).gone
+        → RiseFrom least (gone_if t e.0 (kept_apart (without_row e.1 left) es)).gone
+    by_test true rise = (from, rise)
+    by_test false rise = rise_later least (e.0 + 1) _ (omega (arith, from)) rise
+
+pub gone_rises : (rows : Rows) (left : Bag) → RiseFrom 0 (kept_apart left (entries rows)).gone
+gone_rises rows = map_rises RiseIn (λ least left. tt) gone_more rows
+
+-- nothing is edited from a number on
+abbrev IsFree : ℕ → RowEdits → Type 0
+IsFree least edits = (q : ℕ) → least ≤ q → get edits q ≡ None
+
+removed_count : (edits : RowEdits) (least : ℕ) (ns : List ℕ) → RiseFrom least ns → IsFree least edits
+    → length (entries (with_removed edits ns)) ≡ length (entries edits) + length ns
+removed_count edits least [] rise free = omega arith
+removed_count edits least (n ∷ ns) rise free =
+    let none : get edits n ≡ None = free n rise.0 in
+    let new : len (insert edits n None) ≡ len edits + 1 =
+    len-insert nat_cmp_total edits n None
+    ∙ ap (λ (found : Option (Option Row)). cond (is_some found) (len edits) (len edits + 1)) none in
+    let more : length (entries (insert edits n None)) ≡ length (entries edits) + 1 =
+    sym (len-entries (insert edits n None)) ∙ new ∙ ap (λ (k : ℕ). k + 1) (len-entries edits) in
+    let rest = removed_count (insert edits n None) (n + 1) ns rise.1 (λ q h.
+    get-insert nat_cmp_total edits n None q
+    ∙ ap (λ (t : Bool). cond t (Some None) (get edits q)) (apart q h)
+    ∙ free q (omega (arith, rise.0))) in
+    omega (arith, more, rest)
+  where
+    apart : (q : ℕ) → n + 1 ≤ q → eq_by_cmp nat_cmp q n ≡ false
+    apart q h = by_order (nat_cmp q n) refl
+      where
+        by_order : (o : Ordering) → nat_cmp q n ≡ o → is_eq o ≡ false
+        by_order Less is = refl
+        by_order Greater is = refl
+        by_order Equal is = let same : q ≡ n = is-Equal-nat q n is in absurd (omega arith)
+
+pub gone_count : (ns : List ℕ) → RiseFrom 0 ns → length (entries (with_removed empty ns)) ≡ length ns
+gone_count ns rise =
+    let none : length (entries {X = Option Row} {R = nat_cmp} empty) ≡ 0 =
+    sym (len-entries empty) ∙ len-empty nat_cmp (Option Row) in
+    let count = removed_count empty 0 ns rise (λ q h. get-empty nat_cmp q) in
+    omega (arith, none, count)

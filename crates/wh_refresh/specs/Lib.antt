@@ -3,3 +3,4 @@ pub mod Objects
 pub mod Sources
 pub mod Brought
 pub mod Refreshing
+pub mod Writing

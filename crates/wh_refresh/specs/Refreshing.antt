@@ -2,11 +2,12 @@
 --     besides           what is asked for besides: a statement is refused where a table is suspended
 --     RefreshesAs       a refusal, or the lines and the changes that say the acts of a refresh
 use Rattle.std.specs.Prelude.{◌≡◌, ℕ, List, map, Option, Some, None}
-use Rattle.wh_reply.specs.Reply.{Refusal}
+use Rattle.wh_reply.specs.Reply.{Refusal, Refreshed}
 use Rattle.wh_reply.specs.View.{refusal_view, refreshed_view}
 use Rattle.wh_state.specs.State.{Object}
 use Rattle.wh_state.specs.Act.{Act}
 use Rattle.wh_state.specs.Stored.{StoredObject}
+use Rattle.wh_state.specs.Commit.{Change}
 use Rattle.wh_state.specs.Written.{written}
 use Rattle.wh_machine.specs.Refresh as machine
 use Rattle.wh_machine.specs.Refresh.{with_upstream}
@@ -21,7 +22,7 @@ abbrev pub besides : Asked → List Object → ℕ → Option Refusal
 besides asked.ByStatement objects id = first_suspended objects (with_upstream objects id)
 besides asked.BySchedule objects id = None
 
-pub record BringsAs (stamp : ℕ) (stored : List StoredObject) (lines : List _) (changes : List _)
+pub record BringsAs (stamp : ℕ) (stored : List StoredObject) (lines : List Refreshed) (changes : List Change)
     (outcome : machine.Refreshing) : Type 0 where
   pub acts : List Act
   pub is : outcome ≡ machine.Brings lines acts

@@ -1,12 +1,10 @@
--- The rows of sources as code has them.
---     AreSources     of each source those at a moment
-use Rattle.std.specs.Prelude.{◌≡◌, ℕ, List, Vec}
-use Rattle.std.specs.declared.alloc.Global.{Global}
-use denote.Ref.{Bor}
-use Rattle.wh_value.specs.Value.{Row}
+-- Whether a source has new data.
+--     is_new_at     whether the table of an id has a version between two moments
+use Rattle.std.specs.Prelude.{ℕ, Bool, false, List}
+use Rattle.std.specs.Option.{option_map_or}
 use Rattle.wh_state.specs.State.{Object}
-use Rattle.wh_state.specs.Moments.{instance_at}
-use Rattle.wh_exec.specs.Evaluation.{instance_of}
+use Rattle.wh_state.specs.Objects.{table_at}
+use Rattle.wh_machine.specs.Refresh.{has_version_between}
 
-abbrev pub AreSources : List Object → ℕ → List ℕ → List (Vec (Bor Row) Global) → Type 0
-AreSources objects moment ids sources = instance_of sources ≡ instance_at objects moment ids
+abbrev pub is_new_at : List Object → ℕ → ℕ → ℕ → Bool
+is_new_at objects from to id = option_map_or (has_version_between from to) (table_at objects id) false

@@ -1,4 +1,17 @@
 //! Tables brought to a moment, each over what those before it leave.
+ghost use Rattle.std.specs.Prelude.{◌≡◌, ℕ, None, List, IfOk, IfSome, IfNone};
+ghost use Rattle.wh_reply.specs.View.{action_view};
+ghost use Rattle.wh_state.specs.Objects as state;
+ghost use Rattle.wh_state.specs.Moments.{evaluated_at};
+ghost use Rattle.wh_state.specs.Stored.{table_meant};
+ghost use Rattle.wh_state.specs.State.{last_rows};
+ghost use Rattle.wh_dynamic.specs.View.{dynamic_of};
+ghost use Rattle.wh_table.specs.Table.{table_of};
+ghost use Rattle.wh_machine.specs.Refresh as machine;
+ghost use Rattle.wh_machine.specs.Brought.{after_all, AreAbove, RiseAbove, sought};
+ghost use Rattle.wh_refresh.specs.Objects.{objects_in, stored_in};
+ghost use Rattle.wh_refresh.specs.Brought.{AreBrought, BringsOneOr, BringsOr, MakesRows};
+
 use crate::brought::{Brought, NewRows};
 use crate::evaluation::evaluated;
 use crate::objects::{dynamic_at, table_at};
@@ -15,7 +28,11 @@ pub(crate) fn bring_all(
     objects: &[&StoredObject],
     moment: u64,
     ids: &[u32],
-) -> Result<Option<Vec<Brought>>, AllocError> {
+) -> Result<Option<Vec<Brought>>, AllocError>
+    ensures { IfOk result (λ found. (stamp : ℕ) → RiseAbove 0 ids.now
+        → BringsOr (stored_in objects.now) found
+        (machine.brought_all stamp moment ids.now (objects_in objects.now))) }
+{
     let mut brought = Vec::new(alloc);
     for id in ids {
         match bring(alloc, objects, &brought, moment, *id)? {
@@ -32,7 +49,12 @@ fn bring(
     before: &[Brought],
     moment: u64,
     id: u32,
-) -> Result<Option<Brought>, AllocError> {
+) -> Result<Option<Brought>, AllocError>
+    ensures { IfOk result (λ found. (stamp : ℕ) (bs : List machine.Brought)
+        → AreBrought (stored_in objects.now) before.now bs → AreAbove 0 bs → sought id bs ≡ None
+        → BringsOneOr (stored_in objects.now) found
+        (machine.brought_one (after_all stamp moment bs (objects_in objects.now)) moment id)) }
+{
     let Some(dynamic) = dynamic_at(objects, id) else {
         return Ok(None);
     };
@@ -66,7 +88,12 @@ fn action(
     before: &[Brought],
     moment: u64,
     dynamic: &Dynamic,
-) -> RefreshAction {
+) -> RefreshAction
+    ensures { (stamp : ℕ) (bs : List machine.Brought)
+        → AreBrought (stored_in objects.now) before.now bs → AreAbove 0 bs
+        → action_view result ≡ machine.action_of
+        (after_all stamp moment bs (objects_in objects.now)) moment (dynamic_of dynamic.now) }
+{
     let from = dynamic.state().moment;
     if from == 0 {
         return RefreshAction::Full;
@@ -89,7 +116,13 @@ fn new_rows(
     moment: u64,
     dynamic: &Dynamic,
     table: &StoredTable,
-) -> Result<Option<NewRows>, AllocError> {
+) -> Result<Option<NewRows>, AllocError>
+    ensures { IfOk result (λ found. (stamp : ℕ) (bs : List machine.Brought)
+        → AreBrought (stored_in objects.now) before.now bs → AreAbove 0 bs
+        → MakesRows found (table_of table.now)
+        (evaluated_at (after_all stamp moment bs (objects_in objects.now)) moment
+        (dynamic_of dynamic.now))) }
+{
     let sources = rows_of(alloc, objects, before, moment, dynamic.reads())?;
     let Some(rows) = evaluated(alloc, objects, dynamic.query(), &sources)? else {
         return Ok(None);

@@ -1,3 +1,9 @@
+ghost use Rattle.std.specs.Prelude.{option_map, List};
+ghost use Rattle.wh_state.specs.Stored.{StoredObject};
+ghost use Rattle.wh_machine.specs.Brought.{edits_sought};
+ghost use Rattle.wh_machine.specs.Refresh as machine;
+ghost use Rattle.wh_refresh.specs.Brought.{AreBrought, IsRowsOf};
+
 use wh_dynamic::DynamicState;
 use wh_reply::RefreshAction;
 use wh_table::EditedTable;
@@ -20,23 +26,19 @@ pub(crate) struct NewRows {
     pub minus: u64,
 }
 
-/// What is done to the table of an id, if it is among some.
-pub(crate) fn brought_of(all: &[Brought], id: u32) -> Option<&Brought> {
-    for one in all {
-        if one.id == id {
-            return Some(one);
-        }
-    }
-    None
-}
-
 /// The version to come of the table of an id, if there is one.
-pub(crate) fn new_rows_of(all: &[Brought], id: u32) -> Option<&NewRows> {
-    match brought_of(all, id)? {
-        Brought {
-            rows: Some(rows),
-            ..
-        } => Some(rows),
-        Brought { rows: None, .. } => None,
+#[cycle(new_rows_of)]
+pub(crate) fn new_rows_of(all: &[Brought], id: u32) -> Option<&NewRows>
+    ensures { (stored : List StoredObject) (bs : List machine.Brought) → AreBrought stored all.now bs
+        → IsRowsOf stored id (option_map (λ r. r.now) result) (edits_sought id bs) }
+{
+    match all {
+        [] => None,
+        [one, others @ ..] => {
+            if one.id == id {
+                return one.rows.as_ref();
+            }
+            new_rows_of(others, id)
+        }
     }
 }

@@ -8,7 +8,7 @@ ghost use Rattle.wh_moment.specs.Upstream.{dynamics_of};
 ghost use Rattle.wh_dynamic.specs.View.{dynamic_of, dynamics_in};
 ghost use Rattle.wh_table.specs.Table.{table_of};
 ghost use Rattle.wh_catalog.specs.Catalog.{state_of};
-ghost use Rattle.wh_refresh.specs.Objects.{object_of, objects_in, with_made};
+ghost use Rattle.wh_refresh.specs.Objects.{object_of, objects_in, stored_in, with_made};
 
 use std::alloc::{AllocError, Global};
 use wh_catalog::{Catalog, StoredObject, StoredTable, watched_object};
@@ -49,7 +49,9 @@ pub(crate) fn object_at<'a>(objects: &[&'a StoredObject], id: u32) -> Option<&'a
 
 /// The table of an id, or that of a dynamic table.
 pub(crate) fn table_at<'a>(objects: &[&'a StoredObject], id: u32) -> Option<&'a StoredTable>
-    ensures { option_map (λ t. table_meant (table_of t.now)) result
+    ensures stored { option_map (λ t. table_of t.now) result
+        ≡ state.table_at (stored_in objects.now) id }
+    ensures meant { option_map (λ t. table_meant (table_of t.now)) result
         ≡ state.table_at (objects_in objects.now) id }
 {
     let object = object_at(objects, id)?;

@@ -1,4 +1,12 @@
 //! A refresh, whole or not at all.
+ghost use Rattle.std.specs.Prelude.{◌≡◌, option_map, IfOk};
+ghost use Rattle.wh_reply.specs.View.{refusal_view};
+ghost use Rattle.wh_state.specs.State.{State};
+ghost use Rattle.wh_machine.specs.Refresh as machine;
+ghost use Rattle.wh_machine.specs.Dynamics.{first_suspended};
+ghost use Rattle.wh_refresh.specs.Objects.{objects_in, stored_in};
+ghost use Rattle.wh_refresh.specs.Refreshing.{besides, RefreshesAs};
+
 use crate::bringing::bring_all;
 use crate::limits::number_refusal;
 use crate::objects::{dynamic_at, is_live_at, name_at, watched};
@@ -32,7 +40,11 @@ pub fn refresh(
     asked: Asked,
     id: u32,
     moment: u64,
-) -> Result<Refreshing, AllocError> {
+) -> Result<Refreshing, AllocError>
+    ensures { IfOk result (λ r. (s : State) → s.objects ≡ objects_in objects.now
+        → RefreshesAs s.last (stored_in objects.now) r
+        (machine.refresh s (besides asked s.objects id) id moment)) }
+{
     let all = watched(alloc, objects)?;
     let mut ids = upstream(alloc, &all, id)?;
     ids.push(id)?;

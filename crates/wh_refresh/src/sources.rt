@@ -1,4 +1,14 @@
 //! What the sources of a dynamic table hold at a moment, some of which were brought to it.
+ghost use Rattle.std.specs.Prelude.{◌≡◌, ◌||◌, ℕ, List, is_some, IfOk};
+ghost use Rattle.wh_meaning.specs.Bag.{bag_of};
+ghost use Rattle.wh_exec.specs.Evaluation.{rows_at, instance_of};
+ghost use Rattle.wh_state.specs.Moments.{bag_at, instance_at};
+ghost use Rattle.wh_machine.specs.Refresh as machine;
+ghost use Rattle.wh_machine.specs.Brought.{after_all, AreAbove, edits_sought};
+ghost use Rattle.wh_refresh.specs.Objects.{objects_in, stored_in};
+ghost use Rattle.wh_refresh.specs.Brought.{AreBrought};
+ghost use Rattle.wh_refresh.specs.Sources.{is_new_at};
+
 use crate::brought::{Brought, new_rows_of};
 use crate::objects::table_at;
 use std::alloc::{AllocError, Global};
@@ -12,7 +22,12 @@ pub(crate) fn rows_of<'a>(
     brought: &'a [Brought],
     moment: u64,
     ids: &[u32],
-) -> Result<Vec<Vec<&'a Row>>, AllocError> {
+) -> Result<Vec<Vec<&'a Row>>, AllocError>
+    ensures { IfOk result (λ sources. (stamp : ℕ) (bs : List machine.Brought)
+        → AreBrought (stored_in objects.now) brought.now bs → AreAbove 0 bs
+        → instance_of sources.items
+        ≡ instance_at (after_all stamp moment bs (objects_in objects.now)) moment ids.now) }
+{
     let mut sources = Vec::new(alloc);
     for id in ids {
         sources.push(source_rows(alloc, objects, brought, moment, *id)?)?;
@@ -26,7 +41,12 @@ fn source_rows<'a>(
     brought: &'a [Brought],
     moment: u64,
     id: u32,
-) -> Result<Vec<&'a Row>, AllocError> {
+) -> Result<Vec<&'a Row>, AllocError>
+    ensures { IfOk result (λ rows. (stamp : ℕ) (bs : List machine.Brought)
+        → AreBrought (stored_in objects.now) brought.now bs → AreAbove 0 bs
+        → bag_of (rows_at rows.items)
+        ≡ bag_at (after_all stamp moment bs (objects_in objects.now)) moment id) }
+{
     let Some(table) = table_at(objects, id) else {
         return Ok(Vec::new(alloc));
     };
@@ -43,9 +63,18 @@ pub(crate) fn has_new_data(
     from: u64,
     to: u64,
     ids: &[u32],
-) -> bool {
-    ids.iter()
-        .any(|id| has_version_between(objects, brought, from, to, *id))
+) -> bool
+    ensures { (stamp : ℕ) (bs : List machine.Brought)
+        → AreBrought (stored_in objects.now) brought.now bs → AreAbove 0 bs
+        → result ≡ machine.has_new_data (after_all stamp to bs (objects_in objects.now)) from to
+        ids.now }
+{
+    for id in ids {
+        if has_version_between(objects, brought, from, to, *id) {
+            return true;
+        }
+    }
+    false
 }
 
 fn has_version_between(
@@ -54,7 +83,11 @@ fn has_version_between(
     from: u64,
     to: u64,
     id: u32,
-) -> bool {
+) -> bool
+    ensures { (stamp : ℕ) (bs : List machine.Brought)
+        → AreBrought (stored_in objects.now) brought.now bs → AreAbove 0 bs
+        → result ≡ is_new_at (after_all stamp to bs (objects_in objects.now)) from to id }
+{
     let Some(table) = table_at(objects, id) else {
         return false;
     };

@@ -1,4 +1,18 @@
 //! What is told of a refresh, and the changes that say it.
+ghost use Rattle.std.specs.Prelude.{◌≡◌, ◌+◌, ◌++◌, ℕ, List, map, length, IfOk, OnOk};
+ghost use Rattle.std.specs.List.{flat_map};
+ghost use Rattle.wh_reply.specs.View.{refreshed_view};
+ghost use Rattle.wh_state.specs.Stored.{StoredObject};
+ghost use Rattle.wh_state.specs.Written.{written};
+ghost use Rattle.wh_state.specs.Commit.{PushesVersion};
+ghost use Rattle.wh_table.specs.Table.{table_of};
+ghost use Rattle.wh_machine.specs.Refresh as machine;
+ghost use Rattle.wh_machine.specs.Brought.{AreAbove};
+ghost use Rattle.wh_record.specs.View.{change_of};
+ghost use Rattle.wh_refresh.specs.Objects.{objects_in, stored_in};
+ghost use Rattle.wh_refresh.specs.Brought.{AreBrought, IsBrought};
+ghost use Rattle.wh_refresh.specs.Writing.{one_written};
+
 use crate::brought::Brought;
 use crate::objects::{name_at, table_at};
 use std::alloc::{AllocError, Global};
@@ -13,7 +27,12 @@ pub(crate) fn lines(
     objects: &[&StoredObject],
     moment: u64,
     all: &[Brought],
-) -> Result<Vec<Refreshed>, AllocError> {
+) -> Result<Vec<Refreshed>, AllocError>
+    ensures { IfOk result (λ lines. (bs : List machine.Brought)
+        → AreBrought (stored_in objects.now) all.now bs
+        → map refreshed_view lines.items
+        ≡ map (machine.told_of (objects_in objects.now) moment) bs) }
+{
     let mut lines = Vec::new(alloc);
     for one in all {
         lines.push(line(alloc, objects, moment, one)?)?;
@@ -26,7 +45,10 @@ fn line(
     objects: &[&StoredObject],
     moment: u64,
     one: &Brought,
-) -> Result<Refreshed, AllocError> {
+) -> Result<Refreshed, AllocError>
+    ensures { IfOk result (λ line. (b : machine.Brought) → IsBrought (stored_in objects.now) one.now b
+        → refreshed_view line ≡ machine.told_of (objects_in objects.now) moment b) }
+{
     let (plus, minus) = counts(one);
     Ok(Refreshed {
         name: name_at(alloc, objects, one.id)?,
@@ -38,7 +60,10 @@ fn line(
 }
 
 // How many rows come and go.
-fn counts(one: &Brought) -> (u64, u64) {
+fn counts(one: &Brought) -> (u64, u64)
+    ensures { (stored : List StoredObject) (b : machine.Brought) → IsBrought stored one.now b
+        → result ≡ machine.counted_in b.edits }
+{
     match &one.rows {
         Some(rows) => (rows.plus, rows.minus),
         None => (0, 0),
@@ -51,7 +76,12 @@ pub(crate) fn changes(
     objects: &[&StoredObject],
     moment: u64,
     all: Vec<Brought>,
-) -> Result<Vec<Change>, AllocError> {
+) -> Result<Vec<Change>, AllocError>
+    ensures { IfOk result (λ changes. (stamp : ℕ) (bs : List machine.Brought)
+        → AreBrought (stored_in objects.now) all.items bs → AreAbove 0 bs
+        → map change_of changes.items ≡ written stamp (stored_in objects.now)
+        (flat_map (machine.acts_of_one moment) bs)) }
+{
     let mut changes = Vec::new(alloc);
     for one in all {
         add_changes(&mut changes, objects, moment, one)?;
@@ -64,7 +94,11 @@ fn add_changes(
     objects: &[&StoredObject],
     moment: u64,
     one: Brought,
-) -> Result<(), AllocError> {
+) -> Result<(), AllocError>
+    ensures { OnOk result ((b : machine.Brought) → IsBrought (stored_in objects.now) one b
+        → map change_of changes.new.items ≡ map change_of changes.old.items
+        ++ one_written (stored_in objects.now) moment b) }
+{
     let Brought {
         id,
         rows,
@@ -73,21 +107,40 @@ fn add_changes(
     } = one;
     if let Some(rows) = rows {
         if let Some(table) = table_at(objects, id) {
-            changes.push(version(moment, id, rows.plus, table, rows.edited))?;
+            changes.push(version(moment, id, rows.plus, table, rows.edited)?)?;
         }
     }
     changes.push(Change::SetsDynamic { id, state })?;
     Ok(())
 }
 
-fn version(moment: u64, id: u32, more: u64, table: &StoredTable, edited: EditedTable) -> Change {
+fn version(
+    moment: u64,
+    id: u32,
+    more: u64,
+    table: &StoredTable,
+    edited: EditedTable,
+) -> Result<Change, AllocError>
+    ensures { IfOk result (λ change. change_of change ≡ PushesVersion (record {
+      id = id;
+      data_timestamp = moment;
+      next_row = (table_of table.now).next_row + more;
+      width = length (table_of table.now).columns;
+      removed = edited.removed.items;
+      added = edited.added.items;
+    })) }
+{
+    // No table has so many rows.
+    let Some(next_row) = table.next_row().checked_add(more) else {
+        return Err(AllocError);
+    };
     let (removed, added) = edited.into_parts();
-    Change::PushesVersion(VersionChange {
+    Ok(Change::PushesVersion(VersionChange {
         id,
         data_timestamp: moment,
-        next_row: table.next_row() + more,
+        next_row,
         width: table.columns().len() as u32,
         removed,
         added,
-    })
+    }))
 }

@@ -3,7 +3,7 @@ use Rattle.std.proofs.Common.{◌≡◌, ℕ, Bool, true, false, cond, List, [],
 use Rattle.std.specs.Prelude.{nat_le}
 use Rattle.wh_state.specs.State.{Version, content_in, last_of, nothing_held}
 use Rattle.wh_state.specs.Stored.{StoredVersion, StoredTable, version_meant, table_meant, rows_of}
-use Rattle.wh_net.specs.Stream.{rows_at}
+use Rattle.wh_state.specs.State.{rows_at}
 use Rattle.wh_version.specs.Times.{data_at}
 use Rattle.wh_table.proofs.Pushed.{last_meant}
 
