@@ -8,7 +8,7 @@ ghost use Rattle.wh_reply.specs.Reply.{print, line, parted, values_text, row_lin
 ghost use Rattle.wh_reply.specs.Reply.{refusal_text, truth_text};
 ghost use Rattle.wh_reply.specs.View.{reply_view, refusal_view};
 
-use crate::print_refresh::{put_created, put_refresh_failed, put_refreshed};
+use crate::print_refresh::{put_created, put_refresh_failed, put_refreshed_tables};
 use crate::print_task::{put_counts_line, put_failed, put_skipped, put_succeeded};
 use std::alloc::{AllocError, Global};
 use wh_reply::{Refusal, Reply};
@@ -52,7 +52,7 @@ fn put_reply(reply: Reply, out: &mut Bytes) -> Result<(), AllocError>
         }
         Reply::DroppedDynamicTable(name) => put_name_line(b"DROPPED DYNAMIC TABLE ", &name, out),
         Reply::Altered(name) => put_name_line(b"ALTERED ", &name, out),
-        Reply::RefreshedTables(refreshed) => put_refreshed(&refreshed, out),
+        Reply::RefreshedTables(refreshed) => put_refreshed_tables(&refreshed, out),
         Reply::RefreshFailed {
             name,
             target,

@@ -1,7 +1,7 @@
 ghost use Rattle.std.specs.Prelude.{◌≡◌, ◌++◌, OnOk, codes, decimal, map};
 ghost use Rattle.std.specs.List.{flat_map};
 ghost use Rattle.wh_reply.specs.Reply.{line, refusal_text, suspended_text, action_word};
-ghost use Rattle.wh_reply.specs.Reply.{refreshed_line};
+ghost use Rattle.wh_reply.specs.Reply.{refreshed_line, refreshed_lines};
 ghost use Rattle.wh_reply.specs.View.{refusal_view, action_view, refreshed_view};
 
 use crate::print::{LF, put_name, put_name_line, put_number, put_refusal};
@@ -24,7 +24,21 @@ pub(crate) fn put_created(
     put_refreshed(refreshed, out)
 }
 
-pub(crate) fn put_refreshed(refreshed: &[Refreshed], out: &mut Bytes) -> Result<(), AllocError>
+// Where no table stood below the moment, nothing was done.
+pub(crate) fn put_refreshed_tables(
+    refreshed: &[Refreshed],
+    out: &mut Bytes,
+) -> Result<(), AllocError>
+    ensures { OnOk result (out.new
+        ≡ out.old ++ refreshed_lines (map refreshed_view refreshed.now)) }
+{
+    match refreshed {
+        [] => out.extend(b"IDLE\n"),
+        [_first, _others @ ..] => put_refreshed(refreshed, out),
+    }
+}
+
+fn put_refreshed(refreshed: &[Refreshed], out: &mut Bytes) -> Result<(), AllocError>
     ensures { OnOk result (out.new
         ≡ out.old ++ flat_map refreshed_line (map refreshed_view refreshed.now)) }
 {
