@@ -3,7 +3,7 @@
 --     moment_after       so they are behind each run of events of a sound machine
 --     refresh_stands     a refresh brings the table, and each dynamic table upstream, to its moment
 --     refreshed_to       so their rows are behind it those of their queries over tables alone for that one moment
-use Rattle.std.proofs.Common.{◌≡◌, ℕ, suc, ◌<◌, ◌≤◌, ◌⊎◌, inl, inr, Bool, true, false, List, [], ◌∷◌, ◌++◌, map}
+use Rattle.std.proofs.Common.{◌≡◌, ℕ, suc, ◌<◌, ◌≤◌, Bool, true, false, List, [], ◌∷◌, map}
 use Rattle.std.proofs.Common.{Option, Some, None, option_map, refl, sym, ap, subst, ◌∙◌, arith}
 use Rattle.std.specs.List.{AllByRecursion, filter, flat_map}
 use Rattle.std.specs.Option.{IfSome, option_and_then, option_map_or}
@@ -13,7 +13,7 @@ use Rattle.std.proofs.lemmas.Bool.Decides.{nat_tests}
 use Rattle.wh_meaning.specs.Bag.{bag_of, no_rows}
 use Rattle.wh_reply.specs.Reply.{Refusal, Refreshed}
 use Rattle.wh_state.specs.State.{Object, Table, State, at_id, table_in, last_rows}
-use Rattle.wh_state.specs.Dynamic.{Dynamic, ids_read}
+use Rattle.wh_state.specs.Dynamic.{Dynamic}
 use Rattle.wh_state.specs.Objects.{as_table, as_dynamic, table_at, dynamic_at}
 use Rattle.wh_state.specs.Moments.{given_by, over_tables}
 use Rattle.wh_state.specs.Edits.{is_among}
@@ -122,8 +122,11 @@ brought_stand stamp moment (id ∷ ids) least objects rise all is =
         subst (λ (after : List Object). AreBrought moment objects after (id ∷ ids))
         (sym (acted_append stamp objects (acts_of_one moment b) (flat_map (acts_of_one moment) more)))
         (record {
-          stand = (subst (λ (found : Option Object). IfSome (option_and_then as_dynamic found)
-              (λ d. d.state.moment ≡ moment)) (sym here) stands, later.stand);
+          stand = (
+            subst (λ (found : Option Object). IfSome (option_and_then as_dynamic found)
+                (λ d. d.state.moment ≡ moment)) (sym here) stands,
+            later.stand,
+          );
           others = λ x none.
               let both : (nat_eq x id ≡ false) × (is_among x ids ≡ false) = neither (nat_eq x id) (is_among x ids) none in
               later.others x both.1

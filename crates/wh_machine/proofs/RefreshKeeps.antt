@@ -202,8 +202,12 @@ module _ (objects : List Object) (id moment : ℕ) (earlier : ReadsEarlier objec
           let same : moment_at seen x ≡ e.state.moment =
           ap (λ (found : Option Watched). option_map_or (λ w. w.state.moment) found 0) w.at
           ∙ ap (λ (s : DynamicState). s.moment) w.state in
-          omega (arith, same, most x (source_upstream y x d e is at reads less there),
-          not_below moment e.state.moment (sym (stands_as x e there) ∙ test))
+          omega (
+            arith,
+            same,
+            most x (source_upstream y x d e is at reads less there),
+            not_below moment e.state.moment (sym (stands_as x e there) ∙ test),
+          )
 
       by_test : (e : Dynamic) → dynamic_at objects x ≡ Some e → (b : Bool) → stands_below seen moment x ≡ b
           → StandsOrComes moment objects ids x
