@@ -5,13 +5,15 @@
 --     tables_stay       what is a table stays one
 use Rattle.std.proofs.Common.{◌≡◌, ℕ, ◌<◌, Bool, true, false, cond, List, [], ◌∷◌, Option, Some, None, IsTrue, refl}
 use Rattle.wh_reply.specs.Reply.{Refusal, Reply}
-use Rattle.wh_state.specs.State.{Kind, TableKind, StreamKind, TaskKind, DynamicKind, Object, dropped, on_task, on_dynamic}
+use Rattle.wh_state.specs.State.{Kind, TableKind, StreamKind, TaskKind, DynamicKind, Object, dropped, on_task}
+use Rattle.wh_state.specs.State.{on_dynamic}
 use Rattle.wh_state.specs.State.{Table, Stream, on_table, on_stream}
 use Rattle.wh_state.specs.Task.{Task, with_state, with_run, with_ended}
 use Rattle.wh_state.specs.Dynamic.{Dynamic, with_dynamic_state}
 use Rattle.wh_state.specs.Objects.{is_table}
 use Rattle.wh_state.specs.Act.{Act, MakesTable, DropsObject, EditsRows, MakesStream, MovesOffset, MakesTask, PutsTask}
-use Rattle.wh_state.specs.Act.{BeginsRun, EndsTask, MakesDynamic, PutsDynamic, RefreshesRows, edited_object, moved_object}
+use Rattle.wh_state.specs.Act.{BeginsRun, EndsTask, MakesDynamic, PutsDynamic, RefreshesRows, edited_object}
+use Rattle.wh_state.specs.Act.{moved_object}
 use Rattle.wh_state.specs.Act.{on_task_object, on_dynamic_object, acted, all_acted}
 use Rattle.wh_state.specs.Sound.{Sound}
 use Rattle.wh_state.proofs.AllLaws.{all_map}

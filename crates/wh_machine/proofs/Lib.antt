@@ -12,6 +12,7 @@ pub mod KeepingLaws
 pub mod TableNamed
 pub mod PlainLaws
 pub mod AfterLaws
+pub mod BroughtOne
 pub mod BroughtLaws
 pub mod MadeQuery
 pub mod RefreshKeeps
@@ -19,6 +20,7 @@ pub mod DynamicKeeps
 pub mod EventKeeps
 pub mod SoundLaws
 pub mod OneMoment
+pub mod RefreshedNow
 pub mod ConsumingLaws
 pub mod MoveLaws
 pub mod ReadLaws

@@ -1,7 +1,8 @@
 -- The target of a change that nothing is found wrong with.
 --     IsObjectAt, object_of     the live object of a name
 --     table_changed             what a change does is done to a table
-use Rattle.std.proofs.Common.{◌≡◌, ℕ, suc, ◌+◌, Bool, true, false, cond, List, [], ◌∷◌, ◌++◌, Option, Some, None, IsTrue}
+use Rattle.std.proofs.Common.{◌≡◌, ℕ, suc, ◌+◌, Bool, true, false, cond, List, [], ◌∷◌, ◌++◌, Option, Some, None}
+use Rattle.std.proofs.Common.{IsTrue}
 use Rattle.std.proofs.Common.{option_map, refl, sym, ap, subst, ◌∙◌, arith}
 use Rattle.std.specs.Prelude.{not, bytes_eq, slice_get}
 use Rattle.std.specs.Option.{IsSomeAnd}
@@ -168,7 +169,8 @@ table_changed m session x = by_refusal (change_refusal m session b) refl
 
     by_refusal : (found : Option Refusal) → change_refusal m session b ≡ found
         → ChangesTable m.state.objects (fails_or found
-        (given_on (streams_read m b) (instance_read m session b.sources) b (table_at (objects_seen m session) b.target)))
+        (given_on (streams_read m b) (instance_read m session b.sources) b
+        (table_at (objects_seen m session) b.target)))
     by_refusal (Some why) is = tt
     by_refusal None is =
         let names_pass = passed (naming_refusal b.findings b.is_wide) _ is in

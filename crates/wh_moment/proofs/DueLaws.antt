@@ -12,7 +12,8 @@ use Rattle.std.proofs.lemmas.Nat.{div-add-mod'}
 use Rattle.wh_state.specs.Edits.{is_among}
 use Rattle.wh_moment.proofs.ClosedLaws.{same_number}
 use Rattle.wh_moment.specs.Upstream.{Watched, Dynamics, watched_at, upstream}
-use Rattle.wh_moment.specs.Moment.{period, grid, stands_since, has_come, is_waiting_for, is_due, moment_at, greatest_moment}
+use Rattle.wh_moment.specs.Moment.{period, grid, stands_since, has_come, is_waiting_for, is_due, moment_at}
+use Rattle.wh_moment.specs.Moment.{greatest_moment}
 use Rattle.wh_moment.specs.Moment.{target, sooner, due_among, ids_from, due_table}
 
 -- ---- the one that is due
@@ -107,7 +108,8 @@ due_within all stamp due is each =
     by_found (Some w) = grid_within w.state.lag stamp
 
 -- none of some is greater than the greatest
-none_greater : (all : Dynamics) (ids : List ℕ) (x : ℕ) → is_among x ids ≡ true → moment_at all x ≤ greatest_moment all ids
+none_greater : (all : Dynamics) (ids : List ℕ) (x : ℕ) → is_among x ids ≡ true
+    → moment_at all x ≤ greatest_moment all ids
 none_greater all [] x is = absurd cc
 none_greater all (id ∷ ids) x is = by_test (nat_eq x id) refl is (λ is. none_greater all ids x is)
   where

@@ -12,7 +12,8 @@ use Rattle.std.proofs.lemmas.Bool.{cases_lt}
 use Rattle.wh_value.specs.Value.{Row}
 use Rattle.wh_value.specs.Column.{Column}
 use Rattle.wh_meaning.specs.Bag.{bag_of}
-use Rattle.wh_state.specs.State.{Version, Table, Object, Rows, nothing_held, new_table, version_for, last_rows, content_in}
+use Rattle.wh_state.specs.State.{Version, Table, Object, Rows, nothing_held, new_table, version_for, last_rows}
+use Rattle.wh_state.specs.State.{content_in}
 use Rattle.wh_state.specs.Dynamic.{DynamicState, Dynamic, with_dynamic_state, ids_read}
 use Rattle.wh_state.specs.Edits.{Edits, rows_after}
 use Rattle.wh_state.specs.Moments.{evaluated_at, written_out, over_tables}
@@ -142,8 +143,8 @@ refreshed_sound stamp old objects d t moment e state is stand same whole sound =
           }) t.versions sound.timely)
           (record { stamp = omega arith; data_timestamp = omega (arith, is.brought) });
       rise = rise_more t.versions v (all_both (IsTimelyFor stamp d.state.moment) (λ u. u.stamp < stamp) (IsBefore v)
-          (λ u timely before. (before, omega (arith, timely.data_timestamp, is.later))) t.versions sound.timely is.fresh)
-          sound.rise;
+          (λ u timely before. (before, omega (arith, timely.data_timestamp, is.later))) t.versions sound.timely
+          is.fresh) sound.rise;
       below = all_below stamp moment e t sound.below;
       none_returns = none_more t.next_row t.versions v sound.below sound.none_returns
           (λ number before lacks. still_lacks t.next_row e (last_rows t) number (inl before) lacks);
