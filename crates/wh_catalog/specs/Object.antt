@@ -4,12 +4,13 @@
 --     live_in                       how many live
 --     IsPlaceOf                     where the object of an id stands
 use Rattle.std.specs.Prelude.{◌≡◌, ℕ, suc, ◌<◌, List, map, length, count_by}
-use Rattle.wh_state.specs.State.{TableKind, StreamKind, TaskKind}
+use Rattle.wh_state.specs.State.{TableKind, StreamKind, TaskKind, DynamicKind}
 use Rattle.wh_state.specs.Stored as machine
 use Rattle.wh_table.specs.Table.{kept_table}
 use Rattle.wh_task.specs.View.{task_of}
+use Rattle.wh_dynamic.specs.View.{dynamic_of}
 use Rattle.wh_catalog.specs.declared.object.StoredKind.{StoredKind}
-use Rattle.wh_catalog.specs.declared.object.StoredKind.TheVariants.{Table, Stream, Task}
+use Rattle.wh_catalog.specs.declared.object.StoredKind.TheVariants.{Table, Stream, Task, Dynamic}
 use Rattle.wh_catalog.specs.declared.object.StoredObject.{StoredObject}
 use Rattle.wh_catalog.specs.Undoable.{KeptKind, KeptObject, kind_in, object_in}
 use Rattle.wh_catalog.specs.Stream.{stream_of}
@@ -18,6 +19,7 @@ abbrev pub kept_kind : StoredKind → KeptKind
 kept_kind (Table t) = TableKind (kept_table t)
 kept_kind (Stream s) = StreamKind (stream_of s)
 kept_kind (Task t) = TaskKind (task_of t)
+kept_kind (Dynamic d t) = DynamicKind (dynamic_of d) (kept_table t)
 
 abbrev pub stored_kind : StoredKind → machine.StoredKind
 stored_kind k = kind_in (kept_kind k)

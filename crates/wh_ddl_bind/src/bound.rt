@@ -74,7 +74,7 @@ pub struct NewDynamicTable {
     pub lag: Lag,
     pub mode: RefreshMode,
     pub initialize: Initialize,
-    /// Its query as a tree.
+    /// The query as a tree.
     pub tree: Boxed<wh_ast::Query>,
     pub query: Query,
     /// The columns of its query.

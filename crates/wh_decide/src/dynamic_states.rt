@@ -175,9 +175,11 @@ fn failed(
         why,
         is_suspended: state.is_fifth(),
     };
-    let changes = vec![in alloc; Change::SetsDynamic {
-        id,
-        state: state.behind_failure(target),
-    }]?;
+    let changes = vec![in alloc;
+        Change::SetsDynamic {
+            id,
+            state: state.behind_failure(target),
+        },
+    ]?;
     Ok(defined(sight, reply, changes))
 }

@@ -13,7 +13,7 @@ mod watched;
 pub use due::due_table;
 pub use dynamic::Dynamic;
 pub use query::{DynamicQuery, NamedSource};
-pub use reads::ids_read;
 pub use reached::{brought, upstream, upstream_of_new};
+pub use reads::ids_read;
 pub use state::DynamicState;
 pub use watched::Watched;

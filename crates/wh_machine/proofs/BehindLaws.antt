@@ -16,7 +16,8 @@ use Rattle.wh_grammar.specs.Expression as x
 use Rattle.wh_grammar.specs.Expression.{IsNegation, IsWhole, IsAnd, IsNot, IsTest, AreItems, IsSum, IsProduct, IsUnary}
 use Rattle.wh_grammar.specs.Expression.{IsPrim, IsExpr, AreExprs}
 use Rattle.wh_grammar.specs.Query as g
-use Rattle.wh_grammar.specs.Query.{IsAlias, MayHaveAlias, IsItem, MayHaveFilter, MayHaveGroup, IsJoinWord, IsQuery, AreCores}
+use Rattle.wh_grammar.specs.Query.{IsAlias, MayHaveAlias, IsItem, MayHaveFilter, MayHaveGroup, IsJoinWord, IsQuery}
+use Rattle.wh_grammar.specs.Query.{AreCores}
 use Rattle.wh_grammar.specs.Query.{IsCore, IsSource, AreJoins}
 
 module _ (P : Token → Type 0) where

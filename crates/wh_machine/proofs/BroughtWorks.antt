@@ -35,7 +35,8 @@ use Rattle.wh_state.proofs.BroughtGoes.{one_means}
 use Rattle.wh_moment.specs.Moment.{brought_to}
 use Rattle.wh_moment.specs.Rebase.{rebase}
 use Rattle.wh_moment.proofs.UpstreamLaws.{RiseFrom}
-use Rattle.wh_machine.specs.Refresh.{Brought, brought_as, brought_by, brought_with, brought_one, action_of, version_acts}
+use Rattle.wh_machine.specs.Refresh.{Brought, brought_as, brought_by, brought_with, brought_one, action_of}
+use Rattle.wh_machine.specs.Refresh.{version_acts}
 use Rattle.wh_machine.specs.Refresh.{acts_of_one, brought_then, brought_all, is_row_past, is_partition_past}
 use Rattle.wh_machine.proofs.RebaseLaws.{rebase_fits}
 use Rattle.wh_machine.proofs.EvaluatedLaws.{evaluated_fits}
@@ -72,10 +73,12 @@ module _ (objects : List StoredObject) (moment id : ℕ) (o : StoredObject) (d :
   dynamic_now = ap (option_and_then as_dynamic) at_now
 
   firm_now : IsFirmDynamic objects d t.columns
-  firm_now = all_at (λ o. DynamicHolds objects o.kind) objects id (record o { kind = DynamicKind d t }) firm.dynamics there
+  firm_now = all_at (λ o. DynamicHolds objects o.kind) objects id
+      (record o { kind = DynamicKind d t }) firm.dynamics there
 
   state_now : FoundAt (StateStands (brought_to moment d.state)) objects id
-  state_now = found_some (StateStands (brought_to moment d.state)) objects id (record o { kind = DynamicKind d t }) there
+  state_now = found_some (StateStands (brought_to moment d.state)) objects id
+      (record o { kind = DynamicKind d t }) there
       (live, record { lag = firm_now.lag; failures = omega arith; moment = refreshable.0 })
 
   edits_now : (b : Brought) (e : Edits) → b.id ≡ id → b.edits ≡ Some e → IsWithinNumbers meant b → EditsFit t.columns e
@@ -138,7 +141,8 @@ module _ (objects : List StoredObject) (moment id : ℕ) (o : StoredObject) (d :
       ∙ sym (ap (λ (found : Option Dynamic). brought_with meant moment id found (table_at meant id)) dynamic_now) ∙ is)
       within
 
-pub one_brought : (objects : List StoredObject) (moment id : ℕ) → IsFirm objects → FoundAt (Refreshable moment) objects id
+pub one_brought : (objects : List StoredObject) (moment id : ℕ) → IsFirm objects
+    → FoundAt (Refreshable moment) objects id
     → (b : Brought) → brought_one (map object_meant objects) moment id ≡ Some b
     → IsWithinNumbers (map object_meant objects) b → OneBrought objects moment id b
 one_brought objects moment id firm refreshable b is within = by_found (at_id objects id) refl refreshable
@@ -168,8 +172,11 @@ acts_are moment id b at =
 
 above : (least : ℕ) (ids : List ℕ) → RiseFrom least ids → AllByRecursion (λ n. least ≤ n) ids
 above least [] rise = tt
-above least (id ∷ ids) rise =
-    (rise.0, all_map (λ n. suc id ≤ n) (λ n. least ≤ n) (λ n h. omega (arith, h, rise.0)) ids (above (suc id) ids rise.1))
+above least (id ∷ ids) rise = (
+  rise.0,
+  all_map (λ n. suc id ≤ n) (λ n. least ≤ n) (λ n h. omega (arith, h, rise.0)) ids
+      (above (suc id) ids rise.1),
+)
 
 ids_all : (P : ℕ → Type 0) (all : List Brought) (ids : List ℕ) → map (λ b. b.id) all ≡ ids → AllByRecursion P ids
     → AllByRecursion (λ b. P b.id) all
@@ -183,7 +190,8 @@ within_kept : (objects new : List Object) (b : Brought) → table_at new b.id �
     → IsWithinNumbers objects b → IsWithinNumbers new b
 within_kept objects new b same within = record {
   rows = ap (λ (found : Option Table). option_map_or (λ e. option_map_or
-      (λ t. nat_lt (bound limits.RowNumber) (t.next_row + length e.added)) found false) b.edits false) same ∙ within.rows;
+      (λ t. nat_lt (bound limits.RowNumber) (t.next_row + length e.added)) found false) b.edits false) same
+      ∙ within.rows;
   partitions = ap (λ (found : Option Table). option_map_or (λ e. option_map_or
       (λ t. nat_lt (bound limits.PartitionNumber) (t.next_partition + length (table_partitions_made e t))) found false)
       b.edits false) same ∙ within.partitions;
@@ -201,7 +209,8 @@ pub all_go : (stamp moment least : ℕ) (ids : List ℕ) (objects : List StoredO
     → TheyGo stamp moment ids objects
 all_go stamp moment least [] objects rise can firm all is within =
     let same : [] ≡ all = cc in
-    subst (λ (all : List Brought). AllGo stamp objects (written stamp objects (flat_map (acts_of_one moment) all))) same tt
+    subst (λ (all : List Brought). AllGo stamp objects (written stamp objects (flat_map (acts_of_one moment) all)))
+    same tt
 all_go stamp moment least (id ∷ ids) objects rise can firm all is within =
     by_one (brought_one meant moment id) refl is (λ new. all_go stamp moment (suc id) ids new rise.1)
   where
@@ -263,7 +272,8 @@ all_go stamp moment least (id ∷ ids) objects rise can firm all is within =
         let same : b ∷ more ≡ all = cc in
         let both : AllByRecursion (IsWithinNumbers meant) (b ∷ more) =
         subst (AllByRecursion (IsWithinNumbers meant)) (sym same) within in
-        subst (λ (all : List Brought). AllGo stamp objects (written stamp objects (flat_map (acts_of_one moment) all))) same
+        subst (λ (all : List Brought). AllGo stamp objects
+        (written stamp objects (flat_map (acts_of_one moment) all))) same
         (behind b more (brought_id meant moment id b one)
         (one_brought objects moment id firm can.0 b one both.0) rest both.1 they)
 

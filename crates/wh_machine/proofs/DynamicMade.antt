@@ -24,7 +24,8 @@ use Rattle.wh_ddl_naming.specs.Meant.{Meant, first_failing}
 use Rattle.wh_ddl_naming.specs.Tables.{column_names}
 use Rattle.wh_ddl_naming.specs.DynamicTables.{NewDynamicTable, bound_dynamic_table}
 use Rattle.wh_reply.specs.Reply.{Refusal, OverLimit, CreatedDynamicTable}
-use Rattle.wh_state.specs.State.{TableKind, StreamKind, TaskKind, DynamicKind, State, Object, at_id, live_count, columns_in}
+use Rattle.wh_state.specs.State.{TableKind, StreamKind, TaskKind, DynamicKind, State, Object, at_id, live_count}
+use Rattle.wh_state.specs.State.{columns_in}
 use Rattle.wh_state.specs.Dynamic.{DynamicQuery}
 use Rattle.wh_state.specs.Objects.{is_live_at}
 use Rattle.wh_state.specs.Bound.{source_kind, Binds}
@@ -44,7 +45,8 @@ use Rattle.wh_machine.specs.Names.{names_in, refusal_of}
 use Rattle.wh_machine.specs.Outcome.{Machine}
 use Rattle.wh_machine.specs.Definitions.{is_long, defines}
 use Rattle.wh_machine.specs.Refresh.{Refreshing, Fails, Brings, with_upstream}
-use Rattle.wh_machine.specs.Dynamics.{seconds_of, is_incremental, mode_refusal, below_refusal, dynamic_made, with_dynamic}
+use Rattle.wh_machine.specs.Dynamics.{seconds_of, is_incremental, mode_refusal, below_refusal, dynamic_made}
+use Rattle.wh_machine.specs.Dynamics.{with_dynamic}
 use Rattle.wh_machine.specs.Dynamics.{new_id, dynamic_refusal, first_suspended, asked_refresh, made_with, initialized}
 use Rattle.wh_machine.specs.Dynamics.{query_of, create_dynamic}
 use Rattle.wh_moment.specs.Upstream.{dynamics_of, upstream}
@@ -57,7 +59,8 @@ use Rattle.wh_machine.proofs.RefreshGoes.{AreStanding, KindStands, refresh_goes}
 use Rattle.wh_machine.proofs.DynamicWorks.{lag_is, refresh_spares, standing_of}
 use Rattle.wh_machine.proofs.DynamicNames.{all_inside, IsSeenBy, seen_by, right_kept, new_binds}
 use Rattle.wh_machine.proofs.TokensFilled.{AllFilled}
-use Rattle.wh_machine.proofs.OutputLaws.{columns_filled, SourcesFilled, query_filled}
+use Rattle.wh_machine.proofs.OutputLaws.{columns_filled}
+use Rattle.wh_machine.proofs.QueryOutputs.{SourcesFilled, query_filled}
 
 -- ---- what is asked of the statement
 
@@ -162,7 +165,8 @@ module _ (objects : List StoredObject) (columns : AllByRecursion HasColumns obje
       let q : BoundQuery = bound_query t.query (all_inside objects) 0 in
       let right = right_kept (column_names (map column_of q.outputs)) q.findings none in (
         new_binds objects t.query t.query_text (column_names (map column_of q.outputs)) none narrow,
-        columns_filled q.outputs (query_filled (all_inside objects) (sources_filled objects columns) t.query filled.query
+        columns_filled q.outputs (query_filled (all_inside objects)
+            (sources_filled objects columns) t.query filled.query
             filled.filled 0 (right.0.0.0, (right.0.0.1, right.0.1))),
       )
 
@@ -243,7 +247,8 @@ works_create_dynamic s m session t reached filled =
     let b : Meant NewDynamicTable = bound_dynamic_table (names_in m.state.objects) t in
     let n : NewDynamicTable = b.value in
     works_defines s m session None _ reached (λ outside.
-    works_unless s m (dynamic_refusal m.state (option_map refusal_of (first_failing b)) n (query_of n)) _ reached (λ none.
+    works_unless s m (dynamic_refusal m.state (option_map refusal_of (first_failing b)) n (query_of n)) _ reached
+    (λ none.
     let tests = passes_dynamic m.state (option_map refusal_of (first_failing b)) n (query_of n) none in
     let found = nothing_wrong b tests.0 in
     let binds = binds_over s.objects reached.firm.columns t filled m.state.objects (objects_meant s m reached) found.1

@@ -1,8 +1,9 @@
 -- The query of a new dynamic table binds over the objects of its own names as it did over all.
 --     IsSeenBy        an object as a dynamic table's query sees it
---     names_alike     the objects of its names are the same
+--     sources_live    its sources live
 --     new_binds       a query in which no name and no type is found wrong binds to its columns
-use Rattle.std.proofs.Common.{◌≡◌, ℕ, Bool, true, false, cond, ◌⊎◌, inl, inr, List, [], ◌∷◌, ◌++◌, map, Option, Some, None}
+use Rattle.std.proofs.Common.{◌≡◌, ℕ, Bool, true, false, cond, List, [], ◌∷◌, map, Option, Some}
+use Rattle.std.proofs.Common.{None}
 use Rattle.std.proofs.Common.{option_map, refl, sym, ap, subst, ◌∙◌, IsTrue}
 use Rattle.std.specs.Prelude.{bytes_eq}
 use Rattle.std.specs.List.{AllByRecursion}
@@ -17,15 +18,16 @@ use Rattle.wh_naming.specs.Select.{BoundQuery, bound_query, column_of}
 use Rattle.wh_ddl_naming.specs.Names.{query_names}
 use Rattle.wh_ddl_naming.specs.Tables.{column_findings}
 use Rattle.wh_ddl_naming.specs.DynamicTables.{kind_inside, inside}
-use Rattle.wh_ddl_naming.proofs.QueryLaws.{query_alike}
 use Rattle.wh_ddl_naming.proofs.SourceLaws.{NamesRight, id_in, IsSourceNamed, IsSourced, query_sourced}
 use Rattle.wh_state.specs.State.{TableKind, StreamKind, TaskKind, DynamicKind, at_id, columns_in, table_in}
 use Rattle.wh_state.specs.Dynamic.{Source}
-use Rattle.wh_state.specs.Bound.{source_kind, named_as, names_among, IsLiveSource, HasOneId, but_taken, Binds}
+use Rattle.wh_state.specs.Bound.{source_kind, names_among, IsLiveSource, HasOneId, but_taken, Binds}
 use Rattle.wh_state.specs.Stored.{StoredKind, StoredObject, object_meant, kind_meant}
-use Rattle.wh_state.proofs.AllLaws.{all_map, all_both}
+use Rattle.wh_state.proofs.AllLaws.{all_map}
 use Rattle.wh_machine.specs.Names.{object_kind, names_from}
 use Rattle.wh_machine.specs.Dynamics.{sources_named}
+use Rattle.wh_machine.proofs.MadeQuery.{query_same}
+use Rattle.wh_machine.proofs.EvaluatedLaws.{names_meant}
 use Rattle.wh_machine.proofs.NamedLaws.{IsObjectOf, object_named}
 use Rattle.wh_machine.proofs.PassedLaws.{both_none, no_map}
 
@@ -63,7 +65,7 @@ source_table (StreamKind s) is = absurd cc
 source_table (TaskKind t) is = absurd cc
 source_table (DynamicKind d t) is = tt
 
-abbrev named_with : Name → ℕ → ObjectKind → List Column → Named
+abbrev pub named_with : Name → ℕ → ObjectKind → List Column → Named
 named_with name id kind columns = record { name = name; id = id; kind = kind; columns = columns }
 
 named_same : (a b : Name) (id : ℕ) (k l : ObjectKind) (cs ds : List Column) → a ≡ b → k ≡ l → cs ≡ ds
@@ -81,7 +83,7 @@ module _ (objects : List StoredObject) where
     pub object : StoredObject
     pub there : at_id objects found.id ≡ Some object
     pub live : object.is_live ≡ true
-    pub is : found ≡ record { name = name; id = found.id; kind = source_kind object.kind; columns = columns_in object.kind }
+    pub is : found ≡ named_with name found.id (source_kind object.kind) (columns_in object.kind)
 
   pub seen_by : (name : Name) (found : Named) → named all_inside name ≡ Some found → IsSeenBy name found
   seen_by name found is =
@@ -138,61 +140,6 @@ module _ (objects : List StoredObject) where
   object_there : (name : Name) (s : IsSourceSeen name) → at_id objects (id_in all_inside name) ≡ Some s.seen.object
   object_there name s = ap (at_id objects) s.id_is ∙ s.seen.there
 
-  -- what it is among its sources
-  among_is : (name : Name) (s : IsSourceSeen name)
-      → named_as (record { name = name; id = id_in all_inside name }) s.seen.object ≡ s.found
-  among_is name s =
-      ap (λ (id : ℕ). named_as (record { name = name; id = id }) s.seen.object) s.id_is ∙ sym s.seen.is
-
-  abbrev IsAmong : Name → List Name → Type 0
-  IsAmong name [] = ⊥
-  IsAmong name (w ∷ ws) = (name ≡ w) ⊎ IsAmong name ws
-
-  all_among : (ws : List Name) → AllByRecursion (λ name. IsAmong name ws) ws
-  all_among [] = tt
-  all_among (w ∷ ws) =
-      (inl refl, all_map (λ name. IsAmong name ws) (λ name. IsAmong name (w ∷ ws)) (λ name is. inr is) ws (all_among ws))
-
-  found_among : (written : List Name) → AreSources written → (name : Name) → IsAmong name written
-      → (s : IsSourceSeen name) → named (names_among objects (numbered_names written)) name ≡ Some s.found
-  found_among [] are name among s = absurd among
-  found_among (w ∷ ws) are name among s =
-      ap (λ (found : Option StoredObject). named
-      (option_map_or (λ o. named_as (record { name = w; id = id_in all_inside w }) o ∷ []) found []
-      ++ names_among objects (numbered_names ws)) name) (object_there w first)
-      ∙ by_test (bytes_eq w name) refl (found_among ws are.1 name)
-    where
-      first : IsSourceSeen w
-      first = source_seen w are.0
-
-      same_found : w ≡ name → first.found ≡ s.found
-      same_found same =
-          let both : Some first.found ≡ Some s.found =
-          sym first.found_is ∙ ap (named all_inside) same ∙ s.found_is in
-          cc
-
-      later : IsAmong name (w ∷ ws) → bytes_eq w name ≡ false → IsAmong name ws
-      later (inl same) apart =
-          let is : bytes_eq w name ≡ true = (bytes_eq-Decides w name).1 (sym same) in absurd cc
-      later (inr rest) apart = rest
-
-      by_test : (b : Bool) → bytes_eq w name ≡ b
-          → (IsAmong name ws → (s : IsSourceSeen name)
-          → named (names_among objects (numbered_names ws)) name ≡ Some s.found)
-          → cond b (Some (named_as (record { name = w; id = id_in all_inside w }) first.seen.object))
-          (named (names_among objects (numbered_names ws)) name) ≡ Some s.found
-      by_test true is rest = ap Some (among_is w first ∙ same_found ((bytes_eq-Decides w name).0 is))
-      by_test false is rest = rest (later among is) s
-
-  pub names_alike : (written : List Name) → AreSources written → AllByRecursion (λ name.
-      named all_inside name ≡ named (names_among objects (numbered_names written)) name) written
-  names_alike written are =
-      all_both (λ name. IsAmong name written) (IsSourceNamed all_inside)
-      (λ name. named all_inside name ≡ named (names_among objects (numbered_names written)) name)
-      (λ name among is.
-      let s : IsSourceSeen name = source_seen name is in
-      s.found_is ∙ sym (found_among written are name among s)) written (all_among written) are
-
   sources_live : (written : List Name) → AreSources written
       → AllByRecursion (λ s. IsLiveSource (at_id objects s.id)) (numbered_names written)
   sources_live [] are = tt
@@ -212,7 +159,8 @@ module _ (objects : List StoredObject) where
       → AllByRecursion (HasOneId sources) sources
   one_id sources are =
       all_map (λ s. s.id ≡ id_in all_inside s.name) (HasOneId sources)
-      (λ s is. all_map (λ other. other.id ≡ id_in all_inside other.name) (λ other. other.name ≡ s.name → other.id ≡ s.id)
+      (λ s is. all_map (λ other. other.id ≡ id_in all_inside other.name) (λ other. other.name ≡ s.name
+      → other.id ≡ s.id)
       (λ other at same. at ∙ ap (id_in all_inside) same ∙ sym is) sources are) sources are
 
 -- ---- what is found
@@ -243,22 +191,24 @@ right_kept columns f none =
 
 -- by its tree, its text, and what its query stands for
 pub new_binds : (objects : List StoredObject) (tree : Query) (text : List ℕ) (columns : List Name)
-    → naming.first_failing (followed (column_findings columns) (bound_query tree (all_inside objects) 0).findings) ≡ None
+    → naming.first_failing (followed (column_findings columns) (bound_query tree (all_inside objects) 0).findings)
+    ≡ None
     → (bound_query tree (all_inside objects) 0).is_wide ≡ false
     → Binds objects (record {
       tree = tree;
       text = text;
       sources = sources_named (query_names tree) (bound_query tree (all_inside objects) 0).sources;
     }) (map column_of (bound_query tree (all_inside objects) 0).outputs)
-new_binds objects tree text columns none narrow =
-    subst (λ (ids : List ℕ). Binds objects (record { tree = tree; text = text; sources = sources_named written ids })
-    (map column_of q.outputs)) (sym sourced.ids) (record {
-      sources = sources_live objects written are;
-      one_id = one_id objects (numbered_names objects written) (ids_named objects written);
-      right = subst (λ (b : BoundQuery). naming.first_failing (but_taken b.findings) ≡ None) same right.1;
-      narrow = subst (λ (b : BoundQuery). b.is_wide ≡ false) same narrow;
-      outputs = ap (λ (b : BoundQuery). map column_of b.outputs) (sym same);
-    })
+new_binds objects tree text columns none narrow = record {
+  sources = subst (λ (ids : List ℕ). AllByRecursion (λ s. IsLiveSource (at_id objects s.id))
+      (sources_named written ids))
+      (sym sourced.ids) (sources_live objects written are);
+  one_id = subst (λ (ids : List ℕ). AllByRecursion (HasOneId (sources_named written ids)) (sources_named written ids))
+      (sym sourced.ids) (one_id objects (numbered_names objects written) (ids_named objects written));
+  right = subst (λ (b : BoundQuery). naming.first_failing (but_taken b.findings) ≡ None) same right.1;
+  narrow = subst (λ (b : BoundQuery). b.is_wide ≡ false) same narrow;
+  outputs = ap (λ (b : BoundQuery). map column_of b.outputs) (sym same);
+}
   where
     written : List Name
     written = query_names tree
@@ -276,6 +226,7 @@ new_binds objects tree text columns none narrow =
     are : AreSources objects written
     are = sourced.all right.0.0
 
-    same : q ≡ bound_query tree (names_among objects (numbered_names objects written)) 0
-    same = query_alike (all_inside objects) (names_among objects (numbered_names objects written)) tree
-        (names_alike objects written are) 0
+    -- over its own sources
+    same : q ≡ bound_query tree (names_among objects (sources_named written q.sources)) 0
+    same = sym (query_same (map object_meant objects) tree text)
+        ∙ ap (λ (names : List Named). bound_query tree names 0) (names_meant objects (sources_named written q.sources))

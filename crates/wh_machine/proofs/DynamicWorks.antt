@@ -24,7 +24,8 @@ use Rattle.wh_state.specs.Objects.{as_dynamic, dynamic_at, is_live_at, name_at}
 use Rattle.wh_state.specs.Act.{Act, MakesTable, DropsObject, EditsRows, MakesStream, MovesOffset, MakesTask, PutsTask}
 use Rattle.wh_state.specs.Act.{BeginsRun, EndsTask, MakesDynamic, PutsDynamic, RefreshesRows}
 use Rattle.wh_state.specs.Edits.{Edits}
-use Rattle.wh_state.specs.Stored.{StoredTable, StoredVersion, StoredKind, StoredObject, Stored, kind_meant, object_meant}
+use Rattle.wh_state.specs.Stored.{StoredTable, StoredVersion, StoredKind, StoredObject, Stored, kind_meant}
+use Rattle.wh_state.specs.Stored.{object_meant}
 use Rattle.wh_state.specs.Stored.{version_meant}
 use Rattle.wh_state.specs.Commit.{IsLag, TakesState, DoesNotFall, all_changed}
 use Rattle.wh_state.specs.Written.{version_written_to, act_written, written}
@@ -52,6 +53,7 @@ use Rattle.wh_machine.specs.Refresh.{with_upstream}
 use Rattle.wh_machine.specs.Ticks.{refreshes}
 use Rattle.wh_machine.proofs.WorksLaws.{IsReached, objects_meant, Works, works_refuses, works_unless, works_does}
 use Rattle.wh_machine.proofs.WorksLaws.{works_made}
+use Rattle.wh_machine.proofs.ValueTypes.{both_true}
 use Rattle.wh_machine.proofs.PassedLaws.{passed, none_if, within, nothing_wrong}
 use Rattle.wh_machine.proofs.DefineLaws.{IsPlaced, placed, works_defines}
 use Rattle.wh_machine.proofs.RefreshLaws.{IsOfRefresh, AreOfRefresh, refresh_acts}
@@ -141,10 +143,6 @@ refresh_spares id stamp objects (act ∷ acts) are =
 abbrev pub IsWaiting : Dynamics → ℕ → ℕ → Type 0
 IsWaiting all stamp id = IsSomeAnd (watched_at all id) (λ w. w.is_live ≡ true)
 
-both : (a b : Bool) → (a && b) ≡ true → (a ≡ true) × (b ≡ true)
-both true b is = (refl, is)
-both false b is = absurd cc
-
 first_true : (a b c d : Bool) → (a && b && c && d) ≡ true → a ≡ true
 first_true true b c d is = refl
 first_true false b c d is = absurd cc
@@ -152,7 +150,7 @@ first_true false b c d is = absurd cc
 one_waits : (all : Dynamics) (stamp id : ℕ) → is_due all stamp id ≡ true → IsWaiting all stamp id
 unfolding is_due
 one_waits all stamp id due =
-    by_found (watched_at all id) (both (option_map_or (is_waiting_for stamp) (watched_at all id) false) _ due).0
+    by_found (watched_at all id) (both_true (option_map_or (is_waiting_for stamp) (watched_at all id) false) _ due).0
   where
     by_found : (found : Option Watched) → option_map_or (is_waiting_for stamp) found false ≡ true
         → IsSomeAnd found (λ w. w.is_live ≡ true)
@@ -200,7 +198,8 @@ pub record IsDynamicAt (objects : List StoredObject) (id : ℕ) : Type 0 where
   pub there : at_id objects id ≡ Some (record object { kind = DynamicKind dynamic table })
   pub live : object.is_live ≡ true
 
-dynamic_placed : (objects : List StoredObject) (id : ℕ) → IsPlaced objects DynamicTableObject id → IsDynamicAt objects id
+dynamic_placed : (objects : List StoredObject) (id : ℕ) → IsPlaced objects DynamicTableObject id
+    → IsDynamicAt objects id
 dynamic_placed objects id is = by_kind is.object is.object.kind is.there is.live is.kind_is
   where
     by_kind : (o : StoredObject) (k : StoredKind) → at_id objects id ≡ Some (record o { kind = k }) → o.is_live ≡ true
@@ -305,7 +304,8 @@ module _ (s : Stored) (m : Machine) (reached : IsReached s m) where
       works_made s m reply acts reached
       (λ other. refresh_spares other m.state.last s.objects acts
       (subst (AreOfRefresh m.state) is (refresh_acts m.state besides id moment)).are)
-      (refresh_goes s.objects m.state (objects_meant s m reached) reached.firm (standing_of s m reached) besides id moment
+      (refresh_goes s.objects m.state (objects_meant s m reached) reached.firm
+      (standing_of s m reached) besides id moment
       live lines acts is)
 
   pub works_refresh_dynamic : (session : ℕ) (name : List ℕ)
@@ -342,7 +342,8 @@ module _ (s : Stored) (m : Machine) (reached : IsReached s m) where
 
       by_refresh : (r : Refreshing) → refresh m.state None id moment ≡ r → Works s m (scheduled_by m id moment r)
       by_refresh (Fails why) r_is =
-          subst (λ (found : Option Dynamic). Works s m (failed_of m id moment why found)) (sym (dynamic_now id is)) (fails why)
+          subst (λ (found : Option Dynamic). Works s m (failed_of m id moment why found)) (sym (dynamic_now id is))
+          (fails why)
       by_refresh (Brings lines acts) r_is =
           works_brings (RefreshedTables lines) lines acts None id moment (live_now id is) r_is
 

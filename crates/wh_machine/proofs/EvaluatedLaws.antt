@@ -2,7 +2,8 @@
 --     names_meant        its query sees the same of what a file says and of what that means
 --     ids_sourced        the sources of its query are what it is numbered to read
 --     evaluated_fits     its rows
-use Rattle.std.proofs.Common.{◌≡◌, ℕ, zero, suc, Bool, true, false, cond, List, [], ◌∷◌, ◌++◌, map, Option, Some, None}
+use Rattle.std.proofs.Common.{◌≡◌, ℕ, zero, suc, ◌+◌, Bool, true, false, cond, List, [], ◌∷◌, ◌++◌, map, Option, Some}
+use Rattle.std.proofs.Common.{None}
 use Rattle.std.proofs.Common.{option_map, refl, sym, ap, subst, ◌∙◌, arith}
 use Rattle.std.specs.Prelude.{slice_get, bytes_eq, unwrap_or}
 use Rattle.std.specs.List.{AllByRecursion}

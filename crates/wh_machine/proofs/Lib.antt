@@ -19,6 +19,7 @@ pub mod RefreshKeeps
 pub mod DynamicKeeps
 pub mod EventKeeps
 pub mod SoundLaws
+pub mod LaterLaws
 pub mod OneMoment
 pub mod RefreshedNow
 pub mod ConsumingLaws
@@ -48,6 +49,7 @@ pub mod PassedLaws
 pub mod StageLaws
 pub mod TickWorks
 pub mod ReachedLaws
+pub mod UnderstoodActs
 pub mod UnderstoodLaws
 pub mod LeadsLaws
 pub mod FilledLaws
@@ -74,4 +76,5 @@ pub mod DynamicNames
 pub mod BehindLaws
 pub mod TokensFilled
 pub mod OutputLaws
+pub mod QueryOutputs
 pub mod DynamicMade

@@ -47,7 +47,8 @@ use Rattle.wh_machine.proofs.TaskWorks.{works_resume, works_suspend, works_drop_
 use Rattle.wh_machine.proofs.StartWorks.{works_execute}
 use Rattle.wh_machine.proofs.TickWorks.{works_tick}
 use Rattle.wh_machine.proofs.TaskMade.{IsFilledTask, works_create_task}
-use Rattle.wh_machine.proofs.DynamicWorks.{works_suspend_dynamic, works_resume_dynamic, works_lag, works_refresh_dynamic}
+use Rattle.wh_machine.proofs.DynamicWorks.{works_suspend_dynamic, works_resume_dynamic, works_lag}
+use Rattle.wh_machine.proofs.DynamicWorks.{works_refresh_dynamic}
 use Rattle.wh_machine.proofs.DynamicMade.{IsFilledDynamic, works_create_dynamic}
 use Rattle.wh_machine.proofs.StageLaws.{begun_stands, one_stands, works_changes}
 use Rattle.wh_machine.proofs.ChangeLaws.{change_fits}

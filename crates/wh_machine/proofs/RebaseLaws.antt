@@ -161,7 +161,8 @@ unfolding rebase edits_from
 rebase_fits columns old new fit = record {
   rows = λ number row is. absurd (all_go empty (kept_apart new (entries old)).gone
       (λ q row is. cc (get-empty {X = Option Row} nat_cmp q, is)) number row is);
-  added = all_map (FitsTypes (types_of columns)) (λ row. IsTrue (row_fits columns row)) (λ row h. fits_row columns row h)
+  added = all_map (FitsTypes (types_of columns)) (λ row. IsTrue (row_fits columns row))
+      (λ row h. fits_row columns row h)
       (listed [] (kept_apart new (entries old)).left)
       (all_listed (FitsTypes (types_of columns)) [] (kept_apart new (entries old)).left
       (left_all (FitsTypes (types_of columns)) new (entries old) fit));

@@ -2,13 +2,15 @@
 --     AreStanding         the row numbers of dynamic tables and the moments of their last versions
 --     all_live            where no source is lost, all that is upstream of a live table lives
 --     refresh_goes        a refresh that brings some
-use Rattle.std.proofs.Common.{◌≡◌, ℕ, ◌≤◌, Bool, true, false, cond, List, [], ◌∷◌, ◌++◌, map, Option, Some, None, option_map}
+use Rattle.std.proofs.Common.{◌≡◌, ℕ, ◌≤◌, Bool, true, false, cond, List, [], ◌∷◌, ◌++◌, map, Option, Some, None}
+use Rattle.std.proofs.Common.{option_map}
 use Rattle.std.proofs.Common.{refl, sym, ap, subst, ◌∙◌, arith}
 use Rattle.std.specs.Prelude.{not, ◌||◌, nat_eq, nat_lt, unwrap_or}
 use Rattle.std.specs.List.{AllByRecursion, filter, list_any, flat_map}
 use Rattle.std.specs.Option.{IsSomeAnd, option_and_then, option_map_or}
 use Rattle.std.proofs.lemmas.Bool.Decides.{nat_tests}
 use Rattle.wh_value.specs.declared.limit.Limit.TheVariants as limits
+use Rattle.wh_ddl_naming.proofs.QueryLaws.{all_in_front, all_behind}
 use Rattle.wh_reply.specs.Reply.{Refusal, Refreshed, OverLimit, SourceGone}
 use Rattle.wh_state.specs.State.{State, TableKind, StreamKind, TaskKind, DynamicKind, Object, VersionOf, at_id, last_of}
 use Rattle.wh_frame.specs.Partition.{Partition}
@@ -151,7 +153,8 @@ module _ (objects : List StoredObject) where
       by_kind : (o : StoredObject) (k : StoredKind)
           → option_map_or (λ d. list_any (λ source. not (is_live_at meant source)) (ids_read d.query))
           (as_dynamic (object_meant (record o { kind = k }))) false ≡ false
-          → AllByRecursion Lives (option_map_or (λ w. w.sources) (watched_object (object_meant (record o { kind = k }))) [])
+          → AllByRecursion Lives (option_map_or (λ w. w.sources)
+          (watched_object (object_meant (record o { kind = k }))) [])
       by_kind o (TableKind t) kept = tt
       by_kind o (StreamKind s) kept = tt
       by_kind o (TaskKind t) kept = tt
@@ -168,14 +171,6 @@ module _ (objects : List StoredObject) where
       by_found None kept = tt
       by_found (Some o) kept = by_kind o o.kind kept
 
-  front : (P : ℕ → Type 0) (xs ys : List ℕ) → AllByRecursion P (xs ++ ys) → AllByRecursion P xs
-  front P [] ys h = tt
-  front P (x ∷ xs) ys h = (h.0, front P xs ys h.1)
-
-  behind : (P : ℕ → Type 0) (xs ys : List ℕ) → AllByRecursion P (xs ++ ys) → AllByRecursion P ys
-  behind P [] ys h = h
-  behind P (x ∷ xs) ys h = behind P xs ys h.1
-
   all_live : (id : ℕ) → Lives id → first_lost meant (with_upstream meant id) ≡ None
       → AllByRecursion Lives (upstream (dynamics_of meant) id ++ id ∷ [])
   all_live id live none =
@@ -186,8 +181,8 @@ module _ (objects : List StoredObject) where
       (upstream (dynamics_of meant) id ++ id ∷ []) (none_lost (with_upstream meant id) none) in
       all_append Lives (upstream (dynamics_of meant) id) (id ∷ [])
       (upstream_all Lives (dynamics_of meant) id
-      (behind _ (upstream (dynamics_of meant) id) (id ∷ []) read).0
-      (front _ (upstream (dynamics_of meant) id) (id ∷ []) read)) (live, tt)
+      (all_behind _ (upstream (dynamics_of meant) id) (id ∷ []) read).0
+      (all_in_front _ (upstream (dynamics_of meant) id) (id ∷ []) read)) (live, tt)
 
   -- ---- tables that may be brought
 
@@ -195,7 +190,8 @@ module _ (objects : List StoredObject) where
       → FoundAt (Refreshable moment) objects id
   may_bring standing moment id live below =
       by_found (at_id objects id) refl (sym (live_found id) ∙ live)
-      (sym (ap (λ (found : Option Watched). option_map_or (λ w. is_below moment w.state) found false) (watched_found id))
+      (sym (ap (λ (found : Option Watched). option_map_or (λ w. is_below moment w.state) found false)
+      (watched_found id))
       ∙ below)
     where
       by_kind : (o : StoredObject) (k : StoredKind) → KindStands k
@@ -234,7 +230,8 @@ module _ (objects : List StoredObject) where
     where
       by_rows : (rows : Bool) → list_any (is_row_past meant) all ≡ rows → (partitions : Bool)
           → list_any (is_partition_past meant) all ≡ partitions
-          → cond rows (Some (OverLimit limits.RowNumber)) (cond partitions (Some (OverLimit limits.PartitionNumber)) None)
+          → cond rows (Some (OverLimit limits.RowNumber))
+          (cond partitions (Some (OverLimit limits.PartitionNumber)) None)
           ≡ None → AllByRecursion (IsWithinNumbers meant) all
       by_rows true rows_are partitions are none = absurd cc
       by_rows false rows_are true are none = absurd cc
@@ -266,7 +263,8 @@ module _ (objects : List StoredObject) where
           let same : flat_map (acts_of_one moment) all ≡ acts = cc in
           subst (λ (acts : List Act). AllGo stamp objects (written stamp objects acts)) same (goes past)
 
-      by_refusal : (found : Option Refusal) → first_of (first_lost meant (with_upstream meant id) ∷ besides ∷ []) ≡ found
+      by_refusal : (found : Option Refusal)
+          → first_of (first_lost meant (with_upstream meant id) ∷ besides ∷ []) ≡ found
           → (all : Option (List Brought)) → brought_all stamp moment (brought (dynamics_of meant) id moment) meant ≡ all
           → GoesIf stamp (refresh_by meant moment found all)
       by_refusal (Some why) tests all brought_is lines acts is = absurd cc

@@ -20,14 +20,14 @@ use Rattle.wh_ddl_naming.specs.Statements.{Bound}
 use Rattle.wh_reply.specs.Reply.{Refusal, Reply}
 use Rattle.wh_state.specs.State.{Object, Stream}
 use Rattle.wh_state.specs.Task.{IsSpelled, Ending, Succeeded, Failed, Skipped, Run, TaskState, Task}
-use Rattle.wh_state.specs.Objects.{stream_at, task_at, dynamic_at}
-use Rattle.wh_state.specs.Dynamic.{IsQuerySpelled, DynamicQuery, DynamicState, Dynamic}
-use Rattle.wh_state.specs.Act.{Act, MakesTable, DropsObject, EditsRows, MakesStream, MovesOffset, MakesTask, PutsTask}
-use Rattle.wh_state.specs.Act.{BeginsRun, EndsTask, MakesDynamic, PutsDynamic, RefreshesRows}
+use Rattle.wh_state.specs.Objects.{stream_at, task_at}
+use Rattle.wh_state.specs.Dynamic.{IsQuerySpelled}
+use Rattle.wh_state.specs.Act.{Act, MakesTable, MovesOffset, PutsTask}
+use Rattle.wh_state.specs.Act.{EndsTask}
 use Rattle.wh_graph.specs.Graph.{is_under_way, skipped_behind, run_behind, has_failed}
 use Rattle.wh_graph.specs.Root.{state_behind}
 use Rattle.wh_graph.specs.Action.{Action, RunsTask, StartsRun, DoesNothing}
-use Rattle.wh_state.proofs.AllLaws.{all_map, all_append}
+use Rattle.wh_state.proofs.AllLaws.{all_append}
 use Rattle.wh_state.proofs.SpelledLaws.{IsUnderstood}
 use Rattle.wh_machine.specs.Names.{names_in, refusal_of}
 use Rattle.wh_machine.specs.Offsets.{offset_move, offset_moves, acts_of_commit}
@@ -50,34 +50,18 @@ use Rattle.wh_machine.specs.Ticks.{end_acts}
 use Rattle.wh_machine.specs.Ticks.{ends_as, carried_in, runs_by, runs_task, run_task, starts_run, does_action}
 use Rattle.wh_machine.specs.Ticks.{action_at}
 use Rattle.wh_machine.specs.Ticks.{refreshes, ticked}
-use Rattle.wh_ast.specs.declared.statement.Initialize.{Initialize}
 use Rattle.wh_ast.specs.declared.statement.Initialize.TheVariants as starts
-use Rattle.wh_ddl_naming.specs.DynamicTables.{NewDynamicTable}
 use Rattle.wh_moment.specs.Upstream.{dynamics_of}
 use Rattle.wh_moment.specs.Moment.{due_table}
 use Rattle.wh_machine.specs.Refresh as refresh
-use Rattle.wh_machine.specs.Refresh.{Refreshing}
-use Rattle.wh_machine.specs.Dynamics.{with_dynamic, new_id, asked_refresh, made_with, initialized, query_of}
+use Rattle.wh_machine.specs.Dynamics.{asked_refresh, query_of}
 use Rattle.wh_machine.specs.Dynamics.{create_dynamic, resume_dynamic, suspend_dynamic, refresh_dynamic, set_lag}
-use Rattle.wh_machine.specs.Dynamics.{drop_dynamic, is_same_dynamic_state, puts_dynamic, alters, refreshed_by}
-use Rattle.wh_machine.specs.Dynamics.{failed_of, scheduled_by, scheduled}
-use Rattle.wh_machine.proofs.RefreshLaws.{IsOfRefresh, AreOfRefresh, refresh_acts}
+use Rattle.wh_machine.specs.Dynamics.{drop_dynamic}
+use Rattle.wh_machine.proofs.RefreshLaws.{refresh_acts}
+pub use Rattle.wh_machine.proofs.UnderstoodActs.{AreUnderstood}
+use Rattle.wh_machine.proofs.UnderstoodActs.{Understands, does, refuses, initialized_is, refreshed_is, alters_is}
+use Rattle.wh_machine.proofs.UnderstoodActs.{scheduled_is}
 use Rattle.wh_machine.specs.Step.{Event, Command, Tick, is_session, commanded, outcome_of}
-
-abbrev pub AreUnderstood : Option (List Act) → Type 0
-AreUnderstood None = Unit {0}
-AreUnderstood (Some acts) = AllByRecursion IsUnderstood acts
-
--- of an outcome
-record Understands (o : Outcome) : Type 0 where
-  are : AreUnderstood (acts_in o)
-
-does : {reply : Reply} {sessions : Sessions} {acts : Option (List Act)} → AreUnderstood acts
-    → Understands (Does reply sessions acts)
-does are = record { are = are }
-
-refuses : {why : Refusal} → Understands (Refuses why)
-refuses = record { are = tt }
 
 -- ---- behind tests
 
@@ -172,65 +156,6 @@ put_is id new (Some t) = by_test (is_same_state t.state (new t))
     by_test : (same : Bool) → AllByRecursion IsUnderstood (cond same [] (PutsTask id (new t) ∷ []))
     by_test true = tt
     by_test false = (tt, tt)
-
--- ---- dynamic tables
-
-refresh_is : (act : Act) → IsOfRefresh act → IsUnderstood act
-refresh_is (RefreshesRows id moment e) is = tt
-refresh_is (PutsDynamic id state) is = tt
-refresh_is (MakesTable name columns retention) is = absurd is
-refresh_is (DropsObject id) is = absurd is
-refresh_is (EditsRows id e) is = absurd is
-refresh_is (MakesStream name source is_append_only) is = absurd is
-refresh_is (MovesOffset id offset) is = absurd is
-refresh_is (MakesTask name minutes after runs) is = absurd is
-refresh_is (PutsTask id state) is = absurd is
-refresh_is (BeginsRun root tasks) is = absurd is
-refresh_is (EndsTask root task ending) is = absurd is
-refresh_is (MakesDynamic name lag is_incremental query columns) is = absurd is
-
-refreshes_are : (acts : List Act) → AllByRecursion IsOfRefresh acts → AllByRecursion IsUnderstood acts
-refreshes_are acts are = all_map IsOfRefresh IsUnderstood refresh_is acts are
-
-initialized_is : (m : Machine) (n : NewDynamicTable) (query : DynamicQuery) (start : Initialize) → IsQuerySpelled query
-    → Understands (initialized m n query start)
-initialized_is m n query starts.OnSchedule spelled = does (spelled, tt)
-initialized_is m n query starts.OnCreate spelled =
-    by_refresh (asked_refresh (with_dynamic m.state n query) (new_id m.state))
-    (refresh_acts (with_dynamic m.state n query) _ (new_id m.state) m.state.last)
-  where
-    by_refresh : (r : Refreshing) → AreOfRefresh (with_dynamic m.state n query) r → Understands (made_with m n query r)
-    by_refresh (refresh.Fails why) are = refuses
-    by_refresh (refresh.Brings lines acts) are = does (spelled, refreshes_are acts are.are)
-
-refreshed_is : (m : Machine) (r : Refreshing) → AreOfRefresh m.state r → Understands (refreshed_by m r)
-refreshed_is m (refresh.Fails why) are = refuses
-refreshed_is m (refresh.Brings lines acts) are = does (refreshes_are acts are.are)
-
-alters_is : (m : Machine) (reply : Reply) (id : ℕ) (new : DynamicState → DynamicState)
-    → Understands (alters m reply id new)
-alters_is m reply id new = does (by_found (dynamic_at m.state.objects id))
-  where
-    by_test : (d : Dynamic) (same : Bool)
-        → AllByRecursion IsUnderstood (cond same [] (PutsDynamic id (new d.state) ∷ []))
-    by_test d true = tt
-    by_test d false = (tt, tt)
-
-    by_found : (found : Option Dynamic) → AllByRecursion IsUnderstood (puts_dynamic id new found)
-    by_found None = tt
-    by_found (Some d) = by_test d (is_same_dynamic_state d.state (new d.state))
-
-scheduled_is : (m : Machine) (id target : ℕ) → Understands (scheduled m id target)
-unfolding scheduled
-scheduled_is m id target = by_refresh (refresh.refresh m.state None id target) (refresh_acts m.state None id target)
-  where
-    by_found : (why : Refusal) (found : Option Dynamic) → Understands (failed_of m id target why found)
-    by_found why None = refuses
-    by_found why (Some d) = does (tt, tt)
-
-    by_refresh : (r : Refreshing) → AreOfRefresh m.state r → Understands (scheduled_by m id target r)
-    by_refresh (refresh.Fails why) are = by_found why (dynamic_at m.state.objects id)
-    by_refresh (refresh.Brings lines acts) are = does (refreshes_are acts are.are)
 
 -- ---- all of them
 

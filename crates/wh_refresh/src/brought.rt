@@ -34,7 +34,8 @@ pub(crate) fn brought_of(all: &[Brought], id: u32) -> Option<&Brought> {
 pub(crate) fn new_rows_of(all: &[Brought], id: u32) -> Option<&NewRows> {
     match brought_of(all, id)? {
         Brought {
-            rows: Some(rows), ..
+            rows: Some(rows),
+            ..
         } => Some(rows),
         Brought { rows: None, .. } => None,
     }

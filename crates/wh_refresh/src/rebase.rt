@@ -72,12 +72,7 @@ impl Walk {
     ghost use Rattle.wh_part.specs.View.{numbered_of};
     ghost use Rattle.wh_refresh.specs.Walk.{walked, passed, walk_of};
 
-    fn pass_all(
-        &mut self,
-        alloc: Global,
-        new: &Bag,
-        rows: &[NumberedRow],
-    ) -> Result<(), AllocError>
+    fn pass_all(&mut self, alloc: Global, new: &Bag, rows: &[NumberedRow]) -> Result<(), AllocError>
         ensures { OnOk result (walk_of self.new
             ≡ walked new.now (map numbered_of rows.now) (walk_of self.old)) }
     {

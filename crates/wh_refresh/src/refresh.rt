@@ -70,7 +70,10 @@ fn first_lost(
 
 fn has_lost(objects: &[&StoredObject], id: u32) -> bool {
     match dynamic_at(objects, id) {
-        Some(dynamic) => dynamic.reads().iter().any(|source| !is_live_at(objects, *source)),
+        Some(dynamic) => dynamic
+            .reads()
+            .iter()
+            .any(|source| !is_live_at(objects, *source)),
         None => false,
     }
 }

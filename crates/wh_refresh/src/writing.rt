@@ -66,7 +66,10 @@ fn add_changes(
     one: Brought,
 ) -> Result<(), AllocError> {
     let Brought {
-        id, rows, state, ..
+        id,
+        rows,
+        state,
+        ..
     } = one;
     if let Some(rows) = rows {
         if let Some(table) = table_at(objects, id) {

@@ -118,7 +118,8 @@ firm_orderly objects firm = all_map IsFirmObject IsOrderlyObject (λ o h. by_kin
     by_kind (TaskKind t) h = tt
     by_kind (DynamicKind d t) h = h.kept.orderly
 
-one_shape : (id moment : ℕ) (edits : Option Edits) (state : DynamicState) → AreEditsFrom 0 (refresh_of id moment edits state)
+one_shape : (id moment : ℕ) (edits : Option Edits) (state : DynamicState)
+    → AreEditsFrom 0 (refresh_of id moment edits state)
 one_shape id moment None state = other_act tt no_more_edits
 one_shape id moment (Some e) state = next_refresh (omega arith) (other_act tt no_more_edits)
 

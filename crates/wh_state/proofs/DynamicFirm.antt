@@ -174,7 +174,8 @@ pub dynamics_changed : (f : StoredObject → StoredObject) → KeepsSeen f
     → (objects : List StoredObject) (id : ℕ) → AreFirmDynamics objects → AreFirmDynamics (changed_at objects id f)
 dynamics_changed f seen holds objects id firm =
     all_changed_at (λ o. DynamicHolds objects o.kind) (λ o. DynamicHolds new o.kind) f
-    (λ o h. holds_kept objects new keeps o.kind h) (λ o h. holds new o (holds_kept objects new keeps o.kind h)) objects id
+    (λ o h. holds_kept objects new keeps o.kind h)
+    (λ o h. holds new o (holds_kept objects new keeps o.kind h)) objects id
     firm
   where
     new : List StoredObject

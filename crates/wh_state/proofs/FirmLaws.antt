@@ -443,7 +443,8 @@ dynamic_firm : (f : Dynamic → Dynamic)
     → IsFirmDynamic objects (f d) columns) → (objects : List StoredObject) (id : ℕ) → IsFirm objects
     → IsFirm (changed_at objects id (on_dynamic_stored f))
 dynamic_firm f holds objects id firm = record {
-  columns = columns_changed (on_dynamic_stored f) (λ o h. dynamic_keeps KindHasColumns f (λ d t h. h) o.kind h) objects id
+  columns = columns_changed (on_dynamic_stored f)
+      (λ o h. dynamic_keeps KindHasColumns f (λ d t h. h) o.kind h) objects id
       firm.columns;
   dynamics = dynamics_changed (on_dynamic_stored f) (dynamic_seen f)
       (λ objects o h. dynamic_keeps (DynamicHolds objects) f (λ d t h. holds objects d t.columns h) o.kind h) objects id
@@ -560,7 +561,8 @@ firm_changed stamp objects (CreatesDynamic c) applies rises firm = record {
   dynamics = dynamics_more objects _ (made_firm objects c rises applies) firm.dynamics;
 }
 firm_changed stamp objects (SetsDynamic id state) applies rises firm =
-    dynamic_firm (with_dynamic_state state) (state_holds state (state_taken (at_id objects id) state applies)) objects id
+    dynamic_firm (with_dynamic_state state)
+    (state_holds state (state_taken (at_id objects id) state applies)) objects id
     firm
 firm_changed stamp objects (Drops id) applies rises firm = record {
   tables = all_changed_at IsFirmObject IsFirmObject dropped (λ o h. h) (λ o h. h) objects id firm.tables;
@@ -577,7 +579,8 @@ firm_changed stamp objects (SetsOffset id offset) applies rises firm = record {
   names = names_changed (offset_set offset) (λ o. refl) (λ o live. live) objects id firm.names;
   streams = streams_changed (offset_set offset) (set_source offset) (set_stream offset) objects id firm.streams;
   tasks = same_tasks (offset_set offset) (λ o. offset_task offset o.kind) (λ o. refl) objects id firm.tasks;
-  columns = columns_changed (offset_set offset) (λ o h. offset_keeps KindHasColumns offset (λ s h. h) o.kind h) objects id
+  columns = columns_changed (offset_set offset)
+      (λ o h. offset_keeps KindHasColumns offset (λ s h. h) o.kind h) objects id
       firm.columns;
   dynamics = dynamics_changed (offset_set offset) (set_seen offset)
       (λ objects o h. offset_keeps (DynamicHolds objects) offset (λ s h. h) o.kind h) objects id firm.dynamics;

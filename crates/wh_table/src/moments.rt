@@ -7,7 +7,8 @@ use wh_part::Partition;
 use wh_value::Row;
 
 impl StoredTable {
-    ghost use Rattle.std.specs.Prelude.{◌≡◌, ◌&&◌, nat_le, nat_lt, IfOk};
+    ghost use Rattle.std.specs.Prelude.{◌≡◌, IfOk};
+    ghost use Rattle.wh_version.specs.Times.{is_between};
     ghost use Rattle.std.specs.List.{list_any};
     ghost use Rattle.std.specs.FinMap.{values};
     ghost use Rattle.wh_meaning.specs.Bag.{bag_of};
@@ -32,7 +33,7 @@ impl StoredTable {
     /// Whether a version stands for a moment behind one, up to another.
     pub fn has_version_between(&self, from: u64, to: u64) -> bool
         ensures { result ≡ list_any
-            (λ v. nat_lt from v.data_timestamp && nat_le v.data_timestamp to)
+            (λ v. is_between from to v.data_timestamp)
             (table_of self.now).versions }
     {
         self.history.has_between(from, to)

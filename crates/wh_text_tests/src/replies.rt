@@ -1,8 +1,8 @@
-//! The lines of limits and of tasks, to which no script comes.
+//! The lines of limits, of tasks and of dynamic tables, to which no script comes.
 
 use std::alloc::Global;
 use std::process::Abort;
-use wh_reply::{Aftermath, GraphEnd, Refusal, Reply, RowCounts};
+use wh_reply::{Aftermath, GraphEnd, RefreshAction, Refreshed, Refusal, Reply, RowCounts};
 use wh_text::print_reply;
 use wh_value::{Bytes, Limit, Text};
 
@@ -148,6 +148,92 @@ fn tasks_are_printed(rt: HostRuntime) {
             "a task follows",
             Reply::Refused(Refusal::HasChildren(named(&rt, alloc, b'B'))),
             b"E12 HasChildren B\n".as_slice(),
+        ),
+    ];
+    for (name, reply, want) in cases {
+        assert_printed(&rt, alloc, name, reply, want);
+    }
+}
+
+fn refreshed(rt: &impl Abort, alloc: Global) -> Vec<Refreshed> {
+    let kept = Refreshed {
+        name: named(rt, alloc, b'D'),
+        moment: 48000,
+        action: RefreshAction::NoData,
+        plus: 0,
+        minus: 0,
+    };
+    let carried = Refreshed {
+        name: named(rt, alloc, b'E'),
+        moment: 48000,
+        action: RefreshAction::Incremental,
+        plus: 12,
+        minus: 3,
+    };
+    vec![in alloc; kept, carried].expect(rt, "memory")
+}
+
+#[test]
+fn dynamic_tables_are_printed(rt: HostRuntime) {
+    let alloc = rt.alloc();
+    let cases = [
+        (
+            "made and initialized",
+            Reply::CreatedDynamicTable {
+                name: named(&rt, alloc, b'E'),
+                refreshed: refreshed(&rt, alloc),
+            },
+            b"CREATED DYNAMIC TABLE E\nD REFRESHED 48000 NO_DATA +0 -0\n\
+            E REFRESHED 48000 INCREMENTAL +12 -3\n"
+                .as_slice(),
+        ),
+        (
+            "dropped",
+            Reply::DroppedDynamicTable(named(&rt, alloc, b'D')),
+            b"DROPPED DYNAMIC TABLE D\n".as_slice(),
+        ),
+        (
+            "altered",
+            Reply::Altered(named(&rt, alloc, b'D')),
+            b"ALTERED D\n".as_slice(),
+        ),
+        (
+            "refreshed",
+            Reply::RefreshedTables(Vec::new(alloc)),
+            b"".as_slice(),
+        ),
+        (
+            "failed",
+            Reply::RefreshFailed {
+                name: named(&rt, alloc, b'D'),
+                target: 96000,
+                why: Refusal::SourceGone(named(&rt, alloc, b'D')),
+                is_suspended: true,
+            },
+            b"D FAILED 96000 E15 SourceGone D SUSPENDED\n".as_slice(),
+        ),
+        (
+            "changes can't be carried",
+            Reply::Refused(Refusal::NotIncrementable),
+            b"E10 NotIncrementable\n".as_slice(),
+        ),
+        (
+            "a lag is too short",
+            Reply::Refused(Refusal::LagTooShort {
+                lag: 60,
+                upstream: 120,
+            }),
+            b"E11 LagTooShort 60 120\n".as_slice(),
+        ),
+        (
+            "no rows yet",
+            Reply::Refused(Refusal::NotInitialized(named(&rt, alloc, b'D'))),
+            b"E14 NotInitialized D\n".as_slice(),
+        ),
+        (
+            "suspended",
+            Reply::Refused(Refusal::IsSuspended(named(&rt, alloc, b'D'))),
+            b"E17 Suspended D\n".as_slice(),
         ),
     ];
     for (name, reply, want) in cases {

@@ -18,3 +18,4 @@ pub mod Starts
 pub mod TurnoverLaws
 pub mod ArrivalLaws
 pub mod FrontLaws
+pub mod VersionTimes

@@ -107,9 +107,11 @@ module _ (v : StoredVersion) (nothing : v.content ≡ []) where
       by_count zero is arrived = absurd (omega arith)
       by_count (suc m) is arrived =
           let same : m ≡ suc m - 1 = omega arith in
-          let less : m ≡ count_by stamp vs = omega arith in
-          (omega arith, subst (λ k. IsFront stamp k came vs) same
-          (record { counted = less; arrived = arrived_behind m vs came arrived }))
+          let less : m ≡ count_by stamp vs = omega arith in (
+            omega arith,
+            subst (λ k. IsFront stamp k came vs) same
+                (record { counted = less; arrived = arrived_behind m vs came arrived }),
+          )
 
 -- ---- last ones
 
