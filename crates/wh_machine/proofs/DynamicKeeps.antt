@@ -16,11 +16,12 @@ use Rattle.wh_algebra.specs.Increments.{incrementable}
 use Rattle.wh_ddl_naming.specs.DynamicTables.{NewDynamicTable, inside, new_dynamic_table}
 use Rattle.wh_reply.specs.Reply.{Refusal, Reply, NotIncrementable, CreatedDynamicTable, RefreshedTables}
 use Rattle.wh_reply.specs.Reply.{RefreshFailed}
+use Rattle.wh_state.proofs.PlaceLaws.{at_front, at_either}
 use Rattle.wh_state.specs.State.{State, Object, DynamicKind, new_object, empty_table, at_id, table_in}
 use Rattle.wh_state.specs.Dynamic.{DynamicState, Dynamic, new_dynamic}
 use Rattle.wh_state.specs.Objects.{as_table, dynamic_at, table_at, name_at}
 use Rattle.wh_state.specs.Act.{PutsDynamic}
-use Rattle.wh_state.proofs.SoundObjects.{IsKept, IsDynamicAt, found_dynamic, sound_at, at_front, at_either}
+use Rattle.wh_state.proofs.SoundObjects.{IsKept, IsDynamicAt, found_dynamic, sound_at}
 use Rattle.wh_state.proofs.SoundTables.{IsFresh}
 use Rattle.wh_state.proofs.SoundLaws.{MayMake, MayPut, AreKeeping, no_act, make_act, put_act, acts_kept, kept_later}
 use Rattle.wh_state.proofs.PlainActs.{fresh_at}
@@ -139,8 +140,8 @@ module _ (m : Machine) (t : CreateDynamicTable) where
 abbrev pub IsModest : (DynamicState → DynamicState) → Type 0
 IsModest new = (s : DynamicState) → ((new s).moment ≡ s.moment) × ((new s).tried ≤ s.tried)
 
-pub altered_keeps : (m : Machine) (reply : Reply) (id : ℕ) (new : DynamicState → DynamicState) → IsModest new → IsReady m
-    → IsKeeping m (alters m reply id new)
+pub altered_keeps : (m : Machine) (reply : Reply) (id : ℕ) (new : DynamicState → DynamicState) → IsModest new
+    → IsReady m → IsKeeping m (alters m reply id new)
 altered_keeps m reply id new modest ready = by_found (dynamic_at m.state.objects id) refl
   where
     puts : (d : Dynamic) → dynamic_at m.state.objects id ≡ Some d

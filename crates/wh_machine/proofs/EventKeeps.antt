@@ -129,8 +129,8 @@ rollback_keeps m session (Some t) ready = does m RolledBack _ None tt (put_table
 
 statement_keeps : (m : Machine) (session : ℕ) (x : trees.Statement) → IsReady m
     → IsKeeping m (carried_out_as m session (meant_in m x))
-unfolding carried_out ddl.bound begin commit rollback changes_rows selects has_data create_table drop_table create_stream
-    drop_stream create_task resume_task suspend_task execute_task drop_task resume_dynamic suspend_dynamic
+unfolding carried_out ddl.bound begin commit rollback changes_rows selects has_data create_table drop_table
+    create_stream drop_stream create_task resume_task suspend_task execute_task drop_task resume_dynamic suspend_dynamic
     refresh_dynamic set_lag drop_dynamic
 statement_keeps m session st.Begin ready = tested m _ _ ready (begun_keeps m session ready)
 statement_keeps m session st.Commit ready = commit_keeps m session (transaction_in m.sessions session) refl ready
@@ -141,7 +141,8 @@ statement_keeps m session (st.Select q sorts) ready =
     tested m _ _ ready (listed_rows m (bound_select (names_in m.state.objects).objects q sorts) _ ready)
 statement_keeps m session (st.HasData name) ready = tested m _ _ ready (asked_keeping m session _ _ ready)
 statement_keeps m session (st.CreateTable t) ready =
-    definition m session _ _ ready (tested m _ _ ready (created m (bound_table (names_in m.state.objects) t).value ready))
+    definition m session _ _ ready (tested m _ _ ready
+    (created m (bound_table (names_in m.state.objects) t).value ready))
 statement_keeps m session (st.DropTable name) ready =
     definition m session _ _ ready (tested m _ _ ready (dropped m _ _ ready))
 statement_keeps m session (st.CreateStream name source is_append_only) ready =
@@ -182,7 +183,8 @@ failed_keeps : (m : Machine) (root : ℕ) (r : Task) (task : ℕ) (why : Refusal
 failed_keeps m root r task why ready = ends_keep m root r task Failed _ [] ready (no_more_edit tt)
 
 -- its statement as a transaction of its own
-carried_keeps : (m : Machine) (root : ℕ) (r : Task) (task : ℕ) (c : Changed) → IsReady m → ChangesTable m.state.objects c
+carried_keeps : (m : Machine) (root : ℕ) (r : Task) (task : ℕ) (c : Changed) → IsReady m
+    → ChangesTable m.state.objects c
     → IsKeeping m (carried_in m root r task (changes_in m 0 None c))
 unfolding staged
 carried_keeps m root r task (Fails why) ready table = failed_keeps m root r task why ready

@@ -12,6 +12,7 @@ pub mod KeepingLaws
 pub mod TableNamed
 pub mod PlainLaws
 pub mod AfterLaws
+pub mod BroughtOne
 pub mod BroughtLaws
 pub mod MadeQuery
 pub mod RefreshKeeps
@@ -20,6 +21,7 @@ pub mod EventKeeps
 pub mod SoundLaws
 pub mod LaterLaws
 pub mod OneMoment
+pub mod RefreshedNow
 pub mod ConsumingLaws
 pub mod MoveLaws
 pub mod ReadLaws

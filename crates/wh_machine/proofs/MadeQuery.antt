@@ -16,11 +16,11 @@ use Rattle.wh_ddl_naming.specs.Names.{query_names}
 use Rattle.wh_ddl_naming.specs.DynamicTables.{inside}
 use Rattle.wh_ddl_naming.proofs.QueryLaws.{query_alike}
 use Rattle.wh_ddl_naming.proofs.SourceLaws.{id_in, query_sourced}
+use Rattle.wh_state.proofs.PlaceLaws.{at_within}
 use Rattle.wh_state.specs.State.{Kind, TableKind, StreamKind, TaskKind, DynamicKind, Object, at_id}
 use Rattle.wh_state.specs.Dynamic.{Source}
 use Rattle.wh_state.specs.Bound.{named_as, names_among, query_bound}
 use Rattle.wh_state.proofs.AllLaws.{all_map}
-use Rattle.wh_state.proofs.SoundObjects.{at_within}
 use Rattle.wh_machine.specs.Names.{named_object, names_from}
 use Rattle.wh_machine.specs.Dynamics.{sources_named}
 use Rattle.wh_machine.proofs.TableNamed.{IsObjectAt, object_of}

@@ -3,7 +3,7 @@
 --     moment_after       so they are behind each run of events of a sound machine
 --     refresh_stands     a refresh brings the table, and each dynamic table upstream, to its moment
 --     refreshed_to       so their rows are behind it those of their queries over tables alone for that one moment
-use Rattle.std.proofs.Common.{◌≡◌, ℕ, suc, ◌<◌, ◌≤◌, ◌⊎◌, inl, inr, Bool, true, false, List, [], ◌∷◌, ◌++◌, map}
+use Rattle.std.proofs.Common.{◌≡◌, ℕ, suc, ◌<◌, ◌≤◌, Bool, true, false, List, [], ◌∷◌, map}
 use Rattle.std.proofs.Common.{Option, Some, None, option_map, refl, sym, ap, subst, ◌∙◌, arith}
 use Rattle.std.specs.List.{AllByRecursion, filter, flat_map}
 use Rattle.std.specs.Option.{IfSome, option_and_then, option_map_or}
@@ -12,8 +12,9 @@ use Rattle.std.specs.Prelude.{◌||◌, nat_eq}
 use Rattle.std.proofs.lemmas.Bool.Decides.{nat_tests}
 use Rattle.wh_meaning.specs.Bag.{bag_of, no_rows}
 use Rattle.wh_reply.specs.Reply.{Refusal, Refreshed}
+use Rattle.wh_state.proofs.PlaceLaws.{at_within}
 use Rattle.wh_state.specs.State.{Object, Table, State, at_id, table_in, last_rows}
-use Rattle.wh_state.specs.Dynamic.{Dynamic, ids_read}
+use Rattle.wh_state.specs.Dynamic.{Dynamic}
 use Rattle.wh_state.specs.Objects.{as_table, as_dynamic, table_at, dynamic_at}
 use Rattle.wh_state.specs.Moments.{given_by, over_tables}
 use Rattle.wh_state.specs.Edits.{is_among}
@@ -21,12 +22,14 @@ use Rattle.wh_state.specs.Act.{Act, all_acted, done}
 use Rattle.wh_state.specs.Sound.{Sound}
 use Rattle.wh_state.proofs.AllLaws.{among_all}
 use Rattle.wh_state.proofs.EvaluatedLaws.{ids_read_hold}
-use Rattle.wh_state.proofs.SoundObjects.{IsKept, IsDynamicAt, found_dynamic, at_within, sound_at}
+use Rattle.wh_state.proofs.SoundObjects.{IsKept, IsDynamicAt, found_dynamic, sound_at}
 use Rattle.wh_state.proofs.SoundLaws.{kept_later}
 use Rattle.wh_moment.specs.Upstream.{Watched, Dynamics, dynamics_of, is_below, stands_below, brought}
 use Rattle.wh_moment.proofs.UpstreamLaws.{RiseFrom, brought_rise}
+use Rattle.wh_machine.proofs.BroughtOne.{brought_moment, one_spares, one_stands}
 use Rattle.wh_machine.specs.Tests.{first_of}
-use Rattle.wh_machine.specs.Refresh.{Brought, brought_one, acts_of_one, brought_then, brought_all, number_refusal, first_lost}
+use Rattle.wh_machine.specs.Refresh.{Brought, brought_one, acts_of_one, brought_then, brought_all, number_refusal}
+use Rattle.wh_machine.specs.Refresh.{first_lost}
 use Rattle.wh_machine.specs.Refresh.{told_of, Brings, unless_past, refresh_by, with_upstream, refresh}
 use Rattle.wh_machine.specs.Outcome.{Machine}
 use Rattle.wh_machine.specs.Step.{Event, after}
@@ -34,7 +37,7 @@ use Rattle.wh_machine.specs.Sound.{SoundMachine}
 use Rattle.wh_machine.specs.OneMoment.{IsOfOneMoment, StandsAt}
 use Rattle.wh_machine.proofs.TaskActs.{acted_append}
 use Rattle.wh_machine.proofs.RefreshLaws.{brought_id}
-use Rattle.wh_machine.proofs.BroughtLaws.{brought_moment, one_spares, one_stands, rise_all}
+use Rattle.wh_machine.proofs.BroughtLaws.{rise_all}
 use Rattle.wh_machine.proofs.RefreshKeeps.{IsWatched, watched_of, among_filter, filter_among, not_below}
 use Rattle.wh_machine.proofs.SoundLaws.{sound_after}
 
@@ -128,7 +131,8 @@ brought_stand stamp moment (id ∷ ids) least objects rise all is =
             later.stand,
           );
           others = λ x none.
-              let both : (nat_eq x id ≡ false) × (is_among x ids ≡ false) = neither (nat_eq x id) (is_among x ids) none in
+              let both : (nat_eq x id ≡ false) × (is_among x ids ≡ false) =
+              neither (nat_eq x id) (is_among x ids) none in
               later.others x both.1
               ∙ one_spares stamp moment objects b x (λ at. apart x id both.0 (at ∙ same));
         })

@@ -12,6 +12,7 @@ use Rattle.std.specs.FinMap.{get, entries, get-insert, get-empty}
 use Rattle.std.specs.Cmp.{nat_cmp_total}
 use Rattle.std.specs.Ordering.{nat_cmp, eq_by_cmp}
 use Rattle.wh_reply.specs.Reply.{Reply}
+use Rattle.wh_state.proofs.StillActs.{IsStill}
 use Rattle.wh_state.specs.State.{Kind, TableKind, StreamKind, TaskKind, DynamicKind, Object, Stream, at_id, dynamic_in}
 use Rattle.wh_state.specs.Task.{Task, Ending}
 use Rattle.wh_state.specs.Objects.{is_table, as_dynamic, table_at, stream_at, dynamic_at}
@@ -19,7 +20,6 @@ use Rattle.wh_state.specs.Act.{Act, MakesTable, DropsObject, EditsRows, MakesStr
 use Rattle.wh_state.specs.Act.{BeginsRun, EndsTask, MakesDynamic, PutsDynamic, RefreshesRows}
 use Rattle.wh_state.proofs.AllLaws.{all_map, all_append, all_filter, all_with}
 use Rattle.wh_state.proofs.RowLaws.{number_tied}
-use Rattle.wh_state.proofs.SoundLaws.{IsStill}
 use Rattle.wh_state.proofs.PlainActs.{ArePlain, no_more_edit, plain_edit, plain_keep}
 use Rattle.wh_effect.specs.Effect.{Effect}
 use Rattle.wh_machine.specs.Offsets.{offset_move, offset_moves, acts_of_commit}
@@ -111,7 +111,8 @@ edits_plain stamp least objects (entry ∷ others) more rising tables still =
     plain_edit rising.0 (no_dynamic objects entry.0 tables.0)
     (edits_plain stamp (suc entry.0) objects others more rising.1 tables.1 still)
 
-pub plain_more : (stamp : ℕ) (objects : List Object) (least : ℕ) (acts more : List Act) → ArePlain stamp objects least acts
+pub plain_more : (stamp : ℕ) (objects : List Object) (least : ℕ) (acts more : List Act)
+    → ArePlain stamp objects least acts
     → AllByRecursion (IsStill stamp) more → ArePlain stamp objects least (acts ++ more)
 plain_more stamp objects least acts more (no_more_edit still) others =
     no_more_edit (all_append (IsStill stamp) acts more still others)

@@ -9,6 +9,7 @@ use Rattle.std.specs.List.{AllByRecursion, filter, flat_map}
 use Rattle.std.specs.Option.{IfSome, option_map_or}
 use Rattle.std.proofs.lemmas.Bool.Decides.{nat_tests}
 use Rattle.wh_reply.specs.Reply.{Refusal}
+use Rattle.wh_state.proofs.PlaceLaws.{at_within}
 use Rattle.wh_state.specs.State.{Kind, TableKind, StreamKind, TaskKind, DynamicKind, Object, State, at_id}
 use Rattle.wh_state.specs.Dynamic.{DynamicState, Dynamic, ids_read}
 use Rattle.wh_state.specs.Objects.{dynamic_at}
@@ -17,7 +18,7 @@ use Rattle.wh_state.specs.Sound.{IsSoundKind, ReadsEarlier}
 use Rattle.wh_state.proofs.AllLaws.{all_both}
 use Rattle.wh_state.proofs.IdLaws.{map_at}
 use Rattle.wh_state.proofs.EvaluatedLaws.{ids_read_hold}
-use Rattle.wh_state.proofs.SoundObjects.{IsKept, IsDynamicAt, found_dynamic, at_within}
+use Rattle.wh_state.proofs.SoundObjects.{IsKept, IsDynamicAt, found_dynamic}
 use Rattle.wh_state.proofs.SoundLaws.{AreKeeping}
 use Rattle.wh_moment.specs.Upstream.{Watched, Dynamics, watched, watched_object, dynamics_of, watched_at, upstream}
 use Rattle.wh_moment.specs.Upstream.{is_below, stands_below, brought}
@@ -44,7 +45,8 @@ watched_is objects id o there =
     ap (λ (found : Option (Option Watched)). unwrap_or found None)
     (map_at watched_object objects id ∙ ap (option_map watched_object) there)
 
-pub watched_of : (objects : List Object) (id : ℕ) (d : Dynamic) → dynamic_at objects id ≡ Some d → IsWatched objects id d
+pub watched_of : (objects : List Object) (id : ℕ) (d : Dynamic) → dynamic_at objects id ≡ Some d
+    → IsWatched objects id d
 watched_of objects id d is =
     let at : IsDynamicAt objects id d = found_dynamic objects id d is in record {
       w = record {
@@ -145,7 +147,8 @@ pub not_below : (target moment : ℕ) → (nat_eq moment 0 || nat_lt moment targ
 not_below target moment test = grind (arith, nat_tests)
 
 module _ (objects : List Object) (id moment : ℕ) (earlier : ReadsEarlier objects) (some : 0 < moment)
-    (most : (x : ℕ) → is_among x (upstream (dynamics_of objects) id) ≡ true → moment_at (dynamics_of objects) x ≤ moment) where
+    (most : (x : ℕ) → is_among x (upstream (dynamics_of objects) id) ≡ true
+    → moment_at (dynamics_of objects) x ≤ moment) where
   abbrev seen : Dynamics
   seen = dynamics_of objects
 
@@ -261,7 +264,8 @@ refresh_keeps s besides id moment some within most kept fresh =
     ids : List ℕ
     ids = filter (stands_below (dynamics_of s.objects) moment) (upstream (dynamics_of s.objects) id ++ id ∷ [])
 
-    by_limit : (found : Option Refusal) (all : List Brought) → AreKeeping s.last s.objects (flat_map (acts_of_one moment) all)
+    by_limit : (found : Option Refusal) (all : List Brought)
+        → AreKeeping s.last s.objects (flat_map (acts_of_one moment) all)
         → RefreshKeeps s (unless_past found (map (told_of s.objects moment) all) (flat_map (acts_of_one moment) all))
     by_limit (Some why) all keeps = tt
     by_limit None all keeps = keeps

@@ -62,7 +62,7 @@ sound_ready m e sound = record {
   tables = sound.tables;
 }
 
-is_ready : (m : Machine) (e : Event) → SoundMachine m → IsReady (ready m e)
+pub is_ready : (m : Machine) (e : Event) → SoundMachine m → IsReady (ready m e)
 is_ready m e sound =
     let at : SoundMachine (ready m e) = sound_ready m e sound in record {
       later = omega (arith, sound.state.ordered);

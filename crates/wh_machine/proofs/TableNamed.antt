@@ -169,7 +169,8 @@ table_changed m session x = by_refusal (change_refusal m session b) refl
 
     by_refusal : (found : Option Refusal) → change_refusal m session b ≡ found
         → ChangesTable m.state.objects (fails_or found
-        (given_on (streams_read m b) (instance_read m session b.sources) b (table_at (objects_seen m session) b.target)))
+        (given_on (streams_read m b) (instance_read m session b.sources) b
+        (table_at (objects_seen m session) b.target)))
     by_refusal (Some why) is = tt
     by_refusal None is =
         let names_pass = passed (naming_refusal b.findings b.is_wide) _ is in

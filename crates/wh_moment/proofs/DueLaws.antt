@@ -108,7 +108,8 @@ due_within all stamp due is each =
     by_found (Some w) = grid_within w.state.lag stamp
 
 -- none of some is greater than the greatest
-none_greater : (all : Dynamics) (ids : List ℕ) (x : ℕ) → is_among x ids ≡ true → moment_at all x ≤ greatest_moment all ids
+none_greater : (all : Dynamics) (ids : List ℕ) (x : ℕ) → is_among x ids ≡ true
+    → moment_at all x ≤ greatest_moment all ids
 none_greater all [] x is = absurd cc
 none_greater all (id ∷ ids) x is = by_test (nat_eq x id) refl is (λ is. none_greater all ids x is)
   where

@@ -65,7 +65,8 @@ rises_earlier : (least from : ℕ) (es : List (ℕ × Row)) → least ≤ from �
 rises_earlier least from [] h rises = tt
 rises_earlier least from (e ∷ es) h rises = (omega (arith, h, rises.0), rises.1)
 
-edited_rise : (edits : RowEdits) (least : ℕ) (es : List (ℕ × Row)) → RisesFrom least es → RisesFrom least (edited edits es)
+edited_rise : (edits : RowEdits) (least : ℕ) (es : List (ℕ × Row)) → RisesFrom least es
+    → RisesFrom least (edited edits es)
 edited_rise edits least [] rises = tt
 edited_rise edits least (e ∷ es) rises =
     by_edit (get edits e.0) (edited_rise edits (e.0 + 1) es rises.1)

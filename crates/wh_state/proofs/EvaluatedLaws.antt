@@ -1,7 +1,7 @@
 -- What the query of a dynamic table gives, as objects change.
 --     rows_kept                     a version for a later moment leaves the rows for a time as they were
---     IsNextKind, IsNextAt, Follows     objects that leave the rows of tables before a moment as they were, and those of
---                                   dynamic tables up to their own
+--     IsNextKind, IsNextAt, Follows     objects that leave the rows of tables before a moment as they were, and
+--                                   those of dynamic tables up to their own
 --     next_same, follows_refl       what stays follows itself
 --     bag_follows, bound_follows    the rows of a source, and what a query binds to
 --     ids_read_hold                 what holds of the ids that it is kept with
@@ -21,7 +21,8 @@ use Rattle.wh_ddl_naming.specs.Names.{query_names}
 use Rattle.wh_meaning.specs.Bag.{Bag, bag_of, no_rows}
 use Rattle.wh_meaning.specs.Query.{Instance, eval}
 use Rattle.wh_state.specs.State.{Version, Table, Kind, TableKind, StreamKind, TaskKind, DynamicKind, Object, Stream}
-use Rattle.wh_state.specs.State.{Rows, nothing_held, content_in, last_of, at_id, rows_at, last_rows, version_for, table_in, dynamic_in}
+use Rattle.wh_state.specs.State.{Rows, nothing_held, content_in, last_of, at_id, rows_at, last_rows, version_for}
+use Rattle.wh_state.specs.State.{table_in, dynamic_in}
 use Rattle.wh_state.specs.Task.{Task}
 use Rattle.wh_state.specs.Dynamic.{Source, DynamicQuery, Dynamic, id_named, ids_read}
 use Rattle.wh_state.specs.Objects.{as_table, as_dynamic, dynamic_at}
@@ -77,7 +78,8 @@ next_same before (DynamicKind d t) = next_dynamic refl refl refl (omega arith) (
 pub next_at : (before : ℕ) (found other : Option Object) → other ≡ found → IsNextAt before found other
 next_at before None other same = same
 next_at before (Some o) other same =
-    subst (λ (p : Option Object). IsSomeAnd p (λ p. IsNextKind before o.kind p.kind)) (sym same) (next_same before o.kind)
+    subst (λ (p : Option Object). IsSomeAnd p (λ p. IsNextKind before o.kind p.kind)) (sym same)
+    (next_same before o.kind)
 
 -- ---- the rows of a source
 
@@ -99,7 +101,8 @@ pub bag_follows : (before time : ℕ) (old new : List Object) → Follows before
     → time < before
     → IfSome (dynamic_at old id) (λ e. time ≤ e.state.moment)
     → bag_at new time id ≡ bag_at old time id
-bag_follows before time old new follows id there within up = by_found (at_id old id) (at_id new id) (follows id there) up
+bag_follows before time old new follows id there within up =
+    by_found (at_id old id) (at_id new id) (follows id there) up
   where
     by_found : (found other : Option Object) → IsNextAt before found other
         → IfSome (option_and_then as_dynamic found) (λ e. time ≤ e.state.moment)
@@ -232,7 +235,8 @@ pub written_same : (gives other : ℕ → Option Bag) (old new : List Object) (d
     → written_out gives new e ≡ written_out other old d
 unfolding written_out
 written_same gives other old new d e query bound same =
-    ap (λ (q : DynamicQuery). option_and_then (eval (query_bound new q).query) (all_given (map gives (ids_read q)))) query
+    ap (λ (q : DynamicQuery). option_and_then (eval (query_bound new q).query) (all_given (map gives (ids_read q))))
+    query
     ∙ ap (λ (b : BoundQuery). option_and_then (eval b.query) (all_given (map gives (ids_read d.query)))) bound
     ∙ ap (λ (bs : List (Option Bag)). option_and_then (eval (query_bound old d.query).query) (all_given bs))
     (given_alike gives other (ids_read d.query) same)
@@ -259,7 +263,8 @@ written_is gives objects moment d are =
 all_pass : {X : Type 0} (test : X → Bool) (xs : List X) → AllByRecursion (λ x. test x ≡ true) xs → filter test xs ≡ xs
 all_pass test [] are = refl
 all_pass test (x ∷ xs) are =
-    ap (λ (b : Bool). cond b (x ∷ filter test xs) (filter test xs)) are.0 ∙ ap (λ (l : List _). x ∷ l) (all_pass test xs are.1)
+    ap (λ (b : Bool). cond b (x ∷ filter test xs) (filter test xs)) are.0
+    ∙ ap (λ (l : List _). x ∷ l) (all_pass test xs are.1)
 
 pub rows_last : (t : Table) (time : ℕ) → AllByRecursion (λ v. v.data_timestamp ≤ time) t.versions
     → rows_at t time ≡ last_rows t

@@ -10,9 +10,11 @@ pub mod NextVersion
 pub mod ActLaws
 pub mod OrderlyLaws
 pub mod EvaluatedLaws
+pub mod PlaceLaws
 pub mod SoundObjects
 pub mod SoundTables
 pub mod AfterLaws
+pub mod StillActs
 pub mod SoundLaws
 pub mod PlainActs
 pub mod KnownMaps

@@ -5,6 +5,7 @@ use Rattle.std.proofs.Common.{◌≡◌, ℕ, suc, ◌<◌, ◌≤◌, ◌⊎◌
 use Rattle.std.proofs.Common.{option_map, refl, sym, ap, subst, ◌∙◌, arith}
 use Rattle.std.specs.List.{AllByRecursion}
 use Rattle.std.specs.Option.{IfSome, option_and_then}
+use Rattle.wh_state.proofs.StillActs.{IsStill}
 use Rattle.wh_state.specs.State.{Kind, TableKind, StreamKind, TaskKind, DynamicKind, Object, State, at_id, put_at}
 use Rattle.wh_state.specs.State.{changed_at, table_in, dynamic_in}
 use Rattle.wh_state.specs.Objects.{as_dynamic, as_table, table_at, dynamic_at}
@@ -17,7 +18,7 @@ use Rattle.wh_state.proofs.FoundLaws.{at_same, same_or_not}
 use Rattle.wh_state.proofs.IdLaws.{at_spared}
 use Rattle.wh_state.proofs.SoundObjects.{IsKept, AllBefore, moments_within}
 use Rattle.wh_state.proofs.SoundTables.{IsFresh}
-use Rattle.wh_state.proofs.SoundLaws.{IsStill, AreKeeping, no_act, still_act, edit_act, kept_later}
+use Rattle.wh_state.proofs.SoundLaws.{AreKeeping, no_act, still_act, edit_act, kept_later}
 
 -- over the objects that stood before the commit
 pub data ArePlain (stamp : ℕ) (start : List Object) : ℕ → List Act → Type 0 where

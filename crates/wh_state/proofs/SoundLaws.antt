@@ -1,8 +1,7 @@
 -- What is sound stays so.
 --     sound_first                  the first state is sound
 --     sound_rest                   so is a sound state as the file keeps it
---     IsStill                      an act that leaves the rows of tables and all of dynamic tables
---     MayEdit, MayMake, MayPut, MayRefresh     when acts of the others keep objects sound, by the objects that they meet
+--     MayEdit, MayMake, MayPut, MayRefresh     when other acts keep objects sound, by the objects that they meet
 --     AreKeeping, acts_kept        acts that do so, one after the other
 --     sound_done                   a commit of such acts at a later stamp
 use Rattle.std.proofs.Common.{◌≡◌, ℕ, zero, suc, ◌<◌, ◌≤◌, ◌⊎◌, inl, inr, Bool, List, [], ◌∷◌, ◌++◌, length, Option}
@@ -14,108 +13,32 @@ use Rattle.wh_meaning.specs.Bag.{bag_of}
 use Rattle.wh_value.specs.Column.{Column}
 use Rattle.wh_naming.specs.Select.{BoundQuery}
 use Rattle.wh_algebra.specs.Increments.{incrementable}
+use Rattle.wh_state.proofs.PlaceLaws.{changed_twice}
 use Rattle.wh_state.specs.State.{Table, Kind, TableKind, StreamKind, TaskKind, DynamicKind, Object, State}
-use Rattle.wh_state.specs.State.{dropped, first_state, at_rest, at_id, changed_at, on_task, on_dynamic, dynamic_in}
+use Rattle.wh_state.specs.State.{first_state, at_rest, at_id, changed_at, on_dynamic, dynamic_in}
 use Rattle.wh_state.specs.State.{last_rows, empty_table, table_in}
-use Rattle.wh_state.specs.Task.{Task, with_state, with_run, with_ended}
 use Rattle.wh_state.specs.Dynamic.{DynamicQuery, DynamicState, Dynamic, new_dynamic, with_dynamic_state, ids_read}
 use Rattle.wh_state.specs.Objects.{as_dynamic, as_table, table_at, dynamic_at}
 use Rattle.wh_state.specs.Bound.{query_bound}
 use Rattle.wh_state.specs.Moments.{evaluated_at, written_out, over_tables, StandsFor}
 use Rattle.wh_state.specs.Edits.{Edits}
-use Rattle.wh_state.specs.Act.{Act, MakesTable, DropsObject, EditsRows, MakesStream, MovesOffset, MakesTask, PutsTask}
-use Rattle.wh_state.specs.Act.{BeginsRun, EndsTask, MakesDynamic, PutsDynamic, RefreshesRows, edited_table, edited_kind}
-use Rattle.wh_state.specs.Act.{edited_object, moved_kind, moved_object, on_task_object, on_dynamic_object, acted}
-use Rattle.wh_state.specs.Act.{all_acted}
+use Rattle.wh_state.specs.Act.{Act, EditsRows}
+use Rattle.wh_state.specs.Act.{MakesDynamic, PutsDynamic, RefreshesRows, edited_table, edited_kind}
+use Rattle.wh_state.specs.Act.{edited_object, on_dynamic_object, acted, all_acted}
 use Rattle.wh_state.specs.Act.{done}
 use Rattle.wh_state.specs.Sound.{IsTimelyFor, IsOlder, IsSoundDynamic, IsSoundKind, IsSoundObject, Sound}
 use Rattle.wh_state.proofs.AllLaws.{all_map}
-use Rattle.wh_state.proofs.EvaluatedLaws.{IsNextKind, next_table, next_stream, next_task, next_dynamic, next_same, Follows}
-use Rattle.wh_state.proofs.EvaluatedLaws.{rows_kept, IsThere, bound_follows, StandFrom, StandAt, stand_from, evaluated_follows}
+use Rattle.wh_state.proofs.EvaluatedLaws.{IsNextKind, next_table, next_stream, next_task, next_dynamic, next_same}
+use Rattle.wh_state.proofs.EvaluatedLaws.{Follows}
+use Rattle.wh_state.proofs.EvaluatedLaws.{rows_kept, IsThere, bound_follows, StandFrom, StandAt, stand_from}
+use Rattle.wh_state.proofs.EvaluatedLaws.{evaluated_follows}
 use Rattle.wh_state.proofs.EvaluatedLaws.{ids_read_hold}
 use Rattle.wh_state.proofs.SoundObjects.{IsKept, kept_of, all_sound, dynamic_there}
 use Rattle.wh_state.proofs.SoundObjects.{reads_there, AllBefore, moments_within, all_stand, written_follows}
 use Rattle.wh_state.proofs.SoundObjects.{written_evaluated}
-use Rattle.wh_state.proofs.SoundObjects.{more_follow, changed_twice, changed_kept, more_kept, older_follows, kind_follows}
-use Rattle.wh_state.proofs.SoundTables.{IsFresh, table_later, new_sound, edited_sound, IsRefreshed, refreshed_sound}
-
--- ---- acts that leave rows and dynamic tables
-
--- no version, and no dynamic table; an offset that moves isn't after the stamp
-abbrev pub IsStill : ℕ → Act → Type 0
-IsStill stamp (MovesOffset id offset) = offset ≤ stamp
-IsStill stamp (EditsRows id e) = ⊥
-IsStill stamp (MakesDynamic name lag is_incremental query columns) = ⊥
-IsStill stamp (PutsDynamic id state) = ⊥
-IsStill stamp (RefreshesRows id moment e) = ⊥
-IsStill stamp _ = Unit {0}
-
--- one object, whose rows stay and which keeps the state that it has as a dynamic table
-still_changed : (stamp : ℕ) (objects : List Object) (id : ℕ) (f : Object → Object) → IsKept stamp objects
-    → ((o : Object) → IsNextKind (suc stamp) o.kind (f o).kind)
-    → ((all : List Object) (o : Object) → IsSoundKind stamp all o.kind → IsSoundKind stamp all (f o).kind)
-    → IsKept stamp (changed_at objects id f)
-still_changed stamp objects id f kept next sound =
-    changed_kept (suc stamp) stamp objects id f kept (moments_within stamp objects kept) (λ o there. next o)
-    (λ follows o there. sound (changed_at objects id f) o (follows_kind follows o there))
-  where
-    follows_kind : Follows (suc stamp) objects (changed_at objects id f) → (o : Object) → at_id objects id ≡ Some o
-        → IsSoundKind stamp (changed_at objects id f) o.kind
-    follows_kind follows o there =
-        kind_follows (suc stamp) stamp objects (changed_at objects id f) follows kept (moments_within stamp objects kept)
-        id o there
-
-moved_next : (before offset : ℕ) (k : Kind) → IsNextKind before k (moved_kind offset k)
-moved_next before offset (TableKind t) = next_same before (TableKind t)
-moved_next before offset (StreamKind s) = next_stream refl
-moved_next before offset (TaskKind t) = next_task
-moved_next before offset (DynamicKind d t) = next_same before (DynamicKind d t)
-
-moved_sound : (stamp offset : ℕ) → offset ≤ stamp → (all : List Object) (k : Kind) → IsSoundKind stamp all k
-    → IsSoundKind stamp all (moved_kind offset k)
-moved_sound stamp offset h all (TableKind t) sound = sound
-moved_sound stamp offset h all (StreamKind s) sound = h
-moved_sound stamp offset h all (TaskKind t) sound = tt
-moved_sound stamp offset h all (DynamicKind d t) sound = sound
-
-task_next : (before : ℕ) (f : Task → Task) (k : Kind) → IsNextKind before k (on_task f k)
-task_next before f (TableKind t) = next_same before (TableKind t)
-task_next before f (StreamKind s) = next_same before (StreamKind s)
-task_next before f (TaskKind t) = next_task
-task_next before f (DynamicKind d t) = next_same before (DynamicKind d t)
-
-task_sound : (stamp : ℕ) (f : Task → Task) (all : List Object) (k : Kind) → IsSoundKind stamp all k
-    → IsSoundKind stamp all (on_task f k)
-task_sound stamp f all (TableKind t) sound = sound
-task_sound stamp f all (StreamKind s) sound = sound
-task_sound stamp f all (TaskKind t) sound = tt
-task_sound stamp f all (DynamicKind d t) sound = sound
-
-task_kept : (stamp : ℕ) (f : Task → Task) (objects : List Object) (id : ℕ) → IsKept stamp objects
-    → IsKept stamp (changed_at objects id (on_task_object f))
-task_kept stamp f objects id kept = still_changed stamp objects id (on_task_object f) kept
-    (λ o. task_next (suc stamp) f o.kind) (λ all o sound. task_sound stamp f all o.kind sound)
-
-still_kept : (stamp : ℕ) (objects : List Object) (act : Act) → IsStill stamp act → IsKept stamp objects
-    → IsKept stamp (acted stamp objects act)
-still_kept stamp objects (EditsRows id e) still kept = absurd still
-still_kept stamp objects (MakesDynamic name lag is_incremental query columns) still kept = absurd still
-still_kept stamp objects (PutsDynamic id state) still kept = absurd still
-still_kept stamp objects (RefreshesRows id moment e) still kept = absurd still
-still_kept stamp objects (MakesTable name columns retention) still kept =
-    more_kept stamp objects _ kept (new_sound columns retention stamp) (λ d is. absurd cc)
-still_kept stamp objects (MakesStream name source is_append_only) still kept =
-    more_kept stamp objects _ kept (omega arith) (λ d is. absurd cc)
-still_kept stamp objects (MakesTask name minutes after runs) still kept =
-    more_kept stamp objects _ kept tt (λ d is. absurd cc)
-still_kept stamp objects (DropsObject id) still kept =
-    still_changed stamp objects id dropped kept (λ o. next_same (suc stamp) o.kind) (λ all o sound. sound)
-still_kept stamp objects (MovesOffset id offset) still kept =
-    still_changed stamp objects id (moved_object offset) kept (λ o. moved_next (suc stamp) offset o.kind)
-    (λ all o sound. moved_sound stamp offset still all o.kind sound)
-still_kept stamp objects (PutsTask id state) still kept = task_kept stamp (with_state state) objects id kept
-still_kept stamp objects (BeginsRun root tasks) still kept = task_kept stamp (with_run tasks) objects root kept
-still_kept stamp objects (EndsTask root task ending) still kept = task_kept stamp (with_ended task ending) objects root kept
+use Rattle.wh_state.proofs.SoundObjects.{more_follow, changed_kept, more_kept, older_follows, kind_follows}
+use Rattle.wh_state.proofs.SoundTables.{IsFresh, table_later, edited_sound, IsRefreshed, refreshed_sound}
+use Rattle.wh_state.proofs.StillActs.{IsStill, still_kept}
 
 -- ---- a version of a base table
 
@@ -179,8 +102,8 @@ made_sound : (stamp : ℕ) (objects : List Object) (o : Object) (lag : ℕ) (is_
 made_sound stamp objects o lag is_incremental query columns may kept = record {
   created = omega arith;
   older = all_map (λ id. id ≤ length objects) (IsOlder (objects ++ o ∷ []) stamp)
-      (λ id here. older_follows (suc stamp) stamp objects (objects ++ o ∷ []) (more_follow (suc stamp) objects o) id here
-      (all_older stamp objects kept id))
+      (λ id here. older_follows (suc stamp) stamp objects (objects ++ o ∷ []) (more_follow (suc stamp) objects o) id
+      here (all_older stamp objects kept id))
       (ids_read query) (ids_read_hold (λ id. id ≤ length objects) (omega arith) query may.reads);
   moment = omega arith;
   tried = omega arith;
@@ -281,8 +204,8 @@ put_sound stamp objects all state d t kept may there follows sound = by_moment m
         })
         (λ zero. sound.none (omega (arith, same, zero)))
     by_moment (inr is) = with_moment is.within is.later (λ some. record {
-      rows = evaluated_follows (suc stamp) state.moment objects all follows d there (omega (arith, is.within)) (stand is)
-          ∙ is.same ∙ before is;
+      rows = evaluated_follows (suc stamp) state.moment objects all follows d there (omega (arith, is.within))
+          (stand is) ∙ is.same ∙ before is;
       sources = all_stand (suc stamp) state.moment objects all follows d there (stand is);
       whole = λ layers enough.
           written_follows (suc stamp) state.moment objects all follows kept.earlier (omega (arith, is.within)) layers d
@@ -447,8 +370,8 @@ keeping_append stamp objects (act ∷ acts) ys (still_act still rest) others =
 keeping_append stamp objects (EditsRows id e ∷ acts) ys (edit_act may rest) others =
     edit_act may (keeping_append stamp (acted stamp objects (EditsRows id e)) acts ys rest others)
 keeping_append stamp objects (MakesDynamic name lag is_incremental query columns ∷ acts) ys (make_act may rest) others =
-    make_act may (keeping_append stamp (acted stamp objects (MakesDynamic name lag is_incremental query columns)) acts ys
-    rest others)
+    make_act may (keeping_append stamp (acted stamp objects (MakesDynamic name lag is_incremental query columns)) acts
+    ys rest others)
 keeping_append stamp objects (PutsDynamic id state ∷ acts) ys (put_act may rest) others =
     put_act may (keeping_append stamp (acted stamp objects (PutsDynamic id state)) acts ys rest others)
 keeping_append stamp objects all ys (refresh_acts {id} {moment} {e} {state} {acts} may rest) others =

@@ -8,7 +8,6 @@
 use Rattle.std.proofs.Common.{◌≡◌, ℕ, zero, suc, ◌<◌, ◌≤◌, ◌⊎◌, inl, inr, List, [], ◌∷◌, ◌++◌, length, Option, Some}
 use Rattle.std.proofs.Common.{None}
 use Rattle.std.proofs.Common.{option_map, refl, sym, ap, subst, ◌∙◌, arith, IsTrue}
-use Rattle.std.specs.Prelude.{slice_get, slice_set}
 use Rattle.std.specs.List.{AllByRecursion}
 use Rattle.std.specs.Option.{IsSomeAnd, IfSome, option_and_then, option_map_or}
 use Rattle.std.specs.FinMap.{values}
@@ -16,7 +15,7 @@ use Rattle.wh_meaning.specs.Bag.{Bag, bag_of, no_rows}
 use Rattle.wh_naming.specs.Select.{BoundQuery}
 use Rattle.wh_algebra.specs.Increments.{incrementable}
 use Rattle.wh_state.specs.State.{Table, Kind, TableKind, StreamKind, TaskKind, DynamicKind, Object, at_id, changed_at}
-use Rattle.wh_state.specs.State.{Rows, rows_at, table_in, dynamic_in, with_id, put_at}
+use Rattle.wh_state.specs.State.{Rows, rows_at, table_in, dynamic_in, put_at}
 use Rattle.wh_state.specs.Dynamic.{DynamicQuery, Dynamic, ids_read}
 use Rattle.wh_state.specs.Objects.{as_table, as_dynamic, dynamic_at}
 use Rattle.wh_state.specs.Moments.{bag_at, evaluated_at, written_out, given_by, over_tables}
@@ -24,59 +23,11 @@ use Rattle.wh_state.specs.Sound.{IsTimelyFor, IsOlder, IsSoundDynamic, IsSoundKi
 use Rattle.wh_state.proofs.AllLaws.{all_map, all_both, all_at}
 use Rattle.wh_state.proofs.IdLaws.{at_spared}
 use Rattle.wh_state.proofs.FoundLaws.{at_same, same_or_not}
-use Rattle.wh_state.proofs.EvaluatedLaws.{IsNextKind, next_table, next_stream, next_task, next_dynamic, IsNextAt, Follows}
+use Rattle.wh_state.proofs.EvaluatedLaws.{IsNextKind, next_table, next_stream, next_task, next_dynamic, IsNextAt}
+use Rattle.wh_state.proofs.EvaluatedLaws.{Follows}
 use Rattle.wh_state.proofs.EvaluatedLaws.{StandAt, written_same, written_is, rows_last}
 use Rattle.wh_state.proofs.EvaluatedLaws.{next_at, IsThere, bound_follows, ids_read_hold, StandFrom, evaluated_follows}
-
--- ---- places
-
-get_within : {X : Type 0} (xs : List X) (place : ℕ) (x : X) → slice_get xs place ≡ Some x → place < length xs
-get_within [] place x there = absurd cc
-get_within (y ∷ ys) zero x there = omega arith
-get_within (y ∷ ys) (suc place) x there = omega (arith, get_within ys place x there)
-
--- the ids of a list go from 1 to its length
-pub at_within : {X : Type 0} (xs : List X) (id : ℕ) (x : X) → at_id xs id ≡ Some x → (0 < id) × (id ≤ length xs)
-at_within xs zero x there = absurd cc
-at_within xs (suc place) x there = (omega arith, omega (arith, get_within xs place x there))
-
-get_front : {X : Type 0} (xs ys : List X) (place : ℕ) → place < length xs
-    → slice_get (xs ++ ys) place ≡ slice_get xs place
-get_front [] ys place h = absurd (omega arith)
-get_front (x ∷ xs) ys zero h = refl
-get_front (x ∷ xs) ys (suc place) h = get_front xs ys place (omega (arith, h))
-
-pub at_front : {X : Type 0} (xs ys : List X) (id : ℕ) → id ≤ length xs → at_id (xs ++ ys) id ≡ at_id xs id
-at_front xs ys zero h = refl
-at_front xs ys (suc place) h = get_front xs ys place (omega (arith, h))
-
--- one of the list, or the one behind it
-get_either : {X : Type 0} (xs : List X) (x y : X) (place : ℕ) → slice_get (xs ++ x ∷ []) place ≡ Some y
-    → (place < length xs) ⊎ ((place ≡ length xs) × (x ≡ y))
-get_either [] x y zero is = inr (refl, cc)
-get_either [] x y (suc place) is = absurd cc
-get_either (z ∷ zs) x y zero is = inl (omega arith)
-get_either (z ∷ zs) x y (suc place) is = further (get_either zs x y place is)
-  where
-    further : (place < length zs) ⊎ ((place ≡ length zs) × (x ≡ y))
-        → (suc place < suc (length zs)) ⊎ ((suc place ≡ suc (length zs)) × (x ≡ y))
-    further (inl within) = inl (omega (arith, within))
-    further (inr last) = inr (ap suc last.0, last.1)
-
-pub at_either : {X : Type 0} (xs : List X) (x y : X) (id : ℕ) → at_id (xs ++ x ∷ []) id ≡ Some y
-    → (id ≤ length xs) ⊎ ((id ≡ suc (length xs)) × (x ≡ y))
-at_either xs x y zero is = absurd cc
-at_either xs x y (suc place) is = by_place (get_either xs x y place is)
-  where
-    by_place : (place < length xs) ⊎ ((place ≡ length xs) × (x ≡ y))
-        → (suc place ≤ length xs) ⊎ ((suc place ≡ suc (length xs)) × (x ≡ y))
-    by_place (inl within) = inl (omega (arith, within))
-    by_place (inr last) = inr (ap suc last.0, last.1)
-
-all_from : {X : Type 0} (P : X → Type 0) (xs : List X) → ((place : ℕ) (x : X) → slice_get xs place ≡ Some x → P x)
-    → AllByRecursion P xs
-all_from P [] each = tt
-all_from P (x ∷ xs) each = (each 0 x refl, all_from P xs (λ place y is. each (suc place) y is))
+use Rattle.wh_state.proofs.PlaceLaws.{at_within, at_front, at_either, all_from}
 
 -- ---- objects one by one
 
@@ -229,7 +180,8 @@ older_follows before created old new follows id there older =
     by_found (Some o) (Some p) is older = by_kind o.kind p.kind is older
 
 stand_follows : (before moment : ℕ) (old new : List Object) → Follows before old new → (id : ℕ) → id ≤ length old
-    → IfSome (dynamic_at old id) (λ e. moment ≤ e.state.moment) → IfSome (dynamic_at new id) (λ e. moment ≤ e.state.moment)
+    → IfSome (dynamic_at old id) (λ e. moment ≤ e.state.moment)
+    → IfSome (dynamic_at new id) (λ e. moment ≤ e.state.moment)
 stand_follows before moment old new follows id there up =
     by_found (at_id old id) (at_id new id) (follows id there) up
   where
@@ -342,32 +294,10 @@ kind_follows before stamp old new follows kept within id o there = by_kind o.kin
     by_kind (TaskKind t) is sound = tt
     by_kind (DynamicKind d t) is sound =
         let at : dynamic_at old id ≡ Some d = dynamic_there old id o d t there is in
-        dynamic_follows before stamp old new follows kept.earlier d t (reads_there old id d kept.earlier at) (within id d at) sound
+        dynamic_follows before stamp old new follows kept.earlier d t (reads_there old id d kept.earlier at)
+        (within id d at) sound
 
 -- ---- one that is changed
-
-get_set : {X : Type 0} (xs : List X) (place : ℕ) (x y : X)
-    → slice_set (slice_set xs place x) place y ≡ slice_set xs place y
-get_set [] place x y = refl
-get_set (z ∷ zs) zero x y = refl
-get_set (z ∷ zs) (suc place) x y = ap (λ (l : List _). z ∷ l) (get_set zs place x y)
-
-with_twice : {X : Type 0} (xs : List X) (id : ℕ) (x y : X) → with_id (with_id xs id x) id y ≡ with_id xs id y
-with_twice xs zero x y = refl
-with_twice xs (suc place) x y = get_set xs place x y
-
--- changed twice
-pub changed_twice : {X : Type 0} (f g : X → X) (xs : List X) (id : ℕ)
-    → changed_at (changed_at xs id f) id g ≡ changed_at xs id (λ x. g (f x))
-changed_twice f g xs id = by_found (at_id xs id) refl
-  where
-    by_found : (found : Option _) → at_id xs id ≡ found
-        → changed_at (put_at xs id (option_map f found)) id g ≡ put_at xs id (option_map (λ x. g (f x)) found)
-    by_found None none = ap (λ (found : Option _). put_at xs id (option_map g found)) none
-    by_found (Some x) there =
-        ap (λ (found : Option _). put_at (with_id xs id (f x)) id (option_map g found))
-        (ap (λ (found : Option _). at_id (put_at xs id (option_map f found)) id) (sym there) ∙ at_same f xs id x there)
-        ∙ with_twice xs id (f x) (g (f x))
 
 -- what stands at each id behind the change
 next_changed : (before : ℕ) (objects : List Object) (id : ℕ) (f : Object → Object)
@@ -375,7 +305,8 @@ next_changed : (before : ℕ) (objects : List Object) (id : ℕ) (f : Object →
     → IsNextAt before (at_id objects other) (at_id (changed_at objects id f) other)
 next_changed before objects id f next other = by_id (same_or_not other id)
   where
-    here : (found : Option Object) → at_id objects id ≡ found → IsNextAt before found (at_id (changed_at objects id f) id)
+    here : (found : Option Object) → at_id objects id ≡ found
+        → IsNextAt before found (at_id (changed_at objects id f) id)
     here None there = ap (λ (found : Option Object). at_id (put_at objects id (option_map f found)) id) there ∙ there
     here (Some o) there =
         subst (λ (p : Option Object). IsSomeAnd p (λ p. IsNextKind before o.kind p.kind))
@@ -383,8 +314,8 @@ next_changed before objects id f next other = by_id (same_or_not other id)
 
     by_id : (other ≡ id) ⊎ (other ≡ id → ⊥)
         → IsNextAt before (at_id objects other) (at_id (changed_at objects id f) other)
-    by_id (inl same) = subst (λ (n : ℕ). IsNextAt before (at_id objects n) (at_id (changed_at objects id f) n)) (sym same)
-        (here (at_id objects id) refl)
+    by_id (inl same) = subst (λ (n : ℕ). IsNextAt before (at_id objects n) (at_id (changed_at objects id f) n))
+        (sym same) (here (at_id objects id) refl)
     by_id (inr apart) = next_at before (at_id objects other) (at_id (changed_at objects id f) other)
         (at_spared f objects id other apart)
 

@@ -143,8 +143,8 @@ refreshed_sound stamp old objects d t moment e state is stand same whole sound =
           }) t.versions sound.timely)
           (record { stamp = omega arith; data_timestamp = omega (arith, is.brought) });
       rise = rise_more t.versions v (all_both (IsTimelyFor stamp d.state.moment) (λ u. u.stamp < stamp) (IsBefore v)
-          (λ u timely before. (before, omega (arith, timely.data_timestamp, is.later))) t.versions sound.timely is.fresh)
-          sound.rise;
+          (λ u timely before. (before, omega (arith, timely.data_timestamp, is.later))) t.versions sound.timely
+          is.fresh) sound.rise;
       below = all_below stamp moment e t sound.below;
       none_returns = none_more t.next_row t.versions v sound.below sound.none_returns
           (λ number before lacks. still_lacks t.next_row e (last_rows t) number (inl before) lacks);

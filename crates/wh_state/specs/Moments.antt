@@ -10,7 +10,8 @@ use Rattle.std.specs.Option.{IfSome, option_and_then, option_map_or}
 use Rattle.std.specs.FinMap.{values}
 use Rattle.wh_meaning.specs.Bag.{Bag, no_rows, bag_of}
 use Rattle.wh_meaning.specs.Query.{Instance, eval}
-use Rattle.wh_state.specs.State.{Kind, TableKind, StreamKind, TaskKind, DynamicKind, Object, Table, last_rows, rows_at, at_id}
+use Rattle.wh_state.specs.State.{Kind, TableKind, StreamKind, TaskKind, DynamicKind, Object, Table, last_rows}
+use Rattle.wh_state.specs.State.{rows_at, at_id}
 use Rattle.wh_state.specs.Objects.{table_at, dynamic_at}
 use Rattle.wh_state.specs.Dynamic.{Dynamic, ids_read}
 use Rattle.wh_state.specs.Bound.{query_bound}
