@@ -2,11 +2,14 @@
 --     walked_append      rows passed in two parts
 --     walked_apart       the rows that go, and those that are left to come
 --     bag_expanded, same_excess     the rows that come
+--     gone_rises, gone_count        the numbers of rows that go rise, and edits name so many
 use Rattle.std.proofs.Common.{◌≡◌, ℕ, zero, suc, ◌+◌, ◌-◌, ◌<◌, ◌≤◌, Bool, true, false, cond, List, [], ◌∷◌, ◌++◌, map, length}
-use Rattle.std.proofs.Common.{Option, Some, None, refl, sym, ap, subst, ◌∙◌, arith}
+use Rattle.std.proofs.Common.{Option, Some, None, refl, sym, ap, subst, ◌∙◌, arith, ◌==◌, Less, Equal, Greater}
 use Rattle.std.specs.Prelude.{nat_lt, is_some, not, replicate}
-use Rattle.std.specs.Ordering.{eq_by_cmp, nat_cmp}
-use Rattle.std.specs.FinMap.{FinMap, empty, get, insert, remove, entries, get-remove, get-insert, len, len-insert}
+use Rattle.std.specs.Ordering.{eq_by_cmp, nat_cmp, is_eq}
+use Rattle.std.specs.Cmp.{nat_cmp_total}
+use Rattle.std.specs.FinMap.{FinMap, empty, get, insert, remove, entries, get-empty, get-remove, get-insert, len}
+use Rattle.std.specs.FinMap.{len-empty, len-entries, len-insert}
 use Rattle.std.proofs.lemmas.Bool.Decides.{nat_tests}
 use Rattle.wh_value.specs.Value.{Row, row_cmp}
 use Rattle.wh_value.specs.Order.{row_total}
@@ -14,6 +17,9 @@ use Rattle.wh_meaning.specs.Bag.{Bag, no_rows, times, count, with_row, bag_of, a
 use Rattle.wh_meaning.specs.BagChange.{IsExcess}
 use Rattle.wh_meaning.proofs.BagLaws.{count-no_rows, count-insert, count-with_row, cond-same, tied_rows, rows_of}
 use Rattle.wh_meaning.proofs.BagLaws.{bag_of-rows_of, bag_of_same}
+use Rattle.wh_state.specs.State.{Rows}
+use Rattle.wh_state.specs.Edits.{RowEdits, with_removed}
+use Rattle.wh_state.proofs.RisingEntries.{map_rises}
 use Rattle.wh_moment.specs.Rebase.{KeptApart, less_by_count, without_row, gone_if, kept_apart}
 use Rattle.wh_refresh.specs.Walk.{Walked, nothing_walked, passed, walked, expanded}
 
@@ -179,12 +185,11 @@ removed_count edits least (n ∷ ns) rise free =
     omega (arith, more, rest)
   where
     apart : (q : ℕ) → n + 1 ≤ q → eq_by_cmp nat_cmp q n ≡ false
-    apart q h = by_order (nat_cmp q n) refl
-      where
-        by_order : (o : Ordering) → nat_cmp q n ≡ o → is_eq o ≡ false
-        by_order Less is = refl
-        by_order Greater is = refl
-        by_order Equal is = let same : q ≡ n = is-Equal-nat q n is in absurd (omega arith)
+    apart q h =
+        let above : nat_lt q n ≡ false = grind (arith, nat_tests) in
+        let other : (q == n) ≡ false = grind (arith, nat_tests) in
+        ap (λ (t : Bool). is_eq (cond t Less (cond (q == n) Equal Greater))) above
+        ∙ ap (λ (t : Bool). is_eq (cond t Equal Greater)) other
 
 pub gone_count : (ns : List ℕ) → RiseFrom 0 ns → length (entries (with_removed empty ns)) ≡ length ns
 gone_count ns rise =
