@@ -1,42 +1,48 @@
 -- What is brought to a moment, one table after the other.
 --     source_none, source_new, source_old     the rows of a source
---     fresh_none, fresh_new, fresh_old        whether it has new data
+--     same_there, none_there, between_meant     versions that are there, or to come
+--     fresh_none, fresh_in                    whether it has new data
 --     evaluated_over                          what a query gives over its sources
 --     one_without, one_bare, one_by           what is done to one table
 --     far_begun, far_further, far_stopped, far_done     several, by rising ids
 --     all_written                             the changes that say it
+--     suspended_found                         whether a table is suspended
 use Rattle.std.proofs.Common.{◌≡◌, ℕ, zero, suc, ◌+◌, ◌<◌, ◌≤◌, Bool, true, false, cond, List, [], ◌∷◌, ◌++◌, map, length}
 use Rattle.std.proofs.Common.{Option, Some, None, option_map, refl, sym, ap, subst, ◌∙◌, arith}
-use Rattle.std.specs.Prelude.{◌||◌, nat_eq, nat_lt}
-use Rattle.std.specs.List.{flat_map}
+use Rattle.std.specs.Prelude.{◌||◌, ◌&&◌, nat_eq, nat_le, nat_lt, is_some, unwrap_or}
+use Rattle.std.specs.List.{flat_map, list_any}
 use Rattle.std.specs.Option.{option_and_then, option_map_or}
 use Rattle.std.specs.FinMap.{values}
+use denote.Ref.{Bor}
 use Rattle.std.proofs.lemmas.Bool.Decides.{nat_tests}
 use Rattle.std.proofs.lemmas.List.{append-nil, append_assoc}
 use Rattle.wh_naming.specs.Select.{BoundQuery}
 use Rattle.wh_meaning.specs.Bag.{Bag, bag_of, no_rows}
 use Rattle.wh_meaning.specs.Query.{eval}
-use Rattle.wh_state.specs.State.{Version, Table, Object, Rows, last_rows, last_content, rows_at, content_in, nothing_held, version_for, at_id}
-use Rattle.wh_state.specs.Stored.{StoredObject}
+use Rattle.wh_state.specs.State.{Version, Table, Object, Kind, TableKind, StreamKind, TaskKind, DynamicKind, dynamic_in, Rows, last_rows, last_content, rows_at, content_in, nothing_held, version_for, at_id}
+use Rattle.wh_state.specs.Stored.{StoredObject, StoredVersion, StoredTable, version_meant, table_meant}
 use Rattle.wh_state.specs.Dynamic.{Dynamic, ids_read}
-use Rattle.wh_state.specs.Objects.{table_at, dynamic_at}
+use Rattle.wh_state.specs.Objects.{table_at, dynamic_at, as_dynamic}
 use Rattle.wh_state.specs.Bound.{query_bound}
 use Rattle.wh_state.specs.Moments.{bag_at, instance_at, evaluated_at}
 use Rattle.wh_state.specs.Edits.{Edits}
 use Rattle.wh_state.specs.Act.{Act, PutsDynamic, RefreshesRows, edited_table, next_contents}
 use Rattle.wh_state.specs.Commit.{Change, all_changed}
 use Rattle.wh_state.specs.Written.{written}
-use Rattle.wh_state.proofs.IdLaws.{last_more}
+use Rattle.wh_state.proofs.IdLaws.{last_more, map_at}
 use Rattle.wh_state.proofs.EndLaws.{written_append}
 use Rattle.wh_state.proofs.BroughtGoes.{refresh_of, one_leaves}
+use Rattle.wh_moment.specs.Upstream.{Watched, watched, watched_object, dynamics_of}
+use Rattle.wh_moment.specs.Moment.{is_suspended_at}
 use Rattle.wh_machine.specs.Refresh as machine
 use Rattle.wh_machine.specs.Refresh.{version_acts, acts_of_one, has_version_between, brought_all, brought_one, brought_by, action_of}
 use Rattle.wh_machine.specs.Refresh.{brought_then, brought_with}
 use Rattle.wh_machine.specs.Brought.{after_one, after_all, RiseAbove, AreAbove, sought, edits_sought}
 use Rattle.wh_machine.proofs.AfterLaws.{table_brought, table_after, dynamic_after, bound_after, refreshed_rows, refreshed_between, after_last}
 use Rattle.wh_refresh.specs.declared.brought.Brought.{Brought}
+use Rattle.wh_refresh.specs.declared.brought.NewRows.{NewRows}
 use Rattle.wh_refresh.specs.Sources.{is_new_at}
-use Rattle.wh_refresh.specs.Brought.{IsBrought, AreBrought, BringsOne, Brings, before, RiseBehind, BroughtSoFar}
+use Rattle.wh_refresh.specs.Brought.{IsRowsOf, IsBrought, AreBrought, BringsOne, Brings, before, RiseBehind, BroughtSoFar}
 use Rattle.wh_refresh.specs.Writing.{one_written}
 
 -- ---- sources
@@ -47,6 +53,39 @@ bag_in moment found = option_map_or (λ t. bag_of (values (rows_at t moment))) f
 nothing_brought : (stamp moment : ℕ) (edits : Option Edits) → table_brought stamp moment edits None ≡ None
 nothing_brought stamp moment None = refl
 nothing_brought stamp moment (Some e) = refl
+
+old_or : (a b : Bool) → a ≡ (a || (b && false))
+old_or true b = refl
+old_or false true = refl
+old_or false false = refl
+
+new_or : (a b : Bool) → (a || b) ≡ (a || (b && true))
+new_or true b = refl
+new_or false true = refl
+new_or false false = refl
+
+-- whether there is a version to come
+pub same_there : (stored : List StoredObject) (id : ℕ) (found : Option (Bor NewRows)) (edits : Option Edits)
+    → IsRowsOf stored id (option_map (λ (r : Bor NewRows). r.now) found) edits → is_some found ≡ is_some edits
+same_there stored id None None is = refl
+same_there stored id (Some r) (Some e) is = refl
+same_there stored id None (Some e) is = absurd is
+same_there stored id (Some r) None is = absurd is
+
+pub none_there : (stored : List StoredObject) (id : ℕ) (edits : Option Edits) → IsRowsOf stored id None edits
+    → edits ≡ None
+none_there stored id None is = refl
+none_there stored id (Some e) is = absurd is
+
+pub between_meant : (from to : ℕ) (t : StoredTable)
+    → list_any (λ v. nat_lt from v.data_timestamp && nat_le v.data_timestamp to) t.versions
+    ≡ has_version_between from to (table_meant t)
+between_meant from to t = each t.versions
+  where
+    each : (vs : List StoredVersion) → list_any (λ v. nat_lt from v.data_timestamp && nat_le v.data_timestamp to) vs
+        ≡ list_any (λ v. nat_lt from v.data_timestamp && nat_le v.data_timestamp to) (map version_meant vs)
+    each [] = refl
+    each (v ∷ vs) = ap (λ (t : Bool). (nat_lt from v.data_timestamp && nat_le v.data_timestamp to) || t) (each vs)
 
 module _ (stamp moment : ℕ) (bs : List machine.Brought) (objects : List Object) (above : AreAbove 0 bs) where
   abbrev after : List Object
@@ -77,18 +116,28 @@ module _ (stamp moment : ℕ) (bs : List machine.Brought) (objects : List Object
   fresh_none from id none = ap (λ (found : Option Table). option_map_or (has_version_between from moment) found false)
       (table_there id (edits_sought id bs) None refl none ∙ nothing_brought stamp moment (edits_sought id bs))
 
-  pub fresh_old : (from id : ℕ) (t : Table) → edits_sought id bs ≡ None → table_at objects id ≡ Some t
+  fresh_old : (from id : ℕ) (t : Table) → edits_sought id bs ≡ None → table_at objects id ≡ Some t
       → is_new_at after from moment id ≡ has_version_between from moment t
   fresh_old from id t is there =
       ap (λ (found : Option Table). option_map_or (has_version_between from moment) found false)
       (table_there id None (Some t) is there)
 
-  pub fresh_new : (from id : ℕ) (e : Edits) (t : Table) → edits_sought id bs ≡ Some e → table_at objects id ≡ Some t
+  fresh_new : (from id : ℕ) (e : Edits) (t : Table) → edits_sought id bs ≡ Some e → table_at objects id ≡ Some t
       → is_new_at after from moment id ≡ (has_version_between from moment t || nat_lt from moment)
   fresh_new from id e t is there =
       ap (λ (found : Option Table). option_map_or (has_version_between from moment) found false)
       (table_there id (Some e) (Some t) is there)
       ∙ refreshed_between stamp moment from e t
+
+  pub fresh_in : (from id : ℕ) (t : Table) → table_at objects id ≡ Some t → is_new_at after from moment id
+      ≡ (has_version_between from moment t || (nat_lt from moment && is_some (edits_sought id bs)))
+  fresh_in from id t there = by_edits (edits_sought id bs) refl
+    where
+      by_edits : (edits : Option Edits) → edits_sought id bs ≡ edits → is_new_at after from moment id
+          ≡ (has_version_between from moment t || (nat_lt from moment && is_some edits))
+      by_edits None is = fresh_old from id t is there ∙ old_or (has_version_between from moment t) (nat_lt from moment)
+      by_edits (Some e) is =
+          fresh_new from id e t is there ∙ new_or (has_version_between from moment t) (nat_lt from moment)
 
   -- ---- one table
 
@@ -254,3 +303,24 @@ all_written stamp moment least (b ∷ bs) now stored above same =
     (λ later h. leaves stamp moment b now later h ∙ same later (omega (arith, above.0))))
     ∙ ap (λ (l : List Change). l ++ flat_map (one_written stored moment) bs)
     (one_is stamp moment b now stored (same b.id above.0))
+
+-- ---- suspended
+
+pub suspended_found : (objects : List Object) (id : ℕ)
+    → option_map_or (λ d. d.state.is_suspended) (dynamic_at objects id) false ≡ is_suspended_at (dynamics_of objects) id
+suspended_found objects id =
+    by_found (at_id objects id)
+    ∙ ap (λ (found : Option (Option Watched)). option_map_or (λ w. w.state.is_suspended) (unwrap_or found None) false)
+    (sym (map_at watched_object objects id))
+  where
+    by_kind : (is_live : Bool) (k : Kind) → option_map_or (λ d. d.state.is_suspended) (dynamic_in k) false
+        ≡ option_map_or (λ w. w.state.is_suspended) (watched is_live k) false
+    by_kind is_live (TableKind t) = refl
+    by_kind is_live (StreamKind s) = refl
+    by_kind is_live (TaskKind t) = refl
+    by_kind is_live (DynamicKind d t) = refl
+
+    by_found : (found : Option Object) → option_map_or (λ d. d.state.is_suspended) (option_and_then as_dynamic found) false
+        ≡ option_map_or (λ w. w.state.is_suspended) (unwrap_or (option_map watched_object found) None) false
+    by_found None = refl
+    by_found (Some o) = by_kind o.is_live o.kind

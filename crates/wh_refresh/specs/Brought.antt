@@ -4,6 +4,7 @@
 --     IsBrought, AreBrought     what is done to a table, and to several
 --     BringsOne, Brings     what bringing one, and several, comes to
 --     BroughtSoFar          what several that were brought so far leave to do
+--     SaidSoFar             what was said of several so far, and what is left to say
 use Rattle.std.specs.Prelude.{◌≡◌, ◌<◌, ℕ, List, [], ◌∷◌, ◌++◌, length, Option, Some, None, option_map}
 use Rattle.std.specs.declared.vec.Vec.{Vec}
 use Rattle.std.specs.declared.alloc.Global.{Global}
@@ -93,3 +94,9 @@ pub record BroughtSoFar (stored : List file.StoredObject) (objects : List Object
   pub rise : RiseBehind 0 brought left
   pub is : machine.brought_all stamp moment ids objects
       ≡ before brought (machine.brought_all stamp moment left (after_all stamp moment brought objects))
+
+pub record SaidSoFar {X : Type 0} (stored : List file.StoredObject) (left : List Brought) (so_far : List X)
+    (said : List machine.Brought → List X) (bs : List machine.Brought) : Type 0 where
+  pub rest : List machine.Brought
+  pub are : AreBrought stored left rest
+  pub is : so_far ++ said rest ≡ said bs

@@ -2,10 +2,8 @@
 --     object_of, objects_in     as the machine has them
 --     stored_in                 as the file has them
 --     with_made                 one that is to be made, if there is one
-use Rattle.std.specs.Prelude.{List, [], ◌∷◌, map, Option, Some, None, option_map, Vec}
-use Rattle.std.specs.declared.alloc.Global.{Global}
+use Rattle.std.specs.Prelude.{List, [], ◌∷◌, map, Option, Some, None}
 use denote.Ref.{Bor}
-use Rattle.wh_value.specs.Value.{Row}
 use Rattle.wh_state.specs.State.{Object}
 use Rattle.wh_state.specs.Stored as machine
 use Rattle.wh_state.specs.Stored.{object_meant}
@@ -25,7 +23,3 @@ stored_in objects = map (λ o. object_in (kept_object o.now)) objects
 abbrev pub with_made : Option (Bor StoredObject) → List Object
 with_made None = []
 with_made (Some o) = object_of o.now ∷ []
-
--- rows that were found, as a list
-abbrev pub rows_found : Option (Vec Row Global) → Option (List Row)
-rows_found found = option_map (λ made. made.items) found

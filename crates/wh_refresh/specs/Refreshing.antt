@@ -13,10 +13,10 @@ use Rattle.wh_machine.specs.Refresh as machine
 use Rattle.wh_machine.specs.Refresh.{with_upstream}
 use Rattle.wh_machine.specs.Dynamics.{first_suspended}
 use Rattle.wh_record.specs.View.{change_of}
-use Rattle.wh_refresh.specs.declared.refresh.Asked.{Asked}
-use Rattle.wh_refresh.specs.declared.refresh.Asked.TheVariants as asked
-use Rattle.wh_refresh.specs.declared.refresh.Refreshing.{Refreshing}
-use Rattle.wh_refresh.specs.declared.refresh.Refreshing.TheVariants as code
+use Rattle.wh_refresh.specs.declared.refreshing.Asked.{Asked}
+use Rattle.wh_refresh.specs.declared.refreshing.Asked.TheVariants as asked
+use Rattle.wh_refresh.specs.declared.refreshing.Refreshing.{Refreshing}
+use Rattle.wh_refresh.specs.declared.refreshing.Refreshing.TheVariants as code
 
 abbrev pub besides : Asked → List Object → ℕ → Option Refusal
 besides asked.ByStatement objects id = first_suspended objects (with_upstream objects id)

@@ -8,9 +8,9 @@ mod evaluation;
 mod limits;
 mod objects;
 mod rebase;
-mod refresh;
+mod refreshing;
 mod sources;
 mod writing;
 
 pub use objects::{all_objects, dynamic_at, name_at};
-pub use refresh::{Asked, Refreshing, refresh};
+pub use refreshing::{Asked, Refreshing, refresh};

@@ -22,7 +22,7 @@ pub fn all_objects<'a>(
     made: Option<&'a StoredObject>,
 ) -> Result<Vec<&'a StoredObject>, AllocError>
     ensures { IfOk result (λ objects. objects_in objects.items
-        ≡ (state_of catalog.now).objects ++ with_made made) }
+        ≡ (state_of catalog.now).objects ++ with_made made.entry) }
 {
     let mut objects = Vec::new(alloc);
     for object in catalog.objects() {
@@ -36,15 +36,12 @@ pub fn all_objects<'a>(
 
 /// The object of an id.
 pub(crate) fn object_at<'a>(objects: &[&'a StoredObject], id: u32) -> Option<&'a StoredObject>
-    ensures { option_map (λ o. object_of o.now) result ≡ at_id (objects_in objects.now) id }
+    ensures { result ≡ at_id objects.now id }
 {
     if id == 0 {
         return None;
     }
-    match objects.get(id as usize - 1) {
-        Some(object) => Some(*object),
-        None => None,
-    }
+    objects.get(id as usize - 1).copied()
 }
 
 /// The table of an id, or that of a dynamic table.

@@ -2,7 +2,7 @@
 ghost use Rattle.std.specs.Prelude.{◌≡◌, ◌+◌, ◌++◌, ℕ, List, map, length, IfOk, OnOk};
 ghost use Rattle.std.specs.List.{flat_map};
 ghost use Rattle.wh_reply.specs.View.{refreshed_view};
-ghost use Rattle.wh_state.specs.Stored.{StoredObject};
+ghost use Rattle.wh_state.specs.Stored as file;
 ghost use Rattle.wh_state.specs.Written.{written};
 ghost use Rattle.wh_state.specs.Commit.{PushesVersion};
 ghost use Rattle.wh_table.specs.Table.{table_of};
@@ -61,7 +61,7 @@ fn line(
 
 // How many rows come and go.
 fn counts(one: &Brought) -> (u64, u64)
-    ensures { (stored : List StoredObject) (b : machine.Brought) → IsBrought stored one.now b
+    ensures { (stored : List file.StoredObject) (b : machine.Brought) → IsBrought stored one.now b
         → result ≡ machine.counted_in b.edits }
 {
     match &one.rows {

@@ -1,7 +1,9 @@
 //! A refresh, whole or not at all.
-ghost use Rattle.std.specs.Prelude.{◌≡◌, option_map, IfOk};
+ghost use Rattle.std.specs.Prelude.{◌≡◌, ℕ, option_map, IfOk};
 ghost use Rattle.wh_reply.specs.View.{refusal_view};
 ghost use Rattle.wh_state.specs.State.{State};
+ghost use Rattle.wh_moment.specs.Upstream.{dynamics_of};
+ghost use Rattle.wh_moment.specs.Moment.{is_suspended_at};
 ghost use Rattle.wh_machine.specs.Refresh as machine;
 ghost use Rattle.wh_machine.specs.Dynamics.{first_suspended};
 ghost use Rattle.wh_refresh.specs.Objects.{objects_in, stored_in};
@@ -71,7 +73,10 @@ fn first_lost(
     alloc: Global,
     objects: &[&StoredObject],
     ids: &[u32],
-) -> Result<Option<Refusal>, AllocError> {
+) -> Result<Option<Refusal>, AllocError>
+    ensures { IfOk result (λ why. option_map refusal_view why
+        ≡ machine.first_lost (objects_in objects.now) ids.now) }
+{
     for id in ids {
         if has_lost(objects, *id) {
             return Ok(Some(Refusal::SourceGone(name_at(alloc, objects, *id)?)));
@@ -80,7 +85,9 @@ fn first_lost(
     Ok(None)
 }
 
-fn has_lost(objects: &[&StoredObject], id: u32) -> bool {
+fn has_lost(objects: &[&StoredObject], id: u32) -> bool
+    ensures { result ≡ machine.lost_source (objects_in objects.now) id }
+{
     match dynamic_at(objects, id) {
         Some(dynamic) => dynamic
             .reads()
@@ -96,7 +103,11 @@ fn suspended(
     objects: &[&StoredObject],
     asked: Asked,
     ids: &[u32],
-) -> Result<Option<Refusal>, AllocError> {
+) -> Result<Option<Refusal>, AllocError>
+    ensures { IfOk result (λ why. (id : ℕ)
+        → ids.now ≡ machine.with_upstream (objects_in objects.now) id
+        → option_map refusal_view why ≡ besides asked (objects_in objects.now) id) }
+{
     match asked {
         Asked::ByStatement => first_suspended(alloc, objects, ids),
         Asked::BySchedule => Ok(None),
@@ -107,7 +118,10 @@ fn first_suspended(
     alloc: Global,
     objects: &[&StoredObject],
     ids: &[u32],
-) -> Result<Option<Refusal>, AllocError> {
+) -> Result<Option<Refusal>, AllocError>
+    ensures { IfOk result (λ why. option_map refusal_view why
+        ≡ first_suspended (objects_in objects.now) ids.now) }
+{
     for id in ids {
         if is_suspended(objects, *id) {
             return Ok(Some(Refusal::IsSuspended(name_at(alloc, objects, *id)?)));
@@ -116,7 +130,9 @@ fn first_suspended(
     Ok(None)
 }
 
-fn is_suspended(objects: &[&StoredObject], id: u32) -> bool {
+fn is_suspended(objects: &[&StoredObject], id: u32) -> bool
+    ensures { result ≡ is_suspended_at (dynamics_of (objects_in objects.now)) id }
+{
     match dynamic_at(objects, id) {
         Some(dynamic) => dynamic.state().is_suspended,
         None => false,
