@@ -4,14 +4,15 @@
 --     fresh_none, fresh_in                    whether it has new data
 --     evaluated_over                          what a query gives over its sources
 --     one_without, one_bare, one_by           what is done to one table
+--     rises, above_rise                       ids that rise
 --     far_begun, far_further, far_stopped, far_done     several, by rising ids
 --     all_written                             the changes that say it
 --     suspended_found                         whether a table is suspended
 use Rattle.std.proofs.Common.{◌≡◌, ℕ, zero, suc, ◌+◌, ◌<◌, ◌≤◌, Bool, true, false, cond, List, [], ◌∷◌, ◌++◌, map, length}
 use Rattle.std.proofs.Common.{Option, Some, None, option_map, refl, sym, ap, subst, ◌∙◌, arith}
 use Rattle.std.specs.Prelude.{◌||◌, ◌&&◌, nat_eq, nat_le, nat_lt, is_some, unwrap_or}
-use Rattle.std.specs.List.{flat_map, list_any}
-use Rattle.std.specs.Option.{option_and_then, option_map_or}
+use Rattle.std.specs.List.{AllByRecursion, flat_map, list_any}
+use Rattle.std.specs.Option.{IsSomeAnd, option_and_then, option_map_or}
 use Rattle.std.specs.FinMap.{values}
 use denote.Ref.{Bor}
 use Rattle.std.proofs.lemmas.Bool.Decides.{nat_tests}
@@ -32,7 +33,8 @@ use Rattle.wh_state.specs.Written.{written}
 use Rattle.wh_state.proofs.IdLaws.{last_more, map_at}
 use Rattle.wh_state.proofs.EndLaws.{written_append}
 use Rattle.wh_state.proofs.BroughtGoes.{refresh_of, one_leaves}
-use Rattle.wh_moment.specs.Upstream.{Watched, watched, watched_object, dynamics_of}
+use Rattle.wh_moment.specs.Upstream.{Watched, Dynamics, watched, watched_at, watched_object, dynamics_of, brought}
+use Rattle.wh_moment.proofs.UpstreamLaws.{RiseFrom, brought_rise, brought_watched}
 use Rattle.wh_moment.specs.Moment.{is_suspended_at}
 use Rattle.wh_machine.specs.Refresh as machine
 use Rattle.wh_machine.specs.Refresh.{version_acts, acts_of_one, has_version_between, brought_all, brought_one, brought_by, action_of}
@@ -179,6 +181,24 @@ same_next stamp moment other e t =
     (last_more t.versions (version_for other other (next_contents e t))))
 
 -- ---- several
+
+rise_next : (least : ℕ) (ids : List ℕ) → RiseFrom (suc least) ids → RiseAbove least ids
+rise_next least [] rise = tt
+rise_next least (id ∷ ids) rise = (omega (arith, rise.0), rise_next id ids rise.1)
+
+-- what a refresh brings are dynamic tables, and their ids begin at 1
+pub rises : (all : Dynamics) (id target : ℕ) → RiseAbove 0 (brought all id target)
+rises all id target = begin (brought all id target) (brought_rise all id target) (brought_watched all id target)
+  where
+    begin : (ids : List ℕ) → RiseFrom 0 ids → AllByRecursion (λ id. IsSomeAnd (watched_at all id) (λ w. Unit {0})) ids
+        → RiseAbove 0 ids
+    begin [] rise watched = tt
+    begin (zero ∷ ids) rise watched = absurd watched.0
+    begin (suc id ∷ ids) rise watched = rise_next 0 (suc id ∷ ids) (omega arith, rise.1)
+
+pub above_rise : (least : ℕ) (bs : List machine.Brought) → RiseAbove least (map (λ b. b.id) bs) → AreAbove least bs
+above_rise least [] rise = tt
+above_rise least (b ∷ bs) rise = (rise.0, above_rise b.id bs rise.1)
 
 pub rise_above : (least : ℕ) (bs : List machine.Brought) (ids : List ℕ) → RiseBehind least bs ids → AreAbove least bs
 rise_above least [] ids rise = tt

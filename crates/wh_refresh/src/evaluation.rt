@@ -1,11 +1,12 @@
 //! What the query of a dynamic table gives over rows.
-ghost use Rattle.std.specs.Prelude.{◌≡◌, ◌∷◌, [], map, option_map, IfOk};
-ghost use Rattle.std.specs.Option.{option_to_list};
+ghost use Rattle.std.specs.Prelude.{◌≡◌, ◌∷◌, ◌++◌, [], map, option_map, OnOk, IfOk};
+ghost use Rattle.std.specs.Option.{option_map_or, option_to_list};
 ghost use Rattle.wh_meaning.specs.Query.{eval};
 ghost use Rattle.wh_naming.specs.View.{named_of, kind_of};
 ghost use Rattle.wh_algebra.specs.View.{query_of as plain_query_of};
 ghost use Rattle.wh_exec.specs.Evaluation.{Evaluates, instance_of};
-ghost use Rattle.wh_state.specs.Bound.{names_among, query_bound, source_kind};
+ghost use Rattle.wh_state.specs.State.{at_id};
+ghost use Rattle.wh_state.specs.Bound.{named_as, names_among, query_bound, source_kind};
 ghost use Rattle.wh_catalog.specs.Object.{stored_kind};
 ghost use Rattle.wh_dynamic.specs.View.{query_of, source_of};
 ghost use Rattle.wh_refresh.specs.Objects.{objects_in};
@@ -23,6 +24,7 @@ use wh_scalar::EvalFault;
 use wh_value::{Column, Row};
 
 /// The rows of a query over those of its sources, or None where it is undefined.
+#[tactic(auto, unfolding(wh_bind::specs::View::query_reading))]
 pub(crate) fn evaluated(
     alloc: Global,
     objects: &[&StoredObject],
@@ -76,16 +78,31 @@ fn names_among<'a>(
 {
     let mut names = Vec::new(alloc);
     for source in sources {
-        if let Some(named) = named(objects, source) {
-            names.push(named)?;
-        }
+        add_name(&mut names, objects, source)?;
     }
     Ok(names)
 }
 
+fn add_name<'a>(
+    names: &mut Vec<Named<'a>>,
+    objects: &[&'a StoredObject],
+    source: &'a NamedSource,
+) -> Result<(), AllocError>
+    ensures { OnOk result (map named_of names.new.items ≡ map named_of names.old.items
+        ++ option_map_or (λ o. named_as (source_of source.now) o ∷ [])
+        (at_id (objects_in objects.now) source.now.id) []) }
+{
+    let Some(named) = named(objects, source) else {
+        return Ok(());
+    };
+    names.push(named)?;
+    Ok(())
+}
+
 fn named<'a>(objects: &[&'a StoredObject], source: &'a NamedSource) -> Option<Named<'a>>
     ensures { option_to_list (option_map named_of result)
-        ≡ names_among (objects_in objects.now) (source_of source.now ∷ []) }
+        ≡ option_map_or (λ o. named_as (source_of source.now) o ∷ [])
+        (at_id (objects_in objects.now) source.now.id) [] }
 {
     let object = object_at(objects, source.id)?;
     Some(Named {

@@ -1,5 +1,5 @@
 //! Objects by their ids, in a list of them.
-ghost use Rattle.std.specs.Prelude.{◌≡◌, ◌++◌, map, option_map, IfOk};
+ghost use Rattle.std.specs.Prelude.{◌≡◌, ◌++◌, map, option_map, OnOk, IfOk};
 ghost use Rattle.std.specs.Option.{option_copied};
 ghost use Rattle.wh_state.specs.State.{at_id};
 ghost use Rattle.wh_state.specs.Objects as state;
@@ -28,10 +28,22 @@ pub fn all_objects<'a>(
     for object in catalog.objects() {
         objects.push(object)?;
     }
-    if let Some(object) = made {
-        objects.push(object)?;
-    }
+    add_made(&mut objects, made)?;
     Ok(objects)
+}
+
+fn add_made<'a>(
+    objects: &mut Vec<&'a StoredObject>,
+    made: Option<&'a StoredObject>,
+) -> Result<(), AllocError>
+    ensures { OnOk result (objects_in objects.new.items
+        ≡ objects_in objects.old.items ++ with_made made.entry) }
+{
+    let Some(object) = made else {
+        return Ok(());
+    };
+    objects.push(object)?;
+    Ok(())
 }
 
 /// The object of an id.

@@ -1,7 +1,9 @@
 //! A refresh, whole or not at all.
-ghost use Rattle.std.specs.Prelude.{◌≡◌, ℕ, option_map, IfOk};
+ghost use Rattle.std.specs.Prelude.{◌≡◌, ℕ, not, option_map, IfOk};
+ghost use Rattle.std.specs.List.{list_any};
 ghost use Rattle.wh_reply.specs.View.{refusal_view};
 ghost use Rattle.wh_state.specs.State.{State};
+ghost use Rattle.wh_state.specs.Objects as state;
 ghost use Rattle.wh_moment.specs.Upstream.{dynamics_of};
 ghost use Rattle.wh_moment.specs.Moment.{is_suspended_at};
 ghost use Rattle.wh_machine.specs.Refresh as machine;
@@ -89,12 +91,16 @@ fn has_lost(objects: &[&StoredObject], id: u32) -> bool
     ensures { result ≡ machine.lost_source (objects_in objects.now) id }
 {
     match dynamic_at(objects, id) {
-        Some(dynamic) => dynamic
-            .reads()
-            .iter()
-            .any(|source| !is_live_at(objects, *source)),
+        Some(dynamic) => some_gone(objects, dynamic.reads()),
         None => false,
     }
+}
+
+fn some_gone(objects: &[&StoredObject], sources: &[u32]) -> bool
+    ensures { result ≡ list_any (λ source. not (state.is_live_at (objects_in objects.now) source))
+        sources.now }
+{
+    sources.iter().any(|source| !is_live_at(objects, *source))
 }
 
 // Where a statement asks, the first of some tables that is suspended.

@@ -1,19 +1,20 @@
 //! What is told of a refresh, and the changes that say it.
-ghost use Rattle.std.specs.Prelude.{◌≡◌, ◌+◌, ◌++◌, ℕ, List, map, length, IfOk, OnOk};
+ghost use Rattle.std.specs.Prelude.{◌≡◌, ◌+◌, ◌++◌, ℕ, List, Option, map, length, IfOk, OnOk};
 ghost use Rattle.std.specs.List.{flat_map};
 ghost use Rattle.wh_reply.specs.View.{refreshed_view};
 ghost use Rattle.wh_state.specs.Stored as file;
 ghost use Rattle.wh_state.specs.Written.{written};
+ghost use Rattle.wh_state.specs.Edits.{Edits};
 ghost use Rattle.wh_state.specs.Commit.{PushesVersion};
 ghost use Rattle.wh_table.specs.Table.{table_of};
 ghost use Rattle.wh_machine.specs.Refresh as machine;
 ghost use Rattle.wh_machine.specs.Brought.{AreAbove};
 ghost use Rattle.wh_record.specs.View.{change_of};
 ghost use Rattle.wh_refresh.specs.Objects.{objects_in, stored_in};
-ghost use Rattle.wh_refresh.specs.Brought.{AreBrought, IsBrought};
-ghost use Rattle.wh_refresh.specs.Writing.{one_written};
+ghost use Rattle.wh_refresh.specs.Brought.{AreBrought, IsBrought, IsRowsOf};
+ghost use Rattle.wh_refresh.specs.Writing.{one_written, rows_written};
 
-use crate::brought::Brought;
+use crate::brought::{Brought, NewRows};
 use crate::objects::{name_at, table_at};
 use std::alloc::{AllocError, Global};
 use wh_catalog::{StoredObject, StoredTable};
@@ -105,12 +106,31 @@ fn add_changes(
         state,
         ..
     } = one;
-    if let Some(rows) = rows {
-        if let Some(table) = table_at(objects, id) {
-            changes.push(version(moment, id, rows.plus, table, rows.edited)?)?;
-        }
-    }
+    add_version(changes, objects, moment, id, rows)?;
     changes.push(Change::SetsDynamic { id, state })?;
+    Ok(())
+}
+
+fn add_version(
+    changes: &mut Vec<Change>,
+    objects: &[&StoredObject],
+    moment: u64,
+    id: u32,
+    rows: Option<NewRows>,
+) -> Result<(), AllocError>
+    ensures { OnOk result ((edits : Option Edits)
+        → IsRowsOf (stored_in objects.now) id rows edits
+        → map change_of changes.new.items ≡ map change_of changes.old.items
+        ++ rows_written (stored_in objects.now) moment id edits) }
+{
+    let Some(rows) = rows else {
+        return Ok(());
+    };
+    let Some(table) = table_at(objects, id) else {
+        return Ok(());
+    };
+    let version = version(moment, id, rows.plus, table, rows.edited)?;
+    changes.push(version)?;
     Ok(())
 }
 

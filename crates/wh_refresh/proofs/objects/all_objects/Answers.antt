@@ -1,15 +1,25 @@
-use Rattle.std.proofs.Common.{rules, ◌≡◌, ◌++◌, map, option_map, IfOk, ℕ, ◌+◌, ◌-◌, ◌*◌, ◌<◌, ◌≤◌, length, ◌/◌, ◌%◌, Bool, true, false, nat_eq, nat_lt, List, [], ◌∷◌, slice_index_or, slice_set, bit_and, bit_or, Fits, w8, w32, w64, Bor, MutBor}
-use Rattle.std.specs.Option.{option_copied}
-use Rattle.wh_state.specs.State.{at_id}
-use Rattle.wh_state.specs.Objects as state
-use Rattle.wh_state.specs.Stored.{table_meant}
-use Rattle.wh_moment.specs.Upstream.{dynamics_of}
-use Rattle.wh_dynamic.specs.View.{dynamic_of, dynamics_in}
-use Rattle.wh_table.specs.Table.{table_of}
+use Rattle.std.proofs.Common.{◌≡◌, ◌++◌, List, map, take, sym, ap, ◌∙◌}
+use Rattle.std.proofs.lemmas.List.{take_all}
+use Rattle.std.proofs.lemmas.Simd.{map-map}
+use Rattle.wh_state.specs.State.{Object}
+use Rattle.wh_state.specs.Stored.{object_meant}
 use Rattle.wh_catalog.specs.Catalog.{state_of}
-use Rattle.wh_refresh.specs.Objects.{object_of, objects_in, stored_in, with_made}
+use Rattle.wh_catalog.specs.Undoable.{object_in}
+use Rattle.wh_catalog.specs.Object.{kept_object, kept_objects}
+use Rattle.wh_catalog.specs.declared.object.StoredObject.{StoredObject}
+use Rattle.wh_refresh.specs.Objects.{object_of, with_made}
 use Rattle.wh_refresh.proofs.objects.all_objects.Goals as goal
 
--- src/objects.rt:19:1
 pub returns : goal.returns
-returns c = ?
+unfolding state_of
+returns c =
+    let objects = c.objects-object-items.result.now in
+    let listed : map object_of objects ≡ map object_meant (map object_in (map kept_object objects)) =
+    sym (ap (map object_meant) (map-map object_in kept_object objects)
+    ∙ map-map object_meant (λ o. object_in (kept_object o)) objects) in
+    c.in_ok-add_made.ensures
+    ∙ ap (λ (os : List Object). os ++ with_made c.args.made)
+    (c.loop-object.invariant
+    ∙ ap (map object_of) (take_all c.loop-object.object-index objects c.loop-object-test.false)
+    ∙ listed
+    ∙ ap (map object_meant) c.objects-object-items.ensures.objects)
