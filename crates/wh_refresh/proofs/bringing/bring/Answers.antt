@@ -89,28 +89,34 @@ returns c stamp bs are above none =
     let made = subst (λ (rows : Option NewRows). MakesRows rows table (evaluated_at now c.args.moment d))
     c.in-Some-2.is (c.in_ok-rows.ensures stamp bs are above) in
     let by_rows : (found : Option Bag) → evaluated_at now c.args.moment d ≡ found → MakesRows (Some c.in-Some-2.rows) table found
-        → BringsOne stored (record { id = c.args.id; action = c.action-action.result; rows = Some c.in-Some-2.rows;
-            state = c.brought_to-state.result }) (brought_one now c.args.moment c.args.id) =
-    elim [ None ↦ λ same made. absurd made
-    | Some bag ↦ λ same made. record {
-      brought = brought_as c.args.id c.args.moment d.state (action_view c.action-action.result)
-          (Some (rebase (last_rows t) bag));
-      is = one_by stamp c.args.moment bs objects above c.args.id d t none (sym c.in-Some.ensures)
-          (sym c.in-Some-table_at.ensures.meant)
-          ∙ ap (brought_by now c.args.moment c.args.id d t) (sym (c.action-action.ensures stamp bs are above))
-          ∙ by_query now c.args.moment c.args.id d t c.action-action.result c.in_default-action.not-NoData
-          ∙ ap (option_map (λ rows. brought_as c.args.id c.args.moment d.state (action_view c.action-action.result)
-          (Some (rebase (last_rows t) rows)))) same;
-      same = record {
-        id = refl;
-        action = refl;
-        rows = record {
-          edited = λ other there. subst (λ (o : StoredTable). IsEdited c.in-Some-2.rows.edited (rebase (last_rows t) bag) o)
-              (same_Some _ _ (c.in-Some-table_at.ensures.stored ∙ there)) made.edited;
-          plus = made.plus;
-          minus = made.minus;
+    → BringsOne stored (record {
+      id = c.args.id;
+      action = c.action-action.result;
+      rows = Some c.in-Some-2.rows;
+      state = c.brought_to-state.result;
+    }) (brought_one now c.args.moment c.args.id) =
+    elim [
+      | None ↦ λ same made. absurd made
+      | Some bag ↦ λ same made. record {
+        brought = brought_as c.args.id c.args.moment d.state (action_view c.action-action.result)
+            (Some (rebase (last_rows t) bag));
+        is = one_by stamp c.args.moment bs objects above c.args.id d t none (sym c.in-Some.ensures)
+            (sym c.in-Some-table_at.ensures.meant)
+            ∙ ap (brought_by now c.args.moment c.args.id d t) (sym (c.action-action.ensures stamp bs are above))
+            ∙ by_query now c.args.moment c.args.id d t c.action-action.result c.in_default-action.not-NoData
+            ∙ ap (option_map (λ rows. brought_as c.args.id c.args.moment d.state (action_view c.action-action.result)
+            (Some (rebase (last_rows t) rows)))) same;
+        same = record {
+          id = refl;
+          action = refl;
+          rows = record {
+            edited = λ other there. subst (λ (o : StoredTable). IsEdited c.in-Some-2.rows.edited (rebase (last_rows t) bag) o)
+                (same_Some _ _ (c.in-Some-table_at.ensures.stored ∙ there)) made.edited;
+            plus = made.plus;
+            minus = made.minus;
+          };
+          state = sym (c.brought_to-state.ensures ∙ ap (brought_to c.args.moment) c.state.ensures);
         };
-        state = sym (c.brought_to-state.ensures ∙ ap (brought_to c.args.moment) c.state.ensures);
-      };
-    } ] in
+      }
+    ] in
     by_rows (evaluated_at now c.args.moment d) refl made

@@ -24,9 +24,10 @@ apart c rows all =
     let new = c.args.new.now in
     let is = walked_apart new no_rows new [] (entries rows) (none_kept new) in
     let same : walk_of c.in_ok-walk.walk ≡ walked new (entries rows) nothing_walked =
-    c.in_ok-walk.ensures ∙ ap (λ (es : List (ℕ × Row)). walked new es nothing_walked) all in
-    (ap (λ (w : Walked). w.gone) same ∙ is.0,
-    subst (λ (w : Walked). IsExcess new w.kept (kept_apart new (entries rows)).left) (sym same) is.1)
+    c.in_ok-walk.ensures ∙ ap (λ (es : List (ℕ × Row)). walked new es nothing_walked) all in (
+      ap (λ (w : Walked). w.gone) same ∙ is.0,
+      subst (λ (w : Walked). IsExcess new w.kept (kept_apart new (entries rows)).left) (sym same) is.1,
+    )
 
 made : (c : After-drop-walk-3) → edits_in c.in_ok-edits.edits
     ≡ edits_from c.in_ok-walk.walk.gone.items [] c.in_ok-come.come.items

@@ -1,11 +1,13 @@
-use Rattle.std.proofs.Common.{◌≡◌, ℕ, List, [], ◌∷◌, ◌++◌, map, Option, Some, None, option_map, subst, sym, ap, ◌∙◌}
+use Rattle.std.proofs.Common.{◌≡◌, ℕ, List, [], ◌∷◌, ◌++◌, map, Option, Some, None, option_map, Vec, Global, refl, subst, sym, ap, ◌∙◌}
 use Rattle.std.specs.List.{flat_map}
 use Rattle.wh_reply.specs.Reply.{Refusal, Refreshed}
 use Rattle.wh_reply.specs.View.{refusal_view}
 use Rattle.wh_reply.specs.declared.reply.Refusal as code
 use Rattle.wh_state.specs.State.{State, Object}
+use Rattle.wh_state.specs.Act.{Act}
 use Rattle.wh_state.specs.Stored.{StoredObject}
 use Rattle.wh_moment.specs.Upstream.{Dynamics, dynamics_of, brought, upstream}
+use Rattle.wh_dynamic.specs.View.{dynamics_in}
 use Rattle.wh_machine.specs.Tests.{first_of}
 use Rattle.wh_machine.specs.Refresh as machine
 use Rattle.wh_machine.specs.Refresh.{acts_of_one, brought_all, first_lost, with_upstream, refresh_by, number_refusal}
@@ -48,26 +50,129 @@ gone_over : (objects : List Object) (all : Dynamics) (id : ℕ) (ids above pushe
 gone_over objects all id ids above pushed known up more is =
     is ∙ more ∙ ap (λ (l : List ℕ). l ++ id ∷ []) (up ∙ ap (λ (d : Dynamics). upstream d id) known)
 
+ids_brought : (objects : List Object) (all : Dynamics) (id moment : ℕ) (given ids : List ℕ) → all ≡ dynamics_of objects
+    → ids ≡ brought all id moment → given ≡ ids → given ≡ brought (dynamics_of objects) id moment
+ids_brought objects all id moment given ids known is same = same ∙ is ∙ ap (λ (d : Dynamics). brought d id moment) known
+
+brings_found : (stored : List StoredObject) (s : State) (objects : List Object) (id moment : ℕ) (ids : List ℕ)
+    (all : Option (Vec Brought Global)) → ids ≡ brought (dynamics_of objects) id moment
+    → ((stamp : ℕ) → RiseAbove 0 ids → BringsOr stored all (brought_all stamp moment ids objects))
+    → BringsOr stored all (found s objects id moment)
+brings_found stored s objects id moment ids all is brings =
+    subst (λ (l : List ℕ). BringsOr stored all (brought_all s.last moment l objects)) is
+    (brings s.last (subst (RiseAbove 0) (sym is) (rises (dynamics_of objects) id moment)))
+
 pub returns-in-Some : goal.returns-in-Some
 returns-in-Some c s same =
     let objects = objects_in c.args.objects.now in
-    let up = gone_over objects _ c.args.id c.deref-2.result.now c.in_ok-ids.ids.items c.push.new.self.items
-    (ap _ c.deref.ensures.value ∙ c.in_ok-all.ensures) c.in_ok-ids.ensures c.in_ok-push.ensures.items
-    c.deref-2.ensures.value in
-    let lost : first_lost objects (with_upstream objects c.args.id) ≡ Some (refusal_view c.in-Some.why) =
+    let id = c.args.id in
+    let up = gone_over objects (dynamics_in c.deref.result.now) id c.deref-2.result.now c.in_ok-ids.ids.items
+    c.push.new.self.items (ap dynamics_in c.deref.ensures.value ∙ c.in_ok-all.ensures) c.in_ok-ids.ensures
+    c.in_ok-push.ensures.items c.deref-2.ensures.value in
+    let lost : first_lost objects (with_upstream objects id) ≡ Some (refusal_view c.in-Some.why) =
     ap (first_lost objects) (sym up) ∙ sym c.in_ok-why.ensures ∙ ap (option_map refusal_view) c.in-Some.is in
-    refreshed_by s objects c.args.asked c.args.id c.args.moment same
+    refreshed_by s objects c.args.asked id c.args.moment same
     ∙ ap (λ (why : Option Refusal). refresh_by objects c.args.moment
-    (first_of (why ∷ besides c.args.asked objects c.args.id ∷ [])) (found s objects c.args.id c.args.moment)) lost
+    (first_of (why ∷ besides c.args.asked objects id ∷ [])) (found s objects id c.args.moment)) lost
 
 pub returns-in-Some-2 : goal.returns-in-Some-2
-returns-in-Some-2 c s same = ?
+returns-in-Some-2 c s same =
+    let objects = objects_in c.args.objects.now in
+    let id = c.args.id in
+    let gone = gone_over objects (dynamics_in c.deref.result.now) id c.push.new.self.items c.in_ok-ids.ids.items
+    c.push.new.self.items (ap dynamics_in c.deref.ensures.value ∙ c.in_ok-all.ensures) c.in_ok-ids.ensures
+    c.in_ok-push.ensures.items refl in
+    let lost : first_lost objects (with_upstream objects id) ≡ None =
+    ap (first_lost objects) (sym (c.deref-2.ensures.value ∙ gone)) ∙ sym c.in_ok-why.ensures
+    ∙ ap (option_map refusal_view) c.in_default.is in
+    let suspended : besides c.args.asked objects id ≡ Some (refusal_view c.in-Some-2.why) =
+    sym (c.in_ok-why-2.ensures id (c.deref-3.ensures.value ∙ gone)) ∙ ap (option_map refusal_view) c.in-Some-2.is in
+    refreshed_by s objects c.args.asked id c.args.moment same
+    ∙ ap (λ (why : Option Refusal). refresh_by objects c.args.moment
+    (first_of (why ∷ besides c.args.asked objects id ∷ [])) (found s objects id c.args.moment)) lost
+    ∙ ap (λ (why : Option Refusal). refresh_by objects c.args.moment (first_of (why ∷ []))
+    (found s objects id c.args.moment)) suspended
 
 pub returns-in_default-3 : goal.returns-in_default-3
-returns-in_default-3 c s same = ?
+returns-in_default-3 c s same =
+    let objects = objects_in c.args.objects.now in
+    let id = c.args.id in
+    let gone = gone_over objects (dynamics_in c.deref.result.now) id c.push.new.self.items c.in_ok-ids.ids.items
+    c.push.new.self.items (ap dynamics_in c.deref.ensures.value ∙ c.in_ok-all.ensures) c.in_ok-ids.ensures
+    c.in_ok-push.ensures.items refl in
+    let lost = ap (first_lost objects) (sym (c.deref-2.ensures.value ∙ gone)) ∙ sym c.in_ok-why.ensures
+    ∙ ap (option_map refusal_view) c.in_default.is in
+    let suspended = sym (c.in_ok-why-2.ensures id (c.deref-3.ensures.value ∙ gone))
+    ∙ ap (option_map refusal_view) c.in_default-2.is in
+    let ids = ids_brought objects (dynamics_in c.deref-4.result.now) id c.args.moment c.deref-5.result.now
+    c.in_ok-ids-2.ids.items (ap dynamics_in c.deref-4.ensures.value ∙ c.in_ok-all.ensures) c.in_ok-ids-2.ensures
+    c.deref-5.ensures.value in
+    let none : found s objects id c.args.moment ≡ None =
+    subst (λ (all : Option (Vec Brought Global)). BringsOr (stored_in c.args.objects.now) all (found s objects id c.args.moment))
+    c.in_default-3.is (brings_found (stored_in c.args.objects.now) s objects id c.args.moment c.deref-5.result.now
+    c.in_ok-all-2.field-0 ids c.in_ok-all-2.ensures) in
+    brought_by s objects c.args.asked id c.args.moment same lost suspended
+    ∙ ap (refresh_by objects c.args.moment None) none
 
 pub returns-in-Some-number_refusal : goal.returns-in-Some-number_refusal
-returns-in-Some-number_refusal c s same = ?
+returns-in-Some-number_refusal c s same =
+    let stored = stored_in c.args.objects.now in
+    let objects = objects_in c.args.objects.now in
+    let id = c.args.id in
+    let moment = c.args.moment in
+    let gone = gone_over objects (dynamics_in c.deref.result.now) id c.push.new.self.items c.in_ok-ids.ids.items
+    c.push.new.self.items (ap dynamics_in c.deref.ensures.value ∙ c.in_ok-all.ensures) c.in_ok-ids.ensures
+    c.in_ok-push.ensures.items refl in
+    let lost = ap (first_lost objects) (sym (c.deref-2.ensures.value ∙ gone)) ∙ sym c.in_ok-why.ensures
+    ∙ ap (option_map refusal_view) c.in_default.is in
+    let suspended = sym (c.in_ok-why-2.ensures id (c.deref-3.ensures.value ∙ gone))
+    ∙ ap (option_map refusal_view) c.in_default-2.is in
+    let ids = ids_brought objects (dynamics_in c.deref-4.result.now) id moment c.deref-5.result.now
+    c.in_ok-ids-2.ids.items (ap dynamics_in c.deref-4.ensures.value ∙ c.in_ok-all.ensures) c.in_ok-ids-2.ensures
+    c.deref-5.ensures.value in
+    let brings : Brings stored c.in-Some-3.all.items (found s objects id moment) =
+    subst (λ (all : Option (Vec Brought Global)). BringsOr stored all (found s objects id moment)) c.in-Some-3.is
+    (brings_found stored s objects id moment c.deref-5.result.now c.in_ok-all-2.field-0 ids c.in_ok-all-2.ensures) in
+    brought_by s objects c.args.asked id moment same lost suspended
+    ∙ ap (refresh_by objects moment None) brings.is
+    ∙ ap (λ (why : Option Refusal). unless_past why (map (told_of objects moment) brings.brought)
+    (flat_map (acts_of_one moment) brings.brought))
+    (sym (c.number_refusal.ensures brings.brought
+    (subst (λ (all : List Brought). AreBrought stored all brings.brought) (sym c.deref-6.ensures.value) brings.are))
+    ∙ ap (option_map refusal_view) c.in-Some-number_refusal.is)
 
 pub returns : goal.returns
-returns c s same = ?
+returns c s same =
+    let stored = stored_in c.args.objects.now in
+    let objects = objects_in c.args.objects.now in
+    let id = c.args.id in
+    let moment = c.args.moment in
+    let gone = gone_over objects (dynamics_in c.deref.result.now) id c.push.new.self.items c.in_ok-ids.ids.items
+    c.push.new.self.items (ap dynamics_in c.deref.ensures.value ∙ c.in_ok-all.ensures) c.in_ok-ids.ensures
+    c.in_ok-push.ensures.items refl in
+    let lost = ap (first_lost objects) (sym (c.deref-2.ensures.value ∙ gone)) ∙ sym c.in_ok-why.ensures
+    ∙ ap (option_map refusal_view) c.in_default.is in
+    let suspended = sym (c.in_ok-why-2.ensures id (c.deref-3.ensures.value ∙ gone))
+    ∙ ap (option_map refusal_view) c.in_default-2.is in
+    let ids = ids_brought objects (dynamics_in c.deref-4.result.now) id moment c.deref-5.result.now
+    c.in_ok-ids-2.ids.items (ap dynamics_in c.deref-4.ensures.value ∙ c.in_ok-all.ensures) c.in_ok-ids-2.ensures
+    c.deref-5.ensures.value in
+    let brings : Brings stored c.in-Some-3.all.items (found s objects id moment) =
+    subst (λ (all : Option (Vec Brought Global)). BringsOr stored all (found s objects id moment)) c.in-Some-3.is
+    (brings_found stored s objects id moment c.deref-5.result.now c.in_ok-all-2.field-0 ids c.in_ok-all-2.ensures) in
+    let acts : List Act = flat_map (acts_of_one moment) brings.brought in
+    let above : AreAbove 0 brings.brought = above_rise 0 brings.brought (subst (RiseAbove 0)
+    (sym (brought_ids s.last moment (brought (dynamics_of objects) id moment) objects brings.brought brings.is))
+    (rises (dynamics_of objects) id moment)) in
+    record {
+      acts = acts;
+      is = brought_by s objects c.args.asked id moment same lost suspended
+          ∙ ap (refresh_by objects moment None) brings.is
+          ∙ ap (λ (why : Option Refusal). unless_past why (map (told_of objects moment) brings.brought) acts)
+          (sym (c.number_refusal.ensures brings.brought
+          (subst (λ (all : List Brought). AreBrought stored all brings.brought) (sym c.deref-6.ensures.value) brings.are))
+          ∙ ap (option_map refusal_view) c.in_default-number_refusal.is)
+          ∙ ap (λ (lines : List Refreshed). machine.Brings lines acts) (sym (c.in_ok-lines.ensures brings.brought
+          (subst (λ (all : List Brought). AreBrought stored all brings.brought) (sym c.deref-7.ensures.value) brings.are)));
+      written = c.in_ok-changes.ensures s.last brings.brought brings.are above;
+    }

@@ -30,13 +30,15 @@ returns-in-Some-new_rows_of c =
     let t = table_meant (table_of c.in-Some.table.now) in
     let objects = objects_in c.args.objects.now in
     let by_edits : (edits : Option Edits) → edits_sought c.args.id bs ≡ edits
-        → IsRowsOf (stored_in c.args.objects.now) c.args.id (Some c.in-Some-new_rows_of.rows.now) edits
-        → bag_of (rows_at rows.items) ≡ bag_at (after_all stamp moment bs objects) moment c.args.id =
-    elim [ None ↦ λ same new. absurd new
-    | Some e ↦ λ same new.
-      is stamp e (new.edited (table_of c.in-Some.table.now) (sym c.in-Some.ensures.stored))
-      ∙ ap (λ (r : Rows). bag_of (values r)) (sym (same_next stamp moment stamp e t))
-      ∙ sym (source_new stamp moment bs objects above c.args.id e t same (sym c.in-Some.ensures.meant)) ] in
+    → IsRowsOf (stored_in c.args.objects.now) c.args.id (Some c.in-Some-new_rows_of.rows.now) edits
+    → bag_of (rows_at rows.items) ≡ bag_at (after_all stamp moment bs objects) moment c.args.id =
+    elim [
+      | None ↦ λ same new. absurd new
+      | Some e ↦ λ same new.
+          is stamp e (new.edited (table_of c.in-Some.table.now) (sym c.in-Some.ensures.stored))
+          ∙ ap (λ (r : Rows). bag_of (values r)) (sym (same_next stamp moment stamp e t))
+          ∙ sym (source_new stamp moment bs objects above c.args.id e t same (sym c.in-Some.ensures.meant))
+    ] in
     by_edits (edits_sought c.args.id bs) refl (c.in-Some-new_rows_of.ensures (stored_in c.args.objects.now) bs are))
     c.rows_with.ensures
 

@@ -30,22 +30,22 @@ returns c edits new = by_edits edits (subst (λ (rows : Option NewRows). IsRowsO
         ++ rows_written (stored_in c.args.objects.now) c.args.moment c.args.id edits
     by_edits None new = absurd new
     by_edits (Some e) new =
-      let stored = stored_in c.args.objects.now in
-      let t = table_of c.in-Some-table_at.table.now in
-      let there = sym c.in-Some-table_at.ensures.stored in
-      let edited = new.edited t there in
-      let same : change_of c.in_ok-version.version ≡ version_written c.args.moment c.args.id e t =
-      c.in_ok-version.ensures
-      ∙ (λ i. PushesVersion (record {
-        id = c.args.id;
-        data_timestamp = c.args.moment;
-        next_row = t.next_row + new.plus i;
-        width = length t.columns;
-        removed = edited.removed i;
-        added = edited.added i;
-      })) in
-      ap (map change_of) c.in_ok-push.ensures.items
-      ∙ map_push change_of c.args.changes.now.items c.in_ok-version.version
-      ∙ ap (λ (ch : Change). map change_of c.args.changes.now.items ++ ch ∷ []) same
-      ∙ ap (λ (chs : List Change). map change_of c.args.changes.now.items ++ chs)
-      (sym (written_there c.args.moment c.args.id e t (at_id stored c.args.id) there))
+        let stored = stored_in c.args.objects.now in
+        let t = table_of c.in-Some-table_at.table.now in
+        let there = sym c.in-Some-table_at.ensures.stored in
+        let edited = new.edited t there in
+        let same : change_of c.in_ok-version.version ≡ version_written c.args.moment c.args.id e t =
+        c.in_ok-version.ensures
+        ∙ (λ i. PushesVersion (record {
+          id = c.args.id;
+          data_timestamp = c.args.moment;
+          next_row = t.next_row + new.plus i;
+          width = length t.columns;
+          removed = edited.removed i;
+          added = edited.added i;
+        })) in
+        ap (map change_of) c.in_ok-push.ensures.items
+        ∙ map_push change_of c.args.changes.now.items c.in_ok-version.version
+        ∙ ap (λ (ch : Change). map change_of c.args.changes.now.items ++ ch ∷ []) same
+        ∙ ap (λ (chs : List Change). map change_of c.args.changes.now.items ++ chs)
+        (sym (written_there c.args.moment c.args.id e t (at_id stored c.args.id) there))
