@@ -11,13 +11,13 @@ returns-in-Some c =
     ∙ sym (is_empty_first (state_of sight.catalog.now).objects sight.stamp c.args.ids.now
     c.first_uninitialized.result c.in-Some.id c.first_uninitialized.ensures c.in-Some.is)
 
-pub returns-in-Some-2 : goal.returns-in-Some-2
-returns-in-Some-2 c =
+pub returns-in-Some-least_gone : goal.returns-in-Some-least_gone
+returns-in-Some-least_gone c =
     let sight = c.args.sight.now in
     ap (λ (name : List ℕ). Some (SourceGone name)) c.in_ok-name-2.ensures
     ∙ sym (is_gone_first (state_of sight.catalog.now).objects sight.stamp c.args.ids.now
-    c.first_uninitialized.result c.in-Some-2.id c.first_uninitialized.ensures c.in_default.is
-    (sym c.least_gone.ensures ∙ c.in-Some-2.is))
+    c.first_uninitialized.result c.in-Some-least_gone.id c.first_uninitialized.ensures c.in_default.is
+    (sym c.least_gone.ensures ∙ c.in-Some-least_gone.is))
 
 pub returns : goal.returns
 returns c =
@@ -25,4 +25,4 @@ returns c =
     c.first_stale.ensures
     ∙ sym (none_gone (state_of sight.catalog.now).objects sight.stamp c.args.ids.now
     c.first_uninitialized.result c.first_uninitialized.ensures c.in_default.is
-    (sym c.least_gone.ensures ∙ c.in_default-2.is))
+    (sym c.least_gone.ensures ∙ c.in_default-least_gone.is))
