@@ -63,7 +63,6 @@ pub least_then : (found : Option ℕ) (id : ℕ) (ids : List ℕ)
 least_then None id ids = refl
 least_then (Some other) id ids = refl
 
-
 -- ---- the first test that fails
 
 -- what is found in front of other tests

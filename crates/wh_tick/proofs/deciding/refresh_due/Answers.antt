@@ -1,10 +1,8 @@
-use Rattle.std.proofs.Common.{ℕ, List, Option, length, sym, ap, ◌∙◌, arith}
-use Rattle.wh_state.specs.State.{Object}
-use Rattle.wh_moment.specs.Upstream.{Dynamics, dynamics_of}
+use Rattle.std.proofs.Common.{length, sym, ap, ◌∙◌, arith}
+use Rattle.wh_moment.specs.Upstream.{Dynamics}
 use Rattle.wh_moment.specs.Moment.{due_table}
 use Rattle.wh_machine.specs.Ticks.{refreshes}
 use Rattle.wh_dynamic.specs.View.{dynamics_in, due_of}
-use Rattle.wh_catalog.specs.Catalog.{state_of}
 use Rattle.wh_decide.specs.Sight.{machine_in}
 use Rattle.wh_decide.proofs.CatalogLemmas.{dynamics_are}
 use Rattle.wh_decide.proofs.OutcomeLemmas.{decides_as, comes_as}
@@ -23,8 +21,8 @@ returns-in-Some c =
     (ap dynamics_in c.deref.ensures.value ∙ c.in_ok-all.ensures.watched ∙ sym (dynamics_are sight.catalog.now))))
     c.scheduled_refresh.ensures
 
-pub returns-in-None : goal.returns-in-None
-returns-in-None c =
+pub returns : goal.returns
+returns c =
     let sight = c.args.sight.now in
     decides_as sight c.idle.result
     (ap (refreshes (machine_in sight))
