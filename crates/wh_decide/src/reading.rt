@@ -1,5 +1,6 @@
-ghost use Rattle.std.specs.Prelude.{◌≡◌, ◌∷◌, map, option_map, IfOk};
+ghost use Rattle.std.specs.Prelude.{◌≡◌, ◌∷◌, map, option_map, is_some, IfOk};
 ghost use Rattle.std.specs.List.{filter};
+ghost use Rattle.wh_reply.specs.Reply.{NotInitialized};
 ghost use Rattle.wh_reply.specs.View.{refusal_view};
 ghost use Rattle.wh_net.specs.Stream.{is_gone};
 ghost use Rattle.wh_state.specs.Objects as objects;
@@ -61,7 +62,7 @@ pub fn reading_refusal(
 
 // The first of them that is a live dynamic table without a version.
 fn first_uninitialized(catalog: &Catalog, ids: &[u32]) -> Option<u32>
-    ensures { option_map (uninitialized_refusal_of (state_of catalog.now).objects) result
+    ensures { option_map (λ id. NotInitialized (name_at (state_of catalog.now).objects id)) result
         ≡ first_of (map (machine.uninitialized_refusal (state_of catalog.now).objects) ids.now) }
 {
     for id in ids {
@@ -75,9 +76,34 @@ fn first_uninitialized(catalog: &Catalog, ids: &[u32]) -> Option<u32>
 fn is_uninitialized(catalog: &Catalog, id: u32) -> bool
     ensures { result ≡ machine.is_uninitialized (state_of catalog.now).objects id }
 {
-    match (catalog.object(id), catalog.dynamic(id), catalog.table(id)) {
-        (Some(object), Some(_), Some(table)) => object.is_live() && table.version_count() == 0,
-        _ => false,
+    is_dynamic(catalog, id) && is_live(catalog, id) && has_no_version(catalog, id)
+}
+
+fn is_dynamic(catalog: &Catalog, id: u32) -> bool
+    ensures { result ≡ is_some (objects.dynamic_at (state_of catalog.now).objects id) }
+{
+    match catalog.dynamic(id) {
+        Some(_) => true,
+        None => false,
+    }
+}
+
+fn is_live(catalog: &Catalog, id: u32) -> bool
+    ensures { result ≡ objects.is_live_at (state_of catalog.now).objects id }
+{
+    match catalog.object(id) {
+        Some(object) => object.is_live(),
+        None => false,
+    }
+}
+
+fn has_no_version(catalog: &Catalog, id: u32) -> bool
+    ensures { result ≡ machine.has_no_version
+        (objects.table_at (state_of catalog.now).objects id) }
+{
+    match catalog.table(id) {
+        Some(table) => table.version_count() == 0,
+        None => false,
     }
 }
 

@@ -3,6 +3,7 @@ pub mod StopLemmas
 mod HaltLemmas
 mod CarryLemmas
 mod AppendLemmas
+mod KeptQueries
 mod SpelledLemmas
 mod DecidedLemmas
 mod ReplayLemmas

@@ -23,6 +23,7 @@ use Rattle.wh_machine.specs.Step.{Event, Command, Tick, stamp_of, at_stamp, step
 use Rattle.wh_machine.specs.Script.{IsScript}
 use Rattle.wh_machine.specs.Made.{all_made, kept_after_all}
 use Rattle.wh_machine.specs.Sound.{SoundMachine}
+use Rattle.wh_machine.specs.OneMoment.{IsOfOneMoment}
 use Rattle.wh_machine.specs.Consuming.{base_at, consumed, batches, all_patched, rows_consumed, reads, AreApart}
 use Rattle.wh_machine.specs.Consuming.{IsHeldAlong}
 use Rattle.wh_machine.specs.Consuming.{committing, changing, change_reads, consumes, event_consumes, has_succeeded}
@@ -141,6 +142,14 @@ abbrev pub HeldStreamsStay : Type 0
 HeldStreamsStay = (session id : ℕ) (s : Stream) (m : Machine) (e : Event) → AreApart m.sessions
     → reads m.sessions session id ≡ true → reads (step m e).0.sessions session id ≡ true
     → stream_at m.state.objects id ≡ Some s → stream_at (step m e).0.state.objects id ≡ Some s
+
+-- ---- dynamic tables
+
+-- behind any events the rows of each one that stands for a moment are those of its query over tables alone for that
+-- moment: what it reads of dynamic tables, directly or through others, is written out as their queries
+abbrev pub TablesStandForOneMoment : Type 0
+TablesStandForOneMoment =
+    (m : Machine) (es : List Event) → SoundMachine m → (id : ℕ) → IsOfOneMoment (after m es).state.objects id
 
 -- ---- commits
 

@@ -5,7 +5,7 @@ ghost use Rattle.wh_engine.specs.Laws.{ChangesHoldWhatTheyRead, ChangesConsumeWh
 ghost use Rattle.wh_engine.specs.Laws.{RunsConsumeWhatTheyRead, OtherTicksMoveNothing};
 ghost use Rattle.wh_engine.specs.Laws.{NothingElseConsumes, OthersMoveNothing, QueriesMoveNothing};
 ghost use Rattle.wh_engine.specs.Laws.{SoundStatesOpen, EventsKeepMachinesSound, HeldStreamsStay};
-ghost use Rattle.wh_engine.specs.Laws.{CommitsApply};
+ghost use Rattle.wh_engine.specs.Laws.{TablesStandForOneMoment, CommitsApply};
 
 /// A refused command changes nothing but the last stamp, and no transaction.
 pub fn refusals_change_nothing()
@@ -65,6 +65,13 @@ pub fn what_consumes_nothing_moves_nothing()
 /// A stream that an open transaction holds is moved by no event that leaves it held.
 pub fn held_streams_stay()
     ensures { HeldStreamsStay }
+{}
+
+/// A dynamic table stands for one moment. Behind any events its rows are those of its query for the
+/// moment that it stands for, over tables alone: each dynamic table that it reads, directly or
+/// through others, is written out as its query.
+pub fn dynamic_tables_stand_for_one_moment()
+    ensures { TablesStandForOneMoment }
 {}
 
 /// The commits that the events of a script make over a sound file apply, one after the other: no
