@@ -18,7 +18,7 @@ use Rattle.wh_ast.specs.declared.statement.Lag.TheVariants as lags
 use Rattle.wh_algebra.specs.Increments.{incrementable}
 use Rattle.wh_ddl_naming.specs.DynamicTables.{NewDynamicTable}
 use Rattle.wh_ddl_naming.specs.Tables.{column_names}
-use Rattle.wh_reply.specs.Reply.{Refusal, Reply, OverLimit, DdlInTransaction, Locked}
+use Rattle.wh_reply.specs.Reply.{Refusal, OverLimit, DdlInTransaction, Locked, Altered}
 use Rattle.wh_state.specs.State.{Object, State, DynamicKind, new_object, empty_table, live_count, stamped}
 use Rattle.wh_state.specs.Dynamic.{DynamicQuery, ids_read, new_dynamic}
 use Rattle.wh_state.specs.Edits.{is_among}
@@ -35,9 +35,9 @@ use Rattle.wh_machine.specs.Outcome.{Machine, Outcome, unless}
 use Rattle.wh_machine.specs.Definitions.{is_long, count_refusals, holder_of, defines}
 use Rattle.wh_machine.specs.Dynamics.{seconds_of, lag_refusals, below_refusal, above_refusal, is_incremental, mode_refusal}
 use Rattle.wh_machine.specs.Dynamics.{dynamic_made, with_dynamic, new_id, dynamic_refusal, initialized, query_of}
-use Rattle.wh_machine.specs.Dynamics.{create_dynamic, lag_refusal}
+use Rattle.wh_machine.specs.Dynamics.{create_dynamic, lag_refusal, set_lag, alters}
 use Rattle.wh_decide.specs.Decision.{machine_at}
-use Rattle.wh_decide.specs.Dynamics.{stored_with, dynamic_change, new_upstream, new_limit_refusal}
+use Rattle.wh_decide.specs.Dynamics.{stored_with, dynamic_change, new_upstream, new_limit_refusal, lag_state}
 use Rattle.wh_decide.proofs.NamingLemmas.{alone}
 use Rattle.wh_decide.proofs.DefineLemmas.{counts_none, not_past}
 use Rattle.wh_decide.proofs.DynamicLemmas.{defines_first}
@@ -270,3 +270,22 @@ first_five f None None (Some x) d e = refl
 first_five f None None None (Some x) e = refl
 first_five f None None None None (Some x) = refl
 first_five f None None None None None = refl
+
+lag_is : (m : Machine) (id : ℕ) (lag : Lag) (wrong : Option Refusal) → lag_refusal m.state None id lag ≡ wrong
+    → set_lag m None id lag ≡ unless wrong (alters m (Altered (name_at m.state.objects id)) id (lag_state lag))
+unfolding set_lag
+lag_is m id lag wrong is =
+    ap (λ (found : Option Refusal). unless found (alters m (Altered (name_at m.state.objects id)) id (lag_state lag))) is
+
+pub defines_lag : (s : State) (stamp : ℕ) (sessions : Sessions) (session id : ℕ) (lag : Lag)
+    (wrong found : Option Refusal) → wrong ≡ lag_refusal s None id lag
+    → found ≡ first_of (option_map DdlInTransaction (number_in sessions session) ∷ wrong
+    ∷ option_map Locked (holder_of sessions None) ∷ [])
+    → defines (machine_at (stamped s stamp) sessions) session None
+    (set_lag (machine_at (stamped s stamp) sessions) None id lag)
+    ≡ unless found (alters (machine_at (stamped s stamp) sessions) (Altered (name_at s.objects id)) id (lag_state lag))
+defines_lag s stamp sessions session id lag wrong found test is =
+    ap (defines (machine_at (stamped s stamp) sessions) session None)
+    (lag_is (machine_at (stamped s stamp) sessions) id lag wrong (lag_stamped s stamp id lag ∙ sym test))
+    ∙ defines_first (machine_at (stamped s stamp) sessions) session wrong found
+    (alters (machine_at (stamped s stamp) sessions) (Altered (name_at s.objects id)) id (lag_state lag)) is

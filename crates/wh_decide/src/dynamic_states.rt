@@ -207,10 +207,19 @@ pub(crate) fn refresh_dynamic(
     if let Some(why) = refused_in_transaction(sight) {
         return Ok(Decision::Refuse(why));
     }
-    match refreshing(alloc, sight, Asked::ByStatement, id, sight.stamp)? {
-        Refreshing::Fails(why) => Ok(Decision::Refuse(why)),
+    let found = refreshing(alloc, sight, Asked::ByStatement, id, sight.stamp)?;
+    Ok(refreshed(sight, found))
+}
+
+fn refreshed(sight: &Sight<'_>, found: Refreshing) -> Decision
+    ensures { (outcome : refreshes.Refreshing) → RefreshesAs sight.now.stamp
+        (stored_of sight.now.catalog.now).objects found outcome
+        → Comes sight.now result (machine.refreshed_by (machine_in sight.now) outcome) }
+{
+    match found {
+        Refreshing::Fails(why) => Decision::Refuse(why),
         Refreshing::Brings(lines, changes) => {
-            Ok(defined(sight, Reply::RefreshedTables(lines), changes))
+            defined(sight, Reply::RefreshedTables(lines), changes)
         }
     }
 }
@@ -243,7 +252,8 @@ pub fn scheduled_refresh(
     ensures { IfOk result (λ decision. Comes sight.now decision
         (machine.scheduled (machine_in sight.now) id target)) }
 {
-    match refreshing(alloc, sight, Asked::BySchedule, id, target)? {
+    let found = refreshing(alloc, sight, Asked::BySchedule, id, target)?;
+    match found {
         Refreshing::Fails(why) => failed(alloc, sight, id, target, why),
         Refreshing::Brings(lines, changes) => {
             Ok(defined(sight, Reply::RefreshedTables(lines), changes))
@@ -281,8 +291,9 @@ fn counted(
         → Comes sight.now decision (machine.failed_of (machine_in sight.now) id target
         (refusal_view why) (Some d))) }
 {
+    let name = name_of(alloc, sight.catalog, id)?;
     let reply = Reply::RefreshFailed {
-        name: name_of(alloc, sight.catalog, id)?,
+        name,
         target,
         why,
         is_suspended: state.is_fifth(),

@@ -9,7 +9,7 @@ ghost use Rattle.wh_ast.specs.declared.statement.Initialize.TheVariants as start
 ghost use Rattle.wh_algebra.specs.Increments as increments;
 ghost use Rattle.wh_reply.specs.Reply.{CreatedDynamicTable};
 ghost use Rattle.wh_reply.specs.View.{refusal_view, refreshed_view};
-ghost use Rattle.wh_ddl_naming.specs.DynamicTables.{NewDynamicTable};
+ghost use Rattle.wh_ddl_naming.specs.DynamicTables as naming;
 ghost use Rattle.wh_ddl_naming.specs.Tables.{column_names};
 ghost use Rattle.wh_ddl_naming.specs.Names.{names_at};
 ghost use Rattle.wh_ddl_bind.specs.View.{new_dynamic_table_of};
@@ -71,7 +71,9 @@ pub(crate) fn create_dynamic(
     let change = change(alloc, sight.catalog, &table)?;
     match table.initialize {
         Initialize::OnSchedule => {
-            created(alloc, sight, change, Vec::new(alloc), Vec::new(alloc))
+            let lines = Vec::new(alloc);
+            let more = Vec::new(alloc);
+            created(alloc, sight, change, lines, more)
         }
         Initialize::OnCreate => initialized(alloc, sight, &table, change),
     }
@@ -94,7 +96,8 @@ fn initialized(
         (machine.query_of (new_dynamic_table_of table.now)) starts.OnCreate)) }
 {
     let made = made(alloc, sight, table)?;
-    match first_refresh(alloc, sight, &made, change.id)? {
+    let found = first_refresh(alloc, sight, &made, change.id)?;
+    match found {
         Refreshing::Fails(why) => Ok(Decision::Refuse(why)),
         Refreshing::Brings(lines, changes) => created(alloc, sight, change, lines, changes),
     }
@@ -107,7 +110,7 @@ fn first_refresh(
     made: &StoredObject,
     id: u32,
 ) -> Result<Refreshing, AllocError>
-    ensures { IfOk result (λ found. (n : NewDynamicTable)
+    ensures { IfOk result (λ found. (n : naming.NewDynamicTable)
         → object_in (kept_object made.now) ≡ new_stored sight.now.stamp n
         → RefreshesAs sight.now.stamp
         (stored_with sight.now.stamp (stored_of sight.now.catalog.now).objects n) found
@@ -126,7 +129,7 @@ fn created(
     refreshed: Vec<Refreshed>,
     more: Vec<Change>,
 ) -> Result<Decision, AllocError>
-    ensures { IfOk result (λ decision. (n : NewDynamicTable) → (acts : List Act)
+    ensures { IfOk result (λ decision. (n : naming.NewDynamicTable) → (acts : List Act)
         → dynamic_change_of change
         ≡ dynamic_change (length (stored_of sight.now.catalog.now).objects) n
         → map change_of more.items ≡ written sight.now.stamp
@@ -257,15 +260,20 @@ fn sources_named(
     let mut sources = Vec::new(alloc);
     let mut place = 0;
     for name in names {
-        if place < ids.len() {
-            sources.push(NamedSource {
-                name: name.copy(alloc)?,
-                id: ids[place],
-            })?;
-            place += 1;
+        if ids.len() <= place {
+            return Ok(sources);
         }
+        sources.push(named_source(alloc, *name, ids[place])?)?;
+        place += 1;
     }
     Ok(sources)
+}
+
+fn named_source(alloc: Global, name: &Text, id: u32) -> Result<NamedSource, AllocError>
+    ensures { IfOk result (λ source. source_of source ≡ record { name = name.now; id = id }) }
+{
+    let name = name.copy(alloc)?;
+    Ok(NamedSource { name, id })
 }
 
 fn is_incremental(table: &NewDynamicTable) -> bool

@@ -160,8 +160,8 @@ fn first_shorter(
     id: u32,
     lag: u64,
 ) -> Result<Option<Refusal>, AllocError>
-    requires { dynamics_in all.now ≡ dynamics_of (state_of catalog.now).objects }
-    requires { length all.now < 2 ^ 32 }
+    requires dynamics { dynamics_in all.now ≡ dynamics_of (state_of catalog.now).objects }
+    requires few { length all.now < 2 ^ 32 }
     ensures { IfOk result (λ found. option_map refusal_view found
         ≡ machine.first_shorter (state_of catalog.now).objects id lag (ids_from 1 all.now)) }
 {
