@@ -5,7 +5,8 @@ ghost use Rattle.wh_value.specs.Limit.{bound};
 ghost use Rattle.wh_value.specs.declared.limit.Limit.TheVariants as limits;
 ghost use Rattle.wh_reply.specs.Reply.{OverLimit};
 ghost use Rattle.wh_reply.specs.View.{refusal_view};
-ghost use Rattle.wh_state.specs.Objects.{is_live_at};
+ghost use Rattle.std.specs.Option.{option_map_or};
+ghost use Rattle.wh_state.specs.Objects.{is_live_at, dynamic_at};
 ghost use Rattle.wh_moment.specs.Upstream.{dynamics_of};
 ghost use Rattle.wh_moment.specs.Moment.{ids_from};
 ghost use Rattle.wh_machine.specs.Tests.{first_of, refused_if};
@@ -61,9 +62,17 @@ fn least_refusal(seconds: u64) -> Option<Refusal>
 fn live_lag(catalog: &Catalog, id: u32) -> u64
     ensures { result ≡ machine.live_lag (state_of catalog.now).objects id }
 {
-    if !is_live_at(catalog, id) {
-        return 0;
+    if is_live_at(catalog, id) {
+        lag_at(catalog, id)
+    } else {
+        0
     }
+}
+
+fn lag_at(catalog: &Catalog, id: u32) -> u64
+    ensures { result ≡ option_map_or (λ d. d.state.lag)
+        (dynamic_at (state_of catalog.now).objects id) 0 }
+{
     match catalog.dynamic(id) {
         Some(dynamic) => dynamic.state().lag as u64,
         None => 0,

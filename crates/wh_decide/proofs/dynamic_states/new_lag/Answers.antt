@@ -10,5 +10,5 @@ returns-in-Some c =
     let new = lag_state c.args.lag in
     IfOk-weaker c.put_state.result _ _
     (λ changes written. written ∙ ap (put_written id (state_of c.state.result)) c.with_lag.ensures
-    ∙ (λ i. put_written id (c.state.ensures i) (new (c.state-2.ensures i)))
+    ∙ (λ i. put_written id (c.state.ensures i) (new (c.state-in-Some.ensures i)))
     ∙ ap (put_written_to id new) c.in-Some.ensures) c.put_state.ensures

@@ -9,5 +9,5 @@ returns-in-Some c =
     let id = c.args.id in
     IfOk-weaker c.put_state.result _ _
     (λ changes written. written ∙ ap (put_written id (state_of c.state.result)) c.suspended.ensures
-    ∙ (λ i. put_written id (c.state.ensures i) (suspended_state (c.state-2.ensures i)))
+    ∙ (λ i. put_written id (c.state.ensures i) (suspended_state (c.state-in-Some.ensures i)))
     ∙ ap (put_written_to id suspended_state) c.in-Some.ensures) c.put_state.ensures
