@@ -1,9 +1,19 @@
 //! ALTER DYNAMIC TABLE, and refreshes.
-ghost use Rattle.std.specs.Prelude.{◌≡◌, None, option_map, IfOk};
+ghost use Rattle.std.specs.Prelude.{◌≡◌, ◌≤◌, ◌∷◌, [], Some, None, map, option_map, IfOk};
+ghost use Rattle.wh_value.specs.Limit.{bound};
+ghost use Rattle.wh_value.specs.declared.limit.Limit.TheVariants as limits;
 ghost use Rattle.wh_reply.specs.View.{refusal_view};
+ghost use Rattle.wh_state.specs.Dynamic.{Dynamic};
+ghost use Rattle.wh_state.specs.Objects.{dynamic_at};
 ghost use Rattle.wh_machine.specs.Definitions.{defines};
 ghost use Rattle.wh_machine.specs.Dynamics as machine;
-ghost use Rattle.wh_dynamic.specs.View.{state_of as dynamic_state_of};
+ghost use Rattle.wh_machine.specs.Refresh as refreshes;
+ghost use Rattle.wh_dynamic.specs.View as view;
+ghost use Rattle.wh_record.specs.View.{change_of};
+ghost use Rattle.wh_catalog.specs.Catalog.{stored_of, state_of};
+ghost use Rattle.wh_refresh.specs.Refreshing.{besides, RefreshesAs};
+ghost use Rattle.wh_decide.specs.Dynamics.{put_written, put_written_to};
+ghost use Rattle.wh_decide.specs.Dynamics.{resumed_state, suspended_state, lag_state};
 ghost use Rattle.wh_decide.specs.Sight.{machine_in, Comes};
 
 use crate::decision::Decision;
@@ -33,14 +43,23 @@ pub(crate) fn resume_dynamic(
         (machine.resume_dynamic (machine_in sight.now) None id))) }
 {
     let reply = Reply::Resumed(name_of(alloc, sight.catalog, id)?);
-    let changes = match sight.catalog.dynamic(id) {
-        Some(dynamic) => put_state(alloc, id, dynamic.state(), resumed(dynamic.state()))?,
-        None => Vec::new(alloc),
-    };
+    let changes = resumption(alloc, sight.catalog, id)?;
     Ok(tested(sight, None, None, reply, changes))
 }
 
-fn resumed(state: DynamicState) -> DynamicState {
+fn resumption(alloc: Global, catalog: &Catalog, id: u32) -> Result<Vec<Change>, AllocError>
+    ensures { IfOk result (λ changes. map change_of changes.items
+        ≡ put_written_to id resumed_state (dynamic_at (stored_of catalog.now).objects id)) }
+{
+    match catalog.dynamic(id) {
+        Some(dynamic) => put_state(alloc, id, dynamic.state(), resumed(dynamic.state())),
+        None => Ok(Vec::new(alloc)),
+    }
+}
+
+fn resumed(state: DynamicState) -> DynamicState
+    ensures { view.state_of result ≡ resumed_state (view.state_of state) }
+{
     DynamicState {
         is_suspended: false,
         failures: 0,
@@ -60,14 +79,23 @@ pub(crate) fn suspend_dynamic(
         (machine.suspend_dynamic (machine_in sight.now) None id))) }
 {
     let reply = Reply::Suspended(name_of(alloc, sight.catalog, id)?);
-    let changes = match sight.catalog.dynamic(id) {
-        Some(dynamic) => put_state(alloc, id, dynamic.state(), suspended(dynamic.state()))?,
-        None => Vec::new(alloc),
-    };
+    let changes = suspension(alloc, sight.catalog, id)?;
     Ok(tested(sight, None, None, reply, changes))
 }
 
-fn suspended(state: DynamicState) -> DynamicState {
+fn suspension(alloc: Global, catalog: &Catalog, id: u32) -> Result<Vec<Change>, AllocError>
+    ensures { IfOk result (λ changes. map change_of changes.items
+        ≡ put_written_to id suspended_state (dynamic_at (stored_of catalog.now).objects id)) }
+{
+    match catalog.dynamic(id) {
+        Some(dynamic) => put_state(alloc, id, dynamic.state(), suspended(dynamic.state())),
+        None => Ok(Vec::new(alloc)),
+    }
+}
+
+fn suspended(state: DynamicState) -> DynamicState
+    ensures { view.state_of result ≡ suspended_state (view.state_of state) }
+{
     DynamicState {
         is_suspended: true,
         ..state
@@ -90,14 +118,30 @@ pub(crate) fn set_lag(
         return Ok(Decision::Refuse(why));
     }
     let reply = Reply::Altered(name_of(alloc, sight.catalog, id)?);
-    let changes = match sight.catalog.dynamic(id) {
-        Some(dynamic) => put_state(alloc, id, dynamic.state(), with_lag(dynamic.state(), lag))?,
-        None => Vec::new(alloc),
-    };
+    let changes = new_lag(alloc, sight.catalog, id, lag)?;
     Ok(defined(sight, reply, changes))
 }
 
-fn with_lag(state: DynamicState, lag: Lag) -> DynamicState {
+fn new_lag(
+    alloc: Global,
+    catalog: &Catalog,
+    id: u32,
+    lag: Lag,
+) -> Result<Vec<Change>, AllocError>
+    requires { machine.seconds_of lag ≤ bound limits.MostTargetLag }
+    ensures { IfOk result (λ changes. map change_of changes.items
+        ≡ put_written_to id (lag_state lag) (dynamic_at (stored_of catalog.now).objects id)) }
+{
+    match catalog.dynamic(id) {
+        Some(dynamic) => put_state(alloc, id, dynamic.state(), with_lag(dynamic.state(), lag)),
+        None => Ok(Vec::new(alloc)),
+    }
+}
+
+fn with_lag(state: DynamicState, lag: Lag) -> DynamicState
+    requires { machine.seconds_of lag ≤ bound limits.MostTargetLag }
+    ensures { view.state_of result ≡ lag_state lag (view.state_of state) }
+{
     DynamicState {
         lag: seconds_of(lag) as u32,
         ..state
@@ -109,7 +153,10 @@ fn new_lag_refusal(
     catalog: &Catalog,
     id: u32,
     lag: Lag,
-) -> Result<Option<Refusal>, AllocError> {
+) -> Result<Option<Refusal>, AllocError>
+    ensures { IfOk result (λ found. option_map refusal_view found
+        ≡ machine.lag_refusal (state_of catalog.now) None id lag) }
+{
     let all = catalog.watched(alloc)?;
     let reads = upstream(alloc, &all, id)?;
     let name = name_of(alloc, catalog, id)?;
@@ -124,14 +171,19 @@ fn put_state(
     id: u32,
     old: DynamicState,
     new: DynamicState,
-) -> Result<Vec<Change>, AllocError> {
+) -> Result<Vec<Change>, AllocError>
+    ensures { IfOk result (λ changes. map change_of changes.items
+        ≡ put_written id (view.state_of old) (view.state_of new)) }
+{
     if is_same_state(old, new) {
         return Ok(Vec::new(alloc));
     }
     Ok(vec![in alloc; Change::SetsDynamic { id, state: new }]?)
 }
 
-fn is_same_state(old: DynamicState, new: DynamicState) -> bool {
+fn is_same_state(old: DynamicState, new: DynamicState) -> bool
+    ensures { result ≡ machine.is_same_dynamic_state (view.state_of old) (view.state_of new) }
+{
     old.lag == new.lag
         && old.is_suspended == new.is_suspended
         && old.failures == new.failures
@@ -155,13 +207,38 @@ pub(crate) fn refresh_dynamic(
     if let Some(why) = refused_in_transaction(sight) {
         return Ok(Decision::Refuse(why));
     }
-    let objects = all_objects(alloc, sight.catalog, None)?;
-    match refresh(alloc, &objects, Asked::ByStatement, id, sight.stamp)? {
-        Refreshing::Fails(why) => Ok(Decision::Refuse(why)),
+    let found = refreshing(alloc, sight, Asked::ByStatement, id, sight.stamp)?;
+    Ok(refreshed(sight, found))
+}
+
+fn refreshed(sight: &Sight<'_>, found: Refreshing) -> Decision
+    ensures { (outcome : refreshes.Refreshing) → RefreshesAs sight.now.stamp
+        (stored_of sight.now.catalog.now).objects found outcome
+        → Comes sight.now result (machine.refreshed_by (machine_in sight.now) outcome) }
+{
+    match found {
+        Refreshing::Fails(why) => Decision::Refuse(why),
         Refreshing::Brings(lines, changes) => {
-            Ok(defined(sight, Reply::RefreshedTables(lines), changes))
+            defined(sight, Reply::RefreshedTables(lines), changes)
         }
     }
+}
+
+// A refresh of a dynamic table of the catalog.
+fn refreshing(
+    alloc: Global,
+    sight: &Sight<'_>,
+    asked: Asked,
+    id: u32,
+    moment: u64,
+) -> Result<Refreshing, AllocError>
+    ensures { IfOk result (λ found. RefreshesAs sight.now.stamp
+        (stored_of sight.now.catalog.now).objects found
+        (refreshes.refresh (machine_in sight.now).state
+        (besides asked (state_of sight.now.catalog.now).objects id) id moment)) }
+{
+    let objects = all_objects(alloc, sight.catalog, None)?;
+    refresh(alloc, &objects, asked, id, moment)
 }
 
 /// What the refresh of a dynamic table that is due comes to. One that fails counts, and is tried
@@ -175,8 +252,8 @@ pub fn scheduled_refresh(
     ensures { IfOk result (λ decision. Comes sight.now decision
         (machine.scheduled (machine_in sight.now) id target)) }
 {
-    let objects = all_objects(alloc, sight.catalog, None)?;
-    match refresh(alloc, &objects, Asked::BySchedule, id, target)? {
+    let found = refreshing(alloc, sight, Asked::BySchedule, id, target)?;
+    match found {
         Refreshing::Fails(why) => failed(alloc, sight, id, target, why),
         Refreshing::Brings(lines, changes) => {
             Ok(defined(sight, Reply::RefreshedTables(lines), changes))
@@ -190,13 +267,33 @@ fn failed(
     id: u32,
     target: u64,
     why: Refusal,
-) -> Result<Decision, AllocError> {
-    let Some(dynamic) = sight.catalog.dynamic(id) else {
-        return Ok(Decision::Refuse(why));
-    };
-    let state = dynamic.state();
+) -> Result<Decision, AllocError>
+    ensures { IfOk result (λ decision. Comes sight.now decision
+        (machine.failed_of (machine_in sight.now) id target (refusal_view why)
+        (dynamic_at (state_of sight.now.catalog.now).objects id))) }
+{
+    match sight.catalog.dynamic(id) {
+        Some(dynamic) => counted(alloc, sight, id, target, why, dynamic.state()),
+        None => Ok(Decision::Refuse(why)),
+    }
+}
+
+// A refresh that failed, of a table in that state.
+fn counted(
+    alloc: Global,
+    sight: &Sight<'_>,
+    id: u32,
+    target: u64,
+    why: Refusal,
+    state: DynamicState,
+) -> Result<Decision, AllocError>
+    ensures { IfOk result (λ decision. (d : Dynamic) → d.state ≡ view.state_of state
+        → Comes sight.now decision (machine.failed_of (machine_in sight.now) id target
+        (refusal_view why) (Some d))) }
+{
+    let name = name_of(alloc, sight.catalog, id)?;
     let reply = Reply::RefreshFailed {
-        name: name_of(alloc, sight.catalog, id)?,
+        name,
         target,
         why,
         is_suspended: state.is_fifth(),

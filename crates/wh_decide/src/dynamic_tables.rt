@@ -1,21 +1,34 @@
 //! CREATE DYNAMIC TABLE and DROP DYNAMIC TABLE.
-ghost use Rattle.std.specs.Prelude.{◌≡◌, ◌≤◌, ◌∷◌, ◌++◌, [], Some, None, map, option_map, IfOk};
+ghost use Rattle.std.specs.Prelude.{◌≡◌, ◌≤◌, ◌+◌, ◌∷◌, ◌++◌, [], List, Some, None, length, map};
+ghost use Rattle.std.specs.Prelude.{option_map, IfOk};
 ghost use Rattle.std.specs.List.{list_any};
 ghost use Rattle.wh_value.specs.Limit.{bound};
 ghost use Rattle.wh_value.specs.View.{column_of};
 ghost use Rattle.wh_value.specs.declared.limit.Limit.TheVariants as limits;
+ghost use Rattle.wh_ast.specs.declared.statement.Initialize.TheVariants as starts;
 ghost use Rattle.wh_algebra.specs.Increments as increments;
+ghost use Rattle.wh_reply.specs.Reply.{CreatedDynamicTable};
 ghost use Rattle.wh_reply.specs.View.{refusal_view, refreshed_view};
+ghost use Rattle.wh_ddl_naming.specs.DynamicTables as naming;
 ghost use Rattle.wh_ddl_naming.specs.Tables.{column_names};
+ghost use Rattle.wh_ddl_naming.specs.Names.{names_at};
 ghost use Rattle.wh_ddl_bind.specs.View.{new_dynamic_table_of};
-ghost use Rattle.wh_state.specs.Dynamic as state;
+ghost use Rattle.wh_state.specs.Act.{Act};
 ghost use Rattle.wh_state.specs.Commit.{CreatesDynamic};
+ghost use Rattle.wh_state.specs.State.{empty_table};
+ghost use Rattle.wh_state.specs.Written.{written};
+ghost use Rattle.wh_machine.specs.Outcome.{commits};
 ghost use Rattle.wh_machine.specs.Definitions.{defines, is_long};
 ghost use Rattle.wh_machine.specs.Dynamics as machine;
-ghost use Rattle.wh_dynamic.specs.View.{query_of, source_of};
+ghost use Rattle.wh_dynamic.specs.View.{query_of, source_of, dynamic_of};
 ghost use Rattle.wh_record.specs.View.{change_of, dynamic_change_of};
+ghost use Rattle.wh_catalog.specs.Object.{kept_object};
+ghost use Rattle.wh_catalog.specs.Undoable.{object_in};
 ghost use Rattle.wh_catalog.specs.Catalog.{stored_of, state_of};
-ghost use Rattle.wh_decide.specs.Dynamics.{dynamic_change, new_upstream, new_limit_refusal};
+ghost use Rattle.wh_refresh.specs.Refreshing.{RefreshesAs};
+ghost use Rattle.wh_decide.specs.Dynamics.{new_stored, stored_with, dynamic_change, new_upstream};
+ghost use Rattle.wh_decide.specs.Dynamics.{new_dynamic_in, new_limit_refusal};
+ghost use Rattle.wh_table.specs.Table.{table_of};
 ghost use Rattle.wh_decide.specs.Sight.{machine_in, Comes};
 
 use crate::decision::Decision;
@@ -24,6 +37,7 @@ use crate::lags::{below_refusal, lag_refusal, seconds_of};
 use crate::limits::{refused_if, refused_past};
 use crate::reading::name_of;
 use crate::sight::Sight;
+use crate::tables::some_is_long;
 use sqlite_items::Boxed;
 use std::alloc::{AllocError, Global};
 use wh_algebra::incrementable;
@@ -37,7 +51,7 @@ use wh_dynamic::{Dynamic, DynamicQuery, NamedSource, ids_read, upstream_of_new};
 use wh_record::{Change, DynamicChange};
 use wh_refresh::{Asked, Refreshing, all_objects, refresh};
 use wh_reply::{Refreshed, Refusal, Reply};
-use wh_value::{Column, Limit};
+use wh_value::{Limit, Text};
 
 // What CREATE DYNAMIC TABLE comes to, whose names are right: a new dynamic table, the last of the
 // catalog, and its first refresh where that isn't left to the schedule.
@@ -54,10 +68,12 @@ pub(crate) fn create_dynamic(
     if let Some(why) = definition_refusal(sight, None, wrong) {
         return Ok(Decision::Refuse(why));
     }
-    let change = change(alloc, sight, &table)?;
+    let change = change(alloc, sight.catalog, &table)?;
     match table.initialize {
         Initialize::OnSchedule => {
-            created(alloc, sight, change, Vec::new(alloc), Vec::new(alloc))
+            let lines = Vec::new(alloc);
+            let more = Vec::new(alloc);
+            created(alloc, sight, change, lines, more)
         }
         Initialize::OnCreate => initialized(alloc, sight, &table, change),
     }
@@ -69,9 +85,19 @@ fn initialized(
     sight: &Sight<'_>,
     table: &NewDynamicTable,
     change: DynamicChange,
-) -> Result<Decision, AllocError> {
+) -> Result<Decision, AllocError>
+    requires lag { machine.seconds_of table.now.lag ≤ bound limits.MostTargetLag }
+    requires columns { length table.now.columns.items ≤ bound limits.Columns }
+    requires change { dynamic_change_of change
+        ≡ dynamic_change (length (stored_of sight.now.catalog.now).objects)
+        (new_dynamic_table_of table.now) }
+    ensures { IfOk result (λ decision. Comes sight.now decision
+        (machine.initialized (machine_in sight.now) (new_dynamic_table_of table.now)
+        (machine.query_of (new_dynamic_table_of table.now)) starts.OnCreate)) }
+{
     let made = made(alloc, sight, table)?;
-    match first_refresh(alloc, sight, &made, change.id)? {
+    let found = first_refresh(alloc, sight, &made, change.id)?;
+    match found {
         Refreshing::Fails(why) => Ok(Decision::Refuse(why)),
         Refreshing::Brings(lines, changes) => created(alloc, sight, change, lines, changes),
     }
@@ -83,7 +109,14 @@ fn first_refresh(
     sight: &Sight<'_>,
     made: &StoredObject,
     id: u32,
-) -> Result<Refreshing, AllocError> {
+) -> Result<Refreshing, AllocError>
+    ensures { IfOk result (λ found. (n : naming.NewDynamicTable)
+        → object_in (kept_object made.now) ≡ new_stored sight.now.stamp n
+        → RefreshesAs sight.now.stamp
+        (stored_with sight.now.stamp (stored_of sight.now.catalog.now).objects n) found
+        (machine.asked_refresh
+        (machine.with_dynamic (machine_in sight.now).state n (machine.query_of n)) id)) }
+{
     let objects = all_objects(alloc, sight.catalog, Some(made))?;
     refresh(alloc, &objects, Asked::ByStatement, id, sight.stamp)
 }
@@ -95,14 +128,33 @@ fn created(
     change: DynamicChange,
     refreshed: Vec<Refreshed>,
     more: Vec<Change>,
-) -> Result<Decision, AllocError> {
+) -> Result<Decision, AllocError>
+    ensures { IfOk result (λ decision. (n : naming.NewDynamicTable) → (acts : List Act)
+        → dynamic_change_of change
+        ≡ dynamic_change (length (stored_of sight.now.catalog.now).objects) n
+        → map change_of more.items ≡ written sight.now.stamp
+        (stored_with sight.now.stamp (stored_of sight.now.catalog.now).objects n) acts
+        → Comes sight.now decision (commits (machine_in sight.now)
+        (CreatedDynamicTable n.name (map refreshed_view refreshed.items))
+        (machine.dynamic_made n (machine.query_of n) ++ acts))) }
+{
     let name = change.name.copy(alloc)?;
-    let mut changes = vec![in alloc; Change::CreatesDynamic(change)]?;
-    for one in more {
-        changes.push(one)?;
-    }
+    let changes = change_and(alloc, change, more)?;
     let reply = Reply::CreatedDynamicTable { name, refreshed };
     Ok(defined(sight, reply, changes))
+}
+
+fn change_and(
+    alloc: Global,
+    change: DynamicChange,
+    mut more: Vec<Change>,
+) -> Result<Vec<Change>, AllocError>
+    ensures { IfOk result (λ changes. map change_of changes.items
+        ≡ CreatesDynamic (dynamic_change_of change) ∷ map change_of more.items) }
+{
+    let mut changes = vec![in alloc; Change::CreatesDynamic(change)]?;
+    changes.append(&mut more)?;
+    Ok(changes)
 }
 
 // ---- what is made
@@ -110,16 +162,26 @@ fn created(
 // The change that says it.
 fn change(
     alloc: Global,
-    sight: &Sight<'_>,
+    catalog: &Catalog,
     table: &NewDynamicTable,
-) -> Result<DynamicChange, AllocError> {
+) -> Result<DynamicChange, AllocError>
+    requires lag { machine.seconds_of table.now.lag ≤ bound limits.MostTargetLag }
+    requires room { length (stored_of catalog.now).objects + 1 ≤ bound limits.ObjectIds }
+    ensures { IfOk result (λ change. dynamic_change_of change
+        ≡ dynamic_change (length (stored_of catalog.now).objects)
+        (new_dynamic_table_of table.now)) }
+{
+    let id = catalog.object_count() as u32 + 1;
+    let query = written_query(alloc, table)?;
+    let name = table.name.copy(alloc)?;
+    let columns = copied_columns(alloc, &table.columns)?;
     Ok(DynamicChange {
-        id: sight.catalog.object_count() as u32 + 1,
-        name: table.name.copy(alloc)?,
+        id,
+        name,
         lag: seconds_of(table.lag) as u32,
         is_incremental: is_incremental(table),
-        query: written_query(alloc, table)?,
-        columns: copied_columns(alloc, &table.columns)?,
+        query,
+        columns,
     })
 }
 
@@ -128,14 +190,39 @@ fn made(
     alloc: Global,
     sight: &Sight<'_>,
     table: &NewDynamicTable,
-) -> Result<StoredObject, AllocError> {
-    let lag = seconds_of(table.lag) as u32;
-    let query = written_query(alloc, table)?;
-    let dynamic = Dynamic::new(alloc, lag, is_incremental(table), query)?;
-    let columns = copied_columns(alloc, &table.columns)?;
-    let rows = StoredTable::empty(alloc, columns, sight.stamp);
+) -> Result<StoredObject, AllocError>
+    requires lag { machine.seconds_of table.now.lag ≤ bound limits.MostTargetLag }
+    requires columns { length table.now.columns.items ≤ bound limits.Columns }
+    ensures { IfOk result (λ object. object_in (kept_object object)
+        ≡ new_stored sight.now.stamp (new_dynamic_table_of table.now)) }
+{
+    let dynamic = made_dynamic(alloc, table)?;
+    let rows = made_rows(alloc, table, sight.stamp)?;
     let name = table.name.copy(alloc)?;
     Ok(StoredObject::dynamic_table(name, dynamic, rows))
+}
+
+fn made_dynamic(alloc: Global, table: &NewDynamicTable) -> Result<Dynamic, AllocError>
+    requires { machine.seconds_of table.now.lag ≤ bound limits.MostTargetLag }
+    ensures { IfOk result (λ dynamic. dynamic_of dynamic
+        ≡ new_dynamic_in (new_dynamic_table_of table.now)) }
+{
+    let lag = seconds_of(table.lag) as u32;
+    let query = written_query(alloc, table)?;
+    Dynamic::new(alloc, lag, is_incremental(table), query)
+}
+
+fn made_rows(
+    alloc: Global,
+    table: &NewDynamicTable,
+    stamp: u64,
+) -> Result<StoredTable, AllocError>
+    requires { length table.now.columns.items ≤ bound limits.Columns }
+    ensures { IfOk result (λ rows. table_of rows
+        ≡ empty_table (map column_of table.now.columns.items) stamp) }
+{
+    let columns = copied_columns(alloc, &table.columns)?;
+    Ok(StoredTable::empty(alloc, columns, stamp))
 }
 
 // Its query as it is kept.
@@ -143,7 +230,7 @@ fn written_query(alloc: Global, table: &NewDynamicTable) -> Result<DynamicQuery,
     ensures { IfOk result (λ query. query_of query
         ≡ machine.query_of (new_dynamic_table_of table.now)) }
 {
-    let sources = sources_named(alloc, table)?;
+    let sources = written_sources(alloc, table)?;
     let text = table.query_text.copy(alloc)?;
     let tree = Boxed::new(alloc, copy_query(alloc, table.tree.get())?)?;
     Ok(DynamicQuery {
@@ -154,19 +241,45 @@ fn written_query(alloc: Global, table: &NewDynamicTable) -> Result<DynamicQuery,
 }
 
 // An object for each name in FROM, in the order of the text.
-fn sources_named(alloc: Global, table: &NewDynamicTable) -> Result<Vec<NamedSource>, AllocError> {
+fn written_sources(alloc: Global, table: &NewDynamicTable) -> Result<Vec<NamedSource>, AllocError>
+    ensures { IfOk result (λ sources. map source_of sources.items
+        ≡ (machine.query_of (new_dynamic_table_of table.now)).sources) }
+{
     let names = names_in_query(alloc, table.tree.get())?;
+    sources_named(alloc, &names, &table.sources)
+}
+
+fn sources_named(
+    alloc: Global,
+    names: &[&Text],
+    ids: &[u32],
+) -> Result<Vec<NamedSource>, AllocError>
+    ensures { IfOk result (λ sources. map source_of sources.items
+        ≡ machine.sources_named (names_at names.now) ids.now) }
+{
     let mut sources = Vec::new(alloc);
-    for place in 0..names.len().min(table.sources.len()) {
-        sources.push(NamedSource {
-            name: names[place].copy(alloc)?,
-            id: table.sources[place],
-        })?;
+    let mut place = 0;
+    for name in names {
+        if ids.len() <= place {
+            return Ok(sources);
+        }
+        sources.push(named_source(alloc, *name, ids[place])?)?;
+        place += 1;
     }
     Ok(sources)
 }
 
-fn is_incremental(table: &NewDynamicTable) -> bool {
+fn named_source(alloc: Global, name: &Text, id: u32) -> Result<NamedSource, AllocError>
+    ensures { IfOk result (λ source. source_of source ≡ record { name = name.now; id = id }) }
+{
+    let name = name.copy(alloc)?;
+    Ok(NamedSource { name, id })
+}
+
+fn is_incremental(table: &NewDynamicTable) -> bool
+    ensures { result ≡ machine.is_incremental table.now.mode
+        (increments.incrementable (new_dynamic_table_of table.now).query) }
+{
     match table.mode {
         RefreshMode::Auto => incrementable(&table.query),
         RefreshMode::Full => false,
@@ -180,18 +293,20 @@ fn dynamic_refusal(
     alloc: Global,
     catalog: &Catalog,
     table: &NewDynamicTable,
-) -> Result<Option<Refusal>, AllocError> {
-    if let Some(why) = mode_refusal(table) {
-        return Ok(Some(why));
-    }
+) -> Result<Option<Refusal>, AllocError>
+    ensures { IfOk result (λ found. option_map refusal_view found
+        ≡ machine.dynamic_refusal (state_of catalog.now) None (new_dynamic_table_of table.now)
+        (machine.query_of (new_dynamic_table_of table.now))) }
+{
     let upstream = new_upstream(alloc, catalog, table)?;
-    if let Some(why) = below_refusal(alloc, catalog, &table.name, table.lag, &upstream)? {
-        return Ok(Some(why));
-    }
-    Ok(limit_refusal(catalog, table))
+    let below = below_refusal(alloc, catalog, &table.name, table.lag, &upstream)?;
+    Ok(mode_refusal(table).or(below).or(limit_refusal(catalog, table)))
 }
 
-fn mode_refusal(table: &NewDynamicTable) -> Option<Refusal> {
+fn mode_refusal(table: &NewDynamicTable) -> Option<Refusal>
+    ensures { option_map refusal_view result ≡ machine.mode_refusal table.now.mode
+        (increments.incrementable (new_dynamic_table_of table.now).query) }
+{
     match table.mode {
         RefreshMode::Incremental => {
             refused_if(!incrementable(&table.query), Refusal::NotIncrementable)
@@ -205,7 +320,10 @@ fn new_upstream(
     alloc: Global,
     catalog: &Catalog,
     table: &NewDynamicTable,
-) -> Result<Vec<u32>, AllocError> {
+) -> Result<Vec<u32>, AllocError>
+    ensures { IfOk result (λ ids. ids.items ≡ new_upstream (state_of catalog.now).objects
+        (machine.query_of (new_dynamic_table_of table.now))) }
+{
     let all = catalog.watched(alloc)?;
     let query = written_query(alloc, table)?;
     let reads = ids_read(alloc, &query)?;
@@ -213,7 +331,10 @@ fn new_upstream(
 }
 
 // The first limit that it is beyond.
-fn limit_refusal(catalog: &Catalog, table: &NewDynamicTable) -> Option<Refusal> {
+fn limit_refusal(catalog: &Catalog, table: &NewDynamicTable) -> Option<Refusal>
+    ensures { option_map refusal_view result
+        ≡ new_limit_refusal (state_of catalog.now) (new_dynamic_table_of table.now) }
+{
     let columns = table.columns.len() as u64;
     count_refusal(catalog, None)
         .or(refused_if(has_long_name(table), Refusal::OverLimit(Limit::Name)))
@@ -222,12 +343,11 @@ fn limit_refusal(catalog: &Catalog, table: &NewDynamicTable) -> Option<Refusal> 
         .or(lag_refusal(table.lag))
 }
 
-fn has_long_name(table: &NewDynamicTable) -> bool {
+fn has_long_name(table: &NewDynamicTable) -> bool
+    ensures { result ≡ list_any is_long
+        (table.now.name ∷ column_names (new_dynamic_table_of table.now).columns) }
+{
     is_long(&table.name) || some_is_long(&table.columns)
-}
-
-fn some_is_long(columns: &[Column]) -> bool {
-    columns.iter().any(|column| is_long(&column.name))
 }
 
 // ---- DROP DYNAMIC TABLE

@@ -1,13 +1,19 @@
 //! Lags of dynamic tables, and what is refused of them.
-ghost use Rattle.std.specs.Prelude.{◌≡◌, option_map, IfOk};
+ghost use Rattle.std.specs.Prelude.{◌≡◌, ◌<◌, ◌^◌, length, option_map, IfOk};
 ghost use Rattle.wh_reply.specs.Reply.{LagTooShort};
+ghost use Rattle.wh_value.specs.Limit.{bound};
+ghost use Rattle.wh_value.specs.declared.limit.Limit.TheVariants as limits;
+ghost use Rattle.wh_reply.specs.Reply.{OverLimit};
 ghost use Rattle.wh_reply.specs.View.{refusal_view};
+ghost use Rattle.std.specs.Option.{option_map_or};
+ghost use Rattle.wh_state.specs.Objects.{is_live_at, dynamic_at};
 ghost use Rattle.wh_moment.specs.Upstream.{dynamics_of};
 ghost use Rattle.wh_moment.specs.Moment.{ids_from};
-ghost use Rattle.wh_machine.specs.Tests.{first_of};
+ghost use Rattle.wh_machine.specs.Tests.{first_of, refused_if};
 ghost use Rattle.wh_machine.specs.Dynamics as machine;
 ghost use Rattle.wh_dynamic.specs.View.{dynamics_in};
 ghost use Rattle.wh_catalog.specs.Catalog.{state_of};
+ghost use Rattle.std.specs.Prelude.{nat_lt};
 
 use crate::limits::{refused_if, refused_past};
 use crate::reading::name_of;
@@ -42,7 +48,10 @@ pub(crate) fn lag_refusal(lag: Lag) -> Option<Refusal>
     }
 }
 
-fn least_refusal(seconds: u64) -> Option<Refusal> {
+fn least_refusal(seconds: u64) -> Option<Refusal>
+    ensures { option_map refusal_view result ≡ refused_if
+        (nat_lt seconds (bound limits.LeastTargetLag)) (OverLimit limits.LeastTargetLag) }
+{
     refused_if(
         seconds < Limit::LeastTargetLag.bound(),
         Refusal::OverLimit(Limit::LeastTargetLag),
@@ -53,15 +62,29 @@ fn least_refusal(seconds: u64) -> Option<Refusal> {
 fn live_lag(catalog: &Catalog, id: u32) -> u64
     ensures { result ≡ machine.live_lag (state_of catalog.now).objects id }
 {
-    let Some(object) = catalog.object(id) else {
-        return 0;
-    };
-    if !object.is_live() {
-        return 0;
+    if is_live_at(catalog, id) {
+        lag_at(catalog, id)
+    } else {
+        0
     }
+}
+
+fn lag_at(catalog: &Catalog, id: u32) -> u64
+    ensures { result ≡ option_map_or (λ d. d.state.lag)
+        (dynamic_at (state_of catalog.now).objects id) 0 }
+{
     match catalog.dynamic(id) {
         Some(dynamic) => dynamic.state().lag as u64,
         None => 0,
+    }
+}
+
+fn is_live_at(catalog: &Catalog, id: u32) -> bool
+    ensures { result ≡ is_live_at (state_of catalog.now).objects id }
+{
+    match catalog.object(id) {
+        Some(object) => object.is_live(),
+        None => false,
     }
 }
 
@@ -94,18 +117,17 @@ fn longer_refusal(
 {
     for id in ids {
         if lag < live_lag(catalog, *id) {
-            let why = too_short(alloc, name, &name_of(alloc, catalog, *id)?)?;
-            return Ok(Some(why));
+            let upstream = name_of(alloc, catalog, *id)?;
+            return Ok(Some(too_short(alloc, name, upstream)?));
         }
     }
     Ok(None)
 }
 
-fn too_short(alloc: Global, table: &Text, upstream: &Text) -> Result<Refusal, AllocError>
-    ensures { IfOk result (λ why. refusal_view why ≡ LagTooShort table.now upstream.now) }
+fn too_short(alloc: Global, table: &Text, upstream: Text) -> Result<Refusal, AllocError>
+    ensures { IfOk result (λ why. refusal_view why ≡ LagTooShort table.now upstream) }
 {
     let table = table.copy(alloc)?;
-    let upstream = upstream.copy(alloc)?;
     Ok(Refusal::LagTooShort { table, upstream })
 }
 
@@ -136,13 +158,29 @@ fn shorter_refusal(
         (ids_from 1 (state_of catalog.now).objects)) }
 {
     let all = catalog.watched(alloc)?;
+    first_shorter(alloc, catalog, &all, id, lag)
+}
+
+// Of these, all dynamic tables by their ids.
+fn first_shorter(
+    alloc: Global,
+    catalog: &Catalog,
+    all: &[Option<Watched<'_>>],
+    id: u32,
+    lag: u64,
+) -> Result<Option<Refusal>, AllocError>
+    requires dynamics { dynamics_in all.now ≡ dynamics_of (state_of catalog.now).objects }
+    requires few { length all.now < 2 ^ 32 }
+    ensures { IfOk result (λ found. option_map refusal_view found
+        ≡ machine.first_shorter (state_of catalog.now).objects id lag (ids_from 1 all.now)) }
+{
     let mut above = 0;
-    for _table in &all {
+    for _table in all {
         above += 1;
-        if is_shorter_above(alloc, catalog, &all, id, lag, above)? {
+        if is_shorter_above(alloc, catalog, all, id, lag, above)? {
             let table = name_of(alloc, catalog, above)?;
-            let why = too_short(alloc, &table, &name_of(alloc, catalog, id)?)?;
-            return Ok(Some(why));
+            let upstream = name_of(alloc, catalog, id)?;
+            return Ok(Some(too_short(alloc, &table, upstream)?));
         }
     }
     Ok(None)
