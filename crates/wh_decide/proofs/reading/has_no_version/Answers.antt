@@ -1,4 +1,4 @@
-use Rattle.std.proofs.Common.{ℕ, ap, ◌∙◌}
+use Rattle.std.proofs.Common.{ℕ, ap}
 use Rattle.std.specs.Prelude.{nat_eq}
 use Rattle.wh_table.specs.Table.{table_of}
 use Rattle.wh_decide.proofs.ReadingLemmas.{no_version_in, no_table_in}
