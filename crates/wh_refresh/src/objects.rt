@@ -7,8 +7,8 @@ ghost use Rattle.wh_state.specs.Stored.{table_meant};
 ghost use Rattle.wh_moment.specs.Upstream.{dynamics_of};
 ghost use Rattle.wh_dynamic.specs.View.{dynamic_of, dynamics_in};
 ghost use Rattle.wh_table.specs.Table.{table_of};
-ghost use Rattle.wh_catalog.specs.Catalog.{state_of};
-ghost use Rattle.wh_refresh.specs.Objects.{object_of, objects_in, stored_in, with_made};
+ghost use Rattle.wh_catalog.specs.Catalog.{stored_of, state_of};
+ghost use Rattle.wh_refresh.specs.Objects.{object_of, objects_in, stored_in, with_made, stored_made};
 
 use std::alloc::{AllocError, Global};
 use wh_catalog::{Catalog, StoredObject, StoredTable, watched_object};
@@ -21,8 +21,10 @@ pub fn all_objects<'a>(
     catalog: &'a Catalog,
     made: Option<&'a StoredObject>,
 ) -> Result<Vec<&'a StoredObject>, AllocError>
-    ensures { IfOk result (λ objects. objects_in objects.items
+    ensures objects { IfOk result (λ objects. objects_in objects.items
         ≡ (state_of catalog.now).objects ++ with_made made.entry) }
+    ensures stored { IfOk result (λ objects. stored_in objects.items
+        ≡ (stored_of catalog.now).objects ++ stored_made made.entry) }
 {
     let mut objects = Vec::new(alloc);
     for object in catalog.objects() {
@@ -36,8 +38,10 @@ fn add_made<'a>(
     objects: &mut Vec<&'a StoredObject>,
     made: Option<&'a StoredObject>,
 ) -> Result<(), AllocError>
-    ensures { OnOk result (objects_in objects.new.items
+    ensures objects { OnOk result (objects_in objects.new.items
         ≡ objects_in objects.old.items ++ with_made made.entry) }
+    ensures stored { OnOk result (stored_in objects.new.items
+        ≡ stored_in objects.old.items ++ stored_made made.entry) }
 {
     let Some(object) = made else {
         return Ok(());
