@@ -68,14 +68,30 @@ pub(crate) fn create_dynamic(
     if let Some(why) = definition_refusal(sight, None, wrong) {
         return Ok(Decision::Refuse(why));
     }
-    let change = change(alloc, sight.catalog, &table)?;
+    new_dynamic(alloc, sight, &table)
+}
+
+// A new dynamic table, of which nothing is beyond a limit.
+fn new_dynamic(
+    alloc: Global,
+    sight: &Sight<'_>,
+    table: &NewDynamicTable,
+) -> Result<Decision, AllocError>
+    requires lag { machine.seconds_of table.now.lag ≤ bound limits.MostTargetLag }
+    requires columns { length table.now.columns.items ≤ bound limits.Columns }
+    requires room { length (stored_of sight.now.catalog.now).objects + 1 ≤ bound limits.ObjectIds }
+    ensures { IfOk result (λ decision. Comes sight.now decision
+        (machine.initialized (machine_in sight.now) (new_dynamic_table_of table.now)
+        (machine.query_of (new_dynamic_table_of table.now)) table.now.initialize)) }
+{
+    let change = change(alloc, sight.catalog, table)?;
     match table.initialize {
         Initialize::OnSchedule => {
             let lines = Vec::new(alloc);
             let more = Vec::new(alloc);
             created(alloc, sight, change, lines, more)
         }
-        Initialize::OnCreate => initialized(alloc, sight, &table, change),
+        Initialize::OnCreate => initialized(alloc, sight, table, change),
     }
 }
 

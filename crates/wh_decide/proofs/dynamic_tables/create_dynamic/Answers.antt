@@ -1,21 +1,17 @@
-use Rattle.std.proofs.Common.{◌≡◌, [], ◌++◌, map, List, Some, None, option_map, ap, sym, ◌∙◌, arith}
+use Rattle.std.proofs.Common.{◌≡◌, Some, None, option_map, ap, sym, ◌∙◌, arith}
 use Rattle.wh_ddl_bind.specs.View.{new_dynamic_table_of}
-use Rattle.wh_reply.specs.Reply.{CreatedDynamicTable, DdlInTransaction, Locked}
-use Rattle.wh_reply.specs.View.{refusal_view, refreshed_view}
-use Rattle.wh_reply.specs.declared.reply.Refreshed.{Refreshed}
+use Rattle.wh_reply.specs.Reply.{DdlInTransaction, Locked}
+use Rattle.wh_reply.specs.View.{refusal_view}
 use Rattle.std.proofs.lemmas.List.{length-map}
-use Rattle.std.proofs.lemmas.Result.{IfOk-weaker}
 use Rattle.wh_value.specs.View.{column_of}
-use Rattle.wh_record.specs.View.{change_of}
 use Rattle.wh_machine.specs.Sessions.{number_in}
-use Rattle.wh_machine.specs.Outcome.{commits}
 use Rattle.wh_machine.specs.Definitions.{holder_of, defines}
-use Rattle.wh_machine.specs.Dynamics.{dynamic_refusal, dynamic_made, initialized, query_of, create_dynamic}
+use Rattle.wh_machine.specs.Dynamics.{dynamic_refusal, initialized, query_of, create_dynamic}
 use Rattle.wh_catalog.specs.Catalog.{state_of}
 use Rattle.wh_txn.specs.View.{sessions_of}
 use Rattle.wh_decide.specs.Sight.{machine_in}
 use Rattle.wh_decide.proofs.CatalogLemmas.{count_is}
-use Rattle.wh_decide.proofs.OutcomeLemmas.{decides_as, comes_as}
+use Rattle.wh_decide.proofs.OutcomeLemmas.{comes_as}
 use Rattle.wh_decide.proofs.DefineLemmas.{none_past}
 use Rattle.wh_decide.proofs.NewDynamics.{IsWithin, defines_dynamic, within_limits}
 use Rattle.wh_decide.proofs.dynamic_tables.create_dynamic.Goals.{In_default}
@@ -52,42 +48,19 @@ defined_as c =
     (new_dynamic_table_of c.args.table) _ None c.in_ok-wrong.ensures
     (sym (ap (option_map refusal_view) c.in_default.is) ∙ c.definition_refusal.ensures)
 
-pub change-requires-clause-lag : goal.change-requires-clause-lag
-change-requires-clause-lag c = (within (goal.at.change-requires-clause-lag c).In_default).lag
+pub new_dynamic-requires-clause-lag : goal.new_dynamic-requires-clause-lag
+new_dynamic-requires-clause-lag c = (within (goal.at.new_dynamic-requires-clause-lag c).In_default).lag
 
-pub change-requires-clause-room : goal.change-requires-clause-room
-change-requires-clause-room c =
-    let kept = within (goal.at.change-requires-clause-room c).In_default in
-    omega (arith, kept.room, count_is c.args.sight.now.catalog.now)
-
-pub returns-in-OnSchedule : goal.returns-in-OnSchedule
-returns-in-OnSchedule c =
-    let sight = c.args.sight.now in
-    let m = machine_in sight in
-    let n = new_dynamic_table_of c.args.table in
-    let same : commits m (CreatedDynamicTable n.name (map refreshed_view c.new-lines.result.items))
-    (dynamic_made n (query_of n) ++ []) ≡ initialized m n (query_of n) n.initialize =
-    ap (λ (lines : List Refreshed).
-    commits m (CreatedDynamicTable n.name (map refreshed_view lines)) (dynamic_made n (query_of n)))
-    c.new-lines.ensures.items
-    ∙ ap (initialized m n (query_of n)) (sym c.in-OnSchedule.is) in
-    IfOk-weaker c.created.result _ _
-    (λ decision told. decides_as sight decision (same ∙ sym (defined_as (goal.at.returns-in-OnSchedule c).In_default))
-    (told n [] c.in_ok-change.ensures (ap (map change_of) c.new-more.ensures.items))) c.created.ensures
-
-pub initialized-requires-clause-lag : goal.initialized-requires-clause-lag
-initialized-requires-clause-lag c = (within (goal.at.initialized-requires-clause-lag c).In_default).lag
-
-pub initialized-requires-clause-columns : goal.initialized-requires-clause-columns
-initialized-requires-clause-columns c =
-    let kept = within (goal.at.initialized-requires-clause-columns c).In_default in
+pub new_dynamic-requires-clause-columns : goal.new_dynamic-requires-clause-columns
+new_dynamic-requires-clause-columns c =
+    let kept = within (goal.at.new_dynamic-requires-clause-columns c).In_default in
     omega (arith, kept.columns, length-map c.args.table.columns.items column_of)
 
-pub returns-in-OnCreate : goal.returns-in-OnCreate
-returns-in-OnCreate c =
-    let sight = c.args.sight.now in
-    let m = machine_in sight in
-    let n = new_dynamic_table_of c.args.table in
-    comes_as sight c.initialized.result
-    (ap (initialized m n (query_of n)) (sym c.in-OnCreate.is)
-    ∙ sym (defined_as (goal.at.returns-in-OnCreate c).In_default)) c.initialized.ensures
+pub new_dynamic-requires-clause-room : goal.new_dynamic-requires-clause-room
+new_dynamic-requires-clause-room c =
+    let kept = within (goal.at.new_dynamic-requires-clause-room c).In_default in
+    omega (arith, kept.room, count_is c.args.sight.now.catalog.now)
+
+pub returns : goal.returns
+returns c =
+    comes_as c.args.sight.now c.new_dynamic.result (sym (defined_as (goal.at.returns c).In_default)) c.new_dynamic.ensures

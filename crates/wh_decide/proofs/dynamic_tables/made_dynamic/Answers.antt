@@ -7,4 +7,4 @@ pub returns : goal.returns
 returns c =
     IfOk-weaker c.new.result _ _
     (λ dynamic is. is ∙ (λ i.
-    new_dynamic (c.seconds_of.ensures i) (c.is_incremental.ensures i) (c.in_ok-query.ensures i))) c.new.ensures
+    new_dynamic (c.seconds_of-lag.ensures i) (c.is_incremental.ensures i) (c.in_ok-query.ensures i))) c.new.ensures
