@@ -134,7 +134,7 @@ fn decide_bound(alloc: Global, sight: &Sight<'_>, statement: Bound) -> Result<De
         Bound::SuspendTask(id) => suspend_task(alloc, sight, id),
         Bound::ExecuteTask(root) => execute_task(alloc, sight, root),
         Bound::DropTask(id) => drop_task(alloc, sight, id),
-        Bound::CreateDynamicTable(table) => create_dynamic(alloc, sight, table.into_inner()),
+        Bound::CreateDynamicTable(table) => create_dynamic(alloc, sight, table.get()),
         Bound::ResumeDynamicTable(id) => resume_dynamic(alloc, sight, id),
         Bound::SuspendDynamicTable(id) => suspend_dynamic(alloc, sight, id),
         Bound::RefreshDynamicTable(id) => refresh_dynamic(alloc, sight, id),

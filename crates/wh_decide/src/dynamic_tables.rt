@@ -58,17 +58,17 @@ use wh_value::{Limit, Text};
 pub(crate) fn create_dynamic(
     alloc: Global,
     sight: &Sight<'_>,
-    table: NewDynamicTable,
+    table: &NewDynamicTable,
 ) -> Result<Decision, AllocError>
     ensures { IfOk result (λ decision. Comes sight.now decision
         (defines (machine_in sight.now) sight.now.session None
-        (machine.create_dynamic (machine_in sight.now) None (new_dynamic_table_of table)))) }
+        (machine.create_dynamic (machine_in sight.now) None (new_dynamic_table_of table.now)))) }
 {
-    let wrong = dynamic_refusal(alloc, sight.catalog, &table)?;
+    let wrong = dynamic_refusal(alloc, sight.catalog, table)?;
     if let Some(why) = definition_refusal(sight, None, wrong) {
         return Ok(Decision::Refuse(why));
     }
-    new_dynamic(alloc, sight, &table)
+    new_dynamic(alloc, sight, table)
 }
 
 // A new dynamic table, of which nothing is beyond a limit.

@@ -21,14 +21,14 @@ pub returns-in-Some : goal.returns-in-Some
 returns-in-Some c =
     let sight = c.args.sight.now in
     defines_dynamic (state_of sight.catalog.now) sight.stamp (sessions_of sight.sessions.now) sight.session
-    (new_dynamic_table_of c.args.table) _ (Some (refusal_view c.in-Some.why)) c.in_ok-wrong.ensures
+    (new_dynamic_table_of c.args.table.now) _ (Some (refusal_view c.in-Some.why)) c.in_ok-wrong.ensures
     (sym (ap (option_map refusal_view) c.in-Some.is) ∙ c.definition_refusal.ensures)
 
 -- what a dynamic table that isn't refused keeps
-within : (c : In_default) → IsWithin (state_of c.args.sight.now.catalog.now) (new_dynamic_table_of c.args.table)
+within : (c : In_default) → IsWithin (state_of c.args.sight.now.catalog.now) (new_dynamic_table_of c.args.table.now)
 within c =
     let sight = c.args.sight.now in
-    let n = new_dynamic_table_of c.args.table in
+    let n = new_dynamic_table_of c.args.table.now in
     let passed : dynamic_refusal (state_of sight.catalog.now) None n (query_of n) ≡ None =
     sym c.in_ok-wrong.ensures ∙ none_past
     (option_map DdlInTransaction (number_in (sessions_of sight.sessions.now) sight.session))
@@ -39,13 +39,13 @@ within c =
 
 -- by its tests
 defined_as : (c : In_default) → defines (machine_in c.args.sight.now) c.args.sight.now.session None
-    (create_dynamic (machine_in c.args.sight.now) None (new_dynamic_table_of c.args.table))
-    ≡ initialized (machine_in c.args.sight.now) (new_dynamic_table_of c.args.table)
-    (query_of (new_dynamic_table_of c.args.table)) c.args.table.initialize
+    (create_dynamic (machine_in c.args.sight.now) None (new_dynamic_table_of c.args.table.now))
+    ≡ initialized (machine_in c.args.sight.now) (new_dynamic_table_of c.args.table.now)
+    (query_of (new_dynamic_table_of c.args.table.now)) c.args.table.now.initialize
 defined_as c =
     let sight = c.args.sight.now in
     defines_dynamic (state_of sight.catalog.now) sight.stamp (sessions_of sight.sessions.now) sight.session
-    (new_dynamic_table_of c.args.table) _ None c.in_ok-wrong.ensures
+    (new_dynamic_table_of c.args.table.now) _ None c.in_ok-wrong.ensures
     (sym (ap (option_map refusal_view) c.in_default.is) ∙ c.definition_refusal.ensures)
 
 pub new_dynamic-requires-clause-lag : goal.new_dynamic-requires-clause-lag
@@ -54,7 +54,7 @@ new_dynamic-requires-clause-lag c = (within (goal.at.new_dynamic-requires-clause
 pub new_dynamic-requires-clause-columns : goal.new_dynamic-requires-clause-columns
 new_dynamic-requires-clause-columns c =
     let kept = within (goal.at.new_dynamic-requires-clause-columns c).In_default in
-    omega (arith, kept.columns, length-map c.args.table.columns.items column_of)
+    omega (arith, kept.columns, length-map c.args.table.now.columns.items column_of)
 
 pub new_dynamic-requires-clause-room : goal.new_dynamic-requires-clause-room
 new_dynamic-requires-clause-room c =
