@@ -69,7 +69,7 @@ unfolding print digits
 initialized = refl
 
 -- where each stands for the moment already
-nothing_refreshed : print (RefreshedTables []) ≡ []
+nothing_refreshed : print (RefreshedTables []) ≡ codes "IDLE\n"
 unfolding print
 nothing_refreshed = refl
 
