@@ -122,12 +122,7 @@ pub(crate) fn set_lag(
     Ok(defined(sight, reply, changes))
 }
 
-fn new_lag(
-    alloc: Global,
-    catalog: &Catalog,
-    id: u32,
-    lag: Lag,
-) -> Result<Vec<Change>, AllocError>
+fn new_lag(alloc: Global, catalog: &Catalog, id: u32, lag: Lag) -> Result<Vec<Change>, AllocError>
     requires { machine.seconds_of lag ≤ bound limits.MostTargetLag }
     ensures { IfOk result (λ changes. map change_of changes.items
         ≡ put_written_to id (lag_state lag) (dynamic_at (stored_of catalog.now).objects id)) }

@@ -228,11 +228,7 @@ fn made_dynamic(alloc: Global, table: &NewDynamicTable) -> Result<Dynamic, Alloc
     Dynamic::new(alloc, lag, is_incremental(table), query)
 }
 
-fn made_rows(
-    alloc: Global,
-    table: &NewDynamicTable,
-    stamp: u64,
-) -> Result<StoredTable, AllocError>
+fn made_rows(alloc: Global, table: &NewDynamicTable, stamp: u64) -> Result<StoredTable, AllocError>
     requires { length table.now.columns.items ≤ bound limits.Columns }
     ensures { IfOk result (λ rows. table_of rows
         ≡ empty_table (map column_of table.now.columns.items) stamp) }
@@ -316,7 +312,11 @@ fn dynamic_refusal(
 {
     let upstream = new_upstream(alloc, catalog, table)?;
     let below = below_refusal(alloc, catalog, &table.name, table.lag, &upstream)?;
-    Ok(mode_refusal(table).or(below).or(limit_refusal(catalog, table)))
+    Ok(
+        mode_refusal(table)
+            .or(below)
+            .or(limit_refusal(catalog, table)),
+    )
 }
 
 fn mode_refusal(table: &NewDynamicTable) -> Option<Refusal>

@@ -12,7 +12,6 @@ use Rattle.wh_value.specs.declared.limit.Limit.{Limit}
 use Rattle.wh_value.specs.declared.limit.Limit.TheVariants as limits
 
 pub data Refusal : Type 0 where
-  Unsupported : Refusal
   SyntaxError : Refusal
   NoSuchSession : (session : ℕ) → Refusal
   -- the number of the session's own transaction
@@ -175,7 +174,6 @@ limit_word limits.MostTargetLag = codes "TARGET_LAG"
 limit_word limits.Retention = codes "RETENTION"
 
 abbrev pub refusal_text : Refusal → List ℕ
-refusal_text Unsupported = codes "E0 Unsupported"
 refusal_text SyntaxError = codes "E1 SyntaxError"
 refusal_text (NoSuchSession session) = codes "E2 NoSuchSession " ++ decimal session
 refusal_text (DdlInTransaction number) = codes "E3 DdlInTransaction " ++ decimal number

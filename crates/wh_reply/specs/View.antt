@@ -14,7 +14,6 @@ use Rattle.wh_reply.specs.declared.reply.Reply.{Reply}
 use Rattle.wh_reply.specs.declared.reply.Reply.TheVariants as replies
 
 abbrev pub refusal_view : Refusal → machine.Refusal
-refusal_view refusals.Unsupported = machine.Unsupported
 refusal_view refusals.SyntaxError = machine.SyntaxError
 refusal_view (refusals.NoSuchSession session) = machine.NoSuchSession session
 refusal_view (refusals.DdlInTransaction number) = machine.DdlInTransaction number

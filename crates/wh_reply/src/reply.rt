@@ -3,8 +3,6 @@ use wh_value::{Limit, Row, Text};
 /// Why a command is refused. docs/replies.md has the exact cause of each.
 #[derive(Debug, Drop)]
 pub enum Refusal {
-    /// The statement's form is not carried out yet.
-    Unsupported,
     /// The text spells no statement.
     SyntaxError,
     /// No session has the number.

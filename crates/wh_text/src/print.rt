@@ -140,7 +140,6 @@ pub(crate) fn put_refusal(refusal: &Refusal, out: &mut Bytes) -> Result<(), Allo
     ensures { OnOk result (out.new ≡ out.old ++ refusal_text (refusal_view refusal.now)) }
 {
     match refusal {
-        Refusal::Unsupported => out.extend(b"E0 Unsupported"),
         Refusal::SyntaxError => out.extend(b"E1 SyntaxError"),
         Refusal::NoSuchSession(session) => put_number(b"E2 NoSuchSession ", *session, out),
         Refusal::DdlInTransaction(number) => put_number(b"E3 DdlInTransaction ", *number, out),
