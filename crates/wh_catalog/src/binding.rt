@@ -132,7 +132,8 @@ fn agrees(source: &NamedSource, other: &NamedSource) -> bool
     other.name != source.name || other.id == source.id
 }
 
-fn named_as<'a>(source: &'a NamedSource, object: &'a StoredObject) -> Named<'a>
+/// An object under the name that a query is kept with.
+pub fn named_as<'a>(source: &'a NamedSource, object: &'a StoredObject) -> Named<'a>
     ensures { named_of result
         ≡ named_as (source_of source.now) (object_in (kept_object object.now)) }
 {

@@ -18,6 +18,7 @@ mod streaming;
 mod tasks;
 mod undo;
 
+pub use binding::named_as;
 pub use catalog::{Catalog, watched_object};
 pub use object::{StoredKind, StoredObject};
 pub use stream::StoredStream;

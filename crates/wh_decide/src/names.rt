@@ -10,9 +10,9 @@ ghost use Rattle.wh_ddl_naming.specs.Statements.{bound};
 ghost use Rattle.wh_state.specs.State as state;
 ghost use Rattle.wh_state.specs.Stored.{kind_meant};
 ghost use Rattle.wh_machine.specs.Names as machine;
-ghost use Rattle.wh_catalog.specs.Object.{stored_kind};
+ghost use Rattle.wh_catalog.specs.Object.{object_of, stored_kind};
 ghost use Rattle.wh_catalog.specs.Catalog.{state_of};
-ghost use Rattle.wh_decide.specs.Names.{object_of, over};
+ghost use Rattle.wh_decide.specs.Names.{over};
 
 use std::alloc::{AllocError, Global};
 use wh_ast::Statement;

@@ -3,7 +3,6 @@ pub mod StopLemmas
 mod HaltLemmas
 mod CarryLemmas
 mod AppendLemmas
-mod KeptQueries
 mod SpelledLemmas
 mod DecidedLemmas
 mod ReplayLemmas

@@ -8,7 +8,7 @@ use Rattle.wh_grammar.specs.Spelled.{Request, Spells, Asks, is_long, spells_none
 use Rattle.wh_stmt_parse.specs.Request.{request_of}
 use Rattle.wh_stmt_parse.proofs.Reading.{requests_read}
 use Rattle.wh_state.proofs.KeptLaws.{task_spelled}
-use Rattle.wh_engine.proofs.KeptQueries.{query_spelled}
+use Rattle.wh_state.proofs.KeptQueries.{query_spelled}
 use Rattle.wh_machine.proofs.UnderstoodLaws.{IsSpelledStatement, IsSpelledRequest, IsSpelledEvent}
 use Rattle.wh_decide.specs.declared.event.Event.{Event}
 use Rattle.wh_decide.specs.declared.event.Event.TheVariants.{Command, Tick}

@@ -26,21 +26,12 @@ use Rattle.wh_state.specs.Stored.{StoredKind, StoredObject, object_meant, kind_m
 use Rattle.wh_state.proofs.AllLaws.{all_map}
 use Rattle.wh_machine.specs.Names.{object_kind, names_from}
 use Rattle.wh_machine.specs.Dynamics.{sources_named}
-use Rattle.wh_machine.proofs.MadeQuery.{query_same}
+use Rattle.wh_machine.proofs.MadeQuery.{named_inside, query_same}
 use Rattle.wh_machine.proofs.EvaluatedLaws.{names_meant}
 use Rattle.wh_machine.proofs.NamedLaws.{IsObjectOf, object_named}
 use Rattle.wh_machine.proofs.PassedLaws.{both_none, no_map}
 
 -- ---- an object of a name
-
-named_mapped : (xs : List Named) (name : Name) → named (map inside xs) name ≡ option_map inside (named xs name)
-named_mapped [] name = refl
-named_mapped (x ∷ xs) name = by_test (bytes_eq x.name name) (named_mapped xs name)
-  where
-    by_test : (b : Bool) → named (map inside xs) name ≡ option_map inside (named xs name)
-        → cond b (Some (inside x)) (named (map inside xs) name) ≡ option_map inside (cond b (Some x) (named xs name))
-    by_test true rest = refl
-    by_test false rest = rest
 
 has_name : (xs : List Named) (name : Name) (found : Named) → named xs name ≡ Some found → found.name ≡ name
 has_name [] name found is = absurd cc
@@ -88,7 +79,7 @@ module _ (objects : List StoredObject) where
   pub seen_by : (name : Name) (found : Named) → named all_inside name ≡ Some found → IsSeenBy name found
   seen_by name found is =
       by_plain (named (names_from 1 (map object_meant objects)) name) refl
-      (sym (named_mapped (names_from 1 (map object_meant objects)) name) ∙ is)
+      (sym (named_inside (names_from 1 (map object_meant objects)) name) ∙ is)
     where
       by_plain : (plain : Option Named) → named (names_from 1 (map object_meant objects)) name ≡ plain
           → option_map inside plain ≡ Some found → IsSeenBy name found

@@ -1,5 +1,6 @@
 -- The query that a new dynamic table is kept with.
 --     sources_by            a source for each name
+--     named_inside          the object of a name, as a dynamic table's query sees it
 --     query_same            over the objects that it is kept with it binds to what the statement's query binds to
 --     sources_there         they are there
 use Rattle.std.proofs.Common.{◌≡◌, ℕ, suc, ◌+◌, ◌≤◌, Bool, true, false, cond, List, [], ◌∷◌, ◌++◌, map, length}
@@ -103,7 +104,8 @@ looked_among objects f (n ∷ ns) name is =
 
 -- ---- by the names that stand in the statement
 
-named_inside : (names : List Named) (name : Name) → named (map inside names) name ≡ option_map inside (named names name)
+pub named_inside : (names : List Named) (name : Name)
+    → named (map inside names) name ≡ option_map inside (named names name)
 named_inside [] name = refl
 named_inside (n ∷ ns) name = by_test (bytes_eq n.name name) (named_inside ns name)
   where

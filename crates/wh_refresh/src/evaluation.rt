@@ -2,12 +2,11 @@
 ghost use Rattle.std.specs.Prelude.{◌≡◌, ◌∷◌, ◌++◌, [], map, option_map, OnOk, IfOk};
 ghost use Rattle.std.specs.Option.{option_map_or, option_to_list};
 ghost use Rattle.wh_meaning.specs.Query.{eval};
-ghost use Rattle.wh_naming.specs.View.{named_of, kind_of};
+ghost use Rattle.wh_naming.specs.View.{named_of};
 ghost use Rattle.wh_algebra.specs.View.{query_of as plain_query_of};
 ghost use Rattle.wh_exec.specs.Evaluation.{Evaluates, instance_of};
 ghost use Rattle.wh_state.specs.State.{at_id};
-ghost use Rattle.wh_state.specs.Bound.{named_as, names_among, query_bound, source_kind};
-ghost use Rattle.wh_catalog.specs.Object.{stored_kind};
+ghost use Rattle.wh_state.specs.Bound.{named_as, names_among, query_bound};
 ghost use Rattle.wh_dynamic.specs.View.{query_of, source_of};
 ghost use Rattle.wh_refresh.specs.Objects.{objects_in};
 
@@ -16,10 +15,10 @@ use std::alloc::{AllocError, Global};
 use wh_algebra::{Physical, Query, Tuple};
 use wh_bag::Bag;
 use wh_bind::bind_query;
-use wh_catalog::{StoredKind, StoredObject};
+use wh_catalog::{StoredObject, named_as};
 use wh_dynamic::{DynamicQuery, NamedSource};
 use wh_exec::{collected, evaluate};
-use wh_naming::{Named, ObjectKind};
+use wh_naming::Named;
 use wh_scalar::EvalFault;
 use wh_value::{Column, Row};
 
@@ -105,21 +104,5 @@ fn named<'a>(objects: &[&'a StoredObject], source: &'a NamedSource) -> Option<Na
         (at_id (objects_in objects.now) source.now.id) [] }
 {
     let object = object_at(objects, source.id)?;
-    Some(Named {
-        name: &source.name,
-        id: source.id,
-        kind: source_kind(object.kind()),
-        columns: object.kind().columns(),
-    })
-}
-
-// A stream is no source of a dynamic table, as a task is none anywhere.
-fn source_kind(kind: &StoredKind) -> ObjectKind
-    ensures { kind_of result ≡ source_kind (stored_kind kind.now) }
-{
-    match kind {
-        StoredKind::Table(_) => ObjectKind::Table,
-        StoredKind::Stream(_) | StoredKind::Task(_) => ObjectKind::Task,
-        StoredKind::Dynamic(_, _) => ObjectKind::DynamicTable,
-    }
+    Some(named_as(source, object))
 }

@@ -8,7 +8,7 @@ ghost use Rattle.wh_moment.specs.Upstream.{dynamics_of};
 ghost use Rattle.wh_dynamic.specs.View.{dynamic_of, dynamics_in};
 ghost use Rattle.wh_table.specs.Table.{table_of};
 ghost use Rattle.wh_catalog.specs.Catalog.{stored_of, state_of};
-ghost use Rattle.wh_refresh.specs.Objects.{object_of, objects_in, stored_in, with_made, stored_made};
+ghost use Rattle.wh_refresh.specs.Objects.{objects_in, stored_in, with_made, stored_made};
 
 use std::alloc::{AllocError, Global};
 use wh_catalog::{Catalog, StoredObject, StoredTable, watched_object};

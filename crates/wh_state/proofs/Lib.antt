@@ -36,4 +36,5 @@ pub mod EndLaws
 pub mod BelowLaws
 pub mod TextParts
 pub mod KeptLaws
+pub mod KeptQueries
 pub mod BroughtGoes

@@ -6,9 +6,9 @@ use Rattle.wh_state.specs.Stored as file
 use Rattle.wh_state.specs.Stored.{object_meant}
 use Rattle.wh_catalog.specs.Catalog.{state_of}
 use Rattle.wh_catalog.specs.Undoable.{object_in}
-use Rattle.wh_catalog.specs.Object.{kept_object, kept_objects}
+use Rattle.wh_catalog.specs.Object.{kept_object, kept_objects, object_of}
 use Rattle.wh_catalog.specs.declared.object.StoredObject.{StoredObject}
-use Rattle.wh_refresh.specs.Objects.{object_of, with_made, stored_made}
+use Rattle.wh_refresh.specs.Objects.{with_made, stored_made}
 use Rattle.wh_refresh.proofs.objects.all_objects.Goals as goal
 
 pub returns-clause-objects : goal.returns-clause-objects

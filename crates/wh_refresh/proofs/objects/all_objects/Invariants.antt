@@ -1,7 +1,7 @@
 use Rattle.std.proofs.Common.{◌≡◌, map, take}
 use Rattle.wh_catalog.specs.Undoable.{object_in}
-use Rattle.wh_catalog.specs.Object.{kept_object}
-use Rattle.wh_refresh.specs.Objects.{object_of, objects_in, stored_in}
+use Rattle.wh_catalog.specs.Object.{kept_object, object_of}
+use Rattle.wh_refresh.specs.Objects.{objects_in, stored_in}
 use Rattle.wh_refresh.proofs.objects.all_objects.Given as goal
 
 abbrev pub invariant-loop-object : goal.invariant-loop-object

@@ -1,5 +1,5 @@
 -- What CREATE DYNAMIC TABLE keeps of its text spells, by itself, the query.
-use Rattle.std.proofs.Common.{◌≡◌, List, [], ◌∷◌, ◌++◌, ℕ, sym, ap, ◌∙◌, subst, append-nil, IsUtf8}
+use Rattle.std.proofs.Common.{◌≡◌, List, [], ℕ, sym, subst, IsUtf8}
 use Rattle.wh_ast.specs.declared.query.Query.{Query}
 use Rattle.wh_ast.specs.declared.statement.Statement.TheVariants as st
 use Rattle.wh_ast.specs.declared.statement.CreateDynamicTable.{CreateDynamicTable}
@@ -9,14 +9,8 @@ use Rattle.wh_grammar.specs.Parts.{no_order}
 use Rattle.wh_grammar.specs.Query.{IsQuery}
 use Rattle.wh_grammar.specs.Spelled as g
 use Rattle.wh_grammar.specs.Spelled.{Spells, IsStatement, IsPlain, IsDynamicTable, IsKept, most_nested, tokens_of}
-use Rattle.wh_state.proofs.TextParts.{IsPart, part_is}
-
--- to the end of the text
-last_is : (text : List ℕ) (placed head ts : List Placed) {kept : List ℕ} → IsUtf8 text → HasTokens text placed
-    → placed ≡ head ++ ts → IsKept text ts kept → IsPart kept ts
-last_is text placed head ts utf8 h e k =
-    subst (λ (l : List ℕ). IsPart l ts) (sym k.is)
-    (part_is text placed head ts [] utf8 h (e ∙ ap (λ (l : List Placed). head ++ l) (sym (append-nil ts))))
+use Rattle.wh_state.proofs.TextParts.{IsPart}
+use Rattle.wh_state.proofs.KeptLaws.{last_is}
 
 part_spelled : {kept : List ℕ} {ts : List Placed} {q : Query} → IsPart kept ts
     → IsQuery most_nested (tokens_of ts) q [] → Spells kept (st.Select q [])
