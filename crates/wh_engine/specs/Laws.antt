@@ -8,6 +8,7 @@ use Rattle.wh_grammar.specs.Spelled.{Asked}
 use Rattle.wh_meaning.specs.Bag.{bag_of}
 use Rattle.wh_reply.specs.Reply.{is_refusal}
 use Rattle.wh_state.specs.State.{State, Table, Stream, with_offset}
+use Rattle.wh_state.specs.Edits.{is_among}
 use Rattle.wh_state.specs.Objects.{stream_at}
 use Rattle.wh_state.specs.Sound.{Sound}
 use Rattle.wh_state.specs.Stored.{Stored, Means}
@@ -23,7 +24,8 @@ use Rattle.wh_machine.specs.Step.{Event, Command, Tick, stamp_of, at_stamp, step
 use Rattle.wh_machine.specs.Script.{IsScript}
 use Rattle.wh_machine.specs.Made.{all_made, kept_after_all}
 use Rattle.wh_machine.specs.Sound.{SoundMachine}
-use Rattle.wh_machine.specs.OneMoment.{IsOfOneMoment}
+use Rattle.wh_machine.specs.Refresh.{with_upstream}
+use Rattle.wh_machine.specs.OneMoment.{IsOfOneMoment, StandsAt, refreshing, id_refreshed}
 use Rattle.wh_machine.specs.Consuming.{base_at, consumed, batches, all_patched, rows_consumed, reads, AreApart}
 use Rattle.wh_machine.specs.Consuming.{IsHeldAlong}
 use Rattle.wh_machine.specs.Consuming.{committing, changing, change_reads, consumes, event_consumes, has_succeeded}
@@ -150,6 +152,12 @@ HeldStreamsStay = (session id : ℕ) (s : Stream) (m : Machine) (e : Event) → 
 abbrev pub TablesStandForOneMoment : Type 0
 TablesStandForOneMoment =
     (m : Machine) (es : List Event) → SoundMachine m → (id : ℕ) → IsOfOneMoment (after m es).state.objects id
+
+abbrev pub RefreshesBringToTheStamp : Type 0
+RefreshesBringToTheStamp = (m : Machine) (reading session : ℕ) (name : List ℕ) → SoundMachine m
+    → is_refusal (step m (refreshing reading session name)).1 ≡ false → (id : ℕ)
+    → is_among id (with_upstream m.state.objects (id_refreshed m.state.objects name)) ≡ true
+    → StandsAt (stamp_of m.state reading) (step m (refreshing reading session name)).0.state.objects id
 
 -- ---- commits
 

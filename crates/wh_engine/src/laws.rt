@@ -5,7 +5,8 @@ ghost use Rattle.wh_engine.specs.Laws.{ChangesHoldWhatTheyRead, ChangesConsumeWh
 ghost use Rattle.wh_engine.specs.Laws.{RunsConsumeWhatTheyRead, OtherTicksMoveNothing};
 ghost use Rattle.wh_engine.specs.Laws.{NothingElseConsumes, OthersMoveNothing, QueriesMoveNothing};
 ghost use Rattle.wh_engine.specs.Laws.{SoundStatesOpen, EventsKeepMachinesSound, HeldStreamsStay};
-ghost use Rattle.wh_engine.specs.Laws.{TablesStandForOneMoment, CommitsApply};
+ghost use Rattle.wh_engine.specs.Laws.{TablesStandForOneMoment, RefreshesBringToTheStamp};
+ghost use Rattle.wh_engine.specs.Laws.{CommitsApply};
 
 /// A refused command changes nothing but the last stamp, and no transaction.
 pub fn refusals_change_nothing()
@@ -72,6 +73,12 @@ pub fn held_streams_stay()
 /// through others, is written out as its query.
 pub fn dynamic_tables_stand_for_one_moment()
     ensures { TablesStandForOneMoment }
+{}
+
+/// A refresh that a statement asks for, and that isn't refused, brings its table and each dynamic
+/// table that it reads, directly or through others, to the stamp of the statement.
+pub fn refreshes_bring_tables_to_their_stamp()
+    ensures { RefreshesBringToTheStamp }
 {}
 
 /// The commits that the events of a script make over a sound file apply, one after the other: no

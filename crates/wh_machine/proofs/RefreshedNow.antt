@@ -1,32 +1,27 @@
--- ALTER DYNAMIC TABLE .. REFRESH that isn't refused brings its table to the event's stamp.
+-- ALTER DYNAMIC TABLE .. REFRESH that isn't refused brings its table, and each dynamic table upstream of it, to the event's
+-- stamp.
 --     refreshed_now      by its outcome
 --     stands_now         the event
-use Rattle.std.proofs.Common.{◌≡◌, ℕ, Bool, true, false, cond, List, [], ◌∷◌, Option, Some, None}
+use Rattle.std.proofs.Common.{◌≡◌, ℕ, Bool, true, false, cond, List, Option, Some, None}
 use Rattle.std.proofs.Common.{option_map, refl, sym, ap, subst, ◌∙◌, arith}
-use Rattle.std.specs.Prelude.{◌||◌, nat_eq}
-use Rattle.std.proofs.lemmas.Bool.Decides.{nat_tests}
 use Rattle.wh_ast.specs.declared.statement.Statement.TheVariants as st
 use Rattle.wh_grammar.specs.Spelled.{Asked}
-use Rattle.wh_naming.specs.Scope.{DynamicTableObject}
 use Rattle.wh_ddl_naming.specs.Meant.{first_failing}
-use Rattle.wh_ddl_naming.specs.Objects.{object_of}
 use Rattle.wh_ddl_naming.specs.Statements as ddl
 use Rattle.wh_reply.specs.Reply.{Refusal, NoSuchSession, DdlInTransaction, Locked, is_refusal}
 use Rattle.wh_state.specs.Edits.{is_among}
 use Rattle.wh_state.proofs.SoundObjects.{IsKept, moments_within}
 use Rattle.wh_state.proofs.SoundLaws.{kept_later}
-use Rattle.wh_moment.specs.Upstream.{dynamics_of, upstream}
-use Rattle.wh_moment.proofs.ClosedLaws.{among_behind}
 use Rattle.wh_machine.specs.Sessions.{number_in}
-use Rattle.wh_machine.specs.Names.{names_in, refusal_of}
+use Rattle.wh_machine.specs.Names.{refusal_of}
 use Rattle.wh_machine.specs.Outcome.{Machine, Outcome, Refuses, Does, unless, last_test, settled}
 use Rattle.wh_machine.specs.Definitions.{defines, holder_of}
 use Rattle.wh_machine.specs.Refresh.{Refreshing, Fails, Brings, with_upstream}
 use Rattle.wh_machine.specs.Dynamics.{first_suspended, asked_refresh, refreshed_by, refresh_dynamic}
 use Rattle.wh_machine.specs.Statements.{carried_out, meant_in}
-use Rattle.wh_machine.specs.Step.{Event, Command, stamp_of, is_session, commanded, step}
+use Rattle.wh_machine.specs.Step.{Event, stamp_of, is_session, commanded, step}
 use Rattle.wh_machine.specs.Sound.{SoundMachine}
-use Rattle.wh_machine.specs.OneMoment.{StandsAt}
+use Rattle.wh_machine.specs.OneMoment.{StandsAt, refreshing, id_refreshed}
 use Rattle.wh_machine.proofs.KeepingLaws.{IsReady}
 use Rattle.wh_machine.proofs.StepLaws.{ready, each_event}
 use Rattle.wh_machine.proofs.SoundLaws.{is_ready}
@@ -64,68 +59,60 @@ none_later m ready id x d among at =
     kept_later m.state m.state.committed (omega arith) ready.sound in
     omega (arith, moments_within m.state.committed m.state.objects kept x d at, ready.later)
 
-itself : (m : Machine) (id : ℕ) → is_among id (with_upstream m.state.objects id) ≡ true
-itself m id =
-    let self : nat_eq id id ≡ true = grind (arith, nat_tests) in
-    among_behind id (upstream (dynamics_of m.state.objects) id) (id ∷ [])
-    (ap (λ (b : Bool). b || is_among id []) self)
+-- the table of an id itself, or one upstream of it
+abbrev IsBehind : Machine → ℕ → ℕ → Type 0
+IsBehind m id x = is_among x (with_upstream m.state.objects id) ≡ true
 
 asked_now : (m : Machine) (id : ℕ) (r : Refreshing) → asked_refresh m.state id ≡ r → IsReady m
-    → IsAccepted m (refreshed_by m r)
-    → StandsAt m.state.last (settled m (refreshed_by m r)).0.state.objects id
-asked_now m id (Fails why) is ready accepted = absurd cc
-asked_now m id (Brings lines acts) is ready accepted =
+    → IsAccepted m (refreshed_by m r) → (x : ℕ) → IsBehind m id x
+    → StandsAt m.state.last (settled m (refreshed_by m r)).0.state.objects x
+asked_now m id (Fails why) is ready accepted x among = absurd cc
+asked_now m id (Brings lines acts) is ready accepted x among =
     refresh_stands m.state (first_suspended m.state.objects (with_upstream m.state.objects id)) id m.state.last lines
-    acts is (none_later m ready id) id (itself m id)
+    acts is (none_later m ready id) x among
 
 pub refreshed_now : (m : Machine) (session : ℕ) (wrong : Option Refusal) (id : ℕ) → IsReady m
-    → IsAccepted m (defines m session None (refresh_dynamic m wrong id))
-    → StandsAt m.state.last (settled m (defines m session None (refresh_dynamic m wrong id))).0.state.objects id
+    → IsAccepted m (defines m session None (refresh_dynamic m wrong id)) → (x : ℕ) → IsBehind m id x
+    → StandsAt m.state.last (settled m (defines m session None (refresh_dynamic m wrong id))).0.state.objects x
 unfolding refresh_dynamic
-refreshed_now m session wrong id ready accepted =
+refreshed_now m session wrong id ready accepted x among =
     let asked : Outcome = refreshed_by m (asked_refresh m.state id) in
     let first : defines m session None (unless wrong asked) ≡ unless wrong asked =
     defined_as m session (unless wrong asked) accepted in
     let same : defines m session None (unless wrong asked) ≡ asked =
     first ∙ unless_passed m wrong asked (ap (λ (p : Outcome). is_refusal (settled m p).1) (sym first) ∙ accepted) in
-    subst (λ (p : Outcome). StandsAt m.state.last (settled m p).0.state.objects id) (sym same)
+    subst (λ (p : Outcome). StandsAt m.state.last (settled m p).0.state.objects x) (sym same)
     (asked_now m id (asked_refresh m.state id) refl ready
-    (ap (λ (p : Outcome). is_refusal (settled m p).1) (sym same) ∙ accepted))
+    (ap (λ (p : Outcome). is_refusal (settled m p).1) (sym same) ∙ accepted) x among)
 
 -- ---- the event
 
--- the live dynamic table of a name
-abbrev pub id_refreshed : Machine → List ℕ → ℕ
-id_refreshed m name = (object_of DynamicTableObject (names_in m.state.objects) name).value
-
-abbrev pub refreshing : ℕ → ℕ → List ℕ → Event
-refreshing reading session name = Command reading session (Asked (st.RefreshDynamicTable name))
-
 command_now : (m : Machine) (session : ℕ) (name : List ℕ) → IsReady m
     → IsAccepted m (commanded m session (Asked (st.RefreshDynamicTable name)))
-    → StandsAt m.state.last (settled m (commanded m session (Asked (st.RefreshDynamicTable name)))).0.state.objects
-    (id_refreshed m name)
+    → (x : ℕ) → IsBehind m (id_refreshed m.state.objects name) x
+    → StandsAt m.state.last (settled m (commanded m session (Asked (st.RefreshDynamicTable name)))).0.state.objects x
 unfolding commanded carried_out ddl.bound
-command_now m session name ready accepted = by_test (is_session session) accepted
+command_now m session name ready accepted x among = by_test (is_session session) accepted
   where
     o : Outcome
     o = defines m session None (refresh_dynamic m
-        (option_map refusal_of (first_failing (meant_in m (st.RefreshDynamicTable name)))) (id_refreshed m name))
+        (option_map refusal_of (first_failing (meant_in m (st.RefreshDynamicTable name))))
+        (id_refreshed m.state.objects name))
 
     none : Outcome
     none = Refuses (NoSuchSession session)
 
     by_test : (b : Bool) → IsAccepted m (cond b o none)
-        → StandsAt m.state.last (settled m (cond b o none)).0.state.objects (id_refreshed m name)
-    by_test true accepted = refreshed_now m session _ (id_refreshed m name) ready accepted
+        → StandsAt m.state.last (settled m (cond b o none)).0.state.objects x
+    by_test true accepted = refreshed_now m session _ (id_refreshed m.state.objects name) ready accepted x among
     by_test false accepted = absurd cc
 
 pub stands_now : (m : Machine) (reading session : ℕ) (name : List ℕ) → SoundMachine m
-    → is_refusal (step m (refreshing reading session name)).1 ≡ false
-    → StandsAt (stamp_of m.state reading) (step m (refreshing reading session name)).0.state.objects
-    (id_refreshed m name)
-stands_now m reading session name sound =
+    → is_refusal (step m (refreshing reading session name)).1 ≡ false → (x : ℕ)
+    → is_among x (with_upstream m.state.objects (id_refreshed m.state.objects name)) ≡ true
+    → StandsAt (stamp_of m.state reading) (step m (refreshing reading session name)).0.state.objects x
+stands_now m reading session name sound accepted x among =
     let e : Event = refreshing reading session name in
-    each_event m e (λ p acts. is_refusal p.1 ≡ false
-    → StandsAt (stamp_of m.state reading) p.0.state.objects (id_refreshed m name))
-    (λ accepted. command_now (ready m e) session name (is_ready m e sound) accepted) (λ accepted. absurd cc)
+    each_event m e (λ p acts. is_refusal p.1 ≡ false → StandsAt (stamp_of m.state reading) p.0.state.objects x)
+    (λ accepted. command_now (ready m e) session name (is_ready m e sound) accepted x among) (λ accepted. absurd cc)
+    accepted
