@@ -80,7 +80,8 @@ all_meant [] = refl
 all_meant (o ∷ os) = λ i. watched_meant o i ∷ all_meant os i
 
 pub dynamics_are : (c : Catalog) → dynamics_of (stored_of c).objects ≡ dynamics_of (state_of c).objects
-dynamics_are c = sym (ap (λ (objects : List Object). dynamics_of objects) (same_objects c) ∙ all_meant (stored_of c).objects)
+dynamics_are c = sym (ap (λ (objects : List Object). dynamics_of objects) (same_objects c)
+    ∙ all_meant (stored_of c).objects)
 
 pub ids_same : {X Y : Type 0} (f : X → Y) (id : ℕ) (xs : List X) → ids_from id (map f xs) ≡ ids_from id xs
 ids_same f id [] = refl

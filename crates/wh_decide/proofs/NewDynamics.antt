@@ -33,7 +33,8 @@ use Rattle.wh_machine.specs.Tests.{refused_if, refused_past, first_of}
 use Rattle.wh_machine.specs.Sessions.{Sessions, number_in}
 use Rattle.wh_machine.specs.Outcome.{Machine, Outcome, unless}
 use Rattle.wh_machine.specs.Definitions.{is_long, count_refusals, holder_of, defines}
-use Rattle.wh_machine.specs.Dynamics.{seconds_of, lag_refusals, below_refusal, above_refusal, is_incremental, mode_refusal}
+use Rattle.wh_machine.specs.Dynamics.{seconds_of, lag_refusals, below_refusal, above_refusal, is_incremental}
+use Rattle.wh_machine.specs.Dynamics.{mode_refusal}
 use Rattle.wh_machine.specs.Dynamics.{dynamic_made, with_dynamic, new_id, dynamic_refusal, initialized, query_of}
 use Rattle.wh_machine.specs.Dynamics.{create_dynamic, lag_refusal, set_lag, alters}
 use Rattle.wh_decide.specs.Decision.{machine_at}
@@ -275,7 +276,8 @@ lag_is : (m : Machine) (id : ℕ) (lag : Lag) (wrong : Option Refusal) → lag_r
     → set_lag m None id lag ≡ unless wrong (alters m (Altered (name_at m.state.objects id)) id (lag_state lag))
 unfolding set_lag
 lag_is m id lag wrong is =
-    ap (λ (found : Option Refusal). unless found (alters m (Altered (name_at m.state.objects id)) id (lag_state lag))) is
+    ap (λ (found : Option Refusal). unless found (alters m (Altered (name_at m.state.objects id)) id (lag_state lag)))
+    is
 
 pub defines_lag : (s : State) (stamp : ℕ) (sessions : Sessions) (session id : ℕ) (lag : Lag)
     (wrong found : Option Refusal) → wrong ≡ lag_refusal s None id lag

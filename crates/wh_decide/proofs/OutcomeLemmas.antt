@@ -58,7 +58,8 @@ pub answers : (s : Stored) (sessions : Sessions) (stamp : ℕ) (told : code_repl
     → Decides s sessions stamp (Do told Answers) o
 answers s sessions stamp told o reply is same = does s sessions stamp told Answers o reply None is refl tt same
 
-pub commits_all : (s : Stored) (sessions : Sessions) (stamp : ℕ) (told : code_reply.Reply) (commit : CommitIn TaskBody DynamicQuery)
+pub commits_all : (s : Stored) (sessions : Sessions) (stamp : ℕ) (told : code_reply.Reply)
+    (commit : CommitIn TaskBody DynamicQuery)
     (o : Outcome) (reply : Reply) (acts : Option (List Act)) → reply_view told ≡ reply
     → Some (commit_of commit) ≡ option_map (commit_for s stamp) acts
     → o ≡ Does reply sessions acts → Decides s sessions stamp (Do told (Commits commit)) o

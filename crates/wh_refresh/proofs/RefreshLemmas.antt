@@ -8,7 +8,7 @@
 --     far_begun, far_further, far_stopped, far_done     several, by rising ids
 --     all_written                             the changes that say it
 --     suspended_found                         whether a table is suspended
-use Rattle.std.proofs.Common.{◌≡◌, ℕ, zero, suc, ◌+◌, ◌<◌, ◌≤◌, Bool, true, false, cond, List, [], ◌∷◌, ◌++◌, map, length}
+use Rattle.std.proofs.Common.{◌≡◌, ℕ, zero, suc, ◌<◌, Bool, true, false, cond, List, [], ◌∷◌, ◌++◌, map}
 use Rattle.std.proofs.Common.{Option, Some, None, option_map, refl, sym, ap, subst, ◌∙◌, arith}
 use Rattle.std.specs.Prelude.{◌||◌, ◌&&◌, nat_eq, nat_le, nat_lt, is_some, unwrap_or}
 use Rattle.std.specs.List.{AllByRecursion, flat_map, list_any}
@@ -20,7 +20,9 @@ use Rattle.std.proofs.lemmas.List.{append-nil, append_assoc}
 use Rattle.wh_naming.specs.Select.{BoundQuery}
 use Rattle.wh_meaning.specs.Bag.{Bag, bag_of, no_rows}
 use Rattle.wh_meaning.specs.Query.{eval}
-use Rattle.wh_state.specs.State.{Version, Table, Object, Kind, TableKind, StreamKind, TaskKind, DynamicKind, dynamic_in, Rows, last_rows, last_content, rows_at, content_in, nothing_held, version_for, at_id}
+use Rattle.wh_state.specs.State.{Version, Table, Object, Kind, TableKind, StreamKind, TaskKind, DynamicKind}
+use Rattle.wh_state.specs.State.{dynamic_in, Rows}
+use Rattle.wh_state.specs.State.{last_rows, rows_at, content_in, nothing_held, version_for, at_id}
 use Rattle.wh_state.specs.Stored.{StoredObject, StoredVersion, StoredTable, version_meant, table_meant}
 use Rattle.wh_state.specs.Dynamic.{Dynamic, ids_read}
 use Rattle.wh_state.specs.Objects.{table_at, dynamic_at, as_dynamic}
@@ -37,14 +39,17 @@ use Rattle.wh_moment.specs.Upstream.{Watched, Dynamics, watched, watched_at, wat
 use Rattle.wh_moment.proofs.UpstreamLaws.{RiseFrom, brought_rise, brought_watched}
 use Rattle.wh_moment.specs.Moment.{is_suspended_at}
 use Rattle.wh_machine.specs.Refresh as machine
-use Rattle.wh_machine.specs.Refresh.{version_acts, acts_of_one, has_version_between, brought_all, brought_one, brought_by, action_of}
-use Rattle.wh_machine.specs.Refresh.{brought_then, brought_with}
+use Rattle.wh_machine.specs.Refresh.{version_acts, acts_of_one, has_version_between, brought_all, brought_one}
+use Rattle.wh_machine.specs.Refresh.{brought_by}
+use Rattle.wh_machine.specs.Refresh.{action_of, brought_then, brought_with}
 use Rattle.wh_machine.specs.Brought.{after_one, after_all, RiseAbove, AreAbove, sought, edits_sought}
-use Rattle.wh_machine.proofs.AfterLaws.{table_brought, table_after, dynamic_after, bound_after, refreshed_rows, refreshed_between, after_last}
+use Rattle.wh_machine.proofs.AfterLaws.{table_brought, table_after, dynamic_after, bound_after, refreshed_rows}
+use Rattle.wh_machine.proofs.AfterLaws.{refreshed_between, after_last}
 use Rattle.wh_refresh.specs.declared.brought.Brought.{Brought}
 use Rattle.wh_refresh.specs.declared.brought.NewRows.{NewRows}
 use Rattle.wh_refresh.specs.Sources.{is_new_at}
-use Rattle.wh_refresh.specs.Brought.{IsRowsOf, IsBrought, AreBrought, BringsOne, Brings, before, RiseBehind, BroughtSoFar}
+use Rattle.wh_refresh.specs.Brought.{IsRowsOf, IsBrought, AreBrought, BringsOne, Brings, before, RiseBehind}
+use Rattle.wh_refresh.specs.Brought.{BroughtSoFar}
 use Rattle.wh_refresh.specs.Writing.{one_written}
 
 -- ---- sources
@@ -276,7 +281,8 @@ module _ (stored : List StoredObject) (objects : List Object) (stamp moment : �
   far_stopped id left all far none =
       far.is
       ∙ ap (λ (found : Option machine.Brought). before far.brought
-      (brought_then (brought_all stamp moment left) stamp moment (after_all stamp moment far.brought objects) found)) none
+      (brought_then (brought_all stamp moment left) stamp moment (after_all stamp moment far.brought objects) found))
+      none
 
   pub far_done : (all : List Brought) → BroughtSoFar stored objects stamp moment ids [] all
       → Brings stored all (brought_all stamp moment ids objects)
@@ -307,7 +313,8 @@ leaves : (stamp moment : ℕ) (b : machine.Brought) (now : List StoredObject) (l
 leaves stamp moment b now later h = by_edits b.edits
   where
     by_edits : (edits : Option Edits)
-        → at_id (all_changed stamp now (written stamp now (version_acts b.id moment edits ++ PutsDynamic b.id b.state ∷ [])))
+        → at_id (all_changed stamp now (written stamp now (version_acts b.id moment edits
+        ++ PutsDynamic b.id b.state ∷ [])))
         later ≡ at_id now later
     by_edits None = one_leaves stamp moment now b.id None b.state later h
     by_edits (Some e) = one_leaves stamp moment now b.id (Some e) b.state later h
@@ -319,7 +326,8 @@ all_written stamp moment least [] now stored above same = refl
 all_written stamp moment least (b ∷ bs) now stored above same =
     let first : List Change = written stamp now (acts_of_one moment b) in
     written_append stamp now (acts_of_one moment b) (flat_map (acts_of_one moment) bs)
-    ∙ ap (λ (l : List Change). first ++ l) (all_written stamp moment b.id bs (all_changed stamp now first) stored above.1
+    ∙ ap (λ (l : List Change). first ++ l) (all_written stamp moment b.id bs (all_changed stamp now first) stored
+    above.1
     (λ later h. leaves stamp moment b now later h ∙ same later (omega (arith, above.0))))
     ∙ ap (λ (l : List Change). l ++ flat_map (one_written stored moment) bs)
     (one_is stamp moment b now stored (same b.id above.0))
@@ -340,7 +348,8 @@ suspended_found objects id =
     by_kind is_live (TaskKind t) = refl
     by_kind is_live (DynamicKind d t) = refl
 
-    by_found : (found : Option Object) → option_map_or (λ d. d.state.is_suspended) (option_and_then as_dynamic found) false
+    by_found : (found : Option Object) → option_map_or (λ d. d.state.is_suspended) (option_and_then as_dynamic found)
+        false
         ≡ option_map_or (λ w. w.state.is_suspended) (unwrap_or (option_map watched_object found) None) false
     by_found None = refl
     by_found (Some o) = by_kind o.is_live o.kind

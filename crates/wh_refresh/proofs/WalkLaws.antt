@@ -3,7 +3,8 @@
 --     walked_apart       the rows that go, and those that are left to come
 --     bag_expanded, same_excess     the rows that come
 --     gone_rises, gone_count        the numbers of rows that go rise, and edits name so many
-use Rattle.std.proofs.Common.{◌≡◌, ℕ, zero, suc, ◌+◌, ◌-◌, ◌<◌, ◌≤◌, Bool, true, false, cond, List, [], ◌∷◌, ◌++◌, map, length}
+use Rattle.std.proofs.Common.{◌≡◌, ℕ, zero, suc, ◌+◌, ◌-◌, ◌<◌, ◌≤◌, Bool, true, false, cond, List, [], ◌∷◌, ◌++◌}
+use Rattle.std.proofs.Common.{map, length}
 use Rattle.std.proofs.Common.{Option, Some, None, refl, sym, ap, subst, ◌∙◌, arith, ◌==◌, Less, Equal, Greater}
 use Rattle.std.specs.Prelude.{nat_lt, is_some, not, replicate}
 use Rattle.std.specs.Ordering.{eq_by_cmp, nat_cmp, is_eq}

@@ -98,9 +98,16 @@ fn action(
     if from == 0 {
         return RefreshAction::Full;
     }
-    if !has_new_data(objects, before, from, moment, dynamic.reads()) {
-        return RefreshAction::NoData;
+    if has_new_data(objects, before, from, moment, dynamic.reads()) {
+        by_mode(dynamic)
+    } else {
+        RefreshAction::NoData
     }
+}
+
+fn by_mode(dynamic: &Dynamic) -> RefreshAction
+    ensures { action_view result ≡ machine.by_mode (dynamic_of dynamic.now).is_incremental }
+{
     if dynamic.is_incremental() {
         RefreshAction::Incremental
     } else {

@@ -63,4 +63,5 @@ new_dynamic-requires-clause-room c =
 
 pub returns : goal.returns
 returns c =
-    comes_as c.args.sight.now c.new_dynamic.result (sym (defined_as (goal.at.returns c).In_default)) c.new_dynamic.ensures
+    comes_as c.args.sight.now c.new_dynamic.result (sym (defined_as (goal.at.returns c).In_default))
+    c.new_dynamic.ensures

@@ -8,5 +8,6 @@ pub returns : goal.returns
 returns c =
     IfOk-weaker c.sources_named.result _ _
     (λ sources is. is ∙ (λ i. sources_named
-    ((ap names_at c.deref.ensures.value ∙ c.in_ok-names.ensures.names ∙ ap query_names c.get.ensures) i) (c.deref-2.ensures.value i)))
+    ((ap names_at c.deref.ensures.value ∙ c.in_ok-names.ensures.names ∙ ap query_names c.get.ensures) i)
+    (c.deref-2.ensures.value i)))
     c.sources_named.ensures

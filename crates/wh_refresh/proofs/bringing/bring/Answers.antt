@@ -65,7 +65,8 @@ returns-in_default-2 c stamp bs are above none =
     let t = table_meant (table_of c.in-Some-table_at.table.now) in
     let nothing : evaluated_at now c.args.moment d ≡ None =
     none_made (table_of c.in-Some-table_at.table.now) (evaluated_at now c.args.moment d)
-    (subst (λ (rows : Option NewRows). MakesRows rows (table_of c.in-Some-table_at.table.now) (evaluated_at now c.args.moment d))
+    (subst (λ (rows : Option NewRows). MakesRows rows (table_of c.in-Some-table_at.table.now)
+    (evaluated_at now c.args.moment d))
     c.in_default-2.is (c.in_ok-rows.ensures stamp bs are above)) in
     one_by stamp c.args.moment bs objects above c.args.id d t none (sym c.in-Some.ensures)
     (sym c.in-Some-table_at.ensures.meant)
@@ -88,7 +89,8 @@ returns c stamp bs are above none =
     let t = table_meant table in
     let made = subst (λ (rows : Option NewRows). MakesRows rows table (evaluated_at now c.args.moment d))
     c.in-Some-2.is (c.in_ok-rows.ensures stamp bs are above) in
-    let by_rows : (found : Option Bag) → evaluated_at now c.args.moment d ≡ found → MakesRows (Some c.in-Some-2.rows) table found
+    let by_rows : (found : Option Bag) → evaluated_at now c.args.moment d ≡ found
+    → MakesRows (Some c.in-Some-2.rows) table found
     → BringsOne stored (record {
       id = c.args.id;
       action = c.action-action.result;
@@ -110,7 +112,8 @@ returns c stamp bs are above none =
           id = refl;
           action = refl;
           rows = record {
-            edited = λ other there. subst (λ (o : StoredTable). IsEdited c.in-Some-2.rows.edited (rebase (last_rows t) bag) o)
+            edited = λ other there. subst (λ (o : StoredTable). IsEdited c.in-Some-2.rows.edited
+                (rebase (last_rows t) bag) o)
                 (same_Some _ _ (c.in-Some-table_at.ensures.stored ∙ there)) made.edited;
             plus = made.plus;
             minus = made.minus;

@@ -20,7 +20,8 @@ next : (stored : List StoredObject) (objects : List Object) (stamp moment id : �
     → (far : BroughtSoFar stored objects stamp moment ids (id ∷ left) all)
     → BringsOneOr stored found (brought_one (after_all stamp moment far.brought objects) moment id)
 next stored objects stamp moment id ids left all found brings far =
-    brings far.brought far.are (rise_above 0 far.brought (id ∷ left) far.rise) (not_sought 0 far.brought id left far.rise)
+    brings far.brought far.are (rise_above 0 far.brought (id ∷ left) far.rise) (not_sought 0 far.brought id left
+    far.rise)
 
 pub returns-in-None : goal.returns-in-None
 returns-in-None c stamp rise =

@@ -6,4 +6,5 @@ use Rattle.wh_refresh.proofs.bringing.bring_all.Given as goal
 
 abbrev pub invariant-loop-id : goal.invariant-loop-id
 invariant-loop-id l = (stamp : ℕ) → RiseAbove 0 l.ids
-    → BroughtSoFar (stored_in l.objects) (objects_in l.objects) stamp l.moment l.ids (drop l.id-index l.ids) l.brought.items
+    → BroughtSoFar (stored_in l.objects) (objects_in l.objects) stamp l.moment l.ids (drop l.id-index l.ids)
+    l.brought.items

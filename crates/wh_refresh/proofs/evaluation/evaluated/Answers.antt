@@ -28,7 +28,8 @@ returns c =
     ∙ ap (λ (t : Query). bound_query t (map named_of c.deref-2.result.now) 0) c.get.ensures
     ∙ ap (λ (ns : List Named). bound_query q.tree (map named_of ns) 0) c.deref-2.ensures.value
     ∙ ap (λ (ns : List names.Named). bound_query q.tree ns 0) c.in_ok-names.ensures
-    ∙ ap (λ (ss : List NamedSource). bound_query q.tree (names_among objects (map source_of ss)) 0) c.deref.ensures.value in
+    ∙ ap (λ (ss : List NamedSource). bound_query q.tree (names_among objects (map source_of ss)) 0)
+    c.deref.ensures.value in
     IfOk-weaker c.evaluated_over.result _ _ (λ found is. is
     ∙ ap (λ (b : code.BoundQuery). eval (plain_query_of b.query) (instance_of sources)) c.get-2.ensures
     ∙ ap (λ (b : BoundQuery). eval b.query (instance_of sources)) bound) c.evaluated_over.ensures

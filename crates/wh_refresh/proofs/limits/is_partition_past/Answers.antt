@@ -22,7 +22,8 @@ returns-in-Some-table_at c b is =
     let stored = stored_in c.args.objects.now in
     let objects = objects_in c.args.objects.now in
     let t = table_of c.in-Some-table_at.table.now in
-    let by_edits : (edits : Option Edits) → b.edits ≡ edits → IsRowsOf stored c.args.one.now.id (Some c.in-Some.rows) edits
+    let by_edits : (edits : Option Edits) → b.edits ≡ edits → IsRowsOf stored c.args.one.now.id
+    (Some c.in-Some.rows) edits
     → nat_lt c.bound.result (c.next_partition.result + length c.added.result.now) ≡ is_partition_past objects b =
     elim [
       | None ↦ λ same new. absurd new
@@ -37,4 +38,5 @@ returns-in-Some-table_at c b is =
           (c.in-Some-table_at.ensures.meant ∙ ap (table_at objects) (sym is.id))
           ∙ ap (λ (edits : Option Edits). is_partition_past objects (record b { edits = edits })) (sym same)
     ] in
-    by_edits b.edits refl (subst (λ (rows : Option NewRows). IsRowsOf stored c.args.one.now.id rows b.edits) c.in-Some.is is.rows)
+    by_edits b.edits refl (subst (λ (rows : Option NewRows). IsRowsOf stored c.args.one.now.id rows b.edits)
+    c.in-Some.is is.rows)

@@ -1,4 +1,5 @@
-use Rattle.std.proofs.Common.{◌≡◌, ℕ, List, [], ◌∷◌, ◌++◌, map, Option, Some, None, option_map, Vec, Global, refl, subst, sym, ap, ◌∙◌}
+use Rattle.std.proofs.Common.{◌≡◌, ℕ, List, [], ◌∷◌, ◌++◌, map, Option, Some, None, option_map, Vec, Global}
+use Rattle.std.proofs.Common.{refl, subst, sym, ap, ◌∙◌}
 use Rattle.std.specs.List.{flat_map}
 use Rattle.wh_reply.specs.Reply.{Refusal, Refreshed}
 use Rattle.wh_reply.specs.View.{refusal_view}
@@ -20,6 +21,7 @@ use Rattle.wh_refresh.specs.Refreshing.{besides}
 use Rattle.wh_refresh.specs.declared.brought.Brought.{Brought}
 use Rattle.wh_refresh.specs.declared.refreshing.Asked.{Asked}
 use Rattle.wh_refresh.proofs.RefreshLemmas.{rises, above_rise}
+use Rattle.wh_refresh.proofs.refreshing.refresh.Goals.{After-bring_all}
 use Rattle.wh_refresh.proofs.refreshing.refresh.Goals as goal
 
 abbrev found : State → List Object → ℕ → ℕ → Option (List machine.Brought)
@@ -27,12 +29,13 @@ found s objects id moment = brought_all s.last moment (brought (dynamics_of obje
 
 refreshed_by : (s : State) (objects : List Object) (asked : Asked) (id moment : ℕ) → s.objects ≡ objects
     → refresh s (besides asked s.objects id) id moment
-    ≡ refresh_by objects moment (first_of (first_lost objects (with_upstream objects id) ∷ besides asked objects id ∷ []))
+    ≡ refresh_by objects moment
+    (first_of (first_lost objects (with_upstream objects id) ∷ besides asked objects id ∷ []))
     (found s objects id moment)
 unfolding refresh
 refreshed_by s objects asked id moment same =
-    ap (λ (os : List Object). refresh_by os moment (first_of (first_lost os (with_upstream os id) ∷ besides asked os id ∷ []))
-    (found s os id moment)) same
+    ap (λ (os : List Object). refresh_by os moment
+    (first_of (first_lost os (with_upstream os id) ∷ besides asked os id ∷ [])) (found s os id moment)) same
 
 -- where nothing is refused before it is brought
 brought_by : (s : State) (objects : List Object) (asked : Asked) (id moment : ℕ) → s.objects ≡ objects
@@ -42,7 +45,8 @@ brought_by s objects asked id moment same lost suspended =
     refreshed_by s objects asked id moment same
     ∙ ap (λ (why : Option Refusal). refresh_by objects moment (first_of (why ∷ besides asked objects id ∷ []))
     (found s objects id moment)) lost
-    ∙ ap (λ (why : Option Refusal). refresh_by objects moment (first_of (why ∷ [])) (found s objects id moment)) suspended
+    ∙ ap (λ (why : Option Refusal). refresh_by objects moment (first_of (why ∷ [])) (found s objects id moment))
+    suspended
 
 -- the ids that are gone over
 gone_over : (objects : List Object) (all : Dynamics) (id : ℕ) (ids above pushed : List ℕ) → all ≡ dynamics_of objects
@@ -93,49 +97,59 @@ returns-in-Some-2 c s same =
     ∙ ap (λ (why : Option Refusal). refresh_by objects c.args.moment (first_of (why ∷ []))
     (found s objects id c.args.moment)) suspended
 
+-- where tables are brought, nothing is refused before
+module _ (c : After-bring_all) where
+  abbrev objects : List Object
+  objects = objects_in c.args.objects.now
+
+  abbrev asked_ids : List ℕ
+  asked_ids = c.deref-5.result.now
+
+  given : asked_ids ≡ brought (dynamics_of objects) c.args.id c.args.moment
+  given = ids_brought objects (dynamics_in c.deref-4.result.now) c.args.id c.args.moment asked_ids
+      c.in_ok-ids-2.ids.items
+      (ap dynamics_in c.deref-4.ensures.value ∙ c.in_ok-all.ensures) c.in_ok-ids-2.ensures c.deref-5.ensures.value
+
+  unrefused : (s : State) → s.objects ≡ objects
+      → refresh s (besides c.args.asked s.objects c.args.id) c.args.id c.args.moment
+      ≡ refresh_by objects c.args.moment None (found s objects c.args.id c.args.moment)
+  unrefused s same =
+      let gone = gone_over objects (dynamics_in c.deref.result.now) c.args.id c.push.new.self.items
+      c.in_ok-ids.ids.items
+      c.push.new.self.items (ap dynamics_in c.deref.ensures.value ∙ c.in_ok-all.ensures) c.in_ok-ids.ensures
+      c.in_ok-push.ensures.items refl in
+      let lost = ap (first_lost objects) (sym (c.deref-2.ensures.value ∙ gone)) ∙ sym c.in_ok-why.ensures
+      ∙ ap (option_map refusal_view) c.in_default.is in
+      let suspended = sym (c.in_ok-why-2.ensures c.args.id (c.deref-3.ensures.value ∙ gone))
+      ∙ ap (option_map refusal_view) c.in_default-2.is in
+      brought_by s objects c.args.asked c.args.id c.args.moment same lost suspended
+
 pub returns-in_default-3 : goal.returns-in_default-3
 returns-in_default-3 c s same =
-    let objects = objects_in c.args.objects.now in
+    let after = (goal.at.returns-in_default-3 c).After-bring_all in
+    let stored = stored_in c.args.objects.now in
     let id = c.args.id in
-    let gone = gone_over objects (dynamics_in c.deref.result.now) id c.push.new.self.items c.in_ok-ids.ids.items
-    c.push.new.self.items (ap dynamics_in c.deref.ensures.value ∙ c.in_ok-all.ensures) c.in_ok-ids.ensures
-    c.in_ok-push.ensures.items refl in
-    let lost = ap (first_lost objects) (sym (c.deref-2.ensures.value ∙ gone)) ∙ sym c.in_ok-why.ensures
-    ∙ ap (option_map refusal_view) c.in_default.is in
-    let suspended = sym (c.in_ok-why-2.ensures id (c.deref-3.ensures.value ∙ gone))
-    ∙ ap (option_map refusal_view) c.in_default-2.is in
-    let ids = ids_brought objects (dynamics_in c.deref-4.result.now) id c.args.moment c.deref-5.result.now
-    c.in_ok-ids-2.ids.items (ap dynamics_in c.deref-4.ensures.value ∙ c.in_ok-all.ensures) c.in_ok-ids-2.ensures
-    c.deref-5.ensures.value in
-    let none : found s objects id c.args.moment ≡ None =
-    subst (λ (all : Option (Vec Brought Global)). BringsOr (stored_in c.args.objects.now) all (found s objects id c.args.moment))
-    c.in_default-3.is (brings_found (stored_in c.args.objects.now) s objects id c.args.moment c.deref-5.result.now
-    c.in_ok-all-2.field-0 ids c.in_ok-all-2.ensures) in
-    brought_by s objects c.args.asked id c.args.moment same lost suspended
-    ∙ ap (refresh_by objects c.args.moment None) none
+    let moment = c.args.moment in
+    let none : found s (objects after) id moment ≡ None =
+    subst (λ (all : Option (Vec Brought Global)). BringsOr stored all (found s (objects after) id moment))
+    c.in_default-3.is (brings_found stored s (objects after) id moment (asked_ids after) c.in_ok-all-2.field-0
+    (given after) c.in_ok-all-2.ensures) in
+    unrefused after s same ∙ ap (refresh_by (objects after) moment None) none
 
 pub returns-in-Some-number_refusal : goal.returns-in-Some-number_refusal
 returns-in-Some-number_refusal c s same =
+    let after = (goal.at.returns-in-Some-number_refusal c).After-bring_all in
     let stored = stored_in c.args.objects.now in
-    let objects = objects_in c.args.objects.now in
     let id = c.args.id in
     let moment = c.args.moment in
-    let gone = gone_over objects (dynamics_in c.deref.result.now) id c.push.new.self.items c.in_ok-ids.ids.items
-    c.push.new.self.items (ap dynamics_in c.deref.ensures.value ∙ c.in_ok-all.ensures) c.in_ok-ids.ensures
-    c.in_ok-push.ensures.items refl in
-    let lost = ap (first_lost objects) (sym (c.deref-2.ensures.value ∙ gone)) ∙ sym c.in_ok-why.ensures
-    ∙ ap (option_map refusal_view) c.in_default.is in
-    let suspended = sym (c.in_ok-why-2.ensures id (c.deref-3.ensures.value ∙ gone))
-    ∙ ap (option_map refusal_view) c.in_default-2.is in
-    let ids = ids_brought objects (dynamics_in c.deref-4.result.now) id moment c.deref-5.result.now
-    c.in_ok-ids-2.ids.items (ap dynamics_in c.deref-4.ensures.value ∙ c.in_ok-all.ensures) c.in_ok-ids-2.ensures
-    c.deref-5.ensures.value in
-    let brings : Brings stored c.in-Some-3.all.items (found s objects id moment) =
-    subst (λ (all : Option (Vec Brought Global)). BringsOr stored all (found s objects id moment)) c.in-Some-3.is
-    (brings_found stored s objects id moment c.deref-5.result.now c.in_ok-all-2.field-0 ids c.in_ok-all-2.ensures) in
-    brought_by s objects c.args.asked id moment same lost suspended
-    ∙ ap (refresh_by objects moment None) brings.is
-    ∙ ap (λ (why : Option Refusal). unless_past why (map (told_of objects moment) brings.brought)
+    let brings : Brings stored c.in-Some-3.all.items (found s (objects after) id moment) =
+    subst (λ (all : Option (Vec Brought Global)). BringsOr stored all (found s (objects after) id moment))
+    c.in-Some-3.is
+    (brings_found stored s (objects after) id moment (asked_ids after) c.in_ok-all-2.field-0 (given after)
+    c.in_ok-all-2.ensures) in
+    unrefused after s same
+    ∙ ap (refresh_by (objects after) moment None) brings.is
+    ∙ ap (λ (why : Option Refusal). unless_past why (map (told_of (objects after) moment) brings.brought)
     (flat_map (acts_of_one moment) brings.brought))
     (sym (c.number_refusal.ensures brings.brought
     (subst (λ (all : List Brought). AreBrought stored all brings.brought) (sym c.deref-6.ensures.value) brings.are))
@@ -143,36 +157,29 @@ returns-in-Some-number_refusal c s same =
 
 pub returns : goal.returns
 returns c s same =
+    let after = (goal.at.returns c).After-bring_all in
     let stored = stored_in c.args.objects.now in
-    let objects = objects_in c.args.objects.now in
     let id = c.args.id in
     let moment = c.args.moment in
-    let gone = gone_over objects (dynamics_in c.deref.result.now) id c.push.new.self.items c.in_ok-ids.ids.items
-    c.push.new.self.items (ap dynamics_in c.deref.ensures.value ∙ c.in_ok-all.ensures) c.in_ok-ids.ensures
-    c.in_ok-push.ensures.items refl in
-    let lost = ap (first_lost objects) (sym (c.deref-2.ensures.value ∙ gone)) ∙ sym c.in_ok-why.ensures
-    ∙ ap (option_map refusal_view) c.in_default.is in
-    let suspended = sym (c.in_ok-why-2.ensures id (c.deref-3.ensures.value ∙ gone))
-    ∙ ap (option_map refusal_view) c.in_default-2.is in
-    let ids = ids_brought objects (dynamics_in c.deref-4.result.now) id moment c.deref-5.result.now
-    c.in_ok-ids-2.ids.items (ap dynamics_in c.deref-4.ensures.value ∙ c.in_ok-all.ensures) c.in_ok-ids-2.ensures
-    c.deref-5.ensures.value in
-    let brings : Brings stored c.in-Some-3.all.items (found s objects id moment) =
-    subst (λ (all : Option (Vec Brought Global)). BringsOr stored all (found s objects id moment)) c.in-Some-3.is
-    (brings_found stored s objects id moment c.deref-5.result.now c.in_ok-all-2.field-0 ids c.in_ok-all-2.ensures) in
+    let brings : Brings stored c.in-Some-3.all.items (found s (objects after) id moment) =
+    subst (λ (all : Option (Vec Brought Global)). BringsOr stored all (found s (objects after) id moment))
+    c.in-Some-3.is
+    (brings_found stored s (objects after) id moment (asked_ids after) c.in_ok-all-2.field-0 (given after)
+    c.in_ok-all-2.ensures) in
     let acts : List Act = flat_map (acts_of_one moment) brings.brought in
     let above : AreAbove 0 brings.brought = above_rise 0 brings.brought (subst (RiseAbove 0)
-    (sym (brought_ids s.last moment (brought (dynamics_of objects) id moment) objects brings.brought brings.is))
-    (rises (dynamics_of objects) id moment)) in
+    (sym (brought_ids s.last moment (brought (dynamics_of (objects after)) id moment) (objects after) brings.brought
+    brings.is)) (rises (dynamics_of (objects after)) id moment)) in
+    let seen = λ (given : List Brought) (is : given ≡ c.in-Some-3.all.items).
+    subst (λ (all : List Brought). AreBrought stored all brings.brought) (sym is) brings.are in
     record {
       acts = acts;
-      is = brought_by s objects c.args.asked id moment same lost suspended
-          ∙ ap (refresh_by objects moment None) brings.is
-          ∙ ap (λ (why : Option Refusal). unless_past why (map (told_of objects moment) brings.brought) acts)
-          (sym (c.number_refusal.ensures brings.brought
-          (subst (λ (all : List Brought). AreBrought stored all brings.brought) (sym c.deref-6.ensures.value) brings.are))
+      is = unrefused after s same
+          ∙ ap (refresh_by (objects after) moment None) brings.is
+          ∙ ap (λ (why : Option Refusal). unless_past why (map (told_of (objects after) moment) brings.brought) acts)
+          (sym (c.number_refusal.ensures brings.brought (seen _ c.deref-6.ensures.value))
           ∙ ap (option_map refusal_view) c.in_default-number_refusal.is)
-          ∙ ap (λ (lines : List Refreshed). machine.Brings lines acts) (sym (c.in_ok-lines.ensures brings.brought
-          (subst (λ (all : List Brought). AreBrought stored all brings.brought) (sym c.deref-7.ensures.value) brings.are)));
+          ∙ ap (λ (lines : List Refreshed). machine.Brings lines acts)
+          (sym (c.in_ok-lines.ensures brings.brought (seen _ c.deref-7.ensures.value)));
       written = c.in_ok-changes.ensures s.last brings.brought brings.are above;
     }

@@ -30,5 +30,6 @@ loop-id-preserved c stamp bs are above =
 pub returns : goal.returns
 returns c stamp bs are above =
     let objects : List Object = after_all stamp c.args.to bs (objects_in c.args.objects.now) in
-    sym (at_drop_all (has_new_data objects c.args.from c.args.to) c.args.ids.now c.loop-id.id-index c.loop-id-test.false)
+    sym (at_drop_all (has_new_data objects c.args.from c.args.to) c.args.ids.now c.loop-id.id-index
+    c.loop-id-test.false)
     ∙ c.loop-id.invariant stamp bs are above

@@ -1,4 +1,5 @@
-use Rattle.std.proofs.Common.{◌≡◌, ℕ, ◌+◌, ◌++◌, List, [], ◌∷◌, map, length, Option, Some, None, option_map, subst, sym, ap, ◌∙◌}
+use Rattle.std.proofs.Common.{◌≡◌, ℕ, ◌+◌, ◌++◌, List, [], ◌∷◌, map, length, Option, Some, None, option_map, subst}
+use Rattle.std.proofs.Common.{sym, ap, ◌∙◌}
 use Rattle.std.specs.Option.{option_and_then, option_to_list}
 use Rattle.std.proofs.lemmas.List.{map_push}
 use Rattle.wh_state.specs.State.{at_id}
@@ -16,13 +17,15 @@ use Rattle.wh_refresh.specs.declared.brought.NewRows.{NewRows}
 use Rattle.wh_refresh.proofs.writing.add_version.Goals as goal
 
 written_there : (moment id : ℕ) (e : Edits) (t : StoredTable) (found : Option StoredObject)
-    → option_and_then as_table found ≡ Some t → version_written_to moment id e found ≡ version_written moment id e t ∷ []
+    → option_and_then as_table found ≡ Some t → version_written_to moment id e found
+    ≡ version_written moment id e t ∷ []
 written_there moment id e t None is = absurd cc
 written_there moment id e t (Some o) is =
     ap (λ (f : Option StoredTable). option_to_list (option_map (version_written moment id e) f)) is
 
 pub returns : goal.returns
-returns c edits new = by_edits edits (subst (λ (rows : Option NewRows). IsRowsOf (stored_in c.args.objects.now) c.args.id rows edits)
+returns c edits new = by_edits edits (subst (λ (rows : Option NewRows). IsRowsOf (stored_in c.args.objects.now)
+    c.args.id rows edits)
     c.in-Some.is new)
   where
     by_edits : (edits : Option Edits) → IsRowsOf (stored_in c.args.objects.now) c.args.id (Some c.in-Some.rows) edits

@@ -19,7 +19,8 @@ said : {X : Type 0} (stored : List StoredObject) (left : List Brought) (count : 
     → SaidSoFar stored left so_far (flat_map says) bs → so_far ≡ flat_map says bs
 said stored [] count so_far says bs sized none far = none_left far.rest far.are far.is
   where
-    none_left : (rest : List machine.Brought) → AreBrought stored [] rest → so_far ++ flat_map says rest ≡ flat_map says bs
+    none_left : (rest : List machine.Brought) → AreBrought stored [] rest → so_far ++ flat_map says rest
+        ≡ flat_map says bs
         → so_far ≡ flat_map says bs
     none_left [] are is = sym (append-nil so_far) ∙ is
     none_left (b ∷ rest) are is = absurd are
