@@ -11,7 +11,7 @@ use Rattle.wh_words.specs.declared.task.Task.TheVariants.{Run, Bench}
 use Rattle.wh_generator.specs.Generated.{generated}
 use Rattle.wh_generator.specs.Generator.{generator}
 use Rattle.wh_shell.specs.Asked.{Generates, CarriesOut}
-use Rattle.wh_shell.specs.Timing.{timing_of, by_ticks}
+use Rattle.wh_shell.specs.Timing.{timing_of, ByTicks}
 use Rattle.wh_shell.specs.World.{World, world_of}
 use Rattle.wh_shell.specs.declared.fault.Fault.TheVariants.{OutOfMemory}
 use Rattle.wh_shell.specs.declared.status.Status.TheVariants.{Stopped}
@@ -25,7 +25,7 @@ module _ {D K : Type 0} (d : disks.Ghosts D) (k : sinks.Ghosts K)
       Generates d k rows seed disk out disk out (Stopped OutOfMemory)
   idle_generates rows seed disk out = record {
     rest = generated rows seed;
-    runs = idle_runs d generator k by_ticks (world_of disk (generated rows seed) out) counts_now only_now (2 ^ 40);
+    runs = idle_runs d generator k ByTicks (world_of disk (generated rows seed) out) counts_now only_now (2 ^ 40);
     never = λ is. absurd cc;
   }
 

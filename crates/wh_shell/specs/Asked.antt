@@ -15,7 +15,7 @@ use Rattle.wh_words.specs.declared.task.Task.TheVariants.{Run, Bench}
 use Rattle.wh_generator.specs.Generated.{generated}
 use Rattle.wh_generator.specs.Generator.{generator}
 use Rattle.wh_shell.specs.Promised.{RunsWithin}
-use Rattle.wh_shell.specs.Timing.{timing_of, by_ticks}
+use Rattle.wh_shell.specs.Timing.{timing_of, ByTicks}
 use Rattle.wh_shell.specs.World.{World, world_of}
 use Rattle.wh_shell.specs.declared.fault.Fault.TheVariants.{OutOfMemory, Script}
 use Rattle.wh_shell.specs.declared.status.Status.{Status}
@@ -33,7 +33,7 @@ RefusesWords (Some task) status = status ≢ Usage
 pub record Generates {D K : Type 0} (d : disks.Ghosts D) (k : sinks.Ghosts K) (rows seed : ℕ) (disk : D) (out : K)
     (disk_new : D) (out_new : K) (status : Status) : Type 0 where
   pub rest : List ℕ
-  pub runs : RunsWithin d generator k (2 ^ 40) by_ticks (world_of disk (generated rows seed) out)
+  pub runs : RunsWithin d generator k (2 ^ 40) ByTicks (world_of disk (generated rows seed) out)
       (world_of disk_new rest out_new) status
   pub never : status ≢ Stopped Script
 

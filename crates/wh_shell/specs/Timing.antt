@@ -1,25 +1,24 @@
 -- By whose readings a script is carried out.
---     Timing             by the system's clock, or by the ticks of the script (`by_ticks`)
+--     Timing             by the ticks of the script, or by the system's clock
 --     with_readings      events with these readings, one after the other, in place of their own
 --     timed              events by a timing
 --     IsScriptBy         the events of a script by a timing
 --     Times              the first event by a timing, and the timing of those behind it
-use Rattle.std.specs.Prelude.{◌≡◌, ℕ, Bool, false, if◌then◌else◌, List, [], ◌∷◌, Option, Some, None, option_map}
+use Rattle.std.specs.Prelude.{◌≡◌, ℕ, Bool, true, false, List, [], ◌∷◌, Option, Some, None, option_map}
 use Rattle.std.specs.Prelude.{slice_index}
 use Rattle.wh_machine.specs.Step.{Event, Command, Tick}
 use Rattle.wh_machine.specs.Script.{IsScript}
 use Rattle.wh_world.specs.Readings.{readings_after}
 
--- whether the system's clock is asked for, and its readings, where they are told
-pub record Timing : Type 0 where
-  pub system : Bool
-  pub readings : Option (List ℕ)
+-- the readings of the clock, where they are told
+pub data Timing : Type 0 where
+  ByTicks : Timing
+  ByClock : (readings : Option (List ℕ)) → Timing
 
+-- whether the system's clock is asked for
 abbrev pub timing_of : Bool → Option (List ℕ) → Timing
-timing_of system readings = record { system = system; readings = readings }
-
-abbrev pub by_ticks : Timing
-by_ticks = timing_of false None
+timing_of false readings = ByTicks
+timing_of true readings = ByClock readings
 
 -- ---- events
 
@@ -37,7 +36,8 @@ with_clock (Some rs) es = option_map (with_readings rs) es
 
 -- where the system's clock is asked for, each event has its own reading of it
 abbrev pub timed : Timing → Option (List Event) → Option (List Event)
-timed t es = if t.system then with_clock t.readings es else es
+timed ByTicks es = es
+timed (ByClock readings) es = with_clock readings es
 
 -- ---- a script
 
