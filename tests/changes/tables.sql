@@ -80,11 +80,11 @@ DROP TABLE IF EXISTS U;
 CREATE OR REPLACE STREAM S ON TABLE U;
 -- a task that isn't there isn't resumed
 ALTER TASK A RESUME;
--- a dynamic table isn't refreshed yet
+-- nor is a dynamic table that isn't there refreshed
 ALTER DYNAMIC TABLE D REFRESH;
 -- a task is made beside the tables
 CREATE TASK A AS DELETE FROM U;
--- dynamic tables aren't carried out yet
+-- and so is a dynamic table, whose moment is the stamp of the command
 CREATE DYNAMIC TABLE D TARGET_LAG = DOWNSTREAM AS SELECT K FROM U;
 -- in a session too many this isn't looked at
 !session 65

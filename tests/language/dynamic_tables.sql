@@ -1,4 +1,4 @@
--- every unit of a lag; nothing is carried out yet
+-- every unit of a lag. Nothing that is named is there, so each text that spells a statement is told of a name
 CREATE DYNAMIC TABLE d TARGET_LAG = '1 MINUTE' AS SELECT * FROM t;
 CREATE DYNAMIC TABLE d TARGET_LAG = '90 second' AS SELECT * FROM t;
 CREATE DYNAMIC TABLE d TARGET_LAG = '60 SECONDS' AS SELECT * FROM t;

@@ -9,7 +9,7 @@ ROLLBACK;
 BEGIN;
 -- one is open
 BEGIN;
--- a statement that is read and not carried out, before a transaction is looked at
+-- no dynamic table is made in a transaction
 CREATE DYNAMIC TABLE D TARGET_LAG = DOWNSTREAM AS SELECT K FROM T;
 -- no task is made in a transaction
 CREATE TASK A AS DELETE FROM T;

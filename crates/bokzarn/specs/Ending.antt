@@ -2,7 +2,7 @@
 --     EndsUnread    its words can't be read
 --     EndsBy        by the words behind a path, and by what the opening of the file gave
 --     EndsAs        by its words, of which the first is the path that is opened
-use Rattle.std.specs.Prelude.{◌≡◌, ◌≢◌, ◌↔◌, ℕ, nat_eq, if◌then◌else◌, List, [], ◌∷◌, ◌++◌, drop, codes, decimal}
+use Rattle.std.specs.Prelude.{◌≡◌, ◌≢◌, ℕ, nat_eq, if◌then◌else◌, List, [], ◌∷◌, ◌++◌, drop, codes, decimal}
 use Rattle.std.specs.Prelude.{Result, Ok, Err, String, string_bytes}
 use Rattle.std.specs.Global.{Global}
 use Rattle.std.specs.Vec.Iter.{into_iter_items}
@@ -11,7 +11,7 @@ use Rattle.std.specs.IoError.{error_kind}
 use Rattle.std.specs.declared.io.Error.{Error}
 use Rattle.std.specs.declared.io.ErrorKind.TheVariants.{OutOfMemory}
 use Rattle.wh_shell.specs.Code.{code_of}
-use Rattle.wh_shell.specs.Run.{IsRun}
+use Rattle.wh_shell.specs.Asked.{asked_by, RefusesWords}
 use Rattle.wh_shell.specs.declared.status.Status.{Status}
 use Rattle.wh_shell.specs.declared.status.Status.TheVariants.{Usage, Read, Stopped}
 use Rattle.wh_shell.specs.declared.fault.Fault.{Fault}
@@ -49,7 +49,8 @@ fault_reason_of (faults.ScriptTooLong taken) =
     codes "bokzarn: a script has at most 1073741824 bytes, and " ++ (decimal taken ++ codes " were read\n")
 
 abbrev pub reason_of : Ending → List ℕ
-reason_of (With Usage) = codes "usage: bokzarn PATH run < SCRIPT\n"
+reason_of (With Usage) =
+    codes "usage: bokzarn PATH run [--workers W] [--clock system] < SCRIPT, or bokzarn PATH bench [--workers W] N SEED\n"
 reason_of (With (Read refusals)) = refusals_reason_of refusals
 reason_of (With (Stopped fault)) = fault_reason_of fault
 reason_of Unopened = codes "bokzarn: the file can't be opened\n"
@@ -68,11 +69,11 @@ pub record EndsUnread (error : Error) (ending : Ending) : Type 0 where
 abbrev pub words_in : IntoIter (String Global) Global → List (String Global)
 words_in arguments = drop 1 (into_iter_items arguments)
 
--- with a status, that of usage exactly for other words than `run`
+-- with a status, that of usage only for words that aren't in the grammar
 pub record EndsWith (words : List (String Global)) (ending : Ending) : Type 0 where
   pub status : Status
   pub is : ending ≡ With status
-  pub usage : (status ≡ Usage) ↔ (IsRun words → ⊥)
+  pub usage : RefusesWords (asked_by words) status
 
 abbrev pub EndsBy : {D : Type 0} → List (String Global) → Result D OpenError → Ending → Type 0
 EndsBy words (Err openings.Locked) ending = ending ≡ Locked

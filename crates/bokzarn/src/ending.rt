@@ -39,7 +39,10 @@ fn write_reason<W: Write>(err: &mut W, ending: &Ending) -> io::Result<()>
         (Appends (W.contents err.old) (W.contents err.new) (reason_of ending.now)) }
 {
     match ending {
-        Ending::With(Status::Usage) => write!(err, "usage: bokzarn PATH run < SCRIPT\n"),
+        Ending::With(Status::Usage) => write!(
+            err,
+            "usage: bokzarn PATH run [--workers W] [--clock system] < SCRIPT, or bokzarn PATH bench [--workers W] N SEED\n"
+        ),
         Ending::With(Status::Read { refusals }) => write_refusals(err, *refusals),
         Ending::With(Status::Stopped(fault)) => write_fault(err, fault),
         Ending::Locked => write!(err, "bokzarn: another run has the file open\n"),

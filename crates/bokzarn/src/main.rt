@@ -1,13 +1,11 @@
-//! A warehouse in a file: `bokzarn PATH run` carries out the script on standard input, and writes
-//! its replies to standard output.
+//! A warehouse in a file: `bokzarn PATH run` carries out the script on standard input, and `bokzarn
+//! PATH bench N SEED` a generated one. The replies are written to standard output.
 #![tactic(auto)]
 
-ghost use Rattle.std.specs.Prelude.{◌≡◌, ℕ, List, String, IfOk, IfErr, IfSome, OnOk, IsSome, ◌⊎◌};
+ghost use Rattle.std.specs.Prelude.{◌≡◌, String, IfOk, IfErr, IfSome, OnOk, IsSome, ◌⊎◌};
 ghost use Rattle.std.specs.Fn.{FnOnceReturnsAt};
-ghost use Rattle.wh_state.specs.State.{State};
-ghost use Rattle.wh_machine.specs.Outcome.{opened};
-ghost use Rattle.wh_machine.specs.Step.{Event};
-ghost use Rattle.wh_shell.specs.Run.{IsStart, IsRunOf};
+ghost use Rattle.wh_shell.specs.Asked.{asked_by, CarriesOut};
+ghost use Rattle.wh_shell.specs.World.{world_of};
 ghost use Rattle.bokzarn.specs.Ending.{status_of, EndsUnread, EndsBy, EndsAs, words_in};
 
 mod ending;
@@ -122,11 +120,10 @@ fn run_over<S: Source, K: Sink, D: Disk, C: Clock>(
     clock: &mut C,
 ) -> (Ending, Option<D>)
     ensures ending { EndsBy words.now opening result.0 }
-    ensures runs { IfOk opening (λ before. IfSome result.1 (λ after.
-        (file input held : List ℕ) (start : State) (es : List Event) →
-        IsStart (D.bytes before) (S.left script.old) (K.held out.old) file input held start es →
-        IsRunOf (opened start) es held (status_of result.0) (K.held out.new) (D.bytes after)
-        (S.left script.new))) }
+    ensures task { IfOk opening (λ before. IfSome result.1 (λ after. IfSome (asked_by words.now)
+        (λ task. CarriesOut D.Disk S.Source K.Sink (C.readings clock.old) task
+        (world_of before script.old out.old) (world_of after script.new out.new)
+        (status_of result.0)))) }
     ensures handed_back { OnOk opening (IsSome result.1) }
 {
     let disk = match opening {

@@ -3,6 +3,8 @@ pub mod Steps
 pub mod Each
 pub mod Conditions
 pub mod TaskConditions
+pub mod DynamicConditions
+pub mod Sources
 pub mod TaskLaws
 pub mod TaskPlaces
 pub mod Dropped

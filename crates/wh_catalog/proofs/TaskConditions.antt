@@ -9,7 +9,7 @@ use Rattle.std.proofs.lemmas.Bool.Decides.{Decides-and, Decides-or, Decides-eqb,
 use Rattle.wh_value.specs.Limit.{bound}
 use Rattle.wh_value.specs.declared.limit.Limit.TheVariants as limits
 use Rattle.wh_state.specs.Task.{Task, TaskState, most_failures}
-use Rattle.wh_state.specs.State.{at_id, TableKind, StreamKind, TaskKind, task_in}
+use Rattle.wh_state.specs.State.{at_id, TableKind, StreamKind, TaskKind, DynamicKind, task_in}
 use Rattle.wh_state.specs.Stored.{StoredKind, StoredObject}
 use Rattle.wh_state.specs.Objects.{task_at}
 use Rattle.wh_state.specs.Edits.{is_among}
@@ -33,6 +33,7 @@ module _ (takes : Task → Bool) (P : Task → Type 0) (each : (t : Task) → De
   by_kind false k = (λ is. cc, λ h. let never : false ≡ true = h.0 in cc)
   by_kind true (TableKind t) = (λ is. cc, λ h. absurd h.1)
   by_kind true (StreamKind s) = (λ is. cc, λ h. absurd h.1)
+  by_kind true (DynamicKind d t) = (λ is. cc, λ h. absurd h.1)
   by_kind true (TaskKind t) = (λ is. (refl, (each t).0 is), λ h. (each t).1 h.1)
 
   pub Decides-task : (found : Option StoredObject) → Decides (is_task_that takes found) (IsLiveTask P found)

@@ -8,7 +8,8 @@ use Rattle.std.proofs.Common.{refl, sym, ap, subst, ◌∙◌}
 use Rattle.std.specs.Prelude.{IsSomeAnd}
 use Rattle.std.specs.Option.{option_and_then}
 use Rattle.wh_state.specs.Task.{Task, Run, Ending, ended_in, with_ended}
-use Rattle.wh_state.specs.State.{ObjectOf, TableKind, StreamKind, TaskKind, on_task, task_in, at_id, with_id, put_at, changed_at}
+use Rattle.wh_state.specs.State.{ObjectOf, TableKind, StreamKind, TaskKind, DynamicKind, on_task, task_in, at_id, with_id}
+use Rattle.wh_state.specs.State.{put_at, changed_at}
 use Rattle.wh_state.specs.Stored.{StoredKind, StoredObject}
 use Rattle.wh_state.specs.Objects.{as_task, task_at}
 use Rattle.wh_state.specs.Commit.{IsLiveTask, on_task_stored}
@@ -25,6 +26,7 @@ same_kind : (f : Task → Task) (k : KeptKind) → kind_in (on_task f k) ≡ on_
 same_kind f (TableKind t) = refl
 same_kind f (StreamKind s) = refl
 same_kind f (TaskKind t) = refl
+same_kind f (DynamicKind d t) = refl
 
 same_object : (f : Task → Task) (o : KeptObject) → object_in (on_task_kept f o) ≡ on_task_stored f (object_in o)
 same_object f o = ap (object_of o.name o.is_live) (same_kind f o.kind)
@@ -37,6 +39,7 @@ same_task : (k : KeptKind) → task_in (kind_in k) ≡ task_in k
 same_task (TableKind t) = refl
 same_task (StreamKind s) = refl
 same_task (TaskKind t) = refl
+same_task (DynamicKind d t) = refl
 
 stored_task : (xs : List KeptObject) (id : ℕ) → task_at (map object_in xs) id ≡ task_at xs id
 stored_task xs id = ap (option_and_then as_task) (map_at object_in xs id) ∙ by (at_id xs id)
@@ -60,6 +63,7 @@ kind_stays : (f : Task → Task) (k : KeptKind) → task_in k ≡ None → on_ta
 kind_stays f (TableKind t) none = refl
 kind_stays f (StreamKind s) none = refl
 kind_stays f (TaskKind t) none = cc
+kind_stays f (DynamicKind d t) none = refl
 
 pub not_changed : (f : Task → Task) (xs : List KeptObject) (id : ℕ) → task_at xs id ≡ None
     → changed_at xs id (on_task_kept f) ≡ xs
@@ -79,6 +83,7 @@ module _ (task : ℕ) (ending : Ending) (run : Run) where
       → on_task (holding run) k ≡ on_task (with_ended task ending) k
   ended_kind (TableKind t) is = refl
   ended_kind (StreamKind s) is = refl
+  ended_kind (DynamicKind d t) is = refl
   ended_kind (TaskKind t) is =
       let same : ended_in task ending t.run ≡ run = cc in ap (λ r. TaskKind (record t { run = r })) (sym same)
 

@@ -1,10 +1,11 @@
 -- Objects as they were: tables without their last version, streams with the offset of before, tasks with the state or
--- the run of before, and dropped objects that live again.
+-- the run of before, dynamic tables with the state of before, and dropped objects that live again.
 use Rattle.std.specs.Prelude.{ℕ, true, ◌&&◌, List, map, nat_lt, if◌then◌else◌}
 use Rattle.wh_value.specs.Limit.{bound}
 use Rattle.wh_value.specs.declared.limit.Limit.TheVariants as limits
-use Rattle.wh_state.specs.State.{on_table, on_stream, on_task, with_offset, changed_at, live_count}
+use Rattle.wh_state.specs.State.{on_table, on_stream, on_task, on_dynamic, with_offset, changed_at, live_count}
 use Rattle.wh_state.specs.Task.{Task, Run}
+use Rattle.wh_state.specs.Dynamic.{Dynamic}
 use Rattle.wh_table.specs.Undoable.{taken_back}
 use Rattle.wh_catalog.specs.Undoable.{KeptKind, KeptObject}
 use Rattle.wh_catalog.specs.Names.{is_last}
@@ -30,6 +31,10 @@ on_task_kept f o = record o { kind = on_task f o.kind }
 -- a root with that run
 abbrev pub holding : Run → Task → Task
 holding run t = record t { run = run }
+
+-- what a dynamic table has beside its rows changed, as by `with_dynamic_state`
+abbrev pub on_dynamic_kept : (Dynamic → Dynamic) → KeptObject → KeptObject
+on_dynamic_kept f o = record o { kind = on_dynamic f o.kind }
 
 -- an object lives again
 abbrev pub alive : KeptObject → KeptObject

@@ -1,5 +1,6 @@
 pub mod Conditions
 pub mod TaskConditions
+pub mod DynamicConditions
 pub mod Undoable
 pub mod Stream
 pub mod Object

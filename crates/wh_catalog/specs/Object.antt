@@ -1,15 +1,17 @@
 -- What objects of the code stand for, and where they stand.
 --     kept_object, kept_objects     objects with what it takes to take a version back
 --     stored_kind, stored_objects   what the file says of them
+--     object_of                     the machine's object that one means
 --     live_in                       how many live
 --     IsPlaceOf                     where the object of an id stands
 use Rattle.std.specs.Prelude.{◌≡◌, ℕ, suc, ◌<◌, List, map, length, count_by}
-use Rattle.wh_state.specs.State.{TableKind, StreamKind, TaskKind}
+use Rattle.wh_state.specs.State.{Object, TableKind, StreamKind, TaskKind, DynamicKind}
 use Rattle.wh_state.specs.Stored as machine
 use Rattle.wh_table.specs.Table.{kept_table}
 use Rattle.wh_task.specs.View.{task_of}
+use Rattle.wh_dynamic.specs.View.{dynamic_of}
 use Rattle.wh_catalog.specs.declared.object.StoredKind.{StoredKind}
-use Rattle.wh_catalog.specs.declared.object.StoredKind.TheVariants.{Table, Stream, Task}
+use Rattle.wh_catalog.specs.declared.object.StoredKind.TheVariants.{Table, Stream, Task, Dynamic}
 use Rattle.wh_catalog.specs.declared.object.StoredObject.{StoredObject}
 use Rattle.wh_catalog.specs.Undoable.{KeptKind, KeptObject, kind_in, object_in}
 use Rattle.wh_catalog.specs.Stream.{stream_of}
@@ -18,6 +20,7 @@ abbrev pub kept_kind : StoredKind → KeptKind
 kept_kind (Table t) = TableKind (kept_table t)
 kept_kind (Stream s) = StreamKind (stream_of s)
 kept_kind (Task t) = TaskKind (task_of t)
+kept_kind (Dynamic d t) = DynamicKind (dynamic_of d) (kept_table t)
 
 abbrev pub stored_kind : StoredKind → machine.StoredKind
 stored_kind k = kind_in (kept_kind k)
@@ -30,6 +33,9 @@ kept_objects objects = map kept_object objects
 
 abbrev pub stored_objects : List StoredObject → List machine.StoredObject
 stored_objects objects = map object_in (kept_objects objects)
+
+abbrev pub object_of : StoredObject → Object
+object_of o = machine.object_meant (object_in (kept_object o))
 
 abbrev pub live_in : List StoredObject → ℕ
 live_in objects = count_by (λ o. o.is_live) objects

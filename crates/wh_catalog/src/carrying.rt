@@ -1,5 +1,6 @@
 use crate::consuming::{put_offset_back, set_offset};
 use crate::dropping::{drop_object, revive};
+use crate::dynamics::{put_dynamic_back, set_dynamic};
 use crate::naming::{change_id, give_id, last_id};
 use crate::object::place_of;
 use crate::running::{put_run, put_state};
@@ -54,6 +55,12 @@ impl Catalog {
             Change::SetsTask { id, state } => self.set_task(id, state),
             Change::StartsRun { root, tasks } => self.start_run(root, &tasks),
             Change::FinishesTask { root, task, ending } => self.finish_task(root, task, ending),
+            Change::CreatesDynamic(change) => {
+                let id = change.id;
+                let table = self.new_dynamic(change, stamp)?;
+                self.add_object(id, table)
+            }
+            Change::SetsDynamic { id, state } => set_dynamic(&mut self.objects, id, state),
         }
     }
 
@@ -122,6 +129,7 @@ impl Catalog {
             Step::SetRun { root, run } => {
                 put_run(&mut self.objects, root, run);
             }
+            Step::SetDynamic { id, state } => put_dynamic_back(&mut self.objects, id, state),
         }
     }
 

@@ -5,9 +5,10 @@ ghost use Rattle.wh_catalog.specs.Names.{names_of, last_id, AreLast, AreLast-pro
 ghost use Rattle.wh_catalog.specs.Object.{live_in};
 
 use crate::object::place_of;
-use crate::{StoredObject, StoredStream};
+use crate::{StoredKind, StoredObject, StoredStream};
 use indexmap::IndexMap;
 use std::alloc::{AllocError, Global};
+use wh_dynamic::{Dynamic, Watched};
 use wh_table::StoredTable;
 use wh_task::Task;
 
@@ -38,9 +39,12 @@ impl Catalog {
     ghost use Rattle.wh_catalog.specs.Undoable.{object_in};
     ghost use Rattle.wh_table.specs.Table.{table_of};
     ghost use Rattle.wh_task.specs.View.{task_of, tasks_of};
+    ghost use Rattle.wh_dynamic.specs.View.{dynamic_of, dynamics_in};
+    ghost use Rattle.wh_moment.specs.Upstream.{dynamics_of};
     ghost use Rattle.wh_catalog.specs.Object.{kept_object};
     ghost use Rattle.wh_catalog.specs.Names.{names_of, is_last, last_id};
-    ghost use Rattle.wh_state.specs.Objects.{table_at, stream_at, task_at, live_tasks};
+    ghost use Rattle.wh_state.specs.Objects.{table_at, stream_at, task_at, dynamic_at};
+    ghost use Rattle.wh_state.specs.Objects.{live_tasks};
     ghost use Rattle.wh_catalog.specs.Catalog.{stored_of, state_of};
     ghost use Rattle.wh_catalog.specs.Stream.{stream_of};
     ghost use Rattle.wh_state.specs.State.{at_id};
@@ -142,7 +146,7 @@ impl Catalog {
         Some(object)
     }
 
-    /// The table of an id. None where the object is no table.
+    /// The table of an id, or that of a dynamic table. None where the object is of another kind.
     pub fn table(&self, id: u32) -> Option<&StoredTable>
         ensures { option_map (λ t. table_of t.now) result
             ≡ table_at (stored_of self.now).objects id }
@@ -167,6 +171,25 @@ impl Catalog {
     {
         let object = self.object(id)?;
         object.task()
+    }
+
+    /// What the dynamic table of an id has beside its rows. None where the object is none.
+    pub fn dynamic(&self, id: u32) -> Option<&Dynamic>
+        ensures { option_map (λ d. dynamic_of d.now) result
+            ≡ dynamic_at (stored_of self.now).objects id }
+    {
+        let object = self.object(id)?;
+        object.dynamic()
+    }
+
+    /// What a schedule looks at of the dynamic tables, dropped ones too, by their ids from 1; None
+    /// at an id that has none.
+    pub fn watched(&self, alloc: Global) -> Result<Vec<Option<Watched<'_>>>, AllocError>
+        ensures watched { IfOk result (λ all. dynamics_in all.items
+            ≡ dynamics_of (stored_of self.now).objects) }
+        ensures bounded { IfOk result (λ all. length all.items ≤ bound limits.ObjectIds) }
+    {
+        watched(alloc, &self.objects)
     }
 
     /// The live tasks by their ids from 1, None at an id that has none.
@@ -200,4 +223,35 @@ fn live_tasks(alloc: Global, objects: &[StoredObject]) -> Result<Vec<Option<&Tas
         tasks.push(object.live_task())?;
     }
     Ok(tasks)
+}
+
+ghost use Rattle.wh_moment.specs.Upstream.{dynamics_of, watched_object};
+ghost use Rattle.wh_dynamic.specs.View.{watched_of, dynamics_in};
+ghost use Rattle.std.specs.Prelude.{option_map};
+ghost use Rattle.wh_catalog.specs.Undoable.{object_in};
+ghost use Rattle.wh_catalog.specs.Object.{kept_object};
+
+fn watched(alloc: Global, objects: &[StoredObject]) -> Result<Vec<Option<Watched<'_>>>, AllocError>
+    ensures { IfOk result (λ all. dynamics_in all.items
+        ≡ dynamics_of (stored_objects objects.now)) }
+{
+    let mut all = Vec::with_capacity(alloc, objects.len())?;
+    for object in objects {
+        all.push(watched_object(object))?;
+    }
+    Ok(all)
+}
+
+/// What a schedule looks at of a dynamic table; None of another object.
+pub fn watched_object(object: &StoredObject) -> Option<Watched<'_>>
+    ensures { option_map watched_of result ≡ watched_object (object_in (kept_object object.now)) }
+{
+    match &object.kind {
+        StoredKind::Dynamic(dynamic, table) => Some(Watched {
+            is_live: object.is_live,
+            created: table.created(),
+            dynamic,
+        }),
+        StoredKind::Table(_) | StoredKind::Stream(_) | StoredKind::Task(_) => None,
+    }
 }

@@ -87,7 +87,9 @@ impl StoredObject {
                 stream.offset = offset;
                 Ok(before)
             }
-            StoredKind::Table(_) | StoredKind::Task(_) => Err(StageFault::NotApplicable),
+            StoredKind::Table(_) | StoredKind::Task(_) | StoredKind::Dynamic(_, _) => {
+                Err(StageFault::NotApplicable)
+            }
         }
     }
 
@@ -98,7 +100,7 @@ impl StoredObject {
     {
         match &mut self.kind {
             StoredKind::Stream(stream) => stream.offset = offset,
-            StoredKind::Table(_) | StoredKind::Task(_) => {}
+            StoredKind::Table(_) | StoredKind::Task(_) | StoredKind::Dynamic(_, _) => {}
         }
     }
 }

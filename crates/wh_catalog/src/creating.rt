@@ -69,7 +69,8 @@ fn is_stored_name(name: &Text) -> bool
     0 < bytes.len() && bytes.len() as u64 <= Limit::Name.bound()
 }
 
-fn are_stored_columns(columns: &[Column]) -> bool
+/// Whether there are columns, no more than the limit, and each has a name that may be stored.
+pub(crate) fn are_stored_columns(columns: &[Column]) -> bool
     ensures { result ≡ are_stored_columns (map column_of columns.now) }
 {
     let count = columns.len() as u64;

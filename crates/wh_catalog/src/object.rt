@@ -1,7 +1,8 @@
 use crate::StoredStream;
+use wh_dynamic::Dynamic;
 use wh_table::StoredTable;
 use wh_task::Task;
-use wh_value::Text;
+use wh_value::{Column, Text};
 
 /// An object of the warehouse. A dropped one stays, with the name that it had.
 #[derive(Debug, Drop)]
@@ -17,17 +18,34 @@ pub enum StoredKind {
     Table(StoredTable),
     Stream(StoredStream),
     Task(Task),
+    /// Its rows are those of the table.
+    Dynamic(Dynamic, StoredTable),
 }
 
 impl StoredObject {
     ghost use Rattle.std.specs.Prelude.{◌≡◌, option_map};
     ghost use Rattle.wh_table.specs.Table.{table_of};
     ghost use Rattle.wh_task.specs.View.{live_of};
-    ghost use Rattle.wh_state.specs.State.{table_in, stream_in, task_in};
+    ghost use Rattle.wh_state.specs.State.{table_in, stream_in, task_in, dynamic_in};
+    ghost use Rattle.wh_dynamic.specs.View.{dynamic_of};
     ghost use Rattle.wh_state.specs.Objects.{live_task};
+    ghost use Rattle.wh_state.specs.State.{DynamicKind, new_object};
+    ghost use Rattle.wh_table.specs.Table.{kept_table};
     ghost use Rattle.wh_catalog.specs.Undoable.{object_in};
     ghost use Rattle.wh_catalog.specs.Stream.{stream_of};
     ghost use Rattle.wh_catalog.specs.Object.{kept_kind, kept_object};
+
+    /// A dynamic table that lives.
+    pub fn dynamic_table(name: Text, dynamic: Dynamic, table: StoredTable) -> StoredObject
+        ensures { kept_object result
+            ≡ new_object name (DynamicKind (dynamic_of dynamic) (kept_table table)) }
+    {
+        StoredObject {
+            name,
+            is_live: true,
+            kind: StoredKind::Dynamic(dynamic, table),
+        }
+    }
 
     /// The name that it has, or had.
     pub fn name(&self) -> &Text
@@ -68,6 +86,13 @@ impl StoredObject {
         self.kind.task()
     }
 
+    pub(crate) fn dynamic(&self) -> Option<&Dynamic>
+        ensures { option_map (λ d. dynamic_of d.now) result
+            ≡ dynamic_in (object_in (kept_object self.now)).kind }
+    {
+        self.kind.dynamic()
+    }
+
     /// The task that it is, if it lives and is one.
     pub(crate) fn live_task(&self) -> Option<&Task>
         ensures { live_of result ≡ live_task (object_in (kept_object self.now)) }
@@ -80,19 +105,22 @@ impl StoredObject {
 }
 
 impl StoredKind {
-    ghost use Rattle.std.specs.Prelude.{◌≡◌, option_map};
-    ghost use Rattle.wh_state.specs.State.{table_in, stream_in, task_in};
+    ghost use Rattle.std.specs.Prelude.{◌≡◌, map, option_map};
+    ghost use Rattle.wh_value.specs.View.{column_of};
+    ghost use Rattle.wh_state.specs.State.{table_in, stream_in, task_in, dynamic_in, columns_in};
     ghost use Rattle.wh_table.specs.Table.{table_of};
     ghost use Rattle.wh_task.specs.View.{live_of};
+    ghost use Rattle.wh_dynamic.specs.View.{dynamic_of};
     ghost use Rattle.wh_catalog.specs.Stream.{stream_of};
     ghost use Rattle.wh_catalog.specs.Object.{stored_kind};
 
-    /// The table that it is, if it is one.
+    /// The table that it is or has, if it is a table or a dynamic table.
     pub fn table(&self) -> Option<&StoredTable>
         ensures { option_map (λ t. table_of t.now) result ≡ table_in (stored_kind self.now) }
     {
         match self {
             StoredKind::Table(table) => Some(table),
+            StoredKind::Dynamic(_, table) => Some(table),
             StoredKind::Stream(_) | StoredKind::Task(_) => None,
         }
     }
@@ -102,7 +130,7 @@ impl StoredKind {
         ensures { option_map (λ s. stream_of s.now) result ≡ stream_in (stored_kind self.now) }
     {
         match self {
-            StoredKind::Table(_) | StoredKind::Task(_) => None,
+            StoredKind::Table(_) | StoredKind::Task(_) | StoredKind::Dynamic(_, _) => None,
             StoredKind::Stream(stream) => Some(stream),
         }
     }
@@ -112,8 +140,30 @@ impl StoredKind {
         ensures { live_of result ≡ task_in (stored_kind self.now) }
     {
         match self {
-            StoredKind::Table(_) | StoredKind::Stream(_) => None,
+            StoredKind::Table(_) | StoredKind::Stream(_) | StoredKind::Dynamic(_, _) => None,
             StoredKind::Task(task) => Some(task),
+        }
+    }
+
+    /// What a dynamic table has beside its rows, if it is one.
+    pub fn dynamic(&self) -> Option<&Dynamic>
+        ensures { option_map (λ d. dynamic_of d.now) result ≡ dynamic_in (stored_kind self.now) }
+    {
+        match self {
+            StoredKind::Table(_) | StoredKind::Stream(_) | StoredKind::Task(_) => None,
+            StoredKind::Dynamic(dynamic, _) => Some(dynamic),
+        }
+    }
+
+    /// Its columns; a task has none.
+    pub fn columns(&self) -> &[Column]
+        ensures { map column_of result.now ≡ columns_in (stored_kind self.now) }
+    {
+        match self {
+            StoredKind::Table(table) => table.columns(),
+            StoredKind::Dynamic(_, table) => table.columns(),
+            StoredKind::Stream(stream) => stream.columns(),
+            StoredKind::Task(_) => &[],
         }
     }
 }

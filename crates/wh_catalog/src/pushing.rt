@@ -1,6 +1,7 @@
 //! Versions of an object that is a table.
 use crate::{StageFault, StoredKind, StoredObject};
 use wh_record::VersionChange;
+use wh_table::StoredTable;
 
 impl StoredObject {
     ghost use Rattle.std.specs.Prelude.{◌≡◌, ◌≤◌, Some, OnOk, OnErr, IfOk, IsErrOf};
@@ -31,11 +32,8 @@ impl StoredObject {
             return Err(StageFault::NotApplicable);
         }
         match &mut self.kind {
-            StoredKind::Table(table) => {
-                let next_row = table.next_row();
-                table.push(change, stamp)?;
-                Ok(next_row)
-            }
+            StoredKind::Table(table) => push_to(table, change, stamp),
+            StoredKind::Dynamic(_, table) => push_to(table, change, stamp),
             StoredKind::Stream(_) | StoredKind::Task(_) => Err(StageFault::NotApplicable),
         }
     }
@@ -49,7 +47,33 @@ impl StoredObject {
     {
         match &mut self.kind {
             StoredKind::Table(table) => table.take_back(next_row),
+            StoredKind::Dynamic(_, table) => table.take_back(next_row),
             StoredKind::Stream(_) | StoredKind::Task(_) => {}
         }
     }
+}
+
+ghost use Rattle.std.specs.Prelude.{◌≡◌, ◌≤◌, OnOk, OnErr, IfOk, IsErrOf};
+ghost use Rattle.wh_value.specs.Limit.{bound};
+ghost use Rattle.wh_value.specs.declared.limit.Limit.TheVariants as limits;
+ghost use Rattle.wh_state.specs.Commit.{VersionApplies, pushed};
+ghost use Rattle.wh_record.specs.View.{version_change_of};
+ghost use Rattle.wh_table.specs.Undoable.{taken_back};
+ghost use Rattle.wh_table.specs.Table.{table_of, kept_table};
+
+// Adds a version to a table, if it applies. The result is the next row of before.
+fn push_to(table: &mut StoredTable, change: VersionChange, stamp: u64) -> Result<u64, StageFault>
+    ensures applies { OnOk result (VersionApplies (table_of table.old) (version_change_of change)) }
+    ensures pushed { OnOk result (table_of table.new
+        ≡ pushed stamp (version_change_of change) (table_of table.old)) }
+    ensures back { IfOk result (λ next_row. taken_back next_row (kept_table table.new)
+        ≡ kept_table table.old) }
+    ensures bounded { IfOk result (λ next_row. next_row ≤ bound limits.RowNumber) }
+    ensures not_applicable { IsErrOf result StageFault.NotApplicable
+        → VersionApplies (table_of table.old) (version_change_of change) → ⊥ }
+    ensures same { OnErr result (kept_table table.new ≡ kept_table table.old) }
+{
+    let next_row = table.next_row();
+    table.push(change, stamp)?;
+    Ok(next_row)
 }

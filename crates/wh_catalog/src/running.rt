@@ -184,7 +184,7 @@ impl StoredObject {
                 task.state = state;
                 Some(before)
             }
-            StoredKind::Table(_) | StoredKind::Stream(_) => None,
+            StoredKind::Table(_) | StoredKind::Stream(_) | StoredKind::Dynamic(_, _) => None,
         }
     }
 
@@ -200,7 +200,7 @@ impl StoredObject {
     {
         match &mut self.kind {
             StoredKind::Task(task) => Some(mem::replace(&mut task.run, run)),
-            StoredKind::Table(_) | StoredKind::Stream(_) => None,
+            StoredKind::Table(_) | StoredKind::Stream(_) | StoredKind::Dynamic(_, _) => None,
         }
     }
 }

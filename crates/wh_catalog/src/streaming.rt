@@ -11,7 +11,7 @@ impl Catalog {
     ghost use Rattle.wh_state.specs.Commit.{StreamApplies, changed, CreatesStream};
     ghost use Rattle.wh_record.specs.View.{stream_change_of};
     ghost use Rattle.wh_table.specs.Table.{table_of};
-    ghost use Rattle.wh_catalog.specs.Conditions.{is_live_table};
+    ghost use Rattle.wh_catalog.specs.Conditions.{is_live_table, is_table_at};
     ghost use Rattle.wh_catalog.specs.Undoable.{object_in};
     ghost use Rattle.wh_catalog.specs.Object.{kept_object};
     ghost use Rattle.wh_catalog.specs.Catalog.{objects_of};
@@ -33,6 +33,9 @@ impl Catalog {
         let Some(table) = self.live_table(change.source) else {
             return Err(StageFault::NotApplicable);
         };
+        if change.is_append_only && !self.is_table(change.source) {
+            return Err(StageFault::NotApplicable);
+        }
         let Ok(columns) = with_metadata(self.alloc, table.columns()) else {
             return Err(StageFault::OutOfMemory);
         };
@@ -49,8 +52,18 @@ impl Catalog {
         })
     }
 
-    // The table of an id, if it lives.
-    fn live_table(&self, id: u32) -> Option<&StoredTable>
+    // Whether the object of an id is a table; a dynamic table is none.
+    fn is_table(&self, id: u32) -> bool
+        ensures { result ≡ is_table_at (at_id (objects_of self.now) id) }
+    {
+        match self.object(id) {
+            Some(object) => matches!(object.kind, StoredKind::Table(_)),
+            None => false,
+        }
+    }
+
+    /// The table of an id, if it lives.
+    pub(crate) fn live_table(&self, id: u32) -> Option<&StoredTable>
         ensures found { is_some result ≡ is_live_table (at_id (objects_of self.now) id) }
         ensures columns { IfSome result (λ t. (table_of t.now).columns
             ≡ columns_at (objects_of self.now) id) }

@@ -2,6 +2,7 @@ ghost use Rattle.std.specs.Prelude.{◌≤◌, ◌<◌};
 ghost use Rattle.wh_value.specs.Limit.{bound};
 ghost use Rattle.wh_value.specs.declared.limit.Limit.TheVariants as limits;
 
+use wh_dynamic::DynamicState;
 use wh_task::{TaskRun, TaskState};
 
 /// A version that was pushed to the table of an id, whose next row was that one.
@@ -25,6 +26,8 @@ pub(crate) enum Step {
     SetTask { id: u32, state: TaskState },
     /// That of a root, by its id, with the one of before.
     SetRun { root: u32, run: Vec<TaskRun> },
+    /// That of a dynamic table, by its id, with the one of before.
+    SetDynamic { id: u32, state: DynamicState },
 }
 
 /// What leads back from a commit that was staged.

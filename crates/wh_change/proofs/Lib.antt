@@ -1,7 +1,6 @@
 pub mod RisingRows
 pub mod Entries
 pub mod NetParts
-pub mod Versions
 pub mod SeenRows
 pub mod Walking
 pub mod Behind

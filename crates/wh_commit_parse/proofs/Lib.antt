@@ -1,6 +1,6 @@
 pub mod TextLaws
+pub mod MeantLaws
 pub mod CommitLaws
 pub mod FileLaws
 pub mod FaultLaws
-pub mod MeantLaws
 pub mod Turns

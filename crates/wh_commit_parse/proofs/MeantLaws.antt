@@ -1,12 +1,16 @@
 -- What texts mean is what they spell.
+--     no_query        no other statement than a SELECT is a query
 --     meant_is        a commit that texts mean is one, and has these texts
---     meant_again     the texts of a commit mean it
-use Rattle.std.proofs.Common.{◌≡◌, ℕ, List, [], ◌∷◌, map, Option, Some, None, option_map, IfSome, IsUtf8, refl, sym, ap}
+--     change_again    the texts of a change mean it
+--     meant_again     and those of a commit
+use Rattle.std.proofs.Common.{◌≡◌, ℕ, List, [], ◌∷◌, map, Option, Some, None, option_map, IsUtf8, refl, sym, ap}
 use Rattle.std.proofs.Common.{◌∙◌, subst}
 use Rattle.std.specs.List.{AllByRecursion}
 use Rattle.std.specs.Option.{option_map_or}
 use Rattle.std.proofs.lemmas.Option.{same_Some}
 use Rattle.wh_ast.specs.declared.dml.Dml.{Dml}
+use Rattle.wh_ast.specs.declared.query.Query.{Query}
+use Rattle.wh_ast.specs.declared.query.Sort.{Sort}
 use Rattle.wh_ast.specs.declared.statement.When.{When}
 use Rattle.wh_ast.specs.declared.statement.WhenCondition.{WhenCondition}
 use Rattle.wh_ast.specs.declared.statement.Statement.{Statement}
@@ -25,14 +29,13 @@ use Rattle.wh_stmt_parse.proofs.Reading.{texts_read}
 use Rattle.wh_state.specs.Task.{TaskTexts, TaskBody, texts_of, SpellsCondition, IsWhenSpelled, IsSpelled}
 use Rattle.wh_state.specs.Commit.{Change, Commit, TextChange, TextCommit, CreatesTable, Drops, PushesVersion}
 use Rattle.wh_state.specs.Commit.{CreatesStream, SetsOffset, CreatesTask, SetsTask, StartsRun, FinishesTask}
-use Rattle.wh_state.specs.Commit.{change_as_text, as_text}
-use Rattle.wh_state.specs.Spelling.{body_in, IsChange, text_payload, payload_of, IsTextCommit, IsCommit}
-use Rattle.wh_commit_parse.specs.Bodies.{texts_of_change, with_body}
+use Rattle.wh_state.specs.Commit.{CreatesDynamic, SetsDynamic, task_as_text, dynamic_as_text, change_as_text, as_text}
+use Rattle.wh_state.specs.Dynamic.{DynamicTexts, DynamicQuery, query_texts_of, IsQuerySpelled}
+use Rattle.wh_state.specs.Spelling.{IsChange, text_payload, payload_of, IsTextCommit, IsUnderstood, IsCommit}
 use Rattle.wh_commit_parse.specs.Meant.{read_whole, condition_among, condition_of, condition_in, with_text, when_of}
-use Rattle.wh_commit_parse.specs.Meant.{dml_in, dml_of, body_by, body_meant, body_among, change_meant, one_more, changes_meant}
-use Rattle.wh_commit_parse.specs.Meant.{commit_meant}
+use Rattle.wh_commit_parse.specs.Meant.{dml_in, dml_of, body_by, body_meant, query_in, query_of, with_tree, query_meant}
+use Rattle.wh_commit_parse.specs.Meant.{with_body, with_query, change_meant, one_more, changes_meant, commit_meant}
 use Rattle.wh_commit_parse.proofs.TextLaws.{no_condition, condition_is_read}
-use Rattle.wh_commit_parse.proofs.CommitLaws.{IsUnderstood, body_put_back, texts_kept}
 
 -- ---- conditions
 
@@ -146,6 +149,45 @@ body_again b h =
     let body = dml_again b.body_text b.body h.body in
     rw (when, body) refl
 
+-- ---- queries of dynamic tables
+
+pub no_query : (s : Statement) → ((q : Query) (sorts : List Sort) → s ≡ st.Select q sorts → ⊥) → query_in (Some s) ≡ None
+no_query (st.Select q sorts) h = absurd (h q sorts refl)
+no_query _ h = refl
+
+query_only : (s : Statement) (x : Query) → query_in (Some s) ≡ Some x → s ≡ st.Select x []
+query_only (st.Select y []) x e = ap {B = Statement} (λ (q : Query). st.Select q []) (same_Some y x e)
+query_only (st.Select y (s ∷ ss)) x e = absurd cc
+query_only _ x e = absurd cc
+
+query_is : (text : List ℕ) (x : Query) → query_of text ≡ Some x → Spells text (st.Select x [])
+unfolding query_of
+query_is text x e = by (read_statement text) refl e
+  where
+    by : (found : Option Statement) → read_statement text ≡ found → query_in found ≡ Some x
+        → Spells text (st.Select x [])
+    by None read is = absurd cc
+    by (Some s) read is = (texts_read text (st.Select x [])).0 (read ∙ ap Some (query_only s x is))
+
+query_again : (text : List ℕ) (x : Query) → Spells text (st.Select x []) → query_of text ≡ Some x
+unfolding query_of
+query_again text x h = ap query_in ((texts_read text (st.Select x [])).1 h)
+
+abbrev IsQueryOf : DynamicTexts → DynamicQuery → Type 0
+IsQueryOf t q = IsQuerySpelled q × (query_texts_of q ≡ t)
+
+dynamic_is : (t : DynamicTexts) (q : DynamicQuery) → query_meant t ≡ Some q → IsQueryOf t q
+unfolding query_meant
+dynamic_is t q e = by (query_of t.text) refl e
+  where
+    by : (found : Option Query) → query_of t.text ≡ found → option_map (with_tree t) found ≡ Some q → IsQueryOf t q
+    by None read is = absurd cc
+    by (Some x) read is = subst (IsQueryOf t) (same_Some _ q is) (query_is t.text x read, refl)
+
+dynamic_again : (q : DynamicQuery) → IsQuerySpelled q → query_meant (query_texts_of q) ≡ Some q
+unfolding query_meant
+dynamic_again q h = ap (option_map (with_tree (query_texts_of q))) (query_again q.text q.tree h)
+
 -- ---- changes
 
 abbrev IsMeantBy : TextChange → Change → Type 0
@@ -164,21 +206,15 @@ change_is (SetsOffset id offset) c good e = as_it_is _ (SetsOffset id offset) c 
 change_is (SetsTask id state) c good e = as_it_is _ (SetsTask id state) c (tt, refl) e
 change_is (StartsRun root tasks) c good e = as_it_is _ (StartsRun root tasks) c (tt, refl) e
 change_is (FinishesTask root task ending) c good e = as_it_is _ (FinishesTask root task ending) c (tt, refl) e
+change_is (SetsDynamic id state) c good e = as_it_is _ (SetsDynamic id state) c (tt, refl) e
 change_is (CreatesTask x) c good e = by (body_meant x.runs) refl e
   where
-    by : (found : Option TaskBody) → body_meant x.runs ≡ found → with_body found (CreatesTask x) ≡ Some c
+    by : (found : Option TaskBody) → body_meant x.runs ≡ found → option_map (with_body x) found ≡ Some c
         → IsMeantBy (CreatesTask x) c
     by None read is = absurd cc
     by (Some b) read is =
         let spelled = body_is x.runs b good.when.utf8 read in
-        let kept : Change = CreatesTask (record {
-          id = x.id;
-          name = x.name;
-          minutes = x.minutes;
-          after = x.after;
-          runs = b;
-        }) in
-        as_it_is (CreatesTask x) kept c (
+        as_it_is (CreatesTask x) (with_body x b) c (
           spelled.0,
           ap {B = TextChange} (λ (runs : TaskTexts). CreatesTask (record {
             id = x.id;
@@ -188,16 +224,38 @@ change_is (CreatesTask x) c good e = by (body_meant x.runs) refl e
             runs = runs;
           })) spelled.1,
         ) is
+change_is (CreatesDynamic x) c good e = by (query_meant x.query) refl e
+  where
+    by : (found : Option DynamicQuery) → query_meant x.query ≡ found → option_map (with_query x) found ≡ Some c
+        → IsMeantBy (CreatesDynamic x) c
+    by None read is = absurd cc
+    by (Some q) read is =
+        let spelled = dynamic_is x.query q read in
+        as_it_is (CreatesDynamic x) (with_query x q) c (
+          spelled.0,
+          ap {B = TextChange} (λ (query : DynamicTexts). CreatesDynamic (record {
+            id = x.id;
+            name = x.name;
+            lag = x.lag;
+            is_incremental = x.is_incremental;
+            query = query;
+            columns = x.columns;
+          })) spelled.1,
+        ) is
 
-among_again : (b : Option TaskBody) → IfSome b IsSpelled → body_among (option_map texts_of b) ≡ b
-among_again None h = refl
-among_again (Some b) h = body_again b h
-
-change_again : (c : Change) → IsUnderstood c → change_meant (change_as_text c) ≡ Some c
+pub change_again : (c : Change) → IsUnderstood c → change_meant (change_as_text c) ≡ Some c
 unfolding change_meant
-change_again c h =
-    let body = ap body_among (texts_kept c) ∙ among_again (body_in c) h in
-    ap (λ (b : Option TaskBody). with_body b (change_as_text c)) body ∙ body_put_back c
+change_again (CreatesTable x) h = refl
+change_again (Drops id) h = refl
+change_again (PushesVersion x) h = refl
+change_again (CreatesStream x) h = refl
+change_again (SetsOffset id offset) h = refl
+change_again (CreatesTask x) h = ap (option_map (with_body (task_as_text x))) (body_again x.runs h)
+change_again (SetsTask id state) h = refl
+change_again (StartsRun root tasks) h = refl
+change_again (FinishesTask root task ending) h = refl
+change_again (CreatesDynamic x) h = ap (option_map (with_query (dynamic_as_text x))) (dynamic_again x.query h)
+change_again (SetsDynamic id state) h = refl
 
 -- ---- commits
 

@@ -1,5 +1,5 @@
 -- What a function of the code returned, seen by view, is what a text means.
-use Rattle.std.specs.Prelude.{◌≡◌, Option, Some, None, Result, Ok, Err}
+use Rattle.std.specs.Prelude.{◌≡◌, Option, Some, Result, Ok, Err}
 use Rattle.wh_cursor.specs.declared.fault.ParseFault.{ParseFault}
 use Rattle.wh_cursor.specs.Gives.{Fails}
 

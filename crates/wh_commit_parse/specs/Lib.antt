@@ -1,4 +1,3 @@
 pub mod Laws
-pub mod Bodies
 pub mod Meant
 pub mod Gives

@@ -5,20 +5,24 @@ ghost use Rattle.wh_cursor.specs.Gives.{Reads};
 ghost use Rattle.wh_grammar.specs.Spelled.{tokens_of};
 ghost use Rattle.wh_record.specs.View.{change_of, commit_of, task_change_of};
 ghost use Rattle.wh_record.specs.View.{text_change_of, text_commit_of, texts_in, task_in};
+ghost use Rattle.wh_record.specs.View.{query_texts_in, dynamic_in, dynamic_change_of};
 ghost use Rattle.wh_state.specs.Commit as machine;
 ghost use Rattle.wh_task.specs.View.{body_of};
+ghost use Rattle.wh_dynamic.specs.View.{query_of};
 ghost use Rattle.wh_stmt_parse.specs.Gives.{Gives};
 ghost use Rattle.wh_commit_parse.specs.Gives.{GivesAs};
 ghost use Rattle.wh_commit_parse.specs.Meant as spec;
 
 use sqlite_items::Boxed;
 use std::alloc::Global;
-use wh_ast::{Dml, Statement, When, WhenCondition};
+use wh_ast::{Dml, Query, Statement, When, WhenCondition};
 use wh_cursor::{ParseFault, Words, tokens_of_text};
+use wh_dynamic::DynamicQuery;
 use wh_lex::Token;
 use wh_option_parse::condition;
 use wh_record::{
-    Change, ChangeIn, Commit, CommitIn, TaskChange, TaskChangeIn, TaskTexts, TextChange, TextCommit,
+    Change, ChangeIn, Commit, CommitIn, DynamicChange, DynamicChangeIn, DynamicTexts, TaskChange,
+    TaskChangeIn, TaskTexts, TextChange, TextCommit,
 };
 use wh_stmt_parse::parse;
 use wh_task::TaskBody;
@@ -120,6 +124,60 @@ fn task_meant(alloc: Global, task: TaskChangeIn<TaskTexts>) -> Result<TaskChange
     })
 }
 
+/// The query that a text spells; it has no order.
+#[tactic(auto, unfolding(crate::specs::Meant::query_of))]
+fn tree_of(alloc: Global, text: &[u8]) -> Result<Boxed<Query>, ParseFault>
+    ensures { Gives result (spec.query_of text.now) }
+{
+    match parse(alloc, text)? {
+        Statement::Select(query, sorts) => match sorts.as_slice() {
+            [] => Ok(Boxed::new(alloc, query)?),
+            [_, ..] => Err(ParseFault::SyntaxError),
+        },
+        _ => Err(ParseFault::SyntaxError),
+    }
+}
+
+#[tactic(auto, unfolding(crate::specs::Meant::query_meant))]
+fn query_meant(alloc: Global, texts: DynamicTexts) -> Result<DynamicQuery, ParseFault>
+    ensures { GivesAs query_of result (spec.query_meant (query_texts_in texts)) }
+{
+    let DynamicTexts { text, sources } = texts;
+    let tree = tree_of(alloc, text.as_bytes())?;
+    Ok(DynamicQuery {
+        tree,
+        text,
+        sources,
+    })
+}
+
+#[tactic(auto, unfolding(crate::specs::Meant::change_meant))]
+fn dynamic_meant(
+    alloc: Global,
+    table: DynamicChangeIn<DynamicTexts>,
+) -> Result<DynamicChange, ParseFault>
+    ensures { GivesAs (λ t. machine.CreatesDynamic (dynamic_change_of t)) result
+        (spec.change_meant (machine.CreatesDynamic (dynamic_in query_texts_in table))) }
+{
+    let DynamicChangeIn {
+        id,
+        name,
+        lag,
+        is_incremental,
+        query,
+        columns,
+    } = table;
+    let query = query_meant(alloc, query)?;
+    Ok(DynamicChangeIn {
+        id,
+        name,
+        lag,
+        is_incremental,
+        query,
+        columns,
+    })
+}
+
 #[tactic(auto, unfolding(crate::specs::Meant::change_meant))]
 fn change_meant(alloc: Global, change: TextChange) -> Result<Change, ParseFault>
     ensures { GivesAs change_of result (spec.change_meant (text_change_of change)) }
@@ -136,6 +194,10 @@ fn change_meant(alloc: Global, change: TextChange) -> Result<Change, ParseFault>
         ChangeIn::FinishesTask { root, task, ending } => {
             Ok(ChangeIn::FinishesTask { root, task, ending })
         }
+        ChangeIn::CreatesDynamic(table) => {
+            Ok(ChangeIn::CreatesDynamic(dynamic_meant(alloc, table)?))
+        }
+        ChangeIn::SetsDynamic { id, state } => Ok(ChangeIn::SetsDynamic { id, state }),
     }
 }
 

@@ -74,6 +74,7 @@ new_dynamic_table_of t = record {
   lag = t.lag;
   mode = t.mode;
   initialize = t.initialize;
+  tree = t.tree;
   query = query_of t.query;
   columns = map column_of t.columns.items;
   sources = t.sources.items;

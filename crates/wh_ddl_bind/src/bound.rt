@@ -74,6 +74,8 @@ pub struct NewDynamicTable {
     pub lag: Lag,
     pub mode: RefreshMode,
     pub initialize: Initialize,
+    /// The query as a tree.
+    pub tree: Boxed<wh_ast::Query>,
     pub query: Query,
     /// The columns of its query.
     pub columns: Vec<Column>,

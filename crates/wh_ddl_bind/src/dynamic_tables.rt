@@ -13,8 +13,9 @@ use crate::tested::tested;
 use crate::{Bound, Names, NewDynamicTable};
 use sqlite_items::Boxed;
 use std::alloc::{AllocError, Global};
-use wh_ast::{CreateDynamicTable, Lag};
+use wh_ast::{CreateDynamicTable, Lag, Query};
 use wh_bind::{BindFault, bind_query, columns_of};
+use wh_copy::copy_query;
 use wh_core_bind::BoundQuery;
 use wh_expr_bind::Findings;
 use wh_naming::{Named, ObjectKind};
@@ -175,12 +176,14 @@ fn made(
     let columns = columns_of(alloc, &query.get().outputs)?;
     let name = table.name.copy(alloc)?;
     let query_text = table.query_text.copy(alloc)?;
+    let tree = copied_tree(alloc, &table.query)?;
     let query = query.into_inner();
     let made = NewDynamicTable {
         name,
         lag: table.lag,
         mode: table.mode,
         initialize: table.initialize,
+        tree,
         query: query.query,
         columns,
         sources: query.sources,
@@ -191,4 +194,10 @@ fn made(
         made: Boxed::new(alloc, made)?,
         findings: query.findings,
     })
+}
+
+fn copied_tree(alloc: Global, query: &Query) -> Result<Boxed<Query>, AllocError>
+    ensures { IfOk result (λ copy. copy ≡ query.now) }
+{
+    Boxed::new(alloc, copy_query(alloc, query)?)
 }

@@ -199,6 +199,7 @@ pub dynamic_tables : Means
       lag = lags.Seconds 60;
       mode = modes.Auto;
       initialize = starts.OnCreate;
+      tree = (query (core (shown (number 1) ∷ shown_as null name_x ∷ []) (object name_d) [] None [] ∷ [])).tree;
       query = Project (Scan 0) (Const (value.Number (pos 1)) ∷ Const value.Null ∷ []);
       columns = (record { name = codes "COL1"; column_type = NumberType })
           ∷ (record { name = name_x; column_type = VarcharType }) ∷ [];

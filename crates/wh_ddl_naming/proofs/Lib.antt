@@ -1,3 +1,4 @@
 pub mod KnownStatements
 pub mod QueryLaws
 pub mod NameLaws
+pub mod SourceLaws

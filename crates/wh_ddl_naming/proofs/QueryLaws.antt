@@ -32,19 +32,19 @@ all_behind P [] ys h = h
 all_behind P (x ∷ xs) ys h = all_behind P xs ys h.1
 
 -- of elements with a proof each
-firsts : {X : Type 0} (P : X → Type 0) (es : List ((x : X) × P x)) → AllByRecursion P (map (λ e. e.0) es)
+pub firsts : {X : Type 0} (P : X → Type 0) (es : List ((x : X) × P x)) → AllByRecursion P (map (λ e. e.0) es)
 firsts P [] = tt
 firsts P (e ∷ es) = (e.1, firsts P es)
 
 -- ---- trees, layer by layer
 
-abbrev join_part : Join → JoinPart
+abbrev pub join_part : Join → JoinPart
 join_part j = fold-Join SourcePart QueryReading JoinPart QueryReading source_step core_step join_step query_step j
 
-abbrev core_reading : Core → QueryReading
+abbrev pub core_reading : Core → QueryReading
 core_reading c = fold-Core SourcePart QueryReading JoinPart QueryReading source_step core_step join_step query_step c
 
-query_reads : (cores : List Core) (objects : List Named) (next : ℕ)
+pub query_reads : (cores : List Core) (objects : List Named) (next : ℕ)
     → bound_query (roll-Query (record { cores = cores })) objects next
     ≡ all_cores objects next (map core_reading cores)
 unfolding query_step
@@ -52,7 +52,7 @@ query_reads cores objects next = ap (λ (r : QueryReading). r objects next)
     (fold-roll-Query SourcePart QueryReading JoinPart QueryReading source_step core_step join_step query_step
     (record { cores = cores }))
 
-core_reads : (found : List Item) (from : FromItem) (joins : List Join) (filter : Option Expr) (group : List Expr)
+pub core_reads : (found : List Item) (from : FromItem) (joins : List Join) (filter : Option Expr) (group : List Expr)
     (objects : List Named) (next : ℕ)
     → core_reading (roll-Core (record { items = found; from = from; joins = joins; filter = filter; group = group }))
     objects next
@@ -62,14 +62,14 @@ core_reads found from joins filter group objects next = ap (λ (r : QueryReading
     (fold-roll-Core SourcePart QueryReading JoinPart QueryReading source_step core_step join_step query_step
     (record { items = found; from = from; joins = joins; filter = filter; group = group }))
 
-join_reads : (source : FromItem) (on : Expr)
+pub join_reads : (source : FromItem) (on : Expr)
     → (join_part (roll-Join (record { source = source; on = on }))).source ≡ source_part source
 unfolding join_step
 join_reads source on = ap (λ (j : JoinPart). j.source)
     (fold-roll-Join SourcePart QueryReading JoinPart QueryReading source_step core_step join_step query_step
     (record { source = source; on = on }))
 
-named_reads : (name : Name) (alias : Option Name) (objects : List Named) (next : ℕ)
+pub named_reads : (name : Name) (alias : Option Name) (objects : List Named) (next : ℕ)
     → (source_part (roll-FromItem (FromItem-F.Named name alias))).reading objects next
     ≡ named_source name objects next
 unfolding source_step
@@ -77,7 +77,7 @@ named_reads name alias objects next = ap (λ (p : SourcePart). p.reading objects
     (fold-roll-FromItem SourcePart QueryReading JoinPart QueryReading source_step core_step join_step query_step
     (FromItem-F.Named name alias))
 
-inner_reads : (inner : Query) (alias : Name) (objects : List Named) (next : ℕ)
+pub inner_reads : (inner : Query) (alias : Name) (objects : List Named) (next : ℕ)
     → (source_part (roll-FromItem (FromItem-F.Subquery inner alias))).reading objects next
     ≡ query_source (bound_query inner objects next)
 unfolding source_step
@@ -85,29 +85,29 @@ inner_reads inner alias objects next = ap (λ (p : SourcePart). p.reading object
     (fold-roll-FromItem SourcePart QueryReading JoinPart QueryReading source_step core_step join_step query_step
     (FromItem-F.Subquery inner alias))
 
-query_writes : (cores : List Core)
+pub query_writes : (cores : List Core)
     → query_names (roll-Query (record { cores = cores })) ≡ all_names (map core_names cores)
 query_writes cores = fold-roll-Query (List Name) (List Name) (List Name) (List Name) names_in_source names_in_core
     names_in_join names_in_query (record { cores = cores })
 
-core_writes : (found : List Item) (from : FromItem) (joins : List Join) (filter : Option Expr) (group : List Expr)
+pub core_writes : (found : List Item) (from : FromItem) (joins : List Join) (filter : Option Expr) (group : List Expr)
     → core_names (roll-Core (record { items = found; from = from; joins = joins; filter = filter; group = group }))
     ≡ source_names from ++ all_names (map join_names joins)
 core_writes found from joins filter group = fold-roll-Core (List Name) (List Name) (List Name) (List Name)
     names_in_source names_in_core names_in_join names_in_query
     (record { items = found; from = from; joins = joins; filter = filter; group = group })
 
-join_writes : (source : FromItem) (on : Expr)
+pub join_writes : (source : FromItem) (on : Expr)
     → join_names (roll-Join (record { source = source; on = on })) ≡ source_names source
 join_writes source on = fold-roll-Join (List Name) (List Name) (List Name) (List Name) names_in_source names_in_core
     names_in_join names_in_query (record { source = source; on = on })
 
-named_writes : (name : Name) (alias : Option Name)
+pub named_writes : (name : Name) (alias : Option Name)
     → source_names (roll-FromItem (FromItem-F.Named name alias)) ≡ name ∷ []
 named_writes name alias = fold-roll-FromItem (List Name) (List Name) (List Name) (List Name) names_in_source
     names_in_core names_in_join names_in_query (FromItem-F.Named name alias)
 
-inner_writes : (inner : Query) (alias : Name)
+pub inner_writes : (inner : Query) (alias : Name)
     → source_names (roll-FromItem (FromItem-F.Subquery inner alias)) ≡ query_names inner
 inner_writes inner alias = fold-roll-FromItem (List Name) (List Name) (List Name) (List Name) names_in_source
     names_in_core names_in_join names_in_query (FromItem-F.Subquery inner alias)

@@ -8,6 +8,7 @@ use Rattle.wh_ast.specs.declared.statement.CreateDynamicTable.{CreateDynamicTabl
 use Rattle.wh_ast.specs.declared.statement.Lag.{Lag}
 use Rattle.wh_ast.specs.declared.statement.RefreshMode.{RefreshMode}
 use Rattle.wh_ast.specs.declared.statement.Initialize.{Initialize}
+use Rattle.wh_ast.specs.declared.query.Query as trees
 use Rattle.wh_meaning.specs.Query.{Query}
 use Rattle.wh_naming.specs.Findings.{Name, followed}
 use Rattle.wh_naming.specs.Scope.{ObjectKind, TableObject, StreamObject, TaskObject, DynamicTableObject, Named}
@@ -23,6 +24,8 @@ pub record NewDynamicTable : Type 0 where
   pub lag : Lag
   pub mode : RefreshMode
   pub initialize : Initialize
+  -- as it is written
+  pub tree : trees.Query
   pub query : Query
   pub columns : List Column
   pub sources : List ℕ
@@ -45,6 +48,7 @@ new_dynamic_table t q = record {
   lag = t.lag;
   mode = t.mode;
   initialize = t.initialize;
+  tree = t.query;
   query = q.query;
   columns = map column_of q.outputs;
   sources = q.sources;

@@ -4,4 +4,4 @@
 
 mod names;
 
-pub use names::names_in;
+pub use names::{names_in, names_in_query};

@@ -18,6 +18,15 @@ pub fn names_in(alloc: Global, statement: &Statement) -> Result<Vec<&Text>, Allo
     Ok(names)
 }
 
+/// The names of objects that a query writes, in the order of the text.
+pub fn names_in_query(alloc: Global, query: &Query) -> Result<Vec<&Text>, AllocError>
+    ensures names { IfOk result (λ names. names_at names.items ≡ query_names query.now) }
+{
+    let mut names = Vec::new(alloc);
+    add_query(&mut names, query)?;
+    Ok(names)
+}
+
 fn add_names<'a>(names: &mut Vec<&'a Text>, statement: &'a Statement) -> Result<(), AllocError>
     ensures { OnOk result (names_at names.new.items
         ≡ names_at names.old.items ++ names_of statement.now) }

@@ -4,19 +4,23 @@
 --     object_there                          the object at an id
 --     table_there, table_missing            the table at an id
 --     task_there, count_meant, tasks_are    the task at an id, and the live tasks
+--     dynamic_there, lives_there            the dynamic table at an id, and whether an object lives
+--     dynamics_are                          what a schedule looks at
 --     means_by                              a commit is carried out
-use Rattle.std.proofs.Common.{◌≡◌, ℕ, Bool, true, false, cond, List, [], ◌∷◌, map, length, Some, None, option_map, refl}
-use Rattle.std.proofs.Common.{◌&&◌, sym, ap, ◌∙◌}
+use Rattle.std.proofs.Common.{◌≡◌, ℕ, Bool, true, false, cond, List, [], ◌∷◌, map, length, Option, Some, None}
+use Rattle.std.proofs.Common.{option_map, ◌&&◌, refl, sym, ap, ◌∙◌}
 use Rattle.std.specs.Prelude.{count_by}
-use Rattle.std.specs.Option.{option_map_or}
-use Rattle.wh_state.specs.State.{Object, TableKind, StreamKind, TaskKind, task_in, at_id, live_count, at_rest, stamped}
-use Rattle.wh_state.specs.Objects.{table_at, task_at, live_task, live_tasks}
+use Rattle.std.specs.Option.{option_and_then, option_map_or}
+use Rattle.wh_state.specs.State.{Object, TableKind, StreamKind, TaskKind, DynamicKind, task_in, dynamic_in, at_id}
+use Rattle.wh_state.specs.State.{live_count, at_rest, stamped}
+use Rattle.wh_state.specs.Objects.{table_at, task_at, dynamic_at, is_live_at, live_task, live_tasks}
 use Rattle.wh_state.specs.Stored.{Stored, StoredTable, StoredKind, StoredObject, table_meant, kind_meant, object_meant}
 use Rattle.wh_state.specs.Stored.{meant}
 use Rattle.wh_state.specs.Commit.{Commit, applied, is_member}
 use Rattle.wh_state.specs.Task.{Task}
 use Rattle.wh_state.proofs.IdLaws.{map_count}
 use Rattle.wh_state.proofs.MeaningLaws.{length_meant, at_id_meant, live_count_meant, task_at_meant}
+use Rattle.wh_moment.specs.Upstream.{watched, dynamics_of}
 use Rattle.wh_machine.specs.Tasks.{tasks_that}
 use Rattle.wh_catalog.specs.Catalog.{objects_of, stored_of, state_of}
 use Rattle.wh_catalog.specs.declared.catalog.Catalog.{Catalog}
@@ -66,6 +70,7 @@ task_meant o = by_live o.is_live o.kind
     by_kind (TableKind t) = refl
     by_kind (StreamKind s) = refl
     by_kind (TaskKind t) = refl
+    by_kind (DynamicKind d t) = refl
 
     by_live : (live : Bool) (k : StoredKind) → cond live (task_in (kind_meant k)) None ≡ cond live (task_in k) None
     by_live true k = by_kind k
@@ -88,6 +93,7 @@ count_meant c takes = sym (map_count object_meant (is_member takes)
     by_live true (TableKind t) = refl
     by_live true (StreamKind s) = refl
     by_live true (TaskKind t) = refl
+    by_live true (DynamicKind d t) = refl
     by_live false k = refl
 
     same : (o : StoredObject) → option_map_or takes (live_task (object_meant o)) false ≡ is_member takes o
@@ -95,6 +101,53 @@ count_meant c takes = sym (map_count object_meant (is_member takes)
 
 pub tasks_are : (c : Catalog) → live_tasks (state_of c).objects ≡ live_tasks (stored_of c).objects
 tasks_are c = ap live_tasks (objects_are c) ∙ tasks_meant (stored_of c).objects
+
+-- ---- dynamic tables
+
+dynamic_meant : (k : StoredKind) → dynamic_in (kind_meant k) ≡ dynamic_in k
+dynamic_meant (TableKind t) = refl
+dynamic_meant (StreamKind s) = refl
+dynamic_meant (TaskKind t) = refl
+dynamic_meant (DynamicKind d t) = refl
+
+dynamic_by : (found : Option StoredObject)
+    → option_and_then (λ (o : Object). dynamic_in o.kind) (option_map object_meant found)
+    ≡ option_and_then (λ (o : StoredObject). dynamic_in o.kind) found
+dynamic_by None = refl
+dynamic_by (Some o) = dynamic_meant o.kind
+
+pub dynamic_there : (c : Catalog) (id : ℕ)
+    → dynamic_at (stored_of c).objects id ≡ dynamic_at (state_of c).objects id
+dynamic_there c id =
+    sym (ap (option_and_then (λ (o : Object). dynamic_in o.kind)) (object_there c id)
+    ∙ dynamic_by (at_id (stored_of c).objects id))
+
+lives_by : (found : Option StoredObject)
+    → option_map_or (λ (o : StoredObject). o.is_live) found false
+    ≡ option_map_or (λ (o : Object). o.is_live) (option_map object_meant found) false
+lives_by None = refl
+lives_by (Some o) = refl
+
+pub lives_there : (c : Catalog) (id : ℕ)
+    → option_map_or (λ (o : StoredObject). o.is_live) (at_id (stored_of c).objects id) false
+    ≡ is_live_at (state_of c).objects id
+lives_there c id =
+    lives_by (at_id (stored_of c).objects id)
+    ∙ sym (ap (λ (found : Option Object). option_map_or (λ (o : Object). o.is_live) found false) (object_there c id))
+
+watched_meant : (live : Bool) (k : StoredKind) → watched live (kind_meant k) ≡ watched live k
+watched_meant live (TableKind t) = refl
+watched_meant live (StreamKind s) = refl
+watched_meant live (TaskKind t) = refl
+watched_meant live (DynamicKind d t) = refl
+
+dynamics_meant : (objects : List StoredObject) → dynamics_of (map object_meant objects) ≡ dynamics_of objects
+dynamics_meant [] = refl
+dynamics_meant (o ∷ os) = λ i. watched_meant o.is_live o.kind i ∷ dynamics_meant os i
+
+pub dynamics_are : (c : Catalog) → dynamics_of (state_of c).objects ≡ dynamics_of (stored_of c).objects
+dynamics_are c =
+    ap (λ (objects : List Object). dynamics_of objects) (objects_are c) ∙ dynamics_meant (stored_of c).objects
 
 -- ---- a commit
 

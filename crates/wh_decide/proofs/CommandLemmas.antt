@@ -7,6 +7,7 @@ use Rattle.std.specs.Prelude.{unwrap_or}
 use Rattle.wh_value.specs.declared.limit.Limit.TheVariants as limits
 use Rattle.wh_ast.specs.declared.statement.Statement.{Statement}
 use Rattle.wh_ast.specs.declared.statement.Statement.TheVariants as st
+use Rattle.wh_ast.specs.declared.statement.Lag.{Lag}
 use Rattle.wh_grammar.specs.Spelled.{TooLong, Unreadable, Asked}
 use Rattle.wh_naming.specs.Findings as naming
 use Rattle.wh_naming.specs.Findings.{Failing, nothing_found}
@@ -17,6 +18,7 @@ use Rattle.wh_ddl_naming.specs.Objects.{Names}
 use Rattle.wh_ddl_naming.specs.Tables.{NewTable}
 use Rattle.wh_ddl_naming.specs.Streams.{NewStream}
 use Rattle.wh_ddl_naming.specs.Tasks.{NewTask}
+use Rattle.wh_ddl_naming.specs.DynamicTables.{NewDynamicTable}
 use Rattle.wh_ddl_naming.specs.Statements.{bound}
 use Rattle.wh_ddl_bind.specs.View.{bound_of}
 use Rattle.wh_ddl_bind.specs.Binds.{IsBound}
@@ -30,6 +32,8 @@ use Rattle.wh_machine.specs.Definitions.{holder_of, defines}
 use Rattle.wh_machine.specs.Tables.{table_refusal, create_table, drop_table}
 use Rattle.wh_machine.specs.Streams.{stream_refusal, create_stream, drop_stream}
 use Rattle.wh_machine.specs.Tasks.{task_refusal, create_task, resume_task, suspend_task, execute_task, drop_task}
+use Rattle.wh_machine.specs.Dynamics.{dynamic_refusal, create_dynamic, resume_dynamic, suspend_dynamic, refresh_dynamic}
+use Rattle.wh_machine.specs.Dynamics.{lag_refusal, set_lag, drop_dynamic}
 use Rattle.wh_machine.specs.Statements.{selects, changes_rows, carried_out, carried_out_as, meant_in}
 use Rattle.wh_machine.specs.Step.{commanded, is_session}
 use Rattle.wh_decide.specs.Definitions.{in_transaction, earlier_refusal}
@@ -121,6 +125,30 @@ drop_task_failing : (m : Machine) (why : Refusal) (id : ℕ) → drop_task m (So
 unfolding drop_task
 drop_task_failing m why id = refl
 
+dynamic_failing : (m : Machine) (why : Refusal) (n : NewDynamicTable) → create_dynamic m (Some why) n ≡ Refuses why
+unfolding create_dynamic dynamic_refusal
+dynamic_failing m why n = refl
+
+resume_dynamic_failing : (m : Machine) (why : Refusal) (id : ℕ) → resume_dynamic m (Some why) id ≡ Refuses why
+unfolding resume_dynamic
+resume_dynamic_failing m why id = refl
+
+suspend_dynamic_failing : (m : Machine) (why : Refusal) (id : ℕ) → suspend_dynamic m (Some why) id ≡ Refuses why
+unfolding suspend_dynamic
+suspend_dynamic_failing m why id = refl
+
+refresh_failing : (m : Machine) (why : Refusal) (id : ℕ) → refresh_dynamic m (Some why) id ≡ Refuses why
+unfolding refresh_dynamic
+refresh_failing m why id = refl
+
+lag_failing : (m : Machine) (why : Refusal) (id : ℕ) (lag : Lag) → set_lag m (Some why) id lag ≡ Refuses why
+unfolding set_lag lag_refusal
+lag_failing m why id lag = refl
+
+drop_dynamic_failing : (m : Machine) (why : Refusal) (id : ℕ) → drop_dynamic m (Some why) id ≡ Refuses why
+unfolding drop_dynamic
+drop_dynamic_failing m why id = refl
+
 has_data_failing : (m : Machine) (session : ℕ) (why : Refusal) (id : ℕ) → has_data m session (Some why) id ≡ Refuses why
 unfolding has_data
 has_data_failing m session why id = refl
@@ -171,7 +199,18 @@ failing m session names f (st.DropTask task) is =
 failing m session names f st.Begin is = absurd (nothing_fails f is)
 failing m session names f st.Commit is = absurd (nothing_fails f is)
 failing m session names f st.Rollback is = absurd (nothing_fails f is)
-failing m session names f _ is = refl
+failing m session names f (st.CreateDynamicTable t) is =
+    defines_failing m session _ _ (refusal_of f) (dynamic_failing m (refusal_of f) _)
+failing m session names f (st.ResumeDynamicTable table) is =
+    defines_failing m session _ _ (refusal_of f) (resume_dynamic_failing m (refusal_of f) _)
+failing m session names f (st.SuspendDynamicTable table) is =
+    defines_failing m session _ _ (refusal_of f) (suspend_dynamic_failing m (refusal_of f) _)
+failing m session names f (st.RefreshDynamicTable table) is =
+    defines_failing m session _ _ (refusal_of f) (refresh_failing m (refusal_of f) _)
+failing m session names f (st.SetTargetLag table lag) is =
+    defines_failing m session _ _ (refusal_of f) (lag_failing m (refusal_of f) _ _)
+failing m session names f (st.DropDynamicTable table) is =
+    defines_failing m session _ _ (refusal_of f) (drop_dynamic_failing m (refusal_of f) _)
 
 pub command_failing : (m : Machine) (session : ℕ) (tree : Statement) (names : Names) (f : Failing)
     → is_session session ≡ true → bound names tree ≡ meant_in m tree → first_failing (bound names tree) ≡ Some f

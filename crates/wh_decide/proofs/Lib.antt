@@ -6,6 +6,8 @@ mod DefineLemmas
 mod StreamLemmas
 mod TaskLemmas
 mod AlterLemmas
+mod DynamicLemmas
+mod NewDynamics
 pub mod TransactionLemmas
 mod SeenLemmas
 mod SourceLemmas

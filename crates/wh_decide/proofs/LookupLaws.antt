@@ -13,11 +13,10 @@ use Rattle.wh_machine.specs.Names.{named_object, names_from}
 use Rattle.wh_state.specs.Stored.{object_meant}
 use Rattle.wh_state.proofs.MeaningLaws.{id_of_meant}
 use Rattle.wh_catalog.specs.Undoable.{object_in}
-use Rattle.wh_catalog.specs.Object.{kept_object}
+use Rattle.wh_catalog.specs.Object.{kept_object, object_of}
 use Rattle.wh_catalog.specs.Catalog.{stored_of, state_of}
 use Rattle.wh_catalog.specs.declared.catalog.Catalog.{Catalog}
 use Rattle.wh_catalog.specs.declared.object.StoredObject.{StoredObject}
-use Rattle.wh_decide.specs.Names.{object_of}
 use Rattle.wh_txn.proofs.SeenLemmas.{objects_are}
 use Rattle.wh_decide.proofs.CatalogLemmas.{object_there}
 

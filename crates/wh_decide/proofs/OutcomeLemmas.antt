@@ -18,6 +18,7 @@ use Rattle.wh_reply.specs.View.{refusal_view, reply_view}
 use Rattle.wh_record.specs.View.{commit_of}
 use Rattle.wh_record.specs.declared.commit.CommitIn.{CommitIn}
 use Rattle.wh_task.specs.declared.task.TaskBody.{TaskBody}
+use Rattle.wh_dynamic.specs.declared.query.DynamicQuery.{DynamicQuery}
 use Rattle.wh_state.specs.Act.{Act}
 use Rattle.wh_state.specs.Stored.{Stored}
 use Rattle.wh_state.specs.Written.{commit_for}
@@ -57,7 +58,8 @@ pub answers : (s : Stored) (sessions : Sessions) (stamp : ℕ) (told : code_repl
     → Decides s sessions stamp (Do told Answers) o
 answers s sessions stamp told o reply is same = does s sessions stamp told Answers o reply None is refl tt same
 
-pub commits_all : (s : Stored) (sessions : Sessions) (stamp : ℕ) (told : code_reply.Reply) (commit : CommitIn TaskBody)
+pub commits_all : (s : Stored) (sessions : Sessions) (stamp : ℕ) (told : code_reply.Reply)
+    (commit : CommitIn TaskBody DynamicQuery)
     (o : Outcome) (reply : Reply) (acts : Option (List Act)) → reply_view told ≡ reply
     → Some (commit_of commit) ≡ option_map (commit_for s stamp) acts
     → o ≡ Does reply sessions acts → Decides s sessions stamp (Do told (Commits commit)) o
@@ -79,7 +81,7 @@ begins s sessions stamp session told o reply is same =
     does s sessions stamp told (Begins session) o reply None is refl tt same
 
 pub ends : (s : Stored) (sessions : Sessions) (stamp session : ℕ) (told : code_reply.Reply)
-    (commit : Option (CommitIn TaskBody)) (o : Outcome) (reply : Reply) (acts : Option (List Act))
+    (commit : Option (CommitIn TaskBody DynamicQuery)) (o : Outcome) (reply : Reply) (acts : Option (List Act))
     → reply_view told ≡ reply
     → option_map commit_of commit ≡ option_map (commit_for s stamp) acts
     → o ≡ Does reply (with_ended sessions session) acts → Decides s sessions stamp (Do told (Ends session commit)) o

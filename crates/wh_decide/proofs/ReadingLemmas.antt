@@ -2,24 +2,29 @@
 --     wide_first, then_read, found_read     what a statement is refused for that it reads
 --     start_open, start_alone      the stamp that streams are read up to
 --     least_of, least_alone, least_then     the least id of those whose source is gone
---     is_gone_first, none_gone     the first test that fails
+--     is_empty_first, is_gone_first, none_gone     the first test that fails
+--     no_version_in, no_table_in   whether a table has no version
 --     name_there, name_missing     the name of the object at an id
 --     is_stream_at                 whether a stream stands at an id
-use Rattle.std.proofs.Common.{◌≡◌, ℕ, ◌-◌, Bool, true, false, List, [], ◌∷◌, map, Option, Some, None, option_map}
-use Rattle.std.proofs.Common.{is_some, refl, sym, ap, ◌∙◌}
+use Rattle.std.proofs.Common.{◌≡◌, ℕ, ◌-◌, Bool, true, false, List, [], ◌∷◌, ◌++◌, map, length, Option, Some, None}
+use Rattle.std.proofs.Common.{option_map, is_some, refl, sym, ap, ◌∙◌}
+use Rattle.std.specs.Prelude.{nat_eq}
+use Rattle.std.proofs.lemmas.List.{length-map}
 use Rattle.std.specs.List.{filter}
 use Rattle.wh_value.specs.declared.limit.Limit.TheVariants as limits
-use Rattle.wh_reply.specs.Reply.{SourceGone, OverLimit}
+use Rattle.wh_reply.specs.Reply as machine
+use Rattle.wh_reply.specs.Reply.{SourceGone, NotInitialized, OverLimit}
 use Rattle.wh_reply.specs.View.{refusal_view}
 use Rattle.wh_reply.specs.declared.reply.Refusal.{Refusal}
-use Rattle.wh_state.specs.State.{Kind, TableKind, StreamKind, TaskKind, Object, at_id}
-use Rattle.wh_state.specs.Stored.{object_meant}
+use Rattle.wh_state.specs.State.{Kind, TableKind, StreamKind, TaskKind, DynamicKind, Object, at_id}
+use Rattle.wh_state.specs.Stored.{StoredTable, version_meant, object_meant}
 use Rattle.wh_machine.specs.Tests.{refused_if, first_of}
 use Rattle.wh_machine.specs.Outcome.{Machine}
-use Rattle.wh_state.specs.Objects.{name_at, is_kind_at, is_stream, stream_at}
+use Rattle.wh_state.specs.Objects.{name_at, is_kind_at, is_stream, table_at, stream_at}
 use Rattle.wh_machine.specs.Transaction.{Transaction, start_at}
 use Rattle.wh_net.specs.Stream.{is_gone}
-use Rattle.wh_machine.specs.Reading.{least_from, least, stale_refusal, reading_refusal}
+use Rattle.wh_machine.specs.Reading.{least_from, least, gone_refusal, stale_refusal, reading_refusal}
+use Rattle.wh_machine.specs.Reading.{has_no_version, uninitialized_refusal}
 use Rattle.wh_catalog.specs.Catalog.{stored_of, state_of}
 use Rattle.wh_catalog.specs.Undoable.{object_in}
 use Rattle.wh_catalog.specs.Object.{kept_object}
@@ -27,7 +32,7 @@ use Rattle.wh_catalog.specs.declared.catalog.Catalog.{Catalog}
 use Rattle.wh_catalog.specs.declared.object.StoredObject.{StoredObject}
 use Rattle.wh_txn.proofs.SeenLemmas.{catalog_stream}
 use Rattle.wh_decide.specs.Sources.{lower, sources_refusal}
-use Rattle.wh_decide.proofs.CatalogLemmas.{object_there}
+use Rattle.wh_decide.proofs.CatalogLemmas.{object_there, table_there, table_missing}
 use Rattle.wh_decide.proofs.ListLemmas.{some_is}
 use Rattle.wh_decide.proofs.NamingLemmas.{alone}
 
@@ -58,21 +63,71 @@ pub least_then : (found : Option ℕ) (id : ℕ) (ids : List ℕ)
 least_then None id ids = refl
 least_then (Some other) id ids = refl
 
-pub is_gone_first : (objects : List Object) (stamp : ℕ) (ids : List ℕ) (id : ℕ)
-    → least (filter (is_gone objects) ids) ≡ Some id
-    → reading_refusal objects stamp ids ≡ Some (SourceGone (name_at objects id))
-unfolding reading_refusal
-is_gone_first objects stamp ids id is =
-    ap (λ (found : Option ℕ). first_of (option_map (λ (n : ℕ). SourceGone (name_at objects n)) found
-    ∷ map (stale_refusal objects stamp) ids)) is
+-- ---- the first test that fails
 
-pub none_gone : (objects : List Object) (stamp : ℕ) (ids : List ℕ)
-    → least (filter (is_gone objects) ids) ≡ None
-    → reading_refusal objects stamp ids ≡ first_of (map (stale_refusal objects stamp) ids)
-unfolding reading_refusal
-none_gone objects stamp ids is =
-    ap (λ (found : Option ℕ). first_of (option_map (λ (n : ℕ). SourceGone (name_at objects n)) found
-    ∷ map (stale_refusal objects stamp) ids)) is
+-- what is found in front of other tests
+append_first : (first more : List (Option machine.Refusal)) (why : machine.Refusal) → first_of first ≡ Some why
+    → first_of (first ++ more) ≡ Some why
+append_first [] more why is = absurd cc
+append_first (None ∷ others) more why is = append_first others more why is
+append_first (Some other ∷ others) more why is = is
+
+append_later : (first more : List (Option machine.Refusal)) → first_of first ≡ None
+    → first_of (first ++ more) ≡ first_of more
+append_later [] more is = refl
+append_later (None ∷ others) more is = append_later others more is
+append_later (Some why ∷ others) more is = absurd cc
+
+module _ (objects : List Object) (stamp : ℕ) (ids : List ℕ) where
+  abbrev behind : List (Option machine.Refusal)
+  behind = gone_refusal objects ids ∷ map (stale_refusal objects stamp) ids
+
+  abbrev told : Option ℕ → Option machine.Refusal
+  told found = option_map (λ (id : ℕ). NotInitialized (name_at objects id)) found
+
+  pub is_empty_first : (found : Option ℕ) (id : ℕ)
+      → told found ≡ first_of (map (uninitialized_refusal objects) ids) → found ≡ Some id
+      → reading_refusal objects stamp ids ≡ Some (NotInitialized (name_at objects id))
+  unfolding reading_refusal
+  is_empty_first found id says is =
+      append_first (map (uninitialized_refusal objects) ids) behind (NotInitialized (name_at objects id))
+      (sym says ∙ ap told is)
+
+  none_empty : (found : Option ℕ) → told found ≡ first_of (map (uninitialized_refusal objects) ids) → found ≡ None
+      → reading_refusal objects stamp ids ≡ first_of behind
+  unfolding reading_refusal
+  none_empty found says is =
+      append_later (map (uninitialized_refusal objects) ids) behind (sym says ∙ ap told is)
+
+  pub is_gone_first : (found : Option ℕ) (id : ℕ)
+      → told found ≡ first_of (map (uninitialized_refusal objects) ids) → found ≡ None
+      → least (filter (is_gone objects) ids) ≡ Some id
+      → reading_refusal objects stamp ids ≡ Some (SourceGone (name_at objects id))
+  is_gone_first found id says none is =
+      none_empty found says none
+      ∙ ap (λ (least_id : Option ℕ). first_of (option_map (λ (n : ℕ). SourceGone (name_at objects n)) least_id
+      ∷ map (stale_refusal objects stamp) ids)) is
+
+  pub none_gone : (found : Option ℕ) → told found ≡ first_of (map (uninitialized_refusal objects) ids)
+      → found ≡ None → least (filter (is_gone objects) ids) ≡ None
+      → reading_refusal objects stamp ids ≡ first_of (map (stale_refusal objects stamp) ids)
+  none_gone found says none is =
+      none_empty found says none
+      ∙ ap (λ (least_id : Option ℕ). first_of (option_map (λ (n : ℕ). SourceGone (name_at objects n)) least_id
+      ∷ map (stale_refusal objects stamp) ids)) is
+
+-- ---- tables without a version
+
+pub no_version_in : (c : Catalog) (id : ℕ) (t : StoredTable) (none : Bool)
+    → Some t ≡ table_at (stored_of c).objects id → none ≡ nat_eq (length t.versions) 0
+    → none ≡ has_no_version (table_at (state_of c).objects id)
+no_version_in c id t none there is =
+    is ∙ ap (λ (n : ℕ). nat_eq n 0) (sym (length-map t.versions version_meant))
+    ∙ ap has_no_version (sym (table_there c id t (sym there)))
+
+pub no_table_in : (c : Catalog) (id : ℕ) → None ≡ table_at (stored_of c).objects id
+    → false ≡ has_no_version (table_at (state_of c).objects id)
+no_table_in c id none = ap has_no_version (sym (table_missing c id (sym none)))
 
 -- ---- names
 
@@ -104,6 +159,7 @@ is_stream_at c id = ap is_some (sym (catalog_stream c id)) ∙ by_object (at_id 
     by_kind o (TableKind t) there kind = rw (there, kind) refl
     by_kind o (StreamKind s) there kind = rw (there, kind) refl
     by_kind o (TaskKind t) there kind = rw (there, kind) refl
+    by_kind o (DynamicKind d t) there kind = rw (there, kind) refl
 
     by_object : (found : Option Object) → at_id objects id ≡ found
         → is_some (stream_at objects id) ≡ is_kind_at is_stream objects id

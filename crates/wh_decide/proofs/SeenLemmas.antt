@@ -4,7 +4,7 @@ use Rattle.std.proofs.Common.{◌≡◌, ℕ, zero, suc, List, [], ◌∷◌, Op
 use Rattle.std.proofs.Common.{slice_get, refl, ap, sym, ◌∙◌}
 use Rattle.std.specs.FinMap.{FinMap, get}
 use Rattle.std.specs.Ordering.{nat_cmp}
-use Rattle.wh_state.specs.State.{State, Kind, TableKind, StreamKind, TaskKind, Object, Table, at_id}
+use Rattle.wh_state.specs.State.{State, Kind, TableKind, StreamKind, TaskKind, DynamicKind, Object, Table, at_id}
 use Rattle.wh_state.specs.Act.{edited_table}
 use Rattle.wh_state.specs.Objects.{as_table, table_at}
 use Rattle.wh_machine.specs.Transaction.{Staged, Transaction, with_own, seen_from, seen}
@@ -34,7 +34,7 @@ seen_at s (Some t) (suc place) = seen_at_place s.last 1 t.tables s.objects place
 -- edits of a table, if there are some
 abbrev own_edits : ℕ → Option Staged → Table → Table
 own_edits stamp None t = t
-own_edits stamp (Some s) t = edited_table stamp s.edits t
+own_edits stamp (Some s) t = edited_table stamp stamp s.edits t
 
 one_table : (stamp : ℕ) (own : Option Staged) (o : Object)
     → as_table (with_own stamp own o) ≡ option_map (own_edits stamp own) (as_table o)
@@ -45,6 +45,7 @@ one_table stamp own o = by_own own
     by_kind s (TableKind t) is = rw is refl
     by_kind s (StreamKind u) is = rw is refl
     by_kind s (TaskKind u) is = rw is refl
+    by_kind s (DynamicKind d u) is = rw is refl
 
     same_edits : (found : Option Table) → found ≡ option_map (own_edits stamp None) found
     same_edits None = refl

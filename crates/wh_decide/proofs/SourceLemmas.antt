@@ -12,7 +12,8 @@ use Rattle.wh_value.specs.Value.{Row}
 use Rattle.wh_meaning.specs.Bag.{Bag, bag_of}
 use Rattle.wh_meaning.specs.Query.{Instance}
 use Rattle.wh_exec.specs.Evaluation as evaluation
-use Rattle.wh_state.specs.State.{State, Kind, TableKind, StreamKind, TaskKind, Object, Stream, at_id}
+use Rattle.wh_state.specs.State.{State, Kind, TableKind, StreamKind, TaskKind, DynamicKind, Object, Stream}
+use Rattle.wh_state.specs.State.{at_id}
 use Rattle.wh_state.specs.Objects.{table_at, stream_at}
 use Rattle.wh_machine.specs.Queries.{table_bag}
 use Rattle.wh_net.specs.Stream.{rows_shown}
@@ -36,6 +37,7 @@ found_stream objects before start id s is = by_object (at_id objects id) refl
         → kind_rows objects before start id o.kind ≡ bag_of (rows_shown objects s start)
     by_kind o (TableKind t) there kind = let found = rw (there, kind) at is in absurd cc
     by_kind o (TaskKind t) there kind = let found = rw (there, kind) at is in absurd cc
+    by_kind o (DynamicKind d t) there kind = let found = rw (there, kind) at is in absurd cc
     by_kind o (StreamKind u) there kind =
         let found = rw (there, kind) at is in
         ap (kind_rows objects before start id) kind
@@ -55,6 +57,7 @@ found_table s t start id is = by_object (at_id s.objects id) refl
         → kind_rows s.objects (seen s t).objects start id o.kind ≡ table_bag (table_at (seen s t).objects id)
     by_kind o (TableKind u) there kind = ap (kind_rows s.objects (seen s t).objects start id) kind
     by_kind o (TaskKind u) there kind = ap (kind_rows s.objects (seen s t).objects start id) kind
+    by_kind o (DynamicKind d u) there kind = ap (kind_rows s.objects (seen s t).objects start id) kind
     by_kind o (StreamKind u) there kind = let found = rw (there, kind) at is in absurd cc
 
     by_object : (found : Option Object) → at_id s.objects id ≡ found

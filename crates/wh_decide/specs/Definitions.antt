@@ -5,7 +5,7 @@
 use Rattle.std.specs.Prelude.{ℕ, List, [], ◌∷◌, Option, Some, None, option_map}
 use Rattle.wh_ast.specs.declared.statement.Statement.{Statement}
 use Rattle.wh_ast.specs.declared.statement.Statement.TheVariants as st
-use Rattle.wh_reply.specs.Reply.{Refusal, DdlInTransaction, Unsupported}
+use Rattle.wh_reply.specs.Reply.{Refusal, DdlInTransaction}
 use Rattle.wh_state.specs.Commit.{Change, Drops}
 use Rattle.wh_machine.specs.Sessions.{number_in}
 use Rattle.wh_machine.specs.Outcome.{Machine}
@@ -33,5 +33,9 @@ earlier_refusal m session (st.Dml statement) = None
 earlier_refusal m session st.Begin = None
 earlier_refusal m session st.Commit = None
 earlier_refusal m session st.Rollback = None
--- dynamic tables
-earlier_refusal m session _ = Some Unsupported
+earlier_refusal m session (st.CreateDynamicTable t) = in_transaction m session
+earlier_refusal m session (st.ResumeDynamicTable name) = in_transaction m session
+earlier_refusal m session (st.SuspendDynamicTable name) = in_transaction m session
+earlier_refusal m session (st.RefreshDynamicTable name) = in_transaction m session
+earlier_refusal m session (st.SetTargetLag name lag) = in_transaction m session
+earlier_refusal m session (st.DropDynamicTable name) = in_transaction m session

@@ -3,6 +3,7 @@ pub mod Decision
 pub mod Sight
 pub mod Names
 pub mod Tasks
+pub mod Dynamics
 pub mod Definitions
 pub mod Rows
 pub mod Sources

@@ -1,5 +1,4 @@
 -- Objects that a statement may name.
---     object_of          the machine's object that one of the catalog means
 --     over               what may be named, of objects and of the roots of tasks
 --     asks_roots         whether a statement asks for roots
 --     roots_told         the roots of live tasks by their ids, from one on
@@ -10,14 +9,6 @@ use Rattle.wh_naming.specs.Scope.{Named}
 use Rattle.wh_ddl_naming.specs.Objects.{Names, TaskRoot}
 use Rattle.wh_graph.specs.Graph.{Tasks}
 use Rattle.wh_machine.specs.Names.{root_told}
-use Rattle.wh_state.specs.State.{Object}
-use Rattle.wh_state.specs.Stored.{object_meant}
-use Rattle.wh_catalog.specs.Undoable.{object_in}
-use Rattle.wh_catalog.specs.Object.{kept_object}
-use Rattle.wh_catalog.specs.declared.object.StoredObject.{StoredObject}
-
-abbrev pub object_of : StoredObject → Object
-object_of o = object_meant (object_in (kept_object o))
 
 abbrev pub over : List Named → List TaskRoot → Names
 over objects roots = record { objects = objects; roots = roots }

@@ -11,6 +11,8 @@ ghost use Rattle.wh_decide.specs.Sight.{machine_in, Comes};
 use crate::altering::{drop_task, execute_task, resume_task, suspend_task};
 use crate::changes::change_rows;
 use crate::decision::Decision;
+use crate::dynamic_states::{refresh_dynamic, resume_dynamic, set_lag, suspend_dynamic};
+use crate::dynamic_tables::{create_dynamic, drop_dynamic};
 use crate::names::{named_objects, refusal};
 use crate::queries::select;
 use crate::roots::task_roots;
@@ -94,14 +96,19 @@ fn earlier_refusal(sight: &Sight<'_>, statement: &Statement) -> Option<Refusal>
         | Statement::ResumeTask(_)
         | Statement::SuspendTask(_)
         | Statement::ExecuteTask(_)
-        | Statement::DropTask(_) => refused_in_transaction(sight),
+        | Statement::DropTask(_)
+        | Statement::CreateDynamicTable(_)
+        | Statement::ResumeDynamicTable(_)
+        | Statement::SuspendDynamicTable(_)
+        | Statement::RefreshDynamicTable(_)
+        | Statement::SetTargetLag(_, _)
+        | Statement::DropDynamicTable(_) => refused_in_transaction(sight),
         Statement::Select(_, _)
         | Statement::HasData(_)
         | Statement::Dml(_)
         | Statement::Begin
         | Statement::Commit
         | Statement::Rollback => None,
-        _ => Some(Refusal::Unsupported),
     }
 }
 
@@ -127,6 +134,11 @@ fn decide_bound(alloc: Global, sight: &Sight<'_>, statement: Bound) -> Result<De
         Bound::SuspendTask(id) => suspend_task(alloc, sight, id),
         Bound::ExecuteTask(root) => execute_task(alloc, sight, root),
         Bound::DropTask(id) => drop_task(alloc, sight, id),
-        _ => Ok(Decision::Refuse(Refusal::Unsupported)),
+        Bound::CreateDynamicTable(table) => create_dynamic(alloc, sight, table.get()),
+        Bound::ResumeDynamicTable(id) => resume_dynamic(alloc, sight, id),
+        Bound::SuspendDynamicTable(id) => suspend_dynamic(alloc, sight, id),
+        Bound::RefreshDynamicTable(id) => refresh_dynamic(alloc, sight, id),
+        Bound::SetTargetLag(id, lag) => set_lag(alloc, sight, id, lag),
+        Bound::DropDynamicTable(id) => drop_dynamic(alloc, sight, id),
     }
 }

@@ -10,9 +10,9 @@ ghost use Rattle.wh_ddl_naming.specs.Statements.{bound};
 ghost use Rattle.wh_state.specs.State as state;
 ghost use Rattle.wh_state.specs.Stored.{kind_meant};
 ghost use Rattle.wh_machine.specs.Names as machine;
-ghost use Rattle.wh_catalog.specs.Object.{stored_kind};
+ghost use Rattle.wh_catalog.specs.Object.{object_of, stored_kind};
 ghost use Rattle.wh_catalog.specs.Catalog.{state_of};
-ghost use Rattle.wh_decide.specs.Names.{object_of, over};
+ghost use Rattle.wh_decide.specs.Names.{over};
 
 use std::alloc::{AllocError, Global};
 use wh_ast::Statement;
@@ -96,6 +96,7 @@ fn kind_of(kind: &StoredKind) -> ObjectKind
         StoredKind::Table(_) => ObjectKind::Table,
         StoredKind::Stream(_) => ObjectKind::Stream,
         StoredKind::Task(_) => ObjectKind::Task,
+        StoredKind::Dynamic(_, _) => ObjectKind::DynamicTable,
     }
 }
 
@@ -104,7 +105,7 @@ fn columns_in(kind: &StoredKind) -> &[Column]
         ≡ state.columns_in (kind_meant (stored_kind kind.now)) }
 {
     match kind {
-        StoredKind::Table(table) => table.columns(),
+        StoredKind::Table(table) | StoredKind::Dynamic(_, table) => table.columns(),
         StoredKind::Stream(stream) => stream.columns(),
         StoredKind::Task(_) => &[],
     }

@@ -1,5 +1,6 @@
-ghost use Rattle.std.specs.Prelude.{◌≡◌, ◌∷◌, map, option_map, IfOk};
+ghost use Rattle.std.specs.Prelude.{◌≡◌, ◌∷◌, map, option_map, is_some, IfOk};
 ghost use Rattle.std.specs.List.{filter};
+ghost use Rattle.wh_reply.specs.Reply.{NotInitialized};
 ghost use Rattle.wh_reply.specs.View.{refusal_view};
 ghost use Rattle.wh_net.specs.Stream.{is_gone};
 ghost use Rattle.wh_state.specs.Objects as objects;
@@ -37,8 +38,9 @@ pub(crate) fn sources_refusal(
     reading_refusal(alloc, sight, ids)
 }
 
-/// Where one of these sources can't be read: every stream's source has to be there, and then no
-/// stream may lie too far back, in the order of the text.
+/// Where one of these sources can't be read: every dynamic table has to have rows, then every
+/// stream's source has to be there, and then no stream may lie too far back, in the order of the
+/// text.
 pub fn reading_refusal(
     alloc: Global,
     sight: &Sight<'_>,
@@ -47,11 +49,62 @@ pub fn reading_refusal(
     ensures { IfOk result (λ found. option_map refusal_view found ≡ machine.reading_refusal
         (state_of sight.now.catalog.now).objects sight.now.stamp ids.now) }
 {
+    if let Some(id) = first_uninitialized(sight.catalog, ids) {
+        let name = name_of(alloc, sight.catalog, id)?;
+        return Ok(Some(Refusal::NotInitialized(name)));
+    }
     if let Some(id) = least_gone(sight.catalog, ids) {
         let name = name_of(alloc, sight.catalog, id)?;
         return Ok(Some(Refusal::SourceGone(name)));
     }
     Ok(first_stale(sight.catalog, ids, sight.stamp))
+}
+
+// The first of them that is a live dynamic table without a version.
+fn first_uninitialized(catalog: &Catalog, ids: &[u32]) -> Option<u32>
+    ensures { option_map (λ id. NotInitialized (name_at (state_of catalog.now).objects id)) result
+        ≡ first_of (map (machine.uninitialized_refusal (state_of catalog.now).objects) ids.now) }
+{
+    for id in ids {
+        if is_uninitialized(catalog, *id) {
+            return Some(*id);
+        }
+    }
+    None
+}
+
+fn is_uninitialized(catalog: &Catalog, id: u32) -> bool
+    ensures { result ≡ machine.is_uninitialized (state_of catalog.now).objects id }
+{
+    is_dynamic(catalog, id) && is_live(catalog, id) && has_no_version(catalog, id)
+}
+
+fn is_dynamic(catalog: &Catalog, id: u32) -> bool
+    ensures { result ≡ is_some (objects.dynamic_at (state_of catalog.now).objects id) }
+{
+    match catalog.dynamic(id) {
+        Some(_) => true,
+        None => false,
+    }
+}
+
+fn is_live(catalog: &Catalog, id: u32) -> bool
+    ensures { result ≡ objects.is_live_at (state_of catalog.now).objects id }
+{
+    match catalog.object(id) {
+        Some(object) => object.is_live(),
+        None => false,
+    }
+}
+
+fn has_no_version(catalog: &Catalog, id: u32) -> bool
+    ensures { result ≡ machine.has_no_version
+        (objects.table_at (state_of catalog.now).objects id) }
+{
+    match catalog.table(id) {
+        Some(table) => table.version_count() == 0,
+        None => false,
+    }
 }
 
 // The least id of a stream among them whose source is gone.

@@ -114,7 +114,7 @@ fn has_long_name(table: &NewTable) -> bool
     is_long(&table.name) || some_is_long(&table.columns)
 }
 
-fn some_is_long(columns: &[Column]) -> bool
+pub(crate) fn some_is_long(columns: &[Column]) -> bool
     ensures { result ≡ list_any (λ column. is_long (column_of column).name) columns.now }
 {
     columns.iter().any(|column| is_long(&column.name))

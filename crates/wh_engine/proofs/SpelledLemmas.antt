@@ -1,5 +1,6 @@
--- The texts of the tasks that events make.
---     event_spelled     what CREATE TASK keeps of its text spells what the task runs
+-- The texts of the tasks and the dynamic tables that events make.
+--     event_spelled     what CREATE TASK and CREATE DYNAMIC TABLE keep of their texts spells what the task runs, and
+--                       the query
 use Rattle.std.proofs.Common.{◌≡◌, List, ℕ, refl}
 use Rattle.wh_ast.specs.declared.statement.Statement.{Statement}
 use Rattle.wh_ast.specs.declared.statement.Statement.TheVariants as st
@@ -7,6 +8,7 @@ use Rattle.wh_grammar.specs.Spelled.{Request, Spells, Asks, is_long, spells_none
 use Rattle.wh_stmt_parse.specs.Request.{request_of}
 use Rattle.wh_stmt_parse.proofs.Reading.{requests_read}
 use Rattle.wh_state.proofs.KeptLaws.{task_spelled}
+use Rattle.wh_state.proofs.KeptQueries.{query_spelled}
 use Rattle.wh_machine.proofs.UnderstoodLaws.{IsSpelledStatement, IsSpelledRequest, IsSpelledEvent}
 use Rattle.wh_decide.specs.declared.event.Event.{Event}
 use Rattle.wh_decide.specs.declared.event.Event.TheVariants.{Command, Tick}
@@ -28,7 +30,7 @@ statement_spelled text (st.ResumeTask name) is = tt
 statement_spelled text (st.SuspendTask name) is = tt
 statement_spelled text (st.ExecuteTask name) is = tt
 statement_spelled text (st.DropTask name) is = tt
-statement_spelled text (st.CreateDynamicTable t) is = tt
+statement_spelled text (st.CreateDynamicTable t) is = query_spelled text t is
 statement_spelled text (st.ResumeDynamicTable name) is = tt
 statement_spelled text (st.SuspendDynamicTable name) is = tt
 statement_spelled text (st.RefreshDynamicTable name) is = tt

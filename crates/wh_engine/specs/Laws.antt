@@ -8,7 +8,8 @@ use Rattle.wh_grammar.specs.Spelled.{Asked}
 use Rattle.wh_meaning.specs.Bag.{bag_of}
 use Rattle.wh_reply.specs.Reply.{is_refusal}
 use Rattle.wh_state.specs.State.{State, Table, Stream, with_offset}
-use Rattle.wh_state.specs.Objects.{table_at, stream_at}
+use Rattle.wh_state.specs.Edits.{is_among}
+use Rattle.wh_state.specs.Objects.{stream_at}
 use Rattle.wh_state.specs.Sound.{Sound}
 use Rattle.wh_state.specs.Stored.{Stored, Means}
 use Rattle.wh_state.specs.Commit.{Leads}
@@ -23,7 +24,10 @@ use Rattle.wh_machine.specs.Step.{Event, Command, Tick, stamp_of, at_stamp, step
 use Rattle.wh_machine.specs.Script.{IsScript}
 use Rattle.wh_machine.specs.Made.{all_made, kept_after_all}
 use Rattle.wh_machine.specs.Sound.{SoundMachine}
-use Rattle.wh_machine.specs.Consuming.{consumed, batches, all_patched, rows_consumed, reads, AreApart, IsHeldAlong}
+use Rattle.wh_machine.specs.Refresh.{with_upstream}
+use Rattle.wh_machine.specs.OneMoment.{IsOfOneMoment, StandsAt, refreshing, id_refreshed}
+use Rattle.wh_machine.specs.Consuming.{base_at, consumed, batches, all_patched, rows_consumed, reads, AreApart}
+use Rattle.wh_machine.specs.Consuming.{IsHeldAlong}
 use Rattle.wh_machine.specs.Consuming.{committing, changing, change_reads, consumes, event_consumes, has_succeeded}
 
 -- ---- machines that are reached from a sound file
@@ -50,15 +54,15 @@ RefusalsChangeNothing = (m : Machine) (e : Event) → IsTrue (is_refusal (step m
 -- consumed of it, in order, gives the version at its last offset
 abbrev pub BatchesLead : Type 0
 BatchesLead = (id : ℕ) (m : Machine) (es : List Event) → SoundMachine m → (s : Stream) (t : Table)
-    → stream_at m.state.objects id ≡ Some s → s.is_append_only ≡ false → table_at m.state.objects s.source ≡ Some t
+    → stream_at m.state.objects id ≡ Some s → s.is_append_only ≡ false → base_at m.state.objects s.source ≡ Some t
     → all_patched (rows_at t s.offset) (batches id m es)
     ≡ rows_consumed (after m es).state.objects (stream_at (after m es).state.objects id)
 
--- as long as a transaction holds a standard stream, each of its statements reads the same of it
+-- as long as a transaction holds a standard stream on a table, each of its statements reads the same of it
 abbrev pub ReadsTheSame : Type 0
 ReadsTheSame = (session id : ℕ) (m : Machine) (es : List Event) → SoundMachine m → AreApart m.sessions
     → IsHeldAlong session id m es → (s : Stream) (t : Table) → stream_at m.state.objects id ≡ Some s
-    → s.is_append_only ≡ false → table_at m.state.objects s.source ≡ Some t
+    → s.is_append_only ≡ false → base_at m.state.objects s.source ≡ Some t
     → rows_read (after m es) session id ≡ rows_read m session id
 
 -- the COMMIT of a transaction that read a stream moves it to the transaction's start, up to which it was read
@@ -76,12 +80,12 @@ ChangesMoveToTheStart = (reading session id : ℕ) (change : Dml) (m : Machine) 
     → stream_at (step m (changing reading session change)).0.state.objects id
     ≡ Some (with_offset (max s.offset (start_at (stamp_of m.state reading) None)) s)
 
--- what the COMMIT of a transaction consumes of a standard stream is, as rows, what its statements read of it at any
--- moment since the transaction held it, whatever their stamps
+-- what the COMMIT of a transaction consumes of a standard stream on a table is, as rows, what its statements read of it
+-- at any moment since the transaction held it, whatever their stamps
 abbrev pub CommitsConsumeWhatWasRead : Type 0
 CommitsConsumeWhatWasRead = (reading session id stamp : ℕ) (m : Machine) (es : List Event) → SoundMachine m
     → AreApart m.sessions → IsHeldAlong session id m es → (s : Stream) (t : Table)
-    → stream_at m.state.objects id ≡ Some s → s.is_append_only ≡ false → table_at m.state.objects s.source ≡ Some t
+    → stream_at m.state.objects id ≡ Some s → s.is_append_only ≡ false → base_at m.state.objects s.source ≡ Some t
     → is_refusal (step (after m es) (committing reading session)).1 ≡ false
     → bag_of (map (shown_row s.source) (consumed id (after m es) (committing reading session)))
     ≡ rows_read (at_stamp m stamp) session id
@@ -140,6 +144,20 @@ abbrev pub HeldStreamsStay : Type 0
 HeldStreamsStay = (session id : ℕ) (s : Stream) (m : Machine) (e : Event) → AreApart m.sessions
     → reads m.sessions session id ≡ true → reads (step m e).0.sessions session id ≡ true
     → stream_at m.state.objects id ≡ Some s → stream_at (step m e).0.state.objects id ≡ Some s
+
+-- ---- dynamic tables
+
+-- behind any events the rows of each one that stands for a moment are those of its query over tables alone for that
+-- moment: what it reads of dynamic tables, directly or through others, is written out as their queries
+abbrev pub TablesStandForOneMoment : Type 0
+TablesStandForOneMoment =
+    (m : Machine) (es : List Event) → SoundMachine m → (id : ℕ) → IsOfOneMoment (after m es).state.objects id
+
+abbrev pub RefreshesBringToTheStamp : Type 0
+RefreshesBringToTheStamp = (m : Machine) (reading session : ℕ) (name : List ℕ) → SoundMachine m
+    → is_refusal (step m (refreshing reading session name)).1 ≡ false → (id : ℕ)
+    → is_among id (with_upstream m.state.objects (id_refreshed m.state.objects name)) ≡ true
+    → StandsAt (stamp_of m.state reading) (step m (refreshing reading session name)).0.state.objects id
 
 -- ---- commits
 

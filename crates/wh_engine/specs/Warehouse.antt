@@ -10,13 +10,11 @@
 --     IsRead              its texts are understood
 use Rattle.std.specs.Prelude.{◌≡◌, ℕ, List, map, Option, Some, None}
 use Rattle.std.specs.List.{AllByRecursion}
-use Rattle.std.specs.Option.{IfSome}
 use Rattle.wh_frame.specs.File.{IsFileOf}
 use Rattle.wh_state.specs.State.{State, stamped}
 use Rattle.wh_state.specs.Stored.{Stored, first_stored, meant}
 use Rattle.wh_state.specs.Commit.{Commit, Leads}
-use Rattle.wh_state.specs.Spelling.{payload_of, IsCommit, body_in}
-use Rattle.wh_state.specs.Task.{IsSpelled}
+use Rattle.wh_state.specs.Spelling.{payload_of, IsUnderstood, IsCommit}
 use Rattle.wh_state.specs.Written.{kept_after}
 use Rattle.wh_machine.specs.Outcome.{Machine}
 use Rattle.wh_machine.specs.Step.{Event, step}
@@ -72,4 +70,4 @@ IsAt stamp (Some c) = c.stamp ≡ stamp
 -- each text of it spells what it stands for
 abbrev pub IsRead : Option Commit → Type 0
 IsRead None = Unit {0}
-IsRead (Some c) = AllByRecursion (λ change. IfSome (body_in change) IsSpelled) c.changes
+IsRead (Some c) = AllByRecursion IsUnderstood c.changes

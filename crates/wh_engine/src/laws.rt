@@ -5,6 +5,7 @@ ghost use Rattle.wh_engine.specs.Laws.{ChangesHoldWhatTheyRead, ChangesConsumeWh
 ghost use Rattle.wh_engine.specs.Laws.{RunsConsumeWhatTheyRead, OtherTicksMoveNothing};
 ghost use Rattle.wh_engine.specs.Laws.{NothingElseConsumes, OthersMoveNothing, QueriesMoveNothing};
 ghost use Rattle.wh_engine.specs.Laws.{SoundStatesOpen, EventsKeepMachinesSound, HeldStreamsStay};
+ghost use Rattle.wh_engine.specs.Laws.{TablesStandForOneMoment, RefreshesBringToTheStamp};
 ghost use Rattle.wh_engine.specs.Laws.{CommitsApply};
 
 /// A refused command changes nothing but the last stamp, and no transaction.
@@ -65,6 +66,19 @@ pub fn what_consumes_nothing_moves_nothing()
 /// A stream that an open transaction holds is moved by no event that leaves it held.
 pub fn held_streams_stay()
     ensures { HeldStreamsStay }
+{}
+
+/// A dynamic table stands for one moment. Behind any events its rows are those of its query for the
+/// moment that it stands for, over tables alone: each dynamic table that it reads, directly or
+/// through others, is written out as its query.
+pub fn dynamic_tables_stand_for_one_moment()
+    ensures { TablesStandForOneMoment }
+{}
+
+/// A refresh that a statement asks for, and that isn't refused, brings its table and each dynamic
+/// table that it reads, directly or through others, to the stamp of the statement.
+pub fn refreshes_bring_tables_to_their_stamp()
+    ensures { RefreshesBringToTheStamp }
 {}
 
 /// The commits that the events of a script make over a sound file apply, one after the other: no

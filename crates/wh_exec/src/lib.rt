@@ -17,6 +17,7 @@ mod scan;
 mod tuples;
 mod union;
 
+pub use collecting::collected;
 pub use columns::are_columns;
 pub use evaluation::evaluate;
 pub use fault::ExecFault;

@@ -28,7 +28,7 @@ pub all_none : (P : Row → Type 0) → AllRows P no_rows
 all_none P = subst (AllEntries P) (sym (nil_from_length (entries no_rows)
     (sym (len-entries no_rows) ∙ len-empty row_cmp ℕ))) tt
 
-all_put : (P : Row → Type 0) (row : Row) (n : ℕ) (es : List (Row × ℕ)) → P row → AllEntries P es
+pub all_put : (P : Row → Type 0) (row : Row) (n : ℕ) (es : List (Row × ℕ)) → P row → AllEntries P es
     → AllEntries P (put row_cmp row n es)
 all_put P row n [] here h = (here, tt)
 all_put P row n (e ∷ es) here h = by_cmp (row_cmp row e.0) (all_put P row n es here h.1)

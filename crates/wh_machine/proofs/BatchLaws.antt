@@ -30,7 +30,7 @@ use Rattle.wh_machine.specs.Sound.{SoundMachine}
 use Rattle.wh_machine.specs.Reading.{objects_seen, start_in, rows_read, instance_read}
 use Rattle.wh_machine.specs.Statements.{streams_read, change_refusal, bound_changed, changes_in, changes_rows}
 use Rattle.wh_machine.specs.Statements.{commit, commit_of, carried_out, carried_out_as, meant_in}
-use Rattle.wh_machine.specs.Consuming.{shown_of, shown_to, consumed, is_read_by, reads, AreApart, IsHeldAlong}
+use Rattle.wh_machine.specs.Consuming.{base_at, shown_of, shown_to, consumed, is_read_by, reads, AreApart, IsHeldAlong}
 use Rattle.wh_machine.specs.Consuming.{committing, changing, change_in, change_reads}
 use Rattle.wh_machine.specs.Step.{Event, Command, is_session, stamp_of, at_stamp, commanded}
 use Rattle.wh_machine.specs.Step.{decided, step, after}
@@ -143,7 +143,7 @@ first_held session id m (e ∷ es) held = held.0
 -- the COMMIT of a transaction that held a standard stream along a run
 pub commit_batch : (reading session id stamp : ℕ) (m : Machine) (es : List Event) → SoundMachine m → AreApart m.sessions
     → IsHeldAlong session id m es → (s : Stream) (t : Table) → stream_at m.state.objects id ≡ Some s
-    → s.is_append_only ≡ false → table_at m.state.objects s.source ≡ Some t
+    → s.is_append_only ≡ false → base_at m.state.objects s.source ≡ Some t
     → is_refusal (step (after m es) (committing reading session)).1 ≡ false
     → bag_of (map (shown_row s.source) (consumed id (after m es) (committing reading session)))
     ≡ rows_read (at_stamp m stamp) session id

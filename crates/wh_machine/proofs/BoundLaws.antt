@@ -49,7 +49,7 @@ neither false b is = (refl, is)
 
 -- ---- columns of a query that is a source
 
-column_rows : (outputs : List Output) (row : Row) → FitsTypes (output_types outputs) row
+pub column_rows : (outputs : List Output) (row : Row) → FitsTypes (output_types outputs) row
     → FitsTypes (types_of (map column_of outputs)) row
 column_rows [] row h = h
 column_rows (o ∷ os) [] h = absurd h

@@ -20,7 +20,7 @@ use Rattle.wh_naming.specs.Changes.{Target, target_of, target_at, is_table, Boun
 use Rattle.wh_effect.specs.Effect as effects
 use Rattle.wh_effect.specs.Effect.{effect}
 use Rattle.wh_reply.specs.Reply.{Refusal}
-use Rattle.wh_state.specs.State.{TaskKind}
+use Rattle.wh_state.specs.State.{TaskKind, DynamicKind}
 use Rattle.wh_state.specs.State.{Table, Object, at_id, last_rows}
 use Rattle.wh_state.specs.State.{TableKind, StreamKind, table_in, stream_in, columns_in}
 use Rattle.wh_state.specs.Objects.{is_stream, is_kind_at, table_at}
@@ -101,6 +101,7 @@ module _ (s : Stored) (m : Machine) (session : ℕ) (reached : IsReached s m) wh
       by_kind (TableKind t) is = absurd cc
       by_kind (StreamKind s) is = tt
       by_kind (TaskKind t) is = absurd cc
+      by_kind (DynamicKind d t) is = absurd cc
 
   named_fits : (name : Name) (object : Named) → named names name ≡ Some object → (row : Row) → IsRead object.id row
       → FitsTypes (types_of object.columns) row
@@ -159,6 +160,7 @@ module _ (s : Stored) (m : Machine) (session : ℕ) (reached : IsReached s m) wh
               → IsFound (target_of name (Some object))
           by_kind (StreamKind stream) kind table = absurd cc
           by_kind (TaskKind task) kind table = absurd cc
+          by_kind (DynamicKind d t) kind table = absurd cc
           by_kind (TableKind t) kind table = record {
             object = o.object;
             there = o.there;
@@ -216,7 +218,7 @@ module _ (s : Stored) (m : Machine) (session : ℕ) (reached : IsReached s m) wh
       let nothing : NothingFails b.findings = nothing_fails b.findings none in
       let found : IsFound t = target_found name (good.known nothing.unknown_object) (good.kinds nothing.wrong_kind) in
       let sees : SeesTable m session t.id found.table.columns =
-      seen_fits s m session t.id found.object found.table reached found.there found.kind in
+      seen_fits s m session t.id found.object found.table reached found.there (ap table_in found.kind) in
       let there : table_at (objects_seen m session) b.target ≡ Some sees.table =
       ap (λ (id : ℕ). table_at (objects_seen m session) id) good.target ∙ sees.there in
       let rows : AllByRecursion (λ entry. FitsTypes (types_of t.columns) entry.1) (rows_seen sees.table) =

@@ -3,19 +3,13 @@
 --     table_after, versions_stay  a run leaves versions at times that have passed as they were
 --     shown_leads                 what a stream shows leads from its offset's version to that at a stamp
 --     batches_lead                batches that were consumed lead from the first offset's version to the last one's
-use Rattle.std.proofs.Common.{◌≡◌, ℕ, zero, suc, ◌-◌, ◌<◌, ◌≤◌, max, Bool, true, false, cond, List, [], ◌∷◌, ◌++◌}
-use Rattle.std.proofs.Common.{Option, Some, None, option_map, refl, sym, ap, subst, ◌∙◌, arith}
-use Rattle.std.specs.Prelude.{nat_le, slice_get, slice_set}
-use Rattle.std.specs.List.{filter}
-use Rattle.std.proofs.lemmas.Bool.{lt-leb}
+use Rattle.std.proofs.Common.{◌≡◌, ℕ, zero, suc, ◌<◌, ◌≤◌, max, Bool, true, false, cond, List, [], ◌∷◌}
+use Rattle.std.proofs.Common.{Option, Some, None, refl, sym, ap, subst, ◌∙◌, arith}
+use Rattle.std.specs.Prelude.{nat_le, slice_get}
 use Rattle.std.proofs.lemmas.Bool.Decides.{nat_tests}
-use Rattle.wh_state.specs.State.{TaskKind, on_task, changed_at}
-use Rattle.wh_state.specs.State.{Rows, Version, Table, Stream, Kind, TableKind, StreamKind, Object, State, nothing_held}
-use Rattle.wh_state.specs.State.{dropped, content_in, last_of, at_id, put_at, changed_at}
-use Rattle.wh_state.specs.Edits.{Edits}
-use Rattle.wh_state.specs.Act.{MakesTask, PutsTask, BeginsRun, EndsTask, on_task_object}
-use Rattle.wh_state.specs.Act.{Act, MakesTable, DropsObject, EditsRows, MakesStream, MovesOffset, edited_table}
-use Rattle.wh_state.specs.Act.{edited_kind, edited_object, moved_kind, moved_object, acted, all_acted}
+use Rattle.wh_state.specs.State.{TaskKind, DynamicKind}
+use Rattle.wh_state.specs.State.{Rows, Table, Stream, Kind, TableKind, StreamKind, Object}
+use Rattle.wh_state.specs.State.{at_id}
 use Rattle.wh_state.specs.Objects.{table_at, stream_at}
 use Rattle.wh_state.specs.Sound.{IsSoundKind, IsSoundObject}
 use Rattle.wh_state.proofs.AllLaws.{all_at}
@@ -24,154 +18,15 @@ use Rattle.wh_net.specs.Stream.{rows_at, records_between, shown}
 use Rattle.wh_net.proofs.NetLaws.{patched}
 use Rattle.wh_machine.specs.Outcome.{Machine, Outcome, Refuses, Does, settled}
 use Rattle.wh_machine.specs.Sound.{SoundMachine}
-use Rattle.wh_machine.specs.Consuming.{Extends, IsLaterStream, IsLaterKind, IsLater, AreLater, rows_then, shown_of}
+use Rattle.wh_machine.specs.Consuming.{base_at, Extends, IsLaterStream, IsLaterKind, IsLater, AreLater}
+use Rattle.wh_machine.specs.Consuming.{rows_then, shown_of}
 use Rattle.wh_machine.specs.Consuming.{shown_to, consumed, batches, all_patched, rows_consumed}
 use Rattle.wh_machine.specs.Step.{Event, reading_of, stamp_of, decided, step, after}
-use Rattle.wh_machine.proofs.Lawful.{AllMoveOn, IsLawful}
+use Rattle.wh_machine.proofs.Lawful.{IsLawful}
+use Rattle.wh_machine.proofs.LaterLaws.{same_extends, some_same, same_later, stream_found, acts_later}
 use Rattle.wh_machine.proofs.EventLaws.{lawful}
 use Rattle.wh_machine.proofs.StepLaws.{ready, each_event, last_grows}
 use Rattle.wh_machine.proofs.SoundLaws.{sound_ready, sound_step}
-use Rattle.wh_state.specs.Task.{Task, with_state, with_run, with_ended}
-
--- ---- lists that grow
-
-more_extends : {X : Type 0} (R : X → X → Type 0) (xs ys : List X) (y : X) → Extends R xs ys
-    → Extends R xs (ys ++ y ∷ [])
-more_extends R [] ys y is = tt
-more_extends R (x ∷ xs) [] y is = absurd is
-more_extends R (x ∷ xs) (z ∷ zs) y is = (is.0, more_extends R xs zs y is.1)
-
-same_extends : {X : Type 0} (R : X → X → Type 0) → ((x : X) → R x x) → (xs : List X) → Extends R xs xs
-same_extends R same [] = tt
-same_extends R same (x ∷ xs) = (same x, same_extends R same xs)
-
-some_same : {X : Type 0} (a b : X) → Some a ≡ Some b → a ≡ b
-some_same a b same = cc
-
--- what changes at a place is still related to what stood there first
-set_extends : {X : Type 0} (R : X → X → Type 0) (f : X → X) (xs ys : List X) (place : ℕ) (y : X)
-    → slice_get ys place ≡ Some y
-    → ((x : X) → slice_get xs place ≡ Some x → R x y → R x (f y))
-    → Extends R xs ys → Extends R xs (slice_set ys place (f y))
-set_extends R f [] ys place y there so is = tt
-set_extends R f (x ∷ xs) [] place y there so is = absurd is
-set_extends R f (x ∷ xs) (z ∷ zs) zero y there so is =
-    (so x refl (subst (R x) (some_same z y there) is.0), is.1)
-set_extends R f (x ∷ xs) (z ∷ zs) (suc place) y there so is =
-    (is.0, set_extends R f xs zs place y there so is.1)
-
-changed_extends : {X : Type 0} (R : X → X → Type 0) (f : X → X) (xs ys : List X) (id : ℕ)
-    → ((x y : X) → at_id xs id ≡ Some x → R x y → R x (f y))
-    → Extends R xs ys → Extends R xs (changed_at ys id f)
-changed_extends R f xs ys zero so is = is
-changed_extends R f xs ys (suc place) so is = by_found (slice_get ys place) refl
-  where
-    by_found : (found : Option _) → slice_get ys place ≡ found
-        → Extends R xs (put_at ys (suc place) (option_map f found))
-    by_found None there = is
-    by_found (Some y) there = set_extends R f xs ys place y there (λ x at. so x y at) is
-
--- ---- objects
-
-same_later : (stamp : ℕ) (o : Object) → IsLater stamp o o
-same_later stamp o = by_kind o.kind
-  where
-    by_kind : (k : Kind) → IsLaterKind stamp k k
-    by_kind (TableKind t) = λ time before. refl
-    by_kind (StreamKind s) = record { source = refl; mode = refl; not_before = omega arith; not_behind = omega arith }
-    by_kind (TaskKind t) = tt
-
--- a version that the test leaves out
-filter_more : (test : Version → Bool) (vs : List Version) (v : Version) → test v ≡ false
-    → filter test (vs ++ v ∷ []) ≡ filter test vs
-filter_more test [] v out = rw out
-filter_more test (w ∷ vs) v out = ap (λ rest. cond (test w) (w ∷ rest) rest) (filter_more test vs v out)
-
-edited_later : (stamp : ℕ) (e : Edits) (t : Table) (time : ℕ) → time < stamp
-    → rows_at (edited_table stamp e t) time ≡ rows_at t time
-unfolding edited_table
-edited_later stamp e t time before =
-    ap (λ (vs : List Version). (content_in nothing_held (last_of vs)).rows)
-    (filter_more (λ v. nat_le v.data_timestamp time) t.versions _ (lt-leb _ _ before))
-
-edited_is_later : (stamp : ℕ) (e : Edits) (old new : Kind) → IsLaterKind stamp old new
-    → IsLaterKind stamp old (edited_kind stamp e new)
-edited_is_later stamp e (TableKind t) (TableKind u) later =
-    λ time before. edited_later stamp e u time before ∙ later time before
-edited_is_later stamp e (TableKind t) (StreamKind r) later = absurd later
-edited_is_later stamp e (StreamKind s) (TableKind u) later = absurd later
-edited_is_later stamp e (StreamKind s) (StreamKind r) later = later
-edited_is_later stamp e (TableKind t) (TaskKind u) later = absurd later
-edited_is_later stamp e (StreamKind s) (TaskKind u) later = absurd later
-edited_is_later stamp e (TaskKind t) (TableKind u) later = absurd later
-edited_is_later stamp e (TaskKind t) (StreamKind r) later = absurd later
-edited_is_later stamp e (TaskKind t) (TaskKind u) later = tt
-
--- however a task is changed
-tasked_is_later : (stamp : ℕ) (f : Task → Task) (old new : Kind) → IsLaterKind stamp old new
-    → IsLaterKind stamp old (on_task f new)
-tasked_is_later stamp f old (TableKind u) later = later
-tasked_is_later stamp f old (StreamKind r) later = later
-tasked_is_later stamp f (TableKind t) (TaskKind u) later = absurd later
-tasked_is_later stamp f (StreamKind s) (TaskKind u) later = absurd later
-tasked_is_later stamp f (TaskKind t) (TaskKind u) later = tt
-
-moved_is_later : (stamp offset : ℕ) (old new : Kind) → offset ≤ stamp - 1
-    → ((s : Stream) → old ≡ StreamKind s → s.offset ≤ offset)
-    → IsLaterKind stamp old new → IsLaterKind stamp old (moved_kind offset new)
-moved_is_later stamp offset (TableKind t) (TableKind u) within on later = later
-moved_is_later stamp offset (TableKind t) (StreamKind r) within on later = absurd later
-moved_is_later stamp offset (StreamKind s) (TableKind u) within on later = absurd later
-moved_is_later stamp offset (TableKind t) (TaskKind u) within on later = absurd later
-moved_is_later stamp offset (StreamKind s) (TaskKind u) within on later = absurd later
-moved_is_later stamp offset (TaskKind t) (TableKind u) within on later = absurd later
-moved_is_later stamp offset (TaskKind t) (StreamKind r) within on later = absurd later
-moved_is_later stamp offset (TaskKind t) (TaskKind u) within on later = tt
-moved_is_later stamp offset (StreamKind s) (StreamKind r) within on later =
-    record { source = later.source; mode = later.mode; not_before = on s refl; not_behind = omega (arith, within) }
-
-stream_found : (objects : List Object) (id : ℕ) (o : Object) (s : Stream) → at_id objects id ≡ Some o
-    → o.kind ≡ StreamKind s → stream_at objects id ≡ Some s
-stream_found objects id o s there is = rw (there, is) refl
-
-tasked_later : (s : State) (objects : List Object) (id : ℕ) (f : Task → Task) → AreLater s.last s.objects objects
-    → AreLater s.last s.objects (changed_at objects id (on_task_object f))
-tasked_later s objects id f later = changed_extends (IsLater s.last) (on_task_object f) s.objects objects id
-    (λ old new at is. tasked_is_later s.last f old.kind new.kind is) later
-
-acts_later : (s : State) (objects : List Object) (acts : List Act) → AllMoveOn s acts
-    → AreLater s.last s.objects objects
-    → AreLater s.last s.objects (all_acted s.last objects acts)
-acts_later s objects [] on later = later
-acts_later s objects (MakesTable name columns retention ∷ acts) on later =
-    acts_later s (acted s.last objects (MakesTable name columns retention)) acts on.1
-    (more_extends (IsLater s.last) s.objects objects _ later)
-acts_later s objects (MakesStream name source is_append_only ∷ acts) on later =
-    acts_later s (acted s.last objects (MakesStream name source is_append_only)) acts on.1
-    (more_extends (IsLater s.last) s.objects objects _ later)
-acts_later s objects (MakesTask name minutes after runs ∷ acts) on later =
-    acts_later s (acted s.last objects (MakesTask name minutes after runs)) acts on.1
-    (more_extends (IsLater s.last) s.objects objects _ later)
-acts_later s objects (PutsTask id state ∷ acts) on later =
-    acts_later s (acted s.last objects (PutsTask id state)) acts on.1 (tasked_later s objects id (with_state state) later)
-acts_later s objects (BeginsRun root tasks ∷ acts) on later =
-    acts_later s (acted s.last objects (BeginsRun root tasks)) acts on.1
-    (tasked_later s objects root (with_run tasks) later)
-acts_later s objects (EndsTask root task ending ∷ acts) on later =
-    acts_later s (acted s.last objects (EndsTask root task ending)) acts on.1
-    (tasked_later s objects root (with_ended task ending) later)
-acts_later s objects (DropsObject id ∷ acts) on later =
-    acts_later s (acted s.last objects (DropsObject id)) acts on.1
-    (changed_extends (IsLater s.last) dropped s.objects objects id (λ old new at is. is) later)
-acts_later s objects (EditsRows id e ∷ acts) on later =
-    acts_later s (acted s.last objects (EditsRows id e)) acts on.1
-    (changed_extends (IsLater s.last) (edited_object s.last e) s.objects objects id
-    (λ old new at is. edited_is_later s.last e old.kind new.kind is) later)
-acts_later s objects (MovesOffset id offset ∷ acts) on later =
-    acts_later s (acted s.last objects (MovesOffset id offset)) acts on.1
-    (changed_extends (IsLater s.last) (moved_object offset) s.objects objects id
-    (λ old new at is. moved_is_later s.last offset old.kind new.kind on.0.0
-    (λ r kind. on.0.1 r (stream_found s.objects id old r at kind)) is) later)
 
 -- ---- events
 
@@ -208,7 +63,7 @@ abbrev IsTable : Table → Kind → Type 0
 IsTable t k = k ≡ TableKind t
 
 table_found : (objects : List Object) (id : ℕ) (o : Object) (t : Table) → at_id objects id ≡ Some o
-    → o.kind ≡ TableKind t → table_at objects id ≡ Some t
+    → o.kind ≡ TableKind t → base_at objects id ≡ Some t
 table_found objects id o t there is = rw (there, is) refl
 
 stands : (objects : List Object) (id : ℕ) (is : Kind → Type 0) → (at_id objects id ≡ None → ⊥)
@@ -228,17 +83,20 @@ stream_stands objects id s at =
     by_kind : (o : Object) → at_id objects id ≡ Some o → (k : Kind) → o.kind ≡ k → IsStream s k
     by_kind o there (TableKind t) is = let none : stream_at objects id ≡ None = rw (there, is) refl in absurd cc
     by_kind o there (TaskKind t) is = let none : stream_at objects id ≡ None = rw (there, is) refl in absurd cc
+    by_kind o there (DynamicKind d t) is =
+        let none : stream_at objects id ≡ None = rw (there, is) refl in absurd cc
     by_kind o there (StreamKind r) is = ap StreamKind (some_same r s (sym (stream_found objects id o r there is) ∙ at))
 
-table_stands : (objects : List Object) (id : ℕ) (t : Table) → table_at objects id ≡ Some t
+table_stands : (objects : List Object) (id : ℕ) (t : Table) → base_at objects id ≡ Some t
     → Standing objects id (IsTable t)
 table_stands objects id t at =
-    stands objects id (IsTable t) (λ missing. let none : table_at objects id ≡ None = rw missing refl in absurd cc)
+    stands objects id (IsTable t) (λ missing. let none : base_at objects id ≡ None = rw missing refl in absurd cc)
     (λ o there. by_kind o there o.kind refl)
   where
     by_kind : (o : Object) → at_id objects id ≡ Some o → (k : Kind) → o.kind ≡ k → IsTable t k
-    by_kind o there (StreamKind r) is = let none : table_at objects id ≡ None = rw (there, is) refl in absurd cc
-    by_kind o there (TaskKind t) is = let none : table_at objects id ≡ None = rw (there, is) refl in absurd cc
+    by_kind o there (StreamKind r) is = let none : base_at objects id ≡ None = rw (there, is) refl in absurd cc
+    by_kind o there (TaskKind t) is = let none : base_at objects id ≡ None = rw (there, is) refl in absurd cc
+    by_kind o there (DynamicKind d t) is = let none : base_at objects id ≡ None = rw (there, is) refl in absurd cc
     by_kind o there (TableKind u) is = ap TableKind (some_same u t (sym (table_found objects id o u there is) ∙ at))
 
 -- and later on
@@ -279,16 +137,17 @@ stream_later stamp xs ys id s later at =
         → LaterStream stamp ys id s
     by_kind o there (TableKind t) is kept = absurd kept
     by_kind o there (TaskKind t) is kept = absurd kept
+    by_kind o there (DynamicKind d t) is kept = absurd kept
     by_kind o there (StreamKind r) is kept =
         record { stream = r; there = stream_found ys id o r there is; later = kept }
 
 pub record LaterTable (stamp : ℕ) (objects : List Object) (id : ℕ) (old : Table) : Type 0 where
   pub table : Table
-  pub there : table_at objects id ≡ Some table
+  pub there : base_at objects id ≡ Some table
   pub kept : (time : ℕ) → time < stamp → rows_at table time ≡ rows_at old time
 
 table_later : (stamp : ℕ) (xs ys : List Object) (id : ℕ) (t : Table) → AreLater stamp xs ys
-    → table_at xs id ≡ Some t → LaterTable stamp ys id t
+    → base_at xs id ≡ Some t → LaterTable stamp ys id t
 table_later stamp xs ys id t later at =
     let before = table_stands xs id t at in
     let now = at_later (IsLater stamp) xs ys id before.object later before.there in
@@ -299,17 +158,23 @@ table_later stamp xs ys id t later at =
         → LaterTable stamp ys id t
     by_kind o there (StreamKind r) is kept = absurd kept
     by_kind o there (TaskKind u) is kept = absurd kept
+    by_kind o there (DynamicKind d u) is kept = absurd kept
     by_kind o there (TableKind u) is kept =
         record { table = u; there = table_found ys id o u there is; kept = kept }
 
 -- ---- runs of events
 
-table_rows : (objects : List Object) (id time : ℕ) (t : Table) → table_at objects id ≡ Some t
+-- it is a table
+pub base_table : (objects : List Object) (id : ℕ) (t : Table) → base_at objects id ≡ Some t
+    → table_at objects id ≡ Some t
+base_table objects id t at = let is = table_stands objects id t at in rw (is.there, is.kind) refl
+
+table_rows : (objects : List Object) (id time : ℕ) (t : Table) → base_at objects id ≡ Some t
     → rows_then objects id time ≡ rows_at t time
-table_rows objects id time t at = rw at refl
+table_rows objects id time t at = let here = base_table objects id t at in rw here refl
 
 pub table_after : (id : ℕ) (m : Machine) (es : List Event) → SoundMachine m → (t : Table)
-    → table_at m.state.objects id ≡ Some t → LaterTable (suc m.state.last) (after m es).state.objects id t
+    → base_at m.state.objects id ≡ Some t → LaterTable (suc m.state.last) (after m es).state.objects id t
 table_after id m [] sound t at = record { table = t; there = at; kept = λ time before. refl }
 table_after id m (e ∷ es) sound t at =
     let stamp : ℕ = stamp_of m.state (reading_of e) in
@@ -324,7 +189,7 @@ table_after id m (e ∷ es) sound t at =
 
 -- a version at a time that has passed stays
 pub versions_stay : (id time : ℕ) (m : Machine) (es : List Event) → SoundMachine m → (t : Table)
-    → table_at m.state.objects id ≡ Some t → time ≤ m.state.last
+    → base_at m.state.objects id ≡ Some t → time ≤ m.state.last
     → rows_then (after m es).state.objects id time ≡ rows_at t time
 versions_stay id time m es sound t at passed =
     let now = table_after id m es sound t at in
@@ -359,16 +224,17 @@ pub offset_passed : (m : Machine) → SoundMachine m → (id : ℕ) (s : Stream)
     → s.offset ≤ m.state.last
 offset_passed m sound id s at =
     let here = stream_stands m.state.objects id s at in
-    let is : IsSoundObject m.state.committed here.object =
-    all_at (IsSoundObject m.state.committed) m.state.objects id here.object sound.state.objects here.there in
-    let within : IsSoundKind m.state.committed (StreamKind s) =
-    subst (IsSoundKind m.state.committed) here.kind is in
+    let is : IsSoundObject m.state.committed m.state.objects here.object =
+    all_at (IsSoundObject m.state.committed m.state.objects) m.state.objects id here.object sound.state.objects
+    here.there in
+    let within : IsSoundKind m.state.committed m.state.objects (StreamKind s) =
+    subst (IsSoundKind m.state.committed m.state.objects) here.kind is in
     omega (arith, within, sound.state.ordered)
 
--- the batches in which a standard stream was consumed, made one after the other on the rows of its source at its
--- offset, give those at the offset that it has at last: nothing is lost, and nothing comes twice
+-- the batches in which a standard stream on a table was consumed, made one after the other on the rows of its source at
+-- its offset, give those at the offset that it has at last: nothing is lost, and nothing comes twice
 pub batches_lead : (id : ℕ) (m : Machine) (es : List Event) → SoundMachine m → (s : Stream) (t : Table)
-    → stream_at m.state.objects id ≡ Some s → s.is_append_only ≡ false → table_at m.state.objects s.source ≡ Some t
+    → stream_at m.state.objects id ≡ Some s → s.is_append_only ≡ false → base_at m.state.objects s.source ≡ Some t
     → all_patched (rows_at t s.offset) (batches id m es)
     ≡ rows_consumed (after m es).state.objects (stream_at (after m es).state.objects id)
 batches_lead id m [] sound s t at standard tabled =
@@ -382,7 +248,7 @@ batches_lead id m (e ∷ es) sound s t at standard tabled =
     let batch : consumed id m e ≡ shown t s r.offset =
     ap (λ (found : Option Stream). shown_to m.state.objects found (stream_at next id)) at
     ∙ ap (shown_to m.state.objects (Some s)) now.there
-    ∙ ap (λ (found : Option Table). shown_of found s r.offset) tabled in
+    ∙ ap (λ (found : Option Table). shown_of found s r.offset) (base_table m.state.objects s.source t tabled) in
     let greater : max s.offset r.offset ≡ r.offset = omega (arith, now.later.not_before) in
     let before : r.offset < stamp = omega (arith, now.later.not_behind, offset_passed m sound id s at) in
     let leads : patch (rows_at t s.offset) (consumed id m e) ≡ rows_at source.table r.offset =
@@ -390,4 +256,4 @@ batches_lead id m (e ∷ es) sound s t at standard tabled =
     ∙ sym (source.kept r.offset before) in
     ap (λ (rows : Rows). all_patched rows (batches id (step m e).0 es)) leads
     ∙ batches_lead id (step m e).0 es (sound_step m e sound) r source.table now.there (now.later.mode ∙ standard)
-    (subst (λ (source_id : ℕ). table_at next source_id ≡ Some source.table) (sym now.later.source) source.there)
+    (subst (λ (source_id : ℕ). base_at next source_id ≡ Some source.table) (sym now.later.source) source.there)

@@ -23,14 +23,14 @@ use Rattle.wh_ddl_naming.specs.Tables.{NewTable, new_table, column_names, column
 use Rattle.wh_ddl_naming.specs.Tables.{bound_table}
 use Rattle.wh_ddl_naming.specs.Streams.{NewStream, bound_stream}
 use Rattle.wh_reply.specs.Reply.{Refusal, Reply, OverLimit, Locked, DdlInTransaction, CreatedTable, CreatedStream}
-use Rattle.wh_state.specs.State.{TaskKind, task_in}
+use Rattle.wh_state.specs.State.{TaskKind, DynamicKind, task_in}
 use Rattle.wh_state.specs.State.{State, Object, at_id, put_at, changed_at, dropped, live_count}
 use Rattle.wh_state.specs.State.{TableKind, StreamKind}
 use Rattle.wh_state.specs.Act.{MakesTable, DropsObject, MakesStream}
 use Rattle.wh_state.specs.Stored.{StoredKind, StoredObject, Stored, kind_meant}
 use Rattle.wh_state.specs.Commit.{MayGo, TaskMayGo}
 use Rattle.wh_state.specs.Commit.{changed, IsStoredName}
-use Rattle.wh_state.specs.Commit.{TableApplies, IsLiveTable, IsTableKind}
+use Rattle.wh_state.specs.Commit.{TableApplies, IsLiveTable, IsTableKind, MayShow}
 use Rattle.wh_state.proofs.FoundLaws.{found_some}
 use Rattle.wh_state.proofs.MeaningLaws.{live_count_meant}
 use Rattle.wh_state.proofs.FirmLaws.{HasNot, NamesApart}
@@ -47,7 +47,7 @@ use Rattle.wh_machine.proofs.WorksLaws.{works_made}
 use Rattle.wh_machine.proofs.PassedLaws.{passed, none_if, within, neither, short_name, no_map, no_name}
 use Rattle.wh_machine.proofs.PassedLaws.{nothing_fails, nothing_wrong, free_taken, object_found}
 use Rattle.wh_state.specs.Task.{Task}
-use Rattle.wh_state.specs.Objects.{as_task}
+use Rattle.wh_state.specs.Objects.{as_task, is_table}
 
 -- ---- live objects
 
@@ -109,6 +109,7 @@ not_task : (kind : ObjectKind) (k : StoredKind) → is_same_kind kind TaskObject
     → is_same_kind (object_kind (kind_meant k)) kind ≡ true → task_in k ≡ None
 not_task kind (TableKind t) other is = refl
 not_task kind (StreamKind s) other is = refl
+not_task kind (DynamicKind d t) other is = refl
 not_task TaskObject (TaskKind t) other is = absurd cc
 not_task TableObject (TaskKind t) other is = absurd cc
 not_task StreamObject (TaskKind t) other is = absurd cc
@@ -127,7 +128,7 @@ pub record IsFilledTable (given : List ℕ) (made : List Column) : Type 0 where
   pub columns : AllByRecursion (λ column. 0 < length column.name) made
 
 -- names that are short and not empty
-columns_named : (columns : List Column) → list_any is_long (column_names columns) ≡ false
+pub columns_named : (columns : List Column) → list_any is_long (column_names columns) ≡ false
     → AllByRecursion (λ column. 0 < length column.name) columns
     → AllByRecursion (λ column. IsStoredName column.name) columns
 columns_named [] short some = tt
@@ -318,15 +319,24 @@ placed s m kind name reached none = by_found (named (names_from 1 m.state.object
         not_false true is = refl
         not_false false is = absurd cc
 
+-- a place of a table takes no dynamic one
+placed_table : (k : StoredKind) → is_same_kind (object_kind (kind_meant k)) TableObject ≡ true
+    → IsTableKind k × IsTrue (is_table k)
+placed_table (TableKind t) is = (tt, refl)
+placed_table (StreamKind s) is = absurd cc
+placed_table (TaskKind t) is = absurd cc
+placed_table (DynamicKind d t) is = absurd cc
+
 live_table : (objects : List StoredObject) (id : ℕ) → IsPlaced objects TableObject id → IsLiveTable (at_id objects id)
 live_table objects id is =
     found_some (λ o. IsTrue o.is_live × IsTableKind o.kind) objects id is.object is.there
-    (is.live, by_kind is.object.kind is.kind_is)
-  where
-    by_kind : (k : StoredKind) → is_same_kind (object_kind (kind_meant k)) TableObject ≡ true → IsTableKind k
-    by_kind (TableKind t) is = tt
-    by_kind (StreamKind s) is = absurd cc
-    by_kind (TaskKind t) is = absurd cc
+    (is.live, (placed_table is.object.kind is.kind_is).0)
+
+may_show : (is_append_only : Bool) (objects : List StoredObject) (id : ℕ) → IsPlaced objects TableObject id
+    → MayShow is_append_only (at_id objects id)
+may_show is_append_only objects id is shown =
+    found_some (λ o. IsTrue (is_table o.kind)) objects id is.object is.there
+    (placed_table is.object.kind is.kind_is).1
 
 passes_stream : (s : State) (wrong : Option Refusal) (n : NewStream) → stream_refusal s wrong n ≡ None
     → (wrong ≡ None) × ((live_count s.objects + 1 - 0 ≤ bound limits.Objects) × (length n.name ≤ bound limits.Name))
@@ -357,6 +367,7 @@ works_stream s m session name table is_append_only reached some =
     works_unless s m (stream_refusal m.state (option_map refusal_of (first_failing b)) b.value) _ reached (λ passes.
     let tests = passes_stream m.state (option_map refusal_of (first_failing b)) b.value passes in
     let found = nothing_wrong b tests.0 in
+    let on = placed s m TableObject table reached found.1 in
     works_made s m (CreatedStream name) (MakesStream name b.value.table is_append_only ∷ []) reached (λ id. (tt, tt)) (
       record {
         object = record {
@@ -365,7 +376,8 @@ works_stream s m session name table is_append_only reached some =
           free = free_of_all name s.objects (free_taken s m name reached found.0);
           name = (some, tests.1.1);
         };
-        source = live_table s.objects b.value.table (placed s m TableObject table reached found.1);
+        source = live_table s.objects b.value.table on;
+        mode = may_show is_append_only s.objects b.value.table on;
       },
       (tt, tt),
     )))

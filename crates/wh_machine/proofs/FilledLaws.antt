@@ -1,6 +1,6 @@
 -- The new names and columns of a script are not empty, and its changes stand in its text.
---     TokenFilled, tokens_filled      no word and no quoted name is empty
---     name_filled, columns_filled     names and columns of tokens
+--     tokens_filled                   no word and no quoted name is empty
+--     columns_filled                  columns of tokens
 --     script_filled                   the events of a script
 use Rattle.std.proofs.Common.{◌≡◌, ℕ, ◌<◌, List, [], ◌∷◌, ◌++◌, length, map, Option, None, refl, subst, sym, arith, ◌⊎◌}
 use Rattle.std.specs.Prelude.{◌≢◌}
@@ -9,35 +9,31 @@ use Rattle.wh_value.specs.View.{column_of}
 use Rattle.wh_value.specs.declared.column.Column.{Column}
 use Rattle.wh_ast.specs.declared.statement.Statement.{Statement}
 use Rattle.wh_ast.specs.declared.statement.CreateTask.{CreateTask}
-use Rattle.wh_grammar.specs.Token.{Token, Word, Quoted, Placed}
+use Rattle.wh_ast.specs.declared.statement.CreateDynamicTable.{CreateDynamicTable}
+use Rattle.wh_ast.specs.declared.statement.Lag.{Lag}
+use Rattle.wh_ast.specs.declared.statement.RefreshMode.{RefreshMode}
+use Rattle.wh_ast.specs.declared.statement.Initialize.{Initialize}
+use Rattle.wh_grammar.specs.Token.{Token, Placed}
 use Rattle.wh_grammar.specs.Lexing as lexing
 use Rattle.wh_grammar.specs.Lexing.{IsBare, IsEnclosed, IsSign, IsToken, bare, enclosed, signed, HasTokens, end, gap}
 use Rattle.wh_grammar.specs.Lexing.{token}
-use Rattle.wh_grammar.specs.Name as names
-use Rattle.wh_grammar.specs.Name.{IsName}
 use Rattle.wh_grammar.specs.Parts.{AreColumns, last_column, more_columns, MayReplace, no_replace, or_replace}
 use Rattle.wh_grammar.specs.Spelled.{IsTableStatement, create_table, drop_table, IsStreamStatement, create_stream}
 use Rattle.wh_grammar.specs.Spelled.{drop_stream, IsTaskStatement, IsDynamicTableStatement, IsTransactionStatement}
 use Rattle.wh_grammar.specs.Spelled.{IsPlain, of_table, of_stream, of_task, of_dynamic_table, of_transaction, tokens_of}
 use Rattle.wh_grammar.specs.Spelled as spelled
-use Rattle.wh_grammar.specs.Spelled.{IsTaskHead, task_head, IsTask}
+use Rattle.wh_grammar.specs.Spelled.{IsTaskHead, task_head, IsTask, IsTableHead, IsDynamicTable}
 use Rattle.wh_grammar.specs.Spelled.{IsStatement, plain, Spells, Request, TooLong, Unreadable, Asked, Asks, is_long}
 use Rattle.wh_grammar.specs.Spelled.{spells_none, spells}
 use Rattle.wh_grammar.specs.Script.{Line, lines_of}
 use Rattle.wh_machine.specs.Step.{Event}
 use Rattle.wh_machine.specs.Script.{HasEvents, ends, sets_session, ticks, ticks_at, commands, IsScript}
 use Rattle.wh_machine.proofs.TaskMade.{IsFilledTask}
+use Rattle.wh_machine.proofs.TokensFilled.{TokenFilled, AllFilled, name_filled}
+use Rattle.wh_machine.proofs.DynamicMade.{IsFilledDynamic}
 use Rattle.wh_machine.proofs.ReachedLaws.{IsFilled, IsFilledRequest, IsFilledEvent}
 
 -- ---- tokens
-
-abbrev pub TokenFilled : Token → Type 0
-TokenFilled (Word w) = 0 < length w
-TokenFilled (Quoted name) = 0 < length name
-TokenFilled _ = Unit {0}
-
-abbrev pub AllFilled : List Token → Type 0
-AllFilled ts = AllByRecursion TokenFilled ts
 
 some_bytes : (bytes : List ℕ) → bytes ≢ [] → 0 < length bytes
 some_bytes [] none = absurd (none refl)
@@ -69,11 +65,6 @@ tokens_filled bytes (p ∷ placed) (token {rest = rest} is more) =
     (token_filled bytes rest p.token is, tokens_filled rest placed more)
 
 -- ---- names and columns
-
-pub name_filled : (ts us : List Token) (name : List ℕ) → IsName ts name us → AllFilled ts
-    → (0 < length name) × AllFilled us
-name_filled ts us name (names.word free call) filled = filled
-name_filled ts us name names.quoted filled = filled
 
 pub columns_filled : (ts us : List Token) (columns : List Column) → AreColumns ts columns us → AllFilled ts
     → (0 < length columns) × AllByRecursion (λ column. 0 < length column.name) (map column_of columns)
@@ -149,17 +140,40 @@ created_filled text placed t (spelled.task head body split is_head is_body kept)
     let here = head_filled _ _ _ _ _ is_head (first_filled head body
     (subst (λ (ps : List Placed). AllFilled (tokens_of ps)) split filled)) in
     record { name = here.0; either = here.1; body = (tokens_of body, is_body) }
-created_filled text placed t (spelled.guarded_task head guard body link split is_head is_guard kept link_is is_body body_kept)
+created_filled text placed t
+    (spelled.guarded_task head guard body link split is_head is_guard kept link_is is_body body_kept)
     filled =
     let here = head_filled _ _ _ _ _ is_head (first_filled head (guard ++ link ∷ body)
     (subst (λ (ps : List Placed). AllFilled (tokens_of ps)) split filled)) in
     record { name = here.0; either = here.1; body = (tokens_of body, is_body) }
 
+behind_head : (head body : List Placed) → AllFilled (tokens_of (head ++ body)) → AllFilled (tokens_of body)
+behind_head [] body filled = filled
+behind_head (p ∷ ps) body filled = behind_head ps body filled.1
+
+dynamic_made_filled : (text : List ℕ) (placed : List Placed) (t : CreateDynamicTable) → IsDynamicTable text placed t
+    → AllFilled (tokens_of placed) → IsFilledDynamic t
+dynamic_made_filled text placed t (spelled.dynamic_table head body split is_head is_query kept) filled =
+    let all : AllFilled (tokens_of (head ++ body)) =
+    subst (λ (ps : List Placed). AllFilled (tokens_of ps)) split filled in
+    let own : AllFilled (tokens_of head) = first_filled head body all in
+    record {
+      name = of_head is_head own;
+      tokens = tokens_of body;
+      behind = [];
+      query = is_query;
+      filled = behind_head head body all;
+    }
+  where
+    of_head : {ts us : List Token} {name : List ℕ} {l : Lag} {m : RefreshMode} {i : Initialize}
+        → IsTableHead ts name l m i us → AllFilled ts → 0 < length name
+    of_head (spelled.table_head is options gives) filled = (name_filled _ _ _ is filled.1.1.1).0
+
 statement_filled : (text : List ℕ) (placed : List Placed) (s : Statement) → IsStatement text placed s
     → AllFilled (tokens_of placed) → IsFilled s
 statement_filled text placed s (plain is) filled = plain_filled (tokens_of placed) s is filled
 statement_filled text placed s (spelled.create_task is) filled = created_filled text placed _ is filled
-statement_filled text placed s (spelled.create_dynamic_table is) filled = tt
+statement_filled text placed s (spelled.create_dynamic_table is) filled = dynamic_made_filled text placed _ is filled
 
 request_filled : (text : List ℕ) (request : Request) → Asks text request → IsFilledRequest request
 request_filled text request (is_long long) = tt

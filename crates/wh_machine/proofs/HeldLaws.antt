@@ -16,12 +16,12 @@ use Rattle.wh_machine.specs.Reading.{start_in, rows_read}
 use Rattle.wh_machine.specs.Sessions.{no_sessions, transaction_in, number_in}
 use Rattle.wh_machine.specs.Outcome.{Machine, Outcome, Refuses, Does, opened, settled}
 use Rattle.wh_machine.specs.Sound.{SoundMachine}
-use Rattle.wh_machine.specs.Consuming.{is_read_by, reads, AreApart, IsHeldAlong}
+use Rattle.wh_machine.specs.Consuming.{base_at, is_read_by, reads, AreApart, IsHeldAlong}
 use Rattle.wh_machine.specs.Step.{Event, decided, step, after}
 use Rattle.wh_machine.proofs.Lawful.{IsLawful}
 use Rattle.wh_machine.proofs.OutcomeLaws.{begun_in, start_before}
 use Rattle.wh_machine.proofs.EventLaws.{lawful}
-use Rattle.wh_machine.proofs.ConsumingLaws.{table_after, offset_passed}
+use Rattle.wh_machine.proofs.ConsumingLaws.{base_table, table_after, offset_passed}
 use Rattle.wh_machine.proofs.ReadLaws.{read_by}
 use Rattle.wh_machine.proofs.StepLaws.{ready, each_event}
 
@@ -124,10 +124,10 @@ table_shown : (objects : List Object) (s : Stream) (to : ℕ) (t : Table) → ta
     → rows_shown objects s to ≡ map (shown_row s.source) (shown t s to)
 table_shown objects s to t at = ap (λ (found : Option Table). rows_on found s to) at
 
--- as long as a transaction holds a standard stream, it reads the same of it, whatever others commit
+-- as long as a transaction holds a standard stream on a table, it reads the same of it, whatever others commit
 pub read_again : (session id : ℕ) (m : Machine) (es : List Event) → SoundMachine m → AreApart m.sessions
     → IsHeldAlong session id m es → (s : Stream) (t : Table) → stream_at m.state.objects id ≡ Some s
-    → s.is_append_only ≡ false → table_at m.state.objects s.source ≡ Some t
+    → s.is_append_only ≡ false → base_at m.state.objects s.source ≡ Some t
     → rows_read (after m es) session id ≡ rows_read m session id
 read_again session id m es sound apart held s t at standard tabled =
     let start : ℕ = start_in m session in
@@ -140,6 +140,8 @@ read_again session id m es sound apart held s t at standard tabled =
     (now.kept start (omega (arith, before))) in
     read_by (after m es) session id s (held_after session id s m es apart held at)
     ∙ ap (λ (to : ℕ). bag_of (rows_shown (after m es).state.objects s to)) (start_after session id m es held)
-    ∙ ap bag_of (table_shown (after m es).state.objects s start now.table now.there
-    ∙ ap (map (shown_row s.source)) same ∙ sym (table_shown m.state.objects s start t tabled))
+    ∙ ap bag_of (table_shown (after m es).state.objects s start now.table
+    (base_table (after m es).state.objects s.source now.table now.there)
+    ∙ ap (map (shown_row s.source)) same ∙ sym (table_shown m.state.objects s start t
+    (base_table m.state.objects s.source t tabled)))
     ∙ sym (read_by m session id s at)

@@ -47,6 +47,7 @@ use Rattle.wh_machine.specs.Consuming.{change_in}
 use Rattle.wh_machine.specs.Definitions.{defines}
 use Rattle.wh_machine.specs.Step.{Event, Command, Tick, step, commanded, text}
 use Rattle.wh_graph.specs.Action.{action}
+use Rattle.wh_moment.specs.Moment.{due_table}
 use Rattle.wh_machine.specs.Ticks.{ticked}
 
 abbrev pub first : Machine
@@ -126,7 +127,7 @@ unknown : text first (asked (insertion (codes "U") ((number 1 ∷ []) ∷ [])) �
     ≡ codes "E6 UnknownName U\nE6 UnknownName U\nE6 UnknownName S\nE1 SyntaxError\nE13 Limit STATEMENT 65536\nIDLE\n"
 unfolding step commanded ddl.bound first_failing carried_out defines create_table drop_table drop_stream table_refusal
     changes_rows transactions.acts_of past_limit staged later_edits seen reading_refusal bound_change typing.step print
-    digits ticked action
+    digits ticked action due_table
 unknown = refl
 
 -- a dropped name is unknown, and free for a new table
@@ -172,13 +173,13 @@ session = (refl, refl, refl)
 last_stamp : (step first (Command 4611686018427387904 65 TooLong) ≡ (first, Refused (OverLimit limits.Stamp)))
     × ((step first (Tick 4611686018427387903)).0.state.last ≡ 4611686018427387903)
     × (text first (Tick 4611686018427387904 ∷ []) ≡ codes "E13 Limit STAMP 4611686018427387904\n")
-unfolding step commanded print digits ticked action
+unfolding step commanded print digits ticked action due_table
 last_stamp = (refl, refl, refl)
 
 -- a stamp is the reading, or the one behind the last
 stamps : ((step first (Tick 0)).0.state.last ≡ 1) × ((step (step first (Tick 7)).0 (Tick 5)).0.state.last ≡ 8)
     × ((step first (Tick 9)).0.state.committed ≡ 0)
-unfolding step ticked action
+unfolding step ticked action due_table
 stamps = (refl, refl, refl)
 
 -- T with one column of numbers, as it is created

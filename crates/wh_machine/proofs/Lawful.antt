@@ -9,7 +9,7 @@ use Rattle.std.specs.List.{AllByRecursion, list_any}
 use Rattle.wh_reply.specs.Reply.{Refusal, Reply}
 use Rattle.wh_reply.specs.Reply.{is_refusal}
 use Rattle.wh_state.specs.State.{State, Stream}
-use Rattle.wh_state.specs.Act.{Act, MovesOffset}
+use Rattle.wh_state.specs.Act.{Act, MovesOffset, RefreshesRows}
 use Rattle.wh_state.specs.Act.{all_acted}
 use Rattle.wh_state.specs.Objects.{stream_at}
 use Rattle.wh_state.proofs.ActLaws.{AreEditsFrom}
@@ -17,7 +17,7 @@ use Rattle.wh_machine.specs.Sessions.{Sessions, number_in}
 use Rattle.wh_machine.specs.Outcome.{Machine, Outcome, Refuses, Does, answers, unless, last_test}
 use Rattle.wh_machine.specs.Outcome.{settled, acts_in}
 use Rattle.wh_machine.specs.Sound.{AreBegun}
-use Rattle.wh_machine.specs.Consuming.{reads, AreApart}
+use Rattle.wh_machine.specs.Consuming.{reads, AreApart, base_at}
 
 -- the sessions that an outcome leaves, where the open transactions of a machine began by its last stamp, and where no
 -- two of them hold one stream
@@ -28,10 +28,11 @@ pub record KeepsSessions (m : Machine) (sessions : Sessions) : Type 0 where
   pub number : (q id : ℕ) → reads m.sessions q id ≡ true → reads sessions q id ≡ true
       → number_in sessions q ≡ number_in m.sessions q
 
--- an offset moves on, to a stamp before the last one
+-- an offset moves on, to a stamp before the last one; and what is refreshed is no base table
 abbrev pub MovesOn : State → Act → Type 0
 MovesOn s (MovesOffset id offset) =
     (offset ≤ s.last - 1) × ((old : Stream) → stream_at s.objects id ≡ Some old → old.offset ≤ offset)
+MovesOn s (RefreshesRows id moment e) = base_at s.objects id ≡ None
 MovesOn s _ = Unit {0}
 
 abbrev pub AllMoveOn : State → List Act → Type 0

@@ -12,16 +12,17 @@ use Rattle.std.proofs.lemmas.Iterator.Adapters.{option_map_id}
 use Rattle.wh_state.specs.State.{Stream, Object, Table, with_offset, dropped, at_id}
 use Rattle.wh_state.specs.State.{put_at, changed_at}
 use Rattle.wh_state.specs.Edits.{Edits}
-use Rattle.wh_state.specs.Act.{on_task_object}
+use Rattle.wh_state.specs.Act.{on_task_object, on_dynamic_object, RefreshesRows}
 use Rattle.wh_state.specs.Act.{DropsObject, EditsRows, MovesOffset, edited_table, edited_object}
 use Rattle.wh_state.specs.Act.{moved_object, acted, all_acted}
 use Rattle.wh_state.specs.Objects.{as_stream, stream_at}
-use Rattle.wh_state.proofs.KindLaws.{stream_of_task}
+use Rattle.wh_state.proofs.KindLaws.{stream_of_task, stream_of_dynamic}
 use Rattle.wh_state.proofs.KindLaws.{stream_of_table, stream_of_stream}
 use Rattle.wh_machine.specs.Offsets.{with_stream, with_streams, offset_move, offset_moves}
 use Rattle.wh_net.specs.Stream.{shown, records_between}
 use Rattle.wh_machine.specs.Transaction.{Staged, edit_act}
 use Rattle.wh_state.specs.Task.{Task}
+use Rattle.wh_state.specs.Dynamic.{Dynamic}
 
 -- ---- what stands at an id
 
@@ -122,10 +123,19 @@ stream_stays f so objects id q =
     either_same true found = option_map_id found
     either_same false found = refl
 
-stream_edited : (stamp id : ℕ) (e : Edits) (objects : List Object) (q : ℕ)
+-- for a moment
+stream_versioned : (stamp moment id : ℕ) (e : Edits) (objects : List Object) (q : ℕ)
+    → stream_at (changed_at objects id (edited_object stamp moment e)) q ≡ stream_at objects q
+stream_versioned stamp moment id e objects q = stream_stays (edited_object stamp moment e)
+    (λ o. stream_of_table (edited_table stamp moment e) o.kind) objects id q
+
+pub stream_edited : (stamp id : ℕ) (e : Edits) (objects : List Object) (q : ℕ)
     → stream_at (acted stamp objects (EditsRows id e)) q ≡ stream_at objects q
-stream_edited stamp id e objects q =
-    stream_stays (edited_object stamp e) (λ o. stream_of_table (edited_table stamp e) o.kind) objects id q
+stream_edited stamp id e objects q = stream_versioned stamp stamp id e objects q
+
+pub stream_refreshed : (stamp id moment : ℕ) (e : Edits) (objects : List Object) (q : ℕ)
+    → stream_at (acted stamp objects (RefreshesRows id moment e)) q ≡ stream_at objects q
+stream_refreshed stamp id moment e objects q = stream_versioned stamp moment id e objects q
 
 stream_moved : (stamp id offset : ℕ) (objects : List Object) (q : ℕ)
     → stream_at (acted stamp objects (MovesOffset id offset)) q
@@ -142,6 +152,10 @@ stream_dropped stamp id objects q = stream_stays dropped (λ o. refl) objects id
 pub stream_tasked : (f : Task → Task) (id : ℕ) (objects : List Object) (q : ℕ)
     → stream_at (changed_at objects id (on_task_object f)) q ≡ stream_at objects q
 stream_tasked f id objects q = stream_stays (on_task_object f) (λ o. stream_of_task f o.kind) objects id q
+
+pub stream_put : (f : Dynamic → Dynamic) (id : ℕ) (objects : List Object) (q : ℕ)
+    → stream_at (changed_at objects id (on_dynamic_object f)) q ≡ stream_at objects q
+stream_put f id objects q = stream_stays (on_dynamic_object f) (λ o. stream_of_dynamic f o.kind) objects id q
 
 get_more : {X : Type 0} (xs : List X) (y x : X) (place : ℕ) → slice_get xs place ≡ Some x
     → slice_get (xs ++ y ∷ []) place ≡ Some x

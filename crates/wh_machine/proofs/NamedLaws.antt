@@ -9,7 +9,7 @@ use Rattle.std.specs.List.{AllByRecursion, prefix_len}
 use Rattle.std.proofs.lemmas.Bool.Decides.{nat_tests}
 use Rattle.std.proofs.lemmas.Slice.Eq.{bytes_eq-Decides}
 use Rattle.wh_naming.specs.Scope.{Named, named}
-use Rattle.wh_state.specs.State.{TaskKind}
+use Rattle.wh_state.specs.State.{TaskKind, DynamicKind}
 use Rattle.wh_state.specs.State.{at_id, put_at, changed_at, columns_in, dropped, id_of, is_named}
 use Rattle.wh_state.specs.State.{TableKind, StreamKind}
 use Rattle.wh_state.specs.Stored.{StoredKind, StoredObject}
@@ -41,6 +41,7 @@ columns_told : (k : StoredKind) → columns_in (kind_meant k) ≡ columns_in k
 columns_told (TableKind t) = refl
 columns_told (StreamKind s) = refl
 columns_told (TaskKind t) = refl
+columns_told (DynamicKind d t) = refl
 
 -- a name that isn't found
 pub none_named : (id : ℕ) (objects : List StoredObject) (name : List ℕ)

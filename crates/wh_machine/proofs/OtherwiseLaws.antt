@@ -108,7 +108,8 @@ pub stays : (m : Machine) (e : Event) (id : ℕ) (s : Stream) → stream_at m.st
     → consumes id m e ≡ false → stream_at (step m e).0.state.objects id ≡ Some s
 stays m e id s at none =
     each_event m e
-    (λ p acts. (not (is_refusal p.1) && event_consumes id (ready m e) e) ≡ false → stream_at p.0.state.objects id ≡ Some s)
+    (λ p acts. (not (is_refusal p.1) && event_consumes id (ready m e) e) ≡ false
+    → stream_at p.0.state.objects id ≡ Some s)
     (by_refusal (is_refusal (settled (ready m e) (decided m e)).1) refl) (λ none. at) none
   where
     by_refusal : (refused : Bool) → is_refusal (settled (ready m e) (decided m e)).1 ≡ refused

@@ -12,7 +12,7 @@ use Rattle.wh_naming.specs.Changes.{BoundChange, Modification}
 use Rattle.wh_naming.specs.Select.{BoundSelect}
 use Rattle.wh_effect.specs.Effect as effects
 use Rattle.wh_effect.specs.Effect.{Effect}
-use Rattle.wh_reply.specs.Reply.{Refusal, Reply, Unsupported}
+use Rattle.wh_reply.specs.Reply.{Refusal, Reply}
 use Rattle.wh_reply.specs.Reply.{NumberOutOfRange, NoTransaction, CreatedTable, DroppedTable, CreatedStream}
 use Rattle.wh_reply.specs.Reply.{DroppedStream, HasData, Begun, RolledBack, Listing}
 use Rattle.wh_reply.specs.Reply.{Locked}
@@ -57,6 +57,10 @@ use Rattle.wh_state.specs.Objects.{task_at}
 use Rattle.wh_machine.specs.Tasks.{create_task, body_of, resume_task, resumed_state, suspend_task, suspended_state}
 use Rattle.wh_machine.specs.Tasks.{execute_task, start_acts, drop_task}
 use Rattle.wh_machine.proofs.TaskActs.{put_is, task_defined}
+use Rattle.wh_reply.specs.Reply.{Altered, DroppedDynamicTable}
+use Rattle.wh_machine.specs.Dynamics.{query_of, asked_refresh, create_dynamic, resume_dynamic, suspend_dynamic}
+use Rattle.wh_machine.specs.Dynamics.{refresh_dynamic, set_lag, drop_dynamic}
+use Rattle.wh_machine.proofs.RefreshLaws.{refresh_acts, created_dynamic, refreshed_dynamic, altered_dynamic}
 
 -- ---- objects that are made and dropped
 
@@ -268,7 +272,8 @@ moved_by m session _ = []
 pub statement : (m : Machine) (session : ℕ) (wrong : Option Refusal) (b : Bound)
     → IsLawful m (moved_by m session b) (carried_out m session wrong b)
 unfolding carried_out begin commit rollback changes_rows selects has_data create_table drop_table create_stream
-    drop_stream create_task resume_task suspend_task execute_task drop_task
+    drop_stream create_task resume_task suspend_task execute_task drop_task create_dynamic resume_dynamic
+    suspend_dynamic refresh_dynamic set_lag drop_dynamic
 statement m session wrong ddl.Begin = tested m _ _ (begun_holds m session)
 statement m session wrong ddl.Commit = commit_holds m session (transaction_in m.sessions session) refl
 statement m session wrong ddl.Rollback = rollback_holds m session (transaction_in m.sessions session)
@@ -298,9 +303,15 @@ statement m session wrong (ddl.ExecuteTask id) = definition m session _ _ (teste
     (task_defined m (Started (name_at m.state.objects id)) (start_acts m.state.objects id) refl (tt, tt)))
 statement m session wrong (ddl.DropTask id) =
     definition m session _ _ (tested m _ _ (dropped m (DroppedTask (name_at m.state.objects id)) id refl))
-statement m session wrong (ddl.CreateDynamicTable n) = refuses m Unsupported
-statement m session wrong (ddl.ResumeDynamicTable id) = refuses m Unsupported
-statement m session wrong (ddl.SuspendDynamicTable id) = refuses m Unsupported
-statement m session wrong (ddl.RefreshDynamicTable id) = refuses m Unsupported
-statement m session wrong (ddl.SetTargetLag id lag) = refuses m Unsupported
-statement m session wrong (ddl.DropDynamicTable id) = refuses m Unsupported
+statement m session wrong (ddl.CreateDynamicTable n) = definition m session _ _ (tested m _ _
+    (created_dynamic m n (query_of n) n.initialize))
+statement m session wrong (ddl.ResumeDynamicTable id) = definition m session _ _ (tested m wrong _
+    (altered_dynamic m (Resumed (name_at m.state.objects id)) id _ refl))
+statement m session wrong (ddl.SuspendDynamicTable id) = definition m session _ _ (tested m wrong _
+    (altered_dynamic m (Suspended (name_at m.state.objects id)) id _ refl))
+statement m session wrong (ddl.RefreshDynamicTable id) = definition m session _ _ (tested m wrong _
+    (refreshed_dynamic m (asked_refresh m.state id) (refresh_acts m.state _ id m.state.last)))
+statement m session wrong (ddl.SetTargetLag id lag) = definition m session _ _ (tested m _ _
+    (altered_dynamic m (Altered (name_at m.state.objects id)) id _ refl))
+statement m session wrong (ddl.DropDynamicTable id) =
+    definition m session _ _ (tested m wrong _ (dropped m (DroppedDynamicTable (name_at m.state.objects id)) id refl))

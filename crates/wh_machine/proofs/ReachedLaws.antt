@@ -12,14 +12,14 @@ use Rattle.wh_grammar.specs.Changing.{IsDml}
 use Rattle.wh_grammar.specs.Spelled.{Request, TooLong, Unreadable, Asked, most_nested}
 use Rattle.wh_meaning.specs.Bag.{Bag}
 use Rattle.wh_meaning.specs.Query.{eval}
-use Rattle.wh_naming.specs.Scope.{TableObject, StreamObject}
+use Rattle.wh_naming.specs.Scope.{TableObject, StreamObject, DynamicTableObject}
 use Rattle.wh_naming.specs.Changes.{bound_change}
 use Rattle.wh_naming.specs.Select.{BoundSelect, bound_select}
 use Rattle.wh_ddl_naming.specs.Meant.{first_failing}
 use Rattle.wh_ddl_naming.specs.Objects.{object_of}
 use Rattle.wh_ddl_naming.specs.Statements as ddl
 use Rattle.wh_ddl_naming.specs.Statements.{Bound}
-use Rattle.wh_reply.specs.Reply.{Refusal, Reply, Unsupported, SyntaxError, NoSuchSession, OverLimit, NumberOutOfRange}
+use Rattle.wh_reply.specs.Reply.{Refusal, Reply, SyntaxError, NoSuchSession, OverLimit, NumberOutOfRange}
 use Rattle.wh_reply.specs.Reply.{NoTransaction, Begun, RolledBack, Listing, HasData}
 use Rattle.wh_meaning.specs.Listing.{listed}
 use Rattle.wh_net.specs.Stream.{rows_shown, has_rows}
@@ -35,6 +35,7 @@ use Rattle.wh_machine.specs.Queries.{listing_of}
 use Rattle.wh_machine.specs.Reading.{instance_read, reading_refusal, asked, has_data, start_in}
 use Rattle.wh_machine.specs.Tables.{drop_table}
 use Rattle.wh_machine.specs.Streams.{drop_stream}
+use Rattle.wh_machine.specs.Dynamics.{drop_dynamic}
 use Rattle.wh_machine.specs.Statements.{begin, commit, commit_of, commit_reply, rollback, rollback_of, changes_rows}
 use Rattle.wh_machine.specs.Statements.{bound_changed, selects, select_refusal, carried_out, carried_out_as, meant_in}
 use Rattle.wh_machine.specs.Step.{Event, Command, Tick, is_session, commanded, outcome_of}
@@ -46,6 +47,9 @@ use Rattle.wh_machine.proofs.TaskWorks.{works_resume, works_suspend, works_drop_
 use Rattle.wh_machine.proofs.StartWorks.{works_execute}
 use Rattle.wh_machine.proofs.TickWorks.{works_tick}
 use Rattle.wh_machine.proofs.TaskMade.{IsFilledTask, works_create_task}
+use Rattle.wh_machine.proofs.DynamicWorks.{works_suspend_dynamic, works_resume_dynamic, works_lag}
+use Rattle.wh_machine.proofs.DynamicWorks.{works_refresh_dynamic}
+use Rattle.wh_machine.proofs.DynamicMade.{IsFilledDynamic, works_create_dynamic}
 use Rattle.wh_machine.proofs.StageLaws.{begun_stands, one_stands, works_changes}
 use Rattle.wh_machine.proofs.ChangeLaws.{change_fits}
 
@@ -55,6 +59,7 @@ abbrev pub IsFilled : Statement → Type 0
 IsFilled (st.CreateTable t) = IsFilledTable t.name (map column_of t.columns)
 IsFilled (st.CreateStream name table is_append_only) = 0 < length name
 IsFilled (st.CreateTask t) = IsFilledTask t
+IsFilled (st.CreateDynamicTable t) = IsFilledDynamic t
 IsFilled (st.Dml x) = (ts : List Token) × IsDml most_nested ts x []
 IsFilled _ = Unit {0}
 
@@ -126,7 +131,7 @@ works_data s m session wrong id reached =
 
 works_statement : (s : Stored) (m : Machine) (session : ℕ) (statement : Statement) → IsFilled statement → IsReached s m
     → Works s m (carried_out_as m session (meant_in m statement))
-unfolding ddl.bound carried_out commit rollback changes_rows drop_table drop_stream
+unfolding ddl.bound carried_out commit rollback changes_rows drop_table drop_stream drop_dynamic
 works_statement s m session (st.Select q sorts) filled reached =
     works_select s m session (bound_select (names_from 1 m.state.objects) q sorts) reached
 works_statement s m session (st.HasData stream) filled reached =
@@ -153,13 +158,18 @@ works_statement s m session (st.CreateTask t) filled reached = works_create_task
 works_statement s m session (st.ResumeTask name) filled reached = works_resume s m session name reached
 works_statement s m session (st.SuspendTask name) filled reached = works_suspend s m session name reached
 works_statement s m session (st.ExecuteTask name) filled reached = works_execute s m session name reached
-works_statement s m session (st.CreateDynamicTable t) filled reached = works_refuses s m Unsupported reached
-works_statement s m session (st.ResumeDynamicTable name) filled reached = works_refuses s m Unsupported reached
-works_statement s m session (st.SuspendDynamicTable name) filled reached = works_refuses s m Unsupported reached
-works_statement s m session (st.RefreshDynamicTable name) filled reached = works_refuses s m Unsupported reached
-works_statement s m session (st.SetTargetLag name lag) filled reached = works_refuses s m Unsupported reached
+works_statement s m session (st.CreateDynamicTable t) filled reached =
+    works_create_dynamic s m session t reached filled
+works_statement s m session (st.ResumeDynamicTable name) filled reached =
+    works_resume_dynamic s m reached session name
+works_statement s m session (st.SuspendDynamicTable name) filled reached =
+    works_suspend_dynamic s m reached session name
+works_statement s m session (st.RefreshDynamicTable name) filled reached =
+    works_refresh_dynamic s m reached session name
+works_statement s m session (st.SetTargetLag name lag) filled reached = works_lag s m reached session name lag
 works_statement s m session (st.DropTask name) filled reached = works_drop_task s m session name reached
-works_statement s m session (st.DropDynamicTable name) filled reached = works_refuses s m Unsupported reached
+works_statement s m session (st.DropDynamicTable name) filled reached =
+    works_drop s m session DynamicTableObject name _ refl reached
 
 works_command : (s : Stored) (m : Machine) (session : ℕ) (request : Request) → IsFilledRequest request → IsReached s m
     → Works s m (commanded m session request)

@@ -12,7 +12,7 @@ use Rattle.wh_meaning.specs.Bag.{bag_of}
 use Rattle.wh_naming.specs.Changes.{Modification}
 use Rattle.wh_effect.specs.Effect.{Effect}
 use Rattle.wh_reply.specs.Reply.{Refusal, Reply, is_refusal}
-use Rattle.wh_state.specs.State.{TaskKind}
+use Rattle.wh_state.specs.State.{TaskKind, DynamicKind}
 use Rattle.wh_state.specs.State.{Kind, TableKind, StreamKind, Object, Stream, at_id, with_offset}
 use Rattle.wh_state.specs.Objects.{stream_at}
 use Rattle.wh_machine.specs.Offsets.{offset_moves, acts_of_commit}
@@ -38,6 +38,7 @@ read_by m session id s at = by_found (at_id m.state.objects id) refl
     by_kind : (o : Object) (k : Kind) → at_id m.state.objects id ≡ Some o → o.kind ≡ k
         → rows_read m session id ≡ bag_of (rows_shown m.state.objects s (start_in m session))
     by_kind o (TableKind t) there is = absurd (no_stream m.state.objects id s at (rw (there, is) refl))
+    by_kind o (DynamicKind d t) there is = absurd (no_stream m.state.objects id s at (rw (there, is) refl))
     by_kind o (TaskKind t) there is = absurd (no_stream m.state.objects id s at (rw (there, is) refl))
     by_kind o (StreamKind r) there is =
         let here : stream_at m.state.objects id ≡ Some r = rw (there, is) refl in

@@ -17,15 +17,16 @@ use Rattle.wh_net.specs.Net.{RowChange, deleted, inserted, net_change, numbers_i
 use Rattle.wh_net.specs.Net.{is_between, appended_from, appended}
 use Rattle.wh_net.specs.Stream.{rows_at, records_between, shown, shown_row, rows_on, rows_shown}
 use Rattle.wh_state.specs.State.{table_in}
-use Rattle.wh_state.specs.State.{TaskKind}
+use Rattle.wh_state.specs.State.{TaskKind, DynamicKind}
 use Rattle.wh_state.specs.State.{Rows, Version, Table, Stream, Object, last_rows}
 use Rattle.wh_state.specs.State.{metadata_columns, at_id}
 use Rattle.wh_state.specs.State.{TableKind, StreamKind, table_in, stream_in, columns_in}
-use Rattle.wh_state.specs.Stored.{StoredKind, StoredObject, Stored}
+use Rattle.wh_state.specs.Stored.{StoredTable, StoredKind, StoredObject, Stored}
 use Rattle.wh_state.specs.Stored.{table_meant, object_meant, kind_meant}
 use Rattle.wh_state.proofs.AllLaws.{all_map, all_append, all_filter, all_at}
 use Rattle.wh_state.proofs.FoundLaws.{FoundAt}
 use Rattle.wh_state.proofs.MeaningLaws.{at_id_meant, table_at_meant}
+use Rattle.wh_state.proofs.AppliesLaws.{IsFirmTable}
 use Rattle.wh_state.proofs.FirmLaws.{IsFirmKind, IsFirmObject, IsSourceOf, HasSource}
 use Rattle.wh_machine.specs.Outcome.{Machine}
 use Rattle.wh_machine.specs.Queries.{table_bag}
@@ -38,7 +39,7 @@ use Rattle.wh_machine.proofs.BagRows.{AllRows, all_bag_of}
 use Rattle.wh_machine.proofs.ValueTypes.{FitsTypes, types_of, row_of_columns, fits_append}
 use Rattle.wh_machine.proofs.SeenRows.{none_seen}
 use Rattle.wh_machine.proofs.SeenRows.{Fit, RowsFitIn, versions_fit, VersionRowsFit, last_fits}
-use Rattle.wh_machine.proofs.SeenRows.{seen_fits}
+use Rattle.wh_machine.proofs.SeenRows.{SeesTable, seen_fits}
 use Rattle.wh_state.specs.Objects.{table_at}
 use Rattle.wh_state.specs.Objects.{as_table}
 
@@ -143,16 +144,21 @@ shown_fits s stream to firm source =
     subst (λ (found : Option Table). AllByRecursion (FitsTypes (types_of stream.columns)) (rows_on found stream to))
     (sym (table_at_meant s.objects stream.source)) (by_found (at_id s.objects stream.source) refl source)
   where
+    of_table : (t : StoredTable) → IsFirmTable t → stream.columns ≡ t.columns ++ metadata_columns
+        → AllByRecursion (FitsTypes (types_of stream.columns)) (rows_on (Some (table_meant t)) stream to)
+    of_table t firm is =
+        subst (λ (columns : List Column). AllByRecursion (FitsTypes (types_of columns))
+        (rows_on (Some (table_meant t)) stream to)) (sym is)
+        (shown_rows_fit t.columns stream.source (shown (table_meant t) stream to)
+        (changes_fit t.columns (table_meant t) stream to (versions_fit t.columns t.versions firm.fits)))
+
     by_kind : (k : StoredKind) → IsFirmKind k
         → IsSomeAnd (table_in k) (λ t. stream.columns ≡ t.columns ++ metadata_columns)
         → AllByRecursion (FitsTypes (types_of stream.columns)) (rows_on (option_map table_meant (table_in k)) stream to)
     by_kind (StreamKind other) firm is = absurd is
     by_kind (TaskKind t) firm is = absurd is
-    by_kind (TableKind t) firm is =
-        subst (λ (columns : List Column). AllByRecursion (FitsTypes (types_of columns))
-        (rows_on (Some (table_meant t)) stream to)) (sym is)
-        (shown_rows_fit t.columns stream.source (shown (table_meant t) stream to)
-        (changes_fit t.columns (table_meant t) stream to (versions_fit t.columns t.versions firm.fits)))
+    by_kind (TableKind t) firm is = of_table t firm is
+    by_kind (DynamicKind d t) firm is = of_table t firm is
 
     by_found : (found : Option StoredObject) → at_id s.objects stream.source ≡ found
         → IsSomeAnd found (IsSourceOf stream)
@@ -182,13 +188,17 @@ read_fits s m session id o reached there =
     now = ap (λ (objects : List Object). at_id objects id) (objects_meant s m reached)
         ∙ at_id_meant s.objects id ∙ ap (option_map object_meant) there
 
+    of_table : (t : StoredTable) → SeesTable m session id t.columns
+        → AllRows (FitsTypes (types_of t.columns)) (table_bag (table_at (objects_seen m session) id))
+    of_table t seen =
+        subst (λ (found : Option Table). AllRows (FitsTypes (types_of t.columns)) (table_bag found)) (sym seen.there)
+        (values_fit t.columns (last_rows seen.table) seen.rows)
+
     by_kind : (k : StoredKind) → o.kind ≡ k
         → AllRows (FitsTypes (types_of (columns_in k)))
         (kind_rows m.state.objects (objects_seen m session) (start_in m session) id (kind_meant k))
-    by_kind (TableKind t) is =
-        let seen = seen_fits s m session id o t reached there is in
-        subst (λ (found : Option Table). AllRows (FitsTypes (types_of t.columns)) (table_bag found)) (sym seen.there)
-        (values_fit t.columns (last_rows seen.table) seen.rows)
+    by_kind (TableKind t) is = of_table t (seen_fits s m session id o t reached there (ap table_in is))
+    by_kind (DynamicKind d t) is = of_table t (seen_fits s m session id o t reached there (ap table_in is))
     by_kind (TaskKind task) is =
         let none : table_at (objects_seen m session) id ≡ None =
         none_seen m session id (object_meant o) now (ap (λ k. table_in (kind_meant k)) is) in

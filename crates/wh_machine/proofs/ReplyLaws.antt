@@ -13,7 +13,8 @@ use Rattle.wh_reply.specs.Reply.{Reply, CreatedTable, DroppedTable, CreatedStrea
 use Rattle.wh_reply.specs.Reply.{DroppedTask, Resumed, Suspended, Started, TaskSucceeded, TaskSkipped, TaskFailed}
 use Rattle.wh_reply.specs.Reply.{HasData, Changed, Begun, Committed, CommittedNothing, RolledBack, Listing, Idle}
 use Rattle.wh_reply.specs.Reply.{Refused, line, parted, row_line, refusal_text, counts_text, truth_text, print}
-use Rattle.wh_reply.specs.Reply.{aftermath_lines}
+use Rattle.wh_reply.specs.Reply.{aftermath_lines, CreatedDynamicTable, DroppedDynamicTable, Altered, RefreshedTables}
+use Rattle.wh_reply.specs.Reply.{RefreshFailed, refreshed_line, suspended_text}
 use Rattle.wh_machine.specs.Outcome.{Machine}
 use Rattle.wh_machine.specs.Step.{Event, step, after, text, refusals}
 use Rattle.wh_machine.specs.Stop.{whole_replies}
@@ -34,6 +35,14 @@ lines_some bytes more = begins_some (line bytes) more (line_some bytes)
 -- a reply is never empty
 pub print_some : (r : Reply) → 0 < length (print r)
 unfolding print
+print_some (CreatedDynamicTable name refreshed) =
+    lines_some (codes "CREATED DYNAMIC TABLE " ++ name) (flat_map refreshed_line refreshed)
+print_some (DroppedDynamicTable name) = line_some (codes "DROPPED DYNAMIC TABLE " ++ name)
+print_some (Altered name) = line_some (codes "ALTERED " ++ name)
+print_some (RefreshedTables []) = line_some (codes "IDLE")
+print_some (RefreshedTables (r ∷ rs)) = begins_some (refreshed_line r) (flat_map refreshed_line rs) (line_some _)
+print_some (RefreshFailed name target why is_suspended) = line_some
+    (name ++ codes " FAILED " ++ decimal target ++ codes " " ++ refusal_text why ++ suspended_text is_suspended)
 print_some (CreatedTable name) = line_some (codes "CREATED TABLE " ++ name)
 print_some (DroppedTable name) = line_some (codes "DROPPED TABLE " ++ name)
 print_some (CreatedStream name) = line_some (codes "CREATED STREAM " ++ name)

@@ -3,12 +3,8 @@
 --     others_stay       every other tick leaves each stream as it was: a condition moves none, and neither does a
 --                       statement that fails
 use Rattle.std.proofs.Common.{◌≡◌, ℕ, true, false, List, [], map, Option, Some, None, refl, sym, ap, ◌∙◌}
-use Rattle.std.specs.Prelude.{nat_eq}
-use Rattle.std.specs.List.{list_any}
 use Rattle.wh_ast.specs.declared.dml.Dml.{Dml}
 use Rattle.wh_meaning.specs.Bag.{bag_of}
-use Rattle.wh_effect.specs.Effect.{Effect}
-use Rattle.wh_naming.specs.Changes.{Modification}
 use Rattle.wh_reply.specs.Reply.{Refusal, is_refusal}
 use Rattle.wh_net.specs.Stream.{shown_row}
 use Rattle.wh_graph.specs.Action.{Action, RunsTask, StartsRun, DoesNothing}
@@ -23,11 +19,18 @@ use Rattle.wh_machine.specs.Outcome.{Machine, Outcome, Refuses, Does, unless, se
 use Rattle.wh_machine.specs.Reading.{start_in, rows_read}
 use Rattle.wh_machine.specs.Statements.{bound_changed, changes_in}
 use Rattle.wh_machine.specs.Ticks as ticks
-use Rattle.wh_machine.specs.Ticks.{Verdict, Holds, HoldsNot, verdict, body_bound, carried_in, runs_by, runs_task, run_task}
-use Rattle.wh_machine.specs.Ticks.{scheduled_acts, starts_run, does_action, action_at, ticked}
-use Rattle.wh_machine.specs.Consuming.{consumed, change_reads, task_reads, action_consumes, event_consumes, has_succeeded}
+use Rattle.wh_machine.specs.Ticks.{Verdict, Holds, HoldsNot, verdict, body_bound, carried_in, runs_by, runs_task}
+use Rattle.wh_machine.specs.Ticks.{run_task}
+use Rattle.wh_machine.specs.Ticks.{scheduled_acts, starts_run, refreshes, does_action, action_at, ticked}
+use Rattle.wh_machine.specs.Dynamics.{scheduled}
+use Rattle.wh_moment.specs.Upstream.{dynamics_of}
+use Rattle.wh_moment.specs.Moment.{due_table}
+use Rattle.wh_machine.specs.Consuming.{consumed, change_reads, task_reads, action_consumes, event_consumes}
+use Rattle.wh_machine.specs.Consuming.{has_succeeded}
 use Rattle.wh_machine.specs.Step.{Event, Tick, step}
 use Rattle.wh_machine.proofs.MoveLaws.{read_to}
+use Rattle.wh_machine.proofs.Lawful.{IsLawful}
+use Rattle.wh_machine.proofs.RefreshLaws.{scheduled_dynamic}
 use Rattle.wh_machine.proofs.ReadLaws.{read_by, change_moves}
 use Rattle.wh_machine.proofs.StepLaws.{ready, each_event}
 use Rattle.wh_machine.proofs.TaskActs.{spares_tasks, ends_spare}
@@ -57,11 +60,26 @@ task_stays m root task id s (Some r) None at otherwise = at
 task_stays m root task id s (Some r) (Some t) at otherwise =
     runs_stay m root r task id s t.runs.body (verdict m t.runs.when) at otherwise
 
+-- what is lawful and moves none
+unmoved_stays : (m : Machine) (id : ℕ) (s : Stream) (o : Outcome) → IsLawful m [] o
+    → stream_at m.state.objects id ≡ Some s
+    → stream_at (settled m o).0.state.objects id ≡ Some s
+unmoved_stays m id s (Refuses why) holds at = at
+unmoved_stays m id s (Does reply sessions None) holds at = at
+unmoved_stays m id s (Does reply sessions (Some acts)) holds at = holds.acts.stays id s at refl
+
 start_stays : (m : Machine) (root id : ℕ) (s : Stream) (found : Option Task) → stream_at m.state.objects id ≡ Some s
     → stream_at (settled m (starts_run m root found)).0.state.objects id ≡ Some s
 start_stays m root id s None at = at
 start_stays m root id s (Some r) at =
     spares_tasks m (scheduled_acts m.state.objects m.state.last root r.state) (tt, (tt, tt)) id s at
+
+-- a refresh moves none
+due_stays : (m : Machine) (id : ℕ) (s : Stream) (due : Option (ℕ × ℕ)) → stream_at m.state.objects id ≡ Some s
+    → stream_at (settled m (refreshes m due)).0.state.objects id ≡ Some s
+due_stays m id s None at = at
+due_stays m id s (Some due) at =
+    unmoved_stays m id s (scheduled m due.0 due.1) (scheduled_dynamic m due.0 due.1) at
 
 action_stays : (m : Machine) (id : ℕ) (s : Stream) (a : Action) → stream_at m.state.objects id ≡ Some s
     → has_succeeded (settled m (does_action m a)).1 ≡ false
@@ -70,7 +88,8 @@ unfolding run_task
 action_stays m id s (RunsTask root task) at otherwise =
     task_stays m root task id s (task_at m.state.objects root) (task_at m.state.objects task) at otherwise
 action_stays m id s (StartsRun root) at otherwise = start_stays m root id s (task_at m.state.objects root) at
-action_stays m id s DoesNothing at otherwise = at
+action_stays m id s DoesNothing at otherwise =
+    due_stays m id s (due_table (dynamics_of m.state.objects) m.state.last) at
 
 pub others_stay : (reading id : ℕ) (m : Machine) (s : Stream) → stream_at m.state.objects id ≡ Some s
     → has_succeeded (step m (Tick reading)).1 ≡ false

@@ -15,12 +15,12 @@ use Rattle.wh_value.specs.Value.{Row}
 use Rattle.wh_value.specs.Column.{Column}
 use Rattle.wh_value.specs.Fits.{row_fits}
 use Rattle.wh_frame.specs.Partition.{Partition, numbered}
-use Rattle.wh_state.specs.State.{Kind, StreamKind, TaskKind}
+use Rattle.wh_state.specs.State.{Kind, StreamKind, TaskKind, DynamicKind}
 use Rattle.wh_state.specs.State.{Rows, Version, Table, TableKind, Object, at_id}
 use Rattle.wh_state.specs.State.{last_of, content_in, last_rows, nothing_held, version_at}
 use Rattle.wh_state.specs.State.{table_in}
 use Rattle.wh_state.specs.Objects.{table_at, as_table}
-use Rattle.wh_state.specs.Edits.{Edits, edited, rows_after}
+use Rattle.wh_state.specs.Edits.{Edits, no_edits, edited, rows_after}
 use Rattle.wh_state.specs.Act.{edited_kind}
 use Rattle.wh_state.specs.Act.{edited_table, next_contents}
 use Rattle.wh_state.specs.Stored.{StoredVersion, StoredTable, StoredKind, StoredObject, Stored}
@@ -93,7 +93,7 @@ after_fits columns next e rows fit before =
     (entries_hold (λ q x. Fit columns x) rows before)) (numbered_all columns next e.added fit.added)) q x is)
 
 edited_fits : (columns : List Column) (stamp : ℕ) (e : Edits) (t : Table) → EditsFit columns e
-    → RowsFitIn columns (last_rows t) → RowsFitIn columns (last_rows (edited_table stamp e t))
+    → RowsFitIn columns (last_rows t) → RowsFitIn columns (last_rows (edited_table stamp stamp e t))
 unfolding edited_table
 edited_fits columns stamp e t fit before =
     subst (λ (found : Option Version). RowsFitIn columns (content_in nothing_held found).rows)
@@ -123,35 +123,49 @@ firm_rows : (t : StoredTable) → IsFirmTable t → RowsFitIn t.columns (last_ro
 firm_rows t firm = last_fits t.columns (map version_meant t.versions) (versions_fit t.columns t.versions firm.fits)
 
 pub seen_fits : (s : Stored) (m : Machine) (session id : ℕ) (o : StoredObject) (t : StoredTable) → IsReached s m
-    → at_id s.objects id ≡ Some o → o.kind ≡ TableKind t → SeesTable m session id t.columns
+    → at_id s.objects id ≡ Some o → table_in o.kind ≡ Some t → SeesTable m session id t.columns
 unfolding seen
 seen_fits s m session id o t reached there is =
     by_transaction (transaction_in m.sessions session) refl (one_stands s.objects m.sessions session reached.stand)
   where
     firm : IsFirmTable t
-    firm = subst (λ (k : StoredKind). IfSome (table_in k) IsFirmTable) is
+    firm = subst (λ (found : Option StoredTable). IfSome found IsFirmTable) is
         (all_at IsFirmObject s.objects id o reached.firm.tables there)
 
     now : at_id m.state.objects id ≡ Some (object_meant o)
     now = ap (λ (objects : List Object). at_id objects id) (objects_meant s m reached)
         ∙ at_id_meant s.objects id ∙ ap (option_map object_meant) there
 
-    kind_now : (object_meant o).kind ≡ TableKind (table_meant t)
-    kind_now = ap kind_meant is
+    own_of : (k : StoredKind) (stamp : ℕ) (e : Edits) → table_in k ≡ Some t
+        → (table_in (kind_meant k) ≡ Some (table_meant t))
+        × (table_in (edited_kind stamp stamp e (kind_meant k)) ≡ Some (edited_table stamp stamp e (table_meant t)))
+    own_of (TableKind u) stamp e is = let same : u ≡ t = cc in (
+      ap (λ (t : StoredTable). Some (table_meant t)) same,
+      ap (λ (t : StoredTable). Some (edited_table stamp stamp e (table_meant t))) same,
+    )
+    own_of (StreamKind s) stamp e is = absurd cc
+    own_of (TaskKind t) stamp e is = absurd cc
+    own_of (DynamicKind d u) stamp e is = let same : u ≡ t = cc in (
+      ap (λ (t : StoredTable). Some (table_meant t)) same,
+      ap (λ (t : StoredTable). Some (edited_table stamp stamp e (table_meant t))) same,
+    )
 
     by_staged : (stamp : ℕ) (found : Option Staged)
         → ((st : Staged) → found ≡ Some st → EditsFit t.columns st.edits)
         → (u : Table) × ((as_table (with_own stamp found (object_meant o)) ≡ Some u)
         × RowsFitIn t.columns (last_rows u))
-    by_staged stamp None fit = (table_meant t, (rw kind_now refl, firm_rows t firm))
+    by_staged stamp None fit = (table_meant t, ((own_of o.kind stamp no_edits is).0, firm_rows t firm))
     by_staged stamp (Some st) fit = (
-      edited_table stamp st.edits (table_meant t),
-      (rw kind_now refl, edited_fits t.columns stamp st.edits (table_meant t) (fit st refl) (firm_rows t firm)),
+      edited_table stamp stamp st.edits (table_meant t),
+      (
+        (own_of o.kind stamp st.edits is).1,
+        edited_fits t.columns stamp st.edits (table_meant t) (fit st refl) (firm_rows t firm),
+      ),
     )
 
     holds : (e : Edits) → FoundAt (HoldsEdits e) s.objects id → EditsFit t.columns e
     holds e h =
-        subst (λ (k : StoredKind). IsSomeAnd (table_in k) (λ t. EditsFit t.columns e)) is
+        subst (λ (found : Option StoredTable). IsSomeAnd found (λ t. EditsFit t.columns e)) is
         (subst (λ (found : Option StoredObject). IsSomeAnd found (HoldsEdits e)) there h).1
 
     by_transaction : (found : Option Transaction) → transaction_in m.sessions session ≡ found → StandsOn s.objects found
@@ -180,10 +194,11 @@ pub none_seen : (m : Machine) (session id : ℕ) (o : Object) → at_id m.state.
 unfolding seen
 none_seen m session id o there none = by_transaction (transaction_in m.sessions session) refl
   where
-    by_kind : (stamp : ℕ) (e : Edits) (k : Kind) → table_in k ≡ None → table_in (edited_kind stamp e k) ≡ None
+    by_kind : (stamp : ℕ) (e : Edits) (k : Kind) → table_in k ≡ None → table_in (edited_kind stamp stamp e k) ≡ None
     by_kind stamp e (TableKind t) none = absurd cc
     by_kind stamp e (StreamKind s) none = refl
     by_kind stamp e (TaskKind t) none = refl
+    by_kind stamp e (DynamicKind d t) none = absurd cc
 
     by_staged : (stamp : ℕ) (found : Option Staged) → as_table (with_own stamp found o) ≡ None
     by_staged stamp None = none

@@ -18,7 +18,7 @@ use Rattle.wh_value.specs.Fits.{row_fits}
 use Rattle.wh_frame.specs.Partition.{numbered}
 use Rattle.wh_naming.specs.Changes.{Modification}
 use Rattle.wh_effect.specs.Effect.{Effect}
-use Rattle.wh_state.specs.State.{TaskKind}
+use Rattle.wh_state.specs.State.{TaskKind, DynamicKind}
 use Rattle.wh_state.specs.State.{at_id}
 use Rattle.wh_state.specs.State.{TableKind, StreamKind, table_in}
 use Rattle.wh_state.specs.Objects.{table_at}
@@ -168,6 +168,8 @@ staged_fits objects t id next e stands holds = by_staged (get t.tables id) refl
         later_fit t.columns next old (edits_of e) before (effect_fit t.columns e fits)
     with_kind (StreamKind s) old before fits = absurd before
     with_kind (TaskKind t) old before fits = absurd before
+    with_kind (DynamicKind d t) old before fits =
+        later_fit t.columns next old (edits_of e) before (effect_fit t.columns e fits)
 
     with_found : (found : Option StoredObject) (old : Edits) → IsSomeAnd found (HoldsEdits old)
         → IsSomeAnd found (HoldsEffect e) → IsSomeAnd found (HoldsEdits (later_edits next old (edits_of e)))
@@ -179,6 +181,7 @@ staged_fits objects t id next e stands holds = by_staged (get t.tables id) refl
     untouched_kind (TableKind t) fits = no_edits_fit t.columns
     untouched_kind (StreamKind s) fits = absurd fits
     untouched_kind (TaskKind t) fits = absurd fits
+    untouched_kind (DynamicKind d t) fits = no_edits_fit t.columns
 
     untouched_found : (found : Option StoredObject) → IsSomeAnd found (HoldsEffect e) →
         IsSomeAnd found (HoldsEdits no_edits)

@@ -15,24 +15,24 @@ use Rattle.std.proofs.lemmas.Bool.Decides.{nat_tests}
 use Rattle.wh_value.specs.Limit.{bound}
 use Rattle.wh_value.specs.declared.limit.Limit.{Limit}
 use Rattle.wh_value.specs.declared.limit.Limit.TheVariants as limits
-use Rattle.wh_state.specs.State.{TaskKind}
-use Rattle.wh_state.specs.State.{Stream, Object, at_id, last_of}
+use Rattle.wh_state.specs.State.{TaskKind, DynamicKind}
+use Rattle.wh_state.specs.State.{Version, Stream, Object, at_id, last_of}
 use Rattle.wh_state.specs.State.{TableKind, StreamKind, table_in, stream_in}
 use Rattle.wh_state.specs.Objects.{stream_at, table_at}
 use Rattle.wh_state.specs.Objects.{as_table, as_stream}
 use Rattle.wh_state.specs.Edits.{Edits, partitions_made}
 use Rattle.wh_state.specs.Act.{MovesOffset}
-use Rattle.wh_state.specs.Stored.{StoredVersion, StoredKind, StoredObject}
+use Rattle.wh_state.specs.Stored.{StoredVersion, StoredTable, StoredKind, StoredObject}
 use Rattle.wh_state.specs.Stored.{standing, object_meant, kind_meant}
 use Rattle.wh_state.specs.Stored.{table_meant, version_meant}
 use Rattle.wh_state.specs.Commit.{VersionChange, Change, pushed_kind, offset_set_kind}
 use Rattle.wh_state.specs.Commit.{all_changed, DoesNotFall}
-use Rattle.wh_state.specs.Sound.{IsTimely, IsSoundObject, IsSoundKind}
-use Rattle.wh_state.proofs.AllLaws.{all_both, all_append, all_at, all_filter}
+use Rattle.wh_state.specs.Sound.{IsTimely, IsTimelyFor, IsBelow, IsSoundObject, IsSoundKind}
+use Rattle.wh_state.proofs.AllLaws.{all_map, all_both, all_append, all_at, all_filter}
 use Rattle.wh_state.proofs.FoundLaws.{FoundAt}
 use Rattle.wh_state.proofs.MeaningLaws.{at_id_meant, table_at_meant, stream_at_meant, last_partitions_meant}
 use Rattle.wh_state.proofs.AppliesLaws.{EditsFit}
-use Rattle.wh_state.proofs.BelowLaws.{below_next}
+use Rattle.wh_state.proofs.BelowLaws.{rows_below}
 use Rattle.wh_state.proofs.WrittenLaws.{EditsApply, EditStands, TakesMove, ActStands, AllStand}
 use Rattle.wh_state.proofs.WrittenLaws.{KeptByCommits, ChangeSpares, found_through}
 use Rattle.wh_machine.specs.Offsets.{offset_move, offset_moves}
@@ -41,7 +41,7 @@ use Rattle.wh_machine.specs.Transaction.{next_partition_of, partition_past, firs
 use Rattle.wh_machine.specs.Transaction.{or_else}
 use Rattle.wh_machine.specs.Sessions.{Sessions}
 use Rattle.wh_machine.proofs.GotLaws.{entries_hold}
-use Rattle.wh_state.proofs.KindLaws.{task_keeps}
+use Rattle.wh_state.proofs.KindLaws.{task_keeps, dynamic_keeps}
 
 -- ---- what a transaction holds
 
@@ -70,6 +70,10 @@ edits_kept e = record {
   sets =
       λ offset o h. (h.0, moved o.kind offset h.1);
   tasks = λ f o h. (h.0, task_keeps (λ k. IsSomeAnd (table_in k) (λ t. EditsFit t.columns e)) f (λ t h. h) o.kind h.1);
+  dynamics = λ f o h. (
+    h.0,
+    dynamic_keeps (λ k. IsSomeAnd (table_in k) (λ t. EditsFit t.columns e)) f (λ d t h. h) o.kind h.1,
+  );
 }
   where
     pushed : (k : StoredKind) (stamp : ℕ) (c : VersionChange)
@@ -78,12 +82,14 @@ edits_kept e = record {
     pushed (TableKind t) stamp c h = record { rows = h.rows; added = h.added }
     pushed (StreamKind s) stamp c h = absurd h
     pushed (TaskKind t) stamp c h = absurd h
+    pushed (DynamicKind d t) stamp c h = record { rows = h.rows; added = h.added }
 
     moved : (k : StoredKind) (offset : ℕ) → IsSomeAnd (table_in k) (λ t. EditsFit t.columns e)
         → IsSomeAnd (table_in (offset_set_kind offset k)) (λ t. EditsFit t.columns e)
     moved (TableKind t) offset h = h
     moved (StreamKind s) offset h = absurd h
     moved (TaskKind t) offset h = absurd h
+    moved (DynamicKind d t) offset h = h
 
 pub streams_kept : KeptByCommits IsLiveStream
 streams_kept = record {
@@ -91,6 +97,10 @@ streams_kept = record {
   sets =
       λ offset o h. (h.0, moved o.kind offset h.1);
   tasks = λ f o h. (h.0, task_keeps (λ k. IsSomeAnd (stream_in k) (λ s. Unit {0})) f (λ t h. h) o.kind h.1);
+  dynamics = λ f o h. (
+    h.0,
+    dynamic_keeps (λ k. IsSomeAnd (stream_in k) (λ s. Unit {0})) f (λ d t h. h) o.kind h.1,
+  );
 }
   where
     pushed : (k : StoredKind) (stamp : ℕ) (c : VersionChange) → IsSomeAnd (stream_in k) (λ s. Unit {0})
@@ -98,12 +108,14 @@ streams_kept = record {
     pushed (TableKind t) stamp c h = absurd h
     pushed (StreamKind s) stamp c h = tt
     pushed (TaskKind t) stamp c h = absurd h
+    pushed (DynamicKind d t) stamp c h = absurd h
 
     moved : (k : StoredKind) (offset : ℕ) → IsSomeAnd (stream_in k) (λ s. Unit {0})
         → IsSomeAnd (stream_in (offset_set_kind offset k)) (λ s. Unit {0})
     moved (TableKind t) offset h = absurd h
     moved (StreamKind s) offset h = tt
     moved (TaskKind t) offset h = absurd h
+    moved (DynamicKind d t) offset h = absurd h
 
 -- what a transaction holds is not dropped
 pub record SparesHeld (cs : List Change) (t : Transaction) : Type 0 where
@@ -172,15 +184,19 @@ not_less : (a b : ℕ) → nat_lt a b ≡ false → b ≤ a
 not_less a b test = grind (arith, nat_tests)
 
 -- a version that means one of a sound table isn't later than the last commit
-not_later : (committed stamp : ℕ) → committed ≤ stamp → (versions : List StoredVersion)
-    → AllByRecursion (IsTimely committed) (map version_meant versions) → DoesNotFall (last_of versions) stamp
-not_later committed stamp h [] timely = tt
-not_later committed stamp h (v ∷ []) timely = omega (arith, timely.0.stamp, timely.0.data_timestamp)
-not_later committed stamp h (v ∷ w ∷ vs) timely = not_later committed stamp h (w ∷ vs) timely.1
+abbrev IsBefore : ℕ → Version → Type 0
+IsBefore stamp v = v.data_timestamp ≤ stamp
+
+not_later : (stamp : ℕ) (versions : List StoredVersion)
+    → AllByRecursion (IsBefore stamp) (map version_meant versions) → DoesNotFall (last_of versions) stamp
+not_later stamp [] before = tt
+not_later stamp (v ∷ []) before = before.0
+not_later stamp (v ∷ w ∷ vs) before = not_later stamp (w ∷ vs) before.1
 
 -- over a sound state
 edit_stands : (committed stamp : ℕ) → committed ≤ stamp → (objects : List StoredObject)
-    → AllByRecursion (IsSoundObject committed) (map object_meant objects) → (entry : ℕ × Staged)
+    → AllByRecursion (IsSoundObject committed (map object_meant objects)) (map object_meant objects)
+    → (entry : ℕ × Staged)
     → IsWithinLimits (map object_meant objects) entry → FoundAt (HoldsEdits entry.1.edits) objects entry.0
     → FoundAt (EditStands stamp entry.1.edits) objects entry.0
 edit_stands committed stamp h objects sound entry within holds =
@@ -189,12 +205,10 @@ edit_stands committed stamp h objects sound entry within holds =
     e : Edits
     e = entry.1.edits
 
-    by_kind : (k : StoredKind) → IsSoundKind committed (kind_meant k)
-        → table_at (map object_meant objects) entry.0 ≡ option_map table_meant (table_in k)
-        → IsSomeAnd (table_in k) (λ t. EditsFit t.columns e) → IsSomeAnd (table_in k) (EditsApply stamp e)
-    by_kind (StreamKind s) sound at fits = absurd fits
-    by_kind (TaskKind t) sound at fits = absurd fits
-    by_kind (TableKind t) sound at fits =
+    of_table : (t : StoredTable) → table_at (map object_meant objects) entry.0 ≡ Some (table_meant t)
+        → AllByRecursion (IsBelow t.next_row) (map version_meant t.versions)
+        → AllByRecursion (IsBefore stamp) (map version_meant t.versions) → EditsFit t.columns e → EditsApply stamp e t
+    of_table t at below before fits =
         let rows : nat_lt (bound limits.RowNumber) (next_row_of (Some (table_meant t)) + length e.added) ≡ false =
         ap (λ found. nat_lt (bound limits.RowNumber) (next_row_of found + length e.added)) (sym at) ∙ within.rows in
         let partitions : nat_lt (bound limits.PartitionNumber) (next_partition_of e (Some (table_meant t))) ≡ false =
@@ -205,19 +219,33 @@ edit_stands committed stamp h objects sound entry within holds =
         (t.next_partition + length (partitions_made t.next_partition t.next_row e ps))) (sym (last_partitions_meant t))
         ∙ partitions in
         record {
-          below = below_next committed t sound;
+          below = rows_below t below;
           fit = fits;
-          later = not_later committed stamp h t.versions sound.timely;
+          later = not_later stamp t.versions before;
           few = not_less (bound limits.RowNumber) _ rows;
           few_partitions = not_less (bound limits.PartitionNumber) _ made;
         }
+
+    by_kind : (k : StoredKind) → IsSoundKind committed (map object_meant objects) (kind_meant k)
+        → table_at (map object_meant objects) entry.0 ≡ option_map table_meant (table_in k)
+        → IsSomeAnd (table_in k) (λ t. EditsFit t.columns e) → IsSomeAnd (table_in k) (EditsApply stamp e)
+    by_kind (StreamKind s) sound at fits = absurd fits
+    by_kind (TaskKind t) sound at fits = absurd fits
+    by_kind (TableKind t) sound at fits = of_table t at sound.below
+        (all_map (IsTimely committed) (IsBefore stamp) (λ v timely. omega (arith, timely.stamp, timely.data_timestamp))
+        (map version_meant t.versions) sound.timely) fits
+    by_kind (DynamicKind d t) sound at fits = of_table t at sound.below
+        (all_map (IsTimelyFor committed d.state.moment) (IsBefore stamp)
+        (λ v timely. omega (arith, timely.data_timestamp, sound.moment)) (map version_meant t.versions) sound.timely)
+        fits
 
     by_found : (found : Option StoredObject) → at_id objects entry.0 ≡ found → IsSomeAnd found (HoldsEdits e)
         → IsSomeAnd found (EditStands stamp e)
     by_found None none holds = absurd holds
     by_found (Some o) there holds = (
       holds.0,
-      by_kind o.kind (all_at (IsSoundObject committed) (map object_meant objects) entry.0 (object_meant o) sound
+      by_kind o.kind (all_at (IsSoundObject committed (map object_meant objects)) (map object_meant objects) entry.0
+          (object_meant o) sound
           (at_id_meant objects entry.0 ∙ ap (option_map object_meant) there))
           (table_at_meant objects entry.0 ∙ ap (λ found. option_map table_meant (option_and_then as_table found))
           there) holds.1,
@@ -244,6 +272,7 @@ moves_of_one stamp start objects id live =
         → AllStand stamp start objects (offset_move start id (stream_in k))
     by_kind o (TableKind t) live is there = absurd is
     by_kind o (TaskKind t) live is there = absurd is
+    by_kind o (DynamicKind d t) live is there = absurd is
     by_kind o (StreamKind s) live is there = by_test o s (nat_lt s.offset start) refl live there
 
     by_found : (found : Option StoredObject) → at_id objects id ≡ found → IsSomeAnd found IsLiveStream
@@ -270,7 +299,7 @@ edits_stand stamp start objects (entry ∷ others) stand = (stand.0, edits_stand
 
 -- edits and then moves, of a transaction that stands and that no limit refuses
 pub commit_stands : (committed stamp : ℕ) → committed ≤ stamp → (objects : List StoredObject) (t : Transaction)
-    → AllByRecursion (IsSoundObject committed) (map object_meant objects)
+    → AllByRecursion (IsSoundObject committed (map object_meant objects)) (map object_meant objects)
     → commit_refusal (map object_meant objects) t ≡ None → TransactionStands objects t
     → AllStand stamp (start_of t) objects
     (map edit_act (touched t) ++ offset_moves (map object_meant objects) (start_of t) t.streams)

@@ -17,7 +17,8 @@ use Rattle.wh_ddl_naming.specs.Objects.{TaskRoot, root_of, is_root, is_task_of, 
 use Rattle.wh_ddl_naming.specs.Tasks.{root_task}
 use Rattle.wh_reply.specs.Reply.{Reply, Started}
 use Rattle.wh_state.specs.Task.{TaskState, Task, most_failures, with_state}
-use Rattle.wh_state.specs.State.{Object, TableKind, StreamKind, TaskKind, task_in, at_id, changed_at, on_task}
+use Rattle.wh_state.specs.State.{Object, TableKind, StreamKind, TaskKind, DynamicKind, task_in, at_id, changed_at}
+use Rattle.wh_state.specs.State.{on_task}
 use Rattle.wh_state.specs.Objects.{name_at}
 use Rattle.wh_state.specs.Stored.{StoredKind, StoredObject, Stored, object_meant, kind_meant}
 use Rattle.wh_state.specs.Edits.{is_among}
@@ -343,6 +344,7 @@ state_spares P state keeps o h = (h.0, by_kind o.kind h.1)
     by_kind (TableKind t) h = absurd h
     by_kind (StreamKind s) h = absurd h
     by_kind (TaskKind t) h = keeps t h
+    by_kind (DynamicKind d t) h = absurd h
 
 pub works_scheduled : (s : Stored) (m : Machine) (reply : Reply) (root : ℕ) → IsReached s m
     → (r : IsTaskAt s.objects root)

@@ -12,10 +12,11 @@ use Rattle.wh_reply.specs.Reply.{Reply, is_refusal}
 use Rattle.wh_state.specs.Task.{Ending, Skipped, TaskState, Task, Run}
 use Rattle.wh_state.specs.State.{Object, Stream}
 use Rattle.wh_state.specs.Act.{Act, MakesTable, DropsObject, EditsRows, MakesStream, MovesOffset, MakesTask, PutsTask}
-use Rattle.wh_state.specs.Act.{BeginsRun, EndsTask, acted, all_acted}
+use Rattle.wh_state.specs.Act.{BeginsRun, EndsTask, MakesDynamic, PutsDynamic, RefreshesRows, acted, all_acted}
 use Rattle.wh_state.specs.Objects.{stream_at}
 use Rattle.wh_state.proofs.AllLaws.{all_map, all_append}
-use Rattle.wh_state.proofs.ActLaws.{IsNoEdit, AreNoEdits, AreEditsFrom, no_more_edits, next_edit}
+use Rattle.wh_state.proofs.ActLaws.{AreNoEdits, AreEditsFrom, no_more_edits, other_act, next_edit, next_refresh}
+use Rattle.wh_state.proofs.ActLaws.{no_edits_from}
 use Rattle.wh_graph.specs.Graph.{is_under_way, has_failed, skipped_behind, run_behind}
 use Rattle.wh_graph.specs.Root.{state_behind}
 use Rattle.wh_machine.specs.Outcome.{Machine, commits}
@@ -23,7 +24,7 @@ use Rattle.wh_machine.specs.Tasks.{live_tasks, put_to, is_same_state}
 use Rattle.wh_machine.specs.Ticks.{count_acts, graph_acts, end_acts, ends_as}
 use Rattle.wh_machine.proofs.Lawful.{MovesOn, MovesFree, IsCommitOf, IsLawful, same_sessions}
 use Rattle.wh_machine.proofs.Lawful.{does}
-use Rattle.wh_machine.proofs.CommitLaws.{Defines, defines_only, spares_all, defined}
+use Rattle.wh_machine.proofs.CommitLaws.{Defines, all_no_edits, all_move_none, defines_move_on, spares_all, defined}
 
 -- ---- acts that change tasks alone
 
@@ -43,6 +44,9 @@ define (EditsRows id e) is = absurd is
 define (MakesStream name source is_append_only) is = absurd is
 define (MovesOffset id offset) is = absurd is
 define (MakesTask name minutes after runs) is = absurd is
+define (MakesDynamic name lag is_incremental query columns) is = absurd is
+define (PutsDynamic id state) is = absurd is
+define (RefreshesRows id moment e) is = absurd is
 
 all_define : (acts : List Act) → AllByRecursion IsOfTasks acts → AllByRecursion Defines acts
 all_define acts are = all_map IsOfTasks Defines define acts are
@@ -95,11 +99,15 @@ end_is objects root r task ending = (
 
 edits_more : (least : ℕ) (acts more : List Act) → AreEditsFrom least acts → AreNoEdits more
     → AreEditsFrom least (acts ++ more)
-edits_more least acts more (no_more_edits are) others = no_more_edits (all_append IsNoEdit acts more are others)
+edits_more least [] more no_more_edits others = no_edits_from least more others
+edits_more least (act ∷ acts) more (other_act other rising) others =
+    other_act other (edits_more least acts more rising others)
 edits_more least (EditsRows id e ∷ acts) more (next_edit from rising) others =
     next_edit from (edits_more _ acts more rising others)
+edits_more least (RefreshesRows id moment e ∷ acts) more (next_refresh from rising) others =
+    next_refresh from (edits_more _ acts more rising others)
 
-acted_append : (stamp : ℕ) (objects : List Object) (acts more : List Act)
+pub acted_append : (stamp : ℕ) (objects : List Object) (acts more : List Act)
     → all_acted stamp objects (acts ++ more) ≡ all_acted stamp (all_acted stamp objects acts) more
 acted_append stamp objects [] more = refl
 acted_append stamp objects (act ∷ acts) more = acted_append stamp (acted stamp objects act) acts more
@@ -107,23 +115,24 @@ acted_append stamp objects (act ∷ acts) more = acted_append stamp (acted stamp
 ends_commit : (m : Machine) (moving : List ℕ) (acts more : List Act) → AllByRecursion IsOfTasks more
     → IsCommitOf m moving m.sessions acts → IsCommitOf m moving m.sessions (acts ++ more)
 ends_commit m moving acts more are commit = record {
-  shape = edits_more 0 acts more commit.shape
-      (all_map Defines IsNoEdit (λ act is. (defines_only m.state act is).0) more (all_define more are));
+  shape = edits_more 0 acts more commit.shape (all_no_edits m.state more (all_define more are));
   moves = λ begun. all_append (MovesOn m.state) acts more (commit.moves begun)
-      (all_map Defines (MovesOn m.state) (λ act is. (defines_only m.state act is).1) more (all_define more are));
+      (defines_move_on m.state more (all_define more are));
   free = commit.free;
   stays = λ id s at none. ap (λ (objects : List Object). stream_at objects id)
       (acted_append m.state.last m.state.objects acts more)
-      ∙ spares_all m.state.last (all_acted m.state.last m.state.objects acts) more (all_define more are) id s
+      ∙ spares_all m.state.last (all_acted m.state.last m.state.objects acts) more
+      (all_move_none m.state more (all_define more are)) id s
       (commit.stays id s at none);
 }
 
 pub spares_tasks : (m : Machine) (acts : List Act) → AllByRecursion IsOfTasks acts → (id : ℕ) (s : Stream)
     → stream_at m.state.objects id ≡ Some s → stream_at (all_acted m.state.last m.state.objects acts) id ≡ Some s
 spares_tasks m acts are id s at =
-    spares_all m.state.last m.state.objects acts (all_define acts are) id s at
+    spares_all m.state.last m.state.objects acts (all_move_none m.state acts (all_define acts are)) id s at
 
-pub ends_spare : (m : Machine) (root : ℕ) (r : Task) (task : ℕ) (ending : Ending) (acts : List Act) (id : ℕ) (s : Stream)
+pub ends_spare : (m : Machine) (root : ℕ) (r : Task) (task : ℕ) (ending : Ending) (acts : List Act) (id : ℕ)
+    → (s : Stream)
     → stream_at (all_acted m.state.last m.state.objects acts) id ≡ Some s
     → stream_at (all_acted m.state.last m.state.objects (acts ++ end_acts m.state.objects root r task ending)) id
     ≡ Some s
@@ -131,12 +140,12 @@ ends_spare m root r task ending acts id s at =
     let ends : List Act = end_acts m.state.objects root r task ending in
     ap (λ (objects : List Object). stream_at objects id) (acted_append m.state.last m.state.objects acts ends)
     ∙ spares_all m.state.last (all_acted m.state.last m.state.objects acts) ends
-    (all_define ends (end_is m.state.objects root r task ending)) id s at
+    (all_move_none m.state ends (all_define ends (end_is m.state.objects root r task ending))) id s at
 
 pub nothing_commits : (m : Machine) (moving : List ℕ) → MovesFree m m.sessions moving
     → IsCommitOf m moving m.sessions []
 nothing_commits m moving free =
-    record { shape = no_more_edits tt; moves = λ begun. tt; free = free; stays = λ id s at none. at }
+    record { shape = no_more_edits; moves = λ begun. tt; free = free; stays = λ id s at none. at }
 
 pub ends_lawful : (m : Machine) (moving : List ℕ) (reply : Reply) (acts : List Act) (root : ℕ) (r : Task) (task : ℕ)
     (ending : Ending)

@@ -28,7 +28,9 @@ use Rattle.wh_machine.specs.Ticks.{first_held, is_held_back, body_bound, is_free
 use Rattle.wh_machine.specs.Ticks.{count_acts, graph_acts, end_acts, aftermath_of, ends_as, fails_by, counts_in}
 use Rattle.wh_machine.specs.Ticks.{carried_in}
 use Rattle.wh_machine.specs.Ticks.{runs_by, runs_task, run_task, scheduled_acts, starts_run, does_action, action_at}
-use Rattle.wh_machine.specs.Ticks.{ticked}
+use Rattle.wh_machine.specs.Ticks.{refreshes, ticked}
+use Rattle.wh_moment.specs.Upstream.{dynamics_of}
+use Rattle.wh_moment.specs.Moment.{due_table}
 use Rattle.wh_machine.specs.Consuming.{reads}
 use Rattle.wh_machine.proofs.MoveLaws.{same_number, among_streams}
 use Rattle.wh_machine.proofs.HoldLaws.{or_none, one_of, none_reads}
@@ -36,6 +38,7 @@ use Rattle.wh_machine.proofs.Lawful.{MovesFree, IsCommitOf, AreOfCommit, IsLawfu
 use Rattle.wh_machine.proofs.Lawful.{answered}
 use Rattle.wh_machine.proofs.CommitLaws.{acts_are}
 use Rattle.wh_machine.proofs.OutcomeLaws.{IsFree, bound_free}
+use Rattle.wh_machine.proofs.RefreshLaws.{scheduled_dynamic}
 use Rattle.wh_machine.proofs.TaskActs.{task_defined, nothing_commits, ends_lawful}
 
 -- ---- a task's run
@@ -171,11 +174,15 @@ start_lawful m root None = answered m Idle refl
 start_lawful m root (Some r) =
     task_defined m (Started (name_at m.state.objects root)) _ refl (tt, (tt, tt))
 
+due_lawful : (m : Machine) (due : Option (ℕ × ℕ)) → IsLawful m [] (refreshes m due)
+due_lawful m None = answered m Idle refl
+due_lawful m (Some due) = scheduled_dynamic m due.0 due.1
+
 action_lawful : (m : Machine) (a : Action) → action_at m ≡ a → IsLawful m (action_moves m a) (does_action m a)
 action_lawful m (RunsTask root task) is =
     run_lawful m root task (ready_is (is_free m) (live_tasks m.state.objects) m.state.last root task is).holds.0
 action_lawful m (StartsRun root) is = start_lawful m root (task_at m.state.objects root)
-action_lawful m DoesNothing is = answered m Idle refl
+action_lawful m DoesNothing is = due_lawful m (due_table (dynamics_of m.state.objects) m.state.last)
 
 pub tick_lawful : (m : Machine) → IsLawful m (tick_moves m) (ticked m)
 unfolding ticked

@@ -16,7 +16,7 @@ use Rattle.wh_ddl_naming.specs.Meant.{Meant, first_failing}
 use Rattle.wh_ddl_naming.specs.Objects.{is_same_kind, object_of}
 use Rattle.wh_reply.specs.Reply.{Reply, Resumed, Suspended, DroppedTask}
 use Rattle.wh_state.specs.Task.{TaskState, Task, most_failures}
-use Rattle.wh_state.specs.State.{Object, TableKind, StreamKind, TaskKind, task_in, at_id}
+use Rattle.wh_state.specs.State.{Object, TableKind, StreamKind, TaskKind, DynamicKind, task_in, at_id}
 use Rattle.wh_state.specs.Act.{PutsTask, DropsObject}
 use Rattle.wh_state.specs.Objects.{name_at, as_task, task_at}
 use Rattle.wh_state.specs.Stored.{StoredKind, StoredObject, Stored, object_meant, kind_meant}
@@ -55,6 +55,7 @@ task_placed objects id is = by_kind is.object.kind refl is.kind_is
         → IsTaskAt objects id
     by_kind (TableKind t) kind same = absurd cc
     by_kind (StreamKind s) kind same = absurd cc
+    by_kind (DynamicKind d t) kind same = absurd cc
     by_kind (TaskKind t) kind same = record {
       object = is.object;
       there = is.there;
@@ -182,6 +183,7 @@ pub task_meant : (k : StoredKind) → task_in (kind_meant k) ≡ task_in k
 task_meant (TableKind t) = refl
 task_meant (StreamKind s) = refl
 task_meant (TaskKind t) = refl
+task_meant (DynamicKind d t) = refl
 
 pub live_meant : (o : StoredObject) → live_task (object_meant o) ≡ cond o.is_live (task_in o.kind) None
 live_meant o = ap (λ (t : Option Task). cond o.is_live t None) (task_meant o.kind)

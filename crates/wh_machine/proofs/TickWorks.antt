@@ -16,7 +16,7 @@ use Rattle.wh_reply.specs.Reply.{Refusal, Reply, RootRunning, Started, Idle}
 use Rattle.wh_state.specs.Task.{Ending, Succeeded, Failed, Skipped, Run, TaskState, Task, most_failures}
 use Rattle.wh_state.specs.State.{Object, task_in, at_id}
 use Rattle.wh_state.specs.Act.{Act, MakesTable, DropsObject, EditsRows, MakesStream, MovesOffset, MakesTask, PutsTask}
-use Rattle.wh_state.specs.Act.{BeginsRun, EndsTask}
+use Rattle.wh_state.specs.Act.{BeginsRun, EndsTask, MakesDynamic, PutsDynamic, RefreshesRows}
 use Rattle.wh_state.specs.Objects.{name_at, as_task, task_at}
 use Rattle.wh_state.specs.Stored.{StoredObject, Stored, object_meant}
 use Rattle.wh_state.specs.Commit.{Change, SetsTask, FinishesTask, waits_in, changed, all_changed}
@@ -54,6 +54,9 @@ use Rattle.wh_machine.proofs.WorksLaws.{IsReached, objects_meant, Works, works_d
 use Rattle.wh_machine.proofs.WorksLaws.{transaction_commits}
 use Rattle.wh_machine.proofs.ValueTypes.{both_true}
 use Rattle.wh_machine.proofs.StageLaws.{ChangedFits, alone_stands}
+use Rattle.wh_moment.specs.Upstream.{dynamics_of}
+use Rattle.wh_moment.specs.Moment.{due_table}
+use Rattle.wh_machine.proofs.DynamicWorks.{works_refreshes}
 use Rattle.wh_machine.proofs.ChangeLaws.{change_fits}
 use Rattle.wh_machine.proofs.TaskWorks.{IsTaskAt, live_task_at, firm_at, task_found, live_meant}
 use Rattle.wh_machine.proofs.StartWorks.{works_scheduled}
@@ -171,6 +174,9 @@ tasks_spare stamp objects (EditsRows other e ∷ acts) are id = absurd are.0
 tasks_spare stamp objects (MakesStream name source is_append_only ∷ acts) are id = absurd are.0
 tasks_spare stamp objects (MovesOffset other offset ∷ acts) are id = absurd are.0
 tasks_spare stamp objects (MakesTask name minutes after runs ∷ acts) are id = absurd are.0
+tasks_spare stamp objects (MakesDynamic name lag is_incremental query columns ∷ acts) are id = absurd are.0
+tasks_spare stamp objects (PutsDynamic other state ∷ acts) are id = absurd are.0
+tasks_spare stamp objects (RefreshesRows other moment e ∷ acts) are id = absurd are.0
 
 still_few : (failed : Bool) (state : TaskState) → state.failures ≤ most_failures
     → (state_behind failed state).failures ≤ most_failures
@@ -325,7 +331,8 @@ works_run s m root task reached is =
 works_action : (s : Stored) (m : Machine) (a : Action) → IsReached s m → action_at m ≡ a → Works s m (does_action m a)
 works_action s m (RunsTask root task) reached is = works_run s m root task reached is
 works_action s m (StartsRun root) reached is = works_due s m root reached is
-works_action s m DoesNothing reached is = works_does s m Idle m.sessions reached.stand
+works_action s m DoesNothing reached is =
+    works_refreshes s m reached (due_table (dynamics_of m.state.objects) m.state.last) refl
 
 pub works_tick : (s : Stored) (m : Machine) → IsReached s m → Works s m (ticked m)
 unfolding ticked

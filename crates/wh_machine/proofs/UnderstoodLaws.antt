@@ -1,14 +1,15 @@
--- The texts of the tasks that acts make are understood.
+-- The texts of the tasks and dynamic tables that acts make are understood.
 --     AreUnderstood         so it is of the acts of a commit, where there is one
---     IsSpelledEvent        what CREATE TASK keeps of its text spells what the task runs
+--     IsSpelledEvent        what CREATE TASK and CREATE DYNAMIC TABLE keep of their texts spells what the task runs,
+--                           and the query
 --     outcome_understood    so the acts of what an event comes to are understood
-use Rattle.std.proofs.Common.{◌≡◌, ℕ, Bool, true, false, cond, List, [], ◌∷◌, ◌++◌, map, Option, Some, None}
+use Rattle.std.proofs.Common.{ℕ, Bool, true, false, cond, List, [], ◌∷◌, ◌++◌, map, Option, Some, None}
 use Rattle.std.specs.Prelude.{option_map, unwrap_or, nat_eq, nat_lt}
 use Rattle.std.specs.List.{AllByRecursion}
 use Rattle.wh_ast.specs.declared.dml.Dml.{Dml}
 use Rattle.wh_ast.specs.declared.statement.Statement.{Statement}
 use Rattle.wh_ast.specs.declared.statement.Statement.TheVariants as st
-use Rattle.wh_grammar.specs.Spelled.{Request, TooLong, Unreadable, Asked}
+use Rattle.wh_grammar.specs.Spelled.{Spells, Request, TooLong, Unreadable, Asked}
 use Rattle.wh_meaning.specs.Bag.{Bag}
 use Rattle.wh_meaning.specs.Query.{eval}
 use Rattle.wh_naming.specs.Select.{BoundSelect}
@@ -20,7 +21,9 @@ use Rattle.wh_reply.specs.Reply.{Refusal, Reply}
 use Rattle.wh_state.specs.State.{Object, Stream}
 use Rattle.wh_state.specs.Task.{IsSpelled, Ending, Succeeded, Failed, Skipped, Run, TaskState, Task}
 use Rattle.wh_state.specs.Objects.{stream_at, task_at}
-use Rattle.wh_state.specs.Act.{Act, MakesTable, MovesOffset, PutsTask, EndsTask}
+use Rattle.wh_state.specs.Dynamic.{IsQuerySpelled}
+use Rattle.wh_state.specs.Act.{Act, MakesTable, MovesOffset, PutsTask}
+use Rattle.wh_state.specs.Act.{EndsTask}
 use Rattle.wh_graph.specs.Graph.{is_under_way, skipped_behind, run_behind, has_failed}
 use Rattle.wh_graph.specs.Root.{state_behind}
 use Rattle.wh_graph.specs.Action.{Action, RunsTask, StartsRun, DoesNothing}
@@ -42,25 +45,23 @@ use Rattle.wh_machine.specs.Statements.{begin, recorded, commit_of, commit, roll
 use Rattle.wh_machine.specs.Statements.{changes_in, changes_rows, selects, carried_out, meant_in}
 use Rattle.wh_machine.specs.Tasks.{live_tasks, body_of, is_same_state, put_to, resumed_state, suspended_state}
 use Rattle.wh_machine.specs.Tasks.{create_task, resume_task, suspend_task, execute_task, drop_task}
-use Rattle.wh_machine.specs.Ticks.{body_bound, Verdict, Fails, Holds, HoldsNot, verdict, count_acts, graph_acts, end_acts}
-use Rattle.wh_machine.specs.Ticks.{ends_as, carried_in, runs_by, runs_task, run_task, starts_run, does_action, action_at}
-use Rattle.wh_machine.specs.Ticks.{ticked}
+use Rattle.wh_machine.specs.Ticks.{body_bound, Verdict, Fails, Holds, HoldsNot, verdict, count_acts, graph_acts}
+use Rattle.wh_machine.specs.Ticks.{end_acts}
+use Rattle.wh_machine.specs.Ticks.{ends_as, carried_in, runs_by, runs_task, run_task, starts_run, does_action}
+use Rattle.wh_machine.specs.Ticks.{action_at}
+use Rattle.wh_machine.specs.Ticks.{refreshes, ticked}
+use Rattle.wh_ast.specs.declared.statement.Initialize.TheVariants as starts
+use Rattle.wh_moment.specs.Upstream.{dynamics_of}
+use Rattle.wh_moment.specs.Moment.{due_table}
+use Rattle.wh_machine.specs.Refresh as refresh
+use Rattle.wh_machine.specs.Dynamics.{asked_refresh, query_of}
+use Rattle.wh_machine.specs.Dynamics.{create_dynamic, resume_dynamic, suspend_dynamic, refresh_dynamic, set_lag}
+use Rattle.wh_machine.specs.Dynamics.{drop_dynamic}
+use Rattle.wh_machine.proofs.RefreshLaws.{refresh_acts}
+pub use Rattle.wh_machine.proofs.UnderstoodActs.{AreUnderstood}
+use Rattle.wh_machine.proofs.UnderstoodActs.{Understands, does, refuses, initialized_is, refreshed_is, alters_is}
+use Rattle.wh_machine.proofs.UnderstoodActs.{scheduled_is}
 use Rattle.wh_machine.specs.Step.{Event, Command, Tick, is_session, commanded, outcome_of}
-
-abbrev pub AreUnderstood : Option (List Act) → Type 0
-AreUnderstood None = Unit {0}
-AreUnderstood (Some acts) = AllByRecursion IsUnderstood acts
-
--- of an outcome
-record Understands (o : Outcome) : Type 0 where
-  are : AreUnderstood (acts_in o)
-
-does : {reply : Reply} {sessions : Sessions} {acts : Option (List Act)} → AreUnderstood acts
-    → Understands (Does reply sessions acts)
-does are = record { are = are }
-
-refuses : {why : Refusal} → Understands (Refuses why)
-refuses = record { are = tt }
 
 -- ---- behind tests
 
@@ -156,15 +157,19 @@ put_is id new (Some t) = by_test (is_same_state t.state (new t))
     by_test true = tt
     by_test false = (tt, tt)
 
--- with what a task runs
+-- ---- all of them
+
+-- with what a task runs, and what a dynamic table has of its query
 abbrev IsSpelledBound : Bound → Type 0
 IsSpelledBound (ddl.CreateTask n) = IsSpelled (body_of n)
+IsSpelledBound (ddl.CreateDynamicTable n) = IsQuerySpelled (query_of n)
 IsSpelledBound _ = Unit {0}
 
 statement_is : (m : Machine) (session : ℕ) (wrong : Option Refusal) (b : Bound) → IsSpelledBound b
     → Understands (carried_out m session wrong b)
 unfolding carried_out begin commit rollback changes_rows selects has_data create_table drop_table create_stream
-    drop_stream create_task resume_task suspend_task execute_task drop_task
+    drop_stream create_task resume_task suspend_task execute_task drop_task create_dynamic resume_dynamic
+    suspend_dynamic refresh_dynamic set_lag drop_dynamic
 statement_is m session wrong ddl.Begin spelled = behind _ _ (does tt)
 statement_is m session wrong ddl.Commit spelled = commits_are m session (transaction_in m.sessions session)
 statement_is m session wrong ddl.Rollback spelled = ends_are m session (transaction_in m.sessions session)
@@ -186,18 +191,25 @@ statement_is m session wrong (ddl.SuspendTask id) spelled = definition m session
     (does (put_is id suspended_state (task_at m.state.objects id))))
 statement_is m session wrong (ddl.ExecuteTask id) spelled = definition m session _ _ (behind _ _ (does (tt, tt)))
 statement_is m session wrong (ddl.DropTask id) spelled = definition m session _ _ (behind _ _ (does (tt, tt)))
-statement_is m session wrong (ddl.CreateDynamicTable n) spelled = refuses
-statement_is m session wrong (ddl.ResumeDynamicTable id) spelled = refuses
-statement_is m session wrong (ddl.SuspendDynamicTable id) spelled = refuses
-statement_is m session wrong (ddl.RefreshDynamicTable id) spelled = refuses
-statement_is m session wrong (ddl.SetTargetLag id lag) spelled = refuses
-statement_is m session wrong (ddl.DropDynamicTable id) spelled = refuses
+statement_is m session wrong (ddl.CreateDynamicTable n) spelled = definition m session _ _ (behind _ _
+    (initialized_is m n (query_of n) n.initialize spelled))
+statement_is m session wrong (ddl.ResumeDynamicTable id) spelled = definition m session _ _ (behind wrong _
+    (alters_is m _ id _))
+statement_is m session wrong (ddl.SuspendDynamicTable id) spelled = definition m session _ _ (behind wrong _
+    (alters_is m _ id _))
+statement_is m session wrong (ddl.RefreshDynamicTable id) spelled = definition m session _ _ (behind wrong _
+    (refreshed_is m (asked_refresh m.state id) (refresh_acts m.state _ id m.state.last)))
+statement_is m session wrong (ddl.SetTargetLag id lag) spelled = definition m session _ _ (behind _ _
+    (alters_is m _ id _))
+statement_is m session wrong (ddl.DropDynamicTable id) spelled = definition m session _ _ (behind wrong _
+    (does (tt, tt)))
 
 -- ---- what a text asks for
 
 abbrev pub IsSpelledStatement : Statement → Type 0
 IsSpelledStatement (st.CreateTask t) =
     IsSpelled (record { when = t.when; body = t.body; body_text = t.body_text })
+IsSpelledStatement (st.CreateDynamicTable t) = Spells t.query_text (st.Select t.query [])
 IsSpelledStatement _ = Unit {0}
 
 abbrev pub IsSpelledRequest : Request → Type 0
@@ -226,7 +238,7 @@ bound_spelled names (st.ResumeTask name) spelled = tt
 bound_spelled names (st.SuspendTask name) spelled = tt
 bound_spelled names (st.ExecuteTask name) spelled = tt
 bound_spelled names (st.DropTask name) spelled = tt
-bound_spelled names (st.CreateDynamicTable t) spelled = tt
+bound_spelled names (st.CreateDynamicTable t) spelled = spelled
 bound_spelled names (st.ResumeDynamicTable name) spelled = tt
 bound_spelled names (st.SuspendDynamicTable name) spelled = tt
 bound_spelled names (st.RefreshDynamicTable name) spelled = tt
@@ -304,12 +316,16 @@ start_is : (m : Machine) (root : ℕ) (r : Option Task) → Understands (starts_
 start_is m root None = does tt
 start_is m root (Some r) = does (tt, (tt, tt))
 
+due_is : (m : Machine) (due : Option (ℕ × ℕ)) → Understands (refreshes m due)
+due_is m None = does tt
+due_is m (Some due) = scheduled_is m due.0 due.1
+
 action_is : (m : Machine) (a : Action) → Understands (does_action m a)
 unfolding run_task
 action_is m (RunsTask root task) =
     task_is m root task (task_at m.state.objects root) (task_at m.state.objects task)
 action_is m (StartsRun root) = start_is m root (task_at m.state.objects root)
-action_is m DoesNothing = does tt
+action_is m DoesNothing = due_is m (due_table (dynamics_of m.state.objects) m.state.last)
 
 tick_is : (m : Machine) → Understands (ticked m)
 unfolding ticked

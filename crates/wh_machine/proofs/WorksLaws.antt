@@ -14,7 +14,7 @@ use Rattle.wh_reply.specs.Reply.{Refusal, Reply}
 use Rattle.wh_state.specs.State.{State, Object}
 use Rattle.wh_state.specs.Act.{Act}
 use Rattle.wh_state.specs.Stored.{StoredObject, Stored, object_meant, meant}
-use Rattle.wh_state.specs.Commit.{CreatesTask, SetsTask, StartsRun, FinishesTask}
+use Rattle.wh_state.specs.Commit.{CreatesTask, SetsTask, StartsRun, FinishesTask, CreatesDynamic, SetsDynamic}
 use Rattle.wh_state.specs.Commit.{Change, CreatesTable, Drops, PushesVersion, CreatesStream, SetsOffset, all_changed}
 use Rattle.wh_state.specs.Written.{written, commit_for, kept_after}
 use Rattle.wh_state.specs.Sound.{IsSoundObject}
@@ -137,7 +137,8 @@ transaction_commits s m t reached none stands =
     (subst (λ (objects : List Object). AllStand m.state.last (start_of t) s.objects
     (map edit_act (touched t) ++ offset_moves objects (start_of t) t.streams)) (sym (objects_meant s m reached))
     (commit_stands m.state.committed m.state.last reached.sound.state.ordered s.objects t
-    (subst (AllByRecursion (IsSoundObject m.state.committed)) (objects_meant s m reached) reached.sound.state.objects)
+    (subst (λ (objects : List Object). AllByRecursion (IsSoundObject m.state.committed objects) objects)
+    (objects_meant s m reached) reached.sound.state.objects)
     (subst (λ (objects : List Object). commit_refusal objects t ≡ None) (objects_meant s m reached) none) stands))
 
 -- where the sessions that it leaves stand
@@ -185,6 +186,8 @@ only_spares id other apart (CreatesTask c) only = tt
 only_spares id other apart (SetsTask target state) only = tt
 only_spares id other apart (StartsRun root tasks) only = tt
 only_spares id other apart (FinishesTask root task ending) only = tt
+only_spares id other apart (CreatesDynamic c) only = tt
+only_spares id other apart (SetsDynamic target state) only = tt
 only_spares id other apart (Drops target) only = λ same. apart (same ∙ only)
 
 pub free_stand : (stamp : ℕ) (objects : List StoredObject) (cs : List Change) (id : ℕ) →

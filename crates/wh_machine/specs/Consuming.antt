@@ -1,5 +1,6 @@
 -- What a stream's source was when it was read, and the batches that it was consumed in.
 --     Extends               a list that has a later value for each of another's, and more behind
+--     base_in, base_at      a table that is no dynamic one
 --     IsLaterKind           a table with the versions that it had before a stamp; a stream whose offset moved on
 --     IsLater, AreLater     an object, and all objects
 --     rows_then             the rows of the table of an id at a time
@@ -14,8 +15,7 @@
 use Rattle.std.specs.Prelude.{◌≡◌, ℕ, ◌-◌, ◌<◌, ◌≤◌, max, Bool, true, false, List, [], ◌∷◌, Option, Some, None}
 use Rattle.std.specs.Prelude.{nat_eq, not, ◌&&◌, is_some}
 use Rattle.std.specs.List.{list_any}
-use Rattle.std.specs.Option.{option_map_or}
-use Rattle.std.specs.Option.{IsSomeAnd}
+use Rattle.std.specs.Option.{option_and_then, option_map_or, IsSomeAnd}
 use Rattle.std.specs.FinMap.{empty}
 use Rattle.wh_ast.specs.declared.dml.Dml.{Dml}
 use Rattle.wh_ast.specs.declared.statement.Statement as tree
@@ -24,8 +24,8 @@ use Rattle.wh_grammar.specs.Spelled.{TooLong, Unreadable}
 use Rattle.wh_grammar.specs.Spelled.{Asked}
 use Rattle.wh_naming.specs.Changes.{BoundChange, bound_change}
 use Rattle.wh_reply.specs.Reply.{Reply, TaskSucceeded, is_refusal}
-use Rattle.wh_state.specs.State.{TaskKind, task_in}
-use Rattle.wh_state.specs.State.{Rows, Kind, TableKind, StreamKind, Object, Table, Stream, table_in, stream_in}
+use Rattle.wh_state.specs.State.{TaskKind, DynamicKind, task_in, dynamic_in}
+use Rattle.wh_state.specs.State.{Rows, Kind, TableKind, StreamKind, Object, Table, Stream, stream_in, at_id}
 use Rattle.wh_state.specs.Objects.{task_at}
 use Rattle.wh_state.specs.Objects.{table_at, stream_at}
 use Rattle.wh_machine.specs.Names.{names_from}
@@ -45,6 +45,16 @@ Extends R [] ys = Unit {0}
 Extends R (x ∷ xs) [] = ⊥
 Extends R (x ∷ xs) (y ∷ ys) = R x y × Extends R xs ys
 
+-- a table that is no dynamic one
+abbrev pub base_in : Kind → Option Table
+base_in (TableKind t) = Some t
+base_in (StreamKind s) = None
+base_in (TaskKind t) = None
+base_in (DynamicKind d t) = None
+
+abbrev pub base_at : List Object → ℕ → Option Table
+base_at objects id = option_and_then (λ o. base_in o.kind) (at_id objects id)
+
 -- it has the rows that it had before a stamp
 abbrev pub IsLaterTable : ℕ → Table → Table → Type 0
 IsLaterTable stamp old new = (time : ℕ) → time < stamp → rows_at new time ≡ rows_at old time
@@ -56,9 +66,10 @@ pub record IsLaterStream (stamp : ℕ) (old new : Stream) : Type 0 where
   pub not_behind : new.offset ≤ max old.offset (stamp - 1)
 
 abbrev pub IsLaterKind : ℕ → Kind → Kind → Type 0
-IsLaterKind stamp (TableKind old) new = IsSomeAnd (table_in new) (IsLaterTable stamp old)
+IsLaterKind stamp (TableKind old) new = IsSomeAnd (base_in new) (IsLaterTable stamp old)
 IsLaterKind stamp (StreamKind old) new = IsSomeAnd (stream_in new) (IsLaterStream stamp old)
 IsLaterKind stamp (TaskKind old) new = IsSomeAnd (task_in new) (λ t. Unit {0})
+IsLaterKind stamp (DynamicKind old t) new = IsSomeAnd (dynamic_in new) (λ d. Unit {0})
 
 abbrev pub IsLater : ℕ → Object → Object → Type 0
 IsLater stamp old new = IsLaterKind stamp old.kind new.kind

@@ -11,11 +11,15 @@ pub mod Definitions
 pub mod Tables
 pub mod Streams
 pub mod Tasks
+pub mod Refresh
+pub mod Brought
+pub mod Dynamics
 pub mod Statements
 pub mod Ticks
 pub mod Step
 pub mod Script
 pub mod Made
 pub mod Sound
+pub mod OneMoment
 pub mod Consuming
 pub mod Stop

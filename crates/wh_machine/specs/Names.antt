@@ -6,10 +6,10 @@ use Rattle.std.specs.Prelude.{ℕ, suc, Bool, if◌then◌else◌, List, [], ◌
 use Rattle.wh_value.specs.declared.limit.Limit.TheVariants as limits
 use Rattle.wh_naming.specs.Findings as naming
 use Rattle.wh_naming.specs.Findings.{Findings, Failing, first_failing}
-use Rattle.wh_naming.specs.Scope.{Named, ObjectKind, TableObject, StreamObject, TaskObject}
+use Rattle.wh_naming.specs.Scope.{Named, ObjectKind, TableObject, StreamObject, TaskObject, DynamicTableObject}
 use Rattle.wh_ddl_naming.specs.Objects.{Names, TaskRoot}
 use Rattle.wh_reply.specs.Reply.{Refusal, UnknownName, NameTaken, WrongKind, TypeMismatch, OverLimit}
-use Rattle.wh_state.specs.State.{Kind, TableKind, StreamKind, TaskKind, Object, columns_in, task_in}
+use Rattle.wh_state.specs.State.{Kind, TableKind, StreamKind, TaskKind, DynamicKind, Object, columns_in, task_in}
 use Rattle.wh_machine.specs.Tests.{refused_if, first_of}
 use Rattle.wh_state.specs.Task.{Task}
 
@@ -17,6 +17,7 @@ abbrev pub object_kind : Kind → ObjectKind
 object_kind (TableKind t) = TableObject
 object_kind (StreamKind s) = StreamObject
 object_kind (TaskKind t) = TaskObject
+object_kind (DynamicKind d t) = DynamicTableObject
 
 abbrev pub named_object : ℕ → Object → Named
 named_object id o = record { name = o.name; id = id; kind = object_kind o.kind; columns = columns_in o.kind }

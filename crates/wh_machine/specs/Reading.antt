@@ -4,16 +4,18 @@
 --     rows_read           the rows of an object; instance_read, those of the sources of a statement
 --     reading_refusal     the first test that reading sources fails
 --     has_data            SYSTEM$STREAM_HAS_DATA
-use Rattle.std.specs.Prelude.{ℕ, false, min, List, [], ◌∷◌, map, Option, Some, None, option_map}
+use Rattle.std.specs.Prelude.{ℕ, Bool, false, ◌&&◌, min, List, [], ◌∷◌, ◌++◌, length, map, Option, Some, None}
+use Rattle.std.specs.Prelude.{option_map}
+use Rattle.std.specs.Prelude.{is_some, nat_eq}
 use Rattle.std.specs.List.{filter}
 use Rattle.std.specs.Option.{option_map_or}
 use Rattle.wh_meaning.specs.Bag.{Bag, no_rows, bag_of}
 use Rattle.wh_meaning.specs.Query.{Instance}
-use Rattle.wh_reply.specs.Reply.{Refusal, SourceGone, StaleStream, HasData}
-use Rattle.wh_state.specs.State.{Kind, Object, Stream, stream_in, at_id}
-use Rattle.wh_state.specs.Objects.{table_at, stream_at, name_at}
+use Rattle.wh_reply.specs.Reply.{Refusal, NotInitialized, SourceGone, StaleStream, HasData}
+use Rattle.wh_state.specs.State.{Kind, Object, Table, Stream, stream_in, at_id}
+use Rattle.wh_state.specs.Objects.{table_at, stream_at, dynamic_at, name_at, is_live_at}
 use Rattle.wh_net.specs.Stream.{rows_shown, has_rows, is_gone, stale_at}
-use Rattle.wh_machine.specs.Tests.{first_of}
+use Rattle.wh_machine.specs.Tests.{refused_if, first_of}
 use Rattle.wh_machine.specs.Transaction.{seen, start_at}
 use Rattle.wh_machine.specs.Sessions.{transaction_in}
 use Rattle.wh_machine.specs.Outcome.{Machine, Outcome, answers, unless}
@@ -59,9 +61,23 @@ gone_refusal objects ids = option_map (λ id. SourceGone (name_at objects id)) (
 abbrev pub stale_refusal : List Object → ℕ → ℕ → Option Refusal
 stale_refusal objects stamp id = option_map (λ stale. StaleStream stale.0 stale.1) (stale_at objects stamp id)
 
--- that every source is there first, and then that no stream lies too far back, in the order of the text
+-- a live dynamic table that has no version yet
+abbrev pub has_no_version : Option Table → Bool
+has_no_version None = false
+has_no_version (Some t) = nat_eq (length t.versions) 0
+
+abbrev pub is_uninitialized : List Object → ℕ → Bool
+is_uninitialized objects id =
+    is_some (dynamic_at objects id) && is_live_at objects id && has_no_version (table_at objects id)
+
+abbrev pub uninitialized_refusal : List Object → ℕ → Option Refusal
+uninitialized_refusal objects id = refused_if (is_uninitialized objects id) (NotInitialized (name_at objects id))
+
+-- that every dynamic table has rows first, in the order of the text, then that every source is there, and then that no
+-- stream lies too far back, in the order of the text
 unfoldable pub reading_refusal : List Object → ℕ → List ℕ → Option Refusal
-reading_refusal objects stamp ids = first_of (gone_refusal objects ids ∷ map (stale_refusal objects stamp) ids)
+reading_refusal objects stamp ids = first_of (map (uninitialized_refusal objects) ids
+    ++ gone_refusal objects ids ∷ map (stale_refusal objects stamp) ids)
 
 -- ---- SYSTEM$STREAM_HAS_DATA
 

@@ -13,7 +13,7 @@ use Rattle.wh_naming.specs.Select.{BoundSelect}
 use Rattle.wh_ddl_naming.specs.Meant.{Meant, first_failing}
 use Rattle.wh_ddl_naming.specs.Statements as ddl
 use Rattle.wh_ddl_naming.specs.Statements.{Bound}
-use Rattle.wh_reply.specs.Reply.{Refusal, Reply, Unsupported, TransactionOpen, NoTransaction, Locked}
+use Rattle.wh_reply.specs.Reply.{Refusal, Reply, TransactionOpen, NoTransaction, Locked}
 use Rattle.wh_reply.specs.Reply.{Begun, Committed, CommittedNothing, RolledBack}
 use Rattle.wh_state.specs.Act.{Act}
 use Rattle.wh_state.specs.Objects.{table_at}
@@ -31,6 +31,8 @@ use Rattle.wh_machine.specs.Definitions.{defines}
 use Rattle.wh_machine.specs.Tables.{create_table, drop_table}
 use Rattle.wh_machine.specs.Streams.{create_stream, drop_stream}
 use Rattle.wh_machine.specs.Tasks.{create_task, resume_task, suspend_task, execute_task, drop_task}
+use Rattle.wh_machine.specs.Dynamics.{create_dynamic, resume_dynamic, suspend_dynamic, refresh_dynamic, set_lag}
+use Rattle.wh_machine.specs.Dynamics.{drop_dynamic}
 
 -- ---- BEGIN, COMMIT, ROLLBACK
 
@@ -125,8 +127,12 @@ carried_out m session wrong (ddl.ResumeTask id) = defines m session None (resume
 carried_out m session wrong (ddl.SuspendTask id) = defines m session None (suspend_task m wrong id)
 carried_out m session wrong (ddl.ExecuteTask root) = defines m session None (execute_task m wrong root)
 carried_out m session wrong (ddl.DropTask id) = defines m session (Some id) (drop_task m wrong id)
--- dynamic tables aren't carried out yet
-carried_out m session wrong _ = Refuses Unsupported
+carried_out m session wrong (ddl.CreateDynamicTable n) = defines m session None (create_dynamic m wrong n)
+carried_out m session wrong (ddl.ResumeDynamicTable id) = defines m session None (resume_dynamic m wrong id)
+carried_out m session wrong (ddl.SuspendDynamicTable id) = defines m session None (suspend_dynamic m wrong id)
+carried_out m session wrong (ddl.RefreshDynamicTable id) = defines m session None (refresh_dynamic m wrong id)
+carried_out m session wrong (ddl.SetTargetLag id lag) = defines m session None (set_lag m wrong id lag)
+carried_out m session wrong (ddl.DropDynamicTable id) = defines m session (Some id) (drop_dynamic m wrong id)
 
 abbrev pub carried_out_as : Machine → ℕ → Meant Bound → Outcome
 carried_out_as m session b = carried_out m session (option_map refusal_of (first_failing b)) b.value

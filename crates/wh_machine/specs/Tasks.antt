@@ -1,8 +1,9 @@
 -- Tasks: CREATE TASK, ALTER TASK, EXECUTE TASK and DROP TASK.
 --     start_acts      a run of a root that begins
 --     create_task, resume_task, suspend_task, execute_task, drop_task     their outcomes
-use Rattle.std.specs.Prelude.{ℕ, zero, suc, ◌+◌, Bool, true, false, not, ◌&&◌, if◌then◌else◌, List, [], ◌∷◌, ◌++◌, length}
-use Rattle.std.specs.Prelude.{map, Option, Some, None, is_some, unwrap_or, nat_eq, count_by}
+use Rattle.std.specs.Prelude.{ℕ, zero, suc, ◌+◌, Bool, true, false, not, ◌&&◌, if◌then◌else◌, List, [], ◌∷◌, ◌++◌}
+use Rattle.std.specs.Prelude.{length}
+use Rattle.std.specs.Prelude.{map, Option, Some, None, unwrap_or, nat_eq, count_by}
 use Rattle.std.specs.Option.{option_map_or}
 use Rattle.wh_value.specs.declared.limit.Limit.TheVariants as limits
 use Rattle.wh_ddl_naming.specs.Tasks.{NewTask}
@@ -138,7 +139,8 @@ execute_task m wrong root = unless (first_of (wrong ∷ root_running m.state.obj
 -- the live tasks that follow one directly, by rising ids
 abbrev pub children_from : ℕ → ℕ → List Object → List ℕ
 children_from parent id [] = []
-children_from parent id (o ∷ os) = (if option_map_or (λ t. is_among parent t.after) (live_task o) false then id ∷ [] else [])
+children_from parent id (o ∷ os) =
+    (if option_map_or (λ t. is_among parent t.after) (live_task o) false then id ∷ [] else [])
     ++ children_from parent (suc id) os
 
 abbrev pub has_children : List Object → List ℕ → Option Refusal

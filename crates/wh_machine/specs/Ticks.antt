@@ -4,7 +4,7 @@
 --     end_acts             the acts of a task's end
 --     run_task, ticked     the outcomes of a task's run, and of a tick
 use Rattle.std.specs.Prelude.{ℕ, Bool, true, false, not, ◌&&◌, ◌||◌, if◌then◌else◌, List, [], ◌∷◌, ◌++◌, map}
-use Rattle.std.specs.Prelude.{Option, Some, None, is_some, option_map, unwrap_or, nat_eq}
+use Rattle.std.specs.Prelude.{Option, Some, None, is_some, unwrap_or, nat_eq}
 use Rattle.std.specs.List.{flat_map}
 use Rattle.std.specs.Option.{option_map_or, option_to_list}
 use Rattle.wh_ast.specs.declared.dml.Dml.{Dml}
@@ -17,7 +17,7 @@ use Rattle.wh_reply.specs.Reply.{TaskSucceeded, TaskSkipped, TaskFailed, Idle}
 use Rattle.wh_reply.specs.Reply as replies
 use Rattle.wh_net.specs.Stream.{rows_shown, has_rows}
 use Rattle.wh_state.specs.Task.{Ending, Succeeded, Failed, Skipped, Run, TaskState, Task}
-use Rattle.wh_state.specs.State.{Object, Stream, id_of}
+use Rattle.wh_state.specs.State.{Object, id_of}
 use Rattle.wh_state.specs.Act.{Act, PutsTask, EndsTask}
 use Rattle.wh_state.specs.Objects.{name_at, task_at, stream_at, is_stream, is_kind_at}
 use Rattle.wh_graph.specs.Graph.{is_under_way, skipped_behind, run_behind, has_failed}
@@ -25,11 +25,13 @@ use Rattle.wh_graph.specs.Root.{is_tenth, state_behind}
 use Rattle.wh_graph.specs.Action.{Action, RunsTask, StartsRun, DoesNothing, action}
 use Rattle.wh_machine.specs.Tests.{refused_if, first_of}
 use Rattle.wh_machine.specs.Names.{names_from}
-use Rattle.wh_machine.specs.Changes.{Changed}
 use Rattle.wh_machine.specs.Sessions.{Sessions, holder, or_later}
 use Rattle.wh_machine.specs.Outcome.{Machine, Outcome, Refuses, Does, answers, commits}
 use Rattle.wh_machine.specs.Reading.{start_in, reading_refusal}
 use Rattle.wh_machine.specs.Statements.{streams_read, bound_changed, changes_in}
+use Rattle.wh_moment.specs.Moment.{due_table}
+use Rattle.wh_moment.specs.Upstream.{dynamics_of}
+use Rattle.wh_machine.specs.Dynamics.{scheduled}
 use Rattle.wh_machine.specs.Tasks.{live_tasks, start_acts}
 
 -- ---- readiness
@@ -79,7 +81,8 @@ unfoldable pub guard_refusal : Machine → List (List ℕ) → Option Refusal
 guard_refusal m streams = first_of (
     map (unknown_in m.state.objects) streams
     ++ map (no_stream_in m.state.objects) streams
-    ++ reading_refusal m.state.objects m.state.last (flat_map (λ name. option_to_list (id_of name m.state.objects)) streams)
+    ++ reading_refusal m.state.objects m.state.last
+    (flat_map (λ name. option_to_list (id_of name m.state.objects)) streams)
     ∷ [])
 
 -- whether the stream of a name has rows to show now
@@ -156,7 +159,8 @@ abbrev pub runs_by : Machine → ℕ → Task → ℕ → Dml → Verdict → Ou
 runs_by m root r task body (Fails why) = fails_by m root r task why
 runs_by m root r task body HoldsNot = ends_as m root r task Skipped
     (TaskSkipped (name_at m.state.objects task) (aftermath_of m root r task Skipped)) []
-runs_by m root r task body Holds = carried_in m root r task (changes_in m 0 None (bound_changed m 0 (body_bound m body)))
+runs_by m root r task body Holds =
+    carried_in m root r task (changes_in m 0 None (bound_changed m 0 (body_bound m body)))
 
 abbrev pub runs_task : Machine → ℕ → ℕ → Option Task → Option Task → Outcome
 runs_task m root task (Some r) (Some t) = runs_by m root r task t.runs.body (verdict m t.runs.when)
@@ -176,10 +180,15 @@ starts_run m root None = answers m Idle
 starts_run m root (Some r) =
     commits m (Started (name_at m.state.objects root)) (scheduled_acts m.state.objects m.state.last root r.state)
 
+-- behind a ready task and a due root, the refresh of the dynamic table that is due
+abbrev pub refreshes : Machine → Option (ℕ × ℕ) → Outcome
+refreshes m None = answers m Idle
+refreshes m (Some due) = scheduled m due.0 due.1
+
 abbrev pub does_action : Machine → Action → Outcome
 does_action m (RunsTask root task) = run_task m root task
 does_action m (StartsRun root) = starts_run m root (task_at m.state.objects root)
-does_action m DoesNothing = answers m Idle
+does_action m DoesNothing = refreshes m (due_table (dynamics_of m.state.objects) m.state.last)
 
 abbrev pub action_at : Machine → Action
 action_at m = action (is_free m) (live_tasks m.state.objects) m.state.last

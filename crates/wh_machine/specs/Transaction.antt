@@ -50,7 +50,7 @@ start_at stamp (Some t) = start_of t
 
 abbrev pub with_own : ℕ → Option Staged → Object → Object
 with_own stamp None o = o
-with_own stamp (Some s) o = edited_object stamp s.edits o
+with_own stamp (Some s) o = edited_object stamp stamp s.edits o
 
 abbrev pub seen_from : ℕ → ℕ → FinMap nat_cmp Staged → List Object → List Object
 seen_from stamp id tables [] = []

@@ -1,5 +1,4 @@
 -- A stream on a table: the changes behind its offset.
---     rows_at              the rows of a table at a time
 --     shown                what a stream shows up to a stamp
 --     shown_row            a record as a row, with the three columns that streams have more
 --     rows_shown           the rows of a stream among objects
@@ -7,18 +6,14 @@
 --     stale_at             an offset that lies too far back, with the last stamp at which it is read
 use Rattle.std.specs.Prelude.{ℕ, ◌+◌, ◌*◌, max, Bool, true, false, not, if◌then◌else◌, List, [], ◌∷◌, ◌++◌, map, Option}
 use Rattle.std.specs.Prelude.{Some, None, codes, decimal, nat_le, nat_lt}
-use Rattle.std.specs.List.{filter}
 use Rattle.wh_value.specs.Value.{Truth, Text, Row}
 use Rattle.wh_value.specs.Limit.{days_of_changes}
-use Rattle.wh_state.specs.State.{Rows, Table, Stream, Object, nothing_held, content_in, last_of}
+pub use Rattle.wh_state.specs.State.{rows_at}
+use Rattle.wh_state.specs.State.{Table, Stream, Object}
 use Rattle.wh_state.specs.Objects.{table_at, stream_at, is_live_at}
 use Rattle.wh_net.specs.Net.{RowAction, Delete, Insert, RowChange, net, appended}
 
 -- ---- what it shows
-
--- those of the last version whose data is no later; none where there is no such version
-abbrev pub rows_at : Table → ℕ → Rows
-rows_at t time = (content_in nothing_held (last_of (filter (λ v. nat_le v.data_timestamp time) t.versions))).rows
 
 abbrev pub records_between : Bool → Table → ℕ → ℕ → List RowChange
 records_between false t from to = net (rows_at t from) (rows_at t to)

@@ -8,52 +8,27 @@ use Rattle.std.specs.Int.{w32, w64, to_be_bytes}
 use Rattle.std.proofs.lemmas.List.{append-nil, nil_from_length}
 use Rattle.std.proofs.lemmas.Bool.{eqb-true}
 use Rattle.std.proofs.lemmas.Option.{same_Some}
-use Rattle.wh_value.specs.Column.{ColumnType, NumberType, VarcharType, BooleanType}
 use Rattle.wh_frame.specs.Spelling.{text_bytes, list_bytes, partition_bytes}
 use Rattle.wh_state.specs.Task.{TaskState, Ending}
+use Rattle.wh_state.specs.Dynamic.{DynamicState}
 use Rattle.wh_state.specs.Commit.{TextChange, CreatesTable, Drops, PushesVersion, CreatesStream, SetsOffset}
-use Rattle.wh_state.specs.Commit.{CreatesTask, SetsTask, StartsRun, FinishesTask, TextCommit}
-use Rattle.wh_state.specs.Spelling.{type_byte, column_bytes, table_bytes, version_bytes, stream_kind_byte}
-use Rattle.wh_state.specs.Spelling.{stream_bytes, offset_bytes, change_bytes, text_payload, NumbersRiseFrom, IsColumn}
+use Rattle.wh_state.specs.Commit.{CreatesTask, SetsTask, StartsRun, FinishesTask, CreatesDynamic, SetsDynamic}
+use Rattle.wh_state.specs.Commit.{TextCommit}
+use Rattle.wh_state.specs.Spelling.{column_bytes, table_bytes, version_bytes, stream_kind_byte}
+use Rattle.wh_state.specs.Spelling.{stream_bytes, offset_bytes, change_bytes, text_payload, NumbersRiseFrom}
 use Rattle.wh_state.specs.Spelling.{IsTableChange, IsVersionChange, IsStreamChange, IsChange, IsTextCommit}
 use Rattle.wh_part.specs.Reading.{Reader, ◌>>=◌, as_at}
 use Rattle.wh_part.proofs.ReaderLaws.{AreBytes, Reads, bind_some, cond_same, reads_then}
 use Rattle.wh_part.proofs.ReaderLaws.{reads_list, wide32, wide64, reads_number, reads_byte, reads_text}
 use Rattle.wh_part.proofs.PartitionLaws.{reads_partition}
-use Rattle.wh_record.specs.Decoding.{type_at, column_at, table_at, removed_at, version_at, change_behind}
+use Rattle.wh_record.specs.Decoding.{table_at, removed_at, version_at, change_behind}
 use Rattle.wh_record.specs.Decoding.{stream_kind_at, stream_at, offset_at, change_at, commit_at, commit_of_all}
 use Rattle.wh_record.specs.Laws.{PayloadFixesTextCommit}
 use Rattle.wh_record.proofs.FieldLaws.{byte_taken, reads_record, four_grouped, six_grouped, rising_numbers}
 use Rattle.wh_record.proofs.FieldLaws.{reads_rising}
+use Rattle.wh_record.proofs.ColumnLaws.{reads_column}
+use Rattle.wh_record.proofs.DynamicLaws.{reads_dynamic, reads_dynamic_state}
 use Rattle.wh_record.proofs.TaskLaws.{reads_task, reads_state, reads_run, reads_end}
-
--- ---- columns
-
-type_takes : (bytes : List ℕ) (t : ColumnType) (rest : List ℕ) → AreBytes bytes → type_at bytes ≡ Some (t, rest)
-    → (bytes ≡ type_byte t ∷ [] ++ rest) × Unit {0}
-unfolding type_at
-type_takes [] t rest fits e = absurd cc
-type_takes (zero ∷ bytes) t rest fits e = absurd cc
-type_takes (suc zero ∷ bytes) t rest fits e = byte_taken type_byte NumberType t bytes rest e
-type_takes (suc (suc zero) ∷ bytes) t rest fits e = byte_taken type_byte VarcharType t bytes rest e
-type_takes (suc (suc (suc zero)) ∷ bytes) t rest fits e = byte_taken type_byte BooleanType t bytes rest e
-type_takes (suc (suc (suc (suc tag))) ∷ bytes) t rest fits e = absurd cc
-
-type_again : (t : ColumnType) (rest : List ℕ) → Unit {0} → type_at (type_byte t ∷ [] ++ rest) ≡ Some (t, rest)
-unfolding type_at
-type_again NumberType rest good = refl
-type_again VarcharType rest good = refl
-type_again BooleanType rest good = refl
-
-reads_type : Reads (λ t. type_byte t ∷ []) (λ t. Unit {0}) type_at
-reads_type = record { takes = type_takes; again = type_again }
-
-pub reads_column : Reads column_bytes IsColumn column_at
-unfolding column_at column_bytes
-reads_column =
-    reads_record column_bytes IsColumn column_at
-    (λ c. (c.name, c.column_type)) (λ bytes. refl) (λ c. refl) (λ p. refl) (λ p good. good.0) (λ c good. (good, tt))
-    (reads_then reads_text (λ name _. reads_type))
 
 -- ---- new tables
 
@@ -175,8 +150,10 @@ module _ (tag : ℕ) (bytes : List ℕ) (fits : AreBytes bytes) (c : TextChange)
       (tagged_takes _ reads_state (λ p. SetsTask p.0 p.1) 5 (λ p good. (refl, good))
       (tagged_takes _ reads_run (λ p. StartsRun p.0 p.1) 6 (λ p good. (refl, good))
       (tagged_takes _ reads_end (λ p. FinishesTask p.0 p.1.0 p.1.1) 7 (λ p good. (refl, good))
+      (tagged_takes _ reads_dynamic CreatesDynamic 8 (λ d good. (refl, good))
+      (tagged_takes _ reads_dynamic_state (λ p. SetsDynamic p.0 p.1) 9 (λ p good. (refl, good))
       (tagged_takes _ reads_version PushesVersion 10 (λ v good. (refl, good))
-      (tagged_takes None reads_offset (λ p. SetsOffset p.0 p.1) 11 (λ p good. (refl, good)) (λ none. absurd cc)))))))))
+      (tagged_takes None reads_offset (λ p. SetsOffset p.0 p.1) 11 (λ p good. (refl, good)) (λ none. absurd cc)))))))))))
 
 change_takes : (bytes : List ℕ) (c : TextChange) (rest : List ℕ) → AreBytes bytes → change_at bytes ≡ Some (c, rest)
     → (bytes ≡ change_bytes c ++ rest) × IsChange c
@@ -203,6 +180,9 @@ change_again (StartsRun root tasks) rest good =
 change_again (FinishesTask root task ending) rest good =
     ap (said (λ (p : ℕ × (ℕ × Ending)). FinishesTask p.0 p.1.0 p.1.1))
     (reads_end.again (root, (task, ending)) rest good)
+change_again (CreatesDynamic c) rest good = ap (said CreatesDynamic) (reads_dynamic.again c rest good)
+change_again (SetsDynamic id state) rest good =
+    ap (said (λ (p : ℕ × DynamicState). SetsDynamic p.0 p.1)) (reads_dynamic_state.again (id, state) rest good)
 
 pub reads_change : Reads change_bytes IsChange change_at
 reads_change = record { takes = change_takes; again = change_again }

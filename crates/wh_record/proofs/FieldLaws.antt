@@ -37,6 +37,9 @@ reads_record {f = f} t h other back alike same spelled there again r =
 pub four_grouped : (a b c d : List ℕ) → a ++ (b ++ (c ++ d)) ≡ a ++ b ++ c ++ d
 four_grouped a b c d = simp append_assoc
 
+pub five_grouped : (a b c d e : List ℕ) → a ++ (b ++ (c ++ (d ++ e))) ≡ a ++ b ++ c ++ d ++ e
+five_grouped a b c d e = simp append_assoc
+
 pub six_grouped : (a b c d e f : List ℕ) → a ++ (b ++ (c ++ (d ++ (e ++ f)))) ≡ a ++ b ++ c ++ d ++ e ++ f
 six_grouped a b c d e f = simp append_assoc
 

@@ -1,5 +1,5 @@
 -- What is read of tasks is spelled so, and what is spelled so is read.
---     reads_task, reads_state, reads_run, reads_end     the two laws of each
+--     reads_task, reads_truth, reads_state, reads_run, reads_end     the two laws of each
 use Rattle.std.proofs.Common.{◌≡◌, ℕ, zero, suc, ◌^◌, ◌<◌, Bool, true, false, List, [], ◌∷◌, ◌++◌, length, Some, refl}
 use Rattle.std.proofs.Common.{sym, append_assoc}
 use Rattle.std.specs.Int.{w32, w64, to_be_bytes}
@@ -60,7 +60,7 @@ unfolding truth_at
 truth_again false rest good = refl
 truth_again true rest good = refl
 
-reads_truth : Reads (λ b. truth_byte b ∷ []) (λ b. Unit {0}) truth_at
+pub reads_truth : Reads (λ b. truth_byte b ∷ []) (λ b. Unit {0}) truth_at
 reads_truth = record { takes = truth_takes; again = truth_again }
 
 pub reads_state : Reads (λ p. state_bytes p.0 p.1) (λ p. IsTaskState p.0 p.1) state_at

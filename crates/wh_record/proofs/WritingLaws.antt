@@ -2,11 +2,14 @@
 use Rattle.std.proofs.Common.{◌≡◌, ℕ, List, [], ◌∷◌, ◌++◌, map, sym, ◌∙◌, ap, append_assoc}
 use Rattle.std.proofs.lemmas.Simd.{map-map}
 use Rattle.std.specs.Int.{w32, w64, to_be_bytes}
-use Rattle.wh_frame.specs.Spelling.{list_bytes}
-use Rattle.wh_state.specs.Commit.{TextCommit, change_as_text}
-use Rattle.wh_state.specs.Spelling.{text_payload, change_bytes, offset_bytes, truth_byte, state_bytes}
+use Rattle.wh_frame.specs.Spelling.{text_bytes, list_bytes}
+use Rattle.wh_state.specs.Commit.{TextCommit, InTexts, DynamicChangeIn, change_as_text}
+use Rattle.wh_state.specs.Spelling.{text_payload, change_bytes, column_bytes, offset_bytes, truth_byte, state_bytes}
+use Rattle.wh_state.specs.Spelling.{source_bytes, mode_byte, dynamic_bytes, dynamic_state_bytes}
 use Rattle.wh_state.specs.Task.{TaskState}
+use Rattle.wh_state.specs.Dynamic.{DynamicState}
 use Rattle.wh_task.specs.declared.task.TaskBody.{TaskBody}
+use Rattle.wh_dynamic.specs.declared.query.DynamicQuery.{DynamicQuery}
 use Rattle.wh_record.specs.declared.commit.ChangeIn.{ChangeIn}
 use Rattle.wh_record.specs.View.{change_of, written_of}
 
@@ -38,6 +41,37 @@ state_written id s before one two three four after p q r t u =
     ++ to_be_bytes w64 s.last_start) ++ to_be_bytes w32 s.failures = cc in
     whole ∙ simp append_assoc
 
+seven_regrouped : (before a b c t s k : List ℕ) (m : ℕ)
+    → ((((((before ++ a) ++ b) ++ c) ++ m ∷ []) ++ t) ++ s) ++ k ≡ before ++ (a ++ b ++ c ++ m ∷ t ++ s ++ k)
+seven_regrouped before a b c t s k m = simp append_assoc
+
+-- the fields are the dynamic table
+pub dynamic_written : (c : DynamicChangeIn InTexts) (before one two three four five six after : List ℕ)
+    → one ≡ before ++ to_be_bytes w32 c.id → two ≡ one ++ text_bytes c.name → three ≡ two ++ to_be_bytes w32 c.lag
+    → four ≡ three ++ mode_byte c.is_incremental ∷ [] → five ≡ four ++ text_bytes c.query.text
+    → six ≡ five ++ list_bytes source_bytes c.query.sources → after ≡ six ++ list_bytes column_bytes c.columns
+    → after ≡ before ++ dynamic_bytes c
+unfolding dynamic_bytes
+dynamic_written c before one two three four five six after p q r s t u v =
+    let whole : after ≡ ((((((before ++ to_be_bytes w32 c.id) ++ text_bytes c.name) ++ to_be_bytes w32 c.lag)
+    ++ mode_byte c.is_incremental ∷ []) ++ text_bytes c.query.text) ++ list_bytes source_bytes c.query.sources)
+    ++ list_bytes column_bytes c.columns = cc in
+    whole ∙ seven_regrouped before (to_be_bytes w32 c.id) (text_bytes c.name) (to_be_bytes w32 c.lag)
+    (text_bytes c.query.text) (list_bytes source_bytes c.query.sources) (list_bytes column_bytes c.columns)
+    (mode_byte c.is_incremental)
+
+-- the id and the state are the change
+pub dynamic_state_written : (id : ℕ) (s : DynamicState) (before one two three four five after : List ℕ)
+    → one ≡ before ++ to_be_bytes w32 id → two ≡ one ++ to_be_bytes w32 s.lag
+    → three ≡ two ++ truth_byte s.is_suspended ∷ [] → four ≡ three ++ to_be_bytes w32 s.failures
+    → five ≡ four ++ to_be_bytes w64 s.tried → after ≡ five ++ to_be_bytes w64 s.moment
+    → after ≡ before ++ dynamic_state_bytes id s
+unfolding dynamic_state_bytes
+dynamic_state_written id s before one two three four five after p q r t u v =
+    let whole : after ≡ (((((before ++ to_be_bytes w32 id) ++ to_be_bytes w32 s.lag) ++ truth_byte s.is_suspended ∷ [])
+    ++ to_be_bytes w32 s.failures) ++ to_be_bytes w64 s.tried) ++ to_be_bytes w64 s.moment = cc in
+    whole ∙ simp append_assoc
+
 -- the stamp and the changes are the commit
 pub commit_written : (c : TextCommit) (before one after : List ℕ) → one ≡ before ++ to_be_bytes w64 c.stamp
     → after ≡ one ++ list_bytes change_bytes c.changes
@@ -47,6 +81,6 @@ commit_written c before one after p q =
     two_written (to_be_bytes w64 c.stamp) (list_bytes change_bytes c.changes) before one after p q
 
 -- what is written of changes is what their texts say
-pub as_written : (changes : List (ChangeIn TaskBody))
+pub as_written : (changes : List (ChangeIn TaskBody DynamicQuery))
     → map written_of changes ≡ map change_as_text (map change_of changes)
 as_written changes = sym (map-map change_as_text change_of changes)

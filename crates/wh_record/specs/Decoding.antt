@@ -6,7 +6,9 @@ use Rattle.wh_value.specs.Column.{Column, ColumnType, NumberType, VarcharType, B
 use Rattle.wh_state.specs.Task.{TaskTexts, TaskState, Ending, Succeeded, Failed, Skipped}
 use Rattle.wh_state.specs.Commit.{TableChange, VersionChange, StreamChange, TextChange, CreatesTable, Drops}
 use Rattle.wh_state.specs.Commit.{PushesVersion, CreatesStream, SetsOffset, TextCommit, InTexts, TaskChangeIn}
-use Rattle.wh_state.specs.Commit.{CreatesTask, SetsTask, StartsRun, FinishesTask}
+use Rattle.wh_state.specs.Commit.{CreatesTask, SetsTask, StartsRun, FinishesTask, CreatesDynamic, SetsDynamic}
+use Rattle.wh_state.specs.Commit.{DynamicChangeIn}
+use Rattle.wh_state.specs.Dynamic.{Source, DynamicTexts, DynamicState}
 use Rattle.wh_part.specs.Reading.{Reader, ◌>>=◌, then_at, where_at, as_at, list_at, byte_at, number_at, text_at}
 use Rattle.wh_part.specs.Decoding.{partition_at}
 
@@ -112,6 +114,53 @@ ending_at (suc (suc (suc (suc ending))) ∷ bytes) = None
 unfoldable pub end_at : Reader (ℕ × (ℕ × Ending))
 end_at bytes = then_at (number_at w32) (λ _. then_at (number_at w32) (λ _. ending_at)) bytes
 
+-- ---- dynamic tables
+
+unfoldable pub source_at : Reader Source
+source_at bytes = as_at (λ p. record { name = p.0; id = p.1 }) (then_at text_at (λ _. number_at w32)) bytes
+
+-- of a query, and what it names
+unfoldable pub query_texts_at : Reader DynamicTexts
+query_texts_at bytes =
+    as_at (λ p. record { text = p.0; sources = p.1 }) (then_at text_at (λ _. list_at (number_at w32) source_at)) bytes
+
+-- whether a dynamic table is incremental
+unfoldable pub mode_at : Reader Bool
+mode_at [] = None
+mode_at (zero ∷ bytes) = None
+mode_at (suc zero ∷ bytes) = Some (false, bytes)
+mode_at (suc (suc zero) ∷ bytes) = Some (true, bytes)
+mode_at (suc (suc (suc mode)) ∷ bytes) = None
+
+unfoldable pub dynamic_at : Reader (DynamicChangeIn InTexts)
+dynamic_at bytes =
+    as_at (λ p. record {
+      id = p.0;
+      name = p.1.0;
+      lag = p.1.1.0;
+      is_incremental = p.1.1.1.0;
+      query = p.1.1.1.1.0;
+      columns = p.1.1.1.1.1;
+    })
+    (then_at (number_at w32) (λ _. then_at text_at (λ _. then_at (number_at w32) (λ _. then_at mode_at
+    (λ _. then_at query_texts_at (λ _. list_at (number_at w32) column_at)))))) bytes
+
+-- the id of a dynamic table, and its state
+unfoldable pub dynamic_state_at : Reader (ℕ × DynamicState)
+dynamic_state_at bytes =
+    as_at (λ p. (
+      p.0,
+      record {
+        lag = p.1.0;
+        is_suspended = p.1.1.0;
+        failures = p.1.1.1.0;
+        tried = p.1.1.1.1.0;
+        moment = p.1.1.1.1.1;
+      },
+    ))
+    (then_at (number_at w32) (λ _. then_at (number_at w32) (λ _. then_at truth_at (λ _. then_at (number_at w32)
+    (λ _. then_at (number_at w64) (λ _. number_at w64)))))) bytes
+
 -- ---- commits
 
 -- what a tag announces
@@ -124,6 +173,8 @@ change_behind tag bytes =
     else if tag == 5 then as_at (λ p. SetsTask p.0 p.1) state_at bytes
     else if tag == 6 then as_at (λ p. StartsRun p.0 p.1) run_at bytes
     else if tag == 7 then as_at (λ p. FinishesTask p.0 p.1.0 p.1.1) end_at bytes
+    else if tag == 8 then as_at CreatesDynamic dynamic_at bytes
+    else if tag == 9 then as_at (λ p. SetsDynamic p.0 p.1) dynamic_state_at bytes
     else if tag == 10 then as_at PushesVersion version_at bytes
     else if tag == 11 then as_at (λ p. SetsOffset p.0 p.1) offset_at bytes
     else None

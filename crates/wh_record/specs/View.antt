@@ -14,14 +14,21 @@ use Rattle.wh_record.specs.declared.commit.VersionChange.{VersionChange}
 use Rattle.wh_record.specs.declared.commit.StreamChange.{StreamChange}
 use Rattle.wh_record.specs.declared.commit.TaskTexts.{TaskTexts}
 use Rattle.wh_record.specs.declared.commit.TaskChangeIn.{TaskChangeIn}
+use Rattle.wh_record.specs.declared.commit.DynamicTexts.{DynamicTexts}
+use Rattle.wh_record.specs.declared.commit.DynamicChangeIn.{DynamicChangeIn}
 use Rattle.wh_record.specs.declared.commit.ChangeIn.{ChangeIn}
 use Rattle.wh_record.specs.declared.commit.ChangeIn.TheVariants.{CreatesTable, Drops, PushesVersion}
 use Rattle.wh_record.specs.declared.commit.ChangeIn.TheVariants.{CreatesStream, SetsOffset}
 use Rattle.wh_record.specs.declared.commit.ChangeIn.TheVariants.{CreatesTask, SetsTask, StartsRun, FinishesTask}
+use Rattle.wh_record.specs.declared.commit.ChangeIn.TheVariants.{CreatesDynamic, SetsDynamic}
 use Rattle.wh_record.specs.declared.commit.CommitIn.{CommitIn}
 use Rattle.wh_state.specs.Task as state
+use Rattle.wh_state.specs.Dynamic as dynamics
 use Rattle.wh_task.specs.declared.task.TaskBody.{TaskBody}
 use Rattle.wh_task.specs.View.{state_of, ending_of, body_of}
+use Rattle.wh_dynamic.specs.declared.query.DynamicQuery.{DynamicQuery}
+use Rattle.wh_dynamic.specs.View.{source_of, query_of}
+use Rattle.wh_dynamic.specs.View as dynamic_tables
 
 abbrev pub table_change_of : TableChange → machine.TableChange
 table_change_of c =
@@ -56,39 +63,60 @@ abbrev pub task_in : {R : Type 0} {form : machine.Form} → (R → machine.TaskP
 task_in runs_of c =
     record { id = c.id; name = c.name; minutes = c.minutes; after = c.after.items; runs = runs_of c.runs }
 
-abbrev pub change_in : {R : Type 0} {form : machine.Form} → (R → machine.TaskPart form) → ChangeIn R
+abbrev pub query_texts_in : DynamicTexts → dynamics.DynamicTexts
+query_texts_in t = record { text = t.text; sources = map source_of t.sources.items }
+
+abbrev pub dynamic_in : {Q : Type 0} {form : machine.Form} → (Q → machine.DynamicPart form) → DynamicChangeIn Q
+    → machine.DynamicChangeIn form
+dynamic_in query_by c = record {
+  id = c.id;
+  name = c.name;
+  lag = c.lag;
+  is_incremental = c.is_incremental;
+  query = query_by c.query;
+  columns = map column_of c.columns.items;
+}
+
+abbrev pub change_in : {R Q : Type 0} {form : machine.Form} → (R → machine.TaskPart form)
+    → (Q → machine.DynamicPart form) → ChangeIn R Q
     → machine.ChangeIn form
-change_in runs_of (CreatesTable c) = machine.CreatesTable (table_change_of c)
-change_in runs_of (Drops id) = machine.Drops id
-change_in runs_of (PushesVersion c) = machine.PushesVersion (version_change_of c)
-change_in runs_of (CreatesStream c) = machine.CreatesStream (stream_change_of c)
-change_in runs_of (SetsOffset id offset) = machine.SetsOffset id offset
-change_in runs_of (CreatesTask c) = machine.CreatesTask (task_in runs_of c)
-change_in runs_of (SetsTask id state) = machine.SetsTask id (state_of state)
-change_in runs_of (StartsRun root tasks) = machine.StartsRun root tasks.items
-change_in runs_of (FinishesTask root task ending) = machine.FinishesTask root task (ending_of ending)
+change_in runs_of query_by (CreatesTable c) = machine.CreatesTable (table_change_of c)
+change_in runs_of query_by (Drops id) = machine.Drops id
+change_in runs_of query_by (PushesVersion c) = machine.PushesVersion (version_change_of c)
+change_in runs_of query_by (CreatesStream c) = machine.CreatesStream (stream_change_of c)
+change_in runs_of query_by (SetsOffset id offset) = machine.SetsOffset id offset
+change_in runs_of query_by (CreatesTask c) = machine.CreatesTask (task_in runs_of c)
+change_in runs_of query_by (SetsTask id state) = machine.SetsTask id (state_of state)
+change_in runs_of query_by (StartsRun root tasks) = machine.StartsRun root tasks.items
+change_in runs_of query_by (FinishesTask root task ending) = machine.FinishesTask root task (ending_of ending)
+change_in runs_of query_by (CreatesDynamic c) = machine.CreatesDynamic (dynamic_in query_by c)
+change_in runs_of query_by (SetsDynamic id state) = machine.SetsDynamic id (dynamic_tables.state_of state)
 
-abbrev pub commit_in : {R : Type 0} {form : machine.Form} → (R → machine.TaskPart form) → CommitIn R
+abbrev pub commit_in : {R Q : Type 0} {form : machine.Form} → (R → machine.TaskPart form)
+    → (Q → machine.DynamicPart form) → CommitIn R Q
     → machine.CommitIn form
-commit_in runs_of c = record { stamp = c.stamp; changes = map (change_in runs_of) c.changes.items }
+commit_in runs_of query_by c = record { stamp = c.stamp; changes = map (change_in runs_of query_by) c.changes.items }
 
-abbrev pub text_change_of : ChangeIn TaskTexts → machine.TextChange
-text_change_of c = change_in texts_in c
+abbrev pub text_change_of : ChangeIn TaskTexts DynamicTexts → machine.TextChange
+text_change_of c = change_in texts_in query_texts_in c
 
-abbrev pub text_commit_of : CommitIn TaskTexts → machine.TextCommit
-text_commit_of c = commit_in texts_in c
+abbrev pub text_commit_of : CommitIn TaskTexts DynamicTexts → machine.TextCommit
+text_commit_of c = commit_in texts_in query_texts_in c
 
 abbrev pub task_change_of : TaskChangeIn TaskBody → machine.TaskChange
 task_change_of c = task_in body_of c
 
-abbrev pub change_of : ChangeIn TaskBody → machine.Change
-change_of c = change_in body_of c
+abbrev pub dynamic_change_of : DynamicChangeIn DynamicQuery → machine.DynamicChange
+dynamic_change_of c = dynamic_in query_of c
 
-abbrev pub written_of : ChangeIn TaskBody → machine.TextChange
+abbrev pub change_of : ChangeIn TaskBody DynamicQuery → machine.Change
+change_of c = change_in body_of query_of c
+
+abbrev pub written_of : ChangeIn TaskBody DynamicQuery → machine.TextChange
 written_of c = machine.change_as_text (change_of c)
 
-abbrev pub commit_of : CommitIn TaskBody → machine.Commit
-commit_of c = commit_in body_of c
+abbrev pub commit_of : CommitIn TaskBody DynamicQuery → machine.Commit
+commit_of c = commit_in body_of query_of c
 
 -- a row of a partition that is added has the width's number of values, and they are within the format
 abbrev pub HasRow : ℕ → ℕ × Row → Type 0

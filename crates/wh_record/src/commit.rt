@@ -1,3 +1,4 @@
+use wh_dynamic::{DynamicQuery, DynamicState, NamedSource};
 use wh_part::Partition;
 use wh_task::{Ending, TaskBody, TaskState};
 use wh_value::{Column, Text};
@@ -22,6 +23,12 @@ pub(crate) const RUN_TAG: u8 = 6;
 
 /// The byte before the end of a task in a run.
 pub(crate) const END_TAG: u8 = 7;
+
+/// The byte before a new dynamic table.
+pub(crate) const DYNAMIC_TAG: u8 = 8;
+
+/// The byte before the state of a dynamic table.
+pub(crate) const DYNAMIC_STATE_TAG: u8 = 9;
 
 /// The byte before a new version.
 pub(crate) const VERSION_TAG: u8 = 10;
@@ -78,9 +85,29 @@ pub struct TaskChangeIn<R> {
     pub runs: R,
 }
 
+/// The text of a dynamic table's query, and an object for each name in FROM, in the order of the
+/// text.
+#[derive(Debug, Drop)]
+pub struct DynamicTexts {
+    pub text: Text,
+    pub sources: Vec<NamedSource>,
+}
+
+/// A new dynamic table; `lag` is in seconds, 0 for DOWNSTREAM. Its query is told by its text, as
+/// bytes tell it, or with what that means.
+#[derive(Debug, Drop)]
+pub struct DynamicChangeIn<Q> {
+    pub id: u32,
+    pub name: Text,
+    pub lag: u32,
+    pub is_incremental: bool,
+    pub query: Q,
+    pub columns: Vec<Column>,
+}
+
 /// One of the things that a commit changes.
 #[derive(Debug, Drop)]
-pub enum ChangeIn<R> {
+pub enum ChangeIn<R, Q> {
     CreatesTable(TableChange),
     /// The object of that id is dropped.
     Drops(u32),
@@ -108,23 +135,31 @@ pub enum ChangeIn<R> {
         task: u32,
         ending: Ending,
     },
+    CreatesDynamic(DynamicChangeIn<Q>),
+    /// The dynamic table of that id has another state.
+    SetsDynamic {
+        id: u32,
+        state: DynamicState,
+    },
 }
 
 /// Changes, and the stamp at which they are made. There may be none.
 #[derive(Debug, Drop)]
-pub struct CommitIn<R> {
+pub struct CommitIn<R, Q> {
     pub stamp: u64,
-    pub changes: Vec<ChangeIn<R>>,
+    pub changes: Vec<ChangeIn<R, Q>>,
 }
 
 /// What its bytes give of a commit.
-pub type TextCommit = CommitIn<TaskTexts>;
+pub type TextCommit = CommitIn<TaskTexts, DynamicTexts>;
 
-pub type TextChange = ChangeIn<TaskTexts>;
+pub type TextChange = ChangeIn<TaskTexts, DynamicTexts>;
 
 /// A commit with what its texts mean.
-pub type Commit = CommitIn<TaskBody>;
+pub type Commit = CommitIn<TaskBody, DynamicQuery>;
 
-pub type Change = ChangeIn<TaskBody>;
+pub type Change = ChangeIn<TaskBody, DynamicQuery>;
 
 pub type TaskChange = TaskChangeIn<TaskBody>;
+
+pub type DynamicChange = DynamicChangeIn<DynamicQuery>;

@@ -11,8 +11,10 @@ ghost use Rattle.wh_record.specs.View.{table_change_of, version_change_of, strea
 ghost use Rattle.wh_record.specs.View.{text_change_of, text_commit_of};
 
 use crate::commit::{
-    DROP_TAG, END_TAG, OFFSET_TAG, RUN_TAG, STATE_TAG, STREAM_TAG, TABLE_TAG, TASK_TAG, VERSION_TAG,
+    DROP_TAG, DYNAMIC_STATE_TAG, DYNAMIC_TAG, END_TAG, OFFSET_TAG, RUN_TAG, STATE_TAG, STREAM_TAG,
+    TABLE_TAG, TASK_TAG, VERSION_TAG,
 };
+use crate::dynamic_decoding::{read_dynamic, read_dynamic_state};
 use crate::format::rise;
 use crate::task_decoding::{read_end, read_run, read_state, read_task};
 use crate::{StreamChange, TableChange, TextChange, TextCommit, VersionChange};
@@ -59,7 +61,7 @@ fn read_each_column(
     Ok((columns, rest))
 }
 
-fn read_columns(alloc: Global, bytes: &[u8]) -> Result<(Vec<Column>, &[u8]), ReadError>
+pub(crate) fn read_columns(alloc: Global, bytes: &[u8]) -> Result<(Vec<Column>, &[u8]), ReadError>
     ensures { Gives (λ x. (map column_of x.0.items, x.1.now)) result
         (list_at (number_at w32) column_at bytes.now) }
 {
@@ -237,6 +239,14 @@ fn read_change_behind(
     if tag == END_TAG {
         let ((root, task, ending), rest) = read_end(bytes)?;
         return Ok((TextChange::FinishesTask { root, task, ending }, rest));
+    }
+    if tag == DYNAMIC_TAG {
+        let (table, rest) = read_dynamic(alloc, bytes)?;
+        return Ok((TextChange::CreatesDynamic(table), rest));
+    }
+    if tag == DYNAMIC_STATE_TAG {
+        let ((id, state), rest) = read_dynamic_state(bytes)?;
+        return Ok((TextChange::SetsDynamic { id, state }, rest));
     }
     if tag == VERSION_TAG {
         let (version, rest) = read_version(alloc, bytes)?;

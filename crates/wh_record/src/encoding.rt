@@ -13,8 +13,10 @@ ghost use Rattle.wh_record.specs.View.{table_change_of, version_change_of, strea
 ghost use Rattle.wh_record.specs.View.{written_of, commit_of};
 
 use crate::commit::{
-    DROP_TAG, END_TAG, OFFSET_TAG, RUN_TAG, STATE_TAG, STREAM_TAG, TABLE_TAG, TASK_TAG, VERSION_TAG,
+    DROP_TAG, DYNAMIC_STATE_TAG, DYNAMIC_TAG, END_TAG, OFFSET_TAG, RUN_TAG, STATE_TAG, STREAM_TAG,
+    TABLE_TAG, TASK_TAG, VERSION_TAG,
 };
+use crate::dynamic_encoding::{write_dynamic, write_dynamic_state};
 use crate::format::{has_rows, rise};
 use crate::task_encoding::{write_end, write_run, write_state, write_task};
 use crate::{Change, Commit, StreamChange, TableChange, VersionChange};
@@ -53,7 +55,7 @@ fn write_column(out: &mut Bytes, column: &Column) -> Result<(), AllocError>
     out.push(byte_of_type(column.column_type))
 }
 
-fn write_columns(out: &mut Bytes, columns: &[Column]) -> Result<(), AllocError>
+pub(crate) fn write_columns(out: &mut Bytes, columns: &[Column]) -> Result<(), AllocError>
     ensures written { OnOk result (out.new
         ≡ out.old ++ list_bytes column_bytes (map column_of columns.now)) }
     ensures fits { OnOk result (length columns.now < 2 ^ 32) }
@@ -237,6 +239,14 @@ fn write_change(out: &mut Bytes, change: &Change) -> Result<(), AllocError>
         Change::FinishesTask { root, task, ending } => {
             out.push(END_TAG)?;
             write_end(out, *root, *task, *ending)
+        }
+        Change::CreatesDynamic(table) => {
+            out.push(DYNAMIC_TAG)?;
+            write_dynamic(out, table)
+        }
+        Change::SetsDynamic { id, state } => {
+            out.push(DYNAMIC_STATE_TAG)?;
+            write_dynamic_state(out, *id, *state)
         }
     }
 }

@@ -3,13 +3,15 @@
 
 mod commit;
 mod decoding;
+mod dynamic_decoding;
+mod dynamic_encoding;
 mod encoding;
 mod format;
 mod task_decoding;
 mod task_encoding;
 
 pub use commit::{
-    Change, ChangeIn, Commit, CommitIn, StreamChange, TableChange, TaskChange, TaskChangeIn,
-    TaskTexts, TextChange, TextCommit, VersionChange,
+    Change, ChangeIn, Commit, CommitIn, DynamicChange, DynamicChangeIn, DynamicTexts, StreamChange,
+    TableChange, TaskChange, TaskChangeIn, TaskTexts, TextChange, TextCommit, VersionChange,
 };
 pub use decoding::spelling_fixes_commits;

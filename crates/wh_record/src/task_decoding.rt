@@ -67,7 +67,7 @@ pub(crate) fn read_task(
 }
 
 #[tactic(auto, unfolding(crate::specs::Decoding::truth_at))]
-fn read_truth(bytes: &[u8]) -> Result<(bool, &[u8]), ReadError>
+pub(crate) fn read_truth(bytes: &[u8]) -> Result<(bool, &[u8]), ReadError>
     ensures { Gives (λ x. (x.0, x.1.now)) result (truth_at bytes.now) }
 {
     match bytes {

@@ -64,7 +64,7 @@ pub(crate) fn write_task(out: &mut Bytes, task: &TaskChange) -> Result<(), Alloc
     write_text(out, &task.runs.body_text)
 }
 
-fn byte_of_truth(truth: bool) -> u8
+pub(crate) fn byte_of_truth(truth: bool) -> u8
     ensures { result ≡ truth_byte truth }
 {
     if truth { 1 } else { 0 }

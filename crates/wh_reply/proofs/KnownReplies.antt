@@ -5,6 +5,8 @@ use Rattle.std.specs.Fmt.{digits}
 use Rattle.wh_reply.specs.Reply.{Aftermath, Inserted, Updated, Deleted, Merged, RootRunning, RootNotSuspended}
 use Rattle.wh_reply.specs.Reply.{HasChildren, SourceGone, CreatedTask, DroppedTask, Resumed, Suspended, Started}
 use Rattle.wh_reply.specs.Reply.{TaskSucceeded, TaskSkipped, TaskFailed, Changed, Refused, is_refusal, print}
+use Rattle.wh_reply.specs.Reply.{NoData, Full, Refreshed, CreatedDynamicTable, RefreshedTables, RefreshFailed}
+use Rattle.wh_reply.specs.Reply.{NumberOutOfRange}
 
 -- the run goes on, and no other task is skipped
 abbrev goes_on : Aftermath
@@ -53,6 +55,34 @@ refused : (print (Refused (RootRunning (codes "R"))) ≡ codes "E12 RootRunning 
 unfolding print
 refused = (refl, refl, refl)
 
+-- ---- dynamic tables
+
+abbrev kept : Refreshed
+kept = record { name = codes "D"; moment = 48000; action = NoData; plus = 0; minus = 0 }
+
+abbrev evaluated : Refreshed
+evaluated = record { name = codes "E"; moment = 48000; action = Full; plus = 12; minus = 3 }
+
+initialized : print (CreatedDynamicTable (codes "E") (kept ∷ evaluated ∷ []))
+    ≡ codes "CREATED DYNAMIC TABLE E\nD REFRESHED 48000 NO_DATA +0 -0\nE REFRESHED 48000 FULL +12 -3\n"
+unfolding print digits
+initialized = refl
+
+-- where each stands for the moment already
+nothing_refreshed : print (RefreshedTables []) ≡ codes "IDLE\n"
+unfolding print
+nothing_refreshed = refl
+
+refresh_failed : print (RefreshFailed (codes "D") 96000 NumberOutOfRange true)
+    ≡ codes "D FAILED 96000 E19 NumberOutOfRange SUSPENDED\n"
+unfolding print digits
+refresh_failed = refl
+
+-- ---- replies that are no refusals
+
 -- a task that failed is no refusal of its command
 no_refusal : is_refusal (TaskFailed (codes "A") (SourceGone (codes "S")) fails) ≡ false
 no_refusal = refl
+
+refresh_is_no_refusal : is_refusal (RefreshFailed (codes "D") 96000 NumberOutOfRange true) ≡ false
+refresh_is_no_refusal = refl

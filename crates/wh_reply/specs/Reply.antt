@@ -12,7 +12,6 @@ use Rattle.wh_value.specs.declared.limit.Limit.{Limit}
 use Rattle.wh_value.specs.declared.limit.Limit.TheVariants as limits
 
 pub data Refusal : Type 0 where
-  Unsupported : Refusal
   SyntaxError : Refusal
   NoSuchSession : (session : ℕ) → Refusal
   -- the number of the session's own transaction
@@ -23,6 +22,10 @@ pub data Refusal : Type 0 where
   NameTaken : (name : List ℕ) → Refusal
   WrongKind : (name : List ℕ) → Refusal
   TypeMismatch : Refusal
+  -- a query through which changes can't be carried
+  NotIncrementable : Refusal
+  -- a dynamic table, and one upstream whose lag would be longer
+  LagTooShort : (table upstream : List ℕ) → Refusal
   -- a root that has a run under way
   RootRunning : (root : List ℕ) → Refusal
   -- a root that is resumed
@@ -30,10 +33,14 @@ pub data Refusal : Type 0 where
   -- a task that follows the one that would be dropped
   HasChildren : (child : List ℕ) → Refusal
   OverLimit : Limit → Refusal
-  -- a stream whose source was dropped or replaced
+  -- a dynamic table that has no rows yet
+  NotInitialized : (name : List ℕ) → Refusal
+  -- a stream, or a dynamic table, whose source was dropped or replaced
   SourceGone : (name : List ℕ) → Refusal
   -- a stream's offset, and the last stamp at which it could be read
   StaleStream : (offset last_read : ℕ) → Refusal
+  -- a dynamic table that is suspended
+  IsSuspended : (name : List ℕ) → Refusal
   -- the number of another session's transaction
   Locked : (number : ℕ) → Refusal
   NumberOutOfRange : Refusal
@@ -61,7 +68,27 @@ pub record Aftermath : Type 0 where
   -- the end of the run
   pub graph : Option GraphEnd
 
+-- how a dynamic table was brought to a moment
+pub data RefreshAction : Type 0 where
+  NoData : RefreshAction
+  Full : RefreshAction
+  Incremental : RefreshAction
+
+-- a dynamic table that was brought to a moment, with how many rows came and went
+pub record Refreshed : Type 0 where
+  pub name : List ℕ
+  pub moment : ℕ
+  pub action : RefreshAction
+  pub plus : ℕ
+  pub minus : ℕ
+
 pub data Reply : Type 0 where
+  CreatedDynamicTable : (name : List ℕ) → List Refreshed → Reply
+  DroppedDynamicTable : (name : List ℕ) → Reply
+  Altered : (name : List ℕ) → Reply
+  RefreshedTables : List Refreshed → Reply
+  -- a scheduled refresh, and whether its table was suspended by it
+  RefreshFailed : (name : List ℕ) → (target : ℕ) → Refusal → (is_suspended : Bool) → Reply
   CreatedTable : (name : List ℕ) → Reply
   DroppedTable : (name : List ℕ) → Reply
   CreatedStream : (name : List ℕ) → Reply
@@ -87,6 +114,11 @@ pub data Reply : Type 0 where
   Refused : Refusal → Reply
 
 abbrev pub is_refusal : Reply → Bool
+is_refusal (CreatedDynamicTable name refreshed) = false
+is_refusal (DroppedDynamicTable name) = false
+is_refusal (Altered name) = false
+is_refusal (RefreshedTables refreshed) = false
+is_refusal (RefreshFailed name target why is_suspended) = false
 is_refusal (CreatedTable name) = false
 is_refusal (DroppedTable name) = false
 is_refusal (CreatedStream name) = false
@@ -142,7 +174,6 @@ limit_word limits.MostTargetLag = codes "TARGET_LAG"
 limit_word limits.Retention = codes "RETENTION"
 
 abbrev pub refusal_text : Refusal → List ℕ
-refusal_text Unsupported = codes "E0 Unsupported"
 refusal_text SyntaxError = codes "E1 SyntaxError"
 refusal_text (NoSuchSession session) = codes "E2 NoSuchSession " ++ decimal session
 refusal_text (DdlInTransaction number) = codes "E3 DdlInTransaction " ++ decimal number
@@ -152,13 +183,17 @@ refusal_text (UnknownName name) = codes "E6 UnknownName " ++ name
 refusal_text (NameTaken name) = codes "E7 NameTaken " ++ name
 refusal_text (WrongKind name) = codes "E8 WrongKind " ++ name
 refusal_text TypeMismatch = codes "E9 TypeMismatch"
+refusal_text NotIncrementable = codes "E10 NotIncrementable"
+refusal_text (LagTooShort table upstream) = codes "E11 LagTooShort " ++ table ++ codes " " ++ upstream
 refusal_text (RootRunning root) = codes "E12 RootRunning " ++ root
 refusal_text (RootNotSuspended root) = codes "E12 RootNotSuspended " ++ root
 refusal_text (HasChildren child) = codes "E12 HasChildren " ++ child
 refusal_text (OverLimit limit) = codes "E13 Limit " ++ limit_word limit ++ codes " " ++ decimal (bound limit)
+refusal_text (NotInitialized name) = codes "E14 NotInitialized " ++ name
 refusal_text (SourceGone name) = codes "E15 SourceGone " ++ name
 refusal_text (StaleStream offset last_read) =
     codes "E16 StaleStream " ++ decimal offset ++ codes " " ++ decimal last_read
+refusal_text (IsSuspended name) = codes "E17 Suspended " ++ name
 refusal_text (Locked number) = codes "E18 Locked " ++ decimal number
 refusal_text NumberOutOfRange = codes "E19 NumberOutOfRange"
 refusal_text (AmbiguousMerge row) = codes "E20 AmbiguousMerge " ++ values_text row
@@ -198,7 +233,28 @@ graph_lines (Some g) = graph_line g
 abbrev pub aftermath_lines : Aftermath → List ℕ
 aftermath_lines a = flat_map skipped_line a.skipped ++ graph_lines a.graph
 
+abbrev pub action_word : RefreshAction → List ℕ
+action_word NoData = codes "NO_DATA"
+action_word Full = codes "FULL"
+action_word Incremental = codes "INCREMENTAL"
+
+abbrev pub refreshed_line : Refreshed → List ℕ
+refreshed_line r = line (r.name ++ codes " REFRESHED " ++ decimal r.moment ++ codes " " ++ action_word r.action
+    ++ codes " +" ++ decimal r.plus ++ codes " -" ++ decimal r.minus)
+
+-- no reply is empty: where no table stood below the moment, nothing was done
+abbrev pub refreshed_lines : List Refreshed → List ℕ
+refreshed_lines [] = line (codes "IDLE")
+refreshed_lines (r ∷ rs) = refreshed_line r ++ flat_map refreshed_line rs
+
 unfoldable pub print : Reply → List ℕ
+print (CreatedDynamicTable name refreshed) =
+    line (codes "CREATED DYNAMIC TABLE " ++ name) ++ flat_map refreshed_line refreshed
+print (DroppedDynamicTable name) = line (codes "DROPPED DYNAMIC TABLE " ++ name)
+print (Altered name) = line (codes "ALTERED " ++ name)
+print (RefreshedTables refreshed) = refreshed_lines refreshed
+print (RefreshFailed name target why is_suspended) =
+    line (name ++ codes " FAILED " ++ decimal target ++ codes " " ++ refusal_text why ++ suspended_text is_suspended)
 print (CreatedTable name) = line (codes "CREATED TABLE " ++ name)
 print (DroppedTable name) = line (codes "DROPPED TABLE " ++ name)
 print (CreatedStream name) = line (codes "CREATED STREAM " ++ name)

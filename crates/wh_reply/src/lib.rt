@@ -3,4 +3,4 @@
 
 mod reply;
 
-pub use reply::{Aftermath, GraphEnd, Refusal, Reply, RowCounts};
+pub use reply::{Aftermath, GraphEnd, RefreshAction, Refreshed, Refusal, Reply, RowCounts};

@@ -3,8 +3,6 @@ use wh_value::{Limit, Row, Text};
 /// Why a command is refused. docs/replies.md has the exact cause of each.
 #[derive(Debug, Drop)]
 pub enum Refusal {
-    /// The statement's form is not carried out yet.
-    Unsupported,
     /// The text spells no statement.
     SyntaxError,
     /// No session has the number.
@@ -23,6 +21,13 @@ pub enum Refusal {
     WrongKind(Text),
     /// An expression isn't typed, or a value doesn't fit its column.
     TypeMismatch,
+    /// Changes can't be carried through the query of an incremental table.
+    NotIncrementable,
+    /// The lag of a dynamic table would be below that of one upstream: their names.
+    LagTooShort {
+        table: Text,
+        upstream: Text,
+    },
     /// The root of that name has a run under way.
     RootRunning(Text),
     /// The root of that name is resumed.
@@ -31,7 +36,9 @@ pub enum Refusal {
     HasChildren(Text),
     /// A count would pass a limit.
     OverLimit(Limit),
-    /// The source of the stream of that name was dropped or replaced.
+    /// The dynamic table of that name has no rows yet.
+    NotInitialized(Text),
+    /// A source of the stream or dynamic table of that name was dropped or replaced.
     SourceGone(Text),
     /// The stream's offset lies too far back.
     StaleStream {
@@ -39,6 +46,8 @@ pub enum Refusal {
         /// The last stamp at which it could be read.
         last_read: u64,
     },
+    /// The dynamic table of that name is suspended.
+    IsSuspended(Text),
     /// The transaction of that number, of another session, holds what would be changed.
     Locked(u64),
     /// A number of an evaluation has more than 18 digits.
@@ -83,9 +92,49 @@ pub struct Aftermath {
     pub graph: Option<GraphEnd>,
 }
 
+/// How a dynamic table was brought to a moment.
+#[derive(Clone, Copy, Debug, PartialEq, Eq)]
+pub enum RefreshAction {
+    /// No source had changed.
+    NoData,
+    /// Its query was evaluated.
+    Full,
+    /// The changes of its sources were carried through its query.
+    Incremental,
+}
+
+/// A dynamic table that was brought to a moment, with the numbers of rows that came and went.
+#[derive(Debug, Drop)]
+pub struct Refreshed {
+    pub name: Text,
+    pub moment: u64,
+    pub action: RefreshAction,
+    pub plus: u64,
+    pub minus: u64,
+}
+
 /// The answer to an event.
 #[derive(Debug, Drop)]
 pub enum Reply {
+    /// The dynamic table's name, and what was refreshed for it.
+    CreatedDynamicTable {
+        name: Text,
+        refreshed: Vec<Refreshed>,
+    },
+    /// The dynamic table's name.
+    DroppedDynamicTable(Text),
+    /// The dynamic table's name.
+    Altered(Text),
+    /// The dynamic tables that were brought to a moment.
+    RefreshedTables(Vec<Refreshed>),
+    /// A scheduled refresh of the dynamic table of that name failed: why, and whether that
+    /// suspended it.
+    RefreshFailed {
+        name: Text,
+        target: u64,
+        why: Refusal,
+        is_suspended: bool,
+    },
     /// The table's name.
     CreatedTable(Text),
     /// The table's name.

@@ -1,7 +1,8 @@
-pub mod LoneWord
 pub mod Told
 pub mod Written
 pub mod EventLemmas
+pub mod TimingLemmas
+pub mod TickingLemmas
 pub mod ReadingLemmas
 pub mod CountLemmas
 pub mod RoomLemmas
@@ -16,3 +17,4 @@ pub mod Opening
 pub mod Ending
 pub mod Opened
 pub mod Unopened
+pub mod Idle

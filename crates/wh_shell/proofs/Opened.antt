@@ -10,7 +10,6 @@ use Rattle.wh_state.specs.Commit.{Commit}
 use Rattle.wh_machine.specs.Outcome.{Machine, opened}
 use Rattle.wh_machine.specs.Step.{Event, text}
 use Rattle.wh_machine.specs.Made.{all_made, overflow, fitting}
-use Rattle.wh_machine.specs.Script.{IsScript}
 use Rattle.wh_commit_parse.proofs.FileLaws.{file_fixes_stored}
 use Rattle.wh_world.specs.Crash.{Only}
 use Rattle.wh_world.specs.declared.disk.Disk as disks
@@ -31,6 +30,7 @@ use Rattle.wh_shell.specs.Promised.{RunsWithin}
 use Rattle.wh_shell.specs.Room.{FillsBy}
 use Rattle.wh_shell.specs.Run.{IsStart, IsWhole, IsFront, Runs, Through, EndsBy, StopsWhereTooLong}
 use Rattle.wh_shell.specs.Serving.{EndsAs}
+use Rattle.wh_shell.specs.Timing.{Timing, IsScriptBy, timed}
 use Rattle.wh_shell.specs.World.{World, world_of}
 use Rattle.wh_shell.specs.Writing.{Writes}
 use Rattle.wh_shell.specs.declared.fault.Fault.{Fault}
@@ -43,29 +43,32 @@ use Rattle.wh_shell.proofs.EventLemmas.{told_events}
 use Rattle.wh_shell.proofs.Opening.{machine_is, machine_opened, run_survives}
 
 module _ {D S K : Type 0} (d : disks.Ghosts D) (s : sources.Ghosts S) (k : sinks.Ghosts K) (limit : ℕ)
-    (old new : World D S K) (w : Warehouse D d) (opens : Opens d old.disk limit w) where
+    (timing : Timing) (old new : World D S K) (w : Warehouse D d) (opens : Opens d old.disk limit w) where
+  abbrev pub left_of : Option (List Event)
+  left_of = timed timing (option_map events (s.left old.script))
+
   -- the warehouse, and all events of the script
   abbrev pub start_of : Point D S K
-  start_of = point_of w (option_map events (s.left old.script)) old.script old.out
+  start_of = point_of w left_of old.script old.out
 
-  told_left : (input : List ℕ) (es : List Event) → s.left old.script ≡ Some input → IsScript input es →
-      option_map events (s.left old.script) ≡ Some es
-  told_left input es told script = told_events input es (s.left old.script) told script
+  told_left : (input : List ℕ) (es : List Event) → s.left old.script ≡ Some input →
+      IsScriptBy timing input es → left_of ≡ Some es
+  told_left input es told script = told_events timing input es (s.left old.script) told script
 
   -- ---- what was written and left
 
   -- the machine of the state that the file stands for is the one that was opened
   same : {file input before : List ℕ} {start : State} {es : List Event} →
-      IsStart (d.bytes old.disk) (s.left old.script) (k.held old.out) file input before start es →
+      IsStart timing (d.bytes old.disk) (s.left old.script) (k.held old.out) file input before start es →
       machine_of w ≡ opened start
   same {file} {input} {before} {start} is =
       sym (machine_opened file (stored_of w.catalog) start (machine_of w) is.stands (opens.kept file is.told_file)
       opens.means opens.sessions)
 
-  runs : (status : Status) → EndsAs d s k start_of new status → Runs d s k old new status
+  runs : (status : Status) → EndsAs d s k start_of new status → Runs d s k timing old new status
   runs Usage ends = absurd ends
   runs (Read count) ends = λ file input held start es is.
-      let left : option_map events (s.left old.script) ≡ Some es = told_left input es is.told_script is.events in
+      let left : left_of ≡ Some es = told_left input es is.told_script is.events in
       let all = ends.each es left in
       let left_file = ends.stands (opens.told ∙ ap is_some is.told_file) es left in
       subst (λ (m : Machine). IsWhole m es held count (k.held new.out) (d.bytes new.disk) (s.left new.script)) (same is)
@@ -90,12 +93,12 @@ module _ {D S K : Type 0} (d : disks.Ghosts D) (s : sources.Ghosts S) (k : sinks
   -- ---- what the file says
 
   stored_is : {file input : List ℕ} {stored : Stored} {start : State} {es : List Event} →
-      Says (d.bytes old.disk) (s.left old.script) file input stored start es → stored_of w.catalog ≡ stored
+      Says timing (d.bytes old.disk) (s.left old.script) file input stored start es → stored_of w.catalog ≡ stored
   stored_is {file} {input} {stored} says =
       file_fixes_stored file (stored_of w.catalog) stored (opens.kept file says.told_file) says.keeps
 
   machine_said : {file input : List ℕ} {stored : Stored} {start : State} {es : List Event} →
-      Says (d.bytes old.disk) (s.left old.script) file input stored start es → machine_of w ≡ opened start
+      Says timing (d.bytes old.disk) (s.left old.script) file input stored start es → machine_of w ≡ opened start
   machine_said {file} {input} {stored} {start} says =
       machine_is (machine_of w) start (opens.means ∙ ap meant (stored_is says) ∙ sym says.means) opens.sessions
 
@@ -107,7 +110,7 @@ module _ {D S K : Type 0} (d : disks.Ghosts D) (s : sources.Ghosts S) (k : sinks
       let fresh = opens.fresh file told short.0 in
       (fresh.0, fresh.1, subst (λ (ps : List (List ℕ)). IsFileOf ps fresh.0) (sym short.1) fresh.2)
 
-  commits : (status : Status) → EndsAs d s k start_of new status → AddsCommits d s old new status
+  commits : (status : Status) → EndsAs d s k start_of new status → AddsCommits d s timing old new status
   commits Usage ends = absurd ends
   commits (Read count) ends = λ file input stored start es says payloads has.
       let all = ends.each es (told_left input es says.told_script says.events) in
@@ -122,7 +125,7 @@ module _ {D S K : Type 0} (d : disks.Ghosts D) (s : sources.Ghosts S) (k : sinks
   -- ---- what a crash leaves
 
   survives : EndsSafely d k start_of new → (file input before written : List ℕ) (start : State) (es : List Event) →
-      IsStart (d.bytes old.disk) (s.left old.script) (k.held old.out) file input before start es →
+      IsStart timing (d.bytes old.disk) (s.left old.script) (k.held old.out) file input before start es →
       Only file (d.may_leave old.disk) → k.held new.out ≡ Some (before ++ written) →
       Survives d old.disk new.disk (opened start) es (length written)
   survives safe file input before written start es is only held_is =
@@ -150,7 +153,7 @@ module _ {D S K : Type 0} (d : disks.Ghosts D) (s : sources.Ghosts S) (k : sinks
       (λ len need is. omega (arith, (ends.full len need is).past, opens.limit))
       (λ taken is. long.too_long taken (ap Stopped is))
 
-  fills_by : (es : List Event) (status : Status) → option_map events (s.left old.script) ≡ Some es →
+  fills_by : (es : List Event) (status : Status) → left_of ≡ Some es →
       EndsAs d s k start_of new status →
       FillsBy status (overflow (limit_of w.journal) (end_of w.journal) (stored_of w.catalog) (machine_of w) es)
   fills_by es Usage left ends = tt
@@ -158,7 +161,7 @@ module _ {D S K : Type 0} (d : disks.Ghosts D) (s : sources.Ghosts S) (k : sinks
   fills_by es (Stopped why) left ends = λ len need is. (ends.full len need is).first es left
 
   written_by : (es : List Event) (status : Status) (len need : ℕ) → status ≡ Stopped (FileFull len need) →
-      option_map events (s.left old.script) ≡ Some es → EndsAs d s k start_of new status →
+      left_of ≡ Some es → EndsAs d s k start_of new status →
       Writes (text (machine_of w)
       (fitting (limit_of w.journal) (end_of w.journal) (stored_of w.catalog) (machine_of w) es))
       (k.held old.out) (k.held new.out)
@@ -167,9 +170,9 @@ module _ {D S K : Type 0} (d : disks.Ghosts D) (s : sources.Ghosts S) (k : sinks
       subst (EndsAs d s k start_of new) is ends in
       (stops.full len need refl).written es left
 
-  full : (status : Status) → EndsAs d s k start_of new status → Fills d s k limit old new status
+  full : (status : Status) → EndsAs d s k start_of new status → Fills d s k limit timing old new status
   full status ends = λ file input stored start es says.
-      let left : option_map events (s.left old.script) ≡ Some es = told_left input es says.told_script says.events in
+      let left : left_of ≡ Some es = told_left input es says.told_script says.events in
       let stored_same = stored_is says in
       let machine_same = machine_said says in
       let limit_same = opens.limit in
@@ -189,7 +192,7 @@ module _ {D S K : Type 0} (d : disks.Ghosts D) (s : sources.Ghosts S) (k : sinks
 
   pub opened_runs : (status : Status) → EndsAs d s k start_of new status →
       StopsWhereTooLong s old.script new.script status →
-      RunsWithin d s k limit old new status
+      RunsWithin d s k limit timing old new status
   opened_runs status ends long =
       let safe = ends_safely d s k start_of new status ends in
       record {

@@ -1,7 +1,6 @@
 -- A run that opened no file.
---     idle_survives      what a crash leaves of it
---     usage_fills        no file is full where the words are others
 --     failed_runs        what a run promises whose file wasn't opened
+--     idle_runs          and where memory was wanting before
 use Rattle.std.proofs.Common.{◌≡◌, inl, inr, ℕ, ◌+◌, ◌-◌, ◌^◌, ◌<◌, ◌≤◌, List, [], ◌++◌, length, Some, refl, sym}
 use Rattle.std.proofs.Common.{ap, ◌∙◌, subst, arith, append-nil}
 use Rattle.wh_state.specs.State.{State}
@@ -21,12 +20,13 @@ use Rattle.wh_shell.specs.Fault.{fault_of_open, HasCause}
 use Rattle.wh_shell.specs.Full.{FillsFile, Fills}
 use Rattle.wh_shell.specs.Promised.{RunsWithin}
 use Rattle.wh_shell.specs.Run.{IsStart, RefusesFile, Rejects, StopsTooLong}
+use Rattle.wh_shell.specs.Timing.{Timing}
 use Rattle.wh_shell.specs.World.{World}
 use Rattle.wh_shell.specs.declared.fault.Fault.{Fault}
-use Rattle.wh_shell.specs.declared.fault.Fault.TheVariants.{FileFull}
+use Rattle.wh_shell.specs.declared.fault.Fault.TheVariants.{OutOfMemory, FileFull}
 use Rattle.wh_shell.specs.declared.status.Status.{Status}
-use Rattle.wh_shell.specs.declared.status.Status.TheVariants.{Usage, Stopped}
-use Rattle.wh_shell.proofs.Opening.{some_gate, unopened_survives}
+use Rattle.wh_shell.specs.declared.status.Status.TheVariants.{Stopped}
+use Rattle.wh_shell.proofs.Opening.{some_gate, not_opened, unopened_survives}
 
 -- ---- a full file
 
@@ -36,28 +36,24 @@ opening_fills_none opens.OutOfMemory len need is = cc
 opening_fills_none opens.DiskFault len need is = cc
 opening_fills_none (opens.NotWarehouse at) len need is = cc
 
-module _ {D S K : Type 0} (d : disks.Ghosts D) (s : sources.Ghosts S) (k : sinks.Ghosts K) (old new : World D S K) where
+module _ {D S K : Type 0} (d : disks.Ghosts D) (s : sources.Ghosts S) (k : sinks.Ghosts K) (timing : Timing)
+    (old new : World D S K) where
   -- ---- what a crash leaves
 
-  pub idle_survives : (counts_now : (disk : D) (t : ℕ) (image : List ℕ) → t ≤ d.moment disk →
+  idle_survives : (counts_now : (disk : D) (t : ℕ) (image : List ℕ) → t ≤ d.moment disk →
       d.may_leave disk image → d.left_since disk t image) →
       LeavesKept d old.disk new.disk → new.out ≡ old.out →
       (file input before written : List ℕ) (start : State) (es : List Event) →
-      IsStart (d.bytes old.disk) (s.left old.script) (k.held old.out) file input before start es →
+      IsStart timing (d.bytes old.disk) (s.left old.script) (k.held old.out) file input before start es →
       Only file (d.may_leave old.disk) → k.held new.out ≡ Some (before ++ written) →
       Survives d old.disk new.disk (opened start) es (length written)
   idle_survives counts_now leaves out file input before written start es is only held_is =
       unopened_survives d counts_now old.disk new.disk (k.held old.out) (k.held new.out) file before written start es
       is.stands (leaves file is.told_file only) (ap k.held out) is.told_output held_is
 
-  pub usage_fills : (limit : ℕ) → Fills d s k limit old new Usage
-  usage_fills limit = λ file input stored start es says.
-      let gate = some_gate file stored says.keeps in
-      record { end = gate.0; gate = gate.1; fills = tt; written = λ len need is. absurd cc }
-
   -- ---- a file that couldn't be opened
 
-  failed_fills : (limit : ℕ) (fault : OpenFault) → Fills d s k limit old new (Stopped (fault_of_open fault))
+  failed_fills : (limit : ℕ) (fault : OpenFault) → Fills d s k limit timing old new (Stopped (fault_of_open fault))
   failed_fills limit fault = λ file input stored start es says.
       let gate = some_gate file stored says.keeps in
       record {
@@ -100,7 +96,7 @@ module _ {D S K : Type 0} (d : disks.Ghosts D) (s : sources.Ghosts S) (k : sinks
   pub failed_runs : (counts_now : (disk : D) (t : ℕ) (image : List ℕ) → t ≤ d.moment disk →
       d.may_leave disk image → d.left_since disk t image) →
       (limit : ℕ) (fault : OpenFault) → FailsToOpen d old.disk new.disk fault → new.script ≡ old.script →
-      new.out ≡ old.out → RunsWithin d s k limit old new (Stopped (fault_of_open fault))
+      new.out ≡ old.out → RunsWithin d s k limit timing old new (Stopped (fault_of_open fault))
   failed_runs counts_now limit fault fails script out = record {
     started = λ is. absurd cc;
     runs = λ file input held start es is. record {
@@ -120,3 +116,20 @@ module _ {D S K : Type 0} (d : disks.Ghosts D) (s : sources.Ghosts S) (k : sinks
     full = failed_fills limit fault;
     long = idle_short (Stopped (fault_of_open fault)) script;
   }
+
+-- nothing was touched
+pub idle_runs : {D S K : Type 0} (d : disks.Ghosts D) (s : sources.Ghosts S) (k : sinks.Ghosts K) (timing : Timing)
+    (world : World D S K) → ((disk : D) (t : ℕ) (image : List ℕ) → t ≤ d.moment disk →
+    d.may_leave disk image → d.left_since disk t image) →
+    ((disk : D) (image : List ℕ) → d.left_since disk (d.moment disk) image → d.may_leave disk image) →
+    (limit : ℕ) → RunsWithin d s k limit timing world world (Stopped OutOfMemory)
+idle_runs d s k timing world counts_now only_now limit =
+    failed_runs d s k timing world world counts_now limit opens.OutOfMemory
+    (record {
+      not_warehouse = λ at file is. absurd cc;
+      unfailed = λ at is. refl;
+      memory = λ is. refl;
+      disk_fault = λ is. absurd cc;
+      later = omega arith;
+      any_moment = λ file told only. not_opened d only_now world.disk file only;
+    }) refl refl

@@ -13,10 +13,10 @@ use Rattle.wh_state.specs.File.{Keeps}
 use Rattle.wh_machine.specs.Outcome.{opened}
 use Rattle.wh_machine.specs.Step.{Event}
 use Rattle.wh_machine.specs.Made.{all_made}
-use Rattle.wh_machine.specs.Script.{IsScript}
 use Rattle.wh_world.specs.declared.disk.Disk as disks
 use Rattle.wh_world.specs.declared.source.Source as sources
 use Rattle.wh_shell.specs.Run.{Through}
+use Rattle.wh_shell.specs.Timing.{Timing, IsScriptBy}
 use Rattle.wh_shell.specs.World.{World}
 use Rattle.wh_shell.specs.declared.status.Status.{Status}
 
@@ -35,17 +35,17 @@ pub record Adds (old new : Option (List ℕ)) (commits : List Commit) : Type 0 w
 
 -- ---- of a run
 
-pub record Says (bytes left : Option (List ℕ)) (file input : List ℕ) (s : Stored) (start : State)
-    (es : List Event) : Type 0 where
+pub record Says (timing : Timing) (bytes left : Option (List ℕ)) (file input : List ℕ) (s : Stored)
+    (start : State) (es : List Event) : Type 0 where
   pub told_file : bytes ≡ Some file
   pub told_script : left ≡ Some input
   pub keeps : Keeps file s
   pub means : Means s start
-  pub events : IsScript input es
+  pub events : IsScriptBy timing input es
 
-abbrev pub AddsCommits : {D S K : Type 0} → disks.Ghosts D → sources.Ghosts S → World D S K → World D S K → Status →
-    Type 0
-AddsCommits d s old new status = (file input : List ℕ) (stored : Stored) (start : State) (es : List Event) →
-    Says (d.bytes old.disk) (s.left old.script) file input stored start es → (payloads : List (List ℕ)) →
+abbrev pub AddsCommits : {D S K : Type 0} → disks.Ghosts D → sources.Ghosts S → Timing → World D S K → World D S K →
+    Status → Type 0
+AddsCommits d s timing old new status = (file input : List ℕ) (stored : Stored) (start : State) (es : List Event) →
+    Says timing (d.bytes old.disk) (s.left old.script) file input stored start es → (payloads : List (List ℕ)) →
     HasPayloads payloads file →
     Through status (IsFileBehind payloads (all_made stored (opened start) es) (d.bytes new.disk))

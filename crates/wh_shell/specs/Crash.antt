@@ -15,6 +15,7 @@ use Rattle.wh_world.specs.declared.sink.Sink as sinks
 use Rattle.wh_journal.specs.Crash.{LeavesOnly}
 use Rattle.wh_shell.specs.Point.{Point, IsToldAt}
 use Rattle.wh_shell.specs.Run.{IsStart}
+use Rattle.wh_shell.specs.Timing.{Timing}
 use Rattle.wh_shell.specs.World.{World}
 use Rattle.wh_shell.specs.Writing.{Writes}
 
@@ -42,19 +43,19 @@ pub record EndsSafely {D S K : Type 0} (d : disks.Ghosts D) (k : sinks.Ghosts K)
 -- ---- of a run whose file is all on the disk at first
 
 -- what was committed after some of the events, at most one more than were answered in full
-abbrev pub LeavesCommitted : {D S K : Type 0} → disks.Ghosts D → sources.Ghosts S → sinks.Ghosts K → World D S K →
-    World D S K → Type 0
-LeavesCommitted d s k old new = (file input before written : List ℕ) (start : State) (es : List Event) →
-    IsStart (d.bytes old.disk) (s.left old.script) (k.held old.out) file input before start es →
+abbrev pub LeavesCommitted : {D S K : Type 0} → disks.Ghosts D → sources.Ghosts S → sinks.Ghosts K → Timing →
+    World D S K → World D S K → Type 0
+LeavesCommitted d s k timing old new = (file input before written : List ℕ) (start : State) (es : List Event) →
+    IsStart timing (d.bytes old.disk) (s.left old.script) (k.held old.out) file input before start es →
     Only file (d.may_leave old.disk) → k.held new.out ≡ Some (before ++ written) →
     LeavesOnly d.moment d.left_since old.disk new.disk (StandsWithin (opened start) es
     0 (most_events (opened start) es (length written)))
 
 -- and at least after all that were
-abbrev pub LeavesAllAnswered : {D S K : Type 0} → disks.Ghosts D → sources.Ghosts S → sinks.Ghosts K → World D S K →
-    World D S K → Type 0
-LeavesAllAnswered d s k old new = (file input before written : List ℕ) (start : State) (es : List Event) →
-    IsStart (d.bytes old.disk) (s.left old.script) (k.held old.out) file input before start es →
+abbrev pub LeavesAllAnswered : {D S K : Type 0} → disks.Ghosts D → sources.Ghosts S → sinks.Ghosts K → Timing →
+    World D S K → World D S K → Type 0
+LeavesAllAnswered d s k timing old new = (file input before written : List ℕ) (start : State) (es : List Event) →
+    IsStart timing (d.bytes old.disk) (s.left old.script) (k.held old.out) file input before start es →
     Only file (d.may_leave old.disk) → k.held new.out ≡ Some (before ++ written) →
     (image : List ℕ) → d.may_leave new.disk image → StandsWithin (opened start) es
     (whole_replies (opened start) es (length written)) (most_events (opened start) es (length written)) image

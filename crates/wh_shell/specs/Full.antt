@@ -13,6 +13,7 @@ use Rattle.wh_world.specs.declared.source.Source as sources
 use Rattle.wh_world.specs.declared.sink.Sink as sinks
 use Rattle.wh_shell.specs.Commits.{Says}
 use Rattle.wh_shell.specs.Room.{FillsBy}
+use Rattle.wh_shell.specs.Timing.{Timing}
 use Rattle.wh_shell.specs.World.{World}
 use Rattle.wh_shell.specs.Writing.{Writes}
 use Rattle.wh_shell.specs.declared.fault.Fault.TheVariants.{FileFull}
@@ -29,8 +30,8 @@ pub record FillsFile (limit : ℕ) (file : List ℕ) (s : Stored) (start : Machi
   pub written : (len need : ℕ) → status ≡ Stopped (FileFull len need) →
       Writes (text start (fitting limit end s start es)) held held_new
 
-abbrev pub Fills : {D S K : Type 0} → disks.Ghosts D → sources.Ghosts S → sinks.Ghosts K → ℕ → World D S K →
-    World D S K → Status → Type 0
-Fills d s k limit old new status = (file input : List ℕ) (stored : Stored) (start : State) (es : List Event) →
-    Says (d.bytes old.disk) (s.left old.script) file input stored start es →
+abbrev pub Fills : {D S K : Type 0} → disks.Ghosts D → sources.Ghosts S → sinks.Ghosts K → ℕ → Timing →
+    World D S K → World D S K → Status → Type 0
+Fills d s k limit timing old new status = (file input : List ℕ) (stored : Stored) (start : State) (es : List Event) →
+    Says timing (d.bytes old.disk) (s.left old.script) file input stored start es →
     FillsFile limit file stored (opened start) es (k.held old.out) (k.held new.out) status

@@ -1,3 +1,4 @@
+pub mod Asked
 pub mod Code
 pub mod Commits
 pub mod Crash
@@ -12,5 +13,7 @@ pub mod Reading
 pub mod Room
 pub mod Run
 pub mod Serving
+pub mod Ticking
+pub mod Timing
 pub mod World
 pub mod Writing

@@ -1,5 +1,6 @@
 -- What contracts say of a `Reader`.
 --     unread            the events that are still to be read, where the source is told
+--     awaited           the same by a timing
 --     GivesEvent        the first of them was read
 --     EndsEvents        none was left, and the source has nothing left
 --     Gives             so by what was found
@@ -7,7 +8,7 @@
 --     Turns             what a line asks for, and what is asked for behind it
 --     FailsBy           why no event could be read
 --     Reads             how far a turn that found an event, or none, has read
-use Rattle.std.specs.Prelude.{◌≡◌, ◌<◌, ◌^◌, ℕ, List, [], ◌∷◌, Option, Some, None, option_map}
+use Rattle.std.specs.Prelude.{◌≡◌, ◌<◌, ◌^◌, ℕ, Bool, List, [], ◌∷◌, Option, Some, None, option_map}
 use Rattle.std.specs.Prelude.{Result, IfOk, OnOk, IsErrOf, IfSome}
 use Rattle.wh_grammar.specs.Script.{Line, lines_of}
 use Rattle.wh_machine.specs.Step as machine
@@ -19,12 +20,16 @@ use Rattle.wh_text.specs.declared.fault.ScriptFault.TheVariants.{OutOfMemory, Re
 use Rattle.wh_decide.specs.Event.{event_of}
 use Rattle.wh_decide.specs.declared.event.Event.{Event}
 use Rattle.wh_shell.specs.Events.{events_from}
+use Rattle.wh_shell.specs.Timing.{timing_of, timed}
 use Rattle.wh_shell.specs.declared.reader.Reader.{Reader}
 
 abbrev pub unread : Reader → Option (List ℕ) → Option (List machine.Event)
 unread reader left =
     option_map (λ bytes. events_from reader.session reader.reading (lines_of bytes))
     (ahead_and (ahead_of reader.script) left)
+
+abbrev pub awaited : Bool → Option (List ℕ) → Reader → Option (List ℕ) → Option (List machine.Event)
+awaited system readings reader left = timed (timing_of system readings) (unread reader left)
 
 pub record GivesEvent (old : Option (List machine.Event)) (event : machine.Event)
     (new : Option (List machine.Event)) : Type 0 where

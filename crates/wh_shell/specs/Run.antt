@@ -1,5 +1,4 @@
 -- What contracts say of a run.
---     IsRun                      the words that are taken
 --     IsStart                    what is told before a run
 --     IsRunOf                    what the run wrote and left, by its status
 --     Through, EndsBy            where the script was read to its end; a fault that ended it before
@@ -10,37 +9,32 @@
 --     StopsTooLong               a run ends so where more than 2^30 were taken
 --     StopsWhereTooLong          and nowhere else
 --     Runs                       where file, script and output are told, what the run wrote and left
-use Rattle.std.specs.Prelude.{◌≡◌, ◌⊎◌, ℕ, ◌+◌, ◌-◌, ◌<◌, ◌^◌, List, [], ◌∷◌, ◌++◌, map, length}
-use Rattle.std.specs.Prelude.{codes, Option, Some, String, string_bytes}
-use Rattle.std.specs.Global.{Global}
+use Rattle.std.specs.Prelude.{◌≡◌, ◌⊎◌, ℕ, ◌+◌, ◌-◌, ◌<◌, ◌^◌, List, [], ◌++◌, length}
+use Rattle.std.specs.Prelude.{Option, Some}
 use Rattle.wh_state.specs.State.{State}
 use Rattle.wh_state.specs.File.{Stands}
 use Rattle.wh_state.specs.Fault.{IsFirstFault}
 use Rattle.wh_machine.specs.Outcome.{Machine, opened, rest_of}
 use Rattle.wh_machine.specs.Step.{Event, after, text, refusals}
-use Rattle.wh_machine.specs.Script.{IsScript}
 use Rattle.wh_world.specs.Crash.{Only}
 use Rattle.wh_world.specs.declared.disk.Disk as disks
 use Rattle.wh_world.specs.declared.source.Source as sources
 use Rattle.wh_world.specs.declared.sink.Sink as sinks
+use Rattle.wh_shell.specs.Timing.{Timing, IsScriptBy}
 use Rattle.wh_shell.specs.World.{World}
 use Rattle.wh_shell.specs.declared.fault.Fault.{Fault}
 use Rattle.wh_shell.specs.declared.fault.Fault.TheVariants.{OutOfMemory, Disk, NotWarehouse, ScriptTooLong}
 use Rattle.wh_shell.specs.declared.status.Status.{Status}
 use Rattle.wh_shell.specs.declared.status.Status.TheVariants.{Usage, Read, Stopped}
 
--- the one word `run`
-abbrev pub IsRun : List (String Global) → Type 0
-IsRun words = map string_bytes words ≡ codes "run" ∷ []
-
--- the file, which stands for a state, the script, whose events are those, and what was written before
-pub record IsStart (bytes left held : Option (List ℕ)) (file input before : List ℕ) (start : State)
-    (es : List Event) : Type 0 where
+-- the file, which stands for a state, the script, whose events by the timing are those, and what was written before
+pub record IsStart (timing : Timing) (bytes left held : Option (List ℕ)) (file input before : List ℕ)
+    (start : State) (es : List Event) : Type 0 where
   pub told_file : bytes ≡ Some file
   pub told_script : left ≡ Some input
   pub told_output : held ≡ Some before
   pub stands : Stands file start
-  pub events : IsScript input es
+  pub events : IsScriptBy timing input es
 
 -- the script was read to its end: its whole text was written, and the file stands for what is committed after all
 -- events
@@ -124,8 +118,8 @@ pub record StopsWhereTooLong {S : Type 0} (s : sources.Ghosts S) (old new : S) (
 
 -- ---- what was written and left
 
-abbrev pub Runs : {D S K : Type 0} → disks.Ghosts D → sources.Ghosts S → sinks.Ghosts K → World D S K → World D S K →
-    Status → Type 0
-Runs d s k old new status = (file input held : List ℕ) (start : State) (es : List Event) →
-    IsStart (d.bytes old.disk) (s.left old.script) (k.held old.out) file input held start es →
+abbrev pub Runs : {D S K : Type 0} → disks.Ghosts D → sources.Ghosts S → sinks.Ghosts K → Timing → World D S K →
+    World D S K → Status → Type 0
+Runs d s k timing old new status = (file input held : List ℕ) (start : State) (es : List Event) →
+    IsStart timing (d.bytes old.disk) (s.left old.script) (k.held old.out) file input held start es →
     IsRunOf (opened start) es held status (k.held new.out) (d.bytes new.disk) (s.left new.script)

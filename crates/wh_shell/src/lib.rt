@@ -1,4 +1,4 @@
-//! The program's words, its statuses, and `run`: a script carried out over a file.
+//! The program's statuses, and `run`: what its words ask for, carried out over a file.
 #![tactic(auto)]
 
 mod fault;
@@ -7,10 +7,12 @@ mod reader;
 mod running;
 mod serving;
 mod status;
-mod words;
+mod terms;
+mod timing;
 mod writing;
 
 pub use fault::Fault;
 pub use laws::script_fixes_events;
 pub use running::{run, run_within};
 pub use status::Status;
+pub use terms::Terms;

@@ -10,13 +10,16 @@ ghost use Rattle.wh_shell.specs.Code.{status_of};
 ghost use Rattle.wh_shell.specs.Events.{events};
 ghost use Rattle.wh_shell.specs.Open.{IsOpen, StaysOpen};
 ghost use Rattle.wh_shell.specs.Point.{point_of};
-ghost use Rattle.wh_shell.specs.Reading.{unread, Reads};
+ghost use Rattle.wh_shell.specs.Reading.{unread, awaited, Reads};
 ghost use Rattle.wh_shell.specs.Run.{StopsWhereTooLong};
 ghost use Rattle.wh_shell.specs.Serving.{Carries, Halts, Advances, Stops, Serves};
+ghost use Rattle.wh_shell.specs.Ticking.{TakesTurn, TakesFor};
+ghost use Rattle.wh_shell.specs.Timing.{timing_of, timed};
 ghost use Rattle.wh_shell.specs.World.{world_of, IsLater};
 
 use crate::Fault;
 use crate::reader::Reader;
+use crate::timing::timed;
 use crate::writing::write_all;
 use std::alloc::Global;
 use std::thread::Threads;
@@ -24,34 +27,50 @@ use wh_engine::{Event, Warehouse};
 use wh_reply::Reply;
 use wh_text::print_reply;
 use wh_value::Bytes;
-use wh_world::{Disk, Sink, Source};
+use wh_world::{Clock, Disk, Sink, Source};
 
 /// Carries out the events of a script over an open warehouse, writes their replies, and gives the
 /// number of refusals.
-pub(crate) fn serve<S: Source, K: Sink, D: Disk>(
+pub(crate) fn serve<S: Source, K: Sink, D: Disk, C: Clock>(
     rt: &(impl Threads + Sync),
     alloc: Global,
     warehouse: &mut Warehouse<D>,
+    system: bool,
     script: &mut S,
     out: &mut K,
+    clock: &mut C,
 ) -> Result<u64, Fault>
     requires { IsOpen warehouse.old }
     ensures served { IfOk result (Serves D.Disk S.Source K.Sink
-        (point_of warehouse.old (option_map events (S.left script.old)) script.old out.old)
+        (point_of warehouse.old (timed (timing_of system (C.readings clock.old))
+        (option_map events (S.left script.old))) script.old out.old)
         (machine_of warehouse.new) (world_of warehouse.new.disk script.new out.new)) }
     ensures ready { OnOk result (StaysOpen warehouse.old warehouse.new) }
 
     // Where it is stopped, a front of the text was written.
     ensures stopped { IfErr result (Stops D.Disk S.Source K.Sink
-        (point_of warehouse.old (option_map events (S.left script.old)) script.old out.old)
+        (point_of warehouse.old (timed (timing_of system (C.readings clock.old))
+        (option_map events (S.left script.old))) script.old out.old)
         (world_of warehouse.new.disk script.new out.new)) }
     ensures long { StopsWhereTooLong S.Source script.old script.new (status_of result) }
+    ensures clock { TakesFor C.Clock system (option_map events (S.left script.old))
+        (status_of result) clock.old clock.new }
 {
     let mut reader = Reader::new(alloc);
     let mut lines = Bytes::new(alloc);
     let mut refused: u64 = 0;
     'turns: loop {
-        let found = turn(rt, alloc, warehouse, &mut reader, script, &mut lines, out)?;
+        let found = turn(
+            rt,
+            alloc,
+            warehouse,
+            &mut reader,
+            script,
+            &mut lines,
+            out,
+            system,
+            clock,
+        )?;
         let Some(refusals) = found else {
             return Ok(refused);
         };
@@ -60,7 +79,7 @@ pub(crate) fn serve<S: Source, K: Sink, D: Disk>(
 }
 
 // Reads the next event, carries it out, and writes its reply: None where no event is left.
-fn turn<S: Source, K: Sink, D: Disk>(
+fn turn<S: Source, K: Sink, D: Disk, C: Clock>(
     rt: &(impl Threads + Sync),
     alloc: Global,
     warehouse: &mut Warehouse<D>,
@@ -68,15 +87,20 @@ fn turn<S: Source, K: Sink, D: Disk>(
     script: &mut S,
     lines: &mut Bytes,
     out: &mut K,
+    system: bool,
+    clock: &mut C,
 ) -> Result<Option<u64>, Fault>
     requires ready { IsOpen warehouse.old }
     requires goes { fault_of reader.old.script ≡ None }
     ensures went { IfOk result (Advances D.Disk S.Source K.Sink
-        (point_of warehouse.old (unread reader.old (S.left script.old)) script.old out.old)
-        (point_of warehouse.new (unread reader.new (S.left script.new)) script.new out.new)) }
+        (point_of warehouse.old (awaited system (C.readings clock.old) reader.old (S.left script.old))
+        script.old out.old)
+        (point_of warehouse.new (awaited system (C.readings clock.new) reader.new (S.left script.new))
+        script.new out.new)) }
     ensures ready { OnOk result (StaysOpen warehouse.old warehouse.new) }
     ensures stopped { IfErr result (Stops D.Disk S.Source K.Sink
-        (point_of warehouse.old (unread reader.old (S.left script.old)) script.old out.old)
+        (point_of warehouse.old (awaited system (C.readings clock.old) reader.old (S.left script.old))
+        script.old out.old)
         (world_of warehouse.new.disk script.new out.new)) }
     ensures full { (len need : ℕ) → IsErrOf result (Fault.FileFull len need) → out.new ≡ out.old }
     ensures reads { Reads reader.old.script reader.new.script
@@ -84,10 +108,13 @@ fn turn<S: Source, K: Sink, D: Disk>(
     ensures later { IsLater D.Disk S.Source K.Sink
         (world_of warehouse.old.disk script.old out.old)
         (world_of warehouse.new.disk script.new out.new) }
+    ensures clock { TakesTurn C.Clock system (unread reader.old (S.left script.old))
+        (unread reader.new (S.left script.new)) result clock.old clock.new }
 {
     let Some(event) = reader.next(script)? else {
         return Ok(None);
     };
+    let event = timed(event, system, clock);
     let refusals = answer(rt, alloc, warehouse, &event, lines, out)?;
     Ok(Some(refusals))
 }

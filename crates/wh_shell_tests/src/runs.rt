@@ -6,7 +6,7 @@ use crate::running::{
 use std::alloc::Global;
 use std::process::Abort;
 use std::thread::Threads;
-use wh_shell::{Fault, Status, run, run_within};
+use wh_shell::{Fault, Status, Terms, run, run_within};
 use wh_world::{Failed, Sink};
 
 const SCRIPT: &[u8] = b"CREATE TABLE T(K NUMBER, V NUMBER);
@@ -68,7 +68,13 @@ fn assert_limited(
     let mut source = source_of(rt, alloc, script, &[]);
     let mut out = sink_of(rt, alloc, 100, &[]);
     let disk = disk_of(rt, alloc, b"", 200, &[]);
-    let (ended, _) = run_within(rt, alloc, &mut source, &mut out, disk, limit);
+    let mut clock = clock_at_0(rt, alloc);
+    let terms = Terms {
+        workers: 1,
+        system_clock: false,
+        limit,
+    };
+    let (ended, _) = run_within(rt, alloc, terms, &mut source, &mut out, disk, &mut clock);
     assert_eq!(rt; ended, status, "{limit} bytes");
     assert_eq!(rt; out.held(), text, "{limit} bytes");
 }

@@ -1,6 +1,7 @@
 -- The row numbers that stand in a sound table.
 --     entries_have     rows that are put in one after the other stand at their numbers
---     below_next       they are below the table's next one
+--     rows_below       they are below the table's next one, where those of its versions are
+--     below_next       so they are in a sound table
 use Rattle.std.proofs.Common.{◌≡◌, ℕ, ◌<◌, Bool, true, false, cond, List, [], ◌∷◌, ◌++◌, map, Some}
 use Rattle.std.proofs.Common.{ap, ◌∙◌}
 use Rattle.std.specs.List.{AllByRecursion, flat_map}
@@ -61,11 +62,14 @@ version_below next v below =
     (λ e has. below e.0 (record { row = has.0; is_there = has.1 })) (flat_map (λ p. p.rows) v.content)
     (entries_have empty (flat_map (λ p. p.rows) v.content)))
 
-pub below_next : (committed : ℕ) (t : StoredTable) → IsSoundTable committed (table_meant t) → IsBelowNext t
-below_next committed t sound = of_last t.versions sound.below
+pub rows_below : (t : StoredTable) → AllByRecursion (IsBelow t.next_row) (map version_meant t.versions) → IsBelowNext t
+rows_below t below = of_last t.versions below
   where
     of_last : (versions : List StoredVersion) → AllByRecursion (IsBelow t.next_row) (map version_meant versions)
         → AllByRecursion (λ p. AllByRecursion (λ e. e.0 < t.next_row) p.rows) (content_in [] (last_of versions))
     of_last [] below = tt
     of_last (v ∷ []) below = version_below t.next_row v below.0
     of_last (v ∷ w ∷ vs) below = of_last (w ∷ vs) below.1
+
+pub below_next : (committed : ℕ) (t : StoredTable) → IsSoundTable committed (table_meant t) → IsBelowNext t
+below_next committed t sound = rows_below t sound.below

@@ -12,14 +12,15 @@ use Rattle.std.specs.Option.{IsSomeAnd}
 use Rattle.std.proofs.lemmas.Bool.Decides.{nat_tests}
 use Rattle.std.proofs.lemmas.List.{append_assoc}
 use Rattle.wh_state.specs.Task.{Ending, Run, Task, ended_in, with_ended}
-use Rattle.wh_state.specs.State.{TableKind, StreamKind, TaskKind, task_in, on_task, at_id}
+use Rattle.wh_state.specs.State.{TableKind, StreamKind, TaskKind, DynamicKind, task_in, on_task, at_id}
 use Rattle.wh_state.specs.Edits.{Edits}
 use Rattle.wh_state.specs.Act.{Act, MakesTable, DropsObject, EditsRows, MakesStream, MovesOffset, MakesTask, PutsTask}
-use Rattle.wh_state.specs.Act.{BeginsRun, EndsTask}
+use Rattle.wh_state.specs.Act.{BeginsRun, EndsTask, MakesDynamic, PutsDynamic, RefreshesRows}
 use Rattle.wh_state.specs.Stored.{StoredKind, StoredObject}
 use Rattle.wh_state.specs.Commit.{Change, CreatesTable, Drops, PushesVersion, CreatesStream, SetsOffset, CreatesTask}
 use Rattle.wh_state.specs.Commit.{SetsTask}
 use Rattle.wh_state.specs.Commit.{StartsRun, FinishesTask, pushed_object, offset_set, on_task_stored, changed}
+use Rattle.wh_state.specs.Commit.{CreatesDynamic, SetsDynamic}
 use Rattle.wh_state.specs.Commit.{all_changed}
 use Rattle.wh_state.specs.Commit.{IsLiveTask, waits, waits_in}
 use Rattle.wh_state.specs.Written.{version_written_to, act_written, written}
@@ -49,6 +50,7 @@ edit_of_rows stamp objects id e = by_found (at_id objects id)
     by_kind o (TableKind t) = (tt, tt)
     by_kind o (StreamKind s) = tt
     by_kind o (TaskKind t) = tt
+    by_kind o (DynamicKind d t) = (tt, tt)
 
     by_found : (found : Option StoredObject) → AreOfRows (version_written_to stamp id e found)
     by_found None = tt
@@ -65,6 +67,9 @@ act_of_rows stamp start objects (MakesTask name minutes after runs) stands later
 act_of_rows stamp start objects (PutsTask id state) stands later = absurd stands
 act_of_rows stamp start objects (BeginsRun root tasks) stands later = absurd stands
 act_of_rows stamp start objects (EndsTask root task ending) stands later = absurd stands
+act_of_rows stamp start objects (MakesDynamic name lag is_incremental query columns) stands later = absurd stands
+act_of_rows stamp start objects (PutsDynamic id state) stands later = absurd stands
+act_of_rows stamp start objects (RefreshesRows id moment e) stands later = absurd stands
 
 pub acts_of_rows : (stamp start : ℕ) (objects : List StoredObject) (acts : List Act) → AllStand stamp start objects acts
     → (later : List StoredObject) → AreOfRows (written stamp later acts)
@@ -84,6 +89,8 @@ change_spares id (CreatesTask c) rows = absurd rows
 change_spares id (SetsTask other state) rows = absurd rows
 change_spares id (StartsRun root tasks) rows = absurd rows
 change_spares id (FinishesTask root task ending) rows = absurd rows
+change_spares id (CreatesDynamic c) rows = absurd rows
+change_spares id (SetsDynamic other state) rows = absurd rows
 
 pub rows_spare : (id : ℕ) (cs : List Change) → AreOfRows cs → AllByRecursion (ChangeSpares id) cs
 rows_spare id cs rows = all_map IsOfRows (ChangeSpares id) (change_spares id) cs rows
@@ -107,6 +114,8 @@ one_behind P stamp objects id (CreatesTask c) rows live = absurd rows
 one_behind P stamp objects id (SetsTask other state) rows live = absurd rows
 one_behind P stamp objects id (StartsRun root tasks) rows live = absurd rows
 one_behind P stamp objects id (FinishesTask root task ending) rows live = absurd rows
+one_behind P stamp objects id (CreatesDynamic c) rows live = absurd rows
+one_behind P stamp objects id (SetsDynamic other state) rows live = absurd rows
 
 pub live_behind : (P : Task → Type 0) (stamp : ℕ) (objects : List StoredObject) (id : ℕ) (cs : List Change)
     → AreOfRows cs
@@ -195,6 +204,7 @@ end_leaves stamp objects root id ending ids rise wait =
     by_kind (TableKind t) h = absurd h
     by_kind (StreamKind s) h = absurd h
     by_kind (TaskKind t) h = others_wait id ending ids rise t h.1
+    by_kind (DynamicKind d t) h = absurd h
 
 pub live_map : (P Q : Task → Type 0) → ((t : Task) → P t → Q t) → (found : Option StoredObject) → IsLiveTask P found
     → IsLiveTask Q found

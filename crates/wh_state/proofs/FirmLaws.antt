@@ -1,7 +1,7 @@
 -- What holds of the objects of a file that runs leave.
 --     NamesApart        no two live objects have one name
 --     HasSource         a stream has the columns of a table, and three more
---     IsFirm            tables, names and streams
+--     IsFirm            tables, names, streams, tasks and dynamic tables
 --     ChangeRises       the rows of partitions that a change adds rise
 --     firm_first, firm_changed, firm_all     so it is of no objects, and behind changes that apply
 use Rattle.std.proofs.Common.{map, ◌≡◌, inl, inr, ℕ, zero, suc, ◌+◌, ◌<◌, ◌≤◌, Bool, true, false, cond, List, []}
@@ -15,7 +15,7 @@ use Rattle.wh_value.specs.Fits.{row_fits}
 use Rattle.std.proofs.lemmas.Slice.Eq.{bytes_eq-Decides}
 use Rattle.wh_value.specs.Column.{Column}
 use Rattle.wh_frame.specs.Partition.{Partition}
-use Rattle.wh_state.specs.State.{TaskKind, changed_at}
+use Rattle.wh_state.specs.State.{TaskKind, DynamicKind, changed_at}
 use Rattle.wh_state.specs.State.{Stream, new_table, new_stream, dropped, metadata_columns}
 use Rattle.wh_state.specs.State.{at_id, with_id, put_at, changed_at, id_of, is_named}
 use Rattle.wh_state.specs.State.{TableKind, StreamKind, table_in, stream_in, columns_in, columns_at}
@@ -25,7 +25,15 @@ use Rattle.wh_state.specs.Stored.{standing}
 use Rattle.wh_state.specs.Commit.{CreatesTask, SetsTask, StartsRun, FinishesTask, change_as_text, on_task_stored}
 use Rattle.wh_state.specs.Commit.{VersionChange, Change, CreatesTable, Drops, PushesVersion, CreatesStream, SetsOffset}
 use Rattle.wh_state.specs.Commit.{pushed, pushed_kind, pushed_object, offset_set, changed, all_changed}
-use Rattle.wh_state.proofs.KindLaws.{task_keeps}
+use Rattle.wh_state.specs.State.{on_dynamic, empty_table}
+use Rattle.wh_state.specs.Dynamic.{Dynamic, with_dynamic_state}
+use Rattle.wh_state.specs.Commit.{CreatesDynamic, SetsDynamic, on_dynamic_stored}
+use Rattle.wh_state.specs.State.{on_task}
+use Rattle.wh_state.specs.Bound.{source_kind}
+use Rattle.wh_state.proofs.DynamicFirm.{HasColumns, KindHasColumns, HasQueryTokens, spelled_query, IsFirmDynamic}
+use Rattle.wh_state.proofs.DynamicFirm.{DynamicHolds, AreFirmDynamics, KeepsSeen, dynamics_changed, dynamics_more}
+use Rattle.wh_state.proofs.DynamicFirm.{made_firm, made_filled, state_taken, state_holds}
+use Rattle.wh_state.proofs.KindLaws.{task_keeps, dynamic_keeps}
 use Rattle.wh_state.proofs.KindLaws.{offset_keeps}
 use Rattle.wh_state.specs.Commit.{Commit, applied, Leads, RowsFit, VersionApplies, FitsKind, FitsObject, IsLiveTable}
 use Rattle.wh_state.specs.Commit.{IsTableKind, ChangeApplies, AllApply}
@@ -42,8 +50,7 @@ use Rattle.std.specs.Prelude.{slice_get}
 use Rattle.wh_state.specs.State.{task_in}
 use Rattle.wh_state.specs.Task.{TaskState, most_failures, new_task, root_by}
 use Rattle.wh_state.specs.Objects.{task_at}
-use Rattle.wh_state.specs.Spelling.{body_in}
-use Rattle.wh_state.specs.Task.{IsSpelled}
+use Rattle.wh_state.specs.Spelling.{IsUnderstood}
 use Rattle.wh_state.proofs.SpelledLaws.{HasTokensOf, spelled_change}
 use Rattle.wh_state.specs.Commit.{offset_set_kind, TaskChange, TaskApplies, StateApplies, IsLiveTask, root_among}
 use Rattle.wh_state.proofs.TaskFirm.{IsTaskOf, IsFirmTask, TaskHolds, AreFirmTasks, tasked, same_tasks, tasks_more}
@@ -80,6 +87,9 @@ firm_pushed stamp c t rises applies firm =
 
 new_firm : (columns : List Column) (retention stamp : ℕ) → IsFirmTable (new_table [] columns retention stamp)
 new_firm columns retention stamp = record { kept = new_kept columns retention stamp; some = tt; fits = (tt, tt) }
+
+empty_firm : (columns : List Column) (stamp : ℕ) → IsFirmTable (empty_table columns stamp)
+empty_firm columns stamp = record { kept = record { orderly = tt; below = tt }; some = tt; fits = tt }
 
 abbrev pub IsFirmKind : StoredKind → Type 0
 IsFirmKind k = IfSome (table_in k) IsFirmTable
@@ -206,18 +216,28 @@ pub record IsFirm (objects : List StoredObject) : Type 0 where
   pub names : NamesApart objects
   pub streams : AllByRecursion (HasSource objects) objects
   pub tasks : AreFirmTasks objects
+  pub columns : AllByRecursion HasColumns objects
+  pub dynamics : AreFirmDynamics objects
 
 no_object : (id : ℕ) (o : StoredObject) → at_id [] id ≡ Some o → TaskHolds [] id o.is_live (task_in o.kind)
 no_object zero o there = absurd cc
 no_object (suc place) o there = absurd cc
 
 pub firm_first : IsFirm []
-firm_first = record { tables = tt; names = tt; streams = tt; tasks = λ id o there. no_object id o there }
+firm_first = record {
+  tables = tt;
+  names = tt;
+  streams = tt;
+  tasks = λ id o there. no_object id o there;
+  columns = tt;
+  dynamics = tt;
+}
 
 abbrev pub ChangeRises : Change → Type 0
 ChangeRises (PushesVersion c) = PushRises c
 ChangeRises (StartsRun root tasks) = TasksRise 0 tasks
 ChangeRises (CreatesTask c) = HasTokensOf c.runs.body
+ChangeRises (CreatesDynamic c) = HasQueryTokens c.query.tree
 ChangeRises _ = Unit {0}
 
 -- ---- what changes leave
@@ -233,6 +253,7 @@ has_source objects new keeps o h = by_kind o.kind h
     by_kind (TableKind t) h = tt
     by_kind (StreamKind s) h = keeps s h
     by_kind (TaskKind t) h = tt
+    by_kind (DynamicKind d t) h = tt
 
 -- one that is changed as a source and as a stream
 streams_changed : (f : StoredObject → StoredObject)
@@ -256,6 +277,7 @@ pushed_source stamp c s o h = by_kind o.kind h
     by_kind (TableKind t) h = h
     by_kind (StreamKind s) h = h
     by_kind (TaskKind t) h = h
+    by_kind (DynamicKind d t) h = h
 
 pushed_stream : (stamp : ℕ) (c : VersionChange) (objects : List StoredObject) (o : StoredObject) → HasSource objects o
     → HasSource objects (pushed_object stamp c o)
@@ -266,6 +288,7 @@ pushed_stream stamp c objects o h = by_kind o.kind h
     by_kind (TableKind t) h = h
     by_kind (StreamKind s) h = h
     by_kind (TaskKind t) h = h
+    by_kind (DynamicKind d t) h = h
 
 set_source : (offset : ℕ) (s : Stream) (o : StoredObject) → IsSourceOf s o → IsSourceOf s (offset_set offset o)
 set_source offset s o h =
@@ -299,12 +322,94 @@ source_found objects source is_append_only offset live = by_found (at_id objects
     by_kind (TableKind t) is = refl
     by_kind (StreamKind s) is = absurd is
     by_kind (TaskKind t) is = absurd is
+    by_kind (DynamicKind d t) is = refl
 
     by_found : (found : Option StoredObject) → IsLiveTable found
         → IsSomeAnd found (IsSourceOf (new_stream source is_append_only offset
         (option_map_or (λ o. columns_in o.kind) found [])))
     by_found None live = absurd live
     by_found (Some o) live = by_kind o.kind live.1
+
+-- what is neither a source nor has columns stays so
+columns_changed : (f : StoredObject → StoredObject) → ((o : StoredObject) → HasColumns o → HasColumns (f o))
+    → (objects : List StoredObject) (id : ℕ) → AllByRecursion HasColumns objects
+    → AllByRecursion HasColumns (changed_at objects id f)
+columns_changed f keeps objects id h = all_changed_at HasColumns HasColumns f (λ o h. h) keeps objects id h
+
+task_seen : (f : Task → Task) → KeepsSeen (on_task_stored f)
+task_seen f = record { kind = λ o. by_kind o.kind; columns = λ o. by_columns o.kind }
+  where
+    by_kind : (k : StoredKind) → source_kind (on_task f k) ≡ source_kind k
+    by_kind (TableKind t) = refl
+    by_kind (StreamKind s) = refl
+    by_kind (TaskKind t) = refl
+    by_kind (DynamicKind d t) = refl
+
+    by_columns : (k : StoredKind) → columns_in (on_task f k) ≡ columns_in k
+    by_columns (TableKind t) = refl
+    by_columns (StreamKind s) = refl
+    by_columns (TaskKind t) = refl
+    by_columns (DynamicKind d t) = refl
+
+dynamic_seen : (f : Dynamic → Dynamic) → KeepsSeen (on_dynamic_stored f)
+dynamic_seen f = record { kind = λ o. by_kind o.kind; columns = λ o. by_columns o.kind }
+  where
+    by_kind : (k : StoredKind) → source_kind (on_dynamic f k) ≡ source_kind k
+    by_kind (TableKind t) = refl
+    by_kind (StreamKind s) = refl
+    by_kind (TaskKind t) = refl
+    by_kind (DynamicKind d t) = refl
+
+    by_columns : (k : StoredKind) → columns_in (on_dynamic f k) ≡ columns_in k
+    by_columns (TableKind t) = refl
+    by_columns (StreamKind s) = refl
+    by_columns (TaskKind t) = refl
+    by_columns (DynamicKind d t) = refl
+
+set_seen : (offset : ℕ) → KeepsSeen (offset_set offset)
+set_seen offset = record { kind = λ o. by_kind o.kind; columns = λ o. by_columns o.kind }
+  where
+    by_kind : (k : StoredKind) → source_kind (offset_set_kind offset k) ≡ source_kind k
+    by_kind (TableKind t) = refl
+    by_kind (StreamKind s) = refl
+    by_kind (TaskKind t) = refl
+    by_kind (DynamicKind d t) = refl
+
+    by_columns : (k : StoredKind) → columns_in (offset_set_kind offset k) ≡ columns_in k
+    by_columns (TableKind t) = refl
+    by_columns (StreamKind s) = refl
+    by_columns (TaskKind t) = refl
+    by_columns (DynamicKind d t) = refl
+
+pushed_seen : (stamp : ℕ) (c : VersionChange) → KeepsSeen (pushed_object stamp c)
+pushed_seen stamp c = record { kind = λ o. by_kind o.kind; columns = λ o. by_columns o.kind }
+  where
+    by_kind : (k : StoredKind) → source_kind (pushed_kind stamp c k) ≡ source_kind k
+    by_kind (TableKind t) = refl
+    by_kind (StreamKind s) = refl
+    by_kind (TaskKind t) = refl
+    by_kind (DynamicKind d t) = refl
+
+    by_columns : (k : StoredKind) → columns_in (pushed_kind stamp c k) ≡ columns_in k
+    by_columns (TableKind t) = refl
+    by_columns (StreamKind s) = refl
+    by_columns (TaskKind t) = refl
+    by_columns (DynamicKind d t) = refl
+
+pushed_columns : (stamp : ℕ) (c : VersionChange) (k : StoredKind) → KindHasColumns k
+    → KindHasColumns (pushed_kind stamp c k)
+pushed_columns stamp c (TableKind t) h = record { some = h.some; names = h.names }
+pushed_columns stamp c (StreamKind s) h = h
+pushed_columns stamp c (TaskKind t) h = h
+pushed_columns stamp c (DynamicKind d t) h = record { some = h.some; names = h.names }
+
+pushed_dynamic : (stamp : ℕ) (c : VersionChange) (objects : List StoredObject) (k : StoredKind) → DynamicHolds objects k
+    → DynamicHolds objects (pushed_kind stamp c k)
+pushed_dynamic stamp c objects (TableKind t) h = tt
+pushed_dynamic stamp c objects (StreamKind s) h = tt
+pushed_dynamic stamp c objects (TaskKind t) h = tt
+pushed_dynamic stamp c objects (DynamicKind d t) h =
+    record { lag = h.lag; few = h.few; written = h.written; bound = h.bound }
 
 -- a task that is changed
 task_firm : (f : Task → Task) → ((t : Task) → (f t).after ≡ t.after) → ((t : Task) → (f t).root ≡ t.root)
@@ -320,17 +425,52 @@ task_firm f after root keeps objects id firm = record {
       o.kind h)
       (λ objects o h. task_keeps (λ k. IfSome (stream_in k) (λ s. FoundAt (IsSourceOf s) objects s.source)) f (λ t h. h)
       o.kind h) objects id firm.streams;
+  columns = columns_changed (on_task_stored f) (λ o h. task_keeps KindHasColumns f (λ t h. h) o.kind h) objects id
+      firm.columns;
+  dynamics = dynamics_changed (on_task_stored f) (task_seen f)
+      (λ objects o h. task_keeps (DynamicHolds objects) f (λ t h. h) o.kind h) objects id firm.dynamics;
+}
+
+dynamic_task : (f : Dynamic → Dynamic) (k : StoredKind) → task_in (on_dynamic f k) ≡ task_in k
+dynamic_task f (TableKind t) = refl
+dynamic_task f (StreamKind s) = refl
+dynamic_task f (TaskKind t) = refl
+dynamic_task f (DynamicKind d t) = refl
+
+-- a dynamic table that is changed beside its rows
+dynamic_firm : (f : Dynamic → Dynamic)
+    → ((objects : List StoredObject) (d : Dynamic) (columns : List Column) → IsFirmDynamic objects d columns
+    → IsFirmDynamic objects (f d) columns) → (objects : List StoredObject) (id : ℕ) → IsFirm objects
+    → IsFirm (changed_at objects id (on_dynamic_stored f))
+dynamic_firm f holds objects id firm = record {
+  columns = columns_changed (on_dynamic_stored f)
+      (λ o h. dynamic_keeps KindHasColumns f (λ d t h. h) o.kind h) objects id
+      firm.columns;
+  dynamics = dynamics_changed (on_dynamic_stored f) (dynamic_seen f)
+      (λ objects o h. dynamic_keeps (DynamicHolds objects) f (λ d t h. holds objects d t.columns h) o.kind h) objects id
+      firm.dynamics;
+  tasks = same_tasks (on_dynamic_stored f) (λ o. dynamic_task f o.kind) (λ o. refl) objects id firm.tasks;
+  tables = all_changed_at IsFirmObject IsFirmObject (on_dynamic_stored f) (λ o h. h)
+      (λ o h. dynamic_keeps IsFirmKind f (λ d t h. h) o.kind h) objects id firm.tables;
+  names = names_changed (on_dynamic_stored f) (λ o. refl) (λ o live. live) objects id firm.names;
+  streams = streams_changed (on_dynamic_stored f)
+      (λ s o h. dynamic_keeps (λ k. IsSomeAnd (table_in k) (λ t. s.columns ≡ t.columns ++ metadata_columns)) f
+      (λ d t h. h) o.kind h)
+      (λ objects o h. dynamic_keeps (λ k. IfSome (stream_in k) (λ s. FoundAt (IsSourceOf s) objects s.source)) f
+      (λ d t h. h) o.kind h) objects id firm.streams;
 }
 
 pub offset_task : (offset : ℕ) (k : StoredKind) → task_in (offset_set_kind offset k) ≡ task_in k
 offset_task offset (TableKind t) = refl
 offset_task offset (StreamKind s) = refl
 offset_task offset (TaskKind t) = refl
+offset_task offset (DynamicKind d t) = refl
 
 pub pushed_task : (stamp : ℕ) (c : VersionChange) (k : StoredKind) → task_in (pushed_kind stamp c k) ≡ task_in k
 pushed_task stamp c (TableKind t) = refl
 pushed_task stamp c (StreamKind s) = refl
 pushed_task stamp c (TaskKind t) = refl
+pushed_task stamp c (DynamicKind d t) = refl
 
 few_failures : (state : TaskState) (found : Option StoredObject) → StateApplies found state
     → state.failures ≤ most_failures
@@ -382,6 +522,11 @@ firm_changed stamp objects (CreatesTable c) applies rises firm = record {
   names = names_more objects _ (free_name c.name objects applies.object.free) firm.names;
   streams = streams_more objects _ tt firm.streams;
   tasks = tasks_more objects _ tt firm.tasks;
+  columns = all_more HasColumns objects _ firm.columns (record {
+    some = applies.some_column;
+    names = all_map _ _ (λ column name. name.0) c.columns applies.column_names;
+  });
+  dynamics = dynamics_more objects _ tt firm.dynamics;
 }
 firm_changed stamp objects (CreatesStream c) applies rises firm = record {
   tables = all_more IsFirmObject objects _ firm.tables tt;
@@ -390,12 +535,16 @@ firm_changed stamp objects (CreatesStream c) applies rises firm = record {
       (columns_at objects c.source))) objects _ c.source
       (source_found objects c.source c.is_append_only c.offset applies.source)) firm.streams;
   tasks = tasks_more objects _ tt firm.tasks;
+  columns = all_more HasColumns objects _ firm.columns tt;
+  dynamics = dynamics_more objects _ tt firm.dynamics;
 }
 firm_changed stamp objects (CreatesTask c) applies rises firm = record {
   tables = all_more IsFirmObject objects _ firm.tables tt;
   names = names_more objects _ (free_name c.name objects applies.object.free) firm.names;
   streams = streams_more objects _ tt firm.streams;
   tasks = tasks_more objects _ (task_made_holds objects c rises applies) firm.tasks;
+  columns = all_more HasColumns objects _ firm.columns tt;
+  dynamics = dynamics_more objects _ tt firm.dynamics;
 }
 firm_changed stamp objects (SetsTask id state) applies rises firm = task_firm (with_state state) (λ t. refl) (λ t. refl)
     (state_firm state (few_failures state (at_id objects id) applies)) objects id firm
@@ -403,11 +552,26 @@ firm_changed stamp objects (StartsRun root tasks) applies rises firm =
     task_firm (with_run tasks) (λ t. refl) (λ t. refl) (run_firm tasks rises) objects root firm
 firm_changed stamp objects (FinishesTask root task ending) applies rises firm =
     task_firm (with_ended task ending) (λ t. refl) (λ t. refl) (end_firm task ending) objects root firm
+firm_changed stamp objects (CreatesDynamic c) applies rises firm = record {
+  tables = all_more IsFirmObject objects _ firm.tables (empty_firm c.columns stamp);
+  names = names_more objects _ (free_name c.name objects applies.object.free) firm.names;
+  streams = streams_more objects _ tt firm.streams;
+  tasks = tasks_more objects _ tt firm.tasks;
+  columns = all_more HasColumns objects _ firm.columns (made_filled objects c applies);
+  dynamics = dynamics_more objects _ (made_firm objects c rises applies) firm.dynamics;
+}
+firm_changed stamp objects (SetsDynamic id state) applies rises firm =
+    dynamic_firm (with_dynamic_state state)
+    (state_holds state (state_taken (at_id objects id) state applies)) objects id
+    firm
 firm_changed stamp objects (Drops id) applies rises firm = record {
   tables = all_changed_at IsFirmObject IsFirmObject dropped (λ o h. h) (λ o h. h) objects id firm.tables;
   names = names_changed dropped (λ o. refl) (λ o live. absurd cc) objects id firm.names;
   streams = streams_changed dropped (λ s o h. h) (λ objects o h. h) objects id firm.streams;
   tasks = tasks_dropped objects id applies firm.tasks;
+  columns = columns_changed dropped (λ o h. h) objects id firm.columns;
+  dynamics = dynamics_changed dropped (record { kind = λ o. refl; columns = λ o. refl }) (λ objects o h. h) objects id
+      firm.dynamics;
 }
 firm_changed stamp objects (SetsOffset id offset) applies rises firm = record {
   tables = all_changed_at IsFirmObject IsFirmObject (offset_set offset) (λ o h. h) (set_firm offset) objects
@@ -415,6 +579,11 @@ firm_changed stamp objects (SetsOffset id offset) applies rises firm = record {
   names = names_changed (offset_set offset) (λ o. refl) (λ o live. live) objects id firm.names;
   streams = streams_changed (offset_set offset) (set_source offset) (set_stream offset) objects id firm.streams;
   tasks = same_tasks (offset_set offset) (λ o. offset_task offset o.kind) (λ o. refl) objects id firm.tasks;
+  columns = columns_changed (offset_set offset)
+      (λ o h. offset_keeps KindHasColumns offset (λ s h. h) o.kind h) objects id
+      firm.columns;
+  dynamics = dynamics_changed (offset_set offset) (set_seen offset)
+      (λ objects o h. offset_keeps (DynamicHolds objects) offset (λ s h. h) o.kind h) objects id firm.dynamics;
 }
 firm_changed stamp objects (PushesVersion c) applies rises firm = record {
   tables = by_found (at_id objects c.id) refl applies;
@@ -422,12 +591,16 @@ firm_changed stamp objects (PushesVersion c) applies rises firm = record {
   streams = streams_changed (pushed_object stamp c) (pushed_source stamp c) (pushed_stream stamp c) objects c.id
       firm.streams;
   tasks = same_tasks (pushed_object stamp c) (λ o. pushed_task stamp c o.kind) (λ o. refl) objects c.id firm.tasks;
+  columns = columns_changed (pushed_object stamp c) (λ o h. pushed_columns stamp c o.kind h) objects c.id firm.columns;
+  dynamics = dynamics_changed (pushed_object stamp c) (pushed_seen stamp c)
+      (λ objects o h. pushed_dynamic stamp c objects o.kind h) objects c.id firm.dynamics;
 }
   where
     by_kind : (k : StoredKind) → IsFirmKind k → FitsKind k c → IsFirmKind (pushed_kind stamp c k)
     by_kind (TableKind t) firm fits = firm_pushed stamp c t rises fits firm
     by_kind (StreamKind s) firm fits = tt
     by_kind (TaskKind t) firm fits = tt
+    by_kind (DynamicKind d t) firm fits = firm_pushed stamp c t rises fits firm
 
     by_found : (found : Option StoredObject) → at_id objects c.id ≡ found → FitsObject found c
         → AllByRecursion IsFirmObject (put_at objects c.id (option_map (pushed_object stamp c) found))
@@ -445,7 +618,7 @@ firm_all stamp objects (c ∷ cs) applies rises firm =
 
 -- ---- what a file says
 
-written_rises : (c : Change) → IsChange (change_as_text c) → IfSome (body_in c) IsSpelled → ChangeRises c
+written_rises : (c : Change) → IsChange (change_as_text c) → IsUnderstood c → ChangeRises c
 written_rises (CreatesTable c) good spelled = tt
 written_rises (Drops id) good spelled = tt
 written_rises (CreatesStream c) good spelled = tt
@@ -454,13 +627,15 @@ written_rises (CreatesTask c) good spelled = spelled_change c.runs.body_text c.r
 written_rises (SetsTask id state) good spelled = tt
 written_rises (StartsRun root tasks) good spelled = tasks_rise 0 tasks good.tasks
 written_rises (FinishesTask root task ending) good spelled = tt
+written_rises (CreatesDynamic c) good spelled = spelled_query c.query.text c.query.tree spelled
+written_rises (SetsDynamic id state) good spelled = tt
 written_rises (PushesVersion c) good spelled = record {
   rows = all_map (IsPartition c.width) HasRisingRows (λ p is. is.rising) c.added good.added;
   some = all_map (IsPartition c.width) HasRows (λ p is. is.some) c.added good.added;
 }
 
 all_rise : (cs : List Change) → AllByRecursion IsChange (map change_as_text cs)
-    → AllByRecursion (λ c. IfSome (body_in c) IsSpelled) cs → AllByRecursion ChangeRises cs
+    → AllByRecursion IsUnderstood cs → AllByRecursion ChangeRises cs
 all_rise [] good spelled = tt
 all_rise (c ∷ cs) good spelled = (written_rises c good.0 spelled.0, all_rise cs good.1 spelled.1)
 

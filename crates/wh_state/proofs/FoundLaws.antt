@@ -4,10 +4,11 @@
 --     found_changed               another one is changed, or it is and still has it
 --     found_spared                what stands at another id stays
 --     found_more                  more behind them
+--     if_found_changed, if_found_more     the same of what stands there, if anything does
 use Rattle.std.proofs.Common.{◌≡◌, ℕ, zero, suc, List, [], ◌∷◌, ◌++◌, Option, Some, None, option_map, refl, sym}
 use Rattle.std.proofs.Common.{subst, ap, ◌∙◌, ◌⊎◌, inl, inr, arith}
 use Rattle.std.specs.Prelude.{slice_get, slice_set}
-use Rattle.std.specs.Option.{IsSomeAnd}
+use Rattle.std.specs.Option.{IsSomeAnd, IfSome}
 use Rattle.wh_state.specs.State.{at_id, with_id, put_at, changed_at}
 use Rattle.wh_state.proofs.IdLaws.{at_spared}
 
@@ -91,3 +92,37 @@ get_more P (x ∷ xs) ys (suc place) h = get_more P xs ys place h
 pub found_more : {X : Type 0} (P : X → Type 0) (xs ys : List X) (id : ℕ) → FoundAt P xs id → FoundAt P (xs ++ ys) id
 found_more P xs ys zero h = absurd h
 found_more P xs ys (suc place) h = get_more P xs ys place h
+
+-- ---- if there is one
+
+abbrev pub IfFoundAt : {X : Type 0} → (X → Type 0) → List X → ℕ → Type 0
+IfFoundAt P xs id = IfSome (at_id xs id) P
+
+none_changed : {X : Type 0} (f : X → X) (xs : List X) (id : ℕ) → at_id xs id ≡ None → changed_at xs id f ≡ xs
+none_changed f xs id none = ap (λ (found : Option _). put_at xs id (option_map f found)) none
+
+pub if_found_changed : {X : Type 0} (P : X → Type 0) (f : X → X) → ((x : X) → P x → P (f x)) → (xs : List X)
+    → (id other : ℕ) → IfFoundAt P xs other → IfFoundAt P (changed_at xs id f) other
+if_found_changed P f keeps xs id other h = by_id (same_or_not other id)
+  where
+    by_found : (found : Option _) → at_id xs id ≡ found → IfFoundAt P xs id → IfFoundAt P (changed_at xs id f) id
+    by_found None none h = subst (λ (l : List _). IfFoundAt P l id) (sym (none_changed f xs id none)) h
+    by_found (Some x) there h = subst (λ found. IfSome found P) (sym (at_same f xs id x there))
+        (keeps x (subst (λ found. IfSome found P) there h))
+
+    by_id : (other ≡ id) ⊎ (other ≡ id → ⊥) → IfFoundAt P (changed_at xs id f) other
+    by_id (inl same) = subst (λ (n : ℕ). IfFoundAt P (changed_at xs id f) n) (sym same)
+        (by_found (at_id xs id) refl (subst (λ (n : ℕ). IfFoundAt P xs n) same h))
+    by_id (inr apart) = subst (λ found. IfSome found P) (sym (at_spared f xs id other apart)) h
+
+if_get_more : {X : Type 0} (P : X → Type 0) (xs : List X) (x : X) (place : ℕ) → P x → IfSome (slice_get xs place) P
+    → IfSome (slice_get (xs ++ x ∷ []) place) P
+if_get_more P [] x zero new h = new
+if_get_more P [] x (suc place) new h = tt
+if_get_more P (y ∷ ys) x zero new h = h
+if_get_more P (y ∷ ys) x (suc place) new h = if_get_more P ys x place new h
+
+pub if_found_more : {X : Type 0} (P : X → Type 0) (xs : List X) (x : X) (id : ℕ) → P x → IfFoundAt P xs id
+    → IfFoundAt P (xs ++ x ∷ []) id
+if_found_more P xs x zero new h = tt
+if_found_more P xs x (suc place) new h = if_get_more P xs x place new h

@@ -22,7 +22,7 @@ kept_is text placed head ts tail utf8 h e k =
     subst (λ (l : List ℕ). IsPart l ts) (sym k.is) (part_is text placed head ts tail utf8 h e)
 
 -- to the end of the text
-last_is : (text : List ℕ) (placed head ts : List Placed) {kept : List ℕ} → IsUtf8 text → HasTokens text placed
+pub last_is : (text : List ℕ) (placed head ts : List Placed) {kept : List ℕ} → IsUtf8 text → HasTokens text placed
     → placed ≡ head ++ ts → IsKept text ts kept → IsPart kept ts
 last_is text placed head ts utf8 h e k =
     kept_is text placed head ts [] utf8 h (e ∙ ap (λ (l : List Placed). head ++ l) (sym (append-nil ts))) k

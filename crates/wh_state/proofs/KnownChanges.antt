@@ -44,11 +44,11 @@ abbrev change : Edits
 change = record { rows = insert empty 2 (Some (row 8)); added = row 9 ∷ [] }
 
 -- both versions stay; the third has a partition in the place of the one that goes, and one of the row that comes
-rewritten : (map (λ p. p.rows) (last_partitions (edited_table 4 change table_t))
+rewritten : (map (λ p. p.rows) (last_partitions (edited_table 4 4 change table_t))
     ≡ ((1, row 5) ∷ (2, row 8) ∷ []) ∷ ((3, row 9) ∷ []) ∷ [])
-    × (map (λ p. p.number) (last_partitions (edited_table 4 change table_t)) ≡ 2 ∷ 3 ∷ [])
-    × (values (last_rows (edited_table 4 change table_t)) ≡ row 5 ∷ row 8 ∷ row 9 ∷ [])
-    × ((edited_table 4 change table_t).next_row ≡ 4) × ((edited_table 4 change table_t).next_partition ≡ 4)
-    × (map (λ (version : Version). version.stamp) (edited_table 4 change table_t).versions ≡ 1 ∷ 2 ∷ 4 ∷ [])
+    × (map (λ p. p.number) (last_partitions (edited_table 4 4 change table_t)) ≡ 2 ∷ 3 ∷ [])
+    × (values (last_rows (edited_table 4 4 change table_t)) ≡ row 5 ∷ row 8 ∷ row 9 ∷ [])
+    × ((edited_table 4 4 change table_t).next_row ≡ 4) × ((edited_table 4 4 change table_t).next_partition ≡ 4)
+    × (map (λ (version : Version). version.stamp) (edited_table 4 4 change table_t).versions ≡ 1 ∷ 2 ∷ 4 ∷ [])
 unfolding edited_table partitions_made rows_after
 rewritten = (simp map_steps, simp map_steps, simp map_steps, refl, simp map_steps, refl)

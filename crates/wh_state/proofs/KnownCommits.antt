@@ -66,7 +66,8 @@ inserted = refl
 
 lengths : (length (payload_of creation) ≡ 33) × (length (payload_of insertion) ≡ 74)
     × (length (record_of (payload_of insertion)) ≡ 83)
-unfolding record_of text_payload change_bytes table_bytes column_bytes version_bytes partition_bytes row_bytes value_bytes
+unfolding record_of text_payload change_bytes table_bytes column_bytes version_bytes partition_bytes row_bytes
+    value_bytes
 lengths = (refl, refl, refl)
 
 -- the numbers of removed partitions have 8 bytes each

@@ -6,9 +6,17 @@ pub mod RowLaws
 pub mod EditLaws
 pub mod VersionLaws
 pub mod MeaningLaws
+pub mod NextVersion
 pub mod ActLaws
 pub mod OrderlyLaws
+pub mod EvaluatedLaws
+pub mod PlaceLaws
+pub mod SoundObjects
+pub mod SoundTables
+pub mod AfterLaws
+pub mod StillActs
 pub mod SoundLaws
+pub mod PlainActs
 pub mod KnownMaps
 pub mod KnownFacts
 pub mod KnownCommits
@@ -18,6 +26,7 @@ pub mod KnownChanges
 pub mod FoundLaws
 pub mod SpelledLaws
 pub mod TaskFirm
+pub mod DynamicFirm
 pub mod PartLaws
 pub mod ApartLaws
 pub mod AppliesLaws
@@ -27,3 +36,5 @@ pub mod EndLaws
 pub mod BelowLaws
 pub mod TextParts
 pub mod KeptLaws
+pub mod KeptQueries
+pub mod BroughtGoes

@@ -8,7 +8,7 @@ use Rattle.std.proofs.Common.{◌∷◌, ◌≡◌, ℕ, ◌+◌, List, [], leng
 use Rattle.std.specs.Option.{option_and_then, option_map_or}
 use Rattle.std.proofs.lemmas.List.{length-map}
 use Rattle.wh_state.specs.State.{task_in}
-use Rattle.wh_state.specs.State.{TaskKind}
+use Rattle.wh_state.specs.State.{TaskKind, DynamicKind}
 use Rattle.wh_state.specs.State.{Contents, Object, TableKind, StreamKind, nothing_held, table_in, stream_in, columns_in}
 use Rattle.wh_state.specs.State.{at_id, with_id, id_of, is_named, live_count, last_of, content_in, last_content}
 use Rattle.wh_state.specs.State.{last_rows, last_partitions, columns_at}
@@ -77,6 +77,7 @@ table_at_meant objects id =
     by_kind (TableKind t) = refl
     by_kind (StreamKind s) = refl
     by_kind (TaskKind t) = refl
+    by_kind (DynamicKind d t) = refl
 
 -- ---- streams
 
@@ -89,6 +90,7 @@ stream_at_meant objects id =
     by_kind (TableKind t) = refl
     by_kind (StreamKind s) = refl
     by_kind (TaskKind t) = refl
+    by_kind (DynamicKind d t) = refl
 
 -- ---- tasks
 
@@ -101,6 +103,7 @@ task_at_meant objects id =
     by_kind (TableKind t) = refl
     by_kind (StreamKind s) = refl
     by_kind (TaskKind t) = refl
+    by_kind (DynamicKind d t) = refl
 
 pub root_meant : (objects : List StoredObject) (id : ℕ) (after : List ℕ)
     → root_by (task_at (map object_meant objects)) id after ≡ root_by (task_at objects) id after
@@ -121,3 +124,4 @@ columns_meant objects id =
     by_kind (TableKind t) = refl
     by_kind (StreamKind s) = refl
     by_kind (TaskKind t) = refl
+    by_kind (DynamicKind d t) = refl

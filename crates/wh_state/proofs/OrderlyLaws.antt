@@ -15,11 +15,14 @@ use Rattle.std.proofs.lemmas.Option.{IfSome_then}
 use Rattle.wh_value.specs.Column.{Column}
 use Rattle.wh_frame.specs.Partition.{Partition}
 use Rattle.wh_frame.specs.Spelling.{IsPartition}
-use Rattle.wh_state.specs.State.{TaskKind, changed_at}
+use Rattle.wh_state.specs.State.{TaskKind, DynamicKind, changed_at}
 use Rattle.wh_state.specs.State.{new_table, new_object, dropped, content_in, at_id, put_at, TableKind, StreamKind}
 use Rattle.wh_state.specs.State.{table_in}
 use Rattle.wh_state.specs.Edits.{is_among, without}
 use Rattle.wh_state.specs.Stored.{StoredTable, StoredKind, StoredObject, Stored, first_stored, standing}
+use Rattle.wh_state.specs.State.{on_dynamic}
+use Rattle.wh_state.specs.Dynamic.{Dynamic, with_dynamic_state}
+use Rattle.wh_state.specs.Commit.{CreatesDynamic, SetsDynamic, on_dynamic_stored}
 use Rattle.wh_state.specs.Commit.{CreatesTask, SetsTask, StartsRun, FinishesTask, change_as_text, on_task_stored}
 use Rattle.wh_state.specs.Commit.{VersionChange, Change, CreatesTable, Drops, PushesVersion, CreatesStream, SetsOffset}
 use Rattle.wh_state.specs.Commit.{Commit, pushed, pushed_object, offset_set, changed, all_changed}
@@ -181,6 +184,7 @@ pushed_kept : (stamp : ℕ) (c : VersionChange) (o : StoredObject) (k : StoredKi
 pushed_kept stamp c o (TableKind t) good is kept fits = orderly_pushed stamp c t good fits.1 kept
 pushed_kept stamp c o (StreamKind s) good is kept fits = absurd fits.1
 pushed_kept stamp c o (TaskKind t) good is kept fits = absurd fits.1
+pushed_kept stamp c o (DynamicKind d t) good is kept fits = orderly_pushed stamp c t good fits.1 kept
 
 offset_kept : (offset : ℕ) (o : StoredObject) → KeptObject o → KeptObject (offset_set offset o)
 offset_kept offset o kept = offset_keeps KeptKind offset (λ s kept. tt) o.kind kept
@@ -189,6 +193,12 @@ task_kept : (f : Task → Task) (objects : List StoredObject) (id : ℕ) → Kep
     → KeptObjects (changed_at objects id (on_task_stored f))
 task_kept f objects id kept = all_changed_at KeptObject KeptObject (on_task_stored f) (λ o h. h)
     (λ o h. task_keeps KeptKind f (λ t kept. tt) o.kind h) objects id kept
+
+dynamic_kept : (f : Dynamic → Dynamic) (k : StoredKind) → KeptKind k → KeptKind (on_dynamic f k)
+dynamic_kept f (TableKind t) kept = kept
+dynamic_kept f (StreamKind s) kept = kept
+dynamic_kept f (TaskKind t) kept = kept
+dynamic_kept f (DynamicKind d t) kept = kept
 
 pub orderly_changed : (stamp : ℕ) (objects : List StoredObject) (c : Change) → IsChange (change_as_text c)
     → ChangeApplies objects c
@@ -208,6 +218,11 @@ orderly_changed stamp objects (SetsTask id state) good applies kept = task_kept 
 orderly_changed stamp objects (StartsRun root tasks) good applies kept = task_kept (with_run tasks) objects root kept
 orderly_changed stamp objects (FinishesTask root task ending) good applies kept =
     task_kept (with_ended task ending) objects root kept
+orderly_changed stamp objects (CreatesDynamic c) good applies kept = all_more KeptObject objects _ kept
+    (record { orderly = tt; below = tt })
+orderly_changed stamp objects (SetsDynamic id state) good applies kept =
+    all_changed_at KeptObject KeptObject (on_dynamic_stored (with_dynamic_state state)) (λ o h. h)
+    (λ o h. dynamic_kept (with_dynamic_state state) o.kind h) objects id kept
 orderly_changed stamp objects (PushesVersion c) good applies kept = by_found (at_id objects c.id) refl applies
   where
     by_found : (found : Option StoredObject) → at_id objects c.id ≡ found → FitsObject found c
@@ -228,7 +243,8 @@ orderly_all stamp objects (c ∷ cs) good applies kept =
 
 -- a commit that may be written and applies
 pub orderly_applied : (s : Stored) (c : Commit) → IsCommit c → Applies s c → KeptStored s → KeptStored (applied s c)
-orderly_applied s c good applies kept = orderly_all c.stamp s.objects c.changes good.written.changes applies.changes kept
+orderly_applied s c good applies kept =
+    orderly_all c.stamp s.objects c.changes good.written.changes applies.changes kept
 
 kept_leads : (s : Stored) (commits : List Commit) (new : Stored) → AllByRecursion IsCommit commits → Leads s commits new
     → KeptStored s → KeptStored new

@@ -2,7 +2,7 @@
 --     spelled_change         tokens of that statement
 --     IsUnderstood           the texts of a task that an act makes spell what it runs
 --     understood_written     so it is of what is written for acts
-use Rattle.std.proofs.Common.{ℕ, List, [], ◌∷◌, Option, Some, None, IfSome}
+use Rattle.std.proofs.Common.{ℕ, List, [], ◌∷◌, Option, Some, None}
 use Rattle.std.specs.List.{AllByRecursion}
 use Rattle.wh_ast.specs.declared.dml.Dml.{Dml}
 use Rattle.wh_ast.specs.declared.statement.Statement.TheVariants as st
@@ -11,13 +11,14 @@ use Rattle.wh_grammar.specs.Changing.{IsDml}
 use Rattle.wh_grammar.specs.Spelled.{Spells, IsStatement, plain, IsPlain, dml}
 use Rattle.wh_grammar.specs.Spelled.{of_table, of_stream, of_task, of_dynamic_table, of_transaction, most_nested}
 use Rattle.wh_state.specs.Task.{IsSpelled}
-use Rattle.wh_state.specs.State.{TableKind, StreamKind, TaskKind, at_id}
+use Rattle.wh_state.specs.State.{TableKind, StreamKind, TaskKind, DynamicKind, at_id}
 use Rattle.wh_state.specs.Edits.{Edits}
 use Rattle.wh_state.specs.Act.{Act, MakesTable, DropsObject, EditsRows, MakesStream, MovesOffset, MakesTask, PutsTask}
-use Rattle.wh_state.specs.Act.{BeginsRun, EndsTask}
+use Rattle.wh_state.specs.Act.{BeginsRun, EndsTask, MakesDynamic, PutsDynamic, RefreshesRows}
+use Rattle.wh_state.specs.Dynamic.{IsQuerySpelled}
 use Rattle.wh_state.specs.Stored.{StoredKind, StoredObject}
 use Rattle.wh_state.specs.Commit.{Change, all_changed}
-use Rattle.wh_state.specs.Spelling.{body_in}
+use Rattle.wh_state.specs.Spelling as spelling
 use Rattle.wh_state.specs.Written.{version_written_to, act_written, written}
 use Rattle.wh_state.proofs.AllLaws.{all_append}
 
@@ -42,10 +43,11 @@ spelled_change text x spells = of_statement spells.is_statement
 
 abbrev pub IsUnderstood : Act → Type 0
 IsUnderstood (MakesTask name minutes after runs) = IsSpelled runs
+IsUnderstood (MakesDynamic name lag is_incremental query columns) = IsQuerySpelled query
 IsUnderstood _ = Unit {0}
 
 abbrev pub IsUnderstoodChange : Change → Type 0
-IsUnderstoodChange c = IfSome (body_in c) IsSpelled
+IsUnderstoodChange c = spelling.IsUnderstood c
 
 edit_understood : (stamp id : ℕ) (e : Edits) (found : Option StoredObject)
     → AllByRecursion IsUnderstoodChange (version_written_to stamp id e found)
@@ -57,6 +59,7 @@ edit_understood stamp id e (Some o) = by_kind o.kind
     by_kind (TableKind t) = (tt, tt)
     by_kind (StreamKind s) = tt
     by_kind (TaskKind t) = tt
+    by_kind (DynamicKind d t) = (tt, tt)
 
 act_understood : (stamp : ℕ) (objects : List StoredObject) (act : Act) → IsUnderstood act
     → AllByRecursion IsUnderstoodChange (act_written stamp objects act)
@@ -69,6 +72,9 @@ act_understood stamp objects (MakesTask name minutes after runs) is = (is, tt)
 act_understood stamp objects (PutsTask id state) is = (tt, tt)
 act_understood stamp objects (BeginsRun root tasks) is = (tt, tt)
 act_understood stamp objects (EndsTask root task ending) is = (tt, tt)
+act_understood stamp objects (MakesDynamic name lag is_incremental query columns) is = (is, tt)
+act_understood stamp objects (PutsDynamic id state) is = (tt, tt)
+act_understood stamp objects (RefreshesRows id moment e) is = edit_understood moment id e (at_id objects id)
 
 pub understood_written : (stamp : ℕ) (objects : List StoredObject) (acts : List Act) → AllByRecursion IsUnderstood acts
     → AllByRecursion IsUnderstoodChange (written stamp objects acts)

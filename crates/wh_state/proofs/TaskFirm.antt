@@ -18,7 +18,8 @@ use Rattle.std.specs.List.{AllByRecursion}
 use Rattle.std.specs.Option.{IsSomeAnd}
 use Rattle.wh_state.specs.Task.{Ending, TaskRun, Run, TaskState, Task, waiting, ended_as, ended_in, most_failures}
 use Rattle.wh_state.specs.Task.{with_state, with_run, with_ended}
-use Rattle.wh_state.specs.State.{TableKind, StreamKind, TaskKind, task_in, on_task, at_id, changed_at, dropped}
+use Rattle.wh_state.specs.State.{TableKind, StreamKind, TaskKind, DynamicKind, task_in, on_task, at_id, changed_at}
+use Rattle.wh_state.specs.State.{dropped}
 use Rattle.wh_state.specs.Edits.{is_among}
 use Rattle.wh_state.specs.Stored.{StoredKind, StoredObject}
 use Rattle.wh_state.specs.Spelling.{IdsRiseFrom}
@@ -147,6 +148,7 @@ tasked g after root keeps objects id firm = tasks_changed (on_task_stored g)
     of_kind r (TableKind t) is = absurd is
     of_kind r (StreamKind s) is = absurd is
     of_kind r (TaskKind t) is = root t ∙ is
+    of_kind r (DynamicKind d t) is = absurd is
 
     holding : (objects : List StoredObject) (id : ℕ) (live : Bool) (k : StoredKind)
         → TaskHolds objects id live (task_in k)
@@ -161,6 +163,7 @@ tasked g after root keeps objects id firm = tasks_changed (on_task_stored g)
         own = λ none. root t ∙ (h.1 lives).own (sym (after t) ∙ none);
       },
     )
+    holding objects id live (DynamicKind d t) h = tt
 
 -- ---- the changes of tasks
 

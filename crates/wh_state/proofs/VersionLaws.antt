@@ -11,7 +11,7 @@ use Rattle.wh_value.specs.Value.{Row}
 use Rattle.wh_frame.specs.Partition.{numbered}
 use Rattle.wh_state.specs.State.{Rows, Version, nothing_held, last_of, content_in, with_entries}
 use Rattle.wh_state.specs.Edits.{Edits, edited, rows_after}
-use Rattle.wh_state.specs.Sound.{LacksRow, Rise, NoneReturns, IsTimely, IsBelow}
+use Rattle.wh_state.specs.Sound.{LacksRow, Rise, NoneReturns, IsBelow}
 use Rattle.wh_state.proofs.AllLaws.{all_more}
 use Rattle.wh_state.proofs.RowLaws.{number_tied, put_get, entries_rebuilt, row_left, edited_at}
 
@@ -86,14 +86,15 @@ last_below next [] h number row has = absurd (cc (empty_lacks number))
 last_below next (v ∷ []) h number row has = h.0 number (record { row = row; is_there = has })
 last_below next (v ∷ w ∷ vs) h number row has = last_below next (w ∷ vs) h.1 number row has
 
--- a new version with a later stamp, and times that are equal, as are those of the others
-pub rise_more : (committed : ℕ) (vs : List Version) (v : Version) → AllByRecursion (IsTimely committed) vs → Rise vs
-    → committed < v.stamp → v.data_timestamp ≡ v.stamp → Rise (vs ++ v ∷ [])
-rise_more committed [] v timely rise later same = tt
-rise_more committed (u ∷ []) v timely rise later same =
-    (omega (arith, timely.0.stamp), omega (arith, timely.0.stamp, timely.0.data_timestamp), tt)
-rise_more committed (u ∷ w ∷ vs) v timely rise later same =
-    (rise.0, rise.1, rise_more committed (w ∷ vs) v timely.1 rise.2 later same)
+-- a version that comes before another by its stamp, and stands for no later moment
+abbrev pub IsBefore : Version → Version → Type 0
+IsBefore v u = (u.stamp < v.stamp) × (u.data_timestamp ≤ v.data_timestamp)
+
+-- a new version behind those that come before it
+pub rise_more : (vs : List Version) (v : Version) → AllByRecursion (IsBefore v) vs → Rise vs → Rise (vs ++ v ∷ [])
+rise_more [] v before rise = tt
+rise_more (u ∷ []) v before rise = (before.0.0, before.0.1, tt)
+rise_more (u ∷ w ∷ vs) v before rise = (rise.0, rise.1, rise_more (w ∷ vs) v before.1 rise.2)
 
 -- a new version that lacks what the last one lacks below the next row number
 pub none_more : (next : ℕ) (vs : List Version) (v : Version) → AllByRecursion (IsBelow next) vs → NoneReturns vs

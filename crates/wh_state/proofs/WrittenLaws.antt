@@ -10,11 +10,13 @@ use Rattle.std.specs.List.{AllByRecursion}
 use Rattle.std.specs.Option.{IsSomeAnd}
 use Rattle.wh_value.specs.Limit.{bound}
 use Rattle.wh_value.specs.declared.limit.Limit.TheVariants as limits
-use Rattle.wh_state.specs.State.{TaskKind}
+use Rattle.wh_state.specs.State.{TaskKind, DynamicKind}
 use Rattle.wh_state.specs.State.{dropped, last_of, at_id}
 use Rattle.wh_state.specs.State.{TableKind, StreamKind, table_in}
 use Rattle.wh_state.specs.Edits.{Edits, partitions_made}
-use Rattle.wh_state.specs.Act.{MakesTask, PutsTask, BeginsRun, EndsTask}
+use Rattle.wh_state.specs.Act.{MakesTask, PutsTask, BeginsRun, EndsTask, MakesDynamic, PutsDynamic, RefreshesRows}
+use Rattle.wh_state.specs.Dynamic.{Dynamic, with_dynamic_state}
+use Rattle.wh_state.specs.Commit.{CreatesDynamic, SetsDynamic, on_dynamic_stored}
 use Rattle.wh_state.specs.Act.{Act, MakesTable, DropsObject, EditsRows, MakesStream, MovesOffset}
 use Rattle.wh_state.specs.Stored.{StoredTable, StoredKind, StoredObject}
 use Rattle.wh_state.specs.Stored.{standing}
@@ -24,7 +26,8 @@ use Rattle.wh_state.specs.Commit.{pushed_object, pushed_kind, offset_set, offset
 use Rattle.wh_state.specs.Commit.{DoesNotFall, FitsObject, TakesOffset, OffsetApplies, ChangeApplies, AllApply}
 use Rattle.wh_state.specs.Written.{version_written_to, act_written, written}
 use Rattle.wh_state.proofs.AllLaws.{all_at}
-use Rattle.wh_state.proofs.ActLaws.{version_change, IsNoEdit, AreNoEdits, AreEditsFrom, no_more_edits, next_edit}
+use Rattle.wh_state.proofs.ActLaws.{version_change, IsNoEdit, AreEditsFrom, no_more_edits, other_act, next_edit}
+use Rattle.wh_state.proofs.ActLaws.{next_refresh}
 use Rattle.wh_state.proofs.ActLaws.{edit_leaves, orderly_standing}
 use Rattle.wh_state.proofs.FoundLaws.{FoundAt, found_changed, found_spared, found_more}
 use Rattle.wh_state.proofs.PartLaws.{made_rise}
@@ -69,20 +72,38 @@ pub record EditsApply (stamp : ℕ) (e : Edits) (t : StoredTable) : Type 0 where
 abbrev pub EditStands : ℕ → Edits → StoredObject → Type 0
 EditStands stamp e o = IsTrue o.is_live × IsSomeAnd (table_in o.kind) (EditsApply stamp e)
 
-edit_goes : (stamp : ℕ) (objects : List StoredObject) (id : ℕ) (e : Edits) → AllByRecursion IsFirmObject objects
-    → FoundAt (EditStands stamp e) objects id → AllGo stamp objects (act_written stamp objects (EditsRows id e))
-edit_goes stamp objects id e firm stands = by_found (at_id objects id) refl stands
+-- a version for a moment
+pub version_goes : (stamp moment : ℕ) (objects : List StoredObject) (id : ℕ) (e : Edits)
+    → AllByRecursion IsFirmObject objects → FoundAt (EditStands moment e) objects id
+    → AllGo stamp objects (version_written_to moment id e (at_id objects id))
+version_goes stamp moment objects id e firm stands = by_found (at_id objects id) refl stands
   where
     by_kind : (o : StoredObject) (k : StoredKind) → at_id objects id ≡ Some (record o { kind = k })
-        → EditStands stamp e (record o { kind = k }) → IsFirmKind k
-        → AllGo stamp objects (version_written_to stamp id e (Some (record o { kind = k })))
+        → EditStands moment e (record o { kind = k }) → IsFirmKind k
+        → AllGo stamp objects (version_written_to moment id e (Some (record o { kind = k })))
     by_kind o (StreamKind s) there stands firm = absurd stands.1
     by_kind o (TaskKind t) there stands firm = absurd stands.1
     by_kind o (TableKind t) there stands firm =
-        let c : VersionChange = version_change stamp id e t in
+        let c : VersionChange = version_change moment id e t in
         let applies : FitsObject (Some (record o { kind = TableKind t })) c = (
           stands.0,
-          version_applies stamp id e t firm stands.1.below stands.1.fit stands.1.later stands.1.few
+          version_applies moment id e t firm stands.1.below stands.1.fit stands.1.later stands.1.few
+              stands.1.few_partitions,
+        ) in (
+          subst (λ found. FitsObject found c) (sym there) applies,
+          (
+            record {
+              rows = made_rise t.next_partition t.next_row e (standing t) (orderly_standing t firm.kept.orderly).rows;
+              some = made_some t.next_partition t.next_row e (standing t);
+            },
+            tt,
+          ),
+        )
+    by_kind o (DynamicKind d t) there stands firm =
+        let c : VersionChange = version_change moment id e t in
+        let applies : FitsObject (Some (record o { kind = DynamicKind d t })) c = (
+          stands.0,
+          version_applies moment id e t firm stands.1.below stands.1.fit stands.1.later stands.1.few
               stands.1.few_partitions,
         ) in (
           subst (λ found. FitsObject found c) (sym there) applies,
@@ -95,10 +116,14 @@ edit_goes stamp objects id e firm stands = by_found (at_id objects id) refl stan
           ),
         )
 
-    by_found : (found : Option StoredObject) → at_id objects id ≡ found → IsSomeAnd found (EditStands stamp e)
-        → AllGo stamp objects (version_written_to stamp id e found)
+    by_found : (found : Option StoredObject) → at_id objects id ≡ found → IsSomeAnd found (EditStands moment e)
+        → AllGo stamp objects (version_written_to moment id e found)
     by_found None none stands = absurd stands
     by_found (Some o) there stands = by_kind o o.kind there stands (all_at IsFirmObject objects id o firm there)
+
+edit_goes : (stamp : ℕ) (objects : List StoredObject) (id : ℕ) (e : Edits) → AllByRecursion IsFirmObject objects
+    → FoundAt (EditStands stamp e) objects id → AllGo stamp objects (act_written stamp objects (EditsRows id e))
+edit_goes stamp objects id e firm stands = version_goes stamp stamp objects id e firm stands
 
 -- ---- what stands at an id
 
@@ -106,6 +131,7 @@ pub record KeptByCommits (P : StoredObject → Type 0) : Type 0 where
   pub pushes : (stamp : ℕ) (c : VersionChange) (o : StoredObject) → P o → P (pushed_object stamp c o)
   pub sets : (offset : ℕ) (o : StoredObject) → P o → P (offset_set offset o)
   pub tasks : (f : Task → Task) (o : StoredObject) → P o → P (on_task_stored f o)
+  pub dynamics : (f : Dynamic → Dynamic) (o : StoredObject) → P o → P (on_dynamic_stored f o)
 
 abbrev pub ChangeSpares : ℕ → Change → Type 0
 ChangeSpares id (Drops other) = id ≡ other → ⊥
@@ -128,6 +154,9 @@ found_changes P keeps stamp objects id (StartsRun root tasks) spares h =
     found_changed P (on_task_stored (with_run tasks)) (keeps.tasks (with_run tasks)) objects root id h
 found_changes P keeps stamp objects id (FinishesTask root task ending) spares h =
     found_changed P (on_task_stored (with_ended task ending)) (keeps.tasks (with_ended task ending)) objects root id h
+found_changes P keeps stamp objects id (CreatesDynamic c) spares h = found_more P objects _ id h
+found_changes P keeps stamp objects id (SetsDynamic other state) spares h = found_changed P
+    (on_dynamic_stored (with_dynamic_state state)) (keeps.dynamics (with_dynamic_state state)) objects other id h
 
 -- behind changes of which none drops it
 pub found_through : (P : StoredObject → Type 0) → KeptByCommits P → (stamp : ℕ) (objects : List StoredObject) (id : ℕ)
@@ -153,6 +182,9 @@ edit_keeps P keeps stamp objects other e id h = by_found (at_id objects other)
         (keeps stamp (version_change stamp other e t)) objects other id h
     by_kind o (StreamKind s) = h
     by_kind o (TaskKind t) = h
+    by_kind o (DynamicKind d t) =
+        found_changed P (pushed_object stamp (version_change stamp other e t))
+        (keeps stamp (version_change stamp other e t)) objects other id h
 
     by_found : (found : Option StoredObject)
         → FoundAt P (all_changed stamp objects (version_written_to stamp other e found)) id
@@ -172,7 +204,9 @@ takes_kept start o stamp c h = (h.0, by_kind o.kind h.1)
     by_kind (TableKind t) h = absurd h
     by_kind (StreamKind s) h = h
     by_kind (TaskKind t) h = absurd h
+    by_kind (DynamicKind d t) h = absurd h
 
+-- a stream that is moved
 takes_again : (start : ℕ) (o : StoredObject) → TakesMove start o → TakesMove start (offset_set start o)
 takes_again start o h = (h.0, by_kind o.kind h.1)
   where
@@ -180,6 +214,19 @@ takes_again start o h = (h.0, by_kind o.kind h.1)
     by_kind (TableKind t) h = absurd h
     by_kind (StreamKind s) h = omega arith
     by_kind (TaskKind t) h = absurd h
+    by_kind (DynamicKind d t) h = absurd h
+
+-- edits of a table that isn't moved
+edits_stand : (stamp start : ℕ) (e : Edits) (o : StoredObject) → EditStands stamp e o
+    → EditStands stamp e (offset_set start o)
+edits_stand stamp start e o h = (h.0, by_kind o.kind h.1)
+  where
+    by_kind : (k : StoredKind) → IsSomeAnd (table_in k) (EditsApply stamp e)
+        → IsSomeAnd (table_in (offset_set_kind start k)) (EditsApply stamp e)
+    by_kind (TableKind t) h = h
+    by_kind (StreamKind s) h = absurd h
+    by_kind (TaskKind t) h = absurd h
+    by_kind (DynamicKind d t) h = h
 
 -- the acts of a commit of a transaction of that start
 abbrev pub ActStands : ℕ → ℕ → List StoredObject → Act → Type 0
@@ -190,53 +237,35 @@ ActStands stamp start objects _ = ⊥
 abbrev pub AllStand : ℕ → ℕ → List StoredObject → List Act → Type 0
 AllStand stamp start objects acts = AllByRecursion (ActStands stamp start objects) acts
 
-move_stands : (stamp start : ℕ) (objects : List StoredObject) (id : ℕ) (act : Act) → IsNoEdit act
+-- ---- behind a move
+
+move_stands : (stamp start : ℕ) (objects : List StoredObject) (id : ℕ) (act : Act)
     → ActStands stamp start objects act → ActStands stamp start (changed stamp objects (SetsOffset id start)) act
 unfolding changed
-move_stands stamp start objects id (EditsRows other e) are stands = absurd are
-move_stands stamp start objects id (MovesOffset other offset) are stands = (
+move_stands stamp start objects id (EditsRows other e) stands =
+    found_changed (EditStands stamp e) (offset_set start) (edits_stand stamp start e) objects id other stands
+move_stands stamp start objects id (MovesOffset other offset) stands = (
   stands.0,
   found_changed (TakesMove start) (offset_set start) (takes_again start) objects id other stands.1,
 )
-move_stands stamp start objects id (MakesTable name columns retention) are stands = absurd stands
-move_stands stamp start objects id (DropsObject other) are stands = absurd stands
-move_stands stamp start objects id (MakesStream name source is_append_only) are stands = absurd stands
-move_stands stamp start objects id (MakesTask name minutes after runs) are stands = absurd stands
-move_stands stamp start objects id (PutsTask other state) are stands = absurd stands
-move_stands stamp start objects id (BeginsRun root tasks) are stands = absurd stands
-move_stands stamp start objects id (EndsTask root task ending) are stands = absurd stands
+move_stands stamp start objects id (MakesTable name columns retention) stands = absurd stands
+move_stands stamp start objects id (DropsObject other) stands = absurd stands
+move_stands stamp start objects id (MakesStream name source is_append_only) stands = absurd stands
+move_stands stamp start objects id (MakesTask name minutes after runs) stands = absurd stands
+move_stands stamp start objects id (PutsTask other state) stands = absurd stands
+move_stands stamp start objects id (BeginsRun root tasks) stands = absurd stands
+move_stands stamp start objects id (EndsTask root task ending) stands = absurd stands
+move_stands stamp start objects id (MakesDynamic name lag is_incremental query columns) stands = absurd stands
+move_stands stamp start objects id (PutsDynamic other state) stands = absurd stands
+move_stands stamp start objects id (RefreshesRows other moment f) stands = absurd stands
 
-moves_stand : (stamp start : ℕ) (objects : List StoredObject) (id : ℕ) (acts : List Act) → AreNoEdits acts
+moves_stand : (stamp start : ℕ) (objects : List StoredObject) (id : ℕ) (acts : List Act)
     → AllStand stamp start objects acts → AllStand stamp start (changed stamp objects (SetsOffset id start)) acts
-moves_stand stamp start objects id [] are stand = tt
-moves_stand stamp start objects id (act ∷ acts) are stand =
-    (move_stands stamp start objects id act are.0 stand.0, moves_stand stamp start objects id acts are.1 stand.1)
+moves_stand stamp start objects id [] stand = tt
+moves_stand stamp start objects id (act ∷ acts) stand =
+    (move_stands stamp start objects id act stand.0, moves_stand stamp start objects id acts stand.1)
 
-moves_go : (stamp start : ℕ) (objects : List StoredObject) (acts : List Act) → AreNoEdits acts
-    → AllStand stamp start objects acts → AllGo stamp objects (written stamp objects acts)
-moves_go stamp start objects [] are stand = tt
-moves_go stamp start objects (EditsRows id e ∷ acts) are stand = absurd are.0
-moves_go stamp start objects (MakesTable name columns retention ∷ acts) are stand = absurd stand.0
-moves_go stamp start objects (DropsObject id ∷ acts) are stand = absurd stand.0
-moves_go stamp start objects (MakesStream name source is_append_only ∷ acts) are stand = absurd stand.0
-moves_go stamp start objects (MakesTask name minutes after runs ∷ acts) are stand = absurd stand.0
-moves_go stamp start objects (PutsTask id state ∷ acts) are stand = absurd stand.0
-moves_go stamp start objects (BeginsRun root tasks ∷ acts) are stand = absurd stand.0
-moves_go stamp start objects (EndsTask root task ending ∷ acts) are stand = absurd stand.0
-moves_go stamp start objects (MovesOffset id offset ∷ acts) are stand =
-    let at_start : AllGo stamp (changed stamp objects (SetsOffset id start))
-    (written stamp (changed stamp objects (SetsOffset id start)) acts) =
-    moves_go stamp start (changed stamp objects (SetsOffset id start)) acts are.1
-    (moves_stand stamp start objects id acts are.1 stand.1) in (
-      subst (λ (n : ℕ). OffsetApplies (at_id objects id) n) (sym stand.0.0) stand.0.1,
-      (
-        tt,
-        subst (λ (n : ℕ). AllGo stamp (changed stamp objects (SetsOffset id n))
-            (written stamp (changed stamp objects (SetsOffset id n)) acts)) (sym stand.0.0) at_start,
-      ),
-    )
-
--- ---- edits, and then moves
+-- ---- behind edits, of tables of lower ids
 
 act_stands : (stamp start : ℕ) (objects : List StoredObject) (id : ℕ) (e : Edits) (act : Act) → IsNoEdit act
     → ActStands stamp start objects act
@@ -254,28 +283,66 @@ act_stands stamp start objects id e (MakesTask name minutes after runs) are stan
 act_stands stamp start objects id e (PutsTask other state) are stands = absurd stands
 act_stands stamp start objects id e (BeginsRun root tasks) are stands = absurd stands
 act_stands stamp start objects id e (EndsTask root task ending) are stands = absurd stands
-
-others_stand : (stamp start : ℕ) (objects : List StoredObject) (id : ℕ) (e : Edits) (acts : List Act) → AreNoEdits acts
-    → AllStand stamp start objects acts
-    → AllStand stamp start (all_changed stamp objects (act_written stamp objects (EditsRows id e))) acts
-others_stand stamp start objects id e [] are stand = tt
-others_stand stamp start objects id e (act ∷ acts) are stand =
-    (act_stands stamp start objects id e act are.0 stand.0, others_stand stamp start objects id e acts are.1 stand.1)
+act_stands stamp start objects id e (MakesDynamic name lag is_incremental query columns) are stands = absurd stands
+act_stands stamp start objects id e (PutsDynamic other state) are stands = absurd stands
+act_stands stamp start objects id e (RefreshesRows other moment f) are stands = absurd are
 
 later_stand : (stamp start : ℕ) (objects : List StoredObject) (id : ℕ) (e : Edits) (least : ℕ) (acts : List Act)
     → id < least → AreEditsFrom least acts → AllStand stamp start objects acts
     → AllStand stamp start (all_changed stamp objects (act_written stamp objects (EditsRows id e))) acts
-later_stand stamp start objects id e least acts h (no_more_edits are) stand =
-    others_stand stamp start objects id e acts are stand
+later_stand stamp start objects id e least [] h no_more_edits stand = tt
+later_stand stamp start objects id e least (act ∷ acts) h (other_act other rising) stand = (
+  act_stands stamp start objects id e act other stand.0,
+  later_stand stamp start objects id e least acts h rising stand.1,
+)
 later_stand stamp start objects id e least (EditsRows other f ∷ acts) h (next_edit from rising) stand = (
   subst (λ found. IsSomeAnd found (EditStands stamp f))
       (sym (edit_leaves stamp id e objects other (omega (arith, from)))) stand.0,
   later_stand stamp start objects id e (suc other) acts (omega (arith, from)) rising stand.1,
 )
+later_stand stamp start objects id e least (RefreshesRows other moment f ∷ acts) h (next_refresh from rising) stand =
+    absurd stand.0
+
+-- ---- edits by rising ids, and moves
+
+-- a move, and then others
+move_goes : (stamp start : ℕ) (objects : List StoredObject) (act : Act) (acts : List Act) → IsNoEdit act
+    → AllStand stamp start objects (act ∷ acts)
+    → ((id : ℕ) → FoundAt (TakesMove start) objects id
+    → AllStand stamp start (changed stamp objects (SetsOffset id start)) acts
+    → AllGo stamp (changed stamp objects (SetsOffset id start))
+    (written stamp (changed stamp objects (SetsOffset id start)) acts))
+    → AllGo stamp objects (written stamp objects (act ∷ acts))
+move_goes stamp start objects (EditsRows id e) acts are stand rest = absurd are
+move_goes stamp start objects (MakesTable name columns retention) acts are stand rest = absurd stand.0
+move_goes stamp start objects (DropsObject id) acts are stand rest = absurd stand.0
+move_goes stamp start objects (MakesStream name source is_append_only) acts are stand rest = absurd stand.0
+move_goes stamp start objects (MakesTask name minutes after runs) acts are stand rest = absurd stand.0
+move_goes stamp start objects (PutsTask id state) acts are stand rest = absurd stand.0
+move_goes stamp start objects (BeginsRun root tasks) acts are stand rest = absurd stand.0
+move_goes stamp start objects (EndsTask root task ending) acts are stand rest = absurd stand.0
+move_goes stamp start objects (MakesDynamic name lag is_incremental query columns) acts are stand rest = absurd stand.0
+move_goes stamp start objects (PutsDynamic id state) acts are stand rest = absurd stand.0
+move_goes stamp start objects (RefreshesRows id moment e) acts are stand rest = absurd are
+move_goes stamp start objects (MovesOffset id offset) acts are stand rest = (
+  subst (λ (n : ℕ). OffsetApplies (at_id objects id) n) (sym stand.0.0) stand.0.1,
+  (
+    tt,
+    subst (λ (n : ℕ). AllGo stamp (changed stamp objects (SetsOffset id n))
+        (written stamp (changed stamp objects (SetsOffset id n)) acts)) (sym stand.0.0)
+        (rest id stand.0.1 (moves_stand stamp start objects id acts stand.1)),
+  ),
+)
+
+set_firm : (stamp id offset : ℕ) (objects : List StoredObject) → FoundAt (TakesMove offset) objects id → IsFirm objects
+    → IsFirm (changed stamp objects (SetsOffset id offset))
+set_firm stamp id offset objects takes firm = firm_changed stamp objects (SetsOffset id offset) takes tt firm
 
 pub acts_go : (stamp start least : ℕ) (objects : List StoredObject) (acts : List Act) → AreEditsFrom least acts
     → AllStand stamp start objects acts → IsFirm objects → AllGo stamp objects (written stamp objects acts)
-acts_go stamp start least objects acts (no_more_edits are) stand firm = moves_go stamp start objects acts are stand
+acts_go stamp start least objects [] no_more_edits stand firm = tt
+acts_go stamp start least objects (RefreshesRows id moment e ∷ acts) (next_refresh from rising) stand firm =
+    absurd stand.0
 acts_go stamp start least objects (EditsRows id e ∷ acts) (next_edit from rising) stand firm =
     let first : List Change = act_written stamp objects (EditsRows id e) in
     let go : AllGo stamp objects first = edit_goes stamp objects id e firm.tables stand.0 in
@@ -283,3 +350,7 @@ acts_go stamp start least objects (EditsRows id e ∷ acts) (next_edit from risi
     (acts_go stamp start (suc id) (all_changed stamp objects first) acts rising
     (later_stand stamp start objects id e (suc id) acts (omega arith) rising stand.1)
     (go_firm stamp objects first go firm))
+acts_go stamp start least objects (act ∷ acts) (other_act other rising) stand firm =
+    move_goes stamp start objects act acts other stand (λ id takes stand.
+    acts_go stamp start least (changed stamp objects (SetsOffset id start)) acts rising stand
+    (set_firm stamp id start objects takes firm))

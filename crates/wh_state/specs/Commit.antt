@@ -14,12 +14,17 @@ use Rattle.wh_value.specs.Limit.{bound}
 use Rattle.wh_value.specs.declared.limit.Limit.TheVariants as limits
 use Rattle.wh_frame.specs.Partition.{Partition, first_number, last_number}
 use Rattle.wh_state.specs.State.{new_table, new_object, new_stream, with_offset, dropped, last_of, at_id, changed_at}
-use Rattle.wh_state.specs.State.{id_of, live_count, VersionOf, KindOf, TableKind, StreamKind, on_table, on_stream, table_in}
+use Rattle.wh_state.specs.State.{id_of, live_count, VersionOf, KindOf, TableKind, StreamKind, on_table, on_stream}
+use Rattle.wh_state.specs.State.{table_in}
 use Rattle.wh_state.specs.State.{stream_in, columns_at}
-use Rattle.wh_state.specs.State.{ObjectOf, TaskKind, on_task, task_in}
-use Rattle.wh_state.specs.Task.{TaskTexts, TaskBody, texts_of, TaskState, Ending, TaskRun, Run, Task, new_task, with_state}
+use Rattle.wh_state.specs.State.{ObjectOf, TaskKind, DynamicKind, on_task, on_dynamic, task_in, dynamic_in, empty_table}
+use Rattle.wh_state.specs.Task.{TaskTexts, TaskBody, texts_of, TaskState, Ending, TaskRun, Run, Task, new_task}
+use Rattle.wh_state.specs.Task.{with_state}
 use Rattle.wh_state.specs.Task.{with_run, with_ended, root_by, most_failures}
-use Rattle.wh_state.specs.Objects.{task_at}
+use Rattle.wh_state.specs.Dynamic.{DynamicTexts, DynamicQuery, query_texts_of, DynamicState, Dynamic, new_dynamic}
+use Rattle.wh_state.specs.Dynamic.{with_dynamic_state, most_failed_refreshes}
+use Rattle.wh_state.specs.Objects.{task_at, is_table}
+use Rattle.wh_state.specs.Bound.{Binds}
 use Rattle.wh_state.specs.Edits.{without, is_among}
 use Rattle.wh_state.specs.Stored.{StoredTable, StoredKind, StoredObject, Stored, standing}
 
@@ -56,6 +61,10 @@ abbrev pub TaskPart : Form → Type 0
 TaskPart InTexts = TaskTexts
 TaskPart InTrees = TaskBody
 
+abbrev pub DynamicPart : Form → Type 0
+DynamicPart InTexts = DynamicTexts
+DynamicPart InTrees = DynamicQuery
+
 -- a new task, behind the tasks of some ids
 pub record TaskChangeIn (form : Form) : Type 0 where
   pub id : ℕ
@@ -63,6 +72,15 @@ pub record TaskChangeIn (form : Form) : Type 0 where
   pub minutes : ℕ
   pub after : List ℕ
   pub runs : TaskPart form
+
+-- a new dynamic table
+pub record DynamicChangeIn (form : Form) : Type 0 where
+  pub id : ℕ
+  pub name : List ℕ
+  pub lag : ℕ
+  pub is_incremental : Bool
+  pub query : DynamicPart form
+  pub columns : List Column
 
 pub data ChangeIn (form : Form) : Type 0 where
   CreatesTable : TableChange → ChangeIn form
@@ -75,6 +93,8 @@ pub data ChangeIn (form : Form) : Type 0 where
   SetsTask : (id : ℕ) → TaskState → ChangeIn form
   StartsRun : (root : ℕ) → (tasks : List ℕ) → ChangeIn form
   FinishesTask : (root task : ℕ) → Ending → ChangeIn form
+  CreatesDynamic : DynamicChangeIn form → ChangeIn form
+  SetsDynamic : (id : ℕ) → DynamicState → ChangeIn form
 
 pub record CommitIn (form : Form) : Type 0 where
   pub stamp : ℕ
@@ -99,6 +119,19 @@ abbrev pub task_as_text : TaskChange → TaskChangeIn InTexts
 task_as_text c =
     record { id = c.id; name = c.name; minutes = c.minutes; after = c.after; runs = texts_of c.runs }
 
+abbrev pub DynamicChange : Type 0
+DynamicChange = DynamicChangeIn InTrees
+
+abbrev pub dynamic_as_text : DynamicChange → DynamicChangeIn InTexts
+dynamic_as_text c = record {
+  id = c.id;
+  name = c.name;
+  lag = c.lag;
+  is_incremental = c.is_incremental;
+  query = query_texts_of c.query;
+  columns = c.columns;
+}
+
 abbrev pub change_as_text : Change → TextChange
 change_as_text (CreatesTable c) = CreatesTable c
 change_as_text (Drops id) = Drops id
@@ -109,6 +142,8 @@ change_as_text (CreatesTask c) = CreatesTask (task_as_text c)
 change_as_text (SetsTask id state) = SetsTask id state
 change_as_text (StartsRun root tasks) = StartsRun root tasks
 change_as_text (FinishesTask root task ending) = FinishesTask root task ending
+change_as_text (CreatesDynamic c) = CreatesDynamic (dynamic_as_text c)
+change_as_text (SetsDynamic id state) = SetsDynamic id state
 
 abbrev pub as_text : Commit → TextCommit
 as_text c = record { stamp = c.stamp; changes = map change_as_text c.changes }
@@ -141,6 +176,9 @@ offset_set offset o = record o { kind = offset_set_kind offset o.kind }
 abbrev pub on_task_stored : (Task → Task) → StoredObject → StoredObject
 on_task_stored f o = record o { kind = on_task f o.kind }
 
+abbrev pub on_dynamic_stored : (Dynamic → Dynamic) → StoredObject → StoredObject
+on_dynamic_stored f o = record o { kind = on_dynamic f o.kind }
+
 -- the root of a new task of an id
 abbrev pub root_among : {T : Type 0} → List (ObjectOf (KindOf T)) → ℕ → List ℕ → ℕ
 root_among objects id after = root_by (task_at objects) id after
@@ -159,6 +197,9 @@ changed stamp objects (SetsTask id state) = changed_at objects id (on_task_store
 changed stamp objects (StartsRun root tasks) = changed_at objects root (on_task_stored (with_run tasks))
 changed stamp objects (FinishesTask root task ending) =
     changed_at objects root (on_task_stored (with_ended task ending))
+changed stamp objects (CreatesDynamic c) = objects ++ new_object c.name
+    (DynamicKind (new_dynamic c.lag c.is_incremental c.query) (empty_table c.columns stamp)) ∷ []
+changed stamp objects (SetsDynamic id state) = changed_at objects id (on_dynamic_stored (with_dynamic_state state))
 
 abbrev pub all_changed : ℕ → List StoredObject → List Change → List StoredObject
 all_changed stamp objects [] = objects
@@ -237,9 +278,15 @@ IsTableKind k = IsSomeAnd (table_in k) (λ t. Unit {0})
 abbrev pub IsLiveTable : Option StoredObject → Type 0
 IsLiveTable found = IsSomeAnd found (λ o. IsTrue o.is_live × IsTableKind o.kind)
 
+-- the rows that were added to a dynamic table aren't shown by themselves
+abbrev pub MayShow : Bool → Option StoredObject → Type 0
+MayShow is_append_only found = IsTrue is_append_only → IsSomeAnd found (λ o. IsTrue (is_table o.kind))
+
+-- on a table or a dynamic table
 pub record StreamApplies (objects : List StoredObject) (c : StreamChange) : Type 0 where
   pub object : IsNewObject objects c.id c.name
   pub source : IsLiveTable (at_id objects c.source)
+  pub mode : MayShow c.is_append_only (at_id objects c.source)
 
 -- an offset doesn't fall
 abbrev pub TakesOffset : StoredKind → ℕ → Type 0
@@ -276,7 +323,8 @@ pub record TaskApplies (objects : List StoredObject) (c : TaskChange) : Type 0 w
   pub minutes : c.minutes ≤ bound limits.MostSchedule
   pub either : (c.after ≡ []) ⊎ (c.minutes ≡ 0)
   pub few_after : length c.after ≤ bound limits.Predecessors
-  pub after : AllByRecursion (λ id. IsLiveTask (λ t. t.root ≡ root_among objects c.id c.after) (at_id objects id)) c.after
+  pub after : AllByRecursion (λ id. IsLiveTask (λ t. t.root ≡ root_among objects c.id c.after) (at_id objects id))
+      c.after
   pub few_tasks : count_of_root objects (root_among objects c.id c.after) < bound limits.GraphTasks
   pub few_children : AllByRecursion (λ id. child_count objects id < bound limits.Children) c.after
 
@@ -297,6 +345,32 @@ pub record TaskMayGo (objects : List StoredObject) (id : ℕ) (t : Task) : Type 
   pub childless : child_count objects id ≡ 0
   pub at_rest : IsLiveTask (λ r. list_any waits r.run ≡ false) (at_id objects t.root)
 
+-- ---- dynamic tables
+
+-- DOWNSTREAM, or so many seconds
+abbrev pub IsLag : ℕ → Type 0
+IsLag lag = (lag ≡ 0) ⊎ ((bound limits.LeastTargetLag ≤ lag) × (lag ≤ bound limits.MostTargetLag))
+
+pub record DynamicApplies (objects : List StoredObject) (c : DynamicChange) : Type 0 where
+  pub object : IsNewObject objects c.id c.name
+  pub lag : IsLag c.lag
+  pub some_column : 0 < length c.columns
+  pub few_columns : length c.columns ≤ bound limits.Columns
+  pub column_names : AllByRecursion (λ column. IsStoredName column.name) c.columns
+  pub query : Binds objects c.query c.columns
+
+-- a moment doesn't fall
+pub record TakesState (d : Dynamic) (s : DynamicState) : Type 0 where
+  pub lag : IsLag s.lag
+  pub failures : s.failures ≤ most_failed_refreshes
+  pub moment : d.state.moment ≤ s.moment
+
+abbrev pub DynamicStateApplies : Option StoredObject → DynamicState → Type 0
+DynamicStateApplies found s =
+    IsSomeAnd found (λ o. IsTrue o.is_live × IsSomeAnd (dynamic_in o.kind) (λ d. TakesState d s))
+
+-- ---- drops
+
 abbrev pub MayGo : List StoredObject → ℕ → Type 0
 MayGo objects id = IsLiveObject (at_id objects id) × IfSome (task_at objects id) (TaskMayGo objects id)
 
@@ -310,6 +384,8 @@ ChangeApplies objects (CreatesTask c) = TaskApplies objects c
 ChangeApplies objects (SetsTask id state) = StateApplies (at_id objects id) state
 ChangeApplies objects (StartsRun root tasks) = RunApplies objects root tasks
 ChangeApplies objects (FinishesTask root task ending) = EndApplies (at_id objects root) task
+ChangeApplies objects (CreatesDynamic c) = DynamicApplies objects c
+ChangeApplies objects (SetsDynamic id state) = DynamicStateApplies (at_id objects id) state
 
 -- each change applies to what those before it leave
 abbrev pub AllApply : ℕ → List StoredObject → List Change → Type 0

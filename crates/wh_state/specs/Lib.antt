@@ -1,10 +1,13 @@
 pub use Rattle.wh_value.specs.Value
 pub mod Task
+pub mod Dynamic
 pub mod State
 pub mod Objects
 pub mod Edits
 pub mod Act
 pub mod Stored
+pub mod Bound
+pub mod Moments
 pub mod Commit
 pub mod Spelling
 pub mod Written

@@ -1,8 +1,7 @@
 -- The bytes of commits.
 --     payload_of     a stamp, and a list of changes, each behind its tag
 --     IsCommit       what a commit may be: numbers, names and values within the format
-use Rattle.std.specs.Prelude.{ℕ, ◌+◌, ◌<◌, ◌≤◌, ◌^◌, Bool, true, false, List, [], ◌∷◌, ◌++◌, length, Option, Some, None}
-use Rattle.std.specs.Option.{IfSome}
+use Rattle.std.specs.Prelude.{ℕ, ◌+◌, ◌<◌, ◌≤◌, ◌^◌, Bool, true, false, List, [], ◌∷◌, ◌++◌, length}
 use Rattle.std.specs.List.{AllByRecursion}
 use Rattle.std.specs.Int.{w32, w64, to_be_bytes}
 use Rattle.wh_value.specs.Value.{IsText}
@@ -10,8 +9,10 @@ use Rattle.wh_value.specs.Column.{Column, ColumnType, NumberType, VarcharType, B
 use Rattle.wh_frame.specs.Spelling.{text_bytes, list_bytes, partition_bytes, IsPartition}
 use Rattle.wh_state.specs.Commit.{TableChange, VersionChange, StreamChange, Change, CreatesTable, Drops}
 use Rattle.wh_state.specs.Commit.{PushesVersion, CreatesStream, SetsOffset, CreatesTask, SetsTask, StartsRun}
+use Rattle.wh_state.specs.Commit.{CreatesDynamic, SetsDynamic, DynamicChangeIn}
 use Rattle.wh_state.specs.Commit.{FinishesTask, TaskChangeIn, InTexts, TextChange, TextCommit, Commit, as_text}
-use Rattle.wh_state.specs.Task.{TaskState, Ending, Succeeded, Failed, Skipped, TaskBody, IsSpelled}
+use Rattle.wh_state.specs.Dynamic.{Source, DynamicState, IsQuerySpelled}
+use Rattle.wh_state.specs.Task.{TaskState, Ending, Succeeded, Failed, Skipped, IsSpelled}
 
 abbrev pub type_byte : ColumnType → ℕ
 type_byte NumberType = 1
@@ -63,6 +64,22 @@ ending_byte Skipped = 3
 unfoldable pub end_bytes : ℕ → ℕ → Ending → List ℕ
 end_bytes root task ending = to_be_bytes w32 root ++ to_be_bytes w32 task ++ ending_byte ending ∷ []
 
+unfoldable pub source_bytes : Source → List ℕ
+source_bytes s = text_bytes s.name ++ to_be_bytes w32 s.id
+
+abbrev pub mode_byte : Bool → ℕ
+mode_byte false = 1
+mode_byte true = 2
+
+unfoldable pub dynamic_bytes : DynamicChangeIn InTexts → List ℕ
+dynamic_bytes c = to_be_bytes w32 c.id ++ text_bytes c.name ++ to_be_bytes w32 c.lag
+    ++ mode_byte c.is_incremental ∷ text_bytes c.query.text ++ list_bytes source_bytes c.query.sources
+    ++ list_bytes column_bytes c.columns
+
+unfoldable pub dynamic_state_bytes : ℕ → DynamicState → List ℕ
+dynamic_state_bytes id s = to_be_bytes w32 id ++ to_be_bytes w32 s.lag ++ truth_byte s.is_suspended
+    ∷ to_be_bytes w32 s.failures ++ to_be_bytes w64 s.tried ++ to_be_bytes w64 s.moment
+
 unfoldable pub change_bytes : TextChange → List ℕ
 change_bytes (CreatesTable c) = 1 ∷ table_bytes c
 change_bytes (Drops id) = 2 ∷ to_be_bytes w32 id
@@ -73,6 +90,8 @@ change_bytes (CreatesTask c) = 4 ∷ task_bytes c
 change_bytes (SetsTask id state) = 5 ∷ state_bytes id state
 change_bytes (StartsRun root tasks) = 6 ∷ run_bytes root tasks
 change_bytes (FinishesTask root task ending) = 7 ∷ end_bytes root task ending
+change_bytes (CreatesDynamic c) = 8 ∷ dynamic_bytes c
+change_bytes (SetsDynamic id state) = 9 ∷ dynamic_state_bytes id state
 
 unfoldable pub text_payload : TextCommit → List ℕ
 text_payload c = to_be_bytes w64 c.stamp ++ list_bytes change_bytes c.changes
@@ -140,6 +159,27 @@ pub record IsRunChange (of_root : ℕ) (ids : List ℕ) : Type 0 where
   pub few : length ids < 2 ^ 32
   pub tasks : IdsRiseFrom 0 ids
 
+pub record IsSource (s : Source) : Type 0 where
+  pub name : IsText s.name
+  pub id : s.id < 2 ^ 32
+
+pub record IsDynamicChange (c : DynamicChangeIn InTexts) : Type 0 where
+  pub id : c.id < 2 ^ 32
+  pub name : IsText c.name
+  pub lag : c.lag < 2 ^ 32
+  pub query : IsText c.query.text
+  pub few_sources : length c.query.sources < 2 ^ 32
+  pub sources : AllByRecursion IsSource c.query.sources
+  pub few : length c.columns < 2 ^ 32
+  pub columns : AllByRecursion IsColumn c.columns
+
+pub record IsDynamicState (table : ℕ) (s : DynamicState) : Type 0 where
+  pub id : table < 2 ^ 32
+  pub lag : s.lag < 2 ^ 32
+  pub failures : s.failures < 2 ^ 32
+  pub tried : s.tried < 2 ^ 64
+  pub moment : s.moment < 2 ^ 64
+
 abbrev pub IsChange : TextChange → Type 0
 IsChange (CreatesTable c) = IsTableChange c
 IsChange (Drops id) = id < 2 ^ 32
@@ -150,18 +190,21 @@ IsChange (CreatesTask c) = IsTaskChange c
 IsChange (SetsTask id state) = IsTaskState id state
 IsChange (StartsRun root tasks) = IsRunChange root tasks
 IsChange (FinishesTask root task ending) = (root < 2 ^ 32) × (task < 2 ^ 32)
+IsChange (CreatesDynamic c) = IsDynamicChange c
+IsChange (SetsDynamic id state) = IsDynamicState id state
 
 pub record IsTextCommit (c : TextCommit) : Type 0 where
   pub stamp : c.stamp < 2 ^ 64
   pub few : length c.changes < 2 ^ 32
   pub changes : AllByRecursion IsChange c.changes
 
--- what a change says of statements
-abbrev pub body_in : Change → Option TaskBody
-body_in (CreatesTask c) = Some c.runs
-body_in _ = None
+-- its texts spell what they stand for
+abbrev pub IsUnderstood : Change → Type 0
+IsUnderstood (CreatesTask c) = IsSpelled c.runs
+IsUnderstood (CreatesDynamic c) = IsQuerySpelled c.query
+IsUnderstood _ = Unit {0}
 
 -- whose texts are within the format, and spell what they stand for
 pub record IsCommit (c : Commit) : Type 0 where
   pub written : IsTextCommit (as_text c)
-  pub understood : AllByRecursion (λ change. IfSome (body_in change) IsSpelled) c.changes
+  pub understood : AllByRecursion IsUnderstood c.changes

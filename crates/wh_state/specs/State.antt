@@ -4,17 +4,19 @@
 --     Contents                 what a version of the machine holds: its rows, by row number, and the
 --                              partitions that they are written in
 --     Stream                   the changes of a table behind an offset
---     KindOf                   what an object is: a table, a stream, or a task
---     on_table, table_in       what is done to the table of a kind, and the table that it has
---     on_stream, stream_in, on_task, task_in     the same of streams and of tasks
+--     KindOf                   what an object is: a table, a stream, a task, or a dynamic table
+--     on_table, table_in       what is done to the table of a kind, and the table that it has; a dynamic table has one
+--     on_stream, stream_in, on_task, task_in, on_dynamic, dynamic_in     the same of streams, of tasks, and of what a
+--                              dynamic table has beside its rows
 --     columns_in, columns_at   the columns of an object
 --     Version, Table, Kind, Object, State     those of the machine
 --     at_rest, stamped         a state as the file keeps it, and at another stamp
+--     rows_at                  the rows of a table for a moment
 --     at_id, changed_at        an object's id is its place in order of creation, from 1
 --     id_of                    the id of the live object of a name
 use Rattle.std.specs.Prelude.{ℕ, zero, suc, ◌+◌, Bool, true, false, ◌&&◌, List, [], ◌∷◌, Option, Some, None, option_map}
-use Rattle.std.specs.Prelude.{◌++◌, slice_get, slice_set, bytes_eq, count_by, codes}
-use Rattle.std.specs.List.{position}
+use Rattle.std.specs.Prelude.{◌++◌, slice_get, slice_set, bytes_eq, count_by, codes, nat_le}
+use Rattle.std.specs.List.{position, filter}
 use Rattle.std.specs.Option.{option_map_or}
 use Rattle.std.specs.Ordering.{nat_cmp}
 use Rattle.std.specs.FinMap.{FinMap, empty, insert}
@@ -22,6 +24,7 @@ use Rattle.wh_value.specs.Value.{Row}
 use Rattle.wh_value.specs.Column.{Column, VarcharType, BooleanType}
 use Rattle.wh_frame.specs.Partition.{Partition}
 use Rattle.wh_state.specs.Task.{Task}
+use Rattle.wh_state.specs.Dynamic.{Dynamic}
 
 -- ---- tables and objects, whatever a version holds
 
@@ -46,8 +49,12 @@ pub record ObjectOf (Kind : Type 0) : Type 0 where
   pub is_live : Bool
   pub kind : Kind
 
+-- at a stamp, for a moment
+abbrev pub version_for : {Content : Type 0} → ℕ → ℕ → Content → VersionOf Content
+version_for stamp moment content = record { stamp = stamp; data_timestamp = moment; content = content }
+
 abbrev pub version_at : {Content : Type 0} → ℕ → Content → VersionOf Content
-version_at stamp content = record { stamp = stamp; data_timestamp = stamp; content = content }
+version_at stamp content = version_for stamp stamp content
 
 -- a table as it is created: one version, with nothing in it
 abbrev pub new_table : {Content : Type 0} → Content → List Column → ℕ → ℕ → TableOf Content
@@ -58,6 +65,17 @@ new_table nothing columns retention stamp = record {
   next_row = 1;
   next_partition = 1;
   versions = version_at stamp nothing ∷ [];
+}
+
+-- a dynamic table as it is created: without a version
+abbrev pub empty_table : {Content : Type 0} → List Column → ℕ → TableOf Content
+empty_table columns stamp = record {
+  created = stamp;
+  columns = columns;
+  retention = 0;
+  next_row = 1;
+  next_partition = 1;
+  versions = [];
 }
 
 abbrev pub new_object : {Kind : Type 0} → List ℕ → Kind → ObjectOf Kind
@@ -145,44 +163,65 @@ pub data KindOf (Table : Type 0) : Type 0 where
   TableKind : Table → KindOf Table
   StreamKind : Stream → KindOf Table
   TaskKind : Task → KindOf Table
+  DynamicKind : Dynamic → Table → KindOf Table
 
 -- its table changed, if it has one
 abbrev pub on_table : {T U : Type 0} → (T → U) → KindOf T → KindOf U
 on_table f (TableKind t) = TableKind (f t)
 on_table f (StreamKind s) = StreamKind s
 on_table f (TaskKind t) = TaskKind t
+on_table f (DynamicKind d t) = DynamicKind d (f t)
 
 abbrev pub table_in : {T : Type 0} → KindOf T → Option T
 table_in (TableKind t) = Some t
 table_in (StreamKind s) = None
 table_in (TaskKind t) = None
+table_in (DynamicKind d t) = Some t
 
 -- its stream changed, if it is one
 abbrev pub on_stream : {T : Type 0} → (Stream → Stream) → KindOf T → KindOf T
 on_stream f (TableKind t) = TableKind t
 on_stream f (StreamKind s) = StreamKind (f s)
 on_stream f (TaskKind t) = TaskKind t
+on_stream f (DynamicKind d t) = DynamicKind d t
 
 abbrev pub stream_in : {T : Type 0} → KindOf T → Option Stream
 stream_in (TableKind t) = None
 stream_in (StreamKind s) = Some s
 stream_in (TaskKind t) = None
+stream_in (DynamicKind d t) = None
 
 -- its task changed, if it is one
 abbrev pub on_task : {T : Type 0} → (Task → Task) → KindOf T → KindOf T
 on_task f (TableKind t) = TableKind t
 on_task f (StreamKind s) = StreamKind s
 on_task f (TaskKind t) = TaskKind (f t)
+on_task f (DynamicKind d t) = DynamicKind d t
 
 abbrev pub task_in : {T : Type 0} → KindOf T → Option Task
 task_in (TableKind t) = None
 task_in (StreamKind s) = None
 task_in (TaskKind t) = Some t
+task_in (DynamicKind d t) = None
+
+-- what it has beside its rows changed, if it is a dynamic table
+abbrev pub on_dynamic : {T : Type 0} → (Dynamic → Dynamic) → KindOf T → KindOf T
+on_dynamic f (TableKind t) = TableKind t
+on_dynamic f (StreamKind s) = StreamKind s
+on_dynamic f (TaskKind t) = TaskKind t
+on_dynamic f (DynamicKind d t) = DynamicKind (f d) t
+
+abbrev pub dynamic_in : {T : Type 0} → KindOf T → Option Dynamic
+dynamic_in (TableKind t) = None
+dynamic_in (StreamKind s) = None
+dynamic_in (TaskKind t) = None
+dynamic_in (DynamicKind d t) = Some d
 
 abbrev pub columns_in : {Content : Type 0} → KindOf (TableOf Content) → List Column
 columns_in (TableKind t) = t.columns
 columns_in (StreamKind s) = s.columns
 columns_in (TaskKind t) = []
+columns_in (DynamicKind d t) = t.columns
 
 -- none where there is no such object
 abbrev pub columns_at : {Content : Type 0} → List (ObjectOf (KindOf (TableOf Content))) → ℕ → List Column
@@ -241,3 +280,7 @@ last_rows t = (last_content nothing_held t).rows
 
 abbrev pub last_partitions : Table → List Partition
 last_partitions t = (last_content nothing_held t).partitions
+
+-- those of the last version whose rows stand for no later moment; none where there is no such version
+abbrev pub rows_at : Table → ℕ → Rows
+rows_at t time = (content_in nothing_held (last_of (filter (λ v. nat_le v.data_timestamp time) t.versions))).rows

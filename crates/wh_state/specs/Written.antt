@@ -8,20 +8,20 @@ use Rattle.std.specs.Option.{option_to_list}
 use Rattle.wh_state.specs.State.{at_id, table_in}
 use Rattle.wh_state.specs.Edits.{Edits, numbers_gone, partitions_made}
 use Rattle.wh_state.specs.Act.{Act, MakesTable, DropsObject, EditsRows, MakesStream, MovesOffset, MakesTask, PutsTask}
-use Rattle.wh_state.specs.Act.{BeginsRun, EndsTask}
+use Rattle.wh_state.specs.Act.{BeginsRun, EndsTask, MakesDynamic, PutsDynamic, RefreshesRows}
 use Rattle.wh_state.specs.Stored.{StoredTable, StoredObject, Stored, standing}
 use Rattle.wh_state.specs.Commit.{VersionChange, Change, CreatesTable, Drops, PushesVersion, CreatesStream, SetsOffset}
-use Rattle.wh_state.specs.Commit.{Commit, CreatesTask, SetsTask, StartsRun, FinishesTask}
+use Rattle.wh_state.specs.Commit.{Commit, CreatesTask, SetsTask, StartsRun, FinishesTask, CreatesDynamic, SetsDynamic}
 use Rattle.wh_state.specs.Commit.{all_changed, applied}
 use Rattle.wh_state.specs.Spelling.{payload_of}
 
 -- ---- acts as changes
 
--- the version that edits of a table make
+-- the version that edits of a table make, for a moment
 abbrev pub version_change : ℕ → ℕ → Edits → StoredTable → VersionChange
-version_change stamp id e t = record {
+version_change moment id e t = record {
   id = id;
-  data_timestamp = stamp;
+  data_timestamp = moment;
   next_row = t.next_row + length e.added;
   width = length t.columns;
   removed = numbers_gone e.rows (standing t);
@@ -29,12 +29,12 @@ version_change stamp id e t = record {
 }
 
 abbrev pub version_written : ℕ → ℕ → Edits → StoredTable → Change
-version_written stamp id e t = PushesVersion (version_change stamp id e t)
+version_written moment id e t = PushesVersion (version_change moment id e t)
 
 abbrev pub version_written_to : ℕ → ℕ → Edits → Option StoredObject → List Change
-version_written_to stamp id e None = []
-version_written_to stamp id e (Some o) =
-    option_to_list (option_map (version_written stamp id e) (table_in o.kind))
+version_written_to moment id e None = []
+version_written_to moment id e (Some o) =
+    option_to_list (option_map (version_written moment id e) (table_in o.kind))
 
 abbrev pub act_written : ℕ → List StoredObject → Act → List Change
 act_written stamp objects (MakesTable name columns retention) =
@@ -54,6 +54,16 @@ act_written stamp objects (MakesTask name minutes after runs) = CreatesTask
 act_written stamp objects (PutsTask id state) = SetsTask id state ∷ []
 act_written stamp objects (BeginsRun root tasks) = StartsRun root tasks ∷ []
 act_written stamp objects (EndsTask root task ending) = FinishesTask root task ending ∷ []
+act_written stamp objects (MakesDynamic name lag is_incremental query columns) = CreatesDynamic (record {
+  id = length objects + 1;
+  name = name;
+  lag = lag;
+  is_incremental = is_incremental;
+  query = query;
+  columns = columns;
+}) ∷ []
+act_written stamp objects (PutsDynamic id state) = SetsDynamic id state ∷ []
+act_written stamp objects (RefreshesRows id moment e) = version_written_to moment id e (at_id objects id)
 
 abbrev pub written : ℕ → List StoredObject → List Act → List Change
 written stamp objects [] = []

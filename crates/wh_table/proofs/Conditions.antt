@@ -1,7 +1,7 @@
 -- The test says whether a new version applies.
 use Rattle.std.proofs.Common.{◌≡◌, ℕ, ◌+◌, ◌≤◌, Bool, List, [], ◌∷◌, length, Option, Some, None, IsTrue, refl}
 use Rattle.std.specs.Bool.{Decides}
-use Rattle.std.specs.Prelude.{nat_le}
+use Rattle.std.specs.Prelude.{nat_le, option_map}
 use Rattle.std.specs.List.{AllByRecursion}
 use Rattle.std.proofs.lemmas.Bool.{leb-true, le-leb}
 use Rattle.std.proofs.lemmas.Bool.Decides.{Decides-and, Decides-eqb, Decides-ltb, Decides-like}
@@ -36,7 +36,7 @@ Decides-partition_fits columns next p =
     (λ e. Decides-and _ _ (Decides-true (row_fits columns e.1)) (Decides-ltb e.0 next)) p.rows
 
 Decides-does_not_fall : (last : Option StoredVersion) (timestamp : ℕ)
-    → Decides (does_not_fall last timestamp) (DoesNotFall last timestamp)
+    → Decides (does_not_fall (option_map (λ v. v.data_timestamp) last) timestamp) (DoesNotFall last timestamp)
 Decides-does_not_fall None timestamp = (λ _. tt, λ _. refl)
 Decides-does_not_fall (Some v) timestamp = Decides-leb v.data_timestamp timestamp
 

@@ -26,7 +26,7 @@ parts_after t edited = without edited.removed.items (standing_in (versions_of t.
 
 module _ (t : StoredTable) (edited : EditedTable) (e : Edits) (is : IsEdited edited e (table_of t)) where
   pub edited_rows : (stamp : ℕ) → rows_of (without edited.removed.items (standing (table_of t)) ++ edited.added.items)
-      ≡ last_rows (edited_table stamp e (table_meant (table_of t)))
+      ≡ last_rows (edited_table stamp stamp e (table_meant (table_of t)))
   edited_rows stamp =
       let new : StoredVersion = record {
         stamp = stamp;
@@ -40,7 +40,7 @@ module _ (t : StoredTable) (edited : EditedTable) (e : Edits) (is : IsEdited edi
         content = without (is.removed i) (standing (table_of t)) ++ is.added i;
       }) ∷ []))))
       ∙ sym (last_rows_meant (pushed stamp (version_change stamp 0 e (table_of t)) (table_of t)))
-      ∙ ap last_rows (edited_meant stamp 0 e (table_of t) (orderly_standing (table_of t) (orderly_table t)))
+      ∙ ap last_rows (edited_meant stamp stamp 0 e (table_of t) (orderly_standing (table_of t) (orderly_table t)))
 
   pub edited_apart : AllApart [] (without edited.removed.items (standing (table_of t)) ++ edited.added.items)
   unfolding kept_table

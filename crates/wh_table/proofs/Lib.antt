@@ -11,3 +11,4 @@ pub mod Entries
 pub mod Standing
 pub mod Edited
 mod ArrivedRows
+pub mod MomentRows

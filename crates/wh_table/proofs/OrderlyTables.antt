@@ -9,7 +9,8 @@ use Rattle.wh_state.specs.Orderly.{IsOrderly, IsOrderlyVersion, IsOrderlyTable}
 use Rattle.wh_version.specs.declared.lasting.Lasting.{Lasting}
 use Rattle.wh_version.specs.declared.mark.VersionMark.{VersionMark}
 use Rattle.wh_version.specs.Lasting.{partitions_in, numbered_from, stands_at, version_by, versions_by}
-use Rattle.wh_version.specs.History.{versions_of, marks_of}
+use Rattle.wh_version.specs.Lists.{behind}
+use Rattle.wh_version.specs.History.{versions_of, marked_of, marks_of}
 use Rattle.wh_table.specs.Apart.{is_apart, is_rising}
 use Rattle.wh_table.specs.declared.table.StoredTable.{StoredTable}
 use Rattle.wh_table.specs.Table.{kept_table, table_of}
@@ -80,5 +81,16 @@ pub orderly_table : (t : StoredTable) → IsOrderlyTable (table_of t)
 unfolding kept_table versions_of
 orderly_table t =
     let h = t.history in
-    let many = h.kept.ok.0 in
-    orderly_versions h.kept.items 0 (marks_of h) (omega arith) h.numbers t.apart t.rising
+    by_start h.starts_empty t.apart t.rising
+  where
+    by_start : (b : Bool) → IsTrue (list_all is_apart (behind b (marked_of t.history)))
+        → IsTrue (list_all is_rising (behind b (marked_of t.history)))
+        → AllByRecursion IsOrderlyVersion (behind b (marked_of t.history))
+    by_start true apart rising =
+        let h = t.history in
+        let many = h.kept.ok.0 in
+        orderly_versions h.kept.items 1 h.later.items (omega arith) h.numbers apart rising
+    by_start false apart rising =
+        let h = t.history in
+        let many = h.kept.ok.0 in
+        orderly_versions h.kept.items 0 (marks_of h) (omega arith) h.numbers apart rising

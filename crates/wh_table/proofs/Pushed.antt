@@ -1,13 +1,13 @@
 -- A version more, or less, of a table.
-use Rattle.std.proofs.Common.{◌≡◌, ℕ, true, List, [], ◌∷◌, ◌++◌, length, map, take, Some, IsTrue, refl, ap}
+use Rattle.std.proofs.Common.{◌≡◌, ℕ, Bool, true, false, List, [], ◌∷◌, ◌++◌, length, map, take, Some, IsTrue, refl, ap}
 use Rattle.std.proofs.Common.{◌∙◌, arith, length-append}
 use Rattle.std.proofs.lemmas.List.{take-append-le, take_all}
 use Rattle.std.specs.List.{list_all}
 use Rattle.std.proofs.lemmas.Bool.{and_parts}
 use Rattle.wh_state.specs.State.{last_of, content_in, nothing_held}
 use Rattle.wh_state.specs.Stored.{StoredVersion, version_meant, rows_of}
-use Rattle.wh_version.specs.Lists.{shortened, but_last}
-use Rattle.wh_version.specs.History.{standing_in, next_in}
+use Rattle.wh_version.specs.Lists.{behind, shortened, but_last}
+use Rattle.wh_version.specs.History.{standing_in, next_in, popped}
 use Rattle.wh_table.specs.Apart.{all_apart, is_apart}
 
 pub last_of-push : {X : Type 0} (xs : List X) (x : X) → last_of (xs ++ x ∷ []) ≡ Some x
@@ -29,6 +29,12 @@ but_last-push xs x = take_front _ xs x (omega (arith, length-append xs (x ∷ []
 -- a list that isn't empty
 pub shortened-push : {X : Type 0} (y : X) (ys : List X) (x : X) → shortened ((y ∷ ys) ++ x ∷ []) ≡ y ∷ ys
 shortened-push y ys x = ap (λ l. y ∷ l) (but_last-push ys x)
+
+-- the versions of a history, which begins with one or before the first one
+pub popped-push : {X : Type 0} (b : Bool) (y : X) (ys : List X) (x : X)
+    → popped b (behind b (y ∷ ys) ++ x ∷ []) ≡ behind b (y ∷ ys)
+popped-push true y ys x = but_last-push ys x
+popped-push false y ys x = shortened-push y ys x
 
 -- ---- versions whose partitions are apart
 

@@ -11,7 +11,7 @@ use Rattle.wh_state.specs.Orderly.{HasRisingRows}
 use Rattle.wh_part.specs.Decoding.{rises_from}
 use Rattle.wh_part.proofs.PartitionLaws.{rising_is}
 use Rattle.wh_version.specs.Lists.{shortened}
-use Rattle.wh_version.specs.History.{standing_in}
+use Rattle.wh_version.specs.History.{standing_in, popped}
 use Rattle.wh_table.specs.Apart.{rows_rise, is_rising}
 
 pub rows_are_rising : (least : ℕ) (rows : List (ℕ × Row)) → RisesFrom least rows → rises_from least rows ≡ true
@@ -52,11 +52,16 @@ each_take test (suc n) [] all = refl
 each_take test (suc n) (x ∷ xs) all = let parts = and_parts (test x) (list_all test xs) all in
     and_from _ _ parts.0 (each_take test n xs parts.1)
 
-pub each_shortened : {X : Type 0} (test : X → Bool) (xs : List X) → IsTrue (list_all test xs)
+each_shortened : {X : Type 0} (test : X → Bool) (xs : List X) → IsTrue (list_all test xs)
     → IsTrue (list_all test (shortened xs))
 each_shortened test [] all = refl
 each_shortened test (x ∷ xs) all = let parts = and_parts (test x) (list_all test xs) all in
     and_from _ _ parts.0 (each_take test _ xs parts.1)
+
+pub each_popped : {X : Type 0} (test : X → Bool) (b : Bool) (xs : List X) → IsTrue (list_all test xs)
+    → IsTrue (list_all test (popped b xs))
+each_popped test true xs all = each_take test _ xs all
+each_popped test false xs all = each_shortened test xs all
 
 pub last_rising : (vs : List StoredVersion) → IsTrue (list_all is_rising vs)
     → IsTrue (list_all rows_rise (standing_in vs))

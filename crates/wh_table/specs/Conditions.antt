@@ -2,7 +2,7 @@
 --     version_applies      whether it applies to its table
 --     rises_above          whether the row numbers of each partition lie above a bound and above those before it
 use Rattle.std.specs.Prelude.{ℕ, ◌+◌, max, Bool, true, ◌&&◌, ◌==◌, List, [], ◌∷◌, length, nat_lt, nat_le, nat_eq}
-use Rattle.std.specs.Prelude.{Option, Some, None}
+use Rattle.std.specs.Prelude.{Option, Some, None, option_map}
 use Rattle.std.specs.List.{list_all, list_any}
 use Rattle.wh_value.specs.Value.{Row}
 use Rattle.wh_value.specs.Column.{Column}
@@ -11,15 +11,15 @@ use Rattle.wh_value.specs.Limit.{bound}
 use Rattle.wh_value.specs.declared.limit.Limit.TheVariants as limits
 use Rattle.wh_frame.specs.Partition.{Partition, first_number, last_number}
 use Rattle.wh_state.specs.State.{last_of}
-use Rattle.wh_state.specs.Stored.{StoredVersion, StoredTable, standing}
+use Rattle.wh_state.specs.Stored.{StoredTable, standing}
 use Rattle.wh_state.specs.Commit.{VersionChange}
 use Rattle.wh_state.specs.Edits.{without}
 use Rattle.wh_version.specs.Lasting.{numbered_from}
 use Rattle.wh_table.specs.Apart.{all_apart}
 
-abbrev pub does_not_fall : Option StoredVersion → ℕ → Bool
+abbrev pub does_not_fall : Option ℕ → ℕ → Bool
 does_not_fall None timestamp = true
-does_not_fall (Some v) timestamp = nat_le v.data_timestamp timestamp
+does_not_fall (Some last) timestamp = nat_le last timestamp
 
 abbrev pub is_standing_number : List Partition → ℕ → Bool
 is_standing_number partitions number = list_any (λ p. nat_eq number p.number) partitions
@@ -36,7 +36,7 @@ rises_above bound (p ∷ ps) = nat_lt bound (first_number p.rows) && rises_above
 
 abbrev pub is_formed : StoredTable → VersionChange → Bool
 is_formed t c =
-    does_not_fall (last_of t.versions) c.data_timestamp
+    does_not_fall (option_map (λ v. v.data_timestamp) (last_of t.versions)) c.data_timestamp
     && ((c.width == length t.columns) && (nat_le c.next_row (bound limits.RowNumber)
     && nat_le (t.next_partition + length c.added) (bound limits.PartitionNumber)))
 

@@ -11,6 +11,7 @@ kept_table t = record {
   created = t.created;
   columns = map column_of t.columns.items;
   retention = t.retention;
+  starts_empty = t.history.starts_empty;
   next_row = t.next_row;
   versions = versions_of t.history;
   nexts = nexts_of t.history;

@@ -1,17 +1,19 @@
 -- Tables with what it takes to take a version back.
---     KeptTable      a table with the number that its next partition had after each version
+--     KeptTable      a table with the number that its next partition had after each version, and whether it was created
+--                    without one
 --     table_in       what the file says of it
 --     taken_back     the table without its last version
-use Rattle.std.specs.Prelude.{ℕ, List}
+use Rattle.std.specs.Prelude.{ℕ, Bool, List}
 use Rattle.wh_value.specs.Column.{Column}
 use Rattle.wh_state.specs.Stored.{StoredVersion, StoredTable}
 use Rattle.wh_version.specs.Lists.{shortened}
-use Rattle.wh_version.specs.History.{next_in}
+use Rattle.wh_version.specs.History.{next_in, popped}
 
 pub record KeptTable : Type 0 where
   pub created : ℕ
   pub columns : List Column
   pub retention : ℕ
+  pub starts_empty : Bool
   pub next_row : ℕ
   pub versions : List StoredVersion
   pub nexts : List ℕ
@@ -28,4 +30,4 @@ table_in t = record {
 
 -- the next row is that of before
 abbrev pub taken_back : ℕ → KeptTable → KeptTable
-taken_back next_row t = record t { next_row = next_row; versions = shortened t.versions; nexts = shortened t.nexts }
+taken_back next_row t = record t { next_row = next_row; versions = popped t.starts_empty t.versions; nexts = shortened t.nexts }

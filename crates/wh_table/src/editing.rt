@@ -50,7 +50,7 @@ impl StoredTable {
         ensures { IfOk result (λ rows. (stamp : ℕ) (e : machine.Edits)
             → IsEdited edited.now e (table_of self.now) → bag_of (rows_at rows.items)
             ≡ bag_of (values (last_rows
-            (edited_table stamp e (table_meant (table_of self.now)))))) }
+            (edited_table stamp stamp e (table_meant (table_of self.now)))))) }
     {
         let partitions = partitions_with(self.history.kept(), edited, alloc)?;
         let rows = rows_in(&partitions, alloc)?;
@@ -65,7 +65,8 @@ impl StoredTable {
     ) -> Result<Vec<&'a Partition>, AllocError>
         ensures { IfOk result (λ found. (stamp : ℕ) (e : machine.Edits)
             → IsEdited edited.now e (table_of self.now) → all_rows (partitions_at found.items)
-            ≡ entries (last_rows (edited_table stamp e (table_meant (table_of self.now))))) }
+            ≡ entries (last_rows
+            (edited_table stamp stamp e (table_meant (table_of self.now))))) }
     {
         let partitions = partitions_with(self.history.kept(), edited, alloc)?;
         let sorted = by_rows(&partitions, alloc)?;

@@ -20,7 +20,7 @@ impl StoredTable {
     fn takes_form(&self, change: &VersionChange) -> bool
         ensures { result ≡ is_formed (table_of self.now) (version_change_of change.now) }
     {
-        self.history.last_timestamp() <= change.data_timestamp
+        does_not_fall(self.history.last_timestamp(), change.data_timestamp)
             && change.width as usize == self.columns.len()
             && change.next_row <= Limit::RowNumber.bound()
             && are_few(self.history.next_partition(), change.added.len())
@@ -49,9 +49,19 @@ ghost use Rattle.wh_version.specs.History.{versions_of, standing_in, partitions_
 ghost use Rattle.wh_state.specs.Edits.{without};
 ghost use Rattle.wh_table.specs.Apart.{all_apart, highest_number};
 ghost use Rattle.wh_table.specs.Conditions.{is_standing_number, entry_fits, partition_fits};
-ghost use Rattle.wh_table.specs.Conditions.{rises_above};
+ghost use Rattle.wh_table.specs.Conditions.{does_not_fall, rises_above};
 
 use crate::comparing::compared_apart;
+
+// Whether a data timestamp isn't below the last one, if there is one.
+fn does_not_fall(last: Option<u64>, timestamp: u64) -> bool
+    ensures { result ≡ does_not_fall last timestamp }
+{
+    match last {
+        Some(last) => last <= timestamp,
+        None => true,
+    }
+}
 
 // Whether there are numbers for that many partitions from the next one on.
 fn are_few(next: u64, count: usize) -> bool

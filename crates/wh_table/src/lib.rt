@@ -7,6 +7,7 @@ mod comparing;
 mod editing;
 mod fault;
 mod fitting;
+mod moments;
 mod numbers;
 mod pushing;
 mod rewriting;

@@ -17,7 +17,7 @@ impl StoredTable {
         ensures { IfOk result (λ rows. bag_of (rows_at rows.items)
             ≡ bag_of (values (last_rows (table_meant (table_of self.now))))) }
     {
-        let standing = self.history.last().partitions(alloc)?;
+        let standing = self.history.standing(alloc)?;
         let rows = rows_in(&standing, alloc)?;
         Ok(rows)
     }

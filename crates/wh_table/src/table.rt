@@ -32,7 +32,7 @@ impl StoredTable {
     ghost use Rattle.wh_value.specs.View.{column_of};
     ghost use Rattle.wh_value.specs.Limit.{bound};
     ghost use Rattle.wh_value.specs.declared.limit.Limit.TheVariants as limits;
-    ghost use Rattle.wh_state.specs.State.{new_table};
+    ghost use Rattle.wh_state.specs.State.{new_table, empty_table};
     ghost use Rattle.wh_version.specs.Times.{data_at, visible_at};
     ghost use Rattle.wh_version.specs.Version.{version_in};
     ghost use Rattle.wh_table.specs.Table.{table_of};
@@ -50,6 +50,28 @@ impl StoredTable {
             highest: 0,
             history: History::new(alloc, stamp),
         }
+    }
+
+    /// A table without a version. Takes no memory.
+    pub fn empty(alloc: Global, columns: Vec<Column>, stamp: u64) -> StoredTable
+        requires { length columns.items ≤ bound limits.Columns }
+        ensures { table_of result ≡ empty_table (map column_of columns.items) stamp }
+    {
+        StoredTable {
+            created: stamp,
+            columns,
+            retention: 0,
+            next_row: 1,
+            highest: 0,
+            history: History::empty(alloc),
+        }
+    }
+
+    /// The stamp of its creation.
+    pub fn created(&self) -> u64
+        ensures { result ≡ (table_of self.now).created }
+    {
+        self.created
     }
 
     pub fn columns(&self) -> &[Column]

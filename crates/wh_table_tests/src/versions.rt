@@ -37,7 +37,7 @@ fn standing(history: &History) -> [bool; 3] {
 fn assert_pushed(rt: &impl Abort, history: &History) {
     assert_eq!(rt; standing(history), [false, true, true]);
     assert_eq!(rt; history.next_partition(), 4);
-    assert_eq!(rt; history.last_timestamp(), 15);
+    assert_eq!(rt; history.last_timestamp(), Some(15));
     assert_eq!(rt; history.kept().len(), 3);
 }
 
@@ -48,7 +48,7 @@ fn assert_one_back(rt: &impl Abort, history: &History) {
 
 fn assert_first(rt: &impl Abort, history: &History) {
     assert_eq!(rt; standing(history), [false, false, false]);
-    assert_eq!(rt; history.last_timestamp(), 10);
+    assert_eq!(rt; history.last_timestamp(), Some(10));
 }
 
 #[test]

@@ -9,6 +9,7 @@ mod lines;
 mod marked;
 mod place;
 mod print;
+mod print_refresh;
 mod print_task;
 mod script;
 

@@ -8,6 +8,7 @@ ghost use Rattle.wh_reply.specs.Reply.{print, line, parted, values_text, row_lin
 ghost use Rattle.wh_reply.specs.Reply.{refusal_text, truth_text};
 ghost use Rattle.wh_reply.specs.View.{reply_view, refusal_view};
 
+use crate::print_refresh::{put_created, put_refresh_failed, put_refreshed_tables};
 use crate::print_task::{put_counts_line, put_failed, put_skipped, put_succeeded};
 use std::alloc::{AllocError, Global};
 use wh_reply::{Refusal, Reply};
@@ -46,6 +47,18 @@ fn put_reply(reply: Reply, out: &mut Bytes) -> Result<(), AllocError>
     ensures { OnOk result (out.new ≡ out.old ++ print (reply_view reply)) }
 {
     match reply {
+        Reply::CreatedDynamicTable { name, refreshed } => {
+            put_created(b"CREATED DYNAMIC TABLE ", &name, &refreshed, out)
+        }
+        Reply::DroppedDynamicTable(name) => put_name_line(b"DROPPED DYNAMIC TABLE ", &name, out),
+        Reply::Altered(name) => put_name_line(b"ALTERED ", &name, out),
+        Reply::RefreshedTables(refreshed) => put_refreshed_tables(&refreshed, out),
+        Reply::RefreshFailed {
+            name,
+            target,
+            why,
+            is_suspended,
+        } => put_refresh_failed(&name, target, &why, is_suspended, out),
         Reply::CreatedTable(name) => put_name_line(b"CREATED TABLE ", &name, out),
         Reply::DroppedTable(name) => put_name_line(b"DROPPED TABLE ", &name, out),
         Reply::CreatedStream(name) => put_name_line(b"CREATED STREAM ", &name, out),
@@ -78,7 +91,7 @@ fn put_reply(reply: Reply, out: &mut Bytes) -> Result<(), AllocError>
     }
 }
 
-fn put_name_line(front: &[u8], name: &Text, out: &mut Bytes) -> Result<(), AllocError>
+pub(crate) fn put_name_line(front: &[u8], name: &Text, out: &mut Bytes) -> Result<(), AllocError>
     ensures { OnOk result (out.new ≡ out.old ++ line (front.now ++ name.now)) }
 {
     put_name(front, name, out)?;
@@ -123,11 +136,10 @@ pub(crate) fn put_refused(refusal: &Refusal, out: &mut Bytes) -> Result<(), Allo
     out.push(LF)
 }
 
-fn put_refusal(refusal: &Refusal, out: &mut Bytes) -> Result<(), AllocError>
+pub(crate) fn put_refusal(refusal: &Refusal, out: &mut Bytes) -> Result<(), AllocError>
     ensures { OnOk result (out.new ≡ out.old ++ refusal_text (refusal_view refusal.now)) }
 {
     match refusal {
-        Refusal::Unsupported => out.extend(b"E0 Unsupported"),
         Refusal::SyntaxError => out.extend(b"E1 SyntaxError"),
         Refusal::NoSuchSession(session) => put_number(b"E2 NoSuchSession ", *session, out),
         Refusal::DdlInTransaction(number) => put_number(b"E3 DdlInTransaction ", *number, out),
@@ -137,24 +149,45 @@ fn put_refusal(refusal: &Refusal, out: &mut Bytes) -> Result<(), AllocError>
         Refusal::NameTaken(name) => put_name(b"E7 NameTaken ", name, out),
         Refusal::WrongKind(name) => put_name(b"E8 WrongKind ", name, out),
         Refusal::TypeMismatch => out.extend(b"E9 TypeMismatch"),
+        Refusal::NotIncrementable => out.extend(b"E10 NotIncrementable"),
+        Refusal::LagTooShort { table, upstream } => {
+            put_names_of(b"E11 LagTooShort ", table, upstream, out)
+        }
         Refusal::RootRunning(root) => put_name(b"E12 RootRunning ", root, out),
         Refusal::RootNotSuspended(root) => put_name(b"E12 RootNotSuspended ", root, out),
         Refusal::HasChildren(child) => put_name(b"E12 HasChildren ", child, out),
         Refusal::OverLimit(limit) => put_limit(*limit, out),
+        Refusal::NotInitialized(name) => put_name(b"E14 NotInitialized ", name, out),
         Refusal::SourceGone(name) => put_name(b"E15 SourceGone ", name, out),
-        Refusal::StaleStream { offset, last_read } => put_stale(*offset, *last_read, out),
+        Refusal::StaleStream { offset, last_read } => {
+            put_numbers(b"E16 StaleStream ", *offset, *last_read, out)
+        }
+        Refusal::IsSuspended(name) => put_name(b"E17 Suspended ", name, out),
         Refusal::Locked(number) => put_number(b"E18 Locked ", *number, out),
         Refusal::NumberOutOfRange => out.extend(b"E19 NumberOutOfRange"),
         Refusal::AmbiguousMerge(row) => put_named_row(b"E20 AmbiguousMerge ", row, out),
     }
 }
 
-fn put_stale(offset: u64, last_read: u64, out: &mut Bytes) -> Result<(), AllocError>
-    ensures { OnOk result (out.new ≡ out.old ++ (codes "E16 StaleStream " ++ decimal offset
-        ++ codes " " ++ decimal last_read)) }
+fn put_names_of(
+    front: &[u8],
+    table: &Text,
+    upstream: &Text,
+    out: &mut Bytes,
+) -> Result<(), AllocError>
+    ensures { OnOk result (out.new ≡ out.old
+        ++ (front.now ++ table.now ++ codes " " ++ upstream.now)) }
 {
-    put_number(b"E16 StaleStream ", offset, out)?;
-    put_number(b" ", last_read, out)
+    put_name(front, table, out)?;
+    put_name(b" ", upstream, out)
+}
+
+fn put_numbers(front: &[u8], first: u64, second: u64, out: &mut Bytes) -> Result<(), AllocError>
+    ensures { OnOk result (out.new ≡ out.old ++ (front.now ++ decimal first ++ codes " "
+        ++ decimal second)) }
+{
+    put_number(front, first, out)?;
+    put_number(b" ", second, out)
 }
 
 fn put_named_row(front: &[u8], row: &Row, out: &mut Bytes) -> Result<(), AllocError>

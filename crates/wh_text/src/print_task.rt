@@ -133,7 +133,7 @@ fn run_word(has_failed: bool) -> &'static [u8]
     }
 }
 
-fn suspended_word(is_suspended: bool) -> &'static [u8]
+pub(crate) fn suspended_word(is_suspended: bool) -> &'static [u8]
     ensures { result.now ≡ suspended_text is_suspended }
 {
     if is_suspended { b" SUSPENDED" } else { b"" }

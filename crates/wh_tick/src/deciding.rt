@@ -1,7 +1,9 @@
 ghost use Rattle.std.specs.Prelude.{◌≡◌, IfOk};
 ghost use Rattle.wh_state.specs.State.{stamped};
 ghost use Rattle.wh_machine.specs.Step.{outcome_of};
-ghost use Rattle.wh_machine.specs.Ticks.{action_at, ticked};
+ghost use Rattle.wh_machine.specs.Ticks.{action_at, refreshes, ticked};
+ghost use Rattle.wh_moment.specs.Upstream.{dynamics_of};
+ghost use Rattle.wh_moment.specs.Moment.{due_table};
 ghost use Rattle.wh_task.specs.View.{action_of};
 ghost use Rattle.wh_catalog.specs.Catalog.{stored_of, state_of};
 ghost use Rattle.wh_txn.specs.View.{sessions_of};
@@ -17,7 +19,8 @@ use crate::running::run_task;
 use crate::starting::start_run;
 use std::alloc::{AllocError, Global};
 use wh_catalog::Catalog;
-use wh_decide::{Decision, Event, Sight, decide_command};
+use wh_decide::{Decision, Event, Sight, decide_command, scheduled_refresh};
+use wh_dynamic::due_table;
 use wh_task::{Action, next_action};
 use wh_txn::Sessions;
 
@@ -65,7 +68,19 @@ fn decide_tick(alloc: Global, sight: &Sight<'_>) -> Result<Decision, AllocError>
     match action(alloc, sight)? {
         Action::RunTask { root, task } => run_task(alloc, sight, root, task),
         Action::StartRun { root } => start_run(alloc, sight, root),
-        Action::Nothing => Ok(idle(sight)),
+        Action::Nothing => refresh_due(alloc, sight),
+    }
+}
+
+// The refresh of the dynamic table that is due first, if one is.
+fn refresh_due(alloc: Global, sight: &Sight<'_>) -> Result<Decision, AllocError>
+    ensures { IfOk result (λ decision. Comes sight.now decision (refreshes (machine_in sight.now)
+        (due_table (dynamics_of (machine_in sight.now).state.objects) sight.now.stamp))) }
+{
+    let all = sight.catalog.watched(alloc)?;
+    match due_table(alloc, &all, sight.stamp)? {
+        Some((id, target)) => scheduled_refresh(alloc, sight, id, target),
+        None => Ok(idle(sight)),
     }
 }
 

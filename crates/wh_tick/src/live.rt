@@ -4,7 +4,7 @@ ghost use Rattle.std.specs.Prelude.{length, map, IfOk, OnOk};
 ghost use Rattle.wh_naming.specs.View.{named_of};
 ghost use Rattle.wh_machine.specs.Names.{named_object, names_from};
 ghost use Rattle.wh_catalog.specs.Catalog.{state_of};
-ghost use Rattle.wh_decide.specs.Names.{object_of};
+ghost use Rattle.wh_catalog.specs.Object.{object_of};
 
 use std::alloc::{AllocError, Global};
 use wh_catalog::{Catalog, StoredObject};

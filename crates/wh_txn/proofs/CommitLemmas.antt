@@ -9,7 +9,7 @@ use Rattle.wh_state.specs.Stored.{Stored, StoredObject}
 use Rattle.wh_state.specs.Commit.{Change, SetsOffset, Commit, changed, all_changed}
 use Rattle.wh_state.specs.Objects.{stream_at}
 use Rattle.wh_state.specs.Act.{Act, MakesTable, DropsObject, EditsRows, MakesStream, MovesOffset}
-use Rattle.wh_state.specs.Act.{MakesTask, PutsTask, BeginsRun, EndsTask}
+use Rattle.wh_state.specs.Act.{MakesTask, PutsTask, BeginsRun, EndsTask, MakesDynamic, PutsDynamic, RefreshesRows}
 use Rattle.wh_machine.specs.Offsets.{offset_move, offset_moves, acts_of_commit}
 use Rattle.wh_state.specs.Written.{version_written_to, act_written, written, commit_for}
 use Rattle.wh_state.proofs.ActLaws.{AreMoves, edit_leaves}
@@ -33,6 +33,9 @@ moves_written stamp now (MakesTask name minutes after runs ∷ acts) moves = abs
 moves_written stamp now (PutsTask id state ∷ acts) moves = absurd moves
 moves_written stamp now (BeginsRun root tasks ∷ acts) moves = absurd moves
 moves_written stamp now (EndsTask root task ending ∷ acts) moves = absurd moves
+moves_written stamp now (MakesDynamic name lag is_incremental query columns ∷ acts) moves = absurd moves
+moves_written stamp now (PutsDynamic id state ∷ acts) moves = absurd moves
+moves_written stamp now (RefreshesRows id moment e ∷ acts) moves = absurd moves
 
 pub offsets_append : (first more : List Act)
     → offsets_written (first ++ more) ≡ offsets_written first ++ offsets_written more

@@ -8,16 +8,16 @@
 use Rattle.std.proofs.Common.{◌≡◌, ℕ, ◌+◌, ◌≤◌, Bool, true, false, List, [], ◌∷◌, length, Option, Some, None}
 use Rattle.std.proofs.Common.{option_map, refl, sym, ap, subst, ◌∙◌, arith}
 use Rattle.std.specs.Prelude.{nat_le, nat_lt, nat_eq}
-use Rattle.std.specs.Option.{option_and_then}
+use Rattle.std.specs.Option.{option_and_then, option_to_list}
 use Rattle.std.proofs.lemmas.List.{length-map, nil_from_length}
 use Rattle.std.proofs.lemmas.Bool.Decides.{nat_tests}
 use Rattle.wh_value.specs.Limit.{bound}
 use Rattle.wh_value.specs.declared.limit.Limit.{Limit}
 use Rattle.wh_value.specs.declared.limit.Limit.TheVariants as limits
-use Rattle.wh_state.specs.State.{Object, Table, at_id, TableKind, StreamKind, TaskKind}
+use Rattle.wh_state.specs.State.{Object, Table, at_id}
 use Rattle.wh_state.specs.Objects.{as_table, table_at}
 use Rattle.wh_state.specs.Edits.{Edits, partitions_made}
-use Rattle.wh_state.specs.Stored.{StoredTable, StoredKind, StoredObject, standing, table_meant}
+use Rattle.wh_state.specs.Stored.{StoredTable, StoredObject, standing, table_meant}
 use Rattle.wh_state.specs.Commit.{Change}
 use Rattle.wh_state.specs.Written.{version_written, version_written_to}
 use Rattle.wh_state.proofs.MeaningLaws.{last_partitions_meant}
@@ -38,13 +38,12 @@ written_for stamp id e (Some t) = version_written stamp id e t ∷ []
 written_to : (stamp id : ℕ) (e : Edits) (found : Option StoredObject)
     → version_written_to stamp id e found ≡ written_for stamp id e (option_and_then as_table found)
 written_to stamp id e None = refl
-written_to stamp id e (Some o) = by_kind o.kind refl
+written_to stamp id e (Some o) = by_found (as_table o)
   where
-    by_kind : (k : StoredKind) → o.kind ≡ k
-        → version_written_to stamp id e (Some o) ≡ written_for stamp id e (as_table o)
-    by_kind (TableKind t) is = rw is
-    by_kind (StreamKind k) is = rw is
-    by_kind (TaskKind k) is = rw is
+    by_found : (found : Option StoredTable)
+        → option_to_list (option_map (version_written stamp id e) found) ≡ written_for stamp id e found
+    by_found None = refl
+    by_found (Some t) = refl
 
 pub no_version : (stamp : ℕ) (objects : List StoredObject) (id : ℕ) (s : Staged) → table_at objects id ≡ None
     → version_for stamp objects (id, s) ≡ []

@@ -8,7 +8,7 @@ use Rattle.std.proofs.Common.{arith}
 use Rattle.std.specs.Prelude.{slice_get}
 use Rattle.std.specs.Ordering.{nat_cmp}
 use Rattle.std.specs.FinMap.{FinMap, get}
-use Rattle.wh_state.specs.State.{Kind, TableKind, StreamKind, TaskKind, Object, Table, at_id, stamped}
+use Rattle.wh_state.specs.State.{Kind, TableKind, StreamKind, TaskKind, DynamicKind, Object, Table, at_id, stamped}
 use Rattle.wh_state.specs.Act.{edited_table}
 use Rattle.wh_state.specs.Objects.{as_table, table_at, stream_at}
 use Rattle.wh_state.specs.Stored.{StoredTable, table_meant, object_meant}
@@ -38,7 +38,7 @@ catalog_stream c id =
 
 abbrev pub own_table : ℕ → Option Staged → Table → Table
 own_table stamp None t = t
-own_table stamp (Some s) t = edited_table stamp s.edits t
+own_table stamp (Some s) t = edited_table stamp stamp s.edits t
 
 place_seen : (stamp first : ℕ) (tables : FinMap nat_cmp Staged) (objects : List Object) (place : ℕ)
     → slice_get (seen_from stamp first tables objects) place
@@ -73,6 +73,8 @@ table_seen stamp tables objects id = by_found (at_id objects id) refl
     by_kind o (Some s) (StreamKind k) is = rw is
     by_kind o None (TaskKind k) is = rw is
     by_kind o (Some s) (TaskKind k) is = rw is
+    by_kind o None (DynamicKind d t) is = rw is
+    by_kind o (Some s) (DynamicKind d t) is = rw is
 
     by_found : (found : Option Object) → at_id objects id ≡ found
         → table_at (seen_from stamp 1 tables objects) id

@@ -23,7 +23,7 @@ pub record ShowsEdited (edited : EditedTable) (t : StoredTable) (found : Option 
   pub stamp : ℕ
   pub edits : Edits
   pub is_edited : IsEdited edited edits t
-  pub is : found ≡ Some (edited_table stamp edits (table_meant t))
+  pub is : found ≡ Some (edited_table stamp stamp edits (table_meant t))
 
 abbrev pub Shows : TableSeen → Option Table → Type 0
 Shows Missing found = found ≡ None

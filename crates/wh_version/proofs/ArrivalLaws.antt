@@ -1,10 +1,11 @@
 -- What came with each version, by the marks.
 --     count_versions     there are as many versions as marks
---     within_marks       a version's place is one among the marks
+--     count_behind       so there are, but for a first mark that is none
+--     within_marks       a version's mark has a place
 --     version_there      the version at a place, and those behind it
 --     before_grows       each mark counts the partitions that there were before
 --     arrived            what came with a version
-use Rattle.std.proofs.Common.{◌≡◌, ℕ, zero, suc, ◌+◌, ◌-◌, ◌<◌, ◌≤◌}
+use Rattle.std.proofs.Common.{◌≡◌, ℕ, zero, suc, ◌+◌, ◌-◌, ◌<◌, ◌≤◌, Bool, true, false}
 use Rattle.std.proofs.Common.{List, [], ◌∷◌, ◌++◌, length, take, drop, get_or, Some}
 use Rattle.std.proofs.Common.{IsTrue, refl, ap, subst, ◌∙◌, arith}
 use Rattle.wh_frame.specs.Partition.{Partition}
@@ -13,7 +14,8 @@ use Rattle.wh_version.specs.declared.history.History.{History}
 use Rattle.wh_version.specs.declared.lasting.Lasting.{Lasting}
 use Rattle.wh_version.specs.declared.mark.VersionMark.{VersionMark}
 use Rattle.wh_version.specs.Lasting.{standing_at, gone_between, version_by, versions_by, count_to}
-use Rattle.wh_version.specs.Arrivals.{IsArrival, partitions_before}
+use Rattle.wh_version.specs.Arrivals.{IsArrival, partitions_before, mark_place}
+use Rattle.wh_version.specs.Lists.{behind}
 use Rattle.wh_version.specs.History.{versions_of, marks_of, standing_in}
 use Rattle.wh_version.proofs.TurnoverLaws.{counts_rise, turned_over}
 
@@ -22,9 +24,21 @@ pub count_versions : (kept : List Lasting) (first : ℕ) (marks : List VersionMa
 count_versions kept first [] = refl
 count_versions kept first (m ∷ marks) = ap suc (count_versions kept (first + 1) marks)
 
-pub within_marks : (h : History) (place : ℕ) → place < length (versions_of h) → place < length (marks_of h)
+pub count_behind : (kept : List Lasting) (b : Bool) (m : VersionMark) (marks : List VersionMark)
+    → mark_place b (length (behind b (versions_by kept 0 (m ∷ marks)))) ≡ length (m ∷ marks)
+count_behind kept true m marks = ap suc (count_versions kept 1 marks)
+count_behind kept false m marks = count_versions kept 0 (m ∷ marks)
+
+pub within_marks : (h : History) (place : ℕ) → place < length (versions_of h)
+    → mark_place h.starts_empty place < length (marks_of h)
 unfolding versions_of
-within_marks h place within = subst (λ n. place < n) (count_versions h.kept.items 0 (marks_of h)) within
+within_marks h place within =
+    subst (λ n. mark_place h.starts_empty place < n)
+    (count_behind h.kept.items h.starts_empty h.first h.later.items) (further h.starts_empty _ within)
+  where
+    further : (b : Bool) (n : ℕ) → place < n → mark_place b place < mark_place b n
+    further true n less = omega arith
+    further false n less = less
 
 pub version_there : (kept : List Lasting) (first : ℕ) (marks : List VersionMark) (place : ℕ) (d : VersionMark)
     → place < length marks

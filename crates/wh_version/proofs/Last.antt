@@ -12,6 +12,7 @@ use Rattle.wh_version.specs.Lasting.{stands_at, standing_at, version_by, version
 use Rattle.wh_version.specs.Lasting.{count_to, is_gone_by, is_standing}
 use Rattle.wh_version.specs.History.{versions_of, standing_in, next_in}
 use Rattle.wh_version.specs.declared.history.History.{History}
+use Rattle.wh_version.proofs.Starts.{first_empty, standing_behind}
 
 -- the last element, by its place
 pub last_of-get_or : {X : Type 0} (x : X) (xs : List X) (d : X)
@@ -100,4 +101,6 @@ pub standing_now : (h : History) → standing_in (versions_of h) ≡ partitions_
 unfolding versions_of
 standing_now h =
     let sized = h.later.ok.0 in
-    standing_still h.kept.items h.first h.later.items (omega arith) h.marks h.gone
+    standing_behind (version_by h.kept.items 0 h.first) (first_empty h) h.starts_empty
+    (versions_by h.kept.items 1 h.later.items)
+    ∙ standing_still h.kept.items h.first h.later.items (omega arith) h.marks h.gone

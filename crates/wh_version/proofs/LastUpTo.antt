@@ -1,10 +1,9 @@
 -- The last version up to a time, by its mark.
 use Rattle.std.proofs.Common.{◌≡◌, ℕ, zero, suc, ◌+◌, ◌-◌, ◌<◌, ◌≤◌, cond, Bool, true, false, List, [], ◌∷◌, length}
-use Rattle.std.proofs.Common.{filter, drop, get_or, option_map, Option, Some, None, IsTrue, refl, ap, sym, ◌∙◌, arith}
+use Rattle.std.proofs.Common.{filter, drop, get_or, option_map, Option, Some, None, IsTrue, refl, ap, ◌∙◌, arith}
 use Rattle.std.proofs.lemmas.Bool.{and_parts}
 use Rattle.wh_state.specs.State.{last_of}
 use Rattle.wh_state.specs.Stored.{StoredVersion}
-use Rattle.wh_version.specs.declared.history.History.{History}
 use Rattle.wh_version.specs.declared.lasting.Lasting.{Lasting}
 use Rattle.wh_version.specs.declared.mark.VersionMark.{VersionMark}
 use Rattle.wh_version.specs.Lasting.{version_by, versions_by, count_to}
@@ -70,7 +69,7 @@ abbrev version_from : List Lasting → ℕ → List VersionMark → VersionMark 
 version_from kept first marks d place = version_by kept (first + place) (get_or marks place d)
 
 -- what holds of the versions, by a test of their marks
-last_from : (of_version : StoredVersion → Bool) (of_mark : VersionMark → Bool) (kept : List Lasting)
+pub last_from : (of_version : StoredVersion → Bool) (of_mark : VersionMark → Bool) (kept : List Lasting)
     (first : ℕ) (marks : List VersionMark) (d : VersionMark)
     → ((place : ℕ) (m : VersionMark) → of_version (version_by kept place m) ≡ of_mark m)
     → last_of (filter of_version (versions_by kept first marks))
@@ -112,12 +111,3 @@ last_by_marks of_version of_mark kept marks d same =
     from_none (Some place) = let same_place : 0 + place ≡ place = omega arith in
         ap (λ n. Some (version_by kept n (get_or marks place d))) same_place
     from_none None = refl
-
--- the same of a table's versions
-pub last_in : (h : History) (of_version : StoredVersion → Bool) (of_mark : VersionMark → Bool)
-    → ((place : ℕ) (m : VersionMark) → of_version (version_by h.kept.items place m) ≡ of_mark m)
-    → option_map (λ place. version_by h.kept.items place (get_or (h.first ∷ h.later.items) place h.first))
-    (last_place of_mark (h.first ∷ h.later.items))
-    ≡ last_of (filter of_version (versions_by h.kept.items 0 (h.first ∷ h.later.items)))
-last_in h of_version of_mark same =
-    sym (last_by_marks of_version of_mark h.kept.items (h.first ∷ h.later.items) h.first same)

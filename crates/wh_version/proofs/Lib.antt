@@ -14,6 +14,8 @@ pub mod Left
 pub mod Made
 pub mod Amended
 pub mod LastUpTo
+pub mod Starts
 pub mod TurnoverLaws
 pub mod ArrivalLaws
 pub mod FrontLaws
+pub mod VersionTimes

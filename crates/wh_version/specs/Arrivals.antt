@@ -3,7 +3,8 @@
 --     HaveArrived           the partitions that came with so many versions, one version after the other
 --     IsFront               the versions at the front that were pushed by a stamp, and what came with them
 --     partitions_before     how many partitions there were before a version
-use Rattle.std.specs.Prelude.{◌≡◌, ℕ, zero, suc, List, [], ◌∷◌, ◌++◌, take, drop, slice_index_or as get_or}
+--     mark_place            the place of a version's mark
+use Rattle.std.specs.Prelude.{◌≡◌, ℕ, zero, suc, Bool, true, false, List, [], ◌∷◌, ◌++◌, take, drop, slice_index_or as get_or}
 use Rattle.std.specs.Prelude.{nat_le, if◌then◌else◌}
 use Rattle.wh_frame.specs.Partition.{Partition}
 use Rattle.wh_state.specs.Stored.{StoredVersion}
@@ -36,3 +37,7 @@ pub record IsFront (stamp count : ℕ) (came : List Partition) (versions : List 
 abbrev pub partitions_before : List VersionMark → VersionMark → ℕ → ℕ
 partitions_before marks first zero = zero
 partitions_before marks first (suc place) = (get_or marks place first).partitions
+
+abbrev pub mark_place : Bool → ℕ → ℕ
+mark_place true place = suc place
+mark_place false place = place

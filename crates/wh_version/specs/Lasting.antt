@@ -2,8 +2,8 @@
 --     standing_at      those that stand in the version at a place
 --     gone_between     those that stand in one, and are gone from a later one
 --     versions_by      the versions of marks
---     numbered_from, count_to, is_gone_by     what always holds of a table's marks and partitions
-use Rattle.std.specs.Prelude.{ℕ, ◌+◌, Bool, true, ◌&&◌, ◌||◌, List, [], ◌∷◌, map, filter, take, nat_lt, nat_le, nat_eq}
+--     numbered_from, count_to, lies_in_front, is_gone_by     what always holds of a table's marks and partitions
+use Rattle.std.specs.Prelude.{ℕ, ◌+◌, Bool, true, false, ◌&&◌, ◌||◌, List, [], ◌∷◌, map, filter, take, nat_lt, nat_le, nat_eq}
 use Rattle.std.specs.Prelude.{min, if◌then◌else◌}
 use Rattle.wh_frame.specs.Partition.{Partition}
 use Rattle.wh_state.specs.Stored.{StoredVersion}
@@ -67,6 +67,11 @@ numbered_from next (p ∷ ps) = nat_eq p.number next && numbered_from (next + 1)
 abbrev pub count_to : ℕ → List VersionMark → ℕ → Bool
 count_to least [] total = nat_eq least total
 count_to least (mark ∷ marks) total = nat_le least mark.partitions && count_to mark.partitions marks total
+
+-- a mark that is no version lies in front of all moments
+abbrev pub lies_in_front : Bool → VersionMark → Bool
+lies_in_front true mark = nat_eq mark.stamp 0
+lies_in_front false mark = true
 
 -- it stands still
 abbrev pub is_standing : Lasting → Bool

@@ -1,7 +1,10 @@
 -- The two times of a version, and the last version up to one.
 --     data_at, visible_at     the last version whose data timestamp, or stamp, is at most that
+--     is_between              whether a time lies behind one, up to another
 --     last_place              the last place at which a test is true
-use Rattle.std.specs.Prelude.{ℕ, zero, suc, Bool, true, false, List, [], ◌∷◌, filter, nat_le, Option, Some, None}
+--     place_behind            the same, but for the first place, if that is asked
+use Rattle.std.specs.Prelude.{ℕ, zero, suc, Bool, true, false, ◌&&◌, List, [], ◌∷◌, filter, nat_le, nat_lt, Option, Some}
+use Rattle.std.specs.Prelude.{None}
 use Rattle.wh_state.specs.State.{last_of}
 use Rattle.wh_state.specs.Stored.{StoredVersion}
 use Rattle.wh_version.specs.declared.mark.VersionMark.{VersionMark}
@@ -13,6 +16,9 @@ data_at timestamp versions = last_of (filter (λ v. nat_le v.data_timestamp time
 
 abbrev pub visible_at : ℕ → List StoredVersion → Option StoredVersion
 visible_at stamp versions = last_of (filter (λ v. nat_le v.stamp stamp) versions)
+
+abbrev pub is_between : ℕ → ℕ → ℕ → Bool
+is_between from to time = nat_lt from time && nat_le time to
 
 -- ---- by marks
 
@@ -32,3 +38,9 @@ one_further false None = None
 abbrev pub last_place : {X : Type 0} → (X → Bool) → List X → Option ℕ
 last_place test [] = None
 last_place test (x ∷ xs) = one_further (test x) (last_place test xs)
+
+abbrev pub place_behind : Bool → Option ℕ → Option ℕ
+place_behind true (Some zero) = None
+place_behind true (Some (suc place)) = Some (suc place)
+place_behind true None = None
+place_behind false found = found

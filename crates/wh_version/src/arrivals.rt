@@ -22,12 +22,23 @@ impl History {
     ghost use Rattle.std.specs.Prelude.{◌≡◌, ◌<◌, ◌∷◌, zero, suc, length, take, drop};
     ghost use Rattle.std.specs.Prelude.{slice_index_or as get_or, IfOk};
     ghost use Rattle.wh_version.specs.Arrivals.{IsArrival, IsFront, partitions_before};
+    ghost use Rattle.wh_version.specs.Arrivals.{mark_place};
     ghost use Rattle.wh_version.specs.Edits.{partitions_at};
-    ghost use Rattle.wh_version.specs.History.{versions_of, marks_of};
+    ghost use Rattle.wh_version.specs.History.{versions_of, marked_of, marks_of};
 
     /// How many versions there are.
     pub fn count(&self) -> usize
         ensures { result ≡ length (versions_of self.now) }
+    {
+        let count = self.mark_count();
+        if self.starts_empty {
+            return count - 1;
+        }
+        count
+    }
+
+    fn mark_count(&self) -> usize
+        ensures { result ≡ length (marked_of self.now) }
     {
         self.later.len() + 1
     }
@@ -37,6 +48,27 @@ impl History {
         requires { place < length (versions_of self.now) }
         ensures { IfOk result (λ found. IsArrival found.stamp (partitions_at found.came.items)
             (take place (versions_of self.now)) (drop place (versions_of self.now))) }
+    {
+        let arrivals = self.came_with(alloc, self.mark_place(place))?;
+        Ok(arrivals)
+    }
+
+    fn mark_place(&self, place: usize) -> usize
+        requires { place < length (versions_of self.now) }
+        ensures place { result ≡ mark_place self.now.starts_empty place }
+        ensures within { result < length (marks_of self.now) }
+    {
+        if self.starts_empty {
+            return place + 1;
+        }
+        place
+    }
+
+    // What came with the mark at a place.
+    fn came_with(&self, alloc: Global, place: usize) -> Result<Arrivals<'_>, AllocError>
+        requires { place < length (marks_of self.now) }
+        ensures { IfOk result (λ found. IsArrival found.stamp (partitions_at found.came.items)
+            (take place (marked_of self.now)) (drop place (marked_of self.now))) }
     {
         let mark = self.mark(place);
         let reach = Reach {
@@ -55,9 +87,25 @@ impl History {
         ensures { IfOk result (λ front. IsFront stamp front.count
             (partitions_at front.came.items) (versions_of self.now)) }
     {
+        let front = self.marked_front(alloc, stamp)?;
+        if !self.starts_empty {
+            return Ok(front);
+        }
+        // A mark that is no version lies in front of all stamps.
+        let Leading { count, came } = front;
+        Ok(Leading {
+            count: count - 1,
+            came,
+        })
+    }
+
+    fn marked_front(&self, alloc: Global, stamp: u64) -> Result<Leading<'_>, AllocError>
+        ensures { IfOk result (λ front. IsFront stamp front.count
+            (partitions_at front.came.items) (marked_of self.now)) }
+    {
         let mut came = Vec::with_capacity(alloc, self.kept.len())?;
         let mut before = 0;
-        let count = self.count();
+        let count = self.mark_count();
         for place in 0..count {
             let mark = self.mark(place);
             if stamp < mark.stamp {

@@ -1,6 +1,7 @@
-ghost use Rattle.std.specs.Prelude.{◌∷◌, length, IsTrue};
+ghost use Rattle.std.specs.Prelude.{◌≡◌, ◌∷◌, length, IsTrue};
 ghost use Rattle.std.specs.List.{list_all};
-ghost use Rattle.wh_version.specs.Lasting.{numbered_from, count_to, is_gone_by, partitions_in};
+ghost use Rattle.wh_version.specs.Lasting.{numbered_from, count_to, lies_in_front, is_gone_by};
+ghost use Rattle.wh_version.specs.Lasting.{partitions_in};
 
 use crate::mark::last_mark;
 use crate::{Lasting, VersionMark};
@@ -15,13 +16,18 @@ pub struct History {
     /// The version with which the table was created, and those that were pushed since.
     pub(crate) first: VersionMark,
     pub(crate) later: Vec<VersionMark>,
+    /// Whether the table was created without a version: the first mark is none then.
+    pub(crate) starts_empty: bool,
+    ghost nothing: { first.partitions ≡ 0 },
+    ghost front: { IsTrue (lies_in_front starts_empty first) },
     ghost numbers: { IsTrue (numbered_from 1 (partitions_in kept.items)) },
     ghost marks: { IsTrue (count_to 0 (first ∷ later.items) (length kept.items)) },
     ghost gone: { IsTrue (list_all (is_gone_by (length later.items)) kept.items) },
 }
 
 impl History {
-    ghost use Rattle.std.specs.Prelude.{◌≡◌, ◌≤◌, ◌^◌, [], ◌∷◌, Some, filter, option_map, nat_eq};
+    ghost use Rattle.std.specs.Prelude.{◌≡◌, ◌≤◌, ◌^◌, [], ◌∷◌, true, false, filter, option_map};
+    ghost use Rattle.std.specs.Prelude.{nat_eq};
     ghost use Rattle.std.specs.List.{list_any};
     ghost use Rattle.wh_state.specs.State.{version_at, last_of};
     ghost use Rattle.wh_version.specs.Lasting.{is_standing, partitions_in};
@@ -33,6 +39,7 @@ impl History {
         ensures versions { versions_of result ≡ version_at stamp [] ∷ [] }
         ensures nexts { nexts_of result ≡ 1 ∷ [] }
         ensures partitions { partitions_of result ≡ [] }
+        ensures full { result.starts_empty ≡ false }
     {
         let first = VersionMark {
             stamp,
@@ -43,15 +50,38 @@ impl History {
             kept: Vec::new(alloc),
             first,
             later: Vec::new(alloc),
+            starts_empty: false,
         }
     }
 
-    /// The data timestamp of the last version.
-    pub fn last_timestamp(&self) -> u64
-        ensures { option_map (λ v. v.data_timestamp) (last_of (versions_of self.now))
-            ≡ Some result }
+    /// No version yet. Takes no memory.
+    pub fn empty(alloc: Global) -> History
+        ensures versions { versions_of result ≡ [] }
+        ensures nexts { nexts_of result ≡ 1 ∷ [] }
+        ensures partitions { partitions_of result ≡ [] }
+        ensures empty { result.starts_empty ≡ true }
     {
-        last_mark(self.first, &self.later).data_timestamp
+        let first = VersionMark {
+            stamp: 0,
+            data_timestamp: 0,
+            partitions: 0,
+        };
+        History {
+            kept: Vec::new(alloc),
+            first,
+            later: Vec::new(alloc),
+            starts_empty: true,
+        }
+    }
+
+    /// The data timestamp of the last version, if there is one.
+    pub fn last_timestamp(&self) -> Option<u64>
+        ensures { result ≡ option_map (λ v. v.data_timestamp) (last_of (versions_of self.now)) }
+    {
+        if self.count() == 0 {
+            return None;
+        }
+        Some(last_mark(self.first, &self.later).data_timestamp)
     }
 
     /// The number that the next partition has.

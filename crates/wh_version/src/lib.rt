@@ -9,6 +9,7 @@ mod history;
 mod lasting;
 mod mark;
 mod merging;
+mod moments;
 mod popping;
 mod pushing;
 mod rewriting;

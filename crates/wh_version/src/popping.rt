@@ -7,13 +7,15 @@ use crate::{History, Lasting};
 impl History {
     ghost use Rattle.std.specs.Prelude.{◌≡◌};
     ghost use Rattle.wh_version.specs.Lists.{shortened};
-    ghost use Rattle.wh_version.specs.History.{versions_of, nexts_of};
+    ghost use Rattle.wh_version.specs.History.{versions_of, nexts_of, popped};
 
-    /// Takes the last version back, as if it had never been pushed. The first one stays. Takes no
-    /// memory.
+    /// Takes the last version back, as if it had never been pushed. The one with which the table
+    /// was created stays. Takes no memory.
     pub fn pop(&mut self)
-        ensures versions { versions_of self.new ≡ shortened (versions_of self.old) }
+        ensures versions { versions_of self.new
+            ≡ popped self.old.starts_empty (versions_of self.old) }
         ensures nexts { nexts_of self.new ≡ shortened (nexts_of self.old) }
+        ensures empty { self.new.starts_empty ≡ self.old.starts_empty }
     {
         let place = self.later.len();
         if place == 0 {

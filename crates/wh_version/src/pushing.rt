@@ -28,6 +28,7 @@ impl History {
             ≡ nexts_of self.old ++ (next_in (nexts_of self.old) + length added.items) ∷ []) }
         ensures partitions { OnOk result (partitions_of self.new
             ≡ partitions_of self.old ++ added.items) }
+        ensures empty { self.new.starts_empty ≡ self.old.starts_empty }
         ensures same { OnErr result (versions_of self.new ≡ versions_of self.old) }
         ensures same_nexts { OnErr result (nexts_of self.new ≡ nexts_of self.old) }
         ensures same_partitions { OnErr result (partitions_of self.new ≡ partitions_of self.old) }

@@ -15,19 +15,23 @@ pub struct Version<'a> {
 }
 
 impl History {
-    ghost use Rattle.std.specs.Prelude.{◌≡◌, ◌<◌, Some, length, option_map};
+    ghost use Rattle.std.specs.Prelude.{◌≡◌, ◌<◌, length, option_map, IfOk};
     ghost use Rattle.std.specs.Prelude.{slice_index_or as get_or};
-    ghost use Rattle.wh_state.specs.State.{last_of};
+    ghost use Rattle.wh_version.specs.Edits.{partitions_at};
     ghost use Rattle.wh_version.specs.Lasting.{version_by};
     ghost use Rattle.wh_version.specs.Times.{data_at, visible_at, is_up_to, last_place};
-    ghost use Rattle.wh_version.specs.History.{versions_of, marks_of};
+    ghost use Rattle.wh_version.specs.Times.{place_behind};
+    ghost use Rattle.wh_version.specs.History.{versions_of, marks_of, standing_in};
     ghost use Rattle.wh_version.specs.Version.{version_in};
 
-    /// The last version.
-    pub fn last(&self) -> Version<'_>
-        ensures { last_of (versions_of self.now) ≡ Some (version_in result) }
+    /// The partitions of the last version, by rising number; none where there is no version.
+    pub fn standing(&self, alloc: Global) -> Result<Vec<&Partition>, AllocError>
+        ensures { IfOk result (λ found. partitions_at found.items
+            ≡ standing_in (versions_of self.now)) }
     {
-        self.version(self.later.len())
+        let last = self.version(self.later.len());
+        let standing = last.partitions(alloc)?;
+        Ok(standing)
     }
 
     /// The last version whose data timestamp is at most that. None exactly where no version is
@@ -49,11 +53,15 @@ impl History {
         ensures { option_map version_in result ≡ option_map
             (λ place. version_by self.now.kept.items place
             (get_or (marks_of self.now) place self.now.first))
-            (last_place (is_up_to time limit) (marks_of self.now)) }
+            (place_behind self.now.starts_empty
+            (last_place (is_up_to time limit) (marks_of self.now))) }
     {
         let Some(place) = last_place(self.first, &self.later, time, limit) else {
             return None;
         };
+        if self.starts_empty && place == 0 {
+            return None;
+        }
         Some(self.version(place))
     }
 

@@ -5,5 +5,5 @@ pub returns-clause-ending : goal.returns-clause-ending
 returns-clause-ending g c =
     rw c.in-Ok.is (record { status = _; is = refl; usage = c.run-status.ensures.usage })
 
-pub returns-clause-runs : goal.returns-clause-runs
-returns-clause-runs g c = rw c.in-Ok.is c.run-status.ensures.runs
+pub returns-clause-task : goal.returns-clause-task
+returns-clause-task g c = rw c.in-Ok.is c.run-status.ensures.task

@@ -10,7 +10,7 @@ use Rattle.wh_table.specs.Table.{table_of}
 use Rattle.wh_change.specs.Rows.{entries_at, changes_by, arrivals_by}
 use Rattle.wh_change.proofs.Entries.{entries_rise}
 use Rattle.wh_change.proofs.NetParts.{net_by_entries, net_shown}
-use Rattle.wh_change.proofs.Versions.{rows_meant}
+use Rattle.wh_table.proofs.MomentRows.{rows_meant}
 use Rattle.wh_change.proofs.net.net_changes.Goals as goal
 
 pub net_by-requires-clause-went : goal.net_by-requires-clause-went

@@ -5,6 +5,8 @@ use Rattle.wh_shell.specs.Events.{events}
 use Rattle.wh_shell.specs.Point.{point_of}
 use Rattle.wh_shell.specs.Run.{StopsWhereTooLong}
 use Rattle.wh_shell.specs.Serving.{EndsAs}
+use Rattle.wh_shell.specs.Ticking.{TakesFor}
+use Rattle.wh_shell.specs.Timing.{timing_of, timed}
 use Rattle.wh_shell.specs.World.{world_of}
 use Rattle.wh_shell.specs.declared.status.Status.{Status}
 use Rattle.wh_shell.proofs.Ending.{served_ends}
@@ -15,7 +17,8 @@ pub returns-clause-ends : goal.returns-clause-ends
 returns-clause-ends g c =
     let old = c.args.warehouse in
     let new = c.serve-served.new.warehouse in
-    let left = option_map events (g.S.Source.left c.args.script.now) in
+    let left = timed (timing_of c.args.system (g.C.Clock.readings c.args.clock.now))
+    (option_map events (g.S.Source.left c.args.script.now)) in
     let first = point_of old left c.args.script.now c.args.out.now in
     let ends = served_ends g.D.Disk g.S.Source g.K.Sink old new left c.args.script.now
     c.serve-served.new.script c.args.out.now c.serve-served.new.out c.serve-served.result
@@ -30,3 +33,8 @@ pub returns-clause-long : goal.returns-clause-long
 returns-clause-long g c =
     subst (λ (status : Status). StopsWhereTooLong g.S.Source c.args.script.now c.serve-served.new.script status)
     (sym c.of.ensures) c.serve-served.ensures.long
+
+pub returns-clause-clock : goal.returns-clause-clock
+returns-clause-clock g c =
+    subst (λ (status : Status). TakesFor g.C.Clock c.args.system (option_map events (g.S.Source.left c.args.script.now))
+    status c.args.clock.now c.serve-served.new.clock) (sym c.of.ensures) c.serve-served.ensures.clock

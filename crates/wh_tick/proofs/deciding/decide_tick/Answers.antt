@@ -1,7 +1,7 @@
 use Rattle.std.proofs.Common.{sym, ap, ◌∙◌}
 use Rattle.wh_task.specs.View.{action_of}
 use Rattle.wh_decide.specs.Sight.{machine_in}
-use Rattle.wh_decide.proofs.OutcomeLemmas.{decides_as, comes_as}
+use Rattle.wh_decide.proofs.OutcomeLemmas.{comes_as}
 use Rattle.wh_tick.proofs.RunLemmas.{ticked_as}
 use Rattle.wh_tick.proofs.deciding.decide_tick.Goals as goal
 
@@ -20,5 +20,5 @@ returns-in-StartRun c =
 pub returns-in-Nothing : goal.returns-in-Nothing
 returns-in-Nothing c =
     let sight = c.args.sight.now in
-    decides_as sight c.idle.result
-    (ticked_as (machine_in sight) _ (sym (ap action_of c.in-Nothing.is) ∙ c.in_ok-root.ensures)) c.idle.ensures
+    comes_as sight c.refresh_due.result
+    (ticked_as (machine_in sight) _ (sym (ap action_of c.in-Nothing.is) ∙ c.in_ok-root.ensures)) c.refresh_due.ensures

@@ -1,7 +1,7 @@
 use Rattle.std.proofs.Common.{◌≡◌, ◌+◌, ◌++◌, map, drop}
 use Rattle.wh_naming.specs.View.{named_of}
 use Rattle.wh_machine.specs.Names.{names_from}
-use Rattle.wh_decide.specs.Names.{object_of}
+use Rattle.wh_catalog.specs.Object.{object_of}
 use Rattle.wh_tick.proofs.live.live_among.Given as goal
 
 abbrev pub invariant-loop-object : goal.invariant-loop-object

@@ -4,6 +4,7 @@ use Rattle.wh_state.specs.Stored.{StoredObject}
 use Rattle.wh_state.specs.Commit.{AllApply, all_changed, changed}
 use Rattle.wh_record.specs.declared.commit.ChangeIn.{ChangeIn}
 use Rattle.wh_task.specs.declared.task.TaskBody.{TaskBody}
+use Rattle.wh_dynamic.specs.declared.query.DynamicQuery.{DynamicQuery}
 use Rattle.wh_record.specs.View.{change_of}
 use Rattle.wh_catalog.specs.Catalog.{kept_of, objects_of}
 use Rattle.wh_catalog.specs.Undo.{undone}
@@ -22,7 +23,7 @@ loop-change-preserved c =
     let short = ap length steps in
     let after : objects_of c.carry_out.new.self ≡ changed stamp (objects_of at.self) (change_of change) =
     c.in-Ok.ensures.changed in
-    let P : List (ChangeIn TaskBody) → Type 0 = λ cs. AllApply stamp (objects_of at.self) (map change_of cs) in
+    let P : List (ChangeIn TaskBody DynamicQuery) → Type 0 = λ cs. AllApply stamp (objects_of at.self) (map change_of cs) in
     let Q : List StoredObject → Type 0 = λ os. AllApply stamp os (map change_of rest) in
     record {
       apply = λ more. at.invariant.apply (subst P (sym steps) (c.in-Ok.ensures.applies, subst Q after more));

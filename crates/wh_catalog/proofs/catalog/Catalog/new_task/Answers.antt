@@ -2,7 +2,7 @@ use Rattle.std.proofs.Common.{◌≡◌, ◌+◌, ◌∙◌, ap, sym, true, fals
 use Rattle.wh_state.specs.State.{new_object, TaskKind}
 use Rattle.wh_state.specs.Commit.{changed, root_among, TaskApplies}
 use Rattle.wh_record.specs.View.{task_change_of}
-use Rattle.wh_task.specs.View.{body_of, run_of}
+use Rattle.wh_task.specs.View.{run_of}
 use Rattle.wh_catalog.specs.TaskConditions.{applies_below, task_applies}
 use Rattle.wh_catalog.specs.Catalog.{objects_of}
 use Rattle.wh_catalog.proofs.TaskConditions.{Decides-task_applies}

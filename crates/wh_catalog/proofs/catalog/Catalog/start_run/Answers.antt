@@ -1,6 +1,5 @@
 use Rattle.std.proofs.Common.{◌≡◌, false, ◌∙◌, sym, ap, map}
 use Rattle.std.specs.List.{list_any}
-use Rattle.wh_state.specs.Task.{waiting}
 use Rattle.wh_state.specs.State.{changed_at}
 use Rattle.wh_state.specs.Commit.{on_task_stored, waits}
 use Rattle.wh_task.specs.View.{run_of}

@@ -46,7 +46,8 @@ pub returns-in-Ok-clause-any_moment : goal.returns-in-Ok-clause-any_moment
 returns-in-Ok-clause-any_moment g c =
     leaves_commit c.args.self.now _ c.reserve.new.self
     (commit_of c.args.commit) c.in_ok-framed.framed c.reserve.ensures.same c.in_ok-framed.ensures.payload
-    c.in_ok-undo.ensures.applies (record { written = c.in_ok-framed.ensures.written; understood = c.requires.read }) (λ payloads file told is lists only.
+    c.in_ok-undo.ensures.applies (record { written = c.in_ok-framed.ensures.written; understood = c.requires.read })
+    (λ payloads file told is lists only.
     (c.in-Ok.ensures.filed payloads file (record { told = told; spelled = is; lists = lists })).any_moment only)
 
 pub returns-in-Ok-clause-answered : goal.returns-in-Ok-clause-answered
@@ -77,7 +78,10 @@ returns-in-Ok-clause-answered g c =
       adds = adds_commit (bytes old.disk) (bytes c.append.new.disk) old.journal c.append.new.self old.catalog
           c.stage.new.self commit
           (subst (Appends (bytes old.disk) (bytes c.append.new.disk) old.journal c.append.new.self) spelled adds)
-          staged.applies staged.applied (record { written = c.in_ok-framed.ensures.written; understood = c.requires.read });
+          staged.applies staged.applied (record {
+            written = c.in_ok-framed.ensures.written;
+            understood = c.requires.read;
+          });
       told = c.in-Ok.ensures.told;
       durable = λ settled. record { each = c.in-Ok.ensures.durable };
       kept = λ e. absurd cc;
@@ -94,7 +98,8 @@ pub returns-clause-any_moment : goal.returns-clause-any_moment
 returns-clause-any_moment g c =
     leaves_commit c.args.self.now _ c.reserve.new.self
     (commit_of c.args.commit) c.in_ok-framed.framed c.reserve.ensures.same c.in_ok-framed.ensures.payload
-    c.in_ok-undo.ensures.applies (record { written = c.in_ok-framed.ensures.written; understood = c.requires.read }) (λ payloads file told is lists only.
+    c.in_ok-undo.ensures.applies (record { written = c.in_ok-framed.ensures.written; understood = c.requires.read })
+    (λ payloads file told is lists only.
     (c.in-Err.ensures.filed payloads file (record { told = told; spelled = is; lists = lists })).any_moment only)
 
 -- what was staged is undone

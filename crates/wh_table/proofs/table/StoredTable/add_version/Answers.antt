@@ -7,11 +7,13 @@ use Rattle.wh_value.specs.View.{column_of}
 use Rattle.wh_state.specs.Stored.{StoredVersion}
 use Rattle.wh_state.specs.Edits.{without, is_among}
 use Rattle.wh_version.specs.Lists.{shortened}
-use Rattle.wh_version.specs.History.{versions_of, nexts_of, standing_in, partitions_of, next_in, pushed_with}
+use Rattle.wh_version.specs.History.{versions_of, nexts_of, standing_in, partitions_of, next_in, popped}
+use Rattle.wh_version.specs.History.{pushed_with}
+use Rattle.wh_version.specs.Lasting.{version_by, versions_by}
 use Rattle.wh_table.specs.Table.{kept_table}
 use Rattle.wh_table.specs.Apart.{is_apart, is_rising, rows_rise, highest_number}
 use Rattle.wh_table.proofs.Apart.{changed_apart, highest_number-append}
-use Rattle.wh_table.proofs.Pushed.{shortened-push, next_in-push, last_apart}
+use Rattle.wh_table.proofs.Pushed.{shortened-push, popped-push, next_in-push, last_apart}
 use Rattle.wh_table.proofs.Rising.{each_filter, each_append, last_rising}
 use Rattle.wh_table.proofs.table.StoredTable.add_version.Goals as goal
 
@@ -89,12 +91,16 @@ pub returns-clause-back : goal.returns-clause-back
 unfolding kept_table versions_of nexts_of
 returns-clause-back c =
     let t = c.args.self.now in
-    let versions = ap shortened c.in_ok-push.ensures.versions ∙ shortened-push _ _ _ in
+    let h = t.history in
+    let empty = c.push.ensures.empty in
+    let versions = (λ i. popped (empty i) (c.in_ok-push.ensures.versions i))
+    ∙ popped-push h.starts_empty (version_by h.kept.items 0 h.first) (versions_by h.kept.items 1 h.later.items) _ in
     let nexts = ap shortened c.in_ok-push.ensures.nexts ∙ shortened-push _ _ _ in
     λ i. record {
       created = t.created;
       columns = map column_of t.columns.items;
       retention = t.retention;
+      starts_empty = empty i;
       next_row = t.next_row;
       versions = versions i;
       nexts = nexts i;

@@ -1,86 +1,44 @@
-use Rattle.std.proofs.Common.{◌≡◌, ℕ, suc, ◌+◌, ◌<◌, ◌≤◌}
-use Rattle.std.proofs.Common.{ap, sym, subst, length, get_or, arith}
-use Rattle.wh_version.specs.declared.history.History.{History}
-use Rattle.wh_version.specs.declared.mark.VersionMark.{VersionMark}
+use Rattle.std.proofs.Common.{◌-◌, ◌<◌, Bool, ◌∙◌, ap, sym, subst, arith}
+use Rattle.std.proofs.lemmas.Bool.{eqb-true}
+use Rattle.wh_version.specs.Arrivals.{IsFront}
 use Rattle.wh_version.specs.Edits.{partitions_at}
-use Rattle.wh_version.specs.History.{versions_of, marks_of}
-use Rattle.wh_version.proofs.ArrivalLaws.{within_marks, before_grows}
-use Rattle.wh_version.proofs.FrontLaws.{FrontUpTo, Grown, grown_on, front_longer, front_ends}
-use Rattle.wh_version.proofs.LastUpTo.{mark_within}
+use Rattle.wh_version.specs.History.{versions_of, marked_of}
+use Rattle.wh_version.specs.Lasting.{version_by, versions_by, lies_in_front}
+use Rattle.wh_version.specs.Lists.{behind}
+use Rattle.wh_version.proofs.Starts.{first_empty, front_behind}
 use Rattle.wh_version.proofs.history.History.front.Goals as goal
-use Rattle.wh_version.proofs.history.History.front.Goals.{After-mark-mark}
+use Rattle.wh_version.proofs.history.History.front.Goals.{Else-not-self}
 
-pub mark-mark-requires : goal.mark-mark-requires
-mark-mark-requires c = within_marks c.args.self.now c.loop-place.place
-    (omega (arith, c.loop-place-test.true, c.count-count.ensures))
-
-module _ (c : After-mark-mark) where
-  abbrev h : History
-  h = c.args.self.now
-
-  abbrev mark : VersionMark
-  mark = get_or (marks_of h) c.loop-place.place h.first
-
-  within : c.loop-place.place < length (marks_of h)
-  within = within_marks h c.loop-place.place (omega (arith, c.loop-place-test.true, c.count-count.ensures))
-
-  counted : c.mark-mark.result.partitions ≡ mark.partitions
-  counted = ap (λ (m : VersionMark). m.partitions) c.mark-mark.ensures
-
-  -- it counts no more partitions than there are
-  few : c.mark-mark.result.partitions ≤ length h.kept.items
-  few =
-      omega (arith, counted, mark_within 0 (marks_of h) (length h.kept.items) c.loop-place.place h.first h.marks within)
-
-pub returns-then-stamp-mark : goal.returns-then-stamp-mark
+pub returns-then-not-self : goal.returns-then-not-self
 unfolding versions_of
-returns-then-stamp-mark c =
-    let m = (goal.at.returns-then-stamp-mark c).After-mark-mark in
-    let at = c.loop-place in
-    front_ends c.args.stamp (h m).kept.items (marks_of (h m)) (h m).first at.place at.before
-    (partitions_at at.came.items) (within m)
-    (subst (λ (m : VersionMark). c.args.stamp < m.stamp) c.mark-mark.ensures c.if-stamp-mark.true) at.invariant.0
+returns-then-not-self c =
+    let h = c.args.self.now in
+    let front = c.in_ok-front.front in
+    let came = partitions_at front.came.items in
+    subst (λ (b : Bool). IsFront c.args.stamp front.count came (behind b (marked_of h))) (sym c.if-not-self.true)
+    c.in_ok-front.ensures
 
-pub index-requires : goal.index-requires
-index-requires c = omega (arith, c.loop-index-test.true, few (goal.at.index-requires c).After-mark-mark)
+-- the mark that is no version is one of those at the front
+module _ (c : Else-not-self) where
+  less : (0 < c.in_ok-front.front.count) × IsFront c.args.stamp (c.in_ok-front.front.count - 1)
+      (partitions_at c.in_ok-front.front.came.items) (versions_by c.args.self.now.kept.items 1 c.args.self.now.later.items)
+  less =
+      let h = c.args.self.now in
+      front_behind (version_by h.kept.items 0 h.first) (first_empty h) (versions_by h.kept.items 1 h.later.items)
+      c.args.stamp c.in_ok-front.front.count (partitions_at c.in_ok-front.front.came.items)
+      (eqb-true h.first.stamp 0 (ap (λ b. lies_in_front b h.first) (sym c.if-not-self.false) ∙ h.front))
+      c.in_ok-front.ensures
 
-pub put_standing-requires : goal.put_standing-requires
-put_standing-requires c =
-    let few = few (goal.at.put_standing-requires c).After-mark-mark in
-    omega (arith, c.loop-index-test.true, few, c.loop-index.invariant.1, c.loop-index.invariant.2)
+pub overflow_sub-result : goal.overflow_sub-result
+overflow_sub-result c =
+    let some = (less (goal.at.overflow_sub-result c).Else-not-self).0 in
+    omega (arith, some)
 
-pub loop-index-preserved : goal.loop-index-preserved
-loop-index-preserved c =
-    let at = c.loop-index in
-    let few = few (goal.at.loop-index-preserved c).After-mark-mark in (
-      grown_on c.args.self.now.kept.items c.loop-place.place c.loop-place.before at.index c.index.result.now
-          (partitions_at c.loop-place.came.items) (partitions_at at.came.items)
-          (partitions_at c.put_standing.new.found.items) (omega (arith, c.loop-index-test.true, few))
-          c.index.ensures c.put_standing.ensures.items at.invariant.0,
-      omega (arith, c.put_standing.ensures.length, at.invariant.1),
-      omega (arith, c.put_standing.ensures.capacity, at.invariant.2),
-    )
-
-pub loop-place-preserved : goal.loop-place-preserved
-loop-place-preserved c =
-    let m = (goal.at.loop-place-preserved c).After-mark-mark in
-    let h = h m in
-    let at = c.loop-place in
-    let is_mark = c.mark-mark.ensures in
-    let partitions = counted m in
-    let grows = before_grows (marks_of h) (length h.kept.items) at.place h.first h.marks (within m) in
-    let last : c.loop-index.index ≡ (mark m).partitions =
-    omega (arith, c.loop-index-test.false, c.loop-index.auto.index-end, grows, at.invariant.0.before_is, partitions) in
-    let now = partitions_at c.loop-index.came.items in
-    let longer = front_longer c.args.stamp h.kept.items (marks_of h) h.first at.place at.before
-    (partitions_at at.came.items) now (within m)
-    (subst (λ (m : VersionMark). m.stamp ≤ c.args.stamp) is_mark c.if-stamp-mark.false)
-    (subst (λ index. Grown h.kept.items at.place at.before index (partitions_at at.came.items) now) last
-    c.loop-index.invariant.0) at.invariant.0 in
-    let Longer : ℕ → VersionMark → Type 0 =
-    λ place m. FrontUpTo c.args.stamp h.kept.items (marks_of h) h.first place m.partitions now in
-    let more : suc at.place ≡ at.place + 1 = omega arith in (
-      subst (λ place. Longer place c.mark-mark.result) more (subst (Longer (suc at.place)) (sym is_mark) longer),
-      omega (arith, c.loop-index.invariant.1, last, partitions),
-      c.loop-index.invariant.2,
-    )
+pub returns : goal.returns
+unfolding versions_of
+returns c =
+    let h = c.args.self.now in
+    let came = partitions_at c.in_ok-front.front.came.items in
+    let count = c.in_ok-front.front.count - 1 in
+    subst (λ (b : Bool). IsFront c.args.stamp count came (behind b (marked_of h))) (sym c.if-not-self.false)
+    (less (goal.at.returns c).Else-not-self).1

@@ -4,7 +4,10 @@ use Rattle.std.specs.List.{list_all}
 use Rattle.std.proofs.lemmas.List.{length-map, length-take}
 use Rattle.wh_version.specs.declared.lasting.Lasting.{Lasting}
 use Rattle.wh_version.specs.declared.mark.VersionMark.{VersionMark}
-use Rattle.wh_version.specs.Lasting.{partitions_in, numbered_from, count_to, is_gone_by, stands_again, versions_by}
+use Rattle.wh_version.specs.Lasting.{partitions_in, numbered_from, count_to, is_gone_by, stands_again, version_by}
+use Rattle.wh_version.specs.Lasting.{versions_by}
+use Rattle.wh_version.specs.Lists.{behind}
+use Rattle.wh_version.proofs.Starts.{pop_behind}
 use Rattle.wh_version.specs.History.{versions_of, nexts_of}
 use Rattle.wh_version.proofs.Popped.{versions_left, versions_shortened, nexts_shortened, numbered_less, count_less}
 use Rattle.wh_version.proofs.Popped.{gone_less, take_exactly}
@@ -65,6 +68,8 @@ invariant_of-self c =
     let total : length (left at) ≡ partitions = length-map (take partitions (kept at)) (stands_again (last at))
     ∙ length-take partitions (kept at) ∙ omega arith in
     record {
+      nothing = h.nothing;
+      front = h.front;
       numbers = ap (λ ks. numbered_from 1 (partitions_in ks)) (whole at)
           ∙ numbered_less (last at) partitions 1 (kept at) h.numbers;
       marks = (λ i. count_to 0 (h.first ∷ marks at i) ((ap length (whole at) ∙ total) i)) ∙ (counts at).0;
@@ -79,10 +84,12 @@ returns-clause-versions c =
     let at = (goal.at.returns-clause-versions c).After-stand_again in
     let h = c.args.self.now in
     let sized = h.later.ok.0 in
-    (λ i. versions_by (whole at i) 0 (h.first ∷ marks at i))
+    ap (behind h.starts_empty)
+    ((λ i. versions_by (whole at i) 0 (h.first ∷ marks at i))
     ∙ versions_left (last at) c.last_mark-mark.result.partitions (kept at) 0 0 (h.first ∷ later at)
     (omega (arith, count at)) (omega (arith, count at, fewer at)) (counts at).0
-    ∙ sym (versions_shortened (kept at) h.first h.later.items)
+    ∙ sym (versions_shortened (kept at) h.first h.later.items))
+    ∙ pop_behind h.starts_empty (version_by (kept at) 0 h.first) (versions_by (kept at) 1 h.later.items)
 
 pub returns-clause-nexts : goal.returns-clause-nexts
 unfolding nexts_of

@@ -4,11 +4,14 @@ use Rattle.std.specs.List.{list_all}
 use Rattle.std.proofs.lemmas.List.{length-map, map_push}
 use Rattle.wh_state.specs.Commit.{NumberedFrom}
 use Rattle.wh_state.specs.Edits.{without}
+use Rattle.wh_state.specs.Stored.{StoredVersion}
 use Rattle.wh_version.specs.declared.lasting.Lasting.{Lasting}
 use Rattle.wh_version.specs.declared.mark.VersionMark.{VersionMark}
 use Rattle.wh_version.specs.Lasting.{partitions_in, numbered_from, count_to, is_gone_by, parted, fresh}
-use Rattle.wh_version.specs.Lasting.{standing_at, versions_by}
+use Rattle.wh_version.specs.Lasting.{standing_at, version_by, versions_by}
+use Rattle.wh_version.specs.Lists.{behind}
 use Rattle.wh_version.specs.History.{versions_of, nexts_of, marks_of, standing_in, next_in}
+use Rattle.wh_version.proofs.Starts.{push_behind}
 use Rattle.wh_version.proofs.Last.{next_last, counts_all, standing_now, standing_last}
 use Rattle.wh_version.proofs.Parted.{all_later, parted_gone, length-parted}
 use Rattle.wh_version.proofs.Pushed.{versions_pushed, more_partitions, still_numbered, still_count, still_gone}
@@ -74,6 +77,8 @@ invariant_of-self-2 c =
     let places : length c.push_reserved.new.self.items ≡ last at =
     omega (arith, count at, simp length-append at (ap length (marks at))) in
     record {
+      nothing = h.nothing;
+      front = h.front;
       numbers = ap (λ ks. numbered_from 1 (partitions_in ks)) (whole at)
           ∙ still_numbered (last at) removed (kept at) added h.numbers (subst N (next at) c.requires);
       marks = (λ i. count_to 0 (marks at i) (length c.append.new.kept.items))
@@ -92,12 +97,21 @@ returns-clause-versions c =
     let removed = c.args.removed.now in
     let added = c.args.added.items in
     let few : last at < 18446744073709551615 = omega (arith, count at) in
-    let standing : standing_at (last at) (kept at) ≡ standing_in (versions_by (kept at) 0 (marks_of h)) =
+    let first = version_by (kept at) 0 h.first in
+    let rest = versions_by (kept at) 1 h.later.items in
+    let standing : standing_at (last at) (kept at) ≡ standing_in (behind h.starts_empty (first ∷ rest)) =
     ap partitions_in (sym (standing_last (last at) (kept at) few (gone at)))
     ∙ sym (standing_now h) in
-    (λ i. versions_by (whole at i) 0 (marks at i))
-    ∙ versions_pushed (last at) removed (kept at) added (marks_of h) (mark at) few (count at) h.marks (total at)
-    ∙ (λ i. versions_by (kept at) 0 (marks_of h) ++ (record {
+    let now : StoredVersion = record {
+      stamp = c.args.stamp;
+      data_timestamp = c.args.data_timestamp;
+      content = without removed (standing_at (last at) (kept at)) ++ added;
+    } in
+    ap (behind h.starts_empty)
+    ((λ i. versions_by (whole at i) 0 (marks at i))
+    ∙ versions_pushed (last at) removed (kept at) added (marks_of h) (mark at) few (count at) h.marks (total at))
+    ∙ push_behind h.starts_empty first rest now
+    ∙ (λ i. behind h.starts_empty (first ∷ rest) ++ (record {
       stamp = c.args.stamp;
       data_timestamp = c.args.data_timestamp;
       content = without removed (standing i) ++ added;

@@ -1,9 +1,11 @@
 use Rattle.std.proofs.Common.{◌≡◌, List, ◌++◌, ◌∙◌, ap, length, take, subst, arith}
 use Rattle.std.proofs.lemmas.List.{length-take}
 use Rattle.wh_version.specs.declared.lasting.Lasting.{Lasting}
-use Rattle.wh_version.specs.Lasting.{standing_at, gone_between}
+use Rattle.std.specs.Prelude.{nat_le}
+use Rattle.wh_version.specs.Lasting.{standing_at, gone_between, version_by, versions_by}
 use Rattle.wh_version.specs.Edits.{partitions_at}
 use Rattle.wh_version.specs.History.{versions_of}
+use Rattle.wh_version.proofs.Starts.{first_empty, found_behind}
 use Rattle.wh_version.proofs.TurnoverLaws.{reach_grows, reach_stands, turned_over}
 use Rattle.wh_version.proofs.history.History.turnover.Goals as goal
 
@@ -45,5 +47,9 @@ returns c =
     (subst (λ (ks : List Lasting). standing_at new.place (take old.partitions ks)
     ++ partitions_at c.in_ok-came.came.items
     ≡ standing_at new.place (take new.partitions ks)) c.deref-2.ensures.value c.in_ok-came.ensures)
-    (reach_stands kept h.first h.later.items c.args.from old c.reach-old.ensures)
-    (reach_stands kept h.first h.later.items c.args.to new c.reach-new.ensures)
+    (found_behind (version_by kept 0 h.first) (first_empty h) h.starts_empty (λ v. nat_le v.data_timestamp c.args.from)
+    (versions_by kept 1 h.later.items)
+    ∙ reach_stands kept h.first h.later.items c.args.from old c.reach-old.ensures)
+    (found_behind (version_by kept 0 h.first) (first_empty h) h.starts_empty (λ v. nat_le v.data_timestamp c.args.to)
+    (versions_by kept 1 h.later.items)
+    ∙ reach_stands kept h.first h.later.items c.args.to new c.reach-new.ensures)

@@ -3,7 +3,7 @@ use Rattle.std.specs.Prelude.{nat_le}
 use Rattle.wh_version.specs.declared.times.Time.TheVariants.{Stamp}
 use Rattle.wh_version.specs.History.{versions_of}
 use Rattle.wh_version.specs.Times.{is_up_to}
-use Rattle.wh_version.proofs.LastUpTo.{last_in}
+use Rattle.wh_version.proofs.Starts.{last_in}
 use Rattle.wh_version.proofs.history.History.visible.Goals as goal
 
 pub returns : goal.returns

@@ -1,0 +1,8 @@
+use Rattle.std.proofs.Common.{◌≡◌, take}
+use Rattle.wh_moment.specs.Upstream.{dynamics_of}
+use Rattle.wh_dynamic.specs.View.{dynamics_in}
+use Rattle.wh_catalog.specs.Object.{stored_objects}
+use Rattle.wh_catalog.proofs.catalog.watched.Given as goal
+
+abbrev pub invariant-loop-object : goal.invariant-loop-object
+invariant-loop-object l = dynamics_in l.all.items ≡ dynamics_of (stored_objects (take l.object-index l.objects))

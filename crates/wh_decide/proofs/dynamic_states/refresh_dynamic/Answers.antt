@@ -1,0 +1,24 @@
+use Rattle.std.proofs.Common.{Some, None, option_map, ap, sym, ◌∙◌}
+use Rattle.wh_reply.specs.View.{refusal_view}
+use Rattle.wh_machine.specs.Dynamics.{asked_refresh, refreshed_by, refresh_dynamic}
+use Rattle.wh_decide.specs.Sight.{machine_in}
+use Rattle.wh_decide.proofs.OutcomeLemmas.{decides_as}
+use Rattle.wh_decide.proofs.DynamicLemmas.{defines_found}
+use Rattle.wh_decide.proofs.dynamic_states.refresh_dynamic.Goals as goal
+
+pub returns-in-Some : goal.returns-in-Some
+returns-in-Some c =
+    let sight = c.args.sight.now in
+    defines_found (machine_in sight) sight.session (Some (refusal_view c.in-Some.why))
+    (refresh_dynamic (machine_in sight) None c.args.id)
+    (sym (ap (option_map refusal_view) c.in-Some.is) ∙ c.refused_in_transaction.ensures)
+
+pub returns : goal.returns
+unfolding refresh_dynamic
+returns c =
+    let sight = c.args.sight.now in
+    let outcome = asked_refresh (machine_in sight).state c.args.id in
+    decides_as sight c.refreshed.result
+    (sym (defines_found (machine_in sight) sight.session None (refreshed_by (machine_in sight) outcome)
+    (sym (ap (option_map refusal_view) c.in_default.is) ∙ c.refused_in_transaction.ensures)))
+    (c.refreshed.ensures outcome c.in_ok-found.ensures)

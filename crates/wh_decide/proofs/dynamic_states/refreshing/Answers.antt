@@ -1,0 +1,23 @@
+use Rattle.std.proofs.Common.{ap, sym, ◌∙◌, subst, List}
+use Rattle.std.proofs.lemmas.List.{append-nil}
+use Rattle.std.proofs.lemmas.Result.{IfOk-weaker}
+use Rattle.wh_state.specs.Stored.{StoredObject}
+use Rattle.wh_machine.specs.Refresh.{refresh}
+use Rattle.wh_refresh.specs.Objects.{objects_in, stored_in}
+use Rattle.wh_refresh.specs.Refreshing.{besides, RefreshesAs}
+use Rattle.wh_catalog.specs.Catalog.{stored_of, state_of}
+use Rattle.wh_decide.specs.Sight.{machine_in}
+use Rattle.wh_decide.proofs.dynamic_states.refreshing.Goals as goal
+
+pub returns : goal.returns
+returns c =
+    let sight = c.args.sight.now in
+    let state = (machine_in sight).state in
+    let outcome = refresh state (besides c.args.asked state.objects c.args.id) c.args.id c.args.moment in
+    let stored = ap stored_in c.deref.ensures.value ∙ c.in_ok-objects.ensures.stored
+    ∙ append-nil (stored_of sight.catalog.now).objects in
+    let objects = ap objects_in c.deref.ensures.value ∙ c.in_ok-objects.ensures.objects
+    ∙ append-nil (state_of sight.catalog.now).objects in
+    IfOk-weaker c.refresh.result _ _
+    (λ found told. subst (λ (s : List StoredObject). RefreshesAs sight.stamp s found outcome) stored
+    (told state (sym objects))) c.refresh.ensures

@@ -1,0 +1,22 @@
+use Rattle.std.proofs.Common.{List, [], ◌∷◌, ◌++◌, ap, sym, ◌∙◌, subst}
+use Rattle.std.proofs.lemmas.Result.{IfOk-weaker}
+use Rattle.wh_state.specs.Stored.{StoredObject, object_meant}
+use Rattle.wh_machine.specs.Dynamics.{with_dynamic, asked_refresh, query_of}
+use Rattle.wh_refresh.specs.Objects.{objects_in, stored_in}
+use Rattle.wh_refresh.specs.Refreshing.{RefreshesAs}
+use Rattle.wh_catalog.specs.Catalog.{stored_of, state_of}
+use Rattle.wh_decide.specs.Sight.{machine_in}
+use Rattle.wh_decide.proofs.dynamic_tables.first_refresh.Goals as goal
+
+pub returns : goal.returns
+returns c =
+    let sight = c.args.sight.now in
+    IfOk-weaker c.refresh.result _ _
+    (λ found told. λ n is.
+    let state = with_dynamic (machine_in sight).state n (query_of n) in
+    let stored = ap stored_in c.deref.ensures.value ∙ c.in_ok-objects.ensures.stored
+    ∙ ap (λ (o : StoredObject). (stored_of sight.catalog.now).objects ++ o ∷ []) is in
+    let objects = ap objects_in c.deref.ensures.value ∙ c.in_ok-objects.ensures.objects
+    ∙ ap (λ (o : StoredObject). (state_of sight.catalog.now).objects ++ object_meant o ∷ []) is in
+    subst (λ (all : List StoredObject). RefreshesAs sight.stamp all found (asked_refresh state c.args.id)) stored
+    (told state (sym objects))) c.refresh.ensures

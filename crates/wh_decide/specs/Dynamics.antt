@@ -1,0 +1,79 @@
+-- What is asked of dynamic tables, and what is written for them.
+--     new_dynamic_in, new_stored     a new dynamic table as the file will have it
+--     stored_with                    the objects with it
+--     dynamic_change                 the change that makes it, behind so many objects
+--     new_upstream                   the dynamic tables that it will read
+--     new_limit_refusal              the first limit that it is beyond
+--     put_written                    what is written for a dynamic table of another state
+--     resumed_state, suspended_state, lag_state     states that ALTER DYNAMIC TABLE puts
+use Rattle.std.specs.Prelude.{ℕ, ◌+◌, Bool, true, false, List, [], ◌∷◌, ◌++◌, length, Option, Some, None}
+use Rattle.std.specs.Prelude.{if◌then◌else◌}
+use Rattle.std.specs.List.{list_any}
+use Rattle.wh_value.specs.declared.limit.Limit.TheVariants as limits
+use Rattle.wh_ast.specs.declared.statement.Lag.{Lag}
+use Rattle.wh_algebra.specs.Increments.{incrementable}
+use Rattle.wh_ddl_naming.specs.DynamicTables.{NewDynamicTable}
+use Rattle.wh_ddl_naming.specs.Tables.{column_names}
+use Rattle.wh_reply.specs.Reply.{Refusal, OverLimit}
+use Rattle.wh_state.specs.State.{Object, State, DynamicKind, new_object, empty_table}
+use Rattle.wh_state.specs.Dynamic.{DynamicQuery, DynamicState, Dynamic, ids_read, new_dynamic}
+use Rattle.wh_state.specs.Stored.{StoredObject}
+use Rattle.wh_state.specs.Commit.{Change, DynamicChange, SetsDynamic}
+use Rattle.wh_moment.specs.Upstream.{dynamics_of, reached_from}
+use Rattle.wh_machine.specs.Tests.{refused_if, refused_past, first_of}
+use Rattle.wh_machine.specs.Definitions.{is_long, count_refusals}
+use Rattle.wh_machine.specs.Dynamics.{seconds_of, lag_refusals, is_incremental, query_of, is_same_dynamic_state}
+
+-- ---- CREATE DYNAMIC TABLE
+
+abbrev pub new_dynamic_in : NewDynamicTable → Dynamic
+new_dynamic_in n = new_dynamic (seconds_of n.lag) (is_incremental n.mode (incrementable n.query)) (query_of n)
+
+abbrev pub new_stored : ℕ → NewDynamicTable → StoredObject
+new_stored stamp n = new_object n.name (DynamicKind (new_dynamic_in n) (empty_table n.columns stamp))
+
+abbrev pub stored_with : ℕ → List StoredObject → NewDynamicTable → List StoredObject
+stored_with stamp objects n = objects ++ new_stored stamp n ∷ []
+
+abbrev pub dynamic_change : ℕ → NewDynamicTable → DynamicChange
+dynamic_change count n = record {
+  id = count + 1;
+  name = n.name;
+  lag = seconds_of n.lag;
+  is_incremental = is_incremental n.mode (incrementable n.query);
+  query = query_of n;
+  columns = n.columns;
+}
+
+abbrev pub new_upstream : List Object → DynamicQuery → List ℕ
+new_upstream objects query = reached_from (dynamics_of objects) (length objects) (ids_read query)
+
+-- behind the tests of its refresh mode and of its lag over what it reads
+abbrev pub new_limit_refusal : State → NewDynamicTable → Option Refusal
+new_limit_refusal s n = first_of (
+    first_of (count_refusals s 0)
+    ∷ refused_if (list_any is_long (n.name ∷ column_names n.columns)) (OverLimit limits.Name)
+    ∷ refused_past limits.Columns (length n.columns)
+    ∷ refused_if n.is_wide (OverLimit limits.Output)
+    ∷ first_of (lag_refusals n.lag)
+    ∷ [])
+
+-- ---- ALTER DYNAMIC TABLE
+
+-- nothing where it is so already
+abbrev pub put_written : ℕ → DynamicState → DynamicState → List Change
+put_written id old new = if is_same_dynamic_state old new then [] else SetsDynamic id new ∷ []
+
+abbrev pub put_written_to : ℕ → (DynamicState → DynamicState) → Option Dynamic → List Change
+put_written_to id new None = []
+put_written_to id new (Some d) = put_written id d.state (new d.state)
+
+-- the failures are forgotten
+abbrev pub resumed_state : DynamicState → DynamicState
+resumed_state s = record s { is_suspended = false; failures = 0; tried = 0 }
+
+abbrev pub suspended_state : DynamicState → DynamicState
+suspended_state s = record s { is_suspended = true }
+
+abbrev pub lag_state : Lag → DynamicState → DynamicState
+lag_state lag s = record s { lag = seconds_of lag }

@@ -1,0 +1,3 @@
+pub mod Upstream
+pub mod Moment
+pub mod Rebase

@@ -1,0 +1,2 @@
+mod RefreshLemmas
+mod WalkLaws

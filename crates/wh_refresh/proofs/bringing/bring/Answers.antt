@@ -1,0 +1,125 @@
+use Rattle.std.proofs.Common.{◌≡◌, ℕ, List, Option, Some, None, option_map, refl, subst, sym, ap, ◌∙◌}
+use Rattle.std.proofs.lemmas.Option.{same_Some}
+use Rattle.wh_meaning.specs.Bag.{Bag}
+use Rattle.wh_reply.specs.Reply as reply
+use Rattle.wh_reply.specs.View.{action_view}
+use Rattle.wh_reply.specs.declared.reply.RefreshAction.{RefreshAction}
+use Rattle.wh_reply.specs.declared.reply.RefreshAction.TheVariants.{NoData, Full, Incremental}
+use Rattle.wh_state.specs.State.{Object, Table, last_rows}
+use Rattle.wh_state.specs.Dynamic.{Dynamic, DynamicState}
+use Rattle.wh_state.specs.Stored.{StoredTable, table_meant}
+use Rattle.wh_state.specs.Objects.{table_at}
+use Rattle.wh_state.specs.Moments.{evaluated_at}
+use Rattle.wh_moment.specs.Rebase.{rebase}
+use Rattle.wh_moment.specs.Moment.{brought_to}
+use Rattle.wh_dynamic.specs.View.{dynamic_of}
+use Rattle.wh_machine.specs.Refresh as machine
+use Rattle.wh_machine.specs.Refresh.{brought_by, brought_as, brought_one}
+use Rattle.wh_machine.specs.Brought.{after_all}
+use Rattle.wh_table.specs.Table.{table_of}
+use Rattle.wh_table.specs.Edited.{IsEdited}
+use Rattle.wh_refresh.specs.Objects.{objects_in, stored_in}
+use Rattle.wh_refresh.specs.Brought.{MakesRows, BringsOne}
+use Rattle.wh_refresh.specs.declared.brought.NewRows.{NewRows}
+use Rattle.wh_refresh.proofs.RefreshLemmas.{one_without, one_bare, one_by}
+use Rattle.wh_refresh.proofs.bringing.bring.Goals as goal
+
+-- where there is new data, or no moment yet, its query says what is done
+by_query : (objects : List Object) (moment id : ℕ) (d : Dynamic) (t : Table) (action : RefreshAction)
+    → (action ≡ NoData → ⊥) → brought_by objects moment id d t (action_view action)
+    ≡ option_map (λ rows. brought_as id moment d.state (action_view action) (Some (rebase (last_rows t) rows)))
+    (evaluated_at objects moment d)
+by_query objects moment id d t NoData some = absurd (some refl)
+by_query objects moment id d t Full some = refl
+by_query objects moment id d t Incremental some = refl
+
+pub returns-in_default : goal.returns-in_default
+returns-in_default c stamp bs are above none =
+    one_without stamp c.args.moment bs (objects_in c.args.objects.now) above c.args.id none (sym c.in_default.ensures)
+
+pub returns-in-NoData : goal.returns-in-NoData
+returns-in-NoData c stamp bs are above none =
+    let objects = objects_in c.args.objects.now in
+    let d = dynamic_of c.in-Some.dynamic.now in
+    let t = table_meant (table_of c.in-Some-table_at.table.now) in
+    let acts : machine.action_of (after_all stamp c.args.moment bs objects) c.args.moment d ≡ reply.NoData =
+    sym (c.action-action.ensures stamp bs are above) ∙ ap action_view c.in-NoData.is in
+    record {
+      brought = brought_as c.args.id c.args.moment d.state reply.NoData None;
+      is = one_by stamp c.args.moment bs objects above c.args.id d t none (sym c.in-Some.ensures)
+          (sym c.in-Some-table_at.ensures.meant)
+          ∙ ap (brought_by (after_all stamp c.args.moment bs objects) c.args.moment c.args.id d t) acts;
+      same = record {
+        id = refl;
+        action = sym (ap action_view c.in-NoData.is);
+        rows = tt;
+        state = sym (c.brought_to-state.ensures ∙ ap (brought_to c.args.moment) c.state.ensures);
+      };
+    }
+
+pub returns-in_default-2 : goal.returns-in_default-2
+returns-in_default-2 c stamp bs are above none =
+    let objects = objects_in c.args.objects.now in
+    let now : List Object = after_all stamp c.args.moment bs objects in
+    let d = dynamic_of c.in-Some.dynamic.now in
+    let t = table_meant (table_of c.in-Some-table_at.table.now) in
+    let nothing : evaluated_at now c.args.moment d ≡ None =
+    none_made (table_of c.in-Some-table_at.table.now) (evaluated_at now c.args.moment d)
+    (subst (λ (rows : Option NewRows). MakesRows rows (table_of c.in-Some-table_at.table.now)
+    (evaluated_at now c.args.moment d))
+    c.in_default-2.is (c.in_ok-rows.ensures stamp bs are above)) in
+    one_by stamp c.args.moment bs objects above c.args.id d t none (sym c.in-Some.ensures)
+    (sym c.in-Some-table_at.ensures.meant)
+    ∙ ap (brought_by now c.args.moment c.args.id d t) (sym (c.action-action.ensures stamp bs are above))
+    ∙ by_query now c.args.moment c.args.id d t c.action-action.result c.in_default-action.not-NoData
+    ∙ ap (option_map (λ rows. brought_as c.args.id c.args.moment d.state (action_view c.action-action.result)
+    (Some (rebase (last_rows t) rows)))) nothing
+  where
+    none_made : (t : StoredTable) (found : Option Bag) → MakesRows None t found → found ≡ None
+    none_made t None made = refl
+    none_made t (Some bag) made = absurd made
+
+pub returns : goal.returns
+returns c stamp bs are above none =
+    let stored = stored_in c.args.objects.now in
+    let objects = objects_in c.args.objects.now in
+    let now : List Object = after_all stamp c.args.moment bs objects in
+    let d = dynamic_of c.in-Some.dynamic.now in
+    let table : StoredTable = table_of c.in-Some-table_at.table.now in
+    let t = table_meant table in
+    let made = subst (λ (rows : Option NewRows). MakesRows rows table (evaluated_at now c.args.moment d))
+    c.in-Some-2.is (c.in_ok-rows.ensures stamp bs are above) in
+    let by_rows : (found : Option Bag) → evaluated_at now c.args.moment d ≡ found
+    → MakesRows (Some c.in-Some-2.rows) table found
+    → BringsOne stored (record {
+      id = c.args.id;
+      action = c.action-action.result;
+      rows = Some c.in-Some-2.rows;
+      state = c.brought_to-state.result;
+    }) (brought_one now c.args.moment c.args.id) =
+    elim [
+      | None ↦ λ same made. absurd made
+      | Some bag ↦ λ same made. record {
+        brought = brought_as c.args.id c.args.moment d.state (action_view c.action-action.result)
+            (Some (rebase (last_rows t) bag));
+        is = one_by stamp c.args.moment bs objects above c.args.id d t none (sym c.in-Some.ensures)
+            (sym c.in-Some-table_at.ensures.meant)
+            ∙ ap (brought_by now c.args.moment c.args.id d t) (sym (c.action-action.ensures stamp bs are above))
+            ∙ by_query now c.args.moment c.args.id d t c.action-action.result c.in_default-action.not-NoData
+            ∙ ap (option_map (λ rows. brought_as c.args.id c.args.moment d.state (action_view c.action-action.result)
+            (Some (rebase (last_rows t) rows)))) same;
+        same = record {
+          id = refl;
+          action = refl;
+          rows = record {
+            edited = λ other there. subst (λ (o : StoredTable). IsEdited c.in-Some-2.rows.edited
+                (rebase (last_rows t) bag) o)
+                (same_Some _ _ (c.in-Some-table_at.ensures.stored ∙ there)) made.edited;
+            plus = made.plus;
+            minus = made.minus;
+          };
+          state = sym (c.brought_to-state.ensures ∙ ap (brought_to c.args.moment) c.state.ensures);
+        };
+      }
+    ] in
+    by_rows (evaluated_at now c.args.moment d) refl made

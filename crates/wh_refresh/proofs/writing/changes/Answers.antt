@@ -1,0 +1,35 @@
+use Rattle.std.proofs.Common.{◌≡◌, ℕ, List, [], ◌∷◌, ◌++◌, map, length, refl, subst, sym, ap, ◌∙◌, arith}
+use Rattle.std.specs.Vec.Iter.{into_iter_items}
+use Rattle.std.specs.List.{flat_map}
+use Rattle.std.proofs.lemmas.List.{append-nil}
+use Rattle.wh_state.specs.Commit.{Change}
+use Rattle.wh_state.specs.Stored.{StoredObject}
+use Rattle.wh_machine.specs.Refresh as machine
+use Rattle.wh_record.specs.View.{change_of}
+use Rattle.wh_refresh.specs.Objects.{stored_in}
+use Rattle.wh_refresh.specs.Brought.{AreBrought, SaidSoFar}
+use Rattle.wh_refresh.specs.Writing.{one_written}
+use Rattle.wh_refresh.specs.declared.brought.Brought.{Brought}
+use Rattle.wh_refresh.proofs.RefreshLemmas.{all_written}
+use Rattle.wh_refresh.proofs.writing.changes.Goals as goal
+
+-- where nothing is left to say, all is said
+said : {X : Type 0} (stored : List StoredObject) (left : List Brought) (count : ℕ) (so_far : List X)
+    (says : machine.Brought → List X) (bs : List machine.Brought) → length left ≡ count → count ≡ 0
+    → SaidSoFar stored left so_far (flat_map says) bs → so_far ≡ flat_map says bs
+said stored [] count so_far says bs sized none far = none_left far.rest far.are far.is
+  where
+    none_left : (rest : List machine.Brought) → AreBrought stored [] rest → so_far ++ flat_map says rest
+        ≡ flat_map says bs
+        → so_far ≡ flat_map says bs
+    none_left [] are is = sym (append-nil so_far) ∙ is
+    none_left (b ∷ rest) are is = absurd are
+said stored (one ∷ left) count so_far says bs sized none far = absurd (grind arith)
+
+pub returns : goal.returns
+returns c stamp bs are above =
+    let stored = stored_in c.args.objects.now in
+    said stored (into_iter_items c.loop-one.one-iterator) _ (map change_of c.loop-one.changes.items)
+    (one_written stored c.args.moment) bs (sym c.loop-one.one-iterator.rest.ok.0) c.in-None.ensures.steps.0
+    (c.loop-one.invariant bs are)
+    ∙ sym (all_written stamp c.args.moment 0 bs stored stored above (λ later h. refl))

@@ -1,0 +1,108 @@
+//! What the query of a dynamic table gives over rows.
+ghost use Rattle.std.specs.Prelude.{◌≡◌, ◌∷◌, ◌++◌, [], map, option_map, OnOk, IfOk};
+ghost use Rattle.std.specs.Option.{option_map_or, option_to_list};
+ghost use Rattle.wh_meaning.specs.Query.{eval};
+ghost use Rattle.wh_naming.specs.View.{named_of};
+ghost use Rattle.wh_algebra.specs.View.{query_of as plain_query_of};
+ghost use Rattle.wh_exec.specs.Evaluation.{Evaluates, instance_of};
+ghost use Rattle.wh_state.specs.State.{at_id};
+ghost use Rattle.wh_state.specs.Bound.{named_as, names_among, query_bound};
+ghost use Rattle.wh_dynamic.specs.View.{query_of, source_of};
+ghost use Rattle.wh_refresh.specs.Objects.{objects_in};
+
+use crate::objects::object_at;
+use std::alloc::{AllocError, Global};
+use wh_algebra::{Physical, Query, Tuple};
+use wh_bag::Bag;
+use wh_bind::bind_query;
+use wh_catalog::{StoredObject, named_as};
+use wh_dynamic::{DynamicQuery, NamedSource};
+use wh_exec::{collected, evaluate};
+use wh_naming::Named;
+use wh_scalar::EvalFault;
+use wh_value::{Column, Row};
+
+/// The rows of a query over those of its sources, or None where it is undefined.
+#[tactic(auto, unfolding(wh_bind::specs::View::query_reading))]
+pub(crate) fn evaluated(
+    alloc: Global,
+    objects: &[&StoredObject],
+    query: &DynamicQuery,
+    sources: &[Vec<&Row>],
+) -> Result<Option<Bag>, AllocError>
+    ensures { IfOk result (λ found. found ≡
+        eval (query_bound (objects_in objects.now) (query_of query.now)).query
+        (instance_of sources.now)) }
+{
+    let names = names_among(alloc, objects, &query.sources)?;
+    let bound = bind_query(alloc, &names, 0, query.tree.get())?;
+    evaluated_over(alloc, &bound.get().query, sources)
+}
+
+fn evaluated_over(
+    alloc: Global,
+    query: &Query,
+    sources: &[Vec<&Row>],
+) -> Result<Option<Bag>, AllocError>
+    ensures { IfOk result (λ found. found
+        ≡ eval (plain_query_of query.now) (instance_of sources.now)) }
+{
+    match planned(alloc, query, sources) {
+        Ok(tuples) => Ok(Some(collected(alloc, tuples)?)),
+        Err(EvalFault::NumberOutOfRange) => Ok(None),
+        Err(EvalFault::OutOfMemory) => Err(AllocError),
+    }
+}
+
+// The rows of a query by the plan that carries it out as it is written.
+fn planned<'a>(
+    alloc: Global,
+    query: &Query,
+    sources: &[Vec<&'a Row>],
+) -> Result<Vec<Tuple<'a>>, EvalFault>
+    ensures { Evaluates result (eval (plain_query_of query.now) (instance_of sources.now)) }
+{
+    let plan = Physical::plain(alloc, query)?;
+    evaluate(alloc, plan.get(), sources)
+}
+
+// The objects that the query of a dynamic table names.
+fn names_among<'a>(
+    alloc: Global,
+    objects: &[&'a StoredObject],
+    sources: &'a [NamedSource],
+) -> Result<Vec<Named<'a>>, AllocError>
+    ensures { IfOk result (λ names. map named_of names.items
+        ≡ names_among (objects_in objects.now) (map source_of sources.now)) }
+{
+    let mut names = Vec::new(alloc);
+    for source in sources {
+        add_name(&mut names, objects, source)?;
+    }
+    Ok(names)
+}
+
+fn add_name<'a>(
+    names: &mut Vec<Named<'a>>,
+    objects: &[&'a StoredObject],
+    source: &'a NamedSource,
+) -> Result<(), AllocError>
+    ensures { OnOk result (map named_of names.new.items ≡ map named_of names.old.items
+        ++ option_map_or (λ o. named_as (source_of source.now) o ∷ [])
+        (at_id (objects_in objects.now) source.now.id) []) }
+{
+    let Some(named) = named(objects, source) else {
+        return Ok(());
+    };
+    names.push(named)?;
+    Ok(())
+}
+
+fn named<'a>(objects: &[&'a StoredObject], source: &'a NamedSource) -> Option<Named<'a>>
+    ensures { option_to_list (option_map named_of result)
+        ≡ option_map_or (λ o. named_as (source_of source.now) o ∷ [])
+        (at_id (objects_in objects.now) source.now.id) [] }
+{
+    let object = object_at(objects, source.id)?;
+    Some(named_as(source, object))
+}

@@ -1,0 +1,32 @@
+use Rattle.std.proofs.Common.{length, sym, ap, ◌∙◌, arith}
+use Rattle.wh_moment.specs.Upstream.{Dynamics}
+use Rattle.wh_moment.specs.Moment.{due_table}
+use Rattle.wh_machine.specs.Ticks.{refreshes}
+use Rattle.wh_dynamic.specs.View.{dynamics_in, due_of}
+use Rattle.wh_decide.specs.Sight.{machine_in}
+use Rattle.wh_decide.proofs.CatalogLemmas.{dynamics_are}
+use Rattle.wh_decide.proofs.OutcomeLemmas.{decides_as, comes_as}
+use Rattle.wh_tick.proofs.deciding.refresh_due.Goals as goal
+
+pub due_table-requires : goal.due_table-requires
+due_table-requires c = omega (arith, c.in_ok-all.ensures.bounded, ap length c.deref.ensures.value)
+
+pub returns-in-Some : goal.returns-in-Some
+returns-in-Some c =
+    let sight = c.args.sight.now in
+    comes_as sight c.scheduled_refresh.result
+    (ap (refreshes (machine_in sight))
+    (sym (ap due_of c.in-Some.is) ∙ c.in_ok-id.ensures
+    ∙ ap (λ (all : Dynamics). due_table all sight.stamp)
+    (ap dynamics_in c.deref.ensures.value ∙ c.in_ok-all.ensures.watched ∙ sym (dynamics_are sight.catalog.now))))
+    c.scheduled_refresh.ensures
+
+pub returns : goal.returns
+returns c =
+    let sight = c.args.sight.now in
+    decides_as sight c.idle.result
+    (ap (refreshes (machine_in sight))
+    (sym (ap due_of c.in-None.is) ∙ c.in_ok-id.ensures
+    ∙ ap (λ (all : Dynamics). due_table all sight.stamp)
+    (ap dynamics_in c.deref.ensures.value ∙ c.in_ok-all.ensures.watched ∙ sym (dynamics_are sight.catalog.now))))
+    c.idle.ensures

@@ -1,0 +1,3 @@
+pub mod Number
+pub mod Task
+pub mod Words

@@ -1,0 +1,9 @@
+-- totals by key: changed rows in increments, and then no data
+CREATE TABLE T(K NUMBER, V NUMBER);
+INSERT INTO T VALUES (1, 10), (2, 20);
+CREATE DYNAMIC TABLE D TARGET_LAG = '60 seconds' WAREHOUSE = W AS SELECT K, SUM(V) AS TOTAL FROM T GROUP BY K;
+INSERT INTO T VALUES (1, 5);
+!tick 47999
+!tick 48000
+SELECT * FROM D;
+!tick 96000
