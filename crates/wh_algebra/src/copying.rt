@@ -7,7 +7,7 @@ use sqlite_items::Items;
 use std::alloc::{AllocError, Global};
 use wh_scalar::Scalar;
 
-pub(crate) fn copy_scalars(alloc: Global, scalars: &[Scalar]) -> Result<Items<Scalar>, AllocError>
+pub fn copy_scalars(alloc: Global, scalars: &[Scalar]) -> Result<Items<Scalar>, AllocError>
     ensures { IfOk result (λ copies. scalars_of copies ≡ scalars_of scalars.now) }
 {
     let mut copies = Items::new(alloc);
@@ -17,7 +17,7 @@ pub(crate) fn copy_scalars(alloc: Global, scalars: &[Scalar]) -> Result<Items<Sc
     Ok(copies)
 }
 
-pub(crate) fn copy_calls(alloc: Global, calls: &[Call]) -> Result<Items<Call>, AllocError>
+pub fn copy_calls(alloc: Global, calls: &[Call]) -> Result<Items<Call>, AllocError>
     ensures { IfOk result (λ copies. calls_of copies ≡ calls_of calls.now) }
 {
     let mut copies = Items::new(alloc);

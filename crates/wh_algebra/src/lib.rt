@@ -9,6 +9,7 @@ mod plain;
 mod query;
 mod tuple;
 
+pub use copying::{copy_calls, copy_scalars};
 pub use increments::incrementable;
 pub use physical::{Operator, Physical};
 pub use query::{Call, Query};

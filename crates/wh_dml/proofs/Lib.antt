@@ -8,3 +8,5 @@ pub mod TargetLaws
 pub mod SourceLaws
 pub mod MergeLaws
 pub mod FaultLaws
+pub mod KeyedPairs
+mod Finding

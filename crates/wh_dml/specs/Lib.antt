@@ -1,3 +1,5 @@
 pub mod View
 pub mod Given
 pub mod Steps
+pub mod Keyed
+pub mod Found

@@ -1,3 +1,4 @@
+mod Found
 mod Turns
 pub mod Added
 pub mod Asked

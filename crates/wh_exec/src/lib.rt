@@ -1,6 +1,7 @@
 //! Evaluation: the rows of a query over the rows of its sources.
 #![tactic(auto)]
 
+mod buckets;
 mod collecting;
 mod columns;
 mod evaluation;
@@ -9,6 +10,7 @@ mod filter;
 mod grouping;
 mod instance;
 mod join;
+mod keys;
 mod loading;
 mod project;
 mod referring;
@@ -21,5 +23,6 @@ pub use collecting::collected;
 pub use columns::are_columns;
 pub use evaluation::evaluate;
 pub use fault::ExecFault;
+pub use keys::{key_at, places};
 pub use instance::{Given, Instance};
 pub use running::bag_of_plan;
