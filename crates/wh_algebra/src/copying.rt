@@ -7,6 +7,7 @@ use sqlite_items::Items;
 use std::alloc::{AllocError, Global};
 use wh_scalar::Scalar;
 
+/// The scalars again, in order.
 pub fn copy_scalars(alloc: Global, scalars: &[Scalar]) -> Result<Items<Scalar>, AllocError>
     ensures { IfOk result (λ copies. scalars_of copies ≡ scalars_of scalars.now) }
 {
@@ -17,6 +18,7 @@ pub fn copy_scalars(alloc: Global, scalars: &[Scalar]) -> Result<Items<Scalar>, 
     Ok(copies)
 }
 
+/// The calls again, in order.
 pub fn copy_calls(alloc: Global, calls: &[Call]) -> Result<Items<Call>, AllocError>
     ensures { IfOk result (λ copies. calls_of copies ≡ calls_of calls.now) }
 {

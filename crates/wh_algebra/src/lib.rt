@@ -5,7 +5,6 @@
 mod copying;
 mod increments;
 mod physical;
-mod plain;
 mod query;
 mod tuple;
 
