@@ -6,5 +6,6 @@ pub mod PartitionLaws
 pub mod CutLemmas
 pub mod MetaLemmas
 pub mod Rejected
+pub mod KnownHolding
 pub mod Within
 pub mod Pruned

@@ -1,6 +1,6 @@
 -- A condition that may not be TRUE by the sides of columns isn't.
 --     not_held     on rows within the sides
---     rejected     so it is rejected, where it has no arithmetic
+--     rejected     so it is rejected, where it has a value on each row
 use Rattle.std.specs.Prelude.{◌≡◌, ℕ, Bool, true, false, not, ◌&&◌, ◌||◌, if◌then◌else◌, List, Option, Some, None}
 use Rattle.std.specs.Prelude.{slice_get}
 use Rattle.std.proofs.Common.{refl, sym, ap, ◌∙◌}
@@ -19,7 +19,7 @@ use Rattle.wh_meaning.specs.Listing.{cell}
 use Rattle.wh_moves.proofs.Plain.{IsThere, plain_value, neither}
 use Rattle.wh_moves.proofs.Matched.{both_hold, tied, unless}
 use Rattle.wh_part.specs.Holding.{Sides, may_meet, may_compare_within, converse_of, may_compare, has_null, may_be_null}
-use Rattle.wh_part.specs.Holding.{may_be, IsWithin, IsRejected, Rejects}
+use Rattle.wh_part.specs.Holding.{may_be, may_hold, IsWithin, IsRejected, Rejects}
 
 -- ---- the value order
 
@@ -61,7 +61,8 @@ both true true e = (refl, refl)
 both true false e = cc
 both false d e = cc
 
-module _ (b : Sides) (x v : Value) (low : is_gt (value_cmp b.0 x) ≡ false) (high : is_gt (value_cmp x b.1) ≡ false) where
+module _ (b : Sides) (x v : Value) (low : is_gt (value_cmp b.0 x) ≡ false)
+    (high : is_gt (value_cmp x b.1) ≡ false) where
   equal_not_met : may_meet b comparisons.Equal v ≡ false → is_eq (value_cmp x v) ≡ false
   equal_not_met e = unless (is_eq (value_cmp x v)) (λ t.
       let same : x ≡ v = value-IsAntisymmetric x v (tied _ t) in
@@ -250,7 +251,8 @@ is_rejected : (found : Option Value) → IsThere found → gives_true found ≡ 
 is_rejected None there none = absurd there
 is_rejected (Some v) there none = none
 
-pub rejected : (columns : List Sides) (row : Row) (p : Scalar) → IsWithin columns row → has_arithmetic p ≡ false
-    → may_be columns p ≡ false → Rejects p row
-rejected columns row p within plain none =
-    is_rejected (val p row) (plain_value p row plain) (not_held columns row within p none)
+pub rejected : (columns : List Sides) (row : Row) (p : Scalar) → IsWithin columns row → may_hold columns p ≡ false
+    → Rejects p row
+rejected columns row p within none =
+    let h = neither (has_arithmetic p) (may_be columns p) none in
+    is_rejected (val p row) (plain_value p row h.0) (not_held columns row within p h.1)

@@ -1,9 +1,10 @@
 -- Whether a condition may be TRUE on rows of whose columns the least and the greatest value are known.
---     Sides, sides_of           both, of a column
+--     Sides, columns_of         both, of a column; those of each column
 --     may_be                    whether it may be
+--     may_hold                  whether it may be, or may have no value
 --     IsWithin                  each value of a row lies between its column's sides; NULL is the greatest value
 --     Rejects, RejectsEach      a condition has a value that isn't TRUE: on a row, and on each row of a partition
-use Rattle.std.specs.Prelude.{◌≡◌, ℕ, Bool, true, false, not, ◌&&◌, ◌||◌, List, Option, Some, None, slice_get}
+use Rattle.std.specs.Prelude.{◌≡◌, ℕ, Bool, true, false, not, ◌&&◌, ◌||◌, List, map, Option, Some, None, slice_get}
 use Rattle.std.specs.List.{All}
 use Rattle.std.specs.Ordering.{is_eq, is_lt, is_gt}
 use Rattle.wh_value.specs.Value.{Value, Row, value_cmp}
@@ -11,16 +12,20 @@ use Rattle.wh_value.specs.View.{value_of}
 use Rattle.wh_value.specs.declared.comparison.Comparison.{Comparison}
 use Rattle.wh_value.specs.declared.comparison.Comparison.TheVariants as comparisons
 use Rattle.wh_meaning.specs.Scalar.{Scalar, Const, Column, Neg, Add, Sub, Mul, Compare, And, Or, Not, IsNull}
-use Rattle.wh_meaning.specs.Scalar.{is_null, is_true, val}
+use Rattle.wh_meaning.specs.Scalar.{is_null, is_true, val, has_arithmetic}
 use Rattle.wh_meaning.specs.Listing.{cell}
 use Rattle.wh_frame.specs.Partition.{Partition}
 use Rattle.wh_part.specs.declared.meta.Bounds.{Bounds}
+use Rattle.wh_part.specs.declared.meta.PartMeta.{PartMeta}
 
 abbrev pub Sides : Type 0
 Sides = Value × Value
 
 abbrev pub sides_of : Bounds → Sides
 sides_of bounds = (value_of bounds.least, value_of bounds.greatest)
+
+abbrev pub columns_of : PartMeta → List Sides
+columns_of meta = map sides_of meta.columns.items
 
 -- ---- where a condition may be TRUE
 
@@ -71,6 +76,10 @@ may_be columns (And a b) = may_be columns a && may_be columns b
 may_be columns (Or a b) = may_be columns a || may_be columns b
 may_be columns (Not a) = true
 may_be columns (IsNull a) = may_be_null columns a
+
+-- arithmetic may leave the limit of numbers
+abbrev pub may_hold : List Sides → Scalar → Bool
+may_hold columns condition = has_arithmetic condition || may_be columns condition
 
 -- ---- rows that may be there, and rows that a condition rejects
 

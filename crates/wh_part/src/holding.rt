@@ -12,17 +12,20 @@ use wh_scalar::Scalar;
 use wh_value::{Comparison, Value, cmp_values};
 
 impl PartMeta {
+    ghost use Rattle.std.specs.Prelude.{◌≡◌};
     ghost use Rattle.std.specs.Bool.{OnFalse};
     ghost use Rattle.wh_frame.specs.Partition as machine;
     ghost use Rattle.wh_scalar.specs.View.{scalar_of};
     ghost use Rattle.wh_part.specs.Meta.{IsMetaOf};
-    ghost use Rattle.wh_part.specs.Holding.{RejectsEach};
+    ghost use Rattle.wh_part.specs.Holding as holding;
+    ghost use Rattle.wh_part.specs.Holding.{columns_of, RejectsEach};
 
     /// Whether the condition may be TRUE, or have no value, on a row of the partition. At `false` a
     /// scan passes over the partition.
     pub fn may_hold(&self, condition: &Scalar) -> bool
-        ensures { OnFalse result ((p : machine.Partition) → IsMetaOf self.now p
+        ensures rejected { OnFalse result ((p : machine.Partition) → IsMetaOf self.now p
             → RejectsEach (scalar_of condition.now) p) }
+        ensures rule { result ≡ holding.may_hold (columns_of self.now) (scalar_of condition.now) }
     {
         condition.has_arithmetic() || may_be(&self.columns, condition)
     }
