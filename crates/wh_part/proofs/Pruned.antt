@@ -1,17 +1,19 @@
 -- A query over sources that lack rows that it can do without.
 --     pruned     it gives the same
 use Rattle.std.specs.Prelude.{◌≡◌, ℕ, cond, List, [], ◌∷◌, Option, Some, None, option_map}
-use Rattle.std.proofs.Common.{refl, sym, ap, subst, ◌∙◌}
+use Rattle.std.proofs.Common.{refl, ap, ◌∙◌}
 use Rattle.std.specs.List.{AllByRecursion}
 use Rattle.wh_value.specs.Value.{Value, Row}
-use Rattle.wh_meaning.specs.Scalar.{Scalar, val, is_true, of_one, of_two}
-use Rattle.wh_meaning.specs.Bag.{Bag, no_rows, one_row, bag_of, plus, beside, gathered}
+use Rattle.wh_meaning.specs.Scalar.{Scalar, val, of_one, of_two}
+use Rattle.wh_meaning.specs.Bag.{Bag, no_rows, one_row, bag_of, plus, beside}
 use Rattle.wh_meaning.specs.Query.{Query, Scan, Filter, Project, Join, UnionAll, Group, Instance, source_in, eval}
 use Rattle.wh_meaning.specs.Query.{if_true, kept_by, filtered, projected, joined, grouped}
 use Rattle.wh_meaning.proofs.BagLaws.{no_rows-plus}
 use Rattle.wh_meaning.proofs.Gathered.{gathered-no_rows, gathered-with_row, gathered-plus, nothing-beside}
 use Rattle.wh_part.specs.Holding.{IsRejected, Rejects}
 use Rattle.wh_part.specs.Pruned.{RejectsBy, MayDrop, IsPruned}
+
+-- ---- rows that are rejected give nothing
 
 gone : (row : Row) (found : Option Value) → IsRejected found → option_map (if_true row) found ≡ Some no_rows
 gone row None e = absurd e
@@ -29,7 +31,8 @@ every : {P Q : Row → Type 0} → ((row : Row) → P row → Q row) → (rows :
 every f [] all = tt
 every f (row ∷ rows) all = (f row all.0, every f rows all.1)
 
--- what is left where a condition is tested first
+-- ---- rows that are dropped, and a condition tested first
+
 abbrev tested : Option Scalar → Option Bag → Option Bag
 tested None b = b
 tested (Some c) b = of_one (filtered c) b
@@ -63,5 +66,6 @@ module _ (old new : Instance) (dropped : ℕ → List Row)
       λ i. tested by (of_two (λ x y. Some (plus x y)) (left i) (right i))
   same by (Group q keys calls) may = ap (λ b. tested by (of_one (grouped keys calls) b)) (same None q may)
 
+-- the query gives the same without them
 pub pruned : (q : Query) (old new : Instance) → IsPruned q old new → eval q old ≡ eval q new
 pruned q old new is = same old new is.dropped is.parted None q is.may

@@ -1,5 +1,5 @@
 -- The rows of a partition lie within what is known of it.
---     within_meta
+--     within_meta     of each partition that is so described
 use Rattle.std.specs.Prelude.{◌≡◌, ℕ, zero, suc, ◌<◌, false, List, [], ◌∷◌, map, length, Some, slice_get}
 use Rattle.std.proofs.Common.{refl, sym, ap, ◌∙◌, get_or, arith}
 use Rattle.std.specs.List.{All}

@@ -73,12 +73,7 @@ fn converse_of(comparison: Comparison) -> Comparison
     }
 }
 
-fn may_compare_at(
-    columns: &[Bounds],
-    place: usize,
-    comparison: Comparison,
-    value: &Value,
-) -> bool
+fn may_compare_at(columns: &[Bounds], place: usize, comparison: Comparison, value: &Value) -> bool
     ensures { result ≡ holding.may_compare_within
         (slice_get (map sides_of columns.now) place) comparison (value_of value.now) }
 {
