@@ -1,1 +1,3 @@
 mod Held
+mod CacheLemmas
+mod OrderLemmas
