@@ -1,23 +1,24 @@
 -- What is kept is what its places spell.
 --     hit                  what is recalled is the partition at its place
---     Agrees-promoted      so after one was brought to the front, and after one was put there
---     Agrees-put
---     Within-promoted      the same of where their places lie
---     Within-put
---     stays_beside         and after the file changed behind them
+--     keeps-promoted       what a hit makes of the cache
+--     keeps-put            and a partition that was read
+--     keeps-none           and an error
+--     stays_beside         what is kept stays right where the file changes behind it
 use Rattle.std.proofs.Common.{◌≡◌, ℕ, ◌+◌, ◌-◌, ◌≤◌, Bool, true, false, ◌&&◌, ◌⊎◌, List, take, drop, nat_eq, vec_len}
-use Rattle.std.proofs.Common.{Option, Some, Contains, refl, sym, ap, subst, ◌∙◌, inl, inr, arith}
+use Rattle.std.proofs.Common.{Option, Some, Result, Ok, Err, Contains, refl, sym, ap, subst, ◌∙◌, inl, inr, arith}
 use Rattle.std.proofs.lemmas.Bool.{eqb-true}
 use Rattle.std.proofs.lemmas.List.{drop-take, take-take}
 use Rattle.std.specs.Arc.{arc_value}
-use Rattle.lru.specs.LruCache.{LruCache, promoted, put_entries}
+use Rattle.lru.specs.LruCache.{LruCache, lru_cache, promoted, put_entries}
 use Rattle.lru.proofs.CallerLemmas.{Contains-lookup, Contains-promoted, Contains-put_entries}
 use Rattle.wh_world.specs.Bytes.{part_at}
 use Rattle.wh_frame.specs.Partition.{Partition}
 use Rattle.wh_part.specs.declared.meta.PartMeta.{PartMeta}
+use Rattle.wh_fetch.specs.declared.fault.FetchFault.{FetchFault}
 use Rattle.wh_fetch.specs.declared.kept.Kept.{Kept}
 use Rattle.wh_fetch.specs.Place.{spelled, describes, IsPartAt}
-use Rattle.wh_fetch.specs.Cache.{IsKeptAs, Agrees, IsSpelledIn, Within, StaysBeside}
+use Rattle.wh_fetch.specs.Cache.{IsKeptAs, Agrees, IsSpelledIn, Keeps, StaysBeside}
+use Rattle.wh_fetch.proofs.OrderLemmas.{kept-promoted, kept-put}
 
 both : (a b : Bool) → (a && b) ≡ true → (a ≡ true) × (b ≡ true)
 both true b e = (refl, e)
@@ -42,10 +43,7 @@ hit told entries meta p agrees kept =
       described = subst (λ (q : Partition). describes meta q ≡ true) (sym kept.same) two.1;
     }
 
-pub Agrees-promoted : (told : Option (List ℕ)) (entries : List (ℕ × Kept)) (at : ℕ) → Agrees told entries
-    → Agrees told (promoted (nat_eq at) entries)
-Agrees-promoted told entries at agrees bytes is e c = agrees bytes is e (Contains-promoted (nat_eq at) entries e c)
-
+-- what is put is in the cache, or was there before
 put_place : (cache : LruCache ℕ Kept) (at : ℕ) (e : ℕ × Kept)
     → (e.0 ≡ at) ⊎ ((w : Kept) × Contains cache.entries (e.0, w) × (nat_eq at e.0 ≡ true)) → at ≡ e.0
 put_place cache at e (inl same) = sym same
@@ -54,28 +52,54 @@ put_place cache at e (inr found) = eqb-true at e.0 found.2
 put_is : (cache : LruCache ℕ Kept) (at : ℕ) (kept : Kept) (e : ℕ × Kept)
     → (e.1 ≡ kept) × ((e.0 ≡ at) ⊎ ((w : Kept) × Contains cache.entries (e.0, w) × (nat_eq at e.0 ≡ true)))
     → ◌≡◌ {A = ℕ × Kept} (at, kept) e
-put_is cache at kept e new = ap (λ (n : ℕ). (n, kept)) (put_place cache at e new.1) ∙ ap (λ (k : Kept). (e.0, k)) (sym new.0)
+put_is cache at kept e new =
+    ap (λ (n : ℕ). (n, kept)) (put_place cache at e new.1) ∙ ap (λ (k : Kept). (e.0, k)) (sym new.0)
 
-pub Agrees-put : (told : Option (List ℕ)) (cache : LruCache ℕ Kept) (at : ℕ) (kept : Kept) → Agrees told cache.entries
-    → ((bytes : List ℕ) → told ≡ Some bytes → IsSpelledIn bytes (at, kept))
-    → Agrees told (put_entries nat_eq cache at kept)
-Agrees-put told cache at kept agrees fresh bytes is e c =
+-- what holds of each that was there and of the one that is put holds of all
+each-put : (P : ℕ × Kept → Type 0) (cache : LruCache ℕ Kept) (at : ℕ) (kept : Kept)
+    → ((e : ℕ × Kept) → Contains cache.entries e → P e) → P (at, kept)
+    → (e : ℕ × Kept) → Contains (put_entries nat_eq cache at kept) e → P e
+each-put P cache at kept old fresh e c =
     elim (Contains-put_entries nat_eq cache at kept e c) [
-      | inl old ↦ agrees bytes is e old
-      | inr new ↦ subst (IsSpelledIn bytes) (put_is cache at kept e new) (fresh bytes is)
+      | inl was ↦ old e was
+      | inr new ↦ subst P (put_is cache at kept e new) fresh
     ]
 
-pub Within-promoted : (n : ℕ) (entries : List (ℕ × Kept)) (at : ℕ) → Within n entries
-    → Within n (promoted (nat_eq at) entries)
-Within-promoted n entries at h e c = h e (Contains-promoted (nat_eq at) entries e c)
+pub keeps-promoted : {A : Type 0} (told : Option (List ℕ)) (old new : LruCache ℕ Kept) (meta : PartMeta) (p : Partition)
+    (given : A) → IsKeptAs meta old.entries p → new ≡ lru_cache (promoted (nat_eq meta.at) old.entries) old.cap
+    → Keeps told old new meta (Ok given)
+keeps-promoted told old new meta p given kept is =
+    let among = Contains-promoted (nat_eq meta.at) old.entries in
+    rw is (record {
+      right = λ agrees bytes told e c. agrees bytes told e (among e c);
+      kept = kept-promoted meta.at old.entries kept.entry kept.found;
+      kept_err = tt;
+      within = λ n fits within e c. within e (among e c);
+    })
 
-pub Within-put : (n : ℕ) (cache : LruCache ℕ Kept) (at : ℕ) (kept : Kept) → at + kept.length ≤ n
-    → Within n cache.entries → Within n (put_entries nat_eq cache at kept)
-Within-put n cache at kept fits h e c =
-    elim (Contains-put_entries nat_eq cache at kept e c) [
-      | inl old ↦ h e old
-      | inr new ↦ subst (λ (x : ℕ × Kept). x.0 + x.1.length ≤ n) (put_is cache at kept e new) fits
-    ]
+pub keeps-put : {A : Type 0} (told : Option (List ℕ)) (old new : LruCache ℕ Kept) (meta : PartMeta) (kept : Kept)
+    (p : Partition) (given : A) → IsPartAt told meta p → kept.length ≡ meta.length → kept.width ≡ vec_len meta.columns
+    → arc_value kept.part ≡ p → old.cap ≡ 256 → new ≡ lru_cache (put_entries nat_eq old meta.at kept) old.cap
+    → Keeps told old new meta (Ok given)
+keeps-put told old new meta kept p given here len width part cap is =
+    rw is (record {
+      right = λ agrees bytes told.
+          each-put (IsSpelledIn bytes) old meta.at kept (agrees bytes told) (rw (len, width, part) (here.content bytes told));
+      kept = kept-put old meta.at kept cap;
+      kept_err = tt;
+      within = λ n fits within.
+          each-put (λ e. e.0 + e.1.length ≤ n) old meta.at kept within (rw len fits);
+    })
+
+pub keeps-none : {A : Type 0} (told : Option (List ℕ)) (old new : LruCache ℕ Kept) (meta : PartMeta) (fault : FetchFault)
+    (result : Result A FetchFault) → result ≡ Err fault → new ≡ old → Keeps told old new meta result
+keeps-none told old new meta fault result failed is =
+    rw (is, failed) (record {
+      right = λ right. right;
+      kept = tt;
+      kept_err = refl;
+      within = λ n fits within. within;
+    })
 
 part_of_front : (n at len : ℕ) (bytes : List ℕ) → at + len ≤ n → part_at at len (take n bytes) ≡ part_at at len bytes
 part_of_front n at len bytes fits =

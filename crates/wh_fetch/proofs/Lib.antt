@@ -1,3 +1,3 @@
 mod Held
-mod CacheLemmas
 mod OrderLemmas
+mod CacheLemmas

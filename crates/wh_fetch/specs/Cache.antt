@@ -3,14 +3,17 @@
 --     Agrees                    what is kept is what the file spells at its places
 --     brought                   the positions, the one used last first, after one more use
 --     Within                    the places lie in the first n bytes
+--     Keeps                     what a call makes of them, in a file whose bytes stay
 --     StaysBeside               what is kept stays right while these bytes stay
 use Rattle.std.specs.Prelude.{◌≡◌, ℕ, ◌+◌, ◌≤◌, Bool, true, false, ◌&&◌, nat_eq, if◌then◌else◌, List, [], ◌∷◌}
-use Rattle.std.specs.Prelude.{map, take, vec_len, Contains, Option, Some}
+use Rattle.std.specs.Prelude.{map, take, vec_len, Contains, Option, Some, Result, OnOk, OnErr}
 use Rattle.std.specs.Map.{lookup}
 use Rattle.std.specs.Arc.{arc_value}
+use Rattle.lru.specs.LruCache.{LruCache}
 use Rattle.wh_world.specs.Bytes.{part_at}
 use Rattle.wh_frame.specs.Partition.{Partition}
 use Rattle.wh_part.specs.declared.meta.PartMeta.{PartMeta}
+use Rattle.wh_fetch.specs.declared.fault.FetchFault.{FetchFault}
 use Rattle.wh_fetch.specs.declared.kept.Kept.{Kept}
 use Rattle.wh_fetch.specs.Place.{spelled, describes}
 
@@ -52,6 +55,15 @@ brought at kept = at ∷ (if stands at kept then removed at kept else take 255 k
 
 abbrev pub Within : ℕ → List (ℕ × Kept) → Type 0
 Within n entries = (e : ℕ × Kept) → Contains entries e → e.0 + e.1.length ≤ n
+
+pub record Keeps {A : Type 0} (told : Option (List ℕ)) (old new : LruCache ℕ Kept) (meta : PartMeta)
+    (result : Result A FetchFault) : Type 0 where
+  pub right : Agrees told old.entries → Agrees told new.entries
+  -- the partition is kept as the one used last
+  pub kept : OnOk result (kept_of new.entries ≡ brought meta.at (kept_of old.entries))
+  pub kept_err : OnErr result (new ≡ old)
+  -- in as many of the first bytes as before, if the partition lies there
+  pub within : (n : ℕ) → meta.at + meta.length ≤ n → Within n old.entries → Within n new.entries
 
 abbrev pub StaysBeside : Type 0
 StaysBeside = (n : ℕ) (old new : List ℕ) (entries : List (ℕ × Kept)) → Within n entries → take n new ≡ take n old

@@ -1,12 +1,11 @@
 -- What contracts say of a `DiskFetch`.
 --     told_of, faults_of        the bytes of its file, and how often it has failed
 --     Covers                    what it keeps is right, and the partition lies in front of its reach
---     Keeps                     what a call makes of the cache
 --     IsSound, IsSpoilt         no partition is found damaged; the one that was asked for is
 --     GoesOn                    a later state: nothing but reads happened, and what is kept is as right as before
 --     goes_none, goes_on        as by no call, and by one after the other
 --     still_covers, same_contents    what is covered then stays covered, with the same contents
-use Rattle.std.proofs.Common.{◌≡◌, ◌⊎◌, ℕ, ◌+◌, ◌≤◌, List, Option, Some, Result, OnOk, OnErr, Err, refl, sym, ◌∙◌, ap, subst}
+use Rattle.std.proofs.Common.{◌≡◌, ◌⊎◌, ℕ, ◌+◌, ◌≤◌, List, Option, Some, Result, Err, refl, sym, ◌∙◌, ap, subst}
 use Rattle.wh_world.specs.Told.{Rose}
 use Rattle.wh_world.specs.Calls.{next}
 use Rattle.wh_world.specs.declared.Disk.{Ghosts}
@@ -15,7 +14,7 @@ use Rattle.wh_fetch.specs.declared.fault.FetchFault.{FetchFault}
 use Rattle.wh_fetch.specs.declared.fault.FetchFault.TheVariants.{Read}
 use Rattle.wh_fetch.specs.declared.disk_fetch.DiskFetch.{DiskFetch}
 use Rattle.wh_fetch.specs.Place.{told_at, IsDamaged}
-use Rattle.wh_fetch.specs.Cache.{Agrees, Within, kept_of, brought}
+use Rattle.wh_fetch.specs.Cache.{Agrees, Within}
 use Rattle.wh_fetch.specs.Device.{OnlyRead, only_read_none, only_read_on}
 
 module _ {D : Type 0} (d : Ghosts D) where
@@ -32,15 +31,6 @@ module _ {D : Type 0} (d : Ghosts D) where
   pub record Covers (fetch : DiskFetch D) (meta : PartMeta) : Type 0 where
     pub right : IsRight fetch
     pub in_front : meta.at + meta.length ≤ fetch.reach
-
-  pub record Keeps {A : Type 0} (old new : DiskFetch D) (meta : PartMeta) (result : Result A FetchFault) : Type 0 where
-    pub right : IsRight old → IsRight new
-    -- the partition is kept as the one used last
-    pub kept : OnOk result (kept_of new.cache.entries ≡ brought meta.at (kept_of old.cache.entries))
-    pub kept_err : OnErr result (new.cache ≡ old.cache)
-    -- in as many of the first bytes as before, if the partition lies there
-    pub within : (n : ℕ) → meta.at + meta.length ≤ n → Within n old.cache.entries → Within n new.cache.entries
-    pub reach : new.reach ≡ old.reach
 
   -- where Read is answered the disk has failed
   pub record IsSound {A : Type 0} (old new : DiskFetch D) (result : Result A FetchFault) : Type 0 where

@@ -3,9 +3,9 @@ ghost use Rattle.std.specs.Prelude.{◌≡◌, ◌⊎◌, IfOk};
 ghost use Rattle.std.specs.Arc.{arc_value};
 ghost use Rattle.wh_fetch.specs.Fetch.{IsTold, Asks, ReadsOnceEach};
 ghost use Rattle.wh_fetch.specs.Place.{IsPartAt};
-ghost use Rattle.wh_fetch.specs.Cache.{IsKept};
+ghost use Rattle.wh_fetch.specs.Cache.{IsKept, Keeps};
 ghost use Rattle.wh_fetch.specs.Device.{OnlyRead, ReadsOnce, Counts};
-ghost use Rattle.wh_fetch.specs.DiskFetch.{told_of, faults_of, IsRight, Keeps, IsSound, IsSpoilt};
+ghost use Rattle.wh_fetch.specs.DiskFetch.{told_of, faults_of, IsRight, IsSound, IsSpoilt};
 
 use crate::kept::{Kept, recall};
 use crate::place::read_part;
@@ -21,8 +21,9 @@ impl<D: Disk> DiskFetch<D> {
         requires { IsRight D.Disk self.old }
         ensures found { IfOk result
             (λ given. IsPartAt (told_of D.Disk self.old) part.now (arc_value given)) }
-        ensures keeps { Keeps D.Disk self.old self.new part.now result }
+        ensures keeps { Keeps (told_of D.Disk self.old) self.old.cache self.new.cache part.now result }
         ensures asked { Asks result part.now.id self.old.asked.items self.new.asked.items }
+        ensures reach { self.new.reach ≡ self.old.reach }
         ensures hit { IsKept part.now self.old.cache.entries → self.new.disk ≡ self.old.disk }
         ensures only_read { OnlyRead D.Disk self.old.disk self.new.disk }
         ensures reads { ReadsOnceEach (D.reads self.old.disk) (D.reads self.new.disk)
@@ -43,8 +44,8 @@ impl<D: Disk> DiskFetch<D> {
     fn load(&mut self, part: &PartMeta) -> Result<Arc<Partition>, FetchFault>
         ensures found { IfOk result
             (λ given. IsPartAt (told_of D.Disk self.old) part.now (arc_value given)) }
-        ensures keeps { Keeps D.Disk self.old self.new part.now result }
-        ensures asked { self.new.asked ≡ self.old.asked }
+        ensures keeps { Keeps (told_of D.Disk self.old) self.old.cache self.new.cache part.now result }
+        ensures rest { (self.new.asked ≡ self.old.asked) × (self.new.reach ≡ self.old.reach) }
         ensures only_read { OnlyRead D.Disk self.old.disk self.new.disk }
         ensures reads { ReadsOnce D.Disk self.old.disk self.new.disk }
         ensures counts { Counts (faults_of D.Disk self.old) (faults_of D.Disk self.new) result }
@@ -87,13 +88,13 @@ impl<D: Disk> Fetch for DiskFetch<D> {
 
     ghost stays = { GoesOn D.Disk };
 
-    ghost stays_so = { goes_none D.Disk };
+    ghost stays_so = { λ fetch. goes_none _ fetch };
 
-    ghost stays_on = { goes_on D.Disk };
+    ghost stays_on = { λ first then last one two. goes_on _ first then last one two };
 
-    ghost covers_on = { still_covers D.Disk };
+    ghost covers_on = { λ first last part on here. still_covers _ first last part on here };
 
-    ghost contents_on = { λ first last part on here. same_contents D.Disk first last part on };
+    ghost contents_on = { λ first last part on here. same_contents _ first last part on };
 
     fn fetch(&mut self, part: &PartMeta) -> Result<Arc<Partition>, FetchFault> {
         self.take(part)
