@@ -4,7 +4,7 @@ ghost use Rattle.wh_world.specs.Told.{Rose};
 ghost use Rattle.wh_frame.specs.Partition.{Partition as Contents};
 ghost use Rattle.wh_part.specs.declared.meta.PartMeta.{PartMeta as Meta};
 ghost use Rattle.wh_fetch.specs.declared.fault.FetchFault.TheVariants.{Read};
-ghost use Rattle.wh_fetch.specs.Fetch.{IsTold, Asks};
+ghost use Rattle.wh_fetch.specs.Fetch.{IsTold, Asks, ReadsOnceEach};
 ghost use Rattle.wh_fetch.specs.MemFetch.{held, held_in, Stays};
 
 use crate::{Fetch, FetchFault};
@@ -62,6 +62,8 @@ impl Fetch for MemFetch {
     ghost asked = { λ fetch. fetch.asked.items };
 
     ghost faults = { λ fetch. 0 };
+
+    ghost reads = { λ fetch. 0 };
 
     ghost stays = { Stays };
 
