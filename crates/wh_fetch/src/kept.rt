@@ -38,9 +38,7 @@ pub(crate) fn recall(
 fn is_fitting(part: &PartMeta, kept: &Kept) -> bool
     ensures { result ≡ fits part.now kept.now }
 {
-    kept.length == part.length
-        && kept.width == part.columns.len()
-        && is_described(part, &kept.part)
+    kept.length == part.length && kept.width == part.columns.len() && is_described(part, &kept.part)
 }
 
 /// What is kept stays right where the file changes behind it.
