@@ -1,4 +1,5 @@
-ghost use Rattle.std.specs.Prelude.{◌≡◌, ◌≤◌, [], List, ℕ, Option, Err, length, IfOk, OnOk};
+ghost use Rattle.std.specs.Prelude.{◌≡◌, ◌≤◌, [], List, ℕ, Option, Err, length, option_map, IfOk, OnOk};
+ghost use Rattle.std.specs.Option.{option_copied};
 ghost use Rattle.std.specs.Arc.{arc_value};
 ghost use Rattle.wh_world.specs.Told.{Rose};
 ghost use Rattle.wh_frame.specs.Partition.{Partition as Contents};
@@ -39,6 +40,13 @@ impl MemFetch {
             asked: Vec::new(alloc),
         })
     }
+
+    /// The partition of a name, if it is held.
+    pub fn find(&self, id: PartId) -> Option<&Arc<Partition>>
+        ensures { option_map arc_value (option_copied result) ≡ held self.now id }
+    {
+        self.parts.get(&key(id))
+    }
 }
 
 // A name as a key.
@@ -77,7 +85,7 @@ impl Fetch for MemFetch {
 
     fn fetch(&mut self, part: &PartMeta) -> Result<Arc<Partition>, FetchFault> {
         self.asked.push(part.id)?;
-        let found = self.parts.get(&key(part.id)).unwrap();
+        let found = self.find(part.id).unwrap();
         Ok(Arc::try_clone(found)?)
     }
 
