@@ -1,12 +1,7 @@
-ghost use Rattle.std.specs.Prelude.{◌≡◌, ◌≤◌, [], List, ℕ, Option, Err, length, option_map, IfOk, OnOk};
+ghost use Rattle.std.specs.Prelude.{◌≡◌, [], option_map, IfOk};
 ghost use Rattle.std.specs.Option.{option_copied};
 ghost use Rattle.std.specs.Arc.{arc_value};
-ghost use Rattle.wh_world.specs.Told.{Rose};
-ghost use Rattle.wh_frame.specs.Partition.{Partition as Contents};
-ghost use Rattle.wh_part.specs.declared.meta.PartMeta.{PartMeta as Meta};
-ghost use Rattle.wh_fetch.specs.declared.fault.FetchFault.TheVariants.{Read};
-ghost use Rattle.wh_fetch.specs.Fetch.{IsTold, Asks, ReadsOnceEach};
-ghost use Rattle.wh_fetch.specs.MemFetch.{held, held_in, Stays};
+ghost use Rattle.wh_fetch.specs.MemFetch.{held, held_in};
 
 use crate::{Fetch, FetchFault};
 use indexmap::IndexMap;

@@ -1,9 +1,5 @@
 //! Partitions that aren't written yet, in front of those of another fetch.
-ghost use Rattle.std.specs.Prelude.{◌≡◌, ◌≤◌, List, ℕ, Option, Err, length, IfOk, OnOk};
-ghost use Rattle.std.specs.Arc.{arc_value};
-ghost use Rattle.wh_world.specs.Told.{Rose};
-ghost use Rattle.wh_fetch.specs.declared.fault.FetchFault.TheVariants.{Read};
-ghost use Rattle.wh_fetch.specs.Fetch.{IsTold, Asks, ReadsOnceEach};
+ghost use Rattle.std.specs.Prelude.{◌≡◌};
 
 use crate::{Fetch, FetchFault, MemFetch};
 use std::sync::Arc;
@@ -11,6 +7,7 @@ use wh_part::{PartId, PartMeta, Partition};
 
 /// Partitions in memory, in front of those of another fetch. It owns no memory: it notes what it is
 /// asked for in a list of its caller's, who knows afterwards what became of the fetch below.
+#[derive(Drop)]
 pub struct Overlay<'a, F> {
     held: &'a MemFetch,
     below: &'a mut F,

@@ -1,7 +1,6 @@
 //! Partitions as they are read from their places in a file.
 ghost use Rattle.std.specs.Prelude.{◌≡◌, ◌+◌, ◌<◌, List, ℕ, Some, IfOk, IfSome, IfNone};
 ghost use Rattle.wh_world.specs.Bytes.{part_at};
-ghost use Rattle.wh_part.specs.Reading.{Gives};
 ghost use Rattle.wh_fetch.specs.Place.{spelled, describes, IsPartAt, IsDamaged};
 ghost use Rattle.wh_fetch.specs.Device.{Reads};
 

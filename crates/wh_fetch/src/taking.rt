@@ -1,7 +1,7 @@
 //! A partition from what is kept, or from the disk.
 ghost use Rattle.std.specs.Prelude.{◌≡◌, ◌⊎◌, IfOk};
 ghost use Rattle.std.specs.Arc.{arc_value};
-ghost use Rattle.wh_fetch.specs.Fetch.{IsTold, Asks, ReadsOnceEach};
+ghost use Rattle.wh_fetch.specs.Fetch.{Asks, ReadsOnceEach};
 ghost use Rattle.wh_fetch.specs.Place.{IsPartAt};
 ghost use Rattle.wh_fetch.specs.Cache.{IsKept, Keeps};
 ghost use Rattle.wh_fetch.specs.Device.{OnlyRead, ReadsOnce, Counts};
