@@ -41,10 +41,10 @@ module _ {D : Type 0} (d : Ghosts D) where
   -- Read is answered, and its position is told
   pub record IsSpoilt {A : Type 0} (old new : DiskFetch D) (meta : PartMeta) (result : Result A FetchFault) : Type 0
     where
-    pub cause : IsDamaged (told_of old) (d.size old.disk) meta
-    pub answer : result ≡ Err Read
-    pub place : new.damaged ≡ Some meta.at
-    pub counted : new.spoilt ≡ next old.spoilt
+      pub cause : IsDamaged (told_of old) (d.size old.disk) meta
+      pub answer : result ≡ Err Read
+      pub place : new.damaged ≡ Some meta.at
+      pub counted : new.spoilt ≡ next old.spoilt
 
   pub record GoesOn (first last : DiskFetch D) : Type 0 where
     pub only_read : OnlyRead d first.disk last.disk

@@ -37,7 +37,8 @@ module _ {F : Type 0} (f : Ghosts F) where
     same_asked = two.same_asked ∙ one.same_asked;
   }
 
-  pub still_covers : ((first last : F) (meta : PartMeta) → f.stays first last → f.covers first meta → f.covers last meta)
+  pub still_covers : ((first last : F) (meta : PartMeta) → f.stays first last → f.covers first meta
+      → f.covers last meta)
       → (first last : Overlay F) (meta : PartMeta) → GoesOn first last → Covers first meta → Covers last meta
   still_covers on first last meta goes (inl here) =
       inl (subst (λ (m : MemFetch). IsSome (held m meta.id)) (sym goes.held) here)
@@ -52,7 +53,8 @@ module _ {F : Type 0} (f : Ghosts F) where
       ap (λ (m : MemFetch). or_else (held m meta.id) (f.contents last.below.now meta)) goes.held
       ∙ in_front (held first.held.now meta.id) here (f.contents last.below.now meta) (f.contents first.below.now meta)
     where
-      in_front : (front : Option Partition) → IsSome front → (a b : Option Partition) → or_else front a ≡ or_else front b
+      in_front : (front : Option Partition) → IsSome front → (a b : Option Partition)
+          → or_else front a ≡ or_else front b
       in_front None here a b = ap (λ (some : Bool). cond some b a) here
       in_front (Some p) here a b = refl
   same_contents on first last meta goes (inr below) =

@@ -5,8 +5,8 @@ use crate::{Fetch, FetchFault, MemFetch};
 use std::sync::Arc;
 use wh_part::{PartId, PartMeta, Partition};
 
-/// Partitions in memory, in front of those of another fetch. It owns no memory: it notes what it is
-/// asked for in a list of its caller's, who knows afterwards what became of the fetch below.
+/// Partitions in memory, in front of those of another fetch. It owns no memory: it notes what it
+/// is asked for in a list of its caller's, who knows afterwards what became of the fetch below.
 #[derive(Drop)]
 pub struct Overlay<'a, F> {
     held: &'a MemFetch,
@@ -47,9 +47,11 @@ impl<'a, F: Fetch> Fetch for Overlay<'a, F> {
 
     ghost stays_on = { λ first then last one two. goes_on _ F.stays_on first then last one two };
 
-    ghost covers_on = { λ first last part on here. still_covers _ F.covers_on first last part on here };
+    ghost covers_on = { λ first last part on here.
+        still_covers _ F.covers_on first last part on here };
 
-    ghost contents_on = { λ first last part on here. same_contents _ F.contents_on first last part on here };
+    ghost contents_on = { λ first last part on here.
+        same_contents _ F.contents_on first last part on here };
 
     fn fetch(&mut self, part: &PartMeta) -> Result<Arc<Partition>, FetchFault> {
         self.asked.push(part.id)?;

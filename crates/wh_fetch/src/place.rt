@@ -43,11 +43,7 @@ pub(crate) fn is_described(part: &PartMeta, found: &Partition) -> bool
 }
 
 // The bytes of a place. None where the file has no such place.
-#[tactic(auto, using(
-    crate::specs::Device::only_read_none,
-    crate::specs::Device::only_read_by,
-    crate::specs::Device::only_read_on
-))]
+#[tactic(auto, using(crate::specs::Device::only_read_by, crate::specs::Device::only_read_on))]
 fn read_place<D: Disk>(
     disk: &mut D,
     alloc: Global,
