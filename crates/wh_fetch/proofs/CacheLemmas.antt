@@ -43,7 +43,7 @@ hit told entries meta p agrees kept =
       described = subst (λ (q : Partition). describes meta q ≡ true) (sym kept.same) two.1;
     }
 
--- what is put is in the cache, or was there before
+-- what is in the cache after a put and wasn't there before is what was put
 put_place : (cache : LruCache ℕ Kept) (at : ℕ) (e : ℕ × Kept)
     → (e.0 ≡ at) ⊎ ((w : Kept) × Contains cache.entries (e.0, w) × (nat_eq at e.0 ≡ true)) → at ≡ e.0
 put_place cache at e (inl same) = sym same
@@ -83,16 +83,17 @@ pub keeps-put : {A : Type 0} (told : Option (List ℕ)) (old new : LruCache ℕ 
     → Keeps told old new meta (Ok given)
 keeps-put told old new meta kept p given here len width part cap is =
     rw is (record {
-      right = λ agrees bytes told.
-          each-put (IsSpelledIn bytes) old meta.at kept (agrees bytes told) (rw (len, width, part) (here.content bytes told));
+      right = λ agrees bytes told. each-put (IsSpelledIn bytes) old meta.at kept (agrees bytes told)
+          (rw (len, width, part) (here.content bytes told));
       kept = kept-put old meta.at kept cap;
       kept_err = tt;
       within = λ n fits within.
           each-put (λ e. e.0 + e.1.length ≤ n) old meta.at kept within (rw len fits);
     })
 
-pub keeps-none : {A : Type 0} (told : Option (List ℕ)) (old new : LruCache ℕ Kept) (meta : PartMeta) (fault : FetchFault)
-    (result : Result A FetchFault) → result ≡ Err fault → new ≡ old → Keeps told old new meta result
+pub keeps-none : {A : Type 0} (told : Option (List ℕ)) (old new : LruCache ℕ Kept) (meta : PartMeta)
+    (fault : FetchFault) (result : Result A FetchFault) → result ≡ Err fault → new ≡ old
+    → Keeps told old new meta result
 keeps-none told old new meta fault result failed is =
     rw (is, failed) (record {
       right = λ right. right;

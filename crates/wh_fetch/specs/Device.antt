@@ -6,7 +6,7 @@
 --     Counts             how it counts faults
 --     ReadsOnce          it reads once at most
 --     Reads              all of this
-use Rattle.std.proofs.Common.{◌≡◌, ◌⊎◌, inl, inr, ℕ, ◌+◌, ◌≤◌, List, Option, Result, OnOk, Err, refl, ◌∙◌}
+use Rattle.std.proofs.Common.{◌≡◌, ◌⊎◌, inl, inr, ℕ, ◌+◌, ◌≤◌, List, Result, OnOk, Err, refl, ◌∙◌}
 use Rattle.std.proofs.Math.Nat.{le_refl, le_trans}
 use Rattle.wh_world.specs.Told.{Rose}
 use Rattle.wh_world.specs.Crash.{NoOthers, Elapses}

@@ -5,7 +5,7 @@
 --     GoesOn                    a later state: nothing but reads happened, and what is kept is as right as before
 --     goes_none, goes_on        as by no call, and by one after the other
 --     still_covers, same_contents    what is covered then stays covered, with the same contents
-use Rattle.std.proofs.Common.{◌≡◌, ◌⊎◌, ℕ, ◌+◌, ◌≤◌, List, Option, Some, Result, Err, refl, sym, ◌∙◌, ap, subst}
+use Rattle.std.proofs.Common.{◌≡◌, ℕ, ◌+◌, ◌≤◌, List, Option, Some, Result, Err, refl, sym, ◌∙◌, ap, subst}
 use Rattle.wh_world.specs.Told.{Rose}
 use Rattle.wh_world.specs.Calls.{next}
 use Rattle.wh_world.specs.declared.Disk.{Ghosts}

@@ -4,3 +4,4 @@ pub mod Device
 pub mod Place
 pub mod Cache
 pub mod DiskFetch
+pub mod Overlay

@@ -14,8 +14,8 @@ const MOST_KEPT: usize = 256;
 #[derive(Drop)]
 pub struct DiskFetch<D> {
     pub disk: D,
-    /// The partitions that it is asked for lie in so many of the first bytes, so that what it keeps
-    /// stays right where the file changes behind these.
+    /// The partitions that it is asked for lie in so many of the first bytes, so that what it
+    /// keeps stays right where the file changes behind these.
     pub reach: u64,
     pub(crate) cache: LruCache<u64, Kept>,
     pub(crate) asked: Vec<PartId>,

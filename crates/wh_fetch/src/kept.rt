@@ -35,10 +35,12 @@ pub(crate) fn recall(
     Ok(Some(Arc::try_clone(&kept.part)?))
 }
 
-fn is_fitting(part: &PartMeta, kept: &Kept) -> bool
-    ensures { result ≡ fits part.now kept.now }
+fn is_fitting(part: &PartMeta, entry: &Kept) -> bool
+    ensures { result ≡ fits part.now entry.now }
 {
-    kept.length == part.length && kept.width == part.columns.len() && is_described(part, &kept.part)
+    entry.length == part.length
+        && entry.width == part.columns.len()
+        && is_described(part, &entry.part)
 }
 
 /// What is kept stays right where the file changes behind it.

@@ -6,6 +6,7 @@ mod fault;
 mod fetch;
 mod kept;
 mod mem_fetch;
+mod overlay;
 mod place;
 mod taking;
 
@@ -14,3 +15,4 @@ pub use fault::FetchFault;
 pub use fetch::Fetch;
 pub use kept::stays_beside;
 pub use mem_fetch::MemFetch;
+pub use overlay::Overlay;

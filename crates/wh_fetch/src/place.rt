@@ -1,7 +1,6 @@
 //! Partitions as they are read from their places in a file.
 ghost use Rattle.std.specs.Prelude.{◌≡◌, ◌+◌, ◌<◌, List, ℕ, Some, IfOk, IfSome, IfNone};
 ghost use Rattle.wh_world.specs.Bytes.{part_at};
-ghost use Rattle.wh_part.specs.Reading.{Gives};
 ghost use Rattle.wh_fetch.specs.Place.{spelled, describes, IsPartAt, IsDamaged};
 ghost use Rattle.wh_fetch.specs.Device.{Reads};
 
@@ -44,7 +43,7 @@ pub(crate) fn is_described(part: &PartMeta, found: &Partition) -> bool
 }
 
 // The bytes of a place. None where the file has no such place.
-#[tactic(auto, using(crate::specs::Device::only_read_none, crate::specs::Device::only_read_by, crate::specs::Device::only_read_on))]
+#[tactic(auto, using(crate::specs::Device::only_read_by, crate::specs::Device::only_read_on))]
 fn read_place<D: Disk>(
     disk: &mut D,
     alloc: Global,

@@ -1,7 +1,7 @@
 //! A partition from what is kept, or from the disk.
 ghost use Rattle.std.specs.Prelude.{◌≡◌, ◌⊎◌, IfOk};
 ghost use Rattle.std.specs.Arc.{arc_value};
-ghost use Rattle.wh_fetch.specs.Fetch.{IsTold, Asks, ReadsOnceEach};
+ghost use Rattle.wh_fetch.specs.Fetch.{Asks, ReadsOnceEach};
 ghost use Rattle.wh_fetch.specs.Place.{IsPartAt};
 ghost use Rattle.wh_fetch.specs.Cache.{IsKept, Keeps};
 ghost use Rattle.wh_fetch.specs.Device.{OnlyRead, ReadsOnce, Counts};
@@ -15,13 +15,14 @@ use wh_part::{PartMeta, Partition};
 use wh_world::Disk;
 
 impl<D: Disk> DiskFetch<D> {
-    /// The partition, from what is kept or from the disk. A hit, which asks for what is kept, makes
-    /// no call of the disk.
+    /// The partition, from what is kept or from the disk. A hit, which asks for what is kept,
+    /// makes no call of the disk.
     pub fn take(&mut self, part: &PartMeta) -> Result<Arc<Partition>, FetchFault>
         requires { IsRight D.Disk self.old }
         ensures found { IfOk result
             (λ given. IsPartAt (told_of D.Disk self.old) part.now (arc_value given)) }
-        ensures keeps { Keeps (told_of D.Disk self.old) self.old.cache self.new.cache part.now result }
+        ensures keeps { Keeps (told_of D.Disk self.old) self.old.cache self.new.cache
+            part.now result }
         ensures asked { Asks result part.now.id self.old.asked.items self.new.asked.items }
         ensures reach { self.new.reach ≡ self.old.reach }
         ensures hit { IsKept part.now self.old.cache.entries → self.new.disk ≡ self.old.disk }
@@ -44,7 +45,8 @@ impl<D: Disk> DiskFetch<D> {
     fn load(&mut self, part: &PartMeta) -> Result<Arc<Partition>, FetchFault>
         ensures found { IfOk result
             (λ given. IsPartAt (told_of D.Disk self.old) part.now (arc_value given)) }
-        ensures keeps { Keeps (told_of D.Disk self.old) self.old.cache self.new.cache part.now result }
+        ensures keeps { Keeps (told_of D.Disk self.old) self.old.cache self.new.cache
+            part.now result }
         ensures rest { (self.new.asked ≡ self.old.asked) × (self.new.reach ≡ self.old.reach) }
         ensures only_read { OnlyRead D.Disk self.old.disk self.new.disk }
         ensures reads { ReadsOnce D.Disk self.old.disk self.new.disk }

@@ -9,7 +9,8 @@ returns-clause-stays g c =
     record {
       only_read = take.only_read;
       reach = take.reach;
-      right = λ right. subst (λ (told : Option (List ℕ)). Agrees told kept) (sym take.only_read.bytes) (take.keeps.right right);
+      right = λ right. subst (λ (told : Option (List ℕ)). Agrees told kept) (sym take.only_read.bytes)
+          (take.keeps.right right);
       within = λ within. subst (λ (n : ℕ). Within n kept) (sym take.reach)
           (take.keeps.within c.args.self.now.reach c.requires.in_front within);
     }
