@@ -14,10 +14,10 @@ use Rattle.wh_version.specs.Lasting.{parted, is_gone_by, is_standing}
 
 -- ---- the numbers stay
 
-part_number : (place number : ℕ) (k : Lasting) → (part_one place number k).partition ≡ k.partition
-part_number place number k = pick (nat_eq k.partition.number number)
+part_number : (place number : ℕ) (k : Lasting) → (part_one place number k).filed ≡ k.filed.partition
+part_number place number k = pick (nat_eq k.filed.partition.number number)
   where
-    pick : (b : Bool) → (cond b (record k { until = min k.until place }) k).partition ≡ k.partition
+    pick : (b : Bool) → (cond b (record k { until = min k.until place }) k).partition ≡ k.filed.partition
     pick true = refl
     pick false = refl
 
@@ -38,14 +38,14 @@ parted_partitions place (n ∷ numbers) kept = parted_partitions place numbers (
 abbrev gone_from : ℕ → Lasting → Lasting
 gone_from place k = record k { until = min k.until place }
 
-other_number : (place number : ℕ) (k : Lasting) → (k.partition.number ≡ number → ⊥) → part_one place number k ≡ k
+other_number : (place number : ℕ) (k : Lasting) → (k.filed.partition.number ≡ number → ⊥) → part_one place number k ≡ k
 other_number place number k other =
-    ap (λ b. cond b (record k { until = min k.until place }) k) (ne_eqb k.partition.number number other)
+    ap (λ b. cond b (record k { until = min k.until place }) k) (ne_eqb k.filed.partition.number number other)
 
-that_number : (place number : ℕ) (k : Lasting) → k.partition.number ≡ number
+that_number : (place number : ℕ) (k : Lasting) → k.filed.partition.number ≡ number
     → part_one place number k ≡ record k { until = min k.until place }
 that_number place number k is =
-    ap (λ b. cond b (record k { until = min k.until place }) k) (eq-eqb k.partition.number number is)
+    ap (λ b. cond b (record k { until = min k.until place }) k) (eq-eqb k.filed.partition.number number is)
 
 -- a number that none has of those that are numbered from the next one on
 abbrev pub IsOff : ℕ → ℕ → List Lasting → Type 0
@@ -57,8 +57,8 @@ off_rest number next k kept (inl below) = inl (omega arith)
 off_rest number next k kept (inr above) = inr (omega arith)
 
 pub off_first : (number next : ℕ) (k : Lasting) (kept : List Lasting) → IsOff number next (k ∷ kept)
-    → k.partition.number ≡ next
-    → k.partition.number ≡ number
+    → k.filed.partition.number ≡ next
+    → k.filed.partition.number ≡ number
     → ⊥
 off_first number next k kept (inl below) here e = omega arith
 off_first number next k kept (inr above) here e = omega arith
@@ -68,7 +68,7 @@ pub not_there : (place next number : ℕ) (kept : List Lasting) → IsTrue (numb
     → map (part_one place number) kept ≡ kept
 not_there place next number [] numbers off = refl
 not_there place next number (k ∷ kept) numbers off =
-    let here : k.partition.number ≡ next = eqb-true k.partition.number next (and_parts _ _ numbers).0 in
+    let here : k.filed.partition.number ≡ next = eqb-true k.filed.partition.number next (and_parts _ _ numbers).0 in
     let rest = not_there place (next + 1) number kept (and_parts _ _ numbers).1 (off_rest number next k kept off) in
     let same = other_number place number k (off_first number next k kept off here) in
     λ i. same i ∷ rest i
@@ -78,14 +78,14 @@ pub there : (place next i : ℕ) (kept : List Lasting) (k : Lasting) → IsTrue 
     → set kept i (record k { until = min k.until place }) ≡ map (part_one place (next + i)) kept
 there place next i [] k numbers within is = absurd (omega arith)
 there place next zero (x ∷ kept) k numbers within is =
-    let here : x.partition.number ≡ next = eqb-true x.partition.number next (and_parts _ _ numbers).0 in
+    let here : x.filed.partition.number ≡ next = eqb-true x.filed.partition.number next (and_parts _ _ numbers).0 in
     let one = that_number place (next + 0) x (omega arith) in
     let rest = not_there place (next + 1) (next + 0) kept (and_parts _ _ numbers).1 (inl (omega arith)) in
     let here_one : record k { until = min k.until place } ≡ part_one place (next + 0) x =
     ap (gone_from place) is ∙ sym one in
     λ j. here_one j ∷ sym rest j
 there place next (suc i) (x ∷ kept) k numbers within is =
-    let here : x.partition.number ≡ next = eqb-true x.partition.number next (and_parts _ _ numbers).0 in
+    let here : x.filed.partition.number ≡ next = eqb-true x.filed.partition.number next (and_parts _ _ numbers).0 in
     let one = other_number place (next + suc i) x (λ e. omega arith) in
     let rest = there place (next + 1) i kept k (and_parts _ _ numbers).1 (omega arith) is in
     let number : next + 1 + i ≡ next + suc i = omega arith in
@@ -102,7 +102,7 @@ still_before early place until before = by_cases (cases_lt early until)
 
 stands_before : (early place number : ℕ) (k : Lasting) → early < place
     → stands_at early (part_one place number k) ≡ stands_at early k
-stands_before early place number k before = pick (nat_eq k.partition.number number)
+stands_before early place number k before = pick (nat_eq k.filed.partition.number number)
   where
     pick : (b : Bool) → stands_at early (cond b (record k { until = min k.until place }) k) ≡ stands_at early k
     pick true = still_before early place k.until before
@@ -110,13 +110,13 @@ stands_before early place number k before = pick (nat_eq k.partition.number numb
 
 -- what is shown of a list with one more in front
 shown : (s : Bool) (k : Lasting) (kept : List Lasting)
-    → partitions_in (cond s (k ∷ kept) kept) ≡ cond s (k.partition ∷ partitions_in kept) (partitions_in kept)
+    → partitions_in (cond s (k ∷ kept) kept) ≡ cond s (k.filed.partition ∷ partitions_in kept) (partitions_in kept)
 shown true k kept = refl
 shown false k kept = refl
 
 -- the same stand, where each stands as before and is of the same partition
 pub same_standing : (place : ℕ) (f : Lasting → Lasting) → ((k : Lasting) → stands_at place (f k) ≡ stands_at place k)
-    → ((k : Lasting) → (f k).partition ≡ k.partition) → (kept : List Lasting)
+    → ((k : Lasting) → (f k).partition ≡ k.filed.partition) → (kept : List Lasting)
     → standing_at place (map f kept) ≡ standing_at place kept
 same_standing place f stands same [] = refl
 same_standing place f stands same (k ∷ kept) =
@@ -141,8 +141,8 @@ and_true true = refl
 and_true false = refl
 
 stands_there : (place number : ℕ) (k : Lasting)
-    → stands_at place (part_one place number k) ≡ (stands_at place k && not (is_among k.partition.number (number ∷ [])))
-stands_there place number k = pick (nat_eq k.partition.number number)
+    → stands_at place (part_one place number k) ≡ (stands_at place k && not (is_among k.filed.partition.number (number ∷ [])))
+stands_there place number k = pick (nat_eq k.filed.partition.number number)
   where
     pick : (b : Bool)
         → stands_at place (cond b (record k { until = min k.until place }) k) ≡ (stands_at place k && not (b || false))
@@ -151,7 +151,7 @@ stands_there place number k = pick (nat_eq k.partition.number number)
 
 filtered : (test : Partition → Bool) (s : Bool) (k : Lasting) (kept : List Lasting)
     → filter test (partitions_in (cond s (k ∷ kept) kept))
-    ≡ cond (s && test k.partition) (k.partition ∷ filter test (partitions_in kept)) (filter test (partitions_in kept))
+    ≡ cond (s && test k.filed.partition) (k.filed.partition ∷ filter test (partitions_in kept)) (filter test (partitions_in kept))
 filtered test true k kept = refl
 filtered test false k kept = refl
 
@@ -217,7 +217,7 @@ all_later last (k ∷ kept) gone = let each = and_parts _ _ gone in
 -- parting again changes nothing of it
 one_still_gone : (last number : ℕ) (k : Lasting) → is_gone_by last k ≡ true
     → is_gone_by last (part_one last number k) ≡ true
-one_still_gone last number k gone = pick (nat_eq k.partition.number number)
+one_still_gone last number k gone = pick (nat_eq k.filed.partition.number number)
   where
     pick : (b : Bool) → is_gone_by last (cond b (record k { until = min k.until last }) k) ≡ true
     pick true = or_left _ _ (le-leb (min k.until last) last (omega arith))

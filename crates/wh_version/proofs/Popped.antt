@@ -31,10 +31,10 @@ take_exactly n xs ys all = take-append-le n xs ys (omega arith) ∙ take_all n x
 
 -- ---- at the places before, the same stand
 
-again_partition : (place : ℕ) (k : Lasting) → (stands_again place k).partition ≡ k.partition
+again_partition : (place : ℕ) (k : Lasting) → (stands_again place k).filed ≡ k.filed.partition
 again_partition place k = pick (nat_eq k.until place)
   where
-    pick : (b : Bool) → (cond b (record k { until = 18446744073709551615 }) k).partition ≡ k.partition
+    pick : (b : Bool) → (cond b (record k { until = 18446744073709551615 }) k).partition ≡ k.filed.partition
     pick true = refl
     pick false = refl
 
@@ -102,7 +102,7 @@ pub numbered_less : (place n next : ℕ) (kept : List Lasting) → IsTrue (numbe
 numbered_less place zero next kept numbers = refl
 numbered_less place (suc n) next [] numbers = refl
 numbered_less place (suc n) next (k ∷ kept) numbers =
-    let parts = and_parts (nat_eq k.partition.number next) (numbered_from (next + 1) (partitions_in kept)) numbers in
+    let parts = and_parts (nat_eq k.filed.partition.number next) (numbered_from (next + 1) (partitions_in kept)) numbers in
     and_from _ _ (ap (λ p. nat_eq p.number next) (again_partition place k) ∙ parts.0)
     (numbered_less place n (next + 1) kept parts.1)
 

@@ -21,7 +21,7 @@ use Rattle.wh_version.proofs.Parted.{parted_before, parted_there, parted_partiti
 standing_append : (place : ℕ) (xs ys : List Lasting)
     → standing_at place (xs ++ ys) ≡ standing_at place xs ++ standing_at place ys
 standing_append place xs ys =
-    ap partitions_in (filter-append (stands_at place) xs ys) ∙ map-append (λ k. k.partition) _ _
+    ap partitions_in (filter-append (stands_at place) xs ys) ∙ map-append (λ k. k.filed.partition) _ _
 
 fresh_stand : (place : ℕ) (ps : List Partition) → place < 18446744073709551615 → standing_at place (map fresh ps) ≡ ps
 fresh_stand place [] within = refl
@@ -120,14 +120,14 @@ numbered_more next (p ∷ ps) qs numbers more =
 pub more_partitions : (last : ℕ) (numbers : List ℕ) (kept : List Lasting) (added : List Partition)
     → partitions_in (parted last numbers kept ++ map fresh added) ≡ partitions_in kept ++ added
 more_partitions last numbers kept added =
-    map-append (λ k. k.partition) (parted last numbers kept) (map fresh added)
+    map-append (λ k. k.filed.partition) (parted last numbers kept) (map fresh added)
     ∙ (λ i. parted_partitions last numbers kept i ++ fresh_partitions added i)
 
 pub still_numbered : (last : ℕ) (numbers : List ℕ) (kept : List Lasting) (added : List Partition)
     → IsTrue (numbered_from 1 (partitions_in kept)) → NumberedFrom (length kept + 1) added
     → IsTrue (numbered_from 1 (partitions_in (parted last numbers kept ++ map fresh added)))
 still_numbered last numbers kept added numbered more =
-    let count = length-map kept (λ k. k.partition) in
+    let count = length-map kept (λ k. k.filed.partition) in
     let P : ℕ → Type 0 = λ n. NumberedFrom n added in
     ap (numbered_from 1) (more_partitions last numbers kept added)
     ∙ numbered_more 1 (partitions_in kept) added numbered (subst P (omega arith) more)

@@ -28,14 +28,14 @@ pub each_touched : (edits : RowEdits) (k : Lasting) (ks : List Lasting)
 each_touched edits k ks = pick (is_standing k)
   where
     by_touch : (t : Bool)
-        → cond t (k.partition ∷ touched_of edits ks) (touched_of edits ks)
-        ≡ cond t (k.partition ∷ []) [] ++ touched_of edits ks
+        → cond t (k.filed.partition ∷ touched_of edits ks) (touched_of edits ks)
+        ≡ cond t (k.filed.partition ∷ []) [] ++ touched_of edits ks
     by_touch true = refl
     by_touch false = refl
 
     pick : (s : Bool) → touched edits (partitions_in (cond s (k ∷ filter is_standing ks) (filter is_standing ks)))
         ≡ touched edits (partitions_in (cond s (k ∷ []) [])) ++ touched_of edits ks
-    pick true = by_touch (is_touched edits k.partition)
+    pick true = by_touch (is_touched edits k.filed.partition)
     pick false = refl
 
 -- ---- edits that lie apart from a partition

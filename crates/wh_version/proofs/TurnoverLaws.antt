@@ -153,7 +153,7 @@ standing_more : (place : ℕ) (xs ys : List Lasting)
     → standing_at place (xs ++ ys) ≡ standing_at place xs ++ standing_at place ys
 standing_more place xs ys =
     ap partitions_in (filter-append (stands_at place) xs ys)
-    ∙ map-append (λ k. k.partition) (filter (stands_at place) xs) (filter (stands_at place) ys)
+    ∙ map-append (λ k. k.filed.partition) (filter (stands_at place) xs) (filter (stands_at place) ys)
 
 -- one partition more
 pub standing_on : (kept : List Lasting) (place i : ℕ) (k : Lasting) (before after : List Partition)

@@ -14,7 +14,7 @@ abbrev pub stands_at : ℕ → Lasting → Bool
 stands_at place k = nat_lt place k.until
 
 abbrev pub partitions_in : List Lasting → List Partition
-partitions_in kept = map (λ k. k.partition) kept
+partitions_in kept = map (λ k. k.filed.partition) kept
 
 abbrev pub standing_at : ℕ → List Lasting → List Partition
 standing_at place kept = partitions_in (filter (stands_at place) kept)
@@ -32,7 +32,7 @@ fresh p = record { partition = p; until = 18446744073709551615 }
 
 -- gone from the place on, if it is the one of that number
 abbrev pub part_one : ℕ → ℕ → Lasting → Lasting
-part_one place number k = if nat_eq k.partition.number number then record k { until = min k.until place } else k
+part_one place number k = if nat_eq k.filed.partition.number number then record k { until = min k.until place } else k
 
 abbrev pub parted : ℕ → List ℕ → List Lasting → List Lasting
 parted place [] kept = kept

@@ -1,0 +1,37 @@
+-- Partitions whose rows stand in the file.
+--     Filed           the object, where its bytes stand, how many values its rows have, and the partition itself
+--     filed_at, partitions_at     those that references point to, and the partitions themselves
+--     IsShown, AllShown           what is told of a partition is what it was
+--     coded_filed                 so that it can be what contracts see of a struct
+use Rattle.std.specs.Prelude.{◌≡◌, ℕ, List, map, Option, Some, refl}
+use Rattle.std.specs.List.{AllByRecursion}
+use denote.Ref.{Bor}
+use Rattle.std.specs.Coded.{Coded, code_by, coded_ℕ, coded×}
+use Rattle.wh_frame.specs.Partition.{Partition, coded_partition}
+
+pub record Filed : Type 0 where
+  pub object : ℕ
+  pub at : ℕ
+  pub length : ℕ
+  pub width : ℕ
+  pub partition : Partition
+
+abbrev pub filed_at : List (Bor Filed) → List Filed
+filed_at filed = map (λ f. f.now) filed
+
+abbrev pub partitions_of : List Filed → List Partition
+partitions_of filed = map (λ f. f.partition) filed
+
+abbrev pub partitions_at : List (Bor Filed) → List Partition
+partitions_at filed = partitions_of (filed_at filed)
+
+abbrev pub IsShown : (Filed → Option Partition) → Filed → Type 0
+IsShown contents f = contents f ≡ Some f.partition
+
+abbrev pub AllShown : (Filed → Option Partition) → List Filed → Type 0
+AllShown contents filed = AllByRecursion (IsShown contents) filed
+
+abbrev pub coded_filed : Coded Filed
+coded_filed = code_by (ℕ × (ℕ × (ℕ × (ℕ × Partition)))) (coded× coded_ℕ (coded× coded_ℕ (coded× coded_ℕ (coded× coded_ℕ coded_partition))))
+    (λ f. (f.object, (f.at, (f.length, (f.width, f.partition)))))
+    (λ p. record { object = p.0; at = p.1.0; length = p.1.1.0; width = p.1.1.1.0; partition = p.1.1.1.1 }) (λ _. refl)
