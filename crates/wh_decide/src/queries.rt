@@ -2,8 +2,6 @@ ghost use Rattle.std.specs.Prelude.{◌≡◌, option_map, IfOk};
 ghost use Rattle.wh_meaning.specs.Query.{Instance, eval};
 ghost use Rattle.wh_meaning.specs.Listing.{listed};
 ghost use Rattle.wh_algebra.specs.View.{query_of};
-ghost use Rattle.wh_exec.specs.Evaluation as evaluation;
-ghost use Rattle.wh_exec.specs.Evaluation.{Evaluates};
 ghost use Rattle.wh_listing.specs.View.{keys_of};
 ghost use Rattle.wh_machine.specs.Reading.{instance_read};
 ghost use Rattle.wh_machine.specs.Statements.{selects};
@@ -17,10 +15,9 @@ use crate::reading::sources_refusal;
 use crate::sight::Sight;
 use crate::sources::{SourceSeen, rows_of, sources_seen};
 use std::alloc::{AllocError, Global};
-use wh_algebra::{Physical, Tuple};
 use wh_bind::BoundSelect;
-use wh_exec::evaluate;
 use wh_listing::listed;
+use wh_plan::answered;
 use wh_reply::{Refusal, Reply};
 use wh_scalar::EvalFault;
 use wh_value::{Row, Text};
@@ -75,23 +72,11 @@ fn rows_over(
         (eval (query_of bound.now.query) read)) }
 {
     let sources = rows_of(alloc, seen)?;
-    match planned_rows(alloc, &bound.query, &sources) {
+    match answered(alloc, &bound.query, &sources) {
         Ok(tuples) => Ok(Some(listed(alloc, &bound.keys, tuples)?)),
         Err(EvalFault::NumberOutOfRange) => Ok(None),
         Err(EvalFault::OutOfMemory) => Err(AllocError),
     }
-}
-
-// The rows of a query by the plan that carries it out as it is written.
-fn planned_rows<'a>(
-    alloc: Global,
-    query: &wh_algebra::Query,
-    sources: &[Vec<&'a Row>],
-) -> Result<Vec<Tuple<'a>>, EvalFault>
-    ensures { Evaluates result (eval (query_of query.now) (evaluation.instance_of sources.now)) }
-{
-    let plan = Physical::plain(alloc, query)?;
-    evaluate(alloc, plan.get(), sources)
 }
 
 fn copies(alloc: Global, names: &[Text]) -> Result<Vec<Text>, AllocError>

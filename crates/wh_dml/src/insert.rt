@@ -10,9 +10,9 @@ use crate::Effect;
 use crate::columns::are_all_columns;
 use std::alloc::{AllocError, Global};
 use wh_aggregate::values_on;
-use wh_algebra::{Physical, Query};
-use wh_exec::evaluate;
+use wh_algebra::Query;
 use wh_listing::listed;
+use wh_plan::answered;
 use wh_scalar::{EvalFault, Scalar};
 use wh_value::Row;
 
@@ -64,8 +64,7 @@ pub(crate) fn rows_in_order(
     ensures { GivesListed result
         (meaning.rows_in_order (eval (query_of query.now) (instance_of sources.now))) }
 {
-    let plan = Physical::plain(alloc, query)?;
-    let rows = evaluate(alloc, plan.get(), sources)?;
+    let rows = answered(alloc, query, sources)?;
     Ok(listed(alloc, &[], rows)?)
 }
 

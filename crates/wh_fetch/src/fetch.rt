@@ -5,7 +5,7 @@ ghost use Rattle.wh_frame.specs.Partition.{Partition as Contents};
 ghost use Rattle.wh_part.specs.declared.meta.PartId.{PartId};
 ghost use Rattle.wh_part.specs.declared.meta.PartMeta.{PartMeta};
 ghost use Rattle.wh_fetch.specs.declared.fault.FetchFault.TheVariants.{Read};
-ghost use Rattle.wh_fetch.specs.Fetch.{IsTold, Asks};
+ghost use Rattle.wh_fetch.specs.Fetch.{IsTold, Asks, ReadsOnceEach};
 
 use crate::FetchFault;
 use std::sync::Arc;
@@ -25,6 +25,9 @@ pub trait Fetch {
     /// How often it has failed.
     ghost faults: { Self → ℕ };
 
+    /// How often its device was read.
+    ghost reads: { Self → ℕ };
+
     /// How a later state goes with an earlier one.
     ghost stays: { Self → Self → Type 0 };
 
@@ -34,6 +37,8 @@ pub trait Fetch {
         ensures contents { IfOk result
             (λ found. IsTold (contents self.old part.now) (arc_value found)) }
         ensures asked { Asks result part.now.id (asked self.old) (asked self.new) }
+        ensures reads { ReadsOnceEach (reads self.old) (reads self.new)
+            (asked self.old) (asked self.new) }
         ensures stays { stays self.old self.new }
         ensures later { faults self.old ≤ faults self.new }
         ensures no_fault { OnOk result (faults self.new ≡ faults self.old) }

@@ -1,11 +1,7 @@
-ghost use Rattle.std.specs.Prelude.{◌≡◌, ◌≤◌, [], List, ℕ, Option, Err, length, IfOk, OnOk};
+ghost use Rattle.std.specs.Prelude.{◌≡◌, [], option_map, IfOk};
+ghost use Rattle.std.specs.Option.{option_copied};
 ghost use Rattle.std.specs.Arc.{arc_value};
-ghost use Rattle.wh_world.specs.Told.{Rose};
-ghost use Rattle.wh_frame.specs.Partition.{Partition as Contents};
-ghost use Rattle.wh_part.specs.declared.meta.PartMeta.{PartMeta as Meta};
-ghost use Rattle.wh_fetch.specs.declared.fault.FetchFault.TheVariants.{Read};
-ghost use Rattle.wh_fetch.specs.Fetch.{IsTold, Asks};
-ghost use Rattle.wh_fetch.specs.MemFetch.{held, held_in, Stays};
+ghost use Rattle.wh_fetch.specs.MemFetch.{held, held_in};
 
 use crate::{Fetch, FetchFault};
 use indexmap::IndexMap;
@@ -39,6 +35,13 @@ impl MemFetch {
             asked: Vec::new(alloc),
         })
     }
+
+    /// The partition of a name, if it is held.
+    pub fn find(&self, id: PartId) -> Option<&Arc<Partition>>
+        ensures { option_map arc_value (option_copied result) ≡ held self.now id }
+    {
+        self.parts.get(&key(id))
+    }
 }
 
 // A name as a key.
@@ -63,6 +66,8 @@ impl Fetch for MemFetch {
 
     ghost faults = { λ fetch. 0 };
 
+    ghost reads = { λ fetch. 0 };
+
     ghost stays = { Stays };
 
     ghost stays_so = { λ fetch id. refl };
@@ -75,7 +80,7 @@ impl Fetch for MemFetch {
 
     fn fetch(&mut self, part: &PartMeta) -> Result<Arc<Partition>, FetchFault> {
         self.asked.push(part.id)?;
-        let found = self.parts.get(&key(part.id)).unwrap();
+        let found = self.find(part.id).unwrap();
         Ok(Arc::try_clone(found)?)
     }
 

@@ -1,5 +1,5 @@
--- What an append leaves that was cut short.
-use Rattle.std.specs.Prelude.{◌⊎◌, ℕ, ◌-◌, List, [], ◌∷◌, ◌++◌, length}
+-- What an append leaves that was cut short, and what any append leaves.
+use Rattle.std.specs.Prelude.{◌≡◌, ◌⊎◌, ℕ, ◌-◌, List, [], ◌∷◌, ◌++◌, length, take}
 use Rattle.wh_frame.specs.File.{IsFileOf}
 use Rattle.wh_world.specs.Bytes.{written, Torn}
 
@@ -10,3 +10,7 @@ TornRecord end framed old new = Torn end (length framed) old new ⊎ Torn (end -
 -- a file of the payloads, or of the payloads and one more
 abbrev pub HasWithOrWithout : List (List ℕ) → List ℕ → List ℕ → Type 0
 HasWithOrWithout payloads payload file = IsFileOf payloads file ⊎ IsFileOf (payloads ++ payload ∷ []) file
+
+-- the first n bytes are as they were
+abbrev pub SameFront : ℕ → List ℕ → List ℕ → Type 0
+SameFront n old new = take n new ≡ take n old

@@ -2,7 +2,9 @@ use crate::{AppendFault, Journal};
 use wh_world::{Disk, Failed, Framed};
 
 impl Journal {
-    ghost use Rattle.std.specs.Prelude.{◌≡◌, ◌+◌, ◌≤◌, List, ℕ, OnOk, is_some};
+    ghost use Rattle.std.specs.Prelude.{◌≡◌, ◌+◌, ◌-◌, ◌≤◌, List, ℕ, OnOk, is_some};
+    ghost use Rattle.wh_world.specs.Told.{Told};
+    ghost use Rattle.wh_journal.specs.Torn.{SameFront};
     ghost use Rattle.wh_journal.specs.Journal.{HasRoom, end_of, need_of};
     ghost use Rattle.wh_journal.specs.Device.{Writes, IsDurable};
     ghost use Rattle.wh_journal.specs.Appending.{IsJournalOf, AppendsOver, Adds, Refuses};
@@ -18,6 +20,9 @@ impl Journal {
             AppendsOver D.Disk disk.old disk.new self.new payloads file frame.now result }
         // Over any disk.
         ensures told { OnOk result (is_some (D.bytes disk.new) ≡ is_some (D.bytes disk.old)) }
+        // All bytes in front of the gate are as they were, after a fault too.
+        ensures front { Told (SameFront (end_of self.old - 1))
+            (D.bytes disk.old) (D.bytes disk.new) }
         ensures durable { OnOk result (IsDurable D.Disk disk.new) }
         ensures writes { Writes D.Disk disk.old disk.new
             (end_of self.old + need_of frame.now) result }

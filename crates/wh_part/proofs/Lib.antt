@@ -5,3 +5,7 @@ pub mod RowNumbers
 pub mod PartitionLaws
 pub mod CutLemmas
 pub mod MetaLemmas
+pub mod Rejected
+pub mod KnownHolding
+pub mod Within
+pub mod Pruned

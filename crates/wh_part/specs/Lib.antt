@@ -1,5 +1,7 @@
 pub mod View
 pub mod Meta
+pub mod Holding
+pub mod Pruned
 pub mod Reading
 pub mod Decoding
 pub mod Laws

@@ -5,6 +5,7 @@ mod cutting;
 mod decoding;
 mod encoding;
 mod fault;
+mod holding;
 mod meta;
 mod partition;
 mod reading;

@@ -4,7 +4,7 @@ ghost use Rattle.std.specs.Option.{option_map_or, option_to_list};
 ghost use Rattle.wh_meaning.specs.Query.{eval};
 ghost use Rattle.wh_naming.specs.View.{named_of};
 ghost use Rattle.wh_algebra.specs.View.{query_of as plain_query_of};
-ghost use Rattle.wh_exec.specs.Evaluation.{Evaluates, instance_of};
+ghost use Rattle.wh_exec.specs.Evaluation.{instance_of};
 ghost use Rattle.wh_state.specs.State.{at_id};
 ghost use Rattle.wh_state.specs.Bound.{named_as, names_among, query_bound};
 ghost use Rattle.wh_dynamic.specs.View.{query_of, source_of};
@@ -12,13 +12,14 @@ ghost use Rattle.wh_refresh.specs.Objects.{objects_in};
 
 use crate::objects::object_at;
 use std::alloc::{AllocError, Global};
-use wh_algebra::{Physical, Query, Tuple};
+use wh_algebra::Query;
 use wh_bag::Bag;
 use wh_bind::bind_query;
 use wh_catalog::{StoredObject, named_as};
 use wh_dynamic::{DynamicQuery, NamedSource};
-use wh_exec::{collected, evaluate};
+use wh_exec::collected;
 use wh_naming::Named;
+use wh_plan::answered;
 use wh_scalar::EvalFault;
 use wh_value::{Column, Row};
 
@@ -47,23 +48,11 @@ fn evaluated_over(
     ensures { IfOk result (λ found. found
         ≡ eval (plain_query_of query.now) (instance_of sources.now)) }
 {
-    match planned(alloc, query, sources) {
+    match answered(alloc, query, sources) {
         Ok(tuples) => Ok(Some(collected(alloc, tuples)?)),
         Err(EvalFault::NumberOutOfRange) => Ok(None),
         Err(EvalFault::OutOfMemory) => Err(AllocError),
     }
-}
-
-// The rows of a query by the plan that carries it out as it is written.
-fn planned<'a>(
-    alloc: Global,
-    query: &Query,
-    sources: &[Vec<&'a Row>],
-) -> Result<Vec<Tuple<'a>>, EvalFault>
-    ensures { Evaluates result (eval (plain_query_of query.now) (instance_of sources.now)) }
-{
-    let plan = Physical::plain(alloc, query)?;
-    evaluate(alloc, plan.get(), sources)
 }
 
 // The objects that the query of a dynamic table names.

@@ -10,6 +10,7 @@ use Rattle.wh_journal.proofs.RecordLemmas.{lists_push, length-framed}
 use Rattle.wh_journal.proofs.WriteLemmas.{is_file_with_record}
 use Rattle.wh_journal.proofs.TornLemmas.{with_or_without, told_torn}
 use Rattle.wh_journal.proofs.CrashLemmas.{weaker}
+use Rattle.wh_journal.proofs.FrontLemmas.{told_same, told_with, told_torn as front_torn}
 use Rattle.wh_journal.proofs.journal.Journal.append.Given.{Over}
 use Rattle.wh_journal.proofs.journal.Journal.append.Goals.{After-write_record}
 use Rattle.wh_journal.proofs.journal.Journal.append.Goals as goal
@@ -69,3 +70,15 @@ returns-in-Err-clause-filed g c = λ payloads file is.
       torn = λ fault. (torn.0, torn.1, has g at payloads file is.spelled is.lists torn.0 torn.2);
       any_moment = leaves g at payloads file is.spelled is.lists is.told;
     }
+
+pub returns-in-Ok-clause-front : goal.returns-in-Ok-clause-front
+returns-in-Ok-clause-front g c =
+    told_with c.args.self.now.end c.as_slice-framed.result.now (g.D.Disk.bytes c.args.disk.now)
+    (g.D.Disk.bytes c.write_record.new.disk) (g.D.Disk.size c.args.disk.now) (g.met.D.Disk.spans c.args.disk.now)
+    c.requires.reach c.in-Ok.ensures.written
+
+pub returns-in-Err-clause-front : goal.returns-in-Err-clause-front
+returns-in-Err-clause-front g c =
+    front_torn c.args.self.now.end c.as_slice-framed.result.now (g.D.Disk.bytes c.args.disk.now)
+    (g.D.Disk.bytes c.write_record.new.disk) (g.D.Disk.size c.args.disk.now) (g.met.D.Disk.spans c.args.disk.now)
+    c.requires.reach c.in-Err.ensures.torn

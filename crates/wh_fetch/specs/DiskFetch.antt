@@ -1,0 +1,80 @@
+-- What contracts say of a `DiskFetch`.
+--     told_of, faults_of        the bytes of its file, and how often it has failed
+--     Covers                    what it keeps is right, and the partition lies in front of its reach
+--     IsSound, IsSpoilt         no partition is found damaged; the one that was asked for is
+--     GoesOn                    a later state: nothing but reads happened, and what is kept is as right as before
+--     goes_none, goes_on        as by no call, and by one after the other
+--     still_covers, same_contents    what is covered then stays covered, with the same contents
+use Rattle.std.proofs.Common.{◌≡◌, ℕ, ◌+◌, ◌≤◌, List, Option, Some, Result, Err, refl, sym, ◌∙◌, ap, subst}
+use Rattle.wh_world.specs.Told.{Rose}
+use Rattle.wh_world.specs.Calls.{next}
+use Rattle.wh_world.specs.declared.Disk.{Ghosts}
+use Rattle.wh_part.specs.declared.meta.PartMeta.{PartMeta}
+use Rattle.wh_fetch.specs.declared.fault.FetchFault.{FetchFault}
+use Rattle.wh_fetch.specs.declared.fault.FetchFault.TheVariants.{Read}
+use Rattle.wh_fetch.specs.declared.disk_fetch.DiskFetch.{DiskFetch}
+use Rattle.wh_fetch.specs.Place.{told_at, IsDamaged}
+use Rattle.wh_fetch.specs.Cache.{Agrees, Within}
+use Rattle.wh_fetch.specs.Device.{OnlyRead, only_read_none, only_read_on}
+
+module _ {D : Type 0} (d : Ghosts D) where
+  abbrev pub told_of : DiskFetch D → Option (List ℕ)
+  told_of fetch = d.bytes fetch.disk
+
+  -- faults of the disk, and partitions that were found damaged
+  abbrev pub faults_of : DiskFetch D → ℕ
+  faults_of fetch = d.faults fetch.disk + fetch.spoilt
+
+  abbrev pub IsRight : DiskFetch D → Type 0
+  IsRight fetch = Agrees (told_of fetch) fetch.cache.entries
+
+  pub record Covers (fetch : DiskFetch D) (meta : PartMeta) : Type 0 where
+    pub right : IsRight fetch
+    pub in_front : meta.at + meta.length ≤ fetch.reach
+
+  -- where Read is answered the disk has failed
+  pub record IsSound {A : Type 0} (old new : DiskFetch D) (result : Result A FetchFault) : Type 0 where
+    pub place : new.damaged ≡ old.damaged
+    pub counted : new.spoilt ≡ old.spoilt
+    pub failed : result ≡ Err Read → Rose (d.faults old.disk) (d.faults new.disk)
+
+  -- Read is answered, and its position is told
+  pub record IsSpoilt {A : Type 0} (old new : DiskFetch D) (meta : PartMeta) (result : Result A FetchFault) : Type 0
+    where
+      pub cause : IsDamaged (told_of old) (d.size old.disk) meta
+      pub answer : result ≡ Err Read
+      pub place : new.damaged ≡ Some meta.at
+      pub counted : new.spoilt ≡ next old.spoilt
+
+  pub record GoesOn (first last : DiskFetch D) : Type 0 where
+    pub only_read : OnlyRead d first.disk last.disk
+    pub reach : last.reach ≡ first.reach
+    pub right : IsRight first → IsRight last
+    pub within : Within first.reach first.cache.entries → Within last.reach last.cache.entries
+
+  pub goes_none : (fetch : DiskFetch D) → GoesOn fetch fetch
+  goes_none fetch = record {
+    only_read = only_read_none d fetch.disk;
+    reach = refl;
+    right = λ right. right;
+    within = λ within. within;
+  }
+
+  pub goes_on : (first then last : DiskFetch D) → GoesOn first then → GoesOn then last → GoesOn first last
+  goes_on first then last one two = record {
+    only_read = only_read_on d first.disk then.disk last.disk one.only_read two.only_read;
+    reach = two.reach ∙ one.reach;
+    right = λ right. two.right (one.right right);
+    within = λ within. two.within (one.within within);
+  }
+
+  pub still_covers : (first last : DiskFetch D) (meta : PartMeta) → GoesOn first last → Covers first meta
+      → Covers last meta
+  still_covers first last meta goes covers = record {
+    right = goes.right covers.right;
+    in_front = subst (λ (reach : ℕ). meta.at + meta.length ≤ reach) (sym goes.reach) covers.in_front;
+  }
+
+  pub same_contents : (first last : DiskFetch D) (meta : PartMeta) → GoesOn first last
+      → told_at (told_of last) meta ≡ told_at (told_of first) meta
+  same_contents first last meta goes = ap (λ (told : Option (List ℕ)). told_at told meta) goes.only_read.bytes
