@@ -2,10 +2,11 @@ use Rattle.std.proofs.Common.{◌≡◌, ℕ, suc, ◌+◌, ◌<◌, ◌≤◌}
 use Rattle.std.proofs.Common.{ap, sym, subst, length, get_or, arith}
 use Rattle.wh_version.specs.declared.history.History.{History}
 use Rattle.wh_version.specs.declared.mark.VersionMark.{VersionMark}
-use Rattle.wh_version.specs.Edits.{partitions_at}
+use Rattle.wh_filed.specs.Filed.{filed_at, partitions_at}
 use Rattle.wh_version.specs.History.{marks_of}
 use Rattle.wh_version.proofs.ArrivalLaws.{count_versions, before_grows}
 use Rattle.wh_version.proofs.FrontLaws.{FrontUpTo, Grown, grown_on, front_longer, front_ends}
+use Rattle.wh_version.proofs.Kept.{among_more}
 use Rattle.wh_version.proofs.LastUpTo.{mark_within}
 use Rattle.wh_version.proofs.history.History.marked_front.Goals as goal
 use Rattle.wh_version.proofs.history.History.marked_front.Goals.{After-mark-mark}
@@ -31,9 +32,9 @@ module _ (c : After-mark-mark) where
   few =
       omega (arith, counted, mark_within 0 (marks_of h) (length h.kept.items) c.loop-place.place h.first h.marks within)
 
-pub returns-then-stamp-mark : goal.returns-then-stamp-mark
-returns-then-stamp-mark c =
-    let m = (goal.at.returns-then-stamp-mark c).After-mark-mark in
+pub returns-then-stamp-mark-clause-came : goal.returns-then-stamp-mark-clause-came
+returns-then-stamp-mark-clause-came c =
+    let m = (goal.at.returns-then-stamp-mark-clause-came c).After-mark-mark in
     let at = c.loop-place in
     front_ends c.args.stamp (h m).kept.items (marks_of (h m)) (h m).first at.place at.before
     (partitions_at at.came.items) (within m)
@@ -45,7 +46,7 @@ index-requires c = omega (arith, c.loop-index-test.true, few (goal.at.index-requ
 pub put_standing-requires : goal.put_standing-requires
 put_standing-requires c =
     let few = few (goal.at.put_standing-requires c).After-mark-mark in
-    omega (arith, c.loop-index-test.true, few, c.loop-index.invariant.1, c.loop-index.invariant.2)
+    omega (arith, c.loop-index-test.true, few, c.loop-index.invariant.1, c.loop-index.invariant.2.0)
 
 pub loop-index-preserved : goal.loop-index-preserved
 loop-index-preserved c =
@@ -56,7 +57,10 @@ loop-index-preserved c =
           (partitions_at c.put_standing.new.found.items) (omega (arith, c.loop-index-test.true, few))
           c.index.ensures c.put_standing.ensures.items at.invariant.0,
       omega (arith, c.put_standing.ensures.length, at.invariant.1),
-      omega (arith, c.put_standing.ensures.capacity, at.invariant.2),
+      omega (arith, c.put_standing.ensures.capacity, at.invariant.2.0),
+      among_more c.args.self.now.kept.items at.index c.index.result.now (filed_at at.came.items)
+          (filed_at c.put_standing.new.found.items) (omega (arith, c.loop-index-test.true, few)) c.index.ensures
+          c.put_standing.ensures.among at.invariant.2.1,
     )
 
 pub loop-place-preserved : goal.loop-place-preserved
