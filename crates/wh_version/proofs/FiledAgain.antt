@@ -19,11 +19,6 @@ count_filed h =
     next_last h.first h.later.items
     ∙ ap (λ n. n + 1) (counts_all 0 h.first h.later.items (length h.kept.items) h.marks ∙ sym (length_filed h.kept.items))
 
-pub filed_all : (h : History) → filed_of h ≡ take (next_in (nexts_of h) - 1) (filed_of h)
-filed_all h =
-    let count = count_filed h in
-    sym (take_all (next_in (nexts_of h) - 1) (filed_of h) (omega (arith, count)))
-
 all_again : (place : ℕ) (kept : List Lasting) → filed_in (map (stands_again place) kept) ≡ filed_in kept
 all_again place [] = refl
 all_again place (k ∷ kept) = λ i. again_filed place k i ∷ all_again place kept i

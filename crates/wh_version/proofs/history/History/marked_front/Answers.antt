@@ -46,7 +46,7 @@ index-requires c = omega (arith, c.loop-index-test.true, few (goal.at.index-requ
 pub put_standing-requires : goal.put_standing-requires
 put_standing-requires c =
     let few = few (goal.at.put_standing-requires c).After-mark-mark in
-    omega (arith, c.loop-index-test.true, few, c.loop-index.invariant.1, c.loop-index.invariant.2.0)
+    omega (arith, c.loop-index-test.true, few, c.loop-index.invariant.1, c.loop-index.invariant.2)
 
 pub loop-index-preserved : goal.loop-index-preserved
 loop-index-preserved c =
@@ -57,10 +57,10 @@ loop-index-preserved c =
           (partitions_at c.put_standing.new.found.items) (omega (arith, c.loop-index-test.true, few))
           c.index.ensures c.put_standing.ensures.items at.invariant.0,
       omega (arith, c.put_standing.ensures.length, at.invariant.1),
-      omega (arith, c.put_standing.ensures.capacity, at.invariant.2.0),
+      omega (arith, c.put_standing.ensures.capacity, at.invariant.2),
       among_more c.args.self.now.kept.items at.index c.index.result.now (filed_at at.came.items)
           (filed_at c.put_standing.new.found.items) (omega (arith, c.loop-index-test.true, few)) c.index.ensures
-          c.put_standing.ensures.among at.invariant.2.1,
+          c.put_standing.ensures.among at.invariant.3,
     )
 
 pub loop-place-preserved : goal.loop-place-preserved
@@ -85,4 +85,5 @@ loop-place-preserved c =
       subst (λ place. Longer place c.mark-mark.result) more (subst (Longer (suc at.place)) (sym is_mark) longer),
       omega (arith, c.loop-index.invariant.1, last, partitions),
       c.loop-index.invariant.2,
+      c.loop-index.invariant.3,
     )

@@ -19,3 +19,7 @@ returns-clause-standing c =
     ∙ (λ i. Some (version_by h.kept.items (place i) (get_or (h.first ∷ h.later.items) (same i) h.first)))))
     ∙ sym (standing_behind (version_by h.kept.items 0 h.first) (first_empty h) h.starts_empty
     (versions_by h.kept.items 1 h.later.items))
+
+pub returns-clause-among : goal.returns-clause-among
+returns-clause-among c contents shown =
+    c.in_ok-standing.ensures.among contents (c.version-last.ensures.among contents shown)
