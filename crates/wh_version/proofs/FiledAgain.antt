@@ -17,7 +17,8 @@ pub count_filed : (h : History) → next_in (nexts_of h) ≡ length (filed_of h)
 unfolding nexts_of
 count_filed h =
     next_last h.first h.later.items
-    ∙ ap (λ n. n + 1) (counts_all 0 h.first h.later.items (length h.kept.items) h.marks ∙ sym (length_filed h.kept.items))
+    ∙ ap (λ n. n + 1)
+    (counts_all 0 h.first h.later.items (length h.kept.items) h.marks ∙ sym (length_filed h.kept.items))
 
 all_again : (place : ℕ) (kept : List Lasting) → filed_in (map (stands_again place) kept) ≡ filed_in kept
 all_again place [] = refl

@@ -5,8 +5,8 @@
 --     front_among, filtered_among         the first ones, and those that pass a test, are among them
 --     picked_among, behind_among          so are those of the first ones that pass it, and what comes behind others
 --     among_more                          so are others with one more that is kept
-use Rattle.std.proofs.Common.{◌≡◌, ℕ, zero, suc, ◌<◌, Bool, true, false, cond, List, [], ◌∷◌, ◌++◌, length, filter, take}
-use Rattle.std.proofs.Common.{get_or, Option, sym, subst, ap, ◌∙◌, arith}
+use Rattle.std.proofs.Common.{◌≡◌, ℕ, zero, suc, ◌<◌, Bool, true, false, cond, List, [], ◌∷◌, ◌++◌, length, filter}
+use Rattle.std.proofs.Common.{take, get_or, Option, sym, subst, ap, ◌∙◌, arith}
 use Rattle.std.proofs.lemmas.List.{length-map, map-append}
 use Rattle.std.proofs.lemmas.List.Elements.{filter-append}
 use Rattle.wh_frame.specs.Partition.{Partition}

@@ -140,7 +140,8 @@ and_true true = refl
 and_true false = refl
 
 stands_there : (place number : ℕ) (k : Lasting)
-    → stands_at place (part_one place number k) ≡ (stands_at place k && not (is_among k.filed.partition.number (number ∷ [])))
+    → stands_at place (part_one place number k)
+    ≡ (stands_at place k && not (is_among k.filed.partition.number (number ∷ [])))
 stands_there place number k = pick (nat_eq k.filed.partition.number number)
   where
     pick : (b : Bool)
@@ -150,7 +151,8 @@ stands_there place number k = pick (nat_eq k.filed.partition.number number)
 
 filtered : (test : Partition → Bool) (s : Bool) (k : Lasting) (kept : List Lasting)
     → filter test (partitions_in (cond s (k ∷ kept) kept))
-    ≡ cond (s && test k.filed.partition) (k.filed.partition ∷ filter test (partitions_in kept)) (filter test (partitions_in kept))
+    ≡ cond (s && test k.filed.partition) (k.filed.partition ∷ filter test (partitions_in kept))
+    (filter test (partitions_in kept))
 filtered test true k kept = refl
 filtered test false k kept = refl
 

@@ -102,7 +102,8 @@ pub numbered_less : (place n next : ℕ) (kept : List Lasting) → IsTrue (numbe
 numbered_less place zero next kept numbers = refl
 numbered_less place (suc n) next [] numbers = refl
 numbered_less place (suc n) next (k ∷ kept) numbers =
-    let parts = and_parts (nat_eq k.filed.partition.number next) (numbered_from (next + 1) (partitions_in kept)) numbers in
+    let parts = and_parts (nat_eq k.filed.partition.number next) (numbered_from (next + 1) (partitions_in kept))
+    numbers in
     and_from _ _ (ap (λ f. nat_eq f.partition.number next) (again_filed place k) ∙ parts.0)
     (numbered_less place n (next + 1) kept parts.1)
 

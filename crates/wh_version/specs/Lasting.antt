@@ -4,8 +4,8 @@
 --     gone_filed, gone_between       those that stand in one, and are gone from a later one
 --     versions_by      the versions of marks
 --     numbered_from, count_to, lies_in_front, is_gone_by     what always holds of a table's marks and partitions
-use Rattle.std.specs.Prelude.{ℕ, ◌+◌, Bool, true, false, ◌&&◌, ◌||◌, List, [], ◌∷◌, map, filter, take, nat_lt, nat_le, nat_eq}
-use Rattle.std.specs.Prelude.{min, if◌then◌else◌}
+use Rattle.std.specs.Prelude.{ℕ, ◌+◌, Bool, true, false, ◌&&◌, ◌||◌, List, [], ◌∷◌, map, filter, take}
+use Rattle.std.specs.Prelude.{nat_lt, nat_le, nat_eq, min, if◌then◌else◌}
 use Rattle.wh_frame.specs.Partition.{Partition}
 use Rattle.wh_filed.specs.Filed.{Filed, partitions_filed}
 use Rattle.wh_state.specs.Stored.{StoredVersion}

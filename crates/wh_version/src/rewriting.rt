@@ -22,6 +22,7 @@ impl History {
     ghost use Rattle.std.specs.Prelude.{◌≡◌, ◌+◌, ◌≤◌, length, nat_le, is_some, IfOk, IfSome};
     ghost use Rattle.wh_value.specs.Limit.{bound};
     ghost use Rattle.wh_filed.specs.Filed.{filed_at, partitions_at, contents_at, AreAmong};
+    ghost use Rattle.wh_state.specs.Commit.{NumberedFrom};
     ghost use Rattle.wh_state.specs.Edits.{numbers_gone, partitions_made};
     ghost use Rattle.wh_version.specs.Edits.{edits_in, HaveTouched};
     ghost use Rattle.wh_version.specs.History.{versions_of, filed_of, nexts_of};
@@ -44,7 +45,7 @@ impl History {
     }
 
     /// What edits make of the last version, by the cutting rule, whatever numbers come out. The
-    /// partitions at hand are the candidates.
+    /// partitions at hand are the candidates; whatever they are, what comes out can be pushed.
     pub fn edited(
         &self,
         alloc: Global,
@@ -59,6 +60,8 @@ impl History {
             → IfOk result (λ r. r.added.items
             ≡ partitions_made (next_in (nexts_of self.now)) next_row (edits_in edits)
             (standing_in (versions_of self.now))) }
+        ensures numbers { IfOk result (λ r.
+            NumberedFrom (next_in (nexts_of self.now)) r.added.items) }
     {
         let touched = touched_among(alloc, &edits.rows, loaded)?;
         let removed = numbers(alloc, &touched)?;
@@ -88,6 +91,8 @@ impl History {
             → IfOk result (λ found. IfSome found (λ r. r.added.items
             ≡ partitions_made (next_in (nexts_of self.now)) next_row (edits_in edits)
             (standing_in (versions_of self.now)))) }
+        ensures numbers { IfOk result (λ found. IfSome found (λ r.
+            NumberedFrom (next_in (nexts_of self.now)) r.added.items)) }
     {
         let rewritten = self.edited(alloc, edits, next_row, loaded)?;
         let behind = self.next_partition() + rewritten.added.len() as u64;

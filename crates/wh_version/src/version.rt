@@ -110,7 +110,11 @@ ghost use Rattle.wh_filed.specs.Filed.{filed_at};
 ghost use Rattle.wh_version.specs.Lasting.{standing_filed};
 
 // The partitions that stand in the version at a place.
-fn standing_at(place: usize, kept: &[Lasting], alloc: Global) -> Result<Vec<&FiledPartition>, AllocError>
+fn standing_at(
+    place: usize,
+    kept: &[Lasting],
+    alloc: Global,
+) -> Result<Vec<&FiledPartition>, AllocError>
     ensures { IfOk result (λ found. filed_at found.items ≡ standing_filed place kept.now) }
 {
     let mut found = Vec::new(alloc);

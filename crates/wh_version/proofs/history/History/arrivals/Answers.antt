@@ -14,5 +14,5 @@ returns-clause-came c =
     let came = partitions_at arrivals.came.items in
     arrival_behind (version_by h.kept.items 0 h.first) (first_empty h) h.starts_empty
     (versions_by h.kept.items 1 h.later.items) c.args.place arrivals.stamp came
-    (subst (λ place. IsArrival arrivals.stamp came (take place (marked_of h)) (drop place (marked_of h))) c.mark_place.ensures.place
-    c.in_ok-arrivals.ensures.came)
+    (subst (λ place. IsArrival arrivals.stamp came (take place (marked_of h)) (drop place (marked_of h)))
+    c.mark_place.ensures.place c.in_ok-arrivals.ensures.came)

@@ -32,8 +32,8 @@ returns-clause-came c =
     let behind : standing_at place (take (partitions_before (marks_of h) h.first place) h.kept.items) ++ came
     ≡ standing_at place (take (get_or (marks_of h) place h.first).partitions h.kept.items) =
     (λ i. standing_at place (take (sym c.partitions_before.ensures i) (sym c.deref.ensures.value i)) ++ came)
-    ∙ joined (standing_filed place (take c.partitions_before.result c.deref.result.now)) (filed_at c.in_ok-came.came.items)
-    _ c.in_ok-came.ensures
+    ∙ joined (standing_filed place (take c.partitions_before.result c.deref.result.now))
+    (filed_at c.in_ok-came.came.items) _ c.in_ok-came.ensures
     ∙ (λ i. standing_at place (take (mark i).partitions (c.deref.ensures.value i))) in
     subst (λ (m : VersionMark). IsArrival m.stamp came (take place (marked_of h)) (drop place (marked_of h)))
     (sym mark) (arrived h.kept.items (marks_of h) h.first place came c.requires behind)

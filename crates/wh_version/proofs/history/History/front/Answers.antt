@@ -21,7 +21,8 @@ returns-then-not-self-clause-came c =
 -- the mark that is no version is one of those at the front
 module _ (c : Else-not-self) where
   less : (0 < c.in_ok-front.front.count) × IsFront c.args.stamp (c.in_ok-front.front.count - 1)
-      (partitions_at c.in_ok-front.front.came.items) (versions_by c.args.self.now.kept.items 1 c.args.self.now.later.items)
+      (partitions_at c.in_ok-front.front.came.items)
+      (versions_by c.args.self.now.kept.items 1 c.args.self.now.later.items)
   less =
       let h = c.args.self.now in
       front_behind (version_by h.kept.items 0 h.first) (first_empty h) (versions_by h.kept.items 1 h.later.items)

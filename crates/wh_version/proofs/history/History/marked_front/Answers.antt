@@ -12,7 +12,10 @@ use Rattle.wh_version.proofs.history.History.marked_front.Goals as goal
 use Rattle.wh_version.proofs.history.History.marked_front.Goals.{After-mark-mark}
 
 pub mark-mark-requires : goal.mark-mark-requires
-mark-mark-requires c = omega (arith, c.loop-place-test.true, c.mark_count-count.ensures, count_versions c.args.self.now.kept.items 0 (marks_of c.args.self.now))
+mark-mark-requires c =
+    let h = c.args.self.now in
+    let many = count_versions h.kept.items 0 (marks_of h) in
+    omega (arith, c.loop-place-test.true, c.mark_count-count.ensures, many)
 
 module _ (c : After-mark-mark) where
   abbrev h : History
@@ -22,7 +25,9 @@ module _ (c : After-mark-mark) where
   mark = get_or (marks_of h) c.loop-place.place h.first
 
   within : c.loop-place.place < length (marks_of h)
-  within = omega (arith, c.loop-place-test.true, c.mark_count-count.ensures, count_versions c.args.self.now.kept.items 0 (marks_of c.args.self.now))
+  within =
+      let many = count_versions h.kept.items 0 (marks_of h) in
+      omega (arith, c.loop-place-test.true, c.mark_count-count.ensures, many)
 
   counted : c.mark-mark.result.partitions ≡ mark.partitions
   counted = ap (λ (m : VersionMark). m.partitions) c.mark-mark.ensures

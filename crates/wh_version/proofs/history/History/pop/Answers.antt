@@ -49,8 +49,8 @@ module _ (c : After-stand_again) where
       ∙ c.stand_again.ensures
       ∙ ap (map (stands_again last)) (c.deref_mut.ensures.value ∙ c.truncate-2.ensures.items)
 
-  last_is : c.last_mark-mark.result
-      ≡ get_or (c.args.self.now.first ∷ c.truncate.new.self.items) (length c.truncate.new.self.items) c.args.self.now.first
+  last_is : c.last_mark-mark.result ≡ get_or (c.args.self.now.first ∷ c.truncate.new.self.items)
+      (length c.truncate.new.self.items) c.args.self.now.first
   last_is =
       c.last_mark-mark.ensures
       ∙ ap (λ ms. get_or (c.args.self.now.first ∷ ms) (length ms) c.args.self.now.first) c.deref.ensures.value
