@@ -1,8 +1,11 @@
 -- Partitions whose rows stand in the file.
---     Filed           the object, where its bytes stand, how many values its rows have, and the partition itself
+--     Filed             the object, where its bytes stand, how many values its rows have, and the partition itself
+--     partitions_filed  the partitions themselves
 --     filed_at, partitions_at     those that references point to, and the partitions themselves
---     IsShown, AllShown           what is told of a partition is what it was
---     coded_filed                 so that it can be what contracts see of a struct
+--     contents_at       the partitions that references to partitions at hand point to
+--     IsShown, AllShown what is told of a partition is what it was
+--     AreAmong          each of some is one of others: where what is told of the others is right, so it is of these
+--     coded_filed       so that it can be what contracts see of a struct
 use Rattle.std.specs.Prelude.{◌≡◌, ℕ, List, map, Option, Some, refl}
 use Rattle.std.specs.List.{AllByRecursion}
 use denote.Ref.{Bor}
@@ -16,14 +19,19 @@ pub record Filed : Type 0 where
   pub width : ℕ
   pub partition : Partition
 
+abbrev pub partitions_filed : List Filed → List Partition
+partitions_filed filed = map (λ f. f.partition) filed
+
 abbrev pub filed_at : List (Bor Filed) → List Filed
 filed_at filed = map (λ f. f.now) filed
 
-abbrev pub partitions_of : List Filed → List Partition
-partitions_of filed = map (λ f. f.partition) filed
-
 abbrev pub partitions_at : List (Bor Filed) → List Partition
-partitions_at filed = partitions_of (filed_at filed)
+partitions_at filed = partitions_filed (filed_at filed)
+
+abbrev pub contents_at : List (Bor Partition) → List Partition
+contents_at partitions = map (λ p. p.now) partitions
+
+-- ---- what a reader is told
 
 abbrev pub IsShown : (Filed → Option Partition) → Filed → Type 0
 IsShown contents f = contents f ≡ Some f.partition
@@ -31,7 +39,20 @@ IsShown contents f = contents f ≡ Some f.partition
 abbrev pub AllShown : (Filed → Option Partition) → List Filed → Type 0
 AllShown contents filed = AllByRecursion (IsShown contents) filed
 
+abbrev pub AreAmong : List Filed → List Filed → Type 0
+AreAmong some all = (contents : Filed → Option Partition) → AllShown contents all → AllShown contents some
+
+-- ---- as a value
+
 abbrev pub coded_filed : Coded Filed
-coded_filed = code_by (ℕ × (ℕ × (ℕ × (ℕ × Partition)))) (coded× coded_ℕ (coded× coded_ℕ (coded× coded_ℕ (coded× coded_ℕ coded_partition))))
+coded_filed =
+    code_by (ℕ × (ℕ × (ℕ × (ℕ × Partition))))
+    (coded× coded_ℕ (coded× coded_ℕ (coded× coded_ℕ (coded× coded_ℕ coded_partition))))
     (λ f. (f.object, (f.at, (f.length, (f.width, f.partition)))))
-    (λ p. record { object = p.0; at = p.1.0; length = p.1.1.0; width = p.1.1.1.0; partition = p.1.1.1.1 }) (λ _. refl)
+    (λ p. record {
+      object = p.0;
+      at = p.1.0;
+      length = p.1.1.0;
+      width = p.1.1.1.0;
+      partition = p.1.1.1.1;
+    }) (λ _. refl)

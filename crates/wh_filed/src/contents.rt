@@ -6,7 +6,7 @@ ghost use Rattle.wh_frame.specs.Partition.{Partition as Rows, coded_partition};
 use std::marker::Model;
 use wh_part::Partition;
 
-#[derive(Drop)]
+#[derive(Debug, Drop)]
 pub struct Contents {
     pub ghost partition: { Rows } by { coded_partition },
 }

@@ -5,7 +5,7 @@ use wh_part::{PartMeta, Partition};
 
 /// A partition whose rows stand in the file, with what is known of it without them. Contracts see
 /// the partition too, with its rows.
-#[derive(Drop)]
+#[derive(Debug, Drop)]
 pub struct FiledPartition {
     meta: PartMeta,
     contents: Contents,
@@ -13,6 +13,7 @@ pub struct FiledPartition {
 
 impl Model for FiledPartition {
     ghost use Rattle.std.specs.Prelude.{vec_len};
+    ghost use Rattle.wh_frame.specs.Spelling.{RisesFrom};
     ghost use Rattle.wh_part.specs.Meta.{IsMetaOf};
     ghost use Rattle.wh_filed.specs.Filed as specs;
 
@@ -20,16 +21,23 @@ impl Model for FiledPartition {
 
     ghost coded = { specs.coded_filed };
 
-    ghost view = { λ f. record { object = f.meta.id.object; at = f.meta.at; length = f.meta.length;
-        width = vec_len f.meta.columns; partition = f.contents.partition } };
+    ghost view = { λ f. record {
+      object = f.meta.id.object;
+      at = f.meta.at;
+      length = f.meta.length;
+      width = vec_len f.meta.columns;
+      partition = f.contents.partition;
+    } };
 
-    ghost invariant = { λ f. IsMetaOf f.meta f.contents.partition };
+    ghost invariant = { λ f. IsMetaOf f.meta f.contents.partition
+        × RisesFrom 0 f.contents.partition.rows };
 }
 
 impl FiledPartition {
     ghost use Rattle.std.specs.Prelude.{◌≡◌, IfOk};
     ghost use Rattle.wh_frame.specs.Partition.{first_number, last_number};
-    ghost use Rattle.wh_part.specs.Meta.{IsEven, IsMetaOf, width_of};
+    ghost use Rattle.wh_frame.specs.Spelling.{RisesFrom};
+    ghost use Rattle.wh_part.specs.Meta.{IsEven, width_of};
 
     /// The partition at a place of the file.
     pub fn of(
@@ -40,9 +48,16 @@ impl FiledPartition {
         length: u64,
     ) -> Result<FiledPartition, AllocError>
         requires { IsEven partition.now.rows }
-        ensures { IfOk result (λ filed. filed ≡ record { object = object; at = at; length = length;
-            width = width_of partition.now.rows; partition = partition.now }) }
+        ensures { IfOk result (λ filed. filed ≡ record {
+          object = object;
+          at = at;
+          length = length;
+          width = width_of partition.now.rows;
+          partition = partition.now;
+        }) }
     {
+        // The numbers of its rows rise, by the type of partitions.
+        let _rows = partition.rows();
         let meta = partition.meta(alloc, object, at, length)?;
         Ok(FiledPartition {
             meta,
@@ -63,9 +78,10 @@ impl FiledPartition {
         self.meta.first
     }
 
-    /// The number of the last row.
+    /// The number of the last row. The numbers rise from the first row to it.
     pub fn last(&self) -> u64
-        ensures { result ≡ last_number self.now.partition.rows }
+        ensures last { result ≡ last_number self.now.partition.rows }
+        ensures rising { RisesFrom 0 self.now.partition.rows }
     {
         self.meta.last
     }

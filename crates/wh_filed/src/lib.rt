@@ -4,5 +4,4 @@
 mod contents;
 mod filed;
 
-pub use contents::Contents;
 pub use filed::FiledPartition;

@@ -9,29 +9,28 @@ use Rattle.std.specs.Prelude.{nat_lt, nat_le, nat_eq, min, not, ◌&&◌, ◌||�
 use Rattle.wh_frame.specs.Partition.{Partition}
 use Rattle.wh_state.specs.Edits.{without, is_among}
 use Rattle.wh_version.specs.declared.lasting.Lasting.{Lasting}
-use Rattle.wh_version.specs.Lasting.{stands_at, standing_at, partitions_in, numbered_from, part_one}
+use Rattle.wh_version.specs.Lasting.{stands_at, standing_at, filed_in, partitions_in, numbered_from, part_one}
 use Rattle.wh_version.specs.Lasting.{parted, is_gone_by, is_standing}
 
 -- ---- the numbers stay
 
-part_number : (place number : ℕ) (k : Lasting) → (part_one place number k).filed ≡ k.filed.partition
-part_number place number k = pick (nat_eq k.filed.partition.number number)
+part_filed : (place number : ℕ) (k : Lasting) → (part_one place number k).filed ≡ k.filed
+part_filed place number k = pick (nat_eq k.filed.partition.number number)
   where
-    pick : (b : Bool) → (cond b (record k { until = min k.until place }) k).partition ≡ k.filed.partition
+    pick : (b : Bool) → (cond b (record k { until = min k.until place }) k).filed ≡ k.filed
     pick true = refl
     pick false = refl
 
-pub one_partitions : (place number : ℕ) (kept : List Lasting)
-    → partitions_in (map (part_one place number) kept) ≡ partitions_in kept
-one_partitions place number [] = refl
-one_partitions place number (k ∷ kept) = let rest = one_partitions place number kept in
-    λ i. part_number place number k i ∷ rest i
+pub one_filed : (place number : ℕ) (kept : List Lasting) → filed_in (map (part_one place number) kept) ≡ filed_in kept
+one_filed place number [] = refl
+one_filed place number (k ∷ kept) = let rest = one_filed place number kept in
+    λ i. part_filed place number k i ∷ rest i
 
-pub parted_partitions : (place : ℕ) (numbers : List ℕ) (kept : List Lasting)
-    → partitions_in (parted place numbers kept) ≡ partitions_in kept
-parted_partitions place [] kept = refl
-parted_partitions place (n ∷ numbers) kept = parted_partitions place numbers (map (part_one place n) kept)
-    ∙ one_partitions place n kept
+pub parted_filed : (place : ℕ) (numbers : List ℕ) (kept : List Lasting)
+    → filed_in (parted place numbers kept) ≡ filed_in kept
+parted_filed place [] kept = refl
+parted_filed place (n ∷ numbers) kept = parted_filed place numbers (map (part_one place n) kept)
+    ∙ one_filed place n kept
 
 -- ---- one number, by its place in the list
 
@@ -116,13 +115,13 @@ shown false k kept = refl
 
 -- the same stand, where each stands as before and is of the same partition
 pub same_standing : (place : ℕ) (f : Lasting → Lasting) → ((k : Lasting) → stands_at place (f k) ≡ stands_at place k)
-    → ((k : Lasting) → (f k).partition ≡ k.filed.partition) → (kept : List Lasting)
+    → ((k : Lasting) → (f k).filed ≡ k.filed) → (kept : List Lasting)
     → standing_at place (map f kept) ≡ standing_at place kept
 same_standing place f stands same [] = refl
 same_standing place f stands same (k ∷ kept) =
     let rest = same_standing place f stands same kept in
     shown (stands_at place (f k)) (f k) (filter (stands_at place) (map f kept))
-    ∙ (λ i. cond (stands k i) (same k i ∷ rest i) (rest i))
+    ∙ (λ i. cond (stands k i) ((same k i).partition ∷ rest i) (rest i))
     ∙ sym (shown (stands_at place k) k (filter (stands_at place) kept))
 
 pub parted_before : (early place count : ℕ) (numbers : List ℕ) (kept : List Lasting) → early < place
@@ -131,7 +130,7 @@ parted_before early place count [] kept before = refl
 parted_before early place count (n ∷ numbers) kept before =
     parted_before early place count numbers (map (part_one place n) kept) before
     ∙ ap (standing_at early) (take-map (part_one place n) count kept)
-    ∙ same_standing early (part_one place n) (λ k. stands_before early place n k before) (part_number place n)
+    ∙ same_standing early (part_one place n) (λ k. stands_before early place n k before) (part_filed place n)
     (take count kept)
 
 -- ---- which stand at the place itself
@@ -141,7 +140,8 @@ and_true true = refl
 and_true false = refl
 
 stands_there : (place number : ℕ) (k : Lasting)
-    → stands_at place (part_one place number k) ≡ (stands_at place k && not (is_among k.filed.partition.number (number ∷ [])))
+    → stands_at place (part_one place number k)
+    ≡ (stands_at place k && not (is_among k.filed.partition.number (number ∷ [])))
 stands_there place number k = pick (nat_eq k.filed.partition.number number)
   where
     pick : (b : Bool)
@@ -151,7 +151,8 @@ stands_there place number k = pick (nat_eq k.filed.partition.number number)
 
 filtered : (test : Partition → Bool) (s : Bool) (k : Lasting) (kept : List Lasting)
     → filter test (partitions_in (cond s (k ∷ kept) kept))
-    ≡ cond (s && test k.filed.partition) (k.filed.partition ∷ filter test (partitions_in kept)) (filter test (partitions_in kept))
+    ≡ cond (s && test k.filed.partition) (k.filed.partition ∷ filter test (partitions_in kept))
+    (filter test (partitions_in kept))
 filtered test true k kept = refl
 filtered test false k kept = refl
 
@@ -162,7 +163,7 @@ one_there place number (k ∷ kept) =
     let rest = one_there place number kept in
     let parted : List Lasting = map (part_one place number) kept in
     shown (stands_at place (part_one place number k)) (part_one place number k) (filter (stands_at place) parted)
-    ∙ (λ i. cond (stands_there place number k i) (part_number place number k i ∷ rest i) (rest i))
+    ∙ (λ i. cond (stands_there place number k i) ((part_filed place number k i).partition ∷ rest i) (rest i))
     ∙ sym (filtered (λ p. not (is_among p.number (number ∷ []))) (stands_at place k) k (filter (stands_at place) kept))
 
 filter_all : (ps : List Partition) → filter (λ p. true) ps ≡ ps
