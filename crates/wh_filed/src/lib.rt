@@ -3,6 +3,8 @@
 
 mod contents;
 mod filed;
+mod filing;
 
 pub use contents::Contents;
 pub use filed::FiledPartition;
+pub use filing::filed_from;

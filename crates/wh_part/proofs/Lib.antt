@@ -5,3 +5,4 @@ pub mod RowNumbers
 pub mod PartitionLaws
 pub mod CutLemmas
 pub mod MetaLemmas
+pub mod SizeLaws

@@ -8,6 +8,7 @@ mod fault;
 mod meta;
 mod partition;
 mod reading;
+mod size;
 mod writing;
 
 pub use cutting::cut;
