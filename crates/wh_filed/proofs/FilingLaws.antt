@@ -5,13 +5,12 @@
 --     spelled_from       the bytes of partitions spell each where it stands
 --     ends_from          and each ends with them all
 --     partitions_from    they are these partitions
---     filed_more         a further one behind those so far
 --     each_at            what holds of each item holds of the one at a place
 use Rattle.std.proofs.Common.{◌≡◌, ℕ, zero, suc, ◌+◌, ◌^◌, ◌<◌, ◌≤◌, List, [], ◌∷◌, ◌++◌, length, take, drop, Some}
 use Rattle.std.proofs.Common.{get_or, refl, sym, ap, ◌∙◌, subst, arith, append_assoc, length-append}
-use Rattle.std.specs.List.{flat_map, All, AllByRecursion}
+use Rattle.std.specs.List.{flat_map, AllByRecursion}
 use Rattle.std.proofs.lemmas.Bool.{lt-ltb}
-use Rattle.std.proofs.lemmas.List.{append-nil, take_at, drop_at, drop-drop, drop_more}
+use Rattle.std.proofs.lemmas.List.{append-nil, take_at, drop_at, drop-drop}
 use Rattle.std.proofs.lemmas.List.Concat.{flat_map-cons}
 use Rattle.wh_value.specs.Value.{Row}
 use Rattle.wh_world.specs.Bytes.{part_at}
@@ -20,7 +19,7 @@ use Rattle.wh_frame.specs.Spelling.{partition_bytes, IsPartition, IsNumberedRow}
 use Rattle.wh_part.specs.Meta.{width_of, IsEven}
 use Rattle.wh_part.specs.Decoding.{partition_at}
 use Rattle.wh_part.proofs.PartitionLaws.{reads_partition}
-use Rattle.wh_filed.specs.Filed.{Filed, partitions_of}
+use Rattle.wh_filed.specs.Filed.{partitions_of}
 use Rattle.wh_filed.specs.Filing.{filed_one, filed_from, all_of, spelled, IsSpelledIn, EndsBy}
 
 -- ---- bytes at a position
@@ -113,15 +112,3 @@ pub partitions_from : (object at : ℕ) (ps : List Partition) → partitions_of 
 partitions_from object at [] = refl
 partitions_from object at (p ∷ ps) =
     ap (λ (qs : List Partition). p ∷ qs) (partitions_from object (at + length (partition_bytes p)) ps)
-
-pub filed_more : (object next : ℕ) (ps : List Partition) (i : ℕ) (p : Partition) (filed : List Filed) → i < length ps
-    → p ≡ get_or ps i p
-    → filed ++ filed_from object next (drop i ps)
-    ≡ (filed ++ filed_one object next p ∷ [])
-    ++ filed_from object (next + length (partition_bytes p)) (drop (i + 1) ps)
-filed_more object next ps i p filed within is =
-    let left : drop i ps ≡ p ∷ drop (i + 1) ps =
-    drop_more ps i p within ∙ ap (λ (q : Partition). q ∷ drop (i + 1) ps) (sym is) in
-    ap (λ (qs : List Partition). filed ++ filed_from object next qs) left
-    ∙ sym (append_assoc filed (filed_one object next p ∷ [])
-    (filed_from object (next + length (partition_bytes p)) (drop (i + 1) ps)))
