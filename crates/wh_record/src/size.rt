@@ -1,6 +1,7 @@
 ghost use Rattle.std.specs.Prelude.{◌≡◌, ◌+◌, map, length, IfOk};
 ghost use Rattle.std.specs.List.{flat_map};
 ghost use Rattle.wh_frame.specs.Spelling.{partition_bytes};
+ghost use Rattle.wh_state.specs.Commit.{PushesVersion};
 ghost use Rattle.wh_state.specs.Spelling.{change_bytes};
 ghost use Rattle.wh_record.specs.Laws.{AllSpelled, AllWithin};
 ghost use Rattle.wh_record.specs.Places as places;
@@ -34,6 +35,14 @@ fn partitions_size(before: u64, partitions: &[Partition]) -> Result<u64, AllocEr
         size = size.checked_add(own).ok_or(AllocError)?;
     }
     Ok(size)
+}
+
+#[tactic(auto, using(crate::proofs::PlaceLaws::version_size))]
+fn version_size(version: &VersionChange) -> Result<u64, AllocError>
+    ensures { IfOk result (λ size. size
+        ≡ places.change_size (PushesVersion (version_change_of version.now))) }
+{
+    partitions_size(head_size(version)?, &version.added)
 }
 
 /// By writing it.
@@ -77,9 +86,7 @@ impl Change {
         ensures { IfOk result (λ size. size ≡ places.change_size (change_of self.now)) }
     {
         match self {
-            Change::PushesVersion(version) => {
-                partitions_size(head_size(version)?, &version.added)
-            }
+            Change::PushesVersion(version) => version_size(version),
             _ => written_size(alloc, self),
         }
     }
