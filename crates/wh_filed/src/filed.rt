@@ -20,8 +20,13 @@ impl Model for FiledPartition {
 
     ghost coded = { specs.coded_filed };
 
-    ghost view = { λ f. record { object = f.meta.id.object; at = f.meta.at; length = f.meta.length;
-        width = vec_len f.meta.columns; partition = f.contents.partition } };
+    ghost view = { λ f. record {
+      object = f.meta.id.object;
+      at = f.meta.at;
+      length = f.meta.length;
+      width = vec_len f.meta.columns;
+      partition = f.contents.partition;
+    } };
 
     ghost invariant = { λ f. IsMetaOf f.meta f.contents.partition };
 }
@@ -40,8 +45,13 @@ impl FiledPartition {
         length: u64,
     ) -> Result<FiledPartition, AllocError>
         requires { IsEven partition.now.rows }
-        ensures { IfOk result (λ filed. filed ≡ record { object = object; at = at; length = length;
-            width = width_of partition.now.rows; partition = partition.now }) }
+        ensures { IfOk result (λ filed. filed ≡ record {
+          object = object;
+          at = at;
+          length = length;
+          width = width_of partition.now.rows;
+          partition = partition.now;
+        }) }
     {
         let meta = partition.meta(alloc, object, at, length)?;
         Ok(FiledPartition {
