@@ -5,8 +5,8 @@
 use Rattle.std.specs.Prelude.{ℕ, ◌+◌, ◌*◌, List, [], ◌∷◌, ◌++◌, length}
 use Rattle.wh_filed.specs.Filed.{Filed}
 use Rattle.wh_filed.specs.Filing.{filed_from}
-use Rattle.wh_state.specs.Commit.{VersionChange, Change, CreatesTable, Drops, PushesVersion, CreatesStream, SetsOffset}
-use Rattle.wh_state.specs.Commit.{CreatesTask, SetsTask, StartsRun, FinishesTask, CreatesDynamic, SetsDynamic, Commit}
+use Rattle.wh_state.specs.Commit.{VersionChange, Change, PushesVersion}
+use Rattle.wh_state.specs.Commit.{Commit}
 use Rattle.wh_state.specs.Commit.{change_as_text}
 use Rattle.wh_state.specs.Spelling.{change_bytes}
 
