@@ -3,5 +3,7 @@
 
 mod contents;
 mod filed;
+mod filing;
 
 pub use filed::FiledPartition;
+pub use filing::filed_from;
