@@ -1,6 +1,6 @@
 -- What contracts say of a `DiskFetch`.
 --     told_of, faults_of        the bytes of its file, and how often it has failed
---     Covers                    what it keeps is right, and the partition lies in front of its reach
+--     Covers                    what it keeps is right, whichever partition it is asked for
 --     IsSound, IsSpoilt         no partition is found damaged; the one that was asked for is
 --     GoesOn                    a later state: nothing but reads happened, and what is kept is as right as before
 --     goes_none, goes_on        as by no call, and by one after the other
@@ -28,9 +28,8 @@ module _ {D : Type 0} (d : Ghosts D) where
   abbrev pub IsRight : DiskFetch D → Type 0
   IsRight fetch = Agrees (told_of fetch) fetch.cache.entries
 
-  pub record Covers (fetch : DiskFetch D) (meta : PartMeta) : Type 0 where
-    pub right : IsRight fetch
-    pub in_front : meta.at + meta.length ≤ fetch.reach
+  abbrev pub Covers : DiskFetch D → PartMeta → Type 0
+  Covers fetch meta = IsRight fetch
 
   -- where Read is answered the disk has failed
   pub record IsSound {A : Type 0} (old new : DiskFetch D) (result : Result A FetchFault) : Type 0 where
@@ -70,10 +69,7 @@ module _ {D : Type 0} (d : Ghosts D) where
 
   pub still_covers : (first last : DiskFetch D) (meta : PartMeta) → GoesOn first last → Covers first meta
       → Covers last meta
-  still_covers first last meta goes covers = record {
-    right = goes.right covers.right;
-    in_front = subst (λ (reach : ℕ). meta.at + meta.length ≤ reach) (sym goes.reach) covers.in_front;
-  }
+  still_covers first last meta goes right = goes.right right
 
   pub same_contents : (first last : DiskFetch D) (meta : PartMeta) → GoesOn first last
       → told_at (told_of last) meta ≡ told_at (told_of first) meta

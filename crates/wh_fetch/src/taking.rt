@@ -21,8 +21,8 @@ impl<D: Disk> DiskFetch<D> {
         requires { IsRight D.Disk self.old }
         ensures found { IfOk result
             (λ given. IsPartAt (told_of D.Disk self.old) part.now (arc_value given)) }
-        ensures keeps { Keeps (told_of D.Disk self.old) self.old.cache self.new.cache
-            part.now result }
+        ensures keeps { Keeps (told_of D.Disk self.old) self.old.reach self.old.cache
+            self.new.cache part.now result }
         ensures asked { Asks result part.now.id self.old.asked.items self.new.asked.items }
         ensures reach { self.new.reach ≡ self.old.reach }
         ensures hit { IsKept part.now self.old.cache.entries → self.new.disk ≡ self.old.disk }
@@ -41,12 +41,12 @@ impl<D: Disk> DiskFetch<D> {
         self.load(part)
     }
 
-    // Reads a partition, and keeps it.
+    // Reads a partition, and keeps it where it lies in front of the reach.
     fn load(&mut self, part: &PartMeta) -> Result<Arc<Partition>, FetchFault>
         ensures found { IfOk result
             (λ given. IsPartAt (told_of D.Disk self.old) part.now (arc_value given)) }
-        ensures keeps { Keeps (told_of D.Disk self.old) self.old.cache self.new.cache
-            part.now result }
+        ensures keeps { Keeps (told_of D.Disk self.old) self.old.reach self.old.cache
+            self.new.cache part.now result }
         ensures rest { (self.new.asked ≡ self.old.asked) × (self.new.reach ≡ self.old.reach) }
         ensures only_read { OnlyRead D.Disk self.old.disk self.new.disk }
         ensures reads { ReadsOnce D.Disk self.old.disk self.new.disk }
@@ -61,6 +61,9 @@ impl<D: Disk> DiskFetch<D> {
             return Err(FetchFault::Read);
         };
         let shared = Arc::new(alloc, found)?;
+        if part.at.saturating_add(part.length) > self.reach {
+            return Ok(shared);
+        }
         let given = Arc::try_clone(&shared)?;
         let kept = Kept {
             length: part.length,

@@ -20,7 +20,8 @@ use Rattle.wh_part.specs.Meta.{width_of, IsEven}
 use Rattle.wh_part.specs.Decoding.{partition_at}
 use Rattle.wh_part.proofs.PartitionLaws.{reads_partition}
 use Rattle.wh_filed.specs.Filed.{partitions_filed}
-use Rattle.wh_filed.specs.Filing.{filed_one, filed_from, all_of, spelled, IsSpelledIn, EndsBy}
+use Rattle.wh_fetch.specs.Place.{all_of, spelled}
+use Rattle.wh_filed.specs.Filing.{filed_one, filed_from, IsSpelledIn, EndsBy}
 
 -- ---- bytes at a position
 

@@ -3,14 +3,19 @@
 --     partitions_filed  the partitions themselves
 --     filed_at, partitions_at     those that references point to, and the partitions themselves
 --     contents_at       the partitions that references to partitions at hand point to
+--     loaded_of         and those that are shared
 --     IsShown, AllShown what is told of a partition is what it was
 --     AreAmong          each of some is one of others: where what is told of the others is right, so it is of these
 --     coded_filed       so that it can be what contracts see of a struct
 use Rattle.std.specs.Prelude.{◌≡◌, ℕ, List, map, Option, Some, refl}
 use Rattle.std.specs.List.{AllByRecursion}
+use Rattle.std.specs.Global.{Global}
+use Rattle.std.specs.Arc.{arc_value}
+use Rattle.std.specs.declared.sync.Arc.{Arc}
 use denote.Ref.{Bor}
 use Rattle.std.specs.Coded.{Coded, code_by, coded_ℕ, coded×}
 use Rattle.wh_frame.specs.Partition.{Partition, coded_partition}
+use Rattle.wh_fetch.specs.Place.{told_in}
 
 pub record Filed : Type 0 where
   pub object : ℕ
@@ -31,16 +36,20 @@ partitions_at filed = partitions_filed (filed_at filed)
 abbrev pub contents_at : List (Bor Partition) → List Partition
 contents_at partitions = map (λ p. p.now) partitions
 
+abbrev pub loaded_of : List (Arc Partition Global) → List Partition
+loaded_of loaded = map arc_value loaded
+
 -- ---- what a reader is told
 
-abbrev pub IsShown : (Filed → Option Partition) → Filed → Type 0
-IsShown contents f = contents f ≡ Some f.partition
+-- the bytes are told, and the partition is spelled where it stands
+abbrev pub IsShown : Option (List ℕ) → Filed → Type 0
+IsShown told f = told_in told f.width f.at f.length ≡ Some f.partition
 
-abbrev pub AllShown : (Filed → Option Partition) → List Filed → Type 0
-AllShown contents filed = AllByRecursion (IsShown contents) filed
+abbrev pub AllShown : Option (List ℕ) → List Filed → Type 0
+AllShown told filed = AllByRecursion (IsShown told) filed
 
 abbrev pub AreAmong : List Filed → List Filed → Type 0
-AreAmong some all = (contents : Filed → Option Partition) → AllShown contents all → AllShown contents some
+AreAmong some all = (told : Option (List ℕ)) → AllShown told all → AllShown told some
 
 -- ---- as a value
 

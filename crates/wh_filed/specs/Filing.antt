@@ -1,6 +1,5 @@
 -- Partitions that stand in the file one behind the other, and what bytes spell.
 --     filed_one, filed_from     a partition of an object at a position, and several from there on
---     spelled                   the partition that all of the bytes spell, with so many values a row
 --     spelled_at, IsSpelledIn   the same of the bytes where a partition stands; it is the one that stands there
 --     EndsBy                    its bytes end by a position
 use Rattle.std.specs.Prelude.{◌≡◌, ℕ, ◌+◌, ◌≤◌, List, [], ◌∷◌, length, Option, Some, None, nat_lt, if◌then◌else◌}
@@ -8,7 +7,7 @@ use Rattle.wh_world.specs.Bytes.{part_at}
 use Rattle.wh_frame.specs.Partition.{Partition}
 use Rattle.wh_frame.specs.Spelling.{partition_bytes}
 use Rattle.wh_part.specs.Meta.{width_of}
-use Rattle.wh_part.specs.Decoding.{partition_at}
+use Rattle.wh_fetch.specs.Place.{spelled}
 use Rattle.wh_filed.specs.Filed.{Filed}
 
 abbrev pub filed_one : ℕ → ℕ → Partition → Filed
@@ -25,16 +24,6 @@ filed_from object at [] = []
 filed_from object at (p ∷ ps) = filed_one object at p ∷ filed_from object (at + length (partition_bytes p)) ps
 
 -- ---- what bytes spell
-
--- where nothing is left behind it
-abbrev pub all_of : Option (Partition × List ℕ) → Option Partition
-all_of None = None
-all_of (Some (p, [])) = Some p
-all_of (Some (p, b ∷ rest)) = None
-
--- a width is of 32 bits
-abbrev pub spelled : ℕ → List ℕ → Option Partition
-spelled width bytes = if nat_lt width 4294967296 then all_of (partition_at width bytes) else None
 
 abbrev pub spelled_at : List ℕ → Filed → Option Partition
 spelled_at bytes f = spelled f.width (part_at f.at f.length bytes)

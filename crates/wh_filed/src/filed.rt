@@ -92,4 +92,13 @@ impl FiledPartition {
     {
         self.meta.at
     }
+
+    /// What is known of it without its rows.
+    pub fn meta(&self) -> &PartMeta
+        ensures place { (result.now.at ≡ self.now.at) × (result.now.length ≡ self.now.length)
+            × (vec_len result.now.columns ≡ self.now.width) }
+        ensures says { IsMetaOf result.now self.now.partition }
+    {
+        &self.meta
+    }
 }

@@ -4,6 +4,8 @@
 mod contents;
 mod filed;
 mod filing;
+mod loading;
 
 pub use filed::FiledPartition;
 pub use filing::filed_from;
+pub use loading::load;

@@ -37,52 +37,52 @@ joined xs ys zs is = sym (map-append (λ f. f.partition) xs ys) ∙ ap partition
 -- ---- those among them
 
 pub front_among : (n : ℕ) (kept : List Lasting) → AreAmong (filed_in (take n kept)) (filed_in kept)
-front_among zero kept contents shown = tt
-front_among (suc n) [] contents shown = tt
-front_among (suc n) (k ∷ kept) contents shown = (shown.0, front_among n kept contents shown.1)
+front_among zero kept told shown = tt
+front_among (suc n) [] told shown = tt
+front_among (suc n) (k ∷ kept) told shown = (shown.0, front_among n kept told shown.1)
 
 pub filtered_among : (test : Lasting → Bool) (kept : List Lasting)
     → AreAmong (filed_in (filter test kept)) (filed_in kept)
-filtered_among test [] contents shown = tt
-filtered_among test (k ∷ kept) contents shown = by_test (test k) (filtered_among test kept contents shown.1)
+filtered_among test [] told shown = tt
+filtered_among test (k ∷ kept) told shown = by_test (test k) (filtered_among test kept told shown.1)
   where
-    by_test : (b : Bool) → AllShown contents (filed_in (filter test kept))
-        → AllShown contents (filed_in (cond b (k ∷ filter test kept) (filter test kept)))
+    by_test : (b : Bool) → AllShown told (filed_in (filter test kept))
+        → AllShown told (filed_in (cond b (k ∷ filter test kept) (filter test kept)))
     by_test true rest = (shown.0, rest)
     by_test false rest = rest
 
 pub picked_among : (test : Lasting → Bool) (n : ℕ) (kept : List Lasting) (found : List Filed)
     → found ≡ filed_in (filter test (take n kept))
     → AreAmong found (filed_in kept)
-picked_among test n kept found is contents shown =
-    subst (AllShown contents) (sym is) (filtered_among test (take n kept) contents (front_among n kept contents shown))
+picked_among test n kept found is told shown =
+    subst (AllShown told) (sym is) (filtered_among test (take n kept) told (front_among n kept told shown))
 
-shown_behind : (contents : Filed → Option Partition) (xs ys : List Filed) → AllShown contents (xs ++ ys)
-    → AllShown contents ys
-shown_behind contents [] ys shown = shown
-shown_behind contents (x ∷ xs) ys shown = shown_behind contents xs ys shown.1
+shown_behind : (told : Option (List ℕ)) (xs ys : List Filed) → AllShown told (xs ++ ys)
+    → AllShown told ys
+shown_behind told [] ys shown = shown
+shown_behind told (x ∷ xs) ys shown = shown_behind told xs ys shown.1
 
 pub behind_among : (test : Lasting → Bool) (n : ℕ) (kept : List Lasting) (front found : List Filed)
     → front ++ found ≡ filed_in (filter test (take n kept))
     → AreAmong found (filed_in kept)
-behind_among test n kept front found is contents shown =
-    shown_behind contents front found (picked_among test n kept (front ++ found) is contents shown)
+behind_among test n kept front found is told shown =
+    shown_behind told front found (picked_among test n kept (front ++ found) is told shown)
 
-one_shown : (contents : Filed → Option Partition) (kept : List Lasting) (i : ℕ) (k : Lasting) → i < length kept
-    → k ≡ get_or kept i k → AllShown contents (filed_in kept) → IsShown contents k.filed
-one_shown contents [] i k within is shown = absurd (omega arith)
-one_shown contents (x ∷ kept) zero k within is shown =
-    subst (λ (l : Lasting). IsShown contents l.filed) (sym is) shown.0
-one_shown contents (x ∷ kept) (suc i) k within is shown = one_shown contents kept i k (omega arith) is shown.1
+one_shown : (told : Option (List ℕ)) (kept : List Lasting) (i : ℕ) (k : Lasting) → i < length kept
+    → k ≡ get_or kept i k → AllShown told (filed_in kept) → IsShown told k.filed
+one_shown told [] i k within is shown = absurd (omega arith)
+one_shown told (x ∷ kept) zero k within is shown =
+    subst (λ (l : Lasting). IsShown told l.filed) (sym is) shown.0
+one_shown told (x ∷ kept) (suc i) k within is shown = one_shown told kept i k (omega arith) is shown.1
 
-shown_more : (contents : Filed → Option Partition) (fs : List Filed) (f : Filed) → AllShown contents fs
-    → IsShown contents f → AllShown contents (fs ++ f ∷ [])
-shown_more contents [] f all one = (one, tt)
-shown_more contents (g ∷ fs) f all one = (all.0, shown_more contents fs f all.1 one)
+shown_more : (told : Option (List ℕ)) (fs : List Filed) (f : Filed) → AllShown told fs
+    → IsShown told f → AllShown told (fs ++ f ∷ [])
+shown_more told [] f all one = (one, tt)
+shown_more told (g ∷ fs) f all one = (all.0, shown_more told fs f all.1 one)
 
 pub among_more : (kept : List Lasting) (i : ℕ) (k : Lasting) (before after : List Filed) → i < length kept
     → k ≡ get_or kept i k → AreAmong after (before ++ k.filed ∷ []) → AreAmong before (filed_in kept)
     → AreAmong after (filed_in kept)
-among_more kept i k before after within is more so_far contents shown =
-    more contents
-    (shown_more contents before k.filed (so_far contents shown) (one_shown contents kept i k within is shown))
+among_more kept i k before after within is more so_far told shown =
+    more told
+    (shown_more told before k.filed (so_far told shown) (one_shown told kept i k within is shown))

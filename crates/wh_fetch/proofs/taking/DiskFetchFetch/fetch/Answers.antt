@@ -12,5 +12,5 @@ returns-clause-stays g c =
       right = λ right. subst (λ (told : Option (List ℕ)). Agrees told kept) (sym take.only_read.bytes)
           (take.keeps.right right);
       within = λ within. subst (λ (n : ℕ). Within n kept) (sym take.reach)
-          (take.keeps.within c.args.self.now.reach c.requires.in_front within);
+          (take.keeps.within within);
     }

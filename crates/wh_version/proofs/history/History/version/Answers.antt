@@ -14,6 +14,6 @@ slice_bounds-result-end c =
     omega (arith, few, front, ap (λ m. m.partitions) c.mark-mark.ensures, ap length c.deref.ensures.value)
 
 pub returns-clause-among : goal.returns-clause-among
-returns-clause-among c contents shown =
-    front_among c.mark-mark.result.partitions c.deref.result.now contents
-    (subst (λ ks. AllShown contents (filed_in ks)) (sym c.deref.ensures.value) shown)
+returns-clause-among c told shown =
+    front_among c.mark-mark.result.partitions c.deref.result.now told
+    (subst (λ ks. AllShown told (filed_in ks)) (sym c.deref.ensures.value) shown)
