@@ -1,5 +1,5 @@
 //! A partition from what is kept, or from the disk.
-ghost use Rattle.std.specs.Prelude.{◌≡◌, ◌⊎◌, IfOk};
+ghost use Rattle.std.specs.Prelude.{◌≡◌, ◌+◌, ◌⊎◌, nat_le, IfOk};
 ghost use Rattle.std.specs.Arc.{arc_value};
 ghost use Rattle.wh_fetch.specs.Fetch.{Asks, ReadsOnceEach};
 ghost use Rattle.wh_fetch.specs.Place.{IsPartAt};
@@ -61,7 +61,7 @@ impl<D: Disk> DiskFetch<D> {
             return Err(FetchFault::Read);
         };
         let shared = Arc::new(alloc, found)?;
-        if part.at.saturating_add(part.length) > self.reach {
+        if !is_in_front(part, self.reach) {
             return Ok(shared);
         }
         let given = Arc::try_clone(&shared)?;
@@ -73,6 +73,13 @@ impl<D: Disk> DiskFetch<D> {
         self.cache.put(part.at, kept)?;
         Ok(given)
     }
+}
+
+// Whether its place lies in so many of the first bytes.
+fn is_in_front(part: &PartMeta, reach: u64) -> bool
+    ensures { result ≡ nat_le (part.now.at + part.now.length) reach }
+{
+    part.length <= reach && part.at <= reach - part.length
 }
 
 impl<D: Disk> Fetch for DiskFetch<D> {
