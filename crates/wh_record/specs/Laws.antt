@@ -18,11 +18,12 @@ PayloadFixesTextCommit = (c d : TextCommit) → IsTextCommit c → IsTextCommit 
 abbrev pub FileFixesPayloads : Type 0
 FileFixesPayloads = (ps qs : List (List ℕ)) (bytes : List ℕ) → IsFileOf ps bytes → IsFileOf qs bytes → ps ≡ qs
 
--- in bytes that have the payload at a position
+-- where bytes have a commit's payload at a position, they spell each partition that it adds, at its place
 abbrev pub AllSpelled : Type 0
 AllSpelled = (c : Commit) (at : ℕ) (bytes rest : List ℕ) → IsTextCommit (as_text c)
     → drop at bytes ≡ payload_of c ++ rest
     → AllByRecursion (IsSpelledIn bytes) (filed_in at c)
 
+-- and none of these ends behind the payload
 abbrev pub AllWithin : Type 0
 AllWithin = (c : Commit) (at : ℕ) → AllByRecursion (EndsBy (at + length (payload_of c))) (filed_in at c)

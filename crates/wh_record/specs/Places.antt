@@ -5,9 +5,7 @@
 use Rattle.std.specs.Prelude.{ℕ, ◌+◌, ◌*◌, List, [], ◌∷◌, ◌++◌, length}
 use Rattle.wh_filed.specs.Filed.{Filed}
 use Rattle.wh_filed.specs.Filing.{filed_from}
-use Rattle.wh_state.specs.Commit.{VersionChange, Change, PushesVersion}
-use Rattle.wh_state.specs.Commit.{Commit}
-use Rattle.wh_state.specs.Commit.{change_as_text}
+use Rattle.wh_state.specs.Commit.{VersionChange, Change, PushesVersion, Commit, change_as_text}
 use Rattle.wh_state.specs.Spelling.{change_bytes}
 
 -- a tag, 24 bytes of numbers, two counts, and 8 bytes for each partition that goes
