@@ -1,5 +1,6 @@
 //! A partition from what is kept, or from the disk.
-ghost use Rattle.std.specs.Prelude.{◌≡◌, ◌+◌, ◌⊎◌, nat_le, IfOk};
+ghost use Rattle.std.specs.Prelude.{◌≡◌, ◌+◌, ◌<◌, ◌≤◌, ◌⊎◌, IfOk};
+ghost use Rattle.std.specs.Bool.{OnTrue, OnFalse};
 ghost use Rattle.std.specs.Arc.{arc_value};
 ghost use Rattle.wh_fetch.specs.Fetch.{Asks, ReadsOnceEach};
 ghost use Rattle.wh_fetch.specs.Place.{IsPartAt};
@@ -77,7 +78,8 @@ impl<D: Disk> DiskFetch<D> {
 
 // Whether its place lies in so many of the first bytes.
 fn is_in_front(part: &PartMeta, reach: u64) -> bool
-    ensures { result ≡ nat_le (part.now.at + part.now.length) reach }
+    ensures front { OnTrue result (part.now.at + part.now.length ≤ reach) }
+    ensures behind { OnFalse result (reach < part.now.at + part.now.length) }
 {
     part.length <= reach && part.at <= reach - part.length
 }

@@ -7,7 +7,7 @@ pub returns-clause-keeps : goal.returns-clause-keeps
 returns-clause-keeps g c =
     let found = rw c.in-Some.is at c.in_ok-found.ensures.found in
     keeps-put _ _ _ _ c.args.part.now _ _ _ found refl c.len.ensures c.in_ok-shared.ensures.ok c.args.self.now.most
-    (omega arith) c.in_ok-put.ensures.entries
+    (rw c.if-not-is_in_front.false at c.is_in_front.ensures.front) c.in_ok-put.ensures.entries
 
 pub returns-in_err-put-clause-keeps : goal.returns-in_err-put-clause-keeps
 returns-in_err-put-clause-keeps g c =
