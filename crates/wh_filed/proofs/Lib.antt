@@ -1,1 +1,2 @@
 pub mod FilingLaws
+mod LoadingLemmas

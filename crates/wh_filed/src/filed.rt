@@ -34,10 +34,10 @@ impl Model for FiledPartition {
 }
 
 impl FiledPartition {
-    ghost use Rattle.std.specs.Prelude.{◌≡◌, IfOk};
+    ghost use Rattle.std.specs.Prelude.{◌≡◌, IfOk, vec_len};
     ghost use Rattle.wh_frame.specs.Partition.{first_number, last_number};
     ghost use Rattle.wh_frame.specs.Spelling.{RisesFrom};
-    ghost use Rattle.wh_part.specs.Meta.{IsEven, width_of};
+    ghost use Rattle.wh_part.specs.Meta.{IsEven, IsMetaOf, width_of};
 
     /// The partition at a place of the file.
     pub fn of(
