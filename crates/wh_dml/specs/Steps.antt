@@ -8,7 +8,8 @@
 --     Settled, settled                what the target's rows come to, by their turns
 --     outcome                         the effect with the rows that are added, or the ambiguous row
 --     left_over, inserts_of           the source rows that aren't matched, and the rows that they add
-use Rattle.std.specs.Prelude.{ℕ, Bool, false, ◌||◌, if◌then◌else◌, List, [], ◌∷◌, ◌++◌, map, Option, Some, None, option_map}
+use Rattle.std.specs.Prelude.{ℕ, Bool, false, ◌||◌, if◌then◌else◌, List, [], ◌∷◌, ◌++◌, map, Option, Some, None}
+use Rattle.std.specs.Prelude.{option_map}
 use Rattle.std.specs.Prelude.{slice_index_or, slice_set}
 use denote.Ref.{Bor}
 use Rattle.wh_value.specs.Value.{Value, Row}
