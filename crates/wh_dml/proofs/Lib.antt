@@ -9,4 +9,3 @@ pub mod SourceLaws
 pub mod MergeLaws
 pub mod FaultLaws
 pub mod KeyedPairs
-mod Finding

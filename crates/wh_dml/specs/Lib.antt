@@ -1,5 +1,3 @@
 pub mod View
 pub mod Given
 pub mod Steps
-pub mod Keyed
-pub mod Found

@@ -4,10 +4,13 @@
 --     choice                          the first clause whose condition is TRUE, where the conditions of all are defined
 --     turns_on                        the turns of a target's row, one for each source row that selects a clause
 --     marked, marks                   which source rows are matched, after one row of the target and after all
+--     marked_at                       the same after one row, where those at positions alone may be
 --     Settled, settled                what the target's rows come to, by their turns
 --     outcome                         the effect with the rows that are added, or the ambiguous row
 --     left_over, inserts_of           the source rows that aren't matched, and the rows that they add
-use Rattle.std.specs.Prelude.{ℕ, Bool, ◌||◌, if◌then◌else◌, List, [], ◌∷◌, ◌++◌, map, Option, Some, None, option_map}
+use Rattle.std.specs.Prelude.{ℕ, Bool, false, ◌||◌, if◌then◌else◌, List, [], ◌∷◌, ◌++◌, map, Option, Some, None}
+use Rattle.std.specs.Prelude.{option_map}
+use Rattle.std.specs.Prelude.{slice_index_or, slice_set}
 use denote.Ref.{Bor}
 use Rattle.wh_value.specs.Value.{Value, Row}
 use Rattle.wh_meaning.specs.Scalar.{Scalar, val, is_true, holds, of_one, of_two}
@@ -77,6 +80,12 @@ abbrev pub marked : Scalar → Row → List Row → List Bool → List Bool
 marked on t [] flags = flags
 marked on t (s ∷ ss) [] = []
 marked on t (s ∷ ss) (f ∷ fs) = (f || holds on (t ++ s)) ∷ marked on t ss fs
+
+abbrev pub marked_at : Scalar → Row → List Row → List ℕ → List Bool → List Bool
+marked_at on t source [] flags = flags
+marked_at on t source (k ∷ ks) flags =
+    marked_at on t source ks
+    (slice_set flags k (slice_index_or flags k false || holds on (t ++ slice_index_or source k [])))
 
 -- ---- all rows of the target
 

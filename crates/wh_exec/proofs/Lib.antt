@@ -1,4 +1,7 @@
-mod Found
+mod KeyIndexLaws
+pub mod Picked
+pub mod Matches
+mod PickedBags
 mod Turns
 pub mod Added
 pub mod Asked

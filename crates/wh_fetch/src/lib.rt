@@ -2,6 +2,8 @@
 #![tactic(auto)]
 
 mod disk_fetch;
+#[cfg(test)]
+mod disk_tests;
 mod fault;
 mod fetch;
 mod kept;

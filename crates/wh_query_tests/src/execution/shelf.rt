@@ -41,6 +41,8 @@ impl Fetch for Shelf {
 
     ghost faults = { λ shelf. shelf.faults };
 
+    ghost reads = { λ shelf. 0 };
+
     ghost stays = { λ first last. Unit {0} };
 
     ghost stays_so = { λ shelf. tt };
