@@ -4,7 +4,7 @@
 --     standing_on      what stands by a reach of one partition more
 --     turned_over      what went and came between two reaches
 use Rattle.std.proofs.Common.{◌≡◌, ℕ, zero, suc, ◌+◌, ◌<◌, ◌≤◌, inl, inr, Bool, true, false, List, [], ◌∷◌}
-use Rattle.std.proofs.Common.{◌++◌, length, filter, take, get_or, option_map, Option, Some, None, IsTrue}
+use Rattle.std.proofs.Common.{◌++◌, length, take, get_or, option_map, Option, Some, None, IsTrue}
 use Rattle.std.proofs.Common.{refl, sym, ap, subst, ◌∙◌, append_assoc, arith}
 use Rattle.std.proofs.lemmas.Bool.{and_parts, leb-true, le-leb}
 use Rattle.std.proofs.lemmas.Bool.Decides.{nat_tests}
