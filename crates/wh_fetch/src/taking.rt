@@ -6,7 +6,8 @@ ghost use Rattle.wh_fetch.specs.Fetch.{Asks, ReadsOnceEach};
 ghost use Rattle.wh_fetch.specs.Place.{IsPartAt};
 ghost use Rattle.wh_fetch.specs.Cache.{IsKept, Keeps};
 ghost use Rattle.wh_fetch.specs.Device.{OnlyRead, ReadsOnce, Counts};
-ghost use Rattle.wh_fetch.specs.DiskFetch.{told_of, faults_of, IsRight, IsSound, IsSpoilt};
+ghost use Rattle.wh_fetch.specs.DiskFetch.{told_of, faults_of, IsRight, IsLater};
+ghost use Rattle.wh_fetch.specs.DiskFetch.{IsSound, IsSpoilt};
 
 use crate::kept::{Kept, recall};
 use crate::place::read_part;
@@ -31,6 +32,7 @@ impl<D: Disk> DiskFetch<D> {
         ensures reads { ReadsOnceEach (D.reads self.old.disk) (D.reads self.new.disk)
             self.old.asked.items self.new.asked.items }
         ensures counts { Counts (faults_of D.Disk self.old) (faults_of D.Disk self.new) result }
+        ensures later { IsLater D.Disk self.old self.new }
         ensures damaged { IsSound D.Disk self.old self.new result
             ⊎ IsSpoilt D.Disk self.old self.new part.now result }
     {
@@ -52,6 +54,7 @@ impl<D: Disk> DiskFetch<D> {
         ensures only_read { OnlyRead D.Disk self.old.disk self.new.disk }
         ensures reads { ReadsOnce D.Disk self.old.disk self.new.disk }
         ensures counts { Counts (faults_of D.Disk self.old) (faults_of D.Disk self.new) result }
+        ensures later { IsLater D.Disk self.old self.new }
         ensures damaged { IsSound D.Disk self.old self.new result
             ⊎ IsSpoilt D.Disk self.old self.new part.now result }
     {

@@ -1,5 +1,6 @@
 -- Partitions that are asked for one after the other.
 --     shown_at       what holds of all that references point to holds of the one at a place
+--     shown_now      the same where the bytes are still told so
 --     loaded_more    one loaded partition more
 use Rattle.std.specs.Prelude.{◌≡◌, ℕ, zero, suc, ◌+◌, ◌<◌, List, [], ◌∷◌, ◌++◌, length, map, take, Option}
 use Rattle.std.specs.Global.{Global}
@@ -16,6 +17,11 @@ pub shown_at : (told : Option (List ℕ)) (fs : List (Bor Filed)) (i : ℕ) (f :
 shown_at told [] i f within at all = absurd (omega (arith, within))
 shown_at told (x ∷ xs) zero f within at all = subst (λ (y : Bor Filed). IsShown told y.now) (sym at) all.0
 shown_at told (x ∷ xs) (suc i) f within at all = shown_at told xs i f (omega (arith, within)) at all.1
+
+pub shown_now : (told now : Option (List ℕ)) → now ≡ told → (fs : List (Bor Filed)) (i : ℕ) (f : Bor Filed)
+    → i < length fs → f ≡ get_or fs i f → AllShown told (filed_at fs) → IsShown now f.now
+shown_now told now same fs i f within at all =
+    subst (λ (t : Option (List ℕ)). IsShown t f.now) (sym same) (shown_at told fs i f within at all)
 
 pub loaded_more : (fs : List (Bor Filed)) (i : ℕ) (f : Bor Filed) (loaded new : List (Arc Partition Global))
     (found : Arc Partition Global)

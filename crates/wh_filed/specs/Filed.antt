@@ -7,7 +7,7 @@
 --     IsShown, AllShown what is told of a partition is what it was
 --     AreAmong          each of some is one of others: where what is told of the others is right, so it is of these
 --     coded_filed       so that it can be what contracts see of a struct
-use Rattle.std.specs.Prelude.{◌≡◌, ℕ, List, map, Option, Some, refl}
+use Rattle.std.specs.Prelude.{◌≡◌, ℕ, ◌+◌, ◌≤◌, List, map, length, Option, Some, refl}
 use Rattle.std.specs.List.{AllByRecursion}
 use Rattle.std.specs.Global.{Global}
 use Rattle.std.specs.Arc.{arc_value}
@@ -41,9 +41,10 @@ loaded_of loaded = map arc_value loaded
 
 -- ---- what a reader is told
 
--- the bytes are told, and the partition is spelled where it stands
-abbrev pub IsShown : Option (List ℕ) → Filed → Type 0
-IsShown told f = told_in told f.width f.at f.length ≡ Some f.partition
+-- the bytes are told, its place is among them, and the partition is spelled there
+pub record IsShown (told : Option (List ℕ)) (f : Filed) : Type 0 where
+  pub spelled : told_in told f.width f.at f.length ≡ Some f.partition
+  pub within : (bytes : List ℕ) → told ≡ Some bytes → f.at + f.length ≤ length bytes
 
 abbrev pub AllShown : Option (List ℕ) → List Filed → Type 0
 AllShown told filed = AllByRecursion (IsShown told) filed

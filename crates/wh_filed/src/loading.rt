@@ -1,7 +1,7 @@
 //! Partitions that are asked for one after the other.
 ghost use Rattle.std.specs.Prelude.{◌≡◌, IfOk};
 ghost use Rattle.wh_fetch.specs.Device.{Counts};
-ghost use Rattle.wh_fetch.specs.DiskFetch.{told_of, faults_of, IsRight, GoesOn};
+ghost use Rattle.wh_fetch.specs.DiskFetch.{told_of, faults_of, damage_of, IsRight, GoesOn};
 ghost use Rattle.std.specs.Arc.{arc_value};
 ghost use Rattle.wh_filed.specs.Filed.{filed_at, partitions_at, loaded_of, IsShown, AllShown};
 
@@ -21,6 +21,8 @@ pub fn load<D: Disk>(
     requires { IsRight D.Disk fetch.old }
     ensures loaded { AllShown (told_of D.Disk fetch.old) (filed_at filed.now)
         → IfOk result (λ loaded. loaded_of loaded.items ≡ partitions_at filed.now) }
+    ensures sound { AllShown (told_of D.Disk fetch.old) (filed_at filed.now)
+        → damage_of fetch.new ≡ damage_of fetch.old }
     ensures same { told_of D.Disk fetch.new ≡ told_of D.Disk fetch.old }
     ensures goes { GoesOn D.Disk fetch.old fetch.new }
     ensures counts { Counts (faults_of D.Disk fetch.old) (faults_of D.Disk fetch.new) result }
@@ -41,6 +43,8 @@ fn take<D: Disk>(
     requires { IsRight D.Disk fetch.old }
     ensures loaded { IsShown (told_of D.Disk fetch.old) filed.now
         → IfOk result (λ found. arc_value found ≡ filed.now.partition) }
+    ensures sound { IsShown (told_of D.Disk fetch.old) filed.now
+        → damage_of fetch.new ≡ damage_of fetch.old }
     ensures same { told_of D.Disk fetch.new ≡ told_of D.Disk fetch.old }
     ensures goes { GoesOn D.Disk fetch.old fetch.new }
     ensures counts { Counts (faults_of D.Disk fetch.old) (faults_of D.Disk fetch.new) result }
