@@ -37,6 +37,6 @@ loaded_more fs i f loaded new found within at pushed so is =
     ∙ ap (λ (ps : List Partition). ps ++ arc_value found ∷ []) so
     ∙ ap (λ (p : Partition). partitions_at (take i fs) ++ p ∷ []) is
     ∙ sym (ap (λ (xs : List (Bor Filed)). partitions_at xs)
-        (take_more fs i f within ∙ ap (λ y. take i fs ++ y ∷ []) (sym at))
+    (take_more fs i f within ∙ ap (λ y. take i fs ++ y ∷ []) (sym at))
     ∙ ap partitions_filed (map-append (λ (y : Bor Filed). y.now) (take i fs) (f ∷ []))
     ∙ map-append (λ (y : Filed). y.partition) (filed_at (take i fs)) (f.now ∷ []))

@@ -14,8 +14,12 @@ use Rattle.wh_filed.specs.Filed.{Filed, IsShown}
 
 is_described : (meta : PartMeta) (p : Partition) → IsMetaOf meta p → describes meta p ≡ true
 is_described meta p is =
-    rw (eq-eqb meta.id.number p.number is.number, eq-eqb meta.rows (length p.rows) is.rows,
-    eq-eqb meta.first (first_number p.rows) is.first, eq-eqb meta.last (last_number p.rows) is.last) refl
+    rw (
+      eq-eqb meta.id.number p.number is.number,
+      eq-eqb meta.rows (length p.rows) is.rows,
+      eq-eqb meta.first (first_number p.rows) is.first,
+      eq-eqb meta.last (last_number p.rows) is.last,
+    ) refl
 
 abbrev pub IsPlaceOf : PartMeta → Filed → Type 0
 IsPlaceOf meta f = (meta.at ≡ f.at) × (meta.length ≡ f.length) × (vec_len meta.columns ≡ f.width)

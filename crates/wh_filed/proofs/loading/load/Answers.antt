@@ -8,7 +8,7 @@ loop-one-preserved g c =
     let at = c.loop-one in
     let told = told_of g.D.Disk c.args.fetch.now in
     let shown = shown_now told _ at.invariant.same c.args.filed.now at.one-index c.one-item.result
-        c.loop-one-test.true c.one-item.is in
+    c.loop-one-test.true c.one-item.is in
     record {
       right = c.in_ok-found.ensures.goes.right at.invariant.right;
       loaded = λ all. loaded_more c.args.filed.now at.one-index c.one-item.result at.loaded.items c.push.new.self.items
