@@ -3,11 +3,10 @@
 --     is_shown           it isn't, so its rows are shown
 --     is_undefined       it isn't, but a number is out of range
 --     rows_listed        its rows, by the tables that are read
-use Rattle.std.proofs.Common.{◌≡◌, ℕ, List, [], ◌∷◌, Option, Some, None, option_map, Result, Ok, Err}
+use Rattle.std.proofs.Common.{◌≡◌, ℕ, List, [], ◌∷◌, Option, Some, None, option_map}
 use Rattle.std.proofs.Common.{refl, ap, sym, ◌∙◌}
 use Rattle.std.specs.Prelude.{Vec}
 use Rattle.std.specs.declared.alloc.Global.{Global}
-use Rattle.std.specs.Result.{IfOk}
 use Rattle.wh_value.specs.Value.{Row}
 use Rattle.wh_meaning.specs.Bag.{Bag}
 use Rattle.wh_meaning.specs.Query.{Instance, eval}
@@ -76,13 +75,12 @@ pub is_undefined : (m : Machine) (session : ℕ) (b : BoundSelect) → sources_r
 is_undefined m session b = shown_as m session b None
 
 -- by the sources that are read
-pub rows_listed : {E : Type 0} (r : Result (Option (Vec Row Global)) E) (b : BoundSelect) (m : Machine) (session : ℕ)
+pub rows_listed : (found : Option (Vec Row Global)) (b : BoundSelect) (m : Machine) (session : ℕ)
     (seen : List SourceSeen) (ids : List ℕ) → ids ≡ b.sources.items → AreSeenAs seen (instance_read m session ids)
-    → IfOk r (λ found. (read : Instance) → AreSeenAs seen read → rows_found found
-    ≡ option_map (listed (keys_of b.keys.items)) (eval (query_of b.query) read))
-    → IfOk r (λ found. rows_found found ≡ option_map (listed (keys_of b.keys.items)) (bag_in m session b))
-rows_listed (Ok found) b m session seen ids is shown h =
+    → ((read : Instance) → AreSeenAs seen read
+    → rows_found found ≡ option_map (listed (keys_of b.keys.items)) (eval (query_of b.query) read))
+    → rows_found found ≡ option_map (listed (keys_of b.keys.items)) (bag_in m session b)
+rows_listed found b m session seen ids is shown h =
     h (instance_read m session ids) shown
     ∙ ap (λ (l : List ℕ). option_map (listed (keys_of b.keys.items))
     (eval (query_of b.query) (instance_read m session l))) is
-rows_listed (Err e) b m session seen ids is shown h = tt

@@ -10,5 +10,8 @@ pub mod ChangedRows
 pub mod Entries
 pub mod Standing
 pub mod Edited
+mod EvenRows
+mod Asked
 mod ArrivedRows
 pub mod MomentRows
+pub mod HoldLaws

@@ -17,14 +17,14 @@ pub staying_more : (removed : List ℕ) (k : Lasting) (ks : List Lasting)
     → staying removed (k ∷ ks) ≡ staying removed (k ∷ []) ++ staying removed ks
 staying_more removed k ks = pick (is_standing k)
   where
-    inner : (b : Bool) → cond b (k.partition ∷ staying removed ks) (staying removed ks)
-        ≡ cond b (k.partition ∷ []) [] ++ staying removed ks
+    inner : (b : Bool) → cond b (k.filed.partition ∷ staying removed ks) (staying removed ks)
+        ≡ cond b (k.filed.partition ∷ []) [] ++ staying removed ks
     inner true = refl
     inner false = refl
 
     pick : (s : Bool) → without removed (partitions_in (cond s (k ∷ filter is_standing ks) (filter is_standing ks)))
         ≡ without removed (partitions_in (cond s (k ∷ []) [])) ++ staying removed ks
-    pick true = inner (not (is_among k.partition.number removed))
+    pick true = inner (not (is_among k.filed.partition.number removed))
     pick false = refl
 
 pub all_more : (ps qs : List Partition) → all_rows (ps ++ qs) ≡ all_rows ps ++ all_rows qs

@@ -7,6 +7,8 @@ mod comparing;
 mod editing;
 mod fault;
 mod fitting;
+mod gathering;
+mod loading;
 mod moments;
 mod numbers;
 mod pushing;
@@ -14,6 +16,8 @@ mod rewriting;
 mod rows;
 mod table;
 
+pub use by_number::by_rows;
 pub use editing::EditedTable;
 pub use fault::StageFault;
+pub use rows::rows_of;
 pub use table::StoredTable;
