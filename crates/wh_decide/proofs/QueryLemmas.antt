@@ -2,7 +2,6 @@
 --     is_unread          it is refused for what it reads
 --     is_shown           it isn't, so its rows are shown
 --     is_undefined       it isn't, but a number is out of range
---     rows_listed        its rows, by the tables that are read
 use Rattle.std.proofs.Common.{◌≡◌, ℕ, List, [], ◌∷◌, Option, Some, None, option_map}
 use Rattle.std.proofs.Common.{refl, ap, sym, ◌∙◌}
 use Rattle.std.specs.Prelude.{Vec}
@@ -21,9 +20,7 @@ use Rattle.wh_machine.specs.Outcome.{Machine, Outcome, Refuses, answers, unless}
 use Rattle.wh_machine.specs.Queries.{listing_of}
 use Rattle.wh_machine.specs.Reading.{instance_read, reading_refusal}
 use Rattle.wh_machine.specs.Statements.{selects}
-use Rattle.wh_decide.specs.declared.sources.SourceSeen.{SourceSeen}
-use Rattle.wh_decide.specs.Rows.{rows_found}
-use Rattle.wh_decide.specs.Sources.{AreSeenAs, sources_refusal}
+use Rattle.wh_decide.specs.Sources.{sources_refusal}
 use Rattle.wh_decide.proofs.NamingLemmas.{only_width}
 
 -- its bag over what is read
@@ -73,14 +70,3 @@ pub is_undefined : (m : Machine) (session : ℕ) (b : BoundSelect) → sources_r
     → None ≡ option_map (listed (keys_of b.keys.items)) (bag_in m session b)
     → selects m session (select_of b) ≡ Refuses NumberOutOfRange
 is_undefined m session b = shown_as m session b None
-
--- by the sources that are read
-pub rows_listed : (found : Option (Vec Row Global)) (b : BoundSelect) (m : Machine) (session : ℕ)
-    (seen : List SourceSeen) (ids : List ℕ) → ids ≡ b.sources.items → AreSeenAs seen (instance_read m session ids)
-    → ((read : Instance) → AreSeenAs seen read
-    → rows_found found ≡ option_map (listed (keys_of b.keys.items)) (eval (query_of b.query) read))
-    → rows_found found ≡ option_map (listed (keys_of b.keys.items)) (bag_in m session b)
-rows_listed found b m session seen ids is shown h =
-    h (instance_read m session ids) shown
-    ∙ ap (λ (l : List ℕ). option_map (listed (keys_of b.keys.items))
-    (eval (query_of b.query) (instance_read m session l))) is

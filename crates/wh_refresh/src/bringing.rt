@@ -20,12 +20,13 @@ use crate::brought::{Brought, NewRows};
 use crate::evaluation::evaluated;
 use crate::objects::{dynamic_at, table_at};
 use crate::rebase::{Rebased, rebase};
-use crate::sources::{has_new_data, rows_by_source, sources_of};
+use crate::sources::{has_new_data, sources_held, sources_of};
 use std::alloc::Global;
 use wh_bag::Bag;
 use wh_catalog::{StoredObject, StoredTable};
 use wh_dynamic::Dynamic;
 use wh_fetch::{DiskFetch, FetchFault};
+use wh_filed::load;
 use wh_reply::RefreshAction;
 use wh_table::by_rows;
 use wh_world::Disk;
@@ -179,8 +180,7 @@ fn new_rows<D: Disk>(
     }))
 }
 
-// What its query gives, or None where that is undefined. The partitions of its sources are given
-// back.
+// What its query gives, or None where that is undefined.
 #[tactic(auto, using(wh_fetch::specs::DiskFetch::goes_none, wh_fetch::specs::DiskFetch::goes_on))]
 fn rows_by_query<D: Disk>(
     alloc: Global,
@@ -202,10 +202,9 @@ fn rows_by_query<D: Disk>(
     ensures goes { GoesOn D.Disk fetch.old fetch.new }
     ensures counts { Counts (faults_of D.Disk fetch.old) (faults_of D.Disk fetch.new) result }
 {
-    let sources = sources_of(alloc, objects, before, moment, dynamic.reads(), fetch)?;
-    let rows = rows_by_source(alloc, &sources)?;
-    let found = evaluated(alloc, objects, dynamic.query(), &rows)?;
-    Ok(found)
+    let held = sources_held(alloc, objects, before, moment, dynamic.reads())?;
+    let sources = sources_of(alloc, &held)?;
+    evaluated(alloc, objects, dynamic.query(), &sources, fetch)
 }
 
 // The edits that bring the rows of a table to these. Its partitions are given back.
@@ -225,7 +224,8 @@ fn rebased<D: Disk>(
     ensures goes { GoesOn D.Disk fetch.old fetch.new }
     ensures counts { Counts (faults_of D.Disk fetch.old) (faults_of D.Disk fetch.new) result }
 {
-    let old = table.loaded(alloc, fetch)?;
+    let standing = table.standing(alloc)?;
+    let old = load(alloc, &standing, fetch)?;
     let sorted = by_rows(alloc, &old, &[])?;
     let found = rebase(alloc, &sorted, &rows)?;
     Ok(found)

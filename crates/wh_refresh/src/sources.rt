@@ -1,118 +1,102 @@
 //! What the sources of a dynamic table hold at a moment, some of which were brought to it.
 ghost use Rattle.std.specs.Prelude.{◌≡◌, ◌||◌, ℕ, List, is_some, IfOk};
-ghost use Rattle.wh_meaning.specs.Bag.{Bag};
-ghost use Rattle.wh_exec.specs.Evaluation.{instance_of};
-ghost use Rattle.wh_fetch.specs.Device.{Counts};
-ghost use Rattle.wh_fetch.specs.DiskFetch.{told_of, faults_of, damage_of, IsRight, GoesOn};
-ghost use Rattle.wh_filed.specs.Filed.{AllShown};
+ghost use Rattle.wh_exec.specs.Source.{filed_in, instance_in};
+ghost use Rattle.wh_filed.specs.Filed.{AreAmong};
 ghost use Rattle.wh_state.specs.Moments.{bag_at, instance_at};
 ghost use Rattle.wh_machine.specs.Refresh as machine;
 ghost use Rattle.wh_machine.specs.Brought.{after_all, AreAbove, edits_sought};
 ghost use Rattle.wh_refresh.specs.Objects.{objects_in, stored_in, filed_at_objects};
 ghost use Rattle.wh_refresh.specs.Brought.{AreBrought};
-ghost use Rattle.wh_refresh.specs.Sources.{is_new_at, IsHeld, AreHeld};
+ghost use Rattle.wh_refresh.specs.Sources.{is_new_at, bag_held, bags_held, filed_by, filed_held};
 
 use crate::brought::{Brought, new_rows_of};
 use crate::objects::table_at;
 use std::alloc::{AllocError, Global};
-use std::sync::Arc;
 use wh_catalog::StoredObject;
-use wh_fetch::{DiskFetch, FetchFault};
+use wh_exec::{Parts, Source};
+use wh_filed::FiledPartition;
 use wh_part::Partition;
-use wh_table::rows_of;
-use wh_value::Row;
-use wh_world::Disk;
 
-/// The partitions that a source holds: those that were loaded, and those of a version to come.
-#[derive(Drop)]
-pub(crate) struct SourceRows<'a> {
-    pub stored: Vec<Arc<Partition>>,
+/// Where the rows of a source stand at a moment: in partitions of the file, and in those of a
+/// version to come.
+#[derive(Debug, Drop)]
+pub(crate) struct SourceHeld<'a> {
+    pub filed: Vec<&'a FiledPartition>,
     pub made: &'a [Partition],
 }
 
 /// What each source holds at a moment.
-#[tactic(auto, using(wh_fetch::specs::DiskFetch::goes_none, wh_fetch::specs::DiskFetch::goes_on))]
-pub(crate) fn sources_of<'a, D: Disk>(
+pub(crate) fn sources_held<'a>(
     alloc: Global,
-    objects: &[&StoredObject],
+    objects: &[&'a StoredObject],
     brought: &'a [Brought],
     moment: u64,
     ids: &[u32],
-    fetch: &mut DiskFetch<D>,
-) -> Result<Vec<SourceRows<'a>>, FetchFault>
-    requires { IsRight D.Disk fetch.old }
-    ensures held { AllShown (told_of D.Disk fetch.old) (filed_at_objects objects.now)
-        → IfOk result (λ sources. (stamp : ℕ) (bs : List machine.Brought)
+) -> Result<Vec<SourceHeld<'a>>, AllocError>
+    ensures held { IfOk result (λ sources. (stamp : ℕ) (bs : List machine.Brought)
         → AreBrought (stored_in objects.now) brought.now bs → AreAbove 0 bs
-        → AreHeld sources.items
-        (instance_at (after_all stamp moment bs (objects_in objects.now)) moment ids.now)) }
-    ensures sound { AllShown (told_of D.Disk fetch.old) (filed_at_objects objects.now)
-        → damage_of fetch.new ≡ damage_of fetch.old }
-    ensures same { told_of D.Disk fetch.new ≡ told_of D.Disk fetch.old }
-    ensures goes { GoesOn D.Disk fetch.old fetch.new }
-    ensures counts { Counts (faults_of D.Disk fetch.old) (faults_of D.Disk fetch.new) result }
+        → bags_held sources.items
+        ≡ instance_at (after_all stamp moment bs (objects_in objects.now)) moment ids.now) }
+    ensures among { IfOk result (λ sources.
+        AreAmong (filed_held sources.items) (filed_at_objects objects.now)) }
 {
     let mut sources = Vec::new(alloc);
     for id in ids {
-        let source = source_of(alloc, objects, brought, moment, *id, fetch)?;
+        let source = source_held(alloc, objects, brought, moment, *id)?;
         sources.push(source)?;
     }
     Ok(sources)
 }
 
-#[tactic(auto, using(wh_fetch::specs::DiskFetch::goes_none, wh_fetch::specs::DiskFetch::goes_on))]
-fn source_of<'a, D: Disk>(
+fn source_held<'a>(
     alloc: Global,
-    objects: &[&StoredObject],
+    objects: &[&'a StoredObject],
     brought: &'a [Brought],
     moment: u64,
     id: u32,
-    fetch: &mut DiskFetch<D>,
-) -> Result<SourceRows<'a>, FetchFault>
-    requires { IsRight D.Disk fetch.old }
-    ensures held { AllShown (told_of D.Disk fetch.old) (filed_at_objects objects.now)
-        → IfOk result (λ source. (stamp : ℕ) (bs : List machine.Brought)
+) -> Result<SourceHeld<'a>, AllocError>
+    ensures held { IfOk result (λ source. (stamp : ℕ) (bs : List machine.Brought)
         → AreBrought (stored_in objects.now) brought.now bs → AreAbove 0 bs
-        → IsHeld source
-        (bag_at (after_all stamp moment bs (objects_in objects.now)) moment id)) }
-    ensures sound { AllShown (told_of D.Disk fetch.old) (filed_at_objects objects.now)
-        → damage_of fetch.new ≡ damage_of fetch.old }
-    ensures same { told_of D.Disk fetch.new ≡ told_of D.Disk fetch.old }
-    ensures goes { GoesOn D.Disk fetch.old fetch.new }
-    ensures counts { Counts (faults_of D.Disk fetch.old) (faults_of D.Disk fetch.new) result }
+        → bag_held source
+        ≡ bag_at (after_all stamp moment bs (objects_in objects.now)) moment id) }
+    ensures among { IfOk result (λ source.
+        AreAmong (filed_by source) (filed_at_objects objects.now)) }
 {
     let Some(table) = table_at(objects, id) else {
-        return Ok(SourceRows {
-            stored: Vec::new(alloc),
+        return Ok(SourceHeld {
+            filed: Vec::new(alloc),
             made: &[],
         });
     };
     match new_rows_of(brought, id) {
         Some(rows) => {
-            let stored = table.loaded_beside(alloc, &rows.edited, fetch)?;
+            let filed = table.staying(alloc, &rows.edited)?;
             let made = rows.edited.added();
-            Ok(SourceRows { stored, made })
+            Ok(SourceHeld { filed, made })
         }
         None => {
-            let stored = table.loaded_at(alloc, moment, fetch)?;
-            Ok(SourceRows { stored, made: &[] })
+            let filed = table.standing_at(alloc, moment)?;
+            Ok(SourceHeld { filed, made: &[] })
         }
     }
 }
 
-/// The rows of each source.
-pub(crate) fn rows_by_source<'a>(
+/// Where the rows of each of them stand.
+pub(crate) fn sources_of<'a>(
     alloc: Global,
-    sources: &'a [SourceRows<'_>],
-) -> Result<Vec<Vec<&'a Row>>, AllocError>
-    ensures { IfOk result (λ rows. (bags : List Bag) → AreHeld sources.now bags
-        → instance_of rows.items ≡ bags) }
+    held: &'a [SourceHeld<'_>],
+) -> Result<Vec<Source<'a>>, AllocError>
+    ensures rows { IfOk result (λ sources. instance_in sources.items ≡ bags_held held.now) }
+    ensures filed { IfOk result (λ sources. filed_in sources.items ≡ filed_held held.now) }
 {
-    let mut rows = Vec::new(alloc);
-    for source in sources {
-        rows.push(rows_of(alloc, &source.stored, source.made)?)?;
+    let mut sources = Vec::new(alloc);
+    for source in held {
+        sources.push(Source::Parts(Parts {
+            filed: &source.filed,
+            made: source.made,
+        }))?;
     }
-    Ok(rows)
+    Ok(sources)
 }
 
 /// Whether one of the sources has a version for a moment behind one, up to another.

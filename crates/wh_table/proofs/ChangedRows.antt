@@ -26,7 +26,7 @@ use Rattle.wh_table.specs.Rows.{all_rows}
 use Rattle.wh_table.specs.Changes.{IsShown}
 use Rattle.wh_table.specs.Shown.{TurnsOver}
 use Rattle.wh_table.proofs.TableBag.{head_last, tail_last}
-use Rattle.wh_table.proofs.Standing.{all_more}
+use Rattle.wh_table.proofs.StandingLaws.{all_more}
 use Rattle.wh_table.proofs.Apart.{Decides-all_apart}
 use Rattle.wh_table.proofs.Pushed.{last_apart}
 use Rattle.wh_table.proofs.Rising.{all_rising, last_rising, each_filter}

@@ -8,7 +8,7 @@ pub mod OrderlyTables
 pub mod Chain
 pub mod ChangedRows
 pub mod Entries
-pub mod Standing
+pub mod StandingLaws
 pub mod Edited
 mod EvenRows
 mod Asked

@@ -14,6 +14,7 @@ mod numbers;
 mod pushing;
 mod rewriting;
 mod rows;
+mod standing;
 mod table;
 
 pub use by_number::by_rows;

@@ -4,6 +4,7 @@ use std::alloc::Global;
 use std::process::Abort;
 use wh_catalog::{Catalog, StageFault, Undo};
 use wh_fetch::DiskFetch;
+use wh_filed::load;
 use wh_part::{NumberedRow, Partition};
 use wh_record::{Change, Commit, TableChange, VersionChange};
 use wh_table::{by_rows, rows_of};
@@ -230,7 +231,8 @@ pub(crate) fn fetch_of(rt: &impl Abort, alloc: Global, staged: &Staged) -> DiskF
 fn holds(rt: &impl Abort, alloc: Global, staged: &Staged, id: u32, numbers: &[i64]) -> bool {
     let table = staged.catalog.table(id).expect(rt, "no table");
     let mut fetch = fetch_of(rt, alloc, staged);
-    let loaded = table.loaded(alloc, &mut fetch).expect(rt, "its partitions");
+    let standing = table.standing(alloc).expect(rt, "memory");
+    let loaded = load(alloc, &standing, &mut fetch).expect(rt, "its partitions");
     let found = rows_of(alloc, &loaded, &[]).expect(rt, "memory");
     are_rows_of(rt, alloc, &found, numbers)
 }
@@ -258,7 +260,8 @@ fn begin_with(found: &[&Partition], numbers: &[u64]) -> bool {
 fn is_by_rows(rt: &impl Abort, alloc: Global, staged: &Staged, id: u32, numbers: &[u64]) -> bool {
     let table = staged.catalog.table(id).expect(rt, "no table");
     let mut fetch = fetch_of(rt, alloc, staged);
-    let loaded = table.loaded(alloc, &mut fetch).expect(rt, "its partitions");
+    let standing = table.standing(alloc).expect(rt, "memory");
+    let loaded = load(alloc, &standing, &mut fetch).expect(rt, "its partitions");
     let found = by_rows(alloc, &loaded, &[]).expect(rt, "memory");
     begin_with(&found, numbers)
 }

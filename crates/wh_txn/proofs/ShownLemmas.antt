@@ -1,44 +1,53 @@
 -- What the partitions of a table that is seen say of its rows.
---     shows_loaded     it shows a table where it has partitions that hold its rows
---     shows_rows       its rows, each as often as it stands
+--     stands_in        a table's rows stand in partitions that hold them
+--     standing_bag     the bag of all rows that stand there, one after the other
+--     still_shown      what is told of the partitions in which it stands is right still
+--     shows_loaded     it shows a table where it has the partitions in which the rows stand
 --     shows_sorted     its rows by their numbers
-use Rattle.std.proofs.Common.{◌≡◌, ℕ, List, [], ◌++◌, map, Option, Some, None, refl, sym, ap, subst, ◌∙◌}
+use Rattle.std.proofs.Common.{◌≡◌, ℕ, List, ◌++◌, Option, Some, None, sym, ap, subst, ◌∙◌}
 use Rattle.std.specs.Global.{Global}
 use Rattle.std.specs.declared.sync.Arc.{Arc}
-use Rattle.std.specs.FinMap.{values, entries}
+use denote.Ref.{Bor}
+use Rattle.std.specs.FinMap.{entries}
 use Rattle.wh_value.specs.Value.{Row}
 use Rattle.wh_meaning.specs.Bag.{bag_of}
 use Rattle.wh_frame.specs.Partition.{Partition}
-use Rattle.wh_filed.specs.Filed.{loaded_of}
+use Rattle.wh_filed.specs.Filed.{Filed, filed_at, loaded_of, AllShown, AreAmong}
 use Rattle.wh_state.specs.State.{Rows, Table, last_rows}
-use Rattle.wh_state.specs.Stored.{rows_of}
-use Rattle.wh_state.proofs.AfterLaws.{entries_of}
 use Rattle.wh_machine.specs.Queries.{table_bag}
-use Rattle.wh_table.specs.Shown.{Holds}
+use Rattle.wh_table.specs.Rows.{rows_only, all_rows}
+use Rattle.wh_table.specs.Shown.{Holds, HoldsRising}
+use Rattle.wh_table.proofs.HoldLaws.{held_bag}
+use Rattle.wh_txn.specs.declared.standing.TableAt.{TableAt}
 use Rattle.wh_txn.specs.declared.seeing.TableSeen.{TableSeen}
-use Rattle.wh_txn.specs.Seen.{partitions_of, Shows}
+use Rattle.wh_txn.specs.Seen.{partitions_standing, StandsAt, partitions_of, Shows}
 
-pub shows_loaded : (seen : TableSeen) (partitions : List Partition) (t : Table) → partitions_of seen ≡ partitions
-    → Holds partitions (last_rows t) → Shows seen (Some t)
-shows_loaded seen partitions t is holds = subst (λ (ps : List Partition). Holds ps (last_rows t)) (sym is) holds
+pub stands_in : (at : TableAt) (partitions : List Partition) (t : Table) → partitions_standing at ≡ partitions
+    → HoldsRising partitions (last_rows t) → StandsAt at (Some t)
+stands_in at partitions t is holds = subst (λ (ps : List Partition). HoldsRising ps (last_rows t)) (sym is) holds
 
-holds_none : (partitions : List Partition) → partitions ≡ [] → Holds partitions (rows_of [])
-holds_none partitions none = subst (λ (ps : List Partition). Holds ps (rows_of [])) (sym none)
-    (record { apart = tt; rows = refl })
+pub standing_bag : (at : TableAt) (found : Option Table) → StandsAt at found
+    → bag_of (rows_only (all_rows (partitions_standing at))) ≡ table_bag found
+standing_bag at None none = ap (λ (ps : List Partition). bag_of (rows_only (all_rows ps))) none
+standing_bag at (Some t) holds = held_bag (partitions_standing at) (last_rows t) holds
+
+pub still_shown : (told now : Option (List ℕ)) (all : List Filed) (some same : List (Bor Filed)) → now ≡ told
+    → same ≡ some → AreAmong (filed_at some) all → AllShown told all → AllShown now (filed_at same)
+still_shown told now all some same is_told is_some among shown =
+    subst (λ (fs : List (Bor Filed)). AllShown now (filed_at fs)) (sym is_some)
+    (among now (subst (λ (bytes : Option (List ℕ)). AllShown bytes all) (sym is_told) shown))
+
+pub shows_loaded : (at : TableAt) (seen : TableSeen) (found : Option Table)
+    → partitions_of seen ≡ partitions_standing at → StandsAt at found → Shows seen found
+shows_loaded at seen None is none = is ∙ none
+shows_loaded at seen (Some t) is holds =
+    subst (λ (ps : List Partition). Holds ps (last_rows t)) (sym is) holds.holds
 
 module _ (seen : TableSeen) (stored : List (Arc Partition Global)) (made : List Partition)
     (stored_is : stored ≡ seen.stored.items) (made_is : made ≡ seen.made.items) where
   holds_here : (rows : Rows) → Holds (partitions_of seen) rows → Holds (loaded_of stored ++ made) rows
   holds_here rows holds = subst (λ (ps : List Partition). Holds ps rows)
       (sym (λ i. loaded_of (stored_is i) ++ made_is i)) holds
-
-  pub shows_rows : (found : List Row)
-      → ((rows : Rows) → Holds (loaded_of stored ++ made) rows → bag_of found ≡ bag_of (values rows))
-      → (table : Option Table) → Shows seen table → bag_of found ≡ table_bag table
-  shows_rows found are None none =
-      are (rows_of []) (holds_here (rows_of []) (holds_none (partitions_of seen) none))
-      ∙ ap (λ (es : List (ℕ × Row)). bag_of (map (λ e. e.1) es)) (entries_of [] tt)
-  shows_rows found are (Some t) holds = are (last_rows t) (holds_here (last_rows t) holds)
 
   pub shows_sorted : (found : List (ℕ × Row))
       → ((rows : Rows) → Holds (loaded_of stored ++ made) rows → found ≡ entries rows)

@@ -4,8 +4,8 @@ use Rattle.wh_reply.specs.View.{refusal_view}
 use Rattle.wh_reply.specs.declared.reply.Refusal.TheVariants as refused
 use Rattle.wh_reply.specs.declared.reply.Reply.TheVariants as told
 use Rattle.wh_catalog.specs.Catalog.{stored_of}
+use Rattle.wh_plan.specs.Rows.{rows_found}
 use Rattle.wh_txn.specs.View.{sessions_of}
-use Rattle.wh_decide.specs.Rows.{rows_found}
 use Rattle.wh_decide.specs.Sight.{machine_in}
 use Rattle.wh_decide.proofs.OutcomeLemmas.{declines, answers}
 use Rattle.wh_decide.proofs.ReadingLemmas.{found_read}

@@ -7,6 +7,7 @@ use Rattle.wh_state.specs.Objects.{table_at}
 use Rattle.wh_catalog.specs.Catalog.{state_of}
 use Rattle.wh_catalog.specs.Stream.{stream_of}
 use Rattle.wh_decide.specs.Sight.{machine_in, objects_seen}
+use Rattle.wh_txn.proofs.ShownLemmas.{standing_bag}
 use Rattle.wh_decide.proofs.SourceLemmas.{stream_rows, table_rows}
 use Rattle.wh_decide.proofs.sources.source_seen.Goals as goal
 
@@ -23,9 +24,7 @@ pub returns-clause-seen : goal.returns-clause-seen
 returns-clause-seen g c = λ shown.
     let sight = c.args.sight.now in
     let m = machine_in sight in
-    record {
-      table = table_at (objects_seen sight) c.args.id;
-      shown = c.in_ok-table.ensures.shows shown sight.stamp;
-      rows = sym (table_rows sight.catalog.now m.state (transaction_in m.sessions sight.session)
-          (start_in m sight.session) c.args.id refl (sym c.in_default.ensures));
-    }
+    standing_bag c.in_ok-table.table (table_at (objects_seen sight) c.args.id)
+    (c.in_ok-table.ensures.stands shown sight.stamp)
+    ∙ sym (table_rows sight.catalog.now m.state (transaction_in m.sessions sight.session)
+    (start_in m sight.session) c.args.id refl (sym c.in_default.ensures))

@@ -1,7 +1,10 @@
 use Rattle.std.proofs.Common.{rules, ◌∙◌}
 use Rattle.wh_fetch.specs.DiskFetch.{goes_on}
+use Rattle.wh_catalog.specs.Catalog.{filed_of}
 use Rattle.wh_machine.specs.Reading.{rows_read}
+use Rattle.wh_plan.proofs.ListLaws.{among_next}
 use Rattle.wh_decide.specs.Sight.{machine_in}
+use Rattle.wh_decide.specs.Sources.{filed_by}
 use Rattle.wh_decide.proofs.ReadyLemmas.{still_shown}
 use Rattle.wh_decide.proofs.SourceLemmas.{seen_next}
 use Rattle.wh_decide.proofs.sources.sources_seen.Goals as goal
@@ -14,6 +17,8 @@ loop-id-preserved g c =
       seen = λ shown. seen_next (rows_read (machine_in sight) sight.session) c.args.ids.now at.id-index at.seen.items _
           c.in_ok-source.source c.loop-id-test.true c.in_ok-push.ensures.items (at.invariant.seen shown)
           (c.in_ok-source.ensures.seen (still_shown sight at.invariant.same shown));
+      among = among_next filed_by (filed_of sight.catalog.now) at.seen.items _ c.in_ok-source.source
+          c.in_ok-push.ensures.items at.invariant.among c.in_ok-source.ensures.among;
       sound = λ shown. c.in_ok-source.ensures.sound (still_shown sight at.invariant.same shown)
           ∙ at.invariant.sound shown;
       same = search rules;

@@ -4,7 +4,7 @@ use Rattle.wh_frame.specs.Partition.{Partition}
 use Rattle.wh_state.specs.Orderly.{HasRisingRows}
 use Rattle.wh_version.proofs.Steps.{one_on, all_on}
 use Rattle.wh_table.specs.Rows.{partitions_at}
-use Rattle.wh_table.proofs.Standing.{each_more}
+use Rattle.wh_table.proofs.StandingLaws.{each_more}
 use Rattle.wh_table.proofs.gathering.add_all.Goals as goal
 
 pub loop-partition-preserved : goal.loop-partition-preserved
