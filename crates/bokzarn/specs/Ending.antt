@@ -43,6 +43,8 @@ fault_reason_of faults.Disk = codes "bokzarn: the file failed\n"
 fault_reason_of faults.Script = codes "bokzarn: the script can't be read\n"
 fault_reason_of faults.Output = codes "bokzarn: the replies can't be written\n"
 fault_reason_of (faults.NotWarehouse at) = foreign_reason_of at
+fault_reason_of (faults.Damaged at) =
+    codes "bokzarn: at byte " ++ (decimal at ++ codes " of the file stands no partition as it was written\n")
 fault_reason_of (faults.FileFull len need) = codes "bokzarn: a commit at byte " ++ (decimal len ++ (codes " needs "
     ++ (decimal need ++ codes " bytes, and a file has at most 1099511627776\n")))
 fault_reason_of (faults.ScriptTooLong taken) =

@@ -60,6 +60,10 @@ fn write_fault<W: Write>(err: &mut W, fault: &Fault) -> io::Result<()>
         Fault::Script => write!(err, "bokzarn: the script can't be read\n"),
         Fault::Output => write!(err, "bokzarn: the replies can't be written\n"),
         Fault::NotWarehouse { at } => write_foreign(err, *at),
+        Fault::Damaged { at } => write!(
+            err,
+            "bokzarn: at byte {at} of the file stands no partition as it was written\n"
+        ),
         Fault::FileFull { len, need } => write!(
             err,
             "bokzarn: a commit at byte {len} needs {need} bytes, and a file has at most 1099511627776\n"

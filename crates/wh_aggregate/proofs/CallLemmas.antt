@@ -1,16 +1,20 @@
 -- What calls answer over listed rows: each call's fold over the bag is its part of the totals.
 --     answers-bag_of     the answers of calls over a bag of rows are those of the rows' totals
-use Rattle.std.specs.Prelude.{◌≡◌, suc, List, [], ◌∷◌, ℤ, pos, ◌+ℤ◌, Option, Some, None}
-use Rattle.std.proofs.Common.{refl, sym, ap, ◌∙◌, arith}
-use Rattle.wh_value.specs.Value.{Value, Number, Truth, Text, Null, Row}
+use Rattle.std.specs.Prelude.{◌≡◌, suc, List, [], ◌∷◌, pos, Option, Some, None}
+use Rattle.std.proofs.Common.{refl, sym, ap, ◌∙◌}
+use Rattle.wh_value.specs.Value.{Row}
 use Rattle.wh_meaning.specs.Scalar.{Scalar, val, of_one, of_two}
 use Rattle.wh_meaning.specs.Bag.{bag_of}
-use Rattle.wh_meaning.specs.Query.{Call, Sum, CountRows, Count, Total, with_number, with_argument, with_value}
+use Rattle.wh_meaning.specs.Query.{Call, Sum, CountRows, Count, Total, with_argument, with_value}
 use Rattle.wh_meaning.specs.Query.{sum_value, count_value, call_over, calls_over, total_of}
 use Rattle.wh_meaning.proofs.BagLaws.{fold_list, fold_bag_of}
 use Rattle.wh_meaning.proofs.Listed.{argument-turned}
-use Rattle.wh_aggregate.specs.Tally.{argument_of, nothing, before, tallied, answer, answers}
-use Rattle.wh_aggregate.specs.RunningGroups.{totals_from}
+use Rattle.wh_aggregate.specs.Tally.{argument_of, nothing, before, begun, tallied, answer, answers}
+
+-- the totals of calls over rows, from the last to the first
+abbrev pub totals_from : List Call → List Row → Option (List Total)
+totals_from calls [] = Some (begun calls)
+totals_from calls (row ∷ rows) = of_one (tallied calls row) (totals_from calls rows)
 
 -- what one call adds up over rows
 abbrev total_from : Call → List Row → Option Total

@@ -5,10 +5,9 @@
 use Rattle.std.specs.Prelude.{◌≡◌, Option, None, Result, Ok, Err}
 use Rattle.std.proofs.Common.{sym, subst}
 use Rattle.std.specs.Result.{IsErrAnd}
-use Rattle.wh_meaning.specs.Bag.{Bag}
 use Rattle.wh_scalar.specs.declared.fault.EvalFault.{EvalFault}
 use Rattle.wh_scalar.specs.declared.fault.EvalFault.TheVariants.{NumberOutOfRange, OutOfMemory}
-use Rattle.wh_aggregate.specs.Given.{IsFaultOf, Gives, GivesRows}
+use Rattle.wh_aggregate.specs.Given.{IsFaultOf, Leaves}
 
 -- the whole has nothing without the part
 pub still : {A B : Type 0} (fault : EvalFault) (part : Option A) (whole : Option B) → (part ≡ None → whole ≡ None)
@@ -21,11 +20,8 @@ pub passed_on : {T : Type 0} (r : Result T EvalFault) (fault : EvalFault) (P : R
 passed_on (Ok x) fault P gives is = absurd gives
 passed_on (Err f) fault P gives is = subst (λ e. P (Err e)) (sym gives) is
 
-pub stopped : {A B : Type 0} (r : Result B EvalFault) (fault : EvalFault) (part : Option A) (whole : Option B)
-    → IsErrAnd r (λ f. f ≡ fault) → (part ≡ None → whole ≡ None) → IsFaultOf fault part → Gives r whole
-stopped r fault part whole gives stops is =
-    passed_on r fault (λ x. Gives x whole) gives (still fault part whole stops is)
-
-pub fault_of_rows : (fault : EvalFault) (meant : Option Bag) → IsFaultOf fault meant → GivesRows (Err fault) meant
-fault_of_rows NumberOutOfRange meant is = is
-fault_of_rows OutOfMemory meant is = tt
+pub stopped : {A B C : Type 0} (r : Result B EvalFault) (fault : EvalFault) (part : Option A) (state : C)
+    (whole : Option C)
+    → IsErrAnd r (λ f. f ≡ fault) → (part ≡ None → whole ≡ None) → IsFaultOf fault part → Leaves r state whole
+stopped r fault part state whole gives stops is =
+    passed_on r fault (λ x. Leaves x state whole) gives (still fault part whole stops is)

@@ -1,8 +1,7 @@
 -- What the walk over the rows computes is what a Group means.
 --     grouped-listed        where it ends, the rows of its groups are those that are meant
 --     grouped-undefined     where it stops, none are meant
---     grouped-whole         the same without keys
-use Rattle.std.specs.Prelude.{◌≡◌, ℕ, Bool, true, false, cond, ◌||◌, ◌⊎◌, List, [], ◌∷◌, ◌++◌, map, filter, Option}
+use Rattle.std.specs.Prelude.{◌≡◌, ℕ, Bool, true, false, cond, ◌||◌, ◌⊎◌, List, [], ◌∷◌, ◌++◌, map, Option}
 use Rattle.std.specs.Prelude.{Some, None, option_map, is_some, unwrap_or}
 use Rattle.std.proofs.Common.{refl, sym, ap, ◌∙◌, inl, inr}
 use Rattle.std.specs.List.{AllByRecursion, list_any}
@@ -13,17 +12,17 @@ use Rattle.wh_value.specs.Value.{Row, row_cmp}
 use Rattle.wh_value.specs.Order.{row_total}
 use Rattle.wh_meaning.specs.Scalar.{Scalar, of_one, of_two}
 use Rattle.wh_meaning.specs.Bag.{Bag, no_rows, one_row, with_row, count, bag_of, beside}
-use Rattle.wh_meaning.specs.Query.{Call, Total, values_on, image_by, projected, calls_over, is_row, with_key, grouped}
+use Rattle.wh_meaning.specs.Query.{Call, Total, values_on, image_by, projected, calls_over, is_row, with_key}
+use Rattle.wh_meaning.specs.Query.{distinct, grouped}
 use Rattle.wh_meaning.specs.Query as meaning
 use Rattle.wh_meaning.proofs.BagLaws.{tied_rows, one_row-plus, restricted-bag_of}
 use Rattle.wh_meaning.proofs.Gathered.{gathered-no_rows, gathered-with_row}
 use Rattle.wh_meaning.proofs.Listed.{rows_with}
 use Rattle.wh_aggregate.specs.Tally.{begun, tallied, answers}
-use Rattle.wh_aggregate.specs.RunningGroups.{RunningGroups, totals_from, totals_at, noted, groups_from, group_row}
-use Rattle.wh_aggregate.specs.RunningGroups.{row_before, listed}
-use Rattle.wh_aggregate.specs.RunningGroups.{alone, whole_from}
-use Rattle.wh_aggregate.proofs.CallLemmas.{answers-bag_of, nothing_beside}
-use Rattle.wh_aggregate.proofs.KeyLemmas.{keys-insert, keys-empty, tied, entries_found}
+use Rattle.wh_aggregate.specs.Groups.{Groups, begun_groups, totals_at, noted, groups_of, row_before, listed}
+use Rattle.wh_aggregate.proofs.CallLemmas.{totals_from, answers-bag_of, nothing_beside}
+use Rattle.wh_aggregate.proofs.KeyLemmas.{put_key, keys-insert, keys-insert_put, keys-empty, keys-empty_none}
+use Rattle.wh_aggregate.proofs.KeyLemmas.{tied, entries_found}
 
 abbrev has_key : List Scalar → Row → Row → Bool
 has_key by key row = is_row key (values_on by row)
@@ -35,17 +34,17 @@ mapped : {A B : Type 0} (f : A → B) (o : Option A) (y : B) → option_map f o 
 mapped f None y e = cc
 mapped f (Some x) y e = (x, refl, cc)
 
-record Step (calls : List Call) (row : Row) (key_found : Option Row) (found : Option RunningGroups)
-    (groups : RunningGroups) : Type 0 where
+record Step (calls : List Call) (row : Row) (key_found : Option Row) (found : Option Groups) (groups : Groups)
+    : Type 0 where
   key : Row
-  before : RunningGroups
+  before : Groups
   totals : List Total
   key_is : key_found ≡ Some key
   before_is : found ≡ Some before
   totals_is : tallied calls row (totals_at calls before key) ≡ Some totals
   groups_is : groups ≡ insert before key totals
 
-step_of : (calls : List Call) (row : Row) (k : Option Row) (g : Option RunningGroups) (groups : RunningGroups)
+step_of : (calls : List Call) (row : Row) (k : Option Row) (g : Option Groups) (groups : Groups)
     → of_two (noted calls row) k g ≡ Some groups
     → Step calls row k g groups
 step_of calls row None g groups e = cc
@@ -64,7 +63,7 @@ step_of calls row (Some key) (Some before) groups e =
 
 -- ---- the totals at a key are those of the rows that have it
 
-module _ (calls : List Call) (row : Row) (key : Row) (before : RunningGroups) (totals : List Total)
+module _ (calls : List Call) (row : Row) (key : Row) (before : Groups) (totals : List Total)
     (totals_is : tallied calls row (totals_at calls before key) ≡ Some totals) where
   totals_step : (q : Row) (rows : List Row) (b : Bool) → is_eq (row_cmp q key) ≡ b
       → totals_from calls rows ≡ Some (totals_at calls before q)
@@ -75,14 +74,24 @@ module _ (calls : List Call) (row : Row) (key : Row) (before : RunningGroups) (t
       ∙ ap (λ k. tallied calls row (totals_at calls before k)) (tied_rows q key t) ∙ totals_is
   totals_step q rows false t e = e
 
-own_totals : (by : List Scalar) (calls : List Call) (rows : List Row) (groups : RunningGroups)
-    → groups_from by calls rows ≡ Some groups → (q : Row)
+begun_at : (by : List Scalar) (calls : List Call) (q : Row) → totals_at calls (begun_groups by calls) q ≡ begun calls
+begun_at [] calls q =
+    ap (λ o. unwrap_or o (begun calls)) (get-insert row_total empty [] (begun calls) q)
+    ∙ elim (is_eq (row_cmp q []))
+    as (λ t. unwrap_or (cond t (Some (begun calls)) (get (empty {R = row_cmp}) q)) (begun calls) ≡ begun calls) [
+      | true ↦ refl
+      | false ↦ ap (λ o. unwrap_or o (begun calls)) (get-empty row_cmp q)
+    ]
+begun_at (e ∷ es) calls q = ap (λ o. unwrap_or o (begun calls)) (get-empty row_cmp q)
+
+own_totals : (by : List Scalar) (calls : List Call) (rows : List Row) (groups : Groups)
+    → groups_of by calls rows ≡ Some groups → (q : Row)
     → totals_from calls (rows_with by q rows) ≡ Some (totals_at calls groups q)
 own_totals by calls [] groups e q =
-    let is : empty ≡ groups = cc in
-    ap (λ o. Some (unwrap_or o (begun calls))) (sym (get-empty row_cmp q) ∙ ap (λ m. get m q) is)
+    let is : begun_groups by calls ≡ groups = cc in
+    ap Some (sym (begun_at by calls q)) ∙ ap (λ m. Some (totals_at calls m q)) is
 own_totals by calls (row ∷ rows) groups e q =
-    let s = step_of calls row (values_on by row) (groups_from by calls rows) groups e in
+    let s = step_of calls row (values_on by row) (groups_of by calls rows) groups e in
     ap (λ k. totals_from calls (cond (is_row q k) (row ∷ rows_with by q rows) (rows_with by q rows))) s.key_is
     ∙ totals_step calls row s.key s.before s.totals s.totals_is q (rows_with by q rows) (is_eq (row_cmp q s.key)) refl
     (own_totals by calls rows s.before s.before_is q)
@@ -101,19 +110,32 @@ one_more key o p keyed o_is p_is =
     ap (λ x. beside (option_map one_row x) p) o_is ∙ ap (beside (Some (one_row key))) p_is
     ∙ ap Some (one_row-plus key keyed)
 
-keyed_rows : (by : List Scalar) (calls : List Call) (rows : List Row) (groups : RunningGroups)
-    → groups_from by calls rows ≡ Some groups
-    → (keyed : Bag) × (projected by (bag_of rows) ≡ Some keyed) × (keys groups ≡ keys keyed)
+begun_keys : (by : List Scalar) (calls : List Call) → keys (begun_groups by calls) ≡ distinct by no_rows
+begun_keys [] calls = keys-insert_put empty [] (begun calls) ∙ ap (put_key []) (keys-empty_none (List Total))
+begun_keys (e ∷ es) calls = keys-empty (List Total) ℕ
+
+keys_more : (by : List Scalar) (row key : Row) (totals : List Total) (groups : Groups) (keyed : Bag)
+    → values_on by row ≡ Some key → keys groups ≡ distinct by keyed
+    → keys (insert groups key totals) ≡ distinct by (with_row key keyed)
+unfolding values_on
+keys_more [] row key totals groups keyed key_is same =
+    let none : [] ≡ key = cc in
+    ap (λ k. keys (insert groups k totals)) (sym none) ∙ keys-insert_put groups [] totals ∙ ap (put_key []) same
+keys_more (e ∷ es) row key totals groups keyed key_is same = keys-insert groups keyed key totals (count keyed key) same
+
+keyed_rows : (by : List Scalar) (calls : List Call) (rows : List Row) (groups : Groups)
+    → groups_of by calls rows ≡ Some groups
+    → (keyed : Bag) × (projected by (bag_of rows) ≡ Some keyed) × (keys groups ≡ distinct by keyed)
 keyed_rows by calls [] groups e =
-    let is : groups ≡ empty = cc in
-    (no_rows, gathered-no_rows (image_by by), ap keys is ∙ keys-empty (List Total) ℕ)
+    let is : groups ≡ begun_groups by calls = cc in
+    (no_rows, gathered-no_rows (image_by by), ap keys is ∙ begun_keys by calls)
 keyed_rows by calls (row ∷ rows) groups e =
-    let s = step_of calls row (values_on by row) (groups_from by calls rows) groups e in
+    let s = step_of calls row (values_on by row) (groups_of by calls rows) groups e in
     let rest = keyed_rows by calls rows s.before s.before_is in (
       with_row s.key rest.0,
       projected-more by row rows
           ∙ one_more s.key (values_on by row) (projected by (bag_of rows)) rest.0 s.key_is rest.1,
-      ap keys s.groups_is ∙ keys-insert s.before rest.0 s.key s.totals (count rest.0 s.key) rest.2,
+      ap keys s.groups_is ∙ keys_more by row s.key s.totals s.before rest.0 s.key_is rest.2,
     )
 
 -- a key that a row has is among them
@@ -152,6 +174,24 @@ keyed_has by q (row ∷ rows) keyed e =
     ∙ ap (λ b. is_eq (row_cmp q i.key) || b) (keyed_has by q rows i.rest i.rest_is)
     ∙ ap (λ k. is_row q k || list_any (has_key by q) rows) (sym i.key_is)
 
+-- without keys a row has the empty key alone
+own_key : (q : Row) (rows : List Row) → list_any (has_key [] q) rows ≡ true → is_eq (row_cmp q []) ≡ true
+unfolding values_on
+own_key q [] any = cc
+own_key q (row ∷ rows) any =
+    elim (is_eq (row_cmp q [])) as (λ t. is_eq (row_cmp q []) ≡ t → (t || list_any (has_key [] q) rows) ≡ true
+    → t ≡ true) [
+      | true ↦ λ _ _. refl
+      | false ↦ λ t later. sym t ∙ own_key q rows later
+    ] refl any
+
+distinct_has : (by : List Scalar) (q : Row) (rows : List Row) (keyed : Bag) → projected by (bag_of rows) ≡ Some keyed
+    → list_any (has_key by q) rows ≡ true
+    → list_any (eq_by_cmp row_cmp q) (distinct by keyed) ≡ true
+distinct_has [] q rows keyed p any = or_left (is_eq (row_cmp q [])) _ (own_key q rows any)
+distinct_has (e ∷ es) q rows keyed p any =
+    sym (contains_key-keys keyed q) ∙ keyed_has (e ∷ es) q rows keyed p ∙ any
+
 -- ---- where the walk ends
 
 calls_of_key : (by : List Scalar) (calls : List Call) (rows : List Row) (key : Row)
@@ -178,8 +218,8 @@ rows_listed by calls b (e ∷ es) all =
     ∙ ap (beside (option_map (λ values. one_row (e.0 ++ values)) (answers calls e.1))) (rows_listed by calls b es all.1)
     ∙ group_before e.0 (answers calls e.1) (listed calls es)
 
-entries_answered : (by : List Scalar) (calls : List Call) (rows : List Row) (groups : RunningGroups)
-    → groups_from by calls rows ≡ Some groups → (es : List (Row × List Total))
+entries_answered : (by : List Scalar) (calls : List Call) (rows : List Row) (groups : Groups)
+    → groups_of by calls rows ≡ Some groups → (es : List (Row × List Total))
     → AllByRecursion (λ e. get groups e.0 ≡ Some e.1) es
     → AllByRecursion (λ e. calls_over (with_key by e.0 (bag_of rows)) calls ≡ answers calls e.1) es
 entries_answered by calls rows groups is [] all = tt
@@ -190,13 +230,12 @@ entries_answered by calls rows groups is (e ∷ es) all = (
   entries_answered by calls rows groups is es all.1,
 )
 
-pub grouped-listed : (e : Scalar) (es : List Scalar) (calls : List Call) (rows : List Row) (groups : RunningGroups)
-    → groups_from (e ∷ es) calls rows ≡ Some groups
-    → grouped (e ∷ es) calls (bag_of rows) ≡ option_map bag_of (listed calls (entries groups))
-grouped-listed e es calls rows groups is =
-    let by = e ∷ es in
+pub grouped-listed : (by : List Scalar) (calls : List Call) (rows : List Row) (groups : Groups)
+    → groups_of by calls rows ≡ Some groups
+    → grouped by calls (bag_of rows) ≡ option_map bag_of (listed calls (entries groups))
+grouped-listed by calls rows groups is =
     let keyed = keyed_rows by calls rows groups is in
-    ap (of_one (λ k. meaning.group_rows by calls (bag_of rows) (keys k))) keyed.1
+    ap (of_one (λ k. meaning.group_rows by calls (bag_of rows) (distinct by k))) keyed.1
     ∙ ap (meaning.group_rows by calls (bag_of rows)) (sym keyed.2)
     ∙ rows_listed by calls (bag_of rows) (entries groups)
     (entries_answered by calls rows groups is (entries groups) (entries_found groups))
@@ -222,8 +261,8 @@ mapped_none f None e = refl
 mapped_none f (Some x) e = cc
 
 undefined_step : (by : List Scalar) (calls : List Call) (row : Row) (rows : List Row) (k : Option Row)
-    → values_on by row ≡ k → (g : Option RunningGroups) → groups_from by calls rows ≡ g
-    → (groups_from by calls rows ≡ None → Undefined by calls rows) → of_two (noted calls row) k g ≡ None
+    → values_on by row ≡ k → (g : Option Groups) → groups_of by calls rows ≡ g
+    → (groups_of by calls rows ≡ None → Undefined by calls rows) → of_two (noted calls row) k g ≡ None
     → Undefined by calls (row ∷ rows)
 undefined_step by calls row rows None k_is g g_is earlier e =
     inl (projected-more by row rows ∙ ap (λ o. beside (option_map one_row o) (projected by (bag_of rows))) k_is)
@@ -247,11 +286,11 @@ undefined_step by calls row rows (Some key) k_is (Some groups) g_is earlier e =
           ∙ mapped_none (insert groups key) (tallied calls row (totals_at calls groups key)) e;
     })
 
-undefined : (by : List Scalar) (calls : List Call) (rows : List Row) → groups_from by calls rows ≡ None
+undefined : (by : List Scalar) (calls : List Call) (rows : List Row) → groups_of by calls rows ≡ None
     → Undefined by calls rows
 undefined by calls [] e = cc
 undefined by calls (row ∷ rows) e =
-    undefined_step by calls row rows (values_on by row) refl (groups_from by calls rows) refl
+    undefined_step by calls row rows (values_on by row) refl (groups_of by calls rows) refl
     (undefined by calls rows) e
 
 no_group_rows : (by : List Scalar) (calls : List Call) (b : Bag) (key : Row)
@@ -268,58 +307,19 @@ no_group_rows by calls b key none (k ∷ ks) any =
           ∙ nothing_beside _ (meaning.group_row by calls b k)
     ] refl any
 
-pub grouped-undefined : (e : Scalar) (es : List Scalar) (calls : List Call) (rows : List Row)
-    → groups_from (e ∷ es) calls rows ≡ None
-    → grouped (e ∷ es) calls (bag_of rows) ≡ None
-grouped-undefined e es calls rows is =
-    let by = e ∷ es in
+pub grouped-undefined : (by : List Scalar) (calls : List Call) (rows : List Row) → groups_of by calls rows ≡ None
+    → grouped by calls (bag_of rows) ≡ None
+grouped-undefined by calls rows is =
     let b = bag_of rows in
     elim (undefined by calls rows is) as (λ _. grouped by calls b ≡ None) [
-      | inl none ↦ ap (of_one (λ k. meaning.group_rows by calls b (keys k))) none
+      | inl none ↦ ap (of_one (λ k. meaning.group_rows by calls b (distinct by k))) none
       | inr w ↦
           let none : calls_over (with_key by w.key b) calls ≡ None =
           calls_of_key by calls rows w.key ∙ ap (of_one (answers calls)) w.without in
           elim (projected by b)
-          as (λ p. projected by b ≡ p → of_one (λ k. meaning.group_rows by calls b (keys k)) p ≡ None) [
+          as (λ p. projected by b ≡ p → of_one (λ k. meaning.group_rows by calls b (distinct by k)) p ≡ None) [
             | None ↦ λ _. refl
-            | Some keyed ↦ λ p. no_group_rows by calls b w.key none (keys keyed)
-                (sym (contains_key-keys keyed w.key) ∙ keyed_has by w.key rows keyed p ∙ w.stands)
+            | Some keyed ↦ λ p. no_group_rows by calls b w.key none (distinct by keyed)
+                (distinct_has by w.key rows keyed p w.stands)
           ] refl
     ]
-
--- ---- without keys
-
-keyed_anyway : (rows : List Row) → (keyed : Bag) × (projected [] (bag_of rows) ≡ Some keyed)
-unfolding values_on
-keyed_anyway [] = (no_rows, gathered-no_rows (image_by []))
-keyed_anyway (row ∷ rows) =
-    let rest = keyed_anyway rows in (
-      with_row [] rest.0,
-      projected-more [] row rows
-          ∙ one_more [] (values_on [] row) (projected [] (bag_of rows)) rest.0 refl rest.1,
-    )
-
-all_own : (rows : List Row) → rows_with [] [] rows ≡ rows
-unfolding values_on
-all_own [] = refl
-all_own (row ∷ rows) = ap (λ rest. row ∷ rest) (all_own rows)
-
-one_answer : (a : Option Row)
-    → beside (option_map (λ values. one_row ([] ++ values)) a) (Some no_rows)
-    ≡ option_map bag_of (option_map alone (option_map (λ values. [] ++ values) a))
-one_answer None = refl
-one_answer (Some values) = ap Some (one_row-plus values no_rows)
-
-one_group : (calls : List Call) (found : Option (List Total)) →
-    beside (option_map (λ values. one_row ([] ++ values)) (of_one (answers calls) found)) (Some no_rows)
-    ≡ option_map bag_of (option_map alone (of_one (group_row calls []) found))
-one_group calls None = refl
-one_group calls (Some totals) = one_answer (answers calls totals)
-
-pub grouped-whole : (calls : List Call) (rows : List Row)
-    → grouped [] calls (bag_of rows) ≡ option_map bag_of (whole_from calls rows)
-grouped-whole calls rows =
-    ap (of_one (λ k. meaning.group_rows [] calls (bag_of rows) ([] ∷ []))) (keyed_anyway rows).1
-    ∙ ap (λ a. beside (option_map (λ values. one_row ([] ++ values)) a) (Some no_rows))
-    (calls_of_key [] calls rows [] ∙ ap (λ xs. of_one (answers calls) (totals_from calls xs)) (all_own rows))
-    ∙ one_group calls (totals_from calls rows)

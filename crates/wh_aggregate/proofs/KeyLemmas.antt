@@ -1,8 +1,10 @@
 -- The keys of groups, and those of the bag of keys.
+--     keys-insert_put       the keys of a map with a key more
+--     keys-empty_none       the empty map has none
 --     keys-insert           the keys of a map with a key more are those of any map with the same keys
 --     entries_found         each entry of a map is what the map has at its key
-use Rattle.std.specs.Prelude.{◌≡◌, Bool, true, false, cond, T, ◌&&◌, List, [], ◌∷◌, map, length, Option, Some, None}
-use Rattle.std.proofs.Common.{refl, sym, ap, ◌∙◌, arith}
+use Rattle.std.specs.Prelude.{◌≡◌, true, false, cond, T, List, [], ◌∷◌, map, Some}
+use Rattle.std.proofs.Common.{refl, sym, ap, ◌∙◌}
 use Rattle.std.specs.List.{AllByRecursion}
 use Rattle.std.proofs.lemmas.List.{nil_from_length}
 use Rattle.std.specs.declared.cmp.Ordering.{Ordering}
@@ -18,7 +20,7 @@ use Rattle.wh_value.proofs.TestLaws.{both_hold}
 
 -- ---- a key more
 
-abbrev put_key : Row → List Row → List Row
+abbrev pub put_key : Row → List Row → List Row
 put_key key [] = key ∷ []
 put_key key (x ∷ xs) = by_order (row_cmp key x) (key ∷ x ∷ xs) (x ∷ xs) (x ∷ put_key key xs)
 
@@ -35,10 +37,10 @@ module _ {X : Type 0} where
         | Greater ↦ ap (λ ks. e.0 ∷ ks) (keys-put key v es)
       ]
 
-  keys-insert_put : (m : FinMap row_cmp X) (key : Row) (v : X) → keys (insert m key v) ≡ put_key key (keys m)
+  pub keys-insert_put : (m : FinMap row_cmp X) (key : Row) (v : X) → keys (insert m key v) ≡ put_key key (keys m)
   keys-insert_put m key v = ap (λ es. map (λ e. e.0) es) (entries-insert row_total m key v) ∙ keys-put key v (entries m)
 
-keys-empty_none : (X : Type 0) → keys (empty {X = X} {R = row_cmp}) ≡ []
+pub keys-empty_none : (X : Type 0) → keys (empty {X = X} {R = row_cmp}) ≡ []
 keys-empty_none X =
     ap (λ es. map (λ e. e.0) es) (nil_from_length (entries empty) (sym (len-entries empty) ∙ len-empty row_cmp X))
 

@@ -1,29 +1,28 @@
--- Where the loops over calls, scalars and rows stand and end.
+-- Where the loops over calls, scalars and rows stand and end, and what calls on groups give.
 use Rattle.std.specs.Prelude.{◌≡◌, ℕ, zero, suc, ◌+◌, ◌-◌, ◌<◌, ◌≤◌, List, [], ◌∷◌, ◌++◌, Option, Some, None, Result}
-use Rattle.std.specs.Prelude.{Ok, Err, Vec, option_map, length, drop, min}
+use Rattle.std.specs.Prelude.{Ok, Err, Vec, option_map, length, take, drop, min}
 use Rattle.std.proofs.Common.{refl, sym, ap, ◌∙◌, arith, append-nil, append_assoc, get_or}
 use Rattle.std.specs.declared.alloc.Global.{Global}
 use Rattle.std.specs.FinMap.{entries}
-use Rattle.std.proofs.lemmas.List.{drop_all, drop_more}
+use Rattle.std.proofs.lemmas.List.{drop_all, drop_more, take-append-drop, map-append}
 use Rattle.wh_value.specs.Value.{Row}
 use Rattle.wh_meaning.specs.Scalar as scalars
-use Rattle.wh_meaning.specs.Scalar.{of_one, of_two}
+use Rattle.wh_meaning.specs.Scalar.{of_two}
 use Rattle.wh_meaning.specs.Query as meaning
-use Rattle.wh_meaning.specs.Bag.{Bag, bag_of}
+use Rattle.wh_meaning.specs.Bag.{Bag, bag_of, plus}
 use Rattle.wh_meaning.specs.Query.{Total, values_on, grouped}
-use Rattle.wh_scalar.specs.View.{scalar_of}
-use Rattle.wh_scalar.specs.declared.scalar.Scalar.{Scalar}
+use Rattle.wh_meaning.proofs.BagLaws.{bag_of-append}
 use Rattle.wh_scalar.specs.declared.fault.EvalFault.{EvalFault}
 use Rattle.wh_scalar.specs.declared.fault.EvalFault.TheVariants.{NumberOutOfRange, OutOfMemory}
-use Rattle.wh_algebra.specs.View.{calls_of, scalars_of}
+use Rattle.wh_algebra.specs.View.{calls_of}
 use Rattle.wh_algebra.specs.Tuple.{row_in, rows_in}
 use Rattle.wh_algebra.specs.declared.query.Call.{Call}
 use Rattle.wh_algebra.specs.declared.tuple.Tuple.{Tuple}
-use Rattle.wh_aggregate.specs.Given.{GivesListed, GivesRows}
-use Rattle.wh_aggregate.specs.Tally.{tallied, answers}
-use Rattle.wh_aggregate.specs.RunningGroups.{RunningGroups, totals_from, noted, groups_from, group_row}
-use Rattle.wh_aggregate.specs.RunningGroups.{row_before, listed, whole_from}
-use Rattle.wh_aggregate.proofs.GroupLemmas.{grouped-listed, grouped-undefined, grouped-whole}
+use Rattle.wh_aggregate.specs.Given.{Leaves, GivesListed, GivesRows}
+use Rattle.wh_aggregate.specs.Tally.{answers}
+use Rattle.wh_aggregate.specs.Groups.{Groups, begun_groups, noted, added, groups_of, AreOver, TakesIn, group_row}
+use Rattle.wh_aggregate.specs.Groups.{row_before, listed}
+use Rattle.wh_aggregate.proofs.GroupLemmas.{grouped-listed, grouped-undefined}
 
 answers-no_totals : (calls : List meaning.Call) → answers calls [] ≡ Some []
 answers-no_totals [] = refl
@@ -49,20 +48,12 @@ none_before : {A B C : Type 0} (f : A → B → Option C) (a : Option A) (b : Op
 none_before f None b e = refl
 none_before f (Some a) b e = ap (of_two f (Some a)) e
 
-no_groups : (by : List scalars.Scalar) (calls : List meaning.Call) (tuples : List Tuple) (i : ℕ)
-    → groups_from by calls (rows_in (drop i tuples)) ≡ None
-    → groups_from by calls (rows_in tuples) ≡ None
-no_groups by calls [] i e = sym (ap (λ ts. groups_from by calls (rows_in ts)) (drop_all i [] (omega arith))) ∙ e
-no_groups by calls (t ∷ ts) zero e = e
-no_groups by calls (t ∷ ts) (suc i) e =
-    none_before (noted calls (row_in t)) (values_on by (row_in t)) _ (no_groups by calls ts i e)
-
-no_totals : (calls : List meaning.Call) (tuples : List Tuple) (i : ℕ)
-    → totals_from calls (rows_in (drop i tuples)) ≡ None
-    → totals_from calls (rows_in tuples) ≡ None
-no_totals calls [] i e = sym (ap (λ ts. totals_from calls (rows_in ts)) (drop_all i [] (omega arith))) ∙ e
-no_totals calls (t ∷ ts) zero e = e
-no_totals calls (t ∷ ts) (suc i) e = ap (of_one (tallied calls (row_in t))) (no_totals calls ts i e)
+none_behind : (by : List scalars.Scalar) (calls : List meaning.Call) (groups : Groups) (more rows : List Row)
+    → added by calls groups rows ≡ None
+    → added by calls groups (more ++ rows) ≡ None
+none_behind by calls groups [] rows e = e
+none_behind by calls groups (row ∷ more) rows e =
+    none_before (noted calls row) (values_on by row) _ (none_behind by calls groups more rows e)
 
 -- the tuple before the place up to which the walk came
 pub record Reached (tuples : List Tuple) (left : ℕ) (tuple : Tuple) (row : Row) : Type 0 where
@@ -81,24 +72,17 @@ reached_rows tuples left tuple row r =
     ∙ ap (λ i. row_in (get_or tuples (left - 1) tuple) ∷ rows_in (drop i tuples)) next
     ∙ ap (λ x. x ∷ rows_in (drop left tuples)) (sym (r.row_is ∙ ap row_in r.tuple_is))
 
-pub groups_stopped : (by : List scalars.Scalar) (calls : List meaning.Call) (tuples : List Tuple)
-    (left : ℕ) (tuple : Tuple) (row : Row) (groups : RunningGroups)
-    → Reached tuples left tuple row → groups_from by calls (rows_in (drop left tuples)) ≡ Some groups
+pub stopped_at : (by : List scalars.Scalar) (calls : List meaning.Call) (tuples : List Tuple)
+    (left : ℕ) (tuple : Tuple) (row : Row) (start groups : Groups)
+    → Reached tuples left tuple row → added by calls start (rows_in (drop left tuples)) ≡ Some groups
     → of_two (noted calls row) (values_on by row) (Some groups) ≡ None
-    → groups_from by calls (rows_in tuples) ≡ None
-groups_stopped by calls tuples left tuple row groups r so_far none =
-    no_groups by calls tuples (left - 1)
-    (ap (groups_from by calls) (reached_rows tuples left tuple row r)
+    → added by calls start (rows_in tuples) ≡ None
+stopped_at by calls tuples left tuple row start groups r so_far none =
+    ap (λ ts. added by calls start (rows_in ts)) (sym (take-append-drop (left - 1) tuples))
+    ∙ ap (added by calls start) (map-append row_in (take (left - 1) tuples) (drop (left - 1) tuples))
+    ∙ none_behind by calls start (rows_in (take (left - 1) tuples)) (rows_in (drop (left - 1) tuples))
+    (ap (added by calls start) (reached_rows tuples left tuple row r)
     ∙ ap (of_two (noted calls row) (values_on by row)) so_far ∙ none)
-
-pub totals_stopped : (calls : List meaning.Call) (tuples : List Tuple)
-    (left : ℕ) (tuple : Tuple) (row : Row) (totals : List Total)
-    → Reached tuples left tuple row → totals_from calls (rows_in (drop left tuples)) ≡ Some totals
-    → tallied calls row totals ≡ None
-    → totals_from calls (rows_in tuples) ≡ None
-totals_stopped calls tuples left tuple row totals r so_far none =
-    no_totals calls tuples (left - 1)
-    (ap (totals_from calls) (reached_rows tuples left tuple row r) ∙ ap (of_one (tallied calls row)) so_far ∙ none)
 
 -- ---- a row more of the listing
 
@@ -119,40 +103,43 @@ pub listed_none : (calls : List meaning.Call) (rows : List Row) (e : Row × List
     → option_map (λ r. rows ++ r) (listed calls (e ∷ es)) ≡ None
 listed_none calls rows e es is = ap (λ g. option_map (λ r. rows ++ r) (of_two row_before g (listed calls es))) is
 
--- ---- what the top call gives
+-- ---- what calls on groups give
 
-pub given_undefined : (by : List Scalar) (calls : List meaning.Call) (rows : List Row) → 0 < length by
-    → groups_from (scalars_of by) calls rows ≡ None
-    → grouped (scalars_of by) calls (bag_of rows) ≡ None
-given_undefined [] calls rows some is = absurd (omega arith)
-given_undefined (e ∷ es) calls rows some is = grouped-undefined (scalar_of e) (scalars_of es) calls rows is
+added_onto : (by : List scalars.Scalar) (calls : List meaning.Call) (start groups : Groups) (rows behind : List Row)
+    → added by calls start behind ≡ Some groups
+    → added by calls start (rows ++ behind) ≡ added by calls groups rows
+added_onto by calls start groups [] behind e = e
+added_onto by calls start groups (row ∷ rows) behind e =
+    ap (of_two (noted calls row) (values_on by row)) (added_onto by calls start groups rows behind e)
 
-given_listed : (by : List Scalar) (calls : List meaning.Call) (rows : List Row) (groups : RunningGroups) → 0 < length by
-    → groups_from (scalars_of by) calls rows ≡ Some groups
-    → grouped (scalars_of by) calls (bag_of rows) ≡ option_map bag_of (listed calls (entries groups))
-given_listed [] calls rows groups some is = absurd (omega arith)
-given_listed (e ∷ es) calls rows groups some is = grouped-listed (scalar_of e) (scalars_of es) calls rows groups is
-
-given_whole : (by : List Scalar) (calls : List meaning.Call) (rows : List Row) → length by ≡ 0
-    → grouped (scalars_of by) calls (bag_of rows) ≡ option_map bag_of (whole_from calls rows)
-given_whole [] calls rows none = grouped-whole calls rows
-given_whole (e ∷ es) calls rows none = absurd (omega arith)
-
-rows_given : (r : Result (Vec Row Global) EvalFault) (found : Option (List Row)) (meant : Option Bag)
+bag_given : (r : Result (Vec Row Global) EvalFault) (found : Option (List Row)) (meant : Option Bag)
     → GivesListed r found → meant ≡ option_map bag_of found → GivesRows r meant
-rows_given (Ok rows) found meant is e = e ∙ ap (option_map bag_of) is
-rows_given (Err NumberOutOfRange) found meant is e = e ∙ ap (option_map bag_of) is
-rows_given (Err OutOfMemory) found meant is e = tt
+bag_given (Ok rows) found meant is e = e ∙ ap (option_map bag_of) is
+bag_given (Err NumberOutOfRange) found meant is e = e ∙ ap (option_map bag_of) is
+bag_given (Err OutOfMemory) found meant is e = tt
 
-pub groups_given : (by : List Scalar) (calls : List meaning.Call) (rows : List Row)
-    (groups : RunningGroups) (r : Result (Vec Row Global) EvalFault)
-    → 0 < length by → groups_from (scalars_of by) calls rows ≡ Some groups
-    → GivesListed r (listed calls (entries groups))
-    → GivesRows r (grouped (scalars_of by) calls (bag_of rows))
-groups_given by calls rows groups r some is given = rows_given r _ _ given (given_listed by calls rows groups some is)
+module _ (by : List scalars.Scalar) (calls : List meaning.Call) (b : Bag) (groups : Groups)
+    (over : AreOver by calls b groups) where
+  bag_with : (rows : List Row) → bag_of (rows ++ over.rows) ≡ plus (bag_of rows) b
+  bag_with rows = bag_of-append rows over.rows ∙ ap (plus (bag_of rows)) over.bag_is
 
-pub whole_given : (by : List Scalar) (calls : List meaning.Call) (rows : List Row)
-    (r : Result (Vec Row Global) EvalFault)
-    → length by ≡ 0 → GivesListed r (whole_from calls rows)
-    → GivesRows r (grouped (scalars_of by) calls (bag_of rows))
-whole_given by calls rows r none given = rows_given r _ _ given (given_whole by calls rows none)
+  groups_with : (rows : List Row) → groups_of by calls (rows ++ over.rows) ≡ added by calls groups rows
+  groups_with rows = added_onto by calls (begun_groups by calls) groups rows over.rows over.groups_are
+
+  pub taken_in : (rows : List Row) (r : Result Unit EvalFault) (new : Groups)
+      → Leaves r new (added by calls groups rows) → TakesIn by calls rows b r new
+  taken_in rows (Ok done) new is =
+      record { rows = rows ++ over.rows; bag_is = bag_with rows; groups_are = groups_with rows ∙ is }
+  taken_in rows (Err NumberOutOfRange) new none = λ more.
+      ap (grouped by calls)
+      (sym (bag_of-append more (rows ++ over.rows) ∙ ap (plus (bag_of more)) (bag_with rows)))
+      ∙ grouped-undefined by calls (more ++ (rows ++ over.rows))
+      (none_behind by calls (begun_groups by calls) more (rows ++ over.rows) (groups_with rows ∙ none))
+  taken_in rows (Err OutOfMemory) new none = tt
+
+  pub rows_given : (r : Result (Vec Row Global) EvalFault) → GivesListed r (listed calls (entries groups))
+      → GivesRows r (grouped by calls b)
+  rows_given r given =
+      let meant : grouped by calls b ≡ option_map bag_of (listed calls (entries groups)) =
+      ap (grouped by calls) (sym over.bag_is) ∙ grouped-listed by calls over.rows groups over.groups_are in
+      bag_given r _ _ given meant

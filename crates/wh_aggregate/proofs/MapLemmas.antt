@@ -1,25 +1,41 @@
--- The groups of the code's tree with a row more.
+-- The groups of the code's tree, of no rows and with a row more.
+--     one_group               the tree of no rows without keys
 --     row_left, row_noted     the tree with the row, and the groups with it
 --     not_noted               a row that can't be noted
-use Rattle.std.specs.Prelude.{◌≡◌, cond, List, Some, None, option_map, unwrap_or, Result, Ok, Err}
-use Rattle.std.proofs.Common.{sym, ap, ◌∙◌}
+use Rattle.std.specs.Prelude.{◌≡◌, cond, length, List, [], ◌∷◌, Some, None, option_map, unwrap_or, Result, Ok, Err}
+use Rattle.std.proofs.Common.{arith, refl, sym, ap, ◌∙◌}
 use Rattle.std.specs.Ordering.{is_eq}
 use Rattle.std.specs.BTreeMap.{is_at}
 use Rattle.std.specs.Map.{lookup}
-use Rattle.std.specs.FinMap.{insert, from_entries}
+use Rattle.std.specs.FinMap.{empty, insert, from_entries}
 use Rattle.wh_value.specs.Value.{Row, row_cmp}
 use Rattle.wh_value.specs.Order.{row_total, row-IsAntisymmetric}
+use Rattle.wh_meaning.specs.Bag.{no_rows}
 use Rattle.wh_meaning.specs.Query as meaning
 use Rattle.wh_meaning.specs.Query.{Total}
 use Rattle.wh_meaning.proofs.KeyMaps.{gotten, map_after}
 use Rattle.wh_scalar.specs.declared.fault.EvalFault.{EvalFault}
+use Rattle.wh_scalar.specs.declared.scalar.Scalar.{Scalar}
+use Rattle.wh_algebra.specs.View.{scalars_of}
 use Rattle.wh_aggregate.specs.Given.{Leaves}
 use Rattle.wh_aggregate.specs.Tally.{begun, tallied}
-use Rattle.wh_aggregate.specs.RunningGroups.{RunningGroups, noted}
+use Rattle.wh_aggregate.specs.Groups.{Groups, noted, AreOver}
 use Rattle.wh_aggregate.proofs.FaultLemmas.{still}
 
+pub one_group : (by : List Scalar) (calls : List meaning.Call) (n : List (Row × List Total)) (key : Row)
+    (totals : List Total) → length by ≡ 0 → key ≡ [] → totals ≡ begun calls
+    → ((q : Row) → lookup (is_at (row_cmp q)) n ≡ cond (is_eq (row_cmp key q)) (Some totals) None)
+    → AreOver (scalars_of by) calls no_rows (from_entries n)
+one_group (e ∷ es) calls n key totals none key_is totals_is has = absurd (omega arith)
+one_group [] calls n key totals none key_is totals_is has = record {
+  rows = [];
+  bag_is = refl;
+  groups_are = ap Some (sym (map_after row_total row-IsAntisymmetric [] n key totals has
+      ∙ ap (λ k. insert empty k totals) key_is ∙ ap (insert empty []) totals_is));
+}
+
 module _ (calls : List meaning.Call) (row key : Row) (m n : List (Row × List Total))
-    (groups : RunningGroups) (groups_is : groups ≡ from_entries m)
+    (groups : Groups) (groups_is : groups ≡ from_entries m)
     (old new : List Total) (old_is : old ≡ unwrap_or (lookup (is_at (row_cmp key)) m) (begun calls)) where
   noted_as : noted calls row key groups ≡ option_map (insert (from_entries m) key) (tallied calls row old)
   noted_as =

@@ -1,3 +1,3 @@
 pub mod Given
 pub mod Tally
-pub mod RunningGroups
+pub mod Groups

@@ -1,54 +1,83 @@
 use crate::tallies::Tallies;
+use crate::values::values_on;
 use std::alloc::{AllocError, Global};
 use std::collections::BTreeMap;
 use std::marker::Model;
-use wh_algebra::Call;
-use wh_scalar::EvalFault;
+use wh_algebra::{Call, Tuple};
+use wh_scalar::{EvalFault, Scalar};
 use wh_value::Row;
 
-/// The groups by their keys.
+/// Groups to which rows are added: a row for each distinct key, or the one row of all rows where
+/// there are no keys.
 #[derive(Drop)]
-pub(crate) struct RunningGroups {
+pub struct Groups {
     map: BTreeMap<Row, Tallies>,
 }
 
-impl Model for RunningGroups {
+impl Model for Groups {
     ghost use Rattle.std.specs.FinMap as maps;
     ghost use Rattle.std.specs.Coded.{coded_list};
     ghost use Rattle.wh_value.specs.Value.{coded_value};
     ghost use Rattle.wh_aggregate.specs.Tally.{coded_total};
-    ghost use Rattle.wh_aggregate.specs.RunningGroups as groups;
+    ghost use Rattle.wh_aggregate.specs.Groups as groups;
 
-    ghost Value = { groups.RunningGroups };
+    ghost Value = { groups.Groups };
 
     ghost coded = { maps.code (coded_list coded_value) (coded_list coded_total) };
 
     ghost view = { λ g. maps.from_entries g.map.entries };
 }
 
-impl RunningGroups {
-    ghost use Rattle.std.specs.Prelude.{◌≡◌};
-    ghost use Rattle.std.specs.FinMap.{empty, entries};
-    ghost use Rattle.wh_algebra.specs.View.{calls_of};
-    ghost use Rattle.wh_aggregate.specs.Given.{Leaves, GivesListed};
-    ghost use Rattle.wh_aggregate.specs.RunningGroups.{noted, listed};
+impl Groups {
+    ghost use Rattle.std.specs.Prelude.{List, IfOk};
+    ghost use Rattle.wh_meaning.specs.Scalar as scalars;
+    ghost use Rattle.wh_meaning.specs.Bag.{Bag, no_rows};
+    ghost use Rattle.wh_meaning.specs.Query.{grouped};
+    ghost use Rattle.wh_algebra.specs.View.{calls_of, scalars_of};
+    ghost use Rattle.wh_algebra.specs.Tuple.{rows_in};
+    ghost use Rattle.wh_aggregate.specs.Given.{Leaves, GivesRows};
+    ghost use Rattle.wh_aggregate.specs.Groups.{AreOver, TakesIn, noted};
 
-    pub(crate) fn new(alloc: Global) -> RunningGroups
-        ensures { result ≡ empty }
+    /// Of no rows.
+    pub fn new(alloc: Global, by: &[Scalar], calls: &[Call]) -> Result<Groups, AllocError>
+        ensures { IfOk result
+            (λ groups. AreOver (scalars_of by.now) (calls_of calls.now) no_rows groups) }
     {
-        RunningGroups {
-            map: BTreeMap::new(alloc),
+        let mut map = BTreeMap::new(alloc);
+        if !by.is_empty() {
+            return Ok(Groups { map });
         }
+        // Without keys there is one group, also of no rows.
+        let Ok(_) = map.insert(Row::new(alloc), Tallies::new(alloc, calls)?) else {
+            return Err(AllocError);
+        };
+        Ok(Groups { map })
     }
 
-    /// Adds a row to the group of its key.
-    pub(crate) fn note(
+    /// Adds rows. They are walked from the last to the first, as their meaning is folded.
+    pub fn add(
         &mut self,
         alloc: Global,
+        by: &[Scalar],
         calls: &[Call],
-        row: &Row,
-        key: Row,
+        rows: &[Tuple<'_>],
     ) -> Result<(), EvalFault>
+        ensures { (before : Bag) → AreOver (scalars_of by.now) (calls_of calls.now) before self.old
+            → TakesIn (scalars_of by.now) (calls_of calls.now) (rows_in rows.now) before
+            result self.new }
+    {
+        let mut left = rows.len();
+        while left > 0 {
+            left -= 1;
+            let row = rows[left].row();
+            let key = values_on(alloc, by, row)?;
+            self.note(alloc, calls, row, key)?;
+        }
+        Ok(())
+    }
+
+    // Adds a row to the group of its key.
+    fn note(&mut self, alloc: Global, calls: &[Call], row: &Row, key: Row) -> Result<(), EvalFault>
         ensures { Leaves result self.new (noted (calls_of calls.now) row.now key self.old) }
     {
         if let Some(tallies) = self.map.get_mut(&key) {
@@ -62,11 +91,12 @@ impl RunningGroups {
         Ok(())
     }
 
-    /// A row for each group.
-    pub(crate) fn list(self, alloc: Global, calls: &[Call]) -> Result<Vec<Row>, EvalFault>
-        ensures { GivesListed result (listed (calls_of calls.now) (entries self)) }
+    /// A row for each group: the key's values, and then those of the calls.
+    pub fn list(self, alloc: Global, calls: &[Call]) -> Result<Vec<Row>, EvalFault>
+        ensures { (by : List scalars.Scalar) (b : Bag) → AreOver by (calls_of calls.now) b self
+            → GivesRows result (grouped by (calls_of calls.now) b) }
     {
-        let RunningGroups { map } = self;
+        let Groups { map } = self;
         let mut rows = Vec::with_capacity(alloc, map.len())?;
         for (key, tallies) in map {
             let row = tallies.group_row(calls, key)?;

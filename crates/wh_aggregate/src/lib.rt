@@ -1,11 +1,10 @@
 //! Group: the rows of each key, and the calls over them.
 #![tactic(auto)]
 
-mod grouping;
 mod groups;
 mod tallies;
 mod tally;
 mod values;
 
-pub use grouping::grouped;
+pub use groups::Groups;
 pub use values::values_on;

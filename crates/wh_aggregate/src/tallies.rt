@@ -33,7 +33,7 @@ impl Tallies {
     ghost use Rattle.wh_algebra.specs.View.{calls_of};
     ghost use Rattle.wh_aggregate.specs.Given.{Gives, Leaves};
     ghost use Rattle.wh_aggregate.specs.Tally.{begun, tallied};
-    ghost use Rattle.wh_aggregate.specs.RunningGroups.{group_row};
+    ghost use Rattle.wh_aggregate.specs.Groups.{group_row};
 
     pub(crate) fn new(alloc: Global, calls: &[Call]) -> Result<Tallies, AllocError>
         ensures { IfOk result (λ tallies. tallies ≡ begun (calls_of calls.now)) }

@@ -44,8 +44,8 @@ impl Tally {
         Tally { sum: 0, values: 0 }
     }
 
-    /// Adds a value. A slice has less than 2^63 rows, and each number has 64 bits, so that neither
-    /// the sum nor the count leaves its type.
+    /// Adds a value. Each number has 64 bits, so that over less than 2^64 rows neither the sum nor
+    /// the count leaves its type.
     pub(crate) fn add(&mut self, value: &Value) -> Result<(), AllocError>
         ensures { OnOk result (self.new ≡ with_number (value_of value.now) self.old) }
     {

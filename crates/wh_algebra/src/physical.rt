@@ -81,7 +81,7 @@ impl Physical {
         }
     }
 
-    /// A join that tries each pair of rows.
+    /// A join of two, with rows that meet its condition side by side.
     pub fn join(left: Boxed<Physical>, right: Boxed<Physical>, on: Scalar) -> Physical
         ensures { plan_of result ≡ meaning.Join (plan_of left) (plan_of right) (scalar_of on) }
     {

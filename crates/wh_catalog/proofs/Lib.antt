@@ -1,5 +1,6 @@
 pub mod Places
 pub mod Steps
+pub mod FiledLaws
 pub mod Each
 pub mod Conditions
 pub mod TaskConditions

@@ -3,10 +3,13 @@
 --     stored_kind, stored_objects   what the file says of them
 --     object_of                     the machine's object that one means
 --     live_in                       how many live
+--     filed_in_kind, filed_in_kept, filed_of_objects     the partitions of all versions, as they stand in the file
 --     IsPlaceOf                     where the object of an id stands
-use Rattle.std.specs.Prelude.{◌≡◌, ℕ, suc, ◌<◌, List, map, length, count_by}
+use Rattle.std.specs.Prelude.{◌≡◌, ℕ, suc, ◌<◌, List, [], map, length, count_by}
+use Rattle.std.specs.List.{flat_map}
 use Rattle.wh_state.specs.State.{Object, TableKind, StreamKind, TaskKind, DynamicKind}
 use Rattle.wh_state.specs.Stored as machine
+use Rattle.wh_filed.specs.Filed.{Filed}
 use Rattle.wh_table.specs.Table.{kept_table}
 use Rattle.wh_task.specs.View.{task_of}
 use Rattle.wh_dynamic.specs.View.{dynamic_of}
@@ -39,6 +42,19 @@ object_of o = machine.object_meant (object_in (kept_object o))
 
 abbrev pub live_in : List StoredObject → ℕ
 live_in objects = count_by (λ o. o.is_live) objects
+
+abbrev pub filed_in_kind : KeptKind → List Filed
+filed_in_kind (TableKind t) = t.filed
+filed_in_kind (StreamKind s) = []
+filed_in_kind (TaskKind t) = []
+filed_in_kind (DynamicKind d t) = t.filed
+
+-- those of dropped objects too
+abbrev pub filed_in_kept : List KeptObject → List Filed
+filed_in_kept objects = flat_map (λ o. filed_in_kind o.kind) objects
+
+abbrev pub filed_of_objects : List StoredObject → List Filed
+filed_of_objects objects = filed_in_kept (kept_objects objects)
 
 -- ids begin at 1, places at 0
 pub record IsPlaceOf (id : ℕ) (objects : List StoredObject) (place : ℕ) : Type 0 where

@@ -1,6 +1,7 @@
 -- What it takes to undo a commit.
 --     undone     the objects before steps that were taken one after the other
 --     Undoes     leads back from a catalog to what it was
+--     IsSteady   a step that changed the partitions of no table
 use Rattle.std.specs.Prelude.{◌≡◌, List, [], ◌∷◌}
 use Rattle.wh_state.specs.State.{changed_at}
 use Rattle.wh_state.specs.Task.{with_state}
@@ -17,6 +18,11 @@ use Rattle.wh_catalog.specs.Undoable.{KeptObject}
 use Rattle.wh_catalog.specs.Back.{object_taken_back, object_put_back, on_task_kept, holding, on_dynamic_kept}
 use Rattle.wh_catalog.specs.Back.{lives_again}
 use Rattle.wh_catalog.specs.Catalog.{kept_of}
+
+abbrev pub IsSteady : Step → Type 0
+IsSteady MadeObject = ⊥
+IsSteady (PushedVersion p) = ⊥
+IsSteady _ = Unit {0}
 
 abbrev pub step_undone : Step → List KeptObject → List KeptObject
 step_undone MadeObject objects = but_last objects

@@ -6,25 +6,35 @@ use crate::object::place_of;
 use crate::running::{put_run, put_state};
 use crate::undo::{Pushed, Step};
 use crate::{Catalog, StageFault, StoredObject};
+use std::alloc::Global;
 use wh_record::{Change, VersionChange};
 use wh_value::Limit;
 
 impl Catalog {
     ghost use Rattle.std.specs.Prelude.{◌≡◌, ◌++◌, ◌∷◌, [], OnOk, OnErr, IfOk, IsErrOf};
     ghost use Rattle.wh_state.specs.State.{changed_at, dropped};
+    ghost use Rattle.wh_filed.specs.Filed.{AreAmong};
     ghost use Rattle.wh_state.specs.Commit.{ChangeApplies, IsNewObject, MayGo, changed};
     ghost use Rattle.wh_record.specs.View.{change_of};
+    ghost use Rattle.wh_record.specs.Places.{filed_in_change};
     ghost use Rattle.wh_version.specs.Lists.{but_last};
     ghost use Rattle.wh_catalog.specs.Undoable.{object_in};
-    ghost use Rattle.wh_catalog.specs.Object.{kept_object};
-    ghost use Rattle.wh_catalog.specs.Catalog.{objects_of, kept_of};
-    ghost use Rattle.wh_catalog.specs.Undo.{step_undone};
+    ghost use Rattle.wh_catalog.specs.Object.{kept_object, filed_in_kind};
+    ghost use Rattle.wh_catalog.specs.Catalog.{objects_of, kept_of, filed_of};
+    ghost use Rattle.wh_catalog.specs.Undo.{step_undone, IsSteady};
 
-    /// Carries out a change, if it applies.
-    pub(crate) fn carry_out(&mut self, change: Change, stamp: u64) -> Result<Step, StageFault>
+    /// Carries out a change, if it applies. Its tag stands at that position.
+    pub(crate) fn carry_out(
+        &mut self,
+        change: Change,
+        stamp: u64,
+        at: u64,
+    ) -> Result<Step, StageFault>
         ensures applies { OnOk result (ChangeApplies (objects_of self.old) (change_of change)) }
         ensures changed { OnOk result (objects_of self.new
             ≡ changed stamp (objects_of self.old) (change_of change)) }
+        ensures filed { OnOk result (AreAmong (filed_of self.new)
+            (filed_of self.old ++ filed_in_change at (change_of change))) }
         ensures back { IfOk result (λ step. step_undone step (kept_of self.new)
             ≡ kept_of self.old) }
         ensures not_applicable { IsErrOf result StageFault.NotApplicable
@@ -40,7 +50,9 @@ impl Catalog {
                 self.add_object(id, table)
             }
             Change::Drops(id) => self.drop_at(id),
-            Change::PushesVersion(change) => push_version(&mut self.objects, change, stamp),
+            Change::PushesVersion(change) => {
+                push_version(&mut self.objects, self.alloc, change, stamp, at)
+            }
             Change::CreatesStream(change) => {
                 let id = change.id;
                 let stream = self.new_stream(change)?;
@@ -69,6 +81,7 @@ impl Catalog {
         ensures applies { OnOk result (MayGo (objects_of self.old) id) }
         ensures changed { OnOk result (objects_of self.new
             ≡ changed_at (objects_of self.old) id dropped) }
+        ensures steady { IfOk result IsSteady }
         ensures back { IfOk result (λ step. step_undone step (kept_of self.new)
             ≡ kept_of self.old) }
         ensures not_applicable { IsErrOf result StageFault.NotApplicable
@@ -83,11 +96,13 @@ impl Catalog {
         drop_object(&mut self.objects, id)
     }
 
-    // Adds an object, whose id and name are those of a new one.
+    // Adds an object, whose id and name are those of a new one, and which has no partitions yet.
     fn add_object(&mut self, id: u32, object: StoredObject) -> Result<Step, StageFault>
-        requires { IsNewObject (objects_of self.old) id object.name }
+        requires new { IsNewObject (objects_of self.old) id object.name }
+        requires nothing { filed_in_kind (kept_object object).kind ≡ [] }
         ensures changed { OnOk result (objects_of self.new
             ≡ objects_of self.old ++ object_in (kept_object object) ∷ []) }
+        ensures filed { OnOk result (filed_of self.new ≡ filed_of self.old) }
         ensures back { IfOk result (λ step. step_undone step (kept_of self.new)
             ≡ kept_of self.old) }
         ensures memory { IsErrOf result StageFault.NotApplicable → ⊥ }
@@ -147,11 +162,13 @@ impl Catalog {
     }
 }
 
-ghost use Rattle.std.specs.Prelude.{◌≡◌, OnOk, OnErr, IfOk, IsErrOf};
+ghost use Rattle.std.specs.Prelude.{◌≡◌, ◌++◌, OnOk, OnErr, IfOk, IsErrOf};
+ghost use Rattle.wh_filed.specs.Filed.{AreAmong};
 ghost use Rattle.wh_state.specs.State.{at_id, changed_at};
 ghost use Rattle.wh_state.specs.Commit.{FitsObject, pushed_object};
 ghost use Rattle.wh_record.specs.View.{version_change_of};
-ghost use Rattle.wh_catalog.specs.Object.{kept_objects, stored_objects, live_in};
+ghost use Rattle.wh_record.specs.Places.{filed_in_version};
+ghost use Rattle.wh_catalog.specs.Object.{kept_objects, stored_objects, live_in, filed_of_objects};
 ghost use Rattle.wh_catalog.specs.Names.{KeepsNames};
 ghost use Rattle.wh_catalog.specs.Back.{object_taken_back};
 ghost use Rattle.wh_catalog.specs.Undo.{step_undone};
@@ -159,8 +176,10 @@ ghost use Rattle.wh_catalog.specs.Undo.{step_undone};
 // Adds a version to the table of the change.
 fn push_version(
     objects: &mut Vec<StoredObject>,
+    alloc: Global,
     change: VersionChange,
     stamp: u64,
+    at: u64,
 ) -> Result<Step, StageFault>
     ensures applies { OnOk result (FitsObject
         (at_id (stored_objects objects.old.items) change.id)
@@ -168,6 +187,8 @@ fn push_version(
     ensures changed { OnOk result (stored_objects objects.new.items
         ≡ changed_at (stored_objects objects.old.items) change.id
         (pushed_object stamp (version_change_of change))) }
+    ensures filed { OnOk result (AreAmong (filed_of_objects objects.new.items)
+        (filed_of_objects objects.old.items ++ filed_in_version at (version_change_of change))) }
     ensures back { IfOk result (λ step. step_undone step (kept_objects objects.new.items)
         ≡ kept_objects objects.old.items) }
     ensures not_applicable { IsErrOf result StageFault.NotApplicable
@@ -183,7 +204,7 @@ fn push_version(
         return Err(StageFault::NotApplicable);
     };
     let object = &mut objects[place];
-    match object.push(change, stamp) {
+    match object.push(alloc, change, stamp, at) {
         Ok(next_row) => Ok(Step::PushedVersion(Pushed { id, next_row })),
         Err(fault) => Err(fault),
     }

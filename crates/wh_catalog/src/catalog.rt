@@ -30,22 +30,24 @@ pub struct Catalog {
 }
 
 impl Catalog {
-    ghost use Rattle.std.specs.Prelude.{◌≡◌, ◌<◌, ◌≤◌, length, map, option_map, IfOk};
+    ghost use Rattle.std.specs.Prelude.{◌≡◌, ◌<◌, ◌≤◌, ◌∷◌, [], length, map, option_map, IfOk, IfSome};
     ghost use Rattle.wh_value.specs.Limit.{bound};
     ghost use Rattle.wh_value.specs.declared.limit.Limit.TheVariants as limits;
     ghost use Rattle.wh_state.specs.State.{first_state, id_of, live_count};
     ghost use Rattle.wh_state.specs.Stored.{first_stored};
     ghost use Rattle.wh_state.specs.Orderly.{IsOrderlyStored};
     ghost use Rattle.wh_catalog.specs.Undoable.{object_in};
+    ghost use Rattle.wh_filed.specs.Filed.{AreAmong};
+    ghost use Rattle.wh_table.specs.Table as tables;
     ghost use Rattle.wh_table.specs.Table.{table_of};
     ghost use Rattle.wh_task.specs.View.{task_of, tasks_of};
     ghost use Rattle.wh_dynamic.specs.View.{dynamic_of, dynamics_in};
     ghost use Rattle.wh_moment.specs.Upstream.{dynamics_of};
-    ghost use Rattle.wh_catalog.specs.Object.{kept_object};
+    ghost use Rattle.wh_catalog.specs.Object.{kept_object, filed_of_objects};
     ghost use Rattle.wh_catalog.specs.Names.{names_of, is_last, last_id};
     ghost use Rattle.wh_state.specs.Objects.{table_at, stream_at, task_at, dynamic_at};
     ghost use Rattle.wh_state.specs.Objects.{live_tasks};
-    ghost use Rattle.wh_catalog.specs.Catalog.{stored_of, state_of};
+    ghost use Rattle.wh_catalog.specs.Catalog.{stored_of, state_of, filed_of};
     ghost use Rattle.wh_catalog.specs.Stream.{stream_of};
     ghost use Rattle.wh_state.specs.State.{at_id};
 
@@ -53,6 +55,7 @@ impl Catalog {
     pub fn new(alloc: Global) -> Catalog
         ensures stored { stored_of result ≡ first_stored }
         ensures state { state_of result ≡ first_state }
+        ensures filed { filed_of result ≡ [] }
     {
         Catalog {
             alloc,
@@ -79,6 +82,7 @@ impl Catalog {
         requires within { stamp < bound limits.Stamp }
         ensures state { state_of self.new ≡ record (state_of self.old) { last = stamp } }
         ensures stored { stored_of self.new ≡ stored_of self.old }
+        ensures filed { filed_of self.new ≡ filed_of self.old }
     {
         self.last = stamp;
     }
@@ -115,6 +119,7 @@ impl Catalog {
     pub fn objects(&self) -> &[StoredObject]
         ensures objects { map object_in (map kept_object result.now)
             ≡ (stored_of self.now).objects }
+        ensures filed { filed_of_objects result.now ≡ filed_of self.now }
         ensures bounded { length result.now ≤ bound limits.ObjectIds }
     {
         self.objects.as_slice()
@@ -138,8 +143,10 @@ impl Catalog {
 
     /// The object of an id.
     pub fn object(&self, id: u32) -> Option<&StoredObject>
-        ensures { option_map (λ o. object_in (kept_object o.now)) result
+        ensures object { option_map (λ o. object_in (kept_object o.now)) result
             ≡ at_id (stored_of self.now).objects id }
+        ensures among { IfSome result (λ o.
+            AreAmong (filed_of_objects (o.now ∷ [])) (filed_of self.now)) }
     {
         let place = place_of(&self.objects, id)?;
         let object = &self.objects[place];
@@ -148,8 +155,9 @@ impl Catalog {
 
     /// The table of an id, or that of a dynamic table. None where the object is of another kind.
     pub fn table(&self, id: u32) -> Option<&StoredTable>
-        ensures { option_map (λ t. table_of t.now) result
+        ensures table { option_map (λ t. table_of t.now) result
             ≡ table_at (stored_of self.now).objects id }
+        ensures among { IfSome result (λ t. AreAmong (tables.filed_of t.now) (filed_of self.now)) }
     {
         let object = self.object(id)?;
         object.table()

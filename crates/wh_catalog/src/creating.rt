@@ -9,7 +9,7 @@ impl Catalog {
     ghost use Rattle.wh_record.specs.View.{table_change_of};
     ghost use Rattle.wh_catalog.specs.Conditions.{is_new_object, table_applies};
     ghost use Rattle.wh_catalog.specs.Undoable.{object_in};
-    ghost use Rattle.wh_catalog.specs.Object.{kept_object};
+    ghost use Rattle.wh_catalog.specs.Object.{kept_object, filed_in_kind};
     ghost use Rattle.wh_catalog.specs.Catalog.{objects_of};
 
     /// The table of a change, with one version without rows, if it applies. Takes no memory.
@@ -23,6 +23,7 @@ impl Catalog {
         ensures made { IfOk result (λ made. objects_of self.now ++ object_in (kept_object made) ∷ []
             ≡ changed stamp (objects_of self.now) (CreatesTable (table_change_of change))) }
         ensures named { IfOk result (λ made. made.name ≡ change.name) }
+        ensures nothing { IfOk result (λ made. filed_in_kind (kept_object made).kind ≡ []) }
         ensures not_applicable { IsErrOf result StageFault.NotApplicable
             → TableApplies (objects_of self.now) (table_change_of change) → ⊥ }
     {

@@ -7,7 +7,7 @@ ghost use Rattle.wh_state.specs.Commit.{IsLiveObject};
 ghost use Rattle.wh_catalog.specs.Object.{kept_objects, stored_objects, live_in};
 ghost use Rattle.wh_catalog.specs.Names.{names_of, is_last, AreLast, KeepsNames};
 ghost use Rattle.wh_catalog.specs.Back.{alive};
-ghost use Rattle.wh_catalog.specs.Undo.{step_undone};
+ghost use Rattle.wh_catalog.specs.Undo.{step_undone, IsSteady};
 
 use crate::object::place_of;
 use crate::undo::Step;
@@ -21,6 +21,7 @@ pub(crate) fn drop_object(objects: &mut Vec<StoredObject>, id: u32) -> Result<St
         (at_id (stored_objects objects.old.items) id)) }
     ensures changed { OnOk result (stored_objects objects.new.items
         ≡ changed_at (stored_objects objects.old.items) id dropped) }
+    ensures steady { IfOk result IsSteady }
     ensures back { IfOk result (λ step. step_undone step (kept_objects objects.new.items)
         ≡ kept_objects objects.old.items) }
     ensures not_applicable { IsErrOf result StageFault.NotApplicable

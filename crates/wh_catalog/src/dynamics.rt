@@ -17,7 +17,7 @@ impl Catalog {
     ghost use Rattle.wh_record.specs.View.{dynamic_change_of};
     ghost use Rattle.wh_catalog.specs.DynamicConditions.{is_formed, dynamic_applies};
     ghost use Rattle.wh_catalog.specs.Undoable.{object_in};
-    ghost use Rattle.wh_catalog.specs.Object.{kept_object};
+    ghost use Rattle.wh_catalog.specs.Object.{kept_object, filed_in_kind};
     ghost use Rattle.wh_catalog.specs.Catalog.{objects_of};
 
     /// The dynamic table of a change, without a version, if it applies.
@@ -31,6 +31,7 @@ impl Catalog {
         ensures made { IfOk result (λ made. objects_of self.now ++ object_in (kept_object made) ∷ []
             ≡ changed stamp (objects_of self.now) (CreatesDynamic (dynamic_change_of change))) }
         ensures named { IfOk result (λ made. made.name ≡ change.name) }
+        ensures nothing { IfOk result (λ made. filed_in_kind (kept_object made).kind ≡ []) }
         ensures not_applicable { IsErrOf result StageFault.NotApplicable
             → DynamicApplies (objects_of self.now) (dynamic_change_of change) → ⊥ }
     {
@@ -82,7 +83,7 @@ ghost use Rattle.wh_dynamic.specs.View.{state_of};
 ghost use Rattle.wh_catalog.specs.Object.{kept_objects, stored_objects, live_in};
 ghost use Rattle.wh_catalog.specs.Names.{KeepsNames};
 ghost use Rattle.wh_catalog.specs.Back.{on_dynamic_kept};
-ghost use Rattle.wh_catalog.specs.Undo.{step_undone};
+ghost use Rattle.wh_catalog.specs.Undo.{step_undone, IsSteady};
 ghost use Rattle.wh_catalog.specs.DynamicConditions.{is_lag, takes_state};
 
 use crate::creating::are_stored_columns;
@@ -98,6 +99,7 @@ pub(crate) fn set_dynamic(
     ensures changed { OnOk result (stored_objects objects.new.items
         ≡ changed_at (stored_objects objects.old.items) id
         (on_dynamic_stored (with_dynamic_state (state_of state)))) }
+    ensures steady { IfOk result IsSteady }
     ensures back { IfOk result (λ step. step_undone step (kept_objects objects.new.items)
         ≡ kept_objects objects.old.items) }
     ensures not_applicable { IsErrOf result StageFault.NotApplicable

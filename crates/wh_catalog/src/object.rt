@@ -23,8 +23,8 @@ pub enum StoredKind {
 }
 
 impl StoredObject {
-    ghost use Rattle.std.specs.Prelude.{◌≡◌, option_map};
-    ghost use Rattle.wh_table.specs.Table.{table_of};
+    ghost use Rattle.std.specs.Prelude.{◌≡◌, ◌∷◌, [], option_map, IfSome};
+    ghost use Rattle.wh_table.specs.Table.{table_of, filed_of};
     ghost use Rattle.wh_task.specs.View.{live_of};
     ghost use Rattle.wh_state.specs.State.{table_in, stream_in, task_in, dynamic_in};
     ghost use Rattle.wh_dynamic.specs.View.{dynamic_of};
@@ -33,12 +33,14 @@ impl StoredObject {
     ghost use Rattle.wh_table.specs.Table.{kept_table};
     ghost use Rattle.wh_catalog.specs.Undoable.{object_in};
     ghost use Rattle.wh_catalog.specs.Stream.{stream_of};
-    ghost use Rattle.wh_catalog.specs.Object.{kept_kind, kept_object};
+    ghost use Rattle.wh_catalog.specs.Object.{kept_kind, kept_object, filed_in_kind};
+    ghost use Rattle.wh_catalog.specs.Object.{filed_of_objects};
 
     /// A dynamic table that lives.
     pub fn dynamic_table(name: Text, dynamic: Dynamic, table: StoredTable) -> StoredObject
-        ensures { kept_object result
+        ensures object { kept_object result
             ≡ new_object name (DynamicKind (dynamic_of dynamic) (kept_table table)) }
+        ensures filed { filed_of_objects (result ∷ []) ≡ filed_of table }
     {
         StoredObject {
             name,
@@ -67,8 +69,10 @@ impl StoredObject {
     }
 
     pub(crate) fn table(&self) -> Option<&StoredTable>
-        ensures { option_map (λ t. table_of t.now) result
+        ensures table { option_map (λ t. table_of t.now) result
             ≡ table_in (object_in (kept_object self.now)).kind }
+        ensures filed { IfSome result (λ t. filed_of t.now
+            ≡ filed_in_kind (kept_object self.now).kind) }
     {
         self.kind.table()
     }
@@ -105,18 +109,19 @@ impl StoredObject {
 }
 
 impl StoredKind {
-    ghost use Rattle.std.specs.Prelude.{◌≡◌, map, option_map};
+    ghost use Rattle.std.specs.Prelude.{◌≡◌, map, option_map, IfSome};
     ghost use Rattle.wh_value.specs.View.{column_of};
     ghost use Rattle.wh_state.specs.State.{table_in, stream_in, task_in, dynamic_in, columns_in};
-    ghost use Rattle.wh_table.specs.Table.{table_of};
+    ghost use Rattle.wh_table.specs.Table.{table_of, filed_of};
     ghost use Rattle.wh_task.specs.View.{live_of};
     ghost use Rattle.wh_dynamic.specs.View.{dynamic_of};
     ghost use Rattle.wh_catalog.specs.Stream.{stream_of};
-    ghost use Rattle.wh_catalog.specs.Object.{stored_kind};
+    ghost use Rattle.wh_catalog.specs.Object.{kept_kind, stored_kind, filed_in_kind};
 
     /// The table that it is or has, if it is a table or a dynamic table.
     pub fn table(&self) -> Option<&StoredTable>
-        ensures { option_map (λ t. table_of t.now) result ≡ table_in (stored_kind self.now) }
+        ensures table { option_map (λ t. table_of t.now) result ≡ table_in (stored_kind self.now) }
+        ensures filed { IfSome result (λ t. filed_of t.now ≡ filed_in_kind (kept_kind self.now)) }
     {
         match self {
             StoredKind::Table(table) => Some(table),

@@ -1,24 +1,36 @@
 //! Versions of an object that is a table.
 use crate::{StageFault, StoredKind, StoredObject};
+use std::alloc::Global;
 use wh_record::VersionChange;
 use wh_table::StoredTable;
 
 impl StoredObject {
-    ghost use Rattle.std.specs.Prelude.{◌≡◌, ◌≤◌, Some, OnOk, OnErr, IfOk, IsErrOf};
+    ghost use Rattle.std.specs.Prelude.{◌≡◌, ◌≤◌, ◌++◌, Some, OnOk, OnErr, IfOk, IsErrOf};
     ghost use Rattle.wh_value.specs.Limit.{bound};
     ghost use Rattle.wh_value.specs.declared.limit.Limit.TheVariants as limits;
     ghost use Rattle.wh_state.specs.Commit.{FitsObject, pushed_object};
     ghost use Rattle.wh_record.specs.View.{version_change_of};
+    ghost use Rattle.wh_record.specs.Places.{filed_in_version};
     ghost use Rattle.wh_catalog.specs.Undoable.{object_in};
-    ghost use Rattle.wh_catalog.specs.Object.{kept_object};
+    ghost use Rattle.wh_catalog.specs.Object.{kept_object, filed_in_kind};
     ghost use Rattle.wh_catalog.specs.Back.{object_taken_back};
 
     /// Adds a version to a table that lives, if it applies. The result is the next row of before.
-    pub(crate) fn push(&mut self, change: VersionChange, stamp: u64) -> Result<u64, StageFault>
+    /// The change's tag stands at that position.
+    pub(crate) fn push(
+        &mut self,
+        alloc: Global,
+        change: VersionChange,
+        stamp: u64,
+        at: u64,
+    ) -> Result<u64, StageFault>
         ensures applies { OnOk result (FitsObject (Some (object_in (kept_object self.old)))
             (version_change_of change)) }
         ensures pushed { OnOk result (object_in (kept_object self.new)
             ≡ pushed_object stamp (version_change_of change) (object_in (kept_object self.old))) }
+        ensures filed { OnOk result (filed_in_kind (kept_object self.new).kind
+            ≡ filed_in_kind (kept_object self.old).kind
+            ++ filed_in_version at (version_change_of change)) }
         ensures back { IfOk result (λ next_row. object_taken_back next_row (kept_object self.new)
             ≡ kept_object self.old) }
         ensures bounded { IfOk result (λ next_row. next_row ≤ bound limits.RowNumber) }
@@ -32,8 +44,8 @@ impl StoredObject {
             return Err(StageFault::NotApplicable);
         }
         match &mut self.kind {
-            StoredKind::Table(table) => push_to(table, change, stamp),
-            StoredKind::Dynamic(_, table) => push_to(table, change, stamp),
+            StoredKind::Table(table) => push_to(table, alloc, change, stamp, at),
+            StoredKind::Dynamic(_, table) => push_to(table, alloc, change, stamp, at),
             StoredKind::Stream(_) | StoredKind::Task(_) => Err(StageFault::NotApplicable),
         }
     }
@@ -53,19 +65,28 @@ impl StoredObject {
     }
 }
 
-ghost use Rattle.std.specs.Prelude.{◌≡◌, ◌≤◌, OnOk, OnErr, IfOk, IsErrOf};
+ghost use Rattle.std.specs.Prelude.{◌≡◌, ◌≤◌, ◌++◌, OnOk, OnErr, IfOk, IsErrOf};
 ghost use Rattle.wh_value.specs.Limit.{bound};
 ghost use Rattle.wh_value.specs.declared.limit.Limit.TheVariants as limits;
 ghost use Rattle.wh_state.specs.Commit.{VersionApplies, pushed};
 ghost use Rattle.wh_record.specs.View.{version_change_of};
+ghost use Rattle.wh_record.specs.Places.{filed_in_version};
 ghost use Rattle.wh_table.specs.Undoable.{taken_back};
 ghost use Rattle.wh_table.specs.Table.{table_of, kept_table};
 
 // Adds a version to a table, if it applies. The result is the next row of before.
-fn push_to(table: &mut StoredTable, change: VersionChange, stamp: u64) -> Result<u64, StageFault>
+fn push_to(
+    table: &mut StoredTable,
+    alloc: Global,
+    change: VersionChange,
+    stamp: u64,
+    at: u64,
+) -> Result<u64, StageFault>
     ensures applies { OnOk result (VersionApplies (table_of table.old) (version_change_of change)) }
     ensures pushed { OnOk result (table_of table.new
         ≡ pushed stamp (version_change_of change) (table_of table.old)) }
+    ensures filed { OnOk result ((kept_table table.new).filed
+        ≡ (kept_table table.old).filed ++ filed_in_version at (version_change_of change)) }
     ensures back { IfOk result (λ next_row. taken_back next_row (kept_table table.new)
         ≡ kept_table table.old) }
     ensures bounded { IfOk result (λ next_row. next_row ≤ bound limits.RowNumber) }
@@ -74,6 +95,6 @@ fn push_to(table: &mut StoredTable, change: VersionChange, stamp: u64) -> Result
     ensures same { OnErr result (kept_table table.new ≡ kept_table table.old) }
 {
     let next_row = table.next_row();
-    table.push(change, stamp)?;
+    table.push(alloc, change, stamp, at)?;
     Ok(next_row)
 }

@@ -23,7 +23,7 @@ impl Catalog {
     ghost use Rattle.wh_state.specs.Commit.{StateApplies, RunApplies, EndApplies, on_task_stored};
     ghost use Rattle.wh_task.specs.View.{state_of, run_of, ending_of};
     ghost use Rattle.wh_catalog.specs.Catalog.{objects_of, kept_of};
-    ghost use Rattle.wh_catalog.specs.Undo.{step_undone};
+    ghost use Rattle.wh_catalog.specs.Undo.{step_undone, IsSteady};
 
     /// Gives the task of an id another state, if it takes it.
     pub(crate) fn set_task(&mut self, id: u32, state: TaskState) -> Result<Step, StageFault>
@@ -31,6 +31,7 @@ impl Catalog {
             (state_of state)) }
         ensures changed { OnOk result (objects_of self.new
             ≡ changed_at (objects_of self.old) id (on_task_stored (with_state (state_of state)))) }
+        ensures steady { IfOk result IsSteady }
         ensures back { IfOk result (λ step. step_undone step (kept_of self.new)
             ≡ kept_of self.old) }
         ensures not_applicable { IsErrOf result StageFault.NotApplicable
@@ -53,6 +54,7 @@ impl Catalog {
         ensures applies { OnOk result (RunApplies (objects_of self.old) root tasks.now) }
         ensures changed { OnOk result (objects_of self.new
             ≡ changed_at (objects_of self.old) root (on_task_stored (with_run tasks.now))) }
+        ensures steady { IfOk result IsSteady }
         ensures back { IfOk result (λ step. step_undone step (kept_of self.new)
             ≡ kept_of self.old) }
         ensures not_applicable { IsErrOf result StageFault.NotApplicable
@@ -84,6 +86,7 @@ impl Catalog {
         ensures changed { OnOk result (objects_of self.new
             ≡ changed_at (objects_of self.old) root
             (on_task_stored (with_ended task (ending_of ending)))) }
+        ensures steady { IfOk result IsSteady }
         ensures back { IfOk result (λ step. step_undone step (kept_of self.new)
             ≡ kept_of self.old) }
         ensures not_applicable { IsErrOf result StageFault.NotApplicable

@@ -13,7 +13,7 @@ impl Catalog {
     ghost use Rattle.wh_table.specs.Table.{table_of};
     ghost use Rattle.wh_catalog.specs.Conditions.{is_live_table, is_table_at};
     ghost use Rattle.wh_catalog.specs.Undoable.{object_in};
-    ghost use Rattle.wh_catalog.specs.Object.{kept_object};
+    ghost use Rattle.wh_catalog.specs.Object.{kept_object, filed_in_kind};
     ghost use Rattle.wh_catalog.specs.Catalog.{objects_of};
 
     /// The stream of a change, if it applies.
@@ -24,6 +24,7 @@ impl Catalog {
             → objects_of self.now ++ object_in (kept_object made) ∷ []
             ≡ changed stamp (objects_of self.now) (CreatesStream (stream_change_of change))) }
         ensures named { IfOk result (λ made. made.name ≡ change.name) }
+        ensures nothing { IfOk result (λ made. filed_in_kind (kept_object made).kind ≡ []) }
         ensures not_applicable { IsErrOf result StageFault.NotApplicable
             → StreamApplies (objects_of self.now) (stream_change_of change) → ⊥ }
     {

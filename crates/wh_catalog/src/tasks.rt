@@ -21,7 +21,7 @@ impl Catalog {
     ghost use Rattle.wh_catalog.specs.TaskConditions.{is_task_that, is_at_rest, state_applies};
     ghost use Rattle.wh_catalog.specs.TaskConditions.{starts, run_applies, may_go};
     ghost use Rattle.wh_catalog.specs.Undoable.{object_in};
-    ghost use Rattle.wh_catalog.specs.Object.{kept_object};
+    ghost use Rattle.wh_catalog.specs.Object.{kept_object, filed_in_kind};
     ghost use Rattle.wh_catalog.specs.Catalog.{objects_of};
 
     /// The task of a change, if it applies. Takes no memory.
@@ -32,6 +32,7 @@ impl Catalog {
             → objects_of self.now ++ object_in (kept_object made) ∷ []
             ≡ changed stamp (objects_of self.now) (CreatesTask (task_change_of change))) }
         ensures named { IfOk result (λ made. made.name ≡ change.name) }
+        ensures nothing { IfOk result (λ made. filed_in_kind (kept_object made).kind ≡ []) }
         ensures not_applicable { IsErrOf result StageFault.NotApplicable
             → TaskApplies (objects_of self.now) (task_change_of change) → ⊥ }
     {

@@ -1,5 +1,6 @@
 -- The versions in front of a range, passed by at once.
 --     front_walked       what is known behind them
+--     version_seen       whether a number stands in a version, by its partitions
 use Rattle.std.proofs.Common.{◌≡◌, ℕ, zero, suc, ◌≤◌, inl, inr, Bool, true, false, List, [], ◌∷◌, ◌++◌}
 use Rattle.std.proofs.Common.{cond, map, drop, take, Option, Some, None, refl, sym, ap, subst, ◌∙◌, arith}
 use Rattle.std.proofs.lemmas.Bool.{leb-true}
@@ -42,7 +43,7 @@ held_or n (e ∷ es) found =
     by_test true (Some row) here rest = here
     by_test false found here rest = rest
 
-version_seen : (n : ℕ) (ps : List Partition) → is_some (get (rows_of ps) n) ≡ is_seen n ps
+pub version_seen : (n : ℕ) (ps : List Partition) → is_some (get (rows_of ps) n) ≡ is_seen n ps
 version_seen n ps = ap is_some (get_rows ps n) ∙ held_or n (all_rows ps) None ∙ found_rows n ps
 
 -- what stays stood
@@ -74,11 +75,12 @@ absorbed false true false sure = refl
 absorbed false false true sure = refl
 absorbed false false false sure = refl
 
-passed : (from to time n : ℕ) (vs : List StoredVersion) (seen next : List Partition) → Walked from to vs n [] seen
+passed : (from to time n : ℕ) (vs : List StoredVersion) (asked seen next : List Partition)
+    → Walked from to vs asked n [] seen
     → (arrival : IsArrival time next (take n vs) (drop n vs)) → arrival.version.stamp ≤ from
-    → Walked from to vs (suc n) [] (seen ++ next)
-passed from to time n vs seen next walked arrival early =
-    walked_past from to vs n [] [] seen (seen ++ next) walked arrival.version arrival.rest arrival.first same none
+    → Walked from to vs asked (suc n) [] (seen ++ next)
+passed from to time n vs asked seen next walked arrival early =
+    walked_past from to vs asked n [] [] seen (seen ++ next) walked arrival.version arrival.rest arrival.first same none
   where
     old : List Partition
     old = standing_in (take n vs)
@@ -86,16 +88,16 @@ passed from to time n vs seen next walked arrival early =
     turnover : IsTurnover arrival.went next old arrival.version.content
     turnover = arrival.turnover
 
-    known : (q : ℕ) → is_seen q turnover.stay ≡ true → is_seen q seen ≡ true
-    known q there = sym (walked.same q)
+    known : (q : ℕ) → is_seen q asked ≡ true → is_seen q turnover.stay ≡ true → is_seen q seen ≡ true
+    known q wanted there = sym (walked.same q wanted)
         ∙ walked.last q (version_seen q old ∙ stayed_seen q turnover.stay arrival.went old turnover.before there)
 
-    same : HasAll (rows_of arrival.version.content ∷ walked.earlier) (seen ++ next)
-    same q =
-        (λ i. version_seen q arrival.version.content i || walked.same q i)
+    same : HasAll asked (rows_of arrival.version.content ∷ walked.earlier) (seen ++ next)
+    same q wanted =
+        (λ i. version_seen q arrival.version.content i || walked.same q wanted i)
         ∙ ap (λ ps. is_seen q ps || is_seen q seen) turnover.after
         ∙ ap (λ b. b || is_seen q seen) (seen_more q turnover.stay next)
-        ∙ absorbed (is_seen q turnover.stay) (is_seen q next) (is_seen q seen) (known q)
+        ∙ absorbed (is_seen q turnover.stay) (is_seen q next) (is_seen q seen) (known q wanted)
         ∙ sym (seen_more q seen next)
 
     outside : is_between from to arrival.version.stamp ≡ false
@@ -123,10 +125,11 @@ early_by stamp n (x ∷ vs) v rest few is =
         subst (λ (w : StoredVersion). w.stamp ≤ stamp) same (leb-true x.stamp stamp low)
     by_test true low (suc n) later few is = later n (omega (arith, few)) is
 
-pub front_walked : (from to n : ℕ) (vs : List StoredVersion) (came : List Partition) → HaveArrived n came vs
-    → n ≤ count_by from vs → Walked from to vs n [] came
-front_walked from to zero vs came none few = walk_begins from to vs came none
-front_walked from to (suc n) vs came (before, next, time, is, arrived, arrival) few =
-    subst (Walked from to vs (suc n) []) (sym is)
-    (passed from to time n vs before next (front_walked from to n vs before arrived (omega (arith, few))) arrival
+pub front_walked : (from to n : ℕ) (vs : List StoredVersion) (asked came : List Partition) → HaveArrived n came vs
+    → n ≤ count_by from vs → Walked from to vs asked n [] came
+front_walked from to zero vs asked came none few = walk_begins from to vs asked came none
+front_walked from to (suc n) vs asked came (before, next, time, is, arrived, arrival) few =
+    subst (Walked from to vs asked (suc n) []) (sym is)
+    (passed from to time n vs asked before next
+    (front_walked from to n vs asked before arrived (omega (arith, few))) arrival
     (early_by from n vs arrival.version arrival.rest few arrival.first))

@@ -1,40 +1,39 @@
 //! The rows that first stand in the versions of a range.
-ghost use Rattle.std.specs.Prelude.{◌≡◌, [], ◌++◌, map, OnOk, IfOk, if◌then◌else◌};
-ghost use Rattle.wh_state.specs.Stored.{table_meant};
+ghost use Rattle.std.specs.Prelude.{◌≡◌, [], ◌++◌, map, List, OnOk, IfOk, if◌then◌else◌};
+ghost use Rattle.wh_state.specs.Stored.{StoredVersion, version_meant};
 ghost use Rattle.wh_part.specs.View.{numbered_of};
-ghost use Rattle.wh_net.specs.Net.{appended, is_between};
+ghost use Rattle.wh_net.specs.Net as streams;
+ghost use Rattle.wh_net.specs.Net.{is_between};
 ghost use Rattle.wh_table.specs.Rows.{all_rows, partitions_at};
-ghost use Rattle.wh_table.specs.Table.{table_of};
 ghost use Rattle.wh_change.specs.RowChange.{row_changes_of};
+ghost use Rattle.wh_change.specs.Appended.{IsAppended};
 ghost use Rattle.wh_change.specs.Seen.{appeared};
 
-use crate::RowChange;
+use crate::rows::at_hand;
 use crate::seen::Seen;
+use crate::{Appended, RowChange};
 use std::alloc::{AllocError, Global};
 use wh_part::{NumberedRow, Partition};
-use wh_table::StoredTable;
-use wh_version::Arrivals;
+use wh_table::by_rows;
 
 /// The rows that first stand in versions behind a stamp and up to another, as they first stood,
-/// version by version. Of a version only the rows of those partitions are looked at that came with
-/// it, and of the versions in front of the range none.
-pub fn appends<'a>(
+/// version by version. What came is that behind the same stamp.
+pub fn appends(
     alloc: Global,
-    table: &'a StoredTable,
+    appended: &Appended,
     from: u64,
     to: u64,
-) -> Result<Vec<RowChange<'a>>, AllocError>
-    ensures { IfOk result (λ records. row_changes_of records.items
-        ≡ appended (table_meant (table_of table.now)).versions from to) }
+) -> Result<Vec<RowChange<'_>>, AllocError>
+    ensures { IfOk result (λ records. (versions : List StoredVersion)
+        → IsAppended from appended.now versions
+        → row_changes_of records.items ≡ streams.appended (map version_meant versions) from to) }
 {
-    let front = table.front(alloc, from)?;
     let mut records = Vec::new(alloc);
-    let mut seen = Seen::of(front.came);
-    let count = table.version_count();
-    for place in front.count..count {
-        let arrivals = table.arrivals(alloc, place)?;
-        add_appended(&mut records, &seen, &arrivals, from, to)?;
-        see(&mut seen, &arrivals.came)?;
+    let mut seen = Seen::of(at_hand(&appended.seen, alloc)?);
+    for arrived in &appended.later {
+        let came = by_rows(alloc, &arrived.came, &[])?;
+        add_appended(&mut records, &seen, &came, arrived.stamp, from, to)?;
+        see(&mut seen, &came)?;
     }
     Ok(records)
 }
@@ -43,19 +42,19 @@ pub fn appends<'a>(
 fn add_appended<'a>(
     records: &mut Vec<RowChange<'a>>,
     seen: &Seen<'a>,
-    arrivals: &Arrivals<'a>,
+    came: &[&'a Partition],
+    stamp: u64,
     from: u64,
     to: u64,
 ) -> Result<(), AllocError>
     ensures { OnOk result (row_changes_of records.new.items ≡ row_changes_of records.old.items
-        ++ (if is_between from to arrivals.now.stamp then appeared
-        (partitions_at seen.now.partitions.items)
-        (all_rows (partitions_at arrivals.now.came.items)) else [])) }
+        ++ (if is_between from to stamp then appeared (partitions_at seen.now.partitions.items)
+        (all_rows (partitions_at came.now)) else [])) }
 {
-    if arrivals.stamp <= from || to < arrivals.stamp {
+    if stamp <= from || to < stamp {
         return Ok(());
     }
-    add_unseen(records, seen, &arrivals.came)
+    add_unseen(records, seen, came)
 }
 
 // Partitions one after the other, as they came.

@@ -1,36 +1,29 @@
-ghost use Rattle.std.specs.Prelude.{◌≡◌, ◌≤◌, ◌++◌, OnOk, IfOk, Some};
+ghost use Rattle.std.specs.Prelude.{◌≡◌, ◌++◌, OnOk, IfOk, Some};
 ghost use Rattle.wh_frame.specs.Spelling.{RisesFrom};
-ghost use Rattle.wh_state.specs.Stored.{table_meant};
+ghost use Rattle.wh_state.specs.State.{Rows};
 ghost use Rattle.wh_net.specs.Net.{net, net_change};
-ghost use Rattle.wh_net.specs.Stream.{rows_at};
-ghost use Rattle.wh_table.specs.Table.{table_of};
 ghost use Rattle.wh_change.specs.RowChange.{row_changes_of};
 ghost use Rattle.wh_change.specs.Rows.{row_in, entries_at, arrival_at, changes_by, arrivals_by};
+ghost use Rattle.wh_change.specs.TurnedOver.{IsTurnedOver};
 
-use crate::RowChange;
 use crate::rows::{row_at, rows_in};
+use crate::{RowChange, TurnedOver};
 use std::alloc::{AllocError, Global};
 use wh_part::NumberedRow;
-use wh_table::StoredTable;
+use wh_table::by_rows;
 use wh_value::Row;
 
-/// What became of each row between two times: those that were there then, and those that came
-/// since, by rising number each. The rows of partitions that both versions have aren't looked at.
-pub fn net_changes<'a>(
-    alloc: Global,
-    table: &'a StoredTable,
-    from: u64,
-    to: u64,
-) -> Result<Vec<RowChange<'a>>, AllocError>
-    requires { from ≤ to }
-    ensures { IfOk result (λ records. row_changes_of records.items
-        ≡ net (rows_at (table_meant (table_of table.now)) from)
-        (rows_at (table_meant (table_of table.now)) to)) }
+/// What became of each row between two versions: those that were there then, and those that came
+/// since, by rising number each. The rows of partitions that both have aren't looked at.
+pub fn net_changes(alloc: Global, turned: &TurnedOver) -> Result<Vec<RowChange<'_>>, AllocError>
+    ensures { IfOk result (λ records. (old new : Rows) → IsTurnedOver turned.now old new
+        → row_changes_of records.items ≡ net old new) }
 {
-    let turnover = table.turnover(alloc, from, to)?;
-    let went = rows_in(&turnover.went, alloc)?;
-    let came = rows_in(&turnover.came, alloc)?;
-    let records = net_by(&went, &came, alloc)?;
+    let went = by_rows(alloc, &turned.went, &[])?;
+    let came = by_rows(alloc, &turned.came, &[])?;
+    let old = rows_in(&went, alloc)?;
+    let new = rows_in(&came, alloc)?;
+    let records = net_by(&old, &new, alloc)?;
     Ok(records)
 }
 

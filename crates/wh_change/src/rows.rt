@@ -3,12 +3,28 @@ ghost use Rattle.std.specs.Prelude.{◌≡◌, ◌++◌, OnOk, IfOk};
 ghost use Rattle.std.specs.FinMap.Entries.{find};
 ghost use Rattle.std.specs.Ordering.{nat_cmp};
 ghost use Rattle.wh_frame.specs.Spelling.{RisesFrom};
+ghost use Rattle.wh_filed.specs.Filed.{loaded_of};
 ghost use Rattle.wh_table.specs.Rows.{all_rows, partitions_at};
 ghost use Rattle.wh_change.specs.Rows.{row_in, entry_at, entries_at, IsPlaceOf};
 
 use std::alloc::{AllocError, Global};
+use std::sync::Arc;
 use wh_part::{NumberedRow, Partition};
 use wh_value::Row;
+
+/// References to loaded partitions.
+pub(crate) fn at_hand(
+    loaded: &[Arc<Partition>],
+    alloc: Global,
+) -> Result<Vec<&Partition>, AllocError>
+    ensures { IfOk result (λ found. partitions_at found.items ≡ loaded_of loaded.now) }
+{
+    let mut found = Vec::with_capacity(alloc, loaded.len())?;
+    for partition in loaded {
+        found.push(partition.as_ref())?;
+    }
+    Ok(found)
+}
 
 /// The rows of partitions, one after the other.
 pub(crate) fn rows_in<'a>(

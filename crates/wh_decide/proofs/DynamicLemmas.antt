@@ -7,7 +7,7 @@ use Rattle.std.proofs.Common.{◌≡◌, ℕ, suc, Bool, true, false, List, [], 
 use Rattle.std.proofs.Common.{sym, ap, ◌∙◌}
 use Rattle.std.specs.Prelude.{if◌then◌else◌}
 use Rattle.std.specs.Option.{option_and_then, option_map_or}
-use Rattle.wh_reply.specs.Reply.{Refusal, Reply, DdlInTransaction, Locked}
+use Rattle.wh_reply.specs.Reply.{Refusal, DdlInTransaction, Locked}
 use Rattle.wh_state.specs.State.{Object, TableKind, StreamKind, TaskKind, DynamicKind, dynamic_in, at_id}
 use Rattle.wh_state.specs.Objects.{as_dynamic, dynamic_at, is_live_at}
 use Rattle.wh_state.specs.Dynamic.{DynamicState, Dynamic}
@@ -16,7 +16,7 @@ use Rattle.wh_state.specs.Commit.{SetsDynamic}
 use Rattle.wh_state.specs.Stored.{StoredKind, StoredObject, kind_meant, object_meant}
 use Rattle.wh_state.specs.Written.{written}
 use Rattle.wh_state.proofs.MeaningLaws.{at_id_meant}
-use Rattle.wh_moment.specs.Upstream.{Watched, Dynamics, watched, watched_object, dynamics_of}
+use Rattle.wh_moment.specs.Upstream.{watched, watched_object, dynamics_of}
 use Rattle.wh_moment.specs.Moment.{ids_from}
 use Rattle.wh_machine.specs.Tests.{first_of}
 use Rattle.wh_machine.specs.Sessions.{number_in}

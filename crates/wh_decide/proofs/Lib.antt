@@ -1,6 +1,7 @@
 pub mod ListLemmas
 pub mod CatalogLemmas
 pub mod OutcomeLemmas
+pub mod ReadyLemmas
 mod TableLemmas
 mod DefineLemmas
 mod StreamLemmas
@@ -19,3 +20,4 @@ mod QueryLemmas
 mod LookupLaws
 mod RequestLemmas
 mod CommandLemmas
+mod SpelledLemmas

@@ -31,7 +31,7 @@ use Rattle.wh_moment.specs.Upstream.{Watched, Dynamics, watched_at, watched_obje
 use Rattle.wh_moment.specs.Upstream.{reached_from, upstream}
 use Rattle.wh_machine.specs.Tests.{refused_if, refused_past, first_of}
 use Rattle.wh_machine.specs.Sessions.{Sessions, number_in}
-use Rattle.wh_machine.specs.Outcome.{Machine, Outcome, unless}
+use Rattle.wh_machine.specs.Outcome.{Machine, unless}
 use Rattle.wh_machine.specs.Definitions.{is_long, count_refusals, holder_of, defines}
 use Rattle.wh_machine.specs.Dynamics.{seconds_of, lag_refusals, below_refusal, above_refusal, is_incremental}
 use Rattle.wh_machine.specs.Dynamics.{mode_refusal}

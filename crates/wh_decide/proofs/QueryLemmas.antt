@@ -2,12 +2,10 @@
 --     is_unread          it is refused for what it reads
 --     is_shown           it isn't, so its rows are shown
 --     is_undefined       it isn't, but a number is out of range
---     rows_listed        its rows, by the tables that are read
-use Rattle.std.proofs.Common.{◌≡◌, ℕ, List, [], ◌∷◌, Option, Some, None, option_map, Result, Ok, Err}
+use Rattle.std.proofs.Common.{◌≡◌, ℕ, List, [], ◌∷◌, Option, Some, None, option_map}
 use Rattle.std.proofs.Common.{refl, ap, sym, ◌∙◌}
 use Rattle.std.specs.Prelude.{Vec}
 use Rattle.std.specs.declared.alloc.Global.{Global}
-use Rattle.std.specs.Result.{IfOk}
 use Rattle.wh_value.specs.Value.{Row}
 use Rattle.wh_meaning.specs.Bag.{Bag}
 use Rattle.wh_meaning.specs.Query.{Instance, eval}
@@ -22,9 +20,7 @@ use Rattle.wh_machine.specs.Outcome.{Machine, Outcome, Refuses, answers, unless}
 use Rattle.wh_machine.specs.Queries.{listing_of}
 use Rattle.wh_machine.specs.Reading.{instance_read, reading_refusal}
 use Rattle.wh_machine.specs.Statements.{selects}
-use Rattle.wh_decide.specs.declared.sources.SourceSeen.{SourceSeen}
-use Rattle.wh_decide.specs.Rows.{rows_found}
-use Rattle.wh_decide.specs.Sources.{AreSeenAs, sources_refusal}
+use Rattle.wh_decide.specs.Sources.{sources_refusal}
 use Rattle.wh_decide.proofs.NamingLemmas.{only_width}
 
 -- its bag over what is read
@@ -74,15 +70,3 @@ pub is_undefined : (m : Machine) (session : ℕ) (b : BoundSelect) → sources_r
     → None ≡ option_map (listed (keys_of b.keys.items)) (bag_in m session b)
     → selects m session (select_of b) ≡ Refuses NumberOutOfRange
 is_undefined m session b = shown_as m session b None
-
--- by the sources that are read
-pub rows_listed : {E : Type 0} (r : Result (Option (Vec Row Global)) E) (b : BoundSelect) (m : Machine) (session : ℕ)
-    (seen : List SourceSeen) (ids : List ℕ) → ids ≡ b.sources.items → AreSeenAs seen (instance_read m session ids)
-    → IfOk r (λ found. (read : Instance) → AreSeenAs seen read → rows_found found
-    ≡ option_map (listed (keys_of b.keys.items)) (eval (query_of b.query) read))
-    → IfOk r (λ found. rows_found found ≡ option_map (listed (keys_of b.keys.items)) (bag_in m session b))
-rows_listed (Ok found) b m session seen ids is shown h =
-    h (instance_read m session ids) shown
-    ∙ ap (λ (l : List ℕ). option_map (listed (keys_of b.keys.items))
-    (eval (query_of b.query) (instance_read m session l))) is
-rows_listed (Err e) b m session seen ids is shown h = tt

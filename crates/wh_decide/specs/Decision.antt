@@ -2,6 +2,7 @@
 --     sessions_after, commit_in     what a settlement makes of the sessions, and the commit that it adds
 --     answer_of, settlement_of      the reply of a decision, and what is carried out for it
 --     StagesInOpen                  what is staged is staged in an open transaction
+--     CanSettle                     a settlement can be carried out at a stamp
 --     Decides                       a decision comes to that outcome
 use Rattle.std.specs.Prelude.{◌≡◌, ℕ, List, Option, Some, None, option_map, unwrap_or, is_some, IsTrue}
 use Rattle.wh_reply.specs.Reply.{Reply, Refused}
@@ -16,6 +17,7 @@ use Rattle.wh_machine.specs.Sessions.{Sessions, transaction_in, with_transaction
 use Rattle.wh_machine.specs.Outcome.{Machine, Outcome, Refuses, Does}
 use Rattle.wh_dml.specs.View.{effect_of}
 use Rattle.wh_record.specs.View.{commit_of}
+use Rattle.wh_txn.specs.Recording.{IsAt, IsRead}
 use Rattle.wh_decide.specs.declared.decision.Decision.{Decision}
 use Rattle.wh_decide.specs.declared.decision.Decision.TheVariants as decisions
 use Rattle.wh_decide.specs.declared.decision.Settlement.{Settlement}
@@ -51,6 +53,13 @@ abbrev pub StagesInOpen : Sessions → Settlement → Type 0
 StagesInOpen sessions (settlements.Stages session id streams next_row effect) =
     IsTrue (is_some (transaction_in sessions session))
 StagesInOpen sessions _ = Unit {0}
+
+-- whatever was read for it
+pub record CanSettle (sessions : Sessions) (stamp : ℕ) (settlement : Settlement) : Type 0 where
+  pub staged : StagesInOpen sessions settlement
+  -- its commit is at the stamp, and its texts are understood
+  pub timed : IsAt stamp (commit_in settlement)
+  pub read : IsRead (commit_in settlement)
 
 -- a refusal lets the stamp pass, and nothing else
 abbrev pub answer_of : Decision → Reply

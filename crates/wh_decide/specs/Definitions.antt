@@ -2,13 +2,23 @@
 --     drops_written     the drop of an object, where there is one
 --     in_transaction    the refusal of one in a transaction
 --     earlier_refusal   what a statement is refused for before its names are looked at
-use Rattle.std.specs.Prelude.{ℕ, List, [], ◌∷◌, Option, Some, None, option_map}
+--     reads_rows        a statement that is bound and reads rows, or may
+--     IsMeantRead       what a statement that is bound keeps of texts is understood
+use Rattle.std.specs.Prelude.{ℕ, Bool, true, false, List, [], ◌∷◌, Option, Some, None, option_map}
 use Rattle.wh_ast.specs.declared.statement.Statement.{Statement}
 use Rattle.wh_ast.specs.declared.statement.Statement.TheVariants as st
+use Rattle.wh_ddl_naming.specs.Statements as ddl
+use Rattle.wh_ddl_naming.specs.Statements.{Bound}
 use Rattle.wh_reply.specs.Reply.{Refusal, DdlInTransaction}
 use Rattle.wh_state.specs.Commit.{Change, Drops}
+use Rattle.wh_state.specs.Dynamic.{IsQuerySpelled}
 use Rattle.wh_machine.specs.Sessions.{number_in}
 use Rattle.wh_machine.specs.Outcome.{Machine}
+use Rattle.wh_machine.specs.Dynamics.{query_of}
+use Rattle.wh_machine.specs.Statements.{carried_out}
+use Rattle.wh_txn.specs.Recording.{IsRead}
+use Rattle.wh_decide.specs.declared.sight.Sight.{Sight}
+use Rattle.wh_decide.specs.Sight.{machine_in, commit_meant}
 
 abbrev pub drops_written : Option ℕ → List Change
 drops_written None = []
@@ -39,3 +49,24 @@ earlier_refusal m session (st.SuspendDynamicTable name) = in_transaction m sessi
 earlier_refusal m session (st.RefreshDynamicTable name) = in_transaction m session
 earlier_refusal m session (st.SetTargetLag name lag) = in_transaction m session
 earlier_refusal m session (st.DropDynamicTable name) = in_transaction m session
+
+-- ---- a statement that is bound
+
+abbrev pub reads_rows : Bound → Bool
+reads_rows ddl.Commit = true
+reads_rows (ddl.Change b) = true
+reads_rows (ddl.Select b) = true
+reads_rows (ddl.HasData stream) = true
+reads_rows (ddl.CreateDynamicTable n) = true
+reads_rows (ddl.RefreshDynamicTable id) = true
+reads_rows _ = false
+
+-- the text of a new dynamic table spells its query
+abbrev pub IsBoundSpelled : Bound → Type 0
+IsBoundSpelled (ddl.CreateDynamicTable n) = IsQuerySpelled (query_of n)
+IsBoundSpelled _ = Unit {0}
+
+-- and the commit that it is meant to make
+pub record IsMeantRead (sight : Sight) (b : Bound) : Type 0 where
+  pub commit : IsRead (commit_meant sight (carried_out (machine_in sight) sight.session None b))
+  pub query : IsBoundSpelled b

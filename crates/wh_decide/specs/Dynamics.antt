@@ -4,25 +4,38 @@
 --     dynamic_change                 the change that makes it, behind so many objects
 --     new_upstream                   the dynamic tables that it will read
 --     new_limit_refusal              the first limit that it is beyond
+--     FitsLimits, HasSpelledQuery      what it keeps is within limits, and the text of its query spells it
+--     initialized_in, IsFirstRefresh     what it comes to, and what its first refresh does
 --     put_written                    what is written for a dynamic table of another state
 --     resumed_state, suspended_state, lag_state     states that ALTER DYNAMIC TABLE puts
-use Rattle.std.specs.Prelude.{ℕ, ◌+◌, Bool, true, false, List, [], ◌∷◌, ◌++◌, length, Option, Some, None}
+use Rattle.std.specs.Prelude.{◌≤◌, ℕ, ◌+◌, true, false, List, [], ◌∷◌, ◌++◌, length, Option, Some, None}
 use Rattle.std.specs.Prelude.{if◌then◌else◌}
 use Rattle.std.specs.List.{list_any}
+use Rattle.wh_value.specs.Limit.{bound}
 use Rattle.wh_value.specs.declared.limit.Limit.TheVariants as limits
+use Rattle.wh_ast.specs.declared.statement.Initialize.{Initialize}
 use Rattle.wh_ast.specs.declared.statement.Lag.{Lag}
 use Rattle.wh_algebra.specs.Increments.{incrementable}
 use Rattle.wh_ddl_naming.specs.DynamicTables.{NewDynamicTable}
 use Rattle.wh_ddl_naming.specs.Tables.{column_names}
+use Rattle.wh_ddl_bind.specs.View.{new_dynamic_table_of}
+use Rattle.wh_ddl_bind.specs.declared.bound.NewDynamicTable as code
 use Rattle.wh_reply.specs.Reply.{Refusal, OverLimit}
 use Rattle.wh_state.specs.State.{Object, State, DynamicKind, new_object, empty_table}
-use Rattle.wh_state.specs.Dynamic.{DynamicQuery, DynamicState, Dynamic, ids_read, new_dynamic}
+use Rattle.wh_state.specs.Dynamic.{DynamicQuery, DynamicState, Dynamic, IsQuerySpelled, ids_read, new_dynamic}
 use Rattle.wh_state.specs.Stored.{StoredObject}
 use Rattle.wh_state.specs.Commit.{Change, DynamicChange, SetsDynamic}
 use Rattle.wh_moment.specs.Upstream.{dynamics_of, reached_from}
 use Rattle.wh_machine.specs.Tests.{refused_if, refused_past, first_of}
 use Rattle.wh_machine.specs.Definitions.{is_long, count_refusals}
+use Rattle.wh_machine.specs.Outcome.{Outcome}
 use Rattle.wh_machine.specs.Dynamics.{seconds_of, lag_refusals, is_incremental, query_of, is_same_dynamic_state}
+use Rattle.wh_machine.specs.Dynamics.{initialized, with_dynamic, asked_refresh}
+use Rattle.wh_catalog.specs.Catalog.{stored_of}
+use Rattle.wh_refresh.specs.Refreshing.{RefreshesAs}
+use Rattle.wh_refresh.specs.declared.refreshing.Refreshing.{Refreshing}
+use Rattle.wh_decide.specs.declared.sight.Sight.{Sight}
+use Rattle.wh_decide.specs.Sight.{machine_in}
 
 -- ---- CREATE DYNAMIC TABLE
 
@@ -57,6 +70,24 @@ new_limit_refusal s n = first_of (
     ∷ refused_if n.is_wide (OverLimit limits.Output)
     ∷ first_of (lag_refusals n.lag)
     ∷ [])
+
+pub record FitsLimits (table : code.NewDynamicTable) : Type 0 where
+  pub lag : seconds_of table.lag ≤ bound limits.MostTargetLag
+  pub columns : length table.columns.items ≤ bound limits.Columns
+
+abbrev pub HasSpelledQuery : code.NewDynamicTable → Type 0
+HasSpelledQuery table = IsQuerySpelled (query_of (new_dynamic_table_of table))
+
+-- with a first refresh, or without
+abbrev pub initialized_in : Sight → code.NewDynamicTable → Initialize → Outcome
+initialized_in sight table start =
+    initialized (machine_in sight) (new_dynamic_table_of table) (query_of (new_dynamic_table_of table)) start
+
+-- behind the objects, by that id
+abbrev pub IsFirstRefresh : Sight → NewDynamicTable → ℕ → Refreshing → Type 0
+IsFirstRefresh sight n id found =
+    RefreshesAs sight.stamp (stored_with sight.stamp (stored_of sight.catalog.now).objects n) found
+    (asked_refresh (with_dynamic (machine_in sight).state n (query_of n)) id)
 
 -- ---- ALTER DYNAMIC TABLE
 

@@ -5,6 +5,5 @@ pub mod Names
 pub mod Tasks
 pub mod Dynamics
 pub mod Definitions
-pub mod Rows
 pub mod Sources
 pub mod Changes

@@ -1,51 +1,46 @@
 -- The sources that a statement reads.
---     IsSeenAs, AreSeenAs     the rows that they show, of one source and of each
---     IsRowsOf, AreRowsOf     rows that are those, whichever these are
+--     bag_seen, bags_seen     the rows that they show, of one source and of each
+--     filed_by, filed_seen    the partitions of the file among which these stand
+--     IsTarget                what a change reads of its target
 --     lower                   the lesser of an id and one that may be there
 --     sources_refusal         what a statement is refused for that it reads
-use Rattle.std.specs.Prelude.{◌≡◌, ℕ, Bool, min, List, [], ◌∷◌, Option, Some, None, Vec}
-use Rattle.std.specs.declared.alloc.Global.{Global}
-use denote.Ref.{Bor}
-use Rattle.wh_value.specs.Value.{Row}
+use Rattle.std.specs.Prelude.{◌≡◌, ℕ, Bool, true, min, List, [], ◌∷◌, map, Option, Some, None}
+use Rattle.std.specs.List.{flat_map}
 use Rattle.wh_value.specs.declared.limit.Limit.TheVariants as limits
 use Rattle.wh_meaning.specs.Bag.{Bag, bag_of}
 use Rattle.wh_meaning.specs.Query.{Instance}
-use Rattle.wh_exec.specs.Evaluation.{rows_at}
+use Rattle.wh_exec.specs.Source.{parts_bag}
+use Rattle.wh_filed.specs.Filed.{Filed, filed_at}
+use Rattle.wh_naming.specs.Changes.{Modification}
 use Rattle.wh_state.specs.State.{Table}
 use Rattle.wh_reply.specs.Reply.{Refusal, OverLimit}
 use Rattle.wh_machine.specs.Tests.{refused_if, first_of}
 use Rattle.wh_machine.specs.Outcome.{Machine}
-use Rattle.wh_machine.specs.Queries.{table_bag}
 use Rattle.wh_machine.specs.Reading.{reading_refusal}
-use Rattle.wh_txn.specs.Seen.{Shows}
+use Rattle.wh_txn.specs.Seen.{Shows, partitions_standing}
 use Rattle.wh_txn.specs.declared.seeing.TableSeen.{TableSeen}
 use Rattle.wh_decide.specs.declared.sources.SourceSeen.{SourceSeen}
 use Rattle.wh_decide.specs.declared.sources.SourceSeen.TheVariants as sources
+use Rattle.wh_decide.specs.Changes.{is_insert}
 
--- a table of the machine with these rows
-pub record ShowsRows (seen : TableSeen) (bag : Bag) : Type 0 where
-  pub table : Option Table
-  pub shown : Shows seen table
-  pub rows : table_bag table ≡ bag
+abbrev pub bag_seen : SourceSeen → Bag
+bag_seen (sources.Table table) = parts_bag (partitions_standing table)
+bag_seen (sources.Stream rows) = bag_of rows.items
 
-abbrev pub IsSeenAs : SourceSeen → Bag → Type 0
-IsSeenAs (sources.Table seen) bag = ShowsRows seen bag
-IsSeenAs (sources.Stream rows) bag = bag_of rows.items ≡ bag
+abbrev pub bags_seen : List SourceSeen → Instance
+bags_seen seen = map bag_seen seen
 
-abbrev pub AreSeenAs : List SourceSeen → Instance → Type 0
-AreSeenAs [] [] = Unit {0}
-AreSeenAs (one ∷ others) (bag ∷ bags) = IsSeenAs one bag × AreSeenAs others bags
-AreSeenAs [] (bag ∷ bags) = ⊥
-AreSeenAs (one ∷ others) [] = ⊥
+abbrev pub filed_by : SourceSeen → List Filed
+filed_by (sources.Table table) = filed_at table.filed.items
+filed_by (sources.Stream rows) = []
 
-pub record IsRowsOf (seen : SourceSeen) (rows : List (Bor Row)) : Type 0 where
-  pub shown : (bag : Bag) → IsSeenAs seen bag → bag_of (rows_at rows) ≡ bag
+abbrev pub filed_seen : List SourceSeen → List Filed
+filed_seen seen = flat_map filed_by seen
 
-abbrev pub AreRowsOf : List SourceSeen → List (Vec (Bor Row) Global) → Type 0
-AreRowsOf [] [] = Unit {0}
-AreRowsOf (one ∷ others) (rows ∷ sources) = IsRowsOf one rows.items × AreRowsOf others sources
-AreRowsOf [] (rows ∷ sources) = ⊥
-AreRowsOf (one ∷ others) [] = ⊥
+-- an INSERT reads none of it
+abbrev pub IsTarget : Modification → Table → Option TableSeen → Type 0
+IsTarget change t None = is_insert change ≡ true
+IsTarget change t (Some seen) = Shows seen (Some t)
 
 abbrev pub lower : Option ℕ → ℕ → ℕ
 lower None id = id

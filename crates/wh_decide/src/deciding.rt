@@ -1,12 +1,14 @@
-ghost use Rattle.std.specs.Prelude.{◌≡◌, None, option_map, IfOk};
+ghost use Rattle.std.specs.Prelude.{◌≡◌, ℕ, false, List, None, option_map, IfOk};
+ghost use Rattle.wh_fetch.specs.Device.{Counts};
+ghost use Rattle.wh_fetch.specs.DiskFetch.{told_of, faults_of, damage_of, IsRight, GoesOn};
 ghost use Rattle.wh_reply.specs.View.{refusal_view};
-ghost use Rattle.wh_grammar.specs.Spelled.{Asked};
+ghost use Rattle.wh_grammar.specs.Spelled.{Asked, Spells};
 ghost use Rattle.wh_machine.specs.Step.{commanded, is_session};
 ghost use Rattle.wh_machine.specs.Statements.{carried_out};
 ghost use Rattle.wh_stmt_parse.specs.Request.{request_of};
 ghost use Rattle.wh_ddl_bind.specs.View.{bound_of};
-ghost use Rattle.wh_decide.specs.Definitions.{earlier_refusal};
-ghost use Rattle.wh_decide.specs.Sight.{machine_in, Comes};
+ghost use Rattle.wh_decide.specs.Definitions.{earlier_refusal, reads_rows, IsMeantRead};
+ghost use Rattle.wh_decide.specs.Sight.{machine_in, IsShown, Comes, IsReady};
 
 use crate::altering::{drop_task, execute_task, resume_task, suspend_task};
 use crate::changes::change_rows;
@@ -25,37 +27,64 @@ use std::alloc::{AllocError, Global};
 use wh_ast::Statement;
 use wh_bind::BindFault;
 use wh_ddl_bind::{Bound, Names, bind};
+use wh_fetch::{DiskFetch, FetchFault};
 use wh_reply::Refusal;
 use wh_stmt_parse::{ParseFault, parse};
 use wh_value::{Limit, SESSIONS};
+use wh_world::Disk;
 
 /// What a command's text comes to in a session.
-pub fn decide_command(alloc: Global, sight: &Sight<'_>, text: &[u8]) -> Result<Decision, AllocError>
-    ensures { IfOk result (λ decision. Comes sight.now decision
+#[tactic(auto, using(wh_fetch::specs::DiskFetch::goes_on, wh_fetch::specs::DiskFetch::goes_none))]
+pub fn decide_command<D: Disk>(
+    alloc: Global,
+    sight: &Sight<'_>,
+    text: &[u8],
+    fetch: &mut DiskFetch<D>,
+) -> Result<Decision, FetchFault>
+    requires { IsRight D.Disk fetch.old }
+    ensures comes { IsShown (told_of D.Disk fetch.old) sight.now
+        → IfOk result (λ decision. Comes sight.now decision
         (commanded (machine_in sight.now) sight.now.session (request_of text.now))) }
+    ensures ready { IfOk result (λ decision. IsReady sight.now decision) }
+    ensures sound { IsShown (told_of D.Disk fetch.old) sight.now
+        → damage_of fetch.new ≡ damage_of fetch.old }
+    ensures same { told_of D.Disk fetch.new ≡ told_of D.Disk fetch.old }
+    ensures goes { GoesOn D.Disk fetch.old fetch.new }
+    ensures counts { Counts (faults_of D.Disk fetch.old) (faults_of D.Disk fetch.new) result }
 {
     if Limit::Statement.bound() < text.len() as u64 {
         return Ok(Decision::Refuse(Refusal::OverLimit(Limit::Statement)));
     }
     match parse(alloc, text) {
         Ok(statement) => {
-            let decision = decide_tree(alloc, sight, &statement);
+            let decision = decide_tree(alloc, sight, &statement, fetch);
             drop(statement);
             decision
         }
         Err(ParseFault::SyntaxError) => Ok(Decision::Refuse(Refusal::SyntaxError)),
-        Err(ParseFault::OutOfMemory) => Err(AllocError),
+        Err(ParseFault::OutOfMemory) => Err(FetchFault::OutOfMemory),
     }
 }
 
 // What a statement comes to, as a text spells it.
-fn decide_tree(
+#[tactic(auto, using(wh_fetch::specs::DiskFetch::goes_on, wh_fetch::specs::DiskFetch::goes_none))]
+fn decide_tree<D: Disk>(
     alloc: Global,
     sight: &Sight<'_>,
     statement: &Statement,
-) -> Result<Decision, AllocError>
-    ensures { IfOk result (λ decision. Comes sight.now decision
+    fetch: &mut DiskFetch<D>,
+) -> Result<Decision, FetchFault>
+    requires { IsRight D.Disk fetch.old }
+    ensures comes { IsShown (told_of D.Disk fetch.old) sight.now
+        → IfOk result (λ decision. Comes sight.now decision
         (commanded (machine_in sight.now) sight.now.session (Asked statement.now))) }
+    ensures ready { (text : List ℕ) → Spells text statement.now
+        → IfOk result (λ decision. IsReady sight.now decision) }
+    ensures sound { IsShown (told_of D.Disk fetch.old) sight.now
+        → damage_of fetch.new ≡ damage_of fetch.old }
+    ensures same { told_of D.Disk fetch.new ≡ told_of D.Disk fetch.old }
+    ensures goes { GoesOn D.Disk fetch.old fetch.new }
+    ensures counts { Counts (faults_of D.Disk fetch.old) (faults_of D.Disk fetch.new) result }
 {
     if !is_session(sight.session) {
         return Ok(Decision::Refuse(Refusal::NoSuchSession(sight.session)));
@@ -67,12 +96,12 @@ fn decide_tree(
         roots: &roots,
     };
     match bind(alloc, &names, statement) {
-        Ok(bound) => decide_bound(alloc, sight, bound),
+        Ok(bound) => decide_bound(alloc, sight, bound, fetch),
         Err(BindFault::Failing(failing)) => {
             let why = earlier_refusal(sight, statement).unwrap_or(refusal(failing));
             Ok(Decision::Refuse(why))
         }
-        Err(BindFault::OutOfMemory) => Err(AllocError),
+        Err(BindFault::OutOfMemory) => Err(FetchFault::OutOfMemory),
     }
 }
 
@@ -114,17 +143,48 @@ fn earlier_refusal(sight: &Sight<'_>, statement: &Statement) -> Option<Refusal>
 
 // What a statement comes to that nothing is found wrong with.
 #[tactic(auto, unfolding(wh_machine::specs::Statements::carried_out))]
-fn decide_bound(alloc: Global, sight: &Sight<'_>, statement: Bound) -> Result<Decision, AllocError>
+fn decide_bound<D: Disk>(
+    alloc: Global,
+    sight: &Sight<'_>,
+    statement: Bound,
+    fetch: &mut DiskFetch<D>,
+) -> Result<Decision, FetchFault>
+    requires { IsRight D.Disk fetch.old }
+    ensures comes { IsShown (told_of D.Disk fetch.old) sight.now
+        → IfOk result (λ decision. Comes sight.now decision
+        (carried_out (machine_in sight.now) sight.now.session None (bound_of statement))) }
+    ensures ready { IsMeantRead sight.now (bound_of statement)
+        → IfOk result (λ decision. IsReady sight.now decision) }
+    ensures sound { IsShown (told_of D.Disk fetch.old) sight.now
+        → damage_of fetch.new ≡ damage_of fetch.old }
+    ensures same { told_of D.Disk fetch.new ≡ told_of D.Disk fetch.old }
+    ensures goes { GoesOn D.Disk fetch.old fetch.new }
+    ensures counts { Counts (faults_of D.Disk fetch.old) (faults_of D.Disk fetch.new) result }
+{
+    match statement {
+        Bound::Commit => commit(alloc, sight, fetch),
+        Bound::Change(change) => change_rows(alloc, sight, change.get(), fetch),
+        Bound::Select(query) => select(alloc, sight, query.get(), fetch),
+        Bound::HasData(stream) => has_data(alloc, sight, stream, fetch),
+        Bound::CreateDynamicTable(table) => create_dynamic(alloc, sight, table.get(), fetch),
+        Bound::RefreshDynamicTable(id) => refresh_dynamic(alloc, sight, id, fetch),
+        unread => {
+            let decision = decide_unread(alloc, sight, unread)?;
+            Ok(decision)
+        }
+    }
+}
+
+// So of one that reads no row.
+#[tactic(auto, unfolding(wh_machine::specs::Statements::carried_out))]
+fn decide_unread(alloc: Global, sight: &Sight<'_>, statement: Bound) -> Result<Decision, AllocError>
+    requires { reads_rows (bound_of statement) ≡ false }
     ensures { IfOk result (λ decision. Comes sight.now decision
         (carried_out (machine_in sight.now) sight.now.session None (bound_of statement))) }
 {
     match statement {
         Bound::Begin => Ok(begin(sight)),
-        Bound::Commit => commit(alloc, sight),
         Bound::Rollback => Ok(rollback(sight)),
-        Bound::Change(change) => change_rows(alloc, sight, change.get()),
-        Bound::Select(query) => select(alloc, sight, query.get()),
-        Bound::HasData(stream) => has_data(alloc, sight, stream),
         Bound::CreateTable(table) => create_table(alloc, sight, table.into_inner()),
         Bound::DropTable(id) => drop_table(alloc, sight, id),
         Bound::CreateStream(stream) => create_stream(alloc, sight, stream.into_inner()),
@@ -134,11 +194,15 @@ fn decide_bound(alloc: Global, sight: &Sight<'_>, statement: Bound) -> Result<De
         Bound::SuspendTask(id) => suspend_task(alloc, sight, id),
         Bound::ExecuteTask(root) => execute_task(alloc, sight, root),
         Bound::DropTask(id) => drop_task(alloc, sight, id),
-        Bound::CreateDynamicTable(table) => create_dynamic(alloc, sight, table.get()),
         Bound::ResumeDynamicTable(id) => resume_dynamic(alloc, sight, id),
         Bound::SuspendDynamicTable(id) => suspend_dynamic(alloc, sight, id),
-        Bound::RefreshDynamicTable(id) => refresh_dynamic(alloc, sight, id),
         Bound::SetTargetLag(id, lag) => set_lag(alloc, sight, id, lag),
         Bound::DropDynamicTable(id) => drop_dynamic(alloc, sight, id),
+        Bound::Commit
+        | Bound::Change(_)
+        | Bound::Select(_)
+        | Bound::HasData(_)
+        | Bound::CreateDynamicTable(_)
+        | Bound::RefreshDynamicTable(_) => unreachable!(),
     }
 }

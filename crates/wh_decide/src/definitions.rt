@@ -1,8 +1,10 @@
 //! What CREATE, ALTER and DROP of each kind of object have in common.
 ghost use Rattle.std.specs.Prelude.{◌≡◌, ◌+◌, ◌∷◌, [], List, Some, option_map, map, IfOk};
+ghost use Rattle.std.specs.List.{AllByRecursion};
 ghost use Rattle.wh_reply.specs.Reply.{DdlInTransaction, Locked};
 ghost use Rattle.wh_reply.specs.View.{refusal_view, reply_view};
 ghost use Rattle.wh_state.specs.Act.{Act, DropsObject};
+ghost use Rattle.wh_state.specs.Spelling.{IsUnderstood};
 ghost use Rattle.wh_state.specs.Written.{written};
 ghost use Rattle.wh_machine.specs.Tests.{first_of};
 ghost use Rattle.wh_machine.specs.Sessions.{number_in};
@@ -14,7 +16,7 @@ ghost use Rattle.wh_record.specs.View.{change_of};
 ghost use Rattle.wh_catalog.specs.Catalog.{stored_of, state_of};
 ghost use Rattle.wh_txn.specs.View.{sessions_of};
 ghost use Rattle.wh_decide.specs.Definitions.{drops_written};
-ghost use Rattle.wh_decide.specs.Sight.{machine_in, Comes};
+ghost use Rattle.wh_decide.specs.Sight.{machine_in, Comes, IsReady};
 
 use crate::decision::{Decision, Settlement};
 use crate::limits::refused_past;
@@ -79,9 +81,11 @@ pub(crate) fn drops(alloc: Global, old: Option<u32>) -> Result<Vec<Change>, Allo
 
 // The commit of a CREATE, ALTER or DROP that passes each test.
 pub(crate) fn defined(sight: &Sight<'_>, reply: Reply, changes: Vec<Change>) -> Decision
-    ensures { (acts : List Act) → map change_of changes.items
+    ensures comes { (acts : List Act) → map change_of changes.items
         ≡ written sight.now.stamp (stored_of sight.now.catalog.now).objects acts
         → Comes sight.now result (commits (machine_in sight.now) (reply_view reply) acts) }
+    ensures ready { AllByRecursion IsUnderstood (map change_of changes.items)
+        → IsReady sight.now result }
 {
     let stamp = sight.stamp;
     Decision::Do {

@@ -1,5 +1,7 @@
 //! ALTER DYNAMIC TABLE, and refreshes.
 ghost use Rattle.std.specs.Prelude.{◌≡◌, ◌≤◌, ◌∷◌, [], Some, None, map, option_map, IfOk};
+ghost use Rattle.wh_fetch.specs.Device.{Counts};
+ghost use Rattle.wh_fetch.specs.DiskFetch.{told_of, faults_of, damage_of, IsRight, GoesOn};
 ghost use Rattle.wh_value.specs.Limit.{bound};
 ghost use Rattle.wh_value.specs.declared.limit.Limit.TheVariants as limits;
 ghost use Rattle.wh_reply.specs.View.{refusal_view};
@@ -11,10 +13,10 @@ ghost use Rattle.wh_machine.specs.Refresh as refreshes;
 ghost use Rattle.wh_dynamic.specs.View as view;
 ghost use Rattle.wh_record.specs.View.{change_of};
 ghost use Rattle.wh_catalog.specs.Catalog.{stored_of, state_of};
-ghost use Rattle.wh_refresh.specs.Refreshing.{besides, RefreshesAs};
+ghost use Rattle.wh_refresh.specs.Refreshing.{besides, RefreshesAs, AreRead};
 ghost use Rattle.wh_decide.specs.Dynamics.{put_written, put_written_to};
 ghost use Rattle.wh_decide.specs.Dynamics.{resumed_state, suspended_state, lag_state};
-ghost use Rattle.wh_decide.specs.Sight.{machine_in, Comes};
+ghost use Rattle.wh_decide.specs.Sight.{machine_in, IsShown, Comes, IsReady};
 
 use crate::decision::Decision;
 use crate::definitions::{defined, definition_refusal, tested};
@@ -26,9 +28,11 @@ use std::alloc::{AllocError, Global};
 use wh_ast::Lag;
 use wh_catalog::Catalog;
 use wh_dynamic::{DynamicState, upstream};
+use wh_fetch::{DiskFetch, FetchFault};
 use wh_record::Change;
 use wh_refresh::{Asked, Refreshing, all_objects, refresh};
 use wh_reply::{Refusal, Reply};
+use wh_world::Disk;
 
 // ---- states
 
@@ -190,26 +194,37 @@ fn is_same_state(old: DynamicState, new: DynamicState) -> bool
 
 // What ALTER DYNAMIC TABLE .. REFRESH comes to, of a dynamic table: it is brought to the statement's
 // stamp.
-pub(crate) fn refresh_dynamic(
+#[tactic(auto, using(wh_fetch::specs::DiskFetch::goes_on, wh_fetch::specs::DiskFetch::goes_none))]
+pub(crate) fn refresh_dynamic<D: Disk>(
     alloc: Global,
     sight: &Sight<'_>,
     id: u32,
-) -> Result<Decision, AllocError>
-    ensures { IfOk result (λ decision. Comes sight.now decision
+    fetch: &mut DiskFetch<D>,
+) -> Result<Decision, FetchFault>
+    requires { IsRight D.Disk fetch.old }
+    ensures comes { IsShown (told_of D.Disk fetch.old) sight.now
+        → IfOk result (λ decision. Comes sight.now decision
         (defines (machine_in sight.now) sight.now.session None
         (machine.refresh_dynamic (machine_in sight.now) None id))) }
+    ensures ready { IfOk result (λ decision. IsReady sight.now decision) }
+    ensures sound { IsShown (told_of D.Disk fetch.old) sight.now
+        → damage_of fetch.new ≡ damage_of fetch.old }
+    ensures same { told_of D.Disk fetch.new ≡ told_of D.Disk fetch.old }
+    ensures goes { GoesOn D.Disk fetch.old fetch.new }
+    ensures counts { Counts (faults_of D.Disk fetch.old) (faults_of D.Disk fetch.new) result }
 {
     if let Some(why) = refused_in_transaction(sight) {
         return Ok(Decision::Refuse(why));
     }
-    let found = refreshing(alloc, sight, Asked::ByStatement, id, sight.stamp)?;
+    let found = refreshing(alloc, sight, Asked::ByStatement, id, sight.stamp, fetch)?;
     Ok(refreshed(sight, found))
 }
 
 fn refreshed(sight: &Sight<'_>, found: Refreshing) -> Decision
-    ensures { (outcome : refreshes.Refreshing) → RefreshesAs sight.now.stamp
+    ensures comes { (outcome : refreshes.Refreshing) → RefreshesAs sight.now.stamp
         (stored_of sight.now.catalog.now).objects found outcome
         → Comes sight.now result (machine.refreshed_by (machine_in sight.now) outcome) }
+    ensures ready { AreRead found → IsReady sight.now result }
 {
     match found {
         Refreshing::Fails(why) => Decision::Refuse(why),
@@ -220,36 +235,56 @@ fn refreshed(sight: &Sight<'_>, found: Refreshing) -> Decision
 }
 
 // A refresh of a dynamic table of the catalog.
-fn refreshing(
+#[tactic(auto, using(wh_fetch::specs::DiskFetch::goes_on, wh_fetch::specs::DiskFetch::goes_none))]
+fn refreshing<D: Disk>(
     alloc: Global,
     sight: &Sight<'_>,
     asked: Asked,
     id: u32,
     moment: u64,
-) -> Result<Refreshing, AllocError>
-    ensures { IfOk result (λ found. RefreshesAs sight.now.stamp
+    fetch: &mut DiskFetch<D>,
+) -> Result<Refreshing, FetchFault>
+    requires { IsRight D.Disk fetch.old }
+    ensures refreshes { IsShown (told_of D.Disk fetch.old) sight.now
+        → IfOk result (λ found. RefreshesAs sight.now.stamp
         (stored_of sight.now.catalog.now).objects found
         (refreshes.refresh (machine_in sight.now).state
         (besides asked (state_of sight.now.catalog.now).objects id) id moment)) }
+    ensures read { IfOk result (λ found. AreRead found) }
+    ensures sound { IsShown (told_of D.Disk fetch.old) sight.now
+        → damage_of fetch.new ≡ damage_of fetch.old }
+    ensures same { told_of D.Disk fetch.new ≡ told_of D.Disk fetch.old }
+    ensures goes { GoesOn D.Disk fetch.old fetch.new }
+    ensures counts { Counts (faults_of D.Disk fetch.old) (faults_of D.Disk fetch.new) result }
 {
     let objects = all_objects(alloc, sight.catalog, None)?;
-    refresh(alloc, &objects, asked, id, moment)
+    refresh(alloc, &objects, asked, id, moment, fetch)
 }
 
 /// What the refresh of a dynamic table that is due comes to. One that fails counts, and is tried
 /// for that moment no more.
-pub fn scheduled_refresh(
+#[tactic(auto, using(wh_fetch::specs::DiskFetch::goes_on, wh_fetch::specs::DiskFetch::goes_none))]
+pub fn scheduled_refresh<D: Disk>(
     alloc: Global,
     sight: &Sight<'_>,
     id: u32,
     target: u64,
-) -> Result<Decision, AllocError>
-    ensures { IfOk result (λ decision. Comes sight.now decision
+    fetch: &mut DiskFetch<D>,
+) -> Result<Decision, FetchFault>
+    requires { IsRight D.Disk fetch.old }
+    ensures comes { IsShown (told_of D.Disk fetch.old) sight.now
+        → IfOk result (λ decision. Comes sight.now decision
         (machine.scheduled (machine_in sight.now) id target)) }
+    ensures ready { IfOk result (λ decision. IsReady sight.now decision) }
+    ensures sound { IsShown (told_of D.Disk fetch.old) sight.now
+        → damage_of fetch.new ≡ damage_of fetch.old }
+    ensures same { told_of D.Disk fetch.new ≡ told_of D.Disk fetch.old }
+    ensures goes { GoesOn D.Disk fetch.old fetch.new }
+    ensures counts { Counts (faults_of D.Disk fetch.old) (faults_of D.Disk fetch.new) result }
 {
-    let found = refreshing(alloc, sight, Asked::BySchedule, id, target)?;
+    let found = refreshing(alloc, sight, Asked::BySchedule, id, target, fetch)?;
     match found {
-        Refreshing::Fails(why) => failed(alloc, sight, id, target, why),
+        Refreshing::Fails(why) => Ok(failed(alloc, sight, id, target, why)?),
         Refreshing::Brings(lines, changes) => {
             Ok(defined(sight, Reply::RefreshedTables(lines), changes))
         }

@@ -1,7 +1,9 @@
 //! CREATE DYNAMIC TABLE and DROP DYNAMIC TABLE.
 ghost use Rattle.std.specs.Prelude.{◌≡◌, ◌≤◌, ◌+◌, ◌∷◌, ◌++◌, [], List, Some, None, length, map};
 ghost use Rattle.std.specs.Prelude.{option_map, IfOk};
-ghost use Rattle.std.specs.List.{list_any};
+ghost use Rattle.std.specs.List.{list_any, AllByRecursion};
+ghost use Rattle.wh_fetch.specs.Device.{Counts};
+ghost use Rattle.wh_fetch.specs.DiskFetch.{told_of, faults_of, damage_of, IsRight, GoesOn};
 ghost use Rattle.wh_value.specs.Limit.{bound};
 ghost use Rattle.wh_value.specs.View.{column_of};
 ghost use Rattle.wh_value.specs.declared.limit.Limit.TheVariants as limits;
@@ -15,6 +17,8 @@ ghost use Rattle.wh_ddl_naming.specs.Names.{names_at};
 ghost use Rattle.wh_ddl_bind.specs.View.{new_dynamic_table_of};
 ghost use Rattle.wh_state.specs.Act.{Act};
 ghost use Rattle.wh_state.specs.Commit.{CreatesDynamic};
+ghost use Rattle.wh_state.specs.Dynamic.{IsQuerySpelled};
+ghost use Rattle.wh_state.specs.Spelling.{IsUnderstood};
 ghost use Rattle.wh_state.specs.State.{empty_table};
 ghost use Rattle.wh_state.specs.Written.{written};
 ghost use Rattle.wh_machine.specs.Outcome.{commits};
@@ -22,14 +26,15 @@ ghost use Rattle.wh_machine.specs.Definitions.{defines, is_long};
 ghost use Rattle.wh_machine.specs.Dynamics as machine;
 ghost use Rattle.wh_dynamic.specs.View.{query_of, source_of, dynamic_of};
 ghost use Rattle.wh_record.specs.View.{change_of, dynamic_change_of};
-ghost use Rattle.wh_catalog.specs.Object.{kept_object};
+ghost use Rattle.wh_catalog.specs.Object.{kept_object, filed_of_objects};
 ghost use Rattle.wh_catalog.specs.Undoable.{object_in};
 ghost use Rattle.wh_catalog.specs.Catalog.{stored_of, state_of};
-ghost use Rattle.wh_refresh.specs.Refreshing.{RefreshesAs};
+ghost use Rattle.wh_refresh.specs.Refreshing.{AreRead};
 ghost use Rattle.wh_decide.specs.Dynamics.{new_stored, stored_with, dynamic_change, new_upstream};
-ghost use Rattle.wh_decide.specs.Dynamics.{new_dynamic_in, new_limit_refusal};
-ghost use Rattle.wh_table.specs.Table.{table_of};
-ghost use Rattle.wh_decide.specs.Sight.{machine_in, Comes};
+ghost use Rattle.wh_decide.specs.Dynamics.{new_dynamic_in, new_limit_refusal, FitsLimits};
+ghost use Rattle.wh_decide.specs.Dynamics.{HasSpelledQuery, initialized_in, IsFirstRefresh};
+ghost use Rattle.wh_table.specs.Table.{table_of, filed_of};
+ghost use Rattle.wh_decide.specs.Sight.{machine_in, IsShown, Comes, IsReady};
 
 use crate::decision::Decision;
 use crate::definitions::{count_refusal, defined, definition_refusal, drop_object, is_long};
@@ -48,93 +53,129 @@ use wh_copy::copy_query;
 use wh_ddl_bind::NewDynamicTable;
 use wh_ddl_naming::names_in_query;
 use wh_dynamic::{Dynamic, DynamicQuery, NamedSource, ids_read, upstream_of_new};
+use wh_fetch::{DiskFetch, FetchFault};
 use wh_record::{Change, DynamicChange};
 use wh_refresh::{Asked, Refreshing, all_objects, refresh};
 use wh_reply::{Refreshed, Refusal, Reply};
 use wh_value::{Limit, Text};
+use wh_world::Disk;
 
 // What CREATE DYNAMIC TABLE comes to, whose names are right: a new dynamic table, the last of the
 // catalog, and its first refresh where that isn't left to the schedule.
-pub(crate) fn create_dynamic(
+#[tactic(auto, using(wh_fetch::specs::DiskFetch::goes_on, wh_fetch::specs::DiskFetch::goes_none))]
+pub(crate) fn create_dynamic<D: Disk>(
     alloc: Global,
     sight: &Sight<'_>,
     table: &NewDynamicTable,
-) -> Result<Decision, AllocError>
-    ensures { IfOk result (λ decision. Comes sight.now decision
+    fetch: &mut DiskFetch<D>,
+) -> Result<Decision, FetchFault>
+    requires { IsRight D.Disk fetch.old }
+    ensures comes { IsShown (told_of D.Disk fetch.old) sight.now
+        → IfOk result (λ decision. Comes sight.now decision
         (defines (machine_in sight.now) sight.now.session None
         (machine.create_dynamic (machine_in sight.now) None (new_dynamic_table_of table.now)))) }
+    ensures ready { HasSpelledQuery table.now → IfOk result (λ d. IsReady sight.now d) }
+    ensures sound { IsShown (told_of D.Disk fetch.old) sight.now
+        → damage_of fetch.new ≡ damage_of fetch.old }
+    ensures same { told_of D.Disk fetch.new ≡ told_of D.Disk fetch.old }
+    ensures goes { GoesOn D.Disk fetch.old fetch.new }
+    ensures counts { Counts (faults_of D.Disk fetch.old) (faults_of D.Disk fetch.new) result }
 {
     let wrong = dynamic_refusal(alloc, sight.catalog, table)?;
     if let Some(why) = definition_refusal(sight, None, wrong) {
         return Ok(Decision::Refuse(why));
     }
-    new_dynamic(alloc, sight, table)
+    new_dynamic(alloc, sight, table, fetch)
 }
 
 // A new dynamic table, of which nothing is beyond a limit.
-fn new_dynamic(
+#[tactic(auto, using(wh_fetch::specs::DiskFetch::goes_on, wh_fetch::specs::DiskFetch::goes_none))]
+fn new_dynamic<D: Disk>(
     alloc: Global,
     sight: &Sight<'_>,
     table: &NewDynamicTable,
-) -> Result<Decision, AllocError>
-    requires lag { machine.seconds_of table.now.lag ≤ bound limits.MostTargetLag }
-    requires columns { length table.now.columns.items ≤ bound limits.Columns }
+    fetch: &mut DiskFetch<D>,
+) -> Result<Decision, FetchFault>
+    requires right { IsRight D.Disk fetch.old }
+    requires fits { FitsLimits table.now }
     requires room { length (stored_of sight.now.catalog.now).objects + 1 ≤ bound limits.ObjectIds }
-    ensures { IfOk result (λ decision. Comes sight.now decision
-        (machine.initialized (machine_in sight.now) (new_dynamic_table_of table.now)
-        (machine.query_of (new_dynamic_table_of table.now)) table.now.initialize)) }
+    ensures comes { IsShown (told_of D.Disk fetch.old) sight.now
+        → IfOk result (λ decision. Comes sight.now decision
+        (initialized_in sight.now table.now table.now.initialize)) }
+    ensures ready { HasSpelledQuery table.now → IfOk result (λ d. IsReady sight.now d) }
+    ensures sound { IsShown (told_of D.Disk fetch.old) sight.now
+        → damage_of fetch.new ≡ damage_of fetch.old }
+    ensures same { told_of D.Disk fetch.new ≡ told_of D.Disk fetch.old }
+    ensures goes { GoesOn D.Disk fetch.old fetch.new }
+    ensures counts { Counts (faults_of D.Disk fetch.old) (faults_of D.Disk fetch.new) result }
 {
     let change = change(alloc, sight.catalog, table)?;
     match table.initialize {
         Initialize::OnSchedule => {
             let lines = Vec::new(alloc);
             let more = Vec::new(alloc);
-            created(alloc, sight, change, lines, more)
+            Ok(created(alloc, sight, change, lines, more)?)
         }
-        Initialize::OnCreate => initialized(alloc, sight, table, change),
+        Initialize::OnCreate => initialized(alloc, sight, table, change, fetch),
     }
 }
 
 // With its first refresh, to the statement's stamp.
-fn initialized(
+#[tactic(auto, using(wh_fetch::specs::DiskFetch::goes_on, wh_fetch::specs::DiskFetch::goes_none))]
+fn initialized<D: Disk>(
     alloc: Global,
     sight: &Sight<'_>,
     table: &NewDynamicTable,
     change: DynamicChange,
-) -> Result<Decision, AllocError>
-    requires lag { machine.seconds_of table.now.lag ≤ bound limits.MostTargetLag }
-    requires columns { length table.now.columns.items ≤ bound limits.Columns }
+    fetch: &mut DiskFetch<D>,
+) -> Result<Decision, FetchFault>
+    requires right { IsRight D.Disk fetch.old }
+    requires fits { FitsLimits table.now }
     requires change { dynamic_change_of change
         ≡ dynamic_change (length (stored_of sight.now.catalog.now).objects)
         (new_dynamic_table_of table.now) }
-    ensures { IfOk result (λ decision. Comes sight.now decision
-        (machine.initialized (machine_in sight.now) (new_dynamic_table_of table.now)
-        (machine.query_of (new_dynamic_table_of table.now)) starts.OnCreate)) }
+    ensures comes { IsShown (told_of D.Disk fetch.old) sight.now
+        → IfOk result (λ decision. Comes sight.now decision
+        (initialized_in sight.now table.now starts.OnCreate)) }
+    ensures ready { HasSpelledQuery table.now → IfOk result (λ d. IsReady sight.now d) }
+    ensures sound { IsShown (told_of D.Disk fetch.old) sight.now
+        → damage_of fetch.new ≡ damage_of fetch.old }
+    ensures same { told_of D.Disk fetch.new ≡ told_of D.Disk fetch.old }
+    ensures goes { GoesOn D.Disk fetch.old fetch.new }
+    ensures counts { Counts (faults_of D.Disk fetch.old) (faults_of D.Disk fetch.new) result }
 {
     let made = made(alloc, sight, table)?;
-    let found = first_refresh(alloc, sight, &made, change.id)?;
+    let found = first_refresh(alloc, sight, &made, change.id, fetch)?;
     match found {
         Refreshing::Fails(why) => Ok(Decision::Refuse(why)),
-        Refreshing::Brings(lines, changes) => created(alloc, sight, change, lines, changes),
+        Refreshing::Brings(lines, changes) => { Ok(created(alloc, sight, change, lines, changes)?) }
     }
 }
 
 // Its first refresh, where it has that id.
-fn first_refresh(
+#[tactic(auto, using(wh_fetch::specs::DiskFetch::goes_on, wh_fetch::specs::DiskFetch::goes_none))]
+fn first_refresh<D: Disk>(
     alloc: Global,
     sight: &Sight<'_>,
     made: &StoredObject,
     id: u32,
-) -> Result<Refreshing, AllocError>
-    ensures { IfOk result (λ found. (n : naming.NewDynamicTable)
+    fetch: &mut DiskFetch<D>,
+) -> Result<Refreshing, FetchFault>
+    requires right { IsRight D.Disk fetch.old }
+    requires filed { filed_of_objects (made.now ∷ []) ≡ [] }
+    ensures refreshes { IsShown (told_of D.Disk fetch.old) sight.now
+        → IfOk result (λ found. (n : naming.NewDynamicTable)
         → object_in (kept_object made.now) ≡ new_stored sight.now.stamp n
-        → RefreshesAs sight.now.stamp
-        (stored_with sight.now.stamp (stored_of sight.now.catalog.now).objects n) found
-        (machine.asked_refresh
-        (machine.with_dynamic (machine_in sight.now).state n (machine.query_of n)) id)) }
+        → IsFirstRefresh sight.now n id found) }
+    ensures read { IfOk result (λ found. AreRead found) }
+    ensures sound { IsShown (told_of D.Disk fetch.old) sight.now
+        → damage_of fetch.new ≡ damage_of fetch.old }
+    ensures same { told_of D.Disk fetch.new ≡ told_of D.Disk fetch.old }
+    ensures goes { GoesOn D.Disk fetch.old fetch.new }
+    ensures counts { Counts (faults_of D.Disk fetch.old) (faults_of D.Disk fetch.new) result }
 {
     let objects = all_objects(alloc, sight.catalog, Some(made))?;
-    refresh(alloc, &objects, Asked::ByStatement, id, sight.stamp)
+    refresh(alloc, &objects, Asked::ByStatement, id, sight.stamp, fetch)
 }
 
 // The commit of a new dynamic table, and what a first refresh writes.
@@ -145,7 +186,7 @@ fn created(
     refreshed: Vec<Refreshed>,
     more: Vec<Change>,
 ) -> Result<Decision, AllocError>
-    ensures { IfOk result (λ decision. (n : naming.NewDynamicTable) → (acts : List Act)
+    ensures comes { IfOk result (λ decision. (n : naming.NewDynamicTable) → (acts : List Act)
         → dynamic_change_of change
         ≡ dynamic_change (length (stored_of sight.now.catalog.now).objects) n
         → map change_of more.items ≡ written sight.now.stamp
@@ -153,6 +194,8 @@ fn created(
         → Comes sight.now decision (commits (machine_in sight.now)
         (CreatedDynamicTable n.name (map refreshed_view refreshed.items))
         (machine.dynamic_made n (machine.query_of n) ++ acts))) }
+    ensures ready { IfOk result (λ decision. IsQuerySpelled (dynamic_change_of change).query
+        → AllByRecursion IsUnderstood (map change_of more.items) → IsReady sight.now decision) }
 {
     let name = change.name.copy(alloc)?;
     let changes = change_and(alloc, change, more)?;
@@ -207,10 +250,10 @@ fn made(
     sight: &Sight<'_>,
     table: &NewDynamicTable,
 ) -> Result<StoredObject, AllocError>
-    requires lag { machine.seconds_of table.now.lag ≤ bound limits.MostTargetLag }
-    requires columns { length table.now.columns.items ≤ bound limits.Columns }
-    ensures { IfOk result (λ object. object_in (kept_object object)
+    requires { FitsLimits table.now }
+    ensures made { IfOk result (λ object. object_in (kept_object object)
         ≡ new_stored sight.now.stamp (new_dynamic_table_of table.now)) }
+    ensures filed { IfOk result (λ object. filed_of_objects (object ∷ []) ≡ []) }
 {
     let dynamic = made_dynamic(alloc, table)?;
     let rows = made_rows(alloc, table, sight.stamp)?;
@@ -230,8 +273,9 @@ fn made_dynamic(alloc: Global, table: &NewDynamicTable) -> Result<Dynamic, Alloc
 
 fn made_rows(alloc: Global, table: &NewDynamicTable, stamp: u64) -> Result<StoredTable, AllocError>
     requires { length table.now.columns.items ≤ bound limits.Columns }
-    ensures { IfOk result (λ rows. table_of rows
+    ensures rows { IfOk result (λ rows. table_of rows
         ≡ empty_table (map column_of table.now.columns.items) stamp) }
+    ensures filed { IfOk result (λ rows. filed_of rows ≡ []) }
 {
     let columns = copied_columns(alloc, &table.columns)?;
     Ok(StoredTable::empty(alloc, columns, stamp))

@@ -1,41 +1,52 @@
 ghost use Rattle.std.specs.Prelude.{◌≡◌, option_map, IfOk};
-ghost use Rattle.wh_meaning.specs.Query.{Instance, eval};
+ghost use Rattle.wh_fetch.specs.Device.{Counts};
+ghost use Rattle.wh_fetch.specs.DiskFetch.{told_of, faults_of, damage_of, IsRight, GoesOn};
+ghost use Rattle.wh_meaning.specs.Query.{eval};
 ghost use Rattle.wh_meaning.specs.Listing.{listed};
 ghost use Rattle.wh_algebra.specs.View.{query_of};
 ghost use Rattle.wh_listing.specs.View.{keys_of};
 ghost use Rattle.wh_machine.specs.Reading.{instance_read};
 ghost use Rattle.wh_machine.specs.Statements.{selects};
 ghost use Rattle.wh_ddl_bind.specs.View.{select_of};
-ghost use Rattle.wh_decide.specs.Rows.{rows_found};
-ghost use Rattle.wh_decide.specs.Sight.{machine_in, Comes};
-ghost use Rattle.wh_decide.specs.Sources.{AreSeenAs};
+ghost use Rattle.wh_plan.specs.Rows.{rows_found};
+ghost use Rattle.wh_decide.specs.Sight.{machine_in, IsShown, Comes, IsReady};
 
 use crate::decision::{Decision, Settlement};
 use crate::reading::sources_refusal;
 use crate::sight::Sight;
-use crate::sources::{SourceSeen, rows_of, sources_seen};
+use crate::sources::{sources_of, sources_seen};
 use std::alloc::{AllocError, Global};
 use wh_bind::BoundSelect;
-use wh_listing::listed;
-use wh_plan::answered;
+use wh_fetch::{DiskFetch, FetchFault};
+use wh_plan::answered_in_order;
 use wh_reply::{Refusal, Reply};
-use wh_scalar::EvalFault;
 use wh_value::{Row, Text};
+use wh_world::Disk;
 
 // What a SELECT comes to that nothing is found wrong with, over what the session sees. It makes no
 // commit.
-pub(crate) fn select(
+#[tactic(auto, using(wh_fetch::specs::DiskFetch::goes_on, wh_fetch::specs::DiskFetch::goes_none))]
+pub(crate) fn select<D: Disk>(
     alloc: Global,
     sight: &Sight<'_>,
     bound: &BoundSelect,
-) -> Result<Decision, AllocError>
-    ensures { IfOk result (λ decision. Comes sight.now decision
+    fetch: &mut DiskFetch<D>,
+) -> Result<Decision, FetchFault>
+    requires { IsRight D.Disk fetch.old }
+    ensures comes { IsShown (told_of D.Disk fetch.old) sight.now
+        → IfOk result (λ decision. Comes sight.now decision
         (selects (machine_in sight.now) sight.now.session (select_of bound.now))) }
+    ensures ready { IfOk result (λ decision. IsReady sight.now decision) }
+    ensures sound { IsShown (told_of D.Disk fetch.old) sight.now
+        → damage_of fetch.new ≡ damage_of fetch.old }
+    ensures same { told_of D.Disk fetch.new ≡ told_of D.Disk fetch.old }
+    ensures goes { GoesOn D.Disk fetch.old fetch.new }
+    ensures counts { Counts (faults_of D.Disk fetch.old) (faults_of D.Disk fetch.new) result }
 {
     if let Some(why) = sources_refusal(alloc, sight, bound.is_wide, &bound.sources)? {
         return Ok(Decision::Refuse(why));
     }
-    let Some(rows) = listed_rows(alloc, sight, bound)? else {
+    let Some(rows) = listed_rows(alloc, sight, bound, fetch)? else {
         return Ok(Decision::Refuse(Refusal::NumberOutOfRange));
     };
     let names = copies(alloc, &bound.names)?;
@@ -46,37 +57,27 @@ pub(crate) fn select(
 }
 
 // Its rows in order, or None where they are undefined.
-fn listed_rows(
+#[tactic(auto, using(wh_fetch::specs::DiskFetch::goes_on, wh_fetch::specs::DiskFetch::goes_none))]
+fn listed_rows<D: Disk>(
     alloc: Global,
     sight: &Sight<'_>,
     bound: &BoundSelect,
-) -> Result<Option<Vec<Row>>, AllocError>
-    ensures { IfOk result (λ found. rows_found found
+    fetch: &mut DiskFetch<D>,
+) -> Result<Option<Vec<Row>>, FetchFault>
+    requires { IsRight D.Disk fetch.old }
+    ensures listed { IsShown (told_of D.Disk fetch.old) sight.now
+        → IfOk result (λ found. rows_found found
         ≡ option_map (listed (keys_of bound.now.keys.items)) (eval (query_of bound.now.query)
         (instance_read (machine_in sight.now) sight.now.session bound.now.sources.items))) }
+    ensures sound { IsShown (told_of D.Disk fetch.old) sight.now
+        → damage_of fetch.new ≡ damage_of fetch.old }
+    ensures same { told_of D.Disk fetch.new ≡ told_of D.Disk fetch.old }
+    ensures goes { GoesOn D.Disk fetch.old fetch.new }
+    ensures counts { Counts (faults_of D.Disk fetch.old) (faults_of D.Disk fetch.new) result }
 {
-    let sources = sources_seen(alloc, sight, &bound.sources)?;
-    let rows = rows_over(alloc, bound, &sources);
-    drop(sources);
-    rows
-}
-
-// Its rows over these sources.
-fn rows_over(
-    alloc: Global,
-    bound: &BoundSelect,
-    seen: &[SourceSeen<'_>],
-) -> Result<Option<Vec<Row>>, AllocError>
-    ensures { IfOk result (λ found. (read : Instance) → AreSeenAs seen.now read
-        → rows_found found ≡ option_map (listed (keys_of bound.now.keys.items))
-        (eval (query_of bound.now.query) read)) }
-{
-    let sources = rows_of(alloc, seen)?;
-    match answered(alloc, &bound.query, &sources) {
-        Ok(tuples) => Ok(Some(listed(alloc, &bound.keys, tuples)?)),
-        Err(EvalFault::NumberOutOfRange) => Ok(None),
-        Err(EvalFault::OutOfMemory) => Err(AllocError),
-    }
+    let seen = sources_seen(alloc, sight, &bound.sources, fetch)?;
+    let sources = sources_of(alloc, &seen)?;
+    answered_in_order(alloc, &bound.query, &bound.keys, &sources, fetch)
 }
 
 fn copies(alloc: Global, names: &[Text]) -> Result<Vec<Text>, AllocError>

@@ -1,4 +1,6 @@
 ghost use Rattle.std.specs.Prelude.{◌≡◌, Some, None, option_map, IfOk};
+ghost use Rattle.wh_fetch.specs.Device.{Counts};
+ghost use Rattle.wh_fetch.specs.DiskFetch.{told_of, faults_of, damage_of, IsRight, GoesOn};
 ghost use Rattle.wh_reply.specs.View.{refusal_view};
 ghost use Rattle.wh_ddl_bind.specs.View.{new_stream_of};
 ghost use Rattle.wh_state.specs.Commit.{CreatesStream};
@@ -7,7 +9,7 @@ ghost use Rattle.wh_machine.specs.Reading as reading;
 ghost use Rattle.wh_machine.specs.Definitions.{defines};
 ghost use Rattle.wh_record.specs.View.{change_of};
 ghost use Rattle.wh_catalog.specs.Catalog.{state_of};
-ghost use Rattle.wh_decide.specs.Sight.{machine_in, Comes};
+ghost use Rattle.wh_decide.specs.Sight.{machine_in, IsShown, Comes, IsReady};
 
 use crate::decision::{Decision, Settlement};
 use crate::definitions::{count_refusal, defined, definition_refusal, drop_object, is_long};
@@ -17,9 +19,11 @@ use crate::sight::Sight;
 use std::alloc::{AllocError, Global};
 use wh_catalog::Catalog;
 use wh_ddl_bind::NewStream;
+use wh_fetch::{DiskFetch, FetchFault};
 use wh_record::{Change, StreamChange};
 use wh_reply::{Refusal, Reply};
 use wh_value::Limit;
+use wh_world::Disk;
 
 // What CREATE STREAM comes to, whose names are right: a new stream, the last of the catalog. It
 // shows what comes behind its commit.
@@ -88,9 +92,23 @@ pub(crate) fn drop_stream(alloc: Global, sight: &Sight<'_>, id: u32) -> Result<D
 
 // What SYSTEM$STREAM_HAS_DATA comes to, of a stream: it is refused as a read of it is, and moves
 // nothing.
-pub(crate) fn has_data(alloc: Global, sight: &Sight<'_>, id: u32) -> Result<Decision, AllocError>
-    ensures { IfOk result (λ decision. Comes sight.now decision
+#[tactic(auto, using(wh_fetch::specs::DiskFetch::goes_on, wh_fetch::specs::DiskFetch::goes_none))]
+pub(crate) fn has_data<D: Disk>(
+    alloc: Global,
+    sight: &Sight<'_>,
+    id: u32,
+    fetch: &mut DiskFetch<D>,
+) -> Result<Decision, FetchFault>
+    requires { IsRight D.Disk fetch.old }
+    ensures comes { IsShown (told_of D.Disk fetch.old) sight.now
+        → IfOk result (λ decision. Comes sight.now decision
         (reading.has_data (machine_in sight.now) sight.now.session None id)) }
+    ensures ready { IfOk result (λ decision. IsReady sight.now decision) }
+    ensures sound { IsShown (told_of D.Disk fetch.old) sight.now
+        → damage_of fetch.new ≡ damage_of fetch.old }
+    ensures same { told_of D.Disk fetch.new ≡ told_of D.Disk fetch.old }
+    ensures goes { GoesOn D.Disk fetch.old fetch.new }
+    ensures counts { Counts (faults_of D.Disk fetch.old) (faults_of D.Disk fetch.new) result }
 {
     let Some(stream) = sight.catalog.stream(id) else {
         return Ok(Decision::Do {
@@ -101,7 +119,7 @@ pub(crate) fn has_data(alloc: Global, sight: &Sight<'_>, id: u32) -> Result<Deci
     if let Some(why) = reading_refusal(alloc, sight, &[id])? {
         return Ok(Decision::Refuse(why));
     }
-    let has_rows = wh_stream::has_data(alloc, sight.catalog, stream, sight.start())?;
+    let has_rows = wh_stream::has_data(alloc, sight.catalog, stream, sight.start(), fetch)?;
     Ok(Decision::Do {
         reply: Reply::HasData(has_rows),
         settlement: Settlement::Answers,

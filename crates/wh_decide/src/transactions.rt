@@ -1,17 +1,21 @@
 ghost use Rattle.std.specs.Prelude.{◌≡◌, option_map, IfOk};
+ghost use Rattle.wh_fetch.specs.Device.{Counts};
+ghost use Rattle.wh_fetch.specs.DiskFetch.{told_of, faults_of, damage_of, IsRight, GoesOn};
 ghost use Rattle.wh_reply.specs.Reply.{DdlInTransaction, Locked};
 ghost use Rattle.wh_reply.specs.View.{refusal_view};
 ghost use Rattle.wh_machine.specs.Sessions.{number_in};
 ghost use Rattle.wh_machine.specs.Definitions.{holder_of};
 ghost use Rattle.wh_machine.specs.Statements as machine;
 ghost use Rattle.wh_txn.specs.View.{sessions_of};
-ghost use Rattle.wh_decide.specs.Sight.{machine_in, Comes};
+ghost use Rattle.wh_decide.specs.Sight.{machine_in, IsShown, Comes, IsReady};
 
 use crate::decision::{Decision, Settlement};
 use crate::sight::Sight;
-use std::alloc::{AllocError, Global};
+use std::alloc::Global;
+use wh_fetch::{DiskFetch, FetchFault};
 use wh_reply::{Refusal, Reply};
 use wh_txn::RecordFault;
+use wh_world::Disk;
 
 // What BEGIN comes to. A transaction's number is the stamp at which it begins.
 pub(crate) fn begin(sight: &Sight<'_>) -> Decision
@@ -28,9 +32,22 @@ pub(crate) fn begin(sight: &Sight<'_>) -> Decision
 
 // What COMMIT comes to: a version of each table that was touched. One that would pass a limit is
 // refused, and the transaction stays open.
-pub(crate) fn commit(alloc: Global, sight: &Sight<'_>) -> Result<Decision, AllocError>
-    ensures { IfOk result (λ decision. Comes sight.now decision
+#[tactic(auto, using(wh_fetch::specs::DiskFetch::goes_on, wh_fetch::specs::DiskFetch::goes_none))]
+pub(crate) fn commit<D: Disk>(
+    alloc: Global,
+    sight: &Sight<'_>,
+    fetch: &mut DiskFetch<D>,
+) -> Result<Decision, FetchFault>
+    requires { IsRight D.Disk fetch.old }
+    ensures comes { IsShown (told_of D.Disk fetch.old) sight.now
+        → IfOk result (λ decision. Comes sight.now decision
         (machine.commit (machine_in sight.now) sight.now.session)) }
+    ensures ready { IfOk result (λ decision. IsReady sight.now decision) }
+    ensures sound { IsShown (told_of D.Disk fetch.old) sight.now
+        → damage_of fetch.new ≡ damage_of fetch.old }
+    ensures same { told_of D.Disk fetch.new ≡ told_of D.Disk fetch.old }
+    ensures goes { GoesOn D.Disk fetch.old fetch.new }
+    ensures counts { Counts (faults_of D.Disk fetch.old) (faults_of D.Disk fetch.new) result }
 {
     let session = sight.session;
     if sight.sessions.number(session).is_none() {
@@ -38,7 +55,7 @@ pub(crate) fn commit(alloc: Global, sight: &Sight<'_>) -> Result<Decision, Alloc
     }
     match sight
         .sessions
-        .commit_record(alloc, sight.catalog, session, sight.stamp)
+        .commit_record(alloc, sight.catalog, session, sight.stamp, fetch)
     {
         Ok(Some(commit)) => Ok(Decision::Do {
             reply: Reply::Committed(sight.stamp),
@@ -55,7 +72,8 @@ pub(crate) fn commit(alloc: Global, sight: &Sight<'_>) -> Result<Decision, Alloc
             },
         }),
         Err(RecordFault::Limit { which, .. }) => Ok(Decision::Refuse(Refusal::OverLimit(which))),
-        Err(RecordFault::OutOfMemory) => Err(AllocError),
+        Err(RecordFault::Read) => Err(FetchFault::Read),
+        Err(RecordFault::OutOfMemory) => Err(FetchFault::OutOfMemory),
     }
 }
 

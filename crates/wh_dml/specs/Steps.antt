@@ -1,4 +1,5 @@
 -- Steps of a change.
+--     source_of                       the rows of its query in the row order; None where they are undefined
 --     before, done_by                 the effect of rows and then of others, and of one row's turn
 --     clause_at, clauses_at           the clauses that references point to
 --     choice                          the first clause whose condition is TRUE, where the conditions of all are defined
@@ -8,17 +9,27 @@
 --     Settled, settled                what the target's rows come to, by their turns
 --     outcome                         the effect with the rows that are added, or the ambiguous row
 --     left_over, inserts_of           the source rows that aren't matched, and the rows that they add
-use Rattle.std.specs.Prelude.{ℕ, Bool, false, ◌||◌, if◌then◌else◌, List, [], ◌∷◌, ◌++◌, map, Option, Some, None, option_map}
+use Rattle.std.specs.Prelude.{ℕ, Bool, false, ◌||◌, if◌then◌else◌, List, [], ◌∷◌, ◌++◌, map, Option, Some, None}
+use Rattle.std.specs.Prelude.{option_map}
 use Rattle.std.specs.Prelude.{slice_index_or, slice_set}
 use denote.Ref.{Bor}
 use Rattle.wh_value.specs.Value.{Value, Row}
 use Rattle.wh_meaning.specs.Scalar.{Scalar, val, is_true, holds, of_one, of_two}
-use Rattle.wh_meaning.specs.Query.{values_on}
-use Rattle.wh_naming.specs.Changes.{BoundClause, UpdateMatched, DeleteMatched, InsertUnmatched}
+use Rattle.wh_meaning.specs.Query.{Instance, values_on, eval}
+use Rattle.wh_naming.specs.Changes.{BoundClause, UpdateMatched, DeleteMatched, InsertUnmatched, Modification}
+use Rattle.wh_naming.specs.Changes.{InsertRows, InsertQuery, Update, Delete, Merge}
 use Rattle.wh_effect.specs.Effect.{Effect, EffectResult, Does, no_effect, unless_several, Turn, Stays, Goes, Becomes}
-use Rattle.wh_effect.specs.Effect.{condition_of, inserted_by}
+use Rattle.wh_effect.specs.Effect.{condition_of, inserted_by, rows_in_order}
 use Rattle.wh_bound_change.specs.View.{clause_of}
 use Rattle.wh_bound_change.specs.declared.change.BoundClause as code
+
+-- a change without a query has no such rows
+abbrev pub source_of : Modification → Instance → Option (List Row)
+source_of (InsertRows rows) instance = Some []
+source_of (InsertQuery query parts) instance = rows_in_order (eval query instance)
+source_of (Update condition parts) instance = Some []
+source_of (Delete condition) instance = Some []
+source_of (Merge query on clauses) instance = rows_in_order (eval query instance)
 
 abbrev pub before : Effect → Effect → Effect
 before a b = record { removed = a.removed ++ b.removed; changed = a.changed ++ b.changed; added = a.added ++ b.added }

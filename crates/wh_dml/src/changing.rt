@@ -1,38 +1,105 @@
+ghost use Rattle.std.specs.Prelude.{◌≡◌, IfOk};
 ghost use Rattle.wh_bound_change.specs.View.{change_of};
+ghost use Rattle.wh_dml.specs.Steps.{source_of};
 ghost use Rattle.wh_dml.specs.View.{Gives, targets_of};
 ghost use Rattle.wh_effect.specs.Effect as meaning;
-ghost use Rattle.wh_exec.specs.Evaluation.{instance_of};
+ghost use Rattle.wh_exec.specs.Source.{filed_in, instance_in};
+ghost use Rattle.wh_fetch.specs.Device.{Counts};
+ghost use Rattle.wh_fetch.specs.DiskFetch.{told_of, faults_of, damage_of, IsRight, GoesOn};
+ghost use Rattle.wh_filed.specs.Filed.{AllShown};
+ghost use Rattle.wh_meaning.specs.Query.{Instance};
+ghost use Rattle.wh_plan.specs.Rows.{rows_found};
 
 use crate::delete::deleted;
-use crate::insert::{rows_in_order, rows_of, rows_over};
+use crate::insert::{rows_of, rows_over};
 use crate::merge::merged;
 use crate::update::updated;
 use crate::{Effect, EffectFault};
 use std::alloc::Global;
 use wh_bound_change::Modification;
+use wh_exec::Source;
+use wh_fetch::{DiskFetch, FetchFault};
 use wh_part::Partition;
+use wh_plan::answered_in_order;
 use wh_scalar::Condition;
 use wh_value::Row;
+use wh_world::Disk;
 
-/// What a change does to the rows of its target's partitions, in their order, over the rows of its
-/// sources.
-#[tactic(auto, unfolding(wh_effect::specs::Effect::effect))]
-pub fn effect(
+/// What a change does to the rows of its target's partitions, in their order, over its sources.
+#[tactic(auto, using(wh_fetch::specs::DiskFetch::goes_on, wh_fetch::specs::DiskFetch::goes_none))]
+pub fn effect<D: Disk>(
     alloc: Global,
     change: &Modification,
     target: &[&Partition],
-    sources: &[Vec<&Row>],
-) -> Result<Effect, EffectFault>
-    ensures { Gives result
-        (meaning.effect (change_of change.now) (targets_of target.now) (instance_of sources.now)) }
+    sources: &[Source<'_>],
+    fetch: &mut DiskFetch<D>,
+) -> Result<Result<Effect, EffectFault>, FetchFault>
+    requires { IsRight D.Disk fetch.old }
+    ensures gives { AllShown (told_of D.Disk fetch.old) (filed_in sources.now)
+        → IfOk result (λ found. Gives found (meaning.effect (change_of change.now)
+        (targets_of target.now) (instance_in sources.now))) }
+    ensures sound { AllShown (told_of D.Disk fetch.old) (filed_in sources.now)
+        → damage_of fetch.new ≡ damage_of fetch.old }
+    ensures same { told_of D.Disk fetch.new ≡ told_of D.Disk fetch.old }
+    ensures goes { GoesOn D.Disk fetch.old fetch.new }
+    ensures counts { Counts (faults_of D.Disk fetch.old) (faults_of D.Disk fetch.new) result }
 {
+    let source = source_rows(alloc, change, sources, fetch)?;
+    let found = effect_over(alloc, change, target, source);
+    Ok(found)
+}
+
+// The rows of a change's query in the row order, or None where they are undefined. A change
+// without a query has none.
+#[tactic(auto, using(wh_fetch::specs::DiskFetch::goes_on, wh_fetch::specs::DiskFetch::goes_none))]
+fn source_rows<D: Disk>(
+    alloc: Global,
+    change: &Modification,
+    sources: &[Source<'_>],
+    fetch: &mut DiskFetch<D>,
+) -> Result<Option<Vec<Row>>, FetchFault>
+    requires { IsRight D.Disk fetch.old }
+    ensures rows { AllShown (told_of D.Disk fetch.old) (filed_in sources.now)
+        → IfOk result (λ found. rows_found found
+        ≡ source_of (change_of change.now) (instance_in sources.now)) }
+    ensures sound { AllShown (told_of D.Disk fetch.old) (filed_in sources.now)
+        → damage_of fetch.new ≡ damage_of fetch.old }
+    ensures same { told_of D.Disk fetch.new ≡ told_of D.Disk fetch.old }
+    ensures goes { GoesOn D.Disk fetch.old fetch.new }
+    ensures counts { Counts (faults_of D.Disk fetch.old) (faults_of D.Disk fetch.new) result }
+{
+    match change {
+        Modification::InsertQuery(query, _) | Modification::Merge(query, _, _) => {
+            answered_in_order(alloc, query, &[], sources, fetch)
+        }
+        Modification::InsertRows(_) | Modification::Update(_, _) | Modification::Delete(_) => {
+            Ok(Some(Vec::new(alloc)))
+        }
+    }
+}
+
+// What a change does, over the rows of its query.
+#[tactic(auto, unfolding(wh_effect::specs::Effect::effect))]
+fn effect_over(
+    alloc: Global,
+    change: &Modification,
+    target: &[&Partition],
+    source: Option<Vec<Row>>,
+) -> Result<Effect, EffectFault>
+    ensures { (instance : Instance)
+        → rows_found source ≡ source_of (change_of change.now) instance
+        → Gives result
+        (meaning.effect (change_of change.now) (targets_of target.now) instance) }
+{
+    let Some(source) = source else {
+        return Err(EffectFault::NumberOutOfRange);
+    };
     match change {
         Modification::InsertRows(rows) => {
             let added = rows_of(alloc, rows)?;
             Ok(Effect::adding(alloc, added))
         }
-        Modification::InsertQuery(query, parts) => {
-            let source = rows_in_order(alloc, query, sources)?;
+        Modification::InsertQuery(_, parts) => {
             let added = rows_over(alloc, parts, source)?;
             Ok(Effect::adding(alloc, added))
         }
@@ -44,9 +111,6 @@ pub fn effect(
             let condition = Condition::new(condition);
             Ok(deleted(alloc, &condition, target)?)
         }
-        Modification::Merge(query, on, clauses) => {
-            let source = rows_in_order(alloc, query, sources)?;
-            merged(alloc, on, clauses, target, &source)
-        }
+        Modification::Merge(_, on, clauses) => merged(alloc, on, clauses, target, &source),
     }
 }

@@ -1,18 +1,13 @@
 //! INSERT: the new rows.
 ghost use Rattle.wh_aggregate.specs.Given.{GivesListed};
-ghost use Rattle.wh_algebra.specs.View.{query_of, scalars_of};
+ghost use Rattle.wh_algebra.specs.View.{scalars_of};
 ghost use Rattle.wh_bound_change.specs.View as bound;
 ghost use Rattle.wh_effect.specs.Effect as meaning;
-ghost use Rattle.wh_exec.specs.Evaluation.{instance_of};
-ghost use Rattle.wh_meaning.specs.Query.{eval};
 
 use crate::Effect;
 use crate::columns::are_all_columns;
 use std::alloc::{AllocError, Global};
 use wh_aggregate::values_on;
-use wh_algebra::Query;
-use wh_listing::listed;
-use wh_plan::answered;
 use wh_scalar::{EvalFault, Scalar};
 use wh_value::Row;
 
@@ -53,19 +48,6 @@ fn new_rows_over(alloc: Global, parts: &[Scalar], source: &[Row]) -> Result<Vec<
         added.push(row).map_err(AllocError::from)?;
     }
     Ok(added)
-}
-
-/// The rows of a query in the row order.
-pub(crate) fn rows_in_order(
-    alloc: Global,
-    query: &Query,
-    sources: &[Vec<&Row>],
-) -> Result<Vec<Row>, EvalFault>
-    ensures { GivesListed result
-        (meaning.rows_in_order (eval (query_of query.now) (instance_of sources.now))) }
-{
-    let rows = answered(alloc, query, sources)?;
-    Ok(listed(alloc, &[], rows)?)
 }
 
 impl Effect {

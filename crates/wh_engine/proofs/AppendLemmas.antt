@@ -52,9 +52,9 @@ is_full r old j c payload calls full beyond =
 pub append_halts : {D T : Type 0} {seen : Ghosts D} (r : Result T AppendFault)
     (fault : AppendFault) (old new : Warehouse D seen) (j : Journal) (c : Commit) (payload : List ℕ)
     → r ≡ Err fault → Calls old.journal j c payload
-    → Fails r j payload (seen.faults old.disk) (seen.faults new.disk) (failed_of new.journal)
+    → Fails r j payload (seen.faults old.fetch.disk) (seen.faults new.fetch.disk) (failed_of new.journal)
     → ((fault ≡ appends.DiskFault → ⊥) → IsUntouched old new) → machine_of new ≡ machine_of old
-    → seen.faults old.disk ≤ seen.faults new.disk
+    → seen.faults old.fetch.disk ≤ seen.faults new.fetch.disk
     → Halted old new (Some c) (halt_of fault)
 append_halts r appends.DiskFault old new j c payload is calls fails same state later = record {
   state = state;
@@ -64,6 +64,9 @@ append_halts r appends.DiskFault old new j c payload is calls fails same state l
   disk_fault = λ e. fails.disk_fault is;
   failed = λ e. fails.failed is;
   untouched = λ other. absurd (other refl);
+  read_fault = λ e. absurd cc;
+  damaged = λ at e. absurd cc;
+  sound = λ at e. absurd cc;
   later = later;
 }
 append_halts r (appends.FileFull len need) old new j c payload is calls fails same state later =
@@ -84,6 +87,9 @@ append_halts r (appends.FileFull len need) old new j c payload is calls fails sa
       disk_fault = λ e. absurd cc;
       failed = λ e. absurd cc;
       untouched = λ other. same (λ e. cc);
+      read_fault = λ e. absurd cc;
+      damaged = λ at e. absurd cc;
+      sound = λ at e. absurd cc;
       later = later;
     }
 append_halts r (appends.NeedsReopen faults) old new j c payload is calls fails same state later =

@@ -1,9 +1,10 @@
+pub mod PlaceLemmas
 pub mod FileLemmas
+mod ReadLemmas
 pub mod StopLemmas
 mod HaltLemmas
 mod CarryLemmas
 mod AppendLemmas
-mod SpelledLemmas
 mod DecidedLemmas
 mod ReplayLemmas
 mod OpenLemmas

@@ -4,12 +4,11 @@
 --     fault_first, stray_first     one that breaks off, and one with a record that strays
 --     left_by_opening              what a crash leaves behind the journal's recovery
 --     unread, fails                faults that aren't the file's
-use Rattle.std.proofs.Common.{◌≡◌, ℕ, ◌<◌, ◌^◌, ◌⊎◌, List, [], ◌∷◌, ◌++◌, length, map, Option, Some, None, is_some}
-use Rattle.std.proofs.Common.{Result, Err, refl, sym, ◌∙◌, subst, ap, arith, inl, inr, append_assoc}
+use Rattle.std.proofs.Common.{◌≡◌, ℕ, ◌-◌, ◌<◌, ◌^◌, ◌⊎◌, List, [], ◌∷◌, ◌++◌, length, map, take, Option, Some, None}
+use Rattle.std.proofs.Common.{is_some, Result, Err, refl, sym, ◌∙◌, subst, ap, arith, inl, inr}
 use Rattle.std.specs.Prelude.{MatchOption}
 use Rattle.std.specs.List.{AllByRecursion, flat_map}
 use Rattle.std.proofs.lemmas.Bool.{cases_lt}
-use Rattle.std.proofs.lemmas.List.Concat.{flat_map-append}
 use Rattle.wh_world.specs.Crash.{Only}
 use Rattle.wh_state.specs.Stored.{Stored, first_stored}
 use Rattle.wh_state.specs.Commit.{Commit, Leads}
@@ -26,15 +25,17 @@ use Rattle.wh_journal.specs.declared.fault.ReadFault.TheVariants as reads
 use Rattle.wh_world.specs.declared.disk.Disk.{Ghosts}
 use Rattle.wh_journal.specs.Journal.{Lists, end_of, count_of}
 use Rattle.wh_journal.specs.declared.journal.Journal.{Journal}
-use Rattle.wh_catalog.specs.Catalog.{stored_of}
+use Rattle.wh_filed.specs.Filed.{Filed as FiledPartition}
+use Rattle.wh_catalog.specs.Catalog.{stored_of, filed_of}
 use Rattle.wh_catalog.specs.declared.catalog.Catalog.{Catalog}
-use Rattle.wh_engine.specs.Warehouse.{IsFileOfCommits, Filed}
+use Rattle.wh_engine.specs.Warehouse.{IsFileOfCommits, Filed, Shows}
 use Rattle.wh_journal.specs.Fault.{fault_of_read}
 use Rattle.wh_engine.specs.Opening.{FailsToOpen}
-use Rattle.wh_engine.specs.Replay.{IsListed, Replays, StraysAt, LeadsTo, Strays}
+use Rattle.wh_engine.specs.Replay.{IsListed, Replays, StraysAt, LeadsTo, Strays, ShowsListed}
 use Rattle.wh_journal.specs.declared.fault.OpenFault.{OpenFault}
 use Rattle.wh_journal.specs.declared.fault.OpenFault.TheVariants.{DiskFault, NotWarehouse}
 use Rattle.wh_engine.proofs.FileLemmas.{keeps}
+use Rattle.wh_engine.proofs.PlaceLemmas.{records_around, records_front}
 use Rattle.wh_decide.proofs.ListLemmas.{all_front, all_back, some_is, none_told}
 
 abbrev pub IsWhole : List ℕ → Journal → Type 0
@@ -95,42 +96,56 @@ opened old mid j fault s none begun read led file told = elim (cases_lt 8 (lengt
       inl (short, no_commits h.commits s h.spelled h.leads)
 ]
 
-filed_by : (payloads : List (List ℕ)) (file : List ℕ) (j : Journal) (c : Catalog) → IsFileOf payloads file
-    → Lists payloads j → Replays first_stored payloads (stored_of c)
+-- what the records of a file show is shown by each that begins as it does
+shows_listed : (payloads : List (List ℕ)) (file : List ℕ) (mid : Option (List ℕ)) (j : Journal)
+    (filed : List FiledPartition) → mid ≡ Some file → IsFileOf payloads file → Lists payloads j
+    → ShowsListed mid j filed → Shows file j filed
+shows_listed payloads file mid j filed told is lists shown image same =
+    let size : end_of j - 1 ≡ length (records_of payloads) = omega (arith, lists.end) in
+    let front : take (end_of j - 1) image ≡ records_of payloads = same ∙ records_front payloads file j is lists in
+    shown payloads (listed_whole payloads file mid j told is lists) image
+    (subst (λ (n : ℕ). take n image ≡ records_of payloads) size front)
+
+filed_by : (payloads : List (List ℕ)) (file : List ℕ) (mid : Option (List ℕ)) (j : Journal) (c : Catalog)
+    → mid ≡ Some file → IsFileOf payloads file → Lists payloads j → LeadsTo mid j (stored_of c)
+    → ShowsListed mid j (filed_of c)
     → IsFileOfCommits file j c
-filed_by payloads file j c is lists h = record {
-  commits = h.commits;
-  good = h.good;
-  spelled = subst (λ (ps : List (List ℕ)). IsFileOf ps file) (sym h.spelled) is;
-  listed = subst (λ (ps : List (List ℕ)). Lists ps j) (sym h.spelled) lists;
-  leads = h.leads;
-}
+filed_by payloads file mid j c told is lists led shown =
+    let h = led_whole payloads file mid j (stored_of c) told is lists led in
+    record {
+      commits = h.commits;
+      good = h.good;
+      spelled = subst (λ (ps : List (List ℕ)). IsFileOf ps file) (sym h.spelled) is;
+      listed = subst (λ (ps : List (List ℕ)). Lists ps j) (sym h.spelled) lists;
+      leads = h.leads;
+      shows = shows_listed payloads file mid j (filed_of c) told is lists shown;
+    }
 
 filed_told : (old mid : Option (List ℕ)) (j : Journal) (fault : Option ℕ) (c : Catalog) → fault ≡ None
     → RecoversShort old mid (j, fault) → RecoversLong old mid (j, fault) → LeadsTo mid j (stored_of c)
-    → (file now : List ℕ) → old ≡ Some file
+    → ShowsListed mid j (filed_of c) → (file now : List ℕ) → old ≡ Some file
     → mid ≡ Some now → IsFileOfCommits now j c
-filed_told old mid j fault c none begun read led file now told is = elim (cases_lt 8 (length file)) [
+filed_told old mid j fault c none begun read led shown file now told is = elim (cases_lt 8 (length file)) [
   | inl long ↦
       let r = read file told long in
       let whole = whole_at_none file j fault none r.1 in
       let same : file ≡ now = some_is file now (sym r.0 ∙ is) in
-      subst (λ (f : List ℕ). IsFileOfCommits f j c) same
-      (filed_by whole.0 file j c whole.1 whole.2 (led_whole whole.0 file mid j (stored_of c) r.0 whole.1 whole.2 led))
+      subst (λ (f : List ℕ). IsFileOfCommits f j c) same (filed_by whole.0 file mid j c r.0 whole.1 whole.2 led shown)
   | inr short ↦
       let b = begun file told short in
       let same : header ++ 0 ∷ [] ≡ now = some_is (header ++ 0 ∷ []) now (sym b.0 ∙ is) in
       subst (λ (f : List ℕ). IsFileOfCommits f j c) same
-      (filed_by [] (header ++ 0 ∷ []) j c begun_file b.1
-      (led_whole [] (header ++ 0 ∷ []) mid j (stored_of c) b.0 begun_file b.1 led))
+      (filed_by [] (header ++ 0 ∷ []) mid j c b.0 begun_file b.1 led shown)
 ]
 
 pub filed : (old mid : Option (List ℕ)) (j : Journal) (fault : Option ℕ) (c : Catalog) → is_some mid ≡ is_some old
     → fault ≡ None → RecoversShort old mid (j, fault) → RecoversLong old mid (j, fault) → LeadsTo mid j (stored_of c)
+    → ShowsListed mid j (filed_of c)
     → Filed mid j c
-filed None mid j fault c told none begun read led = record { each = λ now e. absurd (none_told mid now told e) }
-filed (Some file) mid j fault c told none begun read led =
-    record { each = λ now e. filed_told (Some file) mid j fault c none begun read led file now refl e }
+filed None mid j fault c told none begun read led shown =
+    record { each = λ now e. absurd (none_told mid now told e) }
+filed (Some file) mid j fault c told none begun read led shown =
+    record { each = λ now e. filed_told (Some file) mid j fault c none begun read led shown file now refl e }
 
 pub gate_ends : (old mid : Option (List ℕ)) (j : Journal) (fault : Option ℕ) → fault ≡ None
     → RecoversShort old mid (j, fault)
@@ -143,18 +158,6 @@ gate_ends old mid j fault none begun read file told = elim (cases_lt 8 (length f
 ]
 
 -- ---- the first fault
-
--- the records around one of them
-regroup : (h a b c r : List ℕ) → (h ++ (a ++ (b ++ c))) ++ r ≡ (h ++ a) ++ (b ++ (c ++ r))
-regroup h a b c r = simp append_assoc
-
-records_around : (before behind : List (List ℕ)) (payload rest : List ℕ)
-    → records_of (before ++ payload ∷ behind) ++ rest
-    ≡ records_of before ++ (record_of payload ++ (flat_map record_of behind ++ rest))
-unfolding records_of
-records_around before behind payload rest =
-    ap (λ (l : List ℕ). (header ++ l) ++ rest) (flat_map-append record_of before (payload ∷ behind))
-    ∙ regroup header (flat_map record_of before) (record_of payload) (flat_map record_of behind) rest
 
 short_commits : (cs : List Commit) → AllShort (map payload_of cs)
     → AllByRecursion (λ c. length (payload_of c) < 2 ^ 64) cs

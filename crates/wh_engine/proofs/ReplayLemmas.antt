@@ -1,7 +1,8 @@
 -- Payloads that are replayed one after the other.
 --     replayed_more, replayed_all     one payload more, and all of them
 --     stray_found                     one that carries none, behind those that were replayed
---     still_listed                    over bytes that stay
+--     payload_at                      where the one at a place stands, whatever follows the records
+--     still_listed, still_shown       over bytes that stay
 --     reads_none, reads_then          no call of the disk, and one behind another
 use Rattle.std.proofs.Common.{◌≡◌, ℕ, suc, ◌+◌, ◌≤◌, List, [], ◌∷◌, ◌++◌, length, take, drop, Option}
 use Rattle.std.proofs.Common.{Some, slice_get, Result, Ok, Err, refl, sym, ◌∙◌, subst, ap, arith}
@@ -11,12 +12,16 @@ use Rattle.std.proofs.lemmas.Option.{slice_get_within, get_or_from_slice_get}
 use Rattle.wh_state.specs.Stored.{Stored, first_stored}
 use Rattle.wh_state.specs.Commit.{Leads}
 use Rattle.wh_state.specs.Spelling.{payload_of, IsCommit}
+use Rattle.wh_frame.specs.File.{records_of}
+use Rattle.wh_filed.specs.Filed.{Filed}
 use Rattle.wh_journal.specs.Places.{places_from}
 use Rattle.wh_journal.specs.Journal.{Lists, count_of}
 use Rattle.wh_journal.specs.declared.journal.Journal.{Journal}
 use Rattle.wh_journal.proofs.CrashLemmas.{started, reads_on}
 use Rattle.wh_world.specs.declared.disk.Disk.{Ghosts}
-use Rattle.wh_engine.specs.Replay.{IsListed, Replays, StraysAt, Carries, CarriesAt, CarriesNoneAt, OnlyReads}
+use Rattle.wh_engine.specs.Replay.{IsListed, Replays, StraysAt, Carries, CarriesAt, CarriesNoneAt, ShowsListed}
+use Rattle.wh_engine.specs.Replay.{OnlyReads}
+use Rattle.wh_engine.proofs.PlaceLemmas.{payload_stands}
 use Rattle.wh_decide.proofs.ListLemmas.{all_more, leads_then}
 
 pub replays_none : (first : Stored) → Replays first [] first
@@ -67,6 +72,16 @@ stray_found all here at place h stray = record {
   place = stray.place;
 }
 
+pub payload_at : (all : List (List ℕ)) (at position : ℕ) (payload image : List ℕ) → slice_get all at ≡ Some payload
+    → position ≡ length (records_of (take at all)) + 9
+    → take (length (records_of all)) image ≡ records_of all
+    → (rest : List ℕ) × (drop position image ≡ payload ++ rest)
+payload_at all at position payload image found place same =
+    let around = payload_stands (take at all) (drop (at + 1) all) payload image
+    (subst (λ (ps : List (List ℕ)). take (length (records_of ps)) image ≡ records_of ps)
+    (split_get all at payload found) same) in
+    (around.0, subst (λ (n : ℕ). drop n image ≡ payload ++ around.0) (sym place) around.1)
+
 length-places : (at : ℕ) (payloads : List (List ℕ)) → length (places_from at payloads) ≡ length payloads
 length-places at [] = refl
 length-places at (p ∷ ps) = ap suc (length-places (at + length p + 9) ps)
@@ -88,6 +103,11 @@ pub still_listed : (old new : Option (List ℕ)) (j : Journal) (payloads : List 
     → IsListed old j payloads → IsListed new j payloads
 still_listed old new j payloads same h =
     record { file = h.file; rest = h.rest; told = same ∙ h.told; begins = h.begins; lists = h.lists }
+
+pub still_shown : (old new : Option (List ℕ)) (j : Journal) (filed : List Filed) → new ≡ old → ShowsListed old j filed
+    → ShowsListed new j filed
+still_shown old new j filed same shown payloads listed =
+    shown payloads (still_listed new old j payloads (sym same) listed)
 
 module _ {D : Type 0} (seen : Ghosts D) (only_now : (disk : D) (image : List ℕ)
     → seen.left_since disk (seen.moment disk) image → seen.may_leave disk image) where

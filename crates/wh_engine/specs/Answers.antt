@@ -1,6 +1,7 @@
 -- What a call that goes well makes of a warehouse.
 --     AddsCommit     the commits of a file are those before, and one more if there is one
 --     CarriesOut     a commit is added, where there is one, and the machine is that
+--     CarriesSome    so of some commit and some machine
 --     Answered       an event is carried out, and that is its reply
 use Rattle.std.specs.Prelude.{◌≡◌, ◌+◌, ◌++◌, ℕ, List, [], ◌∷◌, Option, Some, None, is_some, false}
 use Rattle.wh_state.specs.Commit.{Commit}
@@ -9,6 +10,7 @@ use Rattle.wh_machine.specs.Outcome.{Machine}
 use Rattle.wh_machine.specs.Step.{Event, step}
 use Rattle.wh_reply.specs.Reply.{Reply}
 use Rattle.wh_world.specs.declared.disk.Disk.{Ghosts}
+use Rattle.wh_fetch.specs.Device.{OnlyRead}
 use Rattle.wh_journal.specs.Journal.{end_of, limit_of, failed_of}
 use Rattle.wh_journal.specs.declared.journal.Journal.{Journal}
 use Rattle.wh_catalog.specs.Catalog.{stored_of}
@@ -33,22 +35,28 @@ pub record CarriesOut {D : Type 0} {seen : Ghosts D} (old new : Warehouse D seen
   pub stepped : machine_of new ≡ machine
   pub stored : stored_of new.catalog ≡ kept_after (stored_of old.catalog) commit
   -- the file goes with the state, and what was all on the disk still is
-  pub filed : Filed (seen.bytes old.disk) old.journal old.catalog → Filed (seen.bytes new.disk) new.journal new.catalog
+  pub filed : Filed (seen.bytes old.fetch.disk) old.journal old.catalog → Filed (seen.bytes new.fetch.disk) new.journal new.catalog
   -- whose records are those before and the commit's
-  pub adds : AddsCommit (seen.bytes old.disk) (seen.bytes new.disk) old.journal new.journal
+  pub adds : AddsCommit (seen.bytes old.fetch.disk) (seen.bytes new.fetch.disk) old.journal new.journal
       old.catalog new.catalog commit
-  pub told : is_some (seen.bytes new.disk) ≡ is_some (seen.bytes old.disk)
-  pub durable : IsSettled (seen.bytes old.disk) (seen.may_leave old.disk)
-      → IsSettled (seen.bytes new.disk) (seen.may_leave new.disk)
-  -- without a commit the disk isn't touched
-  pub kept : commit ≡ None → new.disk ≡ old.disk
+  pub told : is_some (seen.bytes new.fetch.disk) ≡ is_some (seen.bytes old.fetch.disk)
+  pub durable : IsSettled (seen.bytes old.fetch.disk) (seen.may_leave old.fetch.disk)
+      → IsSettled (seen.bytes new.fetch.disk) (seen.may_leave new.fetch.disk)
+  -- without a commit the disk is only read
+  pub kept : commit ≡ None → OnlyRead seen old.fetch.disk new.fetch.disk
   -- there was room, and it is taken
   pub room : is_beyond (limit_of old.journal) (end_of old.journal) commit ≡ false
   pub grows : end_of new.journal ≡ end_of old.journal + added_length commit
   -- nothing failed before, or now
   pub healthy : failed_of old.journal ≡ None
   pub still_healthy : failed_of new.journal ≡ None
-  pub no_fault : seen.faults new.disk ≡ seen.faults old.disk
+  pub no_fault : seen.faults new.fetch.disk ≡ seen.faults old.fetch.disk
+
+-- over any disk: what is read of one whose bytes aren't told may be anything
+pub record CarriesSome {D : Type 0} {seen : Ghosts D} (old new : Warehouse D seen) : Type 0 where
+  pub commit : Option Commit
+  pub machine : Machine
+  pub carried : CarriesOut old new commit machine
 
 pub record Answered {D : Type 0} {seen : Ghosts D} (old new : Warehouse D seen)
     (event : Event) (reply : Reply) : Type 0 where

@@ -16,6 +16,6 @@ StandsForEither old new image = Stands image (at_rest old) ⊎ Stands image (at_
 
 -- the state before the call, or that one
 pub record Leaves {D : Type 0} {seen : Ghosts D} (old new : Warehouse D seen) (state : State) : Type 0 where
-  pub each : (file : List ℕ) → seen.bytes old.disk ≡ Some file → Only file (seen.may_leave old.disk)
-      → Filed (seen.bytes old.disk) old.journal old.catalog
-      → LeavesOnly seen.moment seen.left_since old.disk new.disk (StandsForEither (state_of old.catalog) state)
+  pub each : (file : List ℕ) → seen.bytes old.fetch.disk ≡ Some file → Only file (seen.may_leave old.fetch.disk)
+      → Filed (seen.bytes old.fetch.disk) old.journal old.catalog
+      → LeavesOnly seen.moment seen.left_since old.fetch.disk new.fetch.disk (StandsForEither (state_of old.catalog) state)

@@ -49,7 +49,7 @@ pub record Finds {D : Type 0} (seen : Ghosts D) (old new : D) (most : ℕ) (j : 
   pub no_fault : seen.faults new ≡ seen.faults old
 
 abbrev pub Opens : {D : Type 0} → (seen : Ghosts D) → D → ℕ → Warehouse D seen → Type 0
-Opens seen old most w = Finds seen old w.disk most w.journal w.catalog w.sessions
+Opens seen old most w = Finds seen old w.fetch.disk most w.journal w.catalog w.sessions
 
 pub record FailsToOpen {D : Type 0} (seen : Ghosts D) (old new : D) (fault : OpenFault) : Type 0 where
   -- the file stands for no state and has its first fault there; it stays as it was, and is what a crash leaves

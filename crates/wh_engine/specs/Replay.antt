@@ -4,12 +4,15 @@
 --     Carries, CarriesAt              one of them leads there, the one at a place
 --     CarriesNone, CarriesNoneAt      no commit that it spells applies
 --     StraysAt, Strays                one of them carries none, and this is the position of its record
+--     ShowsListed                     whatever follows the listed payloads, their records show partitions where they are
+--                                     filed
 --     OnlyReads                       nothing is written
 use Rattle.std.specs.Prelude.{◌≡◌, ℕ, Option, Some, List, ◌∷◌, ◌++◌, length, map, take, slice_get}
 use Rattle.std.specs.List.{AllByRecursion}
 use Rattle.wh_world.specs.Crash.{NoOthers}
 use Rattle.wh_world.specs.declared.disk.Disk.{Ghosts}
 use Rattle.wh_frame.specs.File.{records_of}
+use Rattle.wh_filed.specs.Filed.{Filed, AllShown}
 use Rattle.wh_state.specs.Stored.{Stored, first_stored}
 use Rattle.wh_state.specs.Commit.{Commit, Applies, applied, Leads}
 use Rattle.wh_state.specs.Spelling.{payload_of, IsCommit}
@@ -70,6 +73,11 @@ LeadsTo bytes j to = (payloads : List (List ℕ)) → IsListed bytes j payloads 
 
 abbrev pub Strays : Option (List ℕ) → Journal → ℕ → Type 0
 Strays bytes j at = (payloads : List (List ℕ)) → IsListed bytes j payloads → StraysAt payloads at
+
+-- the listed records with anything behind them
+abbrev pub ShowsListed : Option (List ℕ) → Journal → List Filed → Type 0
+ShowsListed bytes j filed = (payloads : List (List ℕ)) → IsListed bytes j payloads → (image : List ℕ)
+    → take (length (records_of payloads)) image ≡ records_of payloads → AllShown (Some image) filed
 
 -- the bytes stay, and so does what a crash leaves
 pub record OnlyReads {D : Type 0} (seen : Ghosts D) (old new : D) : Type 0 where

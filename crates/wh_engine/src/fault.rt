@@ -6,7 +6,12 @@ use wh_journal::AppendFault;
 #[derive(Clone, Copy, Debug, PartialEq, Eq)]
 pub enum Halt {
     OutOfMemory,
+    /// A write or a sync failed: the file has to be opened again.
     DiskFault,
+    /// A read failed. The file and the journal are as they were.
+    ReadFault,
+    /// The partition whose bytes should stand at `at` isn't there.
+    Damaged { at: u64 },
     /// The commit's record needs more bytes than the limit leaves: `len` is the position after the
     /// present gate.
     FileFull { len: u64, need: u64 },

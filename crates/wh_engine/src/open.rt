@@ -3,12 +3,14 @@ use crate::{OpenFault, Warehouse};
 use std::alloc::Global;
 use std::thread::Threads;
 use wh_catalog::Catalog;
+use wh_fetch::DiskFetch;
 use wh_journal::Journal;
 use wh_txn::Sessions;
 use wh_world::Disk;
 
 impl<D: Disk> Warehouse<D> {
-    ghost use Rattle.std.specs.Prelude.{◌≤◌, ◌^◌, IfOk, IfErr};
+    ghost use Rattle.std.specs.Prelude.{◌≡◌, ◌≤◌, ◌^◌, IfOk, IfErr};
+    ghost use Rattle.wh_journal.specs.Journal.{end_of};
     ghost use Rattle.wh_engine.specs.Opening.{Opens, FailsToOpen};
 
     /// The warehouse of a file of at most `limit` bytes. A file of at most 8 bytes is written anew.
@@ -32,19 +34,41 @@ impl<D: Disk> Warehouse<D> {
     {
         let mut disk = disk;
         match read(alloc, &mut disk, limit) {
-            Ok((journal, catalog, sessions)) => Ok(Warehouse {
+            Ok((journal, catalog, sessions)) => {
+                Warehouse::of(alloc, disk, journal, catalog, sessions)
+            }
+            Err(fault) => Err((fault, disk)),
+        }
+    }
+
+    // The warehouse of these parts.
+    fn of(
+        alloc: Global,
+        disk: D,
+        journal: Journal,
+        catalog: Catalog,
+        sessions: Sessions,
+    ) -> Result<Warehouse<D>, (OpenFault, D)>
+        requires { end_of journal ≤ D.size disk }
+        ensures made { IfOk result (λ w. (w.fetch.disk ≡ disk) × (w.journal ≡ journal)
+            × (w.catalog ≡ catalog) × (w.sessions ≡ sessions)) }
+        ensures back { IfErr result (λ e. (e.0 ≡ OpenFault.OutOfMemory) × (e.1 ≡ disk)) }
+    {
+        match DiskFetch::new(alloc, disk, records_end(&journal)) {
+            Ok(fetch) => Ok(Warehouse {
                 alloc,
-                disk,
+                fetch,
                 journal,
                 catalog,
                 sessions,
             }),
-            Err(fault) => Err((fault, disk)),
+            Err((_, disk)) => Err((OpenFault::OutOfMemory, disk)),
         }
     }
 }
 
-ghost use Rattle.std.specs.Prelude.{◌≤◌, ◌^◌, IfOk, IfErr};
+ghost use Rattle.std.specs.Prelude.{◌≡◌, ◌-◌, ◌<◌, ◌≤◌, ◌^◌, IfOk, IfErr};
+ghost use Rattle.wh_journal.specs.Journal.{end_of};
 ghost use Rattle.wh_engine.specs.Opening.{Finds, FailsToOpen};
 
 // The journal of a file, the catalog to which it leads, and no open transaction.
@@ -68,4 +92,12 @@ fn read<D: Disk>(
         }
         Some(at) => Err(OpenFault::NotWarehouse { at }),
     }
+}
+
+/// Where the records end, in front of the present gate: what stands there stays.
+pub(crate) fn records_end(journal: &Journal) -> u64
+    ensures front { result < end_of journal.now }
+    ensures last { end_of journal.now < 2 ^ 60 → result ≡ end_of journal.now - 1 }
+{
+    journal.next_place().saturating_sub(9)
 }

@@ -1,9 +1,11 @@
-ghost use Rattle.std.specs.Prelude.{◌≡◌, ◌+◌, ◌<◌, ◌≤◌, ℕ, List, IfOk, OnOk, IsErrOf};
+ghost use Rattle.std.specs.Prelude.{◌≡◌, ◌+◌, ◌-◌, ◌<◌, ◌≤◌, ◌++◌, ℕ, List, Some, drop};
+ghost use Rattle.std.specs.Prelude.{IfOk, OnOk, IsErrOf};
+ghost use Rattle.wh_filed.specs.Filed.{AllShown};
 ghost use Rattle.wh_state.specs.Stored.{Means};
 ghost use Rattle.wh_journal.specs.Device.{Counts};
 ghost use Rattle.wh_journal.specs.Journal.{end_of, count_of};
-ghost use Rattle.wh_catalog.specs.Catalog.{stored_of, state_of};
-ghost use Rattle.wh_engine.specs.Replay.{LeadsTo, Strays, OnlyReads, IsListed};
+ghost use Rattle.wh_catalog.specs.Catalog.{stored_of, state_of, filed_of};
+ghost use Rattle.wh_engine.specs.Replay.{LeadsTo, Strays, ShowsListed, OnlyReads, IsListed};
 ghost use Rattle.wh_engine.specs.Replay.{Carries, CarriesNone, CarriesAt, CarriesNoneAt};
 
 use crate::OpenFault;
@@ -22,6 +24,8 @@ pub(crate) fn replay<D: Disk>(
     requires { end_of journal.now ≤ D.size disk.old + 1 }
     ensures led { IfOk result (λ catalog.
         LeadsTo (D.bytes disk.old) journal.now (stored_of catalog)) }
+    ensures shown { IfOk result (λ catalog.
+        ShowsListed (D.bytes disk.old) journal.now (filed_of catalog)) }
     ensures strays { (at : ℕ) → IsErrOf result (OpenFault.NotWarehouse at) →
         Strays (D.bytes disk.old) journal.now at }
     // Over any disk.
@@ -54,6 +58,8 @@ fn replay_at<D: Disk>(
     ensures carried { OnOk result ((payloads : List (List ℕ)) →
         IsListed (D.bytes disk.old) journal.now payloads →
         CarriesAt payloads at (stored_of catalog.old) (stored_of catalog.new)) }
+    ensures shown { OnOk result (ShowsListed (D.bytes disk.old) journal.now (filed_of catalog.old) →
+        ShowsListed (D.bytes disk.old) journal.now (filed_of catalog.new)) }
     ensures strays { (gate : ℕ) → IsErrOf result (OpenFault.NotWarehouse gate) →
         (payloads : List (List ℕ)) → IsListed (D.bytes disk.old) journal.now payloads →
         CarriesNoneAt payloads at (stored_of catalog.old) gate }
@@ -67,29 +73,33 @@ fn replay_at<D: Disk>(
 {
     let payload = journal.payload(alloc, disk, at)?;
     let (position, _) = journal.place(at);
-    // A record's gate stands before the eight bytes of its length.
-    carry_out(alloc, catalog, &payload, position.saturating_sub(9))
+    carry_out(alloc, catalog, &payload, position)
 }
 
-// Carries out the commit that a payload spells; `gate` is the position of its record.
+// Carries out the commit that the payload at a position spells.
 fn carry_out(
     alloc: Global,
     catalog: &mut Catalog,
     payload: &[u8],
-    gate: u64,
+    position: u64,
 ) -> Result<(), OpenFault>
     ensures carried { OnOk result
         (Carries payload.now (stored_of catalog.old) (stored_of catalog.new)) }
+    ensures shown { OnOk result ((image rest : List ℕ) → drop position image ≡ payload.now ++ rest →
+        AllShown (Some image) (filed_of catalog.old) →
+        AllShown (Some image) (filed_of catalog.new)) }
     ensures means { OnOk result (Means (stored_of catalog.new) (state_of catalog.new)) }
     ensures strays { (place : ℕ) → IsErrOf result (OpenFault.NotWarehouse place) →
-        CarriesNone payload.now (stored_of catalog.old) × (place ≡ gate) }
+        CarriesNone payload.now (stored_of catalog.old) × (place ≡ position - 9) }
     ensures no_disk { IsErrOf result OpenFault.DiskFault → ⊥ }
 {
+    // A record's gate stands before the eight bytes of its length.
+    let gate = position.saturating_sub(9);
     let Some(decoded) = decode_commit(alloc, payload) else {
         return Err(OpenFault::NotWarehouse { at: gate });
     };
     let commit = decoded?;
-    match catalog.stage(commit) {
+    match catalog.stage(commit, position) {
         Ok(_undo) => Ok(()),
         Err(StageFault::OutOfMemory) => Err(OpenFault::OutOfMemory),
         Err(StageFault::NotApplicable) => Err(OpenFault::NotWarehouse { at: gate }),

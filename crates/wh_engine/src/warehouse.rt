@@ -1,21 +1,28 @@
-ghost use Rattle.std.specs.Prelude.{◌≤◌};
+ghost use Rattle.std.specs.Prelude.{◌<◌, ◌≤◌};
+ghost use Rattle.wh_fetch.specs.Cache.{Within};
+ghost use Rattle.wh_fetch.specs.DiskFetch.{IsRight};
 ghost use Rattle.wh_journal.specs.Journal.{end_of};
 
 use std::alloc::Global;
 use wh_catalog::Catalog;
+use wh_fetch::{DiskFetch, Fetch};
 use wh_journal::Journal;
 use wh_txn::Sessions;
 use wh_world::Disk;
 
-/// A file, the state that it stands for, and the open transactions.
+/// A file, the state that it stands for, and the open transactions. What the fetch keeps of the
+/// file stands in front of the journal's present gate, where nothing is written any more.
 #[derive(Drop)]
 pub struct Warehouse<D: Disk> {
     pub(crate) alloc: Global,
-    pub(crate) disk: D,
+    pub(crate) fetch: DiskFetch<D>,
     pub(crate) journal: Journal,
     pub(crate) catalog: Catalog,
     pub(crate) sessions: Sessions,
-    ghost reach: { end_of journal ≤ D.size disk },
+    ghost reach: { end_of journal ≤ D.size fetch.disk },
+    ghost front: { fetch.reach < end_of journal },
+    ghost right: { IsRight D.Disk fetch },
+    ghost within: { Within fetch.reach fetch.cache.entries },
 }
 
 impl<D: Disk> Warehouse<D> {
@@ -23,15 +30,24 @@ impl<D: Disk> Warehouse<D> {
     ghost use Rattle.wh_state.specs.State.{at_rest};
     ghost use Rattle.wh_state.specs.File.{Stands};
     ghost use Rattle.wh_catalog.specs.Catalog.{state_of};
-    ghost use Rattle.wh_engine.specs.Warehouse.{Filed};
+    ghost use Rattle.wh_engine.specs.Warehouse.{Filed, fetched_of};
+
+    /// How many partitions the last event asked for.
+    pub fn fetched(&self) -> u64
+        ensures { result ≡ fetched_of self.now }
+    {
+        self.fetch.fetched()
+    }
 
     /// The disk as it stands.
     pub fn close(self) -> D
-        ensures disk { result ≡ self.disk }
-        ensures stands { Filed (D.bytes self.disk) self.journal self.catalog → (file : List ℕ) →
-            D.bytes result ≡ Some file → Stands file (at_rest (state_of self.catalog)) }
+        ensures disk { result ≡ self.fetch.disk }
+        ensures stands { Filed (D.bytes self.fetch.disk) self.journal self.catalog
+            → (file : List ℕ) → D.bytes result ≡ Some file
+            → Stands file (at_rest (state_of self.catalog)) }
     {
-        let Warehouse { disk, .. } = self;
+        let Warehouse { fetch, .. } = self;
+        let DiskFetch { disk, .. } = fetch;
         disk
     }
 }

@@ -4,9 +4,11 @@ pub mod Matches
 mod PickedBags
 mod Turns
 pub mod Added
-pub mod Asked
 pub mod ColumnLaws
-mod Told
-mod Referred
+mod CollectedBags
+mod ThroughLaws
+mod SinkLaws
+mod PartLaws
+mod SourceLaws
+mod FeedLaws
 mod Sizes
-mod UnionLaws

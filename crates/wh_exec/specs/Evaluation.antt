@@ -1,24 +1,13 @@
 -- What evaluation gives.
---     rows_at         the rows that references point to
---     instance_of     the bag of each source
 --     Evaluates       what a fallible evaluation gives: rows of the bag that is meant, or the fault where there is none
 --     Adds            the same, where the rows are added to rows that are there
-use Rattle.std.specs.Prelude.{◌≡◌, List, map, Option, Some, Result, Ok, Err, Vec}
+use Rattle.std.specs.Prelude.{◌≡◌, List, Option, Some, Result, Ok, Err, Vec}
 use Rattle.std.specs.Global.{Global}
-use denote.Ref.{Bor}
-use Rattle.wh_value.specs.Value.{Row}
 use Rattle.wh_meaning.specs.Bag.{Bag, bag_of, beside}
-use Rattle.wh_meaning.specs.Query.{Instance}
 use Rattle.wh_scalar.specs.declared.fault.EvalFault.{EvalFault}
 use Rattle.wh_algebra.specs.declared.tuple.Tuple.{Tuple}
 use Rattle.wh_algebra.specs.Tuple.{rows_in}
 use Rattle.wh_aggregate.specs.Given.{IsFaultOf}
-
-abbrev pub rows_at : List (Bor Row) → List Row
-rows_at rows = map (λ row. row.now) rows
-
-abbrev pub instance_of : List (Vec (Bor Row) Global) → Instance
-instance_of sources = map (λ rows. bag_of (rows_at rows.items)) sources
 
 abbrev pub Evaluates : Result (Vec Tuple Global) EvalFault → Option Bag → Type 0
 Evaluates (Ok tuples) meant = meant ≡ Some (bag_of (rows_in tuples.items))

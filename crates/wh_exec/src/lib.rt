@@ -3,27 +3,27 @@
 
 mod collecting;
 mod columns;
-mod evaluation;
-mod fault;
+mod defined;
+mod feeding;
 mod filter;
 mod grouping;
-mod instance;
 mod join;
 mod key_index;
 mod keys;
-mod loading;
+mod pairing;
+mod pouring;
 mod project;
-mod referring;
 mod right_index;
 mod running;
 mod scan;
+mod sink;
+mod source;
+mod step;
 mod tuples;
-mod union;
+mod widths;
 
 pub use collecting::collected;
 pub use columns::are_columns;
-pub use evaluation::evaluate;
-pub use fault::ExecFault;
-pub use instance::{Given, Instance};
 pub use right_index::RightIndex;
-pub use running::bag_of_plan;
+pub use running::run;
+pub use source::{Parts, Source};

@@ -2,9 +2,10 @@
 --     hit                  what is recalled is the partition at its place
 --     keeps-promoted       what a hit makes of the cache
 --     keeps-put            and a partition that was read
+--     keeps-passed         a partition that was read behind the reach
 --     keeps-none           and an error
 --     stays_beside         what is kept stays right where the file changes behind it
-use Rattle.std.proofs.Common.{◌≡◌, ℕ, ◌+◌, ◌-◌, ◌≤◌, Bool, true, false, ◌&&◌, ◌⊎◌, List, take, drop, nat_eq, vec_len}
+use Rattle.std.proofs.Common.{◌≡◌, ℕ, ◌+◌, ◌-◌, ◌≤◌, ◌<◌, Bool, true, false, ◌&&◌, ◌⊎◌, List, take, drop, nat_eq, vec_len}
 use Rattle.std.proofs.Common.{Option, Some, Result, Ok, Err, Contains, refl, sym, ap, subst, ◌∙◌, inl, inr, arith}
 use Rattle.std.proofs.lemmas.Bool.{eqb-true}
 use Rattle.std.proofs.lemmas.List.{drop-take, take-take}
@@ -65,41 +66,49 @@ each-put P cache at kept old fresh e c =
       | inr new ↦ subst P (put_is cache at kept e new) fresh
     ]
 
-pub keeps-promoted : {A : Type 0} (told : Option (List ℕ)) (old new : LruCache ℕ Kept) (meta : PartMeta) (p : Partition)
+pub keeps-promoted : {A : Type 0} (told : Option (List ℕ)) (reach : ℕ) (old new : LruCache ℕ Kept) (meta : PartMeta) (p : Partition)
     (given : A) → IsKeptAs meta old.entries p → new ≡ lru_cache (promoted (nat_eq meta.at) old.entries) old.cap
-    → Keeps told old new meta (Ok given)
-keeps-promoted told old new meta p given kept is =
+    → Keeps told reach old new meta (Ok given)
+keeps-promoted told reach old new meta p given kept is =
     let among = Contains-promoted (nat_eq meta.at) old.entries in
     rw is (record {
       right = λ agrees bytes told e c. agrees bytes told e (among e c);
-      kept = kept-promoted meta.at old.entries kept.entry kept.found;
+      kept = λ front. kept-promoted meta.at old.entries kept.entry kept.found;
       kept_err = tt;
-      within = λ n fits within e c. within e (among e c);
+      within = λ within e c. within e (among e c);
     })
 
-pub keeps-put : {A : Type 0} (told : Option (List ℕ)) (old new : LruCache ℕ Kept) (meta : PartMeta) (kept : Kept)
+pub keeps-put : {A : Type 0} (told : Option (List ℕ)) (reach : ℕ) (old new : LruCache ℕ Kept) (meta : PartMeta) (kept : Kept)
     (p : Partition) (given : A) → IsPartAt told meta p → kept.length ≡ meta.length → kept.width ≡ vec_len meta.columns
-    → arc_value kept.part ≡ p → old.cap ≡ 256 → new ≡ lru_cache (put_entries nat_eq old meta.at kept) old.cap
-    → Keeps told old new meta (Ok given)
-keeps-put told old new meta kept p given here len width part cap is =
+    → arc_value kept.part ≡ p → old.cap ≡ 256 → meta.at + meta.length ≤ reach → new ≡ lru_cache (put_entries nat_eq old meta.at kept) old.cap
+    → Keeps told reach old new meta (Ok given)
+keeps-put told reach old new meta kept p given here len width part cap front is =
     rw is (record {
       right = λ agrees bytes told. each-put (IsSpelledIn bytes) old meta.at kept (agrees bytes told)
           (rw (len, width, part) (here.content bytes told));
-      kept = kept-put old meta.at kept cap;
+      kept = λ _. kept-put old meta.at kept cap;
       kept_err = tt;
-      within = λ n fits within.
-          each-put (λ e. e.0 + e.1.length ≤ n) old meta.at kept within (rw len fits);
+      within = λ within. each-put (λ e. e.0 + e.1.length ≤ reach) old meta.at kept within (rw len front);
     })
 
-pub keeps-none : {A : Type 0} (told : Option (List ℕ)) (old new : LruCache ℕ Kept) (meta : PartMeta)
+pub keeps-passed : {A : Type 0} (told : Option (List ℕ)) (reach : ℕ) (cache : LruCache ℕ Kept) (meta : PartMeta)
+    (given : A) → reach < meta.at + meta.length → Keeps told reach cache cache meta (Ok given)
+keeps-passed told reach cache meta given behind = record {
+  right = λ right. right;
+  kept = λ front. absurd (omega (arith, behind, front));
+  kept_err = tt;
+  within = λ within. within;
+}
+
+pub keeps-none : {A : Type 0} (told : Option (List ℕ)) (reach : ℕ) (old new : LruCache ℕ Kept) (meta : PartMeta)
     (fault : FetchFault) (result : Result A FetchFault) → result ≡ Err fault → new ≡ old
-    → Keeps told old new meta result
-keeps-none told old new meta fault result failed is =
+    → Keeps told reach old new meta result
+keeps-none told reach old new meta fault result failed is =
     rw (is, failed) (record {
       right = λ right. right;
       kept = tt;
       kept_err = refl;
-      within = λ n fits within. within;
+      within = λ within. within;
     })
 
 part_of_front : (n at len : ℕ) (bytes : List ℕ) → at + len ≤ n → part_at at len (take n bytes) ≡ part_at at len bytes

@@ -1,3 +1,4 @@
 mod Held
 mod OrderLemmas
 mod CacheLemmas
+pub mod DamageLemmas

@@ -56,14 +56,15 @@ brought at kept = at ∷ (if stands at kept then removed at kept else take 255 k
 abbrev pub Within : ℕ → List (ℕ × Kept) → Type 0
 Within n entries = (e : ℕ × Kept) → Contains entries e → e.0 + e.1.length ≤ n
 
-pub record Keeps {A : Type 0} (told : Option (List ℕ)) (old new : LruCache ℕ Kept) (meta : PartMeta)
+pub record Keeps {A : Type 0} (told : Option (List ℕ)) (reach : ℕ) (old new : LruCache ℕ Kept) (meta : PartMeta)
     (result : Result A FetchFault) : Type 0 where
   pub right : Agrees told old.entries → Agrees told new.entries
-  -- the partition is kept as the one used last
-  pub kept : OnOk result (kept_of new.entries ≡ brought meta.at (kept_of old.entries))
+  -- a partition in front of the reach is kept as the one used last
+  pub kept : OnOk result
+      (meta.at + meta.length ≤ reach → kept_of new.entries ≡ brought meta.at (kept_of old.entries))
   pub kept_err : OnErr result (new ≡ old)
-  -- in as many of the first bytes as before, if the partition lies there
-  pub within : (n : ℕ) → meta.at + meta.length ≤ n → Within n old.entries → Within n new.entries
+  -- what is kept lies in front of it
+  pub within : Within reach old.entries → Within reach new.entries
 
 abbrev pub StaysBeside : Type 0
 StaysBeside = (n : ℕ) (old new : List ℕ) (entries : List (ℕ × Kept)) → Within n entries → take n new ≡ take n old

@@ -3,10 +3,11 @@
 --     only_read_none     as by no call
 --     only_read_by       as by a call of the disk that writes nothing
 --     only_read_on       as by calls one after the other
---     Counts             how it counts faults
+--     Counts, CountsIf   how it counts faults
 --     ReadsOnce          it reads once at most
 --     Reads              all of this
-use Rattle.std.proofs.Common.{◌≡◌, ◌⊎◌, inl, inr, ℕ, ◌+◌, ◌≤◌, List, Result, OnOk, Err, refl, ◌∙◌}
+use Rattle.std.proofs.Common.{◌≡◌, ◌⊎◌, inl, inr, ℕ, ◌+◌, ◌≤◌, Bool, true, false, List, Result, OnOk, Err}
+use Rattle.std.proofs.Common.{refl, ◌∙◌}
 use Rattle.std.proofs.Math.Nat.{le_refl, le_trans}
 use Rattle.wh_world.specs.Told.{Rose}
 use Rattle.wh_world.specs.Crash.{NoOthers, Elapses}
@@ -68,6 +69,11 @@ module _ {D : Type 0} (d : Ghosts D) where
           → d.left_since first moment image ⊎ d.may_leave first image
       kept moment image le (inl past) = one.since moment image le past
       kept moment image le (inr now) = inr (one.images image now)
+
+-- where a call's errors hold more than a fault of a fetch: whether it was one of the device
+abbrev pub CountsIf : Bool → ℕ → ℕ → Type 0
+CountsIf true before now = Rose before now
+CountsIf false before now = now ≡ before
 
 -- it rises where Read is answered, and is as it was at a success and where memory is wanted
 pub record Counts {A : Type 0} (before now : ℕ) (result : Result A FetchFault) : Type 0 where

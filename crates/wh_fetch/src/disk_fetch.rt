@@ -19,7 +19,7 @@ pub struct DiskFetch<D> {
     pub reach: u64,
     pub(crate) cache: LruCache<u64, Kept>,
     pub(crate) asked: Vec<PartId>,
-    // How many partitions were found damaged, and the position of the last of them.
+    // How many partitions were found damaged since `begin`, and the position of the last of them.
     pub(crate) spoilt: u64,
     pub(crate) damaged: Option<u64>,
     ghost most: { cache.cap ≡ 256 },
@@ -53,9 +53,10 @@ impl<D: Disk> DiskFetch<D> {
         ensures begun { (self.new.asked.items ≡ []) × (self.new.damaged ≡ None) }
         ensures kept { self.new.cache ≡ self.old.cache }
         ensures disk { (self.new.disk ≡ self.old.disk) × (self.new.reach ≡ self.old.reach) }
-        ensures spoilt { self.new.spoilt ≡ self.old.spoilt }
+        ensures spoilt { self.new.spoilt ≡ 0 }
     {
         self.asked.clear();
+        self.spoilt = 0;
         self.damaged = None;
     }
 

@@ -36,6 +36,8 @@ pub trait Fetch {
         requires { covers self.old part.now }
         ensures contents { IfOk result
             (λ found. IsTold (contents self.old part.now) (arc_value found)) }
+        ensures same { contents self.new ≡ contents self.old }
+        ensures covered { (other : PartMeta) → covers self.old other → covers self.new other }
         ensures asked { Asks result part.now.id (asked self.old) (asked self.new) }
         ensures reads { ReadsOnceEach (reads self.old) (reads self.new)
             (asked self.old) (asked self.new) }

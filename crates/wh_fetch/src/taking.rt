@@ -1,11 +1,13 @@
 //! A partition from what is kept, or from the disk.
-ghost use Rattle.std.specs.Prelude.{◌≡◌, ◌⊎◌, IfOk};
+ghost use Rattle.std.specs.Prelude.{◌≡◌, ◌+◌, ◌<◌, ◌≤◌, ◌⊎◌, IfOk};
+ghost use Rattle.std.specs.Bool.{OnTrue, OnFalse};
 ghost use Rattle.std.specs.Arc.{arc_value};
 ghost use Rattle.wh_fetch.specs.Fetch.{Asks, ReadsOnceEach};
 ghost use Rattle.wh_fetch.specs.Place.{IsPartAt};
 ghost use Rattle.wh_fetch.specs.Cache.{IsKept, Keeps};
 ghost use Rattle.wh_fetch.specs.Device.{OnlyRead, ReadsOnce, Counts};
-ghost use Rattle.wh_fetch.specs.DiskFetch.{told_of, faults_of, IsRight, IsSound, IsSpoilt};
+ghost use Rattle.wh_fetch.specs.DiskFetch.{told_of, faults_of, IsRight, IsLater};
+ghost use Rattle.wh_fetch.specs.DiskFetch.{IsSound, IsSpoilt};
 
 use crate::kept::{Kept, recall};
 use crate::place::read_part;
@@ -21,8 +23,8 @@ impl<D: Disk> DiskFetch<D> {
         requires { IsRight D.Disk self.old }
         ensures found { IfOk result
             (λ given. IsPartAt (told_of D.Disk self.old) part.now (arc_value given)) }
-        ensures keeps { Keeps (told_of D.Disk self.old) self.old.cache self.new.cache
-            part.now result }
+        ensures keeps { Keeps (told_of D.Disk self.old) self.old.reach self.old.cache
+            self.new.cache part.now result }
         ensures asked { Asks result part.now.id self.old.asked.items self.new.asked.items }
         ensures reach { self.new.reach ≡ self.old.reach }
         ensures hit { IsKept part.now self.old.cache.entries → self.new.disk ≡ self.old.disk }
@@ -30,6 +32,7 @@ impl<D: Disk> DiskFetch<D> {
         ensures reads { ReadsOnceEach (D.reads self.old.disk) (D.reads self.new.disk)
             self.old.asked.items self.new.asked.items }
         ensures counts { Counts (faults_of D.Disk self.old) (faults_of D.Disk self.new) result }
+        ensures later { IsLater D.Disk self.old self.new }
         ensures damaged { IsSound D.Disk self.old self.new result
             ⊎ IsSpoilt D.Disk self.old self.new part.now result }
     {
@@ -41,16 +44,17 @@ impl<D: Disk> DiskFetch<D> {
         self.load(part)
     }
 
-    // Reads a partition, and keeps it.
+    // Reads a partition, and keeps it where it lies in front of the reach.
     fn load(&mut self, part: &PartMeta) -> Result<Arc<Partition>, FetchFault>
         ensures found { IfOk result
             (λ given. IsPartAt (told_of D.Disk self.old) part.now (arc_value given)) }
-        ensures keeps { Keeps (told_of D.Disk self.old) self.old.cache self.new.cache
-            part.now result }
+        ensures keeps { Keeps (told_of D.Disk self.old) self.old.reach self.old.cache
+            self.new.cache part.now result }
         ensures rest { (self.new.asked ≡ self.old.asked) × (self.new.reach ≡ self.old.reach) }
         ensures only_read { OnlyRead D.Disk self.old.disk self.new.disk }
         ensures reads { ReadsOnce D.Disk self.old.disk self.new.disk }
         ensures counts { Counts (faults_of D.Disk self.old) (faults_of D.Disk self.new) result }
+        ensures later { IsLater D.Disk self.old self.new }
         ensures damaged { IsSound D.Disk self.old self.new result
             ⊎ IsSpoilt D.Disk self.old self.new part.now result }
     {
@@ -61,6 +65,9 @@ impl<D: Disk> DiskFetch<D> {
             return Err(FetchFault::Read);
         };
         let shared = Arc::new(alloc, found)?;
+        if !is_in_front(part, self.reach) {
+            return Ok(shared);
+        }
         let given = Arc::try_clone(&shared)?;
         let kept = Kept {
             length: part.length,
@@ -70,6 +77,14 @@ impl<D: Disk> DiskFetch<D> {
         self.cache.put(part.at, kept)?;
         Ok(given)
     }
+}
+
+// Whether its place lies in so many of the first bytes.
+fn is_in_front(part: &PartMeta, reach: u64) -> bool
+    ensures front { OnTrue result (part.now.at + part.now.length ≤ reach) }
+    ensures behind { OnFalse result (reach < part.now.at + part.now.length) }
+{
+    part.length <= reach && part.at <= reach - part.length
 }
 
 impl<D: Disk> Fetch for DiskFetch<D> {

@@ -9,3 +9,4 @@ pub mod Rejected
 pub mod KnownHolding
 pub mod Within
 pub mod Pruned
+pub mod SizeLaws

@@ -9,6 +9,7 @@ mod holding;
 mod meta;
 mod partition;
 mod reading;
+mod size;
 mod writing;
 
 pub use cutting::cut;

@@ -1,7 +1,5 @@
-//! Tests of bags, and of plans over partitions that are fetched.
+//! Tests of bags.
 #![tactic(auto)]
 
 #[cfg(test)]
 mod bags;
-#[cfg(test)]
-mod execution;

@@ -6,3 +6,4 @@ pub mod CommitLaws
 pub mod FileLaws
 pub mod ShapeLemmas
 pub mod FieldLaws
+pub mod PlaceLaws

@@ -1,3 +1,4 @@
 pub mod View
 pub mod Decoding
 pub mod Laws
+pub mod Places

@@ -199,7 +199,7 @@ fn write_offset(out: &mut Bytes, id: u32, offset: u64) -> Result<(), AllocError>
 }
 
 #[tactic(auto, unfolding(wh_state::specs::Spelling::change_bytes))]
-fn write_change(out: &mut Bytes, change: &Change) -> Result<(), AllocError>
+pub(crate) fn write_change(out: &mut Bytes, change: &Change) -> Result<(), AllocError>
     ensures written { OnOk result (out.new ≡ out.old ++ change_bytes (written_of change.now)) }
     ensures spelled { OnOk result (IsChange (written_of change.now)) }
 {

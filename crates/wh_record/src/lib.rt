@@ -7,6 +7,7 @@ mod dynamic_decoding;
 mod dynamic_encoding;
 mod encoding;
 mod format;
+mod size;
 mod task_decoding;
 mod task_encoding;
 
@@ -15,3 +16,4 @@ pub use commit::{
     TableChange, TaskChange, TaskChangeIn, TaskTexts, TextChange, TextCommit, VersionChange,
 };
 pub use decoding::spelling_fixes_commits;
+pub use size::partitions_stand_in_payload;

@@ -1,2 +1,4 @@
+mod ObjectLemmas
 mod RefreshLemmas
+mod SourceLemmas
 mod WalkLaws

@@ -29,12 +29,12 @@ use Rattle.wh_state.specs.Objects.{table_at, dynamic_at, as_dynamic}
 use Rattle.wh_state.specs.Bound.{query_bound}
 use Rattle.wh_state.specs.Moments.{bag_at, instance_at, evaluated_at}
 use Rattle.wh_state.specs.Edits.{Edits}
-use Rattle.wh_state.specs.Act.{Act, PutsDynamic, RefreshesRows, edited_table, next_contents}
+use Rattle.wh_state.specs.Act.{PutsDynamic, edited_table, next_contents}
 use Rattle.wh_state.specs.Commit.{Change, all_changed}
 use Rattle.wh_state.specs.Written.{written}
 use Rattle.wh_state.proofs.IdLaws.{last_more, map_at}
 use Rattle.wh_state.proofs.EndLaws.{written_append}
-use Rattle.wh_state.proofs.BroughtGoes.{refresh_of, one_leaves}
+use Rattle.wh_state.proofs.BroughtGoes.{one_leaves}
 use Rattle.wh_moment.specs.Upstream.{Watched, Dynamics, watched, watched_at, watched_object, dynamics_of, brought}
 use Rattle.wh_moment.proofs.UpstreamLaws.{RiseFrom, brought_rise, brought_watched}
 use Rattle.wh_moment.specs.Moment.{is_suspended_at}

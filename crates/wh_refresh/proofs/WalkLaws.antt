@@ -3,13 +3,13 @@
 --     walked_apart       the rows that go, and those that are left to come
 --     bag_expanded, same_excess     the rows that come
 --     gone_rises, gone_count        the numbers of rows that go rise, and edits name so many
-use Rattle.std.proofs.Common.{◌≡◌, ℕ, zero, suc, ◌+◌, ◌-◌, ◌<◌, ◌≤◌, Bool, true, false, cond, List, [], ◌∷◌, ◌++◌}
-use Rattle.std.proofs.Common.{map, length}
+use Rattle.std.proofs.Common.{◌≡◌, ℕ, zero, suc, ◌+◌, ◌-◌, ◌≤◌, Bool, true, false, cond, List, [], ◌∷◌, ◌++◌}
+use Rattle.std.proofs.Common.{length}
 use Rattle.std.proofs.Common.{Option, Some, None, refl, sym, ap, subst, ◌∙◌, arith, ◌==◌, Less, Equal, Greater}
 use Rattle.std.specs.Prelude.{nat_lt, is_some, not, replicate}
 use Rattle.std.specs.Ordering.{eq_by_cmp, nat_cmp, is_eq}
 use Rattle.std.specs.Cmp.{nat_cmp_total}
-use Rattle.std.specs.FinMap.{FinMap, empty, get, insert, remove, entries, get-empty, get-remove, get-insert, len}
+use Rattle.std.specs.FinMap.{empty, get, insert, entries, get-empty, get-remove, get-insert, len}
 use Rattle.std.specs.FinMap.{len-empty, len-entries, len-insert}
 use Rattle.std.proofs.lemmas.Bool.Decides.{nat_tests}
 use Rattle.wh_value.specs.Value.{Row, row_cmp}
@@ -22,7 +22,7 @@ use Rattle.wh_state.specs.State.{Rows}
 use Rattle.wh_state.specs.Edits.{RowEdits, with_removed}
 use Rattle.wh_state.proofs.RisingEntries.{map_rises}
 use Rattle.wh_moment.specs.Rebase.{KeptApart, less_by_count, without_row, gone_if, kept_apart}
-use Rattle.wh_refresh.specs.Walk.{Walked, nothing_walked, passed, walked, expanded}
+use Rattle.wh_refresh.specs.Walk.{Walked, passed, walked, expanded}
 
 pub walked_append : (new : Bag) (es more : List (ℕ × Row)) (w : Walked)
     → walked new (es ++ more) w ≡ walked new more (walked new es w)

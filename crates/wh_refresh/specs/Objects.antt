@@ -1,13 +1,16 @@
 -- Objects of the catalog in a list, as the machine and as the file have them.
 --     objects_in                as the machine has them
 --     stored_in                 as the file has them
---     with_made, stored_made    one that is to be made, if there is one
+--     objects_at                as references point to them
+--     filed_at_objects          the partitions that they have in the file
+--     with_made, stored_made, filed_made     one that is to be made, if there is one
 use Rattle.std.specs.Prelude.{List, [], ◌∷◌, map, Option, Some, None}
 use denote.Ref.{Bor}
 use Rattle.wh_state.specs.State.{Object}
 use Rattle.wh_state.specs.Stored as machine
+use Rattle.wh_filed.specs.Filed.{Filed}
 use Rattle.wh_catalog.specs.Undoable.{object_in}
-use Rattle.wh_catalog.specs.Object.{kept_object, object_of}
+use Rattle.wh_catalog.specs.Object.{kept_object, object_of, filed_of_objects}
 use Rattle.wh_catalog.specs.declared.object.StoredObject.{StoredObject}
 
 abbrev pub objects_in : List (Bor StoredObject) → List Object
@@ -16,6 +19,12 @@ objects_in objects = map (λ o. object_of o.now) objects
 abbrev pub stored_in : List (Bor StoredObject) → List machine.StoredObject
 stored_in objects = map (λ o. object_in (kept_object o.now)) objects
 
+abbrev pub objects_at : List (Bor StoredObject) → List StoredObject
+objects_at objects = map (λ o. o.now) objects
+
+abbrev pub filed_at_objects : List (Bor StoredObject) → List Filed
+filed_at_objects objects = filed_of_objects (objects_at objects)
+
 abbrev pub with_made : Option (Bor StoredObject) → List Object
 with_made None = []
 with_made (Some o) = object_of o.now ∷ []
@@ -23,3 +32,7 @@ with_made (Some o) = object_of o.now ∷ []
 abbrev pub stored_made : Option (Bor StoredObject) → List machine.StoredObject
 stored_made None = []
 stored_made (Some o) = object_in (kept_object o.now) ∷ []
+
+abbrev pub filed_made : Option (Bor StoredObject) → List Filed
+filed_made None = []
+filed_made (Some o) = filed_of_objects (o.now ∷ [])

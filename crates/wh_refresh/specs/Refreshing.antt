@@ -1,13 +1,16 @@
 -- What a refresh comes to, as code has it.
 --     besides           what is asked for besides: a statement is refused where a table is suspended
 --     RefreshesAs       a refusal, or the lines and the changes that say the acts of a refresh
-use Rattle.std.specs.Prelude.{◌≡◌, ℕ, List, map, Option, Some, None}
+--     AreRead           the texts of the changes spell what they stand for
+use Rattle.std.specs.Prelude.{◌≡◌, ℕ, List, map, Option, None}
+use Rattle.std.specs.List.{AllByRecursion}
 use Rattle.wh_reply.specs.Reply.{Refusal, Refreshed}
 use Rattle.wh_reply.specs.View.{refusal_view, refreshed_view}
 use Rattle.wh_state.specs.State.{Object}
 use Rattle.wh_state.specs.Act.{Act}
 use Rattle.wh_state.specs.Stored.{StoredObject}
 use Rattle.wh_state.specs.Commit.{Change}
+use Rattle.wh_state.specs.Spelling.{IsUnderstood}
 use Rattle.wh_state.specs.Written.{written}
 use Rattle.wh_machine.specs.Refresh as machine
 use Rattle.wh_machine.specs.Refresh.{with_upstream}
@@ -32,3 +35,7 @@ abbrev pub RefreshesAs : ℕ → List StoredObject → Refreshing → machine.Re
 RefreshesAs stamp stored (code.Fails why) outcome = outcome ≡ machine.Fails (refusal_view why)
 RefreshesAs stamp stored (code.Brings lines changes) outcome =
     BringsAs stamp stored (map refreshed_view lines.items) (map change_of changes.items) outcome
+
+abbrev pub AreRead : Refreshing → Type 0
+AreRead (code.Fails why) = Unit {0}
+AreRead (code.Brings lines changes) = AllByRecursion IsUnderstood (map change_of changes.items)

@@ -1,10 +1,29 @@
--- Whether a source has new data.
---     is_new_at     whether the table of an id has a version between two moments
-use Rattle.std.specs.Prelude.{ℕ, Bool, false, List}
+-- What sources hold, and whether they have new data.
+--     bag_held, bags_held      the rows of a source, and of each
+--     filed_by, filed_held     the partitions of the file among which these stand
+--     is_new_at                whether the table of an id has a version between two moments
+use Rattle.std.specs.Prelude.{ℕ, Bool, false, List, map, ◌++◌}
+use Rattle.std.specs.List.{flat_map}
 use Rattle.std.specs.Option.{option_map_or}
+use Rattle.wh_meaning.specs.Bag.{Bag}
+use Rattle.wh_exec.specs.Source.{parts_bag}
+use Rattle.wh_filed.specs.Filed.{Filed, filed_at, partitions_at}
 use Rattle.wh_state.specs.State.{Object}
 use Rattle.wh_state.specs.Objects.{table_at}
 use Rattle.wh_machine.specs.Refresh.{has_version_between}
+use Rattle.wh_refresh.specs.declared.sources.SourceHeld.{SourceHeld}
+
+abbrev pub bag_held : SourceHeld → Bag
+bag_held source = parts_bag (partitions_at source.filed.items ++ source.made.now)
+
+abbrev pub bags_held : List SourceHeld → List Bag
+bags_held sources = map bag_held sources
+
+abbrev pub filed_by : SourceHeld → List Filed
+filed_by source = filed_at source.filed.items
+
+abbrev pub filed_held : List SourceHeld → List Filed
+filed_held sources = flat_map filed_by sources
 
 abbrev pub is_new_at : List Object → ℕ → ℕ → ℕ → Bool
 is_new_at objects from to id = option_map_or (has_version_between from to) (table_at objects id) false

@@ -1,41 +1,59 @@
 //! Tables brought to a moment, each over what those before it leave.
 ghost use Rattle.std.specs.Prelude.{◌≡◌, ℕ, None, List, IfOk, IfSome, IfNone};
 ghost use Rattle.wh_reply.specs.View.{action_view};
+ghost use Rattle.wh_fetch.specs.Device.{Counts};
+ghost use Rattle.wh_fetch.specs.DiskFetch.{told_of, faults_of, damage_of, IsRight, GoesOn};
+ghost use Rattle.wh_filed.specs.Filed.{AllShown};
 ghost use Rattle.wh_state.specs.Objects as state;
 ghost use Rattle.wh_state.specs.Moments.{evaluated_at};
 ghost use Rattle.wh_state.specs.Stored.{table_meant};
 ghost use Rattle.wh_state.specs.State.{last_rows};
 ghost use Rattle.wh_dynamic.specs.View.{dynamic_of};
-ghost use Rattle.wh_table.specs.Table.{table_of};
+ghost use Rattle.wh_table.specs.Table.{table_of, filed_of};
 ghost use Rattle.wh_machine.specs.Refresh as machine;
 ghost use Rattle.wh_machine.specs.Brought.{after_all, AreAbove, RiseAbove, sought};
-ghost use Rattle.wh_refresh.specs.Objects.{objects_in, stored_in};
+ghost use Rattle.wh_refresh.specs.Objects.{objects_in, stored_in, filed_at_objects};
 ghost use Rattle.wh_refresh.specs.Brought.{AreBrought, BringsOneOr, BringsOr, MakesRows};
+ghost use Rattle.wh_refresh.specs.Brought.{IsRebased};
 
 use crate::brought::{Brought, NewRows};
 use crate::evaluation::evaluated;
 use crate::objects::{dynamic_at, table_at};
 use crate::rebase::{Rebased, rebase};
-use crate::sources::{has_new_data, rows_of};
-use std::alloc::{AllocError, Global};
+use crate::sources::{has_new_data, sources_held, sources_of};
+use std::alloc::Global;
+use wh_bag::Bag;
 use wh_catalog::{StoredObject, StoredTable};
 use wh_dynamic::Dynamic;
+use wh_fetch::{DiskFetch, FetchFault};
+use wh_filed::load;
 use wh_reply::RefreshAction;
+use wh_table::by_rows;
+use wh_world::Disk;
 
 /// Those of some ids, or None where an evaluation is undefined.
-pub(crate) fn bring_all(
+#[tactic(auto, using(wh_fetch::specs::DiskFetch::goes_none, wh_fetch::specs::DiskFetch::goes_on))]
+pub(crate) fn bring_all<D: Disk>(
     alloc: Global,
     objects: &[&StoredObject],
     moment: u64,
     ids: &[u32],
-) -> Result<Option<Vec<Brought>>, AllocError>
-    ensures { IfOk result (λ found. (stamp : ℕ) → RiseAbove 0 ids.now
+    fetch: &mut DiskFetch<D>,
+) -> Result<Option<Vec<Brought>>, FetchFault>
+    requires { IsRight D.Disk fetch.old }
+    ensures brought { AllShown (told_of D.Disk fetch.old) (filed_at_objects objects.now)
+        → IfOk result (λ found. (stamp : ℕ) → RiseAbove 0 ids.now
         → BringsOr (stored_in objects.now) found
         (machine.brought_all stamp moment ids.now (objects_in objects.now))) }
+    ensures sound { AllShown (told_of D.Disk fetch.old) (filed_at_objects objects.now)
+        → damage_of fetch.new ≡ damage_of fetch.old }
+    ensures same { told_of D.Disk fetch.new ≡ told_of D.Disk fetch.old }
+    ensures goes { GoesOn D.Disk fetch.old fetch.new }
+    ensures counts { Counts (faults_of D.Disk fetch.old) (faults_of D.Disk fetch.new) result }
 {
     let mut brought = Vec::new(alloc);
     for id in ids {
-        match bring(alloc, objects, &brought, moment, *id)? {
+        match bring(alloc, objects, &brought, moment, *id, fetch)? {
             Some(one) => brought.push(one)?,
             None => return Ok(None),
         }
@@ -43,17 +61,26 @@ pub(crate) fn bring_all(
     Ok(Some(brought))
 }
 
-fn bring(
+#[tactic(auto, using(wh_fetch::specs::DiskFetch::goes_none, wh_fetch::specs::DiskFetch::goes_on))]
+fn bring<D: Disk>(
     alloc: Global,
     objects: &[&StoredObject],
     before: &[Brought],
     moment: u64,
     id: u32,
-) -> Result<Option<Brought>, AllocError>
-    ensures { IfOk result (λ found. (stamp : ℕ) (bs : List machine.Brought)
+    fetch: &mut DiskFetch<D>,
+) -> Result<Option<Brought>, FetchFault>
+    requires { IsRight D.Disk fetch.old }
+    ensures brought { AllShown (told_of D.Disk fetch.old) (filed_at_objects objects.now)
+        → IfOk result (λ found. (stamp : ℕ) (bs : List machine.Brought)
         → AreBrought (stored_in objects.now) before.now bs → AreAbove 0 bs → sought id bs ≡ None
         → BringsOneOr (stored_in objects.now) found
         (machine.brought_one (after_all stamp moment bs (objects_in objects.now)) moment id)) }
+    ensures sound { AllShown (told_of D.Disk fetch.old) (filed_at_objects objects.now)
+        → damage_of fetch.new ≡ damage_of fetch.old }
+    ensures same { told_of D.Disk fetch.new ≡ told_of D.Disk fetch.old }
+    ensures goes { GoesOn D.Disk fetch.old fetch.new }
+    ensures counts { Counts (faults_of D.Disk fetch.old) (faults_of D.Disk fetch.new) result }
 {
     let Some(dynamic) = dynamic_at(objects, id) else {
         return Ok(None);
@@ -71,7 +98,7 @@ fn bring(
             state,
         }));
     }
-    let Some(rows) = new_rows(alloc, objects, before, moment, dynamic, table)? else {
+    let Some(rows) = new_rows(alloc, objects, before, moment, dynamic, table, fetch)? else {
         return Ok(None);
     };
     Ok(Some(Brought {
@@ -116,30 +143,90 @@ fn by_mode(dynamic: &Dynamic) -> RefreshAction
 }
 
 // The version that its query makes, or None where it is undefined.
-fn new_rows(
+#[tactic(auto, using(wh_fetch::specs::DiskFetch::goes_none, wh_fetch::specs::DiskFetch::goes_on))]
+fn new_rows<D: Disk>(
     alloc: Global,
     objects: &[&StoredObject],
     before: &[Brought],
     moment: u64,
     dynamic: &Dynamic,
     table: &StoredTable,
-) -> Result<Option<NewRows>, AllocError>
-    ensures { IfOk result (λ found. (stamp : ℕ) (bs : List machine.Brought)
+    fetch: &mut DiskFetch<D>,
+) -> Result<Option<NewRows>, FetchFault>
+    requires { IsRight D.Disk fetch.old }
+    ensures made { AllShown (told_of D.Disk fetch.old) (filed_at_objects objects.now)
+        → AllShown (told_of D.Disk fetch.old) (filed_of table.now)
+        → IfOk result (λ found. (stamp : ℕ) (bs : List machine.Brought)
         → AreBrought (stored_in objects.now) before.now bs → AreAbove 0 bs
         → MakesRows found (table_of table.now)
         (evaluated_at (after_all stamp moment bs (objects_in objects.now)) moment
         (dynamic_of dynamic.now))) }
+    ensures sound { AllShown (told_of D.Disk fetch.old) (filed_at_objects objects.now)
+        → AllShown (told_of D.Disk fetch.old) (filed_of table.now)
+        → damage_of fetch.new ≡ damage_of fetch.old }
+    ensures same { told_of D.Disk fetch.new ≡ told_of D.Disk fetch.old }
+    ensures goes { GoesOn D.Disk fetch.old fetch.new }
+    ensures counts { Counts (faults_of D.Disk fetch.old) (faults_of D.Disk fetch.new) result }
 {
-    let sources = rows_of(alloc, objects, before, moment, dynamic.reads())?;
-    let Some(rows) = evaluated(alloc, objects, dynamic.query(), &sources)? else {
+    let Some(rows) = rows_by_query(alloc, objects, before, moment, dynamic, fetch)? else {
         return Ok(None);
     };
-    let old = table.by_rows(alloc)?;
-    let Rebased { edits, plus, minus } = rebase(alloc, &old, &rows)?;
-    let edited = table.edited(alloc, edits)?;
+    let Rebased { edits, plus, minus } = rebased(alloc, table, rows, fetch)?;
+    let edited = table.edited(alloc, edits, fetch)?;
     Ok(Some(NewRows {
         edited,
         plus,
         minus,
     }))
+}
+
+// What its query gives, or None where that is undefined.
+#[tactic(auto, using(wh_fetch::specs::DiskFetch::goes_none, wh_fetch::specs::DiskFetch::goes_on))]
+fn rows_by_query<D: Disk>(
+    alloc: Global,
+    objects: &[&StoredObject],
+    before: &[Brought],
+    moment: u64,
+    dynamic: &Dynamic,
+    fetch: &mut DiskFetch<D>,
+) -> Result<Option<Bag>, FetchFault>
+    requires { IsRight D.Disk fetch.old }
+    ensures evaluated { AllShown (told_of D.Disk fetch.old) (filed_at_objects objects.now)
+        → IfOk result (λ found. (stamp : ℕ) (bs : List machine.Brought)
+        → AreBrought (stored_in objects.now) before.now bs → AreAbove 0 bs
+        → found ≡ evaluated_at (after_all stamp moment bs (objects_in objects.now)) moment
+        (dynamic_of dynamic.now)) }
+    ensures sound { AllShown (told_of D.Disk fetch.old) (filed_at_objects objects.now)
+        → damage_of fetch.new ≡ damage_of fetch.old }
+    ensures same { told_of D.Disk fetch.new ≡ told_of D.Disk fetch.old }
+    ensures goes { GoesOn D.Disk fetch.old fetch.new }
+    ensures counts { Counts (faults_of D.Disk fetch.old) (faults_of D.Disk fetch.new) result }
+{
+    let held = sources_held(alloc, objects, before, moment, dynamic.reads())?;
+    let sources = sources_of(alloc, &held)?;
+    evaluated(alloc, objects, dynamic.query(), &sources, fetch)
+}
+
+// The edits that bring the rows of a table to these. Its partitions are given back.
+#[tactic(auto, using(wh_fetch::specs::DiskFetch::goes_none, wh_fetch::specs::DiskFetch::goes_on))]
+fn rebased<D: Disk>(
+    alloc: Global,
+    table: &StoredTable,
+    rows: Bag,
+    fetch: &mut DiskFetch<D>,
+) -> Result<Rebased, FetchFault>
+    requires { IsRight D.Disk fetch.old }
+    ensures rebased { AllShown (told_of D.Disk fetch.old) (filed_of table.now)
+        → IfOk result (λ r. IsRebased r (last_rows (table_meant (table_of table.now))) rows) }
+    ensures sound { AllShown (told_of D.Disk fetch.old) (filed_of table.now)
+        → damage_of fetch.new ≡ damage_of fetch.old }
+    ensures same { told_of D.Disk fetch.new ≡ told_of D.Disk fetch.old }
+    ensures goes { GoesOn D.Disk fetch.old fetch.new }
+    ensures counts { Counts (faults_of D.Disk fetch.old) (faults_of D.Disk fetch.new) result }
+{
+    let standing = table.standing(alloc)?;
+    let old = load(alloc, &standing, fetch)?;
+    let sorted = by_rows(alloc, &old, &[])?;
+    let found = rebase(alloc, &sorted, &rows)?;
+    Ok(found)
 }

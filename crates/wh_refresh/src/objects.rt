@@ -1,14 +1,17 @@
 //! Objects by their ids, in a list of them.
-ghost use Rattle.std.specs.Prelude.{◌≡◌, ◌++◌, map, option_map, OnOk, IfOk};
+ghost use Rattle.std.specs.Prelude.{◌≡◌, ◌++◌, map, option_map, IfSome, OnOk, IfOk};
 ghost use Rattle.std.specs.Option.{option_copied};
+ghost use Rattle.wh_filed.specs.Filed.{AreAmong};
 ghost use Rattle.wh_state.specs.State.{at_id};
 ghost use Rattle.wh_state.specs.Objects as state;
 ghost use Rattle.wh_state.specs.Stored.{table_meant};
 ghost use Rattle.wh_moment.specs.Upstream.{dynamics_of};
 ghost use Rattle.wh_dynamic.specs.View.{dynamic_of, dynamics_in};
+ghost use Rattle.wh_table.specs.Table as tables;
 ghost use Rattle.wh_table.specs.Table.{table_of};
-ghost use Rattle.wh_catalog.specs.Catalog.{stored_of, state_of};
-ghost use Rattle.wh_refresh.specs.Objects.{objects_in, stored_in, with_made, stored_made};
+ghost use Rattle.wh_catalog.specs.Catalog.{stored_of, state_of, filed_of};
+ghost use Rattle.wh_refresh.specs.Objects.{objects_in, stored_in, filed_at_objects};
+ghost use Rattle.wh_refresh.specs.Objects.{with_made, stored_made, filed_made};
 
 use std::alloc::{AllocError, Global};
 use wh_catalog::{Catalog, StoredObject, StoredTable, watched_object};
@@ -25,6 +28,8 @@ pub fn all_objects<'a>(
         ≡ (state_of catalog.now).objects ++ with_made made.entry) }
     ensures stored { IfOk result (λ objects. stored_in objects.items
         ≡ (stored_of catalog.now).objects ++ stored_made made.entry) }
+    ensures among { IfOk result (λ objects. AreAmong (filed_at_objects objects.items)
+        (filed_of catalog.now ++ filed_made made.entry)) }
 {
     let mut objects = Vec::new(alloc);
     for object in catalog.objects() {
@@ -42,6 +47,8 @@ fn add_made<'a>(
         ≡ objects_in objects.old.items ++ with_made made.entry) }
     ensures stored { OnOk result (stored_in objects.new.items
         ≡ stored_in objects.old.items ++ stored_made made.entry) }
+    ensures filed { OnOk result (filed_at_objects objects.new.items
+        ≡ filed_at_objects objects.old.items ++ filed_made made.entry) }
 {
     let Some(object) = made else {
         return Ok(());
@@ -66,6 +73,8 @@ pub(crate) fn table_at<'a>(objects: &[&'a StoredObject], id: u32) -> Option<&'a 
         ≡ state.table_at (stored_in objects.now) id }
     ensures meant { option_map (λ t. table_meant (table_of t.now)) result
         ≡ state.table_at (objects_in objects.now) id }
+    ensures among { IfSome result (λ t.
+        AreAmong (tables.filed_of t.now) (filed_at_objects objects.now)) }
 {
     let object = object_at(objects, id)?;
     object.kind().table()

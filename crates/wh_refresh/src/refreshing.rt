@@ -2,14 +2,17 @@
 ghost use Rattle.std.specs.Prelude.{◌≡◌, ℕ, not, option_map, IfOk};
 ghost use Rattle.std.specs.List.{list_any};
 ghost use Rattle.wh_reply.specs.View.{refusal_view};
+ghost use Rattle.wh_fetch.specs.Device.{Counts};
+ghost use Rattle.wh_fetch.specs.DiskFetch.{told_of, faults_of, damage_of, IsRight, GoesOn};
+ghost use Rattle.wh_filed.specs.Filed.{AllShown};
 ghost use Rattle.wh_state.specs.State.{State};
 ghost use Rattle.wh_state.specs.Objects as state;
 ghost use Rattle.wh_moment.specs.Upstream.{dynamics_of};
 ghost use Rattle.wh_moment.specs.Moment.{is_suspended_at};
 ghost use Rattle.wh_machine.specs.Refresh as machine;
 ghost use Rattle.wh_machine.specs.Dynamics.{first_suspended};
-ghost use Rattle.wh_refresh.specs.Objects.{objects_in, stored_in};
-ghost use Rattle.wh_refresh.specs.Refreshing.{besides, RefreshesAs};
+ghost use Rattle.wh_refresh.specs.Objects.{objects_in, stored_in, filed_at_objects};
+ghost use Rattle.wh_refresh.specs.Refreshing.{besides, RefreshesAs, AreRead};
 
 use crate::bringing::bring_all;
 use crate::limits::number_refusal;
@@ -18,8 +21,10 @@ use crate::writing::{changes, lines};
 use std::alloc::{AllocError, Global};
 use wh_catalog::StoredObject;
 use wh_dynamic::{brought, upstream};
+use wh_fetch::{DiskFetch, FetchFault};
 use wh_record::Change;
 use wh_reply::{Refreshed, Refusal};
+use wh_world::Disk;
 
 /// Who asks for a refresh: a statement is refused where a table is suspended.
 #[derive(Clone, Copy, Debug, PartialEq, Eq)]
@@ -38,16 +43,27 @@ pub enum Refreshing {
 
 /// The refresh of the table of an id to a moment, with all of its upstream that is below it.
 /// `objects` are all objects by their ids.
-pub fn refresh(
+#[tactic(auto, using(wh_fetch::specs::DiskFetch::goes_none, wh_fetch::specs::DiskFetch::goes_on))]
+pub fn refresh<D: Disk>(
     alloc: Global,
     objects: &[&StoredObject],
     asked: Asked,
     id: u32,
     moment: u64,
-) -> Result<Refreshing, AllocError>
-    ensures { IfOk result (λ r. (s : State) → s.objects ≡ objects_in objects.now
+    fetch: &mut DiskFetch<D>,
+) -> Result<Refreshing, FetchFault>
+    requires { IsRight D.Disk fetch.old }
+    ensures refreshed { AllShown (told_of D.Disk fetch.old) (filed_at_objects objects.now)
+        → IfOk result (λ r. (s : State) → s.objects ≡ objects_in objects.now
         → RefreshesAs s.last (stored_in objects.now) r
         (machine.refresh s (besides asked s.objects id) id moment)) }
+    // Over any disk.
+    ensures read { IfOk result (λ r. AreRead r) }
+    ensures sound { AllShown (told_of D.Disk fetch.old) (filed_at_objects objects.now)
+        → damage_of fetch.new ≡ damage_of fetch.old }
+    ensures same { told_of D.Disk fetch.new ≡ told_of D.Disk fetch.old }
+    ensures goes { GoesOn D.Disk fetch.old fetch.new }
+    ensures counts { Counts (faults_of D.Disk fetch.old) (faults_of D.Disk fetch.new) result }
 {
     let all = watched(alloc, objects)?;
     let mut ids = upstream(alloc, &all, id)?;
@@ -59,7 +75,7 @@ pub fn refresh(
         return Ok(Refreshing::Fails(why));
     }
     let ids = brought(alloc, &all, id, moment)?;
-    let Some(all) = bring_all(alloc, objects, moment, &ids)? else {
+    let Some(all) = bring_all(alloc, objects, moment, &ids, fetch)? else {
         return Ok(Refreshing::Fails(Refusal::NumberOutOfRange));
     };
     if let Some(why) = number_refusal(objects, &all) {

@@ -1,59 +1,102 @@
 //! What the sources of a dynamic table hold at a moment, some of which were brought to it.
 ghost use Rattle.std.specs.Prelude.{◌≡◌, ◌||◌, ℕ, List, is_some, IfOk};
-ghost use Rattle.wh_meaning.specs.Bag.{bag_of};
-ghost use Rattle.wh_exec.specs.Evaluation.{rows_at, instance_of};
+ghost use Rattle.wh_exec.specs.Source.{filed_in, instance_in};
+ghost use Rattle.wh_filed.specs.Filed.{AreAmong};
 ghost use Rattle.wh_state.specs.Moments.{bag_at, instance_at};
 ghost use Rattle.wh_machine.specs.Refresh as machine;
 ghost use Rattle.wh_machine.specs.Brought.{after_all, AreAbove, edits_sought};
-ghost use Rattle.wh_refresh.specs.Objects.{objects_in, stored_in};
+ghost use Rattle.wh_refresh.specs.Objects.{objects_in, stored_in, filed_at_objects};
 ghost use Rattle.wh_refresh.specs.Brought.{AreBrought};
-ghost use Rattle.wh_refresh.specs.Sources.{is_new_at};
+ghost use Rattle.wh_refresh.specs.Sources.{is_new_at, bag_held, bags_held, filed_by, filed_held};
 
 use crate::brought::{Brought, new_rows_of};
 use crate::objects::table_at;
 use std::alloc::{AllocError, Global};
 use wh_catalog::StoredObject;
-use wh_value::Row;
+use wh_exec::{Parts, Source};
+use wh_filed::FiledPartition;
+use wh_part::Partition;
 
-/// The rows of each source at a moment.
-pub(crate) fn rows_of<'a>(
+/// Where the rows of a source stand at a moment: in partitions of the file, and in those of a
+/// version to come.
+#[derive(Debug, Drop)]
+pub(crate) struct SourceHeld<'a> {
+    pub filed: Vec<&'a FiledPartition>,
+    pub made: &'a [Partition],
+}
+
+/// What each source holds at a moment.
+pub(crate) fn sources_held<'a>(
     alloc: Global,
     objects: &[&'a StoredObject],
     brought: &'a [Brought],
     moment: u64,
     ids: &[u32],
-) -> Result<Vec<Vec<&'a Row>>, AllocError>
-    ensures { IfOk result (λ sources. (stamp : ℕ) (bs : List machine.Brought)
+) -> Result<Vec<SourceHeld<'a>>, AllocError>
+    ensures held { IfOk result (λ sources. (stamp : ℕ) (bs : List machine.Brought)
         → AreBrought (stored_in objects.now) brought.now bs → AreAbove 0 bs
-        → instance_of sources.items
+        → bags_held sources.items
         ≡ instance_at (after_all stamp moment bs (objects_in objects.now)) moment ids.now) }
+    ensures among { IfOk result (λ sources.
+        AreAmong (filed_held sources.items) (filed_at_objects objects.now)) }
 {
     let mut sources = Vec::new(alloc);
     for id in ids {
-        sources.push(source_rows(alloc, objects, brought, moment, *id)?)?;
+        let source = source_held(alloc, objects, brought, moment, *id)?;
+        sources.push(source)?;
     }
     Ok(sources)
 }
 
-fn source_rows<'a>(
+fn source_held<'a>(
     alloc: Global,
     objects: &[&'a StoredObject],
     brought: &'a [Brought],
     moment: u64,
     id: u32,
-) -> Result<Vec<&'a Row>, AllocError>
-    ensures { IfOk result (λ rows. (stamp : ℕ) (bs : List machine.Brought)
+) -> Result<SourceHeld<'a>, AllocError>
+    ensures held { IfOk result (λ source. (stamp : ℕ) (bs : List machine.Brought)
         → AreBrought (stored_in objects.now) brought.now bs → AreAbove 0 bs
-        → bag_of (rows_at rows.items)
+        → bag_held source
         ≡ bag_at (after_all stamp moment bs (objects_in objects.now)) moment id) }
+    ensures among { IfOk result (λ source.
+        AreAmong (filed_by source) (filed_at_objects objects.now)) }
 {
     let Some(table) = table_at(objects, id) else {
-        return Ok(Vec::new(alloc));
+        return Ok(SourceHeld {
+            filed: Vec::new(alloc),
+            made: &[],
+        });
     };
     match new_rows_of(brought, id) {
-        Some(rows) => table.rows_with(alloc, &rows.edited),
-        None => table.rows_at(alloc, moment),
+        Some(rows) => {
+            let filed = table.staying(alloc, &rows.edited)?;
+            let made = rows.edited.added();
+            Ok(SourceHeld { filed, made })
+        }
+        None => {
+            let filed = table.standing_at(alloc, moment)?;
+            Ok(SourceHeld { filed, made: &[] })
+        }
     }
+}
+
+/// Where the rows of each of them stand.
+pub(crate) fn sources_of<'a>(
+    alloc: Global,
+    held: &'a [SourceHeld<'_>],
+) -> Result<Vec<Source<'a>>, AllocError>
+    ensures rows { IfOk result (λ sources. instance_in sources.items ≡ bags_held held.now) }
+    ensures filed { IfOk result (λ sources. filed_in sources.items ≡ filed_held held.now) }
+{
+    let mut sources = Vec::new(alloc);
+    for source in held {
+        sources.push(Source::Parts(Parts {
+            filed: &source.filed,
+            made: source.made,
+        }))?;
+    }
+    Ok(sources)
 }
 
 /// Whether one of the sources has a version for a moment behind one, up to another.

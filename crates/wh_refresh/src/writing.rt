@@ -1,18 +1,19 @@
 //! What is told of a refresh, and the changes that say it.
 ghost use Rattle.std.specs.Prelude.{◌≡◌, ◌+◌, ◌++◌, ℕ, List, Option, map, length, IfOk, OnOk};
-ghost use Rattle.std.specs.List.{flat_map};
+ghost use Rattle.std.specs.List.{AllByRecursion, flat_map};
 ghost use Rattle.wh_reply.specs.View.{refreshed_view};
 ghost use Rattle.wh_state.specs.Stored as file;
 ghost use Rattle.wh_state.specs.Written.{written};
 ghost use Rattle.wh_state.specs.Edits.{Edits};
 ghost use Rattle.wh_state.specs.Commit.{PushesVersion};
+ghost use Rattle.wh_state.specs.Spelling.{IsUnderstood};
 ghost use Rattle.wh_table.specs.Table.{table_of};
 ghost use Rattle.wh_machine.specs.Refresh as machine;
 ghost use Rattle.wh_machine.specs.Brought.{AreAbove};
 ghost use Rattle.wh_record.specs.View.{change_of};
 ghost use Rattle.wh_refresh.specs.Objects.{objects_in, stored_in};
 ghost use Rattle.wh_refresh.specs.Brought.{AreBrought, IsBrought, IsRowsOf};
-ghost use Rattle.wh_refresh.specs.Writing.{one_written, rows_written};
+ghost use Rattle.wh_refresh.specs.Writing.{one_written, rows_written, StaysUnderstood};
 
 use crate::brought::{Brought, NewRows};
 use crate::objects::{name_at, table_at};
@@ -78,10 +79,12 @@ pub(crate) fn changes(
     moment: u64,
     all: Vec<Brought>,
 ) -> Result<Vec<Change>, AllocError>
-    ensures { IfOk result (λ changes. (stamp : ℕ) (bs : List machine.Brought)
+    ensures written { IfOk result (λ changes. (stamp : ℕ) (bs : List machine.Brought)
         → AreBrought (stored_in objects.now) all.items bs → AreAbove 0 bs
         → map change_of changes.items ≡ written stamp (stored_in objects.now)
         (flat_map (machine.acts_of_one moment) bs)) }
+    ensures understood { IfOk result (λ changes.
+        AllByRecursion IsUnderstood (map change_of changes.items)) }
 {
     let mut changes = Vec::new(alloc);
     for one in all {
@@ -96,9 +99,11 @@ fn add_changes(
     moment: u64,
     one: Brought,
 ) -> Result<(), AllocError>
-    ensures { OnOk result ((b : machine.Brought) → IsBrought (stored_in objects.now) one b
+    ensures written { OnOk result ((b : machine.Brought) → IsBrought (stored_in objects.now) one b
         → map change_of changes.new.items ≡ map change_of changes.old.items
         ++ one_written (stored_in objects.now) moment b) }
+    ensures understood { OnOk result (StaysUnderstood (map change_of changes.old.items)
+        (map change_of changes.new.items)) }
 {
     let Brought {
         id,
@@ -118,10 +123,12 @@ fn add_version(
     id: u32,
     rows: Option<NewRows>,
 ) -> Result<(), AllocError>
-    ensures { OnOk result ((edits : Option Edits)
+    ensures written { OnOk result ((edits : Option Edits)
         → IsRowsOf (stored_in objects.now) id rows edits
         → map change_of changes.new.items ≡ map change_of changes.old.items
         ++ rows_written (stored_in objects.now) moment id edits) }
+    ensures understood { OnOk result (StaysUnderstood (map change_of changes.old.items)
+        (map change_of changes.new.items)) }
 {
     let Some(rows) = rows else {
         return Ok(());

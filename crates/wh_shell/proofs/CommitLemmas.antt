@@ -1,7 +1,7 @@
 -- The commits that are added to a file.
 --     adds_none, adds_then     none, and some behind others
 --     adds_made                that of one event
-use Rattle.std.proofs.Common.{◌≡◌, ℕ, List, [], ◌∷◌, ◌++◌, map, Option, Some, None, refl, sym, ap, ◌∙◌}
+use Rattle.std.proofs.Common.{◌≡◌, ℕ, List, [], ◌++◌, map, Option, Some, None, refl, sym, ap, ◌∙◌}
 use Rattle.std.proofs.Common.{subst, append_assoc, append-nil, is_some}
 use Rattle.std.specs.Option.{option_to_list}
 use Rattle.std.proofs.lemmas.List.{map-append}
@@ -13,7 +13,7 @@ use Rattle.wh_world.specs.declared.disk.Disk.{Ghosts}
 use Rattle.wh_record.proofs.FileLaws.{file_fixes_payloads}
 use Rattle.wh_engine.specs.Answers.{commits_in, CarriesOut}
 use Rattle.wh_engine.specs.declared.warehouse.Warehouse.{Warehouse}
-use Rattle.wh_shell.specs.Commits.{IsFileBehind, Adds}
+use Rattle.wh_shell.specs.Commits.{Adds}
 use Rattle.wh_shell.specs.Open.{IsOpen}
 use Rattle.wh_shell.proofs.Told.{told_file}
 
@@ -42,11 +42,11 @@ listed None = refl
 listed (Some c) = refl
 
 pub adds_made : {D : Type 0} {g : Ghosts D} (old new : Warehouse D g) (commit : Option Commit) (m : Machine) →
-    IsOpen old → CarriesOut old new commit m → Adds (g.bytes old.disk) (g.bytes new.disk) (option_to_list commit)
+    IsOpen old → CarriesOut old new commit m → Adds (g.bytes old.fetch.disk) (g.bytes new.fetch.disk) (option_to_list commit)
 adds_made {D} {g} old new commit m ready carries = record {
   each = λ file payloads told is.
       let before = ready.filed.each file told in
-      let found = told_file (g.bytes new.disk) (carries.told ∙ ap is_some told) in
+      let found = told_file (g.bytes new.fetch.disk) (carries.told ∙ ap is_some told) in
       let added = carries.adds file found.0 told found.1 before in
       let known : payloads ≡ map payload_of before.commits =
       file_fixes_payloads payloads (map payload_of before.commits) file is before.spelled in

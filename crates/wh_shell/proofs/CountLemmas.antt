@@ -3,9 +3,10 @@
 --     long_read, long_stop           a script that was read to its end, and one at which a fault stopped
 --     passed_reads, status_passed    a fault that a `?` passes on
 --     err_is, err_same, ok_isnt      the fault of a result, which has one
-use Rattle.std.proofs.Common.{◌≡◌, ℕ, ◌+◌, ◌-◌, ◌^◌, ◌<◌, List, length, Option, Some, None, refl, ap, ◌∙◌, sym, subst}
+--     choice_few                     the refusals of one event
+use Rattle.std.proofs.Common.{◌≡◌, ℕ, ◌+◌, ◌-◌, ◌^◌, ◌<◌, ◌≤◌, Bool, true, false, List, length, Option, Some, refl, ap, ◌∙◌, sym, subst}
 use Rattle.std.proofs.Common.{arith}
-use Rattle.std.specs.Prelude.{Result, Ok, Err, IsErrAnd, IsErrOf}
+use Rattle.std.specs.Prelude.{Result, Ok, Err, IsErrAnd, IsErrOf, if◌then◌else◌}
 use Rattle.wh_world.specs.declared.source.Source as sources
 use Rattle.wh_text.specs.Script.{Counts, taken_of}
 use Rattle.wh_text.specs.declared.script.Script.{Script}
@@ -16,6 +17,11 @@ use Rattle.wh_shell.specs.declared.fault.Fault.{Fault}
 use Rattle.wh_shell.specs.declared.fault.Fault.TheVariants.{ScriptTooLong}
 use Rattle.wh_shell.specs.declared.status.Status.{Status}
 use Rattle.wh_shell.specs.declared.status.Status.TheVariants.{Read, Stopped}
+
+-- a reply counts as one refusal at most
+pub choice_few : (refused : Bool) → (if refused then 1 else 0) ≤ 1
+choice_few true = omega arith
+choice_few false = omega arith
 
 -- one turn behind others
 pub counts_on : (a b c : Script) (left_a left_b left_c : Option (List ℕ)) → Counts a b left_a left_b

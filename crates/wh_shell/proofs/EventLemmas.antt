@@ -2,7 +2,6 @@
 --     fixes_events     a script has the events that the function gives, by a timing, and these alone
 --     told_events      of a told script
 use Rattle.std.proofs.Common.{◌≡◌, ℕ, List, [], ◌∷◌, Option, Some, None, refl, sym, ap, ◌∙◌, option_map}
-use Rattle.wh_grammar.specs.Spelled.{Request, Asks}
 use Rattle.wh_grammar.specs.Script.{Line, CommandLine, SessionLine, TickLine, lines_of}
 use Rattle.wh_machine.specs.Step.{Event, Command, Tick}
 use Rattle.wh_machine.specs.Script.{HasEvents, ends, sets_session, ticks, ticks_at, commands, IsScript}

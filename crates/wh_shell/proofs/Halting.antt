@@ -23,30 +23,35 @@ use Rattle.wh_shell.proofs.Written.{writes_none}
 module _ {D K : Type 0} {g : disks.Ghosts D} (k : sinks.Ghosts K) (old new : Warehouse D g) (event : Event) where
   -- it may not have been carried out, and nothing was written
   pub halts_before : (out : K) (why : Fault) →
-      (IsTold old → (image : List ℕ) → g.may_leave new.disk image →
+      (IsTold old → (image : List ℕ) → g.may_leave new.fetch.disk image →
       StandsForEither (machine_of old).state (step (machine_of old) event).0.state image) →
       HaltsBy k old new event out out why → Halts k old new event out out why
   halts_before out why leaves cause = record {
-    front = [];
-    rest = print (step (machine_of old) event).1;
-    parts = refl;
-    written = writes_none (k.held out);
-    leaves = λ told image left. ⊎_elim (λ before. inl (refl, before)) (λ behind. inr behind) (leaves told image left);
+    breaks = λ told. record {
+      front = [];
+      rest = print (step (machine_of old) event).1;
+      parts = refl;
+      written = writes_none (k.held out);
+      leaves = λ image left. ⊎_elim (λ before. inl (refl, before)) (λ behind. inr behind) (leaves told image left);
+    };
     cause = cause;
   }
 
   -- it was carried out, and a front of its reply was written
-  pub halts_behind : (out out_new : K) (why : Fault) → machine_of new ≡ (step (machine_of old) event).0 →
-      (IsTold old → (image : List ℕ) → g.may_leave new.disk image → Stands image (rest_of (machine_of new))) →
-      WritesFront (print (step (machine_of old) event).1) (k.held out) (k.held out_new) →
+  pub halts_behind : (out out_new : K) (why : Fault) →
+      (IsTold old → machine_of new ≡ (step (machine_of old) event).0) →
+      (IsTold old → (image : List ℕ) → g.may_leave new.fetch.disk image → Stands image (rest_of (machine_of new))) →
+      (IsTold old → WritesFront (print (step (machine_of old) event).1) (k.held out) (k.held out_new)) →
       HaltsBy k old new event out out_new why → Halts k old new event out out_new why
   halts_behind out out_new why stepped leaves writes cause = record {
-    front = writes.front;
-    rest = writes.rest;
-    parts = writes.parts;
-    written = writes.written;
-    leaves = λ told image left.
-        inr (subst (λ (n : Machine). Stands image (rest_of n)) stepped (leaves told image left));
+    breaks = λ told. record {
+      front = (writes told).front;
+      rest = (writes told).rest;
+      parts = (writes told).parts;
+      written = (writes told).written;
+      leaves = λ image left.
+          inr (subst (λ (n : Machine). Stands image (rest_of n)) (stepped told) (leaves told image left));
+    };
     cause = cause;
   }
 

@@ -1,7 +1,7 @@
 -- A run for which memory was wanting before anything was opened.
 --     idle_generates     of the generated script
 --     idle_carries       of what the words ask for
-use Rattle.std.proofs.Common.{◌≡◌, ℕ, ◌^◌, ◌≤◌, List, Option, Some, None, refl}
+use Rattle.std.proofs.Common.{ℕ, ◌^◌, ◌≤◌, List, Option, Some, None, refl}
 use Rattle.std.specs.Prelude.{IfSome}
 use Rattle.wh_world.specs.declared.disk.Disk as disks
 use Rattle.wh_world.specs.declared.source.Source as sources

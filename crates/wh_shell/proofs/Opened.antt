@@ -1,8 +1,8 @@
 -- A run whose file was opened.
 --     opened_runs     what it promises
-use Rattle.std.proofs.Common.{◌≡◌, inl, inr, ℕ, ◌+◌, ◌<◌, List, ◌++◌, length, Option, Some, sym, ap, ◌∙◌, subst, refl}
+use Rattle.std.proofs.Common.{◌≡◌, inl, inr, ℕ, List, ◌++◌, length, Option, Some, sym, ap, ◌∙◌, subst, refl}
 use Rattle.std.proofs.Common.{arith, option_map}
-use Rattle.std.specs.Prelude.{◌≢◌, is_some}
+use Rattle.std.specs.Prelude.{is_some}
 use Rattle.wh_frame.specs.File.{IsFileOf}
 use Rattle.wh_state.specs.State.{State}
 use Rattle.wh_state.specs.Stored.{Stored, meant}
@@ -24,16 +24,15 @@ use Rattle.wh_shell.specs.Commits.{HasPayloads, IsFileBehind, Says, AddsCommits}
 use Rattle.wh_shell.specs.Crash.{Survives, EndsSafely}
 use Rattle.wh_shell.specs.Events.{events}
 use Rattle.wh_shell.specs.Fault.{HasCause}
-use Rattle.wh_shell.specs.Full.{FillsFile, Fills}
+use Rattle.wh_shell.specs.Full.{Fills}
 use Rattle.wh_shell.specs.Point.{Point, point_of, IsToldAt}
 use Rattle.wh_shell.specs.Promised.{RunsWithin}
 use Rattle.wh_shell.specs.Room.{FillsBy}
 use Rattle.wh_shell.specs.Run.{IsStart, IsWhole, IsFront, Runs, Through, EndsBy, StopsWhereTooLong}
 use Rattle.wh_shell.specs.Serving.{EndsAs}
 use Rattle.wh_shell.specs.Timing.{Timing, IsScriptBy, timed}
-use Rattle.wh_shell.specs.World.{World, world_of}
+use Rattle.wh_shell.specs.World.{World}
 use Rattle.wh_shell.specs.Writing.{Writes}
-use Rattle.wh_shell.specs.declared.fault.Fault.{Fault}
 use Rattle.wh_shell.specs.declared.fault.Fault.TheVariants.{FileFull}
 use Rattle.wh_shell.specs.declared.status.Status.{Status}
 use Rattle.wh_shell.specs.declared.status.Status.TheVariants.{Usage, Read, Stopped}
@@ -69,8 +68,9 @@ module _ {D S K : Type 0} (d : disks.Ghosts D) (s : sources.Ghosts S) (k : sinks
   runs Usage ends = absurd ends
   runs (Read count) ends = λ file input held start es is.
       let left : left_of ≡ Some es = told_left input es is.told_script is.events in
-      let all = ends.each es left in
-      let left_file = ends.stands (opens.told ∙ ap is_some is.told_file) es left in
+      let told = opens.told ∙ ap is_some is.told_file in
+      let all = ends.each told es left in
+      let left_file = ends.stands told es left in
       subst (λ (m : Machine). IsWhole m es held count (k.held new.out) (d.bytes new.disk) (s.left new.script)) (same is)
       (record {
         written = all.written ∙ ap (option_map (λ x. x ++ text (machine_of w) es)) is.told_output;
@@ -81,7 +81,7 @@ module _ {D S K : Type 0} (d : disks.Ghosts D) (s : sources.Ghosts S) (k : sinks
         stands = left_file.2;
       })
   runs (Stopped why) ends = λ file input held start es is.
-      let end = ends.front es (told_left input es is.told_script is.events) in
+      let end = ends.front (opens.told ∙ ap is_some is.told_file) es (told_left input es is.told_script is.events) in
       subst (λ (m : Machine). IsFront m es held (k.held new.out)) (same is)
       (record {
         front = end.front;
@@ -104,7 +104,7 @@ module _ {D S K : Type 0} (d : disks.Ghosts D) (s : sources.Ghosts S) (k : sinks
 
   -- a file of more than 8 bytes is as it was, and any other is of no payloads
   has_opened : (file : List ℕ) (payloads : List (List ℕ)) → d.bytes old.disk ≡ Some file → HasPayloads payloads file →
-      (now : List ℕ) × (d.bytes w.disk ≡ Some now) × IsFileOf payloads now
+      (now : List ℕ) × (d.bytes w.fetch.disk ≡ Some now) × IsFileOf payloads now
   has_opened file payloads told (inl long) = (file, opens.same file told long.0, long.1)
   has_opened file payloads told (inr short) =
       let fresh = opens.fresh file told short.0 in
@@ -113,7 +113,8 @@ module _ {D S K : Type 0} (d : disks.Ghosts D) (s : sources.Ghosts S) (k : sinks
   commits : (status : Status) → EndsAs d s k start_of new status → AddsCommits d s timing old new status
   commits Usage ends = absurd ends
   commits (Read count) ends = λ file input stored start es says payloads has.
-      let all = ends.each es (told_left input es says.told_script says.events) in
+      let all = ends.each (opens.told ∙ ap is_some says.told_file) es
+      (told_left input es says.told_script says.events) in
       let found = has_opened file payloads says.told_file has in
       let made : all_made (stored_of w.catalog) (machine_of w) es ≡ all_made stored (opened start) es =
       ap (λ (t : Stored). all_made t (machine_of w) es) (stored_is says)
@@ -129,7 +130,7 @@ module _ {D S K : Type 0} (d : disks.Ghosts D) (s : sources.Ghosts S) (k : sinks
       Only file (d.may_leave old.disk) → k.held new.out ≡ Some (before ++ written) →
       Survives d old.disk new.disk (opened start) es (length written)
   survives safe file input before written start es is only held_is =
-      run_survives d old.disk w.disk new.disk (k.held old.out) (k.held new.out) file before written start
+      run_survives d old.disk w.fetch.disk new.disk (k.held old.out) (k.held new.out) file before written start
       (machine_of w) es is.stands (sym (same is)) (opens.any_moment file is.told_file only)
       (safe.each (opens.told ∙ ap is_some is.told_file) es (told_left input es is.told_script is.events))
       is.told_output held_is
@@ -149,30 +150,32 @@ module _ {D S K : Type 0} (d : disks.Ghosts D) (s : sources.Ghosts S) (k : sinks
   causes (Stopped why) ends long =
       has_cause d s k limit old new why
       (counted_since d s k old start_of.world new
-      (record { disk = omega (arith, opens.no_fault); script = omega arith; out = omega arith }) why ends.cause)
+      (record { disk = omega (arith, opens.no_fault); script = omega arith; out = omega arith })
+      (λ told. opens.told ∙ told) why ends.cause)
       (λ len need is. omega (arith, (ends.full len need is).past, opens.limit))
       (λ taken is. long.too_long taken (ap Stopped is))
 
-  fills_by : (es : List Event) (status : Status) → left_of ≡ Some es →
+  fills_by : (es : List Event) (status : Status) → IsToldAt d start_of → left_of ≡ Some es →
       EndsAs d s k start_of new status →
       FillsBy status (overflow (limit_of w.journal) (end_of w.journal) (stored_of w.catalog) (machine_of w) es)
-  fills_by es Usage left ends = tt
-  fills_by es (Read count) left ends = (ends.each es left).room
-  fills_by es (Stopped why) left ends = λ len need is. (ends.full len need is).first es left
+  fills_by es Usage told left ends = tt
+  fills_by es (Read count) told left ends = (ends.each told es left).room
+  fills_by es (Stopped why) told left ends = λ len need is. (ends.full len need is).first told es left
 
   written_by : (es : List Event) (status : Status) (len need : ℕ) → status ≡ Stopped (FileFull len need) →
-      left_of ≡ Some es → EndsAs d s k start_of new status →
+      IsToldAt d start_of → left_of ≡ Some es → EndsAs d s k start_of new status →
       Writes (text (machine_of w)
       (fitting (limit_of w.journal) (end_of w.journal) (stored_of w.catalog) (machine_of w) es))
       (k.held old.out) (k.held new.out)
-  written_by es status len need is left ends =
+  written_by es status len need is told left ends =
       let stops : EndsAs d s k start_of new (Stopped (FileFull len need)) =
       subst (EndsAs d s k start_of new) is ends in
-      (stops.full len need refl).written es left
+      (stops.full len need refl).written told es left
 
   full : (status : Status) → EndsAs d s k start_of new status → Fills d s k limit timing old new status
   full status ends = λ file input stored start es says.
       let left : left_of ≡ Some es = told_left input es says.told_script says.events in
+      let told = opens.told ∙ ap is_some says.told_file in
       let stored_same = stored_is says in
       let machine_same = machine_said says in
       let limit_same = opens.limit in
@@ -184,10 +187,10 @@ module _ {D S K : Type 0} (d : disks.Ghosts D) (s : sources.Ghosts S) (k : sinks
       record {
         end = end_of w.journal;
         gate = opens.ends file says.told_file;
-        fills = subst (FillsBy status) room (fills_by es status left ends);
+        fills = subst (FillsBy status) room (fills_by es status told left ends);
         written = λ len need is.
             subst (λ (l : List ℕ). Writes l (k.held old.out) (k.held new.out)) fits
-            (written_by es status len need is left ends);
+            (written_by es status len need is told left ends);
       }
 
   pub opened_runs : (status : Status) → EndsAs d s k start_of new status →

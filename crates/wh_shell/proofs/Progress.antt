@@ -3,21 +3,19 @@
 --     stops_none                     a turn that found out no event
 --     goes_not_yet, goes_more        the turns so far
 --     stops_more, serves_all         how they end
-use Rattle.std.proofs.Common.{◌≡◌, ℕ, ◌+◌, ◌<◌, ◌≤◌, List, [], ◌∷◌, ◌++◌, length, refl, ap, sym, ◌∙◌, subst, arith}
-use Rattle.std.proofs.Common.{append_assoc, add-zero, append-nil, length-append, Option, Some, Bool, true, false}
-use Rattle.std.specs.Prelude.{if◌then◌else◌, is_some, IsTrue}
+use Rattle.std.proofs.Common.{◌≡◌, ℕ, ◌+◌, ◌≤◌, List, [], ◌∷◌, ◌++◌, length, refl, ap, sym, ◌∙◌, subst, arith}
+use Rattle.std.proofs.Common.{append_assoc, add-zero, append-nil, length-append, Option, false}
+use Rattle.std.specs.Prelude.{is_some, IsTrue}
 use Rattle.std.specs.Option.{option_to_list}
-use Rattle.wh_reply.specs.Reply.{is_refusal, print}
-use Rattle.wh_state.specs.Commit.{Commit}
+use Rattle.wh_reply.specs.Reply.{print}
 use Rattle.wh_state.specs.Written.{is_beyond}
 use Rattle.wh_machine.specs.Outcome.{Machine}
 use Rattle.wh_machine.specs.Step.{Event, step, after, text, refusals}
 use Rattle.wh_machine.specs.Stop.{StandsWithin}
-use Rattle.wh_machine.proofs.ReplyLaws.{after_append, text_append, refusals_append}
+use Rattle.wh_machine.proofs.ReplyLaws.{text_append, refusals_append}
 use Rattle.wh_world.specs.declared.disk.Disk as disks
 use Rattle.wh_world.specs.declared.source.Source as sources
 use Rattle.wh_world.specs.declared.sink.Sink as sinks
-use Rattle.wh_journal.specs.Journal.{limit_of}
 use Rattle.wh_journal.specs.Crash.{LeavesOnly}
 use Rattle.wh_journal.proofs.CrashLemmas.{both, weaker}
 use Rattle.wh_engine.specs.Warehouse.{machine_of}
@@ -28,11 +26,11 @@ use Rattle.wh_shell.specs.Crash.{EndsSafely}
 use Rattle.wh_shell.specs.Open.{IsTold}
 use Rattle.wh_shell.specs.Point.{Point, point_of, IsToldAt}
 use Rattle.wh_shell.specs.Reading.{GivesEvent}
-use Rattle.wh_shell.specs.Room.{Reach, reach_of, made_at, reach_after, all_made_at, first_beyond, fitting_at}
+use Rattle.wh_shell.specs.Room.{Reach, made_at, reach_after, all_made_at, first_beyond, fitting_at}
 use Rattle.wh_shell.specs.World.{World, world_of, IsLater}
 use Rattle.wh_shell.specs.Writing.{Writes, WritesFront}
-use Rattle.wh_shell.specs.Serving.{refusals_of, Carries, Halts, AnswersFirst, Answers, Finds, IsFull, Stops, Serves}
-use Rattle.wh_shell.specs.Serving.{GoesOn, Goes}
+use Rattle.wh_shell.specs.Serving.{refusals_of, Carries, Breaks, Halts, AnswersFirst, Answers, Finds, IsFull, Stops}
+use Rattle.wh_shell.specs.Serving.{Serves, GoesOn, Goes}
 use Rattle.wh_shell.specs.declared.fault.Fault.{Fault}
 use Rattle.wh_shell.proofs.CauseLemmas.{halted_cause, full_first, counted_since}
 use Rattle.wh_shell.proofs.CommitLemmas.{adds_none, adds_then}
@@ -43,40 +41,39 @@ use Rattle.wh_shell.proofs.Written.{writes_none, writes_both}
 
 -- ---- one turn
 
--- a reply counts as one refusal at most
-choice_few : (refused : Bool) → (if refused then 1 else 0) ≤ 1
-choice_few true = omega arith
-choice_few false = omega arith
-
 module _ {D S K : Type 0} {g : disks.Ghosts D} (k : sinks.Ghosts K) (old new : Warehouse D g) (event : Event)
     (left left_new : Option (List Event)) (script script_new : S) (out out_new : K) where
   -- the first event of what was left was carried out
-  pub answers_first : (count : ℕ) → GivesEvent left event left_new → Carries k old new event out out_new count →
-      (IsTold old → LeavesOnly g.moment g.left_since old.disk new.disk
+  pub answers_first : (count : ℕ) → count ≤ 1 → GivesEvent left event left_new →
+      (IsTold old → Carries k old new event out out_new count) →
+      (IsTold old → LeavesOnly g.moment g.left_since old.fetch.disk new.fetch.disk
       (StandsForEither (machine_of old).state (step (machine_of old) event).0.state)) →
       Answers g k (point_of old left script out) (point_of new left_new script_new out_new) count
-  answers_first count gives done run = record {
-    few = subst (λ (x : ℕ). x ≤ 1) (sym done.refused) (choice_few (is_refusal (step (machine_of old) event).1));
-    each = λ es told. let found = gives.each es told in record {
-      event = event;
-      rest = found.0;
-      first = found.2;
-      left = found.1;
-      room = done.room;
-      reach = done.reach;
-      adds = done.adds;
-      written = done.written;
-      refused = done.refused;
-    };
+  answers_first count few gives done run = record {
+    few = few;
+    each = λ told es told_left.
+        let found = gives.each es told_left in
+        let here = done told in
+        record {
+          event = event;
+          rest = found.0;
+          first = found.2;
+          left = found.1;
+          room = here.room;
+          reach = here.reach;
+          adds = here.adds;
+          written = here.written;
+          refused = here.refused;
+        };
     leaves = λ told.
-        subst (λ (r : Reach). LeavesOnly g.moment g.left_since old.disk new.disk
-        (StandsForEither (machine_of old).state r.machine.state)) (sym done.reach) (run told);
+        subst (λ (r : Reach). LeavesOnly g.moment g.left_since old.fetch.disk new.fetch.disk
+        (StandsForEither (machine_of old).state r.machine.state)) (sym (done told).reach) (run told);
   }
 
   -- a front of its reply is a front of the text of all that was left
-  front_of_reply : (es rest : List Event) (why : Fault) → es ≡ event ∷ rest → Halts k old new event out out_new why →
+  front_of_reply : (es rest : List Event) → es ≡ event ∷ rest → Breaks k old new event out out_new →
       WritesFront (text (machine_of old) es) (k.held out) (k.held out_new)
-  front_of_reply es rest why first halts =
+  front_of_reply es rest first halts =
       let behind : List ℕ = text (step (machine_of old) event).0 rest in
       record {
         front = halts.front;
@@ -89,12 +86,14 @@ module _ {D S K : Type 0} {g : disks.Ghosts D} (k : sinks.Ghosts K) (old new : W
 
   -- the first event of what was left was stopped at
   pub stops_first : (s : sources.Ghosts S) (why : Fault) → GivesEvent left event left_new →
-      (IsTold old → LeavesOnly g.moment g.left_since old.disk new.disk
+      (IsTold old → LeavesOnly g.moment g.left_since old.fetch.disk new.fetch.disk
       (StandsForEither (machine_of old).state (step (machine_of old) event).0.state)) →
       Halts k old new event out out_new why →
-      Stops g s k (point_of old left script out) (world_of new.disk script_new out_new) why
+      Stops g s k (point_of old left script out) (world_of new.fetch.disk script_new out_new) why
   stops_first s why gives run halts = record {
-    front = λ es told. let found = gives.each es told in front_of_reply es found.0 why found.2 halts;
+    front = λ told es told_left.
+        let found = gives.each es told_left in
+        front_of_reply es found.0 found.2 (halts.breaks told);
     safe = halts_safely g k old new event left left_new script script_new out out_new why gives run halts;
     cause = halted_cause g s k old new event script script_new out out_new why halts.cause;
     full = λ len need is.
@@ -138,7 +137,7 @@ module _ {D S K : Type 0} (d : disks.Ghosts D) (k : sinks.Ghosts K) where
       Goes d k (record { limit = limit; reach = reach; left = left_start; world = world })
       (record { limit = limit; reach = reach; left = left; world = world }) 0
   goes_not_yet limit reach left_start left world same run = record {
-    each = λ es told. record {
+    each = λ is es told. record {
       rest = es;
       left = same ∙ told;
       done = [];
@@ -149,7 +148,7 @@ module _ {D S K : Type 0} (d : disks.Ghosts D) (k : sinks.Ghosts K) where
       adds = adds_none (d.bytes world.disk);
       written = writes_none (k.held world.out);
       refused = refl;
-      leaves = λ is. weaker d.moment d.left_since world.disk world.disk
+      leaves = weaker d.moment d.left_since world.disk world.disk
           (StandsForEither reach.machine.state reach.machine.state) (StandsWithin reach.machine es 0 0)
           (λ image either. within_none reach.machine es 0 0 image (omega arith) either) (run is);
     };
@@ -163,8 +162,8 @@ module _ {D S K : Type 0} (d : disks.Ghosts D) (k : sinks.Ghosts K) where
 
   -- one more event, of told events
   goes_on_more : (first now new : Point D S K) (es : List Event) (count more : ℕ) → now.limit ≡ first.limit →
-      (IsToldAt d first → LeavesOnly d.moment d.left_since now.world.disk new.world.disk
-      (StandsForEither now.reach.machine.state new.reach.machine.state)) →
+      LeavesOnly d.moment d.left_since now.world.disk new.world.disk
+      (StandsForEither now.reach.machine.state new.reach.machine.state) →
       (so_far : GoesOn d k first now count es) → AnswersFirst d k now new more so_far.rest →
       GoesOn d k first new (count + more) es
   goes_on_more first now new es count more limit run so_far answer =
@@ -205,17 +204,17 @@ module _ {D S K : Type 0} (d : disks.Ghosts D) (k : sinks.Ghosts K) where
         refused =
             ap (λ n. n + more) so_far.refused ∙ ap (λ n. refusals start done + n) answer.refused
             ∙ refusals_one start now.reach.machine done event machine;
-        leaves = λ is. both d.moment d.left_since first.world.disk now.world.disk new.world.disk
+        leaves = both d.moment d.left_since first.world.disk now.world.disk new.world.disk
             (StandsWithin start es 0 (length (then_one done event)))
             (weaker d.moment d.left_since first.world.disk now.world.disk (StandsWithin start es 0 (length done))
             (StandsWithin start es 0 (length (then_one done event)))
             (within_wider start es 0 (length done) 0 (length (then_one done event)) (omega arith)
-            (omega (arith, length-append done (event ∷ [])))) (so_far.leaves is))
+            (omega (arith, length-append done (event ∷ [])))) so_far.leaves)
             (weaker d.moment d.left_since now.world.disk new.world.disk
             (StandsForEither now.reach.machine.state new.reach.machine.state)
             (StandsWithin start es 0 (length (then_one done event)))
             (λ image either. within_either start now.reach.machine new.reach.machine es done others event image behind
-            machine stepped either) (run is));
+            machine stepped either) run);
       }
 
   -- one more event was carried out
@@ -223,10 +222,10 @@ module _ {D S K : Type 0} (d : disks.Ghosts D) (k : sinks.Ghosts K) where
       (IsToldAt d first → IsToldAt d now) → Goes d k first now count → Answers d k now new more →
       Goes d k first new (count + more)
   goes_more first now new count more limit stays goes answers = record {
-    each = λ es told.
-        let so_far : GoesOn d k first now count es = goes.each es told in
-        goes_on_more first now new es count more limit (λ is. answers.leaves (stays is)) so_far
-        (answers.each so_far.rest so_far.left);
+    each = λ is es told.
+        let so_far : GoesOn d k first now count es = goes.each is es told in
+        goes_on_more first now new es count more limit (answers.leaves (stays is)) so_far
+        (answers.each (stays is) so_far.rest so_far.left);
   }
 
   -- what is left makes up the whole text
@@ -256,10 +255,10 @@ module _ {D S K : Type 0} (d : disks.Ghosts D) (k : sinks.Ghosts K) where
 
   -- the first commit that there is no room for, behind others
   written_more : (first now : Point D S K) (new : World D S K) (count len need : ℕ) (es : List Event) →
-      now.limit ≡ first.limit → (so_far : GoesOn d k first now count es) → IsFull k now new len need →
+      now.limit ≡ first.limit → (so_far : GoesOn d k first now count es) → IsToldAt d now → IsFull d k now new len need →
       Writes (text first.reach.machine (fitting_at first.limit first.reach es)) (k.held first.world.out)
       (k.held new.out)
-  written_more first now new count len need es limit so_far full =
+  written_more first now new count len need es limit so_far told full =
       let front : List ℕ = text first.reach.machine so_far.done in
       let fits : List Event = fitting_at first.limit now.reach so_far.rest in
       let all : front ++ text now.reach.machine (fitting_at now.limit now.reach so_far.rest)
@@ -269,17 +268,19 @@ module _ {D S K : Type 0} (d : disks.Ghosts D) (k : sinks.Ghosts K) where
       subst (λ (l : List ℕ). Writes l (k.held first.world.out) (k.held new.out)) all
       (writes_both front (text now.reach.machine (fitting_at now.limit now.reach so_far.rest))
       (k.held first.world.out) (k.held now.world.out) (k.held new.out) so_far.written
-      (full.written so_far.rest so_far.left))
+      (full.written told so_far.rest so_far.left))
 
   full_more : (first now : Point D S K) (new : World D S K) (count len need : ℕ) → now.limit ≡ first.limit →
-      Goes d k first now count → IsFull k now new len need → IsFull k first new len need
-  full_more first now new count len need limit goes full = record {
+      (IsToldAt d first → IsToldAt d now) → Goes d k first now count → IsFull d k now new len need →
+      IsFull d k first new len need
+  full_more first now new count len need limit stays goes full = record {
     past = omega (arith, full.past, limit);
-    first = λ es told.
-        let so_far : GoesOn d k first now count es = goes.each es told in
+    first = λ is es told.
+        let so_far : GoesOn d k first now count es = goes.each is es told in
         so_far.room ∙ ap (λ (l : ℕ). first_beyond l now.reach so_far.rest) (sym limit)
-        ∙ full.first so_far.rest so_far.left;
-    written = λ es told. written_more first now new count len need es limit (goes.each es told) full;
+        ∙ full.first (stays is) so_far.rest so_far.left;
+    written = λ is es told.
+        written_more first now new count len need es limit (goes.each is es told) (stays is) full;
   }
 
   -- the run stopped at a turn
@@ -287,12 +288,12 @@ module _ {D S K : Type 0} (d : disks.Ghosts D) (k : sinks.Ghosts K) where
       now.limit ≡ first.limit → (IsToldAt d first → IsToldAt d now) → IsLater d s k first.world now.world →
       Goes d k first now count → Stops d s k now new why → Stops d s k first new why
   stops_more s first now new count why limit stays later goes stops = record {
-    front = λ es told.
-        let so_far : GoesOn d k first now count es = goes.each es told in
-        front_more first now new count es so_far (stops.front so_far.rest so_far.left);
+    front = λ is es told.
+        let so_far : GoesOn d k first now count es = goes.each is es told in
+        front_more first now new count es so_far (stops.front (stays is) so_far.rest so_far.left);
     safe = safely_more d k first now new count stays goes stops.safe;
-    cause = counted_since d s k first.world now.world new later why stops.cause;
-    full = λ len need is. full_more first now new count len need limit goes (stops.full len need is);
+    cause = counted_since d s k first.world now.world new later stays why stops.cause;
+    full = λ len need is. full_more first now new count len need limit stays goes (stops.full len need is);
   }
 
   -- where no event is left, all of them were carried out
@@ -300,8 +301,8 @@ module _ {D S K : Type 0} (d : disks.Ghosts D) (k : sinks.Ghosts K) where
       (IsToldAt d first → IsToldAt d now) → Goes d k first now count → Finds s now new →
       EndsSafely d k now new.world → Serves d s k first new.reach.machine new.world count
   serves_all s first now new count stays goes finds safe = record {
-    each = λ es told.
-        let so_far : GoesOn d k first now count es = goes.each es told in
+    each = λ is es told.
+        let so_far : GoesOn d k first now count es = goes.each is es told in
         let end = finds.ends.each so_far.rest so_far.left in
         let whole : so_far.done ≡ es =
         sym (append-nil so_far.done) ∙ ap (λ fs. so_far.done ++ fs) (sym end.2) ∙ so_far.parts in
@@ -318,8 +319,8 @@ module _ {D S K : Type 0} (d : disks.Ghosts D) (k : sinks.Ghosts K) where
               Adds (d.bytes first.world.disk) (d.bytes last) (all_made_at first.reach so_far.done)) (sym finds.disk)
               so_far.adds);
         };
-    reached = λ es told.
-        let so_far : GoesOn d k first now count es = goes.each es told in
+    reached = λ is es told.
+        let so_far : GoesOn d k first now count es = goes.each is es told in
         let end = finds.ends.each so_far.rest so_far.left in
         let whole : so_far.done ≡ es =
         sym (append-nil so_far.done) ∙ ap (λ fs. so_far.done ++ fs) (sym end.2) ∙ so_far.parts in

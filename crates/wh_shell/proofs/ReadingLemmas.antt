@@ -1,5 +1,5 @@
 -- What is unread where no line is left.
-use Rattle.std.proofs.Common.{◌≡◌, ℕ, List, [], ◌∷◌, ◌++◌, Option, Some, None, refl, sym, ap, ◌∙◌, option_map}
+use Rattle.std.proofs.Common.{◌≡◌, ℕ, List, [], ◌∷◌, Option, Some, None, refl, sym, ap, ◌∙◌, option_map}
 use Rattle.wh_grammar.specs.Script.{lines_of, lines_from}
 use Rattle.wh_machine.specs.Step as machine
 use Rattle.wh_text.specs.Turn.{ahead_and, Ends}

@@ -9,7 +9,6 @@ use Rattle.std.specs.Option.{option_to_list}
 use Rattle.std.proofs.lemmas.Bool.Decides.{nat_tests}
 use Rattle.wh_state.specs.Commit.{Commit}
 use Rattle.wh_state.specs.Written.{is_beyond, added_length}
-use Rattle.wh_machine.specs.Outcome.{Machine}
 use Rattle.wh_machine.specs.Step.{Event, after}
 use Rattle.wh_shell.specs.Room.{Reach, made_at, reach_after, all_made_at, reach_after_all, first_beyond, fitting_at}
 

@@ -5,8 +5,8 @@
 --     taken_not_yet, taken_on                      the turns so far
 --     taken_all, taken_stop                        how they end
 --     taken_never, ticks_take_none                 a run that reads no event, and one by the ticks
-use Rattle.std.proofs.Common.{◌≡◌, ℕ, zero, suc, ◌+◌, ◌≤◌, Bool, true, false, List, [], ◌∷◌, length, Option, Some, None}
-use Rattle.std.proofs.Common.{refl, sym, ap, ◌∙◌, option_map, arith}
+use Rattle.std.proofs.Common.{◌≡◌, ℕ, zero, suc, ◌+◌, Bool, false, List, [], length, Option, Some, None}
+use Rattle.std.proofs.Common.{refl, ap, ◌∙◌, option_map, arith}
 use Rattle.std.specs.Prelude.{Result, Ok, Err, IsErrAnd}
 use Rattle.wh_machine.specs.Step.{Event}
 use Rattle.wh_world.specs.Readings.{readings_after}
@@ -16,7 +16,7 @@ use Rattle.wh_shell.specs.Ticking.{readings_behind, Takes, TakesOf, TakesAtMost,
 use Rattle.wh_shell.specs.Ticking.{TakesSoFar, TakesFor}
 use Rattle.wh_shell.specs.declared.fault.Fault.{Fault}
 use Rattle.wh_shell.specs.declared.status.Status.{Status}
-use Rattle.wh_shell.specs.declared.status.Status.TheVariants.{Usage, Read, Stopped}
+use Rattle.wh_shell.specs.declared.status.Status.TheVariants.{Read, Stopped}
 
 none_behind : (rs : Option (List ℕ)) → rs ≡ option_map (readings_behind 0) rs
 none_behind None = refl

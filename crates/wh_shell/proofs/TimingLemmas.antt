@@ -6,7 +6,7 @@ use Rattle.std.specs.Prelude.{slice_index}
 use Rattle.wh_machine.specs.Step.{Event}
 use Rattle.wh_world.specs.Readings.{readings_after}
 use Rattle.wh_shell.specs.Reading.{GivesEvent, EndsEvents}
-use Rattle.wh_shell.specs.Timing.{Timing, timing_of, at_reading, with_readings, with_clock, timed, Times}
+use Rattle.wh_shell.specs.Timing.{timing_of, at_reading, timed, Times}
 
 -- timed events are some
 known : (system : Bool) (readings : Option (List ℕ)) (left : Option (List Event)) (es : List Event) →

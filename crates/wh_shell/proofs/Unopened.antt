@@ -1,8 +1,8 @@
 -- A run that opened no file.
 --     failed_runs        what a run promises whose file wasn't opened
 --     idle_runs          and where memory was wanting before
-use Rattle.std.proofs.Common.{◌≡◌, inl, inr, ℕ, ◌+◌, ◌-◌, ◌^◌, ◌<◌, ◌≤◌, List, [], ◌++◌, length, Some, refl, sym}
-use Rattle.std.proofs.Common.{ap, ◌∙◌, subst, arith, append-nil}
+use Rattle.std.proofs.Common.{◌≡◌, inl, inr, ℕ, ◌≤◌, List, [], ◌++◌, length, Some, refl, sym}
+use Rattle.std.proofs.Common.{ap, ◌∙◌, arith, append-nil}
 use Rattle.wh_state.specs.State.{State}
 use Rattle.wh_machine.specs.Outcome.{opened}
 use Rattle.wh_machine.specs.Step.{Event, text}
@@ -17,12 +17,11 @@ use Rattle.wh_journal.specs.declared.fault.OpenFault.{OpenFault}
 use Rattle.wh_journal.specs.declared.fault.OpenFault.TheVariants as opens
 use Rattle.wh_shell.specs.Crash.{Survives}
 use Rattle.wh_shell.specs.Fault.{fault_of_open, HasCause}
-use Rattle.wh_shell.specs.Full.{FillsFile, Fills}
+use Rattle.wh_shell.specs.Full.{Fills}
 use Rattle.wh_shell.specs.Promised.{RunsWithin}
-use Rattle.wh_shell.specs.Run.{IsStart, RefusesFile, Rejects, StopsTooLong}
+use Rattle.wh_shell.specs.Run.{IsStart, RefusesFile, StopsTooLong}
 use Rattle.wh_shell.specs.Timing.{Timing}
 use Rattle.wh_shell.specs.World.{World}
-use Rattle.wh_shell.specs.declared.fault.Fault.{Fault}
 use Rattle.wh_shell.specs.declared.fault.Fault.TheVariants.{OutOfMemory, FileFull}
 use Rattle.wh_shell.specs.declared.status.Status.{Status}
 use Rattle.wh_shell.specs.declared.status.Status.TheVariants.{Stopped}

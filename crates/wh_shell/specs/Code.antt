@@ -2,7 +2,7 @@
 use Rattle.std.specs.Prelude.{ℕ, zero, suc, Result, Ok, Err}
 use Rattle.wh_shell.specs.declared.fault.Fault.{Fault}
 use Rattle.wh_shell.specs.declared.fault.Fault.TheVariants.{OutOfMemory, Disk, Script, Output}
-use Rattle.wh_shell.specs.declared.fault.Fault.TheVariants.{NotWarehouse, FileFull, ScriptTooLong}
+use Rattle.wh_shell.specs.declared.fault.Fault.TheVariants.{NotWarehouse, Damaged, FileFull, ScriptTooLong}
 use Rattle.wh_shell.specs.declared.status.Status.{Status}
 use Rattle.wh_shell.specs.declared.status.Status.TheVariants.{Usage, Read, Stopped}
 
@@ -19,6 +19,7 @@ fault_code_of Output = 6
 fault_code_of (NotWarehouse at) = 7
 fault_code_of (FileFull len need) = 8
 fault_code_of (ScriptTooLong taken) = 9
+fault_code_of (Damaged at) = 10
 
 abbrev pub code_of : Status → ℕ
 code_of (Read zero) = 0

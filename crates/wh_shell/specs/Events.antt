@@ -1,7 +1,7 @@
 -- The events of a script, as a function: the same that the relation `IsScript` of wh_sessions gives it (`Laws.antt`).
 --     events_from     the events of lines, from a session and a reading on
 --     events          those of a script
-use Rattle.std.specs.Prelude.{ℕ, List, [], ◌∷◌, Option, Some, None}
+use Rattle.std.specs.Prelude.{ℕ, List, [], ◌∷◌, Some, None}
 use Rattle.wh_grammar.specs.Script.{Line, CommandLine, SessionLine, TickLine, lines_of}
 use Rattle.wh_machine.specs.Step.{Event, Tick}
 use Rattle.wh_decide.specs.Event.{command}

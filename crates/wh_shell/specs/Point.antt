@@ -18,7 +18,7 @@ pub record Point (D S K : Type 0) : Type 0 where
 
 abbrev pub point_of : {D S K : Type 0} {disk : Ghosts D} → Warehouse D disk → Option (List Event) → S → K → Point D S K
 point_of w left script out =
-    record { limit = limit_of w.journal; reach = reach_of w; left = left; world = world_of w.disk script out }
+    record { limit = limit_of w.journal; reach = reach_of w; left = left; world = world_of w.fetch.disk script out }
 
 abbrev pub IsToldAt : {D S K : Type 0} → Ghosts D → Point D S K → Type 0
 IsToldAt d p = IsTrue (is_some (d.bytes p.world.disk))

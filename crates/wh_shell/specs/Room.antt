@@ -17,7 +17,6 @@ use Rattle.wh_journal.specs.Journal.{end_of}
 use Rattle.wh_catalog.specs.Catalog.{stored_of}
 use Rattle.wh_engine.specs.Warehouse.{machine_of}
 use Rattle.wh_engine.specs.declared.warehouse.Warehouse.{Warehouse}
-use Rattle.wh_shell.specs.declared.fault.Fault.{Fault}
 use Rattle.wh_shell.specs.declared.fault.Fault.TheVariants.{FileFull}
 use Rattle.wh_shell.specs.declared.status.Status.{Status}
 use Rattle.wh_shell.specs.declared.status.Status.TheVariants.{Usage, Read, Stopped}

@@ -15,6 +15,8 @@ pub enum Fault {
     Output,
     /// The file is no warehouse: `at` is the position of its first fault.
     NotWarehouse { at: u64 },
+    /// A partition is damaged: its bytes should stand at `at`.
+    Damaged { at: u64 },
     /// A commit needs `need` bytes from `len` on, more than the file may have.
     FileFull { len: u64, need: u64 },
     /// More than 2^30 bytes were taken from the script: `taken` is their number.
@@ -69,7 +71,8 @@ impl From<Halt> for Fault {
         match halt {
             Halt::OutOfMemory => Fault::OutOfMemory,
             // A journal needs to be opened again only after a fault of its disk.
-            Halt::DiskFault | Halt::NeedsReopen { .. } => Fault::Disk,
+            Halt::DiskFault | Halt::ReadFault | Halt::NeedsReopen { .. } => Fault::Disk,
+            Halt::Damaged { at } => Fault::Damaged { at },
             Halt::FileFull { len, need } => Fault::FileFull { len, need },
         }
     }

@@ -8,7 +8,7 @@ ghost use Rattle.wh_engine.specs.Warehouse.{machine_of, led_to};
 ghost use Rattle.wh_engine.specs.Leaves.{Leaves};
 ghost use Rattle.wh_shell.specs.Code.{status_of};
 ghost use Rattle.wh_shell.specs.Events.{events};
-ghost use Rattle.wh_shell.specs.Open.{IsOpen, StaysOpen};
+ghost use Rattle.wh_shell.specs.Open.{IsOpen, IsTold, StaysOpen};
 ghost use Rattle.wh_shell.specs.Point.{point_of};
 ghost use Rattle.wh_shell.specs.Reading.{unread, awaited, Reads};
 ghost use Rattle.wh_shell.specs.Run.{StopsWhereTooLong};
@@ -44,14 +44,14 @@ pub(crate) fn serve<S: Source, K: Sink, D: Disk, C: Clock>(
     ensures served { IfOk result (Serves D.Disk S.Source K.Sink
         (point_of warehouse.old (timed (timing_of system (C.readings clock.old))
         (option_map events (S.left script.old))) script.old out.old)
-        (machine_of warehouse.new) (world_of warehouse.new.disk script.new out.new)) }
+        (machine_of warehouse.new) (world_of warehouse.new.fetch.disk script.new out.new)) }
     ensures ready { OnOk result (StaysOpen warehouse.old warehouse.new) }
 
     // Where it is stopped, a front of the text was written.
     ensures stopped { IfErr result (Stops D.Disk S.Source K.Sink
         (point_of warehouse.old (timed (timing_of system (C.readings clock.old))
         (option_map events (S.left script.old))) script.old out.old)
-        (world_of warehouse.new.disk script.new out.new)) }
+        (world_of warehouse.new.fetch.disk script.new out.new)) }
     ensures long { StopsWhereTooLong S.Source script.old script.new (status_of result) }
     ensures clock { TakesFor C.Clock system (option_map events (S.left script.old))
         (status_of result) clock.old clock.new }
@@ -101,13 +101,13 @@ fn turn<S: Source, K: Sink, D: Disk, C: Clock>(
     ensures stopped { IfErr result (Stops D.Disk S.Source K.Sink
         (point_of warehouse.old (awaited system (C.readings clock.old) reader.old (S.left script.old))
         script.old out.old)
-        (world_of warehouse.new.disk script.new out.new)) }
+        (world_of warehouse.new.fetch.disk script.new out.new)) }
     ensures full { (len need : ℕ) → IsErrOf result (Fault.FileFull len need) → out.new ≡ out.old }
     ensures reads { Reads reader.old.script reader.new.script
         (S.left script.old) (S.left script.new) result Fault.ScriptTooLong }
     ensures later { IsLater D.Disk S.Source K.Sink
-        (world_of warehouse.old.disk script.old out.old)
-        (world_of warehouse.new.disk script.new out.new) }
+        (world_of warehouse.old.fetch.disk script.old out.old)
+        (world_of warehouse.new.fetch.disk script.new out.new) }
     ensures clock { TakesTurn C.Clock system (unread reader.old (S.left script.old))
         (unread reader.new (S.left script.new)) result clock.old clock.new }
 {
@@ -130,8 +130,10 @@ fn answer<K: Sink, D: Disk>(
     out: &mut K,
 ) -> Result<u64, Fault>
     requires { IsOpen warehouse.old }
-    ensures carried { IfOk result (Carries K.Sink warehouse.old warehouse.new
+    // Over a told file.
+    ensures carried { IsTold warehouse.old → IfOk result (Carries K.Sink warehouse.old warehouse.new
         (event_of event.now) out.old out.new) }
+    ensures few { IfOk result (λ count. count ≤ 1) }
     ensures ready { OnOk result (StaysOpen warehouse.old warehouse.new) }
 
     // Where it is stopped, a front of the reply was written.
@@ -141,7 +143,7 @@ fn answer<K: Sink, D: Disk>(
     // Over any outcome.
     ensures any_moment { Leaves warehouse.old warehouse.new
         (led_to warehouse.old (event_of event.now)).state }
-    ensures disk_later { D.faults warehouse.old.disk ≤ D.faults warehouse.new.disk }
+    ensures disk_later { D.faults warehouse.old.fetch.disk ≤ D.faults warehouse.new.fetch.disk }
     ensures out_later { K.faults out.old ≤ K.faults out.new }
 {
     let reply = warehouse.carry_out(rt, event)?;

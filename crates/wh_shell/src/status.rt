@@ -53,6 +53,7 @@ impl Fault {
             Fault::NotWarehouse { .. } => 7,
             Fault::FileFull { .. } => 8,
             Fault::ScriptTooLong { .. } => 9,
+            Fault::Damaged { .. } => 10,
         }
     }
 }

@@ -6,6 +6,8 @@ mod running;
 #[cfg(test)]
 mod runs;
 #[cfg(test)]
+mod spoilt;
+#[cfg(test)]
 mod stops;
 #[cfg(test)]
 mod told;

@@ -163,11 +163,11 @@ fn assert_stop(rt: &(impl Abort + Threads + Sync), alloc: Global, script: &[u8],
 fn each_file_that_a_failed_call_may_leave_holds_what_was_answered(rt: HostRuntime) {
     let alloc = rt.alloc();
     let script = commands_from(&rt, alloc, 0);
-    // Four calls to open, and four for each commit.
-    for call in 1..45u64 {
+    // Four calls to open, four for each commit, and two for each of four partitions that are read.
+    for call in 1..53u64 {
         assert_stop(&rt, alloc, &script, call);
     }
-    let done = stopped(&rt, alloc, b"", &script, &[45]);
+    let done = stopped(&rt, alloc, b"", &script, &[53]);
     assert_eq!(rt; done.status, Status::Read { refusals: 0 });
 }
 
@@ -266,7 +266,7 @@ fn each_front_of_a_file_holds_whole_commits_or_has_a_first_fault(rt: HostRuntime
     let alloc = rt.alloc();
     let script = commands_from(&rt, alloc, 0);
     let sizes = sizes(&rt, alloc);
-    for call in 4..46u64 {
+    for call in 4..54u64 {
         assert_fronts(&rt, alloc, &script, &sizes, call);
     }
 }

@@ -1,7 +1,7 @@
 //! Scripts that are stopped at every call of the disk, and what is listed of the file that is left:
 //! transactions of two sessions, and commits that consume a stream.
 
-use crate::running::stopped;
+use crate::running::{RunEnd, stopped};
 use std::alloc::Global;
 use std::process::Abort;
 use std::thread::Threads;
@@ -179,10 +179,14 @@ fn pick_holds(
     held == Some(told) || held == Some(told.saturating_add(1))
 }
 
-/// The script is stopped at that call: what is left is what was told.
-fn assert_stop(rt: &(impl Abort + Threads + Sync), alloc: Global, commits: &Commits, call: u64) {
-    let left = stopped(rt, alloc, b"", commits.script, &[call]);
-    assert_eq!(rt; left.status, Status::Stopped(Fault::Disk), "call {call}");
+/// What is left of a script that is stopped at a call is what was told.
+fn assert_stop(
+    rt: &(impl Abort + Threads + Sync),
+    alloc: Global,
+    commits: &Commits,
+    call: u64,
+    left: &RunEnd,
+) {
     let told = commits_told(left.out.held());
     // The synced bytes, what a read gives, and what is torn within the first bytes.
     for pick in 0..100u64 {
@@ -191,11 +195,15 @@ fn assert_stop(rt: &(impl Abort + Threads + Sync), alloc: Global, commits: &Comm
     }
 }
 
-/// The script isn't stopped before that call: all of its commits are told, and in the file.
-fn assert_whole(rt: &(impl Abort + Threads + Sync), alloc: Global, commits: &Commits, call: u64) {
-    let done = stopped(rt, alloc, b"", commits.script, &[call]);
+/// The script isn't stopped: all of its commits are told, and in the file.
+fn assert_whole(
+    rt: &(impl Abort + Threads + Sync),
+    alloc: Global,
+    commits: &Commits,
+    done: &RunEnd,
+) {
     let refusals = commits.refusals;
-    assert_eq!(rt; done.status, Status::Read { refusals }, "call {call}");
+    assert_eq!(rt; done.status, Status::Read { refusals });
     let told = commits_told(done.out.held());
     assert_eq!(rt; told.saturating_add(1), commits.held.listed.len(), "told");
     assert_eq!(rt;
@@ -205,30 +213,49 @@ fn assert_whole(rt: &(impl Abort + Threads + Sync), alloc: Global, commits: &Com
     );
 }
 
-/// The script is stopped at each of its calls: four to open, and four for each commit, which is one
-/// record.
-fn assert_stops(rt: &(impl Abort + Threads + Sync), alloc: Global, commits: &Commits) {
-    let mut call = 1u64;
-    for _ in commits.held.listed {
-        for _ in 0..4 {
-            assert_stop(rt, alloc, commits, call);
-            call = call.saturating_add(1);
-        }
+/// Whether that call stops the script.
+fn is_stopped(
+    rt: &(impl Abort + Threads + Sync),
+    alloc: Global,
+    commits: &Commits,
+    call: u64,
+) -> bool {
+    let end = stopped(rt, alloc, b"", commits.script, &[call]);
+    if end.status == Status::Stopped(Fault::Disk) {
+        assert_stop(rt, alloc, commits, call, &end);
+        return true;
     }
-    assert_whole(rt, alloc, commits, call);
+    assert_whole(rt, alloc, commits, &end);
+    false
+}
+
+/// The script is stopped at each of its calls: four to open, four for each commit, which is one
+/// record, and two for each partition that is read.
+fn assert_stops(rt: &(impl Abort + Threads + Sync), alloc: Global, commits: &Commits, reads: u64) {
+    let records = commits.held.listed.len() as u64;
+    let last = records
+        .saturating_mul(4)
+        .saturating_add(reads.saturating_mul(2));
+    for call in 1..=last {
+        assert!(rt; is_stopped(rt, alloc, commits, call), "call {call}");
+    }
+    assert!(rt;
+        !is_stopped(rt, alloc, commits, last.saturating_add(1)),
+        "{last}"
+    );
 }
 
 #[test]
 fn a_stop_in_transactions_leaves_the_commits_that_were_told(rt: HostRuntime) {
-    assert_stops(&rt, rt.alloc(), &TRANSACTIONS);
+    assert_stops(&rt, rt.alloc(), &TRANSACTIONS, 2);
 }
 
 #[test]
 fn a_stop_while_changes_are_moved_on_leaves_them_moved_once(rt: HostRuntime) {
-    assert_stops(&rt, rt.alloc(), &CHANGES);
+    assert_stops(&rt, rt.alloc(), &CHANGES, 2);
 }
 
 #[test]
 fn a_stop_while_appended_rows_are_moved_on_leaves_them_moved_once(rt: HostRuntime) {
-    assert_stops(&rt, rt.alloc(), &APPENDED);
+    assert_stops(&rt, rt.alloc(), &APPENDED, 3);
 }

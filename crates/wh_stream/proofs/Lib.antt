@@ -1,1 +1,2 @@
 pub mod RowIdLaws
+mod ShownLaws

@@ -2,6 +2,7 @@
 #![tactic(auto, unfolding(wh_catalog::specs::Catalog::state_of))]
 
 mod changes;
+mod loaded;
 mod reading;
 mod rows;
 mod staleness;

@@ -161,7 +161,7 @@ highest_kept test (k ∷ kept) = pick (test k) (highest_kept test kept)
   where
     pick : (b : Bool) → highest_number (partitions_in (filter test kept)) ≤ highest_number (partitions_in kept)
         → highest_number (partitions_in (cond b (k ∷ filter test kept) (filter test kept)))
-        ≤ max (last_number k.partition.rows) (highest_number (partitions_in kept))
+        ≤ max (last_number k.filed.partition.rows) (highest_number (partitions_in kept))
     pick true rest = omega arith
     pick false rest = omega arith
 
@@ -176,31 +176,34 @@ changed_apart removed ps added apart more =
 
 -- ---- those that stand and stay
 
+-- gone, or among the removed, or it passes the test
+abbrev passes : (Partition → Bool) → List ℕ → Lasting → Bool
+passes test removed k =
+    not (is_standing k) || (is_among k.filed.partition.number removed || test k.filed.partition)
+
 list_all_stay : (test : Partition → Bool) (removed : List ℕ) (kept : List Lasting)
     → list_all test (without removed (partitions_in (filter is_standing kept)))
-    ≡ list_all (λ k. not (is_standing k) || (is_among k.partition.number removed || test k.partition)) kept
+    ≡ list_all (passes test removed) kept
 list_all_stay test removed [] = refl
 list_all_stay test removed (k ∷ kept) = pick (is_standing k) (list_all_stay test removed kept)
   where
     inner : (g : Bool) → list_all test (without removed (partitions_in (filter is_standing kept)))
-        ≡ list_all (λ k. not (is_standing k) || (is_among k.partition.number removed || test k.partition)) kept
-        → list_all test (cond (not g) (k.partition ∷ without removed (partitions_in (filter is_standing kept)))
+        ≡ list_all (passes test removed) kept
+        → list_all test (cond (not g) (k.filed.partition ∷ without removed (partitions_in (filter is_standing kept)))
         (without removed (partitions_in (filter is_standing kept))))
-        ≡ ((g || test k.partition)
-        && list_all (λ k. not (is_standing k) || (is_among k.partition.number removed || test k.partition)) kept)
+        ≡ ((g || test k.filed.partition) && list_all (passes test removed) kept)
     inner true rest = rest
-    inner false rest = ap (λ b. test k.partition && b) rest
+    inner false rest = ap (λ b. test k.filed.partition && b) rest
 
     pick : (s : Bool) → list_all test (without removed (partitions_in (filter is_standing kept)))
-        ≡ list_all (λ k. not (is_standing k) || (is_among k.partition.number removed || test k.partition)) kept
+        ≡ list_all (passes test removed) kept
         → list_all test (filter (λ p. not (is_among p.number removed))
         (partitions_in (cond s (k ∷ filter is_standing kept) (filter is_standing kept))))
-        ≡ ((not s || (is_among k.partition.number removed || test k.partition))
-        && list_all (λ k. not (is_standing k) || (is_among k.partition.number removed || test k.partition)) kept)
+        ≡ ((not s || (is_among k.filed.partition.number removed || test k.filed.partition))
+        && list_all (passes test removed) kept)
     pick false rest = rest
-    pick true rest = inner (is_among k.partition.number removed) rest
+    pick true rest = inner (is_among k.filed.partition.number removed) rest
 
 pub stay : (test : Partition → Bool) (removed : List ℕ) (kept : List Lasting)
-    → list_all (λ k. not (is_standing k) || (is_among k.partition.number removed || test k.partition)) kept
-    ≡ list_all test (without removed (partitions_in (filter is_standing kept)))
+    → list_all (passes test removed) kept ≡ list_all test (without removed (partitions_in (filter is_standing kept)))
 stay test removed kept = sym (list_all_stay test removed kept)

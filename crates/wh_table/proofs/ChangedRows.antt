@@ -2,13 +2,13 @@
 --     held, get_rows              the row that stands at a number
 --     mixed_each, mixed_apart     what holds of mixed partitions holds of each of the two lists
 --     found_rising, found_apart   what always holds of a table's versions holds of the one that is found
---     are_changes                 the rows of those that went and came
+--     turns_over                  those that went and came are apart, and have what changed
 use Rattle.std.proofs.Common.{◌≡◌, ℕ, ◌+◌, ◌<◌, ◌≤◌, ◌⊎◌, inl, inr, Bool, true, false, cond, List, [], ◌∷◌, ◌++◌}
 use Rattle.std.proofs.Common.{Option, Some, None, IsTrue, refl, sym, ap, subst, ◌∙◌, arith, nat_le}
 use Rattle.std.proofs.lemmas.Bool.Decides.{nat_tests}
 use Rattle.std.specs.List.{AllByRecursion, list_all, filter}
 use Rattle.std.specs.Ordering.{nat_cmp, eq_by_cmp}
-use Rattle.std.specs.FinMap.{get, insert, empty, entries, get-empty}
+use Rattle.std.specs.FinMap.{get, insert, empty, get-empty}
 use Rattle.wh_value.specs.Value.{Row}
 use Rattle.wh_frame.specs.Partition.{Partition, first_number, last_number}
 use Rattle.wh_frame.specs.Spelling.{RisesFrom}
@@ -23,9 +23,10 @@ use Rattle.wh_version.specs.Times.{data_at}
 use Rattle.wh_version.specs.Turnover.{IsMixed, IsTurnover}
 use Rattle.wh_table.specs.Apart.{is_apart, is_rising}
 use Rattle.wh_table.specs.Rows.{all_rows}
-use Rattle.wh_table.specs.Changes.{IsShown, AreChanges}
+use Rattle.wh_table.specs.Changes.{IsShown}
+use Rattle.wh_table.specs.Shown.{TurnsOver}
 use Rattle.wh_table.proofs.TableBag.{head_last, tail_last}
-use Rattle.wh_table.proofs.Standing.{all_more}
+use Rattle.wh_table.proofs.StandingLaws.{all_more}
 use Rattle.wh_table.proofs.Apart.{Decides-all_apart}
 use Rattle.wh_table.proofs.Pushed.{last_apart}
 use Rattle.wh_table.proofs.Rising.{all_rising, last_rising, each_filter}
@@ -332,19 +333,20 @@ shown went came old new turnover old_up old_apart new_up new_apart n = by_stay (
           get_rows came n ∙ held_clear n came None rising.1 clear,
         )
 
-pub are_changes : (went came old new : List Partition) (went_rows came_rows : List (ℕ × Row))
-    → IsTurnover went came old new → AllByRecursion HasRisingRows old → AllApart [] old
-    → AllByRecursion HasRisingRows new → AllApart [] new
-    → (AllApart [] went → went_rows ≡ entries (rows_of went)) → (AllApart [] came → came_rows ≡ entries (rows_of came))
-    → AreChanges went_rows came_rows (rows_of old) (rows_of new)
-are_changes went came old new went_rows came_rows turnover old_up old_apart new_up new_apart is_went is_came =
+pub turns_over : (went came old new : List Partition) → IsTurnover went came old new
+    → AllByRecursion HasRisingRows old → AllApart [] old → AllByRecursion HasRisingRows new → AllApart [] new
+    → TurnsOver went came (rows_of old) (rows_of new)
+turns_over went came old new turnover old_up old_apart new_up new_apart =
     let old_two = apart_by_two old old_apart in
     let new_two = apart_by_two new new_apart in
     record {
-      gone = rows_of went;
-      arrived = rows_of came;
-      by_went = is_went (apart_again went (mixed_apart turnover.stay went old turnover.before old_two));
-      by_came = is_came (apart_again came (behind_apart turnover.stay came
-          (subst EachApart turnover.after new_two)));
-      each = shown went came old new turnover old_up old_two new_up new_two;
+      went_apart = apart_again went (mixed_apart turnover.stay went old turnover.before old_two);
+      came_apart = apart_again came (behind_apart turnover.stay came (subst EachApart turnover.after new_two));
+      changes = record {
+        gone = rows_of went;
+        arrived = rows_of came;
+        by_went = refl;
+        by_came = refl;
+        each = shown went came old new turnover old_up old_two new_up new_two;
+      };
     }

@@ -8,7 +8,10 @@ pub mod OrderlyTables
 pub mod Chain
 pub mod ChangedRows
 pub mod Entries
-pub mod Standing
+pub mod StandingLaws
 pub mod Edited
+mod EvenRows
+mod Asked
 mod ArrivedRows
 pub mod MomentRows
+pub mod HoldLaws

@@ -23,14 +23,15 @@ numbers_rise : (keep : Lasting → Bool) (low next : ℕ) (kept : List Lasting) 
     → NumbersRiseFrom low (map (λ p. p.number) (partitions_in (filter keep kept)))
 numbers_rise keep low next [] under few numbers = tt
 numbers_rise keep low next (k ∷ kept) under few numbers =
-    let parts = and_parts (nat_eq k.partition.number next) (numbered_from (next + 1) (partitions_in kept)) numbers in
-    let here : k.partition.number ≡ next = eqb-true k.partition.number next parts.0 in
+    let parts =
+    and_parts (nat_eq k.filed.partition.number next) (numbered_from (next + 1) (partitions_in kept)) numbers in
+    let here : k.filed.partition.number ≡ next = eqb-true k.filed.partition.number next parts.0 in
     pick (keep k) here (numbers_rise keep low (next + 1) kept (omega arith) (omega arith) parts.1)
-    (numbers_rise keep (k.partition.number + 1) (next + 1) kept (omega arith) (omega arith) parts.1)
+    (numbers_rise keep (k.filed.partition.number + 1) (next + 1) kept (omega arith) (omega arith) parts.1)
   where
-    pick : (s : Bool) → k.partition.number ≡ next
+    pick : (s : Bool) → k.filed.partition.number ≡ next
         → NumbersRiseFrom low (map (λ p. p.number) (partitions_in (filter keep kept)))
-        → NumbersRiseFrom (k.partition.number + 1) (map (λ p. p.number) (partitions_in (filter keep kept)))
+        → NumbersRiseFrom (k.filed.partition.number + 1) (map (λ p. p.number) (partitions_in (filter keep kept)))
         → NumbersRiseFrom low
         (map (λ p. p.number) (partitions_in (cond s (k ∷ filter keep kept) (filter keep kept))))
     pick true here passed taken = (omega arith, omega arith, taken)
@@ -43,7 +44,8 @@ front_numbered : (count next : ℕ) (kept : List Lasting) → IsTrue (numbered_f
 front_numbered zero next kept numbers = refl
 front_numbered (suc count) next [] numbers = refl
 front_numbered (suc count) next (k ∷ kept) numbers =
-    let parts = and_parts (nat_eq k.partition.number next) (numbered_from (next + 1) (partitions_in kept)) numbers in
+    let parts =
+    and_parts (nat_eq k.filed.partition.number next) (numbered_from (next + 1) (partitions_in kept)) numbers in
     and_from _ _ parts.0 (front_numbered count (next + 1) kept parts.1)
 
 front_few : (count : ℕ) (kept : List Lasting) → length (take count kept) ≤ length kept

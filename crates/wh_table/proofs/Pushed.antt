@@ -1,13 +1,16 @@
 -- A version more, or less, of a table.
-use Rattle.std.proofs.Common.{◌≡◌, ℕ, Bool, true, false, List, [], ◌∷◌, ◌++◌, length, map, take, Some, IsTrue, refl, ap}
-use Rattle.std.proofs.Common.{◌∙◌, arith, length-append}
+use Rattle.std.proofs.Common.{◌≡◌, ℕ, ◌-◌, Bool, true, false, List, [], ◌∷◌, ◌++◌, length, map, take, Some, IsTrue}
+use Rattle.std.proofs.Common.{refl, ap, ◌∙◌, arith, length-append}
 use Rattle.std.proofs.lemmas.List.{take-append-le, take_all}
 use Rattle.std.specs.List.{list_all}
 use Rattle.std.proofs.lemmas.Bool.{and_parts}
 use Rattle.wh_state.specs.State.{last_of, content_in, nothing_held}
 use Rattle.wh_state.specs.Stored.{StoredVersion, version_meant, rows_of}
 use Rattle.wh_version.specs.Lists.{behind, shortened, but_last}
-use Rattle.wh_version.specs.History.{standing_in, next_in, popped}
+use Rattle.wh_filed.specs.Filed.{Filed}
+use Rattle.wh_version.specs.declared.history.History.{History}
+use Rattle.wh_version.specs.History.{filed_of, nexts_of, standing_in, next_in, popped}
+use Rattle.wh_version.proofs.FiledAgain.{count_filed}
 use Rattle.wh_table.specs.Apart.{all_apart, is_apart}
 
 pub last_of-push : {X : Type 0} (xs : List X) (x : X) → last_of (xs ++ x ∷ []) ≡ Some x
@@ -35,6 +38,16 @@ pub popped-push : {X : Type 0} (b : Bool) (y : X) (ys : List X) (x : X)
     → popped b (behind b (y ∷ ys) ++ x ∷ []) ≡ behind b (y ∷ ys)
 popped-push true y ys x = but_last-push ys x
 popped-push false y ys x = shortened-push y ys x
+
+-- what stood in the file before more was added
+pub filed_back : (h : History) (nexts : List ℕ) (all added : List Filed) → shortened nexts ≡ nexts_of h
+    → all ≡ filed_of h ++ added
+    → take (next_in (shortened nexts) - 1) all ≡ filed_of h
+filed_back h nexts all added less more =
+    let count = ap next_in less ∙ count_filed h in
+    ap (take (next_in (shortened nexts) - 1)) more
+    ∙ take-append-le (next_in (shortened nexts) - 1) (filed_of h) added (omega (arith, count))
+    ∙ take_all (next_in (shortened nexts) - 1) (filed_of h) (omega (arith, count))
 
 -- ---- versions whose partitions are apart
 

@@ -2,6 +2,7 @@ pub mod Apart
 pub mod Rows
 pub mod Chain
 pub mod Changes
+pub mod Shown
 pub mod Conditions
 pub mod Undoable
 pub mod Table

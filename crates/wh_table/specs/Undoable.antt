@@ -1,10 +1,11 @@
 -- Tables with what it takes to take a version back.
---     KeptTable      a table with the number that its next partition had after each version, and whether it was created
---                    without one
+--     KeptTable      a table with the number that its next partition had after each version, whether it was created
+--                    without one, and each partition of each version as it stands in the file
 --     table_in       what the file says of it
 --     taken_back     the table without its last version
-use Rattle.std.specs.Prelude.{ℕ, Bool, List}
+use Rattle.std.specs.Prelude.{ℕ, ◌-◌, Bool, List, take}
 use Rattle.wh_value.specs.Column.{Column}
+use Rattle.wh_filed.specs.Filed.{Filed}
 use Rattle.wh_state.specs.Stored.{StoredVersion, StoredTable}
 use Rattle.wh_version.specs.Lists.{shortened}
 use Rattle.wh_version.specs.History.{next_in, popped}
@@ -17,6 +18,7 @@ pub record KeptTable : Type 0 where
   pub next_row : ℕ
   pub versions : List StoredVersion
   pub nexts : List ℕ
+  pub filed : List Filed
 
 abbrev pub table_in : KeptTable → StoredTable
 table_in t = record {
@@ -30,4 +32,9 @@ table_in t = record {
 
 -- the next row is that of before
 abbrev pub taken_back : ℕ → KeptTable → KeptTable
-taken_back next_row t = record t { next_row = next_row; versions = popped t.starts_empty t.versions; nexts = shortened t.nexts }
+taken_back next_row t = record t {
+  next_row = next_row;
+  versions = popped t.starts_empty t.versions;
+  nexts = shortened t.nexts;
+  filed = take (next_in (shortened t.nexts) - 1) t.filed;
+}

@@ -5,6 +5,7 @@ ghost use Rattle.wh_state.specs.Edits.{without, is_among};
 ghost use Rattle.wh_version.specs.Lasting.{is_standing, partitions_in};
 ghost use Rattle.wh_table.specs.Apart.{are_apart, all_apart};
 
+use wh_filed::FiledPartition;
 use wh_part::Partition;
 use wh_version::Lasting;
 
@@ -32,8 +33,8 @@ fn is_free(partition: &Partition, kept: &[Lasting], removed: &[u64], earlier: &[
 
 fn is_apart_from_kept(partition: &Partition, kept: &[Lasting], removed: &[u64]) -> bool
     ensures { result ≡ list_all (λ k. not (is_standing k)
-        || (is_among k.partition.number removed.now
-        || are_apart partition.now k.partition)) kept.now }
+        || (is_among k.filed.partition.number removed.now
+        || are_apart partition.now k.filed.partition)) kept.now }
 {
     kept.iter()
         .all(|one| is_gone_or_apart(partition, one, removed))
@@ -41,12 +42,12 @@ fn is_apart_from_kept(partition: &Partition, kept: &[Lasting], removed: &[u64]) 
 
 fn is_gone_or_apart(partition: &Partition, one: &Lasting, removed: &[u64]) -> bool
     ensures { result ≡ (not (is_standing one.now)
-        || (is_among one.now.partition.number removed.now
-        || are_apart partition.now one.now.partition)) }
+        || (is_among one.now.filed.partition.number removed.now
+        || are_apart partition.now one.now.filed.partition)) }
 {
     !one.stands()
-        || is_apart(partition, one.partition())
-        || is_among(one.partition().number(), removed)
+        || is_apart_from_filed(partition, one.filed())
+        || is_among(one.filed().number(), removed)
 }
 
 /// Whether it is one of the numbers.
@@ -60,6 +61,12 @@ fn is_apart_from(partition: &Partition, others: &[Partition]) -> bool
     ensures { result ≡ list_all (are_apart partition.now) others.now }
 {
     others.iter().all(|other| is_apart(partition, other))
+}
+
+fn is_apart_from_filed(partition: &Partition, other: &FiledPartition) -> bool
+    ensures { result ≡ are_apart partition.now other.now.partition }
+{
+    partition.last() < other.first() || other.last() < partition.first()
 }
 
 fn is_apart(partition: &Partition, other: &Partition) -> bool

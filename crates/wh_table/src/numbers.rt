@@ -36,7 +36,7 @@ pub(crate) fn highest_kept(history: &History) -> u64
     let kept = history.kept();
     let mut so_far: u64 = 0;
     for one in kept {
-        so_far = so_far.max(one.partition().last());
+        so_far = so_far.max(one.filed().last());
     }
     so_far
 }

@@ -1,25 +1,34 @@
 use crate::numbers::{highest_kept, highest_of};
 use crate::{StageFault, StoredTable};
-use std::alloc::AllocError;
+use std::alloc::{AllocError, Global};
 use wh_record::VersionChange;
 
 impl StoredTable {
-    ghost use Rattle.std.specs.Prelude.{◌≡◌, ◌≤◌, OnOk, OnErr, IsErrOf};
+    ghost use Rattle.std.specs.Prelude.{◌≡◌, ◌≤◌, ◌++◌, OnOk, OnErr, IsErrOf};
     ghost use Rattle.wh_value.specs.Limit.{bound};
     ghost use Rattle.wh_value.specs.declared.limit.Limit.TheVariants as limits;
     ghost use Rattle.wh_state.specs.Commit.{VersionApplies, pushed};
+    ghost use Rattle.wh_record.specs.Places.{filed_in_version};
     ghost use Rattle.wh_record.specs.View.{version_change_of};
     ghost use Rattle.wh_table.specs.Undoable.{taken_back};
     ghost use Rattle.wh_table.specs.Table.{table_of, kept_table};
 
-    /// Adds a version, if it applies.
-    pub fn push(&mut self, change: VersionChange, stamp: u64) -> Result<(), StageFault>
+    /// Adds a version, if it applies. The change's tag stands at that position in the file.
+    pub fn push(
+        &mut self,
+        alloc: Global,
+        change: VersionChange,
+        stamp: u64,
+        at: u64,
+    ) -> Result<(), StageFault>
         ensures applies { OnOk result (VersionApplies (table_of self.old)
             (version_change_of change)) }
         ensures pushed { OnOk result (table_of self.new
             ≡ pushed stamp (version_change_of change) (table_of self.old)) }
         ensures back { OnOk result (taken_back (table_of self.old).next_row (kept_table self.new)
             ≡ kept_table self.old) }
+        ensures filed { OnOk result ((kept_table self.new).filed
+            ≡ (kept_table self.old).filed ++ filed_in_version at (version_change_of change)) }
         ensures not_applicable { IsErrOf result StageFault.NotApplicable
             → VersionApplies (table_of self.old) (version_change_of change) → ⊥ }
         ensures same { OnErr result (kept_table self.new ≡ kept_table self.old) }
@@ -27,24 +36,32 @@ impl StoredTable {
         if !self.takes(&change) {
             return Err(StageFault::NotApplicable);
         }
-        match self.add_version(change, stamp) {
+        match self.add_version(alloc, change, stamp, at) {
             Ok(()) => Ok(()),
             Err(_) => Err(StageFault::OutOfMemory),
         }
     }
 
-    fn add_version(&mut self, change: VersionChange, stamp: u64) -> Result<(), AllocError>
+    fn add_version(
+        &mut self,
+        alloc: Global,
+        change: VersionChange,
+        stamp: u64,
+        at: u64,
+    ) -> Result<(), AllocError>
         requires { VersionApplies (table_of self.old) (version_change_of change) }
         ensures pushed { OnOk result (table_of self.new
             ≡ pushed stamp (version_change_of change) (table_of self.old)) }
         ensures back { OnOk result (taken_back (table_of self.old).next_row (kept_table self.new)
             ≡ kept_table self.old) }
+        ensures filed { OnOk result ((kept_table self.new).filed
+            ≡ (kept_table self.old).filed ++ filed_in_version at (version_change_of change)) }
         ensures same { OnErr result (kept_table self.new ≡ kept_table self.old) }
     {
         let highest = highest_of(self.highest, &change.added);
-        let added = change.added;
+        let filed = change.filed(alloc, at)?;
         self.history
-            .push(stamp, change.data_timestamp, &change.removed, added)?;
+            .push(stamp, change.data_timestamp, &change.removed, filed)?;
         self.highest = highest;
         self.next_row = change.next_row;
         Ok(())

@@ -1,36 +1,35 @@
-use crate::StoredTable;
+ghost use Rattle.std.specs.Prelude.{◌≡◌, ◌++◌, OnOk, IfOk};
+ghost use Rattle.std.specs.FinMap.{values};
+ghost use Rattle.wh_meaning.specs.Bag.{bag_of};
+ghost use Rattle.wh_state.specs.State.{Rows};
+ghost use Rattle.wh_filed.specs.Filed.{loaded_of};
+ghost use Rattle.wh_table.specs.Rows.{rows_at, rows_only, all_rows, partitions_at};
+ghost use Rattle.wh_table.specs.Shown.{Holds};
+
+use crate::gathering::gathered;
 use std::alloc::{AllocError, Global};
+use std::sync::Arc;
 use wh_part::Partition;
 use wh_value::Row;
 
-impl StoredTable {
-    ghost use Rattle.std.specs.Prelude.{◌≡◌, IfOk};
-    ghost use Rattle.std.specs.FinMap.{values};
-    ghost use Rattle.wh_meaning.specs.Bag.{bag_of};
-    ghost use Rattle.wh_state.specs.State.{last_rows};
-    ghost use Rattle.wh_state.specs.Stored.{table_meant};
-    ghost use Rattle.wh_table.specs.Rows.{rows_at};
-    ghost use Rattle.wh_table.specs.Table.{table_of};
-
-    /// The rows of the last version, as its partitions keep them.
-    pub fn rows(&self, alloc: Global) -> Result<Vec<&Row>, AllocError>
-        ensures { IfOk result (λ rows. bag_of (rows_at rows.items)
-            ≡ bag_of (values (last_rows (table_meant (table_of self.now))))) }
-    {
-        let standing = self.history.standing(alloc)?;
-        let rows = rows_in(&standing, alloc)?;
-        Ok(rows)
-    }
+/// The rows of partitions that were loaded and made, where these keep them: each as often as it
+/// stands, if the partitions hold rows.
+pub fn rows_of<'a>(
+    alloc: Global,
+    stored: &'a [Arc<Partition>],
+    made: &'a [Partition],
+) -> Result<Vec<&'a Row>, AllocError>
+    ensures { IfOk result (λ found. (rows : Rows)
+        → Holds (loaded_of stored.now ++ made.now) rows
+        → bag_of (rows_at found.items) ≡ bag_of (values rows)) }
+{
+    let partitions = gathered(alloc, stored, made)?;
+    let rows = rows_in(&partitions, alloc)?;
+    Ok(rows)
 }
 
-ghost use Rattle.std.specs.Prelude.{◌≡◌, ◌++◌, OnOk, IfOk};
-ghost use Rattle.wh_table.specs.Rows.{rows_at, rows_only, all_rows, partitions_at};
-
-/// The rows of partitions.
-pub(crate) fn rows_in<'a>(
-    partitions: &[&'a Partition],
-    alloc: Global,
-) -> Result<Vec<&'a Row>, AllocError>
+// The rows of partitions.
+fn rows_in<'a>(partitions: &[&'a Partition], alloc: Global) -> Result<Vec<&'a Row>, AllocError>
     ensures { IfOk result (λ rows. rows_at rows.items
         ≡ rows_only (all_rows (partitions_at partitions.now))) }
 {

@@ -35,12 +35,14 @@ impl StoredTable {
     ghost use Rattle.wh_state.specs.State.{new_table, empty_table};
     ghost use Rattle.wh_version.specs.Times.{data_at, visible_at};
     ghost use Rattle.wh_version.specs.Version.{version_in};
-    ghost use Rattle.wh_table.specs.Table.{table_of};
+    ghost use Rattle.wh_table.specs.Table.{table_of, filed_of};
 
     /// A table with one version without rows. Takes no memory.
     pub fn new(alloc: Global, columns: Vec<Column>, retention: u8, stamp: u64) -> StoredTable
         requires { length columns.items ≤ bound limits.Columns }
-        ensures { table_of result ≡ new_table [] (map column_of columns.items) retention stamp }
+        ensures table { table_of result
+            ≡ new_table [] (map column_of columns.items) retention stamp }
+        ensures filed { filed_of result ≡ [] }
     {
         StoredTable {
             created: stamp,
@@ -55,7 +57,8 @@ impl StoredTable {
     /// A table without a version. Takes no memory.
     pub fn empty(alloc: Global, columns: Vec<Column>, stamp: u64) -> StoredTable
         requires { length columns.items ≤ bound limits.Columns }
-        ensures { table_of result ≡ empty_table (map column_of columns.items) stamp }
+        ensures table { table_of result ≡ empty_table (map column_of columns.items) stamp }
+        ensures filed { filed_of result ≡ [] }
     {
         StoredTable {
             created: stamp,

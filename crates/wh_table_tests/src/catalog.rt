@@ -1,10 +1,34 @@
+ghost use Rattle.wh_fetch.specs.DiskFetch.{IsRight};
+
 use std::alloc::Global;
 use std::process::Abort;
 use wh_catalog::{Catalog, StageFault, Undo};
+use wh_fetch::DiskFetch;
+use wh_filed::load;
 use wh_part::{NumberedRow, Partition};
 use wh_record::{Change, Commit, TableChange, VersionChange};
+use wh_table::{by_rows, rows_of};
 use wh_value::{Column, ColumnType, Row, Text, Value};
 use wh_version::Edits;
+use wh_world::{Disk, MemDisk};
+
+/// A catalog, and the records of the commits that were carried out.
+#[derive(Drop)]
+pub(crate) struct Staged {
+    alloc: Global,
+    pub(crate) catalog: Catalog,
+    records: Vec<u8>,
+}
+
+impl Staged {
+    pub(crate) fn new(alloc: Global) -> Staged {
+        Staged {
+            alloc,
+            catalog: Catalog::new(alloc),
+            records: Vec::new(alloc),
+        }
+    }
+}
 
 pub(crate) fn text(rt: &impl Abort, alloc: Global, bytes: &[u8]) -> Text {
     let made = Text::from_bytes(alloc, bytes).expect(rt, "no text");
@@ -56,7 +80,7 @@ pub(crate) fn commit(rt: &impl Abort, alloc: Global, stamp: u64, change: Change)
     Commit { stamp, changes }
 }
 
-fn row(rt: &impl Abort, alloc: Global, value: Value) -> Row {
+pub(crate) fn row(rt: &impl Abort, alloc: Global, value: Value) -> Row {
     let mut row = Row::new(alloc);
     row.push(value).expect(rt, "memory");
     row
@@ -89,7 +113,7 @@ fn partitions(rt: &impl Abort, alloc: Global, rows: &[(u64, u64, i64)]) -> Vec<P
     made
 }
 
-fn version(
+pub(crate) fn version(
     rt: &impl Abort,
     alloc: Global,
     stamp: u64,
@@ -124,43 +148,59 @@ fn both(rt: &impl Abort, first: Commit, second: Commit) -> Commit {
     }
 }
 
-pub(crate) fn carry_out(rt: &impl Abort, catalog: &mut Catalog, commit: Commit) -> Undo {
-    catalog.stage(commit).expect(rt, "a commit that applies")
+// The position of the payload of a commit's record, which is added.
+fn written(rt: &impl Abort, staged: &mut Staged, commit: &Commit) -> u64 {
+    // Behind the payload's length.
+    let at = staged.records.len() as u64 + 8;
+    let record = commit.encode(staged.alloc).expect(rt, "memory");
+    staged
+        .records
+        .extend_from_slice(record.as_slice())
+        .expect(rt, "memory");
+    at
 }
 
-fn is_refused(catalog: &mut Catalog, commit: Commit) -> bool {
-    match catalog.stage(commit) {
+pub(crate) fn carry_out(rt: &impl Abort, staged: &mut Staged, commit: Commit) -> Undo {
+    let at = written(rt, staged, &commit);
+    staged
+        .catalog
+        .stage(commit, at)
+        .expect(rt, "a commit that applies")
+}
+
+fn is_refused(staged: &mut Staged, commit: Commit) -> bool {
+    match staged.catalog.stage(commit, 0) {
         Ok(_) => false,
         Err(fault) => fault == StageFault::NotApplicable,
     }
 }
 
-pub(crate) fn assert_refused(rt: &impl Abort, catalog: &mut Catalog, commit: Commit, case: &str) {
-    assert!(rt; is_refused(catalog, commit), "{case}");
+pub(crate) fn assert_refused(rt: &impl Abort, staged: &mut Staged, commit: Commit, case: &str) {
+    assert!(rt; is_refused(staged, commit), "{case}");
 }
 
 // The object that is found by a name.
 pub(crate) fn assert_found(
     rt: &impl Abort,
-    catalog: &Catalog,
+    staged: &Staged,
     name: &[u8],
     id: Option<u32>,
     case: &str,
 ) {
-    assert_eq!(rt; catalog.find(name), id, "{case}");
+    assert_eq!(rt; staged.catalog.find(name), id, "{case}");
 }
 
 // How many objects there are, and how many of them live.
-fn assert_counts(rt: &impl Abort, catalog: &Catalog, objects: u64, live: u64) {
+fn assert_counts(rt: &impl Abort, staged: &Staged, objects: u64, live: u64) {
     assert_eq!(rt;
-        (catalog.object_count(), catalog.live_count()),
+        (staged.catalog.object_count(), staged.catalog.live_count()),
         (objects, live)
     );
 }
 
-fn pass_on(catalog: &mut Catalog) {
-    if catalog.last() < 20 {
-        catalog.pass(20);
+fn pass_on(staged: &mut Staged) {
+    if staged.catalog.last() < 20 {
+        staged.catalog.pass(20);
     }
 }
 
@@ -172,22 +212,40 @@ fn are_rows_of(rt: &impl Abort, alloc: Global, found: &[&Row], numbers: &[i64]) 
     same
 }
 
+// What reads the rows of partitions from the records. Nothing is kept yet.
+pub(crate) fn fetch_of(rt: &impl Abort, alloc: Global, staged: &Staged) -> DiskFetch<MemDisk>
+    ensures { IsRight ⟦<MemDisk as Disk>⟧ result }
+{
+    let mut records = Vec::new(alloc);
+    records
+        .extend_from_slice(&staged.records)
+        .expect(rt, "memory");
+    let reach = records.len() as u64;
+    let disk = MemDisk::new(alloc, records, 0, 0, Vec::new(alloc)).expect(rt, "memory");
+    DiskFetch::new(alloc, disk, reach)
+        .map_err(|_| "no memory")
+        .expect(rt, "memory")
+}
+
 // Whether the table of an id holds these numbers, in its one column.
-fn holds(rt: &impl Abort, alloc: Global, catalog: &Catalog, id: u32, numbers: &[i64]) -> bool {
-    let table = catalog.table(id).expect(rt, "no table");
-    let found = table.rows(alloc).expect(rt, "memory");
+fn holds(rt: &impl Abort, alloc: Global, staged: &Staged, id: u32, numbers: &[i64]) -> bool {
+    let table = staged.catalog.table(id).expect(rt, "no table");
+    let mut fetch = fetch_of(rt, alloc, staged);
+    let standing = table.standing(alloc).expect(rt, "memory");
+    let loaded = load(alloc, &standing, &mut fetch).expect(rt, "its partitions");
+    let found = rows_of(alloc, &loaded, &[]).expect(rt, "memory");
     are_rows_of(rt, alloc, &found, numbers)
 }
 
 fn assert_holds(
     rt: &impl Abort,
     alloc: Global,
-    catalog: &Catalog,
+    staged: &Staged,
     id: u32,
     numbers: &[i64],
     case: &str,
 ) {
-    assert!(rt; holds(rt, alloc, catalog, id, numbers), "{case}");
+    assert!(rt; holds(rt, alloc, staged, id, numbers), "{case}");
 }
 
 fn begin_with(found: &[&Partition], numbers: &[u64]) -> bool {
@@ -199,9 +257,12 @@ fn begin_with(found: &[&Partition], numbers: &[u64]) -> bool {
 }
 
 // Whether the partitions of the table of an id begin with these row numbers, in this order.
-fn is_by_rows(rt: &impl Abort, alloc: Global, catalog: &Catalog, id: u32, numbers: &[u64]) -> bool {
-    let table = catalog.table(id).expect(rt, "no table");
-    let found = table.by_rows(alloc).expect(rt, "memory");
+fn is_by_rows(rt: &impl Abort, alloc: Global, staged: &Staged, id: u32, numbers: &[u64]) -> bool {
+    let table = staged.catalog.table(id).expect(rt, "no table");
+    let mut fetch = fetch_of(rt, alloc, staged);
+    let standing = table.standing(alloc).expect(rt, "memory");
+    let loaded = load(alloc, &standing, &mut fetch).expect(rt, "its partitions");
+    let found = by_rows(alloc, &loaded, &[]).expect(rt, "memory");
     begin_with(&found, numbers)
 }
 
@@ -209,86 +270,87 @@ fn is_by_rows(rt: &impl Abort, alloc: Global, catalog: &Catalog, id: u32, number
 fn gives_up(
     rt: &impl Abort,
     alloc: Global,
-    catalog: &Catalog,
+    staged: &Staged,
     id: u32,
     number: u64,
     partitions: &[u64],
 ) -> bool {
-    let table = catalog.table(id).expect(rt, "no table");
+    let table = staged.catalog.table(id).expect(rt, "no table");
     let edits = Edits::new(alloc, &[number], Vec::new(alloc), Vec::new(alloc)).expect(rt, "memory");
     if table.next_row() + edits.added().len() as u64 > 1 << 62 {
         return false;
     }
+    let mut fetch = fetch_of(rt, alloc, staged);
     let made = table
-        .rewrite(alloc, edits)
-        .expect(rt, "memory")
+        .rewrite(alloc, edits, &mut fetch)
+        .expect(rt, "its partitions")
         .expect(rt, "no number is left");
     made.removed.as_slice() == partitions && made.added.is_empty()
 }
 
 // A table `t` with a row of number 5 in its first partition, at the stamp 12.
-pub(crate) fn one_table(rt: &impl Abort, alloc: Global) -> Catalog {
-    let mut catalog = Catalog::new(alloc);
+pub(crate) fn one_table(rt: &impl Abort, alloc: Global) -> Staged {
+    let mut staged = Staged::new(alloc);
     let created = creation(rt, alloc, 10, 1, b"t", 1, 1, ColumnType::Number);
-    carry_out(rt, &mut catalog, created);
+    carry_out(rt, &mut staged, created);
     let added = partitions(rt, alloc, &[(1, 5, 7)]);
     let pushed = version(rt, alloc, 12, 1, 12, 6, &[], added);
-    carry_out(rt, &mut catalog, pushed);
-    catalog
+    carry_out(rt, &mut staged, pushed);
+    staged
 }
 
 // Its last row has a lower number than one that stood, and the first partition goes.
-fn push_rows(rt: &impl Abort, alloc: Global, catalog: &mut Catalog) -> Undo {
+fn push_rows(rt: &impl Abort, alloc: Global, staged: &mut Staged) -> Undo {
     let added = partitions(rt, alloc, &[(2, 6, 5), (3, 9, 11), (4, 2, 3)]);
     let pushed = version(rt, alloc, 15, 1, 13, 10, &[1], added);
-    carry_out(rt, catalog, pushed)
+    carry_out(rt, staged, pushed)
 }
 
-fn assert_pushed(rt: &impl Abort, alloc: Global, catalog: &Catalog) {
-    assert_holds(rt, alloc, catalog, 1, &[5, 11, 3], "the new version");
-    let by_rows = is_by_rows(rt, alloc, catalog, 1, &[2, 6, 9]);
+fn assert_pushed(rt: &impl Abort, alloc: Global, staged: &Staged) {
+    assert_holds(rt, alloc, staged, 1, &[5, 11, 3], "the new version");
+    let by_rows = is_by_rows(rt, alloc, staged, 1, &[2, 6, 9]);
     assert!(rt; by_rows, "by their rows");
-    let given_up = gives_up(rt, alloc, catalog, 1, 9, &[3]);
+    let given_up = gives_up(rt, alloc, staged, 1, 9, &[3]);
     assert!(rt; given_up, "a row that goes");
-    assert_eq!(rt; catalog.last(), 20);
+    assert_eq!(rt; staged.catalog.last(), 20);
 }
 
-fn assert_undone(rt: &impl Abort, alloc: Global, catalog: &Catalog) {
-    assert_holds(rt, alloc, catalog, 1, &[7], "the version before");
-    assert_eq!(rt; catalog.last(), 12);
-    assert_found(rt, catalog, b"t", Some(1), "the table");
-    assert_found(rt, catalog, b"v", None, "another name");
-    assert_counts(rt, catalog, 1, 1);
+fn assert_undone(rt: &impl Abort, alloc: Global, staged: &Staged) {
+    assert_holds(rt, alloc, staged, 1, &[7], "the version before");
+    assert_eq!(rt; staged.catalog.last(), 12);
+    assert_found(rt, staged, b"t", Some(1), "the table");
+    assert_found(rt, staged, b"v", None, "another name");
+    assert_counts(rt, staged, 1, 1);
 }
 
 #[test]
 fn a_version_is_held_and_undone(rt: HostRuntime) {
     let alloc = rt.alloc();
-    let mut catalog = one_table(&rt, alloc);
-    let undo = push_rows(&rt, alloc, &mut catalog);
-    pass_on(&mut catalog);
-    assert_pushed(&rt, alloc, &catalog);
-    catalog.undo(undo);
-    assert_undone(&rt, alloc, &catalog);
+    let mut staged = one_table(&rt, alloc);
+    let undo = push_rows(&rt, alloc, &mut staged);
+    pass_on(&mut staged);
+    assert_pushed(&rt, alloc, &staged);
+    staged.catalog.undo(undo);
+    assert_undone(&rt, alloc, &staged);
 }
 
 // No change passes the stamp alone.
-fn assert_passed(rt: &impl Abort, alloc: Global, catalog: &mut Catalog) {
+fn assert_passed(rt: &impl Abort, alloc: Global, staged: &mut Staged) {
     let nothing = Commit {
         stamp: 13,
         changes: Vec::new(alloc),
     };
-    carry_out(rt, catalog, nothing);
-    assert_eq!(rt; catalog.last(), 13);
+    carry_out(rt, staged, nothing);
+    assert_eq!(rt; staged.catalog.last(), 13);
 }
 
 // The second change doesn't apply to what the first leaves.
-fn assert_half_refused(rt: &impl Abort, alloc: Global, catalog: &mut Catalog) {
+fn assert_half_refused(rt: &impl Abort, alloc: Global, staged: &mut Staged) {
     let first = new_table(rt, alloc, 14, 2, b"u");
     let second = new_table(rt, alloc, 14, 2, b"v");
-    assert_refused(rt, catalog, both(rt, first, second), "one id twice");
-    assert_eq!(rt; catalog.last(), 13);
-    assert_eq!(rt; catalog.object_count(), 1);
+    assert_refused(rt, staged, both(rt, first, second), "one id twice");
+    assert_eq!(rt; staged.catalog.last(), 13);
+    assert_eq!(rt; staged.catalog.object_count(), 1);
 }
 
 // A table and its first version.
@@ -299,20 +361,20 @@ fn filled(rt: &impl Abort, alloc: Global) -> Commit {
     both(rt, first, second)
 }
 
-fn assert_filled(rt: &impl Abort, alloc: Global, catalog: &mut Catalog) {
-    let undo = carry_out(rt, catalog, filled(rt, alloc));
-    assert_holds(rt, alloc, catalog, 2, &[4], "the table");
-    catalog.undo(undo);
-    assert_eq!(rt; catalog.object_count(), 1);
+fn assert_filled(rt: &impl Abort, alloc: Global, staged: &mut Staged) {
+    let undo = carry_out(rt, staged, filled(rt, alloc));
+    assert_holds(rt, alloc, staged, 2, &[4], "the table");
+    staged.catalog.undo(undo);
+    assert_eq!(rt; staged.catalog.object_count(), 1);
 }
 
 #[test]
 fn a_commit_is_carried_out_whole_or_not_at_all(rt: HostRuntime) {
     let alloc = rt.alloc();
-    let mut catalog = one_table(&rt, alloc);
-    assert_passed(&rt, alloc, &mut catalog);
-    assert_half_refused(&rt, alloc, &mut catalog);
-    assert_filled(&rt, alloc, &mut catalog);
+    let mut staged = one_table(&rt, alloc);
+    assert_passed(&rt, alloc, &mut staged);
+    assert_half_refused(&rt, alloc, &mut staged);
+    assert_filled(&rt, alloc, &mut staged);
 }
 
 pub(crate) fn drop_of(rt: &impl Abort, alloc: Global, stamp: u64, id: u32) -> Commit {
@@ -332,65 +394,65 @@ fn late_version(rt: &impl Abort, alloc: Global) -> Commit {
     version(rt, alloc, 14, 1, 14, 7, &[], added)
 }
 
-fn assert_replaced(rt: &impl Abort, alloc: Global, catalog: &mut Catalog) {
+fn assert_replaced(rt: &impl Abort, alloc: Global, staged: &mut Staged) {
     const WRONG: &[(&str, u32)] = &[("no id", 0), ("a dropped table", 1), ("no such object", 3)];
-    assert_found(rt, catalog, b"t", Some(2), "the new table");
-    assert_counts(rt, catalog, 2, 1);
+    assert_found(rt, staged, b"t", Some(2), "the new table");
+    assert_counts(rt, staged, 2, 1);
     for (case, id) in WRONG {
-        assert_refused(rt, catalog, drop_of(rt, alloc, 14, *id), case);
+        assert_refused(rt, staged, drop_of(rt, alloc, 14, *id), case);
     }
     let late = late_version(rt, alloc);
-    assert_refused(rt, catalog, late, "a version of a dropped table");
+    assert_refused(rt, staged, late, "a version of a dropped table");
 }
 
 #[test]
 fn a_dropped_table_gives_its_name_away_and_lives_again(rt: HostRuntime) {
     let alloc = rt.alloc();
-    let mut catalog = one_table(&rt, alloc);
-    let undo = carry_out(&rt, &mut catalog, replacement(&rt, alloc));
-    assert_replaced(&rt, alloc, &mut catalog);
-    catalog.undo(undo);
-    assert_found(&rt, &catalog, b"t", Some(1), "the first again");
-    assert_counts(&rt, &catalog, 1, 1);
-    assert_holds(&rt, alloc, &catalog, 1, &[7], "its rows");
+    let mut staged = one_table(&rt, alloc);
+    let undo = carry_out(&rt, &mut staged, replacement(&rt, alloc));
+    assert_replaced(&rt, alloc, &mut staged);
+    staged.catalog.undo(undo);
+    assert_found(&rt, &staged, b"t", Some(1), "the first again");
+    assert_counts(&rt, &staged, 1, 1);
+    assert_holds(&rt, alloc, &staged, 1, &[7], "its rows");
 }
 
 // The table is dropped, and its name made again.
-fn assert_made_again(rt: &impl Abort, alloc: Global, catalog: &mut Catalog) {
-    let dropping = carry_out(rt, catalog, drop_of(rt, alloc, 13, 1));
-    assert_found(rt, catalog, b"t", None, "dropped");
-    let making = carry_out(rt, catalog, new_table(rt, alloc, 14, 2, b"t"));
-    assert_found(rt, catalog, b"t", Some(2), "made again");
-    catalog.undo(making);
-    assert_found(rt, catalog, b"t", None, "still dropped");
-    catalog.undo(dropping);
-    assert_found(rt, catalog, b"t", Some(1), "alive again");
+fn assert_made_again(rt: &impl Abort, alloc: Global, staged: &mut Staged) {
+    let dropping = carry_out(rt, staged, drop_of(rt, alloc, 13, 1));
+    assert_found(rt, staged, b"t", None, "dropped");
+    let making = carry_out(rt, staged, new_table(rt, alloc, 14, 2, b"t"));
+    assert_found(rt, staged, b"t", Some(2), "made again");
+    staged.catalog.undo(making);
+    assert_found(rt, staged, b"t", None, "still dropped");
+    staged.catalog.undo(dropping);
+    assert_found(rt, staged, b"t", Some(1), "alive again");
 }
 
 // A commit gives a name to a new object. It is then undone.
 fn assert_new_name(
     rt: &impl Abort,
-    catalog: &mut Catalog,
+    staged: &mut Staged,
     commit: Commit,
     name: &[u8],
     before: Option<u32>,
     case: &str,
 ) {
-    let adding = carry_out(rt, catalog, commit);
-    assert_found(rt, catalog, name, Some(2), case);
-    catalog.undo(adding);
-    assert_found(rt, catalog, name, before, case);
+    let adding = carry_out(rt, staged, commit);
+    assert_found(rt, staged, name, Some(2), case);
+    staged.catalog.undo(adding);
+    assert_found(rt, staged, name, before, case);
 }
 
 #[test]
 fn a_name_is_found_while_its_last_object_lives(rt: HostRuntime) {
     let alloc = rt.alloc();
-    let mut catalog = one_table(&rt, alloc);
-    assert_made_again(&rt, alloc, &mut catalog);
+    let mut staged = one_table(&rt, alloc);
+    assert_made_again(&rt, alloc, &mut staged);
     let new = new_table(&rt, alloc, 13, 2, b"u");
-    assert_new_name(&rt, &mut catalog, new, b"u", None, "a new name");
+    assert_new_name(&rt, &mut staged, new, b"u", None, "a new name");
     let replaced = replacement(&rt, alloc);
-    assert_new_name(&rt, &mut catalog, replaced, b"t", Some(1), "replaced");
+    assert_new_name(&rt, &mut staged, replaced, b"t", Some(1), "replaced");
 }
 
 const LONG: [u8; 256] = [b'n'; 256];
@@ -399,7 +461,7 @@ const LONG: [u8; 256] = [b'n'; 256];
 // columns it has.
 type TableCase = (&'static str, u64, u32, &'static [u8], u8, usize);
 
-fn assert_table_refused(rt: &impl Abort, alloc: Global, catalog: &mut Catalog, case: &TableCase) {
+fn assert_table_refused(rt: &impl Abort, alloc: Global, staged: &mut Staged, case: &TableCase) {
     let (case, stamp, id, name, retention, count) = *case;
     let wrong = creation(
         rt,
@@ -411,7 +473,7 @@ fn assert_table_refused(rt: &impl Abort, alloc: Global, catalog: &mut Catalog, c
         count,
         ColumnType::Number,
     );
-    assert_refused(rt, catalog, wrong, case);
+    assert_refused(rt, staged, wrong, case);
 }
 
 #[test]
@@ -429,13 +491,13 @@ fn tables_that_do_not_apply_are_refused(rt: HostRuntime) {
         ("65 columns", 13, 2, b"u", 1, 65),
     ];
     let alloc = rt.alloc();
-    let mut catalog = one_table(&rt, alloc);
+    let mut staged = one_table(&rt, alloc);
     for case in CASES {
-        assert_table_refused(&rt, alloc, &mut catalog, case);
+        assert_table_refused(&rt, alloc, &mut staged, case);
     }
     // As long a name, as many columns and as many days as may be.
     let most = creation(&rt, alloc, 13, 2, &LONG[1..], 90, 64, ColumnType::Varchar);
-    carry_out(&rt, &mut catalog, most);
+    carry_out(&rt, &mut staged, most);
 }
 
 const LIMIT: u64 = 1 << 62;
@@ -462,15 +524,10 @@ fn version_of_rows(
     version(rt, alloc, 13, id, timestamp, next_row, removed, added)
 }
 
-fn assert_version_refused(
-    rt: &impl Abort,
-    alloc: Global,
-    catalog: &mut Catalog,
-    case: &VersionCase,
-) {
+fn assert_version_refused(rt: &impl Abort, alloc: Global, staged: &mut Staged, case: &VersionCase) {
     let (case, id, timestamp, next_row, removed, rows) = *case;
     let wrong = version_of_rows(rt, alloc, id, timestamp, next_row, removed, rows);
-    assert_refused(rt, catalog, wrong, case);
+    assert_refused(rt, staged, wrong, case);
 }
 
 #[test]
@@ -488,12 +545,12 @@ fn versions_that_do_not_apply_are_refused(rt: HostRuntime) {
         ("a row twice", 1, 12, 7, &[], &[(2, 6, 1), (3, 6, 1)]),
     ];
     let alloc = rt.alloc();
-    let mut catalog = one_table(&rt, alloc);
+    let mut staged = one_table(&rt, alloc);
     for case in CASES {
-        assert_version_refused(&rt, alloc, &mut catalog, case);
+        assert_version_refused(&rt, alloc, &mut staged, case);
     }
     // The number of a row that goes may come again.
     let again = version_of_rows(&rt, alloc, 1, 12, LIMIT, &[1], &[(2, 5, 8)]);
-    carry_out(&rt, &mut catalog, again);
-    assert_holds(&rt, alloc, &catalog, 1, &[8], "the row that came");
+    carry_out(&rt, &mut staged, again);
+    assert_holds(&rt, alloc, &staged, 1, &[8], "the row that came");
 }

@@ -4,6 +4,8 @@
 #[cfg(test)]
 mod catalog;
 #[cfg(test)]
+mod edits;
+#[cfg(test)]
 mod streams;
 #[cfg(test)]
 mod versions;

@@ -1,15 +1,17 @@
-ghost use Rattle.std.specs.Prelude.{◌≡◌, ◌+◌, ◌≤◌, ◌^◌, length, IfOk};
+ghost use Rattle.std.specs.Prelude.{◌≡◌};
+ghost use Rattle.wh_part.specs.Meta.{IsEven};
 
 use std::alloc::Global;
-use std::ops::Range;
 use std::process::Abort;
+use wh_filed::FiledPartition;
 use wh_part::{NumberedRow, Partition};
 use wh_value::Row;
-use wh_version::{Edits, History, Rewritten, Version};
+use wh_version::{History, Version};
 
 // A partition of one row.
 fn partition(rt: &impl Abort, alloc: Global, number: u64) -> Partition
-    ensures { result.number ≡ number }
+    ensures number { result.number ≡ number }
+    ensures even { IsEven result.rows }
 {
     let mut rows = Vec::new(alloc);
     rows.push(NumberedRow {
@@ -24,8 +26,9 @@ fn partition(rt: &impl Abort, alloc: Global, number: u64) -> Partition
 fn push(rt: &impl Abort, alloc: Global, history: &mut History, removed: &[u64]) {
     let next = history.next_partition();
     let more = partition(rt, alloc, next);
+    let filed = FiledPartition::of(alloc, &more, 1, 0, 20).expect(rt, "memory");
     let mut added = Vec::with_capacity(alloc, 1).expect(rt, "memory");
-    added.push_reserved(more);
+    added.push_reserved(filed);
     history.push(20, 15, removed, added).expect(rt, "memory");
 }
 
@@ -110,149 +113,5 @@ fn a_version_is_found_by_its_times(rt: HostRuntime) {
     for (case, time, at, visible) in CASES {
         assert_shown(&rt, alloc, case, history.at(*time), at);
         assert_shown(&rt, alloc, case, history.visible(*time), visible);
-    }
-}
-
-// So many rows with no value.
-fn rows(rt: &impl Abort, alloc: Global, count: usize) -> Vec<Row>
-    ensures { length result.items ≡ count }
-{
-    let mut rows = Vec::with_capacity(alloc, count).expect(rt, "memory");
-    for _ in 0..count {
-        rows.push(Row::new(alloc)).expect(rt, "memory");
-    }
-    rows
-}
-
-// New rows of these numbers.
-fn changed(rt: &impl Abort, alloc: Global, numbers: &[u64]) -> Vec<NumberedRow> {
-    let mut changed = Vec::with_capacity(alloc, numbers.len()).expect(rt, "memory");
-    for number in numbers {
-        let row = Row::new(alloc);
-        changed
-            .push(NumberedRow {
-                number: *number,
-                row,
-            })
-            .expect(rt, "memory");
-    }
-    changed
-}
-
-// The partitions' numbers, their first rows' numbers, and how many rows they have.
-fn shapes(rt: &impl Abort, alloc: Global, partitions: &[Partition]) -> Vec<(u64, u64, usize)> {
-    let mut shapes = Vec::with_capacity(alloc, partitions.len()).expect(rt, "memory");
-    for one in partitions {
-        shapes
-            .push((one.number(), one.first(), one.rows().len()))
-            .expect(rt, "memory");
-    }
-    shapes
-}
-
-// A version more by edits: the numbers of what goes, and the shapes of what comes.
-fn edit(
-    rt: &impl Abort,
-    alloc: Global,
-    history: &mut History,
-    edits: Edits,
-    next_row: u64,
-) -> String
-    requires { next_row + length edits.added.items ≤ 2 ^ 62 }
-{
-    let Some(rewritten) = history.rewrite(alloc, edits, next_row).expect(rt, "memory") else {
-        return String::new(alloc);
-    };
-    let Rewritten { removed, added } = rewritten;
-    let shapes = shapes(rt, alloc, &added);
-    history.push(20, 15, &removed, added).expect(rt, "memory");
-    format!(in alloc; "{removed:?} {shapes:?}").expect(rt, "memory")
-}
-
-// Edits of rows from one number up to another that go, of others that change, and of some that
-// come.
-fn edits(
-    rt: &impl Abort,
-    alloc: Global,
-    removed: Range<u64>,
-    numbers: &[u64],
-    count: usize,
-) -> Edits
-    ensures { length result.added.items ≡ count }
-{
-    let changed = changed(rt, alloc, numbers);
-    let removed = removed.collect::<Vec<u64>>(alloc).expect(rt, "memory");
-    let added = rows(rt, alloc, count);
-    let edits = Edits::new(alloc, &removed, changed, added).expect(rt, "memory");
-    edits
-}
-
-// What is edited, the numbers of rows that go, from one up to another, of rows that change, how
-// many come, the next row, and the partitions that go and the shapes of those that come.
-type Case = (
-    &'static str,
-    (u64, u64),
-    &'static [u64],
-    u16,
-    u16,
-    &'static str,
-);
-
-fn assert_edit(rt: &impl Abort, alloc: Global, history: &mut History, case: &Case) {
-    let (name, (from, behind), numbers, count, next_row, want) = *case;
-    let edits = edits(rt, alloc, from..behind, numbers, usize::from(count));
-    let text = edit(rt, alloc, history, edits, u64::from(next_row));
-    assert_eq!(rt; text.as_str(), want, "{name}");
-}
-
-#[test]
-fn edits_rewrite_the_partitions_that_they_touch(rt: HostRuntime) {
-    const CASES: &[Case] = &[
-        (
-            "all rows",
-            (0, 0),
-            &[],
-            2500,
-            1,
-            "[] [(1, 1, 1000), (2, 1001, 1000), (3, 2001, 500)]",
-        ),
-        ("one row", (0, 0), &[1500], 0, 2501, "[2] [(4, 1001, 1000)]"),
-        (
-            "a partition that is emptied",
-            (2001, 2501),
-            &[],
-            0,
-            2501,
-            "[3] []",
-        ),
-        (
-            "several rows",
-            (7, 9),
-            &[5, 1500],
-            1,
-            2501,
-            "[1, 4] [(5, 1, 998), (6, 1001, 1000), (7, 2501, 1)]",
-        ),
-        (
-            "one row again",
-            (0, 0),
-            &[1500],
-            0,
-            2502,
-            "[6] [(8, 1001, 1000)]",
-        ),
-        (
-            "two rows, of which the last comes first",
-            (0, 0),
-            &[2501, 1500],
-            0,
-            2502,
-            "[7, 8] [(9, 1001, 1000), (10, 2501, 1)]",
-        ),
-    ];
-    let alloc = rt.alloc();
-    let mut history = History::new(alloc, 10);
-    for case in CASES {
-        assert_edit(&rt, alloc, &mut history, case);
     }
 }

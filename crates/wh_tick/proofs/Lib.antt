@@ -4,3 +4,4 @@ pub mod EndLemmas
 pub mod GuardLemmas
 pub mod HoldingLaws
 pub mod RunLemmas
+pub mod ReadyLemmas

@@ -1,3 +1,4 @@
 pub mod Ends
 pub mod Holding
 pub mod Guards
+pub mod Changes

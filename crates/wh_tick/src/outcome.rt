@@ -10,7 +10,8 @@ ghost use Rattle.wh_machine.specs.Ticks.{counts_in};
 ghost use Rattle.wh_record.specs.View.{change_of};
 ghost use Rattle.wh_catalog.specs.Catalog.{stored_of};
 ghost use Rattle.wh_decide.specs.Decision.{commit_in};
-ghost use Rattle.wh_decide.specs.Sight.{machine_in, Comes};
+ghost use Rattle.wh_decide.specs.Sight.{machine_in, Comes, IsReady};
+ghost use Rattle.wh_tick.specs.Changes.{AreRead};
 
 use std::alloc::Global;
 use wh_decide::{Decision, Settlement, Sight};
@@ -19,7 +20,8 @@ use wh_reply::{Reply, RowCounts};
 
 /// Nothing is due.
 pub(crate) fn idle(sight: &Sight<'_>) -> Decision
-    ensures { Comes sight.now result (answers (machine_in sight.now) Idle) }
+    ensures comes { Comes sight.now result (answers (machine_in sight.now) Idle) }
+    ensures ready { IsReady sight.now result }
 {
     let _sight = sight;
     Decision::Do {
@@ -30,9 +32,10 @@ pub(crate) fn idle(sight: &Sight<'_>) -> Decision
 
 /// A commit of changes.
 pub(crate) fn committed(sight: &Sight<'_>, reply: Reply, changes: Vec<Change>) -> Decision
-    ensures { (acts : List Act) → map change_of changes.items
+    ensures comes { (acts : List Act) → map change_of changes.items
         ≡ written sight.now.stamp (stored_of sight.now.catalog.now).objects acts
         → Comes sight.now result (commits (machine_in sight.now) (reply_view reply) acts) }
+    ensures ready { AreRead (map change_of changes.items) → IsReady sight.now result }
 {
     let stamp = sight.stamp;
     Decision::Do {

@@ -7,7 +7,7 @@ ghost use Rattle.wh_machine.specs.Ticks.{starts_run};
 ghost use Rattle.wh_record.specs.View.{change_of};
 ghost use Rattle.wh_task.specs.View.{state_of};
 ghost use Rattle.wh_catalog.specs.Catalog as catalogs;
-ghost use Rattle.wh_decide.specs.Sight.{machine_in, Comes};
+ghost use Rattle.wh_decide.specs.Sight.{machine_in, Comes, IsReady};
 
 use crate::lookups::{live_tasks, task_at};
 use crate::outcome::{committed, idle};
@@ -21,9 +21,10 @@ use wh_task::{TaskState, kept_tasks};
 /// A run of a root that is due: it has the root, and each resumed task that has a predecessor in
 /// it.
 pub(crate) fn start_run(alloc: Global, sight: &Sight<'_>, root: u32) -> Result<Decision, AllocError>
-    ensures { IfOk result (λ decision. Comes sight.now decision
+    ensures comes { IfOk result (λ decision. Comes sight.now decision
         (starts_run (machine_in sight.now) root
         (task_at (machine_in sight.now).state.objects root))) }
+    ensures ready { IfOk result (λ decision. IsReady sight.now decision) }
 {
     let Some(task) = task_at(sight.catalog, root) else {
         return Ok(idle(sight));

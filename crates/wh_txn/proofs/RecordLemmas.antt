@@ -1,26 +1,31 @@
 -- The versions that a transaction's edits are written as, and the numbers in them.
---     no_version, one_version        the version that is written for a table
+--     none_added, version_added      the version that is written for a table, behind other changes
 --     missing_within, rows_within, partitions_within, partitions_past     whether its numbers pass their limits
 --     row_first, partition_first     the first limit that is passed
 --     idle_within                    none is, where no table was touched and no stream read
 --     parts_of, parts_size           the parts of a transaction, and how many tables and streams they have
 --     idle_size                      whether there are none
-use Rattle.std.proofs.Common.{◌≡◌, ℕ, ◌+◌, ◌≤◌, Bool, true, false, List, [], ◌∷◌, length, Option, Some, None}
-use Rattle.std.proofs.Common.{option_map, refl, sym, ap, subst, ◌∙◌, arith}
+use Rattle.std.proofs.Common.{◌≡◌, ℕ, ◌+◌, ◌≤◌, Bool, true, false, List, [], ◌∷◌, ◌++◌, length, map}
+use Rattle.std.proofs.Common.{Option, Some, None, option_map, refl, sym, ap, subst, ◌∙◌, append-nil, arith}
 use Rattle.std.specs.Prelude.{nat_le, nat_lt, nat_eq}
 use Rattle.std.specs.Option.{option_and_then, option_to_list}
-use Rattle.std.proofs.lemmas.List.{length-map, nil_from_length}
+use Rattle.std.proofs.lemmas.List.{length-map, map-append, nil_from_length}
 use Rattle.std.proofs.lemmas.Bool.Decides.{nat_tests}
 use Rattle.wh_value.specs.Limit.{bound}
+use Rattle.wh_frame.specs.Partition.{Partition}
 use Rattle.wh_value.specs.declared.limit.Limit.{Limit}
 use Rattle.wh_value.specs.declared.limit.Limit.TheVariants as limits
 use Rattle.wh_state.specs.State.{Object, Table, at_id}
 use Rattle.wh_state.specs.Objects.{as_table, table_at}
-use Rattle.wh_state.specs.Edits.{Edits, partitions_made}
+use Rattle.wh_state.specs.Edits.{Edits, numbers_gone, partitions_made}
 use Rattle.wh_state.specs.Stored.{StoredTable, StoredObject, standing, table_meant}
-use Rattle.wh_state.specs.Commit.{Change}
+use Rattle.wh_state.specs.Commit.{Change, PushesVersion}
 use Rattle.wh_state.specs.Written.{version_written, version_written_to}
 use Rattle.wh_state.proofs.MeaningLaws.{last_partitions_meant}
+use Rattle.wh_record.specs.View.{change_of}
+use Rattle.wh_record.specs.declared.commit.ChangeIn.{ChangeIn}
+use Rattle.wh_task.specs.declared.task.TaskBody.{TaskBody}
+use Rattle.wh_dynamic.specs.declared.query.DynamicQuery.{DynamicQuery}
 use Rattle.wh_catalog.specs.Catalog.{stored_of, state_of}
 use Rattle.wh_catalog.specs.declared.catalog.Catalog.{Catalog}
 use Rattle.wh_machine.specs.Transaction.{Staged, Transaction, start_of, touched, first_past, row_past, partition_past}
@@ -45,15 +50,54 @@ written_to stamp id e (Some o) = by_found (as_table o)
     by_found None = refl
     by_found (Some t) = refl
 
-pub no_version : (stamp : ℕ) (objects : List StoredObject) (id : ℕ) (s : Staged) → table_at objects id ≡ None
+no_version : (stamp : ℕ) (objects : List StoredObject) (id : ℕ) (s : Staged) → table_at objects id ≡ None
     → version_for stamp objects (id, s) ≡ []
 no_version stamp objects id s none =
     written_to stamp id s.edits (at_id objects id) ∙ ap (written_for stamp id s.edits) none
 
-pub one_version : (stamp : ℕ) (objects : List StoredObject) (id : ℕ) (s : Staged) (t : StoredTable)
+one_version : (stamp : ℕ) (objects : List StoredObject) (id : ℕ) (s : Staged) (t : StoredTable)
     → table_at objects id ≡ Some t → version_for stamp objects (id, s) ≡ version_written stamp id s.edits t ∷ []
 one_version stamp objects id s t there =
     written_to stamp id s.edits (at_id objects id) ∙ ap (written_for stamp id s.edits) there
+
+-- the changes with the one that is made of it behind them
+pub version_added : (stamp : ℕ) (objects : List StoredObject) (id : ℕ) (s : Staged) (t : StoredTable)
+    (old new : List (ChangeIn TaskBody DynamicQuery)) (one : ChangeIn TaskBody DynamicQuery)
+    (more : ℕ) (removed : List ℕ) (added : List Partition)
+    → table_at objects id ≡ Some t
+    → new ≡ old ++ one ∷ []
+    → change_of one ≡ PushesVersion (record {
+      id = id;
+      data_timestamp = stamp;
+      next_row = t.next_row + more;
+      width = length t.columns;
+      removed = removed;
+      added = added;
+    })
+    → more ≡ length s.edits.added
+    → removed ≡ numbers_gone s.edits.rows (standing t)
+    → added ≡ partitions_made t.next_partition t.next_row s.edits (standing t)
+    → map change_of new ≡ map change_of old ++ version_for stamp objects (id, s)
+version_added stamp objects id s t old new one more removed added there pushed is counts gone made =
+    ap (λ changes. map change_of changes) pushed
+    ∙ map-append change_of old (one ∷ [])
+    ∙ ap (λ (c : Change). map change_of old ++ c ∷ []) (is
+    ∙ (λ i. PushesVersion (record {
+      id = id;
+      data_timestamp = stamp;
+      next_row = t.next_row + counts i;
+      width = length t.columns;
+      removed = gone i;
+      added = made i;
+    })))
+    ∙ ap (λ (cs : List Change). map change_of old ++ cs) (sym (one_version stamp objects id s t there))
+
+pub none_added : (stamp : ℕ) (objects : List StoredObject) (id : ℕ) (s : Staged)
+    (old : List (ChangeIn TaskBody DynamicQuery)) → table_at objects id ≡ None
+    → map change_of old ≡ map change_of old ++ version_for stamp objects (id, s)
+none_added stamp objects id s old none =
+    sym (append-nil (map change_of old))
+    ∙ ap (λ (cs : List Change). map change_of old ++ cs) (sym (no_version stamp objects id s none))
 
 -- ---- the numbers of one
 

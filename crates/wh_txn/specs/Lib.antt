@@ -1,4 +1,5 @@
 pub mod View
+pub mod Fault
 pub mod Seen
 pub mod Recording
 pub mod Lone

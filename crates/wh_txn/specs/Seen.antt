@@ -1,31 +1,41 @@
 -- What a statement sees of a table.
---     own       what a transaction has staged for a table
---     Shows     the table of the machine that it is
-use Rattle.std.specs.Prelude.{◌≡◌, ℕ, Option, Some, None}
+--     own                    what a transaction has staged for a table
+--     partitions_standing    the partitions in which its rows stand
+--     StandsAt               the table of the machine whose rows stand in them
+--     partitions_of          the partitions that it has
+--     Shows                  the table of the machine whose rows they hold
+use Rattle.std.specs.Prelude.{◌≡◌, ℕ, List, [], ◌++◌, Option, Some, None}
 use Rattle.std.specs.FinMap.{get}
-use Rattle.wh_state.specs.State.{Table}
-use Rattle.wh_state.specs.Edits.{Edits}
-use Rattle.wh_state.specs.Act.{edited_table}
-use Rattle.wh_state.specs.Stored.{StoredTable, table_meant}
+use Rattle.wh_frame.specs.Partition.{Partition}
+use Rattle.wh_filed.specs.Filed.{partitions_at, loaded_of}
+use Rattle.wh_state.specs.State.{Table, last_rows}
 use Rattle.wh_machine.specs.Transaction.{Staged, Transaction}
-use Rattle.wh_table.specs.Edited.{IsEdited}
-use Rattle.wh_table.specs.Table.{table_of}
-use Rattle.wh_table.specs.declared.editing.EditedTable.{EditedTable}
+use Rattle.wh_table.specs.Shown.{Holds, HoldsRising}
+use Rattle.wh_txn.specs.declared.standing.TableAt.{TableAt}
 use Rattle.wh_txn.specs.declared.seeing.TableSeen.{TableSeen}
-use Rattle.wh_txn.specs.declared.seeing.TableSeen.TheVariants.{Missing, Committed, Edited}
 
 abbrev pub own : Option Transaction → ℕ → Option Staged
 own None id = None
 own (Some t) id = get t.tables id
 
--- a table with edits at some stamp, which no row shows
-pub record ShowsEdited (edited : EditedTable) (t : StoredTable) (found : Option Table) : Type 0 where
-  pub stamp : ℕ
-  pub edits : Edits
-  pub is_edited : IsEdited edited edits t
-  pub is : found ≡ Some (edited_table stamp stamp edits (table_meant t))
+-- ---- where its rows stand
 
+-- those of the file, and then those that the transaction's own edits made
+abbrev pub partitions_standing : TableAt → List Partition
+partitions_standing at = partitions_at at.filed.items ++ at.made.items
+
+-- the rows of its last version, or none where there is no table
+abbrev pub StandsAt : TableAt → Option Table → Type 0
+StandsAt at None = partitions_standing at ≡ []
+StandsAt at (Some t) = HoldsRising (partitions_standing at) (last_rows t)
+
+-- ---- loaded
+
+-- those that were loaded, and then those that the transaction's own edits made
+abbrev pub partitions_of : TableSeen → List Partition
+partitions_of seen = loaded_of seen.stored.items ++ seen.made.items
+
+-- the rows of its last version, or none where there is no table
 abbrev pub Shows : TableSeen → Option Table → Type 0
-Shows Missing found = found ≡ None
-Shows (Committed t) found = found ≡ Some (table_meant (table_of t.now))
-Shows (Edited t edited) found = ShowsEdited edited (table_of t.now) found
+Shows seen None = partitions_of seen ≡ []
+Shows seen (Some t) = Holds (partitions_of seen) (last_rows t)

@@ -10,9 +10,11 @@ mod recording;
 mod seeing;
 mod sessions;
 mod staging;
+mod standing;
 mod transaction;
 
 pub use fault::RecordFault;
 pub use lone::lone_commit;
 pub use seeing::TableSeen;
 pub use sessions::Sessions;
+pub use standing::TableAt;

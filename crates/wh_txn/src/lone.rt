@@ -1,15 +1,14 @@
-ghost use Rattle.std.specs.Prelude.{◌≡◌, ℕ, None, Some, Err, option_map, IfOk};
-ghost use Rattle.wh_value.specs.declared.limit.Limit.{Limit};
+ghost use Rattle.std.specs.Prelude.{◌≡◌, option_map, IfOk};
+ghost use Rattle.wh_fetch.specs.Device.{CountsIf};
+ghost use Rattle.wh_fetch.specs.DiskFetch.{told_of, damage_of, faults_of, IsRight, GoesOn};
+ghost use Rattle.wh_filed.specs.Filed.{AllShown};
 ghost use Rattle.wh_dml.specs.View.{effect_of};
-ghost use Rattle.wh_state.specs.State.{State};
-ghost use Rattle.wh_state.specs.Written.{commit_for};
-ghost use Rattle.wh_machine.specs.Transaction as machine;
 ghost use Rattle.wh_record.specs.View.{commit_of};
-ghost use Rattle.wh_catalog.specs.Catalog.{stored_of, state_of};
+ghost use Rattle.wh_catalog.specs.Catalog.{state_of, filed_of};
 ghost use Rattle.wh_txn.specs.View.{transaction_of};
-ghost use Rattle.wh_txn.specs.Recording.{touched_at, touched_of};
+ghost use Rattle.wh_txn.specs.Fault.{is_read};
+ghost use Rattle.wh_txn.specs.Recording.{touched_at, touched_of, GivesCommit, IsAt, IsRead};
 ghost use Rattle.wh_txn.specs.Lone.{lone};
-ghost use Rattle.wh_txn.specs.declared.fault.RecordFault.TheVariants as faults;
 
 use crate::RecordFault;
 use crate::recording::{TouchedTable, commit, next_row};
@@ -19,28 +18,36 @@ use std::alloc::{AllocError, Global};
 use std::collections::BTreeMap;
 use wh_catalog::Catalog;
 use wh_dml::Effect;
+use wh_fetch::DiskFetch;
 use wh_record::Commit;
+use wh_world::Disk;
 
 /// The commit of a transaction by itself, which begins at a stamp and stages one effect on a table,
 /// by a statement that reads these streams. None exactly where no row counts and no stream is read.
 /// The effect's rows are moved into it.
-pub fn lone_commit(
+pub fn lone_commit<D: Disk>(
     alloc: Global,
     catalog: &Catalog,
     stamp: u64,
     id: u32,
     streams: &[u32],
     effect: Effect,
+    fetch: &mut DiskFetch<D>,
 ) -> Result<Option<Commit>, RecordFault>
-    ensures made { IfOk result (λ found. option_map commit_of found
-        ≡ option_map (commit_for (stored_of catalog.now) stamp)
-        (machine.acts_of (state_of catalog.now).objects
-        (lone (state_of catalog.now) stamp id streams.now (effect_of effect)))) }
-    ensures within { IfOk result (λ found. machine.past_limit (state_of catalog.now).objects
-        (lone (state_of catalog.now) stamp id streams.now (effect_of effect)) ≡ None) }
-    ensures limit { (at : ℕ) (which : Limit) → result ≡ Err (faults.Limit at which)
-        → machine.past_limit (state_of catalog.now).objects
-        (lone (state_of catalog.now) stamp id streams.now (effect_of effect)) ≡ Some (at, which) }
+    requires { IsRight D.Disk fetch.old }
+    ensures gives { AllShown (told_of D.Disk fetch.old) (filed_of catalog.now)
+        → GivesCommit catalog.now stamp
+        (lone (state_of catalog.now) stamp id streams.now (effect_of effect)) result }
+
+    // Over any disk.
+    ensures timed { IfOk result (λ found. IsAt stamp (option_map commit_of found)) }
+    ensures read { IfOk result (λ found. IsRead (option_map commit_of found)) }
+    ensures same { told_of D.Disk fetch.new ≡ told_of D.Disk fetch.old }
+    ensures sound { AllShown (told_of D.Disk fetch.old) (filed_of catalog.now)
+        → damage_of fetch.new ≡ damage_of fetch.old }
+    ensures goes { GoesOn D.Disk fetch.old fetch.new }
+    ensures counts { CountsIf (is_read result)
+        (faults_of D.Disk fetch.old) (faults_of D.Disk fetch.new) }
 {
     let transaction = alone(alloc, catalog, stamp, id, streams, effect)?;
     let start = transaction.start();
@@ -50,7 +57,7 @@ pub fn lone_commit(
         ..
     } = transaction;
     let touched = touched(alloc, tables)?;
-    commit(alloc, catalog, stamp, start, touched, &streams)
+    commit(alloc, catalog, stamp, start, touched, &streams, fetch)
 }
 
 // The transaction, before its commit.

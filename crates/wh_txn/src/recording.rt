@@ -3,78 +3,80 @@ use crate::transaction::Transaction;
 use crate::{RecordFault, Sessions};
 use std::alloc::{AllocError, Global};
 use wh_catalog::{Catalog, StoredTable};
+use wh_fetch::DiskFetch;
 use wh_record::{Change, Commit, VersionChange};
 use wh_value::Limit;
 use wh_version::{Edits, Rewritten};
+use wh_world::Disk;
 
 impl Sessions {
-    ghost use Rattle.std.specs.Prelude.{◌≡◌, ℕ, Some, None, Ok, Err, option_map, IfOk};
-    ghost use Rattle.wh_value.specs.declared.limit.Limit.{Limit};
+    ghost use Rattle.std.specs.Prelude.{◌≡◌, Some, None, Ok, option_map, IfOk};
+    ghost use Rattle.wh_fetch.specs.Device.{CountsIf};
+    ghost use Rattle.wh_fetch.specs.DiskFetch.{told_of, damage_of, faults_of, IsRight, GoesOn};
+    ghost use Rattle.wh_filed.specs.Filed.{AllShown};
     ghost use Rattle.wh_record.specs.View.{commit_of};
-    ghost use Rattle.wh_state.specs.Written.{commit_for};
-    ghost use Rattle.wh_catalog.specs.Catalog.{stored_of, state_of};
+    ghost use Rattle.wh_catalog.specs.Catalog.{filed_of};
     ghost use Rattle.wh_machine.specs.Transaction as machine;
     ghost use Rattle.wh_machine.specs.Sessions.{transaction_in};
     ghost use Rattle.wh_txn.specs.View.{sessions_of};
-    ghost use Rattle.wh_txn.specs.declared.fault.RecordFault.TheVariants as faults;
+    ghost use Rattle.wh_txn.specs.Fault.{is_read};
+    ghost use Rattle.wh_txn.specs.Recording.{GivesCommit, IsAt, IsRead};
 
     /// The commit of a session's open transaction at a stamp: a version for each table that it
     /// touched, and then the offset of each stream that it read, where it is below the
     /// transaction's start. None exactly where it touched no table and read no stream, or where no
     /// transaction is open.
-    pub fn commit_record(
+    pub fn commit_record<D: Disk>(
         &self,
         alloc: Global,
         catalog: &Catalog,
         session: u64,
         stamp: u64,
+        fetch: &mut DiskFetch<D>,
     ) -> Result<Option<Commit>, RecordFault>
-        ensures made { IfOk result (λ found. (t : machine.Transaction)
-            → transaction_in (sessions_of self.now) session ≡ Some t
-            → option_map commit_of found
-            ≡ option_map (commit_for (stored_of catalog.now) stamp)
-            (machine.acts_of (state_of catalog.now).objects t)) }
-        ensures closed { transaction_in (sessions_of self.now) session ≡ None → result ≡ Ok None }
-        ensures within { IfOk result (λ found. (t : machine.Transaction)
-            → transaction_in (sessions_of self.now) session ≡ Some t
-            → machine.past_limit (state_of catalog.now).objects t ≡ None) }
-        ensures limit { (id : ℕ) (which : Limit) → result ≡ Err (faults.Limit id which)
+        requires { IsRight D.Disk fetch.old }
+        ensures gives { AllShown (told_of D.Disk fetch.old) (filed_of catalog.now)
             → (t : machine.Transaction) → transaction_in (sessions_of self.now) session ≡ Some t
-            → machine.past_limit (state_of catalog.now).objects t ≡ Some (id, which) }
+            → GivesCommit catalog.now stamp t result }
+
+        // Over any disk.
+        ensures closed { transaction_in (sessions_of self.now) session ≡ None → result ≡ Ok None }
+        ensures timed { IfOk result (λ found. IsAt stamp (option_map commit_of found)) }
+        ensures read { IfOk result (λ found. IsRead (option_map commit_of found)) }
+        ensures same { told_of D.Disk fetch.new ≡ told_of D.Disk fetch.old }
+        ensures sound { AllShown (told_of D.Disk fetch.old) (filed_of catalog.now)
+            → damage_of fetch.new ≡ damage_of fetch.old }
+        ensures goes { GoesOn D.Disk fetch.old fetch.new }
+        ensures counts { CountsIf (is_read result)
+            (faults_of D.Disk fetch.old) (faults_of D.Disk fetch.new) }
     {
         let Some(transaction) = self.transaction(session) else {
             return Ok(None);
         };
         let touched = touched(alloc, transaction)?;
-        commit(
-            alloc,
-            catalog,
-            stamp,
-            transaction.start(),
-            touched,
-            &transaction.streams,
-        )
+        let start = transaction.start();
+        let streams = &transaction.streams;
+        commit(alloc, catalog, stamp, start, touched, streams, fetch)
     }
 }
 
-ghost use Rattle.std.specs.Prelude.{◌≡◌, ◌+◌, ◌++◌, ◌≤◌, ℕ, Some, None, Err, true, false, nat_eq};
-ghost use Rattle.std.specs.Prelude.{length, map};
-ghost use Rattle.std.specs.Prelude.{option_map, IfOk, OnOk};
+ghost use Rattle.std.specs.Prelude.{◌≡◌, ◌+◌, ◌≤◌, Some, None, false, nat_eq};
+ghost use Rattle.std.specs.Prelude.{length, option_map, IfOk, OnOk};
 ghost use Rattle.wh_value.specs.Limit.{bound};
-ghost use Rattle.wh_value.specs.declared.limit.Limit.{Limit};
 ghost use Rattle.wh_value.specs.declared.limit.Limit.TheVariants as limits;
+ghost use Rattle.wh_fetch.specs.Device.{CountsIf};
+ghost use Rattle.wh_fetch.specs.DiskFetch.{told_of, damage_of, faults_of, IsRight, GoesOn};
+ghost use Rattle.wh_filed.specs.Filed.{AllShown};
 ghost use Rattle.wh_record.specs.View.{change_of, commit_of};
 ghost use Rattle.wh_state.specs.Commit.{PushesVersion};
 ghost use Rattle.wh_state.specs.Objects.{table_at};
-ghost use Rattle.wh_state.specs.Written.{commit_for};
-ghost use Rattle.wh_version.specs.Edits.{edits_in};
 ghost use Rattle.wh_table.specs.Table.{table_of};
-ghost use Rattle.wh_catalog.specs.Catalog.{stored_of, state_of};
+ghost use Rattle.wh_catalog.specs.Catalog.{state_of, filed_of};
 ghost use Rattle.wh_machine.specs.Transaction as machine;
 ghost use Rattle.wh_txn.specs.View.{transaction_of};
-ghost use Rattle.wh_txn.specs.Recording.{touched_at, touched_in, HasParts, versions_for};
-ghost use Rattle.wh_txn.specs.Recording.{version_for};
-ghost use Rattle.wh_txn.specs.declared.fault.RecordFault.TheVariants as faults;
+ghost use Rattle.wh_txn.specs.Fault.{is_read};
+ghost use Rattle.wh_txn.specs.Recording.{touched_at, touched_in, HasParts, GivesCommit};
+ghost use Rattle.wh_txn.specs.Recording.{GivesVersions, AddsVersion, IsAt, IsRead, AreRead};
 
 /// A table that a transaction touched, and its edits.
 #[derive(Debug, Drop)]
@@ -84,24 +86,27 @@ pub(crate) struct TouchedTable {
 }
 
 /// The commit of a transaction with that start, which touched these tables and read these streams.
-pub(crate) fn commit(
+pub(crate) fn commit<D: Disk>(
     alloc: Global,
     catalog: &Catalog,
     stamp: u64,
     start: u64,
     touched: Vec<TouchedTable>,
     streams: &[u32],
+    fetch: &mut DiskFetch<D>,
 ) -> Result<Option<Commit>, RecordFault>
-    ensures made { IfOk result (λ found. (t : machine.Transaction)
-        → HasParts t start touched.items streams.now
-        → option_map commit_of found ≡ option_map (commit_for (stored_of catalog.now) stamp)
-        (machine.acts_of (state_of catalog.now).objects t)) }
-    ensures within { IfOk result (λ found. (t : machine.Transaction)
-        → HasParts t start touched.items streams.now
-        → machine.past_limit (state_of catalog.now).objects t ≡ None) }
-    ensures limit { (id : ℕ) (which : Limit) → result ≡ Err (faults.Limit id which)
+    requires { IsRight D.Disk fetch.old }
+    ensures gives { AllShown (told_of D.Disk fetch.old) (filed_of catalog.now)
         → (t : machine.Transaction) → HasParts t start touched.items streams.now
-        → machine.past_limit (state_of catalog.now).objects t ≡ Some (id, which) }
+        → GivesCommit catalog.now stamp t result }
+    ensures timed { IfOk result (λ found. IsAt stamp (option_map commit_of found)) }
+    ensures read { IfOk result (λ found. IsRead (option_map commit_of found)) }
+    ensures same { told_of D.Disk fetch.new ≡ told_of D.Disk fetch.old }
+    ensures sound { AllShown (told_of D.Disk fetch.old) (filed_of catalog.now)
+        → damage_of fetch.new ≡ damage_of fetch.old }
+    ensures goes { GoesOn D.Disk fetch.old fetch.new }
+    ensures counts { CountsIf (is_read result)
+        (faults_of D.Disk fetch.old) (faults_of D.Disk fetch.new) }
 {
     if is_idle(&touched, streams) {
         return Ok(None);
@@ -112,7 +117,7 @@ pub(crate) fn commit(
             which: Limit::RowNumber,
         });
     }
-    let mut changes = versions(alloc, catalog, stamp, touched)?;
+    let mut changes = versions(alloc, catalog, stamp, touched, fetch)?;
     add_offsets(&mut changes, catalog, start, streams)?;
     Ok(Some(Commit { stamp, changes }))
 }
@@ -171,53 +176,60 @@ pub(crate) fn next_row(catalog: &Catalog, id: u32) -> u64
 }
 
 // A version for each of these tables.
-fn versions(
+fn versions<D: Disk>(
     alloc: Global,
     catalog: &Catalog,
     stamp: u64,
     touched: Vec<TouchedTable>,
+    fetch: &mut DiskFetch<D>,
 ) -> Result<Vec<Change>, RecordFault>
-    requires { machine.first_past (machine.row_past (state_of catalog.now).objects)
+    requires right { IsRight D.Disk fetch.old }
+    requires within { machine.first_past (machine.row_past (state_of catalog.now).objects)
         limits.RowNumber (touched_at touched.items) ≡ None }
-    ensures made { IfOk result (λ changes. map change_of changes.items
-        ≡ versions_for stamp (stored_of catalog.now).objects (touched_at touched.items)) }
-    ensures within { IfOk result (λ changes.
-        machine.first_past (machine.partition_past (state_of catalog.now).objects)
-        limits.PartitionNumber (touched_at touched.items) ≡ None) }
-    ensures limit { (id : ℕ) (which : Limit) → result ≡ Err (faults.Limit id which)
-        → machine.first_past (machine.partition_past (state_of catalog.now).objects)
-        limits.PartitionNumber (touched_at touched.items) ≡ Some (id, which) }
+    ensures gives { AllShown (told_of D.Disk fetch.old) (filed_of catalog.now)
+        → GivesVersions catalog.now stamp touched.items result }
+    ensures read { IfOk result (λ changes. AreRead changes.items) }
+    ensures same { told_of D.Disk fetch.new ≡ told_of D.Disk fetch.old }
+    ensures sound { AllShown (told_of D.Disk fetch.old) (filed_of catalog.now)
+        → damage_of fetch.new ≡ damage_of fetch.old }
+    ensures goes { GoesOn D.Disk fetch.old fetch.new }
+    ensures counts { CountsIf (is_read result)
+        (faults_of D.Disk fetch.old) (faults_of D.Disk fetch.new) }
 {
     let mut changes = Vec::new(alloc);
     for one in touched {
-        add_version(&mut changes, alloc, catalog, stamp, one)?;
+        add_version(&mut changes, alloc, catalog, stamp, one, fetch)?;
     }
     Ok(changes)
 }
 
 // Adds a version of a table, where the catalog has it.
-fn add_version(
+fn add_version<D: Disk>(
     changes: &mut Vec<Change>,
     alloc: Global,
     catalog: &Catalog,
     stamp: u64,
     one: TouchedTable,
+    fetch: &mut DiskFetch<D>,
 ) -> Result<(), RecordFault>
-    requires { machine.row_past (state_of catalog.now).objects (touched_in one) ≡ false }
-    ensures made { OnOk result (map change_of changes.new.items ≡ map change_of changes.old.items
-        ++ version_for stamp (stored_of catalog.now).objects (touched_in one)) }
-    ensures within { OnOk result (machine.partition_past (state_of catalog.now).objects
-        (touched_in one) ≡ false) }
-    ensures limit { (id : ℕ) (which : Limit) → result ≡ Err (faults.Limit id which)
-        → (id ≡ one.id) × (which ≡ limits.PartitionNumber)
-        × (machine.partition_past (state_of catalog.now).objects (touched_in one) ≡ true) }
+    requires right { IsRight D.Disk fetch.old }
+    requires within { machine.row_past (state_of catalog.now).objects (touched_in one) ≡ false }
+    ensures adds { AllShown (told_of D.Disk fetch.old) (filed_of catalog.now)
+        → AddsVersion catalog.now stamp one changes.old.items changes.new.items result }
+    ensures read { OnOk result (AreRead changes.old.items → AreRead changes.new.items) }
+    ensures same { told_of D.Disk fetch.new ≡ told_of D.Disk fetch.old }
+    ensures sound { AllShown (told_of D.Disk fetch.old) (filed_of catalog.now)
+        → damage_of fetch.new ≡ damage_of fetch.old }
+    ensures goes { GoesOn D.Disk fetch.old fetch.new }
+    ensures counts { CountsIf (is_read result)
+        (faults_of D.Disk fetch.old) (faults_of D.Disk fetch.new) }
 {
     let TouchedTable { id, edits } = one;
     let Some(table) = catalog.table(id) else {
         return Ok(());
     };
     let more = edits.added().len() as u64;
-    let Some(rewritten) = table.rewrite(alloc, edits)? else {
+    let Some(rewritten) = table.rewrite(alloc, edits, fetch)? else {
         return Err(RecordFault::Limit {
             id,
             which: Limit::PartitionNumber,

@@ -1,96 +1,81 @@
-use crate::Sessions;
-use crate::transaction::Staged;
-use std::alloc::{AllocError, Global};
-use wh_catalog::{Catalog, StoredTable};
-use wh_part::Partition;
-use wh_table::EditedTable;
-use wh_value::Row;
+//! The rows of a table as a statement sees it.
 
-/// A table as a statement sees it.
+use crate::Sessions;
+use std::alloc::{AllocError, Global};
+use std::sync::Arc;
+use wh_catalog::Catalog;
+use wh_fetch::{DiskFetch, FetchFault};
+use wh_filed::load;
+use wh_part::Partition;
+use wh_table::by_rows;
+use wh_world::Disk;
+
+/// A table as a statement sees it: the partitions of its last version that were loaded, and those
+/// that the edits of the session's own transaction make in the place of others. Both have nothing
+/// where no table has the id.
 #[derive(Debug, Drop)]
-pub enum TableSeen<'a> {
-    /// No table has the id.
-    Missing,
-    /// Its last version.
-    Committed(&'a StoredTable),
-    /// Its last version, with the edits of the session's transaction on it.
-    Edited(&'a StoredTable, EditedTable),
+pub struct TableSeen {
+    pub(crate) stored: Vec<Arc<Partition>>,
+    pub(crate) made: Vec<Partition>,
 }
 
 impl Sessions {
-    ghost use Rattle.std.specs.Prelude.{◌≡◌, ℕ, option_map, IfOk};
+    ghost use Rattle.std.specs.Prelude.{◌≡◌, ℕ, IfOk};
+    ghost use Rattle.wh_fetch.specs.Device.{Counts};
+    ghost use Rattle.wh_fetch.specs.DiskFetch.{told_of, damage_of, faults_of, IsRight, GoesOn};
+    ghost use Rattle.wh_filed.specs.Filed.{AllShown};
     ghost use Rattle.wh_state.specs.State.{stamped};
     ghost use Rattle.wh_state.specs.Objects.{table_at};
-    ghost use Rattle.wh_catalog.specs.Catalog.{state_of};
+    ghost use Rattle.wh_catalog.specs.Catalog.{state_of, filed_of};
     ghost use Rattle.wh_machine.specs.Transaction.{seen};
     ghost use Rattle.wh_machine.specs.Sessions.{transaction_in};
-    ghost use Rattle.wh_txn.specs.View.{staged_of, sessions_of};
-    ghost use Rattle.wh_txn.specs.Seen.{Shows, own};
+    ghost use Rattle.wh_txn.specs.View.{sessions_of};
+    ghost use Rattle.wh_txn.specs.Seen.{Shows};
 
     /// What a statement of a session sees of the table of an id: its last version, with the edits
     /// of the session's own transaction on it.
-    pub fn seen<'a>(
+    pub fn seen<D: Disk>(
         &self,
         alloc: Global,
-        catalog: &'a Catalog,
+        catalog: &Catalog,
         session: u64,
         id: u32,
-    ) -> Result<TableSeen<'a>, AllocError>
-        ensures { IfOk result (λ found. (stamp : ℕ) → Shows found (table_at
+        fetch: &mut DiskFetch<D>,
+    ) -> Result<TableSeen, FetchFault>
+        requires { IsRight D.Disk fetch.old }
+        ensures shows { AllShown (told_of D.Disk fetch.old) (filed_of catalog.now)
+            → IfOk result (λ found. (stamp : ℕ) → Shows found (table_at
             (seen (stamped (state_of catalog.now) stamp)
             (transaction_in (sessions_of self.now) session)).objects id)) }
+        ensures same { told_of D.Disk fetch.new ≡ told_of D.Disk fetch.old }
+        ensures sound { AllShown (told_of D.Disk fetch.old) (filed_of catalog.now)
+            → damage_of fetch.new ≡ damage_of fetch.old }
+        ensures goes { GoesOn D.Disk fetch.old fetch.new }
+        ensures counts { Counts (faults_of D.Disk fetch.old) (faults_of D.Disk fetch.new) result }
     {
-        let Some(table) = catalog.table(id) else {
-            return Ok(TableSeen::Missing);
-        };
-        let Some(staged) = self.staged(session, id) else {
-            return Ok(TableSeen::Committed(table));
-        };
-        let edits = staged.edits.copy(alloc)?;
-        let edited = table.edited(alloc, edits)?;
-        Ok(TableSeen::Edited(table, edited))
-    }
-
-    // What a session's transaction has staged for the table of an id.
-    fn staged(&self, session: u64, id: u32) -> Option<&Staged>
-        ensures { option_map (λ s. staged_of s.now) result
-            ≡ own (transaction_in (sessions_of self.now) session) id }
-    {
-        let transaction = self.transaction(session)?;
-        transaction.staged(id)
+        let at = self.at(alloc, catalog, session, id, fetch)?;
+        let stored = load(alloc, &at.filed, fetch)?;
+        Ok(TableSeen {
+            stored,
+            made: at.made,
+        })
     }
 }
 
-impl TableSeen<'_> {
-    ghost use Rattle.std.specs.Prelude.{◌≡◌, Option, Some, IfOk};
+impl TableSeen {
+    ghost use Rattle.std.specs.Prelude.{◌≡◌, Some, IfOk};
     ghost use Rattle.std.specs.FinMap.{entries};
-    ghost use Rattle.wh_meaning.specs.Bag.{bag_of};
+    ghost use Rattle.wh_frame.specs.Spelling.{RisesFrom};
     ghost use Rattle.wh_state.specs.State.{Table, last_rows};
-    ghost use Rattle.wh_machine.specs.Queries.{table_bag};
-    ghost use Rattle.wh_table.specs.Rows.{rows_at, all_rows, partitions_at};
+    ghost use Rattle.wh_table.specs.Rows.{all_rows, partitions_at};
     ghost use Rattle.wh_txn.specs.Seen.{Shows};
-
-    /// Its rows, as partitions keep them.
-    pub fn rows(&self, alloc: Global) -> Result<Vec<&Row>, AllocError>
-        ensures { IfOk result (λ rows. (found : Option Table) → Shows self.now found
-            → bag_of (rows_at rows.items) ≡ table_bag found) }
-    {
-        match self {
-            TableSeen::Missing => Ok(Vec::new(alloc)),
-            TableSeen::Committed(table) => table.rows(alloc),
-            TableSeen::Edited(table, edited) => table.rows_with(alloc, edited),
-        }
-    }
 
     /// Its partitions, by their rows: the row numbers rise from each to the next.
     pub fn by_rows(&self, alloc: Global) -> Result<Vec<&Partition>, AllocError>
-        ensures { IfOk result (λ found. (t : Table) → Shows self.now (Some t)
+        ensures rows { IfOk result (λ found. (t : Table) → Shows self.now (Some t)
             → all_rows (partitions_at found.items) ≡ entries (last_rows t)) }
+        ensures rising { IfOk result (λ found. RisesFrom 0 (all_rows (partitions_at found.items))) }
     {
-        match self {
-            TableSeen::Missing => Ok(Vec::new(alloc)),
-            TableSeen::Committed(table) => table.by_rows(alloc),
-            TableSeen::Edited(table, edited) => table.by_rows_with(alloc, edited),
-        }
+        by_rows(alloc, &self.stored, &self.made)
     }
 }

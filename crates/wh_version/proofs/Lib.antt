@@ -1,7 +1,9 @@
+pub mod Kept
 pub mod Last
 pub mod Parted
 pub mod Pushed
 pub mod Popped
+pub mod FiledAgain
 pub mod Found
 pub mod RisingEdits
 pub mod Puts

@@ -9,43 +9,42 @@ use Rattle.std.specs.Prelude.{nat_lt, nat_le, nat_eq, min, not, ◌&&◌, ◌||�
 use Rattle.wh_frame.specs.Partition.{Partition}
 use Rattle.wh_state.specs.Edits.{without, is_among}
 use Rattle.wh_version.specs.declared.lasting.Lasting.{Lasting}
-use Rattle.wh_version.specs.Lasting.{stands_at, standing_at, partitions_in, numbered_from, part_one}
+use Rattle.wh_version.specs.Lasting.{stands_at, standing_at, filed_in, partitions_in, numbered_from, part_one}
 use Rattle.wh_version.specs.Lasting.{parted, is_gone_by, is_standing}
 
 -- ---- the numbers stay
 
-part_number : (place number : ℕ) (k : Lasting) → (part_one place number k).partition ≡ k.partition
-part_number place number k = pick (nat_eq k.partition.number number)
+part_filed : (place number : ℕ) (k : Lasting) → (part_one place number k).filed ≡ k.filed
+part_filed place number k = pick (nat_eq k.filed.partition.number number)
   where
-    pick : (b : Bool) → (cond b (record k { until = min k.until place }) k).partition ≡ k.partition
+    pick : (b : Bool) → (cond b (record k { until = min k.until place }) k).filed ≡ k.filed
     pick true = refl
     pick false = refl
 
-pub one_partitions : (place number : ℕ) (kept : List Lasting)
-    → partitions_in (map (part_one place number) kept) ≡ partitions_in kept
-one_partitions place number [] = refl
-one_partitions place number (k ∷ kept) = let rest = one_partitions place number kept in
-    λ i. part_number place number k i ∷ rest i
+pub one_filed : (place number : ℕ) (kept : List Lasting) → filed_in (map (part_one place number) kept) ≡ filed_in kept
+one_filed place number [] = refl
+one_filed place number (k ∷ kept) = let rest = one_filed place number kept in
+    λ i. part_filed place number k i ∷ rest i
 
-pub parted_partitions : (place : ℕ) (numbers : List ℕ) (kept : List Lasting)
-    → partitions_in (parted place numbers kept) ≡ partitions_in kept
-parted_partitions place [] kept = refl
-parted_partitions place (n ∷ numbers) kept = parted_partitions place numbers (map (part_one place n) kept)
-    ∙ one_partitions place n kept
+pub parted_filed : (place : ℕ) (numbers : List ℕ) (kept : List Lasting)
+    → filed_in (parted place numbers kept) ≡ filed_in kept
+parted_filed place [] kept = refl
+parted_filed place (n ∷ numbers) kept = parted_filed place numbers (map (part_one place n) kept)
+    ∙ one_filed place n kept
 
 -- ---- one number, by its place in the list
 
 abbrev gone_from : ℕ → Lasting → Lasting
 gone_from place k = record k { until = min k.until place }
 
-other_number : (place number : ℕ) (k : Lasting) → (k.partition.number ≡ number → ⊥) → part_one place number k ≡ k
+other_number : (place number : ℕ) (k : Lasting) → (k.filed.partition.number ≡ number → ⊥) → part_one place number k ≡ k
 other_number place number k other =
-    ap (λ b. cond b (record k { until = min k.until place }) k) (ne_eqb k.partition.number number other)
+    ap (λ b. cond b (record k { until = min k.until place }) k) (ne_eqb k.filed.partition.number number other)
 
-that_number : (place number : ℕ) (k : Lasting) → k.partition.number ≡ number
+that_number : (place number : ℕ) (k : Lasting) → k.filed.partition.number ≡ number
     → part_one place number k ≡ record k { until = min k.until place }
 that_number place number k is =
-    ap (λ b. cond b (record k { until = min k.until place }) k) (eq-eqb k.partition.number number is)
+    ap (λ b. cond b (record k { until = min k.until place }) k) (eq-eqb k.filed.partition.number number is)
 
 -- a number that none has of those that are numbered from the next one on
 abbrev pub IsOff : ℕ → ℕ → List Lasting → Type 0
@@ -57,8 +56,8 @@ off_rest number next k kept (inl below) = inl (omega arith)
 off_rest number next k kept (inr above) = inr (omega arith)
 
 pub off_first : (number next : ℕ) (k : Lasting) (kept : List Lasting) → IsOff number next (k ∷ kept)
-    → k.partition.number ≡ next
-    → k.partition.number ≡ number
+    → k.filed.partition.number ≡ next
+    → k.filed.partition.number ≡ number
     → ⊥
 off_first number next k kept (inl below) here e = omega arith
 off_first number next k kept (inr above) here e = omega arith
@@ -68,7 +67,7 @@ pub not_there : (place next number : ℕ) (kept : List Lasting) → IsTrue (numb
     → map (part_one place number) kept ≡ kept
 not_there place next number [] numbers off = refl
 not_there place next number (k ∷ kept) numbers off =
-    let here : k.partition.number ≡ next = eqb-true k.partition.number next (and_parts _ _ numbers).0 in
+    let here : k.filed.partition.number ≡ next = eqb-true k.filed.partition.number next (and_parts _ _ numbers).0 in
     let rest = not_there place (next + 1) number kept (and_parts _ _ numbers).1 (off_rest number next k kept off) in
     let same = other_number place number k (off_first number next k kept off here) in
     λ i. same i ∷ rest i
@@ -78,14 +77,14 @@ pub there : (place next i : ℕ) (kept : List Lasting) (k : Lasting) → IsTrue 
     → set kept i (record k { until = min k.until place }) ≡ map (part_one place (next + i)) kept
 there place next i [] k numbers within is = absurd (omega arith)
 there place next zero (x ∷ kept) k numbers within is =
-    let here : x.partition.number ≡ next = eqb-true x.partition.number next (and_parts _ _ numbers).0 in
+    let here : x.filed.partition.number ≡ next = eqb-true x.filed.partition.number next (and_parts _ _ numbers).0 in
     let one = that_number place (next + 0) x (omega arith) in
     let rest = not_there place (next + 1) (next + 0) kept (and_parts _ _ numbers).1 (inl (omega arith)) in
     let here_one : record k { until = min k.until place } ≡ part_one place (next + 0) x =
     ap (gone_from place) is ∙ sym one in
     λ j. here_one j ∷ sym rest j
 there place next (suc i) (x ∷ kept) k numbers within is =
-    let here : x.partition.number ≡ next = eqb-true x.partition.number next (and_parts _ _ numbers).0 in
+    let here : x.filed.partition.number ≡ next = eqb-true x.filed.partition.number next (and_parts _ _ numbers).0 in
     let one = other_number place (next + suc i) x (λ e. omega arith) in
     let rest = there place (next + 1) i kept k (and_parts _ _ numbers).1 (omega arith) is in
     let number : next + 1 + i ≡ next + suc i = omega arith in
@@ -102,7 +101,7 @@ still_before early place until before = by_cases (cases_lt early until)
 
 stands_before : (early place number : ℕ) (k : Lasting) → early < place
     → stands_at early (part_one place number k) ≡ stands_at early k
-stands_before early place number k before = pick (nat_eq k.partition.number number)
+stands_before early place number k before = pick (nat_eq k.filed.partition.number number)
   where
     pick : (b : Bool) → stands_at early (cond b (record k { until = min k.until place }) k) ≡ stands_at early k
     pick true = still_before early place k.until before
@@ -110,19 +109,19 @@ stands_before early place number k before = pick (nat_eq k.partition.number numb
 
 -- what is shown of a list with one more in front
 shown : (s : Bool) (k : Lasting) (kept : List Lasting)
-    → partitions_in (cond s (k ∷ kept) kept) ≡ cond s (k.partition ∷ partitions_in kept) (partitions_in kept)
+    → partitions_in (cond s (k ∷ kept) kept) ≡ cond s (k.filed.partition ∷ partitions_in kept) (partitions_in kept)
 shown true k kept = refl
 shown false k kept = refl
 
 -- the same stand, where each stands as before and is of the same partition
 pub same_standing : (place : ℕ) (f : Lasting → Lasting) → ((k : Lasting) → stands_at place (f k) ≡ stands_at place k)
-    → ((k : Lasting) → (f k).partition ≡ k.partition) → (kept : List Lasting)
+    → ((k : Lasting) → (f k).filed ≡ k.filed) → (kept : List Lasting)
     → standing_at place (map f kept) ≡ standing_at place kept
 same_standing place f stands same [] = refl
 same_standing place f stands same (k ∷ kept) =
     let rest = same_standing place f stands same kept in
     shown (stands_at place (f k)) (f k) (filter (stands_at place) (map f kept))
-    ∙ (λ i. cond (stands k i) (same k i ∷ rest i) (rest i))
+    ∙ (λ i. cond (stands k i) ((same k i).partition ∷ rest i) (rest i))
     ∙ sym (shown (stands_at place k) k (filter (stands_at place) kept))
 
 pub parted_before : (early place count : ℕ) (numbers : List ℕ) (kept : List Lasting) → early < place
@@ -131,7 +130,7 @@ parted_before early place count [] kept before = refl
 parted_before early place count (n ∷ numbers) kept before =
     parted_before early place count numbers (map (part_one place n) kept) before
     ∙ ap (standing_at early) (take-map (part_one place n) count kept)
-    ∙ same_standing early (part_one place n) (λ k. stands_before early place n k before) (part_number place n)
+    ∙ same_standing early (part_one place n) (λ k. stands_before early place n k before) (part_filed place n)
     (take count kept)
 
 -- ---- which stand at the place itself
@@ -141,8 +140,9 @@ and_true true = refl
 and_true false = refl
 
 stands_there : (place number : ℕ) (k : Lasting)
-    → stands_at place (part_one place number k) ≡ (stands_at place k && not (is_among k.partition.number (number ∷ [])))
-stands_there place number k = pick (nat_eq k.partition.number number)
+    → stands_at place (part_one place number k)
+    ≡ (stands_at place k && not (is_among k.filed.partition.number (number ∷ [])))
+stands_there place number k = pick (nat_eq k.filed.partition.number number)
   where
     pick : (b : Bool)
         → stands_at place (cond b (record k { until = min k.until place }) k) ≡ (stands_at place k && not (b || false))
@@ -151,7 +151,8 @@ stands_there place number k = pick (nat_eq k.partition.number number)
 
 filtered : (test : Partition → Bool) (s : Bool) (k : Lasting) (kept : List Lasting)
     → filter test (partitions_in (cond s (k ∷ kept) kept))
-    ≡ cond (s && test k.partition) (k.partition ∷ filter test (partitions_in kept)) (filter test (partitions_in kept))
+    ≡ cond (s && test k.filed.partition) (k.filed.partition ∷ filter test (partitions_in kept))
+    (filter test (partitions_in kept))
 filtered test true k kept = refl
 filtered test false k kept = refl
 
@@ -162,7 +163,7 @@ one_there place number (k ∷ kept) =
     let rest = one_there place number kept in
     let parted : List Lasting = map (part_one place number) kept in
     shown (stands_at place (part_one place number k)) (part_one place number k) (filter (stands_at place) parted)
-    ∙ (λ i. cond (stands_there place number k i) (part_number place number k i ∷ rest i) (rest i))
+    ∙ (λ i. cond (stands_there place number k i) ((part_filed place number k i).partition ∷ rest i) (rest i))
     ∙ sym (filtered (λ p. not (is_among p.number (number ∷ []))) (stands_at place k) k (filter (stands_at place) kept))
 
 filter_all : (ps : List Partition) → filter (λ p. true) ps ≡ ps
@@ -217,7 +218,7 @@ all_later last (k ∷ kept) gone = let each = and_parts _ _ gone in
 -- parting again changes nothing of it
 one_still_gone : (last number : ℕ) (k : Lasting) → is_gone_by last k ≡ true
     → is_gone_by last (part_one last number k) ≡ true
-one_still_gone last number k gone = pick (nat_eq k.partition.number number)
+one_still_gone last number k gone = pick (nat_eq k.filed.partition.number number)
   where
     pick : (b : Bool) → is_gone_by last (cond b (record k { until = min k.until last }) k) ≡ true
     pick true = or_left _ _ (le-leb (min k.until last) last (omega arith))

@@ -31,10 +31,10 @@ take_exactly n xs ys all = take-append-le n xs ys (omega arith) ∙ take_all n x
 
 -- ---- at the places before, the same stand
 
-again_partition : (place : ℕ) (k : Lasting) → (stands_again place k).partition ≡ k.partition
-again_partition place k = pick (nat_eq k.until place)
+pub again_filed : (place : ℕ) (k : Lasting) → (stands_again place k).filed ≡ k.filed
+again_filed place k = pick (nat_eq k.until place)
   where
-    pick : (b : Bool) → (cond b (record k { until = 18446744073709551615 }) k).partition ≡ k.partition
+    pick : (b : Bool) → (cond b (record k { until = 18446744073709551615 }) k).filed ≡ k.filed
     pick true = refl
     pick false = refl
 
@@ -67,7 +67,7 @@ versions_left last count kept place least (m ∷ marks) within places counts =
     let content = ap (standing_at place) (take-map (stands_again last) m.partitions (take count kept)
     ∙ ap (map (stands_again last)) (take_less m.partitions count kept few))
     ∙ same_standing place (stands_again last) (λ k. again_stands place last k (omega arith) within)
-    (again_partition last) (take m.partitions kept) in
+    (again_filed last) (take m.partitions kept) in
     let rest = versions_left last count kept (place + 1) m.partitions marks within (omega arith) parts.1 in
     λ i. record { stamp = m.stamp; data_timestamp = m.data_timestamp; content = content i } ∷ rest i
 
@@ -102,8 +102,9 @@ pub numbered_less : (place n next : ℕ) (kept : List Lasting) → IsTrue (numbe
 numbered_less place zero next kept numbers = refl
 numbered_less place (suc n) next [] numbers = refl
 numbered_less place (suc n) next (k ∷ kept) numbers =
-    let parts = and_parts (nat_eq k.partition.number next) (numbered_from (next + 1) (partitions_in kept)) numbers in
-    and_from _ _ (ap (λ p. nat_eq p.number next) (again_partition place k) ∙ parts.0)
+    let parts = and_parts (nat_eq k.filed.partition.number next) (numbered_from (next + 1) (partitions_in kept))
+    numbers in
+    and_from _ _ (ap (λ f. nat_eq f.partition.number next) (again_filed place k) ∙ parts.0)
     (numbered_less place n (next + 1) kept parts.1)
 
 alone : (least total : ℕ) (m : VersionMark) (marks : List VersionMark) → IsTrue (count_to least (m ∷ marks) total)

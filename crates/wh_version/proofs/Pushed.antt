@@ -2,8 +2,7 @@
 use Rattle.std.proofs.Common.{◌≡◌, ℕ, ◌+◌, ◌<◌, ◌≤◌, cond, true, List, [], ◌∷◌, ◌++◌, length, map, filter}
 use Rattle.std.proofs.Common.{take, IsTrue, refl, subst, ap, ◌∙◌, arith}
 use Rattle.std.proofs.lemmas.Bool.{and_parts, and_from, or_right, eqb-true, eq-eqb, leb-true, le-leb, lt-ltb}
-use Rattle.std.proofs.lemmas.List.{take-append-le, take_all, length-map, map-append}
-use Rattle.std.proofs.lemmas.List.Elements.{filter-append}
+use Rattle.std.proofs.lemmas.List.{take-append-le, take_all, map-append}
 use Rattle.std.proofs.lemmas.List.Folds.{list_all-append}
 use Rattle.std.specs.Prelude.{nat_lt, nat_le}
 use Rattle.std.specs.List.{list_all}
@@ -12,29 +11,27 @@ use Rattle.wh_state.specs.Commit.{NumberedFrom}
 use Rattle.wh_state.specs.Edits.{without}
 use Rattle.wh_version.specs.declared.lasting.Lasting.{Lasting}
 use Rattle.wh_version.specs.declared.mark.VersionMark.{VersionMark}
-use Rattle.wh_version.specs.Lasting.{stands_at, standing_at, partitions_in, numbered_from, count_to, is_gone_by, fresh}
-use Rattle.wh_version.specs.Lasting.{parted, version_by, versions_by}
-use Rattle.wh_version.proofs.Parted.{parted_before, parted_there, parted_partitions, length-parted}
+use Rattle.wh_filed.specs.Filed.{Filed, partitions_filed}
+use Rattle.wh_version.specs.Lasting.{stands_at, standing_at, filed_in, partitions_in, numbered_from, count_to}
+use Rattle.wh_version.specs.Lasting.{is_gone_by, fresh, parted, version_by, versions_by}
+use Rattle.wh_version.proofs.Kept.{length_partitions, standing_append}
+use Rattle.wh_version.proofs.Parted.{parted_before, parted_there, parted_filed, length-parted}
 
 -- ---- lists
 
-standing_append : (place : ℕ) (xs ys : List Lasting)
-    → standing_at place (xs ++ ys) ≡ standing_at place xs ++ standing_at place ys
-standing_append place xs ys =
-    ap partitions_in (filter-append (stands_at place) xs ys) ∙ map-append (λ k. k.partition) _ _
-
-fresh_stand : (place : ℕ) (ps : List Partition) → place < 18446744073709551615 → standing_at place (map fresh ps) ≡ ps
+fresh_stand : (place : ℕ) (fs : List Filed) → place < 18446744073709551615
+    → standing_at place (map fresh fs) ≡ partitions_filed fs
 fresh_stand place [] within = refl
-fresh_stand place (p ∷ ps) within =
+fresh_stand place (f ∷ fs) within =
     let stands : nat_lt place 18446744073709551615 ≡ true = lt-ltb place 18446744073709551615 within in
-    let rest = fresh_stand place ps within in
+    let rest = fresh_stand place fs within in
     ap (λ b. partitions_in
-    (cond b (fresh p ∷ filter (stands_at place) (map fresh ps)) (filter (stands_at place) (map fresh ps)))) stands
-    ∙ ap (λ l. p ∷ l) rest
+    (cond b (fresh f ∷ filter (stands_at place) (map fresh fs)) (filter (stands_at place) (map fresh fs)))) stands
+    ∙ ap (λ l. f.partition ∷ l) rest
 
-pub fresh_partitions : (ps : List Partition) → partitions_in (map fresh ps) ≡ ps
-fresh_partitions [] = refl
-fresh_partitions (p ∷ ps) = ap (λ l. p ∷ l) (fresh_partitions ps)
+pub fresh_filed : (fs : List Filed) → filed_in (map fresh fs) ≡ fs
+fresh_filed [] = refl
+fresh_filed (f ∷ fs) = ap (λ l. f ∷ l) (fresh_filed fs)
 
 -- ---- the versions before
 
@@ -72,17 +69,17 @@ versions_more kept place (n ∷ marks) m =
 
 -- ---- the version that is pushed
 
-pub content_pushed : (last : ℕ) (numbers : List ℕ) (kept : List Lasting) (added : List Partition) (count : ℕ)
+pub content_pushed : (last : ℕ) (numbers : List ℕ) (kept : List Lasting) (added : List Filed) (count : ℕ)
     → last < 18446744073709551615 → count ≡ length (parted last numbers kept ++ map fresh added)
     → standing_at last (take count (parted last numbers kept ++ map fresh added))
-    ≡ without numbers (standing_at last kept) ++ added
+    ≡ without numbers (standing_at last kept) ++ partitions_filed added
 content_pushed last numbers kept added count within all =
     ap (standing_at last) (take_all count (parted last numbers kept ++ map fresh added) (omega arith))
     ∙ standing_append last (parted last numbers kept) (map fresh added)
     ∙ (λ i. parted_there last numbers kept i ++ fresh_stand last added within i)
 
 -- marks that stand at the places before the last, and one at the last
-pub versions_pushed : (last : ℕ) (numbers : List ℕ) (kept : List Lasting) (added : List Partition)
+pub versions_pushed : (last : ℕ) (numbers : List ℕ) (kept : List Lasting) (added : List Filed)
     (marks : List VersionMark) (m : VersionMark)
     → last < 18446744073709551615 → length marks ≡ last → IsTrue (count_to 0 marks (length kept))
     → m.partitions ≡ length (parted last numbers kept ++ map fresh added)
@@ -90,7 +87,7 @@ pub versions_pushed : (last : ℕ) (numbers : List ℕ) (kept : List Lasting) (a
     ≡ versions_by kept 0 marks ++ (record {
       stamp = m.stamp;
       data_timestamp = m.data_timestamp;
-      content = without numbers (standing_at last kept) ++ added;
+      content = without numbers (standing_at last kept) ++ partitions_filed added;
     }) ∷ []
 versions_pushed last numbers kept added marks m within places counts all =
     let whole : List Lasting = parted last numbers kept ++ map fresh added in
@@ -117,20 +114,25 @@ numbered_more next (p ∷ ps) qs numbers more =
     and_from _ _ parts.0 (numbered_more (next + 1) ps qs parts.1 (subst P (omega arith) more))
 
 -- those that there were, gone or not, and those that are added
-pub more_partitions : (last : ℕ) (numbers : List ℕ) (kept : List Lasting) (added : List Partition)
-    → partitions_in (parted last numbers kept ++ map fresh added) ≡ partitions_in kept ++ added
-more_partitions last numbers kept added =
-    map-append (λ k. k.partition) (parted last numbers kept) (map fresh added)
-    ∙ (λ i. parted_partitions last numbers kept i ++ fresh_partitions added i)
+pub more_filed : (last : ℕ) (numbers : List ℕ) (kept : List Lasting) (added : List Filed)
+    → filed_in (parted last numbers kept ++ map fresh added) ≡ filed_in kept ++ added
+more_filed last numbers kept added =
+    map-append (λ k. k.filed) (parted last numbers kept) (map fresh added)
+    ∙ (λ i. parted_filed last numbers kept i ++ fresh_filed added i)
 
-pub still_numbered : (last : ℕ) (numbers : List ℕ) (kept : List Lasting) (added : List Partition)
-    → IsTrue (numbered_from 1 (partitions_in kept)) → NumberedFrom (length kept + 1) added
+pub more_partitions : (last : ℕ) (numbers : List ℕ) (kept : List Lasting) (added : List Filed)
+    → partitions_in (parted last numbers kept ++ map fresh added) ≡ partitions_in kept ++ partitions_filed added
+more_partitions last numbers kept added =
+    ap partitions_filed (more_filed last numbers kept added) ∙ map-append (λ f. f.partition) (filed_in kept) added
+
+pub still_numbered : (last : ℕ) (numbers : List ℕ) (kept : List Lasting) (added : List Filed)
+    → IsTrue (numbered_from 1 (partitions_in kept)) → NumberedFrom (length kept + 1) (partitions_filed added)
     → IsTrue (numbered_from 1 (partitions_in (parted last numbers kept ++ map fresh added)))
 still_numbered last numbers kept added numbered more =
-    let count = length-map kept (λ k. k.partition) in
-    let P : ℕ → Type 0 = λ n. NumberedFrom n added in
+    let count = length_partitions kept in
+    let P : ℕ → Type 0 = λ n. NumberedFrom n (partitions_filed added) in
     ap (numbered_from 1) (more_partitions last numbers kept added)
-    ∙ numbered_more 1 (partitions_in kept) added numbered (subst P (omega arith) more)
+    ∙ numbered_more 1 (partitions_in kept) (partitions_filed added) numbered (subst P (omega arith) more)
 
 pub still_count : (least : ℕ) (marks : List VersionMark) (m : VersionMark) (total : ℕ)
     → IsTrue (count_to least marks total) → total ≤ m.partitions
@@ -142,11 +144,11 @@ still_count least (n ∷ marks) m total counts more =
     let parts = and_parts _ _ counts in
     and_from _ _ parts.0 (still_count n.partitions marks m total parts.1 more)
 
-fresh_gone : (last : ℕ) (ps : List Partition) → IsTrue (list_all (is_gone_by last) (map fresh ps))
+fresh_gone : (last : ℕ) (fs : List Filed) → IsTrue (list_all (is_gone_by last) (map fresh fs))
 fresh_gone last [] = refl
-fresh_gone last (p ∷ ps) = and_from _ _ (or_right _ _ refl) (fresh_gone last ps)
+fresh_gone last (f ∷ fs) = and_from _ _ (or_right _ _ refl) (fresh_gone last fs)
 
-pub still_gone : (last : ℕ) (kept : List Lasting) (added : List Partition) → IsTrue (list_all (is_gone_by last) kept)
+pub still_gone : (last : ℕ) (kept : List Lasting) (added : List Filed) → IsTrue (list_all (is_gone_by last) kept)
     → IsTrue (list_all (is_gone_by last) (kept ++ map fresh added))
 still_gone last kept added gone =
     list_all-append (is_gone_by last) kept (map fresh added) ∙ and_from _ _ gone (fresh_gone last added)

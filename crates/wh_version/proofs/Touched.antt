@@ -2,9 +2,11 @@
 --     any-map            a test of what elements stand for
 --     each_touched       one that is kept, and those behind it
 --     apart_untouched    edits that lie apart from them touch none
+--     untouched_unless   so it is where a test says so
 use Rattle.std.proofs.Common.{◌≡◌, ℕ, ◌+◌, ◌≤◌, cond, Bool, true, false, List, [], ◌∷◌, ◌++◌, map, filter, None}
-use Rattle.std.proofs.Common.{is_some, refl, ap, ◌∙◌, arith}
+use Rattle.std.proofs.Common.{is_some, refl, ap, subst, ◌∙◌, arith}
 use Rattle.std.specs.Prelude.{◌||◌}
+use Rattle.std.specs.Bool.{OnFalse}
 use Rattle.std.specs.List.{list_any}
 use Rattle.std.specs.FinMap.{get}
 use Rattle.wh_value.specs.Value.{Row}
@@ -28,14 +30,14 @@ pub each_touched : (edits : RowEdits) (k : Lasting) (ks : List Lasting)
 each_touched edits k ks = pick (is_standing k)
   where
     by_touch : (t : Bool)
-        → cond t (k.partition ∷ touched_of edits ks) (touched_of edits ks)
-        ≡ cond t (k.partition ∷ []) [] ++ touched_of edits ks
+        → cond t (k.filed.partition ∷ touched_of edits ks) (touched_of edits ks)
+        ≡ cond t (k.filed.partition ∷ []) [] ++ touched_of edits ks
     by_touch true = refl
     by_touch false = refl
 
     pick : (s : Bool) → touched edits (partitions_in (cond s (k ∷ filter is_standing ks) (filter is_standing ks)))
         ≡ touched edits (partitions_in (cond s (k ∷ []) [])) ++ touched_of edits ks
-    pick true = by_touch (is_touched edits k.partition)
+    pick true = by_touch (is_touched edits k.filed.partition)
     pick false = refl
 
 -- ---- edits that lie apart from a partition
@@ -72,3 +74,11 @@ apart_untouched edits p = of_rows p.rows
         → list_any (λ e. is_some (get edits e.0)) rows ≡ false
     of_rows [] rises apart = refl
     of_rows (e ∷ es) rises apart = none_from edits e.0 e.0 (e ∷ es) (omega arith) (omega arith, rises.1) apart
+
+pub untouched_unless : (edits : RowEdits) (p : Partition) (first last : ℕ) (b : Bool) → first ≡ first_number p.rows
+    → last ≡ last_number p.rows → RisesFrom 0 p.rows → OnFalse b (AreApart edits first last)
+    → OnFalse b (is_touched edits p ≡ false)
+untouched_unless edits p first last true is_first is_last rises apart = tt
+untouched_unless edits p first last false is_first is_last rises apart =
+    let here : AreApart edits (first_number p.rows) last = subst (λ n. AreApart edits n last) is_first apart in
+    apart_untouched edits p rises (subst (AreApart edits (first_number p.rows)) is_last here)

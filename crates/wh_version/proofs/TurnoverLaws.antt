@@ -4,12 +4,11 @@
 --     standing_on      what stands by a reach of one partition more
 --     turned_over      what went and came between two reaches
 use Rattle.std.proofs.Common.{◌≡◌, ℕ, zero, suc, ◌+◌, ◌<◌, ◌≤◌, inl, inr, Bool, true, false, List, [], ◌∷◌}
-use Rattle.std.proofs.Common.{◌++◌, length, filter, take, get_or, option_map, Option, Some, None, IsTrue}
+use Rattle.std.proofs.Common.{◌++◌, length, take, get_or, option_map, Option, Some, None, IsTrue}
 use Rattle.std.proofs.Common.{refl, sym, ap, subst, ◌∙◌, append_assoc, arith}
 use Rattle.std.proofs.lemmas.Bool.{and_parts, leb-true, le-leb}
 use Rattle.std.proofs.lemmas.Bool.Decides.{nat_tests}
-use Rattle.std.proofs.lemmas.List.{map-append, take_more}
-use Rattle.std.proofs.lemmas.List.Elements.{filter-append}
+use Rattle.std.proofs.lemmas.List.{take_more}
 use Rattle.std.specs.Prelude.{nat_lt, nat_le}
 use Rattle.wh_frame.specs.Partition.{Partition}
 use Rattle.wh_state.specs.State.{content_in}
@@ -17,10 +16,10 @@ use Rattle.wh_version.specs.declared.lasting.Lasting.{Lasting}
 use Rattle.wh_version.specs.declared.mark.VersionMark.{VersionMark}
 use Rattle.wh_version.specs.declared.turnover.Reach.{Reach}
 use Rattle.wh_version.specs.declared.times.Time.TheVariants.{Data}
-use Rattle.wh_version.specs.Lasting.{stands_at, standing_at, gone_between, partitions_in, versions_by}
-use Rattle.wh_version.specs.Lasting.{count_to}
+use Rattle.wh_version.specs.Lasting.{standing_at, gone_between, versions_by, count_to}
 use Rattle.wh_version.specs.Times.{data_at, is_up_to, last_place, one_further}
 use Rattle.wh_version.specs.Turnover.{IsMixed, IsTurnover, reach_at}
+use Rattle.wh_version.proofs.Kept.{standing_append}
 use Rattle.wh_version.proofs.LastUpTo.{last_by_marks, mark_within, place_within}
 
 pub reach_stands : (kept : List Lasting) (m : VersionMark) (marks : List VersionMark) (timestamp : ℕ) (r : Reach)
@@ -149,12 +148,6 @@ mixed old new (k ∷ kept) order = by_test (nat_lt old k.until) (nat_lt new k.un
     by_test false true is_b is_c rest = absurd (grind (arith, nat_tests))
     by_test false false is_b is_c rest = rw (is_b, is_c) rest
 
-standing_more : (place : ℕ) (xs ys : List Lasting)
-    → standing_at place (xs ++ ys) ≡ standing_at place xs ++ standing_at place ys
-standing_more place xs ys =
-    ap partitions_in (filter-append (stands_at place) xs ys)
-    ∙ map-append (λ k. k.partition) (filter (stands_at place) xs) (filter (stands_at place) ys)
-
 -- one partition more
 pub standing_on : (kept : List Lasting) (place i : ℕ) (k : Lasting) (before after : List Partition)
     (front : List Partition)
@@ -165,7 +158,7 @@ standing_on kept place i k before after front within is more so_far =
     let rest : List Partition = standing_at place (k ∷ []) in
     ap (λ l. front ++ l) more ∙ sym (append_assoc front before rest) ∙ ap (λ l. l ++ rest) so_far
     ∙ sym (ap (standing_at place) (take_more kept i k within ∙ ap (λ x. take i kept ++ x ∷ []) (sym is))
-    ∙ standing_more place (take i kept) (k ∷ []))
+    ∙ standing_append place (take i kept) (k ∷ []))
 
 pub turned_over : (kept : List Lasting) (old new : Reach) (went came before behind : List Partition)
     → old.place ≤ new.place

@@ -3,7 +3,7 @@
 --     versions_of      the versions, each with its partitions: a history may begin before its first one
 --     nexts_of         the number that the next partition has after each version
 --     standing_in      the partitions of the last version
---     partitions_of    each partition of each version, by rising number
+--     filed_of, partitions_of     each partition of each version, by rising number
 --     pushed_with      a version more, of the last one's partitions without some and with others
 use Rattle.std.specs.Prelude.{ℕ, ◌+◌, Bool, true, false, List, [], ◌∷◌, ◌++◌, map}
 use Rattle.wh_frame.specs.Partition.{Partition}
@@ -12,7 +12,8 @@ use Rattle.wh_state.specs.Stored.{StoredVersion}
 use Rattle.wh_state.specs.Edits.{without}
 use Rattle.wh_version.specs.declared.mark.VersionMark.{VersionMark}
 use Rattle.wh_version.specs.declared.history.History.{History}
-use Rattle.wh_version.specs.Lasting.{partitions_in, versions_by}
+use Rattle.wh_filed.specs.Filed.{Filed, partitions_filed}
+use Rattle.wh_version.specs.Lasting.{filed_in, versions_by}
 use Rattle.wh_version.specs.Lists.{behind, but_last, shortened}
 
 abbrev pub marks_of : History → List VersionMark
@@ -30,8 +31,11 @@ nexts_of h = map (λ mark. mark.partitions + 1) (marks_of h)
 abbrev pub standing_in : List StoredVersion → List Partition
 standing_in versions = content_in [] (last_of versions)
 
+abbrev pub filed_of : History → List Filed
+filed_of h = filed_in h.kept.items
+
 abbrev pub partitions_of : History → List Partition
-partitions_of h = partitions_in h.kept.items
+partitions_of h = partitions_filed (filed_of h)
 
 abbrev pub next_in : List ℕ → ℕ
 next_in [] = 1

@@ -1,11 +1,13 @@
 -- Partitions that stand once, and the marks of versions.
---     standing_at      those that stand in the version at a place
---     gone_between     those that stand in one, and are gone from a later one
+--     filed_in, partitions_in        those that are kept, as they stand in the file and with their rows alone
+--     standing_filed, standing_at    those that stand in the version at a place
+--     gone_filed, gone_between       those that stand in one, and are gone from a later one
 --     versions_by      the versions of marks
 --     numbered_from, count_to, lies_in_front, is_gone_by     what always holds of a table's marks and partitions
-use Rattle.std.specs.Prelude.{ℕ, ◌+◌, Bool, true, false, ◌&&◌, ◌||◌, List, [], ◌∷◌, map, filter, take, nat_lt, nat_le, nat_eq}
-use Rattle.std.specs.Prelude.{min, if◌then◌else◌}
+use Rattle.std.specs.Prelude.{ℕ, ◌+◌, Bool, true, false, ◌&&◌, ◌||◌, List, [], ◌∷◌, map, filter, take}
+use Rattle.std.specs.Prelude.{nat_lt, nat_le, nat_eq, min, if◌then◌else◌}
 use Rattle.wh_frame.specs.Partition.{Partition}
+use Rattle.wh_filed.specs.Filed.{Filed, partitions_filed}
 use Rattle.wh_state.specs.Stored.{StoredVersion}
 use Rattle.wh_version.specs.declared.lasting.Lasting.{Lasting}
 use Rattle.wh_version.specs.declared.mark.VersionMark.{VersionMark}
@@ -13,26 +15,35 @@ use Rattle.wh_version.specs.declared.mark.VersionMark.{VersionMark}
 abbrev pub stands_at : ℕ → Lasting → Bool
 stands_at place k = nat_lt place k.until
 
+abbrev pub filed_in : List Lasting → List Filed
+filed_in kept = map (λ k. k.filed) kept
+
 abbrev pub partitions_in : List Lasting → List Partition
-partitions_in kept = map (λ k. k.partition) kept
+partitions_in kept = partitions_filed (filed_in kept)
+
+abbrev pub standing_filed : ℕ → List Lasting → List Filed
+standing_filed place kept = filed_in (filter (stands_at place) kept)
 
 abbrev pub standing_at : ℕ → List Lasting → List Partition
-standing_at place kept = partitions_in (filter (stands_at place) kept)
+standing_at place kept = partitions_filed (standing_filed place kept)
 
 abbrev pub is_gone_between : ℕ → ℕ → Lasting → Bool
 is_gone_between old new k = nat_lt old k.until && nat_le k.until new
 
+abbrev pub gone_filed : ℕ → ℕ → List Lasting → List Filed
+gone_filed old new kept = filed_in (filter (is_gone_between old new) kept)
+
 abbrev pub gone_between : ℕ → ℕ → List Lasting → List Partition
-gone_between old new kept = partitions_in (filter (is_gone_between old new) kept)
+gone_between old new kept = partitions_filed (gone_filed old new kept)
 
 -- ---- what a version more changes
 
-abbrev pub fresh : Partition → Lasting
-fresh p = record { partition = p; until = 18446744073709551615 }
+abbrev pub fresh : Filed → Lasting
+fresh f = record { filed = f; until = 18446744073709551615 }
 
 -- gone from the place on, if it is the one of that number
 abbrev pub part_one : ℕ → ℕ → Lasting → Lasting
-part_one place number k = if nat_eq k.partition.number number then record k { until = min k.until place } else k
+part_one place number k = if nat_eq k.filed.partition.number number then record k { until = min k.until place } else k
 
 abbrev pub parted : ℕ → List ℕ → List Lasting → List Lasting
 parted place [] kept = kept

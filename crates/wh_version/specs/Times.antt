@@ -3,8 +3,8 @@
 --     is_between              whether a time lies behind one, up to another
 --     last_place              the last place at which a test is true
 --     place_behind            the same, but for the first place, if that is asked
-use Rattle.std.specs.Prelude.{ℕ, zero, suc, Bool, true, false, ◌&&◌, List, [], ◌∷◌, filter, nat_le, nat_lt, Option, Some}
-use Rattle.std.specs.Prelude.{None}
+use Rattle.std.specs.Prelude.{ℕ, zero, suc, Bool, true, false, ◌&&◌, List, [], ◌∷◌, filter, nat_le, nat_lt}
+use Rattle.std.specs.Prelude.{Option, Some, None}
 use Rattle.wh_state.specs.State.{last_of}
 use Rattle.wh_state.specs.Stored.{StoredVersion}
 use Rattle.wh_version.specs.declared.mark.VersionMark.{VersionMark}

@@ -1,13 +1,13 @@
 use crate::turnover::{Reach, standing_behind};
 use crate::{History, Lasting};
 use std::alloc::{AllocError, Global};
-use wh_part::Partition;
+use wh_filed::FiledPartition;
 
 /// When a version was pushed, and the partitions that came with it, by rising number.
 #[derive(Debug, Drop)]
 pub struct Arrivals<'a> {
     pub stamp: u64,
-    pub came: Vec<&'a Partition>,
+    pub came: Vec<&'a FiledPartition>,
 }
 
 /// How many versions at the front of a table's were pushed by a stamp, and the partitions that came
@@ -15,7 +15,7 @@ pub struct Arrivals<'a> {
 #[derive(Debug, Drop)]
 pub struct Leading<'a> {
     pub count: usize,
-    pub came: Vec<&'a Partition>,
+    pub came: Vec<&'a FiledPartition>,
 }
 
 impl History {
@@ -23,8 +23,8 @@ impl History {
     ghost use Rattle.std.specs.Prelude.{slice_index_or as get_or, IfOk};
     ghost use Rattle.wh_version.specs.Arrivals.{IsArrival, IsFront, partitions_before};
     ghost use Rattle.wh_version.specs.Arrivals.{mark_place};
-    ghost use Rattle.wh_version.specs.Edits.{partitions_at};
-    ghost use Rattle.wh_version.specs.History.{versions_of, marked_of, marks_of};
+    ghost use Rattle.wh_filed.specs.Filed.{filed_at, partitions_at, AreAmong};
+    ghost use Rattle.wh_version.specs.History.{versions_of, filed_of, marked_of, marks_of};
 
     /// How many versions there are.
     pub fn count(&self) -> usize
@@ -46,8 +46,11 @@ impl History {
     /// What came with the version at a place, from the first one on.
     pub fn arrivals(&self, alloc: Global, place: usize) -> Result<Arrivals<'_>, AllocError>
         requires { place < length (versions_of self.now) }
-        ensures { IfOk result (λ found. IsArrival found.stamp (partitions_at found.came.items)
+        ensures came { IfOk result (λ found.
+            IsArrival found.stamp (partitions_at found.came.items)
             (take place (versions_of self.now)) (drop place (versions_of self.now))) }
+        ensures among { IfOk result (λ found.
+            AreAmong (filed_at found.came.items) (filed_of self.now)) }
     {
         let arrivals = self.came_with(alloc, self.mark_place(place))?;
         Ok(arrivals)
@@ -67,8 +70,11 @@ impl History {
     // What came with the mark at a place.
     fn came_with(&self, alloc: Global, place: usize) -> Result<Arrivals<'_>, AllocError>
         requires { place < length (marks_of self.now) }
-        ensures { IfOk result (λ found. IsArrival found.stamp (partitions_at found.came.items)
+        ensures came { IfOk result (λ found.
+            IsArrival found.stamp (partitions_at found.came.items)
             (take place (marked_of self.now)) (drop place (marked_of self.now))) }
+        ensures among { IfOk result (λ found.
+            AreAmong (filed_at found.came.items) (filed_of self.now)) }
     {
         let mark = self.mark(place);
         let reach = Reach {
@@ -84,8 +90,10 @@ impl History {
 
     /// The versions at the front that were pushed by a stamp, and what came with them.
     pub fn front(&self, alloc: Global, stamp: u64) -> Result<Leading<'_>, AllocError>
-        ensures { IfOk result (λ front. IsFront stamp front.count
+        ensures came { IfOk result (λ front. IsFront stamp front.count
             (partitions_at front.came.items) (versions_of self.now)) }
+        ensures among { IfOk result (λ front.
+            AreAmong (filed_at front.came.items) (filed_of self.now)) }
     {
         let front = self.marked_front(alloc, stamp)?;
         if !self.starts_empty {
@@ -100,8 +108,10 @@ impl History {
     }
 
     fn marked_front(&self, alloc: Global, stamp: u64) -> Result<Leading<'_>, AllocError>
-        ensures { IfOk result (λ front. IsFront stamp front.count
+        ensures came { IfOk result (λ front. IsFront stamp front.count
             (partitions_at front.came.items) (marked_of self.now)) }
+        ensures among { IfOk result (λ front.
+            AreAmong (filed_at front.came.items) (filed_of self.now)) }
     {
         let mut came = Vec::with_capacity(alloc, self.kept.len())?;
         let mut before = 0;
@@ -132,18 +142,20 @@ impl History {
 }
 
 ghost use Rattle.std.specs.Prelude.{◌≡◌, ◌+◌, ◌<◌, ◌≤◌, ◌∷◌, [], ◌++◌, vec_len, vec_capacity};
-ghost use Rattle.wh_version.specs.Edits.{partitions_at};
+ghost use Rattle.wh_filed.specs.Filed.{filed_at, partitions_at, AreAmong};
 ghost use Rattle.wh_version.specs.Lasting.{standing_at};
 
 // Adds a partition, if it stands at a place. There is memory for it.
-fn put_standing<'a>(found: &mut Vec<&'a Partition>, place: usize, one: &'a Lasting)
+fn put_standing<'a>(found: &mut Vec<&'a FiledPartition>, place: usize, one: &'a Lasting)
     requires { vec_len found.old < vec_capacity found.old }
     ensures items { partitions_at found.new.items
         ≡ partitions_at found.old.items ++ standing_at place (one.now ∷ []) }
+    ensures among { AreAmong (filed_at found.new.items)
+        (filed_at found.old.items ++ one.now.filed ∷ []) }
     ensures length { vec_len found.new ≤ vec_len found.old + 1 }
     ensures capacity { vec_capacity found.new ≡ vec_capacity found.old }
 {
     if place < one.until {
-        found.push_reserved(one.partition());
+        found.push_reserved(one.filed());
     }
 }

@@ -2,7 +2,7 @@ ghost use Rattle.std.specs.Prelude.{◌≡◌, ◌+◌, ◌≤◌, ◌^◌, ◌+
 ghost use Rattle.std.specs.Prelude.{IfOk};
 ghost use Rattle.wh_state.specs.Edits.{edited, edited_row, made_of};
 ghost use Rattle.wh_part.specs.View.{numbered_of};
-ghost use Rattle.wh_version.specs.Edits.{partitions_at};
+ghost use Rattle.wh_filed.specs.Filed.{contents_at};
 
 use crate::row_edits::RowEdits;
 use std::alloc::{AllocError, Global};
@@ -17,7 +17,7 @@ pub(crate) fn left(
 ) -> Result<Vec<Partition>, AllocError>
     requires { next ≤ 2 ^ 63 }
     ensures { IfOk result (λ left. left.items ≡ made_of next
-        (map (λ p. edited edits.now p.rows) (reverse (partitions_at sorted.now)))) }
+        (map (λ p. edited edits.now p.rows) (reverse (contents_at sorted.now)))) }
 {
     let count = sorted.len();
     let mut left = Vec::with_capacity(alloc, count)?;

@@ -30,15 +30,16 @@ impl History {
     ghost use Rattle.std.specs.Prelude.{nat_eq};
     ghost use Rattle.std.specs.List.{list_any};
     ghost use Rattle.wh_state.specs.State.{version_at, last_of};
-    ghost use Rattle.wh_version.specs.Lasting.{is_standing, partitions_in};
+    ghost use Rattle.wh_version.specs.Lasting.{is_standing, partitions_in, filed_in};
     ghost use Rattle.wh_version.specs.History.{versions_of, nexts_of, standing_in, partitions_of};
-    ghost use Rattle.wh_version.specs.History.{next_in};
+    ghost use Rattle.wh_version.specs.History.{filed_of, next_in};
 
     /// One version, with nothing in it. Takes no memory.
     pub fn new(alloc: Global, stamp: u64) -> History
         ensures versions { versions_of result ≡ version_at stamp [] ∷ [] }
         ensures nexts { nexts_of result ≡ 1 ∷ [] }
         ensures partitions { partitions_of result ≡ [] }
+        ensures filed { filed_of result ≡ [] }
         ensures full { result.starts_empty ≡ false }
     {
         let first = VersionMark {
@@ -59,6 +60,7 @@ impl History {
         ensures versions { versions_of result ≡ [] }
         ensures nexts { nexts_of result ≡ 1 ∷ [] }
         ensures partitions { partitions_of result ≡ [] }
+        ensures filed { filed_of result ≡ [] }
         ensures empty { result.starts_empty ≡ true }
     {
         let first = VersionMark {
@@ -108,6 +110,7 @@ impl History {
     /// Each partition of each version, by rising number.
     pub fn kept(&self) -> &[Lasting]
         ensures kept { partitions_in result.now ≡ partitions_of self.now }
+        ensures filed { filed_in result.now ≡ filed_of self.now }
         ensures standing { partitions_in (filter is_standing result.now)
             ≡ standing_in (versions_of self.now) }
     {

@@ -1,9 +1,9 @@
-use wh_part::Partition;
+use wh_filed::FiledPartition;
 
 /// A partition, and the place of the version that it is gone from: `usize::MAX` while it stands.
 #[derive(Debug, Drop)]
 pub struct Lasting {
-    pub(crate) partition: Partition,
+    pub(crate) filed: FiledPartition,
     pub(crate) until: usize,
 }
 
@@ -11,10 +11,10 @@ impl Lasting {
     ghost use Rattle.std.specs.Prelude.{◌≡◌};
     ghost use Rattle.wh_version.specs.Lasting.{is_standing, stands_again};
 
-    pub fn partition(&self) -> &Partition
-        ensures { result.now ≡ self.now.partition }
+    pub fn filed(&self) -> &FiledPartition
+        ensures { result.now ≡ self.now.filed }
     {
-        &self.partition
+        &self.filed
     }
 
     /// Whether it stands in the last version.

@@ -4,13 +4,14 @@ ghost use Rattle.wh_version.specs.Lasting.{numbered_from, partitions_in, part_on
 
 use crate::{History, Lasting, VersionMark};
 use std::alloc::AllocError;
-use wh_part::Partition;
+use wh_filed::FiledPartition;
 
 impl History {
     ghost use Rattle.std.specs.Prelude.{◌≡◌, ◌+◌, [], ◌∷◌, ◌++◌, length, OnOk, OnErr};
+    ghost use Rattle.wh_filed.specs.Filed.{partitions_filed};
     ghost use Rattle.wh_state.specs.Commit.{NumberedFrom};
     ghost use Rattle.wh_version.specs.History.{versions_of, nexts_of, partitions_of, next_in};
-    ghost use Rattle.wh_version.specs.History.{pushed_with};
+    ghost use Rattle.wh_version.specs.History.{filed_of, pushed_with};
 
     /// Adds a version: the last one's partitions without those of the removed numbers, and then the
     /// added ones. Takes memory for what is added alone, and takes it first.
@@ -19,19 +20,22 @@ impl History {
         stamp: u64,
         data_timestamp: u64,
         removed: &[u64],
-        added: Vec<Partition>,
+        added: Vec<FiledPartition>,
     ) -> Result<(), AllocError>
-        requires { NumberedFrom (next_in (nexts_of self.old)) added.items }
+        requires { NumberedFrom (next_in (nexts_of self.old)) (partitions_filed added.items) }
         ensures versions { OnOk result (versions_of self.new
-            ≡ pushed_with (versions_of self.old) stamp data_timestamp removed.now added.items) }
+            ≡ pushed_with (versions_of self.old) stamp data_timestamp removed.now
+            (partitions_filed added.items)) }
         ensures nexts { OnOk result (nexts_of self.new
             ≡ nexts_of self.old ++ (next_in (nexts_of self.old) + length added.items) ∷ []) }
         ensures partitions { OnOk result (partitions_of self.new
-            ≡ partitions_of self.old ++ added.items) }
+            ≡ partitions_of self.old ++ partitions_filed added.items) }
+        ensures filed { OnOk result (filed_of self.new ≡ filed_of self.old ++ added.items) }
         ensures empty { self.new.starts_empty ≡ self.old.starts_empty }
         ensures same { OnErr result (versions_of self.new ≡ versions_of self.old) }
         ensures same_nexts { OnErr result (nexts_of self.new ≡ nexts_of self.old) }
         ensures same_partitions { OnErr result (partitions_of self.new ≡ partitions_of self.old) }
+        ensures same_filed { OnErr result (filed_of self.new ≡ filed_of self.old) }
     {
         self.kept.reserve(added.len())?;
         self.later.reserve(1)?;
@@ -75,13 +79,13 @@ fn part_one(kept: &mut Vec<Lasting>, place: usize, number: u64)
 }
 
 // Adds partitions that stand, for which there is memory.
-fn append(kept: &mut Vec<Lasting>, added: Vec<Partition>)
+fn append(kept: &mut Vec<Lasting>, added: Vec<FiledPartition>)
     requires { vec_len kept.old + vec_len added ≤ vec_capacity kept.old }
     ensures { kept.new.items ≡ kept.old.items ++ map fresh added.items }
 {
-    for partition in added {
+    for filed in added {
         kept.push_reserved(Lasting {
-            partition,
+            filed,
             until: usize::MAX,
         });
     }

@@ -1,12 +1,13 @@
 ghost use Rattle.std.specs.Prelude.{◌≡◌, ◌≤◌, ◌^◌, map, IfOk};
 ghost use Rattle.wh_state.specs.Edits.{by_rows, edited, made_of, with_added};
-ghost use Rattle.wh_version.specs.Edits.{partitions_at};
+ghost use Rattle.wh_filed.specs.Filed.{contents_at};
 
 use crate::editing::left;
 use crate::sorting::by_rows;
-use crate::touching::{numbers, touched};
+use crate::touching::{candidates, numbers, touched_among};
 use crate::{Edits, History};
 use std::alloc::{AllocError, Global};
+use wh_filed::FiledPartition;
 use wh_part::{Partition, cut};
 use wh_value::Limit;
 
@@ -20,49 +21,80 @@ pub struct Rewritten {
 impl History {
     ghost use Rattle.std.specs.Prelude.{◌≡◌, ◌+◌, ◌≤◌, length, nat_le, is_some, IfOk, IfSome};
     ghost use Rattle.wh_value.specs.Limit.{bound};
+    ghost use Rattle.wh_filed.specs.Filed.{filed_at, partitions_at, contents_at, AreAmong};
+    ghost use Rattle.wh_state.specs.Commit.{NumberedFrom};
     ghost use Rattle.wh_state.specs.Edits.{numbers_gone, partitions_made};
-    ghost use Rattle.wh_version.specs.Edits.{edits_in};
-    ghost use Rattle.wh_version.specs.History.{versions_of, nexts_of, standing_in, next_in};
+    ghost use Rattle.wh_version.specs.Edits.{edits_in, HaveTouched};
+    ghost use Rattle.wh_version.specs.History.{versions_of, filed_of, nexts_of};
+    ghost use Rattle.wh_version.specs.History.{standing_in, next_in};
 
-    /// What edits make of the last version, by the cutting rule, whatever numbers come out.
+    /// Those of the last version's partitions whose rows `edited` and `rewrite` need: no other has
+    /// a row that the edits name. No row is looked at.
+    pub fn candidates(
+        &self,
+        alloc: Global,
+        edits: &Edits,
+    ) -> Result<Vec<&FiledPartition>, AllocError>
+        ensures touched { IfOk result (λ found.
+            HaveTouched self.now (edits_in edits.now) (partitions_at found.items)) }
+        ensures among { IfOk result (λ found.
+            AreAmong (filed_at found.items) (filed_of self.now)) }
+    {
+        let found = candidates(alloc, &edits.rows, self.kept())?;
+        Ok(found)
+    }
+
+    /// What edits make of the last version, by the cutting rule, whatever numbers come out. The
+    /// partitions at hand are the candidates; whatever they are, what comes out can be pushed.
     pub fn edited(
         &self,
         alloc: Global,
         edits: Edits,
         next_row: u64,
+        loaded: &[&Partition],
     ) -> Result<Rewritten, AllocError>
-        ensures removed { IfOk result (λ r. r.removed.items
+        ensures removed { HaveTouched self.now (edits_in edits) (contents_at loaded.now)
+            → IfOk result (λ r. r.removed.items
             ≡ numbers_gone (edits_in edits).rows (standing_in (versions_of self.now))) }
-        ensures added { IfOk result (λ r. r.added.items
+        ensures added { HaveTouched self.now (edits_in edits) (contents_at loaded.now)
+            → IfOk result (λ r. r.added.items
             ≡ partitions_made (next_in (nexts_of self.now)) next_row (edits_in edits)
             (standing_in (versions_of self.now))) }
+        ensures numbers { IfOk result (λ r.
+            NumberedFrom (next_in (nexts_of self.now)) r.added.items) }
     {
-        let touched = touched(alloc, &edits.rows, self.kept())?;
+        let touched = touched_among(alloc, &edits.rows, loaded)?;
         let removed = numbers(alloc, &touched)?;
         let added = made(alloc, edits, &touched, self.next_partition(), next_row)?;
         Ok(Rewritten { removed, added })
     }
 
     /// What edits make of the last version, by the cutting rule. None exactly where the next
-    /// partition number would pass its limit.
+    /// partition number would pass its limit. The partitions at hand are the candidates.
     pub fn rewrite(
         &self,
         alloc: Global,
         edits: Edits,
         next_row: u64,
+        loaded: &[&Partition],
     ) -> Result<Option<Rewritten>, AllocError>
         requires rows { next_row + length (edits_in edits).added ≤ bound Limit.RowNumber }
-        ensures fits { IfOk result (λ found. is_some found ≡ nat_le
+        ensures fits { HaveTouched self.now (edits_in edits) (contents_at loaded.now)
+            → IfOk result (λ found. is_some found ≡ nat_le
             (next_in (nexts_of self.now) + length (partitions_made (next_in (nexts_of self.now))
             next_row (edits_in edits) (standing_in (versions_of self.now))))
             (bound Limit.PartitionNumber)) }
-        ensures removed { IfOk result (λ found. IfSome found (λ r. r.removed.items
+        ensures removed { HaveTouched self.now (edits_in edits) (contents_at loaded.now)
+            → IfOk result (λ found. IfSome found (λ r. r.removed.items
             ≡ numbers_gone (edits_in edits).rows (standing_in (versions_of self.now)))) }
-        ensures added { IfOk result (λ found. IfSome found (λ r. r.added.items
+        ensures added { HaveTouched self.now (edits_in edits) (contents_at loaded.now)
+            → IfOk result (λ found. IfSome found (λ r. r.added.items
             ≡ partitions_made (next_in (nexts_of self.now)) next_row (edits_in edits)
             (standing_in (versions_of self.now)))) }
+        ensures numbers { IfOk result (λ found. IfSome found (λ r.
+            NumberedFrom (next_in (nexts_of self.now)) r.added.items)) }
     {
-        let rewritten = self.edited(alloc, edits, next_row)?;
+        let rewritten = self.edited(alloc, edits, next_row, loaded)?;
         let behind = self.next_partition() + rewritten.added.len() as u64;
         if behind > Limit::PartitionNumber.bound() {
             return Ok(None);
@@ -82,7 +114,7 @@ fn made(
     requires { next ≤ 2 ^ 63 }
     ensures { IfOk result (λ made. made.items
         ≡ with_added next next_row edits.added.items (made_of next
-        (map (λ p. edited edits.rows p.rows) (by_rows (partitions_at touched.now))))) }
+        (map (λ p. edited edits.rows p.rows) (by_rows (contents_at touched.now))))) }
 {
     let Edits { rows, added } = edits;
     let sorted = by_rows(alloc, touched)?;

@@ -1,27 +1,70 @@
-ghost use Rattle.std.specs.Prelude.{◌≡◌, ◌++◌, ◌∷◌, [], map, filter, is_some, OnOk, IfOk};
+ghost use Rattle.std.specs.Prelude.{◌≡◌, ◌++◌, ◌∷◌, [], false, map, filter, is_some, OnOk, IfOk};
+ghost use Rattle.std.specs.Bool.{OnFalse};
 ghost use Rattle.std.specs.List.{list_any};
 ghost use Rattle.std.specs.FinMap.{get};
+ghost use Rattle.wh_filed.specs.Filed.{filed_at, partitions_at, contents_at, AreAmong};
 ghost use Rattle.wh_state.specs.Edits.{is_touched, touched};
-ghost use Rattle.wh_version.specs.Lasting.{is_standing, partitions_in};
-ghost use Rattle.wh_version.specs.Edits.{partitions_at};
+ghost use Rattle.wh_version.specs.Lasting.{is_standing, filed_in, partitions_in};
 
 use crate::Lasting;
 use crate::row_edits::RowEdits;
 use std::alloc::{AllocError, Global};
+use wh_filed::FiledPartition;
 use wh_part::{NumberedRow, Partition};
 
-/// Those of the partitions that stand that have a row that the edits name.
-pub(crate) fn touched<'a>(
+/// Those of the partitions that stand that may have a row that the edits name, by the numbers of
+/// their first and last rows. The others have none.
+pub(crate) fn candidates<'a>(
     alloc: Global,
     edits: &RowEdits,
     kept: &'a [Lasting],
-) -> Result<Vec<&'a Partition>, AllocError>
-    ensures { IfOk result (λ found. partitions_at found.items
+) -> Result<Vec<&'a FiledPartition>, AllocError>
+    ensures touched { IfOk result (λ found. touched edits.now (partitions_at found.items)
         ≡ touched edits.now (partitions_in (filter is_standing kept.now))) }
+    ensures among { IfOk result (λ found. AreAmong (filed_at found.items) (filed_in kept.now)) }
 {
     let mut found = Vec::new(alloc);
     for one in kept {
-        add_touched(&mut found, edits, one)?;
+        add_candidate(&mut found, edits, one)?;
+    }
+    Ok(found)
+}
+
+fn add_candidate<'a>(
+    found: &mut Vec<&'a FiledPartition>,
+    edits: &RowEdits,
+    one: &'a Lasting,
+) -> Result<(), AllocError>
+    ensures touched { OnOk result (touched edits.now (partitions_at found.new.items)
+        ≡ touched edits.now (partitions_at found.old.items)
+        ++ touched edits.now (partitions_in (filter is_standing (one.now ∷ [])))) }
+    ensures among { OnOk result (AreAmong (filed_at found.new.items)
+        (filed_at found.old.items ++ one.now.filed ∷ [])) }
+{
+    if one.stands() && may_be_touched(edits, one.filed()) {
+        found.push(one.filed())?;
+    }
+    Ok(())
+}
+
+fn may_be_touched(edits: &RowEdits, filed: &FiledPartition) -> bool
+    ensures { OnFalse result (is_touched edits.now filed.now.partition ≡ false) }
+{
+    edits.has_between(filed.first(), filed.last())
+}
+
+/// Those of the partitions that have a row that the edits name.
+pub(crate) fn touched_among<'a>(
+    alloc: Global,
+    edits: &RowEdits,
+    partitions: &[&'a Partition],
+) -> Result<Vec<&'a Partition>, AllocError>
+    ensures { IfOk result (λ found.
+        contents_at found.items ≡ touched edits.now (contents_at partitions.now)) }
+{
+    let mut found = Vec::new(alloc);
+    for partition in partitions {
+        add_touched(&mut found, edits, *partition)?;
     }
     Ok(found)
 }
@@ -29,13 +72,13 @@ pub(crate) fn touched<'a>(
 fn add_touched<'a>(
     found: &mut Vec<&'a Partition>,
     edits: &RowEdits,
-    one: &'a Lasting,
+    partition: &'a Partition,
 ) -> Result<(), AllocError>
-    ensures { OnOk result (partitions_at found.new.items ≡ partitions_at found.old.items
-        ++ touched edits.now (partitions_in (filter is_standing (one.now ∷ [])))) }
+    ensures { OnOk result (contents_at found.new.items
+        ≡ contents_at found.old.items ++ touched edits.now (partition.now ∷ [])) }
 {
-    if one.stands() && is_touched(edits, one.partition()) {
-        found.push(one.partition())?;
+    if is_touched(edits, partition) {
+        found.push(partition)?;
     }
     Ok(())
 }
@@ -66,7 +109,7 @@ fn names_one(edits: &RowEdits, rows: &[NumberedRow]) -> bool
 /// Their numbers.
 pub(crate) fn numbers(alloc: Global, partitions: &[&Partition]) -> Result<Vec<u64>, AllocError>
     ensures { IfOk result (λ numbers.
-        numbers.items ≡ map (λ p. p.number) (partitions_at partitions.now)) }
+        numbers.items ≡ map (λ p. p.number) (contents_at partitions.now)) }
 {
     let mut numbers = Vec::with_capacity(alloc, partitions.len())?;
     for partition in partitions {

@@ -1,19 +1,19 @@
 ghost use Rattle.std.specs.Prelude.{◌≡◌, ◌≤◌, ◌++◌, ◌∷◌, [], length, take, OnOk, IfOk};
-ghost use Rattle.wh_version.specs.Lasting.{standing_at, gone_between};
-ghost use Rattle.wh_version.specs.Edits.{partitions_at};
+ghost use Rattle.wh_filed.specs.Filed.{filed_at};
+ghost use Rattle.wh_version.specs.Lasting.{standing_filed, gone_filed};
 
 use crate::times::{Time, last_place};
 use crate::version::add_standing;
 use crate::{History, Lasting};
 use std::alloc::{AllocError, Global};
-use wh_part::Partition;
+use wh_filed::FiledPartition;
 
 /// The partitions that an earlier version has and a later one hasn't, and those that the later one
 /// has and the earlier one hasn't, by rising number each.
 #[derive(Debug, Drop)]
 pub struct Turnover<'a> {
-    pub went: Vec<&'a Partition>,
-    pub came: Vec<&'a Partition>,
+    pub went: Vec<&'a FiledPartition>,
+    pub came: Vec<&'a FiledPartition>,
 }
 
 /// The place of a version, and how many partitions there were by then; 0 and 0 for none.
@@ -27,8 +27,8 @@ impl History {
     ghost use Rattle.std.specs.Prelude.{◌≡◌, ◌≤◌, [], IfOk};
     ghost use Rattle.wh_state.specs.State.{content_in};
     ghost use Rattle.wh_version.specs.declared.times.Time.TheVariants.{Data};
-    ghost use Rattle.wh_version.specs.Edits.{partitions_at};
-    ghost use Rattle.wh_version.specs.History.{versions_of, marks_of};
+    ghost use Rattle.wh_filed.specs.Filed.{filed_at, partitions_at, AreAmong};
+    ghost use Rattle.wh_version.specs.History.{versions_of, filed_of, marks_of};
     ghost use Rattle.wh_version.specs.Times.{data_at, is_up_to, last_place};
     ghost use Rattle.wh_version.specs.Turnover.{IsTurnover, reach_at};
 
@@ -36,10 +36,14 @@ impl History {
     /// one whose data timestamp is at most `to`. Where no version is old enough, nothing stands.
     pub fn turnover(&self, alloc: Global, from: u64, to: u64) -> Result<Turnover<'_>, AllocError>
         requires { from ≤ to }
-        ensures { IfOk result (λ found. IsTurnover
+        ensures turnover { IfOk result (λ found. IsTurnover
             (partitions_at found.went.items) (partitions_at found.came.items)
             (content_in [] (data_at from (versions_of self.now)))
             (content_in [] (data_at to (versions_of self.now)))) }
+        ensures went { IfOk result (λ found.
+            AreAmong (filed_at found.went.items) (filed_of self.now)) }
+        ensures came { IfOk result (λ found.
+            AreAmong (filed_at found.came.items) (filed_of self.now)) }
     {
         let old = self.reach(from);
         let new = self.reach(to);
@@ -72,8 +76,8 @@ fn gone_between(
     old: usize,
     new: usize,
     alloc: Global,
-) -> Result<Vec<&Partition>, AllocError>
-    ensures { IfOk result (λ found. partitions_at found.items ≡ gone_between old new kept.now) }
+) -> Result<Vec<&FiledPartition>, AllocError>
+    ensures { IfOk result (λ found. filed_at found.items ≡ gone_filed old new kept.now) }
 {
     let mut found = Vec::new(alloc);
     for one in kept {
@@ -83,16 +87,16 @@ fn gone_between(
 }
 
 fn add_gone<'a>(
-    found: &mut Vec<&'a Partition>,
+    found: &mut Vec<&'a FiledPartition>,
     old: usize,
     new: usize,
     one: &'a Lasting,
 ) -> Result<(), AllocError>
-    ensures { OnOk result (partitions_at found.new.items
-        ≡ partitions_at found.old.items ++ gone_between old new (one.now ∷ [])) }
+    ensures { OnOk result (filed_at found.new.items
+        ≡ filed_at found.old.items ++ gone_filed old new (one.now ∷ [])) }
 {
     if old < one.until && one.until <= new {
-        found.push(one.partition())?;
+        found.push(one.filed())?;
     }
     Ok(())
 }
@@ -103,12 +107,12 @@ pub(crate) fn standing_behind<'a>(
     seen: usize,
     reach: Reach,
     alloc: Global,
-) -> Result<Vec<&'a Partition>, AllocError>
+) -> Result<Vec<&'a FiledPartition>, AllocError>
     requires order { seen ≤ reach.partitions }
     requires within { reach.partitions ≤ length kept.now }
-    ensures { IfOk result (λ found. standing_at reach.place (take seen kept.now)
-        ++ partitions_at found.items
-        ≡ standing_at reach.place (take reach.partitions kept.now)) }
+    ensures { IfOk result (λ found. standing_filed reach.place (take seen kept.now)
+        ++ filed_at found.items
+        ≡ standing_filed reach.place (take reach.partitions kept.now)) }
 {
     let mut found = Vec::new(alloc);
     for index in seen..reach.partitions {

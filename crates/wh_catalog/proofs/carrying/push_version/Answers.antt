@@ -3,10 +3,12 @@ use Rattle.wh_table.specs.declared.fault.StageFault.TheVariants.{NotApplicable}
 use Rattle.wh_state.specs.Stored.{StoredObject}
 use Rattle.wh_state.specs.Commit.{FitsObject, pushed_object}
 use Rattle.wh_record.specs.View.{version_change_of}
+use Rattle.wh_record.specs.Places.{filed_in_version}
 use Rattle.wh_catalog.specs.Back.{object_taken_back}
 use Rattle.wh_catalog.proofs.Names.{keeps_life}
 use Rattle.wh_catalog.proofs.Steps.{same_fault}
 use Rattle.wh_catalog.proofs.Places.{stands, changed, put_back, same_kept}
+use Rattle.wh_catalog.proofs.FiledLaws.{set_among}
 use Rattle.wh_catalog.proofs.carrying.push_version.Goals as goal
 
 pub returns-in-Ok-clause-applies : goal.returns-in-Ok-clause-applies
@@ -18,6 +20,11 @@ pub returns-in-Ok-clause-changed : goal.returns-in-Ok-clause-changed
 returns-in-Ok-clause-changed c =
     changed c.in-Some.ensures.found c.index_mut-object.ensures.value
     c.push.new.self (pushed_object c.args.stamp (version_change_of c.args.change)) c.in-Ok.ensures.pushed
+
+pub returns-in-Ok-clause-filed : goal.returns-in-Ok-clause-filed
+returns-in-Ok-clause-filed c =
+    set_among c.in-Some.ensures.found c.index_mut-object.ensures.value
+    c.push.new.self (filed_in_version c.args.at (version_change_of c.args.change)) c.in-Ok.ensures.filed
 
 pub returns-in-Ok-clause-back : goal.returns-in-Ok-clause-back
 returns-in-Ok-clause-back c =

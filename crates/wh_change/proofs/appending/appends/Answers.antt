@@ -1,49 +1,65 @@
-use Rattle.std.proofs.Common.{◌≡◌, ℕ, suc, ◌+◌, ◌≤◌, List, [], ◌++◌, ◌∙◌, ap, sym, subst, arith}
+use Rattle.std.proofs.Common.{◌≡◌, ℕ, ◌+◌, List, [], ◌++◌, ◌∙◌, length, ap, sym, subst, arith}
 use Rattle.std.proofs.lemmas.List.{drop_all}
-use Rattle.wh_frame.specs.Partition.{Partition}
-use Rattle.wh_net.specs.Net.{RowChange}
-use Rattle.wh_version.specs.Arrivals.{count_by}
-use Rattle.wh_table.specs.Rows.{partitions_at}
-use Rattle.wh_table.specs.Table.{table_of}
+use Rattle.std.specs.FinMap.{entries}
+use Rattle.std.specs.Prelude.{if◌then◌else◌}
+use Rattle.wh_filed.specs.Filed.{loaded_of}
+use Rattle.wh_net.specs.Net.{RowChange, is_between}
+use Rattle.wh_state.specs.Stored.{rows_of}
+use Rattle.wh_table.specs.Rows.{all_rows, partitions_at}
+use Rattle.wh_change.specs.Appended.{arrived_of, came_in}
 use Rattle.wh_change.specs.RowChange.{row_changes_of}
-use Rattle.wh_change.proofs.Walking.{Walked, walked_on, came_at, walk_ends}
-use Rattle.wh_change.proofs.Behind.{front_walked}
+use Rattle.wh_change.specs.Seen.{appeared}
+use Rattle.wh_change.proofs.CameLaws.{begun, turned, came_to, apart_at, arrived_in, loaded_length}
+use Rattle.wh_change.proofs.LoadedLaws.{holds_alone}
+use Rattle.wh_change.proofs.Walking.{Walked, walk_ends}
 use Rattle.wh_change.proofs.appending.appends.Goals as goal
 
-pub loop-place-init : goal.loop-place-init
-loop-place-init c =
-    let versions = (table_of c.args.table.now).versions in
-    let front = c.in_ok-front.front in
-    let is_front = c.in_ok-front.ensures in
-    let few : front.count ≤ count_by c.args.from versions = omega (arith, is_front.counted) in
-    let Begun : List RowChange → List Partition → Type 0 = Walked c.args.from c.args.to versions front.count in
-    subst (λ records. Begun records (partitions_at c.of-seen.result.partitions.items))
-    (sym (ap row_changes_of c.new-records.ensures.items))
-    (subst (Begun []) (sym (ap partitions_at c.of-seen.ensures))
-    (front_walked c.args.from c.args.to front.count versions (partitions_at front.came.items) is_front.arrived few))
+pub loop-arrived-init : goal.loop-arrived-init
+loop-arrived-init c versions is =
+    let found = c.args.appended.now in
+    let asked = came_in (arrived_of found.later.items) in
+    let front : is.count ≡ is.count + 0 = omega arith in
+    let seen : loaded_of found.seen.items ≡ partitions_at c.of-seen.result.partitions.items =
+    sym (ap partitions_at c.of-seen.ensures ∙ c.in_ok-at_hand.ensures ∙ ap loaded_of c.deref.ensures.value) in
+    subst (λ (n : ℕ). Walked c.args.from c.args.to versions asked n (row_changes_of c.new-records.result.items)
+    (partitions_at c.of-seen.result.partitions.items)) front
+    (subst (λ (records : List RowChange). Walked c.args.from c.args.to versions asked is.count records
+    (partitions_at c.of-seen.result.partitions.items)) (sym (ap row_changes_of c.new-records.ensures.items))
+    (subst (Walked c.args.from c.args.to versions asked is.count []) seen
+    (begun c.args.from c.args.to is.count versions asked (loaded_of found.seen.items) is.front is.is_front is.seen)))
 
-pub loop-place-preserved : goal.loop-place-preserved
-loop-place-preserved c =
-    let at = c.loop-place in
-    let arrivals = c.in_ok-arrivals.arrivals in
-    let seen = partitions_at at.seen.partitions.items in
-    let came = partitions_at arrivals.came.items in
-    let versions = (table_of c.args.table.now).versions in
-    let records = row_changes_of c.add_appended.new.records.items in
-    let On : ℕ → List Partition → Type 0 = λ place ps. Walked c.args.from c.args.to versions place records ps in
-    let more : suc at.place ≡ at.place + 1 = omega arith in
-    subst (λ place. On place (partitions_at c.see.new.seen.partitions.items)) more
-    (subst (On (suc at.place))
-    (sym (c.in_ok-see.ensures ∙ ap (λ ps. seen ++ partitions_at ps) c.deref.ensures.value))
-    (walked_on c.args.from c.args.to arrivals.stamp versions at.place
-    (row_changes_of at.records.items) records seen came at.invariant
-    (came_at at.place arrivals.stamp versions came c.in_ok-arrivals.ensures (omega arith))
-    c.in_ok-add_appended.ensures))
+pub loop-arrived-preserved : goal.loop-arrived-preserved
+loop-arrived-preserved c versions is =
+    let at = c.loop-arrived in
+    let later = c.args.appended.now.later.items in
+    let one = c.arrived-item.result in
+    let came = loaded_of one.came.items in
+    let place = arrived_in later c.deref-arrived-items.result.now at.arrived-index one
+    c.deref-arrived-items.ensures.value c.loop-arrived-test.true c.arrived-item.is in
+    let apart = apart_at is.count (length versions) (arrived_of later) at.arrived-index _ versions is.came place.0
+    place.1 in
+    let sorted : all_rows (partitions_at c.in_ok-came.came.items) ≡ entries (rows_of came) =
+    c.in_ok-came.ensures.rows (rows_of came)
+    (holds_alone came _ (ap loaded_of c.deref-in-loop-arrived.ensures.value) apart) in
+    turned c.args.from c.args.to versions (arrived_of later) is.count (length versions) at.arrived-index _
+    (one.stamp, came) (row_changes_of at.records.items) (row_changes_of c.add_appended.new.records.items)
+    (partitions_at at.seen.partitions.items) (partitions_at c.in_ok-came.came.items)
+    (partitions_at c.see.new.seen.partitions.items) is.came place.0 place.1 (omega arith) sorted
+    (c.in_ok-add_appended.ensures ∙ ap (λ ps. row_changes_of at.records.items
+    ++ (if is_between c.args.from c.args.to one.stamp
+    then appeared (partitions_at at.seen.partitions.items) (all_rows (partitions_at ps)) else []))
+    c.deref-in-loop-arrived-2.ensures.value)
+    (c.in_ok-see.ensures ∙ ap (λ ps. partitions_at at.seen.partitions.items ++ partitions_at ps)
+    c.deref-in-loop-arrived-3.ensures.value)
+    (at.invariant versions is)
 
 pub returns : goal.returns
-returns c =
-    let at = c.loop-place in
-    let versions = (table_of c.args.table.now).versions in
-    walk_ends c.args.from c.args.to versions at.place (row_changes_of at.records.items)
-    (partitions_at at.seen.partitions.items) at.invariant
-    (drop_all at.place versions (omega (arith, c.loop-place-test.false, c.version_count-count.ensures)))
+returns c versions is =
+    let at = c.loop-arrived in
+    let later = c.args.appended.now.later.items in
+    let last = came_to is.count (length versions) (arrived_of later) versions is.came in
+    let place = is.count + at.arrived-index in
+    let same = loaded_length later c.deref-arrived-items.result.now c.deref-arrived-items.ensures.value in
+    walk_ends c.args.from c.args.to versions (came_in (arrived_of later)) place
+    (row_changes_of at.records.items) (partitions_at at.seen.partitions.items) (at.invariant versions is)
+    (drop_all place versions (omega (arith, last, same, c.loop-arrived-test.false)))

@@ -1,44 +1,22 @@
-use Rattle.std.proofs.Common.{◌≡◌, [], ◌++◌, ◌∙◌, ap, sym, subst}
+use Rattle.std.proofs.Common.{◌≡◌, ◌∙◌, ap}
 use Rattle.std.specs.FinMap.{entries}
-use Rattle.wh_frame.specs.Spelling.{RisesFrom}
-use Rattle.wh_state.specs.State.{Rows, content_in}
+use Rattle.wh_filed.specs.Filed.{loaded_of}
 use Rattle.wh_state.specs.Stored.{rows_of}
-use Rattle.wh_net.specs.Net.{net}
-use Rattle.wh_version.specs.Times.{data_at}
 use Rattle.wh_table.specs.Rows.{all_rows, partitions_at}
-use Rattle.wh_table.specs.Table.{table_of}
-use Rattle.wh_change.specs.Rows.{entries_at, changes_by, arrivals_by}
-use Rattle.wh_change.proofs.Entries.{entries_rise}
-use Rattle.wh_change.proofs.NetParts.{net_by_entries, net_shown}
-use Rattle.wh_table.proofs.MomentRows.{rows_meant}
+use Rattle.wh_change.specs.Rows.{entries_at}
+use Rattle.wh_change.proofs.LoadedLaws.{holds_alone, net_so}
 use Rattle.wh_change.proofs.net.net_changes.Goals as goal
 
-pub net_by-requires-clause-went : goal.net_by-requires-clause-went
-net_by-requires-clause-went c =
-    let changes = c.in_ok-turnover.ensures in
-    let is : entries_at c.deref-3.result.now ≡ entries changes.gone = ap entries_at c.deref-3.ensures.value
-    ∙ c.in_ok-went.ensures ∙ ap (λ ps. all_rows (partitions_at ps)) c.deref.ensures.value ∙ changes.by_went in
-    subst (RisesFrom 0) (sym is) (entries_rise changes.gone)
-
-pub net_by-requires-clause-came : goal.net_by-requires-clause-came
-net_by-requires-clause-came c =
-    let changes = c.in_ok-turnover.ensures in
-    let is : entries_at c.deref-4.result.now ≡ entries changes.arrived = ap entries_at c.deref-4.ensures.value
-    ∙ c.in_ok-came.ensures ∙ ap (λ ps. all_rows (partitions_at ps)) c.deref-2.ensures.value ∙ changes.by_came in
-    subst (RisesFrom 0) (sym is) (entries_rise changes.arrived)
-
 pub returns : goal.returns
-returns c =
-    let t = table_of c.args.table.now in
-    let changes = c.in_ok-turnover.ensures in
-    let went : entries_at c.deref-3.result.now ≡ entries changes.gone = ap entries_at c.deref-3.ensures.value
-    ∙ c.in_ok-went.ensures ∙ ap (λ ps. all_rows (partitions_at ps)) c.deref.ensures.value ∙ changes.by_went in
-    let came : entries_at c.deref-4.result.now ≡ entries changes.arrived = ap entries_at c.deref-4.ensures.value
-    ∙ c.in_ok-came.ensures ∙ ap (λ ps. all_rows (partitions_at ps)) c.deref-2.ensures.value ∙ changes.by_came in
-    let old : Rows = rows_of (content_in [] (data_at c.args.from t.versions)) in
-    let new : Rows = rows_of (content_in [] (data_at c.args.to t.versions)) in
-    c.in_ok-records.ensures
-    ∙ (λ i. changes_by (came i) (went i) ++ arrivals_by (went i) (came i))
-    ∙ sym (net_by_entries changes.gone changes.arrived)
-    ∙ net_shown old new changes.gone changes.arrived changes.each
-    ∙ (λ i. net (sym (rows_meant t c.args.from) i) (sym (rows_meant t c.args.to) i))
+returns c old new turned =
+    let went = loaded_of c.args.turned.now.went.items in
+    let came = loaded_of c.args.turned.now.came.items in
+    let is_went : entries_at c.deref-5.result.now ≡ entries (rows_of went) = ap entries_at c.deref-5.ensures.value
+    ∙ c.in_ok-old.ensures ∙ ap (λ ps. all_rows (partitions_at ps)) c.deref-3.ensures.value
+    ∙ c.in_ok-went.ensures.rows (rows_of went)
+    (holds_alone went _ (ap loaded_of c.deref.ensures.value) turned.went_apart) in
+    let is_came : entries_at c.deref-6.result.now ≡ entries (rows_of came) = ap entries_at c.deref-6.ensures.value
+    ∙ c.in_ok-new.ensures ∙ ap (λ ps. all_rows (partitions_at ps)) c.deref-4.ensures.value
+    ∙ c.in_ok-came.ensures.rows (rows_of came)
+    (holds_alone came _ (ap loaded_of c.deref-2.ensures.value) turned.came_apart) in
+    c.in_ok-records.ensures ∙ net_so went came old new _ _ turned is_went is_came

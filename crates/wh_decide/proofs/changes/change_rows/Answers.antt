@@ -13,33 +13,35 @@ use Rattle.wh_decide.specs.Sight.{machine_in, Comes}
 use Rattle.wh_decide.specs.Sources.{sources_refusal}
 use Rattle.wh_decide.proofs.OutcomeLemmas.{declines}
 use Rattle.wh_decide.proofs.ReadingLemmas.{found_read}
+use Rattle.wh_decide.proofs.ReadyLemmas.{nothing_ready}
 use Rattle.wh_decide.proofs.ChangeLemmas.{is_unread, is_held, is_free}
+use Rattle.wh_decide.proofs.changes.change_rows.Given.{Over}
 use Rattle.wh_decide.proofs.changes.change_rows.Goals.{In_ok-why, In_ok-streams}
 use Rattle.wh_decide.proofs.changes.change_rows.Goals as goal
 
-read : (c : In_ok-why) (found : Option Refusal) → c.in_ok-why.field-0 ≡ found
+read : (g : Over) (c : In_ok-why g) (found : Option Refusal) → c.in_ok-why.field-0 ≡ found
     → sources_refusal (machine_in c.args.sight.now) c.args.bound.now.is_wide c.args.bound.now.sources.items
     ≡ option_map refusal_view found
-read c found at =
+read g c found at =
     found_read (machine_in c.args.sight.now) c.args.bound.now.is_wide _ _ _ found c.deref.ensures.value
     c.in_ok-why.ensures at
 
 -- the streams that it reads
-among : (c : In_ok-streams) → c.in_ok-streams.streams.items
+among : (g : Over) (c : In_ok-streams g) → c.in_ok-streams.streams.items
     ≡ streams_among (machine_in c.args.sight.now).state.objects c.args.bound.now.sources.items
-among c = c.in_ok-streams.ensures
+among g c = c.in_ok-streams.ensures
     ∙ ap (λ (ids : List ℕ). streams_among (machine_in c.args.sight.now).state.objects ids) c.deref-2.ensures.value
 
-pub returns-in-Some : goal.returns-in-Some
-returns-in-Some c =
+pub returns-in-Some-clause-comes : goal.returns-in-Some-clause-comes
+returns-in-Some-clause-comes g c = λ shown.
     let sight = c.args.sight.now in
     let why = refusal_view c.in-Some.why in
     declines (stored_of sight.catalog.now) (sessions_of sight.sessions.now) sight.stamp _ _ why refl
     (is_unread (machine_in sight) sight.session c.args.bound.now why
-    (read (goal.at.returns-in-Some c).In_ok-why _ c.in-Some.is))
+    (read g (goal.at.returns-in-Some-clause-comes g c).In_ok-why _ c.in-Some.is))
 
-pub returns-in-Some-first_locked : goal.returns-in-Some-first_locked
-returns-in-Some-first_locked c =
+pub returns-in-Some-first_locked-clause-comes : goal.returns-in-Some-first_locked-clause-comes
+returns-in-Some-first_locked-clause-comes g c = λ shown.
     let sight = c.args.sight.now in
     let m = machine_in sight in
     let b = c.args.bound.now in
@@ -47,20 +49,26 @@ returns-in-Some-first_locked c =
     declines (stored_of sight.catalog.now) (sessions_of sight.sessions.now) sight.stamp
     (refused.Locked number) _ (Locked number) refl
     (is_held m sight.session b c.in_ok-streams.streams.items number
-    (read (goal.at.returns-in-Some-first_locked c).In_ok-why _ c.in_default.is)
-    (among (goal.at.returns-in-Some-first_locked c).In_ok-streams)
+    (read g (goal.at.returns-in-Some-first_locked-clause-comes g c).In_ok-why _ c.in_default.is)
+    (among g (goal.at.returns-in-Some-first_locked-clause-comes g c).In_ok-streams)
     (ap (λ (ids : List ℕ). first_locked m.sessions sight.session (b.target ∷ ids)) (sym c.deref-3.ensures.value)
     ∙ sym c.first_locked.ensures ∙ c.in-Some-first_locked.is))
 
-pub returns : goal.returns
-returns c =
+pub returns-clause-comes : goal.returns-clause-comes
+returns-clause-comes g c = λ shown.
     let sight = c.args.sight.now in
     let m = machine_in sight in
     let b = c.args.bound.now in
     subst (λ (o : Outcome). IfOk c.change_free.result (λ d. Comes sight d o))
     (sym (is_free m sight.session b c.in_ok-streams.streams.items
-    (read (goal.at.returns c).In_ok-why _ c.in_default.is)
-    (among (goal.at.returns c).In_ok-streams)
+    (read g (goal.at.returns-clause-comes g c).In_ok-why _ c.in_default.is)
+    (among g (goal.at.returns-clause-comes g c).In_ok-streams)
     (ap (λ (ids : List ℕ). first_locked m.sessions sight.session (b.target ∷ ids)) (sym c.deref-3.ensures.value)
     ∙ sym c.first_locked.ensures ∙ c.in_default-first_locked.is)))
-    c.change_free.ensures
+    (c.change_free.ensures.comes shown)
+
+pub returns-in-Some-clause-ready : goal.returns-in-Some-clause-ready
+returns-in-Some-clause-ready g c = nothing_ready c.args.sight.now
+
+pub returns-in-Some-first_locked-clause-ready : goal.returns-in-Some-first_locked-clause-ready
+returns-in-Some-first_locked-clause-ready g c = nothing_ready c.args.sight.now

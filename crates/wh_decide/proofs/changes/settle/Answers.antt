@@ -16,8 +16,8 @@ use Rattle.wh_decide.proofs.ChangeLemmas.{is_staged, is_alone}
 use Rattle.wh_decide.proofs.TransactionLemmas.{is_closed, is_open}
 use Rattle.wh_decide.proofs.changes.settle.Goals as goal
 
-pub returns-then-is_some : goal.returns-then-is_some
-returns-then-is_some c =
+pub returns-then-is_some-clause-comes : goal.returns-then-is_some-clause-comes
+returns-then-is_some-clause-comes g c = λ shown.
     let sight = c.args.sight.now in
     let sessions = sessions_of sight.sessions.now in
     let id = c.args.bound.now.target in
@@ -31,15 +31,23 @@ returns-then-is_some c =
     (with_transaction sessions sight.session (transactions.staged t.0 id c.args.streams.items n e)) None)
     c.next_row.ensures.number
     ∙ sym (is_staged (machine_in sight) sight.session id c.args.streams.items change e t.0 (table_meant table) t.1
-    (table_there sight.catalog.now id table c.requires)))
-    (c.staged.ensures (stored_of sight.catalog.now) sessions sight.stamp t.0 t.1)
+    (table_there sight.catalog.now id table c.requires.table)))
+    (c.staged.ensures.decides (stored_of sight.catalog.now) sessions sight.stamp t.0 t.1)
 
-pub returns : goal.returns
-returns c =
+pub returns-clause-comes : goal.returns-clause-comes
+returns-clause-comes g c = λ shown.
     let sight = c.args.sight.now in
     subst (λ (o : Outcome). IfOk c.alone.result (λ d. Comes sight d o))
     (sym (is_alone (machine_in sight) sight.session c.args.bound.now.target c.args.streams.items
     (changes.change_of c.args.bound.now.change) (effect_of c.args.effect)
     (is_closed (transaction_in (sessions_of sight.sessions.now) sight.session) c.number.result c.number.ensures
     (sym c.is_some.ensures ∙ c.if-is_some.false))))
-    (rw (sym c.deref.ensures.value) c.alone.ensures)
+    (rw (sym c.deref.ensures.value) (c.alone.ensures.comes shown))
+
+pub returns-then-is_some-clause-ready : goal.returns-then-is_some-clause-ready
+returns-then-is_some-clause-ready g c =
+    let sight = c.args.sight.now in
+    let sessions = sessions_of sight.sessions.now in
+    let t = is_open (transaction_in sessions sight.session) c.number.result c.number.ensures
+    (sym c.is_some.ensures ∙ c.if-is_some.true) in
+    c.staged.ensures.ready sessions sight.stamp t.0 t.1

@@ -3,32 +3,46 @@ use Rattle.wh_machine.specs.Step.{commanded}
 use Rattle.wh_stmt_parse.specs.Read.{read_statement}
 use Rattle.wh_decide.specs.Sight.{machine_in}
 use Rattle.wh_decide.proofs.OutcomeLemmas.{comes_as}
+use Rattle.wh_decide.proofs.ReadyLemmas.{nothing_ready}
 use Rattle.wh_decide.proofs.RequestLemmas.{long_request, short_request}
 use Rattle.wh_decide.proofs.CommandLemmas.{command_long, command_unreadable}
+use Rattle.wh_decide.proofs.SpelledLemmas.{text_spells}
 use Rattle.wh_decide.proofs.deciding.decide_command.Goals as goal
 
-pub returns-then-bound-text : goal.returns-then-bound-text
-returns-then-bound-text c =
+pub returns-then-bound-text-clause-comes : goal.returns-then-bound-text-clause-comes
+returns-then-bound-text-clause-comes g c = λ shown.
     let sight = c.args.sight.now in
     let m = machine_in sight in
     let long : 65536 < length c.args.text.now = omega (arith, c.bound.ensures) in
     ap (commanded m sight.session) (long_request c.args.text.now long) ∙ command_long m sight.session
 
-pub returns-in-Ok : goal.returns-in-Ok
-returns-in-Ok c =
+pub returns-in-Ok-clause-comes : goal.returns-in-Ok-clause-comes
+returns-in-Ok-clause-comes g c = λ shown.
     let sight = c.args.sight.now in
     let m = machine_in sight in
     let within : length c.args.text.now ≤ 65536 = omega (arith, c.bound.ensures) in
     comes_as sight c.decide_tree-decision.result
     (ap (commanded m sight.session)
     (sym (short_request c.args.text.now (Some c.in-Ok.statement) within c.in-Ok.ensures.reads)))
-    c.decide_tree-decision.ensures
+    (c.decide_tree-decision.ensures.comes shown)
 
-pub returns-in-Err-SyntaxError : goal.returns-in-Err-SyntaxError
-returns-in-Err-SyntaxError c =
+pub returns-in-Err-SyntaxError-clause-comes : goal.returns-in-Err-SyntaxError-clause-comes
+returns-in-Err-SyntaxError-clause-comes g c = λ shown.
     let sight = c.args.sight.now in
     let m = machine_in sight in
     let within : length c.args.text.now ≤ 65536 = omega (arith, c.bound.ensures) in
     let none : read_statement c.args.text.now ≡ None = search rules in
     ap (commanded m sight.session) (short_request c.args.text.now None within none)
     ∙ command_unreadable m sight.session
+
+pub returns-then-bound-text-clause-ready : goal.returns-then-bound-text-clause-ready
+returns-then-bound-text-clause-ready g c = nothing_ready c.args.sight.now
+
+pub returns-in-Err-SyntaxError-clause-ready : goal.returns-in-Err-SyntaxError-clause-ready
+returns-in-Err-SyntaxError-clause-ready g c = nothing_ready c.args.sight.now
+
+pub returns-in-Ok-clause-ready : goal.returns-in-Ok-clause-ready
+returns-in-Ok-clause-ready g c =
+    let within : length c.args.text.now ≤ 65536 = omega (arith, c.bound.ensures) in
+    c.decide_tree-decision.ensures.ready c.args.text.now (text_spells c.args.text.now c.in-Ok.statement
+    (short_request c.args.text.now (Some c.in-Ok.statement) within c.in-Ok.ensures.reads))

@@ -1,8 +1,9 @@
 use Rattle.std.proofs.Common.{◌≡◌, List, map, Some, Err, ap, sym, subst, ◌∙◌}
 use Rattle.std.specs.Prelude.{unwrap_or}
-use Rattle.wh_ddl_naming.specs.Meant.{first_failing}
+use Rattle.wh_ast.specs.declared.statement.Statement.{Statement}
+use Rattle.wh_ddl_naming.specs.Meant.{Meant, first_failing}
 use Rattle.wh_ddl_naming.specs.Objects.{Names}
-use Rattle.wh_ddl_naming.specs.Statements.{bound}
+use Rattle.wh_ddl_naming.specs.Statements.{Bound, bound}
 use Rattle.wh_bind.specs.declared.fault.BindFault.{BindFault}
 use Rattle.wh_ddl_bind.specs.Binds.{Binds}
 use Rattle.wh_naming.specs.View.{failing_of, named_of}
@@ -19,43 +20,43 @@ use Rattle.wh_decide.specs.Names.{over}
 use Rattle.wh_decide.specs.Sight.{machine_in}
 use Rattle.wh_decide.proofs.OutcomeLemmas.{comes_as, viewed_or}
 use Rattle.wh_decide.proofs.CommandLemmas.{command_of_none, command_bound, command_failing}
+use Rattle.wh_decide.proofs.ReadyLemmas.{nothing_ready}
+use Rattle.wh_decide.proofs.SpelledLemmas.{meant_read}
 use Rattle.wh_decide.proofs.deciding.decide_tree.Goals as goal
 
-pub returns-then-not-is_session : goal.returns-then-not-is_session
-returns-then-not-is_session c =
+-- the same objects and roots behind references
+named_as : (tree : Statement) {os objects : List Named} {rs roots : List TaskRoot} {meant : Meant Bound} → os ≡ objects
+    → rs ≡ roots → bound (over (map named_of objects) (map root_in roots)) tree ≡ meant
+    → bound (over (map named_of os) (map root_in rs)) tree ≡ meant
+named_as tree at told is = (λ i. bound (over (map named_of (at i)) (map root_in (told i))) tree) ∙ is
+
+pub returns-then-not-is_session-clause-comes : goal.returns-then-not-is_session-clause-comes
+returns-then-not-is_session-clause-comes g c = λ shown.
     let sight = c.args.sight.now in
     command_of_none (machine_in sight) sight.session c.args.statement.now
     (sym c.is_session.ensures ∙ c.if-not-is_session.true)
 
-pub returns-in-Ok : goal.returns-in-Ok
-returns-in-Ok c =
+pub returns-in-Ok-clause-comes : goal.returns-in-Ok-clause-comes
+returns-in-Ok-clause-comes g c = λ shown.
     let sight = c.args.sight.now in
     let tree = c.args.statement.now in
-    let same =
-    ap (λ (os : List Named). bound (over (map named_of os) (map root_in c.deref-2.result.now)) tree)
-    c.deref.ensures.value
-    ∙ ap (λ (rs : List TaskRoot). bound (over (map named_of c.in_ok-objects.objects.items) (map root_in rs)) tree)
-    c.deref-2.ensures.value
-    ∙ c.in_ok-objects.ensures (map root_in c.in_ok-roots.roots.items)
-    ∙ c.in_ok-roots.ensures (names_from 1 (state_of sight.catalog.now).objects) in
+    let same = named_as tree c.deref.ensures.value c.deref-2.ensures.value
+    (c.in_ok-objects.ensures (map root_in c.in_ok-roots.roots.items)
+    ∙ c.in_ok-roots.ensures (names_from 1 (state_of sight.catalog.now).objects)) in
     comes_as sight c.decide_bound.result
     (command_bound (machine_in sight) sight.session tree _ c.in-Ok.bound
     (sym c.is_session.ensures ∙ c.if-not-is_session.false) same c.in-Ok.ensures)
-    c.decide_bound.ensures
+    (c.decide_bound.ensures.comes shown)
 
-pub returns-in-Err-Failing : goal.returns-in-Err-Failing
-returns-in-Err-Failing c =
+pub returns-in-Err-Failing-clause-comes : goal.returns-in-Err-Failing-clause-comes
+returns-in-Err-Failing-clause-comes g c = λ shown.
     let sight = c.args.sight.now in
     let m = machine_in sight in
     let tree = c.args.statement.now in
     let failing = c.in-Err-Failing.failing in
-    let same =
-    ap (λ (os : List Named). bound (over (map named_of os) (map root_in c.deref-2.result.now)) tree)
-    c.deref.ensures.value
-    ∙ ap (λ (rs : List TaskRoot). bound (over (map named_of c.in_ok-objects.objects.items) (map root_in rs)) tree)
-    c.deref-2.ensures.value
-    ∙ c.in_ok-objects.ensures (map root_in c.in_ok-roots.roots.items)
-    ∙ c.in_ok-roots.ensures (names_from 1 (state_of sight.catalog.now).objects) in
+    let same = named_as tree c.deref.ensures.value c.deref-2.ensures.value
+    (c.in_ok-objects.ensures (map root_in c.in_ok-roots.roots.items)
+    ∙ c.in_ok-roots.ensures (names_from 1 (state_of sight.catalog.now).objects)) in
     let names : Names = over (map named_of c.deref.result.now) (map root_in c.deref-2.result.now) in
     let fails : first_failing (bound names tree) ≡ Some (failing_of failing) =
     subst (λ (fault : BindFault). Binds (Err fault) (bound names tree)) c.in-Err-Failing.field-0-is
@@ -68,3 +69,20 @@ returns-in-Err-Failing c =
     command_failing m sight.session tree names (failing_of failing)
     (sym c.is_session.ensures ∙ c.if-not-is_session.false) same fails
     ∙ ap Refuses (sym why)
+
+pub returns-then-not-is_session-clause-ready : goal.returns-then-not-is_session-clause-ready
+returns-then-not-is_session-clause-ready g c = λ text is. nothing_ready c.args.sight.now
+
+pub returns-in-Ok-clause-ready : goal.returns-in-Ok-clause-ready
+returns-in-Ok-clause-ready g c = λ text is.
+    let sight = c.args.sight.now in
+    let tree = c.args.statement.now in
+    let same = named_as tree c.deref.ensures.value c.deref-2.ensures.value
+    (c.in_ok-objects.ensures (map root_in c.in_ok-roots.roots.items)
+    ∙ c.in_ok-roots.ensures (names_from 1 (state_of sight.catalog.now).objects)) in
+    c.decide_bound.ensures.ready (meant_read sight text tree _ c.in-Ok.bound is
+    (command_bound (machine_in sight) sight.session tree _ c.in-Ok.bound
+    (sym c.is_session.ensures ∙ c.if-not-is_session.false) same c.in-Ok.ensures) c.in-Ok.ensures)
+
+pub returns-in-Err-Failing-clause-ready : goal.returns-in-Err-Failing-clause-ready
+returns-in-Err-Failing-clause-ready g c = λ text is. nothing_ready c.args.sight.now

@@ -19,4 +19,4 @@ returns-in-None c = λ acts is.
     (sym (defines_by (machine_in sight) sight.session c.args.old (option_map refusal_view c.args.wrong) None
     (reply_view c.args.reply) acts
     (sym (ap (option_map refusal_view) c.in-None.is) ∙ c.definition_refusal.ensures)))
-    (c.defined.ensures acts is)
+    (c.defined.ensures.comes acts is)

@@ -23,4 +23,5 @@ returns c = λ d is.
     decides_as sight c.defined.result
     (λ i. commits (machine_in sight)
     (RefreshFailed (c.in_ok-name.ensures i) target (refusal_view c.args.why) (fifth i)) acts)
-    (c.defined.ensures acts (ap (map change_of) c.in_ok-changes.ensures.items ∙ (λ i. SetsDynamic id (behind i) ∷ [])))
+    (c.defined.ensures.comes acts
+    (ap (map change_of) c.in_ok-changes.ensures.items ∙ (λ i. SetsDynamic id (behind i) ∷ [])))

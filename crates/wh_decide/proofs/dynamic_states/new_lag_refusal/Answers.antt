@@ -1,4 +1,4 @@
-use Rattle.std.proofs.Common.{◌≡◌, ℕ, List, [], ◌∷◌, ap, ◌∙◌}
+use Rattle.std.proofs.Common.{[], ◌∷◌, ap, ◌∙◌}
 use Rattle.wh_reply.specs.View.{refusal_view}
 use Rattle.wh_moment.specs.Upstream.{Dynamics, upstream}
 use Rattle.wh_dynamic.specs.View.{dynamics_in}

@@ -1,4 +1,4 @@
-use Rattle.std.proofs.Common.{ap, sym, ◌∙◌, subst, List}
+use Rattle.std.proofs.Common.{refl, ap, sym, ◌∙◌, subst, List}
 use Rattle.std.proofs.lemmas.List.{append-nil}
 use Rattle.std.proofs.lemmas.Result.{IfOk-weaker}
 use Rattle.wh_state.specs.Stored.{StoredObject}
@@ -7,10 +7,12 @@ use Rattle.wh_refresh.specs.Objects.{objects_in, stored_in}
 use Rattle.wh_refresh.specs.Refreshing.{besides, RefreshesAs}
 use Rattle.wh_catalog.specs.Catalog.{stored_of, state_of}
 use Rattle.wh_decide.specs.Sight.{machine_in}
+use Rattle.wh_fetch.specs.DiskFetch.{told_of}
+use Rattle.wh_decide.proofs.ReadyLemmas.{objects_shown}
 use Rattle.wh_decide.proofs.dynamic_states.refreshing.Goals as goal
 
-pub returns : goal.returns
-returns c =
+pub returns-clause-refreshes : goal.returns-clause-refreshes
+returns-clause-refreshes g c = λ shown.
     let sight = c.args.sight.now in
     let state = (machine_in sight).state in
     let outcome = refresh state (besides c.args.asked state.objects c.args.id) c.args.id c.args.moment in
@@ -20,4 +22,12 @@ returns c =
     ∙ append-nil (state_of sight.catalog.now).objects in
     IfOk-weaker c.refresh.result _ _
     (λ found told. subst (λ (s : List StoredObject). RefreshesAs sight.stamp s found outcome) stored
-    (told state (sym objects))) c.refresh.ensures
+    (told state (sym objects)))
+    (c.refresh.ensures.refreshed (objects_shown sight (told_of g.D.Disk c.args.fetch.now) _ _ _
+    c.in_ok-objects.ensures.among refl c.deref.ensures.value shown))
+
+pub returns-clause-sound : goal.returns-clause-sound
+returns-clause-sound g c = λ shown.
+    c.refresh.ensures.sound
+    (objects_shown c.args.sight.now (told_of g.D.Disk c.args.fetch.now) _ _ _ c.in_ok-objects.ensures.among refl
+    c.deref.ensures.value shown)

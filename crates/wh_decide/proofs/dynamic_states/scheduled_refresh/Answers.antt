@@ -1,29 +1,38 @@
 use Rattle.std.proofs.Common.{None, ap, sym, subst}
 use Rattle.wh_machine.specs.Refresh.{refresh}
 use Rattle.wh_machine.specs.Dynamics.{scheduled_by, scheduled}
-use Rattle.wh_refresh.specs.Refreshing.{RefreshesAs}
+use Rattle.wh_refresh.specs.Refreshing.{RefreshesAs, AreRead}
 use Rattle.wh_catalog.specs.Catalog.{stored_of}
 use Rattle.wh_decide.specs.Sight.{machine_in}
-use Rattle.wh_decide.proofs.OutcomeLemmas.{decides_as, comes_as}
+use Rattle.wh_decide.proofs.OutcomeLemmas.{decides_as}
+use Rattle.wh_decide.proofs.ReadyLemmas.{failed_settles}
 use Rattle.wh_decide.proofs.dynamic_states.scheduled_refresh.Goals as goal
 
-pub returns-in-Fails : goal.returns-in-Fails
+pub returns-in_ok-failed-in-Fails-clause-comes : goal.returns-in_ok-failed-in-Fails-clause-comes
 unfolding scheduled
-returns-in-Fails c =
+returns-in_ok-failed-in-Fails-clause-comes g c = λ shown.
     let sight = c.args.sight.now in
     let m = machine_in sight in
     let outcome = refresh m.state None c.args.id c.args.target in
     let fails = subst (λ f. RefreshesAs sight.stamp (stored_of sight.catalog.now).objects f outcome)
-    c.in-Fails.is c.in_ok-found.ensures in
-    comes_as sight c.failed.result (sym (ap (scheduled_by m c.args.id c.args.target) fails)) c.failed.ensures
+    c.in-Fails.is (c.in_ok-found.ensures.refreshes shown) in
+    decides_as sight _ (sym (ap (scheduled_by m c.args.id c.args.target) fails)) c.in_ok-failed-in-Fails.ensures
 
-pub returns-in-Brings : goal.returns-in-Brings
+pub returns-in-Brings-clause-comes : goal.returns-in-Brings-clause-comes
 unfolding scheduled
-returns-in-Brings c =
+returns-in-Brings-clause-comes g c = λ shown.
     let sight = c.args.sight.now in
     let m = machine_in sight in
     let outcome = refresh m.state None c.args.id c.args.target in
     let brings = subst (λ f. RefreshesAs sight.stamp (stored_of sight.catalog.now).objects f outcome)
-    c.in-Brings.is c.in_ok-found.ensures in
+    c.in-Brings.is (c.in_ok-found.ensures.refreshes shown) in
     decides_as sight c.defined.result (sym (ap (scheduled_by m c.args.id c.args.target) brings.is))
-    (c.defined.ensures brings.acts brings.written)
+    (c.defined.ensures.comes brings.acts brings.written)
+
+pub returns-in_ok-failed-in-Fails-clause-ready : goal.returns-in_ok-failed-in-Fails-clause-ready
+returns-in_ok-failed-in-Fails-clause-ready g c =
+    failed_settles c.args.sight.now c.args.id c.args.target _ _ _ c.in_ok-failed-in-Fails.ensures
+
+pub returns-in-Brings-clause-ready : goal.returns-in-Brings-clause-ready
+returns-in-Brings-clause-ready g c =
+    c.defined.ensures.ready (subst AreRead c.in-Brings.is c.in_ok-found.ensures.read)

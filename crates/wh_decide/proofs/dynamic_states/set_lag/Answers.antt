@@ -44,5 +44,5 @@ returns c =
     ∙ sym (defines_lag (state_of sight.catalog.now) sight.stamp (sessions_of sight.sessions.now) sight.session id
     c.args.lag _ None c.in_ok-wrong.ensures
     (sym (ap (option_map refusal_view) c.in_default.is) ∙ c.definition_refusal.ensures)))
-    (c.defined.ensures acts
+    (c.defined.ensures.comes acts
     (c.in_ok-changes.ensures ∙ puts_as sight.catalog.now sight.stamp id (lag_state c.args.lag)))

@@ -12,21 +12,24 @@ use Rattle.wh_txn.specs.View.{sessions_of}
 use Rattle.wh_decide.specs.Sight.{machine_in}
 use Rattle.wh_decide.proofs.CatalogLemmas.{count_is}
 use Rattle.wh_decide.proofs.OutcomeLemmas.{comes_as}
+use Rattle.wh_decide.proofs.ReadyLemmas.{nothing_ready}
 use Rattle.wh_decide.proofs.DefineLemmas.{none_past}
 use Rattle.wh_decide.proofs.NewDynamics.{IsWithin, defines_dynamic, within_limits}
+use Rattle.wh_decide.proofs.dynamic_tables.create_dynamic.Given.{Over}
 use Rattle.wh_decide.proofs.dynamic_tables.create_dynamic.Goals.{In_default}
 use Rattle.wh_decide.proofs.dynamic_tables.create_dynamic.Goals as goal
 
-pub returns-in-Some : goal.returns-in-Some
-returns-in-Some c =
+pub returns-in-Some-clause-comes : goal.returns-in-Some-clause-comes
+returns-in-Some-clause-comes g c = λ shown.
     let sight = c.args.sight.now in
     defines_dynamic (state_of sight.catalog.now) sight.stamp (sessions_of sight.sessions.now) sight.session
     (new_dynamic_table_of c.args.table.now) _ (Some (refusal_view c.in-Some.why)) c.in_ok-wrong.ensures
     (sym (ap (option_map refusal_view) c.in-Some.is) ∙ c.definition_refusal.ensures)
 
 -- what a dynamic table that isn't refused keeps
-within : (c : In_default) → IsWithin (state_of c.args.sight.now.catalog.now) (new_dynamic_table_of c.args.table.now)
-within c =
+within : (g : Over) (c : In_default g)
+    → IsWithin (state_of c.args.sight.now.catalog.now) (new_dynamic_table_of c.args.table.now)
+within g c =
     let sight = c.args.sight.now in
     let n = new_dynamic_table_of c.args.table.now in
     let passed : dynamic_refusal (state_of sight.catalog.now) None n (query_of n) ≡ None =
@@ -38,30 +41,32 @@ within c =
     within_limits (state_of sight.catalog.now) n passed
 
 -- by its tests
-defined_as : (c : In_default) → defines (machine_in c.args.sight.now) c.args.sight.now.session None
+defined_as : (g : Over) (c : In_default g) → defines (machine_in c.args.sight.now) c.args.sight.now.session None
     (create_dynamic (machine_in c.args.sight.now) None (new_dynamic_table_of c.args.table.now))
     ≡ initialized (machine_in c.args.sight.now) (new_dynamic_table_of c.args.table.now)
     (query_of (new_dynamic_table_of c.args.table.now)) c.args.table.now.initialize
-defined_as c =
+defined_as g c =
     let sight = c.args.sight.now in
     defines_dynamic (state_of sight.catalog.now) sight.stamp (sessions_of sight.sessions.now) sight.session
     (new_dynamic_table_of c.args.table.now) _ None c.in_ok-wrong.ensures
     (sym (ap (option_map refusal_view) c.in_default.is) ∙ c.definition_refusal.ensures)
 
-pub new_dynamic-requires-clause-lag : goal.new_dynamic-requires-clause-lag
-new_dynamic-requires-clause-lag c = (within (goal.at.new_dynamic-requires-clause-lag c).In_default).lag
-
-pub new_dynamic-requires-clause-columns : goal.new_dynamic-requires-clause-columns
-new_dynamic-requires-clause-columns c =
-    let kept = within (goal.at.new_dynamic-requires-clause-columns c).In_default in
-    omega (arith, kept.columns, length-map c.args.table.now.columns.items column_of)
+pub new_dynamic-requires-clause-fits : goal.new_dynamic-requires-clause-fits
+new_dynamic-requires-clause-fits g c =
+    let kept = within g (goal.at.new_dynamic-requires-clause-fits g c).In_default in record {
+      lag = kept.lag;
+      columns = omega (arith, kept.columns, length-map c.args.table.now.columns.items column_of);
+    }
 
 pub new_dynamic-requires-clause-room : goal.new_dynamic-requires-clause-room
-new_dynamic-requires-clause-room c =
-    let kept = within (goal.at.new_dynamic-requires-clause-room c).In_default in
+new_dynamic-requires-clause-room g c =
+    let kept = within g (goal.at.new_dynamic-requires-clause-room g c).In_default in
     omega (arith, kept.room, count_is c.args.sight.now.catalog.now)
 
-pub returns : goal.returns
-returns c =
-    comes_as c.args.sight.now c.new_dynamic.result (sym (defined_as (goal.at.returns c).In_default))
-    c.new_dynamic.ensures
+pub returns-clause-comes : goal.returns-clause-comes
+returns-clause-comes g c = λ shown.
+    comes_as c.args.sight.now c.new_dynamic.result (sym (defined_as g (goal.at.returns-clause-comes g c).In_default))
+    (c.new_dynamic.ensures.comes shown)
+
+pub returns-in-Some-clause-ready : goal.returns-in-Some-clause-ready
+returns-in-Some-clause-ready g c = λ spelled. nothing_ready c.args.sight.now

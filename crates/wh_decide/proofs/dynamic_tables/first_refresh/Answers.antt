@@ -6,10 +6,12 @@ use Rattle.wh_refresh.specs.Objects.{objects_in, stored_in}
 use Rattle.wh_refresh.specs.Refreshing.{RefreshesAs}
 use Rattle.wh_catalog.specs.Catalog.{stored_of, state_of}
 use Rattle.wh_decide.specs.Sight.{machine_in}
+use Rattle.wh_fetch.specs.DiskFetch.{told_of}
+use Rattle.wh_decide.proofs.ReadyLemmas.{objects_shown}
 use Rattle.wh_decide.proofs.dynamic_tables.first_refresh.Goals as goal
 
-pub returns : goal.returns
-returns c =
+pub returns-clause-refreshes : goal.returns-clause-refreshes
+returns-clause-refreshes g c = λ shown.
     let sight = c.args.sight.now in
     IfOk-weaker c.refresh.result _ _
     (λ found told. λ n is.
@@ -19,4 +21,13 @@ returns c =
     let objects = ap objects_in c.deref.ensures.value ∙ c.in_ok-objects.ensures.objects
     ∙ ap (λ (o : StoredObject). (state_of sight.catalog.now).objects ++ object_meant o ∷ []) is in
     subst (λ (all : List StoredObject). RefreshesAs sight.stamp all found (asked_refresh state c.args.id)) stored
-    (told state (sym objects))) c.refresh.ensures
+    (told state (sym objects)))
+    (c.refresh.ensures.refreshed
+    (objects_shown sight (told_of g.D.Disk c.args.fetch.now) _ _ _ c.in_ok-objects.ensures.among c.requires.filed
+    c.deref.ensures.value shown))
+
+pub returns-clause-sound : goal.returns-clause-sound
+returns-clause-sound g c = λ shown.
+    c.refresh.ensures.sound
+    (objects_shown c.args.sight.now (told_of g.D.Disk c.args.fetch.now) _ _ _ c.in_ok-objects.ensures.among
+    c.requires.filed c.deref.ensures.value shown)

@@ -12,7 +12,7 @@ empty-requires c =
     ∙ length-map c.args.table.now.columns.items column_of in
     omega (arith, c.requires, same)
 
-pub returns : goal.returns
-returns c =
-    c.empty.ensures ∙ ap (λ (columns : List Column). empty_table columns c.args.stamp)
+pub returns-clause-rows : goal.returns-clause-rows
+returns-clause-rows c =
+    c.empty.ensures.table ∙ ap (λ (columns : List Column). empty_table columns c.args.stamp)
     (c.in_ok-columns.ensures ∙ ap (map column_of) c.deref.ensures.value)

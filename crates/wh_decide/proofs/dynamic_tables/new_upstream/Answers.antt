@@ -1,7 +1,6 @@
-use Rattle.std.proofs.Common.{◌≡◌, ℕ, List, length, ap, sym, ◌∙◌}
+use Rattle.std.proofs.Common.{◌≡◌, length, ap, sym, ◌∙◌}
 use Rattle.std.proofs.lemmas.List.{length-map}
 use Rattle.std.proofs.lemmas.Result.{IfOk-weaker}
-use Rattle.wh_ddl_bind.specs.View.{new_dynamic_table_of}
 use Rattle.wh_state.specs.Dynamic.{ids_read}
 use Rattle.wh_dynamic.specs.View.{dynamics_in}
 use Rattle.wh_moment.specs.Upstream.{dynamics_of, watched_object, reached_from}

@@ -12,10 +12,10 @@ returns-in_err-id c =
 pub returns-in_err-object : goal.returns-in_err-object
 returns-in_err-object c =
     absurd (not_lost c.args.catalog.now c.args.name.now c.in_ok-id.id
-    (rw c.as_bytes.ensures.value at c.in_ok-id.ensures) c.in_err-object.ensures)
+    (rw c.as_bytes.ensures.value at c.in_ok-id.ensures) c.in_err-object.ensures.object)
 
 pub returns : goal.returns
 returns c =
     ap Some c.named.ensures
     ∙ sym (is_named_so c.args.catalog.now c.args.name.now c.in_ok-id.id c.in_ok-object.object.now
-    (rw c.as_bytes.ensures.value at c.in_ok-id.ensures) c.in_ok-object.ensures)
+    (rw c.as_bytes.ensures.value at c.in_ok-id.ensures) c.in_ok-object.ensures.object)

@@ -7,25 +7,24 @@ use Rattle.wh_state.specs.Objects.{table_at}
 use Rattle.wh_catalog.specs.Catalog.{state_of}
 use Rattle.wh_catalog.specs.Stream.{stream_of}
 use Rattle.wh_decide.specs.Sight.{machine_in, objects_seen}
+use Rattle.wh_txn.proofs.ShownLemmas.{standing_bag}
 use Rattle.wh_decide.proofs.SourceLemmas.{stream_rows, table_rows}
 use Rattle.wh_decide.proofs.sources.source_seen.Goals as goal
 
-pub returns-in-Some : goal.returns-in-Some
-returns-in-Some c =
+pub returns-in-Some-clause-seen : goal.returns-in-Some-clause-seen
+returns-in-Some-clause-seen g c = λ shown.
     let sight = c.args.sight.now in
     let m = machine_in sight in
-    ap bag_of (c.in_ok-rows.ensures
+    ap bag_of (c.in_ok-rows.ensures.shown shown
     ∙ ap (rows_shown (state_of sight.catalog.now).objects (stream_of c.in-Some.stream.now)) c.start.ensures)
     ∙ sym (stream_rows sight.catalog.now (objects_seen sight) (start_in m sight.session) c.args.id
     (stream_of c.in-Some.stream.now) (sym c.in-Some.ensures))
 
-pub returns : goal.returns
-returns c =
+pub returns-clause-seen : goal.returns-clause-seen
+returns-clause-seen g c = λ shown.
     let sight = c.args.sight.now in
     let m = machine_in sight in
-    record {
-      table = table_at (objects_seen sight) c.args.id;
-      shown = c.in_ok-table.ensures sight.stamp;
-      rows = sym (table_rows sight.catalog.now m.state (transaction_in m.sessions sight.session)
-          (start_in m sight.session) c.args.id refl (sym c.in_default.ensures));
-    }
+    standing_bag c.in_ok-table.table (table_at (objects_seen sight) c.args.id)
+    (c.in_ok-table.ensures.stands shown sight.stamp)
+    ∙ sym (table_rows sight.catalog.now m.state (transaction_in m.sessions sight.session)
+    (start_in m sight.session) c.args.id refl (sym c.in_default.ensures))

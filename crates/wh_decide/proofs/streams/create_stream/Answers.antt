@@ -65,4 +65,4 @@ returns c =
     ∙ sym (defines_stream (state_of sight.catalog.now) sight.stamp (sessions_of sight.sessions.now) sight.session n _
     None c.stream_refusal-wrong.ensures
     (sym (ap (option_map refusal_view) c.in_default.is) ∙ c.definition_refusal.ensures)))
-    (c.defined.ensures made items)
+    (c.defined.ensures.comes made items)

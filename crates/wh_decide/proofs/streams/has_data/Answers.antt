@@ -10,38 +10,51 @@ use Rattle.wh_txn.specs.View.{sessions_of}
 use Rattle.wh_decide.specs.Sight.{machine_in}
 use Rattle.wh_txn.proofs.SeenLemmas.{catalog_stream}
 use Rattle.wh_decide.proofs.OutcomeLemmas.{answers}
+use Rattle.wh_decide.proofs.ReadyLemmas.{nothing_ready}
 use Rattle.wh_decide.proofs.StreamLemmas.{none_asked, asked_refused, asked_told}
+use Rattle.wh_decide.proofs.streams.has_data.Given.{Over}
 use Rattle.wh_decide.proofs.streams.has_data.Goals.{After-stream}
 use Rattle.wh_decide.proofs.streams.has_data.Goals as goal
 
 -- the stream of the id, if there is one
-found : (c : After-stream) → stream_at (state_of c.args.sight.now.catalog.now).objects c.args.id
+found : (g : Over) (c : After-stream g) → stream_at (state_of c.args.sight.now.catalog.now).objects c.args.id
     ≡ option_map (λ s. stream_of s.now) c.stream.result
-found c = catalog_stream c.args.sight.now.catalog.now c.args.id ∙ sym c.stream.ensures
+found g c = catalog_stream c.args.sight.now.catalog.now c.args.id ∙ sym c.stream.ensures
 
-pub returns-in_default : goal.returns-in_default
-returns-in_default c =
+pub returns-in_default-clause-comes : goal.returns-in_default-clause-comes
+returns-in_default-clause-comes g c = λ shown.
     let sight = c.args.sight.now in
     answers (stored_of sight.catalog.now) (sessions_of sight.sessions.now) sight.stamp (told.HasData false) _
     (HasData false) refl (none_asked (machine_in sight) sight.session c.args.id
-    (found (goal.at.returns-in_default c).After-stream ∙ ap (option_map (λ s. stream_of s.now)) c.in_default.is))
+    (found g (goal.at.returns-in_default-clause-comes g c).After-stream
+    ∙ ap (option_map (λ s. stream_of s.now)) c.in_default.is))
 
-pub returns-in-Some-2 : goal.returns-in-Some-2
-returns-in-Some-2 c =
+pub returns-in-Some-2-clause-comes : goal.returns-in-Some-2-clause-comes
+returns-in-Some-2-clause-comes g c = λ shown.
     let sight = c.args.sight.now in
     asked_refused (machine_in sight) sight.session c.args.id (stream_of c.in-Some.stream.now)
     (refusal_view c.in-Some-2.why)
-    (found (goal.at.returns-in-Some-2 c).After-stream ∙ ap (option_map (λ s. stream_of s.now)) c.in-Some.is)
+    (found g (goal.at.returns-in-Some-2-clause-comes g c).After-stream
+    ∙ ap (option_map (λ s. stream_of s.now)) c.in-Some.is)
     (sym c.in_ok-why.ensures ∙ ap (option_map refusal_view) c.in-Some-2.is)
 
-pub returns : goal.returns
-returns c =
+pub returns-clause-comes : goal.returns-clause-comes
+returns-clause-comes g c = λ shown.
     let sight = c.args.sight.now in
     let s = stream_of c.in-Some.stream.now in
     answers (stored_of sight.catalog.now) (sessions_of sight.sessions.now) sight.stamp
     (told.HasData c.in_ok-has_rows.has_rows) _ _
-    (ap HasData (c.in_ok-has_rows.ensures
+    (ap HasData (c.in_ok-has_rows.ensures.shown shown
     ∙ ap (λ (start : ℕ). has_rows (rows_shown (state_of sight.catalog.now).objects s start)) c.start.ensures))
     (asked_told (machine_in sight) sight.session c.args.id s
-    (found (goal.at.returns c).After-stream ∙ ap (option_map (λ s. stream_of s.now)) c.in-Some.is)
+    (found g (goal.at.returns-clause-comes g c).After-stream ∙ ap (option_map (λ s. stream_of s.now)) c.in-Some.is)
     (sym c.in_ok-why.ensures ∙ ap (option_map refusal_view) c.in_default-2.is))
+
+pub returns-in_default-clause-ready : goal.returns-in_default-clause-ready
+returns-in_default-clause-ready g c = nothing_ready c.args.sight.now
+
+pub returns-in-Some-2-clause-ready : goal.returns-in-Some-2-clause-ready
+returns-in-Some-2-clause-ready g c = nothing_ready c.args.sight.now
+
+pub returns-clause-ready : goal.returns-clause-ready
+returns-clause-ready g c = nothing_ready c.args.sight.now

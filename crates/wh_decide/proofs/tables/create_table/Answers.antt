@@ -73,4 +73,4 @@ returns c =
     ∙ sym (defines_table (state_of sight.catalog.now) sight.stamp (sessions_of sight.sessions.now) sight.session n _
     None c.table_refusal-wrong.ensures
     (sym (ap (option_map refusal_view) c.in_default.is) ∙ c.definition_refusal.ensures)))
-    (c.defined.ensures (table_made n) items)
+    (c.defined.ensures.comes (table_made n) items)

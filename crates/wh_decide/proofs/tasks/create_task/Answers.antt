@@ -75,4 +75,4 @@ returns c =
     ∙ sym (defines_task (state_of sight.catalog.now) sight.stamp (sessions_of sight.sessions.now) sight.session n _
     None c.in_ok-wrong.ensures
     (sym (ap (option_map refusal_view) c.in_default.is) ∙ c.definition_refusal.ensures)))
-    (c.defined.ensures (task_made n) items)
+    (c.defined.ensures.comes (task_made n) items)

@@ -110,7 +110,8 @@ returns-in_ok-sessions-in-None-clause-opened g c =
       means = c.in_ok-catalog.ensures.means;
       sessions = c.in_ok-sessions-in-None.ensures;
       filed = subst (λ (bytes : Option (List ℕ)). Filed bytes j c.in_ok-catalog.catalog) (sym same)
-          (filed before mid j fault c.in_ok-catalog.catalog found.told c.in-None.is found.short found.long led);
+          (filed before mid j fault c.in_ok-catalog.catalog found.told c.in-None.is found.short found.long led
+          c.in_ok-catalog.ensures.shown);
       told = search rules;
       ends = gate_ends before mid j fault c.in-None.is found.short found.long;
       reach = search rules;

@@ -1,13 +1,15 @@
-use Rattle.std.proofs.Common.{Err, ap, ◌∙◌, arith, rules}
-use Rattle.wh_catalog.specs.Catalog.{stored_of}
+use Rattle.std.proofs.Common.{Some, Err, ap, sym, subst, ◌∙◌, arith, rules}
+use Rattle.wh_filed.specs.Filed.{AllShown}
+use Rattle.wh_catalog.specs.Catalog.{stored_of, filed_of}
 use Rattle.wh_engine.proofs.HaltLemmas.{same_fault}
-use Rattle.wh_engine.proofs.ReplayLemmas.{replayed_more, replayed_all, stray_found, still_listed}
+use Rattle.wh_engine.proofs.ReplayLemmas.{replayed_more, replayed_all, stray_found, still_listed, still_shown}
 use Rattle.wh_engine.proofs.ReplayLemmas.{reads_none, reads_then}
 use Rattle.wh_engine.proofs.replay.replay.Goals as goal
 
 pub loop-at-init : goal.loop-at-init
 loop-at-init g c = record {
   replayed = search rules;
+  shown = λ payloads listed image same. subst (AllShown (Some image)) (sym c.new-catalog.ensures.filed) tt;
   means = search rules;
   reads = reads_none g.D.Disk g.met.D.Disk.only_now c.args.disk.now;
   no_fault = search rules;
@@ -19,6 +21,13 @@ loop-at-preserved g c = record {
       replayed_more payloads (stored_of c.loop-at.catalog) (stored_of c.replay_at.new.catalog) c.loop-at.at
       (c.loop-at.invariant.replayed payloads listed) (c.in_ok-replay_at.ensures.carried payloads
       (still_listed _ _ c.args.journal.now payloads c.loop-at.invariant.reads.same.0 listed));
+  shown =
+      let same = c.loop-at.invariant.reads.same.0 in
+      let first = g.D.Disk.bytes c.args.disk.now in
+      let now = g.D.Disk.bytes c.loop-at.disk in
+      still_shown now first c.args.journal.now (filed_of c.replay_at.new.catalog) (sym same)
+      (c.in_ok-replay_at.ensures.shown
+      (still_shown first now c.args.journal.now (filed_of c.loop-at.catalog) same c.loop-at.invariant.shown));
   means = c.in_ok-replay_at.ensures.means;
   reads = reads_then g.D.Disk g.met.D.Disk.only_now c.args.disk.now c.loop-at.disk c.replay_at.new.disk
       c.loop-at.invariant.reads c.replay_at.ensures.reads;

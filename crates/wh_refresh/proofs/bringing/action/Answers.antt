@@ -1,7 +1,7 @@
 use Rattle.std.proofs.Common.{◌≡◌, ℕ, Bool, true, false, cond, List, sym, ap, ◌∙◌, arith}
 use Rattle.std.proofs.lemmas.Bool.Decides.{nat_tests}
 use Rattle.std.specs.Prelude.{nat_eq}
-use Rattle.wh_reply.specs.Reply.{RefreshAction, NoData, Full}
+use Rattle.wh_reply.specs.Reply.{NoData, Full}
 use Rattle.wh_state.specs.State.{Object}
 use Rattle.wh_state.specs.Dynamic.{Dynamic, DynamicState, ids_read}
 use Rattle.wh_dynamic.specs.View.{dynamic_of}

@@ -6,9 +6,8 @@ use Rattle.wh_reply.specs.View.{action_view}
 use Rattle.wh_reply.specs.declared.reply.RefreshAction.{RefreshAction}
 use Rattle.wh_reply.specs.declared.reply.RefreshAction.TheVariants.{NoData, Full, Incremental}
 use Rattle.wh_state.specs.State.{Object, Table, last_rows}
-use Rattle.wh_state.specs.Dynamic.{Dynamic, DynamicState}
+use Rattle.wh_state.specs.Dynamic.{Dynamic}
 use Rattle.wh_state.specs.Stored.{StoredTable, table_meant}
-use Rattle.wh_state.specs.Objects.{table_at}
 use Rattle.wh_state.specs.Moments.{evaluated_at}
 use Rattle.wh_moment.specs.Rebase.{rebase}
 use Rattle.wh_moment.specs.Moment.{brought_to}
@@ -21,7 +20,7 @@ use Rattle.wh_table.specs.Edited.{IsEdited}
 use Rattle.wh_refresh.specs.Objects.{objects_in, stored_in}
 use Rattle.wh_refresh.specs.Brought.{MakesRows, BringsOne}
 use Rattle.wh_refresh.specs.declared.brought.NewRows.{NewRows}
-use Rattle.wh_refresh.proofs.RefreshLemmas.{one_without, one_bare, one_by}
+use Rattle.wh_refresh.proofs.RefreshLemmas.{one_without, one_by}
 use Rattle.wh_refresh.proofs.bringing.bring.Goals as goal
 
 -- where there is new data, or no moment yet, its query says what is done
@@ -33,12 +32,12 @@ by_query objects moment id d t NoData some = absurd (some refl)
 by_query objects moment id d t Full some = refl
 by_query objects moment id d t Incremental some = refl
 
-pub returns-in_default : goal.returns-in_default
-returns-in_default c stamp bs are above none =
+pub returns-in_default-clause-brought : goal.returns-in_default-clause-brought
+returns-in_default-clause-brought g c shown stamp bs are above none =
     one_without stamp c.args.moment bs (objects_in c.args.objects.now) above c.args.id none (sym c.in_default.ensures)
 
-pub returns-in-NoData : goal.returns-in-NoData
-returns-in-NoData c stamp bs are above none =
+pub returns-in-NoData-clause-brought : goal.returns-in-NoData-clause-brought
+returns-in-NoData-clause-brought g c shown stamp bs are above none =
     let objects = objects_in c.args.objects.now in
     let d = dynamic_of c.in-Some.dynamic.now in
     let t = table_meant (table_of c.in-Some-table_at.table.now) in
@@ -57,8 +56,8 @@ returns-in-NoData c stamp bs are above none =
       };
     }
 
-pub returns-in_default-2 : goal.returns-in_default-2
-returns-in_default-2 c stamp bs are above none =
+pub returns-in_default-2-clause-brought : goal.returns-in_default-2-clause-brought
+returns-in_default-2-clause-brought g c shown stamp bs are above none =
     let objects = objects_in c.args.objects.now in
     let now : List Object = after_all stamp c.args.moment bs objects in
     let d = dynamic_of c.in-Some.dynamic.now in
@@ -67,7 +66,8 @@ returns-in_default-2 c stamp bs are above none =
     none_made (table_of c.in-Some-table_at.table.now) (evaluated_at now c.args.moment d)
     (subst (λ (rows : Option NewRows). MakesRows rows (table_of c.in-Some-table_at.table.now)
     (evaluated_at now c.args.moment d))
-    c.in_default-2.is (c.in_ok-rows.ensures stamp bs are above)) in
+    c.in_default-2.is
+    (c.in_ok-rows.ensures.made shown (c.in-Some-table_at.ensures.among _ shown) stamp bs are above)) in
     one_by stamp c.args.moment bs objects above c.args.id d t none (sym c.in-Some.ensures)
     (sym c.in-Some-table_at.ensures.meant)
     ∙ ap (brought_by now c.args.moment c.args.id d t) (sym (c.action-action.ensures stamp bs are above))
@@ -79,8 +79,8 @@ returns-in_default-2 c stamp bs are above none =
     none_made t None made = refl
     none_made t (Some bag) made = absurd made
 
-pub returns : goal.returns
-returns c stamp bs are above none =
+pub returns-clause-brought : goal.returns-clause-brought
+returns-clause-brought g c shown stamp bs are above none =
     let stored = stored_in c.args.objects.now in
     let objects = objects_in c.args.objects.now in
     let now : List Object = after_all stamp c.args.moment bs objects in
@@ -88,7 +88,7 @@ returns c stamp bs are above none =
     let table : StoredTable = table_of c.in-Some-table_at.table.now in
     let t = table_meant table in
     let made = subst (λ (rows : Option NewRows). MakesRows rows table (evaluated_at now c.args.moment d))
-    c.in-Some-2.is (c.in_ok-rows.ensures stamp bs are above) in
+    c.in-Some-2.is (c.in_ok-rows.ensures.made shown (c.in-Some-table_at.ensures.among _ shown) stamp bs are above) in
     let by_rows : (found : Option Bag) → evaluated_at now c.args.moment d ≡ found
     → MakesRows (Some c.in-Some-2.rows) table found
     → BringsOne stored (record {
@@ -123,3 +123,16 @@ returns c stamp bs are above none =
       }
     ] in
     by_rows (evaluated_at now c.args.moment d) refl made
+
+-- ---- where the table's partitions are sound
+
+pub returns-in_err-rows-clause-sound : goal.returns-in_err-rows-clause-sound
+returns-in_err-rows-clause-sound g c shown =
+    c.in_err-rows.ensures.sound shown (c.in-Some-table_at.ensures.among _ shown)
+
+pub returns-in_default-2-clause-sound : goal.returns-in_default-2-clause-sound
+returns-in_default-2-clause-sound g c shown =
+    c.in_ok-rows.ensures.sound shown (c.in-Some-table_at.ensures.among _ shown)
+
+pub returns-clause-sound : goal.returns-clause-sound
+returns-clause-sound g c shown = c.in_ok-rows.ensures.sound shown (c.in-Some-table_at.ensures.among _ shown)

@@ -1,12 +1,14 @@
-use Rattle.std.proofs.Common.{◌≡◌, ℕ, ◌+◌, List, ◌∷◌, drop, slice_index_or, Option, Some, None, subst, sym, ap, ◌∙◌}
+use Rattle.std.proofs.Common.{rules, ◌≡◌, ℕ, ◌+◌, List, ◌∷◌, drop, slice_index_or, Option, None, subst, sym, ◌∙◌}
 use Rattle.std.proofs.lemmas.List.{drop_more, drop_all}
+use Rattle.wh_fetch.specs.DiskFetch.{goes_on}
+use Rattle.wh_filed.specs.Filed.{AllShown}
 use Rattle.wh_state.specs.State.{Object}
 use Rattle.wh_state.specs.Stored.{StoredObject}
 use Rattle.wh_machine.specs.Refresh as machine
 use Rattle.wh_machine.specs.Refresh.{brought_one}
-use Rattle.wh_machine.specs.Brought.{after_all, AreAbove, sought, RiseAbove}
+use Rattle.wh_machine.specs.Brought.{after_all, AreAbove, sought}
 use Rattle.wh_machine.proofs.RefreshLaws.{brought_id}
-use Rattle.wh_refresh.specs.Objects.{objects_in, stored_in}
+use Rattle.wh_refresh.specs.Objects.{objects_in, stored_in, filed_at_objects}
 use Rattle.wh_refresh.specs.Brought.{AreBrought, BringsOne, BringsOneOr, BroughtSoFar}
 use Rattle.wh_refresh.specs.declared.brought.Brought.{Brought}
 use Rattle.wh_refresh.proofs.RefreshLemmas.{far_further, far_stopped, far_done, rise_above, not_sought}
@@ -14,36 +16,17 @@ use Rattle.wh_refresh.proofs.bringing.bring_all.Goals as goal
 
 -- what the next id comes to, behind those before it
 next : (stored : List StoredObject) (objects : List Object) (stamp moment id : ℕ) (ids left : List ℕ)
-    (all : List Brought) (found : Option Brought)
-    → ((bs : List machine.Brought) → AreBrought stored all bs → AreAbove 0 bs → sought id bs ≡ None
+    (before all : List Brought) (found : Option Brought) → before ≡ all
+    → ((bs : List machine.Brought) → AreBrought stored before bs → AreAbove 0 bs → sought id bs ≡ None
     → BringsOneOr stored found (brought_one (after_all stamp moment bs objects) moment id))
     → (far : BroughtSoFar stored objects stamp moment ids (id ∷ left) all)
     → BringsOneOr stored found (brought_one (after_all stamp moment far.brought objects) moment id)
-next stored objects stamp moment id ids left all found brings far =
-    brings far.brought far.are (rise_above 0 far.brought (id ∷ left) far.rise) (not_sought 0 far.brought id left
-    far.rise)
+next stored objects stamp moment id ids left before all found same brings far =
+    brings far.brought (subst (λ (l : List Brought). AreBrought stored l far.brought) (sym same) far.are)
+    (rise_above 0 far.brought (id ∷ left) far.rise) (not_sought 0 far.brought id left far.rise)
 
-pub returns-in-None : goal.returns-in-None
-returns-in-None c stamp rise =
-    let stored = stored_in c.args.objects.now in
-    let objects = objects_in c.args.objects.now in
-    let moment = c.args.moment in
-    let ids = c.args.ids.now in
-    let i = c.loop-id.id-index in
-    let all = c.loop-id.brought.items in
-    let far = subst (λ (left : List ℕ). BroughtSoFar stored objects stamp moment ids left all)
-    (drop_more ids i 0 c.loop-id-test.true) (c.loop-id.invariant stamp rise) in
-    far_stopped stored objects stamp moment ids (slice_index_or ids i 0) (drop (i + 1) ids) all far
-    (subst (λ (found : Option Brought). BringsOneOr stored found
-    (brought_one (after_all stamp moment far.brought objects) moment (slice_index_or ids i 0))) c.in-None.is
-    (next stored objects stamp moment (slice_index_or ids i 0) ids (drop (i + 1) ids) all c.in_ok-one.field-0
-    (subst (λ (before : List Brought). (bs : List machine.Brought) → AreBrought stored before bs → AreAbove 0 bs
-    → sought (slice_index_or ids i 0) bs ≡ None → BringsOneOr stored c.in_ok-one.field-0
-    (brought_one (after_all stamp moment bs objects) moment (slice_index_or ids i 0))) c.deref.ensures.value
-    (c.in_ok-one.ensures stamp)) far))
-
-pub loop-id-preserved : goal.loop-id-preserved
-loop-id-preserved c stamp rise =
+pub returns-in-None-clause-brought : goal.returns-in-None-clause-brought
+returns-in-None-clause-brought g c shown stamp rise =
     let stored = stored_in c.args.objects.now in
     let objects = objects_in c.args.objects.now in
     let moment = c.args.moment in
@@ -51,26 +34,51 @@ loop-id-preserved c stamp rise =
     let i = c.loop-id.id-index in
     let id : ℕ = slice_index_or ids i 0 in
     let all = c.loop-id.brought.items in
+    let then = subst (λ (told : Option (List ℕ)). AllShown told (filed_at_objects c.args.objects.now))
+    (sym c.loop-id.invariant.same) shown in
     let far = subst (λ (left : List ℕ). BroughtSoFar stored objects stamp moment ids left all)
-    (drop_more ids i 0 c.loop-id-test.true) (c.loop-id.invariant stamp rise) in
-    let now : List Object = after_all stamp moment far.brought objects in
-    let brings : BringsOne stored c.in-Some.one (brought_one now moment id) =
-    subst (λ (found : Option Brought). BringsOneOr stored found (brought_one now moment id)) c.in-Some.is
-    (next stored objects stamp moment id ids (drop (i + 1) ids) all c.in_ok-one.field-0
-    (subst (λ (before : List Brought). (bs : List machine.Brought) → AreBrought stored before bs → AreAbove 0 bs
-    → sought id bs ≡ None → BringsOneOr stored c.in_ok-one.field-0
-    (brought_one (after_all stamp moment bs objects) moment id)) c.deref.ensures.value
-    (c.in_ok-one.ensures stamp)) far) in
-    subst (λ (more : List Brought). BroughtSoFar stored objects stamp moment ids (drop (i + 1) ids) more)
-    (sym c.in_ok-push-in-Some.ensures.items)
-    (far_further stored objects stamp moment ids id (drop (i + 1) ids) all c.in-Some.one far
-    (sym brings.same.id ∙ brought_id now moment id brings.brought brings.is) brings)
+    (drop_more ids i 0 c.loop-id-test.true) (c.loop-id.invariant.brought shown stamp rise) in
+    far_stopped stored objects stamp moment ids id (drop (i + 1) ids) all far
+    (subst (λ (found : Option Brought). BringsOneOr stored found
+    (brought_one (after_all stamp moment far.brought objects) moment id)) c.in-None.is
+    (next stored objects stamp moment id ids (drop (i + 1) ids) c.deref.result.now all c.in_ok-one.field-0
+    c.deref.ensures.value (c.in_ok-one.ensures.brought then stamp) far))
 
-pub returns : goal.returns
-returns c stamp rise =
+pub loop-id-preserved : goal.loop-id-preserved
+loop-id-preserved g c = record {
+  right = c.in_ok-one.ensures.goes.right c.loop-id.invariant.right;
+  brought = λ shown stamp rise.
+      let stored = stored_in c.args.objects.now in
+      let objects = objects_in c.args.objects.now in
+      let moment = c.args.moment in
+      let ids = c.args.ids.now in
+      let i = c.loop-id.id-index in
+      let id : ℕ = slice_index_or ids i 0 in
+      let all = c.loop-id.brought.items in
+      let then = subst (λ (told : Option (List ℕ)). AllShown told (filed_at_objects c.args.objects.now))
+      (sym c.loop-id.invariant.same) shown in
+      let far = subst (λ (left : List ℕ). BroughtSoFar stored objects stamp moment ids left all)
+      (drop_more ids i 0 c.loop-id-test.true) (c.loop-id.invariant.brought shown stamp rise) in
+      let now : List Object = after_all stamp moment far.brought objects in
+      let brings : BringsOne stored c.in-Some.one (brought_one now moment id) =
+      subst (λ (found : Option Brought). BringsOneOr stored found (brought_one now moment id)) c.in-Some.is
+      (next stored objects stamp moment id ids (drop (i + 1) ids) c.deref.result.now all c.in_ok-one.field-0
+      c.deref.ensures.value (c.in_ok-one.ensures.brought then stamp) far) in
+      subst (λ (more : List Brought). BroughtSoFar stored objects stamp moment ids (drop (i + 1) ids) more)
+      (sym c.in_ok-push-in-Some.ensures.items)
+      (far_further stored objects stamp moment ids id (drop (i + 1) ids) all c.in-Some.one far
+      (sym brings.same.id ∙ brought_id now moment id brings.brought brings.is) brings);
+  sound = search rules;
+  same = search rules;
+  goes = goes_on g.D.Disk _ _ _ c.loop-id.invariant.goes c.in_ok-one.ensures.goes;
+  counted = search rules;
+}
+
+pub returns-clause-brought : goal.returns-clause-brought
+returns-clause-brought g c shown stamp rise =
     let stored = stored_in c.args.objects.now in
     let objects = objects_in c.args.objects.now in
     let ids = c.args.ids.now in
     far_done stored objects stamp c.args.moment ids c.loop-id.brought.items
     (subst (λ (left : List ℕ). BroughtSoFar stored objects stamp c.args.moment ids left c.loop-id.brought.items)
-    (drop_all c.loop-id.id-index ids c.loop-id-test.false) (c.loop-id.invariant stamp rise))
+    (drop_all c.loop-id.id-index ids c.loop-id-test.false) (c.loop-id.invariant.brought shown stamp rise))

@@ -1,65 +1,30 @@
-use Rattle.std.proofs.Common.{◌≡◌, ℕ, List, Option, Some, None, length, subst, sym, ap, ◌∙◌}
-use Rattle.std.specs.FinMap.{entries}
-use denote.Ref.{Bor}
-use Rattle.wh_frame.specs.Partition.{Partition}
-use Rattle.std.proofs.Common.{Vec, Global}
-use Rattle.wh_value.specs.Value.{Row}
+use Rattle.std.proofs.Common.{ℕ, List, Option, Some, None, subst, sym, ◌∙◌}
 use Rattle.wh_meaning.specs.Bag.{Bag}
-use Rattle.wh_meaning.specs.Query.{Instance, eval}
-use Rattle.wh_state.specs.State.{Rows, last_rows}
 use Rattle.wh_state.specs.Edits.{Edits}
-use Rattle.wh_state.specs.Stored.{table_meant}
-use Rattle.wh_exec.specs.Evaluation.{instance_of}
-use Rattle.wh_state.specs.Dynamic.{DynamicQuery}
-use Rattle.wh_state.specs.Bound.{query_bound}
-use Rattle.wh_state.specs.Moments.{instance_at, evaluated_at}
-use Rattle.wh_dynamic.specs.View.{dynamic_of, query_of}
-use Rattle.wh_machine.specs.Refresh as machine
-use Rattle.wh_machine.specs.Brought.{after_all, AreAbove}
-use Rattle.wh_table.specs.Table.{table_of}
-use Rattle.wh_table.specs.Rows.{all_rows, partitions_at}
-use Rattle.wh_version.specs.Edits.{edits_in}
+use Rattle.wh_fetch.specs.DiskFetch.{told_of}
+use Rattle.wh_filed.specs.Filed.{AllShown}
+use Rattle.wh_table.specs.Table.{table_of, filed_of}
 use Rattle.wh_table.specs.Edited.{IsEdited}
-use Rattle.wh_refresh.specs.Objects.{objects_in, stored_in}
-use Rattle.wh_refresh.specs.Brought.{AreBrought, MakesRows, MakesVersion}
-use Rattle.wh_refresh.proofs.RefreshLemmas.{evaluated_over}
+use Rattle.wh_refresh.specs.Brought.{MakesRows}
 use Rattle.wh_refresh.proofs.bringing.new_rows.Goals as goal
 
-pub returns-in_default : goal.returns-in_default
-returns-in_default c stamp bs are above =
-    let objects = objects_in c.args.objects.now in
-    let d = dynamic_of c.args.dynamic.now in
-    let evaluated : c.in_ok-rows.field-0 ≡ evaluated_at (after_all stamp c.args.moment bs objects) c.args.moment d =
-    c.in_ok-rows.ensures
-    ∙ ap (λ (q : DynamicQuery). eval (query_bound objects q).query (instance_of c.deref.result.now)) c.query.ensures
-    ∙ ap (λ (sources : List (Vec (Bor Row) Global)). eval (query_bound objects d.query).query (instance_of sources))
-    c.deref.ensures.value
-    ∙ ap (eval (query_bound objects d.query).query) (c.in_ok-sources.ensures stamp bs are above)
-    ∙ ap (λ (ids : List ℕ). eval (query_bound objects d.query).query
-    (instance_at (after_all stamp c.args.moment bs objects) c.args.moment ids)) c.reads.ensures
-    ∙ sym (evaluated_over stamp c.args.moment bs objects above d) in
-    subst (λ (f : Option Bag). MakesRows None (table_of c.args.table.now) f) (sym c.in_default.is ∙ evaluated) tt
+pub returns-in_default-clause-made : goal.returns-in_default-clause-made
+returns-in_default-clause-made g c shown filed stamp bs are above =
+    subst (λ (f : Option Bag). MakesRows None (table_of c.args.table.now) f)
+    (sym c.in_default.is ∙ c.in_ok-rows.ensures.evaluated shown stamp bs are above) tt
 
-pub returns : goal.returns
-returns c stamp bs are above =
-    let objects = objects_in c.args.objects.now in
-    let d = dynamic_of c.args.dynamic.now in
+pub returns-clause-made : goal.returns-clause-made
+returns-clause-made g c shown filed stamp bs are above =
     let t = table_of c.args.table.now in
-    let old : Rows = last_rows (table_meant t) in
-    let evaluated : c.in_ok-rows.field-0 ≡ evaluated_at (after_all stamp c.args.moment bs objects) c.args.moment d =
-    c.in_ok-rows.ensures
-    ∙ ap (λ (q : DynamicQuery). eval (query_bound objects q).query (instance_of c.deref.result.now)) c.query.ensures
-    ∙ ap (λ (sources : List (Vec (Bor Row) Global)). eval (query_bound objects d.query).query (instance_of sources))
-    c.deref.ensures.value
-    ∙ ap (eval (query_bound objects d.query).query) (c.in_ok-sources.ensures stamp bs are above)
-    ∙ ap (λ (ids : List ℕ). eval (query_bound objects d.query).query
-    (instance_at (after_all stamp c.args.moment bs objects) c.args.moment ids)) c.reads.ensures
-    ∙ sym (evaluated_over stamp c.args.moment bs objects above d) in
-    let all : all_rows (partitions_at c.deref-2.result.now) ≡ entries old =
-    ap (λ (ps : List (Bor Partition)). all_rows (partitions_at ps)) c.deref-2.ensures.value ∙ c.in_ok-old.ensures in
-    let same = c.in_ok-edits.ensures.edits old all in
-    subst (MakesRows (Some _) t) (sym c.in-Some.is ∙ evaluated) (record {
-      edited = subst (λ (e : Edits). IsEdited c.in_ok-edited.edited e t) same c.in_ok-edited.ensures;
-      plus = c.in_ok-edits.ensures.plus ∙ ap (λ (e : Edits). length e.added) same;
-      minus = c.in_ok-edits.ensures.minus old all ∙ ap (λ (e : Edits). length (entries e.rows)) same;
+    let files = filed_of c.args.table.now in
+    let then : AllShown (told_of g.D.Disk c.rows_by_query.new.fetch) files =
+    subst (λ (told : Option (List ℕ)). AllShown told files) (sym c.in_ok-rows.ensures.same) filed in
+    let later : AllShown (told_of g.D.Disk c.rebased.new.fetch) files =
+    subst (λ (told : Option (List ℕ)). AllShown told files) (sym c.in_ok-edits.ensures.same) then in
+    let made = c.in_ok-edits.ensures.rebased then in
+    subst (MakesRows (Some _) t) (sym c.in-Some.is ∙ c.in_ok-rows.ensures.evaluated shown stamp bs are above) (record {
+      edited = subst (λ (e : Edits). IsEdited c.in_ok-edited.edited e t) made.edits
+          (c.in_ok-edited.ensures.edited later);
+      plus = made.plus;
+      minus = made.minus;
     })

@@ -1,4 +1,4 @@
-use Rattle.std.proofs.Common.{◌≡◌, List, map, sym, ap, ◌∙◌}
+use Rattle.std.proofs.Common.{◌≡◌, List, map, ap, ◌∙◌}
 use Rattle.std.proofs.lemmas.Result.{IfOk-weaker}
 use Rattle.wh_ast.specs.declared.query.Query.{Query}
 use Rattle.wh_core_bind.specs.declared.parts.BoundQuery as code
@@ -10,16 +10,16 @@ use Rattle.wh_naming.specs.View.{named_of}
 use Rattle.wh_naming.specs.Select.{BoundQuery, bound_query}
 use Rattle.wh_naming.specs.declared.object.Named.{Named}
 use Rattle.wh_bind.specs.View.{query_reading}
-use Rattle.wh_exec.specs.Evaluation.{instance_of}
+use Rattle.wh_exec.specs.Source.{instance_in}
 use Rattle.wh_state.specs.Bound.{names_among, query_bound}
 use Rattle.wh_dynamic.specs.View.{query_of, source_of}
 use Rattle.wh_dynamic.specs.declared.query.NamedSource.{NamedSource}
 use Rattle.wh_refresh.specs.Objects.{objects_in}
 use Rattle.wh_refresh.proofs.evaluation.evaluated.Goals as goal
 
-pub returns : goal.returns
+pub returns-clause-found : goal.returns-clause-found
 unfolding query_reading query_in
-returns c =
+returns-clause-found g c = λ shown.
     let objects = objects_in c.args.objects.now in
     let q = query_of c.args.query.now in
     let sources = c.args.sources.now in
@@ -31,5 +31,5 @@ returns c =
     ∙ ap (λ (ss : List NamedSource). bound_query q.tree (names_among objects (map source_of ss)) 0)
     c.deref.ensures.value in
     IfOk-weaker c.evaluated_over.result _ _ (λ found is. is
-    ∙ ap (λ (b : code.BoundQuery). eval (plain_query_of b.query) (instance_of sources)) c.get-2.ensures
-    ∙ ap (λ (b : BoundQuery). eval b.query (instance_of sources)) bound) c.evaluated_over.ensures
+    ∙ ap (λ (b : code.BoundQuery). eval (plain_query_of b.query) (instance_in sources)) c.get-2.ensures
+    ∙ ap (λ (b : BoundQuery). eval b.query (instance_in sources)) bound) (c.evaluated_over.ensures.found shown)

@@ -1,4 +1,4 @@
-use Rattle.std.proofs.Common.{◌≡◌, ◌++◌, ◌-◌, ◌≤◌, replicate}
+use Rattle.std.proofs.Common.{◌≡◌, ◌++◌, ◌≤◌, replicate}
 use Rattle.wh_algebra.specs.Tuple.{rows_in}
 use Rattle.wh_refresh.proofs.rebase.add_rows.Given as goal
 

@@ -1,9 +1,8 @@
 use Rattle.std.proofs.Common.{◌≡◌, ℕ, sym, ap, subst, ◌∙◌, List, [], map, length, arith}
 use Rattle.std.specs.FinMap.{empty, entries}
 use Rattle.wh_value.specs.Value.{Row}
-use Rattle.wh_meaning.specs.Bag.{Bag, no_rows}
+use Rattle.wh_meaning.specs.Bag.{no_rows}
 use Rattle.wh_meaning.specs.BagChange.{IsExcess}
-use Rattle.wh_meaning.specs.Listing.{listed}
 use Rattle.wh_state.specs.State.{Rows}
 use Rattle.wh_state.specs.Edits.{Edits, edits_from, with_removed}
 use Rattle.wh_moment.specs.Rebase.{rebase, kept_apart}

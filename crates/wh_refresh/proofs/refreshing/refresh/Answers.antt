@@ -3,7 +3,6 @@ use Rattle.std.proofs.Common.{refl, subst, sym, ap, ◌∙◌}
 use Rattle.std.specs.List.{flat_map}
 use Rattle.wh_reply.specs.Reply.{Refusal, Refreshed}
 use Rattle.wh_reply.specs.View.{refusal_view}
-use Rattle.wh_reply.specs.declared.reply.Refusal as code
 use Rattle.wh_state.specs.State.{State, Object}
 use Rattle.wh_state.specs.Act.{Act}
 use Rattle.wh_state.specs.Stored.{StoredObject}
@@ -21,6 +20,7 @@ use Rattle.wh_refresh.specs.Refreshing.{besides}
 use Rattle.wh_refresh.specs.declared.brought.Brought.{Brought}
 use Rattle.wh_refresh.specs.declared.refreshing.Asked.{Asked}
 use Rattle.wh_refresh.proofs.RefreshLemmas.{rises, above_rise}
+use Rattle.wh_refresh.proofs.refreshing.refresh.Given.{Over}
 use Rattle.wh_refresh.proofs.refreshing.refresh.Goals.{After-bring_all}
 use Rattle.wh_refresh.proofs.refreshing.refresh.Goals as goal
 
@@ -66,8 +66,8 @@ brings_found stored s objects id moment ids all is brings =
     subst (λ (l : List ℕ). BringsOr stored all (brought_all s.last moment l objects)) is
     (brings s.last (subst (RiseAbove 0) (sym is) (rises (dynamics_of objects) id moment)))
 
-pub returns-in-Some : goal.returns-in-Some
-returns-in-Some c s same =
+pub returns-in-Some-clause-refreshed : goal.returns-in-Some-clause-refreshed
+returns-in-Some-clause-refreshed g c shown s same =
     let objects = objects_in c.args.objects.now in
     let id = c.args.id in
     let up = gone_over objects (dynamics_in c.deref.result.now) id c.deref-2.result.now c.in_ok-ids.ids.items
@@ -79,8 +79,8 @@ returns-in-Some c s same =
     ∙ ap (λ (why : Option Refusal). refresh_by objects c.args.moment
     (first_of (why ∷ besides c.args.asked objects id ∷ [])) (found s objects id c.args.moment)) lost
 
-pub returns-in-Some-2 : goal.returns-in-Some-2
-returns-in-Some-2 c s same =
+pub returns-in-Some-2-clause-refreshed : goal.returns-in-Some-2-clause-refreshed
+returns-in-Some-2-clause-refreshed g c shown s same =
     let objects = objects_in c.args.objects.now in
     let id = c.args.id in
     let gone = gone_over objects (dynamics_in c.deref.result.now) id c.push.new.self.items c.in_ok-ids.ids.items
@@ -98,7 +98,7 @@ returns-in-Some-2 c s same =
     (found s objects id c.args.moment)) suspended
 
 -- where tables are brought, nothing is refused before
-module _ (c : After-bring_all) where
+module _ (g : Over) (c : After-bring_all g) where
   abbrev objects : List Object
   objects = objects_in c.args.objects.now
 
@@ -124,62 +124,62 @@ module _ (c : After-bring_all) where
       ∙ ap (option_map refusal_view) c.in_default-2.is in
       brought_by s objects c.args.asked c.args.id c.args.moment same lost suspended
 
-pub returns-in_default-3 : goal.returns-in_default-3
-returns-in_default-3 c s same =
-    let after = (goal.at.returns-in_default-3 c).After-bring_all in
+pub returns-in_default-3-clause-refreshed : goal.returns-in_default-3-clause-refreshed
+returns-in_default-3-clause-refreshed g c shown s same =
+    let after = (goal.at.returns-in_default-3-clause-refreshed g c).After-bring_all in
     let stored = stored_in c.args.objects.now in
     let id = c.args.id in
     let moment = c.args.moment in
-    let none : found s (objects after) id moment ≡ None =
-    subst (λ (all : Option (Vec Brought Global)). BringsOr stored all (found s (objects after) id moment))
-    c.in_default-3.is (brings_found stored s (objects after) id moment (asked_ids after) c.in_ok-all-2.field-0
-    (given after) c.in_ok-all-2.ensures) in
-    unrefused after s same ∙ ap (refresh_by (objects after) moment None) none
+    let none : found s (objects g after) id moment ≡ None =
+    subst (λ (all : Option (Vec Brought Global)). BringsOr stored all (found s (objects g after) id moment))
+    c.in_default-3.is (brings_found stored s (objects g after) id moment (asked_ids g after) c.in_ok-all-2.field-0
+    (given g after) (c.in_ok-all-2.ensures.brought shown)) in
+    unrefused g after s same ∙ ap (refresh_by (objects g after) moment None) none
 
-pub returns-in-Some-number_refusal : goal.returns-in-Some-number_refusal
-returns-in-Some-number_refusal c s same =
-    let after = (goal.at.returns-in-Some-number_refusal c).After-bring_all in
+pub returns-in-Some-number_refusal-clause-refreshed : goal.returns-in-Some-number_refusal-clause-refreshed
+returns-in-Some-number_refusal-clause-refreshed g c shown s same =
+    let after = (goal.at.returns-in-Some-number_refusal-clause-refreshed g c).After-bring_all in
     let stored = stored_in c.args.objects.now in
     let id = c.args.id in
     let moment = c.args.moment in
-    let brings : Brings stored c.in-Some-3.all.items (found s (objects after) id moment) =
-    subst (λ (all : Option (Vec Brought Global)). BringsOr stored all (found s (objects after) id moment))
+    let brings : Brings stored c.in-Some-3.all.items (found s (objects g after) id moment) =
+    subst (λ (all : Option (Vec Brought Global)). BringsOr stored all (found s (objects g after) id moment))
     c.in-Some-3.is
-    (brings_found stored s (objects after) id moment (asked_ids after) c.in_ok-all-2.field-0 (given after)
-    c.in_ok-all-2.ensures) in
-    unrefused after s same
-    ∙ ap (refresh_by (objects after) moment None) brings.is
-    ∙ ap (λ (why : Option Refusal). unless_past why (map (told_of (objects after) moment) brings.brought)
+    (brings_found stored s (objects g after) id moment (asked_ids g after) c.in_ok-all-2.field-0 (given g after)
+    (c.in_ok-all-2.ensures.brought shown)) in
+    unrefused g after s same
+    ∙ ap (refresh_by (objects g after) moment None) brings.is
+    ∙ ap (λ (why : Option Refusal). unless_past why (map (told_of (objects g after) moment) brings.brought)
     (flat_map (acts_of_one moment) brings.brought))
     (sym (c.number_refusal.ensures brings.brought
     (subst (λ (all : List Brought). AreBrought stored all brings.brought) (sym c.deref-6.ensures.value) brings.are))
     ∙ ap (option_map refusal_view) c.in-Some-number_refusal.is)
 
-pub returns : goal.returns
-returns c s same =
-    let after = (goal.at.returns c).After-bring_all in
+pub returns-clause-refreshed : goal.returns-clause-refreshed
+returns-clause-refreshed g c shown s same =
+    let after = (goal.at.returns-clause-refreshed g c).After-bring_all in
     let stored = stored_in c.args.objects.now in
     let id = c.args.id in
     let moment = c.args.moment in
-    let brings : Brings stored c.in-Some-3.all.items (found s (objects after) id moment) =
-    subst (λ (all : Option (Vec Brought Global)). BringsOr stored all (found s (objects after) id moment))
+    let brings : Brings stored c.in-Some-3.all.items (found s (objects g after) id moment) =
+    subst (λ (all : Option (Vec Brought Global)). BringsOr stored all (found s (objects g after) id moment))
     c.in-Some-3.is
-    (brings_found stored s (objects after) id moment (asked_ids after) c.in_ok-all-2.field-0 (given after)
-    c.in_ok-all-2.ensures) in
+    (brings_found stored s (objects g after) id moment (asked_ids g after) c.in_ok-all-2.field-0 (given g after)
+    (c.in_ok-all-2.ensures.brought shown)) in
     let acts : List Act = flat_map (acts_of_one moment) brings.brought in
     let above : AreAbove 0 brings.brought = above_rise 0 brings.brought (subst (RiseAbove 0)
-    (sym (brought_ids s.last moment (brought (dynamics_of (objects after)) id moment) (objects after) brings.brought
-    brings.is)) (rises (dynamics_of (objects after)) id moment)) in
+    (sym (brought_ids s.last moment (brought (dynamics_of (objects g after)) id moment) (objects g after) brings.brought
+    brings.is)) (rises (dynamics_of (objects g after)) id moment)) in
     let seen = λ (given : List Brought) (is : given ≡ c.in-Some-3.all.items).
     subst (λ (all : List Brought). AreBrought stored all brings.brought) (sym is) brings.are in
     record {
       acts = acts;
-      is = unrefused after s same
-          ∙ ap (refresh_by (objects after) moment None) brings.is
-          ∙ ap (λ (why : Option Refusal). unless_past why (map (told_of (objects after) moment) brings.brought) acts)
+      is = unrefused g after s same
+          ∙ ap (refresh_by (objects g after) moment None) brings.is
+          ∙ ap (λ (why : Option Refusal). unless_past why (map (told_of (objects g after) moment) brings.brought) acts)
           (sym (c.number_refusal.ensures brings.brought (seen _ c.deref-6.ensures.value))
           ∙ ap (option_map refusal_view) c.in_default-number_refusal.is)
           ∙ ap (λ (lines : List Refreshed). machine.Brings lines acts)
           (sym (c.in_ok-lines.ensures brings.brought (seen _ c.deref-7.ensures.value)));
-      written = c.in_ok-changes.ensures s.last brings.brought brings.are above;
+      written = c.in_ok-changes.ensures.written s.last brings.brought brings.are above;
     }

@@ -1,4 +1,4 @@
-use Rattle.std.proofs.Common.{◌≡◌, ◌+◌, Bool, List, drop, sym, ap, ◌∙◌}
+use Rattle.std.proofs.Common.{◌+◌, Bool, List, drop, sym, ap, ◌∙◌}
 use Rattle.std.specs.Prelude.{◌||◌}
 use Rattle.std.proofs.lemmas.List.{at_drop_more, at_drop_all}
 use Rattle.wh_state.specs.State.{Object}

@@ -3,7 +3,6 @@ use Rattle.std.specs.Prelude.{◌||◌, ◌&&◌, nat_lt, is_some}
 use Rattle.std.proofs.lemmas.Bool.Decides.{nat_tests}
 use Rattle.wh_state.specs.Stored.{table_meant}
 use Rattle.wh_machine.specs.Brought.{edits_sought}
-use Rattle.wh_machine.specs.Refresh.{has_version_between}
 use Rattle.wh_table.specs.Table.{table_of}
 use Rattle.wh_refresh.specs.Objects.{objects_in, stored_in}
 use Rattle.wh_refresh.proofs.RefreshLemmas.{fresh_none, fresh_in, same_there, between_meant}

@@ -7,7 +7,7 @@ use Rattle.wh_state.specs.Objects.{as_table}
 use Rattle.wh_state.specs.Stored.{StoredObject, StoredTable}
 use Rattle.wh_state.specs.Edits.{Edits}
 use Rattle.wh_state.specs.Commit.{Change, PushesVersion}
-use Rattle.wh_state.specs.Written.{version_change, version_written, version_written_to}
+use Rattle.wh_state.specs.Written.{version_written, version_written_to}
 use Rattle.wh_record.specs.View.{change_of}
 use Rattle.wh_table.specs.Table.{table_of}
 use Rattle.wh_refresh.specs.Objects.{stored_in}
@@ -23,9 +23,9 @@ written_there moment id e t None is = absurd cc
 written_there moment id e t (Some o) is =
     ap (λ (f : Option StoredTable). option_to_list (option_map (version_written moment id e) f)) is
 
-pub returns : goal.returns
-returns c edits new = by_edits edits (subst (λ (rows : Option NewRows). IsRowsOf (stored_in c.args.objects.now)
-    c.args.id rows edits)
+pub returns-clause-written : goal.returns-clause-written
+returns-clause-written c edits new =
+    by_edits edits (subst (λ (rows : Option NewRows). IsRowsOf (stored_in c.args.objects.now) c.args.id rows edits)
     c.in-Some.is new)
   where
     by_edits : (edits : Option Edits) → IsRowsOf (stored_in c.args.objects.now) c.args.id (Some c.in-Some.rows) edits

@@ -1,4 +1,4 @@
-use Rattle.std.proofs.Common.{ℕ, List, map, drop}
+use Rattle.std.proofs.Common.{List, map, drop}
 use Rattle.wh_reply.specs.View.{refreshed_view}
 use Rattle.wh_machine.specs.Refresh.{Brought, told_of}
 use Rattle.wh_refresh.specs.Objects.{objects_in, stored_in}

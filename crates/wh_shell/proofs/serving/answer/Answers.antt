@@ -1,20 +1,23 @@
-use Rattle.std.proofs.Common.{◌∙◌, rules}
-use Rattle.wh_reply.specs.Reply.{print}
+use Rattle.std.proofs.Common.{ℕ, ◌≡◌, ◌≤◌, ◌∙◌, sym, subst, rules}
+use Rattle.std.specs.Prelude.{if◌then◌else◌}
+use Rattle.wh_reply.specs.Reply.{Reply, print, is_refusal}
+use Rattle.wh_reply.specs.View.{reply_view}
 use Rattle.wh_machine.specs.Step.{step}
 use Rattle.wh_decide.specs.Event.{event_of}
 use Rattle.wh_engine.specs.Warehouse.{machine_of}
 use Rattle.wh_engine.specs.Leaves.{StandsForEither}
-use Rattle.wh_shell.specs.Open.{IsOpen, IsTold}
 use Rattle.wh_shell.specs.Serving.{HaltsBy, Halts}
-use Rattle.wh_shell.specs.Writing.{WritesFront}
+use Rattle.wh_shell.specs.Writing.{Writes, WritesFront}
 use Rattle.wh_shell.specs.Fault.{fault_of_halt}
 use Rattle.wh_shell.specs.declared.fault.Fault.{Fault}
 use Rattle.wh_shell.specs.declared.fault.Fault.TheVariants.{OutOfMemory, Output}
 use Rattle.wh_shell.proofs.CauseLemmas.{passed_on, halt_cause}
 use Rattle.wh_shell.proofs.CommitLemmas.{adds_made}
+use Rattle.wh_shell.proofs.CountLemmas.{choice_few}
 use Rattle.wh_shell.proofs.Survival.{leaves_now}
-use Rattle.wh_shell.proofs.Safety.{leaves_open, open_stands}
+use Rattle.wh_shell.proofs.Safety.{leaves_open, open_stands, stays_open}
 use Rattle.wh_shell.proofs.Halting.{halts_before, halts_behind, reach_carried}
+use Rattle.wh_shell.proofs.Told.{shows_open}
 use Rattle.wh_shell.proofs.serving.answer.Given.{Over}
 use Rattle.wh_shell.proofs.serving.answer.Goals.{After-carry_out}
 use Rattle.wh_shell.proofs.serving.answer.Goals as goal
@@ -32,25 +35,39 @@ module _ (g : Over) (c : After-carry_out g) where
       let m = machine_of old in
       let event = event_of c.args.event.now in
       halts_before g.K.Sink old new event c.args.out.now why
-      (λ told. leaves_now g.D.Disk g.met.D.Disk.counts_now old.disk
-      new.disk (StandsForEither m.state (step m event).0.state)
+      (λ told. leaves_now g.D.Disk g.met.D.Disk.counts_now old.fetch.disk
+      new.fetch.disk (StandsForEither m.state (step m event).0.state)
       (leaves_open old new (step m event).0.state c.requires told c.carry_out.ensures.any_moment)) cause
 
+-- ---- the reply was written
+
 pub returns-clause-carried : goal.returns-clause-carried
-returns-clause-carried g c =
+returns-clause-carried g c = λ told.
     let old = c.args.warehouse.now in
     let new = c.carry_out.new.self in
     let event = event_of c.args.event.now in
-    let carried = c.in_ok-reply.ensures.answered.carried in
+    let h = c.in_ok-reply.ensures.answered (shows_open old c.requires told) in
     record {
-      room = carried.room;
-      reach = reach_carried old new event carried;
-      adds = adds_made old new _ _ c.requires carried;
-      written = search rules;
-      refused = search rules;
+      room = h.carried.room;
+      reach = reach_carried old new event h.carried;
+      adds = adds_made old new _ _ c.requires h.carried;
+      written = subst (λ (r : Reply). Writes (print r) (g.K.Sink.held c.args.out.now)
+          (g.K.Sink.held c.write_all.new.out)) h.replied (search rules);
+      refused = subst (λ (r : Reply). c.refusals_in-refusals.result ≡ (if is_refusal r then 1 else 0)) h.replied
+          c.refusals_in-refusals.ensures;
     }
 
--- the engine halted
+pub returns-clause-few : goal.returns-clause-few
+returns-clause-few g c =
+    subst (λ (n : ℕ). n ≤ 1) (sym c.refusals_in-refusals.ensures) (choice_few (is_refusal (reply_view c.in_ok-reply.reply)))
+
+pub returns-clause-ready : goal.returns-clause-ready
+returns-clause-ready g c =
+    stays_open c.args.warehouse.now c.carry_out.new.self c.requires c.in_ok-reply.ensures.carried
+    c.carry_out.ensures.limit
+
+-- ---- the engine halted
+
 pub returns-in_err-reply-clause-halts : goal.returns-in_err-reply-clause-halts
 returns-in_err-reply-clause-halts g c =
     let old = c.args.warehouse.now in
@@ -61,9 +78,11 @@ returns-in_err-reply-clause-halts g c =
     passed_on (Halts g.K.Sink old new event out out) c.from_residual.result (fault_of_halt halt)
     c.from_residual.ensures.1
     (halts g (goal.at.returns-in_err-reply-clause-halts g c).After-carry_out (fault_of_halt halt)
-    (halt_cause g.K.Sink old new event out halt c.requires.healthy c.in_err-reply.ensures.halted))
+    (halt_cause g.K.Sink old new event out halt c.requires c.in_err-reply.ensures.stopped
+    (λ told. c.in_err-reply.ensures.halted (shows_open old c.requires told))))
 
--- no memory for the text of the reply
+-- ---- no memory for the text of the reply
+
 pub returns-in_err-print_reply-clause-halts : goal.returns-in_err-print_reply-clause-halts
 returns-in_err-print_reply-clause-halts g c =
     let out = c.args.out.now in
@@ -71,7 +90,8 @@ returns-in_err-print_reply-clause-halts g c =
     c.from_residual-in_err-print_reply.result OutOfMemory c.from_residual-in_err-print_reply.ensures.1
     (halts g (goal.at.returns-in_err-print_reply-clause-halts g c).After-carry_out OutOfMemory tt)
 
--- the reply was printed, and a front of it written
+-- ---- the reply was printed, and a front of it written
+
 pub returns-in_err-write_all-clause-halts : goal.returns-in_err-write_all-clause-halts
 returns-in_err-write_all-clause-halts g c =
     let old = c.args.warehouse.now in
@@ -79,16 +99,12 @@ returns-in_err-write_all-clause-halts g c =
     let event = event_of c.args.event.now in
     let out = c.args.out.now in
     let out_new = c.write_all.new.out in
-    let writes : WritesFront (print (step (machine_of old) event).1) (g.K.Sink.held out) (g.K.Sink.held out_new) =
-    search rules in
     let rose : HaltsBy g.K.Sink old new event out out_new Output = search rules in
-    let stays = c.in_ok-reply.ensures.answered.carried in
-    let ready : IsOpen new = record {
-      filed = stays.filed c.requires.filed;
-      settled = stays.durable c.requires.settled;
-      healthy = stays.still_healthy;
-    } in
+    let stays = stays_open old new c.requires c.in_ok-reply.ensures.carried c.carry_out.ensures.limit in
     passed_on (Halts g.K.Sink old new event out out_new) c.from_residual-in_err-write_all.result Output
     c.from_residual-in_err-write_all.ensures.1
-    (halts_behind g.K.Sink old new event out out_new Output stays.stepped
-    (λ told. open_stands g.met.D.Disk.only_now g.met.D.Disk.counts_now new ready (stays.told ∙ told)) writes rose)
+    (halts_behind g.K.Sink old new event out out_new Output
+    (λ told. (c.in_ok-reply.ensures.answered (shows_open old c.requires told)).carried.stepped)
+    (λ told. open_stands g.met.D.Disk.only_now g.met.D.Disk.counts_now new stays.opens (stays.told ∙ told))
+    (λ told. subst (λ (r : Reply). WritesFront (print r) (g.K.Sink.held out) (g.K.Sink.held out_new))
+    (c.in_ok-reply.ensures.answered (shows_open old c.requires told)).replied (search rules)) rose)

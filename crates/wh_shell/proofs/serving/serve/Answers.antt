@@ -31,7 +31,7 @@ turns-init g c =
     record {
       goes =
           goes_not_yet g.D.Disk g.K.Sink (limit_of w.journal) (reach_of w) (timed timing (option_map events left))
-          (awaited c.args.system readings c.new-reader.result left) (world_of w.disk c.args.script.now c.args.out.now)
+          (awaited c.args.system readings c.new-reader.result left) (world_of w.fetch.disk c.args.script.now c.args.out.now)
           (ap (timed timing) (c.new-reader.ensures.unread left))
           (λ told. leaves_open w w (machine_of w).state c.requires told
           (leaves_same g.met.D.Disk.only_now w (machine_of w).state));
@@ -95,7 +95,7 @@ returns-in_err-found-clause-stopped g c =
     (option_map events (g.S.Source.left c.args.script.now))) c.args.script.now c.args.out.now in
     let now = point_of c.turns.warehouse (awaited system (g.C.Clock.readings c.turns.clock) c.turns.reader
     (g.S.Source.left c.turns.script)) c.turns.script c.turns.out in
-    let new = world_of c.turn.new.warehouse.disk c.turn.new.script c.turn.new.out in
+    let new = world_of c.turn.new.warehouse.fetch.disk c.turn.new.script c.turn.new.out in
     let why = c.in_err-found.field-0.0 in
     let so_far = c.turns.invariant in
     passed_on (Stops g.D.Disk g.S.Source g.K.Sink first new) c.from_residual.result why c.from_residual.ensures.1

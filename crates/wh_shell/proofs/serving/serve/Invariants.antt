@@ -22,8 +22,8 @@ invariant-turns g l = record {
   fault : fault_of l.reader.script ≡ None;
   ready : StaysOpen l.fn.warehouse l.warehouse;
   counts : Counts l.initial.reader.script l.reader.script (g.S.Source.left l.fn.script) (g.S.Source.left l.script);
-  later : IsLater g.D.Disk g.S.Source g.K.Sink (world_of l.fn.warehouse.disk l.fn.script l.fn.out)
-      (world_of l.warehouse.disk l.script l.out);
+  later : IsLater g.D.Disk g.S.Source g.K.Sink (world_of l.fn.warehouse.fetch.disk l.fn.script l.fn.out)
+      (world_of l.warehouse.fetch.disk l.script l.out);
   clock : TakesSoFar g.C.Clock l.fn.system (option_map events (g.S.Source.left l.fn.script))
       (unread l.reader (g.S.Source.left l.script)) l.fn.clock l.clock;
 }

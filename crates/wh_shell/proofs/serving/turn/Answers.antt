@@ -31,7 +31,7 @@ returns-clause-went g c =
     answers_first g.K.Sink old new event
     (awaited c.args.system readings c.args.reader.now left)
     (awaited c.args.system readings_new c.next.new.self left_new) c.args.script.now c.next.new.source
-    c.args.out.now c.answer.new.out c.in_ok-refusals.refusals
+    c.args.out.now c.answer.new.out c.in_ok-refusals.refusals c.in_ok-refusals.ensures.few
     (timed_gives c.args.system readings readings_new (unread c.args.reader.now left) (unread c.next.new.self left_new)
     (event_of c.in-Some.event) event (rw c.in-Some.is at c.in_ok-event.ensures.turn) c.timed-event.ensures.event)
     c.in_ok-refusals.ensures.carried
@@ -80,12 +80,12 @@ returns-in_err-event-clause-stopped g c =
     let left = awaited c.args.system (g.C.Clock.readings c.args.clock.now) c.args.reader.now
     (g.S.Source.left c.args.script.now) in
     let first = point_of w left c.args.script.now out in
-    let new = world_of w.disk c.next.new.source out in
+    let new = world_of w.fetch.disk c.next.new.source out in
     let fault = c.in_err-event.field-0.0 in
     passed_on (Stops g.D.Disk g.S.Source g.K.Sink first new) c.from_residual.result (fault_of_script fault)
     c.from_residual.ensures.1
     (record {
-      front = λ es told. stops_none (machine_of w) es (g.K.Sink.held out);
+      front = λ told es left. stops_none (machine_of w) es (g.K.Sink.held out);
       safe = none_safely g.D.Disk g.K.Sink g.met.D.Disk.counts_now first new refl refl
           (λ told. leaves_open w w (machine_of w).state c.requires.ready told
           (leaves_same g.met.D.Disk.only_now w (machine_of w).state));
@@ -119,7 +119,7 @@ returns-in_err-refusals-clause-stopped g c =
     let left_new = timed (timing_of c.args.system readings_new) unread_new in
     let why = c.in_err-refusals.field-0.0 in
     passed_on (Stops g.D.Disk g.S.Source g.K.Sink (point_of old left c.args.script.now c.args.out.now)
-    (world_of new.disk c.next.new.source c.answer.new.out)) c.from_residual-in_err-refusals.result why
+    (world_of new.fetch.disk c.next.new.source c.answer.new.out)) c.from_residual-in_err-refusals.result why
     c.from_residual-in_err-refusals.ensures.1
     (stops_first g.K.Sink old new event left left_new c.args.script.now c.next.new.source c.args.out.now
     c.answer.new.out g.S.Source why

@@ -12,8 +12,8 @@ use Rattle.wh_decide.proofs.TransactionLemmas.{is_closed}
 use Rattle.wh_tick.proofs.CarryLemmas.{alone_in}
 use Rattle.wh_tick.proofs.carrying.carried_out.Goals as goal
 
-pub returns : goal.returns
-returns c =
+pub returns-clause-comes : goal.returns-clause-comes
+returns-clause-comes g c = λ shown.
     let sight = c.args.sight.now in
     let m = machine_in sight in
     let closed = is_closed (transaction_in (sessions_of sight.sessions.now) sight.session) c.number.result
@@ -21,5 +21,5 @@ returns c =
     comes_as sight c.change_named.result
     (ap (λ (names : List Named). changes_rows m sight.session (bound_change names c.args.body.now))
     (ap (map named_of) c.deref.ensures.value ∙ c.in_ok-names.ensures)
-    ∙ alone_in m sight.session (body_bound m c.args.body.now) c.requires closed)
-    c.change_named.ensures
+    ∙ alone_in m sight.session (body_bound m c.args.body.now) c.requires.ticking closed)
+    (c.change_named.ensures.comes shown)

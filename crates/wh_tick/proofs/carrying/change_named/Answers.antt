@@ -11,16 +11,16 @@ use Rattle.wh_decide.proofs.OutcomeLemmas.{comes_as}
 use Rattle.wh_tick.proofs.CarryLemmas.{bound_alike, bound_failing}
 use Rattle.wh_tick.proofs.carrying.change_named.Goals as goal
 
-pub returns-in-Ok : goal.returns-in-Ok
-returns-in-Ok c =
+pub returns-in-Ok-clause-comes : goal.returns-in-Ok-clause-comes
+returns-in-Ok-clause-comes g c = λ shown.
     let sight = c.args.sight.now in
     let meant = bound_change (map named_of c.args.names.now) c.args.body.now in
     comes_as sight c.change_rows.result
     (bound_alike (machine_in sight) sight.session c.in-Ok.bound meant c.in-Ok.ensures)
-    c.change_rows.ensures
+    (c.change_rows.ensures.comes shown)
 
-pub returns-in-Err-Failing : goal.returns-in-Err-Failing
-returns-in-Err-Failing c =
+pub returns-in-Err-Failing-clause-comes : goal.returns-in-Err-Failing-clause-comes
+returns-in-Err-Failing-clause-comes g c = λ _.
     let sight = c.args.sight.now in
     let meant = bound_change (map named_of c.args.names.now) c.args.body.now in
     let failing = c.in-Err-Failing.failing in

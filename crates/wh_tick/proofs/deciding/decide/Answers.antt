@@ -1,5 +1,6 @@
 use Rattle.std.proofs.Common.{ℕ, List, ap, sym, subst, ◌∙◌}
 use Rattle.std.specs.Result.{IfOk}
+use Rattle.std.proofs.lemmas.Result.{IfOk-weaker}
 use Rattle.wh_state.specs.State.{stamped}
 use Rattle.wh_machine.specs.Outcome.{Outcome}
 use Rattle.wh_machine.specs.Step.{commanded, outcome_of}
@@ -11,19 +12,43 @@ use Rattle.wh_decide.specs.Event.{event_of}
 use Rattle.wh_decide.specs.Decision.{Decides, machine_at}
 use Rattle.wh_tick.proofs.deciding.decide.Goals as goal
 
-pub returns-in-Command : goal.returns-in-Command
-returns-in-Command c =
+pub returns-in-Command-clause-decided : goal.returns-in-Command-clause-decided
+returns-in-Command-clause-decided g c = λ shown.
     let catalog = c.args.catalog.now in
     let sessions = sessions_of c.args.sessions.now in
     let m = machine_at (stamped (state_of catalog) c.args.stamp) sessions in
     subst (λ (o : Outcome). IfOk c.decide_command.result (λ d. Decides (stored_of catalog) sessions c.args.stamp d o))
     (ap (λ (t : List ℕ). commanded m c.in-Command.session (request_of t)) c.as_slice.ensures
-    ∙ ap (λ (e : Event). outcome_of m (event_of e)) (sym c.in-Command.is)) c.decide_command.ensures
+    ∙ ap (λ (e : Event). outcome_of m (event_of e)) (sym c.in-Command.is)) (c.decide_command.ensures.comes shown)
 
-pub returns-in-Tick : goal.returns-in-Tick
-returns-in-Tick c =
+pub returns-in-Command-clause-staged : goal.returns-in-Command-clause-staged
+returns-in-Command-clause-staged g c =
+    IfOk-weaker c.decide_command.result _ _ (λ _ ready. ready.staged) c.decide_command.ensures.ready
+
+pub returns-in-Command-clause-timed : goal.returns-in-Command-clause-timed
+returns-in-Command-clause-timed g c =
+    IfOk-weaker c.decide_command.result _ _ (λ _ ready. ready.timed) c.decide_command.ensures.ready
+
+pub returns-in-Command-clause-read : goal.returns-in-Command-clause-read
+returns-in-Command-clause-read g c =
+    IfOk-weaker c.decide_command.result _ _ (λ _ ready. ready.read) c.decide_command.ensures.ready
+
+pub returns-in-Tick-clause-decided : goal.returns-in-Tick-clause-decided
+returns-in-Tick-clause-decided g c = λ shown.
     let catalog = c.args.catalog.now in
     let sessions = sessions_of c.args.sessions.now in
     let m = machine_at (stamped (state_of catalog) c.args.stamp) sessions in
     subst (λ (o : Outcome). IfOk c.decide_tick.result (λ d. Decides (stored_of catalog) sessions c.args.stamp d o))
-    (ap (λ (e : Event). outcome_of m (event_of e)) (sym c.in-Tick.is)) c.decide_tick.ensures
+    (ap (λ (e : Event). outcome_of m (event_of e)) (sym c.in-Tick.is)) (c.decide_tick.ensures.comes shown)
+
+pub returns-in-Tick-clause-staged : goal.returns-in-Tick-clause-staged
+returns-in-Tick-clause-staged g c =
+    IfOk-weaker c.decide_tick.result _ _ (λ _ ready. ready.staged) c.decide_tick.ensures.ready
+
+pub returns-in-Tick-clause-timed : goal.returns-in-Tick-clause-timed
+returns-in-Tick-clause-timed g c =
+    IfOk-weaker c.decide_tick.result _ _ (λ _ ready. ready.timed) c.decide_tick.ensures.ready
+
+pub returns-in-Tick-clause-read : goal.returns-in-Tick-clause-read
+returns-in-Tick-clause-read g c =
+    IfOk-weaker c.decide_tick.result _ _ (λ _ ready. ready.read) c.decide_tick.ensures.ready

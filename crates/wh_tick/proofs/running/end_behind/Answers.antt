@@ -5,6 +5,7 @@ use Rattle.wh_record.specs.View.{change_of}
 use Rattle.wh_catalog.specs.Catalog.{state_of}
 use Rattle.wh_decide.specs.Sight.{machine_in}
 use Rattle.wh_tick.proofs.EndLemmas.{changes_of_end, aftermath_is}
+use Rattle.wh_tick.proofs.ReadyLemmas.{behind_read}
 use Rattle.wh_tick.proofs.running.end_behind.Goals as goal
 
 pub returns-clause-aftermath : goal.returns-clause-aftermath
@@ -31,3 +32,10 @@ returns-clause-changes c =
     (rw (c.deref.ensures.value, c.deref-2.ensures.value) at c.in_ok-end.ensures.skipped)
     (rw (c.deref.ensures.value, c.deref-2.ensures.value) at c.in_ok-end.ensures.run)
     (state_of c.args.sight.now.catalog.now).objects c.in_ok-tasks.ensures.tasks)
+
+pub returns-clause-read : goal.returns-clause-read
+returns-clause-read c = λ are.
+    let turn = c.args.turn.now in
+    behind_read (state_of c.args.sight.now.catalog.now).objects turn.root (task_of turn.graph.now) turn.task
+    (ending_of c.args.ending) (map change_of c.args.changes.items) (map change_of c.add_end.new.changes.items)
+    (returns-clause-changes c) are

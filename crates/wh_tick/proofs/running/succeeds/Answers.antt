@@ -13,8 +13,8 @@ use Rattle.wh_tick.proofs.EndLemmas.{end_behind}
 use Rattle.wh_tick.proofs.running.succeeds.Goals as goal
 use Rattle.std.specs.Prelude.{◌++◌}
 
-pub returns : goal.returns
-returns c =
+pub returns-clause-comes : goal.returns-clause-comes
+returns-clause-comes c =
     let sight = c.args.sight.now in
     let turn = c.args.turn.now in
     let m = machine_in sight in
@@ -24,6 +24,9 @@ returns c =
     λ acts is. decides_as sight c.committed.result
     (λ i. commits m (TaskSucceeded (c.in_ok-end.ensures.name i) (counts_view c.args.counts)
     (c.in_ok-end.ensures.aftermath i)) (acts ++ end))
-    (c.committed.ensures (acts ++ end) (c.in_ok-end.ensures.changes
+    (c.committed.ensures.comes (acts ++ end) (c.in_ok-end.ensures.changes
     ∙ end_behind sight.stamp stored m.state.objects turn.root r turn.task Succeeded acts
     (map change_of c.args.changes.items) is))
+
+pub returns-clause-ready : goal.returns-clause-ready
+returns-clause-ready c = λ are. c.committed.ensures.ready (c.in_ok-end.ensures.read are)

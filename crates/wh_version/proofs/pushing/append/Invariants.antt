@@ -4,8 +4,8 @@ use Rattle.std.specs.Vec.Iter.{into_iter_items, into_iter_len}
 use Rattle.wh_version.specs.Lasting.{fresh}
 use Rattle.wh_version.proofs.pushing.append.Given as goal
 
-abbrev pub invariant-loop-partition : goal.invariant-loop-partition
-invariant-loop-partition l = (l.kept.items ++ map fresh (into_iter_items l.partition-iterator)
-    ≡ l.initial.kept.items ++ map fresh (into_iter_items l.initial.partition-iterator))
-    × (into_iter_len l.partition-iterator ≡ length (into_iter_items l.partition-iterator))
-    × (vec_len l.kept + length (into_iter_items l.partition-iterator) ≤ vec_capacity l.kept)
+abbrev pub invariant-loop-filed : goal.invariant-loop-filed
+invariant-loop-filed l = (l.kept.items ++ map fresh (into_iter_items l.filed-iterator)
+    ≡ l.initial.kept.items ++ map fresh (into_iter_items l.initial.filed-iterator))
+    × (into_iter_len l.filed-iterator ≡ length (into_iter_items l.filed-iterator))
+    × (vec_len l.kept + length (into_iter_items l.filed-iterator) ≤ vec_capacity l.kept)

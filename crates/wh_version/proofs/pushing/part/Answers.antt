@@ -1,8 +1,9 @@
 use Rattle.std.proofs.Common.{◌≡◌, ◌+◌, ◌∙◌, ap, sym, subst, List, ◌∷◌, drop, get_or, IsTrue, arith}
 use Rattle.std.proofs.lemmas.List.{drop_more}
 use Rattle.wh_frame.specs.Partition.{Partition}
+use Rattle.wh_filed.specs.Filed.{partitions_filed}
 use Rattle.wh_version.specs.Lasting.{numbered_from, partitions_in, parted}
-use Rattle.wh_version.proofs.Parted.{one_partitions}
+use Rattle.wh_version.proofs.Parted.{one_filed}
 use Rattle.wh_version.proofs.pushing.part.Goals as goal
 
 pub part_one-requires : goal.part_one-requires
@@ -21,7 +22,7 @@ loop-number-preserved c =
     let step = c.part_one.ensures in (
       ap (parted c.args.place (drop (at.number-index + 1) removed)) step.parted
           ∙ sym (ap (λ l. parted c.args.place l at.kept.items) left) ∙ before.0,
-      ap partitions_in step.parted ∙ one_partitions c.args.place number at.kept.items ∙ before.1,
+      ap partitions_in step.parted ∙ ap partitions_filed (one_filed c.args.place number at.kept.items) ∙ before.1,
       step.length ∙ before.2,
       step.capacity ∙ before.3,
     )

@@ -22,7 +22,7 @@ returns-clause-parted c =
     let sized = kept.ok.0 in
     let number : 1 + (c.args.number - 1) ≡ c.args.number = omega arith in
     let k = c.index_mut-one.result.now in
-    ap (λ u. set kept.items (c.args.number - 1) (record { partition = k.partition; until = u })) c.min-one.ensures
+    ap (λ u. set kept.items (c.args.number - 1) (record { filed = k.filed; until = u })) c.min-one.ensures
     ∙ there c.args.place 1 (c.args.number - 1) kept.items k c.requires
     (omega (arith, c.len.ensures)) c.index_mut-one.ensures.value
     ∙ ap (λ n. map (part_one c.args.place n) kept.items) number

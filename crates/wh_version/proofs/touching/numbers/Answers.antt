@@ -1,7 +1,7 @@
 use Rattle.std.proofs.Common.{◌∙◌, ◌∷◌, [], ◌++◌, ap, map, refl, ℕ, List}
 use denote.Ref.{Bor}
 use Rattle.wh_frame.specs.Partition.{Partition}
-use Rattle.wh_version.specs.Edits.{partitions_at}
+use Rattle.wh_filed.specs.Filed.{contents_at}
 use Rattle.wh_version.proofs.Steps.{one_on, all_on}
 use Rattle.wh_version.proofs.touching.numbers.Goals as goal
 
@@ -9,7 +9,7 @@ number_at : Bor Partition → List ℕ
 number_at p = p.now.number ∷ []
 
 abbrev numbers_at : List (Bor Partition) → List ℕ
-numbers_at ps = map (λ p. p.number) (partitions_at ps)
+numbers_at ps = map (λ p. p.number) (contents_at ps)
 
 pub loop-partition-preserved : goal.loop-partition-preserved
 unfolding number_at

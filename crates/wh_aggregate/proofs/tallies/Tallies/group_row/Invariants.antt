@@ -2,7 +2,7 @@ use Rattle.std.proofs.Common.{◌≡◌, ◌++◌, drop}
 use Rattle.std.specs.Option.{option_map}
 use Rattle.wh_algebra.specs.View.{calls_of}
 use Rattle.wh_aggregate.specs.Tally.{answers}
-use Rattle.wh_aggregate.specs.RunningGroups.{group_row}
+use Rattle.wh_aggregate.specs.Groups.{group_row}
 use Rattle.wh_aggregate.proofs.tallies.Tallies.group_row.Given as goal
 
 abbrev pub invariant-loop-i : goal.invariant-loop-i

@@ -7,9 +7,10 @@ use Rattle.std.proofs.lemmas.List.{length-map, map-append}
 use Rattle.wh_catalog.specs.declared.object.StoredObject.{StoredObject}
 use Rattle.wh_catalog.specs.Names.{last_id, names_of, AreLast, id_at}
 use Rattle.wh_catalog.specs.Undoable.{object_in}
-use Rattle.wh_catalog.specs.Object.{kept_object}
+use Rattle.wh_catalog.specs.Object.{kept_object, filed_of_objects}
 use Rattle.wh_catalog.specs.Catalog.{kept_of}
 use Rattle.wh_catalog.proofs.Dropped.{one_more}
+use Rattle.wh_catalog.proofs.FiledLaws.{filed_with}
 use Rattle.wh_catalog.proofs.Index.{indexed_more}
 use Rattle.wh_catalog.proofs.LiveNames.{last_more}
 use Rattle.wh_catalog.proofs.catalog.Catalog.add_object.Goals as goal
@@ -24,6 +25,12 @@ returns-in-Ok-clause-changed c =
     ∙ ap (map object_in) (map-append kept_object before (object ∷ []))
     ∙ map-append object_in (map kept_object before) (kept_object object ∷ [])
 
+pub returns-in-Ok-clause-filed : goal.returns-in-Ok-clause-filed
+unfolding kept_of
+returns-in-Ok-clause-filed c =
+    ap filed_of_objects (c.push_reserved.ensures.items ∙ ap (λ l. l ++ c.args.object ∷ []) c.reserve.ensures.items)
+    ∙ filed_with c.args.self.now.objects.items c.args.object c.requires.nothing
+
 pub invariant_of-self-in-Ok-clause-named : goal.invariant_of-self-in-Ok-clause-named
 unfolding kept_of
 invariant_of-self-in-Ok-clause-named c =
@@ -36,7 +43,7 @@ invariant_of-self-in-Ok-clause-named c =
     let id : c.args.id ≡ length (names_of before) + 1 =
     omega (
       arith,
-      c.requires.next_id,
+      c.requires.new.next_id,
       length-map (map kept_object before) object_in,
       length-map before kept_object,
       length-map before (λ (o : StoredObject). o.name),
@@ -53,7 +60,7 @@ invariant_of-self-in-Ok-clause-unique c =
     let self = c.args.self.now in
     let object = c.args.object in
     subst AreLast (sym (c.push_reserved.ensures.items ∙ ap (λ l. l ++ object ∷ []) c.reserve.ensures.items))
-    (last_more self.objects.items object self.unique c.requires.free)
+    (last_more self.objects.items object self.unique c.requires.new.free)
 
 pub invariant_of-self-in-Ok-clause-live : goal.invariant_of-self-in-Ok-clause-live
 unfolding kept_of
@@ -62,4 +69,4 @@ invariant_of-self-in-Ok-clause-live c =
     let object = c.args.object in
     subst (λ (l : List StoredObject). count_by (λ (o : StoredObject). o.is_live) l ≤ bound limits.Objects)
     (sym (c.push_reserved.ensures.items ∙ ap (λ l. l ++ object ∷ []) c.reserve.ensures.items))
-    (one_more before object (bound limits.Objects) c.requires.few)
+    (one_more before object (bound limits.Objects) c.requires.new.few)

@@ -29,4 +29,4 @@ returns-clause-applies c =
 pub returns-clause-made : goal.returns-clause-made
 unfolding changed kept_table
 returns-clause-made c = λ i. objects_of c.args.self.now
-    ++ new_object c.args.change.name (DynamicKind (c.in-Ok-new.ensures i) (c.empty-table.ensures i)) ∷ []
+    ++ new_object c.args.change.name (DynamicKind (c.in-Ok-new.ensures i) (c.empty-table.ensures.table i)) ∷ []

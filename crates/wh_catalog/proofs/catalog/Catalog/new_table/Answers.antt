@@ -19,4 +19,4 @@ pub returns-clause-made : goal.returns-clause-made
 unfolding changed kept_table
 returns-clause-made c =
     ap (λ t. objects_of c.args.self.now ++ new_object c.args.change.name (TableKind t) ∷ [])
-    c.new-table.ensures
+    c.new-table.ensures.table

@@ -3,7 +3,8 @@ use Rattle.wh_state.specs.State.{State}
 use Rattle.wh_txn.specs.View.{sessions_of}
 use Rattle.wh_decide.specs.Decision.{machine_at}
 use Rattle.wh_record.specs.View.{commit_of}
-use Rattle.wh_engine.specs.Warehouse.{IsRead}
+use Rattle.wh_txn.specs.Recording.{IsRead}
+use Rattle.wh_fetch.specs.Device.{only_read_none}
 use Rattle.wh_engine.proofs.StopLemmas.{leaves_still}
 use Rattle.wh_engine.proofs.CarryLemmas.{carries_nothing, state_passed}
 use Rattle.wh_engine.proofs.warehouse.Warehouse.record.Goals as goal
@@ -13,13 +14,14 @@ pub returns-in-None-clause-answered : goal.returns-in-None-clause-answered
 returns-in-None-clause-answered g c =
     let old = c.args.self.now in
     let none : option_map commit_of c.args.commit ≡ None = rw c.in-None.is refl in
-    carries_nothing old _ _ _ none refl refl c.pass.ensures.stored
+    carries_nothing old _ _ _ none (only_read_none g.D.Disk old.fetch.disk) refl refl c.pass.ensures.stored
+    c.pass.ensures.filed
     (ap (λ (s : State). machine_at s (sessions_of old.sessions))
     (state_passed old.catalog c.pass.new.self c.args.stamp _ none c.pass.ensures.state))
     c.requires.healthy
 
 pub returns-in-None-clause-any_moment : goal.returns-in-None-clause-any_moment
-returns-in-None-clause-any_moment g c = leaves_still g.met.D.Disk.only_now c.args.self.now _ _ refl
+returns-in-None-clause-any_moment g c = leaves_still g.met.D.Disk.only_now c.args.self.now _ _ (only_read_none g.D.Disk c.args.self.now.fetch.disk)
 
 pub returns-in-Some-clause-answered : goal.returns-in-Some-clause-answered
 returns-in-Some-clause-answered g c =

@@ -9,4 +9,4 @@ returns-in-Some-clause-found g c =
 pub returns-in-Some-clause-keeps : goal.returns-in-Some-clause-keeps
 returns-in-Some-clause-keeps g c =
     let found = rw c.in-Some.is at c.in_ok-found.ensures.found in
-    keeps-promoted _ _ _ c.args.part.now _ _ found c.promote.ensures.entries
+    keeps-promoted _ _ _ _ c.args.part.now _ _ found c.promote.ensures.entries

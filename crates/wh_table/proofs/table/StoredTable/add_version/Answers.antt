@@ -1,21 +1,29 @@
 use Rattle.std.proofs.Common.{◌≡◌, refl, ◌+◌, ◌∙◌, ◌++◌, ◌∷◌, [], ap, sym, subst, List, length, map, IsTrue, arith}
 use Rattle.std.specs.List.{list_all}
 use Rattle.std.proofs.lemmas.Bool.{and_from}
+use Rattle.std.proofs.lemmas.List.{length-map}
 use Rattle.std.specs.Prelude.{not}
 use Rattle.wh_frame.specs.Partition.{Partition}
 use Rattle.wh_value.specs.View.{column_of}
 use Rattle.wh_state.specs.Stored.{StoredVersion}
 use Rattle.wh_state.specs.Edits.{without, is_among}
 use Rattle.wh_version.specs.Lists.{shortened}
-use Rattle.wh_version.specs.History.{versions_of, nexts_of, standing_in, partitions_of, next_in, popped}
+use Rattle.wh_version.specs.History.{versions_of, nexts_of, filed_of, standing_in, partitions_of, next_in, popped}
 use Rattle.wh_version.specs.History.{pushed_with}
 use Rattle.wh_version.specs.Lasting.{version_by, versions_by}
 use Rattle.wh_table.specs.Table.{kept_table}
 use Rattle.wh_table.specs.Apart.{is_apart, is_rising, rows_rise, highest_number}
 use Rattle.wh_table.proofs.Apart.{changed_apart, highest_number-append}
-use Rattle.wh_table.proofs.Pushed.{shortened-push, popped-push, next_in-push, last_apart}
+use Rattle.wh_table.proofs.EvenRows.{all_even}
+use Rattle.wh_table.proofs.Pushed.{shortened-push, popped-push, next_in-push, filed_back, last_apart}
 use Rattle.wh_table.proofs.Rising.{each_filter, each_append, last_rising}
 use Rattle.wh_table.proofs.table.StoredTable.add_version.Goals as goal
+
+pub filed-requires : goal.filed-requires
+unfolding kept_table
+filed-requires c =
+    all_even (map column_of c.args.self.now.columns.items) c.args.change.next_row c.args.change.added.items
+    c.requires.rows
 
 pub invariant_of-self : goal.invariant_of-self
 unfolding kept_table
@@ -38,6 +46,7 @@ invariant_of-self-2 c =
     let versions = versions_of t.history in
     let removed = c.args.change.removed.items in
     let added = c.args.change.added.items in
+    let same = c.in_ok-filed.ensures.same in
     let ps : List Partition = standing_in versions in
     let v : StoredVersion = record {
       stamp = c.args.stamp;
@@ -45,9 +54,9 @@ invariant_of-self-2 c =
       content = without removed ps ++ added;
     } in
     let now : versions_of c.push.new.self ≡ versions ++ v ∷ [] = c.in_ok-push.ensures.versions
-    ∙ ap (λ l. pushed_with versions c.args.stamp c.args.change.data_timestamp l added) c.deref-2.ensures.value in
+    ∙ (λ i. pushed_with versions c.args.stamp c.args.change.data_timestamp (c.deref-2.ensures.value i) (same i)) in
     let P : List StoredVersion → Type 0 = λ vs. IsTrue (list_all is_apart vs) in
-    let highest = ap highest_number c.in_ok-push.ensures.partitions
+    let highest = ap highest_number (c.in_ok-push.ensures.partitions ∙ ap (λ l. partitions_of t.history ++ l) same)
     ∙ highest_number-append (partitions_of t.history) added in
     let before = t.highest_row in
     let added_rising : IsTrue (list_all rows_rise added) =
@@ -72,12 +81,16 @@ returns-clause-pushed c =
     let versions = versions_of t.history in
     let removed = c.args.change.removed.items in
     let added = c.args.change.added.items in
+    let same = c.in_ok-filed.ensures.same in
     let now : versions_of c.push.new.self
     ≡ pushed_with versions c.args.stamp c.args.change.data_timestamp removed added =
     c.in_ok-push.ensures.versions
-    ∙ ap (λ l. pushed_with versions c.args.stamp c.args.change.data_timestamp l added) c.deref-2.ensures.value in
+    ∙ (λ i. pushed_with versions c.args.stamp c.args.change.data_timestamp (c.deref-2.ensures.value i) (same i)) in
+    let count : length c.in_ok-filed.filed.items ≡ length added =
+    sym (length-map c.in_ok-filed.filed.items (λ f. f.partition)) ∙ ap length same in
     let next : next_in (nexts_of c.push.new.self) ≡ next_in (nexts_of t.history) + length added =
-    ap next_in c.in_ok-push.ensures.nexts ∙ next_in-push (nexts_of t.history) _ in
+    ap next_in c.in_ok-push.ensures.nexts ∙ next_in-push (nexts_of t.history) _
+    ∙ ap (λ n. next_in (nexts_of t.history) + n) count in
     λ i. record {
       created = t.created;
       columns = map column_of t.columns.items;
@@ -96,6 +109,8 @@ returns-clause-back c =
     let versions = (λ i. popped (empty i) (c.in_ok-push.ensures.versions i))
     ∙ popped-push h.starts_empty (version_by h.kept.items 0 h.first) (versions_by h.kept.items 1 h.later.items) _ in
     let nexts = ap shortened c.in_ok-push.ensures.nexts ∙ shortened-push _ _ _ in
+    let filed = filed_back h (nexts_of c.push.new.self) (filed_of c.push.new.self) c.in_ok-filed.filed.items nexts
+    c.in_ok-push.ensures.filed in
     λ i. record {
       created = t.created;
       columns = map column_of t.columns.items;
@@ -104,4 +119,10 @@ returns-clause-back c =
       next_row = t.next_row;
       versions = versions i;
       nexts = nexts i;
+      filed = filed i;
     }
+
+pub returns-clause-filed : goal.returns-clause-filed
+unfolding kept_table
+returns-clause-filed c =
+    c.in_ok-push.ensures.filed ∙ ap (λ l. filed_of c.args.self.now.history ++ l) c.in_ok-filed.ensures.placed

@@ -1,32 +1,21 @@
-use Rattle.std.proofs.Common.{◌≡◌, List, [], ap, sym, subst}
-use Rattle.std.specs.List.{AllByRecursion}
-use Rattle.std.specs.FinMap.{entries}
-use denote.Ref.{Bor}
-use Rattle.wh_frame.specs.Partition.{Partition}
-use Rattle.wh_state.specs.Commit.{AllApart}
-use Rattle.wh_state.specs.Orderly.{HasRisingRows}
-use Rattle.wh_state.specs.Stored.{rows_of}
+use Rattle.wh_filed.specs.Filed.{partitions_at}
 use Rattle.wh_version.specs.History.{versions_of}
-use Rattle.wh_table.specs.Rows.{all_rows, partitions_at}
 use Rattle.wh_table.specs.Table.{kept_table}
-use Rattle.wh_table.proofs.ArrivedRows.{came_rising, are_arrivals}
+use Rattle.wh_table.proofs.ArrivedRows.{came_apart, are_arrivals}
 use Rattle.wh_table.proofs.table.StoredTable.arrivals.Goals as goal
 
-pub by_rows-requires : goal.by_rows-requires
-by_rows-requires c =
-    let t = c.args.self.now in
-    subst (AllByRecursion HasRisingRows) (sym (ap partitions_at c.deref.ensures.value))
-    (came_rising c.in_ok-arrivals.arrivals.stamp c.args.place (partitions_at c.in_ok-arrivals.arrivals.came.items)
-    (versions_of t.history) t.rising c.in_ok-arrivals.ensures)
-
-pub returns : goal.returns
+pub returns-clause-came : goal.returns-clause-came
 unfolding kept_table
-returns c =
+returns-clause-came c =
     let t = c.args.self.now in
-    let arrivals = c.in_ok-arrivals.arrivals in
-    let Sorts : List (Bor Partition) → List (Bor Partition) → Type 0 =
-    λ sorted ps. AllApart [] (partitions_at ps) → all_rows (partitions_at sorted)
-    ≡ entries (rows_of (partitions_at ps)) in
-    are_arrivals arrivals.stamp c.args.place (partitions_at arrivals.came.items) (versions_of t.history) t.rising
-    c.in_ok-arrivals.ensures _ t.apart
-    (subst (Sorts c.in_ok-came.came.items) c.deref.ensures.value c.in_ok-came.ensures)
+    let found = c.in_ok-arrivals.arrivals in
+    are_arrivals found.stamp c.args.place (partitions_at found.came.items) (versions_of t.history) t.rising t.apart
+    c.in_ok-arrivals.ensures.came
+
+pub returns-clause-apart : goal.returns-clause-apart
+unfolding kept_table
+returns-clause-apart c =
+    let t = c.args.self.now in
+    let found = c.in_ok-arrivals.arrivals in
+    came_apart found.stamp c.args.place (partitions_at found.came.items) (versions_of t.history) t.rising t.apart
+    c.in_ok-arrivals.ensures.came

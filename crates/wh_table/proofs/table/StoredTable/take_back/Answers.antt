@@ -14,7 +14,8 @@ invariant_of-self c =
       few_columns = t.few_columns;
       row_numbers = c.requires;
       highest_row = c.highest_kept-self.ensures;
-      apart = subst P (sym c.pop.ensures.versions) (each_popped is_apart t.history.starts_empty (versions_of t.history) t.apart);
+      apart = subst P (sym c.pop.ensures.versions)
+          (each_popped is_apart t.history.starts_empty (versions_of t.history) t.apart);
       rising = subst (λ vs. IsTrue (list_all is_rising vs)) (sym c.pop.ensures.versions)
           (each_popped is_rising t.history.starts_empty (versions_of t.history) t.rising);
     }

@@ -1,35 +1,49 @@
-use Rattle.std.proofs.Common.{Option, Some, None, option_map, sym, ap, subst, ◌∙◌}
-use Rattle.wh_state.specs.Edits.{Edits}
-use Rattle.wh_state.specs.Stored.{StoredTable, table_meant}
-use Rattle.wh_table.specs.Edited.{IsEdited}
-use Rattle.wh_table.specs.Table.{table_of}
+use Rattle.std.proofs.Common.{◌++◌, List, ap, ◌∙◌}
+use Rattle.wh_fetch.specs.DiskFetch.{told_of, goes_on}
+use Rattle.wh_frame.specs.Partition.{Partition}
+use Rattle.wh_filed.specs.Filed.{filed_at, partitions_at, AllShown}
+use Rattle.wh_state.specs.State.{stamped}
+use Rattle.wh_state.specs.Objects.{table_at}
+use Rattle.wh_catalog.specs.Catalog.{state_of, filed_of}
+use Rattle.wh_machine.specs.Transaction.{seen}
 use Rattle.wh_machine.specs.Sessions.{transaction_in}
-use Rattle.wh_txn.specs.View.{staged_of, sessions_of}
-use Rattle.wh_txn.specs.Seen.{own}
-use Rattle.wh_txn.proofs.SeenLemmas.{own_table, seen_in, seen_as}
+use Rattle.wh_txn.specs.View.{sessions_of}
+use Rattle.wh_txn.specs.declared.seeing.TableSeen.{TableSeen}
+use Rattle.wh_txn.proofs.ShownLemmas.{shows_loaded, still_shown}
+use Rattle.wh_txn.proofs.sessions.Sessions.seen.Given.{Over}
+use Rattle.wh_txn.proofs.sessions.Sessions.seen.Goals.{After-load}
 use Rattle.wh_txn.proofs.sessions.Sessions.seen.Goals as goal
 
-pub returns-in_default : goal.returns-in_default
-returns-in_default c = λ stamp.
-    let t = transaction_in (sessions_of c.args.self.now) c.args.session in
-    seen_in c.args.catalog.now stamp t c.args.id
-    ∙ ap (λ (found : Option StoredTable). option_map (own_table stamp (own t c.args.id)) (option_map table_meant found))
-    (sym c.in_default.ensures)
+module _ (g : Over) (c : After-load g) where
+  there : AllShown (told_of g.D.Disk c.args.fetch.now) (filed_of c.args.catalog.now)
+      → AllShown (told_of g.D.Disk c.at.new.fetch) (filed_at c.deref.result.now)
+  there shown = still_shown (told_of g.D.Disk c.args.fetch.now) (told_of g.D.Disk c.at.new.fetch)
+      (filed_of c.args.catalog.now) c.in_ok-at.at.filed.items c.deref.result.now c.in_ok-at.ensures.same
+      c.deref.ensures.value c.in_ok-at.ensures.among shown
 
-pub returns-in_default-staged : goal.returns-in_default-staged
-returns-in_default-staged c = λ stamp.
-    seen_in c.args.catalog.now stamp (transaction_in (sessions_of c.args.self.now) c.args.session) c.args.id
-    ∙ seen_as stamp _ None _ (table_of c.in-Some.table.now) (sym c.in_default-staged.ensures) (sym c.in-Some.ensures)
+pub returns-clause-shows : goal.returns-clause-shows
+returns-clause-shows g c = λ shown stamp.
+    let at = c.in_ok-at.at in
+    let loaded : TableSeen = record { stored = c.in_ok-stored.stored; made = at.made } in
+    shows_loaded at loaded (table_at (seen (stamped (state_of c.args.catalog.now) stamp)
+    (transaction_in (sessions_of c.args.self.now) c.args.session)).objects c.args.id)
+    (ap (λ (ps : List Partition). ps ++ at.made.items)
+    (c.in_ok-stored.ensures.loaded (there g (goal.at.returns-clause-shows g c).After-load shown)
+    ∙ ap partitions_at c.deref.ensures.value))
+    (c.in_ok-at.ensures.stands shown stamp)
 
-pub returns : goal.returns
-returns c = λ stamp.
-    let s = staged_of c.in-Some-staged.staged.now in
-    let t = table_of c.in-Some.table.now in
-    record {
-      stamp = stamp;
-      edits = s.edits;
-      is_edited = subst (λ (e : Edits). IsEdited c.in_ok-edited.edited e t)
-          c.in_ok-edits.ensures c.in_ok-edited.ensures;
-      is = seen_in c.args.catalog.now stamp (transaction_in (sessions_of c.args.self.now) c.args.session) c.args.id
-          ∙ seen_as stamp _ (Some s) _ t (sym c.in-Some-staged.ensures) (sym c.in-Some.ensures);
-    }
+pub returns-clause-sound : goal.returns-clause-sound
+returns-clause-sound g c = λ shown.
+    c.in_ok-stored.ensures.sound (there g (goal.at.returns-clause-sound g c).After-load shown)
+    ∙ c.in_ok-at.ensures.sound shown
+
+pub returns-in_err-stored-clause-sound : goal.returns-in_err-stored-clause-sound
+returns-in_err-stored-clause-sound g c = λ shown.
+    c.in_err-stored.ensures.sound (there g (goal.at.returns-in_err-stored-clause-sound g c).After-load shown)
+    ∙ c.in_ok-at.ensures.sound shown
+
+pub returns-clause-goes : goal.returns-clause-goes
+returns-clause-goes g c = goes_on g.D.Disk _ _ _ c.in_ok-at.ensures.goes c.in_ok-stored.ensures.goes
+
+pub returns-in_err-stored-clause-goes : goal.returns-in_err-stored-clause-goes
+returns-in_err-stored-clause-goes g c = goes_on g.D.Disk _ _ _ c.in_ok-at.ensures.goes c.in_err-stored.ensures.goes

@@ -1,8 +1,6 @@
-use Rattle.std.proofs.Common.{◌≡◌, ◌∙◌, ℕ, sym, ap, Bool, true, false, List, ◌∷◌}
+use Rattle.std.proofs.Common.{◌∙◌, ℕ, sym, ap, Bool}
 use Rattle.std.specs.Prelude.{◌||◌}
 use Rattle.std.specs.List.{list_any}
-use Rattle.wh_state.specs.Stored.{StoredVersion}
-use Rattle.wh_version.specs.declared.mark.VersionMark.{VersionMark}
 use Rattle.wh_version.specs.Lasting.{versions_by}
 use Rattle.wh_version.specs.Lists.{behind}
 use Rattle.wh_version.specs.Times.{is_between}

@@ -2,16 +2,20 @@ use Rattle.std.proofs.Common.{◌≡◌, ℕ, suc, ◌+◌, ◌<◌, ◌≤◌}
 use Rattle.std.proofs.Common.{ap, sym, subst, length, get_or, arith}
 use Rattle.wh_version.specs.declared.history.History.{History}
 use Rattle.wh_version.specs.declared.mark.VersionMark.{VersionMark}
-use Rattle.wh_version.specs.Edits.{partitions_at}
+use Rattle.wh_filed.specs.Filed.{filed_at, partitions_at}
 use Rattle.wh_version.specs.History.{marks_of}
 use Rattle.wh_version.proofs.ArrivalLaws.{count_versions, before_grows}
 use Rattle.wh_version.proofs.FrontLaws.{FrontUpTo, Grown, grown_on, front_longer, front_ends}
+use Rattle.wh_version.proofs.Kept.{among_more}
 use Rattle.wh_version.proofs.LastUpTo.{mark_within}
 use Rattle.wh_version.proofs.history.History.marked_front.Goals as goal
 use Rattle.wh_version.proofs.history.History.marked_front.Goals.{After-mark-mark}
 
 pub mark-mark-requires : goal.mark-mark-requires
-mark-mark-requires c = omega (arith, c.loop-place-test.true, c.mark_count-count.ensures, count_versions c.args.self.now.kept.items 0 (marks_of c.args.self.now))
+mark-mark-requires c =
+    let h = c.args.self.now in
+    let many = count_versions h.kept.items 0 (marks_of h) in
+    omega (arith, c.loop-place-test.true, c.mark_count-count.ensures, many)
 
 module _ (c : After-mark-mark) where
   abbrev h : History
@@ -21,7 +25,9 @@ module _ (c : After-mark-mark) where
   mark = get_or (marks_of h) c.loop-place.place h.first
 
   within : c.loop-place.place < length (marks_of h)
-  within = omega (arith, c.loop-place-test.true, c.mark_count-count.ensures, count_versions c.args.self.now.kept.items 0 (marks_of c.args.self.now))
+  within =
+      let many = count_versions h.kept.items 0 (marks_of h) in
+      omega (arith, c.loop-place-test.true, c.mark_count-count.ensures, many)
 
   counted : c.mark-mark.result.partitions ≡ mark.partitions
   counted = ap (λ (m : VersionMark). m.partitions) c.mark-mark.ensures
@@ -31,9 +37,9 @@ module _ (c : After-mark-mark) where
   few =
       omega (arith, counted, mark_within 0 (marks_of h) (length h.kept.items) c.loop-place.place h.first h.marks within)
 
-pub returns-then-stamp-mark : goal.returns-then-stamp-mark
-returns-then-stamp-mark c =
-    let m = (goal.at.returns-then-stamp-mark c).After-mark-mark in
+pub returns-then-stamp-mark-clause-came : goal.returns-then-stamp-mark-clause-came
+returns-then-stamp-mark-clause-came c =
+    let m = (goal.at.returns-then-stamp-mark-clause-came c).After-mark-mark in
     let at = c.loop-place in
     front_ends c.args.stamp (h m).kept.items (marks_of (h m)) (h m).first at.place at.before
     (partitions_at at.came.items) (within m)
@@ -57,6 +63,9 @@ loop-index-preserved c =
           c.index.ensures c.put_standing.ensures.items at.invariant.0,
       omega (arith, c.put_standing.ensures.length, at.invariant.1),
       omega (arith, c.put_standing.ensures.capacity, at.invariant.2),
+      among_more c.args.self.now.kept.items at.index c.index.result.now (filed_at at.came.items)
+          (filed_at c.put_standing.new.found.items) (omega (arith, c.loop-index-test.true, few)) c.index.ensures
+          c.put_standing.ensures.among at.invariant.3,
     )
 
 pub loop-place-preserved : goal.loop-place-preserved
@@ -81,4 +90,5 @@ loop-place-preserved c =
       subst (λ place. Longer place c.mark-mark.result) more (subst (Longer (suc at.place)) (sym is_mark) longer),
       omega (arith, c.loop-index.invariant.1, last, partitions),
       c.loop-index.invariant.2,
+      c.loop-index.invariant.3,
     )

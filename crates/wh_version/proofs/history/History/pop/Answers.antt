@@ -4,11 +4,13 @@ use Rattle.std.specs.List.{list_all}
 use Rattle.std.proofs.lemmas.List.{length-map, length-take}
 use Rattle.wh_version.specs.declared.lasting.Lasting.{Lasting}
 use Rattle.wh_version.specs.declared.mark.VersionMark.{VersionMark}
-use Rattle.wh_version.specs.Lasting.{partitions_in, numbered_from, count_to, is_gone_by, stands_again, version_by}
-use Rattle.wh_version.specs.Lasting.{versions_by}
+use Rattle.wh_version.specs.Lasting.{filed_in, partitions_in, numbered_from, count_to, is_gone_by, stands_again}
+use Rattle.wh_version.specs.Lasting.{version_by, versions_by}
 use Rattle.wh_version.specs.Lists.{behind}
 use Rattle.wh_version.proofs.Starts.{pop_behind}
-use Rattle.wh_version.specs.History.{versions_of, nexts_of}
+use Rattle.wh_version.specs.History.{versions_of, nexts_of, next_in}
+use Rattle.wh_version.proofs.FiledAgain.{filed_less}
+use Rattle.wh_version.proofs.Last.{next_last}
 use Rattle.wh_version.proofs.Popped.{versions_left, versions_shortened, nexts_shortened, numbered_less, count_less}
 use Rattle.wh_version.proofs.Popped.{gone_less, take_exactly}
 use Rattle.wh_version.proofs.history.History.pop.Goals.{After-stand_again}
@@ -47,12 +49,18 @@ module _ (c : After-stand_again) where
       ∙ c.stand_again.ensures
       ∙ ap (map (stands_again last)) (c.deref_mut.ensures.value ∙ c.truncate-2.ensures.items)
 
+  last_is : c.last_mark-mark.result ≡ get_or (c.args.self.now.first ∷ c.truncate.new.self.items)
+      (length c.truncate.new.self.items) c.args.self.now.first
+  last_is =
+      c.last_mark-mark.ensures
+      ∙ ap (λ ms. get_or (c.args.self.now.first ∷ ms) (length ms) c.args.self.now.first) c.deref.ensures.value
+
   counts : IsTrue (count_to 0 (c.args.self.now.first ∷ later) c.last_mark-mark.result.partitions)
       × (c.last_mark-mark.result.partitions ≤ length kept)
   counts =
       let h = c.args.self.now in
       let mark : c.last_mark-mark.result ≡ get_or (h.first ∷ later) (length later) h.first =
-      c.last_mark-mark.ensures ∙ ap (λ ms. get_or (h.first ∷ ms) (length ms) h.first) (c.deref.ensures.value ∙ marks) in
+      last_is ∙ ap (λ ms. get_or (h.first ∷ ms) (length ms) h.first) marks in
       let P : VersionMark → Type 0 =
       λ m. IsTrue (count_to 0 (h.first ∷ later) m.partitions) × (m.partitions ≤ length kept) in
       subst P (sym mark) (count_less 0 (length h.later.items - 1) (length kept) h.first h.later.items h.marks)
@@ -98,3 +106,15 @@ returns-clause-nexts c =
     ap (λ ms. map (λ mark. mark.partitions + 1) (h.first ∷ ms))
     (marks (goal.at.returns-clause-nexts c).After-stand_again)
     ∙ sym (nexts_shortened (λ mark. mark.partitions + 1) h.first h.later.items)
+
+pub returns-clause-filed : goal.returns-clause-filed
+unfolding nexts_of
+returns-clause-filed c =
+    let at = (goal.at.returns-clause-filed c).After-stand_again in
+    let h = c.args.self.now in
+    let count : c.last_mark-mark.result.partitions
+    ≡ next_in (map (λ mark. mark.partitions + 1) (h.first ∷ c.truncate.new.self.items)) - 1 =
+    omega (arith, next_last h.first c.truncate.new.self.items, ap (λ (m : VersionMark). m.partitions) (last_is at)) in
+    ap filed_in (whole at)
+    ∙ filed_less (last at) c.last_mark-mark.result.partitions (kept at)
+    ∙ ap (λ n. take n (filed_in (kept at))) count

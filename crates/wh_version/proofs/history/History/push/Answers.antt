@@ -7,14 +7,16 @@ use Rattle.wh_state.specs.Edits.{without}
 use Rattle.wh_state.specs.Stored.{StoredVersion}
 use Rattle.wh_version.specs.declared.lasting.Lasting.{Lasting}
 use Rattle.wh_version.specs.declared.mark.VersionMark.{VersionMark}
-use Rattle.wh_version.specs.Lasting.{partitions_in, numbered_from, count_to, is_gone_by, parted, fresh}
+use Rattle.wh_filed.specs.Filed.{partitions_filed}
+use Rattle.wh_version.specs.Lasting.{filed_in, partitions_in, numbered_from, count_to, is_gone_by, parted, fresh}
 use Rattle.wh_version.specs.Lasting.{standing_at, version_by, versions_by}
 use Rattle.wh_version.specs.Lists.{behind}
 use Rattle.wh_version.specs.History.{versions_of, nexts_of, marks_of, standing_in, next_in}
 use Rattle.wh_version.proofs.Starts.{push_behind}
 use Rattle.wh_version.proofs.Last.{next_last, counts_all, standing_now, standing_last}
 use Rattle.wh_version.proofs.Parted.{all_later, parted_gone, length-parted}
-use Rattle.wh_version.proofs.Pushed.{versions_pushed, more_partitions, still_numbered, still_count, still_gone}
+use Rattle.wh_version.proofs.Pushed.{versions_pushed, more_filed, more_partitions, still_numbered}
+use Rattle.wh_version.proofs.Pushed.{still_count, still_gone}
 use Rattle.wh_version.proofs.history.History.push.Goals.{After-push_reserved}
 use Rattle.wh_version.proofs.history.History.push.Goals as goal
 
@@ -72,7 +74,7 @@ invariant_of-self-2 c =
     let h = c.args.self.now in
     let removed = c.args.removed.now in
     let added = c.args.added.items in
-    let N : ℕ → Type 0 = λ n. NumberedFrom n added in
+    let N : ℕ → Type 0 = λ n. NumberedFrom n (partitions_filed added) in
     let sized_after = c.append.new.kept.ok.0 in
     let places : length c.push_reserved.new.self.items ≡ last at =
     omega (arith, count at, simp length-append at (ap length (marks at))) in
@@ -105,7 +107,7 @@ returns-clause-versions c =
     let now : StoredVersion = record {
       stamp = c.args.stamp;
       data_timestamp = c.args.data_timestamp;
-      content = without removed (standing_at (last at) (kept at)) ++ added;
+      content = without removed (standing_at (last at) (kept at)) ++ partitions_filed added;
     } in
     ap (behind h.starts_empty)
     ((λ i. versions_by (whole at i) 0 (marks at i))
@@ -114,7 +116,7 @@ returns-clause-versions c =
     ∙ (λ i. behind h.starts_empty (first ∷ rest) ++ (record {
       stamp = c.args.stamp;
       data_timestamp = c.args.data_timestamp;
-      content = without removed (standing i) ++ added;
+      content = without removed (standing i) ++ partitions_filed added;
     }) ∷ [])
 
 pub returns-clause-nexts : goal.returns-clause-nexts
@@ -130,3 +132,8 @@ pub returns-clause-partitions : goal.returns-clause-partitions
 returns-clause-partitions c =
     let at = (goal.at.returns-clause-partitions c).After-push_reserved in
     ap partitions_in (whole at) ∙ more_partitions (last at) c.args.removed.now (kept at) c.args.added.items
+
+pub returns-clause-filed : goal.returns-clause-filed
+returns-clause-filed c =
+    let at = (goal.at.returns-clause-filed c).After-push_reserved in
+    ap filed_in (whole at) ∙ more_filed (last at) c.args.removed.now (kept at) c.args.added.items

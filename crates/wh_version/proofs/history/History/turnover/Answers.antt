@@ -2,9 +2,11 @@ use Rattle.std.proofs.Common.{◌≡◌, List, ◌++◌, ◌∙◌, ap, length, 
 use Rattle.std.proofs.lemmas.List.{length-take}
 use Rattle.wh_version.specs.declared.lasting.Lasting.{Lasting}
 use Rattle.std.specs.Prelude.{nat_le}
-use Rattle.wh_version.specs.Lasting.{standing_at, gone_between, version_by, versions_by}
-use Rattle.wh_version.specs.Edits.{partitions_at}
+use Rattle.wh_version.specs.Lasting.{filed_in, stands_at, standing_filed, standing_at, is_gone_between, gone_between}
+use Rattle.wh_version.specs.Lasting.{version_by, versions_by}
+use Rattle.wh_filed.specs.Filed.{filed_at, partitions_at, partitions_filed, AreAmong}
 use Rattle.wh_version.specs.History.{versions_of}
+use Rattle.wh_version.proofs.Kept.{joined, picked_among, behind_among}
 use Rattle.wh_version.proofs.Starts.{first_empty, found_behind}
 use Rattle.wh_version.proofs.TurnoverLaws.{reach_grows, reach_stands, turned_over}
 use Rattle.wh_version.proofs.history.History.turnover.Goals as goal
@@ -32,9 +34,9 @@ standing_behind-requires-clause-within c =
     c.reach-new.result c.requires h.marks c.reach-old.ensures c.reach-new.ensures).within in
     omega (arith, within, ap length c.deref-2.ensures.value)
 
-pub returns : goal.returns
+pub returns-clause-turnover : goal.returns-clause-turnover
 unfolding versions_of
-returns c =
+returns-clause-turnover c =
     let h = c.args.self.now in
     let kept : List Lasting = h.kept.items in
     let old = c.reach-old.result in
@@ -43,13 +45,33 @@ returns c =
     c.reach-old.ensures c.reach-new.ensures in
     turned_over kept old new (partitions_at c.in_ok-went.went.items) (partitions_at c.in_ok-came.came.items) _ _
     grows.place
-    (c.in_ok-went.ensures ∙ ap (λ ks. gone_between old.place new.place (take old.partitions ks)) c.deref.ensures.value)
+    (ap partitions_filed c.in_ok-went.ensures
+    ∙ ap (λ ks. gone_between old.place new.place (take old.partitions ks)) c.deref.ensures.value)
     (subst (λ (ks : List Lasting). standing_at new.place (take old.partitions ks)
     ++ partitions_at c.in_ok-came.came.items
-    ≡ standing_at new.place (take new.partitions ks)) c.deref-2.ensures.value c.in_ok-came.ensures)
+    ≡ standing_at new.place (take new.partitions ks)) c.deref-2.ensures.value
+    (joined (standing_filed new.place (take old.partitions c.deref-2.result.now)) (filed_at c.in_ok-came.came.items) _
+    c.in_ok-came.ensures))
     (found_behind (version_by kept 0 h.first) (first_empty h) h.starts_empty (λ v. nat_le v.data_timestamp c.args.from)
     (versions_by kept 1 h.later.items)
     ∙ reach_stands kept h.first h.later.items c.args.from old c.reach-old.ensures)
     (found_behind (version_by kept 0 h.first) (first_empty h) h.starts_empty (λ v. nat_le v.data_timestamp c.args.to)
     (versions_by kept 1 h.later.items)
     ∙ reach_stands kept h.first h.later.items c.args.to new c.reach-new.ensures)
+
+pub returns-clause-went : goal.returns-clause-went
+returns-clause-went c =
+    let old = c.reach-old.result in
+    let went = filed_at c.in_ok-went.went.items in
+    subst (λ (ks : List Lasting). AreAmong went (filed_in ks)) c.deref.ensures.value
+    (picked_among (is_gone_between old.place c.reach-new.result.place) old.partitions c.deref.result.now went
+    c.in_ok-went.ensures)
+
+pub returns-clause-came : goal.returns-clause-came
+returns-clause-came c =
+    let new = c.reach-new.result in
+    let came = filed_at c.in_ok-came.came.items in
+    let kept = c.deref-2.result.now in
+    subst (λ (ks : List Lasting). AreAmong came (filed_in ks)) c.deref-2.ensures.value
+    (behind_among (stands_at new.place) new.partitions kept
+    (standing_filed new.place (take c.reach-old.result.partitions kept)) came c.in_ok-came.ensures)

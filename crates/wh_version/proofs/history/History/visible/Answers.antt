@@ -6,8 +6,8 @@ use Rattle.wh_version.specs.Times.{is_up_to}
 use Rattle.wh_version.proofs.Starts.{last_in}
 use Rattle.wh_version.proofs.history.History.visible.Goals as goal
 
-pub returns : goal.returns
+pub returns-clause-version : goal.returns-clause-version
 unfolding versions_of
-returns c =
-    c.last_up_to.ensures
+returns-clause-version c =
+    c.last_up_to.ensures.version
     ∙ last_in c.args.self.now (λ v. nat_le v.stamp c.args.stamp) (is_up_to Stamp c.args.stamp) (λ place m. refl)

@@ -1,0 +1,3 @@
+pub mod FilingLaws
+mod LoadingLemmas
+mod SoundLemmas

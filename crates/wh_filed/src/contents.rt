@@ -1,0 +1,24 @@
+//! What stood in a partition. It exists in proofs alone, and takes no memory.
+ghost use Rattle.std.specs.Prelude.{◌≡◌};
+ghost use Rattle.std.specs.Borrow.{ftrue};
+ghost use Rattle.wh_frame.specs.Partition.{Partition as Rows, coded_partition};
+
+use std::marker::Model;
+use wh_part::Partition;
+
+#[derive(Debug, Drop)]
+pub struct Contents {
+    pub ghost partition: { Rows } by { coded_partition },
+}
+
+impl Model for Contents {
+    ghost also_owns = { λ _. ftrue };
+}
+
+impl Contents {
+    pub(crate) fn of(_partition: &Partition) -> Contents
+        ensures { result.partition ≡ _partition.now }
+    {
+        Contents {}
+    }
+}

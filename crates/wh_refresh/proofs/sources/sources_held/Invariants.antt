@@ -1,0 +1,17 @@
+use Rattle.std.proofs.Common.{◌≡◌, ℕ, List, take}
+use Rattle.wh_filed.specs.Filed.{AreAmong}
+use Rattle.wh_state.specs.Moments.{instance_at}
+use Rattle.wh_machine.specs.Refresh.{Brought}
+use Rattle.wh_machine.specs.Brought.{after_all, AreAbove}
+use Rattle.wh_refresh.specs.Objects.{objects_in, stored_in, filed_at_objects}
+use Rattle.wh_refresh.specs.Brought.{AreBrought}
+use Rattle.wh_refresh.specs.Sources.{bags_held, filed_held}
+use Rattle.wh_refresh.proofs.sources.sources_held.Given as goal
+
+abbrev pub invariant-loop-id : goal.invariant-loop-id
+invariant-loop-id l = record {
+  held : (stamp : ℕ) (bs : List Brought) → AreBrought (stored_in l.objects) l.brought bs → AreAbove 0 bs
+      → bags_held l.sources.items
+      ≡ instance_at (after_all stamp l.moment bs (objects_in l.objects)) l.moment (take l.id-index l.ids);
+  among : AreAmong (filed_held l.sources.items) (filed_at_objects l.objects);
+}

@@ -1,0 +1,55 @@
+-- What the partitions of a table that is seen say of its rows.
+--     stands_in        a table's rows stand in partitions that hold them
+--     standing_bag     the bag of all rows that stand there, one after the other
+--     still_shown      what is told of the partitions in which it stands is right still
+--     shows_loaded     it shows a table where it has the partitions in which the rows stand
+--     shows_sorted     its rows by their numbers
+use Rattle.std.proofs.Common.{◌≡◌, ℕ, List, ◌++◌, Option, Some, None, sym, ap, subst, ◌∙◌}
+use Rattle.std.specs.Global.{Global}
+use Rattle.std.specs.declared.sync.Arc.{Arc}
+use denote.Ref.{Bor}
+use Rattle.std.specs.FinMap.{entries}
+use Rattle.wh_value.specs.Value.{Row}
+use Rattle.wh_meaning.specs.Bag.{bag_of}
+use Rattle.wh_frame.specs.Partition.{Partition}
+use Rattle.wh_filed.specs.Filed.{Filed, filed_at, loaded_of, AllShown, AreAmong}
+use Rattle.wh_state.specs.State.{Rows, Table, last_rows}
+use Rattle.wh_machine.specs.Queries.{table_bag}
+use Rattle.wh_table.specs.Rows.{rows_only, all_rows}
+use Rattle.wh_table.specs.Shown.{Holds, HoldsRising}
+use Rattle.wh_table.proofs.HoldLaws.{held_bag}
+use Rattle.wh_txn.specs.declared.standing.TableAt.{TableAt}
+use Rattle.wh_txn.specs.declared.seeing.TableSeen.{TableSeen}
+use Rattle.wh_txn.specs.Seen.{partitions_standing, StandsAt, partitions_of, Shows}
+
+pub stands_in : (at : TableAt) (partitions : List Partition) (t : Table) → partitions_standing at ≡ partitions
+    → HoldsRising partitions (last_rows t) → StandsAt at (Some t)
+stands_in at partitions t is holds = subst (λ (ps : List Partition). HoldsRising ps (last_rows t)) (sym is) holds
+
+pub standing_bag : (at : TableAt) (found : Option Table) → StandsAt at found
+    → bag_of (rows_only (all_rows (partitions_standing at))) ≡ table_bag found
+standing_bag at None none = ap (λ (ps : List Partition). bag_of (rows_only (all_rows ps))) none
+standing_bag at (Some t) holds = held_bag (partitions_standing at) (last_rows t) holds
+
+pub still_shown : (told now : Option (List ℕ)) (all : List Filed) (some same : List (Bor Filed)) → now ≡ told
+    → same ≡ some → AreAmong (filed_at some) all → AllShown told all → AllShown now (filed_at same)
+still_shown told now all some same is_told is_some among shown =
+    subst (λ (fs : List (Bor Filed)). AllShown now (filed_at fs)) (sym is_some)
+    (among now (subst (λ (bytes : Option (List ℕ)). AllShown bytes all) (sym is_told) shown))
+
+pub shows_loaded : (at : TableAt) (seen : TableSeen) (found : Option Table)
+    → partitions_of seen ≡ partitions_standing at → StandsAt at found → Shows seen found
+shows_loaded at seen None is none = is ∙ none
+shows_loaded at seen (Some t) is holds =
+    subst (λ (ps : List Partition). Holds ps (last_rows t)) (sym is) holds.holds
+
+module _ (seen : TableSeen) (stored : List (Arc Partition Global)) (made : List Partition)
+    (stored_is : stored ≡ seen.stored.items) (made_is : made ≡ seen.made.items) where
+  holds_here : (rows : Rows) → Holds (partitions_of seen) rows → Holds (loaded_of stored ++ made) rows
+  holds_here rows holds = subst (λ (ps : List Partition). Holds ps rows)
+      (sym (λ i. loaded_of (stored_is i) ++ made_is i)) holds
+
+  pub shows_sorted : (found : List (ℕ × Row))
+      → ((rows : Rows) → Holds (loaded_of stored ++ made) rows → found ≡ entries rows)
+      → (t : Table) → Shows seen (Some t) → found ≡ entries (last_rows t)
+  shows_sorted found are t holds = are (last_rows t) (holds_here (last_rows t) holds)
