@@ -1,11 +1,10 @@
 //! Partitions whose rows stand in the file.
 #![tactic(auto)]
 
-mod contents;
 mod filed;
 mod filing;
 mod loading;
 
 pub use filed::FiledPartition;
 pub use filing::filed_from;
-pub use loading::load;
+pub use loading::{fetch_all, fetch_one, load};

@@ -8,5 +8,8 @@ pub mod MetaLemmas
 pub mod Rejected
 pub mod KnownHolding
 pub mod Within
-pub mod Pruned
 pub mod SizeLaws
+pub mod SkimLaws
+pub mod AbsorbLaws
+pub mod ExtentLaws
+pub mod SketchLaws

@@ -1,8 +1,11 @@
 pub mod View
 pub mod Meta
 pub mod Holding
-pub mod Pruned
 pub mod Reading
 pub mod Decoding
 pub mod Laws
 pub mod Shape
+pub mod Extent
+pub mod Skim
+pub mod Sketch
+pub mod Outline

@@ -78,7 +78,7 @@ fn write_each_column(out: &mut Bytes, columns: &[Column]) -> Result<(), AllocErr
 }
 
 #[tactic(auto, unfolding(wh_state::specs::Spelling::table_bytes))]
-fn write_table(out: &mut Bytes, table: &TableChange) -> Result<(), AllocError>
+pub(crate) fn write_table(out: &mut Bytes, table: &TableChange) -> Result<(), AllocError>
     ensures written { OnOk result (out.new ≡ out.old ++ table_bytes (table_change_of table.now)) }
     ensures spelled { OnOk result (IsTableChange (table_change_of table.now)) }
 {
@@ -177,7 +177,7 @@ fn byte_of_kind(is_append_only: bool) -> u8
 }
 
 #[tactic(auto, unfolding(wh_state::specs::Spelling::stream_bytes))]
-fn write_stream(out: &mut Bytes, stream: &StreamChange) -> Result<(), AllocError>
+pub(crate) fn write_stream(out: &mut Bytes, stream: &StreamChange) -> Result<(), AllocError>
     ensures written { OnOk result (out.new
         ≡ out.old ++ stream_bytes (stream_change_of stream.now)) }
     ensures spelled { OnOk result (IsStreamChange (stream_change_of stream.now)) }
@@ -189,7 +189,7 @@ fn write_stream(out: &mut Bytes, stream: &StreamChange) -> Result<(), AllocError
     write_u64(out, stream.offset)
 }
 
-fn write_offset(out: &mut Bytes, id: u32, offset: u64) -> Result<(), AllocError>
+pub(crate) fn write_offset(out: &mut Bytes, id: u32, offset: u64) -> Result<(), AllocError>
     ensures written { OnOk result (out.new ≡ out.old ++ offset_bytes id offset) }
     ensures fits { OnOk result ((id < 2 ^ 32) × (offset < 2 ^ 64)) }
 {
@@ -199,7 +199,7 @@ fn write_offset(out: &mut Bytes, id: u32, offset: u64) -> Result<(), AllocError>
 }
 
 #[tactic(auto, unfolding(wh_state::specs::Spelling::change_bytes))]
-pub(crate) fn write_change(out: &mut Bytes, change: &Change) -> Result<(), AllocError>
+fn write_change(out: &mut Bytes, change: &Change) -> Result<(), AllocError>
     ensures written { OnOk result (out.new ≡ out.old ++ change_bytes (written_of change.now)) }
     ensures spelled { OnOk result (IsChange (written_of change.now)) }
 {
