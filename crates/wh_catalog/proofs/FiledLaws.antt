@@ -15,6 +15,7 @@ use Rattle.std.proofs.lemmas.List.Folds.{flat_map-map}
 use Rattle.wh_value.specs.Limit.{bound}
 use Rattle.wh_value.specs.declared.limit.Limit.TheVariants as limits
 use Rattle.wh_filed.specs.Filed.{Filed, AllShown, AreAmong}
+use Rattle.wh_filed.proofs.ShownLaws.{shown_append, shown_front, shown_behind}
 use Rattle.wh_state.specs.State.{TableKind, StreamKind, TaskKind, DynamicKind, Stream, on_stream, on_task, on_dynamic}
 use Rattle.wh_state.specs.State.{at_id, put_at, changed_at, with_offset, live_count}
 use Rattle.wh_state.specs.Task.{Task, with_state}
@@ -35,21 +36,6 @@ use Rattle.wh_catalog.specs.Object.{kept_object, filed_in_kind, filed_in_kept, f
 use Rattle.wh_catalog.specs.Names.{is_last}
 use Rattle.wh_catalog.specs.Back.{object_put_back, on_task_kept, holding, on_dynamic_kept, alive}
 use Rattle.wh_catalog.specs.Undo.{step_undone, IsSteady}
-
--- ---- what is told of lists
-
-shown_append : (told : Option (List ℕ)) (xs ys : List Filed) → AllShown told xs → AllShown told ys
-    → AllShown told (xs ++ ys)
-shown_append told [] ys all more = more
-shown_append told (x ∷ xs) ys all more = (all.0, shown_append told xs ys all.1 more)
-
-shown_front : (told : Option (List ℕ)) (xs ys : List Filed) → AllShown told (xs ++ ys) → AllShown told xs
-shown_front told [] ys all = tt
-shown_front told (x ∷ xs) ys all = (all.0, shown_front told xs ys all.1)
-
-shown_behind : (told : Option (List ℕ)) (xs ys : List Filed) → AllShown told (xs ++ ys) → AllShown told ys
-shown_behind told [] ys all = all
-shown_behind told (x ∷ xs) ys all = shown_behind told xs ys all.1
 
 -- ---- lists among others
 

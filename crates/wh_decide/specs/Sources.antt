@@ -17,7 +17,8 @@ use Rattle.wh_reply.specs.Reply.{Refusal, OverLimit}
 use Rattle.wh_machine.specs.Tests.{refused_if, first_of}
 use Rattle.wh_machine.specs.Outcome.{Machine}
 use Rattle.wh_machine.specs.Reading.{reading_refusal}
-use Rattle.wh_txn.specs.Seen.{Shows, partitions_standing}
+use Rattle.wh_txn.specs.Seen.{partitions_standing}
+use Rattle.wh_txn.specs.Touched.{ShowsTo}
 use Rattle.wh_txn.specs.declared.seeing.TableSeen.{TableSeen}
 use Rattle.wh_decide.specs.declared.sources.SourceSeen.{SourceSeen}
 use Rattle.wh_decide.specs.declared.sources.SourceSeen.TheVariants as sources
@@ -37,10 +38,10 @@ filed_by (sources.Stream rows) = []
 abbrev pub filed_seen : List SourceSeen → List Filed
 filed_seen seen = flat_map filed_by seen
 
--- an INSERT reads none of it
+-- an INSERT reads none of it, and another change its rows but for those that it leaves as they are
 abbrev pub IsTarget : Modification → Table → Option TableSeen → Type 0
 IsTarget change t None = is_insert change ≡ true
-IsTarget change t (Some seen) = Shows seen (Some t)
+IsTarget change t (Some seen) = ShowsTo change seen (Some t)
 
 abbrev pub lower : Option ℕ → ℕ → ℕ
 lower None id = id

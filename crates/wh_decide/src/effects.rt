@@ -51,7 +51,8 @@ pub(crate) fn effect_seen<D: Disk>(
     effect_on(alloc, &bound.change, &target, &sources, fetch)
 }
 
-// What the session sees of its target. An INSERT goes over no row of it.
+// What the session sees of its target: the partitions in which rows may not stay as they are. An
+// INSERT goes over no row of it.
 #[tactic(auto, using(wh_fetch::specs::DiskFetch::goes_on, wh_fetch::specs::DiskFetch::goes_none))]
 fn target_seen<D: Disk>(
     alloc: Global,
@@ -72,9 +73,14 @@ fn target_seen<D: Disk>(
     if is_insert(&bound.change) {
         return Ok(None);
     }
-    let target = sight
-        .sessions
-        .seen(alloc, sight.catalog, sight.session, bound.target, fetch)?;
+    let target = sight.sessions.seen_by(
+        alloc,
+        sight.catalog,
+        sight.session,
+        bound.target,
+        &bound.change,
+        fetch,
+    )?;
     Ok(Some(target))
 }
 

@@ -1,3 +1,4 @@
 pub mod View
+pub mod Leaving
 pub mod Given
 pub mod Steps

@@ -9,6 +9,7 @@ mod delete;
 mod fault;
 mod indexing;
 mod insert;
+mod leaving;
 mod merge;
 mod pairs;
 mod settled;
@@ -18,4 +19,5 @@ mod update;
 
 pub use changing::effect;
 pub use fault::EffectFault;
+pub use leaving::leaves;
 pub use target::Effect;

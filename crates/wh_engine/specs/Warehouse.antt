@@ -6,7 +6,7 @@
 --     IsSettled           where bytes are told, a crash leaves them as they are
 --     IsUntouched         the disk was only read, and journal and catalog are as they were
 --     IsOnlyRead          so of the same journal, catalog and open transactions
---     fetched_of          how many partitions were asked for
+--     fetched_of          the partitions that were asked for
 --     IsBegun             of a new event: none was asked for, or found damaged
 --     ReadsNothing        the disk wasn't read, and no partition asked for
 --     ReadsOnceEach       it was read at most once for each that was
@@ -26,6 +26,7 @@ use Rattle.wh_machine.specs.Step.{Event, step}
 use Rattle.wh_machine.specs.Made.{made}
 use Rattle.wh_world.specs.Crash.{Only}
 use Rattle.wh_world.specs.declared.disk.Disk.{Ghosts}
+use Rattle.wh_part.specs.declared.meta.PartId.{PartId}
 use Rattle.wh_filed.specs.Filed.{Filed as FiledPartition, AllShown}
 use Rattle.wh_fetch.specs.Device.{OnlyRead}
 use Rattle.wh_journal.specs.Journal as journals
@@ -76,8 +77,8 @@ pub record IsOnlyRead {D : Type 0} {seen : Ghosts D} (old new : Warehouse D seen
   pub sessions : new.sessions ≡ old.sessions
 
 -- in the present event
-abbrev pub fetched_of : {D : Type 0} {seen : Ghosts D} → Warehouse D seen → ℕ
-fetched_of w = length w.fetch.asked.items
+abbrev pub fetched_of : {D : Type 0} {seen : Ghosts D} → Warehouse D seen → List PartId
+fetched_of w = w.fetch.asked.items
 
 pub record IsBegun {D : Type 0} {seen : Ghosts D} (w : Warehouse D seen) : Type 0 where
   pub asked : w.fetch.asked.items ≡ []
@@ -90,7 +91,7 @@ pub record ReadsNothing {D : Type 0} {seen : Ghosts D} (old new : Warehouse D se
 
 pub record ReadsOnceEach {D : Type 0} {seen : Ghosts D} (old new : Warehouse D seen) : Type 0 where
   pub later : seen.reads old.fetch.disk ≤ seen.reads new.fetch.disk
-  pub once : seen.reads new.fetch.disk ≤ seen.reads old.fetch.disk + fetched_of new
+  pub once : seen.reads new.fetch.disk ≤ seen.reads old.fetch.disk + length (fetched_of new)
 
 abbrev pub machine_of : {D : Type 0} {seen : Ghosts D} → Warehouse D seen → Machine
 machine_of w = record { state = state_of w.catalog; sessions = sessions_of w.sessions }

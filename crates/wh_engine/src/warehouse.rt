@@ -5,8 +5,9 @@ ghost use Rattle.wh_journal.specs.Journal.{end_of};
 
 use std::alloc::Global;
 use wh_catalog::Catalog;
-use wh_fetch::{DiskFetch, Fetch};
+use wh_fetch::DiskFetch;
 use wh_journal::Journal;
+use wh_part::PartId;
 use wh_txn::Sessions;
 use wh_world::Disk;
 
@@ -32,11 +33,11 @@ impl<D: Disk> Warehouse<D> {
     ghost use Rattle.wh_catalog.specs.Catalog.{state_of};
     ghost use Rattle.wh_engine.specs.Warehouse.{Filed, fetched_of};
 
-    /// How many partitions the last event asked for.
-    pub fn fetched(&self) -> u64
-        ensures { result ≡ fetched_of self.now }
+    /// The partitions that the last event asked for, in order.
+    pub fn fetched(&self) -> &[PartId]
+        ensures { result.now ≡ fetched_of self.now }
     {
-        self.fetch.fetched()
+        self.fetch.asked()
     }
 
     /// The disk as it stands.

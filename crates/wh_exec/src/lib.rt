@@ -1,6 +1,7 @@
 //! Evaluation: the rows of a query over the rows of its sources.
 #![tactic(auto)]
 
+mod codes;
 mod collecting;
 mod columns;
 mod defined;

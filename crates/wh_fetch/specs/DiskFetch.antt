@@ -21,7 +21,7 @@ use Rattle.wh_fetch.specs.declared.fault.FetchFault.{FetchFault}
 use Rattle.wh_fetch.specs.declared.fault.FetchFault.TheVariants.{Read}
 use Rattle.wh_fetch.specs.declared.disk_fetch.DiskFetch.{DiskFetch}
 use Rattle.wh_fetch.specs.Fetch.{ReadsOnceEach}
-use Rattle.wh_fetch.specs.Place.{told_at, IsDamaged}
+use Rattle.wh_fetch.specs.Place.{contents_at, IsDamaged}
 use Rattle.wh_fetch.specs.Cache.{Agrees, Within}
 use Rattle.wh_fetch.specs.Device.{OnlyRead, only_read_none, only_read_on}
 
@@ -118,5 +118,5 @@ module _ {D : Type 0} (d : Ghosts D) where
   still_covers first last meta goes right = goes.right right
 
   pub same_contents : (first last : DiskFetch D) (meta : PartMeta) → GoesOn first last
-      → told_at (told_of last) meta ≡ told_at (told_of first) meta
-  same_contents first last meta goes = ap (λ (told : Option (List ℕ)). told_at told meta) goes.only_read.bytes
+      → contents_at (told_of last) meta ≡ contents_at (told_of first) meta
+  same_contents first last meta goes = ap (λ (told : Option (List ℕ)). contents_at told meta) goes.only_read.bytes

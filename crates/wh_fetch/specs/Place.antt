@@ -4,6 +4,8 @@
 --     describes      whether what is said of a partition without its values is so
 --     IsPartAt       it is as described, and its place spells it
 --     IsDamaged      there is no such partition at the place
+--     as_described   the partition, if it is as described
+--     contents_at    the partition at the place, if it isn't damaged
 use Rattle.std.specs.Prelude.{◌≡◌, ◌⊎◌, ℕ, ◌+◌, ◌<◌, Bool, true, false, ◌&&◌, nat_eq, nat_lt, if◌then◌else◌}
 use Rattle.std.specs.Prelude.{List, [], ◌∷◌, length, vec_len, Option, Some, None}
 use Rattle.wh_world.specs.Bytes.{part_at}
@@ -31,6 +33,15 @@ told_at bytes meta = told_in bytes (vec_len meta.columns) meta.at meta.length
 abbrev pub describes : PartMeta → Partition → Bool
 describes meta p = nat_eq meta.id.number p.number && (nat_eq meta.rows (length p.rows)
     && (nat_eq meta.first (first_number p.rows) && nat_eq meta.last (last_number p.rows)))
+
+abbrev pub as_described : PartMeta → Option Partition → Option Partition
+as_described meta None = None
+as_described meta (Some p) = if describes meta p then Some p else None
+
+abbrev pub contents_at : Option (List ℕ) → PartMeta → Option Partition
+contents_at None meta = None
+contents_at (Some bytes) meta =
+    if nat_lt (length bytes) (meta.at + meta.length) then None else as_described meta (told_at (Some bytes) meta)
 
 pub record IsPartAt (told : Option (List ℕ)) (meta : PartMeta) (p : Partition) : Type 0 where
   pub content : (bytes : List ℕ) → told ≡ Some bytes → told_at (Some bytes) meta ≡ Some p

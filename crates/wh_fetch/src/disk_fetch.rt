@@ -60,6 +60,13 @@ impl<D: Disk> DiskFetch<D> {
         self.damaged = None;
     }
 
+    /// The partitions that it was asked for since `begin`, in order.
+    pub fn asked(&self) -> &[PartId]
+        ensures { result.now ≡ self.now.asked.items }
+    {
+        self.asked.as_slice()
+    }
+
     /// The position of the last partition that was found damaged since `begin`.
     pub fn damaged(&self) -> Option<u64>
         ensures { result ≡ self.now.damaged }

@@ -1,11 +1,10 @@
-ghost use Rattle.std.specs.Prelude.{◌≡◌, ◌≤◌, List, ℕ, Option, Err, length, IfOk, OnOk};
+ghost use Rattle.std.specs.Prelude.{◌≡◌, List, ℕ, Option, length, IfOk, IsSome};
 ghost use Rattle.std.specs.Arc.{arc_value};
-ghost use Rattle.wh_world.specs.Told.{Rose};
 ghost use Rattle.wh_frame.specs.Partition.{Partition as Contents};
 ghost use Rattle.wh_part.specs.declared.meta.PartId.{PartId};
 ghost use Rattle.wh_part.specs.declared.meta.PartMeta.{PartMeta};
-ghost use Rattle.wh_fetch.specs.declared.fault.FetchFault.TheVariants.{Read};
 ghost use Rattle.wh_fetch.specs.Fetch.{IsTold, Asks, ReadsOnceEach};
+ghost use Rattle.wh_fetch.specs.Device.{Counts};
 
 use crate::FetchFault;
 use std::sync::Arc;
@@ -16,8 +15,11 @@ pub trait Fetch {
     /// The partitions that it covers.
     ghost covers: { Self → PartMeta → Type 0 };
 
-    /// What stands in a partition, where that is told.
+    /// What stands in a partition, where that is told and it isn't damaged.
     ghost contents: { Self → PartMeta → Option Contents };
+
+    /// How many partitions were found damaged, and the position of the last of them.
+    ghost damage: { Self → ℕ × Option ℕ };
 
     /// The partitions that it was asked for, in order.
     ghost asked: { Self → List PartId };
@@ -36,15 +38,14 @@ pub trait Fetch {
         requires { covers self.old part.now }
         ensures contents { IfOk result
             (λ found. IsTold (contents self.old part.now) (arc_value found)) }
+        ensures sound { IsSome (contents self.old part.now) → damage self.new ≡ damage self.old }
         ensures same { contents self.new ≡ contents self.old }
         ensures covered { (other : PartMeta) → covers self.old other → covers self.new other }
         ensures asked { Asks result part.now.id (asked self.old) (asked self.new) }
         ensures reads { ReadsOnceEach (reads self.old) (reads self.new)
             (asked self.old) (asked self.new) }
         ensures stays { stays self.old self.new }
-        ensures later { faults self.old ≤ faults self.new }
-        ensures no_fault { OnOk result (faults self.new ≡ faults self.old) }
-        ensures read { result ≡ Err Read → Rose (faults self.old) (faults self.new) };
+        ensures counts { Counts (faults self.old) (faults self.new) result };
 
     /// How many partitions it was asked for.
     fn fetched(&self) -> u64

@@ -52,7 +52,7 @@ fn key(id: PartId) -> (u32, u64)
 }
 
 impl Fetch for MemFetch {
-    ghost use Rattle.std.specs.Prelude.{◌≡◌, refl, IsSome};
+    ghost use Rattle.std.specs.Prelude.{◌≡◌, None, refl, IsSome};
     ghost use Rattle.std.proofs.Common.{ap, sym, subst, ◌∙◌};
     ghost use Rattle.wh_part.specs.declared.meta.PartMeta.{PartMeta};
     ghost use Rattle.wh_fetch.specs.declared.mem_fetch.MemFetch.{MemFetch};
@@ -61,6 +61,8 @@ impl Fetch for MemFetch {
     ghost covers = { λ fetch part. IsSome (held fetch part.id) };
 
     ghost contents = { λ fetch part. held fetch part.id };
+
+    ghost damage = { λ fetch. (0, None) };
 
     ghost asked = { λ fetch. fetch.asked.items };
 

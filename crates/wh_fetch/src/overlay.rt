@@ -35,6 +35,8 @@ impl<'a, F: Fetch> Fetch for Overlay<'a, F> {
 
     ghost contents = { contents_of F.Fetch };
 
+    ghost damage = { λ over. F.damage over.below.now };
+
     ghost asked = { λ over. over.asked.now.items };
 
     ghost faults = { λ over. F.faults over.below.now };

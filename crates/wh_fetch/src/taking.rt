@@ -89,13 +89,15 @@ fn is_in_front(part: &PartMeta, reach: u64) -> bool
 
 impl<D: Disk> Fetch for DiskFetch<D> {
     ghost use Rattle.wh_part.specs.declared.meta.PartMeta.{PartMeta};
-    ghost use Rattle.wh_fetch.specs.Place.{told_at};
-    ghost use Rattle.wh_fetch.specs.DiskFetch.{told_of, faults_of, Covers, GoesOn};
+    ghost use Rattle.wh_fetch.specs.Place.{contents_at};
+    ghost use Rattle.wh_fetch.specs.DiskFetch.{told_of, faults_of, damage_of, Covers, GoesOn};
     ghost use Rattle.wh_fetch.specs.DiskFetch.{goes_none, goes_on, still_covers, same_contents};
 
     ghost covers = { Covers D.Disk };
 
-    ghost contents = { λ fetch part. told_at (told_of D.Disk fetch) part };
+    ghost contents = { λ fetch part. contents_at (told_of D.Disk fetch) part };
+
+    ghost damage = { damage_of };
 
     ghost asked = { λ fetch. fetch.asked.items };
 

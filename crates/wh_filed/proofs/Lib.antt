@@ -1,3 +1,4 @@
 pub mod FilingLaws
+pub mod ShownLaws
+pub mod FetchingLaws
 mod LoadingLemmas
-mod SoundLemmas

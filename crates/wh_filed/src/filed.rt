@@ -97,6 +97,7 @@ impl FiledPartition {
     pub fn meta(&self) -> &PartMeta
         ensures place { (result.now.at ≡ self.now.at) × (result.now.length ≡ self.now.length)
             × (vec_len result.now.columns ≡ self.now.width) }
+        ensures object { result.now.id.object ≡ self.now.object }
         ensures says { IsMetaOf result.now self.now.partition }
     {
         &self.meta

@@ -8,4 +8,4 @@ mod loading;
 
 pub use filed::FiledPartition;
 pub use filing::filed_from;
-pub use loading::load;
+pub use loading::{fetch_all, fetch_one, load};

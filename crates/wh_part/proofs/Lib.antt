@@ -8,5 +8,4 @@ pub mod MetaLemmas
 pub mod Rejected
 pub mod KnownHolding
 pub mod Within
-pub mod Pruned
 pub mod SizeLaws

@@ -1,7 +1,6 @@
 pub mod View
 pub mod Meta
 pub mod Holding
-pub mod Pruned
 pub mod Reading
 pub mod Decoding
 pub mod Laws

@@ -8,6 +8,7 @@ use Rattle.std.proofs.lemmas.List.{map-append, take_more}
 use Rattle.std.proofs.lemmas.List.Concat.{flat_map-append}
 use Rattle.std.specs.List.{flat_map}
 use Rattle.wh_filed.specs.Filed.{Filed, AllShown, AreAmong}
+use Rattle.wh_filed.proofs.ShownLaws.{shown_append}
 
 -- the front of a list, with the item behind it
 front : {B : Type 0} (bs : List B) (i : ℕ) (b d : B) → i < length bs → b ≡ get_or bs i d
@@ -35,11 +36,6 @@ module _ {A B X : Type 0} where
       ∙ both so_far (ap (λ xs. xs ++ []) here)
       ∙ sym (flat_map-append g (take i bs) (b ∷ []))
       ∙ ap (flat_map g) (sym (front bs i b d within is))
-
-shown_append : (told : Option (List ℕ)) (xs ys : List Filed) → AllShown told xs → AllShown told ys
-    → AllShown told (xs ++ ys)
-shown_append told [] ys all more = more
-shown_append told (x ∷ xs) ys all more = (all.0, shown_append told xs ys all.1 more)
 
 pub among_next : {A : Type 0} (f : A → List Filed) (all : List Filed) (xs new : List A) (a : A)
     → new ≡ xs ++ a ∷ [] → AreAmong (flat_map f xs) all → AreAmong (f a) all

@@ -3,12 +3,12 @@ ghost use Rattle.wh_words.specs.Task.{IsInRange};
 ghost use Rattle.wh_shell.specs.Asked.{asked_by, RefusesWords, Generates, CarriesOut, wants_clock};
 ghost use Rattle.wh_shell.specs.Events.{events};
 ghost use Rattle.wh_shell.specs.Open.{IsOpen};
-ghost use Rattle.wh_shell.specs.Point.{point_of};
+ghost use Rattle.wh_shell.specs.Point.{starting};
 ghost use Rattle.wh_shell.specs.Promised.{RunsWithin};
 ghost use Rattle.wh_shell.specs.Run.{StopsWhereTooLong};
 ghost use Rattle.wh_shell.specs.Serving.{EndsAs};
 ghost use Rattle.wh_shell.specs.Ticking.{TakesFor};
-ghost use Rattle.wh_shell.specs.Timing.{timing_of, timed};
+ghost use Rattle.wh_shell.specs.Timing.{timing_of};
 ghost use Rattle.wh_shell.specs.World.{world_of};
 
 use crate::serving::serve;
@@ -45,7 +45,7 @@ pub fn run<S: Source, K: Sink, D: Disk, C: Clock>(
         (C.readings clock.old) task (world_of disk script.old out.old)
         (world_of result.1 script.new out.new) result.0) }
 
-    // Each event has one reading of the system's clock, if that is asked for. Else it isn't touched.
+    // Each event has one reading of the system's clock, if that is asked for; else it isn't read.
     ensures clock { TakesFor C.Clock (wants_clock (asked_by words.now))
         (option_map events (S.left script.old)) result.0 clock.old clock.new }
 {
@@ -157,8 +157,7 @@ fn serve_and_close<S: Source, K: Sink, D: Disk, C: Clock>(
 ) -> (Status, D)
     requires { IsOpen warehouse }
     ensures ends { EndsAs D.Disk S.Source K.Sink
-        (point_of warehouse (timed (timing_of system (C.readings clock.old))
-        (option_map events (S.left script.old))) script.old out.old)
+        (starting S.Source C.Clock system warehouse script.old out.old clock.old)
         (world_of result.1 script.new out.new) result.0 }
     ensures long { StopsWhereTooLong S.Source script.old script.new result.0 }
     ensures clock { TakesFor C.Clock system

@@ -9,12 +9,11 @@ ghost use Rattle.wh_engine.specs.Leaves.{Leaves};
 ghost use Rattle.wh_shell.specs.Code.{status_of};
 ghost use Rattle.wh_shell.specs.Events.{events};
 ghost use Rattle.wh_shell.specs.Open.{IsOpen, IsTold, StaysOpen};
-ghost use Rattle.wh_shell.specs.Point.{point_of};
-ghost use Rattle.wh_shell.specs.Reading.{unread, awaited, Reads};
+ghost use Rattle.wh_shell.specs.Point.{starting, awaiting};
+ghost use Rattle.wh_shell.specs.Reading.{unread, Reads};
 ghost use Rattle.wh_shell.specs.Run.{StopsWhereTooLong};
 ghost use Rattle.wh_shell.specs.Serving.{Carries, Halts, Advances, Stops, Serves};
 ghost use Rattle.wh_shell.specs.Ticking.{TakesTurn, TakesFor};
-ghost use Rattle.wh_shell.specs.Timing.{timing_of, timed};
 ghost use Rattle.wh_shell.specs.World.{world_of, IsLater};
 
 use crate::Fault;
@@ -42,15 +41,13 @@ pub(crate) fn serve<S: Source, K: Sink, D: Disk, C: Clock>(
 ) -> Result<u64, Fault>
     requires { IsOpen warehouse.old }
     ensures served { IfOk result (Serves D.Disk S.Source K.Sink
-        (point_of warehouse.old (timed (timing_of system (C.readings clock.old))
-        (option_map events (S.left script.old))) script.old out.old)
+        (starting S.Source C.Clock system warehouse.old script.old out.old clock.old)
         (machine_of warehouse.new) (world_of warehouse.new.fetch.disk script.new out.new)) }
     ensures ready { OnOk result (StaysOpen warehouse.old warehouse.new) }
 
     // Where it is stopped, a front of the text was written.
     ensures stopped { IfErr result (Stops D.Disk S.Source K.Sink
-        (point_of warehouse.old (timed (timing_of system (C.readings clock.old))
-        (option_map events (S.left script.old))) script.old out.old)
+        (starting S.Source C.Clock system warehouse.old script.old out.old clock.old)
         (world_of warehouse.new.fetch.disk script.new out.new)) }
     ensures long { StopsWhereTooLong S.Source script.old script.new (status_of result) }
     ensures clock { TakesFor C.Clock system (option_map events (S.left script.old))
@@ -93,14 +90,11 @@ fn turn<S: Source, K: Sink, D: Disk, C: Clock>(
     requires ready { IsOpen warehouse.old }
     requires goes { fault_of reader.old.script ≡ None }
     ensures went { IfOk result (Advances D.Disk S.Source K.Sink
-        (point_of warehouse.old (awaited system (C.readings clock.old) reader.old (S.left script.old))
-        script.old out.old)
-        (point_of warehouse.new (awaited system (C.readings clock.new) reader.new (S.left script.new))
-        script.new out.new)) }
+        (awaiting S.Source C.Clock system warehouse.old reader.old script.old out.old clock.old)
+        (awaiting S.Source C.Clock system warehouse.new reader.new script.new out.new clock.new)) }
     ensures ready { OnOk result (StaysOpen warehouse.old warehouse.new) }
     ensures stopped { IfErr result (Stops D.Disk S.Source K.Sink
-        (point_of warehouse.old (awaited system (C.readings clock.old) reader.old (S.left script.old))
-        script.old out.old)
+        (awaiting S.Source C.Clock system warehouse.old reader.old script.old out.old clock.old)
         (world_of warehouse.new.fetch.disk script.new out.new)) }
     ensures full { (len need : ℕ) → IsErrOf result (Fault.FileFull len need) → out.new ≡ out.old }
     ensures reads { Reads reader.old.script reader.new.script

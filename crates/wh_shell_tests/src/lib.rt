@@ -2,6 +2,8 @@
 #![tactic(auto)]
 
 #[cfg(test)]
+mod halts;
+#[cfg(test)]
 mod running;
 #[cfg(test)]
 mod runs;
@@ -11,3 +13,5 @@ mod spoilt;
 mod stops;
 #[cfg(test)]
 mod told;
+#[cfg(test)]
+mod watched;

@@ -5,6 +5,7 @@ use std::alloc::Global;
 use std::process::Abort;
 use std::thread::Threads;
 use wh_shell::{Status, run};
+use wh_value::Bytes;
 use wh_world::{MemDisk, MemSink, MemSource, SetClock};
 
 /// What a run answers, writes and leaves.
@@ -122,4 +123,23 @@ pub(crate) fn carried_out<'x>(
     script: &'x [u8],
 ) -> RunEnd {
     run_with(rt, alloc, &with_calls(file, script, &[], 1 << 20))
+}
+
+/// A command that adds the rows (1, 1), (2, 2) and so on to T, without its end.
+pub(crate) fn inserting(rt: &impl Abort, alloc: Global, count: u64) -> Vec<u8> {
+    let mut text = Bytes::new(alloc);
+    text.extend(b"INSERT INTO T VALUES (1, 1)")
+        .expect(rt, "memory");
+    for number in 2..=count {
+        push_row(rt, &mut text, number);
+    }
+    text.as_slice().to_vec(alloc).expect(rt, "memory")
+}
+
+fn push_row(rt: &impl Abort, text: &mut Bytes, number: u64) {
+    text.extend(b", (").expect(rt, "memory");
+    text.extend_decimal(number).expect(rt, "memory");
+    text.extend(b", ").expect(rt, "memory");
+    text.extend_decimal(number).expect(rt, "memory");
+    text.push(b')').expect(rt, "memory");
 }

@@ -1,104 +1,12 @@
 //! What is read of a file whose rows stand in it: how often, which partitions are passed over, and
 //! what is answered where one isn't as it was written.
 
-use crate::running::{clock_at_0, sink_of, source_of, the_word};
+use crate::running::{carried_out, inserting};
+use crate::watched::{SOUND, Spoilt, WHOLLY, run_watched};
 use std::alloc::Global;
 use std::process::Abort;
 use std::thread::Threads;
-use wh_shell::{Fault, Status, run};
-use wh_world::{Disk, Failed, MemDisk, MemSink};
-
-/// A disk whose reads are counted, and give ff bytes alone where it is spoilt. It tells no content.
-#[derive(Drop)]
-struct WatchedDisk<E> {
-    disk: E,
-    spoilt: bool,
-    reads: u64,
-}
-
-impl<E: Disk> Disk for WatchedDisk<E> {
-    ghost use Rattle.std.specs.Prelude.{None};
-
-    ghost bytes = { λ d. None };
-
-    ghost may_leave = { λ d. E.may_leave d.disk };
-
-    ghost moment = { λ d. E.moment d.disk };
-
-    ghost left_since = { λ d. E.left_since d.disk };
-
-    ghost faults = { λ d. E.faults d.disk };
-
-    ghost reads = { λ d. E.reads d.disk };
-
-    ghost size = { λ d. E.size d.disk };
-
-    ghost spans = { λ d b is. Prim.cc };
-
-    ghost shown = { λ d b is. Prim.cc };
-
-    ghost counts_now = { λ d. E.counts_now d.disk };
-
-    ghost only_now = { λ d. E.only_now d.disk };
-
-    fn len(&mut self) -> Result<u64, Failed> {
-        self.disk.len()
-    }
-
-    fn fault_count(&self) -> u64 {
-        self.disk.fault_count()
-    }
-
-    fn read(&mut self, at: u64, buf: &mut [u8]) -> Result<(), Failed> {
-        self.reads = self.reads.saturating_add(1);
-        self.disk.read(at, buf)?;
-        if self.spoilt {
-            buf.fill(0xff);
-        }
-        Ok(())
-    }
-
-    fn write_at(&mut self, at: u64, piece: &[u8]) -> Result<(), Failed> {
-        self.disk.write_at(at, piece)
-    }
-
-    fn sync(&mut self) -> Result<(), Failed> {
-        self.disk.sync()
-    }
-}
-
-/// How a run of a script over an empty file ended, what it printed, and how often it read.
-#[derive(Drop)]
-struct Watched {
-    status: Status,
-    out: MemSink,
-    reads: u64,
-}
-
-fn run_watched(
-    rt: &(impl Abort + Threads + Sync),
-    alloc: Global,
-    script: &[u8],
-    spoilt: bool,
-) -> Watched {
-    let words = the_word(rt, alloc);
-    let mut source = source_of(rt, alloc, script, &[]);
-    let mut out = sink_of(rt, alloc, 1 << 16, &[]);
-    let disk = WatchedDisk {
-        disk: MemDisk::new(alloc, Vec::new(alloc), 1 << 16, 2000, Vec::new(alloc)).expect(
-            rt, "memory",
-        ),
-        spoilt,
-        reads: 0,
-    };
-    let mut clock = clock_at_0(rt, alloc);
-    let (status, disk) = run(rt, alloc, &words, &mut source, &mut out, disk, &mut clock);
-    Watched {
-        status,
-        out,
-        reads: disk.reads,
-    }
-}
+use wh_shell::{Fault, Status};
 
 fn joined(rt: &impl Abort, alloc: Global, pieces: &[&[u8]]) -> Vec<u8> {
     let mut all = Vec::new(alloc);
@@ -115,7 +23,7 @@ fn a_partition_that_is_not_as_it_was_written_is_told(rt: HostRuntime) {
     const SPOILT: &[u8] =
         b"CREATE TABLE T(K NUMBER); INSERT INTO T VALUES (1); SELECT * FROM T; BEGIN;";
     const REPLIES: &[u8] = b"CREATED TABLE T\nINSERTED 1\n";
-    let found = run_watched(&rt, rt.alloc(), SPOILT, true);
+    let found = run_watched(&rt, rt.alloc(), b"", SPOILT, WHOLLY, &[]);
     assert_eq!(rt; found.status, Status::Stopped(Fault::Damaged { at: 103 }));
     assert_eq!(rt; found.status.code(), 10);
     assert_eq!(rt; found.out.held(), REPLIES);
@@ -124,12 +32,18 @@ fn a_partition_that_is_not_as_it_was_written_is_told(rt: HostRuntime) {
 /// The rows of a partition, a condition, and whether the partition is read for it.
 type Bound = (&'static [u8], &'static [u8], bool);
 
-// Whether a SELECT with the condition stops at the partition of the rows, which can't be read.
+/// A statement in front of its condition, and what it answers where no partition is read.
+type Passing = (&'static [u8], &'static [u8]);
+
+// Whether a statement with the condition stops at the partition of the rows, which can't be read.
+// Where it doesn't, it answers that there is nothing.
 fn is_read(
     rt: &(impl Abort + Threads + Sync),
     alloc: Global,
+    statement: &[u8],
     rows: &[u8],
     condition: &[u8],
+    nothing: &[u8],
 ) -> bool {
     let script = joined(
         rt,
@@ -137,16 +51,28 @@ fn is_read(
         &[
             b"CREATE TABLE T(K NUMBER); INSERT INTO T VALUES ",
             rows,
-            b"; SELECT K FROM T WHERE ",
+            b"; ",
+            statement,
             condition,
             b";",
         ],
     );
-    run_watched(rt, alloc, &script, true).status.code() == 10
+    let found = run_watched(rt, alloc, b"", &script, WHOLLY, &[]);
+    if found.status.code() == 10 {
+        return true;
+    }
+    let replies = joined(rt, alloc, &[b"CREATED TABLE T\nINSERTED 2\n", nothing]);
+    assert_eq!(rt; found.out.held(), replies.as_slice());
+    false
 }
 
 #[test]
 fn a_partition_is_passed_over_where_no_row_can_meet_the_condition(rt: HostRuntime) {
+    const STATEMENTS: &[Passing] = &[
+        (b"SELECT K FROM T WHERE ", b"K\n(0 rows)\n"),
+        (b"UPDATE T SET K = 5 WHERE ", b"UPDATED 0\n"),
+        (b"DELETE FROM T WHERE ", b"DELETED 0\n"),
+    ];
     const BOUNDS: &[Bound] = &[
         (b"(5), (7)", b"K < 5", false),
         (b"(5), (7)", b"K < 6", true),
@@ -179,7 +105,10 @@ fn a_partition_is_passed_over_where_no_row_can_meet_the_condition(rt: HostRuntim
     ];
     let alloc = rt.alloc();
     for (rows, condition, read) in BOUNDS {
-        assert!(rt; is_read(&rt, alloc, rows, condition) == *read);
+        for (statement, nothing) in STATEMENTS {
+            let stops = is_read(&rt, alloc, statement, rows, condition, nothing);
+            assert!(rt; stops == *read);
+        }
     }
 }
 
@@ -201,7 +130,7 @@ fn reads_of(
             .extend_from_slice(b"SELECT COUNT(*) FROM T;")
             .expect(rt, "memory");
     }
-    run_watched(rt, alloc, &script, false).reads
+    run_watched(rt, alloc, b"", &script, SOUND, &[]).reads
 }
 
 #[test]
@@ -214,4 +143,138 @@ fn the_last_256_partitions_are_read_once(rt: HostRuntime) {
     assert!(rt; first <= second && second - first == 300);
     let kept = reads_of(&rt, alloc, 256, 1);
     assert!(rt; reads_of(&rt, alloc, 256, 2) == kept);
+}
+
+/// A file, and how often opening reads it.
+#[derive(Drop)]
+struct Filed {
+    file: Vec<u8>,
+    reads: u64,
+}
+
+// The file that a script makes.
+fn filed_by(rt: &(impl Abort + Threads + Sync), alloc: Global, script: &[u8]) -> Filed {
+    let made = carried_out(rt, alloc, b"", script);
+    let file = made.disk.bytes().to_vec(alloc).expect(rt, "memory");
+    let reads = run_watched(rt, alloc, &file, b"", SOUND, &[]).reads;
+    Filed { file, reads }
+}
+
+impl Filed {
+    // From one position up to another another byte is read, once the file is open.
+    fn reading_as(&self, from: u64, to: u64, fill: u8) -> Spoilt {
+        Spoilt {
+            after: self.reads,
+            from,
+            to,
+            fill,
+        }
+    }
+}
+
+#[test]
+fn a_partition_that_is_spoilt_once_the_file_is_open_is_told(rt: HostRuntime) {
+    let alloc = rt.alloc();
+    let insert = inserting(&rt, alloc, 1500);
+    let script = joined(
+        &rt,
+        alloc,
+        &[b"CREATE TABLE T(K NUMBER, V NUMBER);", &insert],
+    );
+    let filed = filed_by(&rt, alloc, &script);
+    // The first partition, of 1,000 rows of 26 bytes behind its number and their count.
+    let spoilt = filed.reading_as(109, 109 + 26012, 0xff);
+    let first = b"SELECT K FROM T WHERE K = 1;";
+    let found = run_watched(&rt, alloc, &filed.file, first, spoilt, &[]);
+    assert_eq!(rt; found.status, Status::Stopped(Fault::Damaged { at: 109 }));
+    let second = b"SELECT K FROM T WHERE K = 1001;";
+    let found = run_watched(&rt, alloc, &filed.file, second, spoilt, &[]);
+    assert_eq!(rt; found.out.held(), b"K\n1001\n(1 rows)\n".as_slice());
+}
+
+const TWO_ROWS: &[u8] = b"CREATE TABLE T(K NUMBER, B BOOLEAN, S VARCHAR);
+INSERT INTO T VALUES (5, TRUE, 'hi'), (NULL, FALSE, NULL);";
+
+// Where the partition of the two rows stands, and in how many bytes.
+const PLACE: u64 = 115;
+
+const LENGTH: u64 = 48;
+
+// How many calls of the disk a run of the SELECT makes.
+const CALLS: u64 = 10;
+
+const SELECT: &[u8] = b"SELECT * FROM T;";
+
+// The file with another byte at a place.
+fn turned(rt: &impl Abort, alloc: Global, filed: &Filed, at: u64, fill: u8) -> Vec<u8> {
+    let mut file = filed.file.to_vec(alloc).expect(rt, "memory");
+    if let Some(byte) = file.get_mut(at as usize) {
+        *byte = fill;
+    }
+    file
+}
+
+// Whether a byte that reads as another one once the file is open is answered as where it always
+// stood there. Else it is told that the partition is damaged.
+fn is_answered(
+    rt: &(impl Abort + Threads + Sync),
+    alloc: Global,
+    filed: &Filed,
+    at: u64,
+    fill: u8,
+) -> bool {
+    let spoilt = filed.reading_as(at, at.saturating_add(1), fill);
+    let found = run_watched(rt, alloc, &filed.file, SELECT, spoilt, &[]);
+    if found.status == Status::Stopped(Fault::Damaged { at: PLACE }) {
+        assert_eq!(rt; found.out.held(), b"".as_slice(), "byte {at}");
+        return false;
+    }
+    let file = turned(rt, alloc, filed, at, fill);
+    let known = carried_out(rt, alloc, &file, SELECT);
+    assert_eq!(rt; found.status, Status::Read { refusals: 0 }, "byte {at}");
+    assert_eq!(rt; found.out.held(), known.out.held(), "byte {at}");
+    true
+}
+
+// Where a call of the disk fails, too, the run ends there and prints nothing.
+fn assert_stops(
+    rt: &(impl Abort + Threads + Sync),
+    alloc: Global,
+    filed: &Filed,
+    at: u64,
+    fill: u8,
+) {
+    let spoilt = filed.reading_as(at, at.saturating_add(1), fill);
+    for call in 1..=CALLS {
+        let found = run_watched(rt, alloc, &filed.file, SELECT, spoilt, &[call]);
+        assert_eq!(rt;
+            found.status,
+            Status::Stopped(Fault::Disk),
+            "byte {at}, call {call}"
+        );
+        assert_eq!(rt; found.out.held(), b"".as_slice(), "byte {at}, call {call}");
+    }
+}
+
+// How many bytes of the partition are answered where these of their bits are turned.
+fn answered(rt: &(impl Abort + Threads + Sync), alloc: Global, filed: &Filed, bits: u8) -> usize {
+    let mut count = 0usize;
+    for at in PLACE..PLACE + LENGTH {
+        let byte = filed.file.get(at as usize).copied().expect(rt, "a byte");
+        assert_stops(rt, alloc, filed, at, byte ^ bits);
+        if is_answered(rt, alloc, filed, at, byte ^ bits) {
+            count = count.saturating_add(1);
+        }
+    }
+    count
+}
+
+#[test]
+fn a_byte_that_is_turned_is_told_or_answered_as_it_stands(rt: HostRuntime) {
+    let alloc = rt.alloc();
+    let filed = filed_by(&rt, alloc, TWO_ROWS);
+    // The eight bytes of the number 5 spell another one.
+    assert_eq!(rt; answered(&rt, alloc, &filed, 0xff), 8);
+    // So they do, and both truths become the other one, and both letters others.
+    assert_eq!(rt; answered(&rt, alloc, &filed, 1), 12);
 }

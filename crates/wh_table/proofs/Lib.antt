@@ -1,6 +1,5 @@
 pub mod Apart
 pub mod Conditions
-pub mod NumberedRows
 pub mod TableBag
 pub mod Pushed
 pub mod Rising

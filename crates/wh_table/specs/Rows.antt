@@ -1,5 +1,4 @@
 -- Rows of partitions, and those that references point to.
---     rows_at                  the rows that references point to
 --     rows_only, all_rows      the rows of partitions, one after the other
 --     partitions_at            the partitions that references point to
 use Rattle.std.specs.Prelude.{ℕ, List, map}
@@ -7,9 +6,6 @@ use Rattle.std.specs.List.{flat_map}
 use denote.Ref.{Bor}
 use Rattle.wh_value.specs.Value.{Row}
 use Rattle.wh_frame.specs.Partition.{Partition}
-
-abbrev pub rows_at : List (Bor Row) → List Row
-rows_at rows = map (λ row. row.now) rows
 
 abbrev pub rows_only : List (ℕ × Row) → List Row
 rows_only entries = map (λ e. e.1) entries

@@ -13,12 +13,10 @@ mod moments;
 mod numbers;
 mod pushing;
 mod rewriting;
-mod rows;
 mod standing;
 mod table;
 
 pub use by_number::by_rows;
 pub use editing::EditedTable;
 pub use fault::StageFault;
-pub use rows::rows_of;
 pub use table::StoredTable;

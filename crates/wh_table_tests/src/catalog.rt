@@ -2,12 +2,13 @@ ghost use Rattle.wh_fetch.specs.DiskFetch.{IsRight};
 
 use std::alloc::Global;
 use std::process::Abort;
+use std::sync::Arc;
 use wh_catalog::{Catalog, StageFault, Undo};
 use wh_fetch::DiskFetch;
 use wh_filed::load;
 use wh_part::{NumberedRow, Partition};
 use wh_record::{Change, Commit, TableChange, VersionChange};
-use wh_table::{by_rows, rows_of};
+use wh_table::by_rows;
 use wh_value::{Column, ColumnType, Row, Text, Value};
 use wh_version::Edits;
 use wh_world::{Disk, MemDisk};
@@ -233,8 +234,19 @@ fn holds(rt: &impl Abort, alloc: Global, staged: &Staged, id: u32, numbers: &[i6
     let mut fetch = fetch_of(rt, alloc, staged);
     let standing = table.standing(alloc).expect(rt, "memory");
     let loaded = load(alloc, &standing, &mut fetch).expect(rt, "its partitions");
-    let found = rows_of(alloc, &loaded, &[]).expect(rt, "memory");
+    let found = rows_in(rt, alloc, &loaded);
     are_rows_of(rt, alloc, &found, numbers)
+}
+
+// The rows of partitions, as these stand.
+fn rows_in<'a>(rt: &impl Abort, alloc: Global, loaded: &'a [Arc<Partition>]) -> Vec<&'a Row> {
+    let mut found = Vec::new(alloc);
+    for part in loaded {
+        for entry in part.rows() {
+            found.push(&entry.row).expect(rt, "memory");
+        }
+    }
+    found
 }
 
 fn assert_holds(

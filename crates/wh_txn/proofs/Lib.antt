@@ -2,6 +2,8 @@ pub mod SlotLemmas
 pub mod TableLemmas
 pub mod SeenLemmas
 pub mod ShownLemmas
+pub mod TouchedLemmas
+pub mod SparedLaws
 pub mod RecordLemmas
 pub mod VersionLemmas
 pub mod ReadLemmas

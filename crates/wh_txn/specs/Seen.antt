@@ -2,15 +2,14 @@
 --     own                    what a transaction has staged for a table
 --     partitions_standing    the partitions in which its rows stand
 --     StandsAt               the table of the machine whose rows stand in them
---     partitions_of          the partitions that it has
---     Shows                  the table of the machine whose rows they hold
+--     partitions_of          the partitions that were loaded and made of it
 use Rattle.std.specs.Prelude.{◌≡◌, ℕ, List, [], ◌++◌, Option, Some, None}
 use Rattle.std.specs.FinMap.{get}
 use Rattle.wh_frame.specs.Partition.{Partition}
 use Rattle.wh_filed.specs.Filed.{partitions_at, loaded_of}
 use Rattle.wh_state.specs.State.{Table, last_rows}
 use Rattle.wh_machine.specs.Transaction.{Staged, Transaction}
-use Rattle.wh_table.specs.Shown.{Holds, HoldsRising}
+use Rattle.wh_table.specs.Shown.{HoldsRising}
 use Rattle.wh_txn.specs.declared.standing.TableAt.{TableAt}
 use Rattle.wh_txn.specs.declared.seeing.TableSeen.{TableSeen}
 
@@ -34,8 +33,3 @@ StandsAt at (Some t) = HoldsRising (partitions_standing at) (last_rows t)
 -- those that were loaded, and then those that the transaction's own edits made
 abbrev pub partitions_of : TableSeen → List Partition
 partitions_of seen = loaded_of seen.stored.items ++ seen.made.items
-
--- the rows of its last version, or none where there is no table
-abbrev pub Shows : TableSeen → Option Table → Type 0
-Shows seen None = partitions_of seen ≡ []
-Shows seen (Some t) = Holds (partitions_of seen) (last_rows t)

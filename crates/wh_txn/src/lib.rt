@@ -11,6 +11,7 @@ mod seeing;
 mod sessions;
 mod staging;
 mod standing;
+mod touching;
 mod transaction;
 
 pub use fault::RecordFault;

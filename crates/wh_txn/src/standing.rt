@@ -112,8 +112,8 @@ fn edited<'a, D: Disk>(
 ) -> Result<TableAt<'a>, FetchFault>
     requires { IsRight D.Disk fetch.old }
     ensures stands { AllShown (told_of D.Disk fetch.old) (tables.filed_of table.now)
-        → IfOk result (λ found. (stamp : ℕ) → StandsAt found (Some
-        (edited_table stamp stamp (edits_in staged.now.edits) (table_meant (table_of table.now))))) }
+        → IfOk result (λ found. (stamp : ℕ) → StandsAt found (Some (edited_table stamp stamp
+        (edits_in staged.now.edits) (table_meant (table_of table.now))))) }
     ensures among { IfOk result (λ found.
         AreAmong (filed_at found.filed.items) (tables.filed_of table.now)) }
     ensures same { told_of D.Disk fetch.new ≡ told_of D.Disk fetch.old }

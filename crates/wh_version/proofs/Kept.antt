@@ -11,6 +11,7 @@ use Rattle.std.proofs.lemmas.List.{length-map, map-append}
 use Rattle.std.proofs.lemmas.List.Elements.{filter-append}
 use Rattle.wh_frame.specs.Partition.{Partition}
 use Rattle.wh_filed.specs.Filed.{Filed, partitions_filed, IsShown, AllShown, AreAmong}
+use Rattle.wh_filed.proofs.ShownLaws.{shown_append, shown_behind}
 use Rattle.wh_version.specs.declared.lasting.Lasting.{Lasting}
 use Rattle.wh_version.specs.Lasting.{filed_in, partitions_in, stands_at, standing_at}
 
@@ -57,11 +58,6 @@ pub picked_among : (test : Lasting → Bool) (n : ℕ) (kept : List Lasting) (fo
 picked_among test n kept found is told shown =
     subst (AllShown told) (sym is) (filtered_among test (take n kept) told (front_among n kept told shown))
 
-shown_behind : (told : Option (List ℕ)) (xs ys : List Filed) → AllShown told (xs ++ ys)
-    → AllShown told ys
-shown_behind told [] ys shown = shown
-shown_behind told (x ∷ xs) ys shown = shown_behind told xs ys shown.1
-
 pub behind_among : (test : Lasting → Bool) (n : ℕ) (kept : List Lasting) (front found : List Filed)
     → front ++ found ≡ filed_in (filter test (take n kept))
     → AreAmong found (filed_in kept)
@@ -75,14 +71,9 @@ one_shown told (x ∷ kept) zero k within is shown =
     subst (λ (l : Lasting). IsShown told l.filed) (sym is) shown.0
 one_shown told (x ∷ kept) (suc i) k within is shown = one_shown told kept i k (omega arith) is shown.1
 
-shown_more : (told : Option (List ℕ)) (fs : List Filed) (f : Filed) → AllShown told fs
-    → IsShown told f → AllShown told (fs ++ f ∷ [])
-shown_more told [] f all one = (one, tt)
-shown_more told (g ∷ fs) f all one = (all.0, shown_more told fs f all.1 one)
-
 pub among_more : (kept : List Lasting) (i : ℕ) (k : Lasting) (before after : List Filed) → i < length kept
     → k ≡ get_or kept i k → AreAmong after (before ++ k.filed ∷ []) → AreAmong before (filed_in kept)
     → AreAmong after (filed_in kept)
 among_more kept i k before after within is more so_far told shown =
     more told
-    (shown_more told before k.filed (so_far told shown) (one_shown told kept i k within is shown))
+    (shown_append told before (k.filed ∷ []) (so_far told shown) (one_shown told kept i k within is shown, tt))

@@ -1,5 +1,6 @@
 use Rattle.std.proofs.Common.{sym, ◌∙◌, subst}
-use Rattle.wh_txn.specs.Seen.{Shows}
+use Rattle.wh_bound_change.specs.View.{change_of}
+use Rattle.wh_txn.specs.Touched.{ShowsTo}
 use Rattle.wh_decide.proofs.effects.target_seen.Goals as goal
 
 pub returns-then-is_insert-clause-seen : goal.returns-then-is_insert-clause-seen
@@ -7,4 +8,5 @@ returns-then-is_insert-clause-seen g c = λ shown. λ t there. sym c.is_insert.e
 
 pub returns-clause-seen : goal.returns-clause-seen
 returns-clause-seen g c = λ shown. λ t there.
-    subst (Shows c.in_ok-target.target) there (c.in_ok-target.ensures.shows shown c.args.sight.now.stamp)
+    subst (ShowsTo (change_of c.args.bound.now.change) c.in_ok-target.target) there
+    (c.in_ok-target.ensures.shows shown c.args.sight.now.stamp)

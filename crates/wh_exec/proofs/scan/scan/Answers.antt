@@ -1,12 +1,12 @@
 use Rattle.std.proofs.Common.{◌<◌, ◌≤◌, length, Option, Some, refl, sym, ap, subst, rules, ◌∙◌}
 use Rattle.std.proofs.lemmas.Option.{slice_get_read, slice_get_past}
-use Rattle.wh_fetch.specs.DiskFetch.{told_of}
+use Rattle.wh_filed.specs.Fetching.{IsShownBy, IsCovered}
 use Rattle.wh_meaning.specs.Bag.{Bag}
 use Rattle.wh_exec.specs.Step.{through}
 use Rattle.wh_exec.specs.Sink.{Takes, Feeds}
 use Rattle.wh_exec.proofs.ThroughLaws.{through-no_rows}
 use Rattle.wh_exec.proofs.SinkLaws.{takes_none}
-use Rattle.wh_exec.proofs.SourceLaws.{source_there, no_source, shown_there}
+use Rattle.wh_exec.proofs.SourceLaws.{source_there, no_source, all_there}
 use Rattle.wh_exec.proofs.scan.scan.Goals as goal
 
 pub returns-in-Some-clause-feeds : goal.returns-in-Some-clause-feeds
@@ -17,13 +17,13 @@ returns-in-Some-clause-feeds g c all =
     subst (λ (b : Bag). Feeds c.scan_source.result c.args.sink.now c.scan_source.new.sink
     (through c.args.steps.now (Some b)))
     (sym (source_there c.args.sources.now c.args.source c.in-Some.source.now found))
-    (c.scan_source.ensures.feeds (shown_there (told_of g.D.Disk c.args.fetch.now) c.args.sources.now c.args.source
+    (c.scan_source.ensures.feeds (all_there (IsShownBy (g.F.Fetch.contents c.args.fetch.now)) c.args.sources.now c.args.source
     c.in-Some.source.now found all))
 
 pub returns-in-Some-clause-sound : goal.returns-in-Some-clause-sound
 returns-in-Some-clause-sound g c all =
     let within : c.args.source < length c.args.sources.now = search rules in
-    c.scan_source.ensures.sound (shown_there (told_of g.D.Disk c.args.fetch.now) c.args.sources.now c.args.source
+    c.scan_source.ensures.sound (all_there (IsShownBy (g.F.Fetch.contents c.args.fetch.now)) c.args.sources.now c.args.source
     c.in-Some.source.now (slice_get_read c.args.sources.now (length c.args.sources.now) c.args.source
     c.in-Some.source.now refl within c.in-Some.ensures.lookup.1) all)
 
@@ -35,3 +35,10 @@ returns-in-None-clause-feeds g c all =
     (sym (ap (λ b. through c.args.steps.now (Some b)) (no_source c.args.sources.now c.args.source none)
     ∙ through-no_rows c.args.steps.now))
     (takes_none c.args.sink.now)
+
+pub scan_source-requires : goal.scan_source-requires
+scan_source-requires g c =
+    let within : c.args.source < length c.args.sources.now = search rules in
+    all_there (IsCovered (g.F.Fetch.covers c.args.fetch.now)) c.args.sources.now c.args.source c.in-Some.source.now
+    (slice_get_read c.args.sources.now (length c.args.sources.now) c.args.source c.in-Some.source.now refl within
+    c.in-Some.ensures.lookup.1) c.requires
