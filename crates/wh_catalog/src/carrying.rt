@@ -7,7 +7,7 @@ use crate::running::{put_run, put_state};
 use crate::undo::{Pushed, Step};
 use crate::{Catalog, StageFault, StoredObject};
 use std::alloc::Global;
-use wh_record::{Change, VersionChange};
+use wh_record::{ChangeIn, OutlinedChange, OutlinedVersion};
 use wh_value::Limit;
 
 impl Catalog {
@@ -26,7 +26,7 @@ impl Catalog {
     /// Carries out a change, if it applies. Its tag stands at that position.
     pub(crate) fn carry_out(
         &mut self,
-        change: Change,
+        change: OutlinedChange,
         stamp: u64,
         at: u64,
     ) -> Result<Step, StageFault>
@@ -44,35 +44,35 @@ impl Catalog {
         ensures committed { self.new.committed ≡ self.old.committed }
     {
         match change {
-            Change::CreatesTable(change) => {
+            ChangeIn::CreatesTable(change) => {
                 let id = change.id;
                 let table = self.new_table(change, stamp)?;
                 self.add_object(id, table)
             }
-            Change::Drops(id) => self.drop_at(id),
-            Change::PushesVersion(change) => {
+            ChangeIn::Drops(id) => self.drop_at(id),
+            ChangeIn::PushesVersion(change) => {
                 push_version(&mut self.objects, self.alloc, change, stamp, at)
             }
-            Change::CreatesStream(change) => {
+            ChangeIn::CreatesStream(change) => {
                 let id = change.id;
                 let stream = self.new_stream(change)?;
                 self.add_object(id, stream)
             }
-            Change::SetsOffset { id, offset } => set_offset(&mut self.objects, id, offset),
-            Change::CreatesTask(change) => {
+            ChangeIn::SetsOffset { id, offset } => set_offset(&mut self.objects, id, offset),
+            ChangeIn::CreatesTask(change) => {
                 let id = change.id;
                 let task = self.new_task(change)?;
                 self.add_object(id, task)
             }
-            Change::SetsTask { id, state } => self.set_task(id, state),
-            Change::StartsRun { root, tasks } => self.start_run(root, &tasks),
-            Change::FinishesTask { root, task, ending } => self.finish_task(root, task, ending),
-            Change::CreatesDynamic(change) => {
+            ChangeIn::SetsTask { id, state } => self.set_task(id, state),
+            ChangeIn::StartsRun { root, tasks } => self.start_run(root, &tasks),
+            ChangeIn::FinishesTask { root, task, ending } => self.finish_task(root, task, ending),
+            ChangeIn::CreatesDynamic(change) => {
                 let id = change.id;
                 let table = self.new_dynamic(change, stamp)?;
                 self.add_object(id, table)
             }
-            Change::SetsDynamic { id, state } => set_dynamic(&mut self.objects, id, state),
+            ChangeIn::SetsDynamic { id, state } => set_dynamic(&mut self.objects, id, state),
         }
     }
 
@@ -177,7 +177,7 @@ ghost use Rattle.wh_catalog.specs.Undo.{step_undone};
 fn push_version(
     objects: &mut Vec<StoredObject>,
     alloc: Global,
-    change: VersionChange,
+    change: OutlinedVersion,
     stamp: u64,
     at: u64,
 ) -> Result<Step, StageFault>

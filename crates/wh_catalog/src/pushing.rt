@@ -1,7 +1,7 @@
 //! Versions of an object that is a table.
 use crate::{StageFault, StoredKind, StoredObject};
 use std::alloc::Global;
-use wh_record::VersionChange;
+use wh_record::OutlinedVersion;
 use wh_table::StoredTable;
 
 impl StoredObject {
@@ -20,7 +20,7 @@ impl StoredObject {
     pub(crate) fn push(
         &mut self,
         alloc: Global,
-        change: VersionChange,
+        change: OutlinedVersion,
         stamp: u64,
         at: u64,
     ) -> Result<u64, StageFault>
@@ -78,7 +78,7 @@ ghost use Rattle.wh_table.specs.Table.{table_of, kept_table};
 fn push_to(
     table: &mut StoredTable,
     alloc: Global,
-    change: VersionChange,
+    change: OutlinedVersion,
     stamp: u64,
     at: u64,
 ) -> Result<u64, StageFault>

@@ -1,7 +1,7 @@
 use crate::undo::Step;
 use crate::{Catalog, StageFault, Undo};
 use std::alloc::{AllocError, Global};
-use wh_record::{Change, Commit};
+use wh_record::{OutlinedChange, OutlinedCommit};
 use wh_value::Limit;
 
 impl Catalog {
@@ -15,7 +15,7 @@ impl Catalog {
 
     /// Carries out a commit, each of its changes tested on what those before it left. The result
     /// takes it back. The commit's payload stands at that position in the file.
-    pub fn stage(&mut self, commit: Commit, at: u64) -> Result<Undo, StageFault>
+    pub fn stage(&mut self, commit: OutlinedCommit, at: u64) -> Result<Undo, StageFault>
         ensures applies { OnOk result (Applies (stored_of self.old) (commit_of commit)) }
         ensures applied { OnOk result (stored_of self.new
             ≡ applied (stored_of self.old) (commit_of commit)) }
@@ -30,7 +30,7 @@ impl Catalog {
         ensures same_state { OnErr result (state_of self.new ≡ state_of self.old) }
         ensures same_filed { OnErr result (filed_of self.new ≡ filed_of self.old) }
     {
-        let Commit { stamp, changes } = commit;
+        let OutlinedCommit { stamp, changes } = commit;
         if stamp <= self.committed || Limit::Stamp.bound() <= stamp {
             return Err(StageFault::NotApplicable);
         }
@@ -62,7 +62,7 @@ impl Catalog {
     // back. They stand one behind the other from that position on.
     fn carry_out_all(
         &mut self,
-        changes: Vec<Change>,
+        changes: Vec<OutlinedChange>,
         stamp: u64,
         first: u64,
         steps: &mut Vec<Step>,
@@ -133,7 +133,7 @@ ghost use Rattle.wh_record.specs.View.{change_of};
 ghost use Rattle.wh_record.specs.Places.{change_size};
 
 // The position behind a change whose tag stands at a position.
-fn behind(alloc: Global, at: u64, change: &Change) -> Result<u64, AllocError>
+fn behind(alloc: Global, at: u64, change: &OutlinedChange) -> Result<u64, AllocError>
     ensures { IfOk result (λ behind. behind ≡ at + change_size (change_of change.now)) }
 {
     let size = change.size(alloc)?;

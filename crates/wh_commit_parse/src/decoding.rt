@@ -6,11 +6,11 @@ ghost use Rattle.wh_record.specs.View.{commit_of};
 use crate::meaning::commit_meant;
 use std::alloc::{AllocError, Global};
 use wh_cursor::ParseFault;
-use wh_record::{Commit, TextCommit};
+use wh_record::{OutlinedCommit, TextCommit};
 
 /// The commit of a record's payload, with what its texts mean. None exactly where the bytes are no
 /// commit.
-pub fn decode_commit(alloc: Global, payload: &[u8]) -> Option<Result<Commit, AllocError>>
+pub fn decode_commit(alloc: Global, payload: &[u8]) -> Option<Result<OutlinedCommit, AllocError>>
     ensures found { IfSome result (λ found. IfOk found (λ commit.
         IsCommit (commit_of commit) × (payload.now ≡ payload_of (commit_of commit)))) }
     ensures again { (c : machine.Commit) → IsCommit c → payload.now ≡ payload_of c →

@@ -21,8 +21,8 @@ use wh_dynamic::DynamicQuery;
 use wh_lex::Token;
 use wh_option_parse::condition;
 use wh_record::{
-    Change, ChangeIn, Commit, CommitIn, DynamicChange, DynamicChangeIn, DynamicTexts, TaskChange,
-    TaskChangeIn, TaskTexts, TextChange, TextCommit,
+    ChangeIn, CommitIn, DynamicChange, DynamicChangeIn, DynamicTexts, OutlinedChange,
+    OutlinedCommit, TaskChange, TaskChangeIn, TaskTexts, TextChange, TextCommit,
 };
 use wh_stmt_parse::parse;
 use wh_task::TaskBody;
@@ -179,7 +179,7 @@ fn dynamic_meant(
 }
 
 #[tactic(auto, unfolding(crate::specs::Meant::change_meant))]
-fn change_meant(alloc: Global, change: TextChange) -> Result<Change, ParseFault>
+fn change_meant(alloc: Global, change: TextChange) -> Result<OutlinedChange, ParseFault>
     ensures { GivesAs change_of result (spec.change_meant (text_change_of change)) }
 {
     match change {
@@ -201,7 +201,7 @@ fn change_meant(alloc: Global, change: TextChange) -> Result<Change, ParseFault>
     }
 }
 
-fn changes_meant(alloc: Global, changes: Vec<TextChange>) -> Result<Vec<Change>, ParseFault>
+fn changes_meant(alloc: Global, changes: Vec<TextChange>) -> Result<Vec<OutlinedChange>, ParseFault>
     ensures { GivesAs (λ cs. map change_of cs.items) result
         (spec.changes_meant (map text_change_of changes.items)) }
 {
@@ -219,7 +219,7 @@ fn changes_meant(alloc: Global, changes: Vec<TextChange>) -> Result<Vec<Change>,
 /// The commit with what its texts mean, or a syntax error where one of them spells nothing that may
 /// stand there.
 #[tactic(auto, unfolding(crate::specs::Meant::commit_meant))]
-pub(crate) fn commit_meant(alloc: Global, commit: TextCommit) -> Result<Commit, ParseFault>
+pub(crate) fn commit_meant(alloc: Global, commit: TextCommit) -> Result<OutlinedCommit, ParseFault>
     ensures { GivesAs commit_of result (spec.commit_meant (text_commit_of commit)) }
 {
     let CommitIn { stamp, changes } = commit;

@@ -16,9 +16,7 @@ use Rattle.wh_reply.specs.declared.reply.Refusal as code
 use Rattle.wh_reply.specs.declared.reply.Reply as code_reply
 use Rattle.wh_reply.specs.View.{refusal_view, reply_view}
 use Rattle.wh_record.specs.View.{commit_of}
-use Rattle.wh_record.specs.declared.commit.CommitIn.{CommitIn}
-use Rattle.wh_task.specs.declared.task.TaskBody.{TaskBody}
-use Rattle.wh_dynamic.specs.declared.query.DynamicQuery.{DynamicQuery}
+use Rattle.wh_record.specs.View.{UnderstoodCommit}
 use Rattle.wh_state.specs.Act.{Act}
 use Rattle.wh_state.specs.Stored.{Stored}
 use Rattle.wh_state.specs.Written.{commit_for}
@@ -59,7 +57,7 @@ pub answers : (s : Stored) (sessions : Sessions) (stamp : ℕ) (told : code_repl
 answers s sessions stamp told o reply is same = does s sessions stamp told Answers o reply None is refl tt same
 
 pub commits_all : (s : Stored) (sessions : Sessions) (stamp : ℕ) (told : code_reply.Reply)
-    (commit : CommitIn TaskBody DynamicQuery)
+    (commit : UnderstoodCommit)
     (o : Outcome) (reply : Reply) (acts : Option (List Act)) → reply_view told ≡ reply
     → Some (commit_of commit) ≡ option_map (commit_for s stamp) acts
     → o ≡ Does reply sessions acts → Decides s sessions stamp (Do told (Commits commit)) o
@@ -81,7 +79,7 @@ begins s sessions stamp session told o reply is same =
     does s sessions stamp told (Begins session) o reply None is refl tt same
 
 pub ends : (s : Stored) (sessions : Sessions) (stamp session : ℕ) (told : code_reply.Reply)
-    (commit : Option (CommitIn TaskBody DynamicQuery)) (o : Outcome) (reply : Reply) (acts : Option (List Act))
+    (commit : Option UnderstoodCommit) (o : Outcome) (reply : Reply) (acts : Option (List Act))
     → reply_view told ≡ reply
     → option_map commit_of commit ≡ option_map (commit_for s stamp) acts
     → o ≡ Does reply (with_ended sessions session) acts → Decides s sessions stamp (Do told (Ends session commit)) o

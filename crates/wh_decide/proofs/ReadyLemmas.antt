@@ -14,10 +14,7 @@ use Rattle.std.specs.declared.alloc.Global.{Global}
 use denote.Ref.{Bor}
 use Rattle.wh_filed.specs.Filed.{Filed, AllShown, AreAmong}
 use Rattle.wh_reply.specs.Reply.{Refusal}
-use Rattle.wh_record.specs.View.{commit_of}
-use Rattle.wh_record.specs.declared.commit.CommitIn.{CommitIn}
-use Rattle.wh_task.specs.declared.task.TaskBody.{TaskBody}
-use Rattle.wh_dynamic.specs.declared.query.DynamicQuery.{DynamicQuery}
+use Rattle.wh_record.specs.View.{UnderstoodCommit, commit_of}
 use Rattle.wh_dml.specs.declared.target.Effect.{Effect}
 use Rattle.wh_state.specs.Act.{Act}
 use Rattle.wh_state.specs.Dynamic.{Dynamic}
@@ -60,22 +57,22 @@ nothing_settles sessions stamp = record { staged = tt; timed = tt; read = tt }
 pub nothing_ready : (sight : Sight) → CanSettle (sessions_of sight.sessions.now) sight.stamp Answers
 nothing_ready sight = nothing_settles (sessions_of sight.sessions.now) sight.stamp
 
-pub commit_settles : (sessions : Sessions) (stamp : ℕ) (found : Option (CommitIn TaskBody DynamicQuery))
-    (commit : CommitIn TaskBody DynamicQuery) → found ≡ Some commit → IsAt stamp (option_map commit_of found)
+pub commit_settles : (sessions : Sessions) (stamp : ℕ) (found : Option UnderstoodCommit)
+    (commit : UnderstoodCommit) → found ≡ Some commit → IsAt stamp (option_map commit_of found)
     → IsRead (option_map commit_of found) → CanSettle sessions stamp (Commits commit)
 commit_settles sessions stamp found commit is at read = record {
   staged = tt;
-  timed = subst (λ (f : Option (CommitIn TaskBody DynamicQuery)). IsAt stamp (option_map commit_of f)) is at;
-  read = subst (λ (f : Option (CommitIn TaskBody DynamicQuery)). IsRead (option_map commit_of f)) is read;
+  timed = subst (λ (f : Option UnderstoodCommit). IsAt stamp (option_map commit_of f)) is at;
+  read = subst (λ (f : Option UnderstoodCommit). IsRead (option_map commit_of f)) is read;
 }
 
-pub end_settles : (sessions : Sessions) (stamp session : ℕ) (found commit : Option (CommitIn TaskBody DynamicQuery))
+pub end_settles : (sessions : Sessions) (stamp session : ℕ) (found commit : Option UnderstoodCommit)
     → found ≡ commit → IsAt stamp (option_map commit_of found) → IsRead (option_map commit_of found)
     → CanSettle sessions stamp (Ends session commit)
 end_settles sessions stamp session found commit is at read = record {
   staged = tt;
-  timed = subst (λ (f : Option (CommitIn TaskBody DynamicQuery)). IsAt stamp (option_map commit_of f)) is at;
-  read = subst (λ (f : Option (CommitIn TaskBody DynamicQuery)). IsRead (option_map commit_of f)) is read;
+  timed = subst (λ (f : Option UnderstoodCommit). IsAt stamp (option_map commit_of f)) is at;
+  read = subst (λ (f : Option UnderstoodCommit). IsRead (option_map commit_of f)) is read;
 }
 
 pub stage_settles : (sessions : Sessions) (stamp session id : ℕ) (streams : Vec ℕ Global) (next_row : ℕ)

@@ -10,9 +10,7 @@ use Rattle.wh_reply.specs.Reply.{Reply, OverLimit, TransactionOpen, NoTransactio
 use Rattle.wh_reply.specs.Reply.{CommittedNothing, RolledBack}
 use Rattle.wh_reply.specs.declared.reply.Reply.TheVariants as told
 use Rattle.wh_record.specs.View as records
-use Rattle.wh_record.specs.declared.commit.CommitIn.{CommitIn}
-use Rattle.wh_task.specs.declared.task.TaskBody.{TaskBody}
-use Rattle.wh_dynamic.specs.declared.query.DynamicQuery.{DynamicQuery}
+use Rattle.wh_record.specs.View.{UnderstoodCommit}
 use Rattle.wh_state.specs.Act.{Act}
 use Rattle.wh_state.specs.Stored.{Stored}
 use Rattle.wh_state.specs.Written.{commit_for}
@@ -98,7 +96,7 @@ commit_within m session t acts held within is =
     ∙ ap (λ (made : Option (List Act)). Does (commit_reply m.state.last made) (with_ended m.sessions session) made) is
 
 -- what is written is the commit's changes
-pub commits_changes : (s : Stored) (m : Machine) (session : ℕ) (t : Transaction) (c : CommitIn TaskBody DynamicQuery)
+pub commits_changes : (s : Stored) (m : Machine) (session : ℕ) (t : Transaction) (c : UnderstoodCommit)
     → transaction_in m.sessions session ≡ Some t → past_limit m.state.objects t ≡ None
     → Some (records.commit_of c) ≡ option_map (commit_for s m.state.last) (acts_of m.state.objects t)
     → Decides s m.sessions m.state.last

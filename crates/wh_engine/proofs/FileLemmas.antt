@@ -103,6 +103,13 @@ pub record Stages (c d : Catalog) (commit : Commit) (at : ℕ) : Type 0 where
   pub good : IsCommit commit
   pub among : AreAmong (filed_of d) (filed_of c ++ filed_in at commit)
 
+-- what a catalog staged of it
+pub record Staged (c d : Catalog) (commit : Commit) (at : ℕ) : Type 0 where
+  pub applies : Applies (stored_of c) commit
+  pub applied : stored_of d ≡ applied (stored_of c) commit
+  pub last : (state_of d).last ≡ commit.stamp
+  pub among : AreAmong (filed_of d) (filed_of c ++ filed_in at commit)
+
 -- and where the journal adds it
 pub record Behind (j k : Journal) (at : ℕ) : Type 0 where
   pub place : at ≡ end_of j + 8

@@ -204,7 +204,8 @@ impl<D: Disk> Warehouse<D> {
     {
         let framed = commit.encode(self.alloc)?;
         self.journal.reserve()?;
-        let undo = self.catalog.stage(commit, self.journal.next_place())?;
+        let outlined = commit.outlined(self.alloc)?;
+        let undo = self.catalog.stage(outlined, self.journal.next_place())?;
         // What is kept stands in front of the gate, and so stays right.
         stays_beside();
         match self.journal.append(&mut self.fetch.disk, &framed) {

@@ -18,17 +18,20 @@ const FOUR_ROWS: [u8; 101] = [
     0, 0, 0, 0, 0, 5, 4, 0, 0, 0, 1, 98, 0,
 ];
 
-/// What is known of the partition that these bytes begin with.
+/// The outline of the partition that these bytes begin with.
+fn seen(rt: &impl Abort, alloc: Global, bytes: &[u8], width: u32) -> Outline {
+    let (outline, _) = Outline::read(alloc, bytes, width)
+        .ok()
+        .expect(rt, "a partition");
+    outline
+}
+
+/// The same of its rows.
 #[tactic(auto, using(wh_part::proofs::MetaLemmas::even_partition))]
-fn meta_of(rt: &impl Abort, alloc: Global, bytes: &[u8], width: u32) -> Option<PartMeta> {
-    match Partition::decode(alloc, bytes, width) {
-        Some(found) => {
-            let (partition, _) = found.expect(rt, "memory");
-            let meta = partition.meta(alloc, 3, 100, 48).expect(rt, "memory");
-            Some(meta)
-        }
-        None => None,
-    }
+fn drawn(rt: &impl Abort, alloc: Global, bytes: &[u8], width: u32) -> Outline {
+    let found = Partition::decode(alloc, bytes, width).expect(rt, "a partition");
+    let (partition, _) = found.expect(rt, "memory");
+    Outline::of(alloc, &partition).expect(rt, "memory")
 }
 
 fn print_bounds(rt: &impl Abort, columns: &[Bounds], out: &mut Bytes) {
@@ -40,8 +43,29 @@ fn print_bounds(rt: &impl Abort, columns: &[Bounds], out: &mut Bytes) {
     }
 }
 
-/// What is known of the partition that these bytes begin with: its number, how many rows it has and
-/// the numbers of the first and the last, and the bounds of its three columns.
+/// What an outline says: its partition's number, how many rows it has and the numbers of the first
+/// and the last, and the bounds of its three columns.
+fn assert_outlined(
+    rt: &impl Abort,
+    alloc: Global,
+    outline: Outline,
+    length: usize,
+    number: u64,
+    rows: (usize, u64, u64),
+    bounds: &[u8],
+) {
+    let (meta, _) = outline.filed(3, 100);
+    assert_eq!(rt; meta.id.object, 3, "the table");
+    assert_eq!(rt; meta.id.number, number, "the number");
+    assert_eq!(rt; (meta.at, meta.length), (100, length as u64), "the place");
+    assert_eq!(rt; (meta.rows, meta.first, meta.last), rows, "the rows");
+    assert_eq!(rt; meta.columns.len(), 3, "the columns");
+    let mut printed = Bytes::new(alloc);
+    print_bounds(rt, &meta.columns, &mut printed);
+    assert_eq!(rt; printed.as_slice(), bounds, "the bounds");
+}
+
+/// What is known of the partition that these bytes spell, seen in the bytes and in its rows.
 fn assert_known(
     rt: &impl Abort,
     alloc: Global,
@@ -50,15 +74,10 @@ fn assert_known(
     rows: (usize, u64, u64),
     bounds: &[u8],
 ) {
-    let meta = meta_of(rt, alloc, bytes, 3).expect(rt, "a partition");
-    assert_eq!(rt; meta.id.object, 3, "the table");
-    assert_eq!(rt; meta.id.number, number, "the number");
-    assert_eq!(rt; (meta.at, meta.length), (100, 48), "the place");
-    assert_eq!(rt; (meta.rows, meta.first, meta.last), rows, "the rows");
-    assert_eq!(rt; meta.columns.len(), 3, "the columns");
-    let mut printed = Bytes::new(alloc);
-    print_bounds(rt, &meta.columns, &mut printed);
-    assert_eq!(rt; printed.as_slice(), bounds, "the bounds");
+    let outline = seen(rt, alloc, bytes, 3);
+    assert_outlined(rt, alloc, outline, bytes.len(), number, rows, bounds);
+    let outline = drawn(rt, alloc, bytes, 3);
+    assert_outlined(rt, alloc, outline, bytes.len(), number, rows, bounds);
 }
 
 #[test]

@@ -1,7 +1,5 @@
-use crate::contents::Contents;
-use std::alloc::{AllocError, Global};
 use std::marker::Model;
-use wh_part::{PartMeta, Partition};
+use wh_part::{Contents, Outline, PartMeta};
 
 /// A partition whose rows stand in the file, with what is known of it without them. Contracts see
 /// the partition too, with its rows.
@@ -34,35 +32,18 @@ impl Model for FiledPartition {
 }
 
 impl FiledPartition {
-    ghost use Rattle.std.specs.Prelude.{◌≡◌, IfOk, vec_len};
+    ghost use Rattle.std.specs.Prelude.{◌≡◌, vec_len};
     ghost use Rattle.wh_frame.specs.Partition.{first_number, last_number};
     ghost use Rattle.wh_frame.specs.Spelling.{RisesFrom};
-    ghost use Rattle.wh_part.specs.Meta.{IsEven, IsMetaOf, width_of};
+    ghost use Rattle.wh_part.specs.Meta.{IsMetaOf};
+    ghost use Rattle.wh_filed.specs.Filing.{filed_one};
 
-    /// The partition at a place of the file.
-    pub fn of(
-        alloc: Global,
-        partition: &Partition,
-        object: u32,
-        at: u64,
-        length: u64,
-    ) -> Result<FiledPartition, AllocError>
-        requires { IsEven partition.now.rows }
-        ensures { IfOk result (λ filed. filed ≡ record {
-          object = object;
-          at = at;
-          length = length;
-          width = width_of partition.now.rows;
-          partition = partition.now;
-        }) }
+    /// The partition of an outline at a position of the file. Takes no memory.
+    pub fn of(outline: Outline, object: u32, at: u64) -> FiledPartition
+        ensures { result ≡ filed_one object at outline }
     {
-        // The numbers of its rows rise, by the type of partitions.
-        let _rows = partition.rows();
-        let meta = partition.meta(alloc, object, at, length)?;
-        Ok(FiledPartition {
-            meta,
-            contents: Contents::of(partition),
-        })
+        let (meta, contents) = outline.filed(object, at);
+        FiledPartition { meta, contents }
     }
 
     pub fn number(&self) -> u64

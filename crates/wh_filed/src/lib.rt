@@ -1,7 +1,6 @@
 //! Partitions whose rows stand in the file.
 #![tactic(auto)]
 
-mod contents;
 mod filed;
 mod filing;
 mod loading;

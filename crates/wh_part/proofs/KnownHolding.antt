@@ -5,13 +5,14 @@
 --     known_none                                              a column of which nothing is known; comparisons with NULL
 --     known_is_null                                           which columns may hold NULL
 --     known_both                                              AND and OR
+--     known_minus                                             a minus sign before a constant, and before others
 --     known_arithmetic                                        a condition that may have no value
-use Rattle.std.specs.Prelude.{◌≡◌, ℕ, Bool, true, false, List, [], ◌∷◌, map, pos, refl}
-use Rattle.wh_value.specs.Value.{Value, Number, Null}
+use Rattle.std.specs.Prelude.{◌≡◌, ℕ, Bool, true, false, List, [], ◌∷◌, map, pos, negsuc, refl}
+use Rattle.wh_value.specs.Value.{Value, Number, Truth, Null}
 use Rattle.wh_value.specs.declared.comparison.Comparison.{Comparison}
 use Rattle.wh_value.specs.declared.comparison.Comparison.TheVariants as comparisons
-use Rattle.wh_meaning.specs.Scalar.{Scalar, Const, Column, Add, Compare, And, Or, IsNull, has_arithmetic}
-use Rattle.wh_part.specs.Holding.{Sides, may_be, may_hold}
+use Rattle.wh_meaning.specs.Scalar.{Scalar, Const, Column, Neg, Add, Compare, And, Or, IsNull}
+use Rattle.wh_part.specs.Holding.{Sides, may_be, may_fail, may_hold}
 
 abbrev number : ℕ → Value
 number n = Number (pos n)
@@ -39,7 +40,7 @@ pub known_inside :
     × (compared_at 0 comparisons.LessOrEqual ≡ false ∷ true ∷ true ∷ true ∷ true ∷ [])
     × (compared_at 0 comparisons.Greater ≡ true ∷ true ∷ true ∷ false ∷ false ∷ [])
     × (compared_at 0 comparisons.GreaterOrEqual ≡ true ∷ true ∷ true ∷ true ∷ false ∷ [])
-unfolding may_be has_arithmetic
+unfolding may_be may_fail
 known_inside = (refl, refl, refl, refl, refl, refl)
 
 -- NULL is the greatest, so the greatest other value isn't known
@@ -50,7 +51,7 @@ pub known_nulls :
     × (compared_at 1 comparisons.LessOrEqual ≡ false ∷ true ∷ true ∷ true ∷ true ∷ [])
     × (compared_at 1 comparisons.Greater ≡ all_of true)
     × (compared_at 1 comparisons.GreaterOrEqual ≡ all_of true)
-unfolding may_be has_arithmetic
+unfolding may_be may_fail
 known_nulls = (refl, refl, refl, refl, refl, refl)
 
 pub known_null :
@@ -60,7 +61,7 @@ pub known_null :
     × (compared_at 2 comparisons.LessOrEqual ≡ all_of false)
     × (compared_at 2 comparisons.Greater ≡ all_of false)
     × (compared_at 2 comparisons.GreaterOrEqual ≡ all_of false)
-unfolding may_be has_arithmetic
+unfolding may_be may_fail
 known_null = (refl, refl, refl, refl, refl, refl)
 
 pub known_single :
@@ -70,7 +71,7 @@ pub known_single :
     × (compared_at 3 comparisons.LessOrEqual ≡ false ∷ true ∷ true ∷ true ∷ true ∷ [])
     × (compared_at 3 comparisons.Greater ≡ true ∷ false ∷ false ∷ false ∷ false ∷ [])
     × (compared_at 3 comparisons.GreaterOrEqual ≡ true ∷ true ∷ false ∷ false ∷ false ∷ [])
-unfolding may_be has_arithmetic
+unfolding may_be may_fail
 known_single = (refl, refl, refl, refl, refl, refl)
 
 -- 4 < K is K > 4
@@ -81,7 +82,7 @@ pub known_converse :
     × (compared_from comparisons.LessOrEqual 0 ≡ true ∷ true ∷ true ∷ true ∷ false ∷ [])
     × (compared_from comparisons.Greater 0 ≡ false ∷ false ∷ true ∷ true ∷ true ∷ [])
     × (compared_from comparisons.GreaterOrEqual 0 ≡ false ∷ true ∷ true ∷ true ∷ true ∷ [])
-unfolding may_be has_arithmetic
+unfolding may_be may_fail
 known_converse = (refl, refl, refl, refl, refl, refl)
 
 pub known_none :
@@ -90,13 +91,13 @@ pub known_none :
     × (may_hold known (Compare comparisons.Equal (Column 0) (Const Null)) ≡ false)
     × (may_hold known (Compare comparisons.Unequal (Column 1) (Const Null)) ≡ false)
     × (may_hold known (Compare comparisons.Equal (Const Null) (Column 2)) ≡ false)
-unfolding may_be has_arithmetic
+unfolding may_be may_fail
 known_none = (refl, refl, refl, refl, refl)
 
 pub known_is_null :
     map (λ place. may_hold known (IsNull (Column place))) (0 ∷ 1 ∷ 2 ∷ 3 ∷ 4 ∷ [])
     ≡ false ∷ true ∷ true ∷ false ∷ true ∷ []
-unfolding may_be has_arithmetic
+unfolding may_be may_fail
 known_is_null = refl
 
 -- of the column from 5 to 9
@@ -108,11 +109,35 @@ pub known_both :
     × (map (λ n. may_hold known (And (at 7) (at n))) (4 ∷ 5 ∷ []) ≡ false ∷ true ∷ [])
     × (map (λ n. may_hold known (Or (at n) (at 10))) (4 ∷ 5 ∷ []) ≡ false ∷ true ∷ [])
     × (map (λ n. may_hold known (Or (at 10) (at n))) (4 ∷ 5 ∷ []) ≡ false ∷ true ∷ [])
-unfolding may_be has_arithmetic
+unfolding may_be may_fail
 known_both = (refl, refl, refl, refl)
+
+-- a column from -9 to -5, compared with -4, -5, -7, -9 and -10; then a minus sign before a column, before another one,
+-- before a number of 19 digits and one of 18, before NULL and before a truth
+abbrev below : List Sides
+below = (Number (negsuc 8), Number (negsuc 4)) ∷ []
+
+abbrev minus : (Scalar → Scalar) → List Bool
+minus condition = map (λ n. may_hold below (condition (Neg (Const (number n))))) (4 ∷ 5 ∷ 7 ∷ 9 ∷ 10 ∷ [])
+
+pub known_minus :
+    (minus (Compare comparisons.Equal (Column 0)) ≡ false ∷ true ∷ true ∷ true ∷ false ∷ [])
+    × (minus (Compare comparisons.Less (Column 0)) ≡ true ∷ true ∷ true ∷ false ∷ false ∷ [])
+    × (minus (λ y. Compare comparisons.Less y (Column 0)) ≡ false ∷ false ∷ true ∷ true ∷ true ∷ [])
+    × (may_hold known (Compare comparisons.Equal (Column 0) (Neg (Const (number 1)))) ≡ false)
+    × (may_hold known (Compare comparisons.Equal (Column 0) (Neg (Const (Number (negsuc 6))))) ≡ true)
+    × (may_hold known (Compare comparisons.Equal (Neg (Column 0)) (Const (number 1))) ≡ true)
+    × (may_hold known (And (at 4) (Compare comparisons.Equal (Neg (Column 0)) (Const (number 1)))) ≡ true)
+    × (may_hold known (And (at 4) (IsNull (Neg (Neg (Const (number 1)))))) ≡ true)
+    × (may_hold known (Compare comparisons.Equal (Column 0) (Neg (Const (number 1000000000000000000)))) ≡ true)
+    × (may_hold known (Compare comparisons.Equal (Column 0) (Neg (Const (number 999999999999999999)))) ≡ false)
+    × (may_hold known (Compare comparisons.Equal (Column 0) (Neg (Const Null))) ≡ false)
+    × (may_hold known (Compare comparisons.Equal (Column 0) (Neg (Const (Truth true)))) ≡ false)
+unfolding may_be may_fail
+known_minus = (refl, refl, refl, refl, refl, refl, refl, refl, refl, refl, refl, refl)
 
 -- K + 1 may leave the limit of numbers on a row, also where another conjunct isn't TRUE there
 pub known_arithmetic :
     may_hold known (And (at 4) (Compare comparisons.Equal (Add (Column 0) (Const (number 1))) (Const (number 8)))) ≡ true
-unfolding may_be has_arithmetic
+unfolding may_be may_fail
 known_arithmetic = refl

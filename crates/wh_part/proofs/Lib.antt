@@ -9,3 +9,7 @@ pub mod Rejected
 pub mod KnownHolding
 pub mod Within
 pub mod SizeLaws
+pub mod SkimLaws
+pub mod AbsorbLaws
+pub mod ExtentLaws
+pub mod SketchLaws

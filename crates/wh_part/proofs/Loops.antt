@@ -12,7 +12,7 @@ use Rattle.wh_part.specs.Reading.{Reader, ◌>>=◌, Fails, items_at}
 abbrev pub with_front : {X : Type 0} → List X → Option (List X × List ℕ) → Option (List X × List ℕ)
 with_front front read = read >>= λ x. Some (front ++ x.0, x.1)
 
-regroup : {X : Type 0} (front : List X) (x : X) (read : Option (List X × List ℕ))
+pub regroup : {X : Type 0} (front : List X) (x : X) (read : Option (List X × List ℕ))
     → with_front front (read >>= λ xs. Some (x ∷ xs.0, xs.1)) ≡ with_front (front ++ x ∷ []) read
 regroup {X} front x (Some y) = ap (λ (xs : List X). Some (xs, y.1)) (simp append_assoc)
 regroup front x None = refl

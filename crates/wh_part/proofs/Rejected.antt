@@ -1,8 +1,9 @@
 -- A condition that may not be TRUE by the sides of columns isn't.
---     not_held     on rows within the sides
+--     has_value    a scalar that may not fail has a value on every row
+--     not_held     a condition isn't TRUE on rows within the sides
 --     rejected     so it is rejected, where it has a value on each row
 use Rattle.std.specs.Prelude.{◌≡◌, ℕ, Bool, true, false, not, ◌&&◌, ◌||◌, if◌then◌else◌, List, Option, Some, None}
-use Rattle.std.specs.Prelude.{slice_get}
+use Rattle.std.specs.Prelude.{is_none, slice_get}
 use Rattle.std.proofs.Common.{refl, sym, ap, ◌∙◌}
 use Rattle.std.proofs.lemmas.Cmp.{upto}
 use Rattle.std.specs.declared.cmp.Ordering.{Ordering}
@@ -14,12 +15,13 @@ use Rattle.wh_value.specs.declared.comparison.Comparison.{Comparison}
 use Rattle.wh_value.specs.declared.comparison.Comparison.TheVariants as comparisons
 use Rattle.wh_meaning.specs.Scalar.{Scalar, Const, Column, Neg, Add, Sub, Mul, Compare, And, Or, Not, IsNull}
 use Rattle.wh_meaning.specs.Scalar.{is_null, is_true, is_false, val, of_two, meets, compared, disjoined}
-use Rattle.wh_meaning.specs.Scalar.{gives_true, holds, has_arithmetic}
+use Rattle.wh_meaning.specs.Scalar.{gives_true, holds}
 use Rattle.wh_meaning.specs.Listing.{cell}
-use Rattle.wh_moves.proofs.Plain.{IsThere, plain_value, neither}
+use Rattle.wh_moves.proofs.Plain.{IsThere, one_there, two_there, neither}
 use Rattle.wh_moves.proofs.Matched.{both_hold, tied, unless}
-use Rattle.wh_part.specs.Holding.{Sides, may_meet, may_compare_within, converse_of, may_compare, has_null, may_be_null}
-use Rattle.wh_part.specs.Holding.{may_be, may_hold, IsWithin, IsRejected, Rejects}
+use Rattle.wh_part.specs.Holding.{Sides, may_meet, constant_of, may_compare_within, may_compare_column, converse_of}
+use Rattle.wh_part.specs.Holding.{may_compare, has_null, may_be_null, may_be, may_fail, may_hold}
+use Rattle.wh_part.specs.Holding.{IsWithin, IsRejected, Rejects}
 
 -- ---- the value order
 
@@ -102,7 +104,7 @@ compares false false false m mt e f g = g e
 not_compared : (c : Comparison) (found : Option Sides) (x v : Value)
     → ((b : Sides) → found ≡ Some b → is_gt (value_cmp b.0 x) ≡ false)
     → ((b : Sides) → found ≡ Some b → is_gt (value_cmp x b.1) ≡ false)
-    → may_compare_within found c v ≡ false → is_true (compared c x v) ≡ false
+    → may_compare_within found c (Some v) ≡ false → is_true (compared c x v) ≡ false
 not_compared c None x v low high e = cc
 not_compared c (Some b) x v low high e =
     compares (is_null x) (is_null v) (is_null b.0) (may_meet b c v) (meets c (value_cmp x v)) e
@@ -141,6 +143,14 @@ compared-converse c v x =
     (ap (meets c) (value_total.antisymm v x) ∙ meets-converse c (value_cmp x v))
     ∙ null_either (is_null v) (is_null x) (meets (converse_of c) (value_cmp x v))
 
+holds-converse : (c : Comparison) (a b : Option Value)
+    → gives_true (of_two (λ x y. Some (compared c x y)) a b)
+    ≡ gives_true (of_two (λ x y. Some (compared (converse_of c) x y)) b a)
+holds-converse c None None = refl
+holds-converse c None (Some x) = refl
+holds-converse c (Some v) None = refl
+holds-converse c (Some v) (Some x) = compared-converse c v x
+
 not_null : (found : Option Sides) (x : Value) → ((b : Sides) → found ≡ Some b → is_gt (value_cmp x b.1) ≡ false)
     → has_null found ≡ false → is_null x ≡ false
 not_null None x high e = cc
@@ -172,48 +182,87 @@ neither_holds None b p q = refl
 neither_holds (Some v) None p q = refl
 neither_holds (Some v) (Some w) p q = neither_true v w p q
 
+-- ---- constants
+
+constant_value : (x : Scalar) (row : Row) (v : Value) → constant_of x ≡ Some v → val x row ≡ Some v
+unfolding val
+constant_value (Const w) row v e = e
+constant_value (Neg (Const w)) row v e = e
+constant_value (Neg (Column place)) row v e = cc
+constant_value (Neg (Neg y)) row v e = cc
+constant_value (Neg (Add y z)) row v e = cc
+constant_value (Neg (Sub y z)) row v e = cc
+constant_value (Neg (Mul y z)) row v e = cc
+constant_value (Neg (Compare c y z)) row v e = cc
+constant_value (Neg (And y z)) row v e = cc
+constant_value (Neg (Or y z)) row v e = cc
+constant_value (Neg (Not y)) row v e = cc
+constant_value (Neg (IsNull y)) row v e = cc
+constant_value (Column place) row v e = cc
+constant_value (Add y z) row v e = cc
+constant_value (Sub y z) row v e = cc
+constant_value (Mul y z) row v e = cc
+constant_value (Compare c y z) row v e = cc
+constant_value (And y z) row v e = cc
+constant_value (Or y z) row v e = cc
+constant_value (Not y) row v e = cc
+constant_value (IsNull y) row v e = cc
+
+there : (known found : Option Value) → ((v : Value) → known ≡ Some v → found ≡ Some v) → is_none known ≡ false
+    → IsThere found
+there None found same e = cc
+there (Some v) None same e = let s = same v refl in cc
+there (Some v) (Some w) same e = tt
+
+has_value : (e : Scalar) (row : Row) → may_fail e ≡ false → IsThere (val e row)
+unfolding val may_fail
+has_value (Const v) row none = tt
+has_value (Column place) row none = tt
+has_value (Neg a) row none = there (constant_of (Neg a)) (val (Neg a) row) (constant_value (Neg a) row) none
+has_value (Add a b) row none = cc
+has_value (Sub a b) row none = cc
+has_value (Mul a b) row none = cc
+has_value (Compare c a b) row none = let h = neither (may_fail a) (may_fail b) none in
+    two_there _ (val a row) (val b row) (has_value a row h.0) (has_value b row h.1)
+has_value (And a b) row none = let h = neither (may_fail a) (may_fail b) none in
+    two_there _ (val a row) (val b row) (has_value a row h.0) (has_value b row h.1)
+has_value (Or a b) row none = let h = neither (may_fail a) (may_fail b) none in
+    two_there _ (val a row) (val b row) (has_value a row h.0) (has_value b row h.1)
+has_value (Not a) row none = one_there _ (val a row) (has_value a row none)
+has_value (IsNull a) row none = one_there _ (val a row) (has_value a row none)
+
 -- ---- conditions
 
 module _ (columns : List Sides) (row : Row) (within : IsWithin columns row) where
-  at_column : (place : ℕ) (c : Comparison) (v : Value) → may_compare_within (slice_get columns place) c v ≡ false
-      → is_true (compared c (cell row place) v) ≡ false
-  at_column place c v e =
-      not_compared c (slice_get columns place) (cell row place) v (within.least place) (within.greatest place) e
+  at_column : (place : ℕ) (c : Comparison) (y : Scalar) (known : Option Value)
+      → ((v : Value) → known ≡ Some v → val y row ≡ Some v)
+      → may_compare_within (slice_get columns place) c known ≡ false → holds (Compare c (Column place) y) row ≡ false
+  unfolding val
+  at_column place c y None same e = cc
+  at_column place c y (Some v) same e =
+      ap (λ w. gives_true (of_two (λ a b. Some (compared c a b)) (Some (cell row place)) w)) (same v refl)
+      ∙ not_compared c (slice_get columns place) (cell row place) v (within.least place) (within.greatest place) e
+
+  column_held : (c : Comparison) (x y : Scalar) → may_compare_column columns c x y ≡ false
+      → holds (Compare c x y) row ≡ false
+  column_held c (Column place) y e = at_column place c y (constant_of y) (constant_value y row) e
+  column_held c (Const v) y e = cc
+  column_held c (Neg x) y e = cc
+  column_held c (Add x z) y e = cc
+  column_held c (Sub x z) y e = cc
+  column_held c (Mul x z) y e = cc
+  column_held c (Compare d x z) y e = cc
+  column_held c (And x z) y e = cc
+  column_held c (Or x z) y e = cc
+  column_held c (Not x) y e = cc
+  column_held c (IsNull x) y e = cc
 
   sides_held : (c : Comparison) (x y : Scalar) → may_compare columns c x y ≡ false → holds (Compare c x y) row ≡ false
   unfolding val
-  sides_held c (Column place) (Const v) e = at_column place c v e
-  sides_held c (Column place) (Column y) e = cc
-  sides_held c (Column place) (Neg y) e = cc
-  sides_held c (Column place) (Add y z) e = cc
-  sides_held c (Column place) (Sub y z) e = cc
-  sides_held c (Column place) (Mul y z) e = cc
-  sides_held c (Column place) (Compare d y z) e = cc
-  sides_held c (Column place) (And y z) e = cc
-  sides_held c (Column place) (Or y z) e = cc
-  sides_held c (Column place) (Not y) e = cc
-  sides_held c (Column place) (IsNull y) e = cc
-  sides_held c (Const v) (Column place) e =
-      compared-converse c v (cell row place) ∙ at_column place (converse_of c) v e
-  sides_held c (Const v) (Const y) e = cc
-  sides_held c (Const v) (Neg y) e = cc
-  sides_held c (Const v) (Add y z) e = cc
-  sides_held c (Const v) (Sub y z) e = cc
-  sides_held c (Const v) (Mul y z) e = cc
-  sides_held c (Const v) (Compare d y z) e = cc
-  sides_held c (Const v) (And y z) e = cc
-  sides_held c (Const v) (Or y z) e = cc
-  sides_held c (Const v) (Not y) e = cc
-  sides_held c (Const v) (IsNull y) e = cc
-  sides_held c (Neg x) y e = cc
-  sides_held c (Add x z) y e = cc
-  sides_held c (Sub x z) y e = cc
-  sides_held c (Mul x z) y e = cc
-  sides_held c (Compare d x z) y e = cc
-  sides_held c (And x z) y e = cc
-  sides_held c (Or x z) y e = cc
-  sides_held c (Not x) y e = cc
-  sides_held c (IsNull x) y e = cc
+  sides_held c x y e = unless (holds (Compare c x y) row) (λ t.
+      one_fails (may_compare_column columns c x y) (may_compare_column columns (converse_of c) y x) e
+      (λ f. let n = column_held c x y f in cc)
+      (λ f. let n = column_held (converse_of c) y x f in let r = holds-converse c (val x row) (val y row) in cc))
 
   null_held : (x : Scalar) → may_be_null columns x ≡ false → holds (IsNull x) row ≡ false
   unfolding val
@@ -254,5 +303,5 @@ is_rejected (Some v) there none = none
 pub rejected : (columns : List Sides) (row : Row) (p : Scalar) → IsWithin columns row → may_hold columns p ≡ false
     → Rejects p row
 rejected columns row p within none =
-    let h = neither (has_arithmetic p) (may_be columns p) none in
-    is_rejected (val p row) (plain_value p row h.0) (not_held columns row within p h.1)
+    let h = neither (may_fail p) (may_be columns p) none in
+    is_rejected (val p row) (has_value p row h.0) (not_held columns row within p h.1)

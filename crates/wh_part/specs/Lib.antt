@@ -5,3 +5,7 @@ pub mod Reading
 pub mod Decoding
 pub mod Laws
 pub mod Shape
+pub mod Extent
+pub mod Skim
+pub mod Sketch
+pub mod Outline

@@ -15,7 +15,7 @@ use wh_value::{Row, Value};
 const NUMBER_LIMIT: u64 = 1_000_000_000_000_000_000;
 
 #[tactic(auto, unfolding(crate::specs::Decoding::whole_number_at))]
-fn read_number(bytes: &[u8]) -> Result<(i64, &[u8]), ReadError>
+pub(crate) fn read_number(bytes: &[u8]) -> Result<(i64, &[u8]), ReadError>
     ensures { Gives (λ x. (x.0, x.1.now)) result (whole_number_at bytes.now) }
 {
     let (bits, rest) = read_u64(bytes)?;
@@ -71,7 +71,7 @@ fn read_row(alloc: Global, width: u32, bytes: &[u8]) -> Result<(NumberedRow, &[u
 }
 
 #[tactic(auto, unfolding(crate::specs::Decoding::row_count_at))]
-fn read_row_count(bytes: &[u8]) -> Result<(u32, &[u8]), ReadError>
+pub(crate) fn read_row_count(bytes: &[u8]) -> Result<(u32, &[u8]), ReadError>
     ensures { Gives (λ x. (x.0, x.1.now)) result (row_count_at bytes.now) }
 {
     let (count, rest) = read_u32(bytes)?;

@@ -1,4 +1,4 @@
-ghost use Rattle.std.specs.Prelude.{◌≡◌, map, slice_get};
+ghost use Rattle.std.specs.Prelude.{◌≡◌, Some, map, option_map, slice_get};
 ghost use Rattle.std.specs.Ordering.{is_eq, is_lt, is_gt};
 ghost use Rattle.wh_value.specs.Value.{value_cmp};
 ghost use Rattle.wh_value.specs.View.{value_of};
@@ -10,6 +10,9 @@ ghost use Rattle.wh_part.specs.Holding.{sides_of};
 use crate::{Bounds, PartMeta};
 use wh_scalar::Scalar;
 use wh_value::{Comparison, Value, cmp_values};
+
+// No number is as great.
+const LIMIT: u64 = 1_000_000_000_000_000_000;
 
 impl PartMeta {
     ghost use Rattle.std.specs.Prelude.{◌≡◌};
@@ -27,7 +30,37 @@ impl PartMeta {
             → RejectsEach (scalar_of condition.now) p) }
         ensures rule { result ≡ holding.may_hold (columns_of self.now) (scalar_of condition.now) }
     {
-        condition.has_arithmetic() || may_be(&self.columns, condition)
+        may_fail(condition) || may_be(&self.columns, condition)
+    }
+}
+
+/// Whether it may have no value on some row.
+#[tactic(auto, unfolding(crate::specs::Holding::may_fail))]
+fn may_fail(scalar: &Scalar) -> bool
+    ensures { result ≡ holding.may_fail (scalar_of scalar.now) }
+{
+    match scalar {
+        Scalar::Const(_) | Scalar::Column(_) => false,
+        Scalar::Neg(x) => negated(x.get()).is_none(),
+        Scalar::Add(..) | Scalar::Sub(..) | Scalar::Mul(..) => true,
+        Scalar::Compare(_, x, y) | Scalar::And(x, y) | Scalar::Or(x, y) => {
+            may_fail(x.get()) || may_fail(y.get())
+        }
+        Scalar::Not(x) | Scalar::IsNull(x) => may_fail(x.get()),
+    }
+}
+
+/// What a minus sign makes of a constant, where that is a value.
+fn negated(x: &Scalar) -> Option<Value>
+    ensures { option_map value_of result ≡ holding.constant_of (meaning.Neg (scalar_of x.now)) }
+{
+    match x {
+        Scalar::Const(Value::Number(number)) => match number.checked_neg() {
+            Some(number) if number.unsigned_abs() < LIMIT => Some(Value::Number(number)),
+            _ => None,
+        },
+        Scalar::Const(_) => Some(Value::Null),
+        _ => None,
     }
 }
 
@@ -49,13 +82,37 @@ fn may_compare(columns: &[Bounds], comparison: Comparison, x: &Scalar, y: &Scala
     ensures { result ≡ holding.may_compare (map sides_of columns.now) comparison
         (scalar_of x.now) (scalar_of y.now) }
 {
-    match (x, y) {
-        (Scalar::Column(place), Scalar::Const(value)) => {
-            may_compare_at(columns, *place as usize, comparison, value)
-        }
-        (Scalar::Const(value), Scalar::Column(place)) => {
-            may_compare_at(columns, *place as usize, converse_of(comparison), value)
-        }
+    may_compare_column(columns, comparison, x, y)
+        && may_compare_column(columns, converse_of(comparison), y, x)
+}
+
+/// Whether the first side may meet the comparison, as a column that is compared with a constant.
+fn may_compare_column(columns: &[Bounds], comparison: Comparison, x: &Scalar, y: &Scalar) -> bool
+    ensures { result ≡ holding.may_compare_column (map sides_of columns.now) comparison
+        (scalar_of x.now) (scalar_of y.now) }
+{
+    match x {
+        Scalar::Column(place) => may_compare_constant(columns, *place as usize, comparison, y),
+        _ => true,
+    }
+}
+
+fn may_compare_constant(
+    columns: &[Bounds],
+    place: usize,
+    comparison: Comparison,
+    y: &Scalar,
+) -> bool
+    ensures { result ≡ holding.may_compare_within
+        (slice_get (map sides_of columns.now) place) comparison
+        (holding.constant_of (scalar_of y.now)) }
+{
+    match y {
+        Scalar::Const(value) => may_compare_at(columns, place, comparison, value),
+        Scalar::Neg(y) => match negated(y.get()) {
+            Some(value) => may_compare_at(columns, place, comparison, &value),
+            None => true,
+        },
         _ => true,
     }
 }
@@ -75,7 +132,7 @@ fn converse_of(comparison: Comparison) -> Comparison
 
 fn may_compare_at(columns: &[Bounds], place: usize, comparison: Comparison, value: &Value) -> bool
     ensures { result ≡ holding.may_compare_within
-        (slice_get (map sides_of columns.now) place) comparison (value_of value.now) }
+        (slice_get (map sides_of columns.now) place) comparison (Some (value_of value.now)) }
 {
     match columns.get(place) {
         Some(bounds) => {

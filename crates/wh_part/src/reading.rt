@@ -64,6 +64,30 @@ pub fn read_text(alloc: Global, bytes: &[u8]) -> Result<(Text, &[u8]), ReadError
     Ok((text, rest))
 }
 
+/// The bytes of the text at the front, as `read_text` reads it, and the bytes behind it.
+#[tactic(auto, unfolding(crate::specs::Reading::text_at))]
+pub(crate) fn read_text_bytes(bytes: &[u8]) -> Result<(&[u8], &[u8]), ReadError>
+    ensures { Gives (λ x. (x.0.now, x.1.now)) result (text_at bytes.now) }
+{
+    let (len, rest) = read_u32(bytes)?;
+    let (front, rest) = read_bytes(rest, len)?;
+    let text = tested(front)?;
+    Ok((text, rest))
+}
+
+/// The bytes, if they are a text.
+fn tested(bytes: &[u8]) -> Result<&[u8], ReadError>
+    ensures { Gives (λ text. text.now) result (made_text_of bytes.now) }
+{
+    if bytes.len() > Text::MAX_BYTES {
+        return Err(ReadError::Malformed);
+    }
+    match str::from_utf8(bytes) {
+        Ok(_) => Ok(bytes),
+        Err(_) => Err(ReadError::Malformed),
+    }
+}
+
 fn made_text(alloc: Global, bytes: &[u8]) -> Result<Text, ReadError>
     ensures { Gives (λ text. text) result (made_text_of bytes.now) }
 {

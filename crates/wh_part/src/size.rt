@@ -21,7 +21,8 @@ fn value_size(value: &Value) -> u64
 
 /// The bytes of some values, and those before them.
 fn values_size(before: u64, values: &[Value]) -> Option<u64>
-    ensures { SomeIff result (before + length (flat_map value_bytes (map value_of values.now)) < 2 ^ 64)
+    ensures { SomeIff result
+        (before + length (flat_map value_bytes (map value_of values.now)) < 2 ^ 64)
         (before + length (flat_map value_bytes (map value_of values.now))) }
 {
     let mut size = before;
@@ -44,7 +45,8 @@ fn row_size(before: u64, numbered: &NumberedRow) -> Option<u64>
 
 /// The bytes of some rows, and those before them.
 fn rows_size(before: u64, rows: &[NumberedRow]) -> Option<u64>
-    ensures { SomeIff result (before + length (flat_map row_bytes (map numbered_of rows.now)) < 2 ^ 64)
+    ensures { SomeIff result
+        (before + length (flat_map row_bytes (map numbered_of rows.now)) < 2 ^ 64)
         (before + length (flat_map row_bytes (map numbered_of rows.now))) }
 {
     let mut size = before;

@@ -1,8 +1,7 @@
 //! The rows of a query, by its plan.
 ghost use Rattle.std.specs.Prelude.{◌≡◌, option_map, IfOk};
 ghost use Rattle.wh_fetch.specs.Device.{Counts};
-ghost use Rattle.wh_fetch.specs.DiskFetch.{told_of, faults_of, damage_of, IsRight, GoesOn};
-ghost use Rattle.wh_filed.specs.Filed.{AllShown};
+ghost use Rattle.wh_filed.specs.Fetching.{AllShownBy, AllCovered};
 ghost use Rattle.wh_meaning.specs.Listing.{listed};
 ghost use Rattle.wh_meaning.specs.Query.{eval};
 ghost use Rattle.wh_algebra.specs.View.{query_of};
@@ -14,50 +13,47 @@ use crate::plan;
 use std::alloc::Global;
 use wh_algebra::{Query, Tuple};
 use wh_exec::{Source, run};
-use wh_fetch::{DiskFetch, FetchFault};
+use wh_fetch::{Fetch, FetchFault};
 use wh_listing::{SortKey, listed};
 use wh_value::Row;
-use wh_world::Disk;
 
 /// The rows of a query over its sources, by its plan; None where they are undefined.
-#[tactic(auto, using(wh_fetch::specs::DiskFetch::goes_on, wh_fetch::specs::DiskFetch::goes_none))]
-pub fn answered<'a, D: Disk>(
+pub fn answered<'a, F: Fetch>(
     alloc: Global,
     query: &Query,
     sources: &[Source<'_>],
-    fetch: &mut DiskFetch<D>,
+    fetch: &mut F,
 ) -> Result<Option<Vec<Tuple<'a>>>, FetchFault>
-    requires { IsRight D.Disk fetch.old }
-    ensures rows { AllShown (told_of D.Disk fetch.old) (filed_in sources.now) → IfOk result
+    requires { AllCovered (F.covers fetch.old) (filed_in sources.now) }
+    ensures rows { AllShownBy (F.contents fetch.old) (filed_in sources.now) → IfOk result
         (λ found. bag_found found ≡ eval (query_of query.now) (instance_in sources.now)) }
-    ensures sound { AllShown (told_of D.Disk fetch.old) (filed_in sources.now)
-        → damage_of fetch.new ≡ damage_of fetch.old }
-    ensures same { told_of D.Disk fetch.new ≡ told_of D.Disk fetch.old }
-    ensures goes { GoesOn D.Disk fetch.old fetch.new }
-    ensures counts { Counts (faults_of D.Disk fetch.old) (faults_of D.Disk fetch.new) result }
+    ensures sound { AllShownBy (F.contents fetch.old) (filed_in sources.now)
+        → F.damage fetch.new ≡ F.damage fetch.old }
+    ensures same { F.contents fetch.new ≡ F.contents fetch.old }
+    ensures goes { F.stays fetch.old fetch.new }
+    ensures counts { Counts (F.faults fetch.old) (F.faults fetch.new) result }
 {
     let plan = plan(alloc, query)?;
     run(alloc, plan.get(), sources, fetch)
 }
 
 /// Its rows in the order of keys.
-#[tactic(auto, using(wh_fetch::specs::DiskFetch::goes_on, wh_fetch::specs::DiskFetch::goes_none))]
-pub fn answered_in_order<D: Disk>(
+pub fn answered_in_order<F: Fetch>(
     alloc: Global,
     query: &Query,
     keys: &[SortKey],
     sources: &[Source<'_>],
-    fetch: &mut DiskFetch<D>,
+    fetch: &mut F,
 ) -> Result<Option<Vec<Row>>, FetchFault>
-    requires { IsRight D.Disk fetch.old }
-    ensures rows { AllShown (told_of D.Disk fetch.old) (filed_in sources.now)
+    requires { AllCovered (F.covers fetch.old) (filed_in sources.now) }
+    ensures rows { AllShownBy (F.contents fetch.old) (filed_in sources.now)
         → IfOk result (λ found. rows_found found ≡ option_map (listed (keys_of keys.now))
         (eval (query_of query.now) (instance_in sources.now))) }
-    ensures sound { AllShown (told_of D.Disk fetch.old) (filed_in sources.now)
-        → damage_of fetch.new ≡ damage_of fetch.old }
-    ensures same { told_of D.Disk fetch.new ≡ told_of D.Disk fetch.old }
-    ensures goes { GoesOn D.Disk fetch.old fetch.new }
-    ensures counts { Counts (faults_of D.Disk fetch.old) (faults_of D.Disk fetch.new) result }
+    ensures sound { AllShownBy (F.contents fetch.old) (filed_in sources.now)
+        → F.damage fetch.new ≡ F.damage fetch.old }
+    ensures same { F.contents fetch.new ≡ F.contents fetch.old }
+    ensures goes { F.stays fetch.old fetch.new }
+    ensures counts { Counts (F.faults fetch.old) (F.faults fetch.new) result }
 {
     let Some(tuples) = answered(alloc, query, sources, fetch)? else {
         return Ok(None);

@@ -8,10 +8,7 @@ use Rattle.wh_state.specs.Spelling.{text_payload, change_bytes, column_bytes, of
 use Rattle.wh_state.specs.Spelling.{source_bytes, mode_byte, dynamic_bytes, dynamic_state_bytes}
 use Rattle.wh_state.specs.Task.{TaskState}
 use Rattle.wh_state.specs.Dynamic.{DynamicState}
-use Rattle.wh_task.specs.declared.task.TaskBody.{TaskBody}
-use Rattle.wh_dynamic.specs.declared.query.DynamicQuery.{DynamicQuery}
-use Rattle.wh_record.specs.declared.commit.ChangeIn.{ChangeIn}
-use Rattle.wh_record.specs.View.{change_of, written_of}
+use Rattle.wh_record.specs.View.{UnderstoodChange, change_of, written_of}
 
 pub four_written : (a b c d before one two three after : List ℕ)
     → one ≡ before ++ a → two ≡ one ++ b → three ≡ two ++ c → after ≡ three ++ d → after ≡ before ++ (a ++ b ++ c ++ d)
@@ -81,6 +78,6 @@ commit_written c before one after p q =
     two_written (to_be_bytes w64 c.stamp) (list_bytes change_bytes c.changes) before one after p q
 
 -- what is written of changes is what their texts say
-pub as_written : (changes : List (ChangeIn TaskBody DynamicQuery))
+pub as_written : (changes : List UnderstoodChange)
     → map written_of changes ≡ map change_as_text (map change_of changes)
 as_written changes = sym (map-map change_as_text change_of changes)

@@ -1,5 +1,5 @@
 use wh_dynamic::{DynamicQuery, DynamicState, NamedSource};
-use wh_part::Partition;
+use wh_part::{Outline, Partition};
 use wh_task::{Ending, TaskBody, TaskState};
 use wh_value::{Column, Text};
 
@@ -46,15 +46,16 @@ pub struct TableChange {
 }
 
 /// A new version of a table: partitions of its last one, by their rising numbers, are removed, and
-/// others are added. `width` is the table's number of columns.
+/// others are added. `width` is the table's number of columns. What is added is told by its rows,
+/// or without them.
 #[derive(Debug, Drop)]
-pub struct VersionChange {
+pub struct VersionChangeIn<P> {
     pub id: u32,
     pub data_timestamp: u64,
     pub next_row: u64,
     pub width: u32,
     pub removed: Vec<u64>,
-    pub added: Vec<Partition>,
+    pub added: Vec<P>,
 }
 
 /// A new stream on the table `source`: what is committed there after `offset` is not yet consumed.
@@ -107,11 +108,11 @@ pub struct DynamicChangeIn<Q> {
 
 /// One of the things that a commit changes.
 #[derive(Debug, Drop)]
-pub enum ChangeIn<R, Q> {
+pub enum ChangeIn<R, Q, P> {
     CreatesTable(TableChange),
     /// The object of that id is dropped.
     Drops(u32),
-    PushesVersion(VersionChange),
+    PushesVersion(VersionChangeIn<P>),
     CreatesStream(StreamChange),
     /// The stream of that id is consumed up to that stamp.
     SetsOffset {
@@ -145,20 +146,29 @@ pub enum ChangeIn<R, Q> {
 
 /// Changes, and the stamp at which they are made. There may be none.
 #[derive(Debug, Drop)]
-pub struct CommitIn<R, Q> {
+pub struct CommitIn<R, Q, P> {
     pub stamp: u64,
-    pub changes: Vec<ChangeIn<R, Q>>,
+    pub changes: Vec<ChangeIn<R, Q, P>>,
 }
 
-/// What its bytes give of a commit.
-pub type TextCommit = CommitIn<TaskTexts, DynamicTexts>;
+/// What its bytes give of a commit: texts, and no rows.
+pub type TextCommit = CommitIn<TaskTexts, DynamicTexts, Outline>;
 
-pub type TextChange = ChangeIn<TaskTexts, DynamicTexts>;
+pub type TextChange = ChangeIn<TaskTexts, DynamicTexts, Outline>;
 
-/// A commit with what its texts mean.
-pub type Commit = CommitIn<TaskBody, DynamicQuery>;
+/// A commit with what its texts mean, and with the rows that it adds.
+pub type Commit = CommitIn<TaskBody, DynamicQuery, Partition>;
 
-pub type Change = ChangeIn<TaskBody, DynamicQuery>;
+pub type Change = ChangeIn<TaskBody, DynamicQuery, Partition>;
+
+pub type VersionChange = VersionChangeIn<Partition>;
+
+/// A commit with what its texts mean, whose rows stand in the file alone.
+pub type OutlinedCommit = CommitIn<TaskBody, DynamicQuery, Outline>;
+
+pub type OutlinedChange = ChangeIn<TaskBody, DynamicQuery, Outline>;
+
+pub type OutlinedVersion = VersionChangeIn<Outline>;
 
 pub type TaskChange = TaskChangeIn<TaskBody>;
 

@@ -17,9 +17,9 @@ use crate::commit::{
 use crate::dynamic_decoding::{read_dynamic, read_dynamic_state};
 use crate::format::rise;
 use crate::task_decoding::{read_end, read_run, read_state, read_task};
-use crate::{StreamChange, TableChange, TextChange, TextCommit, VersionChange};
+use crate::{OutlinedVersion, StreamChange, TableChange, TextChange, TextCommit};
 use std::alloc::{AllocError, Global};
-use wh_part::{Partition, ReadError, read_byte, read_text, read_u32, read_u64};
+use wh_part::{Outline, ReadError, read_byte, read_text, read_u32, read_u64};
 use wh_value::{Column, ColumnType};
 
 #[tactic(auto, unfolding(crate::specs::Decoding::type_at))]
@@ -115,36 +115,36 @@ fn read_removed(alloc: Global, bytes: &[u8]) -> Result<(Vec<u64>, &[u8]), ReadEr
     Ok((numbers, rest))
 }
 
-fn read_each_partition(
+fn read_each_outline(
     alloc: Global,
     width: u32,
     count: u32,
     bytes: &[u8],
-) -> Result<(Vec<Partition>, &[u8]), ReadError>
+) -> Result<(Vec<Outline>, &[u8]), ReadError>
     ensures { Gives (λ x. (x.0.items, x.1.now)) result
         (items_at (partition_at width) count bytes.now) }
 {
-    let mut partitions = Vec::new(alloc);
+    let mut outlines = Vec::new(alloc);
     let mut rest = bytes;
     for _ in 0..count {
-        let (partition, after) = Partition::read(alloc, rest, width)?;
-        partitions.push(partition)?;
+        let (outline, after) = Outline::read(alloc, rest, width)?;
+        outlines.push(outline)?;
         rest = after;
     }
-    Ok((partitions, rest))
+    Ok((outlines, rest))
 }
 
-fn read_added(alloc: Global, width: u32, bytes: &[u8]) -> Result<(Vec<Partition>, &[u8]), ReadError>
+fn read_added(alloc: Global, width: u32, bytes: &[u8]) -> Result<(Vec<Outline>, &[u8]), ReadError>
     ensures { Gives (λ x. (x.0.items, x.1.now)) result
         (list_at (number_at w32) (partition_at width) bytes.now) }
 {
     let (count, rest) = read_u32(bytes)?;
-    let (added, rest) = read_each_partition(alloc, width, count, rest)?;
+    let (added, rest) = read_each_outline(alloc, width, count, rest)?;
     Ok((added, rest))
 }
 
 #[tactic(auto, unfolding(crate::specs::Decoding::version_at))]
-fn read_version(alloc: Global, bytes: &[u8]) -> Result<(VersionChange, &[u8]), ReadError>
+fn read_version(alloc: Global, bytes: &[u8]) -> Result<(OutlinedVersion, &[u8]), ReadError>
     ensures { Gives (λ x. (version_change_of x.0, x.1.now)) result (version_at bytes.now) }
 {
     let (id, rest) = read_u32(bytes)?;
@@ -153,7 +153,7 @@ fn read_version(alloc: Global, bytes: &[u8]) -> Result<(VersionChange, &[u8]), R
     let (width, rest) = read_u32(rest)?;
     let (removed, rest) = read_removed(alloc, rest)?;
     let (added, rest) = read_added(alloc, width, rest)?;
-    let version = VersionChange {
+    let version = OutlinedVersion {
         id,
         data_timestamp,
         next_row,

@@ -7,10 +7,12 @@ ghost use Rattle.wh_state.specs.Spelling.{stream_kind_byte, stream_bytes, offset
 ghost use Rattle.wh_state.specs.Spelling.{change_bytes, payload_of, NumbersRiseFrom, IsColumn};
 ghost use Rattle.wh_state.specs.Spelling.{IsTableChange, IsVersionChange, IsStreamChange, IsChange};
 ghost use Rattle.wh_state.specs.Spelling.{IsTextCommit};
+ghost use Rattle.wh_state.specs.Commit as machine;
 ghost use Rattle.wh_state.specs.Commit.{as_text};
 ghost use Rattle.wh_value.specs.View.{type_of, column_of};
 ghost use Rattle.wh_record.specs.View.{table_change_of, version_change_of, stream_change_of};
-ghost use Rattle.wh_record.specs.View.{written_of, commit_of};
+ghost use Rattle.wh_record.specs.View.{written_of, written_with, commit_of};
+ghost use Rattle.wh_record.specs.declared.commit.VersionChangeIn.{VersionChangeIn};
 
 use crate::commit::{
     DROP_TAG, DYNAMIC_STATE_TAG, DYNAMIC_TAG, END_TAG, OFFSET_TAG, RUN_TAG, STATE_TAG, STREAM_TAG,
@@ -19,9 +21,11 @@ use crate::commit::{
 use crate::dynamic_encoding::{write_dynamic, write_dynamic_state};
 use crate::format::{has_rows, rise};
 use crate::task_encoding::{write_end, write_run, write_state, write_task};
-use crate::{Change, Commit, StreamChange, TableChange, VersionChange};
+use crate::{Change, ChangeIn, Commit, StreamChange, TableChange, VersionChange};
 use std::alloc::{AllocError, Global};
+use wh_dynamic::DynamicQuery;
 use wh_part::{Partition, write_text, write_u32, write_u64};
+use wh_task::TaskBody;
 use wh_value::{Bytes, Column, ColumnType};
 use wh_world::Framed;
 
@@ -198,56 +202,73 @@ fn write_offset(out: &mut Bytes, id: u32, offset: u64) -> Result<(), AllocError>
     Ok(())
 }
 
+/// Adds a change that is no new version, whatever is told of partitions; one that is, is refused.
 #[tactic(auto, unfolding(wh_state::specs::Spelling::change_bytes))]
-pub(crate) fn write_change(out: &mut Bytes, change: &Change) -> Result<(), AllocError>
+pub(crate) fn write_plain<P>(
+    out: &mut Bytes,
+    change: &ChangeIn<TaskBody, DynamicQuery, P>,
+) -> Result<(), AllocError>
+    ensures written { (version_by : VersionChangeIn P → machine.VersionChange) → OnOk result
+        (out.new ≡ out.old ++ change_bytes (written_with version_by change.now)) }
+    ensures spelled { (version_by : VersionChangeIn P → machine.VersionChange) → OnOk result
+        (IsChange (written_with version_by change.now)) }
+{
+    match change {
+        ChangeIn::PushesVersion(_) => Err(AllocError),
+        ChangeIn::CreatesTable(table) => {
+            out.push(TABLE_TAG)?;
+            write_table(out, table)
+        }
+        ChangeIn::Drops(id) => {
+            out.push(DROP_TAG)?;
+            write_u32(out, *id)
+        }
+        ChangeIn::CreatesStream(stream) => {
+            out.push(STREAM_TAG)?;
+            write_stream(out, stream)
+        }
+        ChangeIn::SetsOffset { id, offset } => {
+            out.push(OFFSET_TAG)?;
+            write_offset(out, *id, *offset)
+        }
+        ChangeIn::CreatesTask(task) => {
+            out.push(TASK_TAG)?;
+            write_task(out, task)
+        }
+        ChangeIn::SetsTask { id, state } => {
+            out.push(STATE_TAG)?;
+            write_state(out, *id, *state)
+        }
+        ChangeIn::StartsRun { root, tasks } => {
+            out.push(RUN_TAG)?;
+            write_run(out, *root, tasks)
+        }
+        ChangeIn::FinishesTask { root, task, ending } => {
+            out.push(END_TAG)?;
+            write_end(out, *root, *task, *ending)
+        }
+        ChangeIn::CreatesDynamic(table) => {
+            out.push(DYNAMIC_TAG)?;
+            write_dynamic(out, table)
+        }
+        ChangeIn::SetsDynamic { id, state } => {
+            out.push(DYNAMIC_STATE_TAG)?;
+            write_dynamic_state(out, *id, *state)
+        }
+    }
+}
+
+#[tactic(auto, unfolding(wh_state::specs::Spelling::change_bytes))]
+fn write_change(out: &mut Bytes, change: &Change) -> Result<(), AllocError>
     ensures written { OnOk result (out.new ≡ out.old ++ change_bytes (written_of change.now)) }
     ensures spelled { OnOk result (IsChange (written_of change.now)) }
 {
     match change {
-        Change::CreatesTable(table) => {
-            out.push(TABLE_TAG)?;
-            write_table(out, table)
-        }
-        Change::Drops(id) => {
-            out.push(DROP_TAG)?;
-            write_u32(out, *id)
-        }
         Change::PushesVersion(version) => {
             out.push(VERSION_TAG)?;
             write_version(out, version)
         }
-        Change::CreatesStream(stream) => {
-            out.push(STREAM_TAG)?;
-            write_stream(out, stream)
-        }
-        Change::SetsOffset { id, offset } => {
-            out.push(OFFSET_TAG)?;
-            write_offset(out, *id, *offset)
-        }
-        Change::CreatesTask(task) => {
-            out.push(TASK_TAG)?;
-            write_task(out, task)
-        }
-        Change::SetsTask { id, state } => {
-            out.push(STATE_TAG)?;
-            write_state(out, *id, *state)
-        }
-        Change::StartsRun { root, tasks } => {
-            out.push(RUN_TAG)?;
-            write_run(out, *root, tasks)
-        }
-        Change::FinishesTask { root, task, ending } => {
-            out.push(END_TAG)?;
-            write_end(out, *root, *task, *ending)
-        }
-        Change::CreatesDynamic(table) => {
-            out.push(DYNAMIC_TAG)?;
-            write_dynamic(out, table)
-        }
-        Change::SetsDynamic { id, state } => {
-            out.push(DYNAMIC_STATE_TAG)?;
-            write_dynamic_state(out, *id, *state)
-        }
+        _ => write_plain(out, change),
     }
 }
 

@@ -7,13 +7,15 @@ mod dynamic_decoding;
 mod dynamic_encoding;
 mod encoding;
 mod format;
+mod outlining;
 mod size;
 mod task_decoding;
 mod task_encoding;
 
 pub use commit::{
-    Change, ChangeIn, Commit, CommitIn, DynamicChange, DynamicChangeIn, DynamicTexts, StreamChange,
-    TableChange, TaskChange, TaskChangeIn, TaskTexts, TextChange, TextCommit, VersionChange,
+    Change, ChangeIn, Commit, CommitIn, DynamicChange, DynamicChangeIn, DynamicTexts,
+    OutlinedChange, OutlinedCommit, OutlinedVersion, StreamChange, TableChange, TaskChange,
+    TaskChangeIn, TaskTexts, TextChange, TextCommit, VersionChange, VersionChangeIn,
 };
 pub use decoding::spelling_fixes_commits;
 pub use size::partitions_stand_in_payload;

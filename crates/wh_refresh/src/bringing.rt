@@ -2,8 +2,7 @@
 ghost use Rattle.std.specs.Prelude.{◌≡◌, ℕ, None, List, IfOk, IfSome, IfNone};
 ghost use Rattle.wh_reply.specs.View.{action_view};
 ghost use Rattle.wh_fetch.specs.Device.{Counts};
-ghost use Rattle.wh_fetch.specs.DiskFetch.{told_of, faults_of, damage_of, IsRight, GoesOn};
-ghost use Rattle.wh_filed.specs.Filed.{AllShown};
+ghost use Rattle.wh_filed.specs.Fetching.{AllShownBy, AllCovered};
 ghost use Rattle.wh_state.specs.Objects as state;
 ghost use Rattle.wh_state.specs.Moments.{evaluated_at};
 ghost use Rattle.wh_state.specs.Stored.{table_meant};
@@ -25,31 +24,29 @@ use std::alloc::Global;
 use wh_bag::Bag;
 use wh_catalog::{StoredObject, StoredTable};
 use wh_dynamic::Dynamic;
-use wh_fetch::{DiskFetch, FetchFault};
-use wh_filed::load;
+use wh_fetch::{Fetch, FetchFault};
+use wh_filed::fetch_all;
 use wh_reply::RefreshAction;
 use wh_table::by_rows;
-use wh_world::Disk;
 
 /// Those of some ids, or None where an evaluation is undefined.
-#[tactic(auto, using(wh_fetch::specs::DiskFetch::goes_none, wh_fetch::specs::DiskFetch::goes_on))]
-pub(crate) fn bring_all<D: Disk>(
+pub(crate) fn bring_all<F: Fetch>(
     alloc: Global,
     objects: &[&StoredObject],
     moment: u64,
     ids: &[u32],
-    fetch: &mut DiskFetch<D>,
+    fetch: &mut F,
 ) -> Result<Option<Vec<Brought>>, FetchFault>
-    requires { IsRight D.Disk fetch.old }
-    ensures brought { AllShown (told_of D.Disk fetch.old) (filed_at_objects objects.now)
+    requires { AllCovered (F.covers fetch.old) (filed_at_objects objects.now) }
+    ensures brought { AllShownBy (F.contents fetch.old) (filed_at_objects objects.now)
         → IfOk result (λ found. (stamp : ℕ) → RiseAbove 0 ids.now
         → BringsOr (stored_in objects.now) found
         (machine.brought_all stamp moment ids.now (objects_in objects.now))) }
-    ensures sound { AllShown (told_of D.Disk fetch.old) (filed_at_objects objects.now)
-        → damage_of fetch.new ≡ damage_of fetch.old }
-    ensures same { told_of D.Disk fetch.new ≡ told_of D.Disk fetch.old }
-    ensures goes { GoesOn D.Disk fetch.old fetch.new }
-    ensures counts { Counts (faults_of D.Disk fetch.old) (faults_of D.Disk fetch.new) result }
+    ensures sound { AllShownBy (F.contents fetch.old) (filed_at_objects objects.now)
+        → F.damage fetch.new ≡ F.damage fetch.old }
+    ensures same { F.contents fetch.new ≡ F.contents fetch.old }
+    ensures goes { F.stays fetch.old fetch.new }
+    ensures counts { Counts (F.faults fetch.old) (F.faults fetch.new) result }
 {
     let mut brought = Vec::new(alloc);
     for id in ids {
@@ -61,26 +58,25 @@ pub(crate) fn bring_all<D: Disk>(
     Ok(Some(brought))
 }
 
-#[tactic(auto, using(wh_fetch::specs::DiskFetch::goes_none, wh_fetch::specs::DiskFetch::goes_on))]
-fn bring<D: Disk>(
+fn bring<F: Fetch>(
     alloc: Global,
     objects: &[&StoredObject],
     before: &[Brought],
     moment: u64,
     id: u32,
-    fetch: &mut DiskFetch<D>,
+    fetch: &mut F,
 ) -> Result<Option<Brought>, FetchFault>
-    requires { IsRight D.Disk fetch.old }
-    ensures brought { AllShown (told_of D.Disk fetch.old) (filed_at_objects objects.now)
+    requires { AllCovered (F.covers fetch.old) (filed_at_objects objects.now) }
+    ensures brought { AllShownBy (F.contents fetch.old) (filed_at_objects objects.now)
         → IfOk result (λ found. (stamp : ℕ) (bs : List machine.Brought)
         → AreBrought (stored_in objects.now) before.now bs → AreAbove 0 bs → sought id bs ≡ None
         → BringsOneOr (stored_in objects.now) found
         (machine.brought_one (after_all stamp moment bs (objects_in objects.now)) moment id)) }
-    ensures sound { AllShown (told_of D.Disk fetch.old) (filed_at_objects objects.now)
-        → damage_of fetch.new ≡ damage_of fetch.old }
-    ensures same { told_of D.Disk fetch.new ≡ told_of D.Disk fetch.old }
-    ensures goes { GoesOn D.Disk fetch.old fetch.new }
-    ensures counts { Counts (faults_of D.Disk fetch.old) (faults_of D.Disk fetch.new) result }
+    ensures sound { AllShownBy (F.contents fetch.old) (filed_at_objects objects.now)
+        → F.damage fetch.new ≡ F.damage fetch.old }
+    ensures same { F.contents fetch.new ≡ F.contents fetch.old }
+    ensures goes { F.stays fetch.old fetch.new }
+    ensures counts { Counts (F.faults fetch.old) (F.faults fetch.new) result }
 {
     let Some(dynamic) = dynamic_at(objects, id) else {
         return Ok(None);
@@ -143,30 +139,30 @@ fn by_mode(dynamic: &Dynamic) -> RefreshAction
 }
 
 // The version that its query makes, or None where it is undefined.
-#[tactic(auto, using(wh_fetch::specs::DiskFetch::goes_none, wh_fetch::specs::DiskFetch::goes_on))]
-fn new_rows<D: Disk>(
+fn new_rows<F: Fetch>(
     alloc: Global,
     objects: &[&StoredObject],
     before: &[Brought],
     moment: u64,
     dynamic: &Dynamic,
     table: &StoredTable,
-    fetch: &mut DiskFetch<D>,
+    fetch: &mut F,
 ) -> Result<Option<NewRows>, FetchFault>
-    requires { IsRight D.Disk fetch.old }
-    ensures made { AllShown (told_of D.Disk fetch.old) (filed_at_objects objects.now)
-        → AllShown (told_of D.Disk fetch.old) (filed_of table.now)
+    requires objects { AllCovered (F.covers fetch.old) (filed_at_objects objects.now) }
+    requires own { AllCovered (F.covers fetch.old) (filed_of table.now) }
+    ensures made { AllShownBy (F.contents fetch.old) (filed_at_objects objects.now)
+        → AllShownBy (F.contents fetch.old) (filed_of table.now)
         → IfOk result (λ found. (stamp : ℕ) (bs : List machine.Brought)
         → AreBrought (stored_in objects.now) before.now bs → AreAbove 0 bs
         → MakesRows found (table_of table.now)
         (evaluated_at (after_all stamp moment bs (objects_in objects.now)) moment
         (dynamic_of dynamic.now))) }
-    ensures sound { AllShown (told_of D.Disk fetch.old) (filed_at_objects objects.now)
-        → AllShown (told_of D.Disk fetch.old) (filed_of table.now)
-        → damage_of fetch.new ≡ damage_of fetch.old }
-    ensures same { told_of D.Disk fetch.new ≡ told_of D.Disk fetch.old }
-    ensures goes { GoesOn D.Disk fetch.old fetch.new }
-    ensures counts { Counts (faults_of D.Disk fetch.old) (faults_of D.Disk fetch.new) result }
+    ensures sound { AllShownBy (F.contents fetch.old) (filed_at_objects objects.now)
+        → AllShownBy (F.contents fetch.old) (filed_of table.now)
+        → F.damage fetch.new ≡ F.damage fetch.old }
+    ensures same { F.contents fetch.new ≡ F.contents fetch.old }
+    ensures goes { F.stays fetch.old fetch.new }
+    ensures counts { Counts (F.faults fetch.old) (F.faults fetch.new) result }
 {
     let Some(rows) = rows_by_query(alloc, objects, before, moment, dynamic, fetch)? else {
         return Ok(None);
@@ -181,26 +177,25 @@ fn new_rows<D: Disk>(
 }
 
 // What its query gives, or None where that is undefined.
-#[tactic(auto, using(wh_fetch::specs::DiskFetch::goes_none, wh_fetch::specs::DiskFetch::goes_on))]
-fn rows_by_query<D: Disk>(
+fn rows_by_query<F: Fetch>(
     alloc: Global,
     objects: &[&StoredObject],
     before: &[Brought],
     moment: u64,
     dynamic: &Dynamic,
-    fetch: &mut DiskFetch<D>,
+    fetch: &mut F,
 ) -> Result<Option<Bag>, FetchFault>
-    requires { IsRight D.Disk fetch.old }
-    ensures evaluated { AllShown (told_of D.Disk fetch.old) (filed_at_objects objects.now)
+    requires { AllCovered (F.covers fetch.old) (filed_at_objects objects.now) }
+    ensures evaluated { AllShownBy (F.contents fetch.old) (filed_at_objects objects.now)
         → IfOk result (λ found. (stamp : ℕ) (bs : List machine.Brought)
         → AreBrought (stored_in objects.now) before.now bs → AreAbove 0 bs
         → found ≡ evaluated_at (after_all stamp moment bs (objects_in objects.now)) moment
         (dynamic_of dynamic.now)) }
-    ensures sound { AllShown (told_of D.Disk fetch.old) (filed_at_objects objects.now)
-        → damage_of fetch.new ≡ damage_of fetch.old }
-    ensures same { told_of D.Disk fetch.new ≡ told_of D.Disk fetch.old }
-    ensures goes { GoesOn D.Disk fetch.old fetch.new }
-    ensures counts { Counts (faults_of D.Disk fetch.old) (faults_of D.Disk fetch.new) result }
+    ensures sound { AllShownBy (F.contents fetch.old) (filed_at_objects objects.now)
+        → F.damage fetch.new ≡ F.damage fetch.old }
+    ensures same { F.contents fetch.new ≡ F.contents fetch.old }
+    ensures goes { F.stays fetch.old fetch.new }
+    ensures counts { Counts (F.faults fetch.old) (F.faults fetch.new) result }
 {
     let held = sources_held(alloc, objects, before, moment, dynamic.reads())?;
     let sources = sources_of(alloc, &held)?;
@@ -208,24 +203,23 @@ fn rows_by_query<D: Disk>(
 }
 
 // The edits that bring the rows of a table to these. Its partitions are given back.
-#[tactic(auto, using(wh_fetch::specs::DiskFetch::goes_none, wh_fetch::specs::DiskFetch::goes_on))]
-fn rebased<D: Disk>(
+fn rebased<F: Fetch>(
     alloc: Global,
     table: &StoredTable,
     rows: Bag,
-    fetch: &mut DiskFetch<D>,
+    fetch: &mut F,
 ) -> Result<Rebased, FetchFault>
-    requires { IsRight D.Disk fetch.old }
-    ensures rebased { AllShown (told_of D.Disk fetch.old) (filed_of table.now)
+    requires { AllCovered (F.covers fetch.old) (filed_of table.now) }
+    ensures rebased { AllShownBy (F.contents fetch.old) (filed_of table.now)
         → IfOk result (λ r. IsRebased r (last_rows (table_meant (table_of table.now))) rows) }
-    ensures sound { AllShown (told_of D.Disk fetch.old) (filed_of table.now)
-        → damage_of fetch.new ≡ damage_of fetch.old }
-    ensures same { told_of D.Disk fetch.new ≡ told_of D.Disk fetch.old }
-    ensures goes { GoesOn D.Disk fetch.old fetch.new }
-    ensures counts { Counts (faults_of D.Disk fetch.old) (faults_of D.Disk fetch.new) result }
+    ensures sound { AllShownBy (F.contents fetch.old) (filed_of table.now)
+        → F.damage fetch.new ≡ F.damage fetch.old }
+    ensures same { F.contents fetch.new ≡ F.contents fetch.old }
+    ensures goes { F.stays fetch.old fetch.new }
+    ensures counts { Counts (F.faults fetch.old) (F.faults fetch.new) result }
 {
     let standing = table.standing(alloc)?;
-    let old = load(alloc, &standing, fetch)?;
+    let old = fetch_all(alloc, &standing, fetch)?;
     let sorted = by_rows(alloc, &old, &[])?;
     let found = rebase(alloc, &sorted, &rows)?;
     Ok(found)

@@ -6,8 +6,7 @@ ghost use Rattle.wh_naming.specs.View.{named_of};
 ghost use Rattle.wh_algebra.specs.View.{query_of as plain_query_of};
 ghost use Rattle.wh_exec.specs.Source.{filed_in, instance_in};
 ghost use Rattle.wh_fetch.specs.Device.{Counts};
-ghost use Rattle.wh_fetch.specs.DiskFetch.{told_of, faults_of, damage_of, IsRight, GoesOn};
-ghost use Rattle.wh_filed.specs.Filed.{AllShown};
+ghost use Rattle.wh_filed.specs.Fetching.{AllShownBy, AllCovered};
 ghost use Rattle.wh_state.specs.State.{at_id};
 ghost use Rattle.wh_state.specs.Bound.{named_as, names_among, query_bound};
 ghost use Rattle.wh_dynamic.specs.View.{query_of, source_of};
@@ -21,52 +20,50 @@ use wh_bind::bind_query;
 use wh_catalog::{StoredObject, named_as};
 use wh_dynamic::{DynamicQuery, NamedSource};
 use wh_exec::{Source, collected};
-use wh_fetch::{DiskFetch, FetchFault};
+use wh_fetch::{Fetch, FetchFault};
 use wh_naming::Named;
 use wh_plan::answered;
-use wh_world::Disk;
 
 /// The rows of a query over its sources, or None where it is undefined.
-#[tactic(auto, unfolding(wh_bind::specs::View::query_reading), using(wh_fetch::specs::DiskFetch::goes_none, wh_fetch::specs::DiskFetch::goes_on))]
-pub(crate) fn evaluated<D: Disk>(
+#[tactic(auto, unfolding(wh_bind::specs::View::query_reading))]
+pub(crate) fn evaluated<F: Fetch>(
     alloc: Global,
     objects: &[&StoredObject],
     query: &DynamicQuery,
     sources: &[Source<'_>],
-    fetch: &mut DiskFetch<D>,
+    fetch: &mut F,
 ) -> Result<Option<Bag>, FetchFault>
-    requires { IsRight D.Disk fetch.old }
-    ensures found { AllShown (told_of D.Disk fetch.old) (filed_in sources.now)
+    requires { AllCovered (F.covers fetch.old) (filed_in sources.now) }
+    ensures found { AllShownBy (F.contents fetch.old) (filed_in sources.now)
         → IfOk result (λ found. found ≡
         eval (query_bound (objects_in objects.now) (query_of query.now)).query
         (instance_in sources.now)) }
-    ensures sound { AllShown (told_of D.Disk fetch.old) (filed_in sources.now)
-        → damage_of fetch.new ≡ damage_of fetch.old }
-    ensures same { told_of D.Disk fetch.new ≡ told_of D.Disk fetch.old }
-    ensures goes { GoesOn D.Disk fetch.old fetch.new }
-    ensures counts { Counts (faults_of D.Disk fetch.old) (faults_of D.Disk fetch.new) result }
+    ensures sound { AllShownBy (F.contents fetch.old) (filed_in sources.now)
+        → F.damage fetch.new ≡ F.damage fetch.old }
+    ensures same { F.contents fetch.new ≡ F.contents fetch.old }
+    ensures goes { F.stays fetch.old fetch.new }
+    ensures counts { Counts (F.faults fetch.old) (F.faults fetch.new) result }
 {
     let names = names_among(alloc, objects, &query.sources)?;
     let bound = bind_query(alloc, &names, 0, query.tree.get())?;
     evaluated_over(alloc, &bound.get().query, sources, fetch)
 }
 
-#[tactic(auto, using(wh_fetch::specs::DiskFetch::goes_none, wh_fetch::specs::DiskFetch::goes_on))]
-fn evaluated_over<D: Disk>(
+fn evaluated_over<F: Fetch>(
     alloc: Global,
     query: &Query,
     sources: &[Source<'_>],
-    fetch: &mut DiskFetch<D>,
+    fetch: &mut F,
 ) -> Result<Option<Bag>, FetchFault>
-    requires { IsRight D.Disk fetch.old }
-    ensures found { AllShown (told_of D.Disk fetch.old) (filed_in sources.now)
+    requires { AllCovered (F.covers fetch.old) (filed_in sources.now) }
+    ensures found { AllShownBy (F.contents fetch.old) (filed_in sources.now)
         → IfOk result
         (λ found. found ≡ eval (plain_query_of query.now) (instance_in sources.now)) }
-    ensures sound { AllShown (told_of D.Disk fetch.old) (filed_in sources.now)
-        → damage_of fetch.new ≡ damage_of fetch.old }
-    ensures same { told_of D.Disk fetch.new ≡ told_of D.Disk fetch.old }
-    ensures goes { GoesOn D.Disk fetch.old fetch.new }
-    ensures counts { Counts (faults_of D.Disk fetch.old) (faults_of D.Disk fetch.new) result }
+    ensures sound { AllShownBy (F.contents fetch.old) (filed_in sources.now)
+        → F.damage fetch.new ≡ F.damage fetch.old }
+    ensures same { F.contents fetch.new ≡ F.contents fetch.old }
+    ensures goes { F.stays fetch.old fetch.new }
+    ensures counts { Counts (F.faults fetch.old) (F.faults fetch.new) result }
 {
     let Some(tuples) = answered(alloc, query, sources, fetch)? else {
         return Ok(None);

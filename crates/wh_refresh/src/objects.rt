@@ -1,5 +1,6 @@
 //! Objects by their ids, in a list of them.
-ghost use Rattle.std.specs.Prelude.{◌≡◌, ◌++◌, map, option_map, IfSome, OnOk, IfOk};
+ghost use Rattle.std.specs.Prelude.{◌≡◌, ◌++◌, map, option_map, Contains, IfSome, OnOk, IfOk};
+ghost use Rattle.std.specs.List.{AllByRecursion};
 ghost use Rattle.std.specs.Option.{option_copied};
 ghost use Rattle.wh_filed.specs.Filed.{AreAmong};
 ghost use Rattle.wh_state.specs.State.{at_id};
@@ -74,7 +75,7 @@ pub(crate) fn table_at<'a>(objects: &[&'a StoredObject], id: u32) -> Option<&'a 
     ensures meant { option_map (λ t. table_meant (table_of t.now)) result
         ≡ state.table_at (objects_in objects.now) id }
     ensures among { IfSome result (λ t.
-        AreAmong (tables.filed_of t.now) (filed_at_objects objects.now)) }
+        AllByRecursion (Contains (filed_at_objects objects.now)) (tables.filed_of t.now)) }
 {
     let object = object_at(objects, id)?;
     object.kind().table()

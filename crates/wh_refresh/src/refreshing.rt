@@ -3,8 +3,7 @@ ghost use Rattle.std.specs.Prelude.{◌≡◌, ℕ, not, option_map, IfOk};
 ghost use Rattle.std.specs.List.{list_any};
 ghost use Rattle.wh_reply.specs.View.{refusal_view};
 ghost use Rattle.wh_fetch.specs.Device.{Counts};
-ghost use Rattle.wh_fetch.specs.DiskFetch.{told_of, faults_of, damage_of, IsRight, GoesOn};
-ghost use Rattle.wh_filed.specs.Filed.{AllShown};
+ghost use Rattle.wh_filed.specs.Fetching.{AllShownBy, AllCovered};
 ghost use Rattle.wh_state.specs.State.{State};
 ghost use Rattle.wh_state.specs.Objects as state;
 ghost use Rattle.wh_moment.specs.Upstream.{dynamics_of};
@@ -21,10 +20,9 @@ use crate::writing::{changes, lines};
 use std::alloc::{AllocError, Global};
 use wh_catalog::StoredObject;
 use wh_dynamic::{brought, upstream};
-use wh_fetch::{DiskFetch, FetchFault};
+use wh_fetch::{Fetch, FetchFault};
 use wh_record::Change;
 use wh_reply::{Refreshed, Refusal};
-use wh_world::Disk;
 
 /// Who asks for a refresh: a statement is refused where a table is suspended.
 #[derive(Clone, Copy, Debug, PartialEq, Eq)]
@@ -43,27 +41,26 @@ pub enum Refreshing {
 
 /// The refresh of the table of an id to a moment, with all of its upstream that is below it.
 /// `objects` are all objects by their ids.
-#[tactic(auto, using(wh_fetch::specs::DiskFetch::goes_none, wh_fetch::specs::DiskFetch::goes_on))]
-pub fn refresh<D: Disk>(
+pub fn refresh<F: Fetch>(
     alloc: Global,
     objects: &[&StoredObject],
     asked: Asked,
     id: u32,
     moment: u64,
-    fetch: &mut DiskFetch<D>,
+    fetch: &mut F,
 ) -> Result<Refreshing, FetchFault>
-    requires { IsRight D.Disk fetch.old }
-    ensures refreshed { AllShown (told_of D.Disk fetch.old) (filed_at_objects objects.now)
+    requires { AllCovered (F.covers fetch.old) (filed_at_objects objects.now) }
+    ensures refreshed { AllShownBy (F.contents fetch.old) (filed_at_objects objects.now)
         → IfOk result (λ r. (s : State) → s.objects ≡ objects_in objects.now
         → RefreshesAs s.last (stored_in objects.now) r
         (machine.refresh s (besides asked s.objects id) id moment)) }
-    // Over any disk.
+    // Over any fetch.
     ensures read { IfOk result (λ r. AreRead r) }
-    ensures sound { AllShown (told_of D.Disk fetch.old) (filed_at_objects objects.now)
-        → damage_of fetch.new ≡ damage_of fetch.old }
-    ensures same { told_of D.Disk fetch.new ≡ told_of D.Disk fetch.old }
-    ensures goes { GoesOn D.Disk fetch.old fetch.new }
-    ensures counts { Counts (faults_of D.Disk fetch.old) (faults_of D.Disk fetch.new) result }
+    ensures sound { AllShownBy (F.contents fetch.old) (filed_at_objects objects.now)
+        → F.damage fetch.new ≡ F.damage fetch.old }
+    ensures same { F.contents fetch.new ≡ F.contents fetch.old }
+    ensures goes { F.stays fetch.old fetch.new }
+    ensures counts { Counts (F.faults fetch.old) (F.faults fetch.new) result }
 {
     let all = watched(alloc, objects)?;
     let mut ids = upstream(alloc, &all, id)?;

@@ -1,7 +1,7 @@
 //! What the sources of a dynamic table hold at a moment, some of which were brought to it.
-ghost use Rattle.std.specs.Prelude.{◌≡◌, ◌||◌, ℕ, List, is_some, IfOk};
+ghost use Rattle.std.specs.Prelude.{◌≡◌, ◌||◌, ℕ, List, is_some, Contains, IfOk};
+ghost use Rattle.std.specs.List.{AllByRecursion};
 ghost use Rattle.wh_exec.specs.Source.{filed_in, instance_in};
-ghost use Rattle.wh_filed.specs.Filed.{AreAmong};
 ghost use Rattle.wh_state.specs.Moments.{bag_at, instance_at};
 ghost use Rattle.wh_machine.specs.Refresh as machine;
 ghost use Rattle.wh_machine.specs.Brought.{after_all, AreAbove, edits_sought};
@@ -38,7 +38,7 @@ pub(crate) fn sources_held<'a>(
         → bags_held sources.items
         ≡ instance_at (after_all stamp moment bs (objects_in objects.now)) moment ids.now) }
     ensures among { IfOk result (λ sources.
-        AreAmong (filed_held sources.items) (filed_at_objects objects.now)) }
+        AllByRecursion (Contains (filed_at_objects objects.now)) (filed_held sources.items)) }
 {
     let mut sources = Vec::new(alloc);
     for id in ids {
@@ -60,7 +60,7 @@ fn source_held<'a>(
         → bag_held source
         ≡ bag_at (after_all stamp moment bs (objects_in objects.now)) moment id) }
     ensures among { IfOk result (λ source.
-        AreAmong (filed_by source) (filed_at_objects objects.now)) }
+        AllByRecursion (Contains (filed_at_objects objects.now)) (filed_by source)) }
 {
     let Some(table) = table_at(objects, id) else {
         return Ok(SourceHeld {

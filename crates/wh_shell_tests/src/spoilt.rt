@@ -88,6 +88,10 @@ fn a_partition_is_passed_over_where_no_row_can_meet_the_condition(rt: HostRuntim
         (b"(5), (7)", b"K = 8", false),
         (b"(5), (5)", b"K <> 5", false),
         (b"(5), (7)", b"K <> 5", true),
+        (b"(5), (7)", b"K = -1", false),
+        (b"(-7), (5)", b"K = -1", true),
+        (b"(-7), (-5)", b"-4 <= K", false),
+        (b"(5), (7)", b"K < -(K)", true),
         (b"(5), (7)", b"5 > K", false),
         (b"(5), (7)", b"5 >= K", true),
         (b"(5), (7)", b"7 < K", false),
@@ -136,11 +140,11 @@ fn reads_of(
 #[test]
 fn the_last_256_partitions_are_read_once(rt: HostRuntime) {
     let alloc = rt.alloc();
-    let opening = reads_of(&rt, alloc, 300, 0);
-    let first = reads_of(&rt, alloc, 300, 1);
-    let second = reads_of(&rt, alloc, 300, 2);
-    assert!(rt; opening <= first && first - opening == 300);
-    assert!(rt; first <= second && second - first == 300);
+    let opening = reads_of(&rt, alloc, 600, 0);
+    let first = reads_of(&rt, alloc, 600, 1);
+    let second = reads_of(&rt, alloc, 600, 2);
+    assert!(rt; opening <= first && first - opening == 600);
+    assert!(rt; first <= second && second - first == 600);
     let kept = reads_of(&rt, alloc, 256, 1);
     assert!(rt; reads_of(&rt, alloc, 256, 2) == kept);
 }

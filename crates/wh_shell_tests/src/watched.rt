@@ -107,7 +107,7 @@ impl<E: Disk> Disk for WatchedDisk<E> {
 fn spare_disk(rt: &impl Abort, alloc: Global, file: &[u8], failing: &[u64]) -> MemDisk {
     let file = file.to_vec(alloc).expect(rt, "memory");
     let failing = failing.to_vec(alloc).expect(rt, "memory");
-    MemDisk::new(alloc, file, 1 << 16, 2000, failing).expect(rt, "memory")
+    MemDisk::new(alloc, file, 1 << 17, 4000, failing).expect(rt, "memory")
 }
 
 /// How a run ended, what it printed, and how often it read.

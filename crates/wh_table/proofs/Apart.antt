@@ -1,7 +1,7 @@
 -- Tests of apartness, and what they say.
 use Rattle.std.proofs.Common.{◌≡◌, ℕ, ◌+◌, ◌<◌, ◌≤◌, inr, cond, filter, Bool, true, false, List, [], ◌∷◌, ◌++◌, IsTrue}
 use Rattle.std.proofs.Common.{refl, sym, ap, ◌∙◌, arith, map, length, take, drop, get_or, max}
-use Rattle.std.proofs.lemmas.List.{take_more, drop_more}
+use Rattle.std.proofs.lemmas.List.{take_more, drop_more, length-map, get_or-map, take-map}
 use Rattle.std.proofs.lemmas.Bool.{and_from, and_parts, ltb-true}
 use Rattle.std.specs.Bool.{Decides}
 use Rattle.std.specs.Prelude.{◌&&◌, ◌||◌, not}
@@ -88,7 +88,7 @@ turned_push before [] q = refl
 turned_push before (p ∷ ps) q = turned_push (p ∷ before) ps q
 
 -- the next partition is compared with those that stand and with those before it
-pub compared : (standing added : List Partition) (i : ℕ) (p : Partition) → i < length added → p ≡ get_or added i p
+compared : (standing added : List Partition) (i : ℕ) (p : Partition) → i < length added → p ≡ get_or added i p
     → all_apart (turned standing (take i added)) (drop i added)
     ≡ ((list_all (are_apart p) standing && list_all (are_apart p) (take i added))
     && all_apart (turned standing (take (i + 1) added)) (drop (i + 1) added))
@@ -100,6 +100,20 @@ compared standing added i p within is =
     ∙ turned_push standing (take i added) p in
     ap (all_apart (turned standing (take i added))) rest
     ∙ (λ j. list_all-turned (are_apart p) standing (take i added) j && all_apart (sym front j) (drop (i + 1) added))
+
+-- so it is with what tells of partitions
+pub compared_by : {X : Type 0} (rows : X → Partition) (standing : List Partition) (added : List X) (i : ℕ) (x : X)
+    → i < length added → x ≡ get_or added i x
+    → all_apart (turned standing (take i (map rows added))) (drop i (map rows added))
+    ≡ ((list_all (are_apart (rows x)) standing && list_all (λ y. are_apart (rows x) (rows y)) (take i added))
+    && all_apart (turned standing (take (i + 1) (map rows added))) (drop (i + 1) (map rows added)))
+compared_by rows standing added i x within is =
+    let there = ap rows is ∙ sym (get_or-map rows added i x (rows x) within) in
+    let before = ap (list_all (are_apart (rows x))) (take-map rows i added)
+    ∙ list_all-map (are_apart (rows x)) rows (take i added) in
+    compared standing (map rows added) i (rows x) (omega (arith, length-map added rows)) there
+    ∙ ap (λ b. (list_all (are_apart (rows x)) standing && b)
+    && all_apart (turned standing (take (i + 1) (map rows added))) (drop (i + 1) (map rows added))) before
 
 all_below : (p : Partition) (before : List Partition) (bound : ℕ) → highest_number before ≤ bound
     → bound < first_number p.rows

@@ -9,8 +9,8 @@ pub mod ChangedRows
 pub mod Entries
 pub mod StandingLaws
 pub mod Edited
-mod EvenRows
 mod Asked
 mod ArrivedRows
 pub mod MomentRows
 pub mod HoldLaws
+mod FittingLaws

@@ -2,10 +2,9 @@ use crate::StoredTable;
 use crate::fitting::are_apart;
 use crate::gathering::at_hand;
 use std::alloc::Global;
-use wh_fetch::{DiskFetch, FetchFault};
+use wh_fetch::{Fetch, FetchFault};
 use wh_part::Partition;
 use wh_version::{Edits, Rewritten};
-use wh_world::Disk;
 
 /// What edits that are in no version yet make of the table: the numbers of the partitions that go,
 /// and those that come.
@@ -18,27 +17,26 @@ pub struct EditedTable {
 impl StoredTable {
     ghost use Rattle.std.specs.Prelude.{◌≡◌, IfOk};
     ghost use Rattle.wh_fetch.specs.Device.{Counts};
-    ghost use Rattle.wh_fetch.specs.DiskFetch.{told_of, faults_of, damage_of, IsRight, GoesOn};
-    ghost use Rattle.wh_filed.specs.Filed.{AllShown};
+    ghost use Rattle.wh_filed.specs.Fetching.{AllShownBy, AllCovered};
     ghost use Rattle.wh_version.specs.Edits.{edits_in};
     ghost use Rattle.wh_table.specs.Edited.{IsEdited};
     ghost use Rattle.wh_table.specs.Table.{table_of, filed_of};
 
     /// What edits make of the last version, while they are in no version yet.
-    pub fn edited<D: Disk>(
+    pub fn edited<F: Fetch>(
         &self,
         alloc: Global,
         edits: Edits,
-        fetch: &mut DiskFetch<D>,
+        fetch: &mut F,
     ) -> Result<EditedTable, FetchFault>
-        requires { IsRight D.Disk fetch.old }
-        ensures edited { AllShown (told_of D.Disk fetch.old) (filed_of self.now)
+        requires { AllCovered (F.covers fetch.old) (filed_of self.now) }
+        ensures edited { AllShownBy (F.contents fetch.old) (filed_of self.now)
             → IfOk result (λ edited. IsEdited edited (edits_in edits) (table_of self.now)) }
-        ensures sound { AllShown (told_of D.Disk fetch.old) (filed_of self.now)
-            → damage_of fetch.new ≡ damage_of fetch.old }
-        ensures same { told_of D.Disk fetch.new ≡ told_of D.Disk fetch.old }
-        ensures goes { GoesOn D.Disk fetch.old fetch.new }
-        ensures counts { Counts (faults_of D.Disk fetch.old) (faults_of D.Disk fetch.new) result }
+        ensures sound { AllShownBy (F.contents fetch.old) (filed_of self.now)
+            → F.damage fetch.new ≡ F.damage fetch.old }
+        ensures same { F.contents fetch.new ≡ F.contents fetch.old }
+        ensures goes { F.stays fetch.old fetch.new }
+        ensures counts { Counts (F.faults fetch.old) (F.faults fetch.new) result }
     {
         let candidates = self.history.candidates(alloc, &edits)?;
         let loaded = self.load_some(alloc, &candidates, fetch)?;

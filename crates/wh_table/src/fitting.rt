@@ -1,7 +1,8 @@
 use crate::StoredTable;
-use wh_part::{NumberedRow, Partition};
-use wh_record::VersionChange;
-use wh_value::{Column, Limit, row_fits};
+use crate::ranged::Ranged;
+use wh_part::Outline;
+use wh_record::OutlinedVersion;
+use wh_value::{Column, Limit};
 use wh_version::History;
 
 impl StoredTable {
@@ -11,13 +12,13 @@ impl StoredTable {
     ghost use Rattle.wh_table.specs.Table.{table_of};
 
     /// Whether a new version applies to the table.
-    pub(crate) fn takes(&self, change: &VersionChange) -> bool
+    pub(crate) fn takes(&self, change: &OutlinedVersion) -> bool
         ensures { result ≡ version_applies (table_of self.now) (version_change_of change.now) }
     {
         self.takes_form(change) && self.takes_partitions(change)
     }
 
-    fn takes_form(&self, change: &VersionChange) -> bool
+    fn takes_form(&self, change: &OutlinedVersion) -> bool
         ensures { result ≡ is_formed (table_of self.now) (version_change_of change.now) }
     {
         does_not_fall(self.history.last_timestamp(), change.data_timestamp)
@@ -26,7 +27,7 @@ impl StoredTable {
             && are_few(self.history.next_partition(), change.added.len())
     }
 
-    fn takes_partitions(&self, change: &VersionChange) -> bool
+    fn takes_partitions(&self, change: &OutlinedVersion) -> bool
         requires { IsTrue (is_formed (table_of self.now) (version_change_of change.now)) }
         ensures { result ≡ partitions_apply (table_of self.now) (version_change_of change.now) }
     {
@@ -43,12 +44,11 @@ ghost use Rattle.std.specs.List.{list_all};
 ghost use Rattle.wh_value.specs.Limit.{bound};
 ghost use Rattle.wh_value.specs.declared.limit.Limit.TheVariants as limits;
 ghost use Rattle.wh_value.specs.View.{column_of};
-ghost use Rattle.wh_part.specs.View.{numbered_of};
 ghost use Rattle.wh_version.specs.Lasting.{numbered_from};
 ghost use Rattle.wh_version.specs.History.{versions_of, standing_in, partitions_of};
 ghost use Rattle.wh_state.specs.Edits.{without};
 ghost use Rattle.wh_table.specs.Apart.{all_apart, highest_number};
-ghost use Rattle.wh_table.specs.Conditions.{is_standing_number, entry_fits, partition_fits};
+ghost use Rattle.wh_table.specs.Conditions.{is_standing_number, partition_fits};
 ghost use Rattle.wh_table.specs.Conditions.{does_not_fall, rises_above};
 
 use crate::comparing::compared_apart;
@@ -79,7 +79,7 @@ fn all_stand(history: &History, numbers: &[u64]) -> bool
 }
 
 // Whether the partitions' numbers rise by one from the next on.
-fn are_numbered(next: u64, partitions: &[Partition]) -> bool
+fn are_numbered(next: u64, partitions: &[Outline]) -> bool
     requires { next + length partitions.now < 2 ^ 64 }
     ensures { result ≡ numbered_from next partitions.now }
 {
@@ -93,7 +93,7 @@ fn are_numbered(next: u64, partitions: &[Partition]) -> bool
     true
 }
 
-fn all_fit(columns: &[Column], next_row: u64, partitions: &[Partition]) -> bool
+fn all_fit(columns: &[Column], next_row: u64, partitions: &[Outline]) -> bool
     ensures { result
         ≡ list_all (partition_fits (map column_of columns.now) next_row) partitions.now }
 {
@@ -102,53 +102,39 @@ fn all_fit(columns: &[Column], next_row: u64, partitions: &[Partition]) -> bool
         .all(|partition| partition_fits(columns, next_row, partition))
 }
 
-fn partition_fits(columns: &[Column], next_row: u64, partition: &Partition) -> bool
+fn partition_fits(columns: &[Column], next_row: u64, partition: &Outline) -> bool
     ensures { result ≡ partition_fits (map column_of columns.now) next_row partition.now }
 {
-    entries_fit(columns, next_row, partition.rows())
-}
-
-fn entries_fit(columns: &[Column], next_row: u64, entries: &[NumberedRow]) -> bool
-    ensures { result ≡ list_all
-        (λ e. entry_fits (map column_of columns.now) next_row (numbered_of e)) entries.now }
-{
-    entries
-        .iter()
-        .all(|entry| entry_fits(columns, next_row, entry))
-}
-
-fn entry_fits(columns: &[Column], next_row: u64, entry: &NumberedRow) -> bool
-    ensures { result ≡ entry_fits (map column_of columns.now) next_row (numbered_of entry.now) }
-{
-    row_fits(columns, &entry.row) && entry.number < next_row
+    partition.fits(columns) && partition.last() < next_row
 }
 
 /// Whether each partition that is added is apart from those that stand and stay, and from those
 /// before it. The highest row number of all versions spares comparing each with each.
-pub(crate) fn are_apart(
+pub(crate) fn are_apart<P: Ranged>(
     highest: u64,
     history: &History,
     removed: &[u64],
-    added: &[Partition],
+    added: &[P],
 ) -> bool
     requires { highest ≡ highest_number (partitions_of history.now) }
     ensures { result
-        ≡ all_apart (without removed.now (standing_in (versions_of history.now))) added.now }
+        ≡ all_apart (without removed.now (standing_in (versions_of history.now)))
+        (map P.rows added.now) }
 {
     // Rows are added in rising order, so that each is seldom compared with those that stand.
     let kept = history.kept();
     rise_above(highest, added) || compared_apart(kept, removed, added)
 }
 
-fn rise_above(bound: u64, partitions: &[Partition]) -> bool
-    ensures { result ≡ rises_above bound partitions.now }
+fn rise_above<P: Ranged>(bound: u64, partitions: &[P]) -> bool
+    ensures { result ≡ rises_above bound (map P.rows partitions.now) }
 {
     let mut highest = bound;
     for partition in partitions {
-        if partition.first() <= highest {
+        if partition.first_row() <= highest {
             return false;
         }
-        highest = highest.max(partition.last());
+        highest = highest.max(partition.last_row());
     }
     true
 }

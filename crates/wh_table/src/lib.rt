@@ -12,6 +12,7 @@ mod loading;
 mod moments;
 mod numbers;
 mod pushing;
+mod ranged;
 mod rewriting;
 mod standing;
 mod table;

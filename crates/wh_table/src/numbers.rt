@@ -5,11 +5,11 @@ ghost use Rattle.wh_frame.specs.Partition.{last_number};
 ghost use Rattle.wh_version.specs.History.{partitions_of};
 ghost use Rattle.wh_table.specs.Apart.{highest_number, rows_rise};
 
-use wh_part::Partition;
+use wh_part::Outline;
 use wh_version::History;
 
 /// The higher of a number and the last ones of the partitions, whose row numbers rise.
-pub(crate) fn highest_of(highest: u64, partitions: &[Partition]) -> u64
+pub(crate) fn highest_of(highest: u64, partitions: &[Outline]) -> u64
     ensures highest { result ≡ max highest (highest_number partitions.now) }
     ensures rising { IsTrue (list_all rows_rise partitions.now) }
 {
@@ -20,12 +20,11 @@ pub(crate) fn highest_of(highest: u64, partitions: &[Partition]) -> u64
     so_far
 }
 
-// The number of the last row. The numbers of the rows rise, by the type of partitions.
-fn last_rising(partition: &Partition) -> u64
+// The number of the last row. The numbers of the rows rise, by the type of outlines.
+fn last_rising(partition: &Outline) -> u64
     ensures last { result ≡ last_number partition.now.rows }
     ensures rising { IsTrue (rows_rise partition.now) }
 {
-    let _rows = partition.rows();
     partition.last()
 }
 

@@ -1,7 +1,7 @@
 use crate::numbers::{highest_kept, highest_of};
 use crate::{StageFault, StoredTable};
 use std::alloc::{AllocError, Global};
-use wh_record::VersionChange;
+use wh_record::OutlinedVersion;
 
 impl StoredTable {
     ghost use Rattle.std.specs.Prelude.{◌≡◌, ◌≤◌, ◌++◌, OnOk, OnErr, IsErrOf};
@@ -17,7 +17,7 @@ impl StoredTable {
     pub fn push(
         &mut self,
         alloc: Global,
-        change: VersionChange,
+        change: OutlinedVersion,
         stamp: u64,
         at: u64,
     ) -> Result<(), StageFault>
@@ -45,7 +45,7 @@ impl StoredTable {
     fn add_version(
         &mut self,
         alloc: Global,
-        change: VersionChange,
+        change: OutlinedVersion,
         stamp: u64,
         at: u64,
     ) -> Result<(), AllocError>
@@ -59,11 +59,12 @@ impl StoredTable {
         ensures same { OnErr result (kept_table self.new ≡ kept_table self.old) }
     {
         let highest = highest_of(self.highest, &change.added);
-        let filed = change.filed(alloc, at)?;
-        self.history
-            .push(stamp, change.data_timestamp, &change.removed, filed)?;
+        let timestamp = change.data_timestamp;
+        let next_row = change.next_row;
+        let (removed, filed) = change.filed(alloc, at)?;
+        self.history.push(stamp, timestamp, &removed, filed)?;
         self.highest = highest;
-        self.next_row = change.next_row;
+        self.next_row = next_row;
         Ok(())
     }
 

@@ -1,6 +1,7 @@
 //! The partitions of a version, as they stand in the file. No row of them is read.
-ghost use Rattle.std.specs.Prelude.{◌≡◌, ◌&&◌, ◌++◌, ◌∷◌, [], not, filter, OnOk, IfOk};
-ghost use Rattle.wh_filed.specs.Filed.{filed_at, partitions_at, AreAmong};
+ghost use Rattle.std.specs.Prelude.{◌≡◌, ◌&&◌, ◌++◌, ◌∷◌, [], List, not, filter, Contains, OnOk, IfOk};
+ghost use Rattle.std.specs.List.{AllByRecursion};
+ghost use Rattle.wh_filed.specs.Filed.{Filed, filed_at, partitions_at};
 ghost use Rattle.wh_state.specs.Edits.{without, is_among};
 ghost use Rattle.wh_version.specs.Lasting.{is_standing, filed_in, partitions_in};
 
@@ -12,8 +13,9 @@ use wh_filed::FiledPartition;
 use wh_version::Lasting;
 
 impl StoredTable {
-    ghost use Rattle.std.specs.Prelude.{◌++◌, ℕ, IfOk};
-    ghost use Rattle.wh_filed.specs.Filed.{filed_at, partitions_at, AreAmong};
+    ghost use Rattle.std.specs.Prelude.{◌++◌, ℕ, Contains, IfOk};
+    ghost use Rattle.std.specs.List.{AllByRecursion};
+    ghost use Rattle.wh_filed.specs.Filed.{filed_at, partitions_at};
     ghost use Rattle.wh_state.specs.State as state;
     ghost use Rattle.wh_state.specs.State.{last_rows};
     ghost use Rattle.wh_state.specs.Edits as machine;
@@ -28,7 +30,7 @@ impl StoredTable {
         ensures holds { IfOk result (λ found. HoldsRising (partitions_at found.items)
             (last_rows (table_meant (table_of self.now)))) }
         ensures among { IfOk result (λ found.
-            AreAmong (filed_at found.items) (filed_of self.now)) }
+            AllByRecursion (Contains (filed_of self.now)) (filed_at found.items)) }
     {
         let standing = self.history.standing(alloc)?;
         Ok(standing)
@@ -43,7 +45,7 @@ impl StoredTable {
         ensures holds { IfOk result (λ found. HoldsRising (partitions_at found.items)
             (state.rows_at (table_meant (table_of self.now)) moment)) }
         ensures among { IfOk result (λ found.
-            AreAmong (filed_at found.items) (filed_of self.now)) }
+            AllByRecursion (Contains (filed_of self.now)) (filed_at found.items)) }
     {
         let Some(version) = self.history.at(moment) else {
             return Ok(Vec::new(alloc));
@@ -64,7 +66,7 @@ impl StoredTable {
             → HoldsRising (partitions_at found.items ++ edited.now.added.items)
             (last_rows (edited_table stamp stamp e (table_meant (table_of self.now))))) }
         ensures among { IfOk result (λ found.
-            AreAmong (filed_at found.items) (filed_of self.now)) }
+            AllByRecursion (Contains (filed_of self.now)) (filed_at found.items)) }
     {
         let staying = standing_without(self.history.kept(), &edited.removed, alloc)?;
         Ok(staying)
@@ -79,7 +81,8 @@ fn standing_without<'a>(
 ) -> Result<Vec<&'a FiledPartition>, AllocError>
     ensures partitions { IfOk result (λ found. partitions_at found.items
         ≡ without removed.now (partitions_in (filter is_standing kept.now))) }
-    ensures among { IfOk result (λ found. AreAmong (filed_at found.items) (filed_in kept.now)) }
+    ensures among { IfOk result (λ found.
+        AllByRecursion (Contains (filed_in kept.now)) (filed_at found.items)) }
 {
     let mut found = Vec::new(alloc);
     for one in kept {
@@ -95,8 +98,9 @@ fn add_staying<'a>(
 ) -> Result<(), AllocError>
     ensures added { OnOk result (partitions_at found.new.items ≡ partitions_at found.old.items
         ++ without removed.now (partitions_in (filter is_standing (one.now ∷ [])))) }
-    ensures among { OnOk result (AreAmong (filed_at found.new.items)
-        (filed_at found.old.items ++ one.now.filed ∷ [])) }
+    ensures among { OnOk result ((all : List Filed) → Contains all one.now.filed
+        → AllByRecursion (Contains all) (filed_at found.old.items)
+        → AllByRecursion (Contains all) (filed_at found.new.items)) }
 {
     if stays(one, removed) {
         found.push(one.filed())?;

@@ -7,11 +7,11 @@ use wh_catalog::{Catalog, StageFault, Undo};
 use wh_fetch::DiskFetch;
 use wh_filed::load;
 use wh_part::{NumberedRow, Partition};
-use wh_record::{Change, Commit, TableChange, VersionChange};
+use wh_record::{Change, Commit, OutlinedCommit, TableChange, VersionChange};
 use wh_table::by_rows;
 use wh_value::{Column, ColumnType, Row, Text, Value};
 use wh_version::Edits;
-use wh_world::{Disk, MemDisk};
+use wh_world::{Disk, Framed, MemDisk};
 
 /// A catalog, and the records of the commits that were carried out.
 #[derive(Drop)]
@@ -149,35 +149,37 @@ fn both(rt: &impl Abort, first: Commit, second: Commit) -> Commit {
     }
 }
 
-// The position of the payload of a commit's record, which is added.
-fn written(rt: &impl Abort, staged: &mut Staged, commit: &Commit) -> u64 {
+// The commit without the rows that it adds, and its record.
+fn filed(rt: &impl Abort, alloc: Global, commit: Commit) -> (OutlinedCommit, Framed) {
+    let record = commit.encode(alloc).expect(rt, "memory");
+    let outlined = commit.outlined(alloc).expect(rt, "memory");
+    (outlined, record)
+}
+
+pub(crate) fn carry_out(rt: &impl Abort, staged: &mut Staged, commit: Commit) -> Undo {
     // Behind the payload's length.
     let at = staged.records.len() as u64 + 8;
-    let record = commit.encode(staged.alloc).expect(rt, "memory");
+    let (outlined, record) = filed(rt, staged.alloc, commit);
     staged
         .records
         .extend_from_slice(record.as_slice())
         .expect(rt, "memory");
-    at
-}
-
-pub(crate) fn carry_out(rt: &impl Abort, staged: &mut Staged, commit: Commit) -> Undo {
-    let at = written(rt, staged, &commit);
     staged
         .catalog
-        .stage(commit, at)
+        .stage(outlined, at)
         .expect(rt, "a commit that applies")
 }
 
-fn is_refused(staged: &mut Staged, commit: Commit) -> bool {
-    match staged.catalog.stage(commit, 0) {
+fn is_refused(rt: &impl Abort, staged: &mut Staged, commit: Commit) -> bool {
+    let (outlined, _) = filed(rt, staged.alloc, commit);
+    match staged.catalog.stage(outlined, 0) {
         Ok(_) => false,
         Err(fault) => fault == StageFault::NotApplicable,
     }
 }
 
 pub(crate) fn assert_refused(rt: &impl Abort, staged: &mut Staged, commit: Commit, case: &str) {
-    assert!(rt; is_refused(staged, commit), "{case}");
+    assert!(rt; is_refused(rt, staged, commit), "{case}");
 }
 
 // The object that is found by a name.
@@ -279,6 +281,7 @@ fn is_by_rows(rt: &impl Abort, alloc: Global, staged: &Staged, id: u32, numbers:
 }
 
 // Whether these partitions of the table of an id go where the row of that number goes.
+#[tactic(auto, using(wh_filed::proofs::FetchingLaws::all_covered))]
 fn gives_up(
     rt: &impl Abort,
     alloc: Global,

@@ -42,6 +42,7 @@ fn shapes(rt: &impl Abort, alloc: Global, partitions: &[Partition]) -> Vec<(u64,
 }
 
 // The edits as a version more: the numbers of what goes, and the shapes of what comes.
+#[tactic(auto, using(wh_filed::proofs::FetchingLaws::all_covered))]
 fn edit(rt: &impl Abort, alloc: Global, staged: &mut Staged, edits: Edits) -> String {
     let table = staged.catalog.table(1).expect(rt, "no table");
     let next_row = table.next_row() + edits.added().len() as u64;

@@ -4,7 +4,7 @@ ghost use Rattle.wh_part.specs.Meta.{IsEven};
 use std::alloc::Global;
 use std::process::Abort;
 use wh_filed::FiledPartition;
-use wh_part::{NumberedRow, Partition};
+use wh_part::{NumberedRow, Outline, Partition};
 use wh_value::Row;
 use wh_version::{History, Version};
 
@@ -26,7 +26,8 @@ fn partition(rt: &impl Abort, alloc: Global, number: u64) -> Partition
 fn push(rt: &impl Abort, alloc: Global, history: &mut History, removed: &[u64]) {
     let next = history.next_partition();
     let more = partition(rt, alloc, next);
-    let filed = FiledPartition::of(alloc, &more, 1, 0, 20).expect(rt, "memory");
+    let outline = Outline::of(alloc, &more).expect(rt, "memory");
+    let filed = FiledPartition::of(outline, 1, 0);
     let mut added = Vec::with_capacity(alloc, 1).expect(rt, "memory");
     added.push_reserved(filed);
     history.push(20, 15, removed, added).expect(rt, "memory");

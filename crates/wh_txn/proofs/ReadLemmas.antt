@@ -4,10 +4,7 @@
 use Rattle.std.proofs.Common.{◌≡◌, List, [], ◌∷◌, ◌++◌, map, sym, ap, subst, ◌∙◌}
 use Rattle.std.proofs.lemmas.List.{map-append}
 use Rattle.std.specs.List.{AllByRecursion}
-use Rattle.wh_record.specs.View.{change_of}
-use Rattle.wh_record.specs.declared.commit.ChangeIn.{ChangeIn}
-use Rattle.wh_task.specs.declared.task.TaskBody.{TaskBody}
-use Rattle.wh_dynamic.specs.declared.query.DynamicQuery.{DynamicQuery}
+use Rattle.wh_record.specs.View.{UnderstoodChange, change_of}
 use Rattle.wh_state.specs.Act.{Act, MakesTable, DropsObject, EditsRows, MakesStream, MovesOffset}
 use Rattle.wh_state.specs.Act.{MakesTask, PutsTask, BeginsRun, EndsTask, MakesDynamic, PutsDynamic, RefreshesRows}
 use Rattle.wh_state.specs.Commit.{Change, VersionChange, PushesVersion}
@@ -15,7 +12,7 @@ use Rattle.wh_state.specs.Spelling.{IsUnderstood}
 use Rattle.wh_state.proofs.AllLaws.{all_append}
 use Rattle.wh_txn.specs.Recording.{AreRead, offset_written, offsets_written}
 
-pub read_more : (old new : List (ChangeIn TaskBody DynamicQuery)) (one : ChangeIn TaskBody DynamicQuery)
+pub read_more : (old new : List UnderstoodChange) (one : UnderstoodChange)
     (v : VersionChange) → new ≡ old ++ one ∷ [] → change_of one ≡ PushesVersion v → AreRead old → AreRead new
 read_more old new one v pushed is read =
     subst (λ (changes : List Change). AllByRecursion IsUnderstood changes)
@@ -42,7 +39,7 @@ offsets_read [] = tt
 offsets_read (act ∷ acts) =
     all_append IsUnderstood (offset_written act) (offsets_written acts) (offset_read act) (offsets_read acts)
 
-pub read_all : (old new : List (ChangeIn TaskBody DynamicQuery)) (acts : List Act)
+pub read_all : (old new : List UnderstoodChange) (acts : List Act)
     → map change_of new ≡ map change_of old ++ offsets_written acts → AreRead old → AreRead new
 read_all old new acts is read =
     subst (λ (changes : List Change). AllByRecursion IsUnderstood changes) (sym is)

@@ -22,10 +22,7 @@ use Rattle.wh_state.specs.Stored.{StoredTable, StoredObject, standing, table_mea
 use Rattle.wh_state.specs.Commit.{Change, PushesVersion}
 use Rattle.wh_state.specs.Written.{version_written, version_written_to}
 use Rattle.wh_state.proofs.MeaningLaws.{last_partitions_meant}
-use Rattle.wh_record.specs.View.{change_of}
-use Rattle.wh_record.specs.declared.commit.ChangeIn.{ChangeIn}
-use Rattle.wh_task.specs.declared.task.TaskBody.{TaskBody}
-use Rattle.wh_dynamic.specs.declared.query.DynamicQuery.{DynamicQuery}
+use Rattle.wh_record.specs.View.{UnderstoodChange, change_of}
 use Rattle.wh_catalog.specs.Catalog.{stored_of, state_of}
 use Rattle.wh_catalog.specs.declared.catalog.Catalog.{Catalog}
 use Rattle.wh_machine.specs.Transaction.{Staged, Transaction, start_of, touched, first_past, row_past, partition_past}
@@ -62,7 +59,7 @@ one_version stamp objects id s t there =
 
 -- the changes with the one that is made of it behind them
 pub version_added : (stamp : ℕ) (objects : List StoredObject) (id : ℕ) (s : Staged) (t : StoredTable)
-    (old new : List (ChangeIn TaskBody DynamicQuery)) (one : ChangeIn TaskBody DynamicQuery)
+    (old new : List UnderstoodChange) (one : UnderstoodChange)
     (more : ℕ) (removed : List ℕ) (added : List Partition)
     → table_at objects id ≡ Some t
     → new ≡ old ++ one ∷ []
@@ -93,7 +90,7 @@ version_added stamp objects id s t old new one more removed added there pushed i
     ∙ ap (λ (cs : List Change). map change_of old ++ cs) (sym (one_version stamp objects id s t there))
 
 pub none_added : (stamp : ℕ) (objects : List StoredObject) (id : ℕ) (s : Staged)
-    (old : List (ChangeIn TaskBody DynamicQuery)) → table_at objects id ≡ None
+    (old : List UnderstoodChange) → table_at objects id ≡ None
     → map change_of old ≡ map change_of old ++ version_for stamp objects (id, s)
 none_added stamp objects id s old none =
     sym (append-nil (map change_of old))

@@ -1,6 +1,7 @@
 -- What the partitions of a table that is seen say of its rows.
 --     stands_in        a table's rows stand in partitions that hold them
 --     standing_bag     the bag of all rows that stand there, one after the other
+--     shown_among      what is told of some of the partitions, by the fetch
 --     still_shown      what is told of the partitions in which it stands is right still
 --     shows_touched    it shows a change what it may touch where it has the partitions in which that stands
 --     holds_here       what its partitions hold, as they were loaded and made
@@ -12,6 +13,9 @@ use Rattle.wh_meaning.specs.Bag.{bag_of}
 use Rattle.wh_naming.specs.Changes.{Modification}
 use Rattle.wh_frame.specs.Partition.{Partition}
 use Rattle.wh_filed.specs.Filed.{Filed, filed_at, partitions_at, loaded_of, AllShown, AreAmong}
+use Rattle.wh_filed.specs.Fetching.{AllShownBy}
+use Rattle.wh_filed.proofs.FetchingLaws.{all_shown_by}
+use Rattle.wh_fetch.specs.Place.{contents_at}
 use Rattle.wh_state.specs.State.{Rows, Table, last_rows}
 use Rattle.wh_machine.specs.Queries.{table_bag}
 use Rattle.wh_table.specs.Rows.{rows_only, all_rows}
@@ -31,6 +35,10 @@ pub standing_bag : (at : TableAt) (found : Option Table) → StandsAt at found
     → bag_of (rows_only (all_rows (partitions_standing at))) ≡ table_bag found
 standing_bag at None none = ap (λ (ps : List Partition). bag_of (rows_only (all_rows ps))) none
 standing_bag at (Some t) holds = held_bag (partitions_standing at) (last_rows t) holds
+
+pub shown_among : (told : Option (List ℕ)) (some all : List Filed) → AreAmong some all → AllShown told all
+    → AllShownBy (contents_at told) some
+shown_among told some all among shown = all_shown_by told some (among told shown)
 
 pub still_shown : (told now : Option (List ℕ)) (all : List Filed) (some same : List (Bor Filed)) → now ≡ told
     → same ≡ some → AreAmong (filed_at some) all → AllShown told all → AllShown now (filed_at same)

@@ -8,10 +8,7 @@ use Rattle.std.proofs.Common.{Option, Some, None, refl, sym, ap, ◌∙◌, appe
 use Rattle.std.proofs.lemmas.List.{nil_from_length}
 use Rattle.wh_value.specs.declared.limit.Limit.{Limit}
 use Rattle.wh_value.specs.declared.limit.Limit.TheVariants as limits
-use Rattle.wh_record.specs.View.{change_of}
-use Rattle.wh_record.specs.declared.commit.ChangeIn.{ChangeIn}
-use Rattle.wh_task.specs.declared.task.TaskBody.{TaskBody}
-use Rattle.wh_dynamic.specs.declared.query.DynamicQuery.{DynamicQuery}
+use Rattle.wh_record.specs.View.{UnderstoodChange, change_of}
 use Rattle.wh_state.specs.State.{Object}
 use Rattle.wh_state.specs.Stored.{StoredObject}
 use Rattle.wh_machine.specs.Transaction.{Staged, first_past, row_past, partition_past}
@@ -19,7 +16,7 @@ use Rattle.wh_txn.specs.declared.recording.TouchedTable.{TouchedTable}
 use Rattle.wh_txn.specs.Recording.{touched_in, touched_at, version_for, versions_for}
 
 pub record VersionsSoFar (Right : Type 0) (stamp : ℕ) (stored : List StoredObject) (objects : List Object)
-    (whole left : List TouchedTable) (count : ℕ) (changes : List (ChangeIn TaskBody DynamicQuery)) : Type 0 where
+    (whole left : List TouchedTable) (count : ℕ) (changes : List UnderstoodChange) : Type 0 where
   pub made : Right → map change_of changes ++ versions_for stamp stored (touched_at left)
       ≡ versions_for stamp stored (touched_at whole)
   pub rows : first_past (row_past objects) limits.RowNumber (touched_at left) ≡ None
@@ -55,7 +52,7 @@ module _ (Right : Type 0) (stamp : ℕ) (stored : List StoredObject) (objects : 
   abbrev partition_first_past : List TouchedTable → Option (ℕ × Limit)
   partition_first_past tables = first_past (partition_past objects) limits.PartitionNumber (touched_at tables)
 
-  pub none_yet : (whole left : List TouchedTable) (count : ℕ) (changes : List (ChangeIn TaskBody DynamicQuery)) → left ≡ whole
+  pub none_yet : (whole left : List TouchedTable) (count : ℕ) (changes : List UnderstoodChange) → left ≡ whole
       → count ≡ length left → changes ≡ [] → row_first_past whole ≡ None
       → VersionsSoFar Right stamp stored objects whole left count changes
   none_yet whole left count changes is counts none within = record {
@@ -65,14 +62,14 @@ module _ (Right : Type 0) (stamp : ℕ) (stored : List StoredObject) (objects : 
     counted = counts;
   }
 
-  module _ (whole left : List TouchedTable) (count : ℕ) (changes : List (ChangeIn TaskBody DynamicQuery))
+  module _ (whole left : List TouchedTable) (count : ℕ) (changes : List UnderstoodChange)
       (so_far : VersionsSoFar Right stamp stored objects whole left count changes) where
     module _ (one : TouchedTable) (rest : List TouchedTable) (is : left ≡ one ∷ rest) where
       pub one_within : row_past objects (touched_in one) ≡ false
       one_within = first_within (row_past objects) limits.RowNumber (touched_in one) (touched_at rest)
           (ap row_first_past (sym is) ∙ so_far.rows)
 
-      pub one_more : (fewer : ℕ) (more : List (ChangeIn TaskBody DynamicQuery)) → fewer + 1 ≡ count
+      pub one_more : (fewer : ℕ) (more : List UnderstoodChange) → fewer + 1 ≡ count
           → (Right → map change_of more ≡ map change_of changes ++ version_for stamp stored (touched_in one))
           → (Right → partition_past objects (touched_in one) ≡ false) → VersionsSoFar Right stamp stored objects whole rest fewer more
       one_more fewer more counts added within = record {

@@ -21,11 +21,7 @@ use Rattle.wh_state.specs.Act.{Act, MovesOffset}
 use Rattle.wh_state.specs.Commit.{Change, SetsOffset, Commit}
 use Rattle.wh_state.specs.Spelling.{IsUnderstood}
 use Rattle.wh_state.specs.Written.{version_written_to, commit_for}
-use Rattle.wh_task.specs.declared.task.TaskBody.{TaskBody}
-use Rattle.wh_dynamic.specs.declared.query.DynamicQuery.{DynamicQuery}
-use Rattle.wh_record.specs.View.{change_of, commit_of}
-use Rattle.wh_record.specs.declared.commit.ChangeIn.{ChangeIn}
-use Rattle.wh_record.specs.declared.commit.CommitIn.{CommitIn}
+use Rattle.wh_record.specs.View.{UnderstoodChange, UnderstoodCommit, change_of, commit_of}
 use Rattle.wh_version.specs.Edits.{edits_in}
 use Rattle.wh_catalog.specs.Catalog.{stored_of, state_of}
 use Rattle.wh_catalog.specs.declared.catalog.Catalog.{Catalog}
@@ -69,7 +65,7 @@ offsets_written acts = flat_map offset_written acts
 
 -- the commit; none where nothing is to be changed, and then no number passes its limit
 pub record GivesCommit (catalog : Catalog) (stamp : ℕ) (t : machine.Transaction)
-    (result : Result (Option (CommitIn TaskBody DynamicQuery)) RecordFault) : Type 0 where
+    (result : Result (Option UnderstoodCommit) RecordFault) : Type 0 where
   pub made : IfOk result (λ found. option_map commit_of found
       ≡ option_map (commit_for (stored_of catalog) stamp) (machine.acts_of (state_of catalog).objects t))
   pub within : IfOk result (λ found. machine.past_limit (state_of catalog).objects t ≡ None)
@@ -82,7 +78,7 @@ partition_first catalog touched =
     machine.first_past (machine.partition_past (state_of catalog).objects) limits.PartitionNumber (touched_at touched)
 
 pub record GivesVersions (catalog : Catalog) (stamp : ℕ) (touched : List TouchedTable)
-    (result : Result (Vec (ChangeIn TaskBody DynamicQuery) Global) RecordFault) : Type 0 where
+    (result : Result (Vec UnderstoodChange Global) RecordFault) : Type 0 where
   pub made : IfOk result (λ changes. map change_of changes.items
       ≡ versions_for stamp (stored_of catalog).objects (touched_at touched))
   pub within : IfOk result (λ changes. partition_first catalog touched ≡ None)
@@ -90,7 +86,7 @@ pub record GivesVersions (catalog : Catalog) (stamp : ℕ) (touched : List Touch
       → partition_first catalog touched ≡ Some (id, which)
 
 pub record AddsVersion {A : Type 0} (catalog : Catalog) (stamp : ℕ) (one : TouchedTable)
-    (old new : List (ChangeIn TaskBody DynamicQuery)) (result : Result A RecordFault) : Type 0 where
+    (old new : List UnderstoodChange) (result : Result A RecordFault) : Type 0 where
   pub made : OnOk result (map change_of new
       ≡ map change_of old ++ version_for stamp (stored_of catalog).objects (touched_in one))
   pub within : OnOk result (machine.partition_past (state_of catalog).objects (touched_in one) ≡ false)
@@ -110,5 +106,5 @@ abbrev pub IsRead : Option Commit → Type 0
 IsRead None = Unit {0}
 IsRead (Some c) = AllByRecursion IsUnderstood c.changes
 
-abbrev pub AreRead : List (ChangeIn TaskBody DynamicQuery) → Type 0
+abbrev pub AreRead : List UnderstoodChange → Type 0
 AreRead changes = AllByRecursion IsUnderstood (map change_of changes)

@@ -5,11 +5,11 @@
 --     front_among, filtered_among         the first ones, and those that pass a test, are among them
 --     picked_among, behind_among          so are those of the first ones that pass it, and what comes behind others
 --     among_more                          so are others with one more that is kept
+--     holds                               what is kept has the one at a place
 use Rattle.std.proofs.Common.{◌≡◌, ℕ, zero, suc, ◌<◌, Bool, true, false, cond, List, [], ◌∷◌, ◌++◌, length, filter}
-use Rattle.std.proofs.Common.{take, get_or, Option, sym, subst, ap, ◌∙◌, arith}
-use Rattle.std.proofs.lemmas.List.{length-map, map-append}
+use Rattle.std.proofs.Common.{take, get_or, Contains, Option, sym, subst, ap, ◌∙◌, arith}
+use Rattle.std.proofs.lemmas.List.{length-map, map-append, get_or-map}
 use Rattle.std.proofs.lemmas.List.Elements.{filter-append}
-use Rattle.wh_frame.specs.Partition.{Partition}
 use Rattle.wh_filed.specs.Filed.{Filed, partitions_filed, IsShown, AllShown, AreAmong}
 use Rattle.wh_filed.proofs.ShownLaws.{shown_append, shown_behind}
 use Rattle.wh_version.specs.declared.lasting.Lasting.{Lasting}
@@ -37,12 +37,12 @@ joined xs ys zs is = sym (map-append (λ f. f.partition) xs ys) ∙ ap partition
 
 -- ---- those among them
 
-pub front_among : (n : ℕ) (kept : List Lasting) → AreAmong (filed_in (take n kept)) (filed_in kept)
+front_among : (n : ℕ) (kept : List Lasting) → AreAmong (filed_in (take n kept)) (filed_in kept)
 front_among zero kept told shown = tt
 front_among (suc n) [] told shown = tt
 front_among (suc n) (k ∷ kept) told shown = (shown.0, front_among n kept told shown.1)
 
-pub filtered_among : (test : Lasting → Bool) (kept : List Lasting)
+filtered_among : (test : Lasting → Bool) (kept : List Lasting)
     → AreAmong (filed_in (filter test kept)) (filed_in kept)
 filtered_among test [] told shown = tt
 filtered_among test (k ∷ kept) told shown = by_test (test k) (filtered_among test kept told shown.1)
@@ -77,3 +77,11 @@ pub among_more : (kept : List Lasting) (i : ℕ) (k : Lasting) (before after : L
 among_more kept i k before after within is more so_far told shown =
     more told
     (shown_append told before (k.filed ∷ []) (so_far told shown) (one_shown told kept i k within is shown, tt))
+
+pub holds : (kept : List Lasting) (i : ℕ) (k : Lasting) → i < length kept → k ≡ get_or kept i k
+    → Contains (filed_in kept) k.filed
+holds kept i k within is = (
+  i,
+  omega (arith, length_filed kept),
+  get_or-map (λ x. x.filed) kept i k k.filed within ∙ ap (λ x. x.filed) (sym is),
+)

@@ -1,4 +1,5 @@
 pub mod Kept
+pub mod Among
 pub mod Last
 pub mod Parted
 pub mod Pushed

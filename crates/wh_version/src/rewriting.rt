@@ -20,8 +20,10 @@ pub struct Rewritten {
 
 impl History {
     ghost use Rattle.std.specs.Prelude.{◌≡◌, ◌+◌, ◌≤◌, length, nat_le, is_some, IfOk, IfSome};
+    ghost use Rattle.std.specs.Prelude.{Contains};
+    ghost use Rattle.std.specs.List.{AllByRecursion};
     ghost use Rattle.wh_value.specs.Limit.{bound};
-    ghost use Rattle.wh_filed.specs.Filed.{filed_at, partitions_at, contents_at, AreAmong};
+    ghost use Rattle.wh_filed.specs.Filed.{filed_at, partitions_at, contents_at};
     ghost use Rattle.wh_state.specs.Commit.{NumberedFrom};
     ghost use Rattle.wh_state.specs.Edits.{numbers_gone, partitions_made};
     ghost use Rattle.wh_version.specs.Edits.{edits_in, HaveTouched};
@@ -38,7 +40,7 @@ impl History {
         ensures touched { IfOk result (λ found.
             HaveTouched self.now (edits_in edits.now) (partitions_at found.items)) }
         ensures among { IfOk result (λ found.
-            AreAmong (filed_at found.items) (filed_of self.now)) }
+            AllByRecursion (Contains (filed_of self.now)) (filed_at found.items)) }
     {
         let found = candidates(alloc, &edits.rows, self.kept())?;
         Ok(found)

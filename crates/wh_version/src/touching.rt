@@ -1,8 +1,9 @@
-ghost use Rattle.std.specs.Prelude.{◌≡◌, ◌++◌, ◌∷◌, [], false, map, filter, is_some, OnOk, IfOk};
+ghost use Rattle.std.specs.Prelude.{◌≡◌, ◌++◌, ◌∷◌, [], false, List, map, filter, is_some};
+ghost use Rattle.std.specs.Prelude.{Contains, OnOk, IfOk};
 ghost use Rattle.std.specs.Bool.{OnFalse};
-ghost use Rattle.std.specs.List.{list_any};
+ghost use Rattle.std.specs.List.{list_any, AllByRecursion};
 ghost use Rattle.std.specs.FinMap.{get};
-ghost use Rattle.wh_filed.specs.Filed.{filed_at, partitions_at, contents_at, AreAmong};
+ghost use Rattle.wh_filed.specs.Filed.{Filed, filed_at, partitions_at, contents_at};
 ghost use Rattle.wh_state.specs.Edits.{is_touched, touched};
 ghost use Rattle.wh_version.specs.Lasting.{is_standing, filed_in, partitions_in};
 
@@ -21,7 +22,8 @@ pub(crate) fn candidates<'a>(
 ) -> Result<Vec<&'a FiledPartition>, AllocError>
     ensures touched { IfOk result (λ found. touched edits.now (partitions_at found.items)
         ≡ touched edits.now (partitions_in (filter is_standing kept.now))) }
-    ensures among { IfOk result (λ found. AreAmong (filed_at found.items) (filed_in kept.now)) }
+    ensures among { IfOk result (λ found.
+        AllByRecursion (Contains (filed_in kept.now)) (filed_at found.items)) }
 {
     let mut found = Vec::new(alloc);
     for one in kept {
@@ -38,8 +40,9 @@ fn add_candidate<'a>(
     ensures touched { OnOk result (touched edits.now (partitions_at found.new.items)
         ≡ touched edits.now (partitions_at found.old.items)
         ++ touched edits.now (partitions_in (filter is_standing (one.now ∷ [])))) }
-    ensures among { OnOk result (AreAmong (filed_at found.new.items)
-        (filed_at found.old.items ++ one.now.filed ∷ [])) }
+    ensures among { OnOk result ((all : List Filed) → Contains all one.now.filed
+        → AllByRecursion (Contains all) (filed_at found.old.items)
+        → AllByRecursion (Contains all) (filed_at found.new.items)) }
 {
     if one.stands() && may_be_touched(edits, one.filed()) {
         found.push(one.filed())?;

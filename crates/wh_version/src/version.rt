@@ -15,9 +15,10 @@ pub struct Version<'a> {
 }
 
 impl History {
-    ghost use Rattle.std.specs.Prelude.{◌≡◌, ◌<◌, length, option_map, IfOk, IfSome};
+    ghost use Rattle.std.specs.Prelude.{◌≡◌, ◌<◌, length, option_map, Contains, IfOk, IfSome};
     ghost use Rattle.std.specs.Prelude.{slice_index_or as get_or};
-    ghost use Rattle.wh_filed.specs.Filed.{filed_at, partitions_at, AreAmong};
+    ghost use Rattle.std.specs.List.{AllByRecursion};
+    ghost use Rattle.wh_filed.specs.Filed.{filed_at, partitions_at};
     ghost use Rattle.wh_version.specs.Lasting.{version_by};
     ghost use Rattle.wh_version.specs.Times.{data_at, visible_at, is_up_to, last_place};
     ghost use Rattle.wh_version.specs.Times.{place_behind};
@@ -29,7 +30,7 @@ impl History {
         ensures standing { IfOk result (λ found. partitions_at found.items
             ≡ standing_in (versions_of self.now)) }
         ensures among { IfOk result (λ found.
-            AreAmong (filed_at found.items) (filed_of self.now)) }
+            AllByRecursion (Contains (filed_of self.now)) (filed_at found.items)) }
     {
         let last = self.version(self.later.len());
         let standing = last.partitions(alloc)?;
@@ -41,7 +42,8 @@ impl History {
     pub fn at(&self, timestamp: u64) -> Option<Version<'_>>
         ensures version { option_map version_in result
             ≡ data_at timestamp (versions_of self.now) }
-        ensures among { IfSome result (λ v. AreAmong (filed_by v) (filed_of self.now)) }
+        ensures among { IfSome result (λ v.
+            AllByRecursion (Contains (filed_of self.now)) (filed_by v)) }
     {
         self.last_up_to(Time::Data, timestamp)
     }
@@ -50,7 +52,8 @@ impl History {
     pub fn visible(&self, stamp: u64) -> Option<Version<'_>>
         ensures version { option_map version_in result
             ≡ visible_at stamp (versions_of self.now) }
-        ensures among { IfSome result (λ v. AreAmong (filed_by v) (filed_of self.now)) }
+        ensures among { IfSome result (λ v.
+            AllByRecursion (Contains (filed_of self.now)) (filed_by v)) }
     {
         self.last_up_to(Time::Stamp, stamp)
     }
@@ -61,7 +64,8 @@ impl History {
             (get_or (marks_of self.now) place self.now.first))
             (place_behind self.now.starts_empty
             (last_place (is_up_to time limit) (marks_of self.now))) }
-        ensures among { IfSome result (λ v. AreAmong (filed_by v) (filed_of self.now)) }
+        ensures among { IfSome result (λ v.
+            AllByRecursion (Contains (filed_of self.now)) (filed_by v)) }
     {
         let Some(place) = last_place(self.first, &self.later, time, limit) else {
             return None;
@@ -76,7 +80,7 @@ impl History {
         requires { place < length (marks_of self.now) }
         ensures version { version_in result ≡ version_by self.now.kept.items place
             (get_or (marks_of self.now) place self.now.first) }
-        ensures among { AreAmong (filed_by result) (filed_of self.now) }
+        ensures among { AllByRecursion (Contains (filed_of self.now)) (filed_by result) }
     {
         let mark = self.mark(place);
         Version {
@@ -89,8 +93,9 @@ impl History {
 }
 
 impl<'a> Version<'a> {
-    ghost use Rattle.std.specs.Prelude.{◌≡◌, IfOk};
-    ghost use Rattle.wh_filed.specs.Filed.{filed_at, partitions_at, AreAmong};
+    ghost use Rattle.std.specs.Prelude.{◌≡◌, Contains, IfOk};
+    ghost use Rattle.std.specs.List.{AllByRecursion};
+    ghost use Rattle.wh_filed.specs.Filed.{filed_at, partitions_at};
     ghost use Rattle.wh_version.specs.Version.{version_in, filed_by};
 
     /// Its partitions, by rising number.
@@ -98,7 +103,7 @@ impl<'a> Version<'a> {
         ensures content { IfOk result (λ found.
             partitions_at found.items ≡ (version_in self.now).content) }
         ensures among { IfOk result (λ found.
-            AreAmong (filed_at found.items) (filed_by self.now)) }
+            AllByRecursion (Contains (filed_by self.now)) (filed_at found.items)) }
     {
         let found = standing_at(self.place, self.kept, alloc)?;
         Ok(found)

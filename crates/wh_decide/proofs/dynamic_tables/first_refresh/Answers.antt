@@ -2,13 +2,18 @@ use Rattle.std.proofs.Common.{List, [], ◌∷◌, ◌++◌, ap, sym, ◌∙◌,
 use Rattle.std.proofs.lemmas.Result.{IfOk-weaker}
 use Rattle.wh_state.specs.Stored.{StoredObject, object_meant}
 use Rattle.wh_machine.specs.Dynamics.{with_dynamic, asked_refresh, query_of}
-use Rattle.wh_refresh.specs.Objects.{objects_in, stored_in}
+use Rattle.wh_refresh.specs.Objects.{objects_in, stored_in, filed_at_objects}
 use Rattle.wh_refresh.specs.Refreshing.{RefreshesAs}
 use Rattle.wh_catalog.specs.Catalog.{stored_of, state_of}
 use Rattle.wh_decide.specs.Sight.{machine_in}
-use Rattle.wh_fetch.specs.DiskFetch.{told_of}
+use Rattle.wh_fetch.specs.DiskFetch.{told_of, Covers}
+use Rattle.wh_filed.proofs.FetchingLaws.{all_shown_by, all_covered}
 use Rattle.wh_decide.proofs.ReadyLemmas.{objects_shown}
 use Rattle.wh_decide.proofs.dynamic_tables.first_refresh.Goals as goal
+
+pub refresh-requires : goal.refresh-requires
+refresh-requires g c =
+    all_covered (Covers g.D.Disk c.args.fetch.now) (filed_at_objects c.deref.result.now) (λ part. c.requires.right)
 
 pub returns-clause-refreshes : goal.returns-clause-refreshes
 returns-clause-refreshes g c = λ shown.
@@ -22,12 +27,13 @@ returns-clause-refreshes g c = λ shown.
     ∙ ap (λ (o : StoredObject). (state_of sight.catalog.now).objects ++ object_meant o ∷ []) is in
     subst (λ (all : List StoredObject). RefreshesAs sight.stamp all found (asked_refresh state c.args.id)) stored
     (told state (sym objects)))
-    (c.refresh.ensures.refreshed
+    (c.refresh.ensures.refreshed (all_shown_by (told_of g.D.Disk c.args.fetch.now)
+    (filed_at_objects c.deref.result.now)
     (objects_shown sight (told_of g.D.Disk c.args.fetch.now) _ _ _ c.in_ok-objects.ensures.among c.requires.filed
-    c.deref.ensures.value shown))
+    c.deref.ensures.value shown)))
 
 pub returns-clause-sound : goal.returns-clause-sound
 returns-clause-sound g c = λ shown.
-    c.refresh.ensures.sound
+    c.refresh.ensures.sound (all_shown_by (told_of g.D.Disk c.args.fetch.now) (filed_at_objects c.deref.result.now)
     (objects_shown c.args.sight.now (told_of g.D.Disk c.args.fetch.now) _ _ _ c.in_ok-objects.ensures.among
-    c.requires.filed c.deref.ensures.value shown)
+    c.requires.filed c.deref.ensures.value shown))

@@ -1,6 +1,7 @@
 use Rattle.std.proofs.Common.{◌≡◌, ℕ, List, Option, Some, None, option_map, refl, subst, sym, ap, ◌∙◌}
 use Rattle.std.proofs.lemmas.Option.{same_Some}
 use Rattle.wh_meaning.specs.Bag.{Bag}
+use Rattle.wh_filed.specs.Fetching.{IsShownBy, AllShownBy, IsCovered}
 use Rattle.wh_reply.specs.Reply as reply
 use Rattle.wh_reply.specs.View.{action_view}
 use Rattle.wh_reply.specs.declared.reply.RefreshAction.{RefreshAction}
@@ -15,13 +16,29 @@ use Rattle.wh_dynamic.specs.View.{dynamic_of}
 use Rattle.wh_machine.specs.Refresh as machine
 use Rattle.wh_machine.specs.Refresh.{brought_by, brought_as, brought_one}
 use Rattle.wh_machine.specs.Brought.{after_all}
-use Rattle.wh_table.specs.Table.{table_of}
+use Rattle.wh_version.proofs.Among.{each_held}
+use Rattle.wh_table.specs.Table.{table_of, filed_of}
 use Rattle.wh_table.specs.Edited.{IsEdited}
-use Rattle.wh_refresh.specs.Objects.{objects_in, stored_in}
+use Rattle.wh_refresh.specs.Objects.{objects_in, stored_in, filed_at_objects}
 use Rattle.wh_refresh.specs.Brought.{MakesRows, BringsOne}
 use Rattle.wh_refresh.specs.declared.brought.NewRows.{NewRows}
 use Rattle.wh_refresh.proofs.RefreshLemmas.{one_without, one_by}
+use Rattle.wh_refresh.proofs.bringing.bring.Given.{Over}
+use Rattle.wh_refresh.proofs.bringing.bring.Goals.{After-new_rows}
 use Rattle.wh_refresh.proofs.bringing.bring.Goals as goal
+
+-- what the table has in the file is covered, and is shown where that of all is
+pub new_rows-requires-clause-own : goal.new_rows-requires-clause-own
+new_rows-requires-clause-own g c =
+    each_held (IsCovered (g.F.Fetch.covers c.args.fetch.now)) (filed_of c.in-Some-table_at.table.now)
+    (filed_at_objects c.args.objects.now) c.in-Some-table_at.ensures.among c.requires
+
+own_shown : (g : Over) (c : After-new_rows g)
+    → AllShownBy (g.F.Fetch.contents c.args.fetch.now) (filed_at_objects c.args.objects.now)
+    → AllShownBy (g.F.Fetch.contents c.args.fetch.now) (filed_of c.in-Some-table_at.table.now)
+own_shown g c shown =
+    each_held (IsShownBy (g.F.Fetch.contents c.args.fetch.now)) (filed_of c.in-Some-table_at.table.now)
+    (filed_at_objects c.args.objects.now) c.in-Some-table_at.ensures.among shown
 
 -- where there is new data, or no moment yet, its query says what is done
 by_query : (objects : List Object) (moment id : ℕ) (d : Dynamic) (t : Table) (action : RefreshAction)
@@ -67,7 +84,8 @@ returns-in_default-2-clause-brought g c shown stamp bs are above none =
     (subst (λ (rows : Option NewRows). MakesRows rows (table_of c.in-Some-table_at.table.now)
     (evaluated_at now c.args.moment d))
     c.in_default-2.is
-    (c.in_ok-rows.ensures.made shown (c.in-Some-table_at.ensures.among _ shown) stamp bs are above)) in
+    (c.in_ok-rows.ensures.made shown
+    (own_shown g (goal.at.returns-in_default-2-clause-brought g c).After-new_rows shown) stamp bs are above)) in
     one_by stamp c.args.moment bs objects above c.args.id d t none (sym c.in-Some.ensures)
     (sym c.in-Some-table_at.ensures.meant)
     ∙ ap (brought_by now c.args.moment c.args.id d t) (sym (c.action-action.ensures stamp bs are above))
@@ -88,7 +106,8 @@ returns-clause-brought g c shown stamp bs are above none =
     let table : StoredTable = table_of c.in-Some-table_at.table.now in
     let t = table_meant table in
     let made = subst (λ (rows : Option NewRows). MakesRows rows table (evaluated_at now c.args.moment d))
-    c.in-Some-2.is (c.in_ok-rows.ensures.made shown (c.in-Some-table_at.ensures.among _ shown) stamp bs are above) in
+    c.in-Some-2.is (c.in_ok-rows.ensures.made shown
+    (own_shown g (goal.at.returns-clause-brought g c).After-new_rows shown) stamp bs are above) in
     let by_rows : (found : Option Bag) → evaluated_at now c.args.moment d ≡ found
     → MakesRows (Some c.in-Some-2.rows) table found
     → BringsOne stored (record {
@@ -128,11 +147,14 @@ returns-clause-brought g c shown stamp bs are above none =
 
 pub returns-in_err-rows-clause-sound : goal.returns-in_err-rows-clause-sound
 returns-in_err-rows-clause-sound g c shown =
-    c.in_err-rows.ensures.sound shown (c.in-Some-table_at.ensures.among _ shown)
+    c.in_err-rows.ensures.sound shown
+    (own_shown g (goal.at.returns-in_err-rows-clause-sound g c).After-new_rows shown)
 
 pub returns-in_default-2-clause-sound : goal.returns-in_default-2-clause-sound
 returns-in_default-2-clause-sound g c shown =
-    c.in_ok-rows.ensures.sound shown (c.in-Some-table_at.ensures.among _ shown)
+    c.in_ok-rows.ensures.sound shown
+    (own_shown g (goal.at.returns-in_default-2-clause-sound g c).After-new_rows shown)
 
 pub returns-clause-sound : goal.returns-clause-sound
-returns-clause-sound g c shown = c.in_ok-rows.ensures.sound shown (c.in-Some-table_at.ensures.among _ shown)
+returns-clause-sound g c shown =
+    c.in_ok-rows.ensures.sound shown (own_shown g (goal.at.returns-clause-sound g c).After-new_rows shown)

@@ -1,7 +1,6 @@
 use Rattle.std.proofs.Common.{rules, ◌≡◌, ℕ, ◌+◌, List, ◌∷◌, drop, slice_index_or, Option, None, subst, sym, ◌∙◌}
 use Rattle.std.proofs.lemmas.List.{drop_more, drop_all}
-use Rattle.wh_fetch.specs.DiskFetch.{goes_on}
-use Rattle.wh_filed.specs.Filed.{AllShown}
+use Rattle.wh_filed.proofs.FetchingLaws.{still_covered}
 use Rattle.wh_state.specs.State.{Object}
 use Rattle.wh_state.specs.Stored.{StoredObject}
 use Rattle.wh_machine.specs.Refresh as machine
@@ -12,6 +11,7 @@ use Rattle.wh_refresh.specs.Objects.{objects_in, stored_in, filed_at_objects}
 use Rattle.wh_refresh.specs.Brought.{AreBrought, BringsOne, BringsOneOr, BroughtSoFar}
 use Rattle.wh_refresh.specs.declared.brought.Brought.{Brought}
 use Rattle.wh_refresh.proofs.RefreshLemmas.{far_further, far_stopped, far_done, rise_above, not_sought}
+use Rattle.wh_refresh.proofs.SourceLemmas.{still_shown}
 use Rattle.wh_refresh.proofs.bringing.bring_all.Goals as goal
 
 -- what the next id comes to, behind those before it
@@ -34,8 +34,7 @@ returns-in-None-clause-brought g c shown stamp rise =
     let i = c.loop-id.id-index in
     let id : ℕ = slice_index_or ids i 0 in
     let all = c.loop-id.brought.items in
-    let then = subst (λ (told : Option (List ℕ)). AllShown told (filed_at_objects c.args.objects.now))
-    (sym c.loop-id.invariant.same) shown in
+    let then = still_shown _ _ (filed_at_objects c.args.objects.now) c.loop-id.invariant.same shown in
     let far = subst (λ (left : List ℕ). BroughtSoFar stored objects stamp moment ids left all)
     (drop_more ids i 0 c.loop-id-test.true) (c.loop-id.invariant.brought shown stamp rise) in
     far_stopped stored objects stamp moment ids id (drop (i + 1) ids) all far
@@ -46,7 +45,8 @@ returns-in-None-clause-brought g c shown stamp rise =
 
 pub loop-id-preserved : goal.loop-id-preserved
 loop-id-preserved g c = record {
-  right = c.in_ok-one.ensures.goes.right c.loop-id.invariant.right;
+  covered = still_covered _ _ (filed_at_objects c.args.objects.now)
+      (λ part. g.met.F.Fetch.covers_on _ _ part c.in_ok-one.ensures.goes) c.loop-id.invariant.covered;
   brought = λ shown stamp rise.
       let stored = stored_in c.args.objects.now in
       let objects = objects_in c.args.objects.now in
@@ -55,8 +55,7 @@ loop-id-preserved g c = record {
       let i = c.loop-id.id-index in
       let id : ℕ = slice_index_or ids i 0 in
       let all = c.loop-id.brought.items in
-      let then = subst (λ (told : Option (List ℕ)). AllShown told (filed_at_objects c.args.objects.now))
-      (sym c.loop-id.invariant.same) shown in
+      let then = still_shown _ _ (filed_at_objects c.args.objects.now) c.loop-id.invariant.same shown in
       let far = subst (λ (left : List ℕ). BroughtSoFar stored objects stamp moment ids left all)
       (drop_more ids i 0 c.loop-id-test.true) (c.loop-id.invariant.brought shown stamp rise) in
       let now : List Object = after_all stamp moment far.brought objects in
@@ -70,7 +69,7 @@ loop-id-preserved g c = record {
       (sym brings.same.id ∙ brought_id now moment id brings.brought brings.is) brings);
   sound = search rules;
   same = search rules;
-  goes = goes_on g.D.Disk _ _ _ c.loop-id.invariant.goes c.in_ok-one.ensures.goes;
+  goes = g.met.F.Fetch.stays_on _ _ _ c.loop-id.invariant.goes c.in_ok-one.ensures.goes;
   counted = search rules;
 }
 

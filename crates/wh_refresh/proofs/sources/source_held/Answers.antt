@@ -1,15 +1,17 @@
-use Rattle.std.proofs.Common.{◌≡◌, Option, Some, None, refl, sym, ap, ◌∙◌}
+use Rattle.std.proofs.Common.{◌≡◌, Option, Some, None, Contains, refl, sym, ap, ◌∙◌}
 use Rattle.std.specs.FinMap.{values}
 use Rattle.wh_meaning.specs.Bag.{Bag, bag_of}
+use Rattle.wh_filed.specs.Filed.{filed_at}
 use Rattle.wh_state.specs.State.{Rows, rows_at, last_rows}
 use Rattle.wh_state.specs.Act.{edited_table}
 use Rattle.wh_state.specs.Stored.{table_meant}
 use Rattle.wh_state.specs.Edits.{Edits}
 use Rattle.wh_state.specs.Moments.{bag_at}
 use Rattle.wh_machine.specs.Brought.{after_all, edits_sought}
-use Rattle.wh_table.specs.Table.{table_of}
+use Rattle.wh_version.proofs.Among.{each_held}
+use Rattle.wh_table.specs.Table.{table_of, filed_of}
 use Rattle.wh_refresh.specs.Brought.{IsRowsOf}
-use Rattle.wh_refresh.specs.Objects.{objects_in, stored_in}
+use Rattle.wh_refresh.specs.Objects.{objects_in, stored_in, filed_at_objects}
 use Rattle.wh_refresh.specs.Sources.{bag_held}
 use Rattle.wh_refresh.proofs.RefreshLemmas.{source_none, source_old, source_new, same_next, none_there}
 use Rattle.wh_refresh.proofs.SourceLemmas.{held_none, held_alone, held_beside}
@@ -56,9 +58,12 @@ returns-in_ok-filed-in-None-clause-held c stamp bs are above =
 -- ---- among the partitions of the objects
 
 pub returns-in_ok-filed-in-Some-new_rows_of-clause-among : goal.returns-in_ok-filed-in-Some-new_rows_of-clause-among
-returns-in_ok-filed-in-Some-new_rows_of-clause-among c told shown =
-    c.in_ok-filed-in-Some-new_rows_of.ensures.among told (c.in-Some.ensures.among told shown)
+returns-in_ok-filed-in-Some-new_rows_of-clause-among c =
+    each_held (Contains (filed_at_objects c.args.objects.now))
+    (filed_at c.in_ok-filed-in-Some-new_rows_of.filed.items) (filed_of c.in-Some.table.now)
+    c.in_ok-filed-in-Some-new_rows_of.ensures.among c.in-Some.ensures.among
 
 pub returns-in_ok-filed-in-None-clause-among : goal.returns-in_ok-filed-in-None-clause-among
-returns-in_ok-filed-in-None-clause-among c told shown =
-    c.in_ok-filed-in-None.ensures.among told (c.in-Some.ensures.among told shown)
+returns-in_ok-filed-in-None-clause-among c =
+    each_held (Contains (filed_at_objects c.args.objects.now)) (filed_at c.in_ok-filed-in-None.filed.items)
+    (filed_of c.in-Some.table.now) c.in_ok-filed-in-None.ensures.among c.in-Some.ensures.among

@@ -1,9 +1,9 @@
-use Rattle.std.proofs.Common.{List, ℕ, slice_index_or, refl, ap, take, ◌∙◌}
+use Rattle.std.proofs.Common.{List, slice_index_or, Contains, refl, ap, ◌∙◌}
 use Rattle.std.proofs.lemmas.List.{take_all}
 use Rattle.wh_state.specs.State.{Object}
 use Rattle.wh_state.specs.Moments.{bag_at, instance_at}
 use Rattle.wh_machine.specs.Brought.{after_all}
-use Rattle.wh_plan.proofs.ListLaws.{mapped_next, among_next}
+use Rattle.wh_plan.proofs.ListLaws.{mapped_next, each_next}
 use Rattle.wh_refresh.specs.Objects.{objects_in, filed_at_objects}
 use Rattle.wh_refresh.specs.Sources.{bag_held, filed_by}
 use Rattle.wh_refresh.proofs.sources.sources_held.Goals as goal
@@ -15,8 +15,8 @@ loop-id-preserved c = let at = c.loop-id in record {
       c.args.ids.now at.id-index at.sources.items _ c.in_ok-source.source
       (slice_index_or c.args.ids.now at.id-index 0) 0 c.loop-id-test.true refl c.in_ok-push.ensures.items
       (at.invariant.held stamp bs are above) (c.in_ok-source.ensures.held stamp bs are above);
-  among = among_next filed_by (filed_at_objects c.args.objects.now) at.sources.items _ c.in_ok-source.source
-      c.in_ok-push.ensures.items at.invariant.among c.in_ok-source.ensures.among;
+  among = each_next (Contains (filed_at_objects c.args.objects.now)) filed_by at.sources.items _
+      c.in_ok-source.source c.in_ok-push.ensures.items at.invariant.among c.in_ok-source.ensures.among;
 }
 
 pub returns-clause-held : goal.returns-clause-held

@@ -1,5 +1,5 @@
-use Rattle.std.proofs.Common.{◌≡◌, ℕ, List, take}
-use Rattle.wh_filed.specs.Filed.{AreAmong}
+use Rattle.std.proofs.Common.{◌≡◌, ℕ, List, take, Contains}
+use Rattle.std.specs.List.{AllByRecursion}
 use Rattle.wh_state.specs.Moments.{instance_at}
 use Rattle.wh_machine.specs.Refresh.{Brought}
 use Rattle.wh_machine.specs.Brought.{after_all, AreAbove}
@@ -13,5 +13,5 @@ invariant-loop-id l = record {
   held : (stamp : ℕ) (bs : List Brought) → AreBrought (stored_in l.objects) l.brought bs → AreAbove 0 bs
       → bags_held l.sources.items
       ≡ instance_at (after_all stamp l.moment bs (objects_in l.objects)) l.moment (take l.id-index l.ids);
-  among : AreAmong (filed_held l.sources.items) (filed_at_objects l.objects);
+  among : AllByRecursion (Contains (filed_at_objects l.objects)) (filed_held l.sources.items);
 }

@@ -1,4 +1,4 @@
-use Rattle.std.proofs.Common.{List, ◌≤◌, ◌∙◌, sym, ap, arith}
+use Rattle.std.proofs.Common.{List, ◌≤◌, ◌∙◌, sym, ap, map, arith}
 use Rattle.std.specs.Prelude.{not}
 use Rattle.wh_frame.specs.Partition.{Partition}
 use Rattle.wh_state.specs.Edits.{without, is_among}
@@ -9,7 +9,7 @@ use Rattle.wh_table.proofs.Apart.{rising_apart, highest_filter, highest_kept}
 use Rattle.wh_table.proofs.fitting.are_apart.Goals as goal
 
 pub returns-then-rise_above : goal.returns-then-rise_above
-returns-then-rise_above c =
+returns-then-rise_above g c =
     let removed = c.args.removed.now in
     let standing : List Partition = standing_in (versions_of c.args.history.now) in
     let rises = sym c.rise_above.ensures ∙ c.if-rise_above.true in
@@ -24,8 +24,11 @@ returns-then-rise_above c =
       ap highest_number c.kept-kept.ensures.standing,
       ap highest_number c.kept-kept.ensures.kept,
     ) in
-    c.if-rise_above.true ∙ sym (rising_apart (without removed standing) c.args.added.now c.args.highest below rises)
+    let added : List Partition = map g.P.Ranged.rows c.args.added.now in
+    c.if-rise_above.true ∙ sym (rising_apart (without removed standing) added c.args.highest below rises)
 
 pub returns-else-rise_above : goal.returns-else-rise_above
-returns-else-rise_above c = c.compared_apart.ensures
-    ∙ ap (λ ps. all_apart (without c.args.removed.now ps) c.args.added.now) c.kept-kept.ensures.standing
+returns-else-rise_above g c =
+    c.compared_apart.ensures
+    ∙ ap (λ ps. all_apart (without c.args.removed.now ps) (map g.P.Ranged.rows c.args.added.now))
+    c.kept-kept.ensures.standing

@@ -1,6 +1,7 @@
 use Rattle.std.proofs.Common.{◌∷◌, [], refl}
-use Rattle.wh_filed.specs.Filed.{filed_at, partitions_at}
-use Rattle.wh_version.proofs.Kept.{among_more}
+use Rattle.wh_filed.specs.Filed.{partitions_at}
+use Rattle.wh_version.specs.Lasting.{filed_in}
+use Rattle.wh_version.proofs.Kept.{holds}
 use Rattle.wh_version.proofs.Steps.{one_on, all_on}
 use Rattle.wh_table.proofs.StandingLaws.{staying, staying_more}
 use Rattle.wh_table.proofs.standing.standing_without.Goals as goal
@@ -16,8 +17,8 @@ loop-one-preserved c =
       partitions = one_on (λ k. staying removed (k ∷ [])) (staying removed) (staying_more removed) kept at.one-index k
           (partitions_at at.found.items) (partitions_at now) (staying removed kept)
           c.loop-one-test.true c.one-item.is c.in_ok-add_staying.ensures.added at.invariant.partitions;
-      among = among_more kept at.one-index k (filed_at at.found.items) (filed_at now) c.loop-one-test.true
-          c.one-item.is c.in_ok-add_staying.ensures.among at.invariant.among;
+      among = c.in_ok-add_staying.ensures.among (filed_in kept)
+          (holds kept at.one-index k c.loop-one-test.true c.one-item.is) at.invariant.among;
     }
 
 pub returns-clause-partitions : goal.returns-clause-partitions

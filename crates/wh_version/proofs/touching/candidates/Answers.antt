@@ -1,7 +1,8 @@
 use Rattle.std.proofs.Common.{◌∷◌, [], refl, arith}
-use Rattle.wh_filed.specs.Filed.{filed_at, partitions_at}
+use Rattle.wh_filed.specs.Filed.{partitions_at}
 use Rattle.wh_state.specs.Edits.{touched}
-use Rattle.wh_version.proofs.Kept.{among_more}
+use Rattle.wh_version.specs.Lasting.{filed_in}
+use Rattle.wh_version.proofs.Kept.{holds}
 use Rattle.wh_version.proofs.Steps.{one_on, all_on}
 use Rattle.wh_version.proofs.Touched.{touched_of, each_touched}
 use Rattle.wh_version.proofs.touching.candidates.Goals as goal
@@ -15,8 +16,8 @@ loop-one-preserved c =
       one_on (λ k. touched_of edits (k ∷ [])) (touched_of edits) (each_touched edits) kept at.one-index
           c.one-item.result (touched edits (partitions_at at.found.items)) (touched edits (partitions_at now))
           (touched_of edits kept) (omega arith) c.one-item.is c.in_ok-add_candidate.ensures.touched at.invariant.0,
-      among_more kept at.one-index c.one-item.result (filed_at at.found.items) (filed_at now) (omega arith)
-          c.one-item.is c.in_ok-add_candidate.ensures.among at.invariant.1,
+      c.in_ok-add_candidate.ensures.among (filed_in kept)
+          (holds kept at.one-index c.one-item.result (omega arith) c.one-item.is) at.invariant.1,
     )
 
 pub returns-clause-touched : goal.returns-clause-touched

@@ -1,10 +1,7 @@
 use Rattle.std.proofs.Common.{rules, ◌++◌, sym, subst}
 use Rattle.std.specs.Prelude.{OnOk}
-use Rattle.wh_task.specs.declared.task.TaskBody.{TaskBody}
-use Rattle.wh_dynamic.specs.declared.query.DynamicQuery.{DynamicQuery}
 use Rattle.wh_filed.specs.Filed.{AreAmong}
-use Rattle.wh_record.specs.declared.commit.ChangeIn.{ChangeIn}
-use Rattle.wh_record.specs.View.{change_of}
+use Rattle.wh_record.specs.View.{UnderstoodChange, change_of}
 use Rattle.wh_record.specs.Places.{filed_in_change}
 use Rattle.wh_catalog.specs.Object.{kept_objects, filed_of_objects}
 use Rattle.wh_catalog.specs.Catalog.{kept_of}
@@ -54,7 +51,7 @@ returns-in-SetsDynamic-clause-filed c =
 pub returns-in-PushesVersion-clause-filed : goal.returns-in-PushesVersion-clause-filed
 unfolding kept_of
 returns-in-PushesVersion-clause-filed c =
-    let P : ChangeIn TaskBody DynamicQuery → Type 0 = λ change.
+    let P : UnderstoodChange → Type 0 = λ change.
     OnOk c.push_version.result (AreAmong (filed_of_objects c.push_version.new.objects.items)
     (filed_of_objects c.args.self.now.objects.items ++ filed_in_change c.args.at (change_of change))) in
     subst P (sym c.in-PushesVersion.is) c.push_version.ensures.filed

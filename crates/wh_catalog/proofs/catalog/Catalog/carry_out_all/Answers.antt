@@ -2,11 +2,8 @@ use Rattle.std.proofs.Common.{rules, ◌≡◌, ℕ, ◌∷◌, [], ◌++◌, �
 use Rattle.std.specs.Vec.Iter.{into_iter_items}
 use Rattle.wh_state.specs.Stored.{StoredObject}
 use Rattle.wh_state.specs.Commit.{AllApply, all_changed, changed}
-use Rattle.wh_record.specs.declared.commit.ChangeIn.{ChangeIn}
-use Rattle.wh_task.specs.declared.task.TaskBody.{TaskBody}
-use Rattle.wh_dynamic.specs.declared.query.DynamicQuery.{DynamicQuery}
 use Rattle.wh_filed.specs.Filed.{AreAmong}
-use Rattle.wh_record.specs.View.{change_of}
+use Rattle.wh_record.specs.View.{UnderstoodChange, change_of}
 use Rattle.wh_record.specs.Places.{filed_in_change, filed_in_changes}
 use Rattle.wh_catalog.specs.Catalog.{kept_of, objects_of, filed_of}
 use Rattle.wh_catalog.specs.Undo.{undone}
@@ -26,11 +23,11 @@ loop-change-preserved c =
     let short = ap length steps in
     let after : objects_of c.carry_out.new.self ≡ changed stamp (objects_of at.self) (change_of change) =
     c.in-Ok-carry_out.ensures.changed in
-    let P : List (ChangeIn TaskBody DynamicQuery) → Type 0 = λ cs. AllApply stamp (objects_of at.self) (map change_of cs) in
+    let P : List UnderstoodChange → Type 0 = λ cs. AllApply stamp (objects_of at.self) (map change_of cs) in
     let Q : List StoredObject → Type 0 = λ os. AllApply stamp os (map change_of rest) in
     let all = filed_of c.args.self.now
     ++ filed_in_changes c.args.first (map change_of (into_iter_items c.into_iter-change-iterator.result)) in
-    let R : List (ChangeIn TaskBody DynamicQuery) → Type 0 = λ cs.
+    let R : List UnderstoodChange → Type 0 = λ cs.
     AreAmong (filed_of at.self ++ filed_in_changes at.at (map change_of cs)) all in
     let S : ℕ → Type 0 = λ n.
     AreAmong (filed_of at.self ++ (filed_in_change at.at (change_of change) ++ filed_in_changes n (map change_of rest))) all in
@@ -58,7 +55,7 @@ returns-clause-filed c =
     let at = c.loop-change in
     let given = into_iter_items c.into_iter-change-iterator.result in
     let same : given ≡ c.args.changes.items = search rules in
-    let P : List (ChangeIn TaskBody DynamicQuery) → Type 0 = λ cs.
+    let P : List UnderstoodChange → Type 0 = λ cs.
     AreAmong (filed_of at.self) (filed_of c.args.self.now ++ filed_in_changes c.args.first (map change_of cs)) in
     subst P same
     (among_less (filed_of at.self) (filed_in_changes at.at (map change_of (into_iter_items at.change-iterator)))

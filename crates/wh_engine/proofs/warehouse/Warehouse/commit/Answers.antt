@@ -5,13 +5,15 @@ use Rattle.wh_record.specs.View.{commit_of}
 use Rattle.wh_journal.specs.Journal.{IsSame, end_of, limit_of, failed_of, need_of}
 use Rattle.wh_journal.specs.Torn.{SameFront}
 use Rattle.wh_state.specs.State.{State}
+use Rattle.wh_state.specs.Commit.{Commit, Applies}
 use Rattle.wh_state.specs.Spelling.{payload_of}
 use Rattle.wh_state.specs.Written.{is_beyond, record_length}
+use Rattle.wh_catalog.specs.Catalog.{stored_of}
 use Rattle.wh_txn.specs.View.{sessions_of}
 use Rattle.wh_decide.specs.Decision.{machine_at}
 use Rattle.wh_engine.specs.Warehouse.{IsUntouched}
 use Rattle.wh_engine.specs.Halts.{Halted}
-use Rattle.wh_engine.proofs.FileLemmas.{Appends, Behind, Stages, filed_append, adds_commit, lists_same}
+use Rattle.wh_engine.proofs.FileLemmas.{Appends, Behind, Staged, Stages, filed_append, adds_commit, lists_same}
 use Rattle.wh_engine.proofs.StopLemmas.{leaves_still, leaves_commit}
 use Rattle.wh_engine.proofs.HaltLemmas.{untouched_behind, untouched, starved}
 use Rattle.wh_engine.proofs.ReadLemmas.{read_none, right_beside, within_more}
@@ -97,6 +99,10 @@ returns-in_err-reserve-clause-halted g c =
 pub returns-in_err-reserve-clause-any_moment : goal.returns-in_err-reserve-clause-any_moment
 returns-in_err-reserve-clause-any_moment g c = leaves_still g.met.D.Disk.only_now c.args.self.now _ _ (only_read_none g.D.Disk c.args.self.now.fetch.disk)
 
+pub returns-in_err-outlined-clause-any_moment : goal.returns-in_err-outlined-clause-any_moment
+returns-in_err-outlined-clause-any_moment g c =
+    leaves_still g.met.D.Disk.only_now c.args.self.now _ _ (only_read_none g.D.Disk c.args.self.now.fetch.disk)
+
 pub returns-in_err-undo-clause-halted : goal.returns-in_err-undo-clause-halted
 returns-in_err-undo-clause-halted g c =
     starved c.from_residual-in_err-undo.result c.args.self.now _ _
@@ -113,7 +119,8 @@ pub returns-in-Ok-clause-any_moment : goal.returns-in-Ok-clause-any_moment
 returns-in-Ok-clause-any_moment g c =
     leaves_commit c.args.self.now _ c.reserve.new.self
     (commit_of c.args.commit) c.in_ok-framed.framed c.reserve.ensures.same c.in_ok-framed.ensures.payload
-    c.in_ok-undo.ensures.applies (record { written = c.in_ok-framed.ensures.written; understood = c.requires.read })
+    (subst (Applies (stored_of c.args.self.now.catalog)) c.in_ok-outlined.ensures c.in_ok-undo.ensures.applies)
+    (record { written = c.in_ok-framed.ensures.written; understood = c.requires.read })
     (λ payloads file told is lists only.
     (c.in-Ok.ensures.filed payloads file (record { told = told; spelled = is; lists = lists })).any_moment only)
 
@@ -124,7 +131,14 @@ returns-in-Ok-clause-answered g c =
     let j = c.reserve.new.self in
     let k = c.append.new.self in
     let at : ℕ = c.next_place.result in
-    let staged = c.in_ok-undo.ensures in
+    let staged : Staged old.catalog c.stage.new.self commit at =
+    subst (λ (outlined : Commit). Staged old.catalog c.stage.new.self outlined at) c.in_ok-outlined.ensures
+    (record {
+      applies = c.in_ok-undo.ensures.applies;
+      applied = c.in_ok-undo.ensures.applied;
+      last = c.in_ok-undo.ensures.last;
+      among = c.in_ok-undo.ensures.filed;
+    }) in
     let same = c.reserve.ensures.same in
     let spelled = c.in_ok-framed.ensures.payload in
     let before = g.D.Disk.bytes old.fetch.disk in
@@ -151,7 +165,7 @@ returns-in-Ok-clause-answered g c =
       applies = staged.applies;
       applied = staged.applied;
       good = record { written = c.in_ok-framed.ensures.written; understood = c.requires.read };
-      among = staged.filed;
+      among = staged.among;
     } in
     record {
       stepped = ap (λ (s : State). machine_at s (sessions_of old.sessions))
@@ -174,7 +188,8 @@ pub returns-clause-any_moment : goal.returns-clause-any_moment
 returns-clause-any_moment g c =
     leaves_commit c.args.self.now _ c.reserve.new.self
     (commit_of c.args.commit) c.in_ok-framed.framed c.reserve.ensures.same c.in_ok-framed.ensures.payload
-    c.in_ok-undo.ensures.applies (record { written = c.in_ok-framed.ensures.written; understood = c.requires.read })
+    (subst (Applies (stored_of c.args.self.now.catalog)) c.in_ok-outlined.ensures c.in_ok-undo.ensures.applies)
+    (record { written = c.in_ok-framed.ensures.written; understood = c.requires.read })
     (λ payloads file told is lists only.
     (c.in-Err.ensures.filed payloads file (record { told = told; spelled = is; lists = lists })).any_moment only)
 

@@ -14,16 +14,9 @@ use Rattle.wh_version.specs.Lasting.{version_by, versions_by}
 use Rattle.wh_table.specs.Table.{kept_table}
 use Rattle.wh_table.specs.Apart.{is_apart, is_rising, rows_rise, highest_number}
 use Rattle.wh_table.proofs.Apart.{changed_apart, highest_number-append}
-use Rattle.wh_table.proofs.EvenRows.{all_even}
 use Rattle.wh_table.proofs.Pushed.{shortened-push, popped-push, next_in-push, filed_back, last_apart}
 use Rattle.wh_table.proofs.Rising.{each_filter, each_append, last_rising}
 use Rattle.wh_table.proofs.table.StoredTable.add_version.Goals as goal
-
-pub filed-requires : goal.filed-requires
-unfolding kept_table
-filed-requires c =
-    all_even (map column_of c.args.self.now.columns.items) c.args.change.next_row c.args.change.added.items
-    c.requires.rows
 
 pub invariant_of-self : goal.invariant_of-self
 unfolding kept_table
@@ -46,15 +39,16 @@ invariant_of-self-2 c =
     let versions = versions_of t.history in
     let removed = c.args.change.removed.items in
     let added = c.args.change.added.items in
-    let same = c.in_ok-filed.ensures.same in
+    let same = c.in_ok-removed.ensures.same in
     let ps : List Partition = standing_in versions in
     let v : StoredVersion = record {
       stamp = c.args.stamp;
       data_timestamp = c.args.change.data_timestamp;
       content = without removed ps ++ added;
     } in
+    let gone = c.deref-2.ensures.value ∙ c.in_ok-removed.ensures.removed in
     let now : versions_of c.push.new.self ≡ versions ++ v ∷ [] = c.in_ok-push.ensures.versions
-    ∙ (λ i. pushed_with versions c.args.stamp c.args.change.data_timestamp (c.deref-2.ensures.value i) (same i)) in
+    ∙ (λ i. pushed_with versions c.args.stamp c.args.change.data_timestamp (gone i) (same i)) in
     let P : List StoredVersion → Type 0 = λ vs. IsTrue (list_all is_apart vs) in
     let highest = ap highest_number (c.in_ok-push.ensures.partitions ∙ ap (λ l. partitions_of t.history ++ l) same)
     ∙ highest_number-append (partitions_of t.history) added in
@@ -81,13 +75,14 @@ returns-clause-pushed c =
     let versions = versions_of t.history in
     let removed = c.args.change.removed.items in
     let added = c.args.change.added.items in
-    let same = c.in_ok-filed.ensures.same in
+    let same = c.in_ok-removed.ensures.same in
+    let gone = c.deref-2.ensures.value ∙ c.in_ok-removed.ensures.removed in
     let now : versions_of c.push.new.self
     ≡ pushed_with versions c.args.stamp c.args.change.data_timestamp removed added =
     c.in_ok-push.ensures.versions
-    ∙ (λ i. pushed_with versions c.args.stamp c.args.change.data_timestamp (c.deref-2.ensures.value i) (same i)) in
-    let count : length c.in_ok-filed.filed.items ≡ length added =
-    sym (length-map c.in_ok-filed.filed.items (λ f. f.partition)) ∙ ap length same in
+    ∙ (λ i. pushed_with versions c.args.stamp c.args.change.data_timestamp (gone i) (same i)) in
+    let count : length c.in_ok-removed.filed.items ≡ length added =
+    sym (length-map c.in_ok-removed.filed.items (λ f. f.partition)) ∙ ap length same in
     let next : next_in (nexts_of c.push.new.self) ≡ next_in (nexts_of t.history) + length added =
     ap next_in c.in_ok-push.ensures.nexts ∙ next_in-push (nexts_of t.history) _
     ∙ ap (λ n. next_in (nexts_of t.history) + n) count in
@@ -109,7 +104,7 @@ returns-clause-back c =
     let versions = (λ i. popped (empty i) (c.in_ok-push.ensures.versions i))
     ∙ popped-push h.starts_empty (version_by h.kept.items 0 h.first) (versions_by h.kept.items 1 h.later.items) _ in
     let nexts = ap shortened c.in_ok-push.ensures.nexts ∙ shortened-push _ _ _ in
-    let filed = filed_back h (nexts_of c.push.new.self) (filed_of c.push.new.self) c.in_ok-filed.filed.items nexts
+    let filed = filed_back h (nexts_of c.push.new.self) (filed_of c.push.new.self) c.in_ok-removed.filed.items nexts
     c.in_ok-push.ensures.filed in
     λ i. record {
       created = t.created;
@@ -125,4 +120,4 @@ returns-clause-back c =
 pub returns-clause-filed : goal.returns-clause-filed
 unfolding kept_table
 returns-clause-filed c =
-    c.in_ok-push.ensures.filed ∙ ap (λ l. filed_of c.args.self.now.history ++ l) c.in_ok-filed.ensures.placed
+    c.in_ok-push.ensures.filed ∙ ap (λ l. filed_of c.args.self.now.history ++ l) c.in_ok-removed.ensures.placed

@@ -1,4 +1,5 @@
-use Rattle.std.proofs.Common.{◌∙◌, sym, List}
+use Rattle.std.proofs.Common.{◌∙◌, sym, ap, map, List}
+use Rattle.std.proofs.lemmas.List.{map-id}
 use Rattle.wh_frame.specs.Partition.{Partition}
 use Rattle.wh_state.specs.Edits.{without}
 use Rattle.wh_version.specs.Edits.{edits_in}
@@ -21,7 +22,8 @@ returns-clause-edited g c = λ shown.
     c.in_ok-candidates.ensures.touched c.deref.ensures.value (c.in_ok-loaded.ensures.loaded shown)
     c.deref-2.ensures.value c.in_ok-at_hand.ensures.partitions c.deref-3.ensures.value in
     let apart = c.are_apart.ensures
-    ∙ (λ i. all_apart (without (c.deref-4.ensures.value i) ps) (c.deref-5.ensures.value i)) in
+    ∙ (λ i. all_apart (without (c.deref-4.ensures.value i) ps) (map (λ p. p) (c.deref-5.ensures.value i)))
+    ∙ ap (all_apart (without removed ps)) (map-id added) in
     record {
       removed = c.in_ok-rewritten.ensures.removed has;
       added = c.in_ok-rewritten.ensures.added has;

@@ -1,10 +1,20 @@
-use Rattle.wh_fetch.specs.DiskFetch.{told_of}
+use Rattle.wh_filed.specs.Filed.{filed_at}
+use Rattle.wh_filed.specs.Fetching.{IsShownBy, IsCovered}
+use Rattle.wh_table.specs.Table.{filed_of}
+use Rattle.wh_table.proofs.Asked.{each_among}
 use Rattle.wh_table.proofs.table.StoredTable.load_some.Goals as goal
+
+pub fetch_all-requires : goal.fetch_all-requires
+fetch_all-requires g c =
+    each_among (IsCovered (g.F.Fetch.covers c.args.fetch.now)) (filed_at c.args.some.now) (filed_of c.args.self.now)
+    c.requires.among c.requires.covered
 
 pub returns-clause-loaded : goal.returns-clause-loaded
 returns-clause-loaded g c = λ shown.
-    c.load.ensures.loaded (c.requires.among (told_of g.D.Disk c.args.fetch.now) shown)
+    c.fetch_all.ensures.loaded (each_among (IsShownBy (g.F.Fetch.contents c.args.fetch.now))
+    (filed_at c.args.some.now) (filed_of c.args.self.now) c.requires.among shown)
 
 pub returns-clause-sound : goal.returns-clause-sound
 returns-clause-sound g c = λ shown.
-    c.load.ensures.sound (c.requires.among (told_of g.D.Disk c.args.fetch.now) shown)
+    c.fetch_all.ensures.sound (each_among (IsShownBy (g.F.Fetch.contents c.args.fetch.now))
+    (filed_at c.args.some.now) (filed_of c.args.self.now) c.requires.among shown)

@@ -1,5 +1,5 @@
-use Rattle.wh_fetch.specs.DiskFetch.{told_of}
-use Rattle.wh_filed.specs.Filed.{contents_at, AllShown}
+use Rattle.wh_filed.specs.Filed.{contents_at}
+use Rattle.wh_filed.specs.Fetching.{AllShownBy}
 use Rattle.wh_version.specs.Edits.{edits_in, HaveTouched}
 use Rattle.wh_table.specs.Table.{kept_table, filed_of}
 use Rattle.wh_table.proofs.Asked.{still_among, at_hand}
@@ -8,7 +8,7 @@ use Rattle.wh_table.proofs.table.StoredTable.rewrite.Goals.{After-rewrite}
 use Rattle.wh_table.proofs.table.StoredTable.rewrite.Goals as goal
 
 module _ (g : Over) (c : After-rewrite g) where
-  has : AllShown (told_of g.D.Disk c.args.fetch.now) (filed_of c.args.self.now)
+  has : AllShownBy (g.F.Fetch.contents c.args.fetch.now) (filed_of c.args.self.now)
       → HaveTouched c.args.self.now.history (edits_in c.args.edits) (contents_at c.deref-3.result.now)
   has shown =
       at_hand c.args.self.now.history (edits_in c.args.edits) c.in_ok-candidates.candidates.items c.deref.result.now

@@ -1,8 +1,10 @@
-use Rattle.std.proofs.Common.{[], Option, option_map, ap, sym, ◌∙◌}
-use Rattle.wh_filed.specs.Filed.{partitions_at}
+use Rattle.std.proofs.Common.{[], Option, option_map, Contains, ap, sym, ◌∙◌}
+use Rattle.wh_filed.specs.Filed.{filed_at, partitions_at}
 use Rattle.wh_state.specs.State.{content_in}
 use Rattle.wh_state.specs.Stored.{StoredVersion}
-use Rattle.wh_version.specs.Version.{version_in}
+use Rattle.wh_version.specs.Version.{version_in, filed_by}
+use Rattle.wh_version.proofs.Among.{each_held}
+use Rattle.wh_table.specs.Table.{filed_of}
 use Rattle.wh_table.proofs.HoldLaws.{holds_at}
 use Rattle.wh_table.proofs.table.StoredTable.standing_at.Goals as goal
 
@@ -21,4 +23,6 @@ returns-clause-holds c =
     (ap (option_map version_in) (sym c.in-Some.is) ∙ c.at.ensures.version))
 
 pub returns-clause-among : goal.returns-clause-among
-returns-clause-among c = λ told shown. c.in_ok-standing.ensures.among told (c.in-Some.ensures.among told shown)
+returns-clause-among c =
+    each_held (Contains (filed_of c.args.self.now)) (filed_at c.in_ok-standing.standing.items)
+    (filed_by c.in-Some.version) c.in_ok-standing.ensures.among c.in-Some.ensures.among

@@ -1,5 +1,6 @@
-use Rattle.std.proofs.Common.{◌++◌, ap, subst, ◌∙◌}
-use Rattle.wh_filed.specs.Filed.{filed_at, partitions_at, AreAmong}
+use Rattle.std.proofs.Common.{◌++◌, List, Contains, ap, subst, ◌∙◌}
+use Rattle.std.specs.List.{AllByRecursion}
+use Rattle.wh_filed.specs.Filed.{Filed, filed_at, partitions_at}
 use Rattle.wh_state.specs.Edits.{without}
 use Rattle.wh_table.proofs.HoldLaws.{holds_beside}
 use Rattle.wh_table.proofs.table.StoredTable.staying.Goals as goal
@@ -13,4 +14,5 @@ returns-clause-holds c = λ stamp e is.
 
 pub returns-clause-among : goal.returns-clause-among
 returns-clause-among c =
-    subst (AreAmong (filed_at c.in_ok-staying.staying.items)) c.kept.ensures.filed c.in_ok-staying.ensures.among
+    subst (λ (all : List Filed). AllByRecursion (Contains all) (filed_at c.in_ok-staying.staying.items))
+    c.kept.ensures.filed c.in_ok-staying.ensures.among

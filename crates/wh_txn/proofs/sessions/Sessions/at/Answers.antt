@@ -1,11 +1,12 @@
 use Rattle.std.proofs.Common.{Option, Some, None, option_map, sym, ap, subst, ◌∙◌}
 use Rattle.std.proofs.lemmas.Result.{IfOk-weaker}
 use Rattle.wh_fetch.specs.DiskFetch.{told_of}
-use Rattle.wh_filed.specs.Filed.{partitions_at, AllShown}
+use Rattle.wh_filed.specs.Filed.{filed_at, partitions_at, AllShown}
 use Rattle.wh_state.specs.State.{Table}
 use Rattle.wh_state.specs.Objects.{table_at}
 use Rattle.wh_state.specs.Stored.{StoredTable, table_meant}
-use Rattle.wh_table.specs.Table.{table_of}
+use Rattle.wh_version.proofs.Among.{told_held}
+use Rattle.wh_table.specs.Table.{table_of, filed_of}
 use Rattle.wh_catalog.specs.Catalog.{stored_of}
 use Rattle.wh_machine.specs.Sessions.{transaction_in}
 use Rattle.wh_txn.specs.View.{staged_of, sessions_of}
@@ -38,7 +39,8 @@ returns-in_default-staged-clause-stands g c = λ _ stamp.
 pub returns-in_default-staged-clause-among : goal.returns-in_default-staged-clause-among
 returns-in_default-staged-clause-among g c = λ told shown.
     subst (AllShown told) (sym c.of-in_default-staged.ensures.filed)
-    (c.in_ok-filed.ensures.among told (c.in-Some.ensures.among told shown))
+    (told_held (filed_at c.in_ok-filed.filed.items) (filed_of c.in-Some.table.now) c.in_ok-filed.ensures.among told
+    (c.in-Some.ensures.among told shown))
 
 pub returns-clause-stands : goal.returns-clause-stands
 returns-clause-stands g c = λ shown.

@@ -1,7 +1,10 @@
-use Rattle.std.proofs.Common.{◌≡◌, ◌+◌, ◌∷◌, [], ◌∙◌, ap, sym, length, get_or, Some, arith}
+use Rattle.std.proofs.Common.{◌≡◌, ◌+◌, ◌∷◌, [], ◌∙◌, ap, sym, length, get_or, Contains, Some, arith}
+use Rattle.wh_filed.specs.Filed.{filed_at}
 use Rattle.wh_state.specs.State.{content_in}
 use Rattle.wh_version.specs.Lasting.{version_by, versions_by}
-use Rattle.wh_version.specs.History.{versions_of}
+use Rattle.wh_version.specs.History.{versions_of, filed_of}
+use Rattle.wh_version.specs.Version.{filed_by}
+use Rattle.wh_version.proofs.Among.{each_held}
 use Rattle.wh_version.proofs.Last.{last_version}
 use Rattle.wh_version.proofs.Starts.{first_empty, standing_behind}
 use Rattle.wh_version.proofs.history.History.standing.Goals as goal
@@ -21,5 +24,6 @@ returns-clause-standing c =
     (versions_by h.kept.items 1 h.later.items))
 
 pub returns-clause-among : goal.returns-clause-among
-returns-clause-among c contents shown =
-    c.in_ok-standing.ensures.among contents (c.version-last.ensures.among contents shown)
+returns-clause-among c =
+    each_held (Contains (filed_of c.args.self.now)) (filed_at c.in_ok-standing.standing.items)
+    (filed_by c.version-last.result) c.in_ok-standing.ensures.among c.version-last.ensures.among

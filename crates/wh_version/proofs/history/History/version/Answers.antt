@@ -1,8 +1,8 @@
-use Rattle.std.proofs.Common.{◌∷◌, ap, sym, subst, length, arith}
+use Rattle.std.proofs.Common.{◌∷◌, ap, subst, length, take, Contains, arith}
+use Rattle.std.specs.List.{AllByRecursion}
 use Rattle.std.proofs.lemmas.List.{length-take}
-use Rattle.wh_filed.specs.Filed.{AllShown}
 use Rattle.wh_version.specs.Lasting.{filed_in}
-use Rattle.wh_version.proofs.Kept.{front_among}
+use Rattle.wh_version.proofs.Among.{front_held}
 use Rattle.wh_version.proofs.LastUpTo.{mark_within}
 use Rattle.wh_version.proofs.history.History.version.Goals as goal
 
@@ -14,6 +14,7 @@ slice_bounds-result-end c =
     omega (arith, few, front, ap (λ m. m.partitions) c.mark-mark.ensures, ap length c.deref.ensures.value)
 
 pub returns-clause-among : goal.returns-clause-among
-returns-clause-among c told shown =
-    front_among c.mark-mark.result.partitions c.deref.result.now told
-    (subst (λ ks. AllShown told (filed_in ks)) (sym c.deref.ensures.value) shown)
+returns-clause-among c =
+    let many = c.mark-mark.result.partitions in
+    subst (λ ks. AllByRecursion (Contains (filed_in ks)) (filed_in (take many c.deref.result.now)))
+    c.deref.ensures.value (front_held many c.deref.result.now)

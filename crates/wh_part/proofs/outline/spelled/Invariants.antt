@@ -1,0 +1,4 @@
+use Rattle.wh_part.proofs.outline.spelled.Given as goal
+
+abbrev pub ghost-outlined : goal.ghost-outlined
+ghost-outlined g a = g.partition
