@@ -9,6 +9,6 @@ mod CollectedBags
 mod ThroughLaws
 mod SinkLaws
 mod PartLaws
-mod SourceLaws
+pub mod SourceLaws
 mod FeedLaws
 mod Sizes

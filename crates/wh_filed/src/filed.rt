@@ -12,7 +12,7 @@ pub struct FiledPartition {
 impl Model for FiledPartition {
     ghost use Rattle.std.specs.Prelude.{vec_len};
     ghost use Rattle.wh_frame.specs.Spelling.{RisesFrom};
-    ghost use Rattle.wh_part.specs.Meta.{IsMetaOf};
+    ghost use Rattle.wh_part.specs.Meta.{IsMetaOf, IsEven};
     ghost use Rattle.wh_filed.specs.Filed as specs;
 
     ghost Value = { specs.Filed };
@@ -28,14 +28,14 @@ impl Model for FiledPartition {
     } };
 
     ghost invariant = { λ f. IsMetaOf f.meta f.contents.partition
-        × RisesFrom 0 f.contents.partition.rows };
+        × RisesFrom 0 f.contents.partition.rows × IsEven f.contents.partition.rows };
 }
 
 impl FiledPartition {
     ghost use Rattle.std.specs.Prelude.{◌≡◌, vec_len};
     ghost use Rattle.wh_frame.specs.Partition.{first_number, last_number};
     ghost use Rattle.wh_frame.specs.Spelling.{RisesFrom};
-    ghost use Rattle.wh_part.specs.Meta.{IsMetaOf};
+    ghost use Rattle.wh_part.specs.Meta.{IsMetaOf, IsEven};
     ghost use Rattle.wh_filed.specs.Filing.{filed_one};
 
     /// The partition of an outline at a position of the file. Takes no memory.
@@ -80,6 +80,7 @@ impl FiledPartition {
             × (vec_len result.now.columns ≡ self.now.width) }
         ensures object { result.now.id.object ≡ self.now.object }
         ensures says { IsMetaOf result.now self.now.partition }
+        ensures even { IsEven self.now.partition.rows }
     {
         &self.meta
     }

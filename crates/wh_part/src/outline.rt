@@ -115,6 +115,7 @@ impl Outline {
         ensures length { result.0.length ≡ length (partition_bytes self) }
         ensures contents { result.1.partition ≡ self }
         ensures rising { RisesFrom 0 self.rows }
+        ensures even { IsEven self.rows }
     {
         let Outline {
             mut meta,

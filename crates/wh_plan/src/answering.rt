@@ -33,7 +33,7 @@ pub fn answered<'a, F: Fetch>(
     ensures goes { F.stays fetch.old fetch.new }
     ensures counts { Counts (F.faults fetch.old) (F.faults fetch.new) result }
 {
-    let plan = plan(alloc, query)?;
+    let plan = plan(alloc, query, sources)?;
     run(alloc, plan.get(), sources, fetch)
 }
 
