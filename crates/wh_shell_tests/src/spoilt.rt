@@ -49,7 +49,7 @@ fn is_read(
         rt,
         alloc,
         &[
-            b"CREATE TABLE T(K NUMBER); INSERT INTO T VALUES ",
+            b"CREATE TABLE T(K NUMBER); CREATE TABLE E(K NUMBER); INSERT INTO T VALUES ",
             rows,
             b"; ",
             statement,
@@ -61,7 +61,7 @@ fn is_read(
     if found.status.code() == 10 {
         return true;
     }
-    let replies = joined(rt, alloc, &[b"CREATED TABLE T\nINSERTED 2\n", nothing]);
+    let replies = joined(rt, alloc, &[b"CREATED TABLE T\nCREATED TABLE E\nINSERTED 2\n", nothing]);
     assert_eq!(rt; found.out.held(), replies.as_slice());
     false
 }
@@ -70,6 +70,14 @@ fn is_read(
 fn a_partition_is_passed_over_where_no_row_can_meet_the_condition(rt: HostRuntime) {
     const STATEMENTS: &[Passing] = &[
         (b"SELECT K FROM T WHERE ", b"K\n(0 rows)\n"),
+        (
+            b"SELECT K FROM T JOIN (SELECT COUNT(*) AS N FROM E) R ON TRUE WHERE ",
+            b"K\n(0 rows)\n",
+        ),
+        (
+            b"SELECT K FROM (SELECT COUNT(*) AS N FROM E) L JOIN T ON TRUE WHERE ",
+            b"K\n(0 rows)\n",
+        ),
         (b"UPDATE T SET K = 5 WHERE ", b"UPDATED 0\n"),
         (b"DELETE FROM T WHERE ", b"DELETED 0\n"),
     ];
