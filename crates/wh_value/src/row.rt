@@ -60,6 +60,13 @@ impl Row {
         Ok(())
     }
 
+    /// Lets go of its values, and keeps the memory.
+    pub fn clear(&mut self)
+        ensures { self.new ≡ [] }
+    {
+        self.values.clear();
+    }
+
     pub fn values(&self) -> &[Value]
         ensures { map value_of result.now ≡ self.now }
     {
