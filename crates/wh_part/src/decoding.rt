@@ -1,4 +1,4 @@
-ghost use Rattle.std.specs.Prelude.{◌≡◌, [], map, nat_le, IfOk};
+ghost use Rattle.std.specs.Prelude.{◌≡◌, [], ◌∷◌, ◌++◌, map, nat_le, IfOk, OnOk};
 ghost use Rattle.wh_part.specs.Reading.{Gives, items_at};
 ghost use Rattle.wh_part.specs.Decoding.{whole_number_at, value_at, row_at, row_count_at, rows_at};
 ghost use Rattle.wh_part.specs.Decoding.{partition_at, least_after, rises_from};
@@ -47,17 +47,34 @@ fn read_value(alloc: Global, bytes: &[u8]) -> Result<(Value, &[u8]), ReadError>
     }
 }
 
-/// A row without values, in the memory of a spare one or with memory for so many.
-fn empty_row(alloc: Global, count: usize, spare: &mut Vec<NumberedRow>) -> Result<Row, AllocError>
-    ensures { IfOk result (λ row. row ≡ []) }
+/// No value yet, in the memory of a spare row or with memory for so many.
+fn no_values(
+    alloc: Global,
+    count: usize,
+    spare: &mut Vec<NumberedRow>,
+) -> Result<Vec<Value>, AllocError>
+    ensures { IfOk result (λ values. values.items ≡ []) }
 {
     match spare.pop() {
-        Some(NumberedRow { mut row, .. }) => {
-            row.clear();
-            Ok(row)
+        Some(numbered) => {
+            let mut values = numbered.row.into_values();
+            values.clear();
+            Ok(values)
         }
-        None => Row::with_capacity(alloc, count),
+        None => Vec::with_capacity(alloc, count),
     }
+}
+
+/// Puts a value behind the others, where it stands if there is room.
+fn put(values: &mut Vec<Value>, value: Value) -> Result<(), AllocError>
+    ensures { OnOk result (values.new.items ≡ values.old.items ++ value ∷ []) }
+{
+    if values.len() < values.capacity() {
+        values.push_reserved(value);
+        return Ok(());
+    }
+    values.push(value)?;
+    Ok(())
 }
 
 fn read_values<'a>(
@@ -69,14 +86,14 @@ fn read_values<'a>(
     ensures { Gives (λ x. (x.0, x.1.now)) result (items_at value_at width bytes.now) }
 {
     // each value has a byte at least
-    let mut row = empty_row(alloc, (width as usize).min(bytes.len()), spare)?;
+    let mut values = no_values(alloc, (width as usize).min(bytes.len()), spare)?;
     let mut rest = bytes;
     for _ in 0..width {
         let (value, after) = read_value(alloc, rest)?;
-        row.push(value)?;
+        put(&mut values, value)?;
         rest = after;
     }
-    Ok((row, rest))
+    Ok((Row::of(values), rest))
 }
 
 #[tactic(auto, unfolding(crate::specs::Decoding::row_at))]

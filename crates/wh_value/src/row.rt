@@ -60,11 +60,19 @@ impl Row {
         Ok(())
     }
 
-    /// Lets go of its values, and keeps the memory.
-    pub fn clear(&mut self)
-        ensures { self.new ≡ [] }
+    /// The row of these values.
+    pub fn of(values: Vec<Value>) -> Row
+        ensures { result ≡ map value_of values.items }
     {
-        self.values.clear();
+        Row { values }
+    }
+
+    /// Its values, on their own.
+    pub fn into_values(self) -> Vec<Value>
+        ensures { map value_of result.items ≡ self }
+    {
+        let Row { values } = self;
+        values
     }
 
     pub fn values(&self) -> &[Value]
