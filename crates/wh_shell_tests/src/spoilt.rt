@@ -61,7 +61,11 @@ fn is_read(
     if found.status.code() == 10 {
         return true;
     }
-    let replies = joined(rt, alloc, &[b"CREATED TABLE T\nCREATED TABLE E\nINSERTED 2\n", nothing]);
+    let replies = joined(
+        rt,
+        alloc,
+        &[b"CREATED TABLE T\nCREATED TABLE E\nINSERTED 2\n", nothing],
+    );
     assert_eq!(rt; found.out.held(), replies.as_slice());
     false
 }
