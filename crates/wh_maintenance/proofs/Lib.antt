@@ -1,0 +1,13 @@
+pub mod Less
+pub mod Turns
+pub mod Sides
+pub mod Linear
+pub mod LinearQuery
+pub mod Join
+pub mod Keys
+pub mod Group
+pub mod Regroup
+pub mod Delta
+pub mod Three
+pub mod KnownJoin
+pub mod Parts

@@ -1,0 +1,4 @@
+pub mod Turn
+pub mod Carried
+pub mod Delta
+pub mod Parts
